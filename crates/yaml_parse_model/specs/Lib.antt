@@ -1,0 +1,6 @@
+pub mod Events
+pub mod Nodes
+pub mod Prefix
+pub mod Source
+pub use Rattle.yaml_scan.specs.Tokens
+pub use Rattle.yaml_scan.specs.Faults

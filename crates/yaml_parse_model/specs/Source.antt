@@ -1,0 +1,43 @@
+-- What a source of tokens gives.
+use Rattle.std.specs.Prelude.{◌≡◌, ◌⊎◌, List, [], ◌∷◌, Option, Some, None, IsUtf8}
+use Rattle.yaml_scan.specs.declared.yaml_error_type_t.TheVariants.{YAML_MEMORY_ERROR}
+use Rattle.yaml_scan.specs.Tokens.{Token, TokenBody, no_token}
+use Rattle.yaml_scan.specs.Tokens as token
+use Rattle.yaml_scan.specs.Faults.{Fault}
+
+-- the first token to come, and the others; behind the last the empty token
+abbrev pub front_of : List Token → Token
+front_of [] = no_token
+front_of (t ∷ ts) = t
+
+abbrev pub rest_of : List Token → List Token
+rest_of [] = []
+rest_of (t ∷ ts) = ts
+
+-- behind the last token only a fault may come, if there is one
+abbrev pub MayAnswer : List Token → Option Fault → Type 0
+MayAnswer [] fault = fault ≡ None
+MayAnswer (t ∷ ts) fault = Unit {0}
+
+-- each text is UTF-8
+abbrev pub HasUtf8 : TokenBody → Type 0
+HasUtf8 (token.tag_directive handle prefix) = IsUtf8 handle × IsUtf8 prefix
+HasUtf8 (token.alias value) = IsUtf8 value
+HasUtf8 (token.anchor value) = IsUtf8 value
+HasUtf8 (token.tag handle suffix) = IsUtf8 handle × IsUtf8 suffix
+HasUtf8 (token.scalar value style) = IsUtf8 value
+HasUtf8 _ = Unit {0}
+
+-- a token was given: the first to come
+pub record GivesToken (old : List Token) (fault : Option Fault) (t : Token) (new : List Token) (after : Option Fault) : Type 0 where
+  pub given : t ≡ front_of old
+  pub rest : new ≡ rest_of old
+  pub same : after ≡ fault
+  pub may : MayAnswer old fault
+  pub utf8 : HasUtf8 t.body
+
+-- a fault was given: that to come, or want of memory; nothing comes behind it
+pub record GivesFault (old : List Token) (fault : Option Fault) (f : Fault) (new : List Token) (after : Option Fault) : Type 0 where
+  pub none : new ≡ []
+  pub no_fault : after ≡ None
+  pub reason : (f.kind ≡ YAML_MEMORY_ERROR) ⊎ ((old ≡ []) × (fault ≡ Some f))

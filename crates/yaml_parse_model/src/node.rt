@@ -1,0 +1,69 @@
+//! Nodes of documents.
+
+ghost use Rattle.std.specs.Prelude.{◌≡◌};
+ghost use Rattle.yaml_parse_model.specs.Nodes.{type_of, node_of};
+
+use yaml_scan::{
+    yaml_mapping_style_t, yaml_mark_t, yaml_node_type_t, yaml_scalar_style_t, yaml_sequence_style_t,
+};
+
+/// The id of a node of the same document. Ids count from 1.
+pub type yaml_node_item_t = i32;
+
+/// A pair of a mapping: the ids of its key and its value.
+#[derive(Clone, Copy, PartialEq, Eq, Debug)]
+pub struct yaml_node_pair_t {
+    pub key: i32,
+    pub value: i32,
+}
+
+/// What a node is, and what it holds.
+#[derive(Drop)]
+pub enum yaml_node_body_t {
+    /// The empty node, which no document holds.
+    No,
+    Scalar {
+        value: Vec<u8>,
+        style: yaml_scalar_style_t,
+    },
+    Sequence {
+        items: Vec<yaml_node_item_t>,
+        style: yaml_sequence_style_t,
+    },
+    Mapping {
+        pairs: Vec<yaml_node_pair_t>,
+        style: yaml_mapping_style_t,
+    },
+}
+
+/// A node of a document.
+#[derive(Drop)]
+pub struct yaml_node_t {
+    pub body: yaml_node_body_t,
+    /// The resolved tag; a node always has one.
+    pub tag: Vec<u8>,
+    pub start_mark: yaml_mark_t,
+    pub end_mark: yaml_mark_t,
+}
+
+impl yaml_node_t {
+    /// The kind of the node.
+    pub fn type_(&self) -> yaml_node_type_t
+        ensures { result ≡ type_of (node_of self.now).body }
+    {
+        match self.body {
+            yaml_node_body_t::No => yaml_node_type_t::YAML_NO_NODE,
+            yaml_node_body_t::Scalar { .. } => yaml_node_type_t::YAML_SCALAR_NODE,
+            yaml_node_body_t::Sequence { .. } => yaml_node_type_t::YAML_SEQUENCE_NODE,
+            yaml_node_body_t::Mapping { .. } => yaml_node_type_t::YAML_MAPPING_NODE,
+        }
+    }
+}
+
+/// An anchor of a document that is being loaded: its name, the id of its node, and where the node begins.
+#[derive(Drop)]
+pub struct yaml_alias_data_t {
+    pub anchor: Vec<u8>,
+    pub index: i32,
+    pub mark: yaml_mark_t,
+}

@@ -1,0 +1,23 @@
+//! Where a parser's tokens come from.
+
+ghost use Rattle.std.specs.Prelude.{List, Option, IfOk, IfErr};
+ghost use Rattle.yaml_scan.specs.Tokens.{Token, token_of};
+ghost use Rattle.yaml_scan.specs.Faults.{Fault, fault_of};
+ghost use Rattle.yaml_parse_model.specs.Source.{GivesToken, GivesFault};
+
+use yaml_scan::{yaml_fault_t, yaml_token_t};
+
+/// A source of tokens. Its meaning is the finite list of tokens to come, whose texts are UTF-8, and the fault that
+/// ends the list, if any. Behind both it answers the empty token. After a fault of memory nothing is to come.
+pub trait yaml_token_source_t: Drop {
+    // The tokens to come.
+    ghost to_come: { Self → List Token };
+
+    // The fault that ends them, if any.
+    ghost fault_to_come: { Self → Option Fault };
+
+    /// The next token; or the fault that ends the list, once; or, from then on, the empty token.
+    fn next_token(&mut self) -> Result<yaml_token_t, yaml_fault_t>
+        ensures ok { IfOk result (λ t. GivesToken (to_come self.old) (fault_to_come self.old) (token_of t) (to_come self.new) (fault_to_come self.new)) }
+        ensures err { IfErr result (λ f. GivesFault (to_come self.old) (fault_to_come self.old) (fault_of f) (to_come self.new) (fault_to_come self.new)) };
+}

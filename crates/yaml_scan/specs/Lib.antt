@@ -1,0 +1,4 @@
+pub use Rattle.yaml_scan_text.specs.Tokens
+pub use Rattle.yaml_scan_text.specs.Faults
+pub use Rattle.yaml_scan_text.specs.Classes
+pub use Rattle.yaml_scan_text.specs.Marks

@@ -1,0 +1,7 @@
+pub mod Tokens
+pub mod Faults
+pub mod Problems
+pub mod Marks
+pub mod Views
+pub mod Classes
+pub mod Wrong

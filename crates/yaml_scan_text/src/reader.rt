@@ -1,0 +1,165 @@
+//! A text, read from the front.
+
+ghost use Rattle.std.specs.Prelude.{◌≡◌, ◌+◌, ◌<◌, ◌≤◌, ℕ, length, false};
+ghost use Rattle.yaml_scan_text.specs.Marks.{Place, byte, break_width, ends_break, mark_at, starts as starts_of, is_blank, is_blank_or_end};
+
+use crate::record::yaml_mark_t;
+use std::marker::Model;
+
+/// Whether the byte begins a character.
+fn starts(byte: u8) -> bool
+    ensures { result ≡ starts_of byte }
+{
+    byte < 128 || byte >= 192
+}
+
+/// Whether the byte is a space or a tab.
+pub(crate) fn is_blank(byte: u8) -> bool
+    ensures { result ≡ is_blank byte }
+{
+    byte == b' ' || byte == b'\t'
+}
+
+#[derive(Drop)]
+pub struct Reader<'a> {
+    text: &'a [u8],
+    index: usize,
+    line: u64,
+    column: u64,
+}
+
+impl<'a> Model for Reader<'a> {
+    ghost use Rattle.yaml_scan_text.specs.Marks.{Place};
+
+    ghost Value = { Place };
+
+    ghost use Rattle.yaml_scan_text.specs.Views.{reader_view, IsReader};
+
+    ghost view = { reader_view };
+
+    ghost invariant = { IsReader };
+}
+
+impl<'a> Reader<'a> {
+    pub fn new(text: &'a [u8]) -> Reader<'a>
+        ensures { result ≡ record { text = text.now; at = 0 } }
+    {
+        Reader {
+            text,
+            index: 0,
+            line: 0,
+            column: 0,
+        }
+    }
+
+    /// The byte that many places ahead, or 0 past the end.
+    pub fn byte(&self, ahead: usize) -> u8
+        requires { ahead < 16 }
+        ensures { result ≡ byte self.now.text (self.now.at + ahead) }
+    {
+        self.text.get(self.index + ahead).copied().unwrap_or(0)
+    }
+
+    /// The byte that stands here, or 0 at the end.
+    pub fn here(&self) -> u8
+        ensures { result ≡ byte self.now.text self.now.at }
+    {
+        self.text.get(self.index).copied().unwrap_or(0)
+    }
+
+    /// The index of the place that is reached.
+    pub fn place(&self) -> usize
+        ensures { result ≡ self.now.at }
+    {
+        self.index
+    }
+
+    /// The whole text.
+    pub fn text(&self) -> &'a [u8]
+        ensures { result.now ≡ self.now.text }
+    {
+        self.text
+    }
+
+    /// Where the reader stands.
+    pub fn mark(&self) -> yaml_mark_t
+        ensures { result ≡ mark_at self.now.text self.now.at }
+    {
+        yaml_mark_t {
+            index: self.index as u64,
+            line: self.line,
+            column: self.column,
+        }
+    }
+
+    /// How many bytes the break has that stands that many places ahead, or 0.
+    #[tactic(auto, unfolding(crate::specs::Marks::break_of))]
+    pub fn break_width_at(&self, ahead: usize) -> usize
+        requires { ahead < 14 }
+        ensures { result ≡ break_width self.now.text (self.now.at + ahead) }
+    {
+        let first = self.byte(ahead);
+        let second = self.byte(ahead + 1);
+        let third = self.byte(ahead + 2);
+        if first == b'\r' {
+            if second == b'\n' { 2 } else { 1 }
+        } else if first == b'\n' {
+            1
+        } else if first == 0xC2 && second == 0x85 {
+            2
+        } else if first == 0xE2 && second == 0x80 && (third == 0xA8 || third == 0xA9) {
+            3
+        } else {
+            0
+        }
+    }
+
+    /// How many bytes the break has that stands here, or 0.
+    pub fn break_width(&self) -> usize
+        ensures { result ≡ break_width self.now.text self.now.at }
+    {
+        self.break_width_at(0)
+    }
+
+    /// How many bytes the break has that stands here, or 0; a byte that begins none ends none.
+    pub fn break_here(&self) -> usize
+        ensures value { result ≡ break_width self.now.text self.now.at }
+        ensures none { result ≡ 0 → ends_break self.now.text self.now.at ≡ false }
+    {
+        let _here = self.index;
+        self.break_width_at(0)
+    }
+
+    /// Whether a blank, a break or the end stands that many places ahead.
+    pub fn is_blank_or_end(&self, ahead: usize) -> bool
+        requires { ahead < 14 }
+        ensures { result ≡ is_blank_or_end self.now.text (self.now.at + ahead) }
+    {
+        let byte = self.byte(ahead);
+        is_blank(byte) || byte == 0 || self.break_width_at(ahead) > 0
+    }
+
+    /// Past a byte that is no break.
+    pub fn skip(&mut self)
+        requires inside { 0 < byte self.old.text self.old.at }
+        requires no_break { break_width self.old.text self.old.at ≡ 0 }
+        ensures { self.new ≡ record { text = self.old.text; at = self.old.at + 1 } }
+    {
+        let byte = self.byte(0);
+        self.index += 1;
+        if starts(byte) {
+            self.column += 1;
+        }
+    }
+
+    /// Past the break that stands here.
+    pub fn skip_break(&mut self)
+        requires { 0 < break_width self.old.text self.old.at }
+        ensures { self.new ≡ record { text = self.old.text; at = self.old.at + break_width self.old.text self.old.at } }
+    {
+        let width = self.break_width();
+        self.index += width;
+        self.line += 1;
+        self.column = 0;
+    }
+}

@@ -1,0 +1,5 @@
+pub mod Settings
+pub mod Answers
+pub use Rattle.yaml_round_device.specs.Run
+pub use Rattle.yaml_round_device.specs.StdDevices
+pub use Rattle.yaml_round_lines.specs.FaultLine

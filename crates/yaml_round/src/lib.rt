@@ -1,0 +1,22 @@
+//! The engine: it reads a YAML text whole and writes it again in canonical form, over slices or over devices.
+#![tactic(auto)]
+
+mod engine;
+mod first_path;
+mod page;
+mod run;
+mod settings;
+
+pub use engine::yaml_reformat;
+pub use run::{yaml_run, yaml_text_of};
+pub use settings::{
+    yaml_command_t, yaml_form_t, yaml_output_encoding_t, yaml_settings_t, yaml_side_t,
+};
+pub use yaml_round_device::{
+    yaml_device_fault_t, yaml_input_t, yaml_output_t, yaml_read_all, yaml_run_fault_t,
+    yaml_std_input_t, yaml_std_output_t, yaml_write_all,
+};
+pub use yaml_round_lines::yaml_fault_line;
+pub use yaml_scan::{
+    yaml_break_t, yaml_encoding_t, yaml_error_type_t, yaml_fault_t, yaml_mark_t, yaml_origin_t,
+};

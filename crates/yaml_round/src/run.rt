@@ -1,0 +1,108 @@
+//! A run over devices: it reads to the end, works, and then writes.
+
+ghost use Rattle.std.specs.Prelude.{◌≡◌, ◌<◌, length, IfOk, IfErr, Ok, IsErrOf};
+ghost use Rattle.yaml_round_device.specs.Run.{Runs, FailsBy, IsBeforeWriting};
+ghost use Rattle.yaml_scan.specs.Faults.{Answers};
+ghost use Rattle.yaml_round.specs.Answers.{IsRunAnswer, text_and_maybe_form};
+
+use crate::engine::yaml_reformat;
+use crate::settings::{yaml_command_t, yaml_form_t, yaml_settings_t};
+use std::alloc::Global;
+use yaml_round_device::{
+    yaml_input_t, yaml_output_t, yaml_read_all, yaml_run_fault_t, yaml_std_input_t,
+    yaml_std_output_t, yaml_write_all,
+};
+use yaml_scan::{yaml_encoding_t, yaml_error_type_t, yaml_fault_t, yaml_mark_t, yaml_origin_t};
+
+// The text that the command gives for the input, and its form where it has one.
+fn answer_of(
+    alloc: Global,
+    input: &[u8],
+    command: yaml_command_t,
+    from: yaml_encoding_t,
+    settings: &yaml_settings_t,
+) -> Result<(Vec<u8>, Option<yaml_form_t>), yaml_fault_t>
+    ensures { Answers text_and_maybe_form (IsRunAnswer command from settings.now input.now) result }
+{
+    match command {
+        yaml_command_t::Fmt => {
+            let (text, form) = yaml_reformat(alloc, input, from, settings)?;
+            Ok((text, Some(form)))
+        }
+        yaml_command_t::Docs | yaml_command_t::Events => Err(not_written_yet()),
+    }
+}
+
+fn not_written_yet() -> yaml_fault_t {
+    let zero = yaml_mark_t {
+        index: 0,
+        line: 0,
+        column: 0,
+    };
+    yaml_fault_t {
+        kind: yaml_error_type_t::YAML_EMITTER_ERROR,
+        problem: "not written yet",
+        offset: 0,
+        value: 0,
+        problem_mark: zero,
+        context: None,
+        context_mark: zero,
+        origin: yaml_origin_t::Emitter,
+    }
+}
+
+/// Reads the input to its end, `input_limit` bytes at most, works, and then writes the whole answer and finishes.
+/// `Read`: the input has failed. `TooLong`: a byte past the limit came. `Yaml`: the input was refused, or memory was.
+/// After these three nothing was written. `Write`: the output has failed, and has received the answer's first
+/// `written` bytes.
+pub fn yaml_run<I: yaml_input_t, O: yaml_output_t>(
+    alloc: Global,
+    input: &mut I,
+    output: &mut O,
+    command: yaml_command_t,
+    from: yaml_encoding_t,
+    settings: &yaml_settings_t,
+    input_limit: u64,
+) -> Result<Option<yaml_form_t>, yaml_run_fault_t>
+    ensures runs { Runs (I.to_come input.old) (I.to_come input.new) (O.received output.old) (O.received output.new) input_limit (IsRunAnswer command from settings.now) result }
+    ensures failures { FailsBy (I.has_failed input.old) (I.has_failed input.new) (O.has_failed output.old) (O.has_failed output.new) result }
+
+    // Before the writing the output isn't touched, whether or not it tells its bytes.
+    ensures untouched { IfErr result (λ fault. IsBeforeWriting fault → output.new ≡ output.old) }
+{
+    let bytes = yaml_read_all(alloc, input, input_limit)?;
+    let (text, form) = match answer_of(alloc, bytes.as_slice(), command, from, settings) {
+        Ok(answer) => answer,
+        Err(fault) => return Err(yaml_run_fault_t::Yaml(fault)),
+    };
+    match yaml_write_all(output, text.as_slice()) {
+        Ok(()) => Ok(form),
+        Err(written) => Err(yaml_run_fault_t::Write { written }),
+    }
+}
+
+/// A run over memory.
+pub fn yaml_text_of(
+    alloc: Global,
+    bytes: &[u8],
+    command: yaml_command_t,
+    from: yaml_encoding_t,
+    settings: &yaml_settings_t,
+    input_limit: u64,
+) -> Result<(Vec<u8>, Option<yaml_form_t>), yaml_run_fault_t>
+    ensures text { IfOk result (λ answer. IsRunAnswer command from settings.now bytes.now (Ok (answer.0.items, answer.1))) }
+    ensures long { IsErrOf result yaml_run_fault_t.TooLong → input_limit < length bytes.now }
+{
+    let mut input = yaml_std_input_t::new(bytes);
+    let mut output = yaml_std_output_t::new(Vec::new(alloc));
+    let form = yaml_run(
+        alloc,
+        &mut input,
+        &mut output,
+        command,
+        from,
+        settings,
+        input_limit,
+    )?;
+    Ok((output.into_inner(), form))
+}

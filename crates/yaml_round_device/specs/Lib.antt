@@ -1,0 +1,2 @@
+pub mod StdDevices
+pub mod Run

@@ -1,0 +1,46 @@
+//! What gives bytes, and what takes them.
+
+ghost use Rattle.std.specs.Prelude.{◌≡◌, ℕ, List, Option, Bool, true, ◌<◌, ◌≤◌, length, IfOk, MatchResult};
+ghost use Rattle.std.specs.Io.KnownBytes.{Keeps, ReadConsumes, WriteAppends};
+
+/// A device has failed. What it was isn't told.
+#[derive(Clone, Copy, PartialEq, Eq, Debug)]
+pub struct yaml_device_fault_t;
+
+/// What gives bytes. It means the bytes to come, where they are told, and whether it has failed.
+pub trait yaml_input_t {
+    // The bytes to come, where they are told.
+    ghost to_come: { Self → Option (List ℕ) };
+
+    // Whether it has failed.
+    ghost has_failed: { Self → Bool };
+
+    /// Puts the next bytes at the front of `buf` and answers how many, 0 only at the end or where `buf` has no room.
+    /// An error takes no byte, and the device has failed from then on.
+    fn get(&mut self, buf: &mut [u8]) -> Result<usize, yaml_device_fault_t>
+        ensures bound { IfOk result (λ n. n ≤ length buf.new) }
+        ensures bytes { ReadConsumes (to_come self.old) (to_come self.new) result buf.new }
+        ensures failure { MatchResult result (λ _. has_failed self.new ≡ has_failed self.old) (λ _. has_failed self.new ≡ true) };
+}
+
+/// What takes bytes. It means the bytes received, where they are told, and whether it has failed.
+pub trait yaml_output_t {
+    // The bytes received, where they are told.
+    ghost received: { Self → Option (List ℕ) };
+
+    // Whether it has failed.
+    ghost has_failed: { Self → Bool };
+
+    /// Takes a front of `piece` and answers how many bytes, at least one where there are any. An error takes no byte,
+    /// and the device has failed from then on.
+    fn put(&mut self, piece: &[u8]) -> Result<usize, yaml_device_fault_t>
+        ensures bound { IfOk result (λ n. n ≤ length piece.now) }
+        ensures some { IfOk result (λ n. 0 < length piece.now → 0 < n) }
+        ensures bytes { WriteAppends (received self.old) (received self.new) result piece.now }
+        ensures failure { MatchResult result (λ _. has_failed self.new ≡ has_failed self.old) (λ _. has_failed self.new ≡ true) };
+
+    /// Nothing more comes: what was taken is passed on.
+    fn finish(&mut self) -> Result<(), yaml_device_fault_t>
+        ensures bytes { Keeps (received self.old) (received self.new) }
+        ensures failure { MatchResult result (λ _. has_failed self.new ≡ has_failed self.old) (λ _. has_failed self.new ≡ true) };
+}

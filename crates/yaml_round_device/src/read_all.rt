@@ -1,0 +1,46 @@
+//! The reading of an input to its end.
+
+ghost use Rattle.std.specs.Prelude.{◌≡◌, IfOk, IfErr, OnOk};
+ghost use Rattle.yaml_round_device.specs.Run.{GivesAll, IsReadFault};
+
+use crate::device::yaml_input_t;
+use crate::run_fault::yaml_run_fault_t;
+use std::alloc::Global;
+use yaml_scan::{yaml_memory_fault, yaml_origin_t};
+
+// How many bytes are asked for at most, but for the one that tells whether there are more.
+const PIECE: u64 = 4095;
+
+/// All bytes of the input. `Read` where it has failed, `TooLong` where a byte past `input_limit` came, and a fault of
+/// memory, origin `Reader`, where a growth was refused. Each `get` asks for `min(4095, input_limit - got) + 1` bytes.
+pub fn yaml_read_all<I: yaml_input_t>(
+    alloc: Global,
+    input: &mut I,
+    input_limit: u64,
+) -> Result<Vec<u8>, yaml_run_fault_t>
+    ensures all { IfOk result (λ bytes. GivesAll (I.to_come input.old) (I.to_come input.new) input_limit bytes.items) }
+    ensures sound { OnOk result (I.has_failed input.new ≡ I.has_failed input.old) }
+    ensures cause { IfErr result (IsReadFault (I.to_come input.old) (I.has_failed input.new) input_limit) }
+{
+    let mut bytes = Vec::new(alloc);
+    let mut piece = [0u8; 4096];
+    let mut room = input_limit;
+    loop {
+        let wanted = room.min(PIECE) as usize + 1;
+        let count = match input.get(&mut piece[..wanted]) {
+            Ok(count) => count,
+            Err(_) => return Err(yaml_run_fault_t::Read),
+        };
+        if count == 0 {
+            return Ok(bytes);
+        }
+        if count as u64 > room {
+            return Err(yaml_run_fault_t::TooLong);
+        }
+        if bytes.extend_from_slice(&piece[..count]).is_err() {
+            let fault = yaml_memory_fault(yaml_origin_t::Reader);
+            return Err(yaml_run_fault_t::Yaml(fault));
+        }
+        room -= count as u64;
+    }
+}

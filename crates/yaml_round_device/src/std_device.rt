@@ -1,0 +1,165 @@
+//! The devices that carry a `Read` or a `Write` of std.
+
+ghost use Rattle.std.specs.Prelude.{◌≡◌, ◌≤◌, ◌<◌, true, false, length, take, IfOk, OnErr, MatchResult};
+ghost use Rattle.std.specs.Io.KnownBytes.{Keeps, Consumes, Appends, IsAtEnd};
+ghost use Rattle.yaml_round_device.specs.StdDevices.{input_inner, input_failed, output_inner, output_failed};
+
+use crate::device::{yaml_device_fault_t, yaml_input_t, yaml_output_t};
+use std::io::{ErrorKind, Read, Write};
+
+// How many times a call that is interrupted is made in all.
+const TRIES: u32 = 1000;
+
+/// An input over a reader of std. Interrupted reads are tried again; the 1,000th in a row and every other error is
+/// a failure.
+#[derive(Drop)]
+pub struct yaml_std_input_t<R> {
+    inner: R,
+    has_failed: bool,
+}
+
+impl<R> yaml_std_input_t<R> {
+    /// The input over that reader, which hasn't failed.
+    pub fn new(inner: R) -> Self
+        ensures inner { input_inner result ≡ inner }
+        ensures sound { input_failed result ≡ false }
+    {
+        yaml_std_input_t {
+            inner,
+            has_failed: false,
+        }
+    }
+
+    /// The reader back.
+    pub fn into_inner(self) -> R
+        ensures { result ≡ input_inner self }
+    {
+        self.inner
+    }
+}
+
+impl<R: Read> yaml_input_t for yaml_std_input_t<R> {
+    ghost to_come = { λ d. R.remaining (input_inner d) };
+
+    ghost has_failed = { input_failed };
+
+    fn get(&mut self, buf: &mut [u8]) -> Result<usize, yaml_device_fault_t> {
+        let result = read_tried_again(&mut self.inner, buf);
+        if result.is_err() {
+            self.has_failed = true;
+        }
+        result
+    }
+}
+
+// One read, tried again where it is interrupted.
+fn read_tried_again<R: Read>(reader: &mut R, buf: &mut [u8]) -> Result<usize, yaml_device_fault_t>
+    ensures bound { IfOk result (λ n. n ≤ length buf.new) }
+    ensures ok { IfOk result (λ n. Consumes (R.remaining reader.old) (R.remaining reader.new) (take n buf.new)) }
+    ensures end { IfOk result (λ n. n ≡ 0 → 0 < length buf.old → IsAtEnd (R.remaining reader.new)) }
+    ensures err { OnErr result (Keeps (R.remaining reader.old) (R.remaining reader.new)) }
+{
+    for _ in 0..TRIES {
+        match reader.read(buf) {
+            Ok(n) => return Ok(n),
+            Err(e) => {
+                if e.kind() != ErrorKind::Interrupted {
+                    return Err(yaml_device_fault_t);
+                }
+            }
+        }
+    }
+    Err(yaml_device_fault_t)
+}
+
+/// An output over a writer of std. Interrupted calls are tried again; the 1,000th in a row, a write of 0 bytes and
+/// every other error is a failure.
+#[derive(Drop)]
+pub struct yaml_std_output_t<W> {
+    inner: W,
+    has_failed: bool,
+}
+
+impl<W> yaml_std_output_t<W> {
+    /// The output over that writer, which hasn't failed.
+    pub fn new(inner: W) -> Self
+        ensures inner { output_inner result ≡ inner }
+        ensures sound { output_failed result ≡ false }
+    {
+        yaml_std_output_t {
+            inner,
+            has_failed: false,
+        }
+    }
+
+    /// The writer back.
+    pub fn into_inner(self) -> W
+        ensures { result ≡ output_inner self }
+    {
+        self.inner
+    }
+}
+
+impl<W: Write> yaml_output_t for yaml_std_output_t<W> {
+    ghost received = { λ d. W.contents (output_inner d) };
+
+    ghost has_failed = { output_failed };
+
+    fn put(&mut self, piece: &[u8]) -> Result<usize, yaml_device_fault_t> {
+        let result = write_tried_again(&mut self.inner, piece);
+        if result.is_err() {
+            self.has_failed = true;
+        }
+        result
+    }
+
+    fn finish(&mut self) -> Result<(), yaml_device_fault_t> {
+        let result = flush_tried_again(&mut self.inner);
+        if result.is_err() {
+            self.has_failed = true;
+        }
+        result
+    }
+}
+
+// One write of a piece, tried again where it is interrupted. A piece that has bytes and of which
+// none is taken is a failure.
+fn write_tried_again<W: Write>(writer: &mut W, piece: &[u8]) -> Result<usize, yaml_device_fault_t>
+    ensures bound { IfOk result (λ n. n ≤ length piece.now) }
+    ensures some { IfOk result (λ n. 0 < length piece.now → 0 < n) }
+    ensures ok { IfOk result (λ n. Appends (W.contents writer.old) (W.contents writer.new) (take n piece.now)) }
+    ensures err { OnErr result (Keeps (W.contents writer.old) (W.contents writer.new)) }
+{
+    if piece.is_empty() {
+        return Ok(0);
+    }
+    for _ in 0..TRIES {
+        match writer.write(piece) {
+            Ok(0) => return Err(yaml_device_fault_t),
+            Ok(n) => return Ok(n),
+            Err(e) => {
+                if e.kind() != ErrorKind::Interrupted {
+                    return Err(yaml_device_fault_t);
+                }
+            }
+        }
+    }
+    Err(yaml_device_fault_t)
+}
+
+// One flush, tried again where it is interrupted.
+fn flush_tried_again<W: Write>(writer: &mut W) -> Result<(), yaml_device_fault_t>
+    ensures { Keeps (W.contents writer.old) (W.contents writer.new) }
+{
+    for _ in 0..TRIES {
+        match writer.flush() {
+            Ok(()) => return Ok(()),
+            Err(e) => {
+                if e.kind() != ErrorKind::Interrupted {
+                    return Err(yaml_device_fault_t);
+                }
+            }
+        }
+    }
+    Err(yaml_device_fault_t)
+}

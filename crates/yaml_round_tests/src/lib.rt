@@ -1,0 +1,7 @@
+//! Tests that cross the crates: the engine over slices and over scripted devices.
+#![tactic(auto)]
+
+#[cfg(test)]
+mod devices;
+#[cfg(test)]
+mod texts;

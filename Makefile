@@ -3,9 +3,9 @@
 
 run:
 ifdef FILE
-	@file="$$(realpath -- '$(FILE)')" && cd crates/yaml_cli && rt try -- fmt "$$file" 2>.run.log; status=$$?; grep -v '^rt: ' .run.log >&2; rm -f .run.log; exit $$status
+	@file="$$(realpath -- '$(FILE)')" && cd crates/yaml_cli && rt try -- fmt "$$file" 2>.run.log; status=$$?; grep -Ev '^(rt: |checked: |run=)' .run.log >&2; rm -f .run.log; exit $$status
 else
-	@cd crates/yaml_cli && printf '["a", "b"]' | rt try -- fmt 2>.run.log; status=$$?; grep -v '^rt: ' .run.log >&2; rm -f .run.log; exit $$status
+	@cd crates/yaml_cli && printf '["a", "b"]' | rt try -- fmt 2>.run.log; status=$$?; grep -Ev '^(rt: |checked: |run=)' .run.log >&2; rm -f .run.log; exit $$status
 endif
 
 test:

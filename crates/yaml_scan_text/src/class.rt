@@ -161,7 +161,7 @@ pub fn IS_CRLF(string: &[u8], place: usize) -> bool
 pub fn IS_Z(string: &[u8], place: usize) -> bool
     ensures { result ≡ is_z string.now place }
 {
-    byte_at(string, place, 0) == 0
+    byte_at(string, place, 0) == b'\0'
 }
 
 /// Whether a break, a byte 0 or the end is there.

@@ -1,1 +1,2 @@
 pub mod FaultLine
+pub mod EventLine

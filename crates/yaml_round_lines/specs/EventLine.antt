@@ -1,0 +1,62 @@
+-- The line that tells an event.
+use Rattle.std.specs.Prelude.{ℕ, Bool, true, false, ◌==◌, if◌then◌else◌, List, [], ◌∷◌, ◌++◌, Option, Some, None, codes}
+use Rattle.std.specs.List.{flat_map}
+use Rattle.yaml_scan.specs.declared.yaml_scalar_style_t.{yaml_scalar_style_t}
+use Rattle.yaml_scan.specs.declared.yaml_scalar_style_t.TheVariants as style
+use Rattle.yaml_parse_model.specs.Events.{EventBody}
+use Rattle.yaml_parse_model.specs.Events as event
+
+-- A byte of a tag or a value: a backslash, and 00, 08, 09, 0A and 0D, are a backslash and a sign.
+unfoldable pub escaped_byte : ℕ → List ℕ
+escaped_byte b =
+    if b == 92 then 92 ∷ 92 ∷ []
+    else if b == 0 then 92 ∷ 48 ∷ []
+    else if b == 8 then 92 ∷ 98 ∷ []
+    else if b == 9 then 92 ∷ 116 ∷ []
+    else if b == 10 then 92 ∷ 110 ∷ []
+    else if b == 13 then 92 ∷ 114 ∷ []
+    else b ∷ []
+
+abbrev pub escaped : List ℕ → List ℕ
+escaped text = flat_map escaped_byte text
+
+-- ` &anchor`, where there is one
+abbrev pub anchor_part : Option (List ℕ) → List ℕ
+anchor_part None = []
+anchor_part (Some anchor) = codes " &" ++ anchor
+
+-- ` <tag>`, where there is one
+abbrev pub tag_part : Option (List ℕ) → List ℕ
+tag_part None = []
+tag_part (Some tag) = codes " <" ++ escaped tag ++ codes ">"
+
+-- the style's sign
+abbrev pub sign_of : yaml_scalar_style_t → ℕ
+sign_of style.YAML_ANY_SCALAR_STYLE = 58
+sign_of style.YAML_PLAIN_SCALAR_STYLE = 58
+sign_of style.YAML_SINGLE_QUOTED_SCALAR_STYLE = 39
+sign_of style.YAML_DOUBLE_QUOTED_SCALAR_STYLE = 34
+sign_of style.YAML_LITERAL_SCALAR_STYLE = 124
+sign_of style.YAML_FOLDED_SCALAR_STYLE = 62
+
+-- what an explicit document mark adds
+abbrev pub mark_part : Bool → List ℕ → List ℕ
+mark_part true mark = []
+mark_part false mark = mark
+
+-- the line without its end; the empty event has none
+abbrev pub event_text : EventBody → List ℕ
+event_text event.no = []
+event_text (event.stream_start encoding) = codes "+STR"
+event_text event.stream_end = codes "-STR"
+event_text (event.document_start version directives implicit) = codes "+DOC" ++ mark_part implicit (codes " ---")
+event_text (event.document_end implicit) = codes "-DOC" ++ mark_part implicit (codes " ...")
+event_text (event.alias anchor) = codes "=ALI *" ++ anchor
+event_text (event.scalar anchor tag value plain quoted style) = codes "=VAL" ++ anchor_part anchor ++ tag_part tag ++ (32 ∷ sign_of style ∷ []) ++ escaped value
+event_text (event.sequence_start anchor tag implicit style) = codes "+SEQ" ++ anchor_part anchor ++ tag_part tag
+event_text event.sequence_end = codes "-SEQ"
+event_text (event.mapping_start anchor tag implicit style) = codes "+MAP" ++ anchor_part anchor ++ tag_part tag
+event_text event.mapping_end = codes "-MAP"
+
+abbrev pub event_line : EventBody → List ℕ
+event_line body = event_text body ++ 10 ∷ []

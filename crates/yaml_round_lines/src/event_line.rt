@@ -1,0 +1,185 @@
+//! The line that tells an event.
+
+ghost use Rattle.std.specs.Prelude.{◌≡◌, ◌++◌, [], ◌∷◌, OnOk};
+ghost use Rattle.yaml_parse_model.specs.Events.{event_of, text_of};
+ghost use Rattle.yaml_round_lines.specs.EventLine.{escaped_byte, escaped, anchor_part, tag_part, sign_of, mark_part, event_text, event_line};
+
+use std::alloc::AllocError;
+use yaml_parse_model::{yaml_event_body_t, yaml_event_t};
+use yaml_scan::yaml_scalar_style_t;
+
+// Adds a backslash and a sign.
+fn push_escape(line: &mut Vec<u8>, sign: u8) -> Result<(), AllocError>
+    ensures { OnOk result (line.new.items ≡ line.old.items ++ (92 ∷ sign ∷ [])) }
+{
+    line.push(b'\\')?;
+    line.push(sign)?;
+    Ok(())
+}
+
+// Adds a byte of a tag or a value.
+#[tactic(auto, unfolding(crate::specs::EventLine::escaped_byte))]
+fn push_byte(line: &mut Vec<u8>, byte: u8) -> Result<(), AllocError>
+    ensures { OnOk result (line.new.items ≡ line.old.items ++ escaped_byte byte) }
+{
+    if byte == b'\\' {
+        push_escape(line, b'\\')
+    } else if byte == 0 {
+        push_escape(line, b'0')
+    } else if byte == 8 {
+        push_escape(line, b'b')
+    } else if byte == b'\t' {
+        push_escape(line, b't')
+    } else if byte == b'\n' {
+        push_escape(line, b'n')
+    } else if byte == b'\r' {
+        push_escape(line, b'r')
+    } else {
+        line.push(byte)?;
+        Ok(())
+    }
+}
+
+// Adds the text of a tag or a value.
+fn push_escaped(line: &mut Vec<u8>, text: &[u8]) -> Result<(), AllocError>
+    ensures { OnOk result (line.new.items ≡ line.old.items ++ escaped text.now) }
+{
+    for byte in text {
+        push_byte(line, *byte)?;
+    }
+    Ok(())
+}
+
+fn push_anchor(line: &mut Vec<u8>, anchor: &Option<Vec<u8>>) -> Result<(), AllocError>
+    ensures { OnOk result (line.new.items ≡ line.old.items ++ anchor_part (text_of anchor.now)) }
+{
+    if let Some(anchor) = anchor {
+        line.extend_from_slice(b" &")?;
+        line.extend_from_slice(anchor)?;
+    }
+    Ok(())
+}
+
+fn push_tag(line: &mut Vec<u8>, tag: &Option<Vec<u8>>) -> Result<(), AllocError>
+    ensures { OnOk result (line.new.items ≡ line.old.items ++ tag_part (text_of tag.now)) }
+{
+    if let Some(tag) = tag {
+        line.extend_from_slice(b" <")?;
+        push_escaped(line, tag)?;
+        line.extend_from_slice(b">")?;
+    }
+    Ok(())
+}
+
+fn style_sign(style: yaml_scalar_style_t) -> u8
+    ensures { result ≡ sign_of style }
+{
+    match style {
+        yaml_scalar_style_t::YAML_ANY_SCALAR_STYLE => b':',
+        yaml_scalar_style_t::YAML_PLAIN_SCALAR_STYLE => b':',
+        yaml_scalar_style_t::YAML_SINGLE_QUOTED_SCALAR_STYLE => b'\'',
+        yaml_scalar_style_t::YAML_DOUBLE_QUOTED_SCALAR_STYLE => b'"',
+        yaml_scalar_style_t::YAML_LITERAL_SCALAR_STYLE => b'|',
+        yaml_scalar_style_t::YAML_FOLDED_SCALAR_STYLE => b'>',
+    }
+}
+
+// Adds a word, an anchor and a tag.
+fn push_node(
+    line: &mut Vec<u8>,
+    word: &[u8],
+    anchor: &Option<Vec<u8>>,
+    tag: &Option<Vec<u8>>,
+) -> Result<(), AllocError>
+    ensures { OnOk result (line.new.items ≡ line.old.items ++ (word.now ++ anchor_part (text_of anchor.now) ++ tag_part (text_of tag.now))) }
+{
+    line.extend_from_slice(word)?;
+    push_anchor(line, anchor)?;
+    push_tag(line, tag)
+}
+
+// Adds a space, the style's sign and the value.
+fn push_value(
+    line: &mut Vec<u8>,
+    value: &[u8],
+    style: yaml_scalar_style_t,
+) -> Result<(), AllocError>
+    ensures { OnOk result (line.new.items ≡ line.old.items ++ ((32 ∷ sign_of style ∷ []) ++ escaped value.now)) }
+{
+    line.push(b' ')?;
+    line.push(style_sign(style))?;
+    push_escaped(line, value)
+}
+
+// Adds a word, and a mark where it isn't left out.
+fn push_document(
+    line: &mut Vec<u8>,
+    word: &[u8],
+    implicit: bool,
+    mark: &[u8],
+) -> Result<(), AllocError>
+    ensures { OnOk result (line.new.items ≡ line.old.items ++ (word.now ++ mark_part implicit mark.now)) }
+{
+    line.extend_from_slice(word)?;
+    if !implicit {
+        line.extend_from_slice(mark)?;
+    }
+    Ok(())
+}
+
+// Adds a word, and a name behind it.
+fn push_name(line: &mut Vec<u8>, word: &[u8], name: &[u8]) -> Result<(), AllocError>
+    ensures { OnOk result (line.new.items ≡ line.old.items ++ (word.now ++ name.now)) }
+{
+    line.extend_from_slice(word)?;
+    line.extend_from_slice(name)?;
+    Ok(())
+}
+
+// Adds the line without its end.
+fn push_event(line: &mut Vec<u8>, event: &yaml_event_t) -> Result<(), AllocError>
+    ensures { OnOk result (line.new.items ≡ line.old.items ++ event_text (event_of event.now).body) }
+{
+    match &event.body {
+        yaml_event_body_t::No => Ok(()),
+        yaml_event_body_t::StreamStart { .. } => line.extend_from_slice(b"+STR"),
+        yaml_event_body_t::StreamEnd => line.extend_from_slice(b"-STR"),
+        yaml_event_body_t::DocumentStart { implicit, .. } => push_document(
+            line, b"+DOC", *implicit, b" ---",
+        ),
+        yaml_event_body_t::DocumentEnd { implicit } => push_document(
+            line, b"-DOC", *implicit, b" ...",
+        ),
+        yaml_event_body_t::Alias { anchor } => push_name(line, b"=ALI *", anchor),
+        yaml_event_body_t::Scalar {
+            anchor,
+            tag,
+            value,
+            style,
+            ..
+        } => {
+            push_node(line, b"=VAL", anchor, tag)?;
+            push_value(line, value, *style)
+        }
+        yaml_event_body_t::SequenceStart { anchor, tag, .. } => push_node(
+            line, b"+SEQ", anchor, tag,
+        ),
+        yaml_event_body_t::SequenceEnd => line.extend_from_slice(b"-SEQ"),
+        yaml_event_body_t::MappingStart { anchor, tag, .. } => push_node(
+            line, b"+MAP", anchor, tag,
+        ),
+        yaml_event_body_t::MappingEnd => line.extend_from_slice(b"-MAP"),
+    }
+}
+
+/// Adds the line that tells an event, with a line feed at its end: `+STR`, `-STR`, `+DOC` (` ---` where it is explicit),
+/// `-DOC` (` ...` where it is explicit), `=ALI *name`, `+SEQ`, `-SEQ`, `+MAP`, `-MAP`, `=VAL`; behind a node's word its
+/// ` &anchor` and ` <tag>`, behind `=VAL` a space, the style's sign (`: ' " | >`) and the value. In tags and values a
+/// backslash, 00, 08, 09, 0A and 0D are escaped. An error leaves a front of the line.
+pub fn yaml_push_event_line(line: &mut Vec<u8>, event: &yaml_event_t) -> Result<(), AllocError>
+    ensures { OnOk result (line.new.items ≡ line.old.items ++ event_line (event_of event.now).body) }
+{
+    push_event(line, event)?;
+    line.push(b'\n')?;
+    Ok(())
+}

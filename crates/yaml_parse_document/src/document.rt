@@ -6,11 +6,14 @@ ghost use Rattle.yaml_parse_model.specs.Nodes.{node_of};
 ghost use Rattle.yaml_parse_document.specs.Documents.{no_document, node_at, IsNewDocument, new_document};
 
 mod adding;
+mod parts;
 
 pub use adding::{
-    yaml_document_add_mapping, yaml_document_add_scalar, yaml_document_add_sequence,
-    yaml_document_append_mapping_pair, yaml_document_append_sequence_item,
+    MAX_ENTRIES, push_entry, yaml_document_add_mapping, yaml_document_add_scalar,
+    yaml_document_add_sequence, yaml_document_append_mapping_pair,
+    yaml_document_append_sequence_item,
 };
+pub use parts::{DocumentParts, document_is_sound};
 use std::alloc::Global;
 use std::marker::Model;
 use yaml_parse_model::{are_utf8, copy_directives, yaml_node_t, yaml_text_fault_t};

@@ -17,7 +17,7 @@ use yaml_scan::{yaml_mapping_style_t, yaml_mark_t, yaml_scalar_style_t, yaml_seq
 /// A list of a document has at most this many entries.
 pub const MAX_ENTRIES: usize = 2_147_483_647;
 
-// One entry more at the end of a list of a document.
+/// One entry more at the end of a list of a document; `Memory` where a growth was refused or the list is full.
 pub fn push_entry<T: Drop>(entries: &mut Vec<T>, entry: T) -> Result<(), yaml_text_fault_t>
     ensures { MatchResult result
         (λ _. (entries.new.items ≡ entries.old.items ++ entry ∷ []) × (length entries.old.items < 2147483647))

@@ -1,0 +1,9 @@
+pub mod Settings
+pub mod Text
+pub mod Layout
+pub mod Appends
+pub mod Sink
+pub mod Quoted
+pub mod Style
+pub mod Scalars
+pub mod Tags

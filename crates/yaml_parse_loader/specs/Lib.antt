@@ -1,0 +1,5 @@
+pub mod Anchors
+pub mod AnchorView
+pub mod Numbering
+pub mod Loading
+pub mod Views

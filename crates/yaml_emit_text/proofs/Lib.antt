@@ -1,5 +1,6 @@
 pub mod Sinks
 mod Spells
 mod Walks
+mod Directives
 mod Escapes
 mod Looks

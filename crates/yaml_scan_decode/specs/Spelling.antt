@@ -36,3 +36,7 @@ pub record Spells (setting : yaml_encoding_t) (bytes text : List ℕ) : Type 0 w
   pub allowed : AllPass is_allowed characters
   pub spelled : drop (mark_length setting bytes) bytes ≡ spellings (encoding_of setting bytes) characters
   pub is : text ≡ encode_utf8_all characters
+
+-- the bytes spell no text
+abbrev pub SpellsNothing : yaml_encoding_t → List ℕ → Type 0
+SpellsNothing setting bytes = (text : List ℕ) → Spells setting bytes text → ⊥

@@ -1,5 +1,5 @@
 -- What decoding answers, in the words of spelling.
-use Rattle.std.proofs.Common.{◌≡◌, ◌⊎◌, inl, inr, ℕ, List, length, Option, Some, None, Result, Ok, Err, IfOk, IfErr, refl, sym, ap, ◌∙◌}
+use Rattle.std.proofs.Common.{◌≡◌, ◌⊎◌, inl, inr, ℕ, List, length, Option, Some, None, Result, Ok, Err, IfOk, IfErr, refl}
 use Rattle.std.specs.Prelude.{option_map}
 use Rattle.yaml_scan_text.specs.declared.name.yaml_encoding_t.{yaml_encoding_t}
 use Rattle.yaml_scan_text.specs.declared.fault.yaml_fault_t.{yaml_fault_t}
@@ -9,7 +9,7 @@ use Rattle.yaml_scan_decode.specs.declared.offence.Offence.{Offence}
 use Rattle.yaml_scan_decode.specs.declared.decode.yaml_text_t.{yaml_text_t}
 use Rattle.yaml_scan_decode.specs.Offences.{reader_fault}
 use Rattle.yaml_scan_decode.specs.Encodings.{encoding_of, mark_length}
-use Rattle.yaml_scan_decode.specs.Decoding.{characters, in_utf8, decoded_text, first_offence}
+use Rattle.yaml_scan_decode.specs.Decoding.{characters, in_utf8, first_offence}
 use Rattle.yaml_scan_decode.specs.Spelling.{Spells, SpellsNothing}
 use Rattle.yaml_scan_decode.specs.Answer.{text_bytes, fault_in, decoding_fault}
 use Rattle.yaml_scan_decode.proofs.DecodeLemmas.{AreBytes}

@@ -1,5 +1,5 @@
 -- What spells a text is decoded to it.
-use Rattle.std.proofs.Common.{◌≡◌, ◌⊎◌, inl, inr, ℕ, zero, suc, ◌+◌, ◌-◌, ◌*◌, ◌/◌, ◌%◌, ◌<◌, ◌≤◌, Bool, true, false, not, ◌&&◌, ◌==◌, nat_lt, cond, List, [], ◌∷◌, ◌++◌, drop, get_or, length, Result, Ok, Err, refl, sym, ap, ◌∙◌, arith, add-zero, append_assoc, append-nil, length-drop, length-append, get_or-drop}
+use Rattle.std.proofs.Common.{◌≡◌, ◌⊎◌, inl, inr, ℕ, suc, ◌+◌, ◌-◌, ◌*◌, ◌/◌, ◌%◌, ◌<◌, ◌≤◌, Bool, true, false, not, ◌&&◌, ◌==◌, nat_lt, cond, List, [], ◌∷◌, ◌++◌, drop, get_or, length, Result, Ok, Err, refl, sym, ap, ◌∙◌, arith, add-zero, append_assoc, append-nil, length-drop, length-append, get_or-drop}
 use Rattle.std.proofs.lemmas.Bool.{cases_lt}
 use Rattle.std.proofs.lemmas.Bool.Decides.{nat_tests}
 use Rattle.std.proofs.lemmas.List.{drop-drop, drop_at, take_all}
@@ -7,13 +7,12 @@ use Rattle.std.proofs.lemmas.List.Elements.{All-head, All-tail}
 use Rattle.std.specs.List.{AllPass}
 use Rattle.std.specs.Char.{encode_utf8}
 use Rattle.std.specs.Char.Escape.{encode_utf16}
-use Rattle.std.specs.Prelude.{encode_utf8_all, take, Option, Some}
+use Rattle.std.specs.Prelude.{take, Some}
 use Rattle.yaml_scan_text.specs.declared.name.yaml_encoding_t.{yaml_encoding_t}
 use Rattle.yaml_scan_text.specs.declared.name.yaml_encoding_t.TheVariants.{YAML_ANY_ENCODING, YAML_UTF8_ENCODING, YAML_UTF16LE_ENCODING, YAML_UTF16BE_ENCODING}
 use Rattle.yaml_scan_text.specs.Marks.{byte}
 use Rattle.yaml_scan_text.specs.Classes.{width_of}
 use Rattle.yaml_scan_decode.specs.declared.offence.Offence.{Offence}
-use Rattle.yaml_scan_decode.specs.declared.offence.Character.{Character}
 use Rattle.yaml_scan_decode.specs.declared.utf16.ByteOrder.{ByteOrder}
 use Rattle.yaml_scan_decode.specs.declared.utf16.ByteOrder.TheVariants.{LowFirst, HighFirst}
 use Rattle.std.specs.Result.{result_err}

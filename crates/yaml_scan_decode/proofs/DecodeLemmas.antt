@@ -1,5 +1,5 @@
 -- Decoding, a character at a time: what a character that stands at a place tells.
-use Rattle.std.proofs.Common.{◌≡◌, ◌≢◌, ◌⊎◌, inl, inr, ℕ, pos, zero, suc, ◌+◌, ◌-◌, ◌*◌, ◌/◌, ◌%◌, ◌<◌, ◌≤◌, Bool, true, false, not, ◌&&◌, ◌||◌, ◌==◌, nat_lt, nat_le, cond, List, [], ◌∷◌, ◌++◌, take, drop, length, Result, Ok, Err, refl, sym, ap, ◌∙◌, arith, add-one, add-zero, drop-cons}
+use Rattle.std.proofs.Common.{◌≡◌, ℕ, pos, zero, suc, ◌+◌, ◌-◌, ◌*◌, ◌/◌, ◌%◌, ◌<◌, ◌≤◌, Bool, true, false, not, ◌&&◌, ◌==◌, nat_lt, cond, List, [], ◌∷◌, ◌++◌, take, drop, length, Result, Ok, Err, refl, arith, add-one, add-zero, drop-cons}
 use Rattle.std.proofs.lemmas.Bool.Decides.{nat_tests}
 use Rattle.std.specs.Char.{encode_utf8}
 use Rattle.std.specs.Char.Escape.{encode_utf16}
@@ -12,7 +12,7 @@ use Rattle.yaml_scan_decode.specs.declared.offence.Offence.{Offence}
 use Rattle.yaml_scan_decode.specs.declared.offence.Character.{Character}
 use Rattle.yaml_scan_decode.specs.declared.utf16.ByteOrder.{ByteOrder}
 use Rattle.yaml_scan_decode.specs.declared.utf16.ByteOrder.TheVariants.{LowFirst, HighFirst}
-use Rattle.yaml_scan_decode.specs.Characters.{is_allowed, allowed_at, least_code, valued_at, is_trailing, leading_bits, utf8_code, sequence_of, utf8_of, utf8_at, between, unit_at, utf16_of, utf16_at, offends, none, is_low_surrogate, is_high_surrogate, encoding_by, character_at}
+use Rattle.yaml_scan_decode.specs.Characters.{is_allowed, allowed_at, least_code, valued_at, is_trailing, leading_bits, utf8_code, sequence_of, utf8_of, utf8_at, unit_at, utf16_of, utf16_at, offends, none, is_low_surrogate, is_high_surrogate, character_at}
 use Rattle.yaml_scan_decode.specs.Spelling.{unit_bytes, units_bytes, spelling}
 
 -- a character has four bytes at most

@@ -1,5 +1,5 @@
 -- How characters are spelled in bytes, and the text that bytes spell: what decoding turns round.
-use Rattle.std.specs.Prelude.{ℕ, ◌/◌, ◌%◌, ◌≡◌, true, List, [], ◌∷◌, ◌++◌, drop, encode_utf8, encode_utf8_all}
+use Rattle.std.specs.Prelude.{ℕ, ◌/◌, ◌%◌, ◌≡◌, List, [], ◌∷◌, ◌++◌, drop, encode_utf8, encode_utf8_all}
 use Rattle.std.specs.List.{AllPass}
 use Rattle.std.specs.Char.Escape.{encode_utf16}
 use Rattle.yaml_scan_text.specs.declared.name.yaml_encoding_t.{yaml_encoding_t}

@@ -1,6 +1,5 @@
 -- What the parts of a character's reading answer.
-use Rattle.std.specs.Prelude.{ℕ, pos, ◌+◌, ◌-◌, Bool, not, ◌&&◌, nat_lt, if◌then◌else◌, List, Result, Ok, Err}
-use Rattle.yaml_scan_text.specs.Marks.{byte}
+use Rattle.std.specs.Prelude.{ℕ, pos, ◌+◌, ◌-◌, Bool, not, ◌&&◌, nat_lt, if◌then◌else◌, Result, Ok, Err}
 use Rattle.yaml_scan_decode.specs.declared.offence.ReaderProblem.TheVariants as problems
 use Rattle.yaml_scan_decode.specs.declared.offence.Offence.{Offence}
 use Rattle.yaml_scan_decode.specs.Characters.{is_allowed, is_trailing}

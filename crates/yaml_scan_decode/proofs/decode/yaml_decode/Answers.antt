@@ -1,9 +1,7 @@
-use Rattle.std.proofs.Common.{◌≡◌, ◌∙◌, List, Ok, Some, refl, sym, arith, drop, inr}
+use Rattle.std.proofs.Common.{◌≡◌, ◌∙◌, refl, sym, arith, inr}
 use Rattle.yaml_scan_text.specs.Faults.{fault_of}
 use Rattle.yaml_scan_text.specs.declared.name.yaml_encoding_t.TheVariants.{YAML_UTF8_ENCODING}
 use Rattle.yaml_scan_decode.specs.Encodings.{encoding_of}
-use Rattle.yaml_scan_decode.specs.Decoding.{decoded_text}
-use Rattle.yaml_scan_decode.specs.Answer.{decoding_fault}
 use Rattle.yaml_scan_decode.proofs.CompleteLemmas.{encoding_utf8, checked_text, checked_offence, take_rest, decoded_spells}
 use Rattle.yaml_scan_decode.proofs.AnswerLemmas.{units_spelled, units_unspelled, fault_unspelled}
 use Rattle.yaml_scan_decode.proofs.decode.yaml_decode.Goals as goal

@@ -11,7 +11,7 @@ use Rattle.yaml_scan_decode.specs.Offences.{reader_fault}
 use Rattle.yaml_scan_decode.specs.Encodings.{encoding_of, mark_length}
 use Rattle.yaml_scan_decode.specs.Decoding.{characters, in_utf8, first_offence}
 use Rattle.yaml_scan_decode.specs.Spelling.{Spells, SpellsNothing}
-use Rattle.yaml_scan_decode.specs.Answer.{text_bytes, fault_in, decoding_fault}
+use Rattle.yaml_scan_decode.specs.DecodedText.{text_bytes, fault_in, decoding_fault}
 use Rattle.yaml_scan_decode.proofs.DecodeLemmas.{AreBytes}
 use Rattle.yaml_scan_decode.proofs.CompleteLemmas.{decoded_spells, offence_unspelled}
 

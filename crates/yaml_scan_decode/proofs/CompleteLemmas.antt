@@ -20,7 +20,7 @@ use Rattle.yaml_scan_decode.specs.Encodings.{begins_low_first, begins_high_first
 use Rattle.yaml_scan_decode.specs.Characters.{is_allowed, allowed_at, valued_at, least_code, is_trailing, sequence_of, utf8_code, leading_bits, utf8_of, utf8_at, unit_at, is_low_surrogate, is_high_surrogate, utf16_of, utf16_at, character_at}
 use Rattle.yaml_scan_decode.specs.Decoding.{before, characters, in_utf8, decoded_characters, decoded_text, first_offence}
 use Rattle.yaml_scan_decode.specs.Spelling.{unit_bytes, units_bytes, spelling, spellings, Spells}
-use Rattle.yaml_scan_decode.specs.Answer.{outcome}
+use Rattle.yaml_scan_decode.specs.Steps.{outcome}
 use Rattle.yaml_scan_decode.proofs.DecodeLemmas.{AreBytes}
 use Rattle.yaml_scan_decode.proofs.SpellingLemmas.{ended, turn, sound, utf8_text}
 

@@ -18,7 +18,7 @@ use Rattle.yaml_scan_decode.specs.Characters.{is_allowed, allowed_at, valued_at,
 use Rattle.yaml_scan_decode.specs.Steps.{is_plain}
 use Rattle.yaml_scan_decode.specs.Decoding.{before, led_by, characters, in_utf8}
 use Rattle.yaml_scan_decode.specs.Spelling.{spelling, spellings}
-use Rattle.yaml_scan_decode.specs.Answer.{outcome, behind}
+use Rattle.yaml_scan_decode.specs.Steps.{outcome, behind}
 use Rattle.yaml_scan_decode.proofs.DecodeLemmas.{AreBytes, character_stands}
 
 below : (m n : ℕ) → m < n → nat_lt m n ≡ true

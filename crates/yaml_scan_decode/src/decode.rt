@@ -8,7 +8,7 @@ ghost use Rattle.yaml_scan_decode.specs.Encodings.{encoding_of};
 ghost use Rattle.yaml_scan_decode.specs.Characters.{encoding_by};
 ghost use Rattle.yaml_scan_decode.specs.Decoding.{characters, in_utf8, decoded_text};
 ghost use Rattle.yaml_scan_decode.specs.Spelling.{Spells, SpellsNothing};
-ghost use Rattle.yaml_scan_decode.specs.Answer.{text_bytes, is_borrowed, is_utf8, decoding_fault, fault_in};
+ghost use Rattle.yaml_scan_decode.specs.DecodedText.{text_bytes, is_borrowed, is_utf8, decoding_fault, fault_in};
 
 use crate::encoding::{removed_mark_length, stream_encoding};
 use crate::utf8::check_utf8;

@@ -5,7 +5,7 @@ ghost use Rattle.std.specs.Char.{IsScalar};
 ghost use Rattle.yaml_scan_decode.specs.declared.utf16.DecodeError.TheVariants.{Memory, Offends};
 ghost use Rattle.yaml_scan_decode.specs.Characters.{utf16_at, unit_at, encoding_by, is_low_surrogate, is_high_surrogate};
 ghost use Rattle.yaml_scan_decode.specs.Decoding.{characters, in_utf8};
-ghost use Rattle.yaml_scan_decode.specs.Answer.{DecodesTo};
+ghost use Rattle.yaml_scan_decode.specs.Steps.{DecodesTo};
 
 use crate::offence::{Character, Offence, ReaderProblem, allowed_character};
 use std::alloc::{AllocError, Global};

@@ -7,7 +7,7 @@ ghost use Rattle.yaml_scan_text.specs.Classes.{width_of};
 ghost use Rattle.yaml_scan_decode.specs.Characters.{utf8_at, valued_at, sequence_of, least_code, leading_bits};
 ghost use Rattle.yaml_scan_decode.specs.Steps.{is_plain, trailing_bits};
 ghost use Rattle.yaml_scan_decode.specs.Decoding.{characters};
-ghost use Rattle.yaml_scan_decode.specs.Answer.{outcome};
+ghost use Rattle.yaml_scan_decode.specs.Steps.{outcome};
 
 use crate::offence::{Character, Offence, ReaderProblem, allowed_character};
 use yaml_scan_text::WIDTH;

@@ -1,6 +1,7 @@
 //! Decoding, tokens and their faults: libyaml's reader and scanner.
 #![tactic(auto)]
 
+pub use yaml_scan_decode::{yaml_decode, yaml_text_t};
 pub use yaml_scan_text::{
     AS_DIGIT, AS_HEX_AT, IS_ALPHA, IS_ASCII, IS_BLANK, IS_BLANKZ, IS_BOM, IS_BREAK, IS_BREAKZ,
     IS_CRLF, IS_DIGIT, IS_HEX_AT, IS_PRINTABLE, IS_SPACE, IS_TAB, IS_Z, WIDTH, yaml_break_t,

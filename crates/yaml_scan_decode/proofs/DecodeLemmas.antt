@@ -1,5 +1,5 @@
 -- Decoding, a character at a time: what a character that stands at a place tells.
-use Rattle.std.proofs.Common.{◌≡◌, ◌≢◌, ◌⊎◌, inl, inr, ℕ, pos, zero, suc, ◌+◌, ◌-◌, ◌*◌, ◌/◌, ◌%◌, ◌<◌, ◌≤◌, Bool, true, false, not, ◌&&◌, ◌||◌, ◌==◌, nat_lt, nat_le, cond, List, [], ◌∷◌, ◌++◌, take, drop, length, Result, Ok, Err, refl, sym, ap, ◌∙◌, arith, add-one, add-zero, drop-cons}
+use Rattle.std.proofs.Common.{◌≡◌, ℕ, pos, zero, suc, ◌+◌, ◌-◌, ◌*◌, ◌/◌, ◌%◌, ◌<◌, ◌≤◌, Bool, true, false, not, ◌&&◌, ◌==◌, nat_lt, cond, List, [], ◌∷◌, ◌++◌, take, drop, length, Result, Ok, Err, refl, arith, add-one, add-zero, drop-cons}
 use Rattle.std.proofs.lemmas.Bool.Decides.{nat_tests}
 use Rattle.std.specs.Char.{encode_utf8}
 use Rattle.std.specs.Char.Escape.{encode_utf16}
@@ -12,7 +12,7 @@ use Rattle.yaml_scan_decode.specs.declared.offence.Offence.{Offence}
 use Rattle.yaml_scan_decode.specs.declared.offence.Character.{Character}
 use Rattle.yaml_scan_decode.specs.declared.utf16.ByteOrder.{ByteOrder}
 use Rattle.yaml_scan_decode.specs.declared.utf16.ByteOrder.TheVariants.{LowFirst, HighFirst}
-use Rattle.yaml_scan_decode.specs.Characters.{is_allowed, allowed_at, least_code, valued_at, is_trailing, leading_bits, utf8_code, sequence_of, utf8_of, utf8_at, between, unit_at, utf16_of, utf16_at, offends, none, is_low_surrogate, is_high_surrogate, encoding_by, character_at}
+use Rattle.yaml_scan_decode.specs.Characters.{is_allowed, allowed_at, least_code, valued_at, is_trailing, leading_bits, utf8_code, sequence_of, utf8_of, utf8_at, unit_at, utf16_of, utf16_at, offends, no_value, is_low_surrogate, is_high_surrogate, character_at}
 use Rattle.yaml_scan_decode.specs.Spelling.{unit_bytes, units_bytes, spelling}
 
 -- a character has four bytes at most
@@ -268,7 +268,7 @@ utf16_gives left p u v ch h =
     room n e = grind (arith, nat_tests)
 
     by : (t : Bool) → is_high_surrogate u ≡ t
-        → cond (not t) (allowed_at p 2 u) (cond (nat_lt left 4) (offends problems.IncompletePair p none) (cond (not (is_low_surrogate v)) (offends problems.ExpectedLowSurrogate (p + 2) (pos v)) (allowed_at p 4 (0x1_0000 + (u - 0xD800) * 0x400 + (v - 0xDC00))))) ≡ Ok ch
+        → cond (not t) (allowed_at p 2 u) (cond (nat_lt left 4) (offends problems.IncompletePair p no_value) (cond (not (is_low_surrogate v)) (offends problems.ExpectedLowSurrogate (p + 2) (pos v)) (allowed_at p 4 (0x1_0000 + (u - 0xD800) * 0x400 + (v - 0xDC00))))) ≡ Ok ch
         → Units left u v ch
     by false e g =
         let (whole, _) = passed (nat_lt left 2) _ _ ch h in

@@ -1,3 +1,4 @@
 pub mod DecodeLemmas
 pub mod SpellingLemmas
 pub mod CompleteLemmas
+pub mod AnswerLemmas

@@ -31,8 +31,9 @@ is_high_surrogate c = between 0xD800 0xDBFF c
 abbrev pub offends : ReaderProblem → ℕ → ℤ → Result Character Offence
 offends problem place number = Err record { problem = problem; offset = place; value = number }
 
-abbrev pub none : ℤ
-none = negsuc 0
+-- no byte, unit or character is told
+abbrev pub no_value : ℤ
+no_value = negsuc 0
 
 -- the character of that code, which so many bytes there spell, if a stream may hold it
 unfoldable pub allowed_at : ℕ → ℕ → ℕ → Result Character Offence
@@ -47,7 +48,7 @@ least_code width = if width == 1 then 0 else if width == 2 then 0x80 else if wid
 -- those bytes there stand for the code: a shorter form, a surrogate and a number above 10FFFF spell no character
 unfoldable pub valued_at : ℕ → ℕ → ℕ → Result Character Offence
 valued_at p width code =
-    if nat_lt code (least_code width) then offends problems.InvalidLength p none
+    if nat_lt code (least_code width) then offends problems.InvalidLength p no_value
     else if between 0xD800 0xDFFF code || nat_lt 0x10_FFFF code then offends problems.InvalidCharacter p (pos code)
     else allowed_at p width code
 
@@ -80,7 +81,7 @@ sequence_of width p b c d e =
 unfoldable pub utf8_of : ℕ → ℕ → ℕ → ℕ → ℕ → ℕ → Result Character Offence
 utf8_of left p b c d e =
     if width_of b == 0 then offends problems.InvalidLeadingOctet p (pos b)
-    else if nat_lt left (width_of b) then offends problems.IncompleteSequence p none
+    else if nat_lt left (width_of b) then offends problems.IncompleteSequence p no_value
     else sequence_of (width_of b) p b c d e
 
 abbrev pub utf8_at : List ℕ → ℕ → Result Character Offence
@@ -99,10 +100,10 @@ unit_at HighFirst bytes p = byte bytes p * 256 + byte bytes (p + 1)
 -- what the unit u begins at p, where v stands behind it, and so many bytes are left with u
 unfoldable pub utf16_of : ℕ → ℕ → ℕ → ℕ → Result Character Offence
 utf16_of left p u v =
-    if nat_lt left 2 then offends problems.IncompleteCharacter p none
+    if nat_lt left 2 then offends problems.IncompleteCharacter p no_value
     else if is_low_surrogate u then offends problems.UnexpectedLowSurrogate p (pos u)
     else if not (is_high_surrogate u) then allowed_at p 2 u
-    else if nat_lt left 4 then offends problems.IncompletePair p none
+    else if nat_lt left 4 then offends problems.IncompletePair p no_value
     else if not (is_low_surrogate v) then offends problems.ExpectedLowSurrogate (p + 2) (pos v)
     else allowed_at p 4 (0x1_0000 + (u - 0xD800) * 0x400 + (v - 0xDC00))
 

@@ -4,4 +4,4 @@ pub mod Characters
 pub mod Steps
 pub mod Decoding
 pub mod Spelling
-pub mod Answer
+pub mod DecodedText

@@ -1,5 +1,5 @@
 -- The faults of bytes that spell no text.
-use Rattle.std.specs.Prelude.{ℕ, List, None, codes, Result, Ok, Err}
+use Rattle.std.specs.Prelude.{ℕ, List, None, codes}
 use Rattle.yaml_scan_text.specs.declared.name.yaml_error_type_t.TheVariants.{YAML_READER_ERROR}
 use Rattle.yaml_scan_text.specs.declared.fault.yaml_origin_t.TheVariants.{Reader}
 use Rattle.yaml_scan_text.specs.Tokens.{zero_mark}

@@ -1,5 +1,5 @@
 -- How characters are spelled in bytes, and the text that bytes spell: what decoding turns round.
-use Rattle.std.specs.Prelude.{ℕ, ◌/◌, ◌%◌, ◌≡◌, true, List, [], ◌∷◌, ◌++◌, drop, encode_utf8, encode_utf8_all}
+use Rattle.std.specs.Prelude.{ℕ, ◌/◌, ◌%◌, ◌≡◌, List, [], ◌∷◌, ◌++◌, drop, encode_utf8, encode_utf8_all}
 use Rattle.std.specs.List.{AllPass}
 use Rattle.std.specs.Char.Escape.{encode_utf16}
 use Rattle.yaml_scan_text.specs.declared.name.yaml_encoding_t.{yaml_encoding_t}
@@ -36,3 +36,7 @@ pub record Spells (setting : yaml_encoding_t) (bytes text : List ℕ) : Type 0 w
   pub allowed : AllPass is_allowed characters
   pub spelled : drop (mark_length setting bytes) bytes ≡ spellings (encoding_of setting bytes) characters
   pub is : text ≡ encode_utf8_all characters
+
+-- the bytes spell no text
+abbrev pub SpellsNothing : yaml_encoding_t → List ℕ → Type 0
+SpellsNothing setting bytes = (text : List ℕ) → Spells setting bytes text → ⊥

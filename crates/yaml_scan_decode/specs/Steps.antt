@@ -1,8 +1,10 @@
--- What the parts of a character's reading answer.
-use Rattle.std.specs.Prelude.{ℕ, pos, ◌+◌, ◌-◌, Bool, not, ◌&&◌, nat_lt, if◌then◌else◌, List, Result, Ok, Err}
-use Rattle.yaml_scan_text.specs.Marks.{byte}
+-- What the parts of decoding answer.
+use Rattle.std.specs.Prelude.{ℕ, ◌≡◌, pos, ◌+◌, ◌-◌, Bool, not, ◌&&◌, nat_lt, if◌then◌else◌, List, ◌++◌, Result, Ok, Err, Vec}
+use Rattle.std.specs.Global.{Global}
 use Rattle.yaml_scan_decode.specs.declared.offence.ReaderProblem.TheVariants as problems
 use Rattle.yaml_scan_decode.specs.declared.offence.Offence.{Offence}
+use Rattle.yaml_scan_decode.specs.declared.utf16.DecodeError.{DecodeError}
+use Rattle.yaml_scan_decode.specs.declared.utf16.DecodeError.TheVariants.{Memory, Offends}
 use Rattle.yaml_scan_decode.specs.Characters.{is_allowed, is_trailing}
 
 -- what the byte b, which stands so many places behind the first of its character, adds to the code; 0 where the character has no such byte
@@ -14,3 +16,19 @@ trailing_bits p width ahead b =
 -- an ASCII character that a stream may hold
 unfoldable pub is_plain : ℕ → Bool
 is_plain b = nat_lt b 128 && is_allowed b
+
+-- whether bytes spell characters, or the first offence
+abbrev pub outcome : Result (List ℕ) Offence → Result (Unit {0}) Offence
+outcome (Ok cs) = Ok tt
+outcome (Err o) = Err o
+
+-- the text behind those bytes
+abbrev pub behind : List ℕ → Result (List ℕ) Offence → Result (List ℕ) Offence
+behind xs (Ok text) = Ok (xs ++ text)
+behind xs (Err o) = Err o
+
+-- the text or the offence, unless memory ran out
+abbrev pub DecodesTo : Result (Vec ℕ Global) DecodeError → Result (List ℕ) Offence → Type 0
+DecodesTo (Ok text) decoded = decoded ≡ Ok (text.items)
+DecodesTo (Err Memory) decoded = Unit {0}
+DecodesTo (Err (Offends o)) decoded = decoded ≡ Err o

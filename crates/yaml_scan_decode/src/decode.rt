@@ -7,7 +7,8 @@ ghost use Rattle.yaml_scan_text.specs.Faults.{fault_of, memory_fault};
 ghost use Rattle.yaml_scan_decode.specs.Encodings.{encoding_of};
 ghost use Rattle.yaml_scan_decode.specs.Characters.{encoding_by};
 ghost use Rattle.yaml_scan_decode.specs.Decoding.{characters, in_utf8, decoded_text};
-ghost use Rattle.yaml_scan_decode.specs.Answer.{text_bytes, is_borrowed, is_utf8, decoding_fault, fault_in};
+ghost use Rattle.yaml_scan_decode.specs.Spelling.{Spells, SpellsNothing};
+ghost use Rattle.yaml_scan_decode.specs.DecodedText.{text_bytes, is_borrowed, is_utf8, decoding_fault, fault_in};
 
 use crate::encoding::{removed_mark_length, stream_encoding};
 use crate::utf8::check_utf8;
@@ -55,7 +56,12 @@ fn decode_units<'a>(
     }
 }
 
-/// The text that the bytes spell.
+/// The text that the bytes of a stream spell, in UTF-8 (YAML 1.1, 5.1 and 5.2). With `YAML_ANY_ENCODING` a leading
+/// byte order mark tells the encoding, UTF-8 where there is none, and is removed; with a set encoding nothing is.
+/// UTF-8 is lent as it stands and takes no memory; UTF-16 is written anew.
+///
+/// Errors: kind 2 where the bytes spell no text, for the first character that they don't spell or that a stream may
+/// not hold, with its byte, counted with a removed mark; kind 1 where a growth was refused, for UTF-16 alone.
 pub fn yaml_decode<'a>(
     alloc: Global,
     input: &'a [u8],
@@ -67,6 +73,10 @@ pub fn yaml_decode<'a>(
     // UTF-8 is lent as it stands, and takes no memory.
     ensures held { IfOk result (λ t. is_borrowed t ≡ is_utf8 (encoding_of encoding input.now)) }
     ensures no_memory { encoding_of encoding input.now ≡ YAML_UTF8_ENCODING → IfErr result (λ f. decoding_fault encoding input.now ≡ Some (fault_of f)) }
+
+    // In the words of spelling: the text is the one that the bytes spell, and where they are refused they spell none.
+    ensures spelled { IfOk result (λ t. Spells encoding input.now (text_bytes t)) }
+    ensures unspelled { IfErr result (λ f. (fault_of f ≡ memory_fault Reader) ⊎ SpellsNothing encoding input.now) }
 {
     let start = removed_mark_length(input, encoding);
     match stream_encoding(input, encoding) {

@@ -14,9 +14,9 @@ const HIGH_FIRST: [u8; 2] = [0xFE, 0xFF];
 // U+FEFF in UTF-8.
 const UTF8_MARK: [u8; 3] = [0xEF, 0xBB, 0xBF];
 
-#[tactic(auto, unfolding(crate::specs::Encodings::encoding_of))]
 /// The encoding of a stream: the one that is set, or with `YAML_ANY_ENCODING` the one that its byte order
 /// mark tells, UTF-8 where it has none (YAML 1.1, 5.2).
+#[tactic(auto, unfolding(crate::specs::Encodings::encoding_of))]
 pub fn stream_encoding(input: &[u8], setting: yaml_encoding_t) -> yaml_encoding_t
     ensures { result ≡ encoding_of setting input.now }
 {
@@ -34,8 +34,8 @@ pub fn stream_encoding(input: &[u8], setting: yaml_encoding_t) -> yaml_encoding_
     }
 }
 
-#[tactic(auto, unfolding(crate::specs::Encodings::mark_length))]
 /// How many bytes the byte order mark has that is removed: none where an encoding is set.
+#[tactic(auto, unfolding(crate::specs::Encodings::mark_length))]
 pub fn removed_mark_length(input: &[u8], setting: yaml_encoding_t) -> usize
     ensures value { result ≡ mark_length setting input.now }
     ensures inside { result ≤ length input.now }

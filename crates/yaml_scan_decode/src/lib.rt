@@ -9,3 +9,6 @@ mod utf8;
 
 pub use decode::{yaml_decode, yaml_text_t};
 pub use encoding::stream_encoding;
+
+#[cfg(test)]
+mod tests;

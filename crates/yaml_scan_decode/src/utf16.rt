@@ -5,7 +5,7 @@ ghost use Rattle.std.specs.Char.{IsScalar};
 ghost use Rattle.yaml_scan_decode.specs.declared.utf16.DecodeError.TheVariants.{Memory, Offends};
 ghost use Rattle.yaml_scan_decode.specs.Characters.{utf16_at, unit_at, encoding_by, is_low_surrogate, is_high_surrogate};
 ghost use Rattle.yaml_scan_decode.specs.Decoding.{characters, in_utf8};
-ghost use Rattle.yaml_scan_decode.specs.Answer.{DecodesTo};
+ghost use Rattle.yaml_scan_decode.specs.Steps.{DecodesTo};
 
 use crate::offence::{Character, Offence, ReaderProblem, allowed_character};
 use std::alloc::{AllocError, Global};
@@ -41,8 +41,8 @@ impl From<Offence> for DecodeError {
     }
 }
 
-#[tactic(auto, unfolding(crate::specs::Characters::unit_at))]
 // The unit that stands there.
+#[tactic(auto, unfolding(crate::specs::Characters::unit_at))]
 fn unit(bytes: &[u8], at: usize, order: ByteOrder) -> u32
     requires { at + 1 < length bytes.now }
     ensures value { result ≡ unit_at order bytes.now at }
@@ -62,8 +62,8 @@ fn is_low_surrogate(unit: u32) -> bool
     unit >= 0xDC00 && unit < 0xE000
 }
 
-#[tactic(auto, unfolding(crate::specs::Characters::utf16_of))]
 // The character whose first unit, a high surrogate, stands there.
+#[tactic(auto, unfolding(crate::specs::Characters::utf16_of))]
 fn pair(bytes: &[u8], at: usize, order: ByteOrder, high: u32) -> Result<Character, Offence>
     requires inside { at + 1 < length bytes.now }
     requires unit { high ≡ unit_at order bytes.now at }
@@ -84,8 +84,8 @@ fn pair(bytes: &[u8], at: usize, order: ByteOrder, high: u32) -> Result<Characte
     allowed_character(at, 4, 0x1_0000 + (high - 0xD800) * 0x400 + (low - 0xDC00))
 }
 
-#[tactic(auto, unfolding(crate::specs::Characters::utf16_of))]
 /// The character that stands there, or what is wrong.
+#[tactic(auto, unfolding(crate::specs::Characters::utf16_of))]
 fn utf16_character(bytes: &[u8], at: usize, order: ByteOrder) -> Result<Character, Offence>
     requires { at < length bytes.now }
     ensures { result ≡ utf16_at order bytes.now at }

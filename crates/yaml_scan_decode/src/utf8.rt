@@ -1,19 +1,19 @@
 //! UTF-8.
 
-ghost use Rattle.std.specs.Prelude.{◌≡◌, ◌+◌, ◌-◌, ◌<◌, ◌≤◌, ◌^◌, ◌&&◌, if◌then◌else◌, not, nat_lt, ℕ, pos, Ok, Err, IfOk, length};
+ghost use Rattle.std.specs.Prelude.{◌≡◌, ◌+◌, ◌<◌, ◌≤◌, ◌^◌, IfOk, length};
+ghost use Rattle.yaml_scan_text.specs.declared.name.yaml_encoding_t.TheVariants.{YAML_UTF8_ENCODING};
 ghost use Rattle.yaml_scan_text.specs.Marks.{byte};
 ghost use Rattle.yaml_scan_text.specs.Classes.{width_of};
-ghost use Rattle.yaml_scan_decode.specs.Characters.{utf8_at, valued_at, sequence_of, is_trailing, least_code, leading_bits};
+ghost use Rattle.yaml_scan_decode.specs.Characters.{utf8_at, valued_at, sequence_of, least_code, leading_bits};
 ghost use Rattle.yaml_scan_decode.specs.Steps.{is_plain, trailing_bits};
-ghost use Rattle.yaml_scan_text.specs.declared.name.yaml_encoding_t.TheVariants.{YAML_UTF8_ENCODING};
 ghost use Rattle.yaml_scan_decode.specs.Decoding.{characters};
-ghost use Rattle.yaml_scan_decode.specs.Answer.{outcome};
+ghost use Rattle.yaml_scan_decode.specs.Steps.{outcome};
 
 use crate::offence::{Character, Offence, ReaderProblem, allowed_character};
 use yaml_scan_text::WIDTH;
 
-#[tactic(auto, unfolding(crate::specs::Steps::trailing_bits))]
 // What the character's byte that many places on adds to its code: 0 where the character has no such byte.
+#[tactic(auto, unfolding(crate::specs::Steps::trailing_bits))]
 fn trailing_bits(bytes: &[u8], at: usize, width: usize, ahead: usize) -> Result<u32, Offence>
     requires few { width ≤ 4 }
     requires near { ahead < 4 }
@@ -36,8 +36,8 @@ fn trailing_bits(bytes: &[u8], at: usize, width: usize, ahead: usize) -> Result<
     }
 }
 
-#[tactic(auto, unfolding(crate::specs::Characters::leading_bits, yaml_scan_text::specs::Classes::width_of))]
 // What the first byte of a character of so many bytes adds to its code.
+#[tactic(auto, unfolding(crate::specs::Characters::leading_bits, yaml_scan_text::specs::Classes::width_of))]
 fn leading_bits(byte: u8, width: usize) -> u32
     requires some { 0 < width }
     requires width { width_of byte ≡ width }

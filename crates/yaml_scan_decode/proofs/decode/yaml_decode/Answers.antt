@@ -1,19 +1,48 @@
-use Rattle.std.proofs.Common.{◌∙◌, refl, sym, ap, arith, inr}
-use Rattle.std.specs.Prelude.{option_map}
-use Rattle.yaml_scan_decode.specs.Offences.{reader_fault}
-use Rattle.yaml_scan_decode.proofs.CompleteLemmas.{encoding_utf8, checked_text, checked_offence, take_rest}
+use Rattle.std.proofs.Common.{◌≡◌, ◌∙◌, refl, sym, arith, inr}
+use Rattle.yaml_scan_text.specs.Faults.{fault_of}
+use Rattle.yaml_scan_text.specs.declared.name.yaml_encoding_t.TheVariants.{YAML_UTF8_ENCODING}
+use Rattle.yaml_scan_decode.specs.Encodings.{encoding_of}
+use Rattle.yaml_scan_decode.proofs.CompleteLemmas.{encoding_utf8, checked_text, checked_offence, take_rest, decoded_spells}
+use Rattle.yaml_scan_decode.proofs.AnswerLemmas.{units_spelled, units_unspelled, fault_unspelled}
 use Rattle.yaml_scan_decode.proofs.decode.yaml_decode.Goals as goal
+use Rattle.yaml_scan_decode.proofs.decode.yaml_decode.Goals.{In_default}
+
+pub returns-in-YAML_UTF16LE_ENCODING-clause-spelled : goal.returns-in-YAML_UTF16LE_ENCODING-clause-spelled
+returns-in-YAML_UTF16LE_ENCODING-clause-spelled c =
+    units_spelled _ _ _ _ _ (λ k. omega (arith, c.type_inv.input k)) (sym c.stream_encoding.ensures ∙ c.in-YAML_UTF16LE_ENCODING.is) (sym c.removed_mark_length-start.ensures.value)
+    c.decode_units.ensures.text
+
+pub returns-in-YAML_UTF16LE_ENCODING-clause-unspelled : goal.returns-in-YAML_UTF16LE_ENCODING-clause-unspelled
+returns-in-YAML_UTF16LE_ENCODING-clause-unspelled c =
+    units_unspelled _ _ _ _ _ (sym c.stream_encoding.ensures ∙ c.in-YAML_UTF16LE_ENCODING.is) (sym c.removed_mark_length-start.ensures.value) c.decode_units.ensures.fault
+
+pub returns-in-YAML_UTF16BE_ENCODING-clause-spelled : goal.returns-in-YAML_UTF16BE_ENCODING-clause-spelled
+returns-in-YAML_UTF16BE_ENCODING-clause-spelled c =
+    units_spelled _ _ _ _ _ (λ k. omega (arith, c.type_inv.input k)) (sym c.stream_encoding.ensures ∙ c.in-YAML_UTF16BE_ENCODING.is) (sym c.removed_mark_length-start.ensures.value)
+    c.decode_units-in-YAML_UTF16BE_ENCODING.ensures.text
+
+pub returns-in-YAML_UTF16BE_ENCODING-clause-unspelled : goal.returns-in-YAML_UTF16BE_ENCODING-clause-unspelled
+returns-in-YAML_UTF16BE_ENCODING-clause-unspelled c =
+    units_unspelled _ _ _ _ _ (sym c.stream_encoding.ensures ∙ c.in-YAML_UTF16BE_ENCODING.is) (sym c.removed_mark_length-start.ensures.value) c.decode_units-in-YAML_UTF16BE_ENCODING.ensures.fault
+
+-- in the last arm the bytes are UTF-8
+is_utf8 : (c : In_default) → encoding_of c.args.encoding c.args.input.now ≡ YAML_UTF8_ENCODING
+is_utf8 c = encoding_utf8 _ _ (λ x. c.in_default.not-YAML_UTF16LE_ENCODING (c.stream_encoding.ensures ∙ x)) (λ x. c.in_default.not-YAML_UTF16BE_ENCODING (c.stream_encoding.ensures ∙ x))
 
 pub returns-in-Ok-clause-text : goal.returns-in-Ok-clause-text
 returns-in-Ok-clause-text c =
-    let e = encoding_utf8 c.args.encoding c.args.input.now
-    (λ x. c.in_default.not-YAML_UTF16LE_ENCODING (c.stream_encoding.ensures ∙ x)) (λ x. c.in_default.not-YAML_UTF16BE_ENCODING (c.stream_encoding.ensures ∙ x)) in
-    let t = checked_text c.args.encoding c.args.input.now (λ k. omega (arith, c.type_inv.input k)) e (rw c.removed_mark_length-start.ensures.value at (sym c.in-Ok.ensures)) in
+    let t = checked_text c.args.encoding c.args.input.now (λ k. omega (arith, c.type_inv.input k)) (is_utf8 (goal.at.returns-in-Ok-clause-text c).In_default) (rw c.removed_mark_length-start.ensures.value at (sym c.in-Ok.ensures)) in
     rw (take_rest c.args.input.now c.removed_mark_length-start.result, c.removed_mark_length-start.ensures.value) t
+
+pub returns-in-Ok-clause-spelled : goal.returns-in-Ok-clause-spelled
+returns-in-Ok-clause-spelled c = decoded_spells _ _ _ (λ k. omega (arith, c.type_inv.input k)) (returns-in-Ok-clause-text c)
 
 pub returns-in-Err-clause-fault : goal.returns-in-Err-clause-fault
 returns-in-Err-clause-fault c =
-    let e = encoding_utf8 c.args.encoding c.args.input.now
-    (λ x. c.in_default.not-YAML_UTF16LE_ENCODING (c.stream_encoding.ensures ∙ x)) (λ x. c.in_default.not-YAML_UTF16BE_ENCODING (c.stream_encoding.ensures ∙ x)) in
-    let o = checked_offence c.args.encoding c.args.input.now _ e (rw c.removed_mark_length-start.ensures.value at (sym c.in-Err.ensures)) in
+    let o = checked_offence c.args.encoding c.args.input.now _ (is_utf8 (goal.at.returns-in-Err-clause-fault c).In_default) (rw c.removed_mark_length-start.ensures.value at (sym c.in-Err.ensures)) in
     inr (rw (o, c.located.ensures) refl)
+
+pub returns-in-Err-clause-unspelled : goal.returns-in-Err-clause-unspelled
+returns-in-Err-clause-unspelled c =
+    let o = checked_offence c.args.encoding c.args.input.now _ (is_utf8 (goal.at.returns-in-Err-clause-unspelled c).In_default) (rw c.removed_mark_length-start.ensures.value at (sym c.in-Err.ensures)) in
+    inr (fault_unspelled _ _ (fault_of c.located.result) (rw (o, c.located.ensures) refl))

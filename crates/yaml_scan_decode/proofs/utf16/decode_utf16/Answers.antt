@@ -1,9 +1,6 @@
-use Rattle.std.proofs.Common.{rules, ◌≡◌, ℕ, ◌+◌, ◌<◌, ◌≤◌, length, get_or, List, refl, sym, ap, ◌∙◌, arith, Ok, Err}
+use Rattle.std.proofs.Common.{rules, sym, ◌∙◌, arith}
 use Rattle.std.proofs.lemmas.Result.{err_from_is_err_and}
-use Rattle.yaml_scan_decode.specs.declared.offence.Character.{Character}
-use Rattle.yaml_scan_decode.specs.declared.utf16.ByteOrder.{ByteOrder}
-use Rattle.yaml_scan_decode.specs.Characters.{utf16_at}
-use Rattle.yaml_scan_decode.proofs.DecodeLemmas.{utf16_stands, AreBytes}
+use Rattle.yaml_scan_decode.proofs.DecodeLemmas.{utf16_stands}
 use Rattle.yaml_scan_decode.proofs.SpellingLemmas.{character_by, allowed_scalar, writes_none, writes_more, writes_done, writes_refused}
 use Rattle.yaml_scan_decode.proofs.utf16.decode_utf16.Goals as goal
 

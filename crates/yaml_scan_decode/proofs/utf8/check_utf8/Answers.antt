@@ -1,4 +1,4 @@
-use Rattle.std.proofs.Common.{rules, ◌≡◌, ℕ, ◌+◌, ◌<◌, ◌≤◌, length, refl, sym, ap, ◌∙◌, arith}
+use Rattle.std.proofs.Common.{rules, refl, sym, arith}
 use Rattle.std.proofs.lemmas.Result.{err_from_is_err_and}
 use Rattle.yaml_scan_decode.proofs.DecodeLemmas.{utf8_stands}
 use Rattle.yaml_scan_decode.proofs.SpellingLemmas.{plain_stands, checks_more, checks_done, checks_refused}

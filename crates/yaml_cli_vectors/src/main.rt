@@ -1,0 +1,23 @@
+//! Replays vectors: reads JSON lines, makes the call that each names, and compares all that it answers.
+#![tactic(auto)]
+
+mod compare;
+mod decode;
+mod field;
+mod replay;
+mod shown;
+mod tally;
+
+use std::io::{self, BufRead, BufReader};
+use tally::Tally;
+
+fn main(rt: HostRuntime) -> io::Result<()> {
+    let mut tally = Tally::new();
+    let mut number = 0u64;
+    for line in BufReader::new(rt.alloc(), rt.reader())?.lines(rt.alloc()) {
+        number = number.wrapping_add(1);
+        let outcome = replay::replay(rt.alloc(), line?.as_str());
+        tally.take(&rt, number, outcome)?;
+    }
+    tally.finish(&rt)
+}

@@ -1,0 +1,47 @@
+//! What a call answered, as the lines write it.
+
+use serde_json::{Value, json};
+use std::alloc::{AllocError, Global};
+use yaml_scan::{yaml_fault_t, yaml_mark_t, yaml_origin_t};
+
+/// Bytes, in hexadecimal digits.
+pub fn bytes(alloc: Global, bytes: &[u8]) -> Result<Value, AllocError> {
+    Ok(Value::String(hex::encode(alloc, bytes)?))
+}
+
+/// A mark: index, line, column.
+pub fn mark(alloc: Global, mark: yaml_mark_t) -> Result<Value, AllocError> {
+    json!(in alloc; [mark.index, mark.line, mark.column])
+}
+
+fn origin(origin: yaml_origin_t) -> &'static str {
+    match origin {
+        yaml_origin_t::Reader => "Reader",
+        yaml_origin_t::Scanner => "Scanner",
+        yaml_origin_t::Adapter => "Adapter",
+        yaml_origin_t::Parser => "Parser",
+        yaml_origin_t::Loader => "Loader",
+        yaml_origin_t::Emitter => "Emitter",
+        yaml_origin_t::Writer => "Writer",
+    }
+}
+
+/// A fault, with all its fields.
+pub fn fault(alloc: Global, fault: &yaml_fault_t) -> Result<Value, AllocError> {
+    let problem_mark = mark(alloc, fault.problem_mark)?;
+    let context = match fault.context {
+        Some(text) => Value::try_from_str(alloc, text)?,
+        None => Value::Null,
+    };
+    let context_mark = mark(alloc, fault.context_mark)?;
+    json!(in alloc; {
+        "kind": fault.kind as u64,
+        "problem": fault.problem,
+        "offset": fault.offset,
+        "value": fault.value,
+        "problem_mark": problem_mark,
+        "context": context,
+        "context_mark": context_mark,
+        "origin": (origin(fault.origin))
+    })
+}

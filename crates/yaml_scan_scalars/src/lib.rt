@@ -11,3 +11,6 @@ mod scalar;
 pub use plain::{plain_scalar, starts_plain};
 pub use quoted::{double_quoted, single_quoted};
 pub use scalar::{Plain, Scalar};
+
+#[cfg(test)]
+mod tests;

@@ -6,6 +6,7 @@ mod folding;
 mod joining;
 mod plain;
 mod quoted;
+mod run;
 mod scalar;
 
 pub use plain::{plain_scalar, starts_plain};

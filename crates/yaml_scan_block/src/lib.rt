@@ -7,3 +7,6 @@ mod lines;
 mod stacking;
 
 pub use block::{Block, block_scalar};
+
+#[cfg(test)]
+mod tests;

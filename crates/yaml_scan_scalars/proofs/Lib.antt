@@ -1,4 +1,5 @@
 pub mod FoldingLemmas
 pub mod EscapeLemmas
 pub mod QuotedLemmas
+pub mod RunLemmas
 pub mod PlainLemmas

@@ -4,3 +4,4 @@ pub mod Quoted
 pub mod Gives
 pub mod Plain
 pub mod Joined
+pub mod Ordinary

@@ -6,8 +6,12 @@ mod folding;
 mod joining;
 mod plain;
 mod quoted;
+mod run;
 mod scalar;
 
 pub use plain::{plain_scalar, starts_plain};
 pub use quoted::{double_quoted, single_quoted};
 pub use scalar::{Plain, Scalar};
+
+#[cfg(test)]
+mod tests;

@@ -1,16 +1,18 @@
 //! Double and single quoted scalars (YAML 1.1, sections 9.1.1 and 9.1.2).
 
-ghost use Rattle.std.specs.Prelude.{◌≡◌, ◌+◌, ◌&&◌, ◌==◌, ◌⊎◌};
+ghost use Rattle.std.specs.Prelude.{◌≡◌, ◌+◌, ◌&&◌, ◌==◌, ◌⊎◌, OnOk};
 ghost use Rattle.yaml_scan_text.specs.Marks.{byte};
 ghost use Rattle.yaml_scan_text.specs.declared.record.yaml_mark_t.{yaml_mark_t};
 ghost use Rattle.yaml_scan_scalars.specs.Quoted as spec;
 ghost use Rattle.yaml_scan_scalars.specs.Gives.{Took, Reads};
+ghost use Rattle.yaml_scan_scalars.specs.Ordinary.{TookRun};
 ghost use Rattle.yaml_scan_scalars.specs.Resume.{resume};
 
 use crate::escape::escape;
 use crate::folding::Folding;
+use crate::run::ordinary_run;
 use crate::scalar::Scalar;
-use std::alloc::Global;
+use std::alloc::{AllocError, Global};
 use yaml_scan_text::{Context, Problem, Reader, ScanError, is_blank_byte, yaml_mark_t};
 
 /// The double quoted scalar whose opening quote stands here. The reader is left after the closing one.
@@ -48,7 +50,20 @@ fn quoted(alloc: Global, reader: &mut Reader, quote: u8) -> Result<Scalar, ScanE
                 end_mark: reader.mark(),
             });
         }
+        keep_run(reader, &mut folding)?;
     }
+}
+
+/// Takes the ordinary bytes that stand here.
+fn keep_run(reader: &mut Reader, folding: &mut Folding) -> Result<(), AllocError>
+    ensures { OnOk result (TookRun reader.old.text reader.old.at (resume folding.old) (resume folding.new) reader.new) }
+{
+    let bytes = ordinary_run(reader);
+    if bytes.is_empty() {
+        return Ok(());
+    }
+    folding.keep(bytes)?;
+    Ok(())
 }
 
 /// Takes what stands here, and answers whether more follows.

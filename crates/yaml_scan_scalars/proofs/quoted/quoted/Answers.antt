@@ -6,6 +6,8 @@ use Rattle.yaml_scan_scalars.specs.Quoted.{standing_at}
 use Rattle.yaml_scan_scalars.specs.Gives.{Took}
 use Rattle.yaml_scan_text.proofs.MarksLemmas.{within}
 use Rattle.yaml_scan_scalars.proofs.QuotedLemmas.{quote_no_break, quote_some, turn_more, turn_done, turn_refused, valued-same}
+use Rattle.yaml_scan_scalars.specs.Ordinary.{TookRun}
+use Rattle.yaml_scan_scalars.proofs.RunLemmas.{quoted_run}
 use Rattle.yaml_scan_scalars.proofs.quoted.quoted.Goals as goal
 
 pub skip-requires-clause-no_break : goal.skip-requires-clause-no_break
@@ -46,4 +48,17 @@ pieces-preserved c =
     let took : Took c.args.reader.now.text c.mark-start.result c.pieces.reader.at (resume c.pieces.folding) (resume c.piece.new.folding) c.piece.new.reader (Ok true) (standing_at c.args.quote c.args.reader.now.text c.pieces.reader.at) = rw (← c.pieces.invariant.text) here in
     let next = turn_more c.args.reader.now.text c.mark-start.result c.args.quote c.pieces.reader.at n (resume c.pieces.folding) (resume c.piece.new.folding) c.piece.new.reader took room in
     let (m, more, rest) = next.rest in
-    record { text = next.same; start = c.pieces.invariant.start; rest = (m, more, same ∙ rest) }
+    let ran : TookRun c.args.reader.now.text c.piece.new.reader.at (resume c.piece.new.folding) (resume c.keep_run.new.folding) c.keep_run.new.reader = rw next.same at c.in_ok-keep_run.ensures in
+    let (k, room2, rest2) = quoted_run m c.args.quote c.args.reader.now.text c.piece.new.reader.at (resume c.piece.new.folding) (resume c.keep_run.new.folding) c.keep_run.new.reader c.requires.quote ran more in
+    record { text = ran.0.same; start = c.pieces.invariant.start; rest = (k, room2, same ∙ rest ∙ rest2) }
+
+pub pieces-smaller : goal.pieces-smaller
+pieces-smaller c =
+    let here = rw c.if-not-more.false at c.in_ok-more.ensures in
+    let (n, room, same) = c.pieces.invariant.rest in
+    let took : Took c.args.reader.now.text c.mark-start.result c.pieces.reader.at (resume c.pieces.folding) (resume c.piece.new.folding) c.piece.new.reader (Ok true) (standing_at c.args.quote c.args.reader.now.text c.pieces.reader.at) = rw (← c.pieces.invariant.text) here in
+    let next = turn_more c.args.reader.now.text c.mark-start.result c.args.quote c.pieces.reader.at n (resume c.pieces.folding) (resume c.piece.new.folding) c.piece.new.reader took room in
+    let further = next.further in
+    let inside = next.inside in
+    let after = c.in_ok-keep_run.ensures.0.after in
+    omega arith

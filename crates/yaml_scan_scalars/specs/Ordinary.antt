@@ -1,0 +1,31 @@
+-- Runs of bytes that stand for themselves.
+use Rattle.std.specs.Prelude.{ℕ, zero, suc, ◌+◌, ◌-◌, ◌<◌, ◌≤◌, ◌≡◌, Bool, true, ◌&&◌, ◌||◌, nat_le, List, [], ◌∷◌, ◌++◌}
+use Rattle.yaml_scan_text.specs.Marks.{Place, byte}
+use Rattle.yaml_scan_scalars.specs.Pieces.{Piece, Kept}
+
+-- Between quotes and inside a line of a plain scalar the byte stands for itself, whatever stands beside it. Some others
+-- do as well, as a dash that is not at a line's start.
+unfoldable pub is_ordinary : ℕ → Bool
+is_ordinary b =
+    ((nat_le 40 b && nat_le b 43) || ((nat_le 47 b && nat_le b 57) || ((nat_le 59 b && nat_le b 62) || ((nat_le 64 b && nat_le b 90) || (nat_le 94 b && nat_le b 122)))))
+    || ((nat_le 0x80 b && nat_le b 0x84) || ((nat_le 0x86 b && nat_le b 0xA7) || ((nat_le 0xAA b && nat_le b 0xC1) || ((nat_le 0xC3 b && nat_le b 0xE1) || nat_le 0xE3 b))))
+
+-- d bytes from there on
+unfoldable pub bytes_at : List ℕ → ℕ → ℕ → List ℕ
+bytes_at text p zero = []
+bytes_at text p (suc d) = byte text p ∷ bytes_at text (p + 1) d
+
+-- the bytes from p up to the place are ordinary
+pub record IsRun (text : List ℕ) (p : ℕ) (place : Place) : Type 0 where
+  pub same : place.text ≡ text
+  pub after : p ≤ place.at
+  pub ordinary : (k : ℕ) → p ≤ k → k < place.at → is_ordinary (byte text k) ≡ true
+
+-- each of the bytes as a piece
+abbrev pub kept_run : List ℕ → List Piece
+kept_run [] = []
+kept_run (b ∷ bs) = Kept (b ∷ []) ∷ kept_run bs
+
+-- the ordinary bytes up to the place are taken; `old` and `new` give the value when pieces follow
+abbrev pub TookRun : List ℕ → ℕ → (List Piece → List ℕ) → (List Piece → List ℕ) → Place → Type 0
+TookRun text p old new place = IsRun text p place × ((ps : List Piece) → new ps ≡ old (kept_run (bytes_at text p (place.at - p)) ++ ps))

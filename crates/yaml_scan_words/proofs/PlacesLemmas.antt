@@ -1,5 +1,5 @@
 -- Where lexemes and gaps end: behind their start, and inside the text.
-use Rattle.std.proofs.Common.{◌≡◌, ◌≢◌, ℕ, zero, suc, ◌+◌, ◌-◌, ◌<◌, ◌≤◌, ◌==◌, ◌&&◌, ◌||◌, nat_lt, Bool, true, false, not, List, [], ◌∷◌, ◌++◌, length, Option, Some, None, IsSome, Result, Ok, Err, refl, sym, ap, ◌∙◌, inl, inr, ◌⊎◌, arith}
+use Rattle.std.proofs.Common.{◌≡◌, ℕ, zero, suc, ◌+◌, ◌-◌, ◌<◌, ◌≤◌, ◌==◌, ◌&&◌, ◌||◌, nat_lt, Bool, true, false, not, List, [], ◌∷◌, length, Option, Some, None, IsSome, Result, Ok, Err, refl, inl, inr, arith}
 use Rattle.std.proofs.lemmas.Bool.{cases_Bool}
 use Rattle.std.proofs.lemmas.Bool.Decides.{nat_tests}
 use Rattle.yaml_scan_text.specs.declared.problem.Context.{Context}
@@ -13,15 +13,15 @@ use Rattle.yaml_scan_words.specs.declared.between.Standing.{Standing}
 use Rattle.yaml_scan_words.specs.declared.between.Standing.TheVariants as standings
 use Rattle.yaml_scan_words.specs.declared.run.Run.{Run}
 use Rattle.yaml_scan_words.specs.declared.run.Run.TheVariants as runs
-use Rattle.yaml_scan_words.specs.Runs.{belongs, run_within, run_end}
-use Rattle.yaml_scan_words.specs.Between.{Step, step_at, is_skipped, Gap, with_break, gap_behind, gap_within, gap_at}
+use Rattle.yaml_scan_words.specs.Runs.{belongs, run_end}
+use Rattle.yaml_scan_words.specs.Between.{step_at, is_skipped, Gap, gap_behind, gap_within, gap_at}
 use Rattle.yaml_scan_words.specs.Gives.{behind_bytes}
 use Rattle.yaml_scan_words.specs.Anchors.{anchor_at, name_between, may_end_name}
 use Rattle.yaml_scan_words.specs.Uris.{is_uri, octet_at, due_behind, Spot, Spells, Ends, Faulty, escape_spot, octet_spot, spot_at, with_bytes, uri_from, uri_within, uri_at, filled, some_uri_at}
-use Rattle.yaml_scan_words.specs.Tags.{TagText, tag_end, bracketed, verbatim_at, name_end, with_handle, named_at, bare, bare_at, parts_at, may_end_tag, ended, tag_at}
+use Rattle.yaml_scan_words.specs.Tags.{TagText, tag_end, bracketed, verbatim_at, name_end, with_handle, named_at, bare, parts_at, may_end_tag, ended, tag_at}
 use Rattle.yaml_scan_words.specs.declared.directives.DirectiveName.{DirectiveName}
 use Rattle.yaml_scan_words.specs.declared.directives.DirectiveName.TheVariants as names
-use Rattle.yaml_scan_words.specs.Directives.{ValueText, DirectiveText, value_end, directive_place, name_behind, number_behind, line_place, then_at, is_yaml, is_tag, name_between as directive_name_between, name_at, number_between, number_at, with_major, minor_at, version_at, handle_between, handle_at, prefix_ended, prefix_at, with_prefix, tag_directive_at, named_value_at, value_at, comment_end, break_end, line_end_at, with_line, finished, directive_at}
+use Rattle.yaml_scan_words.specs.Directives.{ValueText, value_end, directive_place, name_behind, number_behind, line_place, then_at, is_yaml, is_tag, name_between as directive_name_between, name_at, number_between, number_at, with_major, minor_at, version_at, handle_between, handle_at, prefix_ended, prefix_at, with_prefix, tag_directive_at, named_value_at, value_at, comment_end, break_end, line_end_at, with_line, finished, directive_at}
 use Rattle.yaml_scan_words.proofs.RunsLemmas.{run_within-ge, run_within-le}
 use Rattle.yaml_scan_words.proofs.BetweenLemmas.{bom_bytes, bom_first, skipped_here}
 use Rattle.yaml_scan_words.proofs.UrisLemmas.{uri_range, octet_digits}

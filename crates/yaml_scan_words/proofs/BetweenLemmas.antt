@@ -1,16 +1,15 @@
 -- Gaps between lexemes, a step at a time.
-use Rattle.std.proofs.Common.{◌≡◌, ◌≢◌, ℕ, zero, suc, ◌+◌, ◌-◌, ◌<◌, ◌≤◌, ◌==◌, ◌&&◌, ◌||◌, nat_lt, Bool, true, false, not, List, length, refl, sym, ap, ◌∙◌, inl, inr, ◌⊎◌, arith}
+use Rattle.std.proofs.Common.{◌≡◌, ℕ, zero, suc, ◌+◌, ◌<◌, ◌≤◌, ◌==◌, ◌&&◌, ◌||◌, nat_lt, Bool, true, false, not, List, length, refl, sym, ap, ◌∙◌, inl, inr, ◌⊎◌, arith}
 use Rattle.std.proofs.lemmas.Bool.{cases_Bool, true≢false}
 use Rattle.std.proofs.lemmas.Bool.Decides.{nat_tests}
 use Rattle.yaml_scan_text.specs.Marks.{byte, break_of, break_width}
 use Rattle.yaml_scan_text.specs.Classes.{is_bom}
 use Rattle.yaml_scan_text.proofs.MarksLemmas.{no_break, within}
-use Rattle.yaml_scan_words.specs.declared.between.Standing.{Standing}
 use Rattle.yaml_scan_words.specs.declared.between.Standing.TheVariants as standings
 use Rattle.yaml_scan_words.specs.declared.run.Run.TheVariants as runs
 use Rattle.yaml_scan_words.specs.Runs.{belongs, run_end}
 use Rattle.yaml_scan_words.proofs.RunsLemmas.{run_further}
-use Rattle.yaml_scan_words.specs.Between.{Step, step_at, is_skipped, Gap, with_break, gap_behind, gap_within}
+use Rattle.yaml_scan_words.specs.Between.{Step, step_at, is_skipped, Gap, with_break, gap_within}
 
 bom_parts : (a b c : ℕ) → (a == 0xEF && (b == 0xBB && c == 0xBF)) ≡ true → (a ≡ 0xEF) × (b ≡ 0xBB) × (c ≡ 0xBF)
 bom_parts a b c h = (grind (arith, nat_tests), grind (arith, nat_tests), grind (arith, nat_tests))

@@ -1,5 +1,5 @@
 -- Directives, a part at a time.
-use Rattle.std.proofs.Common.{◌≡◌, ◌≢◌, ℕ, zero, suc, ◌+◌, ◌-◌, ◌*◌, ◌<◌, ◌≤◌, ◌==◌, nat_lt, Bool, true, false, not, List, length, Result, Ok, Err, refl, sym, ap, ◌∙◌, arith, add-one}
+use Rattle.std.proofs.Common.{◌≡◌, ℕ, zero, suc, ◌+◌, ◌-◌, ◌*◌, ◌<◌, ◌≤◌, ◌==◌, nat_lt, true, false, List, length, Result, Ok, Err, refl, ◌∙◌, arith, add-one}
 use Rattle.std.proofs.lemmas.Bool.Decides.{nat_tests}
 use Rattle.std.specs.Global.{Vec}
 use Rattle.yaml_scan_text.specs.declared.record.yaml_mark_t.{yaml_mark_t}
@@ -16,7 +16,7 @@ use Rattle.yaml_scan_words.specs.declared.word.DirectiveWord.{DirectiveWord}
 use Rattle.yaml_scan_words.specs.declared.directives.DirectiveName.{DirectiveName}
 use Rattle.yaml_scan_words.specs.Runs.{belongs, run_within, run_end}
 use Rattle.yaml_scan_words.specs.Gives.{Gives, IsBytes, behind_bytes}
-use Rattle.yaml_scan_words.specs.Directives.{ValueText, DirectiveText, value_end, directive_place, name_behind, line_place, decimal, number_at, prefix_at, with_prefix, then_at, named_value_at, line_end_at, with_line, finished}
+use Rattle.yaml_scan_words.specs.Directives.{ValueText, value_end, directive_place, name_behind, line_place, decimal, number_at, prefix_at, with_prefix, then_at, named_value_at, line_end_at, with_line, finished}
 use Rattle.yaml_scan_words.specs.DirectivesGiven.{IsSaid, IsName, IsEnd, IsDirective, Says}
 use Rattle.yaml_scan_words.proofs.RunsLemmas.{run_more, run_stop, run_within-ge}
 

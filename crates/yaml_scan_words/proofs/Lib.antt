@@ -2,3 +2,4 @@ pub mod RunsLemmas
 pub mod BetweenLemmas
 pub mod UrisLemmas
 pub mod DirectivesLemmas
+pub mod PlacesLemmas

@@ -1,5 +1,5 @@
 -- URIs, a byte at a time.
-use Rattle.std.proofs.Common.{◌≡◌, ◌≢◌, ℕ, zero, suc, ◌+◌, ◌-◌, ◌*◌, ◌<◌, ◌≤◌, ◌==◌, ◌&&◌, ◌||◌, nat_lt, Bool, true, false, not, List, [], ◌∷◌, ◌++◌, length, Option, Some, None, IsSome, Result, Ok, Err, refl, sym, ap, ◌∙◌, inl, inr, ◌⊎◌, append_assoc, append-nil, arith}
+use Rattle.std.proofs.Common.{◌≡◌, ℕ, zero, suc, ◌+◌, ◌<◌, ◌≤◌, ◌==◌, ◌&&◌, ◌||◌, nat_lt, Bool, true, false, List, [], ◌∷◌, ◌++◌, length, Option, Some, None, IsSome, Result, Ok, Err, refl, sym, inl, inr, ◌⊎◌, append_assoc, append-nil, arith}
 use Rattle.std.proofs.lemmas.Bool.{cases_Bool, true≢false}
 use Rattle.std.proofs.lemmas.Bool.Decides.{nat_tests}
 use Rattle.yaml_scan_text.specs.declared.problem.Context.{Context}
@@ -8,7 +8,7 @@ use Rattle.yaml_scan_text.specs.Marks.{byte}
 use Rattle.yaml_scan_text.specs.Classes.{is_alpha_byte, is_digit_byte}
 use Rattle.yaml_scan_text.specs.Wrong.{Wrong}
 use Rattle.yaml_scan_text.proofs.MarksLemmas.{within}
-use Rattle.yaml_scan_words.specs.Uris.{is_sign, is_wide_sign, is_uri, hex_digit, octet_of, octet_at, due_behind, Spot, Spells, Ends, Faulty, escape_spot, octet_spot, spot_at, with_bytes, uri_from, uri_within}
+use Rattle.yaml_scan_words.specs.Uris.{is_sign, is_wide_sign, is_uri, hex_digit, octet_of, octet_at, due_behind, Spot, Spells, Ends, Faulty, escape_spot, octet_spot, spot_at, with_bytes, uri_within}
 
 alpha_range : (b : ℕ) → is_alpha_byte b ≡ true → (32 < b) × (b < 127)
 unfolding is_alpha_byte is_digit_byte

@@ -1,11 +1,9 @@
 -- Directives.
-use Rattle.std.specs.Prelude.{ℕ, zero, suc, ◌+◌, ◌-◌, ◌*◌, Bool, true, false, not, ◌&&◌, ◌||◌, ◌==◌, nat_lt, if◌then◌else◌, List, slice_range, Result, Ok, Err}
+use Rattle.std.specs.Prelude.{ℕ, zero, suc, ◌+◌, ◌-◌, ◌*◌, Bool, true, not, ◌&&◌, ◌==◌, nat_lt, if◌then◌else◌, List, slice_range, Result, Ok, Err}
 use Rattle.yaml_scan_words.specs.declared.run.Run.TheVariants as runs
 use Rattle.yaml_scan_words.specs.declared.directives.DirectiveName.{DirectiveName}
 use Rattle.yaml_scan_words.specs.declared.directives.DirectiveName.TheVariants as names
-use Rattle.yaml_scan_text.specs.declared.problem.Context.{Context}
 use Rattle.yaml_scan_text.specs.declared.problem.Context.TheVariants as contexts
-use Rattle.yaml_scan_text.specs.declared.problem.Problem.{Problem}
 use Rattle.yaml_scan_text.specs.declared.problem.Problem.TheVariants as problems
 use Rattle.yaml_scan_text.specs.Marks.{byte, break_width, is_blank_or_end}
 use Rattle.yaml_scan_text.specs.Wrong.{Wrong}

@@ -8,6 +8,8 @@ mod indicator;
 mod prefixes;
 mod run;
 mod tags;
+#[cfg(test)]
+mod tests;
 mod uris;
 mod versions;
 mod word;

@@ -1,6 +1,6 @@
-use Rattle.std.proofs.Common.{◌≡◌, ◌≤◌, ◌<◌, ℕ, length, ◌+◌, ◌-◌, ◌∙◌, sym, refl, ap, arith, true, false, inl, inr}
-use Rattle.yaml_scan_text.specs.Marks.{byte, break_width, Place}
-use Rattle.yaml_scan_text.proofs.MarksLemmas.{no_break, within}
+use Rattle.std.proofs.Common.{◌≡◌, ◌<◌, length, ◌+◌, arith, inl, inr}
+use Rattle.yaml_scan_text.specs.Marks.{byte}
+use Rattle.yaml_scan_text.proofs.MarksLemmas.{within}
 use Rattle.yaml_scan_words.specs.declared.run.Run.TheVariants as runs
 use Rattle.yaml_scan_words.specs.Runs.{run_end}
 use Rattle.yaml_scan_words.proofs.RunsLemmas.{run_within-ge, run_within-le}

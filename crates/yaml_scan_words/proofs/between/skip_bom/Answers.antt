@@ -1,5 +1,4 @@
-use Rattle.std.proofs.Common.{◌≡◌, ◌+◌, ◌∙◌, arith, refl}
-use Rattle.yaml_scan_text.specs.Marks.{byte, break_width}
+use Rattle.std.proofs.Common.{◌≡◌, ◌+◌, arith}
 use Rattle.yaml_scan_text.proofs.MarksLemmas.{no_break}
 use Rattle.yaml_scan_words.proofs.BetweenLemmas.{bom_bytes}
 use Rattle.yaml_scan_words.proofs.between.skip_bom.Goals as goal

@@ -1,4 +1,4 @@
-use Rattle.std.proofs.Common.{◌≡◌, ◌≤◌, ℕ, suc, length, ◌+◌, ◌-◌}
+use Rattle.std.proofs.Common.{◌≡◌, ◌≤◌, ℕ, length, ◌+◌, ◌-◌}
 use Rattle.yaml_scan_words.specs.Between.{gap_at, gap_within, with_break}
 use Rattle.yaml_scan_words.proofs.between.skip_gap.Given as goal
 

@@ -1,5 +1,4 @@
-use Rattle.std.proofs.Common.{◌≡◌, ◌+◌, ◌∙◌, sym, refl, arith, true, false}
-use Rattle.yaml_scan_text.specs.Marks.{byte, break_width}
+use Rattle.std.proofs.Common.{◌∙◌, sym}
 use Rattle.yaml_scan_words.proofs.BetweenLemmas.{skipped_here, bom_first}
 use Rattle.yaml_scan_words.proofs.between.step.Goals as goal
 

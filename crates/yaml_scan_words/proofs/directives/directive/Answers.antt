@@ -1,7 +1,6 @@
-use Rattle.std.proofs.Common.{◌≡◌, ◌∙◌, sym, ap, Ok, Err, refl}
 use Rattle.std.proofs.lemmas.Result.{err_from_is_err_and}
 use Rattle.yaml_scan_text.specs.Marks.{mark_at}
-use Rattle.yaml_scan_words.specs.Directives.{value_at, line_end_at}
+use Rattle.yaml_scan_words.specs.Directives.{value_at}
 use Rattle.yaml_scan_words.proofs.DirectivesLemmas.{value_refused, end_refused, end_given}
 use Rattle.yaml_scan_words.proofs.directives.directive.Goals as goal
 

@@ -1,7 +1,5 @@
-use Rattle.std.proofs.Common.{◌≡◌, ◌+◌, ◌≤◌, length, arith, ap, Ok, Err, refl}
 use Rattle.std.proofs.lemmas.Result.{err_from_is_err_and}
-use Rattle.yaml_scan_text.specs.Marks.{Place}
-use Rattle.yaml_scan_words.specs.Directives.{handle_at, prefix_at}
+use Rattle.yaml_scan_words.specs.Directives.{handle_at}
 use Rattle.yaml_scan_words.specs.declared.run.Run.TheVariants as runs
 use Rattle.yaml_scan_words.specs.Runs.{run_end}
 use Rattle.yaml_scan_words.proofs.DirectivesLemmas.{tag_refused}

@@ -1,4 +1,4 @@
-use Rattle.std.proofs.Common.{◌≡◌, ◌≤◌, ℕ, length, ◌+◌, ◌-◌, ◌∙◌, sym, refl, arith, true, false}
+use Rattle.std.proofs.Common.{◌≡◌, length, ◌∙◌, sym, refl, arith, true}
 use Rattle.yaml_scan_words.specs.Runs.{belongs}
 use Rattle.yaml_scan_words.proofs.RunsLemmas.{belongs_inside, run_more, run_stop}
 use Rattle.yaml_scan_words.proofs.run.run_end.Goals as goal

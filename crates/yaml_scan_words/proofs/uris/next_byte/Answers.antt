@@ -1,4 +1,4 @@
-use Rattle.std.proofs.Common.{◌≡◌, ◌∙◌, sym, arith, true}
+use Rattle.std.proofs.Common.{◌∙◌, sym}
 use Rattle.yaml_scan_words.proofs.UrisLemmas.{uri_range}
 use Rattle.yaml_scan_words.proofs.uris.next_byte.Goals as goal
 

@@ -1,5 +1,4 @@
 use Rattle.std.proofs.Common.{◌≡◌, ◌+◌, arith}
-use Rattle.yaml_scan_text.specs.Marks.{byte}
 use Rattle.yaml_scan_words.proofs.UrisLemmas.{octet_digits}
 use Rattle.yaml_scan_words.proofs.uris.skip_escape.Goals as goal
 

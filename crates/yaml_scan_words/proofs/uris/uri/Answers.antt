@@ -1,5 +1,5 @@
-use Rattle.std.proofs.Common.{◌≡◌, ◌≤◌, ℕ, suc, length, ◌+◌, ◌-◌, ◌∙◌, sym, refl, arith, [], Ok, Err, Some, None}
-use Rattle.yaml_scan_words.specs.Uris.{spot_at, Spells, Ends, Faulty, uri_at, with_bytes}
+use Rattle.std.proofs.Common.{◌≡◌, length, ◌∙◌, refl, arith}
+use Rattle.yaml_scan_words.specs.Uris.{spot_at, Spells, Ends, Faulty, uri_at}
 use Rattle.yaml_scan_words.proofs.UrisLemmas.{uri_more, uri_done, uri_bad, no_bytes}
 use Rattle.yaml_scan_words.proofs.uris.uri.Goals as goal
 

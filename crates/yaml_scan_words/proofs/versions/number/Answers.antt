@@ -1,11 +1,11 @@
-use Rattle.std.proofs.Common.{◌≡◌, ◌≤◌, ◌<◌, ℕ, length, ◌+◌, ◌-◌, ◌*◌, ◌∙◌, sym, refl, arith, true, false}
+use Rattle.std.proofs.Common.{◌≡◌, length, ◌+◌, ◌-◌, ◌∙◌, sym, refl, arith, true, false}
 use Rattle.std.proofs.lemmas.Int.{to_z_pos}
 use mir.Syntax.{w32}
 use Rattle.yaml_scan_text.specs.Marks.{byte}
 use Rattle.yaml_scan_words.specs.declared.run.Run.TheVariants as runs
-use Rattle.yaml_scan_words.specs.Runs.{belongs, run_end, run_within}
+use Rattle.yaml_scan_words.specs.Runs.{belongs}
 use Rattle.yaml_scan_words.proofs.RunsLemmas.{run_more, digit_printed}
-use Rattle.yaml_scan_words.proofs.DirectivesLemmas.{limit, limit-more, limit-room, digit_here, decimal_none, decimal_more, number_long, number_none, number_done}
+use Rattle.yaml_scan_words.proofs.DirectivesLemmas.{limit-more, limit-room, digit_here, decimal_none, decimal_more, number_long, number_none, number_done}
 use Rattle.yaml_scan_words.proofs.versions.number.Goals as goal
 
 pub digits-init : goal.digits-init

@@ -30,7 +30,7 @@ put_name : {X : Type 0} (es : List (Name × X)) (k : Name) (v : X)
 put_name [] k v = refl
 put_name (e ∷ es) k v =
     elim (slice_cmp nat_cmp k.items e.0.items) as (λ r. map entry_of (match_ordering r ((k, v) ∷ e ∷ es) ((e.0, v) ∷ es) (e ∷ insert_entry (λ (a b : Name). slice_cmp nat_cmp a.items b.items) es k v))
-        ≡ by_order r ((k.items, v) ∷ entry_of e ∷ map entry_of es) ((e.0.items, v) ∷ map entry_of es) (entry_of e ∷ put (slice_cmp nat_cmp) k.items v (map entry_of es))) [
+    ≡ by_order r ((k.items, v) ∷ entry_of e ∷ map entry_of es) ((e.0.items, v) ∷ map entry_of es) (entry_of e ∷ put (slice_cmp nat_cmp) k.items v (map entry_of es))) [
       | Less ↦ refl
       | Equal ↦ refl
       | Greater ↦ ap (λ es. entry_of e ∷ es) (put_name es k v)

@@ -1,1 +1,3 @@
 pub mod Found
+pub mod Loads
+pub mod Steps

@@ -2,4 +2,8 @@
 #![tactic(auto)]
 
 mod anchors;
+mod loader;
 mod making;
+
+pub use anchors::Anchored;
+pub use loader::Loader;

@@ -1,21 +1,20 @@
 -- Every event leaves a document in the making sound, and the document that it ends is sound.
-use Rattle.std.proofs.Common.{◌≡◌, ◌≤◌, ℕ, zero, suc, ℤ, pos, Bool, true, false, cond, List, [], ◌∷◌, ◌++◌, length, Option, Some, None, Result, Ok, Err, IsUtf8, IfSome, refl, ap, sym, subst, arith}
+use Rattle.std.proofs.Common.{◌≡◌, ◌≤◌, ℕ, suc, ℤ, pos, Bool, true, false, cond, List, [], ◌∷◌, ◌++◌, length, Option, Some, None, IsUtf8, IfSome, sym, subst, arith}
 use Rattle.std.specs.Ordering.{nat_cmp, eq_by_cmp}
 use Rattle.std.specs.Cmp.Lexicographic.{slice_cmp, nat_list_cmp_total}
 use Rattle.std.specs.FinMap as map
 use Rattle.yaml_scan.specs.declared.yaml_mark_t.{yaml_mark_t}
-use Rattle.yaml_parse_model.specs.declared.yaml_node_pair_t.{yaml_node_pair_t}
 use Rattle.yaml_parse_model.specs.Events.{EventBody}
 use Rattle.yaml_parse_model.specs.Events as event
-use Rattle.yaml_parse_model.specs.Constructors.{IsUtf8Option, AreUtf8, HasUtf8}
+use Rattle.yaml_parse_model.specs.Constructors.{IsUtf8Option, HasUtf8}
 use Rattle.yaml_parse_model.specs.Nodes.{Node, NodeBody}
 use Rattle.yaml_parse_model.specs.Nodes as node
-use Rattle.yaml_parse_document.specs.Documents.{Document, IsDocument, IsId, AreIds, ArePairs, IsSoundBody, IsSoundNode, AreSound, with_node, change_place, str_tag, seq_tag, map_tag}
+use Rattle.yaml_parse_document.specs.Documents.{IsDocument, IsId, IsSoundBody, IsSoundNode, AreSound, change_place, str_tag, seq_tag, map_tag}
 use Rattle.yaml_parse_document.proofs.Sound.{wider_id, wider_ids, wider_pairs, with_node_sound, length_push, length_change, sound_change, sound_ids_push, sound_pairs_push, str_utf8, seq_utf8, map_utf8}
 use Rattle.yaml_parse_loader.specs.declared.anchors.Anchored.{Anchored}
 use Rattle.yaml_parse_loader.specs.Anchors.{Anchors}
-use Rattle.yaml_parse_loader.specs.Numbering.{Head, is_bang, loaded_tag, named, known_with, anchored, scalar_node, sequence_node, mapping_node}
-use Rattle.yaml_parse_loader.specs.Loading.{Open, open_sequence, open_mapping, Loading, nothing_loaded, attached, attach, next, with_leaf, with_open, filled, filled_body, place_of, closed, Fed, goes_on, loaded, refused, entered, aliased, started, ended, head_of, enter, step_body}
+use Rattle.yaml_parse_loader.specs.Numbering.{Head, is_bang, loaded_tag, named, known_with}
+use Rattle.yaml_parse_loader.specs.Loading.{Open, open_sequence, open_mapping, Loading, nothing_loaded, attached, attach, next, with_leaf, with_open, filled, filled_body, place_of, closed, Fed, goes_on, loaded, refused, entered, aliased, head_of, enter, step_body}
 use Rattle.yaml_parse_loader.specs.Sound.{IsIdOption, IsSoundOpen, AreSoundOpen, AreAnchors, IsLoading}
 
 abbrev pub FedSound : Fed → Type 0
@@ -81,7 +80,7 @@ named_sound : (m : ℕ) (name : List ℕ) (new : Anchored) (known : Anchors) (o 
     → ((ks : Anchors) → AreAnchors m ks → IsLoading (go ks)) → AreAnchors m known → IsId m new.number → FedSound (entered (named name new known o) go)
 named_sound m name new known None go goes s h =
     goes _ (λ q. subst (λ (o : Option Anchored). IfSome o (λ a. IsId m a.number)) (sym (map.get-insert nat_list_cmp_total known name new q))
-        (inserted_sound m (eq_by_cmp (slice_cmp nat_cmp) q name) new (map.get known q) h (s q)))
+    (inserted_sound m (eq_by_cmp (slice_cmp nat_cmp) q name) new (map.get known q) h (s q)))
 named_sound m name new known (Some first) go goes s h = tt
 
 entered_sound : (m : ℕ) (anchor : Option (List ℕ)) (new : Anchored) (known : Anchors) (go : Anchors → Loading)
@@ -93,7 +92,7 @@ node_sound : (l : Loading) (h : Head) (go : Anchors → Loading) → IsLoading l
     → ((ks : Anchors) → AreAnchors (suc (length l.document.nodes)) ks → IsLoading (go ks)) → FedSound (entered (enter l h) go)
 node_sound l h go s goes =
     entered_sound (suc (length l.document.nodes)) h.anchor _ l.anchors go goes
-        (λ q. wider_found _ _ (map.get l.anchors q) (omega arith) (s.anchors q)) (last_id _)
+    (λ q. wider_found _ _ (map.get l.anchors q) (omega arith) (s.anchors q)) (last_id _)
 
 -- ---- tags
 
@@ -152,10 +151,10 @@ step_sound (event.document_start version directives implicit) from to l s h =
 step_sound (event.document_end implicit) from to l s h = record { directives = s.document.directives; nodes = s.document.nodes }
 step_sound (event.alias name) from to l s h = aliased_sound (map.get l.anchors name) from l s (s.anchors name)
 step_sound (event.scalar anchor tag value plain quoted style) from to l s h =
-    node_sound l _ _ s (λ ks a. leaf_sound l _ ks s (loaded_utf8 tag str_tag str_utf8 h.1, h.2) a)
+    node_sound l (head_of anchor tag from to) _ s (λ ks a. leaf_sound l _ ks s (loaded_utf8 tag str_tag str_utf8 h.1, h.2) a)
 step_sound (event.sequence_start anchor tag implicit style) from to l s h =
-    node_sound l _ _ s (λ ks a. open_sound l _ _ ks (λ m. tt) (leaf_sound l _ ks s (loaded_utf8 tag seq_tag seq_utf8 h.1, tt) a))
+    node_sound l (head_of anchor tag from to) _ s (λ ks a. open_sound l _ _ ks (λ m. tt) (leaf_sound l _ ks s (loaded_utf8 tag seq_tag seq_utf8 h.1, tt) a))
 step_sound event.sequence_end from to l s h = closed_sound to l l.levels s s.levels
 step_sound (event.mapping_start anchor tag implicit style) from to l s h =
-    node_sound l _ _ s (λ ks a. open_sound l _ _ ks (λ m. (tt, tt)) (leaf_sound l _ ks s (loaded_utf8 tag map_tag map_utf8 h.1, tt) a))
+    node_sound l (head_of anchor tag from to) _ s (λ ks a. open_sound l _ _ ks (λ m. (tt, tt)) (leaf_sound l _ ks s (loaded_utf8 tag map_tag map_utf8 h.1, tt) a))
 step_sound event.mapping_end from to l s h = closed_sound to l l.levels s s.levels

@@ -1,17 +1,10 @@
 -- The loader makes of the events of content what the content's numbering says.
-use Rattle.std.proofs.Common.{◌≡◌, ◌+◌, ℕ, suc, ℤ, pos, List, [], ◌∷◌, ◌++◌, length, Option, Some, None, Result, Ok, Err, refl, ap, sym, ◌∙◌, arith, append_assoc, append-nil, length-append}
-use Rattle.std.specs.FinMap as map
-use Rattle.yaml_scan.specs.declared.yaml_mark_t.{yaml_mark_t}
+use Rattle.std.proofs.Common.{◌≡◌, ℤ, List, [], ◌∷◌, ◌++◌, Result, Ok, Err, refl}
 use Rattle.yaml_scan.specs.Faults.{Fault}
-use Rattle.yaml_parse_model.specs.declared.yaml_node_pair_t.{yaml_node_pair_t}
-use Rattle.yaml_parse_model.specs.Events.{Event}
-use Rattle.yaml_parse_model.specs.Events as event
 use Rattle.yaml_parse_model.specs.Nodes.{Node}
-use Rattle.yaml_parse_document.specs.Documents.{Document, with_node, change_place}
-use Rattle.yaml_parse_loader.specs.declared.anchors.Anchored.{Anchored}
 use Rattle.yaml_parse_loader.specs.Anchors.{Anchors}
-use Rattle.yaml_parse_loader.specs.Numbering.{Head, Span, Content, Contents, Pairs, alias, scalar, sequence, mapping, no_items, item, no_pairs, pair, spanning, events, item_events, pair_events, ◌>>=◌, Numbered, known_with, anchored, alias_number, scalar_node, sequence_node, mapping_node, number, number_items, number_pairs, DocumentContent, document_events, document_of}
-use Rattle.yaml_parse_loader.specs.Loading.{Open, open_sequence, open_mapping, Loading, nothing_loaded, attached, attach, next, with_leaf, with_open, filled, place_of, closed, Fed, goes_on, loaded, refused, entered, aliased, started, ended, enter, step, Loaded, unfinished, document, faulty, turn, load}
+use Rattle.yaml_parse_loader.specs.Numbering.{◌>>=◌}
+use Rattle.yaml_parse_loader.specs.Loading.{Open, Loading, attach, Loaded, faulty}
 
 -- what goes on with a result, or stops at its fault
 abbrev pub behind : {A : Type 0} → Result A Fault → (A → Loaded) → Loaded

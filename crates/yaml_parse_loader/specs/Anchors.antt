@@ -1,5 +1,4 @@
 -- The anchors of a document so far.
-use Rattle.std.specs.Prelude.{ℕ, ℤ, List, map}
 use Rattle.std.specs.Ordering.{nat_cmp}
 use Rattle.std.specs.Cmp.Lexicographic.{slice_cmp}
 use Rattle.std.specs.FinMap.{FinMap}

@@ -1,6 +1,5 @@
 -- What a clause sees of a document in the making.
 use Rattle.std.specs.Prelude.{List, map, reverse}
-use Rattle.std.specs.Global.{Global}
 use Rattle.yaml_parse_document.specs.Parts.{parts_view}
 use Rattle.yaml_parse_loader.specs.declared.making.Level.{Level}
 use Rattle.yaml_parse_loader.specs.declared.making.Level.TheVariants as level

@@ -7,3 +7,6 @@ mod making;
 
 pub use anchors::Anchored;
 pub use loader::Loader;
+
+#[cfg(test)]
+mod tests;

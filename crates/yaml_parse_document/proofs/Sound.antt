@@ -14,16 +14,16 @@ use Rattle.yaml_parse_document.specs.Documents.{Document, node_at, IsId, AreIds,
 
 -- ---- more nodes
 
-wider_id : (m n : ℕ) (id : ℤ) → m ≤ n → IsId m id → IsId n id
+pub wider_id : (m n : ℕ) (id : ℤ) → m ≤ n → IsId m id → IsId n id
 wider_id m n (pos zero) h i = i
 wider_id m n (pos (suc k)) h i = omega arith
 wider_id m n _ h i = i
 
-wider_ids : (m n : ℕ) (ids : List ℤ) → m ≤ n → AreIds m ids → AreIds n ids
+pub wider_ids : (m n : ℕ) (ids : List ℤ) → m ≤ n → AreIds m ids → AreIds n ids
 wider_ids m n [] h a = tt
 wider_ids m n (id ∷ ids) h a = (wider_id m n id h a.0, wider_ids m n ids h a.1)
 
-wider_pairs : (m n : ℕ) (ps : List yaml_node_pair_t) → m ≤ n → ArePairs m ps → ArePairs n ps
+pub wider_pairs : (m n : ℕ) (ps : List yaml_node_pair_t) → m ≤ n → ArePairs m ps → ArePairs n ps
 wider_pairs m n [] h a = tt
 wider_pairs m n (p ∷ ps) h a = ((wider_id m n p.key h a.0.0, wider_id m n p.value h a.0.1), wider_pairs m n ps h a.1)
 
@@ -44,30 +44,29 @@ pub sound_push : (m : ℕ) (ns : List Node) (x : Node) → AreSound m ns → IsS
 sound_push m [] x s h = (h, tt)
 sound_push m (n ∷ ns) x s h = (s.0, sound_push m ns x s.1 h)
 
-length_push : (ns : List Node) (x : Node) → length (ns ++ x ∷ []) ≡ suc (length ns)
+pub length_push : (ns : List Node) (x : Node) → length (ns ++ x ∷ []) ≡ suc (length ns)
 length_push [] x = refl
 length_push (n ∷ ns) x = ap suc (length_push ns x)
 
 -- a sound node more
-pub with_node_sound : (d : Document) (x : Node) → IsDocument d → IsSoundNode (length d.nodes) x → length d.nodes < 2147483647 → IsDocument (with_node d x)
-with_node_sound d x s h few =
+pub with_node_sound : (d : Document) (x : Node) → IsDocument d → IsSoundNode (length d.nodes) x → IsDocument (with_node d x)
+with_node_sound d x s h =
     let grown : length (d.nodes ++ x ∷ []) ≡ suc (length d.nodes) = length_push d.nodes x in
     let more : length d.nodes ≤ suc (length d.nodes) = omega arith in
     record {
       directives = s.directives;
       nodes = subst (λ (n : ℕ). AreSound n (d.nodes ++ x ∷ [])) (sym grown)
           (sound_push _ d.nodes x (wider _ _ d.nodes more s.nodes) (wider_node _ _ x more h));
-      count = omega (arith, grown);
     }
 
 -- ---- a node changed
 
-length_change : (f : Node → Node) (k : ℕ) (ns : List Node) → length (change_place f k ns) ≡ length ns
+pub length_change : (f : Node → Node) (k : ℕ) (ns : List Node) → length (change_place f k ns) ≡ length ns
 length_change f k [] = refl
 length_change f zero (n ∷ ns) = refl
 length_change f (suc k) (n ∷ ns) = ap suc (length_change f k ns)
 
-sound_change : (m : ℕ) (f : Node → Node) (k : ℕ) (ns : List Node) → ((x : Node) → IsSoundNode m x → IsSoundNode m (f x)) → AreSound m ns → AreSound m (change_place f k ns)
+pub sound_change : (m : ℕ) (f : Node → Node) (k : ℕ) (ns : List Node) → ((x : Node) → IsSoundNode m x → IsSoundNode m (f x)) → AreSound m ns → AreSound m (change_place f k ns)
 sound_change m f k [] h s = tt
 sound_change m f zero (n ∷ ns) h s = (h n s.0, s.1)
 sound_change m f (suc k) (n ∷ ns) h s = (s.0, sound_change m f k ns h s.1)
@@ -82,17 +81,16 @@ changed_sound d f k h s =
       directives = s.directives;
       nodes = subst (λ (n : ℕ). AreSound n (change_place g k d.nodes)) (sym same)
           (sound_change _ g k d.nodes (λ x t. (t.0, h x.body t.1)) s.nodes);
-      count = subst (λ (n : ℕ). n ≤ 2147483647) (sym same) s.count;
     }
 
-sound_ids_push : (m : ℕ) (ids : List ℤ) (id : ℤ) → AreIds m ids → IsId m id → AreIds m (ids ++ id ∷ [])
+pub sound_ids_push : (m : ℕ) (ids : List ℤ) (id : ℤ) → AreIds m ids → IsId m id → AreIds m (ids ++ id ∷ [])
 sound_ids_push m [] id s h = (h, tt)
 sound_ids_push m (x ∷ ids) id s h = (s.0, sound_ids_push m ids id s.1 h)
 
 abbrev pub pair_of : ℤ → ℤ → yaml_node_pair_t
 pair_of key value = record { key = key; value = value }
 
-sound_pairs_push : (m : ℕ) (ps : List yaml_node_pair_t) (p : yaml_node_pair_t) → ArePairs m ps → IsId m p.key × IsId m p.value → ArePairs m (ps ++ p ∷ [])
+pub sound_pairs_push : (m : ℕ) (ps : List yaml_node_pair_t) (p : yaml_node_pair_t) → ArePairs m ps → IsId m p.key × IsId m p.value → ArePairs m (ps ++ p ∷ [])
 sound_pairs_push m [] p s h = (h, tt)
 sound_pairs_push m (x ∷ ps) p s h = (s.0, sound_pairs_push m ps p s.1 h)
 

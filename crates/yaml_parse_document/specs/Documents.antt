@@ -56,11 +56,10 @@ abbrev pub AreSound : ℕ → List Node → Type 0
 AreSound count [] = Unit {0}
 AreSound count (n ∷ ns) = IsSoundNode count n × AreSound count ns
 
--- the texts of a document are UTF-8, its numbers name its nodes, and they fit a signed number of 32 bits
+-- the texts of a document are UTF-8, and its numbers name its nodes
 pub record IsDocument (d : Document) : Type 0 where
   pub directives : AreUtf8 d.directives
   pub nodes : AreSound (length d.nodes) d.nodes
-  pub count : length d.nodes ≤ 2147483647
 
 -- a document without nodes and with zero marks
 abbrev pub new_document : Option yaml_version_directive_t → List TagDirective → Bool → Bool → Document

@@ -1,13 +1,12 @@
 -- A table of anchors by the bytes of the names.
-use Rattle.std.proofs.Common.{◌≡◌, ℕ, List, [], ◌∷◌, map, Option, Some, None, Bool, cond, refl, ap, sym, ◌∙◌, Vec}
+use Rattle.std.proofs.Common.{◌≡◌, ℕ, List, [], ◌∷◌, map, Some, cond, refl, ap, sym, ◌∙◌, Vec}
 use Rattle.std.specs.Global.{Global}
-use Rattle.std.specs.declared.cmp.Ordering.{Ordering}
 use Rattle.std.specs.declared.cmp.Ordering.TheVariants.{Less, Equal, Greater}
 use Rattle.std.specs.Ordering.{nat_cmp, match_ordering}
 use Rattle.std.specs.Cmp.Lexicographic.{slice_cmp, nat_list_cmp_total}
 use Rattle.std.specs.Map.{lookup}
 use Rattle.std.specs.BTreeMap.{is_at, insert_entry}
-use Rattle.std.specs.FinMap.{FinMap, from_entries, insert, get, find, put, get-insert, get-from_entries, same_map, slice_cmp-IsAntisymmetric, nat_cmp-IsAntisymmetric}
+use Rattle.std.specs.FinMap.{from_entries, insert, get, find, put, get-insert, get-from_entries, same_map, slice_cmp-IsAntisymmetric, nat_cmp-IsAntisymmetric}
 use Rattle.std.specs.FinMap.Entries.{by_order, find-put}
 
 abbrev Name : Type 0
@@ -30,7 +29,7 @@ put_name : {X : Type 0} (es : List (Name × X)) (k : Name) (v : X)
 put_name [] k v = refl
 put_name (e ∷ es) k v =
     elim (slice_cmp nat_cmp k.items e.0.items) as (λ r. map entry_of (match_ordering r ((k, v) ∷ e ∷ es) ((e.0, v) ∷ es) (e ∷ insert_entry (λ (a b : Name). slice_cmp nat_cmp a.items b.items) es k v))
-        ≡ by_order r ((k.items, v) ∷ entry_of e ∷ map entry_of es) ((e.0.items, v) ∷ map entry_of es) (entry_of e ∷ put (slice_cmp nat_cmp) k.items v (map entry_of es))) [
+    ≡ by_order r ((k.items, v) ∷ entry_of e ∷ map entry_of es) ((e.0.items, v) ∷ map entry_of es) (entry_of e ∷ put (slice_cmp nat_cmp) k.items v (map entry_of es))) [
       | Less ↦ refl
       | Equal ↦ refl
       | Greater ↦ ap (λ es. entry_of e ∷ es) (put_name es k v)

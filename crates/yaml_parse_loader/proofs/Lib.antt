@@ -1,1 +1,4 @@
 pub mod Found
+pub mod Keeps
+pub mod Loads
+pub mod Steps

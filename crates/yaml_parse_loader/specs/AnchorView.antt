@@ -1,5 +1,5 @@
 -- What a clause sees of a table of anchors.
-use Rattle.std.specs.Prelude.{List, map, ℕ}
+use Rattle.std.specs.Prelude.{map}
 use Rattle.std.specs.FinMap.{from_entries}
 use Rattle.yaml_parse_loader.specs.declared.anchors.AnchorTable.TheInside.{Inside}
 use Rattle.yaml_parse_loader.specs.Anchors.{Anchors}

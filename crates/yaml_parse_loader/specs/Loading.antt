@@ -158,3 +158,8 @@ turn (refused f) go rest = faulty f
 unfoldable pub load : List Event → Loading → Loaded
 load [] l = unfinished l
 load (e ∷ es) l = turn (step e l) (load es) es
+
+-- a result and what follows it, or its fault
+abbrev pub behind : {A : Type 0} → Result A Fault → (A → Loaded) → Loaded
+behind (Ok x) go = go x
+behind (Err f) go = faulty f

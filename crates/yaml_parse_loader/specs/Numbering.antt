@@ -1,5 +1,5 @@
 -- A document's nodes, numbered in preorder from 1, and the number that each alias stands for.
-use Rattle.std.specs.Prelude.{ℕ, suc, ℤ, pos, ◌+◌, ◌==◌, Bool, true, false, cond, List, [], ◌∷◌, ◌++◌, length, Option, Some, None, Result, Ok, Err, codes}
+use Rattle.std.specs.Prelude.{ℕ, suc, ℤ, pos, ◌+◌, ◌==◌, Bool, false, cond, List, [], ◌∷◌, ◌++◌, length, Option, Some, None, Result, Ok, Err, codes}
 use Rattle.std.specs.FinMap as map
 use Rattle.yaml_scan.specs.declared.yaml_mark_t.{yaml_mark_t}
 use Rattle.yaml_scan.specs.declared.yaml_version_directive_t.{yaml_version_directive_t}
@@ -150,29 +150,29 @@ unfoldable mutual
   number (alias name at) count known = alias_number (map.get known name) at.start_mark known
   number (scalar h value plain quoted style) count known =
       known_with h.anchor (anchored (pos (suc count)) h.start_mark) known >>= λ ks.
-        Ok (record { number = pos (suc count); nodes = scalar_node h value style ∷ []; known = ks })
+      Ok (record { number = pos (suc count); nodes = scalar_node h value style ∷ []; known = ks })
   number (sequence h implicit style items at) count known =
       known_with h.anchor (anchored (pos (suc count)) h.start_mark) known >>= λ ks.
-        number_items items (suc count) ks >>= λ r.
-          Ok (record { number = pos (suc count); nodes = sequence_node h r.number style at.end_mark ∷ r.nodes; known = r.known })
+      number_items items (suc count) ks >>= λ r.
+      Ok (record { number = pos (suc count); nodes = sequence_node h r.number style at.end_mark ∷ r.nodes; known = r.known })
   number (mapping h implicit style pairs at) count known =
       known_with h.anchor (anchored (pos (suc count)) h.start_mark) known >>= λ ks.
-        number_pairs pairs (suc count) ks >>= λ r.
-          Ok (record { number = pos (suc count); nodes = mapping_node h r.number style at.end_mark ∷ r.nodes; known = r.known })
+      number_pairs pairs (suc count) ks >>= λ r.
+      Ok (record { number = pos (suc count); nodes = mapping_node h r.number style at.end_mark ∷ r.nodes; known = r.known })
 
   pub number_items : Contents → ℕ → Anchors → Result (Numbered (List ℤ)) Fault
   number_items no_items count known = Ok (record { number = []; nodes = []; known = known })
   number_items (item c more) count known =
       number c count known >>= λ r. number_items more (count + length r.nodes) r.known >>= λ s.
-        Ok (record { number = r.number ∷ s.number; nodes = r.nodes ++ s.nodes; known = s.known })
+      Ok (record { number = r.number ∷ s.number; nodes = r.nodes ++ s.nodes; known = s.known })
 
   pub number_pairs : Pairs → ℕ → Anchors → Result (Numbered (List yaml_node_pair_t)) Fault
   number_pairs no_pairs count known = Ok (record { number = []; nodes = []; known = known })
   number_pairs (pair key value more) count known =
       number key count known >>= λ r. number value (count + length r.nodes) r.known >>= λ s.
-        number_pairs more (count + length r.nodes + length s.nodes) s.known >>= λ t.
-          let p : yaml_node_pair_t = record { key = r.number; value = s.number } in
-          Ok (record { number = p ∷ t.number; nodes = r.nodes ++ (s.nodes ++ t.nodes); known = t.known })
+      number_pairs more (count + length r.nodes + length s.nodes) s.known >>= λ t.
+      let p : yaml_node_pair_t = record { key = r.number; value = s.number } in
+      Ok (record { number = p ∷ t.number; nodes = r.nodes ++ (s.nodes ++ t.nodes); known = t.known })
 
 -- ---- documents
 

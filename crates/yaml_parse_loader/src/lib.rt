@@ -2,4 +2,13 @@
 #![tactic(auto)]
 
 mod anchors;
+mod law;
+mod loader;
 mod making;
+
+pub use anchors::Anchored;
+pub use law::loads_documents;
+pub use loader::Loader;
+
+#[cfg(test)]
+mod tests;

@@ -12,7 +12,5 @@ invariant_of-document-2 c =
     = ap (map node_of) c.in_ok-push_entry.ensures.0 ∙ map-append node_of _ _ in
     let sound : IsSoundNode (length (document_view c.document.inside).nodes) (node_of c.args.node)
     = subst (λ (d : Document). IsSoundNode (length d.nodes) (node_of c.args.node)) (sym c.document.view_is) c.requires in
-    let few : length (map node_of c.document.inside.nodes.items) < 2147483647
-    = omega (arith, length-map c.document.inside.nodes.items node_of, c.in_ok-push_entry.ensures.1) in
     subst (λ (ns : List Node). IsDocument (record (document_view c.document.inside) { nodes = ns })) (sym grown)
-    (with_node_sound (document_view c.document.inside) (node_of c.args.node) c.document.invariant sound few)
+    (with_node_sound (document_view c.document.inside) (node_of c.args.node) c.document.invariant sound)

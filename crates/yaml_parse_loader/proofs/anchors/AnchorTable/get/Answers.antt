@@ -1,4 +1,4 @@
-use Rattle.std.proofs.Common.{ap, sym, ◌∙◌}
+use Rattle.std.proofs.Common.{ap, ◌∙◌}
 use Rattle.std.specs.FinMap as map
 use Rattle.yaml_parse_loader.proofs.Found.{found}
 use Rattle.yaml_parse_loader.proofs.anchors.AnchorTable.get.Goals as goal

@@ -1,4 +1,4 @@
-use Rattle.std.proofs.Common.{ap, sym, ◌∙◌, map}
+use Rattle.std.proofs.Common.{ap, ◌∙◌, map}
 use Rattle.std.specs.FinMap as finite
 use Rattle.yaml_parse_loader.proofs.Found.{entry_of, inserted}
 use Rattle.yaml_parse_loader.proofs.anchors.AnchorTable.insert.Goals as goal

@@ -4,3 +4,4 @@ mod Walks
 mod Directives
 mod Escapes
 mod Looks
+mod Rows

@@ -27,3 +27,6 @@ pub use settings::{Encoding, LineBreak, Settings, Wishes, settled};
 pub use sink::Sink;
 pub use style::{allowed_for, taken};
 pub use tag::{put_alias, put_anchor, put_prefix, put_tag, tag_size};
+
+#[cfg(test)]
+mod tests;

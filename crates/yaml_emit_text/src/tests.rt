@@ -27,7 +27,7 @@ fn scalars_are_written(rt: HostRuntime) -> Result<(), Fail> {
     put_folded(&mut sink, NARROW, 2, "a\n bbbb cccc dddd eeee\n");
     assert_eq!(rt;
         sink.output(),
-        b"\"aaaa bbbb cccc\n  \\ dddd\" 'it''s' foo\r|+\n  a\n\n>\n  a\n   bbbb cccc dddd eeee\n"
+        b"\"aaaa bbbb cccc\n  \\ dddd\" 'it''s' foo\r|+\n  a\n\n>\n  a\n   bbbb cccc dddd eeee\n".as_slice()
     );
     Ok(())
 }
@@ -72,7 +72,7 @@ fn tags_are_written(rt: HostRuntime) -> Result<(), Fail> {
     put_alias(&mut sink, b"b");
     assert_eq!(rt;
         sink.output(),
-        b"!!a%2C%E9 !<tag:yaml.org,2002:s,r> !m %21m-, &a *b"
+        b"!!a%2C%E9 !<tag:yaml.org,2002:s,r> !m %21m-, &a *b".as_slice()
     );
     Ok(())
 }
@@ -86,7 +86,7 @@ fn utf16_has_pairs_of_surrogates(rt: HostRuntime) -> Result<(), Fail> {
     sink.put_line(LineBreak::CrLf, 0);
     assert_eq!(rt;
         sink.output(),
-        b"\xFF\xFE\x22\0\x3D\xD8\x00\xDE\x22\0\r\0\n\0"
+        b"\xFF\xFE\x22\0\x3D\xD8\x00\xDE\x22\0\r\0\n\0".as_slice()
     );
     Ok(())
 }
@@ -99,12 +99,12 @@ fn an_output_stops(rt: HostRuntime) -> Result<(), Fail> {
     exact.put('d');
     assert!(rt; exact.status() == Status::Full);
     exact.put('e');
-    assert_eq!(rt; exact.output(), b"abc");
+    assert_eq!(rt; exact.output(), b"abc".as_slice());
     let mut deep = Sink::new(rt.alloc(), 3);
     deep.put('a');
     deep.put_too_deep();
     deep.put('b');
     assert!(rt; deep.status() == Status::Deep);
-    assert_eq!(rt; deep.output(), b"a");
+    assert_eq!(rt; deep.output(), b"a".as_slice());
     Ok(())
 }

@@ -1,5 +1,5 @@
 -- Double quoted spellings: raw characters, escapes and folds, and the value that they spell.
-use Rattle.std.specs.Prelude.{◌≡◌, ℕ, ◌+◌, ◌<◌, Bool, true, false, not, ◌&&◌, ◌||◌, ◌==◌, nat_lt, List, [], ◌∷◌, ◌++◌, replicate}
+use Rattle.std.specs.Prelude.{◌≡◌, ℕ, ◌<◌, Bool, true, false, not, ◌&&◌, ◌||◌, ◌==◌, nat_lt, List, [], ◌∷◌, ◌++◌, replicate}
 use Rattle.std.specs.Str.{all_scalars}
 use lib.Utf8.{scalar}
 use Rattle.yaml_emit_text.specs.declared.cursor.Cursor.{Cursor}

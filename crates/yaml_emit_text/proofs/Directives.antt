@@ -1,11 +1,11 @@
 -- The directive that a tag is written by.
-use Rattle.std.proofs.Common.{◌≡◌, ℕ, ◌+◌, ◌-◌, ◌<◌, ◌≤◌, Bool, true, false, cond, List, [], ◌∷◌, ◌++◌, length, take, drop, get_or, map, Option, Some, None, refl, sym, ◌∙◌, ap, arith, length-drop, append-nil}
+use Rattle.std.proofs.Common.{◌≡◌, ℕ, ◌+◌, ◌-◌, ◌<◌, ◌≤◌, Bool, true, false, cond, List, [], ◌∷◌, ◌++◌, length, take, drop, get_or, map, Some, None, refl, sym, ◌∙◌, ap, arith, length-drop, append-nil}
 use Rattle.std.specs.Prelude.{if◌then◌else◌, not, ◌&&◌, ◌||◌}
 use Rattle.std.specs.Str.{bytes_eq}
 use Rattle.std.proofs.lemmas.List.{drop_more, drop_all, take_all}
 use Rattle.yaml_scan.specs.declared.yaml_tag_directive_t.{yaml_tag_directive_t}
 use Rattle.yaml_parse_model.specs.Events.{TagDirective, directive_of}
-use Rattle.yaml_emit_text.specs.Tags.{has_shorter_prefix, directive_for, defines, primary, secondary, unless_defined, stands_for, defaults, in_force, Split, shorthand, verbatim, split_by, split_tag}
+use Rattle.yaml_emit_text.specs.Tags.{has_shorter_prefix, directive_for, defines, primary, secondary, unless_defined, stands_for, defaults, Split, shorthand, verbatim, split_by}
 
 -- what `&s[n..]` is
 pub rest_of_slice : (n : ℕ) (xs : List ℕ) → take (length xs - n) (drop n xs) ≡ drop n xs

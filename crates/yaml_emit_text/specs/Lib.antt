@@ -7,3 +7,5 @@ pub mod Quoted
 pub mod Style
 pub mod Scalars
 pub mod Tags
+pub mod Spelling
+pub mod Laws

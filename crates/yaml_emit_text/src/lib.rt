@@ -6,6 +6,7 @@ mod block;
 mod bytes;
 mod cursor;
 mod flow;
+mod laws;
 mod letters;
 mod page;
 mod quoted;
@@ -19,6 +20,7 @@ mod tag;
 pub use block::{put_folded, put_literal};
 pub use cursor::{Cursor, Status};
 pub use flow::{put_plain, put_single_quoted};
+pub use laws::{quoted_spells, utf8_encodes};
 pub use letters::text;
 pub use page::{Allowed, Chomp, Page, Seen, Style};
 pub use quoted::put_double_quoted;
@@ -27,3 +29,6 @@ pub use settings::{Encoding, LineBreak, Settings, Wishes, settled};
 pub use sink::Sink;
 pub use style::{allowed_for, taken};
 pub use tag::{put_alias, put_anchor, put_prefix, put_tag, tag_size};
+
+#[cfg(test)]
+mod tests;

@@ -164,12 +164,12 @@ pub fn put_tag(sink: &mut Sink, directives: &[yaml_tag_directive_t], tag: &[u8])
 }
 
 /// The bytes of a tag's handle and suffix before they are escaped, or of the whole tag where it is written as `!<tag>`.
-pub fn tag_size(directives: &[yaml_tag_directive_t], tag: &[u8]) -> u64
+pub fn tag_size(directives: &[yaml_tag_directive_t], tag: &[u8]) -> usize
     ensures { result ≡ tag_size (map directive_of directives.now) tag.now }
 {
     match split_tag(directives, tag) {
-        SplitTag::Shorthand(handle, suffix) => handle.len() as u64 + suffix.len() as u64,
-        SplitTag::Verbatim(tag) => tag.len() as u64,
+        SplitTag::Shorthand(handle, suffix) => handle.len() + suffix.len(),
+        SplitTag::Verbatim(tag) => tag.len(),
     }
 }
 

@@ -1,10 +1,7 @@
-use Rattle.std.proofs.Common.{◌≡◌, length, true, false, [], ◌∷◌}
+use Rattle.std.proofs.Common.{◌≡◌, length}
 use Rattle.std.specs.Str.{chars}
 use Rattle.std.specs.Prelude.{IsUtf8}
-use Rattle.yaml_emit_text.specs.Sink.{Owes}
-use Rattle.yaml_emit_text.specs.Quoted.{quoted_body}
-use Rattle.yaml_emit_text.specs.Scalars.{flow_body, block_body, behind_breaks, chomp}
-use Rattle.yaml_emit_text.specs.Style.{looked, joined, last_or}
+use Rattle.yaml_emit_text.specs.Scalars.{behind_breaks}
 use Rattle.yaml_emit_text.proofs.block.behind_breaks.Given as goal
 
 abbrev pub invariant-loop-c : goal.invariant-loop-c

@@ -1,4 +1,4 @@
-use Rattle.std.proofs.Common.{◌≡◌, refl, sym, ◌∙◌, ap, arith, true, false, [], ◌∷◌, drop, length}
+use Rattle.std.proofs.Common.{sym, ◌∙◌, ap}
 use Rattle.std.proofs.Common.{encode_utf8, ◌++◌}
 use Rattle.yaml_emit_text.proofs.Spells.{first_of}
 use Rattle.yaml_emit_text.proofs.letters.split_first.Goals as goal

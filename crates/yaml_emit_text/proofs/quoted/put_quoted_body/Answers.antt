@@ -1,11 +1,7 @@
-use Rattle.std.proofs.Common.{◌≡◌, refl, sym, ◌∙◌, ap, arith, true, false, [], ◌∷◌, drop, length}
-use Rattle.yaml_emit_text.proofs.Sinks.{puts_both, owes_same}
-use Rattle.yaml_emit_text.proofs.Spells.{puts_letters}
-use Rattle.yaml_emit_text.specs.Layout.{letters}
-use Rattle.yaml_emit_text.proofs.Walks.{walk_more, walk_all, walk_end, flow_law, flow_end, block_more, block_all}
+use Rattle.yaml_emit_text.proofs.Sinks.{owes_same}
+use Rattle.yaml_emit_text.proofs.Walks.{walk_more, walk_end}
 use Rattle.yaml_emit_text.proofs.Escapes.{quoted_law, quoted_end}
 use Rattle.yaml_emit_text.specs.Quoted.{quoted_body, quoted_char}
-use Rattle.yaml_emit_text.specs.Scalars.{flow_body, flow_char, behind_breaks}
 use Rattle.yaml_emit_text.proofs.quoted.put_quoted_body.Goals as goal
 
 pub split_first-requires-text-text : goal.split_first-requires-text-text

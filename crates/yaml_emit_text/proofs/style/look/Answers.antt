@@ -1,5 +1,5 @@
-use Rattle.std.proofs.Common.{◌≡◌, refl, sym, ◌∙◌, ap, arith, true, false, [], ◌∷◌, drop, length}
-use Rattle.yaml_emit_text.proofs.Looks.{breaks_more, breaks_found, breaks_none, chomp_more, chomp_end, look_more, look_end, last_more, last_end}
+use Rattle.std.proofs.Common.{refl, ◌∙◌, ap}
+use Rattle.yaml_emit_text.proofs.Looks.{look_more, look_end, last_more, last_end}
 use Rattle.yaml_emit_text.specs.Style.{joined}
 use Rattle.yaml_emit_text.proofs.style.look.Goals as goal
 

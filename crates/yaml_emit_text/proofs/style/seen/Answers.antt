@@ -1,4 +1,4 @@
-use Rattle.std.proofs.Common.{◌≡◌, refl, sym, ◌∙◌, ap, arith, true, false, [], ◌∷◌, drop, length}
+use Rattle.std.proofs.Common.{refl}
 use Rattle.yaml_emit_text.proofs.style.seen.Goals as goal
 
 pub returns : goal.returns

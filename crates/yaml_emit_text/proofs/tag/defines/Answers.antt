@@ -1,8 +1,5 @@
-use Rattle.std.proofs.Common.{◌≡◌, refl, sym, ◌∙◌, ap, arith, true, false, [], ◌∷◌, drop, length}
-use Rattle.std.proofs.Common.{map, ◌++◌, drop}
-use Rattle.yaml_parse_model.specs.Events.{directive_of}
-use Rattle.yaml_emit_text.specs.Tags.{defines, split_tag, split_by, directive_for, defaults}
-use Rattle.yaml_emit_text.proofs.Directives.{rest_of_slice, defines_more, defines_found, defines_none, split_more, split_found, split_none, by_primary, by_secondary, by_none}
+use Rattle.std.proofs.Common.{refl, sym, ◌∙◌}
+use Rattle.yaml_emit_text.proofs.Directives.{defines_more, defines_found, defines_none}
 use Rattle.yaml_emit_text.proofs.tag.defines.Goals as goal
 
 pub loop-directive-init : goal.loop-directive-init

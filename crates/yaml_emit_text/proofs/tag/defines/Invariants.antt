@@ -1,8 +1,7 @@
-use Rattle.std.proofs.Common.{◌≡◌, length, true, false, [], ◌∷◌}
-use Rattle.std.specs.Str.{chars}
-use Rattle.std.proofs.Common.{map, ◌++◌, drop}
+use Rattle.std.proofs.Common.{◌≡◌}
+use Rattle.std.proofs.Common.{map, drop}
 use Rattle.yaml_parse_model.specs.Events.{directive_of}
-use Rattle.yaml_emit_text.specs.Tags.{defines, split_tag, split_by, directive_for, defaults}
+use Rattle.yaml_emit_text.specs.Tags.{defines}
 use Rattle.yaml_emit_text.proofs.tag.defines.Given as goal
 
 abbrev pub invariant-loop-directive : goal.invariant-loop-directive

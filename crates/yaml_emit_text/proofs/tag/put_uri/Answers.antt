@@ -1,8 +1,5 @@
-use Rattle.std.proofs.Common.{◌≡◌, refl, sym, ◌∙◌, ap, arith, true, false, [], ◌∷◌, drop, length}
-use Rattle.yaml_emit_text.proofs.Sinks.{puts_both, owes_same}
-use Rattle.yaml_emit_text.proofs.Spells.{puts_letters, puts_one, uri_more, uri_all}
-use Rattle.yaml_emit_text.specs.Layout.{letters}
-use Rattle.yaml_emit_text.specs.Tags.{uri_text, uri_byte, spelled}
+use Rattle.yaml_emit_text.proofs.Sinks.{owes_same}
+use Rattle.yaml_emit_text.proofs.Spells.{uri_more, uri_all}
 use Rattle.yaml_emit_text.proofs.tag.put_uri.Goals as goal
 
 pub loop-byte-init : goal.loop-byte-init

@@ -1,5 +1,3 @@
-use Rattle.std.proofs.Common.{◌≡◌, length, true, false, [], ◌∷◌}
-use Rattle.std.specs.Str.{chars}
 use Rattle.std.proofs.Common.{drop}
 use Rattle.yaml_emit_text.specs.Sink.{Owes}
 use Rattle.yaml_emit_text.specs.Layout.{letters}

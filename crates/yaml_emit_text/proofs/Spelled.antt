@@ -1,0 +1,353 @@
+-- Double quoted text is a spelling.
+use Rattle.std.proofs.Common.{◌≡◌, ◌≢◌, ℕ, zero, suc, ◌+◌, ◌<◌, List, [], ◌∷◌, ◌++◌, Bool, true, false, cond, refl, sym, subst, ◌∙◌, ap, arith}
+use Rattle.std.specs.Prelude.{if◌then◌else◌, replicate, not, nat_lt, ◌==◌, ◌||◌, ◌&&◌}
+use Rattle.std.specs.Str.{all_scalars}
+use Rattle.std.proofs.lemmas.Bool.Decides.{nat_tests}
+use lib.Utf8.{scalar}
+use Rattle.yaml_emit_text.specs.declared.cursor.Cursor.{Cursor}
+use Rattle.yaml_emit_text.specs.declared.page.Page.{Page}
+use Rattle.yaml_emit_text.specs.declared.settings.LineBreak.{LineBreak}
+use Rattle.yaml_emit_text.specs.declared.settings.LineBreak.TheVariants.{Lf, Cr, CrLf}
+use Rattle.yaml_emit_text.specs.Text.{Item, letter, is_break}
+use Rattle.yaml_emit_text.specs.Layout.{Layout, Rest, choose, when, char, letters, blanks, new_line, is_past}
+use Rattle.yaml_emit_text.specs.Quoted.{needs_escape, escape_text, first, is_empty, may_fold, fold as fold_layout, escaped, quoted_char, quoted_body}
+use Rattle.yaml_emit_text.specs.Spelling.{Part, raw, escape, escaped_space, fold, break_text, spelled, meant, spelling, meaning, is_raw_blank, is_fold, may_follow, may_stand, IsSpelling, in_front, Spells}
+
+-- Layouts that write characters, and the cursor behind them.
+
+abbrev moved_by : Cursor → Cursor
+moved_by c = record { column = c.column + 1; white = false; bare = false; kept = c.kept }
+
+abbrev spaced_by : Cursor → Cursor
+spaced_by c = record { column = c.column + 1; white = true; bare = c.bare; kept = c.kept }
+
+abbrev line_start : Cursor → Cursor
+line_start c = record { column = 0; white = true; bare = true; kept = c.kept }
+
+abbrev after_letters : List ℕ → Cursor → Cursor
+after_letters [] c = c
+after_letters (x ∷ xs) c = after_letters xs (moved_by c)
+
+abbrev after_blanks : ℕ → Cursor → Cursor
+after_blanks zero c = c
+after_blanks (suc n) c = after_blanks n (spaced_by c)
+
+letters_are : (xs : List ℕ) (c : Cursor) (rest : Rest) → letters xs c rest ≡ in_front xs (rest (after_letters xs c))
+unfolding letters in_front
+letters_are [] c rest = refl
+letters_are (x ∷ xs) c rest = ap (λ t. letter x ∷ t) (letters_are xs (moved_by c) rest)
+
+blanks_are : (n : ℕ) (c : Cursor) (rest : Rest) → blanks n c rest ≡ in_front (replicate n 32) (rest (after_blanks n c))
+unfolding blanks in_front
+blanks_are zero c rest = refl
+blanks_are (suc n) c rest = ap (λ t. letter 32 ∷ t) (blanks_are n (spaced_by c) rest)
+
+new_line_is : (b : LineBreak) (c : Cursor) (rest : Rest) → new_line b c rest ≡ in_front (break_text b) (rest (line_start c))
+unfolding in_front
+new_line_is Lf c rest = refl
+new_line_is Cr c rest = refl
+new_line_is CrLf c rest = refl
+
+in_front_append : (xs ys : List ℕ) (t : List Item) → in_front (xs ++ ys) t ≡ in_front xs (in_front ys t)
+unfolding in_front
+in_front_append [] ys t = refl
+in_front_append (x ∷ xs) ys t = ap (λ u. letter x ∷ u) (in_front_append xs ys t)
+
+abbrev slashed : Bool → List Item → List Item
+slashed b t = if b then letter 92 ∷ t else t
+
+abbrev after_slash : Bool → Cursor → Cursor
+after_slash b c = if b then moved_by c else c
+
+slash_is : (b : Bool) (c : Cursor) (rest : Rest) → when b (char 92) c rest ≡ slashed b (rest (after_slash b c))
+slash_is true c rest = refl
+slash_is false c rest = refl
+
+abbrev after_fold : Page → List ℕ → Cursor → Cursor
+after_fold page cs c = after_slash (first cs == 32) (after_blanks page.indentation (line_start c))
+
+fold_is : (page : Page) (cs : List ℕ) (c : Cursor) (rest : Rest)
+    → fold_layout page cs c rest ≡ in_front (spelled (fold page.line_break page.indentation)) (slashed (first cs == 32) (rest (after_fold page cs c)))
+fold_is page cs c rest =
+    new_line_is page.line_break c (λ d. blanks page.indentation d (λ k. when (first cs == 32) (char 92) k rest))
+    ∙ ap (in_front (break_text page.line_break)) (blanks_are page.indentation (line_start c) (λ k. when (first cs == 32) (char 92) k rest)
+    ∙ ap (in_front (replicate page.indentation 32)) (slash_is (first cs == 32) (after_blanks page.indentation (line_start c)) rest))
+    ∙ sym (in_front_append (break_text page.line_break) (replicate page.indentation 32) (slashed (first cs == 32) (rest (after_fold page cs c))))
+
+cond_true : {A : Type 0} (b : Bool) (x y : A) → b ≡ true → cond b x y ≡ x
+cond_true true x y e = refl
+cond_true false x y e = absurd (cc)
+
+cond_false : {A : Type 0} (b : Bool) (x y : A) → b ≡ false → cond b x y ≡ y
+cond_false false x y e = refl
+cond_false true x y e = absurd (cc)
+
+-- what a character is written as
+
+char_fold : (page : Page) (before x : ℕ) (cs : List ℕ) (c : Cursor) (rest : Rest) → may_fold page before x cs ≡ true → is_past page.width c ≡ true → quoted_char page before x cs c rest ≡ fold_layout page cs c rest
+unfolding quoted_char
+char_fold page before x cs c rest m p =
+    ap (λ (a : Layout). a c rest) (cond_true (may_fold page before x cs) (choose (is_past page.width) (fold_layout page cs) (char x)) (escaped page.unicode x) m) ∙ cond_true (is_past page.width c) _ _ p
+
+char_not_past : (page : Page) (before x : ℕ) (cs : List ℕ) (c : Cursor) (rest : Rest) → may_fold page before x cs ≡ true → is_past page.width c ≡ false → quoted_char page before x cs c rest ≡ char x c rest
+unfolding quoted_char
+char_not_past page before x cs c rest m p =
+    ap (λ (a : Layout). a c rest) (cond_true (may_fold page before x cs) (choose (is_past page.width) (fold_layout page cs) (char x)) (escaped page.unicode x) m) ∙ cond_false (is_past page.width c) _ _ p
+
+char_escape : (page : Page) (before x : ℕ) (cs : List ℕ) (c : Cursor) (rest : Rest) → may_fold page before x cs ≡ false → needs_escape page.unicode x ≡ true → quoted_char page before x cs c rest ≡ letters (escape_text x) c rest
+unfolding quoted_char
+char_escape page before x cs c rest m n =
+    ap (λ (a : Layout). a c rest) (cond_false (may_fold page before x cs) (choose (is_past page.width) (fold_layout page cs) (char x)) (escaped page.unicode x) m ∙ cond_true (needs_escape page.unicode x) (letters (escape_text x)) (char x) n)
+
+char_plain : (page : Page) (before x : ℕ) (cs : List ℕ) (c : Cursor) (rest : Rest) → may_fold page before x cs ≡ false → needs_escape page.unicode x ≡ false → quoted_char page before x cs c rest ≡ char x c rest
+unfolding quoted_char
+char_plain page before x cs c rest m n =
+    ap (λ (a : Layout). a c rest) (cond_false (may_fold page before x cs) (choose (is_past page.width) (fold_layout page cs) (char x)) (escaped page.unicode x) m ∙ cond_false (needs_escape page.unicode x) (letters (escape_text x)) (char x) n)
+
+-- A rest of a value behind a part, and behind a backslash where one was written for its space.
+record Left (page : Page) (before : ℕ) (c : Cursor) (slash : Bool) (last : Part) (value : List ℕ) : Type 0 where
+  parts : List Part
+  behind : Cursor
+  right : IsSpelling last parts
+  text : (rest : Rest) → slashed slash (quoted_body page before value c rest) ≡ in_front (spelling parts) (rest behind)
+  means : value ≡ meaning parts
+
+-- how the last part stands to the character before
+record Behind (before : ℕ) (slash : Bool) (last : Part) (value : List ℕ) : Type 0 where
+  same : meant last ≡ before
+  folded : is_fold last ≡ true → (slash ≡ (first value == 32)) × (is_empty value ≡ false)
+  unfolded : is_fold last ≡ false → slash ≡ false
+  blank : is_raw_blank last ≡ true → before ≡ 32
+
+bool_cases : {P : Type 0} (b : Bool) → (b ≡ true → P) → (b ≡ false → P) → P
+bool_cases true p q = p refl
+bool_cases false p q = q refl
+
+and_left : (a b : Bool) → (a && b) ≡ true → a ≡ true
+and_left true b e = refl
+and_left false b e = absurd (cc)
+
+and_right : (a b : Bool) → (a && b) ≡ true → b ≡ true
+and_right true b e = e
+and_right false b e = absurd (cc)
+
+both_true : (a b : Bool) → a ≡ true → b ≡ true → (a && b) ≡ true
+both_true true b p q = q
+both_true false b p q = absurd (cc)
+
+not_true : (a : Bool) → not a ≡ true → a ≡ false
+not_true false e = refl
+not_true true e = absurd (cc)
+
+-- what a fold needs
+record FoldNeeds (before x : ℕ) (cs : List ℕ) : Type 0 where
+  space : x ≡ 32
+  behind : before ≢ 32
+  more : is_empty cs ≡ false
+
+equal_from : (c k : ℕ) → (c == k) ≡ true → c ≡ k
+equal_from c k e = grind (arith, nat_tests)
+
+apart_from : (c k : ℕ) → c ≢ k → (c == k) ≡ false
+apart_from c k n = grind (arith, nat_tests)
+
+differs_from : (c k : ℕ) → (c == k) ≡ false → c ≢ k
+differs_from c k e = grind (arith, nat_tests)
+
+fold_needs : (page : Page) (before x : ℕ) (cs : List ℕ) → may_fold page before x cs ≡ true → FoldNeeds before x cs
+fold_needs page before x cs e =
+    let a = and_right page.cuts (x == 32 && (not (before == 32) && not (is_empty cs))) e in
+    let b = and_right (x == 32) (not (before == 32) && not (is_empty cs)) a in
+    record {
+      space = equal_from x 32 (and_left (x == 32) (not (before == 32) && not (is_empty cs)) a);
+      behind = differs_from before 32 (not_true (before == 32) (and_left (not (before == 32)) (not (is_empty cs)) b));
+      more = not_true (is_empty cs) (and_right (not (before == 32)) (not (is_empty cs)) b);
+    }
+
+space_needs_none : (unicode : Bool) → needs_escape unicode 32 ≡ false
+unfolding needs_escape
+space_needs_none true = refl
+space_needs_none false = refl
+
+or_left : (a b : Bool) → (a || b) ≡ false → a ≡ false
+or_left false b e = refl
+or_left true b e = absurd (cc)
+
+or_right : (a b : Bool) → (a || b) ≡ false → b ≡ false
+or_right false b e = e
+or_right true b e = absurd (cc)
+
+both_false : (a b : Bool) → a ≡ false → b ≡ false → (a || b) ≡ false
+both_false false b p q = q
+both_false true b p q = absurd (cc)
+
+tab_needs : (unicode : Bool) → needs_escape unicode 9 ≡ true
+unfolding needs_escape
+tab_needs true = refl
+tab_needs false = refl
+
+zero_needs : (unicode : Bool) → needs_escape unicode 0 ≡ true
+unfolding needs_escape
+zero_needs true = refl
+zero_needs false = refl
+
+raw_no_zero : (unicode : Bool) (c : ℕ) → needs_escape unicode c ≡ false → (c == 0) ≡ false
+raw_no_zero unicode c e =
+    bool_cases (c == 0)
+    (λ t. let P : ℕ → Type 0 = λ k. needs_escape unicode k ≡ false in
+    let g : needs_escape unicode 0 ≡ false = subst P (equal_from c 0 t) e in
+    let h = zero_needs unicode in absurd (cc (sym h ∙ g)))
+    (λ f. f)
+
+four_stand : (s a b d f : Bool) → s ≡ true → a ≡ false → b ≡ false → d ≡ false → f ≡ false → (s && not (a || b || d || f)) ≡ true
+four_stand s a b d f o p q r t = rw (o, p, q, r, t) refl
+
+raw_stands : (unicode : Bool) (c : ℕ) → scalar c ≡ true → needs_escape unicode c ≡ false → may_stand (raw c) ≡ true
+unfolding needs_escape
+raw_stands unicode c s e =
+    let no_slash = or_right _ (c == 92) e in
+    let a = or_left _ (c == 92) e in
+    let no_quote = or_right _ (c == 34) a in
+    let b = or_left _ (c == 34) a in
+    let no_break = or_right _ (is_break c) b in
+    four_stand (scalar c) (is_break c) (c == 34) (c == 92) (c == 0) s no_break no_quote no_slash (raw_no_zero unicode c e)
+
+indents : (n : ℕ) → 0 < n → nat_lt 0 n ≡ true
+indents n h = grind (arith, nat_tests)
+
+raw_no_tab : (unicode : Bool) (c : ℕ) → needs_escape unicode c ≡ false → c ≢ 32 → is_raw_blank (raw c) ≡ false
+raw_no_tab unicode c e n =
+    let no_space = apart_from c 32 n in
+    let no_tab : (c == 9) ≡ false = bool_cases (c == 9)
+    (λ t. let P : ℕ → Type 0 = λ k. needs_escape unicode k ≡ false in
+    let Q : needs_escape unicode 9 ≡ true = tab_needs unicode in
+    let R : needs_escape unicode 9 ≡ false = subst P (equal_from c 9 t) e in absurd (cc (sym Q ∙ R)))
+    (λ f. f) in
+    both_false (c == 32) (c == 9) no_space no_tab
+
+follow_fold : (last : Part) (k : LineBreak) (n : ℕ) → is_raw_blank last ≡ false → is_fold last ≡ false → may_follow last (fold k n) ≡ true
+follow_fold last k n a b = rw (a, b) refl
+
+no_and : (a : Bool) → not (a && false) ≡ true
+no_and true = refl
+no_and false = refl
+
+follow_other : (last p : Part) → is_fold p ≡ false → is_raw_blank p ≡ false → may_follow last p ≡ true
+follow_other last p a b = rw (a, b) (no_and (is_fold last))
+
+follow_raw : (last p : Part) → is_fold p ≡ false → is_fold last ≡ false → may_follow last p ≡ true
+follow_raw last p a b = rw (a, b) refl
+
+fold_means : (p : Part) → is_fold p ≡ true → meant p ≡ 32
+fold_means (fold b n) e = refl
+fold_means (raw c) e = absurd (cc)
+fold_means (escape c) e = absurd (cc)
+fold_means escaped_space e = refl
+
+-- a part more in front
+part_more : (page : Page) (before x : ℕ) (c d : Cursor) (cs : List ℕ) (slash slash' : Bool) (last p : Part)
+    → may_follow last p ≡ true → may_stand p ≡ true → meant p ≡ x
+    → ((rest : Rest) → slashed slash (quoted_char page before x cs c rest) ≡ in_front (spelled p) (slashed slash' (rest d)))
+    → Left page x d slash' p cs → Left page before c slash last (x ∷ cs)
+unfolding IsSpelling quoted_body spelling meaning
+part_more page before x c d cs slash slash' last p follow stand same step r = record {
+  parts = p ∷ r.parts;
+  behind = r.behind;
+  right = (follow, stand, r.right);
+  text = λ rest. step (λ k. quoted_body page x cs k rest) ∙ ap (in_front (spelled p)) (r.text rest) ∙ sym (in_front_append (spelled p) (spelling r.parts) (rest r.behind));
+  means = ap (λ k. k ∷ cs) (sym same) ∙ ap (λ t. meant p ∷ t) r.means;
+}
+
+slashed_by : (b : Bool) (t : List Item) → b ≡ false → slashed b t ≡ t
+slashed_by b t e = cond_false b (letter 92 ∷ t) t e
+
+slashed_is : (b : Bool) (t : List Item) → b ≡ true → slashed b t ≡ letter 92 ∷ t
+slashed_is b t e = cond_true b (letter 92 ∷ t) t e
+
+-- steps of a part
+
+step_fold : (page : Page) (before x : ℕ) (c : Cursor) (cs : List ℕ) (slash : Bool) → slash ≡ false → may_fold page before x cs ≡ true → is_past page.width c ≡ true
+    → (rest : Rest) → slashed slash (quoted_char page before x cs c rest) ≡ in_front (spelled (fold page.line_break page.indentation)) (slashed (first cs == 32) (rest (after_fold page cs c)))
+step_fold page before x c cs slash s m p rest = slashed_by slash _ s ∙ char_fold page before x cs c rest m p ∙ fold_is page cs c rest
+
+step_char : (page : Page) (before x : ℕ) (c : Cursor) (cs : List ℕ) (slash : Bool) → slash ≡ false → ((rest : Rest) → quoted_char page before x cs c rest ≡ char x c rest)
+    → (rest : Rest) → slashed slash (quoted_char page before x cs c rest) ≡ in_front (spelled (raw x)) (slashed false (rest (moved_by c)))
+unfolding in_front
+step_char page before x c cs slash s plain rest = slashed_by slash _ s ∙ plain rest
+
+step_slash : (page : Page) (before x : ℕ) (c : Cursor) (cs : List ℕ) (slash : Bool) → slash ≡ true → x ≡ 32 → ((rest : Rest) → quoted_char page before x cs c rest ≡ char x c rest)
+    → (rest : Rest) → slashed slash (quoted_char page before x cs c rest) ≡ in_front (spelled escaped_space) (slashed false (rest (moved_by c)))
+unfolding in_front
+step_slash page before x c cs slash s e plain rest = slashed_is slash _ s ∙ ap (λ t. letter 92 ∷ t) (plain rest) ∙ ap (λ k. letter 92 ∷ letter k ∷ rest (moved_by c)) e
+
+step_escape : (page : Page) (before x : ℕ) (c : Cursor) (cs : List ℕ) (slash : Bool) → slash ≡ false → may_fold page before x cs ≡ false → needs_escape page.unicode x ≡ true
+    → (rest : Rest) → slashed slash (quoted_char page before x cs c rest) ≡ in_front (spelled (escape x)) (slashed false (rest (after_letters (escape_text x) c)))
+step_escape page before x c cs slash s m n rest = slashed_by slash _ s ∙ char_escape page before x cs c rest m n ∙ letters_are (escape_text x) c rest
+
+-- a space that is written as it is, or behind a backslash
+space_char : (page : Page) (before x : ℕ) (cs : List ℕ) (c : Cursor) → x ≡ 32 → (may_fold page before x cs && is_past page.width c) ≡ false → (rest : Rest) → quoted_char page before x cs c rest ≡ char x c rest
+space_char page before x cs c e f rest =
+    let P : ℕ → Type 0 = λ k. needs_escape page.unicode k ≡ false in
+    bool_cases (may_fold page before x cs)
+    (λ m. bool_cases (is_past page.width c) (λ p. let g = both_true (may_fold page before x cs) (is_past page.width c) m p in absurd (cc (sym g ∙ f))) (λ p. char_not_past page before x cs c rest m p))
+    (λ m. char_plain page before x cs c rest m (subst P (sym e) (space_needs_none page.unicode)))
+
+no_fold : (page : Page) (before x : ℕ) (cs : List ℕ) → (x == 32) ≡ false → may_fold page before x cs ≡ false
+no_fold page before x cs e =
+    bool_cases (may_fold page before x cs)
+    (λ t. let needs = fold_needs page before x cs t in absurd (differs_from x 32 e needs.space))
+    (λ f. f)
+
+left : (page : Page) (before : ℕ) (c : Cursor) (slash : Bool) (last : Part) (value : List ℕ) → all_scalars value ≡ true → 0 < page.indentation → Behind before slash last value → Left page before c slash last value
+unfolding IsSpelling quoted_body spelling meaning in_front
+left page before c slash last [] good deep h =
+    let unfolded : is_fold last ≡ false = bool_cases (is_fold last) (λ t. let k = (h.folded t).1 in absurd (cc k)) (λ f. f) in
+    record { parts = []; behind = c; right = unfolded; text = λ rest. slashed_by slash (rest c) (h.unfolded unfolded); means = refl }
+left page before c slash last (x ∷ cs) good deep h =
+    let one : scalar x ≡ true = and_left (scalar x) (all_scalars cs) good in
+    let more : all_scalars cs ≡ true = and_right (scalar x) (all_scalars cs) good in
+    bool_cases (may_fold page before x cs && is_past page.width c)
+    (λ f.
+    let m = and_left (may_fold page before x cs) (is_past page.width c) f in
+    let p = and_right (may_fold page before x cs) (is_past page.width c) f in
+    let needs = fold_needs page before x cs m in
+    let unfolded : is_fold last ≡ false = bool_cases (is_fold last) (λ t. absurd (needs.behind (sym h.same ∙ fold_means last t))) (λ u. u) in
+    let unblank : is_raw_blank last ≡ false = bool_cases (is_raw_blank last) (λ t. absurd (needs.behind (h.blank t))) (λ u. u) in
+    part_more page before x c (after_fold page cs c) cs slash (first cs == 32) last (fold page.line_break page.indentation)
+    (follow_fold last page.line_break page.indentation unblank unfolded) (indents page.indentation deep) (sym needs.space)
+    (step_fold page before x c cs slash (h.unfolded unfolded) m p)
+    (left page x (after_fold page cs c) (first cs == 32) (fold page.line_break page.indentation) cs more deep
+    (record { same = sym needs.space; folded = λ t. (refl, needs.more); unfolded = λ t. absurd (cc); blank = λ t. needs.space })))
+    (λ f.
+    bool_cases (x == 32)
+    (λ sp.
+    let space = equal_from x 32 sp in
+    let P : ℕ → Type 0 = λ k. needs_escape page.unicode k ≡ false in
+    bool_cases (is_fold last)
+    (λ t.
+    part_more page before x c (moved_by c) cs slash false last escaped_space (follow_other last escaped_space refl refl) refl (sym space)
+    (step_slash page before x c cs slash ((h.folded t).0 ∙ sp) space (space_char page before x cs c space f))
+    (left page x (moved_by c) false escaped_space cs more deep (record { same = sym space; folded = λ e. absurd (cc); unfolded = λ e. refl; blank = λ e. absurd (cc) })))
+    (λ u.
+    part_more page before x c (moved_by c) cs slash false last (raw x) (follow_raw last (raw x) refl u) (raw_stands page.unicode x one (subst P (sym space) (space_needs_none page.unicode))) refl
+    (step_char page before x c cs slash (h.unfolded u) (space_char page before x cs c space f))
+    (left page x (moved_by c) false (raw x) cs more deep (record { same = refl; folded = λ e. absurd (cc); unfolded = λ e. refl; blank = λ e. space }))))
+    (λ ns.
+    let apart = differs_from x 32 ns in
+    let m = no_fold page before x cs ns in
+    let unslashed : slash ≡ false = bool_cases (is_fold last) (λ t. (h.folded t).0 ∙ ns) (λ u. h.unfolded u) in
+    bool_cases (needs_escape page.unicode x)
+    (λ n.
+    part_more page before x c (after_letters (escape_text x) c) cs slash false last (escape x) (follow_other last (escape x) refl refl) one refl
+    (step_escape page before x c cs slash unslashed m n)
+    (left page x (after_letters (escape_text x) c) false (escape x) cs more deep (record { same = refl; folded = λ e. absurd (cc); unfolded = λ e. refl; blank = λ e. absurd (cc) })))
+    (λ n.
+    let unblank = raw_no_tab page.unicode x n apart in
+    part_more page before x c (moved_by c) cs slash false last (raw x) (follow_other last (raw x) refl unblank) (raw_stands page.unicode x one n) refl
+    (step_char page before x c cs slash unslashed (λ rest. char_plain page before x cs c rest m n))
+    (left page x (moved_by c) false (raw x) cs more deep (record { same = refl; folded = λ e. absurd (cc); unfolded = λ e. refl; blank = λ e. absurd (cc (sym e ∙ unblank)) })))))
+
+pub quoted-spells : (page : Page) (c : Cursor) (value : List ℕ) → all_scalars value ≡ true → 0 < page.indentation → Spells (quoted_body page 32 value) c value
+quoted-spells page c value good deep =
+    let r = left page 32 c false (raw 32) value good deep (record { same = refl; folded = λ e. absurd (cc); unfolded = λ e. refl; blank = λ e. refl }) in
+    record { parts = r.parts; behind = r.behind; right = r.right; spelled = r.text; meant = r.means }

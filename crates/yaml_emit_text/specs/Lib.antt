@@ -1,0 +1,5 @@
+pub mod Settings
+pub mod Text
+pub mod Layout
+pub mod Appends
+pub mod Sink

@@ -1,0 +1,49 @@
+//! Bytes at the end of the output.
+
+ghost use Rattle.std.specs.Prelude.{◌≡◌, ◌≢◌, ◌<◌, ◌≤◌, ◌+◌, ◌^◌, length, if◌then◌else◌};
+ghost use Rattle.yaml_emit_text.specs.Appends.{AppendsBy, moved};
+
+use crate::cursor::{Cursor, Status};
+
+// These bytes, as far as the limit and the memory allow, and what becomes of the output.
+pub(crate) fn append(output: &mut Vec<u8>, limit: u64, bytes: &[u8]) -> Status
+    requires { length output.old.items ≤ limit }
+    ensures bytes { AppendsBy result limit output.old.items output.new.items bytes.now }
+    ensures within { length output.new.items ≤ limit }
+    ensures longer { length output.old.items ≤ length output.new.items }
+    ensures going { result ≡ Status.Going → length output.new.items ≡ length output.old.items + length bytes.now }
+{
+    let room = limit - output.len() as u64;
+    if bytes.len() as u64 <= room {
+        match output.extend_from_slice(bytes) {
+            Ok(_) => Status::Going,
+            Err(_) => Status::Starved,
+        }
+    } else {
+        match output.extend_from_slice(&bytes[..room as usize]) {
+            Ok(_) => Status::Full,
+            Err(_) => Status::Starved,
+        }
+    }
+}
+
+// A column further, or at the start of a line.
+fn next_column(ends: bool, column: u64) -> u64
+    requires { column < 2 ^ 63 }
+    ensures { result ≡ (if ends then 0 else column + 1) }
+{
+    if ends { 0 } else { column + 1 }
+}
+
+// The cursor behind a character.
+pub(crate) fn moved(at: Cursor, ends: bool, white: bool, bare: bool) -> Cursor
+    requires { at.column < 2 ^ 63 }
+    ensures { result ≡ moved at ends white bare }
+{
+    Cursor {
+        column: next_column(ends, at.column),
+        white,
+        bare,
+        kept: at.kept,
+    }
+}

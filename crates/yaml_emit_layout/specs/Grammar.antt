@@ -1,5 +1,6 @@
 -- Which lists of events an emitter takes, and which event it refuses first.
-use Rattle.std.specs.Prelude.{ℕ, ◌-◌, Bool, true, false, not, ◌&&◌, ◌||◌, ◌==◌, nat_le, if◌then◌else◌, List, [], ◌∷◌, ◌++◌, length, take, drop, Option, Some, None, pos, ◌≡◌}
+use Rattle.std.specs.Prelude.{ℕ, ◌-◌, Bool, true, false, not, ◌&&◌, ◌||◌, ◌==◌, nat_le, if◌then◌else◌, List, [], ◌∷◌, ◌++◌, length, take, drop, Option, Some, None, pos, nat_eq}
+use Rattle.std.specs.Cmp.Lexicographic.{pointwise}
 use Rattle.std.specs.List.{list_all, list_any}
 use Rattle.std.specs.Ordering.{int_eq}
 use Rattle.yaml_scan.specs.Classes.{is_alpha_byte}
@@ -97,7 +98,7 @@ abbrev pub prefix_problem : List ℕ → Option Problem
 prefix_problem p = if length p == 0 then Some problem.PrefixEmpty else None
 
 abbrev pub has_handle : List ℕ → TagDirective → Bool
-has_handle h d = list_eq h d.handle
+has_handle h d = pointwise nat_eq h d.handle
 
 -- no handle twice
 abbrev pub twice_problem : List TagDirective → List ℕ → Option Problem

@@ -1,14 +1,20 @@
 -- The layouts: canonical and pretty.
-use Rattle.std.specs.Prelude.{ℕ, ◌+◌, ◌-◌, Bool, true, false, not, ◌&&◌, ◌||◌, nat_le, nat_lt, if◌then◌else◌, List, [], ◌∷◌, length, Option, Some, None}
-use Rattle.std.specs.List.{list_any}
-use Rattle.yaml_scan.specs.declared.yaml_encoding_t.{yaml_encoding_t}
-use Rattle.yaml_scan.specs.declared.yaml_scalar_style_t.{yaml_scalar_style_t}
+use Rattle.std.specs.Prelude.{ℕ, ◌+◌, ◌-◌, Bool, true, false, not, ◌&&◌, ◌||◌, nat_le, nat_lt, if◌then◌else◌, List, [], ◌∷◌, length, Option, Some, None, pos, codes, zero, suc}
+use Rattle.std.specs.Ordering.{int_eq}
+use Rattle.std.specs.Str.{chars}
+use Rattle.yaml_scan.specs.Classes.{is_break}
 use Rattle.yaml_scan.specs.declared.yaml_version_directive_t.{yaml_version_directive_t}
 use Rattle.yaml_parse_model.specs.Events.{TagDirective}
-use Rattle.yaml_emit_text.specs.declared.sink.Cursor.{Cursor}
-use Rattle.yaml_emit_text.specs.declared.settings.Settings.{Settings}
-use Rattle.yaml_emit_text.specs.declared.settings.LineBreak.{LineBreak}
-use Rattle.yaml_emit_text.specs.Layout.{Layout, ◌▹◌, stay, choose, when, char, letters, word, gap, indicator, opener, line, wrap, keep, too_deep, order_mark}
+use Rattle.yaml_emit_text.specs.declared.Cursor.{Cursor}
+use Rattle.yaml_emit_text.specs.declared.Settings.{Settings}
+use Rattle.yaml_emit_text.specs.declared.Page.{Page}
+use Rattle.yaml_emit_text.specs.declared.Style.{Style}
+use Rattle.yaml_emit_text.specs.declared.Style.TheVariants as style
+use Rattle.yaml_emit_text.specs.Text.{Item, deep}
+use Rattle.yaml_emit_text.specs.Style.{allowed, taken}
+use Rattle.yaml_emit_text.specs.Scalars.{scalar_text}
+use Rattle.yaml_emit_text.specs.Tags.{tag_spelling, tag_size, uri_text, prefix_keeps}
+use Rattle.yaml_emit_text.specs.Layout.{Layout, ◌▹◌, stay, choose, when, char, word, indicator, opener, line, wrap, keep, order_mark}
 use Rattle.yaml_emit_layout.specs.declared.level.Part.{Part}
 use Rattle.yaml_emit_layout.specs.declared.level.Part.TheVariants as part
 use Rattle.yaml_emit_layout.specs.declared.level.Spot.{Spot}
@@ -71,11 +77,18 @@ abbrev pub is_empty : List ℕ → Bool
 is_empty [] = true
 is_empty (c ∷ cs) = false
 
+abbrev pub is_plain : Style → Bool
+is_plain style.Plain = true
+is_plain style.Single = false
+is_plain style.Double = false
+is_plain style.Literal = false
+is_plain style.Folded = false
+
 -- canonical form double quotes all scalars
 unfoldable pub style_of : Context → Spot → Scalar → Style
 style_of p at x =
     if p.settings.canonical then style.Double
-    else taken (allowed p.settings.unicode x.value) (style_asked x.style) (has (scalar_tag false x) || x.plain) at.flow (is_simple_part at.part) (is_empty x.value)
+    else taken (allowed p.settings.unicode (chars x.value)) x.style (has (scalar_tag false x) || x.plain) at.flow (is_simple_part at.part) (is_empty x.value)
 
 -- an untagged scalar that may not be quoted has `!` in front, unless it is plain
 abbrev pub mark_text : Context → Scalar → Style → Layout
@@ -88,7 +101,7 @@ page_at s at = record { width = s.width; indentation = deeper s at.around; unico
 unfoldable pub scalar_layout : Context → Spot → Scalar → Layout
 scalar_layout p at x =
     properties_text p x.anchor (scalar_tag p.settings.canonical x) ▹ mark_text p x (style_of p at x) ▹ checked (deeper p.settings at.around)
-    ▹ scalar_text (page_at p.settings at) p.settings.indent at.flow (style_of p at x) x.value
+    ▹ scalar_text (page_at p.settings at) p.settings.indent at.flow (style_of p at x) (chars x.value)
 
 -- an alias as a simple key has a space behind it
 unfoldable pub alias_layout : Spot → List ℕ → Layout
@@ -105,6 +118,15 @@ written_size p (Some t) = tag_size p.directives t
 -- bytes of the anchor, and of the tag's handle and suffix before they are escaped
 abbrev pub properties_size : Context → Option (List ℕ) → Option (List ℕ) → ℕ
 properties_size p anchor tag = text_size anchor + written_size p tag
+
+-- one of the first n numbers passes a test
+unfoldable pub any_below : ℕ → (ℕ → Bool) → Bool
+any_below zero p = false
+any_below (suc n) p = any_below n p || p n
+
+-- somewhere a line break begins
+abbrev pub has_break : List ℕ → Bool
+has_break value = any_below (length value) (is_break value)
 
 -- a simple key has no break, and at most 128 bytes of anchor, tag and value; canonical form has none
 unfoldable pub is_simple_scalar : Context → Scalar → Bool
@@ -223,7 +245,7 @@ version_text s (Some v) = word (codes "%YAML") ▹ word (version_word v) ▹ lin
 
 -- `%TAG`, the handle and the prefix
 abbrev pub directive_text : Settings → TagDirective → Layout
-directive_text s d = word (codes "%TAG") ▹ word d.handle ▹ word (prefix_spelling d.prefix) ▹ line_at s 0
+directive_text s d = word (codes "%TAG") ▹ word d.handle ▹ word (uri_text prefix_keeps d.prefix) ▹ line_at s 0
 
 unfoldable pub directives_text : Settings → List TagDirective → Layout
 directives_text s [] = stay

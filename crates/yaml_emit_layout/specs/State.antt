@@ -1,8 +1,8 @@
 -- Where an emitter stands, and what it writes for an event.
 use Rattle.std.specs.Prelude.{ℕ, Bool, true, false, not, ◌&&◌, ◌||◌, if◌then◌else◌, List, [], ◌∷◌, Option, Some, None}
 use Rattle.yaml_parse_model.specs.Events.{TagDirective}
-use Rattle.yaml_emit_text.specs.declared.sink.Cursor.{Cursor}
-use Rattle.yaml_emit_text.specs.declared.settings.Settings.{Settings}
+use Rattle.yaml_emit_text.specs.declared.Cursor.{Cursor}
+use Rattle.yaml_emit_text.specs.declared.Settings.{Settings}
 use Rattle.yaml_emit_text.specs.Layout.{Layout, ◌▹◌, stay, when, opener, order_mark}
 use Rattle.yaml_emit_layout.specs.declared.problem.Problem.{Problem}
 use Rattle.yaml_emit_layout.specs.declared.level.Part.{Part}

@@ -2,7 +2,7 @@
 use Rattle.std.specs.Prelude.{ℕ, Bool, true, false, List, [], ◌∷◌}
 use Rattle.yaml_scan.specs.declared.yaml_encoding_t.{yaml_encoding_t}
 use Rattle.yaml_parse_model.specs.Events.{TagDirective}
-use Rattle.yaml_emit_text.specs.declared.settings.Settings.{Settings}
+use Rattle.yaml_emit_text.specs.declared.Settings.{Settings}
 use Rattle.yaml_emit_text.specs.Layout.{Layout, ◌▹◌, stay}
 use Rattle.yaml_emit_layout.specs.declared.level.Part.TheVariants as part
 use Rattle.yaml_emit_layout.specs.declared.level.Level.{Level}

@@ -1,3 +1,4 @@
+pub mod Constructors
 pub mod Events
 pub mod Nodes
 pub mod Prefix

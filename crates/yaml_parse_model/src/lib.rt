@@ -1,12 +1,21 @@
 //! What a parser gives and takes: events, nodes, the source of its tokens, and the constructors of events.
 #![tactic(auto)]
 
+mod constructor;
 mod event;
 mod node;
 mod prefix;
 mod source;
 mod state;
+mod text;
 
+pub use constructor::{
+    yaml_alias_event_initialize, yaml_document_end_event_initialize,
+    yaml_document_start_event_initialize, yaml_event_utf8, yaml_mapping_end_event_initialize,
+    yaml_mapping_start_event_initialize, yaml_scalar_event_initialize,
+    yaml_sequence_end_event_initialize, yaml_sequence_start_event_initialize,
+    yaml_stream_end_event_initialize, yaml_stream_start_event_initialize,
+};
 pub use event::{yaml_event_body_t, yaml_event_delete, yaml_event_t};
 pub use node::{
     yaml_alias_data_t, yaml_node_body_t, yaml_node_item_t, yaml_node_pair_t, yaml_node_t,
@@ -14,3 +23,7 @@ pub use node::{
 pub use prefix::{yaml_parser_t_prefix, yaml_text_fault_t};
 pub use source::yaml_token_source_t;
 pub use state::yaml_parser_state_t;
+pub use text::{are_utf8, copy_directives, copy_text, copy_text_option, is_utf8_option};
+
+#[cfg(test)]
+mod tests;

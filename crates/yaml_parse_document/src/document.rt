@@ -1,0 +1,172 @@
+//! Documents: making one, and its readers.
+
+ghost use Rattle.std.specs.Prelude.{◌≡◌, map, option_map, pos};
+ghost use Rattle.yaml_parse_model.specs.Events.{directive_of};
+ghost use Rattle.yaml_parse_model.specs.Nodes.{node_of};
+ghost use Rattle.yaml_parse_document.specs.Documents.{no_document, node_at, IsNewDocument, new_document};
+
+mod adding;
+
+pub use adding::{
+    yaml_document_add_mapping, yaml_document_add_scalar, yaml_document_add_sequence,
+    yaml_document_append_mapping_pair, yaml_document_append_sequence_item,
+};
+
+use std::alloc::Global;
+use std::marker::Model;
+use yaml_parse_model::{are_utf8, copy_directives, yaml_node_t, yaml_text_fault_t};
+use yaml_scan::{yaml_mark_t, yaml_tag_directive_t, yaml_version_directive_t};
+
+/// A document: its directives, and its nodes, which name each other by their numbers. The numbers count from 1, and
+/// the first node is the root. Its texts are UTF-8, and its numbers name its nodes.
+///
+/// A document keeps its allocator, so calls on it take none.
+#[derive(Drop)]
+pub struct yaml_document_t {
+    version_directive: Option<yaml_version_directive_t>,
+    tag_directives: Vec<yaml_tag_directive_t>,
+    start_implicit: bool,
+    end_implicit: bool,
+    start_mark: yaml_mark_t,
+    end_mark: yaml_mark_t,
+    nodes: Vec<yaml_node_t>,
+    alloc: Global,
+}
+
+impl Model for yaml_document_t {
+    ghost use Rattle.yaml_parse_document.specs.Documents.{Document};
+
+    ghost Value = { Document };
+
+    ghost use Rattle.yaml_parse_document.specs.Views.{document_view, IsDocumentInside};
+
+    ghost view = { document_view };
+
+    ghost invariant = { IsDocumentInside };
+}
+
+impl yaml_document_t {
+    /// The version that a `%YAML` directive names, if there is one.
+    pub fn version_directive(&self) -> Option<yaml_version_directive_t>
+        ensures { result ≡ self.now.version }
+    {
+        self.version_directive
+    }
+
+    /// The `%TAG` directives, in order.
+    pub fn tag_directives(&self) -> &[yaml_tag_directive_t]
+        ensures { map directive_of result.now ≡ self.now.directives }
+    {
+        &self.tag_directives
+    }
+
+    /// No `---` stands in front.
+    pub fn start_implicit(&self) -> bool
+        ensures { result ≡ self.now.start_implicit }
+    {
+        self.start_implicit
+    }
+
+    /// No `...` stands behind.
+    pub fn end_implicit(&self) -> bool
+        ensures { result ≡ self.now.end_implicit }
+    {
+        self.end_implicit
+    }
+
+    /// Where the document begins.
+    pub fn start_mark(&self) -> yaml_mark_t
+        ensures { result ≡ self.now.start_mark }
+    {
+        self.start_mark
+    }
+
+    /// Where the document ends.
+    pub fn end_mark(&self) -> yaml_mark_t
+        ensures { result ≡ self.now.end_mark }
+    {
+        self.end_mark
+    }
+}
+
+/// A document without nodes, with copies of the directives and zero marks. Where a text isn't UTF-8 the answer is
+/// `NotUtf8`, which is looked at before any growth.
+pub fn yaml_document_initialize(
+    alloc: Global,
+    version_directive: Option<yaml_version_directive_t>,
+    tag_directives: &[yaml_tag_directive_t],
+    start_implicit: bool,
+    end_implicit: bool,
+) -> Result<yaml_document_t, yaml_text_fault_t>
+    ensures { IsNewDocument (new_document version_directive (map directive_of tag_directives.now) start_implicit end_implicit) result }
+{
+    if !are_utf8(tag_directives) {
+        return Err(yaml_text_fault_t::NotUtf8);
+    }
+    let tag_directives = copy_directives(alloc, tag_directives)?;
+    let zero = yaml_mark_t {
+        index: 0,
+        line: 0,
+        column: 0,
+    };
+    Ok(yaml_document_t {
+        version_directive,
+        tag_directives,
+        start_implicit,
+        end_implicit,
+        start_mark: zero,
+        end_mark: zero,
+        nodes: Vec::new(alloc),
+        alloc,
+    })
+}
+
+/// The document that stands for the end of a stream: no root, no version, no directives, false flags, zero marks.
+pub fn no_document(alloc: Global) -> yaml_document_t
+    ensures { result ≡ no_document }
+{
+    let zero = yaml_mark_t {
+        index: 0,
+        line: 0,
+        column: 0,
+    };
+    yaml_document_t {
+        version_directive: None,
+        tag_directives: Vec::new(alloc),
+        start_implicit: false,
+        end_implicit: false,
+        start_mark: zero,
+        end_mark: zero,
+        nodes: Vec::new(alloc),
+        alloc,
+    }
+}
+
+/// Spends the document.
+pub fn yaml_document_delete(document: yaml_document_t) {
+    drop(document);
+}
+
+/// Sets what `end_implicit` reads, and nothing else.
+pub fn yaml_document_set_end_implicit(document: &mut yaml_document_t, end_implicit: bool)
+    ensures { document.new ≡ record document.old { end_implicit = end_implicit } }
+{
+    document.end_implicit = end_implicit;
+}
+
+/// The node under a number; numbers count from 1.
+pub fn yaml_document_get_node(document: &yaml_document_t, index: i32) -> Option<&yaml_node_t>
+    ensures { option_map (λ n. node_of n.now) result ≡ node_at document.now.nodes index }
+{
+    if index < 1 {
+        return None;
+    }
+    document.nodes.get((index - 1) as usize)
+}
+
+/// The root, if the document has one: its first node.
+pub fn yaml_document_get_root_node(document: &yaml_document_t) -> Option<&yaml_node_t>
+    ensures { option_map (λ n. node_of n.now) result ≡ node_at document.now.nodes (pos 1) }
+{
+    document.nodes.first()
+}

@@ -1,0 +1,186 @@
+//! Adding nodes to a document, and items and pairs to its collections.
+
+ghost use Rattle.std.specs.Prelude.{◌≡◌, ◌<◌, ◌≤◌, ◌++◌, ◌∷◌, [], pos, suc, length, option_map, IsSome, IsUtf8, MatchResult};
+ghost use Rattle.yaml_parse_model.specs.Constructors.{IsUtf8Option};
+ghost use Rattle.yaml_parse_model.specs.Nodes.{node_of, body_of};
+ghost use Rattle.yaml_parse_document.specs.Documents.{node_at, unplaced, new_scalar, new_sequence, new_mapping, with_node, Adds, Appends, change_body, with_item, with_pair, tag_or, IsSequenceAt, IsMappingAt, IsSequenceBody, IsMappingBody, IsSoundNode, IsSoundBody};
+
+use super::yaml_document_t;
+use simdutf8::is_utf8;
+use std::alloc::Global;
+use yaml_parse_model::{
+    copy_text, is_utf8_option, yaml_node_body_t, yaml_node_item_t, yaml_node_pair_t, yaml_node_t,
+    yaml_text_fault_t,
+};
+use yaml_scan::{
+    yaml_mapping_style_t, yaml_mark_t, yaml_scalar_style_t, yaml_sequence_style_t,
+};
+
+/// A list of a document has at most this many entries.
+pub const MAX_ENTRIES: usize = 2_147_483_647;
+
+// One entry more at the end of a list of a document.
+pub fn push_entry<T: Drop>(entries: &mut Vec<T>, entry: T) -> Result<(), yaml_text_fault_t>
+    ensures { MatchResult result
+        (λ _. (entries.new.items ≡ entries.old.items ++ entry ∷ []) × (length entries.old.items < 2147483647))
+        (λ f. (entries.new.items ≡ entries.old.items) × (f ≡ yaml_text_fault_t.Memory)) }
+{
+    if entries.len() >= MAX_ENTRIES {
+        return Err(yaml_text_fault_t::Memory);
+    }
+    match entries.push(entry) {
+        Ok(()) => Ok(()),
+        Err(_) => Err(yaml_text_fault_t::Memory),
+    }
+}
+
+// A copy of the tag that is given, else of the default tag.
+fn tag_or_default(
+    alloc: Global,
+    tag: Option<&[u8]>,
+    default: &[u8],
+) -> Result<Vec<u8>, yaml_text_fault_t>
+    ensures { MatchResult result (λ copy. copy.items ≡ tag_or (option_map (λ t. t.now) tag.entry) default.now) (λ f. f ≡ yaml_text_fault_t.Memory) }
+{
+    match tag {
+        None => copy_text(alloc, default),
+        Some(tag) => copy_text(alloc, tag),
+    }
+}
+
+// A node with zero marks.
+fn unplaced_node(body: yaml_node_body_t, tag: Vec<u8>) -> yaml_node_t
+    ensures { node_of result ≡ unplaced (body_of body) tag.items }
+{
+    let zero = yaml_mark_t {
+        index: 0,
+        line: 0,
+        column: 0,
+    };
+    yaml_node_t {
+        body,
+        tag,
+        start_mark: zero,
+        end_mark: zero,
+    }
+}
+
+// One node more, under the next number.
+fn add_node(document: &mut yaml_document_t, node: yaml_node_t) -> Result<i32, yaml_text_fault_t>
+    requires { IsSoundNode (length document.old.nodes) (node_of node) }
+    ensures { MatchResult result
+        (λ id. (document.new ≡ with_node document.old (node_of node)) × (id ≡ pos (suc (length document.old.nodes))))
+        (λ f. (document.new ≡ document.old) × (f ≡ yaml_text_fault_t.Memory)) }
+{
+    let count = document.nodes.len();
+    push_entry(&mut document.nodes, node)?;
+    Ok((count + 1) as i32)
+}
+
+/// Adds a scalar with copies of the texts, and gives its number. Without a tag it has `tag:yaml.org,2002:str`. A
+/// refused call leaves the document unchanged; that a text isn't UTF-8 is looked at before any growth.
+pub fn yaml_document_add_scalar(
+    document: &mut yaml_document_t,
+    tag: Option<&[u8]>,
+    value: &[u8],
+    style: yaml_scalar_style_t,
+) -> Result<i32, yaml_text_fault_t>
+    ensures { Adds document.old (new_scalar (option_map (λ t. t.now) tag.entry) value.now style) (IsUtf8Option (option_map (λ t. t.now) tag.entry) × IsUtf8 value.now) result document.new }
+{
+    if !is_utf8_option(tag) || !is_utf8(value) {
+        return Err(yaml_text_fault_t::NotUtf8);
+    }
+    let tag = tag_or_default(document.alloc, tag, b"tag:yaml.org,2002:str")?;
+    let value = copy_text(document.alloc, value)?;
+    add_node(document, unplaced_node(yaml_node_body_t::Scalar { value, style }, tag))
+}
+
+/// Adds an empty sequence with a copy of the tag, and gives its number. Without a tag it has
+/// `tag:yaml.org,2002:seq`. A refused call leaves the document unchanged.
+pub fn yaml_document_add_sequence(
+    document: &mut yaml_document_t,
+    tag: Option<&[u8]>,
+    style: yaml_sequence_style_t,
+) -> Result<i32, yaml_text_fault_t>
+    ensures { Adds document.old (new_sequence (option_map (λ t. t.now) tag.entry) style) (IsUtf8Option (option_map (λ t. t.now) tag.entry)) result document.new }
+{
+    if !is_utf8_option(tag) {
+        return Err(yaml_text_fault_t::NotUtf8);
+    }
+    let tag = tag_or_default(document.alloc, tag, b"tag:yaml.org,2002:seq")?;
+    let items = Vec::new(document.alloc);
+    add_node(document, unplaced_node(yaml_node_body_t::Sequence { items, style }, tag))
+}
+
+/// Adds an empty mapping with a copy of the tag, and gives its number. Without a tag it has
+/// `tag:yaml.org,2002:map`. A refused call leaves the document unchanged.
+pub fn yaml_document_add_mapping(
+    document: &mut yaml_document_t,
+    tag: Option<&[u8]>,
+    style: yaml_mapping_style_t,
+) -> Result<i32, yaml_text_fault_t>
+    ensures { Adds document.old (new_mapping (option_map (λ t. t.now) tag.entry) style) (IsUtf8Option (option_map (λ t. t.now) tag.entry)) result document.new }
+{
+    if !is_utf8_option(tag) {
+        return Err(yaml_text_fault_t::NotUtf8);
+    }
+    let tag = tag_or_default(document.alloc, tag, b"tag:yaml.org,2002:map")?;
+    let pairs = Vec::new(document.alloc);
+    add_node(document, unplaced_node(yaml_node_body_t::Mapping { pairs, style }, tag))
+}
+
+// One item more in a sequence.
+fn push_item(node: &mut yaml_node_t, item: yaml_node_item_t) -> Result<(), yaml_text_fault_t>
+    ensures { MatchResult result
+        (λ _. node_of node.new ≡ record (node_of node.old) { body = with_item item (node_of node.old).body })
+        (λ f. (node_of node.new ≡ node_of node.old) × (f ≡ yaml_text_fault_t.Memory)) }
+{
+    match &mut node.body {
+        yaml_node_body_t::Sequence { items, .. } => push_entry(items, item),
+        _ => Ok(()),
+    }
+}
+
+// One pair more in a mapping.
+fn push_pair(node: &mut yaml_node_t, pair: yaml_node_pair_t) -> Result<(), yaml_text_fault_t>
+    ensures { MatchResult result
+        (λ _. node_of node.new ≡ record (node_of node.old) { body = with_pair pair (node_of node.old).body })
+        (λ f. (node_of node.new ≡ node_of node.old) × (f ≡ yaml_text_fault_t.Memory)) }
+{
+    match &mut node.body {
+        yaml_node_body_t::Mapping { pairs, .. } => push_entry(pairs, pair),
+        _ => Ok(()),
+    }
+}
+
+/// Appends an item to the sequence under a number. `yaml_document_get_node` tells whether a number names a node, and
+/// of which kind. The one refusal is `Memory`, and leaves the document unchanged.
+pub fn yaml_document_append_sequence_item(
+    document: &mut yaml_document_t,
+    sequence: i32,
+    item: i32,
+) -> Result<(), yaml_text_fault_t>
+    requires sequence { IsSequenceAt document.old sequence }
+    requires item { IsSome (node_at document.old.nodes item) }
+    ensures { Appends document.old (change_body (with_item item) sequence document.old) result document.new }
+{
+    push_item(&mut document.nodes[(sequence - 1) as usize], item)
+}
+
+/// Appends a pair to the mapping under a number. The one refusal is `Memory`, and leaves the document unchanged.
+pub fn yaml_document_append_mapping_pair(
+    document: &mut yaml_document_t,
+    mapping: i32,
+    key: i32,
+    value: i32,
+) -> Result<(), yaml_text_fault_t>
+    requires mapping { IsMappingAt document.old mapping }
+    requires key { IsSome (node_at document.old.nodes key) }
+    requires value { IsSome (node_at document.old.nodes value) }
+    ensures { Appends document.old (change_body (with_pair (record { key = key; value = value })) mapping document.old) result document.new }
+{
+    push_pair(
+        &mut document.nodes[(mapping - 1) as usize],
+        yaml_node_pair_t { key, value },
+    )
+}

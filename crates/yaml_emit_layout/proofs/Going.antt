@@ -11,7 +11,7 @@ use Rattle.yaml_emit_layout.specs.declared.level.Spot.{Spot}
 use Rattle.yaml_emit_layout.specs.Content.{Start, Node, alias_node, scalar_node, sequence_node, mapping_node, Nodes, no_nodes, node, Pairs, no_pairs, pair, Document, Event, stream_start, stream_end, document_start, document_end, alias, scalar, sequence_start, sequence_end, mapping_start, mapping_end, node_events, items_events, pairs_events, documents_events}
 use Rattle.yaml_emit_layout.specs.Grammar.{place_problem, node_problem, begins_node, ends_phase}
 use Rattle.yaml_emit_layout.specs.Nodes.{Context, context_of, spot, root_spot, key_part, is_simple, is_simple_alias, is_simple_scalar, is_simple_start, is_flow, indent_of, are_none, are_no_pairs, node_layout, items_layout, pairs_layout, stream_layout, documents_layout}
-use Rattle.yaml_emit_layout.specs.State.{State, next, next_at, piece, piece_at, opens_empty, is_simple_event, top_of, spot_of, before_node, levels_behind, phase_behind, among, start_text}
+use Rattle.yaml_emit_layout.specs.State.{State, next, next_at, piece, text_at, depth_at, opens_empty, is_simple_event, top_of, spot_of, before_node, levels_behind, phase_behind, among, start_text}
 use Rattle.yaml_emit_layout.specs.ToCome.{Frame, items_left, pairs_left, value_left, ToCome, stream, documents, root, frames, nothing, levels_of, state_of, events, frame_events, frames_events, ending_events, layout, frame_layout, frames_layout}
 
 -- an event at a state, by whether it opens an empty collection, and what comes behind it
@@ -58,7 +58,7 @@ from_same s st e e' b es es' k h w g =
 
 node_goes : (s : Settings) (g : List TagDirective) (ls : List Level) (outer : List Frame) (implicit : Bool) (ds : List Document) (e : Event) (es : List Event) (v : Node) (k : ToCome)
     → Spotted s g ls outer implicit ds v k → e ∷ es ≡ node_events v (frames_events outer (ending_events implicit ds)) → Goes s (record { place = at.Node; levels = ls; directives = g }) e (opens_empty e es) es k
-unfolding node_events is_simple is_simple_event node_layout piece_at next_at state_of events layout place_problem opens_empty levels_of frames_events frames_layout frame_layout frame_events
+unfolding node_events is_simple is_simple_event node_layout text_at depth_at next_at state_of events layout place_problem opens_empty levels_of frames_events frames_layout frame_layout frame_events
 node_goes s g ls outer implicit ds e es (alias_node name) k h w =
     from_same s _ e (alias name) false es _ k w refl (record {
       rest = λ d. frames g outer implicit ds;
@@ -100,7 +100,7 @@ node_goes s g ls outer implicit ds e es (mapping_node q ps) k h w =
 
 frame_goes : (s : Settings) (g : List TagDirective) (f : Frame) (fs : List Frame) (implicit : Bool) (ds : List Document) (e : Event) (es : List Event)
     → e ∷ es ≡ events (frames g (f ∷ fs) implicit ds) → Goes s (state_of (frames g (f ∷ fs) implicit ds)) e (opens_empty e es) es (frames g (f ∷ fs) implicit ds)
-unfolding state_of events layout levels_of frames_events frame_events frames_layout frame_layout items_events pairs_events items_layout pairs_layout next_at piece_at place_problem phase_behind opens_empty
+unfolding state_of events layout levels_of frames_events frame_events frames_layout frame_layout items_events pairs_events items_layout pairs_layout next_at text_at depth_at place_problem phase_behind opens_empty
 frame_goes s g (items_left flow n fresh no_nodes) fs implicit ds e es w =
     from_same s _ e sequence_end false es _ _ w refl (record { rest = λ d. frames g fs implicit ds; there = refl; fits = λ d. refl; same = λ d. refl; text = λ c f. refl })
 frame_goes s g (items_left flow n fresh (node v ns)) fs implicit ds e es w =
@@ -114,11 +114,11 @@ frame_goes s g (value_left flow n simple v ps) fs implicit ds e es w =
 
 document_goes : (s : Settings) (first unended : Bool) (d : Document) (ds : List Document)
     → Goes s (state_of (documents first unended (d ∷ ds))) (document_start d.opening) false (node_events d.root (ending_events d.implicit_end ds)) (documents first unended (d ∷ ds))
-unfolding state_of events layout piece_at next_at place_problem documents_layout
+unfolding state_of events layout text_at depth_at next_at place_problem documents_layout
 document_goes s first unended d ds = record { rest = λ c. root d.opening.directives d.root d.implicit_end ds; there = refl; fits = λ c. refl; same = λ c. refl; text = λ c f. refl }
 
 pub goes : (s : Settings) (e : Event) (es : List Event) (k : ToCome) → e ∷ es ≡ events k → Goes s (state_of k) e (opens_empty e es) es k
-unfolding state_of events layout levels_of frames_events frames_layout next_at piece_at place_problem documents_events documents_layout stream_layout opens_empty
+unfolding state_of events layout levels_of frames_events frames_layout next_at text_at depth_at place_problem documents_events documents_layout stream_layout opens_empty
 goes s e es (stream x ds) w = from_same s _ e (stream_start x) false es _ _ w refl (record { rest = λ d. documents true false ds; there = refl; fits = λ d. refl; same = λ d. refl; text = λ c f. refl })
 goes s e es (documents first unended []) w = from_same s _ e stream_end false es _ _ w refl (record { rest = λ d. nothing; there = refl; fits = λ d. refl; same = λ d. refl; text = λ c f. refl })
 goes s e es (documents first unended (d ∷ ds)) w =

@@ -23,11 +23,13 @@ abbrev pub has : Option (List ℕ) → Bool
 has None = false
 has (Some t) = true
 
+abbrev pub kept_if : Bool → Option (List ℕ) → Option (List ℕ)
+kept_if true t = t
+kept_if false t = None
+
 -- a tag that is written: in pretty form one that may be left out isn't
 abbrev pub kept_tag : Bool → Bool → Option (List ℕ) → Option (List ℕ)
-kept_tag true left_out t = t
-kept_tag false true t = None
-kept_tag false false t = t
+kept_tag canonical left_out t = kept_if (canonical || not left_out) t
 
 abbrev pub scalar_tag : Bool → Scalar → Option (List ℕ)
 scalar_tag canonical x = kept_tag canonical (x.plain || x.quoted) x.tag

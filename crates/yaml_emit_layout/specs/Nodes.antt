@@ -1,5 +1,5 @@
 -- The layouts: canonical and pretty.
-use Rattle.std.specs.Prelude.{ℕ, ◌+◌, ◌-◌, Bool, true, false, not, ◌&&◌, ◌||◌, nat_le, nat_lt, if◌then◌else◌, List, [], ◌∷◌, length, Option, Some, None, pos, codes, zero, suc}
+use Rattle.std.specs.Prelude.{ℕ, ◌+◌, ◌-◌, Bool, true, false, not, ◌&&◌, ◌||◌, ◌==◌, nat_le, nat_lt, if◌then◌else◌, List, [], ◌∷◌, length, Option, Some, None, pos, codes, zero, suc}
 use Rattle.std.specs.Ordering.{int_eq}
 use Rattle.std.specs.Str.{chars}
 use Rattle.yaml_scan.specs.Classes.{is_break}
@@ -73,10 +73,6 @@ tag_text p (Some t) = word (tag_spelling p.directives t)
 abbrev pub properties_text : Context → Option (List ℕ) → Option (List ℕ) → Layout
 properties_text p anchor tag = anchor_text anchor ▹ tag_text p tag
 
-abbrev pub is_empty : List ℕ → Bool
-is_empty [] = true
-is_empty (c ∷ cs) = false
-
 abbrev pub is_plain : Style → Bool
 is_plain style.Plain = true
 is_plain style.Single = false
@@ -88,7 +84,7 @@ is_plain style.Folded = false
 unfoldable pub style_of : Context → Spot → Scalar → Style
 style_of p at x =
     if p.settings.canonical then style.Double
-    else taken (allowed p.settings.unicode (chars x.value)) x.style (has (scalar_tag false x) || x.plain) at.flow (is_simple_part at.part) (is_empty x.value)
+    else taken (allowed p.settings.unicode (chars x.value)) x.style (has (scalar_tag false x) || x.plain) at.flow (is_simple_part at.part) (length x.value == 0)
 
 -- an untagged scalar that may not be quoted has `!` in front, unless it is plain
 abbrev pub mark_text : Context → Scalar → Style → Layout

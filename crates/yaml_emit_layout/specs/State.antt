@@ -122,30 +122,44 @@ abbrev pub closer_at : Settings → Option Level → ℕ → Layout
 closer_at s None x = stay
 closer_at s (Some l) x = closer s l.flow l.indent (is_fresh l.phase) x
 
--- what opens a collection, by whether it is a sequence, whether it is flow, and the sign for that
-abbrev pub opening_text : Settings → Spot → Bool → Bool → ℕ → Layout
-opening_text s at sequence flow x = when flow (opener x) ▹ indented (indent_of s at sequence flow) checked
+-- what opens a collection: its anchor and tag, and the sign for flow
+abbrev pub start_text : Context → Spot → ℕ → Start → Bool → Layout
+start_text p at x q empty = properties_text p q.anchor (start_tag p.settings.canonical q) ▹ when (is_flow p.settings at q empty) (opener x)
 
-abbrev pub start_text : Context → Spot → Bool → ℕ → Start → Bool → Layout
-start_text p at sequence x q empty = properties_text p q.anchor (start_tag p.settings.canonical q) ▹ opening_text p.settings at sequence (is_flow p.settings at q empty) x
+-- a collection that is too deep is marked behind that
+abbrev pub depth_text : Context → Spot → Bool → Start → Bool → Layout
+depth_text p at sequence q empty = indented (indent_of p.settings at sequence (is_flow p.settings at q empty)) checked
+
+-- what is written for an event, but for the depth
+unfoldable pub text_at : Context → Place → Option Level → Event → Bool → Layout
+text_at p place top no_event empty = stay
+text_at p place top (stream_start x) empty = order_mark p.settings.encoding
+text_at p place top stream_end empty = stop_at p.settings place
+text_at p place top (document_start o) empty = start_at p.settings place o
+text_at p place top (document_end implicit) empty = end_layout p.settings implicit
+text_at p place top (alias name) empty = let simple = is_simple_event p (alias name) empty in before_node p.settings top simple ▹ alias_layout (spot_of top simple) name
+text_at p place top (scalar v) empty = let simple = is_simple_event p (scalar v) empty in before_node p.settings top simple ▹ scalar_layout p (spot_of top simple) v
+text_at p place top (sequence_start q) empty = let simple = is_simple_event p (sequence_start q) empty in before_node p.settings top simple ▹ start_text p (spot_of top simple) 91 q empty
+text_at p place top (mapping_start q) empty = let simple = is_simple_event p (mapping_start q) empty in before_node p.settings top simple ▹ start_text p (spot_of top simple) 123 q empty
+text_at p place top sequence_end empty = closer_at p.settings top 93
+text_at p place top mapping_end empty = closer_at p.settings top 125
+
+unfoldable pub depth_at : Context → Option Level → Event → Bool → Layout
+depth_at p top (sequence_start q) empty = depth_text p (spot_of top (is_simple_event p (sequence_start q) empty)) true q empty
+depth_at p top (mapping_start q) empty = depth_text p (spot_of top (is_simple_event p (mapping_start q) empty)) false q empty
+depth_at p top no_event empty = stay
+depth_at p top (stream_start x) empty = stay
+depth_at p top stream_end empty = stay
+depth_at p top (document_start o) empty = stay
+depth_at p top (document_end implicit) empty = stay
+depth_at p top (alias name) empty = stay
+depth_at p top (scalar v) empty = stay
+depth_at p top sequence_end empty = stay
+depth_at p top mapping_end empty = stay
 
 -- what is written for an event
-unfoldable pub piece_at : Context → Place → Option Level → Event → Bool → Layout
-piece_at p place top no_event empty = stay
-piece_at p place top (stream_start x) empty = order_mark p.settings.encoding
-piece_at p place top stream_end empty = stop_at p.settings place
-piece_at p place top (document_start o) empty = start_at p.settings place o
-piece_at p place top (document_end implicit) empty = end_layout p.settings implicit
-piece_at p place top (alias name) empty = let simple = is_simple_event p (alias name) empty in before_node p.settings top simple ▹ alias_layout (spot_of top simple) name
-piece_at p place top (scalar v) empty = let simple = is_simple_event p (scalar v) empty in before_node p.settings top simple ▹ scalar_layout p (spot_of top simple) v
-piece_at p place top (sequence_start q) empty =
-    let simple = is_simple_event p (sequence_start q) empty in
-    before_node p.settings top simple ▹ start_text p (spot_of top simple) true 91 q empty
-piece_at p place top (mapping_start q) empty =
-    let simple = is_simple_event p (mapping_start q) empty in
-    before_node p.settings top simple ▹ start_text p (spot_of top simple) false 123 q empty
-piece_at p place top sequence_end empty = closer_at p.settings top 93
-piece_at p place top mapping_end empty = closer_at p.settings top 125
+abbrev pub piece_at : Context → Place → Option Level → Event → Bool → Layout
+piece_at p place top e empty = text_at p place top e empty ▹ depth_at p top e empty
 
 abbrev pub piece : Settings → State → Event → Bool → Layout
 piece s st e empty = piece_at (context_of s st.directives) st.place (top_of st.levels) e empty

@@ -8,11 +8,12 @@ ghost use Rattle.yaml_emit_layout.specs.State.{before_at, before_node, closer_at
 use yaml_emit_layout::{Level, Phase};
 use yaml_emit_text::{Settings, Sink};
 
-fn put_if(sink: &mut Sink, due: bool, c: char)
-    ensures { Puts sink.old sink.new (when due (char c)) }
+/// A space behind an alias that is a simple key.
+pub fn put_blank_if(sink: &mut Sink, due: bool)
+    ensures { Puts sink.old sink.new (when due (char 32)) }
 {
     if due {
-        sink.put(c);
+        sink.put(' ');
     }
 }
 

@@ -1,12 +1,12 @@
 //! Where nodes stand, and how deep.
-ghost use Rattle.std.specs.Prelude.{◌≡◌, ◌≤◌, ◌<◌, None, Some, true, false, not, ◌&&◌, ◌||◌};
+ghost use Rattle.std.specs.Prelude.{◌≡◌, ◌≢◌, ◌≤◌, ◌<◌, ◌+◌, ℕ, None, Some, true, false, not, ◌&&◌, ◌||◌};
 ghost use Rattle.yaml_emit_text.specs.Sink.{Puts};
 ghost use Rattle.yaml_emit_layout.specs.Nodes.{deeper, block_indent_in, indent_of, is_of_mapping, is_simple_part, checked, is_flow};
 ghost use Rattle.yaml_emit_layout.specs.State.{spot_of, part_at};
-ghost use Rattle.yaml_emit_state.specs.Stack.{within, flow_start};
+ghost use Rattle.yaml_emit_state.specs.Stack.{within};
 
 use yaml_emit_layout::{Level, Part, Phase, Spot};
-use yaml_emit_text::{Cursor, Settings, Sink};
+use yaml_emit_text::{Cursor, Settings, Sink, Status};
 
 // The largest indentation, in columns.
 const MOST: u64 = 2147483647;
@@ -108,13 +108,17 @@ pub fn indent_of(settings: Settings, spot: Spot, sequence: bool, flow: bool, cur
 
 /// Whether a collection is flow.
 pub fn is_flow(settings: Settings, spot: Spot, flow: bool, empty: bool) -> bool
-    ensures { result ≡ flow_start settings spot flow empty }
+    ensures { result ≡ (settings.canonical || (spot.flow || (flow || empty))) }
 {
     settings.canonical || spot.flow || flow || empty
 }
 
 /// An indentation that is too deep stops the output.
-pub fn put_checked(sink: &mut Sink, indent: Option<u64>) {
+pub fn put_checked(sink: &mut Sink, indent: Option<u64>)
+    ensures text { (n : ℕ) → indent ≡ within n → Puts sink.old sink.new (checked n) }
+    ensures stopped { indent ≡ None → sink.new.status ≢ Status.Going }
+    ensures same { indent ≢ None → sink.new ≡ sink.old }
+{
     match indent {
         None => sink.put_too_deep(),
         Some(_) => (),

@@ -1,9 +1,9 @@
 //! The open collections.
-ghost use Rattle.std.specs.Prelude.{◌≡◌, ◌∷◌, [], true, None, Some};
+ghost use Rattle.std.specs.Prelude.{◌≡◌, ◌∷◌, [], None, Some, OnOk};
 ghost use Rattle.yaml_emit_layout.specs.State.{top_of, outer_of, levels_behind, phase_behind};
 ghost use Rattle.yaml_emit_state.specs.Stack.{stack_of};
 
-use std::alloc::Global;
+use std::alloc::{AllocError, Global};
 use yaml_emit_layout::{Level, Phase};
 
 /// The innermost collection, and those round it, the outermost first.
@@ -55,22 +55,30 @@ impl Levels {
         }
     }
 
-    /// Opens a collection, or answers false for want of memory.
-    pub fn push(&mut self, level: Level) -> bool
-        ensures { result ≡ true → stack_of self.new ≡ level ∷ stack_of self.old }
+    /// Opens a collection; refused only for want of memory.
+    pub fn push(&mut self, level: Level) -> Result<(), AllocError>
+        ensures { OnOk result (stack_of self.new ≡ level ∷ stack_of self.old) }
     {
         match self.top {
             None => {
                 self.outer.clear();
                 self.top = Some(level);
-                true
+                Ok(())
             }
             Some(old) => {
-                let pushed = self.outer.push(old).is_ok();
+                self.outer.push(old)?;
                 self.top = Some(level);
-                pushed
+                Ok(())
             }
         }
+    }
+
+    /// Closes all collections.
+    pub fn clear(&mut self)
+        ensures { stack_of self.new ≡ [] }
+    {
+        self.top = None;
+        self.outer.clear();
     }
 
     /// Closes the innermost collection.

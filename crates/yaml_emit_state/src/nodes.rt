@@ -1,33 +1,19 @@
 //! Nodes: aliases, properties, scalars, and what opens collections.
-ghost use Rattle.std.specs.Prelude.{◌≡◌, ◌∷◌, [], None, Some, true, false, not, ◌&&◌, ◌||◌, map};
+ghost use Rattle.std.specs.Prelude.{◌≡◌, ◌≢◌, ◌∷◌, [], None, Some, true, false, not, ◌&&◌, ◌||◌, ◌==◌, ℕ, map, length, IsUtf8};
+ghost use Rattle.std.specs.Str.{chars};
 ghost use Rattle.yaml_parse_model.specs.Events.{directive_of, text_of};
 ghost use Rattle.yaml_emit_text.specs.Sink.{Puts};
-ghost use Rattle.yaml_emit_text.specs.Layout.{◌▹◌, stay, when, char, word};
-ghost use Rattle.yaml_emit_layout.specs.Nodes.{context_of, alias_layout, anchor_text, tag_text, properties_text, mark_text};
+ghost use Rattle.yaml_emit_text.specs.Layout.{◌▹◌, stay, when, char, word, opener};
+ghost use Rattle.yaml_emit_text.specs.Scalars.{scalar_text};
+ghost use Rattle.yaml_emit_layout.specs.Grammar.{kept_if, kept_tag, has};
+ghost use Rattle.yaml_emit_layout.specs.Nodes.{context_of, alias_layout, anchor_text, tag_text, properties_text, mark_text, scalar_layout, style_of, is_plain, checked, deeper, page_at, is_flow};
+ghost use Rattle.yaml_emit_layout.specs.State.{start_text};
 
-use crate::before::put_opener_if;
-use crate::indent::{deeper, indent_of, is_flow, is_simple_part, put_checked};
+use crate::before::{put_blank_if, put_opener_if};
+use crate::indent::{deeper, is_flow, is_simple_part, put_checked};
 use yaml_emit_layout::Spot;
-use yaml_emit_text::{Page, Settings, Sink, Style, allowed_for, put_scalar, put_tag, style_asked, taken};
+use yaml_emit_text::{Page, Settings, Sink, Style, allowed_for, put_styled, put_tag, taken, text};
 use yaml_scan::{yaml_scalar_style_t, yaml_tag_directive_t};
-
-/// A document's settings and directives.
-#[derive(Clone, Copy)]
-pub struct Context<'a> {
-    pub settings: Settings,
-    pub directives: &'a [yaml_tag_directive_t],
-}
-
-/// A scalar's event.
-#[derive(Clone, Copy)]
-pub struct Text<'a> {
-    pub anchor: &'a Option<Vec<u8>>,
-    pub tag: &'a Option<Vec<u8>>,
-    pub value: &'a [u8],
-    pub plain: bool,
-    pub quoted: bool,
-    pub style: yaml_scalar_style_t,
-}
 
 fn put_name(sink: &mut Sink, sign: char, name: &[u8])
     ensures { Puts sink.old sink.new (word (sign ∷ name.now)) }
@@ -35,14 +21,6 @@ fn put_name(sink: &mut Sink, sign: char, name: &[u8])
     sink.put_gap();
     sink.put(sign);
     sink.put_all(name);
-}
-
-fn put_blank_if(sink: &mut Sink, due: bool)
-    ensures { Puts sink.old sink.new (when due (char 32)) }
-{
-    if due {
-        sink.put(' ');
-    }
 }
 
 /// An alias.
@@ -63,48 +41,88 @@ fn put_anchor(sink: &mut Sink, anchor: &Option<Vec<u8>>)
     }
 }
 
-// Whether a tag is written: in pretty form one that may be left out isn't.
-fn is_written(canonical: bool, left_out: bool, tag: &Option<Vec<u8>>) -> bool {
-    match tag {
-        None => false,
-        Some(_) => canonical || !left_out,
-    }
-}
-
-fn put_written(sink: &mut Sink, directives: &[yaml_tag_directive_t], tag: &Option<Vec<u8>>, written: bool) {
+fn put_given_tag(sink: &mut Sink, settings: Settings, directives: &[yaml_tag_directive_t], tag: &Option<Vec<u8>>)
+    ensures { Puts sink.old sink.new (tag_text (context_of settings (map directive_of directives.now)) (text_of tag.now)) }
+{
     match tag {
         None => (),
-        Some(tag) => {
-            if written {
-                put_tag(sink, directives, tag);
-            }
-        }
+        Some(tag) => put_tag(sink, directives, tag),
     }
 }
 
-fn put_properties(sink: &mut Sink, context: Context, anchor: &Option<Vec<u8>>, left_out: bool, tag: &Option<Vec<u8>>) {
+fn put_tag_if(sink: &mut Sink, settings: Settings, directives: &[yaml_tag_directive_t], kept: bool, tag: &Option<Vec<u8>>)
+    ensures { Puts sink.old sink.new (tag_text (context_of settings (map directive_of directives.now)) (kept_if kept (text_of tag.now))) }
+{
+    if kept {
+        put_given_tag(sink, settings, directives, tag);
+    }
+}
+
+// In pretty form a tag that may be left out isn't written.
+fn is_kept(canonical: bool, left_out: bool) -> bool
+    ensures { result ≡ (canonical || not left_out) }
+{
+    canonical || !left_out
+}
+
+fn put_properties(sink: &mut Sink, settings: Settings, directives: &[yaml_tag_directive_t], anchor: &Option<Vec<u8>>, left_out: bool, tag: &Option<Vec<u8>>)
+    ensures { Puts sink.old sink.new (properties_text (context_of settings (map directive_of directives.now)) (text_of anchor.now) (kept_tag settings.canonical left_out (text_of tag.now))) }
+{
     put_anchor(sink, anchor);
-    put_written(sink, context.directives, tag, is_written(context.settings.canonical, left_out, tag));
+    put_tag_if(sink, settings, directives, is_kept(settings.canonical, left_out), tag);
 }
 
-fn style_of(context: Context, spot: Spot, text: Text) -> Style {
-    if context.settings.canonical {
-        return Style::Double;
+fn is_tagged(tag: &Option<Vec<u8>>) -> bool
+    ensures { result ≡ has (text_of tag.now) }
+{
+    match tag {
+        None => false,
+        Some(_) => true,
     }
-    taken(
-        allowed_for(context.settings.unicode, text.value),
-        style_asked(text.style),
-        is_written(false, text.plain || text.quoted, text.tag) || text.plain,
-        spot.flow,
-        is_simple_part(spot.part),
-        text.value.is_empty(),
-    )
 }
 
-fn is_plain(style: Style) -> bool {
+fn is_tagged_if(kept: bool, tag: &Option<Vec<u8>>) -> bool
+    ensures { result ≡ has (kept_if kept (text_of tag.now)) }
+{
+    if kept {
+        is_tagged(tag)
+    } else {
+        false
+    }
+}
+
+// Whether a tag is written.
+fn is_written(canonical: bool, left_out: bool, tag: &Option<Vec<u8>>) -> bool
+    ensures { result ≡ has (kept_tag canonical left_out (text_of tag.now)) }
+{
+    is_tagged_if(is_kept(canonical, left_out), tag)
+}
+
+fn is_plain(style: Style) -> bool
+    ensures { result ≡ is_plain style }
+{
     match style {
         Style::Plain => true,
         _ => false,
+    }
+}
+
+#[tactic(auto, unfolding(yaml_emit_layout::specs::Nodes::style_of))]
+fn style_of(settings: Settings, directives: &[yaml_tag_directive_t], spot: Spot, anchor: &Option<Vec<u8>>, tag: &Option<Vec<u8>>, value: &[u8], plain: bool, quoted: bool, style: yaml_scalar_style_t) -> Style
+    requires { IsUtf8 value.now }
+    ensures { result ≡ style_of (context_of settings (map directive_of directives.now)) spot (record { anchor = text_of anchor.now; tag = text_of tag.now; value = value.now; plain = plain; quoted = quoted; style = style }) }
+{
+    if settings.canonical {
+        Style::Double
+    } else {
+        taken(
+            allowed_for(settings.unicode, text(value)),
+            style,
+            is_written(false, plain || quoted, tag) || plain,
+            spot.flow,
+            is_simple_part(spot.part),
+            value.is_empty(),
+        )
     }
 }
 
@@ -116,45 +134,50 @@ fn put_exclamation_if(sink: &mut Sink, due: bool)
     }
 }
 
-fn put_lines(sink: &mut Sink, context: Context, spot: Spot, style: Style, value: &[u8]) {
-    match deeper(context.settings, spot.around) {
-        None => sink.put_too_deep(),
+// Whether `!` is due.
+fn is_marked(canonical: bool, tag: &Option<Vec<u8>>, plain: bool, quoted: bool, chosen: Style) -> bool
+    ensures { result ≡ (not (has (kept_tag canonical (plain || quoted) (text_of tag.now))) && (not quoted && not (is_plain chosen))) }
+{
+    !is_written(canonical, plain || quoted, tag) && !quoted && !is_plain(chosen)
+}
+
+fn put_lines(sink: &mut Sink, settings: Settings, spot: Spot, style: Style, value: &[u8])
+    requires { IsUtf8 value.now }
+    ensures { Puts sink.old sink.new (checked (deeper settings spot.around) ▹ scalar_text (page_at settings spot) settings.indent spot.flow style (chars value.now)) }
+{
+    let depth = deeper(settings, spot.around);
+    put_checked(sink, depth);
+    match depth {
+        None => (),
         Some(indentation) => {
             let page = Page {
-                width: context.settings.width,
+                width: settings.width,
                 indentation,
-                unicode: context.settings.unicode,
+                unicode: settings.unicode,
                 cuts: !is_simple_part(spot.part),
-                line_break: context.settings.line_break,
+                line_break: settings.line_break,
             };
-            put_scalar(sink, page, context.settings.indent, spot.flow, style, value);
+            put_styled(sink, page, settings.indent, spot.flow, style, text(value));
         }
     }
 }
 
 /// A scalar, with its anchor and tag.
-pub fn put_scalar_at(sink: &mut Sink, context: Context, spot: Spot, text: Text) {
-    let canonical = context.settings.canonical;
-    let left_out = text.plain || text.quoted;
-    put_properties(sink, context, text.anchor, left_out, text.tag);
-    let style = style_of(context, spot, text);
-    put_exclamation_if(
-        sink,
-        !is_written(canonical, left_out, text.tag) && !text.quoted && !is_plain(style),
-    );
-    put_lines(sink, context, spot, style, text.value);
-}
-
-/// What opens a collection.
-pub fn put_opening(sink: &mut Sink, context: Context, spot: Spot, sequence: bool, flow: bool, c: char) {
-    put_opener_if(sink, flow, c);
-    let cursor = sink.cursor();
-    put_checked(sink, indent_of(context.settings, spot, sequence, flow, cursor));
+#[tactic(auto, unfolding(yaml_emit_layout::specs::Nodes::scalar_layout))]
+pub fn put_scalar(sink: &mut Sink, settings: Settings, directives: &[yaml_tag_directive_t], spot: Spot, anchor: &Option<Vec<u8>>, tag: &Option<Vec<u8>>, value: &[u8], plain: bool, quoted: bool, style: yaml_scalar_style_t)
+    requires { IsUtf8 value.now }
+    ensures { Puts sink.old sink.new (scalar_layout (context_of settings (map directive_of directives.now)) spot (record { anchor = text_of anchor.now; tag = text_of tag.now; value = value.now; plain = plain; quoted = quoted; style = style })) }
+{
+    let chosen = style_of(settings, directives, spot, anchor, tag, value, plain, quoted, style);
+    put_properties(sink, settings, directives, anchor, plain || quoted, tag);
+    put_exclamation_if(sink, is_marked(settings.canonical, tag, plain, quoted, chosen));
+    put_lines(sink, settings, spot, chosen, value);
 }
 
 /// What opens a collection, with its anchor and tag.
-pub fn put_collection(sink: &mut Sink, context: Context, spot: Spot, sequence: bool, anchor: &Option<Vec<u8>>, implicit: bool, tag: &Option<Vec<u8>>, style_flow: bool, empty: bool) {
-    put_properties(sink, context, anchor, implicit, tag);
-    let c = if sequence { '[' } else { '{' };
-    put_opening(sink, context, spot, sequence, is_flow(context.settings, spot, style_flow, empty), c);
+pub fn put_collection(sink: &mut Sink, settings: Settings, directives: &[yaml_tag_directive_t], spot: Spot, c: char, anchor: &Option<Vec<u8>>, tag: &Option<Vec<u8>>, implicit: bool, style_flow: bool, empty: bool)
+    ensures { Puts sink.old sink.new (start_text (context_of settings (map directive_of directives.now)) spot c (record { anchor = text_of anchor.now; tag = text_of tag.now; implicit = implicit; flow = style_flow }) empty) }
+{
+    put_properties(sink, settings, directives, anchor, implicit, tag);
+    put_opener_if(sink, is_flow(settings, spot, style_flow, empty), c);
 }

@@ -3,10 +3,12 @@ use Rattle.std.specs.Prelude.{◌≡◌, Bool, true, false, ◌||◌, List, [], 
 use Rattle.yaml_scan.specs.declared.yaml_scalar_style_t.{yaml_scalar_style_t}
 use Rattle.yaml_parse_model.specs.Events.{directive_of, TagDirective}
 use Rattle.yaml_emit_text.specs.declared.Settings.{Settings}
-use Rattle.yaml_emit_text.specs.declared.Status.TheVariants.{Going}
+use Rattle.yaml_emit_text.specs.declared.Status.{Status}
+use Rattle.yaml_emit_text.specs.declared.Status.TheVariants.{Going, Full, Deep, Starved}
 use Rattle.yaml_emit_text.specs.Layout.{Layout, stay, start}
 use Rattle.yaml_emit_text.specs.Sink.{Output, Puts}
 use Rattle.yaml_emit_layout.specs.declared.Problem.{Problem}
+use Rattle.yaml_emit_layout.specs.declared.Place.{Place}
 use Rattle.yaml_emit_layout.specs.declared.Place.TheVariants as at
 use Rattle.yaml_emit_layout.specs.declared.Phase.{Phase}
 use Rattle.yaml_emit_layout.specs.declared.Phase.TheVariants.{Items, Keys}
@@ -88,3 +90,18 @@ pub record IsFresh (core : Core) (s : Settings) : Type 0 where
   pub output : core.sink.bytes ≡ []
   pub status : core.sink.status ≡ Going
   pub cursor : core.sink.cursor ≡ start
+
+abbrev pub is_going : Status → Bool
+is_going Going = true
+is_going Full = false
+is_going Deep = false
+is_going Starved = false
+
+-- no event was refused, and the output goes on
+abbrev pub goes_on : Status → Place → Bool
+goes_on s (at.Refused p) = false
+goes_on s at.StreamStart = is_going s
+goes_on s (at.Documents first unended) = is_going s
+goes_on s at.Node = is_going s
+goes_on s at.DocumentEnd = is_going s
+goes_on s at.End = is_going s

@@ -31,7 +31,7 @@ impl Core {
     ghost use Rattle.yaml_parse_model.specs.Events.{directive_of, body_of};
     ghost use Rattle.yaml_emit_layout.specs.Content.{said};
     ghost use Rattle.yaml_emit_layout.specs.State.{problem_at};
-    ghost use Rattle.yaml_emit_state.specs.Steps.{state_of, settings_of, LaysOut, IsFresh, Takes};
+    ghost use Rattle.yaml_emit_state.specs.Steps.{state_of, settings_of, LaysOut, IsFresh, Takes, goes_on};
 
     /// Nothing was laid out.
     pub fn new(alloc: Global, settings: Settings, limit: u64) -> Core
@@ -76,6 +76,16 @@ impl Core {
         ensures { result ≡ self.now.starved }
     {
         self.starved
+    }
+
+    /// Whether no event was refused so far, and the output goes on.
+    pub fn is_going(&self) -> bool
+        ensures { result ≡ goes_on self.now.sink.status self.now.place }
+    {
+        match self.place {
+            Place::Refused(_) => false,
+            _ => self.sink.status().is_going(),
+        }
     }
 
     // The settings in force: the encoding is the output's.

@@ -1,1 +1,5 @@
 pub mod Sinks
+mod Spells
+mod Walks
+mod Escapes
+mod Looks

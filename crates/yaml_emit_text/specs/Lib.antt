@@ -3,3 +3,7 @@ pub mod Text
 pub mod Layout
 pub mod Appends
 pub mod Sink
+pub mod Quoted
+pub mod Style
+pub mod Scalars
+pub mod Tags

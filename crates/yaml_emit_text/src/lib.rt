@@ -2,13 +2,25 @@
 #![tactic(auto)]
 
 mod append;
+mod block;
 mod bytes;
 mod cursor;
+mod flow;
+mod letters;
 mod page;
+mod quoted;
+mod scalar;
 mod settings;
 mod sink;
+mod style;
 
+pub use block::{put_folded, put_literal};
 pub use cursor::{Cursor, Status};
-pub use page::{Allowed, Page, Style};
+pub use flow::{put_plain, put_single_quoted};
+pub use letters::text;
+pub use page::{Allowed, Chomp, Page, Seen, Style};
+pub use quoted::put_double_quoted;
+pub use scalar::put_styled;
 pub use settings::{Encoding, LineBreak, Settings, Wishes, settled};
 pub use sink::Sink;
+pub use style::{allowed_for, taken};

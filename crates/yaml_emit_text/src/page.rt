@@ -38,3 +38,27 @@ pub struct Allowed {
     /// Literal and folded.
     pub block: bool,
 }
+
+/// What becomes of the breaks at a block scalar's end.
+#[derive(Clone, Copy, PartialEq, Eq, Debug)]
+pub enum Chomp {
+    /// None is there.
+    Strip,
+    /// One is there.
+    Clip,
+    /// More are there, or one alone.
+    Keep,
+}
+
+/// What was seen in the characters of a value.
+#[derive(Clone, Copy)]
+pub struct Seen {
+    /// A character for double quotes alone.
+    pub special: bool,
+    /// A break with a space behind it.
+    pub broken: bool,
+    /// A character that is not for plain scalars.
+    pub not_plain: bool,
+    /// A character that is not for plain scalars in flow collections.
+    pub not_flow: bool,
+}

@@ -158,7 +158,7 @@ impl Sink {
         self.write(' ', false, true, at.bare);
     }
 
-    fn put_blanks(&mut self, count: u64)
+    pub(crate) fn put_blanks(&mut self, count: u64)
         ensures { Puts self.old self.new (blanks count) }
     {
         for _ in 0..count {

@@ -1,0 +1,66 @@
+-- Walks that look for something in a value.
+use Rattle.std.proofs.Common.{◌≡◌, ℕ, List, [], ◌∷◌, Bool, true, false, cond, refl, sym, ◌∙◌, ap}
+use Rattle.std.specs.Prelude.{◌||◌}
+use Rattle.yaml_emit_text.specs.declared.page.Seen.{Seen}
+use Rattle.yaml_emit_text.specs.declared.page.Chomp.{Chomp}
+use Rattle.yaml_emit_text.specs.Text.{is_break}
+use Rattle.yaml_emit_text.specs.Quoted.{first}
+use Rattle.yaml_emit_text.specs.Style.{somewhere, last_or, seen, looked, joined}
+use Rattle.yaml_emit_text.specs.Scalars.{behind_breaks, chomp, chomp_of}
+
+breaks_at : (y : ℕ) (xs : List ℕ) → behind_breaks (y ∷ xs) ≡ cond (is_break y) (behind_breaks xs) y
+unfolding behind_breaks
+breaks_at y xs = refl
+
+pub breaks_more : (n : ℕ) (left xs : List ℕ) (y : ℕ) → left ≡ y ∷ xs → n ≡ behind_breaks left → is_break y ≡ true → n ≡ behind_breaks xs
+breaks_more n left xs y e h f = h ∙ ap behind_breaks e ∙ breaks_at y xs ∙ ap (λ v. cond v (behind_breaks xs) y) f
+
+pub breaks_found : (n : ℕ) (left xs : List ℕ) (y : ℕ) → left ≡ y ∷ xs → n ≡ behind_breaks left → is_break y ≡ false → y ≡ n
+breaks_found n left xs y e h f = sym (h ∙ ap behind_breaks e ∙ breaks_at y xs ∙ ap (λ v. cond v (behind_breaks xs) y) f)
+
+pub breaks_none : (n : ℕ) (left : List ℕ) → left ≡ [] → n ≡ behind_breaks left → 32 ≡ n
+unfolding behind_breaks
+breaks_none n left e h = sym (h ∙ ap behind_breaks e)
+
+pub chomp_more : (k : Chomp) (broken last last' : Bool) (left xs : List ℕ) (y : ℕ) → left ≡ y ∷ xs → k ≡ chomp broken last left → last' ≡ is_break y → k ≡ chomp last last' xs
+unfolding chomp
+chomp_more k broken last last' left xs y e h f = h ∙ ap (chomp broken last) e ∙ ap (λ v. chomp last v xs) (sym f)
+
+pub chomp_end : (k : Chomp) (broken last : Bool) (left : List ℕ) → left ≡ [] → k ≡ chomp broken last left → chomp_of broken last ≡ k
+unfolding chomp
+chomp_end k broken last left e h = sym (h ∙ ap (chomp broken last) e)
+
+or_assoc : (a b c : Bool) → (a || (b || c)) ≡ ((a || b) || c)
+or_assoc true b c = refl
+or_assoc false b c = refl
+
+or_false : (a : Bool) → (a || false) ≡ a
+or_false true = refl
+or_false false = refl
+
+joined_assoc : (a b c : Seen) → joined a (joined b c) ≡ joined (joined a b) c
+joined_assoc a b c = rw (or_assoc a.special b.special c.special, or_assoc a.broken b.broken c.broken, or_assoc a.not_plain b.not_plain c.not_plain, or_assoc a.not_flow b.not_flow c.not_flow) refl
+
+looked_at : (unicode : Bool) (before y : ℕ) (xs : List ℕ) → looked unicode before (y ∷ xs) ≡ joined (seen unicode before y (first xs)) (looked unicode y xs)
+unfolding somewhere
+looked_at unicode before y xs = refl
+
+looked_none : (all : Seen) (unicode : Bool) (before : ℕ) → joined all (looked unicode before []) ≡ all
+unfolding somewhere
+looked_none all unicode before = rw (or_false all.special, or_false all.broken, or_false all.not_plain, or_false all.not_flow) refl
+
+pub look_more : (k all all' : Seen) (unicode : Bool) (before y : ℕ) (left xs : List ℕ) → left ≡ y ∷ xs → k ≡ joined all (looked unicode before left) → all' ≡ joined all (seen unicode before y (first xs)) → k ≡ joined all' (looked unicode y xs)
+look_more k all all' unicode before y left xs e h f =
+    h ∙ ap (λ t. joined all (looked unicode before t)) e ∙ ap (joined all) (looked_at unicode before y xs) ∙ joined_assoc all (seen unicode before y (first xs)) (looked unicode y xs)
+    ∙ ap (λ t. joined t (looked unicode y xs)) (sym f)
+
+pub look_end : (k all : Seen) (unicode : Bool) (before : ℕ) (left : List ℕ) → left ≡ [] → k ≡ joined all (looked unicode before left) → all ≡ k
+look_end k all unicode before left e h = sym (h ∙ ap (λ t. joined all (looked unicode before t)) e ∙ looked_none all unicode before)
+
+pub last_more : (n before y : ℕ) (left xs : List ℕ) → left ≡ y ∷ xs → n ≡ last_or before left → n ≡ last_or y xs
+unfolding last_or
+last_more n before y left xs e h = h ∙ ap (last_or before) e
+
+pub last_end : (n before : ℕ) (left : List ℕ) → left ≡ [] → n ≡ last_or before left → before ≡ n
+unfolding last_or
+last_end n before left e h = sym (h ∙ ap (last_or before) e)

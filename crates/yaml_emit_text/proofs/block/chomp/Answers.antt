@@ -1,0 +1,15 @@
+use Rattle.std.proofs.Common.{◌≡◌, refl, sym, ◌∙◌, ap, arith, true, false, [], ◌∷◌, drop, length}
+use Rattle.yaml_emit_text.proofs.Looks.{breaks_more, breaks_found, breaks_none, chomp_more, chomp_end, look_more, look_end, last_more, last_end}
+use Rattle.yaml_emit_text.proofs.block.chomp.Goals as goal
+
+pub split_first-requires-text-text : goal.split_first-requires-text-text
+split_first-requires-text-text c = λ _. c.loop-c.invariant.0
+
+pub loop-c-init : goal.loop-c-init
+loop-c-init c = (c.utf8.value, refl)
+
+pub loop-c-preserved : goal.loop-c-preserved
+loop-c-preserved c = (c.in-Some.ensures.utf8, chomp_more _ _ _ _ _ _ _ c.in-Some.ensures.letters c.loop-c.invariant.1 c.is_break-last.ensures)
+
+pub returns : goal.returns
+returns c = c.chomp_of.ensures ∙ chomp_end _ _ _ _ c.in_default.ensures.letters c.loop-c.invariant.1

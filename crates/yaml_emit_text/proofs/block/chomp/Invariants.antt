@@ -1,0 +1,14 @@
+use Rattle.std.proofs.Common.{◌≡◌, length, true, false, [], ◌∷◌}
+use Rattle.std.specs.Str.{chars}
+use Rattle.std.specs.Prelude.{IsUtf8}
+use Rattle.yaml_emit_text.specs.Sink.{Owes}
+use Rattle.yaml_emit_text.specs.Quoted.{quoted_body}
+use Rattle.yaml_emit_text.specs.Scalars.{flow_body, block_body, behind_breaks, chomp}
+use Rattle.yaml_emit_text.specs.Style.{looked, joined, last_or}
+use Rattle.yaml_emit_text.proofs.block.chomp.Given as goal
+
+abbrev pub invariant-loop-c : goal.invariant-loop-c
+invariant-loop-c l = IsUtf8 l.left × (chomp true true (chars l.value) ≡ chomp l.broken l.last (chars l.left))
+
+abbrev pub decreases-loop-c : goal.decreases-loop-c
+decreases-loop-c l = length l.left

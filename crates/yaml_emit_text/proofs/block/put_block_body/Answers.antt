@@ -1,0 +1,22 @@
+use Rattle.std.proofs.Common.{◌≡◌, refl, sym, ◌∙◌, ap, arith, true, false, [], ◌∷◌, drop, length}
+use Rattle.yaml_emit_text.proofs.Sinks.{puts_both, owes_same}
+use Rattle.yaml_emit_text.proofs.Spells.{puts_letters}
+use Rattle.yaml_emit_text.specs.Layout.{letters}
+use Rattle.yaml_emit_text.proofs.Walks.{walk_more, walk_all, walk_end, flow_law, flow_end, block_more, block_all}
+use Rattle.yaml_emit_text.proofs.Escapes.{quoted_law, quoted_end}
+use Rattle.yaml_emit_text.specs.Quoted.{quoted_body, quoted_char}
+use Rattle.yaml_emit_text.specs.Scalars.{flow_body, flow_char, behind_breaks}
+use Rattle.yaml_emit_text.proofs.block.put_block_body.Goals as goal
+
+pub split_first-requires-text-text : goal.split_first-requires-text-text
+split_first-requires-text-text c = λ _. c.loop-c.invariant.0
+
+pub loop-c-init : goal.loop-c-init
+loop-c-init c = (c.utf8.value, owes_same _ _)
+
+pub loop-c-preserved : goal.loop-c-preserved
+loop-c-preserved c =
+    (c.in-Some.ensures.utf8, block_more _ _ _ _ _ _ _ _ _ _ _ _ c.in-Some.ensures.letters c.loop-c.invariant.1 c.put_block_char.ensures c.line_blank-blank.ensures)
+
+pub returns : goal.returns
+returns c = block_all _ _ _ _ _ _ _ _ c.in_default.ensures.letters c.loop-c.invariant.1

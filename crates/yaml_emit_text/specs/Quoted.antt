@@ -1,0 +1,88 @@
+-- Double quoted text: escapes, and folds at the width.
+use Rattle.std.specs.Prelude.{ℕ, ◌+◌, ◌/◌, ◌%◌, ◌-◌, Bool, true, false, not, ◌==◌, ◌&&◌, ◌||◌, nat_lt, nat_le, if◌then◌else◌, List, [], ◌∷◌, ◌++◌}
+use Rattle.yaml_emit_text.specs.declared.page.Page.{Page}
+use Rattle.yaml_emit_text.specs.Text.{is_break}
+use Rattle.yaml_emit_text.specs.Layout.{Layout, ◌▹◌, stay, choose, when, char, letters, blanks, new_line, gap, is_past}
+
+-- 0A, 20 to 7E, A0 to D7FF, E000 to FFFD without FEFF, 10000 to 10FFFF
+abbrev pub is_printable : ℕ → Bool
+is_printable c =
+    c == 0x0A || (nat_le 0x20 c && nat_le c 0x7E) || (nat_le 0xA0 c && nat_le c 0xD7FF)
+    || (nat_le 0xE000 c && nat_le c 0xFFFD && not (c == 0xFEFF)) || (nat_le 0x1_0000 c && nat_le c 0x10_FFFF)
+
+-- what is not printable, or not ASCII with unicode off, a break, `"` or `\`
+unfoldable pub needs_escape : Bool → ℕ → Bool
+needs_escape unicode c =
+    not (is_printable c) || (not unicode && nat_le 0x80 c) || is_break c || c == 34 || c == 92
+
+-- the letter that stands for a character behind a backslash, or 0
+unfoldable pub escape_letter : ℕ → ℕ
+escape_letter c =
+    if c == 0x00 then 48
+    else if c == 0x07 then 97
+    else if c == 0x08 then 98
+    else if c == 0x09 then 116
+    else if c == 0x0A then 110
+    else if c == 0x0B then 118
+    else if c == 0x0C then 102
+    else if c == 0x0D then 114
+    else if c == 0x1B then 101
+    else if c == 34 then 34
+    else if c == 92 then 92
+    else if c == 0x85 then 78
+    else if c == 0xA0 then 95
+    else if c == 0x2028 then 76
+    else if c == 0x2029 then 80
+    else 0
+
+-- 0-9 A-F
+unfoldable pub hex_digit : ℕ → ℕ
+hex_digit d = if nat_lt d 10 then 48 + d else 55 + d
+
+abbrev pub hex_2 : ℕ → List ℕ
+hex_2 n = hex_digit (n / 16) ∷ hex_digit (n % 16) ∷ []
+
+abbrev pub hex_4 : ℕ → List ℕ
+hex_4 n = hex_2 (n / 0x100) ++ hex_2 (n % 0x100)
+
+abbrev pub hex_8 : ℕ → List ℕ
+hex_8 n = hex_4 (n / 0x1_0000) ++ hex_4 (n % 0x1_0000)
+
+-- a backslash, and a letter, or `x`, `u` or `U` and a number
+unfoldable pub escape_text : ℕ → List ℕ
+escape_text c =
+    if not (escape_letter c == 0) then 92 ∷ escape_letter c ∷ []
+    else if nat_lt c 0x100 then 92 ∷ 120 ∷ hex_2 c
+    else if nat_lt c 0x1_0000 then 92 ∷ 117 ∷ hex_4 c
+    else 92 ∷ 85 ∷ hex_8 c
+
+-- the first character, 0 at the end
+abbrev pub first : List ℕ → ℕ
+first [] = 0
+first (c ∷ cs) = c
+
+abbrev pub is_empty : List ℕ → Bool
+is_empty [] = true
+is_empty (c ∷ cs) = false
+
+-- a space that may be folded: no space is before it, and it is neither first nor last
+abbrev pub may_fold : Page → ℕ → ℕ → List ℕ → Bool
+may_fold page before x rest = page.cuts && (x == 32 && (not (before == 32) && not (is_empty rest)))
+
+-- past the width, what is to be folded becomes a break and the indentation, and a backslash where a space follows
+abbrev pub fold : Page → List ℕ → Layout
+fold page rest = new_line page.line_break ▹ (blanks page.indentation ▹ when (first rest == 32) (char 92))
+
+abbrev pub escaped : Bool → ℕ → Layout
+escaped unicode x = if needs_escape unicode x then letters (escape_text x) else char x
+
+unfoldable pub quoted_char : Page → ℕ → ℕ → List ℕ → Layout
+quoted_char page before x rest = if may_fold page before x rest then choose (is_past page.width) (fold page rest) (char x) else escaped page.unicode x
+
+-- by the character before; a space in front stands for the start, since no space is folded behind a space
+unfoldable pub quoted_body : Page → ℕ → List ℕ → Layout
+quoted_body page before [] = stay
+quoted_body page before (x ∷ xs) = quoted_char page before x xs ▹ quoted_body page x xs
+
+abbrev pub double_quoted : Page → List ℕ → Layout
+double_quoted page value = gap ▹ (char 34 ▹ (quoted_body page 32 value ▹ char 34))

@@ -1,0 +1,207 @@
+//! Literal and folded scalars (YAML 1.1, 9.2).
+
+ghost use Rattle.std.specs.Prelude.{◌≡◌, ◌+◌, true, false, not, ◌&&◌, ◌||◌, ◌==◌, if◌then◌else◌};
+ghost use Rattle.std.specs.Str.{chars};
+ghost use Rattle.yaml_emit_text.specs.Sink.{Puts};
+ghost use Rattle.yaml_emit_text.specs.Text.{is_break};
+ghost use Rattle.yaml_emit_text.specs.Layout.{◌▹◌, stay, choose, when, char, break, new_line, gap, line, is_past, keep, light};
+ghost use Rattle.yaml_emit_text.specs.Quoted.{first};
+ghost use Rattle.yaml_emit_text.specs.Style.{is_blank};
+ghost use Rattle.yaml_emit_text.specs.Scalars.{value_break, cut, behind_breaks, adds_break, cuts_block, line_blank, block_text, block_char, block_body, chomp_of, chomp, chomp_mark, digit_char, digit_mark, block_header, block};
+
+use crate::flow::{put_cut, put_line_if, put_new_line_if, put_value_break};
+use crate::letters::{first, is_break, split_first};
+use crate::page::{Chomp, Page};
+use crate::quoted::put_if;
+use crate::sink::Sink;
+use crate::style::is_blank;
+
+// The first character behind a run of breaks; the end counts as a space.
+fn behind_breaks(text: &str) -> char
+    ensures { result ≡ behind_breaks (chars text.now) }
+{
+    let mut left = text;
+    while let Some((c, rest)) = split_first(left) {
+        if !is_break(c) {
+            return c;
+        }
+        left = rest;
+    }
+    ' '
+}
+
+fn adds_break(folded: bool, blank: bool, before: char, c: char, rest: &str) -> bool
+    ensures { result ≡ adds_break folded blank before c (chars rest.now) }
+{
+    folded && c == '\n' && !is_break(before) && !blank && !is_blank(behind_breaks(rest))
+}
+
+fn cuts_block(folded: bool, blank: bool, before: char, c: char, rest: &str) -> bool
+    ensures { result ≡ cuts_block folded blank before c (chars rest.now) }
+{
+    folded && c == ' ' && !blank && !is_break(before) && first(rest) != ' '
+}
+
+fn line_blank(blank: bool, before: char, c: char) -> bool
+    ensures { result ≡ line_blank blank before c }
+{
+    if is_break(c) {
+        blank
+    } else if is_break(before) {
+        is_blank(c)
+    } else {
+        blank
+    }
+}
+
+fn put_block_text(sink: &mut Sink, page: Page, cuts: bool, c: char)
+    ensures { Puts sink.old sink.new (block_text page cuts c) }
+{
+    if cuts {
+        put_cut(sink, page, c);
+    } else {
+        sink.put(c);
+    }
+}
+
+#[tactic(auto, unfolding(crate::specs::Scalars::block_char))]
+fn put_block_char(
+    sink: &mut Sink,
+    page: Page,
+    folded: bool,
+    blank: bool,
+    before: char,
+    c: char,
+    rest: &str,
+)
+    ensures { Puts sink.old sink.new (block_char page folded blank before c (chars rest.now)) }
+{
+    let broken = is_break(before);
+    if is_break(c) {
+        put_new_line_if(
+            sink,
+            adds_break(folded, blank, before, c, rest),
+            page.line_break,
+        );
+        put_value_break(sink, page.line_break, c);
+    } else {
+        put_line_if(sink, broken, page);
+        put_block_text(sink, page, cuts_block(folded, blank, before, c, rest), c);
+    }
+}
+
+fn put_block_body(sink: &mut Sink, page: Page, folded: bool, value: &str)
+    ensures { Puts sink.old sink.new (block_body page folded true 10 (chars value.now)) }
+{
+    let mut before = '\n';
+    let mut blank = true;
+    let mut left = value;
+    while let Some((c, rest)) = split_first(left) {
+        put_block_char(sink, page, folded, blank, before, c, rest);
+        blank = line_blank(blank, before, c);
+        before = c;
+        left = rest;
+    }
+}
+
+fn chomp_of(broken: bool, last: bool) -> Chomp
+    ensures { result ≡ chomp_of broken last }
+{
+    if last {
+        if broken { Chomp::Keep } else { Chomp::Clip }
+    } else {
+        Chomp::Strip
+    }
+}
+
+// By how a value ends.
+fn chomp(value: &str) -> Chomp
+    ensures { result ≡ chomp true true (chars value.now) }
+{
+    let mut broken = true;
+    let mut last = true;
+    let mut left = value;
+    while let Some((c, rest)) = split_first(left) {
+        broken = last;
+        last = is_break(c);
+        left = rest;
+    }
+    chomp_of(broken, last)
+}
+
+fn put_chomp(sink: &mut Sink, chomp: Chomp)
+    ensures { Puts sink.old sink.new (chomp_mark chomp) }
+{
+    match chomp {
+        Chomp::Strip => put_chomp_sign(sink, '-', false),
+        Chomp::Clip => sink.set_kept(false),
+        Chomp::Keep => put_chomp_sign(sink, '+', true),
+    }
+}
+
+fn put_chomp_sign(sink: &mut Sink, sign: char, kept: bool)
+    ensures { Puts sink.old sink.new (char sign ▹ keep kept) }
+{
+    sink.put(sign);
+    sink.set_kept(kept);
+}
+
+// An indent of more than one digit means 2.
+fn digit_char(digit: u64) -> char
+    ensures { result ≡ digit_char digit }
+{
+    if digit < 10 {
+        (48 + digit as u8) as char
+    } else {
+        '2'
+    }
+}
+
+// The digit of the indent, where the value begins with a space or a break.
+fn put_digit(sink: &mut Sink, digit: u64, value: &str)
+    ensures { Puts sink.old sink.new (digit_mark digit (chars value.now)) }
+{
+    let c = first(value);
+    put_if(sink, c == ' ' || is_break(c), digit_char(digit));
+}
+
+fn opening(folded: bool) -> char
+    ensures { result ≡ (if folded then 62 else 124) }
+{
+    if folded { '>' } else { '|' }
+}
+
+fn put_header(sink: &mut Sink, digit: u64, folded: bool, value: &str)
+    ensures { Puts sink.old sink.new (block_header digit folded (chars value.now)) }
+{
+    sink.put_gap();
+    sink.put(opening(folded));
+    put_digit(sink, digit, value);
+    put_chomp(sink, chomp(value));
+}
+
+fn put_block(sink: &mut Sink, page: Page, digit: u64, folded: bool, value: &str)
+    ensures { Puts sink.old sink.new (block page digit folded (chars value.now)) }
+{
+    put_header(sink, digit, folded, value);
+    sink.put_new_line(page.line_break);
+    put_block_body(sink, page, folded, value);
+    sink.set_light();
+}
+
+/// A literal scalar, with a space in front where one is due: `|`, the indent's digit where the value begins with a space or
+/// a break, `-` where it ends in no break and `+` where it ends in more than one or is one, and its lines as they are.
+pub fn put_literal(sink: &mut Sink, page: Page, digit: u64, value: &str)
+    ensures { Puts sink.old sink.new (block page digit false (chars value.now)) }
+{
+    put_block(sink, page, digit, false, value);
+}
+
+/// A folded scalar, with a space in front where one is due: `>`, the same signs, and its lines. Behind the width a space
+/// becomes a line, but not in a line that begins with a blank, nor before a space; and lines that begin with no blank are parted
+/// by a break more.
+pub fn put_folded(sink: &mut Sink, page: Page, digit: u64, value: &str)
+    ensures { Puts sink.old sink.new (block page digit true (chars value.now)) }
+{
+    put_block(sink, page, digit, true, value);
+}

@@ -1,0 +1,134 @@
+//! Plain and single quoted scalars (YAML 1.1, 9.1.1 and 9.1.3).
+
+ghost use Rattle.std.specs.Prelude.{◌≡◌, not, ◌&&◌, ◌||◌, ◌==◌, if◌then◌else◌};
+ghost use Rattle.std.specs.Str.{chars};
+ghost use Rattle.yaml_emit_text.specs.Sink.{Puts};
+ghost use Rattle.yaml_emit_text.specs.Text.{is_break};
+ghost use Rattle.yaml_emit_text.specs.Layout.{◌▹◌, stay, choose, when, char, break, new_line, gap, line, is_past, dark};
+ghost use Rattle.yaml_emit_text.specs.Quoted.{first, is_empty};
+ghost use Rattle.yaml_emit_text.specs.Scalars.{value_break, cuts_at, cut, quote_char, text_char, flow_char, flow_body, plain, single_quoted};
+
+use crate::letters::{first, is_break, is_empty, split_first};
+use crate::page::Page;
+use crate::quoted::put_if;
+use crate::settings::LineBreak;
+use crate::sink::Sink;
+
+// A break of a value: LF as the break that is set, the others as they are.
+pub(crate) fn put_value_break(sink: &mut Sink, line_break: LineBreak, c: char)
+    ensures { Puts sink.old sink.new (value_break line_break c) }
+{
+    if c == '\n' {
+        sink.put_new_line(line_break);
+    } else {
+        sink.put_break(c);
+    }
+}
+
+pub(crate) fn put_new_line_if(sink: &mut Sink, due: bool, line_break: LineBreak)
+    ensures { Puts sink.old sink.new (when due (new_line line_break)) }
+{
+    if due {
+        sink.put_new_line(line_break);
+    }
+}
+
+pub(crate) fn put_line_if(sink: &mut Sink, due: bool, page: Page)
+    ensures { Puts sink.old sink.new (when due (line page.line_break page.indentation)) }
+{
+    if due {
+        sink.put_line(page.line_break, page.indentation);
+    }
+}
+
+// A space that may be cut.
+pub(crate) fn put_cut(sink: &mut Sink, page: Page, c: char)
+    ensures { Puts sink.old sink.new (cut page c) }
+{
+    if sink.is_past(page.width) {
+        sink.put_line(page.line_break, page.indentation);
+    } else {
+        sink.put(c);
+    }
+}
+
+fn cuts_at(page: Page, before: char, c: char, rest: &str) -> bool
+    ensures { result ≡ cuts_at page before c (chars rest.now) }
+{
+    page.cuts && c == ' ' && before != ' ' && first(rest) != ' ' && !is_empty(rest)
+}
+
+// In single quotes `'` is doubled.
+fn put_quote_char(sink: &mut Sink, quote: bool, c: char)
+    ensures { Puts sink.old sink.new (quote_char quote c) }
+{
+    put_if(sink, quote && c == '\'', '\'');
+    sink.put(c);
+}
+
+fn put_text_char(sink: &mut Sink, page: Page, quote: bool, cuts: bool, c: char)
+    ensures { Puts sink.old sink.new (text_char page quote cuts c) }
+{
+    if cuts {
+        put_cut(sink, page, c);
+    } else {
+        put_quote_char(sink, quote, c);
+    }
+}
+
+#[tactic(auto, unfolding(crate::specs::Scalars::flow_char))]
+fn put_flow_char(sink: &mut Sink, page: Page, quote: bool, before: char, c: char, rest: &str)
+    ensures { Puts sink.old sink.new (flow_char page quote before c (chars rest.now)) }
+{
+    let broken = is_break(before);
+    if is_break(c) {
+        put_new_line_if(sink, c == '\n' && !broken, page.line_break);
+        put_value_break(sink, page.line_break, c);
+    } else {
+        put_line_if(sink, broken, page);
+        put_text_char(sink, page, quote, cuts_at(page, before, c, rest), c);
+    }
+}
+
+fn put_flow_body(sink: &mut Sink, page: Page, quote: bool, value: &str)
+    ensures { Puts sink.old sink.new (flow_body page quote 32 (chars value.now)) }
+{
+    let mut before = ' ';
+    let mut left = value;
+    while let Some((c, rest)) = split_first(left) {
+        put_flow_char(sink, page, quote, before, c, rest);
+        before = c;
+        left = rest;
+    }
+    put_line_if(sink, is_break(before), page);
+}
+
+fn put_gap_if(sink: &mut Sink, due: bool)
+    ensures { Puts sink.old sink.new (when due gap) }
+{
+    if due {
+        sink.put_gap();
+    }
+}
+
+/// A plain scalar, with a space in front where one is due. Behind the width a space becomes a line of the page's indentation,
+/// unless the scalar is a simple key, a space is beside it, or it is first or last. Outside flow collections an empty one is
+/// nothing, not even a space.
+pub fn put_plain(sink: &mut Sink, page: Page, flow: bool, value: &str)
+    ensures { Puts sink.old sink.new (plain page flow (chars value.now)) }
+{
+    put_gap_if(sink, flow || !is_empty(value));
+    put_flow_body(sink, page, false, value);
+    sink.set_dark();
+}
+
+/// A single quoted scalar, with a space in front where one is due. `'` is doubled, spaces are cut as in plain scalars, and a
+/// run of breaks that begins with a line feed gets one break more in front.
+pub fn put_single_quoted(sink: &mut Sink, page: Page, value: &str)
+    ensures { Puts sink.old sink.new (single_quoted page (chars value.now)) }
+{
+    sink.put_gap();
+    sink.put('\'');
+    put_flow_body(sink, page, true, value);
+    sink.put('\'');
+}

@@ -1,0 +1,27 @@
+//! Scalars in their style.
+
+ghost use Rattle.std.specs.Prelude.{◌≡◌, true, false};
+ghost use Rattle.std.specs.Str.{chars};
+ghost use Rattle.yaml_emit_text.specs.Sink.{Puts};
+ghost use Rattle.yaml_emit_text.specs.Quoted.{double_quoted};
+ghost use Rattle.yaml_emit_text.specs.Scalars.{plain, single_quoted, block, scalar_text};
+
+use crate::block::{put_folded, put_literal};
+use crate::flow::{put_plain, put_single_quoted};
+use crate::page::{Page, Style};
+use crate::quoted::put_double_quoted;
+use crate::sink::Sink;
+
+/// A scalar in that style, inside a flow collection or not. The digit is the indent's, for block scalars.
+#[tactic(auto, unfolding(crate::specs::Scalars::scalar_text))]
+pub fn put_styled(sink: &mut Sink, page: Page, digit: u64, flow: bool, style: Style, value: &str)
+    ensures { Puts sink.old sink.new (scalar_text page digit flow style (chars value.now)) }
+{
+    match style {
+        Style::Plain => put_plain(sink, page, flow, value),
+        Style::Single => put_single_quoted(sink, page, value),
+        Style::Double => put_double_quoted(sink, page, value),
+        Style::Literal => put_literal(sink, page, digit, value),
+        Style::Folded => put_folded(sink, page, digit, value),
+    }
+}

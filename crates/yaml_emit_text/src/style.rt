@@ -1,0 +1,240 @@
+//! Which styles a value allows, and which one is taken.
+
+ghost use Rattle.std.specs.Prelude.{◌≡◌, ℕ, ◌∷◌, [], false, true, not, ◌&&◌, ◌||◌, ◌==◌, if◌then◌else◌};
+ghost use Rattle.std.specs.Str.{chars};
+ghost use Rattle.yaml_emit_text.specs.Text.{is_break};
+ghost use Rattle.yaml_emit_text.specs.Quoted.{is_printable, first, is_empty};
+ghost use Rattle.yaml_emit_text.specs.Style.{is_blank, ends_word, somewhere, is_special, is_break_space, is_not_plain, is_not_flow, last_or, ends_in_space, is_indicator, is_badly_begun, behind, starts_badly, allowed_text, allowed, plain_fits, single_or, block_or, plain_or, taken, looked, seen, joined};
+
+use crate::letters::{first, is_break, split_first};
+use crate::page::{Allowed, Seen, Style};
+use crate::quoted::is_printable;
+use yaml_scan::yaml_scalar_style_t;
+
+pub(crate) fn is_blank(c: char) -> bool
+    ensures { result ≡ is_blank c }
+{
+    c == ' ' || c == '\t'
+}
+
+fn ends_word(c: char) -> bool
+    ensures { result ≡ ends_word c }
+{
+    is_blank(c) || is_break(c) || c == '\0'
+}
+
+fn is_special(unicode: bool, c: char, next: char) -> bool
+    ensures { (before : ℕ) → result ≡ is_special unicode before c next }
+{
+    let n = c as u32;
+    !is_printable(c) || (!unicode && 0x80 <= n) || (c == ' ' && is_break(next))
+}
+
+fn is_break_space(c: char, next: char) -> bool
+    ensures { (before : ℕ) → result ≡ is_break_space before c next }
+{
+    is_break(c) && next == ' '
+}
+
+fn is_not_plain(before: char, c: char, next: char) -> bool
+    ensures { result ≡ is_not_plain before c next }
+{
+    is_break(c) || (c == ':' && ends_word(next)) || (c == '#' && ends_word(before))
+}
+
+fn is_not_flow(c: char) -> bool
+    ensures { (before next : ℕ) → result ≡ is_not_flow before c next }
+{
+    c == ',' || c == '?' || c == ':' || c == '[' || c == ']' || c == '{' || c == '}'
+}
+
+fn is_indicator(c: char) -> bool
+    ensures { result ≡ is_indicator c }
+{
+    c == ' '
+        || c == '#'
+        || c == ','
+        || c == '['
+        || c == ']'
+        || c == '{'
+        || c == '}'
+        || c == '&'
+        || c == '*'
+        || c == '!'
+        || c == '|'
+        || c == '>'
+        || c == '\''
+        || c == '"'
+        || c == '%'
+        || c == '@'
+        || c == '`'
+}
+
+fn is_badly_begun(a: char, b: char, c: char) -> bool
+    ensures { result ≡ is_badly_begun a b c }
+{
+    is_indicator(a)
+        || ((a == '-' || a == '?') && ends_word(b))
+        || (a == '-' && b == '-' && c == '-')
+        || (a == '.' && b == '.' && c == '.')
+}
+
+fn plain_fits(a: Allowed, untagged: bool, flow: bool, simple: bool, empty: bool) -> bool
+    ensures { result ≡ plain_fits a untagged flow simple empty }
+{
+    let fits = if flow { a.flow_plain } else { a.plain };
+    fits && !(empty && simple) && untagged
+}
+
+fn single_or(a: Allowed) -> Style
+    ensures { result ≡ single_or a }
+{
+    if a.single {
+        Style::Single
+    } else {
+        Style::Double
+    }
+}
+
+fn block_or(a: Allowed, flow: bool, simple: bool, style: Style) -> Style
+    ensures { result ≡ block_or a flow simple style }
+{
+    if a.block && !(flow || simple) {
+        style
+    } else {
+        Style::Double
+    }
+}
+
+fn plain_or(a: Allowed, untagged: bool, flow: bool, simple: bool, empty: bool) -> Style
+    ensures { result ≡ plain_or a untagged flow simple empty }
+{
+    if plain_fits(a, untagged, flow, simple, empty) {
+        Style::Plain
+    } else {
+        single_or(a)
+    }
+}
+
+/// The style that was asked for, where the value allows it. Any style is plain; plain also needs that the scalar may be
+/// untagged in that style or that its tag is written, block styles that it stands neither in a flow collection nor as a simple
+/// key. Plain falls back to single quoted, that and block styles to double quoted.
+#[tactic(auto, unfolding(crate::specs::Style::taken))]
+pub fn taken(
+    a: Allowed,
+    style: yaml_scalar_style_t,
+    untagged: bool,
+    flow: bool,
+    simple: bool,
+    empty: bool,
+) -> Style
+    ensures { result ≡ taken a style untagged flow simple empty }
+{
+    match style {
+        yaml_scalar_style_t::YAML_ANY_SCALAR_STYLE => plain_or(a, untagged, flow, simple, empty),
+        yaml_scalar_style_t::YAML_PLAIN_SCALAR_STYLE => plain_or(a, untagged, flow, simple, empty),
+        yaml_scalar_style_t::YAML_SINGLE_QUOTED_SCALAR_STYLE => single_or(a),
+        yaml_scalar_style_t::YAML_DOUBLE_QUOTED_SCALAR_STYLE => Style::Double,
+        yaml_scalar_style_t::YAML_LITERAL_SCALAR_STYLE => block_or(a, flow, simple, Style::Literal),
+        yaml_scalar_style_t::YAML_FOLDED_SCALAR_STYLE => block_or(a, flow, simple, Style::Folded),
+    }
+}
+
+// What a character adds, behind another one and before the next.
+fn seen(unicode: bool, before: char, c: char, next: char) -> Seen
+    ensures { result ≡ seen unicode before c next }
+{
+    Seen {
+        special: is_special(unicode, c, next),
+        broken: is_break_space(c, next),
+        not_plain: is_not_plain(before, c, next),
+        not_flow: is_not_flow(c),
+    }
+}
+
+fn joined(a: Seen, b: Seen) -> Seen
+    ensures { result ≡ joined a b }
+{
+    Seen {
+        special: a.special | b.special,
+        broken: a.broken | b.broken,
+        not_plain: a.not_plain | b.not_plain,
+        not_flow: a.not_flow | b.not_flow,
+    }
+}
+
+// One look at a value: what was seen, and its last character.
+fn look(unicode: bool, value: &str) -> (Seen, char)
+    ensures seen { result.0 ≡ looked unicode 32 (chars value.now) }
+    ensures last { result.1 ≡ last_or 32 (chars value.now) }
+{
+    let mut all = Seen {
+        special: false,
+        broken: false,
+        not_plain: false,
+        not_flow: false,
+    };
+    let mut before = ' ';
+    let mut left = value;
+    while let Some((c, rest)) = split_first(left) {
+        all = joined(all, seen(unicode, before, c, first(rest)));
+        before = c;
+        left = rest;
+    }
+    (all, before)
+}
+
+fn behind(text: &str) -> &str
+    ensures { chars result.now ≡ behind (chars text.now) }
+{
+    match split_first(text) {
+        None => text,
+        Some((_, rest)) => rest,
+    }
+}
+
+fn starts_badly(value: &str) -> bool
+    ensures { result ≡ starts_badly (chars value.now) }
+{
+    let second = behind(value);
+    is_badly_begun(first(value), first(second), first(behind(second)))
+}
+
+fn allowed_by(all: Seen, spaced: bool, badly: bool) -> Allowed
+    ensures plain { result.plain ≡ not (all.special || all.broken || spaced || badly || all.not_plain) }
+    ensures flow_plain { result.flow_plain ≡ (not (all.special || all.broken || spaced || badly || all.not_plain) && not all.not_flow) }
+    ensures single { result.single ≡ not (all.special || all.broken) }
+    ensures block { result.block ≡ not (all.special || spaced) }
+{
+    let unfit = all.special | all.broken | spaced | badly | all.not_plain;
+    Allowed {
+        plain: !unfit,
+        flow_plain: !unfit & !all.not_flow,
+        single: !(all.special | all.broken),
+        block: !(all.special | spaced),
+    }
+}
+
+fn allowed_text(unicode: bool, value: &str) -> Allowed
+    ensures { result ≡ allowed_text unicode (chars value.now) }
+{
+    let (all, last) = look(unicode, value);
+    allowed_by(all, last == ' ', starts_badly(value))
+}
+
+/// The styles that a value allows. Characters that are not printable, with unicode off those that are not ASCII, and a space
+/// before a break want double quotes.
+#[tactic(auto, unfolding(crate::specs::Style::allowed))]
+pub fn allowed_for(unicode: bool, value: &str) -> Allowed
+    ensures { result ≡ allowed unicode (chars value.now) }
+{
+    match split_first(value) {
+        None => Allowed {
+            plain: true,
+            flow_plain: false,
+            single: true,
+            block: false,
+        },
+        Some(_) => allowed_text(unicode, value),
+    }
+}

@@ -13,7 +13,7 @@ use Rattle.yaml_emit_text.specs.declared.Style.TheVariants as style
 use Rattle.yaml_emit_text.specs.Text.{Item, deep}
 use Rattle.yaml_emit_text.specs.Style.{allowed, taken}
 use Rattle.yaml_emit_text.specs.Scalars.{scalar_text}
-use Rattle.yaml_emit_text.specs.Tags.{tag_spelling, tag_size, uri_text, prefix_keeps}
+use Rattle.yaml_emit_text.specs.Tags.{tag_spelling, tag_size, uri_text}
 use Rattle.yaml_emit_text.specs.Layout.{Layout, ◌▹◌, stay, choose, when, char, word, indicator, opener, line, wrap, keep, order_mark}
 use Rattle.yaml_emit_layout.specs.declared.level.Part.{Part}
 use Rattle.yaml_emit_layout.specs.declared.level.Part.TheVariants as part
@@ -241,7 +241,7 @@ version_text s (Some v) = word (codes "%YAML") ▹ word (version_word v) ▹ lin
 
 -- `%TAG`, the handle and the prefix
 abbrev pub directive_text : Settings → TagDirective → Layout
-directive_text s d = word (codes "%TAG") ▹ word d.handle ▹ word (uri_text prefix_keeps d.prefix) ▹ line_at s 0
+directive_text s d = word (codes "%TAG") ▹ word d.handle ▹ word (uri_text true d.prefix) ▹ line_at s 0
 
 unfoldable pub directives_text : Settings → List TagDirective → Layout
 directives_text s [] = stay

@@ -1,5 +1,5 @@
 -- Which lists of events an emitter takes, and which event it refuses first.
-use Rattle.std.specs.Prelude.{ℕ, ◌-◌, Bool, true, false, not, ◌&&◌, ◌||◌, ◌==◌, nat_le, if◌then◌else◌, List, [], ◌∷◌, ◌++◌, length, take, drop, Option, Some, None, pos, nat_eq}
+use Rattle.std.specs.Prelude.{ℕ, ◌-◌, Bool, true, false, not, ◌&&◌, ◌||◌, ◌==◌, nat_le, if◌then◌else◌, List, [], ◌∷◌, ◌++◌, length, take, drop, get_or, Option, Some, None, pos, nat_eq}
 use Rattle.std.specs.Cmp.Lexicographic.{pointwise}
 use Rattle.std.specs.List.{list_all, list_any}
 use Rattle.std.specs.Ordering.{int_eq}
@@ -74,33 +74,28 @@ abbrev pub version_problem : Option yaml_version_directive_t → Option Problem
 version_problem None = None
 version_problem (Some v) = if is_version v then None else Some problem.Version
 
--- the last byte, or else another
-unfoldable pub last_or : ℕ → List ℕ → ℕ
-last_or a [] = a
-last_or a (c ∷ cs) = last_or c cs
-
-abbrev pub first_or : ℕ → List ℕ → ℕ
-first_or a [] = a
-first_or a (c ∷ cs) = c
-
 -- what stands between the first and the last byte
 abbrev pub between : List ℕ → List ℕ
-between h = take (length h - 2) (drop 1 h)
+between h = take (length h - 1 - 1) (drop 1 h)
+
+abbrev pub inner_problem : List ℕ → Option Problem
+inner_problem h = if list_all is_alpha_byte (between h) then None else Some problem.HandleCharacters
+
+abbrev pub ends_problem : List ℕ → Option Problem
+ends_problem h =
+    if not (get_or h 0 0 == 33) then Some problem.HandleStart
+    else if not (get_or h (length h - 1) 0 == 33) then Some problem.HandleEnd
+    else inner_problem h
 
 -- a handle is `!` or `!name!`
 unfoldable pub handle_problem : List ℕ → Option Problem
-handle_problem h =
-    if length h == 0 then Some problem.HandleEmpty
-    else if not (first_or 0 h == 33) then Some problem.HandleStart
-    else if not (last_or 0 h == 33) then Some problem.HandleEnd
-    else if list_all is_alpha_byte (between h) then None
-    else Some problem.HandleCharacters
+handle_problem h = if length h == 0 then Some problem.HandleEmpty else ends_problem h
 
 abbrev pub prefix_problem : List ℕ → Option Problem
 prefix_problem p = if length p == 0 then Some problem.PrefixEmpty else None
 
 abbrev pub has_handle : List ℕ → TagDirective → Bool
-has_handle h d = pointwise nat_eq h d.handle
+has_handle h d = pointwise nat_eq d.handle h
 
 -- no handle twice
 abbrev pub twice_problem : List TagDirective → List ℕ → Option Problem

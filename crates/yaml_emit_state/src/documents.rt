@@ -117,13 +117,26 @@ fn put_opening(sink: &mut Sink, settings: Settings, marked: bool, version: Optio
     put_dashes_if(sink, marked, settings);
 }
 
-#[tactic(auto, unfolding(yaml_emit_layout::specs::Nodes::start_layout))]
+// `...` parts directives from a document that ended implicitly.
+fn is_parted(unended: bool, version: Option<yaml_version_directive_t>, directives: &[yaml_tag_directive_t]) -> bool
+    ensures { result ≡ (unended && (has_version version || has_directives (map directive_of directives.now))) }
+{
+    unended && is_directed(version, directives)
+}
+
+// Whether `---` is due.
+fn is_marked(settings: Settings, first: bool, version: Option<yaml_version_directive_t>, directives: &[yaml_tag_directive_t], implicit: bool) -> bool
+    ensures { result ≡ (settings.canonical || not (first && (implicit && not (has_version version || has_directives (map directive_of directives.now))))) }
+{
+    settings.canonical || !(first && (implicit && !is_directed(version, directives)))
+}
+
 fn put_start(sink: &mut Sink, settings: Settings, first: bool, unended: bool, version: Option<yaml_version_directive_t>, directives: &[yaml_tag_directive_t], implicit: bool)
     ensures { Puts sink.old sink.new (start_layout settings first unended (record { version = version; directives = map directive_of directives.now; implicit = implicit })) }
 {
-    let directed = is_directed(version, directives);
-    put_dots_if(sink, unended && directed, settings);
-    put_opening(sink, settings, settings.canonical || !(first && implicit && !directed), version, directives);
+    let marked = is_marked(settings, first, version, directives, implicit);
+    put_dots_if(sink, is_parted(unended, version, directives), settings);
+    put_opening(sink, settings, marked, version, directives);
 }
 
 /// What opens a document, where one may come.

@@ -1,10 +1,10 @@
 //! What is wrong with an event: its names, its tag, its place, and its directives or flags.
 ghost use Rattle.std.specs.List.{list_all, list_any};
-ghost use Rattle.std.specs.Prelude.{◌≡◌, ◌∷◌, [], None, Some, true, false, not, ◌&&◌, ◌||◌, length, map, take};
+ghost use Rattle.std.specs.Prelude.{◌≡◌, ◌∷◌, [], None, Some, true, false, if◌then◌else◌, not, ◌&&◌, ◌||◌, length, map, take, ◌≤◌};
 ghost use Rattle.yaml_scan.specs.Classes.{is_alpha_byte};
 ghost use Rattle.yaml_parse_model.specs.Events.{text_of, directive_of, body_of};
 ghost use Rattle.yaml_emit_layout.specs.Content.{said};
-ghost use Rattle.yaml_emit_layout.specs.Grammar.{has, name_problem, anchor_problem, tag_problem, kept_tag, event_problem, version_problem, handle_problem, prefix_problem, twice_problem, directive_problem, directives_problem, opening_problem, flags_problem, last_problem, ends_phase, begins_node, may_come, node_problem, place_problem, problem_by, between, first_or, last_or, has_handle, is_version, or_else};
+ghost use Rattle.yaml_emit_layout.specs.Grammar.{has, name_problem, anchor_problem, tag_problem, kept_tag, event_problem, version_problem, handle_problem, prefix_problem, twice_problem, directive_problem, directives_problem, opening_problem, flags_problem, last_problem, ends_phase, begins_node, may_come, node_problem, place_problem, problem_by, between, inner_problem, ends_problem, has_handle, is_version, or_else};
 
 use yaml_emit_layout::{Level, Phase, Place, Problem};
 use yaml_parse_model::yaml_event_body_t;
@@ -108,19 +108,43 @@ fn version_problem(version: Option<yaml_version_directive_t>) -> Option<Problem>
     }
 }
 
-// The first and the last byte of a handle are `!`.
-fn ends_problem(handle: &[u8]) -> Option<Problem> {
-    if handle[0] != b'!' {
-        Some(Problem::HandleStart)
-    } else if handle[handle.len() - 1] != b'!' {
-        Some(Problem::HandleEnd)
-    } else if handle.len() == 1 || are_alphas(&handle[1..handle.len() - 1]) {
+fn inner_problem(handle: &[u8]) -> Option<Problem>
+    requires { 2 ≤ length handle.now }
+    ensures { result ≡ inner_problem handle.now }
+{
+    if are_alphas(&handle[1..handle.len() - 1]) {
         None
     } else {
         Some(Problem::HandleCharacters)
     }
 }
 
+fn middle_problem(handle: &[u8]) -> Option<Problem>
+    requires { 1 ≤ length handle.now }
+    ensures { result ≡ inner_problem handle.now }
+{
+    if handle.len() < 2 {
+        None
+    } else {
+        inner_problem(handle)
+    }
+}
+
+// The first and the last byte of a handle are `!`.
+fn ends_problem(handle: &[u8]) -> Option<Problem>
+    requires { 1 ≤ length handle.now }
+    ensures { result ≡ ends_problem handle.now }
+{
+    if handle[0] != b'!' {
+        Some(Problem::HandleStart)
+    } else if handle[handle.len() - 1] != b'!' {
+        Some(Problem::HandleEnd)
+    } else {
+        middle_problem(handle)
+    }
+}
+
+#[tactic(auto, unfolding(yaml_emit_layout::specs::Grammar::handle_problem))]
 fn handle_problem(handle: &[u8]) -> Option<Problem>
     ensures { result ≡ handle_problem handle.now }
 {
@@ -178,8 +202,9 @@ fn directives_problem(directives: &[yaml_tag_directive_t]) -> Option<Problem>
     ensures { result ≡ directives_problem [] (map directive_of directives.now) }
 {
     for i in 0..directives.len() {
-        if let Some(problem) = directive_problem(&directives[..i], &directives[i]) {
-            return Some(problem);
+        match directive_problem(&directives[..i], &directives[i]) {
+            Some(problem) => return Some(problem),
+            None => (),
         }
     }
     None
@@ -203,8 +228,10 @@ fn is_tagged(tag: &Option<Vec<u8>>) -> bool
     }
 }
 
-fn flags_problem(tag: &Option<Vec<u8>>, plain: bool, quoted: bool) -> Option<Problem> {
-    if is_tagged(tag) || plain || quoted {
+fn flags_problem(tag: &Option<Vec<u8>>, plain: bool, quoted: bool) -> Option<Problem>
+    ensures { result ≡ (if has (text_of tag.now) || (plain || quoted) then None else Some Problem.NoFlags) }
+{
+    if is_tagged(tag) || (plain || quoted) {
         None
     } else {
         Some(Problem::NoFlags)

@@ -1,5 +1,7 @@
 pub mod Sinks
 mod Spells
 mod Walks
+mod Directives
 mod Escapes
 mod Looks
+mod Rows

@@ -12,7 +12,9 @@ mod quoted;
 mod scalar;
 mod settings;
 mod sink;
+mod split;
 mod style;
+mod tag;
 
 pub use block::{put_folded, put_literal};
 pub use cursor::{Cursor, Status};
@@ -24,3 +26,7 @@ pub use scalar::put_styled;
 pub use settings::{Encoding, LineBreak, Settings, Wishes, settled};
 pub use sink::Sink;
 pub use style::{allowed_for, taken};
+pub use tag::{put_alias, put_anchor, put_prefix, put_tag, tag_size};
+
+#[cfg(test)]
+mod tests;

@@ -1,0 +1,175 @@
+-- Worked examples, computed by the definitions.
+use Rattle.std.proofs.Common.{◌≡◌, ℕ, List, [], ◌∷◌, refl, true, false}
+use Rattle.std.specs.Prelude.{codes}
+use Rattle.yaml_scan.specs.declared.yaml_scalar_style_t.TheVariants as asked
+use Rattle.yaml_parse_model.specs.Events.{TagDirective}
+use Rattle.yaml_emit_text.specs.declared.page.Page.{Page}
+use Rattle.yaml_emit_text.specs.declared.page.Style.TheVariants as style
+use Rattle.yaml_emit_text.specs.declared.settings.Encoding.TheVariants.{Utf16Le, Utf16Be}
+use Rattle.yaml_emit_text.specs.declared.settings.LineBreak.TheVariants.{Lf, CrLf}
+use Rattle.yaml_emit_text.specs.Text.{letter, shown, encode, char_bytes, is_deep}
+use Rattle.yaml_emit_text.specs.Layout.{◌▹◌, char, letters, blanks, line, word, order_mark, written, text_of}
+use Rattle.yaml_emit_text.specs.Quoted.{needs_escape, escape_letter, hex_digit, escape_text, quoted_char, quoted_body, double_quoted}
+use Rattle.yaml_emit_text.specs.Style.{somewhere, last_or, allowed, taken}
+use Rattle.yaml_emit_text.specs.Scalars.{flow_char, flow_body, behind_breaks, block_char, block_body, chomp, scalar_text, plain, single_quoted, block}
+use Rattle.yaml_emit_text.specs.Tags.{directive_for, defines, suffix_keeps, uri_text, spelled, tag_spelling}
+
+-- an indentation of 2, and lines of 10 columns
+abbrev narrow : Page
+narrow = record { width = 10; indentation = 2; unicode = true; cuts = true; line_break = Lf }
+
+abbrev ascii : Page
+ascii = record { width = 80; indentation = 2; unicode = false; cuts = true; line_break = Lf }
+
+abbrev simple_key : Page
+simple_key = record { width = 10; indentation = 2; unicode = true; cuts = false; line_break = Lf }
+
+abbrev dos : Page
+dos = record { width = 10; indentation = 2; unicode = true; cuts = true; line_break = CrLf }
+
+abbrev directive : List ℕ → List ℕ → TagDirective
+directive handle prefix = record { handle = handle; prefix = prefix }
+
+double_folds : text_of (double_quoted narrow (codes "aaaa bbbb cccc dddd")) ≡ codes "\"aaaa bbbb cccc\n  dddd\""
+unfolding letters blanks line shown encode char_bytes is_deep needs_escape escape_letter hex_digit escape_text quoted_char quoted_body somewhere last_or allowed taken flow_char flow_body behind_breaks block_char block_body chomp scalar_text
+double_folds = refl
+
+double_folds_before_space : text_of (double_quoted narrow (codes "aaaa bbbb cccc  dddd")) ≡ codes "\"aaaa bbbb cccc\n  \\ dddd\""
+unfolding letters blanks line shown encode char_bytes is_deep needs_escape escape_letter hex_digit escape_text quoted_char quoted_body somewhere last_or allowed taken flow_char flow_body behind_breaks block_char block_body chomp scalar_text
+double_folds_before_space = refl
+
+double_key : text_of (double_quoted simple_key (codes "aaaa bbbb cccc dddd")) ≡ codes "\"aaaa bbbb cccc dddd\""
+unfolding letters blanks line shown encode char_bytes is_deep needs_escape escape_letter hex_digit escape_text quoted_char quoted_body somewhere last_or allowed taken flow_char flow_body behind_breaks block_char block_body chomp scalar_text
+double_key = refl
+
+double_escapes : text_of (double_quoted ascii (0 ∷ 0x2028 ∷ 0x10FFFF ∷ [])) ≡ codes "\"\\0\\L\\U0010FFFF\""
+unfolding letters blanks line shown encode char_bytes is_deep needs_escape escape_letter hex_digit escape_text quoted_char quoted_body somewhere last_or allowed taken flow_char flow_body behind_breaks block_char block_body chomp scalar_text
+double_escapes = refl
+
+double_special : text_of (double_quoted narrow (0xFFFE ∷ [])) ≡ codes "\"\\uFFFE\""
+unfolding letters blanks line shown encode char_bytes is_deep needs_escape escape_letter hex_digit escape_text quoted_char quoted_body somewhere last_or allowed taken flow_char flow_body behind_breaks block_char block_body chomp scalar_text
+double_special = refl
+
+double_ascii : text_of (double_quoted ascii (0xE9 ∷ [])) ≡ codes "\"\\xE9\""
+unfolding letters blanks line shown encode char_bytes is_deep needs_escape escape_letter hex_digit escape_text quoted_char quoted_body somewhere last_or allowed taken flow_char flow_body behind_breaks block_char block_body chomp scalar_text
+double_ascii = refl
+
+literal_kept : text_of (block narrow 2 false (codes "a\n\n")) ≡ codes "|+\n  a\n\n"
+unfolding letters blanks line shown encode char_bytes is_deep needs_escape escape_letter hex_digit escape_text quoted_char quoted_body somewhere last_or allowed taken flow_char flow_body behind_breaks block_char block_body chomp scalar_text
+literal_kept = refl
+
+literal_digit : text_of (block narrow 2 false (codes " a")) ≡ codes "|2-\n   a"
+unfolding letters blanks line shown encode char_bytes is_deep needs_escape escape_letter hex_digit escape_text quoted_char quoted_body somewhere last_or allowed taken flow_char flow_body behind_breaks block_char block_body chomp scalar_text
+literal_digit = refl
+
+literal_break : text_of (block narrow 2 false (codes "\n")) ≡ codes "|2+\n\n"
+unfolding letters blanks line shown encode char_bytes is_deep needs_escape escape_letter hex_digit escape_text quoted_char quoted_body somewhere last_or allowed taken flow_char flow_body behind_breaks block_char block_body chomp scalar_text
+literal_break = refl
+
+literal_breaks : text_of (block dos 2 false (codes "a\nb\n")) ≡ codes "|\r\n  a\r\n  b\r\n"
+unfolding letters blanks line shown encode char_bytes is_deep needs_escape escape_letter hex_digit escape_text quoted_char quoted_body somewhere last_or allowed taken flow_char flow_body behind_breaks block_char block_body chomp scalar_text
+literal_breaks = refl
+
+folded_blank_line : text_of (block narrow 2 true (codes "a\n bbbb cccc dddd eeee\n")) ≡ codes ">\n  a\n   bbbb cccc dddd eeee\n"
+unfolding letters blanks line shown encode char_bytes is_deep needs_escape escape_letter hex_digit escape_text quoted_char quoted_body somewhere last_or allowed taken flow_char flow_body behind_breaks block_char block_body chomp scalar_text
+folded_blank_line = refl
+
+folded_lines : text_of (block narrow 2 true (codes "aaaa bbbb cccc dddd\nee\n\nff")) ≡ codes ">-\n  aaaa bbbb\n  cccc dddd\n\n  ee\n\n\n  ff"
+unfolding letters blanks line shown encode char_bytes is_deep needs_escape escape_letter hex_digit escape_text quoted_char quoted_body somewhere last_or allowed taken flow_char flow_body behind_breaks block_char block_body chomp scalar_text
+folded_lines = refl
+
+single_lines : text_of (single_quoted narrow (codes "it's aaaa bbbb cccc\ndd")) ≡ codes "'it''s aaaa\n  bbbb cccc\n\n  dd'"
+unfolding letters blanks line shown encode char_bytes is_deep needs_escape escape_letter hex_digit escape_text quoted_char quoted_body somewhere last_or allowed taken flow_char flow_body behind_breaks block_char block_body chomp scalar_text
+single_lines = refl
+
+plain_at_width : text_of (plain narrow false (codes "aaaaaaaaaa bbbb cc")) ≡ codes "aaaaaaaaaa bbbb\n  cc"
+unfolding letters blanks line shown encode char_bytes is_deep needs_escape escape_letter hex_digit escape_text quoted_char quoted_body somewhere last_or allowed taken flow_char flow_body behind_breaks block_char block_body chomp scalar_text
+plain_at_width = refl
+
+plain_past_width : text_of (plain narrow false (codes "aaaaaaaaaaa bbbb cc")) ≡ codes "aaaaaaaaaaa\n  bbbb cc"
+unfolding letters blanks line shown encode char_bytes is_deep needs_escape escape_letter hex_digit escape_text quoted_char quoted_body somewhere last_or allowed taken flow_char flow_body behind_breaks block_char block_body chomp scalar_text
+plain_past_width = refl
+
+plain_empty : text_of (word (codes "k:") ▹ plain narrow false []) ≡ codes "k:"
+unfolding letters blanks line shown encode char_bytes is_deep needs_escape escape_letter hex_digit escape_text quoted_char quoted_body somewhere last_or allowed taken flow_char flow_body behind_breaks block_char block_body chomp scalar_text
+plain_empty = refl
+
+plain_empty_in_flow : text_of (word (codes "k:") ▹ plain narrow true []) ≡ codes "k: "
+unfolding letters blanks line shown encode char_bytes is_deep needs_escape escape_letter hex_digit escape_text quoted_char quoted_body somewhere last_or allowed taken flow_char flow_body behind_breaks block_char block_body chomp scalar_text
+plain_empty_in_flow = refl
+
+pair_of_surrogates : encode Utf16Le (letter 0x1F600 ∷ []) ≡ 0x3D ∷ 0xD8 ∷ 0x00 ∷ 0xDE ∷ []
+unfolding letters blanks line shown encode char_bytes is_deep needs_escape escape_letter hex_digit escape_text quoted_char quoted_body somewhere last_or allowed taken flow_char flow_body behind_breaks block_char block_body chomp scalar_text
+pair_of_surrogates = refl
+
+pair_of_surrogates_high_first : encode Utf16Be (letter 0x1F600 ∷ []) ≡ 0xD8 ∷ 0x3D ∷ 0xDE ∷ 0x00 ∷ []
+unfolding letters blanks line shown encode char_bytes is_deep needs_escape escape_letter hex_digit escape_text quoted_char quoted_body somewhere last_or allowed taken flow_char flow_body behind_breaks block_char block_body chomp scalar_text
+pair_of_surrogates_high_first = refl
+
+mark_first : encode Utf16Le (written (order_mark Utf16Le ▹ char 45)) ≡ 0xFF ∷ 0xFE ∷ 0x2D ∷ 0x00 ∷ []
+unfolding letters blanks line shown encode char_bytes is_deep needs_escape escape_letter hex_digit escape_text quoted_char quoted_body somewhere last_or allowed taken flow_char flow_body behind_breaks block_char block_body chomp scalar_text
+mark_first = refl
+
+dash_in_flow : taken (allowed true (codes "-")) asked.YAML_ANY_SCALAR_STYLE true true false false ≡ style.Single
+unfolding letters blanks line shown encode char_bytes is_deep needs_escape escape_letter hex_digit escape_text quoted_char quoted_body somewhere last_or allowed taken flow_char flow_body behind_breaks block_char block_body chomp scalar_text
+dash_in_flow = refl
+
+number_in_flow : taken (allowed true (codes "-1")) asked.YAML_ANY_SCALAR_STYLE true true false false ≡ style.Plain
+unfolding letters blanks line shown encode char_bytes is_deep needs_escape escape_letter hex_digit escape_text quoted_char quoted_body somewhere last_or allowed taken flow_char flow_body behind_breaks block_char block_body chomp scalar_text
+number_in_flow = refl
+
+exponent_in_flow : taken (allowed true (codes "1e+5")) asked.YAML_PLAIN_SCALAR_STYLE true true false false ≡ style.Plain
+unfolding letters blanks line shown encode char_bytes is_deep needs_escape escape_letter hex_digit escape_text quoted_char quoted_body somewhere last_or allowed taken flow_char flow_body behind_breaks block_char block_body chomp scalar_text
+exponent_in_flow = refl
+
+not_ascii : taken (allowed false (0xE9 ∷ [])) asked.YAML_PLAIN_SCALAR_STYLE true false false false ≡ style.Double
+unfolding letters blanks line shown encode char_bytes is_deep needs_escape escape_letter hex_digit escape_text quoted_char quoted_body somewhere last_or allowed taken flow_char flow_body behind_breaks block_char block_body chomp scalar_text
+not_ascii = refl
+
+colon_at_end : taken (allowed true (codes "a:")) asked.YAML_PLAIN_SCALAR_STYLE true false false false ≡ style.Single
+unfolding letters blanks line shown encode char_bytes is_deep needs_escape escape_letter hex_digit escape_text quoted_char quoted_body somewhere last_or allowed taken flow_char flow_body behind_breaks block_char block_body chomp scalar_text
+colon_at_end = refl
+
+space_before_break : taken (allowed true (codes "a \nb")) asked.YAML_LITERAL_SCALAR_STYLE true false false false ≡ style.Double
+unfolding letters blanks line shown encode char_bytes is_deep needs_escape escape_letter hex_digit escape_text quoted_char quoted_body somewhere last_or allowed taken flow_char flow_body behind_breaks block_char block_body chomp scalar_text
+space_before_break = refl
+
+literal_in_flow : taken (allowed true (codes "a\nb")) asked.YAML_LITERAL_SCALAR_STYLE true true false false ≡ style.Double
+unfolding letters blanks line shown encode char_bytes is_deep needs_escape escape_letter hex_digit escape_text quoted_char quoted_body somewhere last_or allowed taken flow_char flow_body behind_breaks block_char block_body chomp scalar_text
+literal_in_flow = refl
+
+tag_by_directive : tag_spelling (directive (codes "!!") (codes "tag:x,2000:") ∷ []) (codes "tag:x,2000:a b") ≡ codes "!!a%20b"
+unfolding directive_for defines suffix_keeps uri_text spelled hex_digit
+tag_by_directive = refl
+
+tag_of_redefined : tag_spelling (directive (codes "!!") (codes "tag:x,2000:") ∷ []) (codes "tag:yaml.org,2002:str") ≡ codes "!<tag:yaml.org,2002:str>"
+unfolding directive_for defines suffix_keeps uri_text spelled hex_digit
+tag_of_redefined = refl
+
+tag_by_primary : tag_spelling (directive (codes "!") (codes "!m-") ∷ []) (codes "!m-a") ≡ codes "!a"
+unfolding directive_for defines suffix_keeps uri_text spelled hex_digit
+tag_by_primary = refl
+
+tag_not_shorter : tag_spelling [] (codes "!") ≡ codes "!<%21>"
+unfolding directive_for defines suffix_keeps uri_text spelled hex_digit
+tag_not_shorter = refl
+
+tag_whole_prefix : tag_spelling (directive (codes "!e!") (codes "tag:x,2000:") ∷ []) (codes "tag:x,2000:") ≡ codes "!<tag:x,2000:>"
+unfolding directive_for defines suffix_keeps uri_text spelled hex_digit
+tag_whole_prefix = refl
+
+tag_flow_signs : tag_spelling [] (codes "tag:yaml.org,2002:a,[b]") ≡ codes "!!a%2C%5Bb%5D"
+unfolding directive_for defines suffix_keeps uri_text spelled hex_digit
+tag_flow_signs = refl
+
+tag_first : tag_spelling (directive (codes "!e!") (codes "!") ∷ directive (codes "!f!") (codes "!") ∷ []) (codes "!x") ≡ codes "!e!x"
+unfolding directive_for defines suffix_keeps uri_text spelled hex_digit
+tag_first = refl
+
+tag_verbatim : tag_spelling [] (120 ∷ 91 ∷ 44 ∷ 93 ∷ 37 ∷ 0 ∷ []) ≡ codes "!<x[,]%25%00>"
+unfolding directive_for defines suffix_keeps uri_text spelled hex_digit
+tag_verbatim = refl
+
+prefix_escaped : uri_text true (codes "!m-") ≡ codes "%21m-"
+unfolding directive_for defines suffix_keeps uri_text spelled hex_digit
+prefix_escaped = refl

@@ -1,0 +1,10 @@
+use Rattle.std.proofs.Common.{◌≡◌, length, true, false, [], ◌∷◌}
+use Rattle.std.specs.Str.{chars}
+use Rattle.std.proofs.Common.{drop}
+use Rattle.yaml_emit_text.specs.Sink.{Owes}
+use Rattle.yaml_emit_text.specs.Layout.{letters}
+use Rattle.yaml_emit_text.specs.Tags.{uri_text}
+use Rattle.yaml_emit_text.proofs.tag.put_uri.Given as goal
+
+abbrev pub invariant-loop-byte : goal.invariant-loop-byte
+invariant-loop-byte l = Owes l.fn.sink l.sink (letters (uri_text l.flow l.text)) (letters (uri_text l.flow (drop l.byte-index l.text)))

@@ -1,0 +1,13 @@
+use Rattle.std.proofs.Common.{◌≡◌, refl, sym, ◌∙◌, ap, arith, true, false, [], ◌∷◌, drop, length}
+use Rattle.yaml_emit_text.proofs.Sinks.{puts_both, owes_same}
+use Rattle.yaml_emit_text.proofs.Spells.{puts_letters, puts_one, uri_more, uri_all}
+use Rattle.yaml_emit_text.specs.Layout.{letters}
+use Rattle.yaml_emit_text.specs.Tags.{uri_text, uri_byte, spelled}
+use Rattle.yaml_emit_text.proofs.tag.put_uri_byte.Goals as goal
+
+pub returns-then-keeps_byte : goal.returns-then-keeps_byte
+returns-then-keeps_byte c = rw (← c.keeps_byte.ensures, c.if-keeps_byte.true) (puts_one _ _ _ c.put.ensures)
+
+pub returns-else-keeps_byte : goal.returns-else-keeps_byte
+unfolding letters
+returns-else-keeps_byte c = rw (← c.keeps_byte.ensures, c.if-keeps_byte.false) (puts_both _ _ _ _ _ c.put-else-keeps_byte.ensures c.put_hex_2.ensures)

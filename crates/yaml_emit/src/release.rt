@@ -1,10 +1,20 @@
 //! What no longer has to be held.
 
+ghost use Rattle.std.specs.Prelude.{◌≡◌, true, false};
+ghost use Rattle.yaml_emit_state.specs.Steps.{goes_on};
+ghost use Rattle.yaml_emit_state.specs.Finish.{Leads};
+ghost use Rattle.yaml_emit.specs.Held.{held_events, HeldUtf8, is_ready};
+
 use crate::held::Held;
 use yaml_emit_state::Core;
 
-/// What lies ready is laid out, up to the first event that is refused.
-pub fn release(core: &mut Core, held: Held) -> Held {
+// What lies ready is laid out, up to the first event that is refused.
+pub(crate) fn release(core: &mut Core, held: Held) -> Held
+    requires { HeldUtf8 held }
+    ensures leads { Leads core.old (held_events held) core.new (held_events result) }
+    ensures utf8 { HeldUtf8 result }
+    ensures waits { goes_on core.new.sink.status core.new.place ≡ true → is_ready (held_events result) ≡ false }
+{
     let mut held = held;
     while core.is_going() && held.is_ready() {
         let (front, rest) = held.pop();

@@ -1,5 +1,5 @@
 -- Which lists of events an emitter takes, and which event it refuses first.
-use Rattle.std.specs.Prelude.{ℕ, ◌-◌, Bool, true, false, not, ◌&&◌, ◌||◌, ◌==◌, nat_le, if◌then◌else◌, List, [], ◌∷◌, ◌++◌, length, take, drop, get_or, Option, Some, None, pos, nat_eq}
+use Rattle.std.specs.Prelude.{ℕ, ◌-◌, Bool, true, false, not, ◌&&◌, ◌||◌, ◌==◌, nat_le, if◌then◌else◌, List, [], ◌∷◌, ◌++◌, length, take, drop, get_or, Option, Some, None, pos, nat_eq, codes}
 use Rattle.std.specs.Cmp.Lexicographic.{pointwise}
 use Rattle.std.specs.List.{list_all, list_any}
 use Rattle.std.specs.Ordering.{int_eq}
@@ -14,6 +14,27 @@ use Rattle.yaml_emit_layout.specs.declared.level.Phase.TheVariants.{Items, Keys,
 use Rattle.yaml_emit_layout.specs.declared.level.Place.{Place}
 use Rattle.yaml_emit_layout.specs.declared.level.Place.TheVariants as at
 use Rattle.yaml_emit_layout.specs.Content.{Scalar, Start, Opening, Event, no_event, stream_start, stream_end, document_start, document_end, alias, scalar, sequence_start, sequence_end, mapping_start, mapping_end}
+
+-- the text of a problem
+abbrev pub problem_bytes : Problem → List ℕ
+problem_bytes problem.AnchorEmpty = codes "anchor value must not be empty"
+problem_bytes problem.AnchorCharacters = codes "anchor value must contain alphanumerical characters only"
+problem_bytes problem.AliasEmpty = codes "alias value must not be empty"
+problem_bytes problem.AliasCharacters = codes "alias value must contain alphanumerical characters only"
+problem_bytes problem.TagEmpty = codes "tag value must not be empty"
+problem_bytes problem.ExpectedStreamStart = codes "expected STREAM-START"
+problem_bytes problem.ExpectedDocumentStartOrStreamEnd = codes "expected DOCUMENT-START or STREAM-END"
+problem_bytes problem.ExpectedNode = codes "expected SCALAR, SEQUENCE-START, MAPPING-START, or ALIAS"
+problem_bytes problem.ExpectedDocumentEnd = codes "expected DOCUMENT-END"
+problem_bytes problem.ExpectedNothing = codes "expected nothing after STREAM-END"
+problem_bytes problem.Version = codes "incompatible %YAML directive"
+problem_bytes problem.HandleEmpty = codes "tag handle must not be empty"
+problem_bytes problem.HandleStart = codes "tag handle must start with '!'"
+problem_bytes problem.HandleEnd = codes "tag handle must end with '!'"
+problem_bytes problem.HandleCharacters = codes "tag handle must contain alphanumerical characters only"
+problem_bytes problem.PrefixEmpty = codes "tag prefix must not be empty"
+problem_bytes problem.HandleTwice = codes "duplicate %TAG directive"
+problem_bytes problem.NoFlags = codes "neither tag nor implicit flags are specified"
 
 abbrev pub or_else : Option Problem → Option Problem → Option Problem
 or_else (Some p) q = Some p
@@ -129,6 +150,15 @@ last_problem (sequence_start p) = None
 last_problem sequence_end = None
 last_problem (mapping_start p) = None
 last_problem mapping_end = None
+
+-- what is wrong with an event wherever it stands
+abbrev pub own_problem : Bool → Event → Option Problem
+own_problem canonical e = or_else (event_problem canonical e) (last_problem e)
+
+-- the first event of a list with which something is wrong wherever it stands
+unfoldable pub own_problems : Bool → List Event → Option Problem
+own_problems canonical [] = None
+own_problems canonical (e ∷ es) = or_else (own_problem canonical e) (own_problems canonical es)
 
 -- what may close the innermost collection
 abbrev pub ends_phase : Phase → Event → Bool

@@ -1,5 +1,8 @@
 //! Why an event is refused.
 
+ghost use Rattle.std.specs.Prelude.{◌≡◌};
+ghost use Rattle.yaml_emit_layout.specs.Grammar.{problem_bytes};
+
 /// What is wrong with an event.
 #[derive(Clone, Copy, PartialEq, Eq, Debug)]
 pub enum Problem {
@@ -24,7 +27,9 @@ pub enum Problem {
 }
 
 /// The text of a problem.
-pub fn problem_text(problem: Problem) -> &'static str {
+pub fn problem_text(problem: Problem) -> &'static str
+    ensures { result.now ≡ problem_bytes problem }
+{
     match problem {
         Problem::AnchorEmpty => "anchor value must not be empty",
         Problem::AnchorCharacters => "anchor value must contain alphanumerical characters only",

@@ -1,6 +1,6 @@
 -- What is held, and when it is laid out.
 use Rattle.std.proofs.Common.{◌≡◌, ◌≢◌, ℕ, ◌<◌, List, [], ◌∷◌, ◌++◌, length, Bool, true, false, refl, sym, subst, ◌∙◌, ap, arith, None, append_assoc, append-nil}
-use Rattle.std.specs.Prelude.{nat_le, ◌||◌, ◌≤◌}
+use Rattle.std.specs.Prelude.{nat_le, ◌||◌, ◌&&◌, ◌≤◌}
 use Rattle.std.proofs.lemmas.Bool.Decides.{nat_tests}
 use Rattle.yaml_emit_text.specs.Text.{Item}
 use Rattle.yaml_emit_layout.specs.Content.{Event, no_event, stream_start, stream_end, document_start, document_end, alias, scalar, sequence_start, sequence_end, mapping_start, mapping_end}
@@ -61,3 +61,15 @@ waits_few (a ∷ []) h = omega arith
 waits_few (a ∷ b ∷ []) h = omega arith
 waits_few (a ∷ b ∷ c ∷ []) h = omega arith
 waits_few (a ∷ b ∷ c ∷ d ∷ xs) h = let k = four_ready a b c d xs in absurd (cc)
+
+pub both_left : (a b : Bool) → (a && b) ≡ true → a ≡ true
+both_left true b h = refl
+both_left false b h = absurd (cc)
+
+pub both_right : (a b : Bool) → (a && b) ≡ true → b ≡ true
+both_right true b h = h
+both_right false b h = absurd (cc)
+
+pub both_false : (a b : Bool) → a ≡ true → (a && b) ≡ false → b ≡ false
+both_false true b g h = h
+both_false false b g h = absurd (cc)

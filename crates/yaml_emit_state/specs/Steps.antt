@@ -1,5 +1,5 @@
 -- What laying out one event does.
-use Rattle.std.specs.Prelude.{◌≡◌, Bool, true, false, ◌||◌, List, [], ◌∷◌, map, Option, Some, None}
+use Rattle.std.specs.Prelude.{◌≡◌, ◌≢◌, Bool, true, false, ◌||◌, List, [], ◌∷◌, map, Option, Some, None}
 use Rattle.yaml_scan.specs.declared.yaml_scalar_style_t.{yaml_scalar_style_t}
 use Rattle.yaml_parse_model.specs.Events.{directive_of, TagDirective}
 use Rattle.yaml_emit_text.specs.declared.Settings.{Settings}
@@ -82,6 +82,14 @@ pub record LaysOut (old new : Core) (e : Event) (empty : Bool) : Type 0 where
   pub settings : new.settings ≡ old.settings
   pub state : new.sink.status ≡ Going → state_of new ≡ next_state (problem_at (settings_of old) (state_of old) e) (state_of old) (next (settings_of old) (state_of old) e empty new.sink.cursor)
   pub text : Puts old.sink new.sink (next_piece (problem_at (settings_of old) (state_of old) e) (piece (settings_of old) (state_of old) e empty))
+
+-- memory was refused outside the output
+pub record Starves (old new : Core) : Type 0 where
+  pub settings : new.settings ≡ old.settings
+  pub place : new.place ≡ old.place
+  pub starved : new.starved ≡ true
+  pub text : (x : Layout) → Puts old.sink new.sink x
+  pub stopped : new.sink.status ≢ Going
 
 -- nothing was laid out
 pub record IsFresh (core : Core) (s : Settings) : Type 0 where

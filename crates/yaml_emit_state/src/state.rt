@@ -8,7 +8,7 @@ mod moves;
 use crate::judge::problem_of;
 use crate::levels::Levels;
 use event::put_event;
-use std::alloc::Global;
+use std::alloc::{AllocError, Global};
 use yaml_emit_layout::Place;
 use yaml_emit_text::{Settings, Sink, Status};
 use yaml_parse_model::yaml_event_body_t;
@@ -31,7 +31,7 @@ impl Core {
     ghost use Rattle.yaml_parse_model.specs.Events.{directive_of, body_of};
     ghost use Rattle.yaml_emit_layout.specs.Content.{said};
     ghost use Rattle.yaml_emit_layout.specs.State.{problem_at};
-    ghost use Rattle.yaml_emit_state.specs.Steps.{state_of, settings_of, LaysOut, IsFresh, Takes, goes_on};
+    ghost use Rattle.yaml_emit_state.specs.Steps.{state_of, settings_of, LaysOut, IsFresh, Takes, Starves, goes_on};
 
     /// Nothing was laid out.
     pub fn new(alloc: Global, settings: Settings, limit: u64) -> Core
@@ -86,6 +86,14 @@ impl Core {
             Place::Refused(_) => false,
             _ => self.sink.status().is_going(),
         }
+    }
+
+    /// Memory was refused for what is to be laid out: the output stops.
+    pub fn starve(&mut self, refused: AllocError)
+        ensures { Starves self.old self.new }
+    {
+        self.starved = true;
+        self.sink.starve(refused);
     }
 
     // The settings in force: the encoding is the output's.

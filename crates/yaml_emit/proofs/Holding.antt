@@ -1,0 +1,75 @@
+-- What is held, and when it is laid out.
+use Rattle.std.proofs.Common.{◌≡◌, ◌≢◌, ℕ, ◌<◌, List, [], ◌∷◌, ◌++◌, length, Bool, true, false, refl, sym, subst, ◌∙◌, ap, arith, None, append_assoc, append-nil}
+use Rattle.std.specs.Prelude.{nat_le, ◌||◌, ◌&&◌, ◌≤◌}
+use Rattle.std.proofs.lemmas.Bool.Decides.{nat_tests}
+use Rattle.yaml_emit_text.specs.Text.{Item}
+use Rattle.yaml_emit_layout.specs.Content.{Event, no_event, stream_start, stream_end, document_start, document_end, alias, scalar, sequence_start, sequence_end, mapping_start, mapping_end}
+use Rattle.yaml_emit_layout.specs.State.{opens_empty}
+use Rattle.yaml_emit_state.specs.declared.Core.{Core}
+use Rattle.yaml_emit_state.specs.Steps.{LaysOut}
+use Rattle.yaml_emit_state.specs.Finish.{Finishes, Leads}
+use Rattle.yaml_emit_state.proofs.Finishing.{finishes_on}
+use Rattle.yaml_emit.specs.Held.{is_ready, has_enough, needs, closes}
+
+ready_empty : (e : Event) (es more : List Event) → is_ready (e ∷ es) ≡ true → opens_empty e (es ++ more) ≡ opens_empty e es
+unfolding is_ready opens_empty
+ready_empty (sequence_start p) [] more h = absurd (cc)
+ready_empty (mapping_start p) [] more h = absurd (cc)
+ready_empty (sequence_start p) (f ∷ es) more h = refl
+ready_empty (mapping_start p) (f ∷ es) more h = refl
+ready_empty _ es more h = refl
+
+pub leads_same : (a : Core) (h : List Event) → Leads a h a h
+leads_same a h = record { finishes = λ es whole f. f; encoding = refl; limit = refl; settings = refl }
+
+pub leads_more : (a b c : Core) (h x y : List Event) (e : Event) (empty : Bool) → Leads a h b x → x ≡ e ∷ y → is_ready x ≡ true → empty ≡ opens_empty e y → LaysOut b c e empty → Leads a h c y
+leads_more a b c h x y e empty p same r is l = record {
+  finishes = λ es whole f.
+      let P : List Event → Type 0 = λ z. Finishes b (z ++ es) whole in
+      let Q : List Event → Type 0 = λ z. is_ready z ≡ true in
+      let look : opens_empty e (y ++ es) ≡ opens_empty e y = ready_empty e y es (subst Q same r) in
+      let R : Bool → Type 0 = λ v. LaysOut b c e v in
+      finishes_on b c e (y ++ es) whole (subst R (is ∙ sym look) l) (subst P same (p.finishes es whole f));
+  encoding = l.text.encoding ∙ p.encoding;
+  limit = l.text.limit ∙ p.limit;
+  settings = l.settings ∙ p.settings;
+}
+
+few_needs : (e : Event) → nat_le (needs e) 3 ≡ true
+few_needs no_event = refl
+few_needs (stream_start x) = refl
+few_needs stream_end = refl
+few_needs (document_start i) = refl
+few_needs (document_end i) = refl
+few_needs (alias name) = refl
+few_needs (scalar x) = refl
+few_needs (sequence_start p) = refl
+few_needs sequence_end = refl
+few_needs (mapping_start p) = refl
+few_needs mapping_end = refl
+
+le_more : (n m k : ℕ) → nat_le n 3 ≡ true → 3 ≤ m → nat_le n m ≡ true
+le_more n m k h l = grind (arith, nat_tests)
+
+four_ready : (a b c d : Event) (xs : List Event) → is_ready (a ∷ b ∷ c ∷ d ∷ xs) ≡ true
+unfolding is_ready
+four_ready a b c d xs = ap (λ v. v || closes (b ∷ c ∷ d ∷ xs)) (le_more (needs a) (length (b ∷ c ∷ d ∷ xs)) 0 (few_needs a) (omega arith))
+
+pub waits_few : (xs : List Event) → is_ready xs ≡ false → length xs < 4
+waits_few [] h = omega arith
+waits_few (a ∷ []) h = omega arith
+waits_few (a ∷ b ∷ []) h = omega arith
+waits_few (a ∷ b ∷ c ∷ []) h = omega arith
+waits_few (a ∷ b ∷ c ∷ d ∷ xs) h = let k = four_ready a b c d xs in absurd (cc)
+
+pub both_left : (a b : Bool) → (a && b) ≡ true → a ≡ true
+both_left true b h = refl
+both_left false b h = absurd (cc)
+
+pub both_right : (a b : Bool) → (a && b) ≡ true → b ≡ true
+both_right true b h = h
+both_right false b h = absurd (cc)
+
+pub both_false : (a b : Bool) → a ≡ true → (a && b) ≡ false → b ≡ false
+both_false true b g h = h
+both_false false b g h = absurd (cc)

@@ -1,0 +1,146 @@
+-- What an emitter's output ends as, with the events that follow, and its faults.
+use Rattle.std.specs.Prelude.{◌≡◌, ℕ, ◌<◌, Bool, true, false, List, [], ◌∷◌, ◌++◌, length, take, Option, Some, None, option_map, pos, codes, Result, Ok, Err}
+use Rattle.yaml_scan.specs.declared.yaml_encoding_t.{yaml_encoding_t}
+use Rattle.yaml_scan.specs.declared.yaml_encoding_t.TheVariants.{YAML_ANY_ENCODING}
+use Rattle.yaml_scan.specs.declared.yaml_break_t.TheVariants.{YAML_ANY_BREAK}
+use Rattle.yaml_scan.specs.declared.yaml_fault_t.{yaml_fault_t}
+use Rattle.yaml_scan.specs.declared.yaml_error_type_t.{yaml_error_type_t}
+use Rattle.yaml_scan.specs.declared.yaml_error_type_t.TheVariants.{YAML_EMITTER_ERROR, YAML_WRITER_ERROR}
+use Rattle.yaml_scan.specs.declared.yaml_origin_t.{yaml_origin_t}
+use Rattle.yaml_scan.specs.declared.yaml_origin_t.TheVariants as origin
+use Rattle.yaml_scan.specs.Tokens.{zero_mark}
+use Rattle.yaml_scan.specs.Faults.{Fault, fault_of, memory_fault}
+use Rattle.yaml_emit_text.specs.declared.Encoding.{Encoding}
+use Rattle.yaml_emit_text.specs.declared.Settings.{Settings}
+use Rattle.yaml_emit_text.specs.declared.Status.{Status}
+use Rattle.yaml_emit_text.specs.declared.Status.TheVariants.{Going, Full, Deep, Starved}
+use Rattle.yaml_emit_text.specs.declared.Wishes.{Wishes}
+use Rattle.yaml_emit_text.specs.Text.{Item, encode, is_deep}
+use Rattle.yaml_emit_text.specs.Layout.{written}
+use Rattle.yaml_emit_text.specs.Settings.{settled}
+use Rattle.yaml_emit_layout.specs.declared.Place.{Place}
+use Rattle.yaml_emit_layout.specs.declared.Place.TheVariants as at
+use Rattle.yaml_emit_layout.specs.Content.{Event, stream_start, Document, stream_events}
+use Rattle.yaml_emit_layout.specs.Grammar.{own_problems, problem_bytes}
+use Rattle.yaml_emit_layout.specs.Nodes.{stream_layout}
+use Rattle.yaml_emit_state.specs.declared.Core.{Core}
+use Rattle.yaml_emit_state.specs.Steps.{goes_on}
+use Rattle.yaml_emit_state.specs.Finish.{Finishes}
+use Rattle.yaml_emit.specs.declared.held.Held.{Held}
+use Rattle.yaml_emit.specs.declared.emitter.yaml_emitter_t.TheInside.{Inside}
+use Rattle.yaml_emit.specs.Held.{held_events, HeldUtf8, is_ready}
+
+-- What a clause sees of an emitter.
+pub record Emitter : Type 0 where
+  -- the settings that were set, and the limit
+  pub wishes : Wishes
+  pub limit : ℕ
+  pub core : Core
+  pub held : Held
+  -- no event was given
+  pub fresh : Bool
+  pub opened : Bool
+  pub closed : Bool
+  -- the first fault
+  pub fault : Option Fault
+
+abbrev pub emitter_of : Inside → Emitter
+emitter_of e = record { wishes = e.wishes; limit = e.limit; core = e.core; held = e.held; fresh = e.fresh; opened = e.opened; closed = e.closed; fault = option_map fault_of e.fault }
+
+abbrev pub plain_fault : yaml_error_type_t → List ℕ → yaml_origin_t → Fault
+plain_fault kind problem origin = record { kind = kind; problem = problem; offset = 0; number = pos 0; problem_mark = zero_mark; context = None; context_mark = zero_mark; origin = origin }
+
+abbrev pub emitter_fault : List ℕ → Fault
+emitter_fault problem = plain_fault YAML_EMITTER_ERROR problem origin.Emitter
+
+abbrev pub memory_origin : Bool → yaml_origin_t
+memory_origin true = origin.Emitter
+memory_origin false = origin.Writer
+
+-- the fault of an output that has stopped
+abbrev pub stopped : Status → Bool → Option Fault
+stopped Going levels = None
+stopped Full levels = Some (plain_fault YAML_WRITER_ERROR (codes "write error") origin.Writer)
+stopped Deep levels = Some (emitter_fault (codes "indentation is too deep"))
+stopped Starved levels = Some (memory_fault (memory_origin levels))
+
+-- a refused event's fault, or that of the output
+abbrev pub refusal_by : Place → Status → Bool → Option Fault
+refusal_by (at.Refused p) s levels = Some (emitter_fault (problem_bytes p))
+refusal_by at.StreamStart s levels = stopped s levels
+refusal_by (at.Documents first unended) s levels = stopped s levels
+refusal_by at.Node s levels = stopped s levels
+refusal_by at.DocumentEnd s levels = stopped s levels
+refusal_by at.End s levels = stopped s levels
+
+abbrev pub refusal_of : Core → Option Fault
+refusal_of core = refusal_by core.place core.sink.status core.starved
+
+pub record IsEmitter (e : Inside) : Type 0 where
+  -- the fault is the first that laying out met
+  pub faulty : option_map fault_of e.fault ≡ refusal_of e.core
+  pub few : goes_on e.core.sink.status e.core.place ≡ true → is_ready (held_events e.held) ≡ false
+  pub texts : HeldUtf8 e.held
+  pub begun : e.fresh ≡ true → (held_events e.held ≡ []) × (option_map fault_of e.fault ≡ None)
+  pub limited : e.core.sink.limit ≡ e.limit
+
+-- the encoding of a stream that begins so
+abbrev pub stream_encoding : Event → yaml_encoding_t
+stream_encoding (stream_start x) = x
+stream_encoding e = YAML_ANY_ENCODING
+
+-- A fresh emitter's text: these events are a stream's in which nothing is wrong, and the text is its layout.
+pub record IsStream (w : Wishes) (x : Encoding) (es : List Event) (whole : List Item) : Type 0 where
+  pub encoding : yaml_encoding_t
+  pub documents : List Document
+  pub coded : x ≡ (settled w encoding).encoding
+  pub same : es ≡ stream_events encoding documents
+  pub right : own_problems w.canonical es ≡ None
+  pub is : whole ≡ written (stream_layout (settled w encoding) documents)
+
+abbrev pub CompletesBy : Bool → Emitter → Encoding → List Event → List Item → Type 0
+CompletesBy true e x es whole = IsStream e.wishes x es whole
+CompletesBy false e x es whole = (e.core.sink.encoding ≡ x) × Finishes e.core (held_events e.held ++ es) whole
+
+-- With these events to come, the whole text is `whole`, in that encoding.
+unfoldable pub Completes : Emitter → Encoding → List Event → List Item → Type 0
+Completes e x es whole = CompletesBy e.fresh e x es whole
+
+-- An event was given: whatever follows, the text is the same.
+pub record Given (old : Emitter) (e : Event) (new : Emitter) : Type 0 where
+  pub completes : (x : Encoding) (es : List Event) (whole : List Item) → Completes old x (e ∷ es) whole → Completes new x es whole
+  pub wishes : new.wishes ≡ old.wishes
+  pub limit : new.limit ≡ old.limit
+  pub begun : new.fresh ≡ false
+
+-- What is written is the front of each text that the emitter completes: all up to the limit where that was passed.
+abbrev pub HasWritten : Status → ℕ → List ℕ → List ℕ → Bool → Type 0
+HasWritten Going limit output bytes deep = (rest : List ℕ) × (bytes ≡ output ++ rest)
+HasWritten Full limit output bytes deep = (output ≡ take limit bytes) × (limit < length bytes)
+HasWritten Deep limit output bytes deep = (deep ≡ true) × ((rest : List ℕ) × (bytes ≡ output ++ rest))
+HasWritten Starved limit output bytes deep = (rest : List ℕ) × (bytes ≡ output ++ rest)
+
+abbrev pub ShowsFront : Emitter → List ℕ → Type 0
+ShowsFront e output = (x : Encoding) (es : List Event) (whole : List Item) → Completes e x es whole → HasWritten e.core.sink.status e.limit output (encode x whole) (is_deep whole)
+
+-- a new emitter: any encoding and break, canonical and unicode off, indent 2, width 80
+abbrev pub first_wishes : Wishes
+first_wishes = record { encoding = YAML_ANY_ENCODING; canonical = false; indent = pos 2; width = pos 80; unicode = false; line_break = YAML_ANY_BREAK }
+
+pub record IsNew (e : Emitter) (limit : ℕ) : Type 0 where
+  pub wishes : e.wishes ≡ first_wishes
+  pub limit : e.limit ≡ limit
+  pub fresh : e.fresh ≡ true
+  pub opened : e.opened ≡ false
+  pub closed : e.closed ≡ false
+  pub fault : e.fault ≡ None
+  pub output : e.core.sink.bytes ≡ []
+
+-- a call answers the first fault, if there is one
+abbrev pub Answers : Option Fault → Result (Unit {0}) yaml_fault_t → Type 0
+Answers fault (Ok x) = fault ≡ None
+Answers fault (Err f) = fault ≡ Some (fault_of f)
+
+-- behind a fault nothing changes
+abbrev pub Stays : Emitter → Emitter → Type 0
+Stays old new = (f : Fault) → old.fault ≡ Some f → new ≡ old

@@ -1,0 +1,66 @@
+-- The events that are held.
+use Rattle.std.specs.Prelude.{ℕ, Bool, true, false, not, ◌&&◌, ◌||◌, nat_le, List, [], ◌∷◌, length}
+use Rattle.yaml_parse_model.specs.Events.{EventBody, body_of}
+use Rattle.yaml_parse_model.specs.Constructors.{HasUtf8}
+use Rattle.yaml_emit_layout.specs.Content.{Event, no_event, stream_start, stream_end, document_start, document_end, alias, scalar, sequence_start, sequence_end, mapping_start, mapping_end, said}
+use Rattle.yaml_emit.specs.declared.held.Held.{Held}
+use Rattle.yaml_emit.specs.declared.held.Held.TheVariants.{Nothing, One, Two, Three, Four}
+
+-- the oldest first
+abbrev pub held_events : Held → List Event
+held_events Nothing = []
+held_events (One a) = said (body_of a) ∷ []
+held_events (Two a b) = said (body_of a) ∷ said (body_of b) ∷ []
+held_events (Three a b c) = said (body_of a) ∷ said (body_of b) ∷ said (body_of c) ∷ []
+held_events (Four a b c d) = said (body_of a) ∷ said (body_of b) ∷ said (body_of c) ∷ said (body_of d) ∷ []
+
+-- their texts are UTF-8
+abbrev pub HeldUtf8 : Held → Type 0
+HeldUtf8 Nothing = Unit {0}
+HeldUtf8 (One a) = HasUtf8 (body_of a)
+HeldUtf8 (Two a b) = HasUtf8 (body_of a) × HasUtf8 (body_of b)
+HeldUtf8 (Three a b c) = HasUtf8 (body_of a) × HasUtf8 (body_of b) × HasUtf8 (body_of c)
+HeldUtf8 (Four a b c d) = HasUtf8 (body_of a) × HasUtf8 (body_of b) × HasUtf8 (body_of c) × HasUtf8 (body_of d)
+
+-- it opens a level
+abbrev pub opens_level : Event → Bool
+opens_level (stream_start x) = true
+opens_level (document_start o) = true
+opens_level (sequence_start p) = true
+opens_level (mapping_start p) = true
+opens_level e = false
+
+-- it ends one
+abbrev pub ends_level : Event → Bool
+ends_level stream_end = true
+ends_level (document_end implicit) = true
+ends_level sequence_end = true
+ends_level mapping_end = true
+ends_level e = false
+
+-- a level is ended before another is opened
+abbrev pub closes : List Event → Bool
+closes [] = false
+closes (e ∷ es) = ends_level e || (not (opens_level e) && closes es)
+
+-- how many events an event needs behind it
+abbrev pub needs : Event → ℕ
+needs (document_start o) = 1
+needs (sequence_start p) = 2
+needs (mapping_start p) = 3
+needs no_event = 0
+needs (stream_start x) = 0
+needs stream_end = 0
+needs (document_end implicit) = 0
+needs (alias name) = 0
+needs (scalar x) = 0
+needs sequence_end = 0
+needs mapping_end = 0
+
+abbrev pub has_enough : Event → List Event → Bool
+has_enough e es = nat_le (needs e) (length es) || closes es
+
+-- An event is held until 1 follows what opens a document, 2 what opens a sequence, 3 what opens a mapping, or its level is ended.
+unfoldable pub is_ready : List Event → Bool
+is_ready [] = false
+is_ready (e ∷ es) = has_enough e es

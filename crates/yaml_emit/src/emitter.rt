@@ -1,0 +1,235 @@
+//! The emitter.
+
+ghost use Rattle.std.specs.Prelude.{◌≡◌, None, true, false, option_map, IfOk};
+ghost use Rattle.yaml_scan.specs.Faults.{fault_of};
+ghost use Rattle.yaml_parse_model.specs.Events.{event_of, body_of};
+ghost use Rattle.yaml_parse_model.specs.Constructors.{HasUtf8};
+ghost use Rattle.yaml_emit_layout.specs.Content.{said};
+ghost use Rattle.yaml_emit.specs.Emitter.{stream_encoding, IsNew, ShowsFront, Given, Answers, Stays};
+
+
+
+use crate::held::Held;
+use crate::release::release;
+use std::alloc::Global;
+use std::marker::Model;
+use std::mem;
+use crate::fault::refusal;
+use yaml_emit_state::Core;
+use yaml_emit_text::{Wishes, settled};
+use yaml_parse_model::{yaml_event_body_t, yaml_event_t};
+use yaml_scan::{yaml_break_t, yaml_encoding_t, yaml_fault_t};
+
+/// An emitter: events to text.
+#[derive(Drop)]
+pub struct yaml_emitter_t {
+    wishes: Wishes,
+    limit: u64,
+    alloc: Global,
+    core: Core,
+    held: Held,
+    /// No event was given.
+    fresh: bool,
+    opened: bool,
+    closed: bool,
+    /// The first fault.
+    fault: Option<yaml_fault_t>,
+}
+
+impl Model for yaml_emitter_t {
+    ghost use Rattle.yaml_emit.specs.Emitter.{Emitter, emitter_of, IsEmitter};
+
+    ghost Value = { Emitter };
+
+    ghost view = { emitter_of };
+
+    ghost invariant = { IsEmitter };
+}
+
+// The encoding of a stream that starts with an event.
+fn stream_encoding(event: &yaml_event_body_t) -> yaml_encoding_t
+    ensures { result ≡ stream_encoding (said (body_of event.now)) }
+{
+    match event {
+        yaml_event_body_t::StreamStart { encoding } => *encoding,
+        _ => yaml_encoding_t::YAML_ANY_ENCODING,
+    }
+}
+
+/// An emitter whose text has at most `limit` bytes. It is fresh, with any encoding, canonical and unicode off, indent 2,
+/// width 80 and any break. Refused only for want of memory; today it takes none.
+pub fn yaml_emitter_initialize(alloc: Global, limit: u64) -> Result<yaml_emitter_t, yaml_fault_t>
+    ensures { IfOk result (λ e. IsNew e limit) }
+{
+    let wishes = Wishes::new();
+    Ok(yaml_emitter_t {
+        wishes,
+        limit,
+        alloc,
+        core: Core::new(alloc, settled(wishes, yaml_encoding_t::YAML_ANY_ENCODING), limit),
+        held: Held::Nothing,
+        fresh: true,
+        opened: false,
+        closed: false,
+        fault: None,
+    })
+}
+
+/// The encoding of the text. Any encoding means the one that the stream's start names, or UTF-8.
+pub fn yaml_emitter_set_encoding(emitter: &mut yaml_emitter_t, encoding: yaml_encoding_t)
+    requires { emitter.old.fresh ≡ true }
+    ensures { emitter.new ≡ record emitter.old { wishes = record emitter.old.wishes { encoding = encoding } } }
+{
+    emitter.wishes.encoding = encoding;
+}
+
+/// Canonical form, or pretty.
+pub fn yaml_emitter_set_canonical(emitter: &mut yaml_emitter_t, canonical: bool)
+    requires { emitter.old.fresh ≡ true }
+    ensures { emitter.new ≡ record emitter.old { wishes = record emitter.old.wishes { canonical = canonical } } }
+{
+    emitter.wishes.canonical = canonical;
+}
+
+/// The columns of one level: 2 to 9; any other number means 2.
+pub fn yaml_emitter_set_indent(emitter: &mut yaml_emitter_t, indent: i32)
+    requires { emitter.old.fresh ≡ true }
+    ensures { emitter.new ≡ record emitter.old { wishes = record emitter.old.wishes { indent = indent } } }
+{
+    emitter.wishes.indent = indent;
+}
+
+/// The column past which lines are cut. A negative one means 2,147,483,647; 0 to twice the indent means 80.
+pub fn yaml_emitter_set_width(emitter: &mut yaml_emitter_t, width: i32)
+    requires { emitter.old.fresh ≡ true }
+    ensures { emitter.new ≡ record emitter.old { wishes = record emitter.old.wishes { width = width } } }
+{
+    emitter.wishes.width = width;
+}
+
+/// Whether characters above U+007F stand as they are.
+pub fn yaml_emitter_set_unicode(emitter: &mut yaml_emitter_t, unicode: bool)
+    requires { emitter.old.fresh ≡ true }
+    ensures { emitter.new ≡ record emitter.old { wishes = record emitter.old.wishes { unicode = unicode } } }
+{
+    emitter.wishes.unicode = unicode;
+}
+
+/// What ends a line. Any break means LF.
+pub fn yaml_emitter_set_break(emitter: &mut yaml_emitter_t, line_break: yaml_break_t)
+    requires { emitter.old.fresh ≡ true }
+    ensures { emitter.new ≡ record emitter.old { wishes = record emitter.old.wishes { line_break = line_break } } }
+{
+    emitter.wishes.line_break = line_break;
+}
+
+/// Whether no event was given.
+pub fn yaml_emitter_fresh(emitter: &yaml_emitter_t) -> bool
+    ensures { result ≡ emitter.now.fresh }
+{
+    emitter.fresh
+}
+
+/// Whether an open, a dump's too, was Ok.
+pub fn yaml_emitter_opened(emitter: &yaml_emitter_t) -> bool
+    ensures { result ≡ emitter.now.opened }
+{
+    emitter.opened
+}
+
+/// The first fault.
+pub fn yaml_emitter_fault(emitter: &yaml_emitter_t) -> Option<&yaml_fault_t>
+    ensures { option_map (λ f. fault_of f.now) result ≡ emitter.now.fault }
+{
+    match &emitter.fault {
+        None => None,
+        Some(fault) => Some(fault),
+    }
+}
+
+/// The text so far: the front of each text that the emitter completes.
+pub fn yaml_emitter_output(emitter: &yaml_emitter_t) -> &[u8]
+    ensures bytes { result.now ≡ emitter.now.core.sink.bytes }
+    ensures front { ShowsFront emitter.now result.now }
+{
+    emitter.core.sink().output()
+}
+
+/// The text.
+pub fn yaml_emitter_into_output(emitter: yaml_emitter_t) -> Vec<u8>
+    ensures bytes { result.items ≡ emitter.core.sink.bytes }
+    ensures front { ShowsFront emitter result.items }
+{
+    emitter.core.into_output()
+}
+
+/// Spends the emitter.
+pub fn yaml_emitter_delete(emitter: yaml_emitter_t) {
+    drop(emitter);
+}
+
+impl yaml_emitter_t {
+    // An emitter without a fault takes an event.
+    fn take(&mut self, event: yaml_event_body_t)
+        requires utf8 { HasUtf8 (body_of event) }
+        requires right { self.old.fault ≡ None }
+        ensures given { Given self.old (said (body_of event)) self.new }
+        ensures opened { (self.new.opened ≡ self.old.opened) × (self.new.closed ≡ self.old.closed) }
+    {
+        if self.fresh {
+            let encoding = stream_encoding(&event);
+            self.core = Core::new(self.alloc, settled(self.wishes, encoding), self.limit);
+            self.fresh = false;
+        }
+        let held = mem::replace(&mut self.held, Held::Nothing);
+        self.held = release(&mut self.core, held.push(event));
+        self.fault = refusal(&self.core);
+    }
+
+    fn answer(&self) -> Result<(), yaml_fault_t>
+        ensures { Answers self.now.fault result }
+    {
+        match self.fault {
+            None => Ok(()),
+            Some(fault) => Err(fault),
+        }
+    }
+
+    fn emit(&mut self, event: yaml_event_body_t) -> Result<(), yaml_fault_t>
+        requires { HasUtf8 (body_of event) }
+        ensures given { Given self.old (said (body_of event)) self.new }
+        ensures answer { Answers self.new.fault result }
+        ensures stays { Stays self.old self.new }
+        ensures opened { (self.new.opened ≡ self.old.opened) × (self.new.closed ≡ self.old.closed) }
+    {
+        match self.fault {
+            Some(fault) => Err(fault),
+            None => {
+                self.take(event);
+                self.answer()
+            }
+        }
+    }
+}
+
+/// Takes an event and lays out what no longer has to be held. The first fault is answered again from then on: `write error`
+/// past the limit, the grammar's fault for the first event that it refuses, `indentation is too deep`, or want of memory.
+/// Marks are ignored.
+pub fn yaml_emitter_emit(emitter: &mut yaml_emitter_t, event: yaml_event_t) -> Result<(), yaml_fault_t>
+    requires { HasUtf8 (event_of event).body }
+    ensures given { Given emitter.old (said (event_of event).body) emitter.new }
+    ensures answer { Answers emitter.new.fault result }
+    ensures stays { Stays emitter.old emitter.new }
+    ensures opened { (emitter.new.opened ≡ emitter.old.opened) × (emitter.new.closed ≡ emitter.old.closed) }
+{
+    emitter.emit(event.body)
+}
+
+/// What was laid out is in the output. The first fault, if there is one, is answered.
+pub fn yaml_emitter_flush(emitter: &mut yaml_emitter_t) -> Result<(), yaml_fault_t>
+    requires { emitter.old.fresh ≡ false }
+    ensures same { emitter.new ≡ emitter.old }
+    ensures answer { Answers emitter.old.fault result }
+{
+    emitter.answer()
+}

@@ -1,0 +1,76 @@
+//! The faults of an emitter.
+
+ghost use Rattle.std.specs.Prelude.{◌≡◌, option_map};
+ghost use Rattle.yaml_scan.specs.Faults.{fault_of, memory_fault};
+ghost use Rattle.yaml_emit_layout.specs.Grammar.{problem_bytes};
+ghost use Rattle.yaml_emit.specs.Emitter.{plain_fault, emitter_fault, memory_origin, stopped, refusal_of};
+
+use yaml_emit_layout::{Place, problem_text};
+use yaml_emit_state::Core;
+use yaml_emit_text::Status;
+use yaml_scan::{
+    yaml_error_type_t, yaml_fault_t, yaml_mark_t, yaml_memory_fault, yaml_origin_t,
+};
+
+fn plain_fault(kind: yaml_error_type_t, problem: &'static str, origin: yaml_origin_t) -> yaml_fault_t
+    ensures { fault_of result ≡ plain_fault kind problem.now origin }
+{
+    let zero = yaml_mark_t {
+        index: 0,
+        line: 0,
+        column: 0,
+    };
+    yaml_fault_t {
+        kind,
+        problem,
+        offset: 0,
+        value: 0,
+        problem_mark: zero,
+        context: None,
+        context_mark: zero,
+        origin,
+    }
+}
+
+fn emitter_fault(problem: &'static str) -> yaml_fault_t
+    ensures { fault_of result ≡ emitter_fault problem.now }
+{
+    plain_fault(yaml_error_type_t::YAML_EMITTER_ERROR, problem, yaml_origin_t::Emitter)
+}
+
+fn memory(levels: bool) -> yaml_fault_t
+    ensures { fault_of result ≡ memory_fault (memory_origin levels) }
+{
+    if levels {
+        yaml_memory_fault(yaml_origin_t::Emitter)
+    } else {
+        yaml_memory_fault(yaml_origin_t::Writer)
+    }
+}
+
+// The fault of an output that has stopped, by whether memory was refused for the open collections.
+fn stopped(status: Status, levels: bool) -> Option<yaml_fault_t>
+    ensures { option_map fault_of result ≡ stopped status levels }
+{
+    match status {
+        Status::Going => None,
+        Status::Full => Some(plain_fault(
+            yaml_error_type_t::YAML_WRITER_ERROR,
+            "write error",
+            yaml_origin_t::Writer,
+        )),
+        Status::Deep => Some(emitter_fault("indentation is too deep")),
+        Status::Starved => Some(memory(levels)),
+    }
+}
+
+// A refused event's fault, or that of the output.
+pub(crate) fn refusal(core: &Core) -> Option<yaml_fault_t>
+    ensures { option_map fault_of result ≡ refusal_of core.now }
+{
+    let status = core.sink().status();
+    match core.place() {
+        Place::Refused(problem) => Some(emitter_fault(problem_text(problem))),
+        _ => stopped(status, core.is_starved()),
+    }
+}

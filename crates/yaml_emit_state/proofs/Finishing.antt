@@ -1,0 +1,125 @@
+-- An event laid out leaves what the output ends as.
+use Rattle.std.proofs.Common.{◌≡◌, ◌≢◌, ℕ, List, [], ◌∷◌, ◌++◌, Bool, true, false, refl, sym, subst, ◌∙◌, ap, arith, Option, Some, None}
+use Rattle.yaml_emit_text.specs.declared.Cursor.{Cursor}
+use Rattle.yaml_emit_text.specs.declared.Encoding.{Encoding}
+use Rattle.yaml_emit_text.specs.declared.Settings.{Settings}
+use Rattle.yaml_emit_text.specs.declared.Status.{Status}
+use Rattle.yaml_emit_text.specs.declared.Status.TheVariants.{Going, Full, Deep, Starved}
+use Rattle.yaml_emit_text.specs.Text.{Item, encode, is_deep}
+use Rattle.yaml_emit_text.specs.Layout.{Rest, nothing_more, written, start}
+use Rattle.yaml_emit_text.specs.Sink.{Ends, EndsBy, Puts}
+use Rattle.yaml_emit_text.proofs.Sinks.{ends_other, status_cases}
+use Rattle.yaml_scan.specs.declared.yaml_encoding_t.{yaml_encoding_t}
+use Rattle.yaml_emit_layout.specs.declared.Problem.{Problem}
+use Rattle.yaml_emit_layout.specs.Content.{Event, Document, stream_events}
+use Rattle.yaml_emit_layout.specs.Grammar.{or_else, event_problem, last_problem, place_problem, problem_by, own_problem, own_problems}
+use Rattle.yaml_emit_layout.specs.Nodes.{stream_layout}
+use Rattle.yaml_emit_layout.specs.State.{State, opens_empty, problem_at, piece, next, top_of}
+use Rattle.yaml_emit_layout.specs.ToCome.{ToCome, stream, events, layout}
+use Rattle.yaml_emit_layout.specs.ToCome as come
+use Rattle.yaml_emit_layout.proofs.Going.{Goes, goes}
+use Rattle.yaml_emit_state.specs.declared.state.Core.{Core}
+use Rattle.yaml_emit_state.specs.Steps.{state_of, settings_of, next_state, next_piece, LaysOut, IsFresh}
+use Rattle.yaml_emit_state.specs.Finish.{Finishes, FinishesAt, FinishesBy}
+
+going_by : (s : Status) (core : Core) (es : List Event) (whole : List Item) → s ≡ Going → FinishesAt s core es whole → FinishesBy core es whole
+going_by Going core es whole g h = h
+going_by Full core es whole g h = absurd (cc)
+going_by Deep core es whole g h = absurd (cc)
+going_by Starved core es whole g h = absurd (cc)
+
+stopped_by : (s : Status) (core : Core) (es : List Event) (whole : List Item) → s ≢ Going → FinishesAt s core es whole → Ends core.sink [] whole
+stopped_by Going core es whole n h = absurd (n refl)
+stopped_by Full core es whole n h = h
+stopped_by Deep core es whole n h = h
+stopped_by Starved core es whole n h = h
+
+by_going : (s : Status) (core : Core) (es : List Event) (whole : List Item) → s ≡ Going → FinishesBy core es whole → FinishesAt s core es whole
+by_going Going core es whole g h = h
+by_going Full core es whole g h = absurd (cc)
+by_going Deep core es whole g h = absurd (cc)
+by_going Starved core es whole g h = absurd (cc)
+
+by_stopped : (s : Status) (core : Core) (es : List Event) (whole : List Item) → s ≢ Going → Ends core.sink [] whole → FinishesAt s core es whole
+by_stopped Going core es whole n h = absurd (n refl)
+by_stopped Full core es whole n h = h
+by_stopped Deep core es whole n h = h
+by_stopped Starved core es whole n h = h
+
+or_else_none : (p q : Option Problem) → or_else p q ≡ None → (p ≡ None) × (q ≡ None)
+or_else_none None q e = (refl, e)
+or_else_none (Some x) q e = absurd (cc)
+
+none_or_else : (p q : Option Problem) → p ≡ None → q ≡ None → or_else p q ≡ None
+none_or_else None q e f = f
+none_or_else (Some x) q e f = absurd (cc)
+
+first_right : (canonical : Bool) (e : Event) (es : List Event) → own_problems canonical (e ∷ es) ≡ None → (own_problem canonical e ≡ None) × (own_problems canonical es ≡ None)
+unfolding own_problems
+first_right canonical e es h = or_else_none (own_problem canonical e) (own_problems canonical es) h
+
+right_there : (s : Settings) (st : State) (e : Event) → own_problem s.canonical e ≡ None → place_problem st.place (top_of st.levels) e ≡ None → problem_at s st e ≡ None
+unfolding problem_by
+right_there s st e h k =
+    let r = or_else_none (event_problem s.canonical e) (last_problem e) h in
+    none_or_else (event_problem s.canonical e) (or_else (place_problem st.place (top_of st.levels) e) (last_problem e)) r.0
+    (none_or_else (place_problem st.place (top_of st.levels) e) (last_problem e) k r.1)
+
+-- what is known behind an event that is right
+record Stepped (old new : Core) (e : Event) (empty : Bool) : Type 0 where
+  settings : settings_of new ≡ settings_of old
+  state : new.sink.status ≡ Going → state_of new ≡ next (settings_of old) (state_of old) e empty new.sink.cursor
+  text : Puts old.sink new.sink (piece (settings_of old) (state_of old) e empty)
+
+same_settings : (old new : Core) → new.settings ≡ old.settings → new.sink.encoding ≡ old.sink.encoding → settings_of new ≡ settings_of old
+same_settings old new e x = rw (e, x) refl
+
+stepped : (old new : Core) (e : Event) (empty : Bool) → problem_at (settings_of old) (state_of old) e ≡ None → LaysOut old new e empty → Stepped old new e empty
+stepped old new e empty h l =
+    let P : Option Problem → Type 0 = λ p. new.sink.status ≡ Going → state_of new ≡ next_state p (state_of old) (next (settings_of old) (state_of old) e empty new.sink.cursor) in
+    let R : Option Problem → Type 0 = λ p. Puts old.sink new.sink (next_piece p (piece (settings_of old) (state_of old) e empty)) in
+    record { settings = same_settings old new l.settings l.text.encoding; state = subst P h l.state; text = subst R h l.text }
+
+pub finishes_on : (old new : Core) (e : Event) (es : List Event) (whole : List Item) → LaysOut old new e (opens_empty e es) → Finishes old (e ∷ es) whole → Finishes new es whole
+unfolding Finishes
+finishes_on old new e es whole l h =
+    status_cases old.sink.status
+    (λ g.
+    let s : Settings = settings_of old in
+    let b : Bool = opens_empty e es in
+    let f : FinishesBy old (e ∷ es) whole = going_by old.sink.status old (e ∷ es) whole g h in
+    let P : State → Type 0 = λ st. Goes s st e b es f.rest in
+    let go : Goes s (state_of old) e b es f.rest = subst P (sym f.fits) (goes s e es f.rest f.same) in
+    let r = first_right s.canonical e es f.right in
+    let st : Stepped old new e b = stepped old new e b (right_there s (state_of old) e r.0 go.there) l in
+    let more : Rest = λ d. layout s (go.rest d) d nothing_more in
+    let front : Ends old.sink (piece s (state_of old) e b old.sink.cursor more) whole =
+    let Q : List Item → Type 0 = λ t. Ends old.sink t whole in subst Q (go.text old.sink.cursor nothing_more) f.ends in
+    let back : Ends new.sink (more new.sink.cursor) whole = st.text.ends more whole front in
+    status_cases new.sink.status
+    (λ g'.
+    by_going new.sink.status new es whole g' (record {
+      rest = go.rest new.sink.cursor;
+      fits = st.state g' ∙ go.fits new.sink.cursor;
+      same = go.same new.sink.cursor;
+      right = let Q : Settings → Type 0 = λ z. own_problems z.canonical es ≡ None in subst Q (sym st.settings) r.1;
+      ends = let Q : Settings → Type 0 = λ z. Ends new.sink (layout z (go.rest new.sink.cursor) new.sink.cursor nothing_more) whole in subst Q (sym st.settings) back;
+    }))
+    (λ n. by_stopped new.sink.status new es whole n (ends_other new.sink _ [] whole n back)))
+    (λ n.
+    let e' : Ends old.sink [] whole = stopped_by old.sink.status old (e ∷ es) whole n h in
+    let back : Ends new.sink _ whole = l.text.ends nothing_more whole (ends_other old.sink [] _ whole n e') in
+    by_stopped new.sink.status new es whole (λ g. n (l.text.going g)) back)
+
+pub fresh_finishes : (core : Core) (s : Settings) (x : yaml_encoding_t) (ds : List Document) → IsFresh core s → own_problems s.canonical (stream_events x ds) ≡ None → Finishes core (stream_events x ds) (written (stream_layout s ds))
+unfolding Finishes Ends events layout come.state_of
+fresh_finishes core s x ds f r =
+    by_going core.sink.status core (stream_events x ds) _ f.status (record {
+      rest = stream x ds;
+      fits = f.state;
+      same = refl;
+      right = let Q : Settings → Type 0 = λ z. own_problems z.canonical (stream_events x ds) ≡ None in subst Q (sym f.settings) r;
+      ends =
+          let P : Status → Type 0 = λ t. EndsBy t core.sink.limit core.sink.encoding core.sink.bytes (stream_layout (settings_of core) ds core.sink.cursor nothing_more) (written (stream_layout s ds)) in
+          subst P (sym f.status) (rw (f.output, f.settings, f.cursor) refl, (rw f.output (omega arith), rw (f.settings, f.cursor) refl));
+    })

@@ -1,0 +1,13 @@
+use Rattle.std.proofs.Common.{sym, ◌∙◌}
+use Rattle.yaml_parse_model.specs.Events.{directive_of}
+use Rattle.yaml_emit_state.proofs.Lists.{problem_more, problem_found, problem_none}
+use Rattle.yaml_emit_state.proofs.judge.directives_problem.Goals as goal
+
+pub returns-in-Some : goal.returns-in-Some
+returns-in-Some c = problem_found directive_of _ _ _ _ _ c.loop-i-test.true c.index-directives-i.is c.loop-i.invariant (sym c.directive_problem.ensures ∙ c.in-Some.is)
+
+pub loop-i-preserved : goal.loop-i-preserved
+loop-i-preserved c = problem_more directive_of _ _ _ _ c.loop-i-test.true c.index-directives-i.is c.loop-i.invariant (sym c.directive_problem.ensures ∙ c.in-None.is)
+
+pub returns : goal.returns
+returns c = problem_none directive_of _ _ _ c.loop-i-test.false c.loop-i.invariant

@@ -1,0 +1,115 @@
+-- What laying out one event does.
+use Rattle.std.specs.Prelude.{◌≡◌, ◌≢◌, Bool, true, false, ◌||◌, List, [], ◌∷◌, map, Option, Some, None}
+use Rattle.yaml_scan.specs.declared.yaml_scalar_style_t.{yaml_scalar_style_t}
+use Rattle.yaml_parse_model.specs.Events.{directive_of, TagDirective}
+use Rattle.yaml_emit_text.specs.declared.Settings.{Settings}
+use Rattle.yaml_emit_text.specs.declared.Status.{Status}
+use Rattle.yaml_emit_text.specs.declared.Status.TheVariants.{Going, Full, Deep, Starved}
+use Rattle.yaml_emit_text.specs.Layout.{Layout, stay, start}
+use Rattle.yaml_emit_text.specs.Sink.{Output, Puts}
+use Rattle.yaml_emit_layout.specs.declared.Problem.{Problem}
+use Rattle.yaml_emit_layout.specs.declared.Place.{Place}
+use Rattle.yaml_emit_layout.specs.declared.Place.TheVariants as at
+use Rattle.yaml_emit_layout.specs.declared.Phase.{Phase}
+use Rattle.yaml_emit_layout.specs.declared.Phase.TheVariants.{Items, Keys}
+use Rattle.yaml_emit_layout.specs.Content.{Event, document_start}
+use Rattle.yaml_emit_layout.specs.State.{State, placed, piece, next, problem_at, top_of, spot_of, opened, depth_at}
+use Rattle.yaml_emit_layout.specs.Nodes.{indented, indent_of, checked, context_of}
+use Rattle.yaml_emit_state.specs.declared.state.Core.{Core}
+use Rattle.yaml_emit_state.specs.Stack.{stack_of}
+
+-- where an emitter stands
+abbrev pub state_of : Core → State
+state_of core = record { place = core.place; levels = stack_of core.levels; directives = map directive_of core.directives.items }
+
+-- the settings in force: the encoding is the output's
+abbrev pub settings_of : Core → Settings
+settings_of core = record {
+  encoding = core.sink.encoding;
+  canonical = core.settings.canonical;
+  indent = core.settings.indent;
+  width = core.settings.width;
+  unicode = core.settings.unicode;
+  line_break = core.settings.line_break;
+}
+
+abbrev pub first_phase : Bool → Phase
+first_phase true = Items true
+first_phase false = Keys true
+
+abbrev pub is_document_start : Event → Bool
+is_document_start (document_start o) = true
+is_document_start e = false
+
+abbrev pub StaysBut : Core → Core → Type 0
+StaysBut old new = (new.settings ≡ old.settings) × (new.sink ≡ old.sink)
+
+-- a collection was opened, behind its properties
+pub record Opens (s : Settings) (old new : Core) (simple empty flow sequence : Bool) : Type 0 where
+  pub settings : new.settings ≡ old.settings
+  pub state : new.sink.status ≡ Going →
+      let at = spot_of (top_of (stack_of old.levels)) simple in
+      let f = s.canonical || (at.flow || (flow || empty)) in
+      state_of new ≡ opened (state_of old).directives (stack_of old.levels) simple (first_phase sequence) f (indent_of s at sequence f old.sink.cursor)
+  pub cursor : new.sink.status ≡ Going → new.sink.cursor ≡ old.sink.cursor
+  pub text : let at = spot_of (top_of (stack_of old.levels)) simple in
+      Puts old.sink new.sink (indented (indent_of s at sequence (s.canonical || (at.flow || (flow || empty)))) checked)
+
+-- the state moved on by an event, with nothing written but the depth
+pub record MovesOn (s : Settings) (old new : Core) (e : Event) (empty : Bool) : Type 0 where
+  pub settings : new.settings ≡ old.settings
+  pub state : new.sink.status ≡ Going → state_of new ≡ next s (state_of old) e empty old.sink.cursor
+  pub cursor : new.sink.status ≡ Going → new.sink.cursor ≡ old.sink.cursor
+  pub text : Puts old.sink new.sink (depth_at (context_of s (state_of old).directives) (top_of (stack_of old.levels)) e empty)
+
+-- an event was laid out
+pub record Takes (old new : Core) (e : Event) (empty : Bool) : Type 0 where
+  pub settings : new.settings ≡ old.settings
+  pub state : new.sink.status ≡ Going → state_of new ≡ next (settings_of old) (state_of old) e empty new.sink.cursor
+  pub text : Puts old.sink new.sink (piece (settings_of old) (state_of old) e empty)
+
+-- an event was laid out, or refused
+abbrev pub next_state : Option Problem → State → State → State
+next_state None old new = new
+next_state (Some p) old new = record { place = at.Refused p; levels = old.levels; directives = old.directives }
+
+abbrev pub next_piece : Option Problem → Layout → Layout
+next_piece None a = a
+next_piece (Some p) a = stay
+
+-- the text, and the state by the cursor behind it, while the output goes on
+pub record LaysOut (old new : Core) (e : Event) (empty : Bool) : Type 0 where
+  pub settings : new.settings ≡ old.settings
+  pub state : new.sink.status ≡ Going → state_of new ≡ next_state (problem_at (settings_of old) (state_of old) e) (state_of old) (next (settings_of old) (state_of old) e empty new.sink.cursor)
+  pub text : Puts old.sink new.sink (next_piece (problem_at (settings_of old) (state_of old) e) (piece (settings_of old) (state_of old) e empty))
+
+-- memory was refused outside the output
+pub record Starves (old new : Core) : Type 0 where
+  pub settings : new.settings ≡ old.settings
+  pub place : new.place ≡ old.place
+  pub starved : new.starved ≡ true
+  pub text : (x : Layout) → Puts old.sink new.sink x
+  pub stopped : new.sink.status ≢ Going
+
+-- nothing was laid out
+pub record IsFresh (core : Core) (s : Settings) : Type 0 where
+  pub settings : settings_of core ≡ s
+  pub state : state_of core ≡ placed at.StreamStart
+  pub output : core.sink.bytes ≡ []
+  pub status : core.sink.status ≡ Going
+  pub cursor : core.sink.cursor ≡ start
+
+abbrev pub is_going : Status → Bool
+is_going Going = true
+is_going Full = false
+is_going Deep = false
+is_going Starved = false
+
+-- no event was refused, and the output goes on
+abbrev pub goes_on : Status → Place → Bool
+goes_on s (at.Refused p) = false
+goes_on s at.StreamStart = is_going s
+goes_on s (at.Documents first unended) = is_going s
+goes_on s at.Node = is_going s
+goes_on s at.DocumentEnd = is_going s
+goes_on s at.End = is_going s

@@ -1,0 +1,171 @@
+//! What comes before nodes in their collections, and what ends these.
+ghost use Rattle.std.specs.Prelude.{◌≡◌, ◌∷◌, [], None, Some, true, false, not, ◌&&◌, ◌-◌};
+ghost use Rattle.yaml_emit_text.specs.Sink.{Puts};
+ghost use Rattle.yaml_emit_text.specs.Layout.{◌▹◌, stay, when, char, word, opener};
+ghost use Rattle.yaml_emit_layout.specs.Nodes.{comma, turned, question, before_item, before_key, before_value, closer, line_at, wrap_at, checked};
+ghost use Rattle.yaml_emit_layout.specs.State.{before_at, before_node, closer_at, is_fresh};
+
+use yaml_emit_layout::{Level, Phase};
+use yaml_emit_text::{Settings, Sink};
+
+/// A space behind an alias that is a simple key.
+pub fn put_blank_if(sink: &mut Sink, due: bool)
+    ensures { Puts sink.old sink.new (when due (char 32)) }
+{
+    if due {
+        sink.put(' ');
+    }
+}
+
+fn put_comma(sink: &mut Sink, fresh: bool)
+    ensures { Puts sink.old sink.new (comma fresh) }
+{
+    if !fresh {
+        sink.put(',');
+    }
+}
+
+// In flow a line comes past the width alone; in canonical form always.
+#[tactic(auto, unfolding(yaml_emit_layout::specs::Nodes::turned))]
+fn put_turn(sink: &mut Sink, settings: Settings, indent: u64)
+    ensures { Puts sink.old sink.new (turned settings indent) }
+{
+    if settings.canonical {
+        sink.put_line(settings.line_break, indent);
+    } else {
+        sink.put_wrap(settings.width, settings.line_break, indent);
+    }
+}
+
+#[tactic(auto, unfolding(yaml_emit_layout::specs::Nodes::before_item))]
+fn put_before_item(sink: &mut Sink, settings: Settings, flow: bool, indent: u64, fresh: bool)
+    ensures { Puts sink.old sink.new (before_item settings flow indent fresh) }
+{
+    if flow {
+        put_comma(sink, fresh);
+        put_turn(sink, settings, indent);
+    } else {
+        sink.put_line(settings.line_break, indent);
+        sink.put_indicator('-');
+    }
+}
+
+fn put_question(sink: &mut Sink, flow: bool)
+    ensures { Puts sink.old sink.new (question flow) }
+{
+    if flow {
+        sink.put_word(b"?");
+    } else {
+        sink.put_indicator('?');
+    }
+}
+
+fn put_question_unless(sink: &mut Sink, flow: bool, simple: bool)
+    ensures { Puts sink.old sink.new (when (not simple) (question flow)) }
+{
+    if !simple {
+        put_question(sink, flow);
+    }
+}
+
+#[tactic(auto, unfolding(yaml_emit_layout::specs::Nodes::before_key))]
+fn put_before_key(sink: &mut Sink, settings: Settings, flow: bool, indent: u64, fresh: bool, simple: bool)
+    ensures { Puts sink.old sink.new (before_key settings flow indent fresh simple) }
+{
+    if flow {
+        put_comma(sink, fresh);
+        put_turn(sink, settings, indent);
+    } else {
+        sink.put_line(settings.line_break, indent);
+    }
+    put_question_unless(sink, flow, simple);
+}
+
+#[tactic(auto, unfolding(yaml_emit_layout::specs::Nodes::before_value))]
+fn put_before_value(sink: &mut Sink, settings: Settings, flow: bool, indent: u64, simple: bool)
+    ensures { Puts sink.old sink.new (before_value settings flow indent simple) }
+{
+    if simple {
+        sink.put(':');
+    } else if flow {
+        put_turn(sink, settings, indent);
+        sink.put_word(b":");
+    } else {
+        sink.put_line(settings.line_break, indent);
+        sink.put_indicator(':');
+    }
+}
+
+fn put_before_in(sink: &mut Sink, settings: Settings, level: Level, simple: bool)
+    ensures { Puts sink.old sink.new (before_at settings level.phase level.flow level.indent simple) }
+{
+    match level.phase {
+        Phase::Items(fresh) => put_before_item(sink, settings, level.flow, level.indent, fresh),
+        Phase::Keys(fresh) => put_before_key(sink, settings, level.flow, level.indent, fresh, simple),
+        Phase::Value(was_simple) => put_before_value(sink, settings, level.flow, level.indent, was_simple),
+    }
+}
+
+/// What comes before a node in the innermost collection, by whether the node is a simple key.
+pub fn put_before(sink: &mut Sink, settings: Settings, top: Option<Level>, simple: bool)
+    ensures { Puts sink.old sink.new (before_node settings top simple) }
+{
+    match top {
+        None => (),
+        Some(level) => put_before_in(sink, settings, level, simple),
+    }
+}
+
+fn put_last_line(sink: &mut Sink, settings: Settings, indent: u64)
+    ensures { Puts sink.old sink.new (char 44 ▹ line_at settings indent) }
+{
+    sink.put(',');
+    sink.put_line(settings.line_break, indent);
+}
+
+fn put_last_line_if(sink: &mut Sink, due: bool, settings: Settings, indent: u64)
+    ensures { Puts sink.old sink.new (when due (char 44 ▹ line_at settings indent)) }
+{
+    if due {
+        put_last_line(sink, settings, indent);
+    }
+}
+
+#[tactic(auto, unfolding(yaml_emit_layout::specs::Nodes::closer))]
+fn put_closer(sink: &mut Sink, settings: Settings, flow: bool, indent: u64, fresh: bool, c: char)
+    ensures { Puts sink.old sink.new (closer settings flow indent fresh c) }
+{
+    if flow {
+        put_last_line_if(sink, settings.canonical && !fresh, settings, indent.saturating_sub(settings.indent));
+        sink.put(c);
+    }
+}
+
+fn is_fresh(phase: Phase) -> bool
+    ensures { result ≡ is_fresh phase }
+{
+    match phase {
+        Phase::Items(fresh) => fresh,
+        Phase::Keys(fresh) => fresh,
+        Phase::Value(_) => false,
+    }
+}
+
+/// What ends the innermost collection.
+pub fn put_closer_at(sink: &mut Sink, settings: Settings, top: Option<Level>, c: char)
+    ensures { Puts sink.old sink.new (closer_at settings top c) }
+{
+    match top {
+        None => (),
+        Some(level) => put_closer(sink, settings, level.flow, level.indent, is_fresh(level.phase), c),
+    }
+}
+
+/// What opens a flow collection.
+pub fn put_opener_if(sink: &mut Sink, flow: bool, c: char)
+    ensures { Puts sink.old sink.new (when flow (opener c)) }
+{
+    if flow {
+        sink.put_opener(c);
+    }
+}

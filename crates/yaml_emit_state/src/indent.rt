@@ -1,0 +1,126 @@
+//! Where nodes stand, and how deep.
+ghost use Rattle.std.specs.Prelude.{◌≡◌, ◌≢◌, ◌≤◌, ◌<◌, ◌+◌, ℕ, None, Some, true, false, not, ◌&&◌, ◌||◌};
+ghost use Rattle.yaml_emit_text.specs.Sink.{Puts};
+ghost use Rattle.yaml_emit_layout.specs.Nodes.{deeper, block_indent_in, indent_of, is_of_mapping, is_simple_part, checked, is_flow};
+ghost use Rattle.yaml_emit_layout.specs.State.{spot_of, part_at};
+ghost use Rattle.yaml_emit_state.specs.Stack.{within};
+
+use yaml_emit_layout::{Level, Part, Phase, Spot};
+use yaml_emit_text::{Cursor, Settings, Sink, Status};
+
+// The largest indentation, in columns.
+const MOST: u64 = 2147483647;
+
+fn part(phase: Phase, simple: bool) -> Part
+    ensures { result ≡ part_at phase simple }
+{
+    match phase {
+        Phase::Items(_) => Part::Item,
+        Phase::Keys(_) => {
+            if simple {
+                Part::SimpleKey
+            } else {
+                Part::Key
+            }
+        }
+        Phase::Value(_) => Part::Value,
+    }
+}
+
+/// Where a node in the innermost collection stands, by whether it is a simple key.
+pub fn spot_of(top: Option<Level>, simple: bool) -> Spot
+    ensures { result ≡ spot_of top simple }
+{
+    match top {
+        None => Spot { around: None, flow: false, part: Part::Item },
+        Some(level) => Spot {
+            around: Some(level.indent),
+            flow: level.flow,
+            part: part(level.phase, simple),
+        },
+    }
+}
+
+pub fn is_simple_part(part: Part) -> bool
+    ensures { result ≡ is_simple_part part }
+{
+    match part {
+        Part::SimpleKey => true,
+        _ => false,
+    }
+}
+
+fn is_of_mapping(part: Part) -> bool
+    ensures { result ≡ is_of_mapping part }
+{
+    match part {
+        Part::Item => false,
+        _ => true,
+    }
+}
+
+// None past the largest.
+fn sum(n: u64, indent: u64) -> Option<u64>
+    ensures { result ≡ within (n + indent) }
+{
+    if n <= MOST && indent <= MOST && n + indent <= MOST {
+        Some(n + indent)
+    } else {
+        None
+    }
+}
+
+/// One indent deeper, or none past 2,147,483,647 columns.
+pub fn deeper(settings: Settings, around: Option<u64>) -> Option<u64>
+    ensures { result ≡ within (deeper settings around) }
+{
+    match around {
+        None => sum(0, settings.indent),
+        Some(n) => sum(n, settings.indent),
+    }
+}
+
+fn block_indent(settings: Settings, around: Option<u64>, keeps: bool) -> Option<u64>
+    ensures { result ≡ within (block_indent_in settings around keeps) }
+{
+    match around {
+        None => Some(0),
+        Some(n) => {
+            if keeps {
+                sum(n, 0)
+            } else {
+                sum(n, settings.indent)
+            }
+        }
+    }
+}
+
+/// The indentation of a collection at the cursor behind its properties, or none past 2,147,483,647 columns.
+pub fn indent_of(settings: Settings, spot: Spot, sequence: bool, flow: bool, cursor: Cursor) -> Option<u64>
+    ensures { result ≡ within (indent_of settings spot sequence flow cursor) }
+{
+    if flow {
+        deeper(settings, spot.around)
+    } else {
+        block_indent(settings, spot.around, sequence && is_of_mapping(spot.part) && !cursor.bare)
+    }
+}
+
+/// Whether a collection is flow.
+pub fn is_flow(settings: Settings, spot: Spot, flow: bool, empty: bool) -> bool
+    ensures { result ≡ (settings.canonical || (spot.flow || (flow || empty))) }
+{
+    settings.canonical || spot.flow || flow || empty
+}
+
+/// An indentation that is too deep stops the output.
+pub fn put_checked(sink: &mut Sink, indent: Option<u64>)
+    ensures text { (n : ℕ) → indent ≡ within n → Puts sink.old sink.new (checked n) }
+    ensures stopped { indent ≡ None → sink.new.status ≢ Status.Going }
+    ensures same { indent ≢ None → sink.new ≡ sink.old }
+{
+    match indent {
+        None => sink.put_too_deep(),
+        Some(_) => (),
+    }
+}

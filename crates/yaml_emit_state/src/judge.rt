@@ -1,0 +1,344 @@
+//! What is wrong with an event: its names, its tag, its place, and its directives or flags.
+ghost use Rattle.std.specs.List.{list_all, list_any};
+ghost use Rattle.std.specs.Prelude.{◌≡◌, ◌∷◌, [], None, Some, true, false, if◌then◌else◌, not, ◌&&◌, ◌||◌, length, map, take, ◌≤◌};
+ghost use Rattle.yaml_scan.specs.Classes.{is_alpha_byte};
+ghost use Rattle.yaml_parse_model.specs.Events.{text_of, directive_of, body_of};
+ghost use Rattle.yaml_emit_layout.specs.Content.{said};
+ghost use Rattle.yaml_emit_layout.specs.Grammar.{has, name_problem, anchor_problem, tag_problem, kept_tag, event_problem, version_problem, handle_problem, prefix_problem, twice_problem, directive_problem, directives_problem, opening_problem, flags_problem, last_problem, ends_phase, begins_node, may_come, node_problem, place_problem, problem_by, between, inner_problem, ends_problem, has_handle, is_version, or_else};
+
+use yaml_emit_layout::{Level, Phase, Place, Problem};
+use yaml_parse_model::yaml_event_body_t;
+use yaml_scan::{IS_ALPHA, yaml_tag_directive_t, yaml_version_directive_t};
+
+fn are_alphas(name: &[u8]) -> bool
+    ensures { result ≡ list_all is_alpha_byte name.now }
+{
+    for i in 0..name.len() {
+        if !IS_ALPHA(name, i) {
+            return false;
+        }
+    }
+    true
+}
+
+fn name_problem(empty: Problem, characters: Problem, name: &[u8]) -> Option<Problem>
+    ensures { result ≡ name_problem empty characters name.now }
+{
+    if name.is_empty() {
+        return Some(empty);
+    }
+    if are_alphas(name) {
+        None
+    } else {
+        Some(characters)
+    }
+}
+
+fn anchor_problem(anchor: &Option<Vec<u8>>) -> Option<Problem>
+    ensures { result ≡ anchor_problem (text_of anchor.now) }
+{
+    match anchor {
+        None => None,
+        Some(name) => name_problem(Problem::AnchorEmpty, Problem::AnchorCharacters, name),
+    }
+}
+
+// A tag that is written isn't empty.
+fn tag_problem(canonical: bool, left_out: bool, tag: &Option<Vec<u8>>) -> Option<Problem>
+    ensures { result ≡ tag_problem (kept_tag canonical left_out (text_of tag.now)) }
+{
+    match tag {
+        None => None,
+        Some(text) => {
+            if (canonical || !left_out) && text.is_empty() {
+                Some(Problem::TagEmpty)
+            } else {
+                None
+            }
+        }
+    }
+}
+
+fn properties_problem(canonical: bool, anchor: &Option<Vec<u8>>, left_out: bool, tag: &Option<Vec<u8>>) -> Option<Problem>
+    ensures { result ≡ or_else (anchor_problem (text_of anchor.now)) (tag_problem (kept_tag canonical left_out (text_of tag.now))) }
+{
+    match anchor_problem(anchor) {
+        Some(problem) => Some(problem),
+        None => tag_problem(canonical, left_out, tag),
+    }
+}
+
+#[tactic(auto, unfolding(yaml_emit_layout::specs::Grammar::event_problem))]
+fn event_problem(canonical: bool, event: &yaml_event_body_t) -> Option<Problem>
+    ensures { result ≡ event_problem canonical (said (body_of event.now)) }
+{
+    match event {
+        yaml_event_body_t::Alias { anchor } => name_problem(Problem::AliasEmpty, Problem::AliasCharacters, anchor),
+        yaml_event_body_t::Scalar { anchor, tag, plain_implicit, quoted_implicit, .. } => {
+            properties_problem(canonical, anchor, *plain_implicit || *quoted_implicit, tag)
+        }
+        yaml_event_body_t::SequenceStart { anchor, tag, implicit, .. } => {
+            properties_problem(canonical, anchor, *implicit, tag)
+        }
+        yaml_event_body_t::MappingStart { anchor, tag, implicit, .. } => {
+            properties_problem(canonical, anchor, *implicit, tag)
+        }
+        _ => None,
+    }
+}
+
+fn is_version(version: yaml_version_directive_t) -> bool
+    ensures { result ≡ is_version version }
+{
+    version.major == 1 && (version.minor == 1 || version.minor == 2)
+}
+
+fn version_problem(version: Option<yaml_version_directive_t>) -> Option<Problem>
+    ensures { result ≡ version_problem version }
+{
+    match version {
+        None => None,
+        Some(version) => {
+            if is_version(version) {
+                None
+            } else {
+                Some(Problem::Version)
+            }
+        }
+    }
+}
+
+fn inner_problem(handle: &[u8]) -> Option<Problem>
+    requires { 2 ≤ length handle.now }
+    ensures { result ≡ inner_problem handle.now }
+{
+    if are_alphas(&handle[1..handle.len() - 1]) {
+        None
+    } else {
+        Some(Problem::HandleCharacters)
+    }
+}
+
+fn middle_problem(handle: &[u8]) -> Option<Problem>
+    requires { 1 ≤ length handle.now }
+    ensures { result ≡ inner_problem handle.now }
+{
+    if handle.len() < 2 {
+        None
+    } else {
+        inner_problem(handle)
+    }
+}
+
+// The first and the last byte of a handle are `!`.
+fn ends_problem(handle: &[u8]) -> Option<Problem>
+    requires { 1 ≤ length handle.now }
+    ensures { result ≡ ends_problem handle.now }
+{
+    if handle[0] != b'!' {
+        Some(Problem::HandleStart)
+    } else if handle[handle.len() - 1] != b'!' {
+        Some(Problem::HandleEnd)
+    } else {
+        middle_problem(handle)
+    }
+}
+
+#[tactic(auto, unfolding(yaml_emit_layout::specs::Grammar::handle_problem))]
+fn handle_problem(handle: &[u8]) -> Option<Problem>
+    ensures { result ≡ handle_problem handle.now }
+{
+    if handle.is_empty() {
+        Some(Problem::HandleEmpty)
+    } else {
+        ends_problem(handle)
+    }
+}
+
+fn is_empty(text: &[u8]) -> Option<Problem>
+    ensures { result ≡ prefix_problem text.now }
+{
+    if text.is_empty() {
+        Some(Problem::PrefixEmpty)
+    } else {
+        None
+    }
+}
+
+fn is_repeated(before: &[yaml_tag_directive_t], handle: &[u8]) -> bool
+    ensures { result ≡ list_any (has_handle handle.now) (map directive_of before.now) }
+{
+    for directive in before {
+        if directive.handle.as_slice() == handle {
+            return true;
+        }
+    }
+    false
+}
+
+fn twice_problem(before: &[yaml_tag_directive_t], handle: &[u8]) -> Option<Problem>
+    ensures { result ≡ twice_problem (map directive_of before.now) handle.now }
+{
+    if is_repeated(before, handle) {
+        Some(Problem::HandleTwice)
+    } else {
+        None
+    }
+}
+
+fn directive_problem(before: &[yaml_tag_directive_t], directive: &yaml_tag_directive_t) -> Option<Problem>
+    ensures { result ≡ directive_problem (map directive_of before.now) (directive_of directive.now) }
+{
+    if let Some(problem) = handle_problem(&directive.handle) {
+        return Some(problem);
+    }
+    if let Some(problem) = is_empty(&directive.prefix) {
+        return Some(problem);
+    }
+    twice_problem(before, &directive.handle)
+}
+
+fn directives_problem(directives: &[yaml_tag_directive_t]) -> Option<Problem>
+    ensures { result ≡ directives_problem [] (map directive_of directives.now) }
+{
+    for i in 0..directives.len() {
+        match directive_problem(&directives[..i], &directives[i]) {
+            Some(problem) => return Some(problem),
+            None => (),
+        }
+    }
+    None
+}
+
+fn opening_problem(version: Option<yaml_version_directive_t>, directives: &[yaml_tag_directive_t]) -> Option<Problem>
+    ensures { result ≡ or_else (version_problem version) (directives_problem [] (map directive_of directives.now)) }
+{
+    match version_problem(version) {
+        Some(problem) => Some(problem),
+        None => directives_problem(directives),
+    }
+}
+
+fn is_tagged(tag: &Option<Vec<u8>>) -> bool
+    ensures { result ≡ has (text_of tag.now) }
+{
+    match tag {
+        None => false,
+        Some(_) => true,
+    }
+}
+
+fn flags_problem(tag: &Option<Vec<u8>>, plain: bool, quoted: bool) -> Option<Problem>
+    ensures { result ≡ (if has (text_of tag.now) || (plain || quoted) then None else Some Problem.NoFlags) }
+{
+    if is_tagged(tag) || (plain || quoted) {
+        None
+    } else {
+        Some(Problem::NoFlags)
+    }
+}
+
+#[tactic(auto, unfolding(yaml_emit_layout::specs::Grammar::last_problem))]
+fn last_problem(event: &yaml_event_body_t) -> Option<Problem>
+    ensures { result ≡ last_problem (said (body_of event.now)) }
+{
+    match event {
+        yaml_event_body_t::DocumentStart { version_directive, tag_directives, .. } => {
+            opening_problem(*version_directive, tag_directives)
+        }
+        yaml_event_body_t::Scalar { tag, plain_implicit, quoted_implicit, .. } => {
+            flags_problem(tag, *plain_implicit, *quoted_implicit)
+        }
+        _ => None,
+    }
+}
+
+fn begins_node(event: &yaml_event_body_t) -> bool
+    ensures { result ≡ begins_node (said (body_of event.now)) }
+{
+    match event {
+        yaml_event_body_t::Alias { .. }
+        | yaml_event_body_t::Scalar { .. }
+        | yaml_event_body_t::SequenceStart { .. }
+        | yaml_event_body_t::MappingStart { .. } => true,
+        _ => false,
+    }
+}
+
+fn ends_phase(phase: Phase, event: &yaml_event_body_t) -> bool
+    ensures { result ≡ ends_phase phase (said (body_of event.now)) }
+{
+    match phase {
+        Phase::Items(_) => match event {
+            yaml_event_body_t::SequenceEnd => true,
+            _ => false,
+        },
+        Phase::Keys(_) => match event {
+            yaml_event_body_t::MappingEnd => true,
+            _ => false,
+        },
+        Phase::Value(_) => false,
+    }
+}
+
+fn may_come(top: Option<Level>, event: &yaml_event_body_t) -> bool
+    ensures { result ≡ may_come top (said (body_of event.now)) }
+{
+    match top {
+        None => begins_node(event),
+        Some(level) => begins_node(event) || ends_phase(level.phase, event),
+    }
+}
+
+fn node_problem(top: Option<Level>, event: &yaml_event_body_t) -> Option<Problem>
+    ensures { result ≡ node_problem top (said (body_of event.now)) }
+{
+    if may_come(top, event) {
+        None
+    } else {
+        Some(Problem::ExpectedNode)
+    }
+}
+
+#[tactic(auto, unfolding(yaml_emit_layout::specs::Grammar::place_problem))]
+fn place_problem(place: Place, top: Option<Level>, event: &yaml_event_body_t) -> Option<Problem>
+    ensures { result ≡ place_problem place top (said (body_of event.now)) }
+{
+    match place {
+        Place::StreamStart => match event {
+            yaml_event_body_t::StreamStart { .. } => None,
+            _ => Some(Problem::ExpectedStreamStart),
+        },
+        Place::Documents(_, _) => match event {
+            yaml_event_body_t::DocumentStart { .. } | yaml_event_body_t::StreamEnd => None,
+            _ => Some(Problem::ExpectedDocumentStartOrStreamEnd),
+        },
+        Place::Node => node_problem(top, event),
+        Place::DocumentEnd => match event {
+            yaml_event_body_t::DocumentEnd { .. } => None,
+            _ => Some(Problem::ExpectedDocumentEnd),
+        },
+        Place::End => Some(Problem::ExpectedNothing),
+        Place::Refused(problem) => Some(problem),
+    }
+}
+
+fn late_problem(place: Place, top: Option<Level>, event: &yaml_event_body_t) -> Option<Problem>
+    ensures { result ≡ or_else (place_problem place top (said (body_of event.now))) (last_problem (said (body_of event.now))) }
+{
+    match place_problem(place, top, event) {
+        Some(problem) => Some(problem),
+        None => last_problem(event),
+    }
+}
+
+/// What is wrong with an event, if anything: in canonical form or in pretty form, at a place, in the innermost collection.
+#[tactic(auto, unfolding(yaml_emit_layout::specs::Grammar::problem_by))]
+pub fn problem_of(canonical: bool, place: Place, top: Option<Level>, event: &yaml_event_body_t) -> Option<Problem>
+    ensures { result ≡ problem_by canonical place top (said (body_of event.now)) }
+{
+    match event_problem(canonical, event) {
+        Some(problem) => Some(problem),
+        None => late_problem(place, top, event),
+    }
+}

@@ -1,0 +1,95 @@
+//! The open collections.
+ghost use Rattle.std.specs.Prelude.{◌≡◌, ◌∷◌, [], None, Some, OnOk};
+ghost use Rattle.yaml_emit_layout.specs.State.{top_of, outer_of, levels_behind, phase_behind};
+ghost use Rattle.yaml_emit_state.specs.Stack.{stack_of};
+
+use std::alloc::{AllocError, Global};
+use yaml_emit_layout::{Level, Phase};
+
+/// The innermost collection, and those round it, the outermost first.
+#[derive(Drop)]
+pub struct Levels {
+    top: Option<Level>,
+    outer: Vec<Level>,
+}
+
+impl Levels {
+    /// No collection is open.
+    pub fn new(alloc: Global) -> Levels
+        ensures { stack_of result ≡ [] }
+    {
+        Levels { top: None, outer: Vec::new(alloc) }
+    }
+
+    /// The innermost one.
+    pub fn top(&self) -> Option<Level>
+        ensures { result ≡ top_of (stack_of self.now) }
+    {
+        self.top
+    }
+
+    #[tactic(auto, unfolding(yaml_emit_layout::specs::State::phase_behind))]
+    fn phase_behind(phase: Phase, simple: bool) -> Phase
+        ensures { result ≡ phase_behind phase simple }
+    {
+        match phase {
+            Phase::Items(_) => Phase::Items(false),
+            Phase::Keys(_) => Phase::Value(simple),
+            Phase::Value(_) => Phase::Keys(false),
+        }
+    }
+
+    /// Behind a node, by whether it was a simple key.
+    pub fn step(&mut self, simple: bool)
+        ensures { stack_of self.new ≡ levels_behind (stack_of self.old) simple }
+    {
+        match self.top {
+            None => (),
+            Some(level) => {
+                self.top = Some(Level {
+                    phase: Levels::phase_behind(level.phase, simple),
+                    flow: level.flow,
+                    indent: level.indent,
+                });
+            }
+        }
+    }
+
+    /// Opens a collection; refused only for want of memory.
+    pub fn push(&mut self, level: Level) -> Result<(), AllocError>
+        ensures { OnOk result (stack_of self.new ≡ level ∷ stack_of self.old) }
+    {
+        match self.top {
+            None => {
+                self.outer.clear();
+                self.top = Some(level);
+                Ok(())
+            }
+            Some(old) => {
+                self.outer.push(old)?;
+                self.top = Some(level);
+                Ok(())
+            }
+        }
+    }
+
+    /// Closes all collections.
+    pub fn clear(&mut self)
+        ensures { stack_of self.new ≡ [] }
+    {
+        self.top = None;
+        self.outer.clear();
+    }
+
+    /// Closes the innermost collection.
+    pub fn pop(&mut self)
+        ensures { stack_of self.new ≡ outer_of (stack_of self.old) }
+    {
+        match self.top {
+            None => (),
+            Some(_) => {
+                self.top = self.outer.pop();
+            }
+        }
+    }
+}

@@ -1,0 +1,13 @@
+//! Laying out one event after another.
+#![tactic(auto)]
+
+mod before;
+mod documents;
+mod indent;
+mod judge;
+mod keys;
+mod levels;
+mod nodes;
+mod state;
+
+pub use state::Core;

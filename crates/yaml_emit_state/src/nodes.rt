@@ -1,0 +1,183 @@
+//! Nodes: aliases, properties, scalars, and what opens collections.
+ghost use Rattle.std.specs.Prelude.{◌≡◌, ◌≢◌, ◌∷◌, [], None, Some, true, false, not, ◌&&◌, ◌||◌, ◌==◌, ℕ, map, length, IsUtf8};
+ghost use Rattle.std.specs.Str.{chars};
+ghost use Rattle.yaml_parse_model.specs.Events.{directive_of, text_of};
+ghost use Rattle.yaml_emit_text.specs.Sink.{Puts};
+ghost use Rattle.yaml_emit_text.specs.Layout.{◌▹◌, stay, when, char, word, opener};
+ghost use Rattle.yaml_emit_text.specs.Scalars.{scalar_text};
+ghost use Rattle.yaml_emit_layout.specs.Grammar.{kept_if, kept_tag, has};
+ghost use Rattle.yaml_emit_layout.specs.Nodes.{context_of, alias_layout, anchor_text, tag_text, properties_text, mark_text, scalar_layout, style_of, is_plain, checked, deeper, page_at, is_flow};
+ghost use Rattle.yaml_emit_layout.specs.State.{start_text};
+
+use crate::before::{put_blank_if, put_opener_if};
+use crate::indent::{deeper, is_flow, is_simple_part, put_checked};
+use yaml_emit_layout::Spot;
+use yaml_emit_text::{Page, Settings, Sink, Style, allowed_for, put_styled, put_tag, taken, text};
+use yaml_scan::{yaml_scalar_style_t, yaml_tag_directive_t};
+
+fn put_name(sink: &mut Sink, sign: char, name: &[u8])
+    ensures { Puts sink.old sink.new (word (sign ∷ name.now)) }
+{
+    sink.put_gap();
+    sink.put(sign);
+    sink.put_all(name);
+}
+
+/// An alias.
+#[tactic(auto, unfolding(yaml_emit_layout::specs::Nodes::alias_layout))]
+pub fn put_alias(sink: &mut Sink, spot: Spot, name: &[u8])
+    ensures { Puts sink.old sink.new (alias_layout spot name.now) }
+{
+    put_name(sink, '*', name);
+    put_blank_if(sink, is_simple_part(spot.part));
+}
+
+fn put_anchor(sink: &mut Sink, anchor: &Option<Vec<u8>>)
+    ensures { Puts sink.old sink.new (anchor_text (text_of anchor.now)) }
+{
+    match anchor {
+        None => (),
+        Some(name) => put_name(sink, '&', name),
+    }
+}
+
+fn put_given_tag(sink: &mut Sink, settings: Settings, directives: &[yaml_tag_directive_t], tag: &Option<Vec<u8>>)
+    ensures { Puts sink.old sink.new (tag_text (context_of settings (map directive_of directives.now)) (text_of tag.now)) }
+{
+    match tag {
+        None => (),
+        Some(tag) => put_tag(sink, directives, tag),
+    }
+}
+
+fn put_tag_if(sink: &mut Sink, settings: Settings, directives: &[yaml_tag_directive_t], kept: bool, tag: &Option<Vec<u8>>)
+    ensures { Puts sink.old sink.new (tag_text (context_of settings (map directive_of directives.now)) (kept_if kept (text_of tag.now))) }
+{
+    if kept {
+        put_given_tag(sink, settings, directives, tag);
+    }
+}
+
+// In pretty form a tag that may be left out isn't written.
+fn is_kept(canonical: bool, left_out: bool) -> bool
+    ensures { result ≡ (canonical || not left_out) }
+{
+    canonical || !left_out
+}
+
+fn put_properties(sink: &mut Sink, settings: Settings, directives: &[yaml_tag_directive_t], anchor: &Option<Vec<u8>>, left_out: bool, tag: &Option<Vec<u8>>)
+    ensures { Puts sink.old sink.new (properties_text (context_of settings (map directive_of directives.now)) (text_of anchor.now) (kept_tag settings.canonical left_out (text_of tag.now))) }
+{
+    put_anchor(sink, anchor);
+    put_tag_if(sink, settings, directives, is_kept(settings.canonical, left_out), tag);
+}
+
+fn is_tagged(tag: &Option<Vec<u8>>) -> bool
+    ensures { result ≡ has (text_of tag.now) }
+{
+    match tag {
+        None => false,
+        Some(_) => true,
+    }
+}
+
+fn is_tagged_if(kept: bool, tag: &Option<Vec<u8>>) -> bool
+    ensures { result ≡ has (kept_if kept (text_of tag.now)) }
+{
+    if kept {
+        is_tagged(tag)
+    } else {
+        false
+    }
+}
+
+// Whether a tag is written.
+fn is_written(canonical: bool, left_out: bool, tag: &Option<Vec<u8>>) -> bool
+    ensures { result ≡ has (kept_tag canonical left_out (text_of tag.now)) }
+{
+    is_tagged_if(is_kept(canonical, left_out), tag)
+}
+
+fn is_plain(style: Style) -> bool
+    ensures { result ≡ is_plain style }
+{
+    match style {
+        Style::Plain => true,
+        _ => false,
+    }
+}
+
+#[tactic(auto, unfolding(yaml_emit_layout::specs::Nodes::style_of))]
+fn style_of(settings: Settings, directives: &[yaml_tag_directive_t], spot: Spot, anchor: &Option<Vec<u8>>, tag: &Option<Vec<u8>>, value: &[u8], plain: bool, quoted: bool, style: yaml_scalar_style_t) -> Style
+    requires { IsUtf8 value.now }
+    ensures { result ≡ style_of (context_of settings (map directive_of directives.now)) spot (record { anchor = text_of anchor.now; tag = text_of tag.now; value = value.now; plain = plain; quoted = quoted; style = style }) }
+{
+    if settings.canonical {
+        Style::Double
+    } else {
+        taken(
+            allowed_for(settings.unicode, text(value)),
+            style,
+            is_written(false, plain || quoted, tag) || plain,
+            spot.flow,
+            is_simple_part(spot.part),
+            value.is_empty(),
+        )
+    }
+}
+
+fn put_exclamation_if(sink: &mut Sink, due: bool)
+    ensures { Puts sink.old sink.new (when due (word (33 ∷ []))) }
+{
+    if due {
+        sink.put_word(b"!");
+    }
+}
+
+// Whether `!` is due.
+fn is_marked(canonical: bool, tag: &Option<Vec<u8>>, plain: bool, quoted: bool, chosen: Style) -> bool
+    ensures { result ≡ (not (has (kept_tag canonical (plain || quoted) (text_of tag.now))) && (not quoted && not (is_plain chosen))) }
+{
+    !is_written(canonical, plain || quoted, tag) && !quoted && !is_plain(chosen)
+}
+
+fn put_lines(sink: &mut Sink, settings: Settings, spot: Spot, style: Style, value: &[u8])
+    requires { IsUtf8 value.now }
+    ensures { Puts sink.old sink.new (checked (deeper settings spot.around) ▹ scalar_text (page_at settings spot) settings.indent spot.flow style (chars value.now)) }
+{
+    let depth = deeper(settings, spot.around);
+    put_checked(sink, depth);
+    match depth {
+        None => (),
+        Some(indentation) => {
+            let page = Page {
+                width: settings.width,
+                indentation,
+                unicode: settings.unicode,
+                cuts: !is_simple_part(spot.part),
+                line_break: settings.line_break,
+            };
+            put_styled(sink, page, settings.indent, spot.flow, style, text(value));
+        }
+    }
+}
+
+/// A scalar, with its anchor and tag.
+#[tactic(auto, unfolding(yaml_emit_layout::specs::Nodes::scalar_layout))]
+pub fn put_scalar(sink: &mut Sink, settings: Settings, directives: &[yaml_tag_directive_t], spot: Spot, anchor: &Option<Vec<u8>>, tag: &Option<Vec<u8>>, value: &[u8], plain: bool, quoted: bool, style: yaml_scalar_style_t)
+    requires { IsUtf8 value.now }
+    ensures { Puts sink.old sink.new (scalar_layout (context_of settings (map directive_of directives.now)) spot (record { anchor = text_of anchor.now; tag = text_of tag.now; value = value.now; plain = plain; quoted = quoted; style = style })) }
+{
+    let chosen = style_of(settings, directives, spot, anchor, tag, value, plain, quoted, style);
+    put_properties(sink, settings, directives, anchor, plain || quoted, tag);
+    put_exclamation_if(sink, is_marked(settings.canonical, tag, plain, quoted, chosen));
+    put_lines(sink, settings, spot, chosen, value);
+}
+
+/// What opens a collection, with its anchor and tag.
+pub fn put_collection(sink: &mut Sink, settings: Settings, directives: &[yaml_tag_directive_t], spot: Spot, c: char, anchor: &Option<Vec<u8>>, tag: &Option<Vec<u8>>, implicit: bool, style_flow: bool, empty: bool)
+    ensures { Puts sink.old sink.new (start_text (context_of settings (map directive_of directives.now)) spot c (record { anchor = text_of anchor.now; tag = text_of tag.now; implicit = implicit; flow = style_flow }) empty) }
+{
+    put_properties(sink, settings, directives, anchor, implicit, tag);
+    put_opener_if(sink, is_flow(settings, spot, style_flow, empty), c);
+}

@@ -1,0 +1,136 @@
+//! One event after another is laid out.
+ghost use Rattle.std.specs.Prelude.{◌≡◌, ◌≢◌, ◌∷◌, [], None, Some, true, false, not, ◌&&◌, ◌||◌, IfSome, if◌then◌else◌, map, IsUtf8};
+ghost use Rattle.yaml_parse_model.specs.Constructors.{HasUtf8};
+
+mod event;
+mod moves;
+
+use crate::judge::problem_of;
+use crate::levels::Levels;
+use event::put_event;
+use std::alloc::{AllocError, Global};
+use yaml_emit_layout::Place;
+use yaml_emit_text::{Settings, Sink, Status};
+use yaml_parse_model::yaml_event_body_t;
+use yaml_scan::yaml_tag_directive_t;
+
+/// Where an emitter stands: the settings in force, the output, what is expected, the open collections, and the directives of
+/// the document.
+#[derive(Drop)]
+pub struct Core {
+    settings: Settings,
+    sink: Sink,
+    place: Place,
+    levels: Levels,
+    directives: Vec<yaml_tag_directive_t>,
+    /// Memory was refused for the open collections, and not for the output.
+    starved: bool,
+}
+
+impl Core {
+    ghost use Rattle.yaml_parse_model.specs.Events.{directive_of, body_of};
+    ghost use Rattle.yaml_emit_layout.specs.Content.{said};
+    ghost use Rattle.yaml_emit_layout.specs.State.{problem_at};
+    ghost use Rattle.yaml_emit_state.specs.Steps.{state_of, settings_of, LaysOut, IsFresh, Takes, Starves, goes_on};
+
+    /// Nothing was laid out.
+    pub fn new(alloc: Global, settings: Settings, limit: u64) -> Core
+        ensures fresh { IsFresh result settings }
+        ensures limit { result.sink.limit ≡ limit }
+    {
+        let mut sink = Sink::new(alloc, limit);
+        sink.set_encoding(settings.encoding);
+        Core {
+            settings,
+            sink,
+            place: Place::StreamStart,
+            levels: Levels::new(alloc),
+            directives: Vec::new(alloc),
+            starved: false,
+        }
+    }
+
+    /// The output.
+    pub fn sink(&self) -> &Sink
+        ensures { result.now ≡ self.now.sink }
+    {
+        &self.sink
+    }
+
+    /// The bytes of the output.
+    pub fn into_output(self) -> Vec<u8>
+        ensures { result.items ≡ self.sink.bytes }
+    {
+        self.sink.into_output()
+    }
+
+    /// What is expected.
+    pub fn place(&self) -> Place
+        ensures { result ≡ self.now.place }
+    {
+        self.place
+    }
+
+    /// Whether memory was refused for the open collections.
+    pub fn is_starved(&self) -> bool
+        ensures { result ≡ self.now.starved }
+    {
+        self.starved
+    }
+
+    /// Whether no event was refused so far, and the output goes on.
+    pub fn is_going(&self) -> bool
+        ensures { result ≡ goes_on self.now.sink.status self.now.place }
+    {
+        match self.place {
+            Place::Refused(_) => false,
+            _ => self.sink.status().is_going(),
+        }
+    }
+
+    /// Memory was refused for what is to be laid out: the output stops.
+    pub fn starve(&mut self, refused: AllocError)
+        ensures { Starves self.old self.new }
+    {
+        self.starved = true;
+        self.sink.starve(refused);
+    }
+
+    // The settings in force: the encoding is the output's.
+    fn settings(&self) -> Settings
+        ensures { result ≡ settings_of self.now }
+    {
+        Settings {
+            encoding: self.sink.encoding(),
+            canonical: self.settings.canonical,
+            indent: self.settings.indent,
+            width: self.settings.width,
+            unicode: self.settings.unicode,
+            line_break: self.settings.line_break,
+        }
+    }
+
+    // An event in its right place.
+    fn take(&mut self, event: yaml_event_body_t, empty: bool)
+        requires { HasUtf8 (body_of event) }
+        ensures { Takes self.old self.new (said (body_of event)) empty }
+    {
+        let settings = self.settings();
+        let top = self.levels.top();
+        put_event(&mut self.sink, settings, &self.directives, self.place, top, &event, empty);
+        self.move_on(settings, event, empty);
+    }
+
+    /// Lays out an event that is no longer held, by whether it opens a collection that the next event closes; or refuses it.
+    pub fn lay_out(&mut self, event: yaml_event_body_t, empty: bool)
+        requires { HasUtf8 (body_of event) }
+        ensures { LaysOut self.old self.new (said (body_of event)) empty }
+    {
+        match problem_of(self.settings.canonical, self.place, self.levels.top(), &event) {
+            Some(problem) => {
+                self.place = Place::Refused(problem);
+            }
+            None => self.take(event, empty),
+        }
+    }
+}

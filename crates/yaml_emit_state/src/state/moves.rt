@@ -1,0 +1,157 @@
+//! The state behind an event that was written.
+ghost use Rattle.std.specs.Prelude.{◌≡◌, ◌≢◌, ◌∷◌, [], ℕ, None, Some, true, false, IfSome, if◌then◌else◌, map};
+ghost use Rattle.yaml_parse_model.specs.Events.{directive_of, body_of};
+ghost use Rattle.yaml_emit_text.specs.Sink.{Puts};
+ghost use Rattle.yaml_emit_text.specs.Layout.{stay};
+ghost use Rattle.yaml_emit_layout.specs.Content.{said};
+ghost use Rattle.yaml_emit_layout.specs.State.{among, levels_behind, outer_of, place_at, opened, placed};
+ghost use Rattle.yaml_emit_state.specs.Stack.{stack_of, within};
+ghost use Rattle.yaml_emit_layout.specs.Nodes.{checked};
+ghost use Rattle.yaml_emit_state.specs.Steps.{state_of, StaysBut, MovesOn, Opens, first_phase, is_document_start};
+
+use super::Core;
+use crate::indent::{indent_of, is_flow, spot_of};
+use crate::keys::{is_flow_mapping, is_flow_sequence, is_simple};
+use yaml_emit_layout::{Level, Phase, Place};
+use yaml_emit_text::{Settings, Status};
+use yaml_parse_model::yaml_event_body_t;
+use yaml_scan::yaml_tag_directive_t;
+
+fn place_behind(top: Option<Level>) -> Place
+    ensures { result ≡ place_at top }
+{
+    match top {
+        None => Place::DocumentEnd,
+        Some(_) => Place::Node,
+    }
+}
+
+fn first_phase(sequence: bool) -> Phase
+    ensures { result ≡ first_phase sequence }
+{
+    if sequence {
+        Phase::Items(true)
+    } else {
+        Phase::Keys(true)
+    }
+}
+
+impl Core {
+    // Behind a node.
+    fn step(&mut self, simple: bool)
+        ensures state { state_of self.new ≡ among (state_of self.old).directives (levels_behind (state_of self.old).levels simple) }
+        ensures same { StaysBut self.old self.new }
+    {
+        self.levels.step(simple);
+        self.place = place_behind(self.levels.top());
+    }
+
+    fn close(&mut self)
+        ensures state { state_of self.new ≡ among (state_of self.old).directives (outer_of (state_of self.old).levels) }
+        ensures same { StaysBut self.old self.new }
+    {
+        self.levels.pop();
+        self.place = place_behind(self.levels.top());
+    }
+
+    // Between documents no collection is open, and no directive counts.
+    fn turn(&mut self, place: Place)
+        ensures state { state_of self.new ≡ placed place }
+        ensures same { StaysBut self.old self.new }
+    {
+        self.place = place;
+        self.levels.clear();
+        self.directives.clear();
+    }
+
+    fn begin(&mut self, directives: Vec<yaml_tag_directive_t>)
+        ensures state { state_of self.new ≡ record { place = Place.Node; levels = []; directives = map directive_of directives.items } }
+        ensures same { StaysBut self.old self.new }
+    {
+        self.place = Place::Node;
+        self.levels.clear();
+        self.directives = directives;
+    }
+
+    fn push(&mut self, level: Level)
+        ensures state { self.new.sink.status ≡ Status.Going → stack_of self.new.levels ≡ level ∷ stack_of self.old.levels }
+        ensures place { self.new.place ≡ self.old.place }
+        ensures directives { self.new.directives ≡ self.old.directives }
+        ensures settings { self.new.settings ≡ self.old.settings }
+        ensures cursor { self.new.sink.status ≡ Status.Going → self.new.sink.cursor ≡ self.old.sink.cursor }
+        ensures text { Puts self.old.sink self.new.sink stay }
+    {
+        match self.levels.push(level) {
+            Ok(_) => (),
+            Err(refused) => {
+                self.starved = true;
+                self.sink.starve(refused);
+            }
+        }
+    }
+
+    // A collection is opened, unless it would stand too deep: then the output has stopped.
+    fn open(&mut self, simple: bool, phase: Phase, flow: bool, indent: u64)
+        ensures state { self.new.sink.status ≡ Status.Going → state_of self.new ≡ opened (state_of self.old).directives (state_of self.old).levels simple phase flow indent }
+        ensures settings { self.new.settings ≡ self.old.settings }
+        ensures cursor { self.new.sink.status ≡ Status.Going → self.new.sink.cursor ≡ self.old.sink.cursor }
+        ensures text { Puts self.old.sink self.new.sink stay }
+    {
+        self.place = Place::Node;
+        self.levels.step(simple);
+        self.push(Level { phase, flow, indent });
+    }
+
+    // A collection is opened, unless it would stand too deep or memory is wanting.
+    fn open_at(&mut self, simple: bool, phase: Phase, flow: bool, indent: Option<u64>)
+        ensures state { self.new.sink.status ≡ Status.Going → (n : ℕ) → indent ≡ within n → state_of self.new ≡ opened (state_of self.old).directives (state_of self.old).levels simple phase flow n }
+        ensures settings { self.new.settings ≡ self.old.settings }
+        ensures cursor { self.new.sink.status ≡ Status.Going → self.new.sink.cursor ≡ self.old.sink.cursor }
+        ensures text { (n : ℕ) → indent ≡ within n → Puts self.old.sink self.new.sink (checked n) }
+    {
+        match indent {
+            None => self.sink.put_too_deep(),
+            Some(indent) => self.open(simple, phase, flow, indent),
+        }
+    }
+
+    fn open_by(&mut self, settings: Settings, simple: bool, empty: bool, style_flow: bool, sequence: bool)
+        ensures { Opens settings self.old self.new simple empty style_flow sequence }
+    {
+        let spot = spot_of(self.levels.top(), simple);
+        let flow = is_flow(settings, spot, style_flow, empty);
+        let indent = indent_of(settings, spot, sequence, flow, self.sink.cursor());
+        let phase = first_phase(sequence);
+        self.open_at(simple, phase, flow, indent);
+    }
+
+    // The state behind an event other than a document's start.
+    #[tactic(auto, unfolding(yaml_emit_layout::specs::State::next_at, yaml_emit_layout::specs::State::depth_at))]
+    fn move_by(&mut self, settings: Settings, event: &yaml_event_body_t, empty: bool)
+        requires { is_document_start (said (body_of event.now)) ≡ false }
+        ensures { MovesOn settings self.old self.new (said (body_of event.now)) empty }
+    {
+        let simple = is_simple(settings, &self.directives, event, empty);
+        match event {
+            yaml_event_body_t::No | yaml_event_body_t::DocumentStart { .. } => (),
+            yaml_event_body_t::StreamStart { .. } => self.turn(Place::Documents(true, false)),
+            yaml_event_body_t::StreamEnd => self.turn(Place::End),
+            yaml_event_body_t::DocumentEnd { implicit } => self.turn(Place::Documents(false, *implicit)),
+            yaml_event_body_t::Alias { .. } | yaml_event_body_t::Scalar { .. } => self.step(simple),
+            yaml_event_body_t::SequenceStart { style, .. } => self.open_by(settings, simple, empty, is_flow_sequence(*style), true),
+            yaml_event_body_t::MappingStart { style, .. } => self.open_by(settings, simple, empty, is_flow_mapping(*style), false),
+            yaml_event_body_t::SequenceEnd | yaml_event_body_t::MappingEnd => self.close(),
+        }
+    }
+
+    /// The state behind an event that was written, by the settings in force and by whether the event opens a collection that the next one closes.
+    #[tactic(auto, unfolding(yaml_emit_layout::specs::State::next_at, yaml_emit_layout::specs::State::depth_at))]
+    pub(super) fn move_on(&mut self, settings: Settings, event: yaml_event_body_t, empty: bool)
+        ensures { MovesOn settings self.old self.new (said (body_of event)) empty }
+    {
+        match event {
+            yaml_event_body_t::DocumentStart { tag_directives, .. } => self.begin(tag_directives),
+            other => self.move_by(settings, &other, empty),
+        }
+    }
+}

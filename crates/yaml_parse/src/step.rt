@@ -61,11 +61,11 @@ fn taking(stack: &mut Vec<State>, state: State, token: yaml_token_t) -> Step {
         Ok(()) => {}
         Err(_) => return Step::Refused(want_of_memory()),
     }
-    match push_all(stack, taken.pushed) {
+    match push_all(stack, taken.opening.pushed) {
         Ok(()) => {}
         Err(_) => return Step::Refused(want_of_memory()),
     }
-    match taken.item {
+    match taken.opening.item {
         Some(item) => Step::Item(item),
         None => Step::Silent,
     }

@@ -15,6 +15,7 @@ use Rattle.yaml_parse_machine.specs.declared.item.State.{State}
 use Rattle.yaml_parse_machine.specs.declared.item.State.TheVariants as code
 use Rattle.yaml_parse_machine.specs.declared.item.Pushed.{Pushed}
 use Rattle.yaml_parse_machine.specs.declared.item.Pushed.TheVariants.{Zero, One, Two, Three, Four}
+use Rattle.yaml_parse_machine.specs.declared.item.Opening.{Opening}
 use Rattle.yaml_parse_machine.specs.declared.item.Taken.{Taken}
 
 abbrev pub tag_of : tag.Tag → item.Tag
@@ -82,8 +83,11 @@ over above (Two a b) = above ++ state_of a ∷ state_of b ∷ []
 over above (Three a b c) = above ++ state_of a ∷ state_of b ∷ state_of c ∷ []
 over above (Four a b c d) = above ++ state_of a ∷ state_of b ∷ state_of c ∷ state_of d ∷ []
 
+abbrev pub opening_of : Opening → state.Taken
+opening_of t = record { item = item_option_of t.item; above = pushed_of t.pushed }
+
 abbrev pub taken_of : Taken → state.Taken
-taken_of t = record { item = item_option_of t.item; above = over (pushed_of t.pushed) t.below }
+taken_of t = record { item = item_option_of t.opening.item; above = over (pushed_of t.opening.pushed) t.below }
 
 -- the states, the topmost first, of a list whose last is the topmost
 abbrev pub stack_of : List State → List state.State

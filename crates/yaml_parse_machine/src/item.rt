@@ -103,11 +103,16 @@ pub enum Pushed {
     Four(State, State, State, State),
 }
 
-/// What taking a token gives.
+/// What a token gives, and what may come above the other states.
+#[derive(Drop)]
+pub struct Opening {
+    pub item: Option<Item>,
+    pub pushed: Pushed,
+}
+
+/// What taking a token gives: `below` goes on top of the other states, and then the opening's.
 #[derive(Drop)]
 pub struct Taken {
-    pub item: Option<Item>,
-    /// The states above the others, and between both those of `below`.
-    pub pushed: Pushed,
+    pub opening: Opening,
     pub below: Pushed,
 }

@@ -1,6 +1,8 @@
 //! What taking a token gives, built from the moved token, and what leaving a state gives.
 
-ghost use Rattle.std.specs.Prelude.{◌≡◌, ◌++◌, OnOk, Some};
+ghost use Rattle.std.specs.Prelude.{◌≡◌, ◌++◌, [], ◌∷◌, OnOk, Some, None};
+ghost use Rattle.yaml_parse_model.specs.Events as event;
+ghost use Rattle.yaml_parse_grammar.specs.declared.name.Place.TheVariants.{IndentlessEntry};
 ghost use Rattle.yaml_scan.specs.Tokens.{token_of, body_of as token_body_of};
 ghost use Rattle.yaml_parse_model.specs.Events.{body_of, text_of};
 ghost use Rattle.yaml_parse_grammar.specs.Items.{item_at, blank, node_at, dressed_alone};
@@ -8,11 +10,11 @@ ghost use Rattle.yaml_parse_grammar.specs.Items as item;
 ghost use Rattle.yaml_scan.specs.declared.yaml_sequence_style_t.TheVariants.{YAML_BLOCK_SEQUENCE_STYLE};
 ghost use Rattle.yaml_parse_grammar.specs.Trees.{mark_at, flow_shape, end_event, event_at};
 ghost use Rattle.yaml_parse_grammar.specs.States as state;
-ghost use Rattle.yaml_parse_grammar.specs.Machine.{taken, taken_at, left_at, documents_taken, content_taken, node_taken, dressed_taken, items_taken, more_taken, stream_taken, entries_taken, pairs_taken, pair_taken, opened as opened_at};
-ghost use Rattle.yaml_parse_machine.specs.Views.{properties_of, properties_option_of, shape_of, item_of, item_body_of, item_option_of, state_of, taken_of, pushed_of, stack_of};
+ghost use Rattle.yaml_parse_grammar.specs.Machine.{taken, taken_at, left_at, documents_taken, content_taken, node_taken, dressed_taken, items_taken, more_taken, stream_taken, entries_taken, pairs_taken, pair_taken, lone_below, opened as opened_at};
+ghost use Rattle.yaml_parse_machine.specs.Views.{opening_of, properties_of, properties_option_of, shape_of, item_of, item_body_of, item_option_of, state_of, taken_of, pushed_of, stack_of};
 
 use crate::choosing::wants;
-use crate::item::{Item, ItemBody, Properties, Pushed, Shape, State, Tag, Taken};
+use crate::item::{Item, ItemBody, Opening, Properties, Pushed, Shape, State, Tag, Taken};
 use std::alloc::AllocError;
 use yaml_parse_grammar::{Brackets, Place, Side, Wants};
 use yaml_parse_model::yaml_event_body_t;
@@ -81,14 +83,10 @@ fn node(
     })
 }
 
-fn took(item: Option<Item>, pushed: Pushed) -> Taken
-    ensures { taken_of result ≡ taken (item_option_of item) (pushed_of pushed) }
+fn took(item: Option<Item>, pushed: Pushed) -> Opening
+    ensures { opening_of result ≡ taken (item_option_of item) (pushed_of pushed) }
 {
-    Taken {
-        item,
-        pushed,
-        below: Pushed::Zero,
-    }
+    Opening { item, pushed }
 }
 
 fn took_event(
@@ -96,14 +94,14 @@ fn took_event(
     start: yaml_mark_t,
     end: yaml_mark_t,
     pushed: Pushed,
-) -> Taken
-    ensures { taken_of result ≡ taken (Some (event_at (body_of body) start end)) (pushed_of pushed) }
+) -> Opening
+    ensures { opening_of result ≡ taken (Some (event_at (body_of body) start end)) (pushed_of pushed) }
 {
     took(Some(event(body, start, end)), pushed)
 }
 
-fn at_stream(start: yaml_mark_t, end: yaml_mark_t, body: yaml_token_body_t) -> Taken
-    ensures { taken_of result ≡ stream_taken start end (token_body_of body) }
+fn at_stream(start: yaml_mark_t, end: yaml_mark_t, body: yaml_token_body_t) -> Opening
+    ensures { opening_of result ≡ stream_taken start end (token_body_of body) }
 {
     match body {
         yaml_token_body_t::StreamStart { encoding } => took_event(
@@ -121,8 +119,8 @@ fn at_documents(
     start: yaml_mark_t,
     end: yaml_mark_t,
     body: yaml_token_body_t,
-) -> Taken
-    ensures { taken_of result ≡ documents_taken from start end (token_body_of body) }
+) -> Opening
+    ensures { opening_of result ≡ documents_taken from start end (token_body_of body) }
 {
     match body {
         yaml_token_body_t::VersionDirective { major, minor } => took(
@@ -191,8 +189,8 @@ fn at_content(
     start: yaml_mark_t,
     end: yaml_mark_t,
     body: yaml_token_body_t,
-) -> Taken
-    ensures { taken_of result ≡ content_taken wants (properties_option_of properties) start end (token_body_of body) }
+) -> Opening
+    ensures { opening_of result ≡ content_taken wants (properties_option_of properties) start end (token_body_of body) }
 {
     match body {
         yaml_token_body_t::Scalar { value, style } => took(
@@ -245,8 +243,8 @@ fn at_node(
     start: yaml_mark_t,
     end: yaml_mark_t,
     body: yaml_token_body_t,
-) -> Taken
-    ensures { taken_of result ≡ node_taken wants start end (token_body_of body) }
+) -> Opening
+    ensures { opening_of result ≡ node_taken wants start end (token_body_of body) }
 {
     match body {
         yaml_token_body_t::Alias { value } => took_event(
@@ -288,8 +286,8 @@ fn at_dressed(
     start: yaml_mark_t,
     end: yaml_mark_t,
     body: yaml_token_body_t,
-) -> Taken
-    ensures { taken_of result ≡ dressed_taken wants (properties_of properties) start end (token_body_of body) }
+) -> Opening
+    ensures { opening_of result ≡ dressed_taken wants (properties_of properties) start end (token_body_of body) }
 {
     match body {
         yaml_token_body_t::Anchor { value } => {
@@ -325,8 +323,8 @@ fn at_pair(
     opener: yaml_mark_t,
     start: yaml_mark_t,
     end: yaml_mark_t,
-) -> Taken
-    ensures { taken_of result ≡ pair_taken brackets opener start end }
+) -> Opening
+    ensures { opening_of result ≡ pair_taken brackets opener start end }
 {
     match brackets {
         Brackets::Sequence => took(
@@ -349,6 +347,26 @@ fn at_pair(
     }
 }
 
+// The opening with nothing below.
+fn whole(opening: Opening) -> Taken
+    ensures { taken_of result ≡ opening_of opening }
+{
+    Taken {
+        opening,
+        below: Pushed::Zero,
+    }
+}
+
+// What comes behind a part that stands inside brackets.
+fn behind_part(brackets: Brackets, opener: yaml_mark_t) -> Pushed
+    ensures { pushed_of result ≡ lone_below brackets (state.more brackets opener ∷ []) }
+{
+    match brackets {
+        Brackets::Sequence => Pushed::One(State::More(brackets, opener)),
+        Brackets::Mapping => Pushed::Two(State::Lone, State::More(brackets, opener)),
+    }
+}
+
 fn at_items(
     brackets: Brackets,
     opener: yaml_mark_t,
@@ -359,23 +377,17 @@ fn at_items(
     ensures { taken_of result ≡ items_taken brackets opener start end (token_body_of body) }
 {
     match body {
-        yaml_token_body_t::Key => at_pair(brackets, opener, start, end),
+        yaml_token_body_t::Key => whole(at_pair(brackets, opener, start, end)),
         yaml_token_body_t::FlowSequenceEnd => {
-            took_event(end_of(brackets), start, end, Pushed::Zero)
+            whole(took_event(end_of(brackets), start, end, Pushed::Zero))
         }
-        yaml_token_body_t::FlowMappingEnd => took_event(end_of(brackets), start, end, Pushed::Zero),
-        other => {
-            let first = at_node(Wants::Flow, start, end, other);
-            let below = match brackets {
-                Brackets::Sequence => Pushed::One(State::More(brackets, opener)),
-                Brackets::Mapping => Pushed::Two(State::Lone, State::More(brackets, opener)),
-            };
-            Taken {
-                item: first.item,
-                pushed: first.pushed,
-                below,
-            }
+        yaml_token_body_t::FlowMappingEnd => {
+            whole(took_event(end_of(brackets), start, end, Pushed::Zero))
         }
+        other => Taken {
+            opening: at_node(Wants::Flow, start, end, other),
+            below: behind_part(brackets, opener),
+        },
     }
 }
 
@@ -385,8 +397,8 @@ fn at_more(
     start: yaml_mark_t,
     end: yaml_mark_t,
     body: yaml_token_body_t,
-) -> Taken
-    ensures { taken_of result ≡ more_taken brackets opener start end (token_body_of body) }
+) -> Opening
+    ensures { opening_of result ≡ more_taken brackets opener start end (token_body_of body) }
 {
     match body {
         yaml_token_body_t::FlowEntry => took(None, Pushed::One(State::Items(brackets, opener))),
@@ -399,8 +411,8 @@ fn at_entries(
     start: yaml_mark_t,
     end: yaml_mark_t,
     body: yaml_token_body_t,
-) -> Taken
-    ensures { taken_of result ≡ entries_taken opener start end (token_body_of body) }
+) -> Opening
+    ensures { opening_of result ≡ entries_taken opener start end (token_body_of body) }
 {
     match body {
         yaml_token_body_t::BlockEntry => took(
@@ -416,8 +428,8 @@ fn at_pairs(
     start: yaml_mark_t,
     end: yaml_mark_t,
     body: yaml_token_body_t,
-) -> Taken
-    ensures { taken_of result ≡ pairs_taken opener start end (token_body_of body) }
+) -> Opening
+    ensures { opening_of result ≡ pairs_taken opener start end (token_body_of body) }
 {
     match body {
         yaml_token_body_t::Key => took(
@@ -432,6 +444,29 @@ fn at_pairs(
     }
 }
 
+fn document_end(start: yaml_mark_t, end: yaml_mark_t) -> Opening
+    ensures { opening_of result ≡ taken (Some (event_at (event.document_end false) start end)) [] }
+{
+    took_event(
+        yaml_event_body_t::DocumentEnd { implicit: false },
+        start,
+        end,
+        Pushed::Zero,
+    )
+}
+
+fn at_others(side: Side, end: yaml_mark_t) -> Opening
+    ensures { opening_of result ≡ taken None (state.optional (IndentlessEntry side) end ∷ state.others side ∷ []) }
+{
+    took(
+        None,
+        Pushed::Two(
+            State::Optional(Place::IndentlessEntry(side), end),
+            State::Others(side),
+        ),
+    )
+}
+
 /// What the state gives as it takes the token, and what may come from then on.
 pub fn take(state: State, token: yaml_token_t) -> Taken
     ensures { taken_of result ≡ taken_at (state_of state) (token_of token) }
@@ -440,32 +475,23 @@ pub fn take(state: State, token: yaml_token_t) -> Taken
     let end = token.end_mark;
     let body = token.body;
     match state {
-        State::Stream => at_stream(start, end, body),
-        State::First => at_documents(start, start, end, body),
-        State::Documents => at_documents(start, start, end, body),
-        State::Directives(from) => at_documents(from, start, end, body),
-        State::Optional(place, _) => at_node(wants(place), start, end, body),
-        State::DocumentEnd => took_event(
-            yaml_event_body_t::DocumentEnd { implicit: false },
-            start,
-            end,
-            Pushed::Zero,
-        ),
-        State::Entries(opener) => at_entries(opener, start, end, body),
-        State::Others(side) => took(
-            None,
-            Pushed::Two(
-                State::Optional(Place::IndentlessEntry(side), end),
-                State::Others(side),
-            ),
-        ),
-        State::Pairs(opener) => at_pairs(opener, start, end, body),
-        State::Colon(place) => took(None, Pushed::One(State::Optional(place, end))),
-        State::Dressed(wants, properties) => at_dressed(wants, properties, start, end, body),
+        State::Stream => whole(at_stream(start, end, body)),
+        State::First => whole(at_documents(start, start, end, body)),
+        State::Documents => whole(at_documents(start, start, end, body)),
+        State::Directives(from) => whole(at_documents(from, start, end, body)),
+        State::Optional(place, _) => whole(at_node(wants(place), start, end, body)),
+        State::DocumentEnd => whole(document_end(start, end)),
+        State::Entries(opener) => whole(at_entries(opener, start, end, body)),
+        State::Others(side) => whole(at_others(side, end)),
+        State::Pairs(opener) => whole(at_pairs(opener, start, end, body)),
+        State::Colon(place) => whole(took(None, Pushed::One(State::Optional(place, end)))),
+        State::Dressed(wants, properties) => {
+            whole(at_dressed(wants, properties, start, end, body))
+        }
         State::Items(brackets, opener) => at_items(brackets, opener, start, end, body),
-        State::More(brackets, opener) => at_more(brackets, opener, start, end, body),
-        State::PairEnd => took(None, Pushed::Zero),
-        State::Lone => took(None, Pushed::Zero),
+        State::More(brackets, opener) => whole(at_more(brackets, opener, start, end, body)),
+        State::PairEnd => whole(took(None, Pushed::Zero)),
+        State::Lone => whole(took(None, Pushed::Zero)),
     }
 }
 

@@ -1,1 +1,2 @@
 pub mod Complete
+pub mod Voice

@@ -141,7 +141,10 @@ choice_at state.lone k = Leave
 abbrev pub taken : Option Item → List State → Taken
 taken item above = record { item = item; above = above }
 
--- a token of its own kind alone has items: the default is never met
+-- for tokens that the state doesn't take: it is never met
+abbrev pub not_taken : Taken
+not_taken = taken None (state.lone ∷ [])
+
 abbrev pub documents_taken : yaml_mark_t → yaml_mark_t → yaml_mark_t → TokenBody → Taken
 documents_taken from start end (token.version_directive major minor) =
     taken (Some (item_at (item.version_directive major minor) start end)) (state.directives from ∷ [])
@@ -165,7 +168,7 @@ content_taken w p start end token.block_mapping_start =
 content_taken (Block (Some side)) p start end token.block_entry =
     taken (Some (node_at p (item.sequence YAML_BLOCK_SEQUENCE_STYLE) start end))
         (state.optional (IndentlessEntry side) end ∷ state.others side ∷ [])
-content_taken w p start end _ = taken None []
+content_taken w p start end _ = not_taken
 
 abbrev pub tag_at : List ℕ → List ℕ → yaml_mark_t → Tag
 tag_at handle suffix start = record { handle = handle; suffix = suffix; mark = start }
@@ -211,7 +214,7 @@ more_taken b opener start end _ = taken (Some (event_at (end_event b) start end)
 
 abbrev pub stream_taken : yaml_mark_t → yaml_mark_t → TokenBody → Taken
 stream_taken start end (token.stream_start encoding) = taken (Some (event_at (event.stream_start encoding) start end)) (state.first ∷ [])
-stream_taken start end _ = taken None []
+stream_taken start end _ = not_taken
 
 abbrev pub entries_taken : yaml_mark_t → yaml_mark_t → yaml_mark_t → TokenBody → Taken
 entries_taken opener start end token.block_entry = taken None (state.optional Entry end ∷ state.entries opener ∷ [])
@@ -236,8 +239,8 @@ taken_at (state.colon place) t = taken None (state.optional place t.end_mark ∷
 taken_at (state.dressed w p) t = dressed_taken w p t.start_mark t.end_mark t.body
 taken_at (state.items b opener) t = items_taken b opener t.start_mark t.end_mark t.body
 taken_at (state.more b opener) t = more_taken b opener t.start_mark t.end_mark t.body
-taken_at state.pair_end t = taken None []
-taken_at state.lone t = taken None []
+taken_at state.pair_end t = not_taken
+taken_at state.lone t = not_taken
 
 -- ---- what leaving a state gives, before a token that starts there
 

@@ -1,14 +1,16 @@
 -- Steps over the directives of a document.
-use Rattle.std.proofs.Common.{◌≡◌, ◌+◌, ◌<◌, ◌≤◌, ℕ, Bool, true, false, if◌then◌else◌, List, [], ◌∷◌, ◌++◌, length, take, drop, get_or, map, Option, Some, None, refl, ap, sym, ◌∙◌, arith, add-one}
+use Rattle.std.proofs.Common.{◌≡◌, ◌+◌, ◌<◌, ◌≤◌, ℕ, Bool, true, false, if◌then◌else◌, List, [], ◌∷◌, ◌++◌, length, take, drop, get_or, map, Option, Some, None, refl, ap, sym, ◌∙◌, arith, suc}
 use Rattle.std.proofs.Math.Seq.{drop-cons}
-use Rattle.std.proofs.lemmas.List.{drop_all, map-append, append_nil, append_assoc}
+use Rattle.std.proofs.lemmas.List.{drop_all, map-append, append-nil, append_assoc}
 use Rattle.std.specs.Str.{bytes_eq}
 use Rattle.yaml_scan.specs.declared.yaml_tag_directive_t.{yaml_tag_directive_t}
 use Rattle.yaml_parse_model.specs.Events.{TagDirective, directive_of}
 use Rattle.yaml_parse_grammar.specs.Resolve.{directive_for}
 
 drop_at : (tags : List yaml_tag_directive_t) (i : ℕ) (d : yaml_tag_directive_t) → i < length tags → d ≡ get_or tags i d → drop i tags ≡ d ∷ drop (i + 1) tags
-drop_at tags i d h e = drop-cons tags i d h ∙ ap (λ (x : yaml_tag_directive_t). x ∷ drop (suc i) tags) (sym e) ∙ ap (λ (k : ℕ). d ∷ drop k tags) (omega arith)
+drop_at tags i d h e =
+    let k : suc i ≡ i + 1 = omega arith in
+    drop-cons tags i d h ∙ ap (λ (x : yaml_tag_directive_t). x ∷ drop (suc i) tags) (sym e) ∙ ap (λ (k : ℕ). d ∷ drop k tags) k
 
 pub for_drop : (handle : List ℕ) (tags : List yaml_tag_directive_t) (i : ℕ) (d : yaml_tag_directive_t) → i < length tags → d ≡ get_or tags i d
     → directive_for handle (map directive_of (drop i tags)) ≡ (if bytes_eq d.handle.items handle then Some d.prefix.items else directive_for handle (map directive_of (drop (i + 1) tags)))

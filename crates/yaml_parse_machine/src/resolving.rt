@@ -4,10 +4,10 @@ ghost use Rattle.std.specs.Prelude.{◌≡◌, ◌++◌, codes, map, option_map,
 ghost use Rattle.std.specs.Str.{bytes_eq};
 ghost use Rattle.yaml_parse_model.specs.Events.{directive_of, text_of, body_of, event_of};
 ghost use Rattle.yaml_parse_grammar.specs.Items as item;
-ghost use Rattle.yaml_parse_grammar.specs.Resolve.{directive_for, default_prefix, or_default, resolved, node_event, settle as settle_item, scalar_event, is_known_version};
-ghost use Rattle.yaml_parse_machine.specs.Views.{item_of, shape_of, tag_of};
+ghost use Rattle.yaml_parse_grammar.specs.Resolve.{directive_for, default_prefix, or_default, resolved, node_event, settle as settle_item, settle_body as settle_item_body, scalar_event, is_known_version, with_version, with_tag, behind_event};
+ghost use Rattle.yaml_parse_machine.specs.Views.{item_of, item_body_of, shape_of};
 ghost use Rattle.yaml_parse_machine.specs.declared.resolving.Refusal.TheVariants.{Fault};
-ghost use Rattle.yaml_parse_machine.specs.Settles.{directives_of, Settles, Resolves, Notes, IsMemory};
+ghost use Rattle.yaml_parse_machine.specs.Settles.{directives_of, Settles, SettlesBody, Resolves, Notes, IsMemory};
 
 use crate::item::{Item, ItemBody, Shape, Tag};
 use std::alloc::{AllocError, AllocFailed, Global};
@@ -228,6 +228,13 @@ fn copy_directives(
     Ok(copies)
 }
 
+// Version 1.1 or 1.2.
+fn is_known(major: i32, minor: i32) -> bool
+    ensures { result ≡ is_known_version major minor }
+{
+    major == 1 && (minor == 1 || minor == 2)
+}
+
 // A `%YAML` directive.
 fn note_version(
     directives: &mut Directives,
@@ -235,15 +242,19 @@ fn note_version(
     minor: i32,
     at: yaml_mark_t,
 ) -> Result<(), Refusal>
+    ensures { Notes (with_version (directives_of directives.old).version (directives_of directives.old).tags major minor at) result (directives_of directives.new) }
 {
-    if directives.version.is_some() {
-        return Err(fault_at(ParseProblem::DuplicateVersion, at, at));
+    match directives.version {
+        Some(_) => Err(fault_at(ParseProblem::DuplicateVersion, at, at)),
+        None => {
+            if is_known(major, minor) {
+                directives.version = Some(yaml_version_directive_t { major, minor });
+                Ok(())
+            } else {
+                Err(fault_at(ParseProblem::IncompatibleVersion, at, at))
+            }
+        }
     }
-    if major != 1 || (minor != 1 && minor != 2) {
-        return Err(fault_at(ParseProblem::IncompatibleVersion, at, at));
-    }
-    directives.version = Some(yaml_version_directive_t { major, minor });
-    Ok(())
 }
 
 // A `%TAG` directive.
@@ -253,12 +264,28 @@ fn note_tag(
     prefix: Vec<u8>,
     at: yaml_mark_t,
 ) -> Result<(), Refusal>
+    ensures { Notes (with_tag (directive_for handle.items (directives_of directives.old).tags) (directives_of directives.old) handle.items prefix.items at) result (directives_of directives.new) }
 {
-    if find_prefix(directives.tags.as_slice(), handle.as_slice()).is_some() {
-        return Err(fault_at(ParseProblem::DuplicateHandle, at, at));
+    match find_prefix(directives.tags.as_slice(), handle.as_slice()) {
+        Some(_) => Err(fault_at(ParseProblem::DuplicateHandle, at, at)),
+        None => {
+            directives.tags.push(yaml_tag_directive_t { handle, prefix })?;
+            Ok(())
+        }
     }
-    directives.tags.push(yaml_tag_directive_t { handle, prefix })?;
-    Ok(())
+}
+
+// Nothing carries over to the next document.
+fn end_directives(directives: &mut Directives, event: &yaml_event_body_t)
+    ensures { directives_of directives.new ≡ behind_event (body_of event.now) (directives_of directives.old) }
+{
+    match *event {
+        yaml_event_body_t::DocumentEnd { .. } => {
+            directives.version = None;
+            directives.tags.clear();
+        }
+        _ => {}
+    }
 }
 
 // The event of an item, whose place is told besides.
@@ -268,13 +295,11 @@ fn settle_body(
     body: ItemBody,
     from: yaml_mark_t,
 ) -> Result<Option<yaml_event_body_t>, Refusal>
+    ensures { SettlesBody (settle_item_body (item_body_of body) from (directives_of directives.old)) result (directives_of directives.new) }
 {
     match body {
         ItemBody::Event(event) => {
-            if let yaml_event_body_t::DocumentEnd { .. } = event {
-                directives.version = None;
-                directives.tags.clear();
-            }
+            end_directives(directives, &event);
             Ok(Some(event))
         }
         ItemBody::VersionDirective { major, minor } => {
@@ -306,6 +331,7 @@ pub fn settle(
     directives: &mut Directives,
     item: Item,
 ) -> Result<Option<yaml_event_t>, Refusal>
+    ensures { Settles (settle_item (item_of item) (directives_of directives.old)) (item_of item) result (directives_of directives.new) }
 {
     let start_mark = item.from;
     let end_mark = item.to;

@@ -1,6 +1,6 @@
 //! What taking a token gives, built from the moved token, and what leaving a state gives.
 
-ghost use Rattle.std.specs.Prelude.{◌≡◌, ◌++◌, [], ◌∷◌, OnOk, Some, None};
+ghost use Rattle.std.specs.Prelude.{◌≡◌, ◌++◌, [], ◌∷◌, OnOk, Some, None, false};
 ghost use Rattle.yaml_parse_model.specs.Events as event;
 ghost use Rattle.yaml_parse_grammar.specs.declared.name.Place.TheVariants.{IndentlessEntry};
 ghost use Rattle.yaml_scan.specs.Tokens.{token_of, body_of as token_body_of};
@@ -10,7 +10,7 @@ ghost use Rattle.yaml_parse_grammar.specs.Items as item;
 ghost use Rattle.yaml_scan.specs.declared.yaml_sequence_style_t.TheVariants.{YAML_BLOCK_SEQUENCE_STYLE};
 ghost use Rattle.yaml_parse_grammar.specs.Trees.{mark_at, flow_shape, end_event, event_at};
 ghost use Rattle.yaml_parse_grammar.specs.States as state;
-ghost use Rattle.yaml_parse_grammar.specs.Machine.{taken, taken_at, left_at, documents_taken, content_taken, node_taken, dressed_taken, items_taken, more_taken, stream_taken, entries_taken, pairs_taken, pair_taken, lone_below, opened as opened_at};
+ghost use Rattle.yaml_parse_grammar.specs.Machine.{taken, not_taken, taken_at, left_at, documents_taken, content_taken, node_taken, dressed_taken, items_taken, more_taken, stream_taken, entries_taken, pairs_taken, pair_taken, lone_below, opened as opened_at};
 ghost use Rattle.yaml_parse_machine.specs.Views.{opening_of, properties_of, properties_option_of, shape_of, item_of, item_body_of, item_option_of, state_of, taken_of, pushed_of, stack_of};
 
 use crate::choosing::wants;
@@ -89,6 +89,13 @@ fn took(item: Option<Item>, pushed: Pushed) -> Opening
     Opening { item, pushed }
 }
 
+// For tokens that the state doesn't take.
+fn nothing() -> Opening
+    ensures { opening_of result ≡ not_taken }
+{
+    took(None, Pushed::One(State::Lone))
+}
+
 fn took_event(
     body: yaml_event_body_t,
     start: yaml_mark_t,
@@ -110,7 +117,7 @@ fn at_stream(start: yaml_mark_t, end: yaml_mark_t, body: yaml_token_body_t) -> O
             end,
             Pushed::One(State::First),
         ),
-        _ => took(None, Pushed::Zero),
+        _ => nothing(),
     }
 }
 
@@ -226,9 +233,9 @@ fn at_content(
                     State::Others(side),
                 ),
             ),
-            _ => took(None, Pushed::Zero),
+            _ => nothing(),
         },
-        _ => took(None, Pushed::Zero),
+        _ => nothing(),
     }
 }
 
@@ -490,8 +497,8 @@ pub fn take(state: State, token: yaml_token_t) -> Taken
         }
         State::Items(brackets, opener) => at_items(brackets, opener, start, end, body),
         State::More(brackets, opener) => whole(at_more(brackets, opener, start, end, body)),
-        State::PairEnd => whole(took(None, Pushed::Zero)),
-        State::Lone => whole(took(None, Pushed::Zero)),
+        State::PairEnd => whole(nothing()),
+        State::Lone => whole(nothing()),
     }
 }
 

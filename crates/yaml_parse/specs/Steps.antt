@@ -1,0 +1,117 @@
+-- What the private steps of a parser owe.
+use Rattle.std.specs.Prelude.{◌≡◌, ◌⊎◌, ◌+◌, ◌<◌, ◌++◌, ℕ, List, [], ◌∷◌, length, Option, Some, None, true}
+use Rattle.yaml_scan.specs.declared.yaml_error_type_t.TheVariants.{YAML_MEMORY_ERROR}
+use Rattle.yaml_scan.specs.declared.yaml_mark_t.{yaml_mark_t}
+use Rattle.yaml_scan.specs.declared.yaml_token_t.{yaml_token_t}
+use Rattle.yaml_scan.specs.Tokens.{Token, no_token, token_of, type_of}
+use Rattle.yaml_scan.specs.Faults.{Fault, fault_of}
+use Rattle.yaml_parse_model.specs.Events.{event_of, no_event}
+use Rattle.yaml_parse_grammar.specs.declared.name.Choice.TheVariants.{Take}
+use Rattle.yaml_parse_grammar.specs.States.{State}
+use Rattle.yaml_parse_grammar.specs.Items.{item_at}
+use Rattle.yaml_parse_grammar.specs.Items as item
+use Rattle.yaml_parse_grammar.specs.Machine.{Outcome, run, ending_at, choice_at, opened}
+use Rattle.yaml_parse_grammar.specs.Coming.{Coming, waiting, held_of, IsFinished, EventOf}
+use Rattle.yaml_parse_machine.specs.Views.{item_of}
+use Rattle.yaml_parse.specs.declared.step.Step.{Step}
+use Rattle.yaml_parse.specs.declared.step.Step.TheVariants as step
+use Rattle.yaml_parse.specs.declared.step.Turn.{Turn}
+use Rattle.yaml_parse.specs.declared.step.Turn.TheVariants as turn
+
+abbrev pub peeked_of : Option yaml_token_t → Option Token
+peeked_of None = None
+peeked_of (Some t) = Some (token_of t)
+
+-- The token stands at the front: every stack goes on as before, and if it isn't the empty one it was asked for.
+pub record IsFront (peeked : Option Token) (ts : List Token) (fault : Option Fault) (t : Token) (rest : List Token) (after : Option Fault) : Type 0 where
+  pub runs : (s : List State) → run (t ∷ rest) s after ≡ run (waiting peeked ts) s fault
+  pub asked : (length rest + 1 ≡ length ts + held_of peeked) ⊎ (t ≡ no_token)
+
+-- No token stands there: memory ran out, or the fault ends the list.
+pub record HasNoFront (peeked : Option Token) (ts : List Token) (fault : Option Fault) (f : Fault) : Type 0 where
+  pub reason : (f.kind ≡ YAML_MEMORY_ERROR) ⊎ ((s : List State) → run (waiting peeked ts) s fault ≡ ending_at s f)
+
+-- what stands between the source and resolving
+pub record Raw : Type 0 where
+  pub peeked : Option Token
+  pub tokens : List Token
+  pub fault : Option Fault
+  pub stack : List State
+
+abbrev pub raw : Option Token → List Token → Option Fault → List State → Raw
+raw peeked tokens fault stack = record { peeked = peeked; tokens = tokens; fault = fault; stack = stack }
+
+abbrev pub outcome : Raw → Outcome
+outcome r = run (waiting r.peeked r.tokens) r.stack r.fault
+
+abbrev pub budget : Raw → ℕ
+budget r = length r.tokens + held_of r.peeked
+
+abbrev pub Stands : List State → Type 0
+Stands [] = ⊥
+Stands (x ∷ s) = Unit {0}
+
+abbrev pub IsDirective : item.ItemBody → Type 0
+IsDirective (item.version_directive major minor) = Unit {0}
+IsDirective (item.tag_directive handle prefix) = Unit {0}
+IsDirective _ = ⊥
+
+-- the item comes first, and the rest follows; a directive takes its token and leaves something open
+pub record GivesItem (i : item.Item) (old new : Raw) : Type 0 where
+  pub same : outcome old ≡ record { items = (i, length new.tokens) ∷ (outcome new).items; ending = (outcome new).ending }
+  pub less : IsDirective i.body → budget new < budget old
+  pub stands : IsDirective i.body → Stands new.stack
+
+-- a token is taken, and something is open
+pub record GivesNoItem (old new : Raw) : Type 0 where
+  pub same : outcome old ≡ outcome new
+  pub less : budget new < budget old
+  pub stands : Stands new.stack
+
+pub record IsRefused (f : Fault) (old : Raw) : Type 0 where
+  pub reason : (f.kind ≡ YAML_MEMORY_ERROR) ⊎ (outcome old ≡ record { items = []; ending = Some f })
+
+pub record IsDone (old new : Raw) : Type 0 where
+  pub empty : old.stack ≡ []
+  pub same : new ≡ old
+
+abbrev pub Steps : Raw → Step → Raw → Type 0
+Steps old (step.Item i) new = GivesItem (item_of i) old new
+Steps old step.Silent new = GivesNoItem old new
+Steps old (step.Refused f) new = IsRefused (fault_of f) old
+Steps old step.Done new = IsDone old new
+
+-- an implicit document begins there
+abbrev pub OpensAt : yaml_mark_t → List State → Step → List State → Type 0
+OpensAt start old (step.Item i) new = (item_of i ≡ item_at (item.document true) start start) × (new ≡ opened start ++ old)
+OpensAt start old (step.Refused f) new = (fault_of f).kind ≡ YAML_MEMORY_ERROR
+OpensAt start old step.Silent new = ⊥
+OpensAt start old step.Done new = ⊥
+
+-- what takes no item, or a directive, takes a token
+abbrev pub IsReal : State → Token → Step → Type 0
+IsReal x t (step.Item i) = IsDirective (item_of i).body → choice_at x (type_of t.body) ≡ Take
+IsReal x t step.Silent = choice_at x (type_of t.body) ≡ Take
+IsReal x t (step.Refused f) = Unit {0}
+IsReal x t step.Done = ⊥
+
+-- nothing is given, a token is taken, and something is to come
+pub record IsSilent (old new : Coming) : Type 0 where
+  pub events : new.events ≡ old.events
+  pub ending : new.ending ≡ old.ending
+  pub less : new.unasked + new.held < old.unasked + old.held
+  pub speaks : old.events ≡ [] → old.ending ≡ None → ⊥
+
+pub record IsTurnRefused (f : Fault) (old new : Coming) : Type 0 where
+  pub finished : IsFinished new
+  pub reason : (f.kind ≡ YAML_MEMORY_ERROR) ⊎ ((old.events ≡ []) × (old.ending ≡ Some f))
+
+pub record IsOver (old new : Coming) : Type 0 where
+  pub finished : IsFinished old
+  pub same : new ≡ old
+
+abbrev pub Turns : Coming → Turn → Coming → Type 0
+Turns old (turn.Event e) new = EventOf old (event_of e) new
+Turns old turn.Silent new = IsSilent old new
+Turns old (turn.Refused f) new = IsTurnRefused (fault_of f) old new
+Turns old turn.Done new = IsOver old new

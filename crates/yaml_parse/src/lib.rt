@@ -1,0 +1,10 @@
+//! Parsing: the events of a list of tokens, over any source.
+#![tactic(auto)]
+
+mod parser;
+mod step;
+
+pub use parser::{
+    yaml_parser_between, yaml_parser_delete, yaml_parser_initialize, yaml_parser_parse,
+    yaml_parser_prefix, yaml_parser_t,
+};

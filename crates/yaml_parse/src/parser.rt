@@ -1,0 +1,140 @@
+//! The parser and its calls.
+
+ghost use Rattle.std.specs.Prelude.{◌≡◌, List, Option, None, true, length, IfOk, IfErr};
+ghost use Rattle.yaml_scan.specs.Tokens.{Token};
+ghost use Rattle.yaml_scan.specs.Faults.{Fault, fault_of, memory_fault};
+ghost use Rattle.yaml_scan.specs.declared.yaml_origin_t.TheVariants.{Parser};
+ghost use Rattle.yaml_parse_model.specs.Events.{event_of};
+ghost use Rattle.yaml_parse_model.specs.Prefix.{prefix_of, no_fault};
+ghost use Rattle.yaml_parse_grammar.specs.Trees.{Stream, spell, items};
+ghost use Rattle.yaml_parse_grammar.specs.Resolve.{reading, no_directives};
+ghost use Rattle.yaml_parse_grammar.specs.Coming.{EventOf, FaultOf};
+ghost use Rattle.yaml_parse.specs.Steps.{Turns};
+
+use crate::step::{Turn, take_turn};
+use std::alloc::Global;
+use std::marker::Model;
+use yaml_parse_machine::{Directives, State};
+use yaml_parse_model::{
+    yaml_event_body_t, yaml_event_t, yaml_parser_t_prefix, yaml_token_source_t,
+};
+use yaml_scan::{yaml_fault_t, yaml_memory_fault, yaml_origin_t, yaml_token_t};
+
+/// A parser of the tokens of a source.
+#[derive(Drop)]
+pub struct yaml_parser_t<S: yaml_token_source_t> {
+    alloc: Global,
+    source: S,
+    // A token that was asked for and is not consumed.
+    peeked: Option<yaml_token_t>,
+    // What may come, the nearest last.
+    stack: Vec<State>,
+    // Of the document that is open or begins.
+    directives: Directives,
+    // The fault that was answered.
+    prefix: yaml_parser_t_prefix,
+}
+
+impl<S: yaml_token_source_t> Model for yaml_parser_t<S> {
+    ghost use Rattle.yaml_parse_model.specs.Prefix.{prefix_of};
+    ghost use Rattle.yaml_parse_grammar.specs.Coming.{Coming, coming};
+    ghost use Rattle.yaml_parse_machine.specs.Views.{stack_of};
+    ghost use Rattle.yaml_parse_machine.specs.Settles.{directives_of};
+    ghost use Rattle.yaml_parse.specs.Steps.{peeked_of};
+
+    ghost Value = { Coming };
+
+    ghost view = { λ p. coming (peeked_of p.peeked) (S.to_come p.source) (S.fault_to_come p.source) (stack_of p.stack.items) (directives_of p.directives) (prefix_of p.prefix) };
+}
+
+impl<S: yaml_token_source_t> yaml_parser_t<S> {
+    fn turn(&mut self) -> Turn
+        ensures { Turns self.old result self.new }
+    {
+        take_turn(
+            self.alloc,
+            &mut self.source,
+            &mut self.peeked,
+            &mut self.stack,
+            &mut self.directives,
+        )
+    }
+}
+
+/// A parser of the source's tokens. Refused only where memory ran out.
+pub fn yaml_parser_initialize<S: yaml_token_source_t>(
+    alloc: Global,
+    source: S,
+) -> Result<yaml_parser_t<S>, yaml_fault_t>
+    // Where the source's tokens begin with those of a tree, the tree's events are to come, resolved by each
+    // document's directives, or those before the first fault of a directive or a tag handle, and that fault.
+    ensures tree { (t : Stream) (rest : List Token) → S.to_come source ≡ spell t rest
+        → IfOk result (λ p. (p.events ≡ (reading (items t rest) None no_directives).events) × (p.ending ≡ (reading (items t rest) None no_directives).ending)) }
+    // No token was asked for yet.
+    ensures unasked { IfOk result (λ p. (p.unasked ≡ length (S.to_come source)) × (p.held ≡ 0)) }
+    ensures quiet { IfOk result (λ p. (p.answered ≡ no_fault) × (p.between ≡ true)) }
+    ensures memory { IfErr result (λ f. fault_of f ≡ memory_fault Parser) }
+{
+    let mut stack = Vec::new(alloc);
+    match stack.push(State::Stream) {
+        Ok(()) => Ok(yaml_parser_t {
+            alloc,
+            source,
+            peeked: None,
+            stack,
+            directives: Directives {
+                version: None,
+                tags: Vec::new(alloc),
+            },
+            prefix: yaml_parser_t_prefix::quiet(),
+        }),
+        Err(_) => Err(yaml_memory_fault(yaml_origin_t::Parser)),
+    }
+}
+
+/// The next event; behind the last one and after a fault the empty event.
+pub fn yaml_parser_parse<S: yaml_token_source_t>(
+    parser: &mut yaml_parser_t<S>,
+) -> Result<yaml_event_t, yaml_fault_t>
+    ensures ok { IfOk result (λ e. EventOf parser.old (event_of e) parser.new) }
+    ensures err { IfErr result (λ f. FaultOf parser.old (fault_of f) parser.new) }
+{
+    'turns: loop {
+        match parser.turn() {
+            Turn::Event(event) => return Ok(event),
+            Turn::Silent => {}
+            Turn::Refused(fault) => {
+                parser.prefix = yaml_parser_t_prefix::of(&fault);
+                return Err(fault);
+            }
+            Turn::Done => return Ok(yaml_event_t::unplaced(yaml_event_body_t::No)),
+        }
+    }
+}
+
+/// No document is half taken: true at first, behind the stream's start, behind a document, at the end and after a fault.
+pub fn yaml_parser_between<S: yaml_token_source_t>(parser: &yaml_parser_t<S>) -> bool
+    ensures { result ≡ parser.now.between }
+{
+    match parser.stack.as_slice() {
+        [] => true,
+        [.., State::Stream] => true,
+        [.., State::First] => true,
+        [.., State::Documents] => true,
+        _ => false,
+    }
+}
+
+/// The fault that was answered; before one its kind is `YAML_NO_ERROR`.
+pub fn yaml_parser_prefix<S: yaml_token_source_t>(
+    parser: &yaml_parser_t<S>,
+) -> &yaml_parser_t_prefix
+    ensures { prefix_of result.now ≡ parser.now.answered }
+{
+    &parser.prefix
+}
+
+/// Lets the parser and its source go.
+pub fn yaml_parser_delete<S: yaml_token_source_t>(parser: yaml_parser_t<S>) {
+    let _ = parser;
+}

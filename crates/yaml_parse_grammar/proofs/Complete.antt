@@ -1,0 +1,642 @@
+-- The machine gives the items of a tree, and goes on behind it.
+use Rattle.std.proofs.Common.{◌≡◌, ℕ, Bool, true, false, if◌then◌else◌, ◌||◌, List, [], ◌∷◌, ◌++◌, length, Option, Some, None, refl, ap, sym, subst, ◌∙◌}
+use Rattle.std.proofs.lemmas.List.{append_assoc}
+use Rattle.yaml_scan.specs.declared.yaml_mark_t.{yaml_mark_t}
+use Rattle.yaml_scan.specs.declared.yaml_token_type_t.{yaml_token_type_t}
+use Rattle.yaml_scan.specs.declared.yaml_token_type_t.TheVariants as kind
+use Rattle.yaml_scan.specs.Tokens.{Token, TokenBody, type_of, token_of}
+use Rattle.yaml_scan.specs.Tokens as token
+use Rattle.yaml_scan.specs.Faults.{Fault}
+use Rattle.yaml_parse_model.specs.Events as event
+use Rattle.yaml_scan.specs.declared.yaml_sequence_style_t.TheVariants.{YAML_BLOCK_SEQUENCE_STYLE}
+use Rattle.yaml_scan.specs.declared.yaml_mapping_style_t.TheVariants.{YAML_BLOCK_MAPPING_STYLE}
+use Rattle.yaml_parse_grammar.specs.declared.name.Wants.{Wants}
+use Rattle.yaml_parse_grammar.specs.declared.name.Wants.TheVariants.{Flow, Block}
+use Rattle.yaml_parse_grammar.specs.declared.name.Side.{Side}
+use Rattle.yaml_parse_grammar.specs.declared.name.Side.TheVariants.{Key, Value}
+use Rattle.yaml_parse_grammar.specs.declared.name.Brackets.{Brackets}
+use Rattle.yaml_parse_grammar.specs.declared.name.Brackets.TheVariants as brackets
+use Rattle.yaml_parse_grammar.specs.declared.name.Place.{Place}
+use Rattle.yaml_parse_grammar.specs.declared.name.Place.TheVariants.{Root, Entry, IndentlessEntry, BlockPair, FlowPair}
+use Rattle.yaml_parse_grammar.specs.declared.name.Choice.{Choice}
+use Rattle.yaml_parse_grammar.specs.declared.name.Choice.TheVariants.{Refuse, Take, Leave, Open}
+use Rattle.yaml_parse_grammar.specs.declared.problem.ParseProblem.TheVariants as problem
+use Rattle.yaml_parse_grammar.specs.Items.{Item, Properties, item_at, node_at}
+use Rattle.yaml_parse_grammar.specs.Items as item
+use Rattle.yaml_parse_grammar.specs.States.{State, Taken}
+use Rattle.yaml_parse_grammar.specs.States as state
+use Rattle.yaml_parse_grammar.specs.Trees.{Span, Node, Content, Maybe, Colon, Items, More, Entries, Others, Pairs, Documents, First, Stream, Dress, Directive, Given, token_at, spell_dress, properties_of, opening, closing, spell_node, spell_content, spell_maybe, spell_colon, spell_items, spell_more, spell_entries, spell_others, spell_pairs, spell_directives, spell_ends, spell_documents, spell_first, spell, items_node, items_content, items_maybe, items_colon, items_items, items_more, items_entries, items_others, items_pairs, items_directives, items_ends, items_documents, items_first, items, next, behind, start_of, event_at, end_event, lone, pair_start, pair_end, mark_at, flow_shape}
+use Rattle.yaml_parse_grammar.specs.Trees as tree
+use Rattle.yaml_parse_grammar.specs.Machine.{starts_content, starts_node, wants_of, closes, parts_documents, follows, joins, no_node, choice_at, node_taken, content_taken, items_taken, above, lone_below, taken_at, left_at, Fed, stop, go, with_item, given_by, turn, feed, Outcome, finished, carry, run, initial, opened}
+
+-- what a list of items does in front of an outcome
+abbrev pub giving : (List Given → List Given) → Outcome → Outcome
+giving g o = record { items = g o.items; ending = o.ending }
+
+carry_with_item : (left : ℕ) (i : Item) (below : Fed) (k : List State → Outcome)
+    → carry left (with_item i below) k ≡ giving (λ (more : List Given). (i, left) ∷ more) (carry left below k)
+carry_with_item left i (stop is f) k = refl
+carry_with_item left i (go is s) k = refl
+
+-- ---- leaving a state
+
+-- the state is left before the first token
+abbrev pub Leaves : State → List Token → Type 0
+Leaves x [] = ⊥
+Leaves x (t ∷ ts) = choice_at x (type_of t.body) ≡ Leave
+
+leaves_at : (x : State) (t : Token) (ts : List Token) (s : List State) (f : Option Fault) → choice_at x (type_of t.body) ≡ Leave
+    → run (t ∷ ts) (x ∷ s) f ≡ giving (λ (more : List Given). (left_at x t.start_mark, length ts) ∷ more) (run (t ∷ ts) s f)
+unfolding run feed
+leaves_at x t ts s f h =
+    ap (λ (c : Choice). carry (length ts) (turn c x t s (feed s t)) (λ s'. run ts s' f)) h
+        ∙ carry_with_item (length ts) (left_at x t.start_mark) (feed s t) (λ s'. run ts s' f)
+
+pub leaves : (x : State) (ts : List Token) (s : List State) (f : Option Fault) → Leaves x ts
+    → run ts (x ∷ s) f ≡ giving (λ (more : List Given). (left_at x (next ts), behind ts) ∷ more) (run ts s f)
+leaves x [] s f h = absurd h
+leaves x (t ∷ ts) s f h = leaves_at x t ts s f h
+
+-- ---- what may follow a node
+
+abbrev pub ends : Wants → yaml_token_type_t → Bool
+ends Flow kind.YAML_FLOW_ENTRY_TOKEN = true
+ends Flow kind.YAML_VALUE_TOKEN = true
+ends Flow kind.YAML_FLOW_SEQUENCE_END_TOKEN = true
+ends Flow kind.YAML_FLOW_MAPPING_END_TOKEN = true
+ends Flow _ = false
+ends (Block (Some side)) k = follows (BlockPair side) k
+ends (Block None) kind.YAML_BLOCK_ENTRY_TOKEN = true
+ends (Block None) kind.YAML_BLOCK_END_TOKEN = true
+ends (Block None) kind.YAML_KEY_TOKEN = true
+ends (Block None) kind.YAML_VALUE_TOKEN = true
+ends (Block None) kind.YAML_DOCUMENT_END_TOKEN = true
+ends (Block None) k = parts_documents k
+
+abbrev pub Ends : Wants → List Token → Type 0
+Ends w [] = ⊥
+Ends w (t ∷ ts) = ends w (type_of t.body) ≡ true
+
+-- the first token may follow a node that is left out there
+abbrev pub Follows : Place → List Token → Type 0
+Follows place [] = ⊥
+Follows place (t ∷ ts) = follows place (type_of t.body) ≡ true
+
+follows_ends_at : (place : Place) (k : yaml_token_type_t) → follows place k ≡ true → ends (wants_of place) k ≡ true
+follows_ends_at Root kind.YAML_DOCUMENT_END_TOKEN h = refl
+follows_ends_at Root kind.YAML_STREAM_END_TOKEN h = refl
+follows_ends_at Root kind.YAML_VERSION_DIRECTIVE_TOKEN h = refl
+follows_ends_at Root kind.YAML_TAG_DIRECTIVE_TOKEN h = refl
+follows_ends_at Root kind.YAML_DOCUMENT_START_TOKEN h = refl
+follows_ends_at Root _ h = cc
+follows_ends_at Entry kind.YAML_BLOCK_ENTRY_TOKEN h = refl
+follows_ends_at Entry kind.YAML_BLOCK_END_TOKEN h = refl
+follows_ends_at Entry _ h = cc
+follows_ends_at (IndentlessEntry side) kind.YAML_BLOCK_ENTRY_TOKEN h = refl
+follows_ends_at (IndentlessEntry side) kind.YAML_KEY_TOKEN h = refl
+follows_ends_at (IndentlessEntry side) kind.YAML_BLOCK_END_TOKEN h = refl
+follows_ends_at (IndentlessEntry side) kind.YAML_VALUE_TOKEN h = refl
+follows_ends_at (IndentlessEntry side) _ h = cc
+follows_ends_at (BlockPair side) k h = h
+follows_ends_at (FlowPair b side) kind.YAML_FLOW_ENTRY_TOKEN h = refl
+follows_ends_at (FlowPair b side) kind.YAML_VALUE_TOKEN h = refl
+follows_ends_at (FlowPair b side) kind.YAML_FLOW_SEQUENCE_END_TOKEN h = refl
+follows_ends_at (FlowPair b side) kind.YAML_FLOW_MAPPING_END_TOKEN h = refl
+follows_ends_at (FlowPair brackets.Sequence side) _ h = cc
+follows_ends_at (FlowPair brackets.Mapping side) _ h = cc
+
+follows_ends : (place : Place) (ts : List Token) → Follows place ts → Ends (wants_of place) ts
+follows_ends place [] h = h
+follows_ends place (t ∷ ts) h = follows_ends_at place (type_of t.body) h
+
+follows_leaves : (place : Place) (before : yaml_mark_t) (ts : List Token) → Follows place ts → Leaves (state.optional place before) ts
+follows_leaves place before [] h = h
+follows_leaves place before (t ∷ ts) h =
+    ap (λ (b : Bool). if b then Leave else if starts_node (wants_of place) (type_of t.body) then Take else Refuse (no_node (wants_of place)) None) h
+
+-- ---- properties
+
+dressed_leaves_at : (w : Wants) (p : Properties) (k : yaml_token_type_t) → ends w k ≡ true → choice_at (state.dressed w p) k ≡ Leave
+dressed_leaves_at Flow p kind.YAML_FLOW_ENTRY_TOKEN h = refl
+dressed_leaves_at Flow p kind.YAML_VALUE_TOKEN h = refl
+dressed_leaves_at Flow p kind.YAML_FLOW_SEQUENCE_END_TOKEN h = refl
+dressed_leaves_at Flow p kind.YAML_FLOW_MAPPING_END_TOKEN h = refl
+dressed_leaves_at Flow p _ h = cc
+dressed_leaves_at (Block (Some side)) p kind.YAML_KEY_TOKEN h = refl
+dressed_leaves_at (Block (Some side)) p kind.YAML_BLOCK_END_TOKEN h = refl
+dressed_leaves_at (Block (Some side)) p kind.YAML_VALUE_TOKEN h = refl
+dressed_leaves_at (Block (Some side)) p _ h = cc
+dressed_leaves_at (Block None) p kind.YAML_BLOCK_ENTRY_TOKEN h = refl
+dressed_leaves_at (Block None) p kind.YAML_BLOCK_END_TOKEN h = refl
+dressed_leaves_at (Block None) p kind.YAML_KEY_TOKEN h = refl
+dressed_leaves_at (Block None) p kind.YAML_VALUE_TOKEN h = refl
+dressed_leaves_at (Block None) p kind.YAML_DOCUMENT_END_TOKEN h = refl
+dressed_leaves_at (Block None) p kind.YAML_STREAM_END_TOKEN h = refl
+dressed_leaves_at (Block None) p kind.YAML_VERSION_DIRECTIVE_TOKEN h = refl
+dressed_leaves_at (Block None) p kind.YAML_TAG_DIRECTIVE_TOKEN h = refl
+dressed_leaves_at (Block None) p kind.YAML_DOCUMENT_START_TOKEN h = refl
+dressed_leaves_at (Block None) p _ h = cc
+
+dressed_leaves : (w : Wants) (p : Properties) (ts : List Token) → Ends w ts → Leaves (state.dressed w p) ts
+dressed_leaves w p [] h = h
+dressed_leaves w p (t ∷ ts) h = dressed_leaves_at w p (type_of t.body) h
+
+-- what a node's first token does above a stack
+abbrev run_node : Wants → List Token → List State → Option Fault → Outcome
+run_node w [] s f = finished
+run_node w (t ∷ ts) s f = carry (length ts) (given_by (node_taken w t.start_mark t.end_mark t.body) s) (λ s'. run ts s' f)
+
+-- what a content's first token does above a stack, behind properties or without
+abbrev run_content : Wants → Option Properties → List Token → List State → Option Fault → Outcome
+run_content w p [] s f = finished
+run_content w p (t ∷ ts) s f = carry (length ts) (given_by (content_taken w p t.start_mark t.end_mark t.body) s) (λ s'. run ts s' f)
+
+dress_runs : (d : Dress) (w : Wants) (ts : List Token) (s : List State) (f : Option Fault)
+    → run_node w (spell_dress d ts) s f ≡ run ts (state.dressed w (properties_of d) ∷ s) f
+unfolding run feed
+dress_runs (tree.anchor a) w ts s f = refl
+dress_runs (tree.anchor_tag a t) w ts s f = refl
+dress_runs (tree.tag t) w ts s f = refl
+dress_runs (tree.tag_anchor t a) w ts s f = refl
+
+dressed_content : {w : Wants} (c : Content w) (p : Properties) (rest : List Token) (s : List State) (f : Option Fault)
+    → run (spell_content c rest) (state.dressed w p ∷ s) f ≡ run_content w (Some p) (spell_content c rest) s f
+unfolding run feed
+dressed_content (tree.scalar n v style) p rest s f = refl
+dressed_content (tree.flow brackets.Sequence n items) p rest s f = refl
+dressed_content (tree.flow brackets.Mapping n items) p rest s f = refl
+dressed_content (tree.block_sequence n entries) p rest s f = refl
+dressed_content (tree.block_mapping n pairs) p rest s f = refl
+dressed_content (tree.indentless n m o) p rest s f = refl
+
+bare_content : {w : Wants} (c : Content w) (rest : List Token) (s : List State) (f : Option Fault)
+    → run_node w (spell_content c rest) s f ≡ run_content w None (spell_content c rest) s f
+bare_content (tree.scalar n v style) rest s f = refl
+bare_content (tree.flow brackets.Sequence n items) rest s f = refl
+bare_content (tree.flow brackets.Mapping n items) rest s f = refl
+bare_content (tree.block_sequence n entries) rest s f = refl
+bare_content (tree.block_mapping n pairs) rest s f = refl
+bare_content (tree.indentless n m o) rest s f = refl
+
+-- ---- a node's first token
+
+abbrev pub Starts : Wants → List Token → Type 0
+Starts w [] = ⊥
+Starts w (t ∷ ts) = starts_node w (type_of t.body) ≡ true
+
+content_starts : {w : Wants} (c : Content w) (rest : List Token) → Starts w (spell_content c rest)
+content_starts (tree.scalar n v style) rest = refl
+content_starts (tree.flow brackets.Sequence n items) rest = refl
+content_starts (tree.flow brackets.Mapping n items) rest = refl
+content_starts (tree.block_sequence n entries) rest = refl
+content_starts (tree.block_mapping n pairs) rest = refl
+content_starts (tree.indentless n m o) rest = refl
+
+dress_starts : (w : Wants) (d : Dress) (ts : List Token) → Starts w (spell_dress d ts)
+dress_starts w (tree.anchor a) ts = refl
+dress_starts w (tree.anchor_tag a t) ts = refl
+dress_starts w (tree.tag t) ts = refl
+dress_starts w (tree.tag_anchor t a) ts = refl
+
+pub node_starts : {w : Wants} (n : Node w) (rest : List Token) → Starts w (spell_node n rest)
+node_starts (tree.alias s name) rest = refl
+node_starts {w = w} (tree.dress d) rest = dress_starts w d rest
+node_starts {w = w} (tree.dressed d c) rest = dress_starts w d (spell_content c rest)
+node_starts (tree.bare c) rest = content_starts c rest
+
+-- no token that begins a node follows one that is left out
+not_following : (place : Place) (k : yaml_token_type_t) → starts_node (wants_of place) k ≡ true → follows place k ≡ false
+not_following Root kind.YAML_DOCUMENT_END_TOKEN h = cc
+not_following Root kind.YAML_STREAM_END_TOKEN h = cc
+not_following Root kind.YAML_VERSION_DIRECTIVE_TOKEN h = cc
+not_following Root kind.YAML_TAG_DIRECTIVE_TOKEN h = cc
+not_following Root kind.YAML_DOCUMENT_START_TOKEN h = cc
+not_following Root _ h = refl
+not_following Entry kind.YAML_BLOCK_ENTRY_TOKEN h = cc
+not_following Entry kind.YAML_BLOCK_END_TOKEN h = cc
+not_following Entry _ h = refl
+not_following (IndentlessEntry side) kind.YAML_BLOCK_ENTRY_TOKEN h = cc
+not_following (IndentlessEntry side) kind.YAML_KEY_TOKEN h = cc
+not_following (IndentlessEntry side) kind.YAML_BLOCK_END_TOKEN h = cc
+not_following (IndentlessEntry side) kind.YAML_VALUE_TOKEN h = cc
+not_following (IndentlessEntry side) _ h = refl
+not_following (BlockPair side) kind.YAML_KEY_TOKEN h = cc
+not_following (BlockPair side) kind.YAML_BLOCK_END_TOKEN h = cc
+not_following (BlockPair side) kind.YAML_VALUE_TOKEN h = cc
+not_following (BlockPair side) _ h = refl
+not_following (FlowPair b side) kind.YAML_FLOW_ENTRY_TOKEN h = cc
+not_following (FlowPair b side) kind.YAML_VALUE_TOKEN h = cc
+not_following (FlowPair b side) kind.YAML_FLOW_SEQUENCE_END_TOKEN h = cc
+not_following (FlowPair b side) kind.YAML_FLOW_MAPPING_END_TOKEN h = cc
+not_following (FlowPair brackets.Sequence side) _ h = refl
+not_following (FlowPair brackets.Mapping side) _ h = refl
+
+pub optional_takes : (place : Place) (before : yaml_mark_t) (k : yaml_token_type_t) → starts_node (wants_of place) k ≡ true → choice_at (state.optional place before) k ≡ Take
+optional_takes place before k h =
+    ap (λ (b : Bool). if b then Leave else if starts_node (wants_of place) k then Take else Refuse (no_node (wants_of place)) None) (not_following place k h)
+        ∙ ap (λ (b : Bool). if b then Take else Refuse (no_node (wants_of place)) None) h
+
+optional_node : (place : Place) (before : yaml_mark_t) (ts : List Token) (s : List State) (f : Option Fault) → Starts (wants_of place) ts
+    → run ts (state.optional place before ∷ s) f ≡ run_node (wants_of place) ts s f
+unfolding run feed
+optional_node place before [] s f h = absurd h
+optional_node place before (t ∷ ts) s f h =
+    ap (λ (c : Choice). carry (length ts) (turn c (state.optional place before) t s (feed s t)) (λ s'. run ts s' f)) (optional_takes place before (type_of t.body) h)
+
+optional_wanted : (place : Place) (w : Wants) → wants_of place ≡ w → (before : yaml_mark_t) (ts : List Token) (s : List State) (f : Option Fault) → Starts w ts
+    → run ts (state.optional place before ∷ s) f ≡ run_node w ts s f
+optional_wanted place w e before ts s f =
+    subst (λ (v : Wants). Starts v ts → run ts (state.optional place before ∷ s) f ≡ run_node v ts s f) e (optional_node place before ts s f)
+
+or_true : (x : Bool) → (x || true) ≡ true
+or_true true = refl
+or_true false = refl
+
+items_takes : (b : Brackets) (opener : yaml_mark_t) (k : yaml_token_type_t) → starts_node Flow k ≡ true → choice_at (state.items b opener) k ≡ Take
+items_takes b opener kind.YAML_KEY_TOKEN h = refl
+items_takes b opener kind.YAML_ALIAS_TOKEN h = ap (λ (x : Bool). if x then Take else Refuse problem.NoFlowNode None) (or_true (closes b kind.YAML_ALIAS_TOKEN))
+items_takes b opener kind.YAML_ANCHOR_TOKEN h = ap (λ (x : Bool). if x then Take else Refuse problem.NoFlowNode None) (or_true (closes b kind.YAML_ANCHOR_TOKEN))
+items_takes b opener kind.YAML_TAG_TOKEN h = ap (λ (x : Bool). if x then Take else Refuse problem.NoFlowNode None) (or_true (closes b kind.YAML_TAG_TOKEN))
+items_takes b opener kind.YAML_SCALAR_TOKEN h = ap (λ (x : Bool). if x then Take else Refuse problem.NoFlowNode None) (or_true (closes b kind.YAML_SCALAR_TOKEN))
+items_takes b opener kind.YAML_FLOW_SEQUENCE_START_TOKEN h = ap (λ (x : Bool). if x then Take else Refuse problem.NoFlowNode None) (or_true (closes b kind.YAML_FLOW_SEQUENCE_START_TOKEN))
+items_takes b opener kind.YAML_FLOW_MAPPING_START_TOKEN h = ap (λ (x : Bool). if x then Take else Refuse problem.NoFlowNode None) (or_true (closes b kind.YAML_FLOW_MAPPING_START_TOKEN))
+items_takes b opener _ h = cc
+
+items_node_taken : (b : Brackets) (opener start end : yaml_mark_t) (body : TokenBody) → starts_node Flow (type_of body) ≡ true
+    → items_taken b opener start end body ≡ above (lone_below b (state.more b opener ∷ [])) (node_taken Flow start end body)
+items_node_taken b opener start end token.key h = cc
+items_node_taken b opener start end token.flow_sequence_end h = cc
+items_node_taken b opener start end token.flow_mapping_end h = cc
+items_node_taken b opener start end _ h = refl
+
+given_above_at : (below : List State) (i : Option Item) (xs s : List State) → given_by (record { item = i; above = xs ++ below }) s ≡ given_by (record { item = i; above = xs }) (below ++ s)
+given_above_at below None xs s = ap (λ (s' : List State). go [] s') (append_assoc xs below s)
+given_above_at below (Some i) xs s = ap (λ (s' : List State). go (i ∷ []) s') (append_assoc xs below s)
+
+given_above : (below : List State) (x : Taken) (s : List State) → given_by (above below x) s ≡ given_by x (below ++ s)
+given_above below x s = given_above_at below x.item x.above s
+
+lone_runs : (b : Brackets) (opener : yaml_mark_t) (ts : List Token) (s : List State) (f : Option Fault) → Starts Flow ts
+    → run ts (state.items b opener ∷ s) f ≡ run_node Flow ts (lone_below b (state.more b opener ∷ []) ++ s) f
+unfolding run feed
+lone_runs b opener [] s f h = absurd h
+lone_runs b opener (t ∷ ts) s f h =
+    ap (λ (c : Choice). carry (length ts) (turn c (state.items b opener) t s (feed s t)) (λ s'. run ts s' f)) (items_takes b opener (type_of t.body) h)
+        ∙ ap (λ (x : Taken). carry (length ts) (given_by x s) (λ s'. run ts s' f)) (items_node_taken b opener t.start_mark t.end_mark t.body h)
+        ∙ ap (λ (fed : Fed). carry (length ts) fed (λ s'. run ts s' f)) (given_above (lone_below b (state.more b opener ∷ [])) (node_taken Flow t.start_mark t.end_mark t.body) s)
+
+-- ---- steps of states that hold collections
+
+step_take : (x : State) (t : Token) (ts : List Token) (s : List State) (f : Option Fault) → choice_at x (type_of t.body) ≡ Take
+    → run (t ∷ ts) (x ∷ s) f ≡ carry (length ts) (given_by (taken_at x t) s) (λ s'. run ts s' f)
+unfolding run feed
+step_take x t ts s f h = ap (λ (c : Choice). carry (length ts) (turn c x t s (feed s t)) (λ s'. run ts s' f)) h
+
+entries_close : (p : Span) (o : yaml_mark_t) (rest : List Token) (s : List State) (f : Option Fault)
+    → run (token_at token.block_end p ∷ rest) (state.entries o ∷ s) f ≡ giving (items_entries (tree.end_entries p) rest) (run rest s f)
+entries_close p o rest s f = step_take (state.entries o) _ rest s f refl
+
+entry_opens : (p : Span) (o : yaml_mark_t) (ts : List Token) (s : List State) (f : Option Fault)
+    → run (token_at token.block_entry p ∷ ts) (state.entries o ∷ s) f ≡ run ts (state.optional Entry p.to ∷ state.entries o ∷ s) f
+entry_opens p o ts s f = step_take (state.entries o) _ ts s f refl
+
+other_opens : (p : Span) (side : Side) (ts : List Token) (s : List State) (f : Option Fault)
+    → run (token_at token.block_entry p ∷ ts) (state.others side ∷ s) f ≡ run ts (state.optional (IndentlessEntry side) p.to ∷ state.others side ∷ s) f
+other_opens p side ts s f = step_take (state.others side) _ ts s f refl
+
+pairs_close : (p : Span) (o : yaml_mark_t) (rest : List Token) (s : List State) (f : Option Fault)
+    → run (token_at token.block_end p ∷ rest) (state.pairs o ∷ s) f ≡ giving (items_pairs (tree.end_pairs p) rest) (run rest s f)
+pairs_close p o rest s f = step_take (state.pairs o) _ rest s f refl
+
+pair_opens : (p : Span) (o : yaml_mark_t) (ts : List Token) (s : List State) (f : Option Fault)
+    → run (token_at token.key p ∷ ts) (state.pairs o ∷ s) f ≡ run ts (state.optional (BlockPair Key) p.to ∷ state.colon (BlockPair Value) ∷ state.pairs o ∷ s) f
+pair_opens p o ts s f = step_take (state.pairs o) _ ts s f refl
+
+colon_opens : (p : Span) (place : Place) (ts : List Token) (s : List State) (f : Option Fault)
+    → run (token_at token.value p ∷ ts) (state.colon place ∷ s) f ≡ run ts (state.optional place p.to ∷ s) f
+colon_opens p place ts s f = step_take (state.colon place) _ ts s f refl
+
+items_close : (b : Brackets) (p : Span) (o : yaml_mark_t) (rest : List Token) (s : List State) (f : Option Fault)
+    → run (token_at (closing b) p ∷ rest) (state.items b o ∷ s) f ≡ giving (items_items b (tree.end_items p) rest) (run rest s f)
+items_close brackets.Sequence p o rest s f = step_take (state.items brackets.Sequence o) _ rest s f refl
+items_close brackets.Mapping p o rest s f = step_take (state.items brackets.Mapping o) _ rest s f refl
+
+more_close : (b : Brackets) (p : Span) (o : yaml_mark_t) (rest : List Token) (s : List State) (f : Option Fault)
+    → run (token_at (closing b) p ∷ rest) (state.more b o ∷ s) f ≡ giving (items_more b (tree.end_more p) rest) (run rest s f)
+more_close brackets.Sequence p o rest s f = step_take (state.more brackets.Sequence o) _ rest s f refl
+more_close brackets.Mapping p o rest s f = step_take (state.more brackets.Mapping o) _ rest s f refl
+
+comma_opens : (b : Brackets) (p : Span) (o : yaml_mark_t) (ts : List Token) (s : List State) (f : Option Fault)
+    → run (token_at token.flow_entry p ∷ ts) (state.more b o ∷ s) f ≡ run ts (state.items b o ∷ s) f
+comma_opens b p o ts s f = step_take (state.more b o) _ ts s f refl
+
+-- the states behind a pair inside brackets
+abbrev pair_below : Brackets → List State → List State
+pair_below brackets.Sequence s = state.pair_end ∷ s
+pair_below brackets.Mapping s = s
+
+flow_pair_opens : (b : Brackets) (p : Span) (o : yaml_mark_t) (ts : List Token) (s : List State) (f : Option Fault)
+    → run (token_at token.key p ∷ ts) (state.items b o ∷ s) f
+        ≡ giving (pair_start b p ts) (run ts (state.optional (FlowPair b Key) p.to ∷ state.colon (FlowPair b Value) ∷ pair_below b (state.more b o ∷ s)) f)
+flow_pair_opens brackets.Sequence p o ts s f = step_take (state.items brackets.Sequence o) _ ts s f refl
+flow_pair_opens brackets.Mapping p o ts s f = step_take (state.items brackets.Mapping o) _ ts s f refl
+
+-- ---- what stands behind a node
+
+more_ends : (b : Brackets) (m : More) (rest : List Token) → Ends Flow (spell_more b m rest)
+more_ends brackets.Sequence (tree.end_more p) rest = refl
+more_ends brackets.Mapping (tree.end_more p) rest = refl
+more_ends b (tree.comma p i) rest = refl
+
+more_follows : (b : Brackets) (side : Side) (m : More) (rest : List Token) → Follows (FlowPair b side) (spell_more b m rest)
+more_follows brackets.Sequence side (tree.end_more p) rest = refl
+more_follows brackets.Mapping side (tree.end_more p) rest = refl
+more_follows b side (tree.comma p i) rest = refl
+
+colon_follows : (b : Brackets) (v : Colon Flow) (m : More) (rest : List Token) → Follows (FlowPair b Key) (spell_colon v (spell_more b m rest))
+colon_follows b tree.no_colon m rest = more_follows b Key m rest
+colon_follows b (tree.colon p v) m rest = refl
+
+more_leaves : (b b' : Brackets) (m : More) (rest : List Token) → Leaves (state.colon (FlowPair b' Value)) (spell_more b m rest)
+more_leaves brackets.Sequence b' (tree.end_more p) rest = refl
+more_leaves brackets.Mapping b' (tree.end_more p) rest = refl
+more_leaves b b' (tree.comma p i) rest = refl
+
+pair_end_leaves : (b : Brackets) (m : More) (rest : List Token) → Leaves state.pair_end (spell_more b m rest)
+pair_end_leaves b (tree.end_more p) rest = refl
+pair_end_leaves b (tree.comma p i) rest = refl
+
+lone_leaves : (b : Brackets) (m : More) (rest : List Token) → Leaves state.lone (spell_more b m rest)
+lone_leaves b (tree.end_more p) rest = refl
+lone_leaves b (tree.comma p i) rest = refl
+
+entries_follow : (e : Entries) (rest : List Token) → Follows Entry (spell_entries e rest)
+entries_follow (tree.end_entries p) rest = refl
+entries_follow (tree.entry p n e) rest = refl
+
+pairs_follow : (side : Side) (m : Pairs) (rest : List Token) → Follows (BlockPair side) (spell_pairs m rest)
+pairs_follow side (tree.end_pairs p) rest = refl
+pairs_follow side (tree.block_pair p key v m) rest = refl
+
+pairs_leave : (m : Pairs) (rest : List Token) → Leaves (state.colon (BlockPair Value)) (spell_pairs m rest)
+pairs_leave (tree.end_pairs p) rest = refl
+pairs_leave (tree.block_pair p key v m) rest = refl
+
+block_colon_follows : (v : Colon (Block (Some Value))) (m : Pairs) (rest : List Token) → Follows (BlockPair Key) (spell_colon v (spell_pairs m rest))
+block_colon_follows tree.no_colon m rest = pairs_follow Key m rest
+block_colon_follows (tree.colon p v) m rest = refl
+
+others_follow_at : (side : Side) (k : yaml_token_type_t) → follows (BlockPair side) k ≡ true → follows (IndentlessEntry side) k ≡ true
+others_follow_at side kind.YAML_KEY_TOKEN h = refl
+others_follow_at side kind.YAML_BLOCK_END_TOKEN h = refl
+others_follow_at Key kind.YAML_VALUE_TOKEN h = refl
+others_follow_at Value kind.YAML_VALUE_TOKEN h = cc
+others_follow_at side _ h = cc
+
+others_follow_none : (side : Side) (ts : List Token) → Ends (Block (Some side)) ts → Follows (IndentlessEntry side) ts
+others_follow_none side [] h = h
+others_follow_none side (t ∷ ts) h = others_follow_at side (type_of t.body) h
+
+others_follow : (side : Side) (o : Others) (rest : List Token) → Ends (Block (Some side)) rest → Follows (IndentlessEntry side) (spell_others o rest)
+others_follow side tree.no_others rest h = others_follow_none side rest h
+others_follow side (tree.other p n o) rest h = refl
+
+others_leave_at : (side : Side) (k : yaml_token_type_t) → follows (BlockPair side) k ≡ true → choice_at (state.others side) k ≡ Leave
+others_leave_at side kind.YAML_KEY_TOKEN h = refl
+others_leave_at side kind.YAML_BLOCK_END_TOKEN h = refl
+others_leave_at side kind.YAML_VALUE_TOKEN h = refl
+others_leave_at side _ h = cc
+
+others_leave : (side : Side) (ts : List Token) → Ends (Block (Some side)) ts → Leaves (state.others side) ts
+others_leave side [] h = h
+others_leave side (t ∷ ts) h = others_leave_at side (type_of t.body) h
+
+-- ---- nodes
+
+lone_behind : (b : Brackets) (m : More) (rest : List Token) (s : List State) (f : Option Fault) (o : yaml_mark_t)
+    → run (spell_more b m rest) (lone_below b (state.more b o ∷ []) ++ s) f ≡ giving (lone b (spell_more b m rest)) (run (spell_more b m rest) (state.more b o ∷ s) f)
+lone_behind brackets.Sequence m rest s f o = refl
+lone_behind brackets.Mapping m rest s f o = leaves state.lone (spell_more brackets.Mapping m rest) (state.more brackets.Mapping o ∷ s) f (lone_leaves brackets.Mapping m rest)
+
+pair_behind : (b : Brackets) (m : More) (rest : List Token) (s : List State) (f : Option Fault)
+    → run (spell_more b m rest) (pair_below b s) f ≡ giving (pair_end b (spell_more b m rest)) (run (spell_more b m rest) s f)
+pair_behind brackets.Sequence m rest s f = leaves state.pair_end (spell_more brackets.Sequence m rest) s f (pair_end_leaves brackets.Sequence m rest)
+pair_behind brackets.Mapping m rest s f = refl
+
+mutual
+  pub node_runs : {w : Wants} (n : Node w) (rest : List Token) (s : List State) (f : Option Fault) → Ends w rest
+      → run_node w (spell_node n rest) s f ≡ giving (items_node n rest) (run rest s f)
+  node_runs (tree.alias p name) rest s f h = refl
+  node_runs {w = w} (tree.dress d) rest s f h =
+      dress_runs d w rest s f ∙ leaves (state.dressed w (properties_of d)) rest s f (dressed_leaves w (properties_of d) rest h)
+  node_runs {w = w} (tree.dressed d c) rest s f h =
+      dress_runs d w (spell_content c rest) s f ∙ dressed_content c (properties_of d) rest s f ∙ content_runs c (Some (properties_of d)) rest s f h
+  node_runs (tree.bare c) rest s f h = bare_content c rest s f ∙ content_runs c None rest s f h
+
+  pub content_runs : {w : Wants} (c : Content w) (p : Option Properties) (rest : List Token) (s : List State) (f : Option Fault) → Ends w rest
+      → run_content w p (spell_content c rest) s f ≡ giving (items_content c p rest) (run rest s f)
+  content_runs (tree.scalar n v style) p rest s f h = refl
+  content_runs (tree.flow brackets.Sequence n is) p rest s f h =
+      ap (giving (λ (more : List Given). (node_at p (flow_shape brackets.Sequence) n.from n.to, length (spell_items brackets.Sequence is rest)) ∷ more))
+          (items_run is brackets.Sequence n.from rest s f)
+  content_runs (tree.flow brackets.Mapping n is) p rest s f h =
+      ap (giving (λ (more : List Given). (node_at p (flow_shape brackets.Mapping) n.from n.to, length (spell_items brackets.Mapping is rest)) ∷ more))
+          (items_run is brackets.Mapping n.from rest s f)
+  content_runs (tree.block_sequence n e) p rest s f h =
+      ap (giving (λ (more : List Given). (node_at p (item.sequence YAML_BLOCK_SEQUENCE_STYLE) n.from n.to, length (spell_entries e rest)) ∷ more)) (entries_run e n.from rest s f)
+  content_runs (tree.block_mapping n m) p rest s f h =
+      ap (giving (λ (more : List Given). (node_at p (item.mapping YAML_BLOCK_MAPPING_STYLE) n.from n.to, length (spell_pairs m rest)) ∷ more)) (pairs_run m n.from rest s f)
+  content_runs (tree.indentless {s = side} n m o) p rest s f h =
+      ap (giving (λ (more : List Given). (node_at p (item.sequence YAML_BLOCK_SEQUENCE_STYLE) n.from n.to, length (spell_maybe m (spell_others o rest))) ∷ more))
+          (maybe_runs m (IndentlessEntry side) refl n.to (spell_others o rest) (state.others side ∷ s) f (others_follow side o rest h)
+              ∙ ap (giving (items_maybe m (IndentlessEntry side) n.to (spell_others o rest))) (others_run o side rest s f h))
+
+  pub maybe_runs : {w : Wants} (m : Maybe w) (place : Place) → wants_of place ≡ w → (before : yaml_mark_t) (rest : List Token) (s : List State) (f : Option Fault) → Follows place rest
+      → run (spell_maybe m rest) (state.optional place before ∷ s) f ≡ giving (items_maybe m place before rest) (run rest s f)
+  maybe_runs tree.left_out place e before rest s f h = leaves (state.optional place before) rest s f (follows_leaves place before rest h)
+  maybe_runs {w = w} (tree.there n) place e before rest s f h =
+      optional_wanted place w e before (spell_node n rest) s f (node_starts n rest) ∙ node_runs n rest s f (subst (λ (v : Wants). Ends v rest) e (follows_ends place rest h))
+
+  pub colon_runs : {w : Wants} (v : Colon w) (place : Place) → wants_of place ≡ w → (rest : List Token) (s : List State) (f : Option Fault) → Leaves (state.colon place) rest → Follows place rest
+      → run (spell_colon v rest) (state.colon place ∷ s) f ≡ giving (items_colon v place rest) (run rest s f)
+  colon_runs tree.no_colon place e rest s f l h = leaves (state.colon place) rest s f l
+  colon_runs (tree.colon p m) place e rest s f l h = colon_opens p place (spell_maybe m rest) s f ∙ maybe_runs m place e p.to rest s f h
+
+  pub items_run : (i : Items) (b : Brackets) (o : yaml_mark_t) (rest : List Token) (s : List State) (f : Option Fault)
+      → run (spell_items b i rest) (state.items b o ∷ s) f ≡ giving (items_items b i rest) (run rest s f)
+  items_run (tree.end_items p) b o rest s f = items_close b p o rest s f
+  items_run (tree.single n m) b o rest s f =
+      lone_runs b o (spell_node n (spell_more b m rest)) s f (node_starts n (spell_more b m rest))
+          ∙ node_runs n (spell_more b m rest) (lone_below b (state.more b o ∷ []) ++ s) f (more_ends b m rest)
+          ∙ ap (giving (items_node n (spell_more b m rest)))
+              (lone_behind b m rest s f o ∙ ap (giving (lone b (spell_more b m rest))) (more_runs m b o rest s f))
+  items_run (tree.pair p key v m) b o rest s f =
+      flow_pair_opens b p o (spell_maybe key (spell_colon v (spell_more b m rest))) s f
+          ∙ ap (giving (pair_start b p (spell_maybe key (spell_colon v (spell_more b m rest)))))
+              (maybe_runs key (FlowPair b Key) refl p.to (spell_colon v (spell_more b m rest)) (state.colon (FlowPair b Value) ∷ pair_below b (state.more b o ∷ s)) f (colon_follows b v m rest)
+                  ∙ ap (giving (items_maybe key (FlowPair b Key) p.to (spell_colon v (spell_more b m rest))))
+                      (colon_runs v (FlowPair b Value) refl (spell_more b m rest) (pair_below b (state.more b o ∷ s)) f (more_leaves b b m rest) (more_follows b Value m rest)
+                          ∙ ap (giving (items_colon v (FlowPair b Value) (spell_more b m rest)))
+                              (pair_behind b m rest (state.more b o ∷ s) f ∙ ap (giving (pair_end b (spell_more b m rest))) (more_runs m b o rest s f))))
+
+  pub more_runs : (m : More) (b : Brackets) (o : yaml_mark_t) (rest : List Token) (s : List State) (f : Option Fault)
+      → run (spell_more b m rest) (state.more b o ∷ s) f ≡ giving (items_more b m rest) (run rest s f)
+  more_runs (tree.end_more p) b o rest s f = more_close b p o rest s f
+  more_runs (tree.comma p i) b o rest s f = comma_opens b p o (spell_items b i rest) s f ∙ items_run i b o rest s f
+
+  pub entries_run : (e : Entries) (o : yaml_mark_t) (rest : List Token) (s : List State) (f : Option Fault)
+      → run (spell_entries e rest) (state.entries o ∷ s) f ≡ giving (items_entries e rest) (run rest s f)
+  entries_run (tree.end_entries p) o rest s f = entries_close p o rest s f
+  entries_run (tree.entry p m e) o rest s f =
+      entry_opens p o (spell_maybe m (spell_entries e rest)) s f
+          ∙ maybe_runs m Entry refl p.to (spell_entries e rest) (state.entries o ∷ s) f (entries_follow e rest)
+          ∙ ap (giving (items_maybe m Entry p.to (spell_entries e rest))) (entries_run e o rest s f)
+
+  pub others_run : (o : Others) (side : Side) (rest : List Token) (s : List State) (f : Option Fault) → Ends (Block (Some side)) rest
+      → run (spell_others o rest) (state.others side ∷ s) f ≡ giving (items_others side o rest) (run rest s f)
+  others_run tree.no_others side rest s f h = leaves (state.others side) rest s f (others_leave side rest h)
+  others_run (tree.other p m o) side rest s f h =
+      other_opens p side (spell_maybe m (spell_others o rest)) s f
+          ∙ maybe_runs m (IndentlessEntry side) refl p.to (spell_others o rest) (state.others side ∷ s) f (others_follow side o rest h)
+          ∙ ap (giving (items_maybe m (IndentlessEntry side) p.to (spell_others o rest))) (others_run o side rest s f h)
+
+  pub pairs_run : (m : Pairs) (o : yaml_mark_t) (rest : List Token) (s : List State) (f : Option Fault)
+      → run (spell_pairs m rest) (state.pairs o ∷ s) f ≡ giving (items_pairs m rest) (run rest s f)
+  pairs_run (tree.end_pairs p) o rest s f = pairs_close p o rest s f
+  pairs_run (tree.block_pair p key v m) o rest s f =
+      pair_opens p o (spell_maybe key (spell_colon v (spell_pairs m rest))) s f
+          ∙ maybe_runs key (BlockPair Key) refl p.to (spell_colon v (spell_pairs m rest)) (state.colon (BlockPair Value) ∷ state.pairs o ∷ s) f (block_colon_follows v m rest)
+          ∙ ap (giving (items_maybe key (BlockPair Key) p.to (spell_colon v (spell_pairs m rest))))
+              (colon_runs v (BlockPair Value) refl (spell_pairs m rest) (state.pairs o ∷ s) f (pairs_leave m rest) (pairs_follow Value m rest)
+                  ∙ ap (giving (items_colon v (BlockPair Value) (spell_pairs m rest))) (pairs_run m o rest s f))
+
+-- ---- documents
+
+documents_follow : (d : Documents) (rest : List Token) → Follows Root (spell_documents d rest)
+documents_follow (tree.end_stream p) rest = refl
+documents_follow (tree.document [] p n e d) rest = refl
+documents_follow (tree.document (tree.version q major minor ∷ ds) p n e d) rest = refl
+documents_follow (tree.document (tree.handle q name prefix ∷ ds) p n e d) rest = refl
+
+root_follows : (e : List Span) (d : Documents) (rest : List Token) → Follows Root (spell_ends e (spell_documents d rest))
+root_follows [] d rest = documents_follow d rest
+root_follows (p ∷ e) d rest = refl
+
+document_leaves : (d : Documents) (rest : List Token) → Leaves state.document_end (spell_documents d rest)
+document_leaves (tree.end_stream p) rest = refl
+document_leaves (tree.document [] p n e d) rest = refl
+document_leaves (tree.document (tree.version q major minor ∷ ds) p n e d) rest = refl
+document_leaves (tree.document (tree.handle q name prefix ∷ ds) p n e d) rest = refl
+
+skips_ends : (e : List Span) (rest : List Token) (s : List State) (f : Option Fault) → run (spell_ends e rest) (state.documents ∷ s) f ≡ run rest (state.documents ∷ s) f
+skips_ends [] rest s f = refl
+skips_ends (p ∷ e) rest s f = step_take state.documents _ (spell_ends e rest) s f refl ∙ skips_ends e rest s f
+
+ends_run : (e : List Span) (d : Documents) (rest : List Token) (f : Option Fault)
+    → run (spell_ends e (spell_documents d rest)) (state.document_end ∷ state.documents ∷ []) f
+        ≡ giving (items_ends e (spell_documents d rest)) (run (spell_documents d rest) (state.documents ∷ []) f)
+ends_run [] d rest f = leaves state.document_end (spell_documents d rest) (state.documents ∷ []) f (document_leaves d rest)
+ends_run (p ∷ e) d rest f =
+    step_take state.document_end _ (spell_ends e (spell_documents d rest)) (state.documents ∷ []) f refl
+        ∙ ap (giving (λ (more : List Given). (event_at (event.document_end false) p.from p.to, length (spell_ends e (spell_documents d rest))) ∷ more))
+            (skips_ends e (spell_documents d rest) [] f)
+
+abbrev starting : yaml_mark_t → Span → List Token → List Given → List Given
+starting from p ts more = (item_at (item.document false) from p.to, length ts) ∷ more
+
+directives_run : (ds : List Directive) (from : yaml_mark_t) (p : Span) (ts : List Token) (f : Option Fault)
+    → run (spell_directives ds (token_at token.document_start p ∷ ts)) (state.directives from ∷ []) f
+        ≡ giving (items_directives ds (token_at token.document_start p ∷ ts)) (giving (starting from p ts) (run ts (opened p.to) f))
+directives_run [] from p ts f = step_take (state.directives from) _ ts [] f refl
+directives_run (tree.version q major minor ∷ ds) from p ts f =
+    step_take (state.directives from) _ (spell_directives ds (token_at token.document_start p ∷ ts)) [] f refl
+        ∙ ap (giving (λ (more : List Given). (item_at (item.version_directive major minor) q.from q.to, length (spell_directives ds (token_at token.document_start p ∷ ts))) ∷ more))
+            (directives_run ds from p ts f)
+directives_run (tree.handle q name prefix ∷ ds) from p ts f =
+    step_take (state.directives from) _ (spell_directives ds (token_at token.document_start p ∷ ts)) [] f refl
+        ∙ ap (giving (λ (more : List Given). (item_at (item.tag_directive name prefix) q.from q.to, length (spell_directives ds (token_at token.document_start p ∷ ts))) ∷ more))
+            (directives_run ds from p ts f)
+
+explicit_opens : (ds : List Directive) (p : Span) (ts : List Token) (f : Option Fault)
+    → run (spell_directives ds (token_at token.document_start p ∷ ts)) (state.documents ∷ []) f
+        ≡ giving (items_directives ds (token_at token.document_start p ∷ ts)) (giving (starting (start_of ds p) p ts) (run ts (opened p.to) f))
+explicit_opens [] p ts f = step_take state.documents _ ts [] f refl
+explicit_opens (tree.version q major minor ∷ ds) p ts f =
+    step_take state.documents _ (spell_directives ds (token_at token.document_start p ∷ ts)) [] f refl
+        ∙ ap (giving (λ (more : List Given). (item_at (item.version_directive major minor) q.from q.to, length (spell_directives ds (token_at token.document_start p ∷ ts))) ∷ more))
+            (directives_run ds q.from p ts f)
+explicit_opens (tree.handle q name prefix ∷ ds) p ts f =
+    step_take state.documents _ (spell_directives ds (token_at token.document_start p ∷ ts)) [] f refl
+        ∙ ap (giving (λ (more : List Given). (item_at (item.tag_directive name prefix) q.from q.to, length (spell_directives ds (token_at token.document_start p ∷ ts))) ∷ more))
+            (directives_run ds q.from p ts f)
+
+pub nothing_runs : (ts : List Token) (f : Option Fault) → run ts [] f ≡ finished
+unfolding run feed
+nothing_runs [] None = refl
+nothing_runs [] (Some f) = refl
+nothing_runs (t ∷ ts) f = nothing_runs ts f
+
+documents_run : (d : Documents) (rest : List Token) (f : Option Fault)
+    → run (spell_documents d rest) (state.documents ∷ []) f ≡ record { items = items_documents d rest; ending = None }
+documents_run (tree.end_stream p) rest f =
+    step_take state.documents _ rest [] f refl
+        ∙ ap (giving (λ (more : List Given). (event_at event.stream_end p.from p.to, length rest) ∷ more)) (nothing_runs rest f)
+documents_run (tree.document ds p n e d) rest f =
+    explicit_opens ds p (spell_maybe n (spell_ends e (spell_documents d rest))) f
+        ∙ ap (giving (items_directives ds (token_at token.document_start p ∷ spell_maybe n (spell_ends e (spell_documents d rest)))))
+            (ap (giving (starting (start_of ds p) p (spell_maybe n (spell_ends e (spell_documents d rest)))))
+                (maybe_runs n Root refl p.to (spell_ends e (spell_documents d rest)) (state.document_end ∷ state.documents ∷ []) f (root_follows e d rest)
+                    ∙ ap (giving (items_maybe n Root p.to (spell_ends e (spell_documents d rest))))
+                        (ends_run e d rest f ∙ ap (giving (items_ends e (spell_documents d rest))) (documents_run d rest f))))
+
+-- before the first document
+first_without : (d : Documents) (rest : List Token) (f : Option Fault)
+    → run (spell_documents d rest) (state.first ∷ []) f ≡ run (spell_documents d rest) (state.documents ∷ []) f
+unfolding run feed
+first_without (tree.end_stream p) rest f = refl
+first_without (tree.document [] p n e d) rest f = refl
+first_without (tree.document (tree.version q major minor ∷ ds) p n e d) rest f = refl
+first_without (tree.document (tree.handle q name prefix ∷ ds) p n e d) rest f = refl
+
+first_opens_at : (k : yaml_token_type_t) → starts_node (Block None) k ≡ true → choice_at state.first k ≡ Open
+first_opens_at k h =
+    ap (λ (b : Bool). if b then Take else if starts_node (Block None) k then Open else Refuse problem.NoBlockNode None) (not_parting k h)
+        ∙ ap (λ (b : Bool). if b then Open else Refuse problem.NoBlockNode None) h
+  where
+    not_parting : (k : yaml_token_type_t) → starts_node (Block None) k ≡ true → parts_documents k ≡ false
+    not_parting kind.YAML_STREAM_END_TOKEN h = cc
+    not_parting kind.YAML_VERSION_DIRECTIVE_TOKEN h = cc
+    not_parting kind.YAML_TAG_DIRECTIVE_TOKEN h = cc
+    not_parting kind.YAML_DOCUMENT_START_TOKEN h = cc
+    not_parting _ h = refl
+
+abbrev implicit : List Token → List Given → List Given
+implicit ts more = (item_at (item.document true) (next ts) (next ts), behind ts) ∷ more
+
+first_opens : (ts : List Token) (f : Option Fault) → Starts (Block None) ts
+    → run ts (state.first ∷ []) f ≡ giving (implicit ts) (run_node (Block None) ts (state.document_end ∷ state.documents ∷ []) f)
+unfolding run feed
+first_opens [] f h = absurd h
+first_opens (t ∷ ts) f h =
+    ap (λ (c : Choice). carry (length ts) (turn c state.first t [] (feed [] t)) (λ s'. run ts s' f)) (first_opens_at (type_of t.body) h)
+        ∙ carry_with_item (length ts) (item_at (item.document true) t.start_mark t.start_mark)
+            (given_by (taken_at (state.optional Root t.start_mark) t) (state.document_end ∷ state.documents ∷ [])) (λ s'. run ts s' f)
+
+first_runs : (x : First) (d : Documents) (rest : List Token) (f : Option Fault)
+    → run (spell_first x (spell_documents d rest)) (state.first ∷ []) f
+        ≡ record { items = items_first x (spell_documents d rest) (items_documents d rest); ending = None }
+first_runs tree.no_first d rest f = first_without d rest f ∙ documents_run d rest f
+first_runs (tree.first n e) d rest f =
+    first_opens (spell_node n (spell_ends e (spell_documents d rest))) f (node_starts n (spell_ends e (spell_documents d rest)))
+        ∙ ap (giving (implicit (spell_node n (spell_ends e (spell_documents d rest)))))
+            (node_runs n (spell_ends e (spell_documents d rest)) (state.document_end ∷ state.documents ∷ []) f (follows_ends Root (spell_ends e (spell_documents d rest)) (root_follows e d rest))
+                ∙ ap (giving (items_node n (spell_ends e (spell_documents d rest))))
+                    (ends_run e d rest f ∙ ap (giving (items_ends e (spell_documents d rest))) (documents_run d rest f)))
+
+-- Of a stream's tokens the machine gives the items of its tree, and no fault, whatever follows.
+pub stream_runs : (t : Stream) (rest : List Token) (f : Option Fault)
+    → run (spell t rest) initial f ≡ record { items = items t rest; ending = None }
+stream_runs t rest f =
+    step_take state.stream _ (spell_first t.first (spell_documents t.documents rest)) [] f refl
+        ∙ ap (giving (λ (more : List Given). (event_at (event.stream_start t.encoding) t.start.from t.start.to, length (spell_first t.first (spell_documents t.documents rest))) ∷ more))
+            (first_runs t.first t.documents rest f)

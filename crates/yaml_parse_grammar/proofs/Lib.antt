@@ -1,0 +1,2 @@
+pub mod Complete
+pub mod Voice

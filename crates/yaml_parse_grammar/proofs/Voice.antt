@@ -1,0 +1,261 @@
+-- A stack that isn't empty still has an event to give, or a fault.
+use Rattle.std.proofs.Common.{◌≡◌, ℕ, Bool, true, false, List, [], ◌∷◌, ◌++◌, length, map, Option, Some, None, refl, ap, sym}
+use Rattle.yaml_scan.specs.declared.yaml_mark_t.{yaml_mark_t}
+use Rattle.yaml_scan.specs.declared.yaml_token_type_t.TheVariants as kind
+use Rattle.yaml_scan.specs.Tokens.{Token, TokenBody, type_of, no_token}
+use Rattle.yaml_scan.specs.Tokens as token
+use Rattle.yaml_scan.specs.Faults.{Fault}
+use Rattle.yaml_parse_grammar.specs.declared.name.Wants.{Wants}
+use Rattle.yaml_parse_grammar.specs.declared.name.Wants.TheVariants.{Flow, Block}
+use Rattle.yaml_parse_grammar.specs.declared.name.Brackets.{Brackets}
+use Rattle.yaml_parse_grammar.specs.declared.name.Brackets.TheVariants as brackets
+use Rattle.yaml_parse_grammar.specs.declared.name.Place.TheVariants.{Root, Entry, IndentlessEntry, BlockPair, FlowPair}
+use Rattle.yaml_parse_grammar.specs.declared.name.Choice.{Choice}
+use Rattle.yaml_parse_grammar.specs.declared.name.Choice.TheVariants.{Refuse, Take, Leave, Open}
+use Rattle.yaml_parse_grammar.specs.Items.{Item, ItemBody, Properties}
+use Rattle.yaml_parse_grammar.specs.Items as item
+use Rattle.yaml_parse_grammar.specs.States.{State, Taken}
+use Rattle.yaml_parse_grammar.specs.States as state
+use Rattle.yaml_parse_grammar.specs.Trees.{Given}
+use Rattle.yaml_parse_grammar.specs.Machine.{choice_at, taken_at, documents_taken, content_taken, node_taken, dressed_taken, items_taken, more_taken, stream_taken, entries_taken, pairs_taken, lone_below, left_at, Fed, stop, go, with_item, given_by, turn, feed, Outcome, finished, carry, run}
+use Rattle.yaml_parse_grammar.specs.Resolve.{Directives, Settled, refused, gave, noted, settle, settle_body, reading, Reading, Told, read_on, with_resolved, with_version, with_tag, resolved}
+
+-- the item is an event and no directive, or else the other fact holds
+abbrev pub Voiced : ItemBody → Type 0 → Type 0
+Voiced (item.version_directive major minor) P = P
+Voiced (item.tag_directive handle prefix) P = P
+Voiced _ P = Unit {0}
+
+abbrev pub IsSome : Option Fault → Type 0
+IsSome None = ⊥
+IsSome (Some f) = Unit {0}
+
+abbrev pub Stands : List State → Type 0
+Stands [] = ⊥
+Stands (x ∷ s) = Unit {0}
+
+-- among the items is an event, or a fault ends them
+abbrev pub HasVoice : List Given → Option Fault → Type 0
+HasVoice [] f = IsSome f
+HasVoice (g ∷ gs) f = Voiced g.0.body (HasVoice gs f)
+
+abbrev pub TakenSpeaks : Option Item → List State → Type 0
+TakenSpeaks None above = Stands above
+TakenSpeaks (Some i) above = Voiced i.body (Stands above)
+
+stream_speaks : (start end : yaml_mark_t) (b : TokenBody) → TakenSpeaks (stream_taken start end b).item (stream_taken start end b).above
+stream_speaks start end (token.stream_start e) = tt
+stream_speaks start end _ = tt
+
+documents_speak : (from start end : yaml_mark_t) (b : TokenBody) → TakenSpeaks (documents_taken from start end b).item (documents_taken from start end b).above
+documents_speak from start end (token.version_directive x y) = tt
+documents_speak from start end (token.tag_directive x y) = tt
+documents_speak from start end token.document_start = tt
+documents_speak from start end token.stream_end = tt
+documents_speak from start end _ = tt
+
+content_speaks : (w : Wants) (p : Option Properties) (start end : yaml_mark_t) (b : TokenBody) → TakenSpeaks (content_taken w p start end b).item (content_taken w p start end b).above
+content_speaks w None start end (token.scalar v s) = tt
+content_speaks w (Some p) start end (token.scalar v s) = tt
+content_speaks w None start end token.flow_sequence_start = tt
+content_speaks w (Some p) start end token.flow_sequence_start = tt
+content_speaks w None start end token.flow_mapping_start = tt
+content_speaks w (Some p) start end token.flow_mapping_start = tt
+content_speaks w None start end token.block_sequence_start = tt
+content_speaks w (Some p) start end token.block_sequence_start = tt
+content_speaks w None start end token.block_mapping_start = tt
+content_speaks w (Some p) start end token.block_mapping_start = tt
+content_speaks (Block (Some s)) None start end token.block_entry = tt
+content_speaks (Block (Some s)) (Some p) start end token.block_entry = tt
+content_speaks (Block None) p start end token.block_entry = tt
+content_speaks Flow p start end token.block_entry = tt
+content_speaks w p start end _ = tt
+
+node_speaks : (w : Wants) (start end : yaml_mark_t) (b : TokenBody) → TakenSpeaks (node_taken w start end b).item (node_taken w start end b).above
+node_speaks w start end (token.alias n) = tt
+node_speaks w start end (token.anchor n) = tt
+node_speaks w start end (token.tag h s) = tt
+node_speaks w start end b = content_speaks w None start end b
+
+dressed_speaks : (w : Wants) (p : Properties) (start end : yaml_mark_t) (b : TokenBody) → TakenSpeaks (dressed_taken w p start end b).item (dressed_taken w p start end b).above
+dressed_speaks w p start end (token.anchor n) = tt
+dressed_speaks w p start end (token.tag h s) = tt
+dressed_speaks w p start end b = content_speaks w (Some p) start end b
+
+stands_above : (xs ys : List State) → Stands xs → Stands (xs ++ ys)
+stands_above [] ys h = absurd h
+stands_above (x ∷ xs) ys h = tt
+
+voiced_map : (b : ItemBody) {P Q : Type 0} → (P → Q) → Voiced b P → Voiced b Q
+voiced_map (item.version_directive x y) f h = f h
+voiced_map (item.tag_directive x y) f h = f h
+voiced_map (item.event e) f h = tt
+voiced_map (item.document i) f h = tt
+voiced_map (item.node a t s) f h = tt
+
+speaks_above : (i : Option Item) (xs ys : List State) → TakenSpeaks i xs → TakenSpeaks i (xs ++ ys)
+speaks_above None xs ys h = stands_above xs ys h
+speaks_above (Some i) xs ys h = voiced_map i.body (stands_above xs ys) h
+
+items_speak : (b : Brackets) (o start end : yaml_mark_t) (x : TokenBody) → TakenSpeaks (items_taken b o start end x).item (items_taken b o start end x).above
+items_speak brackets.Sequence o start end token.key = tt
+items_speak brackets.Mapping o start end token.key = tt
+items_speak b o start end token.flow_sequence_end = tt
+items_speak b o start end token.flow_mapping_end = tt
+items_speak b o start end x = speaks_above (node_taken Flow start end x).item (node_taken Flow start end x).above (lone_below b (state.more b o ∷ [])) (node_speaks Flow start end x)
+
+more_speaks : (b : Brackets) (o start end : yaml_mark_t) (x : TokenBody) → TakenSpeaks (more_taken b o start end x).item (more_taken b o start end x).above
+more_speaks b o start end token.flow_entry = tt
+more_speaks b o start end _ = tt
+
+entries_speak : (o start end : yaml_mark_t) (x : TokenBody) → TakenSpeaks (entries_taken o start end x).item (entries_taken o start end x).above
+entries_speak o start end token.block_entry = tt
+entries_speak o start end _ = tt
+
+pairs_speak : (o start end : yaml_mark_t) (x : TokenBody) → TakenSpeaks (pairs_taken o start end x).item (pairs_taken o start end x).above
+pairs_speak o start end token.key = tt
+pairs_speak o start end _ = tt
+
+-- what takes a token without an event leaves something open
+pub taken_speaks : (x : State) (t : Token) → TakenSpeaks (taken_at x t).item (taken_at x t).above
+taken_speaks state.stream t = stream_speaks t.start_mark t.end_mark t.body
+taken_speaks state.first t = documents_speak t.start_mark t.start_mark t.end_mark t.body
+taken_speaks state.documents t = documents_speak t.start_mark t.start_mark t.end_mark t.body
+taken_speaks (state.directives from) t = documents_speak from t.start_mark t.end_mark t.body
+taken_speaks (state.optional place before) t = node_speaks _ t.start_mark t.end_mark t.body
+taken_speaks state.document_end t = tt
+taken_speaks (state.entries o) t = entries_speak o t.start_mark t.end_mark t.body
+taken_speaks (state.others side) t = tt
+taken_speaks (state.pairs o) t = pairs_speak o t.start_mark t.end_mark t.body
+taken_speaks (state.colon place) t = tt
+taken_speaks (state.dressed w p) t = dressed_speaks w p t.start_mark t.end_mark t.body
+taken_speaks (state.items b o) t = items_speak b o t.start_mark t.end_mark t.body
+taken_speaks (state.more b o) t = more_speaks b o t.start_mark t.end_mark t.body
+taken_speaks state.pair_end t = tt
+taken_speaks state.lone t = tt
+
+-- leaving a state gives no directive
+pub left_voiced : (x : State) (start : yaml_mark_t) (P : Type 0) → Voiced (left_at x start).body P
+left_voiced state.stream start P = tt
+left_voiced (state.optional place before) start P = tt
+left_voiced state.document_end start P = tt
+left_voiced (state.others side) start P = tt
+left_voiced (state.dressed w p) start P = tt
+left_voiced state.pair_end start P = tt
+left_voiced _ start P = tt
+
+-- no state takes the empty token
+pub takes_a_token : (x : State) → choice_at x kind.YAML_NO_TOKEN ≡ Take → ⊥
+takes_a_token state.stream h = cc
+takes_a_token (state.optional Root before) h = cc
+takes_a_token (state.optional Entry before) h = cc
+takes_a_token (state.optional (IndentlessEntry side) before) h = cc
+takes_a_token (state.optional (BlockPair side) before) h = cc
+takes_a_token (state.optional (FlowPair brackets.Sequence side) before) h = cc
+takes_a_token (state.optional (FlowPair brackets.Mapping side) before) h = cc
+takes_a_token (state.dressed Flow p) h = cc
+takes_a_token (state.dressed (Block None) p) h = cc
+takes_a_token (state.dressed (Block (Some s)) p) h = cc
+takes_a_token (state.items brackets.Sequence o) h = cc
+takes_a_token (state.items brackets.Mapping o) h = cc
+takes_a_token (state.more brackets.Sequence o) h = cc
+takes_a_token (state.more brackets.Mapping o) h = cc
+takes_a_token _ h = cc
+
+-- ---- a turn
+
+abbrev SpeaksIn : List Item → List State → Type 0
+SpeaksIn [] s = Stands s
+SpeaksIn (i ∷ is) s = Voiced i.body (SpeaksIn is s)
+
+-- a stop, an event, or something that is still open
+abbrev FedSpeaks : Fed → Type 0
+FedSpeaks (stop is f) = Unit {0}
+FedSpeaks (go is s) = SpeaksIn is s
+
+given_speaks : (i : Option Item) (above s : List State) → TakenSpeaks i above → FedSpeaks (given_by (record { item = i; above = above }) s)
+given_speaks None above s h = stands_above above s h
+given_speaks (Some i) above s h = voiced_map i.body (stands_above above s) h
+
+with_speaks : (i : Item) (below : Fed) → ((P : Type 0) → Voiced i.body P) → FedSpeaks (with_item i below)
+with_speaks i (stop is f) h = tt
+with_speaks i (go is s) h = h (SpeaksIn is s)
+
+turn_speaks : (c : Choice) (x : State) (t : Token) (s : List State) (below : Fed) → FedSpeaks (turn c x t s below)
+turn_speaks (Refuse p o) x t s below = tt
+turn_speaks Take x t s below = given_speaks (taken_at x t).item (taken_at x t).above s (taken_speaks x t)
+turn_speaks Leave x t s below = with_speaks (left_at x t.start_mark) below (left_voiced x t.start_mark)
+turn_speaks Open x t s below = tt
+
+feed_speaks : (x : State) (s : List State) (t : Token) → FedSpeaks (feed (x ∷ s) t)
+unfolding feed
+feed_speaks x s t = turn_speaks (choice_at x (type_of t.body)) x t s (feed s t)
+
+abbrev Begins : (List State → Outcome) → Type 0
+Begins k = (s : List State) → Stands s → HasVoice (k s).items (k s).ending
+
+carried_go : (left : ℕ) (is : List Item) (s : List State) (k : List State → Outcome) → SpeaksIn is s → Begins k
+    → HasVoice (map (λ (i : Item). (i, left)) is ++ (k s).items) (k s).ending
+carried_go left [] s k h b = b s h
+carried_go left (i ∷ is) s k h b = voiced_map i.body (λ h'. carried_go left is s k h' b) h
+
+voiced_any : (c : ItemBody) {P : Type 0} → P → Voiced c P
+voiced_any (item.version_directive x y) h = h
+voiced_any (item.tag_directive x y) h = h
+voiced_any (item.event e) h = tt
+voiced_any (item.document i) h = tt
+voiced_any (item.node a t s) h = tt
+
+stopped : (left : ℕ) (is : List Item) (f : Fault) → HasVoice (map (λ (i : Item). (i, left)) is) (Some f)
+stopped left [] f = tt
+stopped left (i ∷ is) f = voiced_any i.body (stopped left is f)
+
+carried_speaks : (left : ℕ) (fed : Fed) (k : List State → Outcome) → FedSpeaks fed → Begins k → HasVoice (carry left fed k).items (carry left fed k).ending
+carried_speaks left (stop is f) k h b = stopped left is f
+carried_speaks left (go is s) k h b = carried_go left is s k h b
+
+ended_with : (i : Item) (below : Fed) → ((P : Type 0) → Voiced i.body P) → HasVoice (carry 0 (with_item i below) (λ _. finished)).items (carry 0 (with_item i below) (λ _. finished)).ending
+ended_with i (stop is f) h = h _
+ended_with i (go is s) h = h _
+
+ended_speaks : (c : Choice) (x : State) (t : Token) (s : List State) (below : Fed) → (c ≡ Take → ⊥)
+    → HasVoice (carry 0 (turn c x t s below) (λ _. finished)).items (carry 0 (turn c x t s below) (λ _. finished)).ending
+ended_speaks (Refuse p o) x t s below h = tt
+ended_speaks Take x t s below h = absurd (h refl)
+ended_speaks Leave x t s below h = ended_with (left_at x t.start_mark) below (left_voiced x t.start_mark)
+ended_speaks Open x t s below h = tt
+
+-- A stack that isn't empty has an event to give, or a fault.
+pub speaks : (ts : List Token) (f : Option Fault) (s : List State) → Stands s → HasVoice (run ts s f).items (run ts s f).ending
+unfolding run feed
+speaks ts f [] h = absurd h
+speaks [] (Some e) (x ∷ s) h = tt
+speaks [] None (x ∷ s) h = ended_speaks (choice_at x kind.YAML_NO_TOKEN) x no_token s (feed s no_token) (takes_a_token x)
+speaks (t ∷ ts) f (x ∷ s) h = carried_speaks (length ts) (feed (x ∷ s) t) (λ s'. run ts s' f) (feed_speaks x s t) (λ s' h'. speaks ts f s' h')
+
+-- ---- resolved
+
+not_noted : (o : Option (List ℕ)) (a : Option (List ℕ)) (shape : item.Shape) (from at : yaml_mark_t) (ds ds' : Directives) → with_resolved o a shape from at ds ≡ noted ds' → ⊥
+not_noted None a shape from at ds ds' h = cc
+not_noted (Some t) a shape from at ds ds' h = cc
+
+pub noted_body : (b : ItemBody) (from : yaml_mark_t) (ds ds' : Directives) (P : Type 0) → settle_body b from ds ≡ noted ds' → Voiced b P → P
+noted_body (item.version_directive x y) from ds ds' P e h = h
+noted_body (item.tag_directive x y) from ds ds' P e h = h
+noted_body (item.event b) from ds ds' P e h = cc
+noted_body (item.document i) from ds ds' P e h = cc
+noted_body (item.node a None shape) from ds ds' P e h = cc
+noted_body (item.node a (Some t) shape) from ds ds' P e h = absurd (not_noted (resolved ds.tags t.handle t.suffix) a shape from t.mark ds ds' e)
+
+read_on_speaks : (c : Settled) (g : Given) (gs : List Given) (f : Option Fault) (ds : Directives) → settle g.0 ds ≡ c → Voiced g.0.body (HasVoice gs f)
+    → ((ds' : Directives) → HasVoice gs f → (reading gs f ds').events ≡ [] → (reading gs f ds').ending ≡ None → ⊥)
+    → (read_on c g.0 g.1 (λ ds'. reading gs f ds')).events ≡ [] → (read_on c g.0 g.1 (λ ds'. reading gs f ds')).ending ≡ None → ⊥
+read_on_speaks (refused e) g gs f ds s h k p q = cc
+read_on_speaks (gave b ds') g gs f ds s h k p q = cc
+read_on_speaks (noted ds') g gs f ds s h k p q = k ds' (noted_body g.0.body g.0.from ds ds' (HasVoice gs f) s h) p q
+
+pub reading_speaks : (gs : List Given) (f : Option Fault) (ds : Directives) → HasVoice gs f → (reading gs f ds).events ≡ [] → (reading gs f ds).ending ≡ None → ⊥
+unfolding reading
+reading_speaks [] None ds h p q = h
+reading_speaks [] (Some e) ds h p q = cc
+reading_speaks (g ∷ gs) f ds h p q = read_on_speaks (settle g.0 ds) g gs f ds refl h (λ ds' h'. reading_speaks gs f ds' h') p q

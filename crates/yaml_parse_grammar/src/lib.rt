@@ -1,0 +1,8 @@
+//! The grammar of token lists: derivation trees, their tokens and events, and the machine that finds them.
+#![tactic(auto)]
+
+mod name;
+mod problem;
+
+pub use name::{Brackets, Choice, Place, Side, Wants};
+pub use problem::{ParseFault, ParseProblem};

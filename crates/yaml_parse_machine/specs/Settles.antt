@@ -1,0 +1,47 @@
+-- What resolving gives.
+use Rattle.std.specs.Prelude.{ℕ, ◌≡◌, List, map, Option, Some, None, Result, Ok, Err, Vec}
+use Rattle.std.specs.Global.{Global}
+use Rattle.yaml_scan.specs.declared.yaml_mark_t.{yaml_mark_t}
+use Rattle.yaml_parse_model.specs.Events.{directive_of, event_of, body_of, EventBody}
+use Rattle.yaml_parse_model.specs.declared.event.yaml_event_t.{yaml_event_t}
+use Rattle.yaml_parse_model.specs.declared.event.yaml_event_body_t.{yaml_event_body_t}
+use Rattle.yaml_parse_grammar.specs.declared.problem.ParseProblem.TheVariants.{UndefinedHandle}
+use Rattle.yaml_parse_grammar.specs.Problems.{parser_fault}
+use Rattle.yaml_parse_grammar.specs.Items as item
+use Rattle.yaml_parse_grammar.specs.Resolve as spec
+use Rattle.yaml_parse_grammar.specs.Resolve.{Settled, refused, gave, noted, placed}
+use Rattle.yaml_parse_machine.specs.declared.resolving.Directives.{Directives}
+use Rattle.yaml_parse_machine.specs.declared.resolving.Refusal.{Refusal}
+use Rattle.yaml_parse_machine.specs.declared.resolving.Refusal.TheVariants.{Memory, Fault}
+
+abbrev pub directives_of : Directives → spec.Directives
+directives_of d = record { version = d.version; tags = map directive_of d.tags.items }
+
+abbrev pub IsMemory : Refusal → Type 0
+IsMemory Memory = Unit {0}
+IsMemory (Fault f) = ⊥
+
+-- an error other than want of memory is the fault that the definition gives
+abbrev pub Refused : Refusal → Settled → Type 0
+Refused Memory s = Unit {0}
+Refused (Fault f) s = s ≡ refused (parser_fault f.problem f.problem_mark f.context_mark)
+
+abbrev pub Resolves : Option (List ℕ) → yaml_mark_t → yaml_mark_t → Result (Vec ℕ Global) Refusal → Type 0
+Resolves o at from (Ok v) = o ≡ Some v.items
+Resolves o at from (Err Memory) = Unit {0}
+Resolves o at from (Err (Fault f)) = (o ≡ None) × (f ≡ record { problem = UndefinedHandle; problem_mark = at; context_mark = from })
+
+abbrev pub Notes : Settled → Result (Unit {0}) Refusal → spec.Directives → Type 0
+Notes s (Ok u) new = s ≡ noted new
+Notes s (Err e) new = Refused e s
+
+-- the body of an event, or nothing
+abbrev pub SettlesBody : Settled → Result (Option yaml_event_body_t) Refusal → spec.Directives → Type 0
+SettlesBody s (Ok None) new = s ≡ noted new
+SettlesBody s (Ok (Some b)) new = s ≡ gave (body_of b) new
+SettlesBody s (Err e) new = Refused e s
+
+abbrev pub Settles : Settled → item.Item → Result (Option yaml_event_t) Refusal → spec.Directives → Type 0
+Settles s i (Ok None) new = s ≡ noted new
+Settles s i (Ok (Some e)) new = (s ≡ gave (body_of e.body) new) × (event_of e ≡ placed (body_of e.body) i)
+Settles s i (Err e) new = Refused e s

@@ -1,0 +1,94 @@
+-- States and items, without where their texts lie in memory.
+use Rattle.std.specs.Prelude.{ℕ, List, [], ◌∷◌, ◌++◌, map, reverse, Option, Some, None, Vec}
+use Rattle.std.specs.Global.{Global}
+use Rattle.yaml_parse_model.specs.Events.{text_of, body_of}
+use Rattle.yaml_parse_grammar.specs.Items as item
+use Rattle.yaml_parse_grammar.specs.States as state
+use Rattle.yaml_parse_machine.specs.declared.item.Tag as tag
+use Rattle.yaml_parse_machine.specs.declared.item.Properties as properties
+use Rattle.yaml_parse_machine.specs.declared.item.Shape.{Shape}
+use Rattle.yaml_parse_machine.specs.declared.item.Shape.TheVariants.{Empty, Scalar, Sequence, Mapping}
+use Rattle.yaml_parse_machine.specs.declared.item.ItemBody.{ItemBody}
+use Rattle.yaml_parse_machine.specs.declared.item.ItemBody.TheVariants.{Event, VersionDirective, TagDirective, Document, Node}
+use Rattle.yaml_parse_machine.specs.declared.item.Item.{Item}
+use Rattle.yaml_parse_machine.specs.declared.item.State.{State}
+use Rattle.yaml_parse_machine.specs.declared.item.State.TheVariants as code
+use Rattle.yaml_parse_machine.specs.declared.item.Pushed.{Pushed}
+use Rattle.yaml_parse_machine.specs.declared.item.Pushed.TheVariants.{Zero, One, Two, Three, Four}
+use Rattle.yaml_parse_machine.specs.declared.item.Opening.{Opening}
+use Rattle.yaml_parse_machine.specs.declared.item.Taken.{Taken}
+
+abbrev pub tag_of : tag.Tag → item.Tag
+tag_of t = record { handle = t.handle.items; suffix = t.suffix.items; mark = t.mark }
+
+abbrev pub tag_option_of : Option tag.Tag → Option item.Tag
+tag_option_of None = None
+tag_option_of (Some t) = Some (tag_of t)
+
+abbrev pub properties_of : properties.Properties → item.Properties
+properties_of p = record { anchor = text_of p.anchor; tag = tag_option_of p.tag; from = p.from; to = p.to }
+
+abbrev pub properties_option_of : Option properties.Properties → Option item.Properties
+properties_option_of None = None
+properties_option_of (Some p) = Some (properties_of p)
+
+abbrev pub shape_of : Shape → item.Shape
+shape_of Empty = item.empty
+shape_of (Scalar value style) = item.scalar value.items style
+shape_of (Sequence style) = item.sequence style
+shape_of (Mapping style) = item.mapping style
+
+abbrev pub item_body_of : ItemBody → item.ItemBody
+item_body_of (Event body) = item.event (body_of body)
+item_body_of (VersionDirective major minor) = item.version_directive major minor
+item_body_of (TagDirective handle prefix) = item.tag_directive handle.items prefix.items
+item_body_of (Document implicit) = item.document implicit
+item_body_of (Node anchor tag shape) = item.node (text_of anchor) (tag_option_of tag) (shape_of shape)
+
+abbrev pub item_of : Item → item.Item
+item_of i = record { body = item_body_of i.body; from = i.from; to = i.to }
+
+abbrev pub item_option_of : Option Item → Option item.Item
+item_option_of None = None
+item_option_of (Some i) = Some (item_of i)
+
+abbrev pub state_of : State → state.State
+state_of code.Stream = state.stream
+state_of code.First = state.first
+state_of code.Documents = state.documents
+state_of (code.Directives from) = state.directives from
+state_of (code.Optional place before) = state.optional place before
+state_of code.DocumentEnd = state.document_end
+state_of (code.Entries opener) = state.entries opener
+state_of (code.Others side) = state.others side
+state_of (code.Pairs opener) = state.pairs opener
+state_of (code.Colon place) = state.colon place
+state_of (code.Dressed w p) = state.dressed w (properties_of p)
+state_of (code.Items b opener) = state.items b opener
+state_of (code.More b opener) = state.more b opener
+state_of code.PairEnd = state.pair_end
+state_of code.Lone = state.lone
+
+abbrev pub pushed_of : Pushed → List state.State
+pushed_of Zero = []
+pushed_of (One a) = state_of a ∷ []
+pushed_of (Two a b) = state_of a ∷ state_of b ∷ []
+pushed_of (Three a b c) = state_of a ∷ state_of b ∷ state_of c ∷ []
+pushed_of (Four a b c d) = state_of a ∷ state_of b ∷ state_of c ∷ state_of d ∷ []
+
+abbrev pub over : List state.State → Pushed → List state.State
+over above Zero = above
+over above (One a) = above ++ state_of a ∷ []
+over above (Two a b) = above ++ state_of a ∷ state_of b ∷ []
+over above (Three a b c) = above ++ state_of a ∷ state_of b ∷ state_of c ∷ []
+over above (Four a b c d) = above ++ state_of a ∷ state_of b ∷ state_of c ∷ state_of d ∷ []
+
+abbrev pub opening_of : Opening → state.Taken
+opening_of t = record { item = item_option_of t.item; above = pushed_of t.pushed }
+
+abbrev pub taken_of : Taken → state.Taken
+taken_of t = record { item = item_option_of t.opening.item; above = over (pushed_of t.opening.pushed) t.below }
+
+-- the states, the topmost first, of a list whose last is the topmost
+abbrev pub stack_of : List State → List state.State
+stack_of items = map state_of (reverse items)

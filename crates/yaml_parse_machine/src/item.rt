@@ -1,0 +1,118 @@
+//! States, and items: events whose tags and directives are not resolved.
+
+use yaml_parse_grammar::{Brackets, Place, Side, Wants};
+use yaml_parse_model::yaml_event_body_t;
+use yaml_scan::{
+    yaml_mapping_style_t, yaml_mark_t, yaml_scalar_style_t, yaml_sequence_style_t,
+};
+
+/// A tag as it is written, and where it begins.
+#[derive(Drop)]
+pub struct Tag {
+    pub handle: Vec<u8>,
+    pub suffix: Vec<u8>,
+    pub mark: yaml_mark_t,
+}
+
+/// The properties of a node, and where they stand.
+#[derive(Drop)]
+pub struct Properties {
+    pub anchor: Option<Vec<u8>>,
+    pub tag: Option<Tag>,
+    pub from: yaml_mark_t,
+    pub to: yaml_mark_t,
+}
+
+/// What a node is.
+#[derive(Drop)]
+pub enum Shape {
+    Empty,
+    Scalar {
+        value: Vec<u8>,
+        style: yaml_scalar_style_t,
+    },
+    Sequence(yaml_sequence_style_t),
+    Mapping(yaml_mapping_style_t),
+}
+
+/// What an item is.
+#[derive(Drop)]
+pub enum ItemBody {
+    /// An event that has nothing to resolve.
+    Event(yaml_event_body_t),
+    /// A `%YAML` directive.
+    VersionDirective { major: i32, minor: i32 },
+    /// A `%TAG` directive.
+    TagDirective { handle: Vec<u8>, prefix: Vec<u8> },
+    /// A document starts, with the directives before it.
+    Document { implicit: bool },
+    /// A node starts, or stands whole.
+    Node {
+        anchor: Option<Vec<u8>>,
+        tag: Option<Tag>,
+        shape: Shape,
+    },
+}
+
+/// An event before its tag or directives are resolved.
+#[derive(Drop)]
+pub struct Item {
+    pub body: ItemBody,
+    pub from: yaml_mark_t,
+    pub to: yaml_mark_t,
+}
+
+/// What may come. Marks are where what is open begins, unless said.
+#[derive(Drop)]
+pub enum State {
+    Stream,
+    First,
+    Documents,
+    /// Behind directives.
+    Directives(yaml_mark_t),
+    /// A node or nothing; the mark is the end of the indicator before it.
+    Optional(Place, yaml_mark_t),
+    DocumentEnd,
+    /// The parts of a block sequence.
+    Entries(yaml_mark_t),
+    /// Further parts of a sequence that isn't indented.
+    Others(Side),
+    /// The parts of a block mapping.
+    Pairs(yaml_mark_t),
+    /// A `:` and that place, or nothing.
+    Colon(Place),
+    /// The rest of a node behind properties.
+    Dressed(Wants, Properties),
+    /// Behind an opening bracket or a comma.
+    Items(Brackets, yaml_mark_t),
+    /// Behind a part inside brackets.
+    More(Brackets, yaml_mark_t),
+    /// The end of a pair's own mapping.
+    PairEnd,
+    /// The value of a lone node inside the brackets of a mapping.
+    Lone,
+}
+
+/// States that go on top of the others, the topmost first.
+#[derive(Drop)]
+pub enum Pushed {
+    Zero,
+    One(State),
+    Two(State, State),
+    Three(State, State, State),
+    Four(State, State, State, State),
+}
+
+/// What a token gives, and what may come above the other states.
+#[derive(Drop)]
+pub struct Opening {
+    pub item: Option<Item>,
+    pub pushed: Pushed,
+}
+
+/// What taking a token gives: `below` goes on top of the other states, and then the opening's.
+#[derive(Drop)]
+pub struct Taken {
+    pub opening: Opening,
+    pub below: Pushed,
+}

@@ -1,0 +1,12 @@
+//! What a parser does at a token: decide by the token's kind, then build from the moved token; and resolving.
+#![tactic(auto)]
+
+mod choosing;
+mod item;
+mod resolving;
+mod taking;
+
+pub use choosing::choose;
+pub use item::{Item, ItemBody, Opening, Properties, Pushed, Shape, State, Tag, Taken};
+pub use resolving::{Directives, Refusal, settle};
+pub use taking::{leave, opened, push_all, take};

@@ -1,0 +1,346 @@
+//! Directives and tags.
+
+ghost use Rattle.std.specs.Prelude.{◌≡◌, ◌++◌, codes, map, option_map, IfOk, IfErr};
+ghost use Rattle.std.specs.Str.{bytes_eq};
+ghost use Rattle.yaml_parse_model.specs.Events.{directive_of, text_of, body_of, event_of};
+ghost use Rattle.yaml_parse_grammar.specs.Items as item;
+ghost use Rattle.yaml_parse_grammar.specs.Resolve.{directive_for, default_prefix, or_default, resolved, node_event, settle as settle_item, settle_body as settle_item_body, scalar_event, is_known_version, with_version, with_tag, behind_event};
+ghost use Rattle.yaml_parse_machine.specs.Views.{item_of, item_body_of, shape_of};
+ghost use Rattle.yaml_parse_machine.specs.declared.resolving.Refusal.TheVariants.{Fault};
+ghost use Rattle.yaml_parse_machine.specs.Settles.{directives_of, Settles, SettlesBody, Resolves, Notes, IsMemory};
+
+use crate::item::{Item, ItemBody, Shape, Tag};
+use std::alloc::{AllocError, AllocFailed, Global};
+use yaml_parse_grammar::{ParseFault, ParseProblem};
+use yaml_parse_model::{yaml_event_body_t, yaml_event_t};
+use yaml_scan::{
+    yaml_mark_t, yaml_scalar_style_t, yaml_tag_directive_t, yaml_version_directive_t,
+};
+
+/// The directives of a document.
+#[derive(Drop)]
+pub struct Directives {
+    pub version: Option<yaml_version_directive_t>,
+    pub tags: Vec<yaml_tag_directive_t>,
+}
+
+/// Why an item is refused.
+#[derive(Debug, Drop)]
+pub enum Refusal {
+    /// A growth was refused.
+    Memory,
+    Fault(ParseFault),
+}
+
+impl From<AllocError> for Refusal {
+    ghost from_gives = { λ _ e. IsMemory e };
+
+    fn from(_e: AllocError) -> Refusal {
+        Refusal::Memory
+    }
+}
+
+impl<T: Drop> From<AllocFailed<T>> for Refusal {
+    ghost from_gives = { λ _ e. IsMemory e };
+
+    fn from(_e: AllocFailed<T>) -> Refusal {
+        Refusal::Memory
+    }
+}
+
+fn fault_at(problem: ParseProblem, problem_mark: yaml_mark_t, context_mark: yaml_mark_t) -> Refusal
+    ensures { result ≡ Fault (record { problem = problem; problem_mark = problem_mark; context_mark = context_mark }) }
+{
+    Refusal::Fault(ParseFault {
+        problem,
+        problem_mark,
+        context_mark,
+    })
+}
+
+// The prefix that a directive gives the handle.
+fn find_prefix<'a>(tags: &'a [yaml_tag_directive_t], handle: &[u8]) -> Option<&'a [u8]>
+    ensures { option_map (λ t. t.now) result ≡ directive_for handle.now (map directive_of tags.now) }
+{
+    for tag in tags {
+        if tag.handle.as_slice() == handle {
+            return Some(tag.prefix.as_slice());
+        }
+    }
+    None
+}
+
+// What a handle stands for where no directive says it.
+fn find_default(handle: &[u8]) -> Option<&'static [u8]>
+    ensures { option_map (λ t. t.now) result ≡ default_prefix handle.now }
+{
+    if handle == b"!".as_slice() {
+        Some(b"!".as_slice())
+    } else if handle == b"!!".as_slice() {
+        Some(b"tag:yaml.org,2002:".as_slice())
+    } else {
+        None
+    }
+}
+
+// The prefix and then the suffix.
+fn joined(alloc: Global, prefix: &[u8], suffix: &[u8]) -> Result<Vec<u8>, AllocError>
+    ensures { IfOk result (λ v. v.items ≡ prefix.now ++ suffix.now) }
+{
+    let mut full = Vec::from_slice(alloc, prefix)?;
+    full.extend_from_slice(suffix)?;
+    Ok(full)
+}
+
+// The tag in full, of a node that begins there.
+fn resolve(
+    alloc: Global,
+    tags: &[yaml_tag_directive_t],
+    tag: Tag,
+    from: yaml_mark_t,
+) -> Result<Vec<u8>, Refusal>
+    ensures { Resolves (resolved (map directive_of tags.now) tag.handle.items tag.suffix.items) tag.mark from result }
+{
+    let handle = tag.handle.as_slice();
+    if handle.is_empty() {
+        return Ok(tag.suffix);
+    }
+    let suffix = tag.suffix.as_slice();
+    match find_prefix(tags, handle) {
+        Some(prefix) => Ok(joined(alloc, prefix, suffix)?),
+        None => match find_default(handle) {
+            Some(prefix) => Ok(joined(alloc, prefix, suffix)?),
+            None => Err(fault_at(ParseProblem::UndefinedHandle, tag.mark, from)),
+        },
+    }
+}
+
+fn is_mark(tag: &[u8]) -> bool
+    ensures { result ≡ bytes_eq tag.now (codes "!") }
+{
+    tag == b"!".as_slice()
+}
+
+// A scalar, whose tag `!` says that it has none.
+fn scalar(
+    anchor: Option<Vec<u8>>,
+    tag: Option<Vec<u8>>,
+    value: Vec<u8>,
+    style: yaml_scalar_style_t,
+) -> yaml_event_body_t
+    ensures { body_of result ≡ scalar_event (text_of anchor) (text_of tag) value.items style }
+{
+    match tag {
+        None => {
+            let is_plain = match style {
+                yaml_scalar_style_t::YAML_PLAIN_SCALAR_STYLE => true,
+                _ => false,
+            };
+            yaml_event_body_t::Scalar {
+                anchor,
+                tag: None,
+                value,
+                plain_implicit: is_plain,
+                quoted_implicit: !is_plain,
+                style,
+            }
+        }
+        Some(tag) => {
+            let is_untagged = is_mark(tag.as_slice());
+            yaml_event_body_t::Scalar {
+                anchor,
+                tag: if is_untagged { None } else { Some(tag) },
+                value,
+                plain_implicit: is_untagged,
+                quoted_implicit: false,
+                style,
+            }
+        }
+    }
+}
+
+// The event of a node whose tag is resolved.
+fn node(
+    alloc: Global,
+    anchor: Option<Vec<u8>>,
+    tag: Option<Vec<u8>>,
+    shape: Shape,
+) -> yaml_event_body_t
+    ensures { body_of result ≡ node_event (text_of anchor) (text_of tag) (shape_of shape) }
+{
+    match shape {
+        Shape::Empty => {
+            let untagged = tag.is_none();
+            yaml_event_body_t::Scalar {
+                anchor,
+                tag,
+                value: Vec::new(alloc),
+                plain_implicit: untagged,
+                quoted_implicit: false,
+                style: yaml_scalar_style_t::YAML_PLAIN_SCALAR_STYLE,
+            }
+        }
+        Shape::Scalar { value, style } => scalar(anchor, tag, value, style),
+        Shape::Sequence(style) => {
+            let implicit = tag.is_none();
+            yaml_event_body_t::SequenceStart {
+                anchor,
+                tag,
+                implicit,
+                style,
+            }
+        }
+        Shape::Mapping(style) => {
+            let implicit = tag.is_none();
+            yaml_event_body_t::MappingStart {
+                anchor,
+                tag,
+                implicit,
+                style,
+            }
+        }
+    }
+}
+
+fn copy_directive(
+    alloc: Global,
+    directive: &yaml_tag_directive_t,
+) -> Result<yaml_tag_directive_t, AllocError>
+    ensures { IfOk result (λ d. directive_of d ≡ directive_of directive.now) }
+{
+    Ok(yaml_tag_directive_t {
+        handle: Vec::from_slice(alloc, directive.handle.as_slice())?,
+        prefix: Vec::from_slice(alloc, directive.prefix.as_slice())?,
+    })
+}
+
+fn copy_directives(
+    alloc: Global,
+    tags: &[yaml_tag_directive_t],
+) -> Result<Vec<yaml_tag_directive_t>, Refusal>
+    ensures ok { IfOk result (λ v. map directive_of v.items ≡ map directive_of tags.now) }
+    ensures err { IfErr result IsMemory }
+{
+    let mut copies = Vec::new(alloc);
+    for tag in tags {
+        copies.push(copy_directive(alloc, tag)?)?;
+    }
+    Ok(copies)
+}
+
+// Version 1.1 or 1.2.
+fn is_known(major: i32, minor: i32) -> bool
+    ensures { result ≡ is_known_version major minor }
+{
+    major == 1 && (minor == 1 || minor == 2)
+}
+
+// A `%YAML` directive.
+fn note_version(
+    directives: &mut Directives,
+    major: i32,
+    minor: i32,
+    at: yaml_mark_t,
+) -> Result<(), Refusal>
+    ensures { Notes (with_version (directives_of directives.old).version (directives_of directives.old).tags major minor at) result (directives_of directives.new) }
+{
+    match directives.version {
+        Some(_) => Err(fault_at(ParseProblem::DuplicateVersion, at, at)),
+        None => {
+            if is_known(major, minor) {
+                directives.version = Some(yaml_version_directive_t { major, minor });
+                Ok(())
+            } else {
+                Err(fault_at(ParseProblem::IncompatibleVersion, at, at))
+            }
+        }
+    }
+}
+
+// A `%TAG` directive.
+fn note_tag(
+    directives: &mut Directives,
+    handle: Vec<u8>,
+    prefix: Vec<u8>,
+    at: yaml_mark_t,
+) -> Result<(), Refusal>
+    ensures { Notes (with_tag (directive_for handle.items (directives_of directives.old).tags) (directives_of directives.old) handle.items prefix.items at) result (directives_of directives.new) }
+{
+    match find_prefix(directives.tags.as_slice(), handle.as_slice()) {
+        Some(_) => Err(fault_at(ParseProblem::DuplicateHandle, at, at)),
+        None => {
+            directives.tags.push(yaml_tag_directive_t { handle, prefix })?;
+            Ok(())
+        }
+    }
+}
+
+// Nothing carries over to the next document.
+fn end_directives(directives: &mut Directives, event: &yaml_event_body_t)
+    ensures { directives_of directives.new ≡ behind_event (body_of event.now) (directives_of directives.old) }
+{
+    match *event {
+        yaml_event_body_t::DocumentEnd { .. } => {
+            directives.version = None;
+            directives.tags.clear();
+        }
+        _ => {}
+    }
+}
+
+// The event of an item, whose place is told besides.
+fn settle_body(
+    alloc: Global,
+    directives: &mut Directives,
+    body: ItemBody,
+    from: yaml_mark_t,
+) -> Result<Option<yaml_event_body_t>, Refusal>
+    ensures { SettlesBody (settle_item_body (item_body_of body) from (directives_of directives.old)) result (directives_of directives.new) }
+{
+    match body {
+        ItemBody::Event(event) => {
+            end_directives(directives, &event);
+            Ok(Some(event))
+        }
+        ItemBody::VersionDirective { major, minor } => {
+            note_version(directives, major, minor, from)?;
+            Ok(None)
+        }
+        ItemBody::TagDirective { handle, prefix } => {
+            note_tag(directives, handle, prefix, from)?;
+            Ok(None)
+        }
+        ItemBody::Document { implicit } => Ok(Some(yaml_event_body_t::DocumentStart {
+            version_directive: directives.version,
+            tag_directives: copy_directives(alloc, directives.tags.as_slice())?,
+            implicit,
+        })),
+        ItemBody::Node { anchor, tag, shape } => {
+            let full = match tag {
+                None => None,
+                Some(tag) => Some(resolve(alloc, directives.tags.as_slice(), tag, from)?),
+            };
+            Ok(Some(node(alloc, anchor, full, shape)))
+        }
+    }
+}
+
+/// The event of an item by the directives of its document, or nothing for a directive.
+pub fn settle(
+    alloc: Global,
+    directives: &mut Directives,
+    item: Item,
+) -> Result<Option<yaml_event_t>, Refusal>
+    ensures { Settles (settle_item (item_of item) (directives_of directives.old)) (item_of item) result (directives_of directives.new) }
+{
+    let start_mark = item.from;
+    let end_mark = item.to;
+    match settle_body(alloc, directives, item.body, start_mark)? {
+        None => Ok(None),
+        Some(body) => Ok(Some(yaml_event_t {
+            body,
+            start_mark,
+            end_mark,
+        })),
+    }
+}

@@ -7,6 +7,7 @@ mod field;
 mod replay;
 mod shown;
 mod tally;
+mod token;
 
 use std::io::{self, BufRead, BufReader};
 use tally::Tally;

@@ -2,7 +2,7 @@
 
 use serde_json::{Value, json};
 use std::alloc::{AllocError, Global};
-use yaml_scan::{yaml_fault_t, yaml_mark_t, yaml_origin_t};
+use yaml_scan::{yaml_encoding_t, yaml_fault_t, yaml_mark_t, yaml_origin_t};
 
 /// Bytes, in hexadecimal digits.
 pub fn bytes(alloc: Global, bytes: &[u8]) -> Result<Value, AllocError> {
@@ -12,6 +12,16 @@ pub fn bytes(alloc: Global, bytes: &[u8]) -> Result<Value, AllocError> {
 /// A mark: index, line, column.
 pub fn mark(alloc: Global, mark: yaml_mark_t) -> Result<Value, AllocError> {
     json!(in alloc; [mark.index, mark.line, mark.column])
+}
+
+/// An encoding: any, utf8, utf16le or utf16be.
+pub fn encoding(encoding: yaml_encoding_t) -> &'static str {
+    match encoding {
+        yaml_encoding_t::YAML_ANY_ENCODING => "any",
+        yaml_encoding_t::YAML_UTF8_ENCODING => "utf8",
+        yaml_encoding_t::YAML_UTF16LE_ENCODING => "utf16le",
+        yaml_encoding_t::YAML_UTF16BE_ENCODING => "utf16be",
+    }
 }
 
 fn origin(origin: yaml_origin_t) -> &'static str {

@@ -1,12 +1,12 @@
 -- Runs of ordinary bytes in plain scalars.
-use Rattle.std.proofs.Common.{◌≡◌, ◌≢◌, ℕ, zero, suc, ◌+◌, ◌-◌, ◌<◌, ◌≤◌, ◌==◌, ◌&&◌, ◌||◌, nat_lt, if◌then◌else◌, Bool, true, false, List, [], ◌∷◌, ◌++◌, length, Result, Ok, Err, refl, sym, ap, ◌∙◌, inl, inr, ◌⊎◌, arith}
+use Rattle.std.proofs.Common.{◌≡◌, ◌≢◌, ℕ, zero, suc, ◌+◌, ◌-◌, ◌<◌, ◌≤◌, ◌==◌, ◌&&◌, if◌then◌else◌, Bool, true, false, List, [], ◌∷◌, ◌++◌, length, Result, Ok, Err, refl, sym, ap, ◌∙◌, arith}
 use Rattle.std.proofs.lemmas.Bool.Decides.{nat_tests}
-use Rattle.yaml_scan_text.specs.Marks.{Place, byte, break_width, is_blank, is_blank_or_end, column_at}
+use Rattle.yaml_scan_text.specs.Marks.{Place, byte}
 use Rattle.yaml_scan_text.specs.Wrong.{Wrong}
 use Rattle.yaml_scan_scalars.specs.declared.joining.Joining.{Joining}
 use Rattle.yaml_scan_scalars.specs.Pieces.{Piece, Kept}
 use Rattle.yaml_scan_scalars.specs.Ordinary.{is_ordinary, bytes_at, kept_run, IsRun}
-use Rattle.yaml_scan_scalars.specs.Plain.{Takes, Words, is_bracket, is_nothing, with_piece, with_run, words_from, words, plain_with, PlainText, spot_at, ends_at, leads, after_white}
+use Rattle.yaml_scan_scalars.specs.Plain.{Takes, Words, is_bracket, is_nothing, with_piece, with_run, words_from, words, plain_with, spot_at, ends_at, leads, after_white}
 use Rattle.yaml_scan_scalars.specs.Joined.{joined, TookWords}
 use Rattle.yaml_scan_scalars.proofs.RunLemmas.{ordinary_is, ordinary_no_break, ordinary_ends_none, ordinary_no_mark, bytes_none, bytes_more, resume_run, few}
 use Rattle.yaml_scan_scalars.proofs.PlainLemmas.{spot_kept, seat_text}
@@ -105,7 +105,7 @@ words_run (suc d) (suc n) flow level text p h l o =
     let here = spot_ordinary flow level text p first (l (omega arith)) in
     let more = words_run d n flow level text (p + 1) (omega arith) (λ s. sym (calm_next text p first).0) (λ k a b. o k (omega arith) (omega arith)) in
     rw (e, f) (words_kept (suc n) flow level text p here ∙ ap (λ r. words_from (Kept (byte text p ∷ [])) (p + 1) r) more
-        ∙ words_more (Kept (byte text p ∷ [])) (p + 1) (with_run text (p + 1) d) (words (suc (n - d)) flow level text (p + 1 + d)))
+    ∙ words_more (Kept (byte text p ∷ [])) (p + 1) (with_run text (p + 1) d) (words (suc (n - d)) flow level text (p + 1 + d)))
 
 plain_front : (old new : Joining) (f : Words → Words) (r : Result Words Wrong) → ((w : Words) → joined new w ≡ joined old (f w)) → plain_with (joined old) (words_with f r) ≡ plain_with (joined new) r
 plain_front old new f (Ok w) h = rw (h w) refl

@@ -1,8 +1,6 @@
-use Rattle.std.proofs.Common.{◌≡◌, ◌∙◌, ◌+◌, ◌-◌, ◌<◌, ◌≤◌, sym, refl, ap, length, true, false, arith}
+use Rattle.std.proofs.Common.{◌≡◌, ◌∙◌, ◌+◌, ◌-◌, ◌<◌, sym, refl, length, arith}
 use Rattle.std.proofs.lemmas.Bool.Decides.{nat_tests}
-use Rattle.yaml_scan_scalars.specs.Ordinary.{bytes_at, IsRun}
-use Rattle.yaml_scan_scalars.specs.Plain.{Words}
-use Rattle.yaml_scan_scalars.specs.Joined.{joined}
+use Rattle.yaml_scan_scalars.specs.Ordinary.{bytes_at}
 use Rattle.yaml_scan_scalars.proofs.RunLemmas.{run_start, run_none, run_some}
 use Rattle.yaml_scan_scalars.proofs.PlainRunLemmas.{joined_run, calm_behind}
 use Rattle.yaml_scan_scalars.proofs.plain.keep_run.Goals as goal

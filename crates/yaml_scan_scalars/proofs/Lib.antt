@@ -3,3 +3,4 @@ pub mod EscapeLemmas
 pub mod QuotedLemmas
 pub mod RunLemmas
 pub mod PlainLemmas
+pub mod PlainRunLemmas

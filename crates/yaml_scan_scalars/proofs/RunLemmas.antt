@@ -75,13 +75,18 @@ slice_bytes text p (suc d) h =
     let more = slice_bytes text (p + 1) d (omega arith) in
     rw (drop_more text p 0 l, more) refl
 
-bytes_none : (text : List ℕ) (p : ℕ) → bytes_at text p 0 ≡ []
+pub bytes_none : (text : List ℕ) (p : ℕ) → bytes_at text p 0 ≡ []
 unfolding bytes_at
 bytes_none text p = refl
 
 pub bytes_more : (text : List ℕ) (p d : ℕ) → bytes_at text p (suc d) ≡ byte text p ∷ bytes_at text (p + 1) d
 unfolding bytes_at
 bytes_more text p d = refl
+
+bytes_long : (text : List ℕ) (p d : ℕ) → length (bytes_at text p d) ≡ d
+unfolding bytes_at
+bytes_long text p zero = refl
+bytes_long text p (suc d) = let more = bytes_long text (p + 1) d in omega arith
 
 pub run_start : (text : List ℕ) (p : ℕ) → IsRun text p (record { text = text; at = p })
 run_start text p = record { same = refl; after = omega arith; ordinary = λ k h l. absurd (omega arith) }
@@ -123,6 +128,18 @@ run_slice text p place r =
       | inl e ↦ let z : place.at - p ≡ 0 = omega arith in rw z (sym (bytes_none text p))
       | inr l ↦ slice_bytes text p (place.at - p) (omega arith)
     ]
+
+pub run_none : (text : List ℕ) (p : ℕ) (place : Place) → IsRun text p place → length (bytes_at text p (place.at - p)) ≡ 0 → place.at ≡ p
+run_none text p place r h =
+    let after = r.after in
+    let l = bytes_long text p (place.at - p) in
+    omega (arith, h)
+
+pub run_some : (text : List ℕ) (p : ℕ) (place : Place) → IsRun text p place → 0 < length (bytes_at text p (place.at - p)) → p < place.at
+run_some text p place r h =
+    let after = r.after in
+    let l = bytes_long text p (place.at - p) in
+    omega (arith, h)
 
 -- a run as one piece
 

@@ -84,6 +84,11 @@ with_piece (Break b) q w =
     if is_nothing w.pieces then record { pieces = []; end = w.end; place = w.place; broke = true }
     else record { pieces = Break b ∷ w.pieces; end = w.end; place = w.place; broke = w.broke }
 
+-- d bytes from p on, each a piece
+abbrev pub with_run : List ℕ → ℕ → ℕ → Words → Words
+with_run text p zero w = w
+with_run text p (suc d) w = with_piece (Kept (byte text p ∷ [])) (p + 1) (with_run text (p + 1) d w)
+
 abbrev pub words_from : Piece → ℕ → Result Words Wrong → Result Words Wrong
 words_from x q (Ok w) = Ok (with_piece x q w)
 words_from x q (Err e) = Err e

@@ -43,13 +43,13 @@ impl Joining {
         })
     }
 
-    /// A character's byte, and the place after it.
-    pub(crate) fn keep(&mut self, byte: u8, end: yaml_mark_t) -> Result<(), AllocError>
-        ensures value { OnOk result ((w : Words) → joined self.new w ≡ joined self.old (with_piece (Kept (byte ∷ [])) end.index w)) }
+    /// Bytes of characters, and the place after them.
+    pub(crate) fn keep(&mut self, bytes: &[u8], end: yaml_mark_t) -> Result<(), AllocError>
+        ensures value { OnOk result ((w : Words) → joined self.new w ≡ joined self.old (with_piece (Kept bytes.now) end.index w)) }
         ensures kept { OnOk result (self.new.kept ≤ length self.new.folding.done.items) }
         ensures seat { OnOk result ((self.new.end ≡ end) × (self.new.broke ≡ false) × (self.new.white ≡ false)) }
     {
-        self.folding.keep(&[byte])?;
+        self.folding.keep(bytes)?;
         self.kept = self.folding.done.len();
         self.end = end;
         self.broke = false;

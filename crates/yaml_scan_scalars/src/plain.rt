@@ -1,12 +1,13 @@
 //! Plain scalars (YAML 1.1, section 9.1.3).
 
-ghost use Rattle.std.specs.Prelude.{◌≡◌, ◌||◌, ◌&&◌, ◌==◌, nat_lt, true};
+ghost use Rattle.std.specs.Prelude.{◌≡◌, ◌||◌, ◌&&◌, ◌==◌, nat_lt, true, OnOk};
 ghost use Rattle.yaml_scan_scalars.specs.Plain as spec;
-ghost use Rattle.yaml_scan_scalars.specs.Joined.{IsJoining, Steps, ReadsPlain};
+ghost use Rattle.yaml_scan_scalars.specs.Joined.{IsJoining, Steps, ReadsPlain, TookWords};
 
 use crate::joining::Joining;
+use crate::run::ordinary_run;
 use crate::scalar::Plain;
-use std::alloc::Global;
+use std::alloc::{AllocError, Global};
 use yaml_scan_text::{Context, Problem, Reader, ScanError, is_blank_byte, yaml_mark_t};
 
 /// The plain scalar that starts here, in flow context or not. The level is the column of the innermost open block
@@ -37,7 +38,24 @@ pub fn plain_scalar(
                 broke,
             });
         }
+        keep_run(reader, &mut joining)?;
     }
+}
+
+/// Takes the ordinary bytes that stand here, but none at a line's start.
+fn keep_run(reader: &mut Reader, joining: &mut Joining) -> Result<(), AllocError>
+    requires { IsJoining reader.old.text reader.old.at joining.old }
+    ensures { OnOk result (TookWords reader.old.text reader.old.at joining.old joining.new reader.new) }
+{
+    if joining.broke {
+        return Ok(());
+    }
+    let bytes = ordinary_run(reader);
+    if bytes.is_empty() {
+        return Ok(());
+    }
+    joining.keep(bytes, reader.mark())?;
+    Ok(())
 }
 
 /// Takes what stands here, and answers whether it belongs to the scalar.
@@ -72,7 +90,7 @@ fn piece(
         return Err(wrong_plain(Problem::UnexpectedColon, start, reader.mark()));
     }
     reader.skip();
-    joining.keep(byte, reader.mark())?;
+    joining.keep(&[byte], reader.mark())?;
     Ok(true)
 }
 

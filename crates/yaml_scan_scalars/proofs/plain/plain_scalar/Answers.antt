@@ -3,9 +3,10 @@ use Rattle.std.proofs.lemmas.Result.{err_from_is_err_and}
 use Rattle.yaml_scan_text.specs.Marks.{byte}
 use Rattle.yaml_scan_scalars.specs.Pieces.{Kept}
 use Rattle.yaml_scan_scalars.specs.Plain.{words, plain_text, with_piece, Words, spot_at}
-use Rattle.yaml_scan_scalars.specs.Joined.{joined, Steps}
+use Rattle.yaml_scan_scalars.specs.Joined.{joined, Steps, TookWords}
 use Rattle.yaml_scan_text.proofs.MarksLemmas.{within}
 use Rattle.yaml_scan_scalars.proofs.PlainLemmas.{plain_start, seat_text, plain_first, turn_more, turn_done, turn_refused}
+use Rattle.yaml_scan_scalars.proofs.PlainRunLemmas.{plain_run}
 use Rattle.yaml_scan_scalars.proofs.plain.plain_scalar.Goals as goal
 
 pub skip-requires-clause-inside : goal.skip-requires-clause-inside
@@ -62,4 +63,25 @@ pieces-preserved c =
     let took : Steps c.args.reader.now.text c.mark-start.result c.pieces.reader.at c.pieces.joining c.piece.new.joining c.piece.new.reader (Ok true) (spot_at c.args.flow c.args.level c.args.reader.now.text c.pieces.reader.at) = rw (← c.pieces.invariant.text) here in
     let next = turn_more c.args.flow c.args.level c.args.reader.now.text c.mark-start.result c.pieces.reader.at n c.pieces.joining c.piece.new.joining c.piece.new.reader took room in
     let (m, more, rest) = next.rest in
-    record { text = next.same; start = c.pieces.invariant.start; seat = rw next.same next.seat; rest = (m, more, same ∙ rest) }
+    let ran : TookWords c.args.reader.now.text c.piece.new.reader.at c.piece.new.joining c.keep_run.new.joining c.keep_run.new.reader = rw next.same at c.in_ok-keep_run.ensures in
+    let (k, room2, rest2) = plain_run m c.args.flow c.args.level c.args.reader.now.text c.piece.new.reader.at c.piece.new.joining c.keep_run.new.joining c.keep_run.new.reader ran more in
+    record { text = ran.run.same; start = c.pieces.invariant.start; seat = rw ran.run.same ran.seat; rest = (k, room2, same ∙ rest ∙ rest2) }
+
+pub keep_run-requires : goal.keep_run-requires
+keep_run-requires c =
+    let (n, room, same) = c.pieces.invariant.rest in
+    let here = rw c.if-not-more.false at c.in_ok-more.ensures in
+    let took : Steps c.args.reader.now.text c.mark-start.result c.pieces.reader.at c.pieces.joining c.piece.new.joining c.piece.new.reader (Ok true) (spot_at c.args.flow c.args.level c.args.reader.now.text c.pieces.reader.at) = rw (← c.pieces.invariant.text) here in
+    let next = turn_more c.args.flow c.args.level c.args.reader.now.text c.mark-start.result c.pieces.reader.at n c.pieces.joining c.piece.new.joining c.piece.new.reader took room in
+    rw next.same next.seat
+
+pub pieces-smaller : goal.pieces-smaller
+pieces-smaller c =
+    let (n, room, same) = c.pieces.invariant.rest in
+    let here = rw c.if-not-more.false at c.in_ok-more.ensures in
+    let took : Steps c.args.reader.now.text c.mark-start.result c.pieces.reader.at c.pieces.joining c.piece.new.joining c.piece.new.reader (Ok true) (spot_at c.args.flow c.args.level c.args.reader.now.text c.pieces.reader.at) = rw (← c.pieces.invariant.text) here in
+    let next = turn_more c.args.flow c.args.level c.args.reader.now.text c.mark-start.result c.pieces.reader.at n c.pieces.joining c.piece.new.joining c.piece.new.reader took room in
+    let further = next.further in
+    let inside = next.inside in
+    let after = c.in_ok-keep_run.ensures.run.after in
+    omega arith

@@ -1,0 +1,122 @@
+-- Runs of ordinary bytes in plain scalars.
+use Rattle.std.proofs.Common.{◌≡◌, ◌≢◌, ℕ, zero, suc, ◌+◌, ◌-◌, ◌<◌, ◌≤◌, ◌==◌, ◌&&◌, if◌then◌else◌, Bool, true, false, List, [], ◌∷◌, ◌++◌, length, Result, Ok, Err, refl, sym, ap, ◌∙◌, arith}
+use Rattle.std.proofs.lemmas.Bool.Decides.{nat_tests}
+use Rattle.yaml_scan_text.specs.Marks.{Place, byte}
+use Rattle.yaml_scan_text.specs.Wrong.{Wrong}
+use Rattle.yaml_scan_scalars.specs.declared.joining.Joining.{Joining}
+use Rattle.yaml_scan_scalars.specs.Pieces.{Piece, Kept}
+use Rattle.yaml_scan_scalars.specs.Ordinary.{is_ordinary, bytes_at, kept_run, IsRun}
+use Rattle.yaml_scan_scalars.specs.Plain.{Takes, Words, is_bracket, is_nothing, with_piece, with_run, words_from, words, plain_with, spot_at, ends_at, leads, after_white}
+use Rattle.yaml_scan_scalars.specs.Joined.{joined, TookWords}
+use Rattle.yaml_scan_scalars.proofs.RunLemmas.{ordinary_is, ordinary_no_break, ordinary_ends_none, ordinary_no_mark, bytes_none, bytes_more, resume_run, few}
+use Rattle.yaml_scan_scalars.proofs.PlainLemmas.{spot_kept, seat_text}
+
+-- many pieces or one
+
+some_run : (text : List ℕ) (p d : ℕ) (ps : List Piece) → is_nothing (kept_run (bytes_at text p (suc d)) ++ ps) ≡ false
+some_run text p d ps = rw (bytes_more text p d) refl
+
+with_run_is : (text : List ℕ) (p d : ℕ) (w : Words)
+    → with_run text p (suc d) w ≡ record { pieces = kept_run (bytes_at text p (suc d)) ++ w.pieces; end = if is_nothing w.pieces then p + suc d else w.end; place = w.place; broke = w.broke }
+with_run_is text p zero w =
+    let e : p + 1 ≡ p + suc zero = omega arith in
+    rw (bytes_more text p 0, bytes_none text (p + 1)) refl
+with_run_is text p (suc d) w =
+    let e : p + suc (suc d) ≡ p + 1 + suc d = omega arith in
+    ap (λ x. with_piece (Kept (byte text p ∷ [])) (p + 1) x) (with_run_is text (p + 1) d w) ∙ rw (some_run text (p + 1) d w.pieces, bytes_more text p (suc d), e) refl
+
+joined_parts : (j : Joining) (bs : List ℕ) (e place : ℕ) (broke : Bool) (ps : List Piece) → 0 < length bs
+    → joined j (record { pieces = Kept bs ∷ ps; end = e; place = place; broke = broke }) ≡ joined j (record { pieces = kept_run bs ++ ps; end = e; place = place; broke = broke })
+unfolding joined
+joined_parts j [] e place broke ps h = absurd (omega arith)
+joined_parts j (b ∷ bs) e place broke ps h = rw (resume_run j.folding b bs ps) refl
+
+pub joined_run : (text : List ℕ) (p d q : ℕ) (j : Joining) (w : Words) → q ≡ p + d → 0 < length (bytes_at text p d)
+    → joined j (with_piece (Kept (bytes_at text p d)) q w) ≡ joined j (with_run text p d w)
+joined_run text p zero q j w e h = absurd (let n = ap length (bytes_none text p) in omega (arith, n))
+joined_run text p (suc d) q j w e h =
+    rw (with_run_is text p d w, e) (joined_parts j (bytes_at text p (suc d)) (if is_nothing w.pieces then p + suc d else w.end) w.place w.broke w.pieces h)
+
+-- what follows a run
+
+no_bracket : (b : ℕ) → is_ordinary b ≡ true → is_bracket b ≡ false
+unfolding is_ordinary is_bracket
+no_bracket b h = grind (arith, nat_tests)
+
+differs : (b n : ℕ) → b ≢ n → (b == n) ≡ false
+differs b n h = grind (arith, nat_tests)
+
+ends_ordinary : (flow : Bool) (level : ℕ) (text : List ℕ) (p : ℕ) → is_ordinary (byte text p) ≡ true → leads text p ≡ false → ends_at flow level text p ≡ false
+unfolding ends_at
+ends_ordinary true level text p h l =
+    let o = ordinary_is (byte text p) h in
+    let some = o.some in
+    rw (ordinary_no_mark text p h, differs (byte text p) 0 (omega arith), differs (byte text p) 35 o.no_hash, differs (byte text p) 58 o.no_colon, no_bracket (byte text p) h) refl
+ends_ordinary false level text p h l =
+    let o = ordinary_is (byte text p) h in
+    let some = o.some in
+    rw (ordinary_no_mark text p h, differs (byte text p) 0 (omega arith), differs (byte text p) 35 o.no_hash, differs (byte text p) 58 o.no_colon, l) refl
+
+no_colon_test : (flow : Bool) (b : ℕ) (x : Bool) → b ≢ 58 → (flow && (b == 58 && x)) ≡ false
+no_colon_test flow b x h = grind (arith, nat_tests)
+
+spot_ordinary : (flow : Bool) (level : ℕ) (text : List ℕ) (p : ℕ) → is_ordinary (byte text p) ≡ true → leads text p ≡ false → spot_at flow level text p ≡ Takes (Kept (byte text p ∷ [])) (p + 1)
+spot_ordinary flow level text p h l =
+    let o = ordinary_is (byte text p) h in
+    spot_kept flow level text p (ordinary_no_break _ _ _ h) o.no_blank (ends_ordinary flow level text p h l) (no_colon_test flow (byte text p) _ o.no_colon)
+
+pub calm_next : (text : List ℕ) (p : ℕ) → is_ordinary (byte text p) ≡ true → (false ≡ leads text (p + 1)) × (false ≡ after_white text (p + 1))
+calm_next text p h = let o = ordinary_is (byte text p) h in seat_text text p o.no_blank (ordinary_ends_none _ _ _ _ h)
+
+-- behind a run
+pub calm_behind : (text : List ℕ) (p : ℕ) (place : Place) → IsRun text p place → p < place.at → (false ≡ leads text place.at) × (false ≡ after_white text place.at)
+calm_behind text p place run h =
+    let last : place.at - 1 + 1 ≡ place.at = omega arith in
+    rw last at (calm_next text (place.at - 1) (run.ordinary (place.at - 1) (omega arith) (omega arith)))
+
+abbrev words_with : (Words → Words) → Result Words Wrong → Result Words Wrong
+words_with f (Ok w) = Ok (f w)
+words_with f (Err e) = Err e
+
+words_kept : (n : ℕ) (flow : Bool) (level : ℕ) (text : List ℕ) (p : ℕ) → spot_at flow level text p ≡ Takes (Kept (byte text p ∷ [])) (p + 1)
+    → words (suc n) flow level text p ≡ words_from (Kept (byte text p ∷ [])) (p + 1) (words n flow level text (p + 1))
+unfolding words
+words_kept n flow level text p h = rw h refl
+
+words_none : (r : Result Words Wrong) → r ≡ words_with (λ w. w) r
+words_none (Ok w) = refl
+words_none (Err e) = refl
+
+words_more : (x : Piece) (q : ℕ) (f : Words → Words) (r : Result Words Wrong) → words_from x q (words_with f r) ≡ words_with (λ w. with_piece x q (f w)) r
+words_more x q f (Ok w) = refl
+words_more x q f (Err e) = refl
+
+words_run : (d n : ℕ) (flow : Bool) (level : ℕ) (text : List ℕ) (p : ℕ) → d ≤ n → (0 < d → leads text p ≡ false) → ((k : ℕ) → p ≤ k → k < p + d → is_ordinary (byte text k) ≡ true)
+    → words (suc n) flow level text p ≡ words_with (with_run text p d) (words (suc (n - d)) flow level text (p + d))
+words_run zero n flow level text p h l o =
+    let e : n - 0 ≡ n = omega arith in
+    let f : p + 0 ≡ p = omega arith in
+    rw (e, f) (words_none (words (suc n) flow level text p))
+words_run (suc d) zero flow level text p h l o = absurd (omega arith)
+words_run (suc d) (suc n) flow level text p h l o =
+    let e : suc n - suc d ≡ n - d = omega arith in
+    let f : p + suc d ≡ p + 1 + d = omega arith in
+    let first = o p (omega arith) (omega arith) in
+    let here = spot_ordinary flow level text p first (l (omega arith)) in
+    let more = words_run d n flow level text (p + 1) (omega arith) (λ s. sym (calm_next text p first).0) (λ k a b. o k (omega arith) (omega arith)) in
+    rw (e, f) (words_kept (suc n) flow level text p here ∙ ap (λ r. words_from (Kept (byte text p ∷ [])) (p + 1) r) more
+    ∙ words_more (Kept (byte text p ∷ [])) (p + 1) (with_run text (p + 1) d) (words (suc (n - d)) flow level text (p + 1 + d)))
+
+plain_front : (old new : Joining) (f : Words → Words) (r : Result Words Wrong) → ((w : Words) → joined new w ≡ joined old (f w)) → plain_with (joined old) (words_with f r) ≡ plain_with (joined new) r
+plain_front old new f (Ok w) h = rw (h w) refl
+plain_front old new f (Err e) h = refl
+
+pub plain_run : (n : ℕ) (flow : Bool) (level : ℕ) (text : List ℕ) (p : ℕ) (old new : Joining) (place : Place) → TookWords text p old new place → length text ≤ p + n
+    → (m : ℕ) × (length text ≤ place.at + m) × (plain_with (joined old) (words (suc n) flow level text p) ≡ plain_with (joined new) (words (suc m) flow level text place.at))
+plain_run n flow level text p old new place took room =
+    let run = took.run in
+    let after = run.after in
+    let d : place.at - p ≤ n = few text p n place run room in
+    let at : p + (place.at - p) ≡ place.at = omega arith in
+    let all = words_run (place.at - p) n flow level text p d (λ s. took.calm (omega arith)) (λ k a b. run.ordinary k a (omega arith)) in
+    (n - (place.at - p), omega arith, rw at at (ap (λ r. plain_with (joined old) r) all ∙ plain_front old new (with_run text p (place.at - p)) (words (suc (n - (place.at - p))) flow level text (p + (place.at - p))) took.value))

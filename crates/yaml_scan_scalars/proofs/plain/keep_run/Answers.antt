@@ -1,0 +1,51 @@
+use Rattle.std.proofs.Common.{◌≡◌, ◌∙◌, ◌+◌, ◌-◌, ◌<◌, sym, refl, length, arith}
+use Rattle.std.proofs.lemmas.Bool.Decides.{nat_tests}
+use Rattle.yaml_scan_scalars.specs.Ordinary.{bytes_at}
+use Rattle.yaml_scan_scalars.proofs.RunLemmas.{run_start, run_none, run_some}
+use Rattle.yaml_scan_scalars.proofs.PlainRunLemmas.{joined_run, calm_behind}
+use Rattle.yaml_scan_scalars.proofs.plain.keep_run.Goals as goal
+
+pub returns-then-joining : goal.returns-then-joining
+returns-then-joining c =
+    let p = c.args.reader.now.at in
+    let z : p - p ≡ 0 = omega arith in
+    record { run = run_start c.args.reader.now.text p; calm = λ l. absurd (omega arith); value = λ w. rw z refl; seat = c.requires }
+
+pub returns-then-is_empty : goal.returns-then-is_empty
+returns-then-is_empty c =
+    let text = c.args.reader.now.text in
+    let p = c.args.reader.now.at in
+    let place = c.ordinary_run-bytes.new.reader in
+    let run = c.ordinary_run-bytes.ensures.place in
+    let len : length c.ordinary_run-bytes.result.now ≡ 0 = grind (arith, nat_tests, c.is_empty.ensures, c.if-is_empty.true) in
+    let none : length (bytes_at text p (place.at - p)) ≡ 0 = rw c.ordinary_run-bytes.ensures.bytes at len in
+    let at : place.at ≡ p = run_none text p place run none in
+    let z : place.at - p ≡ 0 = omega arith in
+    record { run = run; calm = λ l. absurd (omega arith); value = λ w. rw z refl; seat = rw at c.requires }
+
+pub returns : goal.returns
+returns c =
+    let text = c.args.reader.now.text in
+    let p = c.args.reader.now.at in
+    let place = c.ordinary_run-bytes.new.reader in
+    let run = c.ordinary_run-bytes.ensures.place in
+    let bytes = c.ordinary_run-bytes.ensures.bytes in
+    let len : 0 < length c.ordinary_run-bytes.result.now = grind (arith, nat_tests, c.is_empty.ensures, c.if-is_empty.false) in
+    let some : 0 < length (bytes_at text p (place.at - p)) = rw bytes at len in
+    let more : p < place.at = run_some text p place run some in
+    let q : place.at ≡ p + (place.at - p) = omega arith in
+    let m = c.mark.ensures in
+    let kept = rw (bytes, m) at c.in_ok-keep.ensures.value in
+    let behind = calm_behind text p place run more in
+    let seat = rw (m, run.same) at c.in_ok-keep.ensures.seat in
+    record {
+      run = run;
+      calm = λ l. sym c.requires.broke ∙ c.if-joining.false;
+      value = λ w. kept w ∙ joined_run text p (place.at - p) place.at c.args.joining.now w q some;
+      seat = record {
+        kept = c.in_ok-keep.ensures.kept;
+        end = rw seat.0 refl;
+        broke = seat.1 ∙ behind.0;
+        white = seat.2 ∙ behind.1;
+      };
+    }

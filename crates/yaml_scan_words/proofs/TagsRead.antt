@@ -1,14 +1,14 @@
 -- Tags that are written.
-use Rattle.std.proofs.Common.{◌≡◌, ◌≢◌, ℕ, zero, suc, ◌+◌, ◌-◌, ◌<◌, ◌≤◌, ◌==◌, ◌&&◌, ◌||◌, nat_lt, Bool, true, false, not, List, [], ◌∷◌, ◌++◌, length, slice_range, Ok, refl, sym, ap, subst, ◌∙◌, inl, inr, ◌⊎◌, append_assoc, arith, length-append}
+use Rattle.std.proofs.Common.{◌≡◌, ◌≢◌, ℕ, suc, ◌+◌, ◌<◌, ◌≤◌, ◌==◌, ◌&&◌, ◌||◌, Bool, true, false, not, List, [], ◌∷◌, ◌++◌, length, slice_range, Ok, refl, sym, ◌∙◌, inl, inr, ◌⊎◌, append_assoc, arith, length-append}
 use Rattle.std.proofs.lemmas.Bool.{cases_Bool, true≢false}
 use Rattle.std.proofs.lemmas.Bool.Decides.{nat_tests}
 use Rattle.yaml_scan_text.specs.declared.problem.Context.TheVariants as contexts
-use Rattle.yaml_scan_text.specs.Marks.{byte, break_of, break_width, is_blank, is_blank_or_end}
+use Rattle.yaml_scan_text.specs.Marks.{byte, break_width, is_blank}
 use Rattle.yaml_scan_text.specs.Classes.{is_alpha_byte, is_digit_byte}
 use Rattle.yaml_scan_text.proofs.MarksLemmas.{no_break, within}
 use Rattle.yaml_scan_words.specs.declared.run.Run.TheVariants as runs
-use Rattle.yaml_scan_words.specs.Runs.{belongs, run_within, run_end}
-use Rattle.yaml_scan_words.specs.Uris.{is_sign, is_wide_sign, is_uri, uri_at, some_uri_at}
+use Rattle.yaml_scan_words.specs.Runs.{belongs, run_within}
+use Rattle.yaml_scan_words.specs.Uris.{is_sign, is_wide_sign, is_uri}
 use Rattle.yaml_scan_words.specs.Tags.{name_end, parts_at, may_end_tag, tag_at}
 use Rattle.yaml_scan_words.specs.Written.{HasAt, are_alphas, UriPiece, raw, escape, uri_text, uri_bytes, is_kept, IsUri, has_no_mark}
 use Rattle.yaml_scan_words.proofs.RunsLemmas.{run_more, run_stop}

@@ -1,16 +1,14 @@
 -- URIs that are written.
-use Rattle.std.proofs.Common.{◌≡◌, ◌≢◌, ℕ, zero, suc, ◌+◌, ◌-◌, ◌*◌, ◌/◌, ◌%◌, ◌<◌, ◌≤◌, ◌==◌, ◌&&◌, ◌||◌, nat_lt, nat_le, Bool, true, false, not, List, [], ◌∷◌, ◌++◌, length, Some, Result, Ok, refl, sym, ap, ◌∙◌, inl, inr, ◌⊎◌, arith}
+use Rattle.std.proofs.Common.{◌≡◌, ◌≢◌, ℕ, suc, ◌+◌, ◌*◌, ◌/◌, ◌%◌, ◌<◌, ◌≤◌, ◌==◌, ◌&&◌, ◌||◌, Bool, true, false, List, [], ◌∷◌, length, Some, Ok, refl, sym, ap, ◌∙◌, inl, inr, ◌⊎◌, arith}
 use Rattle.std.proofs.lemmas.Bool.{cases_Bool, true≢false}
 use Rattle.std.proofs.lemmas.Bool.Decides.{nat_tests}
 use Rattle.yaml_scan_text.specs.declared.problem.Context.{Context}
-use Rattle.yaml_scan_text.specs.declared.problem.Problem.{Problem}
 use Rattle.yaml_scan_text.specs.Marks.{byte}
 use Rattle.yaml_scan_text.specs.Classes.{is_alpha_byte, is_digit_byte}
-use Rattle.yaml_scan_text.specs.Wrong.{Wrong}
-use Rattle.yaml_scan_words.specs.Uris.{is_sign, is_wide_sign, is_uri, hex_digit, octet_of, octet_at, due_behind, Spot, Spells, Ends, escape_spot, octet_spot, spot_at, with_bytes, uri_within, uri_at}
-use Rattle.yaml_scan_words.specs.Written.{HasAt, UriPiece, raw, escape, capital, uri_text, uri_bytes, is_kept, IsUri}
+use Rattle.yaml_scan_words.specs.Uris.{is_sign, is_wide_sign, is_uri, hex_digit, octet_at, due_behind, Spells, Ends, spot_at, with_bytes, uri_within, uri_at}
+use Rattle.yaml_scan_words.specs.Written.{UriPiece, raw, escape, capital, uri_text, uri_bytes, is_kept, IsUri}
 use Rattle.yaml_scan_words.proofs.UrisLemmas.{uri_more, no_bytes}
-use Rattle.yaml_scan_words.proofs.HasLemmas.{Has, has}
+use Rattle.yaml_scan_words.proofs.HasLemmas.{Has}
 
 capital_digit : (d : ℕ) → d < 16 → hex_digit (capital d) ≡ Some d
 unfolding hex_digit capital

@@ -1,5 +1,5 @@
 -- What is written is read back, wherever a text has it and whatever follows.
-use Rattle.std.specs.Prelude.{ℕ, ◌+◌, ◌<◌, ◌==◌, ◌||◌, not, Bool, true, false, List, [], ◌∷◌, ◌++◌, ◌≡◌, length, Ok}
+use Rattle.std.specs.Prelude.{ℕ, ◌+◌, ◌<◌, ◌==◌, ◌||◌, Bool, true, false, List, [], ◌∷◌, ◌++◌, ◌≡◌, length, Ok}
 use Rattle.yaml_scan_text.specs.declared.problem.Context.{Context}
 use Rattle.yaml_scan_text.specs.Marks.{byte}
 use Rattle.yaml_scan_words.specs.Between.{gap_at}

@@ -1,5 +1,5 @@
 -- Texts that are written.
-use Rattle.std.specs.Prelude.{ℕ, zero, suc, ◌+◌, ◌<◌, ◌/◌, ◌%◌, Bool, true, false, not, ◌&&◌, ◌||◌, ◌==◌, nat_lt, if◌then◌else◌, List, [], ◌∷◌, ◌++◌, ◌≡◌, length, get_or, Result, Ok}
+use Rattle.std.specs.Prelude.{ℕ, ◌+◌, ◌<◌, ◌/◌, ◌%◌, Bool, true, false, not, ◌&&◌, ◌||◌, ◌==◌, nat_lt, if◌then◌else◌, List, [], ◌∷◌, ◌++◌, ◌≡◌, length, get_or, Ok}
 use Rattle.yaml_scan_text.specs.Marks.{byte, break_width}
 use Rattle.yaml_scan_text.specs.Classes.{is_alpha_byte, is_bom}
 use Rattle.yaml_scan_words.specs.Uris.{is_sign, is_wide_sign, due_behind}

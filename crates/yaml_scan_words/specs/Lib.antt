@@ -9,3 +9,5 @@ pub mod Tags
 pub mod TagsGiven
 pub mod Directives
 pub mod DirectivesGiven
+pub mod Written
+pub mod Laws

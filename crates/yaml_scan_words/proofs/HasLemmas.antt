@@ -1,0 +1,45 @@
+-- Texts that have some bytes.
+use Rattle.std.proofs.Common.{◌≡◌, ℕ, zero, suc, ◌+◌, ◌-◌, ◌<◌, ◌≤◌, List, [], ◌∷◌, ◌++◌, length, get_or, take, drop, slice_range, refl, ap, subst, ◌∙◌, arith, add-zero, length-take, length-drop}
+use Rattle.std.proofs.lemmas.List.{get_or-take, get_or-drop}
+use Rattle.std.proofs.lemmas.Grind.{same_number_lists}
+use Rattle.yaml_scan_text.specs.Marks.{byte}
+use Rattle.yaml_scan_words.specs.Written.{HasAt}
+
+-- the text has these bytes from the place on, by recursion
+abbrev pub Has : List ℕ → ℕ → List ℕ → Type 0
+Has text p [] = Unit {0}
+Has text p (x ∷ xs) = (byte text p ≡ x) × Has text (p + 1) xs
+
+pub has : (text : List ℕ) (p : ℕ) (xs : List ℕ) → HasAt text p xs → Has text p xs
+has text p [] h = tt
+has text p (x ∷ xs) h =
+    let first : byte text (p + 0) ≡ x = h 0 (omega arith) in
+    (rw add-zero at first, has text (p + 1) xs (λ k l. let e : p + 1 + k ≡ p + suc k = omega arith in ap (λ q. byte text q) e ∙ h (suc k) (omega arith)))
+
+pub has_front : (text : List ℕ) (p : ℕ) (xs ys : List ℕ) → Has text p (xs ++ ys) → Has text p xs
+has_front text p [] ys h = tt
+has_front text p (x ∷ xs) ys (e, h) = (e, has_front text (p + 1) xs ys h)
+
+pub has_rest : (text : List ℕ) (p : ℕ) (xs ys : List ℕ) → Has text p (xs ++ ys) → Has text (p + length xs) ys
+has_rest text p [] ys h = rw add-zero h
+has_rest text p (x ∷ xs) ys (e, h) =
+    let same : p + 1 + length xs ≡ p + suc (length xs) = omega arith in
+    subst (λ q. Has text q ys) same (has_rest text (p + 1) xs ys h)
+
+has_at : (text : List ℕ) (p : ℕ) (xs : List ℕ) → Has text p xs → HasAt text p xs
+has_at text p [] h k l = absurd (omega arith)
+has_at text p (x ∷ xs) (e, h) zero l = rw add-zero e
+has_at text p (x ∷ xs) (e, h) (suc k) l =
+    let same : p + 1 + k ≡ p + suc k = omega arith in
+    subst (λ q. byte text q ≡ get_or xs k 0) same (has_at text (p + 1) xs h k (omega arith))
+
+read_at : (text : List ℕ) (p n k : ℕ) → k < n → get_or (take n (drop p text)) k 0 ≡ byte text (p + k)
+read_at text p n k l = rw (get_or-take n (drop p text) k 0 l, get_or-drop p text k 0) refl
+
+-- what stands between two places
+pub range_reads : (text : List ℕ) (p : ℕ) (xs : List ℕ) → Has text p xs → p + length xs ≤ length text → slice_range text p (p + length xs) ≡ xs
+range_reads text p xs h l =
+    let count : p + length xs - p ≡ length xs = omega arith in
+    let len : length (take (length xs) (drop p text)) ≡ length xs = rw (length-take, length-drop) (omega arith) in
+    rw count (same_number_lists (take (length xs) (drop p text)) xs len
+    (λ k m. let n : k < length xs = rw len at m in read_at text p (length xs) k n ∙ has_at text p xs h k n))

@@ -1,0 +1,198 @@
+-- Tags that are written.
+use Rattle.std.proofs.Common.{◌≡◌, ◌≢◌, ℕ, suc, ◌+◌, ◌<◌, ◌≤◌, ◌==◌, ◌&&◌, ◌||◌, Bool, true, false, not, List, [], ◌∷◌, ◌++◌, length, slice_range, Ok, refl, sym, ◌∙◌, inl, inr, ◌⊎◌, append_assoc, arith, length-append}
+use Rattle.std.proofs.lemmas.Bool.{cases_Bool, true≢false}
+use Rattle.std.proofs.lemmas.Bool.Decides.{nat_tests}
+use Rattle.yaml_scan_text.specs.declared.problem.Context.TheVariants as contexts
+use Rattle.yaml_scan_text.specs.Marks.{byte, break_width, is_blank}
+use Rattle.yaml_scan_text.specs.Classes.{is_alpha_byte, is_digit_byte}
+use Rattle.yaml_scan_text.proofs.MarksLemmas.{no_break, within}
+use Rattle.yaml_scan_words.specs.declared.run.Run.TheVariants as runs
+use Rattle.yaml_scan_words.specs.Runs.{belongs, run_within}
+use Rattle.yaml_scan_words.specs.Uris.{is_sign, is_wide_sign, is_uri}
+use Rattle.yaml_scan_words.specs.Tags.{name_end, parts_at, may_end_tag, tag_at}
+use Rattle.yaml_scan_words.specs.Written.{HasAt, are_alphas, UriPiece, raw, escape, uri_text, uri_bytes, is_kept, IsUri, has_no_mark}
+use Rattle.yaml_scan_words.proofs.RunsLemmas.{run_more, run_stop}
+use Rattle.yaml_scan_words.proofs.UrisLemmas.{uri_range}
+use Rattle.yaml_scan_words.proofs.HasLemmas.{Has, has, has_front, has_rest, range_reads}
+use Rattle.yaml_scan_words.proofs.NamesRead.{alpha_at, no_alpha_at, alphas_run}
+use Rattle.yaml_scan_words.proofs.UrisRead.{uri_is_read}
+
+either : (a b : Bool) → (a || b) ≡ true → (a ≡ true) ⊎ (b ≡ true)
+either true b h = inl refl
+either false b h = inr h
+
+pair : (a b : Bool) → (a && b) ≡ true → (a ≡ true) × (b ≡ true)
+pair true b h = (refl, h)
+pair false b h = absurd (true≢false (sym h))
+
+equal_of : (a b : ℕ) → (a == b) ≡ true → a ≡ b
+equal_of a b h = grind (arith, nat_tests)
+
+alpha_none : (b : ℕ) → is_alpha_byte b ≡ true → (b ≢ 44) × (b ≢ 60) × (32 < b) × (b < 127)
+unfolding is_alpha_byte is_digit_byte
+alpha_none b h = (grind (arith, nat_tests), grind (arith, nat_tests), grind (arith, nat_tests), grind (arith, nat_tests))
+
+sign_none : (b : ℕ) → is_sign b ≡ true → (b ≢ 44) × (b ≢ 60)
+unfolding is_sign
+sign_none b h = (grind (arith, nat_tests), grind (arith, nat_tests))
+
+-- what is kept in a shorthand tag is neither `,` nor `<`
+kept_none : (b : ℕ) → is_kept false b ≡ true → (b ≢ 44) × (b ≢ 60)
+kept_none b h =
+    elim (either (is_alpha_byte b) (is_sign b || false) h) [
+      | inl a ↦ let (comma, angle, low, high) = alpha_none b a in (comma, angle)
+      | inr more ↦ elim (either (is_sign b) false more) [
+        | inl s ↦ sign_none b s
+        | inr w ↦ absurd (true≢false (sym w))
+      ]
+    ]
+
+blank_none : (b : ℕ) → 32 < b → (is_blank b || b == 0) ≡ false
+blank_none b h = grind (arith, nat_tests)
+
+comma_none : (flow : Bool) (b : ℕ) → b ≢ 44 → (flow && b == 44) ≡ false
+comma_none true b h = grind (arith, nat_tests)
+comma_none false b h = refl
+
+-- a printed character that is no `,` ends no tag
+goes_on : (flow : Bool) (text : List ℕ) (p : ℕ) → 32 < byte text p → byte text p < 127 → byte text p ≢ 44 → may_end_tag flow text p ≡ false
+goes_on flow text p low high comma =
+    let none : break_width text p ≡ 0 = no_break _ _ _ (omega arith) (omega arith) (omega arith) (omega arith) in
+    rw (blank_none (byte text p) low, none, comma_none flow (byte text p) comma) refl
+
+ends_other : (flow : Bool) (text : List ℕ) (p b : ℕ) → may_end_tag flow text p ≡ true → byte text p ≡ b → 32 < b → b < 127 → b ≢ 44 → ⊥
+ends_other flow text p b h e low high comma = true≢false (sym h ∙ goes_on flow text p (omega arith) (omega arith) (omega (arith, e, comma)))
+
+uri_stops : (flow : Bool) (text : List ℕ) (p : ℕ) → may_end_tag flow text p ≡ true → (byte text p == 37 || is_uri false text p) ≡ false
+uri_stops flow text p h =
+    elim (cases_Bool (byte text p == 37)) [
+      | inl e ↦ absurd (ends_other flow text p 37 h (equal_of _ _ e) (omega arith) (omega arith) (omega arith))
+      | inr e ↦ elim (cases_Bool (is_uri false text p)) [
+        | inl u ↦
+            let (low, high) = uri_range false text p u in
+            let (comma, angle) = kept_none (byte text p) u in
+            absurd (ends_other flow text p (byte text p) h refl low high comma)
+        | inr u ↦ rw (e, u) refl
+      ]
+    ]
+
+alpha_stops : (flow : Bool) (text : List ℕ) (p : ℕ) → may_end_tag flow text p ≡ true → belongs runs.Alphas text p ≡ false
+alpha_stops flow text p h =
+    elim (cases_Bool (is_alpha_byte (byte text p))) [
+      | inl a ↦
+          let (comma, angle, low, high) = alpha_none (byte text p) a in
+          absurd (ends_other flow text p (byte text p) h refl low high comma)
+      | inr a ↦ no_alpha_at text p a
+    ]
+
+percent_alpha : is_alpha_byte 37 ≡ false
+unfolding is_alpha_byte is_digit_byte
+percent_alpha = refl
+
+mark_alpha : is_alpha_byte 33 ≡ false
+unfolding is_alpha_byte is_digit_byte
+mark_alpha = refl
+
+unequal : (b n : ℕ) → not (b == n) ≡ true → b ≢ n
+unequal b n h = grind (arith, nat_tests)
+
+-- no `!` stands behind the alphas of a URI without one
+unmarked : (pieces : List UriPiece) (n : ℕ) (text : List ℕ) (p : ℕ) → Has text p (uri_text pieces) → has_no_mark pieces ≡ true
+    → byte text (p + length (uri_text pieces)) ≢ 33 → belongs runs.Alphas text (p + length (uri_text pieces)) ≡ false → length text ≤ p + n
+    → byte text (run_within n runs.Alphas text p) ≢ 33
+unmarked [] n text p h free mark stop room =
+    let z : p + 0 ≡ p = omega arith in
+    let here : belongs runs.Alphas text p ≡ false = rw z at stop in
+    rw (run_stop n runs.Alphas text p here) (rw z at mark)
+unmarked (raw b ∷ pieces) n text p (e, h) free mark stop room =
+    let (first, rest) = pair (not (b == 33)) (has_no_mark pieces) free in
+    let end : p + suc (length (uri_text pieces)) ≡ p + 1 + length (uri_text pieces) = omega arith in
+    elim (cases_Bool (is_alpha_byte b)) [
+      | inl a ↦
+          let (m, more, same) = run_more n runs.Alphas text p (alpha_at text p b e a) room in
+          rw same (unmarked pieces m text (p + 1) h rest (rw end at mark) (rw end at stop) more)
+      | inr a ↦
+          let none : belongs runs.Alphas text p ≡ false = no_alpha_at text p (rw e a) in
+          rw (run_stop n runs.Alphas text p none, e) (unequal b 33 first)
+    ]
+unmarked (escape b ∷ pieces) n text p (e, h) free mark stop room =
+    let none : belongs runs.Alphas text p ≡ false = no_alpha_at text p (rw e percent_alpha) in
+    rw (run_stop n runs.Alphas text p none, e) (omega arith)
+
+differs : (b n : ℕ) → b ≢ n → (b == n) ≡ false
+differs b n h = grind (arith, nat_tests)
+
+some_bytes : (pieces : List UriPiece) → 0 < length pieces → (length (uri_bytes pieces) == 0) ≡ false
+some_bytes [] h = absurd (omega arith)
+some_bytes (piece ∷ pieces) h = differs (suc (length (uri_bytes pieces))) 0 (omega arith)
+
+no_angle : (pieces : List UriPiece) (text : List ℕ) (p : ℕ) → 0 < length pieces → Has text p (uri_text pieces) → IsUri false 0 pieces → byte text p ≢ 60
+no_angle [] text p some h is = absurd (omega arith)
+no_angle (raw b ∷ pieces) text p some (e, h) (none, kept, is) = let (comma, angle) = kept_none b kept in rw e angle
+no_angle (escape b ∷ pieces) text p some (e, h) is = rw e (omega arith)
+
+pub bare_is_read : (flow : Bool) (text : List ℕ) (p : ℕ) (pieces : List UriPiece) → HasAt text p (33 ∷ uri_text pieces) → 0 < length pieces → IsUri false 0 pieces → has_no_mark pieces ≡ true
+    → may_end_tag flow text (p + 1 + length (uri_text pieces)) ≡ true
+    → tag_at flow text p ≡ Ok record { handle = 33 ∷ []; suffix = uri_bytes pieces; end = p + 1 + length (uri_text pieces) }
+unfolding parts_at
+bare_is_read flow text p pieces h some is free stop =
+    let (mark, all) = has text p (33 ∷ uri_text pieces) h in
+    let e = p + 1 + length (uri_text pieces) in
+    let angle : (byte text (p + 1) == 60) ≡ false = differs _ _ (no_angle pieces text (p + 1) some all is) in
+    let last : byte text (p + 1 + length (uri_text pieces)) ≢ 33 = λ m. ends_other flow text e 33 stop m (omega arith) (omega arith) (omega arith) in
+    let here = within text p (omega (arith, mark)) in
+    let name : (byte text (name_end text p) == 33) ≡ false = differs _ _ (unmarked pieces (length text) text (p + 1) all free last (alpha_stops flow text e stop) (omega arith)) in
+    let read = uri_is_read contexts.TagUri false text (p + 1) pieces all is (uri_stops flow text e stop) in
+    rw (angle, name, read, some_bytes pieces some, stop) refl
+
+bracket_plain : (62 == 37 || (is_alpha_byte 62 || (is_sign 62 || (true && is_wide_sign 62)))) ≡ false
+unfolding is_alpha_byte is_digit_byte is_sign is_wide_sign
+bracket_plain = refl
+
+pub verbatim_is_read : (flow : Bool) (text : List ℕ) (p : ℕ) (pieces : List UriPiece) → HasAt text p (33 ∷ (60 ∷ (uri_text pieces ++ (62 ∷ [])))) → 0 < length pieces → IsUri true 0 pieces
+    → may_end_tag flow text (p + 3 + length (uri_text pieces)) ≡ true
+    → tag_at flow text p ≡ Ok record { handle = []; suffix = uri_bytes pieces; end = p + 3 + length (uri_text pieces) }
+unfolding parts_at
+verbatim_is_read flow text p pieces h some is stop =
+    let (mark, (angle, all)) = has text p (33 ∷ (60 ∷ (uri_text pieces ++ (62 ∷ [])))) h in
+    let two : p + 1 + 1 ≡ p + 2 = omega arith in
+    let there : Has text (p + 2) (uri_text pieces ++ (62 ∷ [])) = rw two at all in
+    let body = has_front text (p + 2) (uri_text pieces) (62 ∷ []) there in
+    let (close, none) = has_rest text (p + 2) (uri_text pieces) (62 ∷ []) there in
+    let plain : (byte text (p + 2 + length (uri_text pieces)) == 37 || is_uri true text (p + 2 + length (uri_text pieces))) ≡ false = rw close bracket_plain in
+    let read = uri_is_read contexts.TagUri true text (p + 2) pieces body is plain in
+    let end : p + 2 + length (uri_text pieces) + 1 ≡ p + 3 + length (uri_text pieces) = omega arith in
+    rw (angle, read, some_bytes pieces some, close, end, stop) refl
+
+no_angle_name : (name rest : List ℕ) (text : List ℕ) (p : ℕ) → Has text p (name ++ (33 ∷ rest)) → are_alphas name ≡ true → byte text p ≢ 60
+no_angle_name [] rest text p (e, h) are = rw e (omega arith)
+no_angle_name (b ∷ bs) rest text p (e, h) are =
+    let (front, back) = pair (is_alpha_byte b) (are_alphas bs) are in
+    let (comma, angle, low, high) = alpha_none b front in
+    rw e angle
+
+pub named_is_read : (flow : Bool) (text : List ℕ) (p : ℕ) (name : List ℕ) (pieces : List UriPiece)
+    → HasAt text p (33 ∷ (name ++ (33 ∷ uri_text pieces))) → are_alphas name ≡ true → 0 < length pieces → IsUri false 0 pieces
+    → may_end_tag flow text (p + 2 + length name + length (uri_text pieces)) ≡ true
+    → tag_at flow text p ≡ Ok record { handle = 33 ∷ (name ++ (33 ∷ [])); suffix = uri_bytes pieces; end = p + 2 + length name + length (uri_text pieces) }
+unfolding parts_at
+named_is_read flow text p name pieces h are some is stop =
+    let whole = has text p (33 ∷ (name ++ (33 ∷ uri_text pieces))) h in
+    let (mark, all) = whole in
+    let q = p + 1 + length name in
+    let here = within text p (omega (arith, mark)) in
+    let front = has_front text (p + 1) name (33 ∷ uri_text pieces) all in
+    let (close, body) = has_rest text (p + 1) name (33 ∷ uri_text pieces) all in
+    let none : belongs runs.Alphas text (p + 1 + length name) ≡ false = no_alpha_at text q (rw close mark_alpha) in
+    let name_is : name_end text p ≡ p + 1 + length name = alphas_run name (length text) text (p + 1) front are none (omega arith) in
+    let angle : (byte text (p + 1) == 60) ≡ false = differs _ _ (no_angle_name name (uri_text pieces) text (p + 1) all are) in
+    let inside = within text q (omega (arith, close)) in
+    let regroup : (name ++ (33 ∷ [])) ++ uri_text pieces ≡ name ++ (33 ∷ uri_text pieces) = append_assoc name (33 ∷ []) (uri_text pieces) in
+    let handle : Has text (p + 1) (name ++ (33 ∷ [])) = has_front text (p + 1) (name ++ (33 ∷ [])) (uri_text pieces) (rw regroup all) in
+    let count : length (name ++ (33 ∷ [])) ≡ length name + 1 = length-append name (33 ∷ []) in
+    let to : p + suc (length (name ++ (33 ∷ []))) ≡ p + 1 + length name + 1 = omega (arith, count) in
+    let slice : slice_range text p (p + 1 + length name + 1) ≡ 33 ∷ (name ++ (33 ∷ [])) = rw to at (range_reads text p (33 ∷ (name ++ (33 ∷ []))) (mark, handle) (omega (arith, count, inside))) in
+    let end : p + 1 + length name + 1 + length (uri_text pieces) ≡ p + 2 + length name + length (uri_text pieces) = omega arith in
+    let stops : may_end_tag flow text (p + 1 + length name + 1 + length (uri_text pieces)) ≡ true = rw end stop in
+    let read = uri_is_read contexts.TagUri false text (p + 1 + length name + 1) pieces body is (uri_stops flow text _ stops) in
+    rw (angle, name_is, close, slice, read, some_bytes pieces some, end, stop) refl

@@ -1,0 +1,25 @@
+//! Each function's contract is a law.
+
+ghost use Rattle.yaml_scan_words.specs.Laws.{AnchorReads, GapReads, BareTagReads, NamedTagReads, VerbatimTagReads, UriReads};
+
+/// Spaces and breaks before a lexeme are one gap, whatever follows it.
+pub fn gap_reads()
+    ensures { GapReads }
+{}
+
+/// A name behind `&` or `*` is read, where what follows may end it.
+pub fn anchor_reads()
+    ensures { AnchorReads }
+{}
+
+/// The characters and escapes of a URI spell its bytes.
+pub fn uri_reads()
+    ensures { UriReads }
+{}
+
+/// A tag is read as its handle and suffix, where what follows may end it.
+pub fn tag_reads()
+    ensures bare { BareTagReads }
+    ensures named { NamedTagReads }
+    ensures verbatim { VerbatimTagReads }
+{}

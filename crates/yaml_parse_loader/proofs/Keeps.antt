@@ -36,7 +36,7 @@ wider_levels : (m n : ℕ) (os : List Open) → m ≤ n → AreSoundOpen m os �
 wider_levels m n [] h s = tt
 wider_levels m n (o ∷ os) h s = (wider_open m n o h s.0, wider_levels m n os h s.1)
 
-wider_found : (m n : ℕ) (o : Option Anchored) → m ≤ n → IfSome o (λ a. IsId m a.number) → IfSome o (λ a. IsId n a.number)
+pub wider_found : (m n : ℕ) (o : Option Anchored) → m ≤ n → IfSome o (λ a. IsId m a.number) → IfSome o (λ a. IsId n a.number)
 wider_found m n None h s = s
 wider_found m n (Some a) h s = wider_id m n a.number h s
 
@@ -72,7 +72,7 @@ open_sound l n o known empty s = record { document = s.document; levels = (empty
 
 -- ---- anchors
 
-inserted_sound : (m : ℕ) (b : Bool) (new : Anchored) (o : Option Anchored) → IsId m new.number → IfSome o (λ a. IsId m a.number) → IfSome (cond b (Some new) o) (λ a. IsId m a.number)
+pub inserted_sound : (m : ℕ) (b : Bool) (new : Anchored) (o : Option Anchored) → IsId m new.number → IfSome o (λ a. IsId m a.number) → IfSome (cond b (Some new) o) (λ a. IsId m a.number)
 inserted_sound m true new o h s = h
 inserted_sound m false new o h s = s
 
@@ -136,7 +136,7 @@ aliased_sound : (o : Option Anchored) (from : yaml_mark_t) (l : Loading) → IsL
 aliased_sound None from l s h = tt
 aliased_sound (Some a) from l s h = record { document = s.document; levels = attach_sound _ a.number l.levels h s.levels; anchors = s.anchors }
 
-no_anchors : (m : ℕ) → AreAnchors m map.empty
+pub no_anchors : (m : ℕ) → AreAnchors m map.empty
 no_anchors m name = subst (λ (o : Option Anchored). IfSome o (λ a. IsId m a.number)) (sym (map.get-empty (slice_cmp nat_cmp) name)) tt
 
 pub nothing_sound : IsLoading nothing_loaded

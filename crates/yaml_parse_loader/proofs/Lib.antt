@@ -2,3 +2,4 @@ pub mod Found
 pub mod Keeps
 pub mod Loads
 pub mod Steps
+pub mod Visited

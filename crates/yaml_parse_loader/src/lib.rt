@@ -7,7 +7,7 @@ mod loader;
 mod making;
 
 pub use anchors::Anchored;
-pub use law::loads_documents;
+pub use law::{loads_documents, numbers_follow_visits};
 pub use loader::Loader;
 
 #[cfg(test)]

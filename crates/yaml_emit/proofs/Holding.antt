@@ -35,7 +35,7 @@ leads_more a b c h x y e empty p same r is l = record {
   settings = l.settings ∙ p.settings;
 }
 
-few_needs : (e : Event) → nat_le (needs e) 3 ≡ true
+pub few_needs : (e : Event) → nat_le (needs e) 3 ≡ true
 few_needs no_event = refl
 few_needs (stream_start x) = refl
 few_needs stream_end = refl
@@ -48,7 +48,7 @@ few_needs sequence_end = refl
 few_needs (mapping_start p) = refl
 few_needs mapping_end = refl
 
-le_more : (n m k : ℕ) → nat_le n 3 ≡ true → 3 ≤ m → nat_le n m ≡ true
+pub le_more : (n m k : ℕ) → nat_le n 3 ≡ true → 3 ≤ m → nat_le n m ≡ true
 le_more n m k h l = grind (arith, nat_tests)
 
 four_ready : (a b c d : Event) (xs : List Event) → is_ready (a ∷ b ∷ c ∷ d ∷ xs) ≡ true

@@ -1,2 +1,4 @@
 pub mod Opening
 pub mod Holding
+pub mod Ending
+pub mod Emitting

@@ -81,7 +81,7 @@ pub record IsEmitter (e : Inside) : Type 0 where
   pub faulty : option_map fault_of e.fault ≡ refusal_of e.core
   pub few : goes_on e.core.sink.status e.core.place ≡ true → is_ready (held_events e.held) ≡ false
   pub texts : HeldUtf8 e.held
-  pub begun : e.fresh ≡ true → (held_events e.held ≡ []) × (option_map fault_of e.fault ≡ None)
+  pub begun : e.fresh ≡ true → (held_events e.held ≡ []) × ((option_map fault_of e.fault ≡ None) × ((e.core.sink.bytes ≡ []) × (e.core.sink.status ≡ Going)))
   pub limited : e.core.sink.limit ≡ e.limit
 
 -- the encoding of a stream that begins so
@@ -123,18 +123,32 @@ HasWritten Starved limit output bytes deep = (rest : List ℕ) × (bytes ≡ out
 abbrev pub ShowsFront : Emitter → List ℕ → Type 0
 ShowsFront e output = (x : Encoding) (es : List Event) (whole : List Item) → Completes e x es whole → HasWritten e.core.sink.status e.limit output (encode x whole) (is_deep whole)
 
+-- with no event to come and no fault, the output is the whole
+abbrev pub IsWhole : Emitter → List ℕ → Type 0
+IsWhole e output = e.fault ≡ None → (x : Encoding) (whole : List Item) → Completes e x [] whole → output ≡ encode x whole
+
 -- a new emitter: any encoding and break, canonical and unicode off, indent 2, width 80
 abbrev pub first_wishes : Wishes
 first_wishes = record { encoding = YAML_ANY_ENCODING; canonical = false; indent = pos 2; width = pos 80; unicode = false; line_break = YAML_ANY_BREAK }
 
-pub record IsNew (e : Emitter) (limit : ℕ) : Type 0 where
+pub record IsNew (e : Emitter) (most : ℕ) : Type 0 where
   pub wishes : e.wishes ≡ first_wishes
-  pub limit : e.limit ≡ limit
+  pub limit : e.limit ≡ most
   pub fresh : e.fresh ≡ true
   pub opened : e.opened ≡ false
   pub closed : e.closed ≡ false
   pub fault : e.fault ≡ None
   pub output : e.core.sink.bytes ≡ []
+
+-- the settings came into force with the first event
+pub record Begins (old : Emitter) (e : Event) (new : Emitter) : Type 0 where
+  pub completes : (x : Encoding) (es : List Event) (whole : List Item) → Completes old x (e ∷ es) whole → Completes new x (e ∷ es) whole
+  pub wishes : new.wishes ≡ old.wishes
+  pub limit : new.limit ≡ old.limit
+  pub begun : new.fresh ≡ false
+  pub fault : new.fault ≡ None
+  pub opened : new.opened ≡ old.opened
+  pub closed : new.closed ≡ old.closed
 
 -- a call answers the first fault, if there is one
 abbrev pub Answers : Option Fault → Result (Unit {0}) yaml_fault_t → Type 0

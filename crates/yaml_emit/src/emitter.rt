@@ -5,16 +5,14 @@ ghost use Rattle.yaml_scan.specs.Faults.{fault_of};
 ghost use Rattle.yaml_parse_model.specs.Events.{event_of, body_of};
 ghost use Rattle.yaml_parse_model.specs.Constructors.{HasUtf8};
 ghost use Rattle.yaml_emit_layout.specs.Content.{said};
-ghost use Rattle.yaml_emit.specs.Emitter.{stream_encoding, IsNew, ShowsFront, Given, Answers, Stays};
+ghost use Rattle.yaml_emit.specs.Emitter.{stream_encoding, IsNew, ShowsFront, IsWhole, Given, Begins, Answers, Stays};
 
-
-
+use crate::fault::refusal;
 use crate::held::Held;
-use crate::release::release;
+use crate::release::give;
 use std::alloc::Global;
 use std::marker::Model;
 use std::mem;
-use crate::fault::refusal;
 use yaml_emit_state::Core;
 use yaml_emit_text::{Wishes, settled};
 use yaml_parse_model::{yaml_event_body_t, yaml_event_t};
@@ -155,10 +153,11 @@ pub fn yaml_emitter_output(emitter: &yaml_emitter_t) -> &[u8]
     emitter.core.sink().output()
 }
 
-/// The text.
+/// The text: all of it, where no fault has come and no event is to come.
 pub fn yaml_emitter_into_output(emitter: yaml_emitter_t) -> Vec<u8>
     ensures bytes { result.items ≡ emitter.core.sink.bytes }
     ensures front { ShowsFront emitter result.items }
+    ensures whole { IsWhole emitter result.items }
 {
     emitter.core.into_output()
 }
@@ -169,6 +168,29 @@ pub fn yaml_emitter_delete(emitter: yaml_emitter_t) {
 }
 
 impl yaml_emitter_t {
+    // The settings come into force with the first event.
+    fn begin(&mut self, event: &yaml_event_body_t)
+        requires { self.old.fresh ≡ true }
+        ensures { Begins self.old (said (body_of event.now)) self.new }
+    {
+        let settings = settled(self.wishes, stream_encoding(event));
+        self.core = Core::new(self.alloc, settings, self.limit);
+        self.fresh = false;
+    }
+
+    // An event is given behind those that are held.
+    fn lay(&mut self, event: yaml_event_body_t)
+        requires utf8 { HasUtf8 (body_of event) }
+        requires right { self.old.fault ≡ None }
+        requires begun { self.old.fresh ≡ false }
+        ensures given { Given self.old (said (body_of event)) self.new }
+        ensures opened { (self.new.opened ≡ self.old.opened) × (self.new.closed ≡ self.old.closed) }
+    {
+        let held = mem::replace(&mut self.held, Held::Nothing);
+        self.held = give(&mut self.core, held, event);
+        self.fault = refusal(&self.core);
+    }
+
     // An emitter without a fault takes an event.
     fn take(&mut self, event: yaml_event_body_t)
         requires utf8 { HasUtf8 (body_of event) }
@@ -177,13 +199,11 @@ impl yaml_emitter_t {
         ensures opened { (self.new.opened ≡ self.old.opened) × (self.new.closed ≡ self.old.closed) }
     {
         if self.fresh {
-            let encoding = stream_encoding(&event);
-            self.core = Core::new(self.alloc, settled(self.wishes, encoding), self.limit);
-            self.fresh = false;
+            self.begin(&event);
+            self.lay(event);
+        } else {
+            self.lay(event);
         }
-        let held = mem::replace(&mut self.held, Held::Nothing);
-        self.held = release(&mut self.core, held.push(event));
-        self.fault = refusal(&self.core);
     }
 
     fn answer(&self) -> Result<(), yaml_fault_t>

@@ -1,12 +1,16 @@
 //! What no longer has to be held.
 
-ghost use Rattle.std.specs.Prelude.{◌≡◌, ◌&&◌, true, false};
+ghost use Rattle.std.specs.Prelude.{◌≡◌, ◌&&◌, ◌++◌, ◌∷◌, [], true, false};
+ghost use Rattle.yaml_parse_model.specs.Events.{body_of};
+ghost use Rattle.yaml_parse_model.specs.Constructors.{HasUtf8};
+ghost use Rattle.yaml_emit_layout.specs.Content.{said};
 ghost use Rattle.yaml_emit_state.specs.Steps.{goes_on};
 ghost use Rattle.yaml_emit_state.specs.Finish.{Leads};
 ghost use Rattle.yaml_emit.specs.Held.{held_events, HeldUtf8, is_ready};
 
 use crate::held::Held;
 use yaml_emit_state::Core;
+use yaml_parse_model::yaml_event_body_t;
 
 // Whether the oldest event is to be laid out.
 fn is_due(core: &Core, held: &Held) -> bool
@@ -30,4 +34,15 @@ pub(crate) fn release(core: &mut Core, held: Held) -> Held
         held = rest;
     }
     held
+}
+
+// An event is given behind the held ones.
+pub(crate) fn give(core: &mut Core, held: Held, event: yaml_event_body_t) -> Held
+    requires few { is_ready (held_events held) ≡ false }
+    requires utf8 { HeldUtf8 held × HasUtf8 (body_of event) }
+    ensures leads { Leads core.old (held_events held ++ said (body_of event) ∷ []) core.new (held_events result) }
+    ensures utf8 { HeldUtf8 result }
+    ensures waits { goes_on core.new.sink.status core.new.place ≡ true → is_ready (held_events result) ≡ false }
+{
+    release(core, held.push(event))
 }

@@ -1,0 +1,218 @@
+-- What an emitter completes.
+use Rattle.std.proofs.Common.{◌≡◌, ◌≢◌, ℕ, ◌<◌, List, [], ◌∷◌, ◌++◌, length, take, Bool, true, false, refl, sym, subst, ◌∙◌, ap, arith, Option, Some, None, append_assoc, option_map}
+use Rattle.yaml_scan.specs.Faults.{Fault, fault_of}
+use Rattle.yaml_scan.specs.declared.yaml_encoding_t.{yaml_encoding_t}
+use Rattle.yaml_emit_text.specs.declared.Encoding.{Encoding}
+use Rattle.yaml_emit_text.specs.declared.Settings.{Settings}
+use Rattle.yaml_emit_text.specs.declared.Status.{Status}
+use Rattle.yaml_emit_text.specs.declared.Status.TheVariants.{Going, Full, Deep, Starved}
+use Rattle.yaml_emit_text.specs.declared.Wishes.{Wishes}
+use Rattle.yaml_emit_text.specs.Text.{Item, encode, is_deep}
+use Rattle.yaml_emit_text.specs.Settings.{settled}
+use Rattle.yaml_emit_text.specs.Sink.{Ends, EndsBy}
+use Rattle.yaml_emit_text.specs.Layout.{written}
+use Rattle.yaml_emit_text.proofs.Sinks.{ends_other}
+use Rattle.yaml_emit_layout.specs.declared.Problem.{Problem}
+use Rattle.yaml_emit_layout.specs.declared.Place.{Place}
+use Rattle.yaml_emit_layout.specs.declared.Place.TheVariants as at
+use Rattle.yaml_emit_layout.specs.Content.{Event, stream_start, stream_events, documents_events}
+use Rattle.yaml_emit_layout.specs.Grammar.{own_problems}
+use Rattle.yaml_emit_layout.specs.Nodes.{stream_layout}
+use Rattle.yaml_emit_layout.specs.State.{State}
+use Rattle.yaml_emit_layout.specs.ToCome.{ToCome, stream, documents, root, frames, nothing, Frame, level_of, levels_of}
+use Rattle.yaml_emit_layout.specs.ToCome as come
+use Rattle.yaml_emit_state.specs.declared.Core.{Core}
+use Rattle.yaml_emit_state.specs.Steps.{state_of, settings_of, goes_on, IsFresh}
+use Rattle.yaml_emit_state.specs.Finish.{Finishes, FinishesAt, FinishesBy, Leads}
+use Rattle.yaml_emit_state.proofs.Finishing.{fresh_finishes}
+use Rattle.yaml_emit.specs.Held.{held_events}
+use Rattle.yaml_scan.specs.declared.yaml_fault_t.{yaml_fault_t}
+use Rattle.yaml_emit.specs.declared.held.Held.{Held}
+use Rattle.yaml_emit.specs.declared.emitter.yaml_emitter_t.TheInside.{Inside}
+use Rattle.yaml_emit.specs.Emitter.{Emitter, emitter_of, IsEmitter, refusal_by, refusal_of, stopped, stream_encoding, IsStream, CompletesBy, Completes, HasWritten, ShowsFront, IsWhole, Given, Begins}
+use Rattle.yaml_emit.proofs.Ending.{all_written}
+
+pub refusal_none : (p : Place) (s : Status) (b : Bool) → refusal_by p s b ≡ None → goes_on s p ≡ true
+refusal_none at.StreamStart Going b h = refl
+refusal_none (at.Documents first unended) Going b h = refl
+refusal_none at.Node Going b h = refl
+refusal_none at.DocumentEnd Going b h = refl
+refusal_none at.End Going b h = refl
+refusal_none (at.Refused p) s b h = absurd (cc)
+refusal_none at.StreamStart Full b h = absurd (cc)
+refusal_none (at.Documents first unended) Full b h = absurd (cc)
+refusal_none at.Node Full b h = absurd (cc)
+refusal_none at.DocumentEnd Full b h = absurd (cc)
+refusal_none at.End Full b h = absurd (cc)
+refusal_none at.StreamStart Deep b h = absurd (cc)
+refusal_none (at.Documents first unended) Deep b h = absurd (cc)
+refusal_none at.Node Deep b h = absurd (cc)
+refusal_none at.DocumentEnd Deep b h = absurd (cc)
+refusal_none at.End Deep b h = absurd (cc)
+refusal_none at.StreamStart Starved b h = absurd (cc)
+refusal_none (at.Documents first unended) Starved b h = absurd (cc)
+refusal_none at.Node Starved b h = absurd (cc)
+refusal_none at.DocumentEnd Starved b h = absurd (cc)
+refusal_none at.End Starved b h = absurd (cc)
+
+-- what is to come is at no refused place
+not_refused : (k : ToCome) (p : Problem) → at.Refused p ≡ (come.state_of k).place → ⊥
+unfolding come.state_of levels_of
+not_refused (stream x ds) p h = cc
+not_refused (documents first unended ds) p h = cc
+not_refused (root g n implicit ds) p h = cc
+not_refused (frames g [] implicit ds) p h = cc
+not_refused (frames g (f ∷ fs) implicit ds) p h = cc
+not_refused nothing p h = cc
+
+-- going on, a refusal is that of a refused event
+going_refused : (p : Place) (b : Bool) (f : Fault) (st : State) (k : ToCome) → st.place ≡ p → refusal_by p Going b ≡ Some f → st ≡ come.state_of k → ⊥
+going_refused (at.Refused q) b f st k w h e = not_refused k q (sym w ∙ ap (λ (z : State). z.place) e)
+going_refused at.StreamStart b f st k w h e = cc
+going_refused (at.Documents first unended) b f st k w h e = cc
+going_refused at.Node b f st k w h e = cc
+going_refused at.DocumentEnd b f st k w h e = cc
+going_refused at.End b f st k w h e = cc
+
+finishes_stopped : (s : Status) (core : Core) (f : Fault) (xs ys : List Event) (whole : List Item) → refusal_by core.place s core.starved ≡ Some f → FinishesAt s core xs whole → FinishesAt s core ys whole
+finishes_stopped Going core f xs ys whole h r = absurd (going_refused core.place core.starved f (state_of core) r.rest refl h r.fits)
+finishes_stopped Full core f xs ys whole h r = r
+finishes_stopped Deep core f xs ys whole h r = r
+finishes_stopped Starved core f xs ys whole h r = r
+
+-- behind a fault the events that come count for nothing
+pub stopped_completes : (e : Emitter) (f : Fault) (x : Encoding) (xs ys : List Event) (whole : List Item) → e.fresh ≡ false → refusal_of e.core ≡ Some f → Completes e x xs whole → Completes e x ys whole
+unfolding Completes Finishes
+stopped_completes e f x xs ys whole b h c =
+    let P : Bool → Type 0 = λ z. CompletesBy z e x xs whole in
+    let Q : Bool → Type 0 = λ z. CompletesBy z e x ys whole in
+    let k = subst P b c in
+    subst Q (sym b) (k.0, finishes_stopped e.core.sink.status e.core f _ _ whole h k.1)
+
+-- an event was given
+pub lay_completes : (old new : Emitter) (e : Event) (h : List Event) (x : Encoding) (es : List Event) (whole : List Item) → old.fresh ≡ false → new.fresh ≡ false → h ≡ held_events old.held
+    → Leads old.core (h ++ e ∷ []) new.core (held_events new.held) → Completes old x (e ∷ es) whole → Completes new x es whole
+unfolding Completes
+lay_completes old new e h x es whole a b same l c =
+    let P : Bool → Type 0 = λ z. CompletesBy z old x (e ∷ es) whole in
+    let Q : Bool → Type 0 = λ z. CompletesBy z new x es whole in
+    let k = subst P a c in
+    let R : List Event → Type 0 = λ t. Finishes old.core t whole in
+    let move : held_events old.held ++ (e ∷ es) ≡ (h ++ e ∷ []) ++ es = ap (λ z. z ++ (e ∷ es)) (sym same) ∙ sym (append_assoc h (e ∷ []) es) in
+    subst Q (sym b) (l.encoding ∙ k.0, l.finishes es whole (subst R move k.1))
+
+-- the settings came into force
+pub begin_completes : (old new : Emitter) (e : Event) (x : Encoding) (es : List Event) (whole : List Item) → old.fresh ≡ true → new.fresh ≡ false → held_events new.held ≡ []
+    → IsFresh new.core (settled old.wishes (stream_encoding e)) → Completes old x (e ∷ es) whole → Completes new x (e ∷ es) whole
+unfolding Completes
+begin_completes old new e x es whole a b none f c =
+    let P : Bool → Type 0 = λ z. CompletesBy z old x (e ∷ es) whole in
+    let Q : Bool → Type 0 = λ z. CompletesBy z new x (e ∷ es) whole in
+    let k : IsStream old.wishes x (e ∷ es) whole = subst P a c in
+    let head : e ≡ stream_start k.encoding = (let w = k.same in cc) in
+    let F : yaml_encoding_t → Type 0 = λ z. IsFresh new.core (settled old.wishes z) in
+    let f' : IsFresh new.core (settled old.wishes k.encoding) = subst F (ap stream_encoding head) f in
+    let O : List Event → Type 0 = λ t. own_problems old.wishes.canonical t ≡ None in
+    let done = fresh_finishes new.core (settled old.wishes k.encoding) k.encoding k.documents f' (subst O k.same k.right) in
+    let R : List Event → Type 0 = λ t. Finishes new.core t (written (stream_layout (settled old.wishes k.encoding) k.documents)) in
+    let S : List Item → Type 0 = λ t. Finishes new.core (held_events new.held ++ (e ∷ es)) t in
+    subst Q (sym b) (ap (λ (z : Settings). z.encoding) f'.settings ∙ sym k.coded, subst S (sym k.is) (subst R (sym (ap (λ z. z ++ (e ∷ es)) none ∙ k.same)) done))
+
+written_by : (s : Status) (limit : ℕ) (x : Encoding) (bytes : List ℕ) (text whole : List Item) → EndsBy s limit x bytes text whole → HasWritten s limit bytes (encode x whole) (is_deep whole)
+written_by Going limit x bytes text whole h = (encode x text, h.0)
+written_by Full limit x bytes text whole h = h
+written_by Deep limit x bytes text whole h = h
+written_by Starved limit x bytes text whole h = h
+
+ends_written : (s : Status) (core : Core) (text whole : List Item) → s ≡ core.sink.status → Ends core.sink text whole → HasWritten s core.sink.limit core.sink.bytes (encode core.sink.encoding whole) (is_deep whole)
+unfolding Ends
+ends_written s core text whole e h = let P : Status → Type 0 = λ z. EndsBy z core.sink.limit core.sink.encoding core.sink.bytes text whole in written_by s core.sink.limit core.sink.encoding core.sink.bytes text whole (subst P (sym e) h)
+
+finishes_written : (s : Status) (core : Core) (es : List Event) (whole : List Item) → s ≡ core.sink.status → FinishesAt s core es whole → HasWritten s core.sink.limit core.sink.bytes (encode core.sink.encoding whole) (is_deep whole)
+finishes_written Going core es whole e h = ends_written Going core _ whole e h.ends
+finishes_written Full core es whole e h = ends_written Full core [] whole e h
+finishes_written Deep core es whole e h = ends_written Deep core [] whole e h
+finishes_written Starved core es whole e h = ends_written Starved core [] whole e h
+
+fresh_written : (s : Status) (limit : ℕ) (output bytes : List ℕ) (deep : Bool) → s ≡ Going → output ≡ [] → HasWritten s limit output bytes deep
+fresh_written Going limit output bytes deep g e = (bytes, rw e refl)
+fresh_written Full limit output bytes deep g e = absurd (cc)
+fresh_written Deep limit output bytes deep g e = absurd (cc)
+fresh_written Starved limit output bytes deep g e = absurd (cc)
+
+completes_written : (b : Bool) (e : Emitter) (x : Encoding) (es : List Event) (whole : List Item) → e.fresh ≡ b → e.core.sink.limit ≡ e.limit → (e.fresh ≡ true → (e.core.sink.bytes ≡ []) × (e.core.sink.status ≡ Going))
+    → CompletesBy b e x es whole → HasWritten e.core.sink.status e.limit e.core.sink.bytes (encode x whole) (is_deep whole)
+unfolding Finishes
+completes_written true e x es whole same l n h = fresh_written e.core.sink.status e.limit e.core.sink.bytes (encode x whole) (is_deep whole) (n same).1 (n same).0
+completes_written false e x es whole same l n h =
+    let P : ℕ → Type 0 = λ z. HasWritten e.core.sink.status z e.core.sink.bytes (encode x whole) (is_deep whole) in
+    let Q : Encoding → Type 0 = λ z. HasWritten e.core.sink.status e.core.sink.limit e.core.sink.bytes (encode z whole) (is_deep whole) in
+    subst P l (subst Q h.0 (finishes_written e.core.sink.status e.core _ whole refl h.1))
+
+pub front_written : (e : Emitter) (x : Encoding) (es : List Event) (whole : List Item) → e.core.sink.limit ≡ e.limit → (e.fresh ≡ true → (e.core.sink.bytes ≡ []) × (e.core.sink.status ≡ Going))
+    → Completes e x es whole → HasWritten e.core.sink.status e.limit e.core.sink.bytes (encode x whole) (is_deep whole)
+unfolding Completes
+front_written e x es whole l n h = completes_written e.fresh e x es whole refl l n h
+
+pub goes_going : (s : Status) (p : Place) → goes_on s p ≡ true → s ≡ Going
+goes_going Going p h = refl
+goes_going Full (at.Refused q) h = absurd (cc)
+goes_going Full at.StreamStart h = absurd (cc)
+goes_going Full (at.Documents first unended) h = absurd (cc)
+goes_going Full at.Node h = absurd (cc)
+goes_going Full at.DocumentEnd h = absurd (cc)
+goes_going Full at.End h = absurd (cc)
+goes_going Deep (at.Refused q) h = absurd (cc)
+goes_going Deep at.StreamStart h = absurd (cc)
+goes_going Deep (at.Documents first unended) h = absurd (cc)
+goes_going Deep at.Node h = absurd (cc)
+goes_going Deep at.DocumentEnd h = absurd (cc)
+goes_going Deep at.End h = absurd (cc)
+goes_going Starved (at.Refused q) h = absurd (cc)
+goes_going Starved at.StreamStart h = absurd (cc)
+goes_going Starved (at.Documents first unended) h = absurd (cc)
+goes_going Starved at.Node h = absurd (cc)
+goes_going Starved at.DocumentEnd h = absurd (cc)
+goes_going Starved at.End h = absurd (cc)
+
+pub fresh_refusal : (core : Core) (s : Settings) → IsFresh core s → refusal_of core ≡ None
+fresh_refusal core s f = let k : core.place ≡ at.StreamStart = ap (λ (z : State). z.place) f.state in rw (k, f.status) refl
+
+pub inside_front : (i : Inside) → IsEmitter i → ShowsFront (emitter_of i) i.core.sink.bytes
+inside_front i inv = λ x es whole h. front_written (emitter_of i) x es whole inv.limited (λ f. let k = inv.begun f in (k.1.1.0, k.1.1.1)) h
+
+pub inside_whole : (i : Inside) → IsEmitter i → IsWhole (emitter_of i) i.core.sink.bytes
+inside_whole i inv = λ none x whole h.
+    let g : goes_on i.core.sink.status i.core.place ≡ true = refusal_none i.core.place i.core.sink.status i.core.starved (sym inv.faulty ∙ none) in
+    all_written (emitter_of i) x whole (goes_going i.core.sink.status i.core.place g) (inv.few g) h
+
+pub inside_begins : (i : Inside) (core : Core) (e : Event) (s : Settings) (z : yaml_encoding_t) → IsEmitter i → i.fresh ≡ true → s ≡ settled i.wishes z → z ≡ stream_encoding e → IsFresh core s
+    → Begins (emitter_of i) e (record { wishes = i.wishes; limit = i.limit; core = core; held = i.held; fresh = false; opened = i.opened; closed = i.closed; fault = option_map fault_of i.fault })
+inside_begins i core e s z inv fr a b f =
+    let P : Settings → Type 0 = λ t. IsFresh core t in
+    let Q : yaml_encoding_t → Type 0 = λ t. IsFresh core (settled i.wishes t) in
+    let f' : IsFresh core (settled i.wishes (stream_encoding e)) = subst Q b (subst P a f) in
+    record {
+      completes = λ x es whole h. begin_completes (emitter_of i) (record { wishes = i.wishes; limit = i.limit; core = core; held = i.held; fresh = false; opened = i.opened; closed = i.closed; fault = option_map fault_of i.fault }) e x es whole fr refl (inv.begun fr).0 f' h;
+      wishes = refl; limit = refl; begun = refl; fault = (inv.begun fr).1.0; opened = refl; closed = refl;
+    }
+
+pub inside_lays : (i : Inside) (core : Core) (h held : Held) (fault : Option Fault) (e : Event) → i.fresh ≡ false → h ≡ i.held → Leads i.core (held_events h ++ e ∷ []) core (held_events held)
+    → Given (emitter_of i) e (record { wishes = i.wishes; limit = i.limit; core = core; held = held; fresh = i.fresh; opened = i.opened; closed = i.closed; fault = fault })
+inside_lays i core h held fault e fr same l = record {
+  completes = λ x es whole c. lay_completes (emitter_of i) (record { wishes = i.wishes; limit = i.limit; core = core; held = held; fresh = i.fresh; opened = i.opened; closed = i.closed; fault = fault }) e (held_events h) x es whole fr fr (ap held_events same) l c;
+  wishes = refl; limit = refl; begun = fr;
+}
+
+not_true : (b : Bool) → (b ≡ true → ⊥) → b ≡ false
+not_true false n = refl
+not_true true n = absurd (n refl)
+
+pub inside_stays : (i : Inside) (f : yaml_fault_t) (e : Event) → IsEmitter i → i.fault ≡ Some f → Given (emitter_of i) e (emitter_of i)
+inside_stays i f e inv is =
+    let some : option_map fault_of i.fault ≡ Some (fault_of f) = ap (option_map fault_of) is in
+    let fr : i.fresh ≡ false = not_true i.fresh (λ t. let k = (inv.begun t).1.0 in cc) in
+    record {
+      completes = λ x es whole c. stopped_completes (emitter_of i) (fault_of f) x (e ∷ es) es whole fr (sym inv.faulty ∙ some) c;
+      wishes = refl; limit = refl; begun = fr;
+    }

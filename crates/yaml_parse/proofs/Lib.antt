@@ -1,0 +1,3 @@
+pub mod Front
+pub mod Moves
+pub mod Turning

@@ -10,7 +10,7 @@ use Rattle.yaml_parse_grammar.specs.declared.name.Choice.TheVariants.{Take}
 use Rattle.yaml_parse_grammar.specs.States.{State}
 use Rattle.yaml_parse_grammar.specs.Items.{item_at}
 use Rattle.yaml_parse_grammar.specs.Items as item
-use Rattle.yaml_parse_grammar.specs.Machine.{Outcome, run, ending_at, choice_at, opened}
+use Rattle.yaml_parse_grammar.specs.Machine.{Outcome, run, ending_at, choice_at, opened, Stands}
 use Rattle.yaml_parse_grammar.specs.Coming.{Coming, waiting, held_of, IsFinished, EventOf}
 use Rattle.yaml_parse_machine.specs.Views.{item_of}
 use Rattle.yaml_parse.specs.declared.step.Step.{Step}
@@ -46,10 +46,6 @@ outcome r = run (waiting r.peeked r.tokens) r.stack r.fault
 
 abbrev pub budget : Raw → ℕ
 budget r = length r.tokens + held_of r.peeked
-
-abbrev pub Stands : List State → Type 0
-Stands [] = ⊥
-Stands (x ∷ s) = Unit {0}
 
 abbrev pub IsDirective : item.ItemBody → Type 0
 IsDirective (item.version_directive major minor) = Unit {0}
@@ -99,6 +95,7 @@ IsReal x t step.Done = ⊥
 pub record IsSilent (old new : Coming) : Type 0 where
   pub events : new.events ≡ old.events
   pub ending : new.ending ≡ old.ending
+  pub answered : new.answered ≡ old.answered
   pub less : new.unasked + new.held < old.unasked + old.held
   pub speaks : old.events ≡ [] → old.ending ≡ None → ⊥
 
@@ -115,3 +112,10 @@ Turns old (turn.Event e) new = EventOf old (event_of e) new
 Turns old turn.Silent new = IsSilent old new
 Turns old (turn.Refused f) new = IsTurnRefused (fault_of f) old new
 Turns old turn.Done new = IsOver old new
+
+-- What lasts over the turns of a call. No token is taken unless something is to come.
+pub record Kept (initial now : Coming) : Type 0 where
+  pub events : now.events ≡ initial.events
+  pub ending : now.ending ≡ initial.ending
+  pub answered : now.answered ≡ initial.answered
+  pub unasked : ((now.unasked ≡ initial.unasked) × (now.held ≡ initial.held)) ⊎ (initial.events ≡ [] → initial.ending ≡ None → ⊥)

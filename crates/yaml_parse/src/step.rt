@@ -15,7 +15,8 @@ ghost use Rattle.yaml_parse.specs.Steps.{IsFront, HasNoFront, Steps, Turns, Open
 use std::alloc::Global;
 use yaml_parse_grammar::{Choice, ParseFault, ParseProblem};
 use yaml_parse_machine::{
-    Directives, Item, ItemBody, Refusal, State, choose, leave, opened, push_all, settle, take,
+    Directives, Item, ItemBody, Opening, Refusal, State, Taken, choose, leave, opened, push_all,
+    settle, take,
 };
 use yaml_parse_model::{yaml_event_t, yaml_token_source_t};
 use yaml_scan::{yaml_fault_t, yaml_mark_t, yaml_memory_fault, yaml_origin_t, yaml_token_t};
@@ -54,7 +55,10 @@ fn front<S: yaml_token_source_t>(
 {
     match peeked.take() {
         Some(token) => Ok(token),
-        None => Ok(source.next_token()?),
+        None => match source.next_token() {
+            Ok(token) => Ok(token),
+            Err(fault) => Err(fault),
+        },
     }
 }
 
@@ -78,16 +82,17 @@ fn taking(stack: &mut Vec<State>, state: State, token: yaml_token_t) -> Step
     requires { choice_at (state_of state) (type_of (token_of token).body) ≡ taking_it }
     ensures { (rest : List Token) (fault : Option Fault) → Steps (raw (Some (token_of token)) rest fault (state_of state ∷ stack_of stack.old.items)) result (raw None rest fault (stack_of stack.new.items)) }
 {
-    let taken = take(state, token);
-    match push_all(stack, taken.below) {
+    let Taken { opening, below } = take(state, token);
+    let Opening { item, pushed } = opening;
+    match push_all(stack, below) {
         Ok(()) => {}
         Err(_) => return Step::Refused(want_of_memory()),
     }
-    match push_all(stack, taken.opening.pushed) {
+    match push_all(stack, pushed) {
         Ok(()) => {}
         Err(_) => return Step::Refused(want_of_memory()),
     }
-    match taken.opening.item {
+    match item {
         Some(item) => Step::Item(item),
         None => Step::Silent,
     }

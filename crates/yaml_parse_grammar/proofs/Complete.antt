@@ -33,7 +33,7 @@ use Rattle.yaml_parse_grammar.specs.Machine.{starts_content, starts_node, wants_
 abbrev pub giving : (List Given → List Given) → Outcome → Outcome
 giving g o = record { items = g o.items; ending = o.ending }
 
-carry_with_item : (left : ℕ) (i : Item) (below : Fed) (k : List State → Outcome)
+pub carry_with_item : (left : ℕ) (i : Item) (below : Fed) (k : List State → Outcome)
     → carry left (with_item i below) k ≡ giving (λ (more : List Given). (i, left) ∷ more) (carry left below k)
 carry_with_item left i (stop is f) k = refl
 carry_with_item left i (go is s) k = refl
@@ -45,12 +45,12 @@ abbrev pub Leaves : State → List Token → Type 0
 Leaves x [] = ⊥
 Leaves x (t ∷ ts) = choice_at x (type_of t.body) ≡ Leave
 
-leaves_at : (x : State) (t : Token) (ts : List Token) (s : List State) (f : Option Fault) → choice_at x (type_of t.body) ≡ Leave
+pub leaves_at : (x : State) (t : Token) (ts : List Token) (s : List State) (f : Option Fault) → choice_at x (type_of t.body) ≡ Leave
     → run (t ∷ ts) (x ∷ s) f ≡ giving (λ (more : List Given). (left_at x t.start_mark, length ts) ∷ more) (run (t ∷ ts) s f)
 unfolding run feed
 leaves_at x t ts s f h =
     ap (λ (c : Choice). carry (length ts) (turn c x t s (feed s t)) (λ s'. run ts s' f)) h
-        ∙ carry_with_item (length ts) (left_at x t.start_mark) (feed s t) (λ s'. run ts s' f)
+    ∙ carry_with_item (length ts) (left_at x t.start_mark) (feed s t) (λ s'. run ts s' f)
 
 pub leaves : (x : State) (ts : List Token) (s : List State) (f : Option Fault) → Leaves x ts
     → run ts (x ∷ s) f ≡ giving (λ (more : List Given). (left_at x (next ts), behind ts) ∷ more) (run ts s f)
@@ -234,7 +234,7 @@ not_following (FlowPair brackets.Mapping side) _ h = refl
 pub optional_takes : (place : Place) (before : yaml_mark_t) (k : yaml_token_type_t) → starts_node (wants_of place) k ≡ true → choice_at (state.optional place before) k ≡ Take
 optional_takes place before k h =
     ap (λ (b : Bool). if b then Leave else if starts_node (wants_of place) k then Take else Refuse (no_node (wants_of place)) None) (not_following place k h)
-        ∙ ap (λ (b : Bool). if b then Take else Refuse (no_node (wants_of place)) None) h
+    ∙ ap (λ (b : Bool). if b then Take else Refuse (no_node (wants_of place)) None) h
 
 optional_node : (place : Place) (before : yaml_mark_t) (ts : List Token) (s : List State) (f : Option Fault) → Starts (wants_of place) ts
     → run ts (state.optional place before ∷ s) f ≡ run_node (wants_of place) ts s f
@@ -282,12 +282,12 @@ unfolding run feed
 lone_runs b opener [] s f h = absurd h
 lone_runs b opener (t ∷ ts) s f h =
     ap (λ (c : Choice). carry (length ts) (turn c (state.items b opener) t s (feed s t)) (λ s'. run ts s' f)) (items_takes b opener (type_of t.body) h)
-        ∙ ap (λ (x : Taken). carry (length ts) (given_by x s) (λ s'. run ts s' f)) (items_node_taken b opener t.start_mark t.end_mark t.body h)
-        ∙ ap (λ (fed : Fed). carry (length ts) fed (λ s'. run ts s' f)) (given_above (lone_below b (state.more b opener ∷ [])) (node_taken Flow t.start_mark t.end_mark t.body) s)
+    ∙ ap (λ (x : Taken). carry (length ts) (given_by x s) (λ s'. run ts s' f)) (items_node_taken b opener t.start_mark t.end_mark t.body h)
+    ∙ ap (λ (fed : Fed). carry (length ts) fed (λ s'. run ts s' f)) (given_above (lone_below b (state.more b opener ∷ [])) (node_taken Flow t.start_mark t.end_mark t.body) s)
 
 -- ---- steps of states that hold collections
 
-step_take : (x : State) (t : Token) (ts : List Token) (s : List State) (f : Option Fault) → choice_at x (type_of t.body) ≡ Take
+pub step_take : (x : State) (t : Token) (ts : List Token) (s : List State) (f : Option Fault) → choice_at x (type_of t.body) ≡ Take
     → run (t ∷ ts) (x ∷ s) f ≡ carry (length ts) (given_by (taken_at x t) s) (λ s'. run ts s' f)
 unfolding run feed
 step_take x t ts s f h = ap (λ (c : Choice). carry (length ts) (turn c x t s (feed s t)) (λ s'. run ts s' f)) h
@@ -337,7 +337,7 @@ pair_below brackets.Mapping s = s
 
 flow_pair_opens : (b : Brackets) (p : Span) (o : yaml_mark_t) (ts : List Token) (s : List State) (f : Option Fault)
     → run (token_at token.key p ∷ ts) (state.items b o ∷ s) f
-        ≡ giving (pair_start b p ts) (run ts (state.optional (FlowPair b Key) p.to ∷ state.colon (FlowPair b Value) ∷ pair_below b (state.more b o ∷ s)) f)
+    ≡ giving (pair_start b p ts) (run ts (state.optional (FlowPair b Key) p.to ∷ state.colon (FlowPair b Value) ∷ pair_below b (state.more b o ∷ s)) f)
 flow_pair_opens brackets.Sequence p o ts s f = step_take (state.items brackets.Sequence o) _ ts s f refl
 flow_pair_opens brackets.Mapping p o ts s f = step_take (state.items brackets.Mapping o) _ ts s f refl
 
@@ -438,18 +438,18 @@ mutual
   content_runs (tree.scalar n v style) p rest s f h = refl
   content_runs (tree.flow brackets.Sequence n is) p rest s f h =
       ap (giving (λ (more : List Given). (node_at p (flow_shape brackets.Sequence) n.from n.to, length (spell_items brackets.Sequence is rest)) ∷ more))
-          (items_run is brackets.Sequence n.from rest s f)
+      (items_run is brackets.Sequence n.from rest s f)
   content_runs (tree.flow brackets.Mapping n is) p rest s f h =
       ap (giving (λ (more : List Given). (node_at p (flow_shape brackets.Mapping) n.from n.to, length (spell_items brackets.Mapping is rest)) ∷ more))
-          (items_run is brackets.Mapping n.from rest s f)
+      (items_run is brackets.Mapping n.from rest s f)
   content_runs (tree.block_sequence n e) p rest s f h =
       ap (giving (λ (more : List Given). (node_at p (item.sequence YAML_BLOCK_SEQUENCE_STYLE) n.from n.to, length (spell_entries e rest)) ∷ more)) (entries_run e n.from rest s f)
   content_runs (tree.block_mapping n m) p rest s f h =
       ap (giving (λ (more : List Given). (node_at p (item.mapping YAML_BLOCK_MAPPING_STYLE) n.from n.to, length (spell_pairs m rest)) ∷ more)) (pairs_run m n.from rest s f)
   content_runs (tree.indentless {s = side} n m o) p rest s f h =
       ap (giving (λ (more : List Given). (node_at p (item.sequence YAML_BLOCK_SEQUENCE_STYLE) n.from n.to, length (spell_maybe m (spell_others o rest))) ∷ more))
-          (maybe_runs m (IndentlessEntry side) refl n.to (spell_others o rest) (state.others side ∷ s) f (others_follow side o rest h)
-              ∙ ap (giving (items_maybe m (IndentlessEntry side) n.to (spell_others o rest))) (others_run o side rest s f h))
+      (maybe_runs m (IndentlessEntry side) refl n.to (spell_others o rest) (state.others side ∷ s) f (others_follow side o rest h)
+      ∙ ap (giving (items_maybe m (IndentlessEntry side) n.to (spell_others o rest))) (others_run o side rest s f h))
 
   pub maybe_runs : {w : Wants} (m : Maybe w) (place : Place) → wants_of place ≡ w → (before : yaml_mark_t) (rest : List Token) (s : List State) (f : Option Fault) → Follows place rest
       → run (spell_maybe m rest) (state.optional place before ∷ s) f ≡ giving (items_maybe m place before rest) (run rest s f)
@@ -467,17 +467,17 @@ mutual
   items_run (tree.end_items p) b o rest s f = items_close b p o rest s f
   items_run (tree.single n m) b o rest s f =
       lone_runs b o (spell_node n (spell_more b m rest)) s f (node_starts n (spell_more b m rest))
-          ∙ node_runs n (spell_more b m rest) (lone_below b (state.more b o ∷ []) ++ s) f (more_ends b m rest)
-          ∙ ap (giving (items_node n (spell_more b m rest)))
-              (lone_behind b m rest s f o ∙ ap (giving (lone b (spell_more b m rest))) (more_runs m b o rest s f))
+      ∙ node_runs n (spell_more b m rest) (lone_below b (state.more b o ∷ []) ++ s) f (more_ends b m rest)
+      ∙ ap (giving (items_node n (spell_more b m rest)))
+      (lone_behind b m rest s f o ∙ ap (giving (lone b (spell_more b m rest))) (more_runs m b o rest s f))
   items_run (tree.pair p key v m) b o rest s f =
       flow_pair_opens b p o (spell_maybe key (spell_colon v (spell_more b m rest))) s f
-          ∙ ap (giving (pair_start b p (spell_maybe key (spell_colon v (spell_more b m rest)))))
-              (maybe_runs key (FlowPair b Key) refl p.to (spell_colon v (spell_more b m rest)) (state.colon (FlowPair b Value) ∷ pair_below b (state.more b o ∷ s)) f (colon_follows b v m rest)
-                  ∙ ap (giving (items_maybe key (FlowPair b Key) p.to (spell_colon v (spell_more b m rest))))
-                      (colon_runs v (FlowPair b Value) refl (spell_more b m rest) (pair_below b (state.more b o ∷ s)) f (more_leaves b b m rest) (more_follows b Value m rest)
-                          ∙ ap (giving (items_colon v (FlowPair b Value) (spell_more b m rest)))
-                              (pair_behind b m rest (state.more b o ∷ s) f ∙ ap (giving (pair_end b (spell_more b m rest))) (more_runs m b o rest s f))))
+      ∙ ap (giving (pair_start b p (spell_maybe key (spell_colon v (spell_more b m rest)))))
+      (maybe_runs key (FlowPair b Key) refl p.to (spell_colon v (spell_more b m rest)) (state.colon (FlowPair b Value) ∷ pair_below b (state.more b o ∷ s)) f (colon_follows b v m rest)
+      ∙ ap (giving (items_maybe key (FlowPair b Key) p.to (spell_colon v (spell_more b m rest))))
+      (colon_runs v (FlowPair b Value) refl (spell_more b m rest) (pair_below b (state.more b o ∷ s)) f (more_leaves b b m rest) (more_follows b Value m rest)
+      ∙ ap (giving (items_colon v (FlowPair b Value) (spell_more b m rest)))
+      (pair_behind b m rest (state.more b o ∷ s) f ∙ ap (giving (pair_end b (spell_more b m rest))) (more_runs m b o rest s f))))
 
   pub more_runs : (m : More) (b : Brackets) (o : yaml_mark_t) (rest : List Token) (s : List State) (f : Option Fault)
       → run (spell_more b m rest) (state.more b o ∷ s) f ≡ giving (items_more b m rest) (run rest s f)
@@ -489,26 +489,26 @@ mutual
   entries_run (tree.end_entries p) o rest s f = entries_close p o rest s f
   entries_run (tree.entry p m e) o rest s f =
       entry_opens p o (spell_maybe m (spell_entries e rest)) s f
-          ∙ maybe_runs m Entry refl p.to (spell_entries e rest) (state.entries o ∷ s) f (entries_follow e rest)
-          ∙ ap (giving (items_maybe m Entry p.to (spell_entries e rest))) (entries_run e o rest s f)
+      ∙ maybe_runs m Entry refl p.to (spell_entries e rest) (state.entries o ∷ s) f (entries_follow e rest)
+      ∙ ap (giving (items_maybe m Entry p.to (spell_entries e rest))) (entries_run e o rest s f)
 
   pub others_run : (o : Others) (side : Side) (rest : List Token) (s : List State) (f : Option Fault) → Ends (Block (Some side)) rest
       → run (spell_others o rest) (state.others side ∷ s) f ≡ giving (items_others side o rest) (run rest s f)
   others_run tree.no_others side rest s f h = leaves (state.others side) rest s f (others_leave side rest h)
   others_run (tree.other p m o) side rest s f h =
       other_opens p side (spell_maybe m (spell_others o rest)) s f
-          ∙ maybe_runs m (IndentlessEntry side) refl p.to (spell_others o rest) (state.others side ∷ s) f (others_follow side o rest h)
-          ∙ ap (giving (items_maybe m (IndentlessEntry side) p.to (spell_others o rest))) (others_run o side rest s f h)
+      ∙ maybe_runs m (IndentlessEntry side) refl p.to (spell_others o rest) (state.others side ∷ s) f (others_follow side o rest h)
+      ∙ ap (giving (items_maybe m (IndentlessEntry side) p.to (spell_others o rest))) (others_run o side rest s f h)
 
   pub pairs_run : (m : Pairs) (o : yaml_mark_t) (rest : List Token) (s : List State) (f : Option Fault)
       → run (spell_pairs m rest) (state.pairs o ∷ s) f ≡ giving (items_pairs m rest) (run rest s f)
   pairs_run (tree.end_pairs p) o rest s f = pairs_close p o rest s f
   pairs_run (tree.block_pair p key v m) o rest s f =
       pair_opens p o (spell_maybe key (spell_colon v (spell_pairs m rest))) s f
-          ∙ maybe_runs key (BlockPair Key) refl p.to (spell_colon v (spell_pairs m rest)) (state.colon (BlockPair Value) ∷ state.pairs o ∷ s) f (block_colon_follows v m rest)
-          ∙ ap (giving (items_maybe key (BlockPair Key) p.to (spell_colon v (spell_pairs m rest))))
-              (colon_runs v (BlockPair Value) refl (spell_pairs m rest) (state.pairs o ∷ s) f (pairs_leave m rest) (pairs_follow Value m rest)
-                  ∙ ap (giving (items_colon v (BlockPair Value) (spell_pairs m rest))) (pairs_run m o rest s f))
+      ∙ maybe_runs key (BlockPair Key) refl p.to (spell_colon v (spell_pairs m rest)) (state.colon (BlockPair Value) ∷ state.pairs o ∷ s) f (block_colon_follows v m rest)
+      ∙ ap (giving (items_maybe key (BlockPair Key) p.to (spell_colon v (spell_pairs m rest))))
+      (colon_runs v (BlockPair Value) refl (spell_pairs m rest) (state.pairs o ∷ s) f (pairs_leave m rest) (pairs_follow Value m rest)
+      ∙ ap (giving (items_colon v (BlockPair Value) (spell_pairs m rest))) (pairs_run m o rest s f))
 
 -- ---- documents
 
@@ -534,41 +534,41 @@ skips_ends (p ∷ e) rest s f = step_take state.documents _ (spell_ends e rest) 
 
 ends_run : (e : List Span) (d : Documents) (rest : List Token) (f : Option Fault)
     → run (spell_ends e (spell_documents d rest)) (state.document_end ∷ state.documents ∷ []) f
-        ≡ giving (items_ends e (spell_documents d rest)) (run (spell_documents d rest) (state.documents ∷ []) f)
+    ≡ giving (items_ends e (spell_documents d rest)) (run (spell_documents d rest) (state.documents ∷ []) f)
 ends_run [] d rest f = leaves state.document_end (spell_documents d rest) (state.documents ∷ []) f (document_leaves d rest)
 ends_run (p ∷ e) d rest f =
     step_take state.document_end _ (spell_ends e (spell_documents d rest)) (state.documents ∷ []) f refl
-        ∙ ap (giving (λ (more : List Given). (event_at (event.document_end false) p.from p.to, length (spell_ends e (spell_documents d rest))) ∷ more))
-            (skips_ends e (spell_documents d rest) [] f)
+    ∙ ap (giving (λ (more : List Given). (event_at (event.document_end false) p.from p.to, length (spell_ends e (spell_documents d rest))) ∷ more))
+    (skips_ends e (spell_documents d rest) [] f)
 
 abbrev starting : yaml_mark_t → Span → List Token → List Given → List Given
 starting from p ts more = (item_at (item.document false) from p.to, length ts) ∷ more
 
 directives_run : (ds : List Directive) (from : yaml_mark_t) (p : Span) (ts : List Token) (f : Option Fault)
     → run (spell_directives ds (token_at token.document_start p ∷ ts)) (state.directives from ∷ []) f
-        ≡ giving (items_directives ds (token_at token.document_start p ∷ ts)) (giving (starting from p ts) (run ts (opened p.to) f))
+    ≡ giving (items_directives ds (token_at token.document_start p ∷ ts)) (giving (starting from p ts) (run ts (opened p.to) f))
 directives_run [] from p ts f = step_take (state.directives from) _ ts [] f refl
 directives_run (tree.version q major minor ∷ ds) from p ts f =
     step_take (state.directives from) _ (spell_directives ds (token_at token.document_start p ∷ ts)) [] f refl
-        ∙ ap (giving (λ (more : List Given). (item_at (item.version_directive major minor) q.from q.to, length (spell_directives ds (token_at token.document_start p ∷ ts))) ∷ more))
-            (directives_run ds from p ts f)
+    ∙ ap (giving (λ (more : List Given). (item_at (item.version_directive major minor) q.from q.to, length (spell_directives ds (token_at token.document_start p ∷ ts))) ∷ more))
+    (directives_run ds from p ts f)
 directives_run (tree.handle q name prefix ∷ ds) from p ts f =
     step_take (state.directives from) _ (spell_directives ds (token_at token.document_start p ∷ ts)) [] f refl
-        ∙ ap (giving (λ (more : List Given). (item_at (item.tag_directive name prefix) q.from q.to, length (spell_directives ds (token_at token.document_start p ∷ ts))) ∷ more))
-            (directives_run ds from p ts f)
+    ∙ ap (giving (λ (more : List Given). (item_at (item.tag_directive name prefix) q.from q.to, length (spell_directives ds (token_at token.document_start p ∷ ts))) ∷ more))
+    (directives_run ds from p ts f)
 
 explicit_opens : (ds : List Directive) (p : Span) (ts : List Token) (f : Option Fault)
     → run (spell_directives ds (token_at token.document_start p ∷ ts)) (state.documents ∷ []) f
-        ≡ giving (items_directives ds (token_at token.document_start p ∷ ts)) (giving (starting (start_of ds p) p ts) (run ts (opened p.to) f))
+    ≡ giving (items_directives ds (token_at token.document_start p ∷ ts)) (giving (starting (start_of ds p) p ts) (run ts (opened p.to) f))
 explicit_opens [] p ts f = step_take state.documents _ ts [] f refl
 explicit_opens (tree.version q major minor ∷ ds) p ts f =
     step_take state.documents _ (spell_directives ds (token_at token.document_start p ∷ ts)) [] f refl
-        ∙ ap (giving (λ (more : List Given). (item_at (item.version_directive major minor) q.from q.to, length (spell_directives ds (token_at token.document_start p ∷ ts))) ∷ more))
-            (directives_run ds q.from p ts f)
+    ∙ ap (giving (λ (more : List Given). (item_at (item.version_directive major minor) q.from q.to, length (spell_directives ds (token_at token.document_start p ∷ ts))) ∷ more))
+    (directives_run ds q.from p ts f)
 explicit_opens (tree.handle q name prefix ∷ ds) p ts f =
     step_take state.documents _ (spell_directives ds (token_at token.document_start p ∷ ts)) [] f refl
-        ∙ ap (giving (λ (more : List Given). (item_at (item.tag_directive name prefix) q.from q.to, length (spell_directives ds (token_at token.document_start p ∷ ts))) ∷ more))
-            (directives_run ds q.from p ts f)
+    ∙ ap (giving (λ (more : List Given). (item_at (item.tag_directive name prefix) q.from q.to, length (spell_directives ds (token_at token.document_start p ∷ ts))) ∷ more))
+    (directives_run ds q.from p ts f)
 
 pub nothing_runs : (ts : List Token) (f : Option Fault) → run ts [] f ≡ finished
 unfolding run feed
@@ -580,14 +580,14 @@ documents_run : (d : Documents) (rest : List Token) (f : Option Fault)
     → run (spell_documents d rest) (state.documents ∷ []) f ≡ record { items = items_documents d rest; ending = None }
 documents_run (tree.end_stream p) rest f =
     step_take state.documents _ rest [] f refl
-        ∙ ap (giving (λ (more : List Given). (event_at event.stream_end p.from p.to, length rest) ∷ more)) (nothing_runs rest f)
+    ∙ ap (giving (λ (more : List Given). (event_at event.stream_end p.from p.to, length rest) ∷ more)) (nothing_runs rest f)
 documents_run (tree.document ds p n e d) rest f =
     explicit_opens ds p (spell_maybe n (spell_ends e (spell_documents d rest))) f
-        ∙ ap (giving (items_directives ds (token_at token.document_start p ∷ spell_maybe n (spell_ends e (spell_documents d rest)))))
-            (ap (giving (starting (start_of ds p) p (spell_maybe n (spell_ends e (spell_documents d rest)))))
-                (maybe_runs n Root refl p.to (spell_ends e (spell_documents d rest)) (state.document_end ∷ state.documents ∷ []) f (root_follows e d rest)
-                    ∙ ap (giving (items_maybe n Root p.to (spell_ends e (spell_documents d rest))))
-                        (ends_run e d rest f ∙ ap (giving (items_ends e (spell_documents d rest))) (documents_run d rest f))))
+    ∙ ap (giving (items_directives ds (token_at token.document_start p ∷ spell_maybe n (spell_ends e (spell_documents d rest)))))
+    (ap (giving (starting (start_of ds p) p (spell_maybe n (spell_ends e (spell_documents d rest)))))
+    (maybe_runs n Root refl p.to (spell_ends e (spell_documents d rest)) (state.document_end ∷ state.documents ∷ []) f (root_follows e d rest)
+    ∙ ap (giving (items_maybe n Root p.to (spell_ends e (spell_documents d rest))))
+    (ends_run e d rest f ∙ ap (giving (items_ends e (spell_documents d rest))) (documents_run d rest f))))
 
 -- before the first document
 first_without : (d : Documents) (rest : List Token) (f : Option Fault)
@@ -601,7 +601,7 @@ first_without (tree.document (tree.handle q name prefix ∷ ds) p n e d) rest f 
 first_opens_at : (k : yaml_token_type_t) → starts_node (Block None) k ≡ true → choice_at state.first k ≡ Open
 first_opens_at k h =
     ap (λ (b : Bool). if b then Take else if starts_node (Block None) k then Open else Refuse problem.NoBlockNode None) (not_parting k h)
-        ∙ ap (λ (b : Bool). if b then Open else Refuse problem.NoBlockNode None) h
+    ∙ ap (λ (b : Bool). if b then Open else Refuse problem.NoBlockNode None) h
   where
     not_parting : (k : yaml_token_type_t) → starts_node (Block None) k ≡ true → parts_documents k ≡ false
     not_parting kind.YAML_STREAM_END_TOKEN h = cc
@@ -619,24 +619,24 @@ unfolding run feed
 first_opens [] f h = absurd h
 first_opens (t ∷ ts) f h =
     ap (λ (c : Choice). carry (length ts) (turn c state.first t [] (feed [] t)) (λ s'. run ts s' f)) (first_opens_at (type_of t.body) h)
-        ∙ carry_with_item (length ts) (item_at (item.document true) t.start_mark t.start_mark)
-            (given_by (taken_at (state.optional Root t.start_mark) t) (state.document_end ∷ state.documents ∷ [])) (λ s'. run ts s' f)
+    ∙ carry_with_item (length ts) (item_at (item.document true) t.start_mark t.start_mark)
+    (given_by (taken_at (state.optional Root t.start_mark) t) (state.document_end ∷ state.documents ∷ [])) (λ s'. run ts s' f)
 
 first_runs : (x : First) (d : Documents) (rest : List Token) (f : Option Fault)
     → run (spell_first x (spell_documents d rest)) (state.first ∷ []) f
-        ≡ record { items = items_first x (spell_documents d rest) (items_documents d rest); ending = None }
+    ≡ record { items = items_first x (spell_documents d rest) (items_documents d rest); ending = None }
 first_runs tree.no_first d rest f = first_without d rest f ∙ documents_run d rest f
 first_runs (tree.first n e) d rest f =
     first_opens (spell_node n (spell_ends e (spell_documents d rest))) f (node_starts n (spell_ends e (spell_documents d rest)))
-        ∙ ap (giving (implicit (spell_node n (spell_ends e (spell_documents d rest)))))
-            (node_runs n (spell_ends e (spell_documents d rest)) (state.document_end ∷ state.documents ∷ []) f (follows_ends Root (spell_ends e (spell_documents d rest)) (root_follows e d rest))
-                ∙ ap (giving (items_node n (spell_ends e (spell_documents d rest))))
-                    (ends_run e d rest f ∙ ap (giving (items_ends e (spell_documents d rest))) (documents_run d rest f)))
+    ∙ ap (giving (implicit (spell_node n (spell_ends e (spell_documents d rest)))))
+    (node_runs n (spell_ends e (spell_documents d rest)) (state.document_end ∷ state.documents ∷ []) f (follows_ends Root (spell_ends e (spell_documents d rest)) (root_follows e d rest))
+    ∙ ap (giving (items_node n (spell_ends e (spell_documents d rest))))
+    (ends_run e d rest f ∙ ap (giving (items_ends e (spell_documents d rest))) (documents_run d rest f)))
 
 -- Of a stream's tokens the machine gives the items of its tree, and no fault, whatever follows.
 pub stream_runs : (t : Stream) (rest : List Token) (f : Option Fault)
     → run (spell t rest) initial f ≡ record { items = items t rest; ending = None }
 stream_runs t rest f =
     step_take state.stream _ (spell_first t.first (spell_documents t.documents rest)) [] f refl
-        ∙ ap (giving (λ (more : List Given). (event_at (event.stream_start t.encoding) t.start.from t.start.to, length (spell_first t.first (spell_documents t.documents rest))) ∷ more))
-            (first_runs t.first t.documents rest f)
+    ∙ ap (giving (λ (more : List Given). (event_at (event.stream_start t.encoding) t.start.from t.start.to, length (spell_first t.first (spell_documents t.documents rest))) ∷ more))
+    (first_runs t.first t.documents rest f)

@@ -1,2 +1,3 @@
 pub mod Complete
 pub mod Voice
+pub mod Single

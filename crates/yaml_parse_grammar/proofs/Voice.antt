@@ -17,7 +17,7 @@ use Rattle.yaml_parse_grammar.specs.Items as item
 use Rattle.yaml_parse_grammar.specs.States.{State, Taken}
 use Rattle.yaml_parse_grammar.specs.States as state
 use Rattle.yaml_parse_grammar.specs.Trees.{Given}
-use Rattle.yaml_parse_grammar.specs.Machine.{choice_at, taken_at, documents_taken, content_taken, node_taken, dressed_taken, items_taken, more_taken, stream_taken, entries_taken, pairs_taken, lone_below, left_at, Fed, stop, go, with_item, given_by, turn, feed, Outcome, finished, carry, run}
+use Rattle.yaml_parse_grammar.specs.Machine.{choice_at, taken_at, documents_taken, content_taken, node_taken, dressed_taken, items_taken, more_taken, stream_taken, entries_taken, pairs_taken, lone_below, left_at, Fed, stop, go, with_item, given_by, turn, feed, Stands, Outcome, finished, carry, run}
 use Rattle.yaml_parse_grammar.specs.Resolve.{Directives, Settled, refused, gave, noted, settle, settle_body, reading, Reading, Told, read_on, with_resolved, with_version, with_tag, resolved}
 
 -- the item is an event and no directive, or else the other fact holds
@@ -29,10 +29,6 @@ Voiced _ P = Unit {0}
 abbrev pub IsSome : Option Fault → Type 0
 IsSome None = ⊥
 IsSome (Some f) = Unit {0}
-
-abbrev pub Stands : List State → Type 0
-Stands [] = ⊥
-Stands (x ∷ s) = Unit {0}
 
 -- among the items is an event, or a fault ends them
 abbrev pub HasVoice : List Given → Option Fault → Type 0
@@ -235,7 +231,7 @@ speaks (t ∷ ts) f (x ∷ s) h = carried_speaks (length ts) (feed (x ∷ s) t) 
 
 -- ---- resolved
 
-not_noted : (o : Option (List ℕ)) (a : Option (List ℕ)) (shape : item.Shape) (from at : yaml_mark_t) (ds ds' : Directives) → with_resolved o a shape from at ds ≡ noted ds' → ⊥
+pub not_noted : (o : Option (List ℕ)) (a : Option (List ℕ)) (shape : item.Shape) (from at : yaml_mark_t) (ds ds' : Directives) → with_resolved o a shape from at ds ≡ noted ds' → ⊥
 not_noted None a shape from at ds ds' h = cc
 not_noted (Some t) a shape from at ds ds' h = cc
 

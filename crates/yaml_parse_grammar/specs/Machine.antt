@@ -167,7 +167,7 @@ content_taken w p start end token.block_mapping_start =
     taken (Some (node_at p (item.mapping YAML_BLOCK_MAPPING_STYLE) start end)) (state.pairs start ∷ [])
 content_taken (Block (Some side)) p start end token.block_entry =
     taken (Some (node_at p (item.sequence YAML_BLOCK_SEQUENCE_STYLE) start end))
-        (state.optional (IndentlessEntry side) end ∷ state.others side ∷ [])
+    (state.optional (IndentlessEntry side) end ∷ state.others side ∷ [])
 content_taken w p start end _ = not_taken
 
 abbrev pub tag_at : List ℕ → List ℕ → yaml_mark_t → Tag
@@ -198,7 +198,7 @@ lone_below brackets.Mapping below = state.lone ∷ below
 abbrev pub pair_taken : Brackets → yaml_mark_t → yaml_mark_t → yaml_mark_t → Taken
 pair_taken brackets.Sequence opener start end =
     taken (Some (item_at (item.node None None (item.mapping YAML_FLOW_MAPPING_STYLE)) start end))
-        (state.optional (FlowPair brackets.Sequence Key) end ∷ state.colon (FlowPair brackets.Sequence Value) ∷ state.pair_end ∷ state.more brackets.Sequence opener ∷ [])
+    (state.optional (FlowPair brackets.Sequence Key) end ∷ state.colon (FlowPair brackets.Sequence Value) ∷ state.pair_end ∷ state.more brackets.Sequence opener ∷ [])
 pair_taken brackets.Mapping opener start end =
     taken None (state.optional (FlowPair brackets.Mapping Key) end ∷ state.colon (FlowPair brackets.Mapping Value) ∷ state.more brackets.Mapping opener ∷ [])
 
@@ -285,11 +285,16 @@ turn Take x t s below = given_by (taken_at x t) s
 turn Leave x t s below = with_item (left_at x t.start_mark) below
 turn Open x t s below =
     with_item (item_at (item.document true) t.start_mark t.start_mark)
-        (given_by (taken_at (state.optional Root t.start_mark) t) (state.document_end ∷ state.documents ∷ s))
+    (given_by (taken_at (state.optional Root t.start_mark) t) (state.document_end ∷ state.documents ∷ s))
 
 unfoldable pub feed : List State → Token → Fed
 feed [] t = go [] []
 feed (x ∷ s) t = turn (choice_at x (type_of t.body)) x t s (feed s t)
+
+-- something is open
+abbrev pub Stands : List State → Type 0
+Stands [] = ⊥
+Stands (x ∷ s) = Unit {0}
 
 -- ---- a list of tokens
 

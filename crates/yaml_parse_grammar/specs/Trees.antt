@@ -274,7 +274,7 @@ abbrev mutual
       (node_at p (item.mapping YAML_BLOCK_MAPPING_STYLE) s.from s.to, length (spell_pairs pairs rest)) ∷ items_pairs pairs rest more
   items_content (indentless {s = side} s n others) p rest more =
       (node_at p (item.sequence YAML_BLOCK_SEQUENCE_STYLE) s.from s.to, length (spell_maybe n (spell_others others rest)))
-          ∷ items_maybe n (IndentlessEntry side) s.to (spell_others others rest) (items_others side others rest more)
+      ∷ items_maybe n (IndentlessEntry side) s.to (spell_others others rest) (items_others side others rest more)
 
   -- before is the end of the indicator that stands before the node
   pub items_maybe : {w : Wants} → Maybe w → Place → yaml_mark_t → List Token → List Given → List Given
@@ -291,9 +291,9 @@ abbrev mutual
       items_node n (spell_more b others rest) (lone b (spell_more b others rest) (items_more b others rest more))
   items_items b (pair s key value others) rest more =
       pair_start b s (spell_maybe key (spell_colon value (spell_more b others rest)))
-          (items_maybe key (FlowPair b Key) s.to (spell_colon value (spell_more b others rest))
-              (items_colon value (FlowPair b Value) (spell_more b others rest)
-                  (pair_end b (spell_more b others rest) (items_more b others rest more))))
+      (items_maybe key (FlowPair b Key) s.to (spell_colon value (spell_more b others rest))
+      (items_colon value (FlowPair b Value) (spell_more b others rest)
+      (pair_end b (spell_more b others rest) (items_more b others rest more))))
 
   pub items_more : Brackets → More → List Token → List Given → List Given
   items_more b (end_more s) rest more = (event_at (end_event b) s.from s.to, length rest) ∷ more
@@ -312,7 +312,7 @@ abbrev mutual
   items_pairs (end_pairs s) rest more = (event_at event.mapping_end s.from s.to, length rest) ∷ more
   items_pairs (block_pair s key value pairs) rest more =
       items_maybe key (BlockPair Key) s.to (spell_colon value (spell_pairs pairs rest))
-          (items_colon value (BlockPair Value) (spell_pairs pairs rest) (items_pairs pairs rest more))
+      (items_colon value (BlockPair Value) (spell_pairs pairs rest) (items_pairs pairs rest more))
 
 abbrev pub items_directives : List Directive → List Token → List Given → List Given
 items_directives [] rest more = more
@@ -336,18 +336,19 @@ abbrev pub items_documents : Documents → List Token → List Given
 items_documents (end_stream s) rest = (event_at event.stream_end s.from s.to, length rest) ∷ []
 items_documents (document ds s root ends more) rest =
     items_directives ds (token_at token.document_start s ∷ spell_maybe root (spell_ends ends (spell_documents more rest)))
-        ((item_at (item.document false) (start_of ds s) s.to, length (spell_maybe root (spell_ends ends (spell_documents more rest))))
-            ∷ items_maybe root Root s.to (spell_ends ends (spell_documents more rest))
-                (items_ends ends (spell_documents more rest) (items_documents more rest)))
+    ((item_at (item.document false) (start_of ds s) s.to, length (spell_maybe root (spell_ends ends (spell_documents more rest))))
+    ∷ items_maybe root Root s.to (spell_ends ends (spell_documents more rest))
+    (items_ends ends (spell_documents more rest) (items_documents more rest)))
 
 abbrev pub items_first : First → List Token → List Given → List Given
 items_first no_first rest more = more
-items_first (first n ends) rest more =
-    (item_at (item.document true) (next (spell_node n (spell_ends ends rest))) (next (spell_node n (spell_ends ends rest))),
-        behind (spell_node n (spell_ends ends rest)))
-        ∷ items_node n (spell_ends ends rest) (items_ends ends rest more)
+items_first (first n ends) rest more = (
+  item_at (item.document true) (next (spell_node n (spell_ends ends rest))) (next (spell_node n (spell_ends ends rest))),
+  behind (spell_node n (spell_ends ends rest)),
+)
+    ∷ items_node n (spell_ends ends rest) (items_ends ends rest more)
 
 abbrev pub items : Stream → List Token → List Given
 items t rest =
     (event_at (event.stream_start t.encoding) t.start.from t.start.to, length (spell_first t.first (spell_documents t.documents rest)))
-        ∷ items_first t.first (spell_documents t.documents rest) (items_documents t.documents rest)
+    ∷ items_first t.first (spell_documents t.documents rest) (items_documents t.documents rest)

@@ -35,11 +35,11 @@ pub copied_one : (copies tags : List yaml_tag_directive_t) (all : List TagDirect
     → map directive_of more ++ map directive_of (drop (i + 1) tags) ≡ all
 copied_one copies tags all i d d' more h e s m a =
     ap (λ (xs : List yaml_tag_directive_t). map directive_of xs ++ map directive_of (drop (i + 1) tags)) m
-        ∙ ap (λ (xs : List TagDirective). xs ++ map directive_of (drop (i + 1) tags)) (map-append directive_of copies (d' ∷ []))
-        ∙ append_assoc (map directive_of copies) (directive_of d' ∷ []) (map directive_of (drop (i + 1) tags))
-        ∙ ap (λ (x : TagDirective). map directive_of copies ++ x ∷ map directive_of (drop (i + 1) tags)) s
-        ∙ sym (ap (λ (xs : List yaml_tag_directive_t). map directive_of copies ++ map directive_of xs) (drop_at tags i d h e))
-        ∙ a
+    ∙ ap (λ (xs : List TagDirective). xs ++ map directive_of (drop (i + 1) tags)) (map-append directive_of copies (d' ∷ []))
+    ∙ append_assoc (map directive_of copies) (directive_of d' ∷ []) (map directive_of (drop (i + 1) tags))
+    ∙ ap (λ (x : TagDirective). map directive_of copies ++ x ∷ map directive_of (drop (i + 1) tags)) s
+    ∙ sym (ap (λ (xs : List yaml_tag_directive_t). map directive_of copies ++ map directive_of xs) (drop_at tags i d h e))
+    ∙ a
 
 pub copied_all : (copies tags : List yaml_tag_directive_t) (all : List TagDirective) (i : ℕ) → length tags ≤ i → map directive_of copies ++ map directive_of (drop i tags) ≡ all
     → map directive_of copies ≡ all

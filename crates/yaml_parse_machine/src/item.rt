@@ -2,9 +2,7 @@
 
 use yaml_parse_grammar::{Brackets, Place, Side, Wants};
 use yaml_parse_model::yaml_event_body_t;
-use yaml_scan::{
-    yaml_mapping_style_t, yaml_mark_t, yaml_scalar_style_t, yaml_sequence_style_t,
-};
+use yaml_scan::{yaml_mapping_style_t, yaml_mark_t, yaml_scalar_style_t, yaml_sequence_style_t};
 
 /// A tag as it is written, and where it begins.
 #[derive(Drop)]
@@ -41,11 +39,19 @@ pub enum ItemBody {
     /// An event that has nothing to resolve.
     Event(yaml_event_body_t),
     /// A `%YAML` directive.
-    VersionDirective { major: i32, minor: i32 },
+    VersionDirective {
+        major: i32,
+        minor: i32,
+    },
     /// A `%TAG` directive.
-    TagDirective { handle: Vec<u8>, prefix: Vec<u8> },
+    TagDirective {
+        handle: Vec<u8>,
+        prefix: Vec<u8>,
+    },
     /// A document starts, with the directives before it.
-    Document { implicit: bool },
+    Document {
+        implicit: bool,
+    },
     /// A node starts, or stands whole.
     Node {
         anchor: Option<Vec<u8>>,

@@ -13,9 +13,7 @@ use crate::item::{Item, ItemBody, Shape, Tag};
 use std::alloc::{AllocError, AllocFailed, Global};
 use yaml_parse_grammar::{ParseFault, ParseProblem};
 use yaml_parse_model::{yaml_event_body_t, yaml_event_t};
-use yaml_scan::{
-    yaml_mark_t, yaml_scalar_style_t, yaml_tag_directive_t, yaml_version_directive_t,
-};
+use yaml_scan::{yaml_mark_t, yaml_scalar_style_t, yaml_tag_directive_t, yaml_version_directive_t};
 
 /// The directives of a document.
 #[derive(Drop)]
@@ -269,7 +267,9 @@ fn note_tag(
     match find_prefix(directives.tags.as_slice(), handle.as_slice()) {
         Some(_) => Err(fault_at(ParseProblem::DuplicateHandle, at, at)),
         None => {
-            directives.tags.push(yaml_tag_directive_t { handle, prefix })?;
+            directives
+                .tags
+                .push(yaml_tag_directive_t { handle, prefix })?;
             Ok(())
         }
     }

@@ -245,12 +245,7 @@ fn block_sequence() -> Shape
     Shape::Sequence(yaml_sequence_style_t::YAML_BLOCK_SEQUENCE_STYLE)
 }
 
-fn at_node(
-    wants: Wants,
-    start: yaml_mark_t,
-    end: yaml_mark_t,
-    body: yaml_token_body_t,
-) -> Opening
+fn at_node(wants: Wants, start: yaml_mark_t, end: yaml_mark_t, body: yaml_token_body_t) -> Opening
     ensures { opening_of result ≡ node_taken wants start end (token_body_of body) }
 {
     match body {
@@ -325,12 +320,7 @@ fn at_dressed(
 }
 
 // A pair begins inside brackets.
-fn at_pair(
-    brackets: Brackets,
-    opener: yaml_mark_t,
-    start: yaml_mark_t,
-    end: yaml_mark_t,
-) -> Opening
+fn at_pair(brackets: Brackets, opener: yaml_mark_t, start: yaml_mark_t, end: yaml_mark_t) -> Opening
     ensures { opening_of result ≡ pair_taken brackets opener start end }
 {
     match brackets {

@@ -1,0 +1,154 @@
+-- What each step over the grammar owes.
+use Rattle.std.proofs.Common.{◌≡◌, ◌⊎◌, ◌+◌, ◌<◌, ℕ, inl, inr, List, [], ◌∷◌, ◌++◌, length, reverse, map, Option, Some, None, refl, sym, ap, subst, ◌∙◌, arith, true}
+use Rattle.std.proofs.lemmas.List.{reverse-append, append_assoc}
+use Rattle.yaml_scan.specs.declared.yaml_mark_t.{yaml_mark_t}
+use Rattle.yaml_scan.specs.Tokens.{Token, no_token, type_of}
+use Rattle.yaml_scan.specs.Faults.{Fault}
+use Rattle.yaml_parse_grammar.specs.declared.name.Choice.TheVariants.{Refuse, Take, Leave, Open}
+use Rattle.yaml_parse_grammar.specs.declared.problem.ParseProblem.{ParseProblem}
+use Rattle.yaml_parse_grammar.specs.Problems.{parser_fault}
+use Rattle.yaml_parse_grammar.specs.Items.{Item, ItemBody, item_at}
+use Rattle.yaml_parse_grammar.specs.Items as item
+use Rattle.yaml_parse_grammar.specs.States.{State, Taken}
+use Rattle.yaml_parse_grammar.specs.States as state
+use Rattle.yaml_parse_grammar.specs.Trees.{Given}
+use Rattle.yaml_parse_grammar.specs.Machine.{choice_at, taken_at, left_at, context_of, opened, Outcome, run, ending_at, Stands}
+use Rattle.yaml_parse_grammar.proofs.Complete.{giving, leaves_at}
+use Rattle.yaml_parse_grammar.proofs.Voice.{Voiced, TakenSpeaks, taken_speaks, left_voiced, takes_a_token}
+use Rattle.yaml_parse_grammar.proofs.Single.{refuses, takes, takes_silently, opens}
+use Rattle.yaml_parse_machine.specs.declared.item.State as code
+use Rattle.yaml_parse_machine.specs.declared.item.Item as codeitem
+use Rattle.yaml_parse_machine.specs.declared.item.Pushed.{Pushed}
+use Rattle.yaml_parse_machine.specs.Views.{state_of, stack_of, pushed_of, over, taken_of, item_of, item_option_of}
+use Rattle.yaml_parse_machine.proofs.Openings.{over_is}
+use Rattle.yaml_parse.specs.declared.step.Step.{Step}
+use Rattle.yaml_parse.specs.declared.step.Step.TheVariants as step
+use Rattle.yaml_parse.specs.Steps.{Raw, raw, outcome, budget, IsFront, HasNoFront, IsDirective, GivesItem, GivesNoItem, IsRefused, IsDone, Steps, OpensAt, IsReal}
+
+-- a directive leaves something open
+directive_stands : (b : ItemBody) (P : Type 0) → Voiced b P → IsDirective b → P
+directive_stands (item.version_directive x y) P h d = h
+directive_stands (item.tag_directive x y) P h d = h
+directive_stands (item.event e) P h d = absurd d
+directive_stands (item.document i) P h d = absurd d
+directive_stands (item.node a t s) P h d = absurd d
+
+left_is_none : (x : State) (start : yaml_mark_t) → IsDirective (left_at x start).body → ⊥
+left_is_none x start d = directive_stands (left_at x start).body ⊥ (left_voiced x start ⊥) d
+
+stands_over : (xs ys : List State) → Stands xs → Stands (xs ++ ys)
+stands_over [] ys h = absurd h
+stands_over (x ∷ xs) ys h = tt
+
+-- the item and the states of a taken token
+pub take_item : (x : State) (t : Token) (rest : List Token) (f : Option Fault) (s s' : List State) (i : Item) (above : List State)
+    → choice_at x (type_of t.body) ≡ Take → record { item = Some i; above = above } ≡ taken_at x t → s' ≡ above ++ s
+    → GivesItem i (raw (Some t) rest f (x ∷ s)) (raw None rest f s')
+take_item x t rest f s s' i above h k e = record {
+  same = takes x i above t rest s f h (sym k) ∙ ap (λ (z : List State). giving (λ (more : List Given). (i, length rest) ∷ more) (run rest z f)) (sym e);
+  less = λ d. omega arith;
+  stands = λ d. subst Stands (sym e) (stands_over above s (directive_stands i.body (Stands above) (subst (λ (y : Taken). TakenSpeaks y.item y.above) (sym k) (taken_speaks x t)) d));
+}
+
+pub take_silent : (x : State) (t : Token) (rest : List Token) (f : Option Fault) (s s' : List State) (above : List State)
+    → choice_at x (type_of t.body) ≡ Take → record { item = None; above = above } ≡ taken_at x t → s' ≡ above ++ s
+    → GivesNoItem (raw (Some t) rest f (x ∷ s)) (raw None rest f s')
+take_silent x t rest f s s' above h k e = record {
+  same = takes_silently x above t rest s f h (sym k) ∙ ap (λ (z : List State). run rest z f) (sym e);
+  less = omega arith;
+  stands = subst Stands (sym e) (stands_over above s (subst (λ (y : Taken). TakenSpeaks y.item y.above) (sym k) (taken_speaks x t)));
+}
+
+-- both pushes
+pub pushed_twice : (pushed below : Pushed) (old middle new : List State) → middle ≡ pushed_of below ++ old → new ≡ pushed_of pushed ++ middle → new ≡ over (pushed_of pushed) below ++ old
+pushed_twice pushed below old middle new p q =
+    q ∙ ap (λ (z : List State). pushed_of pushed ++ z) p ∙ sym (append_assoc (pushed_of pushed) (pushed_of below) old)
+    ∙ ap (λ (z : List State). z ++ old) (sym (over_is (pushed_of pushed) below))
+
+pub leave_item : (x : State) (t : Token) (rest : List Token) (f : Option Fault) (s : List State) (i : Item) → choice_at x (type_of t.body) ≡ Leave → i ≡ left_at x t.start_mark
+    → GivesItem i (raw (Some t) rest f (x ∷ s)) (raw (Some t) rest f s)
+leave_item x t rest f s i h e = record {
+  same = leaves_at x t rest s f h ∙ ap (λ (j : Item). giving (λ (more : List Given). (j, length rest) ∷ more) (run (t ∷ rest) s f)) (sym e);
+  less = λ d. absurd (left_is_none x t.start_mark (subst (λ (j : Item). IsDirective j.body) e d));
+  stands = λ d. absurd (left_is_none x t.start_mark (subst (λ (j : Item). IsDirective j.body) e d));
+}
+
+pub refuse_step : (x : State) (t : Token) (rest : List Token) (f : Option Fault) (s : List State) (p : ParseProblem) (o : Option yaml_mark_t) (e : Fault) → choice_at x (type_of t.body) ≡ Refuse p o
+    → e ≡ parser_fault p t.start_mark (context_of o t.start_mark) → IsRefused e (raw (Some t) rest f (x ∷ s))
+refuse_step x t rest f s p o e h q = record { reason = inr (refuses x p o t rest s f h ∙ ap (λ (g : Fault). record { items = []; ending = Some g }) (sym q)) }
+
+open_item : (x : State) (t : Token) (rest : List Token) (f : Option Fault) (s s' : List State) (i : Item) → choice_at x (type_of t.body) ≡ Open
+    → i ≡ item_at (item.document true) t.start_mark t.start_mark → s' ≡ opened t.start_mark ++ s → GivesItem i (raw (Some t) rest f (x ∷ s)) (raw (Some t) rest f s')
+open_item x t rest f s s' i h e q = record {
+  same = opens x t rest s f h
+      ∙ ap (λ (j : Item). giving (λ (more : List Given). (j, length rest) ∷ more) (run (t ∷ rest) (opened t.start_mark ++ s) f)) (sym e)
+      ∙ ap (λ (z : List State). giving (λ (more : List Given). (i, length rest) ∷ more) (run (t ∷ rest) z f)) (sym q);
+  less = λ d. absurd (subst (λ (j : Item). IsDirective j.body) e d);
+  stands = λ d. absurd (subst (λ (j : Item). IsDirective j.body) e d);
+}
+
+pub open_step : (x : State) (t : Token) (rest : List Token) (f : Option Fault) (s s' : List State) (r : Step) → choice_at x (type_of t.body) ≡ Open
+    → OpensAt t.start_mark s r s' → Steps (raw (Some t) rest f (x ∷ s)) r (raw (Some t) rest f s')
+open_step x t rest f s s' (step.Item i) h o = open_item x t rest f s s' (item_of i) h o.0 o.1
+open_step x t rest f s s' (step.Refused e) h o = record { reason = inl o }
+open_step x t rest f s s' step.Silent h o = absurd o
+open_step x t rest f s s' step.Done h o = absurd o
+
+pub open_real : (x : State) (t : Token) (start : yaml_mark_t) (s s' : List State) (r : Step) → OpensAt start s r s' → IsReal x t r
+open_real x t start s s' (step.Item i) o = λ d. absurd (subst (λ (j : Item). IsDirective j.body) o.0 d)
+open_real x t start s s' (step.Refused e) o = tt
+open_real x t start s s' step.Silent o = absurd o
+open_real x t start s s' step.Done o = absurd o
+
+-- what takes a token is real
+pub take_real : (x : State) (t : Token) (s : List State) (new : Raw) (r : Step) → choice_at x (type_of t.body) ≡ Take → Steps (raw (Some t) [] None (x ∷ s)) r new → IsReal x t r
+take_real x t s new (step.Item i) h o = λ d. h
+take_real x t s new (step.Refused f) h o = tt
+take_real x t s new step.Silent h o = h
+take_real x t s new step.Done h o = nothing_empty x s o.empty
+  where
+    nothing_empty : (x : State) (s : List State) → x ∷ s ≡ [] → ⊥
+    nothing_empty x s e = cc
+
+-- ---- the token of the source
+
+takes_real_token : (x : State) (t : Token) → choice_at x (type_of t.body) ≡ Take → t ≡ no_token → ⊥
+takes_real_token x t h e = takes_a_token x (sym (ap (λ (u : Token). choice_at x (type_of u.body)) e) ∙ h)
+
+less_of : (old middle new : ℕ) (x : State) (t : Token) → new < middle → (middle ≡ old) ⊎ (t ≡ no_token) → choice_at x (type_of t.body) ≡ Take → new < old
+less_of old middle new x t l a h = elim a [ inl e ↦ omega arith | inr e ↦ absurd (takes_real_token x t h e) ]
+
+pub bridge : (old middle new : Raw) (x : State) (t : Token) (r : Step) → Steps middle r new → outcome middle ≡ outcome old → (budget middle ≡ budget old) ⊎ (t ≡ no_token)
+    → IsReal x t r → Steps old r new
+bridge old middle new x t (step.Item i) h e a l = record {
+  same = sym e ∙ h.same;
+  less = λ d. less_of (budget old) (budget middle) (budget new) x t (h.less d) a (l d);
+  stands = h.stands;
+}
+bridge old middle new x t step.Silent h e a l = record {
+  same = sym e ∙ h.same;
+  less = less_of (budget old) (budget middle) (budget new) x t h.less a l;
+  stands = h.stands;
+}
+bridge old middle new x t (step.Refused f) h e a l = record { reason = elim h.reason [ inl m ↦ inl m | inr q ↦ inr (sym e ∙ q) ] }
+bridge old middle new x t step.Done h e a l = absurd l
+
+-- the state on top
+pub popped : (old new : List code.State) (x : code.State) → old ≡ new ++ x ∷ [] → stack_of old ≡ state_of x ∷ stack_of new
+popped old new x e = ap (λ (z : List code.State). map state_of (reverse z)) e ∙ ap (map state_of) (reverse-append new (x ∷ []))
+
+pub advanced : (peeked : Option Token) (ts : List Token) (f : Option Fault) (old : List State) (x : State) (s : List State) (t : Token) (rest : List Token) (after : Option Fault) (new : Raw) (r : Step)
+    → old ≡ x ∷ s → IsFront peeked ts f t rest after → Steps (raw (Some t) rest after (x ∷ s)) r new → IsReal x t r → Steps (raw peeked ts f old) r new
+advanced peeked ts f old x s t rest after new r e h k l =
+    bridge (raw peeked ts f old) (raw (Some t) rest after (x ∷ s)) new x t r k (rw e (h.runs (x ∷ s))) (elim h.asked [ inl a ↦ inl a | inr a ↦ inr a ]) l
+
+ending_outcome : (peeked : Option Token) (ts : List Token) (f : Option Fault) (old : List State) (x : State) (s : List State) (e : Fault)
+    → old ≡ x ∷ s → ((z : List State) → outcome (raw peeked ts f z) ≡ ending_at z e) → outcome (raw peeked ts f old) ≡ record { items = []; ending = Some e }
+ending_outcome peeked ts f old x s e p r = r old ∙ ap (λ (z : List State). ending_at z e) p
+
+pub no_front_step : (peeked : Option Token) (ts : List Token) (f : Option Fault) (old : List State) (x : State) (s : List State) (e : Fault)
+    → old ≡ x ∷ s → HasNoFront peeked ts f e → IsRefused e (raw peeked ts f old)
+no_front_step peeked ts f old x s e p h = record { reason = elim h.reason [ inl m ↦ inl m | inr r ↦ inr (ending_outcome peeked ts f old x s e p r) ] }
+
+pub leave_real : (x : State) (t : Token) (start : yaml_mark_t) (i : codeitem.Item) → item_of i ≡ left_at x start → IsReal x t (step.Item i)
+leave_real x t start i e = λ d. absurd (left_is_none x start (subst (λ (j : Item). IsDirective j.body) e d))

@@ -1,0 +1,198 @@
+-- What a step with its item resolved owes.
+use Rattle.std.proofs.Common.{◌≡◌, ◌⊎◌, ◌+◌, ◌<◌, ℕ, inl, inr, List, [], ◌∷◌, length, Option, Some, None, refl, sym, ap, subst, ◌∙◌, arith, true}
+use Rattle.yaml_scan.specs.declared.yaml_error_type_t.TheVariants.{YAML_MEMORY_ERROR}
+use Rattle.yaml_scan.specs.declared.yaml_mark_t.{yaml_mark_t}
+use Rattle.yaml_scan.specs.Tokens.{Token}
+use Rattle.yaml_scan.specs.Faults.{Fault}
+use Rattle.yaml_parse_model.specs.Events.{Event, EventBody, no_event}
+use Rattle.yaml_parse_grammar.specs.Items.{Item, ItemBody}
+use Rattle.yaml_parse_grammar.specs.Items as item
+use Rattle.yaml_parse_grammar.specs.States.{State}
+use Rattle.yaml_parse_grammar.specs.States as state
+use Rattle.yaml_parse_grammar.specs.Trees.{Given, Stream, spell, items}
+use Rattle.yaml_parse_grammar.specs.Machine.{Outcome, run, finished, initial, Stands}
+use Rattle.yaml_parse_grammar.specs.Resolve.{Directives, no_directives, Settled, refused, gave, noted, settle, settle_body, resolved, placed, read_on, reading, Reading, Told}
+use Rattle.yaml_parse_grammar.specs.Coming.{Coming, coming, reading_of, waiting, held_of, IsFinished, Gives, GivesNothing, GivesEvent, EventOf, FaultOf}
+use Rattle.yaml_parse_grammar.proofs.Complete.{nothing_runs, stream_runs}
+use Rattle.yaml_parse_grammar.proofs.Voice.{speaks, reading_speaks, not_noted}
+use Rattle.yaml_parse.specs.Steps.{Raw, outcome, IsDirective, GivesItem, GivesNoItem, IsRefused, IsDone, IsSilent, IsTurnRefused, IsOver, Kept}
+
+-- what is to come of it
+abbrev pub of_raw : Raw → Directives → Fault → Coming
+of_raw r ds answered = coming r.peeked r.tokens r.fault r.stack ds answered
+
+-- ---- reading
+
+reading_gave : (gs : List Given) (f : Option Fault) (ds ds' : Directives) (i : Item) (left : ℕ) (body : EventBody) → settle i ds ≡ gave body ds'
+    → reading ((i, left) ∷ gs) f ds ≡ record { events = (placed body i, left) ∷ (reading gs f ds').events; ending = (reading gs f ds').ending }
+unfolding reading
+reading_gave gs f ds ds' i left body h = ap (λ (c : Settled). read_on c i left (λ d. reading gs f d)) h
+
+reading_noted : (gs : List Given) (f : Option Fault) (ds ds' : Directives) (i : Item) (left : ℕ) → settle i ds ≡ noted ds' → reading ((i, left) ∷ gs) f ds ≡ reading gs f ds'
+unfolding reading
+reading_noted gs f ds ds' i left h = ap (λ (c : Settled). read_on c i left (λ d. reading gs f d)) h
+
+reading_refused : (gs : List Given) (f : Option Fault) (ds : Directives) (i : Item) (left : ℕ) (e : Fault) → settle i ds ≡ refused e
+    → reading ((i, left) ∷ gs) f ds ≡ record { events = []; ending = Some e }
+unfolding reading
+reading_refused gs f ds i left e h = ap (λ (c : Settled). read_on c i left (λ d. reading gs f d)) h
+
+reading_nothing : (f : Option Fault) (ds : Directives) → reading [] f ds ≡ record { events = []; ending = f }
+unfolding reading
+reading_nothing f ds = refl
+
+noted_directive : (b : ItemBody) (from : yaml_mark_t) (ds ds' : Directives) → settle_body b from ds ≡ noted ds' → IsDirective b
+noted_directive (item.version_directive x y) from ds ds' e = tt
+noted_directive (item.tag_directive x y) from ds ds' e = tt
+noted_directive (item.event b) from ds ds' e = cc
+noted_directive (item.document i) from ds ds' e = cc
+noted_directive (item.node a None shape) from ds ds' e = cc
+noted_directive (item.node a (Some t) shape) from ds ds' e = not_noted (resolved ds.tags t.handle t.suffix) a shape from t.mark ds ds' e
+
+-- ---- nothing to come
+
+empty_reading : (ts : List Token) (f : Option Fault) (s : List State) (ds : Directives) → s ≡ [] → reading_of (run ts s f) ds ≡ record { events = []; ending = None }
+empty_reading ts f s ds e = ap (λ (z : List State). reading_of (run ts z f) ds) e ∙ ap (λ (o : Outcome). reading_of o ds) (nothing_runs ts f) ∙ reading_nothing None ds
+
+pub finishes : (peeked : Option Token) (ts : List Token) (f : Option Fault) (s : List State) (ds : Directives) (answered : Fault) → s ≡ [] → IsFinished (coming peeked ts f s ds answered)
+finishes peeked ts f s ds answered e = record {
+  events = ap (λ (r : Reading). r.events) (empty_reading (waiting peeked ts) f s ds e);
+  ending = ap (λ (r : Reading). r.ending) (empty_reading (waiting peeked ts) f s ds e);
+  between = rw e refl;
+}
+
+-- ---- turns
+
+gives : (r : Reading) (told : Told) (more : Reading) (e : Event) (old new : Coming) → r ≡ record { events = told ∷ more.events; ending = more.ending } → e ≡ told.0
+    → new.events ≡ more.events → new.ending ≡ more.ending → new.unasked ≡ told.1 → new.answered ≡ old.answered → GivesEvent r.events r.ending e old new
+gives r told more e old new p g a b u w = rw p (record { given = g; events = a; ending = b; unasked = u; answered = w })
+
+pub event_turn : (old new : Raw) (ds ds' : Directives) (answered : Fault) (i : Item) (body : EventBody) (e : Event) → GivesItem i old new → settle i ds ≡ gave body ds' → e ≡ placed body i
+    → EventOf (of_raw old ds answered) e (of_raw new ds' answered)
+event_turn old new ds ds' answered i body e h s p =
+    gives (reading_of (outcome old) ds) (placed body i, length new.tokens) (reading_of (outcome new) ds') e (of_raw old ds answered) (of_raw new ds' answered)
+    (ap (λ (o : Outcome). reading_of o ds) h.same ∙ reading_gave (outcome new).items (outcome new).ending ds ds' i (length new.tokens) body s)
+    p refl refl refl refl
+
+silent_of : (old new : Coming) (same : Reading) (more : Reading) → same ≡ more → old.events ≡ same.events → old.ending ≡ same.ending → new.events ≡ more.events → new.ending ≡ more.ending
+    → new.answered ≡ old.answered → new.unasked + new.held < old.unasked + old.held → (more.events ≡ [] → more.ending ≡ None → ⊥) → IsSilent old new
+silent_of old new same more e a b c d w l s = record {
+  answered = w;
+  events = c ∙ ap (λ (r : Reading). r.events) (sym e) ∙ sym a;
+  ending = d ∙ ap (λ (r : Reading). r.ending) (sym e) ∙ sym b;
+  less = l;
+  speaks = λ p q. s (ap (λ (r : Reading). r.events) (sym e) ∙ sym a ∙ p) (ap (λ (r : Reading). r.ending) (sym e) ∙ sym b ∙ q);
+}
+
+still_speaks : (r : Raw) (ds : Directives) → Stands r.stack → (reading_of (outcome r) ds).events ≡ [] → (reading_of (outcome r) ds).ending ≡ None → ⊥
+still_speaks r ds h = reading_speaks (outcome r).items (outcome r).ending ds (speaks (waiting r.peeked r.tokens) r.fault r.stack h)
+
+pub silent_turn : (old new : Raw) (ds : Directives) (answered : Fault) → GivesNoItem old new → IsSilent (of_raw old ds answered) (of_raw new ds answered)
+silent_turn old new ds answered h =
+    silent_of (of_raw old ds answered) (of_raw new ds answered) (reading_of (outcome old) ds) (reading_of (outcome new) ds) (ap (λ (o : Outcome). reading_of o ds) h.same)
+    refl refl refl refl refl h.less (still_speaks new ds h.stands)
+
+pub noted_turn : (old new : Raw) (ds ds' : Directives) (answered : Fault) (i : Item) → GivesItem i old new → settle i ds ≡ noted ds' → IsSilent (of_raw old ds answered) (of_raw new ds' answered)
+noted_turn old new ds ds' answered i h s =
+    silent_of (of_raw old ds answered) (of_raw new ds' answered) (reading_of (outcome old) ds) (reading_of (outcome new) ds')
+    (ap (λ (o : Outcome). reading_of o ds) h.same ∙ reading_noted (outcome new).items (outcome new).ending ds ds' i (length new.tokens) s)
+    refl refl refl refl refl (h.less (noted_directive i.body i.from ds ds' s)) (still_speaks new ds' (h.stands (noted_directive i.body i.from ds ds' s)))
+
+refused_of : (old : Coming) (r : Reading) (e : Fault) → r ≡ record { events = []; ending = Some e } → old.events ≡ r.events → old.ending ≡ r.ending → (old.events ≡ []) × (old.ending ≡ Some e)
+refused_of old r e p a b = (a ∙ ap (λ (x : Reading). x.events) p, b ∙ ap (λ (x : Reading). x.ending) p)
+
+pub refused_turn : (old new : Raw) (ds ds' : Directives) (answered : Fault) (e : Fault) → IsRefused e old → new.stack ≡ [] → IsTurnRefused e (of_raw old ds answered) (of_raw new ds' answered)
+refused_turn old new ds ds' answered e h s = record {
+  finished = finishes new.peeked new.tokens new.fault new.stack ds' answered s;
+  reason = elim h.reason [
+    | inl m ↦ inl m
+    | inr q ↦ inr (refused_of (of_raw old ds answered) (reading_of (outcome old) ds) e (ap (λ (o : Outcome). reading_of o ds) q ∙ reading_nothing (Some e) ds) refl refl)
+  ];
+}
+
+pub settled_turn : (old middle new : Raw) (ds ds' : Directives) (answered : Fault) (i : Item) (e : Fault) → GivesItem i old middle → settle i ds ≡ refused e → new.stack ≡ []
+    → IsTurnRefused e (of_raw old ds answered) (of_raw new ds' answered)
+settled_turn old middle new ds ds' answered i e h r s = record {
+  finished = finishes new.peeked new.tokens new.fault new.stack ds' answered s;
+  reason = inr (refused_of (of_raw old ds answered) (reading_of (outcome old) ds) e
+      (ap (λ (o : Outcome). reading_of o ds) h.same ∙ reading_refused (outcome middle).items (outcome middle).ending ds i (length middle.tokens) e r) refl refl);
+}
+
+pub memory_turn : (old : Coming) (new : Raw) (ds' : Directives) (answered : Fault) (e : Fault) → e.kind ≡ YAML_MEMORY_ERROR → new.stack ≡ [] → IsTurnRefused e old (of_raw new ds' answered)
+memory_turn old new ds' answered e m s = record { finished = finishes new.peeked new.tokens new.fault new.stack ds' answered s; reason = inl m }
+
+pub done_turn : (old new : Raw) (ds : Directives) (answered : Fault) → IsDone old new → IsOver (of_raw old ds answered) (of_raw new ds answered)
+done_turn old new ds answered h = record {
+  finished = finishes old.peeked old.tokens old.fault old.stack ds answered h.empty;
+  same = ap (λ (r : Raw). of_raw r ds answered) h.same;
+}
+
+-- ---- the beginning
+
+pub starts : (ts : List Token) (f : Option Fault) (s : List State) (ds : Directives) (t : Stream) (rest : List Token) → s ≡ initial → ds ≡ no_directives → ts ≡ spell t rest
+    → ((reading_of (run ts s f) ds).events ≡ (reading (items t rest) None no_directives).events)
+    × ((reading_of (run ts s f) ds).ending ≡ (reading (items t rest) None no_directives).ending)
+starts ts f s ds t rest e d h =
+    let o : run ts s f ≡ record { items = items t rest; ending = None } = ap (λ (z : List State). run ts z f) e ∙ ap (λ (us : List Token). run us initial f) h ∙ stream_runs t rest f in
+    let r : reading_of (run ts s f) ds ≡ reading (items t rest) None no_directives = ap (reading_of (run ts s f)) d ∙ ap (λ (o : Outcome). reading_of o no_directives) o
+    in (ap (λ (x : Reading). x.events) r, ap (λ (x : Reading). x.ending) r)
+
+-- ---- the turns of a call
+
+pub kept_first : (c : Coming) → Kept c c
+kept_first c = record { events = refl; ending = refl; answered = refl; unasked = inl (refl, refl) }
+
+pub kept_silent : (i o n : Coming) → Kept i o → IsSilent o n → Kept i n
+kept_silent i o n k s = record {
+  events = s.events ∙ k.events;
+  ending = s.ending ∙ k.ending;
+  answered = s.answered ∙ k.answered;
+  unasked = inr (λ p q. s.speaks (k.events ∙ p) (k.ending ∙ q));
+}
+
+same_unasked : (i o : Coming) → Kept i o → i.events ≡ [] → i.ending ≡ None → (o.unasked ≡ i.unasked) × (o.held ≡ i.held)
+same_unasked i o k p q = elim k.unasked [ inl a ↦ a | inr s ↦ absurd (s p q) ]
+
+nothing_given : (i o n : Coming) (e : Event) → Kept i o → i.events ≡ [] → i.ending ≡ None → GivesNothing e o n → GivesNothing e i n
+nothing_given i o n e k p q g = record {
+  given = g.given;
+  finished = g.finished;
+  unasked = g.unasked ∙ (same_unasked i o k p q).0;
+  held = g.held ∙ (same_unasked i o k p q).1;
+  answered = g.answered ∙ k.answered;
+}
+
+regive : (es : List Told) (f : Option Fault) (e : Event) (i o n : Coming) → Kept i o → i.events ≡ es → i.ending ≡ f → GivesEvent es f e o n → GivesEvent es f e i n
+regive (t ∷ ts) f e i o n k p q g =
+    record { given = g.given; events = g.events; ending = g.ending; unasked = g.unasked; answered = g.answered ∙ k.answered }
+regive [] None e i o n k p q g = nothing_given i o n e k p q g
+regive [] (Some f) e i o n k p q g = g
+
+pub parsed_event : (i o n : Coming) (e : Event) → Kept i o → EventOf o e n → EventOf i e n
+parsed_event i o n e k h =
+    regive i.events i.ending e i o n k refl refl
+    (subst (λ (es : List Told). GivesEvent es i.ending e o n) k.events (subst (λ (f : Option Fault). GivesEvent o.events f e o n) k.ending h))
+
+end_given : (es : List Told) (f : Option Fault) (e : Event) (i n : Coming) → es ≡ [] → f ≡ None → GivesNothing e i n → GivesEvent es f e i n
+end_given es f e i n p q h = rw (p, q) h
+
+over_gives : (o n : Coming) (e : Event) → IsOver o n → e ≡ no_event → GivesNothing e o n
+over_gives o n e h p = record {
+  given = p;
+  finished = subst IsFinished (sym h.same) h.finished;
+  unasked = ap (λ (c : Coming). c.unasked) h.same;
+  held = ap (λ (c : Coming). c.held) h.same;
+  answered = ap (λ (c : Coming). c.answered) h.same;
+}
+
+pub parsed_end : (i o n : Coming) (e : Event) → Kept i o → IsOver o n → e ≡ no_event → EventOf i e n
+parsed_end i o n e k h p =
+    end_given i.events i.ending e i n (sym k.events ∙ h.finished.events) (sym k.ending ∙ h.finished.ending)
+    (nothing_given i o n e k (sym k.events ∙ h.finished.events) (sym k.ending ∙ h.finished.ending) (over_gives o n e h p))
+
+pub parsed_fault : (i o n n' : Coming) (f : Fault) → Kept i o → IsTurnRefused f o n → n'.events ≡ n.events → n'.ending ≡ n.ending → n'.between ≡ n.between → n'.answered ≡ f → FaultOf i f n'
+parsed_fault i o n n' f k h a b c d = record {
+  finished = record { events = a ∙ h.finished.events; ending = b ∙ h.finished.ending; between = c ∙ h.finished.between };
+  answered = d;
+  reason = elim h.reason [ inl m ↦ inl m | inr q ↦ inr (sym k.events ∙ q.0, sym k.ending ∙ q.1) ];
+}

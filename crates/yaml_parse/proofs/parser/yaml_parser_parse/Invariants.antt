@@ -1,0 +1,9 @@
+use Rattle.std.proofs.Common.{◌+◌}
+use Rattle.yaml_parse.specs.Steps.{Kept}
+use Rattle.yaml_parse.proofs.parser.yaml_parser_parse.Given as goal
+
+abbrev pub invariant-turns : goal.invariant-turns
+invariant-turns g l = Kept l.initial.parser l.parser
+
+abbrev pub decreases-turns : goal.decreases-turns
+decreases-turns g l = l.parser.unasked + l.parser.held

@@ -1,7 +1,7 @@
 //! A text, read from the front.
 
 ghost use Rattle.std.specs.Prelude.{◌≡◌, ◌+◌, ◌<◌, ◌≤◌, ℕ, length, false};
-ghost use Rattle.yaml_scan_text.specs.Marks.{Place, byte, break_width, ends_break, mark_at, starts as starts_of, is_blank, is_blank_or_end};
+ghost use Rattle.yaml_scan_text.specs.Marks.{Place, byte, break_width, ends_break, splits_break, mark_at, starts as starts_of, is_blank, is_blank_or_end};
 
 use crate::record::yaml_mark_t;
 use std::marker::Model;
@@ -49,6 +49,21 @@ impl<'a> Reader<'a> {
             index: 0,
             line: 0,
             column: 0,
+        }
+    }
+
+    /// A reader that goes on at a place where another stood, by its mark.
+    pub fn resume(text: &'a [u8], mark: yaml_mark_t) -> Reader<'a>
+        requires inside { mark.index ≤ length text.now }
+        requires mark { mark ≡ mark_at text.now mark.index }
+        requires whole { splits_break text.now mark.index ≡ false }
+        ensures { result ≡ record { text = text.now; at = mark.index } }
+    {
+        Reader {
+            text,
+            index: mark.index as usize,
+            line: mark.line,
+            column: mark.column,
         }
     }
 

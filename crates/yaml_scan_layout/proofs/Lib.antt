@@ -1,0 +1,2 @@
+pub mod NextLemmas
+pub mod HistoryLemmas

@@ -1,1 +1,2 @@
 pub mod MarksLemmas
+pub mod BreaksLemmas

@@ -19,6 +19,6 @@ pub use name::{
     yaml_node_type_t, yaml_scalar_style_t, yaml_sequence_style_t, yaml_token_type_t,
 };
 pub use problem::{Context, Problem, ScanError, ScanFault};
-pub use reader::Reader;
+pub use reader::{Reader, is_blank as is_blank_byte};
 pub use record::{yaml_mark_t, yaml_simple_key_t, yaml_tag_directive_t, yaml_version_directive_t};
 pub use token::{yaml_token_body_t, yaml_token_delete, yaml_token_t};

@@ -85,6 +85,25 @@ pub enum ScanError {
     Fault(ScanFault),
 }
 
+impl ScanError {
+    /// The refusal of a lexeme that starts at the context mark, by what doesn't fit at the problem mark.
+    pub fn refusal(
+        problem: Problem,
+        context: Context,
+        context_mark: yaml_mark_t,
+        problem_mark: yaml_mark_t,
+    ) -> ScanError
+        ensures { result ≡ ScanError.Fault (record { problem = problem; context = context; context_mark = context_mark; problem_mark = problem_mark }) }
+    {
+        ScanError::Fault(ScanFault {
+            problem,
+            context,
+            context_mark,
+            problem_mark,
+        })
+    }
+}
+
 impl From<AllocError> for ScanError {
     ghost from_gives = { λ _ e. e ≡ Memory };
 

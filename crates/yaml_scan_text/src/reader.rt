@@ -2,6 +2,7 @@
 
 ghost use Rattle.std.specs.Prelude.{◌≡◌, ◌+◌, ◌<◌, ◌≤◌, ℕ, length, false};
 ghost use Rattle.yaml_scan_text.specs.Marks.{Place, byte, break_width, ends_break, splits_break, mark_at, starts as starts_of, is_blank, is_blank_or_end};
+ghost use Rattle.yaml_scan_text.specs.Breaks.{feed_at, is_document_indicator};
 
 use crate::record::yaml_mark_t;
 use std::marker::Model;
@@ -14,7 +15,7 @@ fn starts(byte: u8) -> bool
 }
 
 /// Whether the byte is a space or a tab.
-pub(crate) fn is_blank(byte: u8) -> bool
+pub fn is_blank(byte: u8) -> bool
     ensures { result ≡ is_blank byte }
 {
     byte == b' ' || byte == b'\t'
@@ -143,6 +144,38 @@ impl<'a> Reader<'a> {
     {
         let _here = self.index;
         self.break_width_at(0)
+    }
+
+    /// What the break here reads as: CR LF, CR, LF and NEL as a line feed, LS and PS as themselves; nothing where no
+    /// break stands.
+    pub fn feed(&self) -> &'static [u8]
+        ensures { result.now ≡ feed_at self.now.text self.now.at }
+    {
+        let width = self.break_width();
+        if width == 0 {
+            return &[];
+        }
+        if width == 3 {
+            if self.byte(2) == 0xA8 {
+                return &[0xE2, 0x80, 0xA8];
+            }
+            return &[0xE2, 0x80, 0xA9];
+        }
+        b"\n"
+    }
+
+    /// Whether `---` or `...` stands here, at column 0 and before a blank, a break or the end.
+    #[tactic(auto, unfolding(crate::specs::Breaks::is_document_indicator))]
+    pub fn at_document_indicator(&self) -> bool
+        ensures { result ≡ is_document_indicator self.now.text self.now.at }
+    {
+        if self.mark().column > 0 {
+            return false;
+        }
+        let (a, b, c) = (self.byte(0), self.byte(1), self.byte(2));
+        let dashes = a == b'-' && b == b'-' && c == b'-';
+        let dots = a == b'.' && b == b'.' && c == b'.';
+        (dashes || dots) && self.is_blank_or_end(3)
     }
 
     /// Whether a blank, a break or the end stands that many places ahead.

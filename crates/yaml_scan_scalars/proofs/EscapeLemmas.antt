@@ -1,0 +1,64 @@
+-- Escapes, a digit at a time.
+use Rattle.std.proofs.Common.{◌≡◌, ℕ, zero, suc, ◌+◌, ◌-◌, ◌*◌, ◌<◌, ◌≤◌, true, List, Some, None, nat_lt, refl, arith, add-one, add-zero, add-suc}
+use Rattle.std.proofs.lemmas.Bool.Decides.{nat_tests}
+use Rattle.yaml_scan_text.specs.Marks.{byte, break_width}
+use Rattle.yaml_scan_scalars.specs.Quoted.{hex_digit, hex_value, hex_len, simple_escape, escape_at, coded}
+
+pub hex_start : (text : List ℕ) (p : ℕ) → hex_value text p 0 ≡ Some 0
+unfolding hex_value
+hex_start text p = refl
+
+pub hex_more : (text : List ℕ) (p k v d : ℕ) → hex_value text p k ≡ Some v → hex_digit (byte text (p + k)) ≡ Some d → hex_value text p (k + 1) ≡ Some (v * 16 + d)
+unfolding hex_value
+hex_more text p k v d h e = rw (add-one, h, e) refl
+
+pub hex_stop : (text : List ℕ) (p k v : ℕ) → hex_value text p k ≡ Some v → hex_digit (byte text (p + k)) ≡ None → hex_value text p (k + 1) ≡ None
+unfolding hex_value
+hex_stop text p k v h e = rw (add-one, h, e) refl
+
+pub hex_none : (text : List ℕ) (p k m : ℕ) → hex_value text p k ≡ None → hex_value text p (k + m) ≡ None
+unfolding hex_value
+hex_none text p k zero h = rw add-zero h
+hex_none text p k (suc m) h = rw (add-suc, hex_none text p k m h) refl
+
+pub hex_refused : (text : List ℕ) (p k n v : ℕ) → hex_value text p k ≡ Some v → hex_digit (byte text (p + k)) ≡ None → k < n → hex_value text p n ≡ None
+hex_refused text p k n v h e l =
+    let all : k + 1 + (n - (k + 1)) ≡ n = omega arith in
+    rw all at (hex_none text p (k + 1) (n - (k + 1)) (hex_stop text p k v h e))
+
+-- what k digits spell at most, and one more
+abbrev pub hex_limit : ℕ → ℕ
+hex_limit zero = 1
+hex_limit (suc k) = 16 * hex_limit k
+
+pub hex_room : (k : ℕ) → k < 8 → 16 * hex_limit k ≤ 4294967296
+hex_room zero h = omega arith
+hex_room (suc zero) h = omega arith
+hex_room (suc (suc zero)) h = omega arith
+hex_room (suc (suc (suc zero))) h = omega arith
+hex_room (suc (suc (suc (suc zero)))) h = omega arith
+hex_room (suc (suc (suc (suc (suc zero))))) h = omega arith
+hex_room (suc (suc (suc (suc (suc (suc zero)))))) h = omega arith
+hex_room (suc (suc (suc (suc (suc (suc (suc zero))))))) h = omega arith
+hex_room (suc (suc (suc (suc (suc (suc (suc (suc k)))))))) h = absurd (omega arith)
+
+pub hex_limit-more : (k : ℕ) → hex_limit (k + 1) ≡ 16 * hex_limit k
+hex_limit-more k = rw add-one refl
+
+pub hex_len-zero : hex_len 0 ≡ 0
+unfolding hex_len
+hex_len-zero = refl
+
+pub simple_escape-zero : simple_escape 0 ≡ None
+unfolding simple_escape
+simple_escape-zero = refl
+
+pub not_zero : (text : List ℕ) (p : ℕ) → (byte text p ≡ 0 → ⊥) → 0 < byte text p
+not_zero text p h = omega (arith, h)
+
+pub escape_code : (text : List ℕ) (p : ℕ) → break_width text (p + 1) ≡ 0 → 0 < hex_len (byte text (p + 1))
+    → escape_at text p ≡ coded (p + 2) (p + 2 + hex_len (byte text (p + 1))) (hex_value text (p + 2) (hex_len (byte text (p + 1))))
+unfolding escape_at
+escape_code text p z h =
+    let e : nat_lt 0 (hex_len (byte text (p + 1))) ≡ true = grind (arith, nat_tests) in
+    rw (z, e) refl

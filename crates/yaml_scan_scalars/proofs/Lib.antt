@@ -1,0 +1,3 @@
+pub mod FoldingLemmas
+pub mod EscapeLemmas
+pub mod QuotedLemmas

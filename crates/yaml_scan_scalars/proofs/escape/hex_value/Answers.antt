@@ -1,0 +1,37 @@
+use Rattle.std.proofs.Common.{refl, arith, ◌∙◌, sym, ◌≡◌, ◌+◌, None, Some}
+use Rattle.yaml_scan_scalars.specs.Quoted.{hex_digit}
+use Rattle.yaml_scan_text.specs.Marks.{byte}
+use Rattle.yaml_scan_scalars.proofs.EscapeLemmas.{hex_start, hex_more, hex_refused, hex_room, hex_limit-more}
+use Rattle.yaml_scan_scalars.proofs.escape.hex_value.Goals as goal
+
+pub loop-k-init : goal.loop-k-init
+loop-k-init c =
+    let z : c.args.reader.now.at + 0 ≡ c.args.reader.now.at = omega arith in
+    record { place = rw z refl; spelled = hex_start _ _; small = omega arith }
+
+pub returns-in_err-digit-clause-value : goal.returns-in_err-digit-clause-value
+returns-in_err-digit-clause-value c =
+    let b = rw c.loop-k.invariant.place at c.here.ensures in
+    let d : hex_digit (byte c.args.reader.now.text (c.args.reader.now.at + c.loop-k.k)) ≡ None = rw b at (sym c.in_err-digit.ensures.value) in
+    c.from_residual.ensures ∙ sym (hex_refused _ _ _ _ _ c.loop-k.invariant.spelled d c.loop-k-test.true)
+
+pub overflow_mul-value : goal.overflow_mul-value
+overflow_mul-value c =
+    let room = hex_room c.loop-k.k (omega arith) in
+    omega (arith, room, c.loop-k.invariant.small)
+
+pub overflow_add-value : goal.overflow_add-value
+overflow_add-value c =
+    let room = hex_room c.loop-k.k (omega arith) in
+    omega (arith, room, c.loop-k.invariant.small, c.in_ok-digit.ensures.small)
+
+pub loop-k-preserved : goal.loop-k-preserved
+loop-k-preserved c =
+    let y : c.args.reader.now.at + c.loop-k.k + 1 ≡ c.args.reader.now.at + (c.loop-k.k + 1) = omega arith in
+    let b = rw c.loop-k.invariant.place at c.here.ensures in
+    let d : hex_digit (byte c.args.reader.now.text (c.args.reader.now.at + c.loop-k.k)) ≡ Some c.in_ok-digit.digit = rw b at (sym c.in_ok-digit.ensures.value) in
+    record {
+      place = c.skip.ensures ∙ rw (c.loop-k.invariant.place, y) refl;
+      spelled = hex_more _ _ _ _ _ c.loop-k.invariant.spelled d;
+      small = rw (hex_limit-more c.loop-k.k) (omega (arith, c.loop-k.invariant.small, c.in_ok-digit.ensures.small));
+    }

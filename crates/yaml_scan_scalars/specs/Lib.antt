@@ -1,0 +1,4 @@
+pub mod Pieces
+pub mod Resume
+pub mod Quoted
+pub mod Gives

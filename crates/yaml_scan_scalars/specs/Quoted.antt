@@ -1,0 +1,122 @@
+-- Double and single quoted scalars.
+use Rattle.std.specs.Prelude.{ℕ, zero, suc, ◌+◌, ◌*◌, ◌-◌, Bool, ◌&&◌, ◌||◌, ◌==◌, nat_lt, nat_le, if◌then◌else◌, List, [], ◌∷◌, ◌++◌, length, Option, Some, None, option_and_then, option_map, Result, Ok, Err, encode_utf8}
+use Rattle.yaml_scan_text.specs.declared.problem.Problem.{Problem}
+use Rattle.yaml_scan_text.specs.declared.problem.Problem.TheVariants as problems
+use Rattle.yaml_scan_text.specs.declared.problem.Context.TheVariants as contexts
+use Rattle.yaml_scan_text.specs.Marks.{byte, break_width, is_blank}
+use Rattle.yaml_scan_text.specs.Breaks.{break_value, is_document_indicator}
+use Rattle.yaml_scan_text.specs.Wrong.{Wrong}
+use Rattle.yaml_scan_scalars.specs.Pieces.{Piece, Kept, Blank, Break, value}
+
+-- What stands at a place inside the quotes: the closing one, pieces with the place after them, or what is wrong.
+pub data Standing : Type 0 where
+  Closing : Standing
+  Pieces : List Piece → ℕ → Standing
+  Bad : Wrong → Standing
+
+abbrev pub in_quotes : Problem → ℕ → Standing
+in_quotes problem p = Bad record { problem = problem; context = contexts.QuotedScalar; place = p }
+
+abbrev pub in_escape : Problem → ℕ → Standing
+in_escape problem p = Bad record { problem = problem; context = contexts.QuotedScalarEscape; place = p }
+
+-- the value of a hexadecimal digit
+unfoldable pub hex_digit : ℕ → Option ℕ
+hex_digit b =
+    if nat_le 48 b && nat_le b 57 then Some (b - 48)
+    else if nat_le 65 b && nat_le b 70 then Some (b - 55)
+    else if nat_le 97 b && nat_le b 102 then Some (b - 87)
+    else None
+
+-- the number that n hexadecimal digits spell, or none where one of them is no digit
+unfoldable pub hex_value : List ℕ → ℕ → ℕ → Option ℕ
+hex_value text p zero = Some 0
+hex_value text p (suc n) = option_and_then (λ high. option_map (λ low. high * 16 + low) (hex_digit (byte text (p + n)))) (hex_value text p n)
+
+-- a Unicode scalar value
+abbrev pub is_scalar : ℕ → Bool
+is_scalar c = nat_lt c 0xD800 || (nat_le 0xE000 c && nat_le c 0x10_FFFF)
+
+abbrev pub coded : ℕ → ℕ → Option ℕ → Standing
+coded p q None = in_escape problems.NoHexNumber p
+coded p q (Some c) = if is_scalar c then Pieces (Kept (encode_utf8 c) ∷ []) q else in_escape problems.InvalidCode p
+
+-- how many digits follow `x`, `u` and `U`
+unfoldable pub hex_len : ℕ → ℕ
+hex_len b = if b == 0x78 then 2 else if b == 0x75 then 4 else if b == 0x55 then 8 else 0
+
+-- the bytes that a letter stands for behind a backslash
+unfoldable pub simple_escape : ℕ → Option (List ℕ)
+simple_escape b =
+    if b == 0x30 then Some (0 ∷ [])
+    else if b == 0x61 then Some (7 ∷ [])
+    else if b == 0x62 then Some (8 ∷ [])
+    else if b == 0x74 || b == 9 then Some (9 ∷ [])
+    else if b == 0x6E then Some (10 ∷ [])
+    else if b == 0x76 then Some (11 ∷ [])
+    else if b == 0x66 then Some (12 ∷ [])
+    else if b == 0x72 then Some (13 ∷ [])
+    else if b == 0x65 then Some (0x1B ∷ [])
+    else if b == 0x20 || (b == 0x22 || (b == 0x2F || b == 0x5C)) then Some (b ∷ [])
+    else if b == 0x4E then Some (0xC2 ∷ 0x85 ∷ [])
+    else if b == 0x5F then Some (0xC2 ∷ 0xA0 ∷ [])
+    else if b == 0x4C then Some (0xE2 ∷ 0x80 ∷ 0xA8 ∷ [])
+    else if b == 0x50 then Some (0xE2 ∷ 0x80 ∷ 0xA9 ∷ [])
+    else None
+
+abbrev pub escaped : ℕ → Option (List ℕ) → Standing
+escaped p None = in_escape problems.UnknownEscape p
+escaped p (Some bytes) = Pieces (Kept bytes ∷ []) (p + 2)
+
+-- what the backslash there begins
+unfoldable pub escape_at : List ℕ → ℕ → Standing
+escape_at text p =
+    if nat_lt 0 (break_width text (p + 1)) then Pieces (Kept [] ∷ Break [] ∷ []) (p + 1 + break_width text (p + 1))
+    else if nat_lt 0 (hex_len (byte text (p + 1)))
+    then coded (p + 2) (p + 2 + hex_len (byte text (p + 1))) (hex_value text (p + 2) (hex_len (byte text (p + 1))))
+    else escaped p (simple_escape (byte text (p + 1)))
+
+-- the quote there closes the scalar, or is the first of two that stand for one
+unfoldable pub quote_at : ℕ → List ℕ → ℕ → Standing
+quote_at quote text p = if quote == 39 && byte text (p + 1) == 39 then Pieces (Kept (39 ∷ []) ∷ []) (p + 2) else Closing
+
+-- between quotes of that byte
+unfoldable pub standing_at : ℕ → List ℕ → ℕ → Standing
+standing_at quote text p =
+    if is_document_indicator text p then in_quotes problems.DocumentIndicator p
+    else if byte text p == 0 then in_quotes problems.EndOfStream p
+    else if byte text p == quote then quote_at quote text p
+    else if nat_lt 0 (break_width text p) then Pieces (Break (break_value text p) ∷ []) (p + break_width text p)
+    else if is_blank (byte text p) then Pieces (Blank (byte text p) ∷ []) (p + 1)
+    else if quote == 34 && byte text p == 92 then escape_at text p
+    else Pieces (Kept (byte text p ∷ []) ∷ []) (p + 1)
+
+-- these pieces before what follows
+abbrev pub with_front : List Piece → Result (List Piece × ℕ) Wrong → Result (List Piece × ℕ) Wrong
+with_front ps (Ok x) = Ok (ps ++ x.0, x.1)
+with_front ps (Err w) = Err w
+
+abbrev pub followed : (ℕ → Result (List Piece × ℕ) Wrong) → ℕ → Standing → Result (List Piece × ℕ) Wrong
+followed more p Closing = Ok ([], p + 1)
+followed more p (Pieces qs q) = with_front qs (more q)
+followed more p (Bad w) = Err w
+
+-- the pieces up to the closing quote, and the place after it, in at most n steps
+unfoldable pub pieces : ℕ → ℕ → List ℕ → ℕ → Result (List Piece × ℕ) Wrong
+pieces zero quote text p = Err record { problem = problems.EndOfStream; context = contexts.QuotedScalar; place = p }
+pieces (suc n) quote text p = followed (pieces n quote text) p (standing_at quote text p)
+
+-- a value of the pieces, and the place after them
+abbrev pub valued : (List Piece → List ℕ) → Result (List Piece × ℕ) Wrong → Result (List ℕ × ℕ) Wrong
+valued f (Ok x) = Ok (f x.0, x.1)
+valued f (Err w) = Err w
+
+-- the scalar between quotes of that byte whose opening one stands there: its value and the place after it, or what is wrong
+abbrev pub quoted_at : ℕ → List ℕ → ℕ → Result (List ℕ × ℕ) Wrong
+quoted_at quote text p = valued value (pieces (length text) quote text (p + 1))
+
+abbrev pub double_quoted_at : List ℕ → ℕ → Result (List ℕ × ℕ) Wrong
+double_quoted_at text p = quoted_at 34 text p
+
+abbrev pub single_quoted_at : List ℕ → ℕ → Result (List ℕ × ℕ) Wrong
+single_quoted_at text p = quoted_at 39 text p

@@ -1,0 +1,112 @@
+//! The value of a scalar's pieces, made from the front.
+
+ghost use Rattle.std.specs.Prelude.{◌≡◌, List, [], ◌∷◌, ◌<◌, ◌≤◌, ℕ, length, take, OnOk, IfOk};
+ghost use Rattle.yaml_scan_scalars.specs.Pieces.{Piece, Kept, Blank, Break, value};
+
+use std::alloc::{AllocError, Global};
+
+/// What stands before the next piece.
+#[derive(Clone, Copy, Debug, PartialEq, Eq)]
+pub(crate) enum Gap {
+    /// A character of this line, or blanks after it.
+    Line,
+    /// One line feed, and blanks.
+    Feed,
+    /// Breaks that stay, and blanks.
+    Kept,
+}
+
+/// The pieces so far, as far as no later one changes them.
+#[derive(Debug, Drop)]
+pub(crate) struct Folding {
+    /// The value so far.
+    pub done: Vec<u8>,
+    /// The blanks of this line behind it.
+    pub blanks: Vec<u8>,
+    pub gap: Gap,
+}
+
+impl Folding {
+    ghost use Rattle.yaml_scan_scalars.specs.Resume.{resume};
+
+    /// With no pieces.
+    pub(crate) fn new(alloc: Global) -> Folding
+        ensures { (ps : List Piece) → resume result ps ≡ value ps }
+    {
+        Folding {
+            done: Vec::new(alloc),
+            blanks: Vec::new(alloc),
+            gap: Gap::Line,
+        }
+    }
+
+    /// A blank.
+    pub(crate) fn blank(&mut self, byte: u8) -> Result<(), AllocError>
+        ensures value { OnOk result ((ps : List Piece) → resume self.new ps ≡ resume self.old (Blank byte ∷ ps)) }
+        ensures done { OnOk result ((n : ℕ) → n ≤ length self.old.done.items → take n self.new.done.items ≡ take n self.old.done.items) }
+        ensures longer { OnOk result (length self.old.done.items ≤ length self.new.done.items) }
+    {
+        match self.gap {
+            Gap::Line => {
+                self.blanks.push(byte)?;
+                Ok(())
+            }
+            Gap::Feed | Gap::Kept => Ok(()),
+        }
+    }
+
+    /// Bytes that stay.
+    pub(crate) fn keep(&mut self, bytes: &[u8]) -> Result<(), AllocError>
+        ensures value { OnOk result ((ps : List Piece) → resume self.new ps ≡ resume self.old (Kept bytes.now ∷ ps)) }
+        ensures line { OnOk result ((self.new.gap ≡ Gap.Line) × (self.new.blanks.items ≡ [])) }
+    {
+        match self.gap {
+            Gap::Line => self.done.extend_from_slice(self.blanks.as_slice())?,
+            Gap::Feed => self.done.push(b' ')?,
+            Gap::Kept => {}
+        }
+        self.blanks.clear();
+        self.gap = Gap::Line;
+        self.done.extend_from_slice(bytes)?;
+        Ok(())
+    }
+
+    /// A break, by the bytes that it reads as.
+    pub(crate) fn break_line(&mut self, bytes: &[u8]) -> Result<(), AllocError>
+        requires { 0 < length bytes.now }
+        ensures value { OnOk result ((ps : List Piece) → resume self.new ps ≡ resume self.old (Break bytes.now ∷ ps)) }
+        ensures done { OnOk result ((n : ℕ) → n ≤ length self.old.done.items → take n self.new.done.items ≡ take n self.old.done.items) }
+        ensures longer { OnOk result (length self.old.done.items ≤ length self.new.done.items) }
+    {
+        self.blanks.clear();
+        match self.gap {
+            Gap::Line if bytes[0] == b'\n' => {
+                self.gap = Gap::Feed;
+                Ok(())
+            }
+            _ => {
+                self.done.extend_from_slice(bytes)?;
+                self.gap = Gap::Kept;
+                Ok(())
+            }
+        }
+    }
+
+    /// A backslash before a break: content with no bytes, and a break that reads as nothing.
+    pub(crate) fn join_line(&mut self) -> Result<(), AllocError>
+        ensures { OnOk result ((ps : List Piece) → resume self.new ps ≡ resume self.old (Kept [] ∷ Break [] ∷ ps)) }
+    {
+        self.keep(&[])?;
+        self.gap = Gap::Kept;
+        Ok(())
+    }
+
+    /// The value, where no piece follows.
+    pub(crate) fn finish(self) -> Result<Vec<u8>, AllocError>
+        ensures { IfOk result (λ v. v.items ≡ resume self []) }
+    {
+        let mut folding = self;
+        folding.keep(&[])?;
+        Ok(folding.done)
+    }
+}

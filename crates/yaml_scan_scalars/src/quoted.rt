@@ -1,0 +1,128 @@
+//! Double and single quoted scalars (YAML 1.1, sections 9.1.1 and 9.1.2).
+
+ghost use Rattle.std.specs.Prelude.{◌≡◌, ◌+◌, ◌&&◌, ◌==◌, ◌⊎◌};
+ghost use Rattle.yaml_scan_text.specs.Marks.{byte};
+ghost use Rattle.yaml_scan_text.specs.declared.record.yaml_mark_t.{yaml_mark_t};
+ghost use Rattle.yaml_scan_scalars.specs.Quoted as spec;
+ghost use Rattle.yaml_scan_scalars.specs.Gives.{Took, Reads};
+ghost use Rattle.yaml_scan_scalars.specs.Resume.{resume};
+
+use crate::escape::escape;
+use crate::folding::Folding;
+use crate::scalar::Scalar;
+use std::alloc::Global;
+use yaml_scan_text::{Context, Problem, Reader, ScanError, is_blank_byte, yaml_mark_t};
+
+/// The double quoted scalar whose opening quote stands here. The reader is left after the closing one.
+pub fn double_quoted(alloc: Global, reader: &mut Reader) -> Result<Scalar, ScanError>
+    requires { byte reader.old.text reader.old.at ≡ 34 }
+    ensures { Reads reader.old.text reader.old.at reader.new result (spec.double_quoted_at reader.old.text reader.old.at) }
+{
+    quoted(alloc, reader, b'"')
+}
+
+/// The single quoted scalar whose opening quote stands here. The reader is left after the closing one.
+pub fn single_quoted(alloc: Global, reader: &mut Reader) -> Result<Scalar, ScanError>
+    requires { byte reader.old.text reader.old.at ≡ 39 }
+    ensures { Reads reader.old.text reader.old.at reader.new result (spec.single_quoted_at reader.old.text reader.old.at) }
+{
+    quoted(alloc, reader, b'\'')
+}
+
+/// The scalar whose opening quote stands here, of that byte.
+fn quoted(alloc: Global, reader: &mut Reader, quote: u8) -> Result<Scalar, ScanError>
+    requires opened { byte reader.old.text reader.old.at ≡ quote }
+    requires quote { (quote ≡ 34) ⊎ (quote ≡ 39) }
+    ensures { Reads reader.old.text reader.old.at reader.new result (spec.quoted_at quote reader.old.text reader.old.at) }
+{
+    let start = reader.mark();
+    reader.skip();
+    let mut folding = Folding::new(alloc);
+    'pieces: loop {
+        let more = piece(reader, &mut folding, quote, start)?;
+        if !more {
+            let value = folding.finish()?;
+            return Ok(Scalar {
+                value,
+                start_mark: start,
+                end_mark: reader.mark(),
+            });
+        }
+    }
+}
+
+/// Takes what stands here, and answers whether more follows.
+fn piece(
+    reader: &mut Reader,
+    folding: &mut Folding,
+    quote: u8,
+    start: yaml_mark_t,
+) -> Result<bool, ScanError>
+    requires { (quote ≡ 34) ⊎ (quote ≡ 39) }
+    ensures { Took reader.old.text start reader.old.at (resume folding.old) (resume folding.new) reader.new result (spec.standing_at quote reader.old.text reader.old.at) }
+{
+    if reader.at_document_indicator() {
+        return Err(wrong_scalar(Problem::DocumentIndicator, start, reader.mark()));
+    }
+    let byte = reader.here();
+    if byte == 0 {
+        return Err(wrong_scalar(Problem::EndOfStream, start, reader.mark()));
+    }
+    if byte == quote {
+        return ending(reader, folding, quote);
+    }
+    if reader.break_width() > 0 {
+        folding.break_line(reader.feed())?;
+        reader.skip_break();
+        return Ok(true);
+    }
+    if is_blank_byte(byte) {
+        folding.blank(byte)?;
+        reader.skip();
+        return Ok(true);
+    }
+    if is_escape(quote, byte) {
+        return escape(reader, folding, start);
+    }
+    folding.keep(&[byte])?;
+    reader.skip();
+    Ok(true)
+}
+
+/// The refusal of the scalar that starts at the mark.
+fn wrong_scalar(problem: Problem, start: yaml_mark_t, place: yaml_mark_t) -> ScanError
+    ensures { result ≡ ScanError.Fault (record { problem = problem; context = Context.QuotedScalar; context_mark = start; problem_mark = place }) }
+{
+    ScanError::refusal(problem, Context::QuotedScalar, start, place)
+}
+
+/// Whether the byte begins an escape between those quotes.
+fn is_escape(quote: u8, byte: u8) -> bool
+    ensures { result ≡ (quote == 34 && byte == 92) }
+{
+    quote == b'"' && byte == b'\\'
+}
+
+/// Whether single quotes follow one another.
+fn is_doubled(quote: u8, next: u8) -> bool
+    ensures { result ≡ (quote == 39 && next == 39) }
+{
+    quote == b'\'' && next == b'\''
+}
+
+/// Takes the quote that stands here: the closing one, or the first of two.
+#[tactic(auto, unfolding(crate::specs::Quoted::quote_at))]
+fn ending(reader: &mut Reader, folding: &mut Folding, quote: u8) -> Result<bool, ScanError>
+    requires opened { byte reader.old.text reader.old.at ≡ quote }
+    requires quote { (quote ≡ 34) ⊎ (quote ≡ 39) }
+    ensures { (start : yaml_mark_t) → Took reader.old.text start reader.old.at (resume folding.old) (resume folding.new) reader.new result (spec.quote_at quote reader.old.text reader.old.at) }
+{
+    let doubled = is_doubled(quote, reader.byte(1));
+    reader.skip();
+    if !doubled {
+        return Ok(false);
+    }
+    reader.skip();
+    folding.keep(b"'")?;
+    Ok(true)
+}

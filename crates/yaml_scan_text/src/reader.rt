@@ -1,7 +1,8 @@
 //! A text, read from the front.
 
 ghost use Rattle.std.specs.Prelude.{◌≡◌, ◌+◌, ◌<◌, ◌≤◌, ℕ, length, false};
-ghost use Rattle.yaml_scan_text.specs.Marks.{Place, byte, break_width, ends_break, splits_break, mark_at, starts as starts_of, is_blank, is_blank_or_end};
+ghost use Rattle.yaml_scan_text.specs.Marks.{Place, byte, break_width, ends_break, mark_at, starts as starts_of, is_blank, is_blank_or_end};
+ghost use Rattle.yaml_scan_text.specs.Marks.{splits_break};
 ghost use Rattle.yaml_scan_text.specs.Breaks.{feed_at, is_document_indicator};
 
 use crate::record::yaml_mark_t;
@@ -106,6 +107,15 @@ impl<'a> Reader<'a> {
             line: self.line,
             column: self.column,
         }
+    }
+
+    /// Where the reader stands, for one that resumes there.
+    pub fn stop(&self) -> yaml_mark_t
+        ensures mark { result ≡ mark_at self.now.text self.now.at }
+        ensures inside { self.now.at ≤ length self.now.text }
+        ensures whole { splits_break self.now.text self.now.at ≡ false }
+    {
+        self.mark()
     }
 
     /// How many bytes the break has that stands that many places ahead, or 0.

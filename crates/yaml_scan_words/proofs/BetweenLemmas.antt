@@ -1,0 +1,144 @@
+-- Gaps between lexemes, a step at a time.
+use Rattle.std.proofs.Common.{◌≡◌, ◌≢◌, ℕ, zero, suc, ◌+◌, ◌-◌, ◌<◌, ◌≤◌, ◌==◌, ◌&&◌, ◌||◌, nat_lt, Bool, true, false, not, List, length, refl, sym, ap, ◌∙◌, inl, inr, ◌⊎◌, arith}
+use Rattle.std.proofs.lemmas.Bool.{cases_Bool, true≢false}
+use Rattle.std.proofs.lemmas.Bool.Decides.{nat_tests}
+use Rattle.yaml_scan_text.specs.Marks.{byte, break_of, break_width}
+use Rattle.yaml_scan_text.specs.Classes.{is_bom}
+use Rattle.yaml_scan_text.proofs.MarksLemmas.{no_break, within}
+use Rattle.yaml_scan_words.specs.declared.between.Standing.{Standing}
+use Rattle.yaml_scan_words.specs.declared.between.Standing.TheVariants as standings
+use Rattle.yaml_scan_words.specs.declared.run.Run.TheVariants as runs
+use Rattle.yaml_scan_words.specs.Runs.{belongs, run_end}
+use Rattle.yaml_scan_words.proofs.RunsLemmas.{run_further}
+use Rattle.yaml_scan_words.specs.Between.{Step, step_at, is_skipped, Gap, with_break, gap_behind, gap_within}
+
+bom_parts : (a b c : ℕ) → (a == 0xEF && (b == 0xBB && c == 0xBF)) ≡ true → (a ≡ 0xEF) × (b ≡ 0xBB) × (c ≡ 0xBF)
+bom_parts a b c h = (grind (arith, nat_tests), grind (arith, nat_tests), grind (arith, nat_tests))
+
+second_of : (a b : Bool) → (a && b) ≡ true → b ≡ true
+second_of true b h = h
+second_of false b h = absurd (true≢false (sym h))
+
+equal_of : (a b : ℕ) → (a == b) ≡ true → a ≡ b
+equal_of a b h = grind (arith, nat_tests)
+
+less_of : (a b : ℕ) → nat_lt a b ≡ true → a < b
+less_of a b h = grind (arith, nat_tests)
+
+break_first : (b c d : ℕ) → 0 < break_of b c d → 0 < b
+unfolding break_of
+break_first b c d h = grind (arith, nat_tests)
+
+pub break_inside : (text : List ℕ) (p : ℕ) → 0 < break_width text p → p < length text
+break_inside text p h = within text p (break_first _ _ _ h)
+
+hash_line : (b w : ℕ) → b ≡ 35 → w ≡ 0 → not (nat_lt 0 w || b == 0) ≡ true
+hash_line b w h k = rw (h, k) refl
+
+hash_belongs : (text : List ℕ) (p : ℕ) → byte text p ≡ 35 → belongs runs.Line text p ≡ true
+unfolding belongs
+hash_belongs text p h = hash_line _ _ h (no_break _ _ _ (omega arith) (omega arith) (omega arith) (omega arith))
+
+blank_lexeme : (p q : ℕ) → ◌≡◌ {A = Step} (record { standing = standings.Blank; place = p }) (record { standing = standings.Lexeme; place = q }) → ⊥
+blank_lexeme p q h = let e : standings.Blank ≡ standings.Lexeme = ap (λ (s : Step). s.standing) h in cc
+
+break_lexeme : (p q : ℕ) → ◌≡◌ {A = Step} (record { standing = standings.Break; place = p }) (record { standing = standings.Lexeme; place = q }) → ⊥
+break_lexeme p q h = let e : standings.Break ≡ standings.Lexeme = ap (λ (s : Step). s.standing) h in cc
+
+-- the bytes of U+FEFF
+pub bom_bytes : (text : List ℕ) (p : ℕ) → is_bom text p ≡ true → (byte text p ≡ 0xEF) × (byte text (p + 1) ≡ 0xBB) × (byte text (p + 2) ≡ 0xBF)
+bom_bytes text p h = bom_parts _ _ _ h
+
+skipped_cases : (b : ℕ) (tabs : Bool) → (b == 32 || (tabs && b == 9)) ≡ true → (b ≡ 32) ⊎ (b ≡ 9)
+skipped_cases b true h = grind (arith, nat_tests)
+skipped_cases b false h = grind (arith, nat_tests)
+
+pub skipped_here : (tabs : Bool) (text : List ℕ) (p : ℕ) → is_skipped tabs text p ≡ true → (0 < byte text p) × (break_width text p ≡ 0)
+skipped_here tabs text p h =
+    elim (skipped_cases (byte text p) tabs h) [
+      | inl e ↦ (omega arith, no_break _ _ _ (omega arith) (omega arith) (omega arith) (omega arith))
+      | inr e ↦ (omega arith, no_break _ _ _ (omega arith) (omega arith) (omega arith) (omega arith))
+    ]
+
+pub bom_first : (text : List ℕ) (p : ℕ) → (p == 0 && is_bom text p) ≡ true → is_bom text p ≡ true
+bom_first text p h = second_of (p == 0) (is_bom text p) h
+
+hash_inside : (text : List ℕ) (p : ℕ) → byte text p ≡ 35 → (p < run_end runs.Line text p) × (p < length text)
+hash_inside text p h =
+    let b : belongs runs.Line text p ≡ true = hash_belongs text p h in
+    (run_further runs.Line text p b, within text p (omega arith))
+
+-- a step stops at a lexeme, or goes on inside the text
+pub step_moves : (tabs : Bool) (text : List ℕ) (p : ℕ)
+    → (step_at tabs text p ≡ record { standing = standings.Lexeme; place = p }) ⊎ ((p < (step_at tabs text p).place) × (p < length text))
+unfolding step_at
+step_moves tabs text p =
+    elim (cases_Bool (p == 0 && is_bom text p)) [
+      | inl h ↦ let (a, b, c) = bom_bytes text p (bom_first text p h) in rw h (inr (omega arith, within text p (omega arith)))
+      | inr h ↦ elim (cases_Bool (is_skipped tabs text p)) [
+        | inl i ↦ let (some, none) = skipped_here tabs text p i in rw (h, i) (inr (omega arith, within text p some))
+        | inr i ↦ elim (cases_Bool (byte text p == 35)) [
+          | inl j ↦ rw (h, i, j) (inr (hash_inside text p (equal_of _ _ j)))
+          | inr j ↦ elim (cases_Bool (nat_lt 0 (break_width text p))) [
+            | inl k ↦ let some : 0 < break_width text p = less_of _ _ k in rw (h, i, j, k) (inr (omega arith, break_inside text p some))
+            | inr k ↦ rw (h, i, j, k) (inl refl)
+          ]
+        ]
+      ]
+    ]
+
+-- what is left of a gap behind a blank
+pub gap_blank : (n : ℕ) (flow allowed : Bool) (text : List ℕ) (p q : ℕ) → step_at (flow || not allowed) text p ≡ record { standing = standings.Blank; place = q }
+    → length text ≤ p + n
+    → (m : ℕ) × (length text ≤ q + m) × (p < q) × (p < length text) × (gap_within n flow allowed text p ≡ gap_within m flow allowed text q)
+unfolding gap_within
+gap_blank n flow allowed text p q h room =
+    elim (step_moves (flow || not allowed) text p) [
+      | inl e ↦ absurd (blank_lexeme q p (sym h ∙ e))
+      | inr (far, inside) ↦
+        let more : p < q = rw h at far in
+        elim n as (λ n. length text ≤ p + n → (m : ℕ) × (length text ≤ q + m) × (p < q) × (p < length text) × (gap_within n flow allowed text p ≡ gap_within m flow allowed text q)) [
+          | zero ↦ λ r. absurd (omega arith)
+          | suc k ↦ λ r. (k, omega arith, more, inside, rw h refl)
+        ] room
+    ]
+
+-- what is left of a gap behind a break
+pub gap_break : (n : ℕ) (flow allowed : Bool) (text : List ℕ) (p q : ℕ) → step_at (flow || not allowed) text p ≡ record { standing = standings.Break; place = q }
+    → length text ≤ p + n
+    → (m : ℕ) × (length text ≤ q + m) × (p < q) × (p < length text) × (gap_within n flow allowed text p ≡ with_break true (gap_within m flow (allowed || not flow) text q))
+unfolding gap_within
+gap_break n flow allowed text p q h room =
+    elim (step_moves (flow || not allowed) text p) [
+      | inl e ↦ absurd (break_lexeme q p (sym h ∙ e))
+      | inr (far, inside) ↦
+        let more : p < q = rw h at far in
+        elim n as (λ n. length text ≤ p + n → (m : ℕ) × (length text ≤ q + m) × (p < q) × (p < length text) × (gap_within n flow allowed text p ≡ with_break true (gap_within m flow (allowed || not flow) text q))) [
+          | zero ↦ λ r. absurd (omega arith)
+          | suc k ↦ λ r. (k, omega arith, more, inside, rw h refl)
+        ] room
+    ]
+
+pub gap_stop : (n : ℕ) (flow allowed : Bool) (text : List ℕ) (p q : ℕ) → step_at (flow || not allowed) text p ≡ record { standing = standings.Lexeme; place = q }
+    → length text ≤ p + n → gap_within n flow allowed text p ≡ record { place = q; broke = false }
+unfolding gap_within
+gap_stop zero flow allowed text p q h room =
+    elim (step_moves (flow || not allowed) text p) [
+      | inl e ↦ let same : q ≡ p = ap (λ (s : Step). s.place) (sym h ∙ e) in rw same refl
+      | inr (far, inside) ↦ absurd (omega arith)
+    ]
+gap_stop (suc n) flow allowed text p q h room = rw h refl
+
+break_twice : (broke : Bool) (gap : Gap) → with_break broke (with_break true gap) ≡ with_break true gap
+break_twice true gap = refl
+break_twice false gap = refl
+
+pub break_last : (broke : Bool) (q : ℕ) → with_break broke (record { place = q; broke = false }) ≡ record { place = q; broke = broke }
+break_last true q = refl
+break_last false q = refl
+
+pub behind_blank : (broke : Bool) (whole before after : Gap) → whole ≡ with_break broke before → before ≡ after → whole ≡ with_break broke after
+behind_blank broke whole before after h e = h ∙ ap (with_break broke) e
+
+pub behind_break : (broke : Bool) (whole before after : Gap) → whole ≡ with_break broke before → before ≡ with_break true after → whole ≡ with_break true after
+behind_break broke whole before after h e = h ∙ ap (with_break broke) e ∙ break_twice broke after

@@ -1,0 +1,82 @@
+-- Runs, a byte at a time.
+use Rattle.std.proofs.Common.{◌≡◌, ◌≢◌, ℕ, zero, suc, ◌+◌, ◌-◌, ◌<◌, ◌≤◌, ◌==◌, nat_lt, ◌||◌, Bool, true, false, not, List, length, refl, sym, ap, ◌∙◌, inl, inr, ◌⊎◌, arith}
+use Rattle.std.proofs.lemmas.Bool.{cases_Bool}
+use Rattle.std.proofs.lemmas.Bool.Decides.{nat_tests}
+use Rattle.yaml_scan_text.specs.Marks.{byte, break_of, break_width, is_blank}
+use Rattle.yaml_scan_text.specs.Classes.{is_alpha_byte, is_digit_byte}
+use Rattle.yaml_scan_text.proofs.MarksLemmas.{no_break, within}
+use Rattle.yaml_scan_words.specs.declared.run.Run.{Run}
+use Rattle.yaml_scan_words.specs.declared.run.Run.TheVariants as runs
+use Rattle.yaml_scan_words.specs.Runs.{belongs, run_within, run_end}
+
+digit_range : (b : ℕ) → is_digit_byte b ≡ true → (48 ≤ b) × (b ≤ 57)
+unfolding is_digit_byte
+digit_range b h = (grind (arith, nat_tests), grind (arith, nat_tests))
+
+alpha_range : (b : ℕ) → is_alpha_byte b ≡ true → (45 ≤ b) × (b ≤ 122)
+unfolding is_alpha_byte is_digit_byte
+alpha_range b h = (grind (arith, nat_tests), grind (arith, nat_tests))
+
+pub blank_cases : (b : ℕ) → is_blank b ≡ true → (b ≡ 32) ⊎ (b ≡ 9)
+blank_cases b h = grind (arith, nat_tests)
+
+line_parts : (b w : ℕ) → not (nat_lt 0 w || b == 0) ≡ true → (0 < b) × (w ≡ 0)
+line_parts b w h = (grind (arith, nat_tests), grind (arith, nat_tests))
+
+-- a byte of a run is no break and not the end
+pub belongs_here : (run : Run) (text : List ℕ) (p : ℕ) → belongs run text p ≡ true → (0 < byte text p) × (break_width text p ≡ 0)
+unfolding belongs
+belongs_here runs.Alphas text p h =
+    let (low, high) = alpha_range (byte text p) h in
+    (omega arith, no_break _ _ _ (omega arith) (omega arith) (omega arith) (omega arith))
+belongs_here runs.Digits text p h =
+    let (low, high) = digit_range (byte text p) h in
+    (omega arith, no_break _ _ _ (omega arith) (omega arith) (omega arith) (omega arith))
+belongs_here runs.Blanks text p h =
+    elim (blank_cases (byte text p) h) [
+      | inl e ↦ (omega arith, no_break _ _ _ (omega arith) (omega arith) (omega arith) (omega arith))
+      | inr e ↦ (omega arith, no_break _ _ _ (omega arith) (omega arith) (omega arith) (omega arith))
+    ]
+belongs_here runs.Line text p h = line_parts (byte text p) (break_width text p) h
+
+pub belongs_inside : (run : Run) (text : List ℕ) (p : ℕ) → belongs run text p ≡ true → p < length text
+belongs_inside run text p h = within text p (belongs_here run text p h).0
+
+-- what is left of a run behind a byte of it
+pub run_more : (n : ℕ) (run : Run) (text : List ℕ) (p : ℕ) → belongs run text p ≡ true → length text ≤ p + n
+    → (m : ℕ) × (length text ≤ p + 1 + m) × (run_within n run text p ≡ run_within m run text (p + 1))
+unfolding run_within
+run_more zero run text p h room = let inside = belongs_inside run text p h in absurd (omega arith)
+run_more (suc n) run text p h room = (n, omega arith, rw h refl)
+
+pub run_stop : (n : ℕ) (run : Run) (text : List ℕ) (p : ℕ) → belongs run text p ≡ false → run_within n run text p ≡ p
+unfolding run_within
+run_stop zero run text p h = refl
+run_stop (suc n) run text p h = rw h refl
+
+-- a run goes forward, and stays inside the text
+pub run_within-ge : (n : ℕ) (run : Run) (text : List ℕ) (p : ℕ) → p ≤ run_within n run text p
+unfolding run_within
+run_within-ge zero run text p = omega arith
+run_within-ge (suc n) run text p =
+    elim (cases_Bool (belongs run text p)) [
+      | inl e ↦ let more = run_within-ge n run text (p + 1) in rw e (omega arith)
+      | inr e ↦ rw e (omega arith)
+    ]
+
+pub run_within-le : (n : ℕ) (run : Run) (text : List ℕ) (p : ℕ) → p ≤ length text → run_within n run text p ≤ length text
+unfolding run_within
+run_within-le zero run text p h = h
+run_within-le (suc n) run text p h =
+    elim (cases_Bool (belongs run text p)) [
+      | inl e ↦ let inside = belongs_inside run text p e in rw e (run_within-le n run text (p + 1) (omega arith))
+      | inr e ↦ rw e h
+    ]
+
+-- a run that a byte begins goes past it
+pub run_further : (run : Run) (text : List ℕ) (p : ℕ) → belongs run text p ≡ true → p < run_end run text p
+run_further run text p h =
+    let inside = belongs_inside run text p h in
+    let (m, room, same) = run_more (length text) run text p h (omega arith) in
+    let more = run_within-ge m run text (p + 1) in
+    rw same (omega arith)

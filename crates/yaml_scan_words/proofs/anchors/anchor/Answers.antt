@@ -1,0 +1,29 @@
+use Rattle.std.proofs.Common.{◌≡◌, ◌≤◌, ◌<◌, ℕ, length, ◌+◌, ◌-◌, ◌∙◌, sym, refl, ap, arith, true, false, inl, inr}
+use Rattle.yaml_scan_text.specs.Marks.{byte, break_width, Place}
+use Rattle.yaml_scan_text.proofs.MarksLemmas.{no_break, within}
+use Rattle.yaml_scan_words.specs.declared.run.Run.TheVariants as runs
+use Rattle.yaml_scan_words.specs.Runs.{run_end}
+use Rattle.yaml_scan_words.proofs.RunsLemmas.{run_within-ge, run_within-le}
+use Rattle.yaml_scan_words.proofs.anchors.anchor.Goals as goal
+
+pub skip-requires-clause-no_break : goal.skip-requires-clause-no_break
+skip-requires-clause-no_break c =
+    elim c.requires [
+      | inl e ↦ no_break _ _ _ (omega arith) (omega arith) (omega arith) (omega arith)
+      | inr e ↦ no_break _ _ _ (omega arith) (omega arith) (omega arith) (omega arith)
+    ]
+
+pub copied-requires-clause-forward : goal.copied-requires-clause-forward
+copied-requires-clause-forward c =
+    let ge = run_within-ge (length c.args.reader.now.text) runs.Alphas c.args.reader.now.text (c.args.reader.now.at + 1) in
+    let from : c.place-from.result ≡ c.args.reader.now.at + 1 = rw c.skip.ensures at c.place-from.ensures in
+    let to : c.place-to.result ≡ run_end runs.Alphas c.args.reader.now.text (c.args.reader.now.at + 1) = rw (c.skip_run.ensures, c.skip.ensures) at c.place-to.ensures in
+    rw (from, to) ge
+
+pub copied-requires-clause-inside : goal.copied-requires-clause-inside
+copied-requires-clause-inside c =
+    let some : 0 < byte c.args.reader.now.text c.args.reader.now.at = elim c.requires [ inl e ↦ omega arith | inr e ↦ omega arith ] in
+    let inside = within c.args.reader.now.text c.args.reader.now.at some in
+    let le = run_within-le (length c.args.reader.now.text) runs.Alphas c.args.reader.now.text (c.args.reader.now.at + 1) (omega arith) in
+    let to : c.place-to.result ≡ run_end runs.Alphas c.args.reader.now.text (c.args.reader.now.at + 1) = rw (c.skip_run.ensures, c.skip.ensures) at c.place-to.ensures in
+    rw (to, c.text.ensures, c.skip_run.ensures, c.skip.ensures) le

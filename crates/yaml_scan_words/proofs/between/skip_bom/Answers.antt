@@ -1,0 +1,21 @@
+use Rattle.std.proofs.Common.{◌≡◌, ◌+◌, ◌∙◌, arith, refl}
+use Rattle.yaml_scan_text.specs.Marks.{byte, break_width}
+use Rattle.yaml_scan_text.proofs.MarksLemmas.{no_break}
+use Rattle.yaml_scan_words.proofs.BetweenLemmas.{bom_bytes}
+use Rattle.yaml_scan_words.proofs.between.skip_bom.Goals as goal
+
+pub skip-requires-clause-no_break : goal.skip-requires-clause-no_break
+skip-requires-clause-no_break c =
+    let (a, b, d) = bom_bytes c.args.reader.now.text c.args.reader.now.at c.requires in
+    no_break _ _ _ (omega arith) (omega arith) (omega arith) (omega arith)
+
+pub skip-requires-2-clause-no_break : goal.skip-requires-2-clause-no_break
+skip-requires-2-clause-no_break c =
+    let (a, b, d) = bom_bytes c.args.reader.now.text c.args.reader.now.at c.requires in
+    rw c.skip.ensures (no_break _ _ _ (omega arith) (omega arith) (omega arith) (omega arith))
+
+pub skip-requires-3-clause-no_break : goal.skip-requires-3-clause-no_break
+skip-requires-3-clause-no_break c =
+    let (a, b, d) = bom_bytes c.args.reader.now.text c.args.reader.now.at c.requires in
+    let e : c.args.reader.now.at + 1 + 1 ≡ c.args.reader.now.at + 2 = omega arith in
+    rw (c.skip-2.ensures, c.skip.ensures, e) (no_break _ _ _ (omega arith) (omega arith) (omega arith) (omega arith))

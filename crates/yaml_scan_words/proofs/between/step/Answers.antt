@@ -1,0 +1,13 @@
+use Rattle.std.proofs.Common.{◌≡◌, ◌+◌, ◌∙◌, sym, refl, arith, true, false}
+use Rattle.yaml_scan_text.specs.Marks.{byte, break_width}
+use Rattle.yaml_scan_words.proofs.BetweenLemmas.{skipped_here, bom_first}
+use Rattle.yaml_scan_words.proofs.between.step.Goals as goal
+
+pub skip_bom-requires : goal.skip_bom-requires
+skip_bom-requires c = bom_first c.args.reader.now.text c.args.reader.now.at (sym c.is_bom_first.ensures ∙ c.if-is_bom_first.true)
+
+pub skip-requires-clause-inside : goal.skip-requires-clause-inside
+skip-requires-clause-inside c = (skipped_here c.args.tabs c.args.reader.now.text c.args.reader.now.at (sym c.is_skipped.ensures ∙ c.if-is_skipped.true)).0
+
+pub skip-requires-clause-no_break : goal.skip-requires-clause-no_break
+skip-requires-clause-no_break c = (skipped_here c.args.tabs c.args.reader.now.text c.args.reader.now.at (sym c.is_skipped.ensures ∙ c.if-is_skipped.true)).1

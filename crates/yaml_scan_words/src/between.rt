@@ -1,0 +1,103 @@
+//! What stands between lexemes: blanks, comments and breaks (YAML 1.1, 5.2, 6.2 and 6.3).
+
+ghost use Rattle.std.specs.Prelude.{◌≡◌, ◌≤◌, ◌<◌, ◌||◌, ◌&&◌, ◌==◌, ◌+◌, not, true, ℕ, length};
+ghost use Rattle.yaml_scan_text.specs.Classes.{is_bom};
+ghost use Rattle.yaml_scan_words.specs.Between as spec;
+
+use crate::run::{Run, skip_run};
+use yaml_scan_text::{IS_BOM, Reader};
+
+/// What stands at a place between lexemes.
+#[derive(Clone, Copy)]
+pub(crate) enum Standing {
+    /// A blank that is skipped, a comment, or U+FEFF at the start of the text.
+    Blank,
+    Break,
+    /// What is not skipped: a lexeme, a tab that may not stand there, or the end.
+    Lexeme,
+}
+
+/// Past what stands between lexemes, and whether a break was among it.
+///
+/// U+FEFF is skipped at the start of the text alone, and takes a column. Tabs are skipped in flow context, and where no key
+/// is allowed; a break that is passed in block context allows one. `#` starts a comment wherever it stands here.
+pub fn skip_gap(reader: &mut Reader, flow: bool, key_allowed: bool) -> bool
+    ensures gap { spec.gap_at flow key_allowed reader.old.text reader.old.at ≡ record { place = reader.new.at; broke = result } }
+    ensures text { reader.new.text ≡ reader.old.text }
+{
+    let mut allowed = key_allowed;
+    let mut broke = false;
+    'gap: loop {
+        match step(reader, skips_tabs(flow, allowed)) {
+            Standing::Blank => {}
+            Standing::Break => {
+                broke = true;
+                allowed = allows_key(flow, allowed);
+            }
+            Standing::Lexeme => return broke,
+        }
+    }
+}
+
+/// Whether tabs are skipped, by whether a key is allowed.
+fn skips_tabs(flow: bool, allowed: bool) -> bool
+    ensures { result ≡ (flow || not allowed) }
+{
+    flow || !allowed
+}
+
+/// Whether a key is allowed behind a break, by whether one was before it.
+fn allows_key(flow: bool, allowed: bool) -> bool
+    ensures { result ≡ (allowed || not flow) }
+{
+    allowed || !flow
+}
+
+/// Past what stands here, where it is no lexeme.
+#[tactic(auto, unfolding(crate::specs::Between::step_at))]
+fn step(reader: &mut Reader, tabs: bool) -> Standing
+    ensures step { spec.step_at tabs reader.old.text reader.old.at ≡ record { standing = result; place = reader.new.at } }
+    ensures text { reader.new.text ≡ reader.old.text }
+{
+    if is_bom_first(reader) {
+        skip_bom(reader);
+        return Standing::Blank;
+    }
+    if is_skipped(reader, tabs) {
+        reader.skip();
+        return Standing::Blank;
+    }
+    if reader.here() == b'#' {
+        skip_run(Run::Line, reader);
+        return Standing::Blank;
+    }
+    if reader.break_width() > 0 {
+        reader.skip_break();
+        return Standing::Break;
+    }
+    Standing::Lexeme
+}
+
+/// Whether this is the start of the text, and U+FEFF stands here.
+fn is_bom_first(reader: &Reader) -> bool
+    ensures { result ≡ (reader.now.at == 0 && is_bom reader.now.text reader.now.at) }
+{
+    reader.place() == 0 && IS_BOM(reader.text(), reader.place())
+}
+
+/// Whether a space, or a tab that is skipped, stands here.
+fn is_skipped(reader: &Reader, tabs: bool) -> bool
+    ensures { result ≡ spec.is_skipped tabs reader.now.text reader.now.at }
+{
+    reader.here() == b' ' || tabs && reader.here() == b'\t'
+}
+
+/// Past U+FEFF, which stands here.
+fn skip_bom(reader: &mut Reader)
+    requires { is_bom reader.old.text reader.old.at ≡ true }
+    ensures { reader.new ≡ record { text = reader.old.text; at = reader.old.at + 3 } }
+{
+    reader.skip();
+    reader.skip();
+    reader.skip();
+}

@@ -1,0 +1,13 @@
+//! What stands between lexemes, and the lexemes that are words: anchors, aliases, tags, directives and document marks.
+#![tactic(auto)]
+
+mod anchors;
+mod between;
+mod indicator;
+mod run;
+mod word;
+
+pub use anchors::anchor;
+pub use between::skip_gap;
+pub use indicator::{is_block_entry, is_document_end, is_document_start, is_key, is_value};
+pub use word::Word;

@@ -115,7 +115,11 @@ impl<'a> Reader<'a> {
         ensures inside { self.now.at ≤ length self.now.text }
         ensures whole { splits_break self.now.text self.now.at ≡ false }
     {
-        self.mark()
+        yaml_mark_t {
+            index: self.index as u64,
+            line: self.line,
+            column: self.column,
+        }
     }
 
     /// How many bytes the break has that stands that many places ahead, or 0.

@@ -1,3 +1,4 @@
 pub mod FoldingLemmas
 pub mod EscapeLemmas
 pub mod QuotedLemmas
+pub mod PlainLemmas

@@ -3,8 +3,11 @@
 
 mod escape;
 mod folding;
+mod joining;
+mod plain;
 mod quoted;
 mod scalar;
 
+pub use plain::{plain_scalar, starts_plain};
 pub use quoted::{double_quoted, single_quoted};
-pub use scalar::Scalar;
+pub use scalar::{Plain, Scalar};

@@ -1,0 +1,153 @@
+use Rattle.std.proofs.Common.{refl, arith, ◌∙◌, sym, ◌≡◌, ◌+◌, ◌<◌, ◌==◌, ◌&&◌, true, false, nat_lt, ◌||◌}
+use Rattle.std.proofs.lemmas.Result.{err_from_is_err_and}
+use Rattle.yaml_scan_text.specs.Marks.{byte, break_width, is_blank, column_at}
+use Rattle.yaml_scan_text.proofs.BreaksLemmas.{feed_some, value_long}
+use Rattle.yaml_scan_scalars.specs.Plain.{leads, ends_at, is_bracket}
+use Rattle.yaml_scan_text.proofs.MarksLemmas.{within}
+use Rattle.yaml_scan_scalars.proofs.PlainLemmas.{blank_inside, seat_text, spot_break, spot_blank, spot_tab, spot_ends, spot_colon, spot_kept, not_ended, seat_break, leads-blank, white-blank}
+use Rattle.yaml_scan_scalars.proofs.plain.piece.Goals as goal
+
+pub break_line-requires-clause-some : goal.break_line-requires-clause-some
+break_line-requires-clause-some c =
+    let text = c.args.reader.now.text in
+    let p = c.args.reader.now.at in
+    let some : 0 < break_width text p = omega (arith, c.break_here.ensures.value, c.if-break_here-gt0.true) in
+    let v = value_long text p in
+    rw (c.feed.ensures, feed_some text p some) v
+
+pub returns-in_err-break_line : goal.returns-in_err-break_line
+returns-in_err-break_line c =
+    let text = c.args.reader.now.text in
+    let p = c.args.reader.now.at in
+    let some : 0 < break_width text p = omega (arith, c.break_here.ensures.value, c.if-break_here-gt0.true) in
+    let e = err_from_is_err_and c.from_residual.result c.from_residual.ensures.1 in
+    rw (e.1, e.2, spot_break c.args.flow c.args.level text p some) tt
+
+pub returns-then-break_here-gt0 : goal.returns-then-break_here-gt0
+returns-then-break_here-gt0 c =
+    let text = c.args.reader.now.text in
+    let p = c.args.reader.now.at in
+    let some : 0 < break_width text p = omega (arith, c.break_here.ensures.value, c.if-break_here-gt0.true) in
+    let seat = seat_break text p some in
+    let value = rw c.feed.ensures at (c.in_ok-break_line.ensures.value (p + break_width text p)) in
+    rw (spot_break c.args.flow c.args.level text p some) (
+      c.skip_break.ensures,
+      value,
+      record {
+        kept = c.in_ok-break_line.ensures.kept;
+        end = rw c.in_ok-break_line.ensures.seat.0 c.requires.end;
+        broke = c.in_ok-break_line.ensures.seat.1 ∙ seat.leading;
+        white = c.in_ok-break_line.ensures.seat.2 ∙ seat.white;
+      },
+      seat.further,
+      seat.inside,
+    )
+
+pub returns-then-is_bad_tab : goal.returns-then-is_bad_tab
+returns-then-is_bad_tab c =
+    let text = c.args.reader.now.text in
+    let p = c.args.reader.now.at in
+    let b : c.here-byte.result ≡ byte text p = c.here-byte.ensures in
+    let z : break_width text p ≡ 0 = omega (arith, c.break_here.ensures.value, c.if-break_here-gt0.false) in
+    let k : is_blank (byte text p) ≡ true = rw b at (sym c.is_blank.ensures ∙ c.if-is_blank.true) in
+    let t : (byte text p == 9 && (leads text p && nat_lt (column_at text p) c.args.level)) ≡ true = rw (b, c.requires.broke, c.mark.ensures) at (sym c.is_bad_tab.ensures ∙ c.if-is_bad_tab.true) in
+    let m = c.mark-then-is_bad_tab.ensures in
+    rw (spot_tab c.args.flow c.args.level text p z k t, c.wrong_plain.ensures, m) refl
+
+pub returns-in_err-blank : goal.returns-in_err-blank
+returns-in_err-blank c =
+    let text = c.args.reader.now.text in
+    let p = c.args.reader.now.at in
+    let b : c.here-byte.result ≡ byte text p = c.here-byte.ensures in
+    let z : break_width text p ≡ 0 = omega (arith, c.break_here.ensures.value, c.if-break_here-gt0.false) in
+    let k : is_blank (byte text p) ≡ true = rw b at (sym c.is_blank.ensures ∙ c.if-is_blank.true) in
+    let t : (byte text p == 9 && (leads text p && nat_lt (column_at text p) c.args.level)) ≡ false = rw (b, c.requires.broke, c.mark.ensures) at (sym c.is_bad_tab.ensures ∙ c.if-is_bad_tab.false) in
+    let e = err_from_is_err_and c.from_residual-in_err-blank.result c.from_residual-in_err-blank.ensures.1 in
+    rw (e.1, e.2, spot_blank c.args.flow c.args.level text p z k t) tt
+
+pub returns-then-is_blank : goal.returns-then-is_blank
+returns-then-is_blank c =
+    let text = c.args.reader.now.text in
+    let p = c.args.reader.now.at in
+    let b : c.here-byte.result ≡ byte text p = c.here-byte.ensures in
+    let z : break_width text p ≡ 0 = omega (arith, c.break_here.ensures.value, c.if-break_here-gt0.false) in
+    let k : is_blank (byte text p) ≡ true = rw b at (sym c.is_blank.ensures ∙ c.if-is_blank.true) in
+    let t : (byte text p == 9 && (leads text p && nat_lt (column_at text p) c.args.level)) ≡ false = rw (b, c.requires.broke, c.mark.ensures) at (sym c.is_bad_tab.ensures ∙ c.if-is_bad_tab.false) in
+    let value = rw b at (c.in_ok-blank.ensures.value (p + 1)) in
+    rw (spot_blank c.args.flow c.args.level text p z k t) (
+      c.skip.ensures,
+      value,
+      record {
+        kept = c.in_ok-blank.ensures.kept;
+        end = rw c.in_ok-blank.ensures.seat.0 c.requires.end;
+        broke = c.in_ok-blank.ensures.seat.1 ∙ c.requires.broke ∙ sym (leads-blank text p k);
+        white = c.in_ok-blank.ensures.seat.2 ∙ sym (white-blank text p k);
+      },
+      omega arith,
+      blank_inside text p k,
+    )
+
+pub returns-then-ends : goal.returns-then-ends
+returns-then-ends c =
+    let text = c.args.reader.now.text in
+    let p = c.args.reader.now.at in
+    let b : c.here-byte.result ≡ byte text p = c.here-byte.ensures in
+    let z : break_width text p ≡ 0 = omega (arith, c.break_here.ensures.value, c.if-break_here-gt0.false) in
+    let k : is_blank (byte text p) ≡ false = rw b at (sym c.is_blank.ensures ∙ c.if-is_blank.false) in
+    let n : ends_at c.args.flow c.args.level text p ≡ true = sym c.ends.ensures ∙ c.if-ends.true in
+    rw (spot_ends c.args.flow c.args.level text p z k n) (refl, refl)
+
+pub returns-then-is_bad_colon : goal.returns-then-is_bad_colon
+returns-then-is_bad_colon c =
+    let text = c.args.reader.now.text in
+    let p = c.args.reader.now.at in
+    let b : c.here-byte.result ≡ byte text p = c.here-byte.ensures in
+    let z : break_width text p ≡ 0 = omega (arith, c.break_here.ensures.value, c.if-break_here-gt0.false) in
+    let k : is_blank (byte text p) ≡ false = rw b at (sym c.is_blank.ensures ∙ c.if-is_blank.false) in
+    let n : ends_at c.args.flow c.args.level text p ≡ false = sym c.ends.ensures ∙ c.if-ends.false in
+    let o : (c.args.flow && (byte text p == 58 && (is_bracket (byte text (p + 1)) || byte text (p + 1) == 63))) ≡ true = rw (b, c.byte.ensures) at (sym c.is_bad_colon.ensures ∙ c.if-is_bad_colon.true) in
+    rw (spot_colon c.args.flow c.args.level text p z k n o, c.wrong_plain-then-is_bad_colon.ensures, c.mark-then-is_bad_colon.ensures) refl
+
+pub skip-requires-2-clause-inside : goal.skip-requires-2-clause-inside
+skip-requires-2-clause-inside c =
+    let text = c.args.reader.now.text in
+    let p = c.args.reader.now.at in
+    not_ended c.args.flow c.args.level text p (sym c.ends.ensures ∙ c.if-ends.false)
+
+pub returns-in_err-keep : goal.returns-in_err-keep
+returns-in_err-keep c =
+    let text = c.args.reader.now.text in
+    let p = c.args.reader.now.at in
+    let b : c.here-byte.result ≡ byte text p = c.here-byte.ensures in
+    let z : break_width text p ≡ 0 = omega (arith, c.break_here.ensures.value, c.if-break_here-gt0.false) in
+    let k : is_blank (byte text p) ≡ false = rw b at (sym c.is_blank.ensures ∙ c.if-is_blank.false) in
+    let n : ends_at c.args.flow c.args.level text p ≡ false = sym c.ends.ensures ∙ c.if-ends.false in
+    let o : (c.args.flow && (byte text p == 58 && (is_bracket (byte text (p + 1)) || byte text (p + 1) == 63))) ≡ false = rw (b, c.byte.ensures) at (sym c.is_bad_colon.ensures ∙ c.if-is_bad_colon.false) in
+    let e = err_from_is_err_and c.from_residual-in_err-keep.result c.from_residual-in_err-keep.ensures.1 in
+    rw (e.1, e.2, spot_kept c.args.flow c.args.level text p z k n o) tt
+
+pub returns : goal.returns
+returns c =
+    let text = c.args.reader.now.text in
+    let p = c.args.reader.now.at in
+    let b : c.here-byte.result ≡ byte text p = c.here-byte.ensures in
+    let z : break_width text p ≡ 0 = omega (arith, c.break_here.ensures.value, c.if-break_here-gt0.false) in
+    let k : is_blank (byte text p) ≡ false = rw b at (sym c.is_blank.ensures ∙ c.if-is_blank.false) in
+    let n : ends_at c.args.flow c.args.level text p ≡ false = sym c.ends.ensures ∙ c.if-ends.false in
+    let o : (c.args.flow && (byte text p == 58 && (is_bracket (byte text (p + 1)) || byte text (p + 1) == 63))) ≡ false = rw (b, c.byte.ensures) at (sym c.is_bad_colon.ensures ∙ c.if-is_bad_colon.false) in
+    let none = seat_text text p k (c.break_here.ensures.none (c.break_here.ensures.value ∙ z)) in
+    let m = rw c.skip-2.ensures at c.mark-2.ensures in
+    let value = rw (b, m) at c.in_ok-keep.ensures.value in
+    let seat = rw m at c.in_ok-keep.ensures.seat in
+    rw (spot_kept c.args.flow c.args.level text p z k n o) (
+      c.skip-2.ensures,
+      value,
+      record {
+        kept = c.in_ok-keep.ensures.kept;
+        end = rw seat.0 refl;
+        broke = seat.1 ∙ none.0;
+        white = seat.2 ∙ none.1;
+      },
+      omega arith,
+      within text p (not_ended c.args.flow c.args.level text p n),
+    )

@@ -1,0 +1,17 @@
+use Rattle.std.proofs.Common.{◌≡◌, ◌+◌, ◌-◌, ◌≤◌, ℕ, suc, length}
+use Rattle.yaml_scan_text.specs.Marks.{mark_at}
+use Rattle.yaml_scan_scalars.specs.Plain.{words, plain_with, plain_at}
+use Rattle.yaml_scan_scalars.specs.Joined.{joined, IsJoining}
+use Rattle.yaml_scan_scalars.proofs.plain.plain_scalar.Given as goal
+
+abbrev pub invariant-pieces : goal.invariant-pieces
+invariant-pieces l = record {
+  text : l.reader.text ≡ l.fn.reader.text;
+  start : l.start ≡ mark_at l.fn.reader.text l.fn.reader.at;
+  seat : IsJoining l.reader.text l.reader.at l.joining;
+  rest : (n : ℕ) × (length l.fn.reader.text ≤ l.reader.at + n)
+      × (plain_at l.flow l.level l.fn.reader.text l.fn.reader.at ≡ plain_with (joined l.joining) (words (suc n) l.flow l.level l.fn.reader.text l.reader.at));
+}
+
+abbrev pub decreases-pieces : goal.decreases-pieces
+decreases-pieces l = length l.fn.reader.text - l.reader.at

@@ -1,0 +1,48 @@
+-- What a plain scalar comes to, where so much of it is joined and the rest follows.
+use Rattle.std.specs.Prelude.{ℕ, ◌<◌, ◌≤◌, ◌≡◌, Bool, ◌||◌, true, false, if◌then◌else◌, List, take, length, Result, Ok, Err}
+use Rattle.yaml_scan_scalars.specs.declared.joining.Joining.{Joining}
+use Rattle.yaml_scan_scalars.specs.declared.scalar.Plain.{Plain}
+use Rattle.yaml_scan_text.specs.declared.record.yaml_mark_t.{yaml_mark_t}
+use Rattle.yaml_scan_text.specs.declared.problem.ScanError.{ScanError}
+use Rattle.yaml_scan_text.specs.Marks.{Place, mark_at}
+use Rattle.yaml_scan_scalars.specs.Plain.{Spot, Ends, Takes, Faulty, Words, is_nothing, with_piece, PlainText, after_white, leads}
+use Rattle.yaml_scan_scalars.specs.Resume.{resume}
+use Rattle.yaml_scan_text.specs.Wrong.{Wrong, Refuses, IsMemory}
+
+unfoldable pub joined : Joining → Words → PlainText
+joined j w =
+    if is_nothing w.pieces then record { value = take j.kept j.folding.done.items; end = j.end.index; place = w.place; broke = j.broke || w.broke }
+    else record { value = resume j.folding w.pieces; end = w.end; place = w.place; broke = w.broke }
+
+-- what is joined fits the place
+pub record IsJoining (text : List ℕ) (p : ℕ) (j : Joining) : Type 0 where
+  pub kept : j.kept ≤ length j.folding.done.items
+  pub end : j.end ≡ mark_at text j.end.index
+  pub broke : j.broke ≡ leads text p
+  pub white : j.white ≡ after_white text p
+
+-- a step, by what stands there
+abbrev pub Steps : List ℕ → yaml_mark_t → ℕ → Joining → Joining → Place → Result Bool ScanError → Spot → Type 0
+Steps text start p old new place (Ok true) (Takes x q) =
+    (place ≡ record { text = text; at = q }) × ((w : Words) → joined new w ≡ joined old (with_piece x q w)) × IsJoining text q new × (p < q) × (p < length text)
+Steps text start p old new place (Ok true) Ends = ⊥
+Steps text start p old new place (Ok true) (Faulty w) = ⊥
+Steps text start p old new place (Ok false) Ends = (place ≡ record { text = text; at = p }) × (new ≡ old)
+Steps text start p old new place (Ok false) (Takes x q) = ⊥
+Steps text start p old new place (Ok false) (Faulty w) = ⊥
+Steps text start p old new place (Err e) (Faulty w) = Refuses text start e w
+Steps text start p old new place (Err e) (Takes x q) = IsMemory e
+Steps text start p old new place (Err e) Ends = ⊥
+
+pub record IsPlain (text : List ℕ) (start : ℕ) (s : Plain) (x : PlainText) : Type 0 where
+  pub value : s.value.items ≡ x.value
+  pub start_mark : s.start_mark ≡ mark_at text start
+  pub end_mark : s.end_mark ≡ mark_at text x.end
+  pub broke : s.broke ≡ x.broke
+
+-- What reading a plain scalar answers, and where it leaves the reader.
+abbrev pub ReadsPlain : List ℕ → ℕ → Place → Result Plain ScanError → Result PlainText Wrong → Type 0
+ReadsPlain text start place (Ok s) (Ok x) = IsPlain text start s x × (place ≡ record { text = text; at = x.place })
+ReadsPlain text start place (Ok s) (Err w) = ⊥
+ReadsPlain text start place (Err e) (Ok x) = IsMemory e
+ReadsPlain text start place (Err e) (Err w) = Refuses text (mark_at text start) e w

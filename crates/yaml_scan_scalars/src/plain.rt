@@ -1,0 +1,173 @@
+//! Plain scalars (YAML 1.1, section 9.1.3).
+
+ghost use Rattle.std.specs.Prelude.{◌≡◌, ◌||◌, ◌&&◌, ◌==◌, nat_lt, true};
+ghost use Rattle.yaml_scan_scalars.specs.Plain as spec;
+ghost use Rattle.yaml_scan_scalars.specs.Joined.{IsJoining, Steps, ReadsPlain};
+
+use crate::joining::Joining;
+use crate::scalar::Plain;
+use std::alloc::Global;
+use yaml_scan_text::{Context, Problem, Reader, ScanError, is_blank_byte, yaml_mark_t};
+
+/// The plain scalar that starts here, in flow context or not. The level is the column of the innermost open block
+/// level and one, or 0 where none is open. The reader is left behind the blanks and breaks that follow the scalar.
+pub fn plain_scalar(
+    alloc: Global,
+    reader: &mut Reader,
+    flow: bool,
+    level: u64,
+) -> Result<Plain, ScanError>
+    requires { spec.starts_plain flow reader.old.text reader.old.at ≡ true }
+    ensures { ReadsPlain reader.old.text reader.old.at reader.new result (spec.plain_at flow level reader.old.text reader.old.at) }
+{
+    let start = reader.mark();
+    let byte = reader.here();
+    let _width = reader.break_here();
+    reader.skip();
+    let mut joining = Joining::new(alloc, byte, reader.mark())?;
+    'pieces: loop {
+        let more = piece(reader, &mut joining, start, flow, level)?;
+        if !more {
+            let end_mark = joining.end;
+            let broke = joining.broke;
+            return Ok(Plain {
+                value: joining.finish(),
+                start_mark: start,
+                end_mark,
+                broke,
+            });
+        }
+    }
+}
+
+/// Takes what stands here, and answers whether it belongs to the scalar.
+fn piece(
+    reader: &mut Reader,
+    joining: &mut Joining,
+    start: yaml_mark_t,
+    flow: bool,
+    level: u64,
+) -> Result<bool, ScanError>
+    requires { IsJoining reader.old.text reader.old.at joining.old }
+    ensures { Steps reader.old.text start reader.old.at joining.old joining.new reader.new result (spec.spot_at flow level reader.old.text reader.old.at) }
+{
+    let byte = reader.here();
+    if reader.break_here() > 0 {
+        joining.break_line(reader.feed())?;
+        reader.skip_break();
+        return Ok(true);
+    }
+    if is_blank_byte(byte) {
+        if is_bad_tab(byte, joining.broke, reader.mark().column, level) {
+            return Err(wrong_plain(Problem::TabInIndentation, start, reader.mark()));
+        }
+        joining.blank(byte)?;
+        reader.skip();
+        return Ok(true);
+    }
+    if ends(reader, joining, flow, level) {
+        return Ok(false);
+    }
+    if is_bad_colon(flow, byte, reader.byte(1)) {
+        return Err(wrong_plain(Problem::UnexpectedColon, start, reader.mark()));
+    }
+    reader.skip();
+    joining.keep(byte, reader.mark())?;
+    Ok(true)
+}
+
+/// The refusal of the scalar that starts at the mark.
+fn wrong_plain(problem: Problem, start: yaml_mark_t, place: yaml_mark_t) -> ScanError
+    ensures { result ≡ ScanError.Fault (record { problem = problem; context = Context.PlainScalar; context_mark = start; problem_mark = place }) }
+{
+    ScanError::refusal(problem, Context::PlainScalar, start, place)
+}
+
+/// One of `, [ ] { }`.
+#[tactic(auto, unfolding(crate::specs::Plain::is_bracket))]
+fn is_bracket(byte: u8) -> bool
+    ensures { result ≡ spec.is_bracket byte }
+{
+    byte == b',' || byte == b'[' || byte == b']' || byte == b'{' || byte == b'}'
+}
+
+/// Whether the byte is a tab in the indentation.
+fn is_bad_tab(byte: u8, broke: bool, column: u64, level: u64) -> bool
+    ensures { result ≡ (byte == 9 && (broke && nat_lt column level)) }
+{
+    byte == b'\t' && broke && column < level
+}
+
+/// Whether the byte is a colon that cannot stand in flow context before the next one.
+fn is_bad_colon(flow: bool, byte: u8, next: u8) -> bool
+    ensures { result ≡ (flow && (byte == 58 && (spec.is_bracket next || next == 63))) }
+{
+    flow && byte == b':' && (is_bracket(next) || next == b'?')
+}
+
+/// Whether the scalar ends before what stands here, which is no blank and no break.
+#[tactic(auto, unfolding(crate::specs::Plain::ends_at))]
+fn ends(reader: &Reader, joining: &Joining, flow: bool, level: u64) -> bool
+    requires { IsJoining reader.now.text reader.now.at joining.now }
+    ensures { result ≡ spec.ends_at flow level reader.now.text reader.now.at }
+{
+    let byte = reader.here();
+    if byte == 0 || reader.at_document_indicator() {
+        return true;
+    }
+    if byte == b'#' && joining.white {
+        return true;
+    }
+    if byte == b':' && reader.is_blank_or_end(1) {
+        return true;
+    }
+    if flow {
+        return is_bracket(byte);
+    }
+    joining.broke && reader.mark().column < level
+}
+
+/// One of ``- ? : , [ ] { } # & * ! | > ' " % @ ` ``.
+#[tactic(auto, unfolding(crate::specs::Plain::is_indicator_byte))]
+fn is_indicator_byte(byte: u8) -> bool
+    ensures { result ≡ spec.is_indicator_byte byte }
+{
+    is_bracket(byte)
+        || matches!(
+            byte,
+            b'-' | b'?'
+                | b':'
+                | b'#'
+                | b'&'
+                | b'*'
+                | b'!'
+                | b'|'
+                | b'>'
+                | b'\''
+                | b'"'
+                | b'%'
+                | b'@'
+                | b'`'
+        )
+}
+
+/// Whether a plain scalar can start here, in flow context or not.
+#[tactic(auto, unfolding(crate::specs::Plain::starts_plain))]
+pub fn starts_plain(reader: &Reader, flow: bool) -> bool
+    ensures { result ≡ spec.starts_plain flow reader.now.text reader.now.at }
+{
+    let byte = reader.here();
+    if reader.is_blank_or_end(0) {
+        return false;
+    }
+    if !is_indicator_byte(byte) {
+        return true;
+    }
+    if byte == b'-' {
+        return !is_blank_byte(reader.byte(1));
+    }
+    if flow {
+        return false;
+    }
+    (byte == b'?' || byte == b':') && !reader.is_blank_or_end(1)
+}

@@ -5,7 +5,7 @@ use crate::next::{Read, keeps};
 use crate::waiting::Waiting;
 use std::alloc::{AllocError, Global};
 use std::collections::VecDeque;
-use yaml_scan_decode::yaml_text_t;
+use crate::stub::yaml_text_t;
 use yaml_scan_layout::{Entry, Kind, Lexeme, Opens};
 use yaml_scan_text::{
     ScanError, yaml_encoding_t, yaml_mark_t, yaml_token_body_t, yaml_token_t,
@@ -53,14 +53,6 @@ impl<'a> Machine<'a> {
             levels: Levels::new(alloc),
             allowed: false,
             ended: false,
-        }
-    }
-
-    /// The text's bytes.
-    pub(crate) fn bytes(&self) -> &[u8] {
-        match &self.text {
-            yaml_text_t::Borrowed(bytes) => bytes,
-            yaml_text_t::Owned(bytes) => bytes.as_slice(),
         }
     }
 

@@ -2,10 +2,11 @@
 
 use crate::machine::Machine;
 use crate::waiting::{Seen, look};
-use crate::word::{Word, kind_at, word};
+use crate::word::{Word, kind_at, read_word};
 use yaml_scan_layout::{Kind, Lexeme, is_fresh, moved_end};
 use yaml_scan_text::{
-    Context, Problem, Reader, ScanError, ScanFault, yaml_mark_t, yaml_token_body_t,
+    Context, Problem, Reader, ScanError, ScanFault, yaml_encoding_t, yaml_mark_t,
+    yaml_token_body_t,
 };
 use yaml_scan_words::skip_gap;
 
@@ -33,9 +34,9 @@ impl<'a> Machine<'a> {
     /// The lexeme that comes next.
     pub(crate) fn next(&self) -> Result<Read, ScanError> {
         if self.dropped + self.waiting.len() == 0 {
-            return Ok(first(self.place, self.encoding()));
+            return Ok(first(self.place, self.encoding));
         }
-        let mut reader = Reader::resume(self.bytes(), self.place);
+        let mut reader = Reader::resume(self.text.as_slice(), self.place);
         let flow = 0 < self.depth;
         let broke = skip_gap(&mut reader, flow, self.allowed);
         let mark = reader.mark();
@@ -57,7 +58,7 @@ impl<'a> Machine<'a> {
         }
         let lexeme = self.lexeme_at(stand);
         not_lost(required, lexeme)?;
-        let read = word(self.alloc, &mut reader, kind, flow, lexeme.level)?;
+        let read = read_word(self.alloc, &mut reader, kind, flow, lexeme.level)?;
         let lexeme = ended_at(lexeme, &read, reader.mark());
         not_stale(still_required(required, lexeme), lexeme.reached)?;
         Ok(Read {

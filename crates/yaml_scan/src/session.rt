@@ -2,7 +2,7 @@
 
 use crate::machine::Machine;
 use std::alloc::Global;
-use yaml_scan_decode::{yaml_decode, yaml_text_t};
+use crate::stub::{stream_encoding, yaml_decode, yaml_text_t};
 use yaml_scan_text::{
     ScanError, yaml_encoding_t, yaml_fault_t, yaml_memory_fault, yaml_origin_t, yaml_token_t,
 };
@@ -11,6 +11,7 @@ use yaml_scan_text::{
 #[derive(Drop)]
 pub struct yaml_parser_t<'a> {
     input: &'a [u8],
+    encoding: yaml_encoding_t,
     machine: Machine<'a>,
     // The input is decoded.
     started: bool,
@@ -27,6 +28,7 @@ impl<'a> yaml_parser_t<'a> {
     pub fn new(alloc: Global, input: &'a [u8], encoding: yaml_encoding_t) -> yaml_parser_t<'a> {
         yaml_parser_t {
             input,
+            encoding,
             machine: Machine::new(alloc, yaml_text_t::Borrowed(input), encoding),
             started: false,
             fault: None,
@@ -51,7 +53,8 @@ impl<'a> yaml_parser_t<'a> {
 
     fn read_on(&mut self) -> Result<(), yaml_fault_t> {
         if !self.started {
-            self.machine.text = yaml_decode(self.machine.alloc, self.input, self.machine.encoding)?;
+            self.machine.text = yaml_decode(self.machine.alloc, self.input, self.encoding)?;
+            self.machine.encoding = stream_encoding(self.input, self.encoding);
             self.started = true;
         }
         match self.machine.fill() {

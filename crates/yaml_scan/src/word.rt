@@ -1,15 +1,18 @@
 //! Which lexeme stands at a place, and what it carries.
 
+ghost use Rattle.std.specs.Prelude.{◌≡◌, ◌+◌, ◌<◌, ◌⊎◌, IfSome, OnOk, true};
+ghost use Rattle.yaml_scan_text.specs.Marks.{byte, break_width};
+ghost use Rattle.yaml_scan_scalars.specs.Plain as plains;
+ghost use Rattle.yaml_scan.specs.Stands.{Stands, IsThrice, Told};
+
+use crate::stub::{Directive, block_scalar, make_directive, tag};
 use std::alloc::Global;
-use yaml_scan_block::block_scalar;
 use yaml_scan_layout::Kind;
 use yaml_scan_scalars::{double_quoted, plain_scalar, single_quoted, starts_plain};
 use yaml_scan_text::{
     Context, Reader, ScanError, yaml_mark_t, yaml_scalar_style_t, yaml_token_body_t,
 };
-use yaml_scan_words::{
-    Directive, anchor, directive, is_document_end, is_document_start, tag,
-};
+use yaml_scan_words::{anchor, is_document_end, is_document_start};
 
 /// A lexeme's own token, and what its end says.
 #[derive(Drop)]
@@ -21,7 +24,10 @@ pub(crate) struct Word {
 }
 
 /// The kind of the lexeme that stands here (YAML 1.1, 5.3).
-pub(crate) fn kind_at(reader: &Reader, flow: bool) -> Option<Kind> {
+#[tactic(auto, unfolding(yaml_scan_words::specs::Indicators::is_document_start, yaml_scan_words::specs::Indicators::is_document_end))]
+pub(crate) fn kind_at(reader: &Reader, flow: bool) -> Option<Kind>
+    ensures { IfSome result (λ k. Stands k flow reader.now.text reader.now.at) }
+{
     let byte = reader.here();
     if byte == 0 {
         return Some(Kind::StreamEnd);
@@ -45,63 +51,71 @@ pub(crate) fn kind_at(reader: &Reader, flow: bool) -> Option<Kind> {
 }
 
 /// The kind that a byte tells; `alone` tells that a blank, a break or the end follows it.
-fn indicator(byte: u8, flow: bool, alone: bool) -> Option<Kind> {
+fn indicator(byte: u8, flow: bool, alone: bool) -> Option<Kind>
+    ensures { IfSome result (λ k. Told k byte) }
+{
     match byte {
         b'[' => Some(Kind::FlowSequenceStart),
         b'{' => Some(Kind::FlowMappingStart),
         b']' => Some(Kind::FlowSequenceEnd),
         b'}' => Some(Kind::FlowMappingEnd),
         b',' => Some(Kind::FlowEntry),
-        b'-' => only(alone, Kind::BlockEntry),
-        b'?' => only(flow || alone, Kind::KeyMark),
-        b':' => only(flow || alone, Kind::ValueMark),
+        b'-' if alone => Some(Kind::BlockEntry),
+        b'?' if flow || alone => Some(Kind::KeyMark),
+        b':' if flow || alone => Some(Kind::ValueMark),
         b'*' => Some(Kind::Alias),
         b'&' => Some(Kind::Anchor),
         b'!' => Some(Kind::Tag),
-        b'|' => only(!flow, Kind::Literal),
-        b'>' => only(!flow, Kind::Folded),
+        b'|' if !flow => Some(Kind::Literal),
+        b'>' if !flow => Some(Kind::Folded),
         b'\'' => Some(Kind::SingleQuoted),
         b'"' => Some(Kind::DoubleQuoted),
         _ => None,
     }
 }
 
-fn only(holds: bool, kind: Kind) -> Option<Kind> {
-    if holds { Some(kind) } else { None }
-}
-
 /// Reads the lexeme of that kind, which stands here.
-pub(crate) fn word(
+#[tactic(auto, unfolding(yaml_scan_text::specs::Marks::break_of))]
+pub(crate) fn read_word(
     alloc: Global,
     reader: &mut Reader,
     kind: Kind,
     flow: bool,
     level: u64,
-) -> Result<Word, ScanError> {
+) -> Result<Word, ScanError>
+    requires { Stands kind flow reader.old.text reader.old.at }
+    ensures { OnOk result (reader.new.text ≡ reader.old.text) }
+{
     match kind {
-        Kind::StreamStart | Kind::StreamEnd => Ok(mark_word(reader, yaml_token_body_t::StreamEnd, 0)),
+        Kind::StreamStart | Kind::StreamEnd => Ok(carrier(reader, yaml_token_body_t::StreamEnd)),
+        Kind::DocumentStart => Ok(document_mark(reader, yaml_token_body_t::DocumentStart)),
+        Kind::DocumentEnd => Ok(document_mark(reader, yaml_token_body_t::DocumentEnd)),
+        Kind::FlowSequenceStart => Ok(sign(reader, yaml_token_body_t::FlowSequenceStart)),
+        Kind::FlowMappingStart => Ok(sign(reader, yaml_token_body_t::FlowMappingStart)),
+        Kind::FlowSequenceEnd => Ok(sign(reader, yaml_token_body_t::FlowSequenceEnd)),
+        Kind::FlowMappingEnd => Ok(sign(reader, yaml_token_body_t::FlowMappingEnd)),
+        Kind::FlowEntry => Ok(sign(reader, yaml_token_body_t::FlowEntry)),
+        Kind::BlockEntry => Ok(sign(reader, yaml_token_body_t::BlockEntry)),
+        Kind::KeyMark => Ok(sign(reader, yaml_token_body_t::Key)),
+        Kind::ValueMark => Ok(sign(reader, yaml_token_body_t::Value)),
         Kind::Directive => directive_word(alloc, reader),
-        Kind::DocumentStart => Ok(mark_word(reader, yaml_token_body_t::DocumentStart, 3)),
-        Kind::DocumentEnd => Ok(mark_word(reader, yaml_token_body_t::DocumentEnd, 3)),
-        Kind::FlowSequenceStart => Ok(mark_word(reader, yaml_token_body_t::FlowSequenceStart, 1)),
-        Kind::FlowMappingStart => Ok(mark_word(reader, yaml_token_body_t::FlowMappingStart, 1)),
-        Kind::FlowSequenceEnd => Ok(mark_word(reader, yaml_token_body_t::FlowSequenceEnd, 1)),
-        Kind::FlowMappingEnd => Ok(mark_word(reader, yaml_token_body_t::FlowMappingEnd, 1)),
-        Kind::FlowEntry => Ok(mark_word(reader, yaml_token_body_t::FlowEntry, 1)),
-        Kind::BlockEntry => Ok(mark_word(reader, yaml_token_body_t::BlockEntry, 1)),
-        Kind::KeyMark => Ok(mark_word(reader, yaml_token_body_t::Key, 1)),
-        Kind::ValueMark => Ok(mark_word(reader, yaml_token_body_t::Value, 1)),
-        Kind::Alias | Kind::Anchor | Kind::Tag => property_word(alloc, reader, kind, flow),
-        Kind::Literal | Kind::Folded | Kind::SingleQuoted | Kind::DoubleQuoted | Kind::Plain =>
-            scalar_word(alloc, reader, kind, flow, level),
+        Kind::Alias => alias_word(alloc, reader),
+        Kind::Anchor => anchor_word(alloc, reader),
+        Kind::Tag => tag_word(alloc, reader, flow),
+        Kind::Literal => {
+            block_word(alloc, reader, level, yaml_scalar_style_t::YAML_LITERAL_SCALAR_STYLE)
+        }
+        Kind::Folded => {
+            block_word(alloc, reader, level, yaml_scalar_style_t::YAML_FOLDED_SCALAR_STYLE)
+        }
+        Kind::SingleQuoted => single_word(alloc, reader),
+        Kind::DoubleQuoted => double_word(alloc, reader),
+        Kind::Plain => plain_word(alloc, reader, flow, level),
     }
 }
 
-/// A word of that many bytes that carries nothing.
-fn mark_word(reader: &mut Reader, body: yaml_token_body_t, width: usize) -> Word {
-    for _ in 0..width {
-        reader.skip();
-    }
+/// The word that ends where the reader stands.
+fn carrier(reader: &Reader, body: yaml_token_body_t) -> Word {
     Word {
         body,
         end: reader.mark(),
@@ -109,94 +123,152 @@ fn mark_word(reader: &mut Reader, body: yaml_token_body_t, width: usize) -> Word
     }
 }
 
-fn directive_word(alloc: Global, reader: &mut Reader) -> Result<Word, ScanError> {
-    let read = directive(alloc, reader)?;
-    let body = match read.directive {
-        Directive::Version { major, minor } => yaml_token_body_t::VersionDirective { major, minor },
-        Directive::Tag { handle, prefix } => yaml_token_body_t::TagDirective { handle, prefix },
-    };
+/// A word of one byte that carries nothing.
+fn sign(reader: &mut Reader, body: yaml_token_body_t) -> Word
+    requires some { 0 < byte reader.old.text reader.old.at }
+    requires no_break { break_width reader.old.text reader.old.at ≡ 0 }
+    ensures { reader.new.text ≡ reader.old.text }
+{
+    reader.skip();
+    carrier(reader, body)
+}
+
+/// `---` or `...`.
+#[tactic(auto, unfolding(yaml_scan_text::specs::Marks::break_of))]
+fn document_mark(reader: &mut Reader, body: yaml_token_body_t) -> Word
+    requires { IsThrice 45 reader.old.text reader.old.at ⊎ IsThrice 46 reader.old.text reader.old.at }
+    ensures { reader.new.text ≡ reader.old.text }
+{
+    reader.skip();
+    reader.skip();
+    reader.skip();
+    carrier(reader, body)
+}
+
+fn directive_word(alloc: Global, reader: &mut Reader) -> Result<Word, ScanError>
+    requires { byte reader.old.text reader.old.at ≡ 37 }
+    ensures { OnOk result (reader.new.text ≡ reader.old.text) }
+{
+    let read = make_directive(alloc, reader)?;
     Ok(Word {
-        body,
+        body: directive_body(read.directive),
         end: read.end_mark,
         broke: false,
     })
 }
 
-fn property_word(
-    alloc: Global,
-    reader: &mut Reader,
-    kind: Kind,
-    flow: bool,
-) -> Result<Word, ScanError> {
-    let (body, end) = match kind {
-        Kind::Alias => {
-            let read = anchor(alloc, reader, Context::Alias)?;
-            (yaml_token_body_t::Alias { value: read.value }, read.end_mark)
-        }
-        Kind::Anchor => {
-            let read = anchor(alloc, reader, Context::Anchor)?;
-            (yaml_token_body_t::Anchor { value: read.value }, read.end_mark)
-        }
-        _ => {
-            let read = tag(alloc, reader, flow)?;
-            (
-                yaml_token_body_t::Tag {
-                    handle: read.handle,
-                    suffix: read.suffix,
-                },
-                read.end_mark,
-            )
-        }
-    };
+fn directive_body(directive: Directive) -> yaml_token_body_t {
+    match directive {
+        Directive::Version { major, minor } => yaml_token_body_t::VersionDirective { major, minor },
+        Directive::Tag { handle, prefix } => yaml_token_body_t::TagDirective { handle, prefix },
+    }
+}
+
+fn alias_word(alloc: Global, reader: &mut Reader) -> Result<Word, ScanError>
+    requires { byte reader.old.text reader.old.at ≡ 42 }
+    ensures { OnOk result (reader.new.text ≡ reader.old.text) }
+{
+    let read = anchor(alloc, reader, Context::Alias)?;
     Ok(Word {
-        body,
-        end,
+        body: yaml_token_body_t::Alias { value: read.value },
+        end: read.end_mark,
         broke: false,
     })
 }
 
-fn scalar_word(
+fn anchor_word(alloc: Global, reader: &mut Reader) -> Result<Word, ScanError>
+    requires { byte reader.old.text reader.old.at ≡ 38 }
+    ensures { OnOk result (reader.new.text ≡ reader.old.text) }
+{
+    let read = anchor(alloc, reader, Context::Anchor)?;
+    Ok(Word {
+        body: yaml_token_body_t::Anchor { value: read.value },
+        end: read.end_mark,
+        broke: false,
+    })
+}
+
+fn tag_word(alloc: Global, reader: &mut Reader, flow: bool) -> Result<Word, ScanError>
+    requires { byte reader.old.text reader.old.at ≡ 33 }
+    ensures { OnOk result (reader.new.text ≡ reader.old.text) }
+{
+    let read = tag(alloc, reader, flow)?;
+    Ok(Word {
+        body: yaml_token_body_t::Tag {
+            handle: read.handle,
+            suffix: read.suffix,
+        },
+        end: read.end_mark,
+        broke: false,
+    })
+}
+
+fn block_word(
     alloc: Global,
     reader: &mut Reader,
-    kind: Kind,
+    level: u64,
+    style: yaml_scalar_style_t,
+) -> Result<Word, ScanError>
+    requires { (byte reader.old.text reader.old.at ≡ 124) ⊎ (byte reader.old.text reader.old.at ≡ 62) }
+    ensures { OnOk result (reader.new.text ≡ reader.old.text) }
+{
+    let read = block_scalar(alloc, reader, level)?;
+    Ok(Word {
+        body: yaml_token_body_t::Scalar {
+            value: read.value,
+            style,
+        },
+        end: read.end_mark,
+        broke: false,
+    })
+}
+
+fn single_word(alloc: Global, reader: &mut Reader) -> Result<Word, ScanError>
+    requires { byte reader.old.text reader.old.at ≡ 39 }
+    ensures { OnOk result (reader.new.text ≡ reader.old.text) }
+{
+    let read = single_quoted(alloc, reader)?;
+    Ok(Word {
+        body: yaml_token_body_t::Scalar {
+            value: read.value,
+            style: yaml_scalar_style_t::YAML_SINGLE_QUOTED_SCALAR_STYLE,
+        },
+        end: read.end_mark,
+        broke: false,
+    })
+}
+
+fn double_word(alloc: Global, reader: &mut Reader) -> Result<Word, ScanError>
+    requires { byte reader.old.text reader.old.at ≡ 34 }
+    ensures { OnOk result (reader.new.text ≡ reader.old.text) }
+{
+    let read = double_quoted(alloc, reader)?;
+    Ok(Word {
+        body: yaml_token_body_t::Scalar {
+            value: read.value,
+            style: yaml_scalar_style_t::YAML_DOUBLE_QUOTED_SCALAR_STYLE,
+        },
+        end: read.end_mark,
+        broke: false,
+    })
+}
+
+fn plain_word(
+    alloc: Global,
+    reader: &mut Reader,
     flow: bool,
     level: u64,
-) -> Result<Word, ScanError> {
-    let (value, end, style, broke) = match kind {
-        Kind::Literal => {
-            let read = block_scalar(alloc, reader, level)?;
-            (read.value, read.end_mark, yaml_scalar_style_t::YAML_LITERAL_SCALAR_STYLE, false)
-        }
-        Kind::Folded => {
-            let read = block_scalar(alloc, reader, level)?;
-            (read.value, read.end_mark, yaml_scalar_style_t::YAML_FOLDED_SCALAR_STYLE, false)
-        }
-        Kind::SingleQuoted => {
-            let read = single_quoted(alloc, reader)?;
-            (
-                read.value,
-                read.end_mark,
-                yaml_scalar_style_t::YAML_SINGLE_QUOTED_SCALAR_STYLE,
-                false,
-            )
-        }
-        Kind::DoubleQuoted => {
-            let read = double_quoted(alloc, reader)?;
-            (
-                read.value,
-                read.end_mark,
-                yaml_scalar_style_t::YAML_DOUBLE_QUOTED_SCALAR_STYLE,
-                false,
-            )
-        }
-        _ => {
-            let read = plain_scalar(alloc, reader, flow, level)?;
-            (read.value, read.end_mark, yaml_scalar_style_t::YAML_PLAIN_SCALAR_STYLE, read.broke)
-        }
-    };
+) -> Result<Word, ScanError>
+    requires { plains.starts_plain flow reader.old.text reader.old.at ≡ true }
+    ensures { OnOk result (reader.new.text ≡ reader.old.text) }
+{
+    let read = plain_scalar(alloc, reader, flow, level)?;
     Ok(Word {
-        body: yaml_token_body_t::Scalar { value, style },
-        end,
-        broke,
+        body: yaml_token_body_t::Scalar {
+            value: read.value,
+            style: yaml_scalar_style_t::YAML_PLAIN_SCALAR_STYLE,
+        },
+        end: read.end_mark,
+        broke: read.broke,
     })
 }

@@ -1,2 +1,0 @@
-pub mod NextLemmas
-pub mod HistoryLemmas

@@ -1,0 +1,2 @@
+pub mod StandsLemmas
+pub mod LevelsLemmas

@@ -96,11 +96,11 @@ gap_blank n flow allowed text p q h room =
     elim (step_moves (flow || not allowed) text p) [
       | inl e ↦ absurd (blank_lexeme q p (sym h ∙ e))
       | inr (far, inside) ↦
-        let more : p < q = rw h at far in
-        elim n as (λ n. length text ≤ p + n → (m : ℕ) × (length text ≤ q + m) × (p < q) × (p < length text) × (gap_within n flow allowed text p ≡ gap_within m flow allowed text q)) [
-          | zero ↦ λ r. absurd (omega arith)
-          | suc k ↦ λ r. (k, omega arith, more, inside, rw h refl)
-        ] room
+          let more : p < q = rw h at far in
+          elim n as (λ n. length text ≤ p + n → (m : ℕ) × (length text ≤ q + m) × (p < q) × (p < length text) × (gap_within n flow allowed text p ≡ gap_within m flow allowed text q)) [
+            | zero ↦ λ r. absurd (omega arith)
+            | suc k ↦ λ r. (k, omega arith, more, inside, rw h refl)
+          ] room
     ]
 
 -- what is left of a gap behind a break
@@ -112,11 +112,11 @@ gap_break n flow allowed text p q h room =
     elim (step_moves (flow || not allowed) text p) [
       | inl e ↦ absurd (break_lexeme q p (sym h ∙ e))
       | inr (far, inside) ↦
-        let more : p < q = rw h at far in
-        elim n as (λ n. length text ≤ p + n → (m : ℕ) × (length text ≤ q + m) × (p < q) × (p < length text) × (gap_within n flow allowed text p ≡ with_break true (gap_within m flow (allowed || not flow) text q))) [
-          | zero ↦ λ r. absurd (omega arith)
-          | suc k ↦ λ r. (k, omega arith, more, inside, rw h refl)
-        ] room
+          let more : p < q = rw h at far in
+          elim n as (λ n. length text ≤ p + n → (m : ℕ) × (length text ≤ q + m) × (p < q) × (p < length text) × (gap_within n flow allowed text p ≡ with_break true (gap_within m flow (allowed || not flow) text q))) [
+            | zero ↦ λ r. absurd (omega arith)
+            | suc k ↦ λ r. (k, omega arith, more, inside, rw h refl)
+          ] room
     ]
 
 pub gap_stop : (n : ℕ) (flow allowed : Bool) (text : List ℕ) (p q : ℕ) → step_at (flow || not allowed) text p ≡ record { standing = standings.Lexeme; place = q }

@@ -1,2 +1,4 @@
 pub mod RunsLemmas
 pub mod BetweenLemmas
+pub mod UrisLemmas
+pub mod DirectivesLemmas

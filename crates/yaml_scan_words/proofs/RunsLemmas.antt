@@ -80,3 +80,8 @@ run_further run text p h =
     let (m, room, same) = run_more (length text) run text p h (omega arith) in
     let more = run_within-ge m run text (p + 1) in
     rw same (omega arith)
+
+-- a digit is printed ASCII
+pub digit_printed : (text : List ℕ) (p : ℕ) → belongs runs.Digits text p ≡ true → (32 < byte text p) × (byte text p < 127)
+unfolding belongs
+digit_printed text p h = let (low, high) = digit_range (byte text p) h in (omega arith, omega arith)

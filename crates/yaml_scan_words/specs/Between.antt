@@ -44,7 +44,7 @@ unfoldable pub gap_within : ℕ → Bool → Bool → List ℕ → ℕ → Gap
 gap_within zero flow allowed text p = record { place = p; broke = false }
 gap_within (suc n) flow allowed text p =
     gap_behind (λ key q. gap_within n flow key text q) flow allowed
-        (step_at (flow || not allowed) text p).standing (step_at (flow || not allowed) text p).place
+    (step_at (flow || not allowed) text p).standing (step_at (flow || not allowed) text p).place
 
 -- the gap there, in flow context or not, where a key is allowed or not
 abbrev pub gap_at : Bool → Bool → List ℕ → ℕ → Gap

@@ -1,5 +1,6 @@
 -- What readings answer.
 use Rattle.std.specs.Prelude.{ℕ, List, ◌≡◌, Result, Ok, Err}
+use Rattle.std.specs.Global.{Vec}
 use Rattle.yaml_scan_text.specs.declared.record.yaml_mark_t.{yaml_mark_t}
 use Rattle.yaml_scan_text.specs.declared.problem.ScanError.{ScanError}
 use Rattle.yaml_scan_text.specs.Marks.{Place, mark_at}
@@ -19,3 +20,10 @@ pub record IsWord (text : List ℕ) (start : ℕ) (word : Word) (x : List ℕ ×
   pub value : word.value.items ≡ x.0
   pub start_mark : word.start_mark ≡ mark_at text start
   pub end_mark : word.end_mark ≡ mark_at text x.1
+
+-- bytes are those, before the place behind them
+abbrev pub IsBytes : Vec ℕ → List ℕ × ℕ → Type 0
+IsBytes v x = v.items ≡ x.0
+
+abbrev pub behind_bytes : List ℕ × ℕ → ℕ
+behind_bytes x = x.1

@@ -3,3 +3,9 @@ pub mod Between
 pub mod Indicators
 pub mod Anchors
 pub mod Gives
+pub mod Uris
+pub mod Spelt
+pub mod Tags
+pub mod TagsGiven
+pub mod Directives
+pub mod DirectivesGiven

@@ -3,9 +3,9 @@
 ghost use Rattle.std.specs.Prelude.{◌≡◌, ◌⊎◌};
 ghost use Rattle.yaml_scan_text.specs.Marks.{byte, mark_at, is_blank_or_end};
 ghost use Rattle.yaml_scan_words.specs.Anchors as spec;
-ghost use Rattle.yaml_scan_words.specs.Gives.{Gives, IsWord};
+ghost use Rattle.yaml_scan_words.specs.Gives.{Gives, IsWord, behind_bytes};
 
-use crate::run::{Run, copied, skip_run};
+use crate::run::{Run, copied, skip_run, skip_sign};
 use crate::word::{Word, refusal};
 use std::alloc::Global;
 use yaml_scan_text::{Context, Problem, Reader, ScanError};
@@ -16,10 +16,10 @@ use yaml_scan_text::{Context, Problem, Reader, ScanError};
 /// refused at its end.
 pub fn anchor(alloc: Global, reader: &mut Reader, context: Context) -> Result<Word, ScanError>
     requires { (byte reader.old.text reader.old.at ≡ 38) ⊎ (byte reader.old.text reader.old.at ≡ 42) }
-    ensures { Gives (IsWord reader.old.text reader.old.at) (λ x. x.1) reader.old.text (mark_at reader.old.text reader.old.at) reader.new result (spec.anchor_at context reader.old.text reader.old.at) }
+    ensures { Gives (IsWord reader.old.text reader.old.at) behind_bytes reader.old.text (mark_at reader.old.text reader.old.at) reader.new result (spec.anchor_at context reader.old.text reader.old.at) }
 {
     let start = reader.mark();
-    reader.skip();
+    skip_sign(reader);
     let from = reader.place();
     skip_run(Run::Alphas, reader);
     let to = reader.place();

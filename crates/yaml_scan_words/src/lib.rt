@@ -3,11 +3,18 @@
 
 mod anchors;
 mod between;
+mod directives;
 mod indicator;
+mod prefixes;
 mod run;
+mod tags;
+mod uris;
+mod versions;
 mod word;
 
 pub use anchors::anchor;
 pub use between::skip_gap;
+pub use directives::directive;
 pub use indicator::{is_block_entry, is_document_end, is_document_start, is_key, is_value};
-pub use word::Word;
+pub use tags::tag;
+pub use word::{Directive, DirectiveWord, TagWord, Word};

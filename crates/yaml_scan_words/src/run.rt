@@ -1,6 +1,7 @@
 //! Runs of bytes that go together.
 
-ghost use Rattle.std.specs.Prelude.{◌≡◌, ◌≤◌, ℕ, length, slice_range, IfOk};
+ghost use Rattle.std.specs.Prelude.{◌≡◌, ◌+◌, ◌≤◌, ◌<◌, ℕ, length, slice_range, IfOk};
+ghost use Rattle.yaml_scan_text.specs.Marks.{byte};
 ghost use Rattle.yaml_scan_words.specs.Runs as spec;
 
 use std::alloc::{AllocError, Global};
@@ -50,6 +51,15 @@ pub(crate) fn skip_run(run: Run, reader: &mut Reader)
     'bytes: while belongs(run, reader.text(), reader.place()) {
         reader.skip();
     }
+}
+
+/// Past an ASCII character that is printed and no space.
+pub(crate) fn skip_sign(reader: &mut Reader)
+    requires low { 32 < byte reader.old.text reader.old.at }
+    requires high { byte reader.old.text reader.old.at < 127 }
+    ensures { reader.new ≡ record { text = reader.old.text; at = reader.old.at + 1 } }
+{
+    reader.skip();
 }
 
 /// A copy of the bytes from one place to another.

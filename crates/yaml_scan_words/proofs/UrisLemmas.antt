@@ -1,0 +1,121 @@
+-- URIs, a byte at a time.
+use Rattle.std.proofs.Common.{◌≡◌, ◌≢◌, ℕ, zero, suc, ◌+◌, ◌-◌, ◌*◌, ◌<◌, ◌≤◌, ◌==◌, ◌&&◌, ◌||◌, nat_lt, Bool, true, false, not, List, [], ◌∷◌, ◌++◌, length, Option, Some, None, IsSome, Result, Ok, Err, refl, sym, ap, ◌∙◌, inl, inr, ◌⊎◌, append_assoc, append-nil, arith}
+use Rattle.std.proofs.lemmas.Bool.{cases_Bool, true≢false}
+use Rattle.std.proofs.lemmas.Bool.Decides.{nat_tests}
+use Rattle.yaml_scan_text.specs.declared.problem.Context.{Context}
+use Rattle.yaml_scan_text.specs.declared.problem.Problem.{Problem}
+use Rattle.yaml_scan_text.specs.Marks.{byte}
+use Rattle.yaml_scan_text.specs.Classes.{is_alpha_byte, is_digit_byte}
+use Rattle.yaml_scan_text.specs.Wrong.{Wrong}
+use Rattle.yaml_scan_text.proofs.MarksLemmas.{within}
+use Rattle.yaml_scan_words.specs.Uris.{is_sign, is_wide_sign, is_uri, hex_digit, octet_of, octet_at, due_behind, Spot, Spells, Ends, Faulty, escape_spot, octet_spot, spot_at, with_bytes, uri_from, uri_within}
+
+alpha_range : (b : ℕ) → is_alpha_byte b ≡ true → (32 < b) × (b < 127)
+unfolding is_alpha_byte is_digit_byte
+alpha_range b h = (grind (arith, nat_tests), grind (arith, nat_tests))
+
+sign_range : (b : ℕ) → is_sign b ≡ true → (32 < b) × (b < 127)
+unfolding is_sign
+sign_range b h = (grind (arith, nat_tests), grind (arith, nat_tests))
+
+wide_range : (b : ℕ) → is_wide_sign b ≡ true → (32 < b) × (b < 127)
+unfolding is_wide_sign
+wide_range b h = (grind (arith, nat_tests), grind (arith, nat_tests))
+
+digit_range : (b : ℕ) → IsSome (hex_digit b) → (32 < b) × (b < 127)
+unfolding hex_digit
+digit_range b h = (grind (arith, nat_tests), grind (arith, nat_tests))
+
+either : (a b : Bool) → (a || b) ≡ true → (a ≡ true) ⊎ (b ≡ true)
+either true b h = inl refl
+either false b h = inr h
+
+second_of : (a b : Bool) → (a && b) ≡ true → b ≡ true
+second_of true b h = h
+second_of false b h = absurd (true≢false (sym h))
+
+-- what a URI holds as it is, is printed ASCII
+pub uri_range : (wide : Bool) (text : List ℕ) (p : ℕ) → is_uri wide text p ≡ true → (32 < byte text p) × (byte text p < 127)
+uri_range wide text p h =
+    elim (either (is_alpha_byte (byte text p)) (is_sign (byte text p) || (wide && is_wide_sign (byte text p))) h) [
+      | inl a ↦ alpha_range (byte text p) a
+      | inr more ↦ elim (either (is_sign (byte text p)) (wide && is_wide_sign (byte text p)) more) [
+        | inl s ↦ sign_range (byte text p) s
+        | inr w ↦ wide_range (byte text p) (second_of wide (is_wide_sign (byte text p)) w)
+      ]
+    ]
+
+both : (a b : Option ℕ) → IsSome (octet_of a b) → IsSome a × IsSome b
+both (Some x) (Some y) h = (refl, refl)
+both (Some x) None h = absurd (true≢false (sym h))
+both None (Some y) h = absurd (true≢false (sym h))
+both None None h = absurd (true≢false (sym h))
+
+-- the digits of an escape
+pub octet_digits : (text : List ℕ) (p : ℕ) → IsSome (octet_at text p)
+    → ((32 < byte text (p + 1)) × (byte text (p + 1) < 127)) × ((32 < byte text (p + 2)) × (byte text (p + 2) < 127))
+unfolding octet_at
+octet_digits text p h =
+    let (high, low) = both (hex_digit (byte text (p + 1))) (hex_digit (byte text (p + 2))) h in
+    (digit_range (byte text (p + 1)) high, digit_range (byte text (p + 2)) low)
+
+-- a byte that is spelled moves the place
+abbrev Moves : List ℕ → ℕ → Spot → Type 0
+Moves text p (Spells b due q) = (p < q) × (p < length text)
+Moves text p (Ends q) = Unit {0}
+Moves text p (Faulty problem q) = Unit {0}
+
+escape_moves : (text : List ℕ) (p b : ℕ) (r : Result ℕ Problem) → p < length text → Moves text p (escape_spot b p r)
+escape_moves text p b (Ok due) h = (omega arith, h)
+escape_moves text p b (Err problem) h = tt
+
+octet_moves : (text : List ℕ) (p due : ℕ) (o : Option ℕ) → p < length text → Moves text p (octet_spot due p o)
+octet_moves text p due (Some b) h = escape_moves text p b (due_behind b due) h
+octet_moves text p due None h = tt
+
+equal_of : (a b : ℕ) → (a == b) ≡ true → a ≡ b
+equal_of a b h = grind (arith, nat_tests)
+
+moves : (wide : Bool) (due : ℕ) (text : List ℕ) (p : ℕ) → Moves text p (spot_at wide due text p)
+unfolding spot_at
+moves wide due text p =
+    elim (cases_Bool (byte text p == 37)) [
+      | inl h ↦ let e : byte text p ≡ 37 = equal_of _ _ h in rw h (octet_moves text p due (octet_at text p) (within text p (omega arith)))
+      | inr h ↦ elim (cases_Bool (nat_lt 0 due)) [
+        | inl i ↦ rw (h, i) tt
+        | inr i ↦ elim (cases_Bool (is_uri wide text p)) [
+          | inl j ↦ let (low, high) = uri_range wide text p j in rw (h, i, j) (omega arith, within text p (omega arith))
+          | inr j ↦ rw (h, i, j) tt
+        ]
+      ]
+    ]
+
+bytes_twice : (xs ys : List ℕ) (r : Result (List ℕ × ℕ) Wrong) → with_bytes xs (with_bytes ys r) ≡ with_bytes (xs ++ ys) r
+bytes_twice xs ys (Ok u) = rw (append_assoc xs ys u.0) refl
+bytes_twice xs ys (Err w) = refl
+
+-- what is left of a URI behind a byte of it
+pub uri_more : (n : ℕ) (context : Context) (wide : Bool) (due : ℕ) (text : List ℕ) (p : ℕ) (bytes : List ℕ) (b next q : ℕ)
+    → spot_at wide due text p ≡ Spells b next q → length text ≤ p + n
+    → (m : ℕ) × (length text ≤ q + m) × (p < q) × (p < length text)
+    × (with_bytes bytes (uri_within (suc n) context wide due text p) ≡ with_bytes (bytes ++ b ∷ []) (uri_within (suc m) context wide next text q))
+unfolding uri_within
+uri_more zero context wide due text p bytes b next q h room =
+    let (far, inside) = rw h at (moves wide due text p) in absurd (omega arith)
+uri_more (suc n) context wide due text p bytes b next q h room =
+    let (far, inside) = rw h at (moves wide due text p) in
+    (n, omega arith, far, inside, rw h (bytes_twice bytes (b ∷ []) (uri_within (suc n) context wide next text q)))
+
+pub uri_done : (n : ℕ) (context : Context) (wide : Bool) (due : ℕ) (text : List ℕ) (p : ℕ) (bytes : List ℕ) (q : ℕ)
+    → spot_at wide due text p ≡ Ends q → with_bytes bytes (uri_within (suc n) context wide due text p) ≡ Ok (bytes, q)
+unfolding uri_within
+uri_done n context wide due text p bytes q h = rw (h, append-nil bytes) refl
+
+pub uri_bad : (n : ℕ) (context : Context) (wide : Bool) (due : ℕ) (text : List ℕ) (p : ℕ) (bytes : List ℕ) (problem : Problem) (q : ℕ)
+    → spot_at wide due text p ≡ Faulty problem q → with_bytes bytes (uri_within (suc n) context wide due text p) ≡ Err (record { problem = problem; context = context; place = q })
+unfolding uri_within
+uri_bad n context wide due text p bytes problem q h = rw h refl
+
+pub no_bytes : (r : Result (List ℕ × ℕ) Wrong) → r ≡ with_bytes [] r
+no_bytes (Ok u) = refl
+no_bytes (Err w) = refl

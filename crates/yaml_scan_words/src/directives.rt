@@ -1,0 +1,120 @@
+//! Directives.
+
+ghost use Rattle.std.specs.Prelude.{◌≡◌, ◌≢◌, ◌+◌, ◌==◌, ◌&&◌, ◌||◌, true, ℕ, length};
+ghost use Rattle.yaml_scan_text.specs.Marks.{byte, break_width, mark_at};
+ghost use Rattle.yaml_scan_words.specs.Directives as spec;
+ghost use Rattle.yaml_scan_words.specs.Gives.{Gives};
+ghost use Rattle.yaml_scan_words.specs.DirectivesGiven.{IsDirective, IsName, IsSaid, IsEnd};
+
+use crate::prefixes::tag_directive;
+use crate::run::{Run, skip_run, skip_sign};
+use crate::versions::version;
+use crate::word::{Directive, DirectiveWord, refusal};
+use std::alloc::Global;
+use yaml_scan_text::{Context, Problem, Reader, ScanError, yaml_mark_t};
+
+/// Which directive a name tells.
+#[derive(Clone, Copy)]
+pub(crate) enum DirectiveName {
+    Yaml,
+    Tag,
+}
+
+/// The directive whose `%` stands here (YAML 1.1, 7.1): `%YAML` with a version, or `%TAG` with a handle and a prefix.
+///
+/// Behind it blanks, a comment and the break are passed. The directive's end mark stands behind its value.
+pub fn directive(alloc: Global, reader: &mut Reader) -> Result<DirectiveWord, ScanError>
+    requires { byte reader.old.text reader.old.at ≡ 37 }
+    ensures { Gives (IsDirective reader.old.text reader.old.at) spec.directive_place reader.old.text (mark_at reader.old.text reader.old.at) reader.new result (spec.directive_at reader.old.text reader.old.at) }
+{
+    let start = reader.mark();
+    let directive = directive_value(alloc, reader, start)?;
+    let end_mark = reader.mark();
+    finish_line(reader, start)?;
+    Ok(DirectiveWord {
+        directive,
+        start_mark: start,
+        end_mark,
+    })
+}
+
+/// The directive that stands here, up to the end of its value.
+fn directive_value(
+    alloc: Global,
+    reader: &mut Reader,
+    start: yaml_mark_t,
+) -> Result<Directive, ScanError>
+    requires { byte reader.old.text reader.old.at ≡ 37 }
+    ensures { Gives IsSaid spec.value_end reader.old.text start reader.new result (spec.value_at reader.old.text reader.old.at) }
+{
+    match directive_name(reader, start)? {
+        DirectiveName::Yaml => version(reader, start),
+        DirectiveName::Tag => tag_directive(alloc, reader, start),
+    }
+}
+
+/// The name behind the `%` that stands here.
+fn directive_name(reader: &mut Reader, start: yaml_mark_t) -> Result<DirectiveName, ScanError>
+    requires { byte reader.old.text reader.old.at ≡ 37 }
+    ensures { Gives IsName spec.name_behind reader.old.text start reader.new result (spec.name_at reader.old.text reader.old.at) }
+{
+    skip_sign(reader);
+    let from = reader.place();
+    let is_yaml = is_yaml(reader);
+    let is_tag = is_tag(reader);
+    skip_run(Run::Alphas, reader);
+    let to = reader.place();
+    if from == to {
+        return Err(refusal(reader, Problem::NoDirectiveName, Context::Directive, start));
+    }
+    if !reader.is_blank_or_end(0) {
+        return Err(refusal(reader, Problem::NotAlphabetical, Context::Directive, start));
+    }
+    if is_yaml && to - from == 4 {
+        return Ok(DirectiveName::Yaml);
+    }
+    if is_tag && to - from == 3 {
+        return Ok(DirectiveName::Tag);
+    }
+    Err(refusal(reader, Problem::UnknownDirective, Context::Directive, start))
+}
+
+/// Whether `YAML` stands here.
+fn is_yaml(reader: &Reader) -> bool
+    ensures { result ≡ spec.is_yaml reader.now.text reader.now.at }
+{
+    reader.here() == b'Y'
+        && (reader.byte(1) == b'A' && (reader.byte(2) == b'M' && reader.byte(3) == b'L'))
+}
+
+/// Whether `TAG` stands here.
+fn is_tag(reader: &Reader) -> bool
+    ensures { result ≡ spec.is_tag reader.now.text reader.now.at }
+{
+    reader.here() == b'T' && (reader.byte(1) == b'A' && reader.byte(2) == b'G')
+}
+
+/// Past blanks, a comment and the break, which end the line of a directive.
+fn finish_line(reader: &mut Reader, start: yaml_mark_t) -> Result<(), ScanError>
+    ensures { Gives IsEnd spec.line_place reader.old.text start reader.new result (spec.line_end_at reader.old.text reader.old.at) }
+{
+    skip_run(Run::Blanks, reader);
+    skip_comment(reader);
+    if reader.break_width() > 0 {
+        reader.skip_break();
+        return Ok(());
+    }
+    if reader.here() != 0 {
+        return Err(refusal(reader, Problem::NoCommentOrBreak, Context::Directive, start));
+    }
+    Ok(())
+}
+
+/// Past the comment that stands here, if one does.
+fn skip_comment(reader: &mut Reader)
+    ensures { reader.new ≡ record { text = reader.old.text; at = spec.comment_end reader.old.text reader.old.at } }
+{
+    if reader.here() == b'#' {
+        skip_run(Run::Line, reader);
+    }
+}

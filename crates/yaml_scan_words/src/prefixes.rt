@@ -1,0 +1,78 @@
+//! The handle and prefix of a `%TAG` directive.
+
+ghost use Rattle.std.specs.Prelude.{◌≡◌, ◌+◌, ◌≤◌, true, ℕ, length};
+ghost use Rattle.yaml_scan_text.specs.Marks.{byte};
+ghost use Rattle.yaml_scan_words.specs.Directives as spec;
+ghost use Rattle.yaml_scan_words.specs.Gives.{Gives, IsBytes, behind_bytes};
+ghost use Rattle.yaml_scan_words.specs.DirectivesGiven.{IsSaid};
+
+use crate::run::{Run, belongs, copied, skip_run, skip_sign};
+use crate::uris::some_uri;
+use crate::word::{Directive, refusal};
+use std::alloc::Global;
+use yaml_scan_text::{Context, Problem, Reader, ScanError, yaml_mark_t};
+
+/// What follows here: blanks, a handle, blanks and a prefix (YAML 1.1, 7.1.2).
+pub(crate) fn tag_directive(
+    alloc: Global,
+    reader: &mut Reader,
+    start: yaml_mark_t,
+) -> Result<Directive, ScanError>
+    ensures { Gives IsSaid spec.value_end reader.old.text start reader.new result (spec.tag_directive_at reader.old.text reader.old.at) }
+{
+    skip_run(Run::Blanks, reader);
+    let handle = tag_handle(alloc, reader, start)?;
+    let prefix = tag_prefix(alloc, reader, start)?;
+    Ok(Directive::Tag { handle, prefix })
+}
+
+/// The handle that stands here: `!` or `!alphas!`.
+fn tag_handle(alloc: Global, reader: &mut Reader, start: yaml_mark_t) -> Result<Vec<u8>, ScanError>
+    ensures { Gives IsBytes behind_bytes reader.old.text start reader.new result (spec.handle_at reader.old.text reader.old.at) }
+{
+    let from = reader.place();
+    if reader.here() != b'!' {
+        return Err(refusal(
+            reader,
+            Problem::NoExclamationMark,
+            Context::TagDirectiveStart,
+            start,
+        ));
+    }
+    skip_sign(reader);
+    let name = reader.place();
+    skip_run(Run::Alphas, reader);
+    if reader.here() == b'!' {
+        skip_sign(reader);
+        return Ok(copied(alloc, reader.text(), from, reader.place())?);
+    }
+    if reader.place() != name {
+        return Err(refusal(
+            reader,
+            Problem::NoExclamationMark,
+            Context::TagDirectiveHandle,
+            start,
+        ));
+    }
+    Ok(copied(alloc, reader.text(), from, reader.place())?)
+}
+
+/// The prefix that follows here behind blanks, which end the handle.
+fn tag_prefix(alloc: Global, reader: &mut Reader, start: yaml_mark_t) -> Result<Vec<u8>, ScanError>
+    ensures { Gives IsBytes behind_bytes reader.old.text start reader.new result (spec.prefix_at reader.old.text reader.old.at) }
+{
+    if !belongs(Run::Blanks, reader.text(), reader.place()) {
+        return Err(refusal(reader, Problem::NoWhitespace, Context::TagDirective, start));
+    }
+    skip_run(Run::Blanks, reader);
+    let prefix = some_uri(alloc, reader, Context::TagDirectiveUri, true, start)?;
+    if !reader.is_blank_or_end(0) {
+        return Err(refusal(
+            reader,
+            Problem::NoWhitespaceOrBreak,
+            Context::TagDirective,
+            start,
+        ));
+    }
+    Ok(prefix)
+}

@@ -1,0 +1,126 @@
+//! Tags.
+
+ghost use Rattle.std.specs.Prelude.{◌≡◌, ◌+◌, ◌&&◌, ◌||◌, ◌==◌, true, ℕ, length};
+ghost use Rattle.yaml_scan_text.specs.Marks.{byte, mark_at};
+ghost use Rattle.yaml_scan_words.specs.Tags as spec;
+ghost use Rattle.yaml_scan_words.specs.Gives.{Gives};
+ghost use Rattle.yaml_scan_words.specs.TagsGiven.{IsTag, IsParts};
+
+use crate::run::{Run, copied, run_end, skip_run, skip_sign};
+use crate::uris::{some_uri, uri};
+use crate::word::{TagWord, refusal};
+use std::alloc::Global;
+use yaml_scan_text::{Context, Problem, Reader, ScanError, yaml_mark_t};
+
+/// A tag's handle and suffix.
+#[derive(Drop)]
+pub(crate) struct TagParts {
+    pub handle: Vec<u8>,
+    pub suffix: Vec<u8>,
+}
+
+/// The tag whose `!` stands here (YAML 1.1, 3.2.1.2): `!<uri>`, `!uri`, `!!uri`, `!name!uri` or `!`.
+///
+/// A verbatim tag has no handle, and the tag `!` has none and the suffix `!`. Escapes are spelled out in the suffix. A tag ends before
+/// a blank, a break or the end, in flow context also before `,`.
+pub fn tag(alloc: Global, reader: &mut Reader, flow: bool) -> Result<TagWord, ScanError>
+    requires { byte reader.old.text reader.old.at ≡ 33 }
+    ensures { Gives (IsTag reader.old.text reader.old.at) spec.tag_end reader.old.text (mark_at reader.old.text reader.old.at) reader.new result (spec.tag_at flow reader.old.text reader.old.at) }
+{
+    let start = reader.mark();
+    let parts = tag_parts(alloc, reader, start)?;
+    if !may_end_tag(reader, flow) {
+        return Err(refusal(reader, Problem::NoWhitespaceOrBreak, Context::Tag, start));
+    }
+    Ok(TagWord {
+        handle: parts.handle,
+        suffix: parts.suffix,
+        start_mark: start,
+        end_mark: reader.mark(),
+    })
+}
+
+/// Whether a tag may end here.
+fn may_end_tag(reader: &Reader, flow: bool) -> bool
+    ensures { result ≡ spec.may_end_tag flow reader.now.text reader.now.at }
+{
+    reader.is_blank_or_end(0) || flow && reader.here() == b','
+}
+
+/// The tag that stands here, whatever follows it.
+#[tactic(auto, unfolding(crate::specs::Tags::parts_at))]
+fn tag_parts(alloc: Global, reader: &mut Reader, start: yaml_mark_t) -> Result<TagParts, ScanError>
+    requires { byte reader.old.text reader.old.at ≡ 33 }
+    ensures { Gives IsParts spec.tag_end reader.old.text start reader.new result (spec.parts_at reader.old.text reader.old.at) }
+{
+    if reader.byte(1) == b'<' {
+        return verbatim(alloc, reader, start);
+    }
+    if has_handle(reader) {
+        return named(alloc, reader, start);
+    }
+    bare(alloc, reader, start)
+}
+
+/// Whether the alphas behind the `!` here, if any, end in `!`.
+fn has_handle(reader: &Reader) -> bool
+    requires { byte reader.now.text reader.now.at ≡ 33 }
+    ensures { result ≡ (byte reader.now.text (spec.name_end reader.now.text reader.now.at) == 33) }
+{
+    let end = run_end(Run::Alphas, reader.text(), reader.place() + 1);
+    reader.text().get(end).copied().unwrap_or(0) == b'!'
+}
+
+/// The tag `!<uri>` that stands here.
+fn verbatim(alloc: Global, reader: &mut Reader, start: yaml_mark_t) -> Result<TagParts, ScanError>
+    requires mark { byte reader.old.text reader.old.at ≡ 33 }
+    requires bracket { byte reader.old.text (reader.old.at + 1) ≡ 60 }
+    ensures { Gives IsParts spec.tag_end reader.old.text start reader.new result (spec.verbatim_at reader.old.text reader.old.at) }
+{
+    skip_sign(reader);
+    skip_sign(reader);
+    let suffix = some_uri(alloc, reader, Context::TagUri, true, start)?;
+    if reader.here() != b'>' {
+        return Err(refusal(reader, Problem::NoClosingBracket, Context::Tag, start));
+    }
+    skip_sign(reader);
+    Ok(TagParts {
+        handle: Vec::new(alloc),
+        suffix,
+    })
+}
+
+/// The tag with a handle `!alphas!` that stands here.
+fn named(alloc: Global, reader: &mut Reader, start: yaml_mark_t) -> Result<TagParts, ScanError>
+    requires mark { byte reader.old.text reader.old.at ≡ 33 }
+    requires handle { byte reader.old.text (spec.name_end reader.old.text reader.old.at) ≡ 33 }
+    ensures { Gives IsParts spec.tag_end reader.old.text start reader.new result (spec.named_at reader.old.text reader.old.at) }
+{
+    let from = reader.place();
+    skip_sign(reader);
+    skip_run(Run::Alphas, reader);
+    skip_sign(reader);
+    let handle = copied(alloc, reader.text(), from, reader.place())?;
+    let suffix = some_uri(alloc, reader, Context::TagUri, false, start)?;
+    Ok(TagParts { handle, suffix })
+}
+
+/// The tag `!uri` or `!` that stands here.
+fn bare(alloc: Global, reader: &mut Reader, start: yaml_mark_t) -> Result<TagParts, ScanError>
+    requires { byte reader.old.text reader.old.at ≡ 33 }
+    ensures { Gives IsParts spec.tag_end reader.old.text start reader.new result (spec.bare_at reader.old.text reader.old.at) }
+{
+    skip_sign(reader);
+    let suffix = uri(alloc, reader, Context::TagUri, false, start)?;
+    let mark = Vec::from_slice(alloc, b"!")?;
+    if suffix.is_empty() {
+        return Ok(TagParts {
+            handle: suffix,
+            suffix: mark,
+        });
+    }
+    Ok(TagParts {
+        handle: mark,
+        suffix,
+    })
+}

@@ -1,0 +1,180 @@
+//! The URIs of tags and prefixes, with their escapes.
+
+ghost use Rattle.std.specs.Prelude.{◌≡◌, ◌+◌, ◌≤◌, ◌<◌, true, ℕ, length, IfSome, IsSome};
+ghost use Rattle.yaml_scan_text.specs.Marks.{byte};
+ghost use Rattle.yaml_scan_words.specs.Uris as spec;
+ghost use Rattle.yaml_scan_words.specs.Gives.{Gives, IsBytes, behind_bytes};
+ghost use Rattle.yaml_scan_words.specs.Spelt.{spot_of};
+
+use crate::run::skip_sign;
+use crate::word::refusal;
+use std::alloc::Global;
+use yaml_scan_text::{Context, IS_ALPHA, Problem, Reader, ScanError, yaml_mark_t};
+
+/// A byte of a URI, and how many escapes have to follow it to spell the rest of its character.
+#[derive(Clone, Copy)]
+pub(crate) struct Spelling {
+    pub byte: u8,
+    pub due: usize,
+}
+
+/// The bytes that the URI spells which stands here, one at least. Where it is wide, `,`, `[` and `]` belong to it.
+pub(crate) fn some_uri(
+    alloc: Global,
+    reader: &mut Reader,
+    context: Context,
+    wide: bool,
+    start: yaml_mark_t,
+) -> Result<Vec<u8>, ScanError>
+    ensures { Gives IsBytes behind_bytes reader.old.text start reader.new result (spec.some_uri_at context wide reader.old.text reader.old.at) }
+{
+    let bytes = uri(alloc, reader, context, wide, start)?;
+    if bytes.is_empty() {
+        return Err(refusal(reader, Problem::NoTagUri, context, start));
+    }
+    Ok(bytes)
+}
+
+/// The bytes that the URI spells which stands here, none where no URI does.
+pub(crate) fn uri(
+    alloc: Global,
+    reader: &mut Reader,
+    context: Context,
+    wide: bool,
+    start: yaml_mark_t,
+) -> Result<Vec<u8>, ScanError>
+    ensures { Gives IsBytes behind_bytes reader.old.text start reader.new result (spec.uri_at context wide reader.old.text reader.old.at) }
+{
+    let mut bytes = Vec::new(alloc);
+    let mut due = 0;
+    'bytes: loop {
+        match next_byte(reader, wide, due) {
+            Ok(Some(next)) => {
+                bytes.push(next.byte)?;
+                due = next.due;
+            }
+            Ok(None) => return Ok(bytes),
+            Err(problem) => return Err(refusal(reader, problem, context, start)),
+        }
+    }
+}
+
+/// Takes the byte that is spelled here, where so many escapes are due. Nothing is taken where the URI ends or has a problem.
+#[tactic(auto, unfolding(crate::specs::Uris::spot_at))]
+fn next_byte(reader: &mut Reader, wide: bool, due: usize) -> Result<Option<Spelling>, Problem>
+    ensures spot { spec.spot_at wide due reader.old.text reader.old.at ≡ spot_of result reader.new.at }
+    ensures text { reader.new.text ≡ reader.old.text }
+{
+    if reader.here() == b'%' {
+        return escape(reader, due);
+    }
+    if due > 0 {
+        return Err(Problem::NoEscapedOctet);
+    }
+    if !is_uri(reader, wide) {
+        return Ok(None);
+    }
+    let byte = reader.here();
+    skip_sign(reader);
+    Ok(Some(Spelling { byte, due: 0 }))
+}
+
+/// Takes the escape whose `%` stands here, where so many escapes are due.
+#[tactic(auto, unfolding(crate::specs::Uris::octet_at))]
+fn escape(reader: &mut Reader, due: usize) -> Result<Option<Spelling>, Problem>
+    requires { byte reader.old.text reader.old.at ≡ 37 }
+    ensures spot { spec.octet_spot due reader.old.at (spec.octet_at reader.old.text reader.old.at) ≡ spot_of result reader.new.at }
+    ensures text { reader.new.text ≡ reader.old.text }
+{
+    let Some(byte) = octet(reader) else {
+        return Err(Problem::NoEscapedOctet);
+    };
+    match due_behind(byte, due) {
+        Ok(due) => {
+            skip_escape(reader);
+            Ok(Some(Spelling { byte, due }))
+        }
+        Err(problem) => Err(problem),
+    }
+}
+
+/// Past the escape whose `%` stands here.
+fn skip_escape(reader: &mut Reader)
+    requires mark { byte reader.old.text reader.old.at ≡ 37 }
+    requires digits { IsSome (spec.octet_at reader.old.text reader.old.at) }
+    ensures { reader.new ≡ record { text = reader.old.text; at = reader.old.at + 3 } }
+{
+    skip_sign(reader);
+    skip_sign(reader);
+    skip_sign(reader);
+}
+
+/// The number that the two digits spell behind the `%` here.
+#[tactic(auto, unfolding(crate::specs::Uris::octet_at))]
+fn octet(reader: &Reader) -> Option<u8>
+    ensures { result ≡ spec.octet_at reader.now.text reader.now.at }
+{
+    let high = hex_digit(reader.byte(1))?;
+    let low = hex_digit(reader.byte(2))?;
+    Some(high * 16 + low)
+}
+
+/// The value of a hexadecimal digit.
+#[tactic(auto, unfolding(crate::specs::Uris::hex_digit))]
+fn hex_digit(byte: u8) -> Option<u8>
+    ensures value { result ≡ spec.hex_digit byte }
+    ensures small { IfSome result (λ d. d < 16) }
+{
+    match byte {
+        b'0'..=b'9' => Some(byte - b'0'),
+        b'A'..=b'F' => Some(byte - 55),
+        b'a'..=b'f' => Some(byte - 87),
+        _ => None,
+    }
+}
+
+/// How many escapes are due behind an octet, where so many are due with it: those of the rest of its character.
+#[tactic(auto, unfolding(crate::specs::Uris::due_behind))]
+fn due_behind(octet: u8, due: usize) -> Result<usize, Problem>
+    ensures { result ≡ spec.due_behind octet due }
+{
+    if due > 0 {
+        if octet < 0x80 || octet > 0xBF {
+            return Err(Problem::WrongTrailingOctet);
+        }
+        return Ok(due - 1);
+    }
+    match octet {
+        0..=0x7F => Ok(0),
+        0xC0..=0xDF => Ok(1),
+        0xE0..=0xEF => Ok(2),
+        0xF0..=0xF7 => Ok(3),
+        _ => Err(Problem::WrongLeadingOctet),
+    }
+}
+
+/// Whether a character stands here that a URI holds as it is.
+fn is_uri(reader: &Reader, wide: bool) -> bool
+    ensures { result ≡ spec.is_uri wide reader.now.text reader.now.at }
+{
+    IS_ALPHA(reader.text(), reader.place())
+        || (is_sign(reader.here()) || wide && is_wide_sign(reader.here()))
+}
+
+#[tactic(auto, unfolding(crate::specs::Uris::is_sign))]
+fn is_sign(byte: u8) -> bool
+    ensures { result ≡ spec.is_sign byte }
+{
+    match byte {
+        b';' | b'/' | b'?' | b':' | b'@' | b'&' | b'=' | b'+' => true,
+        b'$' | b'.' | b'!' | b'~' | b'*' | b'\'' | b'(' | b')' => true,
+        _ => false,
+    }
+}
+
+#[tactic(auto, unfolding(crate::specs::Uris::is_wide_sign))]
+fn is_wide_sign(byte: u8) -> bool
+    ensures { result ≡ spec.is_wide_sign byte }
+{
+    byte == b',' || (byte == b'[' || byte == b']')
+}

@@ -1,13 +1,9 @@
-// A library with one function.
+//! Block scalars: their values, their ends and their faults.
 #![tactic(auto)]
 
-ghost use Rattle.std.specs.Prelude.{◌≡◌};
-ghost use Rattle.yaml_scan_block.specs.Echo.{echo_of};
+mod block;
+mod header;
+mod lines;
+mod stacking;
 
-// The `ensures` clause is the contract: what `echo` returns is `echo_of` of its argument, a definition
-// in `specs/Echo.antt`, which a caller's clause can cite too.
-pub fn echo(x: usize) -> usize
-    ensures { result ≡ echo_of x }
-{
-    x
-}
+pub use block::{Block, block_scalar};

@@ -1,2 +1,3 @@
 pub mod MarksLemmas
 pub mod BreaksLemmas
+pub mod RunsLemmas

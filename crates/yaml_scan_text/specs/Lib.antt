@@ -3,6 +3,7 @@ pub mod Faults
 pub mod Problems
 pub mod Marks
 pub mod Breaks
+pub mod Runs
 pub mod Views
 pub mod Classes
 pub mod Wrong

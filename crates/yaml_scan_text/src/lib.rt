@@ -7,6 +7,7 @@ mod name;
 mod problem;
 mod reader;
 mod record;
+mod run;
 mod token;
 
 pub use class::{
@@ -21,4 +22,5 @@ pub use name::{
 pub use problem::{Context, Problem, ScanError, ScanFault};
 pub use reader::{Reader, is_blank as is_blank_byte};
 pub use record::{yaml_mark_t, yaml_simple_key_t, yaml_tag_directive_t, yaml_version_directive_t};
+pub use run::{is_text, skip_blanks, skip_spaces, skip_text};
 pub use token::{yaml_token_body_t, yaml_token_delete, yaml_token_t};

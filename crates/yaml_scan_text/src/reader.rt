@@ -1,6 +1,6 @@
 //! A text, read from the front.
 
-ghost use Rattle.std.specs.Prelude.{◌≡◌, ◌+◌, ◌<◌, ◌≤◌, ℕ, length, false};
+ghost use Rattle.std.specs.Prelude.{◌≡◌, ◌+◌, ◌<◌, ◌≤◌, ℕ, length, false, slice_range};
 ghost use Rattle.yaml_scan_text.specs.Marks.{Place, byte, break_width, ends_break, mark_at, starts as starts_of, is_blank, is_blank_or_end};
 ghost use Rattle.yaml_scan_text.specs.Marks.{splits_break};
 ghost use Rattle.yaml_scan_text.specs.Breaks.{feed_at, is_document_indicator};
@@ -96,6 +96,26 @@ impl<'a> Reader<'a> {
         ensures { result.now ≡ self.now.text }
     {
         self.text
+    }
+
+    /// The bytes from that place up to here.
+    pub fn since(&self, from: usize) -> &'a [u8]
+        requires { from ≤ self.now.at }
+        ensures { result.now ≡ slice_range self.now.text from self.now.at }
+    {
+        &self.text[from..self.index]
+    }
+
+    /// A reader of its own at this place, to look ahead.
+    pub fn ahead(&self) -> Reader<'a>
+        ensures { result ≡ self.now }
+    {
+        Reader {
+            text: self.text,
+            index: self.index,
+            line: self.line,
+            column: self.column,
+        }
     }
 
     /// Where the reader stands.

@@ -1,0 +1,6 @@
+pub mod StackingLemmas
+pub mod BlockLemmas
+pub mod LinesLemmas
+pub mod HeaderLemmas
+pub mod DepthLemmas
+pub mod ScalarLemmas

@@ -1,0 +1,28 @@
+use Rattle.std.proofs.Common.{refl, arith, ◌∙◌, sym, ◌≡◌, ◌+◌, ◌-◌}
+use Rattle.yaml_scan_text.specs.Marks.{column_at}
+use Rattle.yaml_scan_block.specs.Lines.{spaces}
+use Rattle.yaml_scan_block.proofs.BlockLemmas.{space_tests, space_step, space_stop, space_column}
+use Rattle.yaml_scan_text.proofs.MarksLemmas.{no_break}
+use Rattle.yaml_scan_block.proofs.lines.indent.Goals as goal
+
+pub skip-requires-clause-no_break : goal.skip-requires-clause-no_break
+skip-requires-clause-no_break c =
+    let (b, l) = space_tests c.args.column c.spaces.reader.text c.spaces.reader.at (sym c.is_space_before.ensures ∙ c.spaces-test.true) in
+    no_break _ _ _ (omega (arith, b)) (omega (arith, b)) (omega (arith, b)) (omega (arith, b))
+
+pub spaces-smaller : goal.spaces-smaller
+spaces-smaller c =
+    let (b, l) = space_tests c.args.column c.spaces.reader.text c.spaces.reader.at (sym c.is_space_before.ensures ∙ c.spaces-test.true) in
+    let col = space_column c.spaces.reader.text c.spaces.reader.at b in
+    rw (c.skip.ensures, col) (omega (arith, l))
+
+pub spaces-preserved : goal.spaces-preserved
+spaces-preserved c =
+    let (b, l) = space_tests c.args.column c.args.reader.now.text c.spaces.reader.at (rw c.spaces.invariant.text at (sym c.is_space_before.ensures ∙ c.spaces-test.true)) in
+    rw c.skip.ensures record { text = c.spaces.invariant.text; same = c.spaces.invariant.same ∙ space_step c.args.column c.args.reader.now.text c.spaces.reader.at b l }
+
+pub returns : goal.returns
+returns c =
+    let stop = space_stop c.args.column c.args.reader.now.text c.spaces.reader.at (rw c.spaces.invariant.text at (sym c.is_space_before.ensures ∙ c.spaces-test.false)) in
+    let at : c.args.reader.now.at + spaces (c.args.column - column_at c.args.reader.now.text c.args.reader.now.at) c.args.reader.now.text c.args.reader.now.at ≡ c.spaces.reader.at = c.spaces.invariant.same ∙ omega (arith, stop) in
+    rw (at, ← c.spaces.invariant.text) refl

@@ -1,0 +1,173 @@
+//! Headers of block scalars (YAML 1.1, section 9.2.1).
+
+ghost use Rattle.std.specs.Prelude.{◌≡◌, ◌+◌, ◌<◌, if◌then◌else◌, IfOk};
+ghost use Rattle.yaml_scan_text.specs.Marks.{byte, break_width, mark_at};
+ghost use Rattle.yaml_scan_text.specs.Classes.{is_digit_byte};
+ghost use Rattle.yaml_scan_block.specs.Header as spec;
+ghost use Rattle.yaml_scan_block.specs.Gives.{ReadsHeader};
+
+use yaml_scan_text::{
+    Context, Problem, Reader, ScanError, is_text, skip_blanks, skip_text, yaml_mark_t,
+};
+
+/// What happens to the breaks at the end.
+#[derive(Clone, Copy, Debug, PartialEq, Eq)]
+pub(crate) enum Chomp {
+    /// None stays.
+    Strip,
+    /// The last text line's stays.
+    Clip,
+    /// All stay.
+    Keep,
+}
+
+/// A header: what happens to the breaks at the end, and the indentation's digit or 0.
+#[derive(Clone, Copy, Debug, PartialEq, Eq)]
+pub(crate) struct Header {
+    pub chomp: Chomp,
+    pub digit: u64,
+}
+
+/// Past the header whose indicator stands before this place, and past its break.
+pub(crate) fn read_header(reader: &mut Reader, start: yaml_mark_t) -> Result<Header, ScanError>
+    ensures value { ReadsHeader reader.old.text start reader.new result (spec.header_at reader.old.text reader.old.at) }
+    ensures small { IfOk result (λ h. h.digit < 10) }
+{
+    let first = reader.here();
+    let second = reader.byte(1);
+    let digit = if_sign(first, second);
+    let sign = if_digit(first, second);
+    if digit == b'0' {
+        return Err(zero_digit(reader, start));
+    }
+    skip_indicators(reader);
+    skip_blanks(reader);
+    skip_comment(reader);
+    if is_text(reader) {
+        return Err(wrong_block(Problem::NoCommentOrBreak, start, reader.mark()));
+    }
+    skip_last_break(reader);
+    Ok(Header {
+        chomp: chomp_of(sign),
+        digit: digit_of(digit),
+    })
+}
+
+/// The refusal of the scalar that starts at the mark.
+pub(crate) fn wrong_block(problem: Problem, start: yaml_mark_t, place: yaml_mark_t) -> ScanError
+    ensures { result ≡ ScanError.Fault (record { problem = problem; context = Context.BlockScalar; context_mark = start; problem_mark = place }) }
+{
+    ScanError::refusal(problem, Context::BlockScalar, start, place)
+}
+
+/// `+` or `-`.
+#[tactic(auto, unfolding(crate::specs::Header::is_sign))]
+fn is_sign(byte: u8) -> bool
+    ensures { result ≡ spec.is_sign byte }
+{
+    byte == b'+' || byte == b'-'
+}
+
+/// One of `0-9`.
+#[tactic(auto, unfolding(yaml_scan_text::specs::Classes::is_digit_byte))]
+fn is_digit(byte: u8) -> bool
+    ensures { result ≡ is_digit_byte byte }
+{
+    byte >= b'0' && byte <= b'9'
+}
+
+/// The second byte where the first is a sign, else the first.
+fn if_sign(first: u8, second: u8) -> u8
+    ensures { result ≡ (if spec.is_sign first then second else first) }
+{
+    if is_sign(first) { second } else { first }
+}
+
+/// The second byte where the first is a digit, else the first.
+fn if_digit(first: u8, second: u8) -> u8
+    ensures { result ≡ (if is_digit_byte first then second else first) }
+{
+    if is_digit(first) { second } else { first }
+}
+
+#[tactic(auto, unfolding(crate::specs::Header::chomp_of))]
+fn chomp_of(sign: u8) -> Chomp
+    ensures { result ≡ spec.chomp_of sign }
+{
+    match sign {
+        b'+' => Chomp::Keep,
+        b'-' => Chomp::Strip,
+        _ => Chomp::Clip,
+    }
+}
+
+/// The digit's value, or 0.
+#[tactic(auto, unfolding(crate::specs::Header::digit_of, yaml_scan_text::specs::Classes::is_digit_byte))]
+fn digit_of(byte: u8) -> u64
+    ensures value { result ≡ spec.digit_of byte }
+    ensures small { result < 10 }
+{
+    match byte {
+        b'0'..=b'9' => (byte - b'0') as u64,
+        _ => 0,
+    }
+}
+
+/// The refusal of the digit 0, which stands here or behind a sign.
+fn zero_digit(reader: &mut Reader, start: yaml_mark_t) -> ScanError
+    ensures { result ≡ ScanError.Fault (record { problem = Problem.ZeroIndentation; context = Context.BlockScalar; context_mark = start; problem_mark = mark_at reader.old.text (spec.digit_place reader.old.text reader.old.at) }) }
+{
+    if is_sign(reader.here()) {
+        reader.skip();
+        return wrong_block(Problem::ZeroIndentation, start, reader.mark());
+    }
+    wrong_block(Problem::ZeroIndentation, start, reader.mark())
+}
+
+/// How many of two bytes are a sign and a digit, in either order.
+#[tactic(auto, unfolding(crate::specs::Header::indicators))]
+fn indicators(first: u8, second: u8) -> usize
+    ensures { result ≡ spec.indicators first second }
+{
+    if is_sign(first) {
+        if is_digit(second) { 2 } else { 1 }
+    } else if is_digit(first) {
+        if is_sign(second) { 2 } else { 1 }
+    } else {
+        0
+    }
+}
+
+/// Past the sign and the digit here.
+fn skip_indicators(reader: &mut Reader)
+    ensures { reader.new ≡ record { text = reader.old.text; at = reader.old.at + spec.indicators (byte reader.old.text reader.old.at) (byte reader.old.text (reader.old.at + 1)) } }
+{
+    let count = indicators(reader.here(), reader.byte(1));
+    if count == 0 {
+        return;
+    }
+    reader.skip();
+    if count == 1 {
+        return;
+    }
+    reader.skip();
+}
+
+/// Past the comment here, if one is here.
+#[tactic(auto, unfolding(crate::specs::Header::past_comment))]
+fn skip_comment(reader: &mut Reader)
+    ensures { reader.new ≡ record { text = reader.old.text; at = spec.past_comment reader.old.text reader.old.at } }
+{
+    if reader.here() == b'#' {
+        skip_text(reader);
+    }
+}
+
+/// Past the break here, if one is here.
+pub(crate) fn skip_last_break(reader: &mut Reader)
+    ensures { reader.new ≡ record { text = reader.old.text; at = reader.old.at + break_width reader.old.text reader.old.at } }
+{
+    if reader.break_width() > 0 {
+        reader.skip_break();
+    }
+}

@@ -1,0 +1,98 @@
+//! The lines of block scalars (YAML 1.1, sections 9.2.2 and 9.2.3).
+
+ghost use Rattle.std.specs.Prelude.{◌≡◌, ◌+◌, ◌-◌, ◌≤◌, ◌&&◌, ◌==◌, nat_lt, ℕ, suc, length};
+ghost use Rattle.yaml_scan_text.specs.Marks.{byte, column_at};
+ghost use Rattle.yaml_scan_block.specs.Lines as spec;
+ghost use Rattle.yaml_scan_block.specs.Block.{block_with};
+ghost use Rattle.yaml_scan_block.specs.Gives.{LineSteps, ReadsLines};
+ghost use Rattle.yaml_scan_block.specs.Stacked.{stacked};
+ghost use Rattle.yaml_scan_block.specs.declared.header.Chomp.{Chomp};
+
+use crate::header::{skip_last_break, wrong_block};
+use crate::stacking::Stacking;
+use yaml_scan_text::{Problem, Reader, ScanError, skip_text, yaml_mark_t};
+
+/// The lines from here on whose text stands at the column, and the place after the last one.
+pub(crate) fn read_lines(
+    reader: &mut Reader,
+    stacking: &mut Stacking,
+    column: u64,
+    start: yaml_mark_t,
+) -> Result<yaml_mark_t, ScanError>
+    ensures { (chomp : Chomp) → ReadsLines reader.old.text start chomp stacking.new reader.new result (block_with (stacked stacking.old chomp) (spec.lines_from (suc (length reader.old.text)) column reader.old.text reader.old.at reader.old.at)) }
+{
+    let mut end = reader.mark();
+    'lines: loop {
+        let more = line(reader, stacking, column, start)?;
+        if !more {
+            return Ok(end);
+        }
+        end = reader.mark();
+    }
+}
+
+/// Takes the line that stands here, and answers whether it belongs to the scalar.
+fn line(
+    reader: &mut Reader,
+    stacking: &mut Stacking,
+    column: u64,
+    start: yaml_mark_t,
+) -> Result<bool, ScanError>
+    ensures { LineSteps reader.old.text start reader.old.at stacking.old stacking.new reader.new result (spec.line_spot column reader.old.text reader.old.at) }
+{
+    indent(reader, column);
+    behind(reader, stacking, column, start)
+}
+
+/// Past the spaces before the column.
+fn indent(reader: &mut Reader, column: u64)
+    ensures { reader.new ≡ record { text = reader.old.text; at = reader.old.at + spec.spaces (column - column_at reader.old.text reader.old.at) reader.old.text reader.old.at } }
+{
+    'spaces: while is_space_before(reader, column) {
+        reader.skip();
+    }
+}
+
+/// Whether a space stands here, before the column.
+fn is_space_before(reader: &Reader, column: u64) -> bool
+    ensures { result ≡ (byte reader.now.text reader.now.at == 32 && nat_lt (column_at reader.now.text reader.now.at) column) }
+{
+    reader.here() == b' ' && reader.mark().column < column
+}
+
+/// Whether a tab stands here, before the column.
+fn is_tab_before(reader: &Reader, column: u64) -> bool
+    ensures { result ≡ (byte reader.now.text reader.now.at == 9 && nat_lt (column_at reader.now.text reader.now.at) column) }
+{
+    reader.here() == b'\t' && reader.mark().column < column
+}
+
+/// Takes what stands behind the indentation.
+fn behind(
+    reader: &mut Reader,
+    stacking: &mut Stacking,
+    column: u64,
+    start: yaml_mark_t,
+) -> Result<bool, ScanError>
+    ensures { (p : ℕ) → p ≤ reader.old.at → LineSteps reader.old.text start p stacking.old stacking.new reader.new result (spec.spot_behind column reader.old.text reader.old.at) }
+{
+    if is_tab_before(reader, column) {
+        return Err(wrong_block(Problem::TabForSpace, start, reader.mark()));
+    }
+    if reader.break_width() > 0 {
+        stacking.empty(reader.feed())?;
+        reader.skip_break();
+        return Ok(true);
+    }
+    if reader.here() == 0 {
+        return Ok(false);
+    }
+    if reader.mark().column != column {
+        return Ok(false);
+    }
+    let from = reader.place();
+    skip_text(reader);
+    stacking.line(reader.since(from), reader.feed())?;
+    skip_last_break(reader);
+    Ok(true)
+}

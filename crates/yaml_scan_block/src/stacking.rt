@@ -1,0 +1,148 @@
+//! The value of a block scalar, made from the front.
+
+ghost use Rattle.std.specs.Prelude.{◌≡◌, List, [], ◌∷◌, ◌++◌, ◌&&◌, not, false, true, OnOk, IfOk};
+ghost use Rattle.yaml_scan_block.specs.Value as spec;
+ghost use Rattle.yaml_scan_block.specs.Value.{BlockLine, Empty, Words, block_value};
+ghost use Rattle.yaml_scan_text.specs.Breaks.{is_feed};
+ghost use Rattle.yaml_scan_block.specs.declared.header.Chomp.{Chomp};
+ghost use Rattle.yaml_scan_block.specs.Stacked.{stacked, glue};
+
+use crate::header::Chomp;
+use std::alloc::{AllocError, Global};
+use yaml_scan_text::is_blank_byte;
+
+/// The lines so far: the value up to the last text, and what stands behind it.
+#[derive(Debug, Drop)]
+pub(crate) struct Stacking {
+    pub folded: bool,
+    /// The value up to the last line with text.
+    pub done: Vec<u8>,
+    /// Whether a line with text is done.
+    pub any: bool,
+    /// Whether the last one begins with a blank.
+    pub blank: bool,
+    /// The last one's break.
+    pub feed: Vec<u8>,
+    /// The breaks of the empty lines since.
+    pub empties: Vec<u8>,
+}
+
+impl Stacking {
+    /// With no lines.
+    pub(crate) fn new(alloc: Global, folded: bool) -> Stacking
+        ensures { (chomp : Chomp) (ls : List BlockLine) → stacked result chomp ls ≡ block_value folded chomp ls }
+    {
+        Stacking {
+            folded,
+            done: Vec::new(alloc),
+            any: false,
+            blank: false,
+            feed: Vec::new(alloc),
+            empties: Vec::new(alloc),
+        }
+    }
+
+    /// An empty line, by the bytes that its break reads as.
+    pub(crate) fn empty(&mut self, bytes: &[u8]) -> Result<(), AllocError>
+        ensures { OnOk result ((chomp : Chomp) (ls : List BlockLine) → stacked self.new chomp ls ≡ stacked self.old chomp (Empty bytes.now ∷ ls)) }
+    {
+        self.empties.extend_from_slice(bytes)?;
+        Ok(())
+    }
+
+    /// What stands before a line that begins with a blank or doesn't.
+    fn glue(&mut self, blank: bool) -> Result<(), AllocError>
+        ensures rest { OnOk result (self.new ≡ record { folded = self.old.folded; done = self.new.done; any = self.old.any; blank = self.old.blank; feed = self.old.feed; empties = self.old.empties }) }
+        ensures done { OnOk result (self.new.done.items ≡ self.old.done.items ++ glue self.old blank) }
+    {
+        if !self.any {
+            self.done.extend_from_slice(self.empties.as_slice())?;
+            return Ok(());
+        }
+        if !folds(self.folded, self.blank, blank, self.feed.as_slice()) {
+            self.done.extend_from_slice(self.feed.as_slice())?;
+            self.done.extend_from_slice(self.empties.as_slice())?;
+            return Ok(());
+        }
+        if self.empties.is_empty() {
+            self.done.push(b' ')?;
+            return Ok(());
+        }
+        self.done.extend_from_slice(self.empties.as_slice())?;
+        Ok(())
+    }
+
+    /// A line with text, and the bytes that its break reads as.
+    pub(crate) fn line(&mut self, words: &[u8], feed: &[u8]) -> Result<(), AllocError>
+        ensures { OnOk result ((chomp : Chomp) (ls : List BlockLine) → stacked self.new chomp ls ≡ stacked self.old chomp (Words words.now feed.now ∷ ls)) }
+    {
+        let blank = starts_blank(words);
+        self.glue(blank)?;
+        self.done.extend_from_slice(words)?;
+        self.feed.clear();
+        self.feed.extend_from_slice(feed)?;
+        self.empties.clear();
+        self.any = true;
+        self.blank = blank;
+        Ok(())
+    }
+
+    /// The value, where no line follows.
+    pub(crate) fn finish(self, chomp: Chomp) -> Result<Vec<u8>, AllocError>
+        ensures { IfOk result (λ v. v.items ≡ stacked self chomp []) }
+    {
+        let any = self.any;
+        let feed = self.feed;
+        let empties = self.empties;
+        let mut done = self.done;
+        match chomp {
+            Chomp::Strip => Ok(done),
+            Chomp::Clip => {
+                if !any {
+                    return Ok(done);
+                }
+                done.extend_from_slice(feed.as_slice())?;
+                Ok(done)
+            }
+            Chomp::Keep => {
+                if !any {
+                    done.extend_from_slice(empties.as_slice())?;
+                    return Ok(done);
+                }
+                done.extend_from_slice(feed.as_slice())?;
+                done.extend_from_slice(empties.as_slice())?;
+                Ok(done)
+            }
+        }
+    }
+}
+
+/// Whether the text begins with a blank.
+fn starts_blank(words: &[u8]) -> bool
+    ensures { result ≡ spec.starts_blank words.now }
+{
+    if words.is_empty() {
+        return false;
+    }
+    is_blank_byte(words[0])
+}
+
+/// Whether the break reads as a line feed.
+fn reads_feed(bytes: &[u8]) -> bool
+    ensures { result ≡ is_feed bytes.now }
+{
+    if bytes.is_empty() {
+        return false;
+    }
+    bytes[0] == b'\n'
+}
+
+/// Whether the break between two texts is folded.
+fn folds(folded: bool, before: bool, after: bool, feed: &[u8]) -> bool
+    ensures { result ≡ (folded && ((not before && not after) && is_feed feed.now)) }
+{
+    if !folded || before || after {
+        return false;
+    }
+    reads_feed(feed)
+}

@@ -1,0 +1,3 @@
+pub mod DecodeLemmas
+pub mod SpellingLemmas
+pub mod CompleteLemmas

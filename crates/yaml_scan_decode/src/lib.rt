@@ -1,0 +1,11 @@
+//! Decoding: the text that the bytes of a stream spell, or the first offence against it (YAML 1.1, chapter 5).
+#![tactic(auto)]
+
+mod decode;
+mod encoding;
+mod offence;
+mod utf16;
+mod utf8;
+
+pub use decode::{yaml_decode, yaml_text_t};
+pub use encoding::stream_encoding;

@@ -1,11 +1,10 @@
 -- Levels as lists of columns.
-use Rattle.std.proofs.Common.{◌≡◌, ℕ, zero, suc, ◌+◌, ◌-◌, ◌<◌, ◌≤◌, Bool, true, false, leb, List, [], ◌∷◌, ◌++◌, length, take, get_or, refl, sym, ap, subst, ◌∙◌, inl, inr, arith, get_or-take, length-append}
-use Rattle.std.proofs.lemmas.Bool.{cases_Bool, cases_lt}
+use Rattle.std.proofs.Common.{◌≡◌, ℕ, suc, ◌<◌, ◌≤◌, true, leb, List, [], ◌∷◌, ◌++◌, length, take, get_or, refl, sym, ◌∙◌, inl, inr, arith, get_or-take, length-append}
+use Rattle.std.proofs.lemmas.Bool.{cases_lt}
 use Rattle.std.proofs.lemmas.Bool.Decides.{nat_tests}
-use Rattle.std.proofs.lemmas.Grind.{common_steps}
-use Rattle.std.proofs.lemmas.List.{length-take-le, get_or_append_left, get_or-append_right}
-use Rattle.std.specs.Prelude.{slice_index, filter, nat_le}
-use Rattle.yaml_scan_layout.specs.History.{indent, opened}
+use Rattle.std.proofs.lemmas.List.{length-take-le, get_or_append_left}
+use Rattle.std.specs.Prelude.{slice_index}
+use Rattle.yaml_scan_layout.specs.History.{indent}
 use Rattle.yaml_scan.specs.Rising.{IsRising, left_of}
 
 -- the innermost level stands last

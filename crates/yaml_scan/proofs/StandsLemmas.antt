@@ -1,5 +1,5 @@
 -- What the first byte tells.
-use Rattle.std.proofs.Common.{◌≡◌, ℕ, Bool, List}
+use Rattle.std.proofs.Common.{ℕ, Bool, List}
 use Rattle.yaml_scan_text.specs.Marks.{byte}
 use Rattle.yaml_scan_layout.specs.declared.kind.Kind.{Kind}
 use Rattle.yaml_scan_layout.specs.declared.kind.Kind.TheVariants as kinds

@@ -4,3 +4,7 @@ pub use Rattle.yaml_scan_text.specs.Classes
 pub use Rattle.yaml_scan_text.specs.Marks
 pub mod Stands
 pub mod Rising
+pub mod Given
+pub mod State
+pub mod Session
+pub mod SessionView

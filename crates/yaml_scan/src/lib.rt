@@ -5,7 +5,6 @@ mod levels;
 mod machine;
 mod next;
 mod session;
-mod stub;
 mod waiting;
 mod word;
 
@@ -13,7 +12,7 @@ pub use session::{
     yaml_parser_fault, yaml_parser_has_token, yaml_parser_peek, yaml_parser_scan, yaml_parser_skip,
     yaml_parser_t,
 };
-pub use stub::{yaml_decode, yaml_text_t};
+pub use yaml_scan_decode::{yaml_decode, yaml_text_t};
 pub use yaml_scan_text::{
     AS_DIGIT, AS_HEX_AT, IS_ALPHA, IS_ASCII, IS_BLANK, IS_BLANKZ, IS_BOM, IS_BREAK, IS_BREAKZ,
     IS_CRLF, IS_DIGIT, IS_HEX_AT, IS_PRINTABLE, IS_SPACE, IS_TAB, IS_Z, WIDTH, yaml_break_t,

@@ -1,19 +1,28 @@
 //! The state between two lexemes.
 
+ghost use Rattle.std.specs.Prelude.{◌≡◌, ◌+◌, ◌-◌, ◌<◌, ◌≤◌, ◌^◌, OnOk, IsTrue, IfSome, true, false, length, ℕ};
+ghost use Rattle.yaml_scan_decode.specs.Answer.{text_bytes};
+
 use crate::levels::Levels;
 use crate::next::{Read, keeps};
 use crate::waiting::Waiting;
 use std::alloc::{AllocError, Global};
 use std::collections::VecDeque;
-use crate::stub::yaml_text_t;
+use yaml_scan_decode::{stream_encoding, yaml_decode, yaml_text_t};
 use yaml_scan_layout::{Entry, Kind, Lexeme, Opens};
 use yaml_scan_text::{
-    ScanError, yaml_encoding_t, yaml_mark_t, yaml_token_body_t, yaml_token_t,
+    ScanError, yaml_encoding_t, yaml_fault_t, yaml_mark_t, yaml_memory_fault, yaml_origin_t,
+    yaml_token_body_t, yaml_token_t,
 };
 
 #[derive(Drop)]
 pub(crate) struct Machine<'a> {
     pub alloc: Global,
+    /// The stream's bytes, and how they are to be read.
+    pub input: &'a [u8],
+    pub setting: yaml_encoding_t,
+    /// The input is decoded.
+    pub started: bool,
     pub text: yaml_text_t<'a>,
     pub encoding: yaml_encoding_t,
     /// The lexemes that were read and are not all taken. It grows at its back alone.
@@ -35,11 +44,34 @@ pub(crate) struct Machine<'a> {
 }
 
 impl<'a> Machine<'a> {
-    pub(crate) fn new(alloc: Global, text: yaml_text_t<'a>, encoding: yaml_encoding_t) -> Machine<'a> {
+    ghost use Rattle.yaml_scan.specs.State.{IsMachine, IsNarrow, AreInside, GoesOn, is_ready};
+
+    pub(crate) fn new(alloc: Global, input: &'a [u8], setting: yaml_encoding_t) -> Machine<'a>
+        ensures stands { IsMachine result }
+        ensures ready { is_ready result ≡ false }
+    {
+        Machine::over(alloc, input, setting, false, yaml_text_t::Borrowed(input))
+    }
+
+    /// The state before the first lexeme of a text.
+    fn over(
+        alloc: Global,
+        input: &'a [u8],
+        setting: yaml_encoding_t,
+        started: bool,
+        text: yaml_text_t<'a>,
+    ) -> Machine<'a>
+        ensures stands { IsMachine result }
+        ensures ready { is_ready result ≡ false }
+    {
+        let _length = text.as_slice().len();
         Machine {
             alloc,
+            input,
+            setting,
+            started,
             text,
-            encoding,
+            encoding: stream_encoding(input, setting),
             waiting: VecDeque::new(alloc),
             dropped: 0,
             given: 0,
@@ -56,8 +88,26 @@ impl<'a> Machine<'a> {
         }
     }
 
+    /// Decodes the input, once, and reads on until the next token is known, or there is none.
+    pub(crate) fn read_on(&mut self) -> Result<(), yaml_fault_t>
+        requires { IsMachine self.old }
+        ensures { OnOk result (IsMachine self.new) }
+    {
+        if !self.started {
+            let text = yaml_decode(self.alloc, self.input, self.setting)?;
+            *self = Machine::over(self.alloc, self.input, self.setting, true, text);
+        }
+        match self.fill() {
+            Ok(()) => Ok(()),
+            Err(ScanError::Memory) => Err(yaml_memory_fault(yaml_origin_t::Scanner)),
+            Err(ScanError::Fault(fault)) => Err(fault.located()),
+        }
+    }
+
     /// Whether the next token is known, whatever follows.
-    pub(crate) fn has_token(&self) -> bool {
+    pub(crate) fn has_token(&self) -> bool
+        ensures { result ≡ is_ready self.now }
+    {
         match self.waiting.front() {
             None => false,
             Some(front) => self.dropped < self.settled || self.given < front.entry.ends,
@@ -65,10 +115,14 @@ impl<'a> Machine<'a> {
     }
 
     /// Takes the next token.
-    pub(crate) fn take_token(&mut self) -> yaml_token_t {
+    pub(crate) fn take_token(&mut self) -> yaml_token_t
+        requires stands { IsMachine self.old }
+        requires ready { is_ready self.old ≡ true }
+        ensures { IsMachine self.new }
+    {
         if let Some(body) = self.waiting[0].before(self.given) {
             let mark = self.waiting[0].entry.lexeme.start;
-            self.given += 1;
+            self.given = self.given.saturating_add(1);
             return yaml_token_t {
                 body,
                 start_mark: mark,
@@ -84,15 +138,31 @@ impl<'a> Machine<'a> {
     }
 
     /// Reads on until the next token is known, or there is none.
-    pub(crate) fn fill(&mut self) -> Result<(), ScanError> {
-        'steps: while !self.has_token() && !self.ended {
+    fn fill(&mut self) -> Result<(), ScanError>
+        requires { IsMachine self.old }
+        ensures { OnOk result (IsMachine self.new) }
+    {
+        'steps: while !self.has_token() && self.has_more() {
             self.step()?;
         }
         Ok(())
     }
 
+    /// Whether a lexeme may come: the stream's start and end take no byte, every other at least one.
+    fn has_more(&self) -> bool
+        requires { IsMachine self.now }
+        ensures { IsTrue result → (self.now.ended ≡ false) × (self.now.dropped + length self.now.waiting.items < length (text_bytes self.now.text) + 2) }
+    {
+        !self.ended && self.dropped + self.waiting.len() < self.text.as_slice().len() + 2
+    }
+
     /// Reads one lexeme.
-    fn step(&mut self) -> Result<(), ScanError> {
+    fn step(&mut self) -> Result<(), ScanError>
+        requires stands { IsMachine self.old }
+        requires more { self.old.ended ≡ false }
+        requires room { self.old.dropped + length self.old.waiting.items < length (text_bytes self.old.text) + 2 }
+        ensures { OnOk result (IsMachine self.new × GoesOn self.old self.new) }
+    {
         let Read {
             lexeme,
             body,
@@ -101,34 +171,52 @@ impl<'a> Machine<'a> {
         } = self.next()?;
         let ends = self.close_levels(lexeme);
         let opens = self.open_level(lexeme, own, found)?;
-        if let Some(i) = own {
-            self.waiting[i].mark(lexeme, opens);
-        }
-        let entry = Entry {
-            lexeme,
-            ends,
-            opens: if found { Opens::Nothing } else { opens },
-            key: false,
-        };
+        self.mark_own(own, lexeme, opens);
         self.waiting.push_back(Waiting {
-            entry,
+            entry: entry(lexeme, ends, opens, found),
             body,
             current: lexeme.saved,
         })?;
         self.place = lexeme.reached;
         self.depth = lexeme.kind.depth_after(lexeme.depth);
-        self.allowed = lexeme.kind.allows_key(lexeme.depth == 0, found) || lexeme.broke;
+        self.allowed = allows(lexeme, found);
         self.ended = lexeme.kind.is_end();
-        self.settled = if self.ended {
-            self.dropped + self.waiting.len()
-        } else {
-            self.earliest_open()
-        };
+        self.settled = self.settle();
         Ok(())
     }
 
+    /// Tells the candidate of a lexeme's depth what the lexeme makes of it.
+    fn mark_own(&mut self, own: Option<usize>, lexeme: Lexeme, opens: Opens)
+        requires { IfSome own (λ i. i < length self.old.waiting.items) }
+        ensures same { self.new ≡ record self.old { waiting = self.new.waiting } }
+        ensures length { length self.new.waiting.items ≡ length self.old.waiting.items }
+        ensures inside { (n : ℕ) → AreInside n self.old.waiting.items → AreInside n self.new.waiting.items }
+    {
+        if let Some(i) = own {
+            self.waiting[i].mark(lexeme, opens);
+        }
+    }
+
+    /// How many lexemes no later one changes: those before the earliest open candidate, or all behind the end.
+    fn settle(&self) -> usize
+        requires taken { self.now.dropped ≤ self.now.settled }
+        requires settled { self.now.settled ≤ self.now.dropped + length self.now.waiting.items }
+        requires few { self.now.dropped + length self.now.waiting.items < 2 ^ 64 - 1 }
+        ensures low { self.now.settled ≤ result }
+        ensures high { result ≤ self.now.dropped + length self.now.waiting.items }
+    {
+        if self.ended {
+            return self.dropped + self.waiting.len();
+        }
+        self.earliest_open()
+    }
+
     /// Closes the levels right of a lexeme outside all brackets, and answers how many they are.
-    fn close_levels(&mut self, lexeme: Lexeme) -> usize {
+    fn close_levels(&mut self, lexeme: Lexeme) -> usize
+        requires { lexeme.start.column < 2 ^ 63 }
+        ensures same { self.new ≡ record self.old { levels = self.new.levels } }
+        ensures levels { (n : ℕ) → IsNarrow n self.old.levels → IsNarrow n self.new.levels }
+    {
         if 0 < lexeme.depth {
             return 0;
         }
@@ -141,7 +229,15 @@ impl<'a> Machine<'a> {
         lexeme: Lexeme,
         own: Option<usize>,
         found: bool,
-    ) -> Result<Opens, AllocError> {
+    ) -> Result<Opens, AllocError>
+        requires column { lexeme.start.column < 2 ^ 63 }
+        requires own { IfSome own (λ i. i < length self.old.waiting.items) }
+        requires inside { AreInside (length (text_bytes self.old.text)) self.old.waiting.items }
+        requires long { length (text_bytes self.old.text) < 2 ^ 63 }
+        requires narrow { lexeme.start.column ≤ length (text_bytes self.old.text) }
+        ensures same { OnOk result (self.new ≡ record self.old { levels = self.new.levels }) }
+        ensures levels { OnOk result (IsNarrow (length (text_bytes self.old.text) + 1) self.old.levels → IsNarrow (length (text_bytes self.old.text) + 1) self.new.levels) }
+    {
         if 0 < lexeme.depth || !lexeme.kind.is_start() {
             return Ok(Opens::Nothing);
         }
@@ -160,7 +256,13 @@ impl<'a> Machine<'a> {
 
     /// The number of the earliest open candidate, or how many lexemes were read. What is settled stays so, so the
     /// look goes on where the last one ended.
-    fn earliest_open(&self) -> usize {
+    fn earliest_open(&self) -> usize
+        requires taken { self.now.dropped ≤ self.now.settled }
+        requires settled { self.now.settled ≤ self.now.dropped + length self.now.waiting.items }
+        requires few { self.now.dropped + length self.now.waiting.items < 2 ^ 64 - 1 }
+        ensures low { self.now.settled ≤ result }
+        ensures high { result ≤ self.now.dropped + length self.now.waiting.items }
+    {
         let mut i = self.settled - self.dropped;
         'pass: while i < self.waiting.len() {
             if self.waiting[i].is_open(self.place) {
@@ -170,4 +272,21 @@ impl<'a> Machine<'a> {
         }
         self.dropped + i
     }
+}
+
+/// How a lexeme is spelled out, where it is read. What a `:` opens for its key stands before that key.
+fn entry(lexeme: Lexeme, ends: usize, opens: Opens, found: bool) -> Entry
+    ensures { result.lexeme ≡ lexeme }
+{
+    Entry {
+        lexeme,
+        ends,
+        opens: if found { Opens::Nothing } else { opens },
+        key: false,
+    }
+}
+
+/// Whether a key may begin behind a lexeme.
+fn allows(lexeme: Lexeme, found: bool) -> bool {
+    lexeme.kind.allows_key(lexeme.depth == 0, found) || lexeme.broke
 }

@@ -1,5 +1,7 @@
 //! The lexemes that wait, and the tokens that they are spelled out in.
 
+ghost use Rattle.std.specs.Prelude.{◌≡◌, ◌≢◌, ◌<◌, None};
+
 use yaml_scan_layout::{Entry, Lexeme, Opens, is_fresh};
 use yaml_scan_text::{yaml_mark_t, yaml_token_body_t, yaml_token_t};
 
@@ -20,7 +22,9 @@ impl Waiting {
     }
 
     /// Takes what a later lexeme of its depth says of it: `opens` is what it opens where it becomes a key.
-    pub(crate) fn mark(&mut self, lexeme: Lexeme, opens: Opens) {
+    pub(crate) fn mark(&mut self, lexeme: Lexeme, opens: Opens)
+        ensures { self.new.entry.lexeme ≡ self.old.entry.lexeme }
+    {
         if lexeme.kind.is_value() && is_fresh(self.entry.lexeme.start, lexeme.start) {
             self.entry.key = true;
             self.entry.opens = opens;
@@ -29,7 +33,9 @@ impl Waiting {
     }
 
     /// The token in front of its own one, where `given` tokens were taken: BLOCK-END tokens, a block start, KEY.
-    pub(crate) fn before(&self, given: usize) -> Option<yaml_token_body_t> {
+    pub(crate) fn before(&self, given: usize) -> Option<yaml_token_body_t>
+        ensures { given < self.now.entry.ends → result ≢ None }
+    {
         if given < self.entry.ends {
             return Some(yaml_token_body_t::BlockEnd);
         }

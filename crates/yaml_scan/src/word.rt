@@ -1,18 +1,27 @@
 //! Which lexeme stands at a place, and what it carries.
 
-ghost use Rattle.std.specs.Prelude.{◌≡◌, ◌+◌, ◌<◌, ◌⊎◌, IfSome, OnOk, true};
+ghost use Rattle.std.specs.Prelude.{◌≡◌, ◌+◌, ◌<◌, ◌≤◌, ◌⊎◌, IfSome, true, false, length};
 ghost use Rattle.yaml_scan_text.specs.Marks.{byte, break_width};
 ghost use Rattle.yaml_scan_scalars.specs.Plain as plains;
+ghost use Rattle.yaml_scan_text.specs.Tokens as tokens;
+ghost use Rattle.yaml_scan_text.specs.Tokens.{body_of};
+ghost use Rattle.yaml_scan_words.specs.Anchors.{anchor_at};
+ghost use Rattle.yaml_scan_words.specs.Tags.{tag_at};
+ghost use Rattle.yaml_scan_words.specs.Directives.{directive_at};
+ghost use Rattle.yaml_scan_scalars.specs.Quoted.{double_quoted_at, single_quoted_at};
+ghost use Rattle.yaml_scan_block.specs.Block.{block_at, style_at};
+ghost use Rattle.yaml_scan_layout.specs.Words as spec;
 ghost use Rattle.yaml_scan.specs.Stands.{Stands, IsThrice, Told};
+ghost use Rattle.yaml_scan.specs.Given.{IsWord, ReadsWord, IsSaid};
 
-use crate::stub::{Directive, block_scalar, make_directive, tag};
 use std::alloc::Global;
+use yaml_scan_block::block_scalar;
 use yaml_scan_layout::Kind;
 use yaml_scan_scalars::{double_quoted, plain_scalar, single_quoted, starts_plain};
 use yaml_scan_text::{
     Context, Reader, ScanError, yaml_mark_t, yaml_scalar_style_t, yaml_token_body_t,
 };
-use yaml_scan_words::{anchor, is_document_end, is_document_start};
+use yaml_scan_words::{Directive, anchor, directive, is_document_end, is_document_start, tag};
 
 /// A lexeme's own token, and what its end says.
 #[derive(Drop)]
@@ -24,9 +33,10 @@ pub(crate) struct Word {
 }
 
 /// The kind of the lexeme that stands here (YAML 1.1, 5.3).
-#[tactic(auto, unfolding(yaml_scan_words::specs::Indicators::is_document_start, yaml_scan_words::specs::Indicators::is_document_end))]
+#[tactic(auto, unfolding(yaml_scan_layout::specs::Words::kind_at, yaml_scan_words::specs::Indicators::is_document_start, yaml_scan_words::specs::Indicators::is_document_end))]
 pub(crate) fn kind_at(reader: &Reader, flow: bool) -> Option<Kind>
-    ensures { IfSome result (λ k. Stands k flow reader.now.text reader.now.at) }
+    ensures value { result ≡ spec.kind_at flow reader.now.text reader.now.at }
+    ensures stands { IfSome result (λ k. Stands k flow reader.now.text reader.now.at) }
 {
     let byte = reader.here();
     if byte == 0 {
@@ -51,8 +61,10 @@ pub(crate) fn kind_at(reader: &Reader, flow: bool) -> Option<Kind>
 }
 
 /// The kind that a byte tells; `alone` tells that a blank, a break or the end follows it.
+#[tactic(auto, unfolding(yaml_scan_layout::specs::Words::indicator_of))]
 fn indicator(byte: u8, flow: bool, alone: bool) -> Option<Kind>
-    ensures { IfSome result (λ k. Told k byte) }
+    ensures value { result ≡ spec.indicator_of flow alone byte }
+    ensures told { IfSome result (λ k. Told k byte) }
 {
     match byte {
         b'[' => Some(Kind::FlowSequenceStart),
@@ -75,7 +87,7 @@ fn indicator(byte: u8, flow: bool, alone: bool) -> Option<Kind>
 }
 
 /// Reads the lexeme of that kind, which stands here.
-#[tactic(auto, unfolding(yaml_scan_text::specs::Marks::break_of))]
+#[tactic(auto, unfolding(yaml_scan_text::specs::Marks::break_of, yaml_scan_layout::specs::Words::word_at))]
 pub(crate) fn read_word(
     alloc: Global,
     reader: &mut Reader,
@@ -83,8 +95,9 @@ pub(crate) fn read_word(
     flow: bool,
     level: u64,
 ) -> Result<Word, ScanError>
-    requires { Stands kind flow reader.old.text reader.old.at }
-    ensures { OnOk result (reader.new.text ≡ reader.old.text) }
+    requires stands { Stands kind flow reader.old.text reader.old.at }
+    requires level { level ≤ length reader.old.text + 1 }
+    ensures { ReadsWord reader.old.text reader.old.at reader.new result (spec.word_at kind flow level reader.old.text reader.old.at) }
 {
     match kind {
         Kind::StreamStart | Kind::StreamEnd => Ok(carrier(reader, yaml_token_body_t::StreamEnd)),
@@ -102,12 +115,7 @@ pub(crate) fn read_word(
         Kind::Alias => alias_word(alloc, reader),
         Kind::Anchor => anchor_word(alloc, reader),
         Kind::Tag => tag_word(alloc, reader, flow),
-        Kind::Literal => {
-            block_word(alloc, reader, level, yaml_scalar_style_t::YAML_LITERAL_SCALAR_STYLE)
-        }
-        Kind::Folded => {
-            block_word(alloc, reader, level, yaml_scalar_style_t::YAML_FOLDED_SCALAR_STYLE)
-        }
+        Kind::Literal | Kind::Folded => block_word(alloc, reader, level),
         Kind::SingleQuoted => single_word(alloc, reader),
         Kind::DoubleQuoted => double_word(alloc, reader),
         Kind::Plain => plain_word(alloc, reader, flow, level),
@@ -115,7 +123,9 @@ pub(crate) fn read_word(
 }
 
 /// The word that ends where the reader stands.
-fn carrier(reader: &Reader, body: yaml_token_body_t) -> Word {
+fn carrier(reader: &Reader, body: yaml_token_body_t) -> Word
+    ensures { IsWord reader.now.text result (record { body = body_of body; end = reader.now.at; reached = reader.now.at; broke = false }) }
+{
     Word {
         body,
         end: reader.mark(),
@@ -127,7 +137,8 @@ fn carrier(reader: &Reader, body: yaml_token_body_t) -> Word {
 fn sign(reader: &mut Reader, body: yaml_token_body_t) -> Word
     requires some { 0 < byte reader.old.text reader.old.at }
     requires no_break { break_width reader.old.text reader.old.at ≡ 0 }
-    ensures { reader.new.text ≡ reader.old.text }
+    ensures word { IsWord reader.old.text result (record { body = body_of body; end = reader.old.at + 1; reached = reader.old.at + 1; broke = false }) }
+    ensures place { reader.new ≡ record { text = reader.old.text; at = reader.old.at + 1 } }
 {
     reader.skip();
     carrier(reader, body)
@@ -137,7 +148,8 @@ fn sign(reader: &mut Reader, body: yaml_token_body_t) -> Word
 #[tactic(auto, unfolding(yaml_scan_text::specs::Marks::break_of))]
 fn document_mark(reader: &mut Reader, body: yaml_token_body_t) -> Word
     requires { IsThrice 45 reader.old.text reader.old.at ⊎ IsThrice 46 reader.old.text reader.old.at }
-    ensures { reader.new.text ≡ reader.old.text }
+    ensures word { IsWord reader.old.text result (record { body = body_of body; end = reader.old.at + 3; reached = reader.old.at + 3; broke = false }) }
+    ensures place { reader.new ≡ record { text = reader.old.text; at = reader.old.at + 3 } }
 {
     reader.skip();
     reader.skip();
@@ -147,17 +159,21 @@ fn document_mark(reader: &mut Reader, body: yaml_token_body_t) -> Word
 
 fn directive_word(alloc: Global, reader: &mut Reader) -> Result<Word, ScanError>
     requires { byte reader.old.text reader.old.at ≡ 37 }
-    ensures { OnOk result (reader.new.text ≡ reader.old.text) }
+    ensures { ReadsWord reader.old.text reader.old.at reader.new result (spec.directed (directive_at reader.old.text reader.old.at)) }
 {
-    let read = make_directive(alloc, reader)?;
-    Ok(Word {
-        body: directive_body(read.directive),
-        end: read.end_mark,
-        broke: false,
-    })
+    match directive(alloc, reader) {
+        Ok(read) => Ok(Word {
+            body: directive_body(read.directive),
+            end: read.end_mark,
+            broke: false,
+        }),
+        Err(error) => Err(error),
+    }
 }
 
-fn directive_body(directive: Directive) -> yaml_token_body_t {
+fn directive_body(directive: Directive) -> yaml_token_body_t
+    ensures { IsSaid directive result }
+{
     match directive {
         Directive::Version { major, minor } => yaml_token_body_t::VersionDirective { major, minor },
         Directive::Tag { handle, prefix } => yaml_token_body_t::TagDirective { handle, prefix },
@@ -166,7 +182,7 @@ fn directive_body(directive: Directive) -> yaml_token_body_t {
 
 fn alias_word(alloc: Global, reader: &mut Reader) -> Result<Word, ScanError>
     requires { byte reader.old.text reader.old.at ≡ 42 }
-    ensures { OnOk result (reader.new.text ≡ reader.old.text) }
+    ensures { ReadsWord reader.old.text reader.old.at reader.new result (spec.valued (λ v. tokens.alias v) (anchor_at Context.Alias reader.old.text reader.old.at)) }
 {
     let read = anchor(alloc, reader, Context::Alias)?;
     Ok(Word {
@@ -178,7 +194,7 @@ fn alias_word(alloc: Global, reader: &mut Reader) -> Result<Word, ScanError>
 
 fn anchor_word(alloc: Global, reader: &mut Reader) -> Result<Word, ScanError>
     requires { byte reader.old.text reader.old.at ≡ 38 }
-    ensures { OnOk result (reader.new.text ≡ reader.old.text) }
+    ensures { ReadsWord reader.old.text reader.old.at reader.new result (spec.valued (λ v. tokens.anchor v) (anchor_at Context.Anchor reader.old.text reader.old.at)) }
 {
     let read = anchor(alloc, reader, Context::Anchor)?;
     Ok(Word {
@@ -190,7 +206,7 @@ fn anchor_word(alloc: Global, reader: &mut Reader) -> Result<Word, ScanError>
 
 fn tag_word(alloc: Global, reader: &mut Reader, flow: bool) -> Result<Word, ScanError>
     requires { byte reader.old.text reader.old.at ≡ 33 }
-    ensures { OnOk result (reader.new.text ≡ reader.old.text) }
+    ensures { ReadsWord reader.old.text reader.old.at reader.new result (spec.tagged (tag_at flow reader.old.text reader.old.at)) }
 {
     let read = tag(alloc, reader, flow)?;
     Ok(Word {
@@ -203,20 +219,16 @@ fn tag_word(alloc: Global, reader: &mut Reader, flow: bool) -> Result<Word, Scan
     })
 }
 
-fn block_word(
-    alloc: Global,
-    reader: &mut Reader,
-    level: u64,
-    style: yaml_scalar_style_t,
-) -> Result<Word, ScanError>
-    requires { (byte reader.old.text reader.old.at ≡ 124) ⊎ (byte reader.old.text reader.old.at ≡ 62) }
-    ensures { OnOk result (reader.new.text ≡ reader.old.text) }
+fn block_word(alloc: Global, reader: &mut Reader, level: u64) -> Result<Word, ScanError>
+    requires level { level ≤ length reader.old.text + 1 }
+    requires indicator { (byte reader.old.text reader.old.at ≡ 124) ⊎ (byte reader.old.text reader.old.at ≡ 62) }
+    ensures { ReadsWord reader.old.text reader.old.at reader.new result (spec.blocked (style_at reader.old.text reader.old.at) (block_at level reader.old.text reader.old.at)) }
 {
     let read = block_scalar(alloc, reader, level)?;
     Ok(Word {
         body: yaml_token_body_t::Scalar {
             value: read.value,
-            style,
+            style: read.style,
         },
         end: read.end_mark,
         broke: false,
@@ -225,7 +237,7 @@ fn block_word(
 
 fn single_word(alloc: Global, reader: &mut Reader) -> Result<Word, ScanError>
     requires { byte reader.old.text reader.old.at ≡ 39 }
-    ensures { OnOk result (reader.new.text ≡ reader.old.text) }
+    ensures { ReadsWord reader.old.text reader.old.at reader.new result (spec.valued (λ v. tokens.scalar v yaml_scalar_style_t.YAML_SINGLE_QUOTED_SCALAR_STYLE) (single_quoted_at reader.old.text reader.old.at)) }
 {
     let read = single_quoted(alloc, reader)?;
     Ok(Word {
@@ -240,7 +252,7 @@ fn single_word(alloc: Global, reader: &mut Reader) -> Result<Word, ScanError>
 
 fn double_word(alloc: Global, reader: &mut Reader) -> Result<Word, ScanError>
     requires { byte reader.old.text reader.old.at ≡ 34 }
-    ensures { OnOk result (reader.new.text ≡ reader.old.text) }
+    ensures { ReadsWord reader.old.text reader.old.at reader.new result (spec.valued (λ v. tokens.scalar v yaml_scalar_style_t.YAML_DOUBLE_QUOTED_SCALAR_STYLE) (double_quoted_at reader.old.text reader.old.at)) }
 {
     let read = double_quoted(alloc, reader)?;
     Ok(Word {
@@ -253,14 +265,9 @@ fn double_word(alloc: Global, reader: &mut Reader) -> Result<Word, ScanError>
     })
 }
 
-fn plain_word(
-    alloc: Global,
-    reader: &mut Reader,
-    flow: bool,
-    level: u64,
-) -> Result<Word, ScanError>
+fn plain_word(alloc: Global, reader: &mut Reader, flow: bool, level: u64) -> Result<Word, ScanError>
     requires { plains.starts_plain flow reader.old.text reader.old.at ≡ true }
-    ensures { OnOk result (reader.new.text ≡ reader.old.text) }
+    ensures { ReadsWord reader.old.text reader.old.at reader.new result (spec.plainly (plains.plain_at flow level reader.old.text reader.old.at)) }
 {
     let read = plain_scalar(alloc, reader, flow, level)?;
     Ok(Word {

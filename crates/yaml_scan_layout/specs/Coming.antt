@@ -15,14 +15,14 @@ use Rattle.yaml_scan_layout.specs.declared.lexeme.Opens.{Opens}
 use Rattle.yaml_scan_layout.specs.declared.lexeme.Opens.TheVariants as opening
 use Rattle.yaml_scan_layout.specs.History.{entries, first_open}
 use Rattle.yaml_scan_layout.specs.Next.{Next, Read, Fails, Ends, next, history}
-use Rattle.yaml_scan_layout.specs.Words.{Word, word_at}
+use Rattle.yaml_scan_layout.specs.Words.{WordText, word_at}
 
 -- what a stream is: how its bytes were spelled, and the text
 pub record Stream : Type 0 where
   pub encoding : yaml_encoding_t
   pub text : List ℕ
 
-abbrev pub body_of_word : Result Word Wrong → TokenBody
+abbrev pub body_of_word : Result WordText Wrong → TokenBody
 body_of_word (Ok w) = w.body
 body_of_word (Err w) = no
 

@@ -13,7 +13,8 @@ use Rattle.yaml_scan_layout.specs.declared.kind.Kind.TheVariants as kinds
 use Rattle.yaml_scan_layout.specs.declared.lexeme.Lexeme.{Lexeme}
 use Rattle.yaml_scan_layout.specs.Kinds.{may_be_key, cancels, is_value, is_start, is_end}
 use Rattle.yaml_scan_layout.specs.History.{reached, depth, candidate, Candidate, fresh, has, is_fresh, indent, left_by, levels, key_allowed, placed}
-use Rattle.yaml_scan_layout.specs.Words.{Word, word_at, kind_at, Gap, gap_at}
+use Rattle.yaml_scan_layout.specs.Words.{WordText, word_at, kind_at}
+use Rattle.yaml_scan_words.specs.Between.{Gap, gap_at}
 
 -- a lexeme that was read, or the fault that comes in its place, or nothing behind the end
 pub data Next : Type 0 where
@@ -62,7 +63,7 @@ begun k start allowed h = record {
 }
 
 -- the lexeme with its end; the stream's end stays where it starts
-abbrev pub finished : List ℕ → Lexeme → Word → Lexeme
+abbrev pub finished : List ℕ → Lexeme → WordText → Lexeme
 finished text l w = if is_end l.kind then l else record l { end = mark_at text w.end; reached = mark_at text w.reached; broke = w.broke }
 
 -- a `-`, a `?` and a `:` without candidate stand only where a key may begin, in block context
@@ -84,7 +85,7 @@ abbrev pub tested : Lexeme → List Lexeme → Next
 tested l h = elim (missed (candidate 0 (l ∷ h)) l.reached) as (λ _. Next) [ Some start ↦ no_colon start l.reached | None ↦ Read l ]
 
 -- the lexeme's own fault
-abbrev pub unless_wrong : Result Word Wrong → List ℕ → Lexeme → List Lexeme → Next
+abbrev pub unless_wrong : Result WordText Wrong → List ℕ → Lexeme → List Lexeme → Next
 unless_wrong (Err w) text l h = Fails (scan_fault text l.start w)
 unless_wrong (Ok w) text l h = tested (finished text l w) h
 

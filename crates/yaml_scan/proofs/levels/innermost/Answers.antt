@@ -1,5 +1,4 @@
-use Rattle.std.proofs.Common.{◌≡◌, ℕ, ◌-◌, suc, refl, sym, arith, get_or, take}
-use Rattle.yaml_scan_layout.specs.History.{indent}
+use Rattle.std.proofs.Common.{◌≡◌, ◌-◌, suc, sym, arith}
 use Rattle.yaml_scan.proofs.LevelsLemmas.{indent_take, indent_none}
 use Rattle.yaml_scan.proofs.levels.innermost.Goals as goal
 

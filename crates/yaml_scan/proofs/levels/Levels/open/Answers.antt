@@ -1,4 +1,4 @@
-use Rattle.std.proofs.Common.{◌≡◌, ◌<◌, ℕ, List, refl, sym, ◌∙◌, arith, subst, ap}
+use Rattle.std.proofs.Common.{◌≡◌, ℕ, List, sym, arith, subst, ap}
 use Rattle.yaml_scan_layout.specs.History.{indent}
 use Rattle.yaml_scan.specs.Rising.{IsRising}
 use Rattle.yaml_scan.proofs.LevelsLemmas.{rising_more}

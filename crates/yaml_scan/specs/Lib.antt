@@ -2,9 +2,9 @@ pub use Rattle.yaml_scan_text.specs.Tokens
 pub use Rattle.yaml_scan_text.specs.Faults
 pub use Rattle.yaml_scan_text.specs.Classes
 pub use Rattle.yaml_scan_text.specs.Marks
-pub use Rattle.yaml_scan_decode.specs.Encodings
-pub use Rattle.yaml_scan_decode.specs.Offences
-pub use Rattle.yaml_scan_decode.specs.Characters
-pub use Rattle.yaml_scan_decode.specs.Decoding
-pub use Rattle.yaml_scan_decode.specs.Spelling
-pub use Rattle.yaml_scan_decode.specs.DecodedText
+pub mod Stands
+pub mod Rising
+pub mod Given
+pub mod State
+pub mod Session
+pub mod SessionView

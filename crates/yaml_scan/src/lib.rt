@@ -1,6 +1,17 @@
 //! Decoding, tokens and their faults: libyaml's reader and scanner.
 #![tactic(auto)]
 
+mod levels;
+mod machine;
+mod next;
+mod session;
+mod waiting;
+mod word;
+
+pub use session::{
+    yaml_parser_fault, yaml_parser_has_token, yaml_parser_peek, yaml_parser_scan, yaml_parser_skip,
+    yaml_parser_t,
+};
 pub use yaml_scan_decode::{yaml_decode, yaml_text_t};
 pub use yaml_scan_text::{
     AS_DIGIT, AS_HEX_AT, IS_ALPHA, IS_ASCII, IS_BLANK, IS_BLANKZ, IS_BOM, IS_BREAK, IS_BREAKZ,

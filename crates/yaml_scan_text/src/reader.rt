@@ -2,6 +2,7 @@
 
 ghost use Rattle.std.specs.Prelude.{◌≡◌, ◌+◌, ◌<◌, ◌≤◌, ℕ, length, false, slice_range};
 ghost use Rattle.yaml_scan_text.specs.Marks.{Place, byte, break_width, ends_break, mark_at, starts as starts_of, is_blank, is_blank_or_end};
+ghost use Rattle.yaml_scan_text.specs.Marks.{splits_break};
 ghost use Rattle.yaml_scan_text.specs.Breaks.{feed_at, is_document_indicator};
 
 use crate::record::yaml_mark_t;
@@ -50,6 +51,21 @@ impl<'a> Reader<'a> {
             index: 0,
             line: 0,
             column: 0,
+        }
+    }
+
+    /// A reader that goes on at a place where another stood, by its mark.
+    pub fn resume(text: &'a [u8], mark: yaml_mark_t) -> Reader<'a>
+        requires inside { mark.index ≤ length text.now }
+        requires mark { mark ≡ mark_at text.now mark.index }
+        requires whole { splits_break text.now mark.index ≡ false }
+        ensures { result ≡ record { text = text.now; at = mark.index } }
+    {
+        Reader {
+            text,
+            index: mark.index as usize,
+            line: mark.line,
+            column: mark.column,
         }
     }
 
@@ -105,6 +121,19 @@ impl<'a> Reader<'a> {
     /// Where the reader stands.
     pub fn mark(&self) -> yaml_mark_t
         ensures { result ≡ mark_at self.now.text self.now.at }
+    {
+        yaml_mark_t {
+            index: self.index as u64,
+            line: self.line,
+            column: self.column,
+        }
+    }
+
+    /// Where the reader stands, for one that resumes there.
+    pub fn stop(&self) -> yaml_mark_t
+        ensures mark { result ≡ mark_at self.now.text self.now.at }
+        ensures inside { self.now.at ≤ length self.now.text }
+        ensures whole { splits_break self.now.text self.now.at ≡ false }
     {
         yaml_mark_t {
             index: self.index as u64,

@@ -1,0 +1,4 @@
+pub mod StandsLemmas
+pub mod LevelsLemmas
+pub mod WordLemmas
+pub mod SafeLemmas

@@ -1,0 +1,19 @@
+use Rattle.std.proofs.Common.{◌≡◌, ℕ, List, sym, ap, subst, arith, ◌+◌, length}
+use Rattle.yaml_scan_decode.specs.Answer.{text_bytes}
+use Rattle.yaml_scan.specs.State.{IsNarrow}
+use Rattle.yaml_scan.proofs.SafeLemmas.{start_place, narrow_none}
+use Rattle.yaml_scan.proofs.machine.Machine.over.Goals as goal
+
+pub returns-clause-stands : goal.returns-clause-stands
+returns-clause-stands c =
+    let P : List ℕ → Type 0 = λ xs. IsNarrow (length (text_bytes c.args.text) + 1) xs in
+    record {
+      long = (let same : length c.as_slice-length.result.now ≡ length (text_bytes c.args.text) = ap (λ (t : List ℕ). length t) c.as_slice-length.ensures in omega (arith, same));
+      few = rw c.new.ensures.items (omega arith);
+      taken = omega arith;
+      settled = omega arith;
+      depth = omega arith;
+      levels = subst P (sym c.new-2.ensures) (narrow_none (length (text_bytes c.args.text) + 1));
+      inside = λ k w lt. absurd (let bad = rw c.new.ensures.items at lt in omega (arith, bad));
+      place = λ _. start_place (text_bytes c.args.text);
+    }

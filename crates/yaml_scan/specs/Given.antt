@@ -1,0 +1,29 @@
+-- What reading a lexeme answers.
+use Rattle.std.specs.Prelude.{ℕ, ◌≡◌, List, Result, Ok, Err}
+use Rattle.yaml_scan_text.specs.declared.problem.ScanError.{ScanError}
+use Rattle.yaml_scan_text.specs.Marks.{Place, mark_at}
+use Rattle.yaml_scan_text.specs.Tokens.{body_of}
+use Rattle.yaml_scan_text.specs.Wrong.{Wrong, Refuses, IsMemory}
+use Rattle.yaml_scan_text.specs.declared.token.yaml_token_body_t.{yaml_token_body_t}
+use Rattle.yaml_scan_words.specs.declared.word.Directive.{Directive}
+use Rattle.yaml_scan_words.specs.Directives.{Said}
+use Rattle.yaml_scan_words.specs.DirectivesGiven.{Says}
+use Rattle.yaml_scan_layout.specs.Words.{WordText, body_said}
+use Rattle.yaml_scan.specs.declared.word.Word.{Word}
+
+-- a word carries that, and ends there
+pub record IsWord (text : List ℕ) (word : Word) (x : WordText) : Type 0 where
+  pub body : body_of word.body ≡ x.body
+  pub end : word.end ≡ mark_at text x.end
+  pub broke : word.broke ≡ x.broke
+
+-- what reading a lexeme answers, and where it leaves the reader
+abbrev pub ReadsWord : List ℕ → ℕ → Place → Result Word ScanError → Result WordText Wrong → Type 0
+ReadsWord text start place (Ok w) (Ok x) = IsWord text w x × (place ≡ record { text = text; at = x.reached })
+ReadsWord text start place (Ok w) (Err e) = ⊥
+ReadsWord text start place (Err e) (Ok x) = IsMemory e
+ReadsWord text start place (Err e) (Err w) = Refuses text (mark_at text start) e w
+
+-- the body carries what the directive says
+abbrev pub IsSaid : Directive → yaml_token_body_t → Type 0
+IsSaid d body = (said : Said) → Says d said → body_of body ≡ body_said said

@@ -1,0 +1,54 @@
+-- What the fields of a machine say.
+use Rattle.std.specs.Prelude.{ℕ, ◌+◌, ◌^◌, ◌≡◌, ◌<◌, ◌≤◌, Bool, false, ◌||◌, nat_lt, List, [], ◌∷◌, length, slice_index, slice_index_or, IfSome}
+use Rattle.yaml_scan_text.specs.declared.record.yaml_mark_t.{yaml_mark_t}
+use Rattle.yaml_scan_text.specs.Marks.{mark_at, splits_break}
+use Rattle.yaml_scan_decode.specs.Answer.{text_bytes}
+use Rattle.yaml_scan.specs.declared.machine.Machine.{Machine}
+use Rattle.yaml_scan.specs.declared.waiting.Waiting.{Waiting}
+use Rattle.yaml_scan.specs.declared.next.Read.{Read}
+use Rattle.yaml_scan_layout.specs.Kinds.{is_end}
+
+-- a place where a reader may stand
+pub record IsPlace (text : List ℕ) (m : yaml_mark_t) : Type 0 where
+  pub inside : m.index ≤ length text
+  pub mark : m ≡ mark_at text m.index
+  pub whole : splits_break text m.index ≡ false
+
+-- no level is further right than the text is long
+abbrev pub IsNarrow : ℕ → List ℕ → Type 0
+IsNarrow n levels = (k : ℕ) → slice_index levels k ≤ n
+
+-- no lexeme that waits stands further right than the text is long
+abbrev pub AreInside : ℕ → List Waiting → Type 0
+AreInside n ws = (k : ℕ) → (w : Waiting) → k < length ws → (slice_index_or ws k w).entry.lexeme.start.column ≤ n
+
+pub record IsMachine (m : Machine) : Type 0 where
+  pub long : length (text_bytes m.text) < 2 ^ 63
+  pub few : m.dropped + length m.waiting.items ≤ length (text_bytes m.text) + 2
+  pub taken : m.dropped ≤ m.settled
+  pub settled : m.settled ≤ m.dropped + length m.waiting.items
+  pub depth : m.depth ≤ m.dropped + length m.waiting.items
+  pub levels : IsNarrow (length (text_bytes m.text) + 1) m.levels
+  pub inside : AreInside (length (text_bytes m.text)) m.waiting.items
+  pub place : m.ended ≡ false → IsPlace (text_bytes m.text) m.place
+
+abbrev pub ready_in : ℕ → ℕ → ℕ → List Waiting → Bool
+ready_in dropped settled given [] = false
+ready_in dropped settled given (w ∷ ws) = nat_lt dropped settled || nat_lt given w.entry.ends
+
+-- the next token is known, whatever follows
+abbrev pub is_ready : Machine → Bool
+is_ready m = ready_in m.dropped m.settled m.given m.waiting.items
+
+-- what is read behind a machine's place
+pub record IsNext (m : Machine) (r : Read) : Type 0 where
+  pub column : r.lexeme.start.column ≤ length (text_bytes m.text)
+  pub depth : r.lexeme.depth ≡ m.depth
+  pub own : IfSome r.own (λ i. i < length m.waiting.items)
+  pub place : is_end r.lexeme.kind ≡ false → IsPlace (text_bytes m.text) r.lexeme.reached
+
+-- one lexeme more waits
+pub record GoesOn (old new : Machine) : Type 0 where
+  pub text : new.text ≡ old.text
+  pub dropped : new.dropped ≡ old.dropped
+  pub further : length new.waiting.items ≡ length old.waiting.items + 1

@@ -1,0 +1,292 @@
+//! The state between two lexemes.
+
+ghost use Rattle.std.specs.Prelude.{◌≡◌, ◌+◌, ◌-◌, ◌<◌, ◌≤◌, ◌^◌, OnOk, IsTrue, IfSome, true, false, length, ℕ};
+ghost use Rattle.yaml_scan_decode.specs.Answer.{text_bytes};
+
+use crate::levels::Levels;
+use crate::next::{Read, keeps};
+use crate::waiting::Waiting;
+use std::alloc::{AllocError, Global};
+use std::collections::VecDeque;
+use yaml_scan_decode::{stream_encoding, yaml_decode, yaml_text_t};
+use yaml_scan_layout::{Entry, Kind, Lexeme, Opens};
+use yaml_scan_text::{
+    ScanError, yaml_encoding_t, yaml_fault_t, yaml_mark_t, yaml_memory_fault, yaml_origin_t,
+    yaml_token_body_t, yaml_token_t,
+};
+
+#[derive(Drop)]
+pub(crate) struct Machine<'a> {
+    pub alloc: Global,
+    /// The stream's bytes, and how they are to be read.
+    pub input: &'a [u8],
+    pub setting: yaml_encoding_t,
+    /// The input is decoded.
+    pub started: bool,
+    pub text: yaml_text_t<'a>,
+    pub encoding: yaml_encoding_t,
+    /// The lexemes that were read and are not all taken. It grows at its back alone.
+    pub waiting: VecDeque<Waiting>,
+    /// How many lexemes were taken, and how many tokens of the next one.
+    pub dropped: usize,
+    pub given: usize,
+    /// How many lexemes no later one changes.
+    pub settled: usize,
+    /// The place that is reached.
+    pub place: yaml_mark_t,
+    /// How many brackets are open.
+    pub depth: usize,
+    pub levels: Levels,
+    /// A key may begin here.
+    pub allowed: bool,
+    /// The end was read.
+    pub ended: bool,
+}
+
+impl<'a> Machine<'a> {
+    ghost use Rattle.yaml_scan.specs.State.{IsMachine, IsNarrow, AreInside, GoesOn, is_ready};
+
+    pub(crate) fn new(alloc: Global, input: &'a [u8], setting: yaml_encoding_t) -> Machine<'a>
+        ensures stands { IsMachine result }
+        ensures ready { is_ready result ≡ false }
+    {
+        Machine::over(alloc, input, setting, false, yaml_text_t::Borrowed(input))
+    }
+
+    /// The state before the first lexeme of a text.
+    fn over(
+        alloc: Global,
+        input: &'a [u8],
+        setting: yaml_encoding_t,
+        started: bool,
+        text: yaml_text_t<'a>,
+    ) -> Machine<'a>
+        ensures stands { IsMachine result }
+        ensures ready { is_ready result ≡ false }
+    {
+        let _length = text.as_slice().len();
+        Machine {
+            alloc,
+            input,
+            setting,
+            started,
+            text,
+            encoding: stream_encoding(input, setting),
+            waiting: VecDeque::new(alloc),
+            dropped: 0,
+            given: 0,
+            settled: 0,
+            place: yaml_mark_t {
+                index: 0,
+                line: 0,
+                column: 0,
+            },
+            depth: 0,
+            levels: Levels::new(alloc),
+            allowed: false,
+            ended: false,
+        }
+    }
+
+    /// Decodes the input, once, and reads on until the next token is known, or there is none.
+    pub(crate) fn read_on(&mut self) -> Result<(), yaml_fault_t>
+        requires { IsMachine self.old }
+        ensures { OnOk result (IsMachine self.new) }
+    {
+        if !self.started {
+            let text = yaml_decode(self.alloc, self.input, self.setting)?;
+            *self = Machine::over(self.alloc, self.input, self.setting, true, text);
+        }
+        match self.fill() {
+            Ok(()) => Ok(()),
+            Err(ScanError::Memory) => Err(yaml_memory_fault(yaml_origin_t::Scanner)),
+            Err(ScanError::Fault(fault)) => Err(fault.located()),
+        }
+    }
+
+    /// Whether the next token is known, whatever follows.
+    pub(crate) fn has_token(&self) -> bool
+        ensures { result ≡ is_ready self.now }
+    {
+        match self.waiting.front() {
+            None => false,
+            Some(front) => self.dropped < self.settled || self.given < front.entry.ends,
+        }
+    }
+
+    /// Takes the next token.
+    pub(crate) fn take_token(&mut self) -> yaml_token_t
+        requires stands { IsMachine self.old }
+        requires ready { is_ready self.old ≡ true }
+        ensures { IsMachine self.new }
+    {
+        if let Some(body) = self.waiting[0].before(self.given) {
+            let mark = self.waiting[0].entry.lexeme.start;
+            self.given = self.given.saturating_add(1);
+            return yaml_token_t {
+                body,
+                start_mark: mark,
+                end_mark: mark,
+            };
+        }
+        self.dropped += 1;
+        self.given = 0;
+        match self.waiting.pop_front() {
+            Some(front) => front.token(),
+            None => yaml_token_t::empty(),
+        }
+    }
+
+    /// Reads on until the next token is known, or there is none.
+    fn fill(&mut self) -> Result<(), ScanError>
+        requires { IsMachine self.old }
+        ensures { OnOk result (IsMachine self.new) }
+    {
+        'steps: while !self.has_token() && self.has_more() {
+            self.step()?;
+        }
+        Ok(())
+    }
+
+    /// Whether a lexeme may come: the stream's start and end take no byte, every other at least one.
+    fn has_more(&self) -> bool
+        requires { IsMachine self.now }
+        ensures { IsTrue result → (self.now.ended ≡ false) × (self.now.dropped + length self.now.waiting.items < length (text_bytes self.now.text) + 2) }
+    {
+        !self.ended && self.dropped + self.waiting.len() < self.text.as_slice().len() + 2
+    }
+
+    /// Reads one lexeme.
+    fn step(&mut self) -> Result<(), ScanError>
+        requires stands { IsMachine self.old }
+        requires more { self.old.ended ≡ false }
+        requires room { self.old.dropped + length self.old.waiting.items < length (text_bytes self.old.text) + 2 }
+        ensures { OnOk result (IsMachine self.new × GoesOn self.old self.new) }
+    {
+        let Read {
+            lexeme,
+            body,
+            own,
+            found,
+        } = self.next()?;
+        let ends = self.close_levels(lexeme);
+        let opens = self.open_level(lexeme, own, found)?;
+        self.mark_own(own, lexeme, opens);
+        self.waiting.push_back(Waiting {
+            entry: entry(lexeme, ends, opens, found),
+            body,
+            current: lexeme.saved,
+        })?;
+        self.place = lexeme.reached;
+        self.depth = lexeme.kind.depth_after(lexeme.depth);
+        self.allowed = allows(lexeme, found);
+        self.ended = lexeme.kind.is_end();
+        self.settled = self.settle();
+        Ok(())
+    }
+
+    /// Tells the candidate of a lexeme's depth what the lexeme makes of it.
+    fn mark_own(&mut self, own: Option<usize>, lexeme: Lexeme, opens: Opens)
+        requires { IfSome own (λ i. i < length self.old.waiting.items) }
+        ensures same { self.new ≡ record self.old { waiting = self.new.waiting } }
+        ensures length { length self.new.waiting.items ≡ length self.old.waiting.items }
+        ensures inside { (n : ℕ) → AreInside n self.old.waiting.items → AreInside n self.new.waiting.items }
+    {
+        if let Some(i) = own {
+            self.waiting[i].mark(lexeme, opens);
+        }
+    }
+
+    /// How many lexemes no later one changes: those before the earliest open candidate, or all behind the end.
+    fn settle(&self) -> usize
+        requires taken { self.now.dropped ≤ self.now.settled }
+        requires settled { self.now.settled ≤ self.now.dropped + length self.now.waiting.items }
+        requires few { self.now.dropped + length self.now.waiting.items < 2 ^ 64 - 1 }
+        ensures low { self.now.settled ≤ result }
+        ensures high { result ≤ self.now.dropped + length self.now.waiting.items }
+    {
+        if self.ended {
+            return self.dropped + self.waiting.len();
+        }
+        self.earliest_open()
+    }
+
+    /// Closes the levels right of a lexeme outside all brackets, and answers how many they are.
+    fn close_levels(&mut self, lexeme: Lexeme) -> usize
+        requires { lexeme.start.column < 2 ^ 63 }
+        ensures same { self.new ≡ record self.old { levels = self.new.levels } }
+        ensures levels { (n : ℕ) → IsNarrow n self.old.levels → IsNarrow n self.new.levels }
+    {
+        if 0 < lexeme.depth {
+            return 0;
+        }
+        self.levels.close(keeps(lexeme.kind, lexeme.start.column))
+    }
+
+    /// Opens the level of a `-`, `?` or `:`, or that of the key of a `:`, where it passes the indent.
+    fn open_level(
+        &mut self,
+        lexeme: Lexeme,
+        own: Option<usize>,
+        found: bool,
+    ) -> Result<Opens, AllocError>
+        requires column { lexeme.start.column < 2 ^ 63 }
+        requires own { IfSome own (λ i. i < length self.old.waiting.items) }
+        requires inside { AreInside (length (text_bytes self.old.text)) self.old.waiting.items }
+        requires long { length (text_bytes self.old.text) < 2 ^ 63 }
+        requires narrow { lexeme.start.column ≤ length (text_bytes self.old.text) }
+        ensures same { OnOk result (self.new ≡ record self.old { levels = self.new.levels }) }
+        ensures levels { OnOk result (IsNarrow (length (text_bytes self.old.text) + 1) self.old.levels → IsNarrow (length (text_bytes self.old.text) + 1) self.new.levels) }
+    {
+        if 0 < lexeme.depth || !lexeme.kind.is_start() {
+            return Ok(Opens::Nothing);
+        }
+        let column = match own {
+            Some(i) if found => self.waiting[i].entry.lexeme.start.column + 1,
+            _ => lexeme.start.column + 1,
+        };
+        if !self.levels.open(column)? {
+            return Ok(Opens::Nothing);
+        }
+        Ok(match lexeme.kind {
+            Kind::BlockEntry => Opens::Sequence,
+            _ => Opens::Mapping,
+        })
+    }
+
+    /// The number of the earliest open candidate, or how many lexemes were read. What is settled stays so, so the
+    /// look goes on where the last one ended.
+    fn earliest_open(&self) -> usize
+        requires taken { self.now.dropped ≤ self.now.settled }
+        requires settled { self.now.settled ≤ self.now.dropped + length self.now.waiting.items }
+        requires few { self.now.dropped + length self.now.waiting.items < 2 ^ 64 - 1 }
+        ensures low { self.now.settled ≤ result }
+        ensures high { result ≤ self.now.dropped + length self.now.waiting.items }
+    {
+        let mut i = self.settled - self.dropped;
+        'pass: while i < self.waiting.len() {
+            if self.waiting[i].is_open(self.place) {
+                return self.dropped + i;
+            }
+            i += 1;
+        }
+        self.dropped + i
+    }
+}
+
+/// How a lexeme is spelled out, where it is read. What a `:` opens for its key stands before that key.
+fn entry(lexeme: Lexeme, ends: usize, opens: Opens, found: bool) -> Entry
+    ensures { result.lexeme ≡ lexeme }
+{
+    Entry {
+        lexeme,
+        ends,
+        opens: if found { Opens::Nothing } else { opens },
+        key: false,
+    }
+}
+
+/// Whether a key may begin behind a lexeme.
+fn allows(lexeme: Lexeme, found: bool) -> bool {
+    lexeme.kind.allows_key(lexeme.depth == 0, found) || lexeme.broke
+}

@@ -1,0 +1,5 @@
+pub mod Kinds
+pub mod History
+pub mod Words
+pub mod Next
+pub mod Coming

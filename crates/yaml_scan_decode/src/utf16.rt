@@ -1,6 +1,6 @@
 //! UTF-16.
 
-ghost use Rattle.std.specs.Prelude.{◌≡◌, ◌+◌, ◌-◌, ◌<◌, ◌≤◌, ◌^◌, ◌++◌, ℕ, length, true, OnOk, IfErr, string_bytes, encode_utf8};
+ghost use Rattle.std.specs.Prelude.{◌≡◌, ◌+◌, ◌<◌, ◌≤◌, ◌^◌, ◌++◌, length, true, OnOk, string_bytes, encode_utf8};
 ghost use Rattle.std.specs.Char.{IsScalar};
 ghost use Rattle.yaml_scan_decode.specs.declared.utf16.DecodeError.TheVariants.{Memory, Offends};
 ghost use Rattle.yaml_scan_decode.specs.Characters.{utf16_at, unit_at, encoding_by, is_low_surrogate, is_high_surrogate};

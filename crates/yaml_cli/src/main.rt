@@ -1,8 +1,10 @@
 //! The program: it reads its words, runs a command over files and the standard streams, and tells faults by a line.
 #![tactic(auto)]
 
+mod fault;
 mod options;
 mod program;
+mod settings;
 #[cfg(test)]
 mod tests;
 

@@ -1,100 +1,158 @@
 //! The program over any reader and writers.
 
+use crate::fault::{
+    INPUT_LIMIT, Input, from_run_fault, from_yaml_fault, program_fault_t, status_of,
+};
 use crate::options::matches_of;
+use crate::settings::{input_encoding_of, settings_of};
 use clap::{ArgMatches, Error as WordFault};
 use std::alloc::Global;
 use std::convert::AsStr;
 use std::fs;
 use std::io::{Read, Write};
 use std::rt::Files;
-use thiserror::Error;
 use yaml_round::{
-    yaml_command_t, yaml_encoding_t, yaml_fault_line, yaml_fault_t, yaml_run, yaml_run_fault_t,
-    yaml_settings_t, yaml_std_input_t, yaml_std_output_t,
+    yaml_command_t, yaml_encoding_t, yaml_form_t, yaml_read_all, yaml_run,
+    yaml_same, yaml_settings_t, yaml_side_t, yaml_std_input_t, yaml_std_output_t, yaml_write_all,
 };
 
-const INPUT_LIMIT: u64 = 1_073_741_824;
-
-// A line on the standard error; the status is 1.
-#[derive(Debug, Drop, Error)]
-enum program_fault_t {
-    #[error("cannot read the input")]
-    Read,
-    #[error("input is longer than {max} bytes", max = INPUT_LIMIT)]
-    TooLong,
-    #[error("write failed after {written} bytes")]
-    Write { written: u64 },
-    #[error("{line}")]
-    Yaml { line: String },
-    // Only the status is given.
-    #[error("out of memory")]
-    Silent,
+// What a run is told to do.
+#[derive(Clone, Copy)]
+struct Task {
+    command: yaml_command_t,
+    from: yaml_encoding_t,
+    settings: yaml_settings_t,
 }
 
-fn line_text(alloc: Global, fault: &yaml_fault_t) -> Option<String> {
-    let line = yaml_fault_line(alloc, fault).ok()?;
-    String::from_utf8(line).ok()
+fn task_of<'a>(
+    command: yaml_command_t,
+    matches: &ArgMatches<'a>,
+) -> Result<Task, program_fault_t<'a>> {
+    let settings = match command {
+        yaml_command_t::Events => yaml_settings_t::new(),
+        _ => settings_of(matches)?,
+    };
+    let from = input_encoding_of(matches)?;
+    Ok(Task {
+        command,
+        from,
+        settings,
+    })
 }
 
-fn program_fault(alloc: Global, fault: &yaml_run_fault_t) -> program_fault_t {
-    match fault {
-        yaml_run_fault_t::Read => program_fault_t::Read,
-        yaml_run_fault_t::TooLong => program_fault_t::TooLong,
-        yaml_run_fault_t::Write { written } => program_fault_t::Write { written: *written },
-        yaml_run_fault_t::Yaml(fault) => match line_text(alloc, fault) {
-            Some(line) => program_fault_t::Yaml { line },
-            None => program_fault_t::Silent,
-        },
-    }
-}
-
-fn run_over<R: Read, W: Write>(
+fn run_over<'a, R: Read, W: Write>(
     alloc: Global,
+    task: Task,
     reader: &mut R,
     writer: &mut W,
-) -> Result<(), program_fault_t> {
+) -> Result<Option<yaml_form_t>, program_fault_t<'a>> {
     let mut input = yaml_std_input_t::new(reader);
     let mut output = yaml_std_output_t::new(writer);
-    let settings = yaml_settings_t::new();
-    let any = yaml_encoding_t::YAML_ANY_ENCODING;
-    let fmt = yaml_command_t::Fmt;
-    match yaml_run(
-        alloc,
-        &mut input,
-        &mut output,
-        fmt,
-        any,
-        &settings,
-        INPUT_LIMIT,
-    ) {
-        Ok(_) => Ok(()),
-        Err(fault) => Err(program_fault(alloc, &fault)),
+    let Task {
+        command,
+        from,
+        settings,
+    } = task;
+    match yaml_run(alloc, &mut input, &mut output, command, from, &settings, INPUT_LIMIT) {
+        Ok(form) => Ok(form),
+        Err(fault) => Err(from_run_fault(alloc, Input::Only, &fault)),
     }
 }
 
-fn run_fmt<H: Files + AllocGlobal, R: Read, W: Write>(
+// Runs a command on its file, or on standard input.
+fn run_command<'a, H: Files + AllocGlobal, R: Read, W: Write>(
     rt: &H,
-    matches: &ArgMatches,
+    command: yaml_command_t,
+    matches: &ArgMatches<'a>,
     reader: &mut R,
     writer: &mut W,
-) -> Result<(), program_fault_t> {
+) -> Result<Option<yaml_form_t>, program_fault_t<'a>> {
+    let task = task_of(command, matches)?;
     match matches.get_str("file") {
         Some(path) => match fs::open(rt, path) {
-            Ok(mut file) => run_over(rt.alloc(), &mut file, writer),
+            Ok(mut file) => run_over(rt.alloc(), task, &mut file, writer),
             Err(_) => Err(program_fault_t::Read),
         },
-        None => run_over(rt.alloc(), reader, writer),
+        None => run_over(rt.alloc(), task, reader, writer),
     }
 }
 
-fn run_matches<H: Files + AllocGlobal, R: Read, W: Write>(
+// Runs `fmt`, and tells where pretty form was asked for and isn't answered.
+fn run_fmt<'a, H: Files + AllocGlobal, R: Read, W: Write, E: Write>(
     rt: &H,
-    matches: &ArgMatches,
+    matches: &ArgMatches<'a>,
     reader: &mut R,
     writer: &mut W,
-) -> Result<(), program_fault_t> {
+    errors: &mut E,
+) -> Result<(), program_fault_t<'a>> {
+    let form = run_command(rt, yaml_command_t::Fmt, matches, reader, writer)?;
+    if matches.get_flag("pretty") && form == Some(yaml_form_t::Canonical) {
+        let _ = writeln!(errors, "yaml_cli: canonical form was written");
+    }
+    Ok(())
+}
+
+fn bytes_of<'a, H: Files + AllocGlobal>(
+    rt: &H,
+    which: Input,
+    path: &str,
+) -> Result<Vec<u8>, program_fault_t<'a>> {
+    match fs::open(rt, path) {
+        Ok(file) => {
+            let mut input = yaml_std_input_t::new(file);
+            match yaml_read_all(rt.alloc(), &mut input, INPUT_LIMIT) {
+                Ok(bytes) => Ok(bytes),
+                Err(fault) => Err(from_run_fault(rt.alloc(), which, &fault)),
+            }
+        }
+        Err(_) => Err(program_fault_t::Read),
+    }
+}
+
+// Writes whether two files have the same content.
+fn run_same<'a, H: Files + AllocGlobal, W: Write>(
+    rt: &H,
+    matches: &ArgMatches<'a>,
+    writer: &mut W,
+) -> Result<(), program_fault_t<'a>> {
+    let from = input_encoding_of(matches)?;
+    let first = bytes_of(rt, Input::First, matches.get_str("first").unwrap_or(""))?;
+    let second = bytes_of(rt, Input::Second, matches.get_str("second").unwrap_or(""))?;
+    let answer = match yaml_same(rt.alloc(), &first, from, &second, from) {
+        Ok(true) => b"equal\n".as_slice(),
+        Ok(false) => b"different\n".as_slice(),
+        Err((yaml_side_t::First, fault)) => {
+            return Err(from_yaml_fault(rt.alloc(), Input::First, &fault));
+        }
+        Err((yaml_side_t::Second, fault)) => {
+            return Err(from_yaml_fault(rt.alloc(), Input::Second, &fault));
+        }
+    };
+    let mut output = yaml_std_output_t::new(writer);
+    match yaml_write_all(&mut output, answer) {
+        Ok(()) => Ok(()),
+        Err(written) => Err(program_fault_t::Write { written }),
+    }
+}
+
+fn run_matches<'a, H: Files + AllocGlobal, R: Read, W: Write, E: Write>(
+    rt: &H,
+    matches: &ArgMatches<'a>,
+    reader: &mut R,
+    writer: &mut W,
+    errors: &mut E,
+) -> Result<(), program_fault_t<'a>> {
     match matches.subcommand() {
-        Some((_, matches)) => run_fmt(rt, matches, reader, writer),
+        Some(("fmt", matches)) => run_fmt(rt, matches, reader, writer, errors),
+        Some(("docs", matches)) => {
+            run_command(rt, yaml_command_t::Docs, matches, reader, writer)?;
+            Ok(())
+        }
+        Some(("events", matches)) => {
+            run_command(rt, yaml_command_t::Events, matches, reader, writer)?;
+            Ok(())
+        }
+        Some((_, matches)) => run_same(rt, matches, writer),
         None => Err(program_fault_t::Silent),
     }
 }
@@ -124,13 +182,13 @@ pub fn yaml_main<H: Files + AllocGlobal, S: AsStr, R: Read, W: Write, E: Write>(
         Ok(matches) => matches,
         Err(error) => return tell(&error, output, errors),
     };
-    match run_matches(rt, &matches, input, output) {
+    match run_matches(rt, &matches, input, output, errors) {
         Ok(()) => 0,
         Err(fault) => {
             if !matches!(&fault, program_fault_t::Silent) {
                 let _ = writeln!(errors, "yaml_cli: {fault}");
             }
-            1
+            status_of(&fault)
         }
     }
 }

@@ -3,45 +3,46 @@
 ghost use Rattle.yaml_scan.specs.Faults.{Answers};
 ghost use Rattle.yaml_round.specs.Answers.{IsReformatted, text_and_form};
 
-use crate::first_path::{Stop, rewrite};
-use crate::page::Page;
+use crate::compare::reads_back;
+use crate::even::evened;
+use crate::reading::reading_of;
 use crate::settings::{yaml_form_t, yaml_settings_t};
+use crate::writing::Writing;
 use std::alloc::Global;
+use yaml_parse::{yaml_parser_between, yaml_parser_load, yaml_parser_parse};
+use yaml_parse_document::{yaml_document_get_root_node, yaml_document_set_end_implicit};
+use yaml_round_lines::yaml_push_event_line;
 use yaml_scan::{
-    yaml_encoding_t, yaml_error_type_t, yaml_fault_t, yaml_mark_t, yaml_memory_fault, yaml_origin_t,
+    yaml_encoding_t, yaml_event_type_t, yaml_fault_t, yaml_memory_fault, yaml_origin_t,
 };
 
-// A fault that has no place.
-fn refusal(kind: yaml_error_type_t, problem: &'static str, origin: yaml_origin_t) -> yaml_fault_t {
-    let zero = yaml_mark_t {
-        index: 0,
-        line: 0,
-        column: 0,
-    };
-    yaml_fault_t {
-        kind,
-        problem,
-        offset: 0,
-        value: 0,
-        problem_mark: zero,
-        context: None,
-        context_mark: zero,
-        origin,
+// The text of the input's events in canonical or pretty form. The input is read to its end, also where the text passes its
+// limit before, so that a fault of the input comes first.
+fn written(
+    alloc: Global,
+    input: &[u8],
+    from: yaml_encoding_t,
+    settings: &yaml_settings_t,
+    canonical: bool,
+) -> Result<Vec<u8>, yaml_fault_t> {
+    let mut reading = reading_of(alloc, input, from)?;
+    let mut writing = Writing::new(alloc, settings, canonical)?;
+    for _ in 0..u64::MAX {
+        let event = yaml_parser_parse(&mut reading)?;
+        if event.type_() == yaml_event_type_t::YAML_NO_EVENT {
+            break;
+        }
+        writing.put(evened(event, canonical))?;
     }
+    writing.into_text()
 }
 
-fn not_read_yet() -> yaml_fault_t {
-    refusal(
-        yaml_error_type_t::YAML_SCANNER_ERROR,
-        "not read yet",
-        yaml_origin_t::Scanner,
-    )
-}
-
-/// The text rewritten in canonical form. So far only nested flow sequences of double quoted scalars are read, whose
-/// characters stand for themselves; all else is refused with `not read yet` (kind 3). An answer of more than
-/// `settings.limit` bytes is refused with `write error` (kind 6), a refused growth with kind 1. A fault of the input
-/// comes before the limit.
+/// The text rewritten, and its form. With `settings.canonical` on the answer is in canonical form. With it off the events
+/// are laid out in pretty form, with their styles; where that text, read back, hasn't the input's content, the answer is in
+/// canonical form all the same.
+///
+/// Refusals: a fault of the input (kinds 2, 3 and 4), which comes before a limit; `write error` (kind 6) where the text
+/// has more than `settings.limit` bytes; `indentation is too deep` (kind 7); want of memory (kind 1).
 #[tactic(auto, unfolding(crate::specs::Answers::IsReformatted))]
 pub fn yaml_reformat(
     alloc: Global,
@@ -51,25 +52,58 @@ pub fn yaml_reformat(
 ) -> Result<(Vec<u8>, yaml_form_t), yaml_fault_t>
     ensures { Answers text_and_form (IsReformatted from settings.now input.now) result }
 {
-    match from {
-        yaml_encoding_t::YAML_ANY_ENCODING | yaml_encoding_t::YAML_UTF8_ENCODING => {}
-        _ => return Err(not_read_yet()),
+    if !settings.canonical {
+        let text = written(alloc, input, from, settings, false)?;
+        if reads_back(alloc, input, from, &text)? {
+            return Ok((text, yaml_form_t::Pretty));
+        }
     }
-    let mut page = match Page::new(alloc, settings) {
-        Ok(page) => page,
-        Err(_) => return Err(yaml_memory_fault(yaml_origin_t::Emitter)),
-    };
-    match rewrite(&mut page, input) {
-        Ok(()) => {}
-        Err(Stop::NotRead) => return Err(not_read_yet()),
-        Err(Stop::Memory) => return Err(yaml_memory_fault(yaml_origin_t::Emitter)),
+    let text = written(alloc, input, from, settings, true)?;
+    Ok((text, yaml_form_t::Canonical))
+}
+
+/// The input's documents, loaded and written in canonical form: nodes with two visits or more have anchors by number, tags
+/// are written, and no document's end is explicit. `settings.canonical` isn't looked at. Also refused, with kind 5, where
+/// an alias names no node.
+pub fn yaml_reload(
+    alloc: Global,
+    input: &[u8],
+    from: yaml_encoding_t,
+    settings: &yaml_settings_t,
+) -> Result<Vec<u8>, yaml_fault_t> {
+    let mut reading = reading_of(alloc, input, from)?;
+    let mut writing = Writing::new(alloc, settings, true)?;
+    for _ in 0..u64::MAX {
+        if !yaml_parser_between(&reading) {
+            break;
+        }
+        let mut document = yaml_parser_load(&mut reading)?;
+        let is_end = yaml_document_get_root_node(&document).is_none();
+        yaml_document_set_end_implicit(&mut document, true);
+        writing.put_document(document)?;
+        if is_end {
+            break;
+        }
     }
-    match page.into_output(settings.limit) {
-        Some(output) => Ok((output, yaml_form_t::Canonical)),
-        None => Err(refusal(
-            yaml_error_type_t::YAML_WRITER_ERROR,
-            "write error",
-            yaml_origin_t::Writer,
-        )),
+    writing.into_text()
+}
+
+/// A line for each event of the input, as the parser gives it.
+pub fn yaml_events(
+    alloc: Global,
+    input: &[u8],
+    from: yaml_encoding_t,
+) -> Result<Vec<u8>, yaml_fault_t> {
+    let mut reading = reading_of(alloc, input, from)?;
+    let mut lines = Vec::new(alloc);
+    for _ in 0..u64::MAX {
+        let event = yaml_parser_parse(&mut reading)?;
+        if event.type_() == yaml_event_type_t::YAML_NO_EVENT {
+            break;
+        }
+        if yaml_push_event_line(&mut lines, &event).is_err() {
+            return Err(yaml_memory_fault(yaml_origin_t::Emitter));
+        }
     }
+    Ok(lines)
 }

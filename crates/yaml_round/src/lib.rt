@@ -1,13 +1,17 @@
 //! The engine: it reads a YAML text whole and writes it again in canonical form, over slices or over devices.
 #![tactic(auto)]
 
+mod compare;
+mod content;
 mod engine;
-mod first_path;
-mod page;
+mod even;
+mod reading;
 mod run;
 mod settings;
+mod writing;
 
-pub use engine::yaml_reformat;
+pub use compare::yaml_same;
+pub use engine::{yaml_events, yaml_reformat, yaml_reload};
 pub use run::{yaml_run, yaml_text_of};
 pub use settings::{
     yaml_command_t, yaml_form_t, yaml_output_encoding_t, yaml_settings_t, yaml_side_t,

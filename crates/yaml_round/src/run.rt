@@ -5,14 +5,14 @@ ghost use Rattle.yaml_round_device.specs.Run.{Runs, FailsBy, IsBeforeWriting};
 ghost use Rattle.yaml_scan.specs.Faults.{Answers};
 ghost use Rattle.yaml_round.specs.Answers.{IsRunAnswer, text_and_maybe_form};
 
-use crate::engine::yaml_reformat;
+use crate::engine::{yaml_events, yaml_reformat, yaml_reload};
 use crate::settings::{yaml_command_t, yaml_form_t, yaml_settings_t};
 use std::alloc::Global;
 use yaml_round_device::{
     yaml_input_t, yaml_output_t, yaml_read_all, yaml_run_fault_t, yaml_std_input_t,
     yaml_std_output_t, yaml_write_all,
 };
-use yaml_scan::{yaml_encoding_t, yaml_error_type_t, yaml_fault_t, yaml_mark_t, yaml_origin_t};
+use yaml_scan::{yaml_encoding_t, yaml_fault_t};
 
 // The text that the command gives for the input, and its form where it has one.
 fn answer_of(
@@ -29,25 +29,14 @@ fn answer_of(
             let (text, form) = yaml_reformat(alloc, input, from, settings)?;
             Ok((text, Some(form)))
         }
-        yaml_command_t::Docs | yaml_command_t::Events => Err(not_written_yet()),
-    }
-}
-
-fn not_written_yet() -> yaml_fault_t {
-    let zero = yaml_mark_t {
-        index: 0,
-        line: 0,
-        column: 0,
-    };
-    yaml_fault_t {
-        kind: yaml_error_type_t::YAML_EMITTER_ERROR,
-        problem: "not written yet",
-        offset: 0,
-        value: 0,
-        problem_mark: zero,
-        context: None,
-        context_mark: zero,
-        origin: yaml_origin_t::Emitter,
+        yaml_command_t::Docs => {
+            let text = yaml_reload(alloc, input, from, settings)?;
+            Ok((text, Some(yaml_form_t::Canonical)))
+        }
+        yaml_command_t::Events => {
+            let text = yaml_events(alloc, input, from)?;
+            Ok((text, None))
+        }
     }
 }
 

@@ -2,6 +2,8 @@
 #![tactic(auto)]
 
 #[cfg(test)]
+mod comparisons;
+#[cfg(test)]
 mod devices;
 #[cfg(test)]
-mod texts;
+mod rows;

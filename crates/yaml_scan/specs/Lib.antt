@@ -8,3 +8,9 @@ pub mod Given
 pub mod State
 pub mod Session
 pub mod SessionView
+pub use Rattle.yaml_scan_decode.specs.Encodings
+pub use Rattle.yaml_scan_decode.specs.Offences
+pub use Rattle.yaml_scan_decode.specs.Characters
+pub use Rattle.yaml_scan_decode.specs.Decoding
+pub use Rattle.yaml_scan_decode.specs.Spelling
+pub use Rattle.yaml_scan_decode.specs.DecodedText

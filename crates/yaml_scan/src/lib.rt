@@ -5,6 +5,8 @@ mod levels;
 mod machine;
 mod next;
 mod session;
+#[cfg(test)]
+mod tests;
 mod waiting;
 mod word;
 

@@ -3,3 +3,4 @@ pub mod History
 pub mod Words
 pub mod Next
 pub mod Coming
+pub mod Laws

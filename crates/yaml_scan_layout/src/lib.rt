@@ -3,7 +3,9 @@
 #![tactic(auto)]
 
 mod kind;
+mod laws;
 mod lexeme;
 
 pub use kind::Kind;
+pub use laws::settled_stays;
 pub use lexeme::{Entry, Lexeme, Opens, is_fresh, moved_end};

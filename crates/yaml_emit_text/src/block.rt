@@ -1,4 +1,4 @@
-//! Literal and folded scalars (YAML 1.1, 9.2).
+//! Literal and folded scalars (YAML 1.1, 9.2 and 9.3).
 
 ghost use Rattle.std.specs.Prelude.{◌≡◌, ◌+◌, true, false, not, ◌&&◌, ◌||◌, ◌==◌, if◌then◌else◌};
 ghost use Rattle.std.specs.Str.{chars};

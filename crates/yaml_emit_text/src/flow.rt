@@ -1,4 +1,4 @@
-//! Plain and single quoted scalars (YAML 1.1, 9.1.1 and 9.1.3).
+//! Plain and single quoted scalars (YAML 1.1, 9.1.3 and 9.1.2).
 
 ghost use Rattle.std.specs.Prelude.{◌≡◌, not, ◌&&◌, ◌||◌, ◌==◌, if◌then◌else◌};
 ghost use Rattle.std.specs.Str.{chars};

@@ -1,4 +1,4 @@
-//! Double quoted scalars (YAML 1.1, 9.1.2).
+//! Double quoted scalars (YAML 1.1, 9.1.1), with escapes (5.6).
 
 ghost use Rattle.std.specs.Prelude.{◌≡◌, ◌<◌, ◌≤◌, ◌∷◌, [], false, true, if◌then◌else◌};
 ghost use Rattle.std.specs.Str.{chars};

@@ -1,4 +1,4 @@
-//! Tags, anchors and aliases (YAML 1.1, 6.8 and 7.1).
+//! Tags (YAML 1.1, 7.1.2 and 3.2.1.2), anchors and aliases (3.2.2.2).
 
 ghost use Rattle.std.specs.Prelude.{◌≡◌, ◌<◌, ◌≤◌, ℕ, ◌+◌, ◌∷◌, [], ◌++◌, map, length, drop, true, false, not, ◌&&◌, ◌||◌, ◌==◌, if◌then◌else◌, Option, Some, None, codes};
 ghost use Rattle.yaml_parse_model.specs.Events.{directive_of};

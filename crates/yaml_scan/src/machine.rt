@@ -1,7 +1,7 @@
 //! The state between two lexemes.
 
 ghost use Rattle.std.specs.Prelude.{◌≡◌, ◌+◌, ◌-◌, ◌<◌, ◌≤◌, ◌^◌, OnOk, IsTrue, IfSome, true, false, length, ℕ};
-ghost use Rattle.yaml_scan_decode.specs.Answer.{text_bytes};
+ghost use Rattle.yaml_scan_decode.specs.DecodedText.{text_bytes};
 
 use crate::levels::Levels;
 use crate::next::{Read, keeps};

@@ -1,7 +1,7 @@
 //! The lexeme that comes next, and why there may be none.
 
 ghost use Rattle.std.specs.Prelude.{◌≡◌, ◌+◌, ◌≤◌, ◌<◌, ◌^◌, IfOk, IfSome, None, false, length};
-ghost use Rattle.yaml_scan_decode.specs.Answer.{text_bytes};
+ghost use Rattle.yaml_scan_decode.specs.DecodedText.{text_bytes};
 ghost use Rattle.yaml_scan_text.specs.Marks.{mark_at};
 ghost use Rattle.yaml_scan.specs.State.{IsPlace};
 ghost use Rattle.yaml_scan_layout.specs.Kinds.{is_end};

@@ -1,5 +1,5 @@
 use Rattle.std.proofs.Common.{◌-◌, ◌+◌, length}
-use Rattle.yaml_scan_decode.specs.Answer.{text_bytes}
+use Rattle.yaml_scan_decode.specs.DecodedText.{text_bytes}
 use Rattle.yaml_scan.specs.State.{IsMachine}
 use Rattle.yaml_scan.proofs.machine.Machine.fill.Given as goal
 

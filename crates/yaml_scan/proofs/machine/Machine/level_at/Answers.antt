@@ -1,5 +1,5 @@
 use Rattle.std.proofs.Common.{ℕ, ◌+◌, length}
-use Rattle.yaml_scan_decode.specs.Answer.{text_bytes}
+use Rattle.yaml_scan_decode.specs.DecodedText.{text_bytes}
 use Rattle.yaml_scan.specs.Rising.{left_of}
 use Rattle.yaml_scan.proofs.SafeLemmas.{narrow_left, narrow_indent}
 use Rattle.yaml_scan.proofs.machine.Machine.level_at.Goals as goal

@@ -1,7 +1,7 @@
 use Rattle.std.proofs.Common.{◌<◌, ◌≤◌, ℕ, sym, subst, ◌∙◌, arith, length}
 use Rattle.std.specs.Prelude.{Option, IfSome}
 use Rattle.yaml_scan_text.specs.declared.record.yaml_mark_t.{yaml_mark_t}
-use Rattle.yaml_scan_decode.specs.Answer.{text_bytes}
+use Rattle.yaml_scan_decode.specs.DecodedText.{text_bytes}
 use Rattle.yaml_scan.specs.State.{IsPlace}
 use Rattle.yaml_scan.proofs.SafeLemmas.{mark_column}
 use Rattle.yaml_scan.proofs.machine.Machine.next.Goals as goal

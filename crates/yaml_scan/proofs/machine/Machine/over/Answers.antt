@@ -1,5 +1,5 @@
 use Rattle.std.proofs.Common.{◌≡◌, ℕ, List, sym, ap, subst, arith, ◌+◌, length}
-use Rattle.yaml_scan_decode.specs.Answer.{text_bytes}
+use Rattle.yaml_scan_decode.specs.DecodedText.{text_bytes}
 use Rattle.yaml_scan.specs.State.{IsNarrow}
 use Rattle.yaml_scan.proofs.SafeLemmas.{start_place, narrow_none}
 use Rattle.yaml_scan.proofs.machine.Machine.over.Goals as goal

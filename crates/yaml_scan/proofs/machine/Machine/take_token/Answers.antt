@@ -1,5 +1,5 @@
 use Rattle.std.proofs.Common.{◌≡◌, ◌<◌, List, ◌∷◌, sym, ap, subst, ◌∙◌, arith, ◌+◌, length, get_or, true}
-use Rattle.yaml_scan_decode.specs.Answer.{text_bytes}
+use Rattle.yaml_scan_decode.specs.DecodedText.{text_bytes}
 use Rattle.yaml_scan.specs.declared.waiting.Waiting.{Waiting}
 use Rattle.yaml_scan.specs.State.{ready_in, AreInside}
 use Rattle.yaml_scan.proofs.SafeLemmas.{inside_rest, none_left, known_settled}

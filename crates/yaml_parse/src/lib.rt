@@ -3,6 +3,8 @@
 
 mod parser;
 mod step;
+#[cfg(test)]
+mod tests;
 
 pub use parser::{
     yaml_parser_between, yaml_parser_delete, yaml_parser_initialize, yaml_parser_parse,

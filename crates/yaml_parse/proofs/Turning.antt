@@ -137,6 +137,14 @@ starts ts f s ds t rest e d h =
     let r : reading_of (run ts s f) ds ≡ reading (items t rest) None no_directives = ap (reading_of (run ts s f)) d ∙ ap (λ (o : Outcome). reading_of o no_directives) o
     in (ap (λ (x : Reading). x.events) r, ap (λ (x : Reading). x.ending) r)
 
+pub starts_anywhere : (ts : List Token) (f : Option Fault) (s : List State) (ds : Directives) → s ≡ initial → ds ≡ no_directives
+    → ((reading_of (run ts s f) ds).events ≡ (reading_of (run ts initial f) no_directives).events)
+        × ((reading_of (run ts s f) ds).ending ≡ (reading_of (run ts initial f) no_directives).ending)
+starts_anywhere ts f s ds e d =
+    let r : reading_of (run ts s f) ds ≡ reading_of (run ts initial f) no_directives =
+        ap (λ (z : List State). reading_of (run ts z f) ds) e ∙ ap (reading_of (run ts initial f)) d
+    in (ap (λ (x : Reading). x.events) r, ap (λ (x : Reading). x.ending) r)
+
 -- ---- the turns of a call
 
 pub kept_first : (c : Coming) → Kept c c

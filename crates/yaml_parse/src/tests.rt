@@ -31,7 +31,10 @@ fn a_stream_has_a_start(rt: HostRuntime) -> Result<(), Fail> {
     let made = yaml_parser_initialize(rt.alloc(), Nothing { asked: false });
     let mut parser = made.ok().ok_or("memory")?;
     assert!(rt; yaml_parser_between(&parser));
-    assert_eq!(rt; yaml_parser_prefix(&parser).kind, yaml_error_type_t::YAML_NO_ERROR);
+    assert_eq!(rt;
+        yaml_parser_prefix(&parser).kind,
+        yaml_error_type_t::YAML_NO_ERROR
+    );
     match yaml_parser_parse(&mut parser) {
         Ok(_) => assert!(rt; false, "an event"),
         Err(fault) => {
@@ -40,7 +43,10 @@ fn a_stream_has_a_start(rt: HostRuntime) -> Result<(), Fail> {
             assert_eq!(rt; fault.context, None);
         }
     }
-    assert_eq!(rt; yaml_parser_prefix(&parser).kind, yaml_error_type_t::YAML_PARSER_ERROR);
+    assert_eq!(rt;
+        yaml_parser_prefix(&parser).kind,
+        yaml_error_type_t::YAML_PARSER_ERROR
+    );
     match yaml_parser_parse(&mut parser) {
         Ok(event) => assert_eq!(rt; event.type_(), yaml_event_type_t::YAML_NO_EVENT),
         Err(_) => assert!(rt; false, "a second fault"),

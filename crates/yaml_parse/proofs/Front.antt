@@ -1,5 +1,5 @@
 -- From what a source says to what every stack does.
-use Rattle.std.proofs.Common.{◌+◌, length, arith, ◌≡◌, ◌⊎◌, inl, inr, List, [], ◌∷◌, Option, Some, None, refl, sym}
+use Rattle.std.proofs.Common.{◌+◌, length, arith, ◌≡◌, ◌⊎◌, inl, inr, List, [], ◌∷◌, Option, Some, None, refl}
 use Rattle.yaml_scan.specs.Tokens.{Token, no_token}
 use Rattle.yaml_scan.specs.Faults.{Fault}
 use Rattle.yaml_parse_model.specs.Source.{front_of, rest_of, GivesToken, GivesFault}

@@ -1,5 +1,5 @@
 -- What each step over the grammar owes.
-use Rattle.std.proofs.Common.{◌≡◌, ◌⊎◌, ◌+◌, ◌<◌, ℕ, inl, inr, List, [], ◌∷◌, ◌++◌, length, reverse, map, Option, Some, None, refl, sym, ap, subst, ◌∙◌, arith, true}
+use Rattle.std.proofs.Common.{◌≡◌, ◌⊎◌, ◌<◌, ℕ, inl, inr, List, [], ◌∷◌, ◌++◌, length, reverse, map, Option, Some, None, sym, ap, subst, ◌∙◌, arith, true}
 use Rattle.std.proofs.lemmas.List.{reverse-append, append_assoc}
 use Rattle.yaml_scan.specs.declared.yaml_mark_t.{yaml_mark_t}
 use Rattle.yaml_scan.specs.Tokens.{Token, no_token, type_of}
@@ -10,20 +10,19 @@ use Rattle.yaml_parse_grammar.specs.Problems.{parser_fault}
 use Rattle.yaml_parse_grammar.specs.Items.{Item, ItemBody, item_at}
 use Rattle.yaml_parse_grammar.specs.Items as item
 use Rattle.yaml_parse_grammar.specs.States.{State, Taken}
-use Rattle.yaml_parse_grammar.specs.States as state
 use Rattle.yaml_parse_grammar.specs.Trees.{Given}
-use Rattle.yaml_parse_grammar.specs.Machine.{choice_at, taken_at, left_at, context_of, opened, Outcome, run, ending_at, Stands}
+use Rattle.yaml_parse_grammar.specs.Machine.{choice_at, taken_at, left_at, context_of, opened, run, ending_at, Stands}
 use Rattle.yaml_parse_grammar.proofs.Complete.{giving, leaves_at}
 use Rattle.yaml_parse_grammar.proofs.Voice.{Voiced, TakenSpeaks, taken_speaks, left_voiced, takes_a_token}
 use Rattle.yaml_parse_grammar.proofs.Single.{refuses, takes, takes_silently, opens}
 use Rattle.yaml_parse_machine.specs.declared.item.State as code
 use Rattle.yaml_parse_machine.specs.declared.item.Item as codeitem
 use Rattle.yaml_parse_machine.specs.declared.item.Pushed.{Pushed}
-use Rattle.yaml_parse_machine.specs.Views.{state_of, stack_of, pushed_of, over, taken_of, item_of, item_option_of}
+use Rattle.yaml_parse_machine.specs.Views.{state_of, stack_of, pushed_of, over, item_of}
 use Rattle.yaml_parse_machine.proofs.Openings.{over_is}
 use Rattle.yaml_parse.specs.declared.step.Step.{Step}
 use Rattle.yaml_parse.specs.declared.step.Step.TheVariants as step
-use Rattle.yaml_parse.specs.Steps.{Raw, raw, outcome, budget, IsFront, HasNoFront, IsDirective, GivesItem, GivesNoItem, IsRefused, IsDone, Steps, OpensAt, IsReal}
+use Rattle.yaml_parse.specs.Steps.{Raw, raw, outcome, budget, IsFront, HasNoFront, IsDirective, GivesItem, GivesNoItem, IsRefused, Steps, OpensAt, IsReal}
 
 -- a directive leaves something open
 directive_stands : (b : ItemBody) (P : Type 0) → Voiced b P → IsDirective b → P

@@ -1,5 +1,5 @@
 -- What a step with its item resolved owes.
-use Rattle.std.proofs.Common.{◌≡◌, ◌⊎◌, ◌+◌, ◌<◌, ℕ, inl, inr, List, [], ◌∷◌, length, Option, Some, None, refl, sym, ap, subst, ◌∙◌, arith, true}
+use Rattle.std.proofs.Common.{◌≡◌, ◌+◌, ◌<◌, ℕ, inl, inr, List, [], ◌∷◌, length, Option, Some, None, refl, sym, ap, subst, ◌∙◌}
 use Rattle.yaml_scan.specs.declared.yaml_error_type_t.TheVariants.{YAML_MEMORY_ERROR}
 use Rattle.yaml_scan.specs.declared.yaml_mark_t.{yaml_mark_t}
 use Rattle.yaml_scan.specs.Tokens.{Token}
@@ -8,11 +8,10 @@ use Rattle.yaml_parse_model.specs.Events.{Event, EventBody, no_event}
 use Rattle.yaml_parse_grammar.specs.Items.{Item, ItemBody}
 use Rattle.yaml_parse_grammar.specs.Items as item
 use Rattle.yaml_parse_grammar.specs.States.{State}
-use Rattle.yaml_parse_grammar.specs.States as state
 use Rattle.yaml_parse_grammar.specs.Trees.{Given, Stream, spell, items}
-use Rattle.yaml_parse_grammar.specs.Machine.{Outcome, run, finished, initial, Stands}
+use Rattle.yaml_parse_grammar.specs.Machine.{Outcome, run, initial, Stands}
 use Rattle.yaml_parse_grammar.specs.Resolve.{Directives, no_directives, Settled, refused, gave, noted, settle, settle_body, resolved, placed, read_on, reading, Reading, Told}
-use Rattle.yaml_parse_grammar.specs.Coming.{Coming, coming, reading_of, waiting, held_of, IsFinished, Gives, GivesNothing, GivesEvent, EventOf, FaultOf}
+use Rattle.yaml_parse_grammar.specs.Coming.{Coming, coming, reading_of, waiting, IsFinished, GivesNothing, GivesEvent, EventOf, FaultOf}
 use Rattle.yaml_parse_grammar.proofs.Complete.{nothing_runs, stream_runs}
 use Rattle.yaml_parse_grammar.proofs.Voice.{speaks, reading_speaks, not_noted}
 use Rattle.yaml_parse.specs.Steps.{Raw, outcome, IsDirective, GivesItem, GivesNoItem, IsRefused, IsDone, IsSilent, IsTurnRefused, IsOver, Kept}
@@ -135,6 +134,14 @@ pub starts : (ts : List Token) (f : Option Fault) (s : List State) (ds : Directi
 starts ts f s ds t rest e d h =
     let o : run ts s f ≡ record { items = items t rest; ending = None } = ap (λ (z : List State). run ts z f) e ∙ ap (λ (us : List Token). run us initial f) h ∙ stream_runs t rest f in
     let r : reading_of (run ts s f) ds ≡ reading (items t rest) None no_directives = ap (reading_of (run ts s f)) d ∙ ap (λ (o : Outcome). reading_of o no_directives) o
+    in (ap (λ (x : Reading). x.events) r, ap (λ (x : Reading). x.ending) r)
+
+pub starts_anywhere : (ts : List Token) (f : Option Fault) (s : List State) (ds : Directives) → s ≡ initial → ds ≡ no_directives
+    → ((reading_of (run ts s f) ds).events ≡ (reading_of (run ts initial f) no_directives).events)
+    × ((reading_of (run ts s f) ds).ending ≡ (reading_of (run ts initial f) no_directives).ending)
+starts_anywhere ts f s ds e d =
+    let r : reading_of (run ts s f) ds ≡ reading_of (run ts initial f) no_directives =
+    ap (λ (z : List State). reading_of (run ts z f) ds) e ∙ ap (reading_of (run ts initial f)) d
     in (ap (λ (x : Reading). x.events) r, ap (λ (x : Reading). x.ending) r)
 
 -- ---- the turns of a call

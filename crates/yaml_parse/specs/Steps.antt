@@ -5,7 +5,7 @@ use Rattle.yaml_scan.specs.declared.yaml_mark_t.{yaml_mark_t}
 use Rattle.yaml_scan.specs.declared.yaml_token_t.{yaml_token_t}
 use Rattle.yaml_scan.specs.Tokens.{Token, no_token, token_of, type_of}
 use Rattle.yaml_scan.specs.Faults.{Fault, fault_of}
-use Rattle.yaml_parse_model.specs.Events.{event_of, no_event}
+use Rattle.yaml_parse_model.specs.Events.{event_of}
 use Rattle.yaml_parse_grammar.specs.declared.name.Choice.TheVariants.{Take}
 use Rattle.yaml_parse_grammar.specs.States.{State}
 use Rattle.yaml_parse_grammar.specs.Items.{item_at}

@@ -4,9 +4,23 @@
 mod load;
 mod parser;
 mod step;
+#[cfg(test)]
+mod tests;
 
 pub use load::yaml_parser_load;
 pub use parser::{
     yaml_parser_between, yaml_parser_delete, yaml_parser_initialize, yaml_parser_parse,
     yaml_parser_prefix, yaml_parser_t,
+};
+pub use yaml_parse_model::{
+    yaml_alias_data_t, yaml_event_body_t, yaml_event_delete, yaml_event_t, yaml_node_body_t,
+    yaml_node_item_t, yaml_node_pair_t, yaml_node_t, yaml_parser_state_t, yaml_parser_t_prefix,
+    yaml_text_fault_t, yaml_token_source_t,
+};
+pub use yaml_scan::{
+    yaml_break_t, yaml_encoding_t, yaml_error_type_t, yaml_event_type_t, yaml_fault_t,
+    yaml_mapping_style_t, yaml_mark_t, yaml_memory_fault, yaml_node_type_t, yaml_origin_t,
+    yaml_scalar_style_t, yaml_sequence_style_t, yaml_simple_key_t, yaml_tag_directive_t,
+    yaml_token_body_t, yaml_token_delete, yaml_token_t, yaml_token_type_t,
+    yaml_version_directive_t,
 };

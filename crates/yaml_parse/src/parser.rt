@@ -8,7 +8,8 @@ ghost use Rattle.yaml_parse_model.specs.Events.{event_of};
 ghost use Rattle.yaml_parse_model.specs.Prefix.{prefix_of, no_fault};
 ghost use Rattle.yaml_parse_grammar.specs.Trees.{Stream, spell, items};
 ghost use Rattle.yaml_parse_grammar.specs.Resolve.{reading, no_directives};
-ghost use Rattle.yaml_parse_grammar.specs.Coming.{EventOf, FaultOf, IsFinished};
+ghost use Rattle.yaml_parse_grammar.specs.Machine.{run, initial};
+ghost use Rattle.yaml_parse_grammar.specs.Coming.{reading_of, EventOf, FaultOf};
 ghost use Rattle.yaml_parse.specs.Steps.{Turns};
 
 use crate::step::{Turn, take_turn};
@@ -85,6 +86,9 @@ pub fn yaml_parser_initialize<S: yaml_token_source_t>(
     // document's directives, or those before the first fault of a directive or a tag handle, and that fault.
     ensures tree { (t : Stream) (rest : List Token) → S.to_come source ≡ spell t rest
         → IfOk result (λ p. (p.events ≡ (reading (items t rest) None no_directives).events) × (p.ending ≡ (reading (items t rest) None no_directives).ending)) }
+    // Of every list, sentence or not, what the machine gives is to come.
+    ensures machine { IfOk result (λ p. (p.events ≡ (reading_of (run (S.to_come source) initial (S.fault_to_come source)) no_directives).events)
+        × (p.ending ≡ (reading_of (run (S.to_come source) initial (S.fault_to_come source)) no_directives).ending)) }
     // No token was asked for yet.
     ensures unasked { IfOk result (λ p. (p.unasked ≡ length (S.to_come source)) × (p.held ≡ 0)) }
     ensures quiet { IfOk result (λ p. (p.answered ≡ no_fault) × (p.between ≡ true)) }

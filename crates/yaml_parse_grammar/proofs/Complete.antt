@@ -1,10 +1,10 @@
 -- The machine gives the items of a tree, and goes on behind it.
-use Rattle.std.proofs.Common.{◌≡◌, ℕ, Bool, true, false, if◌then◌else◌, ◌||◌, List, [], ◌∷◌, ◌++◌, length, Option, Some, None, refl, ap, sym, subst, ◌∙◌}
+use Rattle.std.proofs.Common.{◌≡◌, ℕ, Bool, true, false, if◌then◌else◌, ◌||◌, List, [], ◌∷◌, ◌++◌, length, Option, Some, None, refl, ap, subst, ◌∙◌}
 use Rattle.std.proofs.lemmas.List.{append_assoc}
 use Rattle.yaml_scan.specs.declared.yaml_mark_t.{yaml_mark_t}
 use Rattle.yaml_scan.specs.declared.yaml_token_type_t.{yaml_token_type_t}
 use Rattle.yaml_scan.specs.declared.yaml_token_type_t.TheVariants as kind
-use Rattle.yaml_scan.specs.Tokens.{Token, TokenBody, type_of, token_of}
+use Rattle.yaml_scan.specs.Tokens.{Token, TokenBody, type_of}
 use Rattle.yaml_scan.specs.Tokens as token
 use Rattle.yaml_scan.specs.Faults.{Fault}
 use Rattle.yaml_parse_model.specs.Events as event
@@ -27,7 +27,7 @@ use Rattle.yaml_parse_grammar.specs.States.{State, Taken}
 use Rattle.yaml_parse_grammar.specs.States as state
 use Rattle.yaml_parse_grammar.specs.Trees.{Span, Node, Content, Maybe, Colon, Items, More, Entries, Others, Pairs, Documents, First, Stream, Dress, Directive, Given, token_at, spell_dress, properties_of, opening, closing, spell_node, spell_content, spell_maybe, spell_colon, spell_items, spell_more, spell_entries, spell_others, spell_pairs, spell_directives, spell_ends, spell_documents, spell_first, spell, items_node, items_content, items_maybe, items_colon, items_items, items_more, items_entries, items_others, items_pairs, items_directives, items_ends, items_documents, items_first, items, next, behind, start_of, event_at, end_event, lone, pair_start, pair_end, mark_at, flow_shape}
 use Rattle.yaml_parse_grammar.specs.Trees as tree
-use Rattle.yaml_parse_grammar.specs.Machine.{starts_content, starts_node, wants_of, closes, parts_documents, follows, joins, no_node, choice_at, node_taken, content_taken, items_taken, above, lone_below, taken_at, left_at, Fed, stop, go, with_item, given_by, turn, feed, Outcome, finished, carry, run, initial, opened}
+use Rattle.yaml_parse_grammar.specs.Machine.{starts_node, wants_of, closes, parts_documents, follows, no_node, choice_at, node_taken, content_taken, items_taken, above, lone_below, taken_at, left_at, Fed, stop, go, with_item, given_by, turn, feed, Outcome, finished, carry, run, initial, opened}
 
 -- what a list of items does in front of an outcome
 abbrev pub giving : (List Given → List Given) → Outcome → Outcome

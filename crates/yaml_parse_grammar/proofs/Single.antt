@@ -1,12 +1,11 @@
 -- One step of the machine, at a token.
-use Rattle.std.proofs.Common.{◌≡◌, ◌⊎◌, inl, inr, ℕ, Bool, true, false, if◌then◌else◌, ◌||◌, List, [], ◌∷◌, ◌++◌, length, Option, Some, None, refl, ap, sym, ◌∙◌}
+use Rattle.std.proofs.Common.{◌≡◌, Bool, true, false, if◌then◌else◌, ◌||◌, List, [], ◌∷◌, ◌++◌, length, Option, Some, None, refl, ap, sym, ◌∙◌}
 use Rattle.yaml_scan.specs.declared.yaml_mark_t.{yaml_mark_t}
 use Rattle.yaml_scan.specs.declared.yaml_token_type_t.{yaml_token_type_t}
 use Rattle.yaml_scan.specs.declared.yaml_token_type_t.TheVariants as kind
 use Rattle.yaml_scan.specs.Tokens.{Token, type_of, no_token}
 use Rattle.yaml_scan.specs.Faults.{Fault}
 use Rattle.yaml_parse_model.specs.Source.{front_of, rest_of, MayAnswer}
-use Rattle.yaml_parse_grammar.specs.declared.name.Wants.{Wants}
 use Rattle.yaml_parse_grammar.specs.declared.name.Wants.TheVariants.{Flow, Block}
 use Rattle.yaml_parse_grammar.specs.declared.name.Brackets.TheVariants as brackets
 use Rattle.yaml_parse_grammar.specs.declared.name.Place.TheVariants.{Root, Entry, IndentlessEntry, BlockPair, FlowPair}
@@ -20,8 +19,8 @@ use Rattle.yaml_parse_grammar.specs.Items as item
 use Rattle.yaml_parse_grammar.specs.States.{State, Taken}
 use Rattle.yaml_parse_grammar.specs.States as state
 use Rattle.yaml_parse_grammar.specs.Trees.{Given}
-use Rattle.yaml_parse_grammar.specs.Machine.{starts_node, starts_content, parts_documents, follows, wants_of, no_node, no_end, joins, closes, choice_at, taken_at, left_at, context_of, opened, Fed, stop, go, with_item, given_by, turn, feed, Outcome, finished, carry, ending_at, run}
-use Rattle.yaml_parse_grammar.proofs.Complete.{giving, carry_with_item, step_take, leaves_at, optional_takes}
+use Rattle.yaml_parse_grammar.specs.Machine.{starts_node, starts_content, parts_documents, follows, wants_of, no_node, no_end, joins, closes, choice_at, taken_at, left_at, context_of, opened, Fed, stop, go, with_item, given_by, turn, feed, finished, carry, ending_at, run}
+use Rattle.yaml_parse_grammar.proofs.Complete.{giving, carry_with_item, step_take, optional_takes}
 use Rattle.yaml_parse_grammar.proofs.Voice.{takes_a_token}
 
 -- ---- the end of a list

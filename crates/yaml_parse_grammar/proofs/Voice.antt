@@ -1,5 +1,5 @@
 -- A stack that isn't empty still has an event to give, or a fault.
-use Rattle.std.proofs.Common.{◌≡◌, ℕ, Bool, true, false, List, [], ◌∷◌, ◌++◌, length, map, Option, Some, None, refl, ap, sym}
+use Rattle.std.proofs.Common.{◌≡◌, ℕ, List, [], ◌∷◌, ◌++◌, length, map, Option, Some, None, refl}
 use Rattle.yaml_scan.specs.declared.yaml_mark_t.{yaml_mark_t}
 use Rattle.yaml_scan.specs.declared.yaml_token_type_t.TheVariants as kind
 use Rattle.yaml_scan.specs.Tokens.{Token, TokenBody, type_of, no_token}
@@ -18,7 +18,7 @@ use Rattle.yaml_parse_grammar.specs.States.{State, Taken}
 use Rattle.yaml_parse_grammar.specs.States as state
 use Rattle.yaml_parse_grammar.specs.Trees.{Given}
 use Rattle.yaml_parse_grammar.specs.Machine.{choice_at, taken_at, documents_taken, content_taken, node_taken, dressed_taken, items_taken, more_taken, stream_taken, entries_taken, pairs_taken, lone_below, left_at, Fed, stop, go, with_item, given_by, turn, feed, Stands, Outcome, finished, carry, run}
-use Rattle.yaml_parse_grammar.specs.Resolve.{Directives, Settled, refused, gave, noted, settle, settle_body, reading, Reading, Told, read_on, with_resolved, with_version, with_tag, resolved}
+use Rattle.yaml_parse_grammar.specs.Resolve.{Directives, Settled, refused, gave, noted, settle, settle_body, reading, read_on, with_resolved, resolved}
 
 -- the item is an event and no directive, or else the other fact holds
 abbrev pub Voiced : ItemBody → Type 0 → Type 0

@@ -1,9 +1,8 @@
 -- An opening above what comes below it.
-use Rattle.std.proofs.Common.{◌≡◌, ◌++◌, List, [], ◌∷◌, refl, ap, sym, ◌∙◌}
-use Rattle.yaml_parse_grammar.specs.States.{State, Taken}
+use Rattle.std.proofs.Common.{◌≡◌, ◌++◌, List, refl, ap, sym}
+use Rattle.yaml_parse_grammar.specs.States.{State}
 use Rattle.yaml_parse_grammar.specs.Machine.{above}
 use Rattle.yaml_parse_machine.specs.declared.item.Opening as code
-use Rattle.yaml_parse_machine.specs.declared.item.Taken as whole
 use Rattle.yaml_parse_machine.specs.declared.item.Pushed.{Pushed}
 use Rattle.yaml_parse_machine.specs.declared.item.Pushed.TheVariants.{Zero, One, Two, Three, Four}
 use Rattle.yaml_parse_machine.specs.Views.{opening_of, taken_of, pushed_of, over}

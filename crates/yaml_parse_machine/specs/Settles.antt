@@ -2,7 +2,7 @@
 use Rattle.std.specs.Prelude.{ℕ, ◌≡◌, List, map, Option, Some, None, Result, Ok, Err, Vec}
 use Rattle.std.specs.Global.{Global}
 use Rattle.yaml_scan.specs.declared.yaml_mark_t.{yaml_mark_t}
-use Rattle.yaml_parse_model.specs.Events.{directive_of, event_of, body_of, EventBody}
+use Rattle.yaml_parse_model.specs.Events.{directive_of, event_of, body_of}
 use Rattle.yaml_parse_model.specs.declared.event.yaml_event_t.{yaml_event_t}
 use Rattle.yaml_parse_model.specs.declared.event.yaml_event_body_t.{yaml_event_body_t}
 use Rattle.yaml_parse_grammar.specs.declared.problem.ParseProblem.TheVariants.{UndefinedHandle}

@@ -1,11 +1,11 @@
-use Rattle.std.proofs.Common.{◌≡◌, ap, ◌∙◌, map, reverse, [], ◌∷◌, ◌++◌, List, None}
+use Rattle.std.proofs.Common.{ap, ◌∙◌, map, [], ◌∷◌, ◌++◌, List, None}
 use Rattle.yaml_scan.specs.declared.yaml_tag_directive_t.{yaml_tag_directive_t}
 use Rattle.yaml_parse_model.specs.Events.{directive_of}
 use Rattle.yaml_parse_grammar.specs.Resolve.{Directives}
 use Rattle.yaml_parse_machine.specs.declared.item.State as code
 use Rattle.yaml_parse_machine.specs.declared.item.State.TheVariants.{Stream}
 use Rattle.yaml_parse_machine.specs.Views.{stack_of}
-use Rattle.yaml_parse.proofs.Turning.{starts}
+use Rattle.yaml_parse.proofs.Turning.{starts, starts_anywhere}
 use Rattle.yaml_parse.proofs.parser.yaml_parser_initialize.Goals as goal
 
 pub returns-in-Ok-clause-tree : goal.returns-in-Ok-clause-tree
@@ -14,3 +14,10 @@ returns-in-Ok-clause-tree g c = λ t rest h.
     (record { version = None; tags = map directive_of c.new.result.items }) t rest
     (ap stack_of (c.in-Ok.ensures.items ∙ ap (λ (xs : List code.State). xs ++ Stream ∷ []) c.new-stack.ensures.items))
     (ap (λ (xs : List yaml_tag_directive_t). let ds : Directives = record { version = None; tags = map directive_of xs } in ds) c.new.ensures.items) h
+
+pub returns-in-Ok-clause-machine : goal.returns-in-Ok-clause-machine
+returns-in-Ok-clause-machine g c =
+    starts_anywhere (g.S.yaml_token_source_t.to_come c.args.source) (g.S.yaml_token_source_t.fault_to_come c.args.source) (stack_of c.push.new.self.items)
+    (record { version = None; tags = map directive_of c.new.result.items })
+    (ap stack_of (c.in-Ok.ensures.items ∙ ap (λ (xs : List code.State). xs ++ Stream ∷ []) c.new-stack.ensures.items))
+    (ap (λ (xs : List yaml_tag_directive_t). let ds : Directives = record { version = None; tags = map directive_of xs } in ds) c.new.ensures.items)

@@ -1,4 +1,3 @@
-use Rattle.std.proofs.Common.{◌≡◌}
 use Rattle.yaml_scan.specs.Tokens.{token_of}
 use Rattle.yaml_parse_machine.specs.Views.{state_of, stack_of}
 use Rattle.yaml_parse.specs.Steps.{raw, peeked_of}

@@ -1,4 +1,4 @@
-use Rattle.std.proofs.Common.{◌≡◌, ap, sym}
+use Rattle.std.proofs.Common.{ap, sym}
 use Rattle.yaml_parse.specs.Steps.{peeked_of}
 use Rattle.yaml_parse.proofs.Front.{is_front, has_no_front}
 use Rattle.yaml_parse.proofs.step.front.Goals as goal

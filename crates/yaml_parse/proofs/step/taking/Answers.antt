@@ -1,8 +1,8 @@
-use Rattle.std.proofs.Common.{◌≡◌, ◌∙◌, ap, sym, Option, List}
-use Rattle.yaml_parse_grammar.specs.States.{State, Taken}
+use Rattle.std.proofs.Common.{◌∙◌, ap, sym, Option}
+use Rattle.yaml_parse_grammar.specs.States.{Taken}
 use Rattle.yaml_scan.specs.Tokens.{token_of}
 use Rattle.yaml_parse_machine.specs.declared.item.Item.{Item}
-use Rattle.yaml_parse_machine.specs.Views.{state_of, stack_of, pushed_of, over, item_of, item_option_of, taken_of}
+use Rattle.yaml_parse_machine.specs.Views.{state_of, stack_of, pushed_of, over, item_of, item_option_of}
 use Rattle.yaml_parse.proofs.Moves.{take_item, take_silent, pushed_twice}
 use Rattle.yaml_parse.proofs.step.taking.Goals as goal
 

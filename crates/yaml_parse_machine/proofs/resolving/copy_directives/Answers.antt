@@ -1,4 +1,4 @@
-use Rattle.std.proofs.Common.{◌≡◌, map}
+use Rattle.std.proofs.Common.{map}
 use Rattle.yaml_parse_model.specs.Events.{directive_of}
 use Rattle.yaml_parse_machine.proofs.TagSteps.{copied_one, copied_all}
 use Rattle.yaml_parse_machine.proofs.resolving.copy_directives.Goals as goal

@@ -1,4 +1,4 @@
-use Rattle.std.proofs.Common.{◌≡◌, ◌∙◌, sym, ap, refl, Some, Option, List, ℕ}
+use Rattle.std.proofs.Common.{◌∙◌, sym, ap, Some, List, ℕ}
 use Rattle.std.specs.Str.{bytes_eq}
 use Rattle.yaml_parse_machine.proofs.TagSteps.{found, passed, none_left}
 use Rattle.yaml_parse_machine.proofs.resolving.find_prefix.Goals as goal

@@ -1,4 +1,4 @@
-use Rattle.std.proofs.Common.{◌≡◌, ◌∙◌}
+use Rattle.std.proofs.Common.{◌∙◌}
 use Rattle.yaml_parse_machine.specs.Views.{properties_of}
 use Rattle.yaml_parse_machine.proofs.Defaults.{dressed_default}
 use Rattle.yaml_parse_machine.proofs.taking.at_dressed.Goals as goal

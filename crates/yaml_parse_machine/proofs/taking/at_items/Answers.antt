@@ -1,10 +1,10 @@
-use Rattle.std.proofs.Common.{◌≡◌, ◌∙◌, ap, List, [], ◌∷◌}
+use Rattle.std.proofs.Common.{◌∙◌, ap, List, [], ◌∷◌}
 use Rattle.yaml_parse_grammar.specs.States.{State, Taken}
 use Rattle.yaml_parse_grammar.specs.Machine.{above, lone_below}
 use Rattle.yaml_parse_grammar.specs.States as state
 use Rattle.yaml_parse_machine.proofs.Defaults.{items_default}
 use Rattle.yaml_parse_machine.proofs.Openings.{taken_is}
-use Rattle.yaml_parse_machine.specs.Views.{opening_of, pushed_of}
+use Rattle.yaml_parse_machine.specs.Views.{opening_of}
 use Rattle.yaml_parse_machine.proofs.taking.at_items.Goals as goal
 
 pub returns-in_default : goal.returns-in_default

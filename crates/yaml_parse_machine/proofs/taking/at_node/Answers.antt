@@ -1,4 +1,4 @@
-use Rattle.std.proofs.Common.{◌≡◌, ◌∙◌}
+use Rattle.std.proofs.Common.{◌∙◌}
 use Rattle.yaml_parse_machine.proofs.Defaults.{node_default}
 use Rattle.yaml_parse_machine.proofs.taking.at_node.Goals as goal
 

@@ -1,4 +1,4 @@
-//! Documents: nodes that name each other by number, and the loader, which makes a document of a parser's events.
+//! Documents: nodes that name each other by number, how they are made, and the calls that read and change them.
 #![tactic(auto)]
 
 mod document;

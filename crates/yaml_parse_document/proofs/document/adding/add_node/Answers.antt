@@ -1,5 +1,5 @@
-use Rattle.std.proofs.Common.{◌≡◌, List, [], ◌∷◌, ◌++◌, map, ap, ◌∙◌, sym, subst, length, ◌<◌, arith}
-use Rattle.std.proofs.lemmas.List.{map-append, length-map}
+use Rattle.std.proofs.Common.{◌≡◌, List, [], ◌∷◌, ◌++◌, map, ap, ◌∙◌, sym, subst, length}
+use Rattle.std.proofs.lemmas.List.{map-append}
 use Rattle.yaml_parse_model.specs.Nodes.{Node, node_of}
 use Rattle.yaml_parse_document.specs.Documents.{Document, IsDocument, IsSoundNode}
 use Rattle.yaml_parse_document.specs.Views.{document_view}

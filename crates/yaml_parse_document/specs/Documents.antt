@@ -1,5 +1,5 @@
 -- Documents: nodes that name each other by number.
-use Rattle.std.specs.Prelude.{◌≡◌, ◌≤◌, ℕ, zero, suc, ◌+◌, ℤ, pos, Bool, Option, Some, None, List, [], ◌∷◌, ◌++◌, length, slice_get, codes, Result, Ok, Err, IsUtf8, false}
+use Rattle.std.specs.Prelude.{◌≡◌, ◌≤◌, ℕ, zero, suc, ℤ, pos, Bool, Option, Some, None, List, [], ◌∷◌, ◌++◌, length, slice_get, codes, Result, Ok, Err, IsUtf8, false}
 use Rattle.yaml_scan.specs.declared.yaml_mark_t.{yaml_mark_t}
 use Rattle.yaml_scan.specs.declared.yaml_version_directive_t.{yaml_version_directive_t}
 use Rattle.yaml_scan.specs.declared.yaml_scalar_style_t.{yaml_scalar_style_t}
@@ -10,7 +10,7 @@ use Rattle.yaml_parse_model.specs.declared.yaml_node_pair_t.{yaml_node_pair_t}
 use Rattle.yaml_parse_model.specs.declared.yaml_text_fault_t.{yaml_text_fault_t}
 use Rattle.yaml_parse_model.specs.declared.yaml_text_fault_t.TheVariants.{NotUtf8, Memory}
 use Rattle.yaml_parse_model.specs.Events.{TagDirective}
-use Rattle.yaml_parse_model.specs.Constructors.{IsUtf8Option, AreUtf8}
+use Rattle.yaml_parse_model.specs.Constructors.{AreUtf8}
 use Rattle.yaml_parse_model.specs.Nodes.{Node, NodeBody}
 use Rattle.yaml_parse_model.specs.Nodes as node
 
@@ -56,11 +56,10 @@ abbrev pub AreSound : ℕ → List Node → Type 0
 AreSound count [] = Unit {0}
 AreSound count (n ∷ ns) = IsSoundNode count n × AreSound count ns
 
--- the texts of a document are UTF-8, its numbers name its nodes, and they fit a signed number of 32 bits
+-- the texts of a document are UTF-8, and its numbers name its nodes
 pub record IsDocument (d : Document) : Type 0 where
   pub directives : AreUtf8 d.directives
   pub nodes : AreSound (length d.nodes) d.nodes
-  pub count : length d.nodes ≤ 2147483647
 
 -- a document without nodes and with zero marks
 abbrev pub new_document : Option yaml_version_directive_t → List TagDirective → Bool → Bool → Document

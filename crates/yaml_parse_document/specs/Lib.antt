@@ -1,2 +1,3 @@
 pub mod Documents
+pub mod Parts
 pub mod Views

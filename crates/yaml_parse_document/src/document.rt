@@ -1,17 +1,19 @@
 //! Documents: making one, and its readers.
 
-ghost use Rattle.std.specs.Prelude.{◌≡◌, map, option_map, pos};
+ghost use Rattle.std.specs.Prelude.{◌≡◌, ◌≤ℤ◌, map, option_map, pos, suc};
 ghost use Rattle.yaml_parse_model.specs.Events.{directive_of};
 ghost use Rattle.yaml_parse_model.specs.Nodes.{node_of};
 ghost use Rattle.yaml_parse_document.specs.Documents.{no_document, node_at, IsNewDocument, new_document};
 
 mod adding;
+mod parts;
 
 pub use adding::{
-    yaml_document_add_mapping, yaml_document_add_scalar, yaml_document_add_sequence,
-    yaml_document_append_mapping_pair, yaml_document_append_sequence_item,
+    MAX_ENTRIES, push_entry, yaml_document_add_mapping, yaml_document_add_scalar,
+    yaml_document_add_sequence, yaml_document_append_mapping_pair,
+    yaml_document_append_sequence_item,
 };
-
+pub use parts::{DocumentParts, document_is_sound};
 use std::alloc::Global;
 use std::marker::Model;
 use yaml_parse_model::{are_utf8, copy_directives, yaml_node_t, yaml_text_fault_t};
@@ -154,6 +156,14 @@ pub fn yaml_document_set_end_implicit(document: &mut yaml_document_t, end_implic
     document.end_implicit = end_implicit;
 }
 
+// The place in the list of nodes of the node under a number.
+fn place(number: i32) -> usize
+    requires { pos 1 ≤ℤ number }
+    ensures { number ≡ pos (suc result) }
+{
+    (number - 1) as usize
+}
+
 /// The node under a number; numbers count from 1.
 pub fn yaml_document_get_node(document: &yaml_document_t, index: i32) -> Option<&yaml_node_t>
     ensures { option_map (λ n. node_of n.now) result ≡ node_at document.now.nodes index }
@@ -161,7 +171,7 @@ pub fn yaml_document_get_node(document: &yaml_document_t, index: i32) -> Option<
     if index < 1 {
         return None;
     }
-    document.nodes.get((index - 1) as usize)
+    document.nodes.get(place(index))
 }
 
 /// The root, if the document has one: its first node.

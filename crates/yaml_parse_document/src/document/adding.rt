@@ -5,21 +5,19 @@ ghost use Rattle.yaml_parse_model.specs.Constructors.{IsUtf8Option};
 ghost use Rattle.yaml_parse_model.specs.Nodes.{node_of, body_of};
 ghost use Rattle.yaml_parse_document.specs.Documents.{node_at, unplaced, new_scalar, new_sequence, new_mapping, with_node, Adds, Appends, change_body, with_item, with_pair, tag_or, IsSequenceAt, IsMappingAt, IsSequenceBody, IsMappingBody, IsSoundNode, IsSoundBody};
 
-use super::yaml_document_t;
+use super::{place, yaml_document_t};
 use simdutf8::is_utf8;
 use std::alloc::Global;
 use yaml_parse_model::{
     copy_text, is_utf8_option, yaml_node_body_t, yaml_node_item_t, yaml_node_pair_t, yaml_node_t,
     yaml_text_fault_t,
 };
-use yaml_scan::{
-    yaml_mapping_style_t, yaml_mark_t, yaml_scalar_style_t, yaml_sequence_style_t,
-};
+use yaml_scan::{yaml_mapping_style_t, yaml_mark_t, yaml_scalar_style_t, yaml_sequence_style_t};
 
 /// A list of a document has at most this many entries.
 pub const MAX_ENTRIES: usize = 2_147_483_647;
 
-// One entry more at the end of a list of a document.
+/// One entry more at the end of a list of a document; `Memory` where a growth was refused or the list is full.
 pub fn push_entry<T: Drop>(entries: &mut Vec<T>, entry: T) -> Result<(), yaml_text_fault_t>
     ensures { MatchResult result
         (λ _. (entries.new.items ≡ entries.old.items ++ entry ∷ []) × (length entries.old.items < 2147483647))
@@ -92,7 +90,10 @@ pub fn yaml_document_add_scalar(
     }
     let tag = tag_or_default(document.alloc, tag, b"tag:yaml.org,2002:str")?;
     let value = copy_text(document.alloc, value)?;
-    add_node(document, unplaced_node(yaml_node_body_t::Scalar { value, style }, tag))
+    add_node(
+        document,
+        unplaced_node(yaml_node_body_t::Scalar { value, style }, tag),
+    )
 }
 
 /// Adds an empty sequence with a copy of the tag, and gives its number. Without a tag it has
@@ -109,7 +110,10 @@ pub fn yaml_document_add_sequence(
     }
     let tag = tag_or_default(document.alloc, tag, b"tag:yaml.org,2002:seq")?;
     let items = Vec::new(document.alloc);
-    add_node(document, unplaced_node(yaml_node_body_t::Sequence { items, style }, tag))
+    add_node(
+        document,
+        unplaced_node(yaml_node_body_t::Sequence { items, style }, tag),
+    )
 }
 
 /// Adds an empty mapping with a copy of the tag, and gives its number. Without a tag it has
@@ -126,7 +130,10 @@ pub fn yaml_document_add_mapping(
     }
     let tag = tag_or_default(document.alloc, tag, b"tag:yaml.org,2002:map")?;
     let pairs = Vec::new(document.alloc);
-    add_node(document, unplaced_node(yaml_node_body_t::Mapping { pairs, style }, tag))
+    add_node(
+        document,
+        unplaced_node(yaml_node_body_t::Mapping { pairs, style }, tag),
+    )
 }
 
 // One item more in a sequence.
@@ -164,7 +171,7 @@ pub fn yaml_document_append_sequence_item(
     requires item { IsSome (node_at document.old.nodes item) }
     ensures { Appends document.old (change_body (with_item item) sequence document.old) result document.new }
 {
-    push_item(&mut document.nodes[(sequence - 1) as usize], item)
+    push_item(&mut document.nodes[place(sequence)], item)
 }
 
 /// Appends a pair to the mapping under a number. The one refusal is `Memory`, and leaves the document unchanged.
@@ -180,7 +187,7 @@ pub fn yaml_document_append_mapping_pair(
     ensures { Appends document.old (change_body (with_pair (record { key = key; value = value })) mapping document.old) result document.new }
 {
     push_pair(
-        &mut document.nodes[(mapping - 1) as usize],
+        &mut document.nodes[place(mapping)],
         yaml_node_pair_t { key, value },
     )
 }

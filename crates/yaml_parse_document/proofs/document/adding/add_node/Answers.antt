@@ -1,9 +1,16 @@
-use Rattle.std.proofs.Common.{rules, ◌≡◌, ◌<◌, ◌≤◌, ◌++◌, ◌∷◌, [], pos, suc, length, option_map, IsSome, IsUtf8, MatchResult, ℕ, ◌+◌, ◌-◌, ◌*◌, ◌/◌, ◌%◌, Bool, true, false, nat_eq, nat_lt, List, slice_index_or, slice_set, bit_and, bit_or, Fits, w8, w32, w64, Bor, MutBor, ℤ, ◌+ℤ◌, ◌-ℤ◌, ◌*ℤ◌, ◌≤ℤ◌, ◌<ℤ◌, FitsSigned, to_z, of_z}
-use Rattle.yaml_parse_model.specs.Constructors.{IsUtf8Option}
-use Rattle.yaml_parse_model.specs.Nodes.{node_of, body_of}
-use Rattle.yaml_parse_document.specs.Documents.{node_at, unplaced, new_scalar, new_sequence, new_mapping, with_node, Adds, Appends, change_body, with_item, with_pair, tag_or, IsSequenceAt, IsMappingAt, IsSequenceBody, IsMappingBody, IsSoundNode, IsSoundBody}
+use Rattle.std.proofs.Common.{◌≡◌, List, [], ◌∷◌, ◌++◌, map, ap, ◌∙◌, sym, subst, length, ◌<◌, arith}
+use Rattle.std.proofs.lemmas.List.{map-append, length-map}
+use Rattle.yaml_parse_model.specs.Nodes.{Node, node_of}
+use Rattle.yaml_parse_document.specs.Documents.{Document, IsDocument, IsSoundNode}
+use Rattle.yaml_parse_document.specs.Views.{document_view}
+use Rattle.yaml_parse_document.proofs.Sound.{with_node_sound}
 use Rattle.yaml_parse_document.proofs.document.adding.add_node.Goals as goal
 
--- src/document/adding.rt:69:1
 pub invariant_of-document-2 : goal.invariant_of-document-2
-invariant_of-document-2 c = ?
+invariant_of-document-2 c =
+    let grown : map node_of c.push_entry.new.entries.items ≡ map node_of c.document.inside.nodes.items ++ node_of c.args.node ∷ []
+    = ap (map node_of) c.in_ok-push_entry.ensures.0 ∙ map-append node_of _ _ in
+    let sound : IsSoundNode (length (document_view c.document.inside).nodes) (node_of c.args.node)
+    = subst (λ (d : Document). IsSoundNode (length d.nodes) (node_of c.args.node)) (sym c.document.view_is) c.requires in
+    subst (λ (ns : List Node). IsDocument (record (document_view c.document.inside) { nodes = ns })) (sym grown)
+    (with_node_sound (document_view c.document.inside) (node_of c.args.node) c.document.invariant sound)

@@ -1,9 +1,20 @@
-use Rattle.std.proofs.Common.{rules, ◌≡◌, ◌<◌, ◌≤◌, ◌++◌, ◌∷◌, [], pos, suc, length, option_map, IsSome, IsUtf8, MatchResult, ℕ, ◌+◌, ◌-◌, ◌*◌, ◌/◌, ◌%◌, Bool, true, false, nat_eq, nat_lt, List, slice_index_or, slice_set, bit_and, bit_or, Fits, w8, w32, w64, Bor, MutBor}
+use Rattle.std.proofs.Common.{◌≡◌, sym, subst, option_map, IsUtf8, length, rules, refl}
 use Rattle.yaml_parse_model.specs.Constructors.{IsUtf8Option}
-use Rattle.yaml_parse_model.specs.Nodes.{node_of, body_of}
-use Rattle.yaml_parse_document.specs.Documents.{node_at, unplaced, new_scalar, new_sequence, new_mapping, with_node, Adds, Appends, change_body, with_item, with_pair, tag_or, IsSequenceAt, IsMappingAt, IsSequenceBody, IsMappingBody, IsSoundNode, IsSoundBody}
+use Rattle.yaml_parse_model.specs.Nodes.{Node, node_of}
+use Rattle.yaml_parse_document.specs.Documents.{IsSoundNode, new_scalar}
+use Rattle.yaml_parse_document.proofs.Sound.{tag_utf8, str_utf8, added}
 use Rattle.yaml_parse_document.proofs.document.adding.yaml_document_add_scalar.Goals as goal
 
--- src/document/adding.rt:82:1
+pub add_node-requires : goal.add_node-requires
+add_node-requires c =
+    let tag : IsUtf8Option (option_map (λ t. t.now) c.args.tag) = search rules in
+    let value : IsUtf8 c.args.value.now = search rules in
+    subst (λ (n : Node). IsSoundNode (length c.args.document.now.nodes) n) (sym c.unplaced_node.ensures)
+    (subst IsUtf8 (sym c.in_ok-tag.ensures) (tag_utf8 _ _ str_utf8 tag), subst IsUtf8 (sym c.in_ok-value.ensures) value)
+
 pub returns : goal.returns
-returns c = ?
+returns c =
+    let tag : IsUtf8Option (option_map (λ t. t.now) c.args.tag) = search rules in
+    let value : IsUtf8 c.args.value.now = search rules in
+    let same : node_of c.unplaced_node.result ≡ new_scalar (option_map (λ t. t.now) c.args.tag) c.args.value.now c.args.style = rw (c.unplaced_node.ensures, c.in_ok-tag.ensures, c.in_ok-value.ensures) refl in
+    added _ _ _ _ _ _ same (tag, value) c.add_node.ensures

@@ -1,13 +1,35 @@
-use Rattle.std.proofs.Common.{rules, ◌≡◌, ◌<◌, ◌≤◌, ◌++◌, ◌∷◌, [], pos, suc, length, option_map, IsSome, IsUtf8, MatchResult, ℕ, ◌+◌, ◌-◌, ◌*◌, ◌/◌, ◌%◌, Bool, true, false, nat_eq, nat_lt, List, slice_index_or, slice_set, bit_and, bit_or, Fits, w8, w32, w64, Bor, MutBor, ℤ, ◌+ℤ◌, ◌-ℤ◌, ◌*ℤ◌, ◌≤ℤ◌, ◌<ℤ◌, FitsSigned, to_z, of_z}
-use Rattle.yaml_parse_model.specs.Constructors.{IsUtf8Option}
-use Rattle.yaml_parse_model.specs.Nodes.{node_of, body_of}
-use Rattle.yaml_parse_document.specs.Documents.{node_at, unplaced, new_scalar, new_sequence, new_mapping, with_node, Adds, Appends, change_body, with_item, with_pair, tag_or, IsSequenceAt, IsMappingAt, IsSequenceBody, IsMappingBody, IsSoundNode, IsSoundBody}
+use Rattle.std.proofs.Common.{◌≡◌, ◌<◌, ℤ, pos, suc, w32, length, sym, subst, refl, ◌∙◌, ap, to_z, of_z, map}
+use Rattle.std.proofs.lemmas.Int.{to_z-of_z}
+use Rattle.std.proofs.Math.ListN.{set}
+use Rattle.yaml_parse_model.specs.Nodes.{node_of}
+use Rattle.yaml_parse_document.specs.Documents.{Document, Appends, change_body, with_pair, IsId, IsMappingBody}
+use Rattle.yaml_parse_document.specs.Views.{document_view}
+use Rattle.yaml_parse_document.proofs.Sound.{pair_of, appended, appended_sound, pair_sound, some_id, kind_inside}
 use Rattle.yaml_parse_document.proofs.document.adding.yaml_document_append_mapping_pair.Goals as goal
 
--- src/document/adding.rt:171:1
 pub invariant_of-document : goal.invariant_of-document
-invariant_of-document c = ?
+invariant_of-document c =
+    let named : IsId (length (document_view c.document.inside).nodes) (to_z w32 (of_z w32 c.args.key)) × IsId (length (document_view c.document.inside).nodes) (to_z w32 (of_z w32 c.args.value))
+    = subst (λ (d : Document). IsId (length d.nodes) (to_z w32 (of_z w32 c.args.key)) × IsId (length d.nodes) (to_z w32 (of_z w32 c.args.value))) (sym c.document.view_is) (
+      subst (λ (i : ℤ). IsId (length c.args.document.now.nodes) i) (sym (to_z-of_z w32 c.args.key c.ranges.key)) (some_id _ _ c.requires.key),
+      subst (λ (i : ℤ). IsId (length c.args.document.now.nodes) i) (sym (to_z-of_z w32 c.args.value c.ranges.value)) (some_id _ _ c.requires.value),
+    ) in
+    let at_place : c.args.mapping ≡ pos (suc c.place.result) = sym (to_z-of_z w32 c.args.mapping c.ranges.mapping) ∙ c.place.ensures in
+    let inside : c.place.result < length c.document.inside.nodes.items
+    = kind_inside IsMappingBody c.args.document.now _ _ _ at_place (ap (λ (d : Document). d.nodes) (sym c.document.view_is)) c.requires.mapping in
+    appended_sound (with_pair (pair_of (to_z w32 (of_z w32 c.args.key)) (to_z w32 (of_z w32 c.args.value)))) (document_view c.document.inside) c.document.inside.nodes.items c.place.result
+    c.index_mut.result.now c.push_pair.new.node c.push_pair.result inside c.index_mut.ensures.value refl c.push_pair.ensures
+    (pair_sound _ _ named) c.document.invariant
 
--- src/document/adding.rt:171:1
 pub returns : goal.returns
-returns c = ?
+returns c =
+    let after : Document = record (document_view c.document.inside) { nodes = map node_of (set c.document.inside.nodes.items c.place.result c.push_pair.new.node) } in
+    let at_place : c.args.mapping ≡ pos (suc c.place.result) = sym (to_z-of_z w32 c.args.mapping c.ranges.mapping) ∙ c.place.ensures in
+    let inside : c.place.result < length c.document.inside.nodes.items
+    = kind_inside IsMappingBody c.args.document.now _ _ _ at_place (ap (λ (d : Document). d.nodes) (sym c.document.view_is)) c.requires.mapping in
+    let done : Appends (document_view c.document.inside) (change_body (with_pair (pair_of c.args.key c.args.value)) c.args.mapping (document_view c.document.inside)) c.push_pair.result after
+    = subst (λ (i : ℤ). Appends (document_view c.document.inside) (change_body (with_pair (pair_of i c.args.value)) c.args.mapping (document_view c.document.inside)) c.push_pair.result after) (to_z-of_z w32 c.args.key c.ranges.key)
+    (subst (λ (i : ℤ). Appends (document_view c.document.inside) (change_body (with_pair (pair_of (to_z w32 (of_z w32 c.args.key)) i)) c.args.mapping (document_view c.document.inside)) c.push_pair.result after) (to_z-of_z w32 c.args.value c.ranges.value)
+    (appended (with_pair (pair_of (to_z w32 (of_z w32 c.args.key)) (to_z w32 (of_z w32 c.args.value)))) (document_view c.document.inside) c.document.inside.nodes.items c.place.result c.args.mapping
+    c.index_mut.result.now c.push_pair.new.node c.push_pair.result at_place inside c.index_mut.ensures.value refl c.push_pair.ensures)) in
+    subst (λ (d : Document). Appends d (change_body (with_pair (pair_of c.args.key c.args.value)) c.args.mapping d) c.push_pair.result after) c.document.view_is done

@@ -1,13 +1,32 @@
-use Rattle.std.proofs.Common.{rules, ◌≡◌, ◌<◌, ◌≤◌, ◌++◌, ◌∷◌, [], pos, suc, length, option_map, IsSome, IsUtf8, MatchResult, ℕ, ◌+◌, ◌-◌, ◌*◌, ◌/◌, ◌%◌, Bool, true, false, nat_eq, nat_lt, List, slice_index_or, slice_set, bit_and, bit_or, Fits, w8, w32, w64, Bor, MutBor, ℤ, ◌+ℤ◌, ◌-ℤ◌, ◌*ℤ◌, ◌≤ℤ◌, ◌<ℤ◌, FitsSigned, to_z, of_z}
-use Rattle.yaml_parse_model.specs.Constructors.{IsUtf8Option}
-use Rattle.yaml_parse_model.specs.Nodes.{node_of, body_of}
-use Rattle.yaml_parse_document.specs.Documents.{node_at, unplaced, new_scalar, new_sequence, new_mapping, with_node, Adds, Appends, change_body, with_item, with_pair, tag_or, IsSequenceAt, IsMappingAt, IsSequenceBody, IsMappingBody, IsSoundNode, IsSoundBody}
+use Rattle.std.proofs.Common.{◌≡◌, ◌<◌, ℤ, pos, suc, w32, length, sym, subst, refl, ◌∙◌, ap, to_z, of_z, map}
+use Rattle.std.proofs.lemmas.Int.{to_z-of_z}
+use Rattle.std.proofs.Math.ListN.{set}
+use Rattle.yaml_parse_model.specs.Nodes.{node_of}
+use Rattle.yaml_parse_document.specs.Documents.{Document, Appends, change_body, with_item, IsId, IsSequenceBody}
+use Rattle.yaml_parse_document.specs.Views.{document_view}
+use Rattle.yaml_parse_document.proofs.Sound.{appended, appended_sound, item_sound, some_id, kind_inside}
 use Rattle.yaml_parse_document.proofs.document.adding.yaml_document_append_sequence_item.Goals as goal
 
--- src/document/adding.rt:158:1
 pub invariant_of-document : goal.invariant_of-document
-invariant_of-document c = ?
+invariant_of-document c =
+    let named : IsId (length (document_view c.document.inside).nodes) (to_z w32 (of_z w32 c.args.item))
+    = subst (λ (d : Document). IsId (length d.nodes) (to_z w32 (of_z w32 c.args.item))) (sym c.document.view_is)
+    (subst (λ (i : ℤ). IsId (length c.args.document.now.nodes) i) (sym (to_z-of_z w32 c.args.item c.ranges.item)) (some_id _ _ c.requires.item)) in
+    let at_place : c.args.sequence ≡ pos (suc c.place.result) = sym (to_z-of_z w32 c.args.sequence c.ranges.sequence) ∙ c.place.ensures in
+    let inside : c.place.result < length c.document.inside.nodes.items
+    = kind_inside IsSequenceBody c.args.document.now _ _ _ at_place (ap (λ (d : Document). d.nodes) (sym c.document.view_is)) c.requires.sequence in
+    appended_sound (with_item (to_z w32 (of_z w32 c.args.item))) (document_view c.document.inside) c.document.inside.nodes.items c.place.result
+    c.index_mut.result.now c.push_item.new.node c.push_item.result inside c.index_mut.ensures.value refl c.push_item.ensures
+    (item_sound _ _ named) c.document.invariant
 
--- src/document/adding.rt:158:1
 pub returns : goal.returns
-returns c = ?
+returns c =
+    let after : Document = record (document_view c.document.inside) { nodes = map node_of (set c.document.inside.nodes.items c.place.result c.push_item.new.node) } in
+    let at_place : c.args.sequence ≡ pos (suc c.place.result) = sym (to_z-of_z w32 c.args.sequence c.ranges.sequence) ∙ c.place.ensures in
+    let inside : c.place.result < length c.document.inside.nodes.items
+    = kind_inside IsSequenceBody c.args.document.now _ _ _ at_place (ap (λ (d : Document). d.nodes) (sym c.document.view_is)) c.requires.sequence in
+    let done : Appends (document_view c.document.inside) (change_body (with_item c.args.item) c.args.sequence (document_view c.document.inside)) c.push_item.result after
+    = subst (λ (i : ℤ). Appends (document_view c.document.inside) (change_body (with_item i) c.args.sequence (document_view c.document.inside)) c.push_item.result after) (to_z-of_z w32 c.args.item c.ranges.item)
+    (appended (with_item (to_z w32 (of_z w32 c.args.item))) (document_view c.document.inside) c.document.inside.nodes.items c.place.result c.args.sequence
+    c.index_mut.result.now c.push_item.new.node c.push_item.result at_place inside c.index_mut.ensures.value refl c.push_item.ensures) in
+    subst (λ (d : Document). Appends d (change_body (with_item c.args.item) c.args.sequence d) c.push_item.result after) c.document.view_is done

@@ -1,0 +1,199 @@
+-- What a document's soundness says after a change.
+use Rattle.std.proofs.Common.{◌≡◌, ◌≤◌, ◌<◌, ℕ, zero, suc, ℤ, pos, List, [], ◌∷◌, ◌++◌, length, map, Option, Some, None, IsSome, IsUtf8, arith, sym, ◌∙◌, ap, subst, refl, get_or, Result, Ok, Err, MatchResult}
+use Rattle.std.proofs.Math.ListN.{set}
+use Rattle.std.specs.Prelude.{slice_get}
+use Rattle.std.proofs.lemmas.List.{length-map}
+use Rattle.yaml_parse_model.specs.declared.yaml_node_pair_t.{yaml_node_pair_t}
+use Rattle.yaml_parse_model.specs.declared.yaml_node_t.{yaml_node_t}
+use Rattle.yaml_parse_model.specs.declared.yaml_text_fault_t.{yaml_text_fault_t}
+use Rattle.yaml_parse_model.specs.declared.yaml_text_fault_t.TheVariants.{NotUtf8, Memory}
+use Rattle.yaml_parse_model.specs.Constructors.{IsUtf8Option}
+use Rattle.yaml_parse_model.specs.Nodes.{Node, NodeBody, node_of}
+use Rattle.yaml_parse_model.specs.Nodes as node
+use Rattle.yaml_parse_document.specs.Documents.{Document, node_at, IsId, AreIds, ArePairs, IsSoundBody, IsSoundNode, AreSound, IsDocument, with_node, change_place, change_node, change_body, with_item, with_pair, IsKindAt, tag_or, str_tag, seq_tag, map_tag, Adds, Appends}
+
+-- ---- more nodes
+
+pub wider_id : (m n : ℕ) (id : ℤ) → m ≤ n → IsId m id → IsId n id
+wider_id m n (pos zero) h i = i
+wider_id m n (pos (suc k)) h i = omega arith
+wider_id m n _ h i = i
+
+pub wider_ids : (m n : ℕ) (ids : List ℤ) → m ≤ n → AreIds m ids → AreIds n ids
+wider_ids m n [] h a = tt
+wider_ids m n (id ∷ ids) h a = (wider_id m n id h a.0, wider_ids m n ids h a.1)
+
+pub wider_pairs : (m n : ℕ) (ps : List yaml_node_pair_t) → m ≤ n → ArePairs m ps → ArePairs n ps
+wider_pairs m n [] h a = tt
+wider_pairs m n (p ∷ ps) h a = ((wider_id m n p.key h a.0.0, wider_id m n p.value h a.0.1), wider_pairs m n ps h a.1)
+
+wider_body : (m n : ℕ) (b : NodeBody) → m ≤ n → IsSoundBody m b → IsSoundBody n b
+wider_body m n node.no h s = tt
+wider_body m n (node.scalar value style) h s = s
+wider_body m n (node.sequence items style) h s = wider_ids m n items h s
+wider_body m n (node.mapping pairs style) h s = wider_pairs m n pairs h s
+
+pub wider_node : (m n : ℕ) (x : Node) → m ≤ n → IsSoundNode m x → IsSoundNode n x
+wider_node m n x h s = (s.0, wider_body m n x.body h s.1)
+
+pub wider : (m n : ℕ) (ns : List Node) → m ≤ n → AreSound m ns → AreSound n ns
+wider m n [] h s = tt
+wider m n (x ∷ ns) h s = (wider_node m n x h s.0, wider m n ns h s.1)
+
+pub sound_push : (m : ℕ) (ns : List Node) (x : Node) → AreSound m ns → IsSoundNode m x → AreSound m (ns ++ x ∷ [])
+sound_push m [] x s h = (h, tt)
+sound_push m (n ∷ ns) x s h = (s.0, sound_push m ns x s.1 h)
+
+pub length_push : (ns : List Node) (x : Node) → length (ns ++ x ∷ []) ≡ suc (length ns)
+length_push [] x = refl
+length_push (n ∷ ns) x = ap suc (length_push ns x)
+
+-- a sound node more
+pub with_node_sound : (d : Document) (x : Node) → IsDocument d → IsSoundNode (length d.nodes) x → IsDocument (with_node d x)
+with_node_sound d x s h =
+    let grown : length (d.nodes ++ x ∷ []) ≡ suc (length d.nodes) = length_push d.nodes x in
+    let more : length d.nodes ≤ suc (length d.nodes) = omega arith in
+    record {
+      directives = s.directives;
+      nodes = subst (λ (n : ℕ). AreSound n (d.nodes ++ x ∷ [])) (sym grown)
+          (sound_push _ d.nodes x (wider _ _ d.nodes more s.nodes) (wider_node _ _ x more h));
+    }
+
+-- ---- a node changed
+
+pub length_change : (f : Node → Node) (k : ℕ) (ns : List Node) → length (change_place f k ns) ≡ length ns
+length_change f k [] = refl
+length_change f zero (n ∷ ns) = refl
+length_change f (suc k) (n ∷ ns) = ap suc (length_change f k ns)
+
+pub sound_change : (m : ℕ) (f : Node → Node) (k : ℕ) (ns : List Node) → ((x : Node) → IsSoundNode m x → IsSoundNode m (f x)) → AreSound m ns → AreSound m (change_place f k ns)
+sound_change m f k [] h s = tt
+sound_change m f zero (n ∷ ns) h s = (h n s.0, s.1)
+sound_change m f (suc k) (n ∷ ns) h s = (s.0, sound_change m f k ns h s.1)
+
+-- the body of one node is changed, and stays sound
+pub changed_sound : (d : Document) (f : NodeBody → NodeBody) (k : ℕ) → ((b : NodeBody) → IsSoundBody (length d.nodes) b → IsSoundBody (length d.nodes) (f b))
+    → IsDocument d → IsDocument (record d { nodes = change_place (λ n. record n { body = f n.body }) k d.nodes })
+changed_sound d f k h s =
+    let g : Node → Node = λ n. record n { body = f n.body } in
+    let same : length (change_place g k d.nodes) ≡ length d.nodes = length_change g k d.nodes in
+    record {
+      directives = s.directives;
+      nodes = subst (λ (n : ℕ). AreSound n (change_place g k d.nodes)) (sym same)
+          (sound_change _ g k d.nodes (λ x t. (t.0, h x.body t.1)) s.nodes);
+    }
+
+pub sound_ids_push : (m : ℕ) (ids : List ℤ) (id : ℤ) → AreIds m ids → IsId m id → AreIds m (ids ++ id ∷ [])
+sound_ids_push m [] id s h = (h, tt)
+sound_ids_push m (x ∷ ids) id s h = (s.0, sound_ids_push m ids id s.1 h)
+
+abbrev pub pair_of : ℤ → ℤ → yaml_node_pair_t
+pair_of key value = record { key = key; value = value }
+
+pub sound_pairs_push : (m : ℕ) (ps : List yaml_node_pair_t) (p : yaml_node_pair_t) → ArePairs m ps → IsId m p.key × IsId m p.value → ArePairs m (ps ++ p ∷ [])
+sound_pairs_push m [] p s h = (h, tt)
+sound_pairs_push m (x ∷ ps) p s h = (s.0, sound_pairs_push m ps p s.1 h)
+
+pub item_sound : (m : ℕ) (id : ℤ) → IsId m id → (b : NodeBody) → IsSoundBody m b → IsSoundBody m (with_item id b)
+item_sound m id h node.no s = s
+item_sound m id h (node.scalar value style) s = s
+item_sound m id h (node.sequence items style) s = sound_ids_push m items id s h
+item_sound m id h (node.mapping pairs style) s = s
+
+pub pair_sound : (m : ℕ) (p : yaml_node_pair_t) → IsId m p.key × IsId m p.value → (b : NodeBody) → IsSoundBody m b → IsSoundBody m (with_pair p b)
+pair_sound m p h node.no s = s
+pair_sound m p h (node.scalar value style) s = s
+pair_sound m p h (node.sequence items style) s = s
+pair_sound m p h (node.mapping pairs style) s = sound_pairs_push m pairs p s h
+
+-- a number under which a node stands is one of that many
+some_place : (ns : List Node) (k : ℕ) → IsSome (slice_get ns k) → suc k ≤ length ns
+some_place [] k h = cc
+some_place (n ∷ ns) zero h = omega arith
+some_place (n ∷ ns) (suc k) h = let r : suc k ≤ length ns = some_place ns k h in omega arith
+
+pub some_id : (ns : List Node) (id : ℤ) → IsSome (node_at ns id) → IsId (length ns) id
+some_id ns (pos zero) h = cc
+some_id ns (pos (suc k)) h = some_place ns k h
+some_id ns _ h = cc
+
+-- a write of a node at a place, seen by views
+pub set_changes : (f : NodeBody → NodeBody) (items : List yaml_node_t) (k : ℕ) (old new : yaml_node_t) → k < length items → old ≡ get_or items k old
+    → node_of new ≡ record (node_of old) { body = f (node_of old).body }
+    → map node_of (set items k new) ≡ change_place (λ n. record n { body = f n.body }) k (map node_of items)
+set_changes f [] k old new h e i = absurd (omega arith)
+set_changes f (x ∷ items) zero old new h e i = ap (λ n. n ∷ map node_of items) (i ∙ ap (λ (m : yaml_node_t). record (node_of m) { body = f (node_of m).body }) e)
+set_changes f (x ∷ items) (suc k) old new h e i = ap (λ ns. node_of x ∷ ns) (set_changes f items k old new (omega arith) e i)
+
+pub set_same : (items : List yaml_node_t) (k : ℕ) (old new : yaml_node_t) → k < length items → old ≡ get_or items k old → node_of new ≡ node_of old → map node_of (set items k new) ≡ map node_of items
+set_same [] k old new h e i = absurd (omega arith)
+set_same (x ∷ items) zero old new h e i = ap (λ n. n ∷ map node_of items) (i ∙ ap node_of e)
+set_same (x ∷ items) (suc k) old new h e i = ap (λ ns. node_of x ∷ ns) (set_same items k old new (omega arith) e i)
+
+-- an appending call, seen by views: what it changed, and that the document stays sound
+pub appended : {A : Type 0} (f : NodeBody → NodeBody) (d : Document) (items : List yaml_node_t) (k : ℕ) (id : ℤ) (old new : yaml_node_t) (r : Result A yaml_text_fault_t)
+    → id ≡ pos (suc k) → k < length items → old ≡ get_or items k old → d.nodes ≡ map node_of items
+    → MatchResult r (λ _. node_of new ≡ record (node_of old) { body = f (node_of old).body }) (λ e. (node_of new ≡ node_of old) × (e ≡ Memory))
+    → Appends d (change_body f id d) r (record d { nodes = map node_of (set items k new) })
+appended f d items k id old new (Ok x) at_k inside is view h =
+    let same : map node_of (set items k new) ≡ change_node (λ n. record n { body = f n.body }) id d.nodes
+    = set_changes f items k old new inside is h ∙ ap (change_place (λ n. record n { body = f n.body }) k) (sym view)
+    ∙ ap (λ (i : ℤ). change_node (λ n. record n { body = f n.body }) i d.nodes) (sym at_k) in
+    ap (λ (ns : List Node). let e : Document = record d { nodes = ns } in e) same
+appended f d items k id old new (Err e) at_k inside is view h =
+    (ap (λ (ns : List Node). let e : Document = record d { nodes = ns } in e) (set_same items k old new inside is h.0 ∙ sym view), h.1)
+
+pub appended_sound : {A : Type 0} (f : NodeBody → NodeBody) (d : Document) (items : List yaml_node_t) (k : ℕ) (old new : yaml_node_t) (r : Result A yaml_text_fault_t)
+    → k < length items → old ≡ get_or items k old → d.nodes ≡ map node_of items
+    → MatchResult r (λ _. node_of new ≡ record (node_of old) { body = f (node_of old).body }) (λ e. (node_of new ≡ node_of old) × (e ≡ Memory))
+    → ((b : NodeBody) → IsSoundBody (length d.nodes) b → IsSoundBody (length d.nodes) (f b)) → IsDocument d
+    → IsDocument (record d { nodes = map node_of (set items k new) })
+appended_sound f d items k old new (Ok x) inside is view h keeps s =
+    subst (λ (ns : List Node). IsDocument (record d { nodes = ns }))
+    (sym (set_changes f items k old new inside is h ∙ ap (change_place (λ n. record n { body = f n.body }) k) (sym view)))
+    (changed_sound d f k keeps s)
+appended_sound f d items k old new (Err e) inside is view h keeps s =
+    subst (λ (ns : List Node). IsDocument (record d { nodes = ns })) (sym (set_same items k old new inside is h.0 ∙ sym view)) s
+
+-- ---- default tags
+
+pub tag_utf8 : (tag : Option (List ℕ)) (default : List ℕ) → IsUtf8 default → IsUtf8Option tag → IsUtf8 (tag_or tag default)
+tag_utf8 None default a h = a
+tag_utf8 (Some t) default a h = h
+
+pub str_utf8 : IsUtf8 str_tag
+unfolding lib.Utf8.encode
+str_utf8 = (str_tag, (refl, refl))
+
+pub seq_utf8 : IsUtf8 seq_tag
+unfolding lib.Utf8.encode
+seq_utf8 = (seq_tag, (refl, refl))
+
+pub map_utf8 : IsUtf8 map_tag
+unfolding lib.Utf8.encode
+map_utf8 = (map_tag, (refl, refl))
+
+unlike : NotUtf8 ≡ Memory → ⊥
+unlike h = cc
+
+-- an adding call whose texts are UTF-8
+pub added : (d : Document) (m n : Node) (P : Type 0) (r : Result ℤ yaml_text_fault_t) (new : Document) → m ≡ n → P
+    → MatchResult r (λ id. (new ≡ with_node d m) × (id ≡ pos (suc (length d.nodes)))) (λ f. (new ≡ d) × (f ≡ Memory))
+    → Adds d n P r new
+added d m n P (Ok id) new e p h = (h.0 ∙ ap (with_node d) e, h.1, p)
+added d m n P (Err NotUtf8) new e p h = absurd (unlike h.1)
+added d m n P (Err Memory) new e p h = (h.0, p)
+
+-- ---- a number under which a node of some kind stands
+
+kind_place : (IsKind : NodeBody → Type 0) (ns : List Node) (k : ℕ) → IsKindAt IsKind (slice_get ns k) → k < length ns
+kind_place IsKind [] k h = absurd h
+kind_place IsKind (n ∷ ns) zero h = omega arith
+kind_place IsKind (n ∷ ns) (suc k) h = let r : k < length ns = kind_place IsKind ns k h in omega arith
+
+pub kind_inside : (IsKind : NodeBody → Type 0) (d : Document) (items : List yaml_node_t) (id : ℤ) (k : ℕ) → id ≡ pos (suc k) → d.nodes ≡ map node_of items
+    → IsKindAt IsKind (node_at d.nodes id) → k < length items
+kind_inside IsKind d items id k e view h =
+    let at : IsKindAt IsKind (node_at d.nodes (pos (suc k))) = subst (λ (i : ℤ). IsKindAt IsKind (node_at d.nodes i)) e h in
+    let r : k < length d.nodes = kind_place IsKind d.nodes k at in
+    omega (arith, ap length view, length-map items node_of)

@@ -1,0 +1,18 @@
+use Rattle.std.proofs.Common.{◌≡◌, sym, subst, option_map, IsUtf8, length, rules, refl}
+use Rattle.yaml_parse_model.specs.Constructors.{IsUtf8Option}
+use Rattle.yaml_parse_model.specs.Nodes.{Node, node_of}
+use Rattle.yaml_parse_document.specs.Documents.{IsSoundNode, ArePairs, new_mapping}
+use Rattle.yaml_parse_document.proofs.Sound.{tag_utf8, map_utf8, added}
+use Rattle.yaml_parse_document.proofs.document.adding.yaml_document_add_mapping.Goals as goal
+
+pub add_node-requires : goal.add_node-requires
+add_node-requires c =
+    let tag : IsUtf8Option (option_map (λ t. t.now) c.args.tag) = search rules in
+    subst (λ (n : Node). IsSoundNode (length c.args.document.now.nodes) n) (sym c.unplaced_node.ensures)
+    (subst IsUtf8 (sym c.in_ok-tag.ensures) (tag_utf8 _ _ map_utf8 tag), subst (ArePairs _) (sym c.new-pairs.ensures.items) tt)
+
+pub returns : goal.returns
+returns c =
+    let tag : IsUtf8Option (option_map (λ t. t.now) c.args.tag) = search rules in
+    let same : node_of c.unplaced_node.result ≡ new_mapping (option_map (λ t. t.now) c.args.tag) c.args.style = rw (c.unplaced_node.ensures, c.in_ok-tag.ensures, c.new-pairs.ensures.items) refl in
+    added _ _ _ _ _ _ same tag c.add_node.ensures

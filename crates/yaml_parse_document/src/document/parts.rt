@@ -1,0 +1,60 @@
+//! A document in the making: its parts, as the loader fills them.
+
+ghost use Rattle.std.specs.Prelude.{◌≡◌};
+ghost use Rattle.yaml_parse_document.specs.Documents.{IsDocument};
+
+use super::yaml_document_t;
+use std::alloc::Global;
+use yaml_parse_model::yaml_node_t;
+use yaml_scan::{yaml_mark_t, yaml_tag_directive_t, yaml_version_directive_t};
+
+/// The parts of a document, which need not fit together yet.
+#[derive(Drop)]
+pub struct DocumentParts {
+    pub version_directive: Option<yaml_version_directive_t>,
+    pub tag_directives: Vec<yaml_tag_directive_t>,
+    pub start_implicit: bool,
+    pub end_implicit: bool,
+    pub start_mark: yaml_mark_t,
+    pub end_mark: yaml_mark_t,
+    pub nodes: Vec<yaml_node_t>,
+    pub alloc: Global,
+}
+
+impl DocumentParts {
+    ghost use Rattle.yaml_parse_document.specs.Parts.{parts_view};
+
+    /// The document of these parts.
+    pub fn into_document(self) -> yaml_document_t
+        requires { IsDocument (parts_view self) }
+        ensures { result ≡ parts_view self }
+    {
+        let DocumentParts {
+            version_directive,
+            tag_directives,
+            start_implicit,
+            end_implicit,
+            start_mark,
+            end_mark,
+            nodes,
+            alloc,
+        } = self;
+        yaml_document_t {
+            version_directive,
+            tag_directives,
+            start_implicit,
+            end_implicit,
+            start_mark,
+            end_mark,
+            nodes,
+            alloc,
+        }
+    }
+}
+
+/// A law: the texts of each document are UTF-8, and its numbers name its nodes.
+pub fn document_is_sound(document: &yaml_document_t)
+    ensures { IsDocument document.now }
+{
+    let _ = &document.nodes;
+}

@@ -1,0 +1,135 @@
+use crate::*;
+use std::test::Fail;
+use yaml_parse_model::{yaml_node_body_t, yaml_node_pair_t, yaml_text_fault_t};
+use yaml_scan::{
+    yaml_mapping_style_t, yaml_mark_t, yaml_scalar_style_t, yaml_sequence_style_t,
+    yaml_tag_directive_t, yaml_version_directive_t,
+};
+
+const ZERO: yaml_mark_t = yaml_mark_t {
+    index: 0,
+    line: 0,
+    column: 0,
+};
+
+// Whether a sequence with that tag and those items stands under the number.
+fn holds_sequence(document: &yaml_document_t, index: i32, tag: &[u8], ids: &[i32]) -> bool {
+    match yaml_document_get_node(document, index) {
+        None => false,
+        Some(node) => {
+            node.tag.as_slice() == tag
+                && match &node.body {
+                    yaml_node_body_t::Sequence { items, .. } => items.as_slice() == ids,
+                    _ => false,
+                }
+        }
+    }
+}
+
+// Whether a mapping with that tag and that one pair stands under the number.
+fn holds_mapping(
+    document: &yaml_document_t,
+    index: i32,
+    tag: &[u8],
+    pair: yaml_node_pair_t,
+) -> bool {
+    match yaml_document_get_node(document, index) {
+        None => false,
+        Some(node) => {
+            node.tag.as_slice() == tag
+                && match &node.body {
+                    yaml_node_body_t::Mapping { pairs, .. } => pairs.as_slice()
+                        == [pair].as_slice(),
+                    _ => false,
+                }
+        }
+    }
+}
+
+// Whether a scalar with that tag and that value stands under the number.
+fn holds_scalar(document: &yaml_document_t, index: i32, tag: &[u8], text: &[u8]) -> bool {
+    match yaml_document_get_node(document, index) {
+        None => false,
+        Some(node) => {
+            node.tag.as_slice() == tag
+                && match &node.body {
+                    yaml_node_body_t::Scalar { value, .. } => value.as_slice() == text,
+                    _ => false,
+                }
+        }
+    }
+}
+
+#[test]
+fn makes_a_document(rt: HostRuntime) -> Result<(), Fail> {
+    let alloc = rt.alloc();
+    let version = Some(yaml_version_directive_t { major: 1, minor: 2 });
+    let mut directives = Vec::new(alloc);
+    let handle = b"!e!".to_vec(alloc)?;
+    let prefix = b"tag:x,2000:".to_vec(alloc)?;
+    directives.push(yaml_tag_directive_t { handle, prefix })?;
+    let mut document = yaml_document_initialize(alloc, version, &directives, true, false)?;
+    assert_eq!(rt; document.version_directive(), version);
+    assert_eq!(rt; document.tag_directives().len(), 1);
+    assert!(rt; document.start_implicit());
+    assert!(rt; !document.end_implicit());
+    assert_eq!(rt; document.start_mark(), ZERO);
+    assert_eq!(rt; document.end_mark(), ZERO);
+    assert!(rt; yaml_document_get_root_node(&document).is_none());
+    yaml_document_set_end_implicit(&mut document, true);
+    assert!(rt; document.end_implicit());
+    yaml_document_delete(document);
+    Ok(())
+}
+
+#[test]
+fn refuses_a_directive(rt: HostRuntime) -> Result<(), Fail> {
+    let alloc = rt.alloc();
+    let mut directives = Vec::new(alloc);
+    let handle = b"!".to_vec(alloc)?;
+    let prefix = b"\xFF".to_vec(alloc)?;
+    directives.push(yaml_tag_directive_t { handle, prefix })?;
+    let refused = yaml_document_initialize(alloc, None, &directives, true, true);
+    assert!(rt; matches!(&refused, Err(yaml_text_fault_t::NotUtf8)));
+    Ok(())
+}
+
+// A sequence that holds one scalar twice, and a scalar that is refused.
+#[test]
+fn adds_a_sequence(rt: HostRuntime) -> Result<(), Fail> {
+    let alloc = rt.alloc();
+    let mut document = yaml_document_initialize(alloc, None, &[], true, true)?;
+    let style = yaml_sequence_style_t::YAML_ANY_SEQUENCE_STYLE;
+    let sequence = yaml_document_add_sequence(&mut document, None, style)?;
+    let style = yaml_scalar_style_t::YAML_ANY_SCALAR_STYLE;
+    let scalar = yaml_document_add_scalar(&mut document, None, b"b", style)?;
+    assert_eq!(rt; sequence, 1);
+    assert_eq!(rt; scalar, 2);
+    let refused = yaml_document_add_scalar(&mut document, None, b"\xFF", style);
+    assert!(rt; matches!(&refused, Err(yaml_text_fault_t::NotUtf8)));
+    assert!(rt; yaml_document_get_node(&document, 3).is_none());
+    yaml_document_append_sequence_item(&mut document, sequence, scalar)?;
+    yaml_document_append_sequence_item(&mut document, sequence, scalar)?;
+    assert!(rt; holds_sequence(&document, 1, b"tag:yaml.org,2002:seq", &[2, 2]));
+    assert!(rt; holds_scalar(&document, 2, b"tag:yaml.org,2002:str", b"b"));
+    assert!(rt; yaml_document_get_node(&document, 0).is_none());
+    assert!(rt; yaml_document_get_node(&document, -1).is_none());
+    Ok(())
+}
+
+// A mapping with one pair.
+#[test]
+fn adds_a_mapping(rt: HostRuntime) -> Result<(), Fail> {
+    let alloc = rt.alloc();
+    let mut document = yaml_document_initialize(alloc, None, &[], true, true)?;
+    let style = yaml_mapping_style_t::YAML_ANY_MAPPING_STYLE;
+    let mapping = yaml_document_add_mapping(&mut document, None, style)?;
+    let style = yaml_scalar_style_t::YAML_ANY_SCALAR_STYLE;
+    let key = yaml_document_add_scalar(&mut document, None, b"k", style)?;
+    let value = yaml_document_add_scalar(&mut document, Some(b"!t"), b"v", style)?;
+    yaml_document_append_mapping_pair(&mut document, mapping, key, value)?;
+    let pair = yaml_node_pair_t { key: 2, value: 3 };
+    assert!(rt; holds_mapping(&document, 1, b"tag:yaml.org,2002:map", pair));
+    assert!(rt; holds_scalar(&document, 3, b"!t", b"v"));
+    Ok(())
+}

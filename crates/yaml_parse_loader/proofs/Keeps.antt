@@ -1,0 +1,160 @@
+-- Every event leaves a document in the making sound, and the document that it ends is sound.
+use Rattle.std.proofs.Common.{◌≡◌, ◌≤◌, ℕ, suc, ℤ, pos, Bool, true, false, cond, List, [], ◌∷◌, ◌++◌, length, Option, Some, None, IsUtf8, IfSome, sym, subst, arith}
+use Rattle.std.specs.Ordering.{nat_cmp, eq_by_cmp}
+use Rattle.std.specs.Cmp.Lexicographic.{slice_cmp, nat_list_cmp_total}
+use Rattle.std.specs.FinMap as map
+use Rattle.yaml_scan.specs.declared.yaml_mark_t.{yaml_mark_t}
+use Rattle.yaml_parse_model.specs.Events.{EventBody}
+use Rattle.yaml_parse_model.specs.Events as event
+use Rattle.yaml_parse_model.specs.Constructors.{IsUtf8Option, HasUtf8}
+use Rattle.yaml_parse_model.specs.Nodes.{Node, NodeBody}
+use Rattle.yaml_parse_model.specs.Nodes as node
+use Rattle.yaml_parse_document.specs.Documents.{IsDocument, IsId, IsSoundBody, IsSoundNode, AreSound, change_place, str_tag, seq_tag, map_tag}
+use Rattle.yaml_parse_document.proofs.Sound.{wider_id, wider_ids, wider_pairs, with_node_sound, length_push, length_change, sound_change, sound_ids_push, sound_pairs_push, str_utf8, seq_utf8, map_utf8}
+use Rattle.yaml_parse_loader.specs.declared.anchors.Anchored.{Anchored}
+use Rattle.yaml_parse_loader.specs.Anchors.{Anchors}
+use Rattle.yaml_parse_loader.specs.Numbering.{Head, is_bang, loaded_tag, named, known_with}
+use Rattle.yaml_parse_loader.specs.Loading.{Open, open_sequence, open_mapping, Loading, nothing_loaded, attached, attach, next, with_leaf, with_open, filled, filled_body, place_of, closed, Fed, goes_on, loaded, refused, entered, aliased, head_of, enter, step_body}
+use Rattle.yaml_parse_loader.specs.Sound.{IsIdOption, IsSoundOpen, AreSoundOpen, AreAnchors, IsLoading}
+
+abbrev pub FedSound : Fed → Type 0
+FedSound (goes_on l) = IsLoading l
+FedSound (loaded d) = IsDocument d
+FedSound (refused f) = Unit {0}
+
+-- ---- more nodes
+
+wider_key : (m n : ℕ) (key : Option ℤ) → m ≤ n → IsIdOption m key → IsIdOption n key
+wider_key m n None h s = tt
+wider_key m n (Some id) h s = wider_id m n id h s
+
+wider_open : (m n : ℕ) (o : Open) → m ≤ n → IsSoundOpen m o → IsSoundOpen n o
+wider_open m n (open_sequence place items) h s = wider_ids m n items h s
+wider_open m n (open_mapping place pairs key) h s = (wider_pairs m n pairs h s.0, wider_key m n key h s.1)
+
+wider_levels : (m n : ℕ) (os : List Open) → m ≤ n → AreSoundOpen m os → AreSoundOpen n os
+wider_levels m n [] h s = tt
+wider_levels m n (o ∷ os) h s = (wider_open m n o h s.0, wider_levels m n os h s.1)
+
+pub wider_found : (m n : ℕ) (o : Option Anchored) → m ≤ n → IfSome o (λ a. IsId m a.number) → IfSome o (λ a. IsId n a.number)
+wider_found m n None h s = s
+wider_found m n (Some a) h s = wider_id m n a.number h s
+
+-- ---- numbers put where they belong
+
+attached_sound : (m : ℕ) (id : ℤ) (o : Open) → IsId m id → IsSoundOpen m o → IsSoundOpen m (attached id o)
+attached_sound m id (open_sequence place items) h s = sound_ids_push m items id s h
+attached_sound m id (open_mapping place pairs None) h s = (s.0, h)
+attached_sound m id (open_mapping place pairs (Some key)) h s = (sound_pairs_push m pairs _ s.0 (s.1, h), tt)
+
+attach_sound : (m : ℕ) (id : ℤ) (os : List Open) → IsId m id → AreSoundOpen m os → AreSoundOpen m (attach id os)
+attach_sound m id [] h s = tt
+attach_sound m id (o ∷ os) h s = (attached_sound m id o h s.0, s.1)
+
+-- ---- a node more
+
+last_id : (m : ℕ) → IsId (suc m) (pos (suc m))
+last_id m = omega arith
+
+leaf_sound : (l : Loading) (n : Node) (known : Anchors) → IsLoading l → IsSoundNode (length l.document.nodes) n → AreAnchors (suc (length l.document.nodes)) known
+    → IsLoading (with_leaf l n known)
+leaf_sound l n known s h a =
+    let grown : suc (length l.document.nodes) ≡ length (l.document.nodes ++ n ∷ []) = sym (length_push l.document.nodes n) in
+    record {
+      document = with_node_sound l.document n s.document h;
+      levels = subst (λ (k : ℕ). AreSoundOpen k (attach (next l) l.levels)) grown
+          (attach_sound _ (next l) l.levels (last_id _) (wider_levels _ _ l.levels (omega arith) s.levels));
+      anchors = subst (λ (k : ℕ). AreAnchors k known) grown a;
+    }
+
+open_sound : (l : Loading) (n : Node) (o : Open) (known : Anchors) → ((m : ℕ) → IsSoundOpen m o) → IsLoading (with_leaf l n known) → IsLoading (with_open l n o known)
+open_sound l n o known empty s = record { document = s.document; levels = (empty _, s.levels); anchors = s.anchors }
+
+-- ---- anchors
+
+pub inserted_sound : (m : ℕ) (b : Bool) (new : Anchored) (o : Option Anchored) → IsId m new.number → IfSome o (λ a. IsId m a.number) → IfSome (cond b (Some new) o) (λ a. IsId m a.number)
+inserted_sound m true new o h s = h
+inserted_sound m false new o h s = s
+
+named_sound : (m : ℕ) (name : List ℕ) (new : Anchored) (known : Anchors) (o : Option Anchored) (go : Anchors → Loading)
+    → ((ks : Anchors) → AreAnchors m ks → IsLoading (go ks)) → AreAnchors m known → IsId m new.number → FedSound (entered (named name new known o) go)
+named_sound m name new known None go goes s h =
+    goes _ (λ q. subst (λ (o : Option Anchored). IfSome o (λ a. IsId m a.number)) (sym (map.get-insert nat_list_cmp_total known name new q))
+    (inserted_sound m (eq_by_cmp (slice_cmp nat_cmp) q name) new (map.get known q) h (s q)))
+named_sound m name new known (Some first) go goes s h = tt
+
+entered_sound : (m : ℕ) (anchor : Option (List ℕ)) (new : Anchored) (known : Anchors) (go : Anchors → Loading)
+    → ((ks : Anchors) → AreAnchors m ks → IsLoading (go ks)) → AreAnchors m known → IsId m new.number → FedSound (entered (known_with anchor new known) go)
+entered_sound m None new known go goes s h = goes known s
+entered_sound m (Some name) new known go goes s h = named_sound m name new known (map.get known name) go goes s h
+
+node_sound : (l : Loading) (h : Head) (go : Anchors → Loading) → IsLoading l
+    → ((ks : Anchors) → AreAnchors (suc (length l.document.nodes)) ks → IsLoading (go ks)) → FedSound (entered (enter l h) go)
+node_sound l h go s goes =
+    entered_sound (suc (length l.document.nodes)) h.anchor _ l.anchors go goes
+    (λ q. wider_found _ _ (map.get l.anchors q) (omega arith) (s.anchors q)) (last_id _)
+
+-- ---- tags
+
+either_utf8 : (b : Bool) (x y : List ℕ) → IsUtf8 x → IsUtf8 y → IsUtf8 (cond b x y)
+either_utf8 true x y p q = p
+either_utf8 false x y p q = q
+
+loaded_utf8 : (tag : Option (List ℕ)) (default : List ℕ) → IsUtf8 default → IsUtf8Option tag → IsUtf8 (loaded_tag tag default)
+loaded_utf8 None default d h = d
+loaded_utf8 (Some tag) default d h = either_utf8 (is_bang tag) default tag d h
+
+-- ---- a collection's end
+
+filled_sound : (m : ℕ) (o : Open) (b : NodeBody) → IsSoundOpen m o → IsSoundBody m b → IsSoundBody m (filled_body o b)
+filled_sound m (open_sequence place items) node.no s h = h
+filled_sound m (open_sequence place items) (node.scalar value style) s h = h
+filled_sound m (open_sequence place items) (node.sequence none style) s h = s
+filled_sound m (open_sequence place items) (node.mapping none style) s h = h
+filled_sound m (open_mapping place pairs key) node.no s h = h
+filled_sound m (open_mapping place pairs key) (node.scalar value style) s h = h
+filled_sound m (open_mapping place pairs key) (node.sequence none style) s h = h
+filled_sound m (open_mapping place pairs key) (node.mapping none style) s h = s.0
+
+closed_sound : (to : yaml_mark_t) (l : Loading) (os : List Open) → IsLoading l → AreSoundOpen (length l.document.nodes) os → IsLoading (closed to l os)
+closed_sound to l [] s h = s
+closed_sound to l (o ∷ os) s h =
+    let same : length l.document.nodes ≡ length (change_place (filled o to) (place_of o) l.document.nodes) = sym (length_change _ _ _) in
+    record {
+      document = record {
+        directives = s.document.directives;
+        nodes = subst (λ (k : ℕ). AreSound k (change_place (filled o to) (place_of o) l.document.nodes)) same
+            (sound_change _ (filled o to) (place_of o) l.document.nodes (λ x t. (t.0, filled_sound _ o x.body h.0 t.1)) s.document.nodes);
+      };
+      levels = subst (λ (k : ℕ). AreSoundOpen k os) same h.1;
+      anchors = subst (λ (k : ℕ). AreAnchors k l.anchors) same s.anchors;
+    }
+
+-- ---- each event
+
+aliased_sound : (o : Option Anchored) (from : yaml_mark_t) (l : Loading) → IsLoading l → IfSome o (λ a. IsId (length l.document.nodes) a.number) → FedSound (aliased o from l)
+aliased_sound None from l s h = tt
+aliased_sound (Some a) from l s h = record { document = s.document; levels = attach_sound _ a.number l.levels h s.levels; anchors = s.anchors }
+
+pub no_anchors : (m : ℕ) → AreAnchors m map.empty
+no_anchors m name = subst (λ (o : Option Anchored). IfSome o (λ a. IsId m a.number)) (sym (map.get-empty (slice_cmp nat_cmp) name)) tt
+
+pub nothing_sound : IsLoading nothing_loaded
+nothing_sound = record { document = record { directives = tt; nodes = tt }; levels = tt; anchors = no_anchors 0 }
+
+pub step_sound : (b : EventBody) (from to : yaml_mark_t) (l : Loading) → IsLoading l → HasUtf8 b → FedSound (step_body b from to l)
+step_sound event.no from to l s h = s
+step_sound (event.stream_start encoding) from to l s h = s
+step_sound event.stream_end from to l s h = s
+step_sound (event.document_start version directives implicit) from to l s h =
+    record { document = record { directives = h; nodes = tt }; levels = tt; anchors = no_anchors 0 }
+step_sound (event.document_end implicit) from to l s h = record { directives = s.document.directives; nodes = s.document.nodes }
+step_sound (event.alias name) from to l s h = aliased_sound (map.get l.anchors name) from l s (s.anchors name)
+step_sound (event.scalar anchor tag value plain quoted style) from to l s h =
+    node_sound l (head_of anchor tag from to) _ s (λ ks a. leaf_sound l _ ks s (loaded_utf8 tag str_tag str_utf8 h.1, h.2) a)
+step_sound (event.sequence_start anchor tag implicit style) from to l s h =
+    node_sound l (head_of anchor tag from to) _ s (λ ks a. open_sound l _ _ ks (λ m. tt) (leaf_sound l _ ks s (loaded_utf8 tag seq_tag seq_utf8 h.1, tt) a))
+step_sound event.sequence_end from to l s h = closed_sound to l l.levels s s.levels
+step_sound (event.mapping_start anchor tag implicit style) from to l s h =
+    node_sound l (head_of anchor tag from to) _ s (λ ks a. open_sound l _ _ ks (λ m. (tt, tt)) (leaf_sound l _ ks s (loaded_utf8 tag map_tag map_utf8 h.1, tt) a))
+step_sound event.mapping_end from to l s h = closed_sound to l l.levels s s.levels

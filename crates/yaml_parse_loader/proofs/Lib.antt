@@ -1,0 +1,5 @@
+pub mod Found
+pub mod Keeps
+pub mod Loads
+pub mod Steps
+pub mod Visited

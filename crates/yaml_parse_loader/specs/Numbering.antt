@@ -1,0 +1,204 @@
+-- A document's nodes, numbered in preorder from 1, and the number that each alias stands for.
+use Rattle.std.specs.Prelude.{ℕ, suc, ℤ, pos, ◌+◌, ◌==◌, Bool, false, cond, List, [], ◌∷◌, ◌++◌, length, Option, Some, None, Result, Ok, Err, codes}
+use Rattle.std.specs.FinMap as map
+use Rattle.yaml_scan.specs.declared.yaml_mark_t.{yaml_mark_t}
+use Rattle.yaml_scan.specs.declared.yaml_version_directive_t.{yaml_version_directive_t}
+use Rattle.yaml_scan.specs.declared.yaml_scalar_style_t.{yaml_scalar_style_t}
+use Rattle.yaml_scan.specs.declared.yaml_sequence_style_t.{yaml_sequence_style_t}
+use Rattle.yaml_scan.specs.declared.yaml_mapping_style_t.{yaml_mapping_style_t}
+use Rattle.yaml_scan.specs.declared.yaml_error_type_t.TheVariants.{YAML_COMPOSER_ERROR}
+use Rattle.yaml_scan.specs.declared.yaml_origin_t.TheVariants.{Loader}
+use Rattle.yaml_scan.specs.Tokens.{zero_mark}
+use Rattle.yaml_scan.specs.Faults.{Fault}
+use Rattle.yaml_parse_model.specs.declared.yaml_node_pair_t.{yaml_node_pair_t}
+use Rattle.yaml_parse_model.specs.Events.{Event, TagDirective}
+use Rattle.yaml_parse_model.specs.Events as event
+use Rattle.yaml_parse_model.specs.Nodes.{Node, NodeBody}
+use Rattle.yaml_parse_model.specs.Nodes as node
+use Rattle.yaml_parse_document.specs.Documents.{Document, str_tag, seq_tag, map_tag}
+use Rattle.yaml_parse_loader.specs.declared.anchors.Anchored.{Anchored}
+use Rattle.yaml_parse_loader.specs.Anchors.{Anchors}
+
+-- ---- the content of a document, as a tree, and its events
+
+-- what a node's first event carries: its properties, and where it stands
+pub record Head : Type 0 where
+  pub anchor : Option (List ℕ)
+  pub tag : Option (List ℕ)
+  pub start_mark : yaml_mark_t
+  pub end_mark : yaml_mark_t
+
+-- where a closing event stands
+pub record Span : Type 0 where
+  pub start_mark : yaml_mark_t
+  pub end_mark : yaml_mark_t
+
+mutual
+  pub data Content : Type 0 where
+    alias : List ℕ → Span → Content
+    -- head, value, plain-implicit, quoted-implicit, style
+    scalar : Head → List ℕ → Bool → Bool → yaml_scalar_style_t → Content
+    -- head, implicit, style, items, closing event
+    sequence : Head → Bool → yaml_sequence_style_t → Contents → Span → Content
+    mapping : Head → Bool → yaml_mapping_style_t → Pairs → Span → Content
+
+  pub data Contents : Type 0 where
+    no_items : Contents
+    item : Content → Contents → Contents
+
+  pub data Pairs : Type 0 where
+    no_pairs : Pairs
+    pair : Content → Content → Pairs → Pairs
+
+abbrev pub spanning : event.EventBody → yaml_mark_t → yaml_mark_t → Event
+spanning body from to = record { body = body; start_mark = from; end_mark = to }
+
+-- the events of content, in front of others
+abbrev mutual
+  pub events : Content → List Event → List Event
+  events (alias name at) rest = spanning (event.alias name) at.start_mark at.end_mark ∷ rest
+  events (scalar h value plain quoted style) rest = spanning (event.scalar h.anchor h.tag value plain quoted style) h.start_mark h.end_mark ∷ rest
+  events (sequence h implicit style items at) rest =
+      spanning (event.sequence_start h.anchor h.tag implicit style) h.start_mark h.end_mark
+      ∷ item_events items (spanning event.sequence_end at.start_mark at.end_mark ∷ rest)
+  events (mapping h implicit style pairs at) rest =
+      spanning (event.mapping_start h.anchor h.tag implicit style) h.start_mark h.end_mark
+      ∷ pair_events pairs (spanning event.mapping_end at.start_mark at.end_mark ∷ rest)
+
+  pub item_events : Contents → List Event → List Event
+  item_events no_items rest = rest
+  item_events (item c more) rest = events c (item_events more rest)
+
+  pub pair_events : Pairs → List Event → List Event
+  pair_events no_pairs rest = rest
+  pair_events (pair key value more) rest = events key (events value (pair_events more rest))
+
+-- ---- tags and faults
+
+-- the tag `!`
+abbrev pub is_bang : List ℕ → Bool
+is_bang [] = false
+is_bang (c ∷ []) = c == 33
+is_bang (c ∷ d ∷ more) = false
+
+-- no tag and `!` become the default tag
+abbrev pub loaded_tag : Option (List ℕ) → List ℕ → List ℕ
+loaded_tag None default = default
+loaded_tag (Some tag) default = cond (is_bang tag) default tag
+
+-- a fault of the loader
+abbrev pub composer_fault : List ℕ → yaml_mark_t → Option (List ℕ) → yaml_mark_t → Fault
+composer_fault problem at context from = record {
+  kind = YAML_COMPOSER_ERROR;
+  problem = problem;
+  offset = 0;
+  number = pos 0;
+  problem_mark = at;
+  context = context;
+  context_mark = from;
+  origin = Loader;
+}
+
+abbrev pub undefined_alias : yaml_mark_t → Fault
+undefined_alias at = composer_fault (codes "found undefined alias") at None zero_mark
+
+abbrev pub second_occurrence : yaml_mark_t → yaml_mark_t → Fault
+second_occurrence first at = composer_fault (codes "second occurrence") at (Some (codes "found duplicate anchor")) first
+
+-- ---- numbers
+
+infixl 10 ◌>>=◌
+abbrev pub ◌>>=◌ : {A B : Type 0} → Result A Fault → (A → Result B Fault) → Result B Fault
+(Ok x) >>= f = f x
+(Err e) >>= f = Err e
+
+abbrev pub anchored : ℤ → yaml_mark_t → Anchored
+anchored number mark = record { number = number; mark = mark }
+
+-- an anchor names the node that has it from the node's first event on; a second node with it is refused
+abbrev pub named : List ℕ → Anchored → Anchors → Option Anchored → Result Anchors Fault
+named name new known None = Ok (map.insert known name new)
+named name new known (Some first) = Err (second_occurrence first.mark new.mark)
+
+abbrev pub known_with : Option (List ℕ) → Anchored → Anchors → Result Anchors Fault
+known_with None new known = Ok known
+known_with (Some name) new known = named name new known (map.get known name)
+
+-- the number that stands for a node, its own nodes in preorder, and the anchors known behind it
+pub record Numbered (A : Type 0) : Type 0 where
+  pub number : A
+  pub nodes : List Node
+  pub known : Anchors
+
+-- an alias stands for the last node before it with its anchor, an enclosing one too
+abbrev pub alias_number : Option Anchored → yaml_mark_t → Anchors → Result (Numbered ℤ) Fault
+alias_number None at known = Err (undefined_alias at)
+alias_number (Some a) at known = Ok (record { number = a.number; nodes = []; known = known })
+
+abbrev pub scalar_node : Head → List ℕ → yaml_scalar_style_t → Node
+scalar_node h value style = record { body = node.scalar value style; tag = loaded_tag h.tag str_tag; start_mark = h.start_mark; end_mark = h.end_mark }
+
+abbrev pub sequence_node : Head → List ℤ → yaml_sequence_style_t → yaml_mark_t → Node
+sequence_node h items style to = record { body = node.sequence items style; tag = loaded_tag h.tag seq_tag; start_mark = h.start_mark; end_mark = to }
+
+abbrev pub mapping_node : Head → List yaml_node_pair_t → yaml_mapping_style_t → yaml_mark_t → Node
+mapping_node h pairs style to = record { body = node.mapping pairs style; tag = loaded_tag h.tag map_tag; start_mark = h.start_mark; end_mark = to }
+
+-- content behind that many nodes and those anchors, numbered; or its first fault
+unfoldable mutual
+  pub number : Content → ℕ → Anchors → Result (Numbered ℤ) Fault
+  number (alias name at) count known = alias_number (map.get known name) at.start_mark known
+  number (scalar h value plain quoted style) count known =
+      known_with h.anchor (anchored (pos (suc count)) h.start_mark) known >>= λ ks.
+      Ok (record { number = pos (suc count); nodes = scalar_node h value style ∷ []; known = ks })
+  number (sequence h implicit style items at) count known =
+      known_with h.anchor (anchored (pos (suc count)) h.start_mark) known >>= λ ks.
+      number_items items (suc count) ks >>= λ r.
+      Ok (record { number = pos (suc count); nodes = sequence_node h r.number style at.end_mark ∷ r.nodes; known = r.known })
+  number (mapping h implicit style pairs at) count known =
+      known_with h.anchor (anchored (pos (suc count)) h.start_mark) known >>= λ ks.
+      number_pairs pairs (suc count) ks >>= λ r.
+      Ok (record { number = pos (suc count); nodes = mapping_node h r.number style at.end_mark ∷ r.nodes; known = r.known })
+
+  pub number_items : Contents → ℕ → Anchors → Result (Numbered (List ℤ)) Fault
+  number_items no_items count known = Ok (record { number = []; nodes = []; known = known })
+  number_items (item c more) count known =
+      number c count known >>= λ r. number_items more (count + length r.nodes) r.known >>= λ s.
+      Ok (record { number = r.number ∷ s.number; nodes = r.nodes ++ s.nodes; known = s.known })
+
+  pub number_pairs : Pairs → ℕ → Anchors → Result (Numbered (List yaml_node_pair_t)) Fault
+  number_pairs no_pairs count known = Ok (record { number = []; nodes = []; known = known })
+  number_pairs (pair key value more) count known =
+      number key count known >>= λ r. number value (count + length r.nodes) r.known >>= λ s.
+      number_pairs more (count + length r.nodes + length s.nodes) s.known >>= λ t.
+      let p : yaml_node_pair_t = record { key = r.number; value = s.number } in
+      Ok (record { number = p ∷ t.number; nodes = r.nodes ++ (s.nodes ++ t.nodes); known = t.known })
+
+-- ---- documents
+
+-- the content of one document: what its first event carries, its root, what its last event carries
+pub record DocumentContent : Type 0 where
+  pub version : Option yaml_version_directive_t
+  pub directives : List TagDirective
+  pub start_implicit : Bool
+  pub start_at : Span
+  pub root : Content
+  pub end_implicit : Bool
+  pub end_at : Span
+
+abbrev pub document_events : DocumentContent → List Event → List Event
+document_events d rest =
+    spanning (event.document_start d.version d.directives d.start_implicit) d.start_at.start_mark d.start_at.end_mark
+    ∷ events d.root (spanning (event.document_end d.end_implicit) d.end_at.start_mark d.end_at.end_mark ∷ rest)
+
+-- the loaded document of content, or the content's first fault
+abbrev pub document_of : DocumentContent → Result Document Fault
+document_of d = number d.root 0 map.empty >>= λ r. Ok (record {
+  version = d.version;
+  directives = d.directives;
+  start_implicit = d.start_implicit;
+  end_implicit = d.end_implicit;
+  start_mark = d.start_at.start_mark;
+  end_mark = d.end_at.end_mark;
+  nodes = r.nodes;
+})

@@ -1,0 +1,14 @@
+//! The loader: makes a document of a parser's events.
+#![tactic(auto)]
+
+mod anchors;
+mod law;
+mod loader;
+mod making;
+
+pub use anchors::Anchored;
+pub use law::{loads_documents, numbers_follow_visits};
+pub use loader::Loader;
+
+#[cfg(test)]
+mod tests;

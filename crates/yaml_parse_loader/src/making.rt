@@ -1,0 +1,490 @@
+//! A document in the making, and what an event makes of it.
+
+ghost use Rattle.std.specs.Prelude.{◌≡◌, ◌<◌, ◌⊎◌, ◌++◌, ◌∷◌, [], pos, suc, length, map, reverse, Option, Ok, Err, MatchResult, OnOk};
+ghost use Rattle.yaml_scan.specs.Faults.{fault_of, IsMemoryFault};
+ghost use Rattle.yaml_parse_model.specs.Events.{event_of, text_of, directive_of};
+ghost use Rattle.yaml_parse_model.specs.Nodes.{node_of};
+ghost use Rattle.yaml_parse_document.specs.Documents.{str_tag};
+ghost use Rattle.yaml_parse_loader.specs.Numbering.{is_bang, loaded_tag, scalar_node, sequence_node, mapping_node, anchored, undefined_alias, second_occurrence, known_with};
+ghost use Rattle.yaml_parse_loader.specs.Loading.{attach, attached, nothing_loaded, next, with_leaf, with_open, entered, enter, head_of, goes_on, refused, aliased, closed, place_of, filled, filled_body, started, step, Applies, Goes};
+ghost use Rattle.yaml_parse_loader.specs.Views.{level_of, levels_of, loading_of, properties_of};
+ghost use Rattle.yaml_parse_loader.specs.Loading.{open_sequence, open_mapping};
+ghost use Rattle.std.specs.FinMap as finite;
+
+use crate::anchors::{AnchorTable, Anchored};
+use std::alloc::Global;
+use yaml_parse_document::{DocumentParts, MAX_ENTRIES, push_entry};
+use yaml_parse_model::{
+    yaml_event_body_t, yaml_event_t, yaml_node_body_t, yaml_node_pair_t, yaml_node_t,
+};
+use yaml_scan::{
+    yaml_error_type_t, yaml_fault_t, yaml_mapping_style_t, yaml_mark_t, yaml_memory_fault,
+    yaml_origin_t, yaml_scalar_style_t, yaml_sequence_style_t, yaml_tag_directive_t,
+    yaml_version_directive_t,
+};
+
+/// An open collection: the place of its node, and what it holds so far. A mapping may have a key without its value.
+#[derive(Drop)]
+pub enum Level {
+    Sequence {
+        place: usize,
+        items: Vec<i32>,
+    },
+    Mapping {
+        place: usize,
+        pairs: Vec<yaml_node_pair_t>,
+        key: Option<i32>,
+    },
+}
+
+/// The document so far, in which open collections are empty yet; the open collections, the innermost last; the
+/// anchors.
+#[derive(Drop)]
+pub struct Making {
+    pub parts: DocumentParts,
+    pub levels: Vec<Level>,
+    pub anchors: AnchorTable,
+}
+
+// A growth was refused.
+fn out_of_memory() -> yaml_fault_t
+    ensures { IsMemoryFault result }
+{
+    yaml_memory_fault(yaml_origin_t::Loader)
+}
+
+// An alias that no node before it anchors.
+fn undefined_alias_fault(at: yaml_mark_t) -> yaml_fault_t
+    ensures { fault_of result ≡ undefined_alias at }
+{
+    yaml_fault_t {
+        kind: yaml_error_type_t::YAML_COMPOSER_ERROR,
+        problem: "found undefined alias",
+        offset: 0,
+        value: 0,
+        problem_mark: at,
+        context: None,
+        context_mark: yaml_mark_t {
+            index: 0,
+            line: 0,
+            column: 0,
+        },
+        origin: yaml_origin_t::Loader,
+    }
+}
+
+// A second node with an anchor.
+fn second_occurrence_fault(first: yaml_mark_t, at: yaml_mark_t) -> yaml_fault_t
+    ensures { fault_of result ≡ second_occurrence first at }
+{
+    yaml_fault_t {
+        kind: yaml_error_type_t::YAML_COMPOSER_ERROR,
+        problem: "second occurrence",
+        offset: 0,
+        value: 0,
+        problem_mark: at,
+        context: Some("found duplicate anchor"),
+        context_mark: first,
+        origin: yaml_origin_t::Loader,
+    }
+}
+
+// No tag and the tag `!` become the default tag.
+fn tag_or_default(
+    alloc: Global,
+    tag: Option<Vec<u8>>,
+    default: &[u8],
+) -> Result<Vec<u8>, yaml_fault_t>
+    ensures { MatchResult result (λ t. t.items ≡ loaded_tag (text_of tag) default.now) (λ f. IsMemoryFault f) }
+{
+    match tag {
+        Some(tag) if !is_lone_bang(&tag) => Ok(tag),
+        _ => match Vec::from_slice(alloc, default) {
+            Ok(copy) => Ok(copy),
+            Err(_) => Err(out_of_memory()),
+        },
+    }
+}
+
+// Whether the tag is `!`.
+fn is_lone_bang(tag: &[u8]) -> bool
+    ensures { result ≡ is_bang tag.now }
+{
+    tag.len() == 1 && tag[0] == b'!'
+}
+
+// Notes that a node has an anchor. A second node with the same anchor is refused.
+fn register(
+    anchors: &mut AnchorTable,
+    anchor: Option<Vec<u8>>,
+    node: Anchored,
+) -> Result<(), yaml_fault_t>
+    ensures { MatchResult result
+        (λ _. known_with (text_of anchor) node anchors.old ≡ Ok anchors.new)
+        (λ f. IsMemoryFault f ⊎ (known_with (text_of anchor) node anchors.old ≡ Err (fault_of f))) }
+{
+    let Some(name) = anchor else {
+        return Ok(());
+    };
+    if let Some(first) = anchors.get(&name) {
+        return Err(second_occurrence_fault(first.mark, node.mark));
+    }
+    match anchors.insert(name, node) {
+        Ok(()) => Ok(()),
+        Err(_) => Err(out_of_memory()),
+    }
+}
+
+// A list of a document with one entry more.
+fn extend<T: Drop>(entries: &mut Vec<T>, entry: T) -> Result<(), yaml_fault_t>
+    ensures { MatchResult result
+        (λ _. (entries.new.items ≡ entries.old.items ++ entry ∷ []) × (length entries.old.items < 2147483647))
+        (λ f. IsMemoryFault f) }
+{
+    match push_entry(entries, entry) {
+        Ok(()) => Ok(()),
+        Err(_) => Err(out_of_memory()),
+    }
+}
+
+// A node's number becomes the next item, key or value of a collection.
+fn attach_to(level: &mut Level, number: i32) -> Result<(), yaml_fault_t>
+    ensures { MatchResult result (λ _. level_of level.new ≡ attached number (level_of level.old)) (λ f. IsMemoryFault f) }
+{
+    match level {
+        Level::Sequence { items, .. } => extend(items, number),
+        Level::Mapping { pairs, key, .. } => match key.take() {
+            None => {
+                *key = Some(number);
+                Ok(())
+            }
+            Some(first) => extend(
+                pairs,
+                yaml_node_pair_t {
+                    key: first,
+                    value: number,
+                },
+            ),
+        },
+    }
+}
+
+// A node's number becomes the next item, key or value of the innermost open collection.
+fn attach(levels: &mut Vec<Level>, number: i32) -> Result<(), yaml_fault_t>
+    ensures { MatchResult result (λ _. levels_of levels.new.items ≡ attach number (levels_of levels.old.items)) (λ f. IsMemoryFault f) }
+{
+    let Some(mut level) = levels.pop() else {
+        return Ok(());
+    };
+    attach_to(&mut level, number)?;
+    match levels.push(level) {
+        Ok(()) => Ok(()),
+        Err(_) => Err(out_of_memory()),
+    }
+}
+
+// What a collection holds, and its end.
+fn fill(node: &mut yaml_node_t, level: Level, end_mark: yaml_mark_t)
+    ensures { node_of node.new ≡ filled (level_of level) end_mark (node_of node.old) }
+{
+    node.end_mark = end_mark;
+    match level {
+        Level::Sequence { place: _, items } => {
+            if let yaml_node_body_t::Sequence { items: held, .. } = &mut node.body {
+                *held = items;
+            }
+        }
+        Level::Mapping {
+            place: _,
+            pairs,
+            key: _,
+        } => {
+            if let yaml_node_body_t::Mapping { pairs: held, .. } = &mut node.body {
+                *held = pairs;
+            }
+        }
+    }
+}
+
+impl Level {
+    // The place of its node.
+    fn place(&self) -> usize
+        ensures { result ≡ place_of (level_of self.now) }
+    {
+        match self {
+            Level::Sequence { place, .. } => *place,
+            Level::Mapping { place, .. } => *place,
+        }
+    }
+}
+
+/// A node's properties, and where its first event stands.
+#[derive(Drop)]
+pub struct Properties {
+    pub anchor: Option<Vec<u8>>,
+    pub tag: Option<Vec<u8>>,
+    pub start_mark: yaml_mark_t,
+    pub end_mark: yaml_mark_t,
+}
+
+impl Making {
+    /// Nothing is loaded yet.
+    pub fn new(alloc: Global) -> Making
+        ensures { loading_of result ≡ nothing_loaded }
+    {
+        let zero = yaml_mark_t {
+            index: 0,
+            line: 0,
+            column: 0,
+        };
+        Making {
+            parts: DocumentParts {
+                version_directive: None,
+                tag_directives: Vec::new(alloc),
+                start_implicit: false,
+                end_implicit: false,
+                start_mark: zero,
+                end_mark: zero,
+                nodes: Vec::new(alloc),
+                alloc,
+            },
+            levels: Vec::new(alloc),
+            anchors: AnchorTable::new(alloc),
+        }
+    }
+
+    // A document begins; what was loaded before is let go.
+    fn start(
+        &mut self,
+        version_directive: Option<yaml_version_directive_t>,
+        tag_directives: Vec<yaml_tag_directive_t>,
+        start_implicit: bool,
+        start_mark: yaml_mark_t,
+    )
+        ensures { loading_of self.new ≡ started version_directive (map directive_of tag_directives.items) start_implicit start_mark }
+    {
+        *self = Making::new(self.parts.alloc);
+        self.parts.version_directive = version_directive;
+        self.parts.tag_directives = tag_directives;
+        self.parts.start_implicit = start_implicit;
+        self.parts.start_mark = start_mark;
+    }
+
+    // An alias stands for the last node that has its anchor.
+    fn alias(&mut self, name: &[u8], at: yaml_mark_t) -> Result<(), yaml_fault_t>
+        ensures { Goes (aliased (finite.get (loading_of self.old).anchors name.now) at (loading_of self.old)) result (loading_of self.new) }
+    {
+        match self.anchors.get(name) {
+            None => Err(undefined_alias_fault(at)),
+            Some(node) => attach(&mut self.levels, node.number),
+        }
+    }
+
+    // One node more: its anchor is noted, and the collection round it gets its number.
+    fn add(&mut self, anchor: Option<Vec<u8>>, node: yaml_node_t) -> Result<(), yaml_fault_t>
+        ensures { Goes (entered (known_with (text_of anchor) (anchored (next (loading_of self.old)) node.start_mark) (loading_of self.old).anchors)
+            (with_leaf (loading_of self.old) (node_of node))) result (loading_of self.new) }
+    {
+        let count = self.parts.nodes.len();
+        if count >= MAX_ENTRIES {
+            return Err(out_of_memory());
+        }
+        let number = (count + 1) as i32;
+        let mark = node.start_mark;
+        register(&mut self.anchors, anchor, Anchored { number, mark })?;
+        extend(&mut self.parts.nodes, node)?;
+        attach(&mut self.levels, number)
+    }
+
+    // One node more, which is open.
+    fn open(
+        &mut self,
+        anchor: Option<Vec<u8>>,
+        node: yaml_node_t,
+        level: Level,
+    ) -> Result<(), yaml_fault_t>
+        ensures { Goes (entered (known_with (text_of anchor) (anchored (next (loading_of self.old)) node.start_mark) (loading_of self.old).anchors)
+            (with_open (loading_of self.old) (node_of node) (level_of level))) result (loading_of self.new) }
+    {
+        self.add(anchor, node)?;
+        match self.levels.push(level) {
+            Ok(()) => Ok(()),
+            Err(_) => Err(out_of_memory()),
+        }
+    }
+
+    // The innermost open collection gets what it holds, and its end.
+    fn close(&mut self, end_mark: yaml_mark_t)
+        ensures { loading_of self.new ≡ closed end_mark (loading_of self.old) (loading_of self.old).levels }
+    {
+        let Some(level) = self.levels.pop() else {
+            return;
+        };
+        let place = level.place();
+        if place < self.parts.nodes.len() {
+            fill(&mut self.parts.nodes[place], level, end_mark);
+        }
+    }
+
+    // A scalar.
+    fn scalar(
+        &mut self,
+        head: Properties,
+        value: Vec<u8>,
+        style: yaml_scalar_style_t,
+    ) -> Result<(), yaml_fault_t>
+        ensures { Goes (entered (enter (loading_of self.old) (properties_of head)) (with_leaf (loading_of self.old) (scalar_node (properties_of head) value.items style))) result (loading_of self.new) }
+    {
+        let Properties {
+            anchor,
+            tag,
+            start_mark,
+            end_mark,
+        } = head;
+        let tag = tag_or_default(self.parts.alloc, tag, b"tag:yaml.org,2002:str")?;
+        let node = yaml_node_t {
+            body: yaml_node_body_t::Scalar { value, style },
+            tag,
+            start_mark,
+            end_mark,
+        };
+        self.add(anchor, node)
+    }
+
+    // A sequence begins.
+    fn sequence(
+        &mut self,
+        head: Properties,
+        style: yaml_sequence_style_t,
+    ) -> Result<(), yaml_fault_t>
+        ensures { Goes (entered (enter (loading_of self.old) (properties_of head)) (with_open (loading_of self.old) (sequence_node (properties_of head) [] style head.end_mark)
+            (open_sequence (length (loading_of self.old).document.nodes) []))) result (loading_of self.new) }
+    {
+        let Properties {
+            anchor,
+            tag,
+            start_mark,
+            end_mark,
+        } = head;
+        let alloc = self.parts.alloc;
+        let tag = tag_or_default(alloc, tag, b"tag:yaml.org,2002:seq")?;
+        let items = Vec::new(alloc);
+        let node = yaml_node_t {
+            body: yaml_node_body_t::Sequence { items, style },
+            tag,
+            start_mark,
+            end_mark,
+        };
+        let place = self.parts.nodes.len();
+        let gathered = Vec::new(alloc);
+        let level = Level::Sequence {
+            place,
+            items: gathered,
+        };
+        self.open(anchor, node, level)
+    }
+
+    // A mapping begins.
+    fn mapping(&mut self, head: Properties, style: yaml_mapping_style_t) -> Result<(), yaml_fault_t>
+        ensures { Goes (entered (enter (loading_of self.old) (properties_of head)) (with_open (loading_of self.old) (mapping_node (properties_of head) [] style head.end_mark)
+            (open_mapping (length (loading_of self.old).document.nodes) [] None))) result (loading_of self.new) }
+    {
+        let Properties {
+            anchor,
+            tag,
+            start_mark,
+            end_mark,
+        } = head;
+        let alloc = self.parts.alloc;
+        let tag = tag_or_default(alloc, tag, b"tag:yaml.org,2002:map")?;
+        let pairs = Vec::new(alloc);
+        let node = yaml_node_t {
+            body: yaml_node_body_t::Mapping { pairs, style },
+            tag,
+            start_mark,
+            end_mark,
+        };
+        let place = self.parts.nodes.len();
+        let gathered = Vec::new(alloc);
+        let level = Level::Mapping {
+            place,
+            pairs: gathered,
+            key: None,
+        };
+        self.open(anchor, node, level)
+    }
+
+    /// What the event makes of the document; true where the document is whole.
+    pub fn apply(&mut self, event: yaml_event_t) -> Result<bool, yaml_fault_t>
+        ensures { Applies (step (event_of event) (loading_of self.old)) result (loading_of self.new) }
+    {
+        let yaml_event_t {
+            body,
+            start_mark,
+            end_mark,
+        } = event;
+        match body {
+            yaml_event_body_t::DocumentStart {
+                version_directive,
+                tag_directives,
+                implicit,
+            } => self.start(version_directive, tag_directives, implicit, start_mark),
+            yaml_event_body_t::DocumentEnd { implicit } => {
+                self.parts.end_implicit = implicit;
+                self.parts.end_mark = end_mark;
+                return Ok(true);
+            }
+            yaml_event_body_t::Alias { anchor } => self.alias(&anchor, start_mark)?,
+            yaml_event_body_t::Scalar {
+                anchor,
+                tag,
+                value,
+                plain_implicit: _,
+                quoted_implicit: _,
+                style,
+            } => {
+                let head = Properties {
+                    anchor,
+                    tag,
+                    start_mark,
+                    end_mark,
+                };
+                self.scalar(head, value, style)?;
+            }
+            yaml_event_body_t::SequenceStart {
+                anchor,
+                tag,
+                implicit: _,
+                style,
+            } => {
+                let head = Properties {
+                    anchor,
+                    tag,
+                    start_mark,
+                    end_mark,
+                };
+                self.sequence(head, style)?;
+            }
+            yaml_event_body_t::MappingStart {
+                anchor,
+                tag,
+                implicit: _,
+                style,
+            } => {
+                let head = Properties {
+                    anchor,
+                    tag,
+                    start_mark,
+                    end_mark,
+                };
+                self.mapping(head, style)?;
+            }
+            yaml_event_body_t::SequenceEnd => self.close(end_mark),
+            yaml_event_body_t::MappingEnd => self.close(end_mark),
+            yaml_event_body_t::No => {}
+            yaml_event_body_t::StreamStart { encoding: _ } => {}
+            yaml_event_body_t::StreamEnd => {}
+        }
+        Ok(false)
+    }
+}

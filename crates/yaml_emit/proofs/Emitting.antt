@@ -216,3 +216,17 @@ inside_stays i f e inv is =
       completes = λ x es whole c. stopped_completes (emitter_of i) (fault_of f) x (e ∷ es) es whole fr (sym inv.faulty ∙ some) c;
       wishes = refl; limit = refl; begun = fr;
     }
+
+-- that the stream was opened or closed is noted
+pub given_marked : (old : Emitter) (e : Event) (i : Inside) (o k : Bool) → Given old e (emitter_of i)
+    → Given old e (record { wishes = i.wishes; limit = i.limit; core = i.core; held = i.held; fresh = i.fresh; opened = o; closed = k; fault = option_map fault_of i.fault })
+unfolding Completes
+given_marked old e i o k g = record {
+  completes = λ x es whole c.
+      let n : Emitter = record { wishes = i.wishes; limit = i.limit; core = i.core; held = i.held; fresh = i.fresh; opened = o; closed = k; fault = option_map fault_of i.fault } in
+      let P : Bool → Type 0 = λ z. CompletesBy z (emitter_of i) x es whole in
+      let Q : Bool → Type 0 = λ z. CompletesBy z n x es whole in
+      let done : CompletesBy false (emitter_of i) x es whole = subst P g.begun (g.completes x es whole c) in
+      subst Q (sym g.begun) (done.0, done.1);
+  wishes = g.wishes; limit = g.limit; begun = g.begun;
+}

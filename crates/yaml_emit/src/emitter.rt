@@ -7,6 +7,10 @@ ghost use Rattle.yaml_parse_model.specs.Constructors.{HasUtf8};
 ghost use Rattle.yaml_emit_layout.specs.Content.{said};
 ghost use Rattle.yaml_emit.specs.Emitter.{stream_encoding, IsNew, ShowsFront, IsWhole, Given, Begins, Answers, Stays};
 
+mod dump;
+
+pub use dump::{yaml_emitter_close, yaml_emitter_dump, yaml_emitter_open};
+
 use crate::fault::refusal;
 use crate::held::Held;
 use crate::release::give;

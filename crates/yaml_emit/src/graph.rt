@@ -66,7 +66,10 @@ fn anchor_of(alloc: Global, number: Option<u64>) -> Result<Option<Vec<u8>>, Allo
     }
 }
 
-fn copies(alloc: Global, directives: &[yaml_tag_directive_t]) -> Result<Vec<yaml_tag_directive_t>, AllocError> {
+fn copies(
+    alloc: Global,
+    directives: &[yaml_tag_directive_t],
+) -> Result<Vec<yaml_tag_directive_t>, AllocError> {
     let mut copies = Vec::new(alloc);
     for directive in directives {
         let handle = Vec::from_slice(alloc, &directive.handle)?;
@@ -76,7 +79,13 @@ fn copies(alloc: Global, directives: &[yaml_tag_directive_t]) -> Result<Vec<yaml
     Ok(copies)
 }
 
-fn scalar_event(alloc: Global, anchor: Option<Vec<u8>>, tag: &[u8], value: &[u8], style: yaml_scalar_style_t) -> Result<yaml_event_body_t, AllocError> {
+fn scalar_event(
+    alloc: Global,
+    anchor: Option<Vec<u8>>,
+    tag: &[u8],
+    value: &[u8],
+    style: yaml_scalar_style_t,
+) -> Result<yaml_event_body_t, AllocError> {
     let plain = tag == b"tag:yaml.org,2002:str".as_slice();
     Ok(yaml_event_body_t::Scalar {
         anchor,
@@ -89,10 +98,16 @@ fn scalar_event(alloc: Global, anchor: Option<Vec<u8>>, tag: &[u8], value: &[u8]
 }
 
 // The event of a node that is written for the first time.
-fn node_event(alloc: Global, node: &yaml_node_t, anchor: Option<Vec<u8>>) -> Result<yaml_event_body_t, AllocError> {
+fn node_event(
+    alloc: Global,
+    node: &yaml_node_t,
+    anchor: Option<Vec<u8>>,
+) -> Result<yaml_event_body_t, AllocError> {
     match &node.body {
         yaml_node_body_t::No => Ok(yaml_event_body_t::No),
-        yaml_node_body_t::Scalar { value, style } => scalar_event(alloc, anchor, &node.tag, value, *style),
+        yaml_node_body_t::Scalar { value, style } => scalar_event(
+            alloc, anchor, &node.tag, value, *style,
+        ),
         yaml_node_body_t::Sequence { style, .. } => Ok(yaml_event_body_t::SequenceStart {
             anchor,
             tag: Some(Vec::from_slice(alloc, &node.tag)?),
@@ -140,7 +155,11 @@ impl Events {
         })
     }
 
-    fn visit(&mut self, document: &yaml_document_t, id: i32) -> Result<yaml_event_body_t, AllocError> {
+    fn visit(
+        &mut self,
+        document: &yaml_document_t,
+        id: i32,
+    ) -> Result<yaml_event_body_t, AllocError> {
         match self.shares.take(id) {
             Turn::Again(number) => Ok(yaml_event_body_t::Alias {
                 anchor: name_of(self.alloc, number)?,
@@ -168,11 +187,16 @@ impl Events {
             }
         }
         self.place = Place::End;
-        Ok(yaml_event_body_t::DocumentEnd { implicit: document.end_implicit() })
+        Ok(yaml_event_body_t::DocumentEnd {
+            implicit: document.end_implicit(),
+        })
     }
 
     /// The next event; none behind the document's end.
-    pub fn next(&mut self, document: &yaml_document_t) -> Result<Option<yaml_event_body_t>, AllocError> {
+    pub fn next(
+        &mut self,
+        document: &yaml_document_t,
+    ) -> Result<Option<yaml_event_body_t>, AllocError> {
         match self.place {
             Place::Start => Ok(Some(self.start(document)?)),
             Place::Root => {

@@ -35,7 +35,10 @@ impl Shares {
     /// The visits of a walk over a document: from the root in preorder, a pair's key before its value, descending only at
     /// the first visit.
     pub fn of(alloc: Global, document: &yaml_document_t) -> Result<Shares, AllocError> {
-        let mut shares = Shares { visits: Vec::new(alloc), shared: 0 };
+        let mut shares = Shares {
+            visits: Vec::new(alloc),
+            shared: 0,
+        };
         shares.fill(document)?;
         shares.count(alloc, document)?;
         Ok(shares)

@@ -56,7 +56,9 @@ fn child_at(document: &yaml_document_t, node: i32, index: usize) -> Option<i32> 
 impl Walk {
     /// Nothing is being walked.
     pub fn new(alloc: Global) -> Walk {
-        Walk { open: Vec::new(alloc) }
+        Walk {
+            open: Vec::new(alloc),
+        }
     }
 
     /// The children of that collection come next.
@@ -73,7 +75,10 @@ impl Walk {
                 None => Step::Leave(top.node),
                 Some(child) => {
                     // the place of the popped one is still there
-                    let _ = self.open.push(Open { node: top.node, next: top.next.saturating_add(1) });
+                    let _ = self.open.push(Open {
+                        node: top.node,
+                        next: top.next.saturating_add(1),
+                    });
                     Step::Visit(child)
                 }
             },

@@ -106,7 +106,10 @@ impl yaml_emitter_t {
 /// Writes a document and spends it. Opens the stream if that was not done, and closes it where the document has no root.
 /// A node that is visited more than once has an anchor, `id` and a number of at least three digits, and is an alias at its
 /// later visits.
-pub fn yaml_emitter_dump(emitter: &mut yaml_emitter_t, document: yaml_document_t) -> Result<(), yaml_fault_t>
+pub fn yaml_emitter_dump(
+    emitter: &mut yaml_emitter_t,
+    document: yaml_document_t,
+) -> Result<(), yaml_fault_t>
     ensures { Answers emitter.new.fault result }
 {
     if !emitter.open_if_needed() {

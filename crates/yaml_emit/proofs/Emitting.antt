@@ -194,14 +194,21 @@ inside_begins i core e s z inv fr a b f =
     let f' : IsFresh core (settled i.wishes (stream_encoding e)) = subst Q b (subst P a f) in
     record {
       completes = λ x es whole h. begin_completes (emitter_of i) (record { wishes = i.wishes; limit = i.limit; core = core; held = i.held; fresh = false; opened = i.opened; closed = i.closed; fault = option_map fault_of i.fault }) e x es whole fr refl (inv.begun fr).0 f' h;
-      wishes = refl; limit = refl; begun = refl; fault = (inv.begun fr).1.0; opened = refl; closed = refl;
+      wishes = refl;
+      limit = refl;
+      begun = refl;
+      fault = (inv.begun fr).1.0;
+      opened = refl;
+      closed = refl;
     }
 
 pub inside_lays : (i : Inside) (core : Core) (h held : Held) (fault : Option Fault) (e : Event) → i.fresh ≡ false → h ≡ i.held → Leads i.core (held_events h ++ e ∷ []) core (held_events held)
     → Given (emitter_of i) e (record { wishes = i.wishes; limit = i.limit; core = core; held = held; fresh = i.fresh; opened = i.opened; closed = i.closed; fault = fault })
 inside_lays i core h held fault e fr same l = record {
   completes = λ x es whole c. lay_completes (emitter_of i) (record { wishes = i.wishes; limit = i.limit; core = core; held = held; fresh = i.fresh; opened = i.opened; closed = i.closed; fault = fault }) e (held_events h) x es whole fr fr (ap held_events same) l c;
-  wishes = refl; limit = refl; begun = fr;
+  wishes = refl;
+  limit = refl;
+  begun = fr;
 }
 
 not_true : (b : Bool) → (b ≡ true → ⊥) → b ≡ false
@@ -214,5 +221,23 @@ inside_stays i f e inv is =
     let fr : i.fresh ≡ false = not_true i.fresh (λ t. let k = (inv.begun t).1.0 in cc) in
     record {
       completes = λ x es whole c. stopped_completes (emitter_of i) (fault_of f) x (e ∷ es) es whole fr (sym inv.faulty ∙ some) c;
-      wishes = refl; limit = refl; begun = fr;
+      wishes = refl;
+      limit = refl;
+      begun = fr;
     }
+
+-- that the stream was opened or closed is noted
+pub given_marked : (old : Emitter) (e : Event) (i : Inside) (o k : Bool) → Given old e (emitter_of i)
+    → Given old e (record { wishes = i.wishes; limit = i.limit; core = i.core; held = i.held; fresh = i.fresh; opened = o; closed = k; fault = option_map fault_of i.fault })
+unfolding Completes
+given_marked old e i o k g = record {
+  completes = λ x es whole c.
+      let n : Emitter = record { wishes = i.wishes; limit = i.limit; core = i.core; held = i.held; fresh = i.fresh; opened = o; closed = k; fault = option_map fault_of i.fault } in
+      let P : Bool → Type 0 = λ z. CompletesBy z (emitter_of i) x es whole in
+      let Q : Bool → Type 0 = λ z. CompletesBy z n x es whole in
+      let done : CompletesBy false (emitter_of i) x es whole = subst P g.begun (g.completes x es whole c) in
+      subst Q (sym g.begun) (done.0, done.1);
+  wishes = g.wishes;
+  limit = g.limit;
+  begun = g.begun;
+}

@@ -25,6 +25,7 @@ long_documents (d ∷ ds) = omega arith
 
 mutual
   unfolding node_events items_events pairs_events
+
   long_node : (v : Node) (es : List Event) → length es + 1 ≤ length (node_events v es)
   long_node (alias_node name) es = omega arith
   long_node (scalar_node x) es = omega arith

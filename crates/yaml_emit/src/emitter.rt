@@ -7,9 +7,12 @@ ghost use Rattle.yaml_parse_model.specs.Constructors.{HasUtf8};
 ghost use Rattle.yaml_emit_layout.specs.Content.{said};
 ghost use Rattle.yaml_emit.specs.Emitter.{stream_encoding, IsNew, ShowsFront, IsWhole, Given, Begins, Answers, Stays};
 
+mod dump;
+
 use crate::fault::refusal;
 use crate::held::Held;
 use crate::release::give;
+pub use dump::{yaml_emitter_close, yaml_emitter_dump, yaml_emitter_open};
 use std::alloc::Global;
 use std::marker::Model;
 use std::mem;
@@ -64,7 +67,11 @@ pub fn yaml_emitter_initialize(alloc: Global, limit: u64) -> Result<yaml_emitter
         wishes,
         limit,
         alloc,
-        core: Core::new(alloc, settled(wishes, yaml_encoding_t::YAML_ANY_ENCODING), limit),
+        core: Core::new(
+            alloc,
+            settled(wishes, yaml_encoding_t::YAML_ANY_ENCODING),
+            limit,
+        ),
         held: Held::Nothing,
         fresh: true,
         opened: false,
@@ -235,7 +242,10 @@ impl yaml_emitter_t {
 /// Takes an event and lays out what no longer has to be held. The first fault is answered again from then on: `write error`
 /// past the limit, the grammar's fault for the first event that it refuses, `indentation is too deep`, or want of memory.
 /// Marks are ignored.
-pub fn yaml_emitter_emit(emitter: &mut yaml_emitter_t, event: yaml_event_t) -> Result<(), yaml_fault_t>
+pub fn yaml_emitter_emit(
+    emitter: &mut yaml_emitter_t,
+    event: yaml_event_t,
+) -> Result<(), yaml_fault_t>
     requires { HasUtf8 (event_of event).body }
     ensures given { Given emitter.old (said (event_of event).body) emitter.new }
     ensures answer { Answers emitter.new.fault result }

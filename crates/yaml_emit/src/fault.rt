@@ -8,11 +8,13 @@ ghost use Rattle.yaml_emit.specs.Emitter.{plain_fault, emitter_fault, memory_ori
 use yaml_emit_layout::{Place, problem_text};
 use yaml_emit_state::Core;
 use yaml_emit_text::Status;
-use yaml_scan::{
-    yaml_error_type_t, yaml_fault_t, yaml_mark_t, yaml_memory_fault, yaml_origin_t,
-};
+use yaml_scan::{yaml_error_type_t, yaml_fault_t, yaml_mark_t, yaml_memory_fault, yaml_origin_t};
 
-fn plain_fault(kind: yaml_error_type_t, problem: &'static str, origin: yaml_origin_t) -> yaml_fault_t
+fn plain_fault(
+    kind: yaml_error_type_t,
+    problem: &'static str,
+    origin: yaml_origin_t,
+) -> yaml_fault_t
     ensures { fault_of result ≡ plain_fault kind problem.now origin }
 {
     let zero = yaml_mark_t {
@@ -35,7 +37,11 @@ fn plain_fault(kind: yaml_error_type_t, problem: &'static str, origin: yaml_orig
 fn emitter_fault(problem: &'static str) -> yaml_fault_t
     ensures { fault_of result ≡ emitter_fault problem.now }
 {
-    plain_fault(yaml_error_type_t::YAML_EMITTER_ERROR, problem, yaml_origin_t::Emitter)
+    plain_fault(
+        yaml_error_type_t::YAML_EMITTER_ERROR,
+        problem,
+        yaml_origin_t::Emitter,
+    )
 }
 
 fn memory(levels: bool) -> yaml_fault_t

@@ -15,12 +15,7 @@ pub enum Held {
     One(yaml_event_body_t),
     Two(yaml_event_body_t, yaml_event_body_t),
     Three(yaml_event_body_t, yaml_event_body_t, yaml_event_body_t),
-    Four(
-        yaml_event_body_t,
-        yaml_event_body_t,
-        yaml_event_body_t,
-        yaml_event_body_t,
-    ),
+    Four(yaml_event_body_t, yaml_event_body_t, yaml_event_body_t, yaml_event_body_t),
 }
 
 impl Held {
@@ -117,7 +112,8 @@ impl Held {
             Held::Nothing => false,
             Held::One(first) => Held::needs(first) == 0,
             Held::Two(first, second) => Held::needs(first) <= 1 || Held::closes_one(second),
-            Held::Three(first, second, third) => Held::needs(first) <= 2 || Held::closes_two(second, third),
+            Held::Three(first, second, third) => Held::needs(first) <= 2
+                || Held::closes_two(second, third),
             Held::Four(_, _, _, _) => true,
         }
     }

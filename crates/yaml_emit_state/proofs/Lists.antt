@@ -43,7 +43,7 @@ pub below_found : (p : ℕ → Bool) (n i : ℕ) → i < n → p i ≡ true → 
 unfolding any_below
 below_found p zero i h e = absurd (omega arith)
 below_found p (suc n) i h e = elim (cases_eq i n) [
-  inl same ↦ (let k : p n ≡ true = ap p (sym same) ∙ e in rw k (or-true (any_below n p)))
+  | inl same ↦ (let k : p n ≡ true = ap p (sym same) ∙ e in rw k (or-true (any_below n p)))
   | inr other ↦ (let k : any_below n p ≡ true = below_found p n i (omega (arith, other)) e in rw k refl)
 ]
 

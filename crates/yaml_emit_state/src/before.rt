@@ -69,7 +69,14 @@ fn put_question_unless(sink: &mut Sink, flow: bool, simple: bool)
 }
 
 #[tactic(auto, unfolding(yaml_emit_layout::specs::Nodes::before_key))]
-fn put_before_key(sink: &mut Sink, settings: Settings, flow: bool, indent: u64, fresh: bool, simple: bool)
+fn put_before_key(
+    sink: &mut Sink,
+    settings: Settings,
+    flow: bool,
+    indent: u64,
+    fresh: bool,
+    simple: bool,
+)
     ensures { Puts sink.old sink.new (before_key settings flow indent fresh simple) }
 {
     if flow {
@@ -101,8 +108,21 @@ fn put_before_in(sink: &mut Sink, settings: Settings, level: Level, simple: bool
 {
     match level.phase {
         Phase::Items(fresh) => put_before_item(sink, settings, level.flow, level.indent, fresh),
-        Phase::Keys(fresh) => put_before_key(sink, settings, level.flow, level.indent, fresh, simple),
-        Phase::Value(was_simple) => put_before_value(sink, settings, level.flow, level.indent, was_simple),
+        Phase::Keys(fresh) => put_before_key(
+            sink,
+            settings,
+            level.flow,
+            level.indent,
+            fresh,
+            simple,
+        ),
+        Phase::Value(was_simple) => put_before_value(
+            sink,
+            settings,
+            level.flow,
+            level.indent,
+            was_simple,
+        ),
     }
 }
 
@@ -136,7 +156,12 @@ fn put_closer(sink: &mut Sink, settings: Settings, flow: bool, indent: u64, fres
     ensures { Puts sink.old sink.new (closer settings flow indent fresh c) }
 {
     if flow {
-        put_last_line_if(sink, settings.canonical && !fresh, settings, indent.saturating_sub(settings.indent));
+        put_last_line_if(
+            sink,
+            settings.canonical && !fresh,
+            settings,
+            indent.saturating_sub(settings.indent),
+        );
         sink.put(c);
     }
 }
@@ -157,7 +182,14 @@ pub fn put_closer_at(sink: &mut Sink, settings: Settings, top: Option<Level>, c:
 {
     match top {
         None => (),
-        Some(level) => put_closer(sink, settings, level.flow, level.indent, is_fresh(level.phase), c),
+        Some(level) => put_closer(
+            sink,
+            settings,
+            level.flow,
+            level.indent,
+            is_fresh(level.phase),
+            c,
+        ),
     }
 }
 

@@ -98,7 +98,10 @@ fn put_dashes_if(sink: &mut Sink, due: bool, settings: Settings)
     }
 }
 
-fn is_directed(version: Option<yaml_version_directive_t>, directives: &[yaml_tag_directive_t]) -> bool
+fn is_directed(
+    version: Option<yaml_version_directive_t>,
+    directives: &[yaml_tag_directive_t],
+) -> bool
     ensures { result ≡ (has_version version || has_directives (map directive_of directives.now)) }
 {
     match version {
@@ -108,7 +111,13 @@ fn is_directed(version: Option<yaml_version_directive_t>, directives: &[yaml_tag
 }
 
 // The directives, and `---` where it is due.
-fn put_opening(sink: &mut Sink, settings: Settings, marked: bool, version: Option<yaml_version_directive_t>, directives: &[yaml_tag_directive_t])
+fn put_opening(
+    sink: &mut Sink,
+    settings: Settings,
+    marked: bool,
+    version: Option<yaml_version_directive_t>,
+    directives: &[yaml_tag_directive_t],
+)
     ensures { Puts sink.old sink.new (keep false ▹ version_text settings version ▹ directives_text settings (map directive_of directives.now) ▹ when marked (dashes settings)) }
 {
     sink.set_kept(false);
@@ -118,20 +127,38 @@ fn put_opening(sink: &mut Sink, settings: Settings, marked: bool, version: Optio
 }
 
 // `...` parts directives from a document that ended implicitly.
-fn is_parted(unended: bool, version: Option<yaml_version_directive_t>, directives: &[yaml_tag_directive_t]) -> bool
+fn is_parted(
+    unended: bool,
+    version: Option<yaml_version_directive_t>,
+    directives: &[yaml_tag_directive_t],
+) -> bool
     ensures { result ≡ (unended && (has_version version || has_directives (map directive_of directives.now))) }
 {
     unended && is_directed(version, directives)
 }
 
 // Whether `---` is due.
-fn is_marked(settings: Settings, first: bool, version: Option<yaml_version_directive_t>, directives: &[yaml_tag_directive_t], implicit: bool) -> bool
+fn is_marked(
+    settings: Settings,
+    first: bool,
+    version: Option<yaml_version_directive_t>,
+    directives: &[yaml_tag_directive_t],
+    implicit: bool,
+) -> bool
     ensures { result ≡ (settings.canonical || not (first && (implicit && not (has_version version || has_directives (map directive_of directives.now))))) }
 {
     settings.canonical || !(first && (implicit && !is_directed(version, directives)))
 }
 
-fn put_start(sink: &mut Sink, settings: Settings, first: bool, unended: bool, version: Option<yaml_version_directive_t>, directives: &[yaml_tag_directive_t], implicit: bool)
+fn put_start(
+    sink: &mut Sink,
+    settings: Settings,
+    first: bool,
+    unended: bool,
+    version: Option<yaml_version_directive_t>,
+    directives: &[yaml_tag_directive_t],
+    implicit: bool,
+)
     ensures { Puts sink.old sink.new (start_layout settings first unended (record { version = version; directives = map directive_of directives.now; implicit = implicit })) }
 {
     let marked = is_marked(settings, first, version, directives, implicit);
@@ -140,11 +167,20 @@ fn put_start(sink: &mut Sink, settings: Settings, first: bool, unended: bool, ve
 }
 
 /// What opens a document, where one may come.
-pub fn put_start_at(sink: &mut Sink, settings: Settings, place: Place, version: Option<yaml_version_directive_t>, directives: &[yaml_tag_directive_t], implicit: bool)
+pub fn put_start_at(
+    sink: &mut Sink,
+    settings: Settings,
+    place: Place,
+    version: Option<yaml_version_directive_t>,
+    directives: &[yaml_tag_directive_t],
+    implicit: bool,
+)
     ensures { Puts sink.old sink.new (start_at settings place (record { version = version; directives = map directive_of directives.now; implicit = implicit })) }
 {
     match place {
-        Place::Documents(first, unended) => put_start(sink, settings, first, unended, version, directives, implicit),
+        Place::Documents(first, unended) => put_start(
+            sink, settings, first, unended, version, directives, implicit,
+        ),
         _ => (),
     }
 }

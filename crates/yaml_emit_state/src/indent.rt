@@ -16,13 +16,7 @@ fn part(phase: Phase, simple: bool) -> Part
 {
     match phase {
         Phase::Items(_) => Part::Item,
-        Phase::Keys(_) => {
-            if simple {
-                Part::SimpleKey
-            } else {
-                Part::Key
-            }
-        }
+        Phase::Keys(_) => { if simple { Part::SimpleKey } else { Part::Key } }
         Phase::Value(_) => Part::Value,
     }
 }
@@ -32,7 +26,11 @@ pub fn spot_of(top: Option<Level>, simple: bool) -> Spot
     ensures { result ≡ spot_of top simple }
 {
     match top {
-        None => Spot { around: None, flow: false, part: Part::Item },
+        None => Spot {
+            around: None,
+            flow: false,
+            part: Part::Item,
+        },
         Some(level) => Spot {
             around: Some(level.indent),
             flow: level.flow,
@@ -96,13 +94,23 @@ fn block_indent(settings: Settings, around: Option<u64>, keeps: bool) -> Option<
 }
 
 /// The indentation of a collection at the cursor behind its properties, or none past 2,147,483,647 columns.
-pub fn indent_of(settings: Settings, spot: Spot, sequence: bool, flow: bool, cursor: Cursor) -> Option<u64>
+pub fn indent_of(
+    settings: Settings,
+    spot: Spot,
+    sequence: bool,
+    flow: bool,
+    cursor: Cursor,
+) -> Option<u64>
     ensures { result ≡ within (indent_of settings spot sequence flow cursor) }
 {
     if flow {
         deeper(settings, spot.around)
     } else {
-        block_indent(settings, spot.around, sequence && is_of_mapping(spot.part) && !cursor.bare)
+        block_indent(
+            settings,
+            spot.around,
+            sequence && is_of_mapping(spot.part) && !cursor.bare,
+        )
     }
 }
 

@@ -59,7 +59,12 @@ fn tag_problem(canonical: bool, left_out: bool, tag: &Option<Vec<u8>>) -> Option
     }
 }
 
-fn properties_problem(canonical: bool, anchor: &Option<Vec<u8>>, left_out: bool, tag: &Option<Vec<u8>>) -> Option<Problem>
+fn properties_problem(
+    canonical: bool,
+    anchor: &Option<Vec<u8>>,
+    left_out: bool,
+    tag: &Option<Vec<u8>>,
+) -> Option<Problem>
     ensures { result ≡ or_else (anchor_problem (text_of anchor.now)) (tag_problem (kept_tag canonical left_out (text_of tag.now))) }
 {
     match anchor_problem(anchor) {
@@ -73,16 +78,30 @@ fn event_problem(canonical: bool, event: &yaml_event_body_t) -> Option<Problem>
     ensures { result ≡ event_problem canonical (said (body_of event.now)) }
 {
     match event {
-        yaml_event_body_t::Alias { anchor } => name_problem(Problem::AliasEmpty, Problem::AliasCharacters, anchor),
-        yaml_event_body_t::Scalar { anchor, tag, plain_implicit, quoted_implicit, .. } => {
-            properties_problem(canonical, anchor, *plain_implicit || *quoted_implicit, tag)
-        }
-        yaml_event_body_t::SequenceStart { anchor, tag, implicit, .. } => {
-            properties_problem(canonical, anchor, *implicit, tag)
-        }
-        yaml_event_body_t::MappingStart { anchor, tag, implicit, .. } => {
-            properties_problem(canonical, anchor, *implicit, tag)
-        }
+        yaml_event_body_t::Alias { anchor } => name_problem(
+            Problem::AliasEmpty,
+            Problem::AliasCharacters,
+            anchor,
+        ),
+        yaml_event_body_t::Scalar {
+            anchor,
+            tag,
+            plain_implicit,
+            quoted_implicit,
+            ..
+        } => { properties_problem(canonical, anchor, *plain_implicit || *quoted_implicit, tag) }
+        yaml_event_body_t::SequenceStart {
+            anchor,
+            tag,
+            implicit,
+            ..
+        } => { properties_problem(canonical, anchor, *implicit, tag) }
+        yaml_event_body_t::MappingStart {
+            anchor,
+            tag,
+            implicit,
+            ..
+        } => { properties_problem(canonical, anchor, *implicit, tag) }
         _ => None,
     }
 }
@@ -186,7 +205,10 @@ fn twice_problem(before: &[yaml_tag_directive_t], handle: &[u8]) -> Option<Probl
     }
 }
 
-fn directive_problem(before: &[yaml_tag_directive_t], directive: &yaml_tag_directive_t) -> Option<Problem>
+fn directive_problem(
+    before: &[yaml_tag_directive_t],
+    directive: &yaml_tag_directive_t,
+) -> Option<Problem>
     ensures { result ≡ directive_problem (map directive_of before.now) (directive_of directive.now) }
 {
     if let Some(problem) = handle_problem(&directive.handle) {
@@ -210,7 +232,10 @@ fn directives_problem(directives: &[yaml_tag_directive_t]) -> Option<Problem>
     None
 }
 
-fn opening_problem(version: Option<yaml_version_directive_t>, directives: &[yaml_tag_directive_t]) -> Option<Problem>
+fn opening_problem(
+    version: Option<yaml_version_directive_t>,
+    directives: &[yaml_tag_directive_t],
+) -> Option<Problem>
     ensures { result ≡ or_else (version_problem version) (directives_problem [] (map directive_of directives.now)) }
 {
     match version_problem(version) {
@@ -243,12 +268,17 @@ fn last_problem(event: &yaml_event_body_t) -> Option<Problem>
     ensures { result ≡ last_problem (said (body_of event.now)) }
 {
     match event {
-        yaml_event_body_t::DocumentStart { version_directive, tag_directives, .. } => {
-            opening_problem(*version_directive, tag_directives)
-        }
-        yaml_event_body_t::Scalar { tag, plain_implicit, quoted_implicit, .. } => {
-            flags_problem(tag, *plain_implicit, *quoted_implicit)
-        }
+        yaml_event_body_t::DocumentStart {
+            version_directive,
+            tag_directives,
+            ..
+        } => { opening_problem(*version_directive, tag_directives) }
+        yaml_event_body_t::Scalar {
+            tag,
+            plain_implicit,
+            quoted_implicit,
+            ..
+        } => { flags_problem(tag, *plain_implicit, *quoted_implicit) }
         _ => None,
     }
 }
@@ -334,7 +364,12 @@ fn late_problem(place: Place, top: Option<Level>, event: &yaml_event_body_t) -> 
 
 /// What is wrong with an event, if anything: in canonical form or in pretty form, at a place, in the innermost collection.
 #[tactic(auto, unfolding(yaml_emit_layout::specs::Grammar::problem_by))]
-pub fn problem_of(canonical: bool, place: Place, top: Option<Level>, event: &yaml_event_body_t) -> Option<Problem>
+pub fn problem_of(
+    canonical: bool,
+    place: Place,
+    top: Option<Level>,
+    event: &yaml_event_body_t,
+) -> Option<Problem>
     ensures { result ≡ problem_by canonical place top (said (body_of event.now)) }
 {
     match event_problem(canonical, event) {

@@ -8,7 +8,10 @@ ghost use Rattle.yaml_emit_layout.specs.State.{is_simple_event};
 
 use yaml_emit_text::{Settings, tag_size};
 use yaml_parse_model::yaml_event_body_t;
-use yaml_scan::{IS_BREAK, yaml_mapping_style_t, yaml_scalar_style_t, yaml_sequence_style_t, yaml_tag_directive_t};
+use yaml_scan::{
+    IS_BREAK, yaml_mapping_style_t, yaml_scalar_style_t, yaml_sequence_style_t,
+    yaml_tag_directive_t,
+};
 
 fn has_break(value: &[u8]) -> bool
     ensures { result ≡ has_break value.now }
@@ -30,7 +33,11 @@ fn text_size(text: &Option<Vec<u8>>) -> usize
     }
 }
 
-fn given_size(settings: Settings, directives: &[yaml_tag_directive_t], tag: &Option<Vec<u8>>) -> usize
+fn given_size(
+    settings: Settings,
+    directives: &[yaml_tag_directive_t],
+    tag: &Option<Vec<u8>>,
+) -> usize
     ensures { result ≡ written_size (context_of settings (map directive_of directives.now)) (text_of tag.now) }
 {
     match tag {
@@ -40,7 +47,12 @@ fn given_size(settings: Settings, directives: &[yaml_tag_directive_t], tag: &Opt
 }
 
 // Bytes of a tag that is written in pretty form.
-fn written_size(settings: Settings, directives: &[yaml_tag_directive_t], left_out: bool, tag: &Option<Vec<u8>>) -> usize
+fn written_size(
+    settings: Settings,
+    directives: &[yaml_tag_directive_t],
+    left_out: bool,
+    tag: &Option<Vec<u8>>,
+) -> usize
     ensures { result ≡ written_size (context_of settings (map directive_of directives.now)) (kept_tag false left_out (text_of tag.now)) }
 {
     if left_out {
@@ -66,7 +78,16 @@ fn is_simple_alias(settings: Settings, directives: &[yaml_tag_directive_t], name
 }
 
 #[tactic(auto, unfolding(yaml_emit_layout::specs::Nodes::is_simple_scalar))]
-fn is_simple_scalar(settings: Settings, directives: &[yaml_tag_directive_t], anchor: &Option<Vec<u8>>, tag: &Option<Vec<u8>>, value: &[u8], plain: bool, quoted: bool, style: yaml_scalar_style_t) -> bool
+fn is_simple_scalar(
+    settings: Settings,
+    directives: &[yaml_tag_directive_t],
+    anchor: &Option<Vec<u8>>,
+    tag: &Option<Vec<u8>>,
+    value: &[u8],
+    plain: bool,
+    quoted: bool,
+    style: yaml_scalar_style_t,
+) -> bool
     ensures { result ≡ is_simple_scalar (context_of settings (map directive_of directives.now)) (record { anchor = text_of anchor.now; tag = text_of tag.now; value = value.now; plain = plain; quoted = quoted; style = style }) }
 {
     let _ = style;
@@ -80,31 +101,90 @@ fn is_simple_scalar(settings: Settings, directives: &[yaml_tag_directive_t], anc
 }
 
 #[tactic(auto, unfolding(yaml_emit_layout::specs::Nodes::is_simple_start))]
-fn is_simple_start(settings: Settings, directives: &[yaml_tag_directive_t], anchor: &Option<Vec<u8>>, tag: &Option<Vec<u8>>, implicit: bool, flow: bool, empty: bool) -> bool
+fn is_simple_start(
+    settings: Settings,
+    directives: &[yaml_tag_directive_t],
+    anchor: &Option<Vec<u8>>,
+    tag: &Option<Vec<u8>>,
+    implicit: bool,
+    flow: bool,
+    empty: bool,
+) -> bool
     ensures { result ≡ is_simple_start (context_of settings (map directive_of directives.now)) (record { anchor = text_of anchor.now; tag = text_of tag.now; implicit = implicit; flow = flow }) empty }
 {
     let _ = flow;
     !settings.canonical
         && empty
-        && are_short(text_size(anchor), written_size(settings, directives, implicit, tag), 0)
+        && are_short(
+            text_size(anchor),
+            written_size(settings, directives, implicit, tag),
+            0,
+        )
 }
 
 /// Whether a node that begins so is a simple key: an alias, a scalar without breaks or an empty collection, with at most
 /// 128 bytes of anchor, tag and value. Canonical form has none.
 #[tactic(auto, unfolding(yaml_emit_layout::specs::State::is_simple_event))]
-pub fn is_simple(settings: Settings, directives: &[yaml_tag_directive_t], event: &yaml_event_body_t, empty: bool) -> bool
+pub fn is_simple(
+    settings: Settings,
+    directives: &[yaml_tag_directive_t],
+    event: &yaml_event_body_t,
+    empty: bool,
+) -> bool
     ensures { result ≡ is_simple_event (context_of settings (map directive_of directives.now)) (said (body_of event.now)) empty }
 {
     match event {
         yaml_event_body_t::Alias { anchor } => is_simple_alias(settings, directives, anchor),
-        yaml_event_body_t::Scalar { anchor, tag, value, plain_implicit, quoted_implicit, style } => {
-            is_simple_scalar(settings, directives, anchor, tag, value, *plain_implicit, *quoted_implicit, *style)
+        yaml_event_body_t::Scalar {
+            anchor,
+            tag,
+            value,
+            plain_implicit,
+            quoted_implicit,
+            style,
+        } => {
+            is_simple_scalar(
+                settings,
+                directives,
+                anchor,
+                tag,
+                value,
+                *plain_implicit,
+                *quoted_implicit,
+                *style,
+            )
         }
-        yaml_event_body_t::SequenceStart { anchor, tag, implicit, style } => {
-            is_simple_start(settings, directives, anchor, tag, *implicit, is_flow_sequence(*style), empty)
+        yaml_event_body_t::SequenceStart {
+            anchor,
+            tag,
+            implicit,
+            style,
+        } => {
+            is_simple_start(
+                settings,
+                directives,
+                anchor,
+                tag,
+                *implicit,
+                is_flow_sequence(*style),
+                empty,
+            )
         }
-        yaml_event_body_t::MappingStart { anchor, tag, implicit, style } => {
-            is_simple_start(settings, directives, anchor, tag, *implicit, is_flow_mapping(*style), empty)
+        yaml_event_body_t::MappingStart {
+            anchor,
+            tag,
+            implicit,
+            style,
+        } => {
+            is_simple_start(
+                settings,
+                directives,
+                anchor,
+                tag,
+                *implicit,
+                is_flow_mapping(*style),
+                empty,
+            )
         }
         _ => false,
     }

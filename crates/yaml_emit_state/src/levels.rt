@@ -18,7 +18,10 @@ impl Levels {
     pub fn new(alloc: Global) -> Levels
         ensures { stack_of result ≡ [] }
     {
-        Levels { top: None, outer: Vec::new(alloc) }
+        Levels {
+            top: None,
+            outer: Vec::new(alloc),
+        }
     }
 
     /// The innermost one.

@@ -41,7 +41,12 @@ fn put_anchor(sink: &mut Sink, anchor: &Option<Vec<u8>>)
     }
 }
 
-fn put_given_tag(sink: &mut Sink, settings: Settings, directives: &[yaml_tag_directive_t], tag: &Option<Vec<u8>>)
+fn put_given_tag(
+    sink: &mut Sink,
+    settings: Settings,
+    directives: &[yaml_tag_directive_t],
+    tag: &Option<Vec<u8>>,
+)
     ensures { Puts sink.old sink.new (tag_text (context_of settings (map directive_of directives.now)) (text_of tag.now)) }
 {
     match tag {
@@ -50,7 +55,13 @@ fn put_given_tag(sink: &mut Sink, settings: Settings, directives: &[yaml_tag_dir
     }
 }
 
-fn put_tag_if(sink: &mut Sink, settings: Settings, directives: &[yaml_tag_directive_t], kept: bool, tag: &Option<Vec<u8>>)
+fn put_tag_if(
+    sink: &mut Sink,
+    settings: Settings,
+    directives: &[yaml_tag_directive_t],
+    kept: bool,
+    tag: &Option<Vec<u8>>,
+)
     ensures { Puts sink.old sink.new (tag_text (context_of settings (map directive_of directives.now)) (kept_if kept (text_of tag.now))) }
 {
     if kept {
@@ -65,11 +76,24 @@ fn is_kept(canonical: bool, left_out: bool) -> bool
     canonical || !left_out
 }
 
-fn put_properties(sink: &mut Sink, settings: Settings, directives: &[yaml_tag_directive_t], anchor: &Option<Vec<u8>>, left_out: bool, tag: &Option<Vec<u8>>)
+fn put_properties(
+    sink: &mut Sink,
+    settings: Settings,
+    directives: &[yaml_tag_directive_t],
+    anchor: &Option<Vec<u8>>,
+    left_out: bool,
+    tag: &Option<Vec<u8>>,
+)
     ensures { Puts sink.old sink.new (properties_text (context_of settings (map directive_of directives.now)) (text_of anchor.now) (kept_tag settings.canonical left_out (text_of tag.now))) }
 {
     put_anchor(sink, anchor);
-    put_tag_if(sink, settings, directives, is_kept(settings.canonical, left_out), tag);
+    put_tag_if(
+        sink,
+        settings,
+        directives,
+        is_kept(settings.canonical, left_out),
+        tag,
+    );
 }
 
 fn is_tagged(tag: &Option<Vec<u8>>) -> bool
@@ -84,11 +108,7 @@ fn is_tagged(tag: &Option<Vec<u8>>) -> bool
 fn is_tagged_if(kept: bool, tag: &Option<Vec<u8>>) -> bool
     ensures { result ≡ has (kept_if kept (text_of tag.now)) }
 {
-    if kept {
-        is_tagged(tag)
-    } else {
-        false
-    }
+    if kept { is_tagged(tag) } else { false }
 }
 
 // Whether a tag is written.
@@ -108,7 +128,17 @@ fn is_plain(style: Style) -> bool
 }
 
 #[tactic(auto, unfolding(yaml_emit_layout::specs::Nodes::style_of))]
-fn style_of(settings: Settings, directives: &[yaml_tag_directive_t], spot: Spot, anchor: &Option<Vec<u8>>, tag: &Option<Vec<u8>>, value: &[u8], plain: bool, quoted: bool, style: yaml_scalar_style_t) -> Style
+fn style_of(
+    settings: Settings,
+    directives: &[yaml_tag_directive_t],
+    spot: Spot,
+    anchor: &Option<Vec<u8>>,
+    tag: &Option<Vec<u8>>,
+    value: &[u8],
+    plain: bool,
+    quoted: bool,
+    style: yaml_scalar_style_t,
+) -> Style
     requires { IsUtf8 value.now }
     ensures { result ≡ style_of (context_of settings (map directive_of directives.now)) spot (record { anchor = text_of anchor.now; tag = text_of tag.now; value = value.now; plain = plain; quoted = quoted; style = style }) }
 {
@@ -135,7 +165,13 @@ fn put_exclamation_if(sink: &mut Sink, due: bool)
 }
 
 // Whether `!` is due.
-fn is_marked(canonical: bool, tag: &Option<Vec<u8>>, plain: bool, quoted: bool, chosen: Style) -> bool
+fn is_marked(
+    canonical: bool,
+    tag: &Option<Vec<u8>>,
+    plain: bool,
+    quoted: bool,
+    chosen: Style,
+) -> bool
     ensures { result ≡ (not (has (kept_tag canonical (plain || quoted) (text_of tag.now))) && (not quoted && not (is_plain chosen))) }
 {
     !is_written(canonical, plain || quoted, tag) && !quoted && !is_plain(chosen)
@@ -164,18 +200,45 @@ fn put_lines(sink: &mut Sink, settings: Settings, spot: Spot, style: Style, valu
 
 /// A scalar, with its anchor and tag.
 #[tactic(auto, unfolding(yaml_emit_layout::specs::Nodes::scalar_layout))]
-pub fn put_scalar(sink: &mut Sink, settings: Settings, directives: &[yaml_tag_directive_t], spot: Spot, anchor: &Option<Vec<u8>>, tag: &Option<Vec<u8>>, value: &[u8], plain: bool, quoted: bool, style: yaml_scalar_style_t)
+pub fn put_scalar(
+    sink: &mut Sink,
+    settings: Settings,
+    directives: &[yaml_tag_directive_t],
+    spot: Spot,
+    anchor: &Option<Vec<u8>>,
+    tag: &Option<Vec<u8>>,
+    value: &[u8],
+    plain: bool,
+    quoted: bool,
+    style: yaml_scalar_style_t,
+)
     requires { IsUtf8 value.now }
     ensures { Puts sink.old sink.new (scalar_layout (context_of settings (map directive_of directives.now)) spot (record { anchor = text_of anchor.now; tag = text_of tag.now; value = value.now; plain = plain; quoted = quoted; style = style })) }
 {
-    let chosen = style_of(settings, directives, spot, anchor, tag, value, plain, quoted, style);
+    let chosen = style_of(
+        settings, directives, spot, anchor, tag, value, plain, quoted, style,
+    );
     put_properties(sink, settings, directives, anchor, plain || quoted, tag);
-    put_exclamation_if(sink, is_marked(settings.canonical, tag, plain, quoted, chosen));
+    put_exclamation_if(
+        sink,
+        is_marked(settings.canonical, tag, plain, quoted, chosen),
+    );
     put_lines(sink, settings, spot, chosen, value);
 }
 
 /// What opens a collection, with its anchor and tag.
-pub fn put_collection(sink: &mut Sink, settings: Settings, directives: &[yaml_tag_directive_t], spot: Spot, c: char, anchor: &Option<Vec<u8>>, tag: &Option<Vec<u8>>, implicit: bool, style_flow: bool, empty: bool)
+pub fn put_collection(
+    sink: &mut Sink,
+    settings: Settings,
+    directives: &[yaml_tag_directive_t],
+    spot: Spot,
+    c: char,
+    anchor: &Option<Vec<u8>>,
+    tag: &Option<Vec<u8>>,
+    implicit: bool,
+    style_flow: bool,
+    empty: bool,
+)
     ensures { Puts sink.old sink.new (start_text (context_of settings (map directive_of directives.now)) spot c (record { anchor = text_of anchor.now; tag = text_of tag.now; implicit = implicit; flow = style_flow }) empty) }
 {
     put_properties(sink, settings, directives, anchor, implicit, tag);

@@ -117,7 +117,15 @@ impl Core {
     {
         let settings = self.settings();
         let top = self.levels.top();
-        put_event(&mut self.sink, settings, &self.directives, self.place, top, &event, empty);
+        put_event(
+            &mut self.sink,
+            settings,
+            &self.directives,
+            self.place,
+            top,
+            &event,
+            empty,
+        );
         self.move_on(settings, event, empty);
     }
 
@@ -126,7 +134,12 @@ impl Core {
         requires { HasUtf8 (body_of event) }
         ensures { LaysOut self.old self.new (said (body_of event)) empty }
     {
-        match problem_of(self.settings.canonical, self.place, self.levels.top(), &event) {
+        match problem_of(
+            self.settings.canonical,
+            self.place,
+            self.levels.top(),
+            &event,
+        ) {
             Some(problem) => {
                 self.place = Place::Refused(problem);
             }

@@ -19,7 +19,15 @@ use yaml_scan::yaml_tag_directive_t;
 
 /// What is written for an event in its right place, but for the depth, by whether it opens a collection that the next event closes.
 #[tactic(auto, unfolding(yaml_emit_layout::specs::State::text_at))]
-pub fn put_event(sink: &mut Sink, settings: Settings, directives: &[yaml_tag_directive_t], place: Place, top: Option<Level>, event: &yaml_event_body_t, empty: bool)
+pub fn put_event(
+    sink: &mut Sink,
+    settings: Settings,
+    directives: &[yaml_tag_directive_t],
+    place: Place,
+    top: Option<Level>,
+    event: &yaml_event_body_t,
+    empty: bool,
+)
     requires utf8 { HasUtf8 (body_of event.now) }
     requires encoding { settings.encoding ≡ sink.old.encoding }
     ensures { Puts sink.old sink.new (text_at (context_of settings (map directive_of directives.now)) place top (said (body_of event.now)) empty) }
@@ -29,25 +37,86 @@ pub fn put_event(sink: &mut Sink, settings: Settings, directives: &[yaml_tag_dir
         yaml_event_body_t::No => (),
         yaml_event_body_t::StreamStart { .. } => sink.put_order_mark(),
         yaml_event_body_t::StreamEnd => put_stop_at(sink, settings, place),
-        yaml_event_body_t::DocumentStart { version_directive, tag_directives, implicit } => {
-            put_start_at(sink, settings, place, *version_directive, tag_directives, *implicit)
+        yaml_event_body_t::DocumentStart {
+            version_directive,
+            tag_directives,
+            implicit,
+        } => {
+            put_start_at(
+                sink,
+                settings,
+                place,
+                *version_directive,
+                tag_directives,
+                *implicit,
+            )
         }
         yaml_event_body_t::DocumentEnd { implicit } => put_end(sink, settings, *implicit),
         yaml_event_body_t::Alias { anchor } => {
             put_before(sink, settings, top, simple);
             put_alias(sink, spot_of(top, simple), anchor);
         }
-        yaml_event_body_t::Scalar { anchor, tag, value, plain_implicit, quoted_implicit, style } => {
+        yaml_event_body_t::Scalar {
+            anchor,
+            tag,
+            value,
+            plain_implicit,
+            quoted_implicit,
+            style,
+        } => {
             put_before(sink, settings, top, simple);
-            put_scalar(sink, settings, directives, spot_of(top, simple), anchor, tag, value, *plain_implicit, *quoted_implicit, *style);
+            put_scalar(
+                sink,
+                settings,
+                directives,
+                spot_of(top, simple),
+                anchor,
+                tag,
+                value,
+                *plain_implicit,
+                *quoted_implicit,
+                *style,
+            );
         }
-        yaml_event_body_t::SequenceStart { anchor, tag, implicit, style } => {
+        yaml_event_body_t::SequenceStart {
+            anchor,
+            tag,
+            implicit,
+            style,
+        } => {
             put_before(sink, settings, top, simple);
-            put_collection(sink, settings, directives, spot_of(top, simple), '[', anchor, tag, *implicit, is_flow_sequence(*style), empty);
+            put_collection(
+                sink,
+                settings,
+                directives,
+                spot_of(top, simple),
+                '[',
+                anchor,
+                tag,
+                *implicit,
+                is_flow_sequence(*style),
+                empty,
+            );
         }
-        yaml_event_body_t::MappingStart { anchor, tag, implicit, style } => {
+        yaml_event_body_t::MappingStart {
+            anchor,
+            tag,
+            implicit,
+            style,
+        } => {
             put_before(sink, settings, top, simple);
-            put_collection(sink, settings, directives, spot_of(top, simple), '{', anchor, tag, *implicit, is_flow_mapping(*style), empty);
+            put_collection(
+                sink,
+                settings,
+                directives,
+                spot_of(top, simple),
+                '{',
+                anchor,
+                tag,
+                *implicit,
+                is_flow_mapping(*style),
+                empty,
+            );
         }
         yaml_event_body_t::SequenceEnd => put_closer_at(sink, settings, top, ']'),
         yaml_event_body_t::MappingEnd => put_closer_at(sink, settings, top, '}'),

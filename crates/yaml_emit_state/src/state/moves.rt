@@ -99,7 +99,11 @@ impl Core {
     {
         self.place = Place::Node;
         self.levels.step(simple);
-        self.push(Level { phase, flow, indent });
+        self.push(Level {
+            phase,
+            flow,
+            indent,
+        });
     }
 
     // A collection is opened, unless it would stand too deep or memory is wanting.
@@ -115,7 +119,14 @@ impl Core {
         }
     }
 
-    fn open_by(&mut self, settings: Settings, simple: bool, empty: bool, style_flow: bool, sequence: bool)
+    fn open_by(
+        &mut self,
+        settings: Settings,
+        simple: bool,
+        empty: bool,
+        style_flow: bool,
+        sequence: bool,
+    )
         ensures { Opens settings self.old self.new simple empty style_flow sequence }
     {
         let spot = spot_of(self.levels.top(), simple);
@@ -136,10 +147,24 @@ impl Core {
             yaml_event_body_t::No | yaml_event_body_t::DocumentStart { .. } => (),
             yaml_event_body_t::StreamStart { .. } => self.turn(Place::Documents(true, false)),
             yaml_event_body_t::StreamEnd => self.turn(Place::End),
-            yaml_event_body_t::DocumentEnd { implicit } => self.turn(Place::Documents(false, *implicit)),
+            yaml_event_body_t::DocumentEnd { implicit } => self.turn(Place::Documents(
+                false, *implicit,
+            )),
             yaml_event_body_t::Alias { .. } | yaml_event_body_t::Scalar { .. } => self.step(simple),
-            yaml_event_body_t::SequenceStart { style, .. } => self.open_by(settings, simple, empty, is_flow_sequence(*style), true),
-            yaml_event_body_t::MappingStart { style, .. } => self.open_by(settings, simple, empty, is_flow_mapping(*style), false),
+            yaml_event_body_t::SequenceStart { style, .. } => self.open_by(
+                settings,
+                simple,
+                empty,
+                is_flow_sequence(*style),
+                true,
+            ),
+            yaml_event_body_t::MappingStart { style, .. } => self.open_by(
+                settings,
+                simple,
+                empty,
+                is_flow_mapping(*style),
+                false,
+            ),
             yaml_event_body_t::SequenceEnd | yaml_event_body_t::MappingEnd => self.close(),
         }
     }

@@ -12,8 +12,8 @@ use std::fs;
 use std::io::{Read, Write};
 use std::rt::Files;
 use yaml_round::{
-    yaml_command_t, yaml_encoding_t, yaml_form_t, yaml_read_all, yaml_run,
-    yaml_same, yaml_settings_t, yaml_side_t, yaml_std_input_t, yaml_std_output_t, yaml_write_all,
+    yaml_command_t, yaml_encoding_t, yaml_form_t, yaml_read_all, yaml_run, yaml_same,
+    yaml_settings_t, yaml_side_t, yaml_std_input_t, yaml_std_output_t, yaml_write_all,
 };
 
 // What a run is told to do.
@@ -53,7 +53,15 @@ fn run_over<'a, R: Read, W: Write>(
         from,
         settings,
     } = task;
-    match yaml_run(alloc, &mut input, &mut output, command, from, &settings, INPUT_LIMIT) {
+    match yaml_run(
+        alloc,
+        &mut input,
+        &mut output,
+        command,
+        from,
+        &settings,
+        INPUT_LIMIT,
+    ) {
         Ok(form) => Ok(form),
         Err(fault) => Err(from_run_fault(alloc, Input::Only, &fault)),
     }

@@ -2,8 +2,8 @@
 
 ghost use Rattle.std.specs.Prelude.{◌≡◌, None, true, false, option_map, IfOk};
 ghost use Rattle.yaml_scan.specs.Faults.{fault_of};
-ghost use Rattle.yaml_parse_model.specs.Events.{event_of, body_of};
-ghost use Rattle.yaml_parse_model.specs.Constructors.{HasUtf8};
+ghost use Rattle.yaml_parse.specs.Events.{event_of, body_of};
+ghost use Rattle.yaml_parse.specs.Constructors.{HasUtf8};
 ghost use Rattle.yaml_emit_layout.specs.Content.{said};
 ghost use Rattle.yaml_emit.specs.Emitter.{stream_encoding, IsNew, ShowsFront, IsWhole, Given, Begins, Answers, Stays};
 
@@ -18,7 +18,7 @@ use std::marker::Model;
 use std::mem;
 use yaml_emit_state::Core;
 use yaml_emit_text::{Wishes, settled};
-use yaml_parse_model::{yaml_event_body_t, yaml_event_t};
+use yaml_parse::{yaml_event_body_t, yaml_event_t};
 use yaml_scan::{yaml_break_t, yaml_encoding_t, yaml_fault_t};
 
 /// An emitter: events to text.

@@ -5,8 +5,9 @@ ghost use Rattle.std.specs.Prelude.{◌≤◌};
 use crate::shared::{Shares, Turn};
 use crate::walk::{Step, Walk};
 use std::alloc::{AllocError, Global};
-use yaml_parse_document::{yaml_document_get_node, yaml_document_t};
-use yaml_parse_model::{yaml_event_body_t, yaml_node_body_t, yaml_node_t};
+use yaml_parse::{
+    yaml_document_get_node, yaml_document_t, yaml_event_body_t, yaml_node_body_t, yaml_node_t,
+};
 use yaml_scan::{yaml_scalar_style_t, yaml_tag_directive_t};
 
 /// The events of a document, one after another.

@@ -1,12 +1,12 @@
 //! The events that are held.
 
 ghost use Rattle.std.specs.Prelude.{◌≡◌, ◌<◌, ◌≤◌, ◌++◌, ◌∷◌, [], true, false, length, List};
-ghost use Rattle.yaml_parse_model.specs.Events.{body_of};
-ghost use Rattle.yaml_parse_model.specs.Constructors.{HasUtf8};
+ghost use Rattle.yaml_parse.specs.Events.{body_of};
+ghost use Rattle.yaml_parse.specs.Constructors.{HasUtf8};
 ghost use Rattle.yaml_emit_layout.specs.Content.{said};
 ghost use Rattle.yaml_emit_layout.specs.State.{opens_empty, closes_by};
 
-use yaml_parse_model::yaml_event_body_t;
+use yaml_parse::yaml_event_body_t;
 
 /// Places for events, the oldest first. Four are held only while one is given.
 #[derive(Drop)]

@@ -2,7 +2,7 @@
 
 use crate::walk::{Step, Walk};
 use std::alloc::{AllocError, Global};
-use yaml_parse_document::{yaml_document_get_node, yaml_document_t};
+use yaml_parse::{yaml_document_get_node, yaml_document_t};
 
 /// How often a node is visited.
 #[derive(Clone, Copy, PartialEq, Eq, Debug)]

@@ -1,8 +1,7 @@
 //! A walk over the nodes of a document, with a list of its own.
 
 use std::alloc::{AllocError, Global};
-use yaml_parse_document::{yaml_document_get_node, yaml_document_t};
-use yaml_parse_model::{yaml_node_body_t, yaml_node_t};
+use yaml_parse::{yaml_document_get_node, yaml_document_t, yaml_node_body_t, yaml_node_t};
 
 /// A collection that is being walked, and which of its children comes next.
 #[derive(Clone, Copy, PartialEq, Eq, Debug)]

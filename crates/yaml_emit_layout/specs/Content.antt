@@ -7,8 +7,8 @@ use Rattle.yaml_scan.specs.declared.yaml_sequence_style_t.TheVariants as sequenc
 use Rattle.yaml_scan.specs.declared.yaml_mapping_style_t.{yaml_mapping_style_t}
 use Rattle.yaml_scan.specs.declared.yaml_mapping_style_t.TheVariants as mapping_style
 use Rattle.yaml_scan.specs.declared.yaml_version_directive_t.{yaml_version_directive_t}
-use Rattle.yaml_parse_model.specs.Events.{TagDirective, EventBody}
-use Rattle.yaml_parse_model.specs.Events as model
+use Rattle.yaml_parse.specs.Events.{TagDirective, EventBody}
+use Rattle.yaml_parse.specs.Events as model
 
 -- a scalar; texts are bytes of UTF-8
 pub record Scalar : Type 0 where

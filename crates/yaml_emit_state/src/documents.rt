@@ -1,6 +1,6 @@
 //! What opens and ends documents.
 ghost use Rattle.std.specs.Prelude.{◌≡◌, ◌∷◌, [], None, Some, true, false, not, ◌&&◌, ◌||◌, map};
-ghost use Rattle.yaml_parse_model.specs.Events.{directive_of};
+ghost use Rattle.yaml_parse.specs.Events.{directive_of};
 ghost use Rattle.yaml_emit_text.specs.Sink.{Puts};
 ghost use Rattle.yaml_emit_text.specs.Layout.{◌▹◌, stay, when, choose, char, word, keep};
 ghost use Rattle.yaml_emit_layout.specs.Nodes.{dots, version_text, directives_text, directive_text, has_version, has_directives, dashes, is_kept, start_layout, end_layout, stop_layout, line_at, version_word};

@@ -2,12 +2,12 @@
 ghost use Rattle.std.specs.List.{list_all, list_any};
 ghost use Rattle.std.specs.Prelude.{◌≡◌, ◌∷◌, [], None, Some, true, false, if◌then◌else◌, not, ◌&&◌, ◌||◌, length, map, take, ◌≤◌};
 ghost use Rattle.yaml_scan.specs.Classes.{is_alpha_byte};
-ghost use Rattle.yaml_parse_model.specs.Events.{text_of, directive_of, body_of};
+ghost use Rattle.yaml_parse.specs.Events.{text_of, directive_of, body_of};
 ghost use Rattle.yaml_emit_layout.specs.Content.{said};
 ghost use Rattle.yaml_emit_layout.specs.Grammar.{has, name_problem, anchor_problem, tag_problem, kept_tag, event_problem, version_problem, handle_problem, prefix_problem, twice_problem, directive_problem, directives_problem, opening_problem, flags_problem, last_problem, ends_phase, begins_node, may_come, node_problem, place_problem, problem_by, between, inner_problem, ends_problem, has_handle, is_version, or_else};
 
 use yaml_emit_layout::{Level, Phase, Place, Problem};
-use yaml_parse_model::yaml_event_body_t;
+use yaml_parse::yaml_event_body_t;
 use yaml_scan::{IS_ALPHA, yaml_tag_directive_t, yaml_version_directive_t};
 
 fn are_alphas(name: &[u8]) -> bool

@@ -1,13 +1,13 @@
 //! Simple keys.
 ghost use Rattle.std.specs.Prelude.{◌≡◌, ◌∷◌, [], None, Some, true, false, not, ◌&&◌, ◌||◌, map, length, nat_le, ◌+◌, ◌≤◌};
-ghost use Rattle.yaml_parse_model.specs.Events.{directive_of, text_of, body_of};
+ghost use Rattle.yaml_parse.specs.Events.{directive_of, text_of, body_of};
 ghost use Rattle.yaml_emit_layout.specs.Content.{said, is_flow_sequence, is_flow_mapping};
 ghost use Rattle.yaml_emit_layout.specs.Grammar.{kept_tag};
 ghost use Rattle.yaml_emit_layout.specs.Nodes.{context_of, has_break, properties_size, text_size, written_size, is_simple_scalar, is_simple_alias, is_simple_start};
 ghost use Rattle.yaml_emit_layout.specs.State.{is_simple_event};
 
 use yaml_emit_text::{Settings, tag_size};
-use yaml_parse_model::yaml_event_body_t;
+use yaml_parse::yaml_event_body_t;
 use yaml_scan::{
     IS_BREAK, yaml_mapping_style_t, yaml_scalar_style_t, yaml_sequence_style_t,
     yaml_tag_directive_t,

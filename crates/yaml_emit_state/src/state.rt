@@ -1,6 +1,6 @@
 //! One event after another is laid out.
 ghost use Rattle.std.specs.Prelude.{◌≡◌, ◌≢◌, ◌∷◌, [], None, Some, true, false, not, ◌&&◌, ◌||◌, IfSome, if◌then◌else◌, map, IsUtf8};
-ghost use Rattle.yaml_parse_model.specs.Constructors.{HasUtf8};
+ghost use Rattle.yaml_parse.specs.Constructors.{HasUtf8};
 
 mod event;
 mod moves;
@@ -11,7 +11,7 @@ use event::put_event;
 use std::alloc::{AllocError, Global};
 use yaml_emit_layout::Place;
 use yaml_emit_text::{Settings, Sink, Status};
-use yaml_parse_model::yaml_event_body_t;
+use yaml_parse::yaml_event_body_t;
 use yaml_scan::yaml_tag_directive_t;
 
 /// Where an emitter stands: the settings in force, the output, what is expected, the open collections, and the directives of
@@ -28,7 +28,7 @@ pub struct Core {
 }
 
 impl Core {
-    ghost use Rattle.yaml_parse_model.specs.Events.{directive_of, body_of};
+    ghost use Rattle.yaml_parse.specs.Events.{directive_of, body_of};
     ghost use Rattle.yaml_emit_layout.specs.Content.{said};
     ghost use Rattle.yaml_emit_layout.specs.State.{problem_at};
     ghost use Rattle.yaml_emit_state.specs.Steps.{state_of, settings_of, LaysOut, IsFresh, Takes, Starves, goes_on};

@@ -1,7 +1,7 @@
 //! Tags (YAML 1.1, 7.1.2 and 3.2.1.2), anchors and aliases (3.2.2.2).
 
 ghost use Rattle.std.specs.Prelude.{◌≡◌, ◌<◌, ◌≤◌, ℕ, ◌+◌, ◌∷◌, [], ◌++◌, map, length, drop, true, false, not, ◌&&◌, ◌||◌, ◌==◌, if◌then◌else◌, Option, Some, None, codes};
-ghost use Rattle.yaml_parse_model.specs.Events.{directive_of};
+ghost use Rattle.yaml_parse.specs.Events.{directive_of};
 ghost use Rattle.yaml_emit_text.specs.Sink.{Puts};
 ghost use Rattle.yaml_emit_text.specs.Layout.{◌▹◌, char, letters, gap, word};
 ghost use Rattle.yaml_emit_text.specs.Quoted.{hex_2};

@@ -9,7 +9,7 @@ ghost use Rattle.yaml_parse_model.specs.Prefix.{prefix_of, no_fault};
 ghost use Rattle.yaml_parse_grammar.specs.Trees.{Stream, spell, items};
 ghost use Rattle.yaml_parse_grammar.specs.Resolve.{reading, no_directives};
 ghost use Rattle.yaml_parse_grammar.specs.Machine.{run, initial};
-ghost use Rattle.yaml_parse_grammar.specs.Coming.{reading_of, EventOf, FaultOf};
+ghost use Rattle.yaml_parse_grammar.specs.Coming.{reading_of, EventOf, FaultOf, IsFinished};
 ghost use Rattle.yaml_parse.specs.Steps.{Turns};
 
 use crate::step::{Turn, take_turn};
@@ -70,7 +70,8 @@ impl<S: yaml_token_source_t> yaml_parser_t<S> {
 
     /// Nothing more is to come, and that fault was answered.
     pub(crate) fn refuse(&mut self, fault: &yaml_fault_t)
-        ensures { IsFinished self.new × (self.new.answered ≡ fault_of fault.now) }
+        ensures finished { IsFinished self.new }
+        ensures answered { self.new.answered ≡ fault_of fault.now }
     {
         self.stack.clear();
         self.prefix = yaml_parser_t_prefix::of(fault);

@@ -4,8 +4,8 @@ use Rattle.yaml_scan.specs.declared.yaml_encoding_t.TheVariants.{YAML_ANY_ENCODI
 use Rattle.yaml_scan.specs.declared.yaml_scalar_style_t.TheVariants.{YAML_ANY_SCALAR_STYLE}
 use Rattle.yaml_scan.specs.declared.yaml_sequence_style_t.TheVariants.{YAML_ANY_SEQUENCE_STYLE}
 use Rattle.yaml_scan.specs.declared.yaml_mapping_style_t.TheVariants.{YAML_ANY_MAPPING_STYLE}
-use Rattle.yaml_parse_model.specs.Events.{EventBody}
-use Rattle.yaml_parse_model.specs.Events as event
+use Rattle.yaml_parse.specs.Events.{EventBody}
+use Rattle.yaml_parse.specs.Events as event
 
 -- an untagged scalar counts as plain or not; of a tagged one nothing is told
 abbrev pub counts_as_plain : Option (List ℕ) → Bool → Bool

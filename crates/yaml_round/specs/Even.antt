@@ -1,8 +1,8 @@
 -- Events evened for writing.
 use Rattle.std.specs.Prelude.{ℕ, Bool, true, false, ◌&&◌, ◌||◌, ◌==◌, if◌then◌else◌, List, [], ◌∷◌, length, slice_index, Option, Some, None}
 use Rattle.yaml_scan.specs.declared.yaml_scalar_style_t.{yaml_scalar_style_t}
-use Rattle.yaml_parse_model.specs.Events.{EventBody}
-use Rattle.yaml_parse_model.specs.Events as event
+use Rattle.yaml_parse.specs.Events.{EventBody}
+use Rattle.yaml_parse.specs.Events as event
 
 -- an empty scalar with the tag `!`
 abbrev pub is_lone_mark : Option (List ℕ) → List ℕ → Bool

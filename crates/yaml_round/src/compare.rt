@@ -5,8 +5,7 @@ use crate::even::evened;
 use crate::reading::{Reading, reading_of};
 use crate::settings::yaml_side_t;
 use std::alloc::Global;
-use yaml_parse::yaml_parser_parse;
-use yaml_parse_model::yaml_event_t;
+use yaml_parse::{yaml_event_t, yaml_parser_parse};
 use yaml_scan::{yaml_encoding_t, yaml_error_type_t, yaml_event_type_t, yaml_fault_t};
 
 fn is_end(event: &yaml_event_t) -> bool {

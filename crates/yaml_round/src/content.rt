@@ -1,10 +1,10 @@
 //! Whether events say the same.
 
 ghost use Rattle.std.specs.Prelude.{◌≡◌, ◌↔◌, IsTrue, map};
-ghost use Rattle.yaml_parse_model.specs.Events.{event_of, text_of, directive_of};
+ghost use Rattle.yaml_parse.specs.Events.{event_of, text_of, directive_of};
 ghost use Rattle.yaml_round.specs.Content.{content_of, counts_as_plain};
 
-use yaml_parse_model::{yaml_event_body_t, yaml_event_t};
+use yaml_parse::{yaml_event_body_t, yaml_event_t};
 use yaml_scan::{yaml_tag_directive_t, yaml_version_directive_t};
 
 // Whether both texts are there and equal, or neither is there.
@@ -67,21 +67,53 @@ pub(crate) fn agree(a: &yaml_event_t, b: &yaml_event_t) -> bool
         | (yaml_event_body_t::SequenceEnd, yaml_event_body_t::SequenceEnd)
         | (yaml_event_body_t::MappingEnd, yaml_event_body_t::MappingEnd) => true,
         (
-            yaml_event_body_t::DocumentStart { version_directive: v, tag_directives: d, .. },
-            yaml_event_body_t::DocumentStart { version_directive: w, tag_directives: e, .. },
+            yaml_event_body_t::DocumentStart {
+                version_directive: v,
+                tag_directives: d,
+                ..
+            },
+            yaml_event_body_t::DocumentStart {
+                version_directive: w,
+                tag_directives: e,
+                ..
+            },
         ) => same_version(v, w) && same_directives(d, e),
-        (yaml_event_body_t::Alias { anchor: x }, yaml_event_body_t::Alias { anchor: y }) => x.as_slice() == y.as_slice(),
+        (yaml_event_body_t::Alias { anchor: x }, yaml_event_body_t::Alias { anchor: y }) =>
+            x.as_slice() == y.as_slice(),
         (
-            yaml_event_body_t::Scalar { anchor, tag, value, plain_implicit: p, .. },
-            yaml_event_body_t::Scalar { anchor: y, tag: u, value: w, plain_implicit: q, .. },
-        ) => same_text(anchor, y) && same_text(tag, u) && value.as_slice() == w.as_slice() && same_flag(tag, *p, *q),
+            yaml_event_body_t::Scalar {
+                anchor,
+                tag,
+                value,
+                plain_implicit: p,
+                ..
+            },
+            yaml_event_body_t::Scalar {
+                anchor: y,
+                tag: u,
+                value: w,
+                plain_implicit: q,
+                ..
+            },
+        ) => same_text(anchor, y)
+            && same_text(tag, u)
+            && value.as_slice() == w.as_slice()
+            && same_flag(tag, *p, *q),
         (
             yaml_event_body_t::SequenceStart { anchor, tag, .. },
-            yaml_event_body_t::SequenceStart { anchor: y, tag: u, .. },
+            yaml_event_body_t::SequenceStart {
+                anchor: y,
+                tag: u,
+                ..
+            },
         )
         | (
             yaml_event_body_t::MappingStart { anchor, tag, .. },
-            yaml_event_body_t::MappingStart { anchor: y, tag: u, .. },
+            yaml_event_body_t::MappingStart {
+                anchor: y,
+                tag: u,
+                ..
+            },
         ) => same_text(anchor, y) && same_text(tag, u),
         _ => false,
     }

@@ -9,8 +9,10 @@ use crate::reading::reading_of;
 use crate::settings::{yaml_form_t, yaml_settings_t};
 use crate::writing::Writing;
 use std::alloc::Global;
-use yaml_parse::{yaml_parser_between, yaml_parser_load, yaml_parser_parse};
-use yaml_parse_document::{yaml_document_get_root_node, yaml_document_set_end_implicit};
+use yaml_parse::{
+    yaml_document_get_root_node, yaml_document_set_end_implicit, yaml_parser_between,
+    yaml_parser_load, yaml_parser_parse,
+};
 use yaml_round_lines::yaml_push_event_line;
 use yaml_scan::{
     yaml_encoding_t, yaml_event_type_t, yaml_fault_t, yaml_memory_fault, yaml_origin_t,

@@ -1,10 +1,10 @@
 //! Events evened for writing: what the reading leaves to chance is made the same.
 
 ghost use Rattle.std.specs.Prelude.{◌≡◌};
-ghost use Rattle.yaml_parse_model.specs.Events.{event_of, text_of};
+ghost use Rattle.yaml_parse.specs.Events.{event_of, text_of};
 ghost use Rattle.yaml_round.specs.Even.{even_body, is_lone_mark};
 
-use yaml_parse_model::{yaml_event_body_t, yaml_event_t};
+use yaml_parse::{yaml_event_body_t, yaml_event_t};
 
 // Whether a scalar is empty and has the tag `!`.
 fn is_lone(tag: &Option<Vec<u8>>, value: &[u8]) -> bool
@@ -21,20 +21,49 @@ fn is_lone(tag: &Option<Vec<u8>>, value: &[u8]) -> bool
 pub(crate) fn evened(event: yaml_event_t, ends: bool) -> yaml_event_t
     ensures { event_of result ≡ record (event_of event) { body = even_body ends (event_of event).body } }
 {
-    let yaml_event_t { body, start_mark, end_mark } = event;
+    let yaml_event_t {
+        body,
+        start_mark,
+        end_mark,
+    } = event;
     let body = match body {
         yaml_event_body_t::DocumentEnd { implicit } => yaml_event_body_t::DocumentEnd {
             implicit: implicit || ends,
         },
-        yaml_event_body_t::Scalar { anchor, tag, value, plain_implicit, quoted_implicit, style } => {
+        yaml_event_body_t::Scalar {
+            anchor,
+            tag,
+            value,
+            plain_implicit,
+            quoted_implicit,
+            style,
+        } => {
             let is_lone = is_lone(&tag, &value);
             if is_lone {
-                yaml_event_body_t::Scalar { anchor, tag: None, value, plain_implicit: true, quoted_implicit: false, style }
+                yaml_event_body_t::Scalar {
+                    anchor,
+                    tag: None,
+                    value,
+                    plain_implicit: true,
+                    quoted_implicit: false,
+                    style,
+                }
             } else {
-                yaml_event_body_t::Scalar { anchor, tag, value, plain_implicit, quoted_implicit, style }
+                yaml_event_body_t::Scalar {
+                    anchor,
+                    tag,
+                    value,
+                    plain_implicit,
+                    quoted_implicit,
+                    style,
+                }
             }
         }
         other => other,
     };
-    yaml_event_t { body, start_mark, end_mark }
+    yaml_event_t {
+        body,
+        start_mark,
+        end_mark,
+    }
 }

@@ -3,12 +3,11 @@
 use crate::settings::{yaml_output_encoding_t, yaml_settings_t};
 use std::alloc::Global;
 use yaml_emit::{
-    yaml_emitter_emit, yaml_emitter_initialize, yaml_emitter_into_output, yaml_emitter_set_break,
-    yaml_emitter_set_canonical, yaml_emitter_set_encoding, yaml_emitter_set_indent,
-    yaml_emitter_set_unicode, yaml_emitter_set_width, yaml_emitter_t,
+    yaml_emitter_dump, yaml_emitter_emit, yaml_emitter_initialize, yaml_emitter_into_output,
+    yaml_emitter_set_break, yaml_emitter_set_canonical, yaml_emitter_set_encoding,
+    yaml_emitter_set_indent, yaml_emitter_set_unicode, yaml_emitter_set_width, yaml_emitter_t,
 };
-use yaml_parse_document::yaml_document_t;
-use yaml_parse_model::{yaml_event_t, yaml_event_utf8};
+use yaml_parse::{yaml_document_t, yaml_event_t, yaml_event_utf8};
 use yaml_scan::{yaml_encoding_t, yaml_error_type_t, yaml_fault_t};
 
 #[derive(Drop)]
@@ -59,8 +58,8 @@ impl Writing {
         if self.refusal.is_some() {
             return Ok(());
         }
-        drop(document);
-        Ok(())
+        let answer = yaml_emitter_dump(&mut self.emitter, document);
+        self.keep(answer)
     }
 
     fn keep(&mut self, answer: Result<(), yaml_fault_t>) -> Result<(), yaml_fault_t> {

@@ -1,11 +1,11 @@
 //! The line that tells an event.
 
 ghost use Rattle.std.specs.Prelude.{◌≡◌, ◌++◌, [], ◌∷◌, OnOk};
-ghost use Rattle.yaml_parse_model.specs.Events.{event_of, text_of};
+ghost use Rattle.yaml_parse.specs.Events.{event_of, text_of};
 ghost use Rattle.yaml_round_lines.specs.EventLine.{escaped_byte, escaped, anchor_part, tag_part, sign_of, mark_part, event_text, event_line};
 
 use std::alloc::AllocError;
-use yaml_parse_model::{yaml_event_body_t, yaml_event_t};
+use yaml_parse::{yaml_event_body_t, yaml_event_t};
 use yaml_scan::yaml_scalar_style_t;
 
 // Adds a backslash and a sign.

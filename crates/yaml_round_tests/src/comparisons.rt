@@ -26,8 +26,14 @@ fn contents(rt: HostRuntime) -> Result<(), Fail> {
 fn event_lines(rt: HostRuntime) -> Result<(), Fail> {
     let any = yaml_encoding_t::YAML_ANY_ENCODING;
     let rows = [
-        (b"&a [b, 'c', *a]".as_slice(), "+STR\n+DOC\n+SEQ &a\n=VAL :b\n=VAL 'c\n=ALI *a\n-SEQ\n-DOC\n-STR\n"),
-        (b"%YAML 1.1\n--- !!str a\n...\n", "+STR\n+DOC ---\n=VAL <tag:yaml.org,2002:str> :a\n-DOC ...\n-STR\n"),
+        (
+            b"&a [b, 'c', *a]".as_slice(),
+            "+STR\n+DOC\n+SEQ &a\n=VAL :b\n=VAL 'c\n=ALI *a\n-SEQ\n-DOC\n-STR\n",
+        ),
+        (
+            b"%YAML 1.1\n--- !!str a\n...\n",
+            "+STR\n+DOC ---\n=VAL <tag:yaml.org,2002:str> :a\n-DOC ...\n-STR\n",
+        ),
         (b"- !", "+STR\n+DOC\n+SEQ\n=VAL <!> :\n-SEQ\n-DOC\n-STR\n"),
     ];
     for (input, want) in &rows {

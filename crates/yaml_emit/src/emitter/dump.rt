@@ -8,8 +8,9 @@ use super::yaml_emitter_t;
 use crate::fault::refusal;
 use crate::graph::Events;
 use std::alloc::AllocError;
-use yaml_parse_document::{yaml_document_get_node, yaml_document_t};
-use yaml_parse_model::{yaml_event_body_t, yaml_event_t, yaml_event_utf8};
+use yaml_parse::{
+    yaml_document_get_node, yaml_document_t, yaml_event_body_t, yaml_event_t, yaml_event_utf8,
+};
 use yaml_scan::{yaml_encoding_t, yaml_fault_t};
 
 /// Starts the stream.

@@ -1,7 +1,7 @@
 //! What is written for an event.
 ghost use Rattle.std.specs.Prelude.{◌≡◌, map};
-ghost use Rattle.yaml_parse_model.specs.Events.{directive_of, body_of};
-ghost use Rattle.yaml_parse_model.specs.Constructors.{HasUtf8};
+ghost use Rattle.yaml_parse.specs.Events.{directive_of, body_of};
+ghost use Rattle.yaml_parse.specs.Constructors.{HasUtf8};
 ghost use Rattle.yaml_emit_text.specs.Sink.{Puts};
 ghost use Rattle.yaml_emit_layout.specs.Content.{said};
 ghost use Rattle.yaml_emit_layout.specs.Nodes.{context_of};
@@ -14,7 +14,7 @@ use crate::keys::{is_flow_mapping, is_flow_sequence, is_simple};
 use crate::nodes::{put_alias, put_collection, put_scalar};
 use yaml_emit_layout::{Level, Place};
 use yaml_emit_text::{Settings, Sink};
-use yaml_parse_model::yaml_event_body_t;
+use yaml_parse::yaml_event_body_t;
 use yaml_scan::yaml_tag_directive_t;
 
 /// What is written for an event in its right place, but for the depth, by whether it opens a collection that the next event closes.

@@ -1,5 +1,5 @@
 use Rattle.std.proofs.Common.{sym, ◌∙◌}
-use Rattle.yaml_parse_model.specs.Events.{directive_of}
+use Rattle.yaml_parse.specs.Events.{directive_of}
 use Rattle.yaml_emit_state.proofs.Lists.{problem_more, problem_found, problem_none}
 use Rattle.yaml_emit_state.proofs.judge.directives_problem.Goals as goal
 

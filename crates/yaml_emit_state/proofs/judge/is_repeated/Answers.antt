@@ -1,5 +1,5 @@
 use Rattle.std.proofs.Common.{sym, ◌∙◌}
-use Rattle.yaml_parse_model.specs.Events.{directive_of}
+use Rattle.yaml_parse.specs.Events.{directive_of}
 use Rattle.yaml_emit_layout.specs.Grammar.{has_handle}
 use Rattle.yaml_emit_state.proofs.Lists.{any_more, any_found}
 use Rattle.yaml_emit_state.proofs.judge.is_repeated.Goals as goal

@@ -1,6 +1,6 @@
 use Rattle.std.proofs.Common.{◌≡◌, drop, map}
 use Rattle.std.specs.List.{list_any}
-use Rattle.yaml_parse_model.specs.Events.{directive_of}
+use Rattle.yaml_parse.specs.Events.{directive_of}
 use Rattle.yaml_emit_layout.specs.Grammar.{has_handle}
 use Rattle.yaml_emit_state.proofs.judge.is_repeated.Given as goal
 

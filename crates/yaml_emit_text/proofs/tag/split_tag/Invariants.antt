@@ -1,6 +1,6 @@
 use Rattle.std.proofs.Common.{◌≡◌}
 use Rattle.std.proofs.Common.{map, ◌++◌, drop}
-use Rattle.yaml_parse_model.specs.Events.{directive_of}
+use Rattle.yaml_parse.specs.Events.{directive_of}
 use Rattle.yaml_emit_text.specs.Tags.{split_tag, split_by, directive_for, defaults}
 use Rattle.yaml_emit_text.proofs.tag.split_tag.Given as goal
 

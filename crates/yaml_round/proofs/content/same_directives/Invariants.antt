@@ -1,6 +1,6 @@
 -- The fronts are the same.
 use Rattle.std.proofs.Common.{◌≡◌, map, take}
-use Rattle.yaml_parse_model.specs.Events.{directive_of}
+use Rattle.yaml_parse.specs.Events.{directive_of}
 use Rattle.yaml_round.proofs.content.same_directives.Given as goal
 
 abbrev pub invariant-loop-i : goal.invariant-loop-i

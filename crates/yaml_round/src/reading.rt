@@ -1,11 +1,12 @@
 //! The events of an input.
 
 use std::alloc::Global;
-use yaml_parse::{yaml_parser_initialize, yaml_parser_t};
+use yaml_parse::{yaml_event_t, yaml_parser_initialize, yaml_parser_t};
 use yaml_round_source::{yaml_token_list_t, yaml_token_utf8};
 use yaml_scan::{
-    yaml_encoding_t, yaml_error_type_t, yaml_fault_t, yaml_mark_t, yaml_memory_fault,
-    yaml_origin_t, yaml_parser_scan, yaml_parser_t as yaml_session_t, yaml_token_type_t,
+    yaml_encoding_t, yaml_error_type_t, yaml_event_type_t, yaml_fault_t, yaml_mark_t,
+    yaml_memory_fault, yaml_origin_t, yaml_parser_scan, yaml_parser_t as yaml_session_t,
+    yaml_token_type_t,
 };
 
 /// A parser of an input's tokens.
@@ -74,4 +75,9 @@ pub(crate) fn reading_of(
 ) -> Result<Reading, yaml_fault_t> {
     let list = tokens_of(alloc, input, from)?;
     yaml_parser_initialize(alloc, list)
+}
+
+/// Whether it is the empty event, which stands behind the last one.
+pub(crate) fn is_end(event: &yaml_event_t) -> bool {
+    event.type_() == yaml_event_type_t::YAML_NO_EVENT
 }

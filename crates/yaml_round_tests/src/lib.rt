@@ -1,9 +1,16 @@
-//! Tests that cross the crates: the engine over slices and over scripted devices.
+//! Tests that cross the crates: tokens to events and documents, events to text, and the engine over slices and over
+//! scripted devices.
 #![tactic(auto)]
 
 #[cfg(test)]
 mod comparisons;
 #[cfg(test)]
 mod devices;
+#[cfg(test)]
+mod emitting;
+#[cfg(test)]
+mod parsing;
+#[cfg(test)]
+mod reloads;
 #[cfg(test)]
 mod rows;

@@ -84,6 +84,34 @@ pub fn encoding(line: &Value, name: &'static str) -> Result<yaml_encoding_t, Vec
     encoding_of(text(line, name)?)
 }
 
+/// That field, true or false.
+pub fn flag(line: &Value, name: &'static str) -> Result<bool, VectorError> {
+    match line.get(name).and_then(Value::as_bool) {
+        Some(flag) => Ok(flag),
+        None => Err(VectorError::Field(name)),
+    }
+}
+
+/// That field, a number of 32 bits.
+pub fn number(line: &Value, name: &'static str) -> Result<i32, VectorError> {
+    match line
+        .get(name)
+        .and_then(Value::as_i64)
+        .and_then(|n| i32::try_from(n).ok())
+    {
+        Some(number) => Ok(number),
+        None => Err(VectorError::Field(name)),
+    }
+}
+
+/// That field, a number that isn't negative.
+pub fn count(line: &Value, name: &'static str) -> Result<u64, VectorError> {
+    match line.get(name).and_then(Value::as_u64) {
+        Some(count) => Ok(count),
+        None => Err(VectorError::Field(name)),
+    }
+}
+
 // What is told of an item of an array that isn't of its form.
 const ITEM: &str = "item";
 

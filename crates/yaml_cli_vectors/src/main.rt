@@ -3,8 +3,15 @@
 
 mod compare;
 mod decode;
+mod events;
+mod fault_line;
 mod field;
+mod reformat;
+mod reload;
 mod replay;
+mod same;
+mod scan;
+mod setting;
 mod shown;
 mod tally;
 mod token;

@@ -1,0 +1,21 @@
+//! The call `events`.
+
+use crate::field::{self, VectorError};
+use crate::shown;
+use serde_json::{Value, json};
+use std::alloc::Global;
+use yaml_round::yaml_events;
+
+/// The fields that this call answers: the event lines, or the fault.
+pub const ANSWERS: [&str; 2] = ["answer", "fault"];
+
+/// What the call answers on the line's input.
+pub fn answer(alloc: Global, line: &Value) -> Result<Value, VectorError> {
+    let input = field::bytes(alloc, line, "input")?;
+    let from = field::encoding(line, "from")?;
+    let got = match yaml_events(alloc, input.as_slice(), from) {
+        Ok(text) => json!(in alloc; {"answer": (shown::bytes(alloc, text.as_slice())?)})?,
+        Err(fault) => json!(in alloc; {"fault": (shown::fault(alloc, &fault)?)})?,
+    };
+    Ok(got)
+}

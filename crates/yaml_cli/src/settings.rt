@@ -47,19 +47,10 @@ pub(crate) fn settings_of<'a>(
     Ok(yaml_settings_t {
         encoding,
         canonical: !matches.get_flag("pretty"),
-        indent: matches
-            .get_one::<i32>("indent")
-            .copied()
-            .unwrap_or(usual.indent),
-        width: matches
-            .get_one::<i32>("width")
-            .copied()
-            .unwrap_or(usual.width),
+        indent: matches.get_one::<i32>("indent").unwrap_or(usual.indent),
+        width: matches.get_one::<i32>("width").unwrap_or(usual.width),
         unicode: !matches.get_flag("ascii"),
         line_break,
-        limit: matches
-            .get_one::<u64>("limit")
-            .copied()
-            .unwrap_or(usual.limit),
+        limit: matches.get_one::<u64>("limit").unwrap_or(usual.limit),
     })
 }

@@ -7,26 +7,29 @@ use std::rt::Files;
 use std::test::Fail;
 use yaml_round_scripted::{scripted_reader_t, scripted_writer_t, step_t, write_step_t};
 
-#[derive(Drop)]
+#[derive(Clone, Copy)]
 struct case_t<'a> {
     words: &'a [&'a str],
     input: &'a [u8],
-    writes: &'a [write_step_t],
     status: u8,
-    output: &'a str,
+    output: &'a [u8],
     errors: &'a str,
 }
 
-fn check<H: Files + AllocGlobal + Abort>(rt: &H, case: &case_t) -> Result<(), Fail> {
+fn check_over<H: Files + AllocGlobal + Abort>(
+    rt: &H,
+    case: case_t,
+    writes: &[write_step_t],
+) -> Result<(), Fail> {
     let steps = [step_t::Piece(case.input)];
     let mut input = scripted_reader_t::new(&steps);
-    let mut output = scripted_writer_t::new(rt.alloc(), case.writes, false);
+    let mut output = scripted_writer_t::new(rt.alloc(), writes, false);
     let mut errors = scripted_writer_t::new(rt.alloc(), &[], false);
     let status = yaml_main(rt, case.words, &mut input, &mut output, &mut errors);
     let words = case.words;
     let wrote = String::from_utf8_lossy(rt.alloc(), errors.received())?;
     assert_eq!(rt; status, case.status, "{words:?} said {wrote}");
-    assert_eq!(rt; output.received(), case.output.as_bytes(), "{words:?}");
+    assert_eq!(rt; output.received(), case.output, "{words:?}");
     assert_eq!(rt;
         errors.received(),
         case.errors.as_bytes(),
@@ -35,60 +38,198 @@ fn check<H: Files + AllocGlobal + Abort>(rt: &H, case: &case_t) -> Result<(), Fa
     Ok(())
 }
 
-#[test]
-fn commands(rt: HostRuntime) -> Result<(), Fail> {
-    let cases = [
-        case_t {
-            words: &["x", "fmt"],
-            input: b"[]",
-            writes: &[],
-            status: 0,
-            output: "---\n[]\n",
-            errors: "",
-        },
-        case_t {
-            words: &["x", "fmt"],
-            input: b"foo",
-            writes: &[],
-            status: 1,
-            output: "",
-            errors: "yaml_cli: scanner error: not read yet (line 1, column 1)\n",
-        },
-        case_t {
-            words: &["x", "fmt", "no/such/file"],
-            input: b"[]",
-            writes: &[],
-            status: 1,
-            output: "",
-            errors: "yaml_cli: cannot read the input\n",
-        },
-        case_t {
-            words: &["x", "fmt"],
-            input: b"[]",
-            writes: &[write_step_t::Takes(3), write_step_t::Failure],
-            status: 1,
-            output: "---",
-            errors: "yaml_cli: write failed after 3 bytes\n",
-        },
-    ];
-    for case in &cases {
-        check(&rt, case)?;
-    }
-    Ok(())
+fn answers<H: Files + AllocGlobal + Abort>(
+    rt: &H,
+    words: &[&str],
+    input: &[u8],
+    output: &[u8],
+) -> Result<(), Fail> {
+    let case = case_t {
+        words,
+        input,
+        status: 0,
+        output,
+        errors: "",
+    };
+    check_over(rt, case, &[])
+}
+
+fn refuses<H: Files + AllocGlobal + Abort>(
+    rt: &H,
+    words: &[&str],
+    input: &[u8],
+    status: u8,
+    errors: &str,
+) -> Result<(), Fail> {
+    let case = case_t {
+        words,
+        input,
+        status,
+        output: b"",
+        errors,
+    };
+    check_over(rt, case, &[])
 }
 
 #[test]
-fn a_file(rt: HostRuntime) -> Result<(), Fail> {
-    fs::write(&rt, "sequence.yaml", "[\"a\"]\n")?;
+fn formats(rt: HostRuntime) -> Result<(), Fail> {
+    answers(&rt, &["x", "fmt"], b"foo", b"---\n! \"foo\"\n")?;
+    answers(&rt, &["x", "fmt", "--pretty"], b"k:\n  - x\n", b"k:\n- x\n")?;
+    answers(
+        &rt,
+        &["x", "docs"],
+        b"- &x b\n- *x\n",
+        b"---\n!!seq [\n  &id001 !!str \"b\",\n  *id001,\n]\n",
+    )?;
+    answers(
+        &rt,
+        &["x", "events"],
+        b"- !",
+        b"+STR\n+DOC\n+SEQ\n=VAL <!> :\n-SEQ\n-DOC\n-STR\n",
+    )
+}
+
+#[test]
+fn columns(rt: HostRuntime) -> Result<(), Fail> {
+    answers(
+        &rt,
+        &["x", "fmt", "--width", "10"],
+        b"\"aaaa bbbb cccc dddd\"",
+        b"---\n\"aaaa bbbb cccc\n  dddd\"\n",
+    )?;
+    answers(
+        &rt,
+        &["x", "fmt", "--indent", "4"],
+        b"[\"a\"]",
+        b"---\n[\n    \"a\",\n]\n",
+    )?;
+    answers(
+        &rt,
+        &["x", "fmt", "--break", "cr"],
+        b"foo",
+        b"---\r! \"foo\"\r",
+    )
+}
+
+#[test]
+fn encodings(rt: HostRuntime) -> Result<(), Fail> {
+    answers(
+        &rt,
+        &["x", "fmt", "--ascii"],
+        b"\xC3\xA9",
+        b"---\n! \"\\xE9\"\n",
+    )?;
+    answers(
+        &rt,
+        &["x", "fmt", "--from", "utf8"],
+        b"\xEF\xBB\xBF--- a",
+        b"---\n! \"--- a\"\n",
+    )?;
+    answers(
+        &rt,
+        &["x", "fmt", "--encoding", "utf16le"],
+        b"[]",
+        b"\xFF\xFE-\0-\0-\0\n\0[\0]\0\n\0",
+    )
+}
+
+#[test]
+fn refusals(rt: HostRuntime) -> Result<(), Fail> {
+    refuses(
+        &rt,
+        &["x", "fmt", "--limit", "11"],
+        b"foo",
+        1,
+        "yaml_cli: writer error: write error\n",
+    )?;
+    refuses(
+        &rt,
+        &["x", "fmt"],
+        b"a\xFF",
+        1,
+        "yaml_cli: reader error: invalid leading UTF-8 octet (byte 1, value 255)\n",
+    )?;
+    refuses(
+        &rt,
+        &["x", "fmt", "no/such/file"],
+        b"",
+        1,
+        "yaml_cli: cannot read the input\n",
+    )?;
+    refuses(
+        &rt,
+        &["x", "fmt", "--break", "xx"],
+        b"",
+        2,
+        "yaml_cli: unknown break: xx\n",
+    )?;
+    refuses(
+        &rt,
+        &["x", "docs", "--from", "y", "--encoding", "z"],
+        b"",
+        2,
+        "yaml_cli: unknown encoding: z\n",
+    )?;
+    refuses(
+        &rt,
+        &["x", "events", "--from", "y"],
+        b"",
+        2,
+        "yaml_cli: unknown input encoding: y\n",
+    )
+}
+
+#[test]
+fn a_fall_back_is_told(rt: HostRuntime) -> Result<(), Fail> {
     let case = case_t {
-        words: &["x", "fmt", "sequence.yaml"],
-        input: b"",
-        writes: &[],
+        words: &["x", "fmt", "--pretty"],
+        input: b"!",
         status: 0,
-        output: "---\n[\n  \"a\",\n]\n",
-        errors: "",
+        output: b"---\n! \"\"\n",
+        errors: "yaml_cli: canonical form was written\n",
     };
-    let checked = check(&rt, &case);
-    fs::remove_file(&rt, "sequence.yaml")?;
-    checked
+    check_over(&rt, case, &[])
+}
+
+#[test]
+fn a_failed_write_is_told(rt: HostRuntime) -> Result<(), Fail> {
+    let case = case_t {
+        words: &["x", "fmt"],
+        input: b"[]",
+        status: 1,
+        output: b"---",
+        errors: "yaml_cli: write failed after 3 bytes\n",
+    };
+    check_over(&rt, case, &[write_step_t::Takes(3), write_step_t::Failure])
+}
+
+#[test]
+fn files(rt: HostRuntime) -> Result<(), Fail> {
+    fs::write(&rt, "one.yaml", "foo")?;
+    fs::write(&rt, "two.yaml", "'foo'")?;
+    fs::write(&rt, "wrong.yaml", "]")?;
+    answers(&rt, &["x", "fmt", "one.yaml"], b"", b"---\n! \"foo\"\n")?;
+    answers(&rt, &["x", "same", "one.yaml", "one.yaml"], b"", b"equal\n")?;
+    answers(
+        &rt,
+        &["x", "same", "one.yaml", "two.yaml"],
+        b"",
+        b"different\n",
+    )?;
+    let first =
+        "yaml_cli: first input: parser error: while parsing a block node (line 1, column 1): did not find expected node content (line 1, column 1)\n";
+    let second =
+        "yaml_cli: second input: parser error: while parsing a block node (line 1, column 1): did not find expected node content (line 1, column 1)\n";
+    refuses(&rt, &["x", "same", "wrong.yaml", "one.yaml"], b"", 1, first)?;
+    refuses(
+        &rt,
+        &["x", "same", "one.yaml", "wrong.yaml"],
+        b"",
+        1,
+        second,
+    )?;
+    fs::remove_file(&rt, "one.yaml")?;
+    fs::remove_file(&rt, "two.yaml")?;
+    fs::remove_file(&rt, "wrong.yaml")?;
+    Ok(())
 }

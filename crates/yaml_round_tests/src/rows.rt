@@ -186,6 +186,22 @@ fn limits(rt: HostRuntime) -> Result<(), Fail> {
         ..usual()
     };
     refused(&rt, &eleven, b"foo", "writer error: write error")?;
+    let exact = yaml_settings_t {
+        limit: 22,
+        ..usual()
+    };
+    becomes(
+        &rt,
+        &exact,
+        yaml_form_t::Canonical,
+        b"[\"a\", \"b\"]",
+        b"---\n[\n  \"a\",\n  \"b\",\n]\n",
+    )?;
+    let short = yaml_settings_t {
+        limit: 21,
+        ..usual()
+    };
+    refused(&rt, &short, b"[\"a\", \"b\"]", "writer error: write error")?;
     let zero = yaml_settings_t {
         limit: 0,
         ..usual()

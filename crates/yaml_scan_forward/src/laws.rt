@@ -1,0 +1,58 @@
+//! Each function's contract is a law.
+
+ghost use Rattle.yaml_scan_forward.specs.Laws.{
+  GoesForward,
+  LexemesStand,
+  SettledStays,
+  AreFew,
+  StepsCount,
+  AllEnds,
+  LastIsAll,
+  StaysAll,
+  HistoryGrows,
+};
+
+/// Each lexeme stands behind the ones before it: places and lines never go back.
+pub fn goes_forward()
+    ensures { GoesForward }
+{}
+
+/// A lexeme's marks are marks of the text. The stream's start and end take no byte, every other lexeme at least one.
+pub fn lexemes_stand()
+    ensures { LexemesStand }
+{}
+
+/// What stands before the earliest open candidate never changes, whatever follows.
+pub fn settled_stays()
+    ensures { SettledStays }
+{}
+
+/// A text has at most two lexemes more than bytes.
+pub fn are_few()
+    ensures { AreFew }
+{}
+
+/// While lexemes are read, each step reads one.
+pub fn steps_count()
+    ensures { StepsCount }
+{}
+
+/// No lexeme comes behind all of them.
+pub fn all_ends()
+    ensures { AllEnds }
+{}
+
+/// Where no lexeme comes, all are read.
+pub fn last_is_all()
+    ensures { LastIsAll }
+{}
+
+/// Steps behind the last one change nothing.
+pub fn stays_all()
+    ensures { StaysAll }
+{}
+
+/// A further step keeps the lexemes of the steps before it.
+pub fn history_grows()
+    ensures { HistoryGrows }
+{}

@@ -1,0 +1,10 @@
+//! Laws of the layout: lexemes stand one behind the other, each takes a byte at least, the list of them ends, and
+//! what is settled stays so, in every text. No code.
+#![tactic(auto)]
+
+mod laws;
+
+pub use laws::{
+    all_ends, are_few, goes_forward, history_grows, last_is_all, lexemes_stand, settled_stays,
+    stays_all, steps_count,
+};

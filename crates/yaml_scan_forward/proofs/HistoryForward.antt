@@ -16,13 +16,13 @@ use Rattle.yaml_scan_forward.proofs.MarksForward.{line_at-grows, mark_start}
 use Rattle.yaml_scan_forward.proofs.NextForward.{Follows, ReadsBehind, next_reads}
 
 -- the newest lexeme reaches a place of the text, and the ones before it are no more than the bytes before that place
-record Reaches (text : List ℕ) (l : Lexeme) (h : List Lexeme) : Type 0 where
+pub record Reaches (text : List ℕ) (l : Lexeme) (h : List Lexeme) : Type 0 where
   pub inside : l.reached.index ≤ length text
   pub mark : is_end l.kind ≡ false → l.reached ≡ mark_at text l.reached.index
   pub few : is_end l.kind ≡ false → length h ≤ l.reached.index
   pub count : length h ≤ suc (length text)
 
-abbrev Stands : List ℕ → List Lexeme → Type 0
+abbrev pub Stands : List ℕ → List Lexeme → Type 0
 Stands text [] = Unit {0}
 Stands text (l ∷ h) = Reaches text l h
 
@@ -35,12 +35,12 @@ reads_same : (a b : Lexeme) → Read a ≡ Read b → a ≡ b
 unfolding lexeme_of
 reads_same a b e = ap lexeme_of e
 
-first_is : (text : List ℕ) (l : Lexeme) → next text [] ≡ Read l → first_lexeme ≡ l
+pub first_is : (text : List ℕ) (l : Lexeme) → next text [] ≡ Read l → first_lexeme ≡ l
 unfolding next
 first_is text l e = reads_same first_lexeme l e
 
 -- nothing is read behind the end
-not_ended : (text : List ℕ) (x : Lexeme) (h : List Lexeme) (l : Lexeme) → next text (x ∷ h) ≡ Read l → is_end x.kind ≡ false
+pub not_ended : (text : List ℕ) (x : Lexeme) (h : List Lexeme) (l : Lexeme) → next text (x ∷ h) ≡ Read l → is_end x.kind ≡ false
 unfolding next
 not_ended text x h l e =
     elim (cases_Bool (is_end x.kind)) [
@@ -51,11 +51,11 @@ not_ended text x h l e =
 read_follows : (text : List ℕ) (x : Lexeme) (h : List Lexeme) (l : Lexeme) → x.reached.index ≤ length text → next text (x ∷ h) ≡ Read l → Follows text x.reached.index l
 read_follows text x h l i e = subst (ReadsBehind text x.reached.index) e (next_reads text x h i)
 
-reached_inside : (text : List ℕ) (l : Lexeme) (ended : Bool) → takes ended text l → (l.reached.index ≤ length text) × (l.start.index ≤ l.reached.index)
+pub reached_inside : (text : List ℕ) (l : Lexeme) (ended : Bool) → takes ended text l → (l.reached.index ≤ length text) × (l.start.index ≤ l.reached.index)
 reached_inside text l true t = let same = ap (λ (m : yaml_mark_t). m.index) t.reached in (omega (arith, same, t.inside), omega (arith, same))
 reached_inside text l false t = (t.inside, omega (arith, t.some, t.order))
 
-takes_bytes : (text : List ℕ) (l : Lexeme) → StandsIn text l → is_end l.kind ≡ false → TakesBytes text l
+pub takes_bytes : (text : List ℕ) (l : Lexeme) → StandsIn text l → is_end l.kind ≡ false → TakesBytes text l
 takes_bytes text l t e = subst (λ b. takes b text l) e t
 
 first_stands : (text : List ℕ) → Reaches text first_lexeme []
@@ -79,7 +79,7 @@ extended_stands text h (Read l) s e = read_stands text h l s e
 extended_stands text h (Fails f) s e = s
 extended_stands text h Ends s e = s
 
-history_stands : (text : List ℕ) (n : ℕ) → Stands text (history text n)
+pub history_stands : (text : List ℕ) (n : ℕ) → Stands text (history text n)
 unfolding history
 history_stands text zero = tt
 history_stands text (suc n) = extended_stands text (history text n) (next text (history text n)) (history_stands text n) refl
@@ -107,7 +107,7 @@ placed_reached text l false t =
     let last = ap (λ (m : yaml_mark_t). m.line) t.reached in
     (forward, omega (arith, grown, first, last))
 
-read_forward : (text : List ℕ) (h : List Lexeme) (l : Lexeme) → Stands text h → next text h ≡ Read l → Upto (reached h) l.start × Upto l.start l.reached
+pub read_forward : (text : List ℕ) (h : List Lexeme) (l : Lexeme) → Stands text h → next text h ≡ Read l → Upto (reached h) l.start × Upto l.start l.reached
 read_forward text [] l s e = rw (← first_is text l e) ((omega arith, omega arith), (omega arith, omega arith))
 read_forward text (x ∷ h) l s e =
     let (f, t) = read_follows text x h l s.inside e in
@@ -120,7 +120,7 @@ read_forward text (x ∷ h) l s e =
 pub goes_forward : (text : List ℕ) → GoesForward text
 goes_forward text n l e = read_forward text (history text n) l (history_stands text n) e
 
-stand_in : (text : List ℕ) (h : List Lexeme) (l : Lexeme) → 0 < length h → Stands text h → next text h ≡ Read l → ((reached h).index ≤ l.start.index) × StandsIn text l
+pub stand_in : (text : List ℕ) (h : List Lexeme) (l : Lexeme) → 0 < length h → Stands text h → next text h ≡ Read l → ((reached h).index ≤ l.start.index) × StandsIn text l
 stand_in text [] l some s e = absurd (omega arith)
 stand_in text (x ∷ h) l some s e = read_follows text x h l s.inside e
 

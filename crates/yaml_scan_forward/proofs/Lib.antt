@@ -5,3 +5,4 @@ pub mod BlockForward
 pub mod WordForward
 pub mod NextForward
 pub mod HistoryForward
+pub mod HeldForward

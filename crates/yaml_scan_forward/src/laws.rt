@@ -10,6 +10,8 @@ ghost use Rattle.yaml_scan_forward.specs.Laws.{
   LastIsAll,
   StaysAll,
   HistoryGrows,
+  HeldIsShort,
+  FewAreHeld,
 };
 
 /// Each lexeme stands behind the ones before it: places and lines never go back.
@@ -55,4 +57,14 @@ pub fn stays_all()
 /// A further step keeps the lexemes of the steps before it.
 pub fn history_grows()
     ensures { HistoryGrows }
+{}
+
+/// At most 1,025 lexemes wait for what follows: those from the earliest open candidate on.
+pub fn few_are_held()
+    ensures { FewAreHeld }
+{}
+
+/// What waits is short: it begins on the line that is reached, at most 1,024 bytes before the place that is reached.
+pub fn held_is_short()
+    ensures { HeldIsShort }
 {}

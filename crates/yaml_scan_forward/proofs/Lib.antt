@@ -6,3 +6,5 @@ pub mod WordForward
 pub mod NextForward
 pub mod HistoryForward
 pub mod HeldForward
+pub mod OuterForward
+pub mod ComingForward

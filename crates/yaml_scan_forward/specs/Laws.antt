@@ -1,7 +1,7 @@
 -- What is known of the lexemes of every text.
 use Rattle.std.specs.Prelude.{ℕ, suc, ◌+◌, ◌≡◌, ◌≢◌, ◌<◌, ◌≤◌, Some, List, ◌++◌, length, take}
 use Rattle.yaml_scan_layout.specs.declared.lexeme.Lexeme.{Lexeme}
-use Rattle.yaml_scan_layout.specs.History.{reached, Candidate, candidate, entries, first_open}
+use Rattle.yaml_scan_layout.specs.History.{reached, Candidate, candidate, fresh, entries, first_open}
 use Rattle.yaml_scan_layout.specs.Next.{Read, next, history}
 use Rattle.yaml_scan_layout.specs.Coming.{all, handed}
 use Rattle.yaml_scan_layout.specs.Laws as layout
@@ -52,3 +52,7 @@ HeldIsShort = (text : List ℕ) (n : ℕ) → first_open (history text n) (histo
 -- At most 1,025 lexemes stand from the earliest open candidate on.
 abbrev pub FewAreHeld : Type 0
 FewAreHeld = (text : List ℕ) (n : ℕ) → length (history text n) ≤ first_open (history text n) (history text n) + 1025
+
+-- An open candidate outside all brackets is the earliest open one.
+abbrev pub OuterIsFirst : Type 0
+OuterIsFirst = (h : List Lexeme) (c : Candidate) → fresh (candidate 0 h) (reached h) ≡ Some c → first_open h h ≡ c.number

@@ -1,2 +1,3 @@
 pub mod Standing
 pub mod Laws
+pub mod Fronts

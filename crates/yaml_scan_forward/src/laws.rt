@@ -12,7 +12,9 @@ ghost use Rattle.yaml_scan_forward.specs.Laws.{
   HistoryGrows,
   HeldIsShort,
   FewAreHeld,
+  OuterIsFirst,
 };
+ghost use Rattle.yaml_scan_forward.specs.Fronts.{SettledComes, LastComes, EndsCome, FaultComes, EndComes};
 
 /// Each lexeme stands behind the ones before it: places and lines never go back.
 pub fn goes_forward()
@@ -67,4 +69,19 @@ pub fn few_are_held()
 /// What waits is short: it begins on the line that is reached, at most 1,024 bytes before the place that is reached.
 pub fn held_is_short()
     ensures { HeldIsShort }
+{}
+
+/// The open candidate outside all brackets is the earliest open one.
+pub fn outer_is_first()
+    ensures { OuterIsFirst }
+{}
+
+/// What comes first of what is to come, where so much of the text is read: a token of the lexeme that is to be taken,
+/// or of those that close levels in front of a candidate, or the fault, or nothing.
+pub fn fronts_come()
+    ensures settled { SettledComes }
+    ensures last { LastComes }
+    ensures ends { EndsCome }
+    ensures fault { FaultComes }
+    ensures nothing { EndComes }
 {}

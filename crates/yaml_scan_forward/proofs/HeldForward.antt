@@ -134,6 +134,7 @@ near_by s m h = (grind (arith, nat_tests), grind (arith, nat_tests))
 -- a candidate that is open: as many lexemes from it on as bytes, and on the line that is reached
 record IsHeld (h : List Lexeme) (c : Candidate) : Type 0 where
   pub few : length h ≤ c.number + 1025
+  pub fewer : ended h ≡ false → length h ≤ c.number + 1024
   pub line : (reached h).line ≡ c.lexeme.start.line
   pub near : (reached h).index ≤ c.lexeme.start.index + 1024
   pub own : candidate c.lexeme.depth h ≡ Some c
@@ -149,6 +150,7 @@ held_is text h d c chain e fresh =
     let long : length h ≡ length (f.newer ++ c.lexeme ∷ f.older) = ap length there in
     record {
       few = omega (arith, here.all_but_one, near, f.number, long, length-append f.newer (c.lexeme ∷ f.older));
+      fewer = λ n. let each = here.each n in omega (arith, each, near, f.number, long, length-append f.newer (c.lexeme ∷ f.older));
       line = omega (arith, line, here.lines);
       near = near;
       own = ap (λ d. candidate d h) f.depth ∙ e;
@@ -176,3 +178,14 @@ pub held_is_short : (text : List ℕ) (n : ℕ) → let h = history text n in fi
 held_is_short text n below =
     let (c, m, held) = first_held text (history text n) (history_chain text n) below in
     (c, m, held.own, held.line, held.near)
+
+few_waiting : (text : List ℕ) (h : List Lexeme) → Chain text h → ended h ≡ false → length h ≤ first_open h h + 1024
+few_waiting text h chain more =
+    elim (cases_lt (first_open h h) (length h)) [
+      | inl below ↦ let (c, m, held) = first_held text h chain below in let few = held.fewer more in omega (arith, few, m)
+      | inr past ↦ omega (arith, past)
+    ]
+
+-- at most 1,024 lexemes wait where one more is read
+pub few_wait : (text : List ℕ) (n : ℕ) (l : Lexeme) → next text (history text n) ≡ Read l → length (history text n) ≤ first_open (history text n) (history text n) + 1024
+few_wait text n l e = few_waiting text (history text n) (history_chain text n) (open_before text (history text n) l e)

@@ -56,3 +56,7 @@ FewAreHeld = (text : List ℕ) (n : ℕ) → length (history text n) ≤ first_o
 -- An open candidate outside all brackets is the earliest open one.
 abbrev pub OuterIsFirst : Type 0
 OuterIsFirst = (h : List Lexeme) (c : Candidate) → fresh (candidate 0 h) (reached h) ≡ Some c → first_open h h ≡ c.number
+
+-- At most 1,024 of them wait where one more is read.
+abbrev pub FewWait : Type 0
+FewWait = (text : List ℕ) (n : ℕ) (l : Lexeme) → next text (history text n) ≡ Read l → length (history text n) ≤ first_open (history text n) (history text n) + 1024

@@ -12,6 +12,7 @@ ghost use Rattle.yaml_scan_forward.specs.Laws.{
   HistoryGrows,
   HeldIsShort,
   FewAreHeld,
+  FewWait,
   OuterIsFirst,
 };
 ghost use Rattle.yaml_scan_forward.specs.Fronts.{SettledComes, LastComes, EndsCome, FaultComes, EndComes};
@@ -61,9 +62,11 @@ pub fn history_grows()
     ensures { HistoryGrows }
 {}
 
-/// At most 1,025 lexemes wait for what follows: those from the earliest open candidate on.
+/// At most 1,025 lexemes wait for what follows: those from the earliest open candidate on. Where one more is read, at
+/// most 1,024 wait for it.
 pub fn few_are_held()
-    ensures { FewAreHeld }
+    ensures all { FewAreHeld }
+    ensures before { FewWait }
 {}
 
 /// What waits is short: it begins on the line that is reached, at most 1,024 bytes before the place that is reached.

@@ -1,3 +1,5 @@
 pub mod Front
 pub mod Moves
 pub mod Turning
+pub mod Texts
+pub mod Loading

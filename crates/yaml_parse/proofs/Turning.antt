@@ -14,7 +14,7 @@ use Rattle.yaml_parse_grammar.specs.Resolve.{Directives, no_directives, Settled,
 use Rattle.yaml_parse_grammar.specs.Coming.{Coming, coming, reading_of, waiting, IsFinished, GivesNothing, GivesEvent, EventOf, FaultOf}
 use Rattle.yaml_parse_grammar.proofs.Complete.{nothing_runs, stream_runs}
 use Rattle.yaml_parse_grammar.proofs.Voice.{speaks, reading_speaks, not_noted}
-use Rattle.yaml_parse.specs.Steps.{Raw, outcome, IsDirective, GivesItem, GivesNoItem, IsRefused, IsDone, IsSilent, IsTurnRefused, IsOver, Kept}
+use Rattle.yaml_parse.specs.Steps.{Raw, outcome, IsDirective, GivesItem, GivesNoItem, IsRefused, IsDone, IsSilent, IsTurnRefused, IsOver, GivesNext, GivesEnd, Kept}
 
 -- what is to come of it
 abbrev pub of_raw : Raw → Directives → Fault → Coming
@@ -62,16 +62,16 @@ finishes peeked ts f s ds answered e = record {
 
 -- ---- turns
 
-gives : (r : Reading) (told : Told) (more : Reading) (e : Event) (old new : Coming) → r ≡ record { events = told ∷ more.events; ending = more.ending } → e ≡ told.0
-    → new.events ≡ more.events → new.ending ≡ more.ending → new.unasked ≡ told.1 → new.answered ≡ old.answered → GivesEvent r.events r.ending e old new
-gives r told more e old new p g a b u w = rw p (record { given = g; events = a; ending = b; unasked = u; answered = w })
-
 pub event_turn : (old new : Raw) (ds ds' : Directives) (answered : Fault) (i : Item) (body : EventBody) (e : Event) → GivesItem i old new → settle i ds ≡ gave body ds' → e ≡ placed body i
-    → EventOf (of_raw old ds answered) e (of_raw new ds' answered)
+    → GivesNext e (of_raw old ds answered) (of_raw new ds' answered)
 event_turn old new ds ds' answered i body e h s p =
-    gives (reading_of (outcome old) ds) (placed body i, length new.tokens) (reading_of (outcome new) ds') e (of_raw old ds answered) (of_raw new ds' answered)
-    (ap (λ (o : Outcome). reading_of o ds) h.same ∙ reading_gave (outcome new).items (outcome new).ending ds ds' i (length new.tokens) body s)
-    p refl refl refl refl
+    let r : reading_of (outcome old) ds ≡ record { events = (placed body i, length new.tokens) ∷ (reading_of (outcome new) ds').events; ending = (reading_of (outcome new) ds').ending } =
+    ap (λ (o : Outcome). reading_of o ds) h.same ∙ reading_gave (outcome new).items (outcome new).ending ds ds' i (length new.tokens) body s in
+    record {
+      events = ap (λ (x : Reading). x.events) r ∙ ap (λ (y : Event). (y, length new.tokens) ∷ (reading_of (outcome new) ds').events) (sym p);
+      ending = ap (λ (x : Reading). x.ending) (sym r);
+      answered = refl;
+    }
 
 silent_of : (old new : Coming) (same : Reading) (more : Reading) → same ≡ more → old.events ≡ same.events → old.ending ≡ same.ending → new.events ≡ more.events → new.ending ≡ more.ending
     → new.answered ≡ old.answered → new.unasked + new.held < old.unasked + old.held → (more.events ≡ [] → more.ending ≡ None → ⊥) → IsSilent old new
@@ -160,42 +160,38 @@ kept_silent i o n k s = record {
 same_unasked : (i o : Coming) → Kept i o → i.events ≡ [] → i.ending ≡ None → (o.unasked ≡ i.unasked) × (o.held ≡ i.held)
 same_unasked i o k p q = elim k.unasked [ inl a ↦ a | inr s ↦ absurd (s p q) ]
 
-nothing_given : (i o n : Coming) (e : Event) → Kept i o → i.events ≡ [] → i.ending ≡ None → GivesNothing e o n → GivesNothing e i n
-nothing_given i o n e k p q g = record {
-  given = g.given;
-  finished = g.finished;
-  unasked = g.unasked ∙ (same_unasked i o k p q).0;
-  held = g.held ∙ (same_unasked i o k p q).1;
-  answered = g.answered ∙ k.answered;
-}
+-- the next event
+pub kept_event : (i o n : Coming) (e : Event) → Kept i o → GivesNext e o n → GivesNext e i n
+kept_event i o n e k h = record { events = sym k.events ∙ h.events; ending = h.ending ∙ k.ending; answered = h.answered ∙ k.answered }
 
-regive : (es : List Told) (f : Option Fault) (e : Event) (i o n : Coming) → Kept i o → i.events ≡ es → i.ending ≡ f → GivesEvent es f e o n → GivesEvent es f e i n
-regive (t ∷ ts) f e i o n k p q g =
-    record { given = g.given; events = g.events; ending = g.ending; unasked = g.unasked; answered = g.answered ∙ k.answered }
-regive [] None e i o n k p q g = nothing_given i o n e k p q g
-regive [] (Some f) e i o n k p q g = g
+pub kept_end : (i o n : Coming) → Kept i o → IsOver o n → GivesEnd i n
+kept_end i o n k h =
+    let p : i.events ≡ [] = sym k.events ∙ h.finished.events in
+    let q : i.ending ≡ None = sym k.ending ∙ h.finished.ending in
+    record {
+      events = p;
+      ending = q;
+      nothing = record {
+        given = refl;
+        finished = subst IsFinished (sym h.same) h.finished;
+        unasked = ap (λ (c : Coming). c.unasked) h.same ∙ (same_unasked i o k p q).0;
+        held = ap (λ (c : Coming). c.held) h.same ∙ (same_unasked i o k p q).1;
+        answered = ap (λ (c : Coming). c.answered) h.same ∙ k.answered;
+      };
+    }
 
-pub parsed_event : (i o n : Coming) (e : Event) → Kept i o → EventOf o e n → EventOf i e n
-parsed_event i o n e k h =
-    regive i.events i.ending e i o n k refl refl
-    (subst (λ (es : List Told). GivesEvent es i.ending e o n) k.events (subst (λ (f : Option Fault). GivesEvent o.events f e o n) k.ending h))
+-- what a call gives
+given_front : (es : List Told) (f : Option Fault) (e : Event) (i n : Coming) → es ≡ (e, n.unasked) ∷ n.events → n.ending ≡ f → n.answered ≡ i.answered → GivesEvent es f e i n
+given_front es f e i n p q a = rw p (record { given = refl; events = refl; ending = q; unasked = refl; answered = a })
 
-end_given : (es : List Told) (f : Option Fault) (e : Event) (i n : Coming) → es ≡ [] → f ≡ None → GivesNothing e i n → GivesEvent es f e i n
-end_given es f e i n p q h = rw (p, q) h
+pub parsed_event : (i n : Coming) (e : Event) → GivesNext e i n → EventOf i e n
+parsed_event i n e h = given_front i.events i.ending e i n h.events h.ending h.answered
 
-over_gives : (o n : Coming) (e : Event) → IsOver o n → e ≡ no_event → GivesNothing e o n
-over_gives o n e h p = record {
-  given = p;
-  finished = subst IsFinished (sym h.same) h.finished;
-  unasked = ap (λ (c : Coming). c.unasked) h.same;
-  held = ap (λ (c : Coming). c.held) h.same;
-  answered = ap (λ (c : Coming). c.answered) h.same;
-}
+given_end : (es : List Told) (f : Option Fault) (e : Event) (i n : Coming) → es ≡ [] → f ≡ None → e ≡ no_event → GivesNothing no_event i n → GivesEvent es f e i n
+given_end es f e i n p q r h = rw (p, q, r) h
 
-pub parsed_end : (i o n : Coming) (e : Event) → Kept i o → IsOver o n → e ≡ no_event → EventOf i e n
-parsed_end i o n e k h p =
-    end_given i.events i.ending e i n (sym k.events ∙ h.finished.events) (sym k.ending ∙ h.finished.ending)
-    (nothing_given i o n e k (sym k.events ∙ h.finished.events) (sym k.ending ∙ h.finished.ending) (over_gives o n e h p))
+pub parsed_end : (i n : Coming) (e : Event) → GivesEnd i n → e ≡ no_event → EventOf i e n
+parsed_end i n e h p = given_end i.events i.ending e i n h.events h.ending p h.nothing
 
 pub parsed_fault : (i o n n' : Coming) (f : Fault) → Kept i o → IsTurnRefused f o n → n'.events ≡ n.events → n'.ending ≡ n.ending → n'.between ≡ n.between → n'.answered ≡ f → FaultOf i f n'
 parsed_fault i o n n' f k h a b c d = record {

@@ -5,13 +5,17 @@ use Rattle.yaml_scan.specs.declared.yaml_mark_t.{yaml_mark_t}
 use Rattle.yaml_scan.specs.declared.yaml_token_t.{yaml_token_t}
 use Rattle.yaml_scan.specs.Tokens.{Token, no_token, token_of, type_of}
 use Rattle.yaml_scan.specs.Faults.{Fault, fault_of}
-use Rattle.yaml_parse_model.specs.Events.{event_of}
+use Rattle.yaml_parse_model.specs.Events.{Event, event_of, no_event}
+use Rattle.yaml_parse_model.specs.declared.yaml_event_t.{yaml_event_t}
 use Rattle.yaml_parse_grammar.specs.declared.name.Choice.TheVariants.{Take}
 use Rattle.yaml_parse_grammar.specs.States.{State}
 use Rattle.yaml_parse_grammar.specs.Items.{item_at}
 use Rattle.yaml_parse_grammar.specs.Items as item
 use Rattle.yaml_parse_grammar.specs.Machine.{Outcome, run, ending_at, choice_at, opened, Stands}
-use Rattle.yaml_parse_grammar.specs.Coming.{Coming, waiting, held_of, IsFinished, EventOf}
+use Rattle.yaml_parse_grammar.specs.Coming.{Coming, waiting, held_of, IsFinished, GivesNothing}
+use Rattle.yaml_parse_grammar.specs.Texts.{IsUtf8Item, AreUtf8States, IsUtf8Token}
+use Rattle.yaml_parse_model.specs.Constructors.{HasUtf8, AreUtf8}
+use Rattle.yaml_parse_grammar.specs.Resolve.{Directives}
 use Rattle.yaml_parse_machine.specs.Views.{item_of}
 use Rattle.yaml_parse.specs.declared.step.Step.{Step}
 use Rattle.yaml_parse.specs.declared.step.Step.TheVariants as step
@@ -91,6 +95,17 @@ IsReal x t step.Silent = choice_at x (type_of t.body) ≡ Take
 IsReal x t (step.Refused f) = Unit {0}
 IsReal x t step.Done = ⊥
 
+-- the texts of what a step gives are UTF-8, and those of what is held then
+abbrev pub IsUtf8Step : Step → Option Token → List State → Directives → Type 0
+IsUtf8Step (step.Item i) peeked s ds = IsUtf8Item (item_of i).body × (IsUtf8Token peeked × (AreUtf8States s × AreUtf8 ds.tags))
+IsUtf8Step step.Silent peeked s ds = IsUtf8Token peeked × (AreUtf8States s × AreUtf8 ds.tags)
+IsUtf8Step (step.Refused f) peeked s ds = Unit {0}
+IsUtf8Step step.Done peeked s ds = Unit {0}
+
+abbrev pub IsUtf8Turn : Turn → Type 0
+IsUtf8Turn (turn.Event e) = HasUtf8 (event_of e).body
+IsUtf8Turn _ = Unit {0}
+
 -- nothing is given, a token is taken, and something is to come
 pub record IsSilent (old new : Coming) : Type 0 where
   pub events : new.events ≡ old.events
@@ -107,8 +122,25 @@ pub record IsOver (old new : Coming) : Type 0 where
   pub finished : IsFinished old
   pub same : new ≡ old
 
+-- the front of what is to come is given, and the rest is left
+pub record GivesNext (e : Event) (old new : Coming) : Type 0 where
+  pub events : old.events ≡ (e, new.unasked) ∷ new.events
+  pub ending : new.ending ≡ old.ending
+  pub answered : new.answered ≡ old.answered
+
+-- nothing is to come, and no token is asked for
+pub record GivesEnd (old new : Coming) : Type 0 where
+  pub events : old.events ≡ []
+  pub ending : old.ending ≡ None
+  pub nothing : GivesNothing no_event old new
+
+-- the next event, or nothing behind the last one
+abbrev pub NextOf : Coming → Option yaml_event_t → Coming → Type 0
+NextOf old (Some e) new = GivesNext (event_of e) old new
+NextOf old None new = GivesEnd old new
+
 abbrev pub Turns : Coming → Turn → Coming → Type 0
-Turns old (turn.Event e) new = EventOf old (event_of e) new
+Turns old (turn.Event e) new = GivesNext (event_of e) old new
 Turns old turn.Silent new = IsSilent old new
 Turns old (turn.Refused f) new = IsTurnRefused (fault_of f) old new
 Turns old turn.Done new = IsOver old new

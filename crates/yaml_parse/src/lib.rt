@@ -7,7 +7,7 @@ mod step;
 #[cfg(test)]
 mod tests;
 
-pub use load::yaml_parser_load;
+pub use load::{loads_as_the_events_do, yaml_parser_load};
 pub use parser::{
     yaml_parser_between, yaml_parser_delete, yaml_parser_initialize, yaml_parser_parse,
     yaml_parser_prefix, yaml_parser_t,

@@ -1,6 +1,6 @@
 //! The parser and its calls.
 
-ghost use Rattle.std.specs.Prelude.{◌≡◌, List, Option, None, true, length, IfOk, IfErr};
+ghost use Rattle.std.specs.Prelude.{◌≡◌, List, Option, None, true, length, IfOk, IfErr, IfSome};
 ghost use Rattle.yaml_scan.specs.Tokens.{Token};
 ghost use Rattle.yaml_scan.specs.Faults.{Fault, fault_of, memory_fault};
 ghost use Rattle.yaml_scan.specs.declared.yaml_origin_t.TheVariants.{Parser};
@@ -10,7 +10,8 @@ ghost use Rattle.yaml_parse_grammar.specs.Trees.{Stream, spell, items};
 ghost use Rattle.yaml_parse_grammar.specs.Resolve.{reading, no_directives};
 ghost use Rattle.yaml_parse_grammar.specs.Machine.{run, initial};
 ghost use Rattle.yaml_parse_grammar.specs.Coming.{reading_of, EventOf, FaultOf, IsFinished};
-ghost use Rattle.yaml_parse.specs.Steps.{Turns};
+ghost use Rattle.yaml_parse_model.specs.Constructors.{HasUtf8};
+ghost use Rattle.yaml_parse.specs.Steps.{Turns, NextOf, IsUtf8Turn};
 
 use crate::step::{Turn, take_turn};
 use std::alloc::Global;
@@ -46,11 +47,16 @@ impl<S: yaml_token_source_t> Model for yaml_parser_t<S> {
     ghost Value = { Coming };
 
     ghost view = { λ p. coming (peeked_of p.peeked) (S.to_come p.source) (S.fault_to_come p.source) (stack_of p.stack.items) (directives_of p.directives) (prefix_of p.prefix) };
+
+    ghost use Rattle.yaml_parse_grammar.specs.Texts.{IsUtf8Held};
+
+    ghost invariant = { λ p. IsUtf8Held (peeked_of p.peeked) (stack_of p.stack.items) (directives_of p.directives) };
 }
 
 impl<S: yaml_token_source_t> yaml_parser_t<S> {
     fn turn(&mut self) -> Turn
-        ensures { Turns self.old result self.new }
+        ensures turns { Turns self.old result self.new }
+        ensures utf8 { IsUtf8Turn result }
     {
         take_turn(
             self.alloc,
@@ -112,23 +118,39 @@ pub fn yaml_parser_initialize<S: yaml_token_source_t>(
     }
 }
 
-/// The next event; behind the last one and after a fault the empty event.
-pub fn yaml_parser_parse<S: yaml_token_source_t>(
+/// The next event, or nothing behind the last one and after a fault.
+pub(crate) fn next_event<S: yaml_token_source_t>(
     parser: &mut yaml_parser_t<S>,
-) -> Result<yaml_event_t, yaml_fault_t>
-    ensures ok { IfOk result (λ e. EventOf parser.old (event_of e) parser.new) }
+) -> Result<Option<yaml_event_t>, yaml_fault_t>
+    ensures ok { IfOk result (λ e. NextOf parser.old e parser.new) }
+    ensures utf8 { IfOk result (λ e. IfSome e (λ x. HasUtf8 (event_of x).body)) }
     ensures err { IfErr result (λ f. FaultOf parser.old (fault_of f) parser.new) }
 {
     'turns: loop {
         match parser.turn() {
-            Turn::Event(event) => return Ok(event),
+            Turn::Event(event) => return Ok(Some(event)),
             Turn::Silent => {}
             Turn::Refused(fault) => {
                 parser.prefix = yaml_parser_t_prefix::of(&fault);
                 return Err(fault);
             }
-            Turn::Done => return Ok(yaml_event_t::unplaced(yaml_event_body_t::No)),
+            Turn::Done => return Ok(None),
         }
+    }
+}
+
+/// The next event, whose texts are UTF-8; behind the last one and after a fault the empty event.
+pub fn yaml_parser_parse<S: yaml_token_source_t>(
+    parser: &mut yaml_parser_t<S>,
+) -> Result<yaml_event_t, yaml_fault_t>
+    ensures ok { IfOk result (λ e. EventOf parser.old (event_of e) parser.new) }
+    ensures utf8 { IfOk result (λ e. HasUtf8 (event_of e).body) }
+    ensures err { IfErr result (λ f. FaultOf parser.old (fault_of f) parser.new) }
+{
+    match next_event(parser) {
+        Ok(Some(event)) => Ok(event),
+        Ok(None) => Ok(yaml_event_t::unplaced(yaml_event_body_t::No)),
+        Err(fault) => Err(fault),
     }
 }
 

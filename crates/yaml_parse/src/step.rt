@@ -10,7 +10,10 @@ ghost use Rattle.yaml_parse_grammar.specs.declared.name.Choice.TheVariants.{Take
 ghost use Rattle.yaml_parse_machine.specs.Views.{state_of, stack_of};
 ghost use Rattle.yaml_parse_machine.specs.Settles.{directives_of};
 ghost use Rattle.yaml_parse_grammar.specs.Coming.{coming};
-ghost use Rattle.yaml_parse.specs.Steps.{IsFront, HasNoFront, Steps, Turns, OpensAt, IsReal, raw, peeked_of};
+ghost use Rattle.yaml_parse_grammar.specs.Resolve.{Directives as DirectivesSpec};
+ghost use Rattle.yaml_parse_grammar.specs.Texts.{IsUtf8Token, IsUtf8Held};
+ghost use Rattle.yaml_parse_model.specs.Source.{HasUtf8};
+ghost use Rattle.yaml_parse.specs.Steps.{IsFront, HasNoFront, Steps, Turns, OpensAt, IsReal, IsUtf8Step, IsUtf8Turn, raw, peeked_of};
 
 use std::alloc::Global;
 use yaml_parse_grammar::{Choice, ParseFault, ParseProblem};
@@ -52,6 +55,7 @@ fn front<S: yaml_token_source_t>(
 ) -> Result<yaml_token_t, yaml_fault_t>
     ensures ok { IfOk result (λ t. IsFront (peeked_of peeked.old) (S.to_come source.old) (S.fault_to_come source.old) (token_of t) (S.to_come source.new) (S.fault_to_come source.new)) }
     ensures err { IfErr result (λ f. HasNoFront (peeked_of peeked.old) (S.to_come source.old) (S.fault_to_come source.old) (fault_of f)) }
+    ensures utf8 { IsUtf8Token (peeked_of peeked.old) → IfOk result (λ t. HasUtf8 (token_of t).body) }
 {
     match peeked.take() {
         Some(token) => Ok(token),
@@ -80,7 +84,8 @@ fn refusal(problem: ParseProblem, at: yaml_mark_t, opener: Option<yaml_mark_t>) 
 // The state takes the token.
 fn taking(stack: &mut Vec<State>, state: State, token: yaml_token_t) -> Step
     requires { choice_at (state_of state) (type_of (token_of token).body) ≡ taking_it }
-    ensures { (rest : List Token) (fault : Option Fault) → Steps (raw (Some (token_of token)) rest fault (state_of state ∷ stack_of stack.old.items)) result (raw None rest fault (stack_of stack.new.items)) }
+    ensures steps { (rest : List Token) (fault : Option Fault) → Steps (raw (Some (token_of token)) rest fault (state_of state ∷ stack_of stack.old.items)) result (raw None rest fault (stack_of stack.new.items)) }
+    ensures utf8 { (ds : DirectivesSpec) → IsUtf8Held (Some (token_of token)) (state_of state ∷ stack_of stack.old.items) ds → IsUtf8Step result None (stack_of stack.new.items) ds }
 {
     let Taken { opening, below } = take(state, token);
     let Opening { item, pushed } = opening;
@@ -121,6 +126,8 @@ fn stepping(
 ) -> Step
     ensures steps { (rest : List Token) (fault : Option Fault) → Steps (raw (Some (token_of token)) rest fault (state_of state ∷ stack_of stack.old.items)) result (raw (peeked_of peeked.new) rest fault (stack_of stack.new.items)) }
     ensures real { IsReal (state_of state) (token_of token) result }
+    ensures utf8 { (ds : DirectivesSpec) → IsUtf8Held (Some (token_of token)) (state_of state ∷ stack_of stack.old.items) ds
+        → IsUtf8Step result (peeked_of peeked.new) (stack_of stack.new.items) ds }
 {
     let start = token.start_mark;
     match choose(&state, token.type_()) {
@@ -146,8 +153,9 @@ pub fn advance<S: yaml_token_source_t>(
     peeked: &mut Option<yaml_token_t>,
     stack: &mut Vec<State>,
 ) -> Step
-    ensures { Steps (raw (peeked_of peeked.old) (S.to_come source.old) (S.fault_to_come source.old) (stack_of stack.old.items)) result
+    ensures steps { Steps (raw (peeked_of peeked.old) (S.to_come source.old) (S.fault_to_come source.old) (stack_of stack.old.items)) result
         (raw (peeked_of peeked.new) (S.to_come source.new) (S.fault_to_come source.new) (stack_of stack.new.items)) }
+    ensures utf8 { (ds : DirectivesSpec) → IsUtf8Held (peeked_of peeked.old) (stack_of stack.old.items) ds → IsUtf8Step result (peeked_of peeked.new) (stack_of stack.new.items) ds }
 {
     let Some(state) = stack.pop() else {
         return Step::Done;
@@ -166,8 +174,10 @@ pub fn take_turn<S: yaml_token_source_t>(
     stack: &mut Vec<State>,
     directives: &mut Directives,
 ) -> Turn
-    ensures { (answered : Fault) → Turns (coming (peeked_of peeked.old) (S.to_come source.old) (S.fault_to_come source.old) (stack_of stack.old.items) (directives_of directives.old) answered) result
+    ensures turns { (answered : Fault) → Turns (coming (peeked_of peeked.old) (S.to_come source.old) (S.fault_to_come source.old) (stack_of stack.old.items) (directives_of directives.old) answered) result
         (coming (peeked_of peeked.new) (S.to_come source.new) (S.fault_to_come source.new) (stack_of stack.new.items) (directives_of directives.new) answered) }
+    ensures utf8 { IsUtf8Held (peeked_of peeked.old) (stack_of stack.old.items) (directives_of directives.old)
+        → IsUtf8Turn result × IsUtf8Held (peeked_of peeked.new) (stack_of stack.new.items) (directives_of directives.new) }
 {
     match advance(source, peeked, stack) {
         Step::Done => Turn::Done,

@@ -1,3 +1,4 @@
 pub mod Complete
 pub mod Voice
 pub mod Single
+pub mod Utf8

@@ -5,3 +5,4 @@ pub mod States
 pub mod Machine
 pub mod Resolve
 pub mod Coming
+pub mod Texts

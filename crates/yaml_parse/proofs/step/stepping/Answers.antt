@@ -5,6 +5,7 @@ use Rattle.yaml_parse_grammar.specs.Machine.{choice_at}
 use Rattle.yaml_parse_machine.specs.Views.{state_of, stack_of, item_of}
 use Rattle.yaml_parse.specs.Steps.{raw}
 use Rattle.yaml_parse.proofs.Moves.{refuse_step, take_real, leave_item, leave_real, open_step, open_real}
+use Rattle.yaml_parse.proofs.Texts.{leave_utf8, open_utf8}
 use Rattle.yaml_parse.proofs.step.stepping.Goals as goal
 
 pub returns-in-Refuse-clause-steps : goal.returns-in-Refuse-clause-steps
@@ -15,7 +16,7 @@ returns-in-Refuse-clause-steps c = λ rest fault.
 pub returns-in-Take-clause-real : goal.returns-in-Take-clause-real
 returns-in-Take-clause-real c =
     take_real (state_of c.args.state) (token_of c.args.token) (stack_of c.args.stack.now.items) (raw None [] None (stack_of c.taking.new.stack.items)) c.taking.result
-    (sym (c.in-Take.ensures ∙ ap (choice_at (state_of c.args.state)) c.type_.ensures)) (c.taking.ensures [] None)
+    (sym (c.in-Take.ensures ∙ ap (choice_at (state_of c.args.state)) c.type_.ensures)) (c.taking.ensures.steps [] None)
 
 pub returns-in-Leave-clause-steps : goal.returns-in-Leave-clause-steps
 returns-in-Leave-clause-steps c = λ rest fault.
@@ -33,3 +34,11 @@ returns-in-Open-clause-steps c = λ rest fault.
 pub returns-in-Open-clause-real : goal.returns-in-Open-clause-real
 returns-in-Open-clause-real c =
     open_real (state_of c.args.state) (token_of c.args.token) c.args.token.start_mark (stack_of c.args.stack.now.items) (stack_of c.opening.new.stack.items) c.opening.result c.opening.ensures
+
+pub returns-in-Leave-clause-utf8 : goal.returns-in-Leave-clause-utf8
+returns-in-Leave-clause-utf8 c = λ ds h.
+    leave_utf8 (state_of c.args.state) (token_of c.args.token) c.args.token.start_mark (stack_of c.args.stack.now.items) (item_of c.leave.result) ds c.leave.ensures h
+
+pub returns-in-Open-clause-utf8 : goal.returns-in-Open-clause-utf8
+returns-in-Open-clause-utf8 c = λ ds h.
+    open_utf8 (state_of c.args.state) (token_of c.args.token) c.args.token.start_mark (stack_of c.args.stack.now.items) (stack_of c.opening.new.stack.items) c.opening.result ds c.opening.ensures h

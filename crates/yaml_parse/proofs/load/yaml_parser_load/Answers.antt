@@ -1,0 +1,30 @@
+use Rattle.yaml_scan.specs.Faults.{fault_of}
+use Rattle.yaml_parse_model.specs.Events.{event_of}
+use Rattle.yaml_parse.proofs.Loading.{keeps_on, loads_document, loads_nothing, load_faulty, load_refused}
+use Rattle.yaml_parse.proofs.load.yaml_parser_load.Goals as goal
+
+pub events-preserved : goal.events-preserved
+events-preserved g c =
+    let next = rw c.in-Ok-Some.field-0-is at c.in-Ok-Some.ensures.ok in
+    let fed = rw c.in-Ok-None-feed.field-0-is at c.in-Ok-None-feed.ensures in
+    keeps_on c.args.parser.now c.events.parser c.next_event.new.parser c.events.loader c.feed.new.self (event_of c.in-Ok-Some.event) c.events.invariant next fed
+
+pub returns-in-Ok-Some-feed-clause-ok : goal.returns-in-Ok-Some-feed-clause-ok
+returns-in-Ok-Some-feed-clause-ok g c =
+    let next = rw c.in-Ok-Some.field-0-is at c.in-Ok-Some.ensures.ok in
+    let fed = rw c.in-Ok-Some-feed.field-0-is at c.in-Ok-Some-feed.ensures in
+    loads_document c.args.parser.now c.events.parser c.next_event.new.parser c.events.loader (event_of c.in-Ok-Some.event) c.in-Ok-Some-feed.document c.events.invariant next fed.0
+
+pub returns-in-Err-feed-clause-err : goal.returns-in-Err-feed-clause-err
+returns-in-Err-feed-clause-err g c =
+    let next = rw c.in-Ok-Some.field-0-is at c.in-Ok-Some.ensures.ok in
+    load_refused c.args.parser.now c.events.parser c.next_event.new.parser c.refuse.new.self c.events.loader (event_of c.in-Ok-Some.event) (fault_of c.in-Err-feed.fault) c.events.invariant next
+    c.in-Err-feed.ensures.0 c.refuse.ensures.finished c.refuse.ensures.answered
+
+pub returns-in-Ok-None-clause-ok : goal.returns-in-Ok-None-clause-ok
+returns-in-Ok-None-clause-ok g c =
+    let next = rw c.in-Ok-None.field-0-is at c.in-Ok-None.ensures.ok in
+    loads_nothing c.args.parser.now c.events.parser c.next_event.new.parser c.events.loader c.no_document.result c.events.invariant next c.no_document.ensures
+
+pub returns-in-Err-clause-err : goal.returns-in-Err-clause-err
+returns-in-Err-clause-err g c = load_faulty c.args.parser.now c.events.parser c.next_event.new.parser c.events.loader (fault_of c.in-Err.fault) c.events.invariant c.in-Err.ensures.err

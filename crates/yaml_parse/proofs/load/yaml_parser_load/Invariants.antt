@@ -1,0 +1,9 @@
+use Rattle.std.proofs.Common.{length}
+use Rattle.yaml_parse.specs.Loads.{KeepsLoading}
+use Rattle.yaml_parse.proofs.load.yaml_parser_load.Given as goal
+
+abbrev pub invariant-events : goal.invariant-events
+invariant-events g l = KeepsLoading l.initial.parser l.parser l.loader
+
+abbrev pub decreases-events : goal.decreases-events
+decreases-events g l = length l.parser.events

@@ -1,0 +1,76 @@
+-- What a load gives of the events to come.
+use Rattle.std.specs.Prelude.{◌≡◌, ◌⊎◌, ℕ, List, [], ◌∷◌, map, Option, Some, None}
+use Rattle.yaml_scan.specs.declared.yaml_error_type_t.TheVariants.{YAML_MEMORY_ERROR}
+use Rattle.yaml_scan.specs.Faults.{Fault}
+use Rattle.yaml_parse_model.specs.Events.{Event}
+use Rattle.yaml_parse_document.specs.Documents.{Document, no_document}
+use Rattle.yaml_parse_grammar.specs.Resolve.{Told}
+use Rattle.yaml_parse_grammar.specs.Coming.{Coming, IsFinished}
+use Rattle.yaml_parse_loader.specs.Loading.{Loading, Fed, goes_on, loaded, refused, nothing_loaded, step, Loaded}
+use Rattle.yaml_parse_loader.specs.Loading as loading
+
+-- What events come to that a loader is fed, and the fault behind them: the document that ends first, the events that are
+-- left and the number of tokens that are not asked for then; or the fault that comes first; or neither.
+pub data Loads : Type 0 where
+  document : Document → List Told → ℕ → Loads
+  faulty : Fault → Loads
+  nothing : Loads
+
+abbrev pub load_on : Fed → (Loading → Loads) → List Told → ℕ → Loads
+load_on (goes_on l) go rest left = go l
+load_on (loaded d) go rest left = document d rest left
+load_on (refused f) go rest left = faulty f
+
+abbrev pub behind_all : Option Fault → Loads
+behind_all None = nothing
+behind_all (Some f) = faulty f
+
+unfoldable pub loads : List Told → Option Fault → Loading → Loads
+loads [] f l = behind_all f
+loads (g ∷ gs) f l = load_on (step g.0 l) (loads gs f) gs g.1
+
+-- of a parser's events to come
+abbrev pub loads_of : Coming → Loads
+loads_of c = loads c.events c.ending nothing_loaded
+
+-- a document was loaded, and what stands behind it is left
+pub record GivesDocument (left : List Told) (count : ℕ) (old new : Coming) : Type 0 where
+  pub events : new.events ≡ left
+  pub ending : new.ending ≡ old.ending
+  pub unasked : new.unasked ≡ count
+  pub answered : new.answered ≡ old.answered
+
+-- no document comes any more
+pub record GivesNoDocument (old new : Coming) : Type 0 where
+  pub finished : IsFinished new
+  pub answered : new.answered ≡ old.answered
+
+-- a load gives the next document with what is left, or the document without nodes where no document comes any more
+abbrev pub LoadGives : Loads → Document → Coming → Coming → Type 0
+LoadGives (document e left unasked) d old new = (d ≡ e) × GivesDocument left unasked old new
+LoadGives nothing d old new = (d ≡ no_document) × GivesNoDocument old new
+LoadGives (faulty f) d old new = ⊥
+
+-- a load is refused by the fault that comes first, of the loader or of the parser, or for want of memory; nothing comes behind it
+pub record LoadRefuses (f : Fault) (old new : Coming) : Type 0 where
+  pub finished : IsFinished new
+  pub answered : new.answered ≡ f
+  pub reason : (f.kind ≡ YAML_MEMORY_ERROR) ⊎ (loads_of old ≡ faulty f)
+
+-- what lasts while a loader is fed
+pub record KeepsLoading (initial now : Coming) (l : Loading) : Type 0 where
+  pub same : loads now.events now.ending l ≡ loads_of initial
+  pub ending : now.ending ≡ initial.ending
+  pub answered : now.answered ≡ initial.answered
+
+-- ---- the same of events alone
+
+abbrev pub told_events : List Told → List Event
+told_events gs = map (λ (g : Told). g.0) gs
+
+-- told events load what the events alone do
+abbrev pub LoadsSame : Option Fault → Loaded → Loads → Type 0
+LoadsSame f (loading.document d rest) (document e left unasked) = (d ≡ e) × (rest ≡ told_events left)
+LoadsSame f (loading.faulty g) (faulty h) = g ≡ h
+LoadsSame f (loading.unfinished l) r = r ≡ behind_all f
+LoadsSame f _ _ = ⊥

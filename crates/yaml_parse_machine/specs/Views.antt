@@ -13,7 +13,12 @@ use Rattle.yaml_parse_machine.specs.declared.item.Item.{Item}
 use Rattle.yaml_parse_machine.specs.declared.item.State.{State}
 use Rattle.yaml_parse_machine.specs.declared.item.State.TheVariants as code
 use Rattle.yaml_parse_machine.specs.declared.item.Pushed.{Pushed}
-use Rattle.yaml_parse_machine.specs.declared.item.Pushed.TheVariants.{Zero, One, Two, Three, Four}
+use Rattle.yaml_parse_machine.specs.declared.item.Pushed.TheVariants as pushed
+use Rattle.yaml_scan.specs.declared.yaml_mark_t.{yaml_mark_t}
+use Rattle.yaml_parse_grammar.specs.declared.name.Brackets.{Brackets}
+use Rattle.yaml_parse_grammar.specs.declared.name.Brackets.TheVariants as brackets
+use Rattle.yaml_parse_grammar.specs.declared.name.Place.TheVariants.{Root, Entry, IndentlessEntry, BlockPair, FlowPair}
+use Rattle.yaml_parse_grammar.specs.declared.name.Side.TheVariants.{Key, Value}
 use Rattle.yaml_parse_machine.specs.declared.item.Opening.{Opening}
 use Rattle.yaml_parse_machine.specs.declared.item.Taken.{Taken}
 
@@ -62,25 +67,39 @@ state_of (code.Entries opener) = state.entries opener
 state_of (code.Others side) = state.others side
 state_of (code.Pairs opener) = state.pairs opener
 state_of (code.Colon place) = state.colon place
-state_of (code.Dressed w p) = state.dressed w (properties_of p)
+state_of (code.Dressed w p) = state.dressed w (properties_of p.value)
 state_of (code.Items b opener) = state.items b opener
 state_of (code.More b opener) = state.more b opener
 state_of code.PairEnd = state.pair_end
 state_of code.Lone = state.lone
 
+-- a pair inside brackets: its key, its value, in a sequence the end of its own mapping, and what follows it
+abbrev pub flow_pair_of : Brackets → yaml_mark_t → yaml_mark_t → List state.State
+flow_pair_of brackets.Sequence opener end = state.optional (FlowPair brackets.Sequence Key) end ∷ state.colon (FlowPair brackets.Sequence Value) ∷ state.pair_end ∷ state.more brackets.Sequence opener ∷ []
+flow_pair_of brackets.Mapping opener end = state.optional (FlowPair brackets.Mapping Key) end ∷ state.colon (FlowPair brackets.Mapping Value) ∷ state.more brackets.Mapping opener ∷ []
+
+-- the states, the topmost first
 abbrev pub pushed_of : Pushed → List state.State
-pushed_of Zero = []
-pushed_of (One a) = state_of a ∷ []
-pushed_of (Two a b) = state_of a ∷ state_of b ∷ []
-pushed_of (Three a b c) = state_of a ∷ state_of b ∷ state_of c ∷ []
-pushed_of (Four a b c d) = state_of a ∷ state_of b ∷ state_of c ∷ state_of d ∷ []
+pushed_of pushed.Zero = []
+pushed_of (pushed.One a) = state_of a ∷ []
+pushed_of (pushed.Dressed w p) = state.dressed w (properties_of p) ∷ []
+pushed_of (pushed.Document before) = state.optional Root before ∷ state.document_end ∷ state.documents ∷ []
+pushed_of (pushed.Entry opener end) = state.optional Entry end ∷ state.entries opener ∷ []
+pushed_of (pushed.Indentless side end) = state.optional (IndentlessEntry side) end ∷ state.others side ∷ []
+pushed_of (pushed.BlockPair opener end) = state.optional (BlockPair Key) end ∷ state.colon (BlockPair Value) ∷ state.pairs opener ∷ []
+pushed_of (pushed.FlowPair brackets opener end) = flow_pair_of brackets opener end
+pushed_of (pushed.Lone opener) = state.lone ∷ state.more brackets.Mapping opener ∷ []
 
 abbrev pub over : List state.State → Pushed → List state.State
-over above Zero = above
-over above (One a) = above ++ state_of a ∷ []
-over above (Two a b) = above ++ state_of a ∷ state_of b ∷ []
-over above (Three a b c) = above ++ state_of a ∷ state_of b ∷ state_of c ∷ []
-over above (Four a b c d) = above ++ state_of a ∷ state_of b ∷ state_of c ∷ state_of d ∷ []
+over above pushed.Zero = above
+over above (pushed.One a) = above ++ state_of a ∷ []
+over above (pushed.Dressed w p) = above ++ state.dressed w (properties_of p) ∷ []
+over above (pushed.Document before) = above ++ state.optional Root before ∷ state.document_end ∷ state.documents ∷ []
+over above (pushed.Entry opener end) = above ++ state.optional Entry end ∷ state.entries opener ∷ []
+over above (pushed.Indentless side end) = above ++ state.optional (IndentlessEntry side) end ∷ state.others side ∷ []
+over above (pushed.BlockPair opener end) = above ++ state.optional (BlockPair Key) end ∷ state.colon (BlockPair Value) ∷ state.pairs opener ∷ []
+over above (pushed.FlowPair brackets opener end) = above ++ flow_pair_of brackets opener end
+over above (pushed.Lone opener) = above ++ state.lone ∷ state.more brackets.Mapping opener ∷ []
 
 abbrev pub opening_of : Opening → state.Taken
 opening_of t = record { item = item_option_of t.item; above = pushed_of t.pushed }

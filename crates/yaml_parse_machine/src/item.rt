@@ -87,8 +87,8 @@ pub enum State {
     Pairs(yaml_mark_t),
     /// A `:` and that place, or nothing.
     Colon(Place),
-    /// The rest of a node behind properties.
-    Dressed(Wants, Properties),
+    /// The rest of a node behind properties. They lie apart, so that the other states stay small.
+    Dressed(Wants, Box<Properties>),
     /// Behind an opening bracket or a comma.
     Items(Brackets, yaml_mark_t),
     /// Behind a part inside brackets.
@@ -99,14 +99,39 @@ pub enum State {
     Lone,
 }
 
-/// States that go on top of the others, the topmost first.
+/// States that go on top of the others, named by what they wait for together. A value is moved several times a token, so
+/// none holds more than one state.
 #[derive(Drop)]
 pub enum Pushed {
     Zero,
     One(State),
-    Two(State, State),
-    Three(State, State, State),
-    Four(State, State, State, State),
+    /// The rest of a node behind properties.
+    Dressed(Wants, Properties),
+    /// A document whose `---` ends there: its root, its end, and what comes behind it.
+    Document(yaml_mark_t),
+    /// A part behind a `-` that ends there, and the further parts.
+    Entry {
+        opener: yaml_mark_t,
+        end: yaml_mark_t,
+    },
+    /// A part behind a `-` that ends there, of a sequence that isn't indented, and its further parts.
+    Indentless {
+        side: Side,
+        end: yaml_mark_t,
+    },
+    /// A pair of a block mapping behind a key's indicator that ends there, and the further pairs.
+    BlockPair {
+        opener: yaml_mark_t,
+        end: yaml_mark_t,
+    },
+    /// A pair inside brackets behind a key's indicator that ends there, and what follows it in them.
+    FlowPair {
+        brackets: Brackets,
+        opener: yaml_mark_t,
+        end: yaml_mark_t,
+    },
+    /// The left-out value of a lone key inside the brackets of a mapping, and what follows it in them.
+    Lone(yaml_mark_t),
 }
 
 /// What a token gives, and what may come above the other states.

@@ -11,7 +11,7 @@ ghost use Rattle.yaml_scan.specs.declared.yaml_sequence_style_t.TheVariants.{YAM
 ghost use Rattle.yaml_parse_grammar.specs.Trees.{mark_at, flow_shape, end_event, event_at};
 ghost use Rattle.yaml_parse_grammar.specs.States as state;
 ghost use Rattle.yaml_parse_grammar.specs.Machine.{taken, not_taken, taken_at, left_at, documents_taken, content_taken, node_taken, dressed_taken, items_taken, more_taken, stream_taken, entries_taken, pairs_taken, pair_taken, lone_below, opened as opened_at};
-ghost use Rattle.yaml_parse_machine.specs.Views.{opening_of, properties_of, properties_option_of, shape_of, item_of, item_body_of, item_option_of, state_of, taken_of, pushed_of, stack_of};
+ghost use Rattle.yaml_parse_machine.specs.Views.{opening_of, properties_of, properties_option_of, shape_of, item_of, item_body_of, item_option_of, state_of, taken_of, pushed_of, flow_pair_of, stack_of};
 
 use crate::choosing::wants;
 use crate::item::{Item, ItemBody, Opening, Properties, Pushed, Shape, State, Tag, Taken};
@@ -165,11 +165,7 @@ fn at_documents(
 pub fn opened(before: yaml_mark_t) -> Pushed
     ensures { pushed_of result ≡ opened_at before }
 {
-    Pushed::Three(
-        State::Optional(Place::Root, before),
-        State::DocumentEnd,
-        State::Documents,
-    )
+    Pushed::Document(before)
 }
 
 fn flow_collection(brackets: Brackets) -> Shape
@@ -228,10 +224,7 @@ fn at_content(
         yaml_token_body_t::BlockEntry => match wants {
             Wants::Block(Some(side)) => took(
                 node(properties, block_sequence(), start, end),
-                Pushed::Two(
-                    State::Optional(Place::IndentlessEntry(side), end),
-                    State::Others(side),
-                ),
+                Pushed::Indentless { side, end },
             ),
             _ => nothing(),
         },
@@ -262,7 +255,7 @@ fn at_node(wants: Wants, start: yaml_mark_t, end: yaml_mark_t, body: yaml_token_
                 from: start,
                 to: end,
             };
-            took(None, Pushed::One(State::Dressed(wants, properties)))
+            took(None, Pushed::Dressed(wants, properties))
         }
         yaml_token_body_t::Tag { handle, suffix } => {
             let tag = Tag {
@@ -276,7 +269,7 @@ fn at_node(wants: Wants, start: yaml_mark_t, end: yaml_mark_t, body: yaml_token_
                 from: start,
                 to: end,
             };
-            took(None, Pushed::One(State::Dressed(wants, properties)))
+            took(None, Pushed::Dressed(wants, properties))
         }
         content => at_content(wants, None, start, end, content),
     }
@@ -299,7 +292,7 @@ fn at_dressed(
                 from: properties.from,
                 to: end,
             };
-            took(None, Pushed::One(State::Dressed(wants, both)))
+            took(None, Pushed::Dressed(wants, both))
         }
         yaml_token_body_t::Tag { handle, suffix } => {
             let tag = Tag {
@@ -313,7 +306,7 @@ fn at_dressed(
                 from: properties.from,
                 to: end,
             };
-            took(None, Pushed::One(State::Dressed(wants, both)))
+            took(None, Pushed::Dressed(wants, both))
         }
         content => at_content(wants, Some(properties), start, end, content),
     }
@@ -326,20 +319,19 @@ fn at_pair(brackets: Brackets, opener: yaml_mark_t, start: yaml_mark_t, end: yam
     match brackets {
         Brackets::Sequence => took(
             node(None, flow_collection(Brackets::Mapping), start, end),
-            Pushed::Four(
-                State::Optional(Place::FlowPair(Brackets::Sequence, Side::Key), end),
-                State::Colon(Place::FlowPair(Brackets::Sequence, Side::Value)),
-                State::PairEnd,
-                State::More(Brackets::Sequence, opener),
-            ),
+            Pushed::FlowPair {
+                brackets,
+                opener,
+                end,
+            },
         ),
         Brackets::Mapping => took(
             None,
-            Pushed::Three(
-                State::Optional(Place::FlowPair(Brackets::Mapping, Side::Key), end),
-                State::Colon(Place::FlowPair(Brackets::Mapping, Side::Value)),
-                State::More(Brackets::Mapping, opener),
-            ),
+            Pushed::FlowPair {
+                brackets,
+                opener,
+                end,
+            },
         ),
     }
 }
@@ -360,7 +352,7 @@ fn behind_part(brackets: Brackets, opener: yaml_mark_t) -> Pushed
 {
     match brackets {
         Brackets::Sequence => Pushed::One(State::More(brackets, opener)),
-        Brackets::Mapping => Pushed::Two(State::Lone, State::More(brackets, opener)),
+        Brackets::Mapping => Pushed::Lone(opener),
     }
 }
 
@@ -412,10 +404,7 @@ fn at_entries(
     ensures { opening_of result ≡ entries_taken opener start end (token_body_of body) }
 {
     match body {
-        yaml_token_body_t::BlockEntry => took(
-            None,
-            Pushed::Two(State::Optional(Place::Entry, end), State::Entries(opener)),
-        ),
+        yaml_token_body_t::BlockEntry => took(None, Pushed::Entry { opener, end }),
         _ => took_event(yaml_event_body_t::SequenceEnd, start, end, Pushed::Zero),
     }
 }
@@ -429,14 +418,7 @@ fn at_pairs(
     ensures { opening_of result ≡ pairs_taken opener start end (token_body_of body) }
 {
     match body {
-        yaml_token_body_t::Key => took(
-            None,
-            Pushed::Three(
-                State::Optional(Place::BlockPair(Side::Key), end),
-                State::Colon(Place::BlockPair(Side::Value)),
-                State::Pairs(opener),
-            ),
-        ),
+        yaml_token_body_t::Key => took(None, Pushed::BlockPair { opener, end }),
         _ => took_event(yaml_event_body_t::MappingEnd, start, end, Pushed::Zero),
     }
 }
@@ -455,13 +437,7 @@ fn document_end(start: yaml_mark_t, end: yaml_mark_t) -> Opening
 fn at_others(side: Side, end: yaml_mark_t) -> Opening
     ensures { opening_of result ≡ taken None (state.optional (IndentlessEntry side) end ∷ state.others side ∷ []) }
 {
-    took(
-        None,
-        Pushed::Two(
-            State::Optional(Place::IndentlessEntry(side), end),
-            State::Others(side),
-        ),
-    )
+    took(None, Pushed::Indentless { side, end })
 }
 
 /// What the state gives as it takes the token, and what may come from then on.
@@ -483,7 +459,7 @@ pub fn take(state: State, token: yaml_token_t) -> Taken
         State::Pairs(opener) => whole(at_pairs(opener, start, end, body)),
         State::Colon(place) => whole(took(None, Pushed::One(State::Optional(place, end)))),
         State::Dressed(wants, properties) => {
-            whole(at_dressed(wants, properties, start, end, body))
+            whole(at_dressed(wants, Box::into_inner(properties), start, end, body))
         }
         State::Items(brackets, opener) => at_items(brackets, opener, start, end, body),
         State::More(brackets, opener) => whole(at_more(brackets, opener, start, end, body)),
@@ -517,10 +493,29 @@ pub fn leave(state: State, start: yaml_mark_t) -> Item
             start,
         ),
         State::Others(_) => event(yaml_event_body_t::SequenceEnd, start, start),
-        State::Dressed(_, properties) => properties_alone(properties),
+        State::Dressed(_, properties) => properties_alone(Box::into_inner(properties)),
         State::PairEnd => event(yaml_event_body_t::MappingEnd, start, start),
         _ => blank_node(start),
     }
+}
+
+// Puts the states of a pair inside brackets on top of the stack.
+fn push_flow_pair(
+    stack: &mut Vec<State>,
+    brackets: Brackets,
+    opener: yaml_mark_t,
+    end: yaml_mark_t,
+) -> Result<(), AllocError>
+    ensures { OnOk result (stack_of stack.new.items ≡ flow_pair_of brackets opener end ++ stack_of stack.old.items) }
+{
+    stack.push(State::More(brackets, opener))?;
+    match brackets {
+        Brackets::Sequence => stack.push(State::PairEnd)?,
+        Brackets::Mapping => {}
+    }
+    stack.push(State::Colon(Place::FlowPair(brackets, Side::Value)))?;
+    stack.push(State::Optional(Place::FlowPair(brackets, Side::Key), end))?;
+    Ok(())
 }
 
 /// Puts the states on top of the stack, whose last state is the topmost.
@@ -529,23 +524,39 @@ pub fn push_all(stack: &mut Vec<State>, pushed: Pushed) -> Result<(), AllocError
 {
     match pushed {
         Pushed::Zero => {}
-        Pushed::One(a) => {
-            stack.push(a)?;
+        Pushed::One(state) => {
+            stack.push(state)?;
         }
-        Pushed::Two(a, b) => {
-            stack.push(b)?;
-            stack.push(a)?;
+        Pushed::Dressed(wants, properties) => {
+            let properties = Box::new(*stack.allocator(), properties)?;
+            stack.push(State::Dressed(wants, properties))?;
         }
-        Pushed::Three(a, b, c) => {
-            stack.push(c)?;
-            stack.push(b)?;
-            stack.push(a)?;
+        Pushed::Document(before) => {
+            stack.push(State::Documents)?;
+            stack.push(State::DocumentEnd)?;
+            stack.push(State::Optional(Place::Root, before))?;
         }
-        Pushed::Four(a, b, c, d) => {
-            stack.push(d)?;
-            stack.push(c)?;
-            stack.push(b)?;
-            stack.push(a)?;
+        Pushed::Entry { opener, end } => {
+            stack.push(State::Entries(opener))?;
+            stack.push(State::Optional(Place::Entry, end))?;
+        }
+        Pushed::Indentless { side, end } => {
+            stack.push(State::Others(side))?;
+            stack.push(State::Optional(Place::IndentlessEntry(side), end))?;
+        }
+        Pushed::BlockPair { opener, end } => {
+            stack.push(State::Pairs(opener))?;
+            stack.push(State::Colon(Place::BlockPair(Side::Value)))?;
+            stack.push(State::Optional(Place::BlockPair(Side::Key), end))?;
+        }
+        Pushed::FlowPair {
+            brackets,
+            opener,
+            end,
+        } => return push_flow_pair(stack, brackets, opener, end),
+        Pushed::Lone(opener) => {
+            stack.push(State::More(Brackets::Mapping, opener))?;
+            stack.push(State::Lone)?;
         }
     }
     Ok(())

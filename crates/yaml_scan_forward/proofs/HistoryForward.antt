@@ -11,7 +11,7 @@ use Rattle.yaml_scan_layout.specs.Next.{Next, Read, Fails, Ends, first_lexeme, n
 use Rattle.yaml_scan_layout.specs.Coming.{all, handed}
 use Rattle.yaml_scan_layout.specs.Laws.{Upto, GoesForward}
 use Rattle.yaml_scan_layout.proofs.HistoryLemmas.{stays, take-handed}
-use Rattle.yaml_scan_forward.specs.Standing.{TakesBytes, takes, StandsIn}
+use Rattle.yaml_scan_forward.specs.Standing.{TakesBytes, Takes, StandsIn}
 use Rattle.yaml_scan_forward.proofs.MarksForward.{line_at-grows, mark_start}
 use Rattle.yaml_scan_forward.proofs.NextForward.{Follows, ReadsBehind, next_reads}
 
@@ -51,12 +51,12 @@ not_ended text x h l e =
 read_follows : (text : List ℕ) (x : Lexeme) (h : List Lexeme) (l : Lexeme) → x.reached.index ≤ length text → next text (x ∷ h) ≡ Read l → Follows text x.reached.index l
 read_follows text x h l i e = subst (ReadsBehind text x.reached.index) e (next_reads text x h i)
 
-pub reached_inside : (text : List ℕ) (l : Lexeme) (ended : Bool) → takes ended text l → (l.reached.index ≤ length text) × (l.start.index ≤ l.reached.index)
+pub reached_inside : (text : List ℕ) (l : Lexeme) (ended : Bool) → Takes ended text l → (l.reached.index ≤ length text) × (l.start.index ≤ l.reached.index)
 reached_inside text l true t = let same = ap (λ (m : yaml_mark_t). m.index) t.reached in (omega (arith, same, t.inside), omega (arith, same))
 reached_inside text l false t = (t.inside, omega (arith, t.some, t.order))
 
 pub takes_bytes : (text : List ℕ) (l : Lexeme) → StandsIn text l → is_end l.kind ≡ false → TakesBytes text l
-takes_bytes text l t e = subst (λ b. takes b text l) e t
+takes_bytes text l t e = subst (λ b. Takes b text l) e t
 
 first_stands : (text : List ℕ) → Reaches text first_lexeme []
 first_stands text = record { inside = omega arith; mark = λ e. mark_start text; few = λ e. omega arith; count = omega arith }
@@ -91,14 +91,14 @@ moved_line k m =
       | inr e ↦ rw e (omega arith)
     ]
 
-placed_line : (text : List ℕ) (l : Lexeme) (ended : Bool) → takes ended text l → line_at text l.start.index ≤ l.start.line
+placed_line : (text : List ℕ) (l : Lexeme) (ended : Bool) → Takes ended text l → line_at text l.start.index ≤ l.start.line
 placed_line text l false t = let same = ap (λ (m : yaml_mark_t). m.line) t.start in omega (arith, same)
 placed_line text l true t =
     let same = ap (λ (m : yaml_mark_t). m.line) t.start in
     let more = moved_line l.kind (mark_at text l.start.index) in
     omega (arith, same, more)
 
-placed_reached : (text : List ℕ) (l : Lexeme) (ended : Bool) → takes ended text l → Upto l.start l.reached
+placed_reached : (text : List ℕ) (l : Lexeme) (ended : Bool) → Takes ended text l → Upto l.start l.reached
 placed_reached text l true t = rw t.reached (omega arith, omega arith)
 placed_reached text l false t =
     let forward : l.start.index ≤ l.reached.index = omega (arith, t.some, t.order) in

@@ -23,7 +23,7 @@ SettledStays = (text : List ℕ) (n m : ℕ) → m ≤ first_open (history text 
 abbrev pub AreFew : Type 0
 AreFew = (text : List ℕ) (n : ℕ) → length (history text n) ≤ length text + 2
 
--- A step that reads is one of as many as it has lexemes before it.
+-- While lexemes are read, n steps have read n of them, fewer than two more than the text has bytes.
 abbrev pub StepsCount : Type 0
 StepsCount = (text : List ℕ) (n : ℕ) (l : Lexeme) → next text (history text n) ≡ Read l → (length (history text n) ≡ n) × (n < length text + 2)
 
@@ -53,10 +53,10 @@ HeldIsShort = (text : List ℕ) (n : ℕ) → first_open (history text n) (histo
 abbrev pub FewAreHeld : Type 0
 FewAreHeld = (text : List ℕ) (n : ℕ) → length (history text n) ≤ first_open (history text n) (history text n) + 1025
 
--- An open candidate outside all brackets is the earliest open one.
-abbrev pub OuterIsFirst : Type 0
-OuterIsFirst = (h : List Lexeme) (c : Candidate) → fresh (candidate 0 h) (reached h) ≡ Some c → first_open h h ≡ c.number
-
 -- At most 1,024 of them wait where one more is read.
 abbrev pub FewWait : Type 0
 FewWait = (text : List ℕ) (n : ℕ) (l : Lexeme) → next text (history text n) ≡ Read l → length (history text n) ≤ first_open (history text n) (history text n) + 1024
+
+-- An open candidate outside all brackets is the earliest open one.
+abbrev pub OuterIsFirst : Type 0
+OuterIsFirst = (h : List Lexeme) (c : Candidate) → fresh (candidate 0 h) (reached h) ≡ Some c → first_open h h ≡ c.number

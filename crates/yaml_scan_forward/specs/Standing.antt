@@ -21,10 +21,10 @@ pub record TakesNothing (text : List ℕ) (l : Lexeme) : Type 0 where
   pub reached : l.reached ≡ l.start
   pub inside : l.start.index ≤ length text
 
-abbrev pub takes : Bool → List ℕ → Lexeme → Type 0
-takes true text l = TakesNothing text l
-takes false text l = TakesBytes text l
+abbrev pub Takes : Bool → List ℕ → Lexeme → Type 0
+Takes true text l = TakesNothing text l
+Takes false text l = TakesBytes text l
 
 -- the stream's end takes no byte, every other lexeme behind the stream's start at least one
 abbrev pub StandsIn : List ℕ → Lexeme → Type 0
-StandsIn text l = takes (is_end l.kind) text l
+StandsIn text l = Takes (is_end l.kind) text l

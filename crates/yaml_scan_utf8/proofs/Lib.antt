@@ -1,0 +1,9 @@
+pub mod Whole
+pub mod Values
+pub mod Quoted
+pub mod Plain
+pub mod Block
+pub mod Words
+pub mod Gaps
+pub mod Lexemes
+pub mod TokensUtf8

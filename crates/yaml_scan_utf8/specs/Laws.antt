@@ -1,0 +1,8 @@
+-- What the tokens of a text in UTF-8 carry.
+use Rattle.std.specs.Prelude.{ℕ, IsUtf8, All}
+use Rattle.yaml_scan_layout.specs.Coming.{Stream, coming}
+use Rattle.yaml_scan_utf8.specs.Texts.{HasTexts}
+
+-- Each token that is still to come has texts in UTF-8, but for what escapes spell byte by byte.
+abbrev pub TokensHaveUtf8 : Type 0
+TokensHaveUtf8 = (s : Stream) → IsUtf8 s.text → (dropped given : ℕ) → All (λ t. HasTexts t.body) (coming s dropped given).tokens

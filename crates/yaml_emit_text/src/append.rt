@@ -1,9 +1,12 @@
 //! Bytes at the end of the output.
 
-ghost use Rattle.std.specs.Prelude.{◌≡◌, ◌≢◌, ◌<◌, ◌≤◌, ◌+◌, ◌^◌, length, if◌then◌else◌};
+ghost use Rattle.std.specs.Prelude.{◌≡◌, ◌≢◌, ◌<◌, ◌≤◌, ◌+◌, ◌^◌, [], ◌∷◌, length, if◌then◌else◌, IfSome};
 ghost use Rattle.yaml_emit_text.specs.Appends.{AppendsBy, moved};
+ghost use Rattle.yaml_emit_text.specs.Text.{char_bytes};
 
+use crate::bytes::bytes_of;
 use crate::cursor::{Cursor, Status};
+use crate::settings::Encoding;
 
 // These bytes, as far as the limit and the memory allow, and what becomes of the output.
 pub(crate) fn append(output: &mut Vec<u8>, limit: u64, bytes: &[u8]) -> Status
@@ -23,6 +26,54 @@ pub(crate) fn append(output: &mut Vec<u8>, limit: u64, bytes: &[u8]) -> Status
         match output.extend_from_slice(&bytes[..room as usize]) {
             Ok(_) => Status::Full,
             Err(_) => Status::Starved,
+        }
+    }
+}
+
+// This byte, as far as the limit and the memory allow: most characters are one.
+fn append_byte(output: &mut Vec<u8>, limit: u64, byte: u8) -> Status
+    requires { length output.old.items ≤ limit }
+    ensures bytes { AppendsBy result limit output.old.items output.new.items (byte ∷ []) }
+    ensures within { length output.new.items ≤ limit }
+    ensures longer { length output.old.items ≤ length output.new.items }
+    ensures going { result ≡ Status.Going → length output.new.items ≡ length output.old.items + 1 }
+{
+    if output.len() as u64 == limit {
+        return Status::Full;
+    }
+    match output.push(byte) {
+        Ok(()) => Status::Going,
+        Err(_) => Status::Starved,
+    }
+}
+
+// A character's byte, where it is one.
+#[tactic(auto, unfolding(crate::specs::Text::char_bytes))]
+fn one_byte(encoding: Encoding, c: char) -> Option<u8>
+    ensures { IfSome result (λ b. char_bytes encoding c ≡ b ∷ []) }
+{
+    match encoding {
+        Encoding::Utf8 => {
+            let n = c as u32;
+            if n < 0x80 { Some(n as u8) } else { None }
+        }
+        _ => None,
+    }
+}
+
+// A character's bytes, as far as the limit and the memory allow.
+pub(crate) fn append_char(output: &mut Vec<u8>, limit: u64, encoding: Encoding, c: char) -> Status
+    requires { length output.old.items ≤ limit }
+    ensures bytes { AppendsBy result limit output.old.items output.new.items (char_bytes encoding c) }
+    ensures within { length output.new.items ≤ limit }
+    ensures longer { length output.old.items ≤ length output.new.items }
+    ensures going { result ≡ Status.Going → length output.old.items < length output.new.items }
+{
+    match one_byte(encoding, c) {
+        Some(byte) => append_byte(output, limit, byte),
+        None => {
+            let (bytes, count) = bytes_of(encoding, c);
+            append(output, limit, &bytes[..count])
         }
     }
 }

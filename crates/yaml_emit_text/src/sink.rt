@@ -2,8 +2,7 @@
 
 ghost use Rattle.std.specs.Prelude.{◌≡◌, ◌≢◌, ◌<◌, ◌≤◌, ℕ, ◌∷◌, [], ◌++◌, ◌+◌, ◌-◌, length, ◌^◌, false, true};
 
-use crate::append::{append, moved};
-use crate::bytes::bytes_of;
+use crate::append::{append_char, moved};
 use crate::cursor::{Cursor, Status};
 use crate::settings::{Encoding, LineBreak};
 use std::alloc::{AllocError, Global};
@@ -102,8 +101,7 @@ impl Sink {
         ensures { Puts self.old self.new (stroke c ends white bare) }
     {
         if self.status.is_going() {
-            let (bytes, count) = bytes_of(self.encoding, c);
-            self.status = append(&mut self.output, self.limit, &bytes[..count]);
+            self.status = append_char(&mut self.output, self.limit, self.encoding, c);
             if self.status.is_going() {
                 self.cursor = moved(self.cursor, ends, white, bare);
             }
@@ -250,8 +248,7 @@ impl Sink {
         ensures { Puts self.old self.new (λ c rest. letter 0xFEFF ∷ rest c) }
     {
         if self.status.is_going() {
-            let (bytes, count) = bytes_of(self.encoding, '\u{FEFF}');
-            self.status = append(&mut self.output, self.limit, &bytes[..count]);
+            self.status = append_char(&mut self.output, self.limit, self.encoding, '\u{FEFF}');
         }
     }
 

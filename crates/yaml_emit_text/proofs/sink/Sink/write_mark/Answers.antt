@@ -8,4 +8,4 @@ returns-else-is_going c = rw (← c.self.view_is) (puts_stopped _ _ (c.is_going.
 pub returns-then-is_going : goal.returns-then-is_going
 returns-then-is_going c =
     rw (← c.self.view_is) (puts_stroke _ _ _ (λ k. k) (c.is_going.ensures.going c.if-is_going.true) refl refl
-    (rw c.bytes_of-count.ensures.bytes at c.append-self-inside.ensures.bytes) (λ g. refl))
+    c.append_char-self-inside.ensures.bytes (λ g. refl))

@@ -2,3 +2,11 @@ pub mod StandsLemmas
 pub mod LevelsLemmas
 pub mod WordLemmas
 pub mod SafeLemmas
+pub mod ReadLemmas
+pub mod StepLemmas
+pub mod PassLemmas
+pub mod MarkLemmas
+pub mod NextLemmas
+pub mod KindLemmas
+pub mod PushLemmas
+pub mod FrontLemmas

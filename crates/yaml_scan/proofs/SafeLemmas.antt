@@ -1,5 +1,5 @@
 -- Places, levels and waiting lexemes stay inside the text.
-use Rattle.std.proofs.Common.{◌≡◌, ℕ, zero, suc, ◌+◌, ◌<◌, ◌≤◌, Bool, true, false, cond, leb, ltb, List, [], ◌∷◌, ◌++◌, length, refl, ap, inl, inr, arith}
+use Rattle.std.proofs.Common.{◌≡◌, ℕ, zero, suc, ◌+◌, ◌<◌, ◌≤◌, Bool, true, false, cond, leb, ltb, List, [], ◌∷◌, ◌++◌, length, refl, sym, subst, ap, inl, inr, arith}
 use Rattle.std.proofs.lemmas.Bool.{cases_Bool, cases_lt}
 use Rattle.std.proofs.lemmas.Bool.Decides.{nat_tests}
 use Rattle.std.specs.Prelude.{slice_set, Option, Some, None}
@@ -137,3 +137,7 @@ depth_after-le kinds.FlowMappingStart d = omega arith
 depth_after-le kinds.FlowSequenceEnd d = omega arith
 depth_after-le kinds.FlowMappingEnd d = omega arith
 depth_after-le _ d = omega arith
+
+pub narrow_by : (n c : ℕ) (may : Bool) (xs new : List ℕ) → c ≤ n → IsNarrow n xs → new ≡ opened may c xs → IsNarrow n new
+narrow_by n c true xs new low h is = subst (λ (ys : List ℕ). IsNarrow n ys) (sym is) (narrow_opened n c xs low h)
+narrow_by n c false xs new low h is = subst (λ (ys : List ℕ). IsNarrow n ys) (sym is) h

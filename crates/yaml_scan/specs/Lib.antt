@@ -5,6 +5,8 @@ pub use Rattle.yaml_scan_text.specs.Marks
 pub mod Stands
 pub mod Rising
 pub mod Given
+pub mod Shows
+pub mod Reads
 pub mod State
 pub mod Session
 pub mod SessionView

@@ -33,6 +33,7 @@ pub record IsThrice (b : ℕ) (text : List ℕ) (p : ℕ) : Type 0 where
   pub third : byte text (p + 2) ≡ b
 
 abbrev pub Stands : Kind → Bool → List ℕ → ℕ → Type 0
+Stands kinds.StreamStart flow text p = ⊥
 Stands kinds.DocumentStart flow text p = IsThrice 45 text p
 Stands kinds.DocumentEnd flow text p = IsThrice 46 text p
 Stands kinds.Plain flow text p = starts_plain flow text p ≡ true

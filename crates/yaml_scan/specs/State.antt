@@ -7,6 +7,7 @@ use Rattle.yaml_scan.specs.declared.machine.Machine.{Machine}
 use Rattle.yaml_scan.specs.declared.waiting.Waiting.{Waiting}
 use Rattle.yaml_scan.specs.declared.next.Read.{Read}
 use Rattle.yaml_scan_layout.specs.Kinds.{is_end}
+use Rattle.yaml_scan.specs.Shows.{IsShown, fields_of, AreSpoken, stream_of}
 
 -- a place where a reader may stand
 pub record IsPlace (text : List ℕ) (m : yaml_mark_t) : Type 0 where
@@ -31,6 +32,8 @@ pub record IsMachine (m : Machine) : Type 0 where
   pub levels : IsNarrow (length (text_bytes m.text) + 1) m.levels
   pub inside : AreInside (length (text_bytes m.text)) m.waiting.items
   pub place : m.ended ≡ false → IsPlace (text_bytes m.text) m.place
+  pub shown : IsShown (fields_of m)
+  pub spoken : AreSpoken (stream_of m) m.waiting.items
 
 abbrev pub ready_in : ℕ → ℕ → ℕ → List Waiting → Bool
 ready_in dropped settled given [] = false
@@ -45,10 +48,13 @@ pub record IsNext (m : Machine) (r : Read) : Type 0 where
   pub column : r.lexeme.start.column ≤ length (text_bytes m.text)
   pub depth : r.lexeme.depth ≡ m.depth
   pub own : IfSome r.own (λ i. i < length m.waiting.items)
+  pub key : IfSome r.key (λ i. i < length m.waiting.items)
   pub place : is_end r.lexeme.kind ≡ false → IsPlace (text_bytes m.text) r.lexeme.reached
 
 -- one lexeme more waits
 pub record GoesOn (old new : Machine) : Type 0 where
   pub text : new.text ≡ old.text
   pub dropped : new.dropped ≡ old.dropped
+  pub given : new.given ≡ old.given
+  pub encoding : new.encoding ≡ old.encoding
   pub further : length new.waiting.items ≡ length old.waiting.items + 1

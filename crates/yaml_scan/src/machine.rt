@@ -1,7 +1,9 @@
 //! The state between two lexemes.
 
-ghost use Rattle.std.specs.Prelude.{◌≡◌, ◌+◌, ◌-◌, ◌<◌, ◌≤◌, ◌^◌, OnOk, IsTrue, IfSome, true, false, length, ℕ};
+ghost use Rattle.std.specs.Prelude.{◌≡◌, ◌+◌, ◌-◌, ◌<◌, ◌≤◌, ◌^◌, ◌&&◌, ◌||◌, ◌==◌, not, nat_lt, if◌then◌else◌, OnOk, IfOk, IsTrue, IfSome, true, false, length, ℕ};
 ghost use Rattle.yaml_scan_decode.specs.DecodedText.{text_bytes};
+ghost use Rattle.yaml_scan_layout.specs.Kinds as kinds;
+ghost use Rattle.yaml_scan_layout.specs.History as history;
 
 use crate::levels::Levels;
 use crate::next::{Read, keeps};
@@ -45,6 +47,8 @@ pub(crate) struct Machine<'a> {
 
 impl<'a> Machine<'a> {
     ghost use Rattle.yaml_scan.specs.State.{IsMachine, IsNarrow, AreInside, GoesOn, is_ready};
+    ghost use Rattle.yaml_scan.specs.Shows.{IsPending, fields_of, history_of};
+    ghost use Rattle.yaml_scan.specs.Reads.{MarksOwn, IsColumn, opens_for};
 
     pub(crate) fn new(alloc: Global, input: &'a [u8], setting: yaml_encoding_t) -> Machine<'a>
         ensures stands { IsMachine result }
@@ -142,35 +146,28 @@ impl<'a> Machine<'a> {
         requires { IsMachine self.old }
         ensures { OnOk result (IsMachine self.new) }
     {
-        'steps: while !self.has_token() && self.has_more() {
+        'steps: while !self.has_token() && !self.ended {
             self.step()?;
         }
         Ok(())
-    }
-
-    /// Whether a lexeme may come: the stream's start and end take no byte, every other at least one.
-    fn has_more(&self) -> bool
-        requires { IsMachine self.now }
-        ensures { IsTrue result → (self.now.ended ≡ false) × (self.now.dropped + length self.now.waiting.items < length (text_bytes self.now.text) + 2) }
-    {
-        !self.ended && self.dropped + self.waiting.len() < self.text.as_slice().len() + 2
     }
 
     /// Reads one lexeme.
     fn step(&mut self) -> Result<(), ScanError>
         requires stands { IsMachine self.old }
         requires more { self.old.ended ≡ false }
-        requires room { self.old.dropped + length self.old.waiting.items < length (text_bytes self.old.text) + 2 }
         ensures { OnOk result (IsMachine self.new × GoesOn self.old self.new) }
     {
         let Read {
             lexeme,
             body,
             own,
-            found,
+            key,
         } = self.next()?;
+        let found = key.is_some();
+        let column = self.level_column(lexeme, key);
         let ends = self.close_levels(lexeme);
-        let opens = self.open_level(lexeme, own, found)?;
+        let opens = self.open_level(lexeme, column)?;
         self.mark_own(own, lexeme, opens);
         self.waiting.push_back(Waiting {
             entry: entry(lexeme, ends, opens, found),
@@ -191,6 +188,7 @@ impl<'a> Machine<'a> {
         ensures same { self.new ≡ record self.old { waiting = self.new.waiting } }
         ensures length { length self.new.waiting.items ≡ length self.old.waiting.items }
         ensures inside { (n : ℕ) → AreInside n self.old.waiting.items → AreInside n self.new.waiting.items }
+        ensures marks { MarksOwn own lexeme opens self.old.waiting.items self.new.waiting.items }
     {
         if let Some(i) = own {
             self.waiting[i].mark(lexeme, opens);
@@ -199,9 +197,10 @@ impl<'a> Machine<'a> {
 
     /// How many lexemes no later one changes: those before the earliest open candidate, or all behind the end.
     fn settle(&self) -> usize
-        requires taken { self.now.dropped ≤ self.now.settled }
+        requires shown { IsPending (fields_of self.now) }
         requires settled { self.now.settled ≤ self.now.dropped + length self.now.waiting.items }
         requires few { self.now.dropped + length self.now.waiting.items < 2 ^ 64 - 1 }
+        ensures value { result ≡ (if self.now.ended then length (history_of self.now) else history.first_open (history_of self.now) (history_of self.now)) }
         ensures low { self.now.settled ≤ result }
         ensures high { result ≤ self.now.dropped + length self.now.waiting.items }
     {
@@ -215,7 +214,9 @@ impl<'a> Machine<'a> {
     fn close_levels(&mut self, lexeme: Lexeme) -> usize
         requires { lexeme.start.column < 2 ^ 63 }
         ensures same { self.new ≡ record self.old { levels = self.new.levels } }
-        ensures levels { (n : ℕ) → IsNarrow n self.old.levels → IsNarrow n self.new.levels }
+        ensures levels { self.new.levels ≡ history.left_by lexeme.kind lexeme.depth lexeme.start.column self.old.levels }
+        ensures count { result ≡ length self.old.levels - length self.new.levels }
+        ensures narrow { (n : ℕ) → IsNarrow n self.old.levels → IsNarrow n self.new.levels }
     {
         if 0 < lexeme.depth {
             return 0;
@@ -223,43 +224,43 @@ impl<'a> Machine<'a> {
         self.levels.close(keeps(lexeme.kind, lexeme.start.column))
     }
 
-    /// Opens the level of a `-`, `?` or `:`, or that of the key of a `:`, where it passes the indent.
-    fn open_level(
-        &mut self,
-        lexeme: Lexeme,
-        own: Option<usize>,
-        found: bool,
-    ) -> Result<Opens, AllocError>
-        requires column { lexeme.start.column < 2 ^ 63 }
-        requires own { IfSome own (λ i. i < length self.old.waiting.items) }
-        requires inside { AreInside (length (text_bytes self.old.text)) self.old.waiting.items }
-        requires long { length (text_bytes self.old.text) < 2 ^ 63 }
-        requires narrow { lexeme.start.column ≤ length (text_bytes self.old.text) }
+    /// The column where a level may open, counted from 1: that of the key of a `:`, or the lexeme's own.
+    fn level_column(&self, lexeme: Lexeme, key: Option<usize>) -> u64
+        requires column { lexeme.start.column ≤ length (text_bytes self.now.text) }
+        requires key { IfSome key (λ i. i < length self.now.waiting.items) }
+        requires inside { AreInside (length (text_bytes self.now.text)) self.now.waiting.items }
+        requires long { length (text_bytes self.now.text) < 2 ^ 63 }
+        ensures column { IsColumn self.now.waiting.items lexeme key result }
+        ensures narrow { result ≤ length (text_bytes self.now.text) + 1 }
+    {
+        match key {
+            Some(i) => self.waiting[i].entry.lexeme.start.column + 1,
+            None => lexeme.start.column + 1,
+        }
+    }
+
+    /// Opens the level of a `-`, `?` or `:` at that column, where it passes the indent.
+    fn open_level(&mut self, lexeme: Lexeme, column: u64) -> Result<Opens, AllocError>
         ensures same { OnOk result (self.new ≡ record self.old { levels = self.new.levels }) }
-        ensures levels { OnOk result (IsNarrow (length (text_bytes self.old.text) + 1) self.old.levels → IsNarrow (length (text_bytes self.old.text) + 1) self.new.levels) }
+        ensures levels { OnOk result (self.new.levels ≡ history.opened (kinds.is_start lexeme.kind && not (nat_lt 0 lexeme.depth)) column self.old.levels) }
+        ensures opens { IfOk result (λ o. o ≡ opens_for lexeme.kind lexeme.depth column self.old.levels) }
     {
         if 0 < lexeme.depth || !lexeme.kind.is_start() {
             return Ok(Opens::Nothing);
         }
-        let column = match own {
-            Some(i) if found => self.waiting[i].entry.lexeme.start.column + 1,
-            _ => lexeme.start.column + 1,
-        };
         if !self.levels.open(column)? {
             return Ok(Opens::Nothing);
         }
-        Ok(match lexeme.kind {
-            Kind::BlockEntry => Opens::Sequence,
-            _ => Opens::Mapping,
-        })
+        Ok(level_of(lexeme.kind))
     }
 
     /// The number of the earliest open candidate, or how many lexemes were read. What is settled stays so, so the
     /// look goes on where the last one ended.
     fn earliest_open(&self) -> usize
-        requires taken { self.now.dropped ≤ self.now.settled }
+        requires shown { IsPending (fields_of self.now) }
         requires settled { self.now.settled ≤ self.now.dropped + length self.now.waiting.items }
         requires few { self.now.dropped + length self.now.waiting.items < 2 ^ 64 - 1 }
+        ensures value { result ≡ history.first_open (history_of self.now) (history_of self.now) }
         ensures low { self.now.settled ≤ result }
         ensures high { result ≤ self.now.dropped + length self.now.waiting.items }
     {
@@ -274,9 +275,19 @@ impl<'a> Machine<'a> {
     }
 }
 
+/// The level that a `-`, a `?` or a `:` opens.
+fn level_of(kind: Kind) -> Opens
+    ensures { result ≡ history.level_of kind }
+{
+    match kind {
+        Kind::BlockEntry => Opens::Sequence,
+        _ => Opens::Mapping,
+    }
+}
+
 /// How a lexeme is spelled out, where it is read. What a `:` opens for its key stands before that key.
 fn entry(lexeme: Lexeme, ends: usize, opens: Opens, found: bool) -> Entry
-    ensures { result.lexeme ≡ lexeme }
+    ensures { result ≡ record { lexeme = lexeme; ends = ends; opens = if found then Opens.Nothing else opens; key = false } }
 {
     Entry {
         lexeme,
@@ -287,6 +298,8 @@ fn entry(lexeme: Lexeme, ends: usize, opens: Opens, found: bool) -> Entry
 }
 
 /// Whether a key may begin behind a lexeme.
-fn allows(lexeme: Lexeme, found: bool) -> bool {
+fn allows(lexeme: Lexeme, found: bool) -> bool
+    ensures { result ≡ (kinds.allows_key lexeme.kind (lexeme.depth == 0) found || lexeme.broke) }
+{
     lexeme.kind.allows_key(lexeme.depth == 0, found) || lexeme.broke
 }

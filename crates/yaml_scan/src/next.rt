@@ -1,10 +1,18 @@
 //! The lexeme that comes next, and why there may be none.
 
-ghost use Rattle.std.specs.Prelude.{◌≡◌, ◌+◌, ◌≤◌, ◌<◌, ◌^◌, IfOk, IfSome, None, false, length};
+ghost use Rattle.std.specs.Prelude.{◌≡◌, ◌+◌, ◌≤◌, ◌<◌, ◌^◌, ◌&&◌, ◌||◌, ◌==◌, not, nat_lt, if◌then◌else◌, IfOk, IfSome, is_some, Some, None, true, false, length};
 ghost use Rattle.yaml_scan_decode.specs.DecodedText.{text_bytes};
 ghost use Rattle.yaml_scan_text.specs.Marks.{mark_at};
+ghost use Rattle.yaml_scan_text.specs.Tokens.{body_of, stream_start};
+ghost use Rattle.yaml_scan_words.specs.Between.{Gap};
+ghost use Rattle.yaml_scan_layout.specs.Kinds as kinds;
+ghost use Rattle.yaml_scan_layout.specs.Next as spec;
+ghost use Rattle.yaml_scan_layout.specs.Laws.{Upto};
+ghost use Rattle.yaml_scan_layout.specs.History.{candidate, fresh, reached, indent, left_by, placed, keeps};
+ghost use Rattle.yaml_scan.specs.Stands.{Stands};
 ghost use Rattle.yaml_scan.specs.State.{IsPlace};
-ghost use Rattle.yaml_scan_layout.specs.Kinds.{is_end};
+ghost use Rattle.yaml_scan_layout.specs.Words.{word_at};
+ghost use Rattle.yaml_scan.specs.Reads.{late, lost, required_behind, colon_fault, begun_in, Finishes};
 
 use crate::machine::Machine;
 use crate::waiting::{Seen, look};
@@ -22,8 +30,8 @@ pub(crate) struct Read {
     pub body: yaml_token_body_t,
     /// Where its depth's candidate waits, which it takes, cancels or replaces.
     pub own: Option<usize>,
-    /// It is a `:` and makes a key of that candidate.
-    pub found: bool,
+    /// It is a `:`, and makes a key of that candidate where it is given.
+    pub key: Option<usize>,
 }
 
 /// The place where a lexeme stands, behind the gap.
@@ -37,12 +45,15 @@ struct Stand {
 
 impl<'a> Machine<'a> {
     ghost use Rattle.yaml_scan.specs.State.{IsMachine, IsNext};
+    ghost use Rattle.yaml_scan.specs.Shows.{IsShown, fields_of, history_of, stream_of, Finds, Picks};
+    ghost use Rattle.yaml_scan.specs.Reads.{GivesNext, GivesLexeme, EndsAt, Owns, keyed_by, required_in};
 
     /// The lexeme that comes next.
     pub(crate) fn next(&self) -> Result<Read, ScanError>
         requires stands { IsMachine self.now }
         requires more { self.now.ended ≡ false }
-        ensures { IfOk result (λ r. IsNext self.now r) }
+        ensures safe { IfOk result (λ r. IsNext self.now r) }
+        ensures exact { GivesNext self.now result (spec.next (text_bytes self.now.text) (history_of self.now)) }
     {
         if self.dropped + self.waiting.len() == 0 {
             return Ok(first(self.place, self.encoding));
@@ -52,42 +63,98 @@ impl<'a> Machine<'a> {
         let broke = skip_gap(&mut reader, flow, self.allowed);
         let mark = reader.stop();
         let required = self.required();
-        not_stale(required, mark)?;
+        if let Some(start) = late(required, mark) {
+            return Err(no_colon(start, mark));
+        }
         let Some(kind) = kind_at(&reader, flow) else {
-            return Err(refusal(Problem::NoTokenStart, Context::NextToken, mark, mark));
+            return Err(ScanError::refusal(Problem::NoTokenStart, Context::NextToken, mark, mark));
         };
-        let allowed = self.allowed || broke && !flow;
+        let allowed = allowed_behind(self.allowed, broke, flow);
         let stand = Stand {
             mark,
             kind,
             allowed,
         };
+        self.of_kind(&mut reader, stand, required)
+    }
+
+    /// The lexeme of that kind, which stands there.
+    fn of_kind(
+        &self,
+        reader: &mut Reader,
+        stand: Stand,
+        required: Option<yaml_mark_t>,
+    ) -> Result<Read, ScanError>
+        requires stands { IsMachine self.now }
+        requires more { self.now.ended ≡ false }
+        requires text { reader.old.text ≡ text_bytes self.now.text }
+        requires mark { stand.mark ≡ mark_at reader.old.text reader.old.at }
+        requires place { IsPlace (text_bytes self.now.text) stand.mark }
+        requires kind { Stands stand.kind (nat_lt 0 self.now.depth) reader.old.text reader.old.at }
+        requires forward { Upto (reached (history_of self.now)) stand.mark }
+        requires required { required ≡ required_in (fresh (candidate 0 (history_of self.now)) (reached (history_of self.now))) }
+        requires early { late required stand.mark ≡ None }
+        ensures safe { IfOk result (λ r. IsNext self.now r) }
+        ensures exact { (gap : Gap) → gap.place ≡ reader.old.at → spec.allowed_behind (history_of self.now) gap ≡ stand.allowed → GivesNext self.now result (spec.of_kind (Some stand.kind) (text_bytes self.now.text) gap (history_of self.now)) }
+    {
         let own = self.own(stand);
-        let found = kind.is_value() && self.is_fresh_at(own, mark);
-        if !flow && !allowed && kind.is_start() && !found {
-            return Err(misplaced(kind, mark));
+        let key = self.key(stand, own);
+        if self.is_misplaced(stand, key) {
+            return Err(misplaced(stand.kind, stand.mark));
         }
         let lexeme = self.lexeme_at(stand);
-        not_lost(required, lexeme)?;
-        let read = read_word(self.alloc, &mut reader, kind, flow, lexeme.level)?;
-        let lexeme = ended_at(lexeme, &read, reader.stop());
-        not_stale(still_required(required, lexeme), lexeme.reached)?;
-        Ok(Read {
-            lexeme,
-            body: read.body,
-            own,
-            found,
-        })
+        if let Some(start) = lost(required, lexeme) {
+            return Err(no_colon(start, lexeme.start));
+        }
+        match self.read(reader, lexeme, required) {
+            Ok((lexeme, body)) => Ok(Read {
+                lexeme,
+                body,
+                own,
+                key,
+            }),
+            Err(error) => Err(error),
+        }
+    }
+
+    /// The lexeme with its end, and what its token carries.
+    fn read(
+        &self,
+        reader: &mut Reader,
+        lexeme: Lexeme,
+        required: Option<yaml_mark_t>,
+    ) -> Result<(Lexeme, yaml_token_body_t), ScanError>
+        requires text { reader.old.text ≡ text_bytes self.now.text }
+        requires index { lexeme.start.index ≡ reader.old.at }
+        requires start { kinds.is_end lexeme.kind ≡ false → lexeme.start ≡ mark_at reader.old.text reader.old.at }
+        requires kind { Stands lexeme.kind (nat_lt 0 lexeme.depth) reader.old.text reader.old.at }
+        requires level { lexeme.level ≤ length (text_bytes self.now.text) + 1 }
+        requires saved { lexeme.required ≡ true → lexeme.saved ≡ true }
+        requires required { required ≡ required_in (fresh (candidate 0 (history_of self.now)) (reached (history_of self.now))) }
+        ensures safe { IfOk result (λ r. EndsAt (text_bytes self.now.text) lexeme r.0) }
+        ensures exact { GivesLexeme (stream_of self.now) result (spec.unless_wrong (word_at lexeme.kind (nat_lt 0 lexeme.depth) lexeme.level (text_bytes self.now.text) lexeme.start.index) (text_bytes self.now.text) lexeme (history_of self.now)) }
+    {
+        let flow = 0 < lexeme.depth;
+        match read_word(self.alloc, reader, lexeme.kind, flow, lexeme.level) {
+            Ok(word) => finish(lexeme, word, reader.stop(), required),
+            Err(error) => Err(error),
+        }
+    }
+
+    /// Whether a `-`, a `?`, or a `:` without a key stands where no key may begin.
+    fn is_misplaced(&self, stand: Stand, key: Option<usize>) -> bool
+        ensures { result ≡ ((not (nat_lt 0 self.now.depth) && not stand.allowed) && (kinds.is_start stand.kind && not (is_some key))) }
+    {
+        self.depth == 0 && !stand.allowed && (stand.kind.is_start() && key.is_none())
     }
 
     /// The lexeme that stands there, without its end.
     fn lexeme_at(&self, stand: Stand) -> Lexeme
         requires stands { IsMachine self.now }
         requires place { IsPlace (text_bytes self.now.text) stand.mark }
-        ensures kind { result.kind ≡ stand.kind }
+        ensures value { result ≡ begun_in stand.kind (placed stand.kind stand.mark) stand.allowed self.now.depth self.now.levels }
         ensures level { result.level ≤ length (text_bytes self.now.text) + 1 }
         ensures column { result.start.column ≤ length (text_bytes self.now.text) }
-        ensures depth { result.depth ≡ self.now.depth }
     {
         let start = moved_end(stand.kind, stand.mark);
         let saved = stand.allowed && stand.kind.may_be_key();
@@ -100,7 +167,7 @@ impl<'a> Machine<'a> {
             depth: self.depth,
             level,
             saved,
-            required: saved && self.depth == 0 && level == start.column + 1,
+            required: saved && (self.depth == 0 && level == start.column + 1),
             broke: false,
         }
     }
@@ -109,7 +176,8 @@ impl<'a> Machine<'a> {
     fn level_at(&self, kind: Kind, column: u64) -> u64
         requires stands { IsMachine self.now }
         requires column { column ≤ length (text_bytes self.now.text) }
-        ensures { result ≤ length (text_bytes self.now.text) + 1 }
+        ensures value { result ≡ indent (left_by kind self.now.depth column self.now.levels) }
+        ensures narrow { result ≤ length (text_bytes self.now.text) + 1 }
     {
         if 0 < self.depth {
             return self.levels.indent();
@@ -120,41 +188,55 @@ impl<'a> Machine<'a> {
     /// Where the candidate waits that a lexeme takes, cancels or replaces.
     fn own(&self, stand: Stand) -> Option<usize>
         requires { IsMachine self.now }
-        ensures { IfSome result (λ i. i < length self.now.waiting.items) }
+        ensures owns { Owns self.now self.now.depth ((stand.allowed && kinds.may_be_key stand.kind) || kinds.cancels stand.kind) result }
+        ensures inside { IfSome result (λ i. i < length self.now.waiting.items) }
     {
-        if stand.kind.cancels() || stand.allowed && stand.kind.may_be_key() {
+        if stand.asks() {
             return self.find(self.depth);
         }
         None
     }
 
-    /// Whether what waits there can still become a key at a place.
-    fn is_fresh_at(&self, waits: Option<usize>, place: yaml_mark_t) -> bool
-        requires { IfSome waits (λ i. i < length self.now.waiting.items) }
+    /// Where the candidate waits of which a `:` makes a key.
+    fn key(&self, stand: Stand, own: Option<usize>) -> Option<usize>
+        requires stands { IsMachine self.now }
+        requires more { self.now.ended ≡ false }
+        requires own { Owns self.now self.now.depth ((stand.allowed && kinds.may_be_key stand.kind) || kinds.cancels stand.kind) own }
+        requires inside { IfSome own (λ i. i < length self.now.waiting.items) }
+        requires forward { Upto (reached (history_of self.now)) stand.mark }
+        ensures picks { Picks self.now (keyed_by stand.kind (fresh (candidate self.now.depth (history_of self.now)) stand.mark)) result }
+        ensures inside { IfSome result (λ i. i < length self.now.waiting.items) }
     {
-        match waits {
-            Some(i) => is_fresh(self.waiting[i].entry.lexeme.start, place),
-            None => false,
+        if !stand.kind.is_value() {
+            return None;
         }
+        let Some(i) = own else {
+            return None;
+        };
+        if is_fresh(self.waiting[i].entry.lexeme.start, stand.mark) {
+            return Some(i);
+        }
+        None
     }
 
     /// The start of the required candidate that is open. It stands outside all brackets, so it is the earliest open one.
     fn required(&self) -> Option<yaml_mark_t>
-        requires { IsMachine self.now }
+        requires stands { IsMachine self.now }
+        requires more { self.now.ended ≡ false }
+        ensures { result ≡ required_in (fresh (candidate 0 (history_of self.now)) (reached (history_of self.now))) }
     {
-        let first = self.waiting.get(self.settled - self.dropped)?;
-        let lexeme = first.entry.lexeme;
-        if first.current && lexeme.required && lexeme.depth == 0 {
-            Some(lexeme.start)
-        } else {
-            None
+        let first = self.settled - self.dropped;
+        if first < self.waiting.len() {
+            return self.waiting[first].must_come();
         }
+        None
     }
 
     /// Where the candidate of this depth waits, by a look back. One that is not found is stale.
     fn find(&self, depth: usize) -> Option<usize>
-        requires { IsMachine self.now }
-        ensures { IfSome result (λ i. i < length self.now.waiting.items) }
+        requires shown { IsShown (fields_of self.now) }
+        requires settled { self.now.settled ≤ self.now.dropped + length self.now.waiting.items }
+        ensures { Finds self.now depth result }
     {
         let first = self.settled - self.dropped;
         let mut i = self.waiting.len();
@@ -170,13 +252,28 @@ impl<'a> Machine<'a> {
     }
 }
 
+impl Stand {
+    /// Whether its lexeme takes, cancels or replaces a candidate.
+    fn asks(self) -> bool
+        ensures { result ≡ ((self.allowed && kinds.may_be_key self.kind) || kinds.cancels self.kind) }
+    {
+        self.allowed && self.kind.may_be_key() || self.kind.cancels()
+    }
+}
+
+/// Whether a key may begin behind a gap: in block context a break allows one.
+fn allowed_behind(allowed: bool, broke: bool, flow: bool) -> bool
+    ensures { result ≡ (allowed || (broke && not flow)) }
+{
+    allowed || broke && !flow
+}
+
 /// The start of the stream.
 fn first(place: yaml_mark_t, encoding: yaml_encoding_t) -> Read
-    ensures kind { is_end result.lexeme.kind ≡ false }
-    ensures start { result.lexeme.start ≡ place }
-    ensures reached { result.lexeme.reached ≡ place }
-    ensures depth { result.lexeme.depth ≡ 0 }
+    ensures lexeme { result.lexeme ≡ record spec.first_lexeme { start = place; end = place; reached = place } }
+    ensures body { body_of result.body ≡ stream_start encoding }
     ensures own { result.own ≡ None }
+    ensures key { result.key ≡ None }
 {
     Read {
         lexeme: Lexeme {
@@ -192,14 +289,15 @@ fn first(place: yaml_mark_t, encoding: yaml_encoding_t) -> Read
         },
         body: yaml_token_body_t::StreamStart { encoding },
         own: None,
-        found: false,
+        key: None,
     }
 }
 
 /// The innermost column that a lexeme outside all brackets leaves open, counted from 1.
 pub(crate) fn keeps(kind: Kind, column: u64) -> u64
     requires { column < 2 ^ 63 }
-    ensures { result ≤ column + 1 }
+    ensures value { result ≡ keeps kind column }
+    ensures narrow { result ≤ column + 1 }
 {
     if kind.is_outside() {
         return 0;
@@ -209,10 +307,7 @@ pub(crate) fn keeps(kind: Kind, column: u64) -> u64
 
 /// The lexeme with its end, where the place behind it is reached. The stream's end stays where it starts.
 fn ended_at(lexeme: Lexeme, read: &Word, reached: yaml_mark_t) -> Lexeme
-    ensures kind { result.kind ≡ lexeme.kind }
-    ensures start { result.start ≡ lexeme.start }
-    ensures depth { result.depth ≡ lexeme.depth }
-    ensures reached { is_end lexeme.kind ≡ false → result.reached ≡ reached }
+    ensures { result ≡ (if kinds.is_end lexeme.kind then lexeme else record lexeme { end = read.now.end; reached = reached; broke = read.now.broke }) }
 {
     if lexeme.kind.is_end() {
         return lexeme;
@@ -226,7 +321,9 @@ fn ended_at(lexeme: Lexeme, read: &Word, reached: yaml_mark_t) -> Lexeme
 }
 
 /// The required candidate that is open behind a lexeme.
-fn still_required(required: Option<yaml_mark_t>, lexeme: Lexeme) -> Option<yaml_mark_t> {
+fn still_required(required: Option<yaml_mark_t>, lexeme: Lexeme) -> Option<yaml_mark_t>
+    ensures { result ≡ required_behind required lexeme }
+{
     if 0 < lexeme.depth || !lexeme.saved && !lexeme.kind.cancels() {
         return required;
     }
@@ -236,48 +333,75 @@ fn still_required(required: Option<yaml_mark_t>, lexeme: Lexeme) -> Option<yaml_
     None
 }
 
-/// A required candidate must not be stale at a place.
-fn not_stale(required: Option<yaml_mark_t>, place: yaml_mark_t) -> Result<(), ScanError> {
-    match required {
-        Some(start) if !is_fresh(start, place) => Err(no_colon(start, place)),
-        _ => Ok(()),
+/// The lexeme with its end, unless a required candidate is stale there.
+fn finish(
+    lexeme: Lexeme,
+    word: Word,
+    reached: yaml_mark_t,
+    required: Option<yaml_mark_t>,
+) -> Result<(Lexeme, yaml_token_body_t), ScanError>
+    ensures { Finishes lexeme word reached required result }
+{
+    let lexeme = ended_at(lexeme, &word, reached);
+    if let Some(start) = late(still_required(required, lexeme), lexeme.reached) {
+        return Err(no_colon(start, lexeme.reached));
     }
+    Ok((lexeme, word.body))
 }
 
-/// A required candidate must not be cancelled or replaced.
-fn not_lost(required: Option<yaml_mark_t>, lexeme: Lexeme) -> Result<(), ScanError> {
-    let loses = lexeme.saved || lexeme.kind.cancels() && !lexeme.kind.is_value();
-    match required {
-        Some(start) if lexeme.depth == 0 && loses => Err(no_colon(start, lexeme.start)),
-        _ => Ok(()),
+/// The start of a required candidate, where it is stale at a place.
+fn late(required: Option<yaml_mark_t>, place: yaml_mark_t) -> Option<yaml_mark_t>
+    ensures { result ≡ late required place }
+{
+    let Some(start) = required else {
+        return None;
+    };
+    if is_fresh(start, place) {
+        return None;
     }
+    Some(start)
+}
+
+/// The start of a required candidate, where a lexeme cancels or replaces it.
+fn lost(required: Option<yaml_mark_t>, lexeme: Lexeme) -> Option<yaml_mark_t>
+    ensures { result ≡ lost required lexeme }
+{
+    let Some(start) = required else {
+        return None;
+    };
+    if loses(lexeme) {
+        return Some(start);
+    }
+    None
+}
+
+/// Whether a lexeme outside all brackets cancels or replaces its candidate; a `:` takes it.
+fn loses(lexeme: Lexeme) -> bool
+    ensures { result ≡ (lexeme.depth == 0 && (lexeme.saved || (kinds.cancels lexeme.kind && not (kinds.is_value lexeme.kind)))) }
+{
+    lexeme.depth == 0 && (lexeme.saved || lexeme.kind.cancels() && !lexeme.kind.is_value())
 }
 
 /// A simple key's `:` doesn't come.
-fn no_colon(start: yaml_mark_t, place: yaml_mark_t) -> ScanError {
-    refusal(Problem::NoColon, Context::SimpleKey, start, place)
+fn no_colon(start: yaml_mark_t, place: yaml_mark_t) -> ScanError
+    ensures { result ≡ ScanError.Fault (colon_fault start place) }
+{
+    ScanError::refusal(Problem::NoColon, Context::SimpleKey, start, place)
 }
 
 /// A `-`, `?` or `:` where no key may begin.
-fn misplaced(kind: Kind, mark: yaml_mark_t) -> ScanError {
-    let problem = match kind {
+fn misplaced(kind: Kind, mark: yaml_mark_t) -> ScanError
+    ensures { result ≡ ScanError.Fault (record { problem = spec.not_allowed_by kind; context = Context.Nothing; context_mark = mark; problem_mark = mark }) }
+{
+    ScanError::refusal(not_allowed_by(kind), Context::Nothing, mark, mark)
+}
+
+fn not_allowed_by(kind: Kind) -> Problem
+    ensures { result ≡ spec.not_allowed_by kind }
+{
+    match kind {
         Kind::BlockEntry => Problem::SequenceEntryNotAllowed,
         Kind::KeyMark => Problem::KeyNotAllowed,
         _ => Problem::ValueNotAllowed,
-    };
-    refusal(problem, Context::Nothing, mark, mark)
-}
-
-fn refusal(
-    problem: Problem,
-    context: Context,
-    context_mark: yaml_mark_t,
-    problem_mark: yaml_mark_t,
-) -> ScanError {
-    ScanError::Fault(ScanFault {
-        problem,
-        context,
-        context_mark,
-        problem_mark,
-    })
+    }
 }

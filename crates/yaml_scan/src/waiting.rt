@@ -1,6 +1,8 @@
 //! The lexemes that wait, and the tokens that they are spelled out in.
 
-ghost use Rattle.std.specs.Prelude.{◌≡◌, ◌≢◌, ◌<◌, None};
+ghost use Rattle.std.specs.Prelude.{◌≡◌, ◌≢◌, ◌<◌, ◌&&◌, ◌==◌, if◌then◌else◌, Some, None};
+ghost use Rattle.yaml_scan_layout.specs.History as history;
+ghost use Rattle.yaml_scan.specs.Shows as shows;
 
 use yaml_scan_layout::{Entry, Lexeme, Opens, is_fresh};
 use yaml_scan_text::{yaml_mark_t, yaml_token_body_t, yaml_token_t};
@@ -17,13 +19,27 @@ pub(crate) struct Waiting {
 
 impl Waiting {
     /// Whether it is an open candidate where this place is reached.
-    pub(crate) fn is_open(&self, place: yaml_mark_t) -> bool {
+    pub(crate) fn is_open(&self, place: yaml_mark_t) -> bool
+        ensures { result ≡ (self.now.current && history.is_fresh self.now.entry.lexeme.start place) }
+    {
         self.current && is_fresh(self.entry.lexeme.start, place)
+    }
+
+    /// Its start, where it is the candidate outside all brackets and its `:` must come.
+    pub(crate) fn must_come(&self) -> Option<yaml_mark_t>
+        ensures { result ≡ (if (self.now.current && self.now.entry.lexeme.required) && self.now.entry.lexeme.depth == 0 then Some self.now.entry.lexeme.start else None) }
+    {
+        let lexeme = self.entry.lexeme;
+        if self.current && lexeme.required && lexeme.depth == 0 {
+            return Some(lexeme.start);
+        }
+        None
     }
 
     /// Takes what a later lexeme of its depth says of it: `opens` is what it opens where it becomes a key.
     pub(crate) fn mark(&mut self, lexeme: Lexeme, opens: Opens)
-        ensures { self.new.entry.lexeme ≡ self.old.entry.lexeme }
+        ensures marked { self.new ≡ shows.marked lexeme opens self.old }
+        ensures lexeme { self.new.entry.lexeme ≡ self.old.entry.lexeme }
     {
         if lexeme.kind.is_value() && is_fresh(self.entry.lexeme.start, lexeme.start) {
             self.entry.key = true;
@@ -72,7 +88,9 @@ pub(crate) enum Seen {
     Further,
 }
 
-pub(crate) fn look(lexeme: Lexeme, depth: usize) -> Seen {
+pub(crate) fn look(lexeme: Lexeme, depth: usize) -> Seen
+    ensures { result ≡ shows.look lexeme depth }
+{
     if lexeme.depth < depth {
         return Seen::Nowhere;
     }

@@ -3,7 +3,7 @@ use Rattle.yaml_scan.specs.State.{IsNarrow}
 use Rattle.yaml_scan.proofs.SafeLemmas.{narrow_left}
 use Rattle.yaml_scan.proofs.machine.Machine.close_levels.Goals as goal
 
-pub returns-clause-levels : goal.returns-clause-levels
-returns-clause-levels c = λ n h.
+pub returns-clause-narrow : goal.returns-clause-narrow
+returns-clause-narrow c = λ n h.
     let P : List ℕ → Type 0 = λ xs. IsNarrow n xs in
     subst P (sym c.close.ensures.left) (narrow_left n c.keeps.result c.args.self.now.levels h)

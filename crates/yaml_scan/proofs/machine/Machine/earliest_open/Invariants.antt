@@ -1,8 +1,14 @@
-use Rattle.std.proofs.Common.{◌≤◌, ◌-◌, ◌+◌, length}
+use Rattle.std.proofs.Common.{◌≡◌, ◌+◌, ◌-◌, ◌≤◌, length}
+use Rattle.yaml_scan_layout.specs.History.{first_open}
+use Rattle.yaml_scan.specs.Shows.{history_of}
 use Rattle.yaml_scan.proofs.machine.Machine.earliest_open.Given as goal
 
 abbrev pub invariant-pass : goal.invariant-pass
-invariant-pass l = record { low : l.self.settled ≤ l.self.dropped + l.i; high : l.i ≤ length l.self.waiting.items }
+invariant-pass l = record {
+  low : l.fn.self.dropped + l.i ≤ first_open (history_of l.fn.self) (history_of l.fn.self);
+  high : l.fn.self.settled ≤ l.fn.self.dropped + l.i;
+  inside : l.i ≤ length l.fn.self.waiting.items;
+}
 
 abbrev pub decreases-pass : goal.decreases-pass
-decreases-pass l = length l.self.waiting.items - l.i
+decreases-pass l = length l.fn.self.waiting.items - l.i

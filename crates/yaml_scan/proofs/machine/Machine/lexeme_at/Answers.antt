@@ -31,3 +31,9 @@ returns-else-self-eq0-clause-column c =
     let low = mark_column (text_bytes c.args.self.now.text) c.args.stand.mark c.requires.place in
     let less = placed_column c.args.stand.kind c.args.stand.mark in
     rw c.moved_end-start.ensures (omega (arith, low, less))
+
+pub returns-else-saved-clause-column : goal.returns-else-saved-clause-column
+returns-else-saved-clause-column c =
+    let low = mark_column (text_bytes c.args.self.now.text) c.args.stand.mark c.requires.place in
+    let less = placed_column c.args.stand.kind c.args.stand.mark in
+    rw c.moved_end-start.ensures (omega (arith, low, less))

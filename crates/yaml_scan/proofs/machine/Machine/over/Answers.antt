@@ -2,6 +2,7 @@ use Rattle.std.proofs.Common.{◌≡◌, ℕ, List, sym, ap, subst, arith, ◌+�
 use Rattle.yaml_scan_decode.specs.DecodedText.{text_bytes}
 use Rattle.yaml_scan.specs.State.{IsNarrow}
 use Rattle.yaml_scan.proofs.SafeLemmas.{start_place, narrow_none}
+use Rattle.yaml_scan.proofs.FrontLemmas.{shown_start}
 use Rattle.yaml_scan.proofs.machine.Machine.over.Goals as goal
 
 pub returns-clause-stands : goal.returns-clause-stands
@@ -16,4 +17,6 @@ returns-clause-stands c =
       levels = subst P (sym c.new-2.ensures) (narrow_none (length (text_bytes c.args.text) + 1));
       inside = λ k w lt. absurd (let bad = rw c.new.ensures.items at lt in omega (arith, bad));
       place = λ _. start_place (text_bytes c.args.text);
+      shown = shown_start (text_bytes c.args.text) c.new.result.items c.new-2.result c.new.ensures.items c.new-2.ensures;
+      spoken = λ k w lt. absurd (let bad = rw c.new.ensures.items at lt in omega (arith, bad));
     }

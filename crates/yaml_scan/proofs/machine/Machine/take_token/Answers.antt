@@ -1,8 +1,11 @@
-use Rattle.std.proofs.Common.{◌≡◌, ◌<◌, List, ◌∷◌, sym, ap, subst, ◌∙◌, arith, ◌+◌, length, get_or, true}
+use Rattle.std.proofs.Common.{◌≡◌, ◌<◌, List, ◌∷◌, sym, ap, subst, ◌∙◌, arith, ◌+◌, length, get_or, true, refl}
 use Rattle.yaml_scan_decode.specs.DecodedText.{text_bytes}
 use Rattle.yaml_scan.specs.declared.waiting.Waiting.{Waiting}
 use Rattle.yaml_scan.specs.State.{ready_in, AreInside}
 use Rattle.yaml_scan.proofs.SafeLemmas.{inside_rest, none_left, known_settled}
+use Rattle.yaml_scan.specs.Shows.{fields_of, stream_of, AreSpoken}
+use Rattle.yaml_scan.proofs.FrontLemmas.{shown_popped, shown_given}
+use Rattle.yaml_scan.proofs.PushLemmas.{spoken_rest}
 use Rattle.yaml_scan.proofs.machine.Machine.take_token.Goals as goal
 
 pub returns-in-Some-pop_front : goal.returns-in-Some-pop_front
@@ -27,4 +30,6 @@ returns-in-Some-pop_front c =
       levels = c.requires.stands.levels;
       inside = inside_rest (length (text_bytes m.text)) front rest (subst Q items c.requires.stands.inside);
       place = c.requires.stands.place;
+      shown = shown_popped (fields_of m) m.waiting.items front rest c.requires.stands.shown refl refl items low;
+      spoken = spoken_rest (stream_of m) front rest (subst (λ (ws : List Waiting). AreSpoken (stream_of m) ws) items c.requires.stands.spoken);
     }

@@ -1,0 +1,39 @@
+use Rattle.std.proofs.Common.{◌≡◌, ◌<◌, ◌≤◌, ◌+◌, length, refl, sym, ◌∙◌, arith}
+use Rattle.std.proofs.lemmas.List.{length-map}
+use Rattle.std.specs.Prelude.{map}
+use Rattle.yaml_scan.specs.declared.waiting.Waiting.{Waiting}
+use Rattle.yaml_scan.specs.Shows.{fields_of, history_of}
+use Rattle.yaml_scan.proofs.PassLemmas.{test_is}
+use Rattle.yaml_scan_layout.proofs.HistoryLemmas.{first_open-le}
+use Rattle.yaml_scan.proofs.StepLemmas.{pass_on, stop_at, stop_end}
+use Rattle.yaml_scan.proofs.machine.Machine.earliest_open.Goals as goal
+
+pub returns-then-is_open-clause-value : goal.returns-then-is_open-clause-value
+returns-then-is_open-clause-value c =
+    let m = c.args.self.now in
+    let len = length-map m.waiting.items (λ (x : Waiting). x.entry) in
+    let inside : c.pass.i < length m.waiting.items = omega arith in
+    let test = test_is (fields_of m) m.waiting.items c.index.result.now c.pass.i c.requires.shown refl refl c.index.ensures inside c.pass.invariant.high in
+    sym (stop_at (history_of m) (m.dropped + c.pass.i) c.index.result.now.entry c.pass.invariant.low (omega (arith, len, c.requires.shown.count)) (test ∙ sym c.is_open.ensures ∙ c.if-is_open.true))
+
+pub pass-preserved : goal.pass-preserved
+pass-preserved c =
+    let m = c.args.self.now in
+    let len = length-map m.waiting.items (λ (x : Waiting). x.entry) in
+    let inside : c.pass.i < length m.waiting.items = omega arith in
+    let test = test_is (fields_of m) m.waiting.items c.index.result.now c.pass.i c.requires.shown refl refl c.index.ensures inside c.pass.invariant.high in
+    let more = pass_on (history_of m) (m.dropped + c.pass.i) c.index.result.now.entry c.pass.invariant.low (omega (arith, len, c.requires.shown.count)) (test ∙ sym c.is_open.ensures ∙ c.if-is_open.false) in
+    record { low = omega arith; high = omega arith; inside = omega arith }
+
+pub overflow_add-result-2 : goal.overflow_add-result-2
+overflow_add-result-2 c =
+    let m = c.args.self.now in
+    let len = length-map m.waiting.items (λ (x : Waiting). x.entry) in
+    let most = first_open-le (history_of m) (history_of m) in
+    omega (arith, c.requires.shown.count, c.requires.few)
+
+pub returns-clause-value : goal.returns-clause-value
+returns-clause-value c =
+    let m = c.args.self.now in
+    let len = length-map m.waiting.items (λ (x : Waiting). x.entry) in
+    sym (stop_end (history_of m) (m.dropped + c.pass.i) c.pass.invariant.low (omega (arith, len, c.requires.shown.count)))

@@ -1,0 +1,17 @@
+use Rattle.std.proofs.Common.{◌≡◌, Option, ℕ, Bool, true, ◌&&◌, ◌||◌, Some, None, refl, sym, ap, subst, ◌∙◌}
+use Rattle.yaml_scan_layout.specs.Kinds.{may_be_key, is_value}
+use Rattle.yaml_scan_layout.specs.History.{candidate, fresh}
+use Rattle.yaml_scan.specs.Shows.{fields_of, history_of, Finds}
+use Rattle.yaml_scan.specs.Reads.{Owns}
+use Rattle.yaml_scan.proofs.NextLemmas.{stale_settled, asked_value}
+use Rattle.yaml_scan.proofs.machine.Machine.key.Goals as goal
+
+pub returns-in_default-clause-picks : goal.returns-in_default-clause-picks
+returns-in_default-clause-picks c =
+    let m = c.args.self.now in
+    let value : is_value c.args.stand.kind ≡ true = sym c.is_value.ensures ∙ c.if-not-is_value.false in
+    let asked = asked_value c.args.stand.kind (c.args.stand.allowed && may_be_key c.args.stand.kind) value in
+    let P : Bool → Type 0 = λ b. Owns m m.depth b c.args.own in
+    let Q : Option ℕ → Type 0 = λ o. Owns m m.depth true o in
+    let finds : Finds m m.depth None = subst Q c.in_default.is (subst P asked c.requires.own) in
+    rw value (sym (stale_settled (fields_of m) m.depth c.args.stand.mark c.requires.stands.shown c.requires.more c.requires.forward finds))

@@ -12,7 +12,7 @@ use Rattle.yaml_scan_forward.specs.Standing.{StandsIn}
 use Rattle.yaml_scan_forward.proofs.HistoryForward.{Stands, history_stands, first_is, not_ended, reached_inside, takes_bytes, read_forward, stand_in}
 
 -- a lexeme stands behind a history
-record IsBehind (text : List ℕ) (h : List Lexeme) (l : Lexeme) : Type 0 where
+pub record IsBehind (text : List ℕ) (h : List Lexeme) (l : Lexeme) : Type 0 where
   pub behind : (reached h).index ≤ l.start.index
   pub lines : ((reached h).line ≤ l.start.line) × (l.start.line ≤ l.reached.line)
   pub open_end : ended h ≡ false
@@ -20,7 +20,7 @@ record IsBehind (text : List ℕ) (h : List Lexeme) (l : Lexeme) : Type 0 where
   pub first : length h ≡ 0 → l.saved ≡ false
 
 -- each lexeme stands behind the ones before it
-abbrev Chain : List ℕ → List Lexeme → Type 0
+abbrev pub Chain : List ℕ → List Lexeme → Type 0
 Chain text [] = Unit {0}
 Chain text (l ∷ h) = IsBehind text h l × Chain text h
 
@@ -46,7 +46,7 @@ extended_chain text h (Read l) s c e = (read_behind text h l s e, c)
 extended_chain text h (Fails f) s c e = c
 extended_chain text h Ends s c e = c
 
-history_chain : (text : List ℕ) (n : ℕ) → Chain text (history text n)
+pub history_chain : (text : List ℕ) (n : ℕ) → Chain text (history text n)
 unfolding history
 history_chain text zero = tt
 history_chain text (suc n) = extended_chain text (history text n) (next text (history text n)) (history_stands text n) (history_chain text n) refl

@@ -49,7 +49,7 @@ not_ended text x h l e =
     ]
 
 read_follows : (text : List ℕ) (x : Lexeme) (h : List Lexeme) (l : Lexeme) → x.reached.index ≤ length text → next text (x ∷ h) ≡ Read l → Follows text x.reached.index l
-read_follows text x h l i e = subst (ReadsBehind text x.reached.index) e (next_reads text x h i)
+read_follows text x h l i e = subst (ReadsBehind text x.reached.index) e (next_reads text x h (not_ended text x h l e) i)
 
 pub reached_inside : (text : List ℕ) (l : Lexeme) (ended : Bool) → Takes ended text l → (l.reached.index ≤ length text) × (l.start.index ≤ l.reached.index)
 reached_inside text l true t = let same = ap (λ (m : yaml_mark_t). m.index) t.reached in (omega (arith, same, t.inside), omega (arith, same))

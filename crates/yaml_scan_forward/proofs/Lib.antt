@@ -8,3 +8,4 @@ pub mod HistoryForward
 pub mod HeldForward
 pub mod OuterForward
 pub mod ComingForward
+pub mod StreamForward

@@ -19,11 +19,11 @@ use Rattle.yaml_scan_forward.proofs.WordForward.{Fits, FitsAny, kind_fits, Lands
 abbrev pub Follows : List ℕ → ℕ → Lexeme → Type 0
 Follows text p l = (p ≤ l.start.index) × StandsIn text l
 
--- what is read, if anything, is a lexeme behind the place
+-- a lexeme behind the place is read, or a fault comes
 abbrev pub ReadsBehind : List ℕ → ℕ → Next → Type 0
 ReadsBehind text p (Read l) = Follows text p l
 ReadsBehind text p (Fails f) = Unit {0}
-ReadsBehind text p Ends = Unit {0}
+ReadsBehind text p Ends = ⊥
 
 placed_index : (k : Kind) (m : yaml_mark_t) → (placed k m).index ≡ m.index
 placed_index k m =
@@ -98,14 +98,11 @@ missed_reads : (o : Option yaml_mark_t) (text : List ℕ) (p : ℕ) (gap : Gap) 
 missed_reads (Some start) text p gap h f i = tt
 missed_reads None text p gap h f i = kind_reads (kind_at (nat_lt 0 (depth h)) text gap.place) text p gap h f i (kind_fits (nat_lt 0 (depth h)) text gap.place)
 
--- behind a lexeme
-pub next_reads : (text : List ℕ) (x : Lexeme) (h : List Lexeme) → x.reached.index ≤ length text → ReadsBehind text x.reached.index (next text (x ∷ h))
+-- behind a lexeme that isn't the stream's end
+pub next_reads : (text : List ℕ) (x : Lexeme) (h : List Lexeme) → is_end x.kind ≡ false → x.reached.index ≤ length text → ReadsBehind text x.reached.index (next text (x ∷ h))
 unfolding next
-next_reads text x h i =
+next_reads text x h more i =
     let flow = nat_lt 0 (depth (x ∷ h)) in
     let gap = gap_at flow (key_allowed (x ∷ h)) text x.reached.index in
     let from = gap_place flow (key_allowed (x ∷ h)) text x.reached.index i in
-    elim (cases_Bool (is_end x.kind)) [
-      | inl e ↦ rw e tt
-      | inr e ↦ rw e (missed_reads (missed (fresh (candidate 0 (x ∷ h)) x.reached) (mark_at text gap.place)) text x.reached.index gap (x ∷ h) from.forward from.inside)
-    ]
+    rw more (missed_reads (missed (fresh (candidate 0 (x ∷ h)) x.reached) (mark_at text gap.place)) text x.reached.index gap (x ∷ h) from.forward from.inside)

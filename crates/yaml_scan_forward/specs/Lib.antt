@@ -1,3 +1,4 @@
 pub mod Standing
 pub mod Laws
 pub mod Fronts
+pub mod Streams

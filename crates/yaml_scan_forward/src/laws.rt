@@ -15,6 +15,7 @@ ghost use Rattle.yaml_scan_forward.specs.Laws.{
   FewWait,
   OuterIsFirst,
 };
+ghost use Rattle.yaml_scan_forward.specs.Streams.{StreamStarts, StreamEnds, FaultEndsNone};
 ghost use Rattle.yaml_scan_forward.specs.Fronts.{SettledComes, LastComes, EndsCome, FaultComes, EndComes};
 
 /// Each lexeme stands behind the ones before it: places and lines never go back.
@@ -87,4 +88,11 @@ pub fn fronts_come()
     ensures ends { EndsCome }
     ensures fault { FaultComes }
     ensures nothing { EndComes }
+{}
+
+/// The tokens of a text begin with STREAM-START. They end in STREAM-END where no fault comes, and hold it nowhere else.
+pub fn stream_is_framed()
+    ensures starts { StreamStarts }
+    ensures ends { StreamEnds }
+    ensures none { FaultEndsNone }
 {}

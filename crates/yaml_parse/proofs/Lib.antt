@@ -3,3 +3,4 @@ pub mod Moves
 pub mod Turning
 pub mod Texts
 pub mod Loading
+pub mod Heights

@@ -1,5 +1,5 @@
 -- What the private steps of a parser owe.
-use Rattle.std.specs.Prelude.{◌≡◌, ◌⊎◌, ◌+◌, ◌<◌, ◌++◌, ℕ, List, [], ◌∷◌, length, Option, Some, None, true}
+use Rattle.std.specs.Prelude.{◌≡◌, ◌⊎◌, ◌+◌, ◌<◌, ◌++◌, ℕ, List, [], ◌∷◌, length, Option, Some, None, Bool, true}
 use Rattle.yaml_scan.specs.declared.yaml_error_type_t.TheVariants.{YAML_MEMORY_ERROR}
 use Rattle.yaml_scan.specs.declared.yaml_mark_t.{yaml_mark_t}
 use Rattle.yaml_scan.specs.declared.yaml_token_t.{yaml_token_t}
@@ -12,8 +12,9 @@ use Rattle.yaml_parse_grammar.specs.States.{State}
 use Rattle.yaml_parse_grammar.specs.Items.{item_at}
 use Rattle.yaml_parse_grammar.specs.Items as item
 use Rattle.yaml_parse_grammar.specs.Machine.{Outcome, run, ending_at, choice_at, opened, Stands}
-use Rattle.yaml_parse_grammar.specs.Coming.{Coming, waiting, held_of, IsFinished, GivesNothing}
+use Rattle.yaml_parse_grammar.specs.Coming.{Coming, waiting, held_of, IsFinished, GivesNothing, is_between}
 use Rattle.yaml_parse_grammar.specs.Texts.{IsUtf8Item, AreUtf8States, IsUtf8Token}
+use Rattle.yaml_parse_grammar.specs.Stacks.{IsStack, StandsBehind, parts_documents_behind}
 use Rattle.yaml_parse_model.specs.Constructors.{HasUtf8, AreUtf8}
 use Rattle.yaml_parse_grammar.specs.Resolve.{Directives}
 use Rattle.yaml_parse_machine.specs.Views.{item_of}
@@ -101,6 +102,17 @@ IsUtf8Step (step.Item i) peeked s ds = IsUtf8Item (item_of i).body × (IsUtf8Tok
 IsUtf8Step step.Silent peeked s ds = IsUtf8Token peeked × (AreUtf8States s × AreUtf8 ds.tags)
 IsUtf8Step (step.Refused f) peeked s ds = Unit {0}
 IsUtf8Step step.Done peeked s ds = Unit {0}
+
+-- a step keeps how the states stand above one another, and what it gives tells whether a document is half taken then
+abbrev pub IsStackStep : Step → List State → Type 0
+IsStackStep (step.Item i) s = IsStack s × StandsBehind (item_of i).body (is_between s)
+IsStackStep step.Silent s = IsStack s
+IsStackStep (step.Refused f) s = Unit {0}
+IsStackStep step.Done s = Unit {0}
+
+abbrev pub IsStackTurn : Turn → Bool → Type 0
+IsStackTurn (turn.Event e) between = between ≡ parts_documents_behind (event_of e).body
+IsStackTurn _ between = Unit {0}
 
 abbrev pub IsUtf8Turn : Turn → Type 0
 IsUtf8Turn (turn.Event e) = HasUtf8 (event_of e).body

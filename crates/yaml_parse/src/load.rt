@@ -15,13 +15,14 @@ use yaml_scan::yaml_fault_t;
 /// The next document, its nodes numbered from 1 in preorder; behind the last one a document without root. Also refused,
 /// with kind 5, for an alias that no node before it anchors (`found undefined alias`), and for a second node with an anchor
 /// (`second occurrence`). What stands behind a document is left; behind a refusal nothing is to come. No document may be
-/// half taken, which `yaml_parser_between` tells.
+/// half taken, which `yaml_parser_between` tells; none is afterwards.
 pub fn yaml_parser_load<S: yaml_token_source_t>(
     parser: &mut yaml_parser_t<S>,
 ) -> Result<yaml_document_t, yaml_fault_t>
     requires { parser.old.between ≡ true }
     ensures ok { IfOk result (λ d. LoadGives (loads_of parser.old) d parser.old parser.new) }
     ensures err { IfErr result (λ f. LoadRefuses (fault_of f) parser.old parser.new) }
+    ensures between { parser.new.between ≡ true }
 {
     let alloc = parser.allocator();
     let mut loader = Loader::new(alloc);

@@ -11,7 +11,8 @@ ghost use Rattle.yaml_parse_grammar.specs.Resolve.{reading, no_directives};
 ghost use Rattle.yaml_parse_grammar.specs.Machine.{run, initial};
 ghost use Rattle.yaml_parse_grammar.specs.Coming.{reading_of, EventOf, FaultOf, IsFinished};
 ghost use Rattle.yaml_parse_model.specs.Constructors.{HasUtf8};
-ghost use Rattle.yaml_parse.specs.Steps.{Turns, NextOf, IsUtf8Turn};
+ghost use Rattle.yaml_parse.specs.Steps.{Turns, NextOf, IsUtf8Turn, IsStackTurn};
+ghost use Rattle.yaml_parse_grammar.specs.Stacks.{parts_documents_behind};
 
 use crate::step::{Turn, take_turn};
 use std::alloc::Global;
@@ -49,14 +50,16 @@ impl<S: yaml_token_source_t> Model for yaml_parser_t<S> {
     ghost view = { λ p. coming (peeked_of p.peeked) (S.to_come p.source) (S.fault_to_come p.source) (stack_of p.stack.items) (directives_of p.directives) (prefix_of p.prefix) };
 
     ghost use Rattle.yaml_parse_grammar.specs.Texts.{IsUtf8Held};
+    ghost use Rattle.yaml_parse_grammar.specs.Stacks.{IsStack};
 
-    ghost invariant = { λ p. IsUtf8Held (peeked_of p.peeked) (stack_of p.stack.items) (directives_of p.directives) };
+    ghost invariant = { λ p. IsUtf8Held (peeked_of p.peeked) (stack_of p.stack.items) (directives_of p.directives) × IsStack (stack_of p.stack.items) };
 }
 
 impl<S: yaml_token_source_t> yaml_parser_t<S> {
     fn turn(&mut self) -> Turn
         ensures turns { Turns self.old result self.new }
         ensures utf8 { IsUtf8Turn result }
+        ensures between { IsStackTurn result self.new.between }
     {
         take_turn(
             self.alloc,
@@ -124,6 +127,7 @@ pub(crate) fn next_event<S: yaml_token_source_t>(
 ) -> Result<Option<yaml_event_t>, yaml_fault_t>
     ensures ok { IfOk result (λ e. NextOf parser.old e parser.new) }
     ensures utf8 { IfOk result (λ e. IfSome e (λ x. HasUtf8 (event_of x).body)) }
+    ensures between { IfOk result (λ e. IfSome e (λ x. parser.new.between ≡ parts_documents_behind (event_of x).body)) }
     ensures err { IfErr result (λ f. FaultOf parser.old (fault_of f) parser.new) }
 {
     'turns: loop {
@@ -145,6 +149,8 @@ pub fn yaml_parser_parse<S: yaml_token_source_t>(
 ) -> Result<yaml_event_t, yaml_fault_t>
     ensures ok { IfOk result (λ e. EventOf parser.old (event_of e) parser.new) }
     ensures utf8 { IfOk result (λ e. HasUtf8 (event_of e).body) }
+    // What was given tells whether a document is half taken.
+    ensures between { IfOk result (λ e. parser.new.between ≡ parts_documents_behind (event_of e).body) }
     ensures err { IfErr result (λ f. FaultOf parser.old (fault_of f) parser.new) }
 {
     match next_event(parser) {

@@ -9,11 +9,12 @@ ghost use Rattle.yaml_parse_grammar.specs.Machine.{choice_at, context_of};
 ghost use Rattle.yaml_parse_grammar.specs.declared.name.Choice.TheVariants.{Take as taking_it};
 ghost use Rattle.yaml_parse_machine.specs.Views.{state_of, stack_of};
 ghost use Rattle.yaml_parse_machine.specs.Settles.{directives_of};
-ghost use Rattle.yaml_parse_grammar.specs.Coming.{coming};
+ghost use Rattle.yaml_parse_grammar.specs.Coming.{coming, is_between};
 ghost use Rattle.yaml_parse_grammar.specs.Resolve.{Directives as DirectivesSpec};
+ghost use Rattle.yaml_parse_grammar.specs.Stacks.{IsStack};
 ghost use Rattle.yaml_parse_grammar.specs.Texts.{IsUtf8Token, IsUtf8Held};
 ghost use Rattle.yaml_parse_model.specs.Source.{HasUtf8};
-ghost use Rattle.yaml_parse.specs.Steps.{IsFront, HasNoFront, Steps, Turns, OpensAt, IsReal, IsUtf8Step, IsUtf8Turn, raw, peeked_of};
+ghost use Rattle.yaml_parse.specs.Steps.{IsFront, HasNoFront, Steps, Turns, OpensAt, IsReal, IsUtf8Step, IsUtf8Turn, IsStackStep, IsStackTurn, raw, peeked_of};
 
 use std::alloc::Global;
 use yaml_parse_grammar::{Choice, ParseFault, ParseProblem};
@@ -86,6 +87,7 @@ fn taking(stack: &mut Vec<State>, state: State, token: yaml_token_t) -> Step
     requires { choice_at (state_of state) (type_of (token_of token).body) ≡ taking_it }
     ensures steps { (rest : List Token) (fault : Option Fault) → Steps (raw (Some (token_of token)) rest fault (state_of state ∷ stack_of stack.old.items)) result (raw None rest fault (stack_of stack.new.items)) }
     ensures utf8 { (ds : DirectivesSpec) → IsUtf8Held (Some (token_of token)) (state_of state ∷ stack_of stack.old.items) ds → IsUtf8Step result None (stack_of stack.new.items) ds }
+    ensures stack { IsStack (state_of state ∷ stack_of stack.old.items) → IsStackStep result (stack_of stack.new.items) }
 {
     let Taken { opening, below } = take(state, token);
     let Opening { item, pushed } = opening;
@@ -128,6 +130,7 @@ fn stepping(
     ensures real { IsReal (state_of state) (token_of token) result }
     ensures utf8 { (ds : DirectivesSpec) → IsUtf8Held (Some (token_of token)) (state_of state ∷ stack_of stack.old.items) ds
         → IsUtf8Step result (peeked_of peeked.new) (stack_of stack.new.items) ds }
+    ensures stack { IsStack (state_of state ∷ stack_of stack.old.items) → IsStackStep result (stack_of stack.new.items) }
 {
     let start = token.start_mark;
     match choose(&state, token.type_()) {
@@ -156,6 +159,7 @@ pub fn advance<S: yaml_token_source_t>(
     ensures steps { Steps (raw (peeked_of peeked.old) (S.to_come source.old) (S.fault_to_come source.old) (stack_of stack.old.items)) result
         (raw (peeked_of peeked.new) (S.to_come source.new) (S.fault_to_come source.new) (stack_of stack.new.items)) }
     ensures utf8 { (ds : DirectivesSpec) → IsUtf8Held (peeked_of peeked.old) (stack_of stack.old.items) ds → IsUtf8Step result (peeked_of peeked.new) (stack_of stack.new.items) ds }
+    ensures stack { IsStack (stack_of stack.old.items) → IsStackStep result (stack_of stack.new.items) }
 {
     let Some(state) = stack.pop() else {
         return Step::Done;
@@ -178,6 +182,7 @@ pub fn take_turn<S: yaml_token_source_t>(
         (coming (peeked_of peeked.new) (S.to_come source.new) (S.fault_to_come source.new) (stack_of stack.new.items) (directives_of directives.new) answered) }
     ensures utf8 { IsUtf8Held (peeked_of peeked.old) (stack_of stack.old.items) (directives_of directives.old)
         → IsUtf8Turn result × IsUtf8Held (peeked_of peeked.new) (stack_of stack.new.items) (directives_of directives.new) }
+    ensures stack { IsStack (stack_of stack.old.items) → IsStackTurn result (is_between (stack_of stack.new.items)) × IsStack (stack_of stack.new.items) }
 {
     match advance(source, peeked, stack) {
         Step::Done => Turn::Done,

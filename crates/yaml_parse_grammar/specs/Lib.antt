@@ -6,3 +6,4 @@ pub mod Machine
 pub mod Resolve
 pub mod Coming
 pub mod Texts
+pub mod Stacks

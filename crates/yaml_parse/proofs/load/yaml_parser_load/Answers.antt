@@ -1,6 +1,6 @@
 use Rattle.yaml_scan.specs.Faults.{fault_of}
 use Rattle.yaml_parse_model.specs.Events.{event_of}
-use Rattle.yaml_parse.proofs.Loading.{keeps_on, loads_document, loads_nothing, load_faulty, load_refused}
+use Rattle.yaml_parse.proofs.Loading.{keeps_on, loads_document, loads_nothing, load_faulty, load_refused, between_documents}
 use Rattle.yaml_parse.proofs.load.yaml_parser_load.Goals as goal
 
 pub events-preserved : goal.events-preserved
@@ -28,3 +28,9 @@ returns-in-Ok-None-clause-ok g c =
 
 pub returns-in-Err-clause-err : goal.returns-in-Err-clause-err
 returns-in-Err-clause-err g c = load_faulty c.args.parser.now c.events.parser c.next_event.new.parser c.events.loader (fault_of c.in-Err.fault) c.events.invariant c.in-Err.ensures.err
+
+pub returns-in-Ok-Some-feed-clause-between : goal.returns-in-Ok-Some-feed-clause-between
+returns-in-Ok-Some-feed-clause-between g c =
+    let between = rw c.in-Ok-Some.field-0-is at c.in-Ok-Some.ensures.between in
+    let fed = rw c.in-Ok-Some-feed.field-0-is at c.in-Ok-Some-feed.ensures in
+    between_documents (event_of c.in-Ok-Some.event) c.events.loader c.in-Ok-Some-feed.document c.next_event.new.parser.between fed.0 between

@@ -6,6 +6,7 @@ use Rattle.yaml_parse_machine.specs.Views.{state_of, stack_of, item_of}
 use Rattle.yaml_parse.specs.Steps.{raw}
 use Rattle.yaml_parse.proofs.Moves.{refuse_step, take_real, leave_item, leave_real, open_step, open_real}
 use Rattle.yaml_parse.proofs.Texts.{leave_utf8, open_utf8}
+use Rattle.yaml_parse.proofs.Heights.{leave_stands, open_stands}
 use Rattle.yaml_parse.proofs.step.stepping.Goals as goal
 
 pub returns-in-Refuse-clause-steps : goal.returns-in-Refuse-clause-steps
@@ -42,3 +43,13 @@ returns-in-Leave-clause-utf8 c = λ ds h.
 pub returns-in-Open-clause-utf8 : goal.returns-in-Open-clause-utf8
 returns-in-Open-clause-utf8 c = λ ds h.
     open_utf8 (state_of c.args.state) (token_of c.args.token) c.args.token.start_mark (stack_of c.args.stack.now.items) (stack_of c.opening.new.stack.items) c.opening.result ds c.opening.ensures h
+
+pub returns-in-Leave-clause-stack : goal.returns-in-Leave-clause-stack
+returns-in-Leave-clause-stack c = λ h.
+    leave_stands (state_of c.args.state) (token_of c.args.token) (stack_of c.args.stack.now.items) (item_of c.leave.result)
+    (sym (c.in-Leave.ensures ∙ ap (choice_at (state_of c.args.state)) c.type_.ensures)) c.leave.ensures h
+
+pub returns-in-Open-clause-stack : goal.returns-in-Open-clause-stack
+returns-in-Open-clause-stack c = λ h.
+    open_stands (state_of c.args.state) (token_of c.args.token) (stack_of c.args.stack.now.items) (stack_of c.opening.new.stack.items) c.opening.result
+    (sym (c.in-Open.ensures ∙ ap (choice_at (state_of c.args.state)) c.type_.ensures)) c.opening.ensures h

@@ -8,6 +8,7 @@ use Rattle.yaml_parse_machine.specs.Settles.{directives_of}
 use Rattle.yaml_parse.specs.Steps.{raw, peeked_of}
 use Rattle.yaml_parse.proofs.Turning.{event_turn, silent_turn, noted_turn, refused_turn, settled_turn, memory_turn, done_turn}
 use Rattle.yaml_parse.proofs.Texts.{done_utf8, silent_utf8, event_utf8, noted_utf8, cleared_utf8}
+use Rattle.yaml_parse.proofs.Heights.{done_stands, silent_stands, event_stands, noted_stands, cleared_stands}
 use Rattle.yaml_parse.proofs.step.take_turn.Goals as goal
 
 pub returns-in-Done-clause-turns : goal.returns-in-Done-clause-turns
@@ -76,3 +77,27 @@ returns-in-Err-Memory-clause-utf8 g c = λ h.
 pub returns-in-Err-Fault-clause-utf8 : goal.returns-in-Err-Fault-clause-utf8
 returns-in-Err-Fault-clause-utf8 g c = λ h.
     cleared_utf8 (peeked_of c.advance.new.peeked) (stack_of c.clear-in-Err-Fault.new.self.items) (directives_of c.settle.new.directives) (ap stack_of c.clear-in-Err-Fault.ensures.items)
+
+pub returns-in-Done-clause-stack : goal.returns-in-Done-clause-stack
+returns-in-Done-clause-stack g c = λ h. done_stands _ _ c.in-Done.ensures.steps
+
+pub returns-in-Silent-clause-stack : goal.returns-in-Silent-clause-stack
+returns-in-Silent-clause-stack g c = λ h. silent_stands (stack_of c.advance.new.stack.items) (c.in-Silent.ensures.stack h)
+
+pub returns-in-Refused-clause-stack : goal.returns-in-Refused-clause-stack
+returns-in-Refused-clause-stack g c = λ h. cleared_stands (stack_of c.clear.new.self.items) (ap stack_of c.clear.ensures.items)
+
+pub returns-in-Ok-Some-clause-stack : goal.returns-in-Ok-Some-clause-stack
+returns-in-Ok-Some-clause-stack g c = λ h.
+    let q = rw c.in-Ok-Some.field-0-is at c.in-Ok-Some.ensures in
+    event_stands (stack_of c.advance.new.stack.items) (directives_of c.args.directives.now) (directives_of c.settle.new.directives) (item_of c.in-Item.item)
+    (body_of c.in-Ok-Some.event.body) q.0 (c.in-Item.ensures.stack h)
+
+pub returns-in-Ok-None-clause-stack : goal.returns-in-Ok-None-clause-stack
+returns-in-Ok-None-clause-stack g c = λ h. noted_stands (stack_of c.advance.new.stack.items) (item_of c.in-Item.item) (c.in-Item.ensures.stack h)
+
+pub returns-in-Err-Memory-clause-stack : goal.returns-in-Err-Memory-clause-stack
+returns-in-Err-Memory-clause-stack g c = λ h. cleared_stands (stack_of c.clear-in-Err-Memory.new.self.items) (ap stack_of c.clear-in-Err-Memory.ensures.items)
+
+pub returns-in-Err-Fault-clause-stack : goal.returns-in-Err-Fault-clause-stack
+returns-in-Err-Fault-clause-stack g c = λ h. cleared_stands (stack_of c.clear-in-Err-Fault.new.self.items) (ap stack_of c.clear-in-Err-Fault.ensures.items)

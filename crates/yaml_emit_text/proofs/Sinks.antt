@@ -1,6 +1,7 @@
 -- Laws of what an output owes.
 use Rattle.std.proofs.Common.{◌≡◌, ◌≢◌, ℕ, ◌+◌, ◌-◌, ◌<◌, ◌≤◌, List, ◌∷◌, ◌++◌, length, drop, get_or, Bool, true, false, cond, refl, sym, subst, ◌∙◌, ap, append_assoc, arith, length-append}
-use Rattle.std.specs.Prelude.{if◌then◌else◌, zero, suc}
+use Rattle.std.specs.Prelude.{if◌then◌else◌, zero, suc, replicate}
+use Rattle.yaml_emit_text.specs.declared.settings.Encoding.TheVariants.{Utf8}
 use Rattle.std.proofs.lemmas.List.{take-append-drop, take-append-le, drop_more, drop_all}
 use Rattle.yaml_emit_text.specs.declared.cursor.Cursor.{Cursor}
 use Rattle.yaml_emit_text.specs.declared.cursor.Status.{Status}
@@ -8,7 +9,7 @@ use Rattle.yaml_emit_text.specs.declared.cursor.Status.TheVariants.{Going, Full,
 use Rattle.yaml_emit_text.specs.declared.settings.Encoding.{Encoding}
 use Rattle.yaml_emit_text.specs.Text.{Item, letter, deep, encode, char_bytes, is_deep}
 use Rattle.yaml_emit_text.specs.Layout.{Layout, Rest, ◌▹◌, stay, choose, when, char, letters, blank, blanks, too_deep}
-use Rattle.yaml_emit_text.specs.Appends.{AppendsBy}
+use Rattle.yaml_emit_text.specs.Appends.{AppendsBy, blanked}
 use Rattle.yaml_emit_text.specs.Sink.{Output, Ends, EndsBy, Owes, Puts, stroke}
 
 -- a sink that has stopped takes every text
@@ -126,6 +127,60 @@ puts_stroke a b x n g e l h k = record {
   limit = l;
   going = λ _. g;
 }
+
+-- a layout of those bytes was appended
+pub puts_run : (a b : Output) (y : Layout) (bytes : List ℕ) (n : Cursor → Cursor) → a.status ≡ Going → b.encoding ≡ a.encoding → b.limit ≡ a.limit
+    → ((rest : Rest) → encode a.encoding (y a.cursor rest) ≡ bytes ++ encode a.encoding (rest (n a.cursor))) → ((rest : Rest) → is_deep (y a.cursor rest) ≡ is_deep (rest (n a.cursor)))
+    → AppendsBy b.status a.limit a.bytes b.bytes bytes → (b.status ≡ Going → b.cursor ≡ n a.cursor) → Puts a b y
+unfolding Ends
+puts_run a b y bytes n g e l u d h k = record {
+  ends = λ rest whole w.
+      let P : Status → Type 0 = λ s. EndsBy s a.limit a.encoding a.bytes (y a.cursor rest) whole in
+      let back : Ends b (rest (n a.cursor)) whole = rw (e, l) (appends_ends b.status a.limit a.encoding a.bytes b.bytes bytes (y a.cursor rest) (rest (n a.cursor)) whole (u rest) (d rest) h (subst P g w)) in
+      let Q : Cursor → Type 0 = λ c. Ends b (rest c) whole in
+      status_cases b.status (λ going. subst Q (sym (k going)) back) (λ stopped. ends_other b _ _ whole stopped back);
+  encoding = e;
+  limit = l;
+  going = λ _. g;
+}
+
+-- the cursor behind a space and then some
+stepped : ℕ → Cursor → Cursor
+stepped zero c = c
+stepped (suc n) c = stepped n (record { column = c.column + 1; white = true; bare = c.bare; kept = c.kept })
+
+stepped_is : (n : ℕ) (c : Cursor) → stepped (suc n) c ≡ blanked (suc n) c
+unfolding stepped
+stepped_is zero c = refl
+stepped_is (suc n) c =
+    let at : ℕ → Cursor = λ k. record { column = k; white = true; bare = c.bare; kept = c.kept } in
+    let e : c.column + 1 + suc n ≡ c.column + suc (suc n) = omega arith in
+    stepped_is n (at (c.column + 1)) ∙ ap at e
+
+blanks_encode : (n : ℕ) (c : Cursor) (rest : Rest) → encode Utf8 (blanks n c rest) ≡ replicate n 32 ++ encode Utf8 (rest (stepped n c))
+unfolding encode char_bytes blanks stepped
+blanks_encode zero c rest = refl
+blanks_encode (suc n) c rest = ap (λ (t : List ℕ). 32 ∷ t) (blanks_encode n (record { column = c.column + 1; white = true; bare = c.bare; kept = c.kept }) rest)
+
+blanks_deep : (n : ℕ) (c : Cursor) (rest : Rest) → is_deep (blanks n c rest) ≡ is_deep (rest (stepped n c))
+unfolding is_deep blanks stepped
+blanks_deep zero c rest = refl
+blanks_deep (suc n) c rest = blanks_deep n (record { column = c.column + 1; white = true; bare = c.bare; kept = c.kept }) rest
+
+pub no_blanks : (a : Output) (n : ℕ) → n ≡ 0 → Puts a a (blanks n)
+unfolding blanks
+no_blanks a n e = rw e (puts_nothing a)
+
+-- spaces of one byte were appended
+spaces_more : (a b : Output) (n : ℕ) → a.status ≡ Going → a.encoding ≡ Utf8 → b.encoding ≡ a.encoding → b.limit ≡ a.limit → AppendsBy b.status a.limit a.bytes b.bytes (replicate (suc n) 32) → (b.status ≡ Going → b.cursor ≡ blanked (suc n) a.cursor)
+    → Puts a b (blanks (suc n))
+spaces_more a b n g x e l h k =
+    puts_run a b (blanks (suc n)) (replicate (suc n) 32) (stepped (suc n)) g e l (λ rest. rw x (blanks_encode (suc n) a.cursor rest)) (λ rest. blanks_deep (suc n) a.cursor rest) h (λ going. k going ∙ sym (stepped_is n a.cursor))
+
+pub puts_spaces : (a b : Output) (n : ℕ) → 0 < n → a.status ≡ Going → a.encoding ≡ Utf8 → b.encoding ≡ a.encoding → b.limit ≡ a.limit → AppendsBy b.status a.limit a.bytes b.bytes (replicate n 32) → (b.status ≡ Going → b.cursor ≡ blanked n a.cursor)
+    → Puts a b (blanks n)
+puts_spaces a b zero p g x e l h k = absurd (omega (arith, p))
+puts_spaces a b (suc n) p g x e l h k = spaces_more a b n g x e l h k
 
 pub puts_blank : (a b : Output) → Puts a b (stroke 32 false true a.cursor.bare) → Puts a b blank
 puts_blank a b p = puts_as a b (stroke 32 false true a.cursor.bare) blank (λ rest. refl) p

@@ -1,12 +1,13 @@
 //! Bytes at the end of the output.
 
-ghost use Rattle.std.specs.Prelude.{◌≡◌, ◌≢◌, ◌<◌, ◌≤◌, ◌+◌, ◌^◌, [], ◌∷◌, length, if◌then◌else◌, IfSome};
-ghost use Rattle.yaml_emit_text.specs.Appends.{AppendsBy, moved};
+ghost use Rattle.std.specs.Prelude.{◌≡◌, ◌≢◌, ◌<◌, ◌≤◌, ◌+◌, ◌^◌, [], ◌∷◌, ◌++◌, length, replicate, if◌then◌else◌, IfSome, OnOk, OnErr};
+ghost use Rattle.yaml_emit_text.specs.Appends.{AppendsBy, moved, blanked};
 ghost use Rattle.yaml_emit_text.specs.Text.{char_bytes};
 
 use crate::bytes::bytes_of;
 use crate::cursor::{Cursor, Status};
 use crate::settings::Encoding;
+use std::alloc::AllocError;
 
 // These bytes, as far as the limit and the memory allow, and what becomes of the output.
 pub(crate) fn append(output: &mut Vec<u8>, limit: u64, bytes: &[u8]) -> Status
@@ -44,6 +45,51 @@ fn append_byte(output: &mut Vec<u8>, limit: u64, byte: u8) -> Status
     match output.push(byte) {
         Ok(()) => Status::Going,
         Err(_) => Status::Starved,
+    }
+}
+
+// So many spaces more.
+fn extend_blanks(output: &mut Vec<u8>, count: usize) -> Result<(), AllocError>
+    requires { length output.old.items + count < 2 ^ 64 }
+    ensures ok { OnOk result (output.new.items ≡ output.old.items ++ replicate count 32) }
+    ensures err { OnErr result (output.new.items ≡ output.old.items) }
+{
+    let wanted = output.len() + count;
+    output.resize(wanted, b' ')
+}
+
+// So many spaces, as far as the limit and the memory allow.
+pub(crate) fn append_blanks(output: &mut Vec<u8>, limit: u64, count: u64) -> Status
+    requires { length output.old.items ≤ limit }
+    ensures bytes { AppendsBy result limit output.old.items output.new.items (replicate count 32) }
+    ensures within { length output.new.items ≤ limit }
+    ensures longer { length output.old.items ≤ length output.new.items }
+    ensures going { result ≡ Status.Going → length output.new.items ≡ length output.old.items + count }
+{
+    let room = limit - output.len() as u64;
+    if count <= room {
+        match extend_blanks(output, count as usize) {
+            Ok(()) => Status::Going,
+            Err(_) => Status::Starved,
+        }
+    } else {
+        match extend_blanks(output, room as usize) {
+            Ok(()) => Status::Full,
+            Err(_) => Status::Starved,
+        }
+    }
+}
+
+// The cursor behind so many spaces, one at least.
+pub(crate) fn blanked(at: Cursor, count: u64) -> Cursor
+    requires { at.column + count < 2 ^ 64 }
+    ensures { result ≡ blanked count at }
+{
+    Cursor {
+        column: at.column + count,
+        white: true,
+        bare: at.bare,
+        kept: at.kept,
     }
 }
 

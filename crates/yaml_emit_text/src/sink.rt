@@ -2,7 +2,7 @@
 
 ghost use Rattle.std.specs.Prelude.{◌≡◌, ◌≢◌, ◌<◌, ◌≤◌, ℕ, ◌∷◌, [], ◌++◌, ◌+◌, ◌-◌, length, ◌^◌, false, true};
 
-use crate::append::{append_char, moved};
+use crate::append::{append_blanks, append_char, blanked, moved};
 use crate::cursor::{Cursor, Status};
 use crate::settings::{Encoding, LineBreak};
 use std::alloc::{AllocError, Global};
@@ -156,11 +156,37 @@ impl Sink {
         self.write(' ', false, true, at.bare);
     }
 
-    pub(crate) fn put_blanks(&mut self, count: u64)
+    fn put_each_blank(&mut self, count: u64)
         ensures { Puts self.old self.new (blanks count) }
     {
         for _ in 0..count {
             self.put_blank();
+        }
+    }
+
+    // Spaces of one byte, one at least, at once.
+    fn put_spaces(&mut self, count: u64)
+        requires some { 0 < count }
+        requires bytes { self.old.encoding ≡ Encoding.Utf8 }
+        ensures { Puts self.old self.new (blanks count) }
+    {
+        if self.status.is_going() {
+            self.status = append_blanks(&mut self.output, self.limit, count);
+            if self.status.is_going() {
+                self.cursor = blanked(self.cursor, count);
+            }
+        }
+    }
+
+    pub(crate) fn put_blanks(&mut self, count: u64)
+        ensures { Puts self.old self.new (blanks count) }
+    {
+        if count == 0 {
+            return;
+        }
+        match self.encoding() {
+            Encoding::Utf8 => self.put_spaces(count),
+            _ => self.put_each_blank(count),
         }
     }
 

@@ -1,11 +1,5 @@
-use Rattle.yaml_emit_text.proofs.Sinks.{blanks_start, blanks_more, blanks_all}
+use Rattle.yaml_emit_text.proofs.Sinks.{no_blanks}
 use Rattle.yaml_emit_text.proofs.sink.Sink.put_blanks.Goals as goal
 
-pub loop-init : goal.loop-init
-loop-init c = blanks_start _ _
-
-pub loop-preserved : goal.loop-preserved
-loop-preserved c = blanks_more _ _ _ _ _ c.loop-test.true c.loop.invariant c.put_blank.ensures
-
-pub returns : goal.returns
-returns c = blanks_all _ _ _ _ c.loop-test.false c.loop.invariant
+pub returns-then-count-eq0 : goal.returns-then-count-eq0
+returns-then-count-eq0 c = no_blanks _ _ c.if-count-eq0.true

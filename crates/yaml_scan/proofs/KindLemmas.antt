@@ -1,5 +1,5 @@
 -- Reading the lexeme of a kind.
-use Rattle.std.proofs.Common.{◌≡◌, ◌≢◌, ℕ, ◌+◌, ◌<◌, ◌≤◌, Bool, true, false, cond, ltb, leb, eqb, ◌&&◌, ◌||◌, not, List, [], ◌∷◌, length, get_or, Option, Some, None, Result, Ok, Err, refl, sym, ap, subst, ◌∙◌, inl, inr, ◌⊎◌, arith}
+use Rattle.std.proofs.Common.{◌≡◌, ℕ, ◌+◌, ◌<◌, ◌≤◌, Bool, true, false, cond, ltb, ◌&&◌, ◌||◌, not, List, [], ◌∷◌, length, Option, Some, None, Result, Ok, Err, refl, sym, ap, subst, ◌∙◌, inl, inr, ◌⊎◌, arith}
 use Rattle.std.proofs.lemmas.Bool.{cases_Bool, and_parts}
 use Rattle.std.proofs.lemmas.List.{length-map}
 use Rattle.std.specs.Prelude.{is_some, IfOk}
@@ -12,25 +12,24 @@ use Rattle.yaml_scan_text.specs.declared.problem.ScanError.{ScanError}
 use Rattle.yaml_scan_text.specs.declared.problem.ScanError.TheVariants as errors
 use Rattle.yaml_scan_text.specs.Marks.{Place, mark_at, splits_break}
 use Rattle.yaml_scan_text.specs.Tokens.{body_of, stream_start, zero_mark}
-use Rattle.yaml_scan_text.specs.Wrong.{Wrong, Refuses, IsMemory, scan_fault}
+use Rattle.yaml_scan_text.specs.Wrong.{Wrong}
 use Rattle.yaml_scan_words.specs.Between.{Gap, gap_at}
 use Rattle.yaml_scan_layout.specs.declared.kind.Kind.{Kind}
 use Rattle.yaml_scan_layout.specs.declared.kind.Kind.TheVariants as kinds
 use Rattle.yaml_scan_layout.specs.declared.lexeme.Lexeme.{Lexeme}
 use Rattle.yaml_scan_layout.specs.Kinds.{is_value, is_start, is_end, cancels, may_be_key}
-use Rattle.yaml_scan_layout.specs.History.{Candidate, candidate, fresh, has, reached, depth, placed, levels, found_by, key_allowed}
+use Rattle.yaml_scan_layout.specs.History.{Candidate, candidate, fresh, has, reached, depth, placed, levels, found_by}
 use Rattle.yaml_scan_layout.specs.Words.{WordText, word_at, kind_at}
-use Rattle.yaml_scan_layout.specs.Next.{Next, Read, Fails, Ends, next, history, first_lexeme, behind, unless_missed, no_colon, no_token, not_allowed, not_allowed_by, allowed_behind, begun, finished, misplaced, missed, lost_by, tested, unless_wrong, unless_lost, of_kind}
+use Rattle.yaml_scan_layout.specs.Next.{Next, Read, Fails, Ends, next, history, first_lexeme, behind, unless_missed, no_colon, no_token, not_allowed, not_allowed_by, allowed_behind, finished, misplaced, missed, lost_by, tested, unless_wrong, unless_lost, of_kind}
 use Rattle.yaml_scan_layout.specs.Coming.{Stream, body_by, body_in, body_of_word}
 use Rattle.yaml_scan.specs.declared.machine.Machine.{Machine}
 use Rattle.yaml_scan.specs.declared.waiting.Waiting.{Waiting}
 use Rattle.yaml_scan.specs.declared.next.Read.{Read as Answer}
 use Rattle.yaml_scan.specs.declared.word.Word.{Word}
 use Rattle.yaml_scan.specs.State.{IsPlace}
-use Rattle.yaml_scan.specs.Stands.{Stands}
 use Rattle.yaml_scan.specs.Given.{IsWord, ReadsWord}
-use Rattle.yaml_scan.specs.Shows.{Fields, fields_of, IsShown, Shows, read, Picks, history_of, stream_of}
-use Rattle.yaml_scan.specs.Reads.{required_in, late, lost, required_behind, colon_fault, begun_in, keyed_by, ended_by, EndsAt, Finishes, Tells, GivesLexeme, GivesNext, IsRead, Owns}
+use Rattle.yaml_scan.specs.Shows.{Fields, fields_of, IsShown, read, Picks, history_of, stream_of}
+use Rattle.yaml_scan.specs.Reads.{required_in, late, lost, required_behind, colon_fault, begun_in, keyed_by, ended_by, EndsAt, Finishes, GivesLexeme, GivesNext, IsRead, Owns}
 use Rattle.yaml_scan.proofs.ReadLemmas.{gap_of, finished_kind, finished_start, finished_depth, finished_level, finished_saved, finished_required}
 use Rattle.yaml_scan_decode.specs.DecodedText.{text_bytes}
 use Rattle.yaml_scan_layout.specs.Laws.{Upto}

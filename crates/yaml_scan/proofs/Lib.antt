@@ -10,3 +10,4 @@ pub mod NextLemmas
 pub mod KindLemmas
 pub mod PushLemmas
 pub mod FrontLemmas
+pub mod ComesLemmas

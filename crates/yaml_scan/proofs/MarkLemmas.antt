@@ -1,25 +1,21 @@
 -- What a lexeme does to its candidate, and how much has been read.
-use Rattle.std.proofs.Common.{◌≡◌, ◌≢◌, ℕ, zero, suc, ◌+◌, ◌-◌, ◌<◌, ◌≤◌, Bool, true, false, cond, ltb, leb, eqb, ◌&&◌, ◌||◌, not, List, [], ◌∷◌, ◌++◌, length, take, drop, get_or, Option, Some, None, refl, sym, ap, subst, ◌∙◌, inl, inr, ◌⊎◌, arith, add-one, length-append, length-drop, get_or-set_other, get_or-set_same}
-use Rattle.std.proofs.lemmas.Bool.{cases_Bool, cases_lt, cases_order}
+use Rattle.std.proofs.Common.{◌≡◌, ◌≢◌, ℕ, zero, suc, ◌+◌, ◌-◌, ◌<◌, ◌≤◌, Bool, true, false, eqb, ◌&&◌, ◌||◌, not, List, [], ◌∷◌, ◌++◌, length, drop, get_or, Option, Some, None, refl, sym, ap, ◌∙◌, inl, inr, arith, length-append, length-drop, get_or-set_other, get_or-set_same}
+use Rattle.std.proofs.lemmas.Bool.{cases_Bool, cases_lt}
 use Rattle.std.proofs.lemmas.Bool.Decides.{nat_tests}
-use Rattle.std.proofs.lemmas.List.{get_or-map, get_or-drop, length-map, map-set, get_or_append_left, get_or-append_right, get_or_past, drop-append-le}
-use Rattle.std.proofs.lemmas.List.Sums.{prefix_len-le-length}
+use Rattle.std.proofs.lemmas.List.{get_or-map, length-map, map-set, get_or_append_left, get_or-append_right, drop-append-le}
 use Rattle.std.proofs.Math.ListN.{set, length-set}
 use Rattle.std.specs.Prelude.{map}
-use Rattle.yaml_scan_layout.specs.declared.kind.Kind.{Kind}
-use Rattle.yaml_scan_layout.specs.declared.kind.Kind.TheVariants as kinds
 use Rattle.yaml_scan_layout.specs.declared.lexeme.Lexeme.{Lexeme}
 use Rattle.yaml_scan_layout.specs.declared.lexeme.Entry.{Entry}
 use Rattle.yaml_scan.specs.declared.waiting.Waiting.{Waiting}
-use Rattle.yaml_scan_text.specs.declared.record.yaml_mark_t.{yaml_mark_t}
 use Rattle.yaml_scan_layout.specs.declared.lexeme.Opens.{Opens}
 use Rattle.yaml_scan_layout.specs.declared.lexeme.Opens.TheVariants as opening
 use Rattle.yaml_scan_layout.specs.Kinds.{is_value, cancels, is_end, depth_after}
-use Rattle.yaml_scan_layout.specs.History.{Candidate, candidate, is_fresh, fresh, has_number, first_open, as_key, mark_key, keyed, entries, entry_of, reached, opens_in, depth, ended, found_by, inside, start_of, levels, key_allowed}
-use Rattle.yaml_scan_layout.specs.Next.{history, Next, Read, Fails, Ends, next, extended, first_lexeme}
+use Rattle.yaml_scan_layout.specs.History.{Candidate, candidate, is_fresh, has_number, first_open, as_key, mark_key, keyed, entries, entry_of, reached, opens_in, depth, ended, found_by, inside, start_of, levels, key_allowed}
+use Rattle.yaml_scan_layout.specs.Next.{history, Read, Ends, next}
 use Rattle.yaml_scan_layout.specs.Laws.{Upto, GoesForward}
 use Rattle.yaml_scan.proofs.ReadLemmas.{next_is, first_is, cases_Option, begun_at, finished_depth}
-use Rattle.yaml_scan.specs.Shows.{Fields, Pending, IsPending, IsShown, Shows, read, Closes, settled_in, marked}
+use Rattle.yaml_scan.specs.Shows.{Fields, Pending, IsShown, read, Closes, settled_in, marked}
 use Rattle.yaml_scan.proofs.StepLemmas.{opens_more, opens_new, none_deeper, opens-below}
 use Rattle.yaml_scan_layout.proofs.HistoryLemmas.{length-entries, length-keyed, candidate_below, fresh_before, fresh_is, first_open-least, first_open-grows, IsOpen}
 

@@ -1,28 +1,25 @@
 -- What comes next, by the fields of a machine.
-use Rattle.std.proofs.Common.{◌≡◌, ◌≢◌, ℕ, zero, suc, ◌+◌, ◌-◌, ◌<◌, ◌≤◌, Bool, true, false, cond, ltb, leb, eqb, ◌&&◌, ◌||◌, not, List, [], ◌∷◌, length, get_or, Option, Some, None, Result, Ok, Err, refl, sym, ap, subst, ◌∙◌, inl, inr, ◌⊎◌, arith}
+use Rattle.std.proofs.Common.{◌≡◌, ℕ, zero, suc, ◌+◌, ◌-◌, ◌<◌, ◌≤◌, Bool, true, false, cond, ltb, eqb, ◌&&◌, ◌||◌, List, [], ◌∷◌, length, get_or, Option, Some, None, refl, sym, ap, subst, ◌∙◌, inl, inr, arith}
 use Rattle.std.proofs.lemmas.Bool.{cases_Bool, cases_lt, and_parts}
 use Rattle.std.proofs.lemmas.Bool.Decides.{nat_tests}
 use Rattle.std.proofs.lemmas.List.{get_or-map, get_or-drop, length-map}
 use Rattle.std.specs.Prelude.{map}
 use Rattle.yaml_scan_text.specs.declared.record.yaml_mark_t.{yaml_mark_t}
-use Rattle.yaml_scan_text.specs.Marks.{mark_at, line_at, ends_break}
-use Rattle.yaml_scan_text.specs.Wrong.{Wrong, scan_fault}
-use Rattle.yaml_scan_words.specs.Between.{Gap, gap_at}
+use Rattle.yaml_scan_text.specs.Marks.{mark_at, line_at}
 use Rattle.yaml_scan_words.proofs.PlacesLemmas.{gap_place}
 use Rattle.yaml_scan_layout.specs.declared.kind.Kind.{Kind}
 use Rattle.yaml_scan_layout.specs.declared.kind.Kind.TheVariants as kinds
 use Rattle.yaml_scan_layout.specs.declared.lexeme.Lexeme.{Lexeme}
 use Rattle.yaml_scan_layout.specs.declared.lexeme.Entry.{Entry}
-use Rattle.yaml_scan_layout.specs.Kinds.{is_value, is_start, cancels, is_end, may_be_key}
-use Rattle.yaml_scan_layout.specs.History.{Candidate, candidate, fresh, has, is_fresh, first_open, opens_in, entries, reached, depth, key_allowed, placed, ended, levels}
-use Rattle.yaml_scan_layout.specs.Words.{WordText, word_at, kind_at}
-use Rattle.yaml_scan_layout.specs.Next.{Next, Read, Fails, Ends, next, history, extended, first_lexeme, no_colon, not_allowed, allowed_behind, begun, finished, misplaced, missed, lost_by, tested, of_kind, unless_missed, behind}
+use Rattle.yaml_scan_layout.specs.Kinds.{is_value, cancels, may_be_key}
+use Rattle.yaml_scan_layout.specs.History.{Candidate, candidate, fresh, is_fresh, first_open, opens_in, entries, reached, depth, key_allowed, ended}
+use Rattle.yaml_scan_layout.specs.Next.{Next, Read, Fails, Ends, next, history, extended, first_lexeme, allowed_behind, missed, lost_by, behind}
 use Rattle.yaml_scan_layout.specs.Laws.{Upto}
-use Rattle.yaml_scan_layout.proofs.HistoryLemmas.{candidate_below, first_open-is, first_open-least, first_open-le, fresh_is, fresh_before, IsOpen}
+use Rattle.yaml_scan_layout.proofs.HistoryLemmas.{candidate_below, first_open-is, first_open-least, fresh_is, fresh_before, IsOpen}
 use Rattle.yaml_scan.specs.declared.waiting.Waiting.{Waiting}
-use Rattle.yaml_scan.specs.Shows.{Fields, IsShown, Shows, read, settled_in}
+use Rattle.yaml_scan.specs.Shows.{Fields, IsShown, read, settled_in}
 use Rattle.yaml_scan.specs.Reads.{required_in, late, lost, required_behind}
-use Rattle.yaml_scan.proofs.ReadLemmas.{next_is, first_is, cases_Option, begun_at, gap_of, finished_required, finished_depth, finished_saved, IsNextRead}
+use Rattle.yaml_scan.proofs.ReadLemmas.{next_is, first_is, cases_Option, begun_at, gap_of, finished_required, finished_depth, finished_saved}
 use Rattle.yaml_scan.proofs.StepLemmas.{candidate_top, one_depth, start_is, open_is, open_set}
 
 pub next_first : (text : List ℕ) (h : List Lexeme) → length h ≡ 0 → next text h ≡ Read first_lexeme

@@ -1,17 +1,13 @@
 -- The waiting list against the history.
-use Rattle.std.proofs.Common.{◌≡◌, ◌≢◌, ℕ, zero, suc, ◌+◌, ◌-◌, ◌<◌, ◌≤◌, Bool, true, false, cond, ltb, leb, eqb, ◌&&◌, ◌||◌, not, List, [], ◌∷◌, ◌++◌, length, take, drop, get_or, Option, Some, None, refl, sym, ap, subst, ◌∙◌, inl, inr, ◌⊎◌, arith, add-one, length-append, length-drop}
-use Rattle.std.proofs.lemmas.Bool.{cases_Bool, cases_lt, cases_order}
-use Rattle.std.proofs.lemmas.Bool.Decides.{nat_tests}
-use Rattle.std.proofs.lemmas.List.{get_or-map, get_or-drop, length-map, map-set}
-use Rattle.std.proofs.Math.ListN.{set}
+use Rattle.std.proofs.Common.{◌≡◌, ℕ, zero, suc, ◌+◌, ◌-◌, ◌<◌, ◌≤◌, Bool, false, ◌&&◌, List, [], ◌∷◌, length, drop, get_or, Option, Some, refl, sym, ap, ◌∙◌, arith, length-drop}
+use Rattle.std.proofs.lemmas.List.{get_or-map, get_or-drop, length-map}
 use Rattle.std.specs.Prelude.{map}
 use Rattle.yaml_scan_layout.specs.declared.lexeme.Lexeme.{Lexeme}
 use Rattle.yaml_scan_layout.specs.declared.lexeme.Entry.{Entry}
 use Rattle.yaml_scan.specs.declared.waiting.Waiting.{Waiting}
-use Rattle.yaml_scan_layout.specs.History.{Candidate, candidate, is_fresh, fresh, first_open, entries, reached, opens_in}
-use Rattle.yaml_scan.specs.Shows.{Fields, Pending, IsPending, IsShown, Shows, read, Closes, settled_in}
-use Rattle.yaml_scan.proofs.StepLemmas.{back, opens_more, opens_new}
-use Rattle.yaml_scan_layout.proofs.HistoryLemmas.{length-entries, candidate_below}
+use Rattle.yaml_scan_layout.specs.History.{Candidate, is_fresh, entries, reached, opens_in}
+use Rattle.yaml_scan.specs.Shows.{Fields, IsPending, IsShown, read}
+use Rattle.yaml_scan.proofs.StepLemmas.{back}
 
 abbrev pub entry_of : Waiting → Entry
 entry_of w = w.entry

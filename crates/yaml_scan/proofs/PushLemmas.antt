@@ -1,8 +1,6 @@
 -- The fields behind one more lexeme.
-use Rattle.std.proofs.Common.{◌≡◌, ◌≢◌, ℕ, zero, suc, ◌+◌, ◌-◌, ◌<◌, ◌≤◌, Bool, true, false, cond, ltb, leb, eqb, ◌&&◌, ◌||◌, not, List, [], ◌∷◌, ◌++◌, length, take, drop, get_or, Option, Some, None, refl, sym, ap, subst, ◌∙◌, inl, inr, ◌⊎◌, arith, length-append, length-drop}
+use Rattle.std.proofs.Common.{◌≡◌, ℕ, zero, suc, ◌+◌, ◌-◌, ◌<◌, ◌≤◌, Bool, true, false, cond, ltb, eqb, ◌&&◌, ◌||◌, not, List, [], ◌∷◌, ◌++◌, length, drop, get_or, Option, Some, None, refl, sym, ap, subst, ◌∙◌, inl, inr, arith}
 use Rattle.std.proofs.lemmas.Bool.{cases_Bool}
-use Rattle.std.proofs.lemmas.Bool.Decides.{nat_tests}
-use Rattle.std.proofs.lemmas.List.{length-map, map-append}
 use Rattle.std.proofs.Math.ListN.{set}
 use Rattle.std.specs.Prelude.{map, is_some, IfSome}
 use Rattle.yaml_scan_layout.specs.declared.kind.Kind.{Kind}
@@ -12,19 +10,19 @@ use Rattle.yaml_scan_layout.specs.declared.lexeme.Entry.{Entry}
 use Rattle.yaml_scan_layout.specs.declared.lexeme.Opens.{Opens}
 use Rattle.yaml_scan_layout.specs.declared.lexeme.Opens.TheVariants as opening
 use Rattle.yaml_scan_layout.specs.Kinds.{is_value, is_start, is_end, cancels, allows_key, depth_after}
-use Rattle.yaml_scan_layout.specs.History.{Candidate, candidate, fresh, has, is_fresh, has_number, first_open, keyed, entries, entry_of, reached, ended, depth, levels, key_allowed, found_by, inside, start_of, level_of, opens_at, opens_of, opened, indent, opens_in}
-use Rattle.yaml_scan_layout.specs.Next.{Next, Read, next, history}
+use Rattle.yaml_scan_layout.specs.History.{Candidate, candidate, has, is_fresh, first_open, keyed, entries, entry_of, levels, key_allowed, found_by, inside, start_of, level_of, opens_at, opens_of, opened, opens_in}
+use Rattle.yaml_scan_layout.specs.Next.{Read, next}
 use Rattle.yaml_scan_layout.specs.Coming.{Stream, body_in}
 use Rattle.yaml_scan_layout.specs.Laws.{GoesForward}
 use Rattle.yaml_scan_forward.proofs.HistoryForward.{steps_below}
-use Rattle.yaml_scan_layout.proofs.HistoryLemmas.{length-entries, length-keyed, first_open-le, first_open-grows}
+use Rattle.yaml_scan_layout.proofs.HistoryLemmas.{first_open-le, first_open-grows}
 use Rattle.yaml_scan.specs.declared.machine.Machine.{Machine}
 use Rattle.yaml_scan.specs.declared.waiting.Waiting.{Waiting}
 use Rattle.yaml_scan.specs.Shows.{Fields, fields_of, Shows, IsShown, Pending, IsPending, read, settled_in, Closes, Finds, Picks, history_of, marked, IsSpoken, AreSpoken}
 use Rattle.yaml_scan.specs.Reads.{Owns, MarksOwn, IsColumn, opens_for, keyed_by}
 use Rattle.yaml_scan.proofs.PassLemmas.{any_default}
 use Rattle.yaml_scan.proofs.MarkLemmas.{pushed, pending, read_more, settled_open, further_on, keyed_none, keyed_some, closes, closes_none, closes_some}
-use Rattle.yaml_scan.proofs.NextLemmas.{candidate_depth, asked_value}
+use Rattle.yaml_scan.proofs.NextLemmas.{candidate_depth}
 use Rattle.yaml_scan.proofs.KindLemmas.{picks_has, first_of}
 
 -- the fields x are those behind one more lexeme, but what is settled

@@ -7,6 +7,7 @@ pub mod Rising
 pub mod Given
 pub mod Shows
 pub mod Reads
+pub mod Comes
 pub mod State
 pub mod Session
 pub mod SessionView

@@ -1,5 +1,5 @@
 -- What the fields of a machine say of the lexemes that were read.
-use Rattle.std.specs.Prelude.{ℕ, ◌+◌, ◌≡◌, ◌<◌, ◌≤◌, ◌&&◌, ◌||◌, not, ⊤, Bool, true, false, nat_lt, if◌then◌else◌, map, Option, Some, None, List, [], ◌∷◌, length, drop, slice_index_or, ◌⊎◌}
+use Rattle.std.specs.Prelude.{ℕ, ◌+◌, ◌≡◌, ◌<◌, ◌≤◌, ◌&&◌, ◌||◌, not, Bool, true, false, nat_lt, if◌then◌else◌, map, Option, Some, None, List, ◌∷◌, length, drop, slice_index_or}
 use Rattle.yaml_scan_text.specs.declared.record.yaml_mark_t.{yaml_mark_t}
 use Rattle.yaml_scan_text.specs.Tokens.{body_of}
 use Rattle.yaml_scan_decode.specs.DecodedText.{text_bytes}
@@ -9,7 +9,7 @@ use Rattle.yaml_scan_layout.specs.declared.lexeme.Opens.{Opens}
 use Rattle.yaml_scan_layout.specs.Kinds.{cancels, is_value}
 use Rattle.yaml_scan_layout.specs.History.{Candidate, candidate, is_fresh, first_open, opens_in, entries, reached, depth, levels, key_allowed, ended}
 use Rattle.yaml_scan_layout.specs.Next.{history}
-use Rattle.yaml_scan_layout.specs.Coming.{Stream, body_in, spell}
+use Rattle.yaml_scan_layout.specs.Coming.{Stream, body_in}
 use Rattle.yaml_scan.specs.declared.machine.Machine.{Machine}
 use Rattle.yaml_scan.specs.declared.waiting.Waiting.{Waiting}
 use Rattle.yaml_scan.specs.declared.waiting.Seen.{Seen}

@@ -1,6 +1,6 @@
 //! The state between two lexemes.
 
-ghost use Rattle.std.specs.Prelude.{◌≡◌, ◌+◌, ◌-◌, ◌<◌, ◌≤◌, ◌^◌, ◌&&◌, ◌||◌, ◌==◌, not, nat_lt, if◌then◌else◌, OnOk, IfOk, IsTrue, IfSome, true, false, length, ℕ};
+ghost use Rattle.std.specs.Prelude.{◌≡◌, ◌+◌, ◌-◌, ◌<◌, ◌≤◌, ◌^◌, ◌&&◌, ◌||◌, ◌==◌, not, nat_lt, if◌then◌else◌, ◌⊎◌, OnOk, IfOk, IfErr, IsTrue, IfSome, true, false, length, ℕ};
 ghost use Rattle.yaml_scan_decode.specs.DecodedText.{text_bytes};
 ghost use Rattle.yaml_scan_layout.specs.Kinds as kinds;
 ghost use Rattle.yaml_scan_layout.specs.History as history;
@@ -49,6 +49,8 @@ impl<'a> Machine<'a> {
     ghost use Rattle.yaml_scan.specs.State.{IsMachine, IsNarrow, AreInside, GoesOn, is_ready};
     ghost use Rattle.yaml_scan.specs.Shows.{IsPending, fields_of, history_of};
     ghost use Rattle.yaml_scan.specs.Reads.{MarksOwn, IsColumn, opens_for};
+    ghost use Rattle.yaml_scan.specs.Comes.{to_come, Refused, Faults};
+    ghost use Rattle.yaml_scan_layout.specs.Coming.{nothing};
 
     pub(crate) fn new(alloc: Global, input: &'a [u8], setting: yaml_encoding_t) -> Machine<'a>
         ensures stands { IsMachine result }
@@ -141,22 +143,30 @@ impl<'a> Machine<'a> {
         }
     }
 
-    /// Reads on until the next token is known, or there is none.
+    /// Reads on until the next token is known, or there is none. What is to come stays.
     fn fill(&mut self) -> Result<(), ScanError>
         requires { IsMachine self.old }
-        ensures { OnOk result (IsMachine self.new) }
+        ensures stands { OnOk result (IsMachine self.new) }
+        ensures ok { OnOk result ((to_come self.new ≡ to_come self.old) × ((is_ready self.new ≡ true) ⊎ (to_come self.new ≡ nothing))) }
+        ensures err { IfErr result (λ e. Faults e (to_come self.old)) }
     {
-        'steps: while !self.has_token() && !self.ended {
+        'steps: loop {
+            if self.has_token() {
+                return Ok(());
+            }
+            if self.ended {
+                return Ok(());
+            }
             self.step()?;
         }
-        Ok(())
     }
 
     /// Reads one lexeme.
     fn step(&mut self) -> Result<(), ScanError>
         requires stands { IsMachine self.old }
         requires more { self.old.ended ≡ false }
-        ensures { OnOk result (IsMachine self.new × GoesOn self.old self.new) }
+        ensures ok { OnOk result (IsMachine self.new × GoesOn self.old self.new) }
+        ensures err { IfErr result (Refused self.old) }
     {
         let Read {
             lexeme,

@@ -1,6 +1,6 @@
 //! The lexeme that comes next, and why there may be none.
 
-ghost use Rattle.std.specs.Prelude.{◌≡◌, ◌+◌, ◌≤◌, ◌<◌, ◌^◌, ◌&&◌, ◌||◌, ◌==◌, not, nat_lt, if◌then◌else◌, IfOk, IfSome, is_some, Some, None, true, false, length};
+ghost use Rattle.std.specs.Prelude.{◌≡◌, ◌+◌, ◌≤◌, ◌<◌, ◌^◌, ◌&&◌, ◌||◌, ◌==◌, not, nat_lt, if◌then◌else◌, IfOk, IfErr, IfSome, is_some, Some, None, true, false, length};
 ghost use Rattle.yaml_scan_decode.specs.DecodedText.{text_bytes};
 ghost use Rattle.yaml_scan_text.specs.Marks.{mark_at};
 ghost use Rattle.yaml_scan_text.specs.Tokens.{body_of, stream_start};
@@ -46,6 +46,7 @@ struct Stand {
 impl<'a> Machine<'a> {
     ghost use Rattle.yaml_scan.specs.State.{IsMachine, IsNext};
     ghost use Rattle.yaml_scan.specs.Shows.{IsShown, fields_of, history_of, stream_of, Finds, Picks};
+    ghost use Rattle.yaml_scan.specs.Comes.{Refused};
     ghost use Rattle.yaml_scan.specs.Reads.{GivesNext, GivesLexeme, EndsAt, Owns, keyed_by, required_in};
 
     /// The lexeme that comes next.
@@ -54,6 +55,7 @@ impl<'a> Machine<'a> {
         requires more { self.now.ended ≡ false }
         ensures safe { IfOk result (λ r. IsNext self.now r) }
         ensures exact { GivesNext self.now result (spec.next (text_bytes self.now.text) (history_of self.now)) }
+        ensures refused { IfErr result (Refused self.now) }
     {
         if self.dropped + self.waiting.len() == 0 {
             return Ok(first(self.place, self.encoding));

@@ -1,6 +1,5 @@
-use Rattle.std.proofs.Common.{◌≡◌, ◌<◌, ◌≤◌, ◌+◌, length, refl, sym, ◌∙◌, arith}
+use Rattle.std.proofs.Common.{◌<◌, ◌+◌, length, refl, sym, ◌∙◌, arith}
 use Rattle.std.proofs.lemmas.List.{length-map}
-use Rattle.std.specs.Prelude.{map}
 use Rattle.yaml_scan.specs.declared.waiting.Waiting.{Waiting}
 use Rattle.yaml_scan.specs.Shows.{fields_of, history_of}
 use Rattle.yaml_scan.proofs.PassLemmas.{test_is}

@@ -1,4 +1,4 @@
-use Rattle.std.proofs.Common.{◌≡◌, ◌+◌, ◌-◌, ◌≤◌, length}
+use Rattle.std.proofs.Common.{◌+◌, ◌-◌, ◌≤◌, length}
 use Rattle.yaml_scan_layout.specs.History.{first_open}
 use Rattle.yaml_scan.specs.Shows.{history_of}
 use Rattle.yaml_scan.proofs.machine.Machine.earliest_open.Given as goal

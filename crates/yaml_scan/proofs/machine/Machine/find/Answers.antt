@@ -1,5 +1,4 @@
-use Rattle.std.proofs.Common.{◌≡◌, ◌+◌, ◌-◌, ◌<◌, ◌≤◌, ℕ, List, length, drop, Some, None, refl, sym, ap, ◌∙◌, arith}
-use Rattle.yaml_scan.specs.declared.waiting.Waiting.{Waiting}
+use Rattle.std.proofs.Common.{◌≡◌, ◌+◌, ◌-◌, ◌<◌, ℕ, List, length, drop, Some, None, refl, sym, ap, ◌∙◌, arith}
 use Rattle.yaml_scan_layout.specs.declared.lexeme.Lexeme.{Lexeme}
 use Rattle.yaml_scan_layout.specs.History.{candidate, Candidate}
 use Rattle.yaml_scan.specs.Shows.{fields_of, history_of}

@@ -1,4 +1,4 @@
-use Rattle.std.proofs.Common.{◌≡◌, ◌+◌, ◌-◌, ◌≤◌, length, drop}
+use Rattle.std.proofs.Common.{◌≡◌, ◌-◌, ◌≤◌, length, drop}
 use Rattle.yaml_scan_layout.specs.History.{candidate}
 use Rattle.yaml_scan.specs.Shows.{history_of}
 use Rattle.yaml_scan.proofs.machine.Machine.find.Given as goal

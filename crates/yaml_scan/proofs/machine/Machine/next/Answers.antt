@@ -1,16 +1,15 @@
-use Rattle.std.proofs.Common.{◌≡◌, ℕ, List, ◌+◌, ◌<◌, nat_lt, length, false, Option, Some, None, Result, Ok, Err, refl, sym, ap, subst, ◌∙◌, arith}
+use Rattle.std.proofs.Common.{◌≡◌, nat_lt, Some, None, refl, sym, ap, subst, ◌∙◌, arith}
 use Rattle.std.proofs.lemmas.List.{length-map}
 use Rattle.yaml_scan_text.specs.declared.record.yaml_mark_t.{yaml_mark_t}
-use Rattle.yaml_scan_text.specs.Marks.{mark_at}
 use Rattle.yaml_scan_decode.specs.DecodedText.{text_bytes}
 use Rattle.yaml_scan_words.specs.Between.{Gap}
-use Rattle.yaml_scan_layout.specs.declared.kind.Kind.{Kind}
 use Rattle.yaml_scan_layout.specs.Words.{kind_at}
 use Rattle.yaml_scan_layout.specs.Next.{Next, unless_missed, no_colon, no_token}
 use Rattle.yaml_scan.specs.declared.waiting.Waiting.{Waiting}
-use Rattle.yaml_scan.specs.Shows.{fields_of, stream_of, history_of}
+use Rattle.yaml_scan.specs.Shows.{fields_of, history_of}
 use Rattle.yaml_scan.specs.Reads.{GivesNext, late}
 use Rattle.yaml_scan.proofs.KindLemmas.{first_gives, next_machine, forward_machine, allow_by, lost_gives, none_gives, kind_found}
+use Rattle.yaml_scan.proofs.ComesLemmas.{refused_by, refused_any}
 use Rattle.yaml_scan.proofs.machine.Machine.next.Goals as goal
 
 pub returns-then-self-len-eq0-clause-exact : goal.returns-then-self-len-eq0-clause-exact
@@ -56,3 +55,12 @@ returns-clause-exact c =
     let kind : kind_at (nat_lt 0 m.depth) (text_bytes m.text) q.at ≡ Some c.in-Some-kind_at.kind = ap (λ t. kind_at (nat_lt 0 m.depth) t q.at) (sym kept) ∙ sym c.kind_at.ensures.value ∙ c.in-Some-kind_at.is in
     let all = eq ∙ ap (λ o. unless_missed o (text_bytes m.text) g (history_of m)) none ∙ kind_found (fields_of m) g (Some c.in-Some-kind_at.kind) c.requires.stands.shown kind in
     subst (λ (x : Next). GivesNext m c.of_kind.result x) (sym all) (c.of_kind.ensures.exact g refl (allow_by (fields_of m) g c.allowed_behind-allowed.result c.requires.stands.shown c.allowed_behind-allowed.ensures))
+
+pub returns-in-Some-clause-refused : goal.returns-in-Some-clause-refused
+returns-in-Some-clause-refused c = refused_by c.args.self.now c.no_colon.result (returns-in-Some-clause-exact c)
+
+pub returns-in_default-kind_at-clause-refused : goal.returns-in_default-kind_at-clause-refused
+returns-in_default-kind_at-clause-refused c = refused_by c.args.self.now c.refusal.result (returns-in_default-kind_at-clause-exact c)
+
+pub returns-clause-refused : goal.returns-clause-refused
+returns-clause-refused c = refused_any c.args.self.now c.of_kind.result (returns-clause-exact c)

@@ -1,4 +1,4 @@
-use Rattle.std.proofs.Common.{◌≡◌, ℕ, List, Bool, ◌+◌, ◌<◌, nat_lt, length, false, Option, Some, None, Result, Ok, Err, refl, sym, ap, subst, ◌∙◌}
+use Rattle.std.proofs.Common.{◌≡◌, ℕ, nat_lt, Some, None, Ok, Err, sym, ap, subst, ◌∙◌}
 use Rattle.yaml_scan_text.specs.declared.record.yaml_mark_t.{yaml_mark_t}
 use Rattle.yaml_scan_decode.specs.DecodedText.{text_bytes}
 use Rattle.yaml_scan_layout.specs.declared.kind.Kind.{Kind}
@@ -7,9 +7,8 @@ use Rattle.yaml_scan_layout.specs.Kinds.{is_end}
 use Rattle.yaml_scan_layout.specs.History.{placed}
 use Rattle.yaml_scan_layout.specs.Next.{Next, unless_lost}
 use Rattle.yaml_scan.specs.Stands.{Stands}
-use Rattle.yaml_scan.specs.Shows.{fields_of, stream_of, history_of}
-use Rattle.yaml_scan.specs.Reads.{GivesNext, GivesLexeme, lost}
-use Rattle.yaml_scan.proofs.PushLemmas.{marks_are}
+use Rattle.yaml_scan.specs.Shows.{stream_of, history_of}
+use Rattle.yaml_scan.specs.Reads.{GivesNext, lost}
 use Rattle.yaml_scan.proofs.KindLemmas.{kind_machine, wrong_machine, misplaced_gives, lost_gives, err_gives, ok_gives, required_saved, placed_index, placed_start}
 use Rattle.yaml_scan.proofs.machine.Machine.of_kind.Goals as goal
 

@@ -1,7 +1,6 @@
-use Rattle.std.proofs.Common.{◌≡◌, ℕ, List, Bool, ◌+◌, ◌<◌, nat_lt, length, false, Result, Ok, Err, refl, sym, ap, subst, ◌∙◌}
+use Rattle.std.proofs.Common.{◌≡◌, ℕ, List, ◌+◌, nat_lt, length, false, Ok, Err, refl, sym, ap, subst, ◌∙◌}
 use Rattle.yaml_scan_decode.specs.DecodedText.{text_bytes}
 use Rattle.yaml_scan_layout.specs.declared.kind.Kind.{Kind}
-use Rattle.yaml_scan_layout.specs.declared.kind.Kind.TheVariants as kinds
 use Rattle.yaml_scan_layout.specs.Kinds.{is_end}
 use Rattle.yaml_scan_layout.specs.Words.{word_at}
 use Rattle.yaml_scan_text.specs.Marks.{mark_at}

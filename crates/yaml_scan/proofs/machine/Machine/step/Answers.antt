@@ -1,4 +1,4 @@
-use Rattle.std.proofs.Common.{◌≡◌, ◌≤◌, ◌<◌, ℕ, Bool, List, ◌∷◌, [], ◌++◌, sym, ap, subst, ◌∙◌, refl, arith, ◌+◌, ◌&&◌, ◌||◌, not, ltb, eqb, length, length-append, Some, false}
+use Rattle.std.proofs.Common.{◌≡◌, ◌≤◌, ◌<◌, ℕ, Bool, List, ◌∷◌, [], ◌++◌, sym, ap, subst, ◌∙◌, refl, arith, ◌+◌, ◌&&◌, ◌||◌, not, ltb, eqb, length, length-append}
 use Rattle.std.specs.Prelude.{map, IfSome}
 use Rattle.yaml_scan_text.specs.declared.name.yaml_encoding_t.{yaml_encoding_t}
 use Rattle.yaml_scan_layout.specs.Kinds.{is_start, allows_key}
@@ -16,7 +16,7 @@ use Rattle.yaml_scan.specs.Shows.{Fields, fields_of, history_of, stream_of, AreS
 use Rattle.yaml_scan.specs.Reads.{opens_for}
 use Rattle.yaml_scan.proofs.SafeLemmas.{inside_push, depth_after-le, narrow_by}
 use Rattle.yaml_scan.proofs.KindLemmas.{ok_read}
-use Rattle.yaml_scan.proofs.MarkLemmas.{pushed, kept_entries}
+use Rattle.yaml_scan.proofs.MarkLemmas.{kept_entries}
 use Rattle.yaml_scan.proofs.PushLemmas.{IsPushed, marks_are, levels_is, entry_is, column_is, allowed_is, pending_by, shown_by, settled_value, read_pushed, spoken_marked, spoken_push, room_is}
 use Rattle.yaml_scan.proofs.machine.Machine.step.Goals as goal
 
@@ -77,8 +77,8 @@ settle-self-requires-clause-few c =
     let one = length-append d.waiting.items (record { entry = c.entry.result; body = r.body; current = r.lexeme.saved } ∷ []) in
     omega (arith, room, long, count, drops, more, one, c.requires.stands.long)
 
-pub returns : goal.returns
-returns c =
+pub returns-clause-ok : goal.returns-clause-ok
+returns-clause-ok c =
     let m = c.args.self.now in
     let f = fields_of m in
     let h = history_of m in

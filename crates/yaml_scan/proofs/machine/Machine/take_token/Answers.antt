@@ -4,7 +4,7 @@ use Rattle.yaml_scan.specs.declared.waiting.Waiting.{Waiting}
 use Rattle.yaml_scan.specs.State.{ready_in, AreInside}
 use Rattle.yaml_scan.proofs.SafeLemmas.{inside_rest, none_left, known_settled}
 use Rattle.yaml_scan.specs.Shows.{fields_of, stream_of, AreSpoken}
-use Rattle.yaml_scan.proofs.FrontLemmas.{shown_popped, shown_given}
+use Rattle.yaml_scan.proofs.FrontLemmas.{shown_popped}
 use Rattle.yaml_scan.proofs.PushLemmas.{spoken_rest}
 use Rattle.yaml_scan.proofs.machine.Machine.take_token.Goals as goal
 

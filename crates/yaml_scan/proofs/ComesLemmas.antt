@@ -1,0 +1,119 @@
+-- Where a machine stops.
+use Rattle.std.proofs.Common.{◌≡◌, ℕ, ◌+◌, ◌<◌, ◌≤◌, true, false, ltb, List, [], ◌∷◌, length, get_or, Result, Ok, Err, refl, sym, ap, ◌∙◌, inl, inr, ◌⊎◌, arith}
+use Rattle.std.proofs.lemmas.Bool.{cases_lt}
+use Rattle.std.proofs.lemmas.Bool.Decides.{nat_tests}
+use Rattle.std.proofs.lemmas.List.{length-map, get_or-drop}
+use Rattle.std.specs.Prelude.{map, IfErr}
+use Rattle.yaml_scan_text.specs.declared.name.yaml_encoding_t.{yaml_encoding_t}
+use Rattle.yaml_scan_text.specs.declared.problem.ScanFault.{ScanFault}
+use Rattle.yaml_scan_text.specs.declared.problem.ScanError.{ScanError}
+use Rattle.yaml_scan_text.specs.declared.problem.ScanError.TheVariants as errors
+use Rattle.yaml_scan_decode.specs.DecodedText.{text_bytes}
+use Rattle.yaml_scan_layout.specs.declared.lexeme.Entry.{Entry}
+use Rattle.yaml_scan_layout.specs.History.{entries, first_open}
+use Rattle.yaml_scan_layout.specs.Next.{Next, Read, Fails, Ends, next}
+use Rattle.yaml_scan_layout.specs.Coming.{coming, nothing}
+use Rattle.yaml_scan_layout.proofs.HistoryLemmas.{length-entries, first_open-le}
+use Rattle.yaml_scan_forward.proofs.ComingForward.{fault_comes, end_comes, front_count, front_none}
+use Rattle.yaml_scan.specs.declared.machine.Machine.{Machine}
+use Rattle.yaml_scan.specs.declared.waiting.Waiting.{Waiting}
+use Rattle.yaml_scan.specs.declared.next.Read.{Read as Answer}
+use Rattle.yaml_scan.specs.State.{IsMachine, GoesOn, ready_in, is_ready}
+use Rattle.yaml_scan.specs.Shows.{Fields, fields_of, IsShown, read, settled_in, history_of, stream_of}
+use Rattle.yaml_scan.specs.Reads.{GivesNext}
+use Rattle.yaml_scan.specs.Comes.{to_come, Refused, Faults}
+use Rattle.yaml_scan.proofs.MarkLemmas.{next_ended}
+use Rattle.yaml_scan.proofs.NextLemmas.{settled_first}
+
+refused_at : (m : Machine) (f : ScanFault) (x : Next) → next (text_bytes m.text) (history_of m) ≡ x → GivesNext m (Err (errors.Fault f)) x → next (text_bytes m.text) (history_of m) ≡ Fails f
+refused_at m f (Read l) e g = absurd g
+refused_at m f (Fails p) e g = e ∙ ap Fails (sym g)
+refused_at m f Ends e g = absurd g
+
+-- a refusal is the next fault
+pub refused_by : (m : Machine) (e : ScanError) → GivesNext m (Err e) (next (text_bytes m.text) (history_of m)) → Refused m e
+refused_by m errors.Memory g = tt
+refused_by m (errors.Fault f) g = refused_at m f (next (text_bytes m.text) (history_of m)) refl g
+
+pub refused_any : (m : Machine) (r : Result Answer ScanError) → GivesNext m r (next (text_bytes m.text) (history_of m)) → IfErr r (λ e. Refused m e)
+refused_any m (Ok r) g = tt
+refused_any m (Err e) g = refused_by m e g
+
+-- what is to come stays
+pub goes_same : (old new : Machine) → GoesOn old new → to_come new ≡ to_come old
+goes_same old new g =
+    ap (λ (x : yaml_encoding_t). coming record { encoding = x; text = text_bytes new.text } new.dropped new.given) g.encoding
+    ∙ ap (λ (t : List ℕ). coming record { encoding = old.encoding; text = t } new.dropped new.given) (ap text_bytes g.text)
+    ∙ ap (λ d. coming (stream_of old) d new.given) g.dropped ∙ ap (λ n. coming (stream_of old) old.dropped n) g.given
+
+not_ready : (d s g : ℕ) (ws : List Waiting) → ready_in d s g ws ≡ false → (ws ≡ []) ⊎ ((w : Waiting) × (rest : List Waiting) × (ws ≡ w ∷ rest) × (s ≤ d) × (w.entry.ends ≤ g))
+not_ready d s g [] e = inl refl
+not_ready d s g (w ∷ ws) e =
+    elim (cases_lt d s) [
+      | inl low ↦ let a : ltb d s ≡ true = grind (arith, nat_tests) in let bad = rw a at e in cc
+      | inr high ↦ elim (cases_lt g w.entry.ends) [
+        | inl more ↦
+            let a : ltb d s ≡ false = grind (arith, nat_tests) in
+            let b : ltb g w.entry.ends ≡ true = grind (arith, nat_tests) in
+            let bad = rw (a, b) at e in cc
+        | inr past ↦ inr (w, ws, refl, high, past)
+      ]
+    ]
+
+-- the first lexeme that waits is the one of that number
+front_entry : (m : Fields) (ws : List Waiting) (w : Waiting) (rest : List Waiting) → IsShown m → m.waiting ≡ map (λ (x : Waiting). x.entry) ws → ws ≡ w ∷ rest
+    → let h = read m.text m.dropped m.waiting in (get_or (entries h) m.dropped w.entry ≡ w.entry) × (m.dropped < length h)
+front_entry m ws w rest s wait is =
+    let h = read m.text m.dropped m.waiting in
+    let all : m.waiting ≡ w.entry ∷ map (λ (x : Waiting). x.entry) rest = wait ∙ ap (λ xs. map (λ (x : Waiting). x.entry) xs) is in
+    let len : length m.waiting ≡ length (map (λ (x : Waiting). x.entry) rest) + 1 = ap length all ∙ omega arith in
+    let z : m.dropped + 0 ≡ m.dropped = omega arith in
+    let here : get_or (entries h) (m.dropped + 0) w.entry ≡ w.entry = sym (get_or-drop m.dropped (entries h) 0 w.entry) ∙ ap (λ xs. get_or xs 0 w.entry) (sym s.waiting ∙ all) in
+    (ap (λ k. get_or (entries h) k w.entry) (sym z) ∙ here, omega (arith, s.count, len))
+
+settled_end : (m : Fields) → IsShown m → m.ended ≡ true → m.settled ≡ length (read m.text m.dropped m.waiting)
+unfolding settled_in
+settled_end m s over = let e = sym s.ended ∙ over in s.settled ∙ rw e refl
+
+-- at the end nothing is left
+pub end_machine : (m : Machine) → IsMachine m → is_ready m ≡ false → m.ended ≡ true → to_come m ≡ nothing
+unfolding read
+end_machine m i stuck over =
+    let f = fields_of m in
+    let s = i.shown in
+    let h = history_of m in
+    let len = length-map m.waiting.items (λ (x : Waiting). x.entry) in
+    let none : next (text_bytes m.text) h ≡ Ends = next_ended (text_bytes m.text) h (sym s.ended ∙ over) in
+    let all = settled_end f s over in
+    let past : length h ≤ m.dropped = elim (not_ready m.dropped m.settled m.given m.waiting.items stuck) [
+      | inl empty ↦ let zero_left : length m.waiting.items ≡ 0 = ap length empty in omega (arith, s.count, len)
+      | inr (w, rest, is, low, few) ↦ omega arith
+    ] in
+    end_comes (stream_of m) (m.dropped + length f.waiting) m.dropped m.given none past
+
+-- at a fault nothing is left but the fault
+pub fault_machine : (m : Machine) (e : ScanError) → IsMachine m → is_ready m ≡ false → m.ended ≡ false → Refused m e → Faults e (to_come m)
+unfolding read
+fault_machine m errors.Memory i stuck more r = tt
+fault_machine m (errors.Fault p) i stuck more r =
+    let f = fields_of m in
+    let s = i.shown in
+    let h = history_of m in
+    let n : ℕ = m.dropped + length f.waiting in
+    let len = length-map m.waiting.items (λ (x : Waiting). x.entry) in
+    let first = settled_first f s more in
+    let most = first_open-le h h in
+    let same_length = length-entries h in
+    elim (not_ready m.dropped m.settled m.given m.waiting.items stuck) [
+      | inl empty ↦
+          let zero_left : length m.waiting.items ≡ 0 = ap length empty in
+          let at : first_open h h ≡ m.dropped = omega (arith, s.count, s.taken, len) in
+          let gone = front_none (entries h) (first_open h h) (omega (arith, s.count, s.taken, len)) in
+          ap (λ k. coming (stream_of m) k m.given) (sym at) ∙ fault_comes (stream_of m) n p m.given r (omega (arith, gone))
+      | inr (w, rest, is, low, few) ↦
+          let at : first_open h h ≡ m.dropped = omega (arith, s.taken) in
+          let (here, inside) = front_entry f m.waiting.items w rest s refl is in
+          let count = front_count (entries h) (first_open h h) w.entry (omega arith) in
+          let ends : (get_or (entries h) (first_open h h) w.entry).ends ≡ w.entry.ends = ap (λ k. (get_or (entries h) k w.entry).ends) at ∙ ap (λ (x : Entry). x.ends) here in
+          ap (λ k. coming (stream_of m) k m.given) (sym at) ∙ fault_comes (stream_of m) n p m.given r (omega (arith, count, ends, few))
+    ]

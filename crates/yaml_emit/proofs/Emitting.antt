@@ -211,7 +211,7 @@ inside_lays i core h held fault e fr same l = record {
   begun = fr;
 }
 
-not_true : (b : Bool) → (b ≡ true → ⊥) → b ≡ false
+pub not_true : (b : Bool) → (b ≡ true → ⊥) → b ≡ false
 not_true false n = refl
 not_true true n = absurd (n refl)
 

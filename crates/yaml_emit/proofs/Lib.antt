@@ -2,3 +2,9 @@ pub mod Opening
 pub mod Holding
 pub mod Ending
 pub mod Emitting
+pub mod Walking
+pub mod Contents
+pub mod Counting
+pub mod Naming
+pub mod Leaving
+pub mod Dumped

@@ -20,7 +20,9 @@ use Rattle.yaml_emit_text.specs.Layout.{written}
 use Rattle.yaml_emit_text.specs.Settings.{settled}
 use Rattle.yaml_emit_layout.specs.declared.Place.{Place}
 use Rattle.yaml_emit_layout.specs.declared.Place.TheVariants as at
-use Rattle.yaml_emit_layout.specs.Content.{Event, stream_start, Document, stream_events}
+use Rattle.yaml_parse.specs.Nodes as model
+use Rattle.yaml_parse.specs.Documents as documents
+use Rattle.yaml_emit_layout.specs.Content.{Event, stream_start, stream_end, Document, stream_events}
 use Rattle.yaml_emit_layout.specs.Grammar.{own_problems, problem_bytes}
 use Rattle.yaml_emit_layout.specs.Nodes.{stream_layout}
 use Rattle.yaml_emit_state.specs.declared.Core.{Core}
@@ -29,6 +31,7 @@ use Rattle.yaml_emit_state.specs.Finish.{Finishes}
 use Rattle.yaml_emit.specs.declared.held.Held.{Held}
 use Rattle.yaml_emit.specs.declared.emitter.yaml_emitter_t.TheInside.{Inside}
 use Rattle.yaml_emit.specs.Held.{held_events, HeldUtf8, is_ready}
+use Rattle.yaml_emit.specs.Graph.{dumped}
 
 -- What a clause sees of an emitter.
 pub record Emitter : Type 0 where
@@ -83,6 +86,7 @@ pub record IsEmitter (e : Inside) : Type 0 where
   pub texts : HeldUtf8 e.held
   pub begun : e.fresh ≡ true → (held_events e.held ≡ []) × ((option_map fault_of e.fault ≡ None) × ((e.core.sink.bytes ≡ []) × (e.core.sink.status ≡ Going)))
   pub limited : e.core.sink.limit ≡ e.limit
+  pub running : e.opened ≡ true → e.fresh ≡ false
 
 -- the encoding of a stream that begins so
 abbrev pub stream_encoding : Event → yaml_encoding_t
@@ -112,6 +116,44 @@ pub record Given (old : Emitter) (e : Event) (new : Emitter) : Type 0 where
   pub wishes : new.wishes ≡ old.wishes
   pub limit : new.limit ≡ old.limit
   pub begun : new.fresh ≡ false
+
+-- Of some events that were to come those are still to come, whatever follows.
+pub record Gives (old : Emitter) (es : List Event) (new : Emitter) (left : List Event) : Type 0 where
+  pub completes : (x : Encoding) (more : List Event) (whole : List Item) → Completes old x (es ++ more) whole → Completes new x (left ++ more) whole
+  pub wishes : new.wishes ≡ old.wishes
+  pub limit : new.limit ≡ old.limit
+  pub begun : old.fresh ≡ false → new.fresh ≡ false
+
+-- events that count for nothing: behind a fault
+abbrev pub Stuck : Emitter → Type 0
+Stuck e = (x : Encoding) (es more : List Event) (whole : List Item) → Completes e x es whole → Completes e x more whole
+
+abbrev pub Keeps : Emitter → Emitter → Type 0
+Keeps old new = (new.opened ≡ old.opened) × (new.closed ≡ old.closed)
+
+abbrev pub left_if : Bool → List Event → List Event
+left_if true es = es
+left_if false es = []
+
+-- ---- the events of a dump: the stream is opened unless it was, and a document without a root closes it unless it was
+
+abbrev pub opening_events : Bool → List Event
+opening_events true = []
+opening_events false = stream_start YAML_ANY_ENCODING ∷ []
+
+abbrev pub closing_events : Bool → List Event
+closing_events true = []
+closing_events false = stream_end ∷ []
+
+abbrev pub said_by : Bool → List model.Node → documents.Document → List Event
+said_by closed [] d = closing_events closed
+said_by closed (n ∷ ns) d = dumped d
+
+abbrev pub said_document : Bool → documents.Document → List Event
+said_document closed d = said_by closed d.nodes d
+
+abbrev pub dump_events : Emitter → documents.Document → List Event
+dump_events e d = opening_events e.opened ++ said_document e.closed d
 
 -- What is written is the front of each text that the emitter completes: all up to the limit where that was passed.
 abbrev pub HasWritten : Status → ℕ → List ℕ → List ℕ → Bool → Type 0

@@ -1,93 +1,119 @@
 //! The events of a document's nodes.
 
-ghost use Rattle.std.specs.Prelude.{◌≤◌};
+ghost use Rattle.std.specs.Prelude.{◌≡◌, IfOk, IsUtf8, map};
+ghost use Rattle.yaml_parse.specs.Constructors.{HasUtf8, IsUtf8Option};
+ghost use Rattle.yaml_parse.specs.Documents.{seq_tag, map_tag};
+ghost use Rattle.yaml_parse.specs.Events.{body_of, text_of, directive_of};
+ghost use Rattle.yaml_parse.specs.Nodes.{node_of};
+ghost use Rattle.yaml_emit_layout.specs.Content.{said, scalar, alias, sequence_start, mapping_start, document_start, is_flow_sequence, is_flow_mapping};
+ghost use Rattle.yaml_emit.specs.Graph.{lead, name_of, anchor_of, is_text, said_scalar, said_start, opening_event, closing_event, body_of_id, tag_of_id, turn_event, graph_opening, dumped};
+ghost use Rattle.yaml_emit.specs.Events.{coming_events, IsEvents, Says, Gives, IsUtf8Body};
 
-use crate::shared::{Shares, Turn};
-use crate::walk::{Step, Walk};
+use crate::numbers::{number_of, numbers_of};
+use crate::walk::{Turn, Walk};
 use std::alloc::{AllocError, Global};
 use yaml_parse::{
-    yaml_document_get_node, yaml_document_t, yaml_event_body_t, yaml_node_body_t, yaml_node_t,
+    document_is_sound, yaml_document_get_node, yaml_document_t, yaml_event_body_t,
+    yaml_node_body_t, yaml_node_t,
 };
-use yaml_scan::{yaml_scalar_style_t, yaml_tag_directive_t};
+use yaml_scan::{
+    yaml_mapping_style_t, yaml_scalar_style_t, yaml_sequence_style_t, yaml_tag_directive_t,
+};
 
 /// The events of a document, one after another.
 #[derive(Drop)]
 pub struct Events {
     alloc: Global,
-    shares: Shares,
+    numbers: Vec<u64>,
     walk: Walk,
     place: Place,
 }
 
-// What comes next.
+/// What comes next.
 #[derive(Clone, Copy, PartialEq, Eq, Debug)]
-enum Place {
+pub enum Place {
     Start,
-    Root,
     Nodes,
     End,
 }
 
-// The first digit that is written: three are, at least.
-fn first_digit(digits: &[u8; 20]) -> usize
-    ensures { result ≤ 17 }
+// What comes before the digits of a name.
+fn lead(size: usize) -> &'static [u8]
+    ensures { result.now ≡ lead size }
 {
-    for i in 0..17 {
-        if digits[i] != b'0' {
-            return i;
-        }
+    if size == 1 {
+        b"id00"
+    } else if size == 2 {
+        b"id0"
+    } else {
+        b"id"
     }
-    17
-}
-
-fn digits_of(number: u64) -> [u8; 20] {
-    let mut digits = [b'0'; 20];
-    let mut rest = number;
-    for i in 0..20 {
-        digits[19 - i] = b'0' + (rest % 10) as u8;
-        rest /= 10;
-    }
-    digits
 }
 
 // `id` and a number of at least three digits.
-fn name_of(alloc: Global, number: u64) -> Result<Vec<u8>, AllocError> {
-    let digits = digits_of(number);
-    let first = first_digit(&digits);
-    let mut name = Vec::new(alloc);
-    name.extend_from_slice(b"id")?;
-    name.extend_from_slice(&digits[first..])?;
+fn name_of(alloc: Global, number: u64) -> Result<Vec<u8>, AllocError>
+    ensures is { IfOk result (λ name. name.items ≡ name_of number) }
+    ensures utf8 { IfOk result (λ name. IsUtf8 name.items) }
+{
+    let digits = format!(in alloc; "{number}")?;
+    let mut name = Vec::from_slice(alloc, lead(digits.len()))?;
+    name.extend_from_slice(digits.as_bytes())?;
     Ok(name)
 }
 
-fn anchor_of(alloc: Global, number: Option<u64>) -> Result<Option<Vec<u8>>, AllocError> {
-    match number {
-        None => Ok(None),
-        Some(number) => Ok(Some(name_of(alloc, number)?)),
+fn anchor_of(alloc: Global, number: u64) -> Result<Option<Vec<u8>>, AllocError>
+    ensures is { IfOk result (λ anchor. text_of anchor ≡ anchor_of number) }
+    ensures utf8 { IfOk result (λ anchor. IsUtf8Option (text_of anchor)) }
+{
+    if number == 0 {
+        Ok(None)
+    } else {
+        Ok(Some(name_of(alloc, number)?))
     }
+}
+
+fn copy_of(
+    alloc: Global,
+    directive: &yaml_tag_directive_t,
+) -> Result<yaml_tag_directive_t, AllocError>
+    ensures { IfOk result (λ copy. directive_of copy ≡ directive_of directive.now) }
+{
+    let handle = Vec::from_slice(alloc, &directive.handle)?;
+    let prefix = Vec::from_slice(alloc, &directive.prefix)?;
+    Ok(yaml_tag_directive_t { handle, prefix })
 }
 
 fn copies(
     alloc: Global,
     directives: &[yaml_tag_directive_t],
-) -> Result<Vec<yaml_tag_directive_t>, AllocError> {
+) -> Result<Vec<yaml_tag_directive_t>, AllocError>
+    ensures { IfOk result (λ copies. map directive_of copies.items ≡ map directive_of directives.now) }
+{
     let mut copies = Vec::new(alloc);
     for directive in directives {
-        let handle = Vec::from_slice(alloc, &directive.handle)?;
-        let prefix = Vec::from_slice(alloc, &directive.prefix)?;
-        copies.push(yaml_tag_directive_t { handle, prefix })?;
+        copies.push(copy_of(alloc, directive)?)?;
     }
     Ok(copies)
 }
 
+fn is_text(text: &[u8], other: &[u8]) -> bool
+    ensures { result ≡ is_text text.now other.now }
+{
+    text == other
+}
+
+// A scalar whose tag may be left out where it is that of a text.
 fn scalar_event(
     alloc: Global,
     anchor: Option<Vec<u8>>,
     tag: &[u8],
     value: &[u8],
     style: yaml_scalar_style_t,
-) -> Result<yaml_event_body_t, AllocError> {
-    let plain = tag == b"tag:yaml.org,2002:str".as_slice();
+) -> Result<yaml_event_body_t, AllocError>
+    requires { IsUtf8Option (text_of anchor) × IsUtf8 tag.now × IsUtf8 value.now }
+    ensures { Says (scalar (said_scalar (text_of anchor) tag.now value.now style)) result }
+{
+    let plain = is_text(tag, b"tag:yaml.org,2002:str");
     Ok(yaml_event_body_t::Scalar {
         anchor,
         tag: Some(Vec::from_slice(alloc, tag)?),
@@ -98,57 +124,151 @@ fn scalar_event(
     })
 }
 
+fn sequence_event(
+    alloc: Global,
+    anchor: Option<Vec<u8>>,
+    tag: &[u8],
+    style: yaml_sequence_style_t,
+) -> Result<yaml_event_body_t, AllocError>
+    requires { IsUtf8Option (text_of anchor) × IsUtf8 tag.now }
+    ensures { Says (sequence_start (said_start (text_of anchor) tag.now seq_tag (is_flow_sequence style))) result }
+{
+    Ok(yaml_event_body_t::SequenceStart {
+        anchor,
+        tag: Some(Vec::from_slice(alloc, tag)?),
+        implicit: is_text(tag, b"tag:yaml.org,2002:seq"),
+        style,
+    })
+}
+
+fn mapping_event(
+    alloc: Global,
+    anchor: Option<Vec<u8>>,
+    tag: &[u8],
+    style: yaml_mapping_style_t,
+) -> Result<yaml_event_body_t, AllocError>
+    requires { IsUtf8Option (text_of anchor) × IsUtf8 tag.now }
+    ensures { Says (mapping_start (said_start (text_of anchor) tag.now map_tag (is_flow_mapping style))) result }
+{
+    Ok(yaml_event_body_t::MappingStart {
+        anchor,
+        tag: Some(Vec::from_slice(alloc, tag)?),
+        implicit: is_text(tag, b"tag:yaml.org,2002:map"),
+        style,
+    })
+}
+
 // The event of a node that is written for the first time.
 fn node_event(
     alloc: Global,
-    node: &yaml_node_t,
     anchor: Option<Vec<u8>>,
-) -> Result<yaml_event_body_t, AllocError> {
+    node: &yaml_node_t,
+) -> Result<yaml_event_body_t, AllocError>
+    requires { IsUtf8Option (text_of anchor) × IsUtf8 (node_of node.now).tag × IsUtf8Body (node_of node.now).body }
+    ensures { Says (opening_event (text_of anchor) (node_of node.now).tag (node_of node.now).body) result }
+{
     match &node.body {
-        yaml_node_body_t::No => Ok(yaml_event_body_t::No),
+        yaml_node_body_t::No => scalar_event(
+            alloc,
+            anchor,
+            &node.tag,
+            b"",
+            yaml_scalar_style_t::YAML_ANY_SCALAR_STYLE,
+        ),
         yaml_node_body_t::Scalar { value, style } => scalar_event(
             alloc, anchor, &node.tag, value, *style,
         ),
-        yaml_node_body_t::Sequence { style, .. } => Ok(yaml_event_body_t::SequenceStart {
-            anchor,
-            tag: Some(Vec::from_slice(alloc, &node.tag)?),
-            implicit: node.tag.as_slice() == b"tag:yaml.org,2002:seq".as_slice(),
-            style: *style,
-        }),
-        yaml_node_body_t::Mapping { style, .. } => Ok(yaml_event_body_t::MappingStart {
-            anchor,
-            tag: Some(Vec::from_slice(alloc, &node.tag)?),
-            implicit: node.tag.as_slice() == b"tag:yaml.org,2002:map".as_slice(),
-            style: *style,
-        }),
+        yaml_node_body_t::Sequence { style, .. } => sequence_event(
+            alloc, anchor, &node.tag, *style,
+        ),
+        yaml_node_body_t::Mapping { style, .. } => mapping_event(alloc, anchor, &node.tag, *style),
     }
 }
 
-// What ends a collection that was walked; a scalar has no end.
-fn end_event(document: &yaml_document_t, node: i32) -> Option<yaml_event_body_t> {
-    match yaml_document_get_node(document, node) {
-        None => None,
+// How the node under a number begins.
+fn opening_event(
+    alloc: Global,
+    document: &yaml_document_t,
+    anchor: Option<Vec<u8>>,
+    id: i32,
+) -> Result<yaml_event_body_t, AllocError>
+    requires { IsUtf8Option (text_of anchor) }
+    ensures { Says (opening_event (text_of anchor) (tag_of_id document.now.nodes id) (body_of_id document.now.nodes id)) result }
+{
+    document_is_sound(document);
+    match yaml_document_get_node(document, id) {
+        None => scalar_event(
+            alloc,
+            anchor,
+            b"tag:yaml.org,2002:str",
+            b"",
+            yaml_scalar_style_t::YAML_ANY_SCALAR_STYLE,
+        ),
+        Some(node) => node_event(alloc, anchor, node),
+    }
+}
+
+// What ends the collection under a number.
+fn closing_event(document: &yaml_document_t, id: i32) -> yaml_event_body_t
+    ensures is { said (body_of result) ≡ closing_event (body_of_id document.now.nodes id) }
+    ensures utf8 { HasUtf8 (body_of result) }
+{
+    match yaml_document_get_node(document, id) {
+        None => yaml_event_body_t::MappingEnd,
         Some(node) => match node.body {
-            yaml_node_body_t::Sequence { .. } => Some(yaml_event_body_t::SequenceEnd),
-            yaml_node_body_t::Mapping { .. } => Some(yaml_event_body_t::MappingEnd),
-            _ => None,
+            yaml_node_body_t::Sequence { .. } => yaml_event_body_t::SequenceEnd,
+            _ => yaml_event_body_t::MappingEnd,
         },
     }
 }
 
+fn alias_event(alloc: Global, number: u64) -> Result<yaml_event_body_t, AllocError>
+    ensures { Says (alias (name_of number)) result }
+{
+    Ok(yaml_event_body_t::Alias {
+        anchor: name_of(alloc, number)?,
+    })
+}
+
 impl Events {
     /// Before the document's start.
-    pub fn of(alloc: Global, document: &yaml_document_t) -> Result<Events, AllocError> {
+    pub fn of(alloc: Global, document: &yaml_document_t) -> Result<Events, AllocError>
+        ensures { IfOk result (λ e. IsEvents document.now e × (coming_events document.now e ≡ dumped document.now)) }
+    {
         Ok(Events {
             alloc,
-            shares: Shares::of(alloc, document)?,
-            walk: Walk::new(alloc),
+            numbers: numbers_of(alloc, document)?,
+            walk: Walk::new(alloc, document.node_count())?,
             place: Place::Start,
         })
     }
 
-    fn start(&mut self, document: &yaml_document_t) -> Result<yaml_event_body_t, AllocError> {
-        self.place = Place::Root;
+    fn first(&self, document: &yaml_document_t, id: i32) -> Result<yaml_event_body_t, AllocError>
+        ensures { Says (turn_event self.now.numbers.items document.now.nodes (Turn.First id)) result }
+    {
+        let anchor = anchor_of(self.alloc, number_of(&self.numbers, id))?;
+        opening_event(self.alloc, document, anchor, id)
+    }
+
+    // The event of a turn of the walk.
+    fn event_of(
+        &self,
+        document: &yaml_document_t,
+        turn: Turn,
+    ) -> Result<yaml_event_body_t, AllocError>
+        ensures { Says (turn_event self.now.numbers.items document.now.nodes turn) result }
+    {
+        match turn {
+            Turn::First(id) => self.first(document, id),
+            Turn::Again(id) => alias_event(self.alloc, number_of(&self.numbers, id)),
+            Turn::Leave(id) => Ok(closing_event(document, id)),
+        }
+    }
+
+    fn start(&self, document: &yaml_document_t) -> Result<yaml_event_body_t, AllocError>
+        ensures { Says (document_start (graph_opening document.now)) result }
+    {
+        document_is_sound(document);
         Ok(yaml_event_body_t::DocumentStart {
             version_directive: document.version_directive(),
             tag_directives: copies(self.alloc, document.tag_directives())?,
@@ -156,55 +276,44 @@ impl Events {
         })
     }
 
-    fn visit(
-        &mut self,
-        document: &yaml_document_t,
-        id: i32,
-    ) -> Result<yaml_event_body_t, AllocError> {
-        match self.shares.take(id) {
-            Turn::Again(number) => Ok(yaml_event_body_t::Alias {
-                anchor: name_of(self.alloc, number)?,
-            }),
-            Turn::First(number) => match yaml_document_get_node(document, id) {
-                None => Ok(yaml_event_body_t::No),
-                Some(node) => {
-                    self.walk.descend(id)?;
-                    node_event(self.alloc, node, anchor_of(self.alloc, number)?)
-                }
-            },
-        }
+    fn begin(&mut self, document: &yaml_document_t) -> Result<Option<yaml_event_body_t>, AllocError>
+        requires walk { IsEvents document.now self.old }
+        requires place { self.old.place ≡ Place.Start }
+        ensures { Gives document.now self.old result self.new }
+    {
+        let event = self.start(document)?;
+        self.place = Place::Nodes;
+        Ok(Some(event))
     }
 
     // The next event of the nodes, or the document's end.
-    fn step(&mut self, document: &yaml_document_t) -> Result<yaml_event_body_t, AllocError> {
-        for _ in 0..u64::MAX {
-            match self.walk.next(document) {
-                Step::Visit(id) => return self.visit(document, id),
-                Step::Leave(id) => match end_event(document, id) {
-                    Some(event) => return Ok(event),
-                    None => (),
-                },
-                Step::Done => break,
+    fn step(&mut self, document: &yaml_document_t) -> Result<Option<yaml_event_body_t>, AllocError>
+        requires walk { IsEvents document.now self.old }
+        requires place { self.old.place ≡ Place.Nodes }
+        ensures { Gives document.now self.old result self.new }
+    {
+        match self.walk.next(document)? {
+            Some(turn) => Ok(Some(self.event_of(document, turn)?)),
+            None => {
+                self.place = Place::End;
+                Ok(Some(yaml_event_body_t::DocumentEnd {
+                    implicit: document.end_implicit(),
+                }))
             }
         }
-        self.place = Place::End;
-        Ok(yaml_event_body_t::DocumentEnd {
-            implicit: document.end_implicit(),
-        })
     }
 
     /// The next event; none behind the document's end.
     pub fn next(
         &mut self,
         document: &yaml_document_t,
-    ) -> Result<Option<yaml_event_body_t>, AllocError> {
+    ) -> Result<Option<yaml_event_body_t>, AllocError>
+        requires { IsEvents document.now self.old }
+        ensures { Gives document.now self.old result self.new }
+    {
         match self.place {
-            Place::Start => Ok(Some(self.start(document)?)),
-            Place::Root => {
-                self.place = Place::Nodes;
-                Ok(Some(self.visit(document, 1)?))
-            }
-            Place::Nodes => Ok(Some(self.step(document)?)),
+            Place::Start => self.begin(document),
+            Place::Nodes => self.step(document),
             Place::End => Ok(None),
         }
     }

@@ -6,8 +6,8 @@ mod fault;
 mod graph;
 mod held;
 mod name;
+mod numbers;
 mod release;
-mod shared;
 mod walk;
 
 pub use emitter::{

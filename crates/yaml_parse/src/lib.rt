@@ -13,10 +13,11 @@ pub use parser::{
     yaml_parser_prefix, yaml_parser_t,
 };
 pub use yaml_parse_document::{
-    yaml_document_add_mapping, yaml_document_add_scalar, yaml_document_add_sequence,
-    yaml_document_append_mapping_pair, yaml_document_append_sequence_item, yaml_document_delete,
-    yaml_document_get_node, yaml_document_get_root_node, yaml_document_initialize,
-    yaml_document_set_end_implicit, yaml_document_t,
+    document_is_sound, yaml_document_add_mapping, yaml_document_add_scalar,
+    yaml_document_add_sequence, yaml_document_append_mapping_pair,
+    yaml_document_append_sequence_item, yaml_document_delete, yaml_document_get_node,
+    yaml_document_get_root_node, yaml_document_initialize, yaml_document_set_end_implicit,
+    yaml_document_t,
 };
 pub use yaml_parse_model::{
     yaml_alias_data_t, yaml_alias_event_initialize, yaml_document_end_event_initialize,

@@ -1,6 +1,6 @@
 //! Documents: making one, and its readers.
 
-ghost use Rattle.std.specs.Prelude.{◌≡◌, ◌≤ℤ◌, map, option_map, pos, suc};
+ghost use Rattle.std.specs.Prelude.{◌≡◌, ◌≤ℤ◌, length, map, option_map, pos, suc};
 ghost use Rattle.yaml_parse_model.specs.Events.{directive_of};
 ghost use Rattle.yaml_parse_model.specs.Nodes.{node_of};
 ghost use Rattle.yaml_parse_document.specs.Documents.{no_document, node_at, IsNewDocument, new_document};
@@ -88,6 +88,13 @@ impl yaml_document_t {
         ensures { result ≡ self.now.end_mark }
     {
         self.end_mark
+    }
+
+    /// How many nodes the document has: their numbers are those from 1 to that.
+    pub fn node_count(&self) -> usize
+        ensures { result ≡ length self.now.nodes }
+    {
+        self.nodes.len()
     }
 }
 

@@ -1,16 +1,20 @@
 //! Documents to text.
 
-ghost use Rattle.std.specs.Prelude.{◌≡◌, true, false, OnOk};
-ghost use Rattle.yaml_emit_layout.specs.Content.{stream_start, stream_end};
-ghost use Rattle.yaml_emit.specs.Emitter.{Answers, Given};
+ghost use Rattle.std.specs.Prelude.{◌≡◌, ◌++◌, ◌∷◌, [], List, Some, true, false, OnOk};
+ghost use Rattle.yaml_parse.specs.Events.{body_of};
+ghost use Rattle.yaml_parse.specs.Constructors.{HasUtf8};
+ghost use Rattle.yaml_emit_layout.specs.Content.{stream_start, stream_end, said, Event};
+ghost use Rattle.yaml_emit.specs.Emitter.{Answers, Given, Stays, Gives, Keeps, Stuck, left_if, opening_events, said_document, dump_events};
+ghost use Rattle.yaml_scan.specs.Faults.{Fault};
+ghost use Rattle.yaml_emit.specs.Graph.{dumped};
+ghost use Rattle.yaml_emit.specs.Events.{IsEvents, coming_events};
+ghost use Rattle.yaml_emit.specs.Dumping.{Dumps};
 
 use super::yaml_emitter_t;
 use crate::fault::refusal;
 use crate::graph::Events;
 use std::alloc::AllocError;
-use yaml_parse::{
-    yaml_document_get_node, yaml_document_t, yaml_event_body_t, yaml_event_t, yaml_event_utf8,
-};
+use yaml_parse::{yaml_document_t, yaml_event_body_t};
 use yaml_scan::{yaml_encoding_t, yaml_fault_t};
 
 /// Starts the stream.
@@ -18,6 +22,7 @@ pub fn yaml_emitter_open(emitter: &mut yaml_emitter_t) -> Result<(), yaml_fault_
     requires { emitter.old.opened ≡ false }
     ensures answer { Answers emitter.new.fault result }
     ensures opened { OnOk result (emitter.new.opened ≡ true) }
+    ensures keeps { emitter.new.closed ≡ emitter.old.closed }
     ensures given { Given emitter.old (stream_start yaml_encoding_t.YAML_ANY_ENCODING) emitter.new }
 {
     emitter.emit(yaml_event_body_t::StreamStart {
@@ -34,6 +39,7 @@ pub fn yaml_emitter_close(emitter: &mut yaml_emitter_t) -> Result<(), yaml_fault
     ensures again { emitter.old.closed ≡ true → emitter.new ≡ emitter.old }
     ensures given { emitter.old.closed ≡ false → Given emitter.old stream_end emitter.new }
     ensures closed { OnOk result (emitter.new.closed ≡ true) }
+    ensures keeps { emitter.new.opened ≡ emitter.old.opened }
 {
     if emitter.closed {
         emitter.answer()
@@ -45,28 +51,49 @@ pub fn yaml_emitter_close(emitter: &mut yaml_emitter_t) -> Result<(), yaml_fault
 }
 
 impl yaml_emitter_t {
-    // Memory was refused for the dump.
-    fn starve(&mut self, refused: AllocError) {
-        self.fresh = false;
+    // A law: behind a fault events count for nothing, and an open stream has begun.
+    fn stands(&self)
+        ensures stuck { (f : Fault) → self.now.fault ≡ Some f → Stuck self.now }
+        ensures running { self.now.opened ≡ true → self.now.fresh ≡ false }
+    {
+        let _ = &self.fault;
+    }
+
+    // Memory was refused for the dump: what follows counts for nothing.
+    fn starve(&mut self, refused: AllocError)
+        requires begun { self.old.fresh ≡ false }
+        ensures given { (es : List Event) → Gives self.old es self.new [] }
+        ensures keeps { Keeps self.old self.new }
+    {
         self.core.starve(refused);
         self.fault = refusal(&self.core);
     }
 
-    // The texts of documents are UTF-8, and so are the names of anchors: the test always holds.
-    fn emit_checked(&mut self, body: yaml_event_body_t) -> bool {
-        let event = yaml_event_t::unplaced(body);
-        if yaml_event_utf8(&event) {
-            self.emit(event.body).is_ok()
-        } else {
-            false
+    // An event of the dump.
+    fn dump_event(&mut self, event: yaml_event_body_t) -> bool
+        requires utf8 { HasUtf8 (body_of event) }
+        requires begun { self.old.fresh ≡ false }
+        ensures given { (es : List Event) → Gives self.old (said (body_of event) ∷ es) self.new (left_if result es) }
+        ensures keeps { Keeps self.old self.new }
+    {
+        match self.emit(event) {
+            Ok(()) => true,
+            Err(_) => {
+                self.stands();
+                false
+            }
         }
     }
 
     // Whether an event was written, and no fault has come.
-    fn dump_next(&mut self, events: &mut Events, document: &yaml_document_t) -> bool {
+    fn dump_next(&mut self, events: &mut Events, document: &yaml_document_t) -> bool
+        requires walk { IsEvents document.now events.old }
+        requires begun { self.old.fresh ≡ false }
+        ensures dumps { Dumps document.now result self.old events.old self.new events.new }
+    {
         match events.next(document) {
             Ok(None) => false,
-            Ok(Some(event)) => self.emit_checked(event),
+            Ok(Some(event)) => self.dump_event(event),
             Err(refused) => {
                 self.starve(refused);
                 false
@@ -74,32 +101,66 @@ impl yaml_emitter_t {
         }
     }
 
-    fn dump_events(&mut self, events: Events, document: &yaml_document_t) {
+    fn dump_events(&mut self, events: Events, document: &yaml_document_t)
+        requires walk { IsEvents document.now events }
+        requires begun { self.old.fresh ≡ false }
+        ensures given { Gives self.old (coming_events document.now events) self.new [] }
+        ensures keeps { Keeps self.old self.new }
+    {
         let mut events = events;
-        for _ in 0..u64::MAX {
-            if !self.dump_next(&mut events, document) {
-                break;
-            }
-        }
+        while self.dump_next(&mut events, document) {}
     }
 
-    fn dump_document(&mut self, document: &yaml_document_t) -> Result<(), yaml_fault_t>
-        ensures { Answers self.new.fault result }
+    // The events of a document with a root.
+    fn dump_document(&mut self, document: &yaml_document_t)
+        requires begun { self.old.fresh ≡ false }
+        ensures given { Gives self.old (dumped document.now) self.new [] }
+        ensures keeps { Keeps self.old self.new }
     {
         match Events::of(self.alloc, document) {
             Ok(events) => self.dump_events(events, document),
             Err(refused) => self.starve(refused),
         }
-        self.answer()
     }
 
+    // What a document without a root says is the end of the stream.
+    fn dump_nodes(&mut self, document: &yaml_document_t)
+        requires { self.old.opened ≡ true }
+        ensures given { Gives self.old (said_document self.old.closed document.now) self.new [] }
+        ensures opened { self.new.opened ≡ true }
+    {
+        self.stands();
+        if document.node_count() == 0 {
+            let _ = yaml_emitter_close(self);
+        } else {
+            self.dump_document(document);
+        }
+    }
+
+    // Whether the stream is open.
     fn open_if_needed(&mut self) -> bool
-        ensures { result ≡ true → self.new.opened ≡ true }
+        ensures given { (es : List Event) → Gives self.old (opening_events self.old.opened ++ es) self.new (left_if result es) }
+        ensures opened { result ≡ true → self.new.opened ≡ true }
+        ensures closed { self.new.closed ≡ self.old.closed }
     {
         if self.opened {
             true
         } else {
-            yaml_emitter_open(self).is_ok()
+            match yaml_emitter_open(self) {
+                Ok(()) => true,
+                Err(_) => {
+                    self.stands();
+                    false
+                }
+            }
+        }
+    }
+
+    fn dump_all(&mut self, document: &yaml_document_t)
+        ensures given { Gives self.old (dump_events self.old document.now) self.new [] }
+    {
+        if self.open_if_needed() {
+            self.dump_nodes(document);
         }
     }
 }
@@ -111,14 +172,18 @@ pub fn yaml_emitter_dump(
     emitter: &mut yaml_emitter_t,
     document: yaml_document_t,
 ) -> Result<(), yaml_fault_t>
-    ensures { Answers emitter.new.fault result }
+    ensures given { Gives emitter.old (dump_events emitter.old document) emitter.new [] }
+    ensures answer { Answers emitter.new.fault result }
+    ensures stays { Stays emitter.old emitter.new }
 {
-    if !emitter.open_if_needed() {
-        return emitter.answer();
-    }
-    if yaml_document_get_node(&document, 1).is_none() {
-        yaml_emitter_close(emitter)
-    } else {
-        emitter.dump_document(&document)
+    match emitter.fault {
+        Some(fault) => {
+            emitter.stands();
+            Err(fault)
+        }
+        None => {
+            emitter.dump_all(&document);
+            emitter.answer()
+        }
     }
 }

@@ -11,4 +11,5 @@ invariant_of-result c = record {
   texts = tt;
   begun = λ f. (refl, (refl, (c.new.ensures.fresh.output, c.new.ensures.fresh.status)));
   limited = c.new.ensures.limit;
+  running = λ o. absurd (cc);
 }

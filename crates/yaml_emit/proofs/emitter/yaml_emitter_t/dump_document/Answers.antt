@@ -1,0 +1,4 @@
+use Rattle.yaml_emit.proofs.emitter.yaml_emitter_t.dump_document.Goals as goal
+
+pub returns-in-Err-clause-given : goal.returns-in-Err-clause-given
+returns-in-Err-clause-given c = c.starve.ensures.given _

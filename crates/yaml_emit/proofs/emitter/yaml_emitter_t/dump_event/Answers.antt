@@ -1,0 +1,5 @@
+use Rattle.yaml_emit.proofs.Dumped.{gives_stuck}
+use Rattle.yaml_emit.proofs.emitter.yaml_emitter_t.dump_event.Goals as goal
+
+pub returns-in-Err-clause-given : goal.returns-in-Err-clause-given
+returns-in-Err-clause-given c = λ es. gives_stuck _ _ _ es c.in-Err.ensures.given (c.stands.ensures.stuck _ c.in-Err.ensures.answer)

@@ -7,3 +7,4 @@ pub mod Words
 pub mod Gaps
 pub mod Lexemes
 pub mod TokensUtf8
+pub mod Decoded

@@ -1,6 +1,7 @@
-//! Law of the layout: in a text in UTF-8 the tokens' texts are UTF-8, but those that escapes spell byte by byte. No code.
+//! Laws of texts: what a stream's bytes spell is UTF-8, and so are its tokens' texts, but those that escapes spell byte by
+//! byte. No code.
 #![tactic(auto)]
 
 mod laws;
 
-pub use laws::tokens_have_utf8;
+pub use laws::{text_is_utf8, tokens_have_utf8};

@@ -1,0 +1,2 @@
+pub mod Adapted
+pub mod Laws

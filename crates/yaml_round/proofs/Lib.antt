@@ -1,1 +1,5 @@
+mod Giving
+mod Judging
+mod Laying
 mod Mapped
+mod Real

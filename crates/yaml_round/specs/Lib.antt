@@ -1,4 +1,8 @@
 pub mod Settings
+pub mod Reading
+pub mod Writing
+pub mod Compare
+pub mod Input
 pub mod Answers
 pub mod Even
 pub mod Content

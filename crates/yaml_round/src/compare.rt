@@ -1,16 +1,20 @@
 //! Comparisons of inputs, by their events side by side; no tree is held.
 
+ghost use Rattle.yaml_round.specs.Compare.{BothReal, Judges, JudgesNext, StepsOn, Sided, RunsOut, Compares, ReadsAlike};
+ghost use Rattle.yaml_round.specs.Answers.{IsReadBack, IsSame};
+ghost use Rattle.yaml_scan.specs.Faults.{Answers};
+
 use crate::content::agree;
 use crate::even::evened;
-use crate::reading::{Reading, is_end, reading_of};
+use crate::reading::{next_event, read_out, reading_of};
 use crate::settings::yaml_side_t;
 use std::alloc::Global;
-use yaml_parse::{yaml_event_t, yaml_parser_parse};
+use yaml_parse::{yaml_event_t, yaml_parser_t, yaml_token_source_t};
 use yaml_scan::{yaml_encoding_t, yaml_error_type_t, yaml_fault_t};
 
-// How two streams of events go on.
+/// How two streams of events go on.
 #[derive(Clone, Copy)]
-enum Next {
+pub(crate) enum Next {
     // Both events say the same.
     Same,
     // Both streams are at their end.
@@ -21,88 +25,119 @@ enum Next {
 // A fault, and which input it is said of.
 type SideFault = (yaml_side_t, yaml_fault_t);
 
-fn judged(event: &yaml_event_t, other: &yaml_event_t) -> Next {
-    if !agree(event, other) {
-        Next::Different
-    } else if is_end(event) {
-        Next::End
-    } else {
+// Two events say the same.
+fn judged_events(event: yaml_event_t, other: yaml_event_t) -> Next
+    ensures { Judges event other result }
+{
+    if agree(&evened(event, true), &evened(other, true)) {
         Next::Same
+    } else {
+        Next::Different
     }
 }
 
-// The next event of the second input beside one of the first.
-fn beside(event: yaml_event_t, second: &mut Reading) -> Result<Next, SideFault> {
-    match yaml_parser_parse(second) {
-        Ok(other) => Ok(judged(&evened(event, true), &evened(other, true))),
-        Err(fault) => Err((yaml_side_t::Second, fault)),
+// Two events, where there are such, say the same.
+fn judged(event: Option<yaml_event_t>, other: Option<yaml_event_t>) -> Next
+    ensures { JudgesNext event other result }
+{
+    match (event, other) {
+        (Some(event), Some(other)) => judged_events(event, other),
+        (None, None) => Next::End,
+        _ => Next::Different,
     }
 }
 
 // The next event of each input.
-fn compared_next(first: &mut Reading, second: &mut Reading) -> Result<Next, SideFault> {
-    match yaml_parser_parse(first) {
-        Ok(event) => beside(event, second),
+fn compared_next<S: yaml_token_source_t, T: yaml_token_source_t>(
+    first: &mut yaml_parser_t<S>,
+    second: &mut yaml_parser_t<T>,
+) -> Result<Next, SideFault>
+    requires { BothReal first.old second.old }
+    ensures { StepsOn first.old second.old result first.new second.new }
+{
+    match next_event(first) {
         Err(fault) => Err((yaml_side_t::First, fault)),
+        Ok(event) => match next_event(second) {
+            Err(fault) => Err((yaml_side_t::Second, fault)),
+            Ok(other) => Ok(judged(event, other)),
+        },
     }
 }
 
-// Whether the streams are the same to their end. The first fault ends it.
-fn same_events(first: &mut Reading, second: &mut Reading) -> Result<bool, SideFault> {
-    for _ in 0..u64::MAX {
+// Whether the events are the same to their end. The first fault ends it.
+fn same_events<S: yaml_token_source_t, T: yaml_token_source_t>(
+    first: &mut yaml_parser_t<S>,
+    second: &mut yaml_parser_t<T>,
+) -> Result<bool, SideFault>
+    requires { BothReal first.old second.old }
+    ensures { Sided first.old second.old result first.new second.new }
+{
+    'events: loop {
         match compared_next(first, second) {
-            Ok(Next::Same) => {}
+            Err(fault) => return Err(fault),
             Ok(Next::End) => return Ok(true),
             Ok(Next::Different) => return Ok(false),
-            Err(fault) => return Err(fault),
+            Ok(Next::Same) => {}
         }
     }
-    Ok(false)
-}
-
-// Reads to the end, and answers the fault that is met.
-fn rest_fault(reading: &mut Reading) -> Option<yaml_fault_t> {
-    for _ in 0..u64::MAX {
-        match yaml_parser_parse(reading) {
-            Ok(event) => {
-                if is_end(&event) {
-                    return None;
-                }
-            }
-            Err(fault) => return Some(fault),
-        }
-    }
-    None
 }
 
 // The fault of the first input, or else that of the second.
-fn fault_of_rests(first: &mut Reading, second: &mut Reading) -> Option<SideFault> {
-    match rest_fault(first) {
-        Some(fault) => Some((yaml_side_t::First, fault)),
-        None => match rest_fault(second) {
-            Some(fault) => Some((yaml_side_t::Second, fault)),
-            None => None,
+fn read_out_both<S: yaml_token_source_t, T: yaml_token_source_t>(
+    first: &mut yaml_parser_t<S>,
+    second: &mut yaml_parser_t<T>,
+) -> Result<(), SideFault>
+    requires { BothReal first.old second.old }
+    ensures { RunsOut first.old second.old result }
+{
+    match read_out(first) {
+        Err(fault) => Err((yaml_side_t::First, fault)),
+        Ok(()) => match read_out(second) {
+            Err(fault) => Err((yaml_side_t::Second, fault)),
+            Ok(()) => Ok(()),
         },
     }
 }
 
-// The answer of a comparison that ended: a fault of the first input comes first.
-fn settled(
-    first: &mut Reading,
-    second: &mut Reading,
-    answer: Result<bool, SideFault>,
-) -> Result<bool, SideFault> {
-    match answer {
+/// Whether two readings have the same content. A fault of the first is answered first.
+pub(crate) fn compared<S: yaml_token_source_t, T: yaml_token_source_t>(
+    first: &mut yaml_parser_t<S>,
+    second: &mut yaml_parser_t<T>,
+) -> Result<bool, SideFault>
+    requires { BothReal first.old second.old }
+    ensures { Compares first.old second.old result }
+{
+    match same_events(first, second) {
         Ok(true) => Ok(true),
-        Ok(false) => match fault_of_rests(first, second) {
-            Some(fault) => Err(fault),
-            None => Ok(false),
+        Ok(false) => match read_out_both(first, second) {
+            Err(fault) => Err(fault),
+            Ok(()) => Ok(false),
         },
-        Err((yaml_side_t::Second, fault)) => match rest_fault(first) {
-            Some(earlier) => Err((yaml_side_t::First, earlier)),
-            None => Err((yaml_side_t::Second, fault)),
+        Err((yaml_side_t::Second, fault)) => match read_out(first) {
+            Err(earlier) => Err((yaml_side_t::First, earlier)),
+            Ok(()) => Err((yaml_side_t::Second, fault)),
         },
         Err(fault) => Err(fault),
+    }
+}
+
+// Whether two readings have the same content; a fault of either means that they haven't.
+fn reads_alike<S: yaml_token_source_t, T: yaml_token_source_t>(
+    first: &mut yaml_parser_t<S>,
+    second: &mut yaml_parser_t<T>,
+) -> Result<bool, yaml_fault_t>
+    requires { BothReal first.old second.old }
+    ensures { ReadsAlike first.old second.old result }
+{
+    match same_events(first, second) {
+        Ok(same) => Ok(same),
+        Err((_, fault)) => {
+            if fault.kind == yaml_error_type_t::YAML_MEMORY_ERROR {
+                Err(fault)
+            } else {
+                Ok(false)
+            }
+        }
     }
 }
 
@@ -113,29 +148,25 @@ pub(crate) fn reads_back(
     input: &[u8],
     from: yaml_encoding_t,
     text: &[u8],
-) -> Result<bool, yaml_fault_t> {
+) -> Result<bool, yaml_fault_t>
+    ensures { Answers (λ same. same) (IsReadBack from input.now text.now) result }
+{
     let mut first = reading_of(alloc, input, from)?;
     let mut second = reading_of(alloc, text, yaml_encoding_t::YAML_ANY_ENCODING)?;
-    match same_events(&mut first, &mut second) {
-        Ok(same) => Ok(same),
-        Err((_, fault)) if fault.kind == yaml_error_type_t::YAML_MEMORY_ERROR => Err(fault),
-        Err(_) => Ok(false),
-    }
+    reads_alike(&mut first, &mut second)
 }
 
-fn compared(first: &mut Reading, second: &mut Reading) -> Result<bool, SideFault> {
-    let answer = same_events(first, second);
-    settled(first, second, answer)
-}
-
-/// Whether two inputs have the same content. A refused first input is answered first.
+/// Whether two inputs have the same content: their documents' versions, directives, nodes, anchors, tags and values, and of
+/// untagged scalars whether they are plain; styles, marks and comments aside. A refused first input is answered first.
 pub fn yaml_same(
     alloc: Global,
     a: &[u8],
     a_encoding: yaml_encoding_t,
     b: &[u8],
     b_encoding: yaml_encoding_t,
-) -> Result<bool, (yaml_side_t, yaml_fault_t)> {
+) -> Result<bool, (yaml_side_t, yaml_fault_t)>
+    ensures { IsSame a_encoding a.now b_encoding b.now result }
+{
     let mut first = match reading_of(alloc, a, a_encoding) {
         Ok(first) => first,
         Err(fault) => return Err((yaml_side_t::First, fault)),

@@ -1,22 +1,30 @@
-//! An emitter under the engine's settings, that keeps its first refusal while the input is read to its end.
+//! An emitter under the engine's settings, and the writing of a reading's events.
 
+ghost use Rattle.std.specs.Prelude.{◌≡◌, IfOk, IfErr, option_map};
+ghost use Rattle.yaml_scan.specs.Faults.{fault_of, IsMemoryFault};
+ghost use Rattle.yaml_parse.specs.Events.{event_of};
+ghost use Rattle.yaml_parse.specs.Constructors.{HasUtf8};
+ghost use Rattle.yaml_emit.specs.Content.{said};
+ghost use Rattle.yaml_emit.specs.Emitter.{Given};
+ghost use Rattle.yaml_round.specs.Reading.{AreReal};
+ghost use Rattle.yaml_round.specs.Writing.{IsUnder, wishes_under, encoding_under, Writes, WritesAll, Finishes};
+
+use crate::even::evened;
+use crate::reading::next_event;
 use crate::settings::{yaml_output_encoding_t, yaml_settings_t};
 use std::alloc::Global;
 use yaml_emit::{
-    yaml_emitter_dump, yaml_emitter_emit, yaml_emitter_initialize, yaml_emitter_into_output,
-    yaml_emitter_set_break, yaml_emitter_set_canonical, yaml_emitter_set_encoding,
-    yaml_emitter_set_indent, yaml_emitter_set_unicode, yaml_emitter_set_width, yaml_emitter_t,
+    yaml_emitter_emit, yaml_emitter_fault, yaml_emitter_initialize, yaml_emitter_into_output,
+    yaml_emitter_output, yaml_emitter_set_break, yaml_emitter_set_canonical,
+    yaml_emitter_set_encoding, yaml_emitter_set_indent, yaml_emitter_set_unicode,
+    yaml_emitter_set_width, yaml_emitter_t,
 };
-use yaml_parse::{yaml_document_t, yaml_event_t, yaml_event_utf8};
-use yaml_scan::{yaml_encoding_t, yaml_error_type_t, yaml_fault_t};
+use yaml_parse::{yaml_event_t, yaml_event_utf8, yaml_parser_t, yaml_token_source_t};
+use yaml_scan::{yaml_encoding_t, yaml_fault_t, yaml_memory_fault, yaml_origin_t};
 
-#[derive(Drop)]
-pub(crate) struct Writing {
-    emitter: yaml_emitter_t,
-    refusal: Option<yaml_fault_t>,
-}
-
-fn encoding_of(encoding: yaml_output_encoding_t) -> yaml_encoding_t {
+fn encoding_of(encoding: yaml_output_encoding_t) -> yaml_encoding_t
+    ensures { result ≡ encoding_under encoding }
+{
     match encoding {
         yaml_output_encoding_t::Utf8 => yaml_encoding_t::YAML_UTF8_ENCODING,
         yaml_output_encoding_t::Utf16Le => yaml_encoding_t::YAML_UTF16LE_ENCODING,
@@ -24,64 +32,95 @@ fn encoding_of(encoding: yaml_output_encoding_t) -> yaml_encoding_t {
     }
 }
 
-impl Writing {
-    /// An emitter that was given nothing yet.
-    pub(crate) fn new(
-        alloc: Global,
-        settings: &yaml_settings_t,
-        canonical: bool,
-    ) -> Result<Writing, yaml_fault_t> {
-        let mut emitter = yaml_emitter_initialize(alloc, settings.limit)?;
-        yaml_emitter_set_encoding(&mut emitter, encoding_of(settings.encoding));
-        yaml_emitter_set_canonical(&mut emitter, canonical);
-        yaml_emitter_set_indent(&mut emitter, settings.indent);
-        yaml_emitter_set_width(&mut emitter, settings.width);
-        yaml_emitter_set_unicode(&mut emitter, settings.unicode);
-        yaml_emitter_set_break(&mut emitter, settings.line_break);
-        Ok(Writing {
-            emitter,
-            refusal: None,
-        })
-    }
+/// An emitter under these settings that was given nothing yet.
+pub(crate) fn emitter_under(
+    alloc: Global,
+    settings: &yaml_settings_t,
+    canonical: bool,
+) -> Result<yaml_emitter_t, yaml_fault_t>
+    ensures under { IfOk result (λ e. IsUnder e (wishes_under settings.now canonical) settings.now.limit) }
+    ensures memory { IfErr result IsMemoryFault }
+{
+    let Ok(mut emitter) = yaml_emitter_initialize(alloc, settings.limit) else {
+        return Err(yaml_memory_fault(yaml_origin_t::Emitter));
+    };
+    yaml_emitter_set_encoding(&mut emitter, encoding_of(settings.encoding));
+    yaml_emitter_set_canonical(&mut emitter, canonical);
+    yaml_emitter_set_indent(&mut emitter, settings.indent);
+    yaml_emitter_set_width(&mut emitter, settings.width);
+    yaml_emitter_set_unicode(&mut emitter, settings.unicode);
+    yaml_emitter_set_break(&mut emitter, settings.line_break);
+    Ok(emitter)
+}
 
-    /// Writes an event, unless one was refused before. Refused at once only where memory ran out.
-    pub(crate) fn put(&mut self, event: yaml_event_t) -> Result<(), yaml_fault_t> {
-        if self.refusal.is_some() || !yaml_event_utf8(&event) {
-            return Ok(());
-        }
-        let answer = yaml_emitter_emit(&mut self.emitter, event);
-        self.keep(answer)
+// Gives an event, whose texts are UTF-8. The emitter keeps its first fault.
+fn give(emitter: &mut yaml_emitter_t, event: yaml_event_t)
+    ensures given { HasUtf8 (event_of event).body → Given emitter.old (said (event_of event).body) emitter.new }
+    ensures limit { emitter.new.limit ≡ emitter.old.limit }
+{
+    if yaml_event_utf8(&event) {
+        let _ = yaml_emitter_emit(emitter, event);
     }
+}
 
-    /// Writes a document, unless a refusal came before. Refused at once only where memory ran out.
-    pub(crate) fn put_document(&mut self, document: yaml_document_t) -> Result<(), yaml_fault_t> {
-        if self.refusal.is_some() {
-            return Ok(());
+/// Writes the events while the text has at most so many bytes. True at the end of the events. A fault of theirs is the
+/// answer; the emitter keeps its own.
+pub(crate) fn write_up_to<S: yaml_token_source_t>(
+    reading: &mut yaml_parser_t<S>,
+    emitter: &mut yaml_emitter_t,
+    canonical: bool,
+    most: usize,
+) -> Result<bool, yaml_fault_t>
+    requires { AreReal reading.old.events }
+    ensures { Writes canonical reading.old emitter.old result reading.new emitter.new }
+{
+    'events: loop {
+        if yaml_emitter_output(emitter).len() > most {
+            return Ok(false);
         }
-        let answer = yaml_emitter_dump(&mut self.emitter, document);
-        self.keep(answer)
+        match next_event(reading) {
+            Err(fault) => return Err(fault),
+            Ok(None) => return Ok(true),
+            Ok(Some(event)) => give(emitter, evened(event, canonical)),
+        }
     }
+}
 
-    fn keep(&mut self, answer: Result<(), yaml_fault_t>) -> Result<(), yaml_fault_t> {
-        match answer {
-            Ok(()) => Ok(()),
-            Err(fault) => {
-                self.refusal = Some(fault);
-                if fault.kind == yaml_error_type_t::YAML_MEMORY_ERROR {
-                    Err(fault)
-                } else {
-                    Ok(())
-                }
-            }
+/// Writes the events to their end. A fault of theirs is the answer; the emitter keeps its own.
+pub(crate) fn write_rest<S: yaml_token_source_t>(
+    reading: &mut yaml_parser_t<S>,
+    emitter: &mut yaml_emitter_t,
+    canonical: bool,
+) -> Result<(), yaml_fault_t>
+    requires { AreReal reading.old.events }
+    ensures { WritesAll canonical reading.old emitter.old result emitter.new }
+{
+    'events: loop {
+        match next_event(reading) {
+            Err(fault) => return Err(fault),
+            Ok(None) => return Ok(()),
+            Ok(Some(event)) => give(emitter, evened(event, canonical)),
         }
     }
+}
 
-    /// The text, or the refusal that was kept.
-    pub(crate) fn into_text(self) -> Result<Vec<u8>, yaml_fault_t> {
-        let Writing { emitter, refusal } = self;
-        match refusal {
-            Some(fault) => Err(fault),
-            None => Ok(yaml_emitter_into_output(emitter)),
-        }
+fn fault_in(emitter: &yaml_emitter_t) -> Option<yaml_fault_t>
+    ensures { option_map fault_of result ≡ emitter.now.fault }
+{
+    match yaml_emitter_fault(emitter) {
+        Some(fault) => Some(*fault),
+        None => None,
+    }
+}
+
+/// The text, or the emitter's fault.
+pub(crate) fn finished(emitter: yaml_emitter_t) -> Result<Vec<u8>, yaml_fault_t>
+    ensures { Finishes emitter result }
+{
+    let fault = fault_in(&emitter);
+    let text = yaml_emitter_into_output(emitter);
+    match fault {
+        Some(fault) => Err(fault),
+        None => Ok(text),
     }
 }

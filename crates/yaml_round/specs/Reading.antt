@@ -1,0 +1,79 @@
+-- What is read of an input, and what a reader of its events is given.
+use Rattle.std.specs.Prelude.{◌≡◌, ◌⊎◌, ℕ, Bool, true, false, List, [], ◌∷◌, ◌++◌, map, Option, Some, None, Result, Ok, Err}
+use Rattle.std.specs.List.{flat_map}
+use Rattle.yaml_scan.specs.declared.yaml_error_type_t.TheVariants.{YAML_MEMORY_ERROR}
+use Rattle.yaml_scan.specs.declared.yaml_fault_t.{yaml_fault_t}
+use Rattle.yaml_scan.specs.Faults.{Fault, fault_of}
+use Rattle.yaml_parse.specs.declared.yaml_event_t.{yaml_event_t}
+use Rattle.yaml_parse.specs.Events.{Event, EventBody, event_of}
+use Rattle.yaml_parse.specs.Events as event
+use Rattle.yaml_parse.specs.Constructors.{HasUtf8}
+use Rattle.yaml_parse.specs.Resolve.{Told}
+use Rattle.yaml_parse.specs.Coming.{Coming}
+use Rattle.yaml_round_lines.specs.EventLine.{event_line}
+use Rattle.yaml_emit.specs.Content.{said}
+use Rattle.yaml_emit.specs.Content as emit
+use Rattle.yaml_round.specs.Even.{even_body}
+use Rattle.yaml_round.specs.Content.{content_of}
+
+-- ---- events
+
+-- the events evened, as an emitter sees them; `ends`: every document's end is implicit
+abbrev pub said_all : Bool → List Told → List emit.Event
+said_all ends es = map (λ (t : Told). said (even_body ends t.0.body)) es
+
+-- what the events say, styles and document marks aside
+abbrev pub contents : List Told → List EventBody
+contents es = map (λ (t : Told). content_of (even_body true t.0.body)) es
+
+-- a line for each event
+abbrev pub event_lines : List Told → List ℕ
+event_lines es = flat_map (λ (t : Told). event_line t.0.body) es
+
+-- the empty event, which stands behind the last one
+abbrev pub is_empty : EventBody → Bool
+is_empty event.no = true
+is_empty body = false
+
+-- none of the events is empty
+abbrev pub AreReal : List Told → Type 0
+AreReal [] = Unit {0}
+AreReal (t ∷ ts) = (is_empty t.0.body ≡ false) × AreReal ts
+
+-- the texts of the events are UTF-8
+abbrev pub AreUtf8 : List Told → Type 0
+AreUtf8 [] = Unit {0}
+AreUtf8 (t ∷ ts) = HasUtf8 t.0.body × AreUtf8 ts
+
+-- ---- a parser that is read
+
+-- the front of what is to come was given, and the rest is left
+pub record GivesFront (e : Event) (old new : Coming) : Type 0 where
+  pub events : old.events ≡ (e, new.unasked) ∷ new.events
+  pub ending : new.ending ≡ old.ending
+  pub real : AreReal new.events
+
+-- nothing is to come
+pub record IsOver (c : Coming) : Type 0 where
+  pub events : c.events ≡ []
+  pub ending : c.ending ≡ None
+
+-- the fault is the one that ends the reading, or want of memory
+abbrev pub IsFaultOf : Option Fault → yaml_fault_t → Type 0
+IsFaultOf ending f = (f.kind ≡ YAML_MEMORY_ERROR) ⊎ (ending ≡ Some (fault_of f))
+
+-- the next event, nothing at the end, or the fault
+abbrev pub NextIs : Coming → Result (Option yaml_event_t) yaml_fault_t → Coming → Type 0
+NextIs old (Ok (Some e)) new = GivesFront (event_of e) old new
+NextIs old (Ok None) new = IsOver old × IsOver new
+NextIs old (Err f) new = IsFaultOf old.ending f
+
+-- the whole reading has no fault, or the answer is its fault
+abbrev pub EndsWith : Option Fault → Result (Unit {0}) yaml_fault_t → Type 0
+EndsWith ending (Ok done) = ending ≡ None
+EndsWith ending (Err f) = IsFaultOf ending f
+
+-- a line for each event was added, where no fault ends them
+abbrev pub AddsLines : Coming → List ℕ → Result (Unit {0}) yaml_fault_t → List ℕ → Type 0
+AddsLines reading old (Ok done) new = (reading.ending ≡ None) × (new ≡ old ++ event_lines reading.events)
+AddsLines reading old (Err f) new = IsFaultOf reading.ending f

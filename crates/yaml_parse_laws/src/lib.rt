@@ -1,0 +1,14 @@
+//! Laws of the grammar of tokens.
+#![tactic(auto)]
+
+ghost use Rattle.std.specs.Prelude.{◌≤◌, ◌*◌, List, Option, length};
+ghost use Rattle.yaml_scan.specs.Tokens.{Token};
+ghost use Rattle.yaml_scan.specs.Faults.{Fault};
+ghost use Rattle.yaml_parse_grammar.specs.Machine.{run, initial};
+ghost use Rattle.yaml_parse_grammar.specs.Resolve.{Directives};
+ghost use Rattle.yaml_parse_grammar.specs.Coming.{reading_of};
+
+/// A law: of no list of tokens come more than four events for each token.
+pub fn at_most_four_events_a_token()
+    ensures { (ts : List Token) (f : Option Fault) (ds : Directives) → length (reading_of (run ts initial f) ds).events ≤ 4 * length ts }
+{}

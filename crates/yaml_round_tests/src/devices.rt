@@ -197,3 +197,88 @@ fn writes_nothing_before_it_has_read(rt: HostRuntime) -> Result<(), Fail> {
     }
     Ok(())
 }
+
+// The text of `foo` has 12 bytes.
+#[test]
+fn writes_a_scalar(rt: HostRuntime) -> Result<(), Fail> {
+    let all = Ok(Some(yaml_form_t::Canonical));
+    let cases = [
+        ([step_t::Piece(b"f"), step_t::Piece(b"oo")], 99, 3, all, 12),
+        (
+            [step_t::Piece(b"foo"), step_t::Zero],
+            5,
+            3,
+            Err(yaml_run_fault_t::Write { written: 5 }),
+            5,
+        ),
+        (
+            [step_t::Piece(b"foo"), step_t::Zero],
+            99,
+            2,
+            Err(yaml_run_fault_t::TooLong),
+            0,
+        ),
+        (
+            [step_t::Piece(b"f"), step_t::Failure],
+            99,
+            3,
+            Err(yaml_run_fault_t::Read),
+            0,
+        ),
+    ];
+    for (steps, takes, limit, want, received) in &cases {
+        let mut input = yaml_std_input_t::new(scripted_reader_t::new(steps));
+        let writes = [write_step_t::Takes(*takes), write_step_t::Failure];
+        let mut output = yaml_std_output_t::new(scripted_writer_t::new(rt.alloc(), &writes, false));
+        let fmt = yaml_command_t::Fmt;
+        let from = yaml_encoding_t::YAML_ANY_ENCODING;
+        let settings = yaml_settings_t::new();
+        let got = yaml_run(
+            rt.alloc(),
+            &mut input,
+            &mut output,
+            fmt,
+            from,
+            &settings,
+            *limit,
+        );
+        assert_eq!(rt; got, *want);
+        let front = b"---\n! \"foo\"\n".get(..*received).ok_or("too long")?;
+        assert_eq!(rt; output.into_inner().received(), front);
+    }
+    Ok(())
+}
+
+// A fault in the second document: nothing was written of the first.
+#[test]
+fn writes_nothing_on_a_fault(rt: HostRuntime) -> Result<(), Fail> {
+    let steps = [step_t::Piece(b"--- a\n--- [b")];
+    let mut input = yaml_std_input_t::new(scripted_reader_t::new(&steps));
+    let mut output = yaml_std_output_t::new(scripted_writer_t::new(rt.alloc(), &[], false));
+    let got = yaml_run(
+        rt.alloc(),
+        &mut input,
+        &mut output,
+        yaml_command_t::Fmt,
+        yaml_encoding_t::YAML_ANY_ENCODING,
+        &yaml_settings_t::new(),
+        99,
+    );
+    match got {
+        Err(yaml_run_fault_t::Yaml(fault)) => {
+            assert_eq!(rt; fault.problem, "did not find expected ',' or ']'");
+            assert_eq!(rt;
+                (fault.problem_mark.index, fault.problem_mark.line),
+                (12, 2)
+            );
+            assert_eq!(rt; fault.context, Some("while parsing a flow sequence"));
+            assert_eq!(rt;
+                (fault.context_mark.index, fault.context_mark.line),
+                (10, 1)
+            );
+        }
+        _ => assert!(rt; false, "no fault"),
+    }
+    assert_eq!(rt; output.into_inner().received(), b"".as_slice());
+    Ok(())
+}

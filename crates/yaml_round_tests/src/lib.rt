@@ -7,10 +7,20 @@ mod comparisons;
 #[cfg(test)]
 mod devices;
 #[cfg(test)]
+mod documents;
+#[cfg(test)]
 mod emitting;
+#[cfg(test)]
+mod faults;
+#[cfg(test)]
+mod grammar;
+#[cfg(test)]
+mod keys;
 #[cfg(test)]
 mod parsing;
 #[cfg(test)]
 mod reloads;
 #[cfg(test)]
 mod rows;
+#[cfg(test)]
+mod tokens;

@@ -99,6 +99,17 @@ fn canonical_texts(rt: HostRuntime) -> Result<(), Fail> {
     Ok(())
 }
 
+// The input becomes the text, in canonical form; the text written again stays.
+fn settles<R: AllocGlobal + Abort>(
+    rt: &R,
+    settings: &yaml_settings_t,
+    input: &[u8],
+    want: &[u8],
+) -> Result<(), Fail> {
+    becomes(rt, settings, yaml_form_t::Canonical, input, want)?;
+    becomes(rt, settings, yaml_form_t::Canonical, want, want)
+}
+
 #[test]
 fn folds(rt: HostRuntime) -> Result<(), Fail> {
     let ten = yaml_settings_t {
@@ -109,25 +120,21 @@ fn folds(rt: HostRuntime) -> Result<(), Fail> {
         width: 5,
         ..usual()
     };
-    let form = yaml_form_t::Canonical;
-    becomes(
+    settles(
         &rt,
         &ten,
-        form,
         b"\"aaaa bbbb cccc dddd\"",
         b"---\n\"aaaa bbbb cccc\n  dddd\"\n",
     )?;
-    becomes(
+    settles(
         &rt,
         &ten,
-        form,
         b"\"aaaa bbbb cccc  dddd\"",
         b"---\n\"aaaa bbbb cccc\n  \\ dddd\"\n",
     )?;
-    becomes(
+    settles(
         &rt,
         &five,
-        form,
         b"[[[\"a  b\"]]]",
         b"---\n[\n  [\n    [\n      \"a\n        \\ b\",\n    ],\n  ],\n]\n",
     )
@@ -135,16 +142,14 @@ fn folds(rt: HostRuntime) -> Result<(), Fail> {
 
 #[test]
 fn settings(rt: HostRuntime) -> Result<(), Fail> {
-    let form = yaml_form_t::Canonical;
     let little = yaml_settings_t {
         encoding: yaml_output_encoding_t::Utf16Le,
         ..usual()
     };
-    becomes(&rt, &little, form, b"", b"\xFF\xFE")?;
-    becomes(
+    settles(&rt, &little, b"", b"\xFF\xFE")?;
+    settles(
         &rt,
         &little,
-        form,
         b"\"\\U0001F600\"",
         b"\xFF\xFE-\0-\0-\0\n\0\"\0\x3D\xD8\x00\xDE\"\0\n\0",
     )?;
@@ -152,11 +157,10 @@ fn settings(rt: HostRuntime) -> Result<(), Fail> {
         unicode: false,
         ..usual()
     };
-    becomes(&rt, &ascii, form, b"\xC3\xA9", b"---\n! \"\\xE9\"\n")?;
-    becomes(
+    settles(&rt, &ascii, b"\xC3\xA9", b"---\n! \"\\xE9\"\n")?;
+    settles(
         &rt,
         &ascii,
-        form,
         b"\"\\x00\\u2028\\U0010FFFF\"",
         b"---\n\"\\0\\L\\U0010FFFF\"\n",
     )?;
@@ -165,7 +169,7 @@ fn settings(rt: HostRuntime) -> Result<(), Fail> {
         line_break: yaml_break_t::YAML_CR_BREAK,
         ..usual()
     };
-    becomes(&rt, &wide, form, b"[\"a\"]", b"---\r[\r    \"a\",\r]\r")
+    settles(&rt, &wide, b"[\"a\"]", b"---\r[\r    \"a\",\r]\r")
 }
 
 #[test]

@@ -155,11 +155,21 @@ said_document closed d = said_by closed d.nodes d
 abbrev pub dump_events : Emitter → documents.Document → List Event
 dump_events e d = opening_events e.opened ++ said_document e.closed d
 
+-- ---- the limits
+
+-- the text has more bytes than the limit
+abbrev pub PassesSize : ℕ → List ℕ → Type 0
+PassesSize limit bytes = limit < length bytes
+
+-- laying out some scalar or collection makes an indentation of more than the most columns: the layout marks such a place
+abbrev pub PassesColumns : Bool → Type 0
+PassesColumns deep = deep ≡ true
+
 -- What is written is the front of each text that the emitter completes: all up to the limit where that was passed.
 abbrev pub HasWritten : Status → ℕ → List ℕ → List ℕ → Bool → Type 0
 HasWritten Going limit output bytes deep = (rest : List ℕ) × (bytes ≡ output ++ rest)
-HasWritten Full limit output bytes deep = (output ≡ take limit bytes) × (limit < length bytes)
-HasWritten Deep limit output bytes deep = (deep ≡ true) × ((rest : List ℕ) × (bytes ≡ output ++ rest))
+HasWritten Full limit output bytes deep = (output ≡ take limit bytes) × PassesSize limit bytes
+HasWritten Deep limit output bytes deep = PassesColumns deep × ((rest : List ℕ) × (bytes ≡ output ++ rest))
 HasWritten Starved limit output bytes deep = (rest : List ℕ) × (bytes ≡ output ++ rest)
 
 abbrev pub ShowsFront : Emitter → List ℕ → Type 0

@@ -5,7 +5,7 @@ ghost use Rattle.yaml_scan.specs.Faults.{fault_of};
 ghost use Rattle.yaml_parse.specs.Events.{event_of, body_of};
 ghost use Rattle.yaml_parse.specs.Constructors.{HasUtf8};
 ghost use Rattle.yaml_emit_layout.specs.Content.{said};
-ghost use Rattle.yaml_emit.specs.Emitter.{stream_encoding, IsNew, ShowsFront, IsWhole, Given, Begins, Answers, Stays};
+ghost use Rattle.yaml_emit.specs.Emitter.{stream_encoding, refusal_of, IsNew, ShowsFront, IsWhole, Given, Begins, Answers, Stays};
 
 mod dump;
 
@@ -142,9 +142,10 @@ pub fn yaml_emitter_opened(emitter: &yaml_emitter_t) -> bool
     emitter.opened
 }
 
-/// The first fault.
+/// The first fault: that of the event that was refused, or what stopped the output.
 pub fn yaml_emitter_fault(emitter: &yaml_emitter_t) -> Option<&yaml_fault_t>
-    ensures { option_map (λ f. fault_of f.now) result ≡ emitter.now.fault }
+    ensures is { option_map (λ f. fault_of f.now) result ≡ emitter.now.fault }
+    ensures because { emitter.now.fault ≡ refusal_of emitter.now.core }
 {
     match &emitter.fault {
         None => None,

@@ -5,6 +5,7 @@ use crate::fault::{
 };
 use crate::options::matches_of;
 use crate::settings::{input_encoding_of, settings_of};
+use clap::error::ErrorKind;
 use clap::{ArgMatches, Error as WordFault};
 use std::alloc::Global;
 use std::convert::AsStr;
@@ -165,9 +166,11 @@ fn run_matches<'a, H: Files + AllocGlobal, R: Read, W: Write, E: Write>(
     }
 }
 
-// Tells what is wrong with the words, or the help that they ask for.
+// Tells what is wrong with the words, or the help that they ask for. Of want of memory only the status tells.
 fn tell<W: Write, E: Write>(error: &WordFault, output: &mut W, errors: &mut E) -> u8 {
-    if error.use_stderr() {
+    if error.kind() == ErrorKind::OutOfMemory {
+        2
+    } else if error.use_stderr() {
         let _ = write!(errors, "{error}");
         2
     } else {

@@ -86,6 +86,12 @@ fn formats(rt: HostRuntime) -> Result<(), Fail> {
         &["x", "events"],
         b"- !",
         b"+STR\n+DOC\n+SEQ\n=VAL <!> :\n-SEQ\n-DOC\n-STR\n",
+    )?;
+    answers(
+        &rt,
+        &["x", "events"],
+        b"&a [b, 'c', *a]",
+        b"+STR\n+DOC\n+SEQ &a\n=VAL :b\n=VAL 'c\n=ALI *a\n-SEQ\n-DOC\n-STR\n",
     )
 }
 
@@ -130,6 +136,12 @@ fn encodings(rt: HostRuntime) -> Result<(), Fail> {
         &["x", "fmt", "--encoding", "utf16le"],
         b"[]",
         b"\xFF\xFE-\0-\0-\0\n\0[\0]\0\n\0",
+    )?;
+    answers(
+        &rt,
+        &["x", "fmt", "--encoding", "utf16le"],
+        b"\"\\U0001F600\"",
+        b"\xFF\xFE-\0-\0-\0\n\0\"\0\x3D\xD8\x00\xDE\"\0\n\0",
     )
 }
 
@@ -208,6 +220,7 @@ fn files(rt: HostRuntime) -> Result<(), Fail> {
     fs::write(&rt, "one.yaml", "foo")?;
     fs::write(&rt, "two.yaml", "'foo'")?;
     fs::write(&rt, "wrong.yaml", "]")?;
+    fs::write(&rt, "open.yaml", "[")?;
     answers(&rt, &["x", "fmt", "one.yaml"], b"", b"---\n! \"foo\"\n")?;
     answers(&rt, &["x", "same", "one.yaml", "one.yaml"], b"", b"equal\n")?;
     answers(
@@ -228,6 +241,10 @@ fn files(rt: HostRuntime) -> Result<(), Fail> {
         1,
         second,
     )?;
+    let both =
+        "yaml_cli: first input: parser error: while parsing a flow node (line 2, column 1): did not find expected node content (line 2, column 1)\n";
+    refuses(&rt, &["x", "same", "open.yaml", "wrong.yaml"], b"", 1, both)?;
+    fs::remove_file(&rt, "open.yaml")?;
     fs::remove_file(&rt, "one.yaml")?;
     fs::remove_file(&rt, "two.yaml")?;
     fs::remove_file(&rt, "wrong.yaml")?;

@@ -14,8 +14,6 @@ pub enum Outcome {
         want: String,
         got: String,
     },
-    /// The call isn't made here.
-    PassedOver,
 }
 
 // The fields of those names that the line has.

@@ -3,6 +3,7 @@
 use serde_json::Value;
 use std::alloc::{AllocError, AllocFailed, Global};
 use std::fmt;
+use yaml_parse::yaml_text_fault_t;
 use yaml_scan::{yaml_encoding_t, yaml_mark_t};
 
 /// Why a line can't be replayed.
@@ -43,6 +44,15 @@ impl From<serde_json::Error> for VectorError {
             VectorError::Memory
         } else {
             VectorError::NotJson
+        }
+    }
+}
+
+impl From<yaml_text_fault_t> for VectorError {
+    fn from(fault: yaml_text_fault_t) -> VectorError {
+        match fault {
+            yaml_text_fault_t::Memory => VectorError::Memory,
+            yaml_text_fault_t::NotUtf8 => VectorError::Field("text"),
         }
     }
 }
@@ -112,6 +122,14 @@ pub fn count(line: &Value, name: &'static str) -> Result<u64, VectorError> {
     }
 }
 
+/// That field, a list.
+pub fn list<'a>(line: &'a Value, name: &'static str) -> Result<&'a [Value], VectorError> {
+    match line.get(name).and_then(Value::as_array) {
+        Some(list) => Ok(list.as_slice()),
+        None => Err(VectorError::Field(name)),
+    }
+}
+
 // What is told of an item of an array that isn't of its form.
 const ITEM: &str = "item";
 
@@ -128,33 +146,79 @@ pub fn item_bytes(alloc: Global, list: &Value, index: usize) -> Result<Vec<u8>, 
     decoded(alloc, item_text(list, index)?, ITEM)
 }
 
-/// That item, a number.
-pub fn item_number(list: &Value, index: usize) -> Result<i32, VectorError> {
-    match list
-        .get(index)
-        .and_then(Value::as_i64)
-        .and_then(|n| i32::try_from(n).ok())
-    {
+/// A number of 32 bits.
+pub fn small(value: &Value) -> Result<i32, VectorError> {
+    match value.as_i64().and_then(|n| i32::try_from(n).ok()) {
         Some(number) => Ok(number),
         None => Err(VectorError::Field(ITEM)),
     }
 }
 
-fn item_count(list: &Value, index: usize) -> Result<u64, VectorError> {
+/// That item, a number of 32 bits.
+pub fn item_number(list: &Value, index: usize) -> Result<i32, VectorError> {
+    match list.get(index) {
+        Some(item) => small(item),
+        None => Err(VectorError::Field(ITEM)),
+    }
+}
+
+/// That item, a number that isn't negative.
+pub fn item_count(list: &Value, index: usize) -> Result<u64, VectorError> {
     match list.get(index).and_then(Value::as_u64) {
         Some(count) => Ok(count),
         None => Err(VectorError::Field(ITEM)),
     }
 }
 
-/// That item, a mark: index, line, column.
+// A mark: index, line, column.
+fn mark_of(mark: &Value) -> Result<yaml_mark_t, VectorError> {
+    Ok(yaml_mark_t {
+        index: item_count(mark, 0)?,
+        line: item_count(mark, 1)?,
+        column: item_count(mark, 2)?,
+    })
+}
+
+/// That item, a mark.
 pub fn item_mark(list: &Value, index: usize) -> Result<yaml_mark_t, VectorError> {
     match list.get(index) {
-        Some(mark) => Ok(yaml_mark_t {
-            index: item_count(mark, 0)?,
-            line: item_count(mark, 1)?,
-            column: item_count(mark, 2)?,
-        }),
+        Some(mark) => mark_of(mark),
         None => Err(VectorError::Field(ITEM)),
+    }
+}
+
+/// That field, a mark.
+pub fn mark(line: &Value, name: &'static str) -> Result<yaml_mark_t, VectorError> {
+    match line.get(name) {
+        Some(mark) => mark_of(mark),
+        None => Err(VectorError::Field(name)),
+    }
+}
+
+/// That item, true or false.
+pub fn item_flag(list: &Value, index: usize) -> Result<bool, VectorError> {
+    match list.get(index).and_then(Value::as_bool) {
+        Some(flag) => Ok(flag),
+        None => Err(VectorError::Field(ITEM)),
+    }
+}
+
+/// That item, a list.
+pub fn item_list(list: &Value, index: usize) -> Result<&[Value], VectorError> {
+    match list.get(index).and_then(Value::as_array) {
+        Some(list) => Ok(list.as_slice()),
+        None => Err(VectorError::Field(ITEM)),
+    }
+}
+
+/// That item, bytes in hexadecimal digits, or null.
+pub fn item_option(
+    alloc: Global,
+    list: &Value,
+    index: usize,
+) -> Result<Option<Vec<u8>>, VectorError> {
+    match list.get(index) {
+        Some(item) if item.is_null() => Ok(None),
+        _ => Ok(Some(item_bytes(alloc, list, index)?)),
     }
 }

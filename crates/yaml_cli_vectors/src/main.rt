@@ -3,9 +3,18 @@
 
 mod compare;
 mod decode;
+mod document;
+mod dump;
+mod emit;
+mod emit_events;
+mod event;
 mod events;
 mod fault_line;
 mod field;
+mod given;
+mod load;
+mod parse;
+mod reading;
 mod reformat;
 mod reload;
 mod replay;
@@ -13,8 +22,10 @@ mod same;
 mod scan;
 mod setting;
 mod shown;
+mod style;
 mod tally;
 mod token;
+mod writing;
 
 use std::io::{self, BufRead, BufReader};
 use tally::Tally;

@@ -2,34 +2,54 @@
 
 use crate::compare::{Outcome, compare};
 use crate::field::{self, VectorError};
-use crate::{decode, events, fault_line, reformat, reload, same, scan};
+use crate::{
+    decode, dump, emit, emit_events, events, fault_line, load, parse, reading, reformat, reload,
+    same, scan,
+};
 use serde_json::Value;
 use std::alloc::Global;
 
-// What the call answers on the line, and the fields that it answers; `None` where the call has no module here.
+// What the call answers on the line, and the fields that it answers.
 fn answer(
     alloc: Global,
     call: &str,
     line: &Value,
-) -> Result<Option<(Value, &'static [&'static str])>, VectorError> {
+) -> Result<(Value, &'static [&'static str]), VectorError> {
     match call {
-        "decode" => Ok(Some((decode::answer(alloc, line)?, &decode::ANSWERS))),
-        "scan" => Ok(Some((scan::answer(alloc, line)?, &scan::ANSWERS))),
-        "events" => Ok(Some((events::answer(alloc, line)?, &events::ANSWERS))),
-        "reformat" => Ok(Some((reformat::answer(alloc, line)?, &reformat::ANSWERS))),
-        "reload" => Ok(Some((reload::answer(alloc, line)?, &reload::ANSWERS))),
-        "same" => Ok(Some((same::answer(alloc, line)?, &same::ANSWERS))),
-        "line" => Ok(Some((fault_line::answer(alloc, line)?, &fault_line::ANSWERS))),
-        _ => Ok(None),
+        "decode" => Ok((decode::answer(alloc, line)?, &decode::ANSWERS)),
+        "scan" => Ok((scan::answer(alloc, line)?, &scan::ANSWERS)),
+        "parse" => {
+            let reading = reading::of_input(alloc, line)?;
+            Ok((parse::answer(alloc, line, reading)?, &parse::ANSWERS))
+        }
+        "parse_tokens" => {
+            let reading = reading::of_tokens(alloc, line)?;
+            Ok((parse::answer(alloc, line, reading)?, &parse::ANSWERS))
+        }
+        "load" => {
+            let reading = reading::of_input(alloc, line)?;
+            Ok((load::answer(alloc, line, reading)?, &load::ANSWERS))
+        }
+        "load_tokens" => {
+            let reading = reading::of_tokens(alloc, line)?;
+            Ok((load::answer(alloc, line, reading)?, &load::ANSWERS))
+        }
+        "emit" => Ok((emit::answer(alloc, line)?, &emit::ANSWERS)),
+        "emit_events" => Ok((emit_events::answer(alloc, line)?, &emit_events::ANSWERS)),
+        "dump" => Ok((dump::answer(alloc, line)?, &dump::ANSWERS)),
+        "events" => Ok((events::answer(alloc, line)?, &events::ANSWERS)),
+        "reformat" => Ok((reformat::answer(alloc, line)?, &reformat::ANSWERS)),
+        "reload" => Ok((reload::answer(alloc, line)?, &reload::ANSWERS)),
+        "same" => Ok((same::answer(alloc, line)?, &same::ANSWERS)),
+        "line" => Ok((fault_line::answer(alloc, line)?, &fault_line::ANSWERS)),
+        _ => Err(VectorError::Field("call")),
     }
 }
 
-/// Makes the call that the line names, and compares. A call that has no module here is passed over.
+/// Makes the call that the line names, and compares.
 pub fn replay(alloc: Global, line: &str) -> Result<Outcome, VectorError> {
     let line = Value::from_str(alloc, line)?;
     let call = field::text(&line, "call")?;
-    match answer(alloc, call, &line)? {
-        Some((got, names)) => compare(alloc, call, &line, names, got),
-        None => Ok(Outcome::PassedOver),
-    }
+    let (got, names) = answer(alloc, call, &line)?;
+    compare(alloc, call, &line, names, got)
 }

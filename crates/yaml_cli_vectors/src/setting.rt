@@ -13,7 +13,8 @@ fn output_encoding(word: &str) -> Result<yaml_output_encoding_t, VectorError> {
     }
 }
 
-fn line_break(word: &str) -> Result<yaml_break_t, VectorError> {
+/// How lines end, by that word.
+pub fn line_break(word: &str) -> Result<yaml_break_t, VectorError> {
     match word {
         "any" => Ok(yaml_break_t::YAML_ANY_BREAK),
         "cr" => Ok(yaml_break_t::YAML_CR_BREAK),

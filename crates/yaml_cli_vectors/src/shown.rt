@@ -1,12 +1,23 @@
 //! What a call answered, as the lines write it.
 
+use crate::field::VectorError;
+use crate::reading::OWN;
 use serde_json::{Value, json};
 use std::alloc::{AllocError, Global};
+use std::str;
 use yaml_scan::{yaml_encoding_t, yaml_fault_t, yaml_mark_t, yaml_origin_t};
 
 /// Bytes, in hexadecimal digits.
 pub fn bytes(alloc: Global, bytes: &[u8]) -> Result<Value, AllocError> {
     Ok(Value::String(hex::encode(alloc, bytes)?))
+}
+
+/// A text that is UTF-8.
+pub fn utf8(alloc: Global, text: &[u8]) -> Result<Value, VectorError> {
+    match str::from_utf8(text) {
+        Ok(text) => Ok(Value::try_from_str(alloc, text)?),
+        Err(_) => Err(VectorError::Field("text")),
+    }
 }
 
 /// A mark: index, line, column.
@@ -54,4 +65,27 @@ pub fn fault(alloc: Global, fault: &yaml_fault_t) -> Result<Value, AllocError> {
         "context_mark": context_mark,
         "origin": (origin(fault.origin))
     })
+}
+
+// The fields of the source's own fault with the texts that the line gives it.
+fn own_fault(alloc: Global, own: &Value, found: &yaml_fault_t) -> Result<Value, VectorError> {
+    let mut fields = fault(alloc, found)?;
+    for name in ["problem", "context"] {
+        if let (Some(object), Some(text)) = (fields.as_object_mut(), own.get(name)) {
+            object.insert(String::from_str(alloc, name)?, text.clone()?)?;
+        }
+    }
+    Ok(fields)
+}
+
+/// A fault of a parser, with all its fields; the source's own one has the texts that the line gives it.
+pub fn source_fault(
+    alloc: Global,
+    line: &Value,
+    found: &yaml_fault_t,
+) -> Result<Value, VectorError> {
+    match line.get("own") {
+        Some(own) if found.problem == OWN => own_fault(alloc, own, found),
+        _ => Ok(fault(alloc, found)?),
+    }
 }

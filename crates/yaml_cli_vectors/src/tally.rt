@@ -12,7 +12,6 @@ const SHOWN: u64 = 20;
 pub struct Tally {
     passed: u64,
     failed: u64,
-    passed_over: u64,
 }
 
 impl Tally {
@@ -20,7 +19,6 @@ impl Tally {
         Tally {
             passed: 0,
             failed: 0,
-            passed_over: 0,
         }
     }
 
@@ -33,7 +31,6 @@ impl Tally {
     ) -> io::Result<()> {
         match outcome {
             Ok(Outcome::Passed) => self.passed = self.passed.wrapping_add(1),
-            Ok(Outcome::PassedOver) => self.passed_over = self.passed_over.wrapping_add(1),
             Ok(Outcome::Failed { call, want, got }) => {
                 self.failed = self.failed.wrapping_add(1);
                 if self.failed <= SHOWN {
@@ -50,11 +47,8 @@ impl Tally {
         Ok(())
     }
 
-    /// The last lines: calls that are not made here count as neither.
+    /// The last line.
     pub fn finish(self, rt: &impl Print) -> io::Result<()> {
-        if self.passed_over > 0 {
-            println!(rt; "{} passed over", self.passed_over)?;
-        }
         println!(rt; "{} passed, {} failed", self.passed, self.failed)
     }
 }

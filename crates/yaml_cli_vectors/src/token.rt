@@ -1,10 +1,10 @@
 //! Tokens, as the lines write them: kind, start mark, end mark, and what the token carries.
 
 use crate::field::{self, VectorError};
-use crate::shown;
+use crate::{shown, style};
 use serde_json::Value;
 use std::alloc::{AllocError, Global};
-use yaml_scan::{yaml_encoding_t, yaml_scalar_style_t, yaml_token_body_t, yaml_token_t};
+use yaml_scan::{yaml_token_body_t, yaml_token_t};
 
 fn word(body: &yaml_token_body_t) -> &'static str {
     match body {
@@ -30,29 +30,6 @@ fn word(body: &yaml_token_body_t) -> &'static str {
         yaml_token_body_t::Anchor { .. } => "ANCHOR",
         yaml_token_body_t::Tag { .. } => "TAG",
         yaml_token_body_t::Scalar { .. } => "SCALAR",
-    }
-}
-
-fn style_word(style: yaml_scalar_style_t) -> &'static str {
-    match style {
-        yaml_scalar_style_t::YAML_ANY_SCALAR_STYLE => "any",
-        yaml_scalar_style_t::YAML_PLAIN_SCALAR_STYLE => "plain",
-        yaml_scalar_style_t::YAML_SINGLE_QUOTED_SCALAR_STYLE => "single",
-        yaml_scalar_style_t::YAML_DOUBLE_QUOTED_SCALAR_STYLE => "double",
-        yaml_scalar_style_t::YAML_LITERAL_SCALAR_STYLE => "literal",
-        yaml_scalar_style_t::YAML_FOLDED_SCALAR_STYLE => "folded",
-    }
-}
-
-fn style(word: &str) -> Result<yaml_scalar_style_t, VectorError> {
-    match word {
-        "any" => Ok(yaml_scalar_style_t::YAML_ANY_SCALAR_STYLE),
-        "plain" => Ok(yaml_scalar_style_t::YAML_PLAIN_SCALAR_STYLE),
-        "single" => Ok(yaml_scalar_style_t::YAML_SINGLE_QUOTED_SCALAR_STYLE),
-        "double" => Ok(yaml_scalar_style_t::YAML_DOUBLE_QUOTED_SCALAR_STYLE),
-        "literal" => Ok(yaml_scalar_style_t::YAML_LITERAL_SCALAR_STYLE),
-        "folded" => Ok(yaml_scalar_style_t::YAML_FOLDED_SCALAR_STYLE),
-        _ => Err(VectorError::Field("style")),
     }
 }
 
@@ -86,7 +63,7 @@ fn push_carried(
         }
         yaml_token_body_t::Scalar { value, style } => {
             fields.push(shown::bytes(alloc, value.as_slice())?)?;
-            fields.push(Value::try_from_str(alloc, style_word(*style))?)?;
+            fields.push(Value::try_from_str(alloc, style::scalar_word(*style))?)?;
         }
         _ => {}
     }
@@ -148,7 +125,7 @@ fn body(alloc: Global, word: &str, token: &Value) -> Result<yaml_token_body_t, V
         }),
         "SCALAR" => Ok(yaml_token_body_t::Scalar {
             value: field::item_bytes(alloc, token, 3)?,
-            style: style(field::item_text(token, 4)?)?,
+            style: style::scalar(field::item_text(token, 4)?)?,
         }),
         _ => plain_body(word),
     }

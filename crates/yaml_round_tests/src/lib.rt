@@ -5,6 +5,8 @@
 #[cfg(test)]
 mod comparisons;
 #[cfg(test)]
+mod deep;
+#[cfg(test)]
 mod devices;
 #[cfg(test)]
 mod documents;

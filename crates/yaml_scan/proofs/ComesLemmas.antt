@@ -1,20 +1,28 @@
 -- Where a machine stops.
-use Rattle.std.proofs.Common.{◌≡◌, ℕ, ◌+◌, ◌<◌, ◌≤◌, true, false, ltb, List, [], ◌∷◌, length, get_or, Result, Ok, Err, refl, sym, ap, ◌∙◌, inl, inr, ◌⊎◌, arith}
+use Rattle.std.proofs.Common.{◌≡◌, ℕ, ◌+◌, ◌<◌, ◌≤◌, true, false, ltb, List, [], ◌∷◌, length, get_or, Result, Ok, Err, refl, sym, ap, ◌∙◌, inl, inr, ◌⊎◌, arith, Some}
 use Rattle.std.proofs.lemmas.Bool.{cases_lt}
 use Rattle.std.proofs.lemmas.Bool.Decides.{nat_tests}
 use Rattle.std.proofs.lemmas.List.{length-map, get_or-drop}
-use Rattle.std.specs.Prelude.{map, IfErr}
+use Rattle.std.specs.Prelude.{map, IfErr, option_map}
 use Rattle.yaml_scan_text.specs.declared.name.yaml_encoding_t.{yaml_encoding_t}
 use Rattle.yaml_scan_text.specs.declared.problem.ScanFault.{ScanFault}
 use Rattle.yaml_scan_text.specs.declared.problem.ScanError.{ScanError}
 use Rattle.yaml_scan_text.specs.declared.problem.ScanError.TheVariants as errors
-use Rattle.yaml_scan_decode.specs.DecodedText.{text_bytes}
+use Rattle.yaml_scan_text.specs.Problems.{scanner_fault}
+use Rattle.yaml_scan_decode.specs.DecodedText.{text_bytes, decoding_fault}
+use Rattle.yaml_scan_decode.specs.Decoding.{decoded_characters, in_utf8}
+use Rattle.yaml_scan_decode.specs.declared.offence.Offence.{Offence}
+use Rattle.yaml_scan_decode.specs.Offences.{reader_fault}
+use Rattle.yaml_scan_text.specs.declared.fault.yaml_origin_t.TheVariants.{Scanner, Reader}
+use Rattle.yaml_scan_text.specs.Faults.{Fault, memory_fault}
+use Rattle.std.specs.Result.{result_err}
+use Rattle.yaml_scan.specs.Ending.{ending, ending_of, IsTold, IsLocated}
 use Rattle.yaml_scan_layout.specs.declared.lexeme.Entry.{Entry}
 use Rattle.yaml_scan_layout.specs.History.{entries, first_open}
 use Rattle.yaml_scan_layout.specs.Next.{Next, Read, Fails, Ends, next}
-use Rattle.yaml_scan_layout.specs.Coming.{coming, nothing}
+use Rattle.yaml_scan_layout.specs.Coming.{Coming, coming, nothing, all, fault_in}
 use Rattle.yaml_scan_layout.proofs.HistoryLemmas.{length-entries, first_open-le}
-use Rattle.yaml_scan_forward.proofs.ComingForward.{fault_comes, end_comes, front_count, front_none}
+use Rattle.yaml_scan_forward.proofs.ComingForward.{fault_is, fault_comes, end_comes, front_count, front_none}
 use Rattle.yaml_scan.specs.declared.machine.Machine.{Machine}
 use Rattle.yaml_scan.specs.declared.waiting.Waiting.{Waiting}
 use Rattle.yaml_scan.specs.declared.next.Read.{Read as Answer}
@@ -117,3 +125,24 @@ fault_machine m (errors.Fault p) i stuck more r =
           let ends : (get_or (entries h) (first_open h h) w.entry).ends ≡ w.entry.ends = ap (λ k. (get_or (entries h) k w.entry).ends) at ∙ ap (λ (x : Entry). x.ends) here in
           ap (λ k. coming (stream_of m) k m.given) (sym at) ∙ fault_comes (stream_of m) n p m.given r (omega (arith, count, ends, few))
     ]
+
+-- the fault of what is to come is that of the text
+fault_of_text : (m : Machine) (p : ScanFault) → to_come m ≡ record { tokens = []; fault = Some (scanner_fault p) } → fault_in (next (text_bytes m.text) (all (text_bytes m.text))) ≡ Some (scanner_fault p)
+fault_of_text m p e = sym (fault_is (stream_of m) m.dropped m.given) ∙ ap (λ (c : Coming). c.fault) e
+
+-- the fault that a machine tells
+pub told_fault : (m : Machine) (p : ScanFault) (f : Fault) → IsMachine m → m.started ≡ true → to_come m ≡ record { tokens = []; fault = Some (scanner_fault p) } → f ≡ scanner_fault p → IsTold (ending m.setting m.input.now) f
+told_fault m p f i on e is = inr (ap ending_of (i.source on) ∙ fault_of_text m p e ∙ ap Some (sym is))
+
+offence_told : (r : Result (List ℕ) Offence) (f : Fault) → option_map reader_fault (result_err r) ≡ Some f → ending_of (in_utf8 r) ≡ Some f
+offence_told (Ok cs) f e = cc
+offence_told (Err o) f e = e
+
+-- the fault that decoding tells
+pub told_decoding : (setting : yaml_encoding_t) (bytes : List ℕ) (f : Fault) → (f ≡ memory_fault Reader) ⊎ (decoding_fault setting bytes ≡ Some f) → IsTold (ending setting bytes) f
+told_decoding setting bytes f (inl memory) = inl (inr memory)
+told_decoding setting bytes f (inr fault) = inr (offence_told (decoded_characters setting bytes) f fault)
+
+pub told_error : (m : Machine) (e : ScanError) (f : Fault) → IsMachine m → m.started ≡ true → Faults e (to_come m) → IsLocated e f → IsTold (ending m.setting m.input.now) f
+told_error m errors.Memory f i on c is = inl (inl is)
+told_error m (errors.Fault p) f i on c is = told_fault m p f i on c is

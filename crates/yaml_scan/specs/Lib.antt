@@ -8,6 +8,7 @@ pub mod Given
 pub mod Shows
 pub mod Reads
 pub mod Comes
+pub mod Ending
 pub mod State
 pub mod Session
 pub mod SessionView

@@ -1,8 +1,10 @@
 //! The state between two lexemes.
 
-ghost use Rattle.std.specs.Prelude.{◌≡◌, ◌+◌, ◌-◌, ◌<◌, ◌≤◌, ◌^◌, ◌&&◌, ◌||◌, ◌==◌, not, nat_lt, if◌then◌else◌, ◌⊎◌, OnOk, IfOk, IfErr, IsTrue, IfSome, true, false, length, ℕ};
+ghost use Rattle.std.specs.Prelude.{◌≡◌, ◌+◌, ◌-◌, ◌<◌, ◌≤◌, ◌^◌, ◌&&◌, ◌||◌, ◌==◌, not, nat_lt, if◌then◌else◌, ◌⊎◌, OnOk, IfOk, IfErr, Ok, IsTrue, IfSome, true, false, length, ℕ};
 ghost use Rattle.yaml_scan_decode.specs.DecodedText.{text_bytes};
 ghost use Rattle.yaml_scan_layout.specs.Kinds as kinds;
+ghost use Rattle.yaml_scan_text.specs.Faults.{fault_of};
+ghost use Rattle.yaml_scan.specs.Ending.{IsLocated};
 ghost use Rattle.yaml_scan_layout.specs.History as history;
 
 use crate::levels::Levels;
@@ -46,7 +48,9 @@ pub(crate) struct Machine<'a> {
 }
 
 impl<'a> Machine<'a> {
-    ghost use Rattle.yaml_scan.specs.State.{IsMachine, IsNarrow, AreInside, GoesOn, is_ready};
+    ghost use Rattle.yaml_scan.specs.State.{IsMachine, IsNarrow, AreInside, GoesOn, IsSame, is_ready};
+    ghost use Rattle.yaml_scan.specs.Ending.{ending, IsTold};
+    ghost use Rattle.yaml_scan_decode.specs.Decoding.{decoded_text};
     ghost use Rattle.yaml_scan.specs.Shows.{IsPending, fields_of, history_of};
     ghost use Rattle.yaml_scan.specs.Reads.{MarksOwn, IsColumn, opens_for};
     ghost use Rattle.yaml_scan.specs.Comes.{to_come, Refused, Faults};
@@ -55,6 +59,8 @@ impl<'a> Machine<'a> {
     pub(crate) fn new(alloc: Global, input: &'a [u8], setting: yaml_encoding_t) -> Machine<'a>
         ensures stands { IsMachine result }
         ensures ready { is_ready result ≡ false }
+        ensures input { result.input.now ≡ input.now }
+        ensures setting { result.setting ≡ setting }
     {
         Machine::over(alloc, input, setting, false, yaml_text_t::Borrowed(input))
     }
@@ -67,8 +73,12 @@ impl<'a> Machine<'a> {
         started: bool,
         text: yaml_text_t<'a>,
     ) -> Machine<'a>
+        requires { started ≡ true → decoded_text setting input.now ≡ Ok (text_bytes text) }
         ensures stands { IsMachine result }
         ensures ready { is_ready result ≡ false }
+        ensures input { result.input.now ≡ input.now }
+        ensures setting { result.setting ≡ setting }
+        ensures started { result.started ≡ started }
     {
         let _length = text.as_slice().len();
         Machine {
@@ -97,16 +107,50 @@ impl<'a> Machine<'a> {
     /// Decodes the input, once, and reads on until the next token is known, or there is none.
     pub(crate) fn read_on(&mut self) -> Result<(), yaml_fault_t>
         requires { IsMachine self.old }
-        ensures { OnOk result (IsMachine self.new) }
+        ensures stands { OnOk result (IsMachine self.new) }
+        ensures input { OnOk result (self.new.input.now ≡ self.old.input.now) }
+        ensures setting { OnOk result (self.new.setting ≡ self.old.setting) }
+        ensures told { IfErr result (λ f. IsTold (ending self.old.setting self.old.input.now) (fault_of f)) }
     {
-        if !self.started {
-            let text = yaml_decode(self.alloc, self.input, self.setting)?;
-            *self = Machine::over(self.alloc, self.input, self.setting, true, text);
+        match self.start() {
+            Ok(()) => self.read_known(),
+            Err(fault) => Err(fault),
         }
+    }
+
+    /// Decodes the input, once.
+    fn start(&mut self) -> Result<(), yaml_fault_t>
+        requires { IsMachine self.old }
+        ensures stands { OnOk result (IsMachine self.new) }
+        ensures started { OnOk result (self.new.started ≡ true) }
+        ensures input { OnOk result (self.new.input.now ≡ self.old.input.now) }
+        ensures setting { OnOk result (self.new.setting ≡ self.old.setting) }
+        ensures told { IfErr result (λ f. IsTold (ending self.old.setting self.old.input.now) (fault_of f)) }
+    {
+        if self.started {
+            return Ok(());
+        }
+        match yaml_decode(self.alloc, self.input, self.setting) {
+            Ok(text) => {
+                *self = Machine::over(self.alloc, self.input, self.setting, true, text);
+                Ok(())
+            }
+            Err(fault) => Err(fault),
+        }
+    }
+
+    /// Reads on in the decoded text until the next token is known, or there is none.
+    fn read_known(&mut self) -> Result<(), yaml_fault_t>
+        requires stands { IsMachine self.old }
+        requires started { self.old.started ≡ true }
+        ensures stands { OnOk result (IsMachine self.new) }
+        ensures input { OnOk result (self.new.input.now ≡ self.old.input.now) }
+        ensures setting { OnOk result (self.new.setting ≡ self.old.setting) }
+        ensures told { IfErr result (λ f. IsTold (ending self.old.setting self.old.input.now) (fault_of f)) }
+    {
         match self.fill() {
             Ok(()) => Ok(()),
-            Err(ScanError::Memory) => Err(yaml_memory_fault(yaml_origin_t::Scanner)),
-            Err(ScanError::Fault(fault)) => Err(fault.located()),
+            Err(error) => Err(located(error)),
         }
     }
 
@@ -124,7 +168,8 @@ impl<'a> Machine<'a> {
     pub(crate) fn take_token(&mut self) -> yaml_token_t
         requires stands { IsMachine self.old }
         requires ready { is_ready self.old ≡ true }
-        ensures { IsMachine self.new }
+        ensures stands { IsMachine self.new }
+        ensures source { IsSame self.old self.new }
     {
         if let Some(body) = self.waiting[0].before(self.given) {
             let mark = self.waiting[0].entry.lexeme.start;
@@ -147,6 +192,7 @@ impl<'a> Machine<'a> {
     fn fill(&mut self) -> Result<(), ScanError>
         requires { IsMachine self.old }
         ensures stands { OnOk result (IsMachine self.new) }
+        ensures source { OnOk result (IsSame self.old self.new) }
         ensures ok { OnOk result ((to_come self.new ≡ to_come self.old) × ((is_ready self.new ≡ true) ⊎ (to_come self.new ≡ nothing))) }
         ensures err { IfErr result (λ e. Faults e (to_come self.old)) }
     {
@@ -282,6 +328,16 @@ impl<'a> Machine<'a> {
             i += 1;
         }
         self.dropped + i
+    }
+}
+
+/// The fault that a refusal is answered as.
+fn located(error: ScanError) -> yaml_fault_t
+    ensures { IsLocated error (fault_of result) }
+{
+    match error {
+        ScanError::Memory => yaml_memory_fault(yaml_origin_t::Scanner),
+        ScanError::Fault(fault) => fault.located(),
     }
 }
 

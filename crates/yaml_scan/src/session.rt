@@ -8,6 +8,7 @@ ghost use Rattle.yaml_scan_text.specs.Faults.{Fault, fault_of};
 ghost use Rattle.yaml_scan_text.specs.Tokens.{token_of, no_token};
 ghost use Rattle.yaml_scan.specs.contracts.session.yaml_parser_t.{the_row};
 ghost use Rattle.yaml_scan.specs.Session.{Scans, Peeks, Fills};
+ghost use Rattle.yaml_scan.specs.Ending.{ending};
 
 use crate::machine::Machine;
 use std::alloc::Global;
@@ -42,7 +43,7 @@ impl<'a> yaml_parser_t<'a> {
     /// A session over an input, in that encoding; with `YAML_ANY_ENCODING` in the one that a byte order mark tells, or
     /// UTF-8 (YAML 1.1, 5.2).
     pub fn new(alloc: Global, input: &'a [u8], encoding: yaml_encoding_t) -> yaml_parser_t<'a>
-        ensures { result ≡ record { ready = false; answered = None } }
+        ensures { result ≡ record { fault = ending encoding input.now; ready = false; answered = None } }
     {
         yaml_parser_t {
             machine: Machine::new(alloc, input, encoding),
@@ -71,6 +72,7 @@ impl<'a> yaml_parser_t<'a> {
     /// Takes the next token, the empty one where nothing comes.
     fn take(&mut self) -> yaml_token_t
         ensures fault { self.new.answered ≡ self.old.answered }
+        ensures ending { self.new.fault ≡ self.old.fault }
         ensures over { (f : Fault) → self.old.answered ≡ Some f → token_of result ≡ no_token }
     {
         if self.fault.is_some() {
@@ -88,7 +90,8 @@ impl<'a> yaml_parser_t<'a> {
 
     /// Puts the next token aside, where it is known.
     fn show(&mut self)
-        ensures { self.new.answered ≡ self.old.answered }
+        ensures fault { self.new.answered ≡ self.old.answered }
+        ensures ending { self.new.fault ≡ self.old.fault }
     {
         if self.fault.is_none() && !self.holds && self.machine.has_token() {
             self.shown = self.machine.take_token();
@@ -99,8 +102,8 @@ impl<'a> yaml_parser_t<'a> {
 
 /// The next token: the empty one behind the end or a fault.
 ///
-/// The first call, or the first peek, decodes the whole input. A refusal is answered once; behind it, and behind the last
-/// token, comes the empty token.
+/// The first call, or the first peek, decodes the whole input. A refusal is the fault that ends the tokens of the input, or
+/// want of memory. It is answered once; behind it, and behind the last token, comes the empty token.
 pub fn yaml_parser_scan(parser: &mut yaml_parser_t) -> Result<yaml_token_t, yaml_fault_t>
     ensures { Scans parser.old parser.new result }
 {
@@ -127,7 +130,8 @@ pub fn yaml_parser_has_token(parser: &yaml_parser_t) -> bool
 /// Drops the next token.
 pub fn yaml_parser_skip(parser: &mut yaml_parser_t)
     requires { parser.old.ready ≡ true }
-    ensures { parser.new.answered ≡ parser.old.answered }
+    ensures answered { parser.new.answered ≡ parser.old.answered }
+    ensures fault { parser.new.fault ≡ parser.old.fault }
 {
     parser.take();
 }

@@ -22,4 +22,8 @@ pub steps-preserved : goal.steps-preserved
 steps-preserved c =
     let i = c.steps.invariant in
     let (stands, on) = c.in_ok-step.ensures.ok in
-    record { stands = stands; same = goes_same c.steps.self c.step.new.self on ∙ i.same }
+    record {
+      stands = stands;
+      same = goes_same c.steps.self c.step.new.self on ∙ i.same;
+      source = record { input = on.source.input ∙ i.source.input; setting = on.source.setting ∙ i.source.setting; started = on.source.started ∙ i.source.started };
+    }

@@ -17,6 +17,7 @@ returns-clause-stands c =
       levels = subst P (sym c.new-2.ensures) (narrow_none (length (text_bytes c.args.text) + 1));
       inside = λ k w lt. absurd (let bad = rw c.new.ensures.items at lt in omega (arith, bad));
       place = λ _. start_place (text_bytes c.args.text);
+      source = c.requires;
       shown = shown_start (text_bytes c.args.text) c.new.result.items c.new-2.result c.new.ensures.items c.new-2.ensures;
       spoken = λ k w lt. absurd (let bad = rw c.new.ensures.items at lt in omega (arith, bad));
     }

@@ -8,8 +8,8 @@ use Rattle.yaml_scan.proofs.FrontLemmas.{shown_popped}
 use Rattle.yaml_scan.proofs.PushLemmas.{spoken_rest}
 use Rattle.yaml_scan.proofs.machine.Machine.take_token.Goals as goal
 
-pub returns-in-Some-pop_front : goal.returns-in-Some-pop_front
-returns-in-Some-pop_front c =
+pub returns-in-Some-pop_front-clause-stands : goal.returns-in-Some-pop_front-clause-stands
+returns-in-Some-pop_front-clause-stands c =
     let m = c.args.self.now in
     let front = c.in-Some-pop_front.front in
     let rest = c.pop_front.new.self.items in
@@ -30,6 +30,7 @@ returns-in-Some-pop_front c =
       levels = c.requires.stands.levels;
       inside = inside_rest (length (text_bytes m.text)) front rest (subst Q items c.requires.stands.inside);
       place = c.requires.stands.place;
+      source = c.requires.stands.source;
       shown = shown_popped (fields_of m) m.waiting.items front rest c.requires.stands.shown refl refl items low;
       spoken = spoken_rest (stream_of m) front rest (subst (λ (ws : List Waiting). AreSpoken (stream_of m) ws) items c.requires.stands.spoken);
     }

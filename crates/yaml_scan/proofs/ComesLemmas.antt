@@ -79,7 +79,7 @@ front_entry m ws w rest s wait is =
     let here : get_or (entries h) (m.dropped + 0) w.entry ≡ w.entry = sym (get_or-drop m.dropped (entries h) 0 w.entry) ∙ ap (λ xs. get_or xs 0 w.entry) (sym s.waiting ∙ all) in
     (ap (λ k. get_or (entries h) k w.entry) (sym z) ∙ here, omega (arith, s.count, len))
 
-settled_end : (m : Fields) → IsShown m → m.ended ≡ true → m.settled ≡ length (read m.text m.dropped m.waiting)
+pub settled_end : (m : Fields) → IsShown m → m.ended ≡ true → m.settled ≡ length (read m.text m.dropped m.waiting)
 unfolding settled_in
 settled_end m s over = let e = sym s.ended ∙ over in s.settled ∙ rw e refl
 

@@ -9,5 +9,8 @@ pub mod MarkLemmas
 pub mod NextLemmas
 pub mod KindLemmas
 pub mod PushLemmas
+pub mod SpellLemmas
 pub mod FrontLemmas
+pub mod GivenLemmas
 pub mod ComesLemmas
+pub mod TakeLemmas

@@ -6,6 +6,7 @@ pub mod Stands
 pub mod Rising
 pub mod Given
 pub mod Shows
+pub mod Front
 pub mod Reads
 pub mod Comes
 pub mod Ending

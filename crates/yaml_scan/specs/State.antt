@@ -9,6 +9,7 @@ use Rattle.yaml_scan.specs.declared.waiting.Waiting.{Waiting}
 use Rattle.yaml_scan.specs.declared.next.Read.{Read}
 use Rattle.yaml_scan_layout.specs.Kinds.{is_end}
 use Rattle.yaml_scan.specs.Shows.{IsShown, fields_of, AreSpoken, stream_of}
+use Rattle.yaml_scan.specs.Front.{IsGiven}
 
 -- a place where a reader may stand
 pub record IsPlace (text : List ℕ) (m : yaml_mark_t) : Type 0 where
@@ -35,6 +36,7 @@ pub record IsMachine (m : Machine) : Type 0 where
   pub place : m.ended ≡ false → IsPlace (text_bytes m.text) m.place
   pub source : m.started ≡ true → decoded_text m.setting m.input.now ≡ Ok (text_bytes m.text)
   pub shown : IsShown (fields_of m)
+  pub given : IsGiven (fields_of m)
   pub spoken : AreSpoken (stream_of m) m.waiting.items
 
 abbrev pub ready_in : ℕ → ℕ → ℕ → List Waiting → Bool

@@ -55,6 +55,8 @@ impl<'a> Machine<'a> {
     ghost use Rattle.yaml_scan.specs.Reads.{MarksOwn, IsColumn, opens_for};
     ghost use Rattle.yaml_scan.specs.Comes.{to_come, Refused, Faults};
     ghost use Rattle.yaml_scan_layout.specs.Coming.{nothing};
+    ghost use Rattle.yaml_scan_forward.specs.Fronts.{Gives};
+    ghost use Rattle.yaml_scan_text.specs.Tokens.{token_of};
 
     pub(crate) fn new(alloc: Global, input: &'a [u8], setting: yaml_encoding_t) -> Machine<'a>
         ensures stands { IsMachine result }
@@ -164,16 +166,17 @@ impl<'a> Machine<'a> {
         }
     }
 
-    /// Takes the next token.
+    /// Takes the next token: it is the first one that was to come, and the rest is left.
     pub(crate) fn take_token(&mut self) -> yaml_token_t
         requires stands { IsMachine self.old }
         requires ready { is_ready self.old ≡ true }
         ensures stands { IsMachine self.new }
         ensures source { IsSame self.old self.new }
+        ensures gives { Gives (to_come self.old) (token_of result) (to_come self.new) }
     {
         if let Some(body) = self.waiting[0].before(self.given) {
             let mark = self.waiting[0].entry.lexeme.start;
-            self.given = self.given.saturating_add(1);
+            self.given += 1;
             return yaml_token_t {
                 body,
                 start_mark: mark,

@@ -1,6 +1,8 @@
 //! The lexemes that wait, and the tokens that they are spelled out in.
 
-ghost use Rattle.std.specs.Prelude.{◌≡◌, ◌≢◌, ◌<◌, ◌&&◌, ◌==◌, if◌then◌else◌, Some, None};
+ghost use Rattle.std.specs.Prelude.{◌≡◌, ◌&&◌, ◌==◌, if◌then◌else◌, Some, None, option_map};
+ghost use Rattle.yaml_scan_text.specs.Tokens.{body_of, token_of};
+ghost use Rattle.yaml_scan.specs.Front.{front_at, start_at, key_at};
 ghost use Rattle.yaml_scan_layout.specs.History as history;
 ghost use Rattle.yaml_scan.specs.Shows as shows;
 
@@ -50,34 +52,55 @@ impl Waiting {
 
     /// The token in front of its own one, where `given` tokens were taken: BLOCK-END tokens, a block start, KEY.
     pub(crate) fn before(&self, given: usize) -> Option<yaml_token_body_t>
-        ensures { given < self.now.entry.ends → result ≢ None }
+        ensures { option_map body_of result ≡ front_at self.now.entry given }
     {
         if given < self.entry.ends {
             return Some(yaml_token_body_t::BlockEnd);
         }
-        let (start, width) = match self.entry.opens {
-            Opens::Nothing => (None, 0),
-            Opens::Sequence => (Some(yaml_token_body_t::BlockSequenceStart), 1),
-            Opens::Mapping => (Some(yaml_token_body_t::BlockMappingStart), 1),
-        };
-        let rest = given - self.entry.ends;
-        if rest < width {
-            return start;
-        }
-        if self.entry.key && rest == width {
-            return Some(yaml_token_body_t::Key);
-        }
-        None
+        start_body(self.entry.opens, self.entry.key, given - self.entry.ends)
     }
 
     /// Its own token.
-    pub(crate) fn token(self) -> yaml_token_t {
+    pub(crate) fn token(self) -> yaml_token_t
+        ensures { token_of result ≡ record { body = body_of self.body; start_mark = self.entry.lexeme.start; end_mark = self.entry.lexeme.end } }
+    {
         yaml_token_t {
             body: self.body,
             start_mark: self.entry.lexeme.start,
             end_mark: self.entry.lexeme.end,
         }
     }
+}
+
+/// Behind so many tokens the block start, then KEY.
+fn start_body(opens: Opens, is_key: bool, taken: usize) -> Option<yaml_token_body_t>
+    ensures { option_map body_of result ≡ start_at opens is_key taken }
+{
+    match opens {
+        Opens::Nothing => key_body(is_key, taken),
+        Opens::Sequence => {
+            if taken == 0 {
+                return Some(yaml_token_body_t::BlockSequenceStart);
+            }
+            key_body(is_key, taken - 1)
+        }
+        Opens::Mapping => {
+            if taken == 0 {
+                return Some(yaml_token_body_t::BlockMappingStart);
+            }
+            key_body(is_key, taken - 1)
+        }
+    }
+}
+
+/// KEY in front of a key, where none was taken.
+fn key_body(is_key: bool, taken: usize) -> Option<yaml_token_body_t>
+    ensures { option_map body_of result ≡ key_at is_key taken }
+{
+    if is_key && taken == 0 {
+        return Some(yaml_token_body_t::Key);
+    }
+    None
 }
 
 /// What a lexeme says to one that looks back for the candidate of a depth.

@@ -139,7 +139,7 @@ keyed_ends l h es k e =
 same_ends : (a b c : Entry) → SameEnds a b → SameEnds b c → SameEnds a c
 same_ends a b c (e, f) (g, h) = (e ∙ g, f ∙ h)
 
-entries_ends : (l : Lexeme) (h : List Lexeme) (k : ℕ) (e : Entry) → k < length h → SameEnds (get_or (entries (l ∷ h)) k e) (get_or (entries h) k e)
+pub entries_ends : (l : Lexeme) (h : List Lexeme) (k : ℕ) (e : Entry) → k < length h → SameEnds (get_or (entries (l ∷ h)) k e) (get_or (entries h) k e)
 unfolding entries
 entries_ends l h k e low =
     let es = keyed l h (entries h) in

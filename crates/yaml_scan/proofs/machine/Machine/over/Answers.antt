@@ -1,8 +1,11 @@
 use Rattle.std.proofs.Common.{◌≡◌, ℕ, List, sym, ap, subst, arith, ◌+◌, length}
+use Rattle.std.specs.Prelude.{map}
 use Rattle.yaml_scan_decode.specs.DecodedText.{text_bytes}
 use Rattle.yaml_scan.specs.State.{IsNarrow}
 use Rattle.yaml_scan.proofs.SafeLemmas.{start_place, narrow_none}
 use Rattle.yaml_scan.proofs.FrontLemmas.{shown_start}
+use Rattle.yaml_scan.proofs.GivenLemmas.{given_none}
+use Rattle.yaml_scan.specs.declared.waiting.Waiting.{Waiting}
 use Rattle.yaml_scan.proofs.machine.Machine.over.Goals as goal
 
 pub returns-clause-stands : goal.returns-clause-stands
@@ -18,6 +21,7 @@ returns-clause-stands c =
       inside = λ k w lt. absurd (let bad = rw c.new.ensures.items at lt in omega (arith, bad));
       place = λ _. start_place (text_bytes c.args.text);
       source = c.requires;
+      given = given_none 0 0 (map (λ (x : Waiting). x.entry) c.new.result.items);
       shown = shown_start (text_bytes c.args.text) c.new.result.items c.new-2.result c.new.ensures.items c.new-2.ensures;
       spoken = λ k w lt. absurd (let bad = rw c.new.ensures.items at lt in omega (arith, bad));
     }

@@ -19,6 +19,7 @@ use Rattle.yaml_scan.proofs.SafeLemmas.{inside_push, depth_after-le, narrow_by}
 use Rattle.yaml_scan.proofs.KindLemmas.{ok_read}
 use Rattle.yaml_scan.proofs.MarkLemmas.{kept_entries}
 use Rattle.yaml_scan.proofs.PushLemmas.{IsPushed, marks_are, levels_is, entry_is, column_is, allowed_is, pending_by, shown_by, settled_value, read_pushed, spoken_marked, spoken_push, room_is}
+use Rattle.yaml_scan.proofs.GivenLemmas.{given_goes}
 use Rattle.yaml_scan.proofs.machine.Machine.step.Goals as goal
 
 pub settle-self-requires-clause-shown : goal.settle-self-requires-clause-shown
@@ -147,6 +148,8 @@ returns-clause-ok c =
     let q : IsPushed f l bs done = record { text = p.text; waiting = p.waiting; opens = p.opens; dropped = p.dropped; place = p.place; depth = p.depth; levels = p.levels; allowed = p.allowed; ended = p.ended } in
     let same = read_pushed f x l bs go c.requires.stands.shown e closes p in
     let now = settled_value x l h c.settle-self.result same c.is_end-self.ensures settled.value in
+    let shown_now = shown_by f done l bs go c.requires.stands.shown e closes q now in
+    let gives : d.given ≡ m.given = ap (λ (x : Machine). x.given) to_d ∙ ap (λ (x : Machine). x.given) to_b ∙ ap (λ (x : Machine). x.given) to_a in
     let inside_b : IfSome r.own (λ i. i < length b.waiting.items) = subst (λ (ws : List Waiting). IfSome r.own (λ i. i < length ws)) (sym waits) next.own in
     let old_spoken : AreSpoken (stream_of m) b.waiting.items = subst (λ (ws : List Waiting). AreSpoken (stream_of m) ws) (sym waits) c.requires.stands.spoken in
     let marked_spoken = spoken_marked (stream_of m) r.own l o b.waiting.items d.waiting.items inside_b c.mark_own.ensures.marks old_spoken in
@@ -169,8 +172,9 @@ returns-clause-ok c =
         inside = subst AtInside (sym len) all;
         place = λ e. subst Place (sym text) (next.place (sym c.is_end-self.ensures ∙ e));
         source = λ on. ap (λ (y : yaml_encoding_t). decoded_text y d.input.now) same_source.setting ∙ ap (λ t. decoded_text m.setting t) same_source.input ∙ c.requires.stands.source (sym same_source.started ∙ on) ∙ ap Ok (sym text);
-        shown = shown_by f done l bs go c.requires.stands.shown e closes q now;
+        shown = shown_now;
+        given = given_goes f done l c.requires.stands.shown shown_now go e same drops gives (omega (arith, settles, settled.low)) c.requires.stands.given;
         spoken = subst (λ (s : Stream). AreSpoken s c.push_back.new.self.items) (sym stream) all_spoken;
       },
-      record { text = texts; dropped = drops; further = more; given = ap (λ (x : Machine). x.given) to_d ∙ ap (λ (x : Machine). x.given) to_b ∙ ap (λ (x : Machine). x.given) to_a; encoding = codes; source = record { input = same_source.input; setting = same_source.setting; started = same_source.started } },
+      record { text = texts; dropped = drops; further = more; given = gives; encoding = codes; source = record { input = same_source.input; setting = same_source.setting; started = same_source.started } },
     )

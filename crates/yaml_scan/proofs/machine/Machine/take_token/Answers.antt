@@ -1,12 +1,46 @@
-use Rattle.std.proofs.Common.{◌≡◌, ◌<◌, List, ◌∷◌, sym, ap, subst, ◌∙◌, arith, ◌+◌, length, get_or, true, refl}
+use Rattle.std.proofs.Common.{◌≡◌, ◌<◌, List, ◌∷◌, sym, ap, subst, ◌∙◌, arith, ◌+◌, length, get_or, true, refl, Some, None}
+use Rattle.std.specs.Prelude.{map, option_map}
 use Rattle.yaml_scan_decode.specs.DecodedText.{text_bytes}
+use Rattle.yaml_scan_text.specs.Tokens.{Token, TokenBody, body_of, token_of}
+use Rattle.yaml_scan_layout.specs.Coming.{coming, before, body_in, token_in}
 use Rattle.yaml_scan.specs.declared.waiting.Waiting.{Waiting}
 use Rattle.yaml_scan.specs.State.{ready_in, AreInside}
 use Rattle.yaml_scan.proofs.SafeLemmas.{inside_rest, none_left, known_settled}
 use Rattle.yaml_scan.specs.Shows.{fields_of, stream_of, AreSpoken}
+use Rattle.yaml_scan.specs.Front.{front_at}
 use Rattle.yaml_scan.proofs.FrontLemmas.{shown_popped}
 use Rattle.yaml_scan.proofs.PushLemmas.{spoken_rest}
+use Rattle.yaml_scan.proofs.GivenLemmas.{given_none, own_settled}
+use Rattle.yaml_scan.proofs.TakeLemmas.{front_waits, gives_front, gives_own, given_room, stands_more}
 use Rattle.yaml_scan.proofs.machine.Machine.take_token.Goals as goal
+
+pub overflow_add-self : goal.overflow_add-self
+overflow_add-self c =
+    let m = c.args.self.now in
+    let w = c.index.result.now in
+    let (rest, items) = front_waits m w c.requires.ready c.index.ensures in
+    let some : front_at w.entry m.given ≡ Some (body_of c.in-Some.body) = sym c.before-2.ensures ∙ ap (option_map body_of) c.in-Some.is in
+    let room = given_room m w rest (body_of c.in-Some.body) c.requires.stands items some in
+    omega (arith, room)
+
+pub returns-in-Some-clause-stands : goal.returns-in-Some-clause-stands
+returns-in-Some-clause-stands c =
+    let m = c.args.self.now in
+    let w = c.index.result.now in
+    let (rest, items) = front_waits m w c.requires.ready c.index.ensures in
+    let some : front_at w.entry m.given ≡ Some (body_of c.in-Some.body) = sym c.before-2.ensures ∙ ap (option_map body_of) c.in-Some.is in
+    stands_more m w rest (body_of c.in-Some.body) c.requires.stands items c.requires.ready some
+
+pub returns-in-Some-clause-gives : goal.returns-in-Some-clause-gives
+returns-in-Some-clause-gives c =
+    let m = c.args.self.now in
+    let w = c.index.result.now in
+    let b = body_of c.in-Some.body in
+    let (rest, items) = front_waits m w c.requires.ready c.index.ensures in
+    let some : front_at w.entry m.given ≡ Some b = sym c.before-2.ensures ∙ ap (option_map body_of) c.in-Some.is in
+    let same : c.index-in-Some.result.now ≡ w = c.index-in-Some.ensures ∙ ap (λ (ws : List Waiting). get_or ws 0 c.index-in-Some.result.now) items in
+    let (tokens, fault) = gives_front m w rest b c.requires.stands items c.requires.ready some in
+    (tokens ∙ ap (λ (x : Waiting). before b x.entry.lexeme ∷ (coming (stream_of m) m.dropped (m.given + 1)).tokens) (sym same), fault)
 
 pub returns-in-Some-pop_front-clause-stands : goal.returns-in-Some-pop_front-clause-stands
 returns-in-Some-pop_front-clause-stands c =
@@ -15,10 +49,9 @@ returns-in-Some-pop_front-clause-stands c =
     let rest = c.pop_front.new.self.items in
     let items : m.waiting.items ≡ front ∷ rest = c.in-Some-pop_front.ensures.items in
     let here : c.index.result.now ≡ front = c.index.ensures ∙ ap (λ (ws : List Waiting). get_or ws 0 c.index.result.now) items in
+    let none : front_at front.entry m.given ≡ None = ap (λ (w : Waiting). front_at w.entry m.given) (sym here) ∙ sym c.before-2.ensures ∙ ap (option_map body_of) (none_left c.before-2.result c.in_default.not-Some) in
     let ready : ready_in m.dropped m.settled m.given (front ∷ rest) ≡ true = ap (λ (ws : List Waiting). ready_in m.dropped m.settled m.given ws) (sym items) ∙ c.requires.ready in
-    let P : Waiting → Type 0 = λ w. (m.given < w.entry.ends → ⊥) in
-    let past : m.given < front.entry.ends → ⊥ = subst P here (λ more. c.before-2.ensures more (none_left c.before-2.result c.in_default.not-Some)) in
-    let low = known_settled m.dropped m.settled m.given front rest ready past in
+    let low = own_settled m.dropped m.settled m.given front rest ready none in
     let len : length m.waiting.items ≡ length rest + 1 = ap (λ (ws : List Waiting). length ws) items ∙ omega arith in
     let Q : List Waiting → Type 0 = λ ws. AreInside (length (text_bytes m.text)) ws in
     record {
@@ -32,5 +65,21 @@ returns-in-Some-pop_front-clause-stands c =
       place = c.requires.stands.place;
       source = c.requires.stands.source;
       shown = shown_popped (fields_of m) m.waiting.items front rest c.requires.stands.shown refl refl items low;
+      given = given_none (m.dropped + 1) m.settled (map (λ (x : Waiting). x.entry) rest);
       spoken = spoken_rest (stream_of m) front rest (subst (λ (ws : List Waiting). AreSpoken (stream_of m) ws) items c.requires.stands.spoken);
     }
+
+pub returns-in-Some-pop_front-clause-gives : goal.returns-in-Some-pop_front-clause-gives
+returns-in-Some-pop_front-clause-gives c =
+    let m = c.args.self.now in
+    let front = c.in-Some-pop_front.front in
+    let rest = c.pop_front.new.self.items in
+    let items : m.waiting.items ≡ front ∷ rest = c.in-Some-pop_front.ensures.items in
+    let here : c.index.result.now ≡ front = c.index.ensures ∙ ap (λ (ws : List Waiting). get_or ws 0 c.index.result.now) items in
+    let none : front_at front.entry m.given ≡ None = ap (λ (w : Waiting). front_at w.entry m.given) (sym here) ∙ sym c.before-2.ensures ∙ ap (option_map body_of) (none_left c.before-2.result c.in_default.not-Some) in
+    let ready : ready_in m.dropped m.settled m.given (front ∷ rest) ≡ true = ap (λ (ws : List Waiting). ready_in m.dropped m.settled m.given ws) (sym items) ∙ c.requires.ready in
+    let low = own_settled m.dropped m.settled m.given front rest ready none in
+    let spoken : body_of front.body ≡ body_in (stream_of m) front.entry.lexeme = subst (λ (ws : List Waiting). AreSpoken (stream_of m) ws) items c.requires.stands.spoken 0 front (omega arith) in
+    let own : token_in (stream_of m) front.entry.lexeme ≡ token_of c.token.result = ap (λ (b : TokenBody). record { body = b; start_mark = front.entry.lexeme.start; end_mark = front.entry.lexeme.end }) (sym spoken) ∙ sym c.token.ensures in
+    let (tokens, fault) = gives_own m front rest c.requires.stands items low none in
+    (tokens ∙ ap (λ (t : Token). t ∷ (coming (stream_of m) (m.dropped + 1) 0).tokens) own, fault)

@@ -1,0 +1,168 @@
+-- What a token that is taken leaves to come.
+use Rattle.std.proofs.Common.{◌≡◌, ℕ, ◌+◌, ◌-◌, ◌<◌, ◌≤◌, true, false, cond, ltb, List, [], ◌∷◌, length, get_or, Some, None, refl, sym, ap, subst, ◌∙◌, inl, inr, ◌⊎◌, arith, ◌^◌}
+use Rattle.std.proofs.lemmas.Bool.{cases_Bool, cases_lt}
+use Rattle.std.proofs.lemmas.Bool.Decides.{nat_tests}
+use Rattle.std.proofs.lemmas.List.{length-map}
+use Rattle.std.specs.Prelude.{map}
+use Rattle.yaml_scan_text.specs.Tokens.{Token, TokenBody, block_end, no_token}
+use Rattle.yaml_scan_decode.specs.DecodedText.{text_bytes}
+use Rattle.yaml_scan_layout.specs.declared.lexeme.Lexeme.{Lexeme}
+use Rattle.yaml_scan_layout.specs.declared.lexeme.Entry.{Entry}
+use Rattle.yaml_scan_layout.specs.History.{entries, first_open}
+use Rattle.yaml_scan_layout.specs.Next.{Ends, next, history}
+use Rattle.yaml_scan_layout.specs.Coming.{Stream, Coming, coming, spell, before, token_in}
+use Rattle.yaml_scan_forward.specs.Fronts.{Gives}
+use Rattle.yaml_scan_forward.proofs.ComingForward.{settled_comes, last_comes, ends_token}
+use Rattle.yaml_scan.specs.declared.machine.Machine.{Machine}
+use Rattle.yaml_scan.specs.declared.waiting.Waiting.{Waiting}
+use Rattle.yaml_scan.specs.State.{IsMachine, is_ready, ready_in}
+use Rattle.yaml_scan.specs.Shows.{Fields, fields_of, IsShown, read, history_of, stream_of}
+use Rattle.yaml_scan.specs.Front.{front_at, front_count, fronted, given_in}
+use Rattle.yaml_scan.specs.Comes.{to_come}
+use Rattle.yaml_scan.proofs.MarkLemmas.{next_ended}
+use Rattle.yaml_scan.proofs.NextLemmas.{settled_first}
+use Rattle.yaml_scan.proofs.ComesLemmas.{settled_end}
+use Rattle.yaml_scan.proofs.SafeLemmas.{known_settled}
+use Rattle.yaml_scan.proofs.SpellLemmas.{spell_length, spell_token, front_count-le}
+use Rattle.yaml_scan.proofs.FrontLemmas.{shown_given}
+use Rattle.yaml_scan.proofs.GivenLemmas.{front_is, given_few, given_more, front_room, front_done, ends_few}
+
+-- no later lexeme changes it, or there is none
+abbrev IsKnown : List ℕ → List Lexeme → ℕ → Type 0
+IsKnown text h k = (k < first_open h h) ⊎ ((next text h ≡ Ends) × (k < length h))
+
+known_by : (m : Fields) → IsShown m → m.dropped < m.settled → IsKnown m.text (read m.text m.dropped m.waiting) m.dropped
+known_by m s low =
+    let h = read m.text m.dropped m.waiting in
+    elim (cases_Bool m.ended) [
+      | inl over ↦ let all = settled_end m s over in inr (next_ended m.text h (sym s.ended ∙ over), omega (arith, all, low))
+      | inr more ↦ let first = settled_first m s more in inl (omega (arith, first, low))
+    ]
+
+token_gives : (s : Stream) (n k given : ℕ) (e : Entry) (t : Token) → IsKnown s.text (history s.text n) k → let x = get_or (entries (history s.text n)) k e in
+    (given < length (spell s x) → Gives (coming s k given) (get_or (spell s x) given t) (coming s k (given + 1))) × (given ≡ length (spell s x) → coming s k given ≡ coming s (k + 1) 0)
+token_gives s n k given e t (inl low) = settled_comes s n k given e t low
+token_gives s n k given e t (inr (over, low)) = last_comes s n k given e t over low
+
+-- a lexeme that is known gives its tokens
+settled_front : (m : Machine) (e : Entry) (es : List Entry) → IsMachine m → (fields_of m).waiting ≡ e ∷ es → m.dropped < m.settled → m.given ≤ front_count e
+    → Gives (to_come m) (fronted (stream_of m) e.lexeme (front_at e m.given)) (coming (stream_of m) m.dropped (m.given + 1))
+    × (front_at e m.given ≡ None → coming (stream_of m) m.dropped (m.given + 1) ≡ coming (stream_of m) (m.dropped + 1) 0)
+unfolding read
+settled_front m e es i wait low few =
+    let f = fields_of m in
+    let s = stream_of m in
+    let n : ℕ = m.dropped + length f.waiting in
+    let h = history_of m in
+    let (here, inside) = front_is f e es e i.shown wait in
+    let known = known_by f i.shown low in
+    let (now, end) = token_gives s n m.dropped m.given e no_token known in
+    let (more, done) = token_gives s n m.dropped (m.given + 1) e no_token known in
+    let long : length (spell s (get_or (entries h) m.dropped e)) ≡ front_count e + 1 = ap (λ x. length (spell s x)) here ∙ spell_length s e in
+    let is : get_or (spell s (get_or (entries h) m.dropped e)) m.given no_token ≡ fronted s e.lexeme (front_at e m.given) = ap (λ x. get_or (spell s x) m.given no_token) here ∙ spell_token s e m.given no_token few in
+    let (tokens, fault) = now (omega (arith, long, few)) in (
+      (tokens ∙ ap (λ t. t ∷ (coming s m.dropped (m.given + 1)).tokens) is, fault),
+      λ none. let past = front_done e m.given none in done (omega (arith, long, few, past)),
+    )
+
+-- the levels that the first lexeme closes come first
+ends_front : (m : Machine) (e : Entry) (es : List Entry) → IsMachine m → (fields_of m).waiting ≡ e ∷ es → m.ended ≡ false → m.given < e.ends
+    → Gives (to_come m) (before block_end e.lexeme) (coming (stream_of m) m.dropped (m.given + 1))
+unfolding read
+ends_front m e es i wait more few =
+    let f = fields_of m in
+    let s = stream_of m in
+    let n : ℕ = m.dropped + length f.waiting in
+    let h = history_of m in
+    let (here, inside) = front_is f e es e i.shown wait in
+    let first = settled_first f i.shown more in
+    let count : (get_or (entries h) m.dropped e).ends ≡ e.ends = ap (λ (x : Entry). x.ends) here in
+    let (tokens, fault) = ends_token s n m.dropped m.given e (omega (arith, first, i.taken)) inside (omega (arith, count, few)) in
+    (tokens ∙ ap (λ (x : Entry). before block_end x.lexeme ∷ (coming s m.dropped (m.given + 1)).tokens) here, fault)
+
+-- the token in front of the first lexeme is what comes
+pub gives_front : (m : Machine) (w : Waiting) (rest : List Waiting) (b : TokenBody) → IsMachine m → m.waiting.items ≡ w ∷ rest → is_ready m ≡ true → front_at w.entry m.given ≡ Some b
+    → Gives (to_come m) (before b w.entry.lexeme) (coming (stream_of m) m.dropped (m.given + 1))
+gives_front m w rest b i items ready some =
+    let f = fields_of m in
+    let s = stream_of m in
+    let wait : f.waiting ≡ w.entry ∷ map (λ (x : Waiting). x.entry) rest = ap (λ ws. map (λ (x : Waiting). x.entry) ws) items in
+    let after : Coming = coming s m.dropped (m.given + 1) in
+    let few = given_few m.dropped m.settled m.given w.entry (map (λ (x : Waiting). x.entry) rest) (subst (λ es. given_in m.dropped m.settled m.given es) wait i.given) in
+    elim (cases_lt m.dropped m.settled) [
+      | inl low ↦
+          let ((tokens, fault), done) = settled_front m w.entry (map (λ (x : Waiting). x.entry) rest) i wait low few in
+          (tokens ∙ ap (λ o. fronted s w.entry.lexeme o ∷ after.tokens) some, fault)
+      | inr high ↦
+          let first : ready_in m.dropped m.settled m.given (w ∷ rest) ≡ true = ap (λ (ws : List Waiting). ready_in m.dropped m.settled m.given ws) (sym items) ∙ ready in
+          elim (cases_lt m.given w.entry.ends) [
+            | inr past ↦ let low = known_settled m.dropped m.settled m.given w rest first (λ more. omega (arith, more, past)) in absurd (omega (arith, low, high))
+            | inl fewer ↦
+                let t : ltb m.given w.entry.ends ≡ true = grind (arith, nat_tests) in
+                let is : Some block_end ≡ Some b = rw t at some in
+                let same : block_end ≡ b = cc in
+                let open_end : m.ended ≡ false = elim (cases_Bool m.ended) [
+                  | inr more ↦ more
+                  | inl over ↦ let all = settled_end f i.shown over in let (here, inside) = front_is f w.entry (map (λ (x : Waiting). x.entry) rest) w.entry i.shown wait in absurd (omega (arith, all, inside, high))
+                ] in
+                let (tokens, fault) = ends_front m w.entry (map (λ (x : Waiting). x.entry) rest) i wait open_end fewer in
+                (tokens ∙ ap (λ x. before x w.entry.lexeme ∷ after.tokens) same, fault)
+          ]
+    ]
+
+-- the first lexeme's own token is what comes, and then the next one's do
+pub gives_own : (m : Machine) (w : Waiting) (rest : List Waiting) → IsMachine m → m.waiting.items ≡ w ∷ rest → m.dropped < m.settled → front_at w.entry m.given ≡ None
+    → Gives (to_come m) (token_in (stream_of m) w.entry.lexeme) (coming (stream_of m) (m.dropped + 1) 0)
+gives_own m w rest i items low none =
+    let s = stream_of m in
+    let wait : (fields_of m).waiting ≡ w.entry ∷ map (λ (x : Waiting). x.entry) rest = ap (λ ws. map (λ (x : Waiting). x.entry) ws) items in
+    let few = given_few m.dropped m.settled m.given w.entry (map (λ (x : Waiting). x.entry) rest) (subst (λ es. given_in m.dropped m.settled m.given es) wait i.given) in
+    let ((tokens, fault), done) = settled_front m w.entry (map (λ (x : Waiting). x.entry) rest) i wait low few in
+    let next = done none in (
+      tokens ∙ ap (λ o. fronted s w.entry.lexeme o ∷ (coming s m.dropped (m.given + 1)).tokens) none ∙ ap (λ (c : Coming). token_in s w.entry.lexeme ∷ c.tokens) next,
+      fault ∙ ap (λ (c : Coming). c.fault) next,
+    )
+
+-- so few tokens stand in front of a lexeme
+pub given_room : (m : Machine) (w : Waiting) (rest : List Waiting) (b : TokenBody) → IsMachine m → m.waiting.items ≡ w ∷ rest → front_at w.entry m.given ≡ Some b → m.given < 2 ^ 64 - 1
+given_room m w rest b i items some =
+    let f = fields_of m in
+    let wait : f.waiting ≡ w.entry ∷ map (λ (x : Waiting). x.entry) rest = ap (λ ws. map (λ (x : Waiting). x.entry) ws) items in
+    let (here, inside) = front_is f w.entry (map (λ (x : Waiting). x.entry) rest) w.entry i.shown wait in
+    let few = ends_few (history_of m) m.dropped w.entry inside in
+    let ends : (get_or (entries (history_of m)) m.dropped w.entry).ends ≡ w.entry.ends = ap (λ (x : Entry). x.ends) here in
+    let long = length-map m.waiting.items (λ (x : Waiting). x.entry) in
+    let room = front_room w.entry m.given b some in
+    let two = front_count-le w.entry in
+    omega (arith, few, ends, long, room, two, i.shown.count, i.few, i.long)
+
+first_waits : (d s g : ℕ) (ws : List Waiting) → ready_in d s g ws ≡ true → (w : Waiting) × (rest : List Waiting) × (ws ≡ w ∷ rest)
+first_waits d s g [] e = cc
+first_waits d s g (w ∷ ws) e = (w, ws, refl)
+
+-- what waits first
+pub front_waits : (m : Machine) (x : Waiting) → is_ready m ≡ true → x ≡ get_or m.waiting.items 0 x → (rest : List Waiting) × (m.waiting.items ≡ x ∷ rest)
+front_waits m x ready here =
+    let (w, rest, items) = first_waits m.dropped m.settled m.given m.waiting.items ready in
+    let is : x ≡ w = here ∙ ap (λ (ws : List Waiting). get_or ws 0 x) items in
+    (rest, items ∙ ap (λ (y : Waiting). y ∷ rest) (sym is))
+
+-- the state where one more of the tokens in front is taken
+pub stands_more : (m : Machine) (w : Waiting) (rest : List Waiting) (b : TokenBody) → IsMachine m → m.waiting.items ≡ w ∷ rest → is_ready m ≡ true → front_at w.entry m.given ≡ Some b → IsMachine record m { given = m.given + 1 }
+stands_more m w rest b i items ready some =
+    let wait : (fields_of m).waiting ≡ w.entry ∷ map (λ (x : Waiting). x.entry) rest = ap (λ ws. map (λ (x : Waiting). x.entry) ws) items in
+    let first : ready_in m.dropped m.settled m.given (w ∷ rest) ≡ true = ap (λ (ws : List Waiting). ready_in m.dropped m.settled m.given ws) (sym items) ∙ ready in
+    record {
+      long = i.long;
+      few = i.few;
+      taken = i.taken;
+      settled = i.settled;
+      depth = i.depth;
+      levels = i.levels;
+      inside = i.inside;
+      place = i.place;
+      source = i.source;
+      shown = shown_given (fields_of m) (m.given + 1) i.shown;
+      given = subst (λ es. given_in m.dropped m.settled (m.given + 1) es) (sym wait) (given_more m.dropped m.settled m.given w rest (map (λ (x : Waiting). x.entry) rest) b first some);
+      spoken = i.spoken;
+    }

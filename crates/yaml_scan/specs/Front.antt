@@ -1,0 +1,49 @@
+-- The tokens that stand in front of a lexeme's own one: BLOCK-END, a block start, KEY.
+use Rattle.std.specs.Prelude.{ℕ, ◌+◌, ◌-◌, ◌≡◌, ◌<◌, ◌≤◌, ◌==◌, ◌&&◌, ◌⊎◌, nat_lt, if◌then◌else◌, Bool, true, false, List, [], ◌∷◌, Option, Some, None}
+use Rattle.yaml_scan_text.specs.Tokens.{Token, TokenBody, block_end, block_sequence_start, block_mapping_start, key}
+use Rattle.yaml_scan_layout.specs.declared.lexeme.Lexeme.{Lexeme}
+use Rattle.yaml_scan_layout.specs.declared.lexeme.Entry.{Entry}
+use Rattle.yaml_scan_layout.specs.declared.lexeme.Opens.{Opens}
+use Rattle.yaml_scan_layout.specs.declared.lexeme.Opens.TheVariants as opening
+use Rattle.yaml_scan_layout.specs.Coming.{Stream, before, token_in}
+use Rattle.yaml_scan.specs.Shows.{Fields}
+
+abbrev pub key_at : Bool → ℕ → Option TokenBody
+key_at is_key n = if is_key && n == 0 then Some key else None
+
+-- the block start, then KEY
+abbrev pub start_at : Opens → Bool → ℕ → Option TokenBody
+start_at opening.Nothing is_key n = key_at is_key n
+start_at opening.Sequence is_key n = if n == 0 then Some block_sequence_start else key_at is_key (n - 1)
+start_at opening.Mapping is_key n = if n == 0 then Some block_mapping_start else key_at is_key (n - 1)
+
+-- the token in front of a lexeme's own one behind so many of its tokens
+abbrev pub front_at : Entry → ℕ → Option TokenBody
+front_at e given = if nat_lt given e.ends then Some block_end else start_at e.opens e.key (given - e.ends)
+
+abbrev pub start_count : Opens → ℕ
+start_count opening.Nothing = 0
+start_count opening.Sequence = 1
+start_count opening.Mapping = 1
+
+abbrev pub key_count : Bool → ℕ
+key_count true = 1
+key_count false = 0
+
+-- how many tokens stand in front of a lexeme's own one
+abbrev pub front_count : Entry → ℕ
+front_count e = e.ends + (start_count e.opens + key_count e.key)
+
+-- that token, or the own one
+abbrev pub fronted : Stream → Lexeme → Option TokenBody → Token
+fronted s l None = token_in s l
+fronted s l (Some b) = before b l
+
+-- What is taken of the first lexeme that waits: levels that it closes, or what else stands in front of it where it is
+-- settled.
+abbrev pub given_in : ℕ → ℕ → ℕ → List Entry → Type 0
+given_in dropped settled given [] = given ≡ 0
+given_in dropped settled given (e ∷ es) = (given ≤ e.ends) ⊎ ((dropped < settled) × (given ≤ front_count e))
+
+abbrev pub IsGiven : Fields → Type 0
+IsGiven m = given_in m.dropped m.settled m.given m.waiting

@@ -1,6 +1,6 @@
 -- Where a machine stops.
-use Rattle.std.proofs.Common.{◌≡◌, ℕ, ◌+◌, ◌<◌, ◌≤◌, true, false, ltb, List, [], ◌∷◌, length, get_or, Result, Ok, Err, refl, sym, ap, ◌∙◌, inl, inr, ◌⊎◌, arith, Some}
-use Rattle.std.proofs.lemmas.Bool.{cases_lt}
+use Rattle.std.proofs.Common.{◌≡◌, ℕ, ◌+◌, ◌<◌, ◌≤◌, true, false, ltb, List, [], ◌∷◌, length, get_or, Result, Ok, Err, refl, sym, ap, subst, ◌∙◌, inl, inr, ◌⊎◌, arith, Some}
+use Rattle.std.proofs.lemmas.Bool.{cases_Bool, cases_lt}
 use Rattle.std.proofs.lemmas.Bool.Decides.{nat_tests}
 use Rattle.std.proofs.lemmas.List.{length-map, get_or-drop}
 use Rattle.std.specs.Prelude.{map, IfErr, option_map}
@@ -13,16 +13,19 @@ use Rattle.yaml_scan_decode.specs.DecodedText.{text_bytes, decoding_fault}
 use Rattle.yaml_scan_decode.specs.Decoding.{decoded_characters, in_utf8}
 use Rattle.yaml_scan_decode.specs.declared.offence.Offence.{Offence}
 use Rattle.yaml_scan_decode.specs.Offences.{reader_fault}
-use Rattle.yaml_scan_text.specs.declared.fault.yaml_origin_t.TheVariants.{Scanner, Reader}
+use Rattle.yaml_scan_text.specs.declared.fault.yaml_origin_t.TheVariants.{Reader}
 use Rattle.yaml_scan_text.specs.Faults.{Fault, memory_fault}
 use Rattle.std.specs.Result.{result_err}
-use Rattle.yaml_scan.specs.Ending.{ending, ending_of, IsTold, IsLocated}
+use Rattle.yaml_scan_decode.specs.Encodings.{encoding_of}
+use Rattle.yaml_scan_text.specs.Tokens.{Token}
+use Rattle.yaml_scan_forward.specs.Fronts.{Gives}
+use Rattle.yaml_scan.specs.Scanned.{scanned, scanned_in, left_in, left_from, IsTold, IsLocated}
 use Rattle.yaml_scan_layout.specs.declared.lexeme.Entry.{Entry}
 use Rattle.yaml_scan_layout.specs.History.{entries, first_open}
 use Rattle.yaml_scan_layout.specs.Next.{Next, Read, Fails, Ends, next}
-use Rattle.yaml_scan_layout.specs.Coming.{Coming, coming, nothing, all, fault_in}
+use Rattle.yaml_scan_layout.specs.Coming.{Coming, coming, nothing}
 use Rattle.yaml_scan_layout.proofs.HistoryLemmas.{length-entries, first_open-le}
-use Rattle.yaml_scan_forward.proofs.ComingForward.{fault_is, fault_comes, end_comes, front_count, front_none}
+use Rattle.yaml_scan_forward.proofs.ComingForward.{fault_comes, end_comes, front_count, front_none}
 use Rattle.yaml_scan.specs.declared.machine.Machine.{Machine}
 use Rattle.yaml_scan.specs.declared.waiting.Waiting.{Waiting}
 use Rattle.yaml_scan.specs.declared.next.Read.{Read as Answer}
@@ -126,23 +129,42 @@ fault_machine m (errors.Fault p) i stuck more r =
           ap (λ k. coming (stream_of m) k m.given) (sym at) ∙ fault_comes (stream_of m) n p m.given r (omega (arith, count, ends, few))
     ]
 
--- the fault of what is to come is that of the text
-fault_of_text : (m : Machine) (p : ScanFault) → to_come m ≡ record { tokens = []; fault = Some (scanner_fault p) } → fault_in (next (text_bytes m.text) (all (text_bytes m.text))) ≡ Some (scanner_fault p)
-fault_of_text m p e = sym (fault_is (stream_of m) m.dropped m.given) ∙ ap (λ (c : Coming). c.fault) e
+-- behind the first look all that is left is to come
+pub left_is : (m : Machine) → m.started ≡ true → left_in m ≡ to_come m
+left_is m on = ap (λ b. left_from b (to_come m) (scanned m.setting m.input.now)) on
+
+pub left_whole : (m : Machine) → m.started ≡ false → left_in m ≡ scanned m.setting m.input.now
+left_whole m off = ap (λ b. left_from b (to_come m) (scanned m.setting m.input.now)) off
+
+pub left_gives : (old new : Machine) (t : Token) → old.started ≡ true → new.started ≡ true → Gives (to_come old) t (to_come new) → Gives (left_in old) t (left_in new)
+left_gives old new t on still (tokens, fault) =
+    let a = left_is old on in
+    let b = left_is new still in (
+      ap (λ (c : Coming). c.tokens) a ∙ tokens ∙ ap (λ (c : Coming). t ∷ c.tokens) (sym b),
+      ap (λ (c : Coming). c.fault) a ∙ fault ∙ ap (λ (c : Coming). c.fault) (sym b),
+    )
+
+-- before the input is decoded no token is known
+pub ready_started : (m : Machine) → IsMachine m → is_ready m ≡ true → m.started ≡ true
+ready_started m i ready =
+    elim (cases_Bool m.started) [
+      | inl on ↦ on
+      | inr off ↦ let bad : false ≡ true = ap (λ (ws : List Waiting). ready_in m.dropped m.settled m.given ws) (sym (i.begun off)) ∙ ready in cc
+    ]
 
 -- the fault that a machine tells
-pub told_fault : (m : Machine) (p : ScanFault) (f : Fault) → IsMachine m → m.started ≡ true → to_come m ≡ record { tokens = []; fault = Some (scanner_fault p) } → f ≡ scanner_fault p → IsTold (ending m.setting m.input.now) f
-told_fault m p f i on e is = inr (ap ending_of (i.source on) ∙ fault_of_text m p e ∙ ap Some (sym is))
+pub told_error : (m : Machine) (e : ScanError) (f : Fault) → m.started ≡ true → Faults e (to_come m) → IsLocated e f → IsTold (left_in m) f
+told_error m errors.Memory f on c is = inl (inl is)
+told_error m (errors.Fault p) f on c is =
+    let all : left_in m ≡ record { tokens = []; fault = Some (scanner_fault p) } = left_is m on ∙ c in
+    inr (ap (λ (x : Coming). x.tokens) all, ap (λ (x : Coming). x.fault) all ∙ ap Some (sym is))
 
-offence_told : (r : Result (List ℕ) Offence) (f : Fault) → option_map reader_fault (result_err r) ≡ Some f → ending_of (in_utf8 r) ≡ Some f
-offence_told (Ok cs) f e = cc
-offence_told (Err o) f e = e
+offence_told : (encoding : yaml_encoding_t) (r : Result (List ℕ) Offence) (f : Fault) → option_map reader_fault (result_err r) ≡ Some f → IsTold (scanned_in encoding (in_utf8 r)) f
+offence_told encoding (Ok cs) f e = cc
+offence_told encoding (Err o) f e = inr (refl, e)
 
 -- the fault that decoding tells
-pub told_decoding : (setting : yaml_encoding_t) (bytes : List ℕ) (f : Fault) → (f ≡ memory_fault Reader) ⊎ (decoding_fault setting bytes ≡ Some f) → IsTold (ending setting bytes) f
-told_decoding setting bytes f (inl memory) = inl (inr memory)
-told_decoding setting bytes f (inr fault) = inr (offence_told (decoded_characters setting bytes) f fault)
-
-pub told_error : (m : Machine) (e : ScanError) (f : Fault) → IsMachine m → m.started ≡ true → Faults e (to_come m) → IsLocated e f → IsTold (ending m.setting m.input.now) f
-told_error m errors.Memory f i on c is = inl (inl is)
-told_error m (errors.Fault p) f i on c is = told_fault m p f i on c is
+pub told_decoding : (m : Machine) (f : Fault) → m.started ≡ false → (f ≡ memory_fault Reader) ⊎ (decoding_fault m.setting m.input.now ≡ Some f) → IsTold (left_in m) f
+told_decoding m f off (inl memory) = inl (inr memory)
+told_decoding m f off (inr fault) =
+    subst (λ (c : Coming). IsTold c f) (sym (left_whole m off)) (offence_told (encoding_of m.setting m.input.now) (decoded_characters m.setting m.input.now) f fault)

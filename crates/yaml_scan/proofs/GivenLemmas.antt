@@ -1,7 +1,6 @@
 -- What is taken of the first lexeme that waits, and how many levels a lexeme closes.
-use Rattle.std.proofs.Common.{◌≡◌, ℕ, zero, suc, ◌+◌, ◌-◌, ◌<◌, ◌≤◌, Bool, true, false, ◌&&◌, not, ltb, leb, List, [], ◌∷◌, ◌++◌, length, take, drop, get_or, Option, Some, None, refl, sym, ap, subst, ◌∙◌, inl, inr, ◌⊎◌, arith, length-append}
+use Rattle.std.proofs.Common.{◌≡◌, ℕ, suc, ◌+◌, ◌-◌, ◌<◌, ◌≤◌, Bool, true, false, ◌&&◌, not, ltb, leb, List, [], ◌∷◌, length, take, get_or, Some, None, refl, sym, ap, subst, ◌∙◌, inl, inr, arith, length-append}
 use Rattle.std.proofs.lemmas.Bool.{cases_Bool, cases_lt}
-use Rattle.std.proofs.lemmas.Bool.Decides.{nat_tests}
 use Rattle.std.proofs.lemmas.List.{get_or-append_right, get_or-drop, get_or-take}
 use Rattle.std.specs.Prelude.{filter}
 use Rattle.yaml_scan_text.specs.Tokens.{TokenBody}
@@ -9,7 +8,7 @@ use Rattle.yaml_scan_layout.specs.declared.kind.Kind.{Kind}
 use Rattle.yaml_scan_layout.specs.declared.lexeme.Lexeme.{Lexeme}
 use Rattle.yaml_scan_layout.specs.declared.lexeme.Entry.{Entry}
 use Rattle.yaml_scan_layout.specs.Kinds.{is_start}
-use Rattle.yaml_scan_layout.specs.History.{entries, first_open, levels, left_by, keeps, opened, opens_at, found_by, inside, indent, keyed, entry_of}
+use Rattle.yaml_scan_layout.specs.History.{entries, levels, left_by, keeps, opened, opens_at, found_by, inside, indent, keyed, entry_of}
 use Rattle.yaml_scan_layout.specs.Next.{Read, next}
 use Rattle.yaml_scan_layout.specs.Laws.{GoesForward}
 use Rattle.yaml_scan_layout.proofs.HistoryLemmas.{length-entries, length-keyed, take-entries}

@@ -1,11 +1,10 @@
 -- What a token that is taken leaves to come.
-use Rattle.std.proofs.Common.{◌≡◌, ℕ, ◌+◌, ◌-◌, ◌<◌, ◌≤◌, true, false, cond, ltb, List, [], ◌∷◌, length, get_or, Some, None, refl, sym, ap, subst, ◌∙◌, inl, inr, ◌⊎◌, arith, ◌^◌}
+use Rattle.std.proofs.Common.{◌≡◌, ℕ, ◌+◌, ◌-◌, ◌<◌, ◌≤◌, true, false, ltb, List, [], ◌∷◌, length, get_or, Some, None, refl, sym, ap, subst, ◌∙◌, inl, inr, ◌⊎◌, arith, ◌^◌}
 use Rattle.std.proofs.lemmas.Bool.{cases_Bool, cases_lt}
 use Rattle.std.proofs.lemmas.Bool.Decides.{nat_tests}
 use Rattle.std.proofs.lemmas.List.{length-map}
 use Rattle.std.specs.Prelude.{map}
 use Rattle.yaml_scan_text.specs.Tokens.{Token, TokenBody, block_end, no_token}
-use Rattle.yaml_scan_decode.specs.DecodedText.{text_bytes}
 use Rattle.yaml_scan_layout.specs.declared.lexeme.Lexeme.{Lexeme}
 use Rattle.yaml_scan_layout.specs.declared.lexeme.Entry.{Entry}
 use Rattle.yaml_scan_layout.specs.History.{entries, first_open}
@@ -161,7 +160,7 @@ stands_more m w rest b i items ready some =
       levels = i.levels;
       inside = i.inside;
       place = i.place;
-      source = i.source;
+      begun = i.begun;
       shown = shown_given (fields_of m) (m.given + 1) i.shown;
       given = subst (λ es. given_in m.dropped m.settled (m.given + 1) es) (sym wait) (given_more m.dropped m.settled m.given w rest (map (λ (x : Waiting). x.entry) rest) b first some);
       spoken = i.spoken;

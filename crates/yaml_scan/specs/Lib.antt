@@ -9,10 +9,11 @@ pub mod Shows
 pub mod Front
 pub mod Reads
 pub mod Comes
-pub mod Ending
+pub mod Scanned
 pub mod State
 pub mod Session
 pub mod SessionView
+pub use Rattle.yaml_scan_layout.specs.Coming
 pub use Rattle.yaml_scan_decode.specs.Encodings
 pub use Rattle.yaml_scan_decode.specs.Offences
 pub use Rattle.yaml_scan_decode.specs.Characters

@@ -1,30 +1,84 @@
 -- What a session stands for, and what its calls answer.
-use Rattle.std.specs.Prelude.{◌≡◌, Bool, true, false, Option, Some, None, Result, Ok, Err, ◌⊎◌}
+use Rattle.std.specs.Prelude.{◌≡◌, Bool, true, false, List, [], ◌∷◌, Option, Some, None, Result, Ok, Err, ◌⊎◌}
 use denote.Bor.{Bor}
 use Rattle.yaml_scan_text.specs.declared.token.yaml_token_t.{yaml_token_t}
 use Rattle.yaml_scan_text.specs.declared.fault.yaml_fault_t.{yaml_fault_t}
-use Rattle.yaml_scan_text.specs.Tokens.{token_of, no_token}
+use Rattle.yaml_scan_text.specs.Tokens.{Token, token_of, no_token}
 use Rattle.yaml_scan_text.specs.Faults.{Fault, fault_of}
-use Rattle.yaml_scan.specs.Ending.{IsTold}
+use Rattle.yaml_scan_layout.specs.Coming.{Coming, nothing}
+use Rattle.yaml_scan.specs.Scanned.{IsTold}
 
--- the fault that ends the tokens of the input, whether the next token is known, and the fault that was answered
+-- the tokens that are still to come and the fault that ends them, whether the next token is known, and the fault that was
+-- answered
 pub record View : Type 0 where
-  pub fault : Option Fault
+  pub coming : Coming
   pub ready : Bool
   pub answered : Option Fault
 
--- A refusal is answered once and kept.
+-- the first token to come, and the others; behind the last the empty token
+abbrev pub first_of : List Token → Token
+first_of [] = no_token
+first_of (t ∷ ts) = t
+
+abbrev pub others_of : List Token → List Token
+others_of [] = []
+others_of (t ∷ ts) = ts
+
+-- what is to come behind the first token
+abbrev pub behind_first : Coming → Coming
+behind_first c = record { tokens = others_of c.tokens; fault = c.fault }
+
+-- behind the last token a fault is answered, if one is to come
+abbrev pub MayAnswer : List Token → Option Fault → Type 0
+MayAnswer [] fault = fault ≡ None
+MayAnswer (t ∷ ts) fault = Unit {0}
+
+-- the next token is known, or there is none
+abbrev pub IsKnown : View → Type 0
+IsKnown v = (v.ready ≡ true) ⊎ (v.coming ≡ nothing)
+
+-- A refusal tells the fault that is to come, where no token is, or that memory ran out. It is answered once and kept, and
+-- nothing comes behind it.
+pub record Refuses (old : View) (f : Fault) (new : View) : Type 0 where
+  pub told : IsTold old.coming f
+  pub once : old.answered ≡ None
+  pub kept : new.answered ≡ Some f
+  pub over : new.coming ≡ nothing
+  pub unknown : new.ready ≡ false
+
+-- a token was taken: the first to come
+pub record Takes (old : View) (t : Token) (new : View) : Type 0 where
+  pub token : t ≡ first_of old.coming.tokens
+  pub rest : new.coming ≡ behind_first old.coming
+  pub may : MayAnswer old.coming.tokens old.coming.fault
+  pub same : new.answered ≡ old.answered
+
+-- a token was lent: the first to come, and none is taken
+pub record Lends (old : View) (t : Token) (new : View) : Type 0 where
+  pub token : t ≡ first_of old.coming.tokens
+  pub all : new.coming ≡ old.coming
+  pub may : MayAnswer old.coming.tokens old.coming.fault
+  pub same : new.answered ≡ old.answered
+  pub known : IsKnown new
+
+-- what is to come stays, and the next token is known, or there is none
+pub record Stays (old new : View) : Type 0 where
+  pub all : new.coming ≡ old.coming
+  pub same : new.answered ≡ old.answered
+  pub known : IsKnown new
+
 abbrev pub Fills : View → View → Result (Unit {0}) yaml_fault_t → Type 0
-Fills old new (Ok done) = (new.answered ≡ old.answered) × (new.fault ≡ old.fault)
-Fills old new (Err f) = IsTold old.fault (fault_of f) × (old.answered ≡ None) × (new.answered ≡ Some (fault_of f)) × (new.ready ≡ false)
+Fills old new (Ok done) = Stays old new
+Fills old new (Err f) = Refuses old (fault_of f) new
 
--- A refusal tells the fault that ends the tokens, or that memory ran out. It is answered once and kept; behind it comes
--- the empty token.
 abbrev pub Scans : View → View → Result yaml_token_t yaml_fault_t → Type 0
-Scans old new (Ok token) = (new.answered ≡ old.answered) × (new.fault ≡ old.fault) × ((f : Fault) → old.answered ≡ Some f → token_of token ≡ no_token)
-Scans old new (Err f) = IsTold old.fault (fault_of f) × (old.answered ≡ None) × (new.answered ≡ Some (fault_of f)) × (new.ready ≡ false)
+Scans old new (Ok token) = Takes old (token_of token) new
+Scans old new (Err f) = Refuses old (fault_of f) new
 
--- A token that is lent is known from then on; the empty one is lent where none is.
+abbrev pub Looks : View → View → Token → Result (Unit {0}) yaml_fault_t → Type 0
+Looks old new token (Ok done) = Lends old token new
+Looks old new token (Err f) = Refuses old (fault_of f) new
+
 abbrev pub Peeks : View → View → Result (Bor yaml_token_t) yaml_fault_t → Type 0
-Peeks old new (Ok token) = (new.answered ≡ old.answered) × (new.fault ≡ old.fault) × ((new.ready ≡ true) ⊎ (token_of token.now ≡ no_token)) × ((f : Fault) → old.answered ≡ Some f → token_of token.now ≡ no_token)
-Peeks old new (Err f) = IsTold old.fault (fault_of f) × (old.answered ≡ None) × (new.answered ≡ Some (fault_of f)) × (new.ready ≡ false)
+Peeks old new (Ok token) = Lends old (token_of token.now) new
+Peeks old new (Err f) = Refuses old (fault_of f) new

@@ -1,22 +1,43 @@
 -- What a clause sees of a session.
-use Rattle.std.specs.Prelude.{◌≡◌, Bool, false, ◌||◌, Option, Some, None, option_map}
+use Rattle.std.specs.Prelude.{◌≡◌, Bool, true, false, ◌||◌, ◌∷◌, Option, Some, None, option_map}
 use Rattle.yaml_scan_text.specs.declared.fault.yaml_fault_t.{yaml_fault_t}
-use Rattle.yaml_scan_text.specs.Tokens.{token_of, no_token}
+use Rattle.yaml_scan_text.specs.Tokens.{Token, token_of, no_token}
 use Rattle.yaml_scan_text.specs.Faults.{fault_of}
-use Rattle.yaml_scan.specs.declared.machine.Machine.{Machine}
+use Rattle.yaml_scan_layout.specs.Coming.{Coming, nothing}
+use Rattle.yaml_scan.specs.declared.ahead.Ahead.{Ahead}
 use Rattle.yaml_scan.specs.declared.session.yaml_parser_t.TheInside.{Inside}
 use Rattle.yaml_scan.specs.State.{IsMachine, is_ready}
-use Rattle.yaml_scan.specs.Ending.{ending}
+use Rattle.yaml_scan.specs.Scanned.{left_in}
 use Rattle.yaml_scan.specs.Session.{View}
 
-abbrev pub ready_by : Option yaml_fault_t → Bool → Machine → Bool
-ready_by (Some f) holds m = false
-ready_by None holds m = holds || is_ready m
+-- the token that was put aside, and then the others
+abbrev pub with_shown : Bool → Token → Coming → Coming
+with_shown true t c = record { tokens = t ∷ c.tokens; fault = c.fault }
+with_shown false t c = c
 
-abbrev pub session_view : Inside → View
-session_view s = record { fault = ending s.machine.setting s.machine.input.now; ready = ready_by s.fault s.holds s.machine; answered = option_map (λ f. fault_of f) s.fault }
+-- nothing comes behind a fault that was answered
+abbrev pub coming_by : Option yaml_fault_t → Bool → Token → Coming → Coming
+coming_by (Some f) holds t c = nothing
+coming_by None holds t c = with_shown holds t c
 
-pub record IsSession (s : Inside) : Type 0 where
+abbrev pub ready_by : Option yaml_fault_t → Bool → Bool → Bool
+ready_by (Some f) holds ready = false
+ready_by None holds ready = holds || ready
+
+abbrev pub view_of : Ahead → View
+view_of s = record {
+  coming = coming_by s.fault s.holds (token_of s.shown) (left_in s.machine);
+  ready = ready_by s.fault s.holds (is_ready s.machine);
+  answered = option_map (λ f. fault_of f) s.fault;
+}
+
+pub record IsAhead (s : Ahead) : Type 0 where
   pub machine : s.fault ≡ None → IsMachine s.machine
   pub over : (f : yaml_fault_t) → s.fault ≡ Some f → s.holds ≡ false
   pub idle : s.holds ≡ false → token_of s.shown ≡ no_token
+
+abbrev pub session_view : Inside → View
+session_view s = view_of s.ahead
+
+abbrev pub IsSession : Inside → Type 0
+IsSession s = IsAhead s.ahead

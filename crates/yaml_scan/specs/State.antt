@@ -1,9 +1,8 @@
 -- What the fields of a machine say.
-use Rattle.std.specs.Prelude.{ℕ, ◌+◌, ◌^◌, ◌≡◌, ◌<◌, ◌≤◌, Bool, true, false, Ok, ◌||◌, nat_lt, List, [], ◌∷◌, length, slice_index, slice_index_or, IfSome}
+use Rattle.std.specs.Prelude.{ℕ, ◌+◌, ◌^◌, ◌≡◌, ◌<◌, ◌≤◌, Bool, false, ◌||◌, nat_lt, List, [], ◌∷◌, length, slice_index, slice_index_or, IfSome}
 use Rattle.yaml_scan_text.specs.declared.record.yaml_mark_t.{yaml_mark_t}
 use Rattle.yaml_scan_text.specs.Marks.{mark_at, splits_break}
 use Rattle.yaml_scan_decode.specs.DecodedText.{text_bytes}
-use Rattle.yaml_scan_decode.specs.Decoding.{decoded_text}
 use Rattle.yaml_scan.specs.declared.machine.Machine.{Machine}
 use Rattle.yaml_scan.specs.declared.waiting.Waiting.{Waiting}
 use Rattle.yaml_scan.specs.declared.next.Read.{Read}
@@ -34,7 +33,7 @@ pub record IsMachine (m : Machine) : Type 0 where
   pub levels : IsNarrow (length (text_bytes m.text) + 1) m.levels
   pub inside : AreInside (length (text_bytes m.text)) m.waiting.items
   pub place : m.ended ≡ false → IsPlace (text_bytes m.text) m.place
-  pub source : m.started ≡ true → decoded_text m.setting m.input.now ≡ Ok (text_bytes m.text)
+  pub begun : m.started ≡ false → m.waiting.items ≡ []
   pub shown : IsShown (fields_of m)
   pub given : IsGiven (fields_of m)
   pub spoken : AreSpoken (stream_of m) m.waiting.items
@@ -55,17 +54,11 @@ pub record IsNext (m : Machine) (r : Read) : Type 0 where
   pub key : IfSome r.key (λ i. i < length m.waiting.items)
   pub place : is_end r.lexeme.kind ≡ false → IsPlace (text_bytes m.text) r.lexeme.reached
 
--- over the same input
-pub record IsSame (old new : Machine) : Type 0 where
-  pub input : new.input.now ≡ old.input.now
-  pub setting : new.setting ≡ old.setting
-  pub started : new.started ≡ old.started
-
 -- one lexeme more waits
 pub record GoesOn (old new : Machine) : Type 0 where
   pub text : new.text ≡ old.text
   pub dropped : new.dropped ≡ old.dropped
   pub given : new.given ≡ old.given
   pub encoding : new.encoding ≡ old.encoding
-  pub source : IsSame old new
+  pub started : new.started ≡ old.started
   pub further : length new.waiting.items ≡ length old.waiting.items + 1

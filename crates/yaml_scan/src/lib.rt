@@ -1,6 +1,7 @@
 //! Decoding, tokens and their faults: libyaml's reader and scanner.
 #![tactic(auto)]
 
+mod ahead;
 mod levels;
 mod machine;
 mod next;

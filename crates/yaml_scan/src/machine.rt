@@ -1,10 +1,10 @@
 //! The state between two lexemes.
 
-ghost use Rattle.std.specs.Prelude.{◌≡◌, ◌+◌, ◌-◌, ◌<◌, ◌≤◌, ◌^◌, ◌&&◌, ◌||◌, ◌==◌, not, nat_lt, if◌then◌else◌, ◌⊎◌, OnOk, IfOk, IfErr, Ok, IsTrue, IfSome, true, false, length, ℕ};
+ghost use Rattle.std.specs.Prelude.{◌≡◌, ◌+◌, ◌-◌, ◌<◌, ◌≤◌, ◌^◌, ◌&&◌, ◌||◌, ◌==◌, not, nat_lt, if◌then◌else◌, ◌⊎◌, OnOk, IfOk, IfErr, IsTrue, IfSome, true, false, length, ℕ};
 ghost use Rattle.yaml_scan_decode.specs.DecodedText.{text_bytes};
 ghost use Rattle.yaml_scan_layout.specs.Kinds as kinds;
 ghost use Rattle.yaml_scan_text.specs.Faults.{fault_of};
-ghost use Rattle.yaml_scan.specs.Ending.{IsLocated};
+ghost use Rattle.yaml_scan.specs.Scanned.{IsLocated};
 ghost use Rattle.yaml_scan_layout.specs.History as history;
 
 use crate::levels::Levels;
@@ -48,21 +48,20 @@ pub(crate) struct Machine<'a> {
 }
 
 impl<'a> Machine<'a> {
-    ghost use Rattle.yaml_scan.specs.State.{IsMachine, IsNarrow, AreInside, GoesOn, IsSame, is_ready};
-    ghost use Rattle.yaml_scan.specs.Ending.{ending, IsTold};
-    ghost use Rattle.yaml_scan_decode.specs.Decoding.{decoded_text};
+    ghost use Rattle.yaml_scan.specs.State.{IsMachine, IsNarrow, AreInside, GoesOn, is_ready};
+    ghost use Rattle.yaml_scan.specs.Scanned.{scanned, left_in, left_from, IsTold};
+    ghost use Rattle.yaml_scan_decode.specs.Encodings.{encoding_of};
     ghost use Rattle.yaml_scan.specs.Shows.{IsPending, fields_of, history_of};
     ghost use Rattle.yaml_scan.specs.Reads.{MarksOwn, IsColumn, opens_for};
     ghost use Rattle.yaml_scan.specs.Comes.{to_come, Refused, Faults};
-    ghost use Rattle.yaml_scan_layout.specs.Coming.{nothing};
+    ghost use Rattle.yaml_scan_layout.specs.Coming.{nothing, offline};
     ghost use Rattle.yaml_scan_forward.specs.Fronts.{Gives};
     ghost use Rattle.yaml_scan_text.specs.Tokens.{token_of};
 
     pub(crate) fn new(alloc: Global, input: &'a [u8], setting: yaml_encoding_t) -> Machine<'a>
         ensures stands { IsMachine result }
         ensures ready { is_ready result ≡ false }
-        ensures input { result.input.now ≡ input.now }
-        ensures setting { result.setting ≡ setting }
+        ensures left { left_in result ≡ scanned setting input.now }
     {
         Machine::over(alloc, input, setting, false, yaml_text_t::Borrowed(input))
     }
@@ -75,12 +74,10 @@ impl<'a> Machine<'a> {
         started: bool,
         text: yaml_text_t<'a>,
     ) -> Machine<'a>
-        requires { started ≡ true → decoded_text setting input.now ≡ Ok (text_bytes text) }
         ensures stands { IsMachine result }
         ensures ready { is_ready result ≡ false }
-        ensures input { result.input.now ≡ input.now }
-        ensures setting { result.setting ≡ setting }
         ensures started { result.started ≡ started }
+        ensures left { left_in result ≡ left_from started (offline record { encoding = encoding_of setting input.now; text = text_bytes text.entry }) (scanned setting input.now) }
     {
         let _length = text.as_slice().len();
         Machine {
@@ -106,13 +103,13 @@ impl<'a> Machine<'a> {
         }
     }
 
-    /// Decodes the input, once, and reads on until the next token is known, or there is none.
+    /// Decodes the input, once, and reads on until the next token is known, or there is none. What is to come stays.
     pub(crate) fn read_on(&mut self) -> Result<(), yaml_fault_t>
         requires { IsMachine self.old }
         ensures stands { OnOk result (IsMachine self.new) }
-        ensures input { OnOk result (self.new.input.now ≡ self.old.input.now) }
-        ensures setting { OnOk result (self.new.setting ≡ self.old.setting) }
-        ensures told { IfErr result (λ f. IsTold (ending self.old.setting self.old.input.now) (fault_of f)) }
+        ensures left { OnOk result (left_in self.new ≡ left_in self.old) }
+        ensures known { OnOk result ((is_ready self.new ≡ true) ⊎ (left_in self.new ≡ nothing)) }
+        ensures told { IfErr result (λ f. IsTold (left_in self.old) (fault_of f)) }
     {
         match self.start() {
             Ok(()) => self.read_known(),
@@ -125,9 +122,8 @@ impl<'a> Machine<'a> {
         requires { IsMachine self.old }
         ensures stands { OnOk result (IsMachine self.new) }
         ensures started { OnOk result (self.new.started ≡ true) }
-        ensures input { OnOk result (self.new.input.now ≡ self.old.input.now) }
-        ensures setting { OnOk result (self.new.setting ≡ self.old.setting) }
-        ensures told { IfErr result (λ f. IsTold (ending self.old.setting self.old.input.now) (fault_of f)) }
+        ensures left { OnOk result (left_in self.new ≡ left_in self.old) }
+        ensures told { IfErr result (λ f. IsTold (left_in self.old) (fault_of f)) }
     {
         if self.started {
             return Ok(());
@@ -146,9 +142,9 @@ impl<'a> Machine<'a> {
         requires stands { IsMachine self.old }
         requires started { self.old.started ≡ true }
         ensures stands { OnOk result (IsMachine self.new) }
-        ensures input { OnOk result (self.new.input.now ≡ self.old.input.now) }
-        ensures setting { OnOk result (self.new.setting ≡ self.old.setting) }
-        ensures told { IfErr result (λ f. IsTold (ending self.old.setting self.old.input.now) (fault_of f)) }
+        ensures left { OnOk result (left_in self.new ≡ left_in self.old) }
+        ensures known { OnOk result ((is_ready self.new ≡ true) ⊎ (left_in self.new ≡ nothing)) }
+        ensures told { IfErr result (λ f. IsTold (left_in self.old) (fault_of f)) }
     {
         match self.fill() {
             Ok(()) => Ok(()),
@@ -171,8 +167,7 @@ impl<'a> Machine<'a> {
         requires stands { IsMachine self.old }
         requires ready { is_ready self.old ≡ true }
         ensures stands { IsMachine self.new }
-        ensures source { IsSame self.old self.new }
-        ensures gives { Gives (to_come self.old) (token_of result) (to_come self.new) }
+        ensures gives { Gives (left_in self.old) (token_of result) (left_in self.new) }
     {
         if let Some(body) = self.waiting[0].before(self.given) {
             let mark = self.waiting[0].entry.lexeme.start;
@@ -193,9 +188,10 @@ impl<'a> Machine<'a> {
 
     /// Reads on until the next token is known, or there is none. What is to come stays.
     fn fill(&mut self) -> Result<(), ScanError>
-        requires { IsMachine self.old }
+        requires stands { IsMachine self.old }
+        requires started { self.old.started ≡ true }
         ensures stands { OnOk result (IsMachine self.new) }
-        ensures source { OnOk result (IsSame self.old self.new) }
+        ensures started { OnOk result (self.new.started ≡ true) }
         ensures ok { OnOk result ((to_come self.new ≡ to_come self.old) × ((is_ready self.new ≡ true) ⊎ (to_come self.new ≡ nothing))) }
         ensures err { IfErr result (λ e. Faults e (to_come self.old)) }
     {
@@ -213,6 +209,7 @@ impl<'a> Machine<'a> {
     /// Reads one lexeme.
     fn step(&mut self) -> Result<(), ScanError>
         requires stands { IsMachine self.old }
+        requires started { self.old.started ≡ true }
         requires more { self.old.ended ≡ false }
         ensures ok { OnOk result (IsMachine self.new × GoesOn self.old self.new) }
         ensures err { IfErr result (Refused self.old) }

@@ -25,5 +25,5 @@ steps-preserved c =
     record {
       stands = stands;
       same = goes_same c.steps.self c.step.new.self on ∙ i.same;
-      source = record { input = on.source.input ∙ i.source.input; setting = on.source.setting ∙ i.source.setting; started = on.source.started ∙ i.source.started };
+      started = on.started ∙ i.started;
     }

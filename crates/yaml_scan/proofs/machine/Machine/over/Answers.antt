@@ -1,6 +1,9 @@
 use Rattle.std.proofs.Common.{◌≡◌, ℕ, List, sym, ap, subst, arith, ◌+◌, length}
 use Rattle.std.specs.Prelude.{map}
 use Rattle.yaml_scan_decode.specs.DecodedText.{text_bytes}
+use Rattle.yaml_scan_text.specs.declared.name.yaml_encoding_t.{yaml_encoding_t}
+use Rattle.yaml_scan_layout.specs.Coming.{coming}
+use Rattle.yaml_scan.specs.Scanned.{scanned, left_from}
 use Rattle.yaml_scan.specs.State.{IsNarrow}
 use Rattle.yaml_scan.proofs.SafeLemmas.{start_place, narrow_none}
 use Rattle.yaml_scan.proofs.FrontLemmas.{shown_start}
@@ -20,8 +23,11 @@ returns-clause-stands c =
       levels = subst P (sym c.new-2.ensures) (narrow_none (length (text_bytes c.args.text) + 1));
       inside = λ k w lt. absurd (let bad = rw c.new.ensures.items at lt in omega (arith, bad));
       place = λ _. start_place (text_bytes c.args.text);
-      source = c.requires;
+      begun = λ off. c.new.ensures.items;
       given = given_none 0 0 (map (λ (x : Waiting). x.entry) c.new.result.items);
       shown = shown_start (text_bytes c.args.text) c.new.result.items c.new-2.result c.new.ensures.items c.new-2.ensures;
       spoken = λ k w lt. absurd (let bad = rw c.new.ensures.items at lt in omega (arith, bad));
     }
+
+pub returns-clause-left : goal.returns-clause-left
+returns-clause-left c = ap (λ (e : yaml_encoding_t). left_from c.args.started (coming record { encoding = e; text = text_bytes c.args.text } 0 0) (scanned c.args.setting c.args.input.now)) c.stream_encoding.ensures

@@ -3,4 +3,4 @@ use Rattle.yaml_scan.proofs.ComesLemmas.{told_decoding}
 use Rattle.yaml_scan.proofs.machine.Machine.start.Goals as goal
 
 pub returns-in-Err-clause-told : goal.returns-in-Err-clause-told
-returns-in-Err-clause-told c = told_decoding c.args.self.now.setting c.args.self.now.input.now (fault_of c.in-Err.fault) c.in-Err.ensures.fault
+returns-in-Err-clause-told c = told_decoding c.args.self.now (fault_of c.in-Err.fault) c.if-self.false c.in-Err.ensures.fault

@@ -1,4 +1,4 @@
-use Rattle.std.proofs.Common.{Ok, ◌≡◌, ◌≤◌, ◌<◌, ℕ, Bool, List, ◌∷◌, [], ◌++◌, sym, ap, subst, ◌∙◌, refl, arith, ◌+◌, ◌&&◌, ◌||◌, not, ltb, eqb, length, length-append}
+use Rattle.std.proofs.Common.{true, false, ◌≡◌, ◌≤◌, ◌<◌, ℕ, Bool, List, ◌∷◌, [], ◌++◌, sym, ap, subst, ◌∙◌, refl, arith, ◌+◌, ◌&&◌, ◌||◌, not, ltb, eqb, length, length-append}
 use Rattle.std.specs.Prelude.{map, IfSome}
 use Rattle.yaml_scan_text.specs.declared.name.yaml_encoding_t.{yaml_encoding_t}
 use Rattle.yaml_scan_layout.specs.Kinds.{is_start, allows_key}
@@ -6,8 +6,7 @@ use Rattle.std.proofs.lemmas.List.{map-append, length-map}
 use Rattle.yaml_scan_decode.specs.DecodedText.{text_bytes}
 use Rattle.yaml_scan.specs.declared.machine.Machine.{Machine}
 use Rattle.yaml_scan.specs.declared.waiting.Waiting.{Waiting}
-use Rattle.yaml_scan_decode.specs.Decoding.{decoded_text}
-use Rattle.yaml_scan.specs.State.{IsSame, AreInside, IsNarrow, IsPlace}
+use Rattle.yaml_scan.specs.State.{AreInside, IsNarrow, IsPlace}
 use Rattle.yaml_scan_layout.specs.declared.lexeme.Lexeme.{Lexeme}
 use Rattle.yaml_scan_layout.specs.declared.lexeme.Entry.{Entry}
 use Rattle.yaml_scan_layout.specs.Coming.{Stream, body_in}
@@ -156,11 +155,7 @@ returns-clause-ok c =
     let is_w : IsSpoken (stream_of m) w = spoken ∙ ap (λ (y : Lexeme). body_in (stream_of m) y) (sym lexeme) in
     let all_spoken : AreSpoken (stream_of m) c.push_back.new.self.items = subst (λ (ws : List Waiting). AreSpoken (stream_of m) ws) (sym items) (spoken_push (stream_of m) w d.waiting.items is_w marked_spoken) in
     let codes : d.encoding ≡ m.encoding = ap (λ (x : Machine). x.encoding) to_d ∙ ap (λ (x : Machine). x.encoding) to_b ∙ ap (λ (x : Machine). x.encoding) to_a in
-    let same_source : IsSame m d = record {
-      input = ap (λ (x : Machine). x.input.now) to_d ∙ ap (λ (x : Machine). x.input.now) to_b ∙ ap (λ (x : Machine). x.input.now) to_a;
-      setting = ap (λ (x : Machine). x.setting) to_d ∙ ap (λ (x : Machine). x.setting) to_b ∙ ap (λ (x : Machine). x.setting) to_a;
-      started = ap (λ (x : Machine). x.started) to_d ∙ ap (λ (x : Machine). x.started) to_b ∙ ap (λ (x : Machine). x.started) to_a;
-    } in
+    let on : d.started ≡ m.started = ap (λ (x : Machine). x.started) to_d ∙ ap (λ (x : Machine). x.started) to_b ∙ ap (λ (x : Machine). x.started) to_a in
     let stream : stream_of d ≡ stream_of m = ap (λ (t : List ℕ). record { encoding = d.encoding; text = t }) text ∙ ap (λ (y : yaml_encoding_t). record { encoding = y; text = text_bytes m.text }) codes in (
       record {
         long = omega (arith, len, c.requires.stands.long);
@@ -171,10 +166,10 @@ returns-clause-ok c =
         levels = subst AtText (sym len) (subst Levels (sym levels) narrow);
         inside = subst AtInside (sym len) all;
         place = λ e. subst Place (sym text) (next.place (sym c.is_end-self.ensures ∙ e));
-        source = λ on. ap (λ (y : yaml_encoding_t). decoded_text y d.input.now) same_source.setting ∙ ap (λ t. decoded_text m.setting t) same_source.input ∙ c.requires.stands.source (sym same_source.started ∙ on) ∙ ap Ok (sym text);
+        begun = λ off. let bad : true ≡ false = sym c.requires.started ∙ sym on ∙ off in cc;
         shown = shown_now;
         given = given_goes f done l c.requires.stands.shown shown_now go e same drops gives (omega (arith, settles, settled.low)) c.requires.stands.given;
         spoken = subst (λ (s : Stream). AreSpoken s c.push_back.new.self.items) (sym stream) all_spoken;
       },
-      record { text = texts; dropped = drops; further = more; given = gives; encoding = codes; source = record { input = same_source.input; setting = same_source.setting; started = same_source.started } },
+      record { text = texts; dropped = drops; further = more; given = gives; encoding = codes; started = on },
     )

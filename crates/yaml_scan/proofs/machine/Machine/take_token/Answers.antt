@@ -1,17 +1,18 @@
-use Rattle.std.proofs.Common.{◌≡◌, ◌<◌, List, ◌∷◌, sym, ap, subst, ◌∙◌, arith, ◌+◌, length, get_or, true, refl, Some, None}
+use Rattle.std.proofs.Common.{◌≡◌, List, [], ◌∷◌, sym, ap, subst, ◌∙◌, arith, ◌+◌, length, get_or, true, refl, Some, None}
 use Rattle.std.specs.Prelude.{map, option_map}
 use Rattle.yaml_scan_decode.specs.DecodedText.{text_bytes}
 use Rattle.yaml_scan_text.specs.Tokens.{Token, TokenBody, body_of, token_of}
 use Rattle.yaml_scan_layout.specs.Coming.{coming, before, body_in, token_in}
 use Rattle.yaml_scan.specs.declared.waiting.Waiting.{Waiting}
 use Rattle.yaml_scan.specs.State.{ready_in, AreInside}
-use Rattle.yaml_scan.proofs.SafeLemmas.{inside_rest, none_left, known_settled}
+use Rattle.yaml_scan.proofs.SafeLemmas.{inside_rest, none_left}
 use Rattle.yaml_scan.specs.Shows.{fields_of, stream_of, AreSpoken}
 use Rattle.yaml_scan.specs.Front.{front_at}
 use Rattle.yaml_scan.proofs.FrontLemmas.{shown_popped}
 use Rattle.yaml_scan.proofs.PushLemmas.{spoken_rest}
 use Rattle.yaml_scan.proofs.GivenLemmas.{given_none, own_settled}
 use Rattle.yaml_scan.proofs.TakeLemmas.{front_waits, gives_front, gives_own, given_room, stands_more}
+use Rattle.yaml_scan.proofs.ComesLemmas.{left_gives, ready_started}
 use Rattle.yaml_scan.proofs.machine.Machine.take_token.Goals as goal
 
 pub overflow_add-self : goal.overflow_add-self
@@ -40,7 +41,8 @@ returns-in-Some-clause-gives c =
     let some : front_at w.entry m.given ≡ Some b = sym c.before-2.ensures ∙ ap (option_map body_of) c.in-Some.is in
     let same : c.index-in-Some.result.now ≡ w = c.index-in-Some.ensures ∙ ap (λ (ws : List Waiting). get_or ws 0 c.index-in-Some.result.now) items in
     let (tokens, fault) = gives_front m w rest b c.requires.stands items c.requires.ready some in
-    (tokens ∙ ap (λ (x : Waiting). before b x.entry.lexeme ∷ (coming (stream_of m) m.dropped (m.given + 1)).tokens) (sym same), fault)
+    let on = ready_started m c.requires.stands c.requires.ready in
+    left_gives m record m { given = m.given + 1 } (before b c.index-in-Some.result.now.entry.lexeme) on on (tokens ∙ ap (λ (x : Waiting). before b x.entry.lexeme ∷ (coming (stream_of m) m.dropped (m.given + 1)).tokens) (sym same), fault)
 
 pub returns-in-Some-pop_front-clause-stands : goal.returns-in-Some-pop_front-clause-stands
 returns-in-Some-pop_front-clause-stands c =
@@ -63,7 +65,7 @@ returns-in-Some-pop_front-clause-stands c =
       levels = c.requires.stands.levels;
       inside = inside_rest (length (text_bytes m.text)) front rest (subst Q items c.requires.stands.inside);
       place = c.requires.stands.place;
-      source = c.requires.stands.source;
+      begun = λ off. let bad : front ∷ rest ≡ [] = sym items ∙ c.requires.stands.begun off in cc;
       shown = shown_popped (fields_of m) m.waiting.items front rest c.requires.stands.shown refl refl items low;
       given = given_none (m.dropped + 1) m.settled (map (λ (x : Waiting). x.entry) rest);
       spoken = spoken_rest (stream_of m) front rest (subst (λ (ws : List Waiting). AreSpoken (stream_of m) ws) items c.requires.stands.spoken);
@@ -82,4 +84,5 @@ returns-in-Some-pop_front-clause-gives c =
     let spoken : body_of front.body ≡ body_in (stream_of m) front.entry.lexeme = subst (λ (ws : List Waiting). AreSpoken (stream_of m) ws) items c.requires.stands.spoken 0 front (omega arith) in
     let own : token_in (stream_of m) front.entry.lexeme ≡ token_of c.token.result = ap (λ (b : TokenBody). record { body = b; start_mark = front.entry.lexeme.start; end_mark = front.entry.lexeme.end }) (sym spoken) ∙ sym c.token.ensures in
     let (tokens, fault) = gives_own m front rest c.requires.stands items low none in
-    (tokens ∙ ap (λ (t : Token). t ∷ (coming (stream_of m) (m.dropped + 1) 0).tokens) own, fault)
+    let on = ready_started m c.requires.stands c.requires.ready in
+    left_gives m record m { waiting = c.pop_front.new.self; dropped = m.dropped + 1; given = 0 } (token_of c.token.result) on on (tokens ∙ ap (λ (t : Token). t ∷ (coming (stream_of m) (m.dropped + 1) 0).tokens) own, fault)

@@ -14,3 +14,4 @@ pub mod FrontLemmas
 pub mod GivenLemmas
 pub mod ComesLemmas
 pub mod TakeLemmas
+pub mod AheadLemmas

@@ -20,11 +20,14 @@ use Rattle.yaml_scan.specs.Front.{front_at, front_count, fronted, given_in}
 use Rattle.yaml_scan.specs.Comes.{to_come}
 use Rattle.yaml_scan.proofs.MarkLemmas.{next_ended}
 use Rattle.yaml_scan.proofs.NextLemmas.{settled_first}
-use Rattle.yaml_scan.proofs.ComesLemmas.{settled_end}
+use Rattle.yaml_scan.specs.Scanned.{left_in}
+use Rattle.yaml_scan.specs.Session.{HasFirst}
+use Rattle.yaml_scan.proofs.ReadLemmas.{cases_Option}
+use Rattle.yaml_scan.proofs.ComesLemmas.{settled_end, left_is, ready_started}
 use Rattle.yaml_scan.proofs.SafeLemmas.{known_settled}
 use Rattle.yaml_scan.proofs.SpellLemmas.{spell_length, spell_token, front_count-le}
 use Rattle.yaml_scan.proofs.FrontLemmas.{shown_given}
-use Rattle.yaml_scan.proofs.GivenLemmas.{front_is, given_few, given_more, front_room, front_done, ends_few}
+use Rattle.yaml_scan.proofs.GivenLemmas.{own_settled, front_is, given_few, given_more, front_room, front_done, ends_few}
 
 -- no later lexeme changes it, or there is none
 abbrev IsKnown : List ℕ → List Lexeme → ℕ → Type 0
@@ -165,3 +168,17 @@ stands_more m w rest b i items ready some =
       given = subst (λ es. given_in m.dropped m.settled (m.given + 1) es) (sym wait) (given_more m.dropped m.settled m.given w rest (map (λ (x : Waiting). x.entry) rest) b first some);
       spoken = i.spoken;
     }
+
+has_first : (c d : Coming) (t : Token) → Gives c t d → HasFirst c.tokens
+has_first c d t (tokens, fault) = subst (λ ts. HasFirst ts) (sym tokens) tt
+
+-- where the next token is known, one is to come
+pub ready_first : (m : Machine) → IsMachine m → is_ready m ≡ true → HasFirst (left_in m).tokens
+ready_first m i ready =
+    let (w, rest, items) = first_waits m.dropped m.settled m.given m.waiting.items ready in
+    let first : ready_in m.dropped m.settled m.given (w ∷ rest) ≡ true = ap (λ (ws : List Waiting). ready_in m.dropped m.settled m.given ws) (sym items) ∙ ready in
+    let all = left_is m (ready_started m i ready) in
+    subst (λ (c : Coming). HasFirst c.tokens) (sym all) (elim (cases_Option (front_at w.entry m.given)) [
+      | inl none ↦ has_first (to_come m) (coming (stream_of m) (m.dropped + 1) 0) (token_in (stream_of m) w.entry.lexeme) (gives_own m w rest i items (own_settled m.dropped m.settled m.given w rest first none) none)
+      | inr (b, some) ↦ has_first (to_come m) (coming (stream_of m) m.dropped (m.given + 1)) (before b w.entry.lexeme) (gives_front m w rest b i items ready some)
+    ])

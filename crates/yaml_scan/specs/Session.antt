@@ -28,6 +28,11 @@ others_of (t ∷ ts) = ts
 abbrev pub behind_first : Coming → Coming
 behind_first c = record { tokens = others_of c.tokens; fault = c.fault }
 
+-- a token is to come
+abbrev pub HasFirst : List Token → Type 0
+HasFirst [] = ⊥
+HasFirst (t ∷ ts) = Unit {0}
+
 -- behind the last token a fault is answered, if one is to come
 abbrev pub MayAnswer : List Token → Option Fault → Type 0
 MayAnswer [] fault = fault ≡ None
@@ -37,9 +42,10 @@ MayAnswer (t ∷ ts) fault = Unit {0}
 abbrev pub IsKnown : View → Type 0
 IsKnown v = (v.ready ≡ true) ⊎ (v.coming ≡ nothing)
 
--- A refusal tells the fault that is to come, where no token is, or that memory ran out. It is answered once and kept, and
--- nothing comes behind it.
+-- A refusal tells the fault that is to come, where no token is, or that memory ran out; a token that is known isn't
+-- refused. It is answered once and kept, and nothing comes behind it.
 pub record Refuses (old : View) (f : Fault) (new : View) : Type 0 where
+  pub sought : old.ready ≡ false
   pub told : IsTold old.coming f
   pub once : old.answered ≡ None
   pub kept : new.answered ≡ Some f

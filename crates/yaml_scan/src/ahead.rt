@@ -1,9 +1,9 @@
 //! The next token, which a peek puts aside.
 
-ghost use Rattle.std.specs.Prelude.{◌≡◌, false, None};
+ghost use Rattle.std.specs.Prelude.{◌≡◌, true, false, None};
 ghost use Rattle.yaml_scan_text.specs.Tokens.{token_of};
 ghost use Rattle.yaml_scan.specs.Scanned.{scanned};
-ghost use Rattle.yaml_scan.specs.Session.{first_of, MayAnswer, Fills, Takes, Scans, Looks, IsKnown};
+ghost use Rattle.yaml_scan.specs.Session.{first_of, HasFirst, MayAnswer, Fills, Takes, Scans, Looks, IsKnown};
 
 use crate::machine::Machine;
 use std::alloc::Global;
@@ -38,7 +38,9 @@ impl<'a> Ahead<'a> {
 
     /// Whether the next token is known.
     pub(crate) fn has_token(&self) -> bool
-        ensures { result ≡ (view_of self.now).ready }
+        requires { IsAhead self.now }
+        ensures ready { result ≡ (view_of self.now).ready }
+        ensures first { result ≡ true → HasFirst (view_of self.now).coming.tokens }
     {
         if self.fault.is_some() {
             return false;

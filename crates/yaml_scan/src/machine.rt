@@ -110,6 +110,7 @@ impl<'a> Machine<'a> {
         ensures left { OnOk result (left_in self.new ≡ left_in self.old) }
         ensures known { OnOk result ((is_ready self.new ≡ true) ⊎ (left_in self.new ≡ nothing)) }
         ensures told { IfErr result (λ f. IsTold (left_in self.old) (fault_of f)) }
+        ensures sought { IfErr result (λ f. is_ready self.old ≡ false) }
     {
         match self.start() {
             Ok(()) => self.read_known(),
@@ -123,7 +124,9 @@ impl<'a> Machine<'a> {
         ensures stands { OnOk result (IsMachine self.new) }
         ensures started { OnOk result (self.new.started ≡ true) }
         ensures left { OnOk result (left_in self.new ≡ left_in self.old) }
+        ensures ready { OnOk result (is_ready self.new ≡ is_ready self.old) }
         ensures told { IfErr result (λ f. IsTold (left_in self.old) (fault_of f)) }
+        ensures sought { IfErr result (λ f. is_ready self.old ≡ false) }
     {
         if self.started {
             return Ok(());
@@ -145,6 +148,7 @@ impl<'a> Machine<'a> {
         ensures left { OnOk result (left_in self.new ≡ left_in self.old) }
         ensures known { OnOk result ((is_ready self.new ≡ true) ⊎ (left_in self.new ≡ nothing)) }
         ensures told { IfErr result (λ f. IsTold (left_in self.old) (fault_of f)) }
+        ensures sought { IfErr result (λ f. is_ready self.old ≡ false) }
     {
         match self.fill() {
             Ok(()) => Ok(()),
@@ -194,6 +198,7 @@ impl<'a> Machine<'a> {
         ensures started { OnOk result (self.new.started ≡ true) }
         ensures ok { OnOk result ((to_come self.new ≡ to_come self.old) × ((is_ready self.new ≡ true) ⊎ (to_come self.new ≡ nothing))) }
         ensures err { IfErr result (λ e. Faults e (to_come self.old)) }
+        ensures sought { IfErr result (λ e. is_ready self.old ≡ false) }
     {
         'steps: loop {
             if self.has_token() {

@@ -6,7 +6,7 @@ ghost use mir.Syntax.{named};
 ghost use mathlib.Core.Option.{none};
 ghost use Rattle.yaml_scan_text.specs.Faults.{fault_of};
 ghost use Rattle.yaml_scan.specs.contracts.session.yaml_parser_t.{the_row};
-ghost use Rattle.yaml_scan.specs.Session.{Scans, Peeks, behind_first};
+ghost use Rattle.yaml_scan.specs.Session.{HasFirst, Scans, Peeks, behind_first};
 ghost use Rattle.yaml_scan.specs.Scanned.{scanned};
 
 use crate::ahead::Ahead;
@@ -63,9 +63,10 @@ pub fn yaml_parser_peek<'p>(parser: &'p mut yaml_parser_t) -> Result<&'p yaml_to
     Ok(&parser.ahead.shown)
 }
 
-/// Whether the next token is known: a skip may drop it.
+/// Whether the next token is known: the next scan gives it, and a skip may drop it.
 pub fn yaml_parser_has_token(parser: &yaml_parser_t) -> bool
-    ensures { result ≡ parser.now.ready }
+    ensures ready { result ≡ parser.now.ready }
+    ensures first { result ≡ true → HasFirst parser.now.coming.tokens }
 {
     parser.ahead.has_token()
 }

@@ -26,4 +26,5 @@ steps-preserved c =
       stands = stands;
       same = goes_same c.steps.self c.step.new.self on ∙ i.same;
       started = on.started ∙ i.started;
+      sought = λ _. i.sought (sym c.has_token.ensures ∙ c.if-has_token.false);
     }

@@ -38,6 +38,10 @@ abbrev pub MayAnswer : List Token → Option Fault → Type 0
 MayAnswer [] fault = fault ≡ None
 MayAnswer (t ∷ ts) fault = Unit {0}
 
+-- behind a fault that was answered nothing comes
+abbrev pub EndsAnswered : View → Type 0
+EndsAnswered v = (f : Fault) → v.answered ≡ Some f → v.coming ≡ nothing
+
 -- the next token is known, or there is none
 abbrev pub IsKnown : View → Type 0
 IsKnown v = (v.ready ≡ true) ⊎ (v.coming ≡ nothing)
@@ -58,6 +62,7 @@ pub record Takes (old : View) (t : Token) (new : View) : Type 0 where
   pub rest : new.coming ≡ behind_first old.coming
   pub may : MayAnswer old.coming.tokens old.coming.fault
   pub same : new.answered ≡ old.answered
+  pub over : EndsAnswered old
 
 -- a token was lent: the first to come, and none is taken
 pub record Lends (old : View) (t : Token) (new : View) : Type 0 where
@@ -66,6 +71,7 @@ pub record Lends (old : View) (t : Token) (new : View) : Type 0 where
   pub may : MayAnswer old.coming.tokens old.coming.fault
   pub same : new.answered ≡ old.answered
   pub known : IsKnown new
+  pub over : EndsAnswered old
 
 -- what is to come stays, and the next token is known, or there is none
 pub record Stays (old new : View) : Type 0 where

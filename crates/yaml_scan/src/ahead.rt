@@ -3,7 +3,7 @@
 ghost use Rattle.std.specs.Prelude.{◌≡◌, true, false, None};
 ghost use Rattle.yaml_scan_text.specs.Tokens.{token_of};
 ghost use Rattle.yaml_scan.specs.Scanned.{scanned};
-ghost use Rattle.yaml_scan.specs.Session.{first_of, HasFirst, MayAnswer, Fills, Takes, Scans, Looks, IsKnown};
+ghost use Rattle.yaml_scan.specs.Session.{first_of, HasFirst, MayAnswer, EndsAnswered, Fills, Takes, Scans, Looks, IsKnown};
 
 use crate::machine::Machine;
 use std::alloc::Global;
@@ -100,6 +100,7 @@ impl<'a> Ahead<'a> {
         ensures same { view_of self.new ≡ view_of self.old }
         ensures shown { token_of self.new.shown ≡ first_of (view_of self.old).coming.tokens }
         ensures may { MayAnswer (view_of self.old).coming.tokens (view_of self.old).coming.fault }
+        ensures over { EndsAnswered (view_of self.old) }
     {
         if self.fault.is_some() {
             return;

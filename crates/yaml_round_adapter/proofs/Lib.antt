@@ -1,1 +1,2 @@
 pub mod AdaptedLemmas
+pub mod AdapterLemmas

@@ -1,2 +1,4 @@
 pub mod Adapted
+pub mod Adapter
+pub mod AdapterView
 pub mod Laws

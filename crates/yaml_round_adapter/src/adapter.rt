@@ -1,0 +1,86 @@
+//! The adapter.
+
+ghost use Rattle.std.specs.Prelude.{◌≡◌};
+ghost use Rattle.yaml_scan.specs.Tokens.{token_of};
+ghost use Rattle.yaml_scan.specs.Scanned.{scanned};
+ghost use Rattle.yaml_round_adapter.specs.Adapted.{adapted};
+ghost use Rattle.yaml_round_adapter.specs.Adapter.{Checks, Gives};
+
+use crate::refusal::{yaml_tag_fault, yaml_token_spells_text};
+use std::alloc::Global;
+use std::marker::Model;
+use yaml_parse::yaml_token_source_t;
+use yaml_scan::{yaml_encoding_t, yaml_fault_t, yaml_parser_scan, yaml_parser_t, yaml_token_t};
+
+/// An input's tokens as a parser takes them: those of its session, up to the first tag that isn't UTF-8.
+#[derive(Drop)]
+pub struct yaml_adapter_t<'a> {
+    session: yaml_parser_t<'a>,
+    // A fault was answered: nothing comes behind it.
+    over: bool,
+}
+
+impl<'a> Model for yaml_adapter_t<'a> {
+    ghost use Rattle.yaml_scan_layout.specs.Coming.{Coming};
+
+    ghost Value = { Coming };
+
+    ghost use Rattle.yaml_round_adapter.specs.AdapterView.{adapter_view, IsAdapter};
+
+    ghost view = { adapter_view };
+
+    ghost invariant = { IsAdapter };
+}
+
+impl<'a> yaml_adapter_t<'a> {
+    /// An adapter over a session of its own. What is to come is what a session of that input and encoding has to come, up
+    /// to the first tag that isn't UTF-8.
+    pub fn new(alloc: Global, input: &'a [u8], encoding: yaml_encoding_t) -> yaml_adapter_t<'a>
+        ensures { result ≡ adapted (scanned encoding input.now) }
+    {
+        yaml_adapter_t {
+            session: yaml_parser_t::new(alloc, input, encoding),
+            over: false,
+        }
+    }
+}
+
+// The token, or the fault of its tag.
+fn checked(token: yaml_token_t) -> Result<yaml_token_t, yaml_fault_t>
+    ensures { Checks (token_of token) result }
+{
+    if yaml_token_spells_text(&token) {
+        Ok(token)
+    } else {
+        Err(yaml_tag_fault(token.start_mark))
+    }
+}
+
+// The session's next token, or its fault, or that of its tag.
+fn take(session: &mut yaml_parser_t) -> Result<yaml_token_t, yaml_fault_t>
+    ensures { Gives session.old session.new result }
+{
+    match yaml_parser_scan(session) {
+        Ok(token) => checked(token),
+        Err(fault) => Err(fault),
+    }
+}
+
+impl<'a> yaml_token_source_t for yaml_adapter_t<'a> {
+    ghost to_come = { λ c. c.tokens };
+
+    ghost fault_to_come = { λ c. c.fault };
+
+    fn next_token(&mut self) -> Result<yaml_token_t, yaml_fault_t> {
+        if self.over {
+            return Ok(yaml_token_t::empty());
+        }
+        match take(&mut self.session) {
+            Ok(token) => Ok(token),
+            Err(fault) => {
+                self.over = true;
+                Err(fault)
+            }
+        }
+    }
+}

@@ -16,6 +16,7 @@ pub use run::{yaml_run, yaml_text_of};
 pub use settings::{
     yaml_command_t, yaml_form_t, yaml_output_encoding_t, yaml_settings_t, yaml_side_t,
 };
+pub use yaml_round_adapter::yaml_adapter_t;
 pub use yaml_round_device::{
     yaml_device_fault_t, yaml_input_t, yaml_output_t, yaml_read_all, yaml_run_fault_t,
     yaml_std_input_t, yaml_std_output_t, yaml_write_all,

@@ -9,6 +9,7 @@ ghost use Rattle.yaml_parse_machine.specs.Views.{item_of, item_body_of, shape_of
 ghost use Rattle.yaml_parse_machine.specs.declared.resolving.Refusal.TheVariants.{Fault};
 ghost use Rattle.yaml_parse_machine.specs.Settles.{directives_of, Settles, SettlesBody, Resolves, Notes, IsMemory};
 
+use crate::handles::TagDirectives;
 use crate::item::{Item, ItemBody, Shape, Tag};
 use std::alloc::{AllocError, AllocFailed, Global};
 use yaml_parse_grammar::{ParseFault, ParseProblem};
@@ -19,7 +20,7 @@ use yaml_scan::{yaml_mark_t, yaml_scalar_style_t, yaml_tag_directive_t, yaml_ver
 #[derive(Drop)]
 pub struct Directives {
     pub version: Option<yaml_version_directive_t>,
-    pub tags: Vec<yaml_tag_directive_t>,
+    pub tags: TagDirectives,
 }
 
 /// Why an item is refused.
@@ -56,18 +57,6 @@ fn fault_at(problem: ParseProblem, problem_mark: yaml_mark_t, context_mark: yaml
     })
 }
 
-// The prefix that a directive gives the handle.
-fn find_prefix<'a>(tags: &'a [yaml_tag_directive_t], handle: &[u8]) -> Option<&'a [u8]>
-    ensures { option_map (λ t. t.now) result ≡ directive_for handle.now (map directive_of tags.now) }
-{
-    for tag in tags {
-        if tag.handle.as_slice() == handle {
-            return Some(tag.prefix.as_slice());
-        }
-    }
-    None
-}
-
 // What a handle stands for where no directive says it.
 fn find_default(handle: &[u8]) -> Option<&'static [u8]>
     ensures { option_map (λ t. t.now) result ≡ default_prefix handle.now }
@@ -93,18 +82,18 @@ fn joined(alloc: Global, prefix: &[u8], suffix: &[u8]) -> Result<Vec<u8>, AllocE
 // The tag in full, of a node that begins there.
 fn resolve(
     alloc: Global,
-    tags: &[yaml_tag_directive_t],
+    tags: &TagDirectives,
     tag: Tag,
     from: yaml_mark_t,
 ) -> Result<Vec<u8>, Refusal>
-    ensures { Resolves (resolved (map directive_of tags.now) tag.handle.items tag.suffix.items) tag.mark from result }
+    ensures { Resolves (resolved tags.now tag.handle.items tag.suffix.items) tag.mark from result }
 {
     let handle = tag.handle.as_slice();
     if handle.is_empty() {
         return Ok(tag.suffix);
     }
     let suffix = tag.suffix.as_slice();
-    match find_prefix(tags, handle) {
+    match tags.prefix_of(handle) {
         Some(prefix) => Ok(joined(alloc, prefix, suffix)?),
         None => match find_default(handle) {
             Some(prefix) => Ok(joined(alloc, prefix, suffix)?),
@@ -257,6 +246,7 @@ fn note_version(
 
 // A `%TAG` directive.
 fn note_tag(
+    alloc: Global,
     directives: &mut Directives,
     handle: Vec<u8>,
     prefix: Vec<u8>,
@@ -264,14 +254,9 @@ fn note_tag(
 ) -> Result<(), Refusal>
     ensures { Notes (with_tag (directive_for handle.items (directives_of directives.old).tags) (directives_of directives.old) handle.items prefix.items at) result (directives_of directives.new) }
 {
-    match find_prefix(directives.tags.as_slice(), handle.as_slice()) {
+    match directives.tags.prefix_of(handle.as_slice()) {
         Some(_) => Err(fault_at(ParseProblem::DuplicateHandle, at, at)),
-        None => {
-            directives
-                .tags
-                .push(yaml_tag_directive_t { handle, prefix })?;
-            Ok(())
-        }
+        None => directives.tags.push(alloc, handle, prefix),
     }
 }
 
@@ -307,7 +292,7 @@ fn settle_body(
             Ok(None)
         }
         ItemBody::TagDirective { handle, prefix } => {
-            note_tag(directives, handle, prefix, from)?;
+            note_tag(alloc, directives, handle, prefix, from)?;
             Ok(None)
         }
         ItemBody::Document { implicit } => Ok(Some(yaml_event_body_t::DocumentStart {
@@ -318,7 +303,7 @@ fn settle_body(
         ItemBody::Node { anchor, tag, shape } => {
             let full = match tag {
                 None => None,
-                Some(tag) => Some(resolve(alloc, directives.tags.as_slice(), tag, from)?),
+                Some(tag) => Some(resolve(alloc, &directives.tags, tag, from)?),
             };
             Ok(Some(node(alloc, anchor, full, shape)))
         }

@@ -1,0 +1,2 @@
+pub mod Sinks
+mod Encodes

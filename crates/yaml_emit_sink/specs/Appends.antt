@@ -1,5 +1,5 @@
 -- Bytes that are appended, as far as the limit and the memory allow.
-use Rattle.std.specs.Prelude.{◌≡◌, ℕ, ◌+◌, ◌<◌, ◌≤◌, Bool, true, if◌then◌else◌, List, ◌++◌, length, take}
+use Rattle.std.specs.Prelude.{◌≡◌, ℕ, ◌+◌, ◌<◌, ◌≤◌, Bool, true, false, if◌then◌else◌, List, ◌++◌, length, take}
 use Rattle.yaml_emit_sink.specs.declared.cursor.Cursor.{Cursor}
 use Rattle.yaml_emit_sink.specs.declared.cursor.Status.{Status}
 use Rattle.yaml_emit_sink.specs.declared.cursor.Status.TheVariants.{Going, Full, Deep, Starved}
@@ -18,3 +18,7 @@ moved c ends white bare = record { column = if ends then 0 else c.column + 1; wh
 -- the cursor behind so many spaces, one at least
 abbrev pub blanked : ℕ → Cursor → Cursor
 blanked n c = record { column = c.column + n; white = true; bare = c.bare; kept = c.kept }
+
+-- the cursor behind so many characters, one at least
+abbrev pub lettered : ℕ → Cursor → Cursor
+lettered n c = record { column = c.column + n; white = false; bare = false; kept = c.kept }

@@ -1,7 +1,7 @@
 //! Bytes at the end of the output.
 
 ghost use Rattle.std.specs.Prelude.{◌≡◌, ◌≢◌, ◌<◌, ◌≤◌, ◌+◌, ◌^◌, [], ◌∷◌, ◌++◌, length, replicate, if◌then◌else◌, IfSome, OnOk, OnErr};
-ghost use Rattle.yaml_emit_sink.specs.Appends.{AppendsBy, moved, blanked};
+ghost use Rattle.yaml_emit_sink.specs.Appends.{AppendsBy, moved, blanked, lettered};
 ghost use Rattle.yaml_emit_sink.specs.Text.{char_bytes};
 
 use crate::bytes::bytes_of;
@@ -89,6 +89,19 @@ pub(crate) fn blanked(at: Cursor, count: u64) -> Cursor
         column: at.column + count,
         white: true,
         bare: at.bare,
+        kept: at.kept,
+    }
+}
+
+// The cursor behind so many characters, one at least.
+pub(crate) fn lettered(at: Cursor, count: u64) -> Cursor
+    requires { at.column + count < 2 ^ 64 }
+    ensures { result ≡ lettered count at }
+{
+    Cursor {
+        column: at.column + count,
+        white: false,
+        bare: false,
         kept: at.kept,
     }
 }

@@ -2,7 +2,7 @@
 
 ghost use Rattle.std.specs.Prelude.{◌≡◌, ◌≢◌, ◌<◌, ◌≤◌, ℕ, ◌∷◌, [], ◌++◌, ◌+◌, ◌-◌, length, ◌^◌, false, true};
 
-use crate::append::{append_blanks, append_char, blanked, moved};
+use crate::append::{append, append_blanks, append_char, blanked, lettered, moved};
 use crate::cursor::{Cursor, Status};
 use crate::settings::{Encoding, LineBreak};
 use std::alloc::{AllocError, Global};
@@ -30,6 +30,7 @@ impl Model for Sink {
 }
 
 impl Sink {
+    ghost use Rattle.std.specs.Str.{IsAscii};
     ghost use Rattle.yaml_emit_sink.specs.Sink.{Puts, Output, stroke};
     ghost use Rattle.yaml_emit_sink.specs.Text.{letter, deep};
     ghost use Rattle.yaml_emit_sink.specs.Layout.{Layout, char, letters, blank, blanks, break, new_line, gap, word, indicator, opener, line, wrap, keep, dark, light, choose, stay, must_break, indent_to, is_white, is_past, too_deep, order_mark, start};
@@ -146,6 +147,35 @@ impl Sink {
     {
         for byte in text {
             self.put(*byte as char);
+        }
+    }
+
+    // Characters of one byte, one at least, at once.
+    fn put_bytes(&mut self, text: &[u8])
+        requires some { 0 < length text.now }
+        requires ascii { IsAscii text.now }
+        requires bytes { self.old.encoding ≡ Encoding.Utf8 }
+        ensures { Puts self.old self.new (letters text.now) }
+    {
+        if self.status.is_going() {
+            self.status = append(&mut self.output, self.limit, text);
+            if self.status.is_going() {
+                self.cursor = lettered(self.cursor, text.len() as u64);
+            }
+        }
+    }
+
+    /// A text in ASCII, at once where each character is a byte.
+    pub fn put_ascii(&mut self, text: &[u8])
+        requires { IsAscii text.now }
+        ensures { Puts self.old self.new (letters text.now) }
+    {
+        if text.is_empty() {
+            return;
+        }
+        match self.encoding() {
+            Encoding::Utf8 => self.put_bytes(text),
+            _ => self.put_all(text),
         }
     }
 

@@ -2,11 +2,11 @@
 use Rattle.std.proofs.Common.{◌≡◌, ℕ, ◌+◌, ◌<◌, ◌≤◌, Bool, List, [], ◌∷◌, ◌++◌, length, drop, get_or, IsUtf8, refl, sym, subst, ◌∙◌, ap, encode_utf8}
 use Rattle.std.specs.Str.{chars}
 use Rattle.std.proofs.lemmas.Str.{encodes-chars, cons_from_encodes, chars_from_encodes}
-use Rattle.yaml_emit_text.specs.Layout.{Layout, ◌▹◌, char, letters}
+use Rattle.yaml_emit_sink.specs.Layout.{Layout, ◌▹◌, char, letters}
 use Rattle.std.proofs.lemmas.List.{drop_more, drop_all}
-use Rattle.yaml_emit_text.specs.Sink.{Output, Owes, Puts}
+use Rattle.yaml_emit_sink.specs.Sink.{Output, Owes, Puts}
 use Rattle.yaml_emit_text.specs.Tags.{uri_text, uri_byte}
-use Rattle.yaml_emit_text.proofs.Sinks.{puts_both, owes_more}
+use Rattle.yaml_emit_sink.proofs.Sinks.{puts_both, owes_more}
 
 -- the first character is the first of the characters
 pub first_of : (bs rest : List ℕ) (c : ℕ) → IsUtf8 bs → IsUtf8 rest → bs ≡ encode_utf8 c ++ rest → chars bs ≡ c ∷ chars rest

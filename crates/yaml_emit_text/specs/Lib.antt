@@ -1,11 +1,11 @@
-pub mod Settings
-pub mod Text
-pub mod Layout
-pub mod Appends
-pub mod Sink
 pub mod Quoted
 pub mod Style
 pub mod Scalars
 pub mod Tags
 pub mod Spelling
-pub mod Laws
+pub use Rattle.yaml_emit_sink.specs.Settings
+pub use Rattle.yaml_emit_sink.specs.Text
+pub use Rattle.yaml_emit_sink.specs.Layout
+pub use Rattle.yaml_emit_sink.specs.Appends
+pub use Rattle.yaml_emit_sink.specs.Sink
+pub use Rattle.yaml_emit_sink.specs.Laws

@@ -5,9 +5,9 @@ use Rattle.yaml_emit_text.specs.declared.page.Style.{Style}
 use Rattle.yaml_emit_text.specs.declared.page.Style.TheVariants as style
 use Rattle.yaml_emit_text.specs.declared.page.Chomp.{Chomp}
 use Rattle.yaml_emit_text.specs.declared.page.Chomp.TheVariants as chomping
-use Rattle.yaml_emit_text.specs.declared.settings.LineBreak.{LineBreak}
-use Rattle.yaml_emit_text.specs.Text.{is_break}
-use Rattle.yaml_emit_text.specs.Layout.{Layout, ◌▹◌, stay, choose, when, char, break, new_line, gap, line, is_past, keep, dark, light}
+use Rattle.yaml_emit_sink.specs.declared.LineBreak.{LineBreak}
+use Rattle.yaml_emit_sink.specs.Text.{is_break}
+use Rattle.yaml_emit_sink.specs.Layout.{Layout, ◌▹◌, stay, choose, when, char, break, new_line, gap, line, is_past, keep, dark, light}
 use Rattle.yaml_emit_text.specs.Quoted.{double_quoted, first, is_empty}
 use Rattle.yaml_emit_text.specs.Style.{is_blank}
 

@@ -2,9 +2,9 @@
 
 ghost use Rattle.std.specs.Prelude.{◌≡◌, ◌+◌, true, false, not, ◌&&◌, ◌||◌, ◌==◌, if◌then◌else◌};
 ghost use Rattle.std.specs.Str.{chars};
-ghost use Rattle.yaml_emit_text.specs.Sink.{Puts};
-ghost use Rattle.yaml_emit_text.specs.Text.{is_break};
-ghost use Rattle.yaml_emit_text.specs.Layout.{◌▹◌, stay, choose, when, char, break, new_line, gap, line, is_past, keep, light};
+ghost use Rattle.yaml_emit_sink.specs.Sink.{Puts};
+ghost use Rattle.yaml_emit_sink.specs.Text.{is_break};
+ghost use Rattle.yaml_emit_sink.specs.Layout.{◌▹◌, stay, choose, when, char, break, new_line, gap, line, is_past, keep, light};
 ghost use Rattle.yaml_emit_text.specs.Quoted.{first};
 ghost use Rattle.yaml_emit_text.specs.Style.{is_blank};
 ghost use Rattle.yaml_emit_text.specs.Scalars.{value_break, cut, behind_breaks, adds_break, cuts_block, line_blank, block_text, block_char, block_body, chomp_of, chomp, chomp_mark, digit_char, digit_mark, block_header, block};
@@ -13,8 +13,8 @@ use crate::flow::{put_cut, put_line_if, put_new_line_if, put_value_break};
 use crate::letters::{first, is_break, split_first};
 use crate::page::{Chomp, Page};
 use crate::quoted::put_if;
-use crate::sink::Sink;
 use crate::style::is_blank;
+use yaml_emit_sink::Sink;
 
 // The first character behind a run of breaks; the end counts as a space.
 fn behind_breaks(text: &str) -> char

@@ -2,17 +2,16 @@
 
 ghost use Rattle.std.specs.Prelude.{◌≡◌, not, ◌&&◌, ◌||◌, ◌==◌, if◌then◌else◌};
 ghost use Rattle.std.specs.Str.{chars};
-ghost use Rattle.yaml_emit_text.specs.Sink.{Puts};
-ghost use Rattle.yaml_emit_text.specs.Text.{is_break};
-ghost use Rattle.yaml_emit_text.specs.Layout.{◌▹◌, stay, choose, when, char, break, new_line, gap, line, is_past, dark};
+ghost use Rattle.yaml_emit_sink.specs.Sink.{Puts};
+ghost use Rattle.yaml_emit_sink.specs.Text.{is_break};
+ghost use Rattle.yaml_emit_sink.specs.Layout.{◌▹◌, stay, choose, when, char, break, new_line, gap, line, is_past, dark};
 ghost use Rattle.yaml_emit_text.specs.Quoted.{first, is_empty};
 ghost use Rattle.yaml_emit_text.specs.Scalars.{value_break, cuts_at, cut, quote_char, text_char, flow_char, flow_body, plain, single_quoted};
 
 use crate::letters::{first, is_break, is_empty, split_first};
 use crate::page::Page;
 use crate::quoted::put_if;
-use crate::settings::LineBreak;
-use crate::sink::Sink;
+use yaml_emit_sink::{LineBreak, Sink};
 
 // A break of a value: LF as the break that is set, the others as they are.
 pub(crate) fn put_value_break(sink: &mut Sink, line_break: LineBreak, c: char)

@@ -1,4 +1,4 @@
-use Rattle.yaml_emit_text.proofs.Sinks.{owes_same}
+use Rattle.yaml_emit_sink.proofs.Sinks.{owes_same}
 use Rattle.yaml_emit_text.proofs.Walks.{block_more, block_all}
 use Rattle.yaml_emit_text.proofs.block.put_block_body.Goals as goal
 

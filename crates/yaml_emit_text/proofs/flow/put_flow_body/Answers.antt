@@ -1,4 +1,4 @@
-use Rattle.yaml_emit_text.proofs.Sinks.{owes_same}
+use Rattle.yaml_emit_sink.proofs.Sinks.{owes_same}
 use Rattle.yaml_emit_text.proofs.Walks.{walk_more, walk_all, flow_law, flow_end}
 use Rattle.yaml_emit_text.specs.Scalars.{flow_body, flow_char}
 use Rattle.yaml_emit_text.proofs.flow.put_flow_body.Goals as goal

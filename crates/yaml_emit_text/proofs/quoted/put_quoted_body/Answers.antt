@@ -1,4 +1,4 @@
-use Rattle.yaml_emit_text.proofs.Sinks.{owes_same}
+use Rattle.yaml_emit_sink.proofs.Sinks.{owes_same}
 use Rattle.yaml_emit_text.proofs.Walks.{walk_more, walk_end}
 use Rattle.yaml_emit_text.proofs.Escapes.{quoted_law, quoted_end}
 use Rattle.yaml_emit_text.specs.Quoted.{quoted_body, quoted_char}

@@ -1,5 +1,5 @@
-use Rattle.std.proofs.Common.{arith, sym, ◌∙◌, ap, length, refl}
-use Rattle.yaml_emit.proofs.Holding.{leads_same, leads_more, both_left, both_right, both_false}
+use Rattle.std.proofs.Common.{sym, ◌∙◌}
+use Rattle.yaml_emit.proofs.Holding.{leads_same, leads_more, both_right, both_false}
 use Rattle.yaml_emit.proofs.release.release.Goals as goal
 
 pub loop-held-init : goal.loop-held-init

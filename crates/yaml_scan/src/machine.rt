@@ -157,6 +157,7 @@ impl<'a> Machine<'a> {
     }
 
     /// Whether the next token is known, whatever follows.
+    #[inline(always)]
     pub(crate) fn has_token(&self) -> bool
         ensures { result ≡ is_ready self.now }
     {

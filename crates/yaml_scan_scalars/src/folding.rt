@@ -49,7 +49,7 @@ impl Folding {
         ensures line { IfOk result (λ f. (f.gap ≡ Gap.Line) × (f.blanks.items ≡ [])) }
     {
         let mut done = Vec::with_capacity(alloc, FIRST_CAPACITY)?;
-        done.push(byte)?;
+        done.push_reserved(byte);
         Ok(Folding {
             done,
             blanks: Vec::new(alloc),

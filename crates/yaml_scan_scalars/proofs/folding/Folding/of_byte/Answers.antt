@@ -5,4 +5,4 @@ use Rattle.yaml_scan_scalars.proofs.folding.Folding.of_byte.Goals as goal
 
 pub returns-clause-value : goal.returns-clause-value
 returns-clause-value c = λ ps.
-    rw (c.in_ok-push.ensures.items, c.in_ok-done.ensures.items, c.new.ensures.items) (keep_line [] [] (c.args.byte ∷ []) ps ∙ resume_start (Kept (c.args.byte ∷ []) ∷ ps))
+    rw (c.push_reserved.ensures.items, c.in_ok-done.ensures.items, c.new.ensures.items) (keep_line [] [] (c.args.byte ∷ []) ps ∙ resume_start (Kept (c.args.byte ∷ []) ∷ ps))

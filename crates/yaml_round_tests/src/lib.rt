@@ -1,5 +1,4 @@
-//! Tests that cross the crates: tokens to events and documents, events to text, and the engine over slices and over
-//! scripted devices.
+//! Tests that cross the crates: tokens to events and documents, and the engine over slices and over scripted devices.
 #![tactic(auto)]
 
 #[cfg(test)]
@@ -9,13 +8,7 @@ mod deep;
 #[cfg(test)]
 mod devices;
 #[cfg(test)]
-mod documents;
-#[cfg(test)]
-mod emitting;
-#[cfg(test)]
 mod faults;
-#[cfg(test)]
-mod grammar;
 #[cfg(test)]
 mod keys;
 #[cfg(test)]

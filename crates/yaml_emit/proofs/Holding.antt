@@ -1,17 +1,16 @@
 -- What is held, and when it is laid out.
-use Rattle.std.proofs.Common.{◌≡◌, ◌≢◌, ℕ, ◌<◌, List, [], ◌∷◌, ◌++◌, length, Bool, true, false, refl, sym, subst, ◌∙◌, ap, arith, None, append_assoc, append-nil}
+use Rattle.std.proofs.Common.{◌≡◌, ℕ, ◌<◌, List, [], ◌∷◌, ◌++◌, length, Bool, true, false, refl, sym, subst, ◌∙◌, ap, arith}
 use Rattle.std.specs.Prelude.{nat_le, ◌||◌, ◌&&◌, ◌≤◌}
 use Rattle.std.proofs.lemmas.Bool.Decides.{nat_tests}
-use Rattle.yaml_emit_text.specs.Text.{Item}
 use Rattle.yaml_emit_layout.specs.Content.{Event, no_event, stream_start, stream_end, document_start, document_end, alias, scalar, sequence_start, sequence_end, mapping_start, mapping_end}
 use Rattle.yaml_emit_layout.specs.State.{opens_empty}
 use Rattle.yaml_emit_state.specs.declared.Core.{Core}
 use Rattle.yaml_emit_state.specs.Steps.{LaysOut}
 use Rattle.yaml_emit_state.specs.Finish.{Finishes, Leads}
 use Rattle.yaml_emit_state.proofs.Finishing.{finishes_on}
-use Rattle.yaml_emit.specs.Held.{is_ready, has_enough, needs, closes}
+use Rattle.yaml_emit.specs.Held.{is_ready, needs, closes}
 
-ready_empty : (e : Event) (es more : List Event) → is_ready (e ∷ es) ≡ true → opens_empty e (es ++ more) ≡ opens_empty e es
+pub ready_empty : (e : Event) (es more : List Event) → is_ready (e ∷ es) ≡ true → opens_empty e (es ++ more) ≡ opens_empty e es
 unfolding is_ready opens_empty
 ready_empty (sequence_start p) [] more h = absurd (cc)
 ready_empty (mapping_start p) [] more h = absurd (cc)

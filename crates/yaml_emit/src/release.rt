@@ -7,6 +7,7 @@ ghost use Rattle.yaml_emit_layout.specs.Content.{said};
 ghost use Rattle.yaml_emit_state.specs.Steps.{goes_on};
 ghost use Rattle.yaml_emit_state.specs.Finish.{Leads};
 ghost use Rattle.yaml_emit.specs.Held.{held_events, HeldUtf8, is_ready};
+ghost use Rattle.yaml_emit.specs.Judged.{Judges};
 
 use crate::held::Held;
 use yaml_emit_state::Core;
@@ -23,6 +24,7 @@ fn is_due(core: &Core, held: &Held) -> bool
 pub(crate) fn release(core: &mut Core, held: Held) -> Held
     requires { HeldUtf8 held }
     ensures leads { Leads core.old (held_events held) core.new (held_events result) }
+    ensures judges { Judges core.old (held_events held) core.new (held_events result) }
     ensures utf8 { HeldUtf8 result }
     ensures waits { goes_on core.new.sink.status core.new.place ≡ true → is_ready (held_events result) ≡ false }
 {
@@ -41,6 +43,7 @@ pub(crate) fn give(core: &mut Core, held: Held, event: yaml_event_body_t) -> Hel
     requires few { is_ready (held_events held) ≡ false }
     requires utf8 { HeldUtf8 held × HasUtf8 (body_of event) }
     ensures leads { Leads core.old (held_events held ++ said (body_of event) ∷ []) core.new (held_events result) }
+    ensures judges { Judges core.old (held_events held ++ said (body_of event) ∷ []) core.new (held_events result) }
     ensures utf8 { HeldUtf8 result }
     ensures waits { goes_on core.new.sink.status core.new.place ≡ true → is_ready (held_events result) ≡ false }
 {

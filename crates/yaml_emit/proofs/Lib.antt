@@ -1,7 +1,9 @@
 pub mod Opening
 pub mod Holding
+pub mod Judging
 pub mod Ending
 pub mod Emitting
+pub mod Verdicts
 pub mod Walking
 pub mod Contents
 pub mod Counting

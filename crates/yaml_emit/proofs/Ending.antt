@@ -61,7 +61,7 @@ enough : (e : Event) (es : List Event) → 3 ≤ length es → is_ready (e ∷ e
 unfolding is_ready
 enough e es h = ap (λ v. v || closes es) (le_more (needs e) (length es) 0 (few_needs e) h)
 
-none_needed : (e : Event) (es : List Event) → needs e ≡ 0 → is_ready (e ∷ es) ≡ true
+pub none_needed : (e : Event) (es : List Event) → needs e ≡ 0 → is_ready (e ∷ es) ≡ true
 unfolding is_ready
 none_needed e es h = let k : nat_le (needs e) (length es) ≡ true = rw h (grind (arith, nat_tests)) in ap (λ v. v || closes es) k
 

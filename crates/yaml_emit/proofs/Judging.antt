@@ -1,14 +1,14 @@
 -- An event that is laid out is judged, and what follows is judged and written as before.
-use Rattle.std.proofs.Common.{◌≡◌, ℕ, ◌+◌, List, [], ◌∷◌, ◌++◌, length, Bool, true, false, refl, sym, subst, ◌∙◌, ap, arith, Option, Some, None, length-append}
+use Rattle.std.proofs.Common.{◌≡◌, ◌≢◌, ℕ, ◌+◌, List, [], ◌∷◌, ◌++◌, length, Bool, true, false, refl, sym, subst, ◌∙◌, ap, arith, Option, Some, None, length-append}
 use Rattle.std.specs.Prelude.{not, nat_le, ◌||◌, ◌&&◌}
 use Rattle.std.proofs.lemmas.Bool.Decides.{nat_tests}
 use Rattle.yaml_parse.specs.Events.{TagDirective}
 use Rattle.yaml_emit_text.specs.declared.Cursor.{Cursor}
 use Rattle.yaml_emit_text.specs.declared.Settings.{Settings}
 use Rattle.yaml_emit_text.specs.declared.Status.{Status}
-use Rattle.yaml_emit_text.specs.declared.Status.TheVariants.{Going}
+use Rattle.yaml_emit_text.specs.declared.Status.TheVariants.{Going, Full, Deep, Starved}
 use Rattle.yaml_emit_text.specs.Text.{Item}
-use Rattle.yaml_emit_text.specs.Layout.{Layout, Rest, when, nothing_more}
+use Rattle.yaml_emit_text.specs.Layout.{Layout, Rest, stay, nothing_more}
 use Rattle.yaml_emit_text.specs.Sink.{Ends, Puts}
 use Rattle.yaml_emit_text.proofs.Sinks.{ends_other, status_cases}
 use Rattle.yaml_emit_layout.specs.declared.Problem.{Problem}
@@ -20,13 +20,14 @@ use Rattle.yaml_emit_layout.specs.declared.Place.TheVariants as at
 use Rattle.yaml_emit_layout.specs.Content.{Event, no_event, stream_start, stream_end, document_start, document_end, alias, scalar, sequence_start, sequence_end, mapping_start, mapping_end}
 use Rattle.yaml_emit_layout.specs.Grammar.{or_else, ends_phase, begins_node, may_come, node_problem, place_problem, problem_by, event_problem, last_problem}
 use Rattle.yaml_emit_layout.specs.Nodes.{Context, context_of}
-use Rattle.yaml_emit_layout.specs.State.{State, piece, next, next_at, problem_at, opens_empty, top_of, outer_of, place_at, among, levels_behind, phase_behind}
+use Rattle.yaml_emit_layout.specs.State.{State, piece, next, next_at, problem_at, opens_empty, begins_by, is_sequence_end, is_mapping_end, top_of, outer_of, place_at, among, levels_behind, phase_behind}
 use Rattle.yaml_emit_state.specs.declared.Core.{Core}
 use Rattle.yaml_emit_state.specs.Steps.{state_of, settings_of, next_state, next_piece, LaysOut, goes_on}
-use Rattle.yaml_emit.specs.Held.{is_ready, needs, closes, passes, opens_level, ends_level}
+use Rattle.yaml_emit.specs.Held.{is_ready, has_enough, needs, closes, passes, opens_level, ends_level}
+use Rattle.yaml_emit.specs.Judged.{Due, item_due, key_due, value_due, Shape, shape_after, inside, behind_node, outer_due, phase_due, level_due, problem_in, let_out, first_refusal, unless, laid, refused_at, due_in, due_of, shape_of, refusal_from, text_from, refusal_behind, LetsOut, Judges}
 use Rattle.yaml_emit.proofs.Opening.{opens_none}
-use Rattle.yaml_emit.specs.Judged.{Due, item_due, key_due, Shape, shape_after, inside, behind_node, outer_due, phase_due, level_due, problem_in, first_refusal, unless, let_out, refused_at, due_in, due_of, shape_of, refusal_from, text_from, refusal_behind, LetsOut, Judges}
 use Rattle.yaml_emit.proofs.Holding.{ready_empty}
+use Rattle.yaml_emit.proofs.Ending.{none_needed}
 
 -- ---- what is ready stays so
 
@@ -159,18 +160,22 @@ pub or_some : (p q : Option Problem) (x : Problem) → p ≡ Some x → or_else 
 or_some None q x e = absurd (cc)
 or_some (Some y) q x e = e
 
-first_step : (canonical : Bool) (h : Shape) (e : Event) (es : List Event) → is_ready (e ∷ es) ≡ true → first_refusal canonical h (e ∷ es) ≡ or_else (problem_in canonical h e) (first_refusal canonical (shape_after h e) es)
+first_out : (e : Event) (es : List Event) → is_ready (e ∷ es) ≡ true → let_out (e ∷ es) ≡ e ∷ let_out es
+unfolding let_out
+first_out e es r = rw r refl
+
+first_step : (canonical : Bool) (h : Shape) (e : Event) (es : List Event) → is_ready (e ∷ es) ≡ true → first_refusal canonical h (let_out (e ∷ es)) ≡ or_else (problem_in canonical h e) (first_refusal canonical (shape_after h e) (let_out es))
 unfolding first_refusal
-first_step canonical h e es r = rw r refl
+first_step canonical h e es r = ap (first_refusal canonical h) (first_out e es r)
 
 refusal_step : (s : Settings) (st new : State) (e : Event) (empty : Bool) (d : Cursor) (es : List Event) (p : Option Problem) → p ≡ problem_at s st e → refused_at st.place ≡ None → is_ready (e ∷ es) ≡ true
     → new ≡ next_state p st (next s st e empty d) → refusal_from s.canonical new es ≡ refusal_from s.canonical st (e ∷ es)
 refusal_step s st new e empty d es None pe o r same =
     let right : problem_in s.canonical (shape_of st) e ≡ None = sym (same_problem s st e) ∙ sym pe in
-    let front : refusal_from s.canonical st (e ∷ es) ≡ first_refusal s.canonical (shape_after (shape_of st) e) es =
+    let front : refusal_from s.canonical st (e ∷ es) ≡ first_refusal s.canonical (shape_after (shape_of st) e) (let_out es) =
     or_none (refused_at st.place) _ o ∙ (first_step s.canonical (shape_of st) e es r ∙ or_none _ _ right) in
-    let back : refusal_from s.canonical (next s st e empty d) es ≡ first_refusal s.canonical (shape_after (shape_of st) e) es =
-    or_none _ _ (open_next s st e empty d o) ∙ ap (λ z. first_refusal s.canonical z es) (shape_next s st e empty d) in
+    let back : refusal_from s.canonical (next s st e empty d) es ≡ first_refusal s.canonical (shape_after (shape_of st) e) (let_out es) =
+    or_none _ _ (open_next s st e empty d o) ∙ ap (λ z. first_refusal s.canonical z (let_out es)) (shape_next s st e empty d) in
     ap (λ z. refusal_from s.canonical z es) same ∙ (back ∙ sym front)
 refusal_step s st new e empty d es (Some x) pe o r same =
     let wrong : problem_in s.canonical (shape_of st) e ≡ Some x = sym (same_problem s st e) ∙ sym pe in
@@ -188,25 +193,70 @@ pub unless_some : (p : Option Problem) (x : Problem) (a : Layout) (c : Cursor) (
 unless_some None x a c rest e = absurd (cc)
 unless_some (Some y) x a c rest e = refl
 
-when_true : (b : Bool) (a : Layout) (c : Cursor) (rest : Rest) → b ≡ true → when b a c rest ≡ a c rest
-when_true true a c rest e = refl
-when_true false a c rest e = absurd (cc)
+held_none : (f : Event) (es : List Event) → is_ready (f ∷ es) ≡ false → let_out (f ∷ es) ≡ []
+unfolding let_out
+held_none f es r = rw r refl
+
+out_begins : (p : Event → Bool) (b : Bool) (f : Event) (es : List Event) → is_ready (f ∷ es) ≡ b → (b ≡ false → p f ≡ false) → begins_by p (let_out (f ∷ es)) ≡ p f
+out_begins p true f es r n = ap (begins_by p) (first_out f es r)
+out_begins p false f es r n = ap (begins_by p) (held_none f es r) ∙ sym (n refl)
+
+-- an end is never held
+end_sequence : (f : Event) (es : List Event) → is_ready (f ∷ es) ≡ false → is_sequence_end f ≡ false
+end_sequence sequence_end es r = let k = none_needed sequence_end es refl in absurd (cc)
+end_sequence f es r = refl
+
+end_mapping : (f : Event) (es : List Event) → is_ready (f ∷ es) ≡ false → is_mapping_end f ≡ false
+end_mapping mapping_end es r = let k = none_needed mapping_end es refl in absurd (cc)
+end_mapping f es r = refl
+
+sequence_begins : (es : List Event) → begins_by is_sequence_end (let_out es) ≡ begins_by is_sequence_end es
+unfolding let_out
+sequence_begins [] = refl
+sequence_begins (f ∷ es) = out_begins is_sequence_end (is_ready (f ∷ es)) f es refl (end_sequence f es)
+
+mapping_begins : (es : List Event) → begins_by is_mapping_end (let_out es) ≡ begins_by is_mapping_end es
+unfolding let_out
+mapping_begins [] = refl
+mapping_begins (f ∷ es) = out_begins is_mapping_end (is_ready (f ∷ es)) f es refl (end_mapping f es)
+
+empty_out : (e : Event) (es : List Event) → opens_empty e (let_out es) ≡ opens_empty e es
+unfolding opens_empty
+empty_out (sequence_start p) es = sequence_begins es
+empty_out (mapping_start p) es = mapping_begins es
+empty_out no_event es = refl
+empty_out (stream_start x) es = refl
+empty_out stream_end es = refl
+empty_out (document_start o) es = refl
+empty_out (document_end implicit) es = refl
+empty_out (alias name) es = refl
+empty_out (scalar x) es = refl
+empty_out sequence_end es = refl
+empty_out mapping_end es = refl
 
 -- what comes of a list behind its first event
-behind : Settings → State → Event → List Event → Rest → Rest
-behind s st e es rest d = let_out s (next s st e (opens_empty e es) d) es d rest
+behind : Settings → State → Event → Bool → List Event → Rest → Rest
+behind s st e empty es rest d = laid s (next s st e empty d) es d rest
+
+laid_right : (s : Settings) (st : State) (e : Event) (es : List Event) (c : Cursor) (rest : Rest) → problem_at s st e ≡ None → laid s st (e ∷ es) c rest ≡ piece s st e (opens_empty e es) c (behind s st e (opens_empty e es) es rest)
+unfolding laid behind
+laid_right s st e es c rest p = unless_none (problem_at s st e) _ c rest p
 
 text_right : (s : Settings) (st : State) (e : Event) (es : List Event) (c : Cursor) (rest : Rest) → refused_at st.place ≡ None → is_ready (e ∷ es) ≡ true → problem_at s st e ≡ None
-    → text_from s st (e ∷ es) c rest ≡ piece s st e (opens_empty e es) c (behind s st e es rest)
-unfolding let_out behind
+    → text_from s st (e ∷ es) c rest ≡ piece s st e (opens_empty e es) c (behind s st e (opens_empty e es) (let_out es) rest)
 text_right s st e es c rest o r p =
-    unless_none (refused_at st.place) _ c rest o ∙ (when_true (is_ready (e ∷ es)) _ c rest r ∙ unless_none (problem_at s st e) _ c rest p)
+    unless_none (refused_at st.place) _ c rest o
+    ∙ (ap (λ z. laid s st z c rest) (first_out e es r)
+    ∙ (laid_right s st e (let_out es) c rest p ∙ ap (λ b. piece s st e b c (behind s st e b (let_out es) rest)) (empty_out e es)))
+
+laid_wrong : (s : Settings) (st : State) (e : Event) (es : List Event) (c : Cursor) (rest : Rest) (x : Problem) → problem_at s st e ≡ Some x → laid s st (e ∷ es) c rest ≡ rest c
+unfolding laid
+laid_wrong s st e es c rest x p = unless_some (problem_at s st e) x _ c rest p
 
 text_wrong : (s : Settings) (st : State) (e : Event) (es : List Event) (c : Cursor) (rest : Rest) (x : Problem) → refused_at st.place ≡ None → is_ready (e ∷ es) ≡ true → problem_at s st e ≡ Some x
     → text_from s st (e ∷ es) c rest ≡ rest c
-unfolding let_out
 text_wrong s st e es c rest x o r p =
-    unless_none (refused_at st.place) _ c rest o ∙ (when_true (is_ready (e ∷ es)) _ c rest r ∙ unless_some (problem_at s st e) x _ c rest p)
+    unless_none (refused_at st.place) _ c rest o ∙ (ap (λ z. laid s st z c rest) (first_out e es r) ∙ laid_wrong s st e (let_out es) c rest x p)
 
 same_settings : (old new : Core) → new.settings ≡ old.settings → new.sink.encoding ≡ old.sink.encoding → settings_of new ≡ settings_of old
 same_settings old new e x = rw (e, x) refl
@@ -228,11 +278,11 @@ text_step None old new e es whole o r l h =
     let st : State = state_of old in
     let P : List Item → Type 0 = λ t. Ends old.sink t whole in
     let front = subst P (text_right s st e es old.sink.cursor nothing_more o r l.problem) h in
-    let back : Ends new.sink (behind s st e es nothing_more new.sink.cursor) whole = l.text.ends (behind s st e es nothing_more) whole front in
+    let back : Ends new.sink (behind s st e (opens_empty e es) (let_out es) nothing_more new.sink.cursor) whole = l.text.ends (behind s st e (opens_empty e es) (let_out es) nothing_more) whole front in
     status_cases new.sink.status
     (λ g.
     let at : State = next s st e (opens_empty e es) new.sink.cursor in
-    let same : text_from s at es new.sink.cursor nothing_more ≡ behind s st e es nothing_more new.sink.cursor = unless_none _ _ _ _ (open_next s st e (opens_empty e es) new.sink.cursor o) in
+    let same : text_from s at es new.sink.cursor nothing_more ≡ behind s st e (opens_empty e es) (let_out es) nothing_more new.sink.cursor = unless_none _ _ _ _ (open_next s st e (opens_empty e es) new.sink.cursor o) in
     let Q : List Item → Type 0 = λ t. Ends new.sink t whole in
     let R : State → Type 0 = λ z. Ends new.sink (text_from s z es new.sink.cursor nothing_more) whole in
     let S : Settings → Type 0 = λ z. Ends new.sink (text_from z (state_of new) es new.sink.cursor nothing_more) whole in

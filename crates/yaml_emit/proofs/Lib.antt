@@ -1,6 +1,7 @@
 pub mod Opening
 pub mod Holding
 pub mod Judging
+pub mod Grammatical
 pub mod Ending
 pub mod Emitting
 pub mod Verdicts

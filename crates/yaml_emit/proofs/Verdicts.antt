@@ -1,5 +1,5 @@
 -- What an emitter refuses and has written.
-use Rattle.std.proofs.Common.{◌≡◌, ℕ, List, [], ◌∷◌, ◌++◌, Bool, true, false, refl, sym, subst, ◌∙◌, ap, arith, Option, Some, None, append_assoc, append-nil, option_map}
+use Rattle.std.proofs.Common.{◌≡◌, ◌≢◌, ℕ, ◌≤◌, List, [], ◌∷◌, ◌++◌, length, Bool, true, false, refl, sym, subst, ◌∙◌, ap, arith, Option, Some, None, append_assoc, append-nil, option_map}
 use Rattle.yaml_scan.specs.Faults.{Fault, fault_of}
 use Rattle.yaml_scan.specs.declared.yaml_encoding_t.{yaml_encoding_t}
 use Rattle.yaml_scan.specs.declared.yaml_fault_t.{yaml_fault_t}
@@ -8,6 +8,7 @@ use Rattle.yaml_emit_text.specs.declared.Encoding.{Encoding}
 use Rattle.yaml_emit_text.specs.declared.Settings.{Settings}
 use Rattle.yaml_emit_text.specs.declared.Status.{Status}
 use Rattle.yaml_emit_text.specs.declared.Status.TheVariants.{Going, Full, Deep, Starved}
+use Rattle.yaml_emit_text.specs.declared.Wishes.{Wishes}
 use Rattle.yaml_emit_text.specs.Text.{Item, encode, is_deep}
 use Rattle.yaml_emit_text.specs.Settings.{settled}
 use Rattle.yaml_emit_text.specs.Layout.{Rest, nothing_more, written}
@@ -25,10 +26,10 @@ use Rattle.yaml_emit_state.specs.Finish.{Leads}
 use Rattle.yaml_emit.specs.Held.{held_events, is_ready}
 use Rattle.yaml_emit.specs.declared.held.Held.{Held}
 use Rattle.yaml_emit.specs.declared.emitter.yaml_emitter_t.TheInside.{Inside}
-use Rattle.yaml_emit.specs.Judged.{Shape, first_shape, first_refusal, unless, let_out, refused_at, refusal_from, text_from, refusal_behind, LetsOut, Judges}
+use Rattle.yaml_emit.specs.Judged.{Shape, first_shape, let_out, first_refusal, unless, laid, refused_at, refusal_from, text_from, refusal_behind, LetsOut, Judges}
 use Rattle.yaml_emit.specs.Emitter.{Emitter, emitter_of, IsEmitter, fault_by, refusal_of, stream_encoding, problem_fault}
-use Rattle.yaml_emit.specs.Verdict.{verdict_by, verdict, IsLetOut, WritesBy, Writes, Judged, JudgesFirst, HasLetOut, Tells}
-use Rattle.yaml_emit.proofs.Judging.{or_some, unless_some}
+use Rattle.yaml_emit.specs.Verdict.{verdict_by, verdict, first_settings, IsLetOut, WritesBy, Writes, Judged, JudgesFirst, HasLetOut, Tells}
+use Rattle.yaml_emit.proofs.Judging.{or_none, or_some, unless_none, unless_some}
 use Rattle.yaml_emit.proofs.Emitting.{not_true}
 
 -- ---- an event was given
@@ -62,7 +63,7 @@ inside_judges i core h held fault e fr same l j =
 
 -- ---- the settings came into force
 
-fresh_refuses : (core : Core) (s : Settings) (es : List Event) → IsFresh core s → refusal_behind core es ≡ first_refusal s.canonical first_shape es
+fresh_refuses : (core : Core) (s : Settings) (es : List Event) → IsFresh core s → refusal_behind core es ≡ first_refusal s.canonical first_shape (let_out es)
 unfolding refusal_behind
 fresh_refuses core s es f =
     ap (λ (z : Settings). refusal_from z.canonical (state_of core) es) f.settings ∙ ap (λ (z : State). refusal_from s.canonical z es) f.state
@@ -73,13 +74,13 @@ ends_fresh o t b g =
     let P : Status → Type 0 = λ z. EndsBy z o.limit o.encoding o.bytes t t in
     subst P (sym g) (rw b refl, (rw b (omega arith), refl))
 
-fresh_lets_out : (core : Core) (s : Settings) (es : List Event) → IsFresh core s → LetsOut core es (written (let_out s (placed at.StreamStart) es))
+fresh_lets_out : (core : Core) (s : Settings) (es : List Event) → IsFresh core s → LetsOut core es (written (laid s (placed at.StreamStart) (let_out es)))
 unfolding LetsOut
 fresh_lets_out core s es f =
     let text : List Item = text_from (settings_of core) (state_of core) es core.sink.cursor nothing_more in
-    let same : text ≡ written (let_out s (placed at.StreamStart) es) =
+    let same : text ≡ written (laid s (placed at.StreamStart) (let_out es)) =
     ap (λ (z : Settings). text_from z (state_of core) es core.sink.cursor nothing_more) f.settings
-    ∙ (ap (λ (z : State). text_from s z es core.sink.cursor nothing_more) f.state ∙ ap (λ (z : Cursor). let_out s (placed at.StreamStart) es z nothing_more) f.cursor) in
+    ∙ (ap (λ (z : State). text_from s z es core.sink.cursor nothing_more) f.state ∙ ap (λ (z : Cursor). laid s (placed at.StreamStart) (let_out es) z nothing_more) f.cursor) in
     let P : List Item → Type 0 = λ t. Ends core.sink text t in
     subst P same (ends_fresh core.sink text f.output f.status)
 
@@ -98,7 +99,7 @@ begin_writes old new e x es whole a b none f c =
     let Q : Bool → Type 0 = λ z. WritesBy z new x (e ∷ es) whole in
     let s : Settings = settled old.wishes (stream_encoding e) in
     let k : IsLetOut old.wishes x (e ∷ es) whole = subst P a c in
-    let R : List Event → Type 0 = λ t. LetsOut new.core (t ++ (e ∷ es)) (written (let_out s (placed at.StreamStart) (e ∷ es))) in
+    let R : List Event → Type 0 = λ t. LetsOut new.core (t ++ (e ∷ es)) (written (laid s (placed at.StreamStart) (let_out (e ∷ es)))) in
     let S : List Item → Type 0 = λ t. LetsOut new.core (held_events new.held ++ (e ∷ es)) t in
     subst Q (sym b) (ap (λ (z : Settings). z.encoding) f.settings ∙ sym k.coded, subst S (sym k.is) (subst R (sym none) (fresh_lets_out new.core s (e ∷ es) f)))
 
@@ -182,22 +183,25 @@ ends_let_out : (o : Output) (text whole : List Item) → (o.status ≡ Going →
 unfolding Ends
 ends_let_out o text whole n h = let_out_by o.status o.limit o.encoding o.bytes text whole n h
 
-held_unjudged : (canonical : Bool) (h : Shape) (es : List Event) → is_ready es ≡ false → first_refusal canonical h es ≡ None
-unfolding first_refusal
-held_unjudged canonical h [] r = refl
-held_unjudged canonical h (e ∷ es) r = rw r refl
-
-held_unwritten : (s : Settings) (st : State) (es : List Event) (c : Cursor) (rest : Rest) → is_ready es ≡ false → let_out s st es c rest ≡ rest c
+held_stays : (es : List Event) → is_ready es ≡ false → let_out es ≡ []
 unfolding let_out
-held_unwritten s st [] c rest r = refl
-held_unwritten s st (e ∷ es) c rest r = rw r refl
+held_stays [] r = refl
+held_stays (e ∷ es) r = rw r refl
+
+held_unjudged : (canonical : Bool) (h : Shape) (es : List Event) → is_ready es ≡ false → first_refusal canonical h (let_out es) ≡ None
+unfolding first_refusal
+held_unjudged canonical h es r = ap (first_refusal canonical h) (held_stays es r)
+
+held_unwritten : (s : Settings) (st : State) (es : List Event) (c : Cursor) (rest : Rest) → is_ready es ≡ false → laid s st (let_out es) c rest ≡ rest c
+unfolding laid
+held_unwritten s st es c rest r = ap (λ z. laid s st z c rest) (held_stays es r)
 
 -- nothing is to come behind a refusal, and what is held isn't let out
-refusal_now : (p : Option Problem) (canonical : Bool) (h : Shape) (es : List Event) → (p ≡ None → is_ready es ≡ false) → p ≡ or_else p (first_refusal canonical h es)
+refusal_now : (p : Option Problem) (canonical : Bool) (h : Shape) (es : List Event) → (p ≡ None → is_ready es ≡ false) → p ≡ or_else p (first_refusal canonical h (let_out es))
 refusal_now None canonical h es w = sym (held_unjudged canonical h es (w refl))
 refusal_now (Some x) canonical h es w = refl
 
-text_now : (p : Option Problem) (s : Settings) (st : State) (es : List Event) (c : Cursor) → (p ≡ None → is_ready es ≡ false) → unless p (let_out s st es) c nothing_more ≡ []
+text_now : (p : Option Problem) (s : Settings) (st : State) (es : List Event) (c : Cursor) → (p ≡ None → is_ready es ≡ false) → unless p (laid s st (let_out es)) c nothing_more ≡ []
 text_now None s st es c w = held_unwritten s st es c nothing_more (w refl)
 text_now (Some x) s st es c w = refl
 
@@ -236,11 +240,11 @@ output_now i x whole inv fr h =
     subst Q inv.limited (subst R k.0 (ends_let_out i.core.sink _ whole (λ g. text_now (refused_at i.core.place) _ _ (held_events i.held ++ []) _ (waits_now i inv g)) k.1))
 
 first_verdict : (e : Emitter) → e.fresh ≡ true → None ≡ verdict e []
-unfolding verdict first_refusal
+unfolding verdict first_refusal let_out
 first_verdict e fr = sym (ap (λ z. verdict_by z e []) fr)
 
 first_output : (e : Emitter) (x : Encoding) (whole : List Item) → e.fresh ≡ true → e.core.sink.bytes ≡ [] → e.core.sink.status ≡ Going → Writes e x [] whole → HasLetOut e.core.sink.status e.limit e.core.sink.bytes (encode x whole) (is_deep whole)
-unfolding Writes let_out encode is_deep
+unfolding Writes laid let_out encode is_deep
 first_output e x whole fr b g h =
     let P : Bool → Type 0 = λ z. WritesBy z e x [] whole in
     let k : IsLetOut e.wishes x [] whole = subst P fr h in

@@ -1,9 +1,11 @@
--- Which event of a list is refused, with which event that is known, and what is written up to then.
-use Rattle.std.specs.Prelude.{◌≡◌, Bool, true, false, if◌then◌else◌, List, [], ◌∷◌, ◌++◌, Option, Some, None}
+-- Which event of a list is refused, which events are let out, and what is written for them.
+use Rattle.std.specs.Prelude.{◌≡◌, ℕ, Bool, true, false, if◌then◌else◌, List, [], ◌∷◌, ◌++◌, Option, Some, None}
+use Rattle.yaml_scan.specs.declared.yaml_encoding_t.{yaml_encoding_t}
 use Rattle.yaml_emit_text.specs.declared.Settings.{Settings}
+use Rattle.yaml_emit_text.specs.declared.Status.{Status}
 use Rattle.yaml_emit_text.specs.declared.Status.TheVariants.{Going}
 use Rattle.yaml_emit_text.specs.Text.{Item}
-use Rattle.yaml_emit_text.specs.Layout.{Layout, stay, when, nothing_more}
+use Rattle.yaml_emit_text.specs.Layout.{Layout, stay, nothing_more}
 use Rattle.yaml_emit_text.specs.Sink.{Ends}
 use Rattle.yaml_emit_layout.specs.declared.Problem.{Problem}
 use Rattle.yaml_emit_layout.specs.declared.Level.{Level}
@@ -11,8 +13,8 @@ use Rattle.yaml_emit_layout.specs.declared.Phase.{Phase}
 use Rattle.yaml_emit_layout.specs.declared.Phase.TheVariants.{Items, Keys, Value}
 use Rattle.yaml_emit_layout.specs.declared.Place.{Place}
 use Rattle.yaml_emit_layout.specs.declared.Place.TheVariants as at
-use Rattle.yaml_emit_layout.specs.Content.{Event, no_event, stream_start, stream_end, document_start, document_end, alias, scalar, sequence_start, sequence_end, mapping_start, mapping_end}
-use Rattle.yaml_emit_layout.specs.Grammar.{or_else, problem_by}
+use Rattle.yaml_emit_layout.specs.Content.{Document, stream_events, Event, no_event, stream_start, stream_end, document_start, document_end, alias, scalar, sequence_start, sequence_end, mapping_start, mapping_end}
+use Rattle.yaml_emit_layout.specs.Grammar.{or_else, problem_by, own_problems}
 use Rattle.yaml_emit_layout.specs.State.{State, piece, next, problem_at, opens_empty}
 use Rattle.yaml_emit_state.specs.declared.Core.{Core}
 use Rattle.yaml_emit_state.specs.Steps.{state_of, settings_of}
@@ -80,21 +82,29 @@ level_due (d ∷ ds) = Some (record { phase = phase_due d; flow = false; indent 
 abbrev pub problem_in : Bool → Shape → Event → Option Problem
 problem_in canonical h e = problem_by canonical h.place (level_due h.due) e
 
--- The problem of the first event of a list that is refused, as far as the list lets it out: an event that is still held is not
--- judged yet.
+-- The events of a list that are let out: all in front of the first one that is still held.
+unfoldable pub let_out : List Event → List Event
+let_out [] = []
+let_out (e ∷ es) = if is_ready (e ∷ es) then e ∷ let_out es else []
+
+-- the problem of the first event of a list that is refused
 unfoldable pub first_refusal : Bool → Shape → List Event → Option Problem
 first_refusal canonical h [] = None
-first_refusal canonical h (e ∷ es) = if is_ready (e ∷ es) then or_else (problem_in canonical h e) (first_refusal canonical (shape_after h e) es) else None
+first_refusal canonical h (e ∷ es) = or_else (problem_in canonical h e) (first_refusal canonical (shape_after h e) es)
+
+-- in a front of a stream's events, with nothing wrong in them, none is refused
+abbrev pub PassesStreams : Type 0
+PassesStreams = (s : Settings) (x : yaml_encoding_t) (ds : List Document) (es more : List Event) → es ++ more ≡ stream_events x ds → own_problems s.canonical (es ++ more) ≡ None → first_refusal s.canonical first_shape es ≡ None
 
 -- unless there is a problem
 abbrev pub unless : Option Problem → Layout → Layout
 unless None a = a
 unless (Some p) a = stay
 
--- What is written for the events of a list that it lets out, up to the first one that is refused.
-unfoldable pub let_out : Settings → State → List Event → Layout
-let_out s st [] = stay
-let_out s st (e ∷ es) = when (is_ready (e ∷ es)) (unless (problem_at s st e) (λ c rest. piece s st e (opens_empty e es) c (λ d. let_out s (next s st e (opens_empty e es) d) es d rest)))
+-- what is written for the events of a list, up to the first one that is refused
+unfoldable pub laid : Settings → State → List Event → Layout
+laid s st [] = stay
+laid s st (e ∷ es) = unless (problem_at s st e) (λ c rest. piece s st e (opens_empty e es) c (λ d. laid s (next s st e (opens_empty e es) d) es d rest))
 
 -- ---- behind some events that were laid out
 
@@ -118,13 +128,13 @@ due_of (l ∷ ls) = due_in l.phase ∷ due_of ls
 abbrev pub shape_of : State → Shape
 shape_of st = record { place = st.place; due = due_of st.levels }
 
--- the first refusal: one that has come stays the first
+-- the first refusal among those that are let out; one that has come stays the first
 abbrev pub refusal_from : Bool → State → List Event → Option Problem
-refusal_from canonical st es = or_else (refused_at st.place) (first_refusal canonical (shape_of st) es)
+refusal_from canonical st es = or_else (refused_at st.place) (first_refusal canonical (shape_of st) (let_out es))
 
--- what is written: behind a refusal nothing
+-- what is written for those; behind a refusal nothing
 abbrev pub text_from : Settings → State → List Event → Layout
-text_from s st es = unless (refused_at st.place) (let_out s st es)
+text_from s st es = unless (refused_at st.place) (laid s st (let_out es))
 
 unfoldable pub refusal_behind : Core → List Event → Option Problem
 refusal_behind core es = refusal_from (settings_of core).canonical (state_of core) es

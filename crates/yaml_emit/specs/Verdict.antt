@@ -14,11 +14,11 @@ use Rattle.yaml_emit_layout.specs.declared.Place.TheVariants as at
 use Rattle.yaml_emit_layout.specs.Content.{Event}
 use Rattle.yaml_emit_layout.specs.State.{placed}
 use Rattle.yaml_emit.specs.Held.{held_events}
-use Rattle.yaml_emit.specs.Judged.{first_shape, first_refusal, let_out, refusal_behind, LetsOut}
+use Rattle.yaml_emit.specs.Judged.{first_shape, let_out, first_refusal, laid, refusal_behind, LetsOut}
 use Rattle.yaml_emit.specs.Emitter.{Emitter, stream_encoding, fault_by, HasWritten}
 
 abbrev pub verdict_by : Bool → Emitter → List Event → Option Problem
-verdict_by true e es = first_refusal e.wishes.canonical first_shape es
+verdict_by true e es = first_refusal e.wishes.canonical first_shape (let_out es)
 verdict_by false e es = refusal_behind e.core (held_events e.held ++ es)
 
 -- The problem of the first event that is refused, among those that are let out once these are given too.
@@ -33,7 +33,7 @@ first_settings w (e ∷ es) = settled w (stream_encoding e)
 -- a fresh emitter's text, and its encoding
 pub record IsLetOut (w : Wishes) (x : Encoding) (es : List Event) (whole : List Item) : Type 0 where
   pub coded : x ≡ (first_settings w es).encoding
-  pub is : whole ≡ written (let_out (first_settings w es) (placed at.StreamStart) es)
+  pub is : whole ≡ written (laid (first_settings w es) (placed at.StreamStart) (let_out es))
 
 abbrev pub WritesBy : Bool → Emitter → Encoding → List Event → List Item → Type 0
 WritesBy true e x es whole = IsLetOut e.wishes x es whole

@@ -1,35 +1,33 @@
 -- What an emitter completes.
-use Rattle.std.proofs.Common.{◌≡◌, ◌≢◌, ℕ, ◌<◌, List, [], ◌∷◌, ◌++◌, length, take, Bool, true, false, refl, sym, subst, ◌∙◌, ap, arith, Option, Some, None, append_assoc, option_map}
+use Rattle.std.proofs.Common.{◌≡◌, ℕ, List, [], ◌∷◌, ◌++◌, Bool, true, false, refl, sym, subst, ◌∙◌, ap, Option, Some, None, append_assoc, option_map}
 use Rattle.yaml_scan.specs.Faults.{Fault, fault_of}
 use Rattle.yaml_scan.specs.declared.yaml_encoding_t.{yaml_encoding_t}
 use Rattle.yaml_emit_text.specs.declared.Encoding.{Encoding}
 use Rattle.yaml_emit_text.specs.declared.Settings.{Settings}
 use Rattle.yaml_emit_text.specs.declared.Status.{Status}
 use Rattle.yaml_emit_text.specs.declared.Status.TheVariants.{Going, Full, Deep, Starved}
-use Rattle.yaml_emit_text.specs.declared.Wishes.{Wishes}
 use Rattle.yaml_emit_text.specs.Text.{Item, encode, is_deep}
 use Rattle.yaml_emit_text.specs.Settings.{settled}
 use Rattle.yaml_emit_text.specs.Sink.{Ends, EndsBy}
 use Rattle.yaml_emit_text.specs.Layout.{written}
-use Rattle.yaml_emit_text.proofs.Sinks.{ends_other}
 use Rattle.yaml_emit_layout.specs.declared.Problem.{Problem}
 use Rattle.yaml_emit_layout.specs.declared.Place.{Place}
 use Rattle.yaml_emit_layout.specs.declared.Place.TheVariants as at
-use Rattle.yaml_emit_layout.specs.Content.{Event, stream_start, stream_events, documents_events}
+use Rattle.yaml_emit_layout.specs.Content.{Event, stream_start}
 use Rattle.yaml_emit_layout.specs.Grammar.{own_problems}
 use Rattle.yaml_emit_layout.specs.Nodes.{stream_layout}
 use Rattle.yaml_emit_layout.specs.State.{State}
 use Rattle.yaml_emit_layout.specs.ToCome.{ToCome, stream, documents, root, frames, nothing, Frame, level_of, levels_of}
 use Rattle.yaml_emit_layout.specs.ToCome as come
 use Rattle.yaml_emit_state.specs.declared.Core.{Core}
-use Rattle.yaml_emit_state.specs.Steps.{state_of, settings_of, goes_on, IsFresh}
-use Rattle.yaml_emit_state.specs.Finish.{Finishes, FinishesAt, FinishesBy, Leads}
+use Rattle.yaml_emit_state.specs.Steps.{state_of, goes_on, IsFresh}
+use Rattle.yaml_emit_state.specs.Finish.{Finishes, FinishesAt, Leads}
 use Rattle.yaml_emit_state.proofs.Finishing.{fresh_finishes}
 use Rattle.yaml_emit.specs.Held.{held_events}
 use Rattle.yaml_scan.specs.declared.yaml_fault_t.{yaml_fault_t}
 use Rattle.yaml_emit.specs.declared.held.Held.{Held}
 use Rattle.yaml_emit.specs.declared.emitter.yaml_emitter_t.TheInside.{Inside}
-use Rattle.yaml_emit.specs.Emitter.{Emitter, emitter_of, IsEmitter, refusal_by, refusal_of, stopped, stream_encoding, IsStream, CompletesBy, Completes, HasWritten, ShowsFront, IsWhole, Given, Begins}
+use Rattle.yaml_emit.specs.Emitter.{Emitter, emitter_of, IsEmitter, refusal_by, refusal_of, stream_encoding, IsStream, CompletesBy, Completes, HasWritten, ShowsFront, IsWhole, Given, Begins}
 use Rattle.yaml_emit.proofs.Ending.{all_written}
 
 pub refusal_none : (p : Place) (s : Status) (b : Bool) → refusal_by p s b ≡ None → goes_on s p ≡ true
@@ -38,22 +36,10 @@ refusal_none (at.Documents first unended) Going b h = refl
 refusal_none at.Node Going b h = refl
 refusal_none at.DocumentEnd Going b h = refl
 refusal_none at.End Going b h = refl
-refusal_none (at.Refused p) s b h = absurd (cc)
-refusal_none at.StreamStart Full b h = absurd (cc)
-refusal_none (at.Documents first unended) Full b h = absurd (cc)
-refusal_none at.Node Full b h = absurd (cc)
-refusal_none at.DocumentEnd Full b h = absurd (cc)
-refusal_none at.End Full b h = absurd (cc)
-refusal_none at.StreamStart Deep b h = absurd (cc)
-refusal_none (at.Documents first unended) Deep b h = absurd (cc)
-refusal_none at.Node Deep b h = absurd (cc)
-refusal_none at.DocumentEnd Deep b h = absurd (cc)
-refusal_none at.End Deep b h = absurd (cc)
-refusal_none at.StreamStart Starved b h = absurd (cc)
-refusal_none (at.Documents first unended) Starved b h = absurd (cc)
-refusal_none at.Node Starved b h = absurd (cc)
-refusal_none at.DocumentEnd Starved b h = absurd (cc)
-refusal_none at.End Starved b h = absurd (cc)
+refusal_none (at.Refused p) Going b h = absurd (cc)
+refusal_none p Full b h = absurd (cc)
+refusal_none p Deep b h = absurd (cc)
+refusal_none p Starved b h = absurd (cc)
 
 -- what is to come is at no refused place
 not_refused : (k : ToCome) (p : Problem) → at.Refused p ≡ (come.state_of k).place → ⊥

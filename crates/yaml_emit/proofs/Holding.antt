@@ -11,7 +11,7 @@ use Rattle.yaml_emit_state.proofs.Finishing.{finishes_on}
 use Rattle.yaml_emit.specs.Held.{is_ready, needs, closes, passes}
 use Rattle.yaml_emit.proofs.Opening.{opens_none}
 
-ready_empty : (e : Event) (es more : List Event) → is_ready (e ∷ es) ≡ true → opens_empty e (es ++ more) ≡ opens_empty e es
+pub ready_empty : (e : Event) (es more : List Event) → is_ready (e ∷ es) ≡ true → opens_empty e (es ++ more) ≡ opens_empty e es
 unfolding is_ready opens_empty
 ready_empty (sequence_start p) [] more h = absurd (cc)
 ready_empty (mapping_start p) [] more h = absurd (cc)

@@ -11,7 +11,6 @@ use Rattle.yaml_scan.specs.declared.yaml_origin_t.TheVariants as origin
 use Rattle.yaml_scan.specs.Tokens.{zero_mark}
 use Rattle.yaml_scan.specs.Faults.{Fault, fault_of, memory_fault}
 use Rattle.yaml_emit_text.specs.declared.Encoding.{Encoding}
-use Rattle.yaml_emit_text.specs.declared.Settings.{Settings}
 use Rattle.yaml_emit_text.specs.declared.Status.{Status}
 use Rattle.yaml_emit_text.specs.declared.Status.TheVariants.{Going, Full, Deep, Starved}
 use Rattle.yaml_emit_text.specs.declared.Wishes.{Wishes}
@@ -19,7 +18,7 @@ use Rattle.yaml_emit_text.specs.Text.{Item, encode, is_deep}
 use Rattle.yaml_emit_text.specs.Layout.{written}
 use Rattle.yaml_emit_text.specs.Settings.{settled}
 use Rattle.yaml_emit_layout.specs.declared.Place.{Place}
-use Rattle.yaml_emit_layout.specs.declared.Place.TheVariants as at
+use Rattle.yaml_emit_layout.specs.declared.Problem.{Problem}
 use Rattle.yaml_parse.specs.Nodes as model
 use Rattle.yaml_parse.specs.Documents as documents
 use Rattle.yaml_emit_layout.specs.Content.{Event, stream_start, stream_end, Document, stream_events}
@@ -31,6 +30,7 @@ use Rattle.yaml_emit_state.specs.Finish.{Finishes}
 use Rattle.yaml_emit.specs.declared.held.Held.{Held}
 use Rattle.yaml_emit.specs.declared.emitter.yaml_emitter_t.TheInside.{Inside}
 use Rattle.yaml_emit.specs.Held.{held_events, HeldUtf8, is_ready}
+use Rattle.yaml_emit.specs.Judged.{refused_at}
 use Rattle.yaml_emit.specs.Graph.{dumped}
 
 -- What a clause sees of an emitter.
@@ -67,14 +67,18 @@ stopped Full levels = Some (plain_fault YAML_WRITER_ERROR (codes "write error") 
 stopped Deep levels = Some (emitter_fault (codes "indentation is too deep"))
 stopped Starved levels = Some (memory_fault (memory_origin levels))
 
--- a refused event's fault, or that of the output
+abbrev pub problem_fault : Problem → Fault
+problem_fault p = emitter_fault (problem_bytes p)
+
+-- the fault of what has stopped the output, or else of a refused event
+abbrev pub fault_by : Status → Bool → Option Problem → Option Fault
+fault_by Going levels p = option_map problem_fault p
+fault_by Full levels p = stopped Full levels
+fault_by Deep levels p = stopped Deep levels
+fault_by Starved levels p = stopped Starved levels
+
 abbrev pub refusal_by : Place → Status → Bool → Option Fault
-refusal_by (at.Refused p) s levels = Some (emitter_fault (problem_bytes p))
-refusal_by at.StreamStart s levels = stopped s levels
-refusal_by (at.Documents first unended) s levels = stopped s levels
-refusal_by at.Node s levels = stopped s levels
-refusal_by at.DocumentEnd s levels = stopped s levels
-refusal_by at.End s levels = stopped s levels
+refusal_by place s levels = fault_by s levels (refused_at place)
 
 abbrev pub refusal_of : Core → Option Fault
 refusal_of core = refusal_by core.place core.sink.status core.starved

@@ -7,6 +7,7 @@ ghost use Rattle.yaml_emit_layout.specs.Content.{said};
 ghost use Rattle.yaml_emit_state.specs.Steps.{goes_on};
 ghost use Rattle.yaml_emit_state.specs.Finish.{Leads};
 ghost use Rattle.yaml_emit.specs.Held.{held_events, HeldUtf8, is_ready, passes};
+ghost use Rattle.yaml_emit.specs.Judged.{Judges};
 
 use crate::held::Held;
 use yaml_emit_state::Core;
@@ -30,6 +31,7 @@ fn passes(core: &Core, held: &Held, event: &yaml_event_body_t) -> bool
 fn release(core: &mut Core, held: &mut Held)
     requires { HeldUtf8 held.old }
     ensures leads { Leads core.old (held_events held.old) core.new (held_events held.new) }
+    ensures judges { Judges core.old (held_events held.old) core.new (held_events held.new) }
     ensures utf8 { HeldUtf8 held.new }
     ensures waits { goes_on core.new.sink.status core.new.place ≡ true → is_ready (held_events held.new) ≡ false }
 {
@@ -45,6 +47,7 @@ pub(crate) fn give(core: &mut Core, held: &mut Held, event: yaml_event_body_t)
     requires few { is_ready (held_events held.old) ≡ false }
     requires utf8 { HeldUtf8 held.old × HasUtf8 (body_of event) }
     ensures leads { Leads core.old (held_events held.old ++ said (body_of event) ∷ []) core.new (held_events held.new) }
+    ensures judges { Judges core.old (held_events held.old ++ said (body_of event) ∷ []) core.new (held_events held.new) }
     ensures utf8 { HeldUtf8 held.new }
     ensures waits { goes_on core.new.sink.status core.new.place ≡ true → is_ready (held_events held.new) ≡ false }
 {

@@ -1,11 +1,11 @@
 -- What an emitter's output ends as, with the events that follow, and its faults.
-use Rattle.std.specs.Prelude.{◌≡◌, ℕ, ◌<◌, Bool, true, false, List, [], ◌∷◌, ◌++◌, length, take, Option, Some, None, option_map, pos, codes, Result, Ok, Err}
+use Rattle.std.specs.Prelude.{◌≡◌, ◌⊎◌, ℕ, ◌<◌, Bool, true, false, List, [], ◌∷◌, ◌++◌, length, take, Option, Some, None, option_map, pos, codes, Result, Ok, Err}
 use Rattle.yaml_scan.specs.declared.yaml_encoding_t.{yaml_encoding_t}
 use Rattle.yaml_scan.specs.declared.yaml_encoding_t.TheVariants.{YAML_ANY_ENCODING}
 use Rattle.yaml_scan.specs.declared.yaml_break_t.TheVariants.{YAML_ANY_BREAK}
 use Rattle.yaml_scan.specs.declared.yaml_fault_t.{yaml_fault_t}
 use Rattle.yaml_scan.specs.declared.yaml_error_type_t.{yaml_error_type_t}
-use Rattle.yaml_scan.specs.declared.yaml_error_type_t.TheVariants.{YAML_EMITTER_ERROR, YAML_WRITER_ERROR}
+use Rattle.yaml_scan.specs.declared.yaml_error_type_t.TheVariants.{YAML_EMITTER_ERROR, YAML_WRITER_ERROR, YAML_MEMORY_ERROR}
 use Rattle.yaml_scan.specs.declared.yaml_origin_t.{yaml_origin_t}
 use Rattle.yaml_scan.specs.declared.yaml_origin_t.TheVariants as origin
 use Rattle.yaml_scan.specs.Tokens.{zero_mark}
@@ -60,11 +60,19 @@ abbrev pub memory_origin : Bool → yaml_origin_t
 memory_origin true = origin.Emitter
 memory_origin false = origin.Writer
 
+-- more bytes than the limit
+abbrev pub write_error : Fault
+write_error = plain_fault YAML_WRITER_ERROR (codes "write error") origin.Writer
+
+-- an indentation of more than the most columns
+abbrev pub too_deep : Fault
+too_deep = emitter_fault (codes "indentation is too deep")
+
 -- the fault of an output that has stopped
 abbrev pub stopped : Status → Bool → Option Fault
 stopped Going levels = None
-stopped Full levels = Some (plain_fault YAML_WRITER_ERROR (codes "write error") origin.Writer)
-stopped Deep levels = Some (emitter_fault (codes "indentation is too deep"))
+stopped Full levels = Some write_error
+stopped Deep levels = Some too_deep
 stopped Starved levels = Some (memory_fault (memory_origin levels))
 
 abbrev pub problem_fault : Problem → Fault
@@ -168,6 +176,14 @@ PassesSize limit bytes = limit < length bytes
 -- laying out some scalar or collection makes an indentation of more than the most columns: the layout marks such a place
 abbrev pub PassesColumns : Bool → Type 0
 PassesColumns deep = deep ≡ true
+
+-- the fault names the limit that is passed
+abbrev pub Passes : ℕ → List ℕ → Bool → Fault → Type 0
+Passes limit bytes deep f = ((f ≡ write_error) × PassesSize limit bytes) ⊎ ((f ≡ too_deep) × PassesColumns deep)
+
+-- The fault tells that memory ran out, or names a limit that each text passes which the emitter completes.
+abbrev pub IsLimited : Emitter → Fault → Type 0
+IsLimited e f = (f.kind ≡ YAML_MEMORY_ERROR) ⊎ ((x : Encoding) (es : List Event) (whole : List Item) → Completes e x es whole → Passes e.limit (encode x whole) (is_deep whole) f)
 
 -- What is written is the front of each text that the emitter completes: all up to the limit where that was passed.
 abbrev pub HasWritten : Status → ℕ → List ℕ → List ℕ → Bool → Type 0

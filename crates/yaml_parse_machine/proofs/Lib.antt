@@ -1,3 +1,2 @@
 pub mod Defaults
-pub mod Openings
 pub mod TagSteps

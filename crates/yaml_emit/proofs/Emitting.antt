@@ -21,7 +21,7 @@ use Rattle.yaml_emit_layout.specs.ToCome.{ToCome, stream, documents, root, frame
 use Rattle.yaml_emit_layout.specs.ToCome as come
 use Rattle.yaml_emit_state.specs.declared.Core.{Core}
 use Rattle.yaml_emit_state.specs.Steps.{state_of, goes_on, IsFresh}
-use Rattle.yaml_emit_state.specs.Finish.{Finishes, FinishesAt, Leads}
+use Rattle.yaml_emit_state.specs.Finish.{Finishes, FinishesAt, FinishesBy, Leads}
 use Rattle.yaml_emit_state.proofs.Finishing.{fresh_finishes}
 use Rattle.yaml_emit.specs.Held.{held_events}
 use Rattle.yaml_scan.specs.declared.yaml_fault_t.{yaml_fault_t}

@@ -35,6 +35,11 @@ abbrev pub Notes : Settled → Result (Unit {0}) Refusal → spec.Directives →
 Notes s (Ok u) new = s ≡ noted new
 Notes s (Err e) new = Refused e s
 
+-- the body of an event
+abbrev pub SettlesNode : Settled → Result yaml_event_body_t Refusal → spec.Directives → Type 0
+SettlesNode s (Ok b) new = s ≡ gave (body_of b) new
+SettlesNode s (Err e) new = Refused e s
+
 -- the body of an event, or nothing
 abbrev pub SettlesBody : Settled → Result (Option yaml_event_body_t) Refusal → spec.Directives → Type 0
 SettlesBody s (Ok None) new = s ≡ noted new

@@ -9,6 +9,6 @@ mod taking;
 
 pub use choosing::choose;
 pub use handles::TagDirectives;
-pub use item::{Item, ItemBody, Opening, Properties, Pushed, Shape, State, Tag, Taken};
+pub use item::{Item, ItemBody, Plain, Properties, Shape, State, Tag};
 pub use resolving::{Directives, Refusal, settle};
-pub use taking::{leave, opened, push_all, take};
+pub use taking::{leave, open, take};

@@ -2,7 +2,6 @@
 use Rattle.std.proofs.Common.{◌≡◌, ℕ, List, [], ◌∷◌, ◌++◌, Bool, true, false, cond, refl, sym, ◌∙◌, ap}
 use Rattle.std.specs.Prelude.{◌||◌}
 use Rattle.yaml_emit_text.specs.declared.page.Seen.{Seen}
-use Rattle.yaml_emit_text.specs.declared.page.Chomp.{Chomp}
 use Rattle.yaml_emit_sink.specs.Text.{is_break}
 use Rattle.yaml_emit_text.specs.Quoted.{first}
 use Rattle.yaml_emit_text.specs.Style.{somewhere, last_or, seen, looked, joined}

@@ -4,16 +4,15 @@ use Rattle.std.specs.Prelude.{if◌then◌else◌, not, nat_lt, nat_le, ◌==◌
 use Rattle.std.proofs.lemmas.Bool.Decides.{nat_tests}
 use Rattle.yaml_emit_sink.specs.declared.Cursor.{Cursor}
 use Rattle.yaml_emit_sink.specs.Text.{Item, letter, is_break}
-use Rattle.yaml_emit_sink.specs.Layout.{Layout, Rest, ◌▹◌, stay, choose, when, char, letters, new_line, line, is_past}
+use Rattle.yaml_emit_sink.specs.Layout.{Layout, Rest, ◌▹◌, choose, when, char, letters, new_line, line, is_past}
 use Rattle.yaml_emit_sink.specs.Sink.{Output, Ends, Owes, Puts}
 use Rattle.yaml_emit_text.specs.declared.page.Page.{Page}
-use Rattle.yaml_emit_text.specs.declared.page.Seen.{Seen}
 use Rattle.yaml_emit_text.specs.declared.run.Bounds.{Bounds}
 use Rattle.yaml_emit_text.specs.Quoted.{needs_escape, escape_text, first, is_empty, may_fold, fold, escaped, quoted_char, quoted_body}
-use Rattle.yaml_emit_text.specs.Scalars.{value_break, cuts_at, cut, quote_char, text_char, flow_char, flow_body, adds_break, cuts_block, line_blank, block_text, block_char, block_body}
+use Rattle.yaml_emit_text.specs.Scalars.{value_break, cuts_at, text_char, flow_char, flow_body, adds_break, cuts_block, line_blank, block_text, block_char, block_body}
 use Rattle.yaml_emit_text.specs.Style.{last_or, seen, looked, joined, is_special, is_break_space, is_not_plain, is_not_flow}
 use Rattle.yaml_emit_text.specs.Runs.{all_pass, runs_on, is_calm, calm, quoted_bounds, flow_bounds, block_bounds}
-use Rattle.yaml_emit_text.proofs.RunLemmas.{and_left, and_right, RunsOn, run_byte, last_append}
+use Rattle.yaml_emit_text.proofs.RunLemmas.{and_left, and_right, run_byte, last_append}
 use Rattle.yaml_emit_text.proofs.Looks.{looked_at}
 
 bool_cases : {P : Type 0} (b : Bool) → (b ≡ true → P) → (b ≡ false → P) → P

@@ -1,5 +1,3 @@
-use Rattle.std.proofs.Common.{◌∙◌, ap}
-use Rattle.std.specs.Str.{chars}
 use Rattle.yaml_emit_text.proofs.RunLemmas.{cut_letters, cut_utf8}
 use Rattle.yaml_emit_text.proofs.Directives.{rest_of_slice}
 use Rattle.yaml_emit_text.proofs.run.cut.Goals as goal

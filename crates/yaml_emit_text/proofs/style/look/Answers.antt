@@ -1,4 +1,4 @@
-use Rattle.std.proofs.Common.{refl, ◌∙◌, ap}
+use Rattle.std.proofs.Common.{◌∙◌, ap}
 use Rattle.yaml_emit_text.proofs.Looks.{look_more, look_end, last_more, last_end}
 use Rattle.yaml_emit_text.specs.Style.{joined}
 use Rattle.yaml_emit_text.proofs.style.look.Goals as goal

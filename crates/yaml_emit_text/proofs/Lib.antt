@@ -6,3 +6,5 @@ mod Directives
 mod Escapes
 mod Looks
 mod Rows
+mod RunLemmas
+mod RunWalks

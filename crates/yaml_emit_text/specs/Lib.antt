@@ -1,6 +1,7 @@
 pub mod Quoted
 pub mod Style
 pub mod Scalars
+pub mod Runs
 pub mod Tags
 pub mod Spelling
 pub use Rattle.yaml_emit_sink.specs.Settings

@@ -7,6 +7,7 @@ mod laws;
 mod letters;
 mod page;
 mod quoted;
+mod run;
 mod scalar;
 mod split;
 mod style;

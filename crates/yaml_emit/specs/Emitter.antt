@@ -1,11 +1,11 @@
 -- What an emitter's output ends as, with the events that follow, and its faults.
-use Rattle.std.specs.Prelude.{◌≡◌, ℕ, ◌<◌, Bool, true, false, List, [], ◌∷◌, ◌++◌, length, take, Option, Some, None, option_map, pos, codes, Result, Ok, Err}
+use Rattle.std.specs.Prelude.{◌≡◌, ◌⊎◌, ℕ, ◌<◌, Bool, true, false, List, [], ◌∷◌, ◌++◌, length, take, Option, Some, None, option_map, pos, codes, Result, Ok, Err}
 use Rattle.yaml_scan.specs.declared.yaml_encoding_t.{yaml_encoding_t}
 use Rattle.yaml_scan.specs.declared.yaml_encoding_t.TheVariants.{YAML_ANY_ENCODING}
 use Rattle.yaml_scan.specs.declared.yaml_break_t.TheVariants.{YAML_ANY_BREAK}
 use Rattle.yaml_scan.specs.declared.yaml_fault_t.{yaml_fault_t}
 use Rattle.yaml_scan.specs.declared.yaml_error_type_t.{yaml_error_type_t}
-use Rattle.yaml_scan.specs.declared.yaml_error_type_t.TheVariants.{YAML_EMITTER_ERROR, YAML_WRITER_ERROR}
+use Rattle.yaml_scan.specs.declared.yaml_error_type_t.TheVariants.{YAML_EMITTER_ERROR, YAML_WRITER_ERROR, YAML_MEMORY_ERROR}
 use Rattle.yaml_scan.specs.declared.yaml_origin_t.{yaml_origin_t}
 use Rattle.yaml_scan.specs.declared.yaml_origin_t.TheVariants as origin
 use Rattle.yaml_scan.specs.Tokens.{zero_mark}
@@ -60,24 +60,32 @@ abbrev pub memory_origin : Bool → yaml_origin_t
 memory_origin true = origin.Emitter
 memory_origin false = origin.Writer
 
--- the fault of an output that has stopped
-abbrev pub stopped : Status → Bool → Option Fault
-stopped Going levels = None
-stopped Full levels = Some (plain_fault YAML_WRITER_ERROR (codes "write error") origin.Writer)
-stopped Deep levels = Some (emitter_fault (codes "indentation is too deep"))
-stopped Starved levels = Some (memory_fault (memory_origin levels))
+-- more bytes than the limit
+abbrev pub write_error : Fault
+write_error = plain_fault YAML_WRITER_ERROR (codes "write error") origin.Writer
 
--- a refused event's fault, or that of the output
-abbrev pub refusal_by : Place → Status → Bool → Option Fault
-refusal_by (at.Refused p) s levels = Some (emitter_fault (problem_bytes p))
-refusal_by at.StreamStart s levels = stopped s levels
-refusal_by (at.Documents first unended) s levels = stopped s levels
-refusal_by at.Node s levels = stopped s levels
-refusal_by at.DocumentEnd s levels = stopped s levels
-refusal_by at.End s levels = stopped s levels
+-- an indentation of more than the most columns
+abbrev pub too_deep : Fault
+too_deep = emitter_fault (codes "indentation is too deep")
+
+-- the fault of a refused event
+abbrev pub refused_at : Place → Option Fault
+refused_at (at.Refused p) = Some (emitter_fault (problem_bytes p))
+refused_at at.StreamStart = None
+refused_at (at.Documents first unended) = None
+refused_at at.Node = None
+refused_at at.DocumentEnd = None
+refused_at at.End = None
+
+-- the fault of an output that has stopped, or else a refused event's
+abbrev pub refusal_by : Status → Place → Bool → Option Fault
+refusal_by Going p levels = refused_at p
+refusal_by Full p levels = Some write_error
+refusal_by Deep p levels = Some too_deep
+refusal_by Starved p levels = Some (memory_fault (memory_origin levels))
 
 abbrev pub refusal_of : Core → Option Fault
-refusal_of core = refusal_by core.place core.sink.status core.starved
+refusal_of core = refusal_by core.sink.status core.place core.starved
 
 pub record IsEmitter (e : Inside) : Type 0 where
   -- the fault is the first that laying out met
@@ -164,6 +172,14 @@ PassesSize limit bytes = limit < length bytes
 -- laying out some scalar or collection makes an indentation of more than the most columns: the layout marks such a place
 abbrev pub PassesColumns : Bool → Type 0
 PassesColumns deep = deep ≡ true
+
+-- the fault names the limit that is passed
+abbrev pub Passes : ℕ → List ℕ → Bool → Fault → Type 0
+Passes limit bytes deep f = ((f ≡ write_error) × PassesSize limit bytes) ⊎ ((f ≡ too_deep) × PassesColumns deep)
+
+-- The fault tells that memory ran out, or names a limit that each text passes which the emitter completes.
+abbrev pub IsLimited : Emitter → Fault → Type 0
+IsLimited e f = (f.kind ≡ YAML_MEMORY_ERROR) ⊎ ((x : Encoding) (es : List Event) (whole : List Item) → Completes e x es whole → Passes e.limit (encode x whole) (is_deep whole) f)
 
 -- What is written is the front of each text that the emitter completes: all up to the limit where that was passed.
 abbrev pub HasWritten : Status → ℕ → List ℕ → List ℕ → Bool → Type 0

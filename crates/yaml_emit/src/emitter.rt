@@ -1,11 +1,11 @@
 //! The emitter.
 
-ghost use Rattle.std.specs.Prelude.{◌≡◌, None, true, false, option_map, IfOk};
-ghost use Rattle.yaml_scan.specs.Faults.{fault_of};
+ghost use Rattle.std.specs.Prelude.{◌≡◌, Some, None, true, false, option_map, IfOk};
+ghost use Rattle.yaml_scan.specs.Faults.{Fault, fault_of};
 ghost use Rattle.yaml_parse.specs.Events.{event_of, body_of};
 ghost use Rattle.yaml_parse.specs.Constructors.{HasUtf8};
 ghost use Rattle.yaml_emit_layout.specs.Content.{said};
-ghost use Rattle.yaml_emit.specs.Emitter.{stream_encoding, refusal_of, IsNew, ShowsFront, IsWhole, Given, Begins, Answers, Stays};
+ghost use Rattle.yaml_emit.specs.Emitter.{stream_encoding, refusal_of, IsNew, IsLimited, ShowsFront, IsWhole, Given, Begins, Answers, Stays};
 
 mod dump;
 
@@ -146,6 +146,7 @@ pub fn yaml_emitter_opened(emitter: &yaml_emitter_t) -> bool
 pub fn yaml_emitter_fault(emitter: &yaml_emitter_t) -> Option<&yaml_fault_t>
     ensures is { option_map (λ f. fault_of f.now) result ≡ emitter.now.fault }
     ensures because { emitter.now.fault ≡ refusal_of emitter.now.core }
+    ensures limited { (f : Fault) → emitter.now.fault ≡ Some f → IsLimited emitter.now f }
 {
     match &emitter.fault {
         None => None,

@@ -8,7 +8,8 @@ use Rattle.yaml_emit_state.specs.declared.Core.{Core}
 use Rattle.yaml_emit_state.specs.Steps.{LaysOut}
 use Rattle.yaml_emit_state.specs.Finish.{Finishes, Leads}
 use Rattle.yaml_emit_state.proofs.Finishing.{finishes_on}
-use Rattle.yaml_emit.specs.Held.{is_ready, needs, closes}
+use Rattle.yaml_emit.specs.Held.{is_ready, needs, closes, passes}
+use Rattle.yaml_emit.proofs.Opening.{opens_none}
 
 pub ready_empty : (e : Event) (es more : List Event) → is_ready (e ∷ es) ≡ true → opens_empty e (es ++ more) ≡ opens_empty e es
 unfolding is_ready opens_empty
@@ -33,6 +34,11 @@ leads_more a b c h x y e empty p same r is l = record {
   limit = l.text.limit ∙ p.limit;
   settings = l.settings ∙ p.settings;
 }
+
+-- an event that isn't held
+pub leads_past : (a c : Core) (h : List Event) (e : Event) → passes h e ≡ true → LaysOut a c e false → Leads a (h ++ e ∷ []) c h
+leads_past a c [] e p l = leads_more a a c (e ∷ []) (e ∷ []) [] e false (leads_same a (e ∷ [])) refl p (sym (opens_none e)) l
+leads_past a c (f ∷ fs) e p l = absurd (cc)
 
 pub few_needs : (e : Event) → nat_le (needs e) 3 ≡ true
 few_needs no_event = refl

@@ -23,8 +23,9 @@ use Rattle.yaml_emit_layout.specs.Nodes.{Context, context_of}
 use Rattle.yaml_emit_layout.specs.State.{State, piece, next, next_at, problem_at, opens_empty, begins_by, is_sequence_end, is_mapping_end, top_of, outer_of, place_at, among, levels_behind, phase_behind}
 use Rattle.yaml_emit_state.specs.declared.Core.{Core}
 use Rattle.yaml_emit_state.specs.Steps.{state_of, settings_of, next_state, next_piece, LaysOut, goes_on}
-use Rattle.yaml_emit.specs.Held.{is_ready, has_enough, needs, closes, opens_level, ends_level}
+use Rattle.yaml_emit.specs.Held.{is_ready, has_enough, needs, closes, passes, opens_level, ends_level}
 use Rattle.yaml_emit.specs.Judged.{Due, item_due, key_due, value_due, Shape, shape_after, inside, behind_node, outer_due, phase_due, level_due, problem_in, let_out, first_refusal, unless, laid, refused_at, due_in, due_of, shape_of, refusal_from, text_from, refusal_behind, LetsOut, Judges}
+use Rattle.yaml_emit.proofs.Opening.{opens_none}
 use Rattle.yaml_emit.proofs.Holding.{ready_empty}
 use Rattle.yaml_emit.proofs.Ending.{none_needed}
 
@@ -325,3 +326,8 @@ judges_more a b c h x y e empty p same goes r is l =
           let l' : LaysOut b c e (opens_empty e (y ++ es)) = subst R (is ∙ sym (ready_empty e y es r')) l in
           text_step (problem_at (settings_of b) (state_of b) e) b c e (y ++ es) whole o (ready_more e y es r') (done b c e _ l') (subst P same (p.lets_out es whole f));
     }
+
+-- an event that isn't held
+pub judges_past : (a c : Core) (h : List Event) (e : Event) → goes_on a.sink.status a.place ≡ true → passes h e ≡ true → LaysOut a c e false → Judges a (h ++ e ∷ []) c h
+judges_past a c [] e g p l = judges_more a a c (e ∷ []) (e ∷ []) [] e false (judges_same a (e ∷ [])) refl g p (sym (opens_none e)) l
+judges_past a c (f ∷ fs) e g p l = absurd (cc)

@@ -64,3 +64,8 @@ has_enough e es = nat_le (needs e) (length es) || closes es
 unfoldable pub is_ready : List Event → Bool
 is_ready [] = false
 is_ready (e ∷ es) = has_enough e es
+
+-- nothing is held, and the event needs nothing behind it
+abbrev pub passes : List Event → Event → Bool
+passes [] e = is_ready (e ∷ [])
+passes (f ∷ fs) e = false

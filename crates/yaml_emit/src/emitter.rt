@@ -16,7 +16,6 @@ use crate::release::give;
 pub use dump::{yaml_emitter_close, yaml_emitter_dump, yaml_emitter_open};
 use std::alloc::Global;
 use std::marker::Model;
-use std::mem;
 use yaml_emit_state::Core;
 use yaml_emit_text::{Wishes, settled};
 use yaml_parse::{yaml_event_body_t, yaml_event_t};
@@ -199,8 +198,7 @@ impl yaml_emitter_t {
         ensures judged { Judged self.old (said (body_of event)) self.new }
         ensures opened { (self.new.opened ≡ self.old.opened) × (self.new.closed ≡ self.old.closed) }
     {
-        let held = mem::replace(&mut self.held, Held::Nothing);
-        self.held = give(&mut self.core, held, event);
+        give(&mut self.core, &mut self.held, event);
         self.fault = refusal(&self.core);
     }
 

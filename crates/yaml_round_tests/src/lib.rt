@@ -1,4 +1,4 @@
-//! Tests that cross the crates: tokens to events and documents, and the engine over slices and over scripted devices.
+//! Tests of the engine over slices and over scripted devices.
 #![tactic(auto)]
 
 #[cfg(test)]
@@ -8,14 +8,8 @@ mod deep;
 #[cfg(test)]
 mod devices;
 #[cfg(test)]
-mod faults;
-#[cfg(test)]
 mod keys;
-#[cfg(test)]
-mod parsing;
 #[cfg(test)]
 mod reloads;
 #[cfg(test)]
 mod rows;
-#[cfg(test)]
-mod tokens;

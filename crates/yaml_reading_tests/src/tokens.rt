@@ -9,7 +9,8 @@ use yaml_parse::{
 };
 use yaml_round_source::{yaml_token_list_t, yaml_token_utf8};
 use yaml_scan::{
-    yaml_encoding_t, yaml_mark_t, yaml_scalar_style_t, yaml_token_body_t, yaml_token_t,
+    yaml_encoding_t, yaml_error_type_t, yaml_fault_t, yaml_mark_t, yaml_origin_t,
+    yaml_scalar_style_t, yaml_token_body_t, yaml_token_t,
 };
 
 // Adds a token of one character behind the last one.
@@ -36,7 +37,26 @@ fn push(
     Ok(())
 }
 
-// An empty key and the value `x` in a flow sequence.
+// A fault that stands behind the end of the stream.
+fn never() -> yaml_fault_t {
+    let place = yaml_mark_t {
+        index: 9,
+        line: 0,
+        column: 9,
+    };
+    yaml_fault_t {
+        kind: yaml_error_type_t::YAML_SCANNER_ERROR,
+        problem: "asked past the end",
+        offset: 0,
+        value: 0,
+        problem_mark: place,
+        context: None,
+        context_mark: place,
+        origin: yaml_origin_t::Scanner,
+    }
+}
+
+// An empty key and the value `x` in a flow sequence. Behind the end of the stream no token is asked for.
 fn empty_key(alloc: Global) -> Result<yaml_parser_t<yaml_token_list_t>, Fail> {
     let mut list = yaml_token_list_t::new(alloc);
     let mut index = 0;
@@ -57,6 +77,7 @@ fn empty_key(alloc: Global) -> Result<yaml_parser_t<yaml_token_list_t>, Fail> {
     push(&mut list, &mut index, x)?;
     push(&mut list, &mut index, yaml_token_body_t::FlowSequenceEnd)?;
     push(&mut list, &mut index, yaml_token_body_t::StreamEnd)?;
+    list.end(never());
     Ok(yaml_parser_initialize(alloc, list)?)
 }
 

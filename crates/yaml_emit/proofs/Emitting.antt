@@ -6,42 +6,38 @@ use Rattle.yaml_emit_text.specs.declared.Encoding.{Encoding}
 use Rattle.yaml_emit_text.specs.declared.Settings.{Settings}
 use Rattle.yaml_emit_text.specs.declared.Status.{Status}
 use Rattle.yaml_emit_text.specs.declared.Status.TheVariants.{Going, Full, Deep, Starved}
-use Rattle.yaml_emit_text.specs.declared.Wishes.{Wishes}
 use Rattle.yaml_emit_text.specs.Text.{Item, encode, is_deep}
 use Rattle.yaml_emit_text.specs.Settings.{settled}
 use Rattle.yaml_emit_text.specs.Sink.{Ends, EndsBy}
 use Rattle.yaml_emit_text.specs.Layout.{written}
-use Rattle.yaml_emit_text.proofs.Sinks.{ends_other}
 use Rattle.yaml_emit_layout.specs.declared.Problem.{Problem}
 use Rattle.yaml_emit_layout.specs.declared.Place.{Place}
 use Rattle.yaml_emit_layout.specs.declared.Place.TheVariants as at
-use Rattle.yaml_emit_layout.specs.Content.{Event, stream_start, stream_events, documents_events}
+use Rattle.yaml_emit_layout.specs.Content.{Event, stream_start}
 use Rattle.yaml_emit_layout.specs.Grammar.{own_problems}
 use Rattle.yaml_emit_layout.specs.Nodes.{stream_layout}
 use Rattle.yaml_emit_layout.specs.State.{State}
 use Rattle.yaml_emit_layout.specs.ToCome.{ToCome, stream, documents, root, frames, nothing, Frame, level_of, levels_of}
 use Rattle.yaml_emit_layout.specs.ToCome as come
 use Rattle.yaml_emit_state.specs.declared.Core.{Core}
-use Rattle.yaml_emit_state.specs.Steps.{state_of, settings_of, goes_on, IsFresh}
+use Rattle.yaml_emit_state.specs.Steps.{state_of, goes_on, IsFresh}
 use Rattle.yaml_emit_state.specs.Finish.{Finishes, FinishesAt, FinishesBy, Leads}
 use Rattle.yaml_emit_state.proofs.Finishing.{fresh_finishes}
 use Rattle.yaml_emit.specs.Held.{held_events}
 use Rattle.yaml_scan.specs.declared.yaml_fault_t.{yaml_fault_t}
 use Rattle.yaml_emit.specs.declared.held.Held.{Held}
 use Rattle.yaml_emit.specs.declared.emitter.yaml_emitter_t.TheInside.{Inside}
-use Rattle.yaml_emit.specs.Emitter.{Emitter, emitter_of, IsEmitter, write_error, too_deep, memory_origin, refused_at, refusal_by, refusal_of, IsLimited, stream_encoding, IsStream, CompletesBy, Completes, HasWritten, ShowsFront, IsWhole, Given, Begins}
+use Rattle.yaml_emit.specs.Emitter.{Emitter, emitter_of, IsEmitter, write_error, too_deep, problem_fault, memory_origin, refusal_by, refusal_of, IsLimited, stream_encoding, IsStream, CompletesBy, Completes, HasWritten, ShowsFront, IsWhole, Given, Begins}
+use Rattle.yaml_emit.specs.Judged.{refused_at}
 use Rattle.yaml_emit.proofs.Ending.{all_written}
 
-refused_none : (p : Place) → refused_at p ≡ None → goes_on Going p ≡ true
-refused_none at.StreamStart h = refl
-refused_none (at.Documents first unended) h = refl
-refused_none at.Node h = refl
-refused_none at.DocumentEnd h = refl
-refused_none at.End h = refl
-refused_none (at.Refused p) h = absurd (cc)
-
-pub refusal_none : (p : Place) (s : Status) (b : Bool) → refusal_by s p b ≡ None → goes_on s p ≡ true
-refusal_none p Going b h = refused_none p h
+pub refusal_none : (p : Place) (s : Status) (b : Bool) → refusal_by p s b ≡ None → goes_on s p ≡ true
+refusal_none at.StreamStart Going b h = refl
+refusal_none (at.Documents first unended) Going b h = refl
+refusal_none at.Node Going b h = refl
+refusal_none at.DocumentEnd Going b h = refl
+refusal_none at.End Going b h = refl
+refusal_none (at.Refused p) Going b h = absurd (cc)
 refusal_none p Full b h = absurd (cc)
 refusal_none p Deep b h = absurd (cc)
 refusal_none p Starved b h = absurd (cc)
@@ -57,7 +53,7 @@ not_refused (frames g (f ∷ fs) implicit ds) p h = cc
 not_refused nothing p h = cc
 
 -- going on, a refusal is that of a refused event
-going_refused : (p : Place) (f : Fault) (st : State) (k : ToCome) → st.place ≡ p → refused_at p ≡ Some f → st ≡ come.state_of k → ⊥
+going_refused : (p : Place) (f : Fault) (st : State) (k : ToCome) → st.place ≡ p → option_map problem_fault (refused_at p) ≡ Some f → st ≡ come.state_of k → ⊥
 going_refused (at.Refused q) f st k w h e = not_refused k q (sym w ∙ ap (λ (z : State). z.place) e)
 going_refused at.StreamStart f st k w h e = cc
 going_refused (at.Documents first unended) f st k w h e = cc
@@ -65,7 +61,7 @@ going_refused at.Node f st k w h e = cc
 going_refused at.DocumentEnd f st k w h e = cc
 going_refused at.End f st k w h e = cc
 
-finishes_stopped : (s : Status) (core : Core) (f : Fault) (xs ys : List Event) (whole : List Item) → refusal_by s core.place core.starved ≡ Some f → FinishesAt s core xs whole → FinishesAt s core ys whole
+finishes_stopped : (s : Status) (core : Core) (f : Fault) (xs ys : List Event) (whole : List Item) → refusal_by core.place s core.starved ≡ Some f → FinishesAt s core xs whole → FinishesAt s core ys whole
 finishes_stopped Going core f xs ys whole h r = absurd (going_refused core.place f (state_of core) r.rest refl h r.fits)
 finishes_stopped Full core f xs ys whole h r = r
 finishes_stopped Deep core f xs ys whole h r = r
@@ -149,7 +145,7 @@ some_same : (g f : Fault) → Some g ≡ Some f → f ≡ g
 some_same g f h = cc
 
 -- going on, an emitter with a fault completes no text
-going_never : (e : Emitter) (f : Fault) (x : Encoding) (es : List Event) (whole : List Item) → e.fresh ≡ false → e.core.sink.status ≡ Going → refused_at e.core.place ≡ Some f → Completes e x es whole → ⊥
+going_never : (e : Emitter) (f : Fault) (x : Encoding) (es : List Event) (whole : List Item) → e.fresh ≡ false → e.core.sink.status ≡ Going → option_map problem_fault (refused_at e.core.place) ≡ Some f → Completes e x es whole → ⊥
 unfolding Completes Finishes
 going_never e f x es whole b g h c =
     let P : Bool → Type 0 = λ z. CompletesBy z e x es whole in
@@ -158,7 +154,7 @@ going_never e f x es whole b g h c =
     let r : FinishesBy e.core (held_events e.held ++ es) whole = subst S g k.1 in
     going_refused e.core.place f (state_of e.core) r.rest refl h r.fits
 
-limited_by : (s : Status) (e : Emitter) (f : Fault) → e.core.sink.status ≡ s → e.fresh ≡ false → refusal_by s e.core.place e.core.starved ≡ Some f
+limited_by : (s : Status) (e : Emitter) (f : Fault) → e.core.sink.status ≡ s → e.fresh ≡ false → refusal_by e.core.place s e.core.starved ≡ Some f
     → ((x : Encoding) (es : List Event) (whole : List Item) → Completes e x es whole → HasWritten s e.limit e.core.sink.bytes (encode x whole) (is_deep whole)) → IsLimited e f
 limited_by Going e f s b h w = inr (λ x es whole c. absurd (going_never e f x es whole b s h c))
 limited_by Full e f s b h w = inr (λ x es whole c. inl (some_same write_error f h, (w x es whole c).1))

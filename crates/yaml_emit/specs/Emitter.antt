@@ -11,7 +11,6 @@ use Rattle.yaml_scan.specs.declared.yaml_origin_t.TheVariants as origin
 use Rattle.yaml_scan.specs.Tokens.{zero_mark}
 use Rattle.yaml_scan.specs.Faults.{Fault, fault_of, memory_fault}
 use Rattle.yaml_emit_text.specs.declared.Encoding.{Encoding}
-use Rattle.yaml_emit_text.specs.declared.Settings.{Settings}
 use Rattle.yaml_emit_text.specs.declared.Status.{Status}
 use Rattle.yaml_emit_text.specs.declared.Status.TheVariants.{Going, Full, Deep, Starved}
 use Rattle.yaml_emit_text.specs.declared.Wishes.{Wishes}
@@ -19,7 +18,7 @@ use Rattle.yaml_emit_text.specs.Text.{Item, encode, is_deep}
 use Rattle.yaml_emit_text.specs.Layout.{written}
 use Rattle.yaml_emit_text.specs.Settings.{settled}
 use Rattle.yaml_emit_layout.specs.declared.Place.{Place}
-use Rattle.yaml_emit_layout.specs.declared.Place.TheVariants as at
+use Rattle.yaml_emit_layout.specs.declared.Problem.{Problem}
 use Rattle.yaml_parse.specs.Nodes as model
 use Rattle.yaml_parse.specs.Documents as documents
 use Rattle.yaml_emit_layout.specs.Content.{Event, stream_start, stream_end, Document, stream_events}
@@ -31,6 +30,7 @@ use Rattle.yaml_emit_state.specs.Finish.{Finishes}
 use Rattle.yaml_emit.specs.declared.held.Held.{Held}
 use Rattle.yaml_emit.specs.declared.emitter.yaml_emitter_t.TheInside.{Inside}
 use Rattle.yaml_emit.specs.Held.{held_events, HeldUtf8, is_ready}
+use Rattle.yaml_emit.specs.Judged.{refused_at}
 use Rattle.yaml_emit.specs.Graph.{dumped}
 
 -- What a clause sees of an emitter.
@@ -68,24 +68,28 @@ write_error = plain_fault YAML_WRITER_ERROR (codes "write error") origin.Writer
 abbrev pub too_deep : Fault
 too_deep = emitter_fault (codes "indentation is too deep")
 
--- the fault of a refused event
-abbrev pub refused_at : Place → Option Fault
-refused_at (at.Refused p) = Some (emitter_fault (problem_bytes p))
-refused_at at.StreamStart = None
-refused_at (at.Documents first unended) = None
-refused_at at.Node = None
-refused_at at.DocumentEnd = None
-refused_at at.End = None
+-- the fault of an output that has stopped
+abbrev pub stopped : Status → Bool → Option Fault
+stopped Going levels = None
+stopped Full levels = Some write_error
+stopped Deep levels = Some too_deep
+stopped Starved levels = Some (memory_fault (memory_origin levels))
 
--- the fault of an output that has stopped, or else a refused event's
-abbrev pub refusal_by : Status → Place → Bool → Option Fault
-refusal_by Going p levels = refused_at p
-refusal_by Full p levels = Some write_error
-refusal_by Deep p levels = Some too_deep
-refusal_by Starved p levels = Some (memory_fault (memory_origin levels))
+abbrev pub problem_fault : Problem → Fault
+problem_fault p = emitter_fault (problem_bytes p)
+
+-- the fault of what has stopped the output, or else of a refused event
+abbrev pub fault_by : Status → Bool → Option Problem → Option Fault
+fault_by Going levels p = option_map problem_fault p
+fault_by Full levels p = stopped Full levels
+fault_by Deep levels p = stopped Deep levels
+fault_by Starved levels p = stopped Starved levels
+
+abbrev pub refusal_by : Place → Status → Bool → Option Fault
+refusal_by place s levels = fault_by s levels (refused_at place)
 
 abbrev pub refusal_of : Core → Option Fault
-refusal_of core = refusal_by core.sink.status core.place core.starved
+refusal_of core = refusal_by core.place core.sink.status core.starved
 
 pub record IsEmitter (e : Inside) : Type 0 where
   -- the fault is the first that laying out met

@@ -2,8 +2,8 @@
 
 ghost use Rattle.std.specs.Prelude.{◌≡◌, option_map};
 ghost use Rattle.yaml_scan.specs.Faults.{fault_of, memory_fault};
-ghost use Rattle.yaml_emit_layout.specs.Grammar.{problem_bytes};
-ghost use Rattle.yaml_emit.specs.Emitter.{plain_fault, emitter_fault, memory_origin, refused_at, refusal_of};
+ghost use Rattle.yaml_emit.specs.Judged.{refused_at};
+ghost use Rattle.yaml_emit.specs.Emitter.{plain_fault, emitter_fault, problem_fault, memory_origin, stopped, refusal_of};
 
 use yaml_emit_layout::{Place, problem_text};
 use yaml_emit_state::Core;
@@ -54,8 +54,25 @@ fn memory(levels: bool) -> yaml_fault_t
     }
 }
 
+// The fault of an output that has stopped, by whether memory was refused for the open collections.
+fn stopped(status: Status, levels: bool) -> Option<yaml_fault_t>
+    ensures { option_map fault_of result ≡ stopped status levels }
+{
+    match status {
+        Status::Going => None,
+        Status::Full => Some(plain_fault(
+            yaml_error_type_t::YAML_WRITER_ERROR,
+            "write error",
+            yaml_origin_t::Writer,
+        )),
+        Status::Deep => Some(emitter_fault("indentation is too deep")),
+        Status::Starved => Some(memory(levels)),
+    }
+}
+
+// The fault of a refused event.
 fn refused(place: Place) -> Option<yaml_fault_t>
-    ensures { option_map fault_of result ≡ refused_at place }
+    ensures { option_map fault_of result ≡ option_map problem_fault (refused_at place) }
 {
     match place {
         Place::Refused(problem) => Some(emitter_fault(problem_text(problem))),
@@ -63,19 +80,12 @@ fn refused(place: Place) -> Option<yaml_fault_t>
     }
 }
 
-// The fault of an output that has stopped, or else a refused event's. They never come together: what comes first ends the
-// laying out.
+// The fault of what has stopped the output, or else of a refused event.
 pub(crate) fn refusal(core: &Core) -> Option<yaml_fault_t>
     ensures { option_map fault_of result ≡ refusal_of core.now }
 {
     match core.sink().status() {
         Status::Going => refused(core.place()),
-        Status::Full => Some(plain_fault(
-            yaml_error_type_t::YAML_WRITER_ERROR,
-            "write error",
-            yaml_origin_t::Writer,
-        )),
-        Status::Deep => Some(emitter_fault("indentation is too deep")),
-        Status::Starved => Some(memory(core.is_starved())),
+        status => stopped(status, core.is_starved()),
     }
 }

@@ -1,0 +1,142 @@
+//! Tokens, as the lines write them: kind, start mark, end mark, and what the token carries.
+
+use crate::{VectorError, field, shown, style};
+use serde_json::Value;
+use std::alloc::{AllocError, Global};
+use yaml_scan::{yaml_token_body_t, yaml_token_t};
+
+fn word(body: &yaml_token_body_t) -> &'static str {
+    match body {
+        yaml_token_body_t::No => "NO",
+        yaml_token_body_t::StreamStart { .. } => "STREAM-START",
+        yaml_token_body_t::StreamEnd => "STREAM-END",
+        yaml_token_body_t::VersionDirective { .. } => "VERSION-DIRECTIVE",
+        yaml_token_body_t::TagDirective { .. } => "TAG-DIRECTIVE",
+        yaml_token_body_t::DocumentStart => "DOCUMENT-START",
+        yaml_token_body_t::DocumentEnd => "DOCUMENT-END",
+        yaml_token_body_t::BlockSequenceStart => "BLOCK-SEQUENCE-START",
+        yaml_token_body_t::BlockMappingStart => "BLOCK-MAPPING-START",
+        yaml_token_body_t::BlockEnd => "BLOCK-END",
+        yaml_token_body_t::FlowSequenceStart => "FLOW-SEQUENCE-START",
+        yaml_token_body_t::FlowSequenceEnd => "FLOW-SEQUENCE-END",
+        yaml_token_body_t::FlowMappingStart => "FLOW-MAPPING-START",
+        yaml_token_body_t::FlowMappingEnd => "FLOW-MAPPING-END",
+        yaml_token_body_t::BlockEntry => "BLOCK-ENTRY",
+        yaml_token_body_t::FlowEntry => "FLOW-ENTRY",
+        yaml_token_body_t::Key => "KEY",
+        yaml_token_body_t::Value => "VALUE",
+        yaml_token_body_t::Alias { .. } => "ALIAS",
+        yaml_token_body_t::Anchor { .. } => "ANCHOR",
+        yaml_token_body_t::Tag { .. } => "TAG",
+        yaml_token_body_t::Scalar { .. } => "SCALAR",
+    }
+}
+
+// What the token carries, behind the fields so far.
+fn push_carried(
+    alloc: Global,
+    body: &yaml_token_body_t,
+    fields: &mut Vec<Value>,
+) -> Result<(), AllocError> {
+    match body {
+        yaml_token_body_t::StreamStart { encoding } => {
+            fields.push(Value::try_from_str(alloc, shown::encoding(*encoding))?)?;
+        }
+        yaml_token_body_t::VersionDirective { major, minor } => {
+            fields.push(Value::from(*major))?;
+            fields.push(Value::from(*minor))?;
+        }
+        yaml_token_body_t::TagDirective {
+            handle: first,
+            prefix: second,
+        }
+        | yaml_token_body_t::Tag {
+            handle: first,
+            suffix: second,
+        } => {
+            fields.push(shown::bytes(alloc, first.as_slice())?)?;
+            fields.push(shown::bytes(alloc, second.as_slice())?)?;
+        }
+        yaml_token_body_t::Alias { value } | yaml_token_body_t::Anchor { value } => {
+            fields.push(shown::bytes(alloc, value.as_slice())?)?;
+        }
+        yaml_token_body_t::Scalar { value, style } => {
+            fields.push(shown::bytes(alloc, value.as_slice())?)?;
+            fields.push(Value::try_from_str(alloc, style::scalar_word(*style))?)?;
+        }
+        _ => {}
+    }
+    Ok(())
+}
+
+/// The token as the lines write it.
+pub fn shown_token(alloc: Global, token: &yaml_token_t) -> Result<Value, AllocError> {
+    let mut fields = Vec::new(alloc);
+    fields.push(Value::try_from_str(alloc, word(&token.body))?)?;
+    fields.push(shown::mark(alloc, token.start_mark)?)?;
+    fields.push(shown::mark(alloc, token.end_mark)?)?;
+    push_carried(alloc, &token.body, &mut fields)?;
+    Ok(Value::Array(fields))
+}
+
+fn plain_body(word: &str) -> Result<yaml_token_body_t, VectorError> {
+    match word {
+        "STREAM-END" => Ok(yaml_token_body_t::StreamEnd),
+        "DOCUMENT-START" => Ok(yaml_token_body_t::DocumentStart),
+        "DOCUMENT-END" => Ok(yaml_token_body_t::DocumentEnd),
+        "BLOCK-SEQUENCE-START" => Ok(yaml_token_body_t::BlockSequenceStart),
+        "BLOCK-MAPPING-START" => Ok(yaml_token_body_t::BlockMappingStart),
+        "BLOCK-END" => Ok(yaml_token_body_t::BlockEnd),
+        "FLOW-SEQUENCE-START" => Ok(yaml_token_body_t::FlowSequenceStart),
+        "FLOW-SEQUENCE-END" => Ok(yaml_token_body_t::FlowSequenceEnd),
+        "FLOW-MAPPING-START" => Ok(yaml_token_body_t::FlowMappingStart),
+        "FLOW-MAPPING-END" => Ok(yaml_token_body_t::FlowMappingEnd),
+        "BLOCK-ENTRY" => Ok(yaml_token_body_t::BlockEntry),
+        "FLOW-ENTRY" => Ok(yaml_token_body_t::FlowEntry),
+        "KEY" => Ok(yaml_token_body_t::Key),
+        "VALUE" => Ok(yaml_token_body_t::Value),
+        _ => Err(VectorError::Field("token")),
+    }
+}
+
+fn body(alloc: Global, word: &str, token: &Value) -> Result<yaml_token_body_t, VectorError> {
+    match word {
+        "STREAM-START" => Ok(yaml_token_body_t::StreamStart {
+            encoding: field::encoding(token, 3)?,
+        }),
+        "VERSION-DIRECTIVE" => Ok(yaml_token_body_t::VersionDirective {
+            major: field::number(token, 3)?,
+            minor: field::number(token, 4)?,
+        }),
+        "TAG-DIRECTIVE" => Ok(yaml_token_body_t::TagDirective {
+            handle: field::bytes(alloc, token, 3)?,
+            prefix: field::bytes(alloc, token, 4)?,
+        }),
+        "ALIAS" => Ok(yaml_token_body_t::Alias {
+            value: field::bytes(alloc, token, 3)?,
+        }),
+        "ANCHOR" => Ok(yaml_token_body_t::Anchor {
+            value: field::bytes(alloc, token, 3)?,
+        }),
+        "TAG" => Ok(yaml_token_body_t::Tag {
+            handle: field::bytes(alloc, token, 3)?,
+            suffix: field::bytes(alloc, token, 4)?,
+        }),
+        "SCALAR" => Ok(yaml_token_body_t::Scalar {
+            value: field::bytes(alloc, token, 3)?,
+            style: style::scalar(field::text(token, 4)?)?,
+        }),
+        _ => plain_body(word),
+    }
+}
+
+/// The token that the lines write so.
+pub fn read_token(alloc: Global, token: &Value) -> Result<yaml_token_t, VectorError> {
+    let start_mark = field::mark(token, 1)?;
+    let end_mark = field::mark(token, 2)?;
+    Ok(yaml_token_t {
+        body: body(alloc, field::text(token, 0)?, token)?,
+        start_mark,
+        end_mark,
+    })
+}

@@ -9,7 +9,7 @@ documents-init c =
     let e = reads_to_load c.args.from c.args.input.now c.in_ok-reading.reading c.in_ok-reading.ensures.reads in
     record {
       between = c.in_ok-reading.ensures.between;
-      documents = rw c.new.ensures.items (ap (λ (z : Loads). z.documents) e);
+      documents = rw c.new-documents.ensures.items (ap (λ (z : Loads). z.documents) e);
       fault = ap (λ (z : Loads). z.fault) e;
     }
 

@@ -21,8 +21,7 @@ returns-in-None c = (feeds_all _ _ _ _ (none_left _ _ c.in-None.ensures.items c.
 pub returns-in-Err : goal.returns-in-Err
 returns-in-Err c =
     let e = c.in-Some.ensures.items in
-    let k = c.documents.invariant in
-    (
+    let k = c.documents.invariant in (
       documents_events (map graph_content c.pop_front.new.self.items),
       (feeds_next _ _ _ _ _ _ _ e k.stands.opened k.rooted c.yaml_emitter_dump.ensures.given k.feeds, not_none _ _ c.in-Err.ensures.answer),
     )

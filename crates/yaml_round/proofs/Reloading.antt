@@ -14,15 +14,14 @@ use Rattle.yaml_parse.specs.Loading.{Loading, Fed, goes_on, loaded, refused, not
 use Rattle.yaml_parse.specs.Loads as parse
 use Rattle.yaml_emit.specs.Content.{Event, alias_node, scalar_node, sequence_node, mapping_node, Nodes, no_nodes, node, Pairs, no_pairs, pair, document_start, document_end, sequence_end, mapping_end, stream_start, stream_end, node_events, items_events, pairs_events, documents_events}
 use Rattle.yaml_emit.specs.Content as content
-use Rattle.yaml_emit.specs.Graph.{graph_content, document_events, dumped}
-use Rattle.yaml_emit.specs.Text.{Item}
+use Rattle.yaml_emit.specs.Graph.{graph_content, dumped}
 use Rattle.yaml_emit.specs.Emitter.{Emitter, Given, Gives, dump_events, said_by, opening_events}
 use Rattle.yaml_emit_text.specs.declared.Wishes.{Wishes}
 use Rattle.yaml_round.specs.declared.settings.yaml_settings_t.{yaml_settings_t}
 use Rattle.yaml_round.specs.Input.{Reads}
 use Rattle.yaml_round.specs.Writing.{IsUnder, Finishes, wishes_under}
-use Rattle.yaml_round.specs.Answers.{IsLayout, IsPast, bytes_of}
-use Rattle.yaml_round.specs.Reload.{Loads, no_more, with_implicit_end, in_front, load_on, load_all, loads_of, to_load, HasRoot, LoadsDocument, LoadsNext, IsLoaded, AreLoaded, written_events, Feeds, Stands, Dumps, DumpsStream, IsDumped, IsReloaded}
+use Rattle.yaml_round.specs.Answers.{bytes_of}
+use Rattle.yaml_round.specs.Reload.{Loads, no_more, with_implicit_end, in_front, load_on, load_all, loads_of, to_load, HasRoot, LoadsDocument, IsLoaded, AreLoaded, written_events, Feeds, Stands, Dumps, DumpsStream, IsDumped, IsReloaded}
 use Rattle.yaml_round.proofs.Laying.{Led, starts, layout, past}
 
 -- ---- the next document

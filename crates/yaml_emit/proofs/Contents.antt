@@ -1,5 +1,5 @@
 -- The events of a dump are those of the walk.
-use Rattle.std.proofs.Common.{◌≡◌, ℕ, List, [], ◌∷◌, ◌++◌, length, map, Bool, true, false, refl, sym, ◌∙◌, ap, Option, Some, None}
+use Rattle.std.proofs.Common.{◌≡◌, ℕ, List, [], ◌∷◌, ◌++◌, length, map, Bool, true, false, refl, sym, ◌∙◌, ap, Option}
 use Rattle.std.specs.Prelude.{zero, suc, ℤ, pos, if◌then◌else◌}
 use Rattle.yaml_parse.specs.declared.yaml_node_pair_t.{yaml_node_pair_t}
 use Rattle.yaml_parse.specs.Nodes as model
@@ -7,7 +7,7 @@ use Rattle.yaml_parse.specs.Documents.{Document}
 use Rattle.yaml_emit_layout.specs.Content.{Node, Nodes, Pairs, node, pair, no_nodes, no_pairs, Event, document_start, document_end, node_events, items_events, pairs_events, sequence_start, mapping_start, is_flow_sequence, is_flow_mapping}
 use Rattle.yaml_parse.specs.Documents.{seq_tag, map_tag}
 use Rattle.yaml_emit.specs.declared.walk.Turn.{Turn}
-use Rattle.yaml_emit.specs.declared.walk.Turn.TheVariants.{First, Again, Leave}
+use Rattle.yaml_emit.specs.declared.walk.Turn.TheVariants.{Leave}
 use Rattle.yaml_emit.specs.Graph.{Met, is_met, meet, pair_ids, body_of_id, tag_of_id, Rest, over, inside, visits, none_met, nothing_left, turns, numbers, number_at, anchor_of, said_start, opening_event, closing_event, turn_event, items_by, pairs_by, node_by, content_by, itself, graph_root, graph_opening, dumped}
 
 abbrev said_all : List ℕ → List model.Node → List Event → List Turn → List Event

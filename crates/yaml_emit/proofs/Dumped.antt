@@ -1,6 +1,5 @@
 -- A dump is given event by event.
-use Rattle.std.proofs.Common.{◌≡◌, ◌≢◌, ℕ, List, [], ◌∷◌, ◌++◌, length, Bool, true, false, refl, sym, subst, ◌∙◌, ap, arith, Option, Some, None, option_map}
-use Rattle.std.specs.Prelude.{suc}
+use Rattle.std.proofs.Common.{◌≡◌, ◌≢◌, ℕ, List, [], ◌∷◌, ◌++◌, length, Bool, true, false, refl, sym, subst, ◌∙◌, ap, arith, Option, Some, option_map}
 use Rattle.yaml_scan.specs.Faults.{Fault, fault_of}
 use Rattle.yaml_parse.specs.Nodes.{Node}
 use Rattle.yaml_parse.specs.Documents.{Document}
@@ -8,7 +7,7 @@ use Rattle.yaml_emit_text.specs.declared.Encoding.{Encoding}
 use Rattle.yaml_emit_text.specs.declared.Status.{Status}
 use Rattle.yaml_emit_text.specs.declared.Status.TheVariants.{Going, Full, Deep, Starved}
 use Rattle.yaml_emit_text.specs.Text.{Item}
-use Rattle.yaml_emit_text.specs.Layout.{Layout, stay, nothing_more}
+use Rattle.yaml_emit_text.specs.Layout.{stay, nothing_more}
 use Rattle.yaml_emit_text.specs.Sink.{Ends}
 use Rattle.yaml_emit_text.proofs.Sinks.{ends_other, status_cases}
 use Rattle.yaml_emit_layout.specs.Content.{Event, stream_end}
@@ -16,11 +15,10 @@ use Rattle.yaml_emit_layout.specs.ToCome.{layout}
 use Rattle.yaml_emit_state.specs.declared.Core.{Core}
 use Rattle.yaml_emit_state.specs.Steps.{Starves, settings_of}
 use Rattle.yaml_emit_state.specs.Finish.{Finishes, FinishesAt, FinishesBy}
-use Rattle.yaml_emit.specs.Held.{held_events}
 use Rattle.yaml_emit.specs.declared.graph.Events.{Events}
 use Rattle.yaml_emit.specs.declared.emitter.yaml_emitter_t.TheInside.{Inside}
 use Rattle.yaml_emit.specs.Events.{coming_events, IsEvents}
-use Rattle.yaml_emit.specs.Emitter.{Emitter, emitter_of, IsEmitter, CompletesBy, Completes, Given, Gives, Stuck, Keeps, left_if, opening_events, closing_events, dump_events, said_by, said_document}
+use Rattle.yaml_emit.specs.Emitter.{Emitter, emitter_of, IsEmitter, CompletesBy, Completes, Given, Gives, Stuck, left_if, opening_events, closing_events, dump_events, said_by, said_document}
 use Rattle.yaml_emit.specs.Graph.{dumped}
 use Rattle.yaml_emit.specs.Dumping.{DumpsBy, Dumps}
 use Rattle.yaml_emit.proofs.Emitting.{stopped_completes, not_true}

@@ -1,35 +1,34 @@
 -- What an emitter completes.
-use Rattle.std.proofs.Common.{◌≡◌, ◌≢◌, ℕ, ◌<◌, List, [], ◌∷◌, ◌++◌, length, take, Bool, true, false, refl, sym, subst, ◌∙◌, ap, arith, Option, Some, None, append_assoc, option_map}
-use Rattle.yaml_scan.specs.Faults.{Fault, fault_of}
+use Rattle.std.proofs.Common.{◌≡◌, ◌≢◌, ℕ, ◌<◌, List, [], ◌∷◌, ◌++◌, length, take, Bool, true, false, refl, sym, subst, inl, inr, ◌∙◌, ap, arith, Option, Some, None, append_assoc, option_map}
+use Rattle.yaml_scan.specs.Faults.{Fault, fault_of, memory_fault}
 use Rattle.yaml_scan.specs.declared.yaml_encoding_t.{yaml_encoding_t}
 use Rattle.yaml_emit_text.specs.declared.Encoding.{Encoding}
 use Rattle.yaml_emit_text.specs.declared.Settings.{Settings}
 use Rattle.yaml_emit_text.specs.declared.Status.{Status}
 use Rattle.yaml_emit_text.specs.declared.Status.TheVariants.{Going, Full, Deep, Starved}
-use Rattle.yaml_emit_text.specs.declared.Wishes.{Wishes}
 use Rattle.yaml_emit_text.specs.Text.{Item, encode, is_deep}
 use Rattle.yaml_emit_text.specs.Settings.{settled}
 use Rattle.yaml_emit_text.specs.Sink.{Ends, EndsBy}
 use Rattle.yaml_emit_text.specs.Layout.{written}
-use Rattle.yaml_emit_text.proofs.Sinks.{ends_other}
 use Rattle.yaml_emit_layout.specs.declared.Problem.{Problem}
 use Rattle.yaml_emit_layout.specs.declared.Place.{Place}
 use Rattle.yaml_emit_layout.specs.declared.Place.TheVariants as at
-use Rattle.yaml_emit_layout.specs.Content.{Event, stream_start, stream_events, documents_events}
+use Rattle.yaml_emit_layout.specs.Content.{Event, stream_start}
 use Rattle.yaml_emit_layout.specs.Grammar.{own_problems}
 use Rattle.yaml_emit_layout.specs.Nodes.{stream_layout}
 use Rattle.yaml_emit_layout.specs.State.{State}
 use Rattle.yaml_emit_layout.specs.ToCome.{ToCome, stream, documents, root, frames, nothing, Frame, level_of, levels_of}
 use Rattle.yaml_emit_layout.specs.ToCome as come
 use Rattle.yaml_emit_state.specs.declared.Core.{Core}
-use Rattle.yaml_emit_state.specs.Steps.{state_of, settings_of, goes_on, IsFresh}
+use Rattle.yaml_emit_state.specs.Steps.{state_of, goes_on, IsFresh}
 use Rattle.yaml_emit_state.specs.Finish.{Finishes, FinishesAt, FinishesBy, Leads}
 use Rattle.yaml_emit_state.proofs.Finishing.{fresh_finishes}
 use Rattle.yaml_emit.specs.Held.{held_events}
 use Rattle.yaml_scan.specs.declared.yaml_fault_t.{yaml_fault_t}
 use Rattle.yaml_emit.specs.declared.held.Held.{Held}
 use Rattle.yaml_emit.specs.declared.emitter.yaml_emitter_t.TheInside.{Inside}
-use Rattle.yaml_emit.specs.Emitter.{Emitter, emitter_of, IsEmitter, refusal_by, refusal_of, stopped, stream_encoding, IsStream, CompletesBy, Completes, HasWritten, ShowsFront, IsWhole, Given, Begins}
+use Rattle.yaml_emit.specs.Emitter.{Emitter, emitter_of, IsEmitter, write_error, too_deep, problem_fault, memory_origin, refusal_by, refusal_of, IsLimited, stream_encoding, IsStream, CompletesBy, Completes, HasWritten, ShowsFront, IsWhole, Given, Begins}
+use Rattle.yaml_emit.specs.Judged.{refused_at}
 use Rattle.yaml_emit.proofs.Ending.{all_written}
 
 pub refusal_none : (p : Place) (s : Status) (b : Bool) → refusal_by p s b ≡ None → goes_on s p ≡ true
@@ -38,22 +37,10 @@ refusal_none (at.Documents first unended) Going b h = refl
 refusal_none at.Node Going b h = refl
 refusal_none at.DocumentEnd Going b h = refl
 refusal_none at.End Going b h = refl
-refusal_none (at.Refused p) s b h = absurd (cc)
-refusal_none at.StreamStart Full b h = absurd (cc)
-refusal_none (at.Documents first unended) Full b h = absurd (cc)
-refusal_none at.Node Full b h = absurd (cc)
-refusal_none at.DocumentEnd Full b h = absurd (cc)
-refusal_none at.End Full b h = absurd (cc)
-refusal_none at.StreamStart Deep b h = absurd (cc)
-refusal_none (at.Documents first unended) Deep b h = absurd (cc)
-refusal_none at.Node Deep b h = absurd (cc)
-refusal_none at.DocumentEnd Deep b h = absurd (cc)
-refusal_none at.End Deep b h = absurd (cc)
-refusal_none at.StreamStart Starved b h = absurd (cc)
-refusal_none (at.Documents first unended) Starved b h = absurd (cc)
-refusal_none at.Node Starved b h = absurd (cc)
-refusal_none at.DocumentEnd Starved b h = absurd (cc)
-refusal_none at.End Starved b h = absurd (cc)
+refusal_none (at.Refused p) Going b h = absurd (cc)
+refusal_none p Full b h = absurd (cc)
+refusal_none p Deep b h = absurd (cc)
+refusal_none p Starved b h = absurd (cc)
 
 -- what is to come is at no refused place
 not_refused : (k : ToCome) (p : Problem) → at.Refused p ≡ (come.state_of k).place → ⊥
@@ -66,16 +53,16 @@ not_refused (frames g (f ∷ fs) implicit ds) p h = cc
 not_refused nothing p h = cc
 
 -- going on, a refusal is that of a refused event
-going_refused : (p : Place) (b : Bool) (f : Fault) (st : State) (k : ToCome) → st.place ≡ p → refusal_by p Going b ≡ Some f → st ≡ come.state_of k → ⊥
-going_refused (at.Refused q) b f st k w h e = not_refused k q (sym w ∙ ap (λ (z : State). z.place) e)
-going_refused at.StreamStart b f st k w h e = cc
-going_refused (at.Documents first unended) b f st k w h e = cc
-going_refused at.Node b f st k w h e = cc
-going_refused at.DocumentEnd b f st k w h e = cc
-going_refused at.End b f st k w h e = cc
+going_refused : (p : Place) (f : Fault) (st : State) (k : ToCome) → st.place ≡ p → option_map problem_fault (refused_at p) ≡ Some f → st ≡ come.state_of k → ⊥
+going_refused (at.Refused q) f st k w h e = not_refused k q (sym w ∙ ap (λ (z : State). z.place) e)
+going_refused at.StreamStart f st k w h e = cc
+going_refused (at.Documents first unended) f st k w h e = cc
+going_refused at.Node f st k w h e = cc
+going_refused at.DocumentEnd f st k w h e = cc
+going_refused at.End f st k w h e = cc
 
 finishes_stopped : (s : Status) (core : Core) (f : Fault) (xs ys : List Event) (whole : List Item) → refusal_by core.place s core.starved ≡ Some f → FinishesAt s core xs whole → FinishesAt s core ys whole
-finishes_stopped Going core f xs ys whole h r = absurd (going_refused core.place core.starved f (state_of core) r.rest refl h r.fits)
+finishes_stopped Going core f xs ys whole h r = absurd (going_refused core.place f (state_of core) r.rest refl h r.fits)
 finishes_stopped Full core f xs ys whole h r = r
 finishes_stopped Deep core f xs ys whole h r = r
 finishes_stopped Starved core f xs ys whole h r = r
@@ -154,6 +141,26 @@ pub front_written : (e : Emitter) (x : Encoding) (es : List Event) (whole : List
 unfolding Completes
 front_written e x es whole l n h = completes_written e.fresh e x es whole refl l n h
 
+some_same : (g f : Fault) → Some g ≡ Some f → f ≡ g
+some_same g f h = cc
+
+-- going on, an emitter with a fault completes no text
+going_never : (e : Emitter) (f : Fault) (x : Encoding) (es : List Event) (whole : List Item) → e.fresh ≡ false → e.core.sink.status ≡ Going → option_map problem_fault (refused_at e.core.place) ≡ Some f → Completes e x es whole → ⊥
+unfolding Completes Finishes
+going_never e f x es whole b g h c =
+    let P : Bool → Type 0 = λ z. CompletesBy z e x es whole in
+    let S : Status → Type 0 = λ z. FinishesAt z e.core (held_events e.held ++ es) whole in
+    let k = subst P b c in
+    let r : FinishesBy e.core (held_events e.held ++ es) whole = subst S g k.1 in
+    going_refused e.core.place f (state_of e.core) r.rest refl h r.fits
+
+limited_by : (s : Status) (e : Emitter) (f : Fault) → e.core.sink.status ≡ s → e.fresh ≡ false → refusal_by e.core.place s e.core.starved ≡ Some f
+    → ((x : Encoding) (es : List Event) (whole : List Item) → Completes e x es whole → HasWritten s e.limit e.core.sink.bytes (encode x whole) (is_deep whole)) → IsLimited e f
+limited_by Going e f s b h w = inr (λ x es whole c. absurd (going_never e f x es whole b s h c))
+limited_by Full e f s b h w = inr (λ x es whole c. inl (some_same write_error f h, (w x es whole c).1))
+limited_by Deep e f s b h w = inr (λ x es whole c. inr (some_same too_deep f h, (w x es whole c).0))
+limited_by Starved e f s b h w = inl (ap (λ (z : Fault). z.kind) (some_same (memory_fault (memory_origin e.core.starved)) f h))
+
 pub goes_going : (s : Status) (p : Place) → goes_on s p ≡ true → s ≡ Going
 goes_going Going p h = refl
 goes_going Full (at.Refused q) h = absurd (cc)
@@ -214,6 +221,12 @@ inside_lays i core h held fault e fr same l = record {
 pub not_true : (b : Bool) → (b ≡ true → ⊥) → b ≡ false
 not_true false n = refl
 not_true true n = absurd (n refl)
+
+-- why an emitter has a fault
+pub inside_limited : (i : Inside) → IsEmitter i → (f : Fault) → option_map fault_of i.fault ≡ Some f → IsLimited (emitter_of i) f
+inside_limited i inv f is =
+    let fr : i.fresh ≡ false = not_true i.fresh (λ t. let k = (inv.begun t).1.0 in cc) in
+    limited_by i.core.sink.status (emitter_of i) f refl fr (sym inv.faulty ∙ is) (inside_front i inv)
 
 pub inside_stays : (i : Inside) (f : yaml_fault_t) (e : Event) → IsEmitter i → i.fault ≡ Some f → Given (emitter_of i) e (emitter_of i)
 inside_stays i f e inv is =

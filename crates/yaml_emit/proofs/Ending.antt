@@ -1,19 +1,18 @@
 -- Where no event is to come, nothing is held, and all is written.
-use Rattle.std.proofs.Common.{◌≡◌, ◌≢◌, ℕ, ◌+◌, ◌≤◌, List, [], ◌∷◌, ◌++◌, length, Bool, true, false, refl, sym, subst, ◌∙◌, ap, arith, Option, Some, None, append-nil}
+use Rattle.std.proofs.Common.{◌≡◌, ◌+◌, ◌≤◌, List, [], ◌∷◌, ◌++◌, length, Bool, true, false, refl, sym, subst, ◌∙◌, ap, arith, append-nil}
 use Rattle.std.specs.Prelude.{nat_le, ◌||◌}
 use Rattle.std.proofs.lemmas.Bool.Decides.{nat_tests}
-use Rattle.yaml_parse.specs.Events.{TagDirective}
 use Rattle.yaml_emit_text.specs.declared.Encoding.{Encoding}
 use Rattle.yaml_emit_text.specs.declared.Status.{Status}
 use Rattle.yaml_emit_text.specs.declared.Status.TheVariants.{Going, Full, Deep, Starved}
 use Rattle.yaml_emit_text.specs.Text.{Item, encode}
 use Rattle.yaml_emit_text.specs.Layout.{nothing_more}
 use Rattle.yaml_emit_text.specs.Sink.{Ends, EndsBy}
-use Rattle.yaml_emit_layout.specs.Content.{Event, Node, alias_node, scalar_node, sequence_node, mapping_node, Nodes, no_nodes, node, Pairs, no_pairs, pair, Document, stream_start, document_end, document_start, sequence_end, mapping_end, node_events, items_events, pairs_events, documents_events}
+use Rattle.yaml_emit_layout.specs.Content.{Event, Node, alias_node, scalar_node, sequence_node, mapping_node, Nodes, no_nodes, node, Pairs, no_pairs, pair, Document, sequence_end, mapping_end, node_events, items_events, pairs_events, documents_events}
 use Rattle.yaml_emit_layout.specs.ToCome.{ToCome, stream, documents, root, frames, nothing, Frame, items_left, pairs_left, value_left, events, frame_events, frames_events, ending_events, layout}
 use Rattle.yaml_emit_state.specs.declared.Core.{Core}
 use Rattle.yaml_emit_state.specs.Steps.{settings_of}
-use Rattle.yaml_emit_state.specs.Finish.{Finishes, FinishesAt, FinishesBy}
+use Rattle.yaml_emit_state.specs.Finish.{Finishes, FinishesAt}
 use Rattle.yaml_emit.specs.Held.{held_events, is_ready, needs, closes}
 use Rattle.yaml_emit.specs.Emitter.{Emitter, Completes, CompletesBy, IsStream}
 use Rattle.yaml_emit.proofs.Holding.{few_needs, le_more}
@@ -62,7 +61,7 @@ enough : (e : Event) (es : List Event) → 3 ≤ length es → is_ready (e ∷ e
 unfolding is_ready
 enough e es h = ap (λ v. v || closes es) (le_more (needs e) (length es) 0 (few_needs e) h)
 
-none_needed : (e : Event) (es : List Event) → needs e ≡ 0 → is_ready (e ∷ es) ≡ true
+pub none_needed : (e : Event) (es : List Event) → needs e ≡ 0 → is_ready (e ∷ es) ≡ true
 unfolding is_ready
 none_needed e es h = let k : nat_le (needs e) (length es) ≡ true = rw h (grind (arith, nat_tests)) in ap (λ v. v || closes es) k
 

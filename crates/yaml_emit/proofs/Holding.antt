@@ -1,17 +1,17 @@
 -- What is held, and when it is laid out.
-use Rattle.std.proofs.Common.{◌≡◌, ◌≢◌, ℕ, ◌<◌, List, [], ◌∷◌, ◌++◌, length, Bool, true, false, refl, sym, subst, ◌∙◌, ap, arith, None, append_assoc, append-nil}
+use Rattle.std.proofs.Common.{◌≡◌, ℕ, ◌<◌, List, [], ◌∷◌, ◌++◌, length, Bool, true, false, refl, sym, subst, ◌∙◌, ap, arith}
 use Rattle.std.specs.Prelude.{nat_le, ◌||◌, ◌&&◌, ◌≤◌}
 use Rattle.std.proofs.lemmas.Bool.Decides.{nat_tests}
-use Rattle.yaml_emit_text.specs.Text.{Item}
 use Rattle.yaml_emit_layout.specs.Content.{Event, no_event, stream_start, stream_end, document_start, document_end, alias, scalar, sequence_start, sequence_end, mapping_start, mapping_end}
 use Rattle.yaml_emit_layout.specs.State.{opens_empty}
 use Rattle.yaml_emit_state.specs.declared.Core.{Core}
 use Rattle.yaml_emit_state.specs.Steps.{LaysOut}
 use Rattle.yaml_emit_state.specs.Finish.{Finishes, Leads}
 use Rattle.yaml_emit_state.proofs.Finishing.{finishes_on}
-use Rattle.yaml_emit.specs.Held.{is_ready, has_enough, needs, closes}
+use Rattle.yaml_emit.specs.Held.{is_ready, needs, closes, passes}
+use Rattle.yaml_emit.proofs.Opening.{opens_none}
 
-ready_empty : (e : Event) (es more : List Event) → is_ready (e ∷ es) ≡ true → opens_empty e (es ++ more) ≡ opens_empty e es
+pub ready_empty : (e : Event) (es more : List Event) → is_ready (e ∷ es) ≡ true → opens_empty e (es ++ more) ≡ opens_empty e es
 unfolding is_ready opens_empty
 ready_empty (sequence_start p) [] more h = absurd (cc)
 ready_empty (mapping_start p) [] more h = absurd (cc)
@@ -34,6 +34,11 @@ leads_more a b c h x y e empty p same r is l = record {
   limit = l.text.limit ∙ p.limit;
   settings = l.settings ∙ p.settings;
 }
+
+-- an event that isn't held
+pub leads_past : (a c : Core) (h : List Event) (e : Event) → passes h e ≡ true → LaysOut a c e false → Leads a (h ++ e ∷ []) c h
+leads_past a c [] e p l = leads_more a a c (e ∷ []) (e ∷ []) [] e false (leads_same a (e ∷ [])) refl p (sym (opens_none e)) l
+leads_past a c (f ∷ fs) e p l = absurd (cc)
 
 pub few_needs : (e : Event) → nat_le (needs e) 3 ≡ true
 few_needs no_event = refl

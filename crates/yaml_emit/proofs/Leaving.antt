@@ -1,14 +1,14 @@
 -- The events of a document go on.
-use Rattle.std.proofs.Common.{◌≡◌, ℕ, List, [], ◌∷◌, ◌++◌, length, map, Bool, refl, sym, ◌∙◌, ap}
+use Rattle.std.proofs.Common.{◌≡◌, ℕ, [], ◌∷◌, length, Bool, refl, sym}
 use Rattle.std.specs.Prelude.{false, replicate}
 use Rattle.yaml_parse.specs.Documents.{Document}
 use Rattle.yaml_emit_layout.specs.Content.{Event, document_start, document_end}
 use Rattle.yaml_emit.specs.declared.graph.Events.{Events}
 use Rattle.yaml_emit.specs.declared.graph.Place.TheVariants as at
 use Rattle.yaml_emit.specs.declared.walk.Turn.{Turn}
-use Rattle.yaml_emit.specs.Graph.{graph_opening, numbers, turn_event, turns, dumped}
-use Rattle.yaml_emit.specs.Walk.{coming, IsWalk, stack_of}
-use Rattle.yaml_emit.specs.Events.{coming_at, coming_events, nodes_left, IsEvents}
+use Rattle.yaml_emit.specs.Graph.{graph_opening, numbers, turn_event, dumped}
+use Rattle.yaml_emit.specs.Walk.{coming, stack_of}
+use Rattle.yaml_emit.specs.Events.{coming_events, IsEvents}
 use Rattle.yaml_emit.proofs.Walking.{fresh_walk}
 use Rattle.yaml_emit.proofs.Contents.{dumped_turns}
 

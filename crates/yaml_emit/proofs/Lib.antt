@@ -1,7 +1,10 @@
 pub mod Opening
 pub mod Holding
+pub mod Judging
+pub mod Grammatical
 pub mod Ending
 pub mod Emitting
+pub mod Verdicts
 pub mod Walking
 pub mod Contents
 pub mod Counting

@@ -1,9 +1,8 @@
 -- A walk goes on.
-use Rattle.std.proofs.Common.{◌≡◌, ℕ, ◌+◌, ◌-◌, ◌<◌, ◌≤◌, List, [], ◌∷◌, length, get_or, drop, reverse, Bool, true, false, refl, sym, subst, ◌∙◌, ap, arith, Option, Some, None}
+use Rattle.std.proofs.Common.{◌≡◌, ℕ, ◌-◌, ◌<◌, ◌≤◌, List, [], ◌∷◌, length, get_or, drop, reverse, Bool, true, false, refl, sym, subst, ◌∙◌, ap, arith, Option, Some, None}
 use Rattle.std.specs.Prelude.{zero, suc, ℤ, pos, replicate, set, Ok, Vec}
 use Rattle.std.specs.Global.{Global}
 use Rattle.std.proofs.lemmas.List.{length-set, length-replicate, drop_all, drop_more}
-use Rattle.std.specs.declared.alloc.AllocError.{AllocError}
 use Rattle.yaml_parse.specs.declared.yaml_node_pair_t.{yaml_node_pair_t}
 use Rattle.yaml_parse.specs.Nodes as model
 use Rattle.yaml_emit.specs.declared.walk.Turn.{Turn}

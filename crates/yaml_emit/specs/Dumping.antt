@@ -1,5 +1,5 @@
 -- A dump goes on.
-use Rattle.std.specs.Prelude.{◌≡◌, ℕ, suc, Bool, true, false, [], length}
+use Rattle.std.specs.Prelude.{◌≡◌, suc, Bool, true, false, [], length}
 use Rattle.yaml_parse.specs.Documents.{Document}
 use Rattle.yaml_emit.specs.declared.graph.Events.{Events}
 use Rattle.yaml_emit.specs.Emitter.{Emitter, Gives, Keeps}

@@ -1,17 +1,16 @@
 -- What an emitter's output ends as, with the events that follow, and its faults.
-use Rattle.std.specs.Prelude.{◌≡◌, ℕ, ◌<◌, Bool, true, false, List, [], ◌∷◌, ◌++◌, length, take, Option, Some, None, option_map, pos, codes, Result, Ok, Err}
+use Rattle.std.specs.Prelude.{◌≡◌, ◌⊎◌, ℕ, ◌<◌, Bool, true, false, List, [], ◌∷◌, ◌++◌, length, take, Option, Some, None, option_map, pos, codes, Result, Ok, Err}
 use Rattle.yaml_scan.specs.declared.yaml_encoding_t.{yaml_encoding_t}
 use Rattle.yaml_scan.specs.declared.yaml_encoding_t.TheVariants.{YAML_ANY_ENCODING}
 use Rattle.yaml_scan.specs.declared.yaml_break_t.TheVariants.{YAML_ANY_BREAK}
 use Rattle.yaml_scan.specs.declared.yaml_fault_t.{yaml_fault_t}
 use Rattle.yaml_scan.specs.declared.yaml_error_type_t.{yaml_error_type_t}
-use Rattle.yaml_scan.specs.declared.yaml_error_type_t.TheVariants.{YAML_EMITTER_ERROR, YAML_WRITER_ERROR}
+use Rattle.yaml_scan.specs.declared.yaml_error_type_t.TheVariants.{YAML_EMITTER_ERROR, YAML_WRITER_ERROR, YAML_MEMORY_ERROR}
 use Rattle.yaml_scan.specs.declared.yaml_origin_t.{yaml_origin_t}
 use Rattle.yaml_scan.specs.declared.yaml_origin_t.TheVariants as origin
 use Rattle.yaml_scan.specs.Tokens.{zero_mark}
 use Rattle.yaml_scan.specs.Faults.{Fault, fault_of, memory_fault}
 use Rattle.yaml_emit_text.specs.declared.Encoding.{Encoding}
-use Rattle.yaml_emit_text.specs.declared.Settings.{Settings}
 use Rattle.yaml_emit_text.specs.declared.Status.{Status}
 use Rattle.yaml_emit_text.specs.declared.Status.TheVariants.{Going, Full, Deep, Starved}
 use Rattle.yaml_emit_text.specs.declared.Wishes.{Wishes}
@@ -19,7 +18,7 @@ use Rattle.yaml_emit_text.specs.Text.{Item, encode, is_deep}
 use Rattle.yaml_emit_text.specs.Layout.{written}
 use Rattle.yaml_emit_text.specs.Settings.{settled}
 use Rattle.yaml_emit_layout.specs.declared.Place.{Place}
-use Rattle.yaml_emit_layout.specs.declared.Place.TheVariants as at
+use Rattle.yaml_emit_layout.specs.declared.Problem.{Problem}
 use Rattle.yaml_parse.specs.Nodes as model
 use Rattle.yaml_parse.specs.Documents as documents
 use Rattle.yaml_emit_layout.specs.Content.{Event, stream_start, stream_end, Document, stream_events}
@@ -31,6 +30,7 @@ use Rattle.yaml_emit_state.specs.Finish.{Finishes}
 use Rattle.yaml_emit.specs.declared.held.Held.{Held}
 use Rattle.yaml_emit.specs.declared.emitter.yaml_emitter_t.TheInside.{Inside}
 use Rattle.yaml_emit.specs.Held.{held_events, HeldUtf8, is_ready}
+use Rattle.yaml_emit.specs.Judged.{refused_at}
 use Rattle.yaml_emit.specs.Graph.{dumped}
 
 -- What a clause sees of an emitter.
@@ -60,21 +60,33 @@ abbrev pub memory_origin : Bool → yaml_origin_t
 memory_origin true = origin.Emitter
 memory_origin false = origin.Writer
 
+-- more bytes than the limit
+abbrev pub write_error : Fault
+write_error = plain_fault YAML_WRITER_ERROR (codes "write error") origin.Writer
+
+-- an indentation of more than the most columns
+abbrev pub too_deep : Fault
+too_deep = emitter_fault (codes "indentation is too deep")
+
 -- the fault of an output that has stopped
 abbrev pub stopped : Status → Bool → Option Fault
 stopped Going levels = None
-stopped Full levels = Some (plain_fault YAML_WRITER_ERROR (codes "write error") origin.Writer)
-stopped Deep levels = Some (emitter_fault (codes "indentation is too deep"))
+stopped Full levels = Some write_error
+stopped Deep levels = Some too_deep
 stopped Starved levels = Some (memory_fault (memory_origin levels))
 
--- a refused event's fault, or that of the output
+abbrev pub problem_fault : Problem → Fault
+problem_fault p = emitter_fault (problem_bytes p)
+
+-- the fault of what has stopped the output, or else of a refused event
+abbrev pub fault_by : Status → Bool → Option Problem → Option Fault
+fault_by Going levels p = option_map problem_fault p
+fault_by Full levels p = stopped Full levels
+fault_by Deep levels p = stopped Deep levels
+fault_by Starved levels p = stopped Starved levels
+
 abbrev pub refusal_by : Place → Status → Bool → Option Fault
-refusal_by (at.Refused p) s levels = Some (emitter_fault (problem_bytes p))
-refusal_by at.StreamStart s levels = stopped s levels
-refusal_by (at.Documents first unended) s levels = stopped s levels
-refusal_by at.Node s levels = stopped s levels
-refusal_by at.DocumentEnd s levels = stopped s levels
-refusal_by at.End s levels = stopped s levels
+refusal_by place s levels = fault_by s levels (refused_at place)
 
 abbrev pub refusal_of : Core → Option Fault
 refusal_of core = refusal_by core.place core.sink.status core.starved
@@ -164,6 +176,14 @@ PassesSize limit bytes = limit < length bytes
 -- laying out some scalar or collection makes an indentation of more than the most columns: the layout marks such a place
 abbrev pub PassesColumns : Bool → Type 0
 PassesColumns deep = deep ≡ true
+
+-- the fault names the limit that is passed
+abbrev pub Passes : ℕ → List ℕ → Bool → Fault → Type 0
+Passes limit bytes deep f = ((f ≡ write_error) × PassesSize limit bytes) ⊎ ((f ≡ too_deep) × PassesColumns deep)
+
+-- The fault tells that memory ran out, or names a limit that each text passes which the emitter completes.
+abbrev pub IsLimited : Emitter → Fault → Type 0
+IsLimited e f = (f.kind ≡ YAML_MEMORY_ERROR) ⊎ ((x : Encoding) (es : List Event) (whole : List Item) → Completes e x es whole → Passes e.limit (encode x whole) (is_deep whole) f)
 
 -- What is written is the front of each text that the emitter completes: all up to the limit where that was passed.
 abbrev pub HasWritten : Status → ℕ → List ℕ → List ℕ → Bool → Type 0

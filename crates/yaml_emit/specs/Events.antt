@@ -1,5 +1,5 @@
 -- The events of a document that are still to come.
-use Rattle.std.specs.Prelude.{◌≡◌, ℕ, List, [], ◌∷◌, ◌++◌, map, Option, Some, None, Result, Ok, Err, IfOk, IsUtf8}
+use Rattle.std.specs.Prelude.{◌≡◌, List, [], ◌∷◌, ◌++◌, map, Option, Some, None, Result, Ok, Err, IfOk, IsUtf8}
 use Rattle.std.specs.declared.alloc.AllocError.{AllocError}
 use Rattle.yaml_parse.specs.declared.yaml_event_body_t.{yaml_event_body_t}
 use Rattle.yaml_parse.specs.Events.{body_of}

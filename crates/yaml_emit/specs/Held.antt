@@ -1,6 +1,6 @@
 -- The events that are held.
 use Rattle.std.specs.Prelude.{ℕ, Bool, true, false, not, ◌&&◌, ◌||◌, nat_le, List, [], ◌∷◌, length}
-use Rattle.yaml_parse.specs.Events.{EventBody, body_of}
+use Rattle.yaml_parse.specs.Events.{body_of}
 use Rattle.yaml_parse.specs.Constructors.{HasUtf8}
 use Rattle.yaml_emit_layout.specs.Content.{Event, no_event, stream_start, stream_end, document_start, document_end, alias, scalar, sequence_start, sequence_end, mapping_start, mapping_end, said}
 use Rattle.yaml_emit.specs.declared.held.Held.{Held}
@@ -64,3 +64,8 @@ has_enough e es = nat_le (needs e) (length es) || closes es
 unfoldable pub is_ready : List Event → Bool
 is_ready [] = false
 is_ready (e ∷ es) = has_enough e es
+
+-- nothing is held, and the event needs nothing behind it
+abbrev pub passes : List Event → Event → Bool
+passes [] e = is_ready (e ∷ [])
+passes (f ∷ fs) e = false

@@ -1,11 +1,12 @@
 //! The emitter.
 
-ghost use Rattle.std.specs.Prelude.{◌≡◌, None, true, false, option_map, IfOk};
-ghost use Rattle.yaml_scan.specs.Faults.{fault_of};
+ghost use Rattle.std.specs.Prelude.{◌≡◌, Some, None, true, false, option_map, IfOk};
+ghost use Rattle.yaml_scan.specs.Faults.{Fault, fault_of};
 ghost use Rattle.yaml_parse.specs.Events.{event_of, body_of};
 ghost use Rattle.yaml_parse.specs.Constructors.{HasUtf8};
 ghost use Rattle.yaml_emit_layout.specs.Content.{said};
-ghost use Rattle.yaml_emit.specs.Emitter.{stream_encoding, refusal_of, IsNew, ShowsFront, IsWhole, Given, Begins, Answers, Stays};
+ghost use Rattle.yaml_emit.specs.Emitter.{stream_encoding, refusal_of, IsNew, IsLimited, ShowsFront, IsWhole, Given, Begins, Answers, Stays};
+ghost use Rattle.yaml_emit.specs.Verdict.{Judged, JudgesFirst, Tells};
 
 mod dump;
 
@@ -15,7 +16,6 @@ use crate::release::give;
 pub use dump::{yaml_emitter_close, yaml_emitter_dump, yaml_emitter_open};
 use std::alloc::Global;
 use std::marker::Model;
-use std::mem;
 use yaml_emit_state::Core;
 use yaml_emit_text::{Wishes, settled};
 use yaml_parse::{yaml_event_body_t, yaml_event_t};
@@ -142,10 +142,13 @@ pub fn yaml_emitter_opened(emitter: &yaml_emitter_t) -> bool
     emitter.opened
 }
 
-/// The first fault: that of the event that was refused, or what stopped the output.
+/// The first fault: that of the first refused event among those that were let out, or, where the text passed a limit or memory
+/// was refused by then, what stopped the output. With no fault the text has all events that were let out.
 pub fn yaml_emitter_fault(emitter: &yaml_emitter_t) -> Option<&yaml_fault_t>
     ensures is { option_map (λ f. fault_of f.now) result ≡ emitter.now.fault }
     ensures because { emitter.now.fault ≡ refusal_of emitter.now.core }
+    ensures tells { Tells emitter.now }
+    ensures limited { (f : Fault) → emitter.now.fault ≡ Some f → IsLimited emitter.now f }
 {
     match &emitter.fault {
         None => None,
@@ -179,7 +182,8 @@ impl yaml_emitter_t {
     // The settings come into force with the first event.
     fn begin(&mut self, event: &yaml_event_body_t)
         requires { self.old.fresh ≡ true }
-        ensures { Begins self.old (said (body_of event.now)) self.new }
+        ensures begins { Begins self.old (said (body_of event.now)) self.new }
+        ensures judged { JudgesFirst self.old (said (body_of event.now)) self.new }
     {
         let settings = settled(self.wishes, stream_encoding(event));
         self.core = Core::new(self.alloc, settings, self.limit);
@@ -192,18 +196,20 @@ impl yaml_emitter_t {
         requires right { self.old.fault ≡ None }
         requires begun { self.old.fresh ≡ false }
         ensures given { Given self.old (said (body_of event)) self.new }
+        ensures judged { Judged self.old (said (body_of event)) self.new }
         ensures opened { (self.new.opened ≡ self.old.opened) × (self.new.closed ≡ self.old.closed) }
     {
-        let held = mem::replace(&mut self.held, Held::Nothing);
-        self.held = give(&mut self.core, held, event);
+        give(&mut self.core, &mut self.held, event);
         self.fault = refusal(&self.core);
     }
 
     // An emitter without a fault takes an event.
+    #[tactic(auto, using(crate::proofs::Verdicts::first_judged))]
     fn take(&mut self, event: yaml_event_body_t)
         requires utf8 { HasUtf8 (body_of event) }
         requires right { self.old.fault ≡ None }
         ensures given { Given self.old (said (body_of event)) self.new }
+        ensures judged { Judged self.old (said (body_of event)) self.new }
         ensures opened { (self.new.opened ≡ self.old.opened) × (self.new.closed ≡ self.old.closed) }
     {
         if self.fresh {
@@ -215,7 +221,8 @@ impl yaml_emitter_t {
     }
 
     fn answer(&self) -> Result<(), yaml_fault_t>
-        ensures { Answers self.now.fault result }
+        ensures answer { Answers self.now.fault result }
+        ensures tells { Tells self.now }
     {
         match self.fault {
             None => Ok(()),
@@ -226,12 +233,14 @@ impl yaml_emitter_t {
     fn emit(&mut self, event: yaml_event_body_t) -> Result<(), yaml_fault_t>
         requires { HasUtf8 (body_of event) }
         ensures given { Given self.old (said (body_of event)) self.new }
+        ensures judged { Judged self.old (said (body_of event)) self.new }
         ensures answer { Answers self.new.fault result }
+        ensures tells { Tells self.new }
         ensures stays { Stays self.old self.new }
         ensures opened { (self.new.opened ≡ self.old.opened) × (self.new.closed ≡ self.old.closed) }
     {
         match self.fault {
-            Some(fault) => Err(fault),
+            Some(_) => self.answer(),
             None => {
                 self.take(event);
                 self.answer()
@@ -249,6 +258,8 @@ pub fn yaml_emitter_emit(
 ) -> Result<(), yaml_fault_t>
     requires { HasUtf8 (event_of event).body }
     ensures given { Given emitter.old (said (event_of event).body) emitter.new }
+    ensures judged { Judged emitter.old (said (event_of event).body) emitter.new }
+    ensures tells { Tells emitter.new }
     ensures answer { Answers emitter.new.fault result }
     ensures stays { Stays emitter.old emitter.new }
     ensures opened { (emitter.new.opened ≡ emitter.old.opened) × (emitter.new.closed ≡ emitter.old.closed) }

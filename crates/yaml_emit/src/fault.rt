@@ -2,8 +2,8 @@
 
 ghost use Rattle.std.specs.Prelude.{◌≡◌, option_map};
 ghost use Rattle.yaml_scan.specs.Faults.{fault_of, memory_fault};
-ghost use Rattle.yaml_emit_layout.specs.Grammar.{problem_bytes};
-ghost use Rattle.yaml_emit.specs.Emitter.{plain_fault, emitter_fault, memory_origin, stopped, refusal_of};
+ghost use Rattle.yaml_emit.specs.Judged.{refused_at};
+ghost use Rattle.yaml_emit.specs.Emitter.{plain_fault, emitter_fault, problem_fault, memory_origin, stopped, refusal_of};
 
 use yaml_emit_layout::{Place, problem_text};
 use yaml_emit_state::Core;
@@ -70,13 +70,22 @@ fn stopped(status: Status, levels: bool) -> Option<yaml_fault_t>
     }
 }
 
-// A refused event's fault, or that of the output.
+// The fault of a refused event.
+fn refused(place: Place) -> Option<yaml_fault_t>
+    ensures { option_map fault_of result ≡ option_map problem_fault (refused_at place) }
+{
+    match place {
+        Place::Refused(problem) => Some(emitter_fault(problem_text(problem))),
+        _ => None,
+    }
+}
+
+// The fault of what has stopped the output, or else of a refused event.
 pub(crate) fn refusal(core: &Core) -> Option<yaml_fault_t>
     ensures { option_map fault_of result ≡ refusal_of core.now }
 {
-    let status = core.sink().status();
-    match core.place() {
-        Place::Refused(problem) => Some(emitter_fault(problem_text(problem))),
-        _ => stopped(status, core.is_starved()),
+    match core.sink().status() {
+        Status::Going => refused(core.place()),
+        status => stopped(status, core.is_starved()),
     }
 }

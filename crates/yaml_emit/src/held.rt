@@ -6,6 +6,7 @@ ghost use Rattle.yaml_parse.specs.Constructors.{HasUtf8};
 ghost use Rattle.yaml_emit_layout.specs.Content.{said};
 ghost use Rattle.yaml_emit_layout.specs.State.{opens_empty, closes_by};
 
+use std::mem;
 use yaml_parse::yaml_event_body_t;
 
 /// Places for events, the oldest first. Four are held only while one is given.
@@ -19,7 +20,7 @@ pub enum Held {
 }
 
 impl Held {
-    ghost use Rattle.yaml_emit.specs.Held.{held_events, HeldUtf8, is_ready, closes, has_enough, needs, opens_level, ends_level};
+    ghost use Rattle.yaml_emit.specs.Held.{held_events, HeldUtf8, is_ready, closes, has_enough, needs, passes, opens_level, ends_level};
 
     fn opens_level(event: &yaml_event_body_t) -> bool
         ensures { result ≡ opens_level (said (body_of event.now)) }
@@ -87,18 +88,29 @@ impl Held {
         Held::ends_level(second) || (!Held::opens_level(second) && Held::closes_one(third))
     }
 
-    /// One more.
-    pub fn push(self, event: yaml_event_body_t) -> Held
-        requires few { length (held_events self) < 4 }
-        requires utf8 { HeldUtf8 self × HasUtf8 (body_of event) }
-        ensures events { held_events result ≡ held_events self ++ said (body_of event) ∷ [] }
-        ensures utf8 { HeldUtf8 result }
+    /// Whether an event that comes needn't be held: nothing is, and it needs nothing behind it.
+    #[tactic(auto, unfolding(crate::specs::Held::is_ready))]
+    pub fn passes(&self, event: &yaml_event_body_t) -> bool
+        ensures { result ≡ passes (held_events self.now) (said (body_of event.now)) }
     {
         match self {
-            Held::Nothing => Held::One(event),
-            Held::One(first) => Held::Two(first, event),
-            Held::Two(first, second) => Held::Three(first, second, event),
-            Held::Three(first, second, third) => Held::Four(first, second, third, event),
+            Held::Nothing => Held::needs(event) == 0,
+            _ => false,
+        }
+    }
+
+    /// One more.
+    pub fn push(&mut self, event: yaml_event_body_t)
+        requires few { length (held_events self.old) < 4 }
+        requires utf8 { HeldUtf8 self.old × HasUtf8 (body_of event) }
+        ensures events { held_events self.new ≡ held_events self.old ++ said (body_of event) ∷ [] }
+        ensures utf8 { HeldUtf8 self.new }
+    {
+        match mem::replace(self, Held::Nothing) {
+            Held::Nothing => *self = Held::One(event),
+            Held::One(first) => *self = Held::Two(first, event),
+            Held::Two(first, second) => *self = Held::Three(first, second, event),
+            Held::Three(first, second, third) => *self = Held::Four(first, second, third, event),
             Held::Four(_, _, _, _) => unreachable!(),
         }
     }
@@ -118,20 +130,29 @@ impl Held {
         }
     }
 
-    /// The oldest, and the others.
+    /// Takes the oldest out.
     #[tactic(auto, unfolding(crate::specs::Held::is_ready))]
-    pub fn pop(self) -> (yaml_event_body_t, Held)
-        requires ready { is_ready (held_events self) ≡ true }
-        requires utf8 { HeldUtf8 self }
-        ensures events { held_events self ≡ said (body_of result.0) ∷ held_events result.1 }
-        ensures utf8 { HasUtf8 (body_of result.0) × HeldUtf8 result.1 }
+    pub fn pop(&mut self) -> yaml_event_body_t
+        requires ready { is_ready (held_events self.old) ≡ true }
+        requires utf8 { HeldUtf8 self.old }
+        ensures events { held_events self.old ≡ said (body_of result) ∷ held_events self.new }
+        ensures utf8 { HasUtf8 (body_of result) × HeldUtf8 self.new }
     {
-        match self {
+        match mem::replace(self, Held::Nothing) {
             Held::Nothing => unreachable!(),
-            Held::One(first) => (first, Held::Nothing),
-            Held::Two(first, second) => (first, Held::One(second)),
-            Held::Three(first, second, third) => (first, Held::Two(second, third)),
-            Held::Four(first, second, third, fourth) => (first, Held::Three(second, third, fourth)),
+            Held::One(first) => first,
+            Held::Two(first, second) => {
+                *self = Held::One(second);
+                first
+            }
+            Held::Three(first, second, third) => {
+                *self = Held::Two(second, third);
+                first
+            }
+            Held::Four(first, second, third, fourth) => {
+                *self = Held::Three(second, third, fourth);
+                first
+            }
         }
     }
 

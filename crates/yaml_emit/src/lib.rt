@@ -5,6 +5,7 @@ mod emitter;
 mod fault;
 mod graph;
 mod held;
+mod law;
 mod name;
 mod numbers;
 mod release;
@@ -17,4 +18,5 @@ pub use emitter::{
     yaml_emitter_set_break, yaml_emitter_set_canonical, yaml_emitter_set_encoding,
     yaml_emitter_set_indent, yaml_emitter_set_unicode, yaml_emitter_set_width, yaml_emitter_t,
 };
+pub use law::streams_pass;
 pub use name::yaml_emitter_state_t;

@@ -1,2 +1,3 @@
 pub mod Lists
+pub mod Seeing
 pub mod Finishing

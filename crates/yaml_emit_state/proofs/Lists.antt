@@ -1,7 +1,6 @@
 -- Loops over lists.
 use Rattle.std.proofs.Common.{◌≡◌, ℕ, ◌+◌, ◌<◌, ◌≤◌, List, [], ◌∷◌, ◌++◌, length, take, drop, get_or, map, Bool, true, false, refl, sym, ◌∙◌, ap, arith, subst, inl, inr, add-one, Option, None, Some}
-use Rattle.std.specs.Prelude.{◌||◌, zero, suc, if◌then◌else◌}
-use Rattle.std.specs.List.{list_any}
+use Rattle.std.specs.Prelude.{◌||◌, zero, suc}
 use Rattle.std.proofs.lemmas.List.{drop_more, drop_all, take_more, map-append}
 use Rattle.std.proofs.lemmas.Bool.{cases_eq}
 use Rattle.std.proofs.Math.Bool.{or-true}
@@ -18,12 +17,6 @@ next_item xs i y h is = drop_more xs i y h ∙ ap (λ z. z ∷ drop (i + 1) xs) 
 
 pub next_mapped : {X Y : Type 0} (f : X → Y) (xs : List X) (i : ℕ) (y : X) → i < length xs → y ≡ get_or xs i y → map f (drop i xs) ≡ f y ∷ map f (drop (i + 1) xs)
 next_mapped f xs i y h is = ap (map f) (next_item xs i y h is)
-
-pub any_more : {X Y : Type 0} (f : X → Y) (p : Y → Bool) (b : Bool) (xs : List X) (i : ℕ) (y : X) → i < length xs → y ≡ get_or xs i y → b ≡ list_any p (map f (drop i xs)) → p (f y) ≡ false → b ≡ list_any p (map f (drop (i + 1) xs))
-any_more f p b xs i y h is e g = e ∙ ap (list_any p) (next_mapped f xs i y h is) ∙ ap (λ v. v || list_any p (map f (drop (i + 1) xs))) g
-
-pub any_found : {X Y : Type 0} (f : X → Y) (p : Y → Bool) (b : Bool) (xs : List X) (i : ℕ) (y : X) → i < length xs → y ≡ get_or xs i y → b ≡ list_any p (map f (drop i xs)) → p (f y) ≡ true → true ≡ b
-any_found f p b xs i y h is e g = sym (e ∙ ap (list_any p) (next_mapped f xs i y h is) ∙ ap (λ v. v || list_any p (map f (drop (i + 1) xs))) g)
 
 -- a directive more of those that are owed
 pub directives_more : {X : Type 0} (f : X → TagDirective) (s : Settings) (a b c : Output) (xs : List X) (i : ℕ) (y : X) → i < length xs → y ≡ get_or xs i y

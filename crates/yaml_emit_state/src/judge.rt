@@ -1,11 +1,15 @@
 //! What is wrong with an event: its names, its tag, its place, and its directives or flags.
-ghost use Rattle.std.specs.List.{list_all, list_any};
-ghost use Rattle.std.specs.Prelude.{◌≡◌, ◌∷◌, [], None, Some, true, false, if◌then◌else◌, not, ◌&&◌, ◌||◌, length, map, take, ◌≤◌};
+ghost use Rattle.std.specs.List.{list_all};
+ghost use Rattle.std.specs.Prelude.{◌≡◌, ◌∷◌, [], None, Some, true, false, if◌then◌else◌, not, ◌&&◌, ◌||◌, length, map, ◌≤◌, IfOk, OnOk};
 ghost use Rattle.yaml_scan.specs.Classes.{is_alpha_byte};
 ghost use Rattle.yaml_parse.specs.Events.{text_of, directive_of, body_of};
 ghost use Rattle.yaml_emit_layout.specs.Content.{said};
-ghost use Rattle.yaml_emit_layout.specs.Grammar.{has, name_problem, anchor_problem, tag_problem, kept_tag, event_problem, version_problem, handle_problem, prefix_problem, twice_problem, directive_problem, directives_problem, opening_problem, flags_problem, last_problem, ends_phase, begins_node, may_come, node_problem, place_problem, problem_by, between, inner_problem, ends_problem, has_handle, is_version, or_else};
+ghost use Rattle.yaml_emit_layout.specs.Grammar.{has, name_problem, anchor_problem, tag_problem, kept_tag, event_problem, version_problem, handle_problem, prefix_problem, directives_problem, opening_problem, flags_problem, last_problem, ends_phase, begins_node, may_come, node_problem, place_problem, problem_by, between, inner_problem, ends_problem, is_version, or_else};
+ghost use Rattle.yaml_emit_state.specs.Seen.{is_among, Adds, Judges};
 
+use crate::handles::add;
+use std::alloc::{AllocError, Global};
+use std::collections::BTreeSet;
 use yaml_emit_layout::{Level, Phase, Place, Problem};
 use yaml_parse::yaml_event_body_t;
 use yaml_scan::{IS_ALPHA, yaml_tag_directive_t, yaml_version_directive_t};
@@ -184,63 +188,62 @@ fn is_empty(text: &[u8]) -> Option<Problem>
     }
 }
 
-fn is_repeated(before: &[yaml_tag_directive_t], handle: &[u8]) -> bool
-    ensures { result ≡ list_any (has_handle handle.now) (map directive_of before.now) }
+fn twice_problem<'a>(
+    seen: &mut BTreeSet<&'a [u8]>,
+    handle: &'a [u8],
+) -> Result<Option<Problem>, AllocError>
+    ensures problem { IfOk result (λ p. p ≡ (if is_among handle.now seen.old then Some Problem.HandleTwice else None)) }
+    ensures adds { OnOk result (Adds handle.now seen.old seen.new) }
 {
-    for directive in before {
-        if directive.handle.as_slice() == handle {
-            return true;
-        }
-    }
-    false
-}
-
-fn twice_problem(before: &[yaml_tag_directive_t], handle: &[u8]) -> Option<Problem>
-    ensures { result ≡ twice_problem (map directive_of before.now) handle.now }
-{
-    if is_repeated(before, handle) {
-        Some(Problem::HandleTwice)
+    if add(seen, handle)? {
+        Ok(None)
     } else {
-        None
+        Ok(Some(Problem::HandleTwice))
     }
 }
 
-fn directive_problem(
-    before: &[yaml_tag_directive_t],
-    directive: &yaml_tag_directive_t,
-) -> Option<Problem>
-    ensures { result ≡ directive_problem (map directive_of before.now) (directive_of directive.now) }
+// By the handles of the directives before.
+fn directive_problem<'a>(
+    seen: &mut BTreeSet<&'a [u8]>,
+    directive: &'a yaml_tag_directive_t,
+) -> Result<Option<Problem>, AllocError>
+    ensures { Judges (directive_of directive.now) seen.old result seen.new }
 {
     if let Some(problem) = handle_problem(&directive.handle) {
-        return Some(problem);
+        return Ok(Some(problem));
     }
     if let Some(problem) = is_empty(&directive.prefix) {
-        return Some(problem);
+        return Ok(Some(problem));
     }
-    twice_problem(before, &directive.handle)
+    twice_problem(seen, &directive.handle)
 }
 
-fn directives_problem(directives: &[yaml_tag_directive_t]) -> Option<Problem>
-    ensures { result ≡ directives_problem [] (map directive_of directives.now) }
+fn directives_problem(
+    alloc: Global,
+    directives: &[yaml_tag_directive_t],
+) -> Result<Option<Problem>, AllocError>
+    ensures { IfOk result (λ p. p ≡ directives_problem [] (map directive_of directives.now)) }
 {
+    let mut seen = BTreeSet::new(alloc);
     for i in 0..directives.len() {
-        match directive_problem(&directives[..i], &directives[i]) {
-            Some(problem) => return Some(problem),
+        match directive_problem(&mut seen, &directives[i])? {
+            Some(problem) => return Ok(Some(problem)),
             None => (),
         }
     }
-    None
+    Ok(None)
 }
 
 fn opening_problem(
+    alloc: Global,
     version: Option<yaml_version_directive_t>,
     directives: &[yaml_tag_directive_t],
-) -> Option<Problem>
-    ensures { result ≡ or_else (version_problem version) (directives_problem [] (map directive_of directives.now)) }
+) -> Result<Option<Problem>, AllocError>
+    ensures { IfOk result (λ p. p ≡ or_else (version_problem version) (directives_problem [] (map directive_of directives.now))) }
 {
     match version_problem(version) {
-        Some(problem) => Some(problem),
-        None => directives_problem(directives),
+        Some(problem) => Ok(Some(problem)),
+        None => directives_problem(alloc, directives),
     }
 }
 
@@ -264,22 +267,22 @@ fn flags_problem(tag: &Option<Vec<u8>>, plain: bool, quoted: bool) -> Option<Pro
 }
 
 #[tactic(auto, unfolding(yaml_emit_layout::specs::Grammar::last_problem))]
-fn last_problem(event: &yaml_event_body_t) -> Option<Problem>
-    ensures { result ≡ last_problem (said (body_of event.now)) }
+fn last_problem(alloc: Global, event: &yaml_event_body_t) -> Result<Option<Problem>, AllocError>
+    ensures { IfOk result (λ p. p ≡ last_problem (said (body_of event.now))) }
 {
     match event {
         yaml_event_body_t::DocumentStart {
             version_directive,
             tag_directives,
             ..
-        } => { opening_problem(*version_directive, tag_directives) }
+        } => { opening_problem(alloc, *version_directive, tag_directives) }
         yaml_event_body_t::Scalar {
             tag,
             plain_implicit,
             quoted_implicit,
             ..
-        } => { flags_problem(tag, *plain_implicit, *quoted_implicit) }
-        _ => None,
+        } => { Ok(flags_problem(tag, *plain_implicit, *quoted_implicit)) }
+        _ => Ok(None),
     }
 }
 
@@ -353,27 +356,34 @@ fn place_problem(place: Place, top: Option<Level>, event: &yaml_event_body_t) ->
     }
 }
 
-fn late_problem(place: Place, top: Option<Level>, event: &yaml_event_body_t) -> Option<Problem>
-    ensures { result ≡ or_else (place_problem place top (said (body_of event.now))) (last_problem (said (body_of event.now))) }
+fn late_problem(
+    alloc: Global,
+    place: Place,
+    top: Option<Level>,
+    event: &yaml_event_body_t,
+) -> Result<Option<Problem>, AllocError>
+    ensures { IfOk result (λ p. p ≡ or_else (place_problem place top (said (body_of event.now))) (last_problem (said (body_of event.now)))) }
 {
     match place_problem(place, top, event) {
-        Some(problem) => Some(problem),
-        None => last_problem(event),
+        Some(problem) => Ok(Some(problem)),
+        None => last_problem(alloc, event),
     }
 }
 
 /// What is wrong with an event, if anything: in canonical form or in pretty form, at a place, in the innermost collection.
+/// Refused only for want of memory, where it opens a document with directives.
 #[tactic(auto, unfolding(yaml_emit_layout::specs::Grammar::problem_by))]
 pub fn problem_of(
+    alloc: Global,
     canonical: bool,
     place: Place,
     top: Option<Level>,
     event: &yaml_event_body_t,
-) -> Option<Problem>
-    ensures { result ≡ problem_by canonical place top (said (body_of event.now)) }
+) -> Result<Option<Problem>, AllocError>
+    ensures { IfOk result (λ p. p ≡ problem_by canonical place top (said (body_of event.now))) }
 {
     match event_problem(canonical, event) {
-        Some(problem) => Some(problem),
-        None => late_problem(place, top, event),
+        Some(problem) => Ok(Some(problem)),
+        None => late_problem(alloc, place, top, event),
     }
 }

@@ -3,6 +3,7 @@
 
 mod before;
 mod documents;
+mod handles;
 mod indent;
 mod judge;
 mod keys;

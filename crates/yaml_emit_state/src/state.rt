@@ -23,7 +23,7 @@ pub struct Core {
     place: Place,
     levels: Levels,
     directives: Vec<yaml_tag_directive_t>,
-    /// Memory was refused for the open collections, and not for the output.
+    /// Memory was refused for the open collections or the directives, and not for the output.
     starved: bool,
 }
 
@@ -71,7 +71,7 @@ impl Core {
         self.place
     }
 
-    /// Whether memory was refused for the open collections.
+    /// Whether memory was refused for the open collections or the directives.
     pub fn is_starved(&self) -> bool
         ensures { result ≡ self.now.starved }
     {
@@ -130,20 +130,23 @@ impl Core {
     }
 
     /// Lays out an event that is no longer held, by whether it opens a collection that the next event closes; or refuses it.
+    /// For want of memory the output stops.
     pub fn lay_out(&mut self, event: yaml_event_body_t, empty: bool)
         requires { HasUtf8 (body_of event) }
         ensures { LaysOut self.old self.new (said (body_of event)) empty }
     {
         match problem_of(
+            *self.directives.allocator(),
             self.settings.canonical,
             self.place,
             self.levels.top(),
             &event,
         ) {
-            Some(problem) => {
+            Ok(Some(problem)) => {
                 self.place = Place::Refused(problem);
             }
-            None => self.take(event, empty),
+            Ok(None) => self.take(event, empty),
+            Err(refused) => self.starve(refused),
         }
     }
 }

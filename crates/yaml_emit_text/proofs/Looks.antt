@@ -1,12 +1,11 @@
 -- Walks that look for something in a value.
-use Rattle.std.proofs.Common.{◌≡◌, ℕ, List, [], ◌∷◌, Bool, true, false, cond, refl, sym, ◌∙◌, ap}
+use Rattle.std.proofs.Common.{◌≡◌, ℕ, List, [], ◌∷◌, ◌++◌, Bool, true, false, cond, refl, sym, ◌∙◌, ap}
 use Rattle.std.specs.Prelude.{◌||◌}
 use Rattle.yaml_emit_text.specs.declared.page.Seen.{Seen}
-use Rattle.yaml_emit_text.specs.declared.page.Chomp.{Chomp}
-use Rattle.yaml_emit_text.specs.Text.{is_break}
+use Rattle.yaml_emit_sink.specs.Text.{is_break}
 use Rattle.yaml_emit_text.specs.Quoted.{first}
 use Rattle.yaml_emit_text.specs.Style.{somewhere, last_or, seen, looked, joined}
-use Rattle.yaml_emit_text.specs.Scalars.{behind_breaks, chomp, chomp_of}
+use Rattle.yaml_emit_text.specs.Scalars.{behind_breaks, ends_in_break, chomp, chomp_of}
 
 breaks_at : (y : ℕ) (xs : List ℕ) → behind_breaks (y ∷ xs) ≡ cond (is_break y) (behind_breaks xs) y
 unfolding behind_breaks
@@ -22,13 +21,30 @@ pub breaks_none : (n : ℕ) (left : List ℕ) → left ≡ [] → n ≡ behind_b
 unfolding behind_breaks
 breaks_none n left e h = sym (h ∙ ap behind_breaks e)
 
-pub chomp_more : (k : Chomp) (broken last last' : Bool) (left xs : List ℕ) (y : ℕ) → left ≡ y ∷ xs → k ≡ chomp broken last left → last' ≡ is_break y → k ≡ chomp last last' xs
-unfolding chomp
-chomp_more k broken last last' left xs y e h f = h ∙ ap (chomp broken last) e ∙ ap (λ v. chomp last v xs) (sym f)
+chomp_behind : (broken last : Bool) (z y : ℕ) (xs : List ℕ) → last ≡ is_break z → chomp broken last (xs ++ y ∷ []) ≡ chomp_of (is_break (last_or z xs)) (is_break y)
+unfolding chomp last_or
+chomp_behind broken last z y [] e = ap (λ v. chomp_of v (is_break y)) e
+chomp_behind broken last z y (x ∷ xs) e = chomp_behind last (is_break x) x y xs refl
 
-pub chomp_end : (k : Chomp) (broken last : Bool) (left : List ℕ) → left ≡ [] → k ≡ chomp broken last left → chomp_of broken last ≡ k
+-- by the last two characters
+pub chomp_ends : (value front : List ℕ) (y : ℕ) (broken last : Bool) → value ≡ front ++ y ∷ [] → broken ≡ ends_in_break front → last ≡ is_break y → chomp_of broken last ≡ chomp true true value
+chomp_ends value front y broken last v b l = ap (λ t. chomp_of t last) b ∙ ap (chomp_of (ends_in_break front)) l ∙ sym (ap (chomp true true) v ∙ chomp_behind true true 10 y front refl)
+
+pub chomp_none : (value : List ℕ) → value ≡ [] → chomp_of true true ≡ chomp true true value
 unfolding chomp
-chomp_end k broken last left e h = sym (h ∙ ap (chomp broken last) e)
+chomp_none value v = sym (ap (chomp true true) v)
+
+last_behind : (a y : ℕ) (xs : List ℕ) → last_or a (xs ++ y ∷ []) ≡ y
+unfolding last_or
+last_behind a y [] = refl
+last_behind a y (x ∷ xs) = last_behind x y xs
+
+pub ends_by : (text front : List ℕ) (y : ℕ) → text ≡ front ++ y ∷ [] → is_break y ≡ ends_in_break text
+ends_by text front y e = sym (ap (λ t. is_break (last_or 10 t)) e ∙ ap is_break (last_behind 10 y front))
+
+pub ends_none : (text : List ℕ) → text ≡ [] → true ≡ ends_in_break text
+unfolding last_or
+ends_none text e = sym (ap (λ t. is_break (last_or 10 t)) e)
 
 or_assoc : (a b c : Bool) → (a || (b || c)) ≡ ((a || b) || c)
 or_assoc true b c = refl
@@ -41,7 +57,7 @@ or_false false = refl
 joined_assoc : (a b c : Seen) → joined a (joined b c) ≡ joined (joined a b) c
 joined_assoc a b c = rw (or_assoc a.special b.special c.special, or_assoc a.broken b.broken c.broken, or_assoc a.not_plain b.not_plain c.not_plain, or_assoc a.not_flow b.not_flow c.not_flow) refl
 
-looked_at : (unicode : Bool) (before y : ℕ) (xs : List ℕ) → looked unicode before (y ∷ xs) ≡ joined (seen unicode before y (first xs)) (looked unicode y xs)
+pub looked_at : (unicode : Bool) (before y : ℕ) (xs : List ℕ) → looked unicode before (y ∷ xs) ≡ joined (seen unicode before y (first xs)) (looked unicode y xs)
 unfolding somewhere
 looked_at unicode before y xs = refl
 

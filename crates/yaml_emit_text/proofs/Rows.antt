@@ -5,10 +5,10 @@ use Rattle.yaml_scan.specs.declared.yaml_scalar_style_t.TheVariants as asked
 use Rattle.yaml_parse.specs.Events.{TagDirective}
 use Rattle.yaml_emit_text.specs.declared.page.Page.{Page}
 use Rattle.yaml_emit_text.specs.declared.page.Style.TheVariants as style
-use Rattle.yaml_emit_text.specs.declared.settings.Encoding.TheVariants.{Utf16Le, Utf16Be}
-use Rattle.yaml_emit_text.specs.declared.settings.LineBreak.TheVariants.{Lf, CrLf}
-use Rattle.yaml_emit_text.specs.Text.{letter, shown, encode, char_bytes, is_deep}
-use Rattle.yaml_emit_text.specs.Layout.{◌▹◌, char, letters, blanks, line, word, order_mark, written, text_of}
+use Rattle.yaml_emit_sink.specs.declared.Encoding.TheVariants.{Utf16Le, Utf16Be}
+use Rattle.yaml_emit_sink.specs.declared.LineBreak.TheVariants.{Lf, CrLf}
+use Rattle.yaml_emit_sink.specs.Text.{letter, shown, encode, char_bytes, is_deep}
+use Rattle.yaml_emit_sink.specs.Layout.{◌▹◌, char, letters, blanks, line, word, order_mark, written, text_of}
 use Rattle.yaml_emit_text.specs.Quoted.{needs_escape, escape_letter, hex_digit, escape_text, quoted_char, quoted_body, double_quoted}
 use Rattle.yaml_emit_text.specs.Style.{somewhere, last_or, allowed, taken}
 use Rattle.yaml_emit_text.specs.Scalars.{flow_char, flow_body, behind_breaks, block_char, block_body, chomp, scalar_text, plain, single_quoted, block}

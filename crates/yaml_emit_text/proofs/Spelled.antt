@@ -4,12 +4,12 @@ use Rattle.std.specs.Prelude.{if◌then◌else◌, replicate, not, nat_lt, ◌==
 use Rattle.std.specs.Str.{all_scalars}
 use Rattle.std.proofs.lemmas.Bool.Decides.{nat_tests}
 use lib.Utf8.{scalar}
-use Rattle.yaml_emit_text.specs.declared.cursor.Cursor.{Cursor}
+use Rattle.yaml_emit_sink.specs.declared.Cursor.{Cursor}
 use Rattle.yaml_emit_text.specs.declared.page.Page.{Page}
-use Rattle.yaml_emit_text.specs.declared.settings.LineBreak.{LineBreak}
-use Rattle.yaml_emit_text.specs.declared.settings.LineBreak.TheVariants.{Lf, Cr, CrLf}
-use Rattle.yaml_emit_text.specs.Text.{Item, letter, is_break}
-use Rattle.yaml_emit_text.specs.Layout.{Layout, Rest, choose, when, char, letters, blanks, new_line, is_past}
+use Rattle.yaml_emit_sink.specs.declared.LineBreak.{LineBreak}
+use Rattle.yaml_emit_sink.specs.declared.LineBreak.TheVariants.{Lf, Cr, CrLf}
+use Rattle.yaml_emit_sink.specs.Text.{Item, letter, is_break}
+use Rattle.yaml_emit_sink.specs.Layout.{Layout, Rest, choose, when, char, letters, blanks, new_line, is_past}
 use Rattle.yaml_emit_text.specs.Quoted.{needs_escape, escape_text, first, is_empty, may_fold, fold as fold_layout, escaped, quoted_char, quoted_body}
 use Rattle.yaml_emit_text.specs.Spelling.{Part, raw, escape, escaped_space, fold, break_text, spelled, meant, spelling, meaning, is_raw_blank, is_fold, may_follow, may_stand, IsSpelling, in_front, Spells}
 

@@ -1,18 +1,29 @@
 -- Characters of a text in UTF-8, one after another.
-use Rattle.std.proofs.Common.{◌≡◌, ℕ, ◌+◌, ◌<◌, ◌≤◌, Bool, List, [], ◌∷◌, ◌++◌, length, drop, get_or, IsUtf8, refl, sym, subst, ◌∙◌, ap, encode_utf8}
+use Rattle.std.proofs.Common.{◌≡◌, ℕ, ◌+◌, ◌<◌, ◌≤◌, Bool, List, [], ◌∷◌, ◌++◌, length, drop, get_or, IsUtf8, refl, sym, subst, ◌∙◌, ap, encode_utf8, append-nil, arith}
 use Rattle.std.specs.Str.{chars}
-use Rattle.std.proofs.lemmas.Str.{encodes-chars, cons_from_encodes, chars_from_encodes}
-use Rattle.yaml_emit_text.specs.Layout.{Layout, ◌▹◌, char, letters}
+use Rattle.std.proofs.lemmas.Str.{encodes-chars, encodes-append, cons_from_encodes, chars_from_encodes, chars-nil}
+use lib.Utf8.{encodes}
+use Rattle.yaml_emit_sink.specs.Layout.{Layout, ◌▹◌, char, letters}
 use Rattle.std.proofs.lemmas.List.{drop_more, drop_all}
-use Rattle.yaml_emit_text.specs.Sink.{Output, Owes, Puts}
+use Rattle.yaml_emit_sink.specs.Sink.{Output, Owes, Puts}
 use Rattle.yaml_emit_text.specs.Tags.{uri_text, uri_byte}
-use Rattle.yaml_emit_text.proofs.Sinks.{puts_both, owes_more}
+use Rattle.yaml_emit_sink.proofs.Sinks.{puts_both, owes_more}
 
 -- the first character is the first of the characters
 pub first_of : (bs rest : List ℕ) (c : ℕ) → IsUtf8 bs → IsUtf8 rest → bs ≡ encode_utf8 c ++ rest → chars bs ≡ c ∷ chars rest
 first_of bs rest c u v e =
     let split = cons_from_encodes (chars bs) rest c (encodes-chars bs u ∙ e) in
     split.1 ∙ ap (λ t. c ∷ t) (chars_from_encodes split.0 rest v split.2)
+
+-- the last character is the last of the characters
+pub last_of : (bs front : List ℕ) (c : ℕ) → IsUtf8 bs → IsUtf8 front → bs ≡ front ++ encode_utf8 c → chars bs ≡ chars front ++ c ∷ []
+last_of bs front c u v e =
+    sym (chars_from_encodes (chars front ++ c ∷ []) bs u
+    (encodes-append (chars front) (c ∷ []) ∙ ap (λ t. t ++ encodes (c ∷ [])) (encodes-chars front v) ∙ ap (λ t. front ++ t) (append-nil (encode_utf8 c)) ∙ sym e))
+
+pub none_of : (bs : List ℕ) → length bs ≡ 0 → chars bs ≡ []
+none_of [] h = chars-nil
+none_of (b ∷ bs) h = absurd (omega (arith, h))
 
 pub letters_append : (xs ys : List ℕ) → letters (xs ++ ys) ≡ (letters xs ▹ letters ys)
 unfolding letters

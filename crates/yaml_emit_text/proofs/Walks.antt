@@ -1,11 +1,11 @@
 -- Walks over the characters of a value.
 use Rattle.std.proofs.Common.{◌≡◌, ℕ, List, [], ◌∷◌, Bool, refl, sym, ◌∙◌, ap, subst}
 use Rattle.yaml_emit_text.specs.declared.page.Page.{Page}
-use Rattle.yaml_emit_text.specs.Text.{is_break}
-use Rattle.yaml_emit_text.specs.Layout.{Layout, ◌▹◌, stay, when, line}
+use Rattle.yaml_emit_sink.specs.Text.{is_break}
+use Rattle.yaml_emit_sink.specs.Layout.{Layout, ◌▹◌, stay, when, line}
 use Rattle.yaml_emit_text.specs.Scalars.{flow_body, flow_char, block_body, block_char, line_blank}
-use Rattle.yaml_emit_text.specs.Sink.{Output, Owes, Puts}
-use Rattle.yaml_emit_text.proofs.Sinks.{owes_more}
+use Rattle.yaml_emit_sink.specs.Sink.{Output, Owes, Puts}
+use Rattle.yaml_emit_sink.proofs.Sinks.{owes_more}
 
 -- Any walk, with the character before: a character more.
 pub walk_more : (body : ℕ → List ℕ → Layout) (step : ℕ → ℕ → List ℕ → Layout) → ((before x : ℕ) (xs : List ℕ) → body before (x ∷ xs) ≡ (step before x xs ▹ body x xs))

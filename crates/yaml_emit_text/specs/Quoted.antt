@@ -1,8 +1,8 @@
 -- Double quoted text: escapes, and folds at the width.
 use Rattle.std.specs.Prelude.{ℕ, ◌+◌, ◌/◌, ◌%◌, Bool, true, false, not, ◌==◌, ◌&&◌, ◌||◌, nat_lt, nat_le, if◌then◌else◌, List, [], ◌∷◌, ◌++◌}
 use Rattle.yaml_emit_text.specs.declared.page.Page.{Page}
-use Rattle.yaml_emit_text.specs.Text.{is_break}
-use Rattle.yaml_emit_text.specs.Layout.{Layout, ◌▹◌, stay, choose, when, char, letters, blanks, new_line, gap, is_past}
+use Rattle.yaml_emit_sink.specs.Text.{is_break}
+use Rattle.yaml_emit_sink.specs.Layout.{Layout, ◌▹◌, stay, choose, when, char, letters, blanks, new_line, gap, is_past}
 
 -- 0A, 20 to 7E, A0 to D7FF, E000 to FFFD without FEFF, 10000 to 10FFFF
 abbrev pub is_printable : ℕ → Bool

@@ -5,11 +5,11 @@ use Rattle.yaml_emit_text.specs.declared.page.Style.{Style}
 use Rattle.yaml_emit_text.specs.declared.page.Style.TheVariants as style
 use Rattle.yaml_emit_text.specs.declared.page.Chomp.{Chomp}
 use Rattle.yaml_emit_text.specs.declared.page.Chomp.TheVariants as chomping
-use Rattle.yaml_emit_text.specs.declared.settings.LineBreak.{LineBreak}
-use Rattle.yaml_emit_text.specs.Text.{is_break}
-use Rattle.yaml_emit_text.specs.Layout.{Layout, ◌▹◌, stay, choose, when, char, break, new_line, gap, line, is_past, keep, dark, light}
+use Rattle.yaml_emit_sink.specs.declared.LineBreak.{LineBreak}
+use Rattle.yaml_emit_sink.specs.Text.{is_break}
+use Rattle.yaml_emit_sink.specs.Layout.{Layout, ◌▹◌, stay, choose, when, char, break, new_line, gap, line, is_past, keep, dark, light}
 use Rattle.yaml_emit_text.specs.Quoted.{double_quoted, first, is_empty}
-use Rattle.yaml_emit_text.specs.Style.{is_blank}
+use Rattle.yaml_emit_text.specs.Style.{is_blank, last_or}
 
 -- a break of a value: LF as the break that is set, the others as they are
 abbrev pub value_break : LineBreak → ℕ → Layout
@@ -82,6 +82,10 @@ block_body page folded blank before (x ∷ xs) = block_char page folded blank be
 -- by whether the last character is a break, and the one before it or nothing
 abbrev pub chomp_of : Bool → Bool → Chomp
 chomp_of broken last = if last then (if broken then chomping.Keep else chomping.Clip) else chomping.Strip
+
+-- a text ends in a break; an empty one counts as one that does
+abbrev pub ends_in_break : List ℕ → Bool
+ends_in_break text = is_break (last_or 10 text)
 
 -- by how it ends, behind a break or not
 unfoldable pub chomp : Bool → Bool → List ℕ → Chomp

@@ -2,12 +2,12 @@
 use Rattle.std.specs.Prelude.{◌≡◌, ℕ, ◌<◌, Bool, true, false, not, ◌&&◌, ◌||◌, ◌==◌, nat_lt, List, [], ◌∷◌, ◌++◌, replicate}
 use Rattle.std.specs.Str.{all_scalars}
 use lib.Utf8.{scalar}
-use Rattle.yaml_emit_text.specs.declared.cursor.Cursor.{Cursor}
+use Rattle.yaml_emit_sink.specs.declared.Cursor.{Cursor}
 use Rattle.yaml_emit_text.specs.declared.page.Page.{Page}
-use Rattle.yaml_emit_text.specs.declared.settings.LineBreak.{LineBreak}
-use Rattle.yaml_emit_text.specs.declared.settings.LineBreak.TheVariants.{Lf, Cr, CrLf}
-use Rattle.yaml_emit_text.specs.Text.{Item, letter, is_break}
-use Rattle.yaml_emit_text.specs.Layout.{Layout, Rest}
+use Rattle.yaml_emit_sink.specs.declared.LineBreak.{LineBreak}
+use Rattle.yaml_emit_sink.specs.declared.LineBreak.TheVariants.{Lf, Cr, CrLf}
+use Rattle.yaml_emit_sink.specs.Text.{Item, letter, is_break}
+use Rattle.yaml_emit_sink.specs.Layout.{Layout, Rest}
 use Rattle.yaml_emit_text.specs.Quoted.{escape_text, quoted_body}
 use Rattle.yaml_emit_text.specs.Style.{is_blank}
 

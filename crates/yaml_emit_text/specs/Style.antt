@@ -6,7 +6,7 @@ use Rattle.yaml_emit_text.specs.declared.page.Allowed.{Allowed}
 use Rattle.yaml_emit_text.specs.declared.page.Seen.{Seen}
 use Rattle.yaml_emit_text.specs.declared.page.Style.{Style}
 use Rattle.yaml_emit_text.specs.declared.page.Style.TheVariants as style
-use Rattle.yaml_emit_text.specs.Text.{is_break}
+use Rattle.yaml_emit_sink.specs.Text.{is_break}
 use Rattle.yaml_emit_text.specs.Quoted.{is_printable, first}
 
 abbrev pub is_blank : ℕ → Bool

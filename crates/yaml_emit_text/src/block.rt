@@ -1,20 +1,22 @@
 //! Literal and folded scalars (YAML 1.1, 9.2 and 9.3).
 
-ghost use Rattle.std.specs.Prelude.{◌≡◌, ◌+◌, true, false, not, ◌&&◌, ◌||◌, ◌==◌, if◌then◌else◌};
+ghost use Rattle.std.specs.Prelude.{◌≡◌, ◌≤◌, ◌+◌, length, IsUtf8, Bool, true, false, not, ◌&&◌, ◌||◌, ◌==◌, if◌then◌else◌};
 ghost use Rattle.std.specs.Str.{chars};
-ghost use Rattle.yaml_emit_text.specs.Sink.{Puts};
-ghost use Rattle.yaml_emit_text.specs.Text.{is_break};
-ghost use Rattle.yaml_emit_text.specs.Layout.{◌▹◌, stay, choose, when, char, break, new_line, gap, line, is_past, keep, light};
+ghost use Rattle.yaml_emit_sink.specs.Sink.{Puts, Owes};
+ghost use Rattle.yaml_emit_sink.specs.Text.{is_break};
+ghost use Rattle.yaml_emit_sink.specs.Layout.{◌▹◌, stay, choose, when, char, break, new_line, gap, line, is_past, keep, light};
+ghost use Rattle.yaml_emit_text.specs.Runs.{block_bounds};
 ghost use Rattle.yaml_emit_text.specs.Quoted.{first};
 ghost use Rattle.yaml_emit_text.specs.Style.{is_blank};
-ghost use Rattle.yaml_emit_text.specs.Scalars.{value_break, cut, behind_breaks, adds_break, cuts_block, line_blank, block_text, block_char, block_body, chomp_of, chomp, chomp_mark, digit_char, digit_mark, block_header, block};
+ghost use Rattle.yaml_emit_text.specs.Scalars.{value_break, cut, behind_breaks, adds_break, cuts_block, line_blank, block_text, block_char, block_body, ends_in_break, chomp_of, chomp, chomp_mark, digit_char, digit_mark, block_header, block};
 
 use crate::flow::{put_cut, put_line_if, put_new_line_if, put_value_break};
-use crate::letters::{first, is_break, split_first};
+use crate::letters::{first, is_break, split_first, split_last};
 use crate::page::{Chomp, Page};
 use crate::quoted::put_if;
-use crate::sink::Sink;
+use crate::run::{Bounds, last_of, split_run};
 use crate::style::is_blank;
+use yaml_emit_sink::Sink;
 
 // The first character behind a run of breaks; the end counts as a space.
 fn behind_breaks(text: &str) -> char
@@ -90,6 +92,54 @@ fn put_block_char(
     }
 }
 
+fn block_bounds(page: Page, folded: bool) -> Bounds
+    ensures { result ≡ block_bounds page folded }
+{
+    Bounds {
+        quote: 0,
+        slash: 0,
+        cuts: folded,
+        width: page.width,
+    }
+}
+
+// What stands in front as it is, behind a character that is no break.
+fn put_block_run<'a>(
+    sink: &mut Sink,
+    page: Page,
+    folded: bool,
+    before: char,
+    left: &'a str,
+) -> (char, &'a str)
+    requires { is_break before ≡ false }
+    ensures text { (blank : Bool) → Owes sink.old sink.new (block_body page folded blank before (chars left.now)) (block_body page folded blank result.0 (chars result.1.now)) }
+    ensures utf8 { IsUtf8 result.1.now }
+    ensures shorter { length result.1.now ≤ length left.now }
+{
+    let (run, rest) = split_run(block_bounds(page, folded), sink.cursor().column, left);
+    sink.put_ascii(run);
+    (last_of(before, run), rest)
+}
+
+// The same behind any character.
+fn put_block_run_or<'a>(
+    sink: &mut Sink,
+    page: Page,
+    folded: bool,
+    before: char,
+    left: &'a str,
+) -> (char, &'a str)
+    ensures text { (blank : Bool) → Owes sink.old sink.new (block_body page folded blank before (chars left.now)) (block_body page folded blank result.0 (chars result.1.now)) }
+    ensures utf8 { IsUtf8 result.1.now }
+    ensures shorter { length result.1.now ≤ length left.now }
+{
+    if is_break(before) {
+        (before, left)
+    } else {
+        put_block_run(sink, page, folded, before, left)
+    }
+}
+
 fn put_block_body(sink: &mut Sink, page: Page, folded: bool, value: &str)
     ensures { Puts sink.old sink.new (block_body page folded true 10 (chars value.now)) }
 {
@@ -99,8 +149,9 @@ fn put_block_body(sink: &mut Sink, page: Page, folded: bool, value: &str)
     while let Some((c, rest)) = split_first(left) {
         put_block_char(sink, page, folded, blank, before, c, rest);
         blank = line_blank(blank, before, c);
-        before = c;
-        left = rest;
+        let (last, behind) = put_block_run_or(sink, page, folded, c, rest);
+        before = last;
+        left = behind;
     }
 }
 
@@ -114,19 +165,24 @@ fn chomp_of(broken: bool, last: bool) -> Chomp
     }
 }
 
+// Whether a text ends in a break; an empty one is taken to.
+fn ends_in_break(text: &str) -> bool
+    ensures { result ≡ ends_in_break (chars text.now) }
+{
+    match split_last(text) {
+        None => true,
+        Some((_, c)) => is_break(c),
+    }
+}
+
 // By how a value ends.
 fn chomp(value: &str) -> Chomp
     ensures { result ≡ chomp true true (chars value.now) }
 {
-    let mut broken = true;
-    let mut last = true;
-    let mut left = value;
-    while let Some((c, rest)) = split_first(left) {
-        broken = last;
-        last = is_break(c);
-        left = rest;
+    match split_last(value) {
+        None => chomp_of(true, true),
+        Some((front, c)) => chomp_of(ends_in_break(front), is_break(c)),
     }
-    chomp_of(broken, last)
 }
 
 fn put_chomp(sink: &mut Sink, chomp: Chomp)

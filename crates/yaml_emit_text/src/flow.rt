@@ -1,18 +1,19 @@
 //! Plain and single quoted scalars (YAML 1.1, 9.1.3 and 9.1.2).
 
-ghost use Rattle.std.specs.Prelude.{◌≡◌, not, ◌&&◌, ◌||◌, ◌==◌, if◌then◌else◌};
+ghost use Rattle.std.specs.Prelude.{◌≡◌, ◌≤◌, length, IsUtf8, false, not, ◌&&◌, ◌||◌, ◌==◌, if◌then◌else◌};
 ghost use Rattle.std.specs.Str.{chars};
-ghost use Rattle.yaml_emit_text.specs.Sink.{Puts};
-ghost use Rattle.yaml_emit_text.specs.Text.{is_break};
-ghost use Rattle.yaml_emit_text.specs.Layout.{◌▹◌, stay, choose, when, char, break, new_line, gap, line, is_past, dark};
+ghost use Rattle.yaml_emit_sink.specs.Sink.{Puts, Owes};
+ghost use Rattle.yaml_emit_sink.specs.Text.{is_break};
+ghost use Rattle.yaml_emit_sink.specs.Layout.{◌▹◌, stay, choose, when, char, break, new_line, gap, line, is_past, dark};
+ghost use Rattle.yaml_emit_text.specs.Runs.{flow_bounds};
 ghost use Rattle.yaml_emit_text.specs.Quoted.{first, is_empty};
 ghost use Rattle.yaml_emit_text.specs.Scalars.{value_break, cuts_at, cut, quote_char, text_char, flow_char, flow_body, plain, single_quoted};
 
 use crate::letters::{first, is_break, is_empty, split_first};
 use crate::page::Page;
 use crate::quoted::put_if;
-use crate::settings::LineBreak;
-use crate::sink::Sink;
+use crate::run::{Bounds, last_of, split_run};
+use yaml_emit_sink::{LineBreak, Sink};
 
 // A break of a value: LF as the break that is set, the others as they are.
 pub(crate) fn put_value_break(sink: &mut Sink, line_break: LineBreak, c: char)
@@ -90,15 +91,63 @@ fn put_flow_char(sink: &mut Sink, page: Page, quote: bool, before: char, c: char
     }
 }
 
+fn flow_bounds(page: Page, quote: bool) -> Bounds
+    ensures { result ≡ flow_bounds page quote }
+{
+    Bounds {
+        quote: if quote { b'\'' } else { 0 },
+        slash: 0,
+        cuts: page.cuts,
+        width: page.width,
+    }
+}
+
+// What stands in front as it is, behind a character that is no break.
+fn put_flow_run<'a>(
+    sink: &mut Sink,
+    page: Page,
+    quote: bool,
+    before: char,
+    left: &'a str,
+) -> (char, &'a str)
+    requires { is_break before ≡ false }
+    ensures text { Owes sink.old sink.new (flow_body page quote before (chars left.now)) (flow_body page quote result.0 (chars result.1.now)) }
+    ensures utf8 { IsUtf8 result.1.now }
+    ensures shorter { length result.1.now ≤ length left.now }
+{
+    let (run, rest) = split_run(flow_bounds(page, quote), sink.cursor().column, left);
+    sink.put_ascii(run);
+    (last_of(before, run), rest)
+}
+
+// The same behind any character.
+fn put_flow_run_or<'a>(
+    sink: &mut Sink,
+    page: Page,
+    quote: bool,
+    before: char,
+    left: &'a str,
+) -> (char, &'a str)
+    ensures text { Owes sink.old sink.new (flow_body page quote before (chars left.now)) (flow_body page quote result.0 (chars result.1.now)) }
+    ensures utf8 { IsUtf8 result.1.now }
+    ensures shorter { length result.1.now ≤ length left.now }
+{
+    if is_break(before) {
+        (before, left)
+    } else {
+        put_flow_run(sink, page, quote, before, left)
+    }
+}
+
 fn put_flow_body(sink: &mut Sink, page: Page, quote: bool, value: &str)
     ensures { Puts sink.old sink.new (flow_body page quote 32 (chars value.now)) }
 {
-    let mut before = ' ';
-    let mut left = value;
+    let (mut before, mut left) = put_flow_run(sink, page, quote, ' ', value);
     while let Some((c, rest)) = split_first(left) {
         put_flow_char(sink, page, quote, before, c, rest);
-        before = c;
-        left = rest;
+        let (last, behind) = put_flow_run_or(sink, page, quote, c, rest);
+        before = last;
+        left = behind;
     }
     put_line_if(sink, is_break(before), page);
 }

@@ -1,14 +1,8 @@
-//! Laws of the definitions, as functions that do nothing.
+//! A law of the definitions, as a function that does nothing.
 
-ghost use Rattle.yaml_emit_text.specs.Laws.{Utf8Encodes};
 ghost use Rattle.yaml_emit_text.specs.Spelling.{QuotedSpells};
 
 /// What stands between double quotes is a spelling of the value: raw characters, escapes, and folds that are read as one space.
 pub fn quoted_spells()
     ensures { QuotedSpells }
-{}
-
-/// In UTF-8 the bytes of a text are those of its characters.
-pub fn utf8_encodes()
-    ensures { Utf8Encodes }
 {}

@@ -1,8 +1,8 @@
 //! The characters of a text, from the front.
 
-ghost use Rattle.std.specs.Prelude.{◌≡◌, ◌<◌, ◌∷◌, [], length, IsUtf8, MatchOption, IfSome};
+ghost use Rattle.std.specs.Prelude.{◌≡◌, ◌<◌, ◌∷◌, ◌++◌, [], length, IsUtf8, MatchOption, IfSome};
 ghost use Rattle.std.specs.Str.{chars};
-ghost use Rattle.yaml_emit_text.specs.Text.{is_break};
+ghost use Rattle.yaml_emit_sink.specs.Text.{is_break};
 ghost use Rattle.yaml_emit_text.specs.Quoted.{first, is_empty};
 
 /// A text that is known to be UTF-8.
@@ -24,6 +24,18 @@ pub(crate) fn split_first(text: &str) -> Option<(char, &str)>
     match letters.next() {
         None => None,
         Some(c) => Some((c, letters.as_str())),
+    }
+}
+
+/// The last character, behind what goes before it.
+pub(crate) fn split_last(text: &str) -> Option<(&str, char)>
+    ensures letters { MatchOption result (chars text.now ≡ []) (λ p. chars text.now ≡ chars p.0.now ++ p.1 ∷ []) }
+    ensures utf8 { IfSome result (λ p. IsUtf8 p.0.now) }
+{
+    let mut letters = text.chars();
+    match letters.next_back() {
+        None => None,
+        Some(c) => Some((letters.as_str(), c)),
     }
 }
 

@@ -1,6 +1,6 @@
 //! Where a scalar stands, and its style.
 
-use crate::settings::LineBreak;
+use yaml_emit_sink::LineBreak;
 
 /// Where a scalar stands.
 #[derive(Clone, Copy, PartialEq, Eq, Debug)]

@@ -1,15 +1,17 @@
 //! Double quoted scalars (YAML 1.1, 9.1.1), with escapes (5.6).
 
-ghost use Rattle.std.specs.Prelude.{◌≡◌, ◌<◌, ◌≤◌, ◌∷◌, [], false, true, if◌then◌else◌};
+ghost use Rattle.std.specs.Prelude.{◌≡◌, ◌<◌, ◌≤◌, ◌∷◌, [], length, IsUtf8, false, true, if◌then◌else◌};
 ghost use Rattle.std.specs.Str.{chars};
-ghost use Rattle.yaml_emit_text.specs.Sink.{Puts, Owes};
-ghost use Rattle.yaml_emit_text.specs.Text.{is_break};
-ghost use Rattle.yaml_emit_text.specs.Layout.{◌▹◌, stay, choose, when, char, letters, blanks, new_line, gap, is_past};
+ghost use Rattle.yaml_emit_sink.specs.Sink.{Puts, Owes};
+ghost use Rattle.yaml_emit_sink.specs.Text.{is_break};
+ghost use Rattle.yaml_emit_sink.specs.Layout.{◌▹◌, stay, choose, when, char, letters, blanks, new_line, gap, is_past};
+ghost use Rattle.yaml_emit_text.specs.Runs.{quoted_bounds};
 ghost use Rattle.yaml_emit_text.specs.Quoted.{is_printable, needs_escape, escape_letter, hex_digit, hex_2, hex_4, hex_8, escape_text, first, is_empty, may_fold, fold, escaped, quoted_char, quoted_body, double_quoted};
 
 use crate::letters::{first, is_break, is_empty, split_first};
 use crate::page::Page;
-use crate::sink::Sink;
+use crate::run::{Bounds, last_of, split_run};
+use yaml_emit_sink::Sink;
 
 // 0-9 A-F
 #[tactic(auto, unfolding(crate::specs::Quoted::hex_digit))]
@@ -167,15 +169,37 @@ fn put_quoted_char(sink: &mut Sink, page: Page, before: char, c: char, rest: &st
     }
 }
 
+fn quoted_bounds(page: Page) -> Bounds
+    ensures { result ≡ quoted_bounds page }
+{
+    Bounds {
+        quote: b'"',
+        slash: b'\\',
+        cuts: page.cuts,
+        width: page.width,
+    }
+}
+
+// What stands in front as it is, behind a character: the last character before what is left, and that.
+fn put_quoted_run<'a>(sink: &mut Sink, page: Page, before: char, left: &'a str) -> (char, &'a str)
+    ensures text { Owes sink.old sink.new (quoted_body page before (chars left.now)) (quoted_body page result.0 (chars result.1.now)) }
+    ensures utf8 { IsUtf8 result.1.now }
+    ensures shorter { length result.1.now ≤ length left.now }
+{
+    let (run, rest) = split_run(quoted_bounds(page), sink.cursor().column, left);
+    sink.put_ascii(run);
+    (last_of(before, run), rest)
+}
+
 fn put_quoted_body(sink: &mut Sink, page: Page, value: &str)
     ensures { Puts sink.old sink.new (quoted_body page 32 (chars value.now)) }
 {
-    let mut before = ' ';
-    let mut left = value;
+    let (mut before, mut left) = put_quoted_run(sink, page, ' ', value);
     while let Some((c, rest)) = split_first(left) {
         put_quoted_char(sink, page, before, c, rest);
-        before = c;
-        left = rest;
+        let (last, behind) = put_quoted_run(sink, page, c, rest);
+        before = last;
+        left = behind;
     }
 }
 

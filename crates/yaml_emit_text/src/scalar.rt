@@ -2,7 +2,7 @@
 
 ghost use Rattle.std.specs.Prelude.{◌≡◌, true, false};
 ghost use Rattle.std.specs.Str.{chars};
-ghost use Rattle.yaml_emit_text.specs.Sink.{Puts};
+ghost use Rattle.yaml_emit_sink.specs.Sink.{Puts};
 ghost use Rattle.yaml_emit_text.specs.Quoted.{double_quoted};
 ghost use Rattle.yaml_emit_text.specs.Scalars.{plain, single_quoted, block, scalar_text};
 
@@ -10,7 +10,7 @@ use crate::block::{put_folded, put_literal};
 use crate::flow::{put_plain, put_single_quoted};
 use crate::page::{Page, Style};
 use crate::quoted::put_double_quoted;
-use crate::sink::Sink;
+use yaml_emit_sink::Sink;
 
 /// A scalar in that style, inside a flow collection or not. The digit is the indent's, for block scalars.
 #[tactic(auto, unfolding(crate::specs::Scalars::scalar_text))]

@@ -1,14 +1,15 @@
 //! Which styles a value allows, and which one is taken.
 
-ghost use Rattle.std.specs.Prelude.{◌≡◌, ℕ, ◌∷◌, [], false, true, not, ◌&&◌, ◌||◌, ◌==◌, if◌then◌else◌};
+ghost use Rattle.std.specs.Prelude.{◌≡◌, ◌≤◌, ℕ, ◌∷◌, [], length, IsUtf8, Bool, false, true, not, ◌&&◌, ◌||◌, ◌==◌, if◌then◌else◌};
 ghost use Rattle.std.specs.Str.{chars};
-ghost use Rattle.yaml_emit_text.specs.Text.{is_break};
+ghost use Rattle.yaml_emit_sink.specs.Text.{is_break};
 ghost use Rattle.yaml_emit_text.specs.Quoted.{is_printable, first, is_empty};
 ghost use Rattle.yaml_emit_text.specs.Style.{is_blank, ends_word, somewhere, is_special, is_break_space, is_not_plain, is_not_flow, last_or, ends_in_space, is_indicator, is_badly_begun, behind, starts_badly, allowed_text, allowed, plain_fits, single_or, block_or, plain_or, taken, looked, seen, joined};
 
 use crate::letters::{first, is_break, split_first};
 use crate::page::{Allowed, Seen, Style};
 use crate::quoted::is_printable;
+use crate::run::{last_of, split_calm};
 use yaml_scan::yaml_scalar_style_t;
 
 pub(crate) fn is_blank(c: char) -> bool
@@ -163,6 +164,17 @@ fn joined(a: Seen, b: Seen) -> Seen
     }
 }
 
+// Past what says nothing against a style, behind a character: the last character before what is left, and that.
+fn past_calm(before: char, left: &str) -> (char, &str)
+    ensures seen { (unicode : Bool) → looked unicode before (chars left.now) ≡ looked unicode result.0 (chars result.1.now) }
+    ensures last { last_or before (chars left.now) ≡ last_or result.0 (chars result.1.now) }
+    ensures utf8 { IsUtf8 result.1.now }
+    ensures shorter { length result.1.now ≤ length left.now }
+{
+    let (run, rest) = split_calm(left);
+    (last_of(before, run), rest)
+}
+
 // One look at a value: what was seen, and its last character.
 fn look(unicode: bool, value: &str) -> (Seen, char)
     ensures seen { result.0 ≡ looked unicode 32 (chars value.now) }
@@ -174,12 +186,12 @@ fn look(unicode: bool, value: &str) -> (Seen, char)
         not_plain: false,
         not_flow: false,
     };
-    let mut before = ' ';
-    let mut left = value;
+    let (mut before, mut left) = past_calm(' ', value);
     while let Some((c, rest)) = split_first(left) {
         all = joined(all, seen(unicode, before, c, first(rest)));
-        before = c;
-        left = rest;
+        let (last, behind) = past_calm(c, rest);
+        before = last;
+        left = behind;
     }
     (all, before)
 }

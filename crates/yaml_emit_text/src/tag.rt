@@ -2,14 +2,14 @@
 
 ghost use Rattle.std.specs.Prelude.{◌≡◌, ◌<◌, ◌≤◌, ℕ, ◌+◌, ◌∷◌, [], ◌++◌, map, length, drop, true, false, not, ◌&&◌, ◌||◌, ◌==◌, if◌then◌else◌, Option, Some, None, codes};
 ghost use Rattle.yaml_parse.specs.Events.{directive_of};
-ghost use Rattle.yaml_emit_text.specs.Sink.{Puts};
-ghost use Rattle.yaml_emit_text.specs.Layout.{◌▹◌, char, letters, gap, word};
+ghost use Rattle.yaml_emit_sink.specs.Sink.{Puts};
+ghost use Rattle.yaml_emit_sink.specs.Layout.{◌▹◌, char, letters, gap, word};
 ghost use Rattle.yaml_emit_text.specs.Quoted.{hex_2};
 ghost use Rattle.yaml_emit_text.specs.Tags.{has_shorter_prefix, defines, suffix_keeps, prefix_keeps, keeps_byte, uri_byte, uri_text, split_tag, split_by, split_of, defaults, stands_for, shorthand, verbatim, spelled, tag_spelling, tag_size, directive_for, in_force, primary, secondary};
 
 use crate::quoted::put_hex_2;
-use crate::sink::Sink;
 use crate::split::SplitTag;
+use yaml_emit_sink::Sink;
 use yaml_scan::yaml_tag_directive_t;
 
 // 0-9 A-Z a-z _ - ; / ? : @ & = + $ . ~ * ' ( )

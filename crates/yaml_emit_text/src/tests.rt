@@ -1,9 +1,8 @@
-//! That each writer really writes, and that an output stops for its own reason: a stopped output meets every clause.
+//! That each writer really writes: a stopped output meets every clause.
 
 use crate::{
-    Encoding, LineBreak, Page, Sink, Status, Style, allowed_for, put_alias, put_anchor,
-    put_double_quoted, put_folded, put_literal, put_plain, put_prefix, put_single_quoted,
-    put_styled, put_tag, taken,
+    Encoding, LineBreak, Page, Sink, Style, allowed_for, put_alias, put_anchor, put_double_quoted,
+    put_folded, put_literal, put_plain, put_prefix, put_single_quoted, put_styled, put_tag, taken,
 };
 use std::test::Fail;
 use yaml_scan::{yaml_scalar_style_t, yaml_tag_directive_t};
@@ -88,23 +87,5 @@ fn utf16_has_pairs_of_surrogates(rt: HostRuntime) -> Result<(), Fail> {
         sink.output(),
         b"\xFF\xFE\x22\0\x3D\xD8\x00\xDE\x22\0\r\0\n\0".as_slice()
     );
-    Ok(())
-}
-
-#[test]
-fn an_output_stops(rt: HostRuntime) -> Result<(), Fail> {
-    let mut exact = Sink::new(rt.alloc(), 3);
-    exact.put_all(b"abc");
-    assert!(rt; exact.status() == Status::Going);
-    exact.put('d');
-    assert!(rt; exact.status() == Status::Full);
-    exact.put('e');
-    assert_eq!(rt; exact.output(), b"abc".as_slice());
-    let mut deep = Sink::new(rt.alloc(), 3);
-    deep.put('a');
-    deep.put_too_deep();
-    deep.put('b');
-    assert!(rt; deep.status() == Status::Deep);
-    assert_eq!(rt; deep.output(), b"a".as_slice());
     Ok(())
 }

@@ -1,6 +1,6 @@
 -- What each step over the grammar owes.
 use Rattle.std.proofs.Common.{◌≡◌, ◌⊎◌, ◌<◌, ℕ, inl, inr, List, [], ◌∷◌, ◌++◌, length, reverse, map, Option, Some, None, sym, ap, subst, ◌∙◌, arith, true}
-use Rattle.std.proofs.lemmas.List.{reverse-append, append_assoc}
+use Rattle.std.proofs.lemmas.List.{reverse-append}
 use Rattle.yaml_scan.specs.declared.yaml_mark_t.{yaml_mark_t}
 use Rattle.yaml_scan.specs.Tokens.{Token, no_token, type_of}
 use Rattle.yaml_scan.specs.Faults.{Fault}
@@ -17,9 +17,7 @@ use Rattle.yaml_parse_grammar.proofs.Voice.{Voiced, TakenSpeaks, taken_speaks, l
 use Rattle.yaml_parse_grammar.proofs.Single.{refuses, takes, takes_silently, opens}
 use Rattle.yaml_parse_machine.specs.declared.item.State as code
 use Rattle.yaml_parse_machine.specs.declared.item.Item as codeitem
-use Rattle.yaml_parse_machine.specs.declared.item.Pushed.{Pushed}
-use Rattle.yaml_parse_machine.specs.Views.{state_of, stack_of, pushed_of, over, item_of}
-use Rattle.yaml_parse_machine.proofs.Openings.{over_is}
+use Rattle.yaml_parse_machine.specs.Views.{state_of, stack_of, item_of}
 use Rattle.yaml_parse.specs.declared.step.Step.{Step}
 use Rattle.yaml_parse.specs.declared.step.Step.TheVariants as step
 use Rattle.yaml_parse.specs.Steps.{Raw, raw, outcome, budget, IsFront, HasNoFront, IsDirective, GivesItem, GivesNoItem, IsRefused, Steps, OpensAt, IsReal}
@@ -40,6 +38,9 @@ stands_over [] ys h = absurd h
 stands_over (x ∷ xs) ys h = tt
 
 -- the item and the states of a taken token
+pub taken_is : (x : State) (t : Token) (o : Option Item) → o ≡ (taken_at x t).item → record { item = o; above = (taken_at x t).above } ≡ taken_at x t
+taken_is x t o e = ap (λ (p : Option Item). let y : Taken = record { item = p; above = (taken_at x t).above } in y) e
+
 pub take_item : (x : State) (t : Token) (rest : List Token) (f : Option Fault) (s s' : List State) (i : Item) (above : List State)
     → choice_at x (type_of t.body) ≡ Take → record { item = Some i; above = above } ≡ taken_at x t → s' ≡ above ++ s
     → GivesItem i (raw (Some t) rest f (x ∷ s)) (raw None rest f s')
@@ -57,12 +58,6 @@ take_silent x t rest f s s' above h k e = record {
   less = omega arith;
   stands = subst Stands (sym e) (stands_over above s (subst (λ (y : Taken). TakenSpeaks y.item y.above) (sym k) (taken_speaks x t)));
 }
-
--- both pushes
-pub pushed_twice : (pushed below : Pushed) (old middle new : List State) → middle ≡ pushed_of below ++ old → new ≡ pushed_of pushed ++ middle → new ≡ over (pushed_of pushed) below ++ old
-pushed_twice pushed below old middle new p q =
-    q ∙ ap (λ (z : List State). pushed_of pushed ++ z) p ∙ sym (append_assoc (pushed_of pushed) (pushed_of below) old)
-    ∙ ap (λ (z : List State). z ++ old) (sym (over_is (pushed_of pushed) below))
 
 pub leave_item : (x : State) (t : Token) (rest : List Token) (f : Option Fault) (s : List State) (i : Item) → choice_at x (type_of t.body) ≡ Leave → i ≡ left_at x t.start_mark
     → GivesItem i (raw (Some t) rest f (x ∷ s)) (raw (Some t) rest f s)

@@ -17,7 +17,7 @@ ghost use Rattle.yaml_parse_grammar.specs.Stacks.{parts_documents_behind};
 use crate::step::{Turn, take_turn};
 use std::alloc::Global;
 use std::marker::Model;
-use yaml_parse_machine::{Directives, State};
+use yaml_parse_machine::{Directives, State, TagDirectives};
 use yaml_parse_model::{
     yaml_event_body_t, yaml_event_t, yaml_parser_t_prefix, yaml_token_source_t,
 };
@@ -113,7 +113,7 @@ pub fn yaml_parser_initialize<S: yaml_token_source_t>(
             stack,
             directives: Directives {
                 version: None,
-                tags: Vec::new(alloc),
+                tags: TagDirectives::new(alloc),
             },
             prefix: yaml_parser_t_prefix::quiet(),
         }),

@@ -19,8 +19,7 @@ ghost use Rattle.yaml_parse.specs.Steps.{IsFront, HasNoFront, Steps, Turns, Open
 use std::alloc::Global;
 use yaml_parse_grammar::{Choice, ParseFault, ParseProblem};
 use yaml_parse_machine::{
-    Directives, Item, ItemBody, Opening, Refusal, State, Taken, choose, leave, opened, push_all,
-    settle, take,
+    Directives, Item, ItemBody, Refusal, State, choose, leave, open, settle, take,
 };
 use yaml_parse_model::{yaml_event_t, yaml_token_source_t};
 use yaml_scan::{yaml_fault_t, yaml_mark_t, yaml_memory_fault, yaml_origin_t, yaml_token_t};
@@ -49,7 +48,20 @@ fn want_of_memory() -> yaml_fault_t
     yaml_memory_fault(yaml_origin_t::Parser)
 }
 
-// The token at the front: the one that was asked for, or else the source's next.
+// The source's next token, where none was asked for before.
+fn asked<S: yaml_token_source_t>(source: &mut S) -> Result<yaml_token_t, yaml_fault_t>
+    ensures ok { IfOk result (λ t. IsFront None (S.to_come source.old) (S.fault_to_come source.old) (token_of t) (S.to_come source.new) (S.fault_to_come source.new)) }
+    ensures err { IfErr result (λ f. HasNoFront None (S.to_come source.old) (S.fault_to_come source.old) (fault_of f)) }
+    ensures utf8 { IfOk result (λ t. HasUtf8 (token_of t).body) }
+{
+    match source.next_token() {
+        Ok(token) => Ok(token),
+        Err(fault) => Err(fault),
+    }
+}
+
+// The token at the front: the one that was asked for, or else the source's next. The first test is for speed: a token
+// that isn't there is not moved.
 fn front<S: yaml_token_source_t>(
     source: &mut S,
     peeked: &mut Option<yaml_token_t>,
@@ -57,12 +69,13 @@ fn front<S: yaml_token_source_t>(
     ensures ok { IfOk result (λ t. IsFront (peeked_of peeked.old) (S.to_come source.old) (S.fault_to_come source.old) (token_of t) (S.to_come source.new) (S.fault_to_come source.new)) }
     ensures err { IfErr result (λ f. HasNoFront (peeked_of peeked.old) (S.to_come source.old) (S.fault_to_come source.old) (fault_of f)) }
     ensures utf8 { IsUtf8Token (peeked_of peeked.old) → IfOk result (λ t. HasUtf8 (token_of t).body) }
+    ensures empty { peeked_of peeked.new ≡ None }
 {
-    match peeked.take() {
-        Some(token) => Ok(token),
-        None => match source.next_token() {
-            Ok(token) => Ok(token),
-            Err(fault) => Err(fault),
+    match *peeked {
+        None => asked(source),
+        Some(_) => match peeked.take() {
+            Some(token) => Ok(token),
+            None => asked(source),
         },
     }
 }
@@ -89,19 +102,10 @@ fn taking(stack: &mut Vec<State>, state: State, token: yaml_token_t) -> Step
     ensures utf8 { (ds : DirectivesSpec) → IsUtf8Held (Some (token_of token)) (state_of state ∷ stack_of stack.old.items) ds → IsUtf8Step result None (stack_of stack.new.items) ds }
     ensures stack { IsStack (state_of state ∷ stack_of stack.old.items) → IsStackStep result (stack_of stack.new.items) }
 {
-    let Taken { opening, below } = take(state, token);
-    let Opening { item, pushed } = opening;
-    match push_all(stack, below) {
-        Ok(()) => {}
-        Err(_) => return Step::Refused(want_of_memory()),
-    }
-    match push_all(stack, pushed) {
-        Ok(()) => {}
-        Err(_) => return Step::Refused(want_of_memory()),
-    }
-    match item {
-        Some(item) => Step::Item(item),
-        None => Step::Silent,
+    match take(stack, state, token) {
+        Ok(Some(item)) => Step::Item(item),
+        Ok(None) => Step::Silent,
+        Err(_) => Step::Refused(want_of_memory()),
     }
 }
 
@@ -109,7 +113,7 @@ fn taking(stack: &mut Vec<State>, state: State, token: yaml_token_t) -> Step
 fn opening(stack: &mut Vec<State>, start: yaml_mark_t) -> Step
     ensures { OpensAt start (stack_of stack.old.items) result (stack_of stack.new.items) }
 {
-    match push_all(stack, opened(start)) {
+    match open(stack, start) {
         Ok(()) => Step::Item(Item {
             body: ItemBody::Document { implicit: true },
             from: start,
@@ -126,6 +130,7 @@ fn stepping(
     state: State,
     token: yaml_token_t,
 ) -> Step
+    requires { peeked_of peeked.old ≡ None }
     ensures steps { (rest : List Token) (fault : Option Fault) → Steps (raw (Some (token_of token)) rest fault (state_of state ∷ stack_of stack.old.items)) result (raw (peeked_of peeked.new) rest fault (stack_of stack.new.items)) }
     ensures real { IsReal (state_of state) (token_of token) result }
     ensures utf8 { (ds : DirectivesSpec) → IsUtf8Held (Some (token_of token)) (state_of state ∷ stack_of stack.old.items) ds
@@ -135,10 +140,7 @@ fn stepping(
     let start = token.start_mark;
     match choose(&state, token.type_()) {
         Choice::Refuse(problem, opener) => Step::Refused(refusal(problem, start, opener)),
-        Choice::Take => {
-            *peeked = None;
-            taking(stack, state, token)
-        }
+        Choice::Take => taking(stack, state, token),
         Choice::Leave => {
             *peeked = Some(token);
             Step::Item(leave(state, start))

@@ -1,3 +1,3 @@
 pub mod Defaults
-pub mod Openings
 pub mod TagSteps
+pub mod HandleTable

@@ -1,8 +1,8 @@
 -- What resolving gives.
-use Rattle.std.specs.Prelude.{ℕ, ◌≡◌, List, map, Option, Some, None, Result, Ok, Err, Vec}
+use Rattle.std.specs.Prelude.{ℕ, ◌≡◌, List, Option, Some, None, Result, Ok, Err, Vec}
 use Rattle.std.specs.Global.{Global}
 use Rattle.yaml_scan.specs.declared.yaml_mark_t.{yaml_mark_t}
-use Rattle.yaml_parse_model.specs.Events.{directive_of, event_of, body_of}
+use Rattle.yaml_parse_model.specs.Events.{event_of, body_of}
 use Rattle.yaml_parse_model.specs.declared.event.yaml_event_t.{yaml_event_t}
 use Rattle.yaml_parse_model.specs.declared.event.yaml_event_body_t.{yaml_event_body_t}
 use Rattle.yaml_parse_grammar.specs.declared.problem.ParseProblem.TheVariants.{UndefinedHandle}
@@ -15,7 +15,7 @@ use Rattle.yaml_parse_machine.specs.declared.resolving.Refusal.{Refusal}
 use Rattle.yaml_parse_machine.specs.declared.resolving.Refusal.TheVariants.{Memory, Fault}
 
 abbrev pub directives_of : Directives → spec.Directives
-directives_of d = record { version = d.version; tags = map directive_of d.tags.items }
+directives_of d = record { version = d.version; tags = d.tags }
 
 abbrev pub IsMemory : Refusal → Type 0
 IsMemory Memory = Unit {0}
@@ -34,6 +34,11 @@ Resolves o at from (Err (Fault f)) = (o ≡ None) × (f ≡ record { problem = U
 abbrev pub Notes : Settled → Result (Unit {0}) Refusal → spec.Directives → Type 0
 Notes s (Ok u) new = s ≡ noted new
 Notes s (Err e) new = Refused e s
+
+-- the body of an event
+abbrev pub SettlesNode : Settled → Result yaml_event_body_t Refusal → spec.Directives → Type 0
+SettlesNode s (Ok b) new = s ≡ gave (body_of b) new
+SettlesNode s (Err e) new = Refused e s
 
 -- the body of an event, or nothing
 abbrev pub SettlesBody : Settled → Result (Option yaml_event_body_t) Refusal → spec.Directives → Type 0

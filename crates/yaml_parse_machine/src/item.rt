@@ -1,8 +1,9 @@
 //! States, and items: events whose tags and directives are not resolved.
 
 use yaml_parse_grammar::{Brackets, Place, Side, Wants};
-use yaml_parse_model::yaml_event_body_t;
-use yaml_scan::{yaml_mapping_style_t, yaml_mark_t, yaml_scalar_style_t, yaml_sequence_style_t};
+use yaml_scan::{
+    yaml_encoding_t, yaml_mapping_style_t, yaml_mark_t, yaml_scalar_style_t, yaml_sequence_style_t,
+};
 
 /// A tag as it is written, and where it begins.
 #[derive(Drop)]
@@ -33,11 +34,21 @@ pub enum Shape {
     Mapping(yaml_mapping_style_t),
 }
 
-/// What an item is.
+/// An event that has nothing to resolve.
+#[derive(Drop)]
+pub enum Plain {
+    StreamStart { encoding: yaml_encoding_t },
+    StreamEnd,
+    DocumentEnd { implicit: bool },
+    Alias { anchor: Vec<u8> },
+    SequenceEnd,
+    MappingEnd,
+}
+
+/// What an item is. A value is moved with each event, so the properties of a node lie apart.
 #[derive(Drop)]
 pub enum ItemBody {
-    /// An event that has nothing to resolve.
-    Event(yaml_event_body_t),
+    Event(Plain),
     /// A `%YAML` directive.
     VersionDirective {
         major: i32,
@@ -54,8 +65,7 @@ pub enum ItemBody {
     },
     /// A node starts, or stands whole.
     Node {
-        anchor: Option<Vec<u8>>,
-        tag: Option<Tag>,
+        properties: Option<Box<Properties>>,
         shape: Shape,
     },
 }
@@ -97,53 +107,4 @@ pub enum State {
     PairEnd,
     /// The value of a lone node inside the brackets of a mapping.
     Lone,
-}
-
-/// States that go on top of the others, named by what they wait for together. A value is moved several times a token, so
-/// none holds more than one state.
-#[derive(Drop)]
-pub enum Pushed {
-    Zero,
-    One(State),
-    /// The rest of a node behind properties.
-    Dressed(Wants, Properties),
-    /// A document whose `---` ends there: its root, its end, and what comes behind it.
-    Document(yaml_mark_t),
-    /// A part behind a `-` that ends there, and the further parts.
-    Entry {
-        opener: yaml_mark_t,
-        end: yaml_mark_t,
-    },
-    /// A part behind a `-` that ends there, of a sequence that isn't indented, and its further parts.
-    Indentless {
-        side: Side,
-        end: yaml_mark_t,
-    },
-    /// A pair of a block mapping behind a key's indicator that ends there, and the further pairs.
-    BlockPair {
-        opener: yaml_mark_t,
-        end: yaml_mark_t,
-    },
-    /// A pair inside brackets behind a key's indicator that ends there, and what follows it in them.
-    FlowPair {
-        brackets: Brackets,
-        opener: yaml_mark_t,
-        end: yaml_mark_t,
-    },
-    /// The left-out value of a lone key inside the brackets of a mapping, and what follows it in them.
-    Lone(yaml_mark_t),
-}
-
-/// What a token gives, and what may come above the other states.
-#[derive(Drop)]
-pub struct Opening {
-    pub item: Option<Item>,
-    pub pushed: Pushed,
-}
-
-/// What taking a token gives: `below` goes on top of the other states, and then the opening's.
-#[derive(Drop)]
-pub struct Taken {
-    pub opening: Opening,
-    pub below: Pushed,
 }

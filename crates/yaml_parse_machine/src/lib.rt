@@ -2,11 +2,13 @@
 #![tactic(auto)]
 
 mod choosing;
+mod handles;
 mod item;
 mod resolving;
 mod taking;
 
 pub use choosing::choose;
-pub use item::{Item, ItemBody, Opening, Properties, Pushed, Shape, State, Tag, Taken};
+pub use handles::TagDirectives;
+pub use item::{Item, ItemBody, Plain, Properties, Shape, State, Tag};
 pub use resolving::{Directives, Refusal, settle};
-pub use taking::{leave, opened, push_all, take};
+pub use taking::{leave, open, take};

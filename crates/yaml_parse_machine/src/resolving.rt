@@ -1,15 +1,17 @@
 //! Directives and tags.
 
-ghost use Rattle.std.specs.Prelude.{◌≡◌, ◌++◌, codes, map, option_map, IfOk, IfErr};
+ghost use Rattle.std.specs.Prelude.{◌≡◌, ◌++◌, None, codes, map, option_map, IfOk, IfErr};
 ghost use Rattle.std.specs.Str.{bytes_eq};
 ghost use Rattle.yaml_parse_model.specs.Events.{directive_of, text_of, body_of, event_of};
 ghost use Rattle.yaml_parse_grammar.specs.Items as item;
-ghost use Rattle.yaml_parse_grammar.specs.Resolve.{directive_for, default_prefix, or_default, resolved, node_event, settle as settle_item, settle_body as settle_item_body, scalar_event, is_known_version, with_version, with_tag, behind_event};
-ghost use Rattle.yaml_parse_machine.specs.Views.{item_of, item_body_of, shape_of};
+ghost use Rattle.yaml_parse_grammar.specs.Resolve.{directive_for, default_prefix, or_default, resolved, node_event, settle as settle_item, settle_body as settle_item_body, scalar_event, is_plain as is_plain_style, is_known_version, with_version, with_tag, behind_event};
+ghost use Rattle.yaml_parse_machine.specs.Views.{plain_of, item_of, item_body_of, shape_of, tag_option_of};
+ghost use Rattle.yaml_parse_grammar.specs.Resolve.{Directives as DirectivesSpec};
 ghost use Rattle.yaml_parse_machine.specs.declared.resolving.Refusal.TheVariants.{Fault};
-ghost use Rattle.yaml_parse_machine.specs.Settles.{directives_of, Settles, SettlesBody, Resolves, Notes, IsMemory};
+ghost use Rattle.yaml_parse_machine.specs.Settles.{directives_of, Settles, SettlesBody, SettlesNode, Resolves, Notes, IsMemory};
 
-use crate::item::{Item, ItemBody, Shape, Tag};
+use crate::handles::TagDirectives;
+use crate::item::{Item, ItemBody, Plain, Properties, Shape, Tag};
 use std::alloc::{AllocError, AllocFailed, Global};
 use yaml_parse_grammar::{ParseFault, ParseProblem};
 use yaml_parse_model::{yaml_event_body_t, yaml_event_t};
@@ -19,7 +21,7 @@ use yaml_scan::{yaml_mark_t, yaml_scalar_style_t, yaml_tag_directive_t, yaml_ver
 #[derive(Drop)]
 pub struct Directives {
     pub version: Option<yaml_version_directive_t>,
-    pub tags: Vec<yaml_tag_directive_t>,
+    pub tags: TagDirectives,
 }
 
 /// Why an item is refused.
@@ -56,18 +58,6 @@ fn fault_at(problem: ParseProblem, problem_mark: yaml_mark_t, context_mark: yaml
     })
 }
 
-// The prefix that a directive gives the handle.
-fn find_prefix<'a>(tags: &'a [yaml_tag_directive_t], handle: &[u8]) -> Option<&'a [u8]>
-    ensures { option_map (λ t. t.now) result ≡ directive_for handle.now (map directive_of tags.now) }
-{
-    for tag in tags {
-        if tag.handle.as_slice() == handle {
-            return Some(tag.prefix.as_slice());
-        }
-    }
-    None
-}
-
 // What a handle stands for where no directive says it.
 fn find_default(handle: &[u8]) -> Option<&'static [u8]>
     ensures { option_map (λ t. t.now) result ≡ default_prefix handle.now }
@@ -93,18 +83,18 @@ fn joined(alloc: Global, prefix: &[u8], suffix: &[u8]) -> Result<Vec<u8>, AllocE
 // The tag in full, of a node that begins there.
 fn resolve(
     alloc: Global,
-    tags: &[yaml_tag_directive_t],
+    tags: &TagDirectives,
     tag: Tag,
     from: yaml_mark_t,
 ) -> Result<Vec<u8>, Refusal>
-    ensures { Resolves (resolved (map directive_of tags.now) tag.handle.items tag.suffix.items) tag.mark from result }
+    ensures { Resolves (resolved tags.now tag.handle.items tag.suffix.items) tag.mark from result }
 {
     let handle = tag.handle.as_slice();
     if handle.is_empty() {
         return Ok(tag.suffix);
     }
     let suffix = tag.suffix.as_slice();
-    match find_prefix(tags, handle) {
+    match tags.prefix_of(handle) {
         Some(prefix) => Ok(joined(alloc, prefix, suffix)?),
         None => match find_default(handle) {
             Some(prefix) => Ok(joined(alloc, prefix, suffix)?),
@@ -119,6 +109,54 @@ fn is_mark(tag: &[u8]) -> bool
     tag == b"!".as_slice()
 }
 
+fn is_plain(style: yaml_scalar_style_t) -> bool
+    ensures { result ≡ is_plain_style style }
+{
+    match style {
+        yaml_scalar_style_t::YAML_PLAIN_SCALAR_STYLE => true,
+        _ => false,
+    }
+}
+
+// A node without properties.
+fn bare(alloc: Global, shape: Shape) -> yaml_event_body_t
+    ensures { body_of result ≡ node_event None None (shape_of shape) }
+{
+    match shape {
+        Shape::Empty => yaml_event_body_t::Scalar {
+            anchor: None,
+            tag: None,
+            value: Vec::new(alloc),
+            plain_implicit: true,
+            quoted_implicit: false,
+            style: yaml_scalar_style_t::YAML_PLAIN_SCALAR_STYLE,
+        },
+        Shape::Scalar { value, style } => {
+            let is_plain = is_plain(style);
+            yaml_event_body_t::Scalar {
+                anchor: None,
+                tag: None,
+                value,
+                plain_implicit: is_plain,
+                quoted_implicit: !is_plain,
+                style,
+            }
+        }
+        Shape::Sequence(style) => yaml_event_body_t::SequenceStart {
+            anchor: None,
+            tag: None,
+            implicit: true,
+            style,
+        },
+        Shape::Mapping(style) => yaml_event_body_t::MappingStart {
+            anchor: None,
+            tag: None,
+            implicit: true,
+            style,
+        },
+    }
+}
+
 // A scalar, whose tag `!` says that it has none.
 fn scalar(
     anchor: Option<Vec<u8>>,
@@ -130,10 +168,7 @@ fn scalar(
 {
     match tag {
         None => {
-            let is_plain = match style {
-                yaml_scalar_style_t::YAML_PLAIN_SCALAR_STYLE => true,
-                _ => false,
-            };
+            let is_plain = is_plain(style);
             yaml_event_body_t::Scalar {
                 anchor,
                 tag: None,
@@ -257,6 +292,7 @@ fn note_version(
 
 // A `%TAG` directive.
 fn note_tag(
+    alloc: Global,
     directives: &mut Directives,
     handle: Vec<u8>,
     prefix: Vec<u8>,
@@ -264,28 +300,54 @@ fn note_tag(
 ) -> Result<(), Refusal>
     ensures { Notes (with_tag (directive_for handle.items (directives_of directives.old).tags) (directives_of directives.old) handle.items prefix.items at) result (directives_of directives.new) }
 {
-    match find_prefix(directives.tags.as_slice(), handle.as_slice()) {
+    match directives.tags.prefix_of(handle.as_slice()) {
         Some(_) => Err(fault_at(ParseProblem::DuplicateHandle, at, at)),
-        None => {
-            directives
-                .tags
-                .push(yaml_tag_directive_t { handle, prefix })?;
-            Ok(())
-        }
+        None => directives.tags.push(alloc, handle, prefix),
     }
 }
 
 // Nothing carries over to the next document.
-fn end_directives(directives: &mut Directives, event: &yaml_event_body_t)
-    ensures { directives_of directives.new ≡ behind_event (body_of event.now) (directives_of directives.old) }
+fn end_directives(directives: &mut Directives, event: &Plain)
+    ensures { directives_of directives.new ≡ behind_event (plain_of event.now) (directives_of directives.old) }
 {
     match *event {
-        yaml_event_body_t::DocumentEnd { .. } => {
+        Plain::DocumentEnd { .. } => {
             directives.version = None;
             directives.tags.clear();
         }
         _ => {}
     }
+}
+
+fn plain_event(event: Plain) -> yaml_event_body_t
+    ensures { body_of result ≡ plain_of event }
+{
+    match event {
+        Plain::StreamStart { encoding } => yaml_event_body_t::StreamStart { encoding },
+        Plain::StreamEnd => yaml_event_body_t::StreamEnd,
+        Plain::DocumentEnd { implicit } => yaml_event_body_t::DocumentEnd { implicit },
+        Plain::Alias { anchor } => yaml_event_body_t::Alias { anchor },
+        Plain::SequenceEnd => yaml_event_body_t::SequenceEnd,
+        Plain::MappingEnd => yaml_event_body_t::MappingEnd,
+    }
+}
+
+// The event of a node that has properties, and begins there.
+fn dressed(
+    alloc: Global,
+    tags: &TagDirectives,
+    properties: Properties,
+    shape: Shape,
+    from: yaml_mark_t,
+) -> Result<yaml_event_body_t, Refusal>
+    ensures { (ds : DirectivesSpec) → ds.tags ≡ tags.now → SettlesNode (settle_item_body (item.node (text_of properties.anchor) (tag_option_of properties.tag) (shape_of shape)) from ds) result ds }
+{
+    let Properties { anchor, tag, .. } = properties;
+    let full = match tag {
+        None => None,
+        Some(tag) => Some(resolve(alloc, tags, tag, from)?),
+    };
+    Ok(node(alloc, anchor, full, shape))
 }
 
 // The event of an item, whose place is told besides.
@@ -300,14 +362,14 @@ fn settle_body(
     match body {
         ItemBody::Event(event) => {
             end_directives(directives, &event);
-            Ok(Some(event))
+            Ok(Some(plain_event(event)))
         }
         ItemBody::VersionDirective { major, minor } => {
             note_version(directives, major, minor, from)?;
             Ok(None)
         }
         ItemBody::TagDirective { handle, prefix } => {
-            note_tag(directives, handle, prefix, from)?;
+            note_tag(alloc, directives, handle, prefix, from)?;
             Ok(None)
         }
         ItemBody::Document { implicit } => Ok(Some(yaml_event_body_t::DocumentStart {
@@ -315,13 +377,14 @@ fn settle_body(
             tag_directives: copy_directives(alloc, directives.tags.as_slice())?,
             implicit,
         })),
-        ItemBody::Node { anchor, tag, shape } => {
-            let full = match tag {
-                None => None,
-                Some(tag) => Some(resolve(alloc, directives.tags.as_slice(), tag, from)?),
-            };
-            Ok(Some(node(alloc, anchor, full, shape)))
-        }
+        ItemBody::Node { properties, shape } => match properties {
+            None => Ok(Some(bare(alloc, shape))),
+            Some(properties) => {
+                let tags = &directives.tags;
+                let body = dressed(alloc, tags, Box::into_inner(properties), shape, from)?;
+                Ok(Some(body))
+            }
+        },
     }
 }
 

@@ -9,7 +9,7 @@ use Rattle.yaml_parse.specs.Constructors.{HasUtf8}
 use Rattle.yaml_emit.specs.Content.{said}
 use Rattle.yaml_emit.specs.Emitter.{Emitter, Completes, Given}
 use Rattle.yaml_round.specs.Even.{even_body, even_scalar, is_lone_mark}
-use Rattle.yaml_round.specs.Reading.{AreUtf8, GivesFront, said_all}
+use Rattle.yaml_round.specs.Reading.{GivesFront, said_all}
 use Rattle.yaml_round.specs.Writing.{Leads}
 
 scalar_utf8 : (lone : Bool) (anchor tag : Option (List ℕ)) (value : List ℕ) (plain quoted : Bool) (style : yaml_scalar_style_t)
@@ -18,7 +18,7 @@ scalar_utf8 true anchor tag value plain quoted style h = (h.0, tt, h.2)
 scalar_utf8 false anchor tag value plain quoted style h = h
 
 -- an evened event's texts are the event's
-even_utf8 : (ends : Bool) (body : EventBody) → HasUtf8 body → HasUtf8 (even_body ends body)
+pub even_utf8 : (ends : Bool) (body : EventBody) → HasUtf8 body → HasUtf8 (even_body ends body)
 even_utf8 ends (event.document_end implicit) h = tt
 even_utf8 ends (event.scalar anchor tag value plain quoted style) h = scalar_utf8 (is_lone_mark tag value) anchor tag value plain quoted style h
 even_utf8 ends event.no h = h
@@ -33,16 +33,17 @@ even_utf8 ends event.mapping_end h = h
 
 pub gives : (ends : Bool) (first old new : Emitter) (all : List Told) (before after : Coming) (v e : Event)
     → Leads ends first all old before.events → GivesFront v before after → e ≡ record v { body = even_body ends v.body }
-    → (HasUtf8 e.body → Given old (said e.body) new) → new.limit ≡ old.limit → Leads ends first all new after.events
-gives ends first old new all before after v e l f is g limit =
+    → Given old (said e.body) new → Leads ends first all new after.events
+gives ends first old new all before after v e l f is g =
     let body : e.body ≡ even_body ends v.body = ap (λ (z : Event). z.body) is in
     record {
-      completes = λ utf8 x whole c.
-          let all_utf8 : AreUtf8 ((v, after.unasked) ∷ after.events) = subst AreUtf8 f.events (l.utf8 utf8) in
-          let mine : HasUtf8 e.body = subst HasUtf8 (sym body) (even_utf8 ends v.body all_utf8.0) in
+      completes = λ x whole c.
           let P : List Told → Type 0 = λ es. Completes old x (said_all ends es) whole in
           let Q : EventBody → Type 0 = λ b. Completes old x (said b ∷ said_all ends after.events) whole in
-          (g mine).completes x (said_all ends after.events) whole (subst Q (sym body) (subst P f.events (l.completes utf8 x whole c)));
-      utf8 = λ utf8. let all_utf8 : AreUtf8 ((v, after.unasked) ∷ after.events) = subst AreUtf8 f.events (l.utf8 utf8) in all_utf8.1;
-      limit = limit ∙ l.limit;
+          g.completes x (said_all ends after.events) whole (subst Q (sym body) (subst P f.events (l.completes x whole c)));
+      limit = g.limit ∙ l.limit;
     }
+
+-- the same of events
+pub evened_utf8 : (ends : Bool) (v e : Event) → e ≡ record v { body = even_body ends v.body } → HasUtf8 v.body → HasUtf8 e.body
+evened_utf8 ends v e is h = subst HasUtf8 (sym (ap (λ (z : Event). z.body) is)) (even_utf8 ends v.body h)

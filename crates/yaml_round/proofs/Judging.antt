@@ -17,33 +17,24 @@ use Rattle.yaml_round.specs.declared.settings.yaml_side_t.TheVariants.{First, Se
 use Rattle.yaml_round.specs.declared.settings.yaml_form_t.{yaml_form_t}
 use Rattle.yaml_round.specs.declared.settings.yaml_form_t.TheVariants.{Canonical, Pretty}
 use Rattle.yaml_round.specs.Reading.{contents, event_lines, GivesFront, IsFaultOf, EndsWith}
-use Rattle.yaml_round.specs.Writing.{IsUnder, Leads, WritesAll, WritesOrJudges, Finishes, wishes_under}
+use Rattle.yaml_round.specs.Writing.{Leads, WritesAll}
 use Rattle.yaml_round.specs.Compare.{Compares, ReadsAlike, IsSideFault}
-use Rattle.yaml_round.specs.Input.{Reads}
-use Rattle.yaml_round.specs.Answers.{IsFaulty, IsRight, IsJudged, IsLaidOut, IsWritten, IsTold, IsReadBack, IsSame, IsSideFaulty, IsInCanonicalForm, IsReformatted, IsNotReadBack, text_and_form, bytes_of}
-use Rattle.yaml_round.proofs.Laying.{faulty, right, laid_out}
+use Rattle.yaml_round.specs.Input.{Reads, ending_of}
+use Rattle.yaml_round.specs.Answers.{IsFaulty, IsRight, IsJudged, IsLaidOut, IsTooLong, IsWritten, IsTold, IsReadBack, ReadsBack, IsCanonicalDue, IsSame, IsSideFaulty, IsInCanonicalForm, IsReformatted, text_and_form}
 
 -- ---- one input
 
-fault_met : (from : yaml_encoding_t) (input : List ℕ) (r : Coming) (f : yaml_fault_t) → Reads from input r → IsFaultOf r.ending f → IsMemoryFault f ⊎ IsFaulty from input (fault_of f)
-fault_met from input r f h e = elim e [ inl m ↦ inl m | inr k ↦ inr (faulty from input r (fault_of f) h k) ]
+pub fault_met : (from : yaml_encoding_t) (input : List ℕ) (r : Coming) (f : yaml_fault_t) → Reads from input r → IsFaultOf r.ending f → IsMemoryFault f ⊎ IsFaulty from input (fault_of f)
+fault_met from input r f h e = elim e [ inl m ↦ inl m | inr k ↦ inr (sym h.ending ∙ k) ]
 
 pub judged : (from : yaml_encoding_t) (input : List ℕ) (r : Coming) (result : Result (Unit {0}) yaml_fault_t) → Reads from input r → EndsWith r.ending result
     → Answers (λ (done : Unit {0}). done) (IsJudged from input) result
-judged from input r (Ok done) h e = right from input r h e
+judged from input r (Ok done) h e = sym h.ending ∙ e
 judged from input r (Err f) h e = fault_met from input r f h e
 
 pub listed : (from : yaml_encoding_t) (input : List ℕ) (r : Coming) (lines : List ℕ) (old : List ℕ) → Reads from input r → old ≡ [] → r.ending ≡ None → lines ≡ old ++ event_lines r.events
     → IsTold from input lines
-listed from input r lines old h none e l = record {
-  tokens = h.tokens;
-  handed = h.handed;
-  right = sym h.ending ∙ e;
-  told = l ∙ ap (λ (z : List ℕ). z ++ event_lines r.events) none ∙ ap event_lines h.events;
-}
-
-pub not_listed : (from : yaml_encoding_t) (input : List ℕ) (r : Coming) (f : yaml_fault_t) → Reads from input r → IsFaultOf r.ending f → IsMemoryFault f ⊎ IsFaulty from input (fault_of f)
-not_listed from input r f h e = fault_met from input r f h e
+listed from input r lines old h none e l = (sym h.ending ∙ e, l ∙ ap (λ (z : List ℕ). z ++ event_lines r.events) none ∙ ap event_lines h.events)
 
 -- a line more
 pub told_on : (all lines new : List ℕ) (before after : Coming) (v : Event) → lines ++ event_lines before.events ≡ all → GivesFront v before after → new ≡ lines ++ event_line v.body
@@ -56,98 +47,92 @@ told_on all lines new before after v h f n =
 
 -- ---- writing
 
-pub then_rest : (P : Fault → Type 0) (ends : Bool) (r r' : Coming) (e e' e'' : Emitter) (result : Result (Unit {0}) yaml_fault_t)
-    → r'.ending ≡ r.ending → Leads ends e r.events e' r'.events → WritesAll ends r' e' result e'' → WritesOrJudges P ends r e result e''
-then_rest P ends r r' e e' e'' (Ok done) h l w = (
+-- The rest was written behind a front.
+pub then_rest : (ends : Bool) (r r' : Coming) (e e' e'' : Emitter) (result : Result (Unit {0}) yaml_fault_t)
+    → r'.ending ≡ r.ending → Leads ends e r.events e' r'.events → WritesAll ends r' e' result e'' → WritesAll ends r e result e''
+then_rest ends r r' e e' e'' (Ok done) h l w = (
   sym h ∙ w.0,
   record {
-    completes = λ utf8 x whole c. w.1.completes (l.utf8 utf8) x whole (l.completes utf8 x whole c);
-    utf8 = λ utf8. tt;
+    completes = λ x whole c. w.1.completes x whole (l.completes x whole c);
     limit = w.1.limit ∙ l.limit;
   },
 )
-then_rest P ends r r' e e' e'' (Err f) h l w = inl (elim w [ inl m ↦ inl m | inr k ↦ inr (sym h ∙ k) ])
+then_rest ends r r' e e' e'' (Err f) h l w = elim w [ inl m ↦ inl m | inr k ↦ inr (sym h ∙ k) ]
 
-pub not_judged : (P : Fault → Type 0) (ending : Option Fault) (f : yaml_fault_t) → IsMemoryFault f ⊎ P (fault_of f) → IsFaultOf ending f ⊎ P (fault_of f)
-not_judged P ending f h = elim h [ inl m ↦ inl (inl m) | inr k ↦ inr k ]
+-- the fault that another reading met is this one's
+pub met_again : (from : yaml_encoding_t) (input : List ℕ) (ending : Option Fault) (f : yaml_fault_t) → ending ≡ ending_of from input → IsMemoryFault f ⊎ IsFaulty from input (fault_of f) → IsFaultOf ending f
+met_again from input ending f e h = elim h [ inl m ↦ inl m | inr k ↦ inr (e ∙ k) ]
 
-pub not_written : (from : yaml_encoding_t) (input : List ℕ) (r : Coming) (f : yaml_fault_t) → Reads from input r → IsFaultOf r.ending f ⊎ IsFaulty from input (fault_of f)
-    → IsMemoryFault f ⊎ (IsFaulty from input (fault_of f) ⊎ IsRight from input)
-not_written from input r f h e =
-    elim e [ inl k ↦ elim (fault_met from input r f h k) [ inl m ↦ inl m | inr q ↦ inr (inl q) ] | inr q ↦ inr (inl q) ]
-
-pub wrote : (from : yaml_encoding_t) (input : List ℕ) (settings : yaml_settings_t) (canonical : Bool) (r : Coming) (old new : Emitter) (result : Result (Vec ℕ Global) yaml_fault_t)
-    → Reads from input r → IsUnder old (wishes_under settings canonical) settings.limit → (r.ending ≡ None) × Leads canonical old r.events new [] → Finishes new result
-    → Answers bytes_of (IsWritten from input settings canonical) result
-wrote from input settings canonical r old new (Ok text) h u l f = laid_out from input settings canonical r old new text.items h u l.0 l.1 f
-wrote from input settings canonical r old new (Err f) h u l e = inr (inr (right from input r h l.0))
+pub not_written : (from : yaml_encoding_t) (input : List ℕ) (settings : yaml_settings_t) (canonical : Bool) (r : Coming) (f : yaml_fault_t) → Reads from input r → IsFaultOf r.ending f
+    → IsMemoryFault f ⊎ (IsFaulty from input (fault_of f) ⊎ IsTooLong from input settings canonical (fault_of f))
+not_written from input settings canonical r f h e = elim (fault_met from input r f h e) [ inl m ↦ inl m | inr q ↦ inr (inl q) ]
 
 -- ---- forms
 
-in_form : (from : yaml_encoding_t) (settings : yaml_settings_t) (input text : List ℕ) (form : yaml_form_t) → (settings.canonical ≡ false → IsNotReadBack from settings input)
+in_form : (from : yaml_encoding_t) (settings : yaml_settings_t) (input text : List ℕ) (form : yaml_form_t) → IsCanonicalDue settings.canonical from settings input
     → IsInCanonicalForm from settings input (Ok (text, form)) → IsReformatted from settings input (Ok (text, form))
 unfolding IsReformatted
-in_form from settings input text Canonical n h = (h, n)
+in_form from settings input text Canonical n h = (n, h)
 in_form from settings input text Pretty n h = absurd h
 
-canonical_answer : (from : yaml_encoding_t) (settings : yaml_settings_t) (input : List ℕ) (result : Result (Vec ℕ Global × yaml_form_t) yaml_fault_t) → (settings.canonical ≡ false → IsNotReadBack from settings input)
-    → Answers text_and_form (IsInCanonicalForm from settings input) result → Answers text_and_form (IsReformatted from settings input) result
+canonical_fault : (from : yaml_encoding_t) (settings : yaml_settings_t) (input : List ℕ) (f : Fault) → IsCanonicalDue settings.canonical from settings input
+    → IsInCanonicalForm from settings input (Err f) → IsReformatted from settings input (Err f)
 unfolding IsReformatted
-canonical_answer from settings input (Ok a) n h = in_form from settings input a.0.items a.1 n h
-canonical_answer from settings input (Err f) n h = h
+canonical_fault from settings input f n h = elim h [ inl q ↦ inl q | inr p ↦ inr (inr (n, p)) ]
 
-not_false : (b : Bool) {P : Type 0} → b ≡ true → b ≡ false → P
-not_false b h k = absurd (cc)
+canonical_answer : (from : yaml_encoding_t) (settings : yaml_settings_t) (input : List ℕ) (result : Result (Vec ℕ Global × yaml_form_t) yaml_fault_t) → IsCanonicalDue settings.canonical from settings input
+    → Answers text_and_form (IsInCanonicalForm from settings input) result → Answers text_and_form (IsReformatted from settings input) result
+canonical_answer from settings input (Ok a) n h = in_form from settings input a.0.items a.1 n h
+canonical_answer from settings input (Err f) n h = elim h [ inl m ↦ inl m | inr k ↦ inr (canonical_fault from settings input (fault_of f) n k) ]
+
+due_true : (b : Bool) (from : yaml_encoding_t) (settings : yaml_settings_t) (input : List ℕ) → b ≡ true → IsCanonicalDue b from settings input
+due_true true from settings input e = tt
+due_true false from settings input e = absurd (cc)
+
+due_false : (b : Bool) (from : yaml_encoding_t) (settings : yaml_settings_t) (input pretty : List ℕ) → b ≡ false → IsLaidOut from input settings false pretty → ¬ ReadsBack from input pretty → IsCanonicalDue b from settings input
+due_false true from settings input pretty e l d = absurd (cc)
+due_false false from settings input pretty e l d = record { pretty = pretty; laid = l; differs = d }
 
 pub asked_for : (from : yaml_encoding_t) (settings : yaml_settings_t) (input : List ℕ) (result : Result (Vec ℕ Global × yaml_form_t) yaml_fault_t) → settings.canonical ≡ true
     → Answers text_and_form (IsInCanonicalForm from settings input) result → Answers text_and_form (IsReformatted from settings input) result
-asked_for from settings input result c h = canonical_answer from settings input result (λ k. not_false settings.canonical c k) h
+asked_for from settings input result c h = canonical_answer from settings input result (due_true settings.canonical from settings input c) h
 
-pub fallen_back : (from : yaml_encoding_t) (settings : yaml_settings_t) (input : List ℕ) (result : Result (Vec ℕ Global × yaml_form_t) yaml_fault_t) (pretty : List ℕ)
+pub fallen_back : (from : yaml_encoding_t) (settings : yaml_settings_t) (input : List ℕ) (result : Result (Vec ℕ Global × yaml_form_t) yaml_fault_t) (pretty : List ℕ) → settings.canonical ≡ false
     → IsLaidOut from input settings false pretty → IsReadBack from input pretty (Ok false)
     → Answers text_and_form (IsInCanonicalForm from settings input) result → Answers text_and_form (IsReformatted from settings input) result
-fallen_back from settings input result pretty l d h = canonical_answer from settings input result (λ k. record { pretty = pretty; laid = l; differ = d }) h
+fallen_back from settings input result pretty c l d h = canonical_answer from settings input result (due_false settings.canonical from settings input pretty c l d) h
+
+-- a refusal of the pretty form
+pub pretty_refused : (from : yaml_encoding_t) (settings : yaml_settings_t) (input : List ℕ) (f : yaml_fault_t) → settings.canonical ≡ false
+    → IsMemoryFault f ⊎ IsWritten from input settings false (Err (fault_of f)) → IsMemoryFault f ⊎ IsReformatted from settings input (Err (fault_of f))
+unfolding IsReformatted
+pretty_refused from settings input f c h = elim h [ inl m ↦ inl m | inr k ↦ inr (elim k [ inl q ↦ inl q | inr p ↦ inr (inl (c, p)) ]) ]
 
 -- a refusal of the reading back is want of memory
-pub memory_alone : (from : yaml_encoding_t) (input : List ℕ) (f : yaml_fault_t) → IsMemoryFault f ⊎ ⊥ → IsMemoryFault f ⊎ (IsFaulty from input (fault_of f) ⊎ IsRight from input)
-memory_alone from input f h = elim h [ inl m ↦ inl m | inr k ↦ absurd k ]
+pub memory_alone : {P : Type 0} (f : yaml_fault_t) → IsMemoryFault f ⊎ ⊥ → IsMemoryFault f ⊎ P
+memory_alone f h = elim h [ inl m ↦ inl m | inr k ↦ absurd k ]
 
 -- ---- two inputs
 
-pub read_back : (from : yaml_encoding_t) (input text : List ℕ) (p q : Coming) (result : Result Bool yaml_fault_t) → Reads from input p → Reads YAML_ANY_ENCODING text q
+pub read_back : (from : yaml_encoding_t) (input text : List ℕ) (p q : Coming) (result : Result Bool yaml_fault_t) → Reads from input p → Reads YAML_ANY_ENCODING text q → IsRight from input
     → ReadsAlike p q result → Answers (λ (same : Bool). same) (IsReadBack from input text) result
-read_back from input text p q (Ok true) h k e = record {
-  first = h.tokens;
-  second = k.tokens;
-  first_handed = h.handed;
-  second_handed = k.handed;
-  first_right = sym h.ending ∙ e.first_ending;
-  second_right = sym k.ending ∙ e.second_ending;
-  told = (λ t. ap contents (sym h.events) ∙ e.same ∙ ap contents k.events, λ s. refl);
+read_back from input text p q (Ok true) h k r e = record {
+  right = sym k.ending ∙ e.second_ending;
+  same = ap contents (sym h.events) ∙ e.same ∙ ap contents k.events;
 }
-read_back from input text p q (Ok false) h k e = record {
-  first = h.tokens;
-  second = k.tokens;
-  first_handed = h.handed;
-  second_handed = k.handed;
-  differ = λ a b s. e (h.ending ∙ a) (k.ending ∙ b) (ap contents h.events ∙ s ∙ ap contents (sym k.events));
-}
-read_back from input text p q (Err f) h k e = inl e
+read_back from input text p q (Ok false) h k r e = λ b. e (h.ending ∙ r) (k.ending ∙ b.right) (ap contents h.events ∙ b.same ∙ ap contents (sym k.events))
+read_back from input text p q (Err f) h k r e = inl e
 
 side_fault : (a_from : yaml_encoding_t) (a : List ℕ) (b_from : yaml_encoding_t) (b : List ℕ) (p q : Coming) (side : yaml_side_t) (f : yaml_fault_t) → Reads a_from a p → Reads b_from b q
     → IsSideFault p q side f → IsMemoryFault f ⊎ IsSideFaulty a_from a b_from b side (fault_of f)
 side_fault a_from a b_from b p q First f h k e = fault_met a_from a p f h e
-side_fault a_from a b_from b p q Second f h k e = elim e [ inl m ↦ inl m | inr z ↦ inr (right a_from a p h z.0, faulty b_from b q (fault_of f) k z.1) ]
+side_fault a_from a b_from b p q Second f h k e = elim e [ inl m ↦ inl m | inr z ↦ inr (sym h.ending ∙ z.0, sym k.ending ∙ z.1) ]
 
 pub same_told : (a_from : yaml_encoding_t) (a : List ℕ) (b_from : yaml_encoding_t) (b : List ℕ) (p q : Coming) (result : Result Bool (yaml_side_t × yaml_fault_t)) → Reads a_from a p → Reads b_from b q
     → Compares p q result → IsSame a_from a b_from b result
 same_told a_from a b_from b p q (Ok same) h k e = record {
-  first = h.tokens;
-  second = k.tokens;
-  first_handed = h.handed;
-  second_handed = k.handed;
-  first_right = sym h.ending ∙ e.first_ending;
-  second_right = sym k.ending ∙ e.second_ending;
+  first = sym h.ending ∙ e.first_ending;
+  second = sym k.ending ∙ e.second_ending;
   told = (
     λ t. ap contents (sym h.events) ∙ e.told.0 t ∙ ap contents k.events,
     λ s. e.told.1 (ap contents h.events ∙ s ∙ ap contents (sym k.events)),

@@ -1,25 +1,21 @@
 -- From what a reading and an emitter say to what is said of the input.
-use Rattle.std.proofs.Common.{◌≡◌, ◌∙◌, sym, subst, ℕ, List, [], Bool, true, Some, None}
+use Rattle.std.proofs.Common.{◌≡◌, ◌⊎◌, ◌∙◌, inl, inr, sym, subst, ℕ, List, [], Bool, true, Some, None, Result, Ok, Err, Vec}
+use Rattle.std.specs.Global.{Global}
 use Rattle.yaml_scan.specs.declared.yaml_encoding_t.{yaml_encoding_t}
-use Rattle.yaml_scan.specs.Faults.{Fault}
+use Rattle.yaml_scan.specs.declared.yaml_fault_t.{yaml_fault_t}
+use Rattle.yaml_scan.specs.Faults.{Fault, fault_of, IsMemoryFault, Answers}
 use Rattle.yaml_parse.specs.Coming.{Coming}
 use Rattle.yaml_parse.specs.Resolve.{Told}
 use Rattle.yaml_emit.specs.Content.{Event}
-use Rattle.yaml_emit.specs.Emitter.{Emitter, Completes, CompletesBy, IsStream}
-use Rattle.yaml_emit.specs.Text.{Item, encode}
+use Rattle.yaml_emit.specs.Emitter.{Emitter, Completes, CompletesBy, IsStream, IsLimited, Passes}
+use Rattle.yaml_emit.specs.Text.{Item, encode, is_deep}
 use Rattle.yaml_emit_text.specs.declared.Encoding.{Encoding}
 use Rattle.yaml_emit_text.specs.declared.Wishes.{Wishes}
 use Rattle.yaml_round.specs.declared.settings.yaml_settings_t.{yaml_settings_t}
-use Rattle.yaml_round.specs.Reading.{AreUtf8, said_all}
-use Rattle.yaml_round.specs.Writing.{IsUnder, Leads, wishes_under}
-use Rattle.yaml_round.specs.Input.{Reads}
-use Rattle.yaml_round.specs.Answers.{IsLaidOut, IsFaulty, IsRight}
-
-pub faulty : (from : yaml_encoding_t) (input : List ℕ) (r : Coming) (f : Fault) → Reads from input r → r.ending ≡ Some f → IsFaulty from input f
-faulty from input r f h e = record { tokens = h.tokens; handed = h.handed; ends = sym h.ending ∙ e }
-
-pub right : (from : yaml_encoding_t) (input : List ℕ) (r : Coming) → Reads from input r → r.ending ≡ None → IsRight from input
-right from input r h e = record { tokens = h.tokens; handed = h.handed; right = sym h.ending ∙ e }
+use Rattle.yaml_round.specs.Reading.{said_all}
+use Rattle.yaml_round.specs.Writing.{IsUnder, Leads, Finishes, wishes_under}
+use Rattle.yaml_round.specs.Input.{Reads, events_of}
+use Rattle.yaml_round.specs.Answers.{IsLayout, IsPast, IsFaulty, IsRight, IsWritten, bytes_of}
 
 -- a fresh emitter completes the streams of its settings
 starts_at : (b : Bool) (e : Emitter) (w : Wishes) (x : Encoding) (es : List Event) (whole : List Item) → b ≡ true → e.wishes ≡ w → IsStream w x es whole → CompletesBy b e x es whole
@@ -29,16 +25,38 @@ pub starts : (e : Emitter) (w : Wishes) (limit : ℕ) (x : Encoding) (es : List 
 unfolding Completes
 starts e w limit x es whole h s = starts_at e.fresh e w x es whole h.fresh h.wishes s
 
-pub laid_out : (from : yaml_encoding_t) (input : List ℕ) (settings : yaml_settings_t) (canonical : Bool) (r : Coming) (old new : Emitter) (text : List ℕ)
-    → Reads from input r → IsUnder old (wishes_under settings canonical) settings.limit → r.ending ≡ None → Leads canonical old r.events new []
-    → ((x : Encoding) (whole : List Item) → Completes new x [] whole → text ≡ encode x whole) → IsLaidOut from input settings canonical text
-laid_out from input settings canonical r old new text h u e l f = record {
-  tokens = h.tokens;
-  handed = h.handed;
-  right = sym h.ending ∙ e;
-  laid = λ utf8 x whole s.
-      f x whole
-      (l.completes (subst AreUtf8 (sym h.events) utf8) x whole
+-- The emitter was fresh, and what was given to it led to what it is now: it completes the streams of these events.
+abbrev pub Led : Wishes → ℕ → List Event → Emitter → List Event → Type 0
+Led w limit es e left = (e.limit ≡ limit) × ((x : Encoding) (whole : List Item) → IsStream w x es whole → Completes e x left whole)
+
+pub layout : (w : Wishes) (limit : ℕ) (es : List Event) (e : Emitter) (text : List ℕ) → Led w limit es e [] → ((x : Encoding) (whole : List Item) → Completes e x [] whole → text ≡ encode x whole) → IsLayout w es text
+layout w limit es e text l f = λ x whole s. f x whole (l.1 x whole s)
+
+-- a fault is want of memory, or a limit that the layout passes
+pub past : (w : Wishes) (limit : ℕ) (es : List Event) (e : Emitter) (left : List Event) (f : yaml_fault_t) → Led w limit es e left → IsLimited e (fault_of f) → IsMemoryFault f ⊎ IsPast w limit es (fault_of f)
+past w limit es e left f l h = elim h [
+  | inl m ↦ inl m
+  | inr p ↦ inr (λ x whole s. subst (λ (n : ℕ). Passes n (encode x whole) (is_deep whole) (fault_of f)) l.0 (p x left whole (l.1 x whole s)))
+]
+
+-- all events of a reading
+pub led : (from : yaml_encoding_t) (input : List ℕ) (settings : yaml_settings_t) (canonical : Bool) (r : Coming) (old new : Emitter)
+    → Reads from input r → IsUnder old (wishes_under settings canonical) settings.limit → Leads canonical old r.events new []
+    → Led (wishes_under settings canonical) settings.limit (said_all canonical (events_of from input)) new []
+led from input settings canonical r old new h u l = (
+  l.limit ∙ u.limit,
+  λ x whole s. l.completes x whole
       (starts old (wishes_under settings canonical) settings.limit x (said_all canonical r.events) whole u
-      (subst (λ (es : List Told). IsStream (wishes_under settings canonical) x (said_all canonical es) whole) (sym h.events) s)));
-}
+      (subst (λ (es : List Told). IsStream (wishes_under settings canonical) x (said_all canonical es) whole) (sym h.events) s)),
+)
+
+pub wrote : (from : yaml_encoding_t) (input : List ℕ) (settings : yaml_settings_t) (canonical : Bool) (r : Coming) (old new : Emitter) (result : Result (Vec ℕ Global) yaml_fault_t)
+    → Reads from input r → IsUnder old (wishes_under settings canonical) settings.limit → (r.ending ≡ None) × Leads canonical old r.events new [] → Finishes new result
+    → Answers bytes_of (IsWritten from input settings canonical) result
+wrote from input settings canonical r old new (Ok text) h u l f =
+    (sym h.ending ∙ l.0, layout _ settings.limit _ new text.items (led from input settings canonical r old new h u l.1) f.1)
+wrote from input settings canonical r old new (Err f) h u l e =
+    elim (past _ settings.limit _ new [] f (led from input settings canonical r old new h u l.1) e) [
+      | inl m ↦ inl m
+      | inr p ↦ inr (inr (sym h.ending ∙ l.0, p))
+    ]

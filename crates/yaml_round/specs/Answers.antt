@@ -1,23 +1,22 @@
--- What the engine answers, texts in place of vectors and references. `tokens` are those that were read of an input.
+-- What the engine answers to an input, texts in place of vectors and references.
 use Rattle.std.specs.Prelude.{◌≡◌, ◌⊎◌, ◌↔◌, IsTrue, true, false, ℕ, Bool, List, Option, None, Some, Result, Ok, Err, Vec}
 use Rattle.yaml_scan.specs.declared.yaml_encoding_t.{yaml_encoding_t}
 use Rattle.yaml_scan.specs.declared.yaml_encoding_t.TheVariants.{YAML_ANY_ENCODING}
 use Rattle.yaml_scan.specs.declared.yaml_fault_t.{yaml_fault_t}
 use Rattle.yaml_scan.specs.Faults.{Fault, fault_of, IsMemoryFault}
-use Rattle.yaml_emit.specs.Text.{Item, encode}
-use Rattle.yaml_emit.specs.Emitter.{IsStream}
+use Rattle.yaml_emit.specs.Content.{Event}
+use Rattle.yaml_emit.specs.Text.{Item, encode, is_deep}
+use Rattle.yaml_emit.specs.Emitter.{IsStream, Passes}
 use Rattle.yaml_emit_text.specs.declared.Encoding.{Encoding}
-use Rattle.yaml_round_source.specs.List.{TokenList}
+use Rattle.yaml_emit_text.specs.declared.Wishes.{Wishes}
 use Rattle.yaml_round.specs.declared.settings.yaml_settings_t.{yaml_settings_t}
 use Rattle.yaml_round.specs.declared.settings.yaml_side_t.{yaml_side_t}
 use Rattle.yaml_round.specs.declared.settings.yaml_side_t.TheVariants.{First, Second}
 use Rattle.yaml_round.specs.declared.settings.yaml_form_t.{yaml_form_t}
 use Rattle.yaml_round.specs.declared.settings.yaml_form_t.TheVariants.{Canonical, Pretty}
-use Rattle.yaml_round.specs.declared.settings.yaml_command_t.{yaml_command_t}
-use Rattle.yaml_round.specs.declared.settings.yaml_command_t.TheVariants.{Fmt, Docs, Events}
-use Rattle.yaml_round.specs.Reading.{AreUtf8, said_all, contents, event_lines}
+use Rattle.yaml_round.specs.Reading.{said_all, contents, event_lines}
 use Rattle.yaml_round.specs.Writing.{wishes_under}
-use Rattle.yaml_round.specs.Input.{IsHandedOut, events_of, ending_of}
+use Rattle.yaml_round.specs.Input.{events_of, ending_of}
 
 abbrev pub text_and_form : {A : Type 0} → Vec ℕ A × yaml_form_t → List ℕ × yaml_form_t
 text_and_form answer = (answer.0.items, answer.1)
@@ -30,111 +29,106 @@ bytes_of text = text.items
 
 -- ---- what is said of one input
 
--- the input is refused with that fault
-pub record IsFaulty (from : yaml_encoding_t) (input : List ℕ) (fault : Fault) : Type 0 where
-  pub tokens : TokenList
-  pub handed : IsHandedOut from input tokens
-  pub ends : ending_of tokens ≡ Some fault
-
 -- the input is accepted
-pub record IsRight (from : yaml_encoding_t) (input : List ℕ) : Type 0 where
-  pub tokens : TokenList
-  pub handed : IsHandedOut from input tokens
-  pub right : ending_of tokens ≡ None
+abbrev pub IsRight : yaml_encoding_t → List ℕ → Type 0
+IsRight from input = ending_of from input ≡ None
 
--- The text is the layout of the input's events, evened, in canonical form or in pretty form: wherever they are the events of
--- a stream in which nothing is wrong. It is said of texts in UTF-8: those of tokens are.
-pub record IsLaidOut (from : yaml_encoding_t) (input : List ℕ) (settings : yaml_settings_t) (canonical : Bool) (text : List ℕ) : Type 0 where
-  pub tokens : TokenList
-  pub handed : IsHandedOut from input tokens
-  pub right : ending_of tokens ≡ None
-  pub laid : AreUtf8 (events_of tokens) → (x : Encoding) (whole : List Item) → IsStream (wishes_under settings canonical) x (said_all canonical (events_of tokens)) whole → text ≡ encode x whole
-
--- a line for each event of the input
-pub record IsTold (from : yaml_encoding_t) (input : List ℕ) (lines : List ℕ) : Type 0 where
-  pub tokens : TokenList
-  pub handed : IsHandedOut from input tokens
-  pub right : ending_of tokens ≡ None
-  pub told : lines ≡ event_lines (events_of tokens)
-
--- ---- two inputs
-
--- both are accepted, and `same` tells whether their contents are equal
-pub record IsCompared (a_from : yaml_encoding_t) (a : List ℕ) (b_from : yaml_encoding_t) (b : List ℕ) (same : Bool) : Type 0 where
-  pub first : TokenList
-  pub second : TokenList
-  pub first_handed : IsHandedOut a_from a first
-  pub second_handed : IsHandedOut b_from b second
-  pub first_right : ending_of first ≡ None
-  pub second_right : ending_of second ≡ None
-  pub told : IsTrue same ↔ (contents (events_of first) ≡ contents (events_of second))
-
--- the first fault: that of the second input only where the first is accepted
-abbrev pub IsSideFaulty : yaml_encoding_t → List ℕ → yaml_encoding_t → List ℕ → yaml_side_t → Fault → Type 0
-IsSideFaulty a_from a b_from b First fault = IsFaulty a_from a fault
-IsSideFaulty a_from a b_from b Second fault = IsRight a_from a × IsFaulty b_from b fault
-
--- one of the inputs is refused, or their contents differ
-pub record Differ (a_from : yaml_encoding_t) (a : List ℕ) (b_from : yaml_encoding_t) (b : List ℕ) : Type 0 where
-  pub first : TokenList
-  pub second : TokenList
-  pub first_handed : IsHandedOut a_from a first
-  pub second_handed : IsHandedOut b_from b second
-  pub differ : ending_of first ≡ None → ending_of second ≡ None → contents (events_of first) ≡ contents (events_of second) → ⊥
+-- the input is refused with that fault
+abbrev pub IsFaulty : yaml_encoding_t → List ℕ → Fault → Type 0
+IsFaulty from input fault = ending_of from input ≡ Some fault
 
 -- the input is read to its end, and its fault is the answer
 abbrev pub IsJudged : yaml_encoding_t → List ℕ → Result (Unit {0}) Fault → Type 0
 IsJudged from input (Ok done) = IsRight from input
 IsJudged from input (Err fault) = IsFaulty from input fault
 
+-- a line for each event of the input
+abbrev pub IsTold : yaml_encoding_t → List ℕ → List ℕ → Type 0
+IsTold from input lines = IsRight from input × (lines ≡ event_lines (events_of from input))
+
+abbrev pub IsListed : yaml_encoding_t → List ℕ → Result (List ℕ) Fault → Type 0
+IsListed from input (Ok lines) = IsTold from input lines
+IsListed from input (Err fault) = IsFaulty from input fault
+
+-- ---- two inputs
+
+abbrev pub SameContent : yaml_encoding_t → List ℕ → yaml_encoding_t → List ℕ → Type 0
+SameContent a_from a b_from b = contents (events_of a_from a) ≡ contents (events_of b_from b)
+
+-- both are accepted, and `same` tells whether their contents are equal
+pub record IsCompared (a_from : yaml_encoding_t) (a : List ℕ) (b_from : yaml_encoding_t) (b : List ℕ) (same : Bool) : Type 0 where
+  pub first : IsRight a_from a
+  pub second : IsRight b_from b
+  pub told : IsTrue same ↔ SameContent a_from a b_from b
+
+-- the first fault: that of the second input only where the first is accepted
+abbrev pub IsSideFaulty : yaml_encoding_t → List ℕ → yaml_encoding_t → List ℕ → yaml_side_t → Fault → Type 0
+IsSideFaulty a_from a b_from b First fault = IsFaulty a_from a fault
+IsSideFaulty a_from a b_from b Second fault = IsRight a_from a × IsFaulty b_from b fault
+
 -- the answer of a comparison
 abbrev pub IsSame : yaml_encoding_t → List ℕ → yaml_encoding_t → List ℕ → Result Bool (yaml_side_t × yaml_fault_t) → Type 0
 IsSame a_from a b_from b (Ok same) = IsCompared a_from a b_from b same
 IsSame a_from a b_from b (Err f) = IsMemoryFault f.1 ⊎ IsSideFaulty a_from a b_from b f.0 (fault_of f.1)
 
--- the lines of an input's events
-abbrev pub IsListed : yaml_encoding_t → List ℕ → Result (List ℕ) Fault → Type 0
-IsListed from input (Ok lines) = IsTold from input lines
-IsListed from input (Err fault) = IsFaulty from input fault
+-- ---- layouts
 
--- whether a text, read as its byte order mark tells, has the input's content
-abbrev pub IsReadBack : yaml_encoding_t → List ℕ → List ℕ → Result Bool Fault → Type 0
-IsReadBack from input text (Ok true) = IsCompared from input YAML_ANY_ENCODING text true
-IsReadBack from input text (Ok false) = Differ from input YAML_ANY_ENCODING text
-IsReadBack from input text (Err fault) = ⊥
+-- The text is the layout of these events, wherever they are those of a stream in which nothing is wrong.
+abbrev pub IsLayout : Wishes → List Event → List ℕ → Type 0
+IsLayout wishes events text = (x : Encoding) (whole : List Item) → IsStream wishes x events whole → text ≡ encode x whole
+
+-- The fault names a limit that the layout passes.
+abbrev pub IsPast : Wishes → ℕ → List Event → Fault → Type 0
+IsPast wishes limit events fault = (x : Encoding) (whole : List Item) → IsStream wishes x events whole → Passes limit (encode x whole) (is_deep whole) fault
+
+-- the layout of the input's events, evened, in canonical form or in pretty form
+abbrev pub IsLaidOut : yaml_encoding_t → List ℕ → yaml_settings_t → Bool → List ℕ → Type 0
+IsLaidOut from input settings canonical text = IsRight from input × IsLayout (wishes_under settings canonical) (said_all canonical (events_of from input)) text
+
+-- The input is accepted, and that layout passes the limit that the fault names.
+abbrev pub IsTooLong : yaml_encoding_t → List ℕ → yaml_settings_t → Bool → Fault → Type 0
+IsTooLong from input settings canonical fault = IsRight from input × IsPast (wishes_under settings canonical) settings.limit (said_all canonical (events_of from input)) fault
+
+-- the layout, the input's fault, or a limit
+abbrev pub IsWritten : yaml_encoding_t → List ℕ → yaml_settings_t → Bool → Result (List ℕ) Fault → Type 0
+IsWritten from input settings canonical (Ok text) = IsLaidOut from input settings canonical text
+IsWritten from input settings canonical (Err fault) = IsFaulty from input fault ⊎ IsTooLong from input settings canonical fault
 
 -- ---- rewriting
 
--- the layout of the input, its fault, or, where it has none, the emitter's
-abbrev pub IsWritten : yaml_encoding_t → List ℕ → yaml_settings_t → Bool → Result (List ℕ) Fault → Type 0
-IsWritten from input settings canonical (Ok text) = IsLaidOut from input settings canonical text
-IsWritten from input settings canonical (Err fault) = IsFaulty from input fault ⊎ IsRight from input
+-- The text, read as its byte order mark tells, is accepted and has the input's content.
+pub record ReadsBack (from : yaml_encoding_t) (input text : List ℕ) : Type 0 where
+  pub right : IsRight YAML_ANY_ENCODING text
+  pub same : SameContent from input YAML_ANY_ENCODING text
 
--- a text in pretty form has not the input's content
+-- whether a text reads back
+abbrev pub IsReadBack : yaml_encoding_t → List ℕ → List ℕ → Result Bool Fault → Type 0
+IsReadBack from input text (Ok true) = ReadsBack from input text
+IsReadBack from input text (Ok false) = ¬ ReadsBack from input text
+IsReadBack from input text (Err fault) = ⊥
+
+-- the input's pretty form doesn't read back
 pub record IsNotReadBack (from : yaml_encoding_t) (settings : yaml_settings_t) (input : List ℕ) : Type 0 where
   pub pretty : List ℕ
   pub laid : IsLaidOut from input settings false pretty
-  pub differ : Differ from input YAML_ANY_ENCODING pretty
+  pub differs : ¬ ReadsBack from input pretty
 
 -- the answer of the engine in canonical form
 abbrev pub IsInCanonicalForm : yaml_encoding_t → yaml_settings_t → List ℕ → Result (List ℕ × yaml_form_t) Fault → Type 0
 IsInCanonicalForm from settings input (Ok (text, Canonical)) = IsLaidOut from input settings true text
 IsInCanonicalForm from settings input (Ok (text, Pretty)) = ⊥
-IsInCanonicalForm from settings input (Err fault) = IsFaulty from input fault ⊎ IsRight from input
+IsInCanonicalForm from settings input (Err fault) = IsFaulty from input fault ⊎ IsTooLong from input settings true fault
 
--- The engine may answer this to the input under the settings. A pretty text was read back; canonical form is answered where
--- it was asked for, or where the pretty text doesn't read back.
+-- Canonical form is due: it is asked for, or the pretty form doesn't read back.
+abbrev pub IsCanonicalDue : Bool → yaml_encoding_t → yaml_settings_t → List ℕ → Type 0
+IsCanonicalDue true from settings input = Unit {0}
+IsCanonicalDue false from settings input = IsNotReadBack from settings input
+
+-- The engine may answer this to the input under the settings: the form that is due, the input's fault, or the limit that a
+-- form that is due passes.
 unfoldable pub IsReformatted : yaml_encoding_t → yaml_settings_t → List ℕ → Result (List ℕ × yaml_form_t) Fault → Type 0
-IsReformatted from settings input (Ok (text, Canonical)) = IsLaidOut from input settings true text × (settings.canonical ≡ false → IsNotReadBack from settings input)
-IsReformatted from settings input (Ok (text, Pretty)) = (settings.canonical ≡ false) × (IsLaidOut from input settings false text × IsCompared from input YAML_ANY_ENCODING text true)
-IsReformatted from settings input (Err fault) = IsFaulty from input fault ⊎ IsRight from input
-
--- a run of the command may answer this
-abbrev pub IsRunAnswer : yaml_command_t → yaml_encoding_t → yaml_settings_t → List ℕ → Result (List ℕ × Option yaml_form_t) Fault → Type 0
-IsRunAnswer Fmt from settings input (Ok (text, Some form)) = IsReformatted from settings input (Ok (text, form))
-IsRunAnswer Fmt from settings input (Ok (text, None)) = ⊥
-IsRunAnswer Fmt from settings input (Err fault) = IsReformatted from settings input (Err fault)
-IsRunAnswer Docs from settings input (Ok (text, form)) = form ≡ Some Canonical
-IsRunAnswer Docs from settings input (Err fault) = Unit {0}
-IsRunAnswer Events from settings input (Ok (text, form)) = (form ≡ None) × IsTold from input text
-IsRunAnswer Events from settings input (Err fault) = IsFaulty from input fault
+IsReformatted from settings input (Ok (text, Canonical)) = IsCanonicalDue settings.canonical from settings input × IsLaidOut from input settings true text
+IsReformatted from settings input (Ok (text, Pretty)) = (settings.canonical ≡ false) × (IsLaidOut from input settings false text × ReadsBack from input text)
+IsReformatted from settings input (Err fault) =
+    IsFaulty from input fault
+    ⊎ (((settings.canonical ≡ false) × IsTooLong from input settings false fault) ⊎ (IsCanonicalDue settings.canonical from settings input × IsTooLong from input settings true fault))

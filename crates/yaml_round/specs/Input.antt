@@ -1,27 +1,33 @@
--- What is read of an input: tokens, and the events that the parser makes of them.
+-- What an input says: its tokens as a parser takes them, the events that those make, and the fault that ends them.
 use Rattle.std.specs.Prelude.{◌≡◌, ℕ, List, Option}
 use Rattle.yaml_scan.specs.declared.yaml_encoding_t.{yaml_encoding_t}
 use Rattle.yaml_scan.specs.Faults.{Fault}
+use Rattle.yaml_scan.specs.Coming as scan
+use Rattle.yaml_scan.specs.Scanned.{scanned}
 use Rattle.yaml_parse.specs.Coming.{Coming, reading_of}
 use Rattle.yaml_parse.specs.Machine.{run, initial}
-use Rattle.yaml_parse.specs.Resolve.{Told, no_directives}
-use Rattle.yaml_round_source.specs.List.{TokenList}
+use Rattle.yaml_parse.specs.Resolve.{Reading, Told, no_directives}
+use Rattle.yaml_round_adapter.specs.Adapted.{adapted}
 
--- The scanner may hand out these tokens of the input, and the fault that ends them. Which they are its contract doesn't say
--- yet.
-abbrev pub IsHandedOut : yaml_encoding_t → List ℕ → TokenList → Type 0
-IsHandedOut from input tokens = Unit {0}
+-- the scanner's tokens, up to the first tag that isn't UTF-8
+abbrev pub tokens_of : yaml_encoding_t → List ℕ → scan.Coming
+tokens_of from input = adapted (scanned from input)
 
--- the events that the tokens make, and the fault that ends them
-abbrev pub events_of : TokenList → List Told
-events_of tokens = (reading_of (run tokens.tokens initial tokens.fault) no_directives).events
+abbrev pub parsed : scan.Coming → Reading
+parsed c = reading_of (run c.tokens initial c.fault) no_directives
 
-abbrev pub ending_of : TokenList → Option Fault
-ending_of tokens = (reading_of (run tokens.tokens initial tokens.fault) no_directives).ending
+unfoldable pub read : yaml_encoding_t → List ℕ → Reading
+read from input = parsed (tokens_of from input)
+
+-- the events of the input, up to its fault
+abbrev pub events_of : yaml_encoding_t → List ℕ → List Told
+events_of from input = (read from input).events
+
+-- the fault of the input, where it is refused
+abbrev pub ending_of : yaml_encoding_t → List ℕ → Option Fault
+ending_of from input = (read from input).ending
 
 -- a parser that reads the input from its start
 pub record Reads (from : yaml_encoding_t) (input : List ℕ) (parser : Coming) : Type 0 where
-  pub tokens : TokenList
-  pub handed : IsHandedOut from input tokens
-  pub events : parser.events ≡ events_of tokens
-  pub ending : parser.ending ≡ ending_of tokens
+  pub events : parser.events ≡ events_of from input
+  pub ending : parser.ending ≡ ending_of from input

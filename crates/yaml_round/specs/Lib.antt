@@ -4,6 +4,7 @@ pub mod Writing
 pub mod Compare
 pub mod Input
 pub mod Answers
+pub mod Commands
 pub mod Even
 pub mod Content
 pub use Rattle.yaml_round_device.specs.Run

@@ -40,18 +40,14 @@ abbrev pub AreReal : List Told → Type 0
 AreReal [] = Unit {0}
 AreReal (t ∷ ts) = (is_empty t.0.body ≡ false) × AreReal ts
 
--- the texts of the events are UTF-8
-abbrev pub AreUtf8 : List Told → Type 0
-AreUtf8 [] = Unit {0}
-AreUtf8 (t ∷ ts) = HasUtf8 t.0.body × AreUtf8 ts
-
 -- ---- a parser that is read
 
--- the front of what is to come was given, and the rest is left
+-- the front of what is to come was given, and the rest is left; its texts are UTF-8
 pub record GivesFront (e : Event) (old new : Coming) : Type 0 where
   pub events : old.events ≡ (e, new.unasked) ∷ new.events
   pub ending : new.ending ≡ old.ending
   pub real : AreReal new.events
+  pub utf8 : HasUtf8 e.body
 
 -- nothing is to come
 pub record IsOver (c : Coming) : Type 0 where

@@ -7,14 +7,14 @@ use Rattle.yaml_scan.specs.declared.yaml_fault_t.{yaml_fault_t}
 use Rattle.yaml_scan.specs.Faults.{Fault, fault_of}
 use Rattle.yaml_parse.specs.Coming.{Coming}
 use Rattle.yaml_parse.specs.Resolve.{Told}
-use Rattle.yaml_emit.specs.Emitter.{Emitter, Completes}
+use Rattle.yaml_emit.specs.Emitter.{Emitter, Completes, IsLimited}
 use Rattle.yaml_emit.specs.Text.{Item, encode}
 use Rattle.yaml_emit_text.specs.declared.Encoding.{Encoding}
 use Rattle.yaml_emit_text.specs.declared.Wishes.{Wishes}
 use Rattle.yaml_round.specs.declared.settings.yaml_settings_t.{yaml_settings_t}
 use Rattle.yaml_round.specs.declared.settings.yaml_output_encoding_t.{yaml_output_encoding_t}
 use Rattle.yaml_round.specs.declared.settings.yaml_output_encoding_t.TheVariants.{Utf8, Utf16Le, Utf16Be}
-use Rattle.yaml_round.specs.Reading.{said_all, AreReal, AreUtf8, IsFaultOf}
+use Rattle.yaml_round.specs.Reading.{said_all, AreReal, IsFaultOf}
 
 -- ---- the settings of an emitter
 
@@ -39,15 +39,15 @@ pub record IsUnder (e : Emitter) (w : Wishes) (most : ℕ) : Type 0 where
   pub wishes : e.wishes ≡ w
   pub limit : e.limit ≡ most
   pub fresh : e.fresh ≡ true
+  pub opened : e.opened ≡ false
+  pub closed : e.closed ≡ false
   pub fault : e.fault ≡ None
 
 -- ---- events that are given
 
--- With these events to come, evened, from one emitter and those from the other, the text is the same. It is said of texts in
--- UTF-8: those of tokens are.
+-- With these events to come, evened, from one emitter and those from the other, the text is the same.
 pub record Leads (ends : Bool) (old : Emitter) (before : List Told) (new : Emitter) (after : List Told) : Type 0 where
-  pub completes : AreUtf8 before → (x : Encoding) (whole : List Item) → Completes old x (said_all ends before) whole → Completes new x (said_all ends after) whole
-  pub utf8 : AreUtf8 before → AreUtf8 after
+  pub completes : (x : Encoding) (whole : List Item) → Completes old x (said_all ends before) whole → Completes new x (said_all ends after) whole
   pub limit : new.limit ≡ old.limit
 
 -- the reading's events were given to the emitter: all of them, or a front of them
@@ -61,12 +61,7 @@ abbrev pub WritesAll : Bool → Coming → Emitter → Result (Unit {0}) yaml_fa
 WritesAll ends r e (Ok done) e' = (r.ending ≡ None) × Leads ends e r.events e' []
 WritesAll ends r e (Err f) e' = IsFaultOf r.ending f
 
--- All of the reading's events were given to the emitter; or a fault of the input is answered, met by this reading or by another.
-abbrev pub WritesOrJudges : (Fault → Type 0) → Bool → Coming → Emitter → Result (Unit {0}) yaml_fault_t → Emitter → Type 0
-WritesOrJudges IsFault ends r e (Ok done) e' = (r.ending ≡ None) × Leads ends e r.events e' []
-WritesOrJudges IsFault ends r e (Err f) e' = IsFaultOf r.ending f ⊎ IsFault (fault_of f)
-
--- the emitter's text, where it is whole, or its fault
+-- the emitter's text, where it is whole, or its fault: a limit that each text that the emitter completes passes, or want of memory
 abbrev pub Finishes : Emitter → Result (Vec ℕ Global) yaml_fault_t → Type 0
-Finishes e (Ok text) = (x : Encoding) (whole : List Item) → Completes e x [] whole → text.items ≡ encode x whole
-Finishes e (Err f) = e.fault ≡ Some (fault_of f)
+Finishes e (Ok text) = (e.fault ≡ None) × ((x : Encoding) (whole : List Item) → Completes e x [] whole → text.items ≡ encode x whole)
+Finishes e (Err f) = IsLimited e (fault_of f)

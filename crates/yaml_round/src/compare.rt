@@ -1,7 +1,7 @@
 //! Comparisons of inputs, by their events side by side; no tree is held.
 
 ghost use Rattle.yaml_round.specs.Compare.{BothReal, Judges, JudgesNext, StepsOn, Sided, RunsOut, Compares, ReadsAlike};
-ghost use Rattle.yaml_round.specs.Answers.{IsReadBack, IsSame};
+ghost use Rattle.yaml_round.specs.Answers.{IsRight, IsReadBack, IsSame};
 ghost use Rattle.yaml_scan.specs.Faults.{Answers};
 
 use crate::content::agree;
@@ -141,14 +141,15 @@ fn reads_alike<S: yaml_token_source_t, T: yaml_token_source_t>(
     }
 }
 
-/// Whether the text, read as its byte order mark tells, has the content of the input, which was read before without a
-/// fault. Refused only where memory ran out.
+/// Whether the text, read as its byte order mark tells, is accepted and has the content of the input, which is accepted.
+/// Refused only where memory ran out.
 pub(crate) fn reads_back(
     alloc: Global,
     input: &[u8],
     from: yaml_encoding_t,
     text: &[u8],
 ) -> Result<bool, yaml_fault_t>
+    requires { IsRight from input.now }
     ensures { Answers (λ same. same) (IsReadBack from input.now text.now) result }
 {
     let mut first = reading_of(alloc, input, from)?;

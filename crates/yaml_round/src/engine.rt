@@ -1,20 +1,19 @@
 //! The calls that read a text whole and answer another.
 
+ghost use Rattle.std.specs.Prelude.{◌≡◌};
 ghost use Rattle.yaml_scan.specs.Faults.{Answers};
+ghost use Rattle.yaml_round.specs.Input.{ending_of};
 ghost use Rattle.yaml_round.specs.Reading.{AreReal, AddsLines};
-ghost use Rattle.yaml_round.specs.Answers.{IsReformatted, IsInCanonicalForm, IsJudged, IsFaulty, IsWritten, IsListed, text_and_form, bytes_of};
-ghost use Rattle.yaml_round.specs.Writing.{WritesOrJudges};
+ghost use Rattle.yaml_round.specs.Answers.{IsReformatted, IsInCanonicalForm, IsJudged, IsWritten, IsListed, text_and_form, bytes_of};
+ghost use Rattle.yaml_round.specs.Writing.{WritesAll};
 
 use crate::compare::reads_back;
 use crate::reading::{Reading, next_event, read_out, reading_of};
 use crate::settings::{yaml_form_t, yaml_settings_t};
 use crate::writing::{emitter_under, finished, write_rest, write_up_to};
 use std::alloc::Global;
-use yaml_emit::{yaml_emitter_dump, yaml_emitter_t};
-use yaml_parse::{
-    yaml_document_get_root_node, yaml_document_set_end_implicit, yaml_document_t,
-    yaml_parser_between, yaml_parser_load, yaml_parser_t, yaml_token_source_t,
-};
+use yaml_emit::yaml_emitter_t;
+use yaml_parse::{yaml_parser_t, yaml_token_source_t};
 use yaml_round_lines::yaml_push_event_line;
 use yaml_scan::{yaml_encoding_t, yaml_fault_t, yaml_memory_fault, yaml_origin_t};
 
@@ -31,16 +30,18 @@ fn judge(alloc: Global, input: &[u8], from: yaml_encoding_t) -> Result<(), yaml_
 
 // Writes the events to their end. The layout of deep nesting grows with the square of its input: where the text has
 // outgrown the input, the rest is judged before more is written, so that a fault costs no more than the input's size.
+#[tactic(auto, using(crate::proofs::Judging::then_rest, crate::proofs::Judging::met_again))]
 fn write_events(
     alloc: Global,
     input: &[u8],
     from: yaml_encoding_t,
-    reading: &mut Reading,
+    reading: &mut Reading<'_>,
     emitter: &mut yaml_emitter_t,
     canonical: bool,
 ) -> Result<(), yaml_fault_t>
-    requires { AreReal reading.old.events }
-    ensures { WritesOrJudges (IsFaulty from input.now) canonical reading.old emitter.old result emitter.new }
+    requires real { AreReal reading.old.events }
+    requires ending { reading.old.ending ≡ ending_of from input.now }
+    ensures { WritesAll canonical reading.old emitter.old result emitter.new }
 {
     let most = input.len().saturating_mul(OUTGROWN);
     if write_up_to(reading, emitter, canonical, most)? {
@@ -87,7 +88,7 @@ fn in_canonical_form(
 ///
 /// Refusals: a fault of the input (kinds 2, 3 and 4), which comes before a limit; `write error` (kind 6) where the text
 /// has more than `settings.limit` bytes; `indentation is too deep` (kind 7); want of memory (kind 1).
-#[tactic(auto, using(crate::proofs::Judging::asked_for, crate::proofs::Judging::fallen_back, crate::proofs::Judging::memory_alone), unfolding(crate::specs::Answers::IsReformatted))]
+#[tactic(auto, using(crate::proofs::Judging::asked_for, crate::proofs::Judging::fallen_back, crate::proofs::Judging::pretty_refused, crate::proofs::Judging::memory_alone), unfolding(crate::specs::Answers::IsReformatted))]
 pub fn yaml_reformat(
     alloc: Global,
     input: &[u8],
@@ -105,75 +106,6 @@ pub fn yaml_reformat(
         Ok(true) => Ok((text, yaml_form_t::Pretty)),
         Ok(false) => in_canonical_form(alloc, input, from, settings),
     }
-}
-
-// Loads the next document behind the others. True where it is the one without root, which stands behind the last.
-fn load_next(
-    reading: &mut Reading,
-    documents: &mut Vec<yaml_document_t>,
-) -> Result<bool, yaml_fault_t> {
-    if !yaml_parser_between(reading) {
-        return Ok(true);
-    }
-    let mut document = yaml_parser_load(reading)?;
-    let is_last = yaml_document_get_root_node(&document).is_none();
-    yaml_document_set_end_implicit(&mut document, true);
-    match documents.push(document) {
-        Ok(()) => Ok(is_last),
-        Err(_) => Err(yaml_memory_fault(yaml_origin_t::Loader)),
-    }
-}
-
-// Loads the documents to their end.
-fn load_all(
-    reading: &mut Reading,
-    documents: &mut Vec<yaml_document_t>,
-) -> Result<(), yaml_fault_t> {
-    for _ in 0..u64::MAX {
-        if load_next(reading, documents)? {
-            break;
-        }
-    }
-    Ok(())
-}
-
-// The documents of the input, and behind them the one without root.
-fn loaded(
-    alloc: Global,
-    input: &[u8],
-    from: yaml_encoding_t,
-) -> Result<Vec<yaml_document_t>, yaml_fault_t> {
-    let mut reading = reading_of(alloc, input, from)?;
-    let mut documents = Vec::new(alloc);
-    load_all(&mut reading, &mut documents)?;
-    Ok(documents)
-}
-
-// Writes the documents; the one without root ends the stream. The first refusal ends it.
-fn dump_all(
-    emitter: &mut yaml_emitter_t,
-    documents: Vec<yaml_document_t>,
-) -> Result<(), yaml_fault_t> {
-    for document in documents {
-        yaml_emitter_dump(emitter, document)?;
-    }
-    Ok(())
-}
-
-/// The input's documents, loaded and written in canonical form: nodes with two visits or more have anchors by number, tags
-/// are written, and no document's end is explicit. `settings.canonical` isn't looked at. Also refused, with kind 5, where
-/// an alias names no node, and where an anchor is repeated. All documents are loaded before one is written, so a fault of
-/// the input comes first.
-pub fn yaml_reload(
-    alloc: Global,
-    input: &[u8],
-    from: yaml_encoding_t,
-    settings: &yaml_settings_t,
-) -> Result<Vec<u8>, yaml_fault_t> {
-    let documents = loaded(alloc, input, from)?;
-    let mut emitter = emitter_under(alloc, settings, true)?;
-    dump_all(&mut emitter, documents)?;
-    finished(emitter)
 }
 
 // Adds the lines of the events to their end.
@@ -198,7 +130,7 @@ fn push_lines<S: yaml_token_source_t>(
 }
 
 /// A line for each event of the input, as the parser gives it.
-#[tactic(auto, using(crate::proofs::Judging::listed, crate::proofs::Judging::not_listed))]
+#[tactic(auto, using(crate::proofs::Judging::listed, crate::proofs::Judging::fault_met))]
 pub fn yaml_events(
     alloc: Global,
     input: &[u8],

@@ -2,6 +2,7 @@
 
 ghost use Rattle.std.specs.Prelude.{◌≡◌};
 ghost use Rattle.yaml_parse.specs.Events.{event_of, text_of};
+ghost use Rattle.yaml_parse.specs.Constructors.{HasUtf8};
 ghost use Rattle.yaml_round.specs.Even.{even_body, is_lone_mark};
 
 use yaml_parse::{yaml_event_body_t, yaml_event_t};
@@ -19,7 +20,8 @@ fn is_lone(tag: &Option<Vec<u8>>, value: &[u8]) -> bool
 /// The event evened: an empty scalar with the tag `!` is untagged and plain-implicit; where `ends` is set every
 /// document's end is implicit.
 pub(crate) fn evened(event: yaml_event_t, ends: bool) -> yaml_event_t
-    ensures { event_of result ≡ record (event_of event) { body = even_body ends (event_of event).body } }
+    ensures evened { event_of result ≡ record (event_of event) { body = even_body ends (event_of event).body } }
+    ensures utf8 { HasUtf8 (event_of event).body → HasUtf8 (event_of result).body }
 {
     let yaml_event_t {
         body,

@@ -6,12 +6,14 @@ mod content;
 mod engine;
 mod even;
 mod reading;
+mod reload;
 mod run;
 mod settings;
 mod writing;
 
 pub use compare::yaml_same;
-pub use engine::{yaml_events, yaml_reformat, yaml_reload};
+pub use engine::{yaml_events, yaml_reformat};
+pub use reload::yaml_reload;
 pub use run::{yaml_run, yaml_text_of};
 pub use settings::{
     yaml_command_t, yaml_form_t, yaml_output_encoding_t, yaml_settings_t, yaml_side_t,

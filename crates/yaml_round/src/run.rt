@@ -3,9 +3,11 @@
 ghost use Rattle.std.specs.Prelude.{◌≡◌, ◌<◌, length, IfOk, IfErr, Ok, IsErrOf};
 ghost use Rattle.yaml_round_device.specs.Run.{Runs, FailsBy, IsBeforeWriting};
 ghost use Rattle.yaml_scan.specs.Faults.{Answers};
-ghost use Rattle.yaml_round.specs.Answers.{IsRunAnswer, text_and_maybe_form};
+ghost use Rattle.yaml_round.specs.Answers.{text_and_maybe_form};
+ghost use Rattle.yaml_round.specs.Commands.{IsRunAnswer};
 
-use crate::engine::{yaml_events, yaml_reformat, yaml_reload};
+use crate::engine::{yaml_events, yaml_reformat};
+use crate::reload::yaml_reload;
 use crate::settings::{yaml_command_t, yaml_form_t, yaml_settings_t};
 use std::alloc::Global;
 use yaml_round_device::{

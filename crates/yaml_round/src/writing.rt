@@ -1,11 +1,11 @@
 //! An emitter under the engine's settings, and the writing of a reading's events.
 
-ghost use Rattle.std.specs.Prelude.{◌≡◌, IfOk, IfErr, option_map};
-ghost use Rattle.yaml_scan.specs.Faults.{fault_of, IsMemoryFault};
+ghost use Rattle.std.specs.Prelude.{◌≡◌, Some, IfOk, IfErr, option_map};
+ghost use Rattle.yaml_scan.specs.Faults.{Fault, fault_of, IsMemoryFault};
 ghost use Rattle.yaml_parse.specs.Events.{event_of};
 ghost use Rattle.yaml_parse.specs.Constructors.{HasUtf8};
 ghost use Rattle.yaml_emit.specs.Content.{said};
-ghost use Rattle.yaml_emit.specs.Emitter.{Given};
+ghost use Rattle.yaml_emit.specs.Emitter.{Given, IsLimited};
 ghost use Rattle.yaml_round.specs.Reading.{AreReal};
 ghost use Rattle.yaml_round.specs.Writing.{IsUnder, wishes_under, encoding_under, Writes, WritesAll, Finishes};
 
@@ -19,7 +19,7 @@ use yaml_emit::{
     yaml_emitter_set_encoding, yaml_emitter_set_indent, yaml_emitter_set_unicode,
     yaml_emitter_set_width, yaml_emitter_t,
 };
-use yaml_parse::{yaml_event_t, yaml_event_utf8, yaml_parser_t, yaml_token_source_t};
+use yaml_parse::{yaml_event_t, yaml_parser_t, yaml_token_source_t};
 use yaml_scan::{yaml_encoding_t, yaml_fault_t, yaml_memory_fault, yaml_origin_t};
 
 fn encoding_of(encoding: yaml_output_encoding_t) -> yaml_encoding_t
@@ -53,14 +53,12 @@ pub(crate) fn emitter_under(
     Ok(emitter)
 }
 
-// Gives an event, whose texts are UTF-8. The emitter keeps its first fault.
+// Gives an event. The emitter keeps its first fault.
 fn give(emitter: &mut yaml_emitter_t, event: yaml_event_t)
-    ensures given { HasUtf8 (event_of event).body → Given emitter.old (said (event_of event).body) emitter.new }
-    ensures limit { emitter.new.limit ≡ emitter.old.limit }
+    requires { HasUtf8 (event_of event).body }
+    ensures { Given emitter.old (said (event_of event).body) emitter.new }
 {
-    if yaml_event_utf8(&event) {
-        let _ = yaml_emitter_emit(emitter, event);
-    }
+    let _ = yaml_emitter_emit(emitter, event);
 }
 
 /// Writes the events while the text has at most so many bytes. True at the end of the events. A fault of theirs is the
@@ -105,7 +103,8 @@ pub(crate) fn write_rest<S: yaml_token_source_t>(
 }
 
 fn fault_in(emitter: &yaml_emitter_t) -> Option<yaml_fault_t>
-    ensures { option_map fault_of result ≡ emitter.now.fault }
+    ensures is { option_map fault_of result ≡ emitter.now.fault }
+    ensures limited { (f : Fault) → emitter.now.fault ≡ Some f → IsLimited emitter.now f }
 {
     match yaml_emitter_fault(emitter) {
         Some(fault) => Some(*fault),
@@ -113,7 +112,7 @@ fn fault_in(emitter: &yaml_emitter_t) -> Option<yaml_fault_t>
     }
 }
 
-/// The text, or the emitter's fault.
+/// The text, or the emitter's fault, which names a limit or tells that memory ran out.
 pub(crate) fn finished(emitter: yaml_emitter_t) -> Result<Vec<u8>, yaml_fault_t>
     ensures { Finishes emitter result }
 {

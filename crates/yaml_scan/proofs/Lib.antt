@@ -15,3 +15,4 @@ pub mod GivenLemmas
 pub mod ComesLemmas
 pub mod TakeLemmas
 pub mod AheadLemmas
+pub mod LetterLemmas

@@ -1,5 +1,5 @@
 -- What stands at a place where a lexeme of a kind starts.
-use Rattle.std.specs.Prelude.{ℕ, ◌+◌, ◌≡◌, Bool, true, List}
+use Rattle.std.specs.Prelude.{ℕ, ◌+◌, ◌≡◌, Bool, true, nat_le, ◌&&◌, ◌||◌, List}
 use Rattle.yaml_scan_text.specs.Marks.{byte}
 use Rattle.yaml_scan_scalars.specs.Plain.{starts_plain}
 use Rattle.yaml_scan_layout.specs.declared.kind.Kind.{Kind}
@@ -48,3 +48,7 @@ Told kinds.DocumentStart b = ⊥
 Told kinds.DocumentEnd b = ⊥
 Told kinds.Plain b = ⊥
 Told k b = b ≡ sign_of k
+
+-- a letter or digit of ASCII
+unfoldable pub is_letter : ℕ → Bool
+is_letter b = (nat_le 48 b && nat_le b 57) || ((nat_le 65 b && nat_le b 90) || (nat_le 97 b && nat_le b 122))

@@ -157,6 +157,7 @@ impl<'a> Machine<'a> {
     }
 
     /// Whether the next token is known, whatever follows.
+    #[inline(always)]
     pub(crate) fn has_token(&self) -> bool
         ensures { result ≡ is_ready self.now }
     {
@@ -230,11 +231,12 @@ impl<'a> Machine<'a> {
         let ends = self.close_levels(lexeme);
         let opens = self.open_level(lexeme, column)?;
         self.mark_own(own, lexeme, opens);
-        self.waiting.push_back(Waiting {
+        self.waiting.reserve(1)?;
+        self.waiting.push_back_reserved(Waiting {
             entry: entry(lexeme, ends, opens, found),
             body,
             current: lexeme.saved,
-        })?;
+        });
         self.place = lexeme.reached;
         self.depth = lexeme.kind.depth_after(lexeme.depth);
         self.allowed = allows(lexeme, found);

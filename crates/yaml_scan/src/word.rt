@@ -11,7 +11,7 @@ ghost use Rattle.yaml_scan_words.specs.Directives.{directive_at};
 ghost use Rattle.yaml_scan_scalars.specs.Quoted.{double_quoted_at, single_quoted_at};
 ghost use Rattle.yaml_scan_block.specs.Block.{block_at, style_at};
 ghost use Rattle.yaml_scan_layout.specs.Words as spec;
-ghost use Rattle.yaml_scan.specs.Stands.{Stands, IsThrice, Told};
+ghost use Rattle.yaml_scan.specs.Stands.{Stands, IsThrice, Told, is_letter};
 ghost use Rattle.yaml_scan.specs.Given.{IsWord, ReadsWord, IsSaid};
 
 use std::alloc::Global;
@@ -39,6 +39,9 @@ pub(crate) fn kind_at(reader: &Reader, flow: bool) -> Option<Kind>
     ensures stands { IfSome result (λ k. Stands k flow reader.now.text reader.now.at) }
 {
     let byte = reader.here();
+    if is_letter(byte) {
+        return Some(Kind::Plain);
+    }
     if byte == 0 {
         return Some(Kind::StreamEnd);
     }
@@ -58,6 +61,17 @@ pub(crate) fn kind_at(reader: &Reader, flow: bool) -> Option<Kind>
         return Some(Kind::Plain);
     }
     None
+}
+
+/// Whether the byte is a letter or digit of ASCII: such a byte starts a plain scalar, wherever it stands.
+#[tactic(auto, unfolding(crate::specs::Stands::is_letter))]
+fn is_letter(byte: u8) -> bool
+    ensures { result ≡ is_letter byte }
+{
+    match byte {
+        b'0'..=b'9' | b'A'..=b'Z' | b'a'..=b'z' => true,
+        _ => false,
+    }
 }
 
 /// The kind that a byte tells; `alone` tells that a blank, a break or the end follows it.

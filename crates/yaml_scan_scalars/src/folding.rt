@@ -1,9 +1,12 @@
 //! The value of a scalar's pieces, made from the front.
 
-ghost use Rattle.std.specs.Prelude.{◌≡◌, List, [], ◌∷◌, ◌<◌, ◌≤◌, ℕ, length, take, OnOk, IfOk};
+ghost use Rattle.std.specs.Prelude.{◌≡◌, List, [], ◌∷◌, ◌++◌, ◌<◌, ◌≤◌, ℕ, length, take, OnOk, IfOk};
 ghost use Rattle.yaml_scan_scalars.specs.Pieces.{Piece, Kept, Blank, Break, value};
 
 use std::alloc::{AllocError, Global};
+
+/// The bytes that a plain scalar's value has room for at first: what the smallest block of common allocators holds.
+const FIRST_CAPACITY: usize = 24;
 
 /// What stands before the next piece.
 #[derive(Clone, Copy, Debug, PartialEq, Eq)]
@@ -40,6 +43,20 @@ impl Folding {
         }
     }
 
+    /// With one piece, a byte that stays.
+    pub(crate) fn of_byte(alloc: Global, byte: u8) -> Result<Folding, AllocError>
+        ensures value { IfOk result (λ f. (ps : List Piece) → resume f ps ≡ value (Kept (byte ∷ []) ∷ ps)) }
+        ensures line { IfOk result (λ f. (f.gap ≡ Gap.Line) × (f.blanks.items ≡ [])) }
+    {
+        let mut done = Vec::with_capacity(alloc, FIRST_CAPACITY)?;
+        done.push_reserved(byte);
+        Ok(Folding {
+            done,
+            blanks: Vec::new(alloc),
+            gap: Gap::Line,
+        })
+    }
+
     /// A blank.
     pub(crate) fn blank(&mut self, byte: u8) -> Result<(), AllocError>
         ensures value { OnOk result ((ps : List Piece) → resume self.new ps ≡ resume self.old (Blank byte ∷ ps)) }
@@ -61,13 +78,13 @@ impl Folding {
         ensures line { OnOk result ((self.new.gap ≡ Gap.Line) × (self.new.blanks.items ≡ [])) }
     {
         match self.gap {
-            Gap::Line => self.done.extend_from_slice(self.blanks.as_slice())?,
+            Gap::Line => append(&mut self.done, self.blanks.as_slice())?,
             Gap::Feed => self.done.push(b' ')?,
             Gap::Kept => {}
         }
         self.blanks.clear();
         self.gap = Gap::Line;
-        self.done.extend_from_slice(bytes)?;
+        append(&mut self.done, bytes)?;
         Ok(())
     }
 
@@ -109,4 +126,14 @@ impl Folding {
         folding.keep(&[])?;
         Ok(folding.done)
     }
+}
+
+/// The bytes behind the others. There are often none.
+fn append(done: &mut Vec<u8>, bytes: &[u8]) -> Result<(), AllocError>
+    ensures { OnOk result (done.new.items ≡ done.old.items ++ bytes.now) }
+{
+    if bytes.is_empty() {
+        return Ok(());
+    }
+    done.extend_from_slice(bytes)
 }

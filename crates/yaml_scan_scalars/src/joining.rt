@@ -31,8 +31,7 @@ impl Joining {
         ensures kept { IfOk result (λ j. j.kept ≤ length j.folding.done.items) }
         ensures seat { IfOk result (λ j. (j.end ≡ end) × (j.broke ≡ false) × (j.white ≡ false)) }
     {
-        let mut folding = Folding::new(alloc);
-        folding.keep(&[byte])?;
+        let folding = Folding::of_byte(alloc, byte)?;
         let kept = folding.done.len();
         Ok(Joining {
             folding,

@@ -27,6 +27,7 @@ pub fn plain_scalar(
     reader.skip();
     let mut joining = Joining::new(alloc, byte, reader.mark())?;
     'pieces: loop {
+        keep_run(reader, &mut joining)?;
         let more = piece(reader, &mut joining, start, flow, level)?;
         if !more {
             let end_mark = joining.end;
@@ -38,7 +39,6 @@ pub fn plain_scalar(
                 broke,
             });
         }
-        keep_run(reader, &mut joining)?;
     }
 }
 

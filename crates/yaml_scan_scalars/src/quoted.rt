@@ -41,6 +41,7 @@ fn quoted(alloc: Global, reader: &mut Reader, quote: u8) -> Result<Scalar, ScanE
     reader.skip();
     let mut folding = Folding::new(alloc);
     'pieces: loop {
+        keep_run(reader, &mut folding)?;
         let more = piece(reader, &mut folding, quote, start)?;
         if !more {
             let value = folding.finish()?;
@@ -50,7 +51,6 @@ fn quoted(alloc: Global, reader: &mut Reader, quote: u8) -> Result<Scalar, ScanE
                 end_mark: reader.mark(),
             });
         }
-        keep_run(reader, &mut folding)?;
     }
 }
 

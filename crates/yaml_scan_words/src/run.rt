@@ -22,6 +22,7 @@ pub(crate) enum Run {
 
 /// Whether what stands there belongs to the run.
 #[tactic(auto, unfolding(crate::specs::Runs::belongs))]
+#[inline(always)]
 pub(crate) fn belongs(run: Run, text: &[u8], place: usize) -> bool
     ensures { result ≡ spec.belongs run text.now place }
 {

@@ -1,6 +1,6 @@
 //! Documents to text.
 
-ghost use Rattle.std.specs.Prelude.{◌≡◌, ◌++◌, ◌∷◌, [], List, Some, true, false, OnOk};
+ghost use Rattle.std.specs.Prelude.{◌≡◌, ◌≢◌, ◌<◌, ◌++◌, ◌∷◌, [], List, length, Some, None, true, false, OnOk};
 ghost use Rattle.yaml_parse.specs.Events.{body_of};
 ghost use Rattle.yaml_parse.specs.Constructors.{HasUtf8};
 ghost use Rattle.yaml_emit_layout.specs.Content.{stream_start, stream_end, said, Event};
@@ -128,6 +128,7 @@ impl yaml_emitter_t {
         requires { self.old.opened ≡ true }
         ensures given { Gives self.old (said_document self.old.closed document.now) self.new [] }
         ensures opened { self.new.opened ≡ true }
+        ensures closed { 0 < length document.now.nodes → self.new.closed ≡ self.old.closed }
     {
         self.stands();
         if document.node_count() == 0 {
@@ -141,6 +142,7 @@ impl yaml_emitter_t {
     fn open_if_needed(&mut self) -> bool
         ensures given { (es : List Event) → Gives self.old (opening_events self.old.opened ++ es) self.new (left_if result es) }
         ensures opened { result ≡ true → self.new.opened ≡ true }
+        ensures refused { result ≡ false → self.new.fault ≢ None }
         ensures closed { self.new.closed ≡ self.old.closed }
     {
         if self.opened {
@@ -158,6 +160,8 @@ impl yaml_emitter_t {
 
     fn dump_all(&mut self, document: &yaml_document_t)
         ensures given { Gives self.old (dump_events self.old document.now) self.new [] }
+        ensures opened { self.new.fault ≡ None → self.new.opened ≡ true }
+        ensures closed { 0 < length document.now.nodes → self.new.closed ≡ self.old.closed }
     {
         if self.open_if_needed() {
             self.dump_nodes(document);
@@ -174,6 +178,9 @@ pub fn yaml_emitter_dump(
 ) -> Result<(), yaml_fault_t>
     ensures given { Gives emitter.old (dump_events emitter.old document) emitter.new [] }
     ensures answer { Answers emitter.new.fault result }
+    ensures opened { OnOk result (emitter.new.opened ≡ true) }
+    // A document with a root doesn't end the stream.
+    ensures closed { 0 < length document.nodes → emitter.new.closed ≡ emitter.old.closed }
     ensures stays { Stays emitter.old emitter.new }
 {
     match emitter.fault {

@@ -1,4 +1,4 @@
-use Rattle.std.proofs.Common.{Option, Some, None, subst}
+use Rattle.std.proofs.Common.{Option, subst}
 use Rattle.std.specs.Prelude.{Ok}
 use Rattle.yaml_emit.specs.declared.walk.Turn.{Turn}
 use Rattle.yaml_emit.specs.Walk.{Comes}

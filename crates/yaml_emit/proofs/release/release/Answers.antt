@@ -1,13 +1,15 @@
-use Rattle.std.proofs.Common.{arith, sym, ◌∙◌, ap, length, refl}
+use Rattle.std.proofs.Common.{sym, ◌∙◌}
 use Rattle.yaml_emit.proofs.Holding.{leads_same, leads_more, both_left, both_right, both_false}
+use Rattle.yaml_emit.proofs.Judging.{judges_same, judges_more}
 use Rattle.yaml_emit.proofs.release.release.Goals as goal
 
 pub loop-held-init : goal.loop-held-init
-loop-held-init c = record { leads = leads_same _ _; utf8 = c.requires }
+loop-held-init c = record { leads = leads_same _ _; judges = judges_same _ _; utf8 = c.requires }
 
 pub loop-held-preserved : goal.loop-held-preserved
 loop-held-preserved c = record {
   leads = leads_more _ _ _ _ _ _ _ _ c.loop-held.invariant.leads c.pop-front.ensures.events (both_right _ _ (sym c.is_due.ensures ∙ c.loop-held-test.true)) c.opens_empty-empty.ensures c.lay_out.ensures;
+  judges = judges_more _ _ _ _ _ _ _ _ c.loop-held.invariant.judges c.pop-front.ensures.events (both_left _ _ (sym c.is_due.ensures ∙ c.loop-held-test.true)) (both_right _ _ (sym c.is_due.ensures ∙ c.loop-held-test.true)) c.opens_empty-empty.ensures c.lay_out.ensures;
   utf8 = c.pop-front.ensures.utf8.1;
 }
 

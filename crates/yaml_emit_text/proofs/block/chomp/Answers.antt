@@ -1,15 +1,9 @@
-use Rattle.std.proofs.Common.{refl, ◌∙◌}
-use Rattle.yaml_emit_text.proofs.Looks.{chomp_more, chomp_end}
+use Rattle.std.proofs.Common.{◌∙◌}
+use Rattle.yaml_emit_text.proofs.Looks.{chomp_ends, chomp_none}
 use Rattle.yaml_emit_text.proofs.block.chomp.Goals as goal
 
-pub split_first-requires-text-text : goal.split_first-requires-text-text
-split_first-requires-text-text c = λ _. c.loop-c.invariant.0
+pub returns-in-None : goal.returns-in-None
+returns-in-None c = c.chomp_of.ensures ∙ chomp_none _ c.in-None.ensures.letters
 
-pub loop-c-init : goal.loop-c-init
-loop-c-init c = (c.utf8.value, refl)
-
-pub loop-c-preserved : goal.loop-c-preserved
-loop-c-preserved c = (c.in-Some.ensures.utf8, chomp_more _ _ _ _ _ _ _ c.in-Some.ensures.letters c.loop-c.invariant.1 c.is_break-last.ensures)
-
-pub returns : goal.returns
-returns c = c.chomp_of.ensures ∙ chomp_end _ _ _ _ c.in_default.ensures.letters c.loop-c.invariant.1
+pub returns-in-Some : goal.returns-in-Some
+returns-in-Some c = c.chomp_of-in-Some.ensures ∙ chomp_ends _ _ _ _ _ c.in-Some.ensures.letters c.ends_in_break.ensures c.is_break.ensures

@@ -1,4 +1,5 @@
-use Rattle.yaml_emit_text.proofs.Sinks.{owes_same}
+use Rattle.yaml_emit_sink.proofs.Sinks.{owes_same}
+use Rattle.yaml_emit_text.proofs.RunWalks.{owes_then}
 use Rattle.yaml_emit_text.proofs.Walks.{block_more, block_all}
 use Rattle.yaml_emit_text.proofs.block.put_block_body.Goals as goal
 
@@ -10,7 +11,7 @@ loop-c-init c = (c.utf8.value, owes_same _ _)
 
 pub loop-c-preserved : goal.loop-c-preserved
 loop-c-preserved c =
-    (c.in-Some.ensures.utf8, block_more _ _ _ _ _ _ _ _ _ _ _ _ c.in-Some.ensures.letters c.loop-c.invariant.1 c.put_block_char.ensures c.line_blank-blank.ensures)
+    (c.put_block_run_or-last.ensures.utf8, owes_then _ _ _ _ _ _ (block_more _ _ _ _ _ _ _ _ _ _ _ _ c.in-Some.ensures.letters c.loop-c.invariant.1 c.put_block_char.ensures c.line_blank-blank.ensures) (c.put_block_run_or-last.ensures.text _))
 
 pub returns : goal.returns
 returns c = block_all _ _ _ _ _ _ _ _ c.in_default.ensures.letters c.loop-c.invariant.1

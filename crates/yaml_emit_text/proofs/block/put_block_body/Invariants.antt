@@ -1,7 +1,7 @@
 use Rattle.std.proofs.Common.{length, true}
 use Rattle.std.specs.Str.{chars}
 use Rattle.std.specs.Prelude.{IsUtf8}
-use Rattle.yaml_emit_text.specs.Sink.{Owes}
+use Rattle.yaml_emit_sink.specs.Sink.{Owes}
 use Rattle.yaml_emit_text.specs.Scalars.{block_body}
 use Rattle.yaml_emit_text.proofs.block.put_block_body.Given as goal
 

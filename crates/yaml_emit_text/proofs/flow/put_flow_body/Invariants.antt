@@ -1,7 +1,7 @@
 use Rattle.std.proofs.Common.{length}
 use Rattle.std.specs.Str.{chars}
 use Rattle.std.specs.Prelude.{IsUtf8}
-use Rattle.yaml_emit_text.specs.Sink.{Owes}
+use Rattle.yaml_emit_sink.specs.Sink.{Owes}
 use Rattle.yaml_emit_text.specs.Scalars.{flow_body}
 use Rattle.yaml_emit_text.proofs.flow.put_flow_body.Given as goal
 

@@ -1,4 +1,4 @@
-use Rattle.yaml_emit_text.proofs.Sinks.{puts_both}
+use Rattle.yaml_emit_sink.proofs.Sinks.{puts_both}
 use Rattle.yaml_emit_text.proofs.flow.put_single_quoted.Goals as goal
 
 pub returns : goal.returns

@@ -1,5 +1,5 @@
-use Rattle.yaml_emit_text.proofs.Sinks.{puts_both}
-use Rattle.yaml_emit_text.specs.Layout.{letters}
+use Rattle.yaml_emit_sink.proofs.Sinks.{puts_both}
+use Rattle.yaml_emit_sink.specs.Layout.{letters}
 use Rattle.yaml_emit_text.proofs.Escapes.{escape_by_letter, escape_by_2, escape_by_4, escape_by_8}
 use Rattle.yaml_emit_text.proofs.quoted.put_escape.Goals as goal
 

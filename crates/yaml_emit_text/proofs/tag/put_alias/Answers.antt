@@ -1,5 +1,5 @@
-use Rattle.yaml_emit_text.proofs.Sinks.{puts_both}
-use Rattle.yaml_emit_text.specs.Layout.{letters}
+use Rattle.yaml_emit_sink.proofs.Sinks.{puts_both}
+use Rattle.yaml_emit_sink.specs.Layout.{letters}
 use Rattle.yaml_emit_text.proofs.tag.put_alias.Goals as goal
 
 pub returns : goal.returns

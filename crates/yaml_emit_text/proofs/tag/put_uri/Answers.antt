@@ -1,4 +1,4 @@
-use Rattle.yaml_emit_text.proofs.Sinks.{owes_same}
+use Rattle.yaml_emit_sink.proofs.Sinks.{owes_same}
 use Rattle.yaml_emit_text.proofs.Spells.{uri_more, uri_all}
 use Rattle.yaml_emit_text.proofs.tag.put_uri.Goals as goal
 

@@ -1,6 +1,6 @@
 use Rattle.std.proofs.Common.{drop}
-use Rattle.yaml_emit_text.specs.Sink.{Owes}
-use Rattle.yaml_emit_text.specs.Layout.{letters}
+use Rattle.yaml_emit_sink.specs.Sink.{Owes}
+use Rattle.yaml_emit_sink.specs.Layout.{letters}
 use Rattle.yaml_emit_text.specs.Tags.{uri_text}
 use Rattle.yaml_emit_text.proofs.tag.put_uri.Given as goal
 

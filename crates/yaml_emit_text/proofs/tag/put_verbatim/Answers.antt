@@ -1,6 +1,6 @@
-use Rattle.yaml_emit_text.proofs.Sinks.{puts_both}
+use Rattle.yaml_emit_sink.proofs.Sinks.{puts_both}
 use Rattle.yaml_emit_text.proofs.Spells.{puts_letters, puts_one}
-use Rattle.yaml_emit_text.specs.Layout.{letters}
+use Rattle.yaml_emit_sink.specs.Layout.{letters}
 use Rattle.yaml_emit_text.specs.Tags.{spelled}
 use Rattle.yaml_emit_text.proofs.tag.put_verbatim.Goals as goal
 

@@ -1,15 +1,28 @@
-use Rattle.std.proofs.Common.{◌∙◌, ap, List, [], ◌∷◌}
+use Rattle.std.proofs.Common.{◌≡◌, ◌++◌, List, [], ◌∷◌, subst, sym}
+use Rattle.std.proofs.lemmas.List.{append_assoc}
+use Rattle.std.specs.Prelude.{IfOk, OnOk}
+use Rattle.yaml_scan.specs.Tokens.{body_of}
 use Rattle.yaml_parse_grammar.specs.States.{State, Taken}
-use Rattle.yaml_parse_grammar.specs.Machine.{above, lone_below}
 use Rattle.yaml_parse_grammar.specs.States as state
+use Rattle.yaml_parse_grammar.specs.Machine.{lone_below, node_taken}
+use Rattle.yaml_parse_grammar.specs.declared.name.Wants.TheVariants.{Flow}
+use Rattle.yaml_parse_machine.specs.Views.{item_option_of, stack_of}
 use Rattle.yaml_parse_machine.proofs.Defaults.{items_default}
-use Rattle.yaml_parse_machine.proofs.Openings.{taken_is}
-use Rattle.yaml_parse_machine.specs.Views.{opening_of}
 use Rattle.yaml_parse_machine.proofs.taking.at_items.Goals as goal
 
-pub returns-in_default : goal.returns-in_default
-returns-in_default c =
-    taken_is c.at_node.result c.behind_part.result
-    ∙ ap (λ (s : List State). above s (opening_of c.at_node.result)) c.behind_part.ensures
-    ∙ ap (λ (t : Taken). above (lone_below c.args.brackets (state.more c.args.brackets c.args.opener ∷ [])) t) c.at_node.ensures
-    ∙ items_default c.args.brackets c.args.opener c.args.start c.args.end c.args.body c.in_default.not-Key c.in_default.not-FlowSequenceEnd c.in_default.not-FlowMappingEnd
+pub returns-in_ok-push_behind_part-in_default-clause-item : goal.returns-in_ok-push_behind_part-in_default-clause-item
+returns-in_ok-push_behind_part-in_default-clause-item c =
+    subst (λ (x : Taken). IfOk c.at_node.result (λ i. item_option_of i ≡ x.item))
+    (items_default c.args.brackets c.args.opener c.args.start c.args.end c.args.body c.in_default.not-Key c.in_default.not-FlowSequenceEnd c.in_default.not-FlowMappingEnd) c.at_node.ensures.item
+
+pub returns-in_ok-push_behind_part-in_default-clause-stack : goal.returns-in_ok-push_behind_part-in_default-clause-stack
+returns-in_ok-push_behind_part-in_default-clause-stack c =
+    let x : Taken = node_taken Flow c.args.start c.args.end (body_of c.args.body) in
+    let below : List State = lone_below c.args.brackets (state.more c.args.brackets c.args.opener ∷ []) in
+    let old : List State = stack_of c.args.stack.now.items in
+    let over_below : OnOk c.at_node.result (stack_of c.at_node.new.stack.items ≡ x.above ++ (below ++ old)) =
+    subst (λ (z : List State). OnOk c.at_node.result (stack_of c.at_node.new.stack.items ≡ x.above ++ z)) c.in_ok-push_behind_part-in_default.ensures c.at_node.ensures.stack in
+    let over_old : OnOk c.at_node.result (stack_of c.at_node.new.stack.items ≡ (x.above ++ below) ++ old) =
+    subst (λ (z : List State). OnOk c.at_node.result (stack_of c.at_node.new.stack.items ≡ z)) (sym (append_assoc x.above below old)) over_below in
+    subst (λ (y : Taken). OnOk c.at_node.result (stack_of c.at_node.new.stack.items ≡ y.above ++ old))
+    (items_default c.args.brackets c.args.opener c.args.start c.args.end c.args.body c.in_default.not-Key c.in_default.not-FlowSequenceEnd c.in_default.not-FlowMappingEnd) over_old

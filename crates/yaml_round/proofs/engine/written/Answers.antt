@@ -1,5 +1,12 @@
-use Rattle.yaml_round.proofs.Judging.{wrote}
+use Rattle.std.proofs.lemmas.Result.{err_from_is_err_and}
+use Rattle.yaml_round.proofs.Laying.{wrote}
+use Rattle.yaml_round.proofs.Judging.{not_written}
 use Rattle.yaml_round.proofs.engine.written.Goals as goal
+
+pub returns-in_err-write_events : goal.returns-in_err-write_events
+returns-in_err-write_events c =
+    let p = err_from_is_err_and c.from_residual-in_err-write_events.result c.from_residual-in_err-write_events.ensures.1 in
+    rw (p.1, p.2) (not_written c.args.from c.args.input.now c.args.settings.now c.args.canonical c.in_ok-reading.reading c.in_err-write_events.field-0.0 c.in_ok-reading.ensures.reads c.in_err-write_events.ensures)
 
 pub returns : goal.returns
 returns c =

@@ -1,19 +1,26 @@
--- The events that a new parser gives are those of its list.
-use Rattle.std.proofs.Common.{subst, sym}
-use Rattle.yaml_parse.specs.Resolve.{no_directives}
+-- The events that a new parser gives are those of the input.
+use Rattle.std.proofs.Common.{◌≡◌, ◌∙◌, sym, subst, refl, ap, ℕ, List}
+use Rattle.yaml_scan.specs.declared.yaml_encoding_t.{yaml_encoding_t}
+use Rattle.yaml_scan.specs.Coming as scan
+use Rattle.yaml_parse.specs.Coming.{Coming}
+use Rattle.yaml_parse.specs.Resolve.{Reading, no_directives}
 use Rattle.yaml_parse.specs.Machine.{initial}
 use Rattle.yaml_round.specs.Reading.{AreReal}
+use Rattle.yaml_round.specs.Input.{tokens_of, parsed, read, Reads}
 use Rattle.yaml_round.proofs.Real.{read_real}
 use Rattle.yaml_round.proofs.reading.reading_of.Goals as goal
 
+is_read : (from : yaml_encoding_t) (input : List ℕ) (c : scan.Coming) → c ≡ tokens_of from input → parsed c ≡ read from input
+unfolding read
+is_read from input c e = ap parsed e
+
 pub returns-in-Ok-clause-reads : goal.returns-in-Ok-clause-reads
-returns-in-Ok-clause-reads c = record {
-  tokens = c.in_ok-list.list;
-  handed = tt;
-  events = c.in-Ok.ensures.machine.0;
-  ending = c.in-Ok.ensures.machine.1;
-}
+returns-in-Ok-clause-reads c =
+    let e = is_read c.args.from c.args.input.now c.new.result c.new.ensures in
+    record {
+      events = c.in-Ok.ensures.machine.0 ∙ ap (λ (r : Reading). r.events) e;
+      ending = c.in-Ok.ensures.machine.1 ∙ ap (λ (r : Reading). r.ending) e;
+    }
 
 pub returns-in-Ok-clause-real : goal.returns-in-Ok-clause-real
-returns-in-Ok-clause-real c =
-    subst AreReal (sym c.in-Ok.ensures.machine.0) (read_real c.in_ok-list.list.tokens initial c.in_ok-list.list.fault no_directives)
+returns-in-Ok-clause-real c = subst AreReal (sym c.in-Ok.ensures.machine.0) (read_real c.new.result.tokens initial c.new.result.fault no_directives)

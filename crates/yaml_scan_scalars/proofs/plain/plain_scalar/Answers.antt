@@ -42,45 +42,50 @@ pieces-init c =
 pub returns-in_err-more : goal.returns-in_err-more
 returns-in_err-more c =
     let (n, room, same) = c.pieces.invariant.rest in
+    let ran : TookWords c.args.reader.now.text c.pieces.reader.at c.pieces.joining c.keep_run.new.joining c.keep_run.new.reader = rw c.pieces.invariant.text at c.in_ok-keep_run.ensures in
+    let (m, room2, rest) = plain_run n c.args.flow c.args.level c.args.reader.now.text c.pieces.reader.at c.pieces.joining c.keep_run.new.joining c.keep_run.new.reader ran room in
     let e = err_from_is_err_and c.from_residual-in_err-more.result c.from_residual-in_err-more.ensures.1 in
-    let took = rw (c.pieces.invariant.text, c.pieces.invariant.start) at c.in_err-more.ensures in
-    rw (e.1, e.2, same) (turn_refused c.args.flow c.args.level c.args.reader.now.text c.args.reader.now.at c.pieces.reader.at n c.pieces.joining c.piece.new.joining c.piece.new.reader c.in_err-more.field-0.0 took)
+    let took = rw (ran.run.same, c.pieces.invariant.start) at c.in_err-more.ensures in
+    rw (e.1, e.2, same, rest) (turn_refused c.args.flow c.args.level c.args.reader.now.text c.args.reader.now.at c.keep_run.new.reader.at m c.keep_run.new.joining c.piece.new.joining c.piece.new.reader c.in_err-more.field-0.0 took)
 
 pub returns-then-not-more : goal.returns-then-not-more
 returns-then-not-more c =
     let (n, room, same) = c.pieces.invariant.rest in
+    let ran : TookWords c.args.reader.now.text c.pieces.reader.at c.pieces.joining c.keep_run.new.joining c.keep_run.new.reader = rw c.pieces.invariant.text at c.in_ok-keep_run.ensures in
+    let (m, room2, rest) = plain_run n c.args.flow c.args.level c.args.reader.now.text c.pieces.reader.at c.pieces.joining c.keep_run.new.joining c.keep_run.new.reader ran room in
     let here = rw c.if-not-more.true at c.in_ok-more.ensures in
-    let took : Steps c.args.reader.now.text c.mark-start.result c.pieces.reader.at c.pieces.joining c.piece.new.joining c.piece.new.reader (Ok false) (spot_at c.args.flow c.args.level c.args.reader.now.text c.pieces.reader.at) = rw (← c.pieces.invariant.text) here in
-    let (place, kept, value) = turn_done c.args.flow c.args.level c.args.reader.now.text c.mark-start.result c.pieces.reader.at n c.pieces.joining c.piece.new.joining c.piece.new.reader took in
-    let seat = rw c.pieces.invariant.text at c.pieces.invariant.seat.end in
+    let took : Steps c.args.reader.now.text c.mark-start.result c.keep_run.new.reader.at c.keep_run.new.joining c.piece.new.joining c.piece.new.reader (Ok false) (spot_at c.args.flow c.args.level c.args.reader.now.text c.keep_run.new.reader.at) = rw (← ran.run.same) here in
+    let (place, kept, value) = turn_done c.args.flow c.args.level c.args.reader.now.text c.mark-start.result c.keep_run.new.reader.at m c.keep_run.new.joining c.piece.new.joining c.piece.new.reader took in
+    let seat = ran.seat.end in
     let all = rw kept at c.finish.ensures in
-    rw (same, value) (record { value = all; start_mark = c.mark-start.ensures; end_mark = rw kept seat; broke = ap (λ j. j.broke) kept }, place)
+    rw (same, rest, value) (record { value = all; start_mark = c.mark-start.ensures; end_mark = rw kept seat; broke = ap (λ j. j.broke) kept }, place)
 
 pub pieces-preserved : goal.pieces-preserved
 pieces-preserved c =
     let (n, room, same) = c.pieces.invariant.rest in
+    let ran : TookWords c.args.reader.now.text c.pieces.reader.at c.pieces.joining c.keep_run.new.joining c.keep_run.new.reader = rw c.pieces.invariant.text at c.in_ok-keep_run.ensures in
+    let (m, room2, rest) = plain_run n c.args.flow c.args.level c.args.reader.now.text c.pieces.reader.at c.pieces.joining c.keep_run.new.joining c.keep_run.new.reader ran room in
     let here = rw c.if-not-more.false at c.in_ok-more.ensures in
-    let took : Steps c.args.reader.now.text c.mark-start.result c.pieces.reader.at c.pieces.joining c.piece.new.joining c.piece.new.reader (Ok true) (spot_at c.args.flow c.args.level c.args.reader.now.text c.pieces.reader.at) = rw (← c.pieces.invariant.text) here in
-    let next = turn_more c.args.flow c.args.level c.args.reader.now.text c.mark-start.result c.pieces.reader.at n c.pieces.joining c.piece.new.joining c.piece.new.reader took room in
-    let (m, more, rest) = next.rest in
-    let ran : TookWords c.args.reader.now.text c.piece.new.reader.at c.piece.new.joining c.keep_run.new.joining c.keep_run.new.reader = rw next.same at c.in_ok-keep_run.ensures in
-    let (k, room2, rest2) = plain_run m c.args.flow c.args.level c.args.reader.now.text c.piece.new.reader.at c.piece.new.joining c.keep_run.new.joining c.keep_run.new.reader ran more in
-    record { text = ran.run.same; start = c.pieces.invariant.start; seat = rw ran.run.same ran.seat; rest = (k, room2, same ∙ rest ∙ rest2) }
+    let took : Steps c.args.reader.now.text c.mark-start.result c.keep_run.new.reader.at c.keep_run.new.joining c.piece.new.joining c.piece.new.reader (Ok true) (spot_at c.args.flow c.args.level c.args.reader.now.text c.keep_run.new.reader.at) = rw (← ran.run.same) here in
+    let next = turn_more c.args.flow c.args.level c.args.reader.now.text c.mark-start.result c.keep_run.new.reader.at m c.keep_run.new.joining c.piece.new.joining c.piece.new.reader took room2 in
+    let (k, more, rest2) = next.rest in
+    record { text = next.same; start = c.pieces.invariant.start; seat = rw next.same next.seat; rest = (k, more, same ∙ rest ∙ rest2) }
 
-pub keep_run-requires : goal.keep_run-requires
-keep_run-requires c =
+pub piece-requires : goal.piece-requires
+piece-requires c =
     let (n, room, same) = c.pieces.invariant.rest in
-    let here = rw c.if-not-more.false at c.in_ok-more.ensures in
-    let took : Steps c.args.reader.now.text c.mark-start.result c.pieces.reader.at c.pieces.joining c.piece.new.joining c.piece.new.reader (Ok true) (spot_at c.args.flow c.args.level c.args.reader.now.text c.pieces.reader.at) = rw (← c.pieces.invariant.text) here in
-    let next = turn_more c.args.flow c.args.level c.args.reader.now.text c.mark-start.result c.pieces.reader.at n c.pieces.joining c.piece.new.joining c.piece.new.reader took room in
-    rw next.same next.seat
+    let ran : TookWords c.args.reader.now.text c.pieces.reader.at c.pieces.joining c.keep_run.new.joining c.keep_run.new.reader = rw c.pieces.invariant.text at c.in_ok-keep_run.ensures in
+    let (m, room2, rest) = plain_run n c.args.flow c.args.level c.args.reader.now.text c.pieces.reader.at c.pieces.joining c.keep_run.new.joining c.keep_run.new.reader ran room in
+    rw ran.run.same ran.seat
 
 pub pieces-smaller : goal.pieces-smaller
 pieces-smaller c =
     let (n, room, same) = c.pieces.invariant.rest in
+    let ran : TookWords c.args.reader.now.text c.pieces.reader.at c.pieces.joining c.keep_run.new.joining c.keep_run.new.reader = rw c.pieces.invariant.text at c.in_ok-keep_run.ensures in
+    let (m, room2, rest) = plain_run n c.args.flow c.args.level c.args.reader.now.text c.pieces.reader.at c.pieces.joining c.keep_run.new.joining c.keep_run.new.reader ran room in
     let here = rw c.if-not-more.false at c.in_ok-more.ensures in
-    let took : Steps c.args.reader.now.text c.mark-start.result c.pieces.reader.at c.pieces.joining c.piece.new.joining c.piece.new.reader (Ok true) (spot_at c.args.flow c.args.level c.args.reader.now.text c.pieces.reader.at) = rw (← c.pieces.invariant.text) here in
-    let next = turn_more c.args.flow c.args.level c.args.reader.now.text c.mark-start.result c.pieces.reader.at n c.pieces.joining c.piece.new.joining c.piece.new.reader took room in
+    let took : Steps c.args.reader.now.text c.mark-start.result c.keep_run.new.reader.at c.keep_run.new.joining c.piece.new.joining c.piece.new.reader (Ok true) (spot_at c.args.flow c.args.level c.args.reader.now.text c.keep_run.new.reader.at) = rw (← ran.run.same) here in
+    let next = turn_more c.args.flow c.args.level c.args.reader.now.text c.mark-start.result c.keep_run.new.reader.at m c.keep_run.new.joining c.piece.new.joining c.piece.new.reader took room2 in
     let further = next.further in
     let inside = next.inside in
     let after = c.in_ok-keep_run.ensures.run.after in

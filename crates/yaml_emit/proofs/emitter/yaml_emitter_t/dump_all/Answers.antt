@@ -1,8 +1,8 @@
 use Rattle.yaml_emit.proofs.Dumped.{dump_then, dump_else}
 use Rattle.yaml_emit.proofs.emitter.yaml_emitter_t.dump_all.Goals as goal
 
-pub returns-then-open_if_needed : goal.returns-then-open_if_needed
-returns-then-open_if_needed c = record { given = dump_then _ _ _ _ _ c.if-open_if_needed.true c.open_if_needed.ensures.given c.open_if_needed.ensures.closed c.dump_nodes.ensures.given }
+pub returns-then-open_if_needed-clause-given : goal.returns-then-open_if_needed-clause-given
+returns-then-open_if_needed-clause-given c = dump_then _ _ _ _ _ c.if-open_if_needed.true c.open_if_needed.ensures.given c.open_if_needed.ensures.closed c.dump_nodes.ensures.given
 
-pub returns-else-open_if_needed : goal.returns-else-open_if_needed
-returns-else-open_if_needed c = record { given = dump_else _ _ _ _ c.if-open_if_needed.false c.open_if_needed.ensures.given }
+pub returns-else-open_if_needed-clause-given : goal.returns-else-open_if_needed-clause-given
+returns-else-open_if_needed-clause-given c = dump_else _ _ _ _ c.if-open_if_needed.false c.open_if_needed.ensures.given

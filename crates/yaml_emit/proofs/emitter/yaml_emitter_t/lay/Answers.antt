@@ -1,7 +1,14 @@
+use Rattle.std.proofs.Common.{refl}
 use Rattle.yaml_emit.proofs.Emitting.{inside_lays}
+use Rattle.yaml_emit.proofs.Verdicts.{inside_judges}
 use Rattle.yaml_emit.proofs.emitter.yaml_emitter_t.lay.Goals as goal
 
 pub returns-clause-given : goal.returns-clause-given
 returns-clause-given c =
     let fr = rw (← c.self.view_is) at c.requires.begun in
-    rw (← c.self.view_is) (inside_lays c.self.inside c.give.new.core c.replace-held.result c.give.result _ _ fr c.replace-held.ensures.value c.give.ensures.leads)
+    rw (← c.self.view_is) (inside_lays c.self.inside c.give.new.core c.self.inside.held c.give.new.held _ _ fr refl c.give.ensures.leads)
+
+pub returns-clause-judged : goal.returns-clause-judged
+returns-clause-judged c =
+    let fr = rw (← c.self.view_is) at c.requires.begun in
+    rw (← c.self.view_is) (inside_judges c.self.inside c.give.new.core c.self.inside.held c.give.new.held _ _ fr refl c.give.ensures.leads c.give.ensures.judges)

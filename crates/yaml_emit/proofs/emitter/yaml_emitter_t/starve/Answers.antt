@@ -1,4 +1,4 @@
-use Rattle.std.proofs.Common.{◌∙◌, sym}
+use Rattle.std.proofs.Common.{◌∙◌}
 use Rattle.yaml_emit_text.specs.Layout.{stay}
 use Rattle.yaml_emit.proofs.Emitting.{goes_going}
 use Rattle.yaml_emit.proofs.Dumped.{inside_starves}

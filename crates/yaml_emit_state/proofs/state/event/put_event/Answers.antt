@@ -1,4 +1,3 @@
-use Rattle.std.proofs.Common.{sym, ◌≡◌}
 use Rattle.yaml_emit_layout.specs.State.{text_at}
 use Rattle.yaml_emit_text.proofs.Sinks.{puts_both}
 use Rattle.yaml_emit_state.proofs.state.event.put_event.Goals as goal

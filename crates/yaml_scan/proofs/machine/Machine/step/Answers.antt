@@ -47,9 +47,9 @@ settle-self-requires-clause-shown c =
     let (kept, closes) = marks_are m l r.own r.key c.level_column-column.result o b.waiting.items d.waiting.items go c.requires.stands.shown e own key column opens waits c.mark_own.ensures.marks in
     let bs : List Bool = map (λ (x : Waiting). x.current) d.waiting.items in
     let w : Waiting = record { entry = c.entry.result; body = r.body; current = l.saved } in
-    let items : c.push_back.new.self.items ≡ d.waiting.items ++ w ∷ [] = c.in_ok-push_back.ensures.items in
+    let items : c.push_back_reserved.new.self.items ≡ d.waiting.items ++ w ∷ [] = c.push_back_reserved.ensures.items ∙ ap (λ (ws : List Waiting). ws ++ w ∷ []) c.reserve.ensures.items in
     let entry : c.entry.result ≡ entry_of l h = entry_is m l h r.key c.level_column-column.result c.close_levels-ends.result c.is_some-found.result o m.levels a.levels c.entry.result c.requires.stands.shown.levels left c.close_levels-ends.ensures.count c.is_some-found.ensures key column c.in_ok-opens.ensures.opens c.entry.ensures in
-    let x : Fields = record { text = text_bytes d.text; waiting = map (λ (y : Waiting). y.entry) c.push_back.new.self.items; opens = map (λ (y : Waiting). y.current) c.push_back.new.self.items; dropped = d.dropped; given = d.given; settled = d.settled; place = l.reached; depth = c.depth_after-self.result; levels = d.levels; allowed = c.allows-self.result; ended = c.is_end-self.result } in
+    let x : Fields = record { text = text_bytes d.text; waiting = map (λ (y : Waiting). y.entry) c.push_back_reserved.new.self.items; opens = map (λ (y : Waiting). y.current) c.push_back_reserved.new.self.items; dropped = d.dropped; given = d.given; settled = d.settled; place = l.reached; depth = c.depth_after-self.result; levels = d.levels; allowed = c.allows-self.result; ended = c.is_end-self.result } in
     let p : IsPushed f l bs x = record {
       text = ap text_bytes texts;
       waiting = ap (λ xs. map (λ (y : Waiting). y.entry) xs) items ∙ map-append (λ (y : Waiting). y.entry) d.waiting.items (w ∷ []) ∙ ap (λ xs. xs ++ c.entry.result ∷ []) kept ∙ ap (λ (y : Entry). (kept_entries f l) ++ y ∷ []) entry;
@@ -74,9 +74,10 @@ settle-self-requires-clause-few c =
     let waits : c.open_level.new.self.waiting.items ≡ m.waiting.items = ap (λ (x : Machine). x.waiting.items) c.in_ok-opens.ensures.same ∙ ap (λ (x : Machine). x.waiting.items) c.close_levels-ends.ensures.same in
     let count : length d.waiting.items ≡ length m.waiting.items = c.mark_own.ensures.length ∙ ap (λ (ws : List Waiting). length ws) waits in
     let drops : d.dropped ≡ m.dropped = ap (λ (x : Machine). x.dropped) c.mark_own.ensures.same ∙ ap (λ (x : Machine). x.dropped) c.in_ok-opens.ensures.same ∙ ap (λ (x : Machine). x.dropped) c.close_levels-ends.ensures.same in
-    let more = ap (λ (ws : List Waiting). length ws) c.in_ok-push_back.ensures.items in
-    let one = length-append d.waiting.items (record { entry = c.entry.result; body = r.body; current = r.lexeme.saved } ∷ []) in
-    omega (arith, room, long, count, drops, more, one, c.requires.stands.long)
+    let kept = ap (λ (ws : List Waiting). length ws) c.reserve.ensures.items in
+    let more = ap (λ (ws : List Waiting). length ws) c.push_back_reserved.ensures.items in
+    let one = length-append c.reserve.new.self.items (record { entry = c.entry.result; body = r.body; current = r.lexeme.saved } ∷ []) in
+    omega (arith, room, long, count, drops, kept, more, one, c.requires.stands.long)
 
 pub returns-clause-ok : goal.returns-clause-ok
 returns-clause-ok c =
@@ -104,9 +105,9 @@ returns-clause-ok c =
     let (kept, closes) = marks_are m l r.own r.key c.level_column-column.result o b.waiting.items d.waiting.items go c.requires.stands.shown e own key column opens waits c.mark_own.ensures.marks in
     let bs : List Bool = map (λ (x : Waiting). x.current) d.waiting.items in
     let w : Waiting = record { entry = c.entry.result; body = r.body; current = l.saved } in
-    let items : c.push_back.new.self.items ≡ d.waiting.items ++ w ∷ [] = c.in_ok-push_back.ensures.items in
+    let items : c.push_back_reserved.new.self.items ≡ d.waiting.items ++ w ∷ [] = c.push_back_reserved.ensures.items ∙ ap (λ (ws : List Waiting). ws ++ w ∷ []) c.reserve.ensures.items in
     let entry : c.entry.result ≡ entry_of l h = entry_is m l h r.key c.level_column-column.result c.close_levels-ends.result c.is_some-found.result o m.levels a.levels c.entry.result c.requires.stands.shown.levels left c.close_levels-ends.ensures.count c.is_some-found.ensures key column c.in_ok-opens.ensures.opens c.entry.ensures in
-    let x : Fields = record { text = text_bytes d.text; waiting = map (λ (y : Waiting). y.entry) c.push_back.new.self.items; opens = map (λ (y : Waiting). y.current) c.push_back.new.self.items; dropped = d.dropped; given = d.given; settled = d.settled; place = l.reached; depth = c.depth_after-self.result; levels = d.levels; allowed = c.allows-self.result; ended = c.is_end-self.result } in
+    let x : Fields = record { text = text_bytes d.text; waiting = map (λ (y : Waiting). y.entry) c.push_back_reserved.new.self.items; opens = map (λ (y : Waiting). y.current) c.push_back_reserved.new.self.items; dropped = d.dropped; given = d.given; settled = d.settled; place = l.reached; depth = c.depth_after-self.result; levels = d.levels; allowed = c.allows-self.result; ended = c.is_end-self.result } in
     let p : IsPushed f l bs x = record {
       text = ap text_bytes texts;
       waiting = ap (λ xs. map (λ (y : Waiting). y.entry) xs) items ∙ map-append (λ (y : Waiting). y.entry) d.waiting.items (w ∷ []) ∙ ap (λ xs. xs ++ c.entry.result ∷ []) kept ∙ ap (λ (y : Entry). (kept_entries f l) ++ y ∷ []) entry;
@@ -125,13 +126,13 @@ returns-clause-ok c =
     let text : text_bytes d.text ≡ text_bytes m.text = ap text_bytes texts in
     let levels : d.levels ≡ b.levels = ap (λ (x : Machine). x.levels) to_d in
     let count : length d.waiting.items ≡ length m.waiting.items = c.mark_own.ensures.length ∙ ap (λ (ws : List Waiting). length ws) waits in
-    let more : length c.push_back.new.self.items ≡ length m.waiting.items + 1 = ap (λ (ws : List Waiting). length ws) items ∙ length-append d.waiting.items (w ∷ []) ∙ omega (arith, count) in
+    let more : length c.push_back_reserved.new.self.items ≡ length m.waiting.items + 1 = ap (λ (ws : List Waiting). length ws) items ∙ length-append d.waiting.items (w ∷ []) ∙ omega (arith, count) in
     let InLexeme : Lexeme → Type 0 = λ l. l.start.column ≤ n in
     let lexeme : c.entry.result.lexeme ≡ l = ap (λ (y : Entry). y.lexeme) entry in
     let at_column : w.entry.lexeme.start.column ≤ n = subst InLexeme (sym lexeme) next.column in
     let Inside : List Waiting → Type 0 = λ ws. AreInside n ws in
     let old : AreInside n d.waiting.items = c.mark_own.ensures.inside n (subst Inside (sym waits) c.requires.stands.inside) in
-    let all : AreInside n c.push_back.new.self.items = subst Inside (sym items) (inside_push n w d.waiting.items at_column old) in
+    let all : AreInside n c.push_back_reserved.new.self.items = subst Inside (sym items) (inside_push n w d.waiting.items at_column old) in
     let deeper = depth_after-le l.kind l.depth in
     let above : c.depth_after-self.result ≤ l.depth + 1 = rw c.depth_after-self.ensures deeper in
     let from_a : text_bytes a.text ≡ text_bytes m.text = ap (λ (x : Machine). text_bytes x.text) to_a in
@@ -141,7 +142,7 @@ returns-clause-ok c =
     let len : length (text_bytes d.text) ≡ n = ap (λ (t : List ℕ). length t) text in
     let settled = c.settle-self.ensures in
     let AtText : ℕ → Type 0 = λ k. IsNarrow (k + 1) d.levels in
-    let AtInside : ℕ → Type 0 = λ k. AreInside k c.push_back.new.self.items in
+    let AtInside : ℕ → Type 0 = λ k. AreInside k c.push_back_reserved.new.self.items in
     let Place : List ℕ → Type 0 = λ t. IsPlace t l.reached in
     let done : Fields = record x { settled = c.settle-self.result } in
     let q : IsPushed f l bs done = record { text = p.text; waiting = p.waiting; opens = p.opens; dropped = p.dropped; place = p.place; depth = p.depth; levels = p.levels; allowed = p.allowed; ended = p.ended } in
@@ -153,7 +154,7 @@ returns-clause-ok c =
     let old_spoken : AreSpoken (stream_of m) b.waiting.items = subst (λ (ws : List Waiting). AreSpoken (stream_of m) ws) (sym waits) c.requires.stands.spoken in
     let marked_spoken = spoken_marked (stream_of m) r.own l o b.waiting.items d.waiting.items inside_b c.mark_own.ensures.marks old_spoken in
     let is_w : IsSpoken (stream_of m) w = spoken ∙ ap (λ (y : Lexeme). body_in (stream_of m) y) (sym lexeme) in
-    let all_spoken : AreSpoken (stream_of m) c.push_back.new.self.items = subst (λ (ws : List Waiting). AreSpoken (stream_of m) ws) (sym items) (spoken_push (stream_of m) w d.waiting.items is_w marked_spoken) in
+    let all_spoken : AreSpoken (stream_of m) c.push_back_reserved.new.self.items = subst (λ (ws : List Waiting). AreSpoken (stream_of m) ws) (sym items) (spoken_push (stream_of m) w d.waiting.items is_w marked_spoken) in
     let codes : d.encoding ≡ m.encoding = ap (λ (x : Machine). x.encoding) to_d ∙ ap (λ (x : Machine). x.encoding) to_b ∙ ap (λ (x : Machine). x.encoding) to_a in
     let on : d.started ≡ m.started = ap (λ (x : Machine). x.started) to_d ∙ ap (λ (x : Machine). x.started) to_b ∙ ap (λ (x : Machine). x.started) to_a in
     let stream : stream_of d ≡ stream_of m = ap (λ (t : List ℕ). record { encoding = d.encoding; text = t }) text ∙ ap (λ (y : yaml_encoding_t). record { encoding = y; text = text_bytes m.text }) codes in (
@@ -169,7 +170,7 @@ returns-clause-ok c =
         begun = λ off. let bad : true ≡ false = sym c.requires.started ∙ sym on ∙ off in cc;
         shown = shown_now;
         given = given_goes f done l c.requires.stands.shown shown_now go e same drops gives (omega (arith, settles, settled.low)) c.requires.stands.given;
-        spoken = subst (λ (s : Stream). AreSpoken s c.push_back.new.self.items) (sym stream) all_spoken;
+        spoken = subst (λ (s : Stream). AreSpoken s c.push_back_reserved.new.self.items) (sym stream) all_spoken;
       },
       record { text = texts; dropped = drops; further = more; given = gives; encoding = codes; started = on },
     )

@@ -1,0 +1,278 @@
+-- What an emitter refuses and has written.
+use Rattle.std.proofs.Common.{◌≡◌, ◌≢◌, ℕ, ◌≤◌, List, [], ◌∷◌, ◌++◌, length, Bool, true, false, refl, sym, subst, ◌∙◌, ap, arith, Option, Some, None, append_assoc, append-nil, option_map}
+use Rattle.yaml_scan.specs.Faults.{Fault, fault_of}
+use Rattle.yaml_scan.specs.declared.yaml_encoding_t.{yaml_encoding_t}
+use Rattle.yaml_scan.specs.declared.yaml_fault_t.{yaml_fault_t}
+use Rattle.yaml_emit_text.specs.declared.Cursor.{Cursor}
+use Rattle.yaml_emit_text.specs.declared.Encoding.{Encoding}
+use Rattle.yaml_emit_text.specs.declared.Settings.{Settings}
+use Rattle.yaml_emit_text.specs.declared.Status.{Status}
+use Rattle.yaml_emit_text.specs.declared.Status.TheVariants.{Going, Full, Deep, Starved}
+use Rattle.yaml_emit_text.specs.declared.Wishes.{Wishes}
+use Rattle.yaml_emit_text.specs.Text.{Item, encode, is_deep}
+use Rattle.yaml_emit_text.specs.Settings.{settled}
+use Rattle.yaml_emit_text.specs.Layout.{Rest, nothing_more, written}
+use Rattle.yaml_emit_text.specs.Sink.{Output, Ends, EndsBy}
+use Rattle.yaml_emit_text.proofs.Sinks.{ends_other, status_cases}
+use Rattle.yaml_emit_layout.specs.declared.Problem.{Problem}
+use Rattle.yaml_emit_layout.specs.declared.Place.{Place}
+use Rattle.yaml_emit_layout.specs.declared.Place.TheVariants as at
+use Rattle.yaml_emit_layout.specs.Content.{Event}
+use Rattle.yaml_emit_layout.specs.Grammar.{or_else}
+use Rattle.yaml_emit_layout.specs.State.{State, placed}
+use Rattle.yaml_emit_state.specs.declared.Core.{Core}
+use Rattle.yaml_emit_state.specs.Steps.{state_of, settings_of, goes_on, IsFresh}
+use Rattle.yaml_emit_state.specs.Finish.{Leads}
+use Rattle.yaml_emit.specs.Held.{held_events, is_ready}
+use Rattle.yaml_emit.specs.declared.held.Held.{Held}
+use Rattle.yaml_emit.specs.declared.emitter.yaml_emitter_t.TheInside.{Inside}
+use Rattle.yaml_emit.specs.Judged.{Shape, first_shape, let_out, first_refusal, unless, laid, refused_at, refusal_from, text_from, refusal_behind, LetsOut, Judges}
+use Rattle.yaml_emit.specs.Emitter.{Emitter, emitter_of, IsEmitter, fault_by, refusal_of, stream_encoding, problem_fault}
+use Rattle.yaml_emit.specs.Verdict.{verdict_by, verdict, first_settings, IsLetOut, WritesBy, Writes, Judged, JudgesFirst, HasLetOut, Tells}
+use Rattle.yaml_emit.proofs.Judging.{or_none, or_some, unless_none, unless_some}
+use Rattle.yaml_emit.proofs.Emitting.{not_true}
+
+-- ---- an event was given
+
+lay_refuses : (old new : Emitter) (e : Event) (h es : List Event) → old.fresh ≡ false → new.fresh ≡ false → h ≡ held_events old.held
+    → refusal_behind new.core (held_events new.held ++ es) ≡ refusal_behind old.core ((h ++ e ∷ []) ++ es) → verdict new es ≡ verdict old (e ∷ es)
+unfolding verdict
+lay_refuses old new e h es a b same j =
+    let move : held_events old.held ++ (e ∷ es) ≡ (h ++ e ∷ []) ++ es = ap (λ z. z ++ (e ∷ es)) (sym same) ∙ sym (append_assoc h (e ∷ []) es) in
+    ap (λ z. verdict_by z new es) b ∙ (j ∙ (ap (refusal_behind old.core) (sym move) ∙ sym (ap (λ z. verdict_by z old (e ∷ es)) a)))
+
+lay_writes : (old new : Emitter) (e : Event) (h : List Event) (x : Encoding) (es : List Event) (whole : List Item) → old.fresh ≡ false → new.fresh ≡ false → h ≡ held_events old.held
+    → Leads old.core (h ++ e ∷ []) new.core (held_events new.held) → Judges old.core (h ++ e ∷ []) new.core (held_events new.held) → Writes old x (e ∷ es) whole → Writes new x es whole
+unfolding Writes
+lay_writes old new e h x es whole a b same l j c =
+    let P : Bool → Type 0 = λ z. WritesBy z old x (e ∷ es) whole in
+    let Q : Bool → Type 0 = λ z. WritesBy z new x es whole in
+    let k = subst P a c in
+    let R : List Event → Type 0 = λ t. LetsOut old.core t whole in
+    let move : held_events old.held ++ (e ∷ es) ≡ (h ++ e ∷ []) ++ es = ap (λ z. z ++ (e ∷ es)) (sym same) ∙ sym (append_assoc h (e ∷ []) es) in
+    subst Q (sym b) (l.encoding ∙ k.0, j.lets_out es whole (subst R move k.1))
+
+pub inside_judges : (i : Inside) (core : Core) (h held : Held) (fault : Option Fault) (e : Event) → i.fresh ≡ false → h ≡ i.held → Leads i.core (held_events h ++ e ∷ []) core (held_events held) → Judges i.core (held_events h ++ e ∷ []) core (held_events held)
+    → Judged (emitter_of i) e (record { wishes = i.wishes; limit = i.limit; core = core; held = held; fresh = i.fresh; opened = i.opened; closed = i.closed; fault = fault })
+inside_judges i core h held fault e fr same l j =
+    let new : Emitter = record { wishes = i.wishes; limit = i.limit; core = core; held = held; fresh = i.fresh; opened = i.opened; closed = i.closed; fault = fault } in
+    record {
+      refuses = λ g es. lay_refuses (emitter_of i) new e (held_events h) es fr fr (ap held_events same) (j.refuses g es);
+      writes = λ x es whole c. lay_writes (emitter_of i) new e (held_events h) x es whole fr fr (ap held_events same) l j c;
+    }
+
+-- ---- the settings came into force
+
+fresh_refuses : (core : Core) (s : Settings) (es : List Event) → IsFresh core s → refusal_behind core es ≡ first_refusal s.canonical first_shape (let_out es)
+unfolding refusal_behind
+fresh_refuses core s es f =
+    ap (λ (z : Settings). refusal_from z.canonical (state_of core) es) f.settings ∙ ap (λ (z : State). refusal_from s.canonical z es) f.state
+
+ends_fresh : (o : Output) (t : List Item) → o.bytes ≡ [] → o.status ≡ Going → Ends o t t
+unfolding Ends
+ends_fresh o t b g =
+    let P : Status → Type 0 = λ z. EndsBy z o.limit o.encoding o.bytes t t in
+    subst P (sym g) (rw b refl, (rw b (omega arith), refl))
+
+fresh_lets_out : (core : Core) (s : Settings) (es : List Event) → IsFresh core s → LetsOut core es (written (laid s (placed at.StreamStart) (let_out es)))
+unfolding LetsOut
+fresh_lets_out core s es f =
+    let text : List Item = text_from (settings_of core) (state_of core) es core.sink.cursor nothing_more in
+    let same : text ≡ written (laid s (placed at.StreamStart) (let_out es)) =
+    ap (λ (z : Settings). text_from z (state_of core) es core.sink.cursor nothing_more) f.settings
+    ∙ (ap (λ (z : State). text_from s z es core.sink.cursor nothing_more) f.state ∙ ap (λ (z : Cursor). laid s (placed at.StreamStart) (let_out es) z nothing_more) f.cursor) in
+    let P : List Item → Type 0 = λ t. Ends core.sink text t in
+    subst P same (ends_fresh core.sink text f.output f.status)
+
+begin_refuses : (old new : Emitter) (e : Event) (es : List Event) → old.fresh ≡ true → new.fresh ≡ false → held_events new.held ≡ [] → IsFresh new.core (settled old.wishes (stream_encoding e)) → verdict new (e ∷ es) ≡ verdict old (e ∷ es)
+unfolding verdict
+begin_refuses old new e es a b none f =
+    ap (λ z. verdict_by z new (e ∷ es)) b
+    ∙ (ap (λ z. refusal_behind new.core (z ++ (e ∷ es))) none
+    ∙ (fresh_refuses new.core (settled old.wishes (stream_encoding e)) (e ∷ es) f ∙ sym (ap (λ z. verdict_by z old (e ∷ es)) a)))
+
+begin_writes : (old new : Emitter) (e : Event) (x : Encoding) (es : List Event) (whole : List Item) → old.fresh ≡ true → new.fresh ≡ false → held_events new.held ≡ [] → IsFresh new.core (settled old.wishes (stream_encoding e))
+    → Writes old x (e ∷ es) whole → Writes new x (e ∷ es) whole
+unfolding Writes
+begin_writes old new e x es whole a b none f c =
+    let P : Bool → Type 0 = λ z. WritesBy z old x (e ∷ es) whole in
+    let Q : Bool → Type 0 = λ z. WritesBy z new x (e ∷ es) whole in
+    let s : Settings = settled old.wishes (stream_encoding e) in
+    let k : IsLetOut old.wishes x (e ∷ es) whole = subst P a c in
+    let R : List Event → Type 0 = λ t. LetsOut new.core (t ++ (e ∷ es)) (written (laid s (placed at.StreamStart) (let_out (e ∷ es)))) in
+    let S : List Item → Type 0 = λ t. LetsOut new.core (held_events new.held ++ (e ∷ es)) t in
+    subst Q (sym b) (ap (λ (z : Settings). z.encoding) f.settings ∙ sym k.coded, subst S (sym k.is) (subst R (sym none) (fresh_lets_out new.core s (e ∷ es) f)))
+
+pub inside_first : (i : Inside) (core : Core) (e : Event) (s : Settings) (z : yaml_encoding_t) → IsEmitter i → i.fresh ≡ true → s ≡ settled i.wishes z → z ≡ stream_encoding e → IsFresh core s
+    → JudgesFirst (emitter_of i) e (record { wishes = i.wishes; limit = i.limit; core = core; held = i.held; fresh = false; opened = i.opened; closed = i.closed; fault = option_map fault_of i.fault })
+inside_first i core e s z inv fr a b f =
+    let P : Settings → Type 0 = λ t. IsFresh core t in
+    let Q : yaml_encoding_t → Type 0 = λ t. IsFresh core (settled i.wishes t) in
+    let f' : IsFresh core (settled i.wishes (stream_encoding e)) = subst Q b (subst P a f) in
+    let new : Emitter = record { wishes = i.wishes; limit = i.limit; core = core; held = i.held; fresh = false; opened = i.opened; closed = i.closed; fault = option_map fault_of i.fault } in
+    record {
+      refuses = λ es. begin_refuses (emitter_of i) new e es fr refl (inv.begun fr).0 f';
+      writes = λ x es whole c. begin_writes (emitter_of i) new e x es whole fr refl (inv.begun fr).0 f' c;
+    }
+
+pub first_judged : (old mid new : Emitter) (e : Event) → JudgesFirst old e mid → Judged mid e new → Judged old e new
+first_judged old mid new e p q = record {
+  refuses = λ g es. q.refuses g es ∙ p.refuses es;
+  writes = λ x es whole c. q.writes x es whole (p.writes x es whole c);
+}
+
+-- ---- behind a fault
+
+refused_by : (s : Status) (b : Bool) (p : Option Problem) (f : Fault) → s ≡ Going → fault_by s b p ≡ Some f → (x : Problem) × (p ≡ Some x)
+refused_by Going b None f g h = absurd (cc)
+refused_by Going b (Some x) f g h = (x, refl)
+refused_by Full b p f g h = absurd (cc)
+refused_by Deep b p f g h = absurd (cc)
+refused_by Starved b p f g h = absurd (cc)
+
+stuck_refuses : (core : Core) (f : Fault) (xs ys : List Event) → refusal_of core ≡ Some f → core.sink.status ≡ Going → refusal_behind core xs ≡ refusal_behind core ys
+unfolding refusal_behind
+stuck_refuses core f xs ys h g =
+    let r = refused_by core.sink.status core.starved (refused_at core.place) f g h in
+    or_some (refused_at core.place) _ r.0 r.1 ∙ sym (or_some (refused_at core.place) _ r.0 r.1)
+
+stuck_lets_out : (core : Core) (f : Fault) (xs ys : List Event) (whole : List Item) → refusal_of core ≡ Some f → LetsOut core xs whole → LetsOut core ys whole
+unfolding LetsOut
+stuck_lets_out core f xs ys whole h e =
+    status_cases core.sink.status
+    (λ g.
+    let r = refused_by core.sink.status core.starved (refused_at core.place) f g h in
+    let P : List Item → Type 0 = λ t. Ends core.sink t whole in
+    subst P (unless_some (refused_at core.place) r.0 _ _ _ r.1 ∙ sym (unless_some (refused_at core.place) r.0 _ _ _ r.1)) e)
+    (λ n. ends_other core.sink _ _ whole n e)
+
+stuck_verdict : (e : Emitter) (f : Fault) (xs ys : List Event) → e.fresh ≡ false → refusal_of e.core ≡ Some f → e.core.sink.status ≡ Going → verdict e xs ≡ verdict e ys
+unfolding verdict
+stuck_verdict e f xs ys b h g = ap (λ z. verdict_by z e xs) b ∙ (stuck_refuses e.core f _ _ h g ∙ sym (ap (λ z. verdict_by z e ys) b))
+
+stuck_writes : (e : Emitter) (f : Fault) (x : Encoding) (xs ys : List Event) (whole : List Item) → e.fresh ≡ false → refusal_of e.core ≡ Some f → Writes e x xs whole → Writes e x ys whole
+unfolding Writes
+stuck_writes e f x xs ys whole b h c =
+    let P : Bool → Type 0 = λ z. WritesBy z e x xs whole in
+    let Q : Bool → Type 0 = λ z. WritesBy z e x ys whole in
+    let k = subst P b c in
+    subst Q (sym b) (k.0, stuck_lets_out e.core f _ _ whole h k.1)
+
+pub inside_stuck_judged : (i : Inside) (f : yaml_fault_t) (e : Event) → IsEmitter i → i.fault ≡ Some f → Judged (emitter_of i) e (emitter_of i)
+inside_stuck_judged i f e inv is =
+    let some : option_map fault_of i.fault ≡ Some (fault_of f) = ap (option_map fault_of) is in
+    let fr : i.fresh ≡ false = not_true i.fresh (λ t. let k = (inv.begun t).1.0 in cc) in
+    record {
+      refuses = λ g es. stuck_verdict (emitter_of i) (fault_of f) es (e ∷ es) fr (sym inv.faulty ∙ some) g;
+      writes = λ x es whole c. stuck_writes (emitter_of i) (fault_of f) x (e ∷ es) es whole fr (sym inv.faulty ∙ some) c;
+    }
+
+-- ---- what an emitter tells
+
+let_out_by : (s : Status) (limit : ℕ) (x : Encoding) (bytes : List ℕ) (text whole : List Item) → (s ≡ Going → text ≡ []) → EndsBy s limit x bytes text whole → HasLetOut s limit bytes (encode x whole) (is_deep whole)
+unfolding encode is_deep
+let_out_by Going limit x bytes text whole n h =
+    let P : List Item → Type 0 = λ t. EndsBy Going limit x bytes t whole in
+    let k : EndsBy Going limit x bytes [] whole = subst P (n refl) h in
+    (sym (k.0 ∙ append-nil bytes), (k.1.0, k.1.1))
+let_out_by Full limit x bytes text whole n h = h
+let_out_by Deep limit x bytes text whole n h = h
+let_out_by Starved limit x bytes text whole n h = h
+
+ends_let_out : (o : Output) (text whole : List Item) → (o.status ≡ Going → text ≡ []) → Ends o text whole → HasLetOut o.status o.limit o.bytes (encode o.encoding whole) (is_deep whole)
+unfolding Ends
+ends_let_out o text whole n h = let_out_by o.status o.limit o.encoding o.bytes text whole n h
+
+held_stays : (es : List Event) → is_ready es ≡ false → let_out es ≡ []
+unfolding let_out
+held_stays [] r = refl
+held_stays (e ∷ es) r = rw r refl
+
+held_unjudged : (canonical : Bool) (h : Shape) (es : List Event) → is_ready es ≡ false → first_refusal canonical h (let_out es) ≡ None
+unfolding first_refusal
+held_unjudged canonical h es r = ap (first_refusal canonical h) (held_stays es r)
+
+held_unwritten : (s : Settings) (st : State) (es : List Event) (c : Cursor) (rest : Rest) → is_ready es ≡ false → laid s st (let_out es) c rest ≡ rest c
+unfolding laid
+held_unwritten s st es c rest r = ap (λ z. laid s st z c rest) (held_stays es r)
+
+-- nothing is to come behind a refusal, and what is held isn't let out
+refusal_now : (p : Option Problem) (canonical : Bool) (h : Shape) (es : List Event) → (p ≡ None → is_ready es ≡ false) → p ≡ or_else p (first_refusal canonical h (let_out es))
+refusal_now None canonical h es w = sym (held_unjudged canonical h es (w refl))
+refusal_now (Some x) canonical h es w = refl
+
+text_now : (p : Option Problem) (s : Settings) (st : State) (es : List Event) (c : Cursor) → (p ≡ None → is_ready es ≡ false) → unless p (laid s st (let_out es)) c nothing_more ≡ []
+text_now None s st es c w = held_unwritten s st es c nothing_more (w refl)
+text_now (Some x) s st es c w = refl
+
+open_goes : (s : Status) (p : Place) → s ≡ Going → refused_at p ≡ None → goes_on s p ≡ true
+open_goes Going at.StreamStart g h = refl
+open_goes Going (at.Documents first unended) g h = refl
+open_goes Going at.Node g h = refl
+open_goes Going at.DocumentEnd g h = refl
+open_goes Going at.End g h = refl
+open_goes Going (at.Refused p) g h = absurd (cc)
+open_goes Full p g h = absurd (cc)
+open_goes Deep p g h = absurd (cc)
+open_goes Starved p g h = absurd (cc)
+
+fault_now : (s : Status) (b : Bool) (p q : Option Problem) → (s ≡ Going → p ≡ q) → fault_by s b p ≡ fault_by s b q
+fault_now Going b p q h = ap (option_map problem_fault) (h refl)
+fault_now Full b p q h = refl
+fault_now Deep b p q h = refl
+fault_now Starved b p q h = refl
+
+waits_now : (i : Inside) → IsEmitter i → i.core.sink.status ≡ Going → refused_at i.core.place ≡ None → is_ready (held_events i.held ++ []) ≡ false
+waits_now i inv g o = ap is_ready (append-nil (held_events i.held)) ∙ inv.few (open_goes i.core.sink.status i.core.place g o)
+
+verdict_now : (i : Inside) → IsEmitter i → i.fresh ≡ false → i.core.sink.status ≡ Going → refused_at i.core.place ≡ verdict (emitter_of i) []
+unfolding verdict refusal_behind
+verdict_now i inv fr g =
+    refusal_now (refused_at i.core.place) _ _ (held_events i.held ++ []) (waits_now i inv g) ∙ sym (ap (λ z. verdict_by z (emitter_of i) []) fr)
+
+output_now : (i : Inside) (x : Encoding) (whole : List Item) → IsEmitter i → i.fresh ≡ false → Writes (emitter_of i) x [] whole → HasLetOut i.core.sink.status i.limit i.core.sink.bytes (encode x whole) (is_deep whole)
+unfolding Writes LetsOut
+output_now i x whole inv fr h =
+    let P : Bool → Type 0 = λ z. WritesBy z (emitter_of i) x [] whole in
+    let k = subst P fr h in
+    let Q : ℕ → Type 0 = λ z. HasLetOut i.core.sink.status z i.core.sink.bytes (encode x whole) (is_deep whole) in
+    let R : Encoding → Type 0 = λ z. HasLetOut i.core.sink.status i.core.sink.limit i.core.sink.bytes (encode z whole) (is_deep whole) in
+    subst Q inv.limited (subst R k.0 (ends_let_out i.core.sink _ whole (λ g. text_now (refused_at i.core.place) _ _ (held_events i.held ++ []) _ (waits_now i inv g)) k.1))
+
+first_verdict : (e : Emitter) → e.fresh ≡ true → None ≡ verdict e []
+unfolding verdict first_refusal let_out
+first_verdict e fr = sym (ap (λ z. verdict_by z e []) fr)
+
+first_output : (e : Emitter) (x : Encoding) (whole : List Item) → e.fresh ≡ true → e.core.sink.bytes ≡ [] → e.core.sink.status ≡ Going → Writes e x [] whole → HasLetOut e.core.sink.status e.limit e.core.sink.bytes (encode x whole) (is_deep whole)
+unfolding Writes laid let_out encode is_deep
+first_output e x whole fr b g h =
+    let P : Bool → Type 0 = λ z. WritesBy z e x [] whole in
+    let k : IsLetOut e.wishes x [] whole = subst P fr h in
+    let S : Status → Type 0 = λ z. HasLetOut z e.limit e.core.sink.bytes (encode x whole) (is_deep whole) in
+    let W : List Item → Type 0 = λ t. HasLetOut Going e.limit e.core.sink.bytes (encode x t) (is_deep t) in
+    subst S (sym g) (subst W (sym k.is) (b, (rw b (omega arith), refl)))
+
+none_refused : (s : Status) (b : Bool) (p : Option Problem) → s ≡ Going → None ≡ fault_by s b p → p ≡ None
+none_refused Going b None g h = refl
+none_refused Going b (Some x) g h = absurd (cc)
+none_refused Full b p g h = absurd (cc)
+none_refused Deep b p g h = absurd (cc)
+none_refused Starved b p g h = absurd (cc)
+
+fresh_refused : (i : Inside) → IsEmitter i → i.fresh ≡ true → refused_at i.core.place ≡ None
+fresh_refused i inv fr = let k = inv.begun fr in none_refused i.core.sink.status i.core.starved (refused_at i.core.place) k.1.1.1 (sym k.1.0 ∙ inv.faulty)
+
+tells_by : (b : Bool) (i : Inside) → b ≡ i.fresh → IsEmitter i → Tells (emitter_of i)
+tells_by true i fr inv =
+    let begun = inv.begun (sym fr) in
+    record {
+      fault = inv.faulty ∙ fault_now i.core.sink.status i.core.starved _ _ (λ g. fresh_refused i inv (sym fr) ∙ first_verdict (emitter_of i) (sym fr));
+      output = λ x whole h. first_output (emitter_of i) x whole (sym fr) begun.1.1.0 begun.1.1.1 h;
+    }
+tells_by false i fr inv = record {
+  fault = inv.faulty ∙ fault_now i.core.sink.status i.core.starved _ _ (verdict_now i inv (sym fr));
+  output = λ x whole h. output_now i x whole inv (sym fr) h;
+}
+
+pub inside_tells : (i : Inside) → IsEmitter i → Tells (emitter_of i)
+inside_tells i inv = tells_by i.fresh i refl inv

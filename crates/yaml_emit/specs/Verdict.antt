@@ -1,0 +1,69 @@
+-- What an emitter refuses and has written, with the events that follow.
+use Rattle.std.specs.Prelude.{◌≡◌, ℕ, ◌≤◌, Bool, true, false, List, [], ◌∷◌, ◌++◌, length, Option}
+use Rattle.yaml_scan.specs.declared.yaml_encoding_t.TheVariants.{YAML_ANY_ENCODING}
+use Rattle.yaml_emit_text.specs.declared.Encoding.{Encoding}
+use Rattle.yaml_emit_text.specs.declared.Settings.{Settings}
+use Rattle.yaml_emit_text.specs.declared.Status.{Status}
+use Rattle.yaml_emit_text.specs.declared.Status.TheVariants.{Going, Full, Deep, Starved}
+use Rattle.yaml_emit_text.specs.declared.Wishes.{Wishes}
+use Rattle.yaml_emit_text.specs.Text.{Item, encode, is_deep}
+use Rattle.yaml_emit_text.specs.Layout.{written}
+use Rattle.yaml_emit_text.specs.Settings.{settled}
+use Rattle.yaml_emit_layout.specs.declared.Problem.{Problem}
+use Rattle.yaml_emit_layout.specs.declared.Place.TheVariants as at
+use Rattle.yaml_emit_layout.specs.Content.{Event}
+use Rattle.yaml_emit_layout.specs.State.{placed}
+use Rattle.yaml_emit.specs.Held.{held_events}
+use Rattle.yaml_emit.specs.Judged.{first_shape, let_out, first_refusal, laid, refusal_behind, LetsOut}
+use Rattle.yaml_emit.specs.Emitter.{Emitter, stream_encoding, fault_by, HasWritten}
+
+abbrev pub verdict_by : Bool → Emitter → List Event → Option Problem
+verdict_by true e es = first_refusal e.wishes.canonical first_shape (let_out es)
+verdict_by false e es = refusal_behind e.core (held_events e.held ++ es)
+
+-- The problem of the first event that is refused, among those that are let out once these are given too.
+unfoldable pub verdict : Emitter → List Event → Option Problem
+verdict e es = verdict_by e.fresh e es
+
+-- the settings in force from the first event on
+abbrev pub first_settings : Wishes → List Event → Settings
+first_settings w [] = settled w YAML_ANY_ENCODING
+first_settings w (e ∷ es) = settled w (stream_encoding e)
+
+-- a fresh emitter's text, and its encoding
+pub record IsLetOut (w : Wishes) (x : Encoding) (es : List Event) (whole : List Item) : Type 0 where
+  pub coded : x ≡ (first_settings w es).encoding
+  pub is : whole ≡ written (laid (first_settings w es) (placed at.StreamStart) (let_out es))
+
+abbrev pub WritesBy : Bool → Emitter → Encoding → List Event → List Item → Type 0
+WritesBy true e x es whole = IsLetOut e.wishes x es whole
+WritesBy false e x es whole = (e.core.sink.encoding ≡ x) × LetsOut e.core (held_events e.held ++ es) whole
+
+-- Once these events are given too, `whole` is what is written, in that encoding: all events that are let out, up to the first
+-- one that is refused.
+unfoldable pub Writes : Emitter → Encoding → List Event → List Item → Type 0
+Writes e x es whole = WritesBy e.fresh e x es whole
+
+-- An event was given, and was judged in its turn: whatever follows, the same event is refused, unless the output has stopped,
+-- and the same is written.
+pub record Judged (old : Emitter) (e : Event) (new : Emitter) : Type 0 where
+  pub refuses : new.core.sink.status ≡ Going → (es : List Event) → verdict new es ≡ verdict old (e ∷ es)
+  pub writes : (x : Encoding) (es : List Event) (whole : List Item) → Writes old x (e ∷ es) whole → Writes new x es whole
+
+-- the settings came into force with the first event
+pub record JudgesFirst (old : Emitter) (e : Event) (new : Emitter) : Type 0 where
+  pub refuses : (es : List Event) → verdict new (e ∷ es) ≡ verdict old (e ∷ es)
+  pub writes : (x : Encoding) (es : List Event) (whole : List Item) → Writes old x (e ∷ es) whole → Writes new x (e ∷ es) whole
+
+-- All of it is in the output, which passes no limit; or the output has stopped there.
+abbrev pub HasLetOut : Status → ℕ → List ℕ → List ℕ → Bool → Type 0
+HasLetOut Going limit output bytes deep = (output ≡ bytes) × ((length output ≤ limit) × (deep ≡ false))
+HasLetOut Full limit output bytes deep = HasWritten Full limit output bytes deep
+HasLetOut Deep limit output bytes deep = HasWritten Deep limit output bytes deep
+HasLetOut Starved limit output bytes deep = HasWritten Starved limit output bytes deep
+
+-- The fault is that of the first refused event among those that were let out, or, once the output has stopped, that of what
+-- stopped it; the output has all that was let out, or stopped at a limit that this passes or for want of memory.
+pub record Tells (e : Emitter) : Type 0 where
+  pub fault : e.fault ≡ fault_by e.core.sink.status e.core.starved (verdict e [])
+  pub output : (x : Encoding) (whole : List Item) → Writes e x [] whole → HasLetOut e.core.sink.status e.limit e.core.sink.bytes (encode x whole) (is_deep whole)

@@ -1,0 +1,61 @@
+-- ASCII at the end of the output.
+use Rattle.std.proofs.Common.{◌≡◌, ℕ, ◌+◌, ◌<◌, List, [], ◌∷◌, ◌++◌, length, get_or, true, false, cond, refl, sym, ◌∙◌, ap, arith}
+use Rattle.std.specs.Prelude.{if◌then◌else◌, zero, suc, ◌==◌}
+use Rattle.std.specs.Str.{IsAscii}
+use Rattle.std.proofs.lemmas.Bool.Decides.{nat_tests}
+use Rattle.std.proofs.lemmas.Str.{IsAscii-drop}
+use Rattle.yaml_emit_sink.specs.declared.cursor.Cursor.{Cursor}
+use Rattle.yaml_emit_sink.specs.declared.cursor.Status.TheVariants.{Going}
+use Rattle.yaml_emit_sink.specs.declared.settings.Encoding.TheVariants.{Utf8}
+use Rattle.yaml_emit_sink.specs.Text.{encode, char_bytes, is_deep}
+use Rattle.yaml_emit_sink.specs.Layout.{Rest, letters}
+use Rattle.yaml_emit_sink.specs.Appends.{AppendsBy, lettered}
+use Rattle.yaml_emit_sink.specs.Sink.{Output, Puts}
+use Rattle.yaml_emit_sink.proofs.Sinks.{puts_run, puts_nothing}
+
+-- the cursor behind characters
+behind : List ℕ → Cursor → Cursor
+behind [] c = c
+behind (x ∷ xs) c = behind xs (record { column = c.column + 1; white = false; bare = false; kept = c.kept })
+
+behind_is : (x : ℕ) (xs : List ℕ) (c : Cursor) → behind (x ∷ xs) c ≡ lettered (length (x ∷ xs)) c
+unfolding behind
+behind_is x [] c = refl
+behind_is x (y ∷ ys) c =
+    let at : ℕ → Cursor = λ k. record { column = k; white = false; bare = false; kept = c.kept } in
+    let e : c.column + 1 + length (y ∷ ys) ≡ c.column + length (x ∷ y ∷ ys) = omega arith in
+    behind_is y ys (at (c.column + 1)) ∙ ap at e
+
+first_byte : (x : ℕ) (xs : List ℕ) → IsAscii (x ∷ xs) → x < 0x80
+first_byte x xs h = h 0
+
+more_bytes : (x : ℕ) (xs : List ℕ) → IsAscii (x ∷ xs) → IsAscii xs
+more_bytes x xs h = IsAscii-drop (x ∷ xs) 1 h
+
+one_byte : (x : ℕ) → x < 0x80 → char_bytes Utf8 x ≡ x ∷ []
+unfolding char_bytes
+one_byte x h = grind arith
+
+letters_encode : (xs : List ℕ) (c : Cursor) (rest : Rest) → IsAscii xs → encode Utf8 (letters xs c rest) ≡ xs ++ encode Utf8 (rest (behind xs c))
+unfolding encode letters behind
+letters_encode [] c rest h = refl
+letters_encode (x ∷ xs) c rest h =
+    let d : Cursor = record { column = c.column + 1; white = false; bare = false; kept = c.kept } in
+    ap (λ b. b ++ encode Utf8 (letters xs d rest)) (one_byte x (first_byte x xs h)) ∙ ap (λ (t : List ℕ). x ∷ t) (letters_encode xs d rest (more_bytes x xs h))
+
+letters_deep : (xs : List ℕ) (c : Cursor) (rest : Rest) → is_deep (letters xs c rest) ≡ is_deep (rest (behind xs c))
+unfolding is_deep letters behind
+letters_deep [] c rest = refl
+letters_deep (x ∷ xs) c rest = letters_deep xs (record { column = c.column + 1; white = false; bare = false; kept = c.kept }) rest
+
+pub puts_ascii : (a b : Output) (xs : List ℕ) → IsAscii xs → 0 < length xs → a.status ≡ Going → a.encoding ≡ Utf8 → b.encoding ≡ a.encoding → b.limit ≡ a.limit → AppendsBy b.status a.limit a.bytes b.bytes xs
+    → (b.status ≡ Going → b.cursor ≡ lettered (length xs) a.cursor) → Puts a b (letters xs)
+puts_ascii a b [] s p g x e l h k = absurd (omega (arith, p))
+puts_ascii a b (y ∷ ys) s p g x e l h k =
+    puts_run a b (letters (y ∷ ys)) (y ∷ ys) (behind (y ∷ ys)) g e l (λ rest. rw x (letters_encode (y ∷ ys) a.cursor rest s)) (λ rest. letters_deep (y ∷ ys) a.cursor rest) h
+    (λ going. k going ∙ sym (behind_is y ys a.cursor))
+
+pub no_letters : (a : Output) (xs : List ℕ) → (length xs == 0) ≡ true → Puts a a (letters xs)
+unfolding letters
+no_letters a [] e = puts_nothing a
+no_letters a (x ∷ xs) e = absurd (grind (arith, nat_tests, e))

@@ -1,0 +1,3 @@
+pub mod Sinks
+mod Encodes
+mod Ascii

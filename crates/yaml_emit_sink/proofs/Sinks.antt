@@ -1,0 +1,247 @@
+-- Laws of what an output owes.
+use Rattle.std.proofs.Common.{◌≡◌, ◌≢◌, ℕ, ◌+◌, ◌-◌, ◌<◌, ◌≤◌, List, ◌∷◌, ◌++◌, length, drop, get_or, Bool, true, false, cond, refl, sym, subst, ◌∙◌, ap, append_assoc, arith, length-append}
+use Rattle.std.specs.Prelude.{if◌then◌else◌, zero, suc, replicate}
+use Rattle.yaml_emit_sink.specs.declared.settings.Encoding.TheVariants.{Utf8}
+use Rattle.std.proofs.lemmas.List.{take-append-drop, take-append-le, drop_more, drop_all}
+use Rattle.yaml_emit_sink.specs.declared.cursor.Cursor.{Cursor}
+use Rattle.yaml_emit_sink.specs.declared.cursor.Status.{Status}
+use Rattle.yaml_emit_sink.specs.declared.cursor.Status.TheVariants.{Going, Full, Deep, Starved}
+use Rattle.yaml_emit_sink.specs.declared.settings.Encoding.{Encoding}
+use Rattle.yaml_emit_sink.specs.Text.{Item, letter, deep, encode, char_bytes, is_deep}
+use Rattle.yaml_emit_sink.specs.Layout.{Layout, Rest, ◌▹◌, stay, choose, when, char, letters, blank, blanks, too_deep}
+use Rattle.yaml_emit_sink.specs.Appends.{AppendsBy, blanked}
+use Rattle.yaml_emit_sink.specs.Sink.{Output, Ends, EndsBy, Owes, Puts, stroke}
+
+-- a sink that has stopped takes every text
+ends_stopped : (s : Status) (limit : ℕ) (x : Encoding) (output : List ℕ) (t u whole : List Item) → s ≢ Going → EndsBy s limit x output t whole → EndsBy s limit x output u whole
+ends_stopped Going limit x output t u whole n h = absurd (n refl)
+ends_stopped Full limit x output t u whole n h = h
+ends_stopped Deep limit x output t u whole n h = h
+ends_stopped Starved limit x output t u whole n h = h
+
+pub ends_other : (a : Output) (t u whole : List Item) → a.status ≢ Going → Ends a t whole → Ends a u whole
+unfolding Ends
+ends_other a t u whole n h = ends_stopped a.status a.limit a.encoding a.bytes t u whole n h
+
+pub puts_nothing : (a : Output) → Puts a a stay
+puts_nothing a = record { ends = λ rest whole h. h; encoding = refl; limit = refl; going = λ g. g }
+
+pub owes_same : (a : Output) (x : Layout) → Owes a a x x
+owes_same a x = record { ends = λ rest whole h. h; encoding = refl; limit = refl; going = λ g. g }
+
+pub puts_stopped : (a : Output) (x : Layout) → a.status ≢ Going → Puts a a x
+puts_stopped a x n = record { ends = λ rest whole h. ends_other a _ _ whole n h; encoding = refl; limit = refl; going = λ g. g }
+
+-- some of what is owed is written
+pub owes_more : (a b c : Output) (x y z : Layout) → Owes a b x (y ▹ z) → Puts b c y → Owes a c x z
+owes_more a b c x y z p q = record {
+  ends = λ rest whole h. q.ends (λ d. z d rest) whole (p.ends rest whole h);
+  encoding = q.encoding ∙ p.encoding;
+  limit = q.limit ∙ p.limit;
+  going = λ g. p.going (q.going g);
+}
+
+-- one behind the other
+pub puts_both : (a b c : Output) (x y : Layout) → Puts a b x → Puts b c y → Puts a c (x ▹ y)
+puts_both a b c x y p q = record {
+  ends = λ rest whole h. q.ends rest whole (p.ends (λ d. y d rest) whole h);
+  encoding = q.encoding ∙ p.encoding;
+  limit = q.limit ∙ p.limit;
+  going = λ g. p.going (q.going g);
+}
+
+-- a layout that is another at the cursor
+pub puts_as : (a b : Output) (x y : Layout) → ((rest : Rest) → y a.cursor rest ≡ x a.cursor rest) → Puts a b x → Puts a b y
+puts_as a b x y e p = record {
+  ends = λ rest whole h. let P : List Item → Type 0 = λ t. Ends a t whole in p.ends rest whole (subst P (e rest) h);
+  encoding = p.encoding;
+  limit = p.limit;
+  going = p.going;
+}
+
+-- the cursor alone is moved
+pub puts_moved : (a b : Output) (f : Cursor → Cursor) → b.bytes ≡ a.bytes → b.status ≡ a.status → b.encoding ≡ a.encoding → b.limit ≡ a.limit → b.cursor ≡ f a.cursor → Puts a b (λ c rest. rest (f c))
+unfolding Ends
+puts_moved a b f o s e l k = record {
+  ends = λ rest whole h. rw (o, s, e, l, k) h;
+  encoding = e;
+  limit = l;
+  going = λ g. sym s ∙ g;
+}
+
+cond_true : {A : Type 0} (b : Bool) (x y : A) → b ≡ true → cond b x y ≡ x
+cond_true true x y e = refl
+cond_true false x y e = absurd (cc)
+
+cond_false : {A : Type 0} (b : Bool) (x y : A) → b ≡ false → cond b x y ≡ y
+cond_false false x y e = refl
+cond_false true x y e = absurd (cc)
+
+-- by a test of the cursor
+pub puts_chosen : (a b : Output) (t : Cursor → Bool) (x y : Layout) → t a.cursor ≡ true → Puts a b x → Puts a b (choose t x y)
+puts_chosen a b t x y e p = puts_as a b x (choose t x y) (λ rest. cond_true (t a.cursor) _ _ e) p
+
+pub puts_unchosen : (a b : Output) (t : Cursor → Bool) (x y : Layout) → t a.cursor ≡ false → Puts a b y → Puts a b (choose t x y)
+puts_unchosen a b t x y e p = puts_as a b y (choose t x y) (λ rest. cond_false (t a.cursor) _ _ e) p
+
+-- by a flag
+pub puts_when : (a b : Output) (t : Bool) (x : Layout) → t ≡ true → Puts a b x → Puts a b (when t x)
+puts_when a b t x e p = let P : Bool → Type 0 = λ v. Puts a b (when v x) in subst P (sym e) p
+
+pub puts_unless : (a : Output) (t : Bool) (x : Layout) → t ≡ false → Puts a a (when t x)
+puts_unless a t x e = let P : Bool → Type 0 = λ v. Puts a a (when v x) in subst P (sym e) (puts_nothing a)
+
+pub puts_if : (a b : Output) (t : Bool) (x y : Layout) → t ≡ true → Puts a b x → Puts a b (if t then x else y)
+puts_if a b t x y e p = let P : Bool → Type 0 = λ v. Puts a b (if v then x else y) in subst P (sym e) p
+
+pub puts_else : (a b : Output) (t : Bool) (x y : Layout) → t ≡ false → Puts a b y → Puts a b (if t then x else y)
+puts_else a b t x y e p = let P : Bool → Type 0 = λ v. Puts a b (if v then x else y) in subst P (sym e) p
+
+-- what is appended was to come
+appends_ends : (s : Status) (limit : ℕ) (x : Encoding) (old new bytes : List ℕ) (text more whole : List Item) → encode x text ≡ bytes ++ encode x more → is_deep text ≡ is_deep more
+    → AppendsBy s limit old new bytes → EndsBy Going limit x old text whole → EndsBy s limit x new more whole
+appends_ends Going limit x old new bytes text more whole b d a e = (e.0 ∙ rw (a.0, append_assoc, b) refl, (a.1, e.1.1 ∙ d))
+appends_ends Full limit x old new bytes text more whole b d a e =
+    let longer : encode x whole ≡ (old ++ bytes) ++ encode x more = e.0 ∙ ap (λ t. old ++ t) b ∙ sym (append_assoc old bytes (encode x more)) in
+    (rw (longer, take-append-le limit (old ++ bytes) (encode x more) (omega (arith, a.1))) a.0, rw longer (omega (arith, a.1, length-append (old ++ bytes) (encode x more))))
+appends_ends Deep limit x old new bytes text more whole b d a e = absurd a
+appends_ends Starved limit x old new bytes text more whole b d a e = (bytes ++ encode x more, rw a (e.0 ∙ ap (λ t. old ++ t) b))
+
+pub status_cases : {P : Type 0} (s : Status) → (s ≡ Going → P) → (s ≢ Going → P) → P
+status_cases Going p q = p refl
+status_cases Full p q = q (λ e. cc)
+status_cases Deep p q = q (λ e. cc)
+status_cases Starved p q = q (λ e. cc)
+
+-- a character's bytes were appended
+pub puts_stroke : (a b : Output) (x : ℕ) (n : Cursor → Cursor) → a.status ≡ Going → b.encoding ≡ a.encoding → b.limit ≡ a.limit → AppendsBy b.status a.limit a.bytes b.bytes (char_bytes a.encoding x) → (b.status ≡ Going → b.cursor ≡ n a.cursor)
+    → Puts a b (λ c rest. letter x ∷ rest (n c))
+unfolding Ends encode is_deep
+puts_stroke a b x n g e l h k = record {
+  ends = λ rest whole w.
+      let P : Status → Type 0 = λ s. EndsBy s a.limit a.encoding a.bytes (letter x ∷ rest (n a.cursor)) whole in
+      let back : Ends b (rest (n a.cursor)) whole = rw (e, l) (appends_ends b.status a.limit a.encoding a.bytes b.bytes (char_bytes a.encoding x) (letter x ∷ rest (n a.cursor)) (rest (n a.cursor)) whole refl refl h (subst P g w)) in
+      let Q : Cursor → Type 0 = λ c. Ends b (rest c) whole in
+      status_cases b.status (λ going. subst Q (sym (k going)) back) (λ stopped. ends_other b _ _ whole stopped back);
+  encoding = e;
+  limit = l;
+  going = λ _. g;
+}
+
+-- a layout of those bytes was appended
+pub puts_run : (a b : Output) (y : Layout) (bytes : List ℕ) (n : Cursor → Cursor) → a.status ≡ Going → b.encoding ≡ a.encoding → b.limit ≡ a.limit
+    → ((rest : Rest) → encode a.encoding (y a.cursor rest) ≡ bytes ++ encode a.encoding (rest (n a.cursor))) → ((rest : Rest) → is_deep (y a.cursor rest) ≡ is_deep (rest (n a.cursor)))
+    → AppendsBy b.status a.limit a.bytes b.bytes bytes → (b.status ≡ Going → b.cursor ≡ n a.cursor) → Puts a b y
+unfolding Ends
+puts_run a b y bytes n g e l u d h k = record {
+  ends = λ rest whole w.
+      let P : Status → Type 0 = λ s. EndsBy s a.limit a.encoding a.bytes (y a.cursor rest) whole in
+      let back : Ends b (rest (n a.cursor)) whole = rw (e, l) (appends_ends b.status a.limit a.encoding a.bytes b.bytes bytes (y a.cursor rest) (rest (n a.cursor)) whole (u rest) (d rest) h (subst P g w)) in
+      let Q : Cursor → Type 0 = λ c. Ends b (rest c) whole in
+      status_cases b.status (λ going. subst Q (sym (k going)) back) (λ stopped. ends_other b _ _ whole stopped back);
+  encoding = e;
+  limit = l;
+  going = λ _. g;
+}
+
+-- the cursor behind a space and then some
+stepped : ℕ → Cursor → Cursor
+stepped zero c = c
+stepped (suc n) c = stepped n (record { column = c.column + 1; white = true; bare = c.bare; kept = c.kept })
+
+stepped_is : (n : ℕ) (c : Cursor) → stepped (suc n) c ≡ blanked (suc n) c
+unfolding stepped
+stepped_is zero c = refl
+stepped_is (suc n) c =
+    let at : ℕ → Cursor = λ k. record { column = k; white = true; bare = c.bare; kept = c.kept } in
+    let e : c.column + 1 + suc n ≡ c.column + suc (suc n) = omega arith in
+    stepped_is n (at (c.column + 1)) ∙ ap at e
+
+blanks_encode : (n : ℕ) (c : Cursor) (rest : Rest) → encode Utf8 (blanks n c rest) ≡ replicate n 32 ++ encode Utf8 (rest (stepped n c))
+unfolding encode char_bytes blanks stepped
+blanks_encode zero c rest = refl
+blanks_encode (suc n) c rest = ap (λ (t : List ℕ). 32 ∷ t) (blanks_encode n (record { column = c.column + 1; white = true; bare = c.bare; kept = c.kept }) rest)
+
+blanks_deep : (n : ℕ) (c : Cursor) (rest : Rest) → is_deep (blanks n c rest) ≡ is_deep (rest (stepped n c))
+unfolding is_deep blanks stepped
+blanks_deep zero c rest = refl
+blanks_deep (suc n) c rest = blanks_deep n (record { column = c.column + 1; white = true; bare = c.bare; kept = c.kept }) rest
+
+pub no_blanks : (a : Output) (n : ℕ) → n ≡ 0 → Puts a a (blanks n)
+unfolding blanks
+no_blanks a n e = rw e (puts_nothing a)
+
+-- spaces of one byte were appended
+spaces_more : (a b : Output) (n : ℕ) → a.status ≡ Going → a.encoding ≡ Utf8 → b.encoding ≡ a.encoding → b.limit ≡ a.limit → AppendsBy b.status a.limit a.bytes b.bytes (replicate (suc n) 32) → (b.status ≡ Going → b.cursor ≡ blanked (suc n) a.cursor)
+    → Puts a b (blanks (suc n))
+spaces_more a b n g x e l h k =
+    puts_run a b (blanks (suc n)) (replicate (suc n) 32) (stepped (suc n)) g e l (λ rest. rw x (blanks_encode (suc n) a.cursor rest)) (λ rest. blanks_deep (suc n) a.cursor rest) h (λ going. k going ∙ sym (stepped_is n a.cursor))
+
+pub puts_spaces : (a b : Output) (n : ℕ) → 0 < n → a.status ≡ Going → a.encoding ≡ Utf8 → b.encoding ≡ a.encoding → b.limit ≡ a.limit → AppendsBy b.status a.limit a.bytes b.bytes (replicate n 32) → (b.status ≡ Going → b.cursor ≡ blanked n a.cursor)
+    → Puts a b (blanks n)
+puts_spaces a b zero p g x e l h k = absurd (omega (arith, p))
+puts_spaces a b (suc n) p g x e l h k = spaces_more a b n g x e l h k
+
+pub puts_blank : (a b : Output) → Puts a b (stroke 32 false true a.cursor.bare) → Puts a b blank
+puts_blank a b p = puts_as a b (stroke 32 false true a.cursor.bare) blank (λ rest. refl) p
+
+-- a space more of those that are owed
+pub blanks_more : (a b c : Output) (n i : ℕ) → i < n → Owes a b (blanks n) (blanks (n - i)) → Puts b c blank → Owes a c (blanks n) (blanks (n - (i + 1)))
+unfolding blanks
+blanks_more a b c n i h p q =
+    let e : n - i ≡ suc (n - (i + 1)) = omega arith in
+    let P : ℕ → Type 0 = λ k. Owes a b (blanks n) (blanks k) in
+    owes_more a b c (blanks n) blank (blanks (n - (i + 1))) (subst P e p) q
+
+pub blanks_all : (a b : Output) (n i : ℕ) → n ≤ i → Owes a b (blanks n) (blanks (n - i)) → Puts a b (blanks n)
+unfolding blanks
+blanks_all a b n i h p =
+    let e : n - i ≡ zero = omega arith in
+    let P : ℕ → Type 0 = λ k. Owes a b (blanks n) (blanks k) in subst P e p
+
+-- a character more of a text
+pub letters_more : (a b c : Output) (xs : List ℕ) (i : ℕ) → i < length xs → Owes a b (letters xs) (letters (drop i xs)) → Puts b c (char (get_or xs i 0)) → Owes a c (letters xs) (letters (drop (i + 1) xs))
+unfolding letters
+letters_more a b c xs i h p q =
+    let P : List ℕ → Type 0 = λ t. Owes a b (letters xs) (letters t) in
+    owes_more a b c (letters xs) (char (get_or xs i 0)) (letters (drop (i + 1) xs)) (subst P (drop_more xs i 0 h) p) q
+
+pub letters_all : (a b : Output) (xs : List ℕ) (i : ℕ) → length xs ≤ i → Owes a b (letters xs) (letters (drop i xs)) → Puts a b (letters xs)
+unfolding letters
+letters_all a b xs i h p =
+    let P : List ℕ → Type 0 = λ t. Owes a b (letters xs) (letters t) in subst P (drop_all _ _ h) p
+
+pub blanks_start : (a : Output) (n : ℕ) → Owes a a (blanks n) (blanks (n - 0))
+blanks_start a n = let e : n ≡ n - 0 = omega arith in let P : ℕ → Type 0 = λ k. Owes a a (blanks n) (blanks k) in subst P e (owes_same a (blanks n))
+
+-- what is written is the front of the whole
+front_of : (status : Status) (limit : ℕ) (x : Encoding) (output : List ℕ) (text whole : List Item) → EndsBy status limit x output text whole → (rest : List ℕ) × (encode x whole ≡ output ++ rest)
+front_of Going limit x output text whole h = (encode x text, h.0)
+front_of Full limit x output text whole h = (drop limit (encode x whole), sym (take-append-drop limit (encode x whole)) ∙ ap (λ t. t ++ drop limit (encode x whole)) (sym h.0))
+front_of Deep limit x output text whole h = h.1
+front_of Starved limit x output text whole h = h
+
+pub puts_starved : (a b : Output) (t : Layout) → b.bytes ≡ a.bytes → b.status ≡ Starved → a.status ≡ Going → b.encoding ≡ a.encoding → b.limit ≡ a.limit → Puts a b t
+unfolding Ends
+puts_starved a b t o s g e l = record {
+  ends = λ rest whole h. rw (o, s, e) (front_of a.status a.limit a.encoding a.bytes _ whole h);
+  encoding = e;
+  limit = l;
+  going = λ g. absurd (cc (sym s ∙ g));
+}
+
+deep_front : (status : Status) (limit : ℕ) (x : Encoding) (output : List ℕ) (text whole : List Item) → status ≡ Going → EndsBy status limit x output (deep ∷ text) whole → (is_deep whole ≡ true) × ((rest : List ℕ) × (encode x whole ≡ output ++ rest))
+unfolding is_deep
+deep_front Going limit x output text whole g h = (h.1.1, (encode x (deep ∷ text), h.0))
+deep_front Full limit x output text whole g h = absurd (cc g)
+deep_front Deep limit x output text whole g h = absurd (cc g)
+deep_front Starved limit x output text whole g h = absurd (cc g)
+
+pub puts_deep : (a b : Output) → b.bytes ≡ a.bytes → b.status ≡ Deep → a.status ≡ Going → b.encoding ≡ a.encoding → b.limit ≡ a.limit → Puts a b too_deep
+unfolding Ends
+puts_deep a b o s g e l = record {
+  ends = λ rest whole h. rw (o, s, e) (deep_front a.status a.limit a.encoding a.bytes _ whole g h);
+  encoding = e;
+  limit = l;
+  going = λ g. absurd (cc (sym s ∙ g));
+}

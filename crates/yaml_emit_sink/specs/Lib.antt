@@ -1,0 +1,6 @@
+pub mod Settings
+pub mod Text
+pub mod Layout
+pub mod Appends
+pub mod Sink
+pub mod Laws

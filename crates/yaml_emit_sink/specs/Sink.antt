@@ -1,0 +1,52 @@
+-- What an output has of a text, and what is still to come of it.
+use Rattle.std.specs.Prelude.{◌≡◌, ℕ, ◌<◌, ◌≤◌, Bool, true, List, ◌∷◌, ◌++◌, length, take}
+use Rattle.yaml_emit_sink.specs.declared.cursor.Cursor.{Cursor}
+use Rattle.yaml_emit_sink.specs.declared.sink.Sink.TheInside.{Inside}
+use Rattle.yaml_emit_sink.specs.declared.cursor.Status.{Status}
+use Rattle.yaml_emit_sink.specs.declared.cursor.Status.TheVariants.{Going, Full, Deep, Starved}
+use Rattle.yaml_emit_sink.specs.declared.settings.Encoding.{Encoding}
+use Rattle.yaml_emit_sink.specs.Text.{Item, letter, encode, is_deep}
+use Rattle.yaml_emit_sink.specs.Appends.{moved}
+use Rattle.yaml_emit_sink.specs.Layout.{Layout, Rest, stay}
+
+-- An output up to a limit: its bytes so far, and where the next character stands.
+pub record Output : Type 0 where
+  pub bytes : List ℕ
+  pub limit : ℕ
+  pub encoding : Encoding
+  pub status : Status
+  pub cursor : Cursor
+
+abbrev pub output_of : Inside → Output
+output_of s = record { bytes = s.output.items; limit = s.limit; encoding = s.encoding; status = s.status; cursor = s.cursor }
+
+-- no more bytes than the limit, and no more columns than bytes
+pub record IsSink (s : Inside) : Type 0 where
+  pub within : length s.output.items ≤ s.limit
+  pub narrow : s.cursor.column ≤ length s.output.items
+
+-- With `text` to come, the whole is `whole`: all in front of it is written, and none of that is too deep; or the first bytes up
+-- to the limit are; or some first bytes, since the whole is too deep somewhere, or since memory was refused.
+abbrev pub EndsBy : Status → ℕ → Encoding → List ℕ → List Item → List Item → Type 0
+EndsBy Going limit x output text whole = (encode x whole ≡ output ++ encode x text) × ((length output ≤ limit) × (is_deep whole ≡ is_deep text))
+EndsBy Full limit x output text whole = (output ≡ take limit (encode x whole)) × (limit < length (encode x whole))
+EndsBy Deep limit x output text whole = (is_deep whole ≡ true) × ((rest : List ℕ) × (encode x whole ≡ output ++ rest))
+EndsBy Starved limit x output text whole = (rest : List ℕ) × (encode x whole ≡ output ++ rest)
+
+unfoldable pub Ends : Output → List Item → List Item → Type 0
+Ends s text whole = EndsBy s.status s.limit s.encoding s.bytes text whole
+
+-- The output owed one layout and owes another: whatever follows, it ends the same.
+pub record Owes (old new : Output) (before after : Layout) : Type 0 where
+  pub ends : (rest : Rest) (whole : List Item) → Ends old (before old.cursor rest) whole → Ends new (after new.cursor rest) whole
+  pub encoding : new.encoding ≡ old.encoding
+  pub limit : new.limit ≡ old.limit
+  pub going : new.status ≡ Going → old.status ≡ Going
+
+-- a layout was written
+abbrev pub Puts : Output → Output → Layout → Type 0
+Puts old new a = Owes old new a stay
+
+-- a character, and what the cursor becomes
+abbrev pub stroke : ℕ → Bool → Bool → Bool → Layout
+stroke x ends white bare c rest = letter x ∷ rest (moved c ends white bare)

@@ -1,0 +1,159 @@
+//! Bytes at the end of the output.
+
+ghost use Rattle.std.specs.Prelude.{◌≡◌, ◌≢◌, ◌<◌, ◌≤◌, ◌+◌, ◌^◌, [], ◌∷◌, ◌++◌, length, replicate, if◌then◌else◌, IfSome, OnOk, OnErr};
+ghost use Rattle.yaml_emit_sink.specs.Appends.{AppendsBy, moved, blanked, lettered};
+ghost use Rattle.yaml_emit_sink.specs.Text.{char_bytes};
+
+use crate::bytes::bytes_of;
+use crate::cursor::{Cursor, Status};
+use crate::settings::Encoding;
+use std::alloc::AllocError;
+
+// These bytes, as far as the limit and the memory allow, and what becomes of the output.
+pub(crate) fn append(output: &mut Vec<u8>, limit: u64, bytes: &[u8]) -> Status
+    requires { length output.old.items ≤ limit }
+    ensures bytes { AppendsBy result limit output.old.items output.new.items bytes.now }
+    ensures within { length output.new.items ≤ limit }
+    ensures longer { length output.old.items ≤ length output.new.items }
+    ensures going { result ≡ Status.Going → length output.new.items ≡ length output.old.items + length bytes.now }
+{
+    let room = limit - output.len() as u64;
+    if bytes.len() as u64 <= room {
+        match output.extend_from_slice(bytes) {
+            Ok(_) => Status::Going,
+            Err(_) => Status::Starved,
+        }
+    } else {
+        match output.extend_from_slice(&bytes[..room as usize]) {
+            Ok(_) => Status::Full,
+            Err(_) => Status::Starved,
+        }
+    }
+}
+
+// This byte, as far as the limit and the memory allow: most characters are one.
+fn append_byte(output: &mut Vec<u8>, limit: u64, byte: u8) -> Status
+    requires { length output.old.items ≤ limit }
+    ensures bytes { AppendsBy result limit output.old.items output.new.items (byte ∷ []) }
+    ensures within { length output.new.items ≤ limit }
+    ensures longer { length output.old.items ≤ length output.new.items }
+    ensures going { result ≡ Status.Going → length output.new.items ≡ length output.old.items + 1 }
+{
+    if output.len() as u64 == limit {
+        return Status::Full;
+    }
+    match output.push(byte) {
+        Ok(()) => Status::Going,
+        Err(_) => Status::Starved,
+    }
+}
+
+// So many spaces more.
+fn extend_blanks(output: &mut Vec<u8>, count: usize) -> Result<(), AllocError>
+    requires { length output.old.items + count < 2 ^ 64 }
+    ensures ok { OnOk result (output.new.items ≡ output.old.items ++ replicate count 32) }
+    ensures err { OnErr result (output.new.items ≡ output.old.items) }
+{
+    let wanted = output.len() + count;
+    output.resize(wanted, b' ')
+}
+
+// So many spaces, as far as the limit and the memory allow.
+pub(crate) fn append_blanks(output: &mut Vec<u8>, limit: u64, count: u64) -> Status
+    requires { length output.old.items ≤ limit }
+    ensures bytes { AppendsBy result limit output.old.items output.new.items (replicate count 32) }
+    ensures within { length output.new.items ≤ limit }
+    ensures longer { length output.old.items ≤ length output.new.items }
+    ensures going { result ≡ Status.Going → length output.new.items ≡ length output.old.items + count }
+{
+    let room = limit - output.len() as u64;
+    if count <= room {
+        match extend_blanks(output, count as usize) {
+            Ok(()) => Status::Going,
+            Err(_) => Status::Starved,
+        }
+    } else {
+        match extend_blanks(output, room as usize) {
+            Ok(()) => Status::Full,
+            Err(_) => Status::Starved,
+        }
+    }
+}
+
+// The cursor behind so many spaces, one at least.
+pub(crate) fn blanked(at: Cursor, count: u64) -> Cursor
+    requires { at.column + count < 2 ^ 64 }
+    ensures { result ≡ blanked count at }
+{
+    Cursor {
+        column: at.column + count,
+        white: true,
+        bare: at.bare,
+        kept: at.kept,
+    }
+}
+
+// The cursor behind so many characters, one at least.
+pub(crate) fn lettered(at: Cursor, count: u64) -> Cursor
+    requires { at.column + count < 2 ^ 64 }
+    ensures { result ≡ lettered count at }
+{
+    Cursor {
+        column: at.column + count,
+        white: false,
+        bare: false,
+        kept: at.kept,
+    }
+}
+
+// A character's byte, where it is one.
+#[tactic(auto, unfolding(crate::specs::Text::char_bytes))]
+fn one_byte(encoding: Encoding, c: char) -> Option<u8>
+    ensures { IfSome result (λ b. char_bytes encoding c ≡ b ∷ []) }
+{
+    match encoding {
+        Encoding::Utf8 => {
+            let n = c as u32;
+            if n < 0x80 { Some(n as u8) } else { None }
+        }
+        _ => None,
+    }
+}
+
+// A character's bytes, as far as the limit and the memory allow.
+pub(crate) fn append_char(output: &mut Vec<u8>, limit: u64, encoding: Encoding, c: char) -> Status
+    requires { length output.old.items ≤ limit }
+    ensures bytes { AppendsBy result limit output.old.items output.new.items (char_bytes encoding c) }
+    ensures within { length output.new.items ≤ limit }
+    ensures longer { length output.old.items ≤ length output.new.items }
+    ensures going { result ≡ Status.Going → length output.old.items < length output.new.items }
+{
+    match one_byte(encoding, c) {
+        Some(byte) => append_byte(output, limit, byte),
+        None => {
+            let (bytes, count) = bytes_of(encoding, c);
+            append(output, limit, &bytes[..count])
+        }
+    }
+}
+
+// A column further, or at the start of a line.
+fn next_column(ends: bool, column: u64) -> u64
+    requires { column < 2 ^ 63 }
+    ensures { result ≡ (if ends then 0 else column + 1) }
+{
+    if ends { 0 } else { column + 1 }
+}
+
+// The cursor behind a character.
+pub(crate) fn moved(at: Cursor, ends: bool, white: bool, bare: bool) -> Cursor
+    requires { at.column < 2 ^ 63 }
+    ensures { result ≡ moved at ends white bare }
+{
+    Cursor {
+        column: next_column(ends, at.column),
+        white,
+        bare,
+        kept: at.kept,
+    }
+}

@@ -1,0 +1,17 @@
+//! An emitter's output: bytes up to a limit, the words of a layout, and the settings.
+#![tactic(auto)]
+
+mod append;
+mod bytes;
+mod cursor;
+mod laws;
+mod settings;
+mod sink;
+
+pub use cursor::{Cursor, Status};
+pub use laws::utf8_encodes;
+pub use settings::{Encoding, LineBreak, Settings, Wishes, settled};
+pub use sink::Sink;
+
+#[cfg(test)]
+mod tests;

@@ -1,0 +1,363 @@
+//! The output, up to its limit.
+
+ghost use Rattle.std.specs.Prelude.{◌≡◌, ◌≢◌, ◌<◌, ◌≤◌, ℕ, ◌∷◌, [], ◌++◌, ◌+◌, ◌-◌, length, ◌^◌, false, true};
+
+use crate::append::{append, append_blanks, append_char, blanked, lettered, moved};
+use crate::cursor::{Cursor, Status};
+use crate::settings::{Encoding, LineBreak};
+use std::alloc::{AllocError, Global};
+use std::marker::Model;
+
+/// An output: bytes up to a limit, the cursor, and whether it goes on. Once it has stopped, nothing more is written, and it
+/// stays stopped.
+#[derive(Drop)]
+pub struct Sink {
+    output: Vec<u8>,
+    limit: u64,
+    encoding: Encoding,
+    status: Status,
+    cursor: Cursor,
+}
+
+impl Model for Sink {
+    ghost use Rattle.yaml_emit_sink.specs.Sink.{Output, output_of, IsSink};
+
+    ghost Value = { Output };
+
+    ghost view = { output_of };
+
+    ghost invariant = { IsSink };
+}
+
+impl Sink {
+    ghost use Rattle.std.specs.Str.{IsAscii};
+    ghost use Rattle.yaml_emit_sink.specs.Sink.{Puts, Output, stroke};
+    ghost use Rattle.yaml_emit_sink.specs.Text.{letter, deep};
+    ghost use Rattle.yaml_emit_sink.specs.Layout.{Layout, char, letters, blank, blanks, break, new_line, gap, word, indicator, opener, line, wrap, keep, dark, light, choose, stay, must_break, indent_to, is_white, is_past, too_deep, order_mark, start};
+
+    /// An empty output of at most `limit` bytes, in UTF-8.
+    pub fn new(alloc: Global, limit: u64) -> Sink
+        ensures { result ≡ record { bytes = []; limit = limit; encoding = Encoding.Utf8; status = Status.Going; cursor = start } }
+    {
+        Sink {
+            output: Vec::new(alloc),
+            limit,
+            encoding: Encoding::Utf8,
+            status: Status::Going,
+            cursor: Cursor {
+                column: 0,
+                white: true,
+                bare: true,
+                kept: false,
+            },
+        }
+    }
+
+    /// From now on the characters are spelled so.
+    pub fn set_encoding(&mut self, encoding: Encoding)
+        ensures { self.new ≡ record { bytes = self.old.bytes; limit = self.old.limit; encoding = encoding; status = self.old.status; cursor = self.old.cursor } }
+    {
+        self.encoding = encoding;
+    }
+
+    /// Where the next character stands.
+    pub fn cursor(&self) -> Cursor
+        ensures value { result ≡ self.now.cursor }
+        ensures narrow { result.column < 2 ^ 63 }
+    {
+        let _ = &self.output;
+        self.cursor
+    }
+
+    /// Whether the output goes on.
+    pub fn status(&self) -> Status
+        ensures { result ≡ self.now.status }
+    {
+        self.status
+    }
+
+    /// What the characters are spelled in.
+    pub fn encoding(&self) -> Encoding
+        ensures { result ≡ self.now.encoding }
+    {
+        self.encoding
+    }
+
+    /// The bytes so far.
+    pub fn output(&self) -> &[u8]
+        ensures { result.now ≡ self.now.bytes }
+    {
+        &self.output
+    }
+
+    /// The bytes.
+    pub fn into_output(self) -> Vec<u8>
+        ensures { result.items ≡ self.bytes }
+    {
+        self.output
+    }
+
+    // A character, and what the cursor becomes.
+    fn write(&mut self, c: char, ends: bool, white: bool, bare: bool)
+        ensures { Puts self.old self.new (stroke c ends white bare) }
+    {
+        if self.status.is_going() {
+            self.status = append_char(&mut self.output, self.limit, self.encoding, c);
+            if self.status.is_going() {
+                self.cursor = moved(self.cursor, ends, white, bare);
+            }
+        }
+    }
+
+    /// A character.
+    pub fn put(&mut self, c: char)
+        ensures { Puts self.old self.new (char c) }
+    {
+        self.write(c, false, false, false);
+    }
+
+    /// A character that ends a line.
+    pub fn put_break(&mut self, c: char)
+        ensures { Puts self.old self.new (break c) }
+    {
+        self.write(c, true, true, true);
+    }
+
+    /// The break that is set.
+    pub fn put_new_line(&mut self, line_break: LineBreak)
+        ensures { Puts self.old self.new (new_line line_break) }
+    {
+        match line_break {
+            LineBreak::Lf => self.put_break('\n'),
+            LineBreak::Cr => self.put_break('\r'),
+            LineBreak::CrLf => self.put_both_breaks(),
+        }
+    }
+
+    fn put_both_breaks(&mut self)
+        ensures { Puts self.old self.new (new_line LineBreak.CrLf) }
+    {
+        self.put('\r');
+        self.put_break('\n');
+    }
+
+    /// Each byte as the character of that number: for texts in ASCII.
+    pub fn put_all(&mut self, text: &[u8])
+        ensures { Puts self.old self.new (letters text.now) }
+    {
+        for byte in text {
+            self.put(*byte as char);
+        }
+    }
+
+    // Characters of one byte, one at least, at once.
+    fn put_bytes(&mut self, text: &[u8])
+        requires some { 0 < length text.now }
+        requires ascii { IsAscii text.now }
+        requires bytes { self.old.encoding ≡ Encoding.Utf8 }
+        ensures { Puts self.old self.new (letters text.now) }
+    {
+        if self.status.is_going() {
+            self.status = append(&mut self.output, self.limit, text);
+            if self.status.is_going() {
+                self.cursor = lettered(self.cursor, text.len() as u64);
+            }
+        }
+    }
+
+    /// A text in ASCII, at once where each character is a byte.
+    pub fn put_ascii(&mut self, text: &[u8])
+        requires { IsAscii text.now }
+        ensures { Puts self.old self.new (letters text.now) }
+    {
+        if text.is_empty() {
+            return;
+        }
+        match self.encoding() {
+            Encoding::Utf8 => self.put_bytes(text),
+            _ => self.put_all(text),
+        }
+    }
+
+    fn put_blank(&mut self)
+        ensures { Puts self.old self.new blank }
+    {
+        let at = self.cursor();
+        self.write(' ', false, true, at.bare);
+    }
+
+    fn put_each_blank(&mut self, count: u64)
+        ensures { Puts self.old self.new (blanks count) }
+    {
+        for _ in 0..count {
+            self.put_blank();
+        }
+    }
+
+    // Spaces of one byte, one at least, at once.
+    fn put_spaces(&mut self, count: u64)
+        requires some { 0 < count }
+        requires bytes { self.old.encoding ≡ Encoding.Utf8 }
+        ensures { Puts self.old self.new (blanks count) }
+    {
+        if self.status.is_going() {
+            self.status = append_blanks(&mut self.output, self.limit, count);
+            if self.status.is_going() {
+                self.cursor = blanked(self.cursor, count);
+            }
+        }
+    }
+
+    /// So many spaces, which part what they stand between.
+    pub fn put_blanks(&mut self, count: u64)
+        ensures { Puts self.old self.new (blanks count) }
+    {
+        if count == 0 {
+            return;
+        }
+        match self.encoding() {
+            Encoding::Utf8 => self.put_spaces(count),
+            _ => self.put_each_blank(count),
+        }
+    }
+
+    /// A space, unless white space or what opens a flow collection was written last.
+    pub fn put_gap(&mut self)
+        ensures { Puts self.old self.new gap }
+    {
+        if !self.cursor().white {
+            self.put_blank();
+        }
+    }
+
+    /// A text in ASCII, with a space in front where one is due.
+    pub fn put_word(&mut self, text: &[u8])
+        ensures { Puts self.old self.new (word text.now) }
+    {
+        self.put_gap();
+        self.put_all(text);
+    }
+
+    /// A block indicator leaves the line bare.
+    pub fn put_indicator(&mut self, c: char)
+        ensures { Puts self.old self.new (indicator c) }
+    {
+        self.put_gap();
+        let at = self.cursor();
+        self.write(c, false, false, at.bare);
+    }
+
+    /// What opens a flow collection needs no space behind it.
+    pub fn put_opener(&mut self, c: char)
+        ensures { Puts self.old self.new (opener c) }
+    {
+        self.put_gap();
+        self.write(c, false, true, false);
+    }
+
+    fn must_break(&self, indent: u64) -> bool
+        ensures { result ≡ must_break indent self.now.cursor }
+    {
+        let at = self.cursor();
+        !at.bare || indent < at.column || (at.column == indent && !at.white)
+    }
+
+    fn break_line(&mut self, line_break: LineBreak, indent: u64)
+        ensures { Puts self.old self.new (choose (must_break indent) (new_line line_break) stay) }
+    {
+        if self.must_break(indent) {
+            self.put_new_line(line_break);
+        }
+    }
+
+    fn indent_to(&mut self, indent: u64)
+        ensures { Puts self.old self.new (indent_to indent) }
+    {
+        let at = self.cursor();
+        self.put_blanks(indent.saturating_sub(at.column));
+    }
+
+    /// A line that is indented by that many columns: a break, unless the line is bare up to there, and then spaces.
+    pub fn put_line(&mut self, line_break: LineBreak, indent: u64)
+        ensures { Puts self.old self.new (line line_break indent) }
+    {
+        self.break_line(line_break, indent);
+        self.indent_to(indent);
+    }
+
+    /// Whether the column is greater than the width.
+    pub fn is_past(&self, width: u64) -> bool
+        ensures { result ≡ is_past width self.now.cursor }
+    {
+        width < self.cursor().column
+    }
+
+    /// Past the width a line comes.
+    pub fn put_wrap(&mut self, width: u64, line_break: LineBreak, indent: u64)
+        ensures { Puts self.old self.new (wrap width line_break indent) }
+    {
+        if self.is_past(width) {
+            self.put_line(line_break, indent);
+        }
+    }
+
+    fn write_mark(&mut self)
+        ensures { Puts self.old self.new (λ c rest. letter 0xFEFF ∷ rest c) }
+    {
+        if self.status.is_going() {
+            self.status = append_char(&mut self.output, self.limit, self.encoding, '\u{FEFF}');
+        }
+    }
+
+    /// The byte order mark, in UTF-16 alone; it takes no column.
+    pub fn put_order_mark(&mut self)
+        ensures { Puts self.old self.new (order_mark self.old.encoding) }
+    {
+        match self.encoding() {
+            Encoding::Utf8 => (),
+            _ => self.write_mark(),
+        }
+    }
+
+    /// An indentation passes 2,147,483,647 columns: the output stops.
+    pub fn put_too_deep(&mut self)
+        ensures text { Puts self.old self.new too_deep }
+        ensures stopped { self.new.status ≢ Status.Going }
+    {
+        if self.status.is_going() {
+            self.status = Status::Deep;
+        }
+    }
+
+    /// A growth outside the output was refused, as of a list of open levels: the output stops.
+    pub fn starve(&mut self, _refused: AllocError)
+        ensures text { (x : Layout) → Puts self.old self.new x }
+        ensures stopped { self.new.status ≢ Status.Going }
+    {
+        if self.status.is_going() {
+            self.status = Status::Starved;
+        }
+    }
+
+    /// Whether the document's last block scalar keeps its breaks.
+    pub fn set_kept(&mut self, kept: bool)
+        ensures { Puts self.old self.new (keep kept) }
+    {
+        self.cursor.kept = kept;
+    }
+
+    /// Behind a scalar in one line or in quotes neither white space was last nor is the line bare.
+    pub fn set_dark(&mut self)
+        ensures { Puts self.old self.new dark }
+    {
+        self.cursor.white = false;
+        self.cursor.bare = false;
+    }
+
+    /// Behind a block scalar white space was last.
+    pub fn set_light(&mut self)
+        ensures { Puts self.old self.new light }
+    {
+        self.cursor.white = true;
+    }
+}

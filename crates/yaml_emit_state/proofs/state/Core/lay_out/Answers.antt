@@ -1,0 +1,4 @@
+use Rattle.yaml_emit_state.proofs.state.Core.lay_out.Goals as goal
+
+pub returns-in-Err : goal.returns-in-Err
+returns-in-Err c = record { settings = c.starve.ensures.settings; state = λ g. absurd (c.starve.ensures.stopped g); text = c.starve.ensures.text _ }

@@ -1,0 +1,209 @@
+-- Bytes in front that pass a test, and runs that are written as they are.
+use Rattle.std.proofs.Common.{◌≡◌, ℕ, zero, suc, ◌+◌, ◌-◌, ◌<◌, ◌≤◌, List, [], ◌∷◌, ◌++◌, length, take, drop, get_or, Bool, true, false, cond, IsUtf8, refl, sym, subst, ◌∙◌, ap, arith}
+use Rattle.std.specs.Prelude.{not, nat_le, ◌==◌, ◌||◌, ◌&&◌}
+use Rattle.std.specs.Str.{chars, IsAscii}
+use Rattle.std.specs.List.{All}
+use Rattle.std.proofs.lemmas.Bool.Decides.{nat_tests}
+use Rattle.std.proofs.lemmas.List.{take-append-drop, drop_more, drop_all, length-take-le}
+use Rattle.std.proofs.lemmas.Str.{chars-append, chars-IsAscii, IsUtf8-from_ascii, IsUtf8-past_char, IsAscii-drop, chars_past_char, encode_ascii}
+use Rattle.std.proofs.lemmas.Str.Ascii.{IsAscii-from_all}
+use Rattle.std.proofs.lemmas.List.Elements.{All-from_get_or}
+use Rattle.yaml_emit_text.specs.declared.run.Bounds.{Bounds}
+use Rattle.yaml_emit_text.specs.Quoted.{first, is_empty}
+use Rattle.yaml_emit_text.specs.Style.{last_or}
+use Rattle.yaml_emit_text.specs.Runs.{front, all_pass, runs_on, is_calm, calm}
+
+bool_cases : {P : Type 0} (b : Bool) → (b ≡ true → P) → (b ≡ false → P) → P
+bool_cases true p q = p refl
+bool_cases false p q = q refl
+
+pub and_left : (a b : Bool) → (a && b) ≡ true → a ≡ true
+and_left true b e = refl
+and_left false b e = absurd (cc)
+
+pub and_right : (a b : Bool) → (a && b) ≡ true → b ≡ true
+and_right true b e = e
+and_right false b e = absurd (cc)
+
+both : (a b : Bool) → a ≡ true → b ≡ true → (a && b) ≡ true
+both true b p q = q
+both false b p q = absurd (cc)
+
+-- the number of bytes in front
+
+front_at : (test : ℕ → ℕ → Bool) (k b : ℕ) (bs : List ℕ) → front test k (b ∷ bs) ≡ cond (test k b) (suc (front test (k + 1) bs)) 0
+unfolding front
+front_at test k b bs = refl
+
+front_yes : (test : ℕ → ℕ → Bool) (k b : ℕ) (bs : List ℕ) → test k b ≡ true → front test k (b ∷ bs) ≡ suc (front test (k + 1) bs)
+front_yes test k b bs t = front_at test k b bs ∙ ap (λ v. cond v (suc (front test (k + 1) bs)) 0) t
+
+front_no : (test : ℕ → ℕ → Bool) (k b : ℕ) (bs : List ℕ) → test k b ≡ false → front test k (b ∷ bs) ≡ 0
+front_no test k b bs t = front_at test k b bs ∙ ap (λ v. cond v (suc (front test (k + 1) bs)) 0) t
+
+pub front_more : (test : ℕ → ℕ → Bool) (k n i : ℕ) (xs : List ℕ) → i < length xs → n ≡ i + front test (k + i) (drop i xs) → test (k + i) (get_or xs i 0) ≡ true → n ≡ i + 1 + front test (k + (i + 1)) (drop (i + 1) xs)
+front_more test k n i xs h p t =
+    let q = ap (front test (k + i)) (drop_more xs i 0 h) ∙ front_yes test (k + i) (get_or xs i 0) (drop (i + 1) xs) t in
+    let e : k + i + 1 ≡ k + (i + 1) = omega arith in
+    let r = ap (λ j. front test j (drop (i + 1) xs)) e in omega (arith, p, q, r)
+
+pub front_found : (test : ℕ → ℕ → Bool) (k n i : ℕ) (xs : List ℕ) → i < length xs → n ≡ i + front test (k + i) (drop i xs) → test (k + i) (get_or xs i 0) ≡ false → i ≡ n
+front_found test k n i xs h p t =
+    let q = ap (front test (k + i)) (drop_more xs i 0 h) ∙ front_no test (k + i) (get_or xs i 0) (drop (i + 1) xs) t in omega (arith, p, q)
+
+front_nil : (test : ℕ → ℕ → Bool) (k : ℕ) → front test k [] ≡ 0
+unfolding front
+front_nil test k = refl
+
+pub front_none : (test : ℕ → ℕ → Bool) (k n i : ℕ) (xs : List ℕ) → length xs ≤ i → n ≡ i + front test (k + i) (drop i xs) → i ≡ n
+front_none test k n i xs h p = let q = ap (front test (k + i)) (drop_all _ _ h) ∙ front_nil test (k + i) in omega (arith, p, q)
+
+pub front_inside : (test : ℕ → ℕ → Bool) (k : ℕ) (xs : List ℕ) → front test k xs ≤ length xs
+front_inside test k [] = let q = front_nil test k in omega (arith, q)
+front_inside test k (b ∷ bs) =
+    bool_cases (test k b)
+    (λ t. let q = front_yes test k b bs t in let h = front_inside test (k + 1) bs in omega (arith, q, h))
+    (λ f. let q = front_no test k b bs f in omega (arith, q))
+
+-- what is in front passes
+pub front_pass : (test : ℕ → ℕ → Bool) (k m : ℕ) (xs : List ℕ) → m ≤ front test k xs → all_pass test k (take m xs) ≡ true
+unfolding all_pass
+front_pass test k zero xs h = refl
+front_pass test k (suc m) [] h = refl
+front_pass test k (suc m) (b ∷ bs) h =
+    bool_cases (test k b)
+    (λ t. let q = front_yes test k b bs t in both (test k b) (all_pass test (k + 1) (take m bs)) t (front_pass test (k + 1) m bs (omega (arith, h, q))))
+    (λ f. let q = front_no test k b bs f in absurd (omega (arith, h, q)))
+
+pub front_byte : (test : ℕ → ℕ → Bool) (k m : ℕ) (xs : List ℕ) → m < front test k xs → test (k + m) (get_or xs m 0) ≡ true
+front_byte test k m [] h = let q = front_nil test k in absurd (omega (arith, h, q))
+front_byte test k zero (b ∷ bs) h =
+    let e : k + zero ≡ k = omega arith in
+    bool_cases (test k b)
+    (λ t. ap (λ j. test j b) e ∙ t)
+    (λ f. let q = front_no test k b bs f in absurd (omega (arith, h, q)))
+front_byte test k (suc m) (b ∷ bs) h =
+    let e : k + suc m ≡ k + 1 + m = omega arith in
+    bool_cases (test k b)
+    (λ t. let q = front_yes test k b bs t in ap (λ j. test j (get_or bs m 0)) e ∙ front_byte test (k + 1) m bs (omega (arith, h, q)))
+    (λ f. let q = front_no test k b bs f in absurd (omega (arith, h, q)))
+
+-- ASCII
+
+below_at : (test : ℕ → ℕ → Bool) → ((k b : ℕ) → test k b ≡ true → b < 128) → (k : ℕ) (bs : List ℕ) (i : ℕ) → all_pass test k bs ≡ true → i < length bs → get_or bs i 0 < 128
+unfolding all_pass
+below_at test low k [] i h l = absurd (omega (arith, l))
+below_at test low k (b ∷ bs) zero h l = low k b (and_left (test k b) (all_pass test (k + 1) bs) h)
+below_at test low k (b ∷ bs) (suc i) h l = below_at test low (k + 1) bs i (and_right (test k b) (all_pass test (k + 1) bs) h) (omega (arith, l))
+
+below_all : (test : ℕ → ℕ → Bool) → ((k b : ℕ) → test k b ≡ true → b < 128) → (k : ℕ) (bs : List ℕ) → all_pass test k bs ≡ true → All (λ b. b < 128) bs
+below_all test low k bs h = All-from_get_or (λ b. b < 128) bs 0 (λ i l. below_at test low k bs i h l)
+
+at_most : (b n : ℕ) → nat_le b n ≡ true → b ≤ n
+at_most b n e = grind (arith, nat_tests)
+
+-- what a byte of a run is
+pub record RunsOn (e : Bounds) (k b : ℕ) : Type 0 where
+  pub low : 32 ≤ b
+  pub high : b ≤ 126
+  pub quote : (b == e.quote) ≡ false
+  pub slash : (b == e.slash) ≡ false
+  pub space : (not (b == 32) || (not e.cuts || nat_le k e.width)) ≡ true
+
+not_true : (a : Bool) → not a ≡ true → a ≡ false
+not_true false e = refl
+not_true true e = absurd (cc)
+
+pub run_byte : (e : Bounds) (k b : ℕ) → runs_on e k b ≡ true → RunsOn e k b
+unfolding runs_on
+run_byte e k b h =
+    let a = and_right (nat_le 32 b) _ h in
+    let q = and_right (nat_le b 126) _ a in
+    let s = and_right (not (b == e.quote)) _ q in
+    record {
+      low = at_most 32 b (and_left (nat_le 32 b) _ h);
+      high = at_most b 126 (and_left (nat_le b 126) _ a);
+      quote = not_true (b == e.quote) (and_left (not (b == e.quote)) _ q);
+      slash = not_true (b == e.slash) (and_left (not (b == e.slash)) _ s);
+      space = and_right (not (b == e.slash)) _ s;
+    }
+
+run_low : (e : Bounds) (k b : ℕ) → runs_on e k b ≡ true → b < 128
+run_low e k b h = let r = (run_byte e k b h).high in omega (arith, r)
+
+pub calm_low : (k b : ℕ) → calm k b ≡ true → b < 128
+unfolding is_calm
+calm_low k b h = let r = at_most b 126 (and_left (nat_le b 126) _ (and_right (nat_le 32 b) _ h)) in omega (arith, r)
+
+pub run_ascii : (e : Bounds) (k : ℕ) (bs : List ℕ) → all_pass (runs_on e) k bs ≡ true → IsAscii bs
+run_ascii e k bs h = IsAscii-from_all bs (below_all (runs_on e) (run_low e) k bs h)
+
+pub calm_ascii : (k : ℕ) (bs : List ℕ) → all_pass calm k bs ≡ true → IsAscii bs
+calm_ascii k bs h = IsAscii-from_all bs (below_all calm calm_low k bs h)
+
+-- a text that is cut behind ASCII
+pub cut_letters : (n : ℕ) (bs : List ℕ) → IsAscii (take n bs) → chars bs ≡ take n bs ++ chars (drop n bs)
+cut_letters n bs a = ap chars (sym (take-append-drop n bs)) ∙ chars-append (take n bs) (drop n bs) (IsUtf8-from_ascii (take n bs) a) ∙ ap (λ t. t ++ chars (drop n bs)) (chars-IsAscii (take n bs) a)
+
+pub cut_utf8 : (n : ℕ) (bs : List ℕ) → IsUtf8 bs → IsAscii (take n bs) → IsUtf8 (drop n bs)
+cut_utf8 zero bs u a = u
+cut_utf8 (suc n) [] u a = u
+cut_utf8 (suc n) (b ∷ bs) u a = cut_utf8 n bs (IsUtf8-past_char (b ∷ bs) bs b u (ap (λ t. t ++ bs) (sym (encode_ascii b (a 0))))) (IsAscii-drop (b ∷ take n bs) 1 a)
+
+-- what stands behind some of the calm bytes in front, but not all
+pub calm_next : (m : ℕ) (bs : List ℕ) → m < front calm 0 bs → IsUtf8 (drop m bs) → is_calm (first (chars (drop m bs))) ≡ true
+calm_next m bs h u =
+    let i = front_inside calm 0 bs in
+    let e = drop_more bs m 0 (omega (arith, h, i)) in
+    let y = front_byte calm 0 m bs h in
+    let c = chars_past_char (drop m bs) (drop (m + 1) bs) (get_or bs m 0) u (e ∙ ap (λ t. t ++ drop (m + 1) bs) (sym (encode_ascii (get_or bs m 0) (calm_low 0 (get_or bs m 0) y)))) in
+    ap (λ t. is_calm (first t)) c ∙ y
+
+-- the last character of a run
+pub last_append : (before : ℕ) (xs ys : List ℕ) → last_or before (xs ++ ys) ≡ last_or (last_or before xs) ys
+unfolding last_or
+last_append before [] ys = refl
+last_append before (x ∷ xs) ys = last_append x xs ys
+
+last_at : (before x : ℕ) (xs : List ℕ) → get_or (x ∷ xs) (length xs) 0 ≡ last_or before (x ∷ xs)
+unfolding last_or
+last_at before x [] = refl
+last_at before x (y ∷ ys) = last_at x y ys
+
+pub last_is : (before : ℕ) (xs : List ℕ) → (length xs == 0) ≡ false → get_or xs (length xs - 1) 0 ≡ last_or before xs
+last_is before [] h = absurd (cc)
+last_is before (x ∷ xs) h = let e : length (x ∷ xs) - 1 ≡ length xs = omega arith in ap (λ i. get_or (x ∷ xs) i 0) e ∙ last_at before x xs
+
+pub last_none : (before : ℕ) (xs : List ℕ) → (length xs == 0) ≡ true → before ≡ last_or before xs
+unfolding last_or
+last_none before [] h = refl
+last_none before (x ∷ xs) h = absurd (grind (arith, nat_tests, h))
+
+-- the parts of a text that was cut
+pub run_most : (e : Bounds) (k n : ℕ) (xs bs : List ℕ) → xs ≡ bs → n ≡ front (runs_on e) k xs → n ≡ front (runs_on e) k bs
+run_most e k n xs bs same p = p ∙ ap (front (runs_on e) k) same
+
+pub calm_most : (m n : ℕ) (xs bs : List ℕ) → xs ≡ bs → n ≡ front calm 0 xs → m ≡ n - 1 → m ≡ front calm 0 bs - 1
+calm_most m n xs bs same p q = q ∙ ap (λ k. k - 1) (p ∙ ap (front calm 0) same)
+
+pub run_inside : (e : Bounds) (k n : ℕ) (bs : List ℕ) → n ≡ front (runs_on e) k bs → n ≤ length bs
+run_inside e k n bs p = let h = front_inside (runs_on e) k bs in omega (arith, p, h)
+
+pub calm_inside : (m : ℕ) (bs : List ℕ) → m ≡ front calm 0 bs - 1 → m ≤ length bs
+calm_inside m bs p = let h = front_inside calm 0 bs in omega (arith, p, h)
+
+pub run_passes : (e : Bounds) (k n : ℕ) (bs run : List ℕ) → n ≡ front (runs_on e) k bs → run ≡ take n bs → all_pass (runs_on e) k run ≡ true
+run_passes e k n bs run p r = ap (all_pass (runs_on e) k) r ∙ front_pass (runs_on e) k n bs (omega (arith, p))
+
+pub calm_passes : (m : ℕ) (bs run : List ℕ) → m ≡ front calm 0 bs - 1 → run ≡ take m bs → all_pass calm 0 run ≡ true
+calm_passes m bs run p r = ap (all_pass calm 0) r ∙ front_pass calm 0 m bs (omega (arith, p))
+
+pub run_length_is : (n : ℕ) (bs run : List ℕ) → n ≤ length bs → run ≡ take n bs → length run ≡ n
+run_length_is n bs run h r = ap length r ∙ length-take-le n bs h
+
+pub calm_behind : (m : ℕ) (bs run rest : List ℕ) → m ≡ front calm 0 bs - 1 → run ≡ take m bs → rest ≡ drop m bs → IsUtf8 rest → (is_empty run || is_calm (first (chars rest))) ≡ true
+calm_behind zero bs run rest p r e u = ap (λ t. is_empty t || is_calm (first (chars rest))) r
+calm_behind (suc m) bs run rest p r e u =
+    let P : List ℕ → Type 0 = λ t. IsUtf8 t in
+    let c = ap (λ t. is_calm (first (chars t))) e ∙ calm_next (suc m) bs (omega (arith, p)) (subst P e u) in
+    bool_cases (is_empty run) (λ t. ap (λ v. v || is_calm (first (chars rest))) t) (λ f. ap (λ v. v || is_calm (first (chars rest))) f ∙ c)

@@ -1,7 +1,0 @@
-use Rattle.yaml_emit_text.specs.Layout.{line}
-use Rattle.yaml_emit_text.proofs.Sinks.{puts_both}
-use Rattle.yaml_emit_text.proofs.sink.Sink.put_line.Goals as goal
-
-pub returns : goal.returns
-unfolding line
-returns c = puts_both _ _ _ _ _ c.break_line.ensures c.indent_to.ensures

@@ -1,0 +1,126 @@
+//! Runs of ASCII, which are taken at once.
+
+ghost use Rattle.std.specs.Prelude.{◌≡◌, ◌<◌, ◌≤◌, ◌-◌, ◌++◌, ◌^◌, ◌||◌, true, length, take, drop, IsUtf8};
+ghost use Rattle.std.specs.Str.{chars, IsAscii};
+ghost use Rattle.yaml_emit_text.specs.Quoted.{first, is_empty};
+ghost use Rattle.yaml_emit_text.specs.Style.{last_or};
+ghost use Rattle.yaml_emit_text.specs.Runs as spec;
+
+use crate::letters::text;
+
+/// What ends a run of characters from space to `~`.
+#[derive(Clone, Copy)]
+pub struct Bounds {
+    /// A character that isn't written as it is, or 0.
+    pub quote: u8,
+    /// Another one, or 0.
+    pub slash: u8,
+    /// A space behind the width ends it.
+    pub cuts: bool,
+    /// Columns.
+    pub width: u64,
+}
+
+// Whether a run goes on with that byte at that column.
+#[tactic(auto, unfolding(crate::specs::Runs::runs_on))]
+fn runs_on(bounds: Bounds, column: u64, byte: u8) -> bool
+    ensures { result ≡ spec.runs_on bounds column byte }
+{
+    32 <= byte
+        && byte <= 126
+        && byte != bounds.quote
+        && byte != bounds.slash
+        && (byte != b' ' || !bounds.cuts || column <= bounds.width)
+}
+
+// The bytes in front that run on from that column.
+fn run_length(bounds: Bounds, column: u64, bytes: &[u8]) -> usize
+    requires { column < 2 ^ 63 }
+    ensures { result ≡ spec.front (spec.runs_on bounds) column bytes.now }
+{
+    let mut count = 0;
+    'bytes: while count < bytes.len() {
+        if !runs_on(bounds, column + count as u64, bytes[count]) {
+            return count;
+        }
+        count += 1;
+    }
+    count
+}
+
+#[tactic(auto, unfolding(crate::specs::Runs::is_calm))]
+fn is_calm(byte: u8) -> bool
+    ensures { result ≡ spec.is_calm byte }
+{
+    match byte {
+        b' '..=b'"' | b'$'..=b'+' | b'-'..=b'9' | b';'..=b'>' | b'@'..=b'Z' => true,
+        b'\\' | b'^'..=b'z' | b'|' | b'~' => true,
+        _ => false,
+    }
+}
+
+// The calm bytes in front.
+fn calm_length(bytes: &[u8]) -> usize
+    ensures { result ≡ spec.front spec.calm 0 bytes.now }
+{
+    let mut count = 0;
+    'bytes: while count < bytes.len() {
+        if !is_calm(bytes[count]) {
+            return count;
+        }
+        count += 1;
+    }
+    count
+}
+
+// A text, cut behind some bytes in ASCII.
+fn cut<'a>(left: &'a str, count: usize) -> (&'a [u8], &'a str)
+    requires inside { count ≤ length left.now }
+    requires ascii { IsAscii (take count left.now) }
+    ensures run { result.0.now ≡ take count left.now }
+    ensures rest { result.1.now ≡ drop count left.now }
+    ensures letters { chars left.now ≡ result.0.now ++ chars result.1.now }
+    ensures utf8 { IsUtf8 result.1.now }
+    ensures shorter { length result.1.now ≤ length left.now }
+{
+    let bytes = left.as_bytes();
+    (&bytes[..count], text(&bytes[count..]))
+}
+
+/// A text, cut behind the bytes in front that run on from that column.
+pub(crate) fn split_run<'a>(bounds: Bounds, column: u64, left: &'a str) -> (&'a [u8], &'a str)
+    requires { column < 2 ^ 63 }
+    ensures run { spec.all_pass (spec.runs_on bounds) column result.0.now ≡ true }
+    ensures ascii { IsAscii result.0.now }
+    ensures whole { length result.0.now ≡ spec.front (spec.runs_on bounds) column left.now }
+    ensures letters { chars left.now ≡ result.0.now ++ chars result.1.now }
+    ensures utf8 { IsUtf8 result.1.now }
+    ensures shorter { length result.1.now ≤ length left.now }
+{
+    cut(left, run_length(bounds, column, left.as_bytes()))
+}
+
+/// A text, cut in front of the last of the calm bytes in front.
+pub(crate) fn split_calm(left: &str) -> (&[u8], &str)
+    ensures calm { spec.all_pass spec.calm 0 result.0.now ≡ true }
+    ensures next { (is_empty result.0.now || spec.is_calm (first (chars result.1.now))) ≡ true }
+    ensures whole { length result.0.now ≡ spec.front spec.calm 0 left.now - 1 }
+    ensures ascii { IsAscii result.0.now }
+    ensures letters { chars left.now ≡ result.0.now ++ chars result.1.now }
+    ensures utf8 { IsUtf8 result.1.now }
+    ensures shorter { length result.1.now ≤ length left.now }
+{
+    cut(left, calm_length(left.as_bytes()).saturating_sub(1))
+}
+
+/// The last character of a run, or another one.
+pub(crate) fn last_of(before: char, run: &[u8]) -> char
+    requires { IsAscii run.now }
+    ensures { result ≡ last_or before run.now }
+{
+    if run.is_empty() {
+        before
+    } else {
+        run[run.len() - 1] as char
+    }
+}

@@ -3,3 +3,4 @@ mod Judging
 mod Laying
 mod Mapped
 mod Real
+mod Reloading

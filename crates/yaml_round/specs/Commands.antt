@@ -8,13 +8,14 @@ use Rattle.yaml_round.specs.declared.settings.yaml_form_t.TheVariants.{Canonical
 use Rattle.yaml_round.specs.declared.settings.yaml_command_t.{yaml_command_t}
 use Rattle.yaml_round.specs.declared.settings.yaml_command_t.TheVariants.{Fmt, Docs, Events}
 use Rattle.yaml_round.specs.Answers.{IsReformatted, IsListed}
+use Rattle.yaml_round.specs.Reload.{IsReloaded}
 
 -- a run of the command may answer this
 abbrev pub IsRunAnswer : yaml_command_t → yaml_encoding_t → yaml_settings_t → List ℕ → Result (List ℕ × Option yaml_form_t) Fault → Type 0
 IsRunAnswer Fmt from settings input (Ok (text, Some form)) = IsReformatted from settings input (Ok (text, form))
 IsRunAnswer Fmt from settings input (Ok (text, None)) = ⊥
 IsRunAnswer Fmt from settings input (Err fault) = IsReformatted from settings input (Err fault)
-IsRunAnswer Docs from settings input (Ok (text, form)) = form ≡ Some Canonical
-IsRunAnswer Docs from settings input (Err fault) = Unit {0}
+IsRunAnswer Docs from settings input (Ok (text, form)) = (form ≡ Some Canonical) × IsReloaded from settings input (Ok text)
+IsRunAnswer Docs from settings input (Err fault) = IsReloaded from settings input (Err fault)
 IsRunAnswer Events from settings input (Ok (text, form)) = (form ≡ None) × IsListed from input (Ok text)
 IsRunAnswer Events from settings input (Err fault) = IsListed from input (Err fault)

@@ -4,6 +4,7 @@ pub mod Writing
 pub mod Compare
 pub mod Input
 pub mod Answers
+pub mod Reload
 pub mod Commands
 pub mod Even
 pub mod Content

@@ -1,67 +1,108 @@
 //! Documents loaded and written again.
 
+ghost use Rattle.std.specs.Prelude.{◌≡◌, true, false, All};
+ghost use Rattle.yaml_scan.specs.Faults.{Answers};
+ghost use Rattle.yaml_round.specs.Answers.{bytes_of};
+ghost use Rattle.yaml_round.specs.Reload.{LoadsNext, IsLoaded, HasRoot, Stands, Dumps, DumpsStream, IsDumped, IsReloaded};
+
 use crate::reading::{Reading, reading_of};
 use crate::settings::yaml_settings_t;
 use crate::writing::{emitter_under, finished};
 use std::alloc::Global;
-use yaml_emit::{yaml_emitter_dump, yaml_emitter_t};
-use yaml_parse::{
-    yaml_document_get_root_node, yaml_document_set_end_implicit, yaml_document_t,
-    yaml_parser_between, yaml_parser_load,
-};
+use std::collections::VecDeque;
+use yaml_emit::{yaml_emitter_close, yaml_emitter_dump, yaml_emitter_open, yaml_emitter_t};
+use yaml_parse::{yaml_document_set_end_implicit, yaml_document_t, yaml_parser_load};
 use yaml_scan::{yaml_encoding_t, yaml_fault_t, yaml_memory_fault, yaml_origin_t};
 
-// Loads the next document behind the others. True where it is the one without root, which stands behind the last.
-fn load_next(
-    reading: &mut Reading<'_>,
-    documents: &mut Vec<yaml_document_t>,
-) -> Result<bool, yaml_fault_t> {
-    if !yaml_parser_between(reading) {
-        return Ok(true);
-    }
-    let mut document = yaml_parser_load(reading)?;
-    let is_last = yaml_document_get_root_node(&document).is_none();
-    yaml_document_set_end_implicit(&mut document, true);
-    match documents.push(document) {
-        Ok(()) => Ok(is_last),
-        Err(_) => Err(yaml_memory_fault(yaml_origin_t::Loader)),
-    }
-}
-
-// Loads the documents to their end.
-fn load_all(
-    reading: &mut Reading<'_>,
-    documents: &mut Vec<yaml_document_t>,
-) -> Result<(), yaml_fault_t> {
-    for _ in 0..u64::MAX {
-        if load_next(reading, documents)? {
-            break;
+// The next document, whose end is made implicit; nothing behind the last.
+#[tactic(auto, using(crate::proofs::Reloading::loaded_document, crate::proofs::Reloading::loaded_last, crate::proofs::Reloading::load_refused))]
+fn next_document(reading: &mut Reading<'_>) -> Result<Option<yaml_document_t>, yaml_fault_t>
+    requires { reading.old.between ≡ true }
+    ensures next { LoadsNext reading.old result reading.new }
+    ensures between { reading.new.between ≡ true }
+{
+    match yaml_parser_load(reading) {
+        Err(fault) => Err(fault),
+        Ok(mut document) => {
+            if document.node_count() == 0 {
+                Ok(None)
+            } else {
+                yaml_document_set_end_implicit(&mut document, true);
+                Ok(Some(document))
+            }
         }
     }
-    Ok(())
 }
 
-// The documents of the input, and behind them the one without root.
-fn loaded(
+// The documents of the input.
+fn documents_of(
     alloc: Global,
     input: &[u8],
     from: yaml_encoding_t,
-) -> Result<Vec<yaml_document_t>, yaml_fault_t> {
+) -> Result<VecDeque<yaml_document_t>, yaml_fault_t>
+    ensures { Answers (λ ds. ds.items) (IsLoaded from input.now) result }
+{
     let mut reading = reading_of(alloc, input, from)?;
-    let mut documents = Vec::new(alloc);
-    load_all(&mut reading, &mut documents)?;
-    Ok(documents)
+    let mut documents = VecDeque::new(alloc);
+    'documents: loop {
+        match next_document(&mut reading) {
+            Err(fault) => return Err(fault),
+            Ok(None) => return Ok(documents),
+            Ok(Some(document)) => match documents.push_back(document) {
+                Ok(()) => {}
+                Err(_) => return Err(yaml_memory_fault(yaml_origin_t::Loader)),
+            },
+        }
+    }
 }
 
-// Writes the documents; the one without root ends the stream. The first refusal ends it.
-fn dump_all(
-    emitter: &mut yaml_emitter_t,
-    documents: Vec<yaml_document_t>,
-) -> Result<(), yaml_fault_t> {
-    for document in documents {
-        yaml_emitter_dump(emitter, document)?;
+// Writes the documents. True where all were taken; else the emitter keeps its fault.
+fn dump_all(emitter: &mut yaml_emitter_t, documents: &mut VecDeque<yaml_document_t>) -> bool
+    requires stands { Stands emitter.old }
+    requires rooted { All HasRoot documents.old.items }
+    ensures { Dumps emitter.old documents.old.items result emitter.new }
+{
+    'documents: loop {
+        match documents.pop_front() {
+            None => return true,
+            Some(document) => match yaml_emitter_dump(emitter, document) {
+                Ok(()) => {}
+                Err(_) => return false,
+            },
+        }
     }
-    Ok(())
+}
+
+// Writes the documents as a stream. The emitter keeps its fault.
+#[tactic(auto, using(crate::proofs::Reloading::stream_refused, crate::proofs::Reloading::stream_stopped, crate::proofs::Reloading::stands_by, crate::proofs::Reloading::stream_ended))]
+fn dump_stream(emitter: &mut yaml_emitter_t, documents: &mut VecDeque<yaml_document_t>)
+    requires opened { emitter.old.opened ≡ false }
+    requires closed { emitter.old.closed ≡ false }
+    requires rooted { All HasRoot documents.old.items }
+    ensures { DumpsStream emitter.old documents.old.items emitter.new }
+{
+    match yaml_emitter_open(emitter) {
+        Err(_) => {}
+        Ok(()) => {
+            if dump_all(emitter, documents) {
+                let _ = yaml_emitter_close(emitter);
+            }
+        }
+    }
+}
+
+// The documents' text in canonical form.
+fn written_documents(
+    alloc: Global,
+    settings: &yaml_settings_t,
+    documents: &mut VecDeque<yaml_document_t>,
+) -> Result<Vec<u8>, yaml_fault_t>
+    requires { All HasRoot documents.old.items }
+    ensures { Answers bytes_of (IsDumped settings.now documents.old.items) result }
+{
+    let mut emitter = emitter_under(alloc, settings, true)?;
+    dump_stream(&mut emitter, documents);
+    finished(emitter)
 }
 
 /// The input's documents, loaded and written in canonical form: nodes with two visits or more have anchors by number, tags
@@ -73,9 +114,11 @@ pub fn yaml_reload(
     input: &[u8],
     from: yaml_encoding_t,
     settings: &yaml_settings_t,
-) -> Result<Vec<u8>, yaml_fault_t> {
-    let documents = loaded(alloc, input, from)?;
-    let mut emitter = emitter_under(alloc, settings, true)?;
-    dump_all(&mut emitter, documents)?;
-    finished(emitter)
+) -> Result<Vec<u8>, yaml_fault_t>
+    ensures { Answers bytes_of (IsReloaded from settings.now input.now) result }
+{
+    match documents_of(alloc, input, from) {
+        Err(fault) => Err(fault),
+        Ok(mut documents) => written_documents(alloc, settings, &mut documents),
+    }
 }

@@ -1,0 +1,118 @@
+-- The documents of an input, loaded one after another, and their text.
+use Rattle.std.specs.Prelude.{◌≡◌, ◌⊎◌, ◌<◌, ℕ, Bool, true, false, List, [], ◌∷◌, length, map, Option, None, Some, Result, Ok, Err}
+use Rattle.yaml_scan.specs.declared.yaml_encoding_t.{yaml_encoding_t}
+use Rattle.yaml_scan.specs.declared.yaml_encoding_t.TheVariants.{YAML_ANY_ENCODING}
+use Rattle.yaml_scan.specs.declared.yaml_fault_t.{yaml_fault_t}
+use Rattle.yaml_scan.specs.Faults.{Fault, fault_of, IsMemoryFault}
+use Rattle.yaml_parse.specs.Nodes.{Node}
+use Rattle.yaml_parse.specs.Documents.{Document}
+use Rattle.yaml_parse.specs.Resolve.{Told}
+use Rattle.yaml_parse.specs.Coming.{Coming}
+use Rattle.yaml_parse.specs.Loading.{Loading, Fed, goes_on, loaded, refused, nothing_loaded, step}
+use Rattle.yaml_emit.specs.Content.{Event, documents_events, stream_events, stream_end}
+use Rattle.yaml_emit.specs.Graph.{graph_content}
+use Rattle.yaml_emit.specs.Text.{Item}
+use Rattle.yaml_emit.specs.Emitter.{Emitter, Completes}
+use Rattle.yaml_emit_text.specs.declared.Encoding.{Encoding}
+use Rattle.yaml_round.specs.declared.settings.yaml_settings_t.{yaml_settings_t}
+use Rattle.yaml_round.specs.Input.{events_of, ending_of}
+use Rattle.yaml_round.specs.Writing.{wishes_under}
+use Rattle.yaml_round.specs.Answers.{IsLayout, IsPast}
+
+-- ---- what is loaded
+
+-- documents in order, and the fault that ends them
+pub record Loads : Type 0 where
+  pub documents : List Document
+  pub fault : Option Fault
+
+abbrev pub no_more : Option Fault → Loads
+no_more f = record { documents = []; fault = f }
+
+-- a document as it is written: its end is implicit
+abbrev pub with_implicit_end : Document → Document
+with_implicit_end d = record d { end_implicit = true }
+
+-- A document in front of the others. One without a root would end them.
+abbrev pub in_front : List Node → Document → Loads → Loads
+in_front [] d rest = no_more None
+in_front (n ∷ ns) d rest = record { documents = with_implicit_end d ∷ rest.documents; fault = rest.fault }
+
+abbrev pub load_on : Fed → (Loading → Loads) → Loads
+load_on (goes_on l) rest = rest l
+load_on (loaded d) rest = in_front d.nodes d (rest nothing_loaded)
+load_on (refused f) rest = no_more (Some f)
+
+-- the documents of events with a fault behind them, from a document in the making on
+unfoldable pub load_all : List Told → Option Fault → Loading → Loads
+load_all [] f l = no_more f
+load_all (g ∷ gs) f l = load_on (step g.0 l) (load_all gs f)
+
+abbrev pub loads_of : yaml_encoding_t → List ℕ → Loads
+loads_of from input = load_all (events_of from input) (ending_of from input) nothing_loaded
+
+-- what a parser still has to load
+abbrev pub to_load : Coming → Loads
+to_load c = load_all c.events c.ending nothing_loaded
+
+-- ---- what is written
+
+-- the events of the documents as one stream
+abbrev pub written_events : List Document → List Event
+written_events ds = stream_events YAML_ANY_ENCODING (map graph_content ds)
+
+-- The layout of the documents in canonical form, or a limit that it passes.
+abbrev pub IsDumped : yaml_settings_t → List Document → Result (List ℕ) Fault → Type 0
+IsDumped settings ds (Ok text) = IsLayout (wishes_under settings true) (written_events ds) text
+IsDumped settings ds (Err fault) = IsPast (wishes_under settings true) settings.limit (written_events ds) fault
+
+-- The input's documents, laid out; the fault that ends them; or, where none does, a limit that the layout passes.
+unfoldable pub IsReloaded : yaml_encoding_t → yaml_settings_t → List ℕ → Result (List ℕ) Fault → Type 0
+IsReloaded from settings input (Ok text) = ((loads_of from input).fault ≡ None) × IsDumped settings (loads_of from input).documents (Ok text)
+IsReloaded from settings input (Err fault) =
+    ((loads_of from input).fault ≡ Some fault) ⊎ (((loads_of from input).fault ≡ None) × IsDumped settings (loads_of from input).documents (Err fault))
+
+-- ---- the steps
+
+abbrev pub HasRoot : Document → Type 0
+HasRoot d = 0 < length d.nodes
+
+-- the next document was loaded, and the others are left
+pub record LoadsDocument (d : Document) (old new : Coming) : Type 0 where
+  pub same : to_load old ≡ record { documents = d ∷ (to_load new).documents; fault = (to_load new).fault }
+  pub less : length new.events < length old.events
+  pub rooted : HasRoot d
+
+abbrev pub LoadsNext : Coming → Result (Option Document) yaml_fault_t → Coming → Type 0
+LoadsNext old (Ok (Some d)) new = LoadsDocument d old new
+LoadsNext old (Ok None) new = to_load old ≡ no_more None
+LoadsNext old (Err f) new = IsMemoryFault f ⊎ (to_load old ≡ no_more (Some (fault_of f)))
+
+-- all documents of an input
+pub record AreLoaded (from : yaml_encoding_t) (input : List ℕ) (ds : List Document) : Type 0 where
+  pub same : ds ≡ (loads_of from input).documents
+  pub right : (loads_of from input).fault ≡ None
+
+abbrev pub IsLoaded : yaml_encoding_t → List ℕ → Result (List Document) Fault → Type 0
+IsLoaded from input (Ok ds) = AreLoaded from input ds
+IsLoaded from input (Err f) = (loads_of from input).fault ≡ Some f
+
+-- With these events to come from one emitter and those from the other, the text is the same.
+pub record Feeds (old : Emitter) (before : List Event) (new : Emitter) (after : List Event) : Type 0 where
+  pub completes : (x : Encoding) (whole : List Item) → Completes old x before whole → Completes new x after whole
+  pub limit : new.limit ≡ old.limit
+
+-- documents were given, and the end of the stream is to come; or a fault has come before
+pub record Stands (e : Emitter) : Type 0 where
+  pub opened : e.opened ≡ true
+  pub closed : e.closed ≡ false
+
+abbrev pub Dumps : Emitter → List Document → Bool → Emitter → Type 0
+Dumps old ds true new = Feeds old (documents_events (map graph_content ds)) new (stream_end ∷ []) × Stands new
+Dumps old ds false new = (left : List Event) × (Feeds old (documents_events (map graph_content ds)) new left × (new.fault ≡ None → ⊥))
+
+-- the whole stream was given, or a fault has come
+pub record DumpsStream (old : Emitter) (ds : List Document) (new : Emitter) : Type 0 where
+  pub left : List Event
+  pub feeds : Feeds old (written_events ds) new left
+  pub all : new.fault ≡ None → left ≡ []

@@ -1,8 +1,20 @@
 //! What a line wants beside what its call answered.
 
-use crate::field::VectorError;
-use serde_json::{Map, Value};
+use serde_json::{Map, Value, put};
 use std::alloc::Global;
+use yaml_vectors_json::VectorError;
+
+// The fields that calls answer. A line that has one wants it.
+const ANSWERS: [&str; 8] = [
+    "answer",
+    "call_number",
+    "fault",
+    "flushed",
+    "form",
+    "output",
+    "side",
+    "whole",
+];
 
 /// What became of a line.
 #[derive(Drop)]
@@ -16,32 +28,36 @@ pub enum Outcome {
     },
 }
 
-// The fields of those names that the line has.
-fn wanted(alloc: Global, line: &Value, names: &[&str]) -> Result<Value, VectorError> {
+// The fields that the line wants.
+fn wanted(alloc: Global, line: &Value) -> Result<Value, VectorError> {
     let mut fields = Map::new(alloc);
-    for name in names {
-        if let Some(value) = line.get(*name) {
-            fields.insert(String::from_str(alloc, name)?, value.clone()?)?;
+    for name in ANSWERS {
+        if let Some(value) = line.get(name) {
+            put(&mut fields, alloc, name, value.clone()?)?;
         }
     }
     Ok(Value::Object(fields))
 }
 
-/// Whether `got`, an object with the fields that the call answered, has the fields of the line of those names and no others.
-pub fn compare(
-    alloc: Global,
-    call: &str,
-    line: &Value,
-    names: &[&str],
-    got: Value,
-) -> Result<Outcome, VectorError> {
-    let want = wanted(alloc, line, names)?;
-    if want == got {
-        return Ok(Outcome::Passed);
-    }
+fn failed(alloc: Global, call: &str, want: &Value, got: &Value) -> Result<Outcome, VectorError> {
     Ok(Outcome::Failed {
         call: String::from_str(alloc, call)?,
         want: want.to_string(alloc)?,
         got: got.to_string(alloc)?,
     })
+}
+
+/// Whether `got`, an object with the fields that the call answered, has the fields that the line wants and no others.
+pub fn compare(
+    alloc: Global,
+    call: &str,
+    line: &Value,
+    got: &Value,
+) -> Result<Outcome, VectorError> {
+    let want = wanted(alloc, line)?;
+    if want == *got {
+        Ok(Outcome::Passed)
+    } else {
+        failed(alloc, call, &want, got)
+    }
 }

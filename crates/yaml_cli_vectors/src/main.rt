@@ -2,30 +2,11 @@
 #![tactic(auto)]
 
 mod compare;
-mod decode;
-mod document;
-mod dump;
-mod emit;
-mod emit_events;
-mod event;
-mod events;
-mod fault_line;
-mod field;
-mod given;
-mod load;
-mod parse;
-mod reading;
-mod reformat;
-mod reload;
+mod engine;
 mod replay;
-mod same;
-mod scan;
-mod setting;
-mod shown;
-mod style;
 mod tally;
-mod token;
-mod writing;
+#[cfg(test)]
+mod tests;
 
 use std::io::{self, BufRead, BufReader};
 use tally::Tally;

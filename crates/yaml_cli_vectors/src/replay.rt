@@ -1,48 +1,47 @@
-//! A line, replayed by the module of the call that it names.
+//! A line, replayed by the call that it names.
 
 use crate::compare::{Outcome, compare};
-use crate::field::{self, VectorError};
-use crate::{
-    decode, dump, emit, emit_events, events, fault_line, load, parse, reading, reformat, reload,
-    same, scan,
-};
-use serde_json::Value;
+use crate::engine;
+use serde_json::{Map, Value, put};
 use std::alloc::Global;
+use yaml_scan::yaml_fault_t;
+use yaml_vectors_json::{VectorError, field};
+use yaml_vectors_reading::{decode, load, parse, scan, shown_fault};
+use yaml_vectors_writing::{dump, emit, emit_events};
 
-// What the call answers on the line, and the fields that it answers.
-fn answer(
-    alloc: Global,
-    call: &str,
-    line: &Value,
-) -> Result<(Value, &'static [&'static str]), VectorError> {
+// What the call answers on the line; an `Err` where it only refuses.
+fn answer(alloc: Global, call: &str, line: &Value) -> Result<Value, VectorError> {
     match call {
-        "decode" => Ok((decode::answer(alloc, line)?, &decode::ANSWERS)),
-        "scan" => Ok((scan::answer(alloc, line)?, &scan::ANSWERS)),
-        "parse" => {
-            let reading = reading::of_input(alloc, line)?;
-            Ok((parse::answer(alloc, line, reading)?, &parse::ANSWERS))
-        }
-        "parse_tokens" => {
-            let reading = reading::of_tokens(alloc, line)?;
-            Ok((parse::answer(alloc, line, reading)?, &parse::ANSWERS))
-        }
-        "load" => {
-            let reading = reading::of_input(alloc, line)?;
-            Ok((load::answer(alloc, line, reading)?, &load::ANSWERS))
-        }
-        "load_tokens" => {
-            let reading = reading::of_tokens(alloc, line)?;
-            Ok((load::answer(alloc, line, reading)?, &load::ANSWERS))
-        }
-        "emit" => Ok((emit::answer(alloc, line)?, &emit::ANSWERS)),
-        "emit_events" => Ok((emit_events::answer(alloc, line)?, &emit_events::ANSWERS)),
-        "dump" => Ok((dump::answer(alloc, line)?, &dump::ANSWERS)),
-        "events" => Ok((events::answer(alloc, line)?, &events::ANSWERS)),
-        "reformat" => Ok((reformat::answer(alloc, line)?, &reformat::ANSWERS)),
-        "reload" => Ok((reload::answer(alloc, line)?, &reload::ANSWERS)),
-        "same" => Ok((same::answer(alloc, line)?, &same::ANSWERS)),
-        "line" => Ok((fault_line::answer(alloc, line)?, &fault_line::ANSWERS)),
+        "decode" => decode::answer(alloc, line),
+        "scan" => scan::answer(alloc, line),
+        "parse" => parse::of_input(alloc, line),
+        "parse_tokens" => parse::of_tokens(alloc, line),
+        "load" => load::of_input(alloc, line),
+        "load_tokens" => load::of_tokens(alloc, line),
+        "emit" => emit::answer(alloc, line),
+        "emit_events" => emit_events::answer(alloc, line),
+        "dump" => dump::answer(alloc, line),
+        "events" => engine::events(alloc, line),
+        "reformat" => engine::reformat(alloc, line),
+        "reload" => engine::reload(alloc, line),
+        "same" => engine::same(alloc, line),
+        "line" => engine::fault_line(alloc, line),
         _ => Err(VectorError::Field("call")),
+    }
+}
+
+fn refusal(alloc: Global, line: &Value, fault: &yaml_fault_t) -> Result<Value, VectorError> {
+    let mut fields = Map::new(alloc);
+    let fault = shown_fault(alloc, line, fault)?;
+    put(&mut fields, alloc, "fault", fault)?;
+    Ok(Value::Object(fields))
+}
+
+// What the call answers on the line, its refusal too.
+fn answered(alloc: Global, call: &str, line: &Value) -> Result<Value, VectorError> {
+    match answer(alloc, call, line) {
+        Err(VectorError::Fault(fault)) => refusal(alloc, line, &fault),
+        answer => answer,
     }
 }
 
@@ -50,6 +49,6 @@ fn answer(
 pub fn replay(alloc: Global, line: &str) -> Result<Outcome, VectorError> {
     let line = Value::from_str(alloc, line)?;
     let call = field::text(&line, "call")?;
-    let (got, names) = answer(alloc, call, &line)?;
-    compare(alloc, call, &line, names, got)
+    let got = answered(alloc, call, &line)?;
+    compare(alloc, call, &line, &got)
 }

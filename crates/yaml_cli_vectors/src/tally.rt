@@ -1,8 +1,8 @@
 //! How many lines passed, and what is told of those that failed.
 
 use crate::compare::Outcome;
-use crate::field::VectorError;
 use std::io::{self, Print};
+use yaml_vectors_json::VectorError;
 
 // How many lines that fail are shown.
 const SHOWN: u64 = 20;

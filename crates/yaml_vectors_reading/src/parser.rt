@@ -1,7 +1,5 @@
 //! Parsers of a line's tokens: those of its input, or those that it lists.
 
-use crate::field::{self, VectorError};
-use crate::token::read_token;
 use serde_json::Value;
 use std::alloc::Global;
 use yaml_parse::{yaml_parser_initialize, yaml_parser_t};
@@ -10,13 +8,14 @@ use yaml_scan::{
     yaml_error_type_t, yaml_fault_t, yaml_mark_t, yaml_origin_t, yaml_parser_scan,
     yaml_parser_t as yaml_session_t, yaml_token_t, yaml_token_type_t,
 };
+use yaml_vectors_json::{VectorError, field, read_token, shown};
 
 /// A parser of a list of tokens.
 pub type Reading = yaml_parser_t<yaml_token_list_t>;
 
-/// The problem of a fault that a line gives to its source. A fault's texts are the program's own, so they stand for those
-/// of the line.
-pub const OWN: &str = "the source's own fault";
+// The problem of a fault that a line gives to its source. A fault's texts are the program's own, so this one stands for
+// those of the line.
+const OWN: &str = "the source's own fault";
 
 // A tag, or a directive's prefix, that isn't UTF-8.
 fn not_utf8(mark: yaml_mark_t) -> yaml_fault_t {
@@ -61,25 +60,31 @@ fn add_next(
     }
 }
 
-fn parser_of(alloc: Global, list: yaml_token_list_t) -> Result<Reading, VectorError> {
-    match yaml_parser_initialize(alloc, list) {
-        Ok(reading) => Ok(reading),
-        Err(_) => Err(VectorError::Memory),
+fn add_all(
+    session: &mut yaml_session_t<'_>,
+    list: &mut yaml_token_list_t,
+) -> Result<(), VectorError> {
+    for _ in 0..u64::MAX {
+        if !add_next(session, list)? {
+            break;
+        }
     }
+    Ok(())
 }
 
-/// A parser of the tokens of the line's input.
-pub fn of_input(alloc: Global, line: &Value) -> Result<Reading, VectorError> {
+// The tokens of the line's input, and the fault that ends them.
+fn scanned(alloc: Global, line: &Value) -> Result<yaml_token_list_t, VectorError> {
     let input = field::bytes(alloc, line, "input")?;
     let from = field::encoding(line, "from")?;
     let mut session = yaml_session_t::new(alloc, input.as_slice(), from);
     let mut list = yaml_token_list_t::new(alloc);
-    for _ in 0..u64::MAX {
-        if !add_next(&mut session, &mut list)? {
-            break;
-        }
-    }
-    parser_of(alloc, list)
+    add_all(&mut session, &mut list)?;
+    Ok(list)
+}
+
+/// A parser of the tokens of the line's input.
+pub fn reading_of_input(alloc: Global, line: &Value) -> Result<Reading, VectorError> {
+    Ok(yaml_parser_initialize(alloc, scanned(alloc, line)?)?)
 }
 
 fn kind(number: u64) -> Result<yaml_error_type_t, VectorError> {
@@ -122,17 +127,61 @@ fn own_fault(fields: &Value) -> Result<yaml_fault_t, VectorError> {
     })
 }
 
-/// A parser of the tokens that the line lists, with the line's own fault behind them where it has one.
-pub fn of_tokens(alloc: Global, line: &Value) -> Result<Reading, VectorError> {
-    let mut list = yaml_token_list_t::new(alloc);
+// Adds the tokens that the line lists.
+fn add_listed(
+    alloc: Global,
+    line: &Value,
+    list: &mut yaml_token_list_t,
+) -> Result<(), VectorError> {
     for token in field::list(line, "tokens")? {
-        if !add(&mut list, read_token(alloc, token)?)? {
+        if !add(list, read_token(alloc, token)?)? {
             return Err(VectorError::Field("tokens"));
         }
     }
+    Ok(())
+}
+
+// Ends the list with the line's own fault where it has one.
+fn add_own(line: &Value, list: &mut yaml_token_list_t) -> Result<(), VectorError> {
     match line.get("own") {
         Some(own) if own.is_object() => list.end(own_fault(own)?),
         _ => {}
     }
-    parser_of(alloc, list)
+    Ok(())
+}
+
+fn listed(alloc: Global, line: &Value) -> Result<yaml_token_list_t, VectorError> {
+    let mut list = yaml_token_list_t::new(alloc);
+    add_listed(alloc, line, &mut list)?;
+    add_own(line, &mut list)?;
+    Ok(list)
+}
+
+/// A parser of the tokens that the line lists, with the line's own fault behind them where it has one.
+pub fn reading_of_tokens(alloc: Global, line: &Value) -> Result<Reading, VectorError> {
+    Ok(yaml_parser_initialize(alloc, listed(alloc, line)?)?)
+}
+
+// Puts the texts that the line gives its source's fault.
+fn put_texts(alloc: Global, own: &Value, fault: &mut Value) -> Result<(), VectorError> {
+    for name in ["problem", "context"] {
+        if let (Some(fields), Some(text)) = (fault.as_object_mut(), own.get(name)) {
+            fields.insert(String::from_str(alloc, name)?, text.clone()?)?;
+        }
+    }
+    Ok(())
+}
+
+/// A fault of a parser, with all its fields; the source's own one has the texts that the line gives it.
+pub fn shown_fault(
+    alloc: Global,
+    line: &Value,
+    fault: &yaml_fault_t,
+) -> Result<Value, VectorError> {
+    let mut fields = shown::fault(alloc, fault)?;
+    match line.get("own") {
+        Some(own) if fault.problem == OWN => put_texts(alloc, own, &mut fields)?,
+        _ => {}
+    }
+    Ok(fields)
 }

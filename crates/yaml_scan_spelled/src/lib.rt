@@ -3,4 +3,4 @@
 
 mod laws;
 
-pub use laws::tokens_are_spelled;
+pub use laws::{scanned_are_spelled, tokens_are_spelled};

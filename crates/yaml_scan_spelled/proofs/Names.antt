@@ -19,9 +19,9 @@ pair : (a b : Bool) → (a && b) ≡ true → (a ≡ true) × (b ≡ true)
 pair true b h = (refl, h)
 pair false b h = absurd (true≢false (sym h))
 
-second : (a b : Bool) → (a || b) ≡ false → a ≡ false
-second true b h = absurd (true≢false h)
-second false b h = refl
+no_first : (a b : Bool) → (a || b) ≡ false → a ≡ false
+no_first true b h = absurd (true≢false h)
+no_first false b h = refl
 
 equal_of : (a b : ℕ) → (a == b) ≡ true → a ≡ b
 equal_of a b h = grind (arith, nat_tests)
@@ -81,7 +81,7 @@ name_by (b ∷ bs) text p q (first, h) e are l some =
     rw same (some_more (length bs), are)
 
 -- what stands there is a name, where it isn't empty
-pub span_name : (text : List ℕ) (p q : ℕ) → Spans text p q → (p == q) ≡ false → IsName (slice_range text p q)
+span_name : (text : List ℕ) (p q : ℕ) → Spans text p q → (p == q) ≡ false → IsName (slice_range text p q)
 span_name text p q s some = name_by s.name text p q s.there s.end s.are s.inside some
 
 abbrev pub HasName : Result (List ℕ × ℕ) Wrong → Type 0
@@ -92,7 +92,7 @@ name_good : (context : Context) (text : List ℕ) (p q : ℕ) → Spans text p q
 name_good context text p q s =
     elim (cases_Bool (p == q || not (may_end_name text q))) [
       | inl e ↦ rw e tt
-      | inr e ↦ rw e (span_name text p q s (second (p == q) (not (may_end_name text q)) e))
+      | inr e ↦ rw e (span_name text p q s (no_first (p == q) (not (may_end_name text q)) e))
     ]
 
 -- an anchor's or alias's name

@@ -20,24 +20,11 @@ use Rattle.yaml_scan_spelled.proofs.Starts.{Starts, AllStart, history_starts}
 
 -- Lists of tokens.
 
-pub spelled_append : (xs ys : List Token) → AreSpelled xs → AreSpelled ys → AreSpelled (xs ++ ys)
+spelled_append : (xs ys : List Token) → AreSpelled xs → AreSpelled ys → AreSpelled (xs ++ ys)
 spelled_append [] ys a b = b
 spelled_append (x ∷ xs) ys (own, a) b = (own, spelled_append xs ys a b)
 
-pub spelled_front : (xs ys : List Token) → AreSpelled (xs ++ ys) → AreSpelled xs
-spelled_front [] ys h = tt
-spelled_front (x ∷ xs) ys (own, h) = (own, spelled_front xs ys h)
-
-pub spelled_rest : (xs ys : List Token) → AreSpelled (xs ++ ys) → AreSpelled ys
-spelled_rest [] ys h = h
-spelled_rest (x ∷ xs) ys (own, h) = spelled_rest xs ys h
-
-pub spelled_take : (n : ℕ) (ts : List Token) → AreSpelled ts → AreSpelled (take n ts)
-spelled_take zero ts h = tt
-spelled_take (suc n) [] h = tt
-spelled_take (suc n) (t ∷ ts) (own, h) = (own, spelled_take n ts h)
-
-pub spelled_drop : (n : ℕ) (ts : List Token) → AreSpelled ts → AreSpelled (drop n ts)
+spelled_drop : (n : ℕ) (ts : List Token) → AreSpelled ts → AreSpelled (drop n ts)
 spelled_drop zero ts h = h
 spelled_drop (suc n) [] h = tt
 spelled_drop (suc n) (t ∷ ts) (own, h) = spelled_drop n ts h

@@ -1,4 +1,4 @@
-//! Laws of spelling: names are alphas, handles are `!` or `!alphas!`, prefixes and tags have a byte at least. No code.
+//! Laws of spelling: names are alphas, handles are `!` or `!alphas!`, prefixes and suffixes have a byte at least. No code.
 #![tactic(auto)]
 
 mod laws;

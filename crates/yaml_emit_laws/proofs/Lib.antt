@@ -1,1 +1,3 @@
-pub mod Passing
+mod Passing
+mod Naming
+mod Contents

@@ -1,6 +1,6 @@
 //! Each function's contract is a law.
 
-ghost use Rattle.yaml_emit_laws.specs.Laws.{PassedAreFronts, PassedAreStreams};
+ghost use Rattle.yaml_emit_laws.specs.Laws.{DumpedStreamsAreRight, DumpsAreRight, PassedAreFronts, PassedAreStreams};
 
 /// A list of events of which none is refused, and which ends the stream, is a stream's in which nothing is wrong.
 pub fn passed_are_streams()
@@ -10,4 +10,14 @@ pub fn passed_are_streams()
 /// A list of events of which none is refused is a front of such a stream.
 pub fn passed_are_fronts()
     ensures { PassedAreFronts }
+{}
+
+/// Nothing is wrong with the events of a document's dump, where no tag is empty and its version and directives are right.
+pub fn dumps_are_right()
+    ensures { DumpsAreRight }
+{}
+
+/// Nor with those of a stream of such documents.
+pub fn dumped_streams_are_right()
+    ensures { DumpedStreamsAreRight }
 {}

@@ -1,6 +1,6 @@
-//! Laws of the emitter's grammar: which lists of events are a stream's, and that a document's dump is right. No code.
+//! Laws of the emitter's grammar: which lists of events are a stream's, and that what a document says is right. No code.
 #![tactic(auto)]
 
 mod laws;
 
-pub use laws::{passed_are_fronts, passed_are_streams};
+pub use laws::{dumped_streams_are_right, dumps_are_right, passed_are_fronts, passed_are_streams};

@@ -1,3 +1,4 @@
 mod Passing
 mod Naming
 mod Contents
+mod Loading

@@ -1,6 +1,6 @@
 //! Each function's contract is a law.
 
-ghost use Rattle.yaml_emit_laws.specs.Laws.{DumpedStreamsAreRight, DumpsAreRight, PassedAreFronts, PassedAreStreams};
+ghost use Rattle.yaml_emit_laws.specs.Laws.{DumpedStreamsAreRight, DumpsAreRight, LoadsAreRight, PassedAreFronts, PassedAreStreams, StepsKeepRight, TakenAreRight};
 
 /// A list of events of which none is refused, and which ends the stream, is a stream's in which nothing is wrong.
 pub fn passed_are_streams()
@@ -20,4 +20,19 @@ pub fn dumps_are_right()
 /// Nor with those of a stream of such documents.
 pub fn dumped_streams_are_right()
     ensures { DumpedStreamsAreRight }
+{}
+
+/// An event that an emitter takes in canonical form has no empty tag, and opens a document as is right.
+pub fn taken_are_right()
+    ensures { TakenAreRight }
+{}
+
+/// A loader makes right documents of such events, event by event.
+pub fn steps_keep_right()
+    ensures { StepsKeepRight }
+{}
+
+/// A document that is loaded of such events is right, and the events behind it are such.
+pub fn loads_are_right()
+    ensures { LoadsAreRight }
 {}

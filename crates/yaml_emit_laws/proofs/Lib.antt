@@ -1,4 +1,4 @@
-mod Passing
-mod Naming
-mod Contents
-mod Loading
+pub mod Passing
+pub mod Naming
+pub mod Contents
+pub mod Loading

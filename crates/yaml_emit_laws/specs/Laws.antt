@@ -9,10 +9,14 @@ use Rattle.yaml_parse.specs.Resolve.{Told}
 use Rattle.yaml_parse.specs.Loading.{Loading, Fed, goes_on, loaded, refused, nothing_loaded, step}
 use Rattle.yaml_parse.specs.Loads.{Loads, loads}
 use Rattle.yaml_parse.specs.Loads as load
+use Rattle.yaml_emit_text.specs.declared.Encoding.{Encoding}
+use Rattle.yaml_emit_text.specs.declared.Wishes.{Wishes}
+use Rattle.yaml_emit_text.specs.Text.{Item}
 use Rattle.yaml_emit_layout.specs.declared.Place.TheVariants as at
 use Rattle.yaml_emit_layout.specs.Content.{Opening, Document, Event, said, stream_events}
 use Rattle.yaml_emit_layout.specs.Grammar.{opening_problem, own_problem, own_problems}
 use Rattle.yaml_emit.specs.Judged.{Shape, first_shape, shape_after, first_refusal}
+use Rattle.yaml_emit.specs.Emitter.{IsStream}
 use Rattle.yaml_emit.specs.Graph.{graph_opening, graph_content, dumped}
 
 -- what a list of events has come to behind others
@@ -41,6 +45,16 @@ PassedAreStreams = (canonical : Bool) (es : List Event) → first_refusal canoni
 -- A list of events of which none is refused, wherever it ends, is a front of such a stream.
 abbrev pub PassedAreFronts : Type 0
 PassedAreFronts = (canonical : Bool) (es : List Event) → first_refusal canonical first_shape es ≡ None → RightFront canonical es
+
+-- the text of a stream under the settings that were set
+pub record HasText (w : Wishes) (es : List Event) : Type 0 where
+  pub encoding : Encoding
+  pub whole : List Item
+  pub is : IsStream w encoding es whole
+
+-- Such a stream has a text, which is its layout.
+abbrev pub RightStreamsHaveTexts : Type 0
+RightStreamsHaveTexts = (w : Wishes) (es : List Event) → RightStream w.canonical es → HasText w es
 
 -- ---- what a document says
 

@@ -1,6 +1,6 @@
 //! Each function's contract is a law.
 
-ghost use Rattle.yaml_emit_laws.specs.Laws.{DumpedStreamsAreRight, DumpsAreRight, LoadsAreRight, PassedAreFronts, PassedAreStreams, StepsKeepRight, TakenAreRight};
+ghost use Rattle.yaml_emit_laws.specs.Laws.{DumpedStreamsAreRight, DumpsAreRight, LoadsAreRight, PassedAreFronts, PassedAreStreams, RightStreamsHaveTexts, StepsKeepRight, TakenAreRight};
 
 /// A list of events of which none is refused, and which ends the stream, is a stream's in which nothing is wrong.
 pub fn passed_are_streams()
@@ -10,6 +10,11 @@ pub fn passed_are_streams()
 /// A list of events of which none is refused is a front of such a stream.
 pub fn passed_are_fronts()
     ensures { PassedAreFronts }
+{}
+
+/// Such a stream has a text, which is its layout.
+pub fn right_streams_have_texts()
+    ensures { RightStreamsHaveTexts }
 {}
 
 /// Nothing is wrong with the events of a document's dump, where no tag is empty and its version and directives are right.

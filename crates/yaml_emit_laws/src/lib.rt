@@ -6,5 +6,5 @@ mod laws;
 
 pub use laws::{
     dumped_streams_are_right, dumps_are_right, loads_are_right, passed_are_fronts,
-    passed_are_streams, steps_keep_right, taken_are_right,
+    passed_are_streams, right_streams_have_texts, steps_keep_right, taken_are_right,
 };

@@ -235,17 +235,23 @@ goes_on canonical h (e ∷ es) r =
     let a = or_both (problem_in canonical h e) (first_refusal canonical (shape_after h e) es) r in
     in_front h.place h.due e _ (passes canonical h e a.0).there (goes_on canonical (shape_after h e) es a.1)
 
-nothing_wrong : (canonical : Bool) (h : Shape) (es : List Event) → first_refusal canonical h es ≡ None → own_problems canonical (es ++ closing_behind h es) ≡ None
-unfolding first_refusal shape_behind own_problems
-nothing_wrong canonical h [] r = closing_right canonical h.place h.due
-nothing_wrong canonical h (e ∷ es) r =
+-- nothing is wrong with the events of a list that passes
+pub own_right : (canonical : Bool) (h : Shape) (es : List Event) → first_refusal canonical h es ≡ None → own_problems canonical es ≡ None
+unfolding first_refusal own_problems
+own_right canonical h [] r = refl
+own_right canonical h (e ∷ es) r =
     let a = or_both (problem_in canonical h e) (first_refusal canonical (shape_after h e) es) r in
-    or_none _ _ (passes canonical h e a.0).right (nothing_wrong canonical (shape_after h e) es a.1)
+    or_none _ _ (passes canonical h e a.0).right (own_right canonical (shape_after h e) es a.1)
+
+own_append : (canonical : Bool) (es more : List Event) → own_problems canonical es ≡ None → own_problems canonical more ≡ None → own_problems canonical (es ++ more) ≡ None
+unfolding own_problems
+own_append canonical [] more r q = q
+own_append canonical (e ∷ es) more r q = let a = or_both (own_problem canonical e) (own_problems canonical es) r in or_none _ _ a.0 (own_append canonical es more a.1 q)
 
 whole : (canonical : Bool) (es : List Event) → first_refusal canonical first_shape es ≡ None → RightStream canonical (es ++ closing_behind first_shape es)
 whole canonical es r =
     let k = goes_on canonical first_shape es r in
-    record { encoding = k.encoding; documents = k.documents; same = k.same; right = nothing_wrong canonical first_shape es r }
+    record { encoding = k.encoding; documents = k.documents; same = k.same; right = own_append canonical es (closing_behind first_shape es) (own_right canonical first_shape es r) (closing_right canonical (shape_behind first_shape es).place (shape_behind first_shape es).due) }
 
 pub fronts : PassedAreFronts
 fronts canonical es r = record { more = closing_behind first_shape es; whole = whole canonical es r }

@@ -109,7 +109,7 @@ steps e l h r = body_right e.body e.start_mark e.end_mark l h r
 
 -- ---- whole runs
 
-empty_right : RightDocument no_document
+pub empty_right : RightDocument no_document
 unfolding directives_problem
 empty_right = record { tags = tt; opening = refl }
 

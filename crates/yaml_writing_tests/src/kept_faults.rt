@@ -99,6 +99,21 @@ fn a_dump_past_the_limit(rt: HostRuntime) -> Result<(), Fail> {
     stays(&rt, &mut emitter, write_error(), text)
 }
 
+// In a stream that was opened by hand, a dump behind one that passed the limit answers the same and writes nothing.
+#[test]
+fn a_dump_twice_behind_a_size_refusal(rt: HostRuntime) -> Result<(), Fail> {
+    let mut emitter = emitter(rt.alloc(), 3, true)?;
+    if !yaml_emitter_opened(&emitter) {
+        yaml_emitter_open(&mut emitter)?;
+    }
+    for _ in 0..2 {
+        assert_eq!(rt; dump_foo(rt.alloc(), &mut emitter)?, write_error());
+        assert_eq!(rt; yaml_emitter_output(&emitter), b"---".as_slice());
+    }
+    assert!(rt; yaml_emitter_opened(&emitter));
+    stays(&rt, &mut emitter, write_error(), b"---")
+}
+
 // A document without root closes the stream; what is dumped behind it is refused.
 #[test]
 fn a_dump_behind_the_end(rt: HostRuntime) -> Result<(), Fail> {

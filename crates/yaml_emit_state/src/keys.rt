@@ -34,11 +34,11 @@ fn text_size(text: &Option<Vec<u8>>) -> usize
 }
 
 fn given_size(
-    settings: Settings,
+    settings: &Settings,
     directives: &[yaml_tag_directive_t],
     tag: &Option<Vec<u8>>,
 ) -> usize
-    ensures { result ≡ written_size (context_of settings (map directive_of directives.now)) (text_of tag.now) }
+    ensures { result ≡ written_size (context_of settings.now (map directive_of directives.now)) (text_of tag.now) }
 {
     match tag {
         None => 0,
@@ -48,12 +48,12 @@ fn given_size(
 
 // Bytes of a tag that is written in pretty form.
 fn written_size(
-    settings: Settings,
+    settings: &Settings,
     directives: &[yaml_tag_directive_t],
     left_out: bool,
     tag: &Option<Vec<u8>>,
 ) -> usize
-    ensures { result ≡ written_size (context_of settings (map directive_of directives.now)) (kept_tag false left_out (text_of tag.now)) }
+    ensures { result ≡ written_size (context_of settings.now (map directive_of directives.now)) (kept_tag false left_out (text_of tag.now)) }
 {
     if left_out {
         0
@@ -70,8 +70,8 @@ fn are_short(a: usize, b: usize, c: usize) -> bool
 }
 
 #[tactic(auto, unfolding(yaml_emit_layout::specs::Nodes::is_simple_alias))]
-fn is_simple_alias(settings: Settings, directives: &[yaml_tag_directive_t], name: &[u8]) -> bool
-    ensures { result ≡ is_simple_alias (context_of settings (map directive_of directives.now)) name.now }
+fn is_simple_alias(settings: &Settings, directives: &[yaml_tag_directive_t], name: &[u8]) -> bool
+    ensures { result ≡ is_simple_alias (context_of settings.now (map directive_of directives.now)) name.now }
 {
     let _ = directives;
     !settings.canonical && name.len() <= 128
@@ -79,7 +79,7 @@ fn is_simple_alias(settings: Settings, directives: &[yaml_tag_directive_t], name
 
 #[tactic(auto, unfolding(yaml_emit_layout::specs::Nodes::is_simple_scalar))]
 fn is_simple_scalar(
-    settings: Settings,
+    settings: &Settings,
     directives: &[yaml_tag_directive_t],
     anchor: &Option<Vec<u8>>,
     tag: &Option<Vec<u8>>,
@@ -88,7 +88,7 @@ fn is_simple_scalar(
     quoted: bool,
     style: yaml_scalar_style_t,
 ) -> bool
-    ensures { result ≡ is_simple_scalar (context_of settings (map directive_of directives.now)) (record { anchor = text_of anchor.now; tag = text_of tag.now; value = value.now; plain = plain; quoted = quoted; style = style }) }
+    ensures { result ≡ is_simple_scalar (context_of settings.now (map directive_of directives.now)) (record { anchor = text_of anchor.now; tag = text_of tag.now; value = value.now; plain = plain; quoted = quoted; style = style }) }
 {
     let _ = style;
     !settings.canonical
@@ -102,7 +102,7 @@ fn is_simple_scalar(
 
 #[tactic(auto, unfolding(yaml_emit_layout::specs::Nodes::is_simple_start))]
 fn is_simple_start(
-    settings: Settings,
+    settings: &Settings,
     directives: &[yaml_tag_directive_t],
     anchor: &Option<Vec<u8>>,
     tag: &Option<Vec<u8>>,
@@ -110,7 +110,7 @@ fn is_simple_start(
     flow: bool,
     empty: bool,
 ) -> bool
-    ensures { result ≡ is_simple_start (context_of settings (map directive_of directives.now)) (record { anchor = text_of anchor.now; tag = text_of tag.now; implicit = implicit; flow = flow }) empty }
+    ensures { result ≡ is_simple_start (context_of settings.now (map directive_of directives.now)) (record { anchor = text_of anchor.now; tag = text_of tag.now; implicit = implicit; flow = flow }) empty }
 {
     let _ = flow;
     !settings.canonical
@@ -126,12 +126,12 @@ fn is_simple_start(
 /// 128 bytes of anchor, tag and value. Canonical form has none.
 #[tactic(auto, unfolding(yaml_emit_layout::specs::State::is_simple_event))]
 pub fn is_simple(
-    settings: Settings,
+    settings: &Settings,
     directives: &[yaml_tag_directive_t],
     event: &yaml_event_body_t,
     empty: bool,
 ) -> bool
-    ensures { result ≡ is_simple_event (context_of settings (map directive_of directives.now)) (said (body_of event.now)) empty }
+    ensures { result ≡ is_simple_event (context_of settings.now (map directive_of directives.now)) (said (body_of event.now)) empty }
 {
     match event {
         yaml_event_body_t::Alias { anchor } => is_simple_alias(settings, directives, anchor),

@@ -43,11 +43,11 @@ fn put_anchor(sink: &mut Sink, anchor: &Option<Vec<u8>>)
 
 fn put_given_tag(
     sink: &mut Sink,
-    settings: Settings,
+    settings: &Settings,
     directives: &[yaml_tag_directive_t],
     tag: &Option<Vec<u8>>,
 )
-    ensures { Puts sink.old sink.new (tag_text (context_of settings (map directive_of directives.now)) (text_of tag.now)) }
+    ensures { Puts sink.old sink.new (tag_text (context_of settings.now (map directive_of directives.now)) (text_of tag.now)) }
 {
     match tag {
         None => (),
@@ -57,12 +57,12 @@ fn put_given_tag(
 
 fn put_tag_if(
     sink: &mut Sink,
-    settings: Settings,
+    settings: &Settings,
     directives: &[yaml_tag_directive_t],
     kept: bool,
     tag: &Option<Vec<u8>>,
 )
-    ensures { Puts sink.old sink.new (tag_text (context_of settings (map directive_of directives.now)) (kept_if kept (text_of tag.now))) }
+    ensures { Puts sink.old sink.new (tag_text (context_of settings.now (map directive_of directives.now)) (kept_if kept (text_of tag.now))) }
 {
     if kept {
         put_given_tag(sink, settings, directives, tag);
@@ -78,13 +78,13 @@ fn is_kept(canonical: bool, left_out: bool) -> bool
 
 fn put_properties(
     sink: &mut Sink,
-    settings: Settings,
+    settings: &Settings,
     directives: &[yaml_tag_directive_t],
     anchor: &Option<Vec<u8>>,
     left_out: bool,
     tag: &Option<Vec<u8>>,
 )
-    ensures { Puts sink.old sink.new (properties_text (context_of settings (map directive_of directives.now)) (text_of anchor.now) (kept_tag settings.canonical left_out (text_of tag.now))) }
+    ensures { Puts sink.old sink.new (properties_text (context_of settings.now (map directive_of directives.now)) (text_of anchor.now) (kept_tag settings.now.canonical left_out (text_of tag.now))) }
 {
     put_anchor(sink, anchor);
     put_tag_if(
@@ -129,7 +129,7 @@ fn is_plain(style: Style) -> bool
 
 #[tactic(auto, unfolding(yaml_emit_layout::specs::Nodes::style_of))]
 fn style_of(
-    settings: Settings,
+    settings: &Settings,
     directives: &[yaml_tag_directive_t],
     spot: Spot,
     anchor: &Option<Vec<u8>>,
@@ -140,7 +140,7 @@ fn style_of(
     style: yaml_scalar_style_t,
 ) -> Style
     requires { IsUtf8 value.now }
-    ensures { result ≡ style_of (context_of settings (map directive_of directives.now)) spot (record { anchor = text_of anchor.now; tag = text_of tag.now; value = value.now; plain = plain; quoted = quoted; style = style }) }
+    ensures { result ≡ style_of (context_of settings.now (map directive_of directives.now)) spot (record { anchor = text_of anchor.now; tag = text_of tag.now; value = value.now; plain = plain; quoted = quoted; style = style }) }
 {
     if settings.canonical {
         Style::Double
@@ -177,9 +177,9 @@ fn is_marked(
     !is_written(canonical, plain || quoted, tag) && !quoted && !is_plain(chosen)
 }
 
-fn put_lines(sink: &mut Sink, settings: Settings, spot: Spot, style: Style, value: &[u8])
+fn put_lines(sink: &mut Sink, settings: &Settings, spot: Spot, style: Style, value: &[u8])
     requires { IsUtf8 value.now }
-    ensures { Puts sink.old sink.new (checked (deeper settings spot.around) ▹ scalar_text (page_at settings spot) settings.indent spot.flow style (chars value.now)) }
+    ensures { Puts sink.old sink.new (checked (deeper settings.now spot.around) ▹ scalar_text (page_at settings.now spot) settings.now.indent spot.flow style (chars value.now)) }
 {
     let depth = deeper(settings, spot.around);
     put_checked(sink, depth);
@@ -202,7 +202,7 @@ fn put_lines(sink: &mut Sink, settings: Settings, spot: Spot, style: Style, valu
 #[tactic(auto, unfolding(yaml_emit_layout::specs::Nodes::scalar_layout))]
 pub fn put_scalar(
     sink: &mut Sink,
-    settings: Settings,
+    settings: &Settings,
     directives: &[yaml_tag_directive_t],
     spot: Spot,
     anchor: &Option<Vec<u8>>,
@@ -213,7 +213,7 @@ pub fn put_scalar(
     style: yaml_scalar_style_t,
 )
     requires { IsUtf8 value.now }
-    ensures { Puts sink.old sink.new (scalar_layout (context_of settings (map directive_of directives.now)) spot (record { anchor = text_of anchor.now; tag = text_of tag.now; value = value.now; plain = plain; quoted = quoted; style = style })) }
+    ensures { Puts sink.old sink.new (scalar_layout (context_of settings.now (map directive_of directives.now)) spot (record { anchor = text_of anchor.now; tag = text_of tag.now; value = value.now; plain = plain; quoted = quoted; style = style })) }
 {
     let chosen = style_of(
         settings, directives, spot, anchor, tag, value, plain, quoted, style,
@@ -229,7 +229,7 @@ pub fn put_scalar(
 /// What opens a collection, with its anchor and tag.
 pub fn put_collection(
     sink: &mut Sink,
-    settings: Settings,
+    settings: &Settings,
     directives: &[yaml_tag_directive_t],
     spot: Spot,
     c: char,
@@ -239,7 +239,7 @@ pub fn put_collection(
     style_flow: bool,
     empty: bool,
 )
-    ensures { Puts sink.old sink.new (start_text (context_of settings (map directive_of directives.now)) spot c (record { anchor = text_of anchor.now; tag = text_of tag.now; implicit = implicit; flow = style_flow }) empty) }
+    ensures { Puts sink.old sink.new (start_text (context_of settings.now (map directive_of directives.now)) spot c (record { anchor = text_of anchor.now; tag = text_of tag.now; implicit = implicit; flow = style_flow }) empty) }
 {
     put_properties(sink, settings, directives, anchor, implicit, tag);
     put_opener_if(sink, is_flow(settings, spot, style_flow, empty), c);

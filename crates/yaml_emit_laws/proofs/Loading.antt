@@ -1,5 +1,5 @@
 -- What is loaded of right events is right.
-use Rattle.std.proofs.Common.{◌≡◌, ◌<◌, ℕ, zero, suc, Bool, true, false, List, [], ◌∷◌, ◌++◌, length, Option, Some, None, Result, Ok, Err, refl, arith}
+use Rattle.std.proofs.Common.{◌≡◌, ◌<◌, ℕ, zero, suc, Bool, true, false, List, [], ◌∷◌, ◌++◌, length, Option, Some, None, Ok, Err, refl, arith}
 use Rattle.std.specs.Prelude.{◌==◌, cond, if◌then◌else◌}
 use Rattle.std.proofs.lemmas.Bool.Decides.{nat_tests}
 use Rattle.yaml_scan.specs.declared.yaml_mark_t.{yaml_mark_t}
@@ -11,8 +11,6 @@ use Rattle.yaml_parse.specs.Resolve.{Told}
 use Rattle.yaml_parse.specs.Numbering.{Head, loaded_tag, is_bang, scalar_node, sequence_node, mapping_node}
 use Rattle.yaml_parse.specs.Loading.{Open, open_sequence, open_mapping, Loading, Fed, goes_on, loaded, refused, nothing_loaded, step, step_body, entered, enter, aliased, closed, filled, head_of, with_leaf, with_open}
 use Rattle.yaml_parse.specs.Loads.{Loads, load_on, behind_all, loads}
-use Rattle.yaml_parse_loader.specs.declared.anchors.Anchored.{Anchored}
-use Rattle.yaml_parse_loader.specs.Anchors.{Anchors}
 use Rattle.std.specs.FinMap as map
 use Rattle.yaml_emit_layout.specs.declared.Problem.{Problem}
 use Rattle.yaml_emit_layout.specs.declared.Problem.TheVariants as problem
@@ -68,13 +66,26 @@ one_more (m ∷ ns) n h k = (h.0, one_more ns n h.1 k)
 with_one : (d : Document) (n : model.Node) → RightDocument d → 0 < length n.tag → RightDocument (with_node d n)
 with_one d n r k = record { tags = one_more d.nodes n r.tags k; opening = r.opening }
 
-entered_right : (r : Result Anchors Fault) (go : Anchors → Loading) → ((known : Anchors) → RightDocument (go known).document) → RightFed (entered r go)
-entered_right (Ok known) go h = h known
-entered_right (Err f) go h = tt
+with_leaf_right : (l : Loading) (h : Head) (n : model.Node) → RightDocument l.document → 0 < length n.tag → RightFed (entered (enter l h) (with_leaf l n))
+with_leaf_right l h n r k =
+    elim (enter l h) as (λ x. RightFed (entered x (with_leaf l n))) [
+      | Ok known ↦ with_one l.document n r k
+      | Err f ↦ tt
+    ]
 
-aliased_right : (o : Option Anchored) (at : yaml_mark_t) (l : Loading) → RightDocument l.document → RightFed (aliased o at l)
-aliased_right None at l r = tt
-aliased_right (Some a) at l r = record { tags = r.tags; opening = r.opening }
+with_open_right : (l : Loading) (h : Head) (n : model.Node) (o : Open) → RightDocument l.document → 0 < length n.tag → RightFed (entered (enter l h) (with_open l n o))
+with_open_right l h n o r k =
+    elim (enter l h) as (λ x. RightFed (entered x (with_open l n o))) [
+      | Ok known ↦ with_one l.document n r k
+      | Err f ↦ tt
+    ]
+
+aliased_right : (name : List ℕ) (at : yaml_mark_t) (l : Loading) → RightDocument l.document → RightFed (aliased (map.get l.anchors name) at l)
+aliased_right name at l r =
+    elim (map.get l.anchors name) as (λ x. RightFed (aliased x at l)) [
+      | None ↦ tt
+      | Some a ↦ record { tags = r.tags; opening = r.opening }
+    ]
 
 changed : (o : Open) (to : yaml_mark_t) (k : ℕ) (ns : List model.Node) → AreTagged ns → AreTagged (change_place (filled o to) k ns)
 changed o to k [] h = tt
@@ -91,16 +102,15 @@ body_right (event.stream_start encoding) from to l h r = r
 body_right event.stream_end from to l h r = r
 body_right (event.document_start version directives implicit) from to l h r = record { tags = tt; opening = h }
 body_right (event.document_end implicit) from to l h r = record { tags = r.tags; opening = r.opening }
-body_right (event.alias name) from to l h r = aliased_right (map.get l.anchors name) from l r
+body_right (event.alias name) from to l h r = aliased_right name from l r
 body_right (event.scalar anchor tag value plain quoted style) from to l h r =
-    let p : Head = head_of anchor tag from to in
-    entered_right (enter l p) (with_leaf l (scalar_node p value style)) (λ known. with_one l.document (scalar_node p value style) r (some_tag tag str_tag h (omega arith)))
+    let p : Head = head_of anchor tag from to in with_leaf_right l p (scalar_node p value style) r (some_tag tag str_tag h (omega arith))
 body_right (event.sequence_start anchor tag implicit style) from to l h r =
     let p : Head = head_of anchor tag from to in
-    entered_right (enter l p) (with_open l (sequence_node p [] style to) (open_sequence (length l.document.nodes) [])) (λ known. with_one l.document (sequence_node p [] style to) r (some_tag tag seq_tag h (omega arith)))
+    with_open_right l p (sequence_node p [] style to) (open_sequence (length l.document.nodes) []) r (some_tag tag seq_tag h (omega arith))
 body_right (event.mapping_start anchor tag implicit style) from to l h r =
     let p : Head = head_of anchor tag from to in
-    entered_right (enter l p) (with_open l (mapping_node p [] style to) (open_mapping (length l.document.nodes) [] None)) (λ known. with_one l.document (mapping_node p [] style to) r (some_tag tag map_tag h (omega arith)))
+    with_open_right l p (mapping_node p [] style to) (open_mapping (length l.document.nodes) [] None) r (some_tag tag map_tag h (omega arith))
 body_right event.sequence_end from to l h r = closed_right to l l.levels r
 body_right event.mapping_end from to l h r = closed_right to l l.levels r
 

@@ -6,7 +6,7 @@ use Rattle.std.specs.List.{list_all, list_any}
 use Rattle.std.specs.Str.{bytes_eq}
 use Rattle.yaml_scan.specs.Classes.{is_alpha_byte}
 use Rattle.yaml_scan_spelled.specs.Spelled.{IsSome, AreAlphas, IsHandle}
-use Rattle.yaml_parse_model.specs.Events.{TagDirective}
+use Rattle.yaml_parse.specs.Events.{TagDirective}
 use Rattle.yaml_parse_grammar.specs.Resolve.{directive_for}
 use Rattle.yaml_emit_layout.specs.Grammar.{between, handle_problem, prefix_problem, has_handle, twice_problem, directive_problem, directives_problem}
 use Rattle.yaml_round_laws.proofs.Emitted.{or_both, or_none}

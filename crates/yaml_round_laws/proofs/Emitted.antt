@@ -1,8 +1,8 @@
 -- An event that is expected is one that the emitter's grammar takes, evened or not.
 use Rattle.std.proofs.Common.{◌≡◌, inl, inr, ℕ, Bool, true, false, not, ◌||◌, List, [], ◌∷◌, Option, Some, None, refl, sym, ap, subst, ◌∙◌}
 use Rattle.yaml_scan.specs.declared.yaml_scalar_style_t.{yaml_scalar_style_t}
-use Rattle.yaml_parse_model.specs.Events.{EventBody}
-use Rattle.yaml_parse_model.specs.Events as event
+use Rattle.yaml_parse.specs.Events.{EventBody}
+use Rattle.yaml_parse.specs.Events as event
 use Rattle.yaml_emit_layout.specs.declared.Problem.{Problem}
 use Rattle.yaml_emit_layout.specs.declared.Place.{Place}
 use Rattle.yaml_emit_layout.specs.declared.Place.TheVariants as at

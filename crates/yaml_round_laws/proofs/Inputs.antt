@@ -7,7 +7,7 @@ use Rattle.yaml_scan.specs.Faults.{Fault}
 use Rattle.yaml_scan.specs.Scanned.{scanned}
 use Rattle.yaml_scan_spelled.specs.Spelled.{AreSpelled}
 use Rattle.yaml_scan_spelled.proofs.Inputs.{scanned_spelled}
-use Rattle.yaml_parse_model.specs.Events.{EventBody}
+use Rattle.yaml_parse.specs.Events.{EventBody}
 use Rattle.yaml_parse_grammar.specs.Resolve.{Told}
 use Rattle.yaml_emit_layout.specs.Content.{said}
 use Rattle.yaml_emit_layout.specs.Grammar.{own_problem, own_problems}

@@ -6,8 +6,8 @@ use Rattle.yaml_scan.specs.declared.yaml_mark_t.{yaml_mark_t}
 use Rattle.yaml_scan.specs.declared.yaml_scalar_style_t.{yaml_scalar_style_t}
 use Rattle.yaml_scan.specs.declared.yaml_version_directive_t.{yaml_version_directive_t}
 use Rattle.yaml_scan_spelled.specs.Spelled.{IsSome, IsName, IsHandle}
-use Rattle.yaml_parse_model.specs.Events.{EventBody, TagDirective}
-use Rattle.yaml_parse_model.specs.Events as event
+use Rattle.yaml_parse.specs.Events.{EventBody, TagDirective}
+use Rattle.yaml_parse.specs.Events as event
 use Rattle.yaml_parse_grammar.specs.Items.{ItemBody, Shape as Kind}
 use Rattle.yaml_parse_grammar.specs.Items as item
 use Rattle.yaml_parse_grammar.specs.Resolve.{Directives, no_directives, Settled, refused, gave, noted, settle_body, resolved, directive_for, or_default, with_resolved, with_tag, with_version, is_known_version, behind_event, is_plain, node_event}

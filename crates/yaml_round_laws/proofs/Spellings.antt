@@ -4,8 +4,8 @@ use Rattle.yaml_scan.specs.declared.yaml_mark_t.{yaml_mark_t}
 use Rattle.yaml_scan.specs.Tokens.{Token, TokenBody, type_of}
 use Rattle.yaml_scan.specs.Tokens as token
 use Rattle.yaml_scan_spelled.specs.Spelled.{IsSome, IsName, IsHandle, IsSpelled}
-use Rattle.yaml_parse_model.specs.Events.{EventBody}
-use Rattle.yaml_parse_model.specs.Events as event
+use Rattle.yaml_parse.specs.Events.{EventBody}
+use Rattle.yaml_parse.specs.Events as event
 use Rattle.yaml_parse_grammar.specs.declared.name.Wants.{Wants}
 use Rattle.yaml_parse_grammar.specs.declared.name.Wants.TheVariants.{Flow, Block}
 use Rattle.yaml_parse_grammar.specs.declared.name.Brackets.{Brackets}

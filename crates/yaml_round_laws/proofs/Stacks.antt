@@ -1,7 +1,7 @@
 -- What a stack of states stands for in an emitter's eyes, and how an item moves it.
 use Rattle.std.proofs.Common.{◌≡◌, true, false, List, [], ◌∷◌, Option, Some, None}
-use Rattle.yaml_parse_model.specs.Events.{EventBody}
-use Rattle.yaml_parse_model.specs.Events as event
+use Rattle.yaml_parse.specs.Events.{EventBody}
+use Rattle.yaml_parse.specs.Events as event
 use Rattle.yaml_parse_grammar.specs.declared.name.Brackets.TheVariants as brackets
 use Rattle.yaml_parse_grammar.specs.Items.{Item, ItemBody, Shape as Kind}
 use Rattle.yaml_parse_grammar.specs.Items as item

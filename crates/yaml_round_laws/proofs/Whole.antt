@@ -1,7 +1,7 @@
 -- The events of a list of well spelled tokens, from the first to the last.
 use Rattle.std.proofs.Common.{◌≡◌, Bool, List, [], ◌∷◌, Option, Some, None, refl, sym, ap, subst, ◌∙◌}
 use Rattle.yaml_scan.specs.Faults.{Fault}
-use Rattle.yaml_parse_model.specs.Events.{EventBody}
+use Rattle.yaml_parse.specs.Events.{EventBody}
 use Rattle.yaml_parse_grammar.specs.Trees.{Given}
 use Rattle.yaml_parse_grammar.specs.Machine.{run, initial}
 use Rattle.yaml_parse_grammar.specs.Resolve.{Directives, no_directives, Settled, refused, gave, noted, settle, Reading, read_on, reading}

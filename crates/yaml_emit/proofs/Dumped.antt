@@ -1,6 +1,7 @@
 -- A dump is given event by event.
-use Rattle.std.proofs.Common.{◌≡◌, ◌≢◌, ℕ, List, [], ◌∷◌, ◌++◌, length, Bool, true, false, refl, sym, subst, ◌∙◌, ap, arith, Option, Some, option_map}
+use Rattle.std.proofs.Common.{◌≡◌, ◌≢◌, ℕ, List, [], ◌∷◌, ◌++◌, length, Bool, true, false, refl, sym, subst, ◌∙◌, ap, arith, Option, Some, None, option_map, Result, Ok, Err, OnOk}
 use Rattle.yaml_scan.specs.Faults.{Fault, fault_of}
+use Rattle.yaml_scan.specs.declared.yaml_fault_t.{yaml_fault_t}
 use Rattle.yaml_parse.specs.Nodes.{Node}
 use Rattle.yaml_parse.specs.Documents.{Document}
 use Rattle.yaml_emit_text.specs.declared.Encoding.{Encoding}
@@ -18,7 +19,7 @@ use Rattle.yaml_emit_state.specs.Finish.{Finishes, FinishesAt, FinishesBy}
 use Rattle.yaml_emit.specs.declared.graph.Events.{Events}
 use Rattle.yaml_emit.specs.declared.emitter.yaml_emitter_t.TheInside.{Inside}
 use Rattle.yaml_emit.specs.Events.{coming_events, IsEvents}
-use Rattle.yaml_emit.specs.Emitter.{Emitter, emitter_of, IsEmitter, CompletesBy, Completes, Given, Gives, Stuck, left_if, opening_events, closing_events, dump_events, said_by, said_document}
+use Rattle.yaml_emit.specs.Emitter.{Emitter, emitter_of, IsEmitter, CompletesBy, Completes, Given, Gives, Stuck, left_if, opening_events, closing_events, dump_events, said_by, said_document, Answers}
 use Rattle.yaml_emit.specs.Graph.{dumped}
 use Rattle.yaml_emit.specs.Dumping.{DumpsBy, Dumps}
 use Rattle.yaml_emit.proofs.Emitting.{stopped_completes, not_true}
@@ -102,11 +103,11 @@ closes_by : (closed : Bool) (old new : Emitter) → (closed ≡ true → new ≡
 closes_by true old new a g = let P : Emitter → Type 0 = λ z. Gives old [] z [] in subst P (sym (a refl)) (gives_same old)
 closes_by false old new a g = gives_one old new stream_end [] (g refl)
 
-said_none : (ns : List Node) (closed : Bool) (d : Document) → length ns ≡ 0 → said_by closed ns d ≡ closing_events closed
+pub said_none : (ns : List Node) (closed : Bool) (d : Document) → length ns ≡ 0 → said_by closed ns d ≡ closing_events closed
 said_none [] closed d e = refl
 said_none (n ∷ ns) closed d e = absurd (omega arith)
 
-said_some : (ns : List Node) (closed : Bool) (d : Document) → length ns ≢ 0 → said_by closed ns d ≡ dumped d
+pub said_some : (ns : List Node) (closed : Bool) (d : Document) → length ns ≢ 0 → said_by closed ns d ≡ dumped d
 said_some [] closed d e = absurd (e refl)
 said_some (n ∷ ns) closed d e = refl
 
@@ -127,3 +128,8 @@ dump_then old mid new d false h g c n = absurd (cc)
 pub dump_else : (old mid : Emitter) (d : Document) (b : Bool) → b ≡ false → ((es : List Event) → Gives old (opening_events old.opened ++ es) mid (left_if b es)) → Gives old (dump_events old d) mid []
 dump_else old mid d true h g = absurd (cc)
 dump_else old mid d false h g = g (said_document old.closed d)
+
+-- an ended stream is closed, where no fault has come
+pub ended_by : (fault : Option Fault) (closed : Bool) (r : Result (Unit {0}) yaml_fault_t) → Answers fault r → OnOk r (closed ≡ true) → fault ≡ None → closed ≡ true
+ended_by fault closed (Ok x) a k n = k
+ended_by fault closed (Err f) a k n = absurd (cc)

@@ -11,3 +11,4 @@ pub mod Counting
 pub mod Naming
 pub mod Leaving
 pub mod Dumped
+pub mod DumpsJudged

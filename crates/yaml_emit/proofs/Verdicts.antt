@@ -1,5 +1,5 @@
 -- What an emitter refuses and has written.
-use Rattle.std.proofs.Common.{◌≡◌, ◌≢◌, ℕ, ◌≤◌, List, [], ◌∷◌, ◌++◌, length, Bool, true, false, refl, sym, subst, ◌∙◌, ap, arith, Option, Some, None, append_assoc, append-nil, option_map}
+use Rattle.std.proofs.Common.{◌≡◌, ℕ, List, [], ◌∷◌, ◌++◌, Bool, true, false, refl, sym, subst, ◌∙◌, ap, arith, Option, Some, None, append_assoc, append-nil, option_map}
 use Rattle.yaml_scan.specs.Faults.{Fault, fault_of}
 use Rattle.yaml_scan.specs.declared.yaml_encoding_t.{yaml_encoding_t}
 use Rattle.yaml_scan.specs.declared.yaml_fault_t.{yaml_fault_t}
@@ -8,7 +8,6 @@ use Rattle.yaml_emit_text.specs.declared.Encoding.{Encoding}
 use Rattle.yaml_emit_text.specs.declared.Settings.{Settings}
 use Rattle.yaml_emit_text.specs.declared.Status.{Status}
 use Rattle.yaml_emit_text.specs.declared.Status.TheVariants.{Going, Full, Deep, Starved}
-use Rattle.yaml_emit_text.specs.declared.Wishes.{Wishes}
 use Rattle.yaml_emit_text.specs.Text.{Item, encode, is_deep}
 use Rattle.yaml_emit_text.specs.Settings.{settled}
 use Rattle.yaml_emit_text.specs.Layout.{Rest, nothing_more, written}
@@ -27,10 +26,10 @@ use Rattle.yaml_emit.specs.Held.{held_events, is_ready}
 use Rattle.yaml_emit.specs.declared.held.Held.{Held}
 use Rattle.yaml_emit.specs.declared.emitter.yaml_emitter_t.TheInside.{Inside}
 use Rattle.yaml_emit.specs.Judged.{Shape, first_shape, let_out, first_refusal, unless, laid, refused_at, refusal_from, text_from, refusal_behind, LetsOut, Judges}
-use Rattle.yaml_emit.specs.Emitter.{Emitter, emitter_of, IsEmitter, fault_by, refusal_of, stream_encoding, problem_fault}
-use Rattle.yaml_emit.specs.Verdict.{verdict_by, verdict, first_settings, IsLetOut, WritesBy, Writes, Judged, JudgesFirst, HasLetOut, Tells}
-use Rattle.yaml_emit.proofs.Judging.{or_none, or_some, unless_none, unless_some}
-use Rattle.yaml_emit.proofs.Emitting.{not_true}
+use Rattle.yaml_emit.specs.Emitter.{Emitter, emitter_of, IsEmitter, fault_by, refusal_of, stream_encoding, problem_fault, Stays}
+use Rattle.yaml_emit.specs.Verdict.{verdict_by, verdict, IsLetOut, WritesBy, Writes, Judged, JudgesFirst, Unjudged, HasLetOut, Tells}
+use Rattle.yaml_emit.proofs.Judging.{or_some, unless_some}
+use Rattle.yaml_emit.proofs.Emitting.{not_true, refusal_none, goes_going}
 
 -- ---- an event was given
 
@@ -52,14 +51,20 @@ lay_writes old new e h x es whole a b same l j c =
     let move : held_events old.held ++ (e ∷ es) ≡ (h ++ e ∷ []) ++ es = ap (λ z. z ++ (e ∷ es)) (sym same) ∙ sym (append_assoc h (e ∷ []) es) in
     subst Q (sym b) (l.encoding ∙ k.0, j.lets_out es whole (subst R move k.1))
 
-pub inside_judges : (i : Inside) (core : Core) (h held : Held) (fault : Option Fault) (e : Event) → i.fresh ≡ false → h ≡ i.held → Leads i.core (held_events h ++ e ∷ []) core (held_events held) → Judges i.core (held_events h ++ e ∷ []) core (held_events held)
+pub inside_judges : (i : Inside) (core : Core) (h held : Held) (fault : Option Fault) (e : Event) → i.fresh ≡ false → i.core.sink.status ≡ Going → h ≡ i.held → Leads i.core (held_events h ++ e ∷ []) core (held_events held) → Judges i.core (held_events h ++ e ∷ []) core (held_events held)
     → Judged (emitter_of i) e (record { wishes = i.wishes; limit = i.limit; core = core; held = held; fresh = i.fresh; opened = i.opened; closed = i.closed; fault = fault })
-inside_judges i core h held fault e fr same l j =
+inside_judges i core h held fault e fr on same l j =
     let new : Emitter = record { wishes = i.wishes; limit = i.limit; core = core; held = held; fresh = i.fresh; opened = i.opened; closed = i.closed; fault = fault } in
     record {
       refuses = λ g es. lay_refuses (emitter_of i) new e (held_events h) es fr fr (ap held_events same) (j.refuses g es);
       writes = λ x es whole c. lay_writes (emitter_of i) new e (held_events h) x es whole fr fr (ap held_events same) l j c;
+      going = λ _. on;
     }
+
+-- with no fault the output goes on
+pub inside_going : (i : Inside) → IsEmitter i → option_map fault_of i.fault ≡ None → i.core.sink.status ≡ Going
+inside_going i inv none =
+    goes_going i.core.sink.status i.core.place (refusal_none i.core.place i.core.sink.status i.core.starved (sym inv.faulty ∙ none))
 
 -- ---- the settings came into force
 
@@ -113,12 +118,14 @@ inside_first i core e s z inv fr a b f =
     record {
       refuses = λ es. begin_refuses (emitter_of i) new e es fr refl (inv.begun fr).0 f';
       writes = λ x es whole c. begin_writes (emitter_of i) new e x es whole fr refl (inv.begun fr).0 f' c;
+      going = (inv.begun fr).1.1.1;
     }
 
 pub first_judged : (old mid new : Emitter) (e : Event) → JudgesFirst old e mid → Judged mid e new → Judged old e new
 first_judged old mid new e p q = record {
   refuses = λ g es. q.refuses g es ∙ p.refuses es;
   writes = λ x es whole c. q.writes x es whole (p.writes x es whole c);
+  going = λ _. p.going;
 }
 
 -- ---- behind a fault
@@ -165,7 +172,50 @@ inside_stuck_judged i f e inv is =
     record {
       refuses = λ g es. stuck_verdict (emitter_of i) (fault_of f) es (e ∷ es) fr (sym inv.faulty ∙ some) g;
       writes = λ x es whole c. stuck_writes (emitter_of i) (fault_of f) x (e ∷ es) es whole fr (sym inv.faulty ∙ some) c;
+      going = λ g. g;
     }
+
+pub inside_unjudged : (i : Inside) → IsEmitter i → (f : Fault) → option_map fault_of i.fault ≡ Some f → Unjudged (emitter_of i)
+inside_unjudged i inv f is =
+    let fr : i.fresh ≡ false = not_true i.fresh (λ t. let k = (inv.begun t).1.0 in cc) in
+    record {
+      refuses = λ g es more. stuck_verdict (emitter_of i) f more es fr (sym inv.faulty ∙ is) g;
+      writes = λ x es more whole h. stuck_writes (emitter_of i) f x es more whole fr (sym inv.faulty ∙ is) h;
+    }
+
+-- ---- that the stream was opened or closed is noted
+
+abbrev marked : Inside → Bool → Bool → Emitter
+marked i o k = record { wishes = i.wishes; limit = i.limit; core = i.core; held = i.held; fresh = i.fresh; opened = o; closed = k; fault = option_map fault_of i.fault }
+
+marked_verdict : (b : Bool) (i : Inside) (o k : Bool) (es : List Event) → verdict_by b (marked i o k) es ≡ verdict_by b (emitter_of i) es
+marked_verdict true i o k es = refl
+marked_verdict false i o k es = refl
+
+marked_writes : (b : Bool) (i : Inside) (o k : Bool) (x : Encoding) (es : List Event) (whole : List Item) → WritesBy b (emitter_of i) x es whole → WritesBy b (marked i o k) x es whole
+marked_writes true i o k x es whole h = h
+marked_writes false i o k x es whole h = h
+
+unmarked_writes : (b : Bool) (i : Inside) (o k : Bool) (x : Encoding) (es : List Event) (whole : List Item) → WritesBy b (marked i o k) x es whole → WritesBy b (emitter_of i) x es whole
+unmarked_writes true i o k x es whole h = h
+unmarked_writes false i o k x es whole h = h
+
+pub judged_marked : (old : Emitter) (e : Event) (i : Inside) (o k : Bool) → Judged old e (emitter_of i)
+    → Judged old e (record { wishes = i.wishes; limit = i.limit; core = i.core; held = i.held; fresh = i.fresh; opened = o; closed = k; fault = option_map fault_of i.fault })
+unfolding verdict Writes
+judged_marked old e i o k j = record {
+  refuses = λ g es. marked_verdict i.fresh i o k es ∙ j.refuses g es;
+  writes = λ x es whole h. marked_writes i.fresh i o k x es whole (j.writes x es whole h);
+  going = j.going;
+}
+
+pub tells_marked : (i : Inside) (o k : Bool) → Tells (emitter_of i)
+    → Tells (record { wishes = i.wishes; limit = i.limit; core = i.core; held = i.held; fresh = i.fresh; opened = o; closed = k; fault = option_map fault_of i.fault })
+unfolding verdict Writes
+tells_marked i o k t = record {
+  fault = t.fault ∙ ap (fault_by i.core.sink.status i.core.starved) (sym (marked_verdict i.fresh i o k []));
+  output = λ x whole h. t.output x whole (unmarked_writes i.fresh i o k x [] whole h);
+}
 
 -- ---- what an emitter tells
 
@@ -276,3 +326,7 @@ tells_by false i fr inv = record {
 
 pub inside_tells : (i : Inside) → IsEmitter i → Tells (emitter_of i)
 inside_tells i inv = tells_by i.fresh i refl inv
+
+-- a call that was Ok had no fault to keep
+pub stays_never : (old mid new : Emitter) → Stays old mid → mid.fault ≡ None → Stays old new
+stays_never old mid new s n = λ f h. let e = ap (λ (z : Emitter). z.fault) (s f h) in absurd (cc)

@@ -49,11 +49,25 @@ Writes e x es whole = WritesBy e.fresh e x es whole
 pub record Judged (old : Emitter) (e : Event) (new : Emitter) : Type 0 where
   pub refuses : new.core.sink.status ≡ Going → (es : List Event) → verdict new es ≡ verdict old (e ∷ es)
   pub writes : (x : Encoding) (es : List Event) (whole : List Item) → Writes old x (e ∷ es) whole → Writes new x es whole
+  -- an output that has stopped stays stopped
+  pub going : new.core.sink.status ≡ Going → old.core.sink.status ≡ Going
+
+-- Of some events that were to come those are still to come, and the others were judged in their turn.
+pub record JudgedAll (old : Emitter) (es : List Event) (new : Emitter) (left : List Event) : Type 0 where
+  pub refuses : new.core.sink.status ≡ Going → (more : List Event) → verdict new (left ++ more) ≡ verdict old (es ++ more)
+  pub writes : (x : Encoding) (more : List Event) (whole : List Item) → Writes old x (es ++ more) whole → Writes new x (left ++ more) whole
+  pub going : new.core.sink.status ≡ Going → old.core.sink.status ≡ Going
+
+-- events that count for nothing: behind a fault
+pub record Unjudged (e : Emitter) : Type 0 where
+  pub refuses : e.core.sink.status ≡ Going → (es more : List Event) → verdict e more ≡ verdict e es
+  pub writes : (x : Encoding) (es more : List Event) (whole : List Item) → Writes e x es whole → Writes e x more whole
 
 -- the settings came into force with the first event
 pub record JudgesFirst (old : Emitter) (e : Event) (new : Emitter) : Type 0 where
   pub refuses : (es : List Event) → verdict new (e ∷ es) ≡ verdict old (e ∷ es)
   pub writes : (x : Encoding) (es : List Event) (whole : List Item) → Writes old x (e ∷ es) whole → Writes new x (e ∷ es) whole
+  pub going : old.core.sink.status ≡ Going
 
 -- All of it is in the output, which passes no limit; or the output has stopped there.
 abbrev pub HasLetOut : Status → ℕ → List ℕ → List ℕ → Bool → Type 0

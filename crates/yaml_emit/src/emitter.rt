@@ -1,7 +1,8 @@
 //! The emitter.
 
-ghost use Rattle.std.specs.Prelude.{◌≡◌, Some, None, true, false, option_map, IfOk};
-ghost use Rattle.yaml_scan.specs.Faults.{Fault, fault_of};
+ghost use Rattle.std.specs.Prelude.{◌≡◌, Some, None, true, false, option_map, IfOk, IfErr};
+ghost use Rattle.yaml_scan.specs.Faults.{Fault, fault_of, memory_fault};
+ghost use Rattle.yaml_scan.specs.declared.yaml_origin_t.TheVariants as from;
 ghost use Rattle.yaml_parse.specs.Events.{event_of, body_of};
 ghost use Rattle.yaml_parse.specs.Constructors.{HasUtf8};
 ghost use Rattle.yaml_emit_layout.specs.Content.{said};
@@ -60,7 +61,8 @@ fn stream_encoding(event: &yaml_event_body_t) -> yaml_encoding_t
 /// An emitter whose text has at most `limit` bytes. It is fresh, with any encoding, canonical and unicode off, indent 2,
 /// width 80 and any break. Refused only for want of memory; today it takes none.
 pub fn yaml_emitter_initialize(alloc: Global, limit: u64) -> Result<yaml_emitter_t, yaml_fault_t>
-    ensures { IfOk result (λ e. IsNew e limit) }
+    ensures is { IfOk result (λ e. IsNew e limit) }
+    ensures memory { IfErr result (λ f. fault_of f ≡ memory_fault from.Emitter) }
 {
     let wishes = Wishes::new();
     Ok(yaml_emitter_t {

@@ -1,6 +1,6 @@
 //! Documents to text.
 
-ghost use Rattle.std.specs.Prelude.{◌≡◌, ◌≢◌, ◌<◌, ◌++◌, ◌∷◌, [], List, length, Some, None, true, false, OnOk};
+ghost use Rattle.std.specs.Prelude.{◌≡◌, ◌≢◌, ◌<◌, ◌++◌, ◌∷◌, [], List, length, Some, None, true, false, OnOk, OnErr};
 ghost use Rattle.yaml_parse.specs.Events.{body_of};
 ghost use Rattle.yaml_parse.specs.Constructors.{HasUtf8};
 ghost use Rattle.yaml_emit_layout.specs.Content.{stream_start, stream_end, said, Event};
@@ -9,6 +9,7 @@ ghost use Rattle.yaml_scan.specs.Faults.{Fault};
 ghost use Rattle.yaml_emit.specs.Graph.{dumped};
 ghost use Rattle.yaml_emit.specs.Events.{IsEvents, coming_events};
 ghost use Rattle.yaml_emit.specs.Dumping.{Dumps};
+ghost use Rattle.yaml_emit.specs.Verdict.{Judged, JudgedAll, Unjudged, Tells};
 
 use super::yaml_emitter_t;
 use crate::fault::refusal;
@@ -22,8 +23,12 @@ pub fn yaml_emitter_open(emitter: &mut yaml_emitter_t) -> Result<(), yaml_fault_
     requires { emitter.old.opened ≡ false }
     ensures answer { Answers emitter.new.fault result }
     ensures opened { OnOk result (emitter.new.opened ≡ true) }
+    ensures refused { OnErr result (emitter.new.opened ≡ false) }
     ensures keeps { emitter.new.closed ≡ emitter.old.closed }
     ensures given { Given emitter.old (stream_start yaml_encoding_t.YAML_ANY_ENCODING) emitter.new }
+    ensures judged { Judged emitter.old (stream_start yaml_encoding_t.YAML_ANY_ENCODING) emitter.new }
+    ensures tells { Tells emitter.new }
+    ensures stays { Stays emitter.old emitter.new }
 {
     emitter.emit(yaml_event_body_t::StreamStart {
         encoding: yaml_encoding_t::YAML_ANY_ENCODING,
@@ -38,7 +43,11 @@ pub fn yaml_emitter_close(emitter: &mut yaml_emitter_t) -> Result<(), yaml_fault
     ensures answer { Answers emitter.new.fault result }
     ensures again { emitter.old.closed ≡ true → emitter.new ≡ emitter.old }
     ensures given { emitter.old.closed ≡ false → Given emitter.old stream_end emitter.new }
+    ensures judged { emitter.old.closed ≡ false → Judged emitter.old stream_end emitter.new }
+    ensures tells { Tells emitter.new }
+    ensures stays { Stays emitter.old emitter.new }
     ensures closed { OnOk result (emitter.new.closed ≡ true) }
+    ensures refused { OnErr result (emitter.new.closed ≡ emitter.old.closed) }
     ensures keeps { emitter.new.opened ≡ emitter.old.opened }
 {
     if emitter.closed {
@@ -54,6 +63,8 @@ impl yaml_emitter_t {
     // A law: behind a fault events count for nothing, and an open stream has begun.
     fn stands(&self)
         ensures stuck { (f : Fault) → self.now.fault ≡ Some f → Stuck self.now }
+        ensures unjudged { (f : Fault) → self.now.fault ≡ Some f → Unjudged self.now }
+        ensures tells { Tells self.now }
         ensures running { self.now.opened ≡ true → self.now.fresh ≡ false }
     {
         let _ = &self.fault;
@@ -63,6 +74,7 @@ impl yaml_emitter_t {
     fn starve(&mut self, refused: AllocError)
         requires begun { self.old.fresh ≡ false }
         ensures given { (es : List Event) → Gives self.old es self.new [] }
+        ensures judged { (es : List Event) → JudgedAll self.old es self.new [] }
         ensures keeps { Keeps self.old self.new }
     {
         self.core.starve(refused);
@@ -74,6 +86,7 @@ impl yaml_emitter_t {
         requires utf8 { HasUtf8 (body_of event) }
         requires begun { self.old.fresh ≡ false }
         ensures given { (es : List Event) → Gives self.old (said (body_of event) ∷ es) self.new (left_if result es) }
+        ensures judged { (es : List Event) → JudgedAll self.old (said (body_of event) ∷ es) self.new (left_if result es) }
         ensures keeps { Keeps self.old self.new }
     {
         match self.emit(event) {
@@ -90,6 +103,7 @@ impl yaml_emitter_t {
         requires walk { IsEvents document.now events.old }
         requires begun { self.old.fresh ≡ false }
         ensures dumps { Dumps document.now result self.old events.old self.new events.new }
+        ensures judged { JudgedAll self.old (coming_events document.now events.old) self.new (left_if result (coming_events document.now events.new)) }
     {
         match events.next(document) {
             Ok(None) => false,
@@ -105,6 +119,7 @@ impl yaml_emitter_t {
         requires walk { IsEvents document.now events }
         requires begun { self.old.fresh ≡ false }
         ensures given { Gives self.old (coming_events document.now events) self.new [] }
+        ensures judged { JudgedAll self.old (coming_events document.now events) self.new [] }
         ensures keeps { Keeps self.old self.new }
     {
         let mut events = events;
@@ -115,6 +130,7 @@ impl yaml_emitter_t {
     fn dump_document(&mut self, document: &yaml_document_t)
         requires begun { self.old.fresh ≡ false }
         ensures given { Gives self.old (dumped document.now) self.new [] }
+        ensures judged { JudgedAll self.old (dumped document.now) self.new [] }
         ensures keeps { Keeps self.old self.new }
     {
         match Events::of(self.alloc, document) {
@@ -127,8 +143,10 @@ impl yaml_emitter_t {
     fn dump_nodes(&mut self, document: &yaml_document_t)
         requires { self.old.opened ≡ true }
         ensures given { Gives self.old (said_document self.old.closed document.now) self.new [] }
+        ensures judged { JudgedAll self.old (said_document self.old.closed document.now) self.new [] }
         ensures opened { self.new.opened ≡ true }
         ensures closed { 0 < length document.now.nodes → self.new.closed ≡ self.old.closed }
+        ensures ended { length document.now.nodes ≡ 0 → self.new.fault ≡ None → self.new.closed ≡ true }
     {
         self.stands();
         if document.node_count() == 0 {
@@ -141,7 +159,9 @@ impl yaml_emitter_t {
     // Whether the stream is open.
     fn open_if_needed(&mut self) -> bool
         ensures given { (es : List Event) → Gives self.old (opening_events self.old.opened ++ es) self.new (left_if result es) }
+        ensures judged { (es : List Event) → JudgedAll self.old (opening_events self.old.opened ++ es) self.new (left_if result es) }
         ensures opened { result ≡ true → self.new.opened ≡ true }
+        ensures kept { self.old.opened ≡ true → self.new.opened ≡ true }
         ensures refused { result ≡ false → self.new.fault ≢ None }
         ensures closed { self.new.closed ≡ self.old.closed }
     {
@@ -160,8 +180,11 @@ impl yaml_emitter_t {
 
     fn dump_all(&mut self, document: &yaml_document_t)
         ensures given { Gives self.old (dump_events self.old document.now) self.new [] }
+        ensures judged { JudgedAll self.old (dump_events self.old document.now) self.new [] }
         ensures opened { self.new.fault ≡ None → self.new.opened ≡ true }
+        ensures kept { self.old.opened ≡ true → self.new.opened ≡ true }
         ensures closed { 0 < length document.now.nodes → self.new.closed ≡ self.old.closed }
+        ensures ended { length document.now.nodes ≡ 0 → self.new.fault ≡ None → self.new.closed ≡ true }
     {
         if self.open_if_needed() {
             self.dump_nodes(document);
@@ -177,10 +200,14 @@ pub fn yaml_emitter_dump(
     document: yaml_document_t,
 ) -> Result<(), yaml_fault_t>
     ensures given { Gives emitter.old (dump_events emitter.old document) emitter.new [] }
+    ensures judged { JudgedAll emitter.old (dump_events emitter.old document) emitter.new [] }
+    ensures tells { Tells emitter.new }
     ensures answer { Answers emitter.new.fault result }
     ensures opened { OnOk result (emitter.new.opened ≡ true) }
-    // A document with a root doesn't end the stream.
+    ensures kept { emitter.old.opened ≡ true → emitter.new.opened ≡ true }
+    // A document with a root doesn't end the stream, one without a root does.
     ensures closed { 0 < length document.nodes → emitter.new.closed ≡ emitter.old.closed }
+    ensures ended { length document.nodes ≡ 0 → OnOk result (emitter.new.closed ≡ true) }
     ensures stays { Stays emitter.old emitter.new }
 {
     match emitter.fault {

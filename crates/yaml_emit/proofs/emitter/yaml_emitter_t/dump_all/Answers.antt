@@ -1,4 +1,5 @@
 use Rattle.yaml_emit.proofs.Dumped.{dump_then, dump_else}
+use Rattle.yaml_emit.proofs.DumpsJudged.{judged_then, judged_else}
 use Rattle.yaml_emit.proofs.emitter.yaml_emitter_t.dump_all.Goals as goal
 
 pub returns-then-open_if_needed-clause-given : goal.returns-then-open_if_needed-clause-given
@@ -6,3 +7,9 @@ returns-then-open_if_needed-clause-given c = dump_then _ _ _ _ _ c.if-open_if_ne
 
 pub returns-else-open_if_needed-clause-given : goal.returns-else-open_if_needed-clause-given
 returns-else-open_if_needed-clause-given c = dump_else _ _ _ _ c.if-open_if_needed.false c.open_if_needed.ensures.given
+
+pub returns-then-open_if_needed-clause-judged : goal.returns-then-open_if_needed-clause-judged
+returns-then-open_if_needed-clause-judged c = judged_then _ _ _ _ _ c.if-open_if_needed.true c.open_if_needed.ensures.judged c.open_if_needed.ensures.closed c.dump_nodes.ensures.judged
+
+pub returns-else-open_if_needed-clause-judged : goal.returns-else-open_if_needed-clause-judged
+returns-else-open_if_needed-clause-judged c = judged_else _ _ _ _ c.if-open_if_needed.false c.open_if_needed.ensures.judged

@@ -1,5 +1,9 @@
 use Rattle.yaml_emit.proofs.Dumped.{gives_stuck}
+use Rattle.yaml_emit.proofs.DumpsJudged.{judged_stuck}
 use Rattle.yaml_emit.proofs.emitter.yaml_emitter_t.dump_event.Goals as goal
 
 pub returns-in-Err-clause-given : goal.returns-in-Err-clause-given
 returns-in-Err-clause-given c = λ es. gives_stuck _ _ _ es c.in-Err.ensures.given (c.stands.ensures.stuck _ c.in-Err.ensures.answer)
+
+pub returns-in-Err-clause-judged : goal.returns-in-Err-clause-judged
+returns-in-Err-clause-judged c = λ es. judged_stuck _ _ _ es c.in-Err.ensures.judged (c.stands.ensures.unjudged _ c.in-Err.ensures.answer)

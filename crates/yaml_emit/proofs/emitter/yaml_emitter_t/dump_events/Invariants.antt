@@ -1,6 +1,7 @@
 use Rattle.std.proofs.Common.{◌≡◌, false, length}
 use Rattle.yaml_emit.specs.Emitter.{Gives, Keeps}
 use Rattle.yaml_emit.specs.Events.{IsEvents, coming_events}
+use Rattle.yaml_emit.specs.Verdict.{JudgedAll}
 use Rattle.yaml_emit.proofs.emitter.yaml_emitter_t.dump_events.Given as goal
 
 -- some events were given, and the others are still to come
@@ -9,6 +10,7 @@ invariant-loop l = record {
   walk : IsEvents l.document l.events;
   begun : l.self.fresh ≡ false;
   gives : Gives l.initial.self (coming_events l.document l.initial.events) l.self (coming_events l.document l.events);
+  judged : JudgedAll l.initial.self (coming_events l.document l.initial.events) l.self (coming_events l.document l.events);
   keeps : Keeps l.initial.self l.self;
 }
 

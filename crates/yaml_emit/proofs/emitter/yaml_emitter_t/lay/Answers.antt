@@ -1,6 +1,6 @@
 use Rattle.std.proofs.Common.{refl}
 use Rattle.yaml_emit.proofs.Emitting.{inside_lays}
-use Rattle.yaml_emit.proofs.Verdicts.{inside_judges}
+use Rattle.yaml_emit.proofs.Verdicts.{inside_judges, inside_going}
 use Rattle.yaml_emit.proofs.emitter.yaml_emitter_t.lay.Goals as goal
 
 pub returns-clause-given : goal.returns-clause-given
@@ -11,4 +11,5 @@ returns-clause-given c =
 pub returns-clause-judged : goal.returns-clause-judged
 returns-clause-judged c =
     let fr = rw (← c.self.view_is) at c.requires.begun in
-    rw (← c.self.view_is) (inside_judges c.self.inside c.give.new.core c.self.inside.held c.give.new.held _ _ fr refl c.give.ensures.leads c.give.ensures.judges)
+    let none = rw (← c.self.view_is) at c.requires.right in
+    rw (← c.self.view_is) (inside_judges c.self.inside c.give.new.core c.self.inside.held c.give.new.held _ _ fr (inside_going c.self.inside c.self.invariant none) refl c.give.ensures.leads c.give.ensures.judges)

@@ -16,3 +16,4 @@ pub mod ComesLemmas
 pub mod TakeLemmas
 pub mod AheadLemmas
 pub mod LetterLemmas
+pub mod ShutLemmas

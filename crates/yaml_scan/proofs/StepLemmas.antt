@@ -13,8 +13,6 @@ use Rattle.yaml_scan_layout.specs.History.{Candidate, candidate, is_fresh, fresh
 use Rattle.yaml_scan_layout.specs.Next.{history, Next, Read, Fails, Ends, next, extended, first_lexeme}
 use Rattle.yaml_scan_layout.specs.Next.{allowed_behind}
 use Rattle.yaml_scan.proofs.ReadLemmas.{next_is, saved_is, gap_of}
-use Rattle.yaml_scan.specs.Shows.{look}
-use Rattle.yaml_scan.specs.declared.waiting.Seen.TheVariants as looks
 use Rattle.yaml_scan_layout.proofs.HistoryLemmas.{candidate_below, length-entries, length-keyed, first_open-le, first_open-is, first_open-least, IsOpen, fresh_is}
 
 lexeme-as_key : (ls : List ℕ) (es : List Entry) (k n : ℕ) (e : Entry) → (get_or (mark_key ls es k) n e).lexeme ≡ (get_or es n e).lexeme
@@ -361,15 +359,3 @@ newest l h =
 pub opens_new : (l : Lexeme) (h : List Lexeme) → get_or (opens_in (l ∷ h) (l ∷ h)) (length h) false ≡ l.saved
 unfolding candidate
 opens_new l h = opens-top (l ∷ h) l h (length h) refl ∙ newest l h
-
-pub look_here : (l : Lexeme) (d : ℕ) (h : List Lexeme) → look l d ≡ looks.Here → candidate d (l ∷ h) ≡ Some record { number = length h; lexeme = l }
-unfolding candidate
-look_here l d h e = grind (arith, nat_tests)
-
-pub look_nowhere : (l : Lexeme) (d : ℕ) (h : List Lexeme) → look l d ≡ looks.Nowhere → candidate d (l ∷ h) ≡ None
-unfolding candidate
-look_nowhere l d h e = grind (arith, nat_tests)
-
-pub look_further : (l : Lexeme) (d : ℕ) (h : List Lexeme) → look l d ≡ looks.Further → candidate d (l ∷ h) ≡ candidate d h
-unfolding candidate
-look_further l d h e = grind (arith, nat_tests)

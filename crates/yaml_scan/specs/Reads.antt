@@ -127,3 +127,12 @@ opens_for k depth column levels = if is_start k && not (nat_lt 0 depth) then (if
 abbrev pub IsColumn : List Waiting → Lexeme → Option ℕ → ℕ → Type 0
 IsColumn ws l None column = column ≡ l.start.column + 1
 IsColumn ws l (Some i) column = (w : Waiting) → column ≡ (slice_index_or ws i w).entry.lexeme.start.column + 1
+
+-- the place where a candidate waits, or where it is known that none does
+abbrev pub shut_or : ℕ → ℕ → Option ℕ → ℕ
+shut_or dropped shut None = shut
+shut_or dropped shut (Some i) = dropped + i
+
+-- the number from which on no lexeme is its depth's candidate, behind one that takes, cancels or replaces its own
+abbrev pub shut_behind : ℕ → ℕ → ℕ → Lexeme → Option ℕ → ℕ
+shut_behind dropped shut count l own = if l.saved then dropped + count else shut_or dropped shut own

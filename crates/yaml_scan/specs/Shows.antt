@@ -1,5 +1,5 @@
 -- What the fields of a machine say of the lexemes that were read.
-use Rattle.std.specs.Prelude.{ℕ, ◌+◌, ◌≡◌, ◌<◌, ◌≤◌, ◌&&◌, ◌||◌, not, Bool, true, false, nat_lt, if◌then◌else◌, map, Option, Some, None, List, ◌∷◌, length, drop, slice_index_or}
+use Rattle.std.specs.Prelude.{ℕ, ◌+◌, ◌≡◌, ◌<◌, ◌≤◌, ◌&&◌, ◌||◌, ◌==◌, not, Bool, true, false, nat_lt, if◌then◌else◌, map, Option, Some, None, List, ◌∷◌, length, drop, slice_index_or}
 use Rattle.yaml_scan_text.specs.declared.record.yaml_mark_t.{yaml_mark_t}
 use Rattle.yaml_scan_text.specs.Tokens.{body_of}
 use Rattle.yaml_scan_decode.specs.DecodedText.{text_bytes}
@@ -106,9 +106,13 @@ marked l opens w = record {
   current = w.current && not (l.saved || cancels l.kind);
 }
 
--- what a lexeme says to one that looks back for the candidate of a depth
-abbrev pub look : Lexeme → ℕ → Seen
-look l d = if nat_lt l.depth d then looks.Nowhere else if nat_lt d l.depth then looks.Further else if l.saved then looks.Here else if cancels l.kind then looks.Nowhere else looks.Further
+-- A lexeme leaves the candidate of a depth as it was before it.
+abbrev pub is_passed : Lexeme → ℕ → Bool
+is_passed l d = nat_lt d l.depth || (l.depth == d && not (l.saved || cancels l.kind))
+
+-- what a lexeme that waits says to one that looks back for the candidate of a depth
+abbrev pub seen : Waiting → ℕ → Seen
+seen w d = if w.current && w.entry.lexeme.depth == d then looks.Here else if w.current || not (is_passed w.entry.lexeme d) then looks.Nowhere else looks.Further
 
 -- The marks as a further lexeme leaves them.
 abbrev pub Closes : Lexeme → Fields → List Bool → Type 0

@@ -24,11 +24,17 @@ IsNarrow n levels = (k : ℕ) → slice_index levels k ≤ n
 abbrev pub AreInside : ℕ → List Waiting → Type 0
 AreInside n ws = (k : ℕ) → (w : Waiting) → k < length ws → (slice_index_or ws k w).entry.lexeme.start.column ≤ n
 
+-- no lexeme that waits, from that number on, is its depth's candidate
+abbrev pub AreShut : ℕ → ℕ → List Waiting → Type 0
+AreShut n dropped ws = (k : ℕ) → (w : Waiting) → k < length ws → n ≤ dropped + k → (slice_index_or ws k w).current ≡ false
+
 pub record IsMachine (m : Machine) : Type 0 where
   pub long : length (text_bytes m.text) < 2 ^ 63
   pub few : m.dropped + length m.waiting.items ≤ length (text_bytes m.text) + 2
   pub taken : m.dropped ≤ m.settled
   pub settled : m.settled ≤ m.dropped + length m.waiting.items
+  pub last : m.shut ≤ m.dropped + length m.waiting.items
+  pub shut : AreShut m.shut m.dropped m.waiting.items
   pub depth : m.depth ≤ m.dropped + length m.waiting.items
   pub levels : IsNarrow (length (text_bytes m.text) + 1) m.levels
   pub inside : AreInside (length (text_bytes m.text)) m.waiting.items
@@ -51,6 +57,7 @@ pub record IsNext (m : Machine) (r : Read) : Type 0 where
   pub column : r.lexeme.start.column ≤ length (text_bytes m.text)
   pub depth : r.lexeme.depth ≡ m.depth
   pub own : IfSome r.own (λ i. i < length m.waiting.items)
+  pub last : IfSome r.own (λ i. AreShut (m.dropped + i + 1) m.dropped m.waiting.items)
   pub key : IfSome r.key (λ i. i < length m.waiting.items)
   pub place : is_end r.lexeme.kind ≡ false → IsPlace (text_bytes m.text) r.lexeme.reached
 

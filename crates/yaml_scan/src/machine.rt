@@ -36,6 +36,8 @@ pub(crate) struct Machine<'a> {
     pub given: usize,
     /// How many lexemes no later one changes.
     pub settled: usize,
+    /// No lexeme with this number or a later one is its depth's candidate.
+    pub shut: usize,
     /// The place that is reached.
     pub place: yaml_mark_t,
     /// How many brackets are open.
@@ -52,7 +54,7 @@ impl<'a> Machine<'a> {
     ghost use Rattle.yaml_scan.specs.Scanned.{scanned, left_in, left_from, IsTold};
     ghost use Rattle.yaml_scan_decode.specs.Encodings.{encoding_of};
     ghost use Rattle.yaml_scan.specs.Shows.{IsPending, fields_of, history_of};
-    ghost use Rattle.yaml_scan.specs.Reads.{MarksOwn, IsColumn, opens_for};
+    ghost use Rattle.yaml_scan.specs.Reads.{MarksOwn, IsColumn, opens_for, shut_behind};
     ghost use Rattle.yaml_scan.specs.Comes.{to_come, Refused, Faults};
     ghost use Rattle.yaml_scan_layout.specs.Coming.{nothing, offline};
     ghost use Rattle.yaml_scan_forward.specs.Fronts.{Gives};
@@ -91,6 +93,7 @@ impl<'a> Machine<'a> {
             dropped: 0,
             given: 0,
             settled: 0,
+            shut: 0,
             place: yaml_mark_t {
                 index: 0,
                 line: 0,
@@ -237,6 +240,7 @@ impl<'a> Machine<'a> {
             body,
             current: lexeme.saved,
         });
+        self.shut = self.shut_behind(own, lexeme);
         self.place = lexeme.reached;
         self.depth = lexeme.kind.depth_after(lexeme.depth);
         self.allowed = allows(lexeme, found);
@@ -255,6 +259,22 @@ impl<'a> Machine<'a> {
     {
         if let Some(i) = own {
             self.waiting[i].mark(lexeme, opens);
+        }
+    }
+
+    /// The number from which on no lexeme is its depth's candidate, where `lexeme` is the last one and takes, cancels or
+    /// replaces the one at `own`.
+    fn shut_behind(&self, own: Option<usize>, lexeme: Lexeme) -> usize
+        requires own { IfSome own (λ i. i < length self.now.waiting.items) }
+        requires few { self.now.dropped + length self.now.waiting.items < 2 ^ 64 - 1 }
+        ensures { result ≡ shut_behind self.now.dropped self.now.shut (length self.now.waiting.items) lexeme own }
+    {
+        if lexeme.saved {
+            return self.dropped + self.waiting.len();
+        }
+        match own {
+            Some(i) => self.dropped + i,
+            None => self.shut,
         }
     }
 

@@ -15,7 +15,7 @@ ghost use Rattle.yaml_scan_layout.specs.Words.{word_at};
 ghost use Rattle.yaml_scan.specs.Reads.{late, lost, required_behind, colon_fault, begun_in, Finishes};
 
 use crate::machine::Machine;
-use crate::waiting::{Seen, look};
+use crate::waiting::Seen;
 use crate::word::{Word, kind_at, read_word};
 use yaml_scan_layout::{Kind, Lexeme, is_fresh, moved_end};
 use yaml_scan_text::{
@@ -44,7 +44,7 @@ struct Stand {
 }
 
 impl<'a> Machine<'a> {
-    ghost use Rattle.yaml_scan.specs.State.{IsMachine, IsNext};
+    ghost use Rattle.yaml_scan.specs.State.{IsMachine, IsNext, AreShut};
     ghost use Rattle.yaml_scan.specs.Shows.{IsShown, fields_of, history_of, stream_of, Finds, Picks};
     ghost use Rattle.yaml_scan.specs.Comes.{Refused};
     ghost use Rattle.yaml_scan.specs.Reads.{GivesNext, GivesLexeme, EndsAt, Owns, keyed_by, required_in};
@@ -189,12 +189,13 @@ impl<'a> Machine<'a> {
 
     /// Where the candidate waits that a lexeme takes, cancels or replaces.
     fn own(&self, stand: Stand) -> Option<usize>
-        requires { IsMachine self.now }
+        requires stands { IsMachine self.now }
         ensures owns { Owns self.now self.now.depth ((stand.allowed && kinds.may_be_key stand.kind) || kinds.cancels stand.kind) result }
         ensures inside { IfSome result (λ i. i < length self.now.waiting.items) }
+        ensures last { IfSome result (λ i. AreShut (self.now.dropped + i + 1) self.now.dropped self.now.waiting.items) }
     {
         if stand.asks() {
-            return self.find(self.depth);
+            return self.find();
         }
         None
     }
@@ -234,16 +235,20 @@ impl<'a> Machine<'a> {
         None
     }
 
-    /// Where the candidate of this depth waits, by a look back. One that is not found is stale.
-    fn find(&self, depth: usize) -> Option<usize>
+    /// Where the candidate of the open depth waits, by a look back from the last lexeme that may be one. One that is not
+    /// found is stale.
+    fn find(&self) -> Option<usize>
         requires shown { IsShown (fields_of self.now) }
         requires settled { self.now.settled ≤ self.now.dropped + length self.now.waiting.items }
-        ensures { Finds self.now depth result }
+        requires last { self.now.shut ≤ self.now.dropped + length self.now.waiting.items }
+        requires shut { AreShut self.now.shut self.now.dropped self.now.waiting.items }
+        ensures finds { Finds self.now self.now.depth result }
+        ensures last { IfSome result (λ i. AreShut (self.now.dropped + i + 1) self.now.dropped self.now.waiting.items) }
     {
         let first = self.settled - self.dropped;
-        let mut i = self.waiting.len();
+        let mut i = self.shut.saturating_sub(self.dropped);
         'back: while first < i {
-            match look(self.waiting[i - 1].entry.lexeme, depth) {
+            match self.waiting[i - 1].seen(self.depth) {
                 Seen::Here => return Some(i - 1),
                 Seen::Nowhere => return None,
                 Seen::Further => {}

@@ -50,6 +50,19 @@ impl Waiting {
         self.current = self.current && !(lexeme.saved || lexeme.kind.cancels());
     }
 
+    /// What it says to one that looks back for the candidate of a depth.
+    pub(crate) fn seen(&self, depth: usize) -> Seen
+        ensures { result ≡ shows.seen self.now depth }
+    {
+        if self.current && self.entry.lexeme.depth == depth {
+            return Seen::Here;
+        }
+        if self.current || !is_passed(self.entry.lexeme, depth) {
+            return Seen::Nowhere;
+        }
+        Seen::Further
+    }
+
     /// The token in front of its own one, where `given` tokens were taken: BLOCK-END tokens, a block start, KEY.
     pub(crate) fn before(&self, given: usize) -> Option<yaml_token_body_t>
         ensures { option_map body_of result ≡ front_at self.now.entry given }
@@ -103,7 +116,7 @@ fn key_body(is_key: bool, taken: usize) -> Option<yaml_token_body_t>
     None
 }
 
-/// What a lexeme says to one that looks back for the candidate of a depth.
+/// What a lexeme that waits says to one that looks back for the candidate of a depth.
 #[derive(Drop)]
 pub(crate) enum Seen {
     Here,
@@ -111,20 +124,9 @@ pub(crate) enum Seen {
     Further,
 }
 
-pub(crate) fn look(lexeme: Lexeme, depth: usize) -> Seen
-    ensures { result ≡ shows.look lexeme depth }
+/// Whether a lexeme leaves the candidate of a depth as it was before it.
+fn is_passed(lexeme: Lexeme, depth: usize) -> bool
+    ensures { result ≡ shows.is_passed lexeme depth }
 {
-    if lexeme.depth < depth {
-        return Seen::Nowhere;
-    }
-    if depth < lexeme.depth {
-        return Seen::Further;
-    }
-    if lexeme.saved {
-        return Seen::Here;
-    }
-    if lexeme.kind.cancels() {
-        return Seen::Nowhere;
-    }
-    Seen::Further
+    depth < lexeme.depth || lexeme.depth == depth && !(lexeme.saved || lexeme.kind.cancels())
 }

@@ -19,6 +19,8 @@ returns-clause-stands c =
       few = rw c.new.ensures.items (omega arith);
       taken = omega arith;
       settled = omega arith;
+      last = omega arith;
+      shut = λ k w lt le. absurd (let bad = rw c.new.ensures.items at lt in omega (arith, bad));
       depth = omega arith;
       levels = subst P (sym c.new-2.ensures) (narrow_none (length (text_bytes c.args.text) + 1));
       inside = λ k w lt. absurd (let bad = rw c.new.ensures.items at lt in omega (arith, bad));

@@ -6,19 +6,20 @@ use Rattle.std.proofs.lemmas.List.{map-append, length-map}
 use Rattle.yaml_scan_decode.specs.DecodedText.{text_bytes}
 use Rattle.yaml_scan.specs.declared.machine.Machine.{Machine}
 use Rattle.yaml_scan.specs.declared.waiting.Waiting.{Waiting}
-use Rattle.yaml_scan.specs.State.{AreInside, IsNarrow, IsPlace}
+use Rattle.yaml_scan.specs.State.{AreInside, AreShut, IsNarrow, IsPlace}
 use Rattle.yaml_scan_layout.specs.declared.lexeme.Lexeme.{Lexeme}
 use Rattle.yaml_scan_layout.specs.declared.lexeme.Entry.{Entry}
 use Rattle.yaml_scan_layout.specs.Coming.{Stream, body_in}
 use Rattle.yaml_scan_layout.specs.History.{inside, left_by, entry_of}
 use Rattle.yaml_scan_forward.proofs.HistoryForward.{goes_forward}
 use Rattle.yaml_scan.specs.Shows.{Fields, fields_of, history_of, stream_of, AreSpoken, IsSpoken}
-use Rattle.yaml_scan.specs.Reads.{opens_for}
+use Rattle.yaml_scan.specs.Reads.{opens_for, shut_behind}
 use Rattle.yaml_scan.proofs.SafeLemmas.{inside_push, depth_after-le, narrow_by}
 use Rattle.yaml_scan.proofs.KindLemmas.{ok_read}
 use Rattle.yaml_scan.proofs.MarkLemmas.{kept_entries}
 use Rattle.yaml_scan.proofs.PushLemmas.{IsPushed, marks_are, levels_is, entry_is, column_is, allowed_is, pending_by, shown_by, settled_value, read_pushed, spoken_marked, spoken_push, room_is}
 use Rattle.yaml_scan.proofs.GivenLemmas.{given_goes}
+use Rattle.yaml_scan.proofs.ShutLemmas.{shut_step, last_step, some_less}
 use Rattle.yaml_scan.proofs.machine.Machine.step.Goals as goal
 
 pub settle-self-requires-clause-shown : goal.settle-self-requires-clause-shown
@@ -155,6 +156,16 @@ returns-clause-ok c =
     let marked_spoken = spoken_marked (stream_of m) r.own l o b.waiting.items d.waiting.items inside_b c.mark_own.ensures.marks old_spoken in
     let is_w : IsSpoken (stream_of m) w = spoken ∙ ap (λ (y : Lexeme). body_in (stream_of m) y) (sym lexeme) in
     let all_spoken : AreSpoken (stream_of m) c.push_back_reserved.new.self.items = subst (λ (ws : List Waiting). AreSpoken (stream_of m) ws) (sym items) (spoken_push (stream_of m) w d.waiting.items is_w marked_spoken) in
+    let shuts : d.shut ≡ m.shut = ap (λ (x : Machine). x.shut) to_d ∙ ap (λ (x : Machine). x.shut) to_b ∙ ap (λ (x : Machine). x.shut) to_a in
+    let from_m : AreShut m.shut m.dropped b.waiting.items = subst (λ (ws : List Waiting). AreShut m.shut m.dropped ws) (sym waits) c.requires.stands.shut in
+    let old_shut : AreShut d.shut d.dropped b.waiting.items = subst (λ k. AreShut k d.dropped b.waiting.items) (sym shuts) (subst (λ k. AreShut m.shut k b.waiting.items) (sym drops) from_m) in
+    let last_b : IfSome r.own (λ i. AreShut (m.dropped + i + 1) m.dropped b.waiting.items) = subst (λ (ws : List Waiting). IfSome r.own (λ i. AreShut (m.dropped + i + 1) m.dropped ws)) (sym waits) next.last in
+    let old_last : IfSome r.own (λ i. AreShut (d.dropped + i + 1) d.dropped b.waiting.items) = subst (λ k. IfSome r.own (λ i. AreShut (k + i + 1) k b.waiting.items)) (sym drops) last_b in
+    let AtLast : ℕ → Type 0 = λ k. k ≤ d.dropped + length c.push_back_reserved.new.self.items in
+    let AtShut : ℕ → Type 0 = λ k. AreShut k d.dropped c.push_back_reserved.new.self.items in
+    let Shut : List Waiting → Type 0 = λ ws. AreShut (shut_behind d.dropped d.shut (length ws) l r.own) d.dropped ws in
+    let more_shut = c.shut_behind-self.ensures in
+    let inside_new : IfSome r.own (λ i. i < length c.push_back_reserved.new.self.items) = some_less r.own (length m.waiting.items) (length c.push_back_reserved.new.self.items) (omega (arith, more)) next.own in
     let codes : d.encoding ≡ m.encoding = ap (λ (x : Machine). x.encoding) to_d ∙ ap (λ (x : Machine). x.encoding) to_b ∙ ap (λ (x : Machine). x.encoding) to_a in
     let on : d.started ≡ m.started = ap (λ (x : Machine). x.started) to_d ∙ ap (λ (x : Machine). x.started) to_b ∙ ap (λ (x : Machine). x.started) to_a in
     let stream : stream_of d ≡ stream_of m = ap (λ (t : List ℕ). record { encoding = d.encoding; text = t }) text ∙ ap (λ (y : yaml_encoding_t). record { encoding = y; text = text_bytes m.text }) codes in (
@@ -163,6 +174,8 @@ returns-clause-ok c =
         few = omega (arith, len, drops, more, room, long);
         taken = omega (arith, drops, settles, settled.low, c.requires.stands.taken);
         settled = settled.high;
+        last = subst AtLast (sym more_shut) (last_step d.dropped d.shut (length c.push_back_reserved.new.self.items) l r.own (omega (arith, drops, shuts, more, c.requires.stands.last)) inside_new);
+        shut = subst AtShut (sym more_shut) (subst Shut (sym items) (shut_step m d.shut d.dropped l o r.own b.waiting.items d.waiting.items w own c.mark_own.ensures.marks old_shut old_last inside_b refl));
         depth = omega (arith, above, next.depth, drops, more, c.requires.stands.depth);
         levels = subst AtText (sym len) (subst Levels (sym levels) narrow);
         inside = subst AtInside (sym len) all;

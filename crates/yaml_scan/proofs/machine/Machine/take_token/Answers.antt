@@ -4,10 +4,11 @@ use Rattle.yaml_scan_decode.specs.DecodedText.{text_bytes}
 use Rattle.yaml_scan_text.specs.Tokens.{Token, TokenBody, body_of, token_of}
 use Rattle.yaml_scan_layout.specs.Coming.{coming, before, body_in, token_in}
 use Rattle.yaml_scan.specs.declared.waiting.Waiting.{Waiting}
-use Rattle.yaml_scan.specs.State.{ready_in, AreInside}
+use Rattle.yaml_scan.specs.State.{ready_in, AreInside, AreShut}
 use Rattle.yaml_scan.proofs.SafeLemmas.{inside_rest, none_left}
 use Rattle.yaml_scan.specs.Shows.{fields_of, stream_of, AreSpoken}
 use Rattle.yaml_scan.specs.Front.{front_at}
+use Rattle.yaml_scan.proofs.ShutLemmas.{shut_rest}
 use Rattle.yaml_scan.proofs.FrontLemmas.{shown_popped}
 use Rattle.yaml_scan.proofs.PushLemmas.{spoken_rest}
 use Rattle.yaml_scan.proofs.GivenLemmas.{given_none, own_settled}
@@ -61,6 +62,8 @@ returns-in-Some-pop_front-clause-stands c =
       few = omega (arith, len, c.requires.stands.few);
       taken = omega (arith, low);
       settled = omega (arith, len, c.requires.stands.settled);
+      last = omega (arith, len, c.requires.stands.last);
+      shut = shut_rest m.shut m.dropped front rest (subst (λ (ws : List Waiting). AreShut m.shut m.dropped ws) items c.requires.stands.shut);
       depth = omega (arith, len, c.requires.stands.depth);
       levels = c.requires.stands.levels;
       inside = inside_rest (length (text_bytes m.text)) front rest (subst Q items c.requires.stands.inside);

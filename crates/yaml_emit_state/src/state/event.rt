@@ -1,6 +1,6 @@
 //! What is written for an event.
 ghost use Rattle.std.specs.Prelude.{◌≡◌, map};
-ghost use Rattle.yaml_parse.specs.Events.{directive_of, body_of};
+ghost use Rattle.yaml_parse.specs.Events.{body_of};
 ghost use Rattle.yaml_parse.specs.Constructors.{HasUtf8};
 ghost use Rattle.yaml_emit_text.specs.Sink.{Puts};
 ghost use Rattle.yaml_emit_layout.specs.Content.{said};
@@ -13,16 +13,15 @@ use crate::indent::spot_of;
 use crate::keys::{is_flow_mapping, is_flow_sequence, is_simple};
 use crate::nodes::{put_alias, put_collection, put_scalar};
 use yaml_emit_layout::{Level, Place};
-use yaml_emit_text::{Settings, Sink};
+use yaml_emit_text::{DirectiveTable, Settings, Sink};
 use yaml_parse::yaml_event_body_t;
-use yaml_scan::yaml_tag_directive_t;
 
 /// What is written for an event in its right place, but for the depth, by whether it opens a collection that the next event closes.
 #[tactic(auto, unfolding(yaml_emit_layout::specs::State::text_at))]
 pub fn put_event(
     sink: &mut Sink,
     settings: Settings,
-    directives: &[yaml_tag_directive_t],
+    directives: &DirectiveTable,
     place: Place,
     top: Option<Level>,
     event: &yaml_event_body_t,
@@ -30,7 +29,7 @@ pub fn put_event(
 )
     requires utf8 { HasUtf8 (body_of event.now) }
     requires encoding { settings.encoding ≡ sink.old.encoding }
-    ensures { Puts sink.old sink.new (text_at (context_of settings (map directive_of directives.now)) place top (said (body_of event.now)) empty) }
+    ensures { Puts sink.old sink.new (text_at (context_of settings directives.now) place top (said (body_of event.now)) empty) }
 {
     let simple = is_simple(settings, directives, event, empty);
     match event {

@@ -1,7 +1,7 @@
 -- What laying out one event does.
 use Rattle.std.specs.Prelude.{◌≡◌, ◌≢◌, Bool, true, false, ◌||◌, List, [], ◌∷◌, map, Option, Some, None}
 use Rattle.yaml_scan.specs.declared.yaml_scalar_style_t.{yaml_scalar_style_t}
-use Rattle.yaml_parse.specs.Events.{directive_of, TagDirective}
+use Rattle.yaml_parse.specs.Events.{TagDirective}
 use Rattle.yaml_emit_text.specs.declared.Settings.{Settings}
 use Rattle.yaml_emit_text.specs.declared.Status.{Status}
 use Rattle.yaml_emit_text.specs.declared.Status.TheVariants.{Going, Full, Deep, Starved}
@@ -20,7 +20,7 @@ use Rattle.yaml_emit_state.specs.Stack.{stack_of}
 
 -- where an emitter stands
 abbrev pub state_of : Core → State
-state_of core = record { place = core.place; levels = stack_of core.levels; directives = map directive_of core.directives.items }
+state_of core = record { place = core.place; levels = stack_of core.levels; directives = core.directives }
 
 -- the settings in force: the encoding is the output's
 abbrev pub settings_of : Core → Settings

@@ -1,17 +1,14 @@
 //! Simple keys.
 ghost use Rattle.std.specs.Prelude.{◌≡◌, ◌∷◌, [], None, Some, true, false, not, ◌&&◌, ◌||◌, map, length, nat_le, ◌+◌, ◌≤◌};
-ghost use Rattle.yaml_parse.specs.Events.{directive_of, text_of, body_of};
+ghost use Rattle.yaml_parse.specs.Events.{text_of, body_of};
 ghost use Rattle.yaml_emit_layout.specs.Content.{said, is_flow_sequence, is_flow_mapping};
 ghost use Rattle.yaml_emit_layout.specs.Grammar.{kept_tag};
 ghost use Rattle.yaml_emit_layout.specs.Nodes.{context_of, has_break, properties_size, text_size, written_size, is_simple_scalar, is_simple_alias, is_simple_start};
 ghost use Rattle.yaml_emit_layout.specs.State.{is_simple_event};
 
-use yaml_emit_text::{Settings, tag_size};
+use yaml_emit_text::{DirectiveTable, Settings, tag_size};
 use yaml_parse::yaml_event_body_t;
-use yaml_scan::{
-    IS_BREAK, yaml_mapping_style_t, yaml_scalar_style_t, yaml_sequence_style_t,
-    yaml_tag_directive_t,
-};
+use yaml_scan::{IS_BREAK, yaml_mapping_style_t, yaml_scalar_style_t, yaml_sequence_style_t};
 
 fn has_break(value: &[u8]) -> bool
     ensures { result ≡ has_break value.now }
@@ -33,12 +30,8 @@ fn text_size(text: &Option<Vec<u8>>) -> usize
     }
 }
 
-fn given_size(
-    settings: &Settings,
-    directives: &[yaml_tag_directive_t],
-    tag: &Option<Vec<u8>>,
-) -> usize
-    ensures { result ≡ written_size (context_of settings.now (map directive_of directives.now)) (text_of tag.now) }
+fn given_size(settings: &Settings, directives: &DirectiveTable, tag: &Option<Vec<u8>>) -> usize
+    ensures { result ≡ written_size (context_of settings.now directives.now) (text_of tag.now) }
 {
     match tag {
         None => 0,
@@ -49,11 +42,11 @@ fn given_size(
 // Bytes of a tag that is written in pretty form.
 fn written_size(
     settings: &Settings,
-    directives: &[yaml_tag_directive_t],
+    directives: &DirectiveTable,
     left_out: bool,
     tag: &Option<Vec<u8>>,
 ) -> usize
-    ensures { result ≡ written_size (context_of settings.now (map directive_of directives.now)) (kept_tag false left_out (text_of tag.now)) }
+    ensures { result ≡ written_size (context_of settings.now directives.now) (kept_tag false left_out (text_of tag.now)) }
 {
     if left_out {
         0
@@ -70,8 +63,8 @@ fn are_short(a: usize, b: usize, c: usize) -> bool
 }
 
 #[tactic(auto, unfolding(yaml_emit_layout::specs::Nodes::is_simple_alias))]
-fn is_simple_alias(settings: &Settings, directives: &[yaml_tag_directive_t], name: &[u8]) -> bool
-    ensures { result ≡ is_simple_alias (context_of settings.now (map directive_of directives.now)) name.now }
+fn is_simple_alias(settings: &Settings, directives: &DirectiveTable, name: &[u8]) -> bool
+    ensures { result ≡ is_simple_alias (context_of settings.now directives.now) name.now }
 {
     let _ = directives;
     !settings.canonical && name.len() <= 128
@@ -80,7 +73,7 @@ fn is_simple_alias(settings: &Settings, directives: &[yaml_tag_directive_t], nam
 #[tactic(auto, unfolding(yaml_emit_layout::specs::Nodes::is_simple_scalar))]
 fn is_simple_scalar(
     settings: &Settings,
-    directives: &[yaml_tag_directive_t],
+    directives: &DirectiveTable,
     anchor: &Option<Vec<u8>>,
     tag: &Option<Vec<u8>>,
     value: &[u8],
@@ -88,7 +81,7 @@ fn is_simple_scalar(
     quoted: bool,
     style: yaml_scalar_style_t,
 ) -> bool
-    ensures { result ≡ is_simple_scalar (context_of settings.now (map directive_of directives.now)) (record { anchor = text_of anchor.now; tag = text_of tag.now; value = value.now; plain = plain; quoted = quoted; style = style }) }
+    ensures { result ≡ is_simple_scalar (context_of settings.now directives.now) (record { anchor = text_of anchor.now; tag = text_of tag.now; value = value.now; plain = plain; quoted = quoted; style = style }) }
 {
     let _ = style;
     !settings.canonical
@@ -103,14 +96,14 @@ fn is_simple_scalar(
 #[tactic(auto, unfolding(yaml_emit_layout::specs::Nodes::is_simple_start))]
 fn is_simple_start(
     settings: &Settings,
-    directives: &[yaml_tag_directive_t],
+    directives: &DirectiveTable,
     anchor: &Option<Vec<u8>>,
     tag: &Option<Vec<u8>>,
     implicit: bool,
     flow: bool,
     empty: bool,
 ) -> bool
-    ensures { result ≡ is_simple_start (context_of settings.now (map directive_of directives.now)) (record { anchor = text_of anchor.now; tag = text_of tag.now; implicit = implicit; flow = flow }) empty }
+    ensures { result ≡ is_simple_start (context_of settings.now directives.now) (record { anchor = text_of anchor.now; tag = text_of tag.now; implicit = implicit; flow = flow }) empty }
 {
     let _ = flow;
     !settings.canonical
@@ -127,11 +120,11 @@ fn is_simple_start(
 #[tactic(auto, unfolding(yaml_emit_layout::specs::State::is_simple_event))]
 pub fn is_simple(
     settings: &Settings,
-    directives: &[yaml_tag_directive_t],
+    directives: &DirectiveTable,
     event: &yaml_event_body_t,
     empty: bool,
 ) -> bool
-    ensures { result ≡ is_simple_event (context_of settings.now (map directive_of directives.now)) (said (body_of event.now)) empty }
+    ensures { result ≡ is_simple_event (context_of settings.now directives.now) (said (body_of event.now)) empty }
 {
     match event {
         yaml_event_body_t::Alias { anchor } => is_simple_alias(settings, directives, anchor),

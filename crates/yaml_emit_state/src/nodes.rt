@@ -1,7 +1,7 @@
 //! Nodes: aliases, properties, scalars, and what opens collections.
 ghost use Rattle.std.specs.Prelude.{◌≡◌, ◌≢◌, ◌∷◌, [], None, Some, true, false, not, ◌&&◌, ◌||◌, ◌==◌, ℕ, map, length, IsUtf8};
 ghost use Rattle.std.specs.Str.{chars};
-ghost use Rattle.yaml_parse.specs.Events.{directive_of, text_of};
+ghost use Rattle.yaml_parse.specs.Events.{text_of};
 ghost use Rattle.yaml_emit_text.specs.Sink.{Puts};
 ghost use Rattle.yaml_emit_text.specs.Layout.{◌▹◌, stay, when, char, word, opener};
 ghost use Rattle.yaml_emit_text.specs.Scalars.{scalar_text};
@@ -12,8 +12,10 @@ ghost use Rattle.yaml_emit_layout.specs.State.{start_text};
 use crate::before::{put_blank_if, put_opener_if};
 use crate::indent::{deeper, is_flow, is_simple_part, put_checked};
 use yaml_emit_layout::Spot;
-use yaml_emit_text::{Page, Settings, Sink, Style, allowed_for, put_styled, put_tag, taken, text};
-use yaml_scan::{yaml_scalar_style_t, yaml_tag_directive_t};
+use yaml_emit_text::{
+    DirectiveTable, Page, Settings, Sink, Style, allowed_for, put_styled, put_tag, taken, text,
+};
+use yaml_scan::yaml_scalar_style_t;
 
 fn put_name(sink: &mut Sink, sign: char, name: &[u8])
     ensures { Puts sink.old sink.new (word (sign ∷ name.now)) }
@@ -44,10 +46,10 @@ fn put_anchor(sink: &mut Sink, anchor: &Option<Vec<u8>>)
 fn put_given_tag(
     sink: &mut Sink,
     settings: &Settings,
-    directives: &[yaml_tag_directive_t],
+    directives: &DirectiveTable,
     tag: &Option<Vec<u8>>,
 )
-    ensures { Puts sink.old sink.new (tag_text (context_of settings.now (map directive_of directives.now)) (text_of tag.now)) }
+    ensures { Puts sink.old sink.new (tag_text (context_of settings.now directives.now) (text_of tag.now)) }
 {
     match tag {
         None => (),
@@ -58,11 +60,11 @@ fn put_given_tag(
 fn put_tag_if(
     sink: &mut Sink,
     settings: &Settings,
-    directives: &[yaml_tag_directive_t],
+    directives: &DirectiveTable,
     kept: bool,
     tag: &Option<Vec<u8>>,
 )
-    ensures { Puts sink.old sink.new (tag_text (context_of settings.now (map directive_of directives.now)) (kept_if kept (text_of tag.now))) }
+    ensures { Puts sink.old sink.new (tag_text (context_of settings.now directives.now) (kept_if kept (text_of tag.now))) }
 {
     if kept {
         put_given_tag(sink, settings, directives, tag);
@@ -79,12 +81,12 @@ fn is_kept(canonical: bool, left_out: bool) -> bool
 fn put_properties(
     sink: &mut Sink,
     settings: &Settings,
-    directives: &[yaml_tag_directive_t],
+    directives: &DirectiveTable,
     anchor: &Option<Vec<u8>>,
     left_out: bool,
     tag: &Option<Vec<u8>>,
 )
-    ensures { Puts sink.old sink.new (properties_text (context_of settings.now (map directive_of directives.now)) (text_of anchor.now) (kept_tag settings.now.canonical left_out (text_of tag.now))) }
+    ensures { Puts sink.old sink.new (properties_text (context_of settings.now directives.now) (text_of anchor.now) (kept_tag settings.now.canonical left_out (text_of tag.now))) }
 {
     put_anchor(sink, anchor);
     put_tag_if(
@@ -130,7 +132,7 @@ fn is_plain(style: Style) -> bool
 #[tactic(auto, unfolding(yaml_emit_layout::specs::Nodes::style_of))]
 fn style_of(
     settings: &Settings,
-    directives: &[yaml_tag_directive_t],
+    directives: &DirectiveTable,
     spot: Spot,
     anchor: &Option<Vec<u8>>,
     tag: &Option<Vec<u8>>,
@@ -140,7 +142,7 @@ fn style_of(
     style: yaml_scalar_style_t,
 ) -> Style
     requires { IsUtf8 value.now }
-    ensures { result ≡ style_of (context_of settings.now (map directive_of directives.now)) spot (record { anchor = text_of anchor.now; tag = text_of tag.now; value = value.now; plain = plain; quoted = quoted; style = style }) }
+    ensures { result ≡ style_of (context_of settings.now directives.now) spot (record { anchor = text_of anchor.now; tag = text_of tag.now; value = value.now; plain = plain; quoted = quoted; style = style }) }
 {
     if settings.canonical {
         Style::Double
@@ -203,7 +205,7 @@ fn put_lines(sink: &mut Sink, settings: &Settings, spot: Spot, style: Style, val
 pub fn put_scalar(
     sink: &mut Sink,
     settings: &Settings,
-    directives: &[yaml_tag_directive_t],
+    directives: &DirectiveTable,
     spot: Spot,
     anchor: &Option<Vec<u8>>,
     tag: &Option<Vec<u8>>,
@@ -213,7 +215,7 @@ pub fn put_scalar(
     style: yaml_scalar_style_t,
 )
     requires { IsUtf8 value.now }
-    ensures { Puts sink.old sink.new (scalar_layout (context_of settings.now (map directive_of directives.now)) spot (record { anchor = text_of anchor.now; tag = text_of tag.now; value = value.now; plain = plain; quoted = quoted; style = style })) }
+    ensures { Puts sink.old sink.new (scalar_layout (context_of settings.now directives.now) spot (record { anchor = text_of anchor.now; tag = text_of tag.now; value = value.now; plain = plain; quoted = quoted; style = style })) }
 {
     let chosen = style_of(
         settings, directives, spot, anchor, tag, value, plain, quoted, style,
@@ -230,7 +232,7 @@ pub fn put_scalar(
 pub fn put_collection(
     sink: &mut Sink,
     settings: &Settings,
-    directives: &[yaml_tag_directive_t],
+    directives: &DirectiveTable,
     spot: Spot,
     c: char,
     anchor: &Option<Vec<u8>>,
@@ -239,7 +241,7 @@ pub fn put_collection(
     style_flow: bool,
     empty: bool,
 )
-    ensures { Puts sink.old sink.new (start_text (context_of settings.now (map directive_of directives.now)) spot c (record { anchor = text_of anchor.now; tag = text_of tag.now; implicit = implicit; flow = style_flow }) empty) }
+    ensures { Puts sink.old sink.new (start_text (context_of settings.now directives.now) spot c (record { anchor = text_of anchor.now; tag = text_of tag.now; implicit = implicit; flow = style_flow }) empty) }
 {
     put_properties(sink, settings, directives, anchor, implicit, tag);
     put_opener_if(sink, is_flow(settings, spot, style_flow, empty), c);

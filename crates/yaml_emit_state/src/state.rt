@@ -11,9 +11,8 @@ use crate::levels::Levels;
 use event::put_event;
 use std::alloc::{AllocError, Global};
 use yaml_emit_layout::Place;
-use yaml_emit_text::{Settings, Sink, Status};
+use yaml_emit_text::{DirectiveTable, Settings, Sink, Status};
 use yaml_parse::yaml_event_body_t;
-use yaml_scan::yaml_tag_directive_t;
 
 /// Where an emitter stands: the settings in force, the output, what is expected, the open collections, and the directives of
 /// the document.
@@ -23,13 +22,13 @@ pub struct Core {
     sink: Sink,
     place: Place,
     levels: Levels,
-    directives: Vec<yaml_tag_directive_t>,
+    directives: DirectiveTable,
     /// Memory was refused for the open collections or the directives, and not for the output.
     starved: bool,
 }
 
 impl Core {
-    ghost use Rattle.yaml_parse.specs.Events.{directive_of, body_of};
+    ghost use Rattle.yaml_parse.specs.Events.{body_of};
     ghost use Rattle.yaml_emit_layout.specs.Content.{said};
     ghost use Rattle.yaml_emit_layout.specs.State.{problem_at};
     ghost use Rattle.yaml_emit_state.specs.Steps.{state_of, settings_of, LaysOut, IsFresh, Takes, Starves, goes_on};
@@ -46,7 +45,7 @@ impl Core {
             sink,
             place: Place::StreamStart,
             levels: Levels::new(alloc),
-            directives: Vec::new(alloc),
+            directives: DirectiveTable::new(alloc),
             starved: false,
         }
     }
@@ -139,7 +138,7 @@ impl Core {
         ensures { LaysOut self.old self.new (said (body_of event.old)) empty }
     {
         match problem_of(
-            *self.directives.allocator(),
+            self.directives.allocator(),
             self.settings.canonical,
             self.place,
             self.levels.top(),

@@ -1,5 +1,5 @@
 -- The directive that a tag is written by.
-use Rattle.std.proofs.Common.{◌≡◌, ℕ, ◌+◌, ◌-◌, ◌<◌, ◌≤◌, Bool, true, false, cond, List, [], ◌∷◌, ◌++◌, length, take, drop, get_or, map, Some, None, refl, sym, ◌∙◌, ap, arith, length-drop, append-nil}
+use Rattle.std.proofs.Common.{◌≡◌, ℕ, ◌+◌, ◌-◌, ◌<◌, ◌≤◌, Bool, true, false, cond, List, [], ◌∷◌, ◌++◌, length, take, drop, get_or, map, Option, Some, None, refl, sym, ◌∙◌, ap, arith, length-drop, append-nil}
 use Rattle.std.specs.Prelude.{if◌then◌else◌, not, ◌&&◌, ◌||◌}
 use Rattle.std.specs.Str.{bytes_eq}
 use Rattle.std.proofs.lemmas.List.{drop_more, drop_all, take_all}
@@ -11,10 +11,10 @@ use Rattle.yaml_emit_text.specs.Tags.{has_shorter_prefix, directive_for, defines
 pub rest_of_slice : (n : ℕ) (xs : List ℕ) → take (length xs - n) (drop n xs) ≡ drop n xs
 rest_of_slice n xs = take_all (length xs - n) (drop n xs) (omega (arith, length-drop n xs))
 
-next_of : (ds : List yaml_tag_directive_t) (i : ℕ) (d : yaml_tag_directive_t) → i < length ds → d ≡ get_or ds i d → map directive_of (drop i ds) ≡ directive_of d ∷ map directive_of (drop (i + 1) ds)
+pub next_of : (ds : List yaml_tag_directive_t) (i : ℕ) (d : yaml_tag_directive_t) → i < length ds → d ≡ get_or ds i d → map directive_of (drop i ds) ≡ directive_of d ∷ map directive_of (drop (i + 1) ds)
 next_of ds i d h is = ap (map directive_of) (drop_more ds i d h ∙ ap (λ z. z ∷ drop (i + 1) ds) (sym is))
 
-none_of : (ds : List yaml_tag_directive_t) (i : ℕ) → length ds ≤ i → map directive_of (drop i ds) ≡ []
+pub none_of : (ds : List yaml_tag_directive_t) (i : ℕ) → length ds ≤ i → map directive_of (drop i ds) ≡ []
 none_of ds i h = ap (map directive_of) (drop_all _ _ h)
 
 defines_at : (d : TagDirective) (ds : List TagDirective) (handle : List ℕ) → defines (d ∷ ds) handle ≡ (bytes_eq d.handle handle || defines ds handle)
@@ -39,21 +39,28 @@ directive_at : (d : TagDirective) (ds : List TagDirective) (tag : List ℕ) → 
 unfolding directive_for
 directive_at d ds tag = refl
 
-pub split_more : (s : Split) (ds : List yaml_tag_directive_t) (es : List TagDirective) (i : ℕ) (d : yaml_tag_directive_t) (tag : List ℕ) → i < length ds → d ≡ get_or ds i d
-    → s ≡ split_by (directive_for (map directive_of (drop i ds) ++ es) tag) tag → has_shorter_prefix d.prefix.items tag ≡ false → s ≡ split_by (directive_for (map directive_of (drop (i + 1) ds) ++ es) tag) tag
-split_more s ds es i d tag h is e f =
-    e ∙ ap (λ t. split_by (directive_for (t ++ es) tag) tag) (next_of ds i d h is)
-    ∙ ap (λ o. split_by o tag) (directive_at (directive_of d) (map directive_of (drop (i + 1) ds) ++ es) tag ∙ ap (λ v. cond v (Some (directive_of d)) (directive_for (map directive_of (drop (i + 1) ds) ++ es) tag)) f)
+-- the first of two lists
+abbrev o_else : Option TagDirective → Option TagDirective → Option TagDirective
+o_else None q = q
+o_else (Some d) q = Some d
 
-pub split_found : (s : Split) (ds : List yaml_tag_directive_t) (es : List TagDirective) (i : ℕ) (d : yaml_tag_directive_t) (tag : List ℕ) → i < length ds → d ≡ get_or ds i d
-    → s ≡ split_by (directive_for (map directive_of (drop i ds) ++ es) tag) tag → has_shorter_prefix d.prefix.items tag ≡ true → shorthand d.handle.items (drop (length d.prefix.items) tag) ≡ s
-split_found s ds es i d tag h is e f =
-    sym (e ∙ ap (λ t. split_by (directive_for (t ++ es) tag) tag) (next_of ds i d h is)
-    ∙ ap (λ o. split_by o tag) (directive_at (directive_of d) (map directive_of (drop (i + 1) ds) ++ es) tag ∙ ap (λ v. cond v (Some (directive_of d)) (directive_for (map directive_of (drop (i + 1) ds) ++ es) tag)) f))
+choice : (b : Bool) (d : TagDirective) (o q : Option TagDirective) → cond b (Some d) (o_else o q) ≡ o_else (cond b (Some d) o) q
+choice true d o q = refl
+choice false d o q = refl
 
-pub split_none : (s : Split) (ds : List yaml_tag_directive_t) (es : List TagDirective) (i : ℕ) (tag : List ℕ) → length ds ≤ i → s ≡ split_by (directive_for (map directive_of (drop i ds) ++ es) tag) tag
-    → split_by (directive_for es tag) tag ≡ s
-split_none s ds es i tag h e = sym (e ∙ ap (λ t. split_by (directive_for (t ++ es) tag) tag) (none_of ds i h))
+both_for : (ds es : List TagDirective) (tag : List ℕ) → directive_for (ds ++ es) tag ≡ o_else (directive_for ds tag) (directive_for es tag)
+unfolding directive_for
+both_for [] es tag = refl
+both_for (d ∷ ds) es tag =
+    directive_at d (ds ++ es) tag
+    ∙ ap (λ o. cond (has_shorter_prefix d.prefix tag) (Some d) o) (both_for ds es tag)
+    ∙ choice (has_shorter_prefix d.prefix tag) d (directive_for ds tag) (directive_for es tag)
+
+pub split_found : (ds es : List TagDirective) (d : TagDirective) (tag : List ℕ) → directive_for ds tag ≡ Some d → shorthand d.handle (drop (length d.prefix) tag) ≡ split_by (directive_for (ds ++ es) tag) tag
+split_found ds es d tag e = sym (ap (λ o. split_by o tag) (both_for ds es tag ∙ ap (λ o. o_else o (directive_for es tag)) e))
+
+pub split_none : (ds es : List TagDirective) (tag : List ℕ) → directive_for ds tag ≡ None → split_by (directive_for es tag) tag ≡ split_by (directive_for (ds ++ es) tag) tag
+split_none ds es tag e = sym (ap (λ o. split_by o tag) (both_for ds es tag ∙ ap (λ o. o_else o (directive_for es tag)) e))
 
 by_flags : (d : TagDirective) (es : List TagDirective) (tag : List ℕ) (b h : Bool) → has_shorter_prefix d.prefix tag ≡ h → directive_for ((if b then [] else d ∷ []) ++ es) tag ≡ cond (h && not b) (Some d) (directive_for es tag)
 by_flags d es tag true true e = refl

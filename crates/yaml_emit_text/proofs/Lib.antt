@@ -3,6 +3,10 @@ mod Spelled
 mod Spells
 mod Walks
 mod Directives
+pub mod Sorting
+pub mod Narrowing
+pub mod Numbering
+pub mod Directing
 mod Escapes
 mod Looks
 mod Rows

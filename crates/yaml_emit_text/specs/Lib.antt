@@ -3,6 +3,8 @@ pub mod Style
 pub mod Scalars
 pub mod Runs
 pub mod Tags
+pub mod Prefixes
+pub mod TableView
 pub mod Spelling
 pub use Rattle.yaml_emit_sink.specs.Settings
 pub use Rattle.yaml_emit_sink.specs.Text

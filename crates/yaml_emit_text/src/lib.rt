@@ -6,11 +6,13 @@ mod flow;
 mod laws;
 mod letters;
 mod page;
+mod prefixes;
 mod quoted;
 mod run;
 mod scalar;
 mod split;
 mod style;
+mod table;
 mod tag;
 
 pub use block::{put_folded, put_literal};
@@ -21,6 +23,7 @@ pub use page::{Allowed, Chomp, Page, Seen, Style};
 pub use quoted::put_double_quoted;
 pub use scalar::put_styled;
 pub use style::{allowed_for, taken};
+pub use table::DirectiveTable;
 pub use tag::{put_alias, put_anchor, put_prefix, put_tag, tag_size};
 pub use yaml_emit_sink::{
     Cursor, Encoding, LineBreak, Settings, Sink, Status, Wishes, settled, utf8_encodes,

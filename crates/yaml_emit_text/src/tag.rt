@@ -1,16 +1,16 @@
 //! Tags (YAML 1.1, 7.1.2 and 3.2.1.2), anchors and aliases (3.2.2.2).
 
 ghost use Rattle.std.specs.Prelude.{◌≡◌, ◌<◌, ◌≤◌, ℕ, ◌+◌, ◌∷◌, [], ◌++◌, map, length, drop, true, false, not, ◌&&◌, ◌||◌, ◌==◌, if◌then◌else◌, Option, Some, None, codes};
-ghost use Rattle.yaml_parse.specs.Events.{directive_of};
 ghost use Rattle.yaml_emit_sink.specs.Sink.{Puts};
 ghost use Rattle.yaml_emit_sink.specs.Layout.{◌▹◌, char, letters, gap, word};
 ghost use Rattle.yaml_emit_text.specs.Quoted.{hex_2};
-ghost use Rattle.yaml_emit_text.specs.Tags.{has_shorter_prefix, defines, suffix_keeps, prefix_keeps, keeps_byte, uri_byte, uri_text, split_tag, split_by, split_of, defaults, stands_for, shorthand, verbatim, spelled, tag_spelling, tag_size, directive_for, in_force, primary, secondary};
+ghost use Rattle.yaml_emit_text.specs.Tags.{suffix_keeps, prefix_keeps, keeps_byte, uri_byte, uri_text, split_tag, split_by, split_of, defaults, stands_for, shorthand, verbatim, spelled, tag_spelling, tag_size, directive_for, primary, secondary};
 
+use crate::prefixes::has_shorter_prefix;
 use crate::quoted::put_hex_2;
 use crate::split::SplitTag;
+use crate::table::DirectiveTable;
 use yaml_emit_sink::Sink;
-use yaml_scan::yaml_tag_directive_t;
 
 // 0-9 A-Z a-z _ - ; / ? : @ & = + $ . ~ * ' ( )
 #[tactic(auto, unfolding(crate::specs::Tags::suffix_keeps))]
@@ -76,56 +76,50 @@ fn put_uri(sink: &mut Sink, flow: bool, text: &[u8])
     }
 }
 
-// Whether a tag begins with the prefix, and goes on behind it.
-fn has_shorter_prefix(prefix: &[u8], tag: &[u8]) -> bool
-    ensures inside { result ≡ true → length prefix.now < length tag.now }
-    ensures value { result ≡ has_shorter_prefix prefix.now tag.now }
+// Whether `!` stands for itself, the start of a tag.
+fn stands_for_primary(directives: &DirectiveTable, tag: &[u8]) -> bool
+    ensures value { result ≡ stands_for directives.now primary tag.now }
+    ensures inside { result ≡ true → 1 < length tag.now }
 {
-    prefix.len() < tag.len() && &tag[..prefix.len()] == prefix
+    has_shorter_prefix(b"!", tag) && !directives.defines_primary()
 }
 
-fn defines(directives: &[yaml_tag_directive_t], handle: &[u8]) -> bool
-    ensures { result ≡ defines (map directive_of directives.now) handle.now }
+// Whether `!!` stands for `tag:yaml.org,2002:`, the start of a tag.
+fn stands_for_secondary(directives: &DirectiveTable, tag: &[u8]) -> bool
+    ensures value { result ≡ stands_for directives.now secondary tag.now }
+    ensures inside { result ≡ true → 18 < length tag.now }
 {
-    for directive in directives {
-        if directive.handle.as_slice() == handle {
-            return true;
-        }
-    }
-    false
-}
-
-// Whether a handle that no directive defines stands for the start of a tag.
-fn stands_for(directives: &[yaml_tag_directive_t], handle: &[u8], prefix: &[u8], tag: &[u8]) -> bool
-    ensures value { result ≡ stands_for (map directive_of directives.now) (record { handle = handle.now; prefix = prefix.now }) tag.now }
-    ensures inside { result ≡ true → length prefix.now < length tag.now }
-{
-    has_shorter_prefix(prefix, tag) && !defines(directives, handle)
+    has_shorter_prefix(b"tag:yaml.org,2002:", tag) && !directives.defines_secondary()
 }
 
 // By the two handles that need no directive, where none defines them.
-fn split_by_default<'a>(directives: &[yaml_tag_directive_t], tag: &'a [u8]) -> SplitTag<'a>
-    ensures { split_of result ≡ split_by (directive_for (defaults (map directive_of directives.now)) tag.now) tag.now }
+fn split_by_default<'a>(directives: &DirectiveTable, tag: &'a [u8]) -> SplitTag<'a>
+    ensures { split_of result ≡ split_by (directive_for (defaults directives.now) tag.now) tag.now }
 {
-    if stands_for(directives, b"!", b"!", tag) {
+    if stands_for_primary(directives, tag) {
         SplitTag::Shorthand(b"!", &tag[1..])
-    } else if stands_for(directives, b"!!", b"tag:yaml.org,2002:", tag) {
+    } else if stands_for_secondary(directives, tag) {
         SplitTag::Shorthand(b"!!", &tag[18..])
     } else {
         SplitTag::Verbatim(tag)
     }
 }
 
-// By a document's directives, in order, and then the two handles that need none.
-fn split_tag<'a>(directives: &'a [yaml_tag_directive_t], tag: &'a [u8]) -> SplitTag<'a>
-    ensures { split_of result ≡ split_tag (map directive_of directives.now) tag.now }
+fn behind<'a>(prefix: &[u8], tag: &'a [u8]) -> &'a [u8]
+    requires { length prefix.now < length tag.now }
+    ensures { result.now ≡ drop (length prefix.now) tag.now }
 {
-    for directive in directives {
-        if has_shorter_prefix(&directive.prefix, tag) {
-            return SplitTag::Shorthand(&directive.handle, &tag[directive.prefix.len()..]);
-        }
+    &tag[prefix.len()..]
+}
+
+// By a document's directives, in order, and then the two handles that need none.
+fn split_tag<'a>(directives: &'a DirectiveTable, tag: &'a [u8]) -> SplitTag<'a>
+    ensures { split_of result ≡ split_tag directives.now tag.now }
+{
+    match directives.first_for(tag) {
+        Some(directive) => SplitTag::Shorthand(&directive.handle, behind(&directive.prefix, tag)),
+        None => split_by_default(directives, tag),
     }
-    split_by_default(directives, tag)
 }
 
 fn put_shorthand(sink: &mut Sink, handle: &[u8], suffix: &[u8])
@@ -156,16 +150,16 @@ fn put_split(sink: &mut Sink, tag: SplitTag)
 /// A tag, with a space in front where one is due: by the first of the document's directives whose prefix is a strictly shorter
 /// prefix of it, or by the handles `!` and `!!` where none defines them, as handle and suffix; else `!<tag>`. Bytes that are
 /// not kept are written as `%` and two digits; `,`, `[` and `]` are not kept in a suffix.
-pub fn put_tag(sink: &mut Sink, directives: &[yaml_tag_directive_t], tag: &[u8])
-    ensures { Puts sink.old sink.new (word (tag_spelling (map directive_of directives.now) tag.now)) }
+pub fn put_tag(sink: &mut Sink, directives: &DirectiveTable, tag: &[u8])
+    ensures { Puts sink.old sink.new (word (tag_spelling directives.now tag.now)) }
 {
     sink.put_gap();
     put_split(sink, split_tag(directives, tag));
 }
 
 /// The bytes of a tag's handle and suffix before they are escaped, or of the whole tag where it is written as `!<tag>`.
-pub fn tag_size(directives: &[yaml_tag_directive_t], tag: &[u8]) -> usize
-    ensures { result ≡ tag_size (map directive_of directives.now) tag.now }
+pub fn tag_size(directives: &DirectiveTable, tag: &[u8]) -> usize
+    ensures { result ≡ tag_size directives.now tag.now }
 {
     match split_tag(directives, tag) {
         SplitTag::Shorthand(handle, suffix) => handle.len() + suffix.len(),

@@ -1,8 +1,9 @@
 //! That each writer really writes: a stopped output meets every clause.
 
 use crate::{
-    Encoding, LineBreak, Page, Sink, Style, allowed_for, put_alias, put_anchor, put_double_quoted,
-    put_folded, put_literal, put_plain, put_prefix, put_single_quoted, put_styled, put_tag, taken,
+    DirectiveTable, Encoding, LineBreak, Page, Sink, Style, allowed_for, put_alias, put_anchor,
+    put_double_quoted, put_folded, put_literal, put_plain, put_prefix, put_single_quoted,
+    put_styled, put_tag, taken,
 };
 use std::test::Fail;
 use yaml_scan::{yaml_scalar_style_t, yaml_tag_directive_t};
@@ -62,10 +63,11 @@ fn tags_are_written(rt: HostRuntime) -> Result<(), Fail> {
         handle: b"!!".to_vec(alloc)?,
         prefix: b"tag:x,2000:".to_vec(alloc)?,
     })?;
+    let table = DirectiveTable::of(directives)?;
     let mut sink = Sink::new(alloc, 1000);
-    put_tag(&mut sink, &directives, b"tag:x,2000:a,\xE9");
-    put_tag(&mut sink, &directives, b"tag:yaml.org,2002:s,r");
-    put_tag(&mut sink, &directives, b"!m");
+    put_tag(&mut sink, &table, b"tag:x,2000:a,\xE9");
+    put_tag(&mut sink, &table, b"tag:yaml.org,2002:s,r");
+    put_tag(&mut sink, &table, b"!m");
     put_prefix(&mut sink, b"!m-,");
     put_anchor(&mut sink, b"a");
     put_alias(&mut sink, b"b");

@@ -132,12 +132,28 @@ pub(crate) fn give(
     emitter: &mut yaml_emitter_t,
     sign: Sign,
 ) -> Result<Option<yaml_fault_t>, Fail> {
-    let event = event(alloc, sign)?;
+    give_event(emitter, event(alloc, sign)?)
+}
+
+fn give_event(
+    emitter: &mut yaml_emitter_t,
+    event: yaml_event_t,
+) -> Result<Option<yaml_fault_t>, Fail> {
     if yaml_event_utf8(&event) {
         Ok(yaml_emitter_emit(emitter, event).err())
     } else {
         Ok(None)
     }
+}
+
+/// Opens a document with these directives.
+pub(crate) fn open(
+    alloc: Global,
+    emitter: &mut yaml_emitter_t,
+    directives: &[yaml_tag_directive_t],
+) -> Result<Option<yaml_fault_t>, Fail> {
+    let event = yaml_document_start_event_initialize(alloc, None, directives, true)?;
+    give_event(emitter, event)
 }
 
 /// Gives the events, whatever is answered.

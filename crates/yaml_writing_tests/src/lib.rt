@@ -15,3 +15,5 @@ mod grammar;
 mod kept_faults;
 #[cfg(test)]
 mod nodes;
+#[cfg(test)]
+mod tags;

@@ -1,6 +1,6 @@
 //! What is written for an event.
 ghost use Rattle.std.specs.Prelude.{◌≡◌, map};
-ghost use Rattle.yaml_parse.specs.Events.{directive_of, body_of};
+ghost use Rattle.yaml_parse.specs.Events.{body_of};
 ghost use Rattle.yaml_parse.specs.Constructors.{HasUtf8};
 ghost use Rattle.yaml_emit_text.specs.Sink.{Puts};
 ghost use Rattle.yaml_emit_layout.specs.Content.{said};
@@ -13,9 +13,8 @@ use crate::indent::spot_of;
 use crate::keys::{is_flow_mapping, is_flow_sequence};
 use crate::nodes::{put_alias, put_collection, put_scalar};
 use yaml_emit_layout::{Level, Place};
-use yaml_emit_text::{Settings, Sink};
+use yaml_emit_text::{DirectiveTable, Settings, Sink};
 use yaml_parse::yaml_event_body_t;
-use yaml_scan::yaml_tag_directive_t;
 
 /// What is written for an event in its right place, but for the depth, by whether it opens a collection that the next event closes,
 /// and by whether it is a simple key.
@@ -23,7 +22,7 @@ use yaml_scan::yaml_tag_directive_t;
 pub fn put_event(
     sink: &mut Sink,
     settings: &Settings,
-    directives: &[yaml_tag_directive_t],
+    directives: &DirectiveTable,
     place: Place,
     top: Option<Level>,
     event: &yaml_event_body_t,
@@ -32,8 +31,8 @@ pub fn put_event(
 )
     requires utf8 { HasUtf8 (body_of event.now) }
     requires encoding { settings.now.encoding ≡ sink.old.encoding }
-    requires simple { simple ≡ is_simple_event (context_of settings.now (map directive_of directives.now)) (said (body_of event.now)) empty }
-    ensures { Puts sink.old sink.new (text_at (context_of settings.now (map directive_of directives.now)) place top (said (body_of event.now)) empty) }
+    requires simple { simple ≡ is_simple_event (context_of settings.now directives.now) (said (body_of event.now)) empty }
+    ensures { Puts sink.old sink.new (text_at (context_of settings.now directives.now) place top (said (body_of event.now)) empty) }
 {
     match event {
         yaml_event_body_t::No => (),

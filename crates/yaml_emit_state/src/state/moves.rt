@@ -14,7 +14,7 @@ use crate::indent::{indent_of, is_flow, spot_of};
 use crate::keys::{is_flow_mapping, is_flow_sequence};
 use std::mem;
 use yaml_emit_layout::{Level, Phase, Place};
-use yaml_emit_text::{Settings, Status};
+use yaml_emit_text::{DirectiveTable, Settings, Status};
 use yaml_parse::yaml_event_body_t;
 use yaml_scan::yaml_tag_directive_t;
 
@@ -65,13 +65,24 @@ impl Core {
         self.directives.clear();
     }
 
+    // A document begins, unless memory is wanting: then the output has stopped.
     fn begin(&mut self, directives: Vec<yaml_tag_directive_t>)
-        ensures state { state_of self.new ≡ record { place = Place.Node; levels = []; directives = map directive_of directives.items } }
-        ensures same { StaysBut self.old self.new }
+        ensures state { self.new.sink.status ≡ Status.Going → state_of self.new ≡ record { place = Place.Node; levels = []; directives = map directive_of directives.items } }
+        ensures settings { self.new.settings ≡ self.old.settings }
+        ensures cursor { self.new.sink.status ≡ Status.Going → self.new.sink.cursor ≡ self.old.sink.cursor }
+        ensures text { Puts self.old.sink self.new.sink stay }
     {
         self.place = Place::Node;
         self.levels.clear();
-        self.directives = directives;
+        match DirectiveTable::of(directives) {
+            Ok(table) => {
+                self.directives = table;
+            }
+            Err(refused) => {
+                self.starved = true;
+                self.sink.starve(refused);
+            }
+        }
     }
 
     fn push(&mut self, level: Level)

@@ -1,19 +1,10 @@
-use Rattle.std.proofs.Common.{refl, sym, ◌∙◌, ap, length}
-use Rattle.yaml_emit_text.proofs.Directives.{rest_of_slice, split_more, split_found, split_none}
+use Rattle.std.proofs.Common.{sym, ◌∙◌}
+use Rattle.yaml_parse.specs.Events.{directive_of}
+use Rattle.yaml_emit_text.proofs.Directives.{split_found, split_none}
 use Rattle.yaml_emit_text.proofs.tag.split_tag.Goals as goal
 
-pub loop-directive-init : goal.loop-directive-init
-loop-directive-init c = refl
+pub returns-in-Some : goal.returns-in-Some
+returns-in-Some c = rw (c.behind.ensures, c.deref-in-Some.ensures.value, c.deref.ensures.value) (split_found _ _ (directive_of c.in-Some.directive.now) _ (sym c.in-Some.ensures.value))
 
-pub loop-directive-preserved : goal.loop-directive-preserved
-loop-directive-preserved c =
-    split_more _ _ _ _ _ _ c.loop-directive-test.true c.directive-item.is c.loop-directive.invariant (rw c.deref.ensures.value at (sym c.has_shorter_prefix.ensures.value ∙ c.if-has_shorter_prefix.false))
-
-pub returns : goal.returns
-returns c = c.split_by_default.ensures ∙ split_none _ _ _ _ _ c.loop-directive-test.false c.loop-directive.invariant
-
-pub returns-then-has_shorter_prefix : goal.returns-then-has_shorter_prefix
-returns-then-has_shorter_prefix c =
-    let e = c.len.ensures ∙ sym c.deref.ensures.len ∙ ap length c.deref.ensures.value in
-    rw (rest_of_slice c.len.result c.args.tag.now, e, c.deref-then-has_shorter_prefix.ensures.value)
-    (split_found _ _ _ _ _ _ c.loop-directive-test.true c.directive-item.is c.loop-directive.invariant (rw c.deref.ensures.value at (sym c.has_shorter_prefix.ensures.value ∙ c.if-has_shorter_prefix.true)))
+pub returns-in-None : goal.returns-in-None
+returns-in-None c = c.split_by_default.ensures ∙ split_none _ _ _ (sym c.in-None.ensures.value)

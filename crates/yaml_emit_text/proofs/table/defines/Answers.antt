@@ -1,6 +1,6 @@
 use Rattle.std.proofs.Common.{refl, sym, ◌∙◌}
 use Rattle.yaml_emit_text.proofs.Directives.{defines_more, defines_found, defines_none}
-use Rattle.yaml_emit_text.proofs.tag.defines.Goals as goal
+use Rattle.yaml_emit_text.proofs.table.defines.Goals as goal
 
 pub loop-directive-init : goal.loop-directive-init
 loop-directive-init c = refl

@@ -1,0 +1,4 @@
+pub mod Passing
+pub mod Naming
+pub mod Contents
+pub mod Loading

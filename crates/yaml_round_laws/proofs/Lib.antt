@@ -1,0 +1,9 @@
+pub mod Stacks
+pub mod Places
+pub mod Spellings
+pub mod Runs
+pub mod Emitted
+pub mod Directed
+pub mod Settling
+pub mod Whole
+pub mod Inputs

@@ -1,0 +1,54 @@
+-- The events of a list of well spelled tokens, from the first to the last.
+use Rattle.std.proofs.Common.{◌≡◌, Bool, List, [], ◌∷◌, Option, Some, None, refl, sym, ap, subst, ◌∙◌}
+use Rattle.yaml_scan.specs.Faults.{Fault}
+use Rattle.yaml_parse.specs.Events.{EventBody}
+use Rattle.yaml_parse_grammar.specs.Trees.{Given}
+use Rattle.yaml_parse_grammar.specs.Machine.{run, initial}
+use Rattle.yaml_parse_grammar.specs.Resolve.{Directives, no_directives, Settled, refused, gave, noted, settle, Reading, read_on, reading}
+use Rattle.yaml_emit_layout.specs.declared.Place.TheVariants as at
+use Rattle.yaml_emit_layout.specs.Content.{said}
+use Rattle.yaml_emit.specs.Judged.{Shape, first_shape, shape_after, problem_in, first_refusal}
+use Rattle.yaml_emit_laws.specs.Laws.{shape_behind}
+use Rattle.yaml_round_laws.specs.Evened.{IsEvening}
+use Rattle.yaml_round_laws.specs.Laws.{said_by, ParsedIsRight}
+use Rattle.yaml_round_laws.proofs.Stacks.{moved}
+use Rattle.yaml_round_laws.proofs.Runs.{GivenPlaced, moved_given, GivenSpelled, stream_places, stream_spelled}
+use Rattle.yaml_round_laws.proofs.Emitted.{plain, plain_same, not_end, or_none, evened_own, no_problem}
+use Rattle.yaml_round_laws.proofs.Settling.{PlacedSettled, OwnSettled, AreDirectives, none_right, settled_placed, settled_own}
+
+-- None of the events is refused; where no fault ends them, none has ended the items either, and they lead to that shape.
+abbrev Passes : (EventBody → EventBody) → Bool → Shape → Option Fault → Shape → Reading → Type 0
+Passes even canonical h f to r =
+    (first_refusal canonical h (said_by even r.events) ≡ None) × (r.ending ≡ None → (f ≡ None) × (plain (shape_behind h (said_by even r.events)) ≡ to))
+
+ended : (f : Fault) → Some f ≡ None → ⊥
+ended f e = cc
+
+on_passes : (even : EventBody → EventBody) → IsEvening even → (canonical : Bool) (h : Shape) (f : Option Fault) (to : Shape) (c : Settled) (g : Given) (k : Directives → Reading)
+    → PlacedSettled even h g.0.body c → OwnSettled canonical c
+    → ((h' : Shape) (ds : Directives) → plain h' ≡ moved (plain h) g.0.body → AreDirectives ds → Passes even canonical h' f to (k ds))
+    → Passes even canonical h f to (read_on c g.0 g.1 k)
+unfolding first_refusal shape_behind
+on_passes even e canonical h f to (refused x) g k p o more = (refl, λ d. absurd (ended x d))
+on_passes even e canonical h f to (gave b ds) g k p o more =
+    let rest : Passes even canonical (shape_after h (said (even b))) f to (k ds) = more (shape_after h (said (even b))) ds p.1 o.1 in
+    (or_none (problem_in canonical h (said (even b))) _ (no_problem canonical h (even b) p.0 (evened_own canonical b (even b) (e b) o.0)) rest.0, rest.1)
+on_passes even e canonical h f to (noted ds) g k p o more = more h ds (sym p) o
+
+all_pass : (even : EventBody → EventBody) → IsEvening even → (canonical : Bool) (h : Shape) (gs : List Given) (f : Option Fault) (ds : Directives) → GivenPlaced (plain h) gs → GivenSpelled gs → AreDirectives ds
+    → Passes even canonical h f (moved_given (plain h) gs) (reading gs f ds)
+unfolding reading first_refusal shape_behind
+all_pass even e canonical h [] f ds p s d = (refl, λ n. (n, refl))
+all_pass even e canonical h (g ∷ gs) f ds p s d =
+    on_passes even e canonical h f (moved_given (plain h) (g ∷ gs)) (settle g.0 ds) g (λ ds'. reading gs f ds') (settled_placed even e h g.0.body g.0.from ds p.0) (settled_own canonical g.0.body g.0.from ds s.0 d)
+    (λ h' ds' m d'. subst (λ (z : Shape). Passes even canonical h' f (moved_given z gs) (reading gs f ds')) m
+    (all_pass even e canonical h' gs f ds' (subst (λ (z : Shape). GivenPlaced z gs) (sym m) p.1) s.1 d'))
+
+pub parsed_is_right : ParsedIsRight
+parsed_is_right even e ts a f canonical =
+    let places = stream_places ts f in
+    let r = all_pass even e canonical first_shape (run ts initial f).items (run ts initial f).ending no_directives places.0 (stream_spelled ts f a) none_right in
+    record {
+      passes = r.0;
+      ends = λ n. plain_same _ at.End not_end (ap (λ (z : Shape). z.place) ((r.1 n).1 ∙ places.1 (r.1 n).0));
+    }

@@ -1,0 +1,57 @@
+-- What a parser gives is what an emitter takes.
+use Rattle.std.specs.Prelude.{◌≡◌, ℕ, Bool, List, map, Option, None}
+use Rattle.yaml_scan.specs.declared.yaml_encoding_t.{yaml_encoding_t}
+use Rattle.yaml_scan.specs.Tokens.{Token}
+use Rattle.yaml_scan.specs.Faults.{Fault}
+use Rattle.yaml_scan.specs.Scanned.{scanned}
+use Rattle.yaml_scan_spelled.specs.Spelled.{AreSpelled}
+use Rattle.yaml_parse.specs.Events.{EventBody}
+use Rattle.yaml_parse.specs.Machine.{run, initial}
+use Rattle.yaml_parse.specs.Resolve.{Told, Reading, no_directives}
+use Rattle.yaml_parse.specs.Coming.{reading_of}
+use Rattle.yaml_emit_layout.specs.declared.Place.TheVariants as at
+use Rattle.yaml_emit.specs.Content.{Event, said}
+use Rattle.yaml_emit.specs.Judged.{first_shape, first_refusal}
+use Rattle.yaml_emit_laws.specs.Laws.{shape_behind, RightStream, RightFront, AreRightTold}
+use Rattle.yaml_round_adapter.specs.Adapted.{adapted}
+use Rattle.yaml_round_laws.specs.Evened.{IsEvening}
+
+-- the events, each changed so, as an emitter sees them
+abbrev pub said_by : (EventBody → EventBody) → List Told → List Event
+said_by even es = map (λ (t : Told). said (even t.0.body)) es
+
+-- what a parser makes of a list of tokens
+abbrev pub parsed : List Token → Option Fault → Reading
+parsed ts f = reading_of (run ts initial f) no_directives
+
+-- ---- of tokens
+
+-- No event is refused, and where no fault ends them, the stream has ended.
+pub record IsRightReading (canonical : Bool) (es : List Event) (ending : Option Fault) : Type 0 where
+  pub passes : first_refusal canonical first_shape es ≡ None
+  pub ends : ending ≡ None → (shape_behind first_shape es).place ≡ at.End
+
+-- The events of well spelled tokens, evened or not, are right, also those in front of a fault.
+abbrev pub ParsedIsRight : Type 0
+ParsedIsRight = (even : EventBody → EventBody) → IsEvening even → (ts : List Token) → AreSpelled ts → (f : Option Fault) (canonical : Bool)
+    → IsRightReading canonical (said_by even (parsed ts f).events) (parsed ts f).ending
+
+-- ---- of an input
+
+-- what a parser makes of the tokens of an input, up to the first tag that isn't UTF-8
+abbrev pub parsed_input : yaml_encoding_t → List ℕ → Reading
+parsed_input from input = parsed (adapted (scanned from input)).tokens (adapted (scanned from input)).fault
+
+-- The events of an input that no fault ends are those of a stream in which nothing is wrong.
+abbrev pub InputsAreStreams : Type 0
+InputsAreStreams = (even : EventBody → EventBody) → IsEvening even → (from : yaml_encoding_t) (input : List ℕ) (canonical : Bool)
+    → (parsed_input from input).ending ≡ None → RightStream canonical (said_by even (parsed_input from input).events)
+
+-- Those of any input are a front of such a stream's.
+abbrev pub InputsAreFronts : Type 0
+InputsAreFronts = (even : EventBody → EventBody) → IsEvening even → (from : yaml_encoding_t) (input : List ℕ) (canonical : Bool)
+    → RightFront canonical (said_by even (parsed_input from input).events)
+
+-- Of them right documents are loaded.
+abbrev pub InputsLoadRight : Type 0
+InputsLoadRight = (from : yaml_encoding_t) (input : List ℕ) → AreRightTold (parsed_input from input).events

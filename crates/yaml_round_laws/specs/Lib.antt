@@ -1,0 +1,2 @@
+pub mod Evened
+pub mod Laws

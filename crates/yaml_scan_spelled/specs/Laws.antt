@@ -1,0 +1,14 @@
+-- How the tokens of every input are spelled.
+use Rattle.std.specs.Prelude.{ℕ, List}
+use Rattle.yaml_scan_text.specs.declared.name.yaml_encoding_t.{yaml_encoding_t}
+use Rattle.yaml_scan_layout.specs.Coming.{Stream, coming}
+use Rattle.yaml_scan.specs.Scanned.{scanned}
+use Rattle.yaml_scan_spelled.specs.Spelled.{AreSpelled}
+
+-- Each token that is still to come of a text is well spelled.
+abbrev pub TokensAreSpelled : Type 0
+TokensAreSpelled = (s : Stream) (dropped given : ℕ) → AreSpelled (coming s dropped given).tokens
+
+-- So is each token of an input, also before its fault.
+abbrev pub ScannedAreSpelled : Type 0
+ScannedAreSpelled = (setting : yaml_encoding_t) (bytes : List ℕ) → AreSpelled (scanned setting bytes).tokens

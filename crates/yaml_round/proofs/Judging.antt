@@ -1,5 +1,5 @@
 -- From what readings say to what is said of their inputs.
-use Rattle.std.proofs.Common.{◌≡◌, ◌⊎◌, ◌∙◌, ◌++◌, inl, inr, refl, ap, sym, ℕ, List, [], Bool, true, false, Option, None, Result, Ok, Err, Vec}
+use Rattle.std.proofs.Common.{◌≡◌, ◌⊎◌, ◌∙◌, ◌++◌, inl, inr, ap, sym, ℕ, List, [], Bool, true, false, Option, None, Result, Ok, Err, Vec}
 use Rattle.std.specs.Global.{Global}
 use Rattle.std.proofs.lemmas.List.{append_assoc}
 use Rattle.yaml_scan.specs.declared.yaml_encoding_t.{yaml_encoding_t}

@@ -1,9 +1,9 @@
 -- From what a reading and an emitter say to what is said of the input.
-use Rattle.std.proofs.Common.{◌≡◌, ◌⊎◌, ◌∙◌, inl, inr, sym, subst, ℕ, List, [], Bool, true, Some, None, Result, Ok, Err, Vec}
+use Rattle.std.proofs.Common.{◌≡◌, ◌⊎◌, ◌∙◌, inl, inr, sym, subst, ℕ, List, [], Bool, true, None, Result, Ok, Err, Vec}
 use Rattle.std.specs.Global.{Global}
 use Rattle.yaml_scan.specs.declared.yaml_encoding_t.{yaml_encoding_t}
 use Rattle.yaml_scan.specs.declared.yaml_fault_t.{yaml_fault_t}
-use Rattle.yaml_scan.specs.Faults.{Fault, fault_of, IsMemoryFault, Answers}
+use Rattle.yaml_scan.specs.Faults.{fault_of, IsMemoryFault, Answers}
 use Rattle.yaml_parse.specs.Coming.{Coming}
 use Rattle.yaml_parse.specs.Resolve.{Told}
 use Rattle.yaml_emit.specs.Content.{Event}
@@ -15,7 +15,7 @@ use Rattle.yaml_round.specs.declared.settings.yaml_settings_t.{yaml_settings_t}
 use Rattle.yaml_round.specs.Reading.{said_all}
 use Rattle.yaml_round.specs.Writing.{IsUnder, Leads, Finishes, wishes_under}
 use Rattle.yaml_round.specs.Input.{Reads, events_of}
-use Rattle.yaml_round.specs.Answers.{IsLayout, IsPast, IsFaulty, IsRight, IsWritten, bytes_of}
+use Rattle.yaml_round.specs.Answers.{IsLayout, IsPast, IsWritten, bytes_of}
 
 -- a fresh emitter completes the streams of its settings
 starts_at : (b : Bool) (e : Emitter) (w : Wishes) (x : Encoding) (es : List Event) (whole : List Item) → b ≡ true → e.wishes ≡ w → IsStream w x es whole → CompletesBy b e x es whole

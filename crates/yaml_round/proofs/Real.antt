@@ -19,7 +19,7 @@ use Rattle.yaml_parse_grammar.specs.Items.{Item, ItemBody, Properties, Shape, it
 use Rattle.yaml_parse_grammar.specs.Items as item
 use Rattle.yaml_parse_grammar.specs.States.{State}
 use Rattle.yaml_parse_grammar.specs.States as state
-use Rattle.yaml_parse_grammar.specs.Trees.{Given}
+use Rattle.yaml_parse.specs.Trees.{Given}
 use Rattle.yaml_parse.specs.Machine.{choice_at, taken_at, documents_taken, content_taken, node_taken, dressed_taken, items_taken, more_taken, stream_taken, entries_taken, pairs_taken, left_at, Fed, stop, go, with_item, given_by, turn, feed, Outcome, finished, carry, run}
 use Rattle.yaml_parse.specs.Resolve.{Directives, Settled, refused, gave, noted, settle, settle_body, reading, read_on, with_resolved, with_version, with_tag, is_known_version, resolved, directive_for, scalar_event, node_event}
 use Rattle.yaml_round.specs.Reading.{AreReal, is_empty}

@@ -1,12 +1,12 @@
 -- The events that a new parser gives are those of the input.
-use Rattle.std.proofs.Common.{◌≡◌, ◌∙◌, sym, subst, refl, ap, ℕ, List}
+use Rattle.std.proofs.Common.{◌≡◌, ◌∙◌, sym, subst, ap, ℕ, List}
 use Rattle.yaml_scan.specs.declared.yaml_encoding_t.{yaml_encoding_t}
 use Rattle.yaml_scan.specs.Coming as scan
 use Rattle.yaml_parse.specs.Coming.{Coming}
 use Rattle.yaml_parse.specs.Resolve.{Reading, no_directives}
 use Rattle.yaml_parse.specs.Machine.{initial}
 use Rattle.yaml_round.specs.Reading.{AreReal}
-use Rattle.yaml_round.specs.Input.{tokens_of, parsed, read, Reads}
+use Rattle.yaml_round.specs.Input.{tokens_of, parsed, read}
 use Rattle.yaml_round.proofs.Real.{read_real}
 use Rattle.yaml_round.proofs.reading.reading_of.Goals as goal
 

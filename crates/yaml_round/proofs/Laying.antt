@@ -3,7 +3,7 @@ use Rattle.std.proofs.Common.{◌≡◌, ◌⊎◌, ◌∙◌, inl, inr, sym, su
 use Rattle.std.specs.Global.{Global}
 use Rattle.yaml_scan.specs.declared.yaml_encoding_t.{yaml_encoding_t}
 use Rattle.yaml_scan.specs.declared.yaml_fault_t.{yaml_fault_t}
-use Rattle.yaml_scan.specs.Faults.{fault_of, IsMemoryFault, Answers}
+use Rattle.yaml_scan.specs.Faults.{Fault, fault_of, IsMemoryFault, Answers}
 use Rattle.yaml_parse.specs.Coming.{Coming}
 use Rattle.yaml_parse.specs.Resolve.{Told}
 use Rattle.yaml_emit.specs.Content.{Event}
@@ -13,9 +13,11 @@ use Rattle.yaml_emit_text.specs.declared.Encoding.{Encoding}
 use Rattle.yaml_emit_text.specs.declared.Wishes.{Wishes}
 use Rattle.yaml_round.specs.declared.settings.yaml_settings_t.{yaml_settings_t}
 use Rattle.yaml_round.specs.Reading.{said_all}
-use Rattle.yaml_round.specs.Writing.{IsUnder, Leads, Finishes, wishes_under}
+use Rattle.yaml_round.specs.Writing.{IsUnder, Leads, Finishes, wishes_under, IsEachLayout, IsPastEach}
 use Rattle.yaml_round.specs.Input.{Reads, events_of}
-use Rattle.yaml_round.specs.Answers.{IsLayout, IsPast, IsWritten, bytes_of}
+use Rattle.yaml_round.specs.Answers.{IsLayout, IsPast, IsRight, IsWritten, bytes_of}
+use Rattle.yaml_emit_laws.specs.Laws.{HasText}
+use Rattle.yaml_round.proofs.Streams.{input_text}
 
 -- a fresh emitter completes the streams of its settings
 starts_at : (b : Bool) (e : Emitter) (w : Wishes) (x : Encoding) (es : List Event) (whole : List Item) → b ≡ true → e.wishes ≡ w → IsStream w x es whole → CompletesBy b e x es whole
@@ -29,11 +31,11 @@ starts e w limit x es whole h s = starts_at e.fresh e w x es whole h.fresh h.wis
 abbrev pub Led : Wishes → ℕ → List Event → Emitter → List Event → Type 0
 Led w limit es e left = (e.limit ≡ limit) × ((x : Encoding) (whole : List Item) → IsStream w x es whole → Completes e x left whole)
 
-pub layout : (w : Wishes) (limit : ℕ) (es : List Event) (e : Emitter) (text : List ℕ) → Led w limit es e [] → ((x : Encoding) (whole : List Item) → Completes e x [] whole → text ≡ encode x whole) → IsLayout w es text
+pub layout : (w : Wishes) (limit : ℕ) (es : List Event) (e : Emitter) (text : List ℕ) → Led w limit es e [] → ((x : Encoding) (whole : List Item) → Completes e x [] whole → text ≡ encode x whole) → IsEachLayout w es text
 layout w limit es e text l f = λ x whole s. f x whole (l.1 x whole s)
 
 -- a fault is want of memory, or a limit that the layout passes
-pub past : (w : Wishes) (limit : ℕ) (es : List Event) (e : Emitter) (left : List Event) (f : yaml_fault_t) → Led w limit es e left → IsLimited e (fault_of f) → IsMemoryFault f ⊎ IsPast w limit es (fault_of f)
+pub past : (w : Wishes) (limit : ℕ) (es : List Event) (e : Emitter) (left : List Event) (f : yaml_fault_t) → Led w limit es e left → IsLimited e (fault_of f) → IsMemoryFault f ⊎ IsPastEach w limit es (fault_of f)
 past w limit es e left f l h = elim h [
   | inl m ↦ inl m
   | inr p ↦ inr (λ x whole s. subst (λ (n : ℕ). Passes n (encode x whole) (is_deep whole) (fault_of f)) l.0 (p x left whole (l.1 x whole s)))
@@ -50,13 +52,27 @@ led from input settings canonical r old new h u l = (
       (subst (λ (es : List Told). IsStream (wishes_under settings canonical) x (said_all canonical es) whole) (sym h.events) s)),
 )
 
+-- ---- the one layout
+
+pub one_layout : (w : Wishes) (es : List Event) (text : List ℕ) → HasText w es → IsEachLayout w es text → IsLayout w es text
+one_layout w es text h l = record { encoding = h.encoding; whole = h.whole; stream = h.is; is = l h.encoding h.whole h.is }
+
+pub one_past : (w : Wishes) (limit : ℕ) (es : List Event) (f : Fault) → HasText w es → IsPastEach w limit es f → IsPast w limit es f
+one_past w limit es f h p = record { encoding = h.encoding; whole = h.whole; stream = h.is; passes = p h.encoding h.whole h.is }
+
 pub wrote : (from : yaml_encoding_t) (input : List ℕ) (settings : yaml_settings_t) (canonical : Bool) (r : Coming) (old new : Emitter) (result : Result (Vec ℕ Global) yaml_fault_t)
     → Reads from input r → IsUnder old (wishes_under settings canonical) settings.limit → (r.ending ≡ None) × Leads canonical old r.events new [] → Finishes new result
     → Answers bytes_of (IsWritten from input settings canonical) result
 wrote from input settings canonical r old new (Ok text) h u l f =
-    (sym h.ending ∙ l.0, layout _ settings.limit _ new text.items (led from input settings canonical r old new h u l.1) f.1)
+    let right : IsRight from input = sym h.ending ∙ l.0 in
+    let w : Wishes = wishes_under settings canonical in
+    let es : List Event = said_all canonical (events_of from input) in
+    (right, one_layout w es text.items (input_text from input w right) (layout w settings.limit es new text.items (led from input settings canonical r old new h u l.1) f.1))
 wrote from input settings canonical r old new (Err f) h u l e =
-    elim (past _ settings.limit _ new [] f (led from input settings canonical r old new h u l.1) e) [
+    let right : IsRight from input = sym h.ending ∙ l.0 in
+    let w : Wishes = wishes_under settings canonical in
+    let es : List Event = said_all canonical (events_of from input) in
+    elim (past w settings.limit es new [] f (led from input settings canonical r old new h u l.1) e) [
       | inl m ↦ inl m
-      | inr p ↦ inr (inr (sym h.ending ∙ l.0, p))
+      | inr p ↦ inr (inr (right, one_past w settings.limit es (fault_of f) (input_text from input w right) p))
     ]

@@ -4,3 +4,4 @@ mod Laying
 mod Mapped
 mod Real
 mod Reloading
+mod Streams

@@ -21,8 +21,9 @@ use Rattle.yaml_round.specs.declared.settings.yaml_settings_t.{yaml_settings_t}
 use Rattle.yaml_round.specs.Input.{Reads}
 use Rattle.yaml_round.specs.Writing.{IsUnder, Finishes, wishes_under}
 use Rattle.yaml_round.specs.Answers.{bytes_of}
-use Rattle.yaml_round.specs.Reload.{Loads, no_more, with_implicit_end, in_front, load_on, load_all, loads_of, to_load, HasRoot, LoadsDocument, IsLoaded, AreLoaded, written_events, Feeds, Stands, Dumps, DumpsStream, IsDumped, IsReloaded}
-use Rattle.yaml_round.proofs.Laying.{Led, starts, layout, past}
+use Rattle.yaml_round.specs.Reload.{Loads, no_more, with_implicit_end, in_front, load_on, load_all, loads_of, to_load, HasRoot, LoadsDocument, IsLoaded, AreLoaded, written_events, Feeds, Stands, Dumps, DumpsStream, IsEachDump, IsDumped, IsReloaded}
+use Rattle.yaml_round.proofs.Laying.{Led, starts, layout, past, one_layout, one_past}
+use Rattle.yaml_round.proofs.Streams.{loaded_text}
 
 -- ---- the next document
 
@@ -291,20 +292,25 @@ led settings ds old new u w = (
 )
 
 pub dumped_text : (settings : yaml_settings_t) (ds : List Document) (old new : Emitter) (result : Result (Vec ℕ Global) yaml_fault_t)
-    → IsUnder old (wishes_under settings true) settings.limit → DumpsStream old ds new → Finishes new result → Answers bytes_of (IsDumped settings ds) result
+    → IsUnder old (wishes_under settings true) settings.limit → DumpsStream old ds new → Finishes new result → Answers bytes_of (IsEachDump settings ds) result
 dumped_text settings ds old new (Ok text) u w f =
     let W : Wishes = wishes_under settings true in
     let Q : List Event → Type 0 = λ es. Led W settings.limit (written_events ds) new es in
     layout W settings.limit (written_events ds) new text.items (subst Q (w.all f.0) (led settings ds old new u w)) f.1
 dumped_text settings ds old new (Err f) u w e = past (wishes_under settings true) settings.limit (written_events ds) new w.left f (led settings ds old new u w) e
 
+-- the documents that an input loads have the one text
+one_dump : (from : yaml_encoding_t) (input : List ℕ) (settings : yaml_settings_t) (result : Result (List ℕ) Fault) → IsEachDump settings (loads_of from input).documents result → IsDumped settings (loads_of from input).documents result
+one_dump from input settings (Ok text) d = one_layout (wishes_under settings true) (written_events (loads_of from input).documents) text (loaded_text from input (wishes_under settings true) refl) d
+one_dump from input settings (Err f) d = one_past (wishes_under settings true) settings.limit (written_events (loads_of from input).documents) f (loaded_text from input (wishes_under settings true) refl) d
+
 pub reloaded : (from : yaml_encoding_t) (input : List ℕ) (settings : yaml_settings_t) (ds : List Document) (result : Result (Vec ℕ Global) yaml_fault_t)
-    → AreLoaded from input ds → Answers bytes_of (IsDumped settings ds) result → Answers bytes_of (IsReloaded from settings input) result
+    → AreLoaded from input ds → Answers bytes_of (IsEachDump settings ds) result → Answers bytes_of (IsReloaded from settings input) result
 unfolding IsReloaded
-reloaded from input settings ds (Ok text) a d = (a.right, let P : List Document → Type 0 = λ z. IsDumped settings z (Ok text.items) in subst P a.same d)
+reloaded from input settings ds (Ok text) a d = (a.right, let P : List Document → Type 0 = λ z. IsEachDump settings z (Ok text.items) in one_dump from input settings (Ok text.items) (subst P a.same d))
 reloaded from input settings ds (Err f) a d =
-    let P : List Document → Type 0 = λ z. IsDumped settings z (Err (fault_of f)) in
-    elim d [ inl m ↦ inl m | inr p ↦ inr (inr (a.right, subst P a.same p)) ]
+    let P : List Document → Type 0 = λ z. IsEachDump settings z (Err (fault_of f)) in
+    elim d [ inl m ↦ inl m | inr p ↦ inr (inr (a.right, one_dump from input settings (Err (fault_of f)) (subst P a.same p))) ]
 
 pub not_loaded : (from : yaml_encoding_t) (settings : yaml_settings_t) (input : List ℕ) (f : yaml_fault_t) → IsMemoryFault f ⊎ IsLoaded from input (Err (fault_of f))
     → IsMemoryFault f ⊎ IsReloaded from settings input (Err (fault_of f))

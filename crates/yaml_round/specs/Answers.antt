@@ -73,13 +73,19 @@ IsSame a_from a b_from b (Err f) = IsMemoryFault f.1 ⊎ IsSideFaulty a_from a b
 
 -- ---- layouts
 
--- The text is the layout of these events, wherever they are those of a stream in which nothing is wrong.
-abbrev pub IsLayout : Wishes → List Event → List ℕ → Type 0
-IsLayout wishes events text = (x : Encoding) (whole : List Item) → IsStream wishes x events whole → text ≡ encode x whole
+-- These events are those of a stream in which nothing is wrong, and the text is its layout.
+pub record IsLayout (wishes : Wishes) (events : List Event) (text : List ℕ) : Type 0 where
+  pub encoding : Encoding
+  pub whole : List Item
+  pub stream : IsStream wishes encoding events whole
+  pub is : text ≡ encode encoding whole
 
--- The fault names a limit that the layout passes.
-abbrev pub IsPast : Wishes → ℕ → List Event → Fault → Type 0
-IsPast wishes limit events fault = (x : Encoding) (whole : List Item) → IsStream wishes x events whole → Passes limit (encode x whole) (is_deep whole) fault
+-- They are, and its layout passes the limit that the fault names.
+pub record IsPast (wishes : Wishes) (limit : ℕ) (events : List Event) (fault : Fault) : Type 0 where
+  pub encoding : Encoding
+  pub whole : List Item
+  pub stream : IsStream wishes encoding events whole
+  pub passes : Passes limit (encode encoding whole) (is_deep whole) fault
 
 -- the layout of the input's events, evened, in canonical form or in pretty form
 abbrev pub IsLaidOut : yaml_encoding_t → List ℕ → yaml_settings_t → Bool → List ℕ → Type 0

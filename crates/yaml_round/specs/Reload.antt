@@ -16,7 +16,7 @@ use Rattle.yaml_emit.specs.Emitter.{Emitter, Completes}
 use Rattle.yaml_emit_text.specs.declared.Encoding.{Encoding}
 use Rattle.yaml_round.specs.declared.settings.yaml_settings_t.{yaml_settings_t}
 use Rattle.yaml_round.specs.Input.{events_of, ending_of}
-use Rattle.yaml_round.specs.Writing.{wishes_under}
+use Rattle.yaml_round.specs.Writing.{wishes_under, IsEachLayout, IsPastEach}
 use Rattle.yaml_round.specs.Answers.{IsLayout, IsPast}
 
 -- ---- what is loaded
@@ -87,6 +87,11 @@ abbrev pub LoadsNext : Coming → Result (Option Document) yaml_fault_t → Comi
 LoadsNext old (Ok (Some d)) new = LoadsDocument d old new
 LoadsNext old (Ok None) new = to_load old ≡ no_more None
 LoadsNext old (Err f) new = IsMemoryFault f ⊎ (to_load old ≡ no_more (Some (fault_of f)))
+
+-- Each layout of the documents in canonical form, or a limit that each passes.
+abbrev pub IsEachDump : yaml_settings_t → List Document → Result (List ℕ) Fault → Type 0
+IsEachDump settings ds (Ok text) = IsEachLayout (wishes_under settings true) (written_events ds) text
+IsEachDump settings ds (Err fault) = IsPastEach (wishes_under settings true) settings.limit (written_events ds) fault
 
 -- all documents of an input
 pub record AreLoaded (from : yaml_encoding_t) (input : List ℕ) (ds : List Document) : Type 0 where

@@ -4,11 +4,12 @@ use Rattle.std.specs.Global.{Global}
 use Rattle.yaml_scan.specs.declared.yaml_encoding_t.{yaml_encoding_t}
 use Rattle.yaml_scan.specs.declared.yaml_encoding_t.TheVariants.{YAML_UTF8_ENCODING, YAML_UTF16LE_ENCODING, YAML_UTF16BE_ENCODING}
 use Rattle.yaml_scan.specs.declared.yaml_fault_t.{yaml_fault_t}
-use Rattle.yaml_scan.specs.Faults.{fault_of}
+use Rattle.yaml_scan.specs.Faults.{Fault, fault_of}
 use Rattle.yaml_parse.specs.Coming.{Coming}
 use Rattle.yaml_parse.specs.Resolve.{Told}
-use Rattle.yaml_emit.specs.Emitter.{Emitter, Completes, IsLimited}
-use Rattle.yaml_emit.specs.Text.{Item, encode}
+use Rattle.yaml_emit.specs.Content.{Event}
+use Rattle.yaml_emit.specs.Emitter.{Emitter, Completes, IsLimited, IsStream, Passes}
+use Rattle.yaml_emit.specs.Text.{Item, encode, is_deep}
 use Rattle.yaml_emit_text.specs.declared.Encoding.{Encoding}
 use Rattle.yaml_emit_text.specs.declared.Wishes.{Wishes}
 use Rattle.yaml_round.specs.declared.settings.yaml_settings_t.{yaml_settings_t}
@@ -65,3 +66,13 @@ WritesAll ends r e (Err f) e' = IsFaultOf r.ending f
 abbrev pub Finishes : Emitter → Result (Vec ℕ Global) yaml_fault_t → Type 0
 Finishes e (Ok text) = (e.fault ≡ None) × ((x : Encoding) (whole : List Item) → Completes e x [] whole → text.items ≡ encode x whole)
 Finishes e (Err f) = IsLimited e (fault_of f)
+
+-- ---- texts of events
+
+-- The text is each layout of these events, where they are a stream's in which nothing is wrong.
+abbrev pub IsEachLayout : Wishes → List Event → List ℕ → Type 0
+IsEachLayout wishes events text = (x : Encoding) (whole : List Item) → IsStream wishes x events whole → text ≡ encode x whole
+
+-- The fault names a limit that each of them passes.
+abbrev pub IsPastEach : Wishes → ℕ → List Event → Fault → Type 0
+IsPastEach wishes limit events fault = (x : Encoding) (whole : List Item) → IsStream wishes x events whole → Passes limit (encode x whole) (is_deep whole) fault

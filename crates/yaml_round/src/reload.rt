@@ -3,7 +3,7 @@
 ghost use Rattle.std.specs.Prelude.{◌≡◌, true, false, All};
 ghost use Rattle.yaml_scan.specs.Faults.{Answers};
 ghost use Rattle.yaml_round.specs.Answers.{bytes_of};
-ghost use Rattle.yaml_round.specs.Reload.{LoadsNext, IsLoaded, HasRoot, Stands, Dumps, DumpsStream, IsDumped, IsReloaded};
+ghost use Rattle.yaml_round.specs.Reload.{LoadsNext, IsLoaded, HasRoot, Stands, Dumps, DumpsStream, IsEachDump, IsReloaded};
 
 use crate::reading::{Reading, reading_of};
 use crate::settings::yaml_settings_t;
@@ -98,7 +98,7 @@ fn written_documents(
     documents: &mut VecDeque<yaml_document_t>,
 ) -> Result<Vec<u8>, yaml_fault_t>
     requires { All HasRoot documents.old.items }
-    ensures { Answers bytes_of (IsDumped settings.now documents.old.items) result }
+    ensures { Answers bytes_of (IsEachDump settings.now documents.old.items) result }
 {
     let mut emitter = emitter_under(alloc, settings, true)?;
     dump_stream(&mut emitter, documents);

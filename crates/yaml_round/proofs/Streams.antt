@@ -1,0 +1,85 @@
+-- What an input says, and what it loads, is a stream in which nothing is wrong, and so has a text.
+use Rattle.std.proofs.Common.{◌≡◌, ◌||◌, ℕ, List, [], ◌∷◌, map, Bool, true, false, Option, refl, sym, subst, inl, inr}
+use Rattle.yaml_scan.specs.declared.yaml_encoding_t.{yaml_encoding_t}
+use Rattle.yaml_scan.specs.declared.yaml_encoding_t.TheVariants.{YAML_ANY_ENCODING}
+use Rattle.yaml_scan.specs.declared.yaml_scalar_style_t.{yaml_scalar_style_t}
+use Rattle.yaml_scan.specs.Faults.{Fault}
+use Rattle.yaml_parse.specs.Events as event
+use Rattle.yaml_parse.specs.Nodes.{Node}
+use Rattle.yaml_parse.specs.Documents.{Document}
+use Rattle.yaml_parse.specs.Resolve.{Told}
+use Rattle.yaml_parse.specs.Loading.{Loading, Fed, goes_on, loaded, refused, nothing_loaded, step}
+use Rattle.yaml_emit.specs.Graph.{graph_content}
+use Rattle.yaml_emit_text.specs.declared.Wishes.{Wishes}
+use Rattle.yaml_emit_laws.specs.Laws.{RightStream, HasText, RightDocument, AreRight, AreRightTold, RightFed}
+use Rattle.yaml_emit_laws.proofs.Passing.{texts}
+use Rattle.yaml_emit_laws.proofs.Contents.{dumped_streams}
+use Rattle.yaml_emit_laws.proofs.Loading.{empty_right, steps}
+use Rattle.yaml_round_laws.specs.Evened.{IsEvened, IsEvening}
+use Rattle.yaml_round_laws.proofs.Inputs.{inputs_are_streams, inputs_load_right}
+use Rattle.yaml_round.specs.Even.{is_lone_mark, even_scalar, even_body}
+use Rattle.yaml_round.specs.Reading.{said_all}
+use Rattle.yaml_round.specs.Input.{events_of, ending_of, read}
+use Rattle.yaml_round.specs.Answers.{IsRight}
+use Rattle.yaml_round.specs.Reload.{Loads, in_front, load_on, load_all, loads_of, written_events}
+
+-- ---- events
+
+-- evening changes nothing but a document's end, or a scalar's tag
+scalar_evened : (lone : Bool) (anchor tag : Option (List ℕ)) (value : List ℕ) (plain quoted : Bool) (style : yaml_scalar_style_t)
+    → IsEvened (event.scalar anchor tag value plain quoted style) (even_scalar lone anchor tag value plain quoted style)
+scalar_evened true anchor tag value plain quoted style = inr refl
+scalar_evened false anchor tag value plain quoted style = inl refl
+
+evenly : (ends : Bool) → IsEvening (even_body ends)
+evenly ends (event.document_end implicit) = (implicit || ends, refl)
+evenly ends (event.scalar anchor tag value plain quoted style) = scalar_evened (is_lone_mark tag value) anchor tag value plain quoted style
+evenly ends event.no = refl
+evenly ends (event.stream_start encoding) = refl
+evenly ends event.stream_end = refl
+evenly ends (event.document_start version directives implicit) = refl
+evenly ends (event.alias name) = refl
+evenly ends (event.sequence_start anchor tag implicit style) = refl
+evenly ends event.sequence_end = refl
+evenly ends (event.mapping_start anchor tag implicit style) = refl
+evenly ends event.mapping_end = refl
+
+input_stream : (from : yaml_encoding_t) (input : List ℕ) (canonical : Bool) → IsRight from input → RightStream canonical (said_all canonical (events_of from input))
+unfolding read
+input_stream from input canonical r = inputs_are_streams (even_body canonical) (evenly canonical) from input canonical r
+
+pub input_text : (from : yaml_encoding_t) (input : List ℕ) (w : Wishes) → IsRight from input → HasText w (said_all w.canonical (events_of from input))
+input_text from input w r = texts w (said_all w.canonical (events_of from input)) (input_stream from input w.canonical r)
+
+-- ---- documents
+
+front_right : (ns : List Node) (d : Document) (rest : Loads) → RightDocument d → AreRight rest.documents → AreRight (in_front ns d rest).documents
+front_right [] d rest r k = tt
+front_right (n ∷ ns) d rest r k = (record { tags = r.tags; opening = r.opening }, k)
+
+on_right : (fed : Fed) (go : Loading → Loads) → RightFed fed → ((l : Loading) → RightDocument l.document → AreRight (go l).documents) → AreRight (load_on fed go).documents
+on_right (goes_on l) go h k = k l h
+on_right (loaded d) go h k = front_right d.nodes d (go nothing_loaded) h (k nothing_loaded empty_right)
+on_right (refused f) go h k = tt
+
+all_right : (gs : List Told) (f : Option Fault) (l : Loading) → AreRightTold gs → RightDocument l.document → AreRight (load_all gs f l).documents
+unfolding load_all
+all_right [] f l h r = tt
+all_right (g ∷ gs) f l h r = on_right (step g.0 l) (load_all gs f) (steps g.0 l h.0 r) (λ m s. all_right gs f m h.1 s)
+
+input_told : (from : yaml_encoding_t) (input : List ℕ) → AreRightTold (events_of from input)
+unfolding read
+input_told from input = inputs_load_right from input
+
+loaded_stream : (from : yaml_encoding_t) (input : List ℕ) → RightStream true (written_events (loads_of from input).documents)
+loaded_stream from input =
+    let ds : List Document = (loads_of from input).documents in
+    record {
+      encoding = YAML_ANY_ENCODING;
+      documents = map graph_content ds;
+      same = refl;
+      right = dumped_streams true YAML_ANY_ENCODING ds (all_right (events_of from input) (ending_of from input) nothing_loaded (input_told from input) empty_right);
+    }
+
+pub loaded_text : (from : yaml_encoding_t) (input : List ℕ) (w : Wishes) → w.canonical ≡ true → HasText w (written_events (loads_of from input).documents)
+loaded_text from input w c = texts w (written_events (loads_of from input).documents) (subst (λ (b : Bool). RightStream b (written_events (loads_of from input).documents)) (sym c) (loaded_stream from input))

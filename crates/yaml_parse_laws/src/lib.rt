@@ -7,19 +7,8 @@ ghost use Rattle.yaml_scan.specs.Faults.{Fault};
 ghost use Rattle.yaml_parse_grammar.specs.Machine.{run, initial};
 ghost use Rattle.yaml_parse_grammar.specs.Resolve.{Directives};
 ghost use Rattle.yaml_parse_grammar.specs.Coming.{reading_of};
-ghost use Rattle.yaml_parse_laws.specs.Laws.{AcceptedAreSentences, AcceptedAreTrees};
 
 /// A law: of no list of tokens come more than four events for each token.
 pub fn at_most_four_events_a_token()
     ensures { (ts : List Token) (f : Option Fault) (ds : Directives) → length (reading_of (run ts initial f) ds).events ≤ 4 * length ts }
-{}
-
-/// A list of tokens of which none is refused, and which comes to the stream's end, begins with the tokens of a tree.
-pub fn accepted_lists_begin_with_trees()
-    ensures { AcceptedAreTrees }
-{}
-
-/// Where no directive and no tag handle is refused either, that tree's are in order.
-pub fn accepted_lists_begin_with_sentences()
-    ensures { AcceptedAreSentences }
 {}

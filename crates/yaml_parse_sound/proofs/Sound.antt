@@ -8,7 +8,7 @@ use Rattle.yaml_parse_grammar.specs.declared.name.Choice.{Choice}
 use Rattle.yaml_parse_grammar.specs.declared.name.Choice.TheVariants.{Refuse, Take, Leave, Open}
 use Rattle.yaml_parse_grammar.specs.Items.{Item, item_at}
 use Rattle.yaml_parse_grammar.specs.Items as item
-use Rattle.yaml_parse_grammar.specs.States.{State, Taken}
+use Rattle.yaml_parse_grammar.specs.States.{State}
 use Rattle.yaml_parse_grammar.specs.States as state
 use Rattle.yaml_parse_grammar.specs.Trees.{Given, items}
 use Rattle.yaml_parse_grammar.specs.Machine.{choice_at, taken_at, left_at, Fed, stop, go, with_item, given_by, turn, feed, Outcome, finished, carry, ending_at, run, initial}
@@ -17,8 +17,8 @@ use Rattle.yaml_parse_grammar.specs.Coming.{reading_of}
 use Rattle.yaml_parse_grammar.proofs.Complete.{stream_runs}
 use Rattle.yaml_parse_grammar.proofs.Voice.{takes_a_token}
 use Rattle.yaml_parse_grammar.proofs.Single.{opens_node}
-use Rattle.yaml_parse_laws.specs.Laws.{AcceptedAreTrees, AcceptedAreSentences}
-use Rattle.yaml_parse_laws.proofs.Left.{Left, Over, over_both, leaving, taking, opening}
+use Rattle.yaml_parse_sound.specs.Laws.{AcceptedAreTrees, AcceptedAreSentences, SentencesAreAccepted}
+use Rattle.yaml_parse_sound.proofs.Left.{Left, Over, over_both, leaving, taking, opening}
 
 -- ---- a stack at a token
 
@@ -153,3 +153,8 @@ accepted_sentences ts f e =
       same = h.same;
       in_order = ap (λ (x : Outcome). (reading_of x no_directives).ending) (sym o) ∙ e;
     }
+
+pub sentences_accepted : SentencesAreAccepted
+sentences_accepted ts f b =
+    let o : run ts initial f ≡ record { items = items b.tree b.rest; ending = None } = ap (λ (us : List Token). run us initial f) b.same ∙ stream_runs b.tree b.rest f in
+    ap (λ (x : Outcome). (reading_of x no_directives).ending) o ∙ b.in_order

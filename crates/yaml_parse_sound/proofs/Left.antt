@@ -82,16 +82,16 @@ over_both (x ∷ xs) ys P = ap (Left x) (over_both xs ys P)
 
 -- ---- a state that leaves waits for nothing
 
-not_left : (a : Bool) (p : ParseProblem) (o : Option yaml_mark_t) → (if a then Take else Refuse p o) ≡ Leave → ⊥
+pub not_left : (a : Bool) (p : ParseProblem) (o : Option yaml_mark_t) → (if a then Take else Refuse p o) ≡ Leave → ⊥
 not_left true p o h = cc
 not_left false p o h = cc
 
-not_left_first : (a b : Bool) (p : ParseProblem) → (if a then Take else if b then Open else Refuse p None) ≡ Leave → ⊥
+pub not_left_first : (a b : Bool) (p : ParseProblem) → (if a then Take else if b then Open else Refuse p None) ≡ Leave → ⊥
 not_left_first true b p h = cc
 not_left_first false true p h = cc
 not_left_first false false p h = cc
 
-dressed_alone : (w : Wants) (anchor : Option (List ℕ)) (tag : Option Tag) (P : List Token → Type 0) (ts : List Token) → P ts → DressedLeft w anchor tag P ts
+pub dressed_alone : (w : Wants) (anchor : Option (List ℕ)) (tag : Option Tag) (P : List Token → Type 0) (ts : List Token) → P ts → DressedLeft w anchor tag P ts
 dressed_alone w (Some a) None P ts h = λ x. record { tree = tree.dress (tree.anchor x); rest = ts; same = refl; goes = h }
 dressed_alone w None (Some t) P ts h = λ x. record { tree = tree.dress (tree.tag x); rest = ts; same = refl; goes = h }
 dressed_alone w (Some a) (Some t) P ts h = λ d. record { tree = tree.dress d; rest = ts; same = refl; goes = h }

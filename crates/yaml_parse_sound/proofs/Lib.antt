@@ -1,3 +1,5 @@
 pub mod Left
 pub mod Sound
+pub mod Standing
+pub mod Closing
 pub mod Refusal

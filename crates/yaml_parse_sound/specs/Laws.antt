@@ -5,7 +5,8 @@ use Rattle.yaml_scan.specs.declared.yaml_error_type_t.TheVariants.{YAML_PARSER_E
 use Rattle.yaml_scan.specs.declared.yaml_origin_t.TheVariants.{Parser}
 use Rattle.yaml_scan.specs.Tokens.{Token, zero_mark}
 use Rattle.yaml_scan.specs.Faults.{Fault}
-use Rattle.yaml_parse_grammar.specs.Trees.{Stream, spell, items}
+use Rattle.yaml_parse_grammar.specs.Items.{Item}
+use Rattle.yaml_parse_grammar.specs.Trees.{Stream, spell, items, Given}
 use Rattle.yaml_parse_grammar.specs.Machine.{run, initial}
 use Rattle.yaml_parse_grammar.specs.Resolve.{reading, no_directives}
 use Rattle.yaml_parse_grammar.specs.Coming.{reading_of}
@@ -43,31 +44,49 @@ pub record GoesOn (ts : List Token) : Type 0 where
   pub more : List Token
   pub same : ts ++ more ≡ spell tree []
 
+-- items without the numbers of tokens that are not asked for
+abbrev pub bare : List Given → List Item
+bare [] = []
+bare (g ∷ gs) = g.0 ∷ bare gs
+
+-- items begin with these
+pub record Begins (is : List Item) (gs : List Given) : Type 0 where
+  pub others : List Item
+  pub same : bare gs ≡ is ++ others
+
+-- a tree goes on with the list, and its items begin with these
+pub record GoesOnGiving (ts : List Token) (given : List Item) : Type 0 where
+  pub tree : Stream
+  pub more : List Token
+  pub same : ts ++ more ≡ spell tree []
+  pub begins : Begins given (items tree [])
+
 -- a fault of the parser, at a mark
 pub record StandsAt (mark : yaml_mark_t) (e : Fault) : Type 0 where
   pub kind : e.kind ≡ YAML_PARSER_ERROR
   pub origin : e.origin ≡ Parser
   pub place : e.problem_mark ≡ mark
 
--- the fault stands at the first token that no tree goes on with
-pub record RefusedAt (ts : List Token) (e : Fault) : Type 0 where
+-- the fault stands at the first token that no tree goes on with; what was given begins the items of a tree that goes on with those before it
+pub record RefusedAt (ts : List Token) (given : List Item) (e : Fault) : Type 0 where
   pub front : List Token
   pub token : Token
   pub behind : List Token
   pub list : ts ≡ front ++ token ∷ behind
-  pub before : GoesOn front
+  pub before : GoesOnGiving front given
   pub wrong : GoesOn (front ++ token ∷ []) → ⊥
   pub stands : StandsAt token.start_mark e
 
--- a tree goes on with the whole list: the fault is the source's own, or where it has none, stands at the empty token behind the list
-pub record RunsOut (ts : List Token) (f : Option Fault) (e : Fault) : Type 0 where
-  pub before : GoesOn ts
+-- a tree goes on with the whole list and gives what was given: the fault is the source's own, or where it has none, stands at the empty token behind the list
+pub record RunsOut (ts : List Token) (f : Option Fault) (given : List Item) (e : Fault) : Type 0 where
+  pub before : GoesOnGiving ts given
   pub own : (f ≡ Some e) ⊎ ((f ≡ None) × StandsAt zero_mark e)
 
 -- A list ends in a fault at the first token that no tree goes on with, or else behind its last token.
 abbrev pub FaultsStandAtFirst : Type 0
-FaultsStandAtFirst = (ts : List Token) (f : Option Fault) (e : Fault) → (run ts initial f).ending ≡ Some e → RefusedAt ts e ⊎ RunsOut ts f e
+FaultsStandAtFirst = (ts : List Token) (f : Option Fault) (e : Fault) → (run ts initial f).ending ≡ Some e
+    → RefusedAt ts (bare (run ts initial f).items) e ⊎ RunsOut ts f (bare (run ts initial f).items) e
 
 -- No token is refused of a list with which a tree goes on.
 abbrev pub FrontsAreNotRefused : Type 0
-FrontsAreNotRefused = (ts : List Token) (f : Option Fault) (e : Fault) → GoesOn ts → (run ts initial f).ending ≡ Some e → RunsOut ts f e
+FrontsAreNotRefused = (ts : List Token) (f : Option Fault) (e : Fault) → GoesOn ts → (run ts initial f).ending ≡ Some e → RunsOut ts f (bare (run ts initial f).items) e

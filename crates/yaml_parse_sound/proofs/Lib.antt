@@ -3,3 +3,4 @@ pub mod Sound
 pub mod Standing
 pub mod Closing
 pub mod Refusal
+pub mod Events

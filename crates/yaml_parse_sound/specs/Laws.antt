@@ -5,10 +5,11 @@ use Rattle.yaml_scan.specs.declared.yaml_error_type_t.TheVariants.{YAML_PARSER_E
 use Rattle.yaml_scan.specs.declared.yaml_origin_t.TheVariants.{Parser}
 use Rattle.yaml_scan.specs.Tokens.{Token, zero_mark}
 use Rattle.yaml_scan.specs.Faults.{Fault}
+use Rattle.yaml_parse_model.specs.Events.{Event}
 use Rattle.yaml_parse_grammar.specs.Items.{Item}
 use Rattle.yaml_parse_grammar.specs.Trees.{Stream, spell, items, Given}
 use Rattle.yaml_parse_grammar.specs.Machine.{run, initial}
-use Rattle.yaml_parse_grammar.specs.Resolve.{reading, no_directives}
+use Rattle.yaml_parse_grammar.specs.Resolve.{Told, Directives, reading, no_directives}
 use Rattle.yaml_parse_grammar.specs.Coming.{reading_of}
 
 -- the list begins with the tokens of a tree
@@ -90,3 +91,19 @@ FaultsStandAtFirst = (ts : List Token) (f : Option Fault) (e : Fault) → (run t
 -- No token is refused of a list with which a tree goes on.
 abbrev pub FrontsAreNotRefused : Type 0
 FrontsAreNotRefused = (ts : List Token) (f : Option Fault) (e : Fault) → GoesOn ts → (run ts initial f).ending ≡ Some e → RunsOut ts f (bare (run ts initial f).items) e
+
+-- ---- events
+
+-- events without the numbers of tokens that are not asked for
+abbrev pub told : List Told → List Event
+told [] = []
+told (g ∷ gs) = g.0 ∷ told gs
+
+-- events begin with these
+pub record BeginsWithEvents (es fs : List Event) : Type 0 where
+  pub others : List Event
+  pub same : fs ≡ es ++ others
+
+-- Where items begin with others, their events begin with the others' events, up to the first fault of a directive or handle.
+abbrev pub EventsBeginAsItems : Type 0
+EventsBeginAsItems = (gs hs : List Given) (f g : Option Fault) (ds : Directives) → Begins (bare gs) hs → BeginsWithEvents (told (reading gs f ds).events) (told (reading hs g ds).events)

@@ -7,8 +7,14 @@ ghost use Rattle.yaml_scan.specs.Faults.{Fault};
 ghost use Rattle.yaml_parse_grammar.specs.Machine.{run, initial};
 ghost use Rattle.yaml_parse_grammar.specs.Resolve.{Directives};
 ghost use Rattle.yaml_parse_grammar.specs.Coming.{reading_of};
+ghost use Rattle.yaml_parse_laws.specs.Laws.{TokensHaveOneTree};
 
 /// A law: of no list of tokens come more than four events for each token.
 pub fn at_most_four_events_a_token()
     ensures { (ts : List Token) (f : Option Fault) (ds : Directives) → length (reading_of (run ts initial f) ds).events ≤ 4 * length ts }
+{}
+
+/// Tokens have one tree, and no tree's tokens begin another's.
+pub fn tokens_have_one_tree()
+    ensures { TokensHaveOneTree }
 {}

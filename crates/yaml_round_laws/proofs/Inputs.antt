@@ -48,7 +48,7 @@ inputs_are_streams even e from input canonical n =
 pub inputs_are_fronts : InputsAreFronts
 inputs_are_fronts even e from input canonical = fronts canonical (said_by even (parsed_input from input).events) (input_right even e from input canonical).passes
 
--- ---- what is loaded of them
+-- ---- as a loader takes them
 
 told_right : (ts : List Told) → own_problems true (said_by (λ (b : EventBody). b) ts) ≡ None → AreRightTold ts
 unfolding own_problems

@@ -52,6 +52,6 @@ abbrev pub InputsAreFronts : Type 0
 InputsAreFronts = (even : EventBody → EventBody) → IsEvening even → (from : yaml_encoding_t) (input : List ℕ) (canonical : Bool)
     → RightFront canonical (said_by even (parsed_input from input).events)
 
--- Of them right documents are loaded.
+-- None of them has an empty tag, or opens a document with a version or directives that may not be written.
 abbrev pub InputsLoadRight : Type 0
 InputsLoadRight = (from : yaml_encoding_t) (input : List ℕ) → AreRightTold (parsed_input from input).events

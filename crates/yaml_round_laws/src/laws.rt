@@ -18,7 +18,7 @@ pub fn inputs_are_fronts()
     ensures { InputsAreFronts }
 {}
 
-/// Of the events of any input right documents are loaded.
+/// No event of any input has an empty tag, or opens a document with a version or directives that may not be written.
 pub fn inputs_load_right()
     ensures { InputsLoadRight }
 {}

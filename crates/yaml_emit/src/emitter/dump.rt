@@ -139,7 +139,6 @@ impl yaml_emitter_t {
     }
 
     // Whether the stream is open.
-    #[tactic(auto, using(crate::proofs::Dumped::gives_stuck))]
     fn open_if_needed(&mut self) -> bool
         ensures given { (es : List Event) → Gives self.old (opening_events self.old.opened ++ es) self.new (left_if result es) }
         ensures opened { result ≡ true → self.new.opened ≡ true }

@@ -16,11 +16,11 @@ use Rattle.yaml_emit_layout.specs.ToCome.{layout}
 use Rattle.yaml_emit_state.specs.declared.Core.{Core}
 use Rattle.yaml_emit_state.specs.Steps.{Starves, settings_of}
 use Rattle.yaml_emit_state.specs.Finish.{Finishes, FinishesAt, FinishesBy}
-use Rattle.yaml_emit.specs.declared.graph.Events.{Events}
+use Rattle.yaml_emit_graph.specs.declared.Events.{Events}
 use Rattle.yaml_emit.specs.declared.emitter.yaml_emitter_t.TheInside.{Inside}
-use Rattle.yaml_emit.specs.Events.{coming_events, IsEvents}
+use Rattle.yaml_emit_graph.specs.Events.{coming_events, IsEvents}
 use Rattle.yaml_emit.specs.Emitter.{Emitter, emitter_of, IsEmitter, CompletesBy, Completes, Given, Gives, Stuck, left_if, opening_events, closing_events, dump_events, said_by, said_document, Answers}
-use Rattle.yaml_emit.specs.Graph.{dumped}
+use Rattle.yaml_emit_graph.specs.Graph.{dumped}
 use Rattle.yaml_emit.specs.Dumping.{DumpsBy, Dumps}
 use Rattle.yaml_emit.proofs.Emitting.{stopped_completes, not_true}
 

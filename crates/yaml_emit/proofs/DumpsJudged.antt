@@ -8,11 +8,11 @@ use Rattle.yaml_emit_text.specs.Text.{Item}
 use Rattle.yaml_emit_layout.specs.Content.{Event, stream_end}
 use Rattle.yaml_emit_state.specs.declared.Core.{Core}
 use Rattle.yaml_emit_state.specs.Steps.{Starves, state_of, settings_of}
-use Rattle.yaml_emit.specs.declared.graph.Events.{Events}
+use Rattle.yaml_emit_graph.specs.declared.Events.{Events}
 use Rattle.yaml_emit.specs.declared.emitter.yaml_emitter_t.TheInside.{Inside}
-use Rattle.yaml_emit.specs.Events.{coming_events}
+use Rattle.yaml_emit_graph.specs.Events.{coming_events}
 use Rattle.yaml_emit.specs.Emitter.{Emitter, emitter_of, left_if, opening_events, closing_events, dump_events, said_document}
-use Rattle.yaml_emit.specs.Graph.{dumped}
+use Rattle.yaml_emit_graph.specs.Graph.{dumped}
 use Rattle.yaml_emit.specs.Judged.{text_from, LetsOut}
 use Rattle.yaml_emit.specs.Verdict.{WritesBy, Writes, Judged, JudgedAll, Unjudged}
 use Rattle.yaml_emit.proofs.Dumped.{said_none, said_some}

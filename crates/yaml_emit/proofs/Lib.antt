@@ -5,10 +5,5 @@ pub mod Grammatical
 pub mod Ending
 pub mod Emitting
 pub mod Verdicts
-pub mod Walking
-pub mod Contents
-pub mod Counting
-pub mod Naming
-pub mod Leaving
 pub mod Dumped
 pub mod DumpsJudged

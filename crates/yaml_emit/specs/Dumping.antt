@@ -1,9 +1,9 @@
 -- A dump goes on.
 use Rattle.std.specs.Prelude.{◌≡◌, suc, Bool, true, false, [], length}
 use Rattle.yaml_parse.specs.Documents.{Document}
-use Rattle.yaml_emit.specs.declared.graph.Events.{Events}
+use Rattle.yaml_emit_graph.specs.declared.Events.{Events}
 use Rattle.yaml_emit.specs.Emitter.{Emitter, Gives, Keeps}
-use Rattle.yaml_emit.specs.Events.{coming_events, IsEvents}
+use Rattle.yaml_emit_graph.specs.Events.{coming_events, IsEvents}
 
 -- An event was given and the others are still to come; or all were given, or count for nothing.
 abbrev pub DumpsBy : Bool → Document → Emitter → Events → Emitter → Events → Type 0

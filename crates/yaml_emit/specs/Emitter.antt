@@ -31,7 +31,7 @@ use Rattle.yaml_emit.specs.declared.held.Held.{Held}
 use Rattle.yaml_emit.specs.declared.emitter.yaml_emitter_t.TheInside.{Inside}
 use Rattle.yaml_emit.specs.Held.{held_events, HeldUtf8, is_ready}
 use Rattle.yaml_emit.specs.Judged.{refused_at}
-use Rattle.yaml_emit.specs.Graph.{dumped}
+use Rattle.yaml_emit_graph.specs.Graph.{dumped}
 
 -- What a clause sees of an emitter.
 pub record Emitter : Type 0 where

@@ -3,13 +3,10 @@
 
 mod emitter;
 mod fault;
-mod graph;
 mod held;
 mod law;
 mod name;
-mod numbers;
 mod release;
-mod walk;
 
 pub use emitter::{
     yaml_emitter_close, yaml_emitter_delete, yaml_emitter_dump, yaml_emitter_emit,

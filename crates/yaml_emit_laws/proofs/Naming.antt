@@ -9,7 +9,7 @@ use Rattle.std.proofs.lemmas.List.Folds.{list_all-append}
 use Rattle.yaml_scan.specs.Classes.{is_digit_byte, is_alpha_byte}
 use Rattle.yaml_emit_layout.specs.declared.Problem.{Problem}
 use Rattle.yaml_emit_layout.specs.Grammar.{name_problem, anchor_problem}
-use Rattle.yaml_emit.specs.Graph.{lead, name_of, anchor_of}
+use Rattle.yaml_emit_graph.specs.Graph.{lead, name_of, anchor_of}
 
 -- ---- digits
 

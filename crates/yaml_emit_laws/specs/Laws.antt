@@ -17,7 +17,7 @@ use Rattle.yaml_emit_layout.specs.Content.{Opening, Document, Event, said, strea
 use Rattle.yaml_emit_layout.specs.Grammar.{opening_problem, own_problem, own_problems}
 use Rattle.yaml_emit.specs.Judged.{Shape, first_shape, shape_after, first_refusal}
 use Rattle.yaml_emit.specs.Emitter.{IsStream}
-use Rattle.yaml_emit.specs.Graph.{graph_opening, graph_content, dumped}
+use Rattle.yaml_emit_graph.specs.Graph.{graph_opening, graph_content, dumped}
 
 -- what a list of events has come to behind others
 unfoldable pub shape_behind : Shape → List Event → Shape

@@ -9,7 +9,7 @@ use Rattle.yaml_parse.specs.Nodes.{Node}
 use Rattle.yaml_parse.specs.Documents.{Document}
 use Rattle.yaml_parse.specs.Resolve.{Told}
 use Rattle.yaml_parse.specs.Loading.{Loading, Fed, goes_on, loaded, refused, nothing_loaded, step}
-use Rattle.yaml_emit.specs.Graph.{graph_content}
+use Rattle.yaml_emit_graph.specs.Graph.{graph_content}
 use Rattle.yaml_emit_text.specs.declared.Wishes.{Wishes}
 use Rattle.yaml_emit_laws.specs.Laws.{RightStream, HasText, RightDocument, AreRight, AreRightTold, RightFed}
 use Rattle.yaml_emit_laws.proofs.Passing.{texts}

@@ -10,7 +10,7 @@ use Rattle.yaml_parse.specs.Resolve.{Told}
 use Rattle.yaml_parse.specs.Coming.{Coming}
 use Rattle.yaml_parse.specs.Loading.{Loading, Fed, goes_on, loaded, refused, nothing_loaded, step}
 use Rattle.yaml_emit.specs.Content.{Event, documents_events, stream_events, stream_end}
-use Rattle.yaml_emit.specs.Graph.{graph_content}
+use Rattle.yaml_emit_graph.specs.Graph.{graph_content}
 use Rattle.yaml_emit.specs.Text.{Item}
 use Rattle.yaml_emit.specs.Emitter.{Emitter, Completes}
 use Rattle.yaml_emit_text.specs.declared.Encoding.{Encoding}

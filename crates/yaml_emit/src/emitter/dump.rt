@@ -6,15 +6,15 @@ ghost use Rattle.yaml_parse.specs.Constructors.{HasUtf8};
 ghost use Rattle.yaml_emit_layout.specs.Content.{stream_start, stream_end, said, Event};
 ghost use Rattle.yaml_emit.specs.Emitter.{Answers, Given, Stays, Gives, Keeps, Stuck, left_if, opening_events, said_document, dump_events};
 ghost use Rattle.yaml_scan.specs.Faults.{Fault};
-ghost use Rattle.yaml_emit.specs.Graph.{dumped};
-ghost use Rattle.yaml_emit.specs.Events.{IsEvents, coming_events};
+ghost use Rattle.yaml_emit_graph.specs.Graph.{dumped};
+ghost use Rattle.yaml_emit_graph.specs.Events.{IsEvents, coming_events};
 ghost use Rattle.yaml_emit.specs.Dumping.{Dumps};
 ghost use Rattle.yaml_emit.specs.Verdict.{Judged, JudgedAll, Unjudged, Tells};
 
 use super::yaml_emitter_t;
 use crate::fault::refusal;
-use crate::graph::Events;
 use std::alloc::AllocError;
+use yaml_emit_graph::Events;
 use yaml_parse::{yaml_document_t, yaml_event_body_t};
 use yaml_scan::{yaml_encoding_t, yaml_fault_t};
 

@@ -1,6 +1,6 @@
 use Rattle.std.proofs.Common.{◌≡◌, false, length}
 use Rattle.yaml_emit.specs.Emitter.{Gives, Keeps}
-use Rattle.yaml_emit.specs.Events.{IsEvents, coming_events}
+use Rattle.yaml_emit_graph.specs.Events.{IsEvents, coming_events}
 use Rattle.yaml_emit.specs.Verdict.{JudgedAll}
 use Rattle.yaml_emit.proofs.emitter.yaml_emitter_t.dump_events.Given as goal
 

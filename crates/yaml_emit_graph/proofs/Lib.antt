@@ -1,0 +1,5 @@
+pub mod Walking
+pub mod Contents
+pub mod Counting
+pub mod Naming
+pub mod Leaving

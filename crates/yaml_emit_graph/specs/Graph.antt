@@ -1,0 +1,213 @@
+-- What a document says: its nodes as a tree, and the events of a dump.
+use Rattle.std.specs.Prelude.{ℕ, zero, suc, ℤ, pos, ◌==◌, Bool, true, false, if◌then◌else◌, List, [], ◌∷◌, ◌++◌, length, get_or, set, replicate, Option, Some, None, nat_eq, codes, decimal}
+use Rattle.std.specs.Cmp.Lexicographic.{pointwise}
+use Rattle.yaml_scan.specs.declared.yaml_scalar_style_t.{yaml_scalar_style_t}
+use Rattle.yaml_scan.specs.declared.yaml_scalar_style_t.TheVariants.{YAML_ANY_SCALAR_STYLE}
+use Rattle.yaml_parse.specs.declared.yaml_node_pair_t.{yaml_node_pair_t}
+use Rattle.yaml_parse.specs.Nodes as model
+use Rattle.yaml_parse.specs.Documents.{node_at, str_tag, seq_tag, map_tag}
+use Rattle.yaml_parse.specs.Documents as documents
+use Rattle.yaml_emit_layout.specs.Content.{Scalar, Start, Node, alias_node, scalar_node, sequence_node, mapping_node, Nodes, no_nodes, node, Pairs, no_pairs, pair, Opening, Document, Event, document_start, document_end, alias, scalar, sequence_start, sequence_end, mapping_start, mapping_end, is_flow_sequence, is_flow_mapping, node_events}
+use Rattle.yaml_emit_graph.specs.declared.walk.Turn.{Turn}
+use Rattle.yaml_emit_graph.specs.declared.walk.Turn.TheVariants.{First, Again, Leave}
+
+-- ---- the walk: from the root in preorder, a pair's key before its value, descending only where a node is met first
+
+-- the place in the list of nodes of the node under a number
+abbrev pub place_at : ℤ → Option ℕ
+place_at (pos (suc k)) = Some k
+place_at _ = None
+
+-- which nodes were met, by their places; what names no node counts as met
+abbrev pub Met : Type 0
+Met = List Bool
+
+abbrev pub met_at : Met → Option ℕ → Bool
+met_at met None = true
+met_at met (Some k) = get_or met k true
+
+abbrev pub is_met : Met → ℤ → Bool
+is_met met id = met_at met (place_at id)
+
+abbrev pub meet_at : Met → Option ℕ → Met
+meet_at met None = met
+meet_at met (Some k) = set met k true
+
+abbrev pub meet : Met → ℤ → Met
+meet met id = meet_at met (place_at id)
+
+unfoldable pub pair_ids : List yaml_node_pair_t → List ℤ
+pair_ids [] = []
+pair_ids (p ∷ ps) = p.key ∷ p.value ∷ pair_ids ps
+
+-- the nodes that a node holds
+abbrev pub child_ids : model.NodeBody → List ℤ
+child_ids model.no = []
+child_ids (model.scalar value style) = []
+child_ids (model.sequence items style) = items
+child_ids (model.mapping pairs style) = pair_ids pairs
+
+abbrev pub is_collection : model.NodeBody → Bool
+is_collection model.no = false
+is_collection (model.scalar value style) = false
+is_collection (model.sequence items style) = true
+is_collection (model.mapping pairs style) = true
+
+-- the kind and the tag of a node
+abbrev pub body_at : Option model.Node → model.NodeBody
+body_at None = model.no
+body_at (Some n) = n.body
+
+abbrev pub tag_at : Option model.Node → List ℕ
+tag_at None = str_tag
+tag_at (Some n) = n.tag
+
+abbrev pub body_of_id : List model.Node → ℤ → model.NodeBody
+body_of_id nodes id = body_at (node_at nodes id)
+
+abbrev pub tag_of_id : List model.Node → ℤ → List ℕ
+tag_of_id nodes id = tag_at (node_at nodes id)
+
+-- what a walk still meets, by what was met
+abbrev pub Rest : Type 0
+Rest = Met → List Turn
+
+unfoldable pub over : (ℤ → Rest → Rest) → List ℤ → Rest → Rest
+over visit [] rest = rest
+over visit (id ∷ ids) rest = visit id (over visit ids rest)
+
+-- a collection is left behind what it holds
+abbrev pub inside : (ℤ → Rest → Rest) → ℤ → model.NodeBody → Rest → Rest
+inside visit id body rest = if is_collection body then over visit (child_ids body) (λ m. Leave id ∷ rest m) else rest
+
+-- From a node on. The first number bounds the depth: there are no more nodes.
+unfoldable pub visits : ℕ → List model.Node → ℤ → Rest → Rest
+visits zero nodes id rest met = Again id ∷ rest met
+visits (suc n) nodes id rest met = if is_met met id then Again id ∷ rest met else First id ∷ inside (visits n nodes) id (body_of_id nodes id) rest (meet met id)
+
+abbrev pub none_met : List model.Node → Met
+none_met nodes = replicate (length nodes) false
+
+abbrev pub nothing_left : Rest
+nothing_left met = []
+
+unfoldable pub turns : List model.Node → List Turn
+turns nodes = visits (suc (length nodes)) nodes (pos 1) nothing_left (none_met nodes)
+
+-- ---- the numbers of the nodes that are met again: a node's second visit gives it the next one, from 1
+
+-- how many were given, and which node has which; 0 stands for none
+pub record Numbering : Type 0 where
+  pub given : ℕ
+  pub table : List ℕ
+
+abbrev pub next_number : Numbering → ℕ → Numbering
+next_number s k = if get_or s.table k 1 == 0 then record { given = suc s.given; table = set s.table k (suc s.given) } else s
+
+abbrev pub again_at : Option ℕ → Numbering → Numbering
+again_at None s = s
+again_at (Some k) s = next_number s k
+
+abbrev pub numbered_by : Turn → Numbering → Numbering
+numbered_by (First id) s = s
+numbered_by (Again id) s = again_at (place_at id) s
+numbered_by (Leave id) s = s
+
+unfoldable pub numbered : Numbering → List Turn → Numbering
+numbered s [] = s
+numbered s (t ∷ ts) = numbered (numbered_by t s) ts
+
+abbrev pub none_numbered : ℕ → Numbering
+none_numbered count = record { given = 0; table = replicate count 0 }
+
+unfoldable pub numbers : List model.Node → List ℕ
+numbers nodes = (numbered (none_numbered (length nodes)) (turns nodes)).table
+
+abbrev pub number_in : List ℕ → Option ℕ → ℕ
+number_in table None = 0
+number_in table (Some k) = get_or table k 0
+
+abbrev pub number_at : List ℕ → ℤ → ℕ
+number_at table id = number_in table (place_at id)
+
+-- `id` and the number, in three digits or more
+abbrev pub lead : ℕ → List ℕ
+lead size = if size == 1 then codes "id00" else if size == 2 then codes "id0" else codes "id"
+
+unfoldable pub name_of : ℕ → List ℕ
+name_of number = lead (length (decimal number)) ++ decimal number
+
+abbrev pub anchor_of : ℕ → Option (List ℕ)
+anchor_of number = if number == 0 then None else Some (name_of number)
+
+-- ---- nodes and events
+
+abbrev pub is_text : List ℕ → List ℕ → Bool
+is_text a b = pointwise nat_eq a b
+
+-- the tag of a text may be left out
+abbrev pub said_scalar : Option (List ℕ) → List ℕ → List ℕ → yaml_scalar_style_t → Scalar
+said_scalar anchor tag value style = record { anchor = anchor; tag = Some tag; value = value; plain = is_text tag str_tag; quoted = is_text tag str_tag; style = style }
+
+abbrev pub said_start : Option (List ℕ) → List ℕ → List ℕ → Bool → Start
+said_start anchor tag default flow = record { anchor = anchor; tag = Some tag; implicit = is_text tag default; flow = flow }
+
+-- how a node begins; one without a kind is an empty text
+abbrev pub opening_event : Option (List ℕ) → List ℕ → model.NodeBody → Event
+opening_event anchor tag model.no = scalar (said_scalar anchor tag [] YAML_ANY_SCALAR_STYLE)
+opening_event anchor tag (model.scalar value style) = scalar (said_scalar anchor tag value style)
+opening_event anchor tag (model.sequence items style) = sequence_start (said_start anchor tag seq_tag (is_flow_sequence style))
+opening_event anchor tag (model.mapping pairs style) = mapping_start (said_start anchor tag map_tag (is_flow_mapping style))
+
+abbrev pub closing_event : model.NodeBody → Event
+closing_event model.no = mapping_end
+closing_event (model.scalar value style) = mapping_end
+closing_event (model.sequence items style) = sequence_end
+closing_event (model.mapping pairs style) = mapping_end
+
+unfoldable pub turn_event : List ℕ → List model.Node → Turn → Event
+turn_event table nodes (First id) = opening_event (anchor_of (number_at table id)) (tag_of_id nodes id) (body_of_id nodes id)
+turn_event table nodes (Again id) = alias (name_of (number_at table id))
+turn_event table nodes (Leave id) = closing_event (body_of_id nodes id)
+
+-- ---- the content: the first visit of a node gives the node, a later one an alias
+
+unfoldable pub items_by : (ℤ → (Node → Met → Node) → Met → Node) → List ℤ → (Nodes → Met → Node) → Met → Node
+items_by visit [] rest met = rest no_nodes met
+items_by visit (id ∷ ids) rest met = visit id (λ v m. items_by visit ids (λ vs n. rest (node v vs) n) m) met
+
+unfoldable pub pairs_by : (ℤ → (Node → Met → Node) → Met → Node) → List yaml_node_pair_t → (Pairs → Met → Node) → Met → Node
+pairs_by visit [] rest met = rest no_pairs met
+pairs_by visit (p ∷ ps) rest met = visit p.key (λ k m. visit p.value (λ v n. pairs_by visit ps (λ vs o. rest (pair k v vs) o) n) m) met
+
+abbrev pub node_by : (ℤ → (Node → Met → Node) → Met → Node) → Option (List ℕ) → List ℕ → model.NodeBody → (Node → Met → Node) → Met → Node
+node_by visit anchor tag model.no rest = rest (scalar_node (said_scalar anchor tag [] YAML_ANY_SCALAR_STYLE))
+node_by visit anchor tag (model.scalar value style) rest = rest (scalar_node (said_scalar anchor tag value style))
+node_by visit anchor tag (model.sequence items style) rest = items_by visit items (λ vs. rest (sequence_node (said_start anchor tag seq_tag (is_flow_sequence style)) vs))
+node_by visit anchor tag (model.mapping pairs style) rest = pairs_by visit pairs (λ vs. rest (mapping_node (said_start anchor tag map_tag (is_flow_mapping style)) vs))
+
+unfoldable pub content_by : ℕ → List ℕ → List model.Node → ℤ → (Node → Met → Node) → Met → Node
+content_by zero table nodes id rest met = rest (alias_node (name_of (number_at table id))) met
+content_by (suc n) table nodes id rest met =
+    if is_met met id then rest (alias_node (name_of (number_at table id))) met
+    else node_by (content_by n table nodes) (anchor_of (number_at table id)) (tag_of_id nodes id) (body_of_id nodes id) rest (meet met id)
+
+abbrev pub itself : Node → Met → Node
+itself v met = v
+
+unfoldable pub graph_root : List model.Node → Node
+graph_root nodes = content_by (suc (length nodes)) (numbers nodes) nodes (pos 1) itself (none_met nodes)
+
+abbrev pub graph_opening : documents.Document → Opening
+graph_opening d = record { version = d.version; directives = d.directives; implicit = d.start_implicit }
+
+-- what a document with a root says
+abbrev pub graph_content : documents.Document → Document
+graph_content d = record { opening = graph_opening d; root = graph_root d.nodes; implicit_end = d.end_implicit }
+
+abbrev pub document_events : Document → List Event
+document_events d = document_start d.opening ∷ node_events d.root (document_end d.implicit_end ∷ [])
+
+-- the events of a dump
+unfoldable pub dumped : documents.Document → List Event
+dumped d = document_events (graph_content d)

@@ -1,0 +1,4 @@
+pub mod Graph
+pub mod Walk
+pub mod Numbers
+pub mod Events

@@ -1,0 +1,8 @@
+//! The events of a document that the calls built: a walk over its nodes, which of them have an anchor, and which number.
+#![tactic(auto)]
+
+mod graph;
+mod numbers;
+mod walk;
+
+pub use graph::Events;

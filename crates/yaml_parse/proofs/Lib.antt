@@ -4,3 +4,4 @@ pub mod Turning
 pub mod Texts
 pub mod Loading
 pub mod Heights
+pub mod Sentences

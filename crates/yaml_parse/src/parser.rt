@@ -1,6 +1,6 @@
 //! The parser and its calls.
 
-ghost use Rattle.std.specs.Prelude.{◌≡◌, List, Option, None, true, length, IfOk, IfErr, IfSome};
+ghost use Rattle.std.specs.Prelude.{◌≡◌, ◌↔◌, List, Option, Some, None, true, length, IfOk, IfErr, IfSome};
 ghost use Rattle.yaml_scan.specs.Tokens.{Token};
 ghost use Rattle.yaml_scan.specs.Faults.{Fault, fault_of, memory_fault};
 ghost use Rattle.yaml_scan.specs.declared.yaml_origin_t.TheVariants.{Parser};
@@ -11,6 +11,8 @@ ghost use Rattle.yaml_parse_grammar.specs.Resolve.{reading, no_directives};
 ghost use Rattle.yaml_parse_grammar.specs.Machine.{run, initial};
 ghost use Rattle.yaml_parse_grammar.specs.Coming.{reading_of, EventOf, FaultOf, IsFinished};
 ghost use Rattle.yaml_parse_model.specs.Constructors.{HasUtf8};
+ghost use Rattle.yaml_parse_sound.specs.Laws.{BeginsWithSentence};
+ghost use Rattle.yaml_parse.specs.Refusals.{IsRefusal};
 ghost use Rattle.yaml_parse.specs.Steps.{Turns, NextOf, IsUtf8Turn, IsStackTurn};
 ghost use Rattle.yaml_parse_grammar.specs.Stacks.{parts_documents_behind};
 
@@ -99,6 +101,10 @@ pub fn yaml_parser_initialize<S: yaml_token_source_t>(
     // Of every list, sentence or not, what the machine gives is to come.
     ensures machine { IfOk result (λ p. (p.events ≡ (reading_of (run (S.to_come source) initial (S.fault_to_come source)) no_directives).events)
         × (p.ending ≡ (reading_of (run (S.to_come source) initial (S.fault_to_come source)) no_directives).ending)) }
+    // No fault is to come exactly where they begin with the tokens of a tree whose directives and tag handles are in order.
+    ensures sentence { IfOk result (λ p. (p.ending ≡ None) ↔ BeginsWithSentence (S.to_come source)) }
+    // Else the fault stands at the first token that no tree goes on with, or at a directive or a handle, or is the source's.
+    ensures refusal { (e : Fault) → IfOk result (λ p. p.ending ≡ Some e → IsRefusal (S.to_come source) (S.fault_to_come source) e) }
     // No token was asked for yet.
     ensures unasked { IfOk result (λ p. (p.unasked ≡ length (S.to_come source)) × (p.held ≡ 0)) }
     ensures quiet { IfOk result (λ p. (p.answered ≡ no_fault) × (p.between ≡ true)) }

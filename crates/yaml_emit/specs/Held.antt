@@ -1,26 +1,33 @@
 -- The events that are held.
 use Rattle.std.specs.Prelude.{ℕ, Bool, true, false, not, ◌&&◌, ◌||◌, nat_le, List, [], ◌∷◌, length}
-use Rattle.yaml_parse.specs.Events.{body_of}
+use Rattle.yaml_parse.specs.Events.{EventBody, body_of}
 use Rattle.yaml_parse.specs.Constructors.{HasUtf8}
 use Rattle.yaml_emit_layout.specs.Content.{Event, no_event, stream_start, stream_end, document_start, document_end, alias, scalar, sequence_start, sequence_end, mapping_start, mapping_end, said}
 use Rattle.yaml_emit.specs.declared.held.Held.{Held}
-use Rattle.yaml_emit.specs.declared.held.Held.TheVariants.{Nothing, One, Two, Three, Four}
+use Rattle.yaml_emit.specs.declared.held.Count.{Count}
+use Rattle.yaml_emit.specs.declared.held.Count.TheVariants.{Nothing, One, Two, Three, Four}
+
+abbrev events_by : Count → Event → Event → Event → Event → List Event
+events_by Nothing a b c d = []
+events_by One a b c d = a ∷ []
+events_by Two a b c d = a ∷ b ∷ []
+events_by Three a b c d = a ∷ b ∷ c ∷ []
+events_by Four a b c d = a ∷ b ∷ c ∷ d ∷ []
 
 -- the oldest first
 abbrev pub held_events : Held → List Event
-held_events Nothing = []
-held_events (One a) = said (body_of a) ∷ []
-held_events (Two a b) = said (body_of a) ∷ said (body_of b) ∷ []
-held_events (Three a b c) = said (body_of a) ∷ said (body_of b) ∷ said (body_of c) ∷ []
-held_events (Four a b c d) = said (body_of a) ∷ said (body_of b) ∷ said (body_of c) ∷ said (body_of d) ∷ []
+held_events h = events_by h.count (said (body_of h.first)) (said (body_of h.second)) (said (body_of h.third)) (said (body_of h.fourth))
+
+abbrev Utf8By : Count → EventBody → EventBody → EventBody → EventBody → Type 0
+Utf8By Nothing a b c d = Unit {0}
+Utf8By One a b c d = HasUtf8 a
+Utf8By Two a b c d = HasUtf8 a × HasUtf8 b
+Utf8By Three a b c d = HasUtf8 a × HasUtf8 b × HasUtf8 c
+Utf8By Four a b c d = HasUtf8 a × HasUtf8 b × HasUtf8 c × HasUtf8 d
 
 -- their texts are UTF-8
 abbrev pub HeldUtf8 : Held → Type 0
-HeldUtf8 Nothing = Unit {0}
-HeldUtf8 (One a) = HasUtf8 (body_of a)
-HeldUtf8 (Two a b) = HasUtf8 (body_of a) × HasUtf8 (body_of b)
-HeldUtf8 (Three a b c) = HasUtf8 (body_of a) × HasUtf8 (body_of b) × HasUtf8 (body_of c)
-HeldUtf8 (Four a b c d) = HasUtf8 (body_of a) × HasUtf8 (body_of b) × HasUtf8 (body_of c) × HasUtf8 (body_of d)
+HeldUtf8 h = Utf8By h.count (body_of h.first) (body_of h.second) (body_of h.third) (body_of h.fourth)
 
 -- it opens a level
 abbrev pub opens_level : Event → Bool

@@ -74,7 +74,7 @@ pub fn yaml_emitter_initialize(alloc: Global, limit: u64) -> Result<yaml_emitter
             settled(wishes, yaml_encoding_t::YAML_ANY_ENCODING),
             limit,
         ),
-        held: Held::Nothing,
+        held: Held::nothing(),
         fresh: true,
         opened: false,
         closed: false,
@@ -193,12 +193,12 @@ impl yaml_emitter_t {
     }
 
     // An event is given behind those that are held.
-    fn lay(&mut self, event: yaml_event_body_t)
-        requires utf8 { HasUtf8 (body_of event) }
+    fn lay(&mut self, event: &mut yaml_event_body_t)
+        requires utf8 { HasUtf8 (body_of event.old) }
         requires right { self.old.fault ≡ None }
         requires begun { self.old.fresh ≡ false }
-        ensures given { Given self.old (said (body_of event)) self.new }
-        ensures judged { Judged self.old (said (body_of event)) self.new }
+        ensures given { Given self.old (said (body_of event.old)) self.new }
+        ensures judged { Judged self.old (said (body_of event.old)) self.new }
         ensures opened { (self.new.opened ≡ self.old.opened) × (self.new.closed ≡ self.old.closed) }
     {
         give(&mut self.core, &mut self.held, event);
@@ -207,15 +207,15 @@ impl yaml_emitter_t {
 
     // An emitter without a fault takes an event.
     #[tactic(auto, using(crate::proofs::Verdicts::first_judged))]
-    fn take(&mut self, event: yaml_event_body_t)
-        requires utf8 { HasUtf8 (body_of event) }
+    fn take(&mut self, event: &mut yaml_event_body_t)
+        requires utf8 { HasUtf8 (body_of event.old) }
         requires right { self.old.fault ≡ None }
-        ensures given { Given self.old (said (body_of event)) self.new }
-        ensures judged { Judged self.old (said (body_of event)) self.new }
+        ensures given { Given self.old (said (body_of event.old)) self.new }
+        ensures judged { Judged self.old (said (body_of event.old)) self.new }
         ensures opened { (self.new.opened ≡ self.old.opened) × (self.new.closed ≡ self.old.closed) }
     {
         if self.fresh {
-            self.begin(&event);
+            self.begin(event);
             self.lay(event);
         } else {
             self.lay(event);
@@ -232,10 +232,11 @@ impl yaml_emitter_t {
         }
     }
 
-    fn emit(&mut self, event: yaml_event_body_t) -> Result<(), yaml_fault_t>
-        requires { HasUtf8 (body_of event) }
-        ensures given { Given self.old (said (body_of event)) self.new }
-        ensures judged { Judged self.old (said (body_of event)) self.new }
+    // What is left of the event counts for nothing.
+    fn emit_from(&mut self, event: &mut yaml_event_body_t) -> Result<(), yaml_fault_t>
+        requires { HasUtf8 (body_of event.old) }
+        ensures given { Given self.old (said (body_of event.old)) self.new }
+        ensures judged { Judged self.old (said (body_of event.old)) self.new }
         ensures answer { Answers self.new.fault result }
         ensures tells { Tells self.new }
         ensures stays { Stays self.old self.new }
@@ -248,6 +249,21 @@ impl yaml_emitter_t {
                 self.answer()
             }
         }
+    }
+
+    fn emit(&mut self, event: yaml_event_body_t) -> Result<(), yaml_fault_t>
+        requires { HasUtf8 (body_of event) }
+        ensures given { Given self.old (said (body_of event)) self.new }
+        ensures judged { Judged self.old (said (body_of event)) self.new }
+        ensures answer { Answers self.new.fault result }
+        ensures tells { Tells self.new }
+        ensures stays { Stays self.old self.new }
+        ensures opened { (self.new.opened ≡ self.old.opened) × (self.new.closed ≡ self.old.closed) }
+    {
+        let mut event = event;
+        let answer = self.emit_from(&mut event);
+        drop(event);
+        answer
     }
 }
 
@@ -266,7 +282,10 @@ pub fn yaml_emitter_emit(
     ensures stays { Stays emitter.old emitter.new }
     ensures opened { (emitter.new.opened ≡ emitter.old.opened) × (emitter.new.closed ≡ emitter.old.closed) }
 {
-    emitter.emit(event.body)
+    let mut event = event;
+    let answer = emitter.emit_from(&mut event.body);
+    drop(event);
+    answer
 }
 
 /// What was laid out is in the output. The first fault, if there is one, is answered.

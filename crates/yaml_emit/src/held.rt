@@ -9,18 +9,42 @@ ghost use Rattle.yaml_emit_layout.specs.State.{opens_empty, closes_by};
 use std::mem;
 use yaml_parse::yaml_event_body_t;
 
-/// Places for events, the oldest first. Four are held only while one is given.
-#[derive(Drop)]
-pub enum Held {
+/// How many events are held.
+#[derive(Clone, Copy, PartialEq, Eq, Debug)]
+pub enum Count {
     Nothing,
-    One(yaml_event_body_t),
-    Two(yaml_event_body_t, yaml_event_body_t),
-    Three(yaml_event_body_t, yaml_event_body_t, yaml_event_body_t),
-    Four(yaml_event_body_t, yaml_event_body_t, yaml_event_body_t, yaml_event_body_t),
+    One,
+    Two,
+    Three,
+    Four,
+}
+
+/// Places for events, the oldest first; what stands in the places behind doesn't count. Four are held only while one is given.
+#[derive(Drop)]
+pub struct Held {
+    count: Count,
+    first: yaml_event_body_t,
+    second: yaml_event_body_t,
+    third: yaml_event_body_t,
+    fourth: yaml_event_body_t,
 }
 
 impl Held {
     ghost use Rattle.yaml_emit.specs.Held.{held_events, HeldUtf8, is_ready, closes, has_enough, needs, passes, opens_level, ends_level};
+
+    /// No event.
+    pub fn nothing() -> Held
+        ensures events { held_events result ≡ [] }
+        ensures utf8 { HeldUtf8 result }
+    {
+        Held {
+            count: Count::Nothing,
+            first: yaml_event_body_t::No,
+            second: yaml_event_body_t::No,
+            third: yaml_event_body_t::No,
+            fourth: yaml_event_body_t::No,
+        }
+    }
 
     fn opens_level(event: &yaml_event_body_t) -> bool
         ensures { result ≡ opens_level (said (body_of event.now)) }
@@ -93,8 +117,8 @@ impl Held {
     pub fn passes(&self, event: &yaml_event_body_t) -> bool
         ensures { result ≡ passes (held_events self.now) (said (body_of event.now)) }
     {
-        match self {
-            Held::Nothing => Held::needs(event) == 0,
+        match self.count {
+            Count::Nothing => Held::needs(event) == 0,
             _ => false,
         }
     }
@@ -106,12 +130,24 @@ impl Held {
         ensures events { held_events self.new ≡ held_events self.old ++ said (body_of event) ∷ [] }
         ensures utf8 { HeldUtf8 self.new }
     {
-        match mem::replace(self, Held::Nothing) {
-            Held::Nothing => *self = Held::One(event),
-            Held::One(first) => *self = Held::Two(first, event),
-            Held::Two(first, second) => *self = Held::Three(first, second, event),
-            Held::Three(first, second, third) => *self = Held::Four(first, second, third, event),
-            Held::Four(_, _, _, _) => unreachable!(),
+        match self.count {
+            Count::Nothing => {
+                self.first = event;
+                self.count = Count::One;
+            }
+            Count::One => {
+                self.second = event;
+                self.count = Count::Two;
+            }
+            Count::Two => {
+                self.third = event;
+                self.count = Count::Three;
+            }
+            Count::Three => {
+                self.fourth = event;
+                self.count = Count::Four;
+            }
+            Count::Four => unreachable!(),
         }
     }
 
@@ -120,13 +156,13 @@ impl Held {
     pub fn is_ready(&self) -> bool
         ensures { result ≡ is_ready (held_events self.now) }
     {
-        match self {
-            Held::Nothing => false,
-            Held::One(first) => Held::needs(first) == 0,
-            Held::Two(first, second) => Held::needs(first) <= 1 || Held::closes_one(second),
-            Held::Three(first, second, third) => Held::needs(first) <= 2
-                || Held::closes_two(second, third),
-            Held::Four(_, _, _, _) => true,
+        match self.count {
+            Count::Nothing => false,
+            Count::One => Held::needs(&self.first) == 0,
+            Count::Two => Held::needs(&self.first) <= 1 || Held::closes_one(&self.second),
+            Count::Three => Held::needs(&self.first) <= 2
+                || Held::closes_two(&self.second, &self.third),
+            Count::Four => true,
         }
     }
 
@@ -138,20 +174,29 @@ impl Held {
         ensures events { held_events self.old ≡ said (body_of result) ∷ held_events self.new }
         ensures utf8 { HasUtf8 (body_of result) × HeldUtf8 self.new }
     {
-        match mem::replace(self, Held::Nothing) {
-            Held::Nothing => unreachable!(),
-            Held::One(first) => first,
-            Held::Two(first, second) => {
-                *self = Held::One(second);
-                first
+        match self.count {
+            Count::Nothing => unreachable!(),
+            Count::One => {
+                self.count = Count::Nothing;
+                mem::replace(&mut self.first, yaml_event_body_t::No)
             }
-            Held::Three(first, second, third) => {
-                *self = Held::Two(second, third);
-                first
+            Count::Two => {
+                self.count = Count::One;
+                let second = mem::replace(&mut self.second, yaml_event_body_t::No);
+                mem::replace(&mut self.first, second)
             }
-            Held::Four(first, second, third, fourth) => {
-                *self = Held::Three(second, third, fourth);
-                first
+            Count::Three => {
+                self.count = Count::Two;
+                let third = mem::replace(&mut self.third, yaml_event_body_t::No);
+                let second = mem::replace(&mut self.second, third);
+                mem::replace(&mut self.first, second)
+            }
+            Count::Four => {
+                self.count = Count::Three;
+                let fourth = mem::replace(&mut self.fourth, yaml_event_body_t::No);
+                let third = mem::replace(&mut self.third, fourth);
+                let second = mem::replace(&mut self.second, third);
+                mem::replace(&mut self.first, second)
             }
         }
     }
@@ -161,12 +206,9 @@ impl Held {
     pub fn opens_empty(&self, first: &yaml_event_body_t) -> bool
         ensures { result ≡ opens_empty (said (body_of first.now)) (held_events self.now) }
     {
-        match self {
-            Held::Nothing => false,
-            Held::One(second) => Held::closes_by(first, second),
-            Held::Two(second, _) => Held::closes_by(first, second),
-            Held::Three(second, _, _) => Held::closes_by(first, second),
-            Held::Four(second, _, _, _) => Held::closes_by(first, second),
+        match self.count {
+            Count::Nothing => false,
+            _ => Held::closes_by(first, &self.first),
         }
     }
 }

@@ -10,6 +10,7 @@ ghost use Rattle.yaml_emit.specs.Held.{held_events, HeldUtf8, is_ready, passes};
 ghost use Rattle.yaml_emit.specs.Judged.{Judges};
 
 use crate::held::Held;
+use std::mem;
 use yaml_emit_state::Core;
 use yaml_parse::yaml_event_body_t;
 
@@ -36,25 +37,26 @@ fn release(core: &mut Core, held: &mut Held)
     ensures waits { goes_on core.new.sink.status core.new.place ≡ true → is_ready (held_events held.new) ≡ false }
 {
     while is_due(core, held) {
-        let front = held.pop();
+        let mut front = held.pop();
         let empty = held.opens_empty(&front);
-        core.lay_out(front, empty);
+        core.lay_out(&mut front, empty);
+        drop(front);
     }
 }
 
 // An event is given behind the held ones.
-pub(crate) fn give(core: &mut Core, held: &mut Held, event: yaml_event_body_t)
+pub(crate) fn give(core: &mut Core, held: &mut Held, event: &mut yaml_event_body_t)
     requires few { is_ready (held_events held.old) ≡ false }
-    requires utf8 { HeldUtf8 held.old × HasUtf8 (body_of event) }
-    ensures leads { Leads core.old (held_events held.old ++ said (body_of event) ∷ []) core.new (held_events held.new) }
-    ensures judges { Judges core.old (held_events held.old ++ said (body_of event) ∷ []) core.new (held_events held.new) }
+    requires utf8 { HeldUtf8 held.old × HasUtf8 (body_of event.old) }
+    ensures leads { Leads core.old (held_events held.old ++ said (body_of event.old) ∷ []) core.new (held_events held.new) }
+    ensures judges { Judges core.old (held_events held.old ++ said (body_of event.old) ∷ []) core.new (held_events held.new) }
     ensures utf8 { HeldUtf8 held.new }
     ensures waits { goes_on core.new.sink.status core.new.place ≡ true → is_ready (held_events held.new) ≡ false }
 {
-    if passes(core, held, &event) {
+    if passes(core, held, event) {
         core.lay_out(event, false);
     } else {
-        held.push(event);
+        held.push(mem::replace(event, yaml_event_body_t::No));
         release(core, held);
     }
 }

@@ -27,8 +27,8 @@ fn put_comma(sink: &mut Sink, fresh: bool)
 
 // In flow a line comes past the width alone; in canonical form always.
 #[tactic(auto, unfolding(yaml_emit_layout::specs::Nodes::turned))]
-fn put_turn(sink: &mut Sink, settings: Settings, indent: u64)
-    ensures { Puts sink.old sink.new (turned settings indent) }
+fn put_turn(sink: &mut Sink, settings: &Settings, indent: u64)
+    ensures { Puts sink.old sink.new (turned settings.now indent) }
 {
     if settings.canonical {
         sink.put_line(settings.line_break, indent);
@@ -38,8 +38,8 @@ fn put_turn(sink: &mut Sink, settings: Settings, indent: u64)
 }
 
 #[tactic(auto, unfolding(yaml_emit_layout::specs::Nodes::before_item))]
-fn put_before_item(sink: &mut Sink, settings: Settings, flow: bool, indent: u64, fresh: bool)
-    ensures { Puts sink.old sink.new (before_item settings flow indent fresh) }
+fn put_before_item(sink: &mut Sink, settings: &Settings, flow: bool, indent: u64, fresh: bool)
+    ensures { Puts sink.old sink.new (before_item settings.now flow indent fresh) }
 {
     if flow {
         put_comma(sink, fresh);
@@ -71,13 +71,13 @@ fn put_question_unless(sink: &mut Sink, flow: bool, simple: bool)
 #[tactic(auto, unfolding(yaml_emit_layout::specs::Nodes::before_key))]
 fn put_before_key(
     sink: &mut Sink,
-    settings: Settings,
+    settings: &Settings,
     flow: bool,
     indent: u64,
     fresh: bool,
     simple: bool,
 )
-    ensures { Puts sink.old sink.new (before_key settings flow indent fresh simple) }
+    ensures { Puts sink.old sink.new (before_key settings.now flow indent fresh simple) }
 {
     if flow {
         put_comma(sink, fresh);
@@ -89,8 +89,8 @@ fn put_before_key(
 }
 
 #[tactic(auto, unfolding(yaml_emit_layout::specs::Nodes::before_value))]
-fn put_before_value(sink: &mut Sink, settings: Settings, flow: bool, indent: u64, simple: bool)
-    ensures { Puts sink.old sink.new (before_value settings flow indent simple) }
+fn put_before_value(sink: &mut Sink, settings: &Settings, flow: bool, indent: u64, simple: bool)
+    ensures { Puts sink.old sink.new (before_value settings.now flow indent simple) }
 {
     if simple {
         sink.put(':');
@@ -103,8 +103,8 @@ fn put_before_value(sink: &mut Sink, settings: Settings, flow: bool, indent: u64
     }
 }
 
-fn put_before_in(sink: &mut Sink, settings: Settings, level: Level, simple: bool)
-    ensures { Puts sink.old sink.new (before_at settings level.phase level.flow level.indent simple) }
+fn put_before_in(sink: &mut Sink, settings: &Settings, level: Level, simple: bool)
+    ensures { Puts sink.old sink.new (before_at settings.now level.phase level.flow level.indent simple) }
 {
     match level.phase {
         Phase::Items(fresh) => put_before_item(sink, settings, level.flow, level.indent, fresh),
@@ -127,8 +127,8 @@ fn put_before_in(sink: &mut Sink, settings: Settings, level: Level, simple: bool
 }
 
 /// What comes before a node in the innermost collection, by whether the node is a simple key.
-pub fn put_before(sink: &mut Sink, settings: Settings, top: Option<Level>, simple: bool)
-    ensures { Puts sink.old sink.new (before_node settings top simple) }
+pub fn put_before(sink: &mut Sink, settings: &Settings, top: Option<Level>, simple: bool)
+    ensures { Puts sink.old sink.new (before_node settings.now top simple) }
 {
     match top {
         None => (),
@@ -136,15 +136,15 @@ pub fn put_before(sink: &mut Sink, settings: Settings, top: Option<Level>, simpl
     }
 }
 
-fn put_last_line(sink: &mut Sink, settings: Settings, indent: u64)
-    ensures { Puts sink.old sink.new (char 44 ▹ line_at settings indent) }
+fn put_last_line(sink: &mut Sink, settings: &Settings, indent: u64)
+    ensures { Puts sink.old sink.new (char 44 ▹ line_at settings.now indent) }
 {
     sink.put(',');
     sink.put_line(settings.line_break, indent);
 }
 
-fn put_last_line_if(sink: &mut Sink, due: bool, settings: Settings, indent: u64)
-    ensures { Puts sink.old sink.new (when due (char 44 ▹ line_at settings indent)) }
+fn put_last_line_if(sink: &mut Sink, due: bool, settings: &Settings, indent: u64)
+    ensures { Puts sink.old sink.new (when due (char 44 ▹ line_at settings.now indent)) }
 {
     if due {
         put_last_line(sink, settings, indent);
@@ -152,8 +152,8 @@ fn put_last_line_if(sink: &mut Sink, due: bool, settings: Settings, indent: u64)
 }
 
 #[tactic(auto, unfolding(yaml_emit_layout::specs::Nodes::closer))]
-fn put_closer(sink: &mut Sink, settings: Settings, flow: bool, indent: u64, fresh: bool, c: char)
-    ensures { Puts sink.old sink.new (closer settings flow indent fresh c) }
+fn put_closer(sink: &mut Sink, settings: &Settings, flow: bool, indent: u64, fresh: bool, c: char)
+    ensures { Puts sink.old sink.new (closer settings.now flow indent fresh c) }
 {
     if flow {
         put_last_line_if(
@@ -177,8 +177,8 @@ fn is_fresh(phase: Phase) -> bool
 }
 
 /// What ends the innermost collection.
-pub fn put_closer_at(sink: &mut Sink, settings: Settings, top: Option<Level>, c: char)
-    ensures { Puts sink.old sink.new (closer_at settings top c) }
+pub fn put_closer_at(sink: &mut Sink, settings: &Settings, top: Option<Level>, c: char)
+    ensures { Puts sink.old sink.new (closer_at settings.now top c) }
 {
     match top {
         None => (),

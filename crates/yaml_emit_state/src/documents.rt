@@ -10,15 +10,15 @@ use yaml_emit_layout::Place;
 use yaml_emit_text::{Settings, Sink, put_prefix};
 use yaml_scan::{yaml_tag_directive_t, yaml_version_directive_t};
 
-fn put_dots(sink: &mut Sink, settings: Settings)
-    ensures { Puts sink.old sink.new (dots settings) }
+fn put_dots(sink: &mut Sink, settings: &Settings)
+    ensures { Puts sink.old sink.new (dots settings.now) }
 {
     sink.put_word(b"...");
     sink.put_line(settings.line_break, 0);
 }
 
-fn put_dots_if(sink: &mut Sink, due: bool, settings: Settings)
-    ensures { Puts sink.old sink.new (when due (dots settings)) }
+fn put_dots_if(sink: &mut Sink, due: bool, settings: &Settings)
+    ensures { Puts sink.old sink.new (when due (dots settings.now)) }
 {
     if due {
         put_dots(sink, settings);
@@ -27,8 +27,8 @@ fn put_dots_if(sink: &mut Sink, due: bool, settings: Settings)
 
 /// What ends a document.
 #[tactic(auto, unfolding(yaml_emit_layout::specs::Nodes::end_layout))]
-pub fn put_end(sink: &mut Sink, settings: Settings, implicit: bool)
-    ensures { Puts sink.old sink.new (end_layout settings implicit) }
+pub fn put_end(sink: &mut Sink, settings: &Settings, implicit: bool)
+    ensures { Puts sink.old sink.new (end_layout settings.now implicit) }
 {
     sink.put_line(settings.line_break, 0);
     put_dots_if(sink, !implicit, settings);
@@ -44,8 +44,8 @@ fn put_version_word(sink: &mut Sink, version: yaml_version_directive_t)
     }
 }
 
-fn put_version(sink: &mut Sink, settings: Settings, version: Option<yaml_version_directive_t>)
-    ensures { Puts sink.old sink.new (version_text settings version) }
+fn put_version(sink: &mut Sink, settings: &Settings, version: Option<yaml_version_directive_t>)
+    ensures { Puts sink.old sink.new (version_text settings.now version) }
 {
     match version {
         None => (),
@@ -57,8 +57,8 @@ fn put_version(sink: &mut Sink, settings: Settings, version: Option<yaml_version
     }
 }
 
-fn put_directive(sink: &mut Sink, settings: Settings, directive: &yaml_tag_directive_t)
-    ensures { Puts sink.old sink.new (directive_text settings (directive_of directive.now)) }
+fn put_directive(sink: &mut Sink, settings: &Settings, directive: &yaml_tag_directive_t)
+    ensures { Puts sink.old sink.new (directive_text settings.now (directive_of directive.now)) }
 {
     sink.put_word(b"%TAG");
     sink.put_word(&directive.handle);
@@ -66,32 +66,32 @@ fn put_directive(sink: &mut Sink, settings: Settings, directive: &yaml_tag_direc
     sink.put_line(settings.line_break, 0);
 }
 
-fn put_directives(sink: &mut Sink, settings: Settings, directives: &[yaml_tag_directive_t])
-    ensures { Puts sink.old sink.new (directives_text settings (map directive_of directives.now)) }
+fn put_directives(sink: &mut Sink, settings: &Settings, directives: &[yaml_tag_directive_t])
+    ensures { Puts sink.old sink.new (directives_text settings.now (map directive_of directives.now)) }
 {
     for directive in directives {
         put_directive(sink, settings, directive);
     }
 }
 
-fn put_dashes(sink: &mut Sink, settings: Settings)
-    ensures { Puts sink.old sink.new (dashes settings) }
+fn put_dashes(sink: &mut Sink, settings: &Settings)
+    ensures { Puts sink.old sink.new (dashes settings.now) }
 {
     sink.put_line(settings.line_break, 0);
     sink.put_word(b"---");
     put_line_if(sink, settings.canonical, settings);
 }
 
-fn put_line_if(sink: &mut Sink, due: bool, settings: Settings)
-    ensures { Puts sink.old sink.new (when due (line_at settings 0)) }
+fn put_line_if(sink: &mut Sink, due: bool, settings: &Settings)
+    ensures { Puts sink.old sink.new (when due (line_at settings.now 0)) }
 {
     if due {
         sink.put_line(settings.line_break, 0);
     }
 }
 
-fn put_dashes_if(sink: &mut Sink, due: bool, settings: Settings)
-    ensures { Puts sink.old sink.new (when due (dashes settings)) }
+fn put_dashes_if(sink: &mut Sink, due: bool, settings: &Settings)
+    ensures { Puts sink.old sink.new (when due (dashes settings.now)) }
 {
     if due {
         put_dashes(sink, settings);
@@ -113,12 +113,12 @@ fn is_directed(
 // The directives, and `---` where it is due.
 fn put_opening(
     sink: &mut Sink,
-    settings: Settings,
+    settings: &Settings,
     marked: bool,
     version: Option<yaml_version_directive_t>,
     directives: &[yaml_tag_directive_t],
 )
-    ensures { Puts sink.old sink.new (keep false ▹ version_text settings version ▹ directives_text settings (map directive_of directives.now) ▹ when marked (dashes settings)) }
+    ensures { Puts sink.old sink.new (keep false ▹ version_text settings.now version ▹ directives_text settings.now (map directive_of directives.now) ▹ when marked (dashes settings.now)) }
 {
     sink.set_kept(false);
     put_version(sink, settings, version);
@@ -139,27 +139,27 @@ fn is_parted(
 
 // Whether `---` is due.
 fn is_marked(
-    settings: Settings,
+    settings: &Settings,
     first: bool,
     version: Option<yaml_version_directive_t>,
     directives: &[yaml_tag_directive_t],
     implicit: bool,
 ) -> bool
-    ensures { result ≡ (settings.canonical || not (first && (implicit && not (has_version version || has_directives (map directive_of directives.now))))) }
+    ensures { result ≡ (settings.now.canonical || not (first && (implicit && not (has_version version || has_directives (map directive_of directives.now))))) }
 {
     settings.canonical || !(first && (implicit && !is_directed(version, directives)))
 }
 
 fn put_start(
     sink: &mut Sink,
-    settings: Settings,
+    settings: &Settings,
     first: bool,
     unended: bool,
     version: Option<yaml_version_directive_t>,
     directives: &[yaml_tag_directive_t],
     implicit: bool,
 )
-    ensures { Puts sink.old sink.new (start_layout settings first unended (record { version = version; directives = map directive_of directives.now; implicit = implicit })) }
+    ensures { Puts sink.old sink.new (start_layout settings.now first unended (record { version = version; directives = map directive_of directives.now; implicit = implicit })) }
 {
     let marked = is_marked(settings, first, version, directives, implicit);
     put_dots_if(sink, is_parted(unended, version, directives), settings);
@@ -169,13 +169,13 @@ fn put_start(
 /// What opens a document, where one may come.
 pub fn put_start_at(
     sink: &mut Sink,
-    settings: Settings,
+    settings: &Settings,
     place: Place,
     version: Option<yaml_version_directive_t>,
     directives: &[yaml_tag_directive_t],
     implicit: bool,
 )
-    ensures { Puts sink.old sink.new (start_at settings place (record { version = version; directives = map directive_of directives.now; implicit = implicit })) }
+    ensures { Puts sink.old sink.new (start_at settings.now place (record { version = version; directives = map directive_of directives.now; implicit = implicit })) }
 {
     match place {
         Place::Documents(first, unended) => put_start(
@@ -185,8 +185,8 @@ pub fn put_start_at(
     }
 }
 
-fn put_kept_dots(sink: &mut Sink, settings: Settings)
-    ensures { Puts sink.old sink.new (choose is_kept (dots settings) stay) }
+fn put_kept_dots(sink: &mut Sink, settings: &Settings)
+    ensures { Puts sink.old sink.new (choose is_kept (dots settings.now) stay) }
 {
     if sink.cursor().kept {
         put_dots(sink, settings);
@@ -194,8 +194,8 @@ fn put_kept_dots(sink: &mut Sink, settings: Settings)
 }
 
 #[tactic(auto, unfolding(yaml_emit_layout::specs::Nodes::stop_layout))]
-fn put_stop(sink: &mut Sink, settings: Settings, unended: bool)
-    ensures { Puts sink.old sink.new (stop_layout settings unended) }
+fn put_stop(sink: &mut Sink, settings: &Settings, unended: bool)
+    ensures { Puts sink.old sink.new (stop_layout settings.now unended) }
 {
     if unended {
         put_kept_dots(sink, settings);
@@ -203,8 +203,8 @@ fn put_stop(sink: &mut Sink, settings: Settings, unended: bool)
 }
 
 /// What ends the stream.
-pub fn put_stop_at(sink: &mut Sink, settings: Settings, place: Place)
-    ensures { Puts sink.old sink.new (stop_at settings place) }
+pub fn put_stop_at(sink: &mut Sink, settings: &Settings, place: Place)
+    ensures { Puts sink.old sink.new (stop_at settings.now place) }
 {
     match place {
         Place::Documents(_, unended) => put_stop(sink, settings, unended),

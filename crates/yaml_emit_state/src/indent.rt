@@ -69,8 +69,8 @@ fn sum(n: u64, indent: u64) -> Option<u64>
 }
 
 /// One indent deeper, or none past 2,147,483,647 columns.
-pub fn deeper(settings: Settings, around: Option<u64>) -> Option<u64>
-    ensures { result ≡ within (deeper settings around) }
+pub fn deeper(settings: &Settings, around: Option<u64>) -> Option<u64>
+    ensures { result ≡ within (deeper settings.now around) }
 {
     match around {
         None => sum(0, settings.indent),
@@ -78,8 +78,8 @@ pub fn deeper(settings: Settings, around: Option<u64>) -> Option<u64>
     }
 }
 
-fn block_indent(settings: Settings, around: Option<u64>, keeps: bool) -> Option<u64>
-    ensures { result ≡ within (block_indent_in settings around keeps) }
+fn block_indent(settings: &Settings, around: Option<u64>, keeps: bool) -> Option<u64>
+    ensures { result ≡ within (block_indent_in settings.now around keeps) }
 {
     match around {
         None => Some(0),
@@ -95,13 +95,13 @@ fn block_indent(settings: Settings, around: Option<u64>, keeps: bool) -> Option<
 
 /// The indentation of a collection at the cursor behind its properties, or none past 2,147,483,647 columns.
 pub fn indent_of(
-    settings: Settings,
+    settings: &Settings,
     spot: Spot,
     sequence: bool,
     flow: bool,
     cursor: Cursor,
 ) -> Option<u64>
-    ensures { result ≡ within (indent_of settings spot sequence flow cursor) }
+    ensures { result ≡ within (indent_of settings.now spot sequence flow cursor) }
 {
     if flow {
         deeper(settings, spot.around)
@@ -115,8 +115,8 @@ pub fn indent_of(
 }
 
 /// Whether a collection is flow.
-pub fn is_flow(settings: Settings, spot: Spot, flow: bool, empty: bool) -> bool
-    ensures { result ≡ (settings.canonical || (spot.flow || (flow || empty))) }
+pub fn is_flow(settings: &Settings, spot: Spot, flow: bool, empty: bool) -> bool
+    ensures { result ≡ (settings.now.canonical || (spot.flow || (flow || empty))) }
 {
     settings.canonical || spot.flow || flow || empty
 }

@@ -30,8 +30,8 @@ fn text_size(text: &Option<Vec<u8>>) -> usize
     }
 }
 
-fn given_size(settings: Settings, directives: &DirectiveTable, tag: &Option<Vec<u8>>) -> usize
-    ensures { result ≡ written_size (context_of settings directives.now) (text_of tag.now) }
+fn given_size(settings: &Settings, directives: &DirectiveTable, tag: &Option<Vec<u8>>) -> usize
+    ensures { result ≡ written_size (context_of settings.now directives.now) (text_of tag.now) }
 {
     match tag {
         None => 0,
@@ -41,12 +41,12 @@ fn given_size(settings: Settings, directives: &DirectiveTable, tag: &Option<Vec<
 
 // Bytes of a tag that is written in pretty form.
 fn written_size(
-    settings: Settings,
+    settings: &Settings,
     directives: &DirectiveTable,
     left_out: bool,
     tag: &Option<Vec<u8>>,
 ) -> usize
-    ensures { result ≡ written_size (context_of settings directives.now) (kept_tag false left_out (text_of tag.now)) }
+    ensures { result ≡ written_size (context_of settings.now directives.now) (kept_tag false left_out (text_of tag.now)) }
 {
     if left_out {
         0
@@ -63,8 +63,8 @@ fn are_short(a: usize, b: usize, c: usize) -> bool
 }
 
 #[tactic(auto, unfolding(yaml_emit_layout::specs::Nodes::is_simple_alias))]
-fn is_simple_alias(settings: Settings, directives: &DirectiveTable, name: &[u8]) -> bool
-    ensures { result ≡ is_simple_alias (context_of settings directives.now) name.now }
+fn is_simple_alias(settings: &Settings, directives: &DirectiveTable, name: &[u8]) -> bool
+    ensures { result ≡ is_simple_alias (context_of settings.now directives.now) name.now }
 {
     let _ = directives;
     !settings.canonical && name.len() <= 128
@@ -72,7 +72,7 @@ fn is_simple_alias(settings: Settings, directives: &DirectiveTable, name: &[u8])
 
 #[tactic(auto, unfolding(yaml_emit_layout::specs::Nodes::is_simple_scalar))]
 fn is_simple_scalar(
-    settings: Settings,
+    settings: &Settings,
     directives: &DirectiveTable,
     anchor: &Option<Vec<u8>>,
     tag: &Option<Vec<u8>>,
@@ -81,7 +81,7 @@ fn is_simple_scalar(
     quoted: bool,
     style: yaml_scalar_style_t,
 ) -> bool
-    ensures { result ≡ is_simple_scalar (context_of settings directives.now) (record { anchor = text_of anchor.now; tag = text_of tag.now; value = value.now; plain = plain; quoted = quoted; style = style }) }
+    ensures { result ≡ is_simple_scalar (context_of settings.now directives.now) (record { anchor = text_of anchor.now; tag = text_of tag.now; value = value.now; plain = plain; quoted = quoted; style = style }) }
 {
     let _ = style;
     !settings.canonical
@@ -95,7 +95,7 @@ fn is_simple_scalar(
 
 #[tactic(auto, unfolding(yaml_emit_layout::specs::Nodes::is_simple_start))]
 fn is_simple_start(
-    settings: Settings,
+    settings: &Settings,
     directives: &DirectiveTable,
     anchor: &Option<Vec<u8>>,
     tag: &Option<Vec<u8>>,
@@ -103,7 +103,7 @@ fn is_simple_start(
     flow: bool,
     empty: bool,
 ) -> bool
-    ensures { result ≡ is_simple_start (context_of settings directives.now) (record { anchor = text_of anchor.now; tag = text_of tag.now; implicit = implicit; flow = flow }) empty }
+    ensures { result ≡ is_simple_start (context_of settings.now directives.now) (record { anchor = text_of anchor.now; tag = text_of tag.now; implicit = implicit; flow = flow }) empty }
 {
     let _ = flow;
     !settings.canonical
@@ -119,12 +119,12 @@ fn is_simple_start(
 /// 128 bytes of anchor, tag and value. Canonical form has none.
 #[tactic(auto, unfolding(yaml_emit_layout::specs::State::is_simple_event))]
 pub fn is_simple(
-    settings: Settings,
+    settings: &Settings,
     directives: &DirectiveTable,
     event: &yaml_event_body_t,
     empty: bool,
 ) -> bool
-    ensures { result ≡ is_simple_event (context_of settings directives.now) (said (body_of event.now)) empty }
+    ensures { result ≡ is_simple_event (context_of settings.now directives.now) (said (body_of event.now)) empty }
 {
     match event {
         yaml_event_body_t::Alias { anchor } => is_simple_alias(settings, directives, anchor),

@@ -45,11 +45,11 @@ fn put_anchor(sink: &mut Sink, anchor: &Option<Vec<u8>>)
 
 fn put_given_tag(
     sink: &mut Sink,
-    settings: Settings,
+    settings: &Settings,
     directives: &DirectiveTable,
     tag: &Option<Vec<u8>>,
 )
-    ensures { Puts sink.old sink.new (tag_text (context_of settings directives.now) (text_of tag.now)) }
+    ensures { Puts sink.old sink.new (tag_text (context_of settings.now directives.now) (text_of tag.now)) }
 {
     match tag {
         None => (),
@@ -59,12 +59,12 @@ fn put_given_tag(
 
 fn put_tag_if(
     sink: &mut Sink,
-    settings: Settings,
+    settings: &Settings,
     directives: &DirectiveTable,
     kept: bool,
     tag: &Option<Vec<u8>>,
 )
-    ensures { Puts sink.old sink.new (tag_text (context_of settings directives.now) (kept_if kept (text_of tag.now))) }
+    ensures { Puts sink.old sink.new (tag_text (context_of settings.now directives.now) (kept_if kept (text_of tag.now))) }
 {
     if kept {
         put_given_tag(sink, settings, directives, tag);
@@ -80,13 +80,13 @@ fn is_kept(canonical: bool, left_out: bool) -> bool
 
 fn put_properties(
     sink: &mut Sink,
-    settings: Settings,
+    settings: &Settings,
     directives: &DirectiveTable,
     anchor: &Option<Vec<u8>>,
     left_out: bool,
     tag: &Option<Vec<u8>>,
 )
-    ensures { Puts sink.old sink.new (properties_text (context_of settings directives.now) (text_of anchor.now) (kept_tag settings.canonical left_out (text_of tag.now))) }
+    ensures { Puts sink.old sink.new (properties_text (context_of settings.now directives.now) (text_of anchor.now) (kept_tag settings.now.canonical left_out (text_of tag.now))) }
 {
     put_anchor(sink, anchor);
     put_tag_if(
@@ -131,7 +131,7 @@ fn is_plain(style: Style) -> bool
 
 #[tactic(auto, unfolding(yaml_emit_layout::specs::Nodes::style_of))]
 fn style_of(
-    settings: Settings,
+    settings: &Settings,
     directives: &DirectiveTable,
     spot: Spot,
     anchor: &Option<Vec<u8>>,
@@ -142,7 +142,7 @@ fn style_of(
     style: yaml_scalar_style_t,
 ) -> Style
     requires { IsUtf8 value.now }
-    ensures { result ≡ style_of (context_of settings directives.now) spot (record { anchor = text_of anchor.now; tag = text_of tag.now; value = value.now; plain = plain; quoted = quoted; style = style }) }
+    ensures { result ≡ style_of (context_of settings.now directives.now) spot (record { anchor = text_of anchor.now; tag = text_of tag.now; value = value.now; plain = plain; quoted = quoted; style = style }) }
 {
     if settings.canonical {
         Style::Double
@@ -179,9 +179,9 @@ fn is_marked(
     !is_written(canonical, plain || quoted, tag) && !quoted && !is_plain(chosen)
 }
 
-fn put_lines(sink: &mut Sink, settings: Settings, spot: Spot, style: Style, value: &[u8])
+fn put_lines(sink: &mut Sink, settings: &Settings, spot: Spot, style: Style, value: &[u8])
     requires { IsUtf8 value.now }
-    ensures { Puts sink.old sink.new (checked (deeper settings spot.around) ▹ scalar_text (page_at settings spot) settings.indent spot.flow style (chars value.now)) }
+    ensures { Puts sink.old sink.new (checked (deeper settings.now spot.around) ▹ scalar_text (page_at settings.now spot) settings.now.indent spot.flow style (chars value.now)) }
 {
     let depth = deeper(settings, spot.around);
     put_checked(sink, depth);
@@ -204,7 +204,7 @@ fn put_lines(sink: &mut Sink, settings: Settings, spot: Spot, style: Style, valu
 #[tactic(auto, unfolding(yaml_emit_layout::specs::Nodes::scalar_layout))]
 pub fn put_scalar(
     sink: &mut Sink,
-    settings: Settings,
+    settings: &Settings,
     directives: &DirectiveTable,
     spot: Spot,
     anchor: &Option<Vec<u8>>,
@@ -215,7 +215,7 @@ pub fn put_scalar(
     style: yaml_scalar_style_t,
 )
     requires { IsUtf8 value.now }
-    ensures { Puts sink.old sink.new (scalar_layout (context_of settings directives.now) spot (record { anchor = text_of anchor.now; tag = text_of tag.now; value = value.now; plain = plain; quoted = quoted; style = style })) }
+    ensures { Puts sink.old sink.new (scalar_layout (context_of settings.now directives.now) spot (record { anchor = text_of anchor.now; tag = text_of tag.now; value = value.now; plain = plain; quoted = quoted; style = style })) }
 {
     let chosen = style_of(
         settings, directives, spot, anchor, tag, value, plain, quoted, style,
@@ -231,7 +231,7 @@ pub fn put_scalar(
 /// What opens a collection, with its anchor and tag.
 pub fn put_collection(
     sink: &mut Sink,
-    settings: Settings,
+    settings: &Settings,
     directives: &DirectiveTable,
     spot: Spot,
     c: char,
@@ -241,7 +241,7 @@ pub fn put_collection(
     style_flow: bool,
     empty: bool,
 )
-    ensures { Puts sink.old sink.new (start_text (context_of settings directives.now) spot c (record { anchor = text_of anchor.now; tag = text_of tag.now; implicit = implicit; flow = style_flow }) empty) }
+    ensures { Puts sink.old sink.new (start_text (context_of settings.now directives.now) spot c (record { anchor = text_of anchor.now; tag = text_of tag.now; implicit = implicit; flow = style_flow }) empty) }
 {
     put_properties(sink, settings, directives, anchor, implicit, tag);
     put_opener_if(sink, is_flow(settings, spot, style_flow, empty), c);

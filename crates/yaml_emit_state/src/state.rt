@@ -6,6 +6,7 @@ mod event;
 mod moves;
 
 use crate::judge::problem_of;
+use crate::keys::is_simple;
 use crate::levels::Levels;
 use event::put_event;
 use std::alloc::{AllocError, Global};
@@ -117,36 +118,38 @@ impl Core {
     }
 
     // An event in its right place.
-    fn take(&mut self, event: yaml_event_body_t, empty: bool)
-        requires { HasUtf8 (body_of event) }
-        ensures { Takes self.old self.new (said (body_of event)) empty }
+    fn take(&mut self, event: &mut yaml_event_body_t, empty: bool)
+        requires { HasUtf8 (body_of event.old) }
+        ensures { Takes self.old self.new (said (body_of event.old)) empty }
     {
         let settings = self.settings();
         let top = self.levels.top();
+        let simple = is_simple(&settings, &self.directives, event, empty);
         put_event(
             &mut self.sink,
-            settings,
+            &settings,
             &self.directives,
             self.place,
             top,
-            &event,
+            event,
             empty,
+            simple,
         );
-        self.move_on(settings, event, empty);
+        self.move_on(&settings, event, empty, simple);
     }
 
     /// Lays out an event that is no longer held, by whether it opens a collection that the next event closes; or refuses it.
-    /// For want of memory the output stops.
-    pub fn lay_out(&mut self, event: yaml_event_body_t, empty: bool)
-        requires { HasUtf8 (body_of event) }
-        ensures { LaysOut self.old self.new (said (body_of event)) empty }
+    /// For want of memory the output stops. What is left of the event counts for nothing.
+    pub fn lay_out(&mut self, event: &mut yaml_event_body_t, empty: bool)
+        requires { HasUtf8 (body_of event.old) }
+        ensures { LaysOut self.old self.new (said (body_of event.old)) empty }
     {
         match problem_of(
             self.directives.allocator(),
             self.settings.canonical,
             self.place,
             self.levels.top(),
-            &event,
+            event,
         ) {
             Ok(Some(problem)) => {
                 self.place = Place::Refused(problem);

@@ -5,7 +5,7 @@ ghost use Rattle.yaml_round.specs.Answers.{IsRight, IsReadBack, IsSame};
 ghost use Rattle.yaml_scan.specs.Faults.{Answers};
 
 use crate::content::agree;
-use crate::even::evened;
+use crate::even::even;
 use crate::reading::{next_event, read_out, reading_of};
 use crate::settings::yaml_side_t;
 use std::alloc::Global;
@@ -29,11 +29,14 @@ type SideFault = (yaml_side_t, yaml_fault_t);
 fn judged_events(event: yaml_event_t, other: yaml_event_t) -> Next
     ensures { Judges event other result }
 {
-    if agree(&evened(event, true), &evened(other, true)) {
-        Next::Same
-    } else {
-        Next::Different
-    }
+    let mut event = event;
+    let mut other = other;
+    even(&mut event, true);
+    even(&mut other, true);
+    let same = agree(&event, &other);
+    drop(event);
+    drop(other);
+    if same { Next::Same } else { Next::Different }
 }
 
 // Two events, where there are such, say the same.

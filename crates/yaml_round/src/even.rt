@@ -17,55 +17,29 @@ fn is_lone(tag: &Option<Vec<u8>>, value: &[u8]) -> bool
     }
 }
 
-/// The event evened: an empty scalar with the tag `!` is untagged and plain-implicit; where `ends` is set every
+/// Evens the event: an empty scalar with the tag `!` is untagged and plain-implicit; where `ends` is set every
 /// document's end is implicit.
-pub(crate) fn evened(event: yaml_event_t, ends: bool) -> yaml_event_t
-    ensures evened { event_of result ≡ record (event_of event) { body = even_body ends (event_of event).body } }
-    ensures utf8 { HasUtf8 (event_of event).body → HasUtf8 (event_of result).body }
+pub(crate) fn even(event: &mut yaml_event_t, ends: bool)
+    ensures evened { event_of event.new ≡ record (event_of event.old) { body = even_body ends (event_of event.old).body } }
+    ensures utf8 { HasUtf8 (event_of event.old).body → HasUtf8 (event_of event.new).body }
 {
-    let yaml_event_t {
-        body,
-        start_mark,
-        end_mark,
-    } = event;
-    let body = match body {
-        yaml_event_body_t::DocumentEnd { implicit } => yaml_event_body_t::DocumentEnd {
-            implicit: implicit || ends,
-        },
+    match &mut event.body {
+        yaml_event_body_t::DocumentEnd { implicit } => {
+            *implicit = *implicit || ends;
+        }
         yaml_event_body_t::Scalar {
-            anchor,
             tag,
             value,
             plain_implicit,
             quoted_implicit,
-            style,
+            ..
         } => {
-            let is_lone = is_lone(&tag, &value);
-            if is_lone {
-                yaml_event_body_t::Scalar {
-                    anchor,
-                    tag: None,
-                    value,
-                    plain_implicit: true,
-                    quoted_implicit: false,
-                    style,
-                }
-            } else {
-                yaml_event_body_t::Scalar {
-                    anchor,
-                    tag,
-                    value,
-                    plain_implicit,
-                    quoted_implicit,
-                    style,
-                }
+            if is_lone(tag, value) {
+                *tag = None;
+                *plain_implicit = true;
+                *quoted_implicit = false;
             }
         }
-        other => other,
-    };
-    yaml_event_t {
-        body,
-        start_mark,
-        end_mark,
+        _ => {}
     }
 }

@@ -9,7 +9,7 @@ ghost use Rattle.yaml_emit.specs.Emitter.{Given, IsLimited};
 ghost use Rattle.yaml_round.specs.Reading.{AreReal};
 ghost use Rattle.yaml_round.specs.Writing.{IsUnder, wishes_under, encoding_under, Writes, WritesAll, Finishes};
 
-use crate::even::evened;
+use crate::even::even;
 use crate::reading::next_event;
 use crate::settings::{yaml_output_encoding_t, yaml_settings_t};
 use std::alloc::Global;
@@ -79,7 +79,10 @@ pub(crate) fn write_up_to<S: yaml_token_source_t>(
         match next_event(reading) {
             Err(fault) => return Err(fault),
             Ok(None) => return Ok(true),
-            Ok(Some(event)) => give(emitter, evened(event, canonical)),
+            Ok(Some(mut event)) => {
+                even(&mut event, canonical);
+                give(emitter, event);
+            }
         }
     }
 }
@@ -97,7 +100,10 @@ pub(crate) fn write_rest<S: yaml_token_source_t>(
         match next_event(reading) {
             Err(fault) => return Err(fault),
             Ok(None) => return Ok(()),
-            Ok(Some(event)) => give(emitter, evened(event, canonical)),
+            Ok(Some(mut event)) => {
+                even(&mut event, canonical);
+                give(emitter, event);
+            }
         }
     }
 }

@@ -5,33 +5,35 @@ ghost use Rattle.yaml_parse.specs.Constructors.{HasUtf8};
 ghost use Rattle.yaml_emit_text.specs.Sink.{Puts};
 ghost use Rattle.yaml_emit_layout.specs.Content.{said};
 ghost use Rattle.yaml_emit_layout.specs.Nodes.{context_of};
-ghost use Rattle.yaml_emit_layout.specs.State.{text_at};
+ghost use Rattle.yaml_emit_layout.specs.State.{text_at, is_simple_event};
 
 use crate::before::{put_before, put_closer_at};
 use crate::documents::{put_end, put_start_at, put_stop_at};
 use crate::indent::spot_of;
-use crate::keys::{is_flow_mapping, is_flow_sequence, is_simple};
+use crate::keys::{is_flow_mapping, is_flow_sequence};
 use crate::nodes::{put_alias, put_collection, put_scalar};
 use yaml_emit_layout::{Level, Place};
 use yaml_emit_text::{DirectiveTable, Settings, Sink};
 use yaml_parse::yaml_event_body_t;
 
-/// What is written for an event in its right place, but for the depth, by whether it opens a collection that the next event closes.
+/// What is written for an event in its right place, but for the depth, by whether it opens a collection that the next event closes,
+/// and by whether it is a simple key.
 #[tactic(auto, unfolding(yaml_emit_layout::specs::State::text_at))]
 pub fn put_event(
     sink: &mut Sink,
-    settings: Settings,
+    settings: &Settings,
     directives: &DirectiveTable,
     place: Place,
     top: Option<Level>,
     event: &yaml_event_body_t,
     empty: bool,
+    simple: bool,
 )
     requires utf8 { HasUtf8 (body_of event.now) }
-    requires encoding { settings.encoding ≡ sink.old.encoding }
-    ensures { Puts sink.old sink.new (text_at (context_of settings directives.now) place top (said (body_of event.now)) empty) }
+    requires encoding { settings.now.encoding ≡ sink.old.encoding }
+    requires simple { simple ≡ is_simple_event (context_of settings.now directives.now) (said (body_of event.now)) empty }
+    ensures { Puts sink.old sink.new (text_at (context_of settings.now directives.now) place top (said (body_of event.now)) empty) }
 {
-    let simple = is_simple(settings, directives, event, empty);
     match event {
         yaml_event_body_t::No => (),
         yaml_event_body_t::StreamStart { .. } => sink.put_order_mark(),

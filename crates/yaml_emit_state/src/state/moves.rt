@@ -4,14 +4,15 @@ ghost use Rattle.yaml_parse.specs.Events.{directive_of, body_of};
 ghost use Rattle.yaml_emit_text.specs.Sink.{Puts};
 ghost use Rattle.yaml_emit_text.specs.Layout.{stay};
 ghost use Rattle.yaml_emit_layout.specs.Content.{said};
-ghost use Rattle.yaml_emit_layout.specs.State.{among, levels_behind, outer_of, place_at, opened, placed};
+ghost use Rattle.yaml_emit_layout.specs.State.{among, levels_behind, outer_of, place_at, opened, placed, is_simple_event};
 ghost use Rattle.yaml_emit_state.specs.Stack.{stack_of, within};
-ghost use Rattle.yaml_emit_layout.specs.Nodes.{checked};
+ghost use Rattle.yaml_emit_layout.specs.Nodes.{checked, context_of};
 ghost use Rattle.yaml_emit_state.specs.Steps.{state_of, StaysBut, MovesOn, Opens, Notes, first_phase, is_document_start};
 
 use super::Core;
 use crate::indent::{indent_of, is_flow, spot_of};
-use crate::keys::{is_flow_mapping, is_flow_sequence, is_simple};
+use crate::keys::{is_flow_mapping, is_flow_sequence};
+use std::mem;
 use yaml_emit_layout::{Level, Phase, Place};
 use yaml_emit_text::{DirectiveTable, Settings, Status};
 use yaml_parse::yaml_event_body_t;
@@ -133,13 +134,13 @@ impl Core {
 
     fn open_by(
         &mut self,
-        settings: Settings,
+        settings: &Settings,
         simple: bool,
         empty: bool,
         style_flow: bool,
         sequence: bool,
     )
-        ensures { Opens settings self.old self.new simple empty style_flow sequence }
+        ensures { Opens settings.now self.old self.new simple empty style_flow sequence }
     {
         let spot = spot_of(self.levels.top(), simple);
         let flow = is_flow(settings, spot, style_flow, empty);
@@ -150,11 +151,11 @@ impl Core {
 
     // The state behind an event other than a document's start.
     #[tactic(auto, unfolding(yaml_emit_layout::specs::State::next_at, yaml_emit_layout::specs::State::depth_at))]
-    fn move_by(&mut self, settings: Settings, event: &yaml_event_body_t, empty: bool)
-        requires { is_document_start (said (body_of event.now)) ≡ false }
-        ensures { MovesOn settings self.old self.new (said (body_of event.now)) empty }
+    fn move_by(&mut self, settings: &Settings, event: &yaml_event_body_t, empty: bool, simple: bool)
+        requires other { is_document_start (said (body_of event.now)) ≡ false }
+        requires simple { simple ≡ is_simple_event (context_of settings.now (state_of self.old).directives) (said (body_of event.now)) empty }
+        ensures { MovesOn settings.now self.old self.new (said (body_of event.now)) empty }
     {
-        let simple = is_simple(settings, &self.directives, event, empty);
         match event {
             yaml_event_body_t::No | yaml_event_body_t::DocumentStart { .. } => (),
             yaml_event_body_t::StreamStart { .. } => self.turn(Place::Documents(true, false)),
@@ -181,14 +182,25 @@ impl Core {
         }
     }
 
-    /// The state behind an event that was written, by the settings in force and by whether the event opens a collection that the next one closes.
+    /// The state behind an event that was written, by the settings in force, by whether the event opens a collection that the next
+    /// one closes, and by whether it is a simple key. What is left of the event counts for nothing.
     #[tactic(auto, unfolding(yaml_emit_layout::specs::State::next_at, yaml_emit_layout::specs::State::depth_at))]
-    pub(super) fn move_on(&mut self, settings: Settings, event: yaml_event_body_t, empty: bool)
-        ensures { MovesOn settings self.old self.new (said (body_of event)) empty }
+    pub(super) fn move_on(
+        &mut self,
+        settings: &Settings,
+        event: &mut yaml_event_body_t,
+        empty: bool,
+        simple: bool,
+    )
+        requires { simple ≡ is_simple_event (context_of settings.now (state_of self.old).directives) (said (body_of event.old)) empty }
+        ensures { MovesOn settings.now self.old self.new (said (body_of event.old)) empty }
     {
         match event {
-            yaml_event_body_t::DocumentStart { tag_directives, .. } => self.begin(tag_directives),
-            other => self.move_by(settings, &other, empty),
+            yaml_event_body_t::DocumentStart { tag_directives, .. } => {
+                let none = Vec::new(*tag_directives.allocator());
+                self.begin(mem::replace(tag_directives, none));
+            }
+            _ => self.move_by(settings, event, empty, simple),
         }
     }
 }

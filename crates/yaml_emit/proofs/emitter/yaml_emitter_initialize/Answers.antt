@@ -1,4 +1,4 @@
-use Rattle.std.proofs.Common.{refl, sym}
+use Rattle.std.proofs.Common.{refl, sym, ap}
 use Rattle.yaml_emit.specs.Held.{is_ready}
 use Rattle.yaml_emit.proofs.Emitting.{fresh_refusal}
 use Rattle.yaml_emit.proofs.emitter.yaml_emitter_initialize.Goals as goal
@@ -7,9 +7,9 @@ pub invariant_of-result : goal.invariant_of-result
 unfolding is_ready
 invariant_of-result c = record {
   faulty = sym (fresh_refusal _ _ c.new.ensures.fresh);
-  few = λ g. refl;
-  texts = tt;
-  begun = λ f. (refl, (refl, (c.new.ensures.fresh.output, c.new.ensures.fresh.status)));
+  few = λ g. ap is_ready c.nothing.ensures.events;
+  texts = c.nothing.ensures.utf8;
+  begun = λ f. (c.nothing.ensures.events, (refl, (c.new.ensures.fresh.output, c.new.ensures.fresh.status)));
   limited = c.new.ensures.limit;
   running = λ o. absurd (cc);
   memory = λ g. c.new.ensures.fresh.starved;

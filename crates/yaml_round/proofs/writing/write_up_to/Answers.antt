@@ -7,7 +7,7 @@ use Rattle.yaml_round.proofs.writing.write_up_to.Goals as goal
 pub give-requires : goal.give-requires
 give-requires g c =
     let front = rw c.in-Ok-Some.field-0-is at c.in-Ok-Some.ensures in
-    c.evened.ensures.utf8 front.utf8
+    c.even.ensures.utf8 front.utf8
 
 pub events-preserved : goal.events-preserved
 events-preserved g c =
@@ -16,5 +16,5 @@ events-preserved g c =
       ending = front.ending ∙ c.events.invariant.ending;
       real = front.real;
       leads = gives c.args.canonical c.args.emitter.now c.events.emitter c.give.new.emitter c.args.reading.now.events c.events.reading c.next_event.new.reading
-          (event_of c.in-Ok-Some.event) (event_of c.evened.result) c.events.invariant.leads front c.evened.ensures.evened c.give.ensures;
+          (event_of c.in-Ok-Some.event) (event_of c.even.new.event) c.events.invariant.leads front c.even.ensures.evened c.give.ensures;
     }

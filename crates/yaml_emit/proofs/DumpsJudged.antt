@@ -8,6 +8,7 @@ use Rattle.yaml_emit_text.specs.Text.{Item}
 use Rattle.yaml_emit_layout.specs.Content.{Event, stream_end}
 use Rattle.yaml_emit_state.specs.declared.Core.{Core}
 use Rattle.yaml_emit_state.specs.Steps.{Starves, state_of, settings_of}
+use Rattle.yaml_emit_state.proofs.Noting.{notes_some, notes_both, notes_starved}
 use Rattle.yaml_emit_graph.specs.declared.Events.{Events}
 use Rattle.yaml_emit.specs.declared.emitter.yaml_emitter_t.TheInside.{Inside}
 use Rattle.yaml_emit_graph.specs.Events.{coming_events}
@@ -18,28 +19,30 @@ use Rattle.yaml_emit.specs.Verdict.{WritesBy, Writes, Judged, JudgedAll, Unjudge
 use Rattle.yaml_emit.proofs.Dumped.{said_none, said_some}
 
 pub judged_none : (e : Emitter) (es : List Event) → Unjudged e → JudgedAll e es e []
-judged_none e es s = record { refuses = λ g more. s.refuses g (es ++ more) more; writes = λ x more whole h. s.writes x (es ++ more) more whole h; going = λ g. g }
+judged_none e es s = record { refuses = λ g more. s.refuses g (es ++ more) more; writes = λ x more whole h. s.writes x (es ++ more) more whole h; going = λ g. g; memory = λ n. refl }
 
 pub judged_same : (e : Emitter) (es : List Event) → es ≡ [] → JudgedAll e es e []
 judged_same e es n =
     let P : List Event → Type 0 = λ z. JudgedAll e z e [] in
-    subst P (sym n) (record { refuses = λ g more. refl; writes = λ x more whole h. h; going = λ g. g })
+    subst P (sym n) (record { refuses = λ g more. refl; writes = λ x more whole h. h; going = λ g. g; memory = λ n. refl })
 
 pub judged_stuck : (old new : Emitter) (e : Event) (es : List Event) → Judged old e new → Unjudged new → JudgedAll old (e ∷ es) new []
 judged_stuck old new e es j s = record {
   refuses = λ g more. s.refuses g (es ++ more) more ∙ j.refuses g (es ++ more);
   writes = λ x more whole h. s.writes x (es ++ more) more whole (j.writes x (es ++ more) whole h);
   going = j.going;
+  memory = λ n. j.memory (notes_some _ _ _ n);
 }
 
 pub judged_one : (old new : Emitter) (e : Event) (es : List Event) → Judged old e new → JudgedAll old (e ∷ es) new es
-judged_one old new e es j = record { refuses = λ g more. j.refuses g (es ++ more); writes = λ x more whole h. j.writes x (es ++ more) whole h; going = j.going }
+judged_one old new e es j = record { refuses = λ g more. j.refuses g (es ++ more); writes = λ x more whole h. j.writes x (es ++ more) whole h; going = j.going; memory = λ n. j.memory (notes_some _ _ _ n) }
 
 pub judged_on : (a b c : Emitter) (es fs gs : List Event) → JudgedAll a es b fs → JudgedAll b fs c gs → JudgedAll a es c gs
 judged_on a b c es fs gs p q = record {
   refuses = λ g more. q.refuses g more ∙ p.refuses (q.going g) more;
   writes = λ x more whole h. q.writes x more whole (p.writes x more whole h);
   going = λ g. p.going (q.going g);
+  memory = λ n. let k = notes_both true _ _ _ p.going q.going n in q.memory k.1 ∙ p.memory k.0;
 }
 
 -- an event of the dump, and the others are left where it was taken
@@ -77,6 +80,7 @@ inside_starves_judged i core fault es fr s = record {
   refuses = λ g more. absurd (s.stopped g);
   writes = λ x more whole h. starved_writes (emitter_of i) (record { wishes = i.wishes; limit = i.limit; core = core; held = i.held; fresh = i.fresh; opened = i.opened; closed = i.closed; fault = fault }) x (es ++ more) more whole fr fr s h;
   going = λ g. absurd (s.stopped g);
+  memory = notes_starved _ _ s;
 }
 
 -- the end of the stream, unless it has come

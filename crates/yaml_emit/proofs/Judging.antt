@@ -22,7 +22,8 @@ use Rattle.yaml_emit_layout.specs.Grammar.{or_else, ends_phase, begins_node, may
 use Rattle.yaml_emit_layout.specs.Nodes.{Context, context_of}
 use Rattle.yaml_emit_layout.specs.State.{State, piece, next, next_at, problem_at, opens_empty, begins_by, is_sequence_end, is_mapping_end, top_of, outer_of, place_at, among, levels_behind, phase_behind}
 use Rattle.yaml_emit_state.specs.declared.Core.{Core}
-use Rattle.yaml_emit_state.specs.Steps.{state_of, settings_of, next_state, next_piece, LaysOut, goes_on}
+use Rattle.yaml_emit_state.specs.Steps.{state_of, settings_of, next_state, next_piece, LaysOut, takes_memory, goes_on}
+use Rattle.yaml_emit_state.proofs.Noting.{neither, notes_both, notes_within}
 use Rattle.yaml_emit.specs.Held.{is_ready, has_enough, needs, closes, passes, opens_level, ends_level}
 use Rattle.yaml_emit.specs.Judged.{Due, item_due, key_due, value_due, Shape, shape_after, inside, behind_node, outer_due, phase_due, level_due, problem_in, let_out, first_refusal, unless, laid, refused_at, due_in, due_of, shape_of, refusal_from, text_from, refusal_behind, LetsOut, Judges}
 use Rattle.yaml_emit.proofs.Opening.{opens_none}
@@ -303,13 +304,17 @@ text_step (Some x) old new e es whole o r l h =
 -- ---- one event after another
 
 pub judges_same : (a : Core) (h : List Event) → Judges a h a h
-judges_same a h = record { refuses = λ g es. refl; lets_out = λ es whole f. f }
+judges_same a h = record { refuses = λ g es. refl; lets_out = λ es whole f. f; going = λ g. g; memory = λ n. refl; left = λ n. n }
 
 refusal_on : (b c : Core) (e : Event) (es : List Event) (empty : Bool) → refused_at b.place ≡ None → is_ready (e ∷ es) ≡ true → LaysOut b c e empty → c.sink.status ≡ Going → refusal_behind c es ≡ refusal_behind b (e ∷ es)
 unfolding refusal_behind
 refusal_on b c e es empty o r l g =
     ap (λ (z : Settings). refusal_from z.canonical (state_of c) es) (same_settings b c l.settings l.text.encoding)
     ∙ refusal_step (settings_of b) (state_of b) (state_of c) e empty c.sink.cursor es (problem_at (settings_of b) (state_of b) e) refl o r (l.state g)
+
+-- no event of a list takes memory outside the output
+none_takes : (e : Event) (es : List Event) → take_memory (e ∷ es) ≡ false → (takes_memory e ≡ false) × (take_memory es ≡ false)
+none_takes e es h = neither (takes_memory e) (take_memory es) h
 
 pub judges_more : (a b c : Core) (h x y : List Event) (e : Event) (empty : Bool) → Judges a h b x → x ≡ e ∷ y → goes_on b.sink.status b.place ≡ true → is_ready x ≡ true → empty ≡ opens_empty e y → LaysOut b c e empty → Judges a h c y
 judges_more a b c h x y e empty p same goes r is l =
@@ -325,6 +330,11 @@ judges_more a b c h x y e empty p same goes r is l =
           let R : Bool → Type 0 = λ v. LaysOut b c e v in
           let l' : LaysOut b c e (opens_empty e (y ++ es)) = subst R (is ∙ sym (ready_empty e y es r')) l in
           text_step (problem_at (settings_of b) (state_of b) e) b c e (y ++ es) whole o (ready_more e y es r') (done b c e _ l') (subst P same (p.lets_out es whole f));
+      going = λ g. p.going (l.text.going g);
+      memory = λ n.
+          let k = notes_both (take_memory h) _ _ _ p.going l.text.going n in
+          l.memory (notes_within (take_memory h) (takes_memory e) _ _ (λ z. (none_takes e y (sym (ap take_memory same) ∙ p.left z)).0) k.1) ∙ p.memory k.0;
+      left = λ z. (none_takes e y (sym (ap take_memory same) ∙ p.left z)).1;
     }
 
 -- an event that isn't held

@@ -20,12 +20,12 @@ use Rattle.yaml_emit_layout.specs.Content.{Event}
 use Rattle.yaml_emit_layout.specs.Grammar.{or_else}
 use Rattle.yaml_emit_layout.specs.State.{State, placed}
 use Rattle.yaml_emit_state.specs.declared.Core.{Core}
-use Rattle.yaml_emit_state.specs.Steps.{state_of, settings_of, goes_on, IsFresh}
+use Rattle.yaml_emit_state.specs.Steps.{state_of, settings_of, goes_on, IsFresh, may_note, Notes}
 use Rattle.yaml_emit_state.specs.Finish.{Leads}
 use Rattle.yaml_emit.specs.Held.{held_events, is_ready}
 use Rattle.yaml_emit.specs.declared.held.Held.{Held}
 use Rattle.yaml_emit.specs.declared.emitter.yaml_emitter_t.TheInside.{Inside}
-use Rattle.yaml_emit.specs.Judged.{Shape, first_shape, let_out, first_refusal, unless, laid, refused_at, refusal_from, text_from, refusal_behind, LetsOut, Judges}
+use Rattle.yaml_emit.specs.Judged.{Shape, first_shape, let_out, first_refusal, unless, laid, refused_at, refusal_from, text_from, refusal_behind, LetsOut, take_memory, Judges}
 use Rattle.yaml_emit.specs.Emitter.{Emitter, emitter_of, IsEmitter, fault_by, refusal_of, stream_encoding, problem_fault, Stays}
 use Rattle.yaml_emit.specs.Verdict.{verdict_by, verdict, IsLetOut, WritesBy, Writes, Judged, JudgesFirst, Unjudged, HasLetOut, Tells}
 use Rattle.yaml_emit.proofs.Judging.{or_some, unless_some}
@@ -59,6 +59,7 @@ inside_judges i core h held fault e fr on same l j =
       refuses = λ g es. lay_refuses (emitter_of i) new e (held_events h) es fr fr (ap held_events same) (j.refuses g es);
       writes = λ x es whole c. lay_writes (emitter_of i) new e (held_events h) x es whole fr fr (ap held_events same) l j c;
       going = λ _. on;
+      memory = let P : Held → Type 0 = λ z. Notes (take_memory (held_events z ++ e ∷ [])) i.core core in subst P same j.memory;
     }
 
 -- with no fault the output goes on
@@ -119,6 +120,9 @@ inside_first i core e s z inv fr a b f =
       refuses = λ es. begin_refuses (emitter_of i) new e es fr refl (inv.begun fr).0 f';
       writes = λ x es whole c. begin_writes (emitter_of i) new e x es whole fr refl (inv.begun fr).0 f' c;
       going = (inv.begun fr).1.1.1;
+      begun = f.status;
+      held = refl;
+      memory = f.starved ∙ sym (inv.memory (inv.begun fr).1.1.1);
     }
 
 pub first_judged : (old mid new : Emitter) (e : Event) → JudgesFirst old e mid → Judged mid e new → Judged old e new
@@ -126,6 +130,7 @@ first_judged old mid new e p q = record {
   refuses = λ g es. q.refuses g es ∙ p.refuses es;
   writes = λ x es whole c. q.writes x es whole (p.writes x es whole c);
   going = λ _. p.going;
+  memory = λ n. q.memory (ap (λ z. may_note (take_memory (z ++ e ∷ [])) mid.core.sink.status new.core.sink.status) p.held ∙ (ap (λ z. may_note (take_memory (held_events old.held ++ e ∷ [])) z new.core.sink.status) (p.begun ∙ sym p.going) ∙ n)) ∙ p.memory;
 }
 
 -- ---- behind a fault
@@ -173,6 +178,7 @@ inside_stuck_judged i f e inv is =
       refuses = λ g es. stuck_verdict (emitter_of i) (fault_of f) es (e ∷ es) fr (sym inv.faulty ∙ some) g;
       writes = λ x es whole c. stuck_writes (emitter_of i) (fault_of f) x (e ∷ es) es whole fr (sym inv.faulty ∙ some) c;
       going = λ g. g;
+      memory = λ n. refl;
     }
 
 pub inside_unjudged : (i : Inside) → IsEmitter i → (f : Fault) → option_map fault_of i.fault ≡ Some f → Unjudged (emitter_of i)
@@ -207,6 +213,7 @@ judged_marked old e i o k j = record {
   refuses = λ g es. marked_verdict i.fresh i o k es ∙ j.refuses g es;
   writes = λ x es whole h. marked_writes i.fresh i o k x es whole (j.writes x es whole h);
   going = j.going;
+  memory = j.memory;
 }
 
 pub tells_marked : (i : Inside) (o k : Bool) → Tells (emitter_of i)
@@ -215,6 +222,7 @@ unfolding verdict Writes
 tells_marked i o k t = record {
   fault = t.fault ∙ ap (fault_by i.core.sink.status i.core.starved) (sym (marked_verdict i.fresh i o k []));
   output = λ x whole h. t.output x whole (unmarked_writes i.fresh i o k x [] whole h);
+  memory = t.memory;
 }
 
 -- ---- what an emitter tells
@@ -318,10 +326,12 @@ tells_by true i fr inv =
     record {
       fault = inv.faulty ∙ fault_now i.core.sink.status i.core.starved _ _ (λ g. fresh_refused i inv (sym fr) ∙ first_verdict (emitter_of i) (sym fr));
       output = λ x whole h. first_output (emitter_of i) x whole (sym fr) begun.1.1.0 begun.1.1.1 h;
+      memory = inv.memory;
     }
 tells_by false i fr inv = record {
   fault = inv.faulty ∙ fault_now i.core.sink.status i.core.starved _ _ (verdict_now i inv (sym fr));
   output = λ x whole h. output_now i x whole inv (sym fr) h;
+  memory = inv.memory;
 }
 
 pub inside_tells : (i : Inside) → IsEmitter i → Tells (emitter_of i)

@@ -99,6 +99,7 @@ pub record IsEmitter (e : Inside) : Type 0 where
   pub begun : e.fresh ≡ true → (held_events e.held ≡ []) × ((option_map fault_of e.fault ≡ None) × ((e.core.sink.bytes ≡ []) × (e.core.sink.status ≡ Going)))
   pub limited : e.core.sink.limit ≡ e.limit
   pub running : e.opened ≡ true → e.fresh ≡ false
+  pub memory : e.core.sink.status ≡ Going → e.core.starved ≡ false
 
 -- the encoding of a stream that begins so
 abbrev pub stream_encoding : Event → yaml_encoding_t

@@ -14,7 +14,8 @@ use Rattle.yaml_emit_layout.specs.declared.Place.TheVariants as at
 use Rattle.yaml_emit_layout.specs.Content.{Event}
 use Rattle.yaml_emit_layout.specs.State.{placed}
 use Rattle.yaml_emit.specs.Held.{held_events}
-use Rattle.yaml_emit.specs.Judged.{first_shape, let_out, first_refusal, laid, refusal_behind, LetsOut}
+use Rattle.yaml_emit_state.specs.Steps.{Notes}
+use Rattle.yaml_emit.specs.Judged.{first_shape, let_out, first_refusal, laid, refusal_behind, LetsOut, take_memory}
 use Rattle.yaml_emit.specs.Emitter.{Emitter, stream_encoding, fault_by, HasWritten}
 
 abbrev pub verdict_by : Bool → Emitter → List Event → Option Problem
@@ -51,12 +52,15 @@ pub record Judged (old : Emitter) (e : Event) (new : Emitter) : Type 0 where
   pub writes : (x : Encoding) (es : List Event) (whole : List Item) → Writes old x (e ∷ es) whole → Writes new x es whole
   -- an output that has stopped stays stopped
   pub going : new.core.sink.status ≡ Going → old.core.sink.status ≡ Going
+  -- That memory was refused outside the output is noted where this stops it, once an event is held or given that takes such memory.
+  pub memory : Notes (take_memory (held_events old.held ++ e ∷ [])) old.core new.core
 
 -- Of some events that were to come those are still to come, and the others were judged in their turn.
 pub record JudgedAll (old : Emitter) (es : List Event) (new : Emitter) (left : List Event) : Type 0 where
   pub refuses : new.core.sink.status ≡ Going → (more : List Event) → verdict new (left ++ more) ≡ verdict old (es ++ more)
   pub writes : (x : Encoding) (more : List Event) (whole : List Item) → Writes old x (es ++ more) whole → Writes new x (left ++ more) whole
   pub going : new.core.sink.status ≡ Going → old.core.sink.status ≡ Going
+  pub memory : Notes true old.core new.core
 
 -- events that count for nothing: behind a fault
 pub record Unjudged (e : Emitter) : Type 0 where
@@ -68,6 +72,9 @@ pub record JudgesFirst (old : Emitter) (e : Event) (new : Emitter) : Type 0 wher
   pub refuses : (es : List Event) → verdict new (e ∷ es) ≡ verdict old (e ∷ es)
   pub writes : (x : Encoding) (es : List Event) (whole : List Item) → Writes old x (e ∷ es) whole → Writes new x (e ∷ es) whole
   pub going : old.core.sink.status ≡ Going
+  pub begun : new.core.sink.status ≡ Going
+  pub held : held_events new.held ≡ held_events old.held
+  pub memory : new.core.starved ≡ old.core.starved
 
 -- All of it is in the output, which passes no limit; or the output has stopped there.
 abbrev pub HasLetOut : Status → ℕ → List ℕ → List ℕ → Bool → Type 0
@@ -77,7 +84,9 @@ HasLetOut Deep limit output bytes deep = HasWritten Deep limit output bytes deep
 HasLetOut Starved limit output bytes deep = HasWritten Starved limit output bytes deep
 
 -- The fault is that of the first refused event among those that were let out, or, once the output has stopped, that of what
--- stopped it; the output has all that was let out, or stopped at a limit that this passes or for want of memory.
+-- stopped it; the output has all that was let out, or stopped at a limit that this passes or for want of memory. While it goes
+-- on, no memory was refused outside it.
 pub record Tells (e : Emitter) : Type 0 where
   pub fault : e.fault ≡ fault_by e.core.sink.status e.core.starved (verdict e [])
   pub output : (x : Encoding) (whole : List Item) → Writes e x [] whole → HasLetOut e.core.sink.status e.limit e.core.sink.bytes (encode x whole) (is_deep whole)
+  pub memory : e.core.sink.status ≡ Going → e.core.starved ≡ false

@@ -1,3 +1,4 @@
 pub mod Lists
 pub mod Seeing
 pub mod Finishing
+pub mod Noting

@@ -1,5 +1,5 @@
 -- What laying out one event does.
-use Rattle.std.specs.Prelude.{◌≡◌, ◌≢◌, Bool, true, false, ◌||◌, List, [], ◌∷◌, map, Option, Some, None}
+use Rattle.std.specs.Prelude.{◌≡◌, ◌≢◌, Bool, true, false, not, ◌&&◌, ◌||◌, List, [], ◌∷◌, map, Option, Some, None}
 use Rattle.yaml_scan.specs.declared.yaml_scalar_style_t.{yaml_scalar_style_t}
 use Rattle.yaml_parse.specs.Events.{TagDirective}
 use Rattle.yaml_emit_text.specs.declared.Settings.{Settings}
@@ -12,7 +12,7 @@ use Rattle.yaml_emit_layout.specs.declared.Place.{Place}
 use Rattle.yaml_emit_layout.specs.declared.Place.TheVariants as at
 use Rattle.yaml_emit_layout.specs.declared.Phase.{Phase}
 use Rattle.yaml_emit_layout.specs.declared.Phase.TheVariants.{Items, Keys}
-use Rattle.yaml_emit_layout.specs.Content.{Event, document_start}
+use Rattle.yaml_emit_layout.specs.Content.{Event, document_start, sequence_start, mapping_start}
 use Rattle.yaml_emit_layout.specs.State.{State, placed, piece, next, problem_at, top_of, spot_of, opened, depth_at}
 use Rattle.yaml_emit_layout.specs.Nodes.{indented, indent_of, checked, context_of}
 use Rattle.yaml_emit_state.specs.declared.state.Core.{Core}
@@ -41,8 +41,29 @@ abbrev pub is_document_start : Event → Bool
 is_document_start (document_start o) = true
 is_document_start e = false
 
+abbrev pub is_going : Status → Bool
+is_going Going = true
+is_going Full = false
+is_going Deep = false
+is_going Starved = false
+
+-- laying it out may take memory outside the output: for the directives of a document, or for the list of open collections
+abbrev pub takes_memory : Event → Bool
+takes_memory (document_start o) = true
+takes_memory (sequence_start p) = true
+takes_memory (mapping_start p) = true
+takes_memory e = false
+
+-- the output was stopped by what may take memory outside it
+abbrev pub may_note : Bool → Status → Status → Bool
+may_note takes before behind = takes && (is_going before && not (is_going behind))
+
+-- That memory was refused outside the output is noted where this stops the output, and nowhere else.
+abbrev pub Notes : Bool → Core → Core → Type 0
+Notes takes old new = may_note takes old.sink.status new.sink.status ≡ false → new.starved ≡ old.starved
+
 abbrev pub StaysBut : Core → Core → Type 0
-StaysBut old new = (new.settings ≡ old.settings) × (new.sink ≡ old.sink)
+StaysBut old new = (new.settings ≡ old.settings) × (new.sink ≡ old.sink) × (new.starved ≡ old.starved)
 
 -- a collection was opened, behind its properties
 pub record Opens (s : Settings) (old new : Core) (simple empty flow sequence : Bool) : Type 0 where
@@ -54,6 +75,7 @@ pub record Opens (s : Settings) (old new : Core) (simple empty flow sequence : B
   pub cursor : new.sink.status ≡ Going → new.sink.cursor ≡ old.sink.cursor
   pub text : let at = spot_of (top_of (stack_of old.levels)) simple in
       Puts old.sink new.sink (indented (indent_of s at sequence (s.canonical || (at.flow || (flow || empty)))) checked)
+  pub memory : Notes true old new
 
 -- the state moved on by an event, with nothing written but the depth
 pub record MovesOn (s : Settings) (old new : Core) (e : Event) (empty : Bool) : Type 0 where
@@ -61,12 +83,14 @@ pub record MovesOn (s : Settings) (old new : Core) (e : Event) (empty : Bool) : 
   pub state : new.sink.status ≡ Going → state_of new ≡ next s (state_of old) e empty old.sink.cursor
   pub cursor : new.sink.status ≡ Going → new.sink.cursor ≡ old.sink.cursor
   pub text : Puts old.sink new.sink (depth_at (context_of s (state_of old).directives) (top_of (stack_of old.levels)) e empty)
+  pub memory : Notes (takes_memory e) old new
 
 -- an event was laid out
 pub record Takes (old new : Core) (e : Event) (empty : Bool) : Type 0 where
   pub settings : new.settings ≡ old.settings
   pub state : new.sink.status ≡ Going → state_of new ≡ next (settings_of old) (state_of old) e empty new.sink.cursor
   pub text : Puts old.sink new.sink (piece (settings_of old) (state_of old) e empty)
+  pub memory : Notes (takes_memory e) old new
 
 -- an event was laid out, or refused
 abbrev pub next_state : Option Problem → State → State → State
@@ -82,12 +106,15 @@ pub record LaysOut (old new : Core) (e : Event) (empty : Bool) : Type 0 where
   pub settings : new.settings ≡ old.settings
   pub state : new.sink.status ≡ Going → state_of new ≡ next_state (problem_at (settings_of old) (state_of old) e) (state_of old) (next (settings_of old) (state_of old) e empty new.sink.cursor)
   pub text : Puts old.sink new.sink (next_piece (problem_at (settings_of old) (state_of old) e) (piece (settings_of old) (state_of old) e empty))
+  pub memory : Notes (takes_memory e) old new
 
--- memory was refused outside the output
+-- memory was refused outside the output, which is noted unless the output had stopped before
 pub record Starves (old new : Core) : Type 0 where
   pub settings : new.settings ≡ old.settings
   pub place : new.place ≡ old.place
-  pub starved : new.starved ≡ true
+  pub levels : new.levels ≡ old.levels
+  pub directives : new.directives ≡ old.directives
+  pub starved : new.starved ≡ (is_going old.sink.status || old.starved)
   pub text : (x : Layout) → Puts old.sink new.sink x
   pub stopped : new.sink.status ≢ Going
 
@@ -98,12 +125,7 @@ pub record IsFresh (core : Core) (s : Settings) : Type 0 where
   pub output : core.sink.bytes ≡ []
   pub status : core.sink.status ≡ Going
   pub cursor : core.sink.cursor ≡ start
-
-abbrev pub is_going : Status → Bool
-is_going Going = true
-is_going Full = false
-is_going Deep = false
-is_going Starved = false
+  pub starved : core.starved ≡ false
 
 -- no event was refused, and the output goes on
 abbrev pub goes_on : Status → Place → Bool

@@ -1,11 +1,12 @@
 //! What is wrong with an event: its names, its tag, its place, and its directives or flags.
 ghost use Rattle.std.specs.List.{list_all};
-ghost use Rattle.std.specs.Prelude.{◌≡◌, ◌∷◌, [], None, Some, true, false, if◌then◌else◌, not, ◌&&◌, ◌||◌, length, map, ◌≤◌, IfOk, OnOk};
+ghost use Rattle.std.specs.Prelude.{◌≡◌, ◌∷◌, [], None, Some, true, false, if◌then◌else◌, not, ◌&&◌, ◌||◌, length, map, ◌≤◌, IfOk, OnOk, OnErr};
 ghost use Rattle.yaml_scan.specs.Classes.{is_alpha_byte};
 ghost use Rattle.yaml_parse.specs.Events.{text_of, directive_of, body_of};
 ghost use Rattle.yaml_emit_layout.specs.Content.{said};
 ghost use Rattle.yaml_emit_layout.specs.Grammar.{has, name_problem, anchor_problem, tag_problem, kept_tag, event_problem, version_problem, handle_problem, prefix_problem, directives_problem, opening_problem, flags_problem, last_problem, ends_phase, begins_node, may_come, node_problem, place_problem, problem_by, between, inner_problem, ends_problem, is_version, or_else};
 ghost use Rattle.yaml_emit_state.specs.Seen.{is_among, Adds, Judges};
+ghost use Rattle.yaml_emit_state.specs.Steps.{takes_memory};
 
 use crate::handles::add;
 use std::alloc::{AllocError, Global};
@@ -268,7 +269,8 @@ fn flags_problem(tag: &Option<Vec<u8>>, plain: bool, quoted: bool) -> Option<Pro
 
 #[tactic(auto, unfolding(yaml_emit_layout::specs::Grammar::last_problem))]
 fn last_problem(alloc: Global, event: &yaml_event_body_t) -> Result<Option<Problem>, AllocError>
-    ensures { IfOk result (λ p. p ≡ last_problem (said (body_of event.now))) }
+    ensures problem { IfOk result (λ p. p ≡ last_problem (said (body_of event.now))) }
+    ensures refused { OnErr result (takes_memory (said (body_of event.now)) ≡ true) }
 {
     match event {
         yaml_event_body_t::DocumentStart {
@@ -362,7 +364,8 @@ fn late_problem(
     top: Option<Level>,
     event: &yaml_event_body_t,
 ) -> Result<Option<Problem>, AllocError>
-    ensures { IfOk result (λ p. p ≡ or_else (place_problem place top (said (body_of event.now))) (last_problem (said (body_of event.now)))) }
+    ensures problem { IfOk result (λ p. p ≡ or_else (place_problem place top (said (body_of event.now))) (last_problem (said (body_of event.now)))) }
+    ensures refused { OnErr result (takes_memory (said (body_of event.now)) ≡ true) }
 {
     match place_problem(place, top, event) {
         Some(problem) => Ok(Some(problem)),
@@ -380,7 +383,8 @@ pub fn problem_of(
     top: Option<Level>,
     event: &yaml_event_body_t,
 ) -> Result<Option<Problem>, AllocError>
-    ensures { IfOk result (λ p. p ≡ problem_by canonical place top (said (body_of event.now))) }
+    ensures problem { IfOk result (λ p. p ≡ problem_by canonical place top (said (body_of event.now))) }
+    ensures refused { OnErr result (takes_memory (said (body_of event.now)) ≡ true) }
 {
     match event_problem(canonical, event) {
         Some(problem) => Ok(Some(problem)),

@@ -23,7 +23,7 @@ pub struct Core {
     place: Place,
     levels: Levels,
     directives: DirectiveTable,
-    /// Memory was refused for the open collections or the directives, and not for the output.
+    /// What has stopped the output is memory that was refused for the open collections or the directives.
     starved: bool,
 }
 
@@ -31,7 +31,7 @@ impl Core {
     ghost use Rattle.yaml_parse.specs.Events.{body_of};
     ghost use Rattle.yaml_emit_layout.specs.Content.{said};
     ghost use Rattle.yaml_emit_layout.specs.State.{problem_at};
-    ghost use Rattle.yaml_emit_state.specs.Steps.{state_of, settings_of, LaysOut, IsFresh, Takes, Starves, goes_on};
+    ghost use Rattle.yaml_emit_state.specs.Steps.{state_of, settings_of, LaysOut, IsFresh, Takes, Starves, is_going, goes_on};
 
     /// Nothing was laid out.
     pub fn new(alloc: Global, settings: Settings, limit: u64) -> Core
@@ -71,7 +71,7 @@ impl Core {
         self.place
     }
 
-    /// Whether memory was refused for the open collections or the directives.
+    /// Whether the output was stopped by memory that was refused for the open collections or the directives.
     pub fn is_starved(&self) -> bool
         ensures { result ≡ self.now.starved }
     {
@@ -88,12 +88,19 @@ impl Core {
         }
     }
 
-    /// Memory was refused for what is to be laid out: the output stops.
+    /// Memory was refused for what is to be laid out: the output stops, and it is noted why, unless it had stopped before.
     pub fn starve(&mut self, refused: AllocError)
         ensures { Starves self.old self.new }
     {
-        self.starved = true;
+        self.starved = self.is_open() || self.starved;
         self.sink.starve(refused);
+    }
+
+    // Whether the output goes on.
+    fn is_open(&self) -> bool
+        ensures { result ≡ is_going self.now.sink.status }
+    {
+        self.sink.status().is_going()
     }
 
     // The settings in force: the encoding is the output's.

@@ -7,7 +7,7 @@ ghost use Rattle.yaml_emit_layout.specs.Content.{said};
 ghost use Rattle.yaml_emit_layout.specs.State.{among, levels_behind, outer_of, place_at, opened, placed, is_simple_event};
 ghost use Rattle.yaml_emit_state.specs.Stack.{stack_of, within};
 ghost use Rattle.yaml_emit_layout.specs.Nodes.{checked, context_of};
-ghost use Rattle.yaml_emit_state.specs.Steps.{state_of, StaysBut, MovesOn, Opens, first_phase, is_document_start};
+ghost use Rattle.yaml_emit_state.specs.Steps.{state_of, StaysBut, MovesOn, Opens, Notes, first_phase, is_document_start};
 
 use super::Core;
 use crate::indent::{indent_of, is_flow, spot_of};
@@ -71,6 +71,8 @@ impl Core {
         ensures settings { self.new.settings ≡ self.old.settings }
         ensures cursor { self.new.sink.status ≡ Status.Going → self.new.sink.cursor ≡ self.old.sink.cursor }
         ensures text { Puts self.old.sink self.new.sink stay }
+        ensures memory { Notes true self.old self.new }
+        ensures noted { self.old.sink.status ≡ Status.Going → self.new.sink.status ≢ Status.Going → self.new.starved ≡ true }
     {
         self.place = Place::Node;
         self.levels.clear();
@@ -78,10 +80,7 @@ impl Core {
             Ok(table) => {
                 self.directives = table;
             }
-            Err(refused) => {
-                self.starved = true;
-                self.sink.starve(refused);
-            }
+            Err(refused) => self.starve(refused),
         }
     }
 
@@ -92,13 +91,12 @@ impl Core {
         ensures settings { self.new.settings ≡ self.old.settings }
         ensures cursor { self.new.sink.status ≡ Status.Going → self.new.sink.cursor ≡ self.old.sink.cursor }
         ensures text { Puts self.old.sink self.new.sink stay }
+        ensures memory { Notes true self.old self.new }
+        ensures noted { self.old.sink.status ≡ Status.Going → self.new.sink.status ≢ Status.Going → self.new.starved ≡ true }
     {
         match self.levels.push(level) {
             Ok(_) => (),
-            Err(refused) => {
-                self.starved = true;
-                self.sink.starve(refused);
-            }
+            Err(refused) => self.starve(refused),
         }
     }
 
@@ -108,6 +106,8 @@ impl Core {
         ensures settings { self.new.settings ≡ self.old.settings }
         ensures cursor { self.new.sink.status ≡ Status.Going → self.new.sink.cursor ≡ self.old.sink.cursor }
         ensures text { Puts self.old.sink self.new.sink stay }
+        ensures memory { Notes true self.old self.new }
+        ensures noted { self.old.sink.status ≡ Status.Going → self.new.sink.status ≢ Status.Going → self.new.starved ≡ true }
     {
         self.place = Place::Node;
         self.levels.step(simple);
@@ -124,6 +124,7 @@ impl Core {
         ensures settings { self.new.settings ≡ self.old.settings }
         ensures cursor { self.new.sink.status ≡ Status.Going → self.new.sink.cursor ≡ self.old.sink.cursor }
         ensures text { (n : ℕ) → indent ≡ within n → Puts self.old.sink self.new.sink (checked n) }
+        ensures memory { Notes true self.old self.new }
     {
         match indent {
             None => self.sink.put_too_deep(),

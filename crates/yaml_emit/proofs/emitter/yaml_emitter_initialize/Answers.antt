@@ -12,4 +12,5 @@ invariant_of-result c = record {
   begun = λ f. (c.nothing.ensures.events, (refl, (c.new.ensures.fresh.output, c.new.ensures.fresh.status)));
   limited = c.new.ensures.limit;
   running = λ o. absurd (cc);
+  memory = λ g. c.new.ensures.fresh.starved;
 }

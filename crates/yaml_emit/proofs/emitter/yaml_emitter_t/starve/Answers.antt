@@ -15,6 +15,7 @@ invariant_of-self c =
       begun = λ f. absurd (cc);
       limited = (c.starve.ensures.text stay).limit ∙ c.self.invariant.limited;
       running = c.self.invariant.running;
+      memory = λ g. absurd (c.starve.ensures.stopped g);
     }
 
 pub returns-clause-given : goal.returns-clause-given

@@ -1,4 +1,10 @@
+use Rattle.yaml_emit_state.proofs.Noting.{notes_starved, notes_any}
 use Rattle.yaml_emit_state.proofs.state.Core.lay_out.Goals as goal
 
 pub returns-in-Err : goal.returns-in-Err
-returns-in-Err c = record { settings = c.starve.ensures.settings; state = λ g. absurd (c.starve.ensures.stopped g); text = c.starve.ensures.text _ }
+returns-in-Err c = record {
+  settings = c.starve.ensures.settings;
+  state = λ g. absurd (c.starve.ensures.stopped g);
+  text = c.starve.ensures.text _;
+  memory = notes_any _ c.args.self.now c.starve.new.self c.in-Err.ensures.refused (notes_starved c.args.self.now c.starve.new.self c.starve.ensures);
+}

@@ -8,6 +8,7 @@ ghost use Rattle.yaml_scan.specs.Tokens.{token_of, body_of as token_body_of};
 ghost use Rattle.yaml_parse_grammar.specs.Items.{item_at, blank, node_at, dressed_alone};
 ghost use Rattle.yaml_parse_grammar.specs.Items as item;
 ghost use Rattle.yaml_scan.specs.declared.yaml_sequence_style_t.TheVariants.{YAML_BLOCK_SEQUENCE_STYLE};
+ghost use Rattle.yaml_scan.specs.declared.yaml_mapping_style_t.TheVariants.{YAML_BLOCK_MAPPING_STYLE};
 ghost use Rattle.yaml_parse_grammar.specs.Trees.{mark_at, flow_shape, end_event, event_at};
 ghost use Rattle.yaml_parse_grammar.specs.States as state;
 ghost use Rattle.yaml_parse_grammar.specs.Machine.{not_taken, taken_at, left_at, documents_taken, content_taken, node_taken, dressed_taken, items_taken, more_taken, stream_taken, entries_taken, pairs_taken, pair_taken, lone_below, opened};
@@ -39,16 +40,14 @@ fn give(
     Ok(true)
 }
 
-// An event in the slot.
-fn tell(
-    slot: &mut Item,
-    event: Plain,
-    from: yaml_mark_t,
-    to: yaml_mark_t,
-) -> Result<bool, AllocError>
-    ensures { IsOkAnd result (λ b. given_of b slot.new ≡ Some (event_at (plain_of event) from to)) }
+// The token's own event in the slot.
+fn tell(slot: &mut Item, event: Plain, token: &yaml_token_t) -> Result<bool, AllocError>
+    ensures { IsOkAnd result (λ b. given_of b slot.new ≡ Some (event_at (plain_of event) token.now.start_mark token.now.end_mark)) }
 {
-    give(slot, ItemBody::Event(event), from, to)
+    slot.body = ItemBody::Event(event);
+    slot.from = token.start_mark;
+    slot.to = token.end_mark;
+    Ok(true)
 }
 
 // Where a node begins, whose first token but properties begins there.
@@ -61,20 +60,18 @@ fn beginning(properties: &Option<Box<Properties>>, start: yaml_mark_t) -> yaml_m
     }
 }
 
-// A node behind its properties, if it has any, whose first token has those marks.
+// A node behind its properties, if it has any, whose first token that is.
 fn node(
     slot: &mut Item,
     properties: Option<Box<Properties>>,
     shape: Shape,
-    start: yaml_mark_t,
-    end: yaml_mark_t,
+    token: &yaml_token_t,
 ) -> Result<bool, AllocError>
-    ensures { IsOkAnd result (λ b. given_of b slot.new ≡ Some (node_at (properties_option_of properties) (shape_of shape) start end)) }
+    ensures { IsOkAnd result (λ b. given_of b slot.new ≡ Some (node_at (properties_option_of properties) (shape_of shape) token.now.start_mark token.now.end_mark)) }
 {
-    let from = beginning(&properties, start);
+    slot.from = beginning(&properties, token.start_mark);
+    slot.to = token.end_mark;
     slot.body = ItemBody::Node { properties, shape };
-    slot.from = from;
-    slot.to = end;
     Ok(true)
 }
 
@@ -227,8 +224,7 @@ fn at_stream(
                 Plain::StreamStart {
                     encoding: *encoding,
                 },
-                token.start_mark,
-                token.end_mark,
+                token,
             )
         }
         _ => nothing(stack, slot),
@@ -275,12 +271,7 @@ fn at_documents(
                 token.end_mark,
             )
         }
-        yaml_token_body_t::StreamEnd => tell(
-            slot,
-            Plain::StreamEnd,
-            token.start_mark,
-            token.end_mark,
-        ),
+        yaml_token_body_t::StreamEnd => tell(slot, Plain::StreamEnd, token),
         _ => {
             push(stack, State::Documents)?;
             Ok(false)
@@ -312,6 +303,65 @@ fn end_of(brackets: Brackets) -> Plain
     }
 }
 
+// A flow collection begins.
+fn open_brackets(
+    stack: &mut Vec<State>,
+    brackets: Brackets,
+    properties: Option<Box<Properties>>,
+    token: &yaml_token_t,
+    slot: &mut Item,
+) -> Result<bool, AllocError>
+    ensures item { IfOk result (λ b. given_of b slot.new ≡ Some (node_at (properties_option_of properties) (flow_shape brackets) token.now.start_mark token.now.end_mark)) }
+    ensures stack { OnOk result (stack_of stack.new.items ≡ state.items brackets token.now.start_mark ∷ stack_of stack.old.items) }
+{
+    push(stack, State::Items(brackets, token.start_mark))?;
+    node(slot, properties, flow_collection(brackets), token)
+}
+
+// A block sequence begins.
+fn open_entries(
+    stack: &mut Vec<State>,
+    properties: Option<Box<Properties>>,
+    token: &yaml_token_t,
+    slot: &mut Item,
+) -> Result<bool, AllocError>
+    ensures item { IfOk result (λ b. given_of b slot.new ≡ Some (node_at (properties_option_of properties) (item.sequence YAML_BLOCK_SEQUENCE_STYLE) token.now.start_mark token.now.end_mark)) }
+    ensures stack { OnOk result (stack_of stack.new.items ≡ state.entries token.now.start_mark ∷ stack_of stack.old.items) }
+{
+    push(stack, State::Entries(token.start_mark))?;
+    node(slot, properties, block_sequence(), token)
+}
+
+// A block mapping begins.
+fn open_pairs(
+    stack: &mut Vec<State>,
+    properties: Option<Box<Properties>>,
+    token: &yaml_token_t,
+    slot: &mut Item,
+) -> Result<bool, AllocError>
+    ensures item { IfOk result (λ b. given_of b slot.new ≡ Some (node_at (properties_option_of properties) (item.mapping YAML_BLOCK_MAPPING_STYLE) token.now.start_mark token.now.end_mark)) }
+    ensures stack { OnOk result (stack_of stack.new.items ≡ state.pairs token.now.start_mark ∷ stack_of stack.old.items) }
+{
+    push(stack, State::Pairs(token.start_mark))?;
+    let shape = Shape::Mapping(yaml_mapping_style_t::YAML_BLOCK_MAPPING_STYLE);
+    node(slot, properties, shape, token)
+}
+
+// A sequence that isn't indented begins, with its first `-`.
+fn open_others(
+    stack: &mut Vec<State>,
+    side: Side,
+    properties: Option<Box<Properties>>,
+    token: &yaml_token_t,
+    slot: &mut Item,
+) -> Result<bool, AllocError>
+    ensures item { IfOk result (λ b. given_of b slot.new ≡ Some (node_at (properties_option_of properties) (item.sequence YAML_BLOCK_SEQUENCE_STYLE) token.now.start_mark token.now.end_mark)) }
+    ensures stack { OnOk result (stack_of stack.new.items ≡ state.optional (IndentlessEntry side) token.now.end_mark ∷ state.others side ∷ stack_of stack.old.items) }
+{
+    push_indentless(stack, side, token.end_mark)?;
+    node(slot, properties, block_sequence(), token)
+}
+
 fn at_content(
     stack: &mut Vec<State>,
     wants: Wants,
@@ -328,54 +378,18 @@ fn at_content(
                 value: moved(value),
                 style: *style,
             };
-            node(slot, properties, shape, token.start_mark, token.end_mark)
+            node(slot, properties, shape, token)
         }
         yaml_token_body_t::FlowSequenceStart => {
-            push(stack, State::Items(Brackets::Sequence, token.start_mark))?;
-            node(
-                slot,
-                properties,
-                flow_collection(Brackets::Sequence),
-                token.start_mark,
-                token.end_mark,
-            )
+            open_brackets(stack, Brackets::Sequence, properties, token, slot)
         }
         yaml_token_body_t::FlowMappingStart => {
-            push(stack, State::Items(Brackets::Mapping, token.start_mark))?;
-            node(
-                slot,
-                properties,
-                flow_collection(Brackets::Mapping),
-                token.start_mark,
-                token.end_mark,
-            )
+            open_brackets(stack, Brackets::Mapping, properties, token, slot)
         }
-        yaml_token_body_t::BlockSequenceStart => {
-            push(stack, State::Entries(token.start_mark))?;
-            node(
-                slot,
-                properties,
-                block_sequence(),
-                token.start_mark,
-                token.end_mark,
-            )
-        }
-        yaml_token_body_t::BlockMappingStart => {
-            push(stack, State::Pairs(token.start_mark))?;
-            let shape = Shape::Mapping(yaml_mapping_style_t::YAML_BLOCK_MAPPING_STYLE);
-            node(slot, properties, shape, token.start_mark, token.end_mark)
-        }
+        yaml_token_body_t::BlockSequenceStart => open_entries(stack, properties, token, slot),
+        yaml_token_body_t::BlockMappingStart => open_pairs(stack, properties, token, slot),
         yaml_token_body_t::BlockEntry => match wants {
-            Wants::Block(Some(side)) => {
-                push_indentless(stack, side, token.end_mark)?;
-                node(
-                    slot,
-                    properties,
-                    block_sequence(),
-                    token.start_mark,
-                    token.end_mark,
-                )
-            }
+            Wants::Block(Some(side)) => open_others(stack, side, properties, token, slot),
             _ => nothing(stack, slot),
         },
         _ => nothing(stack, slot),
@@ -397,8 +411,7 @@ fn at_node(
             Plain::Alias {
                 anchor: moved(value),
             },
-            token.start_mark,
-            token.end_mark,
+            token,
         ),
         yaml_token_body_t::Anchor { value } => {
             let properties = Properties {
@@ -477,13 +490,7 @@ fn at_pair(
     match brackets {
         Brackets::Sequence => {
             push_sequence_pair(stack, opener, token.end_mark)?;
-            node(
-                slot,
-                None,
-                flow_collection(Brackets::Mapping),
-                token.start_mark,
-                token.end_mark,
-            )
+            node(slot, None, flow_collection(Brackets::Mapping), token)
         }
         Brackets::Mapping => {
             push_mapping_pair(stack, opener, token.end_mark)?;
@@ -504,18 +511,8 @@ fn at_items(
 {
     match &mut token.body {
         yaml_token_body_t::Key => at_pair(stack, brackets, opener, token, slot),
-        yaml_token_body_t::FlowSequenceEnd => tell(
-            slot,
-            end_of(brackets),
-            token.start_mark,
-            token.end_mark,
-        ),
-        yaml_token_body_t::FlowMappingEnd => tell(
-            slot,
-            end_of(brackets),
-            token.start_mark,
-            token.end_mark,
-        ),
+        yaml_token_body_t::FlowSequenceEnd => tell(slot, end_of(brackets), token),
+        yaml_token_body_t::FlowMappingEnd => tell(slot, end_of(brackets), token),
         _ => {
             push_behind_part(stack, brackets, opener)?;
             at_node(stack, Wants::Flow, token, slot)
@@ -538,7 +535,7 @@ fn at_more(
             push(stack, State::Items(brackets, opener))?;
             Ok(false)
         }
-        _ => tell(slot, end_of(brackets), token.start_mark, token.end_mark),
+        _ => tell(slot, end_of(brackets), token),
     }
 }
 
@@ -556,7 +553,7 @@ fn at_entries(
             push_entry(stack, opener, token.end_mark)?;
             Ok(false)
         }
-        _ => tell(slot, Plain::SequenceEnd, token.start_mark, token.end_mark),
+        _ => tell(slot, Plain::SequenceEnd, token),
     }
 }
 
@@ -574,7 +571,7 @@ fn at_pairs(
             push_block_pair(stack, opener, token.end_mark)?;
             Ok(false)
         }
-        _ => tell(slot, Plain::MappingEnd, token.start_mark, token.end_mark),
+        _ => tell(slot, Plain::MappingEnd, token),
     }
 }
 
@@ -613,7 +610,7 @@ pub fn take(
         State::Optional(place, _) => at_node(stack, wants(place), token, slot),
         State::DocumentEnd => {
             let event = Plain::DocumentEnd { implicit: false };
-            tell(slot, event, token.start_mark, token.end_mark)
+            tell(slot, event, token)
         }
         State::Entries(opener) => at_entries(stack, opener, token, slot),
         State::Others(side) => at_others(stack, side, token.end_mark),

@@ -10,8 +10,8 @@ use Rattle.yaml_parse_grammar.specs.Resolve.{Directives, Settled, gave, settle}
 use Rattle.yaml_parse_grammar.specs.Coming.{is_between}
 use Rattle.yaml_parse_grammar.specs.Stacks.{IsStack, StandsBehind, parts_documents_behind}
 use Rattle.yaml_parse_grammar.proofs.Standing.{StandsOn, taken_stands, left_stands, opened_stands, SettledBehind, settled_behind}
-use Rattle.yaml_parse.specs.declared.step.Step.{Step}
-use Rattle.yaml_parse.specs.declared.step.Step.TheVariants as step
+use Rattle.yaml_parse.specs.Stepped.{Stepped}
+use Rattle.yaml_parse.specs.Stepped as step
 use Rattle.yaml_parse.specs.Steps.{Raw, IsDone, OpensAt, IsStackStep}
 
 pub take_item_stands : (x : State) (t : Token) (s s' : List State) (i : Item) (above : List State) → choice_at x (type_of t.body) ≡ Take → record { item = Some i; above = above } ≡ taken_at x t
@@ -29,15 +29,15 @@ leave_stands x t s i c e h =
     let u : IsStack s × StandsBehind (left_at x t.start_mark).body (is_between s) = left_stands x (type_of t.body) t.start_mark s c h in
     (u.0, subst (λ (j : Item). StandsBehind j.body (is_between s)) (sym e) u.1)
 
-pub open_stands : (x : State) (t : Token) (s s' : List State) (r : Step) → choice_at x (type_of t.body) ≡ Open → OpensAt t.start_mark s r s' → IsStack (x ∷ s) → IsStackStep r s'
-open_stands x t s s' (step.Item i) c o h =
+pub open_stands : (x : State) (t : Token) (s s' : List State) (r : Stepped) → choice_at x (type_of t.body) ≡ Open → OpensAt t.start_mark s r s' → IsStack (x ∷ s) → IsStackStep r s'
+open_stands x t s s' (step.given i) c o h =
     let u : IsStack (opened t.start_mark ++ s) × (is_between (opened t.start_mark ++ s) ≡ false) = opened_stands x (type_of t.body) t.start_mark s c h in
     (subst IsStack (sym o.1) u.0, subst (λ (j : Item). StandsBehind j.body (is_between s')) (sym o.0) (ap is_between o.1 ∙ u.1))
-open_stands x t s s' (step.Refused f) c o h = tt
-open_stands x t s s' step.Silent c o h = absurd o
-open_stands x t s s' step.Done c o h = tt
+open_stands x t s s' (step.refused f) c o h = tt
+open_stands x t s s' step.silent c o h = absurd o
+open_stands x t s s' step.done c o h = tt
 
-pub advance_stands : (old : List State) (x : State) (s s' : List State) (r : Step) → old ≡ x ∷ s → (IsStack (x ∷ s) → IsStackStep r s') → IsStack old → IsStackStep r s'
+pub advance_stands : (old : List State) (x : State) (s s' : List State) (r : Stepped) → old ≡ x ∷ s → (IsStack (x ∷ s) → IsStackStep r s') → IsStack old → IsStackStep r s'
 advance_stands old x s s' r e k h = k (subst IsStack e h)
 
 -- ---- turns

@@ -16,10 +16,9 @@ use Rattle.yaml_parse_grammar.proofs.Complete.{giving, leaves_at}
 use Rattle.yaml_parse_grammar.proofs.Voice.{Voiced, TakenSpeaks, taken_speaks, left_voiced, takes_a_token}
 use Rattle.yaml_parse_grammar.proofs.Single.{refuses, takes, takes_silently, opens}
 use Rattle.yaml_parse_machine.specs.declared.item.State as code
-use Rattle.yaml_parse_machine.specs.declared.item.Item as codeitem
-use Rattle.yaml_parse_machine.specs.Views.{state_of, stack_of, item_of}
-use Rattle.yaml_parse.specs.declared.step.Step.{Step}
-use Rattle.yaml_parse.specs.declared.step.Step.TheVariants as step
+use Rattle.yaml_parse_machine.specs.Views.{state_of, stack_of}
+use Rattle.yaml_parse.specs.Stepped.{Stepped}
+use Rattle.yaml_parse.specs.Stepped as step
 use Rattle.yaml_parse.specs.Steps.{Raw, raw, outcome, budget, IsFront, HasNoFront, IsDirective, GivesItem, GivesNoItem, IsRefused, Steps, OpensAt, IsReal}
 
 -- a directive leaves something open
@@ -81,25 +80,25 @@ open_item x t rest f s s' i h e q = record {
   stands = λ d. absurd (subst (λ (j : Item). IsDirective j.body) e d);
 }
 
-pub open_step : (x : State) (t : Token) (rest : List Token) (f : Option Fault) (s s' : List State) (r : Step) → choice_at x (type_of t.body) ≡ Open
+pub open_step : (x : State) (t : Token) (rest : List Token) (f : Option Fault) (s s' : List State) (r : Stepped) → choice_at x (type_of t.body) ≡ Open
     → OpensAt t.start_mark s r s' → Steps (raw (Some t) rest f (x ∷ s)) r (raw (Some t) rest f s')
-open_step x t rest f s s' (step.Item i) h o = open_item x t rest f s s' (item_of i) h o.0 o.1
-open_step x t rest f s s' (step.Refused e) h o = record { reason = inl o }
-open_step x t rest f s s' step.Silent h o = absurd o
-open_step x t rest f s s' step.Done h o = absurd o
+open_step x t rest f s s' (step.given i) h o = open_item x t rest f s s' i h o.0 o.1
+open_step x t rest f s s' (step.refused e) h o = record { reason = inl o }
+open_step x t rest f s s' step.silent h o = absurd o
+open_step x t rest f s s' step.done h o = absurd o
 
-pub open_real : (x : State) (t : Token) (start : yaml_mark_t) (s s' : List State) (r : Step) → OpensAt start s r s' → IsReal x t r
-open_real x t start s s' (step.Item i) o = λ d. absurd (subst (λ (j : Item). IsDirective j.body) o.0 d)
-open_real x t start s s' (step.Refused e) o = tt
-open_real x t start s s' step.Silent o = absurd o
-open_real x t start s s' step.Done o = absurd o
+pub open_real : (x : State) (t : Token) (start : yaml_mark_t) (s s' : List State) (r : Stepped) → OpensAt start s r s' → IsReal x t r
+open_real x t start s s' (step.given i) o = λ d. absurd (subst (λ (j : Item). IsDirective j.body) o.0 d)
+open_real x t start s s' (step.refused e) o = tt
+open_real x t start s s' step.silent o = absurd o
+open_real x t start s s' step.done o = absurd o
 
 -- what takes a token is real
-pub take_real : (x : State) (t : Token) (s : List State) (new : Raw) (r : Step) → choice_at x (type_of t.body) ≡ Take → Steps (raw (Some t) [] None (x ∷ s)) r new → IsReal x t r
-take_real x t s new (step.Item i) h o = λ d. h
-take_real x t s new (step.Refused f) h o = tt
-take_real x t s new step.Silent h o = h
-take_real x t s new step.Done h o = nothing_empty x s o.empty
+pub take_real : (x : State) (t : Token) (s : List State) (new : Raw) (r : Stepped) → choice_at x (type_of t.body) ≡ Take → Steps (raw (Some t) [] None (x ∷ s)) r new → IsReal x t r
+take_real x t s new (step.given i) h o = λ d. h
+take_real x t s new (step.refused f) h o = tt
+take_real x t s new step.silent h o = h
+take_real x t s new step.done h o = nothing_empty x s o.empty
   where
     nothing_empty : (x : State) (s : List State) → x ∷ s ≡ [] → ⊥
     nothing_empty x s e = cc
@@ -112,26 +111,26 @@ takes_real_token x t h e = takes_a_token x (sym (ap (λ (u : Token). choice_at x
 less_of : (old middle new : ℕ) (x : State) (t : Token) → new < middle → (middle ≡ old) ⊎ (t ≡ no_token) → choice_at x (type_of t.body) ≡ Take → new < old
 less_of old middle new x t l a h = elim a [ inl e ↦ omega arith | inr e ↦ absurd (takes_real_token x t h e) ]
 
-pub bridge : (old middle new : Raw) (x : State) (t : Token) (r : Step) → Steps middle r new → outcome middle ≡ outcome old → (budget middle ≡ budget old) ⊎ (t ≡ no_token)
+pub bridge : (old middle new : Raw) (x : State) (t : Token) (r : Stepped) → Steps middle r new → outcome middle ≡ outcome old → (budget middle ≡ budget old) ⊎ (t ≡ no_token)
     → IsReal x t r → Steps old r new
-bridge old middle new x t (step.Item i) h e a l = record {
+bridge old middle new x t (step.given i) h e a l = record {
   same = sym e ∙ h.same;
   less = λ d. less_of (budget old) (budget middle) (budget new) x t (h.less d) a (l d);
   stands = h.stands;
 }
-bridge old middle new x t step.Silent h e a l = record {
+bridge old middle new x t step.silent h e a l = record {
   same = sym e ∙ h.same;
   less = less_of (budget old) (budget middle) (budget new) x t h.less a l;
   stands = h.stands;
 }
-bridge old middle new x t (step.Refused f) h e a l = record { reason = elim h.reason [ inl m ↦ inl m | inr q ↦ inr (sym e ∙ q) ] }
-bridge old middle new x t step.Done h e a l = absurd l
+bridge old middle new x t (step.refused f) h e a l = record { reason = elim h.reason [ inl m ↦ inl m | inr q ↦ inr (sym e ∙ q) ] }
+bridge old middle new x t step.done h e a l = absurd l
 
 -- the state on top
 pub popped : (old new : List code.State) (x : code.State) → old ≡ new ++ x ∷ [] → stack_of old ≡ state_of x ∷ stack_of new
 popped old new x e = ap (λ (z : List code.State). map state_of (reverse z)) e ∙ ap (map state_of) (reverse-append new (x ∷ []))
 
-pub advanced : (peeked : Option Token) (ts : List Token) (f : Option Fault) (old : List State) (x : State) (s : List State) (t : Token) (rest : List Token) (after : Option Fault) (new : Raw) (r : Step)
+pub advanced : (peeked : Option Token) (ts : List Token) (f : Option Fault) (old : List State) (x : State) (s : List State) (t : Token) (rest : List Token) (after : Option Fault) (new : Raw) (r : Stepped)
     → old ≡ x ∷ s → IsFront peeked ts f t rest after → Steps (raw (Some t) rest after (x ∷ s)) r new → IsReal x t r → Steps (raw peeked ts f old) r new
 advanced peeked ts f old x s t rest after new r e h k l =
     bridge (raw peeked ts f old) (raw (Some t) rest after (x ∷ s)) new x t r k (rw e (h.runs (x ∷ s))) (elim h.asked [ inl a ↦ inl a | inr a ↦ inr a ]) l
@@ -144,5 +143,5 @@ pub no_front_step : (peeked : Option Token) (ts : List Token) (f : Option Fault)
     → old ≡ x ∷ s → HasNoFront peeked ts f e → IsRefused e (raw peeked ts f old)
 no_front_step peeked ts f old x s e p h = record { reason = elim h.reason [ inl m ↦ inl m | inr r ↦ inr (ending_outcome peeked ts f old x s e p r) ] }
 
-pub leave_real : (x : State) (t : Token) (start : yaml_mark_t) (i : codeitem.Item) → item_of i ≡ left_at x start → IsReal x t (step.Item i)
+pub leave_real : (x : State) (t : Token) (start : yaml_mark_t) (i : Item) → i ≡ left_at x start → IsReal x t (step.given i)
 leave_real x t start i e = λ d. absurd (left_is_none x start (subst (λ (j : Item). IsDirective j.body) e d))

@@ -11,8 +11,8 @@ use Rattle.yaml_parse_grammar.specs.Machine.{taken_at, left_at, opened}
 use Rattle.yaml_parse_grammar.specs.Resolve.{Directives, gave, noted, settle}
 use Rattle.yaml_parse_grammar.specs.Texts.{IsUtf8Item, AreUtf8States, IsUtf8Token, IsUtf8Held}
 use Rattle.yaml_parse_grammar.proofs.Utf8.{IsUtf8Taken, taken_utf8, left_utf8, opened_utf8, states_over, IsUtf8Settled, settled_utf8, held_utf8}
-use Rattle.yaml_parse.specs.declared.step.Step.{Step}
-use Rattle.yaml_parse.specs.declared.step.Step.TheVariants as step
+use Rattle.yaml_parse.specs.Stepped.{Stepped}
+use Rattle.yaml_parse.specs.Stepped as step
 use Rattle.yaml_parse.specs.Steps.{Raw, IsDone, OpensAt, IsUtf8Step}
 
 taken_held : (x : State) (t : Token) (i : Option Item) (above s : List State) (ds : Directives) → record { item = i; above = above } ≡ taken_at x t
@@ -35,16 +35,16 @@ pub leave_utf8 : (x : State) (t : Token) (start : yaml_mark_t) (s : List State) 
     → IsUtf8Held (Some t) (x ∷ s) ds → IsUtf8Item i.body × (IsUtf8Token (Some t) × (AreUtf8States s × AreUtf8 ds.tags))
 leave_utf8 x t start s i ds e h = (subst (λ (j : Item). IsUtf8Item j.body) (sym e) (left_utf8 x start h.1.0.0), (h.0, (h.1.0.1, h.1.1)))
 
-pub open_utf8 : (x : State) (t : Token) (start : yaml_mark_t) (s s' : List State) (r : Step) (ds : Directives) → OpensAt start s r s'
+pub open_utf8 : (x : State) (t : Token) (start : yaml_mark_t) (s s' : List State) (r : Stepped) (ds : Directives) → OpensAt start s r s'
     → IsUtf8Held (Some t) (x ∷ s) ds → IsUtf8Step r (Some t) s' ds
-open_utf8 x t start s s' (step.Item i) ds o h =
+open_utf8 x t start s s' (step.given i) ds o h =
     (subst (λ (j : Item). IsUtf8Item j.body) (sym o.0) tt, (h.0, (subst AreUtf8States (sym o.1) (states_over (opened start) s (opened_utf8 start) h.1.0.1), h.1.1)))
-open_utf8 x t start s s' (step.Refused f) ds o h = tt
-open_utf8 x t start s s' step.Silent ds o h = absurd o
-open_utf8 x t start s s' step.Done ds o h = tt
+open_utf8 x t start s s' (step.refused f) ds o h = tt
+open_utf8 x t start s s' step.silent ds o h = absurd o
+open_utf8 x t start s s' step.done ds o h = tt
 
 -- the state on top, at the token in front
-pub advance_utf8 : (peeked : Option Token) (old : List State) (x : State) (s : List State) (t : Token) (after : Option Token) (s' : List State) (r : Step) (ds : Directives)
+pub advance_utf8 : (peeked : Option Token) (old : List State) (x : State) (s : List State) (t : Token) (after : Option Token) (s' : List State) (r : Stepped) (ds : Directives)
     → old ≡ x ∷ s → (IsUtf8Token peeked → source.HasUtf8 t.body) → (IsUtf8Held (Some t) (x ∷ s) ds → IsUtf8Step r after s' ds) → IsUtf8Held peeked old ds → IsUtf8Step r after s' ds
 advance_utf8 peeked old x s t after s' r ds e f k h =
     let u : IsUtf8Held peeked (x ∷ s) ds = subst (λ (z : List State). IsUtf8Held peeked z ds) e h in

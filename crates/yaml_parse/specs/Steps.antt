@@ -1,10 +1,9 @@
 -- What the private steps of a parser owe.
-use Rattle.std.specs.Prelude.{◌≡◌, ◌⊎◌, ◌+◌, ◌<◌, ◌++◌, ℕ, List, [], ◌∷◌, length, Option, Some, None, Bool, true}
+use Rattle.std.specs.Prelude.{◌≡◌, ◌⊎◌, ◌+◌, ◌<◌, ◌++◌, ℕ, List, [], ◌∷◌, length, Option, Some, None, Bool, true, false}
 use Rattle.yaml_scan.specs.declared.yaml_error_type_t.TheVariants.{YAML_MEMORY_ERROR}
 use Rattle.yaml_scan.specs.declared.yaml_mark_t.{yaml_mark_t}
-use Rattle.yaml_scan.specs.declared.yaml_token_t.{yaml_token_t}
 use Rattle.yaml_scan.specs.Tokens.{Token, no_token, token_of, type_of}
-use Rattle.yaml_scan.specs.Faults.{Fault, fault_of}
+use Rattle.yaml_scan.specs.Faults.{Fault}
 use Rattle.yaml_parse_model.specs.Events.{Event, event_of, no_event}
 use Rattle.yaml_parse_model.specs.declared.yaml_event_t.{yaml_event_t}
 use Rattle.yaml_parse_grammar.specs.declared.name.Choice.TheVariants.{Take}
@@ -12,20 +11,26 @@ use Rattle.yaml_parse_grammar.specs.States.{State}
 use Rattle.yaml_parse_grammar.specs.Items.{item_at}
 use Rattle.yaml_parse_grammar.specs.Items as item
 use Rattle.yaml_parse_grammar.specs.Machine.{Outcome, run, ending_at, choice_at, opened, Stands}
-use Rattle.yaml_parse_grammar.specs.Coming.{Coming, waiting, held_of, IsFinished, GivesNothing, is_between}
+use Rattle.yaml_parse_grammar.specs.Coming.{Coming, waiting, held_of, IsFinished, GivesNothing, FaultOf, is_between}
 use Rattle.yaml_parse_grammar.specs.Texts.{IsUtf8Item, AreUtf8States, IsUtf8Token}
 use Rattle.yaml_parse_grammar.specs.Stacks.{IsStack, StandsBehind, parts_documents_behind}
 use Rattle.yaml_parse_model.specs.Constructors.{HasUtf8, AreUtf8}
 use Rattle.yaml_parse_grammar.specs.Resolve.{Directives}
-use Rattle.yaml_parse_machine.specs.Views.{item_of}
-use Rattle.yaml_parse.specs.declared.step.Step.{Step}
-use Rattle.yaml_parse.specs.declared.step.Step.TheVariants as step
-use Rattle.yaml_parse.specs.declared.step.Turn.{Turn}
-use Rattle.yaml_parse.specs.declared.step.Turn.TheVariants as turn
+use Rattle.yaml_parse.specs.declared.step.Desk.{Desk}
+use Rattle.yaml_parse.specs.declared.parser.Found.{Found}
+use Rattle.yaml_parse.specs.declared.parser.Found.TheVariants as found
+use Rattle.yaml_parse.specs.Stepped.{Stepped}
+use Rattle.yaml_parse.specs.Stepped as step
+use Rattle.yaml_parse.specs.Turned.{Turned}
+use Rattle.yaml_parse.specs.Turned as turn
 
-abbrev pub peeked_of : Option yaml_token_t → Option Token
-peeked_of None = None
-peeked_of (Some t) = Some (token_of t)
+abbrev pub held_if : Bool → Token → Option Token
+held_if false t = None
+held_if true t = Some t
+
+-- the token that is still to be taken
+abbrev pub peeked_of : Desk → Option Token
+peeked_of d = held_if d.is_held (token_of d.token)
 
 -- The token stands at the front: every stack goes on as before, and if it isn't the empty one it was asked for.
 pub record IsFront (peeked : Option Token) (ts : List Token) (fault : Option Fault) (t : Token) (rest : List Token) (after : Option Fault) : Type 0 where
@@ -35,6 +40,11 @@ pub record IsFront (peeked : Option Token) (ts : List Token) (fault : Option Fau
 -- No token stands there: memory ran out, or the fault ends the list.
 pub record HasNoFront (peeked : Option Token) (ts : List Token) (fault : Option Fault) (f : Fault) : Type 0 where
   pub reason : (f.kind ≡ YAML_MEMORY_ERROR) ⊎ ((s : List State) → run (waiting peeked ts) s fault ≡ ending_at s f)
+
+-- whether a token stands at the front
+abbrev pub HasFront : Bool → Option Token → List Token → Option Fault → Token → List Token → Option Fault → Fault → Type 0
+HasFront true peeked ts fault t rest after f = IsFront peeked ts fault t rest after
+HasFront false peeked ts fault t rest after f = HasNoFront peeked ts fault f
 
 -- what stands between the source and resolving
 pub record Raw : Type 0 where
@@ -76,46 +86,46 @@ pub record IsDone (old new : Raw) : Type 0 where
   pub empty : old.stack ≡ []
   pub same : new ≡ old
 
-abbrev pub Steps : Raw → Step → Raw → Type 0
-Steps old (step.Item i) new = GivesItem (item_of i) old new
-Steps old step.Silent new = GivesNoItem old new
-Steps old (step.Refused f) new = IsRefused (fault_of f) old
-Steps old step.Done new = IsDone old new
+abbrev pub Steps : Raw → Stepped → Raw → Type 0
+Steps old (step.given i) new = GivesItem i old new
+Steps old step.silent new = GivesNoItem old new
+Steps old (step.refused f) new = IsRefused f old
+Steps old step.done new = IsDone old new
 
 -- an implicit document begins there
-abbrev pub OpensAt : yaml_mark_t → List State → Step → List State → Type 0
-OpensAt start old (step.Item i) new = (item_of i ≡ item_at (item.document true) start start) × (new ≡ opened start ++ old)
-OpensAt start old (step.Refused f) new = (fault_of f).kind ≡ YAML_MEMORY_ERROR
-OpensAt start old step.Silent new = ⊥
-OpensAt start old step.Done new = ⊥
+abbrev pub OpensAt : yaml_mark_t → List State → Stepped → List State → Type 0
+OpensAt start old (step.given i) new = (i ≡ item_at (item.document true) start start) × (new ≡ opened start ++ old)
+OpensAt start old (step.refused f) new = f.kind ≡ YAML_MEMORY_ERROR
+OpensAt start old step.silent new = ⊥
+OpensAt start old step.done new = ⊥
 
 -- what takes no item, or a directive, takes a token
-abbrev pub IsReal : State → Token → Step → Type 0
-IsReal x t (step.Item i) = IsDirective (item_of i).body → choice_at x (type_of t.body) ≡ Take
-IsReal x t step.Silent = choice_at x (type_of t.body) ≡ Take
-IsReal x t (step.Refused f) = Unit {0}
-IsReal x t step.Done = ⊥
+abbrev pub IsReal : State → Token → Stepped → Type 0
+IsReal x t (step.given i) = IsDirective i.body → choice_at x (type_of t.body) ≡ Take
+IsReal x t step.silent = choice_at x (type_of t.body) ≡ Take
+IsReal x t (step.refused f) = Unit {0}
+IsReal x t step.done = ⊥
 
 -- the texts of what a step gives are UTF-8, and those of what is held then
-abbrev pub IsUtf8Step : Step → Option Token → List State → Directives → Type 0
-IsUtf8Step (step.Item i) peeked s ds = IsUtf8Item (item_of i).body × (IsUtf8Token peeked × (AreUtf8States s × AreUtf8 ds.tags))
-IsUtf8Step step.Silent peeked s ds = IsUtf8Token peeked × (AreUtf8States s × AreUtf8 ds.tags)
-IsUtf8Step (step.Refused f) peeked s ds = Unit {0}
-IsUtf8Step step.Done peeked s ds = Unit {0}
+abbrev pub IsUtf8Step : Stepped → Option Token → List State → Directives → Type 0
+IsUtf8Step (step.given i) peeked s ds = IsUtf8Item i.body × (IsUtf8Token peeked × (AreUtf8States s × AreUtf8 ds.tags))
+IsUtf8Step step.silent peeked s ds = IsUtf8Token peeked × (AreUtf8States s × AreUtf8 ds.tags)
+IsUtf8Step (step.refused f) peeked s ds = Unit {0}
+IsUtf8Step step.done peeked s ds = Unit {0}
 
 -- a step keeps how the states stand above one another, and what it gives tells whether a document is half taken then
-abbrev pub IsStackStep : Step → List State → Type 0
-IsStackStep (step.Item i) s = IsStack s × StandsBehind (item_of i).body (is_between s)
-IsStackStep step.Silent s = IsStack s
-IsStackStep (step.Refused f) s = Unit {0}
-IsStackStep step.Done s = Unit {0}
+abbrev pub IsStackStep : Stepped → List State → Type 0
+IsStackStep (step.given i) s = IsStack s × StandsBehind i.body (is_between s)
+IsStackStep step.silent s = IsStack s
+IsStackStep (step.refused f) s = Unit {0}
+IsStackStep step.done s = Unit {0}
 
-abbrev pub IsStackTurn : Turn → Bool → Type 0
-IsStackTurn (turn.Event e) between = between ≡ parts_documents_behind (event_of e).body
+abbrev pub IsStackTurn : Turned → Bool → Type 0
+IsStackTurn (turn.event e) between = between ≡ parts_documents_behind e.body
 IsStackTurn _ between = Unit {0}
 
-abbrev pub IsUtf8Turn : Turn → Type 0
-IsUtf8Turn (turn.Event e) = HasUtf8 (event_of e).body
+abbrev pub IsUtf8Turn : Turned → Type 0
+IsUtf8Turn (turn.event e) = HasUtf8 e.body
 IsUtf8Turn _ = Unit {0}
 
 -- nothing is given, a token is taken, and something is to come
@@ -151,11 +161,25 @@ abbrev pub NextOf : Coming → Option yaml_event_t → Coming → Type 0
 NextOf old (Some e) new = GivesNext (event_of e) old new
 NextOf old None new = GivesEnd old new
 
-abbrev pub Turns : Coming → Turn → Coming → Type 0
-Turns old (turn.Event e) new = GivesNext (event_of e) old new
-Turns old turn.Silent new = IsSilent old new
-Turns old (turn.Refused f) new = IsTurnRefused (fault_of f) old new
-Turns old turn.Done new = IsOver old new
+-- what a call finds: the next event or a fault, which stand in the slots, or the end
+abbrev pub Finds : Coming → Found → Event → Fault → Coming → Type 0
+Finds old found.Event e f new = GivesNext e old new
+Finds old found.Refused e f new = FaultOf old f new
+Finds old found.End e f new = GivesEnd old new
+
+abbrev pub IsUtf8Found : Found → Event → Type 0
+IsUtf8Found found.Event e = HasUtf8 e.body
+IsUtf8Found _ e = Unit {0}
+
+abbrev pub IsStackFound : Found → Event → Bool → Type 0
+IsStackFound found.Event e between = between ≡ parts_documents_behind e.body
+IsStackFound _ e between = Unit {0}
+
+abbrev pub Turns : Coming → Turned → Coming → Type 0
+Turns old (turn.event e) new = GivesNext e old new
+Turns old turn.silent new = IsSilent old new
+Turns old (turn.refused f) new = IsTurnRefused f old new
+Turns old turn.done new = IsOver old new
 
 -- What lasts over the turns of a call. No token is taken unless something is to come.
 pub record Kept (initial now : Coming) : Type 0 where

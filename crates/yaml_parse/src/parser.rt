@@ -4,7 +4,9 @@ ghost use Rattle.std.specs.Prelude.{◌≡◌, ◌↔◌, List, Option, Some, No
 ghost use Rattle.yaml_scan.specs.Tokens.{Token};
 ghost use Rattle.yaml_scan.specs.Faults.{Fault, fault_of, memory_fault};
 ghost use Rattle.yaml_scan.specs.declared.yaml_origin_t.TheVariants.{Parser};
-ghost use Rattle.yaml_parse_model.specs.Events.{event_of};
+ghost use Rattle.yaml_parse_model.specs.Events.{event_of, stream_end};
+ghost use Rattle.yaml_parse_grammar.specs.Items as item;
+ghost use Rattle.yaml_parse_machine.specs.Views.{item_of};
 ghost use Rattle.yaml_parse_model.specs.Prefix.{prefix_of, no_fault};
 ghost use Rattle.yaml_parse_grammar.specs.Trees.{Stream, spell, items};
 ghost use Rattle.yaml_parse_grammar.specs.Resolve.{reading, no_directives};
@@ -13,25 +15,26 @@ ghost use Rattle.yaml_parse_grammar.specs.Coming.{reading_of, EventOf, FaultOf, 
 ghost use Rattle.yaml_parse_model.specs.Constructors.{HasUtf8};
 ghost use Rattle.yaml_parse_sound.specs.Laws.{BeginsWithSentence};
 ghost use Rattle.yaml_parse.specs.Refusals.{IsRefusal};
-ghost use Rattle.yaml_parse.specs.Steps.{Turns, NextOf, IsUtf8Turn, IsStackTurn};
+ghost use Rattle.yaml_parse.specs.Steps.{Turns, NextOf, Finds, IsUtf8Turn, IsStackTurn, IsUtf8Found, IsStackFound};
+ghost use Rattle.yaml_parse.specs.Turned.{turned};
 ghost use Rattle.yaml_parse_grammar.specs.Stacks.{parts_documents_behind};
 
-use crate::step::{Turn, take_turn};
+use crate::step::{Desk, Turn, take_turn};
 use std::alloc::Global;
 use std::marker::Model;
-use yaml_parse_machine::{Directives, State, TagDirectives};
+use yaml_parse_machine::{Directives, Item, ItemBody, Plain, State, TagDirectives};
 use yaml_parse_model::{
     yaml_event_body_t, yaml_event_t, yaml_parser_t_prefix, yaml_token_source_t,
 };
-use yaml_scan::{yaml_fault_t, yaml_memory_fault, yaml_origin_t, yaml_token_t};
+use yaml_scan::{yaml_fault_t, yaml_mark_t, yaml_memory_fault, yaml_origin_t, yaml_token_t};
 
 /// A parser of the tokens of a source.
 #[derive(Drop)]
 pub struct yaml_parser_t<S: yaml_token_source_t> {
     alloc: Global,
     source: S,
-    // A token that was asked for and is not consumed.
-    peeked: Option<yaml_token_t>,
+    // The token at the front, and the item of the last step.
+    desk: Desk,
     // What may come, the nearest last.
     stack: Vec<State>,
     // Of the document that is open or begins.
@@ -49,26 +52,28 @@ impl<S: yaml_token_source_t> Model for yaml_parser_t<S> {
 
     ghost Value = { Coming };
 
-    ghost view = { λ p. coming (peeked_of p.peeked) (S.to_come p.source) (S.fault_to_come p.source) (stack_of p.stack.items) (directives_of p.directives) (prefix_of p.prefix) };
+    ghost view = { λ p. coming (peeked_of p.desk) (S.to_come p.source) (S.fault_to_come p.source) (stack_of p.stack.items) (directives_of p.directives) (prefix_of p.prefix) };
 
     ghost use Rattle.yaml_parse_grammar.specs.Texts.{IsUtf8Held};
     ghost use Rattle.yaml_parse_grammar.specs.Stacks.{IsStack};
 
-    ghost invariant = { λ p. IsUtf8Held (peeked_of p.peeked) (stack_of p.stack.items) (directives_of p.directives) × IsStack (stack_of p.stack.items) };
+    ghost invariant = { λ p. IsUtf8Held (peeked_of p.desk) (stack_of p.stack.items) (directives_of p.directives) × IsStack (stack_of p.stack.items) };
 }
 
 impl<S: yaml_token_source_t> yaml_parser_t<S> {
-    fn turn(&mut self) -> Turn
-        ensures turns { Turns self.old result self.new }
-        ensures utf8 { IsUtf8Turn result }
-        ensures between { IsStackTurn result self.new.between }
+    fn turn(&mut self, event: &mut yaml_event_t, fault: &mut yaml_fault_t) -> Turn
+        ensures turns { Turns self.old (turned result (event_of event.new) (fault_of fault.new)) self.new }
+        ensures utf8 { IsUtf8Turn (turned result (event_of event.new) (fault_of fault.new)) }
+        ensures between { IsStackTurn (turned result (event_of event.new) (fault_of fault.new)) self.new.between }
     {
         take_turn(
             self.alloc,
             &mut self.source,
-            &mut self.peeked,
+            &mut self.desk,
             &mut self.stack,
             &mut self.directives,
+            event,
+            fault,
         )
     }
 }
@@ -86,6 +91,22 @@ impl<S: yaml_token_source_t> yaml_parser_t<S> {
     {
         self.stack.clear();
         self.prefix = yaml_parser_t_prefix::of(fault);
+    }
+}
+
+// An item that nothing has given.
+fn no_item() -> Item
+    ensures { (item_of result).body ≡ item.event stream_end }
+{
+    let zero = yaml_mark_t {
+        index: 0,
+        line: 0,
+        column: 0,
+    };
+    Item {
+        body: ItemBody::Event(Plain::StreamEnd),
+        from: zero,
+        to: zero,
     }
 }
 
@@ -115,7 +136,11 @@ pub fn yaml_parser_initialize<S: yaml_token_source_t>(
         Ok(()) => Ok(yaml_parser_t {
             alloc,
             source,
-            peeked: None,
+            desk: Desk {
+                token: yaml_token_t::empty(),
+                is_held: false,
+                item: no_item(),
+            },
             stack,
             directives: Directives {
                 version: None,
@@ -124,6 +149,37 @@ pub fn yaml_parser_initialize<S: yaml_token_source_t>(
             prefix: yaml_parser_t_prefix::quiet(),
         }),
         Err(_) => Err(yaml_memory_fault(yaml_origin_t::Parser)),
+    }
+}
+
+/// What a call finds: an event or a fault that stands in its slot, or the end.
+#[derive(Clone, Copy, PartialEq, Eq, Debug)]
+enum Found {
+    Event,
+    Refused,
+    End,
+}
+
+// The next event, or nothing behind the last one and after a fault.
+fn find<S: yaml_token_source_t>(
+    parser: &mut yaml_parser_t<S>,
+    event: &mut yaml_event_t,
+    fault: &mut yaml_fault_t,
+) -> Found
+    ensures finds { Finds parser.old result (event_of event.new) (fault_of fault.new) parser.new }
+    ensures utf8 { IsUtf8Found result (event_of event.new) }
+    ensures between { IsStackFound result (event_of event.new) parser.new.between }
+{
+    'turns: loop {
+        match parser.turn(event, fault) {
+            Turn::Event => return Found::Event,
+            Turn::Silent => {}
+            Turn::Refused => {
+                parser.prefix = yaml_parser_t_prefix::of(fault);
+                return Found::Refused;
+            }
+            Turn::Done => return Found::End,
+        }
     }
 }
 
@@ -136,15 +192,17 @@ pub(crate) fn next_event<S: yaml_token_source_t>(
     ensures between { IfOk result (λ e. IfSome e (λ x. parser.new.between ≡ parts_documents_behind (event_of x).body)) }
     ensures err { IfErr result (λ f. FaultOf parser.old (fault_of f) parser.new) }
 {
-    'turns: loop {
-        match parser.turn() {
-            Turn::Event(event) => return Ok(Some(event)),
-            Turn::Silent => {}
-            Turn::Refused(fault) => {
-                parser.prefix = yaml_parser_t_prefix::of(&fault);
-                return Err(fault);
-            }
-            Turn::Done => return Ok(None),
+    let mut event = yaml_event_t::unplaced(yaml_event_body_t::No);
+    let mut fault = yaml_memory_fault(yaml_origin_t::Parser);
+    match find(parser, &mut event, &mut fault) {
+        Found::Event => Ok(Some(event)),
+        Found::Refused => {
+            drop(event);
+            Err(fault)
+        }
+        Found::End => {
+            drop(event);
+            Ok(None)
         }
     }
 }
@@ -159,10 +217,18 @@ pub fn yaml_parser_parse<S: yaml_token_source_t>(
     ensures between { IfOk result (λ e. parser.new.between ≡ parts_documents_behind (event_of e).body) }
     ensures err { IfErr result (λ f. FaultOf parser.old (fault_of f) parser.new) }
 {
-    match next_event(parser) {
-        Ok(Some(event)) => Ok(event),
-        Ok(None) => Ok(yaml_event_t::unplaced(yaml_event_body_t::No)),
-        Err(fault) => Err(fault),
+    let mut event = yaml_event_t::unplaced(yaml_event_body_t::No);
+    let mut fault = yaml_memory_fault(yaml_origin_t::Parser);
+    match find(parser, &mut event, &mut fault) {
+        Found::Event => Ok(event),
+        Found::Refused => {
+            drop(event);
+            Err(fault)
+        }
+        Found::End => {
+            drop(event);
+            Ok(yaml_event_t::unplaced(yaml_event_body_t::No))
+        }
     }
 }
 

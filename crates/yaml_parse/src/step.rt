@@ -1,20 +1,23 @@
 //! One step of a parser: a token is taken, or a state is left before it.
 
-ghost use Rattle.std.specs.Prelude.{◌≡◌, ◌⊎◌, [], ◌∷◌, List, Option, Some, None, IfOk, IfErr};
+ghost use Rattle.std.specs.Prelude.{◌≡◌, ◌∷◌, true, List, Option, Some, None};
 ghost use Rattle.yaml_scan.specs.Tokens.{Token, token_of, type_of};
 ghost use Rattle.yaml_scan.specs.Faults.{Fault, fault_of, memory_fault};
 ghost use Rattle.yaml_scan.specs.declared.yaml_origin_t.TheVariants.{Parser};
+ghost use Rattle.yaml_parse_model.specs.Events.{event_of};
 ghost use Rattle.yaml_parse_grammar.specs.Problems.{parser_fault};
 ghost use Rattle.yaml_parse_grammar.specs.Machine.{choice_at, context_of};
 ghost use Rattle.yaml_parse_grammar.specs.declared.name.Choice.TheVariants.{Take as taking_it};
-ghost use Rattle.yaml_parse_machine.specs.Views.{state_of, stack_of};
+ghost use Rattle.yaml_parse_machine.specs.Views.{state_of, stack_of, item_of};
 ghost use Rattle.yaml_parse_machine.specs.Settles.{directives_of};
 ghost use Rattle.yaml_parse_grammar.specs.Coming.{coming, is_between};
 ghost use Rattle.yaml_parse_grammar.specs.Resolve.{Directives as DirectivesSpec};
 ghost use Rattle.yaml_parse_grammar.specs.Stacks.{IsStack};
 ghost use Rattle.yaml_parse_grammar.specs.Texts.{IsUtf8Token, IsUtf8Held};
 ghost use Rattle.yaml_parse_model.specs.Source.{HasUtf8};
-ghost use Rattle.yaml_parse.specs.Steps.{IsFront, HasNoFront, Steps, Turns, OpensAt, IsReal, IsUtf8Step, IsUtf8Turn, IsStackStep, IsStackTurn, raw, peeked_of};
+ghost use Rattle.yaml_parse.specs.Steps.{HasFront, Steps, Turns, OpensAt, IsReal, IsUtf8Step, IsUtf8Turn, IsStackStep, IsStackTurn, raw, peeked_of};
+ghost use Rattle.yaml_parse.specs.Stepped.{stepped};
+ghost use Rattle.yaml_parse.specs.Turned.{turned};
 
 use std::alloc::Global;
 use yaml_parse_grammar::{Choice, ParseFault, ParseProblem};
@@ -24,22 +27,34 @@ use yaml_parse_machine::{
 use yaml_parse_model::{yaml_event_t, yaml_token_source_t};
 use yaml_scan::{yaml_fault_t, yaml_mark_t, yaml_memory_fault, yaml_origin_t, yaml_token_t};
 
-/// What a step over the grammar gives.
-#[derive(Drop)]
+/// What a step over the grammar gives: an item that lies on the desk, nothing, a fault that stands in its slot, or nothing
+/// any more.
+#[derive(Clone, Copy, PartialEq, Eq, Debug)]
 pub enum Step {
-    Item(Item),
+    Item,
     Silent,
-    Refused(yaml_fault_t),
+    Refused,
     Done,
 }
 
-/// What a step gives.
-#[derive(Drop)]
+/// What a step gives: an event or a fault that stands in its slot, nothing, or nothing any more.
+#[derive(Clone, Copy, PartialEq, Eq, Debug)]
 pub enum Turn {
-    Event(yaml_event_t),
+    Event,
     Silent,
-    Refused(yaml_fault_t),
+    Refused,
     Done,
+}
+
+/// What the steps hand on in place, since moving it costs more than what they do.
+#[derive(Drop)]
+pub struct Desk {
+    /// The token that was asked for last.
+    pub token: yaml_token_t,
+    /// It is still to be taken.
+    pub is_held: bool,
+    /// What the last step gave, if it gave an item.
+    pub item: Item,
 }
 
 fn want_of_memory() -> yaml_fault_t
@@ -48,35 +63,36 @@ fn want_of_memory() -> yaml_fault_t
     yaml_memory_fault(yaml_origin_t::Parser)
 }
 
-// The source's next token, where none was asked for before.
-fn asked<S: yaml_token_source_t>(source: &mut S) -> Result<yaml_token_t, yaml_fault_t>
-    ensures ok { IfOk result (λ t. IsFront None (S.to_come source.old) (S.fault_to_come source.old) (token_of t) (S.to_come source.new) (S.fault_to_come source.new)) }
-    ensures err { IfErr result (λ f. HasNoFront None (S.to_come source.old) (S.fault_to_come source.old) (fault_of f)) }
-    ensures utf8 { IfOk result (λ t. HasUtf8 (token_of t).body) }
+// The source's next token, where none was asked for before, or else its fault.
+fn ask<S: yaml_token_source_t>(
+    source: &mut S,
+    token: &mut yaml_token_t,
+    fault: &mut yaml_fault_t,
+) -> bool
+    ensures front { HasFront result None (S.to_come source.old) (S.fault_to_come source.old) (token_of token.new) (S.to_come source.new) (S.fault_to_come source.new) (fault_of fault.new) }
+    ensures utf8 { result ≡ true → HasUtf8 (token_of token.new).body }
 {
     match source.next_token() {
-        Ok(token) => Ok(token),
-        Err(fault) => Err(fault),
+        Ok(given) => {
+            *token = given;
+            true
+        }
+        Err(refused) => {
+            *fault = refused;
+            false
+        }
     }
 }
 
-// The token at the front: the one that was asked for, or else the source's next. The first test is for speed: a token
-// that isn't there is not moved.
-fn front<S: yaml_token_source_t>(
-    source: &mut S,
-    peeked: &mut Option<yaml_token_t>,
-) -> Result<yaml_token_t, yaml_fault_t>
-    ensures ok { IfOk result (λ t. IsFront (peeked_of peeked.old) (S.to_come source.old) (S.fault_to_come source.old) (token_of t) (S.to_come source.new) (S.fault_to_come source.new)) }
-    ensures err { IfErr result (λ f. HasNoFront (peeked_of peeked.old) (S.to_come source.old) (S.fault_to_come source.old) (fault_of f)) }
-    ensures utf8 { IsUtf8Token (peeked_of peeked.old) → IfOk result (λ t. HasUtf8 (token_of t).body) }
-    ensures empty { peeked_of peeked.new ≡ None }
+// The token at the front: the one that is held, or else the source's next.
+fn front<S: yaml_token_source_t>(source: &mut S, desk: &mut Desk, fault: &mut yaml_fault_t) -> bool
+    ensures front { HasFront result (peeked_of desk.old) (S.to_come source.old) (S.fault_to_come source.old) (token_of desk.new.token) (S.to_come source.new) (S.fault_to_come source.new) (fault_of fault.new) }
+    ensures utf8 { IsUtf8Token (peeked_of desk.old) → result ≡ true → HasUtf8 (token_of desk.new.token).body }
 {
-    match *peeked {
-        None => asked(source),
-        Some(_) => match peeked.take() {
-            Some(token) => Ok(token),
-            None => asked(source),
-        },
+    if desk.is_held {
+        true
+    } else {
+        ask(source, &mut desk.token, fault)
     }
 }
 
@@ -96,58 +112,71 @@ fn refusal(problem: ParseProblem, at: yaml_mark_t, opener: Option<yaml_mark_t>) 
 }
 
 // The state takes the token.
-fn taking(stack: &mut Vec<State>, state: State, token: yaml_token_t) -> Step
-    requires { choice_at (state_of state) (type_of (token_of token).body) ≡ taking_it }
-    ensures steps { (rest : List Token) (fault : Option Fault) → Steps (raw (Some (token_of token)) rest fault (state_of state ∷ stack_of stack.old.items)) result (raw None rest fault (stack_of stack.new.items)) }
-    ensures utf8 { (ds : DirectivesSpec) → IsUtf8Held (Some (token_of token)) (state_of state ∷ stack_of stack.old.items) ds → IsUtf8Step result None (stack_of stack.new.items) ds }
-    ensures stack { IsStack (state_of state ∷ stack_of stack.old.items) → IsStackStep result (stack_of stack.new.items) }
+fn taking(stack: &mut Vec<State>, state: State, desk: &mut Desk, fault: &mut yaml_fault_t) -> Step
+    requires { choice_at (state_of state) (type_of (token_of desk.old.token).body) ≡ taking_it }
+    ensures steps { (rest : List Token) (ending : Option Fault) → Steps (raw (Some (token_of desk.old.token)) rest ending (state_of state ∷ stack_of stack.old.items)) (stepped result (item_of desk.new.item) (fault_of fault.new)) (raw (peeked_of desk.new) rest ending (stack_of stack.new.items)) }
+    ensures utf8 { (ds : DirectivesSpec) → IsUtf8Held (Some (token_of desk.old.token)) (state_of state ∷ stack_of stack.old.items) ds → IsUtf8Step (stepped result (item_of desk.new.item) (fault_of fault.new)) (peeked_of desk.new) (stack_of stack.new.items) ds }
+    ensures stack { IsStack (state_of state ∷ stack_of stack.old.items) → IsStackStep (stepped result (item_of desk.new.item) (fault_of fault.new)) (stack_of stack.new.items) }
 {
-    match take(stack, state, token) {
-        Ok(Some(item)) => Step::Item(item),
-        Ok(None) => Step::Silent,
-        Err(_) => Step::Refused(want_of_memory()),
+    desk.is_held = false;
+    match take(stack, state, &mut desk.token, &mut desk.item) {
+        Ok(true) => Step::Item,
+        Ok(false) => Step::Silent,
+        Err(_) => {
+            *fault = want_of_memory();
+            Step::Refused
+        }
     }
 }
 
 // An implicit document begins before the token.
-fn opening(stack: &mut Vec<State>, start: yaml_mark_t) -> Step
-    ensures { OpensAt start (stack_of stack.old.items) result (stack_of stack.new.items) }
+fn opening(
+    stack: &mut Vec<State>,
+    start: yaml_mark_t,
+    slot: &mut Item,
+    fault: &mut yaml_fault_t,
+) -> Step
+    ensures { OpensAt start (stack_of stack.old.items) (stepped result (item_of slot.new) (fault_of fault.new)) (stack_of stack.new.items) }
 {
     match open(stack, start) {
-        Ok(()) => Step::Item(Item {
-            body: ItemBody::Document { implicit: true },
-            from: start,
-            to: start,
-        }),
-        Err(_) => Step::Refused(want_of_memory()),
+        Ok(()) => {
+            *slot = Item {
+                body: ItemBody::Document { implicit: true },
+                from: start,
+                to: start,
+            };
+            Step::Item
+        }
+        Err(_) => {
+            *fault = want_of_memory();
+            Step::Refused
+        }
     }
 }
 
 // The state on top of the stack at the token.
-fn stepping(
-    peeked: &mut Option<yaml_token_t>,
-    stack: &mut Vec<State>,
-    state: State,
-    token: yaml_token_t,
-) -> Step
-    requires { peeked_of peeked.old ≡ None }
-    ensures steps { (rest : List Token) (fault : Option Fault) → Steps (raw (Some (token_of token)) rest fault (state_of state ∷ stack_of stack.old.items)) result (raw (peeked_of peeked.new) rest fault (stack_of stack.new.items)) }
-    ensures real { IsReal (state_of state) (token_of token) result }
-    ensures utf8 { (ds : DirectivesSpec) → IsUtf8Held (Some (token_of token)) (state_of state ∷ stack_of stack.old.items) ds
-        → IsUtf8Step result (peeked_of peeked.new) (stack_of stack.new.items) ds }
-    ensures stack { IsStack (state_of state ∷ stack_of stack.old.items) → IsStackStep result (stack_of stack.new.items) }
+fn stepping(stack: &mut Vec<State>, state: State, desk: &mut Desk, fault: &mut yaml_fault_t) -> Step
+    ensures steps { (rest : List Token) (ending : Option Fault) → Steps (raw (Some (token_of desk.old.token)) rest ending (state_of state ∷ stack_of stack.old.items)) (stepped result (item_of desk.new.item) (fault_of fault.new)) (raw (peeked_of desk.new) rest ending (stack_of stack.new.items)) }
+    ensures real { IsReal (state_of state) (token_of desk.old.token) (stepped result (item_of desk.new.item) (fault_of fault.new)) }
+    ensures utf8 { (ds : DirectivesSpec) → IsUtf8Held (Some (token_of desk.old.token)) (state_of state ∷ stack_of stack.old.items) ds
+        → IsUtf8Step (stepped result (item_of desk.new.item) (fault_of fault.new)) (peeked_of desk.new) (stack_of stack.new.items) ds }
+    ensures stack { IsStack (state_of state ∷ stack_of stack.old.items) → IsStackStep (stepped result (item_of desk.new.item) (fault_of fault.new)) (stack_of stack.new.items) }
 {
-    let start = token.start_mark;
-    match choose(&state, token.type_()) {
-        Choice::Refuse(problem, opener) => Step::Refused(refusal(problem, start, opener)),
-        Choice::Take => taking(stack, state, token),
+    let start = desk.token.start_mark;
+    match choose(&state, desk.token.type_()) {
+        Choice::Refuse(problem, opener) => {
+            *fault = refusal(problem, start, opener);
+            Step::Refused
+        }
+        Choice::Take => taking(stack, state, desk, fault),
         Choice::Leave => {
-            *peeked = Some(token);
-            Step::Item(leave(state, start))
+            desk.is_held = true;
+            leave(state, start, &mut desk.item);
+            Step::Item
         }
         Choice::Open => {
-            *peeked = Some(token);
-            opening(stack, start)
+            desk.is_held = true;
+            opening(stack, start, &mut desk.item, fault)
         }
     }
 }
@@ -155,20 +184,22 @@ fn stepping(
 /// One step over the grammar.
 pub fn advance<S: yaml_token_source_t>(
     source: &mut S,
-    peeked: &mut Option<yaml_token_t>,
+    desk: &mut Desk,
     stack: &mut Vec<State>,
+    fault: &mut yaml_fault_t,
 ) -> Step
-    ensures steps { Steps (raw (peeked_of peeked.old) (S.to_come source.old) (S.fault_to_come source.old) (stack_of stack.old.items)) result
-        (raw (peeked_of peeked.new) (S.to_come source.new) (S.fault_to_come source.new) (stack_of stack.new.items)) }
-    ensures utf8 { (ds : DirectivesSpec) → IsUtf8Held (peeked_of peeked.old) (stack_of stack.old.items) ds → IsUtf8Step result (peeked_of peeked.new) (stack_of stack.new.items) ds }
-    ensures stack { IsStack (stack_of stack.old.items) → IsStackStep result (stack_of stack.new.items) }
+    ensures steps { Steps (raw (peeked_of desk.old) (S.to_come source.old) (S.fault_to_come source.old) (stack_of stack.old.items)) (stepped result (item_of desk.new.item) (fault_of fault.new))
+        (raw (peeked_of desk.new) (S.to_come source.new) (S.fault_to_come source.new) (stack_of stack.new.items)) }
+    ensures utf8 { (ds : DirectivesSpec) → IsUtf8Held (peeked_of desk.old) (stack_of stack.old.items) ds → IsUtf8Step (stepped result (item_of desk.new.item) (fault_of fault.new)) (peeked_of desk.new) (stack_of stack.new.items) ds }
+    ensures stack { IsStack (stack_of stack.old.items) → IsStackStep (stepped result (item_of desk.new.item) (fault_of fault.new)) (stack_of stack.new.items) }
 {
     let Some(state) = stack.pop() else {
         return Step::Done;
     };
-    match front(source, peeked) {
-        Ok(token) => stepping(peeked, stack, state, token),
-        Err(fault) => Step::Refused(fault),
+    if front(source, desk, fault) {
+        stepping(stack, state, desk, fault)
+    } else {
+        Step::Refused
     }
 }
 
@@ -176,33 +207,37 @@ pub fn advance<S: yaml_token_source_t>(
 pub fn take_turn<S: yaml_token_source_t>(
     alloc: Global,
     source: &mut S,
-    peeked: &mut Option<yaml_token_t>,
+    desk: &mut Desk,
     stack: &mut Vec<State>,
     directives: &mut Directives,
+    event: &mut yaml_event_t,
+    fault: &mut yaml_fault_t,
 ) -> Turn
-    ensures turns { (answered : Fault) → Turns (coming (peeked_of peeked.old) (S.to_come source.old) (S.fault_to_come source.old) (stack_of stack.old.items) (directives_of directives.old) answered) result
-        (coming (peeked_of peeked.new) (S.to_come source.new) (S.fault_to_come source.new) (stack_of stack.new.items) (directives_of directives.new) answered) }
-    ensures utf8 { IsUtf8Held (peeked_of peeked.old) (stack_of stack.old.items) (directives_of directives.old)
-        → IsUtf8Turn result × IsUtf8Held (peeked_of peeked.new) (stack_of stack.new.items) (directives_of directives.new) }
-    ensures stack { IsStack (stack_of stack.old.items) → IsStackTurn result (is_between (stack_of stack.new.items)) × IsStack (stack_of stack.new.items) }
+    ensures turns { (answered : Fault) → Turns (coming (peeked_of desk.old) (S.to_come source.old) (S.fault_to_come source.old) (stack_of stack.old.items) (directives_of directives.old) answered) (turned result (event_of event.new) (fault_of fault.new))
+        (coming (peeked_of desk.new) (S.to_come source.new) (S.fault_to_come source.new) (stack_of stack.new.items) (directives_of directives.new) answered) }
+    ensures utf8 { IsUtf8Held (peeked_of desk.old) (stack_of stack.old.items) (directives_of directives.old)
+        → IsUtf8Turn (turned result (event_of event.new) (fault_of fault.new)) × IsUtf8Held (peeked_of desk.new) (stack_of stack.new.items) (directives_of directives.new) }
+    ensures stack { IsStack (stack_of stack.old.items) → IsStackTurn (turned result (event_of event.new) (fault_of fault.new)) (is_between (stack_of stack.new.items)) × IsStack (stack_of stack.new.items) }
 {
-    match advance(source, peeked, stack) {
+    match advance(source, desk, stack, fault) {
         Step::Done => Turn::Done,
         Step::Silent => Turn::Silent,
-        Step::Refused(fault) => {
+        Step::Refused => {
             stack.clear();
-            Turn::Refused(fault)
+            Turn::Refused
         }
-        Step::Item(item) => match settle(alloc, directives, item) {
-            Ok(Some(event)) => Turn::Event(event),
-            Ok(None) => Turn::Silent,
+        Step::Item => match settle(alloc, directives, &mut desk.item, event) {
+            Ok(true) => Turn::Event,
+            Ok(false) => Turn::Silent,
             Err(Refusal::Memory) => {
                 stack.clear();
-                Turn::Refused(want_of_memory())
+                *fault = want_of_memory();
+                Turn::Refused
             }
-            Err(Refusal::Fault(fault)) => {
+            Err(Refusal::Fault(refused)) => {
                 stack.clear();
-                Turn::Refused(fault.located())
+                *fault = refused.located();
+                Turn::Refused
             }
         },
     }

@@ -1,5 +1,5 @@
 -- What resolving gives.
-use Rattle.std.specs.Prelude.{ℕ, ◌≡◌, List, Option, Some, None, Result, Ok, Err, Vec}
+use Rattle.std.specs.Prelude.{ℕ, ◌≡◌, Bool, true, false, List, Option, Some, None, Result, Ok, Err, Vec}
 use Rattle.std.specs.Global.{Global}
 use Rattle.yaml_scan.specs.declared.yaml_mark_t.{yaml_mark_t}
 use Rattle.yaml_parse_model.specs.Events.{event_of, body_of}
@@ -40,13 +40,13 @@ abbrev pub SettlesNode : Settled → Result yaml_event_body_t Refusal → spec.D
 SettlesNode s (Ok b) new = s ≡ gave (body_of b) new
 SettlesNode s (Err e) new = Refused e s
 
--- the body of an event, or nothing
-abbrev pub SettlesBody : Settled → Result (Option yaml_event_body_t) Refusal → spec.Directives → Type 0
-SettlesBody s (Ok None) new = s ≡ noted new
-SettlesBody s (Ok (Some b)) new = s ≡ gave (body_of b) new
-SettlesBody s (Err e) new = Refused e s
+-- the body of an event in the slot, or nothing
+abbrev pub SettlesBody : Settled → Result Bool Refusal → yaml_event_body_t → spec.Directives → Type 0
+SettlesBody s (Ok true) b new = s ≡ gave (body_of b) new
+SettlesBody s (Ok false) b new = s ≡ noted new
+SettlesBody s (Err e) b new = Refused e s
 
-abbrev pub Settles : Settled → item.Item → Result (Option yaml_event_t) Refusal → spec.Directives → Type 0
-Settles s i (Ok None) new = s ≡ noted new
-Settles s i (Ok (Some e)) new = (s ≡ gave (body_of e.body) new) × (event_of e ≡ placed (body_of e.body) i)
-Settles s i (Err e) new = Refused e s
+abbrev pub Settles : Settled → item.Item → Result Bool Refusal → yaml_event_t → spec.Directives → Type 0
+Settles s i (Ok true) e new = (s ≡ gave (body_of e.body) new) × (event_of e ≡ placed (body_of e.body) i)
+Settles s i (Ok false) e new = s ≡ noted new
+Settles s i (Err x) e new = Refused x s

@@ -1,5 +1,5 @@
 -- States and items, without where their texts lie in memory.
-use Rattle.std.specs.Prelude.{List, map, reverse, Option, Some, None}
+use Rattle.std.specs.Prelude.{Bool, true, false, List, map, reverse, Option, Some, None}
 use Rattle.std.specs.Global.{Box}
 use Rattle.yaml_parse_model.specs.Events.{text_of}
 use Rattle.yaml_parse_model.specs.Events as event
@@ -59,9 +59,10 @@ item_body_of (Node properties shape) = node_of properties (shape_of shape)
 abbrev pub item_of : Item → item.Item
 item_of i = record { body = item_body_of i.body; from = i.from; to = i.to }
 
-abbrev pub item_option_of : Option Item → Option item.Item
-item_option_of None = None
-item_option_of (Some i) = Some (item_of i)
+-- what a slot holds, if it was filled
+abbrev pub given_of : Bool → Item → Option item.Item
+given_of false i = None
+given_of true i = Some (item_of i)
 
 abbrev pub state_of : State → state.State
 state_of code.Stream = state.stream

@@ -13,6 +13,7 @@ ghost use Rattle.yaml_parse_machine.specs.Settles.{directives_of, Settles, Settl
 use crate::handles::TagDirectives;
 use crate::item::{Item, ItemBody, Plain, Properties, Shape, Tag};
 use std::alloc::{AllocError, AllocFailed, Global};
+use std::mem;
 use yaml_parse_grammar::{ParseFault, ParseProblem};
 use yaml_parse_model::{yaml_event_body_t, yaml_event_t};
 use yaml_scan::{yaml_mark_t, yaml_scalar_style_t, yaml_tag_directive_t, yaml_version_directive_t};
@@ -119,8 +120,8 @@ fn is_plain(style: yaml_scalar_style_t) -> bool
 }
 
 // A node without properties.
-fn bare(alloc: Global, shape: Shape) -> yaml_event_body_t
-    ensures { body_of result ≡ node_event None None (shape_of shape) }
+fn bare(alloc: Global, shape: &mut Shape) -> yaml_event_body_t
+    ensures { body_of result ≡ node_event None None (shape_of shape.old) }
 {
     match shape {
         Shape::Empty => yaml_event_body_t::Scalar {
@@ -132,27 +133,27 @@ fn bare(alloc: Global, shape: Shape) -> yaml_event_body_t
             style: yaml_scalar_style_t::YAML_PLAIN_SCALAR_STYLE,
         },
         Shape::Scalar { value, style } => {
-            let is_plain = is_plain(style);
+            let is_plain = is_plain(*style);
             yaml_event_body_t::Scalar {
                 anchor: None,
                 tag: None,
-                value,
+                value: mem::replace(value, Vec::new(alloc)),
                 plain_implicit: is_plain,
                 quoted_implicit: !is_plain,
-                style,
+                style: *style,
             }
         }
         Shape::Sequence(style) => yaml_event_body_t::SequenceStart {
             anchor: None,
             tag: None,
             implicit: true,
-            style,
+            style: *style,
         },
         Shape::Mapping(style) => yaml_event_body_t::MappingStart {
             anchor: None,
             tag: None,
             implicit: true,
-            style,
+            style: *style,
         },
     }
 }
@@ -197,9 +198,9 @@ fn node(
     alloc: Global,
     anchor: Option<Vec<u8>>,
     tag: Option<Vec<u8>>,
-    shape: Shape,
+    shape: &mut Shape,
 ) -> yaml_event_body_t
-    ensures { body_of result ≡ node_event (text_of anchor) (text_of tag) (shape_of shape) }
+    ensures { body_of result ≡ node_event (text_of anchor) (text_of tag) (shape_of shape.old) }
 {
     match shape {
         Shape::Empty => {
@@ -213,14 +214,16 @@ fn node(
                 style: yaml_scalar_style_t::YAML_PLAIN_SCALAR_STYLE,
             }
         }
-        Shape::Scalar { value, style } => scalar(anchor, tag, value, style),
+        Shape::Scalar { value, style } => {
+            scalar(anchor, tag, mem::replace(value, Vec::new(alloc)), *style)
+        }
         Shape::Sequence(style) => {
             let implicit = tag.is_none();
             yaml_event_body_t::SequenceStart {
                 anchor,
                 tag,
                 implicit,
-                style,
+                style: *style,
             }
         }
         Shape::Mapping(style) => {
@@ -229,7 +232,7 @@ fn node(
                 anchor,
                 tag,
                 implicit,
-                style,
+                style: *style,
             }
         }
     }
@@ -319,14 +322,20 @@ fn end_directives(directives: &mut Directives, event: &Plain)
     }
 }
 
-fn plain_event(event: Plain) -> yaml_event_body_t
-    ensures { body_of result ≡ plain_of event }
+fn plain_event(event: &mut Plain, alloc: Global) -> yaml_event_body_t
+    ensures { body_of result ≡ plain_of event.old }
 {
     match event {
-        Plain::StreamStart { encoding } => yaml_event_body_t::StreamStart { encoding },
+        Plain::StreamStart { encoding } => yaml_event_body_t::StreamStart {
+            encoding: *encoding,
+        },
         Plain::StreamEnd => yaml_event_body_t::StreamEnd,
-        Plain::DocumentEnd { implicit } => yaml_event_body_t::DocumentEnd { implicit },
-        Plain::Alias { anchor } => yaml_event_body_t::Alias { anchor },
+        Plain::DocumentEnd { implicit } => yaml_event_body_t::DocumentEnd {
+            implicit: *implicit,
+        },
+        Plain::Alias { anchor } => yaml_event_body_t::Alias {
+            anchor: mem::replace(anchor, Vec::new(alloc)),
+        },
         Plain::SequenceEnd => yaml_event_body_t::SequenceEnd,
         Plain::MappingEnd => yaml_event_body_t::MappingEnd,
     }
@@ -337,10 +346,10 @@ fn dressed(
     alloc: Global,
     tags: &TagDirectives,
     properties: Properties,
-    shape: Shape,
+    shape: &mut Shape,
     from: yaml_mark_t,
 ) -> Result<yaml_event_body_t, Refusal>
-    ensures { (ds : DirectivesSpec) → ds.tags ≡ tags.now → SettlesNode (settle_item_body (item.node (text_of properties.anchor) (tag_option_of properties.tag) (shape_of shape)) from ds) result ds }
+    ensures { (ds : DirectivesSpec) → ds.tags ≡ tags.now → SettlesNode (settle_item_body (item.node (text_of properties.anchor) (tag_option_of properties.tag) (shape_of shape.old)) from ds) result ds }
 {
     let Properties { anchor, tag, .. } = properties;
     let full = match tag {
@@ -354,56 +363,73 @@ fn dressed(
 fn settle_body(
     alloc: Global,
     directives: &mut Directives,
-    body: ItemBody,
+    body: &mut ItemBody,
     from: yaml_mark_t,
-) -> Result<Option<yaml_event_body_t>, Refusal>
-    ensures { SettlesBody (settle_item_body (item_body_of body) from (directives_of directives.old)) result (directives_of directives.new) }
+    event: &mut yaml_event_body_t,
+) -> Result<bool, Refusal>
+    ensures { SettlesBody (settle_item_body (item_body_of body.old) from (directives_of directives.old)) result event.new (directives_of directives.new) }
 {
-    match body {
-        ItemBody::Event(event) => {
-            end_directives(directives, &event);
-            Ok(Some(plain_event(event)))
+    match *body {
+        ItemBody::Event(ref mut plain) => {
+            end_directives(directives, plain);
+            *event = plain_event(plain, alloc);
+            Ok(true)
         }
         ItemBody::VersionDirective { major, minor } => {
             note_version(directives, major, minor, from)?;
-            Ok(None)
+            Ok(false)
         }
-        ItemBody::TagDirective { handle, prefix } => {
+        ItemBody::TagDirective {
+            ref mut handle,
+            ref mut prefix,
+        } => {
+            let handle = mem::replace(handle, Vec::new(alloc));
+            let prefix = mem::replace(prefix, Vec::new(alloc));
             note_tag(alloc, directives, handle, prefix, from)?;
-            Ok(None)
+            Ok(false)
         }
-        ItemBody::Document { implicit } => Ok(Some(yaml_event_body_t::DocumentStart {
-            version_directive: directives.version,
-            tag_directives: copy_directives(alloc, directives.tags.as_slice())?,
-            implicit,
-        })),
-        ItemBody::Node { properties, shape } => match properties {
-            None => Ok(Some(bare(alloc, shape))),
+        ItemBody::Document { implicit } => {
+            let tag_directives = copy_directives(alloc, directives.tags.as_slice())?;
+            *event = yaml_event_body_t::DocumentStart {
+                version_directive: directives.version,
+                tag_directives,
+                implicit,
+            };
+            Ok(true)
+        }
+        ItemBody::Node {
+            ref mut properties,
+            ref mut shape,
+        } => match properties.take() {
+            None => {
+                *event = bare(alloc, shape);
+                Ok(true)
+            }
             Some(properties) => {
                 let tags = &directives.tags;
-                let body = dressed(alloc, tags, Box::into_inner(properties), shape, from)?;
-                Ok(Some(body))
+                *event = dressed(alloc, tags, Box::into_inner(properties), shape, from)?;
+                Ok(true)
             }
         },
     }
 }
 
-/// The event of an item by the directives of its document, or nothing for a directive.
+/// The event of the slot's item by the directives of its document, or nothing for a directive.
 pub fn settle(
     alloc: Global,
     directives: &mut Directives,
-    item: Item,
-) -> Result<Option<yaml_event_t>, Refusal>
-    ensures { Settles (settle_item (item_of item) (directives_of directives.old)) (item_of item) result (directives_of directives.new) }
+    slot: &mut Item,
+    event: &mut yaml_event_t,
+) -> Result<bool, Refusal>
+    ensures { Settles (settle_item (item_of slot.old) (directives_of directives.old)) (item_of slot.old) result event.new (directives_of directives.new) }
 {
-    let start_mark = item.from;
-    let end_mark = item.to;
-    match settle_body(alloc, directives, item.body, start_mark)? {
-        None => Ok(None),
-        Some(body) => Ok(Some(yaml_event_t {
-            body,
-            start_mark,
-            end_mark,
-        })),
-    }
+    event.start_mark = slot.from;
+    event.end_mark = slot.to;
+    settle_body(
+        alloc,
+        directives,
+        &mut slot.body,
+        slot.from,
+        &mut event.body,
+    )
 }

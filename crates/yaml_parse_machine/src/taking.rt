@@ -1,6 +1,6 @@
 //! What taking a token gives, built from the moved token, and what leaving a state gives.
 
-ghost use Rattle.std.specs.Prelude.{◌≡◌, ◌++◌, [], ◌∷◌, OnOk, IfOk, IsOkAnd, Some, None};
+ghost use Rattle.std.specs.Prelude.{◌≡◌, ◌++◌, [], ◌∷◌, OnOk, IfOk, IsOkAnd, false, Some, None};
 ghost use Rattle.yaml_parse_grammar.specs.declared.name.Place.TheVariants.{Entry, IndentlessEntry, BlockPair, FlowPair};
 ghost use Rattle.yaml_parse_grammar.specs.declared.name.Brackets.TheVariants as brackets;
 ghost use Rattle.yaml_parse_grammar.specs.declared.name.Side.TheVariants.{Key, Value};
@@ -8,50 +8,46 @@ ghost use Rattle.yaml_scan.specs.Tokens.{token_of, body_of as token_body_of};
 ghost use Rattle.yaml_parse_grammar.specs.Items.{item_at, blank, node_at, dressed_alone};
 ghost use Rattle.yaml_parse_grammar.specs.Items as item;
 ghost use Rattle.yaml_scan.specs.declared.yaml_sequence_style_t.TheVariants.{YAML_BLOCK_SEQUENCE_STYLE};
+ghost use Rattle.yaml_scan.specs.declared.yaml_mapping_style_t.TheVariants.{YAML_BLOCK_MAPPING_STYLE};
 ghost use Rattle.yaml_parse_grammar.specs.Trees.{mark_at, flow_shape, end_event, event_at};
 ghost use Rattle.yaml_parse_grammar.specs.States as state;
 ghost use Rattle.yaml_parse_grammar.specs.Machine.{not_taken, taken_at, left_at, documents_taken, content_taken, node_taken, dressed_taken, items_taken, more_taken, stream_taken, entries_taken, pairs_taken, pair_taken, lone_below, opened};
-ghost use Rattle.yaml_parse_machine.specs.Views.{properties_of, properties_option_of, shape_of, plain_of, item_of, item_body_of, item_option_of, state_of, stack_of};
+ghost use Rattle.yaml_parse_machine.specs.Views.{properties_of, properties_option_of, shape_of, plain_of, item_of, item_body_of, given_of, state_of, stack_of};
 
 use crate::choosing::wants;
 use crate::item::{Item, ItemBody, Plain, Properties, Shape, State, Tag};
 use std::alloc::AllocError;
+use std::mem;
 use yaml_parse_grammar::{Brackets, Place, Side, Wants};
 use yaml_scan::{
-    yaml_mapping_style_t, yaml_mark_t, yaml_scalar_style_t, yaml_sequence_style_t,
-    yaml_token_body_t, yaml_token_t,
+    yaml_mapping_style_t, yaml_mark_t, yaml_sequence_style_t, yaml_token_body_t, yaml_token_t,
 };
 
 // ---- items
 
-// An empty node without properties.
-fn blank_node(mark: yaml_mark_t) -> Item
-    ensures { item_of result ≡ blank mark }
+// An item in the slot.
+fn give(
+    slot: &mut Item,
+    body: ItemBody,
+    from: yaml_mark_t,
+    to: yaml_mark_t,
+) -> Result<bool, AllocError>
+    ensures { IsOkAnd result (λ b. given_of b slot.new ≡ Some (item_at (item_body_of body) from to)) }
 {
-    Item {
-        body: ItemBody::Node {
-            properties: None,
-            shape: Shape::Empty,
-        },
-        from: mark,
-        to: mark,
-    }
+    slot.body = body;
+    slot.from = from;
+    slot.to = to;
+    Ok(true)
 }
 
-// An empty node that has nothing but properties.
-fn properties_alone(p: Box<Properties>) -> Item
-    ensures { item_of result ≡ dressed_alone (properties_of p.value) }
+// The token's own event in the slot.
+fn tell(slot: &mut Item, event: Plain, token: &yaml_token_t) -> Result<bool, AllocError>
+    ensures { IsOkAnd result (λ b. given_of b slot.new ≡ Some (event_at (plain_of event) token.now.start_mark token.now.end_mark)) }
 {
-    let from = p.from;
-    let to = p.to;
-    Item {
-        body: ItemBody::Node {
-            properties: Some(p),
-            shape: Shape::Empty,
-        },
-        from,
-        to,
-    }
+    slot.body = ItemBody::Event(event);
+    slot.from = token.start_mark;
+    slot.to = token.end_mark;
+    Ok(true)
 }
 
 // Where a node begins, whose first token but properties begins there.
@@ -64,35 +60,19 @@ fn beginning(properties: &Option<Box<Properties>>, start: yaml_mark_t) -> yaml_m
     }
 }
 
-// A node behind its properties, if it has any, whose first token has those marks.
+// A node behind its properties, if it has any, whose first token that is.
 fn node(
+    slot: &mut Item,
     properties: Option<Box<Properties>>,
     shape: Shape,
-    start: yaml_mark_t,
-    end: yaml_mark_t,
-) -> Result<Option<Item>, AllocError>
-    ensures { IsOkAnd result (λ i. item_option_of i ≡ Some (node_at (properties_option_of properties) (shape_of shape) start end)) }
+    token: &yaml_token_t,
+) -> Result<bool, AllocError>
+    ensures { IsOkAnd result (λ b. given_of b slot.new ≡ Some (node_at (properties_option_of properties) (shape_of shape) token.now.start_mark token.now.end_mark)) }
 {
-    let from = beginning(&properties, start);
-    Ok(Some(Item {
-        body: ItemBody::Node { properties, shape },
-        from,
-        to: end,
-    }))
-}
-
-// An item whose tokens have those marks.
-fn gave(body: ItemBody, from: yaml_mark_t, to: yaml_mark_t) -> Result<Option<Item>, AllocError>
-    ensures { IsOkAnd result (λ i. item_option_of i ≡ Some (item_at (item_body_of body) from to)) }
-{
-    Ok(Some(Item { body, from, to }))
-}
-
-// An event whose tokens have those marks.
-fn told(event: Plain, from: yaml_mark_t, to: yaml_mark_t) -> Result<Option<Item>, AllocError>
-    ensures { IsOkAnd result (λ i. item_option_of i ≡ Some (event_at (plain_of event) from to)) }
-{
-    gave(ItemBody::Event(event), from, to)
+    slot.from = beginning(&properties, token.start_mark);
+    slot.to = token.end_mark;
+    slot.body = ItemBody::Node { properties, shape };
+    Ok(true)
 }
 
 // ---- states on top of the stack, whose last state is the topmost
@@ -212,59 +192,89 @@ fn push_dressed(
 // ---- tokens
 
 // For tokens that the state doesn't take.
-fn nothing(stack: &mut Vec<State>) -> Result<Option<Item>, AllocError>
-    ensures item { IfOk result (λ i. item_option_of i ≡ not_taken.item) }
+fn nothing(stack: &mut Vec<State>, slot: &mut Item) -> Result<bool, AllocError>
+    ensures item { IfOk result (λ b. given_of b slot.new ≡ not_taken.item) }
     ensures stack { OnOk result (stack_of stack.new.items ≡ not_taken.above ++ stack_of stack.old.items) }
 {
     push(stack, State::Lone)?;
-    Ok(None)
+    Ok(false)
+}
+
+// The text, of which an empty one is left.
+fn moved(text: &mut Vec<u8>) -> Vec<u8>
+    ensures { result.items ≡ text.old.items }
+{
+    let alloc = *text.allocator();
+    mem::replace(text, Vec::new(alloc))
 }
 
 fn at_stream(
     stack: &mut Vec<State>,
-    start: yaml_mark_t,
-    end: yaml_mark_t,
-    body: yaml_token_body_t,
-) -> Result<Option<Item>, AllocError>
-    ensures item { IfOk result (λ i. item_option_of i ≡ (stream_taken start end (token_body_of body)).item) }
-    ensures stack { OnOk result (stack_of stack.new.items ≡ (stream_taken start end (token_body_of body)).above ++ stack_of stack.old.items) }
+    token: &mut yaml_token_t,
+    slot: &mut Item,
+) -> Result<bool, AllocError>
+    ensures item { IfOk result (λ b. given_of b slot.new ≡ (stream_taken token.old.start_mark token.old.end_mark (token_body_of token.old.body)).item) }
+    ensures stack { OnOk result (stack_of stack.new.items ≡ (stream_taken token.old.start_mark token.old.end_mark (token_body_of token.old.body)).above ++ stack_of stack.old.items) }
 {
-    match body {
+    match &mut token.body {
         yaml_token_body_t::StreamStart { encoding } => {
             push(stack, State::First)?;
-            told(Plain::StreamStart { encoding }, start, end)
+            tell(
+                slot,
+                Plain::StreamStart {
+                    encoding: *encoding,
+                },
+                token,
+            )
         }
-        _ => nothing(stack),
+        _ => nothing(stack, slot),
     }
 }
 
 fn at_documents(
     stack: &mut Vec<State>,
     from: yaml_mark_t,
-    start: yaml_mark_t,
-    end: yaml_mark_t,
-    body: yaml_token_body_t,
-) -> Result<Option<Item>, AllocError>
-    ensures item { IfOk result (λ i. item_option_of i ≡ (documents_taken from start end (token_body_of body)).item) }
-    ensures stack { OnOk result (stack_of stack.new.items ≡ (documents_taken from start end (token_body_of body)).above ++ stack_of stack.old.items) }
+    token: &mut yaml_token_t,
+    slot: &mut Item,
+) -> Result<bool, AllocError>
+    ensures item { IfOk result (λ b. given_of b slot.new ≡ (documents_taken from token.old.start_mark token.old.end_mark (token_body_of token.old.body)).item) }
+    ensures stack { OnOk result (stack_of stack.new.items ≡ (documents_taken from token.old.start_mark token.old.end_mark (token_body_of token.old.body)).above ++ stack_of stack.old.items) }
 {
-    match body {
+    let body = &mut token.body;
+    match *body {
         yaml_token_body_t::VersionDirective { major, minor } => {
             push(stack, State::Directives(from))?;
-            gave(ItemBody::VersionDirective { major, minor }, start, end)
+            give(
+                slot,
+                ItemBody::VersionDirective { major, minor },
+                token.start_mark,
+                token.end_mark,
+            )
         }
-        yaml_token_body_t::TagDirective { handle, prefix } => {
+        yaml_token_body_t::TagDirective {
+            ref mut handle,
+            ref mut prefix,
+        } => {
             push(stack, State::Directives(from))?;
-            gave(ItemBody::TagDirective { handle, prefix }, start, end)
+            let directive = ItemBody::TagDirective {
+                handle: moved(handle),
+                prefix: moved(prefix),
+            };
+            give(slot, directive, token.start_mark, token.end_mark)
         }
         yaml_token_body_t::DocumentStart => {
-            open(stack, end)?;
-            gave(ItemBody::Document { implicit: false }, from, end)
+            open(stack, token.end_mark)?;
+            give(
+                slot,
+                ItemBody::Document { implicit: false },
+                from,
+                token.end_mark,
+            )
         }
-        yaml_token_body_t::StreamEnd => told(Plain::StreamEnd, start, end),
+        yaml_token_body_t::StreamEnd => tell(slot, Plain::StreamEnd, token),
         _ => {
             push(stack, State::Documents)?;
-            Ok(None)
+            Ok(false)
         }
     }
 }
@@ -293,87 +303,142 @@ fn end_of(brackets: Brackets) -> Plain
     }
 }
 
+// A flow collection begins.
+fn open_brackets(
+    stack: &mut Vec<State>,
+    brackets: Brackets,
+    properties: Option<Box<Properties>>,
+    token: &yaml_token_t,
+    slot: &mut Item,
+) -> Result<bool, AllocError>
+    ensures item { IfOk result (λ b. given_of b slot.new ≡ Some (node_at (properties_option_of properties) (flow_shape brackets) token.now.start_mark token.now.end_mark)) }
+    ensures stack { OnOk result (stack_of stack.new.items ≡ state.items brackets token.now.start_mark ∷ stack_of stack.old.items) }
+{
+    push(stack, State::Items(brackets, token.start_mark))?;
+    node(slot, properties, flow_collection(brackets), token)
+}
+
+// A block sequence begins.
+fn open_entries(
+    stack: &mut Vec<State>,
+    properties: Option<Box<Properties>>,
+    token: &yaml_token_t,
+    slot: &mut Item,
+) -> Result<bool, AllocError>
+    ensures item { IfOk result (λ b. given_of b slot.new ≡ Some (node_at (properties_option_of properties) (item.sequence YAML_BLOCK_SEQUENCE_STYLE) token.now.start_mark token.now.end_mark)) }
+    ensures stack { OnOk result (stack_of stack.new.items ≡ state.entries token.now.start_mark ∷ stack_of stack.old.items) }
+{
+    push(stack, State::Entries(token.start_mark))?;
+    node(slot, properties, block_sequence(), token)
+}
+
+// A block mapping begins.
+fn open_pairs(
+    stack: &mut Vec<State>,
+    properties: Option<Box<Properties>>,
+    token: &yaml_token_t,
+    slot: &mut Item,
+) -> Result<bool, AllocError>
+    ensures item { IfOk result (λ b. given_of b slot.new ≡ Some (node_at (properties_option_of properties) (item.mapping YAML_BLOCK_MAPPING_STYLE) token.now.start_mark token.now.end_mark)) }
+    ensures stack { OnOk result (stack_of stack.new.items ≡ state.pairs token.now.start_mark ∷ stack_of stack.old.items) }
+{
+    push(stack, State::Pairs(token.start_mark))?;
+    let shape = Shape::Mapping(yaml_mapping_style_t::YAML_BLOCK_MAPPING_STYLE);
+    node(slot, properties, shape, token)
+}
+
+// A sequence that isn't indented begins, with its first `-`.
+fn open_others(
+    stack: &mut Vec<State>,
+    side: Side,
+    properties: Option<Box<Properties>>,
+    token: &yaml_token_t,
+    slot: &mut Item,
+) -> Result<bool, AllocError>
+    ensures item { IfOk result (λ b. given_of b slot.new ≡ Some (node_at (properties_option_of properties) (item.sequence YAML_BLOCK_SEQUENCE_STYLE) token.now.start_mark token.now.end_mark)) }
+    ensures stack { OnOk result (stack_of stack.new.items ≡ state.optional (IndentlessEntry side) token.now.end_mark ∷ state.others side ∷ stack_of stack.old.items) }
+{
+    push_indentless(stack, side, token.end_mark)?;
+    node(slot, properties, block_sequence(), token)
+}
+
 fn at_content(
     stack: &mut Vec<State>,
     wants: Wants,
     properties: Option<Box<Properties>>,
-    start: yaml_mark_t,
-    end: yaml_mark_t,
-    body: yaml_token_body_t,
-) -> Result<Option<Item>, AllocError>
-    ensures item { IfOk result (λ i. item_option_of i ≡ (content_taken wants (properties_option_of properties) start end (token_body_of body)).item) }
-    ensures stack { OnOk result (stack_of stack.new.items ≡ (content_taken wants (properties_option_of properties) start end (token_body_of body)).above ++ stack_of stack.old.items) }
+    token: &mut yaml_token_t,
+    slot: &mut Item,
+) -> Result<bool, AllocError>
+    ensures item { IfOk result (λ b. given_of b slot.new ≡ (content_taken wants (properties_option_of properties) token.old.start_mark token.old.end_mark (token_body_of token.old.body)).item) }
+    ensures stack { OnOk result (stack_of stack.new.items ≡ (content_taken wants (properties_option_of properties) token.old.start_mark token.old.end_mark (token_body_of token.old.body)).above ++ stack_of stack.old.items) }
 {
-    match body {
+    match &mut token.body {
         yaml_token_body_t::Scalar { value, style } => {
-            node(properties, Shape::Scalar { value, style }, start, end)
+            let shape = Shape::Scalar {
+                value: moved(value),
+                style: *style,
+            };
+            node(slot, properties, shape, token)
         }
         yaml_token_body_t::FlowSequenceStart => {
-            push(stack, State::Items(Brackets::Sequence, start))?;
-            node(properties, flow_collection(Brackets::Sequence), start, end)
+            open_brackets(stack, Brackets::Sequence, properties, token, slot)
         }
         yaml_token_body_t::FlowMappingStart => {
-            push(stack, State::Items(Brackets::Mapping, start))?;
-            node(properties, flow_collection(Brackets::Mapping), start, end)
+            open_brackets(stack, Brackets::Mapping, properties, token, slot)
         }
-        yaml_token_body_t::BlockSequenceStart => {
-            push(stack, State::Entries(start))?;
-            node(properties, block_sequence(), start, end)
-        }
-        yaml_token_body_t::BlockMappingStart => {
-            push(stack, State::Pairs(start))?;
-            let shape = Shape::Mapping(yaml_mapping_style_t::YAML_BLOCK_MAPPING_STYLE);
-            node(properties, shape, start, end)
-        }
+        yaml_token_body_t::BlockSequenceStart => open_entries(stack, properties, token, slot),
+        yaml_token_body_t::BlockMappingStart => open_pairs(stack, properties, token, slot),
         yaml_token_body_t::BlockEntry => match wants {
-            Wants::Block(Some(side)) => {
-                push_indentless(stack, side, end)?;
-                node(properties, block_sequence(), start, end)
-            }
-            _ => nothing(stack),
+            Wants::Block(Some(side)) => open_others(stack, side, properties, token, slot),
+            _ => nothing(stack, slot),
         },
-        _ => nothing(stack),
+        _ => nothing(stack, slot),
     }
 }
 
 fn at_node(
     stack: &mut Vec<State>,
     wants: Wants,
-    start: yaml_mark_t,
-    end: yaml_mark_t,
-    body: yaml_token_body_t,
-) -> Result<Option<Item>, AllocError>
-    ensures item { IfOk result (λ i. item_option_of i ≡ (node_taken wants start end (token_body_of body)).item) }
-    ensures stack { OnOk result (stack_of stack.new.items ≡ (node_taken wants start end (token_body_of body)).above ++ stack_of stack.old.items) }
+    token: &mut yaml_token_t,
+    slot: &mut Item,
+) -> Result<bool, AllocError>
+    ensures item { IfOk result (λ b. given_of b slot.new ≡ (node_taken wants token.old.start_mark token.old.end_mark (token_body_of token.old.body)).item) }
+    ensures stack { OnOk result (stack_of stack.new.items ≡ (node_taken wants token.old.start_mark token.old.end_mark (token_body_of token.old.body)).above ++ stack_of stack.old.items) }
 {
-    match body {
-        yaml_token_body_t::Alias { value } => told(Plain::Alias { anchor: value }, start, end),
+    match &mut token.body {
+        yaml_token_body_t::Alias { value } => tell(
+            slot,
+            Plain::Alias {
+                anchor: moved(value),
+            },
+            token,
+        ),
         yaml_token_body_t::Anchor { value } => {
             let properties = Properties {
-                anchor: Some(value),
+                anchor: Some(moved(value)),
                 tag: None,
-                from: start,
-                to: end,
+                from: token.start_mark,
+                to: token.end_mark,
             };
             push_dressed(stack, wants, properties)?;
-            Ok(None)
+            Ok(false)
         }
         yaml_token_body_t::Tag { handle, suffix } => {
             let tag = Tag {
-                handle,
-                suffix,
-                mark: start,
+                handle: moved(handle),
+                suffix: moved(suffix),
+                mark: token.start_mark,
             };
             let properties = Properties {
                 anchor: None,
                 tag: Some(tag),
-                from: start,
-                to: end,
+                from: token.start_mark,
+                to: token.end_mark,
             };
             push_dressed(stack, wants, properties)?;
-            Ok(None)
+            Ok(false)
         }
-        content => at_content(stack, wants, None, start, end, content),
+        _ => at_content(stack, wants, None, token, slot),
     }
 }
 
@@ -381,34 +446,33 @@ fn at_dressed(
     stack: &mut Vec<State>,
     wants: Wants,
     properties: Box<Properties>,
-    start: yaml_mark_t,
-    end: yaml_mark_t,
-    body: yaml_token_body_t,
-) -> Result<Option<Item>, AllocError>
-    ensures item { IfOk result (λ i. item_option_of i ≡ (dressed_taken wants (properties_of properties.value) start end (token_body_of body)).item) }
-    ensures stack { OnOk result (stack_of stack.new.items ≡ (dressed_taken wants (properties_of properties.value) start end (token_body_of body)).above ++ stack_of stack.old.items) }
+    token: &mut yaml_token_t,
+    slot: &mut Item,
+) -> Result<bool, AllocError>
+    ensures item { IfOk result (λ b. given_of b slot.new ≡ (dressed_taken wants (properties_of properties.value) token.old.start_mark token.old.end_mark (token_body_of token.old.body)).item) }
+    ensures stack { OnOk result (stack_of stack.new.items ≡ (dressed_taken wants (properties_of properties.value) token.old.start_mark token.old.end_mark (token_body_of token.old.body)).above ++ stack_of stack.old.items) }
 {
-    match body {
+    match &mut token.body {
         yaml_token_body_t::Anchor { value } => {
             let mut both = properties;
-            both.anchor = Some(value);
-            both.to = end;
+            both.anchor = Some(moved(value));
+            both.to = token.end_mark;
             push(stack, State::Dressed(wants, both))?;
-            Ok(None)
+            Ok(false)
         }
         yaml_token_body_t::Tag { handle, suffix } => {
             let tag = Tag {
-                handle,
-                suffix,
-                mark: start,
+                handle: moved(handle),
+                suffix: moved(suffix),
+                mark: token.start_mark,
             };
             let mut both = properties;
             both.tag = Some(tag);
-            both.to = end;
+            both.to = token.end_mark;
             push(stack, State::Dressed(wants, both))?;
-            Ok(None)
+            Ok(false)
         }
-        content => at_content(stack, wants, Some(properties), start, end, content),
+        _ => at_content(stack, wants, Some(properties), token, slot),
     }
 }
 
@@ -417,20 +481,20 @@ fn at_pair(
     stack: &mut Vec<State>,
     brackets: Brackets,
     opener: yaml_mark_t,
-    start: yaml_mark_t,
-    end: yaml_mark_t,
-) -> Result<Option<Item>, AllocError>
-    ensures item { IfOk result (λ i. item_option_of i ≡ (pair_taken brackets opener start end).item) }
-    ensures stack { OnOk result (stack_of stack.new.items ≡ (pair_taken brackets opener start end).above ++ stack_of stack.old.items) }
+    token: &yaml_token_t,
+    slot: &mut Item,
+) -> Result<bool, AllocError>
+    ensures item { IfOk result (λ b. given_of b slot.new ≡ (pair_taken brackets opener token.now.start_mark token.now.end_mark).item) }
+    ensures stack { OnOk result (stack_of stack.new.items ≡ (pair_taken brackets opener token.now.start_mark token.now.end_mark).above ++ stack_of stack.old.items) }
 {
     match brackets {
         Brackets::Sequence => {
-            push_sequence_pair(stack, opener, end)?;
-            node(None, flow_collection(Brackets::Mapping), start, end)
+            push_sequence_pair(stack, opener, token.end_mark)?;
+            node(slot, None, flow_collection(Brackets::Mapping), token)
         }
         Brackets::Mapping => {
-            push_mapping_pair(stack, opener, end)?;
-            Ok(None)
+            push_mapping_pair(stack, opener, token.end_mark)?;
+            Ok(false)
         }
     }
 }
@@ -439,20 +503,19 @@ fn at_items(
     stack: &mut Vec<State>,
     brackets: Brackets,
     opener: yaml_mark_t,
-    start: yaml_mark_t,
-    end: yaml_mark_t,
-    body: yaml_token_body_t,
-) -> Result<Option<Item>, AllocError>
-    ensures item { IfOk result (λ i. item_option_of i ≡ (items_taken brackets opener start end (token_body_of body)).item) }
-    ensures stack { OnOk result (stack_of stack.new.items ≡ (items_taken brackets opener start end (token_body_of body)).above ++ stack_of stack.old.items) }
+    token: &mut yaml_token_t,
+    slot: &mut Item,
+) -> Result<bool, AllocError>
+    ensures item { IfOk result (λ b. given_of b slot.new ≡ (items_taken brackets opener token.old.start_mark token.old.end_mark (token_body_of token.old.body)).item) }
+    ensures stack { OnOk result (stack_of stack.new.items ≡ (items_taken brackets opener token.old.start_mark token.old.end_mark (token_body_of token.old.body)).above ++ stack_of stack.old.items) }
 {
-    match body {
-        yaml_token_body_t::Key => at_pair(stack, brackets, opener, start, end),
-        yaml_token_body_t::FlowSequenceEnd => told(end_of(brackets), start, end),
-        yaml_token_body_t::FlowMappingEnd => told(end_of(brackets), start, end),
-        other => {
+    match &mut token.body {
+        yaml_token_body_t::Key => at_pair(stack, brackets, opener, token, slot),
+        yaml_token_body_t::FlowSequenceEnd => tell(slot, end_of(brackets), token),
+        yaml_token_body_t::FlowMappingEnd => tell(slot, end_of(brackets), token),
+        _ => {
             push_behind_part(stack, brackets, opener)?;
-            at_node(stack, Wants::Flow, start, end, other)
+            at_node(stack, Wants::Flow, token, slot)
         }
     }
 }
@@ -461,130 +524,103 @@ fn at_more(
     stack: &mut Vec<State>,
     brackets: Brackets,
     opener: yaml_mark_t,
-    start: yaml_mark_t,
-    end: yaml_mark_t,
-    body: yaml_token_body_t,
-) -> Result<Option<Item>, AllocError>
-    ensures item { IfOk result (λ i. item_option_of i ≡ (more_taken brackets opener start end (token_body_of body)).item) }
-    ensures stack { OnOk result (stack_of stack.new.items ≡ (more_taken brackets opener start end (token_body_of body)).above ++ stack_of stack.old.items) }
+    token: &mut yaml_token_t,
+    slot: &mut Item,
+) -> Result<bool, AllocError>
+    ensures item { IfOk result (λ b. given_of b slot.new ≡ (more_taken brackets opener token.old.start_mark token.old.end_mark (token_body_of token.old.body)).item) }
+    ensures stack { OnOk result (stack_of stack.new.items ≡ (more_taken brackets opener token.old.start_mark token.old.end_mark (token_body_of token.old.body)).above ++ stack_of stack.old.items) }
 {
-    match body {
+    match &mut token.body {
         yaml_token_body_t::FlowEntry => {
             push(stack, State::Items(brackets, opener))?;
-            Ok(None)
+            Ok(false)
         }
-        _ => told(end_of(brackets), start, end),
+        _ => tell(slot, end_of(brackets), token),
     }
 }
 
 fn at_entries(
     stack: &mut Vec<State>,
     opener: yaml_mark_t,
-    start: yaml_mark_t,
-    end: yaml_mark_t,
-    body: yaml_token_body_t,
-) -> Result<Option<Item>, AllocError>
-    ensures item { IfOk result (λ i. item_option_of i ≡ (entries_taken opener start end (token_body_of body)).item) }
-    ensures stack { OnOk result (stack_of stack.new.items ≡ (entries_taken opener start end (token_body_of body)).above ++ stack_of stack.old.items) }
+    token: &mut yaml_token_t,
+    slot: &mut Item,
+) -> Result<bool, AllocError>
+    ensures item { IfOk result (λ b. given_of b slot.new ≡ (entries_taken opener token.old.start_mark token.old.end_mark (token_body_of token.old.body)).item) }
+    ensures stack { OnOk result (stack_of stack.new.items ≡ (entries_taken opener token.old.start_mark token.old.end_mark (token_body_of token.old.body)).above ++ stack_of stack.old.items) }
 {
-    match body {
+    match &mut token.body {
         yaml_token_body_t::BlockEntry => {
-            push_entry(stack, opener, end)?;
-            Ok(None)
+            push_entry(stack, opener, token.end_mark)?;
+            Ok(false)
         }
-        _ => told(Plain::SequenceEnd, start, end),
+        _ => tell(slot, Plain::SequenceEnd, token),
     }
 }
 
 fn at_pairs(
     stack: &mut Vec<State>,
     opener: yaml_mark_t,
-    start: yaml_mark_t,
-    end: yaml_mark_t,
-    body: yaml_token_body_t,
-) -> Result<Option<Item>, AllocError>
-    ensures item { IfOk result (λ i. item_option_of i ≡ (pairs_taken opener start end (token_body_of body)).item) }
-    ensures stack { OnOk result (stack_of stack.new.items ≡ (pairs_taken opener start end (token_body_of body)).above ++ stack_of stack.old.items) }
+    token: &mut yaml_token_t,
+    slot: &mut Item,
+) -> Result<bool, AllocError>
+    ensures item { IfOk result (λ b. given_of b slot.new ≡ (pairs_taken opener token.old.start_mark token.old.end_mark (token_body_of token.old.body)).item) }
+    ensures stack { OnOk result (stack_of stack.new.items ≡ (pairs_taken opener token.old.start_mark token.old.end_mark (token_body_of token.old.body)).above ++ stack_of stack.old.items) }
 {
-    match body {
+    match &mut token.body {
         yaml_token_body_t::Key => {
-            push_block_pair(stack, opener, end)?;
-            Ok(None)
+            push_block_pair(stack, opener, token.end_mark)?;
+            Ok(false)
         }
-        _ => told(Plain::MappingEnd, start, end),
+        _ => tell(slot, Plain::MappingEnd, token),
     }
 }
 
-fn at_others(
-    stack: &mut Vec<State>,
-    side: Side,
-    end: yaml_mark_t,
-) -> Result<Option<Item>, AllocError>
-    ensures item { IfOk result (λ i. item_option_of i ≡ None) }
+fn at_others(stack: &mut Vec<State>, side: Side, end: yaml_mark_t) -> Result<bool, AllocError>
+    ensures item { IfOk result (λ b. b ≡ false) }
     ensures stack { OnOk result (stack_of stack.new.items ≡ state.optional (IndentlessEntry side) end ∷ state.others side ∷ stack_of stack.old.items) }
 {
     push_indentless(stack, side, end)?;
-    Ok(None)
+    Ok(false)
 }
 
-fn at_colon(
-    stack: &mut Vec<State>,
-    place: Place,
-    end: yaml_mark_t,
-) -> Result<Option<Item>, AllocError>
-    ensures item { IfOk result (λ i. item_option_of i ≡ None) }
+fn at_colon(stack: &mut Vec<State>, place: Place, end: yaml_mark_t) -> Result<bool, AllocError>
+    ensures item { IfOk result (λ b. b ≡ false) }
     ensures stack { OnOk result (stack_of stack.new.items ≡ state.optional place end ∷ stack_of stack.old.items) }
 {
     push(stack, State::Optional(place, end))?;
-    Ok(None)
+    Ok(false)
 }
 
-/// What the state gives as it takes the token, and puts what may come from then on on top of the stack, whose last state
-/// is the topmost. Where memory runs out a part of it may stand there.
+/// What the state gives as it takes the token stands in the slot, if anything, and what may come from then on on top of
+/// the stack, whose last state is the topmost. Where memory runs out a part of it may stand there.
 pub fn take(
     stack: &mut Vec<State>,
     state: State,
-    token: yaml_token_t,
-) -> Result<Option<Item>, AllocError>
-    ensures item { IfOk result (λ i. item_option_of i ≡ (taken_at (state_of state) (token_of token)).item) }
-    ensures stack { OnOk result (stack_of stack.new.items ≡ (taken_at (state_of state) (token_of token)).above ++ stack_of stack.old.items) }
+    token: &mut yaml_token_t,
+    slot: &mut Item,
+) -> Result<bool, AllocError>
+    ensures item { IfOk result (λ b. given_of b slot.new ≡ (taken_at (state_of state) (token_of token.old)).item) }
+    ensures stack { OnOk result (stack_of stack.new.items ≡ (taken_at (state_of state) (token_of token.old)).above ++ stack_of stack.old.items) }
 {
-    let start = token.start_mark;
-    let end = token.end_mark;
-    let body = token.body;
     match state {
-        State::Stream => at_stream(stack, start, end, body),
-        State::First => at_documents(stack, start, start, end, body),
-        State::Documents => at_documents(stack, start, start, end, body),
-        State::Directives(from) => at_documents(stack, from, start, end, body),
-        State::Optional(place, _) => at_node(stack, wants(place), start, end, body),
+        State::Stream => at_stream(stack, token, slot),
+        State::First => at_documents(stack, token.start_mark, token, slot),
+        State::Documents => at_documents(stack, token.start_mark, token, slot),
+        State::Directives(from) => at_documents(stack, from, token, slot),
+        State::Optional(place, _) => at_node(stack, wants(place), token, slot),
         State::DocumentEnd => {
-            drop(body);
-            told(Plain::DocumentEnd { implicit: false }, start, end)
+            let event = Plain::DocumentEnd { implicit: false };
+            tell(slot, event, token)
         }
-        State::Entries(opener) => at_entries(stack, opener, start, end, body),
-        State::Others(side) => {
-            drop(body);
-            at_others(stack, side, end)
-        }
-        State::Pairs(opener) => at_pairs(stack, opener, start, end, body),
-        State::Colon(place) => {
-            drop(body);
-            at_colon(stack, place, end)
-        }
-        State::Dressed(wants, properties) => {
-            at_dressed(stack, wants, properties, start, end, body)
-        }
-        State::Items(brackets, opener) => at_items(stack, brackets, opener, start, end, body),
-        State::More(brackets, opener) => at_more(stack, brackets, opener, start, end, body),
-        State::PairEnd => {
-            drop(body);
-            nothing(stack)
-        }
-        State::Lone => {
-            drop(body);
-            nothing(stack)
-        }
+        State::Entries(opener) => at_entries(stack, opener, token, slot),
+        State::Others(side) => at_others(stack, side, token.end_mark),
+        State::Pairs(opener) => at_pairs(stack, opener, token, slot),
+        State::Colon(place) => at_colon(stack, place, token.end_mark),
+        State::Dressed(wants, properties) => at_dressed(stack, wants, properties, token, slot),
+        State::Items(brackets, opener) => at_items(stack, brackets, opener, token, slot),
+        State::More(brackets, opener) => at_more(stack, brackets, opener, token, slot),
+        State::PairEnd => nothing(stack, slot),
+        State::Lone => nothing(stack, slot),
     }
 }
 
@@ -601,27 +637,49 @@ fn empty_mark(place: Place, before: yaml_mark_t, next: yaml_mark_t) -> yaml_mark
     }
 }
 
-// An event that stands before a token that begins there.
-fn event_before(event: Plain, start: yaml_mark_t) -> Item
-    ensures { item_of result ≡ event_at (plain_of event) start start }
+// An empty node without properties.
+fn leave_blank(slot: &mut Item, mark: yaml_mark_t)
+    ensures { item_of slot.new ≡ blank mark }
 {
-    Item {
-        body: ItemBody::Event(event),
-        from: start,
-        to: start,
-    }
+    slot.body = ItemBody::Node {
+        properties: None,
+        shape: Shape::Empty,
+    };
+    slot.from = mark;
+    slot.to = mark;
 }
 
-/// What the state gives as it is left before a token that begins there.
-pub fn leave(state: State, start: yaml_mark_t) -> Item
-    ensures { item_of result ≡ left_at (state_of state) start }
+// An empty node that has nothing but properties.
+fn leave_dressed(slot: &mut Item, p: Box<Properties>)
+    ensures { item_of slot.new ≡ dressed_alone (properties_of p.value) }
+{
+    slot.from = p.from;
+    slot.to = p.to;
+    slot.body = ItemBody::Node {
+        properties: Some(p),
+        shape: Shape::Empty,
+    };
+}
+
+// An event that stands before a token that begins there.
+fn leave_event(slot: &mut Item, event: Plain, start: yaml_mark_t)
+    ensures { item_of slot.new ≡ event_at (plain_of event) start start }
+{
+    slot.body = ItemBody::Event(event);
+    slot.from = start;
+    slot.to = start;
+}
+
+/// What the state gives as it is left before a token that begins there stands in the slot.
+pub fn leave(state: State, start: yaml_mark_t, slot: &mut Item)
+    ensures { item_of slot.new ≡ left_at (state_of state) start }
 {
     match state {
-        State::Optional(place, before) => blank_node(empty_mark(place, before, start)),
-        State::DocumentEnd => event_before(Plain::DocumentEnd { implicit: true }, start),
-        State::Others(_) => event_before(Plain::SequenceEnd, start),
-        State::Dressed(_, properties) => properties_alone(properties),
-        State::PairEnd => event_before(Plain::MappingEnd, start),
-        _ => blank_node(start),
+        State::Optional(place, before) => leave_blank(slot, empty_mark(place, before, start)),
+        State::DocumentEnd => leave_event(slot, Plain::DocumentEnd { implicit: true }, start),
+        State::Others(_) => leave_event(slot, Plain::SequenceEnd, start),
+        State::Dressed(_, properties) => leave_dressed(slot, properties),
+        State::PairEnd => leave_event(slot, Plain::MappingEnd, start),
+        _ => leave_blank(slot, start),
     }
 }

@@ -1,6 +1,6 @@
 use Rattle.std.proofs.Common.{◌+◌}
 use Rattle.yaml_parse.specs.Steps.{Kept}
-use Rattle.yaml_parse.proofs.parser.next_event.Given as goal
+use Rattle.yaml_parse.proofs.parser.find.Given as goal
 
 abbrev pub invariant-turns : goal.invariant-turns
 invariant-turns g l = Kept l.initial.parser l.parser

@@ -1,6 +1,6 @@
 //! A text, read from the front.
 
-ghost use Rattle.std.specs.Prelude.{◌≡◌, ◌+◌, ◌<◌, ◌≤◌, ℕ, length, false, slice_range};
+ghost use Rattle.std.specs.Prelude.{◌≡◌, ◌+◌, ◌<◌, ◌≤◌, ◌||◌, ◌==◌, ℕ, length, false, slice_range};
 ghost use Rattle.yaml_scan_text.specs.Marks.{Place, byte, break_width, ends_break, mark_at, starts as starts_of, is_blank, is_blank_or_end};
 ghost use Rattle.yaml_scan_text.specs.Marks.{splits_break};
 ghost use Rattle.yaml_scan_text.specs.Breaks.{feed_at, is_document_indicator};
@@ -20,6 +20,13 @@ pub fn is_blank(byte: u8) -> bool
     ensures { result ≡ is_blank byte }
 {
     byte == b' ' || byte == b'\t'
+}
+
+/// Whether the byte ends LS or PS.
+fn is_separator(byte: u8) -> bool
+    ensures { result ≡ (byte == 168 || byte == 169) }
+{
+    byte == 0xA8 || byte == 0xA9
 }
 
 #[derive(Drop)]
@@ -148,19 +155,18 @@ impl<'a> Reader<'a> {
         requires { ahead < 14 }
         ensures { result ≡ break_width self.now.text (self.now.at + ahead) }
     {
-        let first = self.byte(ahead);
-        let second = self.byte(ahead + 1);
-        let third = self.byte(ahead + 2);
-        if first == b'\r' {
-            if second == b'\n' { 2 } else { 1 }
-        } else if first == b'\n' {
-            1
-        } else if first == 0xC2 && second == 0x85 {
-            2
-        } else if first == 0xE2 && second == 0x80 && (third == 0xA8 || third == 0xA9) {
-            3
-        } else {
-            0
+        match self.byte(ahead) {
+            b'\n' => 1,
+            b'\r' => { if self.byte(ahead + 1) == b'\n' { 2 } else { 1 } }
+            0xC2 => { if self.byte(ahead + 1) == 0x85 { 2 } else { 0 } }
+            0xE2 => {
+                if self.byte(ahead + 1) == 0x80 && is_separator(self.byte(ahead + 2)) {
+                    3
+                } else {
+                    0
+                }
+            }
+            _ => 0,
         }
     }
 

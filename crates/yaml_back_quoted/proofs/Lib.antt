@@ -1,0 +1,6 @@
+mod Chars
+mod Values
+mod Bytes
+mod Reading
+mod Turns
+mod Parts

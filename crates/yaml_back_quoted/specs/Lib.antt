@@ -1,0 +1,3 @@
+pub mod Stands
+pub mod Spelling
+pub mod Laws

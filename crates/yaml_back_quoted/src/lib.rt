@@ -1,0 +1,6 @@
+//! Laws of reading back: quoted text that is written is read as the value that it was written for. No code.
+#![tactic(auto)]
+
+mod laws;
+
+pub use laws::{single_spelling_reads, spelling_reads};

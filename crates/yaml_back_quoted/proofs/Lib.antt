@@ -4,3 +4,5 @@ mod Bytes
 mod Reading
 mod Turns
 mod Parts
+mod Escapes
+mod Back

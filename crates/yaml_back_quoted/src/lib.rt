@@ -3,4 +3,6 @@
 
 mod laws;
 
-pub use laws::{single_spelling_reads, spelling_reads};
+pub use laws::{
+    quoted_is_read_back, quoted_text_is_read_back, single_spelling_reads, spelling_reads,
+};

@@ -1,0 +1,4 @@
+pub mod Stands
+pub mod Spelling
+pub mod ReadBack
+pub mod Laws

@@ -1,0 +1,25 @@
+-- Layouts whose characters are read back.
+use Rattle.std.specs.Prelude.{ℕ, ◌+◌, ◌≡◌, Bool, if◌then◌else◌, List, length, Result, Ok, encode_utf8_all}
+use Rattle.yaml_scan_text.specs.Wrong.{Wrong}
+use Rattle.yaml_emit_sink.specs.declared.Cursor.{Cursor}
+use Rattle.yaml_emit_sink.specs.Layout.{Layout, Rest, ◌▹◌, char}
+use Rattle.yaml_emit_text.specs.declared.page.Page.{Page}
+use Rattle.yaml_emit_text.specs.Quoted.{quoted_body}
+use Rattle.yaml_emit_text.specs.Spelling.{in_front}
+use Rattle.yaml_back_quoted.specs.Stands.{HasAt}
+
+-- From a cursor on, a layout writes these characters, whatever follows; and wherever their bytes stand, the reading gives the
+-- value, and ends behind them.
+pub record IsReadBack (reading : List ℕ → ℕ → Result (List ℕ × ℕ) Wrong) (a : Layout) (c : Cursor) (value : List ℕ) : Type 0 where
+  pub letters : List ℕ
+  pub behind : Cursor
+  pub written : (rest : Rest) → a c rest ≡ in_front letters (rest behind)
+  pub read : (text : List ℕ) (p : ℕ) → HasAt text p (encode_utf8_all letters) → reading text p ≡ Ok (value, p + length (encode_utf8_all letters))
+
+-- a double quoted scalar from quote to quote, without the space in front
+abbrev pub between_quotes : Page → List ℕ → Layout
+between_quotes page value = char 34 ▹ (quoted_body page 32 value ▹ char 34)
+
+-- the bytes of the space that is due in front of a scalar
+abbrev pub gap_width : Cursor → ℕ
+gap_width c = if c.white then 0 else 1

@@ -1,0 +1,29 @@
+//! Each function's contract is a law. A body cites a law of a lower crate.
+
+ghost use Rattle.yaml_back_quoted.specs.Laws.{QuotedIsReadBack, QuotedTextIsReadBack, SingleSpellingReads, SpellingReads};
+
+use yaml_emit_text::quoted_spells;
+
+/// A spelling between double quotes is read as what it means, wherever it stands.
+pub fn spelling_reads()
+    ensures { SpellingReads }
+{}
+
+/// So is one between single quotes, where no single quote stands behind.
+pub fn single_spelling_reads()
+    ensures { SingleSpellingReads }
+{}
+
+/// What an emitter writes for a value between double quotes is read as the value.
+pub fn quoted_is_read_back()
+    ensures { QuotedIsReadBack }
+{
+    quoted_spells();
+}
+
+/// So is a double quoted scalar's text, behind the space in front.
+pub fn quoted_text_is_read_back()
+    ensures { QuotedTextIsReadBack }
+{
+    quoted_spells();
+}

@@ -1,0 +1,4 @@
+mod MadeLemmas
+mod FreeLemmas
+mod StepLemmas
+pub mod TextLemmas

@@ -1,0 +1,3 @@
+pub mod KeyFree
+pub mod Laws
+pub mod Texts

@@ -1,0 +1,9 @@
+//! Laws of texts in which no `:` meets a candidate: their tokens are those of their lexemes, in order. No code.
+#![tactic(auto)]
+
+mod laws;
+
+pub use laws::{
+    asked_have_no_candidate, key_free_texts_are_bare, key_free_tokens_are_own, none_is_required,
+    word_is_read, words_are_read,
+};

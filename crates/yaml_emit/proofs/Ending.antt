@@ -103,7 +103,7 @@ no_node (scalar_node x) es h = cc
 no_node (sequence_node q ns) es h = cc
 no_node (mapping_node q ps) es h = cc
 
-no_event_left : (k : ToCome) → [] ≡ events k → k ≡ nothing
+pub no_event_left : (k : ToCome) → [] ≡ events k → k ≡ nothing
 unfolding events documents_events frames_events
 no_event_left (stream x ds) h = absurd (cc)
 no_event_left (documents first unended []) h = absurd (cc)
@@ -113,7 +113,7 @@ no_event_left (frames g [] implicit ds) h = absurd (cc)
 no_event_left (frames g (f ∷ fs) implicit ds) h = let k = long_frame f (frames_events fs (ending_events implicit ds)) in let l = ap length h in absurd (omega (arith, k, l))
 no_event_left nothing h = refl
 
-nothing_held : (xs : List Event) (k : ToCome) → is_ready xs ≡ false → xs ≡ events k → xs ≡ []
+pub nothing_held : (xs : List Event) (k : ToCome) → is_ready xs ≡ false → xs ≡ events k → xs ≡ []
 nothing_held [] k w h = refl
 nothing_held (x ∷ xs) k w h = let r = ready_rest k x xs h in let P : List Event → Type 0 = λ z. is_ready z ≡ true in let r' : is_ready (x ∷ xs) ≡ true = subst P (sym h) r in absurd (cc)
 

@@ -4,6 +4,7 @@ pub mod Judging
 pub mod Grammatical
 pub mod Ending
 pub mod Emitting
+pub mod Within
 pub mod Verdicts
 pub mod Walking
 pub mod Contents

@@ -7,6 +7,7 @@ ghost use Rattle.yaml_parse.specs.Events.{event_of, body_of};
 ghost use Rattle.yaml_parse.specs.Constructors.{HasUtf8};
 ghost use Rattle.yaml_emit_layout.specs.Content.{said};
 ghost use Rattle.yaml_emit.specs.Emitter.{stream_encoding, refusal_of, IsNew, IsLimited, ShowsFront, IsWhole, Given, Begins, Answers, Stays};
+ghost use Rattle.yaml_emit.specs.Within.{IsWithin};
 ghost use Rattle.yaml_emit.specs.Verdict.{Judged, JudgesFirst, Tells};
 
 mod dump;
@@ -166,11 +167,12 @@ pub fn yaml_emitter_output(emitter: &yaml_emitter_t) -> &[u8]
     emitter.core.sink().output()
 }
 
-/// The text: all of it, where no fault has come and no event is to come.
+/// The text: all of it, where no fault has come and no event is to come; it then passes no limit.
 pub fn yaml_emitter_into_output(emitter: yaml_emitter_t) -> Vec<u8>
     ensures bytes { result.items ≡ emitter.core.sink.bytes }
     ensures front { ShowsFront emitter result.items }
     ensures whole { IsWhole emitter result.items }
+    ensures within { IsWithin emitter }
 {
     emitter.core.into_output()
 }

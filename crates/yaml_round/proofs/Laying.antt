@@ -7,13 +7,14 @@ use Rattle.yaml_scan.specs.Faults.{Fault, fault_of, IsMemoryFault, Answers}
 use Rattle.yaml_parse.specs.Coming.{Coming}
 use Rattle.yaml_parse.specs.Resolve.{Told}
 use Rattle.yaml_emit.specs.Content.{Event}
-use Rattle.yaml_emit.specs.Emitter.{Emitter, Completes, CompletesBy, IsStream, IsLimited, Passes}
+use Rattle.yaml_emit.specs.Emitter.{Emitter, Completes, CompletesBy, IsStream, IsLimited, IsWhole, Passes}
+use Rattle.yaml_emit.specs.Within.{IsWithin}
 use Rattle.yaml_emit.specs.Text.{Item, encode, is_deep}
 use Rattle.yaml_emit_text.specs.declared.Encoding.{Encoding}
 use Rattle.yaml_emit_text.specs.declared.Wishes.{Wishes}
 use Rattle.yaml_round.specs.declared.settings.yaml_settings_t.{yaml_settings_t}
 use Rattle.yaml_round.specs.Reading.{said_all}
-use Rattle.yaml_round.specs.Writing.{IsUnder, Leads, Finishes, wishes_under, IsEachLayout, IsPastEach}
+use Rattle.yaml_round.specs.Writing.{IsUnder, Leads, Finishes, wishes_under, IsText, IsEachLayout, IsPastEach}
 use Rattle.yaml_round.specs.Input.{Reads, events_of}
 use Rattle.yaml_round.specs.Answers.{IsLayout, IsPast, IsRight, IsWritten, bytes_of}
 use Rattle.yaml_emit_laws.specs.Laws.{HasText}
@@ -31,8 +32,8 @@ starts e w limit x es whole h s = starts_at e.fresh e w x es whole h.fresh h.wis
 abbrev pub Led : Wishes → ℕ → List Event → Emitter → List Event → Type 0
 Led w limit es e left = (e.limit ≡ limit) × ((x : Encoding) (whole : List Item) → IsStream w x es whole → Completes e x left whole)
 
-pub layout : (w : Wishes) (limit : ℕ) (es : List Event) (e : Emitter) (text : List ℕ) → Led w limit es e [] → ((x : Encoding) (whole : List Item) → Completes e x [] whole → text ≡ encode x whole) → IsEachLayout w es text
-layout w limit es e text l f = λ x whole s. f x whole (l.1 x whole s)
+pub layout : (w : Wishes) (limit : ℕ) (es : List Event) (e : Emitter) (text : List ℕ) → Led w limit es e [] → ((x : Encoding) (whole : List Item) → Completes e x [] whole → IsText e.limit x whole text) → IsEachLayout w limit es text
+layout w limit es e text l f = λ x whole s. subst (λ (n : ℕ). IsText n x whole text) l.0 (f x whole (l.1 x whole s))
 
 -- a fault is want of memory, or a limit that the layout passes
 pub past : (w : Wishes) (limit : ℕ) (es : List Event) (e : Emitter) (left : List Event) (f : yaml_fault_t) → Led w limit es e left → IsLimited e (fault_of f) → IsMemoryFault f ⊎ IsPastEach w limit es (fault_of f)
@@ -40,6 +41,10 @@ past w limit es e left f l h = elim h [
   | inl m ↦ inl m
   | inr p ↦ inr (λ x whole s. subst (λ (n : ℕ). Passes n (encode x whole) (is_deep whole) (fault_of f)) l.0 (p x left whole (l.1 x whole s)))
 ]
+
+-- the emitter's text, where it is whole
+pub whole_text : (e : Emitter) (text : Vec ℕ Global) → e.fault ≡ None → IsWhole e text.items → IsWithin e → Finishes e (Ok text)
+whole_text e text none w k = (none, λ x whole c. record { is = w none x whole c; fits = k none x whole c })
 
 -- all events of a reading
 pub led : (from : yaml_encoding_t) (input : List ℕ) (settings : yaml_settings_t) (canonical : Bool) (r : Coming) (old new : Emitter)
@@ -54,8 +59,10 @@ led from input settings canonical r old new h u l = (
 
 -- ---- the one layout
 
-pub one_layout : (w : Wishes) (es : List Event) (text : List ℕ) → HasText w es → IsEachLayout w es text → IsLayout w es text
-one_layout w es text h l = record { encoding = h.encoding; whole = h.whole; stream = h.is; is = l h.encoding h.whole h.is }
+pub one_layout : (w : Wishes) (limit : ℕ) (es : List Event) (text : List ℕ) → HasText w es → IsEachLayout w limit es text → IsLayout w limit es text
+one_layout w limit es text h l =
+    let t : IsText limit h.encoding h.whole text = l h.encoding h.whole h.is in
+    record { encoding = h.encoding; whole = h.whole; stream = h.is; is = t.is; fits = t.fits }
 
 pub one_past : (w : Wishes) (limit : ℕ) (es : List Event) (f : Fault) → HasText w es → IsPastEach w limit es f → IsPast w limit es f
 one_past w limit es f h p = record { encoding = h.encoding; whole = h.whole; stream = h.is; passes = p h.encoding h.whole h.is }
@@ -67,7 +74,7 @@ wrote from input settings canonical r old new (Ok text) h u l f =
     let right : IsRight from input = sym h.ending ∙ l.0 in
     let w : Wishes = wishes_under settings canonical in
     let es : List Event = said_all canonical (events_of from input) in
-    (right, one_layout w es text.items (input_text from input w right) (layout w settings.limit es new text.items (led from input settings canonical r old new h u l.1) f.1))
+    (right, one_layout w settings.limit es text.items (input_text from input w right) (layout w settings.limit es new text.items (led from input settings canonical r old new h u l.1) f.1))
 wrote from input settings canonical r old new (Err f) h u l e =
     let right : IsRight from input = sym h.ending ∙ l.0 in
     let w : Wishes = wishes_under settings canonical in

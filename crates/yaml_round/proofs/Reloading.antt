@@ -301,7 +301,7 @@ dumped_text settings ds old new (Err f) u w e = past (wishes_under settings true
 
 -- the documents that an input loads have the one text
 one_dump : (from : yaml_encoding_t) (input : List ℕ) (settings : yaml_settings_t) (result : Result (List ℕ) Fault) → IsEachDump settings (loads_of from input).documents result → IsDumped settings (loads_of from input).documents result
-one_dump from input settings (Ok text) d = one_layout (wishes_under settings true) (written_events (loads_of from input).documents) text (loaded_text from input (wishes_under settings true) refl) d
+one_dump from input settings (Ok text) d = one_layout (wishes_under settings true) settings.limit (written_events (loads_of from input).documents) text (loaded_text from input (wishes_under settings true) refl) d
 one_dump from input settings (Err f) d = one_past (wishes_under settings true) settings.limit (written_events (loads_of from input).documents) f (loaded_text from input (wishes_under settings true) refl) d
 
 pub reloaded : (from : yaml_encoding_t) (input : List ℕ) (settings : yaml_settings_t) (ds : List Document) (result : Result (Vec ℕ Global) yaml_fault_t)

@@ -7,6 +7,7 @@ use Rattle.yaml_scan.specs.Faults.{Fault, fault_of, IsMemoryFault}
 use Rattle.yaml_emit.specs.Content.{Event}
 use Rattle.yaml_emit.specs.Text.{Item, encode, is_deep}
 use Rattle.yaml_emit.specs.Emitter.{IsStream, Passes}
+use Rattle.yaml_emit.specs.Within.{Fits}
 use Rattle.yaml_emit_text.specs.declared.Encoding.{Encoding}
 use Rattle.yaml_emit_text.specs.declared.Wishes.{Wishes}
 use Rattle.yaml_round.specs.declared.settings.yaml_settings_t.{yaml_settings_t}
@@ -73,12 +74,13 @@ IsSame a_from a b_from b (Err f) = IsMemoryFault f.1 ⊎ IsSideFaulty a_from a b
 
 -- ---- layouts
 
--- These events are those of a stream in which nothing is wrong, and the text is its layout.
-pub record IsLayout (wishes : Wishes) (events : List Event) (text : List ℕ) : Type 0 where
+-- These events are those of a stream in which nothing is wrong, and the text is its layout, which passes no limit.
+pub record IsLayout (wishes : Wishes) (limit : ℕ) (events : List Event) (text : List ℕ) : Type 0 where
   pub encoding : Encoding
   pub whole : List Item
   pub stream : IsStream wishes encoding events whole
   pub is : text ≡ encode encoding whole
+  pub fits : Fits limit encoding whole
 
 -- They are, and its layout passes the limit that the fault names.
 pub record IsPast (wishes : Wishes) (limit : ℕ) (events : List Event) (fault : Fault) : Type 0 where
@@ -89,7 +91,7 @@ pub record IsPast (wishes : Wishes) (limit : ℕ) (events : List Event) (fault :
 
 -- the layout of the input's events, evened, in canonical form or in pretty form
 abbrev pub IsLaidOut : yaml_encoding_t → List ℕ → yaml_settings_t → Bool → List ℕ → Type 0
-IsLaidOut from input settings canonical text = IsRight from input × IsLayout (wishes_under settings canonical) (said_all canonical (events_of from input)) text
+IsLaidOut from input settings canonical text = IsRight from input × IsLayout (wishes_under settings canonical) settings.limit (said_all canonical (events_of from input)) text
 
 -- The input is accepted, and that layout passes the limit that the fault names.
 abbrev pub IsTooLong : yaml_encoding_t → List ℕ → yaml_settings_t → Bool → Fault → Type 0

@@ -63,7 +63,7 @@ written_events ds = stream_events YAML_ANY_ENCODING (map graph_content ds)
 
 -- The layout of the documents in canonical form, or a limit that it passes.
 abbrev pub IsDumped : yaml_settings_t → List Document → Result (List ℕ) Fault → Type 0
-IsDumped settings ds (Ok text) = IsLayout (wishes_under settings true) (written_events ds) text
+IsDumped settings ds (Ok text) = IsLayout (wishes_under settings true) settings.limit (written_events ds) text
 IsDumped settings ds (Err fault) = IsPast (wishes_under settings true) settings.limit (written_events ds) fault
 
 -- The input's documents, laid out; the fault that ends them; or, where none does, a limit that the layout passes.
@@ -90,7 +90,7 @@ LoadsNext old (Err f) new = IsMemoryFault f ⊎ (to_load old ≡ no_more (Some (
 
 -- Each layout of the documents in canonical form, or a limit that each passes.
 abbrev pub IsEachDump : yaml_settings_t → List Document → Result (List ℕ) Fault → Type 0
-IsEachDump settings ds (Ok text) = IsEachLayout (wishes_under settings true) (written_events ds) text
+IsEachDump settings ds (Ok text) = IsEachLayout (wishes_under settings true) settings.limit (written_events ds) text
 IsEachDump settings ds (Err fault) = IsPastEach (wishes_under settings true) settings.limit (written_events ds) fault
 
 -- all documents of an input

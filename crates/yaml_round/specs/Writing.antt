@@ -9,6 +9,7 @@ use Rattle.yaml_parse.specs.Coming.{Coming}
 use Rattle.yaml_parse.specs.Resolve.{Told}
 use Rattle.yaml_emit.specs.Content.{Event}
 use Rattle.yaml_emit.specs.Emitter.{Emitter, Completes, IsLimited, IsStream, Passes}
+use Rattle.yaml_emit.specs.Within.{Fits}
 use Rattle.yaml_emit.specs.Text.{Item, encode, is_deep}
 use Rattle.yaml_emit_text.specs.declared.Encoding.{Encoding}
 use Rattle.yaml_emit_text.specs.declared.Wishes.{Wishes}
@@ -62,16 +63,21 @@ abbrev pub WritesAll : Bool → Coming → Emitter → Result (Unit {0}) yaml_fa
 WritesAll ends r e (Ok done) e' = (r.ending ≡ None) × Leads ends e r.events e' []
 WritesAll ends r e (Err f) e' = IsFaultOf r.ending f
 
+-- the text is that layout, and passes no limit
+pub record IsText (limit : ℕ) (x : Encoding) (whole : List Item) (text : List ℕ) : Type 0 where
+  pub is : text ≡ encode x whole
+  pub fits : Fits limit x whole
+
 -- the emitter's text, where it is whole, or its fault: a limit that each text that the emitter completes passes, or want of memory
 abbrev pub Finishes : Emitter → Result (Vec ℕ Global) yaml_fault_t → Type 0
-Finishes e (Ok text) = (e.fault ≡ None) × ((x : Encoding) (whole : List Item) → Completes e x [] whole → text.items ≡ encode x whole)
+Finishes e (Ok text) = (e.fault ≡ None) × ((x : Encoding) (whole : List Item) → Completes e x [] whole → IsText e.limit x whole text.items)
 Finishes e (Err f) = IsLimited e (fault_of f)
 
 -- ---- texts of events
 
--- The text is each layout of these events, where they are a stream's in which nothing is wrong.
-abbrev pub IsEachLayout : Wishes → List Event → List ℕ → Type 0
-IsEachLayout wishes events text = (x : Encoding) (whole : List Item) → IsStream wishes x events whole → text ≡ encode x whole
+-- The text is each layout of these events, where they are a stream's in which nothing is wrong, and passes no limit.
+abbrev pub IsEachLayout : Wishes → ℕ → List Event → List ℕ → Type 0
+IsEachLayout wishes limit events text = (x : Encoding) (whole : List Item) → IsStream wishes x events whole → IsText limit x whole text
 
 -- The fault names a limit that each of them passes.
 abbrev pub IsPastEach : Wishes → ℕ → List Event → Fault → Type 0

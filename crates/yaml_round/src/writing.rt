@@ -112,7 +112,8 @@ fn fault_in(emitter: &yaml_emitter_t) -> Option<yaml_fault_t>
     }
 }
 
-/// The text, or the emitter's fault, which names a limit or tells that memory ran out.
+/// The text, which passes no limit, or the emitter's fault, which names a limit or tells that memory ran out.
+#[tactic(auto, using(crate::proofs::Laying::whole_text))]
 pub(crate) fn finished(emitter: yaml_emitter_t) -> Result<Vec<u8>, yaml_fault_t>
     ensures { Finishes emitter result }
 {

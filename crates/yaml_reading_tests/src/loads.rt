@@ -136,3 +136,52 @@ fn anchors_of_a_document_end_with_it(rt: HostRuntime) -> Result<(), Fail> {
     assert_eq!(rt; fault.problem_mark, mark((20, 1, 5)));
     Ok(())
 }
+
+// What a document has beside its nodes; the one that ends a stream has nothing.
+#[test]
+fn what_a_document_has(rt: HostRuntime) -> Result<(), Fail> {
+    let text = b"%YAML 1.1\n%TAG !e! tag:x,2000:\n--- !e!y a\n...\n";
+    let mut parser = parser_of(rt.alloc(), text)?;
+    assert!(rt; yaml_parser_between(&parser));
+    let document = yaml_parser_load(&mut parser)?;
+    let version = document.version_directive().ok_or("no version")?;
+    assert_eq!(rt; (version.major, version.minor), (1, 1));
+    assert_eq!(rt; document.tag_directives().len(), 1);
+    assert!(rt; !document.start_implicit());
+    assert!(rt; !document.end_implicit());
+    assert_eq!(rt; document.start_mark(), mark((0, 0, 0)));
+    assert_eq!(rt; document.end_mark(), mark((45, 3, 3)));
+    let root = yaml_document_get_root_node(&document).ok_or("no root")?;
+    assert_eq!(rt; root.tag.as_slice(), b"tag:x,2000:y".as_slice());
+    assert_eq!(rt; root.start_mark, mark((35, 2, 4)));
+    assert_eq!(rt; root.end_mark, mark((41, 2, 10)));
+    assert!(rt; yaml_parser_between(&parser));
+    let end = yaml_parser_load(&mut parser)?;
+    assert!(rt; end.version_directive().is_none());
+    assert_eq!(rt; end.tag_directives().len(), 0);
+    assert!(rt; !end.start_implicit() && !end.end_implicit());
+    assert_eq!(rt; end.start_mark(), mark((0, 0, 0)));
+    assert_eq!(rt; end.end_mark(), mark((0, 0, 0)));
+    Ok(())
+}
+
+// A missing tag, and the tag `!`, become those of the node's kind.
+#[test]
+fn tags_of_nodes(rt: HostRuntime) -> Result<(), Fail> {
+    let rows: [(&[u8], &[u8]); 6] = [
+        (b"a", b"tag:yaml.org,2002:str"),
+        (b"! a", b"tag:yaml.org,2002:str"),
+        (b"!", b"tag:yaml.org,2002:str"),
+        (b"! [a]", b"tag:yaml.org,2002:seq"),
+        (b"{}", b"tag:yaml.org,2002:map"),
+        (b"!a%21 {}", b"!a!"),
+    ];
+    for (text, tag) in rows {
+        let mut parser = parser_of(rt.alloc(), text)?;
+        assert!(rt; yaml_parser_between(&parser));
+        let document = yaml_parser_load(&mut parser)?;
+        let root = yaml_document_get_root_node(&document).ok_or("no root")?;
+        assert_eq!(rt; root.tag.as_slice(), tag);
+    }
+    Ok(())
+}

@@ -1,0 +1,358 @@
+//! Worked texts under each setting.
+
+use crate::events::{PRETTY, Page, Sign, text_of};
+use std::test::Fail;
+use yaml_scan::{yaml_break_t, yaml_encoding_t, yaml_scalar_style_t};
+
+// A style, a value, and its text where lines are folded behind column 10.
+const FOLDS: [(yaml_scalar_style_t, &[u8], &[u8]); 20] = [
+    (
+        yaml_scalar_style_t::YAML_PLAIN_SCALAR_STYLE,
+        b"aaaaaaaaa b c",
+        b"aaaaaaaaa b\n  c\n",
+    ),
+    (
+        yaml_scalar_style_t::YAML_PLAIN_SCALAR_STYLE,
+        b"aaaaaaaaaa b c",
+        b"aaaaaaaaaa b\n  c\n",
+    ),
+    (
+        yaml_scalar_style_t::YAML_PLAIN_SCALAR_STYLE,
+        b"aaaaaaaaaaa b c",
+        b"aaaaaaaaaaa\n  b c\n",
+    ),
+    (
+        yaml_scalar_style_t::YAML_PLAIN_SCALAR_STYLE,
+        b"aaaaaaaaaaaa  b c",
+        b"aaaaaaaaaaaa  b\n  c\n",
+    ),
+    (
+        yaml_scalar_style_t::YAML_SINGLE_QUOTED_SCALAR_STYLE,
+        b"aaaaaaaaa b c",
+        b"'aaaaaaaaa b\n  c'\n",
+    ),
+    (
+        yaml_scalar_style_t::YAML_SINGLE_QUOTED_SCALAR_STYLE,
+        b"aaaaaaaaaa b c",
+        b"'aaaaaaaaaa\n  b c'\n",
+    ),
+    (
+        yaml_scalar_style_t::YAML_SINGLE_QUOTED_SCALAR_STYLE,
+        b"aaaaaaaaaaa b c",
+        b"'aaaaaaaaaaa\n  b c'\n",
+    ),
+    (
+        yaml_scalar_style_t::YAML_SINGLE_QUOTED_SCALAR_STYLE,
+        b"aaaaaaaaaaaa  b c",
+        b"'aaaaaaaaaaaa  b\n  c'\n",
+    ),
+    (
+        yaml_scalar_style_t::YAML_DOUBLE_QUOTED_SCALAR_STYLE,
+        b"aaaaaaaaa b c",
+        b"\"aaaaaaaaa b\n  c\"\n",
+    ),
+    (
+        yaml_scalar_style_t::YAML_DOUBLE_QUOTED_SCALAR_STYLE,
+        b"aaaaaaaaaa b c",
+        b"\"aaaaaaaaaa\n  b c\"\n",
+    ),
+    (
+        yaml_scalar_style_t::YAML_DOUBLE_QUOTED_SCALAR_STYLE,
+        b"aaaaaaaaaaa b c",
+        b"\"aaaaaaaaaaa\n  b c\"\n",
+    ),
+    (
+        yaml_scalar_style_t::YAML_DOUBLE_QUOTED_SCALAR_STYLE,
+        b"aaaaaaaaaaaa  b c",
+        b"\"aaaaaaaaaaaa\n  \\ b c\"\n",
+    ),
+    (
+        yaml_scalar_style_t::YAML_FOLDED_SCALAR_STYLE,
+        b"aaaaaaaaa b c",
+        b">-\n  aaaaaaaaa\n  b c\n",
+    ),
+    (
+        yaml_scalar_style_t::YAML_FOLDED_SCALAR_STYLE,
+        b"aaaaaaaaaa b c",
+        b">-\n  aaaaaaaaaa\n  b c\n",
+    ),
+    (
+        yaml_scalar_style_t::YAML_FOLDED_SCALAR_STYLE,
+        b"aaaaaaaaaaa b c",
+        b">-\n  aaaaaaaaaaa\n  b c\n",
+    ),
+    (
+        yaml_scalar_style_t::YAML_FOLDED_SCALAR_STYLE,
+        b"aaaaaaaaaaaa  b c",
+        b">-\n  aaaaaaaaaaaa \n  b c\n",
+    ),
+    (
+        yaml_scalar_style_t::YAML_LITERAL_SCALAR_STYLE,
+        b"aaaaaaaaaaaa b c",
+        b"|-\n  aaaaaaaaaaaa b c\n",
+    ),
+    (
+        yaml_scalar_style_t::YAML_SINGLE_QUOTED_SCALAR_STYLE,
+        b"aaaa bbbb\ncccc dddd eeee",
+        b"'aaaa bbbb\n\n  cccc dddd\n  eeee'\n",
+    ),
+    (
+        yaml_scalar_style_t::YAML_DOUBLE_QUOTED_SCALAR_STYLE,
+        b" aaaaaaaaaaaa b",
+        b"\" aaaaaaaaaaaa\n  b\"\n",
+    ),
+    (
+        yaml_scalar_style_t::YAML_FOLDED_SCALAR_STYLE,
+        b" aaaaaaaaaaaa b",
+        b">2-\n   aaaaaaaaaaaa b\n",
+    ),
+];
+
+// A space at the column itself stays, one behind it folds.
+#[test]
+fn folds(rt: HostRuntime) -> Result<(), Fail> {
+    let page = Page {
+        width: 10,
+        ..PRETTY
+    };
+    for (style, value, want) in FOLDS {
+        let signs = [
+            Sign::Document,
+            Sign::Styled(style, value),
+            Sign::EndDocument,
+        ];
+        assert_eq!(rt; text_of(&rt, page, &signs)?.as_slice(), want);
+    }
+    Ok(())
+}
+
+// A key stays on its line, a value folds.
+#[test]
+fn keys_and_values(rt: HostRuntime) -> Result<(), Fail> {
+    let page = Page {
+        width: 10,
+        ..PRETTY
+    };
+    let long = Sign::Scalar(b"aaaa bbbb cccc dddd");
+    let short = Sign::Scalar(b"k");
+    let rows: [(Sign, Sign, &[u8]); 2] = [
+        (long, short, b"aaaa bbbb cccc dddd: k\n"),
+        (short, long, b"k: aaaa bbbb\n  cccc dddd\n"),
+    ];
+    for (key, value, want) in rows {
+        let signs = [
+            Sign::Document,
+            Sign::Mapping,
+            key,
+            value,
+            Sign::EndMapping,
+            Sign::EndDocument,
+        ];
+        assert_eq!(rt; text_of(&rt, page, &signs)?.as_slice(), want);
+    }
+    Ok(())
+}
+
+// An indent, a width, and the text of `aaaa bbbb cccc dddd`: up to twice the indent the width is 80, a negative one is
+// the greatest.
+const WIDTHS: [(i32, i32, &[u8]); 8] = [
+    (2, -1, b"aaaa bbbb cccc dddd\n"),
+    (2, 0, b"aaaa bbbb cccc dddd\n"),
+    (2, 4, b"aaaa bbbb cccc dddd\n"),
+    (2, 5, b"aaaa bbbb\n  cccc\n  dddd\n"),
+    (2, 8, b"aaaa bbbb\n  cccc dddd\n"),
+    (2, 9, b"aaaa bbbb cccc\n  dddd\n"),
+    (4, 8, b"aaaa bbbb cccc dddd\n"),
+    (4, 9, b"aaaa bbbb cccc\n    dddd\n"),
+];
+
+#[test]
+fn widths(rt: HostRuntime) -> Result<(), Fail> {
+    let signs = [
+        Sign::Document,
+        Sign::Scalar(b"aaaa bbbb cccc dddd"),
+        Sign::EndDocument,
+    ];
+    for (indent, width, want) in WIDTHS {
+        let page = Page {
+            indent,
+            width,
+            ..PRETTY
+        };
+        assert_eq!(rt; text_of(&rt, page, &signs)?.as_slice(), want);
+    }
+    Ok(())
+}
+
+// A sequence in a mapping, with a mapping and a literal in it.
+const NEST: [Sign; 12] = [
+    Sign::Document,
+    Sign::Mapping,
+    Sign::Scalar(b"a"),
+    Sign::Sequence,
+    Sign::Scalar(b"b"),
+    Sign::Mapping,
+    Sign::Scalar(b"c"),
+    Sign::Styled(yaml_scalar_style_t::YAML_LITERAL_SCALAR_STYLE, b"d e"),
+    Sign::EndMapping,
+    Sign::EndSequence,
+    Sign::EndMapping,
+    Sign::EndDocument,
+];
+
+// An indent, and both texts of the nest: an indent that isn't one of 2 to 9 is 2.
+const INDENTS: [(i32, &[u8], &[u8]); 7] = [
+    (
+        -1,
+        b"a:\n- b\n- c: |-\n    d e\n",
+        b"---\n{\n  ? \"a\"\n  : [\n    \"b\",\n    {\n      ? \"c\"\n      : \"d e\",\n    },\n  ],\n}\n",
+    ),
+    (
+        0,
+        b"a:\n- b\n- c: |-\n    d e\n",
+        b"---\n{\n  ? \"a\"\n  : [\n    \"b\",\n    {\n      ? \"c\"\n      : \"d e\",\n    },\n  ],\n}\n",
+    ),
+    (
+        1,
+        b"a:\n- b\n- c: |-\n    d e\n",
+        b"---\n{\n  ? \"a\"\n  : [\n    \"b\",\n    {\n      ? \"c\"\n      : \"d e\",\n    },\n  ],\n}\n",
+    ),
+    (
+        2,
+        b"a:\n- b\n- c: |-\n    d e\n",
+        b"---\n{\n  ? \"a\"\n  : [\n    \"b\",\n    {\n      ? \"c\"\n      : \"d e\",\n    },\n  ],\n}\n",
+    ),
+    (
+        3,
+        b"a:\n- b\n-  c: |-\n      d e\n",
+        b"---\n{\n   ? \"a\"\n   : [\n      \"b\",\n      {\n         ? \"c\"\n         : \"d e\",\n      },\n   ],\n}\n",
+    ),
+    (
+        9,
+        b"a:\n- b\n-        c: |-\n                  d e\n",
+        b"---\n{\n         ? \"a\"\n         : [\n                  \"b\",\n                  {\n                           ? \"c\"\n                           : \"d e\",\n                  },\n         ],\n}\n",
+    ),
+    (
+        10,
+        b"a:\n- b\n- c: |-\n    d e\n",
+        b"---\n{\n  ? \"a\"\n  : [\n    \"b\",\n    {\n      ? \"c\"\n      : \"d e\",\n    },\n  ],\n}\n",
+    ),
+];
+
+#[test]
+fn indents(rt: HostRuntime) -> Result<(), Fail> {
+    for (indent, pretty, canonical) in INDENTS {
+        let page = Page { indent, ..PRETTY };
+        assert_eq!(rt; text_of(&rt, page, &NEST)?.as_slice(), pretty);
+        let page = Page {
+            canonical: true,
+            ..page
+        };
+        assert_eq!(rt; text_of(&rt, page, &NEST)?.as_slice(), canonical);
+    }
+    Ok(())
+}
+
+// Which break is set, and the text of a literal and of a quoted break.
+const BREAKS: [(yaml_break_t, &[u8]); 4] = [
+    (
+        yaml_break_t::YAML_ANY_BREAK,
+        b"a: |\n  b\n  c\nd: 'e\n\n  f'\n",
+    ),
+    (
+        yaml_break_t::YAML_LN_BREAK,
+        b"a: |\n  b\n  c\nd: 'e\n\n  f'\n",
+    ),
+    (
+        yaml_break_t::YAML_CR_BREAK,
+        b"a: |\r  b\r  c\rd: 'e\r\r  f'\r",
+    ),
+    (
+        yaml_break_t::YAML_CRLN_BREAK,
+        b"a: |\r\n  b\r\n  c\r\nd: 'e\r\n\r\n  f'\r\n",
+    ),
+];
+
+#[test]
+fn breaks(rt: HostRuntime) -> Result<(), Fail> {
+    let signs = [
+        Sign::Document,
+        Sign::Mapping,
+        Sign::Scalar(b"a"),
+        Sign::Styled(yaml_scalar_style_t::YAML_LITERAL_SCALAR_STYLE, b"b\nc\n"),
+        Sign::Scalar(b"d"),
+        Sign::Styled(
+            yaml_scalar_style_t::YAML_SINGLE_QUOTED_SCALAR_STYLE,
+            b"e\nf",
+        ),
+        Sign::EndMapping,
+        Sign::EndDocument,
+    ];
+    for (line_break, want) in BREAKS {
+        let page = Page {
+            line_break,
+            ..PRETTY
+        };
+        assert_eq!(rt; text_of(&rt, page, &signs)?.as_slice(), want);
+    }
+    Ok(())
+}
+
+// The encoding that is set, that of the stream's start, and the text of U+1F600 and U+263A: a set one counts.
+const ENCODINGS: [(yaml_encoding_t, yaml_encoding_t, &[u8]); 7] = [
+    (
+        yaml_encoding_t::YAML_ANY_ENCODING,
+        yaml_encoding_t::YAML_ANY_ENCODING,
+        b"\"\xF0\x9F\x98\x80\xE2\x98\xBA\"\n",
+    ),
+    (
+        yaml_encoding_t::YAML_ANY_ENCODING,
+        yaml_encoding_t::YAML_UTF8_ENCODING,
+        b"\"\xF0\x9F\x98\x80\xE2\x98\xBA\"\n",
+    ),
+    (
+        yaml_encoding_t::YAML_ANY_ENCODING,
+        yaml_encoding_t::YAML_UTF16LE_ENCODING,
+        b"\xFF\xFE\"\x00=\xD8\x00\xDE:&\"\x00\n\x00",
+    ),
+    (
+        yaml_encoding_t::YAML_ANY_ENCODING,
+        yaml_encoding_t::YAML_UTF16BE_ENCODING,
+        b"\xFE\xFF\x00\"\xD8=\xDE\x00&:\x00\"\x00\n",
+    ),
+    (
+        yaml_encoding_t::YAML_UTF8_ENCODING,
+        yaml_encoding_t::YAML_UTF16LE_ENCODING,
+        b"\"\xF0\x9F\x98\x80\xE2\x98\xBA\"\n",
+    ),
+    (
+        yaml_encoding_t::YAML_UTF16LE_ENCODING,
+        yaml_encoding_t::YAML_UTF16BE_ENCODING,
+        b"\xFF\xFE\"\x00=\xD8\x00\xDE:&\"\x00\n\x00",
+    ),
+    (
+        yaml_encoding_t::YAML_UTF16BE_ENCODING,
+        yaml_encoding_t::YAML_UTF8_ENCODING,
+        b"\xFE\xFF\x00\"\xD8=\xDE\x00&:\x00\"\x00\n",
+    ),
+];
+
+#[test]
+fn encodings(rt: HostRuntime) -> Result<(), Fail> {
+    let style = yaml_scalar_style_t::YAML_DOUBLE_QUOTED_SCALAR_STYLE;
+    for (encoding, stream, want) in ENCODINGS {
+        let page = Page {
+            encoding,
+            stream,
+            unicode: true,
+            ..PRETTY
+        };
+        let signs = [
+            Sign::Document,
+            Sign::Styled(style, b"\xF0\x9F\x98\x80\xE2\x98\xBA"),
+            Sign::EndDocument,
+        ];
+        assert_eq!(rt; text_of(&rt, page, &signs)?.as_slice(), want);
+    }
+    Ok(())
+}

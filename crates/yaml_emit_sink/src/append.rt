@@ -32,6 +32,7 @@ pub(crate) fn append(output: &mut Vec<u8>, limit: u64, bytes: &[u8]) -> Status
 }
 
 // This byte, as far as the limit and the memory allow: most characters are one.
+#[inline(always)]
 fn append_byte(output: &mut Vec<u8>, limit: u64, byte: u8) -> Status
     requires { length output.old.items ≤ limit }
     ensures bytes { AppendsBy result limit output.old.items output.new.items (byte ∷ []) }
@@ -107,6 +108,7 @@ pub(crate) fn lettered(at: Cursor, count: u64) -> Cursor
 }
 
 // A character's byte, where it is one.
+#[inline(always)]
 #[tactic(auto, unfolding(crate::specs::Text::char_bytes))]
 fn one_byte(encoding: Encoding, c: char) -> Option<u8>
     ensures { IfSome result (λ b. char_bytes encoding c ≡ b ∷ []) }
@@ -121,6 +123,7 @@ fn one_byte(encoding: Encoding, c: char) -> Option<u8>
 }
 
 // A character's bytes, as far as the limit and the memory allow.
+#[inline(always)]
 pub(crate) fn append_char(output: &mut Vec<u8>, limit: u64, encoding: Encoding, c: char) -> Status
     requires { length output.old.items ≤ limit }
     ensures bytes { AppendsBy result limit output.old.items output.new.items (char_bytes encoding c) }

@@ -98,7 +98,8 @@ impl Sink {
     }
 
     // A character, and what the cursor becomes.
-    fn write(&mut self, c: char, ends: bool, white: bool, bare: bool)
+    #[inline(always)]
+    fn stroke(&mut self, c: char, ends: bool, white: bool, bare: bool)
         ensures { Puts self.old self.new (stroke c ends white bare) }
     {
         if self.status.is_going() {
@@ -106,6 +107,38 @@ impl Sink {
             if self.status.is_going() {
                 self.cursor = moved(self.cursor, ends, white, bare);
             }
+        }
+    }
+
+    // The same where the output may have to grow, the limit be met, or the character take more than a byte.
+    #[inline(never)]
+    fn stroke_at_length(&mut self, c: char, ends: bool, white: bool, bare: bool)
+        ensures { Puts self.old self.new (stroke c ends white bare) }
+    {
+        self.stroke(c, ends, white, bare);
+    }
+
+    // Whether the output has room for a character of one byte: it chooses between two ways to the same.
+    #[inline(always)]
+    fn is_roomy(&self, c: char) -> bool {
+        match self.encoding {
+            Encoding::Utf8 => {
+                (c as u32) < 0x80
+                    && self.output.len() as u64 != self.limit
+                    && self.output.len() < self.output.capacity()
+            }
+            _ => false,
+        }
+    }
+
+    // The same: mostly the output has room, and then no call is needed.
+    fn write(&mut self, c: char, ends: bool, white: bool, bare: bool)
+        ensures { Puts self.old self.new (stroke c ends white bare) }
+    {
+        if self.is_roomy(c) {
+            self.stroke(c, ends, white, bare);
+        } else {
+            self.stroke_at_length(c, ends, white, bare);
         }
     }
 

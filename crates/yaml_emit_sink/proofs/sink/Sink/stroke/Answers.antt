@@ -1,7 +1,7 @@
 use Rattle.std.proofs.Common.{refl}
 use Rattle.yaml_emit_sink.specs.Appends.{moved}
 use Rattle.yaml_emit_sink.proofs.Sinks.{puts_stopped, puts_stroke}
-use Rattle.yaml_emit_sink.proofs.sink.Sink.write.Goals as goal
+use Rattle.yaml_emit_sink.proofs.sink.Sink.stroke.Goals as goal
 
 pub returns-else-is_going : goal.returns-else-is_going
 returns-else-is_going c = rw (← c.self.view_is) (puts_stopped _ _ (c.is_going.ensures.stopped c.if-is_going.false))

@@ -31,7 +31,7 @@ flat page = record page { indentation = 1 }
 no_fold : (page : Page) (before x : ℕ) (xs : List ℕ) → page.cuts ≡ false → may_fold page before x xs ≡ false
 no_fold page before x xs e = ap (λ t. t && (x == 32 && (not (before == 32) && not (is_empty xs)))) e
 
-char_escaped : (page : Page) (before x : ℕ) (xs : List ℕ) → page.cuts ≡ false → quoted_char page before x xs ≡ escaped page.unicode x
+pub char_escaped : (page : Page) (before x : ℕ) (xs : List ℕ) → page.cuts ≡ false → quoted_char page before x xs ≡ escaped page.unicode x
 unfolding quoted_char
 char_escaped page before x xs e = cond_false (may_fold page before x xs) (choose (is_past page.width) (fold_layout page xs) (char x)) (escaped page.unicode x) (no_fold page before x xs e)
 
@@ -109,11 +109,11 @@ quoted_back law page c value u deep =
       letters = 34 ∷ (inner ++ 34 ∷ []);
       behind = moved_by s.behind;
       written = λ rest.
-        ap (λ t. letter 34 ∷ t) (s.spelled (λ d. char 34 d rest) ∙ ap (in_front inner) (sym (front_one 34 (rest (moved_by s.behind)))) ∙ sym (front_append inner (34 ∷ []) (rest (moved_by s.behind))))
-        ∙ sym (front_more 34 (inner ++ 34 ∷ []) (rest (moved_by s.behind)));
+          ap (λ t. letter 34 ∷ t) (s.spelled (λ d. char 34 d rest) ∙ ap (in_front inner) (sym (front_one 34 (rest (moved_by s.behind)))) ∙ sym (front_append inner (34 ∷ []) (rest (moved_by s.behind))))
+          ∙ sym (front_more 34 (inner ++ 34 ∷ []) (rest (moved_by s.behind)));
       read = λ text p h.
-        reads_as (meaning mine.parts) value (double_quoted_at text p) p (length (quoted 34 mine.parts)) (length (encode_utf8_all (34 ∷ (inner ++ 34 ∷ []))))
-        (spelling_reads mine.parts text p mine.right (subst (λ (t : List ℕ). HasAt text p t) bytes h)) means (ap (λ (t : List ℕ). length t) (sym bytes));
+          reads_as (meaning mine.parts) value (double_quoted_at text p) p (length (quoted 34 mine.parts)) (length (encode_utf8_all (34 ∷ (inner ++ 34 ∷ []))))
+          (spelling_reads mine.parts text p mine.right (subst (λ (t : List ℕ). HasAt text p t) bytes h)) means (ap (λ (t : List ℕ). length t) (sym bytes));
     }
 
 -- ---- with the space in front
@@ -137,7 +137,7 @@ read_spaced : (a : Layout) (c d : Cursor) (value text : List ℕ) (p : ℕ) → 
     → double_quoted_at text (p + 1) ≡ Ok (value, p + length (encode Utf8 (letter 32 ∷ a d nothing_more)))
 read_spaced a c d value text p b h =
     let all : encode Utf8 (letter 32 ∷ a d nothing_more) ≡ 32 ∷ encode_utf8_all b.letters =
-        space_encodes (a d nothing_more) ∙ ap (λ (t : List ℕ). 32 ∷ t) (ap (encode Utf8) (b.written nothing_more) ∙ alone_encodes b.letters) in
+    space_encodes (a d nothing_more) ∙ ap (λ (t : List ℕ). 32 ∷ t) (ap (encode Utf8) (b.written nothing_more) ∙ alone_encodes b.letters) in
     let r = b.read text (p + 1) (stands_behind text p 32 (encode_utf8_all b.letters) (subst (λ (t : List ℕ). HasAt text p t) all h)) in
     let n = length (encode_utf8_all b.letters) in
     let same : p + 1 + n ≡ p + suc n = omega arith in

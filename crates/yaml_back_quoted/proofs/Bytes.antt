@@ -203,10 +203,19 @@ named_is b bs h = record {
 
 pub number_calm : (b : ℕ) → 0 < hex_len b → Calm b
 number_calm b h =
-    elim (cases_eq b 0x78) [ inl e ↦ calm_from b (omega arith) (omega arith) | inr x ↦
-    elim (cases_eq b 0x75) [ inl e ↦ calm_from b (omega arith) (omega arith) | inr u ↦
-    elim (cases_eq b 0x55) [ inl e ↦ calm_from b (omega arith) (omega arith) | inr v ↦
-    let z = no_number b x u v in absurd (omega (arith, h, z)) ] ] ]
+    elim (cases_eq b 0x78) [
+      | inl e ↦ calm_from b (omega arith) (omega arith)
+      | inr x ↦
+          elim (cases_eq b 0x75) [
+            | inl e ↦ calm_from b (omega arith) (omega arith)
+            | inr u ↦
+                elim (cases_eq b 0x55) [
+                  | inl e ↦ calm_from b (omega arith) (omega arith)
+                  | inr v ↦
+                      let z = no_number b x u v in absurd (omega (arith, h, z))
+                ]
+          ]
+    ]
 
 -- ---- bytes of a character past ASCII
 

@@ -98,22 +98,67 @@ names_at c k h e = subst (λ (x : ℕ). Names x) (sym e) h
 letter_names : (c : ℕ) → escape_letter c ≢ 0 → Names c
 unfolding escape_letter simple_escape encode
 letter_names c n =
-    elim (cases_eq c 0) [ inl e ↦ names_at c 0 refl e | inr e0 ↦
-    elim (cases_eq c 7) [ inl e ↦ names_at c 7 refl e | inr e1 ↦
-    elim (cases_eq c 8) [ inl e ↦ names_at c 8 refl e | inr e2 ↦
-    elim (cases_eq c 9) [ inl e ↦ names_at c 9 refl e | inr e3 ↦
-    elim (cases_eq c 10) [ inl e ↦ names_at c 10 refl e | inr e4 ↦
-    elim (cases_eq c 11) [ inl e ↦ names_at c 11 refl e | inr e5 ↦
-    elim (cases_eq c 12) [ inl e ↦ names_at c 12 refl e | inr e6 ↦
-    elim (cases_eq c 13) [ inl e ↦ names_at c 13 refl e | inr e7 ↦
-    elim (cases_eq c 27) [ inl e ↦ names_at c 27 refl e | inr e8 ↦
-    elim (cases_eq c 34) [ inl e ↦ names_at c 34 refl e | inr e9 ↦
-    elim (cases_eq c 92) [ inl e ↦ names_at c 92 refl e | inr ea ↦
-    elim (cases_eq c 0x85) [ inl e ↦ names_at c 0x85 refl e | inr eb ↦
-    elim (cases_eq c 0xA0) [ inl e ↦ names_at c 0xA0 refl e | inr ec ↦
-    elim (cases_eq c 0x2028) [ inl e ↦ names_at c 0x2028 refl e | inr ed ↦
-    elim (cases_eq c 0x2029) [ inl e ↦ names_at c 0x2029 refl e | inr ee ↦
-    absurd (n (no_letter c e0 e1 e2 e3 e4 e5 e6 e7 e8 e9 ea eb ec ed ee)) ] ] ] ] ] ] ] ] ] ] ] ] ] ] ]
+    elim (cases_eq c 0) [
+      | inl e ↦ names_at c 0 refl e
+      | inr e0 ↦
+          elim (cases_eq c 7) [
+            | inl e ↦ names_at c 7 refl e
+            | inr e1 ↦
+                elim (cases_eq c 8) [
+                  | inl e ↦ names_at c 8 refl e
+                  | inr e2 ↦
+                      elim (cases_eq c 9) [
+                        | inl e ↦ names_at c 9 refl e
+                        | inr e3 ↦
+                            elim (cases_eq c 10) [
+                              | inl e ↦ names_at c 10 refl e
+                              | inr e4 ↦
+                                  elim (cases_eq c 11) [
+                                    | inl e ↦ names_at c 11 refl e
+                                    | inr e5 ↦
+                                        elim (cases_eq c 12) [
+                                          | inl e ↦ names_at c 12 refl e
+                                          | inr e6 ↦
+                                              elim (cases_eq c 13) [
+                                                | inl e ↦ names_at c 13 refl e
+                                                | inr e7 ↦
+                                                    elim (cases_eq c 27) [
+                                                      | inl e ↦ names_at c 27 refl e
+                                                      | inr e8 ↦
+                                                          elim (cases_eq c 34) [
+                                                            | inl e ↦ names_at c 34 refl e
+                                                            | inr e9 ↦
+                                                                elim (cases_eq c 92) [
+                                                                  | inl e ↦ names_at c 92 refl e
+                                                                  | inr ea ↦
+                                                                      elim (cases_eq c 0x85) [
+                                                                        | inl e ↦ names_at c 0x85 refl e
+                                                                        | inr eb ↦
+                                                                            elim (cases_eq c 0xA0) [
+                                                                              | inl e ↦ names_at c 0xA0 refl e
+                                                                              | inr ec ↦
+                                                                                  elim (cases_eq c 0x2028) [
+                                                                                    | inl e ↦ names_at c 0x2028 refl e
+                                                                                    | inr ed ↦
+                                                                                        elim (cases_eq c 0x2029) [
+                                                                                          | inl e ↦ names_at c 0x2029 refl e
+                                                                                          | inr ee ↦
+                                                                                              absurd (n (no_letter c e0 e1 e2 e3 e4 e5 e6 e7 e8 e9 ea eb ec ed ee))
+                                                                                        ]
+                                                                                  ]
+                                                                            ]
+                                                                      ]
+                                                                ]
+                                                          ]
+                                                    ]
+                                              ]
+                                        ]
+                                  ]
+                            ]
+                      ]
+                ]
+          ]
+    ]
 
 escape_by_letter : (c : ℕ) → escape_letter c ≢ 0 → escape_text c ≡ 92 ∷ escape_letter c ∷ []
 unfolding escape_text
@@ -191,16 +236,24 @@ escape_named c n =
     let s = letter_names c n in
     let l = (named_is (escape_letter c) (encode_utf8 c) s).calm.low in
     record {
-      part = named (escape_letter c) (encode_utf8 c); stand = (refl, s);
+      part = named (escape_letter c) (encode_utf8 c);
+      stand = (refl, s);
       bytes = ap (λ (t : List ℕ). encode_utf8_all t) (escape_by_letter c n) ∙ slashed (escape_letter c) [] l tt;
-      means = refl; folds = refl; turns = refl; blank = refl;
+      means = refl;
+      folds = refl;
+      turns = refl;
+      blank = refl;
     }
 
 escape_numbered : (b c : ℕ) (ds : List ℕ) → scalar c ≡ true → escape_text c ≡ 92 ∷ b ∷ ds → b < 128 → AreCalm ds → 0 < length ds → hex_len b ≡ length ds → number_behind 0 ds ≡ Some c → PartOf (emitted.escape c)
 escape_numbered b c ds s e l a some h n = record {
-  part = numbered b ds c; stand = (refl, some, h, n, s);
+  part = numbered b ds c;
+  stand = (refl, some, h, n, s);
   bytes = ap (λ (t : List ℕ). encode_utf8_all t) e ∙ slashed b ds l a;
-  means = refl; folds = refl; turns = refl; blank = refl;
+  means = refl;
+  folds = refl;
+  turns = refl;
+  blank = refl;
 }
 
 scalar_top : (c : ℕ) → scalar c ≡ true → c < 1114112
@@ -232,6 +285,31 @@ escape_part c s =
               (two_calm (c / 65536 / 256) (hex_2 (c / 65536 % 256) ++ hex_4 (c % 65536)) (omega arith)
               (two_calm (c / 65536 % 256) (hex_4 (c % 65536)) (omega arith)
               (two_calm (c % 65536 / 256) (hex_2 (c % 65536 % 256)) (omega arith) (two_calm (c % 65536 % 256) [] (omega arith) tt)))) (omega arith) len_8 (eight_is c top)
+        ]
+      ]
+    ]
+
+pub escape_calm : (c : ℕ) → scalar c ≡ true → AreCalm (escape_text c)
+escape_calm c s =
+    let P : List ℕ → Type 0 = λ bs. AreCalm bs in
+    let slash = calm_from 92 (omega arith) (omega arith) in
+    elim (cases_eq (escape_letter c) 0) [
+      | inr n ↦ subst P (sym (escape_by_letter c n)) (slash, ((named_is (escape_letter c) (encode_utf8 c) (letter_names c n)).calm, tt))
+      | inl n ↦ elim (cases_lt c 256) [
+        | inl a ↦ subst P (sym (escape_by_2 c n a)) (slash, (calm_from 120 (omega arith) (omega arith), two_calm c [] a tt))
+        | inr a ↦ elim (cases_lt c 65536) [
+          | inl b ↦ subst P (sym (escape_by_4 c n a b)) (slash, (calm_from 117 (omega arith) (omega arith), two_calm (c / 256) (hex_2 (c % 256)) (omega arith) (two_calm (c % 256) [] (omega arith) tt)))
+          | inr b ↦
+              let top = scalar_top c s in
+              subst P (sym (escape_by_8 c n a b)) (
+                slash,
+                (
+                  calm_from 85 (omega arith) (omega arith),
+                  two_calm (c / 65536 / 256) (hex_2 (c / 65536 % 256) ++ hex_4 (c % 65536)) (omega arith)
+                      (two_calm (c / 65536 % 256) (hex_4 (c % 65536)) (omega arith)
+                      (two_calm (c % 65536 / 256) (hex_2 (c % 65536 % 256)) (omega arith) (two_calm (c % 65536 % 256) [] (omega arith) tt))),
+                ),
+              )
         ]
       ]
     ]
@@ -268,13 +346,22 @@ part_of : (x : emitted.Part) → emitted.may_stand x ≡ true → PartOf x
 part_of (emitted.raw c) s = record { part = raw c; stand = raw_may c s; bytes = append-nil (encode_utf8 c); means = refl; folds = refl; turns = refl; blank = refl }
 part_of (emitted.escape c) s = escape_part c s
 part_of emitted.escaped_space s = record {
-  part = named 32 (32 ∷ []); stand = (refl, space_named);
+  part = named 32 (32 ∷ []);
+  stand = (refl, space_named);
   bytes = low_encodes (92 ∷ 32 ∷ []) (omega arith, (omega arith, tt));
-  means = sym space_encodes; folds = refl; turns = refl; blank = refl;
+  means = sym space_encodes;
+  folds = refl;
+  turns = refl;
+  blank = refl;
 }
 part_of (emitted.fold b n) s = record {
-  part = fold (record { end = end_of b; spaces = n }) []; stand = fold_may b n s; bytes = fold_bytes b n;
-  means = fold_means b n ∙ sym space_encodes; folds = refl; turns = refl; blank = refl;
+  part = fold (record { end = end_of b; spaces = n }) [];
+  stand = fold_may b n s;
+  bytes = fold_bytes b n;
+  means = fold_means b n ∙ sym space_encodes;
+  folds = refl;
+  turns = refl;
+  blank = refl;
 }
 
 -- all of them, behind one

@@ -220,9 +220,9 @@ tail_through quote text r t (u ∷ us) q m h =
     through_at quote text r (r + n + w + length (after_end u us)) (r + length {A = ℕ} (replicate n 32 ++ turn_bytes (u ∷ us))) (tail_read t (u ∷ us)) there
     (record {
       reads = λ rs e x.
-        subst (λ (ps : List Piece). Read quote text r ps e) (sym (append_assoc (blanks_of n) (turns_read (u ∷ us)) rs))
-        (spaces_read quote text r n e (turns_read (u ∷ us) ++ rs) q (has_front text r (replicate n 32) (turn_bytes (u ∷ us)) h)
-        (read_step quote text (r + n) (r + n + w) e (Break (end_means u.end) ∷ []) (tail_read u us ++ rs) (end_standing quote text (r + n) u.end q at) (omega (arith, some)) (rest.reads rs e x)));
+          subst (λ (ps : List Piece). Read quote text r ps e) (sym (append_assoc (blanks_of n) (turns_read (u ∷ us)) rs))
+          (spaces_read quote text r n e (turns_read (u ∷ us) ++ rs) q (has_front text r (replicate n 32) (turn_bytes (u ∷ us)) h)
+          (read_step quote text (r + n) (r + n + w) e (Break (end_means u.end) ∷ []) (tail_read u us ++ rs) (end_standing quote text (r + n) u.end q at) (omega (arith, some)) (rest.reads rs e x)));
       column = rest.column;
     })
 

@@ -31,7 +31,7 @@ flat page = record page { indentation = 1 }
 no_fold : (page : Page) (before x : ℕ) (xs : List ℕ) → page.cuts ≡ false → may_fold page before x xs ≡ false
 no_fold page before x xs e = ap (λ t. t && (x == 32 && (not (before == 32) && not (is_empty xs)))) e
 
-char_escaped : (page : Page) (before x : ℕ) (xs : List ℕ) → page.cuts ≡ false → quoted_char page before x xs ≡ escaped page.unicode x
+pub char_escaped : (page : Page) (before x : ℕ) (xs : List ℕ) → page.cuts ≡ false → quoted_char page before x xs ≡ escaped page.unicode x
 unfolding quoted_char
 char_escaped page before x xs e = cond_false (may_fold page before x xs) (choose (is_past page.width) (fold_layout page xs) (char x)) (escaped page.unicode x) (no_fold page before x xs e)
 

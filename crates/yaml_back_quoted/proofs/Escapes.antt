@@ -289,6 +289,31 @@ escape_part c s =
       ]
     ]
 
+pub escape_calm : (c : ℕ) → scalar c ≡ true → AreCalm (escape_text c)
+escape_calm c s =
+    let P : List ℕ → Type 0 = λ bs. AreCalm bs in
+    let slash = calm_from 92 (omega arith) (omega arith) in
+    elim (cases_eq (escape_letter c) 0) [
+      | inr n ↦ subst P (sym (escape_by_letter c n)) (slash, ((named_is (escape_letter c) (encode_utf8 c) (letter_names c n)).calm, tt))
+      | inl n ↦ elim (cases_lt c 256) [
+        | inl a ↦ subst P (sym (escape_by_2 c n a)) (slash, (calm_from 120 (omega arith) (omega arith), two_calm c [] a tt))
+        | inr a ↦ elim (cases_lt c 65536) [
+          | inl b ↦ subst P (sym (escape_by_4 c n a b)) (slash, (calm_from 117 (omega arith) (omega arith), two_calm (c / 256) (hex_2 (c % 256)) (omega arith) (two_calm (c % 256) [] (omega arith) tt)))
+          | inr b ↦
+              let top = scalar_top c s in
+              subst P (sym (escape_by_8 c n a b)) (
+                slash,
+                (
+                  calm_from 85 (omega arith) (omega arith),
+                  two_calm (c / 65536 / 256) (hex_2 (c / 65536 % 256) ++ hex_4 (c % 65536)) (omega arith)
+                      (two_calm (c / 65536 % 256) (hex_4 (c % 65536)) (omega arith)
+                      (two_calm (c % 65536 / 256) (hex_2 (c % 65536 % 256)) (omega arith) (two_calm (c % 65536 % 256) [] (omega arith) tt))),
+                ),
+              )
+        ]
+      ]
+    ]
+
 space_named : simple_escape 32 ≡ Some (32 ∷ [])
 unfolding simple_escape
 space_named = refl

@@ -6,3 +6,4 @@ mod Turns
 mod Parts
 mod Escapes
 mod Back
+mod Keys

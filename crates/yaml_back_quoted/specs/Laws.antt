@@ -1,5 +1,5 @@
 -- What is written between quotes is read back.
-use Rattle.std.specs.Prelude.{ℕ, ◌+◌, ◌<◌, ◌≡◌, true, List, length, Ok, IsUtf8}
+use Rattle.std.specs.Prelude.{ℕ, ◌+◌, ◌<◌, ◌≡◌, true, false, List, length, Ok, IsUtf8}
 use Rattle.std.specs.Str.{chars}
 use Rattle.yaml_scan_text.specs.Marks.{byte}
 use Rattle.yaml_scan_scalars.specs.Quoted.{double_quoted_at, single_quoted_at}
@@ -11,7 +11,7 @@ use Rattle.yaml_emit_text.specs.declared.page.Page.{Page}
 use Rattle.yaml_emit_text.specs.Quoted.{double_quoted}
 use Rattle.yaml_back_quoted.specs.Stands.{HasAt}
 use Rattle.yaml_back_quoted.specs.Spelling.{Part, IsSpelling, meaning, quoted}
-use Rattle.yaml_back_quoted.specs.ReadBack.{IsReadBack, between_quotes, gap_width}
+use Rattle.yaml_back_quoted.specs.ReadBack.{IsReadBack, between_quotes, gap_width, StaysInLine}
 
 -- ---- spellings
 
@@ -40,3 +40,7 @@ abbrev pub QuotedTextIsReadBack : Type 0
 QuotedTextIsReadBack = (page : Page) (c : Cursor) (value text : List ℕ) (p : ℕ) → IsUtf8 value → (page.cuts ≡ true → 0 < page.indentation)
     → HasAt text p (encode Utf8 (double_quoted page (chars value) c nothing_more))
     → double_quoted_at text (p + gap_width c) ≡ Ok (value, p + length (encode Utf8 (double_quoted page (chars value) c nothing_more)))
+
+-- As a simple key, which may not be broken, it stays in its line, whatever the value.
+abbrev pub KeysStayInLine : Type 0
+KeysStayInLine = (page : Page) (c : Cursor) (value : List ℕ) → IsUtf8 value → page.cuts ≡ false → StaysInLine (between_quotes page (chars value)) c

@@ -1,7 +1,8 @@
 -- Layouts whose characters are read back.
-use Rattle.std.specs.Prelude.{ℕ, ◌+◌, ◌≡◌, Bool, if◌then◌else◌, List, length, Result, Ok, encode_utf8_all}
+use Rattle.std.specs.Prelude.{ℕ, ◌+◌, ◌≡◌, Bool, true, not, ◌&&◌, if◌then◌else◌, List, [], ◌∷◌, length, Result, Ok, encode_utf8_all}
 use Rattle.yaml_scan_text.specs.Wrong.{Wrong}
 use Rattle.yaml_emit_sink.specs.declared.Cursor.{Cursor}
+use Rattle.yaml_emit_sink.specs.Text.{is_break}
 use Rattle.yaml_emit_sink.specs.Layout.{Layout, Rest, ◌▹◌, char}
 use Rattle.yaml_emit_text.specs.declared.page.Page.{Page}
 use Rattle.yaml_emit_text.specs.Quoted.{quoted_body}
@@ -23,3 +24,16 @@ between_quotes page value = char 34 ▹ (quoted_body page 32 value ▹ char 34)
 -- the bytes of the space that is due in front of a scalar
 abbrev pub gap_width : Cursor → ℕ
 gap_width c = if c.white then 0 else 1
+
+-- no character ends a line
+abbrev pub is_one_line : List ℕ → Bool
+is_one_line [] = true
+is_one_line (c ∷ cs) = not (is_break c) && is_one_line cs
+
+-- From a cursor on, a layout writes characters that end no line, each in a column of its own.
+pub record StaysInLine (a : Layout) (c : Cursor) : Type 0 where
+  pub letters : List ℕ
+  pub behind : Cursor
+  pub written : (rest : Rest) → a c rest ≡ in_front letters (rest behind)
+  pub inside : is_one_line letters ≡ true
+  pub column : behind.column ≡ c.column + length letters

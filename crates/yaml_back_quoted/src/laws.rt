@@ -1,6 +1,6 @@
 //! Each function's contract is a law. A body cites a law of a lower crate.
 
-ghost use Rattle.yaml_back_quoted.specs.Laws.{QuotedIsReadBack, QuotedTextIsReadBack, SingleSpellingReads, SpellingReads};
+ghost use Rattle.yaml_back_quoted.specs.Laws.{KeysStayInLine, QuotedIsReadBack, QuotedTextIsReadBack, SingleSpellingReads, SpellingReads};
 
 use yaml_emit_text::quoted_spells;
 
@@ -27,3 +27,8 @@ pub fn quoted_text_is_read_back()
 {
     quoted_spells();
 }
+
+/// As a simple key, double quoted text stays in its line.
+pub fn keys_stay_in_line()
+    ensures { KeysStayInLine }
+{}

@@ -1,5 +1,5 @@
 -- Gaps between lexemes, a step at a time.
-use Rattle.std.proofs.Common.{◌≡◌, ℕ, zero, suc, ◌+◌, ◌<◌, ◌≤◌, ◌==◌, ◌&&◌, ◌||◌, nat_lt, Bool, true, false, not, List, length, refl, sym, ap, ◌∙◌, inl, inr, ◌⊎◌, arith}
+use Rattle.std.proofs.Common.{◌≡◌, ℕ, zero, suc, ◌+◌, ◌<◌, ◌≤◌, ◌==◌, ◌&&◌, ◌||◌, nat_lt, if◌then◌else◌, Bool, true, false, not, List, length, refl, sym, ap, ◌∙◌, inl, inr, ◌⊎◌, arith}
 use Rattle.std.proofs.lemmas.Bool.{cases_Bool, true≢false}
 use Rattle.std.proofs.lemmas.Bool.Decides.{nat_tests}
 use Rattle.yaml_scan_text.specs.Marks.{byte, break_of, break_width}
@@ -43,6 +43,34 @@ blank_lexeme p q h = let e : standings.Blank ≡ standings.Lexeme = ap (λ (s : 
 
 break_lexeme : (p q : ℕ) → ◌≡◌ {A = Step} (record { standing = standings.Break; place = p }) (record { standing = standings.Lexeme; place = q }) → ⊥
 break_lexeme p q h = let e : standings.Break ≡ standings.Lexeme = ap (λ (s : Step). s.standing) h in cc
+
+not_first : (b c d : ℕ) (first : Bool) → (nat_lt 35 b && nat_lt b 128) ≡ true → (first && (b == 0xEF && (c == 0xBB && d == 0xBF))) ≡ false
+not_first b c d true h = grind (arith, nat_tests)
+not_first b c d false h = refl
+
+not_skipped : (b : ℕ) (tabs : Bool) → (nat_lt 35 b && nat_lt b 128) ≡ true → (b == 32 || (tabs && b == 9)) ≡ false
+not_skipped b true h = grind (arith, nat_tests)
+not_skipped b false h = grind (arith, nat_tests)
+
+not_hash : (b : ℕ) → (nat_lt 35 b && nat_lt b 128) ≡ true → (b == 35) ≡ false
+not_hash b h = grind (arith, nat_tests)
+
+within_ascii : (b : ℕ) → (nat_lt 35 b && nat_lt b 128) ≡ true → (35 < b) × (b < 128)
+within_ascii b h = (grind (arith, nat_tests), grind (arith, nat_tests))
+
+no_width : (b c d : ℕ) → (nat_lt 35 b && nat_lt b 128) ≡ true → break_of b c d ≡ 0
+no_width b c d h =
+    let (low, high) = within_ascii b h in
+    no_break b c d (omega arith) (omega arith) (omega arith) (omega arith)
+
+last_step : (a b c : Bool) (w : ℕ) (v x y z u : Step) → a ≡ false → b ≡ false → c ≡ false → w ≡ 0 → (if a then v else if b then x else if c then y else if nat_lt 0 w then z else u) ≡ u
+last_step a b c w v x y z u h i j k = rw (h, i, j, k) refl
+
+--- these bytes begin a lexeme
+pub lexeme_here : (tabs : Bool) (text : List ℕ) (p : ℕ) → (nat_lt 35 (byte text p) && nat_lt (byte text p) 128) ≡ true → step_at tabs text p ≡ record { standing = standings.Lexeme; place = p }
+unfolding step_at
+lexeme_here tabs text p h =
+    last_step _ _ _ _ _ _ _ _ _ (not_first (byte text p) (byte text (p + 1)) (byte text (p + 2)) (p == 0) h) (not_skipped (byte text p) tabs h) (not_hash (byte text p) h) (no_width (byte text p) (byte text (p + 1)) (byte text (p + 2)) h)
 
 -- the bytes of U+FEFF
 pub bom_bytes : (text : List ℕ) (p : ℕ) → is_bom text p ≡ true → (byte text p ≡ 0xEF) × (byte text (p + 1) ≡ 0xBB) × (byte text (p + 2) ≡ 0xBF)

@@ -1,6 +1,6 @@
 //! What stands between lexemes: blanks, comments and breaks (YAML 1.1, 5.2, 6.2 and 6.3).
 
-ghost use Rattle.std.specs.Prelude.{◌≡◌, ◌≤◌, ◌<◌, ◌||◌, ◌&&◌, ◌==◌, ◌+◌, not, true, ℕ, length};
+ghost use Rattle.std.specs.Prelude.{◌≡◌, ◌≤◌, ◌<◌, ◌||◌, ◌&&◌, ◌==◌, ◌+◌, nat_lt, not, true, ℕ, length};
 ghost use Rattle.yaml_scan_text.specs.Classes.{is_bom};
 ghost use Rattle.yaml_scan_words.specs.Between as spec;
 
@@ -59,6 +59,9 @@ fn step(reader: &mut Reader, tabs: bool) -> Standing
     ensures step { spec.step_at tabs reader.old.text reader.old.at ≡ record { standing = result; place = reader.new.at } }
     ensures text { reader.new.text ≡ reader.old.text }
 {
+    if begins_lexeme(reader.here()) {
+        return Standing::Lexeme;
+    }
     if is_bom_first(reader) {
         skip_bom(reader);
         return Standing::Blank;
@@ -76,6 +79,13 @@ fn step(reader: &mut Reader, tabs: bool) -> Standing
         return Standing::Break;
     }
     Standing::Lexeme
+}
+
+/// Whether the byte begins no blank, comment, break or U+FEFF, as nearly all bytes of lexemes.
+fn begins_lexeme(byte: u8) -> bool
+    ensures { result ≡ (nat_lt 35 byte && nat_lt byte 128) }
+{
+    byte > b'#' && byte < 128
 }
 
 /// Whether this is the start of the text, and U+FEFF stands here.

@@ -1,6 +1,12 @@
-use Rattle.std.proofs.Common.{◌∙◌, sym}
-use Rattle.yaml_scan_words.proofs.BetweenLemmas.{skipped_here, bom_first}
+use Rattle.std.proofs.Common.{◌≡◌, ◌&&◌, nat_lt, true, ◌∙◌, sym}
+use Rattle.yaml_scan_text.specs.Marks.{byte}
+use Rattle.yaml_scan_words.proofs.BetweenLemmas.{lexeme_here, skipped_here, bom_first}
 use Rattle.yaml_scan_words.proofs.between.step.Goals as goal
+
+pub returns-then-begins_lexeme-clause-step : goal.returns-then-begins_lexeme-clause-step
+returns-then-begins_lexeme-clause-step c =
+    let h : (nat_lt 35 (byte c.args.reader.now.text c.args.reader.now.at) && nat_lt (byte c.args.reader.now.text c.args.reader.now.at) 128) ≡ true = rw c.here.ensures at (sym c.begins_lexeme.ensures ∙ c.if-begins_lexeme.true) in
+    lexeme_here c.args.tabs c.args.reader.now.text c.args.reader.now.at h
 
 pub skip_bom-requires : goal.skip_bom-requires
 skip_bom-requires c = bom_first c.args.reader.now.text c.args.reader.now.at (sym c.is_bom_first.ensures ∙ c.if-is_bom_first.true)

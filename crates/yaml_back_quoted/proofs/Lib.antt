@@ -6,4 +6,5 @@ mod Turns
 mod Parts
 mod Escapes
 mod Back
+mod Single
 mod Keys

@@ -9,9 +9,10 @@ use Rattle.yaml_emit_sink.specs.Text.{encode}
 use Rattle.yaml_emit_sink.specs.Layout.{nothing_more}
 use Rattle.yaml_emit_text.specs.declared.page.Page.{Page}
 use Rattle.yaml_emit_text.specs.Quoted.{double_quoted}
+use Rattle.yaml_emit_text.specs.Style.{allowed}
 use Rattle.yaml_back_quoted.specs.Stands.{HasAt}
 use Rattle.yaml_back_quoted.specs.Spelling.{Part, IsSpelling, meaning, quoted}
-use Rattle.yaml_back_quoted.specs.ReadBack.{IsReadBack, between_quotes, gap_width, StaysInLine}
+use Rattle.yaml_back_quoted.specs.ReadBack.{IsReadBack, IsReadBackBefore, between_quotes, between_single, gap_width, is_one_line, StaysInLine}
 
 -- ---- spellings
 
@@ -44,3 +45,10 @@ QuotedTextIsReadBack = (page : Page) (c : Cursor) (value text : List ℕ) (p : �
 -- As a simple key, which may not be broken, it stays in its line, whatever the value.
 abbrev pub KeysStayInLine : Type 0
 KeysStayInLine = (page : Page) (c : Cursor) (value : List ℕ) → IsUtf8 value → page.cuts ≡ false → StaysInLine (between_quotes page (chars value)) c
+
+-- What is written for a value of one line between single quotes, where they are allowed, is read as the value, unless a single
+-- quote stands behind; with lines that may be broken, where new lines are indented.
+abbrev pub SingleIsReadBack : Type 0
+SingleIsReadBack = (page : Page) (c : Cursor) (value : List ℕ) → IsUtf8 value → (page.cuts ≡ true → 0 < page.indentation)
+    → (allowed page.unicode (chars value)).single ≡ true → is_one_line (chars value) ≡ true
+    → IsReadBackBefore (λ b. b ≡ 39 → ⊥) single_quoted_at (between_single page (chars value)) c value

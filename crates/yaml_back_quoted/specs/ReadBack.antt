@@ -1,11 +1,13 @@
 -- Layouts whose characters are read back.
 use Rattle.std.specs.Prelude.{ℕ, ◌+◌, ◌≡◌, Bool, true, not, ◌&&◌, if◌then◌else◌, List, [], ◌∷◌, length, Result, Ok, encode_utf8_all}
+use Rattle.yaml_scan_text.specs.Marks.{byte}
 use Rattle.yaml_scan_text.specs.Wrong.{Wrong}
 use Rattle.yaml_emit_sink.specs.declared.Cursor.{Cursor}
 use Rattle.yaml_emit_sink.specs.Text.{is_break}
 use Rattle.yaml_emit_sink.specs.Layout.{Layout, Rest, ◌▹◌, char}
 use Rattle.yaml_emit_text.specs.declared.page.Page.{Page}
 use Rattle.yaml_emit_text.specs.Quoted.{quoted_body}
+use Rattle.yaml_emit_text.specs.Scalars.{flow_body}
 use Rattle.yaml_emit_text.specs.Spelling.{in_front}
 use Rattle.yaml_back_quoted.specs.Stands.{HasAt}
 
@@ -17,6 +19,14 @@ pub record IsReadBack (reading : List ℕ → ℕ → Result (List ℕ × ℕ) W
   pub written : (rest : Rest) → a c rest ≡ in_front letters (rest behind)
   pub read : (text : List ℕ) (p : ℕ) → HasAt text p (encode_utf8_all letters) → reading text p ≡ Ok (value, p + length (encode_utf8_all letters))
 
+-- the same, where the byte behind fits
+pub record IsReadBackBefore (Fits : ℕ → Type 0) (reading : List ℕ → ℕ → Result (List ℕ × ℕ) Wrong) (a : Layout) (c : Cursor) (value : List ℕ) : Type 0 where
+  pub letters : List ℕ
+  pub behind : Cursor
+  pub written : (rest : Rest) → a c rest ≡ in_front letters (rest behind)
+  pub read : (text : List ℕ) (p : ℕ) → HasAt text p (encode_utf8_all letters) → Fits (byte text (p + length (encode_utf8_all letters)))
+      → reading text p ≡ Ok (value, p + length (encode_utf8_all letters))
+
 -- a double quoted scalar from quote to quote, without the space in front
 abbrev pub between_quotes : Page → List ℕ → Layout
 between_quotes page value = char 34 ▹ (quoted_body page 32 value ▹ char 34)
@@ -24,6 +34,10 @@ between_quotes page value = char 34 ▹ (quoted_body page 32 value ▹ char 34)
 -- the bytes of the space that is due in front of a scalar
 abbrev pub gap_width : Cursor → ℕ
 gap_width c = if c.white then 0 else 1
+
+-- a single quoted scalar from quote to quote
+abbrev pub between_single : Page → List ℕ → Layout
+between_single page value = char 39 ▹ (flow_body page true 32 value ▹ char 39)
 
 -- no character ends a line
 abbrev pub is_one_line : List ℕ → Bool

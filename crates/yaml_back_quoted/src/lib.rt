@@ -4,6 +4,6 @@
 mod laws;
 
 pub use laws::{
-    keys_stay_in_line, quoted_is_read_back, quoted_text_is_read_back, single_spelling_reads,
-    spelling_reads,
+    keys_stay_in_line, quoted_is_read_back, quoted_text_is_read_back, single_is_read_back,
+    single_spelling_reads, spelling_reads,
 };

@@ -1,5 +1,5 @@
 -- Canonical words are key-free.
-use Rattle.std.proofs.Common.{◌≡◌, ℕ, Bool, true, false, not, ◌&&◌, List, [], ◌∷◌, map, reverse, Option, Some, None, refl, sym, ap, ◌∙◌}
+use Rattle.std.proofs.Common.{◌≡◌, ℕ, Bool, true, false, not, ◌&&◌, List, [], ◌∷◌, map, reverse, Option, Some, None, refl, ap, ◌∙◌}
 use Rattle.std.specs.List.{list_all}
 use Rattle.yaml_scan_layout.specs.declared.kind.Kind.{Kind}
 use Rattle.yaml_scan_layout.specs.declared.kind.Kind.TheVariants as kinds
@@ -7,10 +7,10 @@ use Rattle.yaml_scan_layout.specs.Kinds.{is_end}
 use Rattle.yaml_scan_layout.specs.Coming.{Stream, offline}
 use Rattle.yaml_scan.specs.declared.yaml_version_directive_t.{yaml_version_directive_t}
 use Rattle.yaml_parse.specs.Events.{TagDirective}
-use Rattle.yaml_back_keys.specs.KeyFree.{innermost, is_inside, asked_after, asked, fits, is_key_free}
+use Rattle.yaml_back_keys.specs.KeyFree.{asked_after, asked, fits, is_key_free}
 use Rattle.yaml_back_keys.specs.Texts.{Word, Stand, word_kinds, token_of, first_token, ReachEnd}
 use Rattle.yaml_back_keys.proofs.TextLemmas.{words_read}
-use Rattle.yaml_emit_layout.specs.Content.{Scalar, Start, Node, alias_node, scalar_node, sequence_node, mapping_node, Nodes, no_nodes, node, Pairs, no_pairs, pair, Opening, Document}
+use Rattle.yaml_emit_layout.specs.Content.{Scalar, Node, alias_node, scalar_node, sequence_node, mapping_node, Nodes, no_nodes, node, Pairs, no_pairs, pair, Opening, Document}
 use Rattle.yaml_emit_layout.specs.Grammar.{has, scalar_tag, start_tag}
 use Rattle.yaml_emit_layout.specs.Nodes.{is_directed}
 use Rattle.yaml_back_canon.specs.Canonical.{put_if, properties_kinds, is_marked, node_kinds, items_kinds, pairs_kinds, version_kinds, directives_kinds, opening_kinds, documents_kinds, stream_kinds}

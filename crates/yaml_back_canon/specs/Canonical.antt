@@ -4,7 +4,7 @@ use Rattle.yaml_scan_layout.specs.declared.kind.Kind.{Kind}
 use Rattle.yaml_scan_layout.specs.declared.kind.Kind.TheVariants as kinds
 use Rattle.yaml_scan.specs.declared.yaml_version_directive_t.{yaml_version_directive_t}
 use Rattle.yaml_parse.specs.Events.{TagDirective}
-use Rattle.yaml_emit_layout.specs.Content.{Scalar, Start, Node, alias_node, scalar_node, sequence_node, mapping_node, Nodes, no_nodes, node, Pairs, no_pairs, pair, Opening, Document}
+use Rattle.yaml_emit_layout.specs.Content.{Scalar, Node, alias_node, scalar_node, sequence_node, mapping_node, Nodes, no_nodes, node, Pairs, no_pairs, pair, Opening, Document}
 use Rattle.yaml_emit_layout.specs.Grammar.{has, scalar_tag, start_tag}
 use Rattle.yaml_emit_layout.specs.Nodes.{is_directed}
 

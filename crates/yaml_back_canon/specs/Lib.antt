@@ -1,0 +1,2 @@
+pub mod Canonical
+pub mod Laws

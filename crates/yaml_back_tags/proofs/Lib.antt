@@ -1,0 +1,4 @@
+mod Resolving
+mod Pieces
+mod Reading
+mod Joining

@@ -3,7 +3,7 @@
 use std::test::Fail;
 use yaml_round::{
     yaml_command_t, yaml_encoding_t, yaml_form_t, yaml_read_all, yaml_run, yaml_run_fault_t,
-    yaml_settings_t, yaml_std_input_t, yaml_std_output_t, yaml_text_of,
+    yaml_settings_t, yaml_std_input_t, yaml_std_output_t,
 };
 use yaml_round_scripted::{scripted_reader_t, scripted_writer_t, step_t, write_step_t};
 
@@ -280,39 +280,5 @@ fn writes_nothing_on_a_fault(rt: HostRuntime) -> Result<(), Fail> {
         _ => assert!(rt; false, "no fault"),
     }
     assert_eq!(rt; output.into_inner().received(), b"".as_slice());
-    Ok(())
-}
-
-// Memory neither fails nor ends early.
-#[test]
-fn writes_into_memory(rt: HostRuntime) -> Result<(), Fail> {
-    let from = yaml_encoding_t::YAML_ANY_ENCODING;
-    let settings = yaml_settings_t::new();
-    let commands = [
-        (
-            yaml_command_t::Fmt,
-            b"---\n! \"foo\"\n".as_slice(),
-            Some(yaml_form_t::Canonical),
-        ),
-        (
-            yaml_command_t::Docs,
-            b"---\n!!str \"foo\"\n".as_slice(),
-            Some(yaml_form_t::Canonical),
-        ),
-        (
-            yaml_command_t::Events,
-            b"+STR\n+DOC\n=VAL :foo\n-DOC\n-STR\n".as_slice(),
-            None,
-        ),
-    ];
-    for (command, text, form) in &commands {
-        let (got, told) = yaml_text_of(rt.alloc(), b"foo", *command, from, &settings, 3)
-            .ok()
-            .ok_or("refused")?;
-        assert_eq!(rt; got.as_slice(), *text);
-        assert_eq!(rt; told, *form);
-        let short = yaml_text_of(rt.alloc(), b"foo", *command, from, &settings, 2).err();
-        assert_eq!(rt; short, Some(yaml_run_fault_t::TooLong));
-    }
     Ok(())
 }

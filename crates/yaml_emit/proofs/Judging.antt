@@ -22,10 +22,10 @@ use Rattle.yaml_emit_layout.specs.Grammar.{or_else, ends_phase, begins_node, may
 use Rattle.yaml_emit_layout.specs.Nodes.{Context, context_of}
 use Rattle.yaml_emit_layout.specs.State.{State, piece, next, next_at, problem_at, opens_empty, begins_by, is_sequence_end, is_mapping_end, top_of, outer_of, place_at, among, levels_behind, phase_behind}
 use Rattle.yaml_emit_state.specs.declared.Core.{Core}
-use Rattle.yaml_emit_state.specs.Steps.{state_of, settings_of, next_state, next_piece, LaysOut, takes_memory, goes_on}
+use Rattle.yaml_emit_state.specs.Steps.{state_of, settings_of, next_state, next_piece, LaysOut, takes_memory, may_note, goes_on}
 use Rattle.yaml_emit_state.proofs.Noting.{neither, notes_both, notes_within}
 use Rattle.yaml_emit.specs.Held.{is_ready, has_enough, needs, closes, passes, opens_level, ends_level}
-use Rattle.yaml_emit.specs.Judged.{Due, item_due, key_due, value_due, Shape, shape_after, inside, behind_node, outer_due, phase_due, level_due, problem_in, let_out, first_refusal, unless, laid, refused_at, due_in, due_of, shape_of, refusal_from, text_from, refusal_behind, LetsOut, Judges}
+use Rattle.yaml_emit.specs.Judged.{Due, item_due, key_due, value_due, Shape, shape_after, inside, behind_node, outer_due, phase_due, level_due, problem_in, let_out, first_refusal, unless, laid, refused_at, due_in, due_of, shape_of, refusal_from, text_from, refusal_behind, LetsOut, take_memory, Judges}
 use Rattle.yaml_emit.proofs.Opening.{opens_none}
 use Rattle.yaml_emit.proofs.Holding.{ready_empty}
 use Rattle.yaml_emit.proofs.Ending.{none_needed}
@@ -341,3 +341,19 @@ judges_more a b c h x y e empty p same goes r is l =
 pub judges_past : (a c : Core) (h : List Event) (e : Event) → goes_on a.sink.status a.place ≡ true → passes h e ≡ true → LaysOut a c e false → Judges a (h ++ e ∷ []) c h
 judges_past a c [] e g p l = judges_more a a c (e ∷ []) (e ∷ []) [] e false (judges_same a (e ∷ [])) refl g p (sym (opens_none e)) l
 judges_past a c (f ∷ fs) e g p l = absurd (cc)
+
+-- ---- memory
+
+going_notes : (takes : Bool) (a b : Status) → b ≡ Going → may_note takes a b ≡ false
+going_notes false a b g = refl
+going_notes true Going Going g = refl
+going_notes true Going Full g = absurd (cc)
+going_notes true Going Deep g = absurd (cc)
+going_notes true Going Starved g = absurd (cc)
+going_notes true Full b g = refl
+going_notes true Deep b g = refl
+going_notes true Starved b g = refl
+
+-- while the output goes on, none was refused outside it
+pub judges_unnoted : (old new : Core) (before after : List Event) → Judges old before new after → (old.sink.status ≡ Going → old.starved ≡ false) → new.sink.status ≡ Going → new.starved ≡ false
+judges_unnoted old new before after j n g = j.memory (going_notes _ old.sink.status new.sink.status g) ∙ n (j.going g)

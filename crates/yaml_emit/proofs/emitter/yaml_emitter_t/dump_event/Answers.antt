@@ -1,5 +1,5 @@
 use Rattle.yaml_emit.proofs.Dumped.{gives_stuck}
-use Rattle.yaml_emit.proofs.DumpsJudged.{judged_stuck}
+use Rattle.yaml_emit.proofs.DumpsJudged.{judged_one, judged_stuck}
 use Rattle.yaml_emit.proofs.emitter.yaml_emitter_t.dump_event.Goals as goal
 
 pub returns-in-Err-clause-given : goal.returns-in-Err-clause-given
@@ -7,3 +7,6 @@ returns-in-Err-clause-given c = λ es. gives_stuck _ _ _ es c.in-Err.ensures.giv
 
 pub returns-in-Err-clause-judged : goal.returns-in-Err-clause-judged
 returns-in-Err-clause-judged c = λ es. judged_stuck _ _ _ es c.in-Err.ensures.judged (c.stands.ensures.unjudged _ c.in-Err.ensures.answer)
+
+pub returns-in-Ok-clause-judged : goal.returns-in-Ok-clause-judged
+returns-in-Ok-clause-judged c = λ es. judged_one _ _ _ es c.in-Ok.ensures.judged

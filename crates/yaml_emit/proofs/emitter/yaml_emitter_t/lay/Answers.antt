@@ -1,7 +1,21 @@
-use Rattle.std.proofs.Common.{refl}
+use Rattle.std.proofs.Common.{refl, ◌∙◌}
 use Rattle.yaml_emit.proofs.Emitting.{inside_lays}
+use Rattle.yaml_emit.proofs.Judging.{judges_unnoted}
 use Rattle.yaml_emit.proofs.Verdicts.{inside_judges, inside_going}
 use Rattle.yaml_emit.proofs.emitter.yaml_emitter_t.lay.Goals as goal
+
+pub invariant_of-self : goal.invariant_of-self
+invariant_of-self c =
+    let fr = rw (← c.self.view_is) at c.requires.begun in
+    record {
+      faulty = c.refusal-self-inside.ensures;
+      few = c.give.ensures.waits;
+      texts = c.give.ensures.utf8;
+      begun = λ f. absurd (cc);
+      limited = c.give.ensures.leads.limit ∙ c.self.invariant.limited;
+      running = c.self.invariant.running;
+      memory = judges_unnoted _ _ _ _ c.give.ensures.judges c.self.invariant.memory;
+    }
 
 pub returns-clause-given : goal.returns-clause-given
 returns-clause-given c =

@@ -22,6 +22,7 @@ pub fn is_blank(byte: u8) -> bool
     byte == b' ' || byte == b'\t'
 }
 
+/// A place in a text, which only goes forward; all counting of lines and columns is here.
 #[derive(Drop)]
 pub struct Reader<'a> {
     text: &'a [u8],
@@ -43,6 +44,7 @@ impl<'a> Model for Reader<'a> {
 }
 
 impl<'a> Reader<'a> {
+    /// The start of a text.
     pub fn new(text: &'a [u8]) -> Reader<'a>
         ensures { result ≡ record { text = text.now; at = 0 } }
     {

@@ -15,6 +15,7 @@ pub struct Tally {
 }
 
 impl Tally {
+    /// Before the first line.
     pub fn new() -> Tally {
         Tally {
             passed: 0,

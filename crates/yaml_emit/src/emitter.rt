@@ -83,7 +83,8 @@ pub fn yaml_emitter_initialize(alloc: Global, limit: u64) -> Result<yaml_emitter
     })
 }
 
-/// The encoding of the text. Any encoding means the one that the stream's start names, or UTF-8.
+/// The encoding of the text. Any encoding means the one that the stream's start names, or UTF-8. This and every other
+/// setter asks that no event was given, which `yaml_emitter_fresh` tells; the last one counts.
 pub fn yaml_emitter_set_encoding(emitter: &mut yaml_emitter_t, encoding: yaml_encoding_t)
     requires { emitter.old.fresh ≡ true }
     ensures { emitter.new ≡ record emitter.old { wishes = record emitter.old.wishes { encoding = encoding } } }
@@ -271,7 +272,7 @@ impl yaml_emitter_t {
 
 /// Takes an event and lays out what no longer has to be held. The first fault is answered again from then on: `write error`
 /// past the limit, the grammar's fault for the first event that it refuses, `indentation is too deep`, or want of memory.
-/// Marks are ignored.
+/// Marks are ignored. The event's texts have to be UTF-8, which `yaml_event_utf8` tells.
 pub fn yaml_emitter_emit(
     emitter: &mut yaml_emitter_t,
     event: yaml_event_t,
@@ -290,7 +291,7 @@ pub fn yaml_emitter_emit(
     answer
 }
 
-/// What was laid out is in the output. The first fault, if there is one, is answered.
+/// What was laid out is in the output. The first fault, if there is one, is answered. Asks that an event was given.
 pub fn yaml_emitter_flush(emitter: &mut yaml_emitter_t) -> Result<(), yaml_fault_t>
     requires { emitter.old.fresh ≡ false }
     ensures same { emitter.new ≡ emitter.old }

@@ -39,6 +39,7 @@ pub fn spot_of(top: Option<Level>, simple: bool) -> Spot
     }
 }
 
+/// Whether the part is a simple key.
 pub fn is_simple_part(part: Part) -> bool
     ensures { result ≡ is_simple_part part }
 {

@@ -207,7 +207,9 @@ pub(crate) fn next_event<S: yaml_token_source_t>(
     }
 }
 
-/// The next event, whose texts are UTF-8; behind the last one and after a fault the empty event.
+/// The next event, whose texts are UTF-8; behind the last one and after a fault the empty event. Refused by the source's
+/// fault, by one of its own (kind 4: the tokens are those of no stream, or a directive or a handle is wrong), or for want
+/// of memory; once.
 pub fn yaml_parser_parse<S: yaml_token_source_t>(
     parser: &mut yaml_parser_t<S>,
 ) -> Result<yaml_event_t, yaml_fault_t>

@@ -161,7 +161,8 @@ pub(crate) fn reads_back(
 }
 
 /// Whether two inputs have the same content: their documents' versions, directives, nodes, anchors, tags and values, and of
-/// untagged scalars whether they are plain; styles, marks and comments aside. A refused first input is answered first.
+/// untagged scalars whether they are plain; styles, marks and comments aside. A refused first input is answered first, by
+/// its side and its fault (kinds 1 to 4).
 pub fn yaml_same(
     alloc: Global,
     a: &[u8],

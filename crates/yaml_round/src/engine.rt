@@ -129,7 +129,8 @@ fn push_lines<S: yaml_token_source_t>(
     }
 }
 
-/// A line for each event of the input, as the parser gives it.
+/// A line for each event of the input, as the parser gives it. Refused by a fault of the input (kinds 2, 3 and 4) or for
+/// want of memory.
 #[tactic(auto, using(crate::proofs::Judging::listed, crate::proofs::Judging::fault_met))]
 pub fn yaml_events(
     alloc: Global,

@@ -1,4 +1,4 @@
-//! The engine: it reads a YAML text whole and writes it again in canonical form, over slices or over devices.
+//! The engine: it reads a YAML text whole and writes it again in canonical or pretty form, over slices or over devices.
 #![tactic(auto)]
 
 mod compare;

@@ -46,16 +46,16 @@ impl<'a> yaml_parser_t<'a> {
 
 /// The next token: the empty one behind the end or a fault.
 ///
-/// The first call, or the first peek, decodes the whole input. A refusal is the fault that ends the tokens of the input,
-/// where they are all taken, or want of memory. It is answered once; behind it, and behind the last token, comes the empty
-/// token.
+/// The first call, or the first peek, decodes the whole input. A refusal is the fault that ends the tokens of the input
+/// (kind 2 where its bytes spell no text, else 3), where they are all taken, or want of memory (kind 1). It is answered
+/// once; behind it, and behind the last token, comes the empty token.
 pub fn yaml_parser_scan(parser: &mut yaml_parser_t) -> Result<yaml_token_t, yaml_fault_t>
     ensures { Scans parser.old parser.new result }
 {
     parser.ahead.scan()
 }
 
-/// Lends the token that the next scan gives, and takes nothing.
+/// Lends the token that the next scan gives, and takes nothing. Refused as a scan is.
 pub fn yaml_parser_peek<'p>(parser: &'p mut yaml_parser_t) -> Result<&'p yaml_token_t, yaml_fault_t>
     ensures* lends { sem 𝓛 (follows_so (the_row (record { mir = named 1; lft = [] })) (the_row (record { mir = named 1; lft = [] })) parser.entry.ghost_name none (λ _ _. ⊤) (λ new. Peeks parser.old new result)) }
 {
@@ -71,7 +71,7 @@ pub fn yaml_parser_has_token(parser: &yaml_parser_t) -> bool
     parser.ahead.has_token()
 }
 
-/// Drops the next token.
+/// Drops the next token, which `yaml_parser_has_token` has to know.
 pub fn yaml_parser_skip(parser: &mut yaml_parser_t)
     requires { parser.old.ready ≡ true }
     ensures rest { parser.new.coming ≡ behind_first parser.old.coming }
@@ -80,7 +80,7 @@ pub fn yaml_parser_skip(parser: &mut yaml_parser_t)
     parser.ahead.take();
 }
 
-/// The fault that was answered.
+/// The fault that was answered, if one was.
 pub fn yaml_parser_fault<'p>(parser: &'p yaml_parser_t) -> Option<&'p yaml_fault_t>
     ensures { option_map (λ f. fault_of f.now) result ≡ parser.now.answered }
 {

@@ -29,6 +29,7 @@ fn is_separator(byte: u8) -> bool
     byte == 0xA8 || byte == 0xA9
 }
 
+/// A place in a text, which only goes forward; all counting of lines and columns is here.
 #[derive(Drop)]
 pub struct Reader<'a> {
     text: &'a [u8],
@@ -50,6 +51,7 @@ impl<'a> Model for Reader<'a> {
 }
 
 impl<'a> Reader<'a> {
+    /// The start of a text.
     pub fn new(text: &'a [u8]) -> Reader<'a>
         ensures { result ≡ record { text = text.now; at = 0 } }
     {

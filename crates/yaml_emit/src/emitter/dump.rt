@@ -18,7 +18,7 @@ use yaml_emit_graph::Events;
 use yaml_parse::{yaml_document_t, yaml_event_body_t};
 use yaml_scan::{yaml_encoding_t, yaml_fault_t};
 
-/// Starts the stream.
+/// Starts the stream, which must not have been opened (`yaml_emitter_opened` tells). Refused as `yaml_emitter_emit` is.
 pub fn yaml_emitter_open(emitter: &mut yaml_emitter_t) -> Result<(), yaml_fault_t>
     requires { emitter.old.opened ≡ false }
     ensures answer { Answers emitter.new.fault result }
@@ -37,7 +37,8 @@ pub fn yaml_emitter_open(emitter: &mut yaml_emitter_t) -> Result<(), yaml_fault_
     Ok(())
 }
 
-/// Ends the stream. A close after one that was Ok is Ok while no fault has come.
+/// Ends the stream, which must have been opened. A close after one that was Ok is Ok while no fault has come. Refused as
+/// `yaml_emitter_emit` is.
 pub fn yaml_emitter_close(emitter: &mut yaml_emitter_t) -> Result<(), yaml_fault_t>
     requires { emitter.old.opened ≡ true }
     ensures answer { Answers emitter.new.fault result }
@@ -194,7 +195,7 @@ impl yaml_emitter_t {
 
 /// Writes a document and spends it. Opens the stream if that was not done, and closes it where the document has no root.
 /// A node that is visited more than once has an anchor, `id` and a number of at least three digits, and is an alias at its
-/// later visits.
+/// later visits. Refused as `yaml_emitter_emit` is.
 pub fn yaml_emitter_dump(
     emitter: &mut yaml_emitter_t,
     document: yaml_document_t,

@@ -174,7 +174,8 @@ pub fn yaml_document_append_sequence_item(
     push_item(&mut document.nodes[place(sequence)], item)
 }
 
-/// Appends a pair to the mapping under a number. The one refusal is `Memory`, and leaves the document unchanged.
+/// Appends a pair to the mapping under a number. `yaml_document_get_node` tells whether a number names a node, and of which
+/// kind. The one refusal is `Memory`, and leaves the document unchanged.
 pub fn yaml_document_append_mapping_pair(
     document: &mut yaml_document_t,
     mapping: i32,

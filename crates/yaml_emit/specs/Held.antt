@@ -6,8 +6,17 @@ use Rattle.yaml_emit_layout.specs.Content.{Event, no_event, stream_start, stream
 use Rattle.yaml_emit.specs.declared.held.Held.{Held}
 use Rattle.yaml_emit.specs.declared.held.Count.{Count}
 use Rattle.yaml_emit.specs.declared.held.Count.TheVariants.{Nothing, One, Two, Three, Four}
+use Rattle.yaml_emit.specs.declared.held.Start.{Start}
+use Rattle.yaml_emit.specs.declared.held.Start.TheVariants.{First, Second, Third, Fourth}
 
-abbrev events_by : Count → Event → Event → Event → Event → List Event
+-- what stands in the places from the oldest on, which follow one another in a circle
+abbrev pub oldest : {X : Type 0} → Start → X → X → X → X → X
+oldest First a b c d = a
+oldest Second a b c d = b
+oldest Third a b c d = c
+oldest Fourth a b c d = d
+
+abbrev pub events_by : Count → Event → Event → Event → Event → List Event
 events_by Nothing a b c d = []
 events_by One a b c d = a ∷ []
 events_by Two a b c d = a ∷ b ∷ []
@@ -16,9 +25,10 @@ events_by Four a b c d = a ∷ b ∷ c ∷ d ∷ []
 
 -- the oldest first
 abbrev pub held_events : Held → List Event
-held_events h = events_by h.count (said (body_of h.first)) (said (body_of h.second)) (said (body_of h.third)) (said (body_of h.fourth))
+held_events h = events_by h.count (said (body_of (oldest h.start h.first h.second h.third h.fourth))) (said (body_of (oldest h.start h.second h.third h.fourth h.first)))
+    (said (body_of (oldest h.start h.third h.fourth h.first h.second))) (said (body_of (oldest h.start h.fourth h.first h.second h.third)))
 
-abbrev Utf8By : Count → EventBody → EventBody → EventBody → EventBody → Type 0
+abbrev pub Utf8By : Count → EventBody → EventBody → EventBody → EventBody → Type 0
 Utf8By Nothing a b c d = Unit {0}
 Utf8By One a b c d = HasUtf8 a
 Utf8By Two a b c d = HasUtf8 a × HasUtf8 b
@@ -27,7 +37,8 @@ Utf8By Four a b c d = HasUtf8 a × HasUtf8 b × HasUtf8 c × HasUtf8 d
 
 -- their texts are UTF-8
 abbrev pub HeldUtf8 : Held → Type 0
-HeldUtf8 h = Utf8By h.count (body_of h.first) (body_of h.second) (body_of h.third) (body_of h.fourth)
+HeldUtf8 h = Utf8By h.count (body_of (oldest h.start h.first h.second h.third h.fourth)) (body_of (oldest h.start h.second h.third h.fourth h.first))
+    (body_of (oldest h.start h.third h.fourth h.first h.second)) (body_of (oldest h.start h.fourth h.first h.second h.third))
 
 -- it opens a level
 abbrev pub opens_level : Event → Bool

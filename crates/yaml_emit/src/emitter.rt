@@ -185,6 +185,7 @@ pub fn yaml_emitter_delete(emitter: yaml_emitter_t) {
 
 impl yaml_emitter_t {
     // The settings come into force with the first event.
+    #[inline(never)]
     fn begin(&mut self, event: &yaml_event_body_t)
         requires { self.old.fresh ≡ true }
         ensures begins { Begins self.old (said (body_of event.now)) self.new }

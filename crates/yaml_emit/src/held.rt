@@ -19,10 +19,21 @@ pub enum Count {
     Four,
 }
 
-/// Places for events, the oldest first; what stands in the places behind doesn't count. Four are held only while one is given.
+/// The place of the oldest event.
+#[derive(Clone, Copy, PartialEq, Eq, Debug)]
+pub enum Start {
+    First,
+    Second,
+    Third,
+    Fourth,
+}
+
+/// Places for events in a circle, from the oldest on; what stands in the places behind doesn't count. Four are held only while
+/// one is given.
 #[derive(Drop)]
 pub struct Held {
     count: Count,
+    start: Start,
     first: yaml_event_body_t,
     second: yaml_event_body_t,
     third: yaml_event_body_t,
@@ -30,7 +41,7 @@ pub struct Held {
 }
 
 impl Held {
-    ghost use Rattle.yaml_emit.specs.Held.{held_events, HeldUtf8, is_ready, closes, has_enough, needs, passes, opens_level, ends_level};
+    ghost use Rattle.yaml_emit.specs.Held.{held_events, HeldUtf8, events_by, Utf8By, is_ready, closes, has_enough, needs, passes, opens_level, ends_level};
 
     /// No event.
     pub fn nothing() -> Held
@@ -39,6 +50,7 @@ impl Held {
     {
         Held {
             count: Count::Nothing,
+            start: Start::First,
             first: yaml_event_body_t::No,
             second: yaml_event_body_t::No,
             third: yaml_event_body_t::No,
@@ -123,92 +135,288 @@ impl Held {
         }
     }
 
-    /// One more.
-    pub fn push(&mut self, event: yaml_event_body_t)
-        requires few { length (held_events self.old) < 4 }
-        requires utf8 { HeldUtf8 self.old × HasUtf8 (body_of event) }
-        ensures events { held_events self.new ≡ held_events self.old ++ said (body_of event) ∷ [] }
-        ensures utf8 { HeldUtf8 self.new }
+    // One more in the places from the oldest on.
+    fn push_behind(
+        count: &mut Count,
+        first: &mut yaml_event_body_t,
+        second: &mut yaml_event_body_t,
+        third: &mut yaml_event_body_t,
+        fourth: &mut yaml_event_body_t,
+        event: &mut yaml_event_body_t,
+    )
+        requires few { length (events_by count.old (said (body_of first.old)) (said (body_of second.old)) (said (body_of third.old)) (said (body_of fourth.old))) < 4 }
+        requires utf8 { Utf8By count.old (body_of first.old) (body_of second.old) (body_of third.old) (body_of fourth.old) × HasUtf8 (body_of event.old) }
+        ensures events { events_by count.new (said (body_of first.new)) (said (body_of second.new)) (said (body_of third.new)) (said (body_of fourth.new)) ≡ events_by count.old (said (body_of first.old)) (said (body_of second.old)) (said (body_of third.old)) (said (body_of fourth.old)) ++ said (body_of event.old) ∷ [] }
+        ensures utf8 { Utf8By count.new (body_of first.new) (body_of second.new) (body_of third.new) (body_of fourth.new) }
     {
-        match self.count {
+        match *count {
             Count::Nothing => {
-                self.first = event;
-                self.count = Count::One;
+                mem::swap(first, event);
+                *count = Count::One;
             }
             Count::One => {
-                self.second = event;
-                self.count = Count::Two;
+                mem::swap(second, event);
+                *count = Count::Two;
             }
             Count::Two => {
-                self.third = event;
-                self.count = Count::Three;
+                mem::swap(third, event);
+                *count = Count::Three;
             }
             Count::Three => {
-                self.fourth = event;
-                self.count = Count::Four;
+                mem::swap(fourth, event);
+                *count = Count::Four;
             }
             Count::Four => unreachable!(),
         }
     }
 
-    /// The oldest has what it needs.
-    #[tactic(auto, unfolding(crate::specs::Held::is_ready))]
-    pub fn is_ready(&self) -> bool
-        ensures { result ≡ is_ready (held_events self.now) }
+    /// One more. What is left of the event counts for nothing.
+    pub fn push(&mut self, event: &mut yaml_event_body_t)
+        requires few { length (held_events self.old) < 4 }
+        requires utf8 { HeldUtf8 self.old × HasUtf8 (body_of event.old) }
+        ensures events { held_events self.new ≡ held_events self.old ++ said (body_of event.old) ∷ [] }
+        ensures utf8 { HeldUtf8 self.new }
     {
-        match self.count {
+        match self.start {
+            Start::First => Held::push_behind(
+                &mut self.count,
+                &mut self.first,
+                &mut self.second,
+                &mut self.third,
+                &mut self.fourth,
+                event,
+            ),
+            Start::Second => Held::push_behind(
+                &mut self.count,
+                &mut self.second,
+                &mut self.third,
+                &mut self.fourth,
+                &mut self.first,
+                event,
+            ),
+            Start::Third => Held::push_behind(
+                &mut self.count,
+                &mut self.third,
+                &mut self.fourth,
+                &mut self.first,
+                &mut self.second,
+                event,
+            ),
+            Start::Fourth => Held::push_behind(
+                &mut self.count,
+                &mut self.fourth,
+                &mut self.first,
+                &mut self.second,
+                &mut self.third,
+                event,
+            ),
+        }
+    }
+
+    #[tactic(auto, unfolding(crate::specs::Held::is_ready))]
+    fn is_ready_by(
+        count: Count,
+        first: &yaml_event_body_t,
+        second: &yaml_event_body_t,
+        third: &yaml_event_body_t,
+        fourth: &yaml_event_body_t,
+    ) -> bool
+        ensures { result ≡ is_ready (events_by count (said (body_of first.now)) (said (body_of second.now)) (said (body_of third.now)) (said (body_of fourth.now))) }
+    {
+        let _ = fourth;
+        match count {
             Count::Nothing => false,
-            Count::One => Held::needs(&self.first) == 0,
-            Count::Two => Held::needs(&self.first) <= 1 || Held::closes_one(&self.second),
-            Count::Three => Held::needs(&self.first) <= 2
-                || Held::closes_two(&self.second, &self.third),
+            Count::One => Held::needs(first) == 0,
+            Count::Two => Held::needs(first) <= 1 || Held::closes_one(second),
+            Count::Three => Held::needs(first) <= 2 || Held::closes_two(second, third),
             Count::Four => true,
         }
     }
 
-    /// Takes the oldest out.
-    #[tactic(auto, unfolding(crate::specs::Held::is_ready))]
-    pub fn pop(&mut self) -> yaml_event_body_t
-        requires ready { is_ready (held_events self.old) ≡ true }
-        requires utf8 { HeldUtf8 self.old }
-        ensures events { held_events self.old ≡ said (body_of result) ∷ held_events self.new }
-        ensures utf8 { HasUtf8 (body_of result) × HeldUtf8 self.new }
+    /// The oldest has what it needs.
+    pub fn is_ready(&self) -> bool
+        ensures { result ≡ is_ready (held_events self.now) }
     {
-        match self.count {
+        match self.start {
+            Start::First => Held::is_ready_by(
+                self.count,
+                &self.first,
+                &self.second,
+                &self.third,
+                &self.fourth,
+            ),
+            Start::Second => Held::is_ready_by(
+                self.count,
+                &self.second,
+                &self.third,
+                &self.fourth,
+                &self.first,
+            ),
+            Start::Third => Held::is_ready_by(
+                self.count,
+                &self.third,
+                &self.fourth,
+                &self.first,
+                &self.second,
+            ),
+            Start::Fourth => Held::is_ready_by(
+                self.count,
+                &self.fourth,
+                &self.first,
+                &self.second,
+                &self.third,
+            ),
+        }
+    }
+
+    // The oldest of the places from it on is taken out, and is the last place then.
+    #[tactic(auto, unfolding(crate::specs::Held::is_ready))]
+    fn pop_front(
+        count: &mut Count,
+        first: &mut yaml_event_body_t,
+        second: &yaml_event_body_t,
+        third: &yaml_event_body_t,
+        fourth: &yaml_event_body_t,
+        front: &mut yaml_event_body_t,
+    )
+        requires ready { is_ready (events_by count.old (said (body_of first.old)) (said (body_of second.now)) (said (body_of third.now)) (said (body_of fourth.now))) ≡ true }
+        requires utf8 { Utf8By count.old (body_of first.old) (body_of second.now) (body_of third.now) (body_of fourth.now) }
+        ensures events { events_by count.old (said (body_of first.old)) (said (body_of second.now)) (said (body_of third.now)) (said (body_of fourth.now)) ≡ said (body_of front.new) ∷ events_by count.new (said (body_of second.now)) (said (body_of third.now)) (said (body_of fourth.now)) (said (body_of first.new)) }
+        ensures utf8 { HasUtf8 (body_of front.new) × Utf8By count.new (body_of second.now) (body_of third.now) (body_of fourth.now) (body_of first.new) }
+    {
+        let _ = second;
+        let _ = third;
+        let _ = fourth;
+        mem::swap(first, front);
+        match *count {
             Count::Nothing => unreachable!(),
             Count::One => {
-                self.count = Count::Nothing;
-                mem::replace(&mut self.first, yaml_event_body_t::No)
+                *count = Count::Nothing;
             }
             Count::Two => {
-                self.count = Count::One;
-                let second = mem::replace(&mut self.second, yaml_event_body_t::No);
-                mem::replace(&mut self.first, second)
+                *count = Count::One;
             }
             Count::Three => {
-                self.count = Count::Two;
-                let third = mem::replace(&mut self.third, yaml_event_body_t::No);
-                let second = mem::replace(&mut self.second, third);
-                mem::replace(&mut self.first, second)
+                *count = Count::Two;
             }
             Count::Four => {
-                self.count = Count::Three;
-                let fourth = mem::replace(&mut self.fourth, yaml_event_body_t::No);
-                let third = mem::replace(&mut self.third, fourth);
-                let second = mem::replace(&mut self.second, third);
-                mem::replace(&mut self.first, second)
+                *count = Count::Three;
             }
         }
     }
 
-    /// Whether an event opens a collection that the held ones close at once.
-    #[tactic(auto, using(crate::proofs::Opening::opens_none, crate::proofs::Opening::opens_first))]
-    pub fn opens_empty(&self, first: &yaml_event_body_t) -> bool
-        ensures { result ≡ opens_empty (said (body_of first.now)) (held_events self.now) }
+    /// Takes the oldest out, into a place whose event counts for nothing.
+    pub fn pop(&mut self, front: &mut yaml_event_body_t)
+        requires ready { is_ready (held_events self.old) ≡ true }
+        requires utf8 { HeldUtf8 self.old }
+        ensures events { held_events self.old ≡ said (body_of front.new) ∷ held_events self.new }
+        ensures utf8 { HasUtf8 (body_of front.new) × HeldUtf8 self.new }
     {
-        match self.count {
+        match self.start {
+            Start::First => {
+                Held::pop_front(
+                    &mut self.count,
+                    &mut self.first,
+                    &self.second,
+                    &self.third,
+                    &self.fourth,
+                    front,
+                );
+                self.start = Start::Second;
+            }
+            Start::Second => {
+                Held::pop_front(
+                    &mut self.count,
+                    &mut self.second,
+                    &self.third,
+                    &self.fourth,
+                    &self.first,
+                    front,
+                );
+                self.start = Start::Third;
+            }
+            Start::Third => {
+                Held::pop_front(
+                    &mut self.count,
+                    &mut self.third,
+                    &self.fourth,
+                    &self.first,
+                    &self.second,
+                    front,
+                );
+                self.start = Start::Fourth;
+            }
+            Start::Fourth => {
+                Held::pop_front(
+                    &mut self.count,
+                    &mut self.fourth,
+                    &self.first,
+                    &self.second,
+                    &self.third,
+                    front,
+                );
+                self.start = Start::First;
+            }
+        }
+    }
+
+    #[tactic(auto, using(crate::proofs::Opening::opens_none, crate::proofs::Opening::opens_first))]
+    fn opens_empty_by(
+        count: Count,
+        event: &yaml_event_body_t,
+        first: &yaml_event_body_t,
+        second: &yaml_event_body_t,
+        third: &yaml_event_body_t,
+        fourth: &yaml_event_body_t,
+    ) -> bool
+        ensures { result ≡ opens_empty (said (body_of event.now)) (events_by count (said (body_of first.now)) (said (body_of second.now)) (said (body_of third.now)) (said (body_of fourth.now))) }
+    {
+        let _ = second;
+        let _ = third;
+        let _ = fourth;
+        match count {
             Count::Nothing => false,
-            _ => Held::closes_by(first, &self.first),
+            _ => Held::closes_by(event, first),
+        }
+    }
+
+    /// Whether an event opens a collection that the held ones close at once.
+    pub fn opens_empty(&self, event: &yaml_event_body_t) -> bool
+        ensures { result ≡ opens_empty (said (body_of event.now)) (held_events self.now) }
+    {
+        match self.start {
+            Start::First => Held::opens_empty_by(
+                self.count,
+                event,
+                &self.first,
+                &self.second,
+                &self.third,
+                &self.fourth,
+            ),
+            Start::Second => Held::opens_empty_by(
+                self.count,
+                event,
+                &self.second,
+                &self.third,
+                &self.fourth,
+                &self.first,
+            ),
+            Start::Third => Held::opens_empty_by(
+                self.count,
+                event,
+                &self.third,
+                &self.fourth,
+                &self.first,
+                &self.second,
+            ),
+            Start::Fourth => Held::opens_empty_by(
+                self.count,
+                event,
+                &self.fourth,
+                &self.first,
+                &self.second,
+                &self.third,
+            ),
         }
     }
 }

@@ -10,7 +10,6 @@ ghost use Rattle.yaml_emit.specs.Held.{held_events, HeldUtf8, is_ready, passes};
 ghost use Rattle.yaml_emit.specs.Judged.{Judges};
 
 use crate::held::Held;
-use std::mem;
 use yaml_emit_state::Core;
 use yaml_parse::yaml_event_body_t;
 
@@ -28,8 +27,9 @@ fn passes(core: &Core, held: &Held, event: &yaml_event_body_t) -> bool
     core.is_going() && held.passes(event)
 }
 
-// What lies ready is laid out, up to the first event that is refused.
-fn release(core: &mut Core, held: &mut Held)
+// What lies ready is laid out, up to the first event that is refused. What stands in the place for the one that is laid out
+// counts for nothing.
+fn release(core: &mut Core, held: &mut Held, front: &mut yaml_event_body_t)
     requires { HeldUtf8 held.old }
     ensures leads { Leads core.old (held_events held.old) core.new (held_events held.new) }
     ensures judges { Judges core.old (held_events held.old) core.new (held_events held.new) }
@@ -37,14 +37,13 @@ fn release(core: &mut Core, held: &mut Held)
     ensures waits { goes_on core.new.sink.status core.new.place ≡ true → is_ready (held_events held.new) ≡ false }
 {
     while is_due(core, held) {
-        let mut front = held.pop();
-        let empty = held.opens_empty(&front);
-        core.lay_out(&mut front, empty);
-        drop(front);
+        held.pop(front);
+        let empty = held.opens_empty(front);
+        core.lay_out(front, empty);
     }
 }
 
-// An event is given behind the held ones.
+// An event is given behind the held ones. What is left of it counts for nothing.
 pub(crate) fn give(core: &mut Core, held: &mut Held, event: &mut yaml_event_body_t)
     requires few { is_ready (held_events held.old) ≡ false }
     requires utf8 { HeldUtf8 held.old × HasUtf8 (body_of event.old) }
@@ -56,7 +55,7 @@ pub(crate) fn give(core: &mut Core, held: &mut Held, event: &mut yaml_event_body
     if passes(core, held, event) {
         core.lay_out(event, false);
     } else {
-        held.push(mem::replace(event, yaml_event_body_t::No));
-        release(core, held);
+        held.push(event);
+        release(core, held, event);
     }
 }

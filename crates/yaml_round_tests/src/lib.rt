@@ -2,8 +2,6 @@
 #![tactic(auto)]
 
 #[cfg(test)]
-mod commands;
-#[cfg(test)]
 mod comparisons;
 #[cfg(test)]
 mod deep;
@@ -11,10 +9,6 @@ mod deep;
 mod devices;
 #[cfg(test)]
 mod keys;
-#[cfg(test)]
-mod limits;
-#[cfg(test)]
-mod refusals;
 #[cfg(test)]
 mod reloads;
 #[cfg(test)]

@@ -14,16 +14,6 @@ mod grammar;
 #[cfg(test)]
 mod kept_faults;
 #[cfg(test)]
-mod limits;
-#[cfg(test)]
 mod nodes;
 #[cfg(test)]
-mod scalars;
-#[cfg(test)]
-mod settings;
-#[cfg(test)]
-mod structure;
-#[cfg(test)]
 mod tags;
-#[cfg(test)]
-mod turns;

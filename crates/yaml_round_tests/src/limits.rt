@@ -23,7 +23,7 @@ fn is_write_error(fault: Option<yaml_fault_t>) -> bool {
 // Each limit below the text's size refuses it; at its size and above the text is whole.
 fn is_cut<R: AllocGlobal + Abort>(rt: &R, settings: yaml_settings_t) -> Result<(), Fail> {
     let (whole, form) = yaml_reformat(rt.alloc(), INPUT, ANY, &settings)?;
-    for limit in 0..whole.len() + 2 {
+    for limit in 0..whole.len().saturating_add(2) {
         let limited = yaml_settings_t {
             limit: limit as u64,
             ..settings
@@ -71,7 +71,7 @@ fn text_in_utf16(rt: HostRuntime) -> Result<(), Fail> {
 fn documents(rt: HostRuntime) -> Result<(), Fail> {
     let settings = yaml_settings_t::new();
     let whole = yaml_reload(rt.alloc(), INPUT, ANY, &settings)?;
-    for limit in 0..whole.len() + 2 {
+    for limit in 0..whole.len().saturating_add(2) {
         let limited = yaml_settings_t {
             limit: limit as u64,
             ..settings

@@ -28,7 +28,7 @@ const SIGNS: [Sign; 15] = [
 fn is_cut<R: AllocGlobal + Abort>(rt: &R, page: Page) -> Result<(), Fail> {
     let whole = text_of(rt, page, &SIGNS)?;
     assert!(rt; whole.len() > 60);
-    for limit in 0..whole.len() + 2 {
+    for limit in 0..whole.len().saturating_add(2) {
         let mut emitter = emitter_of(rt.alloc(), limit as u64, page)?;
         give_all(rt.alloc(), &mut emitter, &[Sign::StreamIn(page.stream)])?;
         give_all(rt.alloc(), &mut emitter, &SIGNS)?;

@@ -130,13 +130,15 @@ fn is_refused<R: AllocGlobal + Abort>(rt: &R, page: Page) -> Result<(), Fail> {
     for (signs, problem, number) in REFUSED {
         let mut emitter = emitter_of(rt.alloc(), 1000, page)?;
         give(rt.alloc(), &mut emitter, Sign::Stream)?;
-        for (at, sign) in signs.iter().enumerate() {
+        let mut at = 0usize;
+        for sign in signs {
             let fault = give(rt.alloc(), &mut emitter, *sign)?;
             if at < number {
                 assert!(rt; fault.is_none());
             } else {
                 assert_eq!(rt; fault.map(|fault| fault.problem), Some(problem));
             }
+            at = at.saturating_add(1);
         }
     }
     Ok(())

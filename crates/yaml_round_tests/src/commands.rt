@@ -144,20 +144,24 @@ fn asked_for(
     (got, input.into_inner().sizes)
 }
 
+// How many bytes come, the limit, the answer, and the sizes that were asked for.
+type Sizes<'a> = (usize, u64, Result<usize, yaml_run_fault_t>, &'a [usize]);
+
+const SIZES: [Sizes; 5] = [
+    (5000, 9000, Ok(5000), &[4096, 4096, 4001]),
+    (5000, 5000, Ok(5000), &[4096, 905, 1]),
+    (5000, 4999, Err(yaml_run_fault_t::TooLong), &[4096, 904]),
+    (4095, 4095, Ok(4095), &[4096, 1]),
+    (0, 0, Ok(0), &[1]),
+];
+
 // An input is asked for 4,096 bytes, and for one more than may come where that is less.
 #[test]
 fn sizes(rt: HostRuntime) -> Result<(), Fail> {
-    let rows: [(usize, u64, Result<usize, yaml_run_fault_t>, &[usize]); 5] = [
-        (5000, 9000, Ok(5000), &[4096, 4096, 4001]),
-        (5000, 5000, Ok(5000), &[4096, 905, 1]),
-        (5000, 4999, Err(yaml_run_fault_t::TooLong), &[4096, 904]),
-        (4095, 4095, Ok(4095), &[4096, 1]),
-        (0, 0, Ok(0), &[1]),
-    ];
-    for (bytes, limit, want, sizes) in rows {
-        let (got, found) = asked_for(rt.alloc(), bytes, limit);
-        assert_eq!(rt; got, want);
-        assert_eq!(rt; found.as_slice(), sizes);
+    for (bytes, limit, want, sizes) in &SIZES {
+        let (got, found) = asked_for(rt.alloc(), *bytes, *limit);
+        assert_eq!(rt; got, *want);
+        assert_eq!(rt; found.as_slice(), *sizes);
     }
     Ok(())
 }

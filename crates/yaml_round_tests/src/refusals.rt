@@ -236,24 +236,26 @@ const UTF16_OFFENCES: [Offence; 9] = [
     ),
 ];
 
+fn offence_of(row: &Offence) -> yaml_fault_t {
+    yaml_fault_t {
+        kind: yaml_error_type_t::YAML_READER_ERROR,
+        problem: row.2,
+        offset: row.3,
+        value: row.4,
+        problem_mark: ZERO,
+        context: None,
+        context_mark: ZERO,
+        origin: yaml_origin_t::Reader,
+    }
+}
+
 fn offends<R: AllocGlobal + Abort>(rt: &R, rows: &[Offence]) -> Result<(), Fail> {
-    for (input, from, problem, offset, value, line) in rows {
-        let settings = yaml_settings_t::new();
-        let fault = yaml_reformat(rt.alloc(), *input, *from, &settings)
-            .err()
-            .ok_or("accepted")?;
-        let want = yaml_fault_t {
-            kind: yaml_error_type_t::YAML_READER_ERROR,
-            problem: *problem,
-            offset: *offset,
-            value: *value,
-            problem_mark: ZERO,
-            context: None,
-            context_mark: ZERO,
-            origin: yaml_origin_t::Reader,
-        };
-        assert_eq!(rt; fault, want);
-        has_line(rt, &fault, *line)?;
+    let settings = yaml_settings_t::new();
+    for row in rows {
+        let got = yaml_reformat(rt.alloc(), row.0, row.1, &settings).err();
+        let fault = got.ok_or("accepted")?;
+        assert_eq!(rt; fault, offence_of(row));
+        has_line(rt, &fault, row.5)?;
     }
     Ok(())
 }
@@ -420,34 +422,44 @@ fn fault_of(row: Row) -> yaml_fault_t {
     }
 }
 
-// A fault of the input comes before every limit.
+// Whether the form is to be canonical, and the limit: a fault of the input comes before every limit.
+const LIMITS: [(bool, u64); 4] = [(true, 1000), (true, 0), (false, 1000), (false, 0)];
+
+fn is_refused<R: AllocGlobal + Abort>(rt: &R, row: Row) {
+    for (canonical, limit) in &LIMITS {
+        let settings = yaml_settings_t {
+            canonical: *canonical,
+            limit: *limit,
+            ..yaml_settings_t::new()
+        };
+        let got = yaml_reformat(rt.alloc(), row.0, ANY, &settings).err();
+        assert_eq!(rt; got, Some(fault_of(row)));
+    }
+}
+
 #[test]
 fn refused_texts(rt: HostRuntime) -> Result<(), Fail> {
-    for row in REFUSED {
-        for (canonical, limit) in [(true, 1000), (true, 0), (false, 1000), (false, 0)] {
-            let settings = yaml_settings_t {
-                canonical,
-                limit,
-                ..yaml_settings_t::new()
-            };
-            let got = yaml_reformat(rt.alloc(), row.0, ANY, &settings).err();
-            assert_eq!(rt; got, Some(fault_of(row)));
-        }
+    for row in &REFUSED {
+        is_refused(&rt, *row);
     }
     Ok(())
 }
 
+fn is_refused_as_documents<R: AllocGlobal + Abort>(rt: &R, row: Row) {
+    for limit in [1000, 0] {
+        let settings = yaml_settings_t {
+            limit,
+            ..yaml_settings_t::new()
+        };
+        let got = yaml_reload(rt.alloc(), row.0, ANY, &settings).err();
+        assert_eq!(rt; got, Some(fault_of(row)));
+    }
+}
+
 #[test]
 fn refused_documents(rt: HostRuntime) -> Result<(), Fail> {
-    for row in REFUSED_DOCUMENTS {
-        for limit in [1000, 0] {
-            let settings = yaml_settings_t {
-                limit,
-                ..yaml_settings_t::new()
-            };
-            let got = yaml_reload(rt.alloc(), row.0, ANY, &settings).err();
-            assert_eq!(rt; got, Some(fault_of(row)));
-        }
+    for row in &REFUSED_DOCUMENTS {
+        is_refused_as_documents(&rt, *row);
     }
     Ok(())
 }
@@ -497,20 +509,23 @@ const LINES: [(yaml_error_type_t, Option<&'static str>, &str); 9] = [
     ),
 ];
 
+fn line_fault(kind: yaml_error_type_t, context: Option<&'static str>) -> yaml_fault_t {
+    yaml_fault_t {
+        kind,
+        problem: "x",
+        offset: 4,
+        value: 5,
+        problem_mark: at(9, 1, 3),
+        context,
+        context_mark: at(2, 0, 2),
+        origin: yaml_origin_t::Reader,
+    }
+}
+
 #[test]
 fn lines(rt: HostRuntime) -> Result<(), Fail> {
-    for (kind, context, want) in LINES {
-        let fault = yaml_fault_t {
-            kind,
-            problem: "x",
-            offset: 4,
-            value: 5,
-            problem_mark: at(9, 1, 3),
-            context,
-            context_mark: at(2, 0, 2),
-            origin: yaml_origin_t::Reader,
-        };
-        has_line(&rt, &fault, want)?;
+    for (kind, context, want) in &LINES {
+        has_line(&rt, &line_fault(*kind, *context), *want)?;
     }
     Ok(())
 }

@@ -331,3 +331,25 @@ pub(crate) fn text_of<R: AllocGlobal + Abort>(
     assert!(rt; yaml_emitter_fault(&emitter).is_none());
     Ok(yaml_emitter_into_output(emitter))
 }
+
+/// The text of these documents is that.
+pub(crate) fn writes<R: AllocGlobal + Abort>(
+    rt: &R,
+    page: Page,
+    signs: &[Sign],
+    want: &[u8],
+) -> Result<(), Fail> {
+    let text = text_of(rt, page, signs)?;
+    assert_eq!(rt; text.as_slice(), want);
+    Ok(())
+}
+
+/// The text of a document with that node alone.
+pub(crate) fn writes_root<R: AllocGlobal + Abort>(
+    rt: &R,
+    page: Page,
+    node: Sign,
+    want: &[u8],
+) -> Result<(), Fail> {
+    writes(rt, page, &[Sign::Document, node, Sign::EndDocument], want)
+}

@@ -25,22 +25,31 @@ const SIGNS: [Sign; 15] = [
     Sign::EndDocument,
 ];
 
+// An output of that limit has the front of the text that fits, and a fault where that isn't all.
+fn has_front<R: AllocGlobal + Abort>(
+    rt: &R,
+    page: Page,
+    whole: &[u8],
+    limit: usize,
+) -> Result<(), Fail> {
+    let mut emitter = emitter_of(rt.alloc(), limit as u64, page)?;
+    give_all(rt.alloc(), &mut emitter, &[Sign::StreamIn(page.stream)])?;
+    give_all(rt.alloc(), &mut emitter, &SIGNS)?;
+    give_all(rt.alloc(), &mut emitter, &[Sign::EndStream])?;
+    let kind = yaml_emitter_fault(&emitter).map(|fault| fault.kind);
+    let front = whole.get(..limit.min(whole.len())).ok_or("too long")?;
+    let fails = limit < whole.len();
+    let want = fails.then_some(yaml_error_type_t::YAML_WRITER_ERROR);
+    assert_eq!(rt; kind, want);
+    assert_eq!(rt; yaml_emitter_into_output(emitter).as_slice(), front);
+    Ok(())
+}
+
 fn is_cut<R: AllocGlobal + Abort>(rt: &R, page: Page) -> Result<(), Fail> {
     let whole = text_of(rt, page, &SIGNS)?;
     assert!(rt; whole.len() > 60);
     for limit in 0..whole.len().saturating_add(2) {
-        let mut emitter = emitter_of(rt.alloc(), limit as u64, page)?;
-        give_all(rt.alloc(), &mut emitter, &[Sign::StreamIn(page.stream)])?;
-        give_all(rt.alloc(), &mut emitter, &SIGNS)?;
-        give_all(rt.alloc(), &mut emitter, &[Sign::EndStream])?;
-        let kind = yaml_emitter_fault(&emitter).map(|fault| fault.kind);
-        let front = whole.get(..limit.min(whole.len())).ok_or("too long")?;
-        if limit < whole.len() {
-            assert_eq!(rt; kind, Some(yaml_error_type_t::YAML_WRITER_ERROR));
-        } else {
-            assert!(rt; kind.is_none());
-        }
-        assert_eq!(rt; yaml_emitter_into_output(emitter).as_slice(), front);
+        has_front(rt, page, &whole, limit)?;
     }
     Ok(())
 }

@@ -1,12 +1,35 @@
 //! Worked scalars in every style: as a root, in a flow sequence, and as a key.
 
-use crate::events::{PRETTY, Page, Sign, text_of};
+use crate::events::{PRETTY, Page, Sign, writes, writes_root};
 use std::process::Abort;
 use std::test::Fail;
 use yaml_scan::yaml_scalar_style_t;
 
 // A value, and its text as a root, in a flow sequence and as a key.
 type Row<'a> = (&'a [u8], &'a [u8], &'a [u8], &'a [u8]);
+
+fn is_item<R: AllocGlobal + Abort>(rt: &R, node: Sign, want: &[u8]) -> Result<(), Fail> {
+    let signs = [
+        Sign::Document,
+        Sign::FlowItems,
+        node,
+        Sign::EndSequence,
+        Sign::EndDocument,
+    ];
+    writes(rt, PRETTY, &signs, want)
+}
+
+fn is_key<R: AllocGlobal + Abort>(rt: &R, node: Sign, want: &[u8]) -> Result<(), Fail> {
+    let signs = [
+        Sign::Document,
+        Sign::Mapping,
+        node,
+        Sign::Scalar(b"v"),
+        Sign::EndMapping,
+        Sign::EndDocument,
+    ];
+    writes(rt, PRETTY, &signs, want)
+}
 
 fn are_written<R: AllocGlobal + Abort>(
     rt: &R,
@@ -15,25 +38,9 @@ fn are_written<R: AllocGlobal + Abort>(
 ) -> Result<(), Fail> {
     for (value, root, item, key) in rows {
         let scalar = Sign::Styled(style, *value);
-        let signs = [Sign::Document, scalar, Sign::EndDocument];
-        assert_eq!(rt; text_of(rt, PRETTY, &signs)?.as_slice(), *root);
-        let signs = [
-            Sign::Document,
-            Sign::FlowItems,
-            scalar,
-            Sign::EndSequence,
-            Sign::EndDocument,
-        ];
-        assert_eq!(rt; text_of(rt, PRETTY, &signs)?.as_slice(), *item);
-        let signs = [
-            Sign::Document,
-            Sign::Mapping,
-            scalar,
-            Sign::Scalar(b"v"),
-            Sign::EndMapping,
-            Sign::EndDocument,
-        ];
-        assert_eq!(rt; text_of(rt, PRETTY, &signs)?.as_slice(), *key);
+        writes_root(rt, PRETTY, scalar, *root)?;
+        is_item(rt, scalar, *item)?;
+        is_key(rt, scalar, *key)?;
     }
     Ok(())
 }
@@ -231,13 +238,8 @@ const ESCAPES: [(&[u8], &[u8]); 20] = [
 #[test]
 fn escapes(rt: HostRuntime) -> Result<(), Fail> {
     let style = yaml_scalar_style_t::YAML_DOUBLE_QUOTED_SCALAR_STYLE;
-    for (value, want) in ESCAPES {
-        let signs = [
-            Sign::Document,
-            Sign::Styled(style, value),
-            Sign::EndDocument,
-        ];
-        assert_eq!(rt; text_of(&rt, PRETTY, &signs)?.as_slice(), want);
+    for (value, want) in &ESCAPES {
+        writes_root(&rt, PRETTY, Sign::Styled(style, *value), *want)?;
     }
     Ok(())
 }
@@ -256,19 +258,13 @@ const UNICODE: [(&[u8], &[u8], &[u8]); 4] = [
 
 #[test]
 fn characters_beyond_ascii(rt: HostRuntime) -> Result<(), Fail> {
-    let style = yaml_scalar_style_t::YAML_PLAIN_SCALAR_STYLE;
-    for (value, raw, escaped) in UNICODE {
-        let signs = [
-            Sign::Document,
-            Sign::Styled(style, value),
-            Sign::EndDocument,
-        ];
-        let page = Page {
-            unicode: true,
-            ..PRETTY
-        };
-        assert_eq!(rt; text_of(&rt, page, &signs)?.as_slice(), raw);
-        assert_eq!(rt; text_of(&rt, PRETTY, &signs)?.as_slice(), escaped);
+    let page = Page {
+        unicode: true,
+        ..PRETTY
+    };
+    for (value, raw, escaped) in &UNICODE {
+        writes_root(&rt, page, Sign::Scalar(*value), *raw)?;
+        writes_root(&rt, PRETTY, Sign::Scalar(*value), *escaped)?;
     }
     Ok(())
 }

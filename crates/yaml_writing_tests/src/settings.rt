@@ -1,6 +1,7 @@
 //! Worked texts under each setting.
 
-use crate::events::{PRETTY, Page, Sign, text_of};
+use crate::events::{PRETTY, Page, Sign, writes, writes_root};
+use std::process::Abort;
 use std::test::Fail;
 use yaml_scan::{yaml_break_t, yaml_encoding_t, yaml_scalar_style_t};
 
@@ -115,42 +116,40 @@ fn folds(rt: HostRuntime) -> Result<(), Fail> {
         width: 10,
         ..PRETTY
     };
-    for (style, value, want) in FOLDS {
-        let signs = [
-            Sign::Document,
-            Sign::Styled(style, value),
-            Sign::EndDocument,
-        ];
-        assert_eq!(rt; text_of(&rt, page, &signs)?.as_slice(), want);
+    for (style, value, want) in &FOLDS {
+        writes_root(&rt, page, Sign::Styled(*style, *value), *want)?;
     }
     Ok(())
+}
+
+// The text of a mapping with that key and value, where lines are folded behind column 10.
+fn writes_pair<'a, R: AllocGlobal + Abort>(
+    rt: &R,
+    key: &'a [u8],
+    value: &'a [u8],
+    want: &[u8],
+) -> Result<(), Fail> {
+    let page = Page {
+        width: 10,
+        ..PRETTY
+    };
+    let signs = [
+        Sign::Document,
+        Sign::Mapping,
+        Sign::Scalar(key),
+        Sign::Scalar(value),
+        Sign::EndMapping,
+        Sign::EndDocument,
+    ];
+    writes(rt, page, &signs, want)
 }
 
 // A key stays on its line, a value folds.
 #[test]
 fn keys_and_values(rt: HostRuntime) -> Result<(), Fail> {
-    let page = Page {
-        width: 10,
-        ..PRETTY
-    };
-    let long = Sign::Scalar(b"aaaa bbbb cccc dddd");
-    let short = Sign::Scalar(b"k");
-    let rows: [(Sign, Sign, &[u8]); 2] = [
-        (long, short, b"aaaa bbbb cccc dddd: k\n"),
-        (short, long, b"k: aaaa bbbb\n  cccc dddd\n"),
-    ];
-    for (key, value, want) in rows {
-        let signs = [
-            Sign::Document,
-            Sign::Mapping,
-            key,
-            value,
-            Sign::EndMapping,
-            Sign::EndDocument,
-        ];
-        assert_eq!(rt; text_of(&rt, page, &signs)?.as_slice(), want);
-    }
-    Ok(())
+    let long = b"aaaa bbbb cccc dddd";
+    writes_pair(&rt, long, b"k", b"aaaa bbbb cccc dddd: k\n")?;
+    writes_pair(&rt, b"k", long, b"k: aaaa bbbb\n  cccc dddd\n")
 }
 
 // An indent, a width, and the text of `aaaa bbbb cccc dddd`: up to twice the indent the width is 80, a negative one is
@@ -168,18 +167,14 @@ const WIDTHS: [(i32, i32, &[u8]); 8] = [
 
 #[test]
 fn widths(rt: HostRuntime) -> Result<(), Fail> {
-    let signs = [
-        Sign::Document,
-        Sign::Scalar(b"aaaa bbbb cccc dddd"),
-        Sign::EndDocument,
-    ];
-    for (indent, width, want) in WIDTHS {
+    let node = Sign::Scalar(b"aaaa bbbb cccc dddd");
+    for (indent, width, want) in &WIDTHS {
         let page = Page {
-            indent,
-            width,
+            indent: *indent,
+            width: *width,
             ..PRETTY
         };
-        assert_eq!(rt; text_of(&rt, page, &signs)?.as_slice(), want);
+        writes_root(&rt, page, node, *want)?;
     }
     Ok(())
 }
@@ -241,14 +236,17 @@ const INDENTS: [(i32, &[u8], &[u8]); 7] = [
 
 #[test]
 fn indents(rt: HostRuntime) -> Result<(), Fail> {
-    for (indent, pretty, canonical) in INDENTS {
-        let page = Page { indent, ..PRETTY };
-        assert_eq!(rt; text_of(&rt, page, &NEST)?.as_slice(), pretty);
+    for (indent, pretty, canonical) in &INDENTS {
+        let page = Page {
+            indent: *indent,
+            ..PRETTY
+        };
+        writes(&rt, page, &NEST, *pretty)?;
         let page = Page {
             canonical: true,
             ..page
         };
-        assert_eq!(rt; text_of(&rt, page, &NEST)?.as_slice(), canonical);
+        writes(&rt, page, &NEST, *canonical)?;
     }
     Ok(())
 }
@@ -273,27 +271,29 @@ const BREAKS: [(yaml_break_t, &[u8]); 4] = [
     ),
 ];
 
+// A mapping with a literal and with quotes, each with a break.
+const BROKEN: [Sign; 8] = [
+    Sign::Document,
+    Sign::Mapping,
+    Sign::Scalar(b"a"),
+    Sign::Styled(yaml_scalar_style_t::YAML_LITERAL_SCALAR_STYLE, b"b\nc\n"),
+    Sign::Scalar(b"d"),
+    Sign::Styled(
+        yaml_scalar_style_t::YAML_SINGLE_QUOTED_SCALAR_STYLE,
+        b"e\nf",
+    ),
+    Sign::EndMapping,
+    Sign::EndDocument,
+];
+
 #[test]
 fn breaks(rt: HostRuntime) -> Result<(), Fail> {
-    let signs = [
-        Sign::Document,
-        Sign::Mapping,
-        Sign::Scalar(b"a"),
-        Sign::Styled(yaml_scalar_style_t::YAML_LITERAL_SCALAR_STYLE, b"b\nc\n"),
-        Sign::Scalar(b"d"),
-        Sign::Styled(
-            yaml_scalar_style_t::YAML_SINGLE_QUOTED_SCALAR_STYLE,
-            b"e\nf",
-        ),
-        Sign::EndMapping,
-        Sign::EndDocument,
-    ];
-    for (line_break, want) in BREAKS {
+    for (line_break, want) in &BREAKS {
         let page = Page {
-            line_break,
+            line_break: *line_break,
             ..PRETTY
         };
-        assert_eq!(rt; text_of(&rt, page, &signs)?.as_slice(), want);
+        writes(&rt, page, &BROKEN, *want)?;
     }
     Ok(())
 }
@@ -340,19 +340,15 @@ const ENCODINGS: [(yaml_encoding_t, yaml_encoding_t, &[u8]); 7] = [
 #[test]
 fn encodings(rt: HostRuntime) -> Result<(), Fail> {
     let style = yaml_scalar_style_t::YAML_DOUBLE_QUOTED_SCALAR_STYLE;
-    for (encoding, stream, want) in ENCODINGS {
+    let node = Sign::Styled(style, b"\xF0\x9F\x98\x80\xE2\x98\xBA");
+    for (encoding, stream, want) in &ENCODINGS {
         let page = Page {
-            encoding,
-            stream,
+            encoding: *encoding,
+            stream: *stream,
             unicode: true,
             ..PRETTY
         };
-        let signs = [
-            Sign::Document,
-            Sign::Styled(style, b"\xF0\x9F\x98\x80\xE2\x98\xBA"),
-            Sign::EndDocument,
-        ];
-        assert_eq!(rt; text_of(&rt, page, &signs)?.as_slice(), want);
+        writes_root(&rt, page, node, *want)?;
     }
     Ok(())
 }

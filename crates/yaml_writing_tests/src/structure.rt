@@ -1,6 +1,6 @@
 //! Worked documents and collections, in canonical and in pretty form.
 
-use crate::events::{CANONICAL, PRETTY, Page, Sign, text_of};
+use crate::events::{CANONICAL, PRETTY, Page, Sign, text_of, writes, writes_root};
 use std::alloc::Global;
 use std::process::Abort;
 use std::test::Fail;
@@ -349,8 +349,8 @@ const COLLECTIONS: [Row; 15] = [
 
 fn are_written<R: AllocGlobal + Abort>(rt: &R, rows: &[Row]) -> Result<(), Fail> {
     for (signs, canonical, pretty) in rows {
-        assert_eq!(rt; text_of(rt, CANONICAL, *signs)?.as_slice(), *canonical);
-        assert_eq!(rt; text_of(rt, PRETTY, *signs)?.as_slice(), *pretty);
+        writes(rt, CANONICAL, *signs, *canonical)?;
+        writes(rt, PRETTY, *signs, *pretty)?;
     }
     Ok(())
 }
@@ -387,9 +387,8 @@ const TAGS: [(&[u8], &[u8]); 16] = [
 
 #[test]
 fn spelled_tags(rt: HostRuntime) -> Result<(), Fail> {
-    for (tag, want) in TAGS {
-        let signs = [Sign::Document, Sign::Tagged(tag), Sign::EndDocument];
-        assert_eq!(rt; text_of(&rt, PRETTY, &signs)?.as_slice(), want);
+    for (tag, want) in &TAGS {
+        writes_root(&rt, PRETTY, Sign::Tagged(*tag), *want)?;
     }
     Ok(())
 }
@@ -461,14 +460,42 @@ const FLAGS: [(yaml_scalar_style_t, Option<&[u8]>, bool, bool, &[u8], &[u8]); 14
 // A flag leaves a tag out in pretty form; an untagged scalar that isn't quoted-implicit has `!` in quotes.
 #[test]
 fn flags(rt: HostRuntime) -> Result<(), Fail> {
-    for (style, tag, plain, quoted, canonical, pretty) in FLAGS {
-        let scalar = Sign::Flagged(style, tag, plain, quoted);
-        let signs = [Sign::Document, scalar, Sign::EndDocument];
-        assert_eq!(rt; text_of(&rt, CANONICAL, &signs)?.as_slice(), canonical);
-        assert_eq!(rt; text_of(&rt, PRETTY, &signs)?.as_slice(), pretty);
+    for (style, tag, plain, quoted, canonical, pretty) in &FLAGS {
+        let scalar = Sign::Flagged(*style, *tag, *plain, *quoted);
+        writes_root(&rt, CANONICAL, scalar, *canonical)?;
+        writes_root(&rt, PRETTY, scalar, *pretty)?;
     }
     Ok(())
 }
+
+// Flow collections that are wider than 10 columns.
+const WIDE: [(&[Sign], &[u8]); 2] = [
+    (
+        &[
+            Sign::Document,
+            Sign::FlowItems,
+            Sign::Scalar(b"aaaa"),
+            Sign::Scalar(b"bbbb"),
+            Sign::Scalar(b"cccc"),
+            Sign::EndSequence,
+            Sign::EndDocument,
+        ],
+        b"[aaaa, bbbb,\n  cccc]\n",
+    ),
+    (
+        &[
+            Sign::Document,
+            Sign::FlowPairs,
+            Sign::Scalar(b"aaaa"),
+            Sign::Scalar(b"bbbb"),
+            Sign::Scalar(b"cccc"),
+            Sign::Scalar(b"dddd"),
+            Sign::EndMapping,
+            Sign::EndDocument,
+        ],
+        b"{aaaa: bbbb,\n  cccc: dddd}\n",
+    ),
+];
 
 // A flow collection goes on in the next line where the column is greater than the width.
 #[test]
@@ -477,35 +504,8 @@ fn cut_lines(rt: HostRuntime) -> Result<(), Fail> {
         width: 10,
         ..PRETTY
     };
-    let rows: [(&[Sign], &[u8]); 2] = [
-        (
-            &[
-                Sign::Document,
-                Sign::FlowItems,
-                Sign::Scalar(b"aaaa"),
-                Sign::Scalar(b"bbbb"),
-                Sign::Scalar(b"cccc"),
-                Sign::EndSequence,
-                Sign::EndDocument,
-            ],
-            b"[aaaa, bbbb,\n  cccc]\n",
-        ),
-        (
-            &[
-                Sign::Document,
-                Sign::FlowPairs,
-                Sign::Scalar(b"aaaa"),
-                Sign::Scalar(b"bbbb"),
-                Sign::Scalar(b"cccc"),
-                Sign::Scalar(b"dddd"),
-                Sign::EndMapping,
-                Sign::EndDocument,
-            ],
-            b"{aaaa: bbbb,\n  cccc: dddd}\n",
-        ),
-    ];
-    for (signs, want) in rows {
-        assert_eq!(rt; text_of(&rt, page, signs)?.as_slice(), want);
+    for (signs, want) in &WIDE {
+        writes(&rt, page, *signs, *want)?;
     }
     Ok(())
 }
@@ -531,31 +531,71 @@ const KEYS: [(usize, usize, usize, bool); 8] = [
     (40, 41, 47, false),
 ];
 
+// The pretty text of a mapping with that key, of which an empty name and a tag `!` count as none.
+fn text_of_key<'a, R: AllocGlobal + Abort>(
+    rt: &R,
+    anchor: &'a [u8],
+    tag: &'a [u8],
+    value: &'a [u8],
+) -> Result<Vec<u8>, Fail> {
+    let anchor = Some(anchor).filter(|name| name.len() > 0);
+    let tag = Some(tag).filter(|name| name.len() > 1);
+    let signs = [
+        Sign::Document,
+        Sign::Mapping,
+        Sign::Named(anchor, tag, value),
+        Sign::Scalar(b"v"),
+        Sign::EndMapping,
+        Sign::EndDocument,
+    ];
+    text_of(rt, PRETTY, &signs)
+}
+
 #[test]
 fn simple_keys(rt: HostRuntime) -> Result<(), Fail> {
-    for (anchor, tag, value, is_simple) in KEYS {
-        let anchor = letters(rt.alloc(), b"", anchor)?;
-        let tag = letters(rt.alloc(), b"!", tag)?;
-        let value = letters(rt.alloc(), b"", value)?;
-        let key = Sign::Named(
-            Some(anchor.as_slice()).filter(|name| name.len() > 0),
-            Some(tag.as_slice()).filter(|name| name.len() > 1),
-            &value,
-        );
-        let signs = [
-            Sign::Document,
-            Sign::Mapping,
-            key,
-            Sign::Scalar(b"v"),
-            Sign::EndMapping,
-            Sign::EndDocument,
-        ];
-        let text = text_of(&rt, PRETTY, &signs)?;
-        assert_eq!(rt; text.ends_with(b"a: v\n"), is_simple);
-        assert_eq!(rt; text.starts_with(b"? "), !is_simple);
-        assert_eq!(rt; text.ends_with(b"a\n: v\n"), !is_simple);
+    for (anchor, tag, value, is_simple) in &KEYS {
+        let anchor = letters(rt.alloc(), b"", *anchor)?;
+        let tag = letters(rt.alloc(), b"!", *tag)?;
+        let value = letters(rt.alloc(), b"", *value)?;
+        let text = text_of_key(&rt, &anchor, &tag, &value)?;
+        assert_eq!(rt; text.ends_with(b"a: v\n"), *is_simple);
+        assert_eq!(rt; text.starts_with(b"? "), !*is_simple);
+        assert_eq!(rt; text.ends_with(b"a\n: v\n"), !*is_simple);
     }
     Ok(())
+}
+
+// Whether an alias as a key is on its value's line.
+fn is_simple_alias<R: AllocGlobal + Abort>(rt: &R, name: &[u8]) -> Result<bool, Fail> {
+    let signs = [
+        Sign::Document,
+        Sign::Mapping,
+        Sign::Alias(name),
+        Sign::Scalar(b"v"),
+        Sign::EndMapping,
+        Sign::EndDocument,
+    ];
+    let text = text_of(rt, PRETTY, &signs)?;
+    let is_simple = text.ends_with(b"a : v\n");
+    assert_eq!(rt; text.starts_with(b"? "), !is_simple);
+    Ok(is_simple)
+}
+
+// Whether an empty sequence with that anchor as a key is on its value's line.
+fn is_simple_empty<R: AllocGlobal + Abort>(rt: &R, name: &[u8]) -> Result<bool, Fail> {
+    let signs = [
+        Sign::Document,
+        Sign::Mapping,
+        Sign::AnchoredSequence(name),
+        Sign::EndSequence,
+        Sign::Scalar(b"v"),
+        Sign::EndMapping,
+        Sign::EndDocument,
+    ];
+    let text = text_of(rt, PRETTY, &signs)?;
+    let is_simple = text.ends_with(b"a []: v\n");
+    assert_eq!(rt; text.starts_with(b"? "), !is_simple);
+    Ok(is_simple)
 }
 
 // An alias and an empty collection may be simple keys too.
@@ -563,29 +603,8 @@ fn simple_keys(rt: HostRuntime) -> Result<(), Fail> {
 fn simple_aliases(rt: HostRuntime) -> Result<(), Fail> {
     for (count, is_simple) in [(128, true), (129, false)] {
         let name = letters(rt.alloc(), b"", count)?;
-        let alias = [
-            Sign::Document,
-            Sign::Mapping,
-            Sign::Alias(&name),
-            Sign::Scalar(b"v"),
-            Sign::EndMapping,
-            Sign::EndDocument,
-        ];
-        let text = text_of(&rt, PRETTY, &alias)?;
-        assert_eq!(rt; text.ends_with(b"a : v\n"), is_simple);
-        assert_eq!(rt; text.starts_with(b"? "), !is_simple);
-        let empty = [
-            Sign::Document,
-            Sign::Mapping,
-            Sign::AnchoredSequence(&name),
-            Sign::EndSequence,
-            Sign::Scalar(b"v"),
-            Sign::EndMapping,
-            Sign::EndDocument,
-        ];
-        let text = text_of(&rt, PRETTY, &empty)?;
-        assert_eq!(rt; text.ends_with(b"a []: v\n"), is_simple);
-        assert_eq!(rt; text.starts_with(b"? "), !is_simple);
+        assert_eq!(rt; is_simple_alias(&rt, &name)?, is_simple);
+        assert_eq!(rt; is_simple_empty(&rt, &name)?, is_simple);
     }
     Ok(())
 }

@@ -3,7 +3,7 @@
 use crate::events::{CANONICAL, PRETTY, Page, Sign, emitter_of, give, text_of};
 use std::process::Abort;
 use std::test::Fail;
-use yaml_emit::{yaml_emitter_flush, yaml_emitter_fresh, yaml_emitter_output};
+use yaml_emit::{yaml_emitter_flush, yaml_emitter_fresh, yaml_emitter_output, yaml_emitter_t};
 
 // An event, and the text that a flush behind it shows at least.
 type Turn<'a> = (Sign<'a>, &'a [u8]);
@@ -31,22 +31,33 @@ const ITEMS: [Turn; 8] = [
     (Sign::EndDocument, b"--- &x\n- a\n- *y\n- []\n"),
 ];
 
-fn shows<R: AllocGlobal + Abort>(rt: &R, page: Page, turns: &[Turn]) -> Result<(), Fail> {
+// Gives the event, which isn't refused, and asks what a flush shows.
+fn turns<R: AllocGlobal + Abort>(
+    rt: &R,
+    emitter: &mut yaml_emitter_t,
+    whole: &[u8],
+    turn: Turn,
+) -> Result<(), Fail> {
+    assert!(rt; give(rt.alloc(), emitter, turn.0)?.is_none());
+    if !yaml_emitter_fresh(emitter) {
+        yaml_emitter_flush(emitter)?;
+    }
+    let shown = yaml_emitter_output(emitter);
+    assert!(rt; shown.starts_with(turn.1));
+    assert!(rt; whole.starts_with(shown));
+    Ok(())
+}
+
+fn shows<R: AllocGlobal + Abort>(rt: &R, page: Page, rows: &[Turn]) -> Result<(), Fail> {
     let mut signs = Vec::new(rt.alloc());
-    for (sign, _) in turns {
+    for (sign, _) in rows {
         signs.push(*sign)?;
     }
     let whole = text_of(rt, page, &signs)?;
     let mut emitter = emitter_of(rt.alloc(), 1000, page)?;
     give(rt.alloc(), &mut emitter, Sign::Stream)?;
-    for (sign, least) in turns {
-        assert!(rt; give(rt.alloc(), &mut emitter, *sign)?.is_none());
-        if !yaml_emitter_fresh(&emitter) {
-            yaml_emitter_flush(&mut emitter)?;
-        }
-        let shown = yaml_emitter_output(&emitter);
-        assert!(rt; shown.starts_with(*least));
-        assert!(rt; whole.starts_with(shown));
+    for row in rows {
+        turns(rt, &mut emitter, &whole, *row)?;
     }
     Ok(())
 }
@@ -58,7 +69,9 @@ fn let_out(rt: HostRuntime) -> Result<(), Fail> {
 }
 
 // Events behind a stream's start, what is wrong with one of them, and the number of the call that answers it, from 0.
-const REFUSED: [(&[Sign], &str, usize); 9] = [
+type Refusal<'a> = (&'a [Sign<'a>], &'static str, usize);
+
+const REFUSED: [Refusal; 9] = [
     (
         &[Sign::Twice(b"!e!"), Sign::Scalar(b"a")],
         "duplicate %TAG directive",
@@ -126,26 +139,28 @@ const REFUSED: [(&[Sign], &str, usize); 9] = [
     ),
 ];
 
-fn is_refused<R: AllocGlobal + Abort>(rt: &R, page: Page) -> Result<(), Fail> {
-    for (signs, problem, number) in REFUSED {
-        let mut emitter = emitter_of(rt.alloc(), 1000, page)?;
-        give(rt.alloc(), &mut emitter, Sign::Stream)?;
-        let mut at = 0usize;
-        for sign in signs {
-            let fault = give(rt.alloc(), &mut emitter, *sign)?;
-            if at < number {
-                assert!(rt; fault.is_none());
-            } else {
-                assert_eq!(rt; fault.map(|fault| fault.problem), Some(problem));
-            }
-            at = at.saturating_add(1);
-        }
+fn is_refused<R: AllocGlobal + Abort>(rt: &R, page: Page, row: Refusal) -> Result<(), Fail> {
+    let mut emitter = emitter_of(rt.alloc(), 1000, page)?;
+    give(rt.alloc(), &mut emitter, Sign::Stream)?;
+    let mut at = 0usize;
+    for sign in row.0 {
+        let problem = give(rt.alloc(), &mut emitter, *sign)?.map(|fault| fault.problem);
+        let want = if at < row.2 { None } else { Some(row.1) };
+        assert_eq!(rt; problem, want);
+        at = at.saturating_add(1);
+    }
+    Ok(())
+}
+
+fn are_refused<R: AllocGlobal + Abort>(rt: &R, page: Page) -> Result<(), Fail> {
+    for row in &REFUSED {
+        is_refused(rt, page, *row)?;
     }
     Ok(())
 }
 
 #[test]
 fn refused_events(rt: HostRuntime) -> Result<(), Fail> {
-    is_refused(&rt, CANONICAL)?;
-    is_refused(&rt, PRETTY)
+    are_refused(&rt, CANONICAL)?;
+    are_refused(&rt, PRETTY)
 }

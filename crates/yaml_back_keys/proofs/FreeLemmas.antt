@@ -3,16 +3,16 @@ use Rattle.std.proofs.Common.{◌≡◌, ℕ, suc, ◌+◌, ◌-◌, ◌<◌, �
 use Rattle.std.proofs.lemmas.Bool.{cases_Bool}
 use Rattle.std.proofs.lemmas.Bool.Decides.{nat_tests}
 use Rattle.std.proofs.lemmas.List.{reverse-append}
-use Rattle.yaml_scan_text.specs.Tokens.{Token}
-use Rattle.yaml_scan_layout.specs.declared.kind.Kind.{Kind}
-use Rattle.yaml_scan_layout.specs.declared.kind.Kind.TheVariants as kinds
-use Rattle.yaml_scan_layout.specs.declared.lexeme.Lexeme.{Lexeme}
-use Rattle.yaml_scan_layout.specs.declared.lexeme.Entry.{Entry}
-use Rattle.yaml_scan_layout.specs.declared.lexeme.Opens.{Opens}
-use Rattle.yaml_scan_layout.specs.declared.lexeme.Opens.TheVariants as opening
-use Rattle.yaml_scan_layout.specs.Kinds.{depth_after, may_be_key, cancels, is_value, is_start, allows_key}
-use Rattle.yaml_scan_layout.specs.History.{depth, Candidate, candidate, fresh, found_by, has, key_allowed, levels, left_by, opened, opens_at, inside, entry_of, start_of, level_of, marked, entries}
-use Rattle.yaml_scan_layout.specs.Coming.{Stream, token_in, spell}
+use Rattle.yaml_scan_forward.specs.scan_text.Tokens.{Token}
+use Rattle.yaml_scan_forward.specs.scan_layout.declared.kind.Kind.{Kind}
+use Rattle.yaml_scan_forward.specs.scan_layout.declared.kind.Kind.TheVariants as kinds
+use Rattle.yaml_scan_forward.specs.scan_layout.declared.lexeme.Lexeme.{Lexeme}
+use Rattle.yaml_scan_forward.specs.scan_layout.declared.lexeme.Entry.{Entry}
+use Rattle.yaml_scan_forward.specs.scan_layout.declared.lexeme.Opens.{Opens}
+use Rattle.yaml_scan_forward.specs.scan_layout.declared.lexeme.Opens.TheVariants as opening
+use Rattle.yaml_scan_forward.specs.scan_layout.Kinds.{depth_after, may_be_key, cancels, is_value, is_start, allows_key}
+use Rattle.yaml_scan_forward.specs.scan_layout.History.{depth, Candidate, candidate, fresh, found_by, has, key_allowed, levels, left_by, opened, opens_at, inside, entry_of, start_of, level_of, marked, entries}
+use Rattle.yaml_scan_forward.specs.scan_layout.Coming.{Stream, token_in, spell}
 use Rattle.yaml_back_keys.specs.KeyFree.{innermost, around, marked_so, is_inside, asked_after, asked, fits, is_key_free, kinds_of}
 use Rattle.yaml_back_keys.proofs.MadeLemmas.{is_plain, MadeBehind, AllMade}
 

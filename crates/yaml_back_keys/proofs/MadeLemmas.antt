@@ -2,22 +2,22 @@
 use Rattle.std.proofs.Common.{◌≡◌, ℕ, zero, suc, ◌+◌, ◌==◌, ◌&&◌, ◌||◌, not, nat_lt, Bool, true, false, List, [], ◌∷◌, Option, Some, None, Result, Ok, Err, refl, inl, inr, arith}
 use Rattle.std.proofs.lemmas.Bool.{cases_Bool}
 use Rattle.std.proofs.lemmas.Bool.Decides.{nat_tests}
-use Rattle.yaml_scan_text.specs.declared.record.yaml_mark_t.{yaml_mark_t}
-use Rattle.yaml_scan_text.specs.declared.name.yaml_scalar_style_t.{yaml_scalar_style_t}
-use Rattle.yaml_scan_text.specs.Tokens.{TokenBody}
-use Rattle.yaml_scan_text.specs.Marks.{mark_at}
-use Rattle.yaml_scan_text.specs.Wrong.{Wrong}
-use Rattle.yaml_scan_words.specs.Between.{Gap, gap_at}
-use Rattle.yaml_scan_words.specs.Tags.{TagText, tag_at}
-use Rattle.yaml_scan_words.specs.Directives.{DirectiveText, directive_at}
-use Rattle.yaml_scan_block.specs.Block.{BlockText, block_at, style_at}
-use Rattle.yaml_scan_layout.specs.declared.kind.Kind.{Kind}
-use Rattle.yaml_scan_layout.specs.declared.kind.Kind.TheVariants as kinds
-use Rattle.yaml_scan_layout.specs.declared.lexeme.Lexeme.{Lexeme}
-use Rattle.yaml_scan_layout.specs.Kinds.{may_be_key, is_end}
-use Rattle.yaml_scan_layout.specs.History.{placed, depth, key_allowed, candidate, fresh, indent, left_by, levels}
-use Rattle.yaml_scan_layout.specs.Words.{WordText, valued, tagged, directed, blocked, kind_at, word_at}
-use Rattle.yaml_scan_layout.specs.Next.{Next, Read, Fails, Ends, no_colon, level_in, begun, finished, allowed_behind, misplaced, missed, lost_by, tested, unless_wrong, unless_lost, of_kind, unless_missed, next, extended, history}
+use Rattle.yaml_scan_forward.specs.scan_text.declared.record.yaml_mark_t.{yaml_mark_t}
+use Rattle.yaml_scan_forward.specs.scan_text.declared.name.yaml_scalar_style_t.{yaml_scalar_style_t}
+use Rattle.yaml_scan_forward.specs.scan_text.Tokens.{TokenBody}
+use Rattle.yaml_scan_forward.specs.scan_text.Marks.{mark_at}
+use Rattle.yaml_scan_forward.specs.scan_text.Wrong.{Wrong}
+use Rattle.yaml_scan_forward.specs.scan_words.Between.{Gap, gap_at}
+use Rattle.yaml_scan_forward.specs.scan_words.Tags.{TagText, tag_at}
+use Rattle.yaml_scan_forward.specs.scan_words.Directives.{DirectiveText, directive_at}
+use Rattle.yaml_scan_forward.specs.scan_block.Block.{BlockText, block_at, style_at}
+use Rattle.yaml_scan_forward.specs.scan_layout.declared.kind.Kind.{Kind}
+use Rattle.yaml_scan_forward.specs.scan_layout.declared.kind.Kind.TheVariants as kinds
+use Rattle.yaml_scan_forward.specs.scan_layout.declared.lexeme.Lexeme.{Lexeme}
+use Rattle.yaml_scan_forward.specs.scan_layout.Kinds.{may_be_key, is_end}
+use Rattle.yaml_scan_forward.specs.scan_layout.History.{placed, depth, key_allowed, candidate, fresh, indent, left_by, levels}
+use Rattle.yaml_scan_forward.specs.scan_layout.Words.{WordText, valued, tagged, directed, blocked, kind_at, word_at}
+use Rattle.yaml_scan_forward.specs.scan_layout.Next.{Next, Read, Fails, Ends, no_colon, level_in, begun, finished, allowed_behind, misplaced, missed, lost_by, tested, unless_wrong, unless_lost, of_kind, unless_missed, next, extended, history}
 
 abbrev pub is_plain : Kind → Bool
 is_plain kinds.Plain = true

@@ -2,20 +2,20 @@
 use Rattle.std.proofs.Common.{◌≡◌, ℕ, zero, suc, ◌+◌, ◌==◌, ◌&&◌, ◌||◌, not, nat_lt, if◌then◌else◌, cond, Bool, true, false, List, [], ◌∷◌, ◌++◌, length, map, reverse, drop, flat_map, Option, Some, None, Result, Ok, Err, refl, sym, ap, subst, ◌∙◌, inl, inr}
 use Rattle.std.proofs.lemmas.Bool.{cases_Bool}
 use Rattle.std.proofs.lemmas.List.{append-nil, drop-map}
-use Rattle.yaml_scan_text.specs.declared.record.yaml_mark_t.{yaml_mark_t}
-use Rattle.yaml_scan_text.specs.Tokens.{Token}
-use Rattle.yaml_scan_text.specs.Faults.{Fault}
-use Rattle.yaml_scan_text.specs.Marks.{mark_at}
-use Rattle.yaml_scan_text.specs.Wrong.{Wrong}
-use Rattle.yaml_scan_words.specs.Between.{Gap}
-use Rattle.yaml_scan_layout.specs.declared.kind.Kind.{Kind}
-use Rattle.yaml_scan_layout.specs.declared.lexeme.Lexeme.{Lexeme}
-use Rattle.yaml_scan_layout.specs.declared.lexeme.Entry.{Entry}
-use Rattle.yaml_scan_layout.specs.Kinds.{cancels, is_value, is_start, is_end}
-use Rattle.yaml_scan_layout.specs.History.{depth, reached, ended, Candidate, candidate, fresh, is_fresh, has, placed, entries}
-use Rattle.yaml_scan_layout.specs.Words.{WordText, kind_at, word_at}
-use Rattle.yaml_scan_layout.specs.Next.{Next, Read, Fails, Ends, first_lexeme, no_colon, not_allowed, begun, finished, allowed_behind, misplaced, missed, lost_by, tested, unless_wrong, unless_lost, of_kind, unless_missed, behind, next, extended, history}
-use Rattle.yaml_scan_layout.specs.Coming.{Stream, token_in, spell, all, handed_out, handed, kept_of, fault_in, Coming, coming}
+use Rattle.yaml_scan_forward.specs.scan_text.declared.record.yaml_mark_t.{yaml_mark_t}
+use Rattle.yaml_scan_forward.specs.scan_text.Tokens.{Token}
+use Rattle.yaml_scan_forward.specs.scan_text.Faults.{Fault}
+use Rattle.yaml_scan_forward.specs.scan_text.Marks.{mark_at}
+use Rattle.yaml_scan_forward.specs.scan_text.Wrong.{Wrong}
+use Rattle.yaml_scan_forward.specs.scan_words.Between.{Gap}
+use Rattle.yaml_scan_forward.specs.scan_layout.declared.kind.Kind.{Kind}
+use Rattle.yaml_scan_forward.specs.scan_layout.declared.lexeme.Lexeme.{Lexeme}
+use Rattle.yaml_scan_forward.specs.scan_layout.declared.lexeme.Entry.{Entry}
+use Rattle.yaml_scan_forward.specs.scan_layout.Kinds.{cancels, is_value, is_start, is_end}
+use Rattle.yaml_scan_forward.specs.scan_layout.History.{depth, reached, ended, Candidate, candidate, fresh, is_fresh, has, placed, entries}
+use Rattle.yaml_scan_forward.specs.scan_layout.Words.{WordText, kind_at, word_at}
+use Rattle.yaml_scan_forward.specs.scan_layout.Next.{Next, Read, Fails, Ends, first_lexeme, no_colon, not_allowed, begun, finished, allowed_behind, misplaced, missed, lost_by, tested, unless_wrong, unless_lost, of_kind, unless_missed, behind, next, extended, history}
+use Rattle.yaml_scan_forward.specs.scan_layout.Coming.{Stream, token_in, spell, all, handed_out, handed, kept_of, fault_in, Coming, coming}
 use Rattle.yaml_back_keys.specs.KeyFree.{asked, fits, is_key_free, kinds_of}
 use Rattle.yaml_back_keys.specs.Laws.{gap_in, lexeme_of}
 use Rattle.yaml_back_keys.proofs.MadeLemmas.{AllMade, Whole, whole_word, begun_made, finished_made, history_made}

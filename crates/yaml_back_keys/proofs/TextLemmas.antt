@@ -3,18 +3,18 @@ use Rattle.std.proofs.Common.{◌≡◌, ◌≢◌, ℕ, suc, ◌&&◌, not, nat
 use Rattle.std.proofs.lemmas.Bool.{cases_Bool}
 use Rattle.std.proofs.lemmas.List.{reverse-append}
 use Rattle.std.specs.List.{list_all}
-use Rattle.yaml_scan_text.specs.declared.record.yaml_mark_t.{yaml_mark_t}
-use Rattle.yaml_scan_text.specs.Tokens.{Token, TokenBody}
-use Rattle.yaml_scan_text.specs.Marks.{mark_at}
-use Rattle.yaml_scan_text.specs.Wrong.{Wrong}
-use Rattle.yaml_scan_layout.specs.declared.kind.Kind.{Kind}
-use Rattle.yaml_scan_layout.specs.declared.kind.Kind.TheVariants as kinds
-use Rattle.yaml_scan_layout.specs.declared.lexeme.Lexeme.{Lexeme}
-use Rattle.yaml_scan_layout.specs.Kinds.{is_end}
-use Rattle.yaml_scan_layout.specs.History.{depth, ended, placed}
-use Rattle.yaml_scan_layout.specs.Words.{WordText, kind_at, word_at}
-use Rattle.yaml_scan_layout.specs.Next.{Next, Read, Ends, behind, next, extended, history}
-use Rattle.yaml_scan_layout.specs.Coming.{Stream, body_of_word, body_by, token_in, all, Coming, offline}
+use Rattle.yaml_scan_forward.specs.scan_text.declared.record.yaml_mark_t.{yaml_mark_t}
+use Rattle.yaml_scan_forward.specs.scan_text.Tokens.{Token, TokenBody}
+use Rattle.yaml_scan_forward.specs.scan_text.Marks.{mark_at}
+use Rattle.yaml_scan_forward.specs.scan_text.Wrong.{Wrong}
+use Rattle.yaml_scan_forward.specs.scan_layout.declared.kind.Kind.{Kind}
+use Rattle.yaml_scan_forward.specs.scan_layout.declared.kind.Kind.TheVariants as kinds
+use Rattle.yaml_scan_forward.specs.scan_layout.declared.lexeme.Lexeme.{Lexeme}
+use Rattle.yaml_scan_forward.specs.scan_layout.Kinds.{is_end}
+use Rattle.yaml_scan_forward.specs.scan_layout.History.{depth, ended, placed}
+use Rattle.yaml_scan_forward.specs.scan_layout.Words.{WordText, kind_at, word_at}
+use Rattle.yaml_scan_forward.specs.scan_layout.Next.{Next, Read, Ends, behind, next, extended, history}
+use Rattle.yaml_scan_forward.specs.scan_layout.Coming.{Stream, body_of_word, body_by, token_in, all, Coming, offline}
 use Rattle.yaml_scan_forward.proofs.HistoryForward.{last_is_all}
 use Rattle.yaml_scan_forward.proofs.WordForward.{FitsAny, kind_fits}
 use Rattle.yaml_back_keys.specs.KeyFree.{asked_after, asked, fits, is_key_free, kinds_of}

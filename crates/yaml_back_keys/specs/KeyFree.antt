@@ -1,8 +1,8 @@
 -- Kinds of lexemes, the newest first, in which no `:` meets a candidate.
 use Rattle.std.specs.Prelude.{Bool, true, false, ◌&&◌, List, [], ◌∷◌, map}
-use Rattle.yaml_scan_layout.specs.declared.kind.Kind.{Kind}
-use Rattle.yaml_scan_layout.specs.declared.kind.Kind.TheVariants as kinds
-use Rattle.yaml_scan_layout.specs.declared.lexeme.Lexeme.{Lexeme}
+use Rattle.yaml_scan_forward.specs.scan_layout.declared.kind.Kind.{Kind}
+use Rattle.yaml_scan_forward.specs.scan_layout.declared.kind.Kind.TheVariants as kinds
+use Rattle.yaml_scan_forward.specs.scan_layout.declared.lexeme.Lexeme.{Lexeme}
 
 -- the innermost bracket's mark
 abbrev pub innermost : List Bool → Bool

@@ -1,16 +1,16 @@
 -- What key-free lexemes become.
 use Rattle.std.specs.Prelude.{◌≡◌, ℕ, suc, ◌&&◌, nat_lt, true, false, if◌then◌else◌, List, ◌∷◌, map, reverse, drop, Some, None, Ok}
 use Rattle.std.specs.List.{flat_map}
-use Rattle.yaml_scan_text.specs.declared.record.yaml_mark_t.{yaml_mark_t}
-use Rattle.yaml_scan_text.specs.Marks.{mark_at}
-use Rattle.yaml_scan_words.specs.Between.{Gap, gap_at}
-use Rattle.yaml_scan_layout.specs.declared.kind.Kind.{Kind}
-use Rattle.yaml_scan_layout.specs.declared.lexeme.Lexeme.{Lexeme}
-use Rattle.yaml_scan_layout.specs.Kinds.{may_be_key, is_end}
-use Rattle.yaml_scan_layout.specs.History.{depth, reached, ended, candidate, fresh, key_allowed, placed, entries}
-use Rattle.yaml_scan_layout.specs.Words.{WordText, kind_at, word_at}
-use Rattle.yaml_scan_layout.specs.Next.{Read, Ends, allowed_behind, missed, lost_by, next, history}
-use Rattle.yaml_scan_layout.specs.Coming.{Stream, token_in, spell, all, coming}
+use Rattle.yaml_scan_forward.specs.scan_text.declared.record.yaml_mark_t.{yaml_mark_t}
+use Rattle.yaml_scan_forward.specs.scan_text.Marks.{mark_at}
+use Rattle.yaml_scan_forward.specs.scan_words.Between.{Gap, gap_at}
+use Rattle.yaml_scan_forward.specs.scan_layout.declared.kind.Kind.{Kind}
+use Rattle.yaml_scan_forward.specs.scan_layout.declared.lexeme.Lexeme.{Lexeme}
+use Rattle.yaml_scan_forward.specs.scan_layout.Kinds.{may_be_key, is_end}
+use Rattle.yaml_scan_forward.specs.scan_layout.History.{depth, reached, ended, candidate, fresh, key_allowed, placed, entries}
+use Rattle.yaml_scan_forward.specs.scan_layout.Words.{WordText, kind_at, word_at}
+use Rattle.yaml_scan_forward.specs.scan_layout.Next.{Read, Ends, allowed_behind, missed, lost_by, next, history}
+use Rattle.yaml_scan_forward.specs.scan_layout.Coming.{Stream, token_in, spell, all, coming}
 use Rattle.yaml_back_keys.specs.KeyFree.{innermost, asked, is_key_free, kinds_of}
 
 -- Behind a `?` in brackets, with only nodes after it, no candidate stands at its depth.

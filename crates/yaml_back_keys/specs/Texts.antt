@@ -1,15 +1,15 @@
 -- Texts of key-free words.
 use Rattle.std.specs.Prelude.{◌≡◌, ℕ, nat_lt, true, not, List, [], ◌∷◌, map, reverse, Some, None, Ok}
 use Rattle.std.specs.List.{list_all}
-use Rattle.yaml_scan_text.specs.Marks.{mark_at}
-use Rattle.yaml_scan_text.specs.Tokens.{Token, stream_start, zero_mark}
-use Rattle.yaml_scan_layout.specs.declared.kind.Kind.{Kind}
-use Rattle.yaml_scan_layout.specs.declared.lexeme.Lexeme.{Lexeme}
-use Rattle.yaml_scan_layout.specs.Kinds.{is_end}
-use Rattle.yaml_scan_layout.specs.History.{depth, placed}
-use Rattle.yaml_scan_layout.specs.Words.{WordText, kind_at, word_at}
-use Rattle.yaml_scan_layout.specs.Next.{first_lexeme}
-use Rattle.yaml_scan_layout.specs.Coming.{Stream, offline}
+use Rattle.yaml_scan_forward.specs.scan_text.Marks.{mark_at}
+use Rattle.yaml_scan_forward.specs.scan_text.Tokens.{Token, stream_start, zero_mark}
+use Rattle.yaml_scan_forward.specs.scan_layout.declared.kind.Kind.{Kind}
+use Rattle.yaml_scan_forward.specs.scan_layout.declared.lexeme.Lexeme.{Lexeme}
+use Rattle.yaml_scan_forward.specs.scan_layout.Kinds.{is_end}
+use Rattle.yaml_scan_forward.specs.scan_layout.History.{depth, placed}
+use Rattle.yaml_scan_forward.specs.scan_layout.Words.{WordText, kind_at, word_at}
+use Rattle.yaml_scan_forward.specs.scan_layout.Next.{first_lexeme}
+use Rattle.yaml_scan_forward.specs.scan_layout.Coming.{Stream, offline}
 use Rattle.yaml_back_keys.specs.KeyFree.{is_key_free}
 use Rattle.yaml_back_keys.specs.Laws.{gap_in, end_in, lexeme_of}
 

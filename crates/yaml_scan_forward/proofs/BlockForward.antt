@@ -2,17 +2,17 @@
 use Rattle.std.proofs.Common.{◌≡◌, ℕ, zero, suc, ◌+◌, ◌-◌, ◌<◌, ◌≤◌, ◌==◌, ◌&&◌, ◌||◌, not, nat_lt, Bool, true, List, length, Result, Ok, Err, inl, inr, ◌⊎◌, arith}
 use Rattle.std.proofs.lemmas.Bool.{cases_Bool, cases_lt}
 use Rattle.std.proofs.lemmas.Bool.Decides.{nat_tests}
-use Rattle.yaml_scan_text.specs.Marks.{byte, break_width, column_at, is_blank}
-use Rattle.yaml_scan_text.specs.Classes.{is_digit_byte}
-use Rattle.yaml_scan_text.specs.Runs.{past, is_blank_there, is_text, past_blanks, line_end}
-use Rattle.yaml_scan_text.specs.Wrong.{Wrong}
-use Rattle.yaml_scan_text.proofs.MarksLemmas.{within, past_break}
-use Rattle.yaml_scan_text.proofs.RunsLemmas.{past-le, text_parts}
-use Rattle.yaml_scan_words.proofs.PlacesLemmas.{IsFrom, Lands}
-use Rattle.yaml_scan_block.specs.Value.{BlockLine, block_value}
-use Rattle.yaml_scan_block.specs.Lines.{spaces, LineSpot, Stops, Line, Tab, spot_behind, line_spot, Lines, with_line, line_then, lines_from}
-use Rattle.yaml_scan_block.specs.Header.{HeaderText, is_sign, indicators, digit_place, past_comment, header_end, header_at}
-use Rattle.yaml_scan_block.specs.Block.{BlockText, column_of, block_with, block_lines, block_behind, block_at}
+use Rattle.yaml_scan_layout.specs.scan_text.Marks.{byte, break_width, column_at, is_blank}
+use Rattle.yaml_scan_layout.specs.scan_text.Classes.{is_digit_byte}
+use Rattle.yaml_scan_layout.specs.scan_text.Runs.{past, is_blank_there, is_text, past_blanks, line_end}
+use Rattle.yaml_scan_layout.specs.scan_text.Wrong.{Wrong}
+use Rattle.yaml_scan_layout.proofs.scan_text.MarksLemmas.{within, past_break}
+use Rattle.yaml_scan_layout.proofs.scan_text.RunsLemmas.{past-le, text_parts}
+use Rattle.yaml_scan_layout.proofs.scan_words.PlacesLemmas.{IsFrom, Lands}
+use Rattle.yaml_scan_layout.specs.scan_block.Value.{BlockLine, block_value}
+use Rattle.yaml_scan_layout.specs.scan_block.Lines.{spaces, LineSpot, Stops, Line, Tab, spot_behind, line_spot, Lines, with_line, line_then, lines_from}
+use Rattle.yaml_scan_layout.specs.scan_block.Header.{HeaderText, is_sign, indicators, digit_place, past_comment, header_end, header_at}
+use Rattle.yaml_scan_layout.specs.scan_block.Block.{BlockText, column_of, block_with, block_lines, block_behind, block_at}
 
 less_of : (a b : ℕ) → nat_lt a b ≡ true → a < b
 less_of a b h = grind (arith, nat_tests)

@@ -5,10 +5,10 @@ use Rattle.std.proofs.lemmas.List.{drop_more, get_or_append_left, get_or-take, l
 use Rattle.std.proofs.Math.ListN.{drop_of_length-le}
 use Rattle.std.specs.Prelude.{replicate}
 use Rattle.std.specs.List.{flat_map}
-use Rattle.yaml_scan_text.specs.declared.problem.ScanFault.{ScanFault}
-use Rattle.yaml_scan_text.specs.Faults.{Fault}
-use Rattle.yaml_scan_text.specs.Problems.{scanner_fault}
-use Rattle.yaml_scan_text.specs.Tokens.{Token, block_end, no_token}
+use Rattle.yaml_scan_layout.specs.scan_text.declared.problem.ScanFault.{ScanFault}
+use Rattle.yaml_scan_layout.specs.scan_text.Faults.{Fault}
+use Rattle.yaml_scan_layout.specs.scan_text.Problems.{scanner_fault}
+use Rattle.yaml_scan_layout.specs.scan_text.Tokens.{Token, block_end, no_token}
 use Rattle.yaml_scan_layout.specs.declared.lexeme.Lexeme.{Lexeme}
 use Rattle.yaml_scan_layout.specs.declared.lexeme.Entry.{Entry}
 use Rattle.yaml_scan_layout.specs.Kinds.{is_value}

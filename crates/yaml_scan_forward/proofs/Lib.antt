@@ -9,3 +9,9 @@ pub mod HeldForward
 pub mod OuterForward
 pub mod ComingForward
 pub mod StreamForward
+-- what it stands on, for crates of laws that name this one alone
+pub use Rattle.yaml_scan_layout.proofs as scan_layout
+pub use Rattle.yaml_scan_layout.proofs.scan_text
+pub use Rattle.yaml_scan_layout.proofs.scan_words
+pub use Rattle.yaml_scan_layout.proofs.scan_scalars
+pub use Rattle.yaml_scan_layout.proofs.scan_block

@@ -1,8 +1,8 @@
 -- Lines grow with the place.
 use Rattle.std.proofs.Common.{◌≡◌, ℕ, zero, suc, ◌+◌, ◌-◌, ◌≤◌, List, refl, inl, inr, arith}
 use Rattle.std.proofs.lemmas.Bool.{cases_Bool}
-use Rattle.yaml_scan_text.specs.Tokens.{zero_mark}
-use Rattle.yaml_scan_text.specs.Marks.{line_at, column_at, ends_break, mark_at}
+use Rattle.yaml_scan_layout.specs.scan_text.Tokens.{zero_mark}
+use Rattle.yaml_scan_layout.specs.scan_text.Marks.{line_at, column_at, ends_break, mark_at}
 
 line_next : (text : List ℕ) (p : ℕ) → line_at text p ≤ line_at text (suc p)
 unfolding line_at

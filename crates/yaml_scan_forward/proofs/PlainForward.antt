@@ -2,12 +2,12 @@
 use Rattle.std.proofs.Common.{◌≡◌, ℕ, zero, suc, ◌+◌, ◌<◌, ◌≤◌, ◌==◌, ◌&&◌, ◌||◌, nat_lt, Bool, true, List, [], ◌∷◌, length, Result, Ok, Err, inl, inr, arith}
 use Rattle.std.proofs.lemmas.Bool.{cases_Bool}
 use Rattle.std.proofs.lemmas.Bool.Decides.{nat_tests}
-use Rattle.yaml_scan_text.specs.Marks.{byte, break_width, column_at, is_blank}
-use Rattle.yaml_scan_text.specs.Wrong.{Wrong}
-use Rattle.yaml_scan_text.proofs.MarksLemmas.{within, past_break}
-use Rattle.yaml_scan_scalars.specs.Pieces.{Piece, Kept, Blank, Break}
-use Rattle.yaml_scan_scalars.specs.Plain.{is_bracket, leads, Spot, Ends, Takes, Faulty, ends_at, spot_at, Words, is_nothing, with_piece, words_from, follows, words, PlainText, plain_with, plain_text, plain_at}
-use Rattle.yaml_scan_scalars.proofs.PlainLemmas.{not_ended, blank_inside}
+use Rattle.yaml_scan_layout.specs.scan_text.Marks.{byte, break_width, column_at, is_blank}
+use Rattle.yaml_scan_layout.specs.scan_text.Wrong.{Wrong}
+use Rattle.yaml_scan_layout.proofs.scan_text.MarksLemmas.{within, past_break}
+use Rattle.yaml_scan_layout.specs.scan_scalars.Pieces.{Piece, Kept, Blank, Break}
+use Rattle.yaml_scan_layout.specs.scan_scalars.Plain.{is_bracket, leads, Spot, Ends, Takes, Faulty, ends_at, spot_at, Words, is_nothing, with_piece, words_from, follows, words, PlainText, plain_with, plain_text, plain_at}
+use Rattle.yaml_scan_layout.proofs.scan_scalars.PlainLemmas.{not_ended, blank_inside}
 
 less_of : (a b : ℕ) → nat_lt a b ≡ true → a < b
 less_of a b h = grind (arith, nat_tests)

@@ -2,14 +2,14 @@
 use Rattle.std.proofs.Common.{◌≡◌, ℕ, zero, suc, ◌+◌, ◌*◌, ◌<◌, ◌≤◌, ◌==◌, ◌&&◌, nat_lt, Bool, true, false, List, length, Option, Some, None, option_and_then, option_map, Result, Ok, Err, refl, inl, inr, arith}
 use Rattle.std.proofs.lemmas.Bool.{cases_Bool}
 use Rattle.std.proofs.lemmas.Bool.Decides.{nat_tests}
-use Rattle.yaml_scan_text.specs.Marks.{byte, break_width, is_blank}
-use Rattle.yaml_scan_text.specs.Breaks.{is_document_indicator}
-use Rattle.yaml_scan_text.specs.Wrong.{Wrong}
-use Rattle.yaml_scan_text.proofs.MarksLemmas.{within, past_break}
-use Rattle.yaml_scan_words.specs.Gives.{behind_bytes}
-use Rattle.yaml_scan_words.proofs.PlacesLemmas.{Lands}
-use Rattle.yaml_scan_scalars.specs.Pieces.{Piece, value}
-use Rattle.yaml_scan_scalars.specs.Quoted.{Standing, Closing, Pieces, Bad, hex_digit, hex_value, is_scalar, coded, hex_len, simple_escape, escaped, escape_at, quote_at, standing_at, with_front, followed, pieces, valued, quoted_at}
+use Rattle.yaml_scan_layout.specs.scan_text.Marks.{byte, break_width, is_blank}
+use Rattle.yaml_scan_layout.specs.scan_text.Breaks.{is_document_indicator}
+use Rattle.yaml_scan_layout.specs.scan_text.Wrong.{Wrong}
+use Rattle.yaml_scan_layout.proofs.scan_text.MarksLemmas.{within, past_break}
+use Rattle.yaml_scan_layout.specs.scan_words.Gives.{behind_bytes}
+use Rattle.yaml_scan_layout.proofs.scan_words.PlacesLemmas.{Lands}
+use Rattle.yaml_scan_layout.specs.scan_scalars.Pieces.{Piece, value}
+use Rattle.yaml_scan_layout.specs.scan_scalars.Quoted.{Standing, Closing, Pieces, Bad, hex_digit, hex_value, is_scalar, coded, hex_len, simple_escape, escaped, escape_at, quote_at, standing_at, with_front, followed, pieces, valued, quoted_at}
 
 less_of : (a b : ℕ) → nat_lt a b ≡ true → a < b
 less_of a b h = grind (arith, nat_tests)

@@ -5,22 +5,22 @@ use Rattle.std.proofs.lemmas.Grind.{flat_map-append}
 use Rattle.std.proofs.lemmas.List.Elements.{All-nil, All-cons, All-append, All-replicate}
 use Rattle.std.specs.Prelude.{All}
 use Rattle.std.specs.List.{flat_map}
-use Rattle.yaml_scan_text.specs.declared.problem.ScanFault.{ScanFault}
-use Rattle.yaml_scan_text.specs.Tokens as tokens
-use Rattle.yaml_scan_text.specs.Tokens.{Token, TokenBody, stream_start, stream_end, block_end, zero_mark, no_token}
-use Rattle.yaml_scan_text.specs.Faults.{Fault}
-use Rattle.yaml_scan_text.specs.Problems.{scanner_fault}
-use Rattle.yaml_scan_text.specs.Wrong.{Wrong}
-use Rattle.yaml_scan_text.specs.declared.name.yaml_scalar_style_t.{yaml_scalar_style_t}
-use Rattle.yaml_scan_text.specs.declared.name.yaml_scalar_style_t.TheVariants as styles
-use Rattle.yaml_scan_text.specs.declared.problem.Context.TheVariants as contexts
-use Rattle.yaml_scan_words.specs.Anchors.{anchor_at}
-use Rattle.yaml_scan_words.specs.Tags.{TagText, tag_at}
-use Rattle.yaml_scan_words.specs.Directives as directives
-use Rattle.yaml_scan_words.specs.Directives.{Said, DirectiveText, directive_at}
-use Rattle.yaml_scan_scalars.specs.Quoted.{double_quoted_at, single_quoted_at}
-use Rattle.yaml_scan_scalars.specs.Plain.{PlainText, plain_at}
-use Rattle.yaml_scan_block.specs.Block.{BlockText, block_at, style_at}
+use Rattle.yaml_scan_layout.specs.scan_text.declared.problem.ScanFault.{ScanFault}
+use Rattle.yaml_scan_layout.specs.scan_text.Tokens as tokens
+use Rattle.yaml_scan_layout.specs.scan_text.Tokens.{Token, TokenBody, stream_start, stream_end, block_end, zero_mark, no_token}
+use Rattle.yaml_scan_layout.specs.scan_text.Faults.{Fault}
+use Rattle.yaml_scan_layout.specs.scan_text.Problems.{scanner_fault}
+use Rattle.yaml_scan_layout.specs.scan_text.Wrong.{Wrong}
+use Rattle.yaml_scan_layout.specs.scan_text.declared.name.yaml_scalar_style_t.{yaml_scalar_style_t}
+use Rattle.yaml_scan_layout.specs.scan_text.declared.name.yaml_scalar_style_t.TheVariants as styles
+use Rattle.yaml_scan_layout.specs.scan_text.declared.problem.Context.TheVariants as contexts
+use Rattle.yaml_scan_layout.specs.scan_words.Anchors.{anchor_at}
+use Rattle.yaml_scan_layout.specs.scan_words.Tags.{TagText, tag_at}
+use Rattle.yaml_scan_layout.specs.scan_words.Directives as directives
+use Rattle.yaml_scan_layout.specs.scan_words.Directives.{Said, DirectiveText, directive_at}
+use Rattle.yaml_scan_layout.specs.scan_scalars.Quoted.{double_quoted_at, single_quoted_at}
+use Rattle.yaml_scan_layout.specs.scan_scalars.Plain.{PlainText, plain_at}
+use Rattle.yaml_scan_layout.specs.scan_block.Block.{BlockText, block_at, style_at}
 use Rattle.yaml_scan_layout.specs.declared.kind.Kind.{Kind}
 use Rattle.yaml_scan_layout.specs.declared.kind.Kind.TheVariants as kinds
 use Rattle.yaml_scan_layout.specs.declared.lexeme.Lexeme.{Lexeme}

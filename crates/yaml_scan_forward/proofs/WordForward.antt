@@ -2,23 +2,23 @@
 use Rattle.std.proofs.Common.{◌≡◌, ℕ, ◌+◌, ◌<◌, ◌≤◌, ◌==◌, ◌&&◌, ◌||◌, not, nat_lt, Bool, true, false, if◌then◌else◌, List, length, Option, Some, None, Result, Ok, Err, inl, inr, arith}
 use Rattle.std.proofs.lemmas.Bool.{cases_Bool, true≢false}
 use Rattle.std.proofs.lemmas.Bool.Decides.{nat_tests}
-use Rattle.yaml_scan_text.specs.declared.name.yaml_scalar_style_t.{yaml_scalar_style_t}
-use Rattle.yaml_scan_text.specs.declared.name.yaml_scalar_style_t.TheVariants as styles
-use Rattle.yaml_scan_text.specs.declared.problem.Context.TheVariants as contexts
-use Rattle.yaml_scan_text.specs.Tokens as tokens
-use Rattle.yaml_scan_text.specs.Tokens.{TokenBody}
-use Rattle.yaml_scan_text.specs.Marks.{byte, break_width, column_at, is_blank_or_end}
-use Rattle.yaml_scan_text.specs.Wrong.{Wrong}
-use Rattle.yaml_scan_text.proofs.MarksLemmas.{within, past_break}
-use Rattle.yaml_scan_words.specs.Gives.{behind_bytes}
-use Rattle.yaml_scan_words.specs.Indicators.{is_document_start, is_document_end}
-use Rattle.yaml_scan_words.specs.Anchors.{anchor_at}
-use Rattle.yaml_scan_words.specs.Tags.{TagText, tag_end, tag_at}
-use Rattle.yaml_scan_words.specs.Directives.{ValueText, value_end, value_at, line_place, comment_end, break_end, line_end_at, with_line, finished}
-use Rattle.yaml_scan_words.proofs.PlacesLemmas.{IsFrom, Lands, run_place, anchor_place, tag_place, value_place}
-use Rattle.yaml_scan_scalars.specs.Quoted.{double_quoted_at, single_quoted_at}
-use Rattle.yaml_scan_scalars.specs.Plain.{PlainText, starts_plain, plain_at}
-use Rattle.yaml_scan_block.specs.Block.{BlockText, block_at, style_at}
+use Rattle.yaml_scan_layout.specs.scan_text.declared.name.yaml_scalar_style_t.{yaml_scalar_style_t}
+use Rattle.yaml_scan_layout.specs.scan_text.declared.name.yaml_scalar_style_t.TheVariants as styles
+use Rattle.yaml_scan_layout.specs.scan_text.declared.problem.Context.TheVariants as contexts
+use Rattle.yaml_scan_layout.specs.scan_text.Tokens as tokens
+use Rattle.yaml_scan_layout.specs.scan_text.Tokens.{TokenBody}
+use Rattle.yaml_scan_layout.specs.scan_text.Marks.{byte, break_width, column_at, is_blank_or_end}
+use Rattle.yaml_scan_layout.specs.scan_text.Wrong.{Wrong}
+use Rattle.yaml_scan_layout.proofs.scan_text.MarksLemmas.{within, past_break}
+use Rattle.yaml_scan_layout.specs.scan_words.Gives.{behind_bytes}
+use Rattle.yaml_scan_layout.specs.scan_words.Indicators.{is_document_start, is_document_end}
+use Rattle.yaml_scan_layout.specs.scan_words.Anchors.{anchor_at}
+use Rattle.yaml_scan_layout.specs.scan_words.Tags.{TagText, tag_end, tag_at}
+use Rattle.yaml_scan_layout.specs.scan_words.Directives.{ValueText, value_end, value_at, line_place, comment_end, break_end, line_end_at, with_line, finished}
+use Rattle.yaml_scan_layout.proofs.scan_words.PlacesLemmas.{IsFrom, Lands, run_place, anchor_place, tag_place, value_place}
+use Rattle.yaml_scan_layout.specs.scan_scalars.Quoted.{double_quoted_at, single_quoted_at}
+use Rattle.yaml_scan_layout.specs.scan_scalars.Plain.{PlainText, starts_plain, plain_at}
+use Rattle.yaml_scan_layout.specs.scan_block.Block.{BlockText, block_at, style_at}
 use Rattle.yaml_scan_layout.specs.declared.kind.Kind.{Kind}
 use Rattle.yaml_scan_layout.specs.declared.kind.Kind.TheVariants as kinds
 use Rattle.yaml_scan_layout.specs.Kinds.{is_end}

@@ -1,8 +1,8 @@
 -- What comes first of what is to come, where so much of the text is read.
 use Rattle.std.specs.Prelude.{ℕ, ◌+◌, ◌≡◌, ◌<◌, ◌≤◌, Some, [], ◌∷◌, length, drop, slice_index_or}
-use Rattle.yaml_scan_text.specs.declared.problem.ScanFault.{ScanFault}
-use Rattle.yaml_scan_text.specs.Problems.{scanner_fault}
-use Rattle.yaml_scan_text.specs.Tokens.{Token, block_end}
+use Rattle.yaml_scan_layout.specs.scan_text.declared.problem.ScanFault.{ScanFault}
+use Rattle.yaml_scan_layout.specs.scan_text.Problems.{scanner_fault}
+use Rattle.yaml_scan_layout.specs.scan_text.Tokens.{Token, block_end}
 use Rattle.yaml_scan_layout.specs.declared.lexeme.Entry.{Entry}
 use Rattle.yaml_scan_layout.specs.History.{entries, first_open}
 use Rattle.yaml_scan_layout.specs.Next.{Fails, Ends, next, history}

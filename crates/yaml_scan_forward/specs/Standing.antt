@@ -1,6 +1,6 @@
 -- Where a lexeme's marks stand in the text.
 use Rattle.std.specs.Prelude.{ℕ, ◌≡◌, ◌<◌, ◌≤◌, Bool, true, false, List, length}
-use Rattle.yaml_scan_text.specs.Marks.{mark_at}
+use Rattle.yaml_scan_layout.specs.scan_text.Marks.{mark_at}
 use Rattle.yaml_scan_layout.specs.declared.lexeme.Lexeme.{Lexeme}
 use Rattle.yaml_scan_layout.specs.Kinds.{is_end}
 use Rattle.yaml_scan_layout.specs.History.{placed}

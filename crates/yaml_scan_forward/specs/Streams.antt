@@ -1,7 +1,7 @@
 -- How the tokens of a text begin and end.
 use Rattle.std.specs.Prelude.{◌≡◌, ◌≢◌, Some, None, List, [], ◌∷◌, ◌++◌, All}
-use Rattle.yaml_scan_text.specs.Tokens.{Token, stream_start, stream_end, zero_mark}
-use Rattle.yaml_scan_text.specs.Faults.{Fault}
+use Rattle.yaml_scan_layout.specs.scan_text.Tokens.{Token, stream_start, stream_end, zero_mark}
+use Rattle.yaml_scan_layout.specs.scan_text.Faults.{Fault}
 use Rattle.yaml_scan_layout.specs.Coming.{Stream, offline}
 
 -- The first token is STREAM-START, with the encoding, also where a fault follows.

@@ -4,3 +4,8 @@ pub mod Words
 pub mod Next
 pub mod Coming
 pub mod Laws
+-- what it stands on, for crates of laws that name this one alone
+pub use Rattle.yaml_scan_text.specs as scan_text
+pub use Rattle.yaml_scan_words.specs as scan_words
+pub use Rattle.yaml_scan_scalars.specs as scan_scalars
+pub use Rattle.yaml_scan_block.specs as scan_block

@@ -4,3 +4,5 @@ pub mod QuotedLemmas
 pub mod RunLemmas
 pub mod PlainLemmas
 pub mod PlainRunLemmas
+-- what it stands on, for crates of laws that name this one alone
+pub use Rattle.yaml_scan_text.proofs as scan_text

@@ -5,3 +5,5 @@ pub mod Gives
 pub mod Plain
 pub mod Joined
 pub mod Ordinary
+-- what it stands on, for crates of laws that name this one alone
+pub use Rattle.yaml_scan_text.specs as scan_text

@@ -1,6 +1,6 @@
 -- The tokens of an input are well spelled.
 use Rattle.std.proofs.Common.{ℕ, List, Result, Ok, Err}
-use Rattle.yaml_scan_text.specs.declared.name.yaml_encoding_t.{yaml_encoding_t}
+use Rattle.yaml_scan.specs.scan_text.declared.name.yaml_encoding_t.{yaml_encoding_t}
 use Rattle.yaml_scan.specs.Encodings.{encoding_of}
 use Rattle.yaml_scan.specs.Decoding.{decoded_text}
 use Rattle.yaml_scan.specs.Scanned.{scanned_in, scanned}

@@ -2,17 +2,17 @@
 use Rattle.std.proofs.Common.{◌≡◌, ℕ, zero, suc, ◌+◌, ◌≤◌, ◌<◌, ◌==◌, ◌||◌, ◌&&◌, not, Bool, true, false, List, [], ◌∷◌, ◌++◌, length, slice_range, Result, Ok, Err, refl, sym, ◌∙◌, true≢false, inl, inr, arith, add-zero, length-append, subst}
 use Rattle.std.proofs.lemmas.Bool.{cases_Bool}
 use Rattle.std.proofs.lemmas.Bool.Decides.{nat_tests}
-use Rattle.yaml_scan_text.specs.declared.problem.Context.{Context}
-use Rattle.yaml_scan_text.specs.Marks.{byte}
-use Rattle.yaml_scan_text.specs.Classes.{is_digit_byte, is_alpha_byte}
-use Rattle.yaml_scan_text.specs.Wrong.{Wrong}
-use Rattle.yaml_scan_text.proofs.MarksLemmas.{within}
-use Rattle.yaml_scan_words.specs.Runs.{belongs, run_within}
-use Rattle.yaml_scan_words.specs.Anchors.{may_end_name, name_between, anchor_at}
-use Rattle.yaml_scan_words.specs.Tags.{name_end}
-use Rattle.yaml_scan_words.specs.Directives.{handle_between, handle_at}
-use Rattle.yaml_scan_words.proofs.RunsLemmas.{run_within-le}
-use Rattle.yaml_scan_words.proofs.HasLemmas.{Has, range_reads}
+use Rattle.yaml_scan.specs.scan_text.declared.problem.Context.{Context}
+use Rattle.yaml_scan.specs.scan_text.Marks.{byte}
+use Rattle.yaml_scan.specs.scan_text.Classes.{is_digit_byte, is_alpha_byte}
+use Rattle.yaml_scan.specs.scan_text.Wrong.{Wrong}
+use Rattle.yaml_scan.proofs.scan_text.MarksLemmas.{within}
+use Rattle.yaml_scan.specs.scan_words.Runs.{belongs, run_within}
+use Rattle.yaml_scan.specs.scan_words.Anchors.{may_end_name, name_between, anchor_at}
+use Rattle.yaml_scan.specs.scan_words.Tags.{name_end}
+use Rattle.yaml_scan.specs.scan_words.Directives.{handle_between, handle_at}
+use Rattle.yaml_scan.proofs.scan_words.RunsLemmas.{run_within-le}
+use Rattle.yaml_scan.proofs.scan_words.HasLemmas.{Has, range_reads}
 use Rattle.yaml_scan_spelled.specs.Spelled.{AreAlphas, IsName, IsHandle}
 
 pair : (a b : Bool) → (a && b) ≡ true → (a ≡ true) × (b ≡ true)

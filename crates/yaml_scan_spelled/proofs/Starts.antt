@@ -2,19 +2,19 @@
 use Rattle.std.proofs.Common.{◌≡◌, ℕ, zero, suc, ◌+◌, ◌==◌, ◌&&◌, ◌||◌, not, nat_lt, if◌then◌else◌, Bool, true, false, List, [], ◌∷◌, Option, Some, None, Result, Ok, Err, refl, sym, subst, inl, inr, arith}
 use Rattle.std.proofs.lemmas.Bool.{cases_Bool}
 use Rattle.std.proofs.lemmas.Bool.Decides.{nat_tests}
-use Rattle.yaml_scan_text.specs.declared.record.yaml_mark_t.{yaml_mark_t}
-use Rattle.yaml_scan_text.specs.Marks.{byte, mark_at, column_at, is_blank_or_end}
-use Rattle.yaml_scan_text.specs.Wrong.{Wrong}
-use Rattle.yaml_scan_words.specs.Between.{Gap, gap_at}
-use Rattle.yaml_scan_words.specs.Indicators.{is_document_start, is_document_end}
-use Rattle.yaml_scan_scalars.specs.Plain.{starts_plain}
-use Rattle.yaml_scan_layout.specs.declared.kind.Kind.{Kind}
-use Rattle.yaml_scan_layout.specs.declared.kind.Kind.TheVariants as kinds
-use Rattle.yaml_scan_layout.specs.declared.lexeme.Lexeme.{Lexeme}
-use Rattle.yaml_scan_layout.specs.Kinds.{is_end}
-use Rattle.yaml_scan_layout.specs.History.{placed, depth, key_allowed, candidate, fresh}
-use Rattle.yaml_scan_layout.specs.Words.{indicator_of, or_plain, kind_at, WordText, word_at}
-use Rattle.yaml_scan_layout.specs.Next.{Next, Read, Fails, Ends, no_colon, begun, finished, allowed_behind, misplaced, missed, lost_by, tested, unless_wrong, unless_lost, of_kind, unless_missed, next, extended, history}
+use Rattle.yaml_scan.specs.scan_text.declared.record.yaml_mark_t.{yaml_mark_t}
+use Rattle.yaml_scan.specs.scan_text.Marks.{byte, mark_at, column_at, is_blank_or_end}
+use Rattle.yaml_scan.specs.scan_text.Wrong.{Wrong}
+use Rattle.yaml_scan.specs.scan_words.Between.{Gap, gap_at}
+use Rattle.yaml_scan.specs.scan_words.Indicators.{is_document_start, is_document_end}
+use Rattle.yaml_scan.specs.scan_scalars.Plain.{starts_plain}
+use Rattle.yaml_scan.specs.scan_layout.declared.kind.Kind.{Kind}
+use Rattle.yaml_scan.specs.scan_layout.declared.kind.Kind.TheVariants as kinds
+use Rattle.yaml_scan.specs.scan_layout.declared.lexeme.Lexeme.{Lexeme}
+use Rattle.yaml_scan.specs.scan_layout.Kinds.{is_end}
+use Rattle.yaml_scan.specs.scan_layout.History.{placed, depth, key_allowed, candidate, fresh}
+use Rattle.yaml_scan.specs.scan_layout.Words.{indicator_of, or_plain, kind_at, WordText, word_at}
+use Rattle.yaml_scan.specs.scan_layout.Next.{Next, Read, Fails, Ends, no_colon, begun, finished, allowed_behind, misplaced, missed, lost_by, tested, unless_wrong, unless_lost, of_kind, unless_missed, next, extended, history}
 use Rattle.yaml_scan_spelled.proofs.Words.{Marked}
 
 equal_of : (a b : ℕ) → (a == b) ≡ true → a ≡ b

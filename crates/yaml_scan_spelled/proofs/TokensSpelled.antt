@@ -1,19 +1,19 @@
 -- The tokens that are handed out are well spelled.
 use Rattle.std.proofs.Common.{ℕ, zero, suc, ◌+◌, nat_lt, List, [], ◌∷◌, ◌++◌, length, take, drop, replicate, Option, Some, None, Result, Ok, Err, inl, inr, flat_map}
 use Rattle.std.proofs.lemmas.Bool.{cases_Bool}
-use Rattle.yaml_scan_text.specs.Tokens.{Token, block_end}
-use Rattle.yaml_scan_text.specs.Wrong.{Wrong}
-use Rattle.yaml_scan_layout.specs.declared.kind.Kind.{Kind}
-use Rattle.yaml_scan_layout.specs.declared.kind.Kind.TheVariants as kinds
-use Rattle.yaml_scan_layout.specs.declared.lexeme.Lexeme.{Lexeme}
-use Rattle.yaml_scan_layout.specs.declared.lexeme.Entry.{Entry}
-use Rattle.yaml_scan_layout.specs.declared.lexeme.Opens.{Opens}
-use Rattle.yaml_scan_layout.specs.declared.lexeme.Opens.TheVariants as opening
-use Rattle.yaml_scan_layout.specs.Kinds.{is_value}
-use Rattle.yaml_scan_layout.specs.History.{Candidate, first_open, found_by, inside, entry_of, mark_key, marked, keyed, entries}
-use Rattle.yaml_scan_layout.specs.Words.{WordText, word_at}
-use Rattle.yaml_scan_layout.specs.Next.{Next, Read, Fails, Ends, next, history}
-use Rattle.yaml_scan_layout.specs.Coming.{Stream, body_of_word, body_by, body_in, before, start_tokens, end_tokens, own_tokens, spell, all, handed_out, handed, front_ends, kept_of, coming}
+use Rattle.yaml_scan.specs.scan_text.Tokens.{Token, block_end}
+use Rattle.yaml_scan.specs.scan_text.Wrong.{Wrong}
+use Rattle.yaml_scan.specs.scan_layout.declared.kind.Kind.{Kind}
+use Rattle.yaml_scan.specs.scan_layout.declared.kind.Kind.TheVariants as kinds
+use Rattle.yaml_scan.specs.scan_layout.declared.lexeme.Lexeme.{Lexeme}
+use Rattle.yaml_scan.specs.scan_layout.declared.lexeme.Entry.{Entry}
+use Rattle.yaml_scan.specs.scan_layout.declared.lexeme.Opens.{Opens}
+use Rattle.yaml_scan.specs.scan_layout.declared.lexeme.Opens.TheVariants as opening
+use Rattle.yaml_scan.specs.scan_layout.Kinds.{is_value}
+use Rattle.yaml_scan.specs.scan_layout.History.{Candidate, first_open, found_by, inside, entry_of, mark_key, marked, keyed, entries}
+use Rattle.yaml_scan.specs.scan_layout.Words.{WordText, word_at}
+use Rattle.yaml_scan.specs.scan_layout.Next.{Next, Read, Fails, Ends, next, history}
+use Rattle.yaml_scan.specs.scan_layout.Coming.{Stream, body_of_word, body_by, body_in, before, start_tokens, end_tokens, own_tokens, spell, all, handed_out, handed, front_ends, kept_of, coming}
 use Rattle.yaml_scan_spelled.specs.Spelled.{IsSpelled, AreSpelled}
 use Rattle.yaml_scan_spelled.proofs.Words.{Marked, HasWord, word_spelled}
 use Rattle.yaml_scan_spelled.proofs.Starts.{Starts, AllStart, history_starts}

@@ -1,7 +1,7 @@
 -- How the tokens of every input are spelled.
 use Rattle.std.specs.Prelude.{ℕ, List}
-use Rattle.yaml_scan_text.specs.declared.name.yaml_encoding_t.{yaml_encoding_t}
-use Rattle.yaml_scan_layout.specs.Coming.{Stream, coming}
+use Rattle.yaml_scan.specs.scan_text.declared.name.yaml_encoding_t.{yaml_encoding_t}
+use Rattle.yaml_scan.specs.scan_layout.Coming.{Stream, coming}
 use Rattle.yaml_scan.specs.Scanned.{scanned}
 use Rattle.yaml_scan_spelled.specs.Spelled.{AreSpelled}
 

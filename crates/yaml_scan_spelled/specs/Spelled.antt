@@ -1,9 +1,9 @@
 -- How a scanner spells names, handles and tags.
 use Rattle.std.specs.Prelude.{ℕ, true, false, ◌==◌, ◌≡◌, ◌⊎◌, List, [], ◌∷◌, ◌++◌, length}
 use Rattle.std.specs.List.{list_all}
-use Rattle.yaml_scan_text.specs.Classes.{is_alpha_byte}
-use Rattle.yaml_scan_text.specs.Tokens as token
-use Rattle.yaml_scan_text.specs.Tokens.{Token, TokenBody}
+use Rattle.yaml_scan.specs.scan_text.Classes.{is_alpha_byte}
+use Rattle.yaml_scan.specs.scan_text.Tokens as token
+use Rattle.yaml_scan.specs.scan_text.Tokens.{Token, TokenBody}
 
 -- one byte at least
 abbrev pub IsSome : List ℕ → Type 0

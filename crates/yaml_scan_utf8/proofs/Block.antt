@@ -3,14 +3,14 @@ use Rattle.std.proofs.Common.{◌≡◌, ℕ, zero, suc, ◌+◌, ◌-◌, ◌<�
 use Rattle.std.proofs.lemmas.Bool.{cases_Bool, cases_lt}
 use Rattle.std.proofs.lemmas.Bool.Decides.{nat_tests}
 use Rattle.std.proofs.lemmas.Str.{IsUtf8-nil, IsUtf8-append}
-use Rattle.yaml_scan_text.specs.Marks.{byte, break_width, column_at}
-use Rattle.yaml_scan_text.specs.Breaks.{feed_at, is_feed}
-use Rattle.yaml_scan_text.specs.Runs.{past, is_text, line_end}
-use Rattle.yaml_scan_text.specs.Wrong.{Wrong}
-use Rattle.yaml_scan_block.specs.Value.{BlockLine, Empty, Words, TextLine, Texts, add_line, texts_of, starts_blank, space_or, between, at_end, behind_text, value_with, block_value}
-use Rattle.yaml_scan_block.specs.Lines.{spaces, LineSpot, Stops, Line, Tab, spot_behind, line_spot, Lines, with_line, line_then, lines_from}
-use Rattle.yaml_scan_block.specs.Header.{HeaderText, chomp_of, digit_place, sign_place, header_end, header_at}
-use Rattle.yaml_scan_block.specs.Block.{BlockText, column_of, block_with, block_lines, block_behind, block_at}
+use Rattle.yaml_scan_layout.specs.scan_text.Marks.{byte, break_width, column_at}
+use Rattle.yaml_scan_layout.specs.scan_text.Breaks.{feed_at, is_feed}
+use Rattle.yaml_scan_layout.specs.scan_text.Runs.{past, is_text, line_end}
+use Rattle.yaml_scan_layout.specs.scan_text.Wrong.{Wrong}
+use Rattle.yaml_scan_layout.specs.scan_block.Value.{BlockLine, Empty, Words, TextLine, Texts, add_line, texts_of, starts_blank, space_or, between, at_end, behind_text, value_with, block_value}
+use Rattle.yaml_scan_layout.specs.scan_block.Lines.{spaces, LineSpot, Stops, Line, Tab, spot_behind, line_spot, Lines, with_line, line_then, lines_from}
+use Rattle.yaml_scan_layout.specs.scan_block.Header.{HeaderText, chomp_of, digit_place, sign_place, header_end, header_at}
+use Rattle.yaml_scan_layout.specs.scan_block.Block.{BlockText, column_of, block_with, block_lines, block_behind, block_at}
 use Rattle.yaml_scan_utf8.proofs.Whole.{IsWhole, whole_past, whole_ascii, whole_after, whole_before, whole_behind, ascii_utf8, break_utf8, slice_utf8}
 
 less_of : (a b : ℕ) → nat_lt a b ≡ true → a < b

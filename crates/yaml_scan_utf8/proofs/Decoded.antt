@@ -4,7 +4,7 @@ use Rattle.std.specs.Char.{IsScalar}
 use Rattle.std.specs.List.{AllPass}
 use Rattle.std.specs.Str.{all_scalars}
 use Rattle.std.proofs.lemmas.List.Elements.{All-head, All-tail}
-use Rattle.yaml_scan_text.specs.declared.name.yaml_encoding_t.{yaml_encoding_t}
+use Rattle.yaml_scan_layout.specs.scan_text.declared.name.yaml_encoding_t.{yaml_encoding_t}
 use Rattle.yaml_scan_decode.specs.Characters.{is_allowed}
 use Rattle.yaml_scan_decode.specs.Spelling.{Spells}
 use Rattle.yaml_scan_decode.proofs.SpellingLemmas.{allowed_scalar}

@@ -2,12 +2,12 @@
 use Rattle.std.proofs.Common.{◌≡◌, ℕ, zero, suc, ◌+◌, ◌<◌, ◌≤◌, ◌==◌, ◌&&◌, ◌||◌, not, nat_lt, Bool, true, false, List, length, refl, true≢false, inl, inr, arith, IsUtf8}
 use Rattle.std.proofs.lemmas.Bool.{cases_Bool}
 use Rattle.std.proofs.lemmas.Bool.Decides.{nat_tests}
-use Rattle.yaml_scan_text.specs.Marks.{byte, break_width}
-use Rattle.yaml_scan_text.specs.Classes.{is_bom, is_breakz}
-use Rattle.yaml_scan_words.specs.Runs.{belongs, run_within}
-use Rattle.yaml_scan_words.specs.Between.{step_at, is_skipped, gap_within, gap_at}
-use Rattle.yaml_scan_words.specs.Directives.{comment_end}
-use Rattle.yaml_scan_words.proofs.BetweenLemmas.{bom_bytes}
+use Rattle.yaml_scan_layout.specs.scan_text.Marks.{byte, break_width}
+use Rattle.yaml_scan_layout.specs.scan_text.Classes.{is_bom, is_breakz}
+use Rattle.yaml_scan_layout.specs.scan_words.Runs.{belongs, run_within}
+use Rattle.yaml_scan_layout.specs.scan_words.Between.{step_at, is_skipped, gap_within, gap_at}
+use Rattle.yaml_scan_layout.specs.scan_words.Directives.{comment_end}
+use Rattle.yaml_scan_layout.proofs.scan_words.BetweenLemmas.{bom_bytes}
 use Rattle.yaml_scan_utf8.proofs.Whole.{IsWhole, whole_past, whole_ascii, whole_after, whole_before, whole_behind, whole_bom}
 
 less_of : (a b : ℕ) → nat_lt a b ≡ true → a < b

@@ -1,10 +1,10 @@
 -- Each lexeme of a text in UTF-8 starts and is left where the text may be cut, and carries UTF-8.
 use Rattle.std.proofs.Common.{◌≡◌, ℕ, zero, suc, ◌&&◌, nat_lt, List, [], ◌∷◌, Option, Some, None, Result, Ok, Err, refl, sym, subst, inl, inr, IsUtf8}
 use Rattle.std.proofs.lemmas.Bool.{cases_Bool}
-use Rattle.yaml_scan_text.specs.declared.record.yaml_mark_t.{yaml_mark_t}
-use Rattle.yaml_scan_text.specs.Marks.{mark_at}
-use Rattle.yaml_scan_text.specs.Wrong.{Wrong}
-use Rattle.yaml_scan_words.specs.Between.{Gap, gap_at}
+use Rattle.yaml_scan_layout.specs.scan_text.declared.record.yaml_mark_t.{yaml_mark_t}
+use Rattle.yaml_scan_layout.specs.scan_text.Marks.{mark_at}
+use Rattle.yaml_scan_layout.specs.scan_text.Wrong.{Wrong}
+use Rattle.yaml_scan_layout.specs.scan_words.Between.{Gap, gap_at}
 use Rattle.yaml_scan_layout.specs.declared.kind.Kind.{Kind}
 use Rattle.yaml_scan_layout.specs.declared.kind.Kind.TheVariants as kinds
 use Rattle.yaml_scan_layout.specs.declared.lexeme.Lexeme.{Lexeme}

@@ -2,13 +2,13 @@
 use Rattle.std.proofs.Common.{◌≡◌, ℕ, zero, suc, ◌+◌, ◌<◌, ◌==◌, ◌&&◌, ◌||◌, nat_lt, if◌then◌else◌, Bool, true, false, List, [], ◌∷◌, ◌++◌, length, drop, Result, Ok, Err, refl, sym, true≢false, inl, inr, ◌⊎◌, arith, IsUtf8}
 use Rattle.std.proofs.lemmas.Bool.{cases_Bool}
 use Rattle.std.proofs.lemmas.Bool.Decides.{nat_tests}
-use Rattle.yaml_scan_text.specs.Marks.{byte, break_width, column_at, is_blank, is_blank_or_end}
-use Rattle.yaml_scan_text.specs.Breaks.{is_document_indicator}
-use Rattle.yaml_scan_text.specs.Wrong.{Wrong}
-use Rattle.yaml_scan_text.proofs.MarksLemmas.{within}
-use Rattle.yaml_scan_scalars.specs.Pieces.{Piece, Kept, Blank, Break}
-use Rattle.yaml_scan_scalars.specs.Plain.{is_bracket, after_white, leads, Spot, Ends, Takes, Faulty, ends_at, spot_at, Words, is_nothing, with_piece, words_from, follows, words, PlainText, plain_with, plain_text, plain_at}
-use Rattle.yaml_scan_scalars.proofs.PlainLemmas.{not_ended}
+use Rattle.yaml_scan_layout.specs.scan_text.Marks.{byte, break_width, column_at, is_blank, is_blank_or_end}
+use Rattle.yaml_scan_layout.specs.scan_text.Breaks.{is_document_indicator}
+use Rattle.yaml_scan_layout.specs.scan_text.Wrong.{Wrong}
+use Rattle.yaml_scan_layout.proofs.scan_text.MarksLemmas.{within}
+use Rattle.yaml_scan_layout.specs.scan_scalars.Pieces.{Piece, Kept, Blank, Break}
+use Rattle.yaml_scan_layout.specs.scan_scalars.Plain.{is_bracket, after_white, leads, Spot, Ends, Takes, Faulty, ends_at, spot_at, Words, is_nothing, with_piece, words_from, follows, words, PlainText, plain_with, plain_text, plain_at}
+use Rattle.yaml_scan_layout.proofs.scan_scalars.PlainLemmas.{not_ended}
 use Rattle.yaml_scan_utf8.proofs.Whole.{IsWhole, whole_ascii, whole_after, whole_before, whole_behind, leads_whole, blank_small, cut, break_utf8, indicator_small}
 use Rattle.yaml_scan_utf8.proofs.Values.{Goes, value_utf8}
 use Rattle.yaml_scan_utf8.proofs.Quoted.{Waits, kept_waits}

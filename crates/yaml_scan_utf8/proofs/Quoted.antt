@@ -5,12 +5,12 @@ use Rattle.std.proofs.lemmas.Bool.{cases_Bool}
 use Rattle.std.proofs.lemmas.Bool.Decides.{nat_tests}
 use Rattle.std.proofs.lemmas.List.{drop_more}
 use Rattle.std.proofs.lemmas.Str.{IsUtf8-nil, IsUtf8-append, IsUtf8-encode}
-use Rattle.yaml_scan_text.specs.Marks.{byte, break_width, is_blank}
-use Rattle.yaml_scan_text.specs.Breaks.{break_value, is_document_indicator}
-use Rattle.yaml_scan_text.specs.Wrong.{Wrong}
-use Rattle.yaml_scan_text.proofs.MarksLemmas.{within}
-use Rattle.yaml_scan_scalars.specs.Pieces.{Piece, Kept, Blank, Break, value}
-use Rattle.yaml_scan_scalars.specs.Quoted.{Standing, Closing, Pieces, Bad, hex_digit, hex_value, is_scalar, coded, hex_len, simple_escape, escaped, escape_at, quote_at, standing_at, with_front, followed, pieces, valued, quoted_at}
+use Rattle.yaml_scan_layout.specs.scan_text.Marks.{byte, break_width, is_blank}
+use Rattle.yaml_scan_layout.specs.scan_text.Breaks.{break_value, is_document_indicator}
+use Rattle.yaml_scan_layout.specs.scan_text.Wrong.{Wrong}
+use Rattle.yaml_scan_layout.proofs.scan_text.MarksLemmas.{within}
+use Rattle.yaml_scan_layout.specs.scan_scalars.Pieces.{Piece, Kept, Blank, Break, value}
+use Rattle.yaml_scan_layout.specs.scan_scalars.Quoted.{Standing, Closing, Pieces, Bad, hex_digit, hex_value, is_scalar, coded, hex_len, simple_escape, escaped, escape_at, quote_at, standing_at, with_front, followed, pieces, valued, quoted_at}
 use Rattle.yaml_scan_utf8.proofs.Whole.{IsWhole, whole_ascii, whole_after, whole_before, whole_behind, blank_small, ascii_utf8, cut, break_utf8, nel_char, nbsp_char, ls_char, ps_char}
 use Rattle.yaml_scan_utf8.proofs.Values.{Goes, value_utf8}
 

@@ -2,7 +2,7 @@
 use Rattle.std.proofs.Common.{ℕ, zero, suc, ◌+◌, List, [], ◌∷◌, ◌++◌, length, take, drop, Option, Some, None, inl, inr, IsUtf8, All, flat_map}
 use Rattle.std.proofs.lemmas.Bool.{cases_Bool}
 use Rattle.std.proofs.lemmas.List.Elements.{All-nil, All-cons, All-append, All-drop, All-replicate}
-use Rattle.yaml_scan_text.specs.Tokens.{Token, block_end, block_sequence_start, block_mapping_start, key}
+use Rattle.yaml_scan_layout.specs.scan_text.Tokens.{Token, block_end, block_sequence_start, block_mapping_start, key}
 use Rattle.yaml_scan_layout.specs.declared.lexeme.Lexeme.{Lexeme}
 use Rattle.yaml_scan_layout.specs.declared.lexeme.Entry.{Entry}
 use Rattle.yaml_scan_layout.specs.declared.lexeme.Opens.{Opens}

@@ -1,6 +1,6 @@
 -- What the tokens of a text in UTF-8 carry.
 use Rattle.std.specs.Prelude.{ℕ, List, IsUtf8, All}
-use Rattle.yaml_scan_text.specs.declared.name.yaml_encoding_t.{yaml_encoding_t}
+use Rattle.yaml_scan_layout.specs.scan_text.declared.name.yaml_encoding_t.{yaml_encoding_t}
 use Rattle.yaml_scan_decode.specs.Spelling.{Spells}
 use Rattle.yaml_scan_layout.specs.Coming.{Stream, coming}
 use Rattle.yaml_scan_utf8.specs.Texts.{HasTexts}

@@ -1,7 +1,7 @@
 -- Which texts of a token are UTF-8 as the text is.
 use Rattle.std.specs.Prelude.{IsUtf8}
-use Rattle.yaml_scan_text.specs.Tokens as token
-use Rattle.yaml_scan_text.specs.Tokens.{TokenBody}
+use Rattle.yaml_scan_layout.specs.scan_text.Tokens as token
+use Rattle.yaml_scan_layout.specs.scan_text.Tokens.{TokenBody}
 
 -- Each text is UTF-8, but a tag's suffix and a directive's prefix: their escapes spell bytes.
 abbrev pub HasTexts : TokenBody → Type 0

@@ -5,3 +5,5 @@ pub mod Texts
 pub mod Loading
 pub mod Heights
 pub mod Sentences
+-- its grammar, for crates of laws that name the member alone
+pub use Rattle.yaml_parse_grammar.proofs as parse_grammar

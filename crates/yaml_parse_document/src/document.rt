@@ -16,8 +16,10 @@ pub use adding::{
 pub use parts::{DocumentParts, document_is_sound};
 use std::alloc::Global;
 use std::marker::Model;
-use yaml_parse_model::{are_utf8, copy_directives, yaml_node_t, yaml_text_fault_t};
-use yaml_scan::{yaml_mark_t, yaml_tag_directive_t, yaml_version_directive_t};
+use yaml_parse_model::{
+    are_utf8, copy_directives, yaml_mark_t, yaml_node_t, yaml_tag_directive_t, yaml_text_fault_t,
+    yaml_version_directive_t,
+};
 
 /// A document: its directives, and its nodes, which name each other by their numbers. The numbers count from 1, and
 /// the first node is the root. Its texts are UTF-8, and its numbers name its nodes.

@@ -1,9 +1,8 @@
 use crate::*;
 use std::test::Fail;
-use yaml_parse_model::{yaml_node_body_t, yaml_node_pair_t, yaml_text_fault_t};
-use yaml_scan::{
-    yaml_mapping_style_t, yaml_mark_t, yaml_scalar_style_t, yaml_sequence_style_t,
-    yaml_tag_directive_t, yaml_version_directive_t,
+use yaml_parse_model::{
+    yaml_mapping_style_t, yaml_mark_t, yaml_node_body_t, yaml_node_pair_t, yaml_scalar_style_t,
+    yaml_sequence_style_t, yaml_tag_directive_t, yaml_text_fault_t, yaml_version_directive_t,
 };
 
 const ZERO: yaml_mark_t = yaml_mark_t {

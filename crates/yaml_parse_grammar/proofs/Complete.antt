@@ -1,15 +1,15 @@
 -- The machine gives the items of a tree, and goes on behind it.
 use Rattle.std.proofs.Common.{◌≡◌, ℕ, Bool, true, false, if◌then◌else◌, ◌||◌, List, [], ◌∷◌, ◌++◌, length, Option, Some, None, refl, ap, subst, ◌∙◌}
 use Rattle.std.proofs.lemmas.List.{append_assoc}
-use Rattle.yaml_scan.specs.declared.yaml_mark_t.{yaml_mark_t}
-use Rattle.yaml_scan.specs.declared.yaml_token_type_t.{yaml_token_type_t}
-use Rattle.yaml_scan.specs.declared.yaml_token_type_t.TheVariants as kind
-use Rattle.yaml_scan.specs.Tokens.{Token, TokenBody, type_of}
-use Rattle.yaml_scan.specs.Tokens as token
-use Rattle.yaml_scan.specs.Faults.{Fault}
+use Rattle.yaml_parse_model.specs.declared.yaml_mark_t.{yaml_mark_t}
+use Rattle.yaml_parse_model.specs.declared.yaml_token_type_t.{yaml_token_type_t}
+use Rattle.yaml_parse_model.specs.declared.yaml_token_type_t.TheVariants as kind
+use Rattle.yaml_parse_model.specs.Tokens.{Token, TokenBody, type_of}
+use Rattle.yaml_parse_model.specs.Tokens as token
+use Rattle.yaml_parse_model.specs.Faults.{Fault}
 use Rattle.yaml_parse_model.specs.Events as event
-use Rattle.yaml_scan.specs.declared.yaml_sequence_style_t.TheVariants.{YAML_BLOCK_SEQUENCE_STYLE}
-use Rattle.yaml_scan.specs.declared.yaml_mapping_style_t.TheVariants.{YAML_BLOCK_MAPPING_STYLE}
+use Rattle.yaml_parse_model.specs.declared.yaml_sequence_style_t.TheVariants.{YAML_BLOCK_SEQUENCE_STYLE}
+use Rattle.yaml_parse_model.specs.declared.yaml_mapping_style_t.TheVariants.{YAML_BLOCK_MAPPING_STYLE}
 use Rattle.yaml_parse_grammar.specs.declared.name.Wants.{Wants}
 use Rattle.yaml_parse_grammar.specs.declared.name.Wants.TheVariants.{Flow, Block}
 use Rattle.yaml_parse_grammar.specs.declared.name.Side.{Side}

@@ -2,13 +2,13 @@
 use Rattle.std.proofs.Common.{◌≡◌, ℕ, ℤ, Bool, true, false, if◌then◌else◌, ◌||◌, List, [], ◌∷◌, ◌++◌, Option, Some, None, refl, sym, ap, subst}
 use Rattle.std.specs.Str.{bytes_eq}
 use Rattle.std.specs.Prelude.{codes}
-use Rattle.yaml_scan.specs.declared.yaml_mark_t.{yaml_mark_t}
-use Rattle.yaml_scan.specs.declared.yaml_scalar_style_t.{yaml_scalar_style_t}
-use Rattle.yaml_scan.specs.declared.yaml_version_directive_t.{yaml_version_directive_t}
-use Rattle.yaml_scan.specs.declared.yaml_token_type_t.{yaml_token_type_t}
-use Rattle.yaml_scan.specs.declared.yaml_token_type_t.TheVariants as kind
-use Rattle.yaml_scan.specs.Tokens.{Token, TokenBody, type_of}
-use Rattle.yaml_scan.specs.Tokens as token
+use Rattle.yaml_parse_model.specs.declared.yaml_mark_t.{yaml_mark_t}
+use Rattle.yaml_parse_model.specs.declared.yaml_scalar_style_t.{yaml_scalar_style_t}
+use Rattle.yaml_parse_model.specs.declared.yaml_version_directive_t.{yaml_version_directive_t}
+use Rattle.yaml_parse_model.specs.declared.yaml_token_type_t.{yaml_token_type_t}
+use Rattle.yaml_parse_model.specs.declared.yaml_token_type_t.TheVariants as kind
+use Rattle.yaml_parse_model.specs.Tokens.{Token, TokenBody, type_of}
+use Rattle.yaml_parse_model.specs.Tokens as token
 use Rattle.yaml_parse_model.specs.Events.{EventBody, TagDirective}
 use Rattle.yaml_parse_model.specs.Events as event
 use Rattle.yaml_parse_grammar.specs.declared.name.Wants.{Wants}

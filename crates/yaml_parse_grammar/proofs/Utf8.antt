@@ -2,11 +2,11 @@
 use Rattle.std.proofs.Common.{ℕ, ℤ, Bool, true, false, if◌then◌else◌, List, [], ◌∷◌, ◌++◌, Option, Some, None, option_map, IsUtf8, codes, refl}
 use Rattle.std.proofs.lemmas.Str.{IsUtf8-append, IsUtf8-nil}
 use Rattle.std.specs.Str.{bytes_eq}
-use Rattle.yaml_scan.specs.declared.yaml_mark_t.{yaml_mark_t}
-use Rattle.yaml_scan.specs.declared.yaml_scalar_style_t.{yaml_scalar_style_t}
-use Rattle.yaml_scan.specs.declared.yaml_version_directive_t.{yaml_version_directive_t}
-use Rattle.yaml_scan.specs.Tokens.{Token, TokenBody}
-use Rattle.yaml_scan.specs.Tokens as token
+use Rattle.yaml_parse_model.specs.declared.yaml_mark_t.{yaml_mark_t}
+use Rattle.yaml_parse_model.specs.declared.yaml_scalar_style_t.{yaml_scalar_style_t}
+use Rattle.yaml_parse_model.specs.declared.yaml_version_directive_t.{yaml_version_directive_t}
+use Rattle.yaml_parse_model.specs.Tokens.{Token, TokenBody}
+use Rattle.yaml_parse_model.specs.Tokens as token
 use Rattle.yaml_parse_model.specs.Source as source
 use Rattle.yaml_parse_model.specs.Events.{EventBody, TagDirective}
 use Rattle.yaml_parse_model.specs.Events as event

@@ -1,10 +1,10 @@
 -- A stack that isn't empty still has an event to give, or a fault.
 use Rattle.std.proofs.Common.{◌≡◌, ℕ, List, [], ◌∷◌, ◌++◌, length, map, Option, Some, None, refl}
-use Rattle.yaml_scan.specs.declared.yaml_mark_t.{yaml_mark_t}
-use Rattle.yaml_scan.specs.declared.yaml_token_type_t.TheVariants as kind
-use Rattle.yaml_scan.specs.Tokens.{Token, TokenBody, type_of, no_token}
-use Rattle.yaml_scan.specs.Tokens as token
-use Rattle.yaml_scan.specs.Faults.{Fault}
+use Rattle.yaml_parse_model.specs.declared.yaml_mark_t.{yaml_mark_t}
+use Rattle.yaml_parse_model.specs.declared.yaml_token_type_t.TheVariants as kind
+use Rattle.yaml_parse_model.specs.Tokens.{Token, TokenBody, type_of, no_token}
+use Rattle.yaml_parse_model.specs.Tokens as token
+use Rattle.yaml_parse_model.specs.Faults.{Fault}
 use Rattle.yaml_parse_grammar.specs.declared.name.Wants.{Wants}
 use Rattle.yaml_parse_grammar.specs.declared.name.Wants.TheVariants.{Flow, Block}
 use Rattle.yaml_parse_grammar.specs.declared.name.Brackets.{Brackets}

@@ -1,9 +1,9 @@
 -- Items: what the grammar gives, before tags and directives are resolved.
 use Rattle.std.specs.Prelude.{ℕ, ℤ, Bool, List, Option, Some, None}
-use Rattle.yaml_scan.specs.declared.yaml_mark_t.{yaml_mark_t}
-use Rattle.yaml_scan.specs.declared.yaml_scalar_style_t.{yaml_scalar_style_t}
-use Rattle.yaml_scan.specs.declared.yaml_sequence_style_t.{yaml_sequence_style_t}
-use Rattle.yaml_scan.specs.declared.yaml_mapping_style_t.{yaml_mapping_style_t}
+use Rattle.yaml_parse_model.specs.declared.yaml_mark_t.{yaml_mark_t}
+use Rattle.yaml_parse_model.specs.declared.yaml_scalar_style_t.{yaml_scalar_style_t}
+use Rattle.yaml_parse_model.specs.declared.yaml_sequence_style_t.{yaml_sequence_style_t}
+use Rattle.yaml_parse_model.specs.declared.yaml_mapping_style_t.{yaml_mapping_style_t}
 use Rattle.yaml_parse_model.specs.Events.{EventBody}
 
 -- a tag as it is written, and where it begins

@@ -7,3 +7,5 @@ pub mod Resolve
 pub mod Coming
 pub mod Texts
 pub mod Stacks
+-- what it stands on, for crates of laws that name this one alone
+pub use Rattle.yaml_parse_model.specs as parse_model

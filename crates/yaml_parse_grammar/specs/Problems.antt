@@ -1,10 +1,10 @@
 -- The parser's faults.
 use Rattle.std.specs.Prelude.{ℕ, pos, List, Option, Some, None, codes}
-use Rattle.yaml_scan.specs.declared.yaml_mark_t.{yaml_mark_t}
-use Rattle.yaml_scan.specs.declared.yaml_error_type_t.TheVariants.{YAML_PARSER_ERROR}
-use Rattle.yaml_scan.specs.declared.yaml_origin_t.TheVariants.{Parser}
-use Rattle.yaml_scan.specs.Tokens.{zero_mark}
-use Rattle.yaml_scan.specs.Faults.{Fault}
+use Rattle.yaml_parse_model.specs.declared.yaml_mark_t.{yaml_mark_t}
+use Rattle.yaml_parse_model.specs.declared.yaml_error_type_t.TheVariants.{YAML_PARSER_ERROR}
+use Rattle.yaml_parse_model.specs.declared.yaml_origin_t.TheVariants.{Parser}
+use Rattle.yaml_parse_model.specs.Tokens.{zero_mark}
+use Rattle.yaml_parse_model.specs.Faults.{Fault}
 use Rattle.yaml_parse_grammar.specs.declared.problem.ParseProblem.{ParseProblem}
 use Rattle.yaml_parse_grammar.specs.declared.problem.ParseProblem.TheVariants as problem
 

@@ -1,7 +1,7 @@
 //! Names of what may come.
 
 use crate::problem::ParseProblem;
-use yaml_scan::yaml_mark_t;
+use yaml_parse_model::yaml_mark_t;
 
 /// The two parts of a pair.
 #[derive(Clone, Copy, PartialEq, Eq, Debug)]

@@ -1,10 +1,10 @@
 //! Why a list of tokens can't be parsed, and the texts that tell it.
 
 ghost use Rattle.std.specs.Prelude.{◌≡◌, option_map};
-ghost use Rattle.yaml_scan.specs.Faults.{fault_of};
+ghost use Rattle.yaml_parse_model.specs.Faults.{fault_of};
 ghost use Rattle.yaml_parse_grammar.specs.Problems.{problem_text_of, context_text_of, context_place, parser_fault};
 
-use yaml_scan::{yaml_error_type_t, yaml_fault_t, yaml_mark_t, yaml_origin_t};
+use yaml_parse_model::{yaml_error_type_t, yaml_fault_t, yaml_mark_t, yaml_origin_t};
 
 /// What is wrong, and in what.
 #[derive(Clone, Copy, PartialEq, Eq, Debug)]

@@ -1,6 +1,6 @@
 -- Which trees have the same tokens.
 use Rattle.std.specs.Prelude.{◌≡◌, List}
-use Rattle.yaml_scan.specs.Tokens.{Token}
+use Rattle.yaml_parse_grammar.specs.parse_model.Tokens.{Token}
 use Rattle.yaml_parse_grammar.specs.Trees.{Stream, spell}
 
 -- Trees whose tokens begin alike are equal, and so is what follows them: equal tokens have one tree, and no tree's tokens begin another's.

@@ -2,8 +2,8 @@
 #![tactic(auto)]
 
 ghost use Rattle.std.specs.Prelude.{◌≤◌, ◌*◌, List, Option, length};
-ghost use Rattle.yaml_scan.specs.Tokens.{Token};
-ghost use Rattle.yaml_scan.specs.Faults.{Fault};
+ghost use Rattle.yaml_parse_grammar.specs.parse_model.Tokens.{Token};
+ghost use Rattle.yaml_parse_grammar.specs.parse_model.Faults.{Fault};
 ghost use Rattle.yaml_parse_grammar.specs.Machine.{run, initial};
 ghost use Rattle.yaml_parse_grammar.specs.Resolve.{Directives};
 ghost use Rattle.yaml_parse_grammar.specs.Coming.{reading_of};

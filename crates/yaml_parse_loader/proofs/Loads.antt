@@ -1,10 +1,10 @@
 -- The loader makes of the events of content what the content's numbering says.
 use Rattle.std.proofs.Common.{◌≡◌, ◌+◌, ℕ, suc, ℤ, List, [], ◌∷◌, ◌++◌, length, Option, Some, None, Result, Ok, Err, refl, ap, sym, ◌∙◌, append_assoc, append-nil, length-append}
 use Rattle.std.specs.FinMap as map
-use Rattle.yaml_scan.specs.declared.yaml_mark_t.{yaml_mark_t}
-use Rattle.yaml_scan.specs.declared.yaml_sequence_style_t.{yaml_sequence_style_t}
-use Rattle.yaml_scan.specs.declared.yaml_mapping_style_t.{yaml_mapping_style_t}
-use Rattle.yaml_scan.specs.Faults.{Fault}
+use Rattle.yaml_parse_model.specs.declared.yaml_mark_t.{yaml_mark_t}
+use Rattle.yaml_parse_model.specs.declared.yaml_sequence_style_t.{yaml_sequence_style_t}
+use Rattle.yaml_parse_model.specs.declared.yaml_mapping_style_t.{yaml_mapping_style_t}
+use Rattle.yaml_parse_model.specs.Faults.{Fault}
 use Rattle.yaml_parse_model.specs.declared.yaml_node_pair_t.{yaml_node_pair_t}
 use Rattle.yaml_parse_model.specs.Events.{Event}
 use Rattle.yaml_parse_model.specs.Events as event

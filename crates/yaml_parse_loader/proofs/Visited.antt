@@ -4,7 +4,7 @@ use Rattle.std.specs.Prelude.{slice_get}
 use Rattle.std.specs.FinMap as map
 use Rattle.std.specs.Ordering.{nat_cmp, eq_by_cmp}
 use Rattle.std.specs.Cmp.Lexicographic.{slice_cmp, nat_list_cmp_total}
-use Rattle.yaml_scan.specs.Faults.{Fault}
+use Rattle.yaml_parse_model.specs.Faults.{Fault}
 use Rattle.yaml_parse_model.specs.Nodes.{Node}
 use Rattle.yaml_parse_document.specs.Documents.{Document, IsId}
 use Rattle.yaml_parse_document.proofs.Sound.{length_push}

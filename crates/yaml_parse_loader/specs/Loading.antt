@@ -1,11 +1,11 @@
 -- A document in the making, and what each event makes of it.
 use Rattle.std.specs.Prelude.{ℕ, suc, ℤ, pos, Bool, true, false, List, [], ◌∷◌, ◌++◌, length, Option, Some, None, Result, Ok, Err, ◌≡◌, ◌⊎◌}
 use Rattle.std.specs.FinMap as map
-use Rattle.yaml_scan.specs.declared.yaml_mark_t.{yaml_mark_t}
-use Rattle.yaml_scan.specs.declared.yaml_version_directive_t.{yaml_version_directive_t}
-use Rattle.yaml_scan.specs.declared.yaml_fault_t.{yaml_fault_t}
-use Rattle.yaml_scan.specs.Tokens.{zero_mark}
-use Rattle.yaml_scan.specs.Faults.{Fault, fault_of, IsMemoryFault}
+use Rattle.yaml_parse_model.specs.declared.yaml_mark_t.{yaml_mark_t}
+use Rattle.yaml_parse_model.specs.declared.yaml_version_directive_t.{yaml_version_directive_t}
+use Rattle.yaml_parse_model.specs.declared.yaml_fault_t.{yaml_fault_t}
+use Rattle.yaml_parse_model.specs.Tokens.{zero_mark}
+use Rattle.yaml_parse_model.specs.Faults.{Fault, fault_of, IsMemoryFault}
 use Rattle.yaml_parse_model.specs.declared.yaml_node_pair_t.{yaml_node_pair_t}
 use Rattle.yaml_parse_model.specs.Events.{Event, EventBody, TagDirective}
 use Rattle.yaml_parse_model.specs.Events as event

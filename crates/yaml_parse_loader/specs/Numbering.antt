@@ -1,15 +1,15 @@
 -- A document's nodes, numbered in preorder from 1, and the number that each alias stands for.
 use Rattle.std.specs.Prelude.{ℕ, suc, ℤ, pos, ◌+◌, ◌==◌, Bool, false, cond, List, [], ◌∷◌, ◌++◌, length, Option, Some, None, Result, Ok, Err, codes}
 use Rattle.std.specs.FinMap as map
-use Rattle.yaml_scan.specs.declared.yaml_mark_t.{yaml_mark_t}
-use Rattle.yaml_scan.specs.declared.yaml_version_directive_t.{yaml_version_directive_t}
-use Rattle.yaml_scan.specs.declared.yaml_scalar_style_t.{yaml_scalar_style_t}
-use Rattle.yaml_scan.specs.declared.yaml_sequence_style_t.{yaml_sequence_style_t}
-use Rattle.yaml_scan.specs.declared.yaml_mapping_style_t.{yaml_mapping_style_t}
-use Rattle.yaml_scan.specs.declared.yaml_error_type_t.TheVariants.{YAML_COMPOSER_ERROR}
-use Rattle.yaml_scan.specs.declared.yaml_origin_t.TheVariants.{Loader}
-use Rattle.yaml_scan.specs.Tokens.{zero_mark}
-use Rattle.yaml_scan.specs.Faults.{Fault}
+use Rattle.yaml_parse_model.specs.declared.yaml_mark_t.{yaml_mark_t}
+use Rattle.yaml_parse_model.specs.declared.yaml_version_directive_t.{yaml_version_directive_t}
+use Rattle.yaml_parse_model.specs.declared.yaml_scalar_style_t.{yaml_scalar_style_t}
+use Rattle.yaml_parse_model.specs.declared.yaml_sequence_style_t.{yaml_sequence_style_t}
+use Rattle.yaml_parse_model.specs.declared.yaml_mapping_style_t.{yaml_mapping_style_t}
+use Rattle.yaml_parse_model.specs.declared.yaml_error_type_t.TheVariants.{YAML_COMPOSER_ERROR}
+use Rattle.yaml_parse_model.specs.declared.yaml_origin_t.TheVariants.{Loader}
+use Rattle.yaml_parse_model.specs.Tokens.{zero_mark}
+use Rattle.yaml_parse_model.specs.Faults.{Fault}
 use Rattle.yaml_parse_model.specs.declared.yaml_node_pair_t.{yaml_node_pair_t}
 use Rattle.yaml_parse_model.specs.Events.{Event, TagDirective}
 use Rattle.yaml_parse_model.specs.Events as event

@@ -6,7 +6,7 @@ ghost use Rattle.std.specs.FinMap as map;
 use std::alloc::{AllocError, Global};
 use std::collections::BTreeMap;
 use std::marker::Model;
-use yaml_scan::yaml_mark_t;
+use yaml_parse_model::yaml_mark_t;
 
 /// The last node so far that has an anchor: its number, and where it begins.
 #[derive(Clone, Copy)]

@@ -10,8 +10,7 @@ use std::alloc::Global;
 use std::marker::Model;
 use std::mem;
 use yaml_parse_document::yaml_document_t;
-use yaml_parse_model::yaml_event_t;
-use yaml_scan::yaml_fault_t;
+use yaml_parse_model::{yaml_event_t, yaml_fault_t};
 
 /// A document in the making. Events are moved in, and their texts become the document's. Nothing recurses: open
 /// collections stand on a stack of the loader's own, and each gets what it holds once, at its end.

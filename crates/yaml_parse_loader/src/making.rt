@@ -1,7 +1,7 @@
 //! A document in the making, and what an event makes of it.
 
 ghost use Rattle.std.specs.Prelude.{◌≡◌, ◌<◌, ◌⊎◌, ◌++◌, ◌∷◌, [], pos, suc, length, map, reverse, Option, Ok, Err, MatchResult, OnOk};
-ghost use Rattle.yaml_scan.specs.Faults.{fault_of, IsMemoryFault};
+ghost use Rattle.yaml_parse_model.specs.Faults.{fault_of, IsMemoryFault};
 ghost use Rattle.yaml_parse_model.specs.Events.{event_of, text_of, directive_of};
 ghost use Rattle.yaml_parse_model.specs.Nodes.{node_of};
 ghost use Rattle.yaml_parse_document.specs.Documents.{str_tag};
@@ -15,12 +15,9 @@ use crate::anchors::{AnchorTable, Anchored};
 use std::alloc::Global;
 use yaml_parse_document::{DocumentParts, MAX_ENTRIES, push_entry};
 use yaml_parse_model::{
-    yaml_event_body_t, yaml_event_t, yaml_node_body_t, yaml_node_pair_t, yaml_node_t,
-};
-use yaml_scan::{
-    yaml_error_type_t, yaml_fault_t, yaml_mapping_style_t, yaml_mark_t, yaml_memory_fault,
-    yaml_origin_t, yaml_scalar_style_t, yaml_sequence_style_t, yaml_tag_directive_t,
-    yaml_version_directive_t,
+    yaml_error_type_t, yaml_event_body_t, yaml_event_t, yaml_fault_t, yaml_mapping_style_t,
+    yaml_mark_t, yaml_memory_fault, yaml_node_body_t, yaml_node_pair_t, yaml_node_t, yaml_origin_t,
+    yaml_scalar_style_t, yaml_sequence_style_t, yaml_tag_directive_t, yaml_version_directive_t,
 };
 
 /// An open collection: the place of its node, and what it holds so far. A mapping may have a key without its value.

@@ -4,14 +4,11 @@ use std::test::Fail;
 use yaml_parse_document::{yaml_document_get_node, yaml_document_get_root_node, yaml_document_t};
 use yaml_parse_model::{
     yaml_alias_event_initialize, yaml_document_end_event_initialize,
-    yaml_document_start_event_initialize, yaml_event_t, yaml_event_utf8,
-    yaml_mapping_end_event_initialize, yaml_mapping_start_event_initialize, yaml_node_body_t,
-    yaml_node_pair_t, yaml_scalar_event_initialize, yaml_sequence_end_event_initialize,
-    yaml_sequence_start_event_initialize,
-};
-use yaml_scan::{
-    yaml_error_type_t, yaml_fault_t, yaml_mapping_style_t, yaml_mark_t, yaml_origin_t,
-    yaml_scalar_style_t, yaml_sequence_style_t,
+    yaml_document_start_event_initialize, yaml_error_type_t, yaml_event_t, yaml_event_utf8,
+    yaml_fault_t, yaml_mapping_end_event_initialize, yaml_mapping_start_event_initialize,
+    yaml_mapping_style_t, yaml_mark_t, yaml_node_body_t, yaml_node_pair_t, yaml_origin_t,
+    yaml_scalar_event_initialize, yaml_scalar_style_t, yaml_sequence_end_event_initialize,
+    yaml_sequence_start_event_initialize, yaml_sequence_style_t,
 };
 
 fn mark(column: u32) -> yaml_mark_t {

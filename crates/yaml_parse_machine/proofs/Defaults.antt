@@ -1,10 +1,10 @@
 -- The default arms of tables over tokens.
 use Rattle.std.proofs.Common.{◌≡◌, ℕ, [], ◌∷◌, Some, None, Vec, refl}
 use Rattle.std.specs.Global.{Global}
-use Rattle.yaml_scan.specs.declared.yaml_mark_t.{yaml_mark_t}
-use Rattle.yaml_scan.specs.Tokens.{body_of}
-use Rattle.yaml_scan.specs.declared.yaml_token_body_t.{yaml_token_body_t}
-use Rattle.yaml_scan.specs.declared.yaml_token_body_t.TheVariants as body
+use Rattle.yaml_parse_model.specs.declared.yaml_mark_t.{yaml_mark_t}
+use Rattle.yaml_parse_model.specs.Tokens.{body_of}
+use Rattle.yaml_parse_model.specs.declared.yaml_token_body_t.{yaml_token_body_t}
+use Rattle.yaml_parse_model.specs.declared.yaml_token_body_t.TheVariants as body
 use Rattle.yaml_parse_grammar.specs.declared.name.Wants.{Wants}
 use Rattle.yaml_parse_grammar.specs.declared.name.Wants.TheVariants.{Flow}
 use Rattle.yaml_parse_grammar.specs.declared.name.Brackets.{Brackets}

@@ -12,7 +12,7 @@ use Rattle.std.specs.Map.{lookup}
 use Rattle.std.specs.BTreeMap.{is_at, insert_entry}
 use Rattle.std.specs.FinMap.{find, put}
 use Rattle.std.specs.FinMap.Entries.{by_order, find-put}
-use Rattle.yaml_scan.specs.declared.yaml_tag_directive_t.{yaml_tag_directive_t}
+use Rattle.yaml_parse_model.specs.declared.yaml_tag_directive_t.{yaml_tag_directive_t}
 use Rattle.yaml_parse_model.specs.Events.{TagDirective, directive_of}
 use Rattle.yaml_parse_grammar.specs.Resolve.{directive_for}
 use Rattle.yaml_parse_machine.specs.TagView.{entry_of, TellsAll}

@@ -2,7 +2,7 @@
 use Rattle.std.proofs.Common.{◌≡◌, ◌+◌, ◌<◌, ◌≤◌, ℕ, List, [], ◌∷◌, ◌++◌, length, drop, get_or, map, ap, sym, ◌∙◌, arith, suc}
 use Rattle.std.proofs.Math.Seq.{drop-cons}
 use Rattle.std.proofs.lemmas.List.{drop_all, map-append, append-nil, append_assoc}
-use Rattle.yaml_scan.specs.declared.yaml_tag_directive_t.{yaml_tag_directive_t}
+use Rattle.yaml_parse_model.specs.declared.yaml_tag_directive_t.{yaml_tag_directive_t}
 use Rattle.yaml_parse_model.specs.Events.{TagDirective, directive_of}
 
 drop_at : (tags : List yaml_tag_directive_t) (i : ℕ) (d : yaml_tag_directive_t) → i < length tags → d ≡ get_or tags i d → drop i tags ≡ d ∷ drop (i + 1) tags

@@ -4,12 +4,12 @@ ghost use Rattle.std.specs.Prelude.{◌≡◌};
 ghost use Rattle.yaml_parse_grammar.specs.Machine.{starts_content, starts_node, wants_of, closes, parts_documents, follows, joins, no_node, no_end, choice_at};
 ghost use Rattle.yaml_parse_grammar.specs.States as state;
 ghost use Rattle.yaml_parse_grammar.specs.declared.name.Place.TheVariants.{BlockPair};
-ghost use Rattle.yaml_scan.specs.declared.yaml_token_type_t.TheVariants.{YAML_VALUE_TOKEN};
+ghost use Rattle.yaml_parse_model.specs.declared.yaml_token_type_t.TheVariants.{YAML_VALUE_TOKEN};
 ghost use Rattle.yaml_parse_machine.specs.Views.{properties_of, state_of};
 
 use crate::item::{Properties, State};
 use yaml_parse_grammar::{Brackets, Choice, ParseProblem, Place, Side, Wants};
-use yaml_scan::{yaml_mark_t, yaml_token_type_t};
+use yaml_parse_model::{yaml_mark_t, yaml_token_type_t};
 
 // A node's content may begin with the token.
 fn is_content(wants: Wants, kind: yaml_token_type_t) -> bool

@@ -9,7 +9,7 @@ use crate::resolving::Refusal;
 use std::alloc::Global;
 use std::collections::BTreeMap;
 use std::marker::Model;
-use yaml_scan::yaml_tag_directive_t;
+use yaml_parse_model::yaml_tag_directive_t;
 
 /// The tag directives of a document, in their order. Each is found by its handle.
 #[derive(Drop)]

@@ -1,7 +1,7 @@
 //! States, and items: events whose tags and directives are not resolved.
 
 use yaml_parse_grammar::{Brackets, Place, Side, Wants};
-use yaml_scan::{
+use yaml_parse_model::{
     yaml_encoding_t, yaml_mapping_style_t, yaml_mark_t, yaml_scalar_style_t, yaml_sequence_style_t,
 };
 

@@ -15,8 +15,10 @@ use crate::item::{Item, ItemBody, Plain, Properties, Shape, Tag};
 use std::alloc::{AllocError, AllocFailed, Global};
 use std::mem;
 use yaml_parse_grammar::{ParseFault, ParseProblem};
-use yaml_parse_model::{yaml_event_body_t, yaml_event_t};
-use yaml_scan::{yaml_mark_t, yaml_scalar_style_t, yaml_tag_directive_t, yaml_version_directive_t};
+use yaml_parse_model::{
+    yaml_event_body_t, yaml_event_t, yaml_mark_t, yaml_scalar_style_t, yaml_tag_directive_t,
+    yaml_version_directive_t,
+};
 
 /// The directives of a document.
 #[derive(Drop)]

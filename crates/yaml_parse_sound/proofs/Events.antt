@@ -1,7 +1,7 @@
 -- The events of items that begin alike begin alike.
 use Rattle.std.proofs.Common.{◌≡◌, ℕ, List, [], ◌∷◌, ◌++◌, Option, refl, ap, sym, subst}
-use Rattle.yaml_scan.specs.Faults.{Fault}
-use Rattle.yaml_parse_model.specs.Events.{Event}
+use Rattle.yaml_parse_grammar.specs.parse_model.Faults.{Fault}
+use Rattle.yaml_parse_grammar.specs.parse_model.Events.{Event}
 use Rattle.yaml_parse_grammar.specs.Items.{Item}
 use Rattle.yaml_parse_grammar.specs.Trees.{Given}
 use Rattle.yaml_parse_grammar.specs.Resolve.{Directives, Settled, refused, gave, noted, settle, Reading, placed, read_on, reading}

@@ -1,8 +1,8 @@
 -- What the machine accepts begins with the tokens of a tree.
 use Rattle.std.proofs.Common.{◌≡◌, ℕ, true, false, List, [], ◌∷◌, length, Option, Some, None, refl, ap, sym, subst, ◌∙◌}
-use Rattle.yaml_scan.specs.declared.yaml_token_type_t.TheVariants as kind
-use Rattle.yaml_scan.specs.Tokens.{Token, type_of, no_token}
-use Rattle.yaml_scan.specs.Faults.{Fault}
+use Rattle.yaml_parse_grammar.specs.parse_model.declared.yaml_token_type_t.TheVariants as kind
+use Rattle.yaml_parse_grammar.specs.parse_model.Tokens.{Token, type_of, no_token}
+use Rattle.yaml_parse_grammar.specs.parse_model.Faults.{Fault}
 use Rattle.yaml_parse_grammar.specs.declared.name.Place.TheVariants.{Root}
 use Rattle.yaml_parse_grammar.specs.declared.name.Choice.{Choice}
 use Rattle.yaml_parse_grammar.specs.declared.name.Choice.TheVariants.{Refuse, Take, Leave, Open}

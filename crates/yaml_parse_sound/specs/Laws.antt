@@ -1,11 +1,11 @@
 -- Which lists of tokens the machine accepts.
 use Rattle.std.specs.Prelude.{◌≡◌, ◌⊎◌, List, [], ◌∷◌, ◌++◌, Option, Some, None}
-use Rattle.yaml_scan.specs.declared.yaml_mark_t.{yaml_mark_t}
-use Rattle.yaml_scan.specs.declared.yaml_error_type_t.TheVariants.{YAML_PARSER_ERROR}
-use Rattle.yaml_scan.specs.declared.yaml_origin_t.TheVariants.{Parser}
-use Rattle.yaml_scan.specs.Tokens.{Token, zero_mark}
-use Rattle.yaml_scan.specs.Faults.{Fault}
-use Rattle.yaml_parse_model.specs.Events.{Event}
+use Rattle.yaml_parse_grammar.specs.parse_model.declared.yaml_mark_t.{yaml_mark_t}
+use Rattle.yaml_parse_grammar.specs.parse_model.declared.yaml_error_type_t.TheVariants.{YAML_PARSER_ERROR}
+use Rattle.yaml_parse_grammar.specs.parse_model.declared.yaml_origin_t.TheVariants.{Parser}
+use Rattle.yaml_parse_grammar.specs.parse_model.Tokens.{Token, zero_mark}
+use Rattle.yaml_parse_grammar.specs.parse_model.Faults.{Fault}
+use Rattle.yaml_parse_grammar.specs.parse_model.Events.{Event}
 use Rattle.yaml_parse_grammar.specs.Items.{Item}
 use Rattle.yaml_parse_grammar.specs.Trees.{Stream, spell, items, Given}
 use Rattle.yaml_parse_grammar.specs.Machine.{run, initial}

@@ -9,10 +9,10 @@ use super::{place, yaml_document_t};
 use simdutf8::is_utf8;
 use std::alloc::Global;
 use yaml_parse_model::{
-    copy_text, is_utf8_option, yaml_node_body_t, yaml_node_item_t, yaml_node_pair_t, yaml_node_t,
+    copy_text, is_utf8_option, yaml_mapping_style_t, yaml_mark_t, yaml_node_body_t,
+    yaml_node_item_t, yaml_node_pair_t, yaml_node_t, yaml_scalar_style_t, yaml_sequence_style_t,
     yaml_text_fault_t,
 };
-use yaml_scan::{yaml_mapping_style_t, yaml_mark_t, yaml_scalar_style_t, yaml_sequence_style_t};
 
 /// A list of a document has at most this many entries.
 pub const MAX_ENTRIES: usize = 2_147_483_647;

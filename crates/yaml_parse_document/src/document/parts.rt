@@ -5,8 +5,7 @@ ghost use Rattle.yaml_parse_document.specs.Documents.{IsDocument};
 
 use super::yaml_document_t;
 use std::alloc::Global;
-use yaml_parse_model::yaml_node_t;
-use yaml_scan::{yaml_mark_t, yaml_tag_directive_t, yaml_version_directive_t};
+use yaml_parse_model::{yaml_mark_t, yaml_node_t, yaml_tag_directive_t, yaml_version_directive_t};
 
 /// The parts of a document, which need not fit together yet.
 #[derive(Drop)]

@@ -8,3 +8,5 @@ pub mod Within
 pub mod Verdicts
 pub mod Dumped
 pub mod DumpsJudged
+-- what it stands on, for laws that name the member alone
+pub use Rattle.yaml_parse.proofs as parse

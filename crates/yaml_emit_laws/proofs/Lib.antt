@@ -2,3 +2,5 @@ pub mod Passing
 pub mod Naming
 pub mod Contents
 pub mod Loading
+-- what it speaks of, for laws that name this crate alone
+pub use Rattle.yaml_emit.proofs.parse

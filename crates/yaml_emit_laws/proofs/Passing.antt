@@ -1,16 +1,16 @@
 -- A list of events of which none is refused goes on to the end of a stream.
 use Rattle.std.proofs.Common.{◌≡◌, Bool, true, false, List, [], ◌∷◌, ◌++◌, Option, Some, None, refl, sym, ap, ◌∙◌, subst, append-nil}
-use Rattle.yaml_scan.specs.declared.yaml_encoding_t.{yaml_encoding_t}
-use Rattle.yaml_scan.specs.declared.yaml_encoding_t.TheVariants.{YAML_ANY_ENCODING}
-use Rattle.yaml_scan.specs.declared.yaml_scalar_style_t.TheVariants.{YAML_ANY_SCALAR_STYLE}
-use Rattle.yaml_emit_text.specs.Layout.{written}
-use Rattle.yaml_emit_text.specs.Settings.{settled}
-use Rattle.yaml_emit_layout.specs.Nodes.{stream_layout}
-use Rattle.yaml_emit_layout.specs.declared.Problem.{Problem}
-use Rattle.yaml_emit_layout.specs.declared.Place.{Place}
-use Rattle.yaml_emit_layout.specs.declared.Place.TheVariants as at
-use Rattle.yaml_emit_layout.specs.Content.{Scalar, Node, alias_node, scalar_node, sequence_node, mapping_node, Nodes, no_nodes, node, Pairs, no_pairs, pair, Document, Event, stream_start, stream_end, document_start, document_end, alias, scalar, sequence_start, sequence_end, mapping_start, mapping_end, node_events, items_events, pairs_events, documents_events, stream_events}
-use Rattle.yaml_emit_layout.specs.Grammar.{or_else, event_problem, last_problem, node_problem, place_problem, problem_by, own_problem, own_problems}
+use Rattle.yaml_emit.specs.scan.declared.yaml_encoding_t.{yaml_encoding_t}
+use Rattle.yaml_emit.specs.scan.declared.yaml_encoding_t.TheVariants.{YAML_ANY_ENCODING}
+use Rattle.yaml_emit.specs.scan.declared.yaml_scalar_style_t.TheVariants.{YAML_ANY_SCALAR_STYLE}
+use Rattle.yaml_emit.specs.emit_text.Layout.{written}
+use Rattle.yaml_emit.specs.emit_text.Settings.{settled}
+use Rattle.yaml_emit.specs.emit_layout.Nodes.{stream_layout}
+use Rattle.yaml_emit.specs.emit_layout.declared.Problem.{Problem}
+use Rattle.yaml_emit.specs.emit_layout.declared.Place.{Place}
+use Rattle.yaml_emit.specs.emit_layout.declared.Place.TheVariants as at
+use Rattle.yaml_emit.specs.emit_layout.Content.{Scalar, Node, alias_node, scalar_node, sequence_node, mapping_node, Nodes, no_nodes, node, Pairs, no_pairs, pair, Document, Event, stream_start, stream_end, document_start, document_end, alias, scalar, sequence_start, sequence_end, mapping_start, mapping_end, node_events, items_events, pairs_events, documents_events, stream_events}
+use Rattle.yaml_emit.specs.emit_layout.Grammar.{or_else, event_problem, last_problem, node_problem, place_problem, problem_by, own_problem, own_problems}
 use Rattle.yaml_emit.specs.Judged.{Due, item_due, key_due, value_due, Shape, inside, behind_node, first_shape, shape_after, level_due, problem_in, first_refusal}
 use Rattle.yaml_emit_laws.specs.Laws.{shape_behind, RightStream, PassedAreStreams, PassedAreFronts, RightStreamsHaveTexts}
 

@@ -3,3 +3,7 @@ pub mod Grammar
 pub mod Nodes
 pub mod State
 pub mod ToCome
+-- what it stands on, for crates of laws that name this one alone
+pub use Rattle.yaml_emit_text.specs as emit_text
+pub use Rattle.yaml_emit_text.specs.scan
+pub use Rattle.yaml_emit_text.specs.parse

@@ -5,13 +5,13 @@ use Rattle.std.proofs.lemmas.Bool.{cases_Bool}
 use Rattle.std.proofs.lemmas.Str.{encode_ascii, encodes-append, encodes-chars, scalars-chars}
 use Rattle.std.specs.Str.{all_scalars, chars}
 use lib.Utf8.{encode as encode_char}
-use Rattle.yaml_scan_text.specs.Marks.{byte}
-use Rattle.yaml_scan_text.specs.Wrong.{Wrong}
+use Rattle.yaml_scan_scalars.specs.scan_text.Marks.{byte}
+use Rattle.yaml_scan_scalars.specs.scan_text.Wrong.{Wrong}
 use Rattle.yaml_scan_scalars.specs.Quoted.{double_quoted_at}
-use Rattle.yaml_emit_sink.specs.declared.Cursor.{Cursor}
-use Rattle.yaml_emit_sink.specs.declared.Encoding.TheVariants.{Utf8}
-use Rattle.yaml_emit_sink.specs.Text.{Item, letter, char_bytes, encode}
-use Rattle.yaml_emit_sink.specs.Layout.{Layout, Rest, ◌▹◌, choose, char, nothing_more, is_past}
+use Rattle.yaml_emit_text.specs.declared.Cursor.{Cursor}
+use Rattle.yaml_emit_text.specs.declared.Encoding.TheVariants.{Utf8}
+use Rattle.yaml_emit_text.specs.Text.{Item, letter, char_bytes, encode}
+use Rattle.yaml_emit_text.specs.Layout.{Layout, Rest, ◌▹◌, choose, char, nothing_more, is_past}
 use Rattle.yaml_emit_text.specs.declared.page.Page.{Page}
 use Rattle.yaml_emit_text.specs.Quoted.{is_empty, may_fold, fold as fold_layout, escaped, quoted_char, quoted_body, double_quoted}
 use Rattle.yaml_emit_text.specs.Spelling as emitted

@@ -3,7 +3,7 @@ use Rattle.std.proofs.Common.{◌≡◌, ◌≢◌, ℕ, zero, suc, ◌+◌, ◌
 use Rattle.std.specs.Prelude.{if◌then◌else◌, option_and_then}
 use Rattle.std.proofs.lemmas.Bool.{cases_Bool, cases_lt, cases_eq}
 use Rattle.std.proofs.lemmas.Bool.Decides.{nat_tests}
-use Rattle.yaml_scan_text.specs.Marks.{byte, break_of, ends_of, is_blank}
+use Rattle.yaml_scan_scalars.specs.scan_text.Marks.{byte, break_of, ends_of, is_blank}
 use Rattle.yaml_scan_scalars.specs.Quoted.{hex_digit, hex_value, hex_len, simple_escape}
 use Rattle.yaml_back_quoted.specs.Spelling.{number_behind}
 

@@ -5,11 +5,11 @@ use Rattle.std.proofs.lemmas.Bool.{cases_Bool, cases_lt, cases_eq}
 use Rattle.std.proofs.lemmas.Bool.Decides.{nat_tests}
 use Rattle.std.proofs.lemmas.Str.{encode_ascii, encodes-append}
 use lib.Utf8.{scalar, scalar_cases, encode}
-use Rattle.yaml_scan_text.specs.Marks.{is_blank}
+use Rattle.yaml_scan_scalars.specs.scan_text.Marks.{is_blank}
 use Rattle.yaml_scan_scalars.specs.Quoted.{hex_digit, hex_len, simple_escape}
-use Rattle.yaml_emit_sink.specs.declared.LineBreak.{LineBreak}
-use Rattle.yaml_emit_sink.specs.declared.LineBreak.TheVariants.{Lf, Cr, CrLf}
-use Rattle.yaml_emit_sink.specs.Text.{is_break}
+use Rattle.yaml_emit_text.specs.declared.LineBreak.{LineBreak}
+use Rattle.yaml_emit_text.specs.declared.LineBreak.TheVariants.{Lf, Cr, CrLf}
+use Rattle.yaml_emit_text.specs.Text.{is_break}
 use Rattle.yaml_emit_text.specs.Quoted.{escape_letter, escape_text, hex_2, hex_4, hex_8, hex_digit as digit_of}
 use Rattle.yaml_emit_text.specs.Spelling as emitted
 use Rattle.yaml_back_quoted.specs.Spelling.{LineEnd, feed, return, return_feed, Turn, turn_bytes, turn_means, may_turn, Part, raw, doubled, named, numbered, fold, joint, spelled, meant, spelling, meaning, number_behind, may_be_raw, MayStand, is_raw_blank, is_fold, is_turn, may_follow, may_be_next, IsSpelling}

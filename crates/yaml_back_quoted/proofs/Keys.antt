@@ -7,9 +7,9 @@ use Rattle.std.proofs.lemmas.List.{length-append}
 use Rattle.std.proofs.lemmas.Str.{scalars-chars}
 use Rattle.std.specs.Str.{all_scalars, chars}
 use lib.Utf8.{scalar}
-use Rattle.yaml_emit_sink.specs.declared.Cursor.{Cursor}
-use Rattle.yaml_emit_sink.specs.Text.{Item, letter, is_break}
-use Rattle.yaml_emit_sink.specs.Layout.{Layout, Rest, ◌▹◌, char, letters}
+use Rattle.yaml_emit_text.specs.declared.Cursor.{Cursor}
+use Rattle.yaml_emit_text.specs.Text.{Item, letter, is_break}
+use Rattle.yaml_emit_text.specs.Layout.{Layout, Rest, ◌▹◌, char, letters}
 use Rattle.yaml_emit_text.specs.declared.page.Page.{Page}
 use Rattle.yaml_emit_text.specs.Quoted.{is_printable, needs_escape, escape_text, escaped, quoted_char, quoted_body}
 use Rattle.yaml_emit_text.specs.Spelling.{in_front}

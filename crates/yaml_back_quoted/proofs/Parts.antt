@@ -4,9 +4,9 @@ use Rattle.std.proofs.lemmas.Bool.{cases_Bool, cases_lt}
 use Rattle.std.proofs.lemmas.Bool.Decides.{nat_tests}
 use Rattle.std.proofs.lemmas.List.{length-append, get_or_past}
 use lib.Utf8.{scalar, scalar_cases}
-use Rattle.yaml_scan_text.specs.Marks.{byte, break_of, ends_of, break_width, ends_break, starts, column_at, is_blank}
-use Rattle.yaml_scan_text.specs.Breaks.{is_document_indicator}
-use Rattle.yaml_scan_text.specs.Wrong.{Wrong}
+use Rattle.yaml_scan_scalars.specs.scan_text.Marks.{byte, break_of, ends_of, break_width, ends_break, starts, column_at, is_blank}
+use Rattle.yaml_scan_scalars.specs.scan_text.Breaks.{is_document_indicator}
+use Rattle.yaml_scan_scalars.specs.scan_text.Wrong.{Wrong}
 use Rattle.yaml_scan_scalars.specs.Pieces.{Piece, Kept, Blank, Break, value}
 use Rattle.yaml_scan_scalars.specs.Quoted.{Standing, Closing, Pieces, Bad, quote_at, standing_at, with_front, followed, pieces, valued, quoted_at, double_quoted_at, single_quoted_at}
 use Rattle.yaml_back_quoted.specs.Stands.{HasAt}

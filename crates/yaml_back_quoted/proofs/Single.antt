@@ -6,13 +6,13 @@ use Rattle.std.proofs.lemmas.Bool.Decides.{nat_tests}
 use Rattle.std.proofs.lemmas.Str.{encode_ascii, encodes-append, encodes-chars, scalars-chars}
 use Rattle.std.specs.Str.{all_scalars, chars}
 use lib.Utf8.{scalar}
-use Rattle.yaml_scan_text.specs.Marks.{byte, is_blank}
+use Rattle.yaml_scan_scalars.specs.scan_text.Marks.{byte, is_blank}
 use Rattle.yaml_scan_scalars.specs.Quoted.{single_quoted_at}
-use Rattle.yaml_emit_sink.specs.declared.Cursor.{Cursor}
-use Rattle.yaml_emit_sink.specs.declared.LineBreak.{LineBreak}
-use Rattle.yaml_emit_sink.specs.declared.LineBreak.TheVariants.{Lf, Cr, CrLf}
-use Rattle.yaml_emit_sink.specs.Text.{Item, letter, is_break}
-use Rattle.yaml_emit_sink.specs.Layout.{Layout, Rest, ◌▹◌, stay, choose, when, char, blanks, new_line, line, indent_to, must_break, is_past}
+use Rattle.yaml_emit_text.specs.declared.Cursor.{Cursor}
+use Rattle.yaml_emit_text.specs.declared.LineBreak.{LineBreak}
+use Rattle.yaml_emit_text.specs.declared.LineBreak.TheVariants.{Lf, Cr, CrLf}
+use Rattle.yaml_emit_text.specs.Text.{Item, letter, is_break}
+use Rattle.yaml_emit_text.specs.Layout.{Layout, Rest, ◌▹◌, stay, choose, when, char, blanks, new_line, line, indent_to, must_break, is_past}
 use Rattle.yaml_emit_text.specs.declared.page.Page.{Page}
 use Rattle.yaml_emit_text.specs.Quoted.{is_printable, first, is_empty}
 use Rattle.yaml_emit_text.specs.Scalars.{value_break, cuts_at, cut, quote_char, text_char, flow_char, flow_body}

@@ -5,9 +5,9 @@ use Rattle.std.proofs.lemmas.Bool.{cases_Bool, cases_lt, cases_eq}
 use Rattle.std.proofs.lemmas.Bool.Decides.{nat_tests}
 use Rattle.std.proofs.lemmas.List.{length-append, get_or_past}
 use lib.Utf8.{scalar, scalar_cases}
-use Rattle.yaml_scan_text.specs.Marks.{byte, break_of, ends_of, break_width, ends_break, starts, column_at, is_blank}
-use Rattle.yaml_scan_text.specs.Breaks.{break_value, is_document_indicator}
-use Rattle.yaml_scan_text.specs.Wrong.{Wrong}
+use Rattle.yaml_scan_scalars.specs.scan_text.Marks.{byte, break_of, ends_of, break_width, ends_break, starts, column_at, is_blank}
+use Rattle.yaml_scan_scalars.specs.scan_text.Breaks.{break_value, is_document_indicator}
+use Rattle.yaml_scan_scalars.specs.scan_text.Wrong.{Wrong}
 use Rattle.yaml_scan_scalars.specs.Pieces.{Piece, Kept, Blank, Break, value}
 use Rattle.yaml_scan_scalars.specs.Quoted.{Standing, Closing, Pieces, Bad, hex_value, hex_len, simple_escape, is_scalar, coded, escaped, escape_at, quote_at, standing_at, with_front, followed, pieces, valued, quoted_at}
 use Rattle.yaml_back_quoted.specs.Stands.{HasAt}

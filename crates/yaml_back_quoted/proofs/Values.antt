@@ -4,7 +4,7 @@ use Rattle.std.specs.Prelude.{if◌then◌else◌}
 use Rattle.std.proofs.lemmas.Bool.{cases_Bool, cases_lt}
 use Rattle.std.proofs.lemmas.Str.{encode_ascii}
 use Rattle.std.proofs.lemmas.Bool.Decides.{nat_tests}
-use Rattle.yaml_scan_text.specs.Marks.{is_blank}
+use Rattle.yaml_scan_scalars.specs.scan_text.Marks.{is_blank}
 use Rattle.yaml_scan_scalars.specs.Pieces.{Piece, Kept, Blank, Break, Line, lines, is_empty, text, trim_end, trim_start, gap, Rest, rest_of, folded, value}
 use Rattle.yaml_scan_scalars.proofs.FoldingLemmas.{value-kept}
 use Rattle.yaml_back_quoted.specs.Spelling.{LineEnd, end_means, Turn, turn_means, Part, raw, doubled, named, numbered, fold, joint, meant, meaning, IsSpelling, MayStand, may_follow, may_be_next, is_raw_blank, is_fold, is_turn}

@@ -1,12 +1,12 @@
 -- What is written between quotes is read back.
 use Rattle.std.specs.Prelude.{ℕ, ◌+◌, ◌<◌, ◌≡◌, true, false, List, length, Ok, IsUtf8}
 use Rattle.std.specs.Str.{chars}
-use Rattle.yaml_scan_text.specs.Marks.{byte}
+use Rattle.yaml_scan_scalars.specs.scan_text.Marks.{byte}
 use Rattle.yaml_scan_scalars.specs.Quoted.{double_quoted_at, single_quoted_at}
-use Rattle.yaml_emit_sink.specs.declared.Cursor.{Cursor}
-use Rattle.yaml_emit_sink.specs.declared.Encoding.TheVariants.{Utf8}
-use Rattle.yaml_emit_sink.specs.Text.{encode}
-use Rattle.yaml_emit_sink.specs.Layout.{nothing_more}
+use Rattle.yaml_emit_text.specs.declared.Cursor.{Cursor}
+use Rattle.yaml_emit_text.specs.declared.Encoding.TheVariants.{Utf8}
+use Rattle.yaml_emit_text.specs.Text.{encode}
+use Rattle.yaml_emit_text.specs.Layout.{nothing_more}
 use Rattle.yaml_emit_text.specs.declared.page.Page.{Page}
 use Rattle.yaml_emit_text.specs.Quoted.{double_quoted}
 use Rattle.yaml_emit_text.specs.Style.{allowed}

@@ -1,10 +1,10 @@
 -- Layouts whose characters are read back.
 use Rattle.std.specs.Prelude.{ℕ, ◌+◌, ◌≡◌, Bool, true, not, ◌&&◌, if◌then◌else◌, List, [], ◌∷◌, length, Result, Ok, encode_utf8_all}
-use Rattle.yaml_scan_text.specs.Marks.{byte}
-use Rattle.yaml_scan_text.specs.Wrong.{Wrong}
-use Rattle.yaml_emit_sink.specs.declared.Cursor.{Cursor}
-use Rattle.yaml_emit_sink.specs.Text.{is_break}
-use Rattle.yaml_emit_sink.specs.Layout.{Layout, Rest, ◌▹◌, char}
+use Rattle.yaml_scan_scalars.specs.scan_text.Marks.{byte}
+use Rattle.yaml_scan_scalars.specs.scan_text.Wrong.{Wrong}
+use Rattle.yaml_emit_text.specs.declared.Cursor.{Cursor}
+use Rattle.yaml_emit_text.specs.Text.{is_break}
+use Rattle.yaml_emit_text.specs.Layout.{Layout, Rest, ◌▹◌, char}
 use Rattle.yaml_emit_text.specs.declared.page.Page.{Page}
 use Rattle.yaml_emit_text.specs.Quoted.{quoted_body}
 use Rattle.yaml_emit_text.specs.Scalars.{flow_body}

@@ -8,7 +8,7 @@ use Rattle.yaml_scan.specs.declared.yaml_error_type_t.TheVariants.{YAML_MEMORY_E
 use Rattle.yaml_scan.specs.Tokens as token
 use Rattle.yaml_scan.specs.Tokens.{Token, TokenBody}
 use Rattle.yaml_scan.specs.Faults.{Fault}
-use Rattle.yaml_scan_layout.specs.Coming.{Stream, Coming, coming}
+use Rattle.yaml_scan.specs.scan_layout.Coming.{Stream, Coming, coming}
 use Rattle.yaml_scan_utf8.specs.Texts.{HasTexts}
 use Rattle.yaml_scan_utf8.proofs.TokensUtf8.{coming_sound}
 use Rattle.yaml_parse.specs.Source.{front_of, rest_of, MayAnswer, HasUtf8, GivesToken, GivesFault}

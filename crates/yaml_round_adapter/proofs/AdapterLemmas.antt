@@ -4,15 +4,15 @@ use Rattle.std.proofs.lemmas.List.Elements.{All-nil, All-head, All-tail}
 use Rattle.yaml_scan.specs.declared.yaml_encoding_t.{yaml_encoding_t}
 use Rattle.yaml_scan.specs.Tokens.{Token}
 use Rattle.yaml_scan.specs.Faults.{Fault}
-use Rattle.yaml_scan_decode.specs.declared.offence.Offence.{Offence}
-use Rattle.yaml_scan_decode.specs.Encodings.{encoding_of}
-use Rattle.yaml_scan_decode.specs.Decoding.{decoded_text}
-use Rattle.yaml_scan_decode.proofs.DecodeLemmas.{AreBytes}
-use Rattle.yaml_scan_decode.proofs.CompleteLemmas.{decoded_spells}
+use Rattle.yaml_scan.specs.scan_decode.declared.offence.Offence.{Offence}
+use Rattle.yaml_scan.specs.scan_decode.Encodings.{encoding_of}
+use Rattle.yaml_scan.specs.scan_decode.Decoding.{decoded_text}
+use Rattle.yaml_scan.proofs.scan_decode.DecodeLemmas.{AreBytes}
+use Rattle.yaml_scan.proofs.scan_decode.CompleteLemmas.{decoded_spells}
 use Rattle.yaml_scan_utf8.specs.Texts.{HasTexts}
 use Rattle.yaml_scan_utf8.proofs.Decoded.{spelled_utf8}
 use Rattle.yaml_scan_utf8.proofs.TokensUtf8.{coming_sound}
-use Rattle.yaml_scan_layout.specs.Coming.{Coming}
+use Rattle.yaml_scan.specs.scan_layout.Coming.{Coming}
 use Rattle.yaml_scan.specs.Scanned.{scanned_in, scanned}
 use Rattle.yaml_scan.specs.Session as session
 use Rattle.yaml_scan.specs.Session.{View, first_of, others_of, behind_first}

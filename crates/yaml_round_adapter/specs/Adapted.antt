@@ -7,7 +7,7 @@ use Rattle.yaml_scan.specs.declared.yaml_origin_t.TheVariants.{Adapter}
 use Rattle.yaml_scan.specs.Tokens as token
 use Rattle.yaml_scan.specs.Tokens.{Token, TokenBody}
 use Rattle.yaml_scan.specs.Faults.{Fault}
-use Rattle.yaml_scan_layout.specs.Coming.{Coming}
+use Rattle.yaml_scan.specs.scan_layout.Coming.{Coming}
 
 -- What escapes spell byte by byte is UTF-8: a tag's suffix, and a directive's prefix.
 abbrev pub spells_text : TokenBody → Bool

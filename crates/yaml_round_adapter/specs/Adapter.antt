@@ -4,7 +4,7 @@ use Rattle.yaml_scan.specs.declared.yaml_token_t.{yaml_token_t}
 use Rattle.yaml_scan.specs.declared.yaml_fault_t.{yaml_fault_t}
 use Rattle.yaml_scan.specs.Tokens.{Token, token_of}
 use Rattle.yaml_scan.specs.Faults.{Fault, fault_of}
-use Rattle.yaml_scan_layout.specs.Coming.{Coming}
+use Rattle.yaml_scan.specs.scan_layout.Coming.{Coming}
 use Rattle.yaml_scan.specs.Scanned.{IsTold}
 use Rattle.yaml_scan.specs.Session.{View, Takes, first_of}
 use Rattle.yaml_round_adapter.specs.Adapted.{spells_text, tag_fault}

@@ -1,6 +1,6 @@
 -- What a clause sees of an adapter.
 use Rattle.std.specs.Prelude.{◌≡◌, Bool, true, false, All}
-use Rattle.yaml_scan_layout.specs.Coming.{Coming, nothing}
+use Rattle.yaml_scan.specs.scan_layout.Coming.{Coming, nothing}
 use Rattle.yaml_scan_utf8.specs.Texts.{HasTexts}
 use Rattle.yaml_round_adapter.specs.Adapted.{adapted}
 use Rattle.yaml_round_adapter.specs.declared.adapter.yaml_adapter_t.TheInside.{Inside}

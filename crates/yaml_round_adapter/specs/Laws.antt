@@ -3,7 +3,7 @@ use Rattle.std.specs.Prelude.{ℕ, ◌≡◌, ◌⊎◌, true, false, [], None, 
 use Rattle.yaml_scan.specs.declared.yaml_error_type_t.TheVariants.{YAML_MEMORY_ERROR}
 use Rattle.yaml_scan.specs.Tokens.{Token}
 use Rattle.yaml_scan.specs.Faults.{Fault}
-use Rattle.yaml_scan_layout.specs.Coming.{Stream, Coming, coming}
+use Rattle.yaml_scan.specs.scan_layout.Coming.{Stream, Coming, coming}
 use Rattle.yaml_scan_utf8.specs.Texts.{HasTexts}
 use Rattle.yaml_parse.specs.Source.{front_of, rest_of, MayAnswer, HasUtf8, GivesToken, GivesFault}
 use Rattle.yaml_round_adapter.specs.Adapted.{spells_text, tag_fault, adapted}

@@ -21,7 +21,7 @@ pub struct yaml_adapter_t<'a> {
 }
 
 impl<'a> Model for yaml_adapter_t<'a> {
-    ghost use Rattle.yaml_scan_layout.specs.Coming.{Coming};
+    ghost use Rattle.yaml_scan.specs.scan_layout.Coming.{Coming};
 
     ghost Value = { Coming };
 

@@ -4,11 +4,11 @@ use Rattle.std.proofs.lemmas.Bool.Decides.{nat_tests}
 use Rattle.std.proofs.lemmas.Grind.{common_steps}
 use Rattle.std.specs.List.{list_all, list_any}
 use Rattle.std.specs.Str.{bytes_eq}
-use Rattle.yaml_scan.specs.Classes.{is_alpha_byte}
+use Rattle.yaml_emit_laws.specs.scan.Classes.{is_alpha_byte}
 use Rattle.yaml_scan_spelled.specs.Spelled.{IsSome, AreAlphas, IsHandle}
-use Rattle.yaml_parse.specs.Events.{TagDirective}
-use Rattle.yaml_parse_grammar.specs.Resolve.{directive_for}
-use Rattle.yaml_emit_layout.specs.Grammar.{between, handle_problem, prefix_problem, has_handle, twice_problem, directive_problem, directives_problem}
+use Rattle.yaml_emit_laws.specs.parse.Events.{TagDirective}
+use Rattle.yaml_emit_laws.specs.parse.parse_grammar.Resolve.{directive_for}
+use Rattle.yaml_emit_laws.specs.emit_layout.Grammar.{between, handle_problem, prefix_problem, has_handle, twice_problem, directive_problem, directives_problem}
 use Rattle.yaml_round_laws.proofs.Emitted.{or_both, or_none}
 
 -- ---- a handle

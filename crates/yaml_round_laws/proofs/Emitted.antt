@@ -1,14 +1,14 @@
 -- An event that is expected is one that the emitter's grammar takes, evened or not.
 use Rattle.std.proofs.Common.{◌≡◌, inl, inr, ℕ, Bool, true, false, not, ◌||◌, List, [], ◌∷◌, Option, Some, None, refl, sym, ap, subst, ◌∙◌}
-use Rattle.yaml_scan.specs.declared.yaml_scalar_style_t.{yaml_scalar_style_t}
-use Rattle.yaml_parse.specs.Events.{EventBody}
-use Rattle.yaml_parse.specs.Events as event
-use Rattle.yaml_emit_layout.specs.declared.Problem.{Problem}
-use Rattle.yaml_emit_layout.specs.declared.Place.{Place}
-use Rattle.yaml_emit_layout.specs.declared.Place.TheVariants as at
-use Rattle.yaml_emit_layout.specs.Content.{Event, said}
-use Rattle.yaml_emit_layout.specs.Grammar.{or_else, anchor_problem, tag_problem, kept_if, event_problem, last_problem, begins_node, node_problem, place_problem, problem_by}
-use Rattle.yaml_emit.specs.Judged.{Due, item_due, key_due, value_due, Shape, inside, behind_node, outer_due, level_due, shape_after, problem_in}
+use Rattle.yaml_emit_laws.specs.scan.declared.yaml_scalar_style_t.{yaml_scalar_style_t}
+use Rattle.yaml_emit_laws.specs.parse.Events.{EventBody}
+use Rattle.yaml_emit_laws.specs.parse.Events as event
+use Rattle.yaml_emit_laws.specs.emit_layout.declared.Problem.{Problem}
+use Rattle.yaml_emit_laws.specs.emit_layout.declared.Place.{Place}
+use Rattle.yaml_emit_laws.specs.emit_layout.declared.Place.TheVariants as at
+use Rattle.yaml_emit_laws.specs.emit_layout.Content.{Event, said}
+use Rattle.yaml_emit_laws.specs.emit_layout.Grammar.{or_else, anchor_problem, tag_problem, kept_if, event_problem, last_problem, begins_node, node_problem, place_problem, problem_by}
+use Rattle.yaml_emit_laws.specs.emit.Judged.{Due, item_due, key_due, value_due, Shape, inside, behind_node, outer_due, level_due, shape_after, problem_in}
 use Rattle.yaml_round_laws.specs.Evened.{IsEvened, IsEvening}
 use Rattle.yaml_round_laws.proofs.Stacks.{between, Expects, moved_by}
 

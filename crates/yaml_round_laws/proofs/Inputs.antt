@@ -1,17 +1,17 @@
 -- The events of an input.
 use Rattle.std.proofs.Common.{◌≡◌, ℕ, Bool, true, List, [], ◌∷◌, Option, None, inl, inr}
 use Rattle.std.proofs.lemmas.Bool.{cases_Bool}
-use Rattle.yaml_scan.specs.declared.yaml_encoding_t.{yaml_encoding_t}
-use Rattle.yaml_scan.specs.Tokens.{Token}
-use Rattle.yaml_scan.specs.Faults.{Fault}
-use Rattle.yaml_scan.specs.Scanned.{scanned}
+use Rattle.yaml_emit_laws.specs.scan.declared.yaml_encoding_t.{yaml_encoding_t}
+use Rattle.yaml_emit_laws.specs.scan.Tokens.{Token}
+use Rattle.yaml_emit_laws.specs.scan.Faults.{Fault}
+use Rattle.yaml_emit_laws.specs.scan.Scanned.{scanned}
 use Rattle.yaml_scan_spelled.specs.Spelled.{AreSpelled}
 use Rattle.yaml_scan_spelled.proofs.Inputs.{scanned_spelled}
-use Rattle.yaml_parse.specs.Events.{EventBody}
-use Rattle.yaml_parse_grammar.specs.Resolve.{Told}
-use Rattle.yaml_emit_layout.specs.Content.{said}
-use Rattle.yaml_emit_layout.specs.Grammar.{own_problem, own_problems}
-use Rattle.yaml_emit.specs.Judged.{first_shape}
+use Rattle.yaml_emit_laws.specs.parse.Events.{EventBody}
+use Rattle.yaml_emit_laws.specs.parse.parse_grammar.Resolve.{Told}
+use Rattle.yaml_emit_laws.specs.emit_layout.Content.{said}
+use Rattle.yaml_emit_laws.specs.emit_layout.Grammar.{own_problem, own_problems}
+use Rattle.yaml_emit_laws.specs.emit.Judged.{first_shape}
 use Rattle.yaml_emit_laws.specs.Laws.{AreRightTold}
 use Rattle.yaml_emit_laws.proofs.Passing.{streams, fronts, own_right}
 use Rattle.yaml_emit_laws.proofs.Loading.{taken}

@@ -7,3 +7,5 @@ pub mod Directed
 pub mod Settling
 pub mod Whole
 pub mod Inputs
+-- the laws beneath, for the proofs of the member
+pub use Rattle.yaml_emit_laws.proofs as emit_laws

@@ -1,18 +1,18 @@
 -- Over a list of tokens: the items come in their right places and are well spelled, and behind the last the stream has ended.
 use Rattle.std.proofs.Common.{◌≡◌, ℕ, true, false, List, [], ◌∷◌, ◌++◌, length, map, Option, Some, None, refl, sym, ap, subst, ◌∙◌}
-use Rattle.yaml_scan.specs.declared.yaml_token_type_t.TheVariants as kind
-use Rattle.yaml_scan.specs.Tokens.{Token, no_token}
-use Rattle.yaml_scan.specs.Faults.{Fault}
-use Rattle.yaml_parse_grammar.specs.declared.name.Choice.{Choice}
-use Rattle.yaml_parse_grammar.specs.declared.name.Choice.TheVariants.{Refuse, Take, Leave, Open}
-use Rattle.yaml_parse_grammar.specs.Items.{Item}
-use Rattle.yaml_parse_grammar.specs.States.{State}
-use Rattle.yaml_parse_grammar.specs.Trees.{Given}
-use Rattle.yaml_parse_grammar.specs.Machine.{choice_at, left_at, Fed, stop, go, with_item, turn, feed, Outcome, finished, carry, run, initial}
-use Rattle.yaml_parse_grammar.proofs.Voice.{takes_a_token}
-use Rattle.yaml_parse_grammar.proofs.Single.{opens_node}
-use Rattle.yaml_emit_layout.specs.declared.Place.TheVariants as at
-use Rattle.yaml_emit.specs.Judged.{Shape, at_place, first_shape}
+use Rattle.yaml_emit_laws.specs.scan.declared.yaml_token_type_t.TheVariants as kind
+use Rattle.yaml_emit_laws.specs.scan.Tokens.{Token, no_token}
+use Rattle.yaml_emit_laws.specs.scan.Faults.{Fault}
+use Rattle.yaml_emit_laws.specs.parse.parse_grammar.declared.name.Choice.{Choice}
+use Rattle.yaml_emit_laws.specs.parse.parse_grammar.declared.name.Choice.TheVariants.{Refuse, Take, Leave, Open}
+use Rattle.yaml_emit_laws.specs.parse.parse_grammar.Items.{Item}
+use Rattle.yaml_emit_laws.specs.parse.parse_grammar.States.{State}
+use Rattle.yaml_emit_laws.specs.parse.parse_grammar.Trees.{Given}
+use Rattle.yaml_emit_laws.specs.parse.parse_grammar.Machine.{choice_at, left_at, Fed, stop, go, with_item, turn, feed, Outcome, finished, carry, run, initial}
+use Rattle.yaml_emit_laws.proofs.parse.parse_grammar.Voice.{takes_a_token}
+use Rattle.yaml_emit_laws.proofs.parse.parse_grammar.Single.{opens_node}
+use Rattle.yaml_emit_laws.specs.emit_layout.declared.Place.TheVariants as at
+use Rattle.yaml_emit_laws.specs.emit.Judged.{Shape, at_place, first_shape}
 use Rattle.yaml_scan_spelled.specs.Spelled.{AreSpelled}
 use Rattle.yaml_round_laws.proofs.Stacks.{shape_of, AreRight, IsPlaced, moved}
 use Rattle.yaml_round_laws.proofs.Places.{AllPlaced, moved_all, FedLeads, feed_leads}

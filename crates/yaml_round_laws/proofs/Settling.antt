@@ -2,21 +2,21 @@
 use Rattle.std.proofs.Common.{◌≡◌, ℕ, ◌+◌, ℤ, Bool, true, false, not, ◌||◌, ◌==◌, if◌then◌else◌, List, [], ◌∷◌, ◌++◌, length, Option, Some, None, option_map, codes, refl, ap, ◌∙◌, arith, length-append}
 use Rattle.std.proofs.lemmas.Bool.Decides.{nat_tests}
 use Rattle.std.specs.Str.{bytes_eq}
-use Rattle.yaml_scan.specs.declared.yaml_mark_t.{yaml_mark_t}
-use Rattle.yaml_scan.specs.declared.yaml_scalar_style_t.{yaml_scalar_style_t}
-use Rattle.yaml_scan.specs.declared.yaml_version_directive_t.{yaml_version_directive_t}
+use Rattle.yaml_emit_laws.specs.scan.declared.yaml_mark_t.{yaml_mark_t}
+use Rattle.yaml_emit_laws.specs.scan.declared.yaml_scalar_style_t.{yaml_scalar_style_t}
+use Rattle.yaml_emit_laws.specs.scan.declared.yaml_version_directive_t.{yaml_version_directive_t}
 use Rattle.yaml_scan_spelled.specs.Spelled.{IsSome, IsName, IsHandle}
-use Rattle.yaml_parse.specs.Events.{EventBody, TagDirective}
-use Rattle.yaml_parse.specs.Events as event
-use Rattle.yaml_parse_grammar.specs.Items.{ItemBody, Shape as Kind}
-use Rattle.yaml_parse_grammar.specs.Items as item
-use Rattle.yaml_parse_grammar.specs.Resolve.{Directives, no_directives, Settled, refused, gave, noted, settle_body, resolved, directive_for, or_default, with_resolved, with_tag, with_version, is_known_version, behind_event, is_plain, node_event}
-use Rattle.yaml_emit_layout.specs.declared.Problem.{Problem}
-use Rattle.yaml_emit_layout.specs.declared.Problem.TheVariants as problem
-use Rattle.yaml_emit_layout.specs.declared.Place.TheVariants as at
-use Rattle.yaml_emit_layout.specs.Content.{said}
-use Rattle.yaml_emit_layout.specs.Grammar.{or_else, name_problem, anchor_problem, tag_problem, kept_if, event_problem, version_problem, directives_problem, last_problem}
-use Rattle.yaml_emit.specs.Judged.{Shape, shape_after}
+use Rattle.yaml_emit_laws.specs.parse.Events.{EventBody, TagDirective}
+use Rattle.yaml_emit_laws.specs.parse.Events as event
+use Rattle.yaml_emit_laws.specs.parse.parse_grammar.Items.{ItemBody, Shape as Kind}
+use Rattle.yaml_emit_laws.specs.parse.parse_grammar.Items as item
+use Rattle.yaml_emit_laws.specs.parse.parse_grammar.Resolve.{Directives, no_directives, Settled, refused, gave, noted, settle_body, resolved, directive_for, or_default, with_resolved, with_tag, with_version, is_known_version, behind_event, is_plain, node_event}
+use Rattle.yaml_emit_laws.specs.emit_layout.declared.Problem.{Problem}
+use Rattle.yaml_emit_laws.specs.emit_layout.declared.Problem.TheVariants as problem
+use Rattle.yaml_emit_laws.specs.emit_layout.declared.Place.TheVariants as at
+use Rattle.yaml_emit_laws.specs.emit_layout.Content.{said}
+use Rattle.yaml_emit_laws.specs.emit_layout.Grammar.{or_else, name_problem, anchor_problem, tag_problem, kept_if, event_problem, version_problem, directives_problem, last_problem}
+use Rattle.yaml_emit_laws.specs.emit.Judged.{Shape, shape_after}
 use Rattle.yaml_round_laws.specs.Evened.{IsEvening}
 use Rattle.yaml_round_laws.proofs.Stacks.{Expects, moved_by, moved_kind, IsPlaced, moved}
 use Rattle.yaml_round_laws.proofs.Spellings.{IsNamed, IsWhole, IsSpelledItem}

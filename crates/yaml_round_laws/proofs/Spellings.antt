@@ -1,23 +1,23 @@
 -- Names and tags of well spelled tokens, in the items and states that a machine makes of them.
 use Rattle.std.proofs.Common.{ℕ, true, List, [], ◌∷◌, ◌++◌, Option, Some, None}
-use Rattle.yaml_scan.specs.declared.yaml_mark_t.{yaml_mark_t}
-use Rattle.yaml_scan.specs.Tokens.{Token, TokenBody, type_of}
-use Rattle.yaml_scan.specs.Tokens as token
+use Rattle.yaml_emit_laws.specs.scan.declared.yaml_mark_t.{yaml_mark_t}
+use Rattle.yaml_emit_laws.specs.scan.Tokens.{Token, TokenBody, type_of}
+use Rattle.yaml_emit_laws.specs.scan.Tokens as token
 use Rattle.yaml_scan_spelled.specs.Spelled.{IsSome, IsName, IsHandle, IsSpelled}
-use Rattle.yaml_parse.specs.Events.{EventBody}
-use Rattle.yaml_parse.specs.Events as event
-use Rattle.yaml_parse_grammar.specs.declared.name.Wants.{Wants}
-use Rattle.yaml_parse_grammar.specs.declared.name.Wants.TheVariants.{Flow, Block}
-use Rattle.yaml_parse_grammar.specs.declared.name.Brackets.{Brackets}
-use Rattle.yaml_parse_grammar.specs.declared.name.Brackets.TheVariants as brackets
-use Rattle.yaml_parse_grammar.specs.declared.name.Place.TheVariants.{Root}
-use Rattle.yaml_parse_grammar.specs.declared.name.Choice.{Choice}
-use Rattle.yaml_parse_grammar.specs.declared.name.Choice.TheVariants.{Refuse, Take, Leave, Open}
-use Rattle.yaml_parse_grammar.specs.Items.{Item, ItemBody, Properties, Tag, item_at}
-use Rattle.yaml_parse_grammar.specs.Items as item
-use Rattle.yaml_parse_grammar.specs.States.{State, Taken}
-use Rattle.yaml_parse_grammar.specs.States as state
-use Rattle.yaml_parse_grammar.specs.Machine.{choice_at, taken_at, documents_taken, content_taken, node_taken, dressed_taken, items_taken, more_taken, stream_taken, entries_taken, pairs_taken, lone_below, left_at, Fed, stop, go, with_item, given_by, turn, feed}
+use Rattle.yaml_emit_laws.specs.parse.Events.{EventBody}
+use Rattle.yaml_emit_laws.specs.parse.Events as event
+use Rattle.yaml_emit_laws.specs.parse.parse_grammar.declared.name.Wants.{Wants}
+use Rattle.yaml_emit_laws.specs.parse.parse_grammar.declared.name.Wants.TheVariants.{Flow, Block}
+use Rattle.yaml_emit_laws.specs.parse.parse_grammar.declared.name.Brackets.{Brackets}
+use Rattle.yaml_emit_laws.specs.parse.parse_grammar.declared.name.Brackets.TheVariants as brackets
+use Rattle.yaml_emit_laws.specs.parse.parse_grammar.declared.name.Place.TheVariants.{Root}
+use Rattle.yaml_emit_laws.specs.parse.parse_grammar.declared.name.Choice.{Choice}
+use Rattle.yaml_emit_laws.specs.parse.parse_grammar.declared.name.Choice.TheVariants.{Refuse, Take, Leave, Open}
+use Rattle.yaml_emit_laws.specs.parse.parse_grammar.Items.{Item, ItemBody, Properties, Tag, item_at}
+use Rattle.yaml_emit_laws.specs.parse.parse_grammar.Items as item
+use Rattle.yaml_emit_laws.specs.parse.parse_grammar.States.{State, Taken}
+use Rattle.yaml_emit_laws.specs.parse.parse_grammar.States as state
+use Rattle.yaml_emit_laws.specs.parse.parse_grammar.Machine.{choice_at, taken_at, documents_taken, content_taken, node_taken, dressed_taken, items_taken, more_taken, stream_taken, entries_taken, pairs_taken, lone_below, left_at, Fed, stop, go, with_item, given_by, turn, feed}
 
 -- ---- items and states
 

@@ -1,15 +1,15 @@
 -- What a stack of states stands for in an emitter's eyes, and how an item moves it.
 use Rattle.std.proofs.Common.{◌≡◌, true, false, List, [], ◌∷◌, Option, Some, None}
-use Rattle.yaml_parse.specs.Events.{EventBody}
-use Rattle.yaml_parse.specs.Events as event
-use Rattle.yaml_parse_grammar.specs.declared.name.Brackets.TheVariants as brackets
-use Rattle.yaml_parse_grammar.specs.Items.{Item, ItemBody, Shape as Kind}
-use Rattle.yaml_parse_grammar.specs.Items as item
-use Rattle.yaml_parse_grammar.specs.States.{State}
-use Rattle.yaml_parse_grammar.specs.States as state
-use Rattle.yaml_emit_layout.specs.declared.Place.{Place}
-use Rattle.yaml_emit_layout.specs.declared.Place.TheVariants as at
-use Rattle.yaml_emit.specs.Judged.{Due, item_due, key_due, Shape, at_place, inside, behind_node, outer_due}
+use Rattle.yaml_emit_laws.specs.parse.Events.{EventBody}
+use Rattle.yaml_emit_laws.specs.parse.Events as event
+use Rattle.yaml_emit_laws.specs.parse.parse_grammar.declared.name.Brackets.TheVariants as brackets
+use Rattle.yaml_emit_laws.specs.parse.parse_grammar.Items.{Item, ItemBody, Shape as Kind}
+use Rattle.yaml_emit_laws.specs.parse.parse_grammar.Items as item
+use Rattle.yaml_emit_laws.specs.parse.parse_grammar.States.{State}
+use Rattle.yaml_emit_laws.specs.parse.parse_grammar.States as state
+use Rattle.yaml_emit_laws.specs.emit_layout.declared.Place.{Place}
+use Rattle.yaml_emit_laws.specs.emit_layout.declared.Place.TheVariants as at
+use Rattle.yaml_emit_laws.specs.emit.Judged.{Due, item_due, key_due, Shape, at_place, inside, behind_node, outer_due}
 
 -- ---- a stack
 

@@ -1,13 +1,13 @@
 -- The events of a list of well spelled tokens, from the first to the last.
 use Rattle.std.proofs.Common.{◌≡◌, Bool, List, [], ◌∷◌, Option, Some, None, refl, sym, ap, subst, ◌∙◌}
-use Rattle.yaml_scan.specs.Faults.{Fault}
-use Rattle.yaml_parse.specs.Events.{EventBody}
-use Rattle.yaml_parse_grammar.specs.Trees.{Given}
-use Rattle.yaml_parse_grammar.specs.Machine.{run, initial}
-use Rattle.yaml_parse_grammar.specs.Resolve.{Directives, no_directives, Settled, refused, gave, noted, settle, Reading, read_on, reading}
-use Rattle.yaml_emit_layout.specs.declared.Place.TheVariants as at
-use Rattle.yaml_emit_layout.specs.Content.{said}
-use Rattle.yaml_emit.specs.Judged.{Shape, first_shape, shape_after, problem_in, first_refusal}
+use Rattle.yaml_emit_laws.specs.scan.Faults.{Fault}
+use Rattle.yaml_emit_laws.specs.parse.Events.{EventBody}
+use Rattle.yaml_emit_laws.specs.parse.parse_grammar.Trees.{Given}
+use Rattle.yaml_emit_laws.specs.parse.parse_grammar.Machine.{run, initial}
+use Rattle.yaml_emit_laws.specs.parse.parse_grammar.Resolve.{Directives, no_directives, Settled, refused, gave, noted, settle, Reading, read_on, reading}
+use Rattle.yaml_emit_laws.specs.emit_layout.declared.Place.TheVariants as at
+use Rattle.yaml_emit_laws.specs.emit_layout.Content.{said}
+use Rattle.yaml_emit_laws.specs.emit.Judged.{Shape, first_shape, shape_after, problem_in, first_refusal}
 use Rattle.yaml_emit_laws.specs.Laws.{shape_behind}
 use Rattle.yaml_round_laws.specs.Evened.{IsEvening}
 use Rattle.yaml_round_laws.specs.Laws.{said_by, ParsedIsRight}

@@ -1,7 +1,7 @@
 -- How a parser's events may be changed on their way to an emitter.
 use Rattle.std.specs.Prelude.{◌≡◌, ◌⊎◌, Bool, true, false, None}
-use Rattle.yaml_parse.specs.Events.{EventBody}
-use Rattle.yaml_parse.specs.Events as event
+use Rattle.yaml_emit_laws.specs.parse.Events.{EventBody}
+use Rattle.yaml_emit_laws.specs.parse.Events as event
 
 -- Another mark for a document's end, or a scalar that gives up its tag and is plain-implicit; nothing else is changed.
 abbrev pub IsEvened : EventBody → EventBody → Type 0

@@ -1,17 +1,17 @@
 -- What a parser gives is what an emitter takes.
 use Rattle.std.specs.Prelude.{◌≡◌, ℕ, Bool, List, map, Option, None}
-use Rattle.yaml_scan.specs.declared.yaml_encoding_t.{yaml_encoding_t}
-use Rattle.yaml_scan.specs.Tokens.{Token}
-use Rattle.yaml_scan.specs.Faults.{Fault}
-use Rattle.yaml_scan.specs.Scanned.{scanned}
+use Rattle.yaml_emit_laws.specs.scan.declared.yaml_encoding_t.{yaml_encoding_t}
+use Rattle.yaml_emit_laws.specs.scan.Tokens.{Token}
+use Rattle.yaml_emit_laws.specs.scan.Faults.{Fault}
+use Rattle.yaml_emit_laws.specs.scan.Scanned.{scanned}
 use Rattle.yaml_scan_spelled.specs.Spelled.{AreSpelled}
-use Rattle.yaml_parse.specs.Events.{EventBody}
-use Rattle.yaml_parse.specs.Machine.{run, initial}
-use Rattle.yaml_parse.specs.Resolve.{Told, Reading, no_directives}
-use Rattle.yaml_parse.specs.Coming.{reading_of}
-use Rattle.yaml_emit_layout.specs.declared.Place.TheVariants as at
-use Rattle.yaml_emit.specs.Content.{Event, said}
-use Rattle.yaml_emit.specs.Judged.{first_shape, first_refusal}
+use Rattle.yaml_emit_laws.specs.parse.Events.{EventBody}
+use Rattle.yaml_emit_laws.specs.parse.Machine.{run, initial}
+use Rattle.yaml_emit_laws.specs.parse.Resolve.{Told, Reading, no_directives}
+use Rattle.yaml_emit_laws.specs.parse.Coming.{reading_of}
+use Rattle.yaml_emit_laws.specs.emit_layout.declared.Place.TheVariants as at
+use Rattle.yaml_emit_laws.specs.emit.Content.{Event, said}
+use Rattle.yaml_emit_laws.specs.emit.Judged.{first_shape, first_refusal}
 use Rattle.yaml_emit_laws.specs.Laws.{shape_behind, RightStream, RightFront, AreRightTold}
 use Rattle.yaml_round_adapter.specs.Adapted.{adapted}
 use Rattle.yaml_round_laws.specs.Evened.{IsEvening}

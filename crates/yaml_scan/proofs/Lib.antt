@@ -17,3 +17,4 @@ pub mod TakeLemmas
 pub mod AheadLemmas
 pub mod LetterLemmas
 pub mod ShutLemmas
+pub mod SignLemmas

@@ -17,6 +17,7 @@ pub mod TakeLemmas
 pub mod AheadLemmas
 pub mod LetterLemmas
 pub mod ShutLemmas
+pub mod SignLemmas
 -- its helpers, for crates of laws that name the member alone
 pub use Rattle.yaml_scan_text.proofs as scan_text
 pub use Rattle.yaml_scan_words.proofs as scan_words

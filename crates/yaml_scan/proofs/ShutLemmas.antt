@@ -8,16 +8,16 @@ use Rattle.std.specs.Prelude.{map, IfSome}
 use Rattle.yaml_scan_layout.specs.Kinds.{cancels}
 use Rattle.yaml_scan_layout.specs.declared.lexeme.Lexeme.{Lexeme}
 use Rattle.yaml_scan_layout.specs.declared.lexeme.Opens.{Opens}
-use Rattle.yaml_scan_layout.specs.History.{Candidate, candidate, opens_in}
+use Rattle.yaml_scan_layout.specs.History.{Candidate, candidate, opens_in, first_open, is_fresh}
 use Rattle.yaml_scan_layout.proofs.HistoryLemmas.{candidate_below}
 use Rattle.yaml_scan.specs.declared.waiting.Waiting.{Waiting}
 use Rattle.yaml_scan.specs.declared.waiting.Seen.TheVariants as looks
 use Rattle.yaml_scan.specs.declared.machine.Machine.{Machine}
-use Rattle.yaml_scan.specs.Shows.{Fields, IsShown, read, is_passed, seen, marked}
+use Rattle.yaml_scan.specs.Shows.{Fields, IsShown, IsPending, read, is_passed, seen, marked}
 use Rattle.yaml_scan.specs.State.{AreShut}
 use Rattle.yaml_scan.specs.Reads.{Owns, MarksOwn, shut_behind}
-use Rattle.yaml_scan.proofs.StepLemmas.{candidate_top, open_is, open_set, none_deeper}
-use Rattle.yaml_scan.proofs.PassLemmas.{look_back, any_default}
+use Rattle.yaml_scan.proofs.StepLemmas.{candidate_top, open_is, open_set, none_deeper, pass_on}
+use Rattle.yaml_scan.proofs.PassLemmas.{look_back, any_default, test_is}
 use Rattle.yaml_scan.proofs.KindLemmas.{first_of}
 
 -- a candidate among the earlier lexemes is theirs
@@ -214,3 +214,19 @@ shut_rest n d w ws shut k x lt le = shut (suc k) x (omega arith) (omega arith)
 pub some_less : (o : Option ℕ) (n k : ℕ) → n ≤ k → IfSome o (λ i. i < n) → IfSome o (λ i. i < k)
 some_less None n k le inside = inside
 some_less (Some i) n k le inside = omega arith
+
+-- behind what is shut no candidate is open
+pub pass_shut : (m : Fields) (ws : List Waiting) (n i j : ℕ) → IsPending m → m.waiting ≡ map (λ (x : Waiting). x.entry) ws → m.opens ≡ map (λ (x : Waiting). x.current) ws → AreShut n m.dropped ws → n ≤ m.dropped + i → i + j ≡ length ws → m.settled ≤ m.dropped + i
+    → m.dropped + i ≤ first_open (read m.text m.dropped m.waiting) (read m.text m.dropped m.waiting) → m.dropped + length ws ≤ first_open (read m.text m.dropped m.waiting) (read m.text m.dropped m.waiting)
+pass_shut m ws n i zero s wait bits shut past all high low = omega (arith, all)
+pass_shut m ws n i (suc j) s wait bits shut past all high low =
+    let h = read m.text m.dropped m.waiting in
+    let len : length m.waiting ≡ length ws = ap length wait ∙ length-map ws (λ (x : Waiting). x.entry) in
+    let lt : i < length ws = omega (arith, all) in
+    let w = first_of ws i lt in
+    let x = get_or ws i w in
+    let off : x.current ≡ false = shut i w lt past in
+    let test = test_is m ws x i s wait bits (any_default ws i w x lt) lt high in
+    let none : (x.current && is_fresh x.entry.lexeme.start m.place) ≡ false = rw off refl in
+    let more = pass_on h (m.dropped + i) x.entry low (omega (arith, len, s.count)) (test ∙ none) in
+    pass_shut m ws n (i + 1) j s wait bits shut (omega arith) (omega (arith, all)) (omega arith) (omega (arith, more))

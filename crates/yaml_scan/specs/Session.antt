@@ -79,8 +79,8 @@ pub record Stays (old new : View) : Type 0 where
   pub same : new.answered ≡ old.answered
   pub known : IsKnown new
 
-abbrev pub Fills : View → View → Result (Unit {0}) yaml_fault_t → Type 0
-Fills old new (Ok done) = Stays old new
+abbrev pub Fills : View → View → Result Bool yaml_fault_t → Type 0
+Fills old new (Ok own) = Stays old new
 Fills old new (Err f) = Refuses old (fault_of f) new
 
 abbrev pub Scans : View → View → Result yaml_token_t yaml_fault_t → Type 0

@@ -36,6 +36,15 @@ pub record IsAhead (s : Ahead) : Type 0 where
   pub over : (f : yaml_fault_t) → s.fault ≡ Some f → s.holds ≡ false
   pub idle : s.holds ≡ false → token_of s.shown ≡ no_token
 
+-- the reader is to give the next token
+abbrev pub own_by : Option yaml_fault_t → Bool → Bool → Bool
+own_by (Some f) holds ready = false
+own_by None true ready = false
+own_by None false ready = ready
+
+abbrev pub is_own : Ahead → Bool
+is_own s = own_by s.fault s.holds (is_ready s.machine)
+
 abbrev pub session_view : Inside → View
 session_view s = view_of s.ahead
 

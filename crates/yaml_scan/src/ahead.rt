@@ -1,6 +1,6 @@
 //! The next token, which a peek puts aside.
 
-ghost use Rattle.std.specs.Prelude.{◌≡◌, true, false, None};
+ghost use Rattle.std.specs.Prelude.{◌≡◌, true, false, None, IfOk};
 ghost use Rattle.yaml_scan_text.specs.Tokens.{token_of};
 ghost use Rattle.yaml_scan.specs.Scanned.{scanned};
 ghost use Rattle.yaml_scan.specs.Session.{first_of, HasFirst, MayAnswer, EndsAnswered, Fills, Takes, Scans, Looks, IsKnown};
@@ -22,7 +22,7 @@ pub(crate) struct Ahead<'a> {
 }
 
 impl<'a> Ahead<'a> {
-    ghost use Rattle.yaml_scan.specs.SessionView.{view_of, IsAhead};
+    ghost use Rattle.yaml_scan.specs.SessionView.{view_of, is_own, IsAhead};
 
     pub(crate) fn new(alloc: Global, input: &'a [u8], encoding: yaml_encoding_t) -> Ahead<'a>
         ensures stands { IsAhead result }
@@ -51,20 +51,22 @@ impl<'a> Ahead<'a> {
         self.machine.has_token()
     }
 
-    /// Reads on until the next token is known, or there is none. What is to come stays.
-    fn fill(&mut self) -> Result<(), yaml_fault_t>
+    /// Reads on until the next token is known, or there is none; answers whether the reader is to give it. What is to
+    /// come stays.
+    fn fill(&mut self) -> Result<bool, yaml_fault_t>
         requires { IsAhead self.old }
         ensures stands { IsAhead self.new }
         ensures fills { Fills (view_of self.old) (view_of self.new) result }
+        ensures own { IfOk result (λ own. own ≡ is_own self.new) }
     {
         if self.fault.is_some() {
-            return Ok(());
+            return Ok(false);
         }
         if self.holds {
-            return Ok(());
+            return Ok(false);
         }
         match self.machine.read_on() {
-            Ok(()) => Ok(()),
+            Ok(known) => Ok(known),
             Err(fault) => {
                 self.fault = Some(fault);
                 Err(fault)
@@ -90,6 +92,21 @@ impl<'a> Ahead<'a> {
             return self.machine.take_token();
         }
         yaml_token_t::empty()
+    }
+
+    /// Takes the next token, the empty one where nothing comes; `own` tells that the reader is to give it.
+    fn take_known(&mut self, own: bool) -> yaml_token_t
+        requires stands { IsAhead self.old }
+        requires known { IsKnown (view_of self.old) }
+        requires own { own ≡ is_own self.old }
+        ensures stands { IsAhead self.new }
+        ensures takes { Takes (view_of self.old) (token_of result) (view_of self.new) }
+    {
+        if own {
+            return self.machine.take_token();
+        }
+        self.holds = false;
+        mem::replace(&mut self.shown, yaml_token_t::empty())
     }
 
     /// Puts the next token aside, where there is one.
@@ -121,7 +138,7 @@ impl<'a> Ahead<'a> {
         ensures scans { Scans (view_of self.old) (view_of self.new) result }
     {
         match self.fill() {
-            Ok(()) => Ok(self.take()),
+            Ok(own) => Ok(self.take_known(own)),
             Err(fault) => Err(fault),
         }
     }
@@ -133,7 +150,7 @@ impl<'a> Ahead<'a> {
         ensures looks { Looks (view_of self.old) (view_of self.new) (token_of self.new.shown) result }
     {
         match self.fill() {
-            Ok(()) => {
+            Ok(_) => {
                 self.show();
                 Ok(())
             }

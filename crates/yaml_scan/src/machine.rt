@@ -50,7 +50,7 @@ pub(crate) struct Machine<'a> {
 }
 
 impl<'a> Machine<'a> {
-    ghost use Rattle.yaml_scan.specs.State.{IsMachine, IsNarrow, AreInside, GoesOn, is_ready};
+    ghost use Rattle.yaml_scan.specs.State.{IsMachine, IsNarrow, AreInside, AreShut, GoesOn, is_ready};
     ghost use Rattle.yaml_scan.specs.Scanned.{scanned, left_in, left_from, IsTold};
     ghost use Rattle.yaml_scan_decode.specs.Encodings.{encoding_of};
     ghost use Rattle.yaml_scan.specs.Shows.{IsPending, fields_of, history_of};
@@ -106,14 +106,16 @@ impl<'a> Machine<'a> {
         }
     }
 
-    /// Decodes the input, once, and reads on until the next token is known, or there is none. What is to come stays.
-    pub(crate) fn read_on(&mut self) -> Result<(), yaml_fault_t>
+    /// Decodes the input, once, and reads on until the next token is known, or there is none; answers whether it is
+    /// known. What is to come stays.
+    pub(crate) fn read_on(&mut self) -> Result<bool, yaml_fault_t>
         requires { IsMachine self.old }
         ensures stands { OnOk result (IsMachine self.new) }
         ensures left { OnOk result (left_in self.new ≡ left_in self.old) }
         ensures known { OnOk result ((is_ready self.new ≡ true) ⊎ (left_in self.new ≡ nothing)) }
         ensures told { IfErr result (λ f. IsTold (left_in self.old) (fault_of f)) }
         ensures sought { IfErr result (λ f. is_ready self.old ≡ false) }
+        ensures ready { IfOk result (λ known. known ≡ is_ready self.new) }
     {
         match self.start() {
             Ok(()) => self.read_known(),
@@ -143,8 +145,8 @@ impl<'a> Machine<'a> {
         }
     }
 
-    /// Reads on in the decoded text until the next token is known, or there is none.
-    fn read_known(&mut self) -> Result<(), yaml_fault_t>
+    /// Reads on in the decoded text until the next token is known, or there is none; answers whether it is known.
+    fn read_known(&mut self) -> Result<bool, yaml_fault_t>
         requires stands { IsMachine self.old }
         requires started { self.old.started ≡ true }
         ensures stands { OnOk result (IsMachine self.new) }
@@ -152,9 +154,10 @@ impl<'a> Machine<'a> {
         ensures known { OnOk result ((is_ready self.new ≡ true) ⊎ (left_in self.new ≡ nothing)) }
         ensures told { IfErr result (λ f. IsTold (left_in self.old) (fault_of f)) }
         ensures sought { IfErr result (λ f. is_ready self.old ≡ false) }
+        ensures ready { IfOk result (λ known. known ≡ is_ready self.new) }
     {
         match self.fill() {
-            Ok(()) => Ok(()),
+            Ok(known) => Ok(known),
             Err(error) => Err(located(error)),
         }
     }
@@ -194,8 +197,8 @@ impl<'a> Machine<'a> {
         }
     }
 
-    /// Reads on until the next token is known, or there is none. What is to come stays.
-    fn fill(&mut self) -> Result<(), ScanError>
+    /// Reads on until the next token is known, or there is none; answers whether it is known. What is to come stays.
+    fn fill(&mut self) -> Result<bool, ScanError>
         requires stands { IsMachine self.old }
         requires started { self.old.started ≡ true }
         ensures stands { OnOk result (IsMachine self.new) }
@@ -203,13 +206,14 @@ impl<'a> Machine<'a> {
         ensures ok { OnOk result ((to_come self.new ≡ to_come self.old) × ((is_ready self.new ≡ true) ⊎ (to_come self.new ≡ nothing))) }
         ensures err { IfErr result (λ e. Faults e (to_come self.old)) }
         ensures sought { IfErr result (λ e. is_ready self.old ≡ false) }
+        ensures ready { IfOk result (λ known. known ≡ is_ready self.new) }
     {
         'steps: loop {
             if self.has_token() {
-                return Ok(());
+                return Ok(true);
             }
             if self.ended {
-                return Ok(());
+                return Ok(false);
             }
             self.step()?;
         }
@@ -283,6 +287,8 @@ impl<'a> Machine<'a> {
         requires shown { IsPending (fields_of self.now) }
         requires settled { self.now.settled ≤ self.now.dropped + length self.now.waiting.items }
         requires few { self.now.dropped + length self.now.waiting.items < 2 ^ 64 - 1 }
+        requires last { self.now.shut ≤ self.now.dropped + length self.now.waiting.items }
+        requires shut { AreShut self.now.shut self.now.dropped self.now.waiting.items }
         ensures value { result ≡ (if self.now.ended then length (history_of self.now) else history.first_open (history_of self.now) (history_of self.now)) }
         ensures low { self.now.settled ≤ result }
         ensures high { result ≤ self.now.dropped + length self.now.waiting.items }
@@ -338,23 +344,34 @@ impl<'a> Machine<'a> {
     }
 
     /// The number of the earliest open candidate, or how many lexemes were read. What is settled stays so, so the
-    /// look goes on where the last one ended.
+    /// look goes on where the last one ended; behind what is shut there is none.
     fn earliest_open(&self) -> usize
         requires shown { IsPending (fields_of self.now) }
         requires settled { self.now.settled ≤ self.now.dropped + length self.now.waiting.items }
         requires few { self.now.dropped + length self.now.waiting.items < 2 ^ 64 - 1 }
+        requires last { self.now.shut ≤ self.now.dropped + length self.now.waiting.items }
+        requires shut { AreShut self.now.shut self.now.dropped self.now.waiting.items }
         ensures value { result ≡ history.first_open (history_of self.now) (history_of self.now) }
         ensures low { self.now.settled ≤ result }
         ensures high { result ≤ self.now.dropped + length self.now.waiting.items }
     {
         let mut i = self.settled - self.dropped;
-        'pass: while i < self.waiting.len() {
+        let shut = self.shut.saturating_sub(self.dropped);
+        'pass: while i < shut {
             if self.waiting[i].is_open(self.place) {
                 return self.dropped + i;
             }
             i += 1;
         }
-        self.dropped + i
+        self.count()
+    }
+
+    /// How many lexemes were read.
+    fn count(&self) -> usize
+        requires few { self.now.dropped + length self.now.waiting.items < 2 ^ 64 - 1 }
+        ensures { result ≡ self.now.dropped + length self.now.waiting.items }
+    {
+        self.dropped + self.waiting.len()
     }
 }
 

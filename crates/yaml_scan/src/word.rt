@@ -1,6 +1,6 @@
 //! Which lexeme stands at a place, and what it carries.
 
-ghost use Rattle.std.specs.Prelude.{◌≡◌, ◌+◌, ◌<◌, ◌≤◌, ◌⊎◌, IfSome, true, false, length};
+ghost use Rattle.std.specs.Prelude.{◌≡◌, ◌+◌, ◌<◌, ◌≤◌, ◌⊎◌, IfSome, None, option_map, true, false, length};
 ghost use Rattle.yaml_scan_text.specs.Marks.{byte, break_width};
 ghost use Rattle.yaml_scan_scalars.specs.Plain as plains;
 ghost use Rattle.yaml_scan_text.specs.Tokens as tokens;
@@ -12,7 +12,7 @@ ghost use Rattle.yaml_scan_scalars.specs.Quoted.{double_quoted_at, single_quoted
 ghost use Rattle.yaml_scan_block.specs.Block.{block_at, style_at};
 ghost use Rattle.yaml_scan_layout.specs.Words as spec;
 ghost use Rattle.yaml_scan.specs.Stands.{Stands, IsThrice, Told, is_letter};
-ghost use Rattle.yaml_scan.specs.Given.{IsWord, ReadsWord, IsSaid};
+ghost use Rattle.yaml_scan.specs.Given.{IsWord, ReadsWord, IsSaid, sign_at};
 
 use std::alloc::Global;
 use yaml_scan_block::block_scalar;
@@ -101,7 +101,6 @@ fn indicator(byte: u8, flow: bool, alone: bool) -> Option<Kind>
 }
 
 /// Reads the lexeme of that kind, which stands here.
-#[tactic(auto, unfolding(yaml_scan_text::specs::Marks::break_of, yaml_scan_layout::specs::Words::word_at))]
 pub(crate) fn read_word(
     alloc: Global,
     reader: &mut Reader,
@@ -113,18 +112,46 @@ pub(crate) fn read_word(
     requires level { level ≤ length reader.old.text + 1 }
     ensures { ReadsWord reader.old.text reader.old.at reader.new result (spec.word_at kind flow level reader.old.text reader.old.at) }
 {
+    match sign_body(kind) {
+        Some(body) => Ok(sign(reader, body)),
+        None => text_word(alloc, reader, kind, flow, level),
+    }
+}
+
+/// What the token of a sign of one byte is.
+fn sign_body(kind: Kind) -> Option<yaml_token_body_t>
+    ensures { option_map body_of result ≡ sign_at kind }
+{
     match kind {
-        Kind::StreamStart | Kind::StreamEnd => Ok(carrier(reader, yaml_token_body_t::StreamEnd)),
+        Kind::FlowSequenceStart => Some(yaml_token_body_t::FlowSequenceStart),
+        Kind::FlowMappingStart => Some(yaml_token_body_t::FlowMappingStart),
+        Kind::FlowSequenceEnd => Some(yaml_token_body_t::FlowSequenceEnd),
+        Kind::FlowMappingEnd => Some(yaml_token_body_t::FlowMappingEnd),
+        Kind::FlowEntry => Some(yaml_token_body_t::FlowEntry),
+        Kind::BlockEntry => Some(yaml_token_body_t::BlockEntry),
+        Kind::KeyMark => Some(yaml_token_body_t::Key),
+        Kind::ValueMark => Some(yaml_token_body_t::Value),
+        _ => None,
+    }
+}
+
+/// Reads a lexeme that is no sign of one byte.
+#[tactic(auto, unfolding(yaml_scan_text::specs::Marks::break_of, yaml_scan_layout::specs::Words::word_at))]
+fn text_word(
+    alloc: Global,
+    reader: &mut Reader,
+    kind: Kind,
+    flow: bool,
+    level: u64,
+) -> Result<Word, ScanError>
+    requires stands { Stands kind flow reader.old.text reader.old.at }
+    requires level { level ≤ length reader.old.text + 1 }
+    requires no_sign { sign_at kind ≡ None }
+    ensures { ReadsWord reader.old.text reader.old.at reader.new result (spec.word_at kind flow level reader.old.text reader.old.at) }
+{
+    match kind {
         Kind::DocumentStart => Ok(document_mark(reader, yaml_token_body_t::DocumentStart)),
         Kind::DocumentEnd => Ok(document_mark(reader, yaml_token_body_t::DocumentEnd)),
-        Kind::FlowSequenceStart => Ok(sign(reader, yaml_token_body_t::FlowSequenceStart)),
-        Kind::FlowMappingStart => Ok(sign(reader, yaml_token_body_t::FlowMappingStart)),
-        Kind::FlowSequenceEnd => Ok(sign(reader, yaml_token_body_t::FlowSequenceEnd)),
-        Kind::FlowMappingEnd => Ok(sign(reader, yaml_token_body_t::FlowMappingEnd)),
-        Kind::FlowEntry => Ok(sign(reader, yaml_token_body_t::FlowEntry)),
-        Kind::BlockEntry => Ok(sign(reader, yaml_token_body_t::BlockEntry)),
-        Kind::KeyMark => Ok(sign(reader, yaml_token_body_t::Key)),
-        Kind::ValueMark => Ok(sign(reader, yaml_token_body_t::Value)),
         Kind::Directive => directive_word(alloc, reader),
         Kind::Alias => alias_word(alloc, reader),
         Kind::Anchor => anchor_word(alloc, reader),
@@ -133,6 +160,7 @@ pub(crate) fn read_word(
         Kind::SingleQuoted => single_word(alloc, reader),
         Kind::DoubleQuoted => double_word(alloc, reader),
         Kind::Plain => plain_word(alloc, reader, flow, level),
+        _ => Ok(carrier(reader, yaml_token_body_t::StreamEnd)),
     }
 }
 

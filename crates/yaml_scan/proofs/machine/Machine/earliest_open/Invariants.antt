@@ -11,4 +11,4 @@ invariant-pass l = record {
 }
 
 abbrev pub decreases-pass : goal.decreases-pass
-decreases-pass l = length l.fn.self.waiting.items - l.i
+decreases-pass l = l.shut - l.i

@@ -80,6 +80,59 @@ settle-self-requires-clause-few c =
     let one = length-append c.reserve.new.self.items (record { entry = c.entry.result; body = r.body; current = r.lexeme.saved } ∷ []) in
     omega (arith, room, long, count, drops, kept, more, one, c.requires.stands.long)
 
+pub settle-self-requires-clause-last : goal.settle-self-requires-clause-last
+settle-self-requires-clause-last c =
+    let m = c.args.self.now in
+    let a = c.close_levels-ends.new.self in
+    let b = c.open_level.new.self in
+    let d = c.mark_own.new.self in
+    let to_a = c.close_levels-ends.ensures.same in
+    let to_b = c.in_ok-opens.ensures.same in
+    let to_d = c.mark_own.ensures.same in
+    let r = c.in_ok-lexeme.field-0 in
+    let l = r.lexeme in
+    let o = c.in_ok-opens.opens in
+    let (e, spoken, own, key) = ok_read m r _ c.in_ok-lexeme.ensures.exact in
+    let next = c.in_ok-lexeme.ensures.safe in
+    let drops : d.dropped ≡ m.dropped = ap (λ (x : Machine). x.dropped) to_d ∙ ap (λ (x : Machine). x.dropped) to_b ∙ ap (λ (x : Machine). x.dropped) to_a in
+    let waits : b.waiting.items ≡ m.waiting.items = ap (λ (x : Machine). x.waiting.items) to_b ∙ ap (λ (x : Machine). x.waiting.items) to_a in
+    let shuts : d.shut ≡ m.shut = ap (λ (x : Machine). x.shut) to_d ∙ ap (λ (x : Machine). x.shut) to_b ∙ ap (λ (x : Machine). x.shut) to_a in
+    let w : Waiting = record { entry = c.entry.result; body = r.body; current = l.saved } in
+    let items : c.push_back_reserved.new.self.items ≡ d.waiting.items ++ w ∷ [] = c.push_back_reserved.ensures.items ∙ ap (λ (ws : List Waiting). ws ++ w ∷ []) c.reserve.ensures.items in
+    let count : length d.waiting.items ≡ length m.waiting.items = c.mark_own.ensures.length ∙ ap (λ (ws : List Waiting). length ws) waits in
+    let more : length c.push_back_reserved.new.self.items ≡ length m.waiting.items + 1 = ap (λ (ws : List Waiting). length ws) items ∙ length-append d.waiting.items (w ∷ []) ∙ omega (arith, count) in
+    let inside_new : IfSome r.own (λ i. i < length c.push_back_reserved.new.self.items) = some_less r.own (length m.waiting.items) (length c.push_back_reserved.new.self.items) (omega (arith, more)) next.own in
+    let AtLast : ℕ → Type 0 = λ k. k ≤ d.dropped + length c.push_back_reserved.new.self.items in
+    subst AtLast (sym c.shut_behind-self.ensures) (last_step d.dropped d.shut (length c.push_back_reserved.new.self.items) l r.own (omega (arith, drops, shuts, more, c.requires.stands.last)) inside_new)
+
+pub settle-self-requires-clause-shut : goal.settle-self-requires-clause-shut
+settle-self-requires-clause-shut c =
+    let m = c.args.self.now in
+    let a = c.close_levels-ends.new.self in
+    let b = c.open_level.new.self in
+    let d = c.mark_own.new.self in
+    let to_a = c.close_levels-ends.ensures.same in
+    let to_b = c.in_ok-opens.ensures.same in
+    let to_d = c.mark_own.ensures.same in
+    let r = c.in_ok-lexeme.field-0 in
+    let l = r.lexeme in
+    let o = c.in_ok-opens.opens in
+    let (e, spoken, own, key) = ok_read m r _ c.in_ok-lexeme.ensures.exact in
+    let next = c.in_ok-lexeme.ensures.safe in
+    let drops : d.dropped ≡ m.dropped = ap (λ (x : Machine). x.dropped) to_d ∙ ap (λ (x : Machine). x.dropped) to_b ∙ ap (λ (x : Machine). x.dropped) to_a in
+    let waits : b.waiting.items ≡ m.waiting.items = ap (λ (x : Machine). x.waiting.items) to_b ∙ ap (λ (x : Machine). x.waiting.items) to_a in
+    let shuts : d.shut ≡ m.shut = ap (λ (x : Machine). x.shut) to_d ∙ ap (λ (x : Machine). x.shut) to_b ∙ ap (λ (x : Machine). x.shut) to_a in
+    let w : Waiting = record { entry = c.entry.result; body = r.body; current = l.saved } in
+    let items : c.push_back_reserved.new.self.items ≡ d.waiting.items ++ w ∷ [] = c.push_back_reserved.ensures.items ∙ ap (λ (ws : List Waiting). ws ++ w ∷ []) c.reserve.ensures.items in
+    let inside_b : IfSome r.own (λ i. i < length b.waiting.items) = subst (λ (ws : List Waiting). IfSome r.own (λ i. i < length ws)) (sym waits) next.own in
+    let from_m : AreShut m.shut m.dropped b.waiting.items = subst (λ (ws : List Waiting). AreShut m.shut m.dropped ws) (sym waits) c.requires.stands.shut in
+    let old_shut : AreShut d.shut d.dropped b.waiting.items = subst (λ k. AreShut k d.dropped b.waiting.items) (sym shuts) (subst (λ k. AreShut m.shut k b.waiting.items) (sym drops) from_m) in
+    let last_b : IfSome r.own (λ i. AreShut (m.dropped + i + 1) m.dropped b.waiting.items) = subst (λ (ws : List Waiting). IfSome r.own (λ i. AreShut (m.dropped + i + 1) m.dropped ws)) (sym waits) next.last in
+    let old_last : IfSome r.own (λ i. AreShut (d.dropped + i + 1) d.dropped b.waiting.items) = subst (λ k. IfSome r.own (λ i. AreShut (k + i + 1) k b.waiting.items)) (sym drops) last_b in
+    let AtShut : ℕ → Type 0 = λ k. AreShut k d.dropped c.push_back_reserved.new.self.items in
+    let Shut : List Waiting → Type 0 = λ ws. AreShut (shut_behind d.dropped d.shut (length ws) l r.own) d.dropped ws in
+    subst AtShut (sym c.shut_behind-self.ensures) (subst Shut (sym items) (shut_step m d.shut d.dropped l o r.own b.waiting.items d.waiting.items w own c.mark_own.ensures.marks old_shut old_last inside_b refl))
+
 pub returns-clause-ok : goal.returns-clause-ok
 returns-clause-ok c =
     let m = c.args.self.now in

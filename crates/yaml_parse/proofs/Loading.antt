@@ -13,7 +13,7 @@ use Rattle.yaml_parse_document.specs.Documents.{Document, no_document}
 use Rattle.yaml_parse_grammar.specs.Resolve.{Told}
 use Rattle.yaml_parse_grammar.specs.Coming.{Coming, IsFinished, FaultOf}
 use Rattle.yaml_parse_loader.specs.Loading.{Loading, Fed, goes_on, loaded, refused, nothing_loaded, step, step_body, aliased, entered, load, turn}
-use Rattle.yaml_parse.specs.Steps.{GivesNext, GivesEnd}
+use Rattle.yaml_parse.specs.Finds.{GivesNext, GivesEnd}
 use Rattle.yaml_parse.specs.Loads.{Loads, load_on, behind_all, loads, loads_of, LoadGives, LoadRefuses, KeepsLoading, told_events, LoadsSame}
 
 pub keeps_first : (c : Coming) (l : Loading) → l ≡ nothing_loaded → KeepsLoading c c l

@@ -14,7 +14,8 @@ use Rattle.yaml_parse_grammar.specs.Resolve.{Directives, no_directives, Settled,
 use Rattle.yaml_parse_grammar.specs.Coming.{Coming, coming, reading_of, waiting, IsFinished, GivesNothing, GivesEvent, EventOf, FaultOf}
 use Rattle.yaml_parse_grammar.proofs.Complete.{nothing_runs, stream_runs}
 use Rattle.yaml_parse_grammar.proofs.Voice.{speaks, reading_speaks, not_noted}
-use Rattle.yaml_parse.specs.Steps.{Raw, outcome, IsDirective, GivesItem, GivesNoItem, IsRefused, IsDone, IsSilent, IsTurnRefused, IsOver, GivesNext, GivesEnd, Kept}
+use Rattle.yaml_parse.specs.Steps.{Raw, outcome, IsDirective, GivesItem, GivesNoItem, IsRefused, IsDone, IsSilent, IsTurnRefused, IsOver, Kept}
+use Rattle.yaml_parse.specs.Finds.{GivesNext, GivesEnd}
 
 -- what is to come of it
 abbrev pub of_raw : Raw → Directives → Fault → Coming

@@ -4,21 +4,18 @@ use Rattle.yaml_scan.specs.declared.yaml_error_type_t.TheVariants.{YAML_MEMORY_E
 use Rattle.yaml_scan.specs.declared.yaml_mark_t.{yaml_mark_t}
 use Rattle.yaml_scan.specs.Tokens.{Token, no_token, token_of, type_of}
 use Rattle.yaml_scan.specs.Faults.{Fault}
-use Rattle.yaml_parse_model.specs.Events.{Event, event_of, no_event}
-use Rattle.yaml_parse_model.specs.declared.yaml_event_t.{yaml_event_t}
 use Rattle.yaml_parse_grammar.specs.declared.name.Choice.TheVariants.{Take}
 use Rattle.yaml_parse_grammar.specs.States.{State}
 use Rattle.yaml_parse_grammar.specs.Items.{item_at}
 use Rattle.yaml_parse_grammar.specs.Items as item
 use Rattle.yaml_parse_grammar.specs.Machine.{Outcome, run, ending_at, choice_at, opened, Stands}
-use Rattle.yaml_parse_grammar.specs.Coming.{Coming, waiting, held_of, IsFinished, GivesNothing, FaultOf, is_between}
+use Rattle.yaml_parse_grammar.specs.Coming.{Coming, waiting, held_of, IsFinished, is_between}
 use Rattle.yaml_parse_grammar.specs.Texts.{IsUtf8Item, AreUtf8States, IsUtf8Token}
 use Rattle.yaml_parse_grammar.specs.Stacks.{IsStack, StandsBehind, parts_documents_behind}
 use Rattle.yaml_parse_model.specs.Constructors.{HasUtf8, AreUtf8}
 use Rattle.yaml_parse_grammar.specs.Resolve.{Directives}
 use Rattle.yaml_parse.specs.declared.step.Desk.{Desk}
-use Rattle.yaml_parse.specs.declared.parser.Found.{Found}
-use Rattle.yaml_parse.specs.declared.parser.Found.TheVariants as found
+use Rattle.yaml_parse.specs.Finds.{GivesNext}
 use Rattle.yaml_parse.specs.Stepped.{Stepped}
 use Rattle.yaml_parse.specs.Stepped as step
 use Rattle.yaml_parse.specs.Turned.{Turned}
@@ -143,37 +140,6 @@ pub record IsTurnRefused (f : Fault) (old new : Coming) : Type 0 where
 pub record IsOver (old new : Coming) : Type 0 where
   pub finished : IsFinished old
   pub same : new ≡ old
-
--- the front of what is to come is given, and the rest is left
-pub record GivesNext (e : Event) (old new : Coming) : Type 0 where
-  pub events : old.events ≡ (e, new.unasked) ∷ new.events
-  pub ending : new.ending ≡ old.ending
-  pub answered : new.answered ≡ old.answered
-
--- nothing is to come, and no token is asked for
-pub record GivesEnd (old new : Coming) : Type 0 where
-  pub events : old.events ≡ []
-  pub ending : old.ending ≡ None
-  pub nothing : GivesNothing no_event old new
-
--- the next event, or nothing behind the last one
-abbrev pub NextOf : Coming → Option yaml_event_t → Coming → Type 0
-NextOf old (Some e) new = GivesNext (event_of e) old new
-NextOf old None new = GivesEnd old new
-
--- what a call finds: the next event or a fault, which stand in the slots, or the end
-abbrev pub Finds : Coming → Found → Event → Fault → Coming → Type 0
-Finds old found.Event e f new = GivesNext e old new
-Finds old found.Refused e f new = FaultOf old f new
-Finds old found.End e f new = GivesEnd old new
-
-abbrev pub IsUtf8Found : Found → Event → Type 0
-IsUtf8Found found.Event e = HasUtf8 e.body
-IsUtf8Found _ e = Unit {0}
-
-abbrev pub IsStackFound : Found → Event → Bool → Type 0
-IsStackFound found.Event e between = between ≡ parts_documents_behind e.body
-IsStackFound _ e between = Unit {0}
 
 abbrev pub Turns : Coming → Turned → Coming → Type 0
 Turns old (turn.event e) new = GivesNext e old new

@@ -9,8 +9,8 @@ mod tests;
 
 pub use load::{loads_as_the_events_do, yaml_parser_load};
 pub use parser::{
-    yaml_parser_between, yaml_parser_delete, yaml_parser_initialize, yaml_parser_parse,
-    yaml_parser_prefix, yaml_parser_t,
+    yaml_found_t, yaml_parser_between, yaml_parser_delete, yaml_parser_initialize,
+    yaml_parser_parse, yaml_parser_parse_into, yaml_parser_prefix, yaml_parser_t,
 };
 pub use yaml_parse_document::{
     document_is_sound, yaml_document_add_mapping, yaml_document_add_scalar,

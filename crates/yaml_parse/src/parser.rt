@@ -15,7 +15,8 @@ ghost use Rattle.yaml_parse_grammar.specs.Coming.{reading_of, EventOf, FaultOf, 
 ghost use Rattle.yaml_parse_model.specs.Constructors.{HasUtf8};
 ghost use Rattle.yaml_parse_sound.specs.Laws.{BeginsWithSentence};
 ghost use Rattle.yaml_parse.specs.Refusals.{IsRefusal};
-ghost use Rattle.yaml_parse.specs.Steps.{Turns, NextOf, Finds, IsUtf8Turn, IsStackTurn, IsUtf8Found, IsStackFound};
+ghost use Rattle.yaml_parse.specs.Finds.{NextOf, Finds, IsUtf8Found, IsStackFound};
+ghost use Rattle.yaml_parse.specs.Steps.{Turns, IsUtf8Turn, IsStackTurn};
 ghost use Rattle.yaml_parse.specs.Turned.{turned};
 ghost use Rattle.yaml_parse_grammar.specs.Stacks.{parts_documents_behind};
 
@@ -152,33 +153,34 @@ pub fn yaml_parser_initialize<S: yaml_token_source_t>(
     }
 }
 
-/// What a call finds: an event or a fault that stands in its slot, or the end.
+/// What a call finds: an event or a fault, which stands in its slot, or the end.
 #[derive(Clone, Copy, PartialEq, Eq, Debug)]
-enum Found {
+pub enum yaml_found_t {
     Event,
     Refused,
     End,
 }
 
-// The next event, or nothing behind the last one and after a fault.
-fn find<S: yaml_token_source_t>(
+/// The next event in a slot that is lent, or a fault in another, or neither behind the last event and after a fault: what
+/// `yaml_parser_parse` answers, with nothing moved. A slot that isn't filled may hold anything afterwards.
+pub fn yaml_parser_parse_into<S: yaml_token_source_t>(
     parser: &mut yaml_parser_t<S>,
     event: &mut yaml_event_t,
     fault: &mut yaml_fault_t,
-) -> Found
+) -> yaml_found_t
     ensures finds { Finds parser.old result (event_of event.new) (fault_of fault.new) parser.new }
     ensures utf8 { IsUtf8Found result (event_of event.new) }
     ensures between { IsStackFound result (event_of event.new) parser.new.between }
 {
     'turns: loop {
         match parser.turn(event, fault) {
-            Turn::Event => return Found::Event,
+            Turn::Event => return yaml_found_t::Event,
             Turn::Silent => {}
             Turn::Refused => {
                 parser.prefix = yaml_parser_t_prefix::of(fault);
-                return Found::Refused;
+                return yaml_found_t::Refused;
             }
-            Turn::Done => return Found::End,
+            Turn::Done => return yaml_found_t::End,
         }
     }
 }
@@ -194,13 +196,13 @@ pub(crate) fn next_event<S: yaml_token_source_t>(
 {
     let mut event = yaml_event_t::unplaced(yaml_event_body_t::No);
     let mut fault = yaml_memory_fault(yaml_origin_t::Parser);
-    match find(parser, &mut event, &mut fault) {
-        Found::Event => Ok(Some(event)),
-        Found::Refused => {
+    match yaml_parser_parse_into(parser, &mut event, &mut fault) {
+        yaml_found_t::Event => Ok(Some(event)),
+        yaml_found_t::Refused => {
             drop(event);
             Err(fault)
         }
-        Found::End => {
+        yaml_found_t::End => {
             drop(event);
             Ok(None)
         }
@@ -221,13 +223,13 @@ pub fn yaml_parser_parse<S: yaml_token_source_t>(
 {
     let mut event = yaml_event_t::unplaced(yaml_event_body_t::No);
     let mut fault = yaml_memory_fault(yaml_origin_t::Parser);
-    match find(parser, &mut event, &mut fault) {
-        Found::Event => Ok(event),
-        Found::Refused => {
+    match yaml_parser_parse_into(parser, &mut event, &mut fault) {
+        yaml_found_t::Event => Ok(event),
+        yaml_found_t::Refused => {
             drop(event);
             Err(fault)
         }
-        Found::End => {
+        yaml_found_t::End => {
             drop(event);
             Ok(yaml_event_t::unplaced(yaml_event_body_t::No))
         }

@@ -121,42 +121,63 @@ fn is_plain(style: yaml_scalar_style_t) -> bool
     }
 }
 
+// A scalar without properties.
+fn bare_scalar(
+    alloc: Global,
+    value: &mut Vec<u8>,
+    style: yaml_scalar_style_t,
+    event: &mut yaml_event_body_t,
+)
+    ensures { body_of event.new ≡ node_event None None (item.scalar value.old.items style) }
+{
+    let is_plain = is_plain(style);
+    *event = yaml_event_body_t::Scalar {
+        anchor: None,
+        tag: None,
+        value: mem::replace(value, Vec::new(alloc)),
+        plain_implicit: is_plain,
+        quoted_implicit: !is_plain,
+        style,
+    };
+}
+
+// An empty scalar without properties.
+fn bare_empty(alloc: Global, event: &mut yaml_event_body_t)
+    ensures { body_of event.new ≡ node_event None None item.empty }
+{
+    *event = yaml_event_body_t::Scalar {
+        anchor: None,
+        tag: None,
+        value: Vec::new(alloc),
+        plain_implicit: true,
+        quoted_implicit: false,
+        style: yaml_scalar_style_t::YAML_PLAIN_SCALAR_STYLE,
+    };
+}
+
 // A node without properties.
-fn bare(alloc: Global, shape: &mut Shape) -> yaml_event_body_t
-    ensures { body_of result ≡ node_event None None (shape_of shape.old) }
+fn bare(alloc: Global, shape: &mut Shape, event: &mut yaml_event_body_t)
+    ensures { body_of event.new ≡ node_event None None (shape_of shape.old) }
 {
     match shape {
-        Shape::Empty => yaml_event_body_t::Scalar {
-            anchor: None,
-            tag: None,
-            value: Vec::new(alloc),
-            plain_implicit: true,
-            quoted_implicit: false,
-            style: yaml_scalar_style_t::YAML_PLAIN_SCALAR_STYLE,
-        },
-        Shape::Scalar { value, style } => {
-            let is_plain = is_plain(*style);
-            yaml_event_body_t::Scalar {
+        Shape::Empty => bare_empty(alloc, event),
+        Shape::Scalar { value, style } => bare_scalar(alloc, value, *style, event),
+        Shape::Sequence(style) => {
+            *event = yaml_event_body_t::SequenceStart {
                 anchor: None,
                 tag: None,
-                value: mem::replace(value, Vec::new(alloc)),
-                plain_implicit: is_plain,
-                quoted_implicit: !is_plain,
+                implicit: true,
                 style: *style,
-            }
+            };
         }
-        Shape::Sequence(style) => yaml_event_body_t::SequenceStart {
-            anchor: None,
-            tag: None,
-            implicit: true,
-            style: *style,
-        },
-        Shape::Mapping(style) => yaml_event_body_t::MappingStart {
-            anchor: None,
-            tag: None,
-            implicit: true,
-            style: *style,
-        },
+        Shape::Mapping(style) => {
+            *event = yaml_event_body_t::MappingStart {
+                anchor: None,
+                tag: None,
+                implicit: true,
+                style: *style,
+            };
+        }
     }
 }
 
@@ -404,7 +425,7 @@ fn settle_body(
             ref mut shape,
         } => match properties.take() {
             None => {
-                *event = bare(alloc, shape);
+                bare(alloc, shape, event);
                 Ok(true)
             }
             Some(properties) => {

@@ -1,6 +1,6 @@
 //! What taking a token gives, built from the moved token, and what leaving a state gives.
 
-ghost use Rattle.std.specs.Prelude.{◌≡◌, ◌++◌, [], ◌∷◌, OnOk, IfOk, IsOkAnd, false, Some, None};
+ghost use Rattle.std.specs.Prelude.{◌≡◌, ◌<◌, ◌+◌, ◌++◌, [], ◌∷◌, vec_len, vec_capacity, OnOk, IfOk, IsOkAnd, false, Some, None};
 ghost use Rattle.yaml_parse_grammar.specs.declared.name.Place.TheVariants.{Entry, IndentlessEntry, BlockPair, FlowPair};
 ghost use Rattle.yaml_parse_grammar.specs.declared.name.Brackets.TheVariants as brackets;
 ghost use Rattle.yaml_parse_grammar.specs.declared.name.Side.TheVariants.{Key, Value};
@@ -41,6 +41,7 @@ fn give(
 }
 
 // The token's own event in the slot.
+#[inline(always)]
 fn tell(slot: &mut Item, event: Plain, token: &yaml_token_t) -> Result<bool, AllocError>
     ensures { IsOkAnd result (λ b. given_of b slot.new ≡ Some (event_at (plain_of event) token.now.start_mark token.now.end_mark)) }
 {
@@ -61,6 +62,7 @@ fn beginning(properties: &Option<Box<Properties>>, start: yaml_mark_t) -> yaml_m
 }
 
 // A node behind its properties, if it has any, whose first token that is.
+#[inline(always)]
 fn node(
     slot: &mut Item,
     properties: Option<Box<Properties>>,
@@ -77,10 +79,24 @@ fn node(
 
 // ---- states on top of the stack, whose last state is the topmost
 
+// A state, for which there is room.
+#[inline(always)]
+fn put(stack: &mut Vec<State>, state: State)
+    requires { vec_len stack.old < vec_capacity stack.old }
+    ensures stack { stack_of stack.new.items ≡ state_of state ∷ stack_of stack.old.items }
+    ensures len { vec_len stack.new ≡ vec_len stack.old + 1 }
+    ensures capacity { vec_capacity stack.new ≡ vec_capacity stack.old }
+{
+    stack.push_reserved(state);
+}
+
+// A state, for which room is made.
+#[inline(always)]
 fn push(stack: &mut Vec<State>, state: State) -> Result<(), AllocError>
     ensures { OnOk result (stack_of stack.new.items ≡ state_of state ∷ stack_of stack.old.items) }
 {
-    stack.push(state)?;
+    stack.reserve(1)?;
+    put(stack, state);
     Ok(())
 }
 
@@ -88,17 +104,21 @@ fn push(stack: &mut Vec<State>, state: State) -> Result<(), AllocError>
 pub fn open(stack: &mut Vec<State>, before: yaml_mark_t) -> Result<(), AllocError>
     ensures { OnOk result (stack_of stack.new.items ≡ opened before ++ stack_of stack.old.items) }
 {
-    push(stack, State::Documents)?;
-    push(stack, State::DocumentEnd)?;
-    push(stack, State::Optional(Place::Root, before))
+    stack.reserve(3)?;
+    put(stack, State::Documents);
+    put(stack, State::DocumentEnd);
+    put(stack, State::Optional(Place::Root, before));
+    Ok(())
 }
 
 // A part behind a `-` that ends there, of a sequence that isn't indented, and its further parts.
 fn push_indentless(stack: &mut Vec<State>, side: Side, end: yaml_mark_t) -> Result<(), AllocError>
     ensures { OnOk result (stack_of stack.new.items ≡ state.optional (IndentlessEntry side) end ∷ state.others side ∷ stack_of stack.old.items) }
 {
-    push(stack, State::Others(side))?;
-    push(stack, State::Optional(Place::IndentlessEntry(side), end))
+    stack.reserve(2)?;
+    put(stack, State::Others(side));
+    put(stack, State::Optional(Place::IndentlessEntry(side), end));
+    Ok(())
 }
 
 // A part behind a `-` that ends there, and the further parts.
@@ -109,8 +129,10 @@ fn push_entry(
 ) -> Result<(), AllocError>
     ensures { OnOk result (stack_of stack.new.items ≡ state.optional Entry end ∷ state.entries opener ∷ stack_of stack.old.items) }
 {
-    push(stack, State::Entries(opener))?;
-    push(stack, State::Optional(Place::Entry, end))
+    stack.reserve(2)?;
+    put(stack, State::Entries(opener));
+    put(stack, State::Optional(Place::Entry, end));
+    Ok(())
 }
 
 // A pair of a block mapping behind a key's indicator that ends there, and the further pairs.
@@ -121,9 +143,11 @@ fn push_block_pair(
 ) -> Result<(), AllocError>
     ensures { OnOk result (stack_of stack.new.items ≡ state.optional (BlockPair Key) end ∷ state.colon (BlockPair Value) ∷ state.pairs opener ∷ stack_of stack.old.items) }
 {
-    push(stack, State::Pairs(opener))?;
-    push(stack, State::Colon(Place::BlockPair(Side::Value)))?;
-    push(stack, State::Optional(Place::BlockPair(Side::Key), end))
+    stack.reserve(3)?;
+    put(stack, State::Pairs(opener));
+    put(stack, State::Colon(Place::BlockPair(Side::Value)));
+    put(stack, State::Optional(Place::BlockPair(Side::Key), end));
+    Ok(())
 }
 
 // A pair inside the brackets of a sequence behind a key's indicator that ends there, the end of its own mapping, and
@@ -136,13 +160,15 @@ fn push_sequence_pair(
     ensures { OnOk result (stack_of stack.new.items ≡ state.optional (FlowPair brackets.Sequence Key) end ∷ state.colon (FlowPair brackets.Sequence Value) ∷ state.pair_end ∷ state.more brackets.Sequence opener ∷ stack_of stack.old.items) }
 {
     let brackets = Brackets::Sequence;
-    push(stack, State::More(brackets, opener))?;
-    push(stack, State::PairEnd)?;
-    push(stack, State::Colon(Place::FlowPair(brackets, Side::Value)))?;
-    push(
+    stack.reserve(4)?;
+    put(stack, State::More(brackets, opener));
+    put(stack, State::PairEnd);
+    put(stack, State::Colon(Place::FlowPair(brackets, Side::Value)));
+    put(
         stack,
         State::Optional(Place::FlowPair(brackets, Side::Key), end),
-    )
+    );
+    Ok(())
 }
 
 // A pair inside the brackets of a mapping behind a key's indicator that ends there, and what follows it in them.
@@ -154,12 +180,14 @@ fn push_mapping_pair(
     ensures { OnOk result (stack_of stack.new.items ≡ state.optional (FlowPair brackets.Mapping Key) end ∷ state.colon (FlowPair brackets.Mapping Value) ∷ state.more brackets.Mapping opener ∷ stack_of stack.old.items) }
 {
     let brackets = Brackets::Mapping;
-    push(stack, State::More(brackets, opener))?;
-    push(stack, State::Colon(Place::FlowPair(brackets, Side::Value)))?;
-    push(
+    stack.reserve(3)?;
+    put(stack, State::More(brackets, opener));
+    put(stack, State::Colon(Place::FlowPair(brackets, Side::Value)));
+    put(
         stack,
         State::Optional(Place::FlowPair(brackets, Side::Key), end),
-    )
+    );
+    Ok(())
 }
 
 // What comes behind a part that stands inside brackets.
@@ -362,6 +390,7 @@ fn open_others(
     node(slot, properties, block_sequence(), token)
 }
 
+#[inline(always)]
 fn at_content(
     stack: &mut Vec<State>,
     wants: Wants,
@@ -396,6 +425,7 @@ fn at_content(
     }
 }
 
+#[inline(always)]
 fn at_node(
     stack: &mut Vec<State>,
     wants: Wants,

@@ -84,16 +84,14 @@ fn style_sign(style: yaml_scalar_style_t) -> u8
     }
 }
 
-// Adds a word, an anchor and a tag.
-fn push_node(
+// Adds an anchor and a tag.
+fn push_properties(
     line: &mut Vec<u8>,
-    word: &[u8],
     anchor: &Option<Vec<u8>>,
     tag: &Option<Vec<u8>>,
 ) -> Result<(), AllocError>
-    ensures { OnOk result (line.new.items ≡ line.old.items ++ (word.now ++ anchor_part (text_of anchor.now) ++ tag_part (text_of tag.now))) }
+    ensures { OnOk result (line.new.items ≡ line.old.items ++ (anchor_part (text_of anchor.now) ++ tag_part (text_of tag.now))) }
 {
-    line.extend_from_slice(word)?;
     push_anchor(line, anchor)?;
     push_tag(line, tag)
 }
@@ -158,16 +156,19 @@ fn push_event(line: &mut Vec<u8>, event: &yaml_event_t) -> Result<(), AllocError
             style,
             ..
         } => {
-            push_node(line, b"=VAL", anchor, tag)?;
+            line.extend_from_slice(b"=VAL")?;
+            push_properties(line, anchor, tag)?;
             push_value(line, value, *style)
         }
-        yaml_event_body_t::SequenceStart { anchor, tag, .. } => push_node(
-            line, b"+SEQ", anchor, tag,
-        ),
+        yaml_event_body_t::SequenceStart { anchor, tag, .. } => {
+            line.extend_from_slice(b"+SEQ")?;
+            push_properties(line, anchor, tag)
+        }
         yaml_event_body_t::SequenceEnd => line.extend_from_slice(b"-SEQ"),
-        yaml_event_body_t::MappingStart { anchor, tag, .. } => push_node(
-            line, b"+MAP", anchor, tag,
-        ),
+        yaml_event_body_t::MappingStart { anchor, tag, .. } => {
+            line.extend_from_slice(b"+MAP")?;
+            push_properties(line, anchor, tag)
+        }
         yaml_event_body_t::MappingEnd => line.extend_from_slice(b"-MAP"),
     }
 }

@@ -1,6 +1,6 @@
 use Rattle.std.proofs.Common.{◌+◌}
 use Rattle.yaml_parse.specs.Steps.{Kept}
-use Rattle.yaml_parse.proofs.parser.find.Given as goal
+use Rattle.yaml_parse.proofs.parser.yaml_parser_parse_into.Given as goal
 
 abbrev pub invariant-turns : goal.invariant-turns
 invariant-turns g l = Kept l.initial.parser l.parser

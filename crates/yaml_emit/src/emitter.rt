@@ -236,7 +236,22 @@ impl yaml_emitter_t {
         }
     }
 
-    // What is left of the event counts for nothing.
+    // Takes an event, unless a fault has come. What is left of the event counts for nothing.
+    fn give(&mut self, event: &mut yaml_event_body_t)
+        requires { HasUtf8 (body_of event.old) }
+        ensures given { Given self.old (said (body_of event.old)) self.new }
+        ensures judged { Judged self.old (said (body_of event.old)) self.new }
+        ensures stays { Stays self.old self.new }
+        ensures opened { (self.new.opened ≡ self.old.opened) × (self.new.closed ≡ self.old.closed) }
+    {
+        match self.fault {
+            Some(_) => (),
+            None => {
+                self.take(event);
+            }
+        }
+    }
+
     fn emit_from(&mut self, event: &mut yaml_event_body_t) -> Result<(), yaml_fault_t>
         requires { HasUtf8 (body_of event.old) }
         ensures given { Given self.old (said (body_of event.old)) self.new }
@@ -246,13 +261,8 @@ impl yaml_emitter_t {
         ensures stays { Stays self.old self.new }
         ensures opened { (self.new.opened ≡ self.old.opened) × (self.new.closed ≡ self.old.closed) }
     {
-        match self.fault {
-            Some(_) => self.answer(),
-            None => {
-                self.take(event);
-                self.answer()
-            }
-        }
+        self.give(event);
+        self.answer()
     }
 
     fn emit(&mut self, event: yaml_event_body_t) -> Result<(), yaml_fault_t>

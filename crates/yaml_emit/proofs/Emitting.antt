@@ -182,6 +182,22 @@ goes_going Starved at.Node h = absurd (cc)
 goes_going Starved at.DocumentEnd h = absurd (cc)
 goes_going Starved at.End h = absurd (cc)
 
+going_none : (p : Place) (b : Bool) → goes_on Going p ≡ true → refusal_by p Going b ≡ None
+going_none at.StreamStart b h = refl
+going_none (at.Documents first unended) b h = refl
+going_none at.Node b h = refl
+going_none at.DocumentEnd b h = refl
+going_none at.End b h = refl
+going_none (at.Refused p) b h = absurd (cc)
+
+-- going on, there is no fault
+pub unnoted : (core : Core) (f : Option Fault) → f ≡ None → goes_on core.sink.status core.place ≡ true → f ≡ refusal_of core
+unnoted core f none h =
+    let g = goes_going core.sink.status core.place h in
+    let P : Status → Type 0 = λ s. refusal_by core.place s core.starved ≡ None in
+    let Q : Status → Type 0 = λ s. goes_on s core.place ≡ true in
+    none ∙ sym (subst P (sym g) (going_none core.place core.starved (subst Q g h)))
+
 pub fresh_refusal : (core : Core) (s : Settings) → IsFresh core s → refusal_of core ≡ None
 fresh_refusal core s f = let k : core.place ≡ at.StreamStart = ap (λ (z : State). z.place) f.state in rw (k, f.status) refl
 

@@ -16,6 +16,10 @@ oldest Second a b c d = b
 oldest Third a b c d = c
 oldest Fourth a b c d = d
 
+-- the event in the oldest's place
+abbrev pub oldest_event : Held → Event
+oldest_event h = said (body_of (oldest h.start h.first h.second h.third h.fourth))
+
 abbrev pub events_by : Count → Event → Event → Event → Event → List Event
 events_by Nothing a b c d = []
 events_by One a b c d = a ∷ []

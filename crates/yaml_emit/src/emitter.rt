@@ -12,7 +12,7 @@ ghost use Rattle.yaml_emit.specs.Verdict.{Judged, JudgesFirst, Tells};
 
 mod dump;
 
-use crate::fault::refusal;
+use crate::fault::note;
 use crate::held::Held;
 use crate::release::give;
 pub use dump::{yaml_emitter_close, yaml_emitter_dump, yaml_emitter_open};
@@ -206,7 +206,7 @@ impl yaml_emitter_t {
         ensures opened { (self.new.opened ≡ self.old.opened) × (self.new.closed ≡ self.old.closed) }
     {
         give(&mut self.core, &mut self.held, event);
-        self.fault = refusal(&self.core);
+        note(&self.core, &mut self.fault);
     }
 
     // An emitter without a fault takes an event.
@@ -226,6 +226,7 @@ impl yaml_emitter_t {
         }
     }
 
+    #[inline(always)]
     fn answer(&self) -> Result<(), yaml_fault_t>
         ensures answer { Answers self.now.fault result }
         ensures tells { Tells self.now }
@@ -236,7 +237,25 @@ impl yaml_emitter_t {
         }
     }
 
-    // What is left of the event counts for nothing.
+    // Takes an event, unless a fault has come. What is left of the event counts for nothing.
+    #[inline(never)]
+    fn give(&mut self, event: &mut yaml_event_body_t)
+        requires { HasUtf8 (body_of event.old) }
+        ensures given { Given self.old (said (body_of event.old)) self.new }
+        ensures judged { Judged self.old (said (body_of event.old)) self.new }
+        ensures stays { Stays self.old self.new }
+        ensures opened { (self.new.opened ≡ self.old.opened) × (self.new.closed ≡ self.old.closed) }
+    {
+        match self.fault {
+            Some(_) => (),
+            None => {
+                self.take(event);
+            }
+        }
+    }
+
+    // The same, and the answer, which isn't built where nobody looks at it.
+    #[inline(always)]
     fn emit_from(&mut self, event: &mut yaml_event_body_t) -> Result<(), yaml_fault_t>
         requires { HasUtf8 (body_of event.old) }
         ensures given { Given self.old (said (body_of event.old)) self.new }
@@ -246,13 +265,8 @@ impl yaml_emitter_t {
         ensures stays { Stays self.old self.new }
         ensures opened { (self.new.opened ≡ self.old.opened) × (self.new.closed ≡ self.old.closed) }
     {
-        match self.fault {
-            Some(_) => self.answer(),
-            None => {
-                self.take(event);
-                self.answer()
-            }
-        }
+        self.give(event);
+        self.answer()
     }
 
     fn emit(&mut self, event: yaml_event_body_t) -> Result<(), yaml_fault_t>

@@ -1,6 +1,6 @@
 //! The faults of an emitter.
 
-ghost use Rattle.std.specs.Prelude.{◌≡◌, option_map};
+ghost use Rattle.std.specs.Prelude.{◌≡◌, None, option_map};
 ghost use Rattle.yaml_scan.specs.Faults.{fault_of, memory_fault};
 ghost use Rattle.yaml_emit.specs.Judged.{refused_at};
 ghost use Rattle.yaml_emit.specs.Emitter.{plain_fault, emitter_fault, problem_fault, memory_origin, stopped, refusal_of};
@@ -87,5 +87,16 @@ pub(crate) fn refusal(core: &Core) -> Option<yaml_fault_t>
     match core.sink().status() {
         Status::Going => refused(core.place()),
         status => stopped(status, core.is_starved()),
+    }
+}
+
+// Notes the fault of what was laid out, where there is one and none was noted.
+#[tactic(auto, using(crate::proofs::Emitting::unnoted))]
+pub(crate) fn note(core: &Core, fault: &mut Option<yaml_fault_t>)
+    requires { option_map fault_of fault.old ≡ None }
+    ensures { option_map fault_of fault.new ≡ refusal_of core.now }
+{
+    if !core.is_going() {
+        *fault = refusal(core);
     }
 }

@@ -5,8 +5,10 @@ ghost use Rattle.yaml_parse.specs.Events.{body_of};
 ghost use Rattle.yaml_parse.specs.Constructors.{HasUtf8};
 ghost use Rattle.yaml_emit_layout.specs.Content.{said};
 ghost use Rattle.yaml_emit_layout.specs.State.{opens_empty, closes_by};
+ghost use Rattle.yaml_emit_state.specs.Steps.{LaysOut};
 
 use std::mem;
+use yaml_emit_state::Core;
 use yaml_parse::yaml_event_body_t;
 
 /// How many events are held.
@@ -41,7 +43,7 @@ pub struct Held {
 }
 
 impl Held {
-    ghost use Rattle.yaml_emit.specs.Held.{held_events, HeldUtf8, events_by, Utf8By, is_ready, closes, has_enough, needs, passes, opens_level, ends_level};
+    ghost use Rattle.yaml_emit.specs.Held.{held_events, oldest_event, HeldUtf8, events_by, Utf8By, is_ready, closes, has_enough, needs, passes, opens_level, ends_level};
 
     /// No event.
     pub fn nothing() -> Held
@@ -269,154 +271,107 @@ impl Held {
         }
     }
 
-    // The oldest of the places from it on is taken out, and is the last place then.
+    // An event is laid out where it stands, by whether the next one closes what it opens.
+    fn lay_before(core: &mut Core, event: &mut yaml_event_body_t, next: &yaml_event_body_t)
+        requires { HasUtf8 (body_of event.old) }
+        ensures { LaysOut core.old core.new (said (body_of event.old)) (closes_by (said (body_of event.old)) (said (body_of next.now))) }
+    {
+        let empty = Held::closes_by(event, next);
+        core.lay_out(event, empty);
+    }
+
+    // The oldest of the places from it on is laid out where it stands, and is the last place then.
     #[tactic(auto, unfolding(crate::specs::Held::is_ready))]
-    fn pop_front(
+    fn lay_front(
+        core: &mut Core,
         count: &mut Count,
         first: &mut yaml_event_body_t,
         second: &yaml_event_body_t,
         third: &yaml_event_body_t,
         fourth: &yaml_event_body_t,
-        front: &mut yaml_event_body_t,
     )
         requires ready { is_ready (events_by count.old (said (body_of first.old)) (said (body_of second.now)) (said (body_of third.now)) (said (body_of fourth.now))) ≡ true }
         requires utf8 { Utf8By count.old (body_of first.old) (body_of second.now) (body_of third.now) (body_of fourth.now) }
-        ensures events { events_by count.old (said (body_of first.old)) (said (body_of second.now)) (said (body_of third.now)) (said (body_of fourth.now)) ≡ said (body_of front.new) ∷ events_by count.new (said (body_of second.now)) (said (body_of third.now)) (said (body_of fourth.now)) (said (body_of first.new)) }
-        ensures utf8 { HasUtf8 (body_of front.new) × Utf8By count.new (body_of second.now) (body_of third.now) (body_of fourth.now) (body_of first.new) }
+        ensures events { events_by count.old (said (body_of first.old)) (said (body_of second.now)) (said (body_of third.now)) (said (body_of fourth.now)) ≡ said (body_of first.old) ∷ events_by count.new (said (body_of second.now)) (said (body_of third.now)) (said (body_of fourth.now)) (said (body_of first.new)) }
+        ensures utf8 { Utf8By count.new (body_of second.now) (body_of third.now) (body_of fourth.now) (body_of first.new) }
+        ensures laid { LaysOut core.old core.new (said (body_of first.old)) (opens_empty (said (body_of first.old)) (events_by count.new (said (body_of second.now)) (said (body_of third.now)) (said (body_of fourth.now)) (said (body_of first.new)))) }
     {
-        let _ = second;
         let _ = third;
         let _ = fourth;
-        mem::swap(first, front);
         match *count {
             Count::Nothing => unreachable!(),
             Count::One => {
                 *count = Count::Nothing;
+                core.lay_out(first, false);
             }
             Count::Two => {
                 *count = Count::One;
+                Held::lay_before(core, first, second);
             }
             Count::Three => {
                 *count = Count::Two;
+                Held::lay_before(core, first, second);
             }
             Count::Four => {
                 *count = Count::Three;
+                Held::lay_before(core, first, second);
             }
         }
     }
 
-    /// Takes the oldest out, into a place whose event counts for nothing.
-    pub fn pop(&mut self, front: &mut yaml_event_body_t)
+    /// Lays out the oldest, which isn't held then.
+    pub fn lay_oldest(&mut self, core: &mut Core)
         requires ready { is_ready (held_events self.old) ≡ true }
         requires utf8 { HeldUtf8 self.old }
-        ensures events { held_events self.old ≡ said (body_of front.new) ∷ held_events self.new }
-        ensures utf8 { HasUtf8 (body_of front.new) × HeldUtf8 self.new }
+        ensures events { held_events self.old ≡ oldest_event self.old ∷ held_events self.new }
+        ensures utf8 { HeldUtf8 self.new }
+        ensures laid { LaysOut core.old core.new (oldest_event self.old) (opens_empty (oldest_event self.old) (held_events self.new)) }
     {
         match self.start {
             Start::First => {
-                Held::pop_front(
+                Held::lay_front(
+                    core,
                     &mut self.count,
                     &mut self.first,
                     &self.second,
                     &self.third,
                     &self.fourth,
-                    front,
                 );
                 self.start = Start::Second;
             }
             Start::Second => {
-                Held::pop_front(
+                Held::lay_front(
+                    core,
                     &mut self.count,
                     &mut self.second,
                     &self.third,
                     &self.fourth,
                     &self.first,
-                    front,
                 );
                 self.start = Start::Third;
             }
             Start::Third => {
-                Held::pop_front(
+                Held::lay_front(
+                    core,
                     &mut self.count,
                     &mut self.third,
                     &self.fourth,
                     &self.first,
                     &self.second,
-                    front,
                 );
                 self.start = Start::Fourth;
             }
             Start::Fourth => {
-                Held::pop_front(
+                Held::lay_front(
+                    core,
                     &mut self.count,
                     &mut self.fourth,
                     &self.first,
                     &self.second,
                     &self.third,
-                    front,
                 );
                 self.start = Start::First;
             }
-        }
-    }
-
-    #[tactic(auto, using(crate::proofs::Opening::opens_none, crate::proofs::Opening::opens_first))]
-    fn opens_empty_by(
-        count: Count,
-        event: &yaml_event_body_t,
-        first: &yaml_event_body_t,
-        second: &yaml_event_body_t,
-        third: &yaml_event_body_t,
-        fourth: &yaml_event_body_t,
-    ) -> bool
-        ensures { result ≡ opens_empty (said (body_of event.now)) (events_by count (said (body_of first.now)) (said (body_of second.now)) (said (body_of third.now)) (said (body_of fourth.now))) }
-    {
-        let _ = second;
-        let _ = third;
-        let _ = fourth;
-        match count {
-            Count::Nothing => false,
-            _ => Held::closes_by(event, first),
-        }
-    }
-
-    /// Whether an event opens a collection that the held ones close at once.
-    pub fn opens_empty(&self, event: &yaml_event_body_t) -> bool
-        ensures { result ≡ opens_empty (said (body_of event.now)) (held_events self.now) }
-    {
-        match self.start {
-            Start::First => Held::opens_empty_by(
-                self.count,
-                event,
-                &self.first,
-                &self.second,
-                &self.third,
-                &self.fourth,
-            ),
-            Start::Second => Held::opens_empty_by(
-                self.count,
-                event,
-                &self.second,
-                &self.third,
-                &self.fourth,
-                &self.first,
-            ),
-            Start::Third => Held::opens_empty_by(
-                self.count,
-                event,
-                &self.third,
-                &self.fourth,
-                &self.first,
-                &self.second,
-            ),
-            Start::Fourth => Held::opens_empty_by(
-                self.count,
-                event,
-                &self.fourth,
-                &self.first,
-                &self.second,
-                &self.third,
-            ),
         }
     }
 }

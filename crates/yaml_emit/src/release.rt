@@ -27,9 +27,8 @@ fn passes(core: &Core, held: &Held, event: &yaml_event_body_t) -> bool
     core.is_going() && held.passes(event)
 }
 
-// What lies ready is laid out, up to the first event that is refused. What stands in the place for the one that is laid out
-// counts for nothing.
-fn release(core: &mut Core, held: &mut Held, front: &mut yaml_event_body_t)
+// What lies ready is laid out, up to the first event that is refused.
+fn release(core: &mut Core, held: &mut Held)
     requires { HeldUtf8 held.old }
     ensures leads { Leads core.old (held_events held.old) core.new (held_events held.new) }
     ensures judges { Judges core.old (held_events held.old) core.new (held_events held.new) }
@@ -37,9 +36,7 @@ fn release(core: &mut Core, held: &mut Held, front: &mut yaml_event_body_t)
     ensures waits { goes_on core.new.sink.status core.new.place ≡ true → is_ready (held_events held.new) ≡ false }
 {
     while is_due(core, held) {
-        held.pop(front);
-        let empty = held.opens_empty(front);
-        core.lay_out(front, empty);
+        held.lay_oldest(core);
     }
 }
 
@@ -56,6 +53,6 @@ pub(crate) fn give(core: &mut Core, held: &mut Held, event: &mut yaml_event_body
         core.lay_out(event, false);
     } else {
         held.push(event);
-        release(core, held, event);
+        release(core, held);
     }
 }

@@ -4,6 +4,10 @@ use Rattle.std.specs.Prelude.{◌==◌}
 use Rattle.std.specs.Str.{IsAscii}
 use Rattle.std.proofs.lemmas.Bool.Decides.{nat_tests}
 use Rattle.std.proofs.lemmas.Str.{IsAscii-drop}
+use Rattle.std.proofs.lemmas.Str.Ascii.{IsAscii-from_all}
+use Rattle.std.specs.Char.{is_ascii}
+use Rattle.std.specs.List.{list_all}
+use Rattle.std.proofs.lemmas.List.Sums.{AllPass-from_list_all}
 use Rattle.yaml_emit_sink.specs.declared.cursor.Cursor.{Cursor}
 use Rattle.yaml_emit_sink.specs.declared.cursor.Status.TheVariants.{Going}
 use Rattle.yaml_emit_sink.specs.declared.settings.Encoding.TheVariants.{Utf8}
@@ -59,3 +63,9 @@ pub no_letters : (a : Output) (xs : List ℕ) → (length xs == 0) ≡ true → 
 unfolding letters
 no_letters a [] e = puts_nothing a
 no_letters a (x ∷ xs) e = absurd (grind (arith, nat_tests, e))
+
+small : (b : ℕ) → is_ascii b ≡ true → b < 128
+small b h = grind (arith, nat_tests)
+
+pub all_ascii : (xs : List ℕ) → list_all is_ascii xs ≡ true → IsAscii xs
+all_ascii xs h = IsAscii-from_all xs (λ k d l. small _ (AllPass-from_list_all is_ascii xs h k d l))

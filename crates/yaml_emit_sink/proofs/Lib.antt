@@ -1,3 +1,4 @@
 pub mod Sinks
 mod Encodes
 mod Ascii
+mod Lines

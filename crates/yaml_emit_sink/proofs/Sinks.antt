@@ -69,11 +69,11 @@ puts_moved a b f o s e l k = record {
   going = λ g. sym s ∙ g;
 }
 
-cond_true : {A : Type 0} (b : Bool) (x y : A) → b ≡ true → cond b x y ≡ x
+pub cond_true : {A : Type 0} (b : Bool) (x y : A) → b ≡ true → cond b x y ≡ x
 cond_true true x y e = refl
 cond_true false x y e = absurd (cc)
 
-cond_false : {A : Type 0} (b : Bool) (x y : A) → b ≡ false → cond b x y ≡ y
+pub cond_false : {A : Type 0} (b : Bool) (x y : A) → b ≡ false → cond b x y ≡ y
 cond_false false x y e = refl
 cond_false true x y e = absurd (cc)
 
@@ -145,11 +145,15 @@ puts_run a b y bytes n g e l u d h k = record {
 }
 
 -- the cursor behind a space and then some
-stepped : ℕ → Cursor → Cursor
+pub stepped : ℕ → Cursor → Cursor
 stepped zero c = c
 stepped (suc n) c = stepped n (record { column = c.column + 1; white = true; bare = c.bare; kept = c.kept })
 
-stepped_is : (n : ℕ) (c : Cursor) → stepped (suc n) c ≡ blanked (suc n) c
+pub stepped_none : (c : Cursor) → stepped zero c ≡ c
+unfolding stepped
+stepped_none c = refl
+
+pub stepped_is : (n : ℕ) (c : Cursor) → stepped (suc n) c ≡ blanked (suc n) c
 unfolding stepped
 stepped_is zero c = refl
 stepped_is (suc n) c =
@@ -157,12 +161,12 @@ stepped_is (suc n) c =
     let e : c.column + 1 + suc n ≡ c.column + suc (suc n) = omega arith in
     stepped_is n (at (c.column + 1)) ∙ ap at e
 
-blanks_encode : (n : ℕ) (c : Cursor) (rest : Rest) → encode Utf8 (blanks n c rest) ≡ replicate n 32 ++ encode Utf8 (rest (stepped n c))
+pub blanks_encode : (n : ℕ) (c : Cursor) (rest : Rest) → encode Utf8 (blanks n c rest) ≡ replicate n 32 ++ encode Utf8 (rest (stepped n c))
 unfolding encode char_bytes blanks stepped
 blanks_encode zero c rest = refl
 blanks_encode (suc n) c rest = ap (λ (t : List ℕ). 32 ∷ t) (blanks_encode n (record { column = c.column + 1; white = true; bare = c.bare; kept = c.kept }) rest)
 
-blanks_deep : (n : ℕ) (c : Cursor) (rest : Rest) → is_deep (blanks n c rest) ≡ is_deep (rest (stepped n c))
+pub blanks_deep : (n : ℕ) (c : Cursor) (rest : Rest) → is_deep (blanks n c rest) ≡ is_deep (rest (stepped n c))
 unfolding is_deep blanks stepped
 blanks_deep zero c rest = refl
 blanks_deep (suc n) c rest = blanks_deep n (record { column = c.column + 1; white = true; bare = c.bare; kept = c.kept }) rest

@@ -15,6 +15,10 @@ AppendsBy Starved limit old new bytes = new ≡ old
 abbrev pub moved : Cursor → Bool → Bool → Bool → Cursor
 moved c ends white bare = record { column = if ends then 0 else c.column + 1; white = white; bare = bare; kept = c.kept }
 
+-- the cursor behind a line feed and so many spaces
+abbrev pub indented : ℕ → Cursor → Cursor
+indented n c = record { column = n; white = true; bare = true; kept = c.kept }
+
 -- the cursor behind so many spaces, one at least
 abbrev pub blanked : ℕ → Cursor → Cursor
 blanked n c = record { column = c.column + n; white = true; bare = c.bare; kept = c.kept }

@@ -81,6 +81,10 @@ must_break n c = not c.bare || nat_lt n c.column || (c.column == n && not c.whit
 abbrev pub indent_to : ℕ → Layout
 indent_to n c = blanks (n - c.column) c
 
+-- a break and n spaces
+abbrev pub fresh : LineBreak → ℕ → Layout
+fresh b n = new_line b ▹ blanks n
+
 -- a line that is indented by n: a break, unless the line is bare up to there, and then spaces
 unfoldable pub line : LineBreak → ℕ → Layout
 line b n = choose (must_break n) (new_line b) stay ▹ indent_to n

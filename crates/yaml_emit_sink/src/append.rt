@@ -1,7 +1,7 @@
 //! Bytes at the end of the output.
 
 ghost use Rattle.std.specs.Prelude.{◌≡◌, ◌≢◌, ◌<◌, ◌≤◌, ◌+◌, ◌^◌, [], ◌∷◌, ◌++◌, length, replicate, if◌then◌else◌, IfSome, OnOk, OnErr};
-ghost use Rattle.yaml_emit_sink.specs.Appends.{AppendsBy, moved, blanked, lettered};
+ghost use Rattle.yaml_emit_sink.specs.Appends.{AppendsBy, moved, indented, blanked, lettered};
 ghost use Rattle.yaml_emit_sink.specs.Text.{char_bytes};
 
 use crate::bytes::bytes_of;
@@ -78,6 +78,33 @@ pub(crate) fn append_blanks(output: &mut Vec<u8>, limit: u64, count: u64) -> Sta
             Ok(()) => Status::Full,
             Err(_) => Status::Starved,
         }
+    }
+}
+
+// A line feed and the most spaces that are appended at once behind it.
+const LINE: [u8; 33] = *b"\n                                ";
+
+// A line feed and so many spaces, as far as the limit and the memory allow.
+pub(crate) fn append_line(output: &mut Vec<u8>, limit: u64, count: u64) -> Status
+    requires inside { length output.old.items ≤ limit }
+    requires few { count ≤ 32 }
+    ensures bytes { AppendsBy result limit output.old.items output.new.items (10 ∷ replicate count 32) }
+    ensures within { length output.new.items ≤ limit }
+    ensures longer { length output.old.items ≤ length output.new.items }
+    ensures going { result ≡ Status.Going → length output.new.items ≡ length output.old.items + (1 + count) }
+{
+    append(output, limit, &LINE[..count as usize + 1])
+}
+
+// The cursor behind a line feed and so many spaces.
+pub(crate) fn indented(at: Cursor, count: u64) -> Cursor
+    ensures { result ≡ indented count at }
+{
+    Cursor {
+        column: count,
+        white: true,
+        bare: true,
+        kept: at.kept,
     }
 }
 

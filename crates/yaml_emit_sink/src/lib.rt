@@ -5,6 +5,7 @@ mod append;
 mod bytes;
 mod cursor;
 mod laws;
+mod narrow;
 mod settings;
 mod sink;
 

@@ -2,8 +2,11 @@
 
 ghost use Rattle.std.specs.Prelude.{◌≡◌, ◌≢◌, ◌<◌, ◌≤◌, ℕ, ◌∷◌, [], ◌++◌, ◌+◌, ◌-◌, length, ◌^◌, false, true};
 
-use crate::append::{append, append_blanks, append_char, blanked, lettered, moved};
+use crate::append::{
+    append, append_blanks, append_char, append_line, blanked, indented, lettered, moved,
+};
 use crate::cursor::{Cursor, Status};
+use crate::narrow::is_long_ascii;
 use crate::settings::{Encoding, LineBreak};
 use std::alloc::{AllocError, Global};
 use std::marker::Model;
@@ -33,7 +36,7 @@ impl Sink {
     ghost use Rattle.std.specs.Str.{IsAscii};
     ghost use Rattle.yaml_emit_sink.specs.Sink.{Puts, Output, stroke};
     ghost use Rattle.yaml_emit_sink.specs.Text.{letter, deep};
-    ghost use Rattle.yaml_emit_sink.specs.Layout.{Layout, char, letters, blank, blanks, break, new_line, gap, word, indicator, opener, line, wrap, keep, dark, light, choose, stay, must_break, indent_to, is_white, is_past, too_deep, order_mark, start};
+    ghost use Rattle.yaml_emit_sink.specs.Layout.{Layout, char, letters, blank, blanks, break, new_line, gap, word, indicator, opener, line, wrap, keep, dark, light, must_break, indent_to, fresh, is_white, is_past, too_deep, order_mark, start};
 
     /// An empty output of at most `limit` bytes, in UTF-8.
     pub fn new(alloc: Global, limit: u64) -> Sink
@@ -174,12 +177,23 @@ impl Sink {
         self.put_break('\n');
     }
 
-    /// Each byte as the character of that number: for texts in ASCII.
-    pub fn put_all(&mut self, text: &[u8])
+    // Each byte as the character of that number.
+    fn put_each(&mut self, text: &[u8])
         ensures { Puts self.old self.new (letters text.now) }
     {
         for byte in text {
             self.put(*byte as char);
+        }
+    }
+
+    /// Each byte as the character of that number: for texts in ASCII.
+    pub fn put_all(&mut self, text: &[u8])
+        ensures { Puts self.old self.new (letters text.now) }
+    {
+        if is_long_ascii(text) {
+            self.put_ascii(text);
+        } else {
+            self.put_each(text);
         }
     }
 
@@ -208,7 +222,7 @@ impl Sink {
         }
         match self.encoding() {
             Encoding::Utf8 => self.put_bytes(text),
-            _ => self.put_all(text),
+            _ => self.put_each(text),
         }
     }
 
@@ -271,6 +285,14 @@ impl Sink {
         self.put_all(text);
     }
 
+    /// A character with a space in front where one is due.
+    pub fn put_sign(&mut self, c: char)
+        ensures { Puts self.old self.new (word (c ∷ [])) }
+    {
+        self.put_gap();
+        self.put(c);
+    }
+
     /// A block indicator leaves the line bare.
     pub fn put_indicator(&mut self, c: char)
         ensures { Puts self.old self.new (indicator c) }
@@ -295,11 +317,55 @@ impl Sink {
         !at.bare || indent < at.column || (at.column == indent && !at.white)
     }
 
-    fn break_line(&mut self, line_break: LineBreak, indent: u64)
-        ensures { Puts self.old self.new (choose (must_break indent) (new_line line_break) stay) }
+    // Whether a line feed is a byte, and so many spaces behind it are few.
+    fn is_brief(&self, line_break: LineBreak, indent: u64) -> bool
+        ensures { result ≡ true → (line_break ≡ LineBreak.Lf) × (self.now.encoding ≡ Encoding.Utf8) × (indent ≤ 32) }
     {
-        if self.must_break(indent) {
-            self.put_new_line(line_break);
+        match line_break {
+            LineBreak::Lf => self.is_bytes() && indent <= 32,
+            _ => false,
+        }
+    }
+
+    // Whether a character in ASCII is a byte.
+    fn is_bytes(&self) -> bool
+        ensures { result ≡ true → self.now.encoding ≡ Encoding.Utf8 }
+    {
+        match self.encoding() {
+            Encoding::Utf8 => true,
+            _ => false,
+        }
+    }
+
+    // A line feed of one byte and a few spaces, at once.
+    fn put_brief_line(&mut self, indent: u64)
+        requires few { indent ≤ 32 }
+        requires bytes { self.old.encoding ≡ Encoding.Utf8 }
+        ensures { Puts self.old self.new (fresh LineBreak.Lf indent) }
+    {
+        if self.status.is_going() {
+            self.status = append_line(&mut self.output, self.limit, indent);
+            if self.status.is_going() {
+                self.cursor = indented(self.cursor, indent);
+            }
+        }
+    }
+
+    fn put_long_line(&mut self, line_break: LineBreak, indent: u64)
+        ensures { Puts self.old self.new (fresh line_break indent) }
+    {
+        self.put_new_line(line_break);
+        self.put_blanks(indent);
+    }
+
+    // A break, and so many spaces.
+    fn put_fresh(&mut self, line_break: LineBreak, indent: u64)
+        ensures { Puts self.old self.new (fresh line_break indent) }
+    {
+        if self.is_brief(line_break, indent) {
+            self.put_brief_line(indent);
+        } else {
+            self.put_long_line(line_break, indent);
         }
     }
 
@@ -314,8 +380,11 @@ impl Sink {
     pub fn put_line(&mut self, line_break: LineBreak, indent: u64)
         ensures { Puts self.old self.new (line line_break indent) }
     {
-        self.break_line(line_break, indent);
-        self.indent_to(indent);
+        if self.must_break(indent) {
+            self.put_fresh(line_break, indent);
+        } else {
+            self.indent_to(indent);
+        }
     }
 
     /// Whether the column is greater than the width.

@@ -162,7 +162,7 @@ fn put_exclamation_if(sink: &mut Sink, due: bool)
     ensures { Puts sink.old sink.new (when due (word (33 ∷ []))) }
 {
     if due {
-        sink.put_word(b"!");
+        sink.put_sign('!');
     }
 }
 

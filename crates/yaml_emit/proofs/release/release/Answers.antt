@@ -1,4 +1,4 @@
-use Rattle.std.proofs.Common.{sym, ◌∙◌}
+use Rattle.std.proofs.Common.{sym, refl, ◌∙◌}
 use Rattle.yaml_emit.proofs.Holding.{leads_same, leads_more, both_left, both_right, both_false}
 use Rattle.yaml_emit.proofs.Judging.{judges_same, judges_more}
 use Rattle.yaml_emit.proofs.release.release.Goals as goal
@@ -8,9 +8,9 @@ loop-held-init c = record { leads = leads_same _ _; judges = judges_same _ _; ut
 
 pub loop-held-preserved : goal.loop-held-preserved
 loop-held-preserved c = record {
-  leads = leads_more _ _ _ _ _ _ _ _ c.loop-held.invariant.leads c.pop.ensures.events (both_right _ _ (sym c.is_due.ensures ∙ c.loop-held-test.true)) c.opens_empty-empty.ensures c.lay_out.ensures;
-  judges = judges_more _ _ _ _ _ _ _ _ c.loop-held.invariant.judges c.pop.ensures.events (both_left _ _ (sym c.is_due.ensures ∙ c.loop-held-test.true)) (both_right _ _ (sym c.is_due.ensures ∙ c.loop-held-test.true)) c.opens_empty-empty.ensures c.lay_out.ensures;
-  utf8 = c.pop.ensures.utf8.1;
+  leads = leads_more _ _ _ _ _ _ _ _ c.loop-held.invariant.leads c.lay_oldest.ensures.events (both_right _ _ (sym c.is_due.ensures ∙ c.loop-held-test.true)) refl c.lay_oldest.ensures.laid;
+  judges = judges_more _ _ _ _ _ _ _ _ c.loop-held.invariant.judges c.lay_oldest.ensures.events (both_left _ _ (sym c.is_due.ensures ∙ c.loop-held-test.true)) (both_right _ _ (sym c.is_due.ensures ∙ c.loop-held-test.true)) refl c.lay_oldest.ensures.laid;
+  utf8 = c.lay_oldest.ensures.utf8;
 }
 
 pub returns-clause-waits : goal.returns-clause-waits

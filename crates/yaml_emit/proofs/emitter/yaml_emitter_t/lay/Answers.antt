@@ -8,7 +8,7 @@ pub invariant_of-self : goal.invariant_of-self
 invariant_of-self c =
     let fr = rw (← c.self.view_is) at c.requires.begun in
     record {
-      faulty = c.refusal-self-inside.ensures;
+      faulty = c.note.ensures;
       few = c.give.ensures.waits;
       texts = c.give.ensures.utf8;
       begun = λ f. absurd (cc);

@@ -1,7 +1,9 @@
-use Rattle.yaml_emit_sink.specs.Layout.{line}
-use Rattle.yaml_emit_sink.proofs.Sinks.{puts_both}
+use Rattle.std.proofs.Common.{sym, ◌∙◌}
+use Rattle.yaml_emit_sink.proofs.Lines.{line_broken, line_joined}
 use Rattle.yaml_emit_sink.proofs.sink.Sink.put_line.Goals as goal
 
-pub returns : goal.returns
-unfolding line
-returns c = puts_both _ _ _ _ _ c.break_line.ensures c.indent_to.ensures
+pub returns-then-must_break : goal.returns-then-must_break
+returns-then-must_break c = line_broken _ _ _ _ (sym c.must_break.ensures ∙ c.if-must_break.true) c.put_fresh.ensures
+
+pub returns-else-must_break : goal.returns-else-must_break
+returns-else-must_break c = line_joined _ _ _ _ (sym c.must_break.ensures ∙ c.if-must_break.false) c.indent_to.ensures

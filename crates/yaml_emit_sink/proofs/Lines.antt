@@ -1,0 +1,65 @@
+-- A break and the spaces behind it.
+use Rattle.std.proofs.Common.{◌≡◌, ℕ, ◌+◌, ◌-◌, ◌≤◌, List, ◌∷◌, ◌++◌, take, true, false, cond, refl, sym, ◌∙◌, ap, arith}
+use Rattle.std.specs.Prelude.{if◌then◌else◌, zero, suc, replicate}
+use Rattle.std.proofs.lemmas.List.{take-replicate}
+use Rattle.yaml_emit_sink.specs.declared.cursor.Cursor.{Cursor}
+use Rattle.yaml_emit_sink.specs.declared.cursor.Status.TheVariants.{Going}
+use Rattle.yaml_emit_sink.specs.declared.settings.Encoding.TheVariants.{Utf8}
+use Rattle.yaml_emit_sink.specs.declared.settings.LineBreak.{LineBreak}
+use Rattle.yaml_emit_sink.specs.declared.settings.LineBreak.TheVariants.{Lf, Cr, CrLf}
+use Rattle.yaml_emit_sink.specs.Text.{Item, letter, encode, char_bytes, is_deep}
+use Rattle.yaml_emit_sink.specs.Layout.{Layout, Rest, blanks, new_line, fresh, line, must_break, indent_to}
+use Rattle.yaml_emit_sink.specs.Appends.{AppendsBy, blanked, indented}
+use Rattle.yaml_emit_sink.specs.Sink.{Output, Puts}
+use Rattle.yaml_emit_sink.proofs.Sinks.{puts_as, puts_run, cond_true, cond_false, stepped, stepped_none, stepped_is, blanks_encode, blanks_deep}
+
+-- the cursor at the start of a line
+abbrev home : Cursor → Cursor
+home c = record { column = 0; white = true; bare = true; kept = c.kept }
+
+stepped_home : (n : ℕ) (c : Cursor) → stepped n (home c) ≡ indented n c
+stepped_home zero c = stepped_none (home c)
+stepped_home (suc n) c =
+    let at : ℕ → Cursor = λ k. record { column = k; white = true; bare = true; kept = c.kept } in
+    let e : 0 + suc n ≡ suc n = omega arith in
+    stepped_is n (home c) ∙ ap at e
+
+fresh_encode : (n : ℕ) (c : Cursor) (rest : Rest) → encode Utf8 (fresh Lf n c rest) ≡ (10 ∷ replicate n 32) ++ encode Utf8 (rest (stepped n (home c)))
+unfolding encode char_bytes
+fresh_encode n c rest = ap (λ (t : List ℕ). 10 ∷ t) (blanks_encode n (home c) rest)
+
+fresh_deep : (n : ℕ) (c : Cursor) (rest : Rest) → is_deep (fresh Lf n c rest) ≡ is_deep (rest (stepped n (home c)))
+unfolding is_deep
+fresh_deep n c rest = blanks_deep n (home c) rest
+
+-- a line feed and spaces of one byte were appended
+pub puts_fresh : (a b : Output) (n : ℕ) → a.status ≡ Going → a.encoding ≡ Utf8 → b.encoding ≡ a.encoding → b.limit ≡ a.limit → AppendsBy b.status a.limit a.bytes b.bytes (10 ∷ replicate n 32) → (b.status ≡ Going → b.cursor ≡ indented n a.cursor)
+    → Puts a b (fresh Lf n)
+puts_fresh a b n g x e l h k =
+    puts_run a b (fresh Lf n) (10 ∷ replicate n 32) (λ c. stepped n (home c)) g e l (λ rest. rw x (fresh_encode n a.cursor rest)) (λ rest. fresh_deep n a.cursor rest) h (λ going. k going ∙ sym (stepped_home n a.cursor))
+
+no_less : (n : ℕ) → n - 0 ≡ n
+no_less n = omega arith
+
+line_fresh : (k : LineBreak) (n : ℕ) (c : Cursor) (rest : Rest) → must_break n c ≡ true → line k n c rest ≡ fresh k n c rest
+unfolding line
+line_fresh Lf n c rest m = cond_true (must_break n c) _ _ m ∙ ap (λ v. letter 10 ∷ blanks v (home c) rest) (no_less n)
+line_fresh Cr n c rest m = cond_true (must_break n c) _ _ m ∙ ap (λ v. letter 13 ∷ blanks v (home c) rest) (no_less n)
+line_fresh CrLf n c rest m = cond_true (must_break n c) _ _ m ∙ ap (λ v. letter 13 ∷ letter 10 ∷ blanks v (home c) rest) (no_less n)
+
+line_stays : (k : LineBreak) (n : ℕ) (c : Cursor) (rest : Rest) → must_break n c ≡ false → line k n c rest ≡ indent_to n c rest
+unfolding line
+line_stays k n c rest m = cond_false (must_break n c) _ _ m
+
+-- a line, by whether it is broken
+pub line_broken : (a b : Output) (k : LineBreak) (n : ℕ) → must_break n a.cursor ≡ true → Puts a b (fresh k n) → Puts a b (line k n)
+line_broken a b k n m p = puts_as a b (fresh k n) (line k n) (λ rest. line_fresh k n a.cursor rest m) p
+
+pub line_joined : (a b : Output) (k : LineBreak) (n : ℕ) → must_break n a.cursor ≡ false → Puts a b (indent_to n) → Puts a b (line k n)
+line_joined a b k n m p = puts_as a b (indent_to n) (line k n) (λ rest. line_stays k n a.cursor rest m) p
+
+-- the front of a line feed and many spaces
+pub line_front : (n : ℕ) → n ≤ 32 → take {A = ℕ} (n + 1) (10 ∷ replicate 32 32) ≡ 10 ∷ replicate n 32
+line_front n h =
+    let e : n + 1 ≡ suc n = omega arith in
+    ap (λ k. take {A = ℕ} k (10 ∷ replicate 32 32)) e ∙ ap (λ (t : List ℕ). 10 ∷ t) (take-replicate n 32 32 h)

@@ -1,5 +1,5 @@
 -- What is written for a tag is read and resolved to it.
-use Rattle.std.proofs.Common.{◌≡◌, inl, inr, ◌⊎◌, ℕ, suc, ◌+◌, ◌-◌, ◌<◌, Bool, true, false, not, ◌&&◌, ◌==◌, nat_lt, if◌then◌else◌, List, [], ◌∷◌, ◌++◌, length, take, drop, get_or, Option, Some, None, Result, Ok, refl, sym, ap, subst, ◌∙◌, arith, rules, length-drop}
+use Rattle.std.proofs.Common.{◌≡◌, inl, inr, ℕ, suc, ◌+◌, ◌-◌, ◌<◌, Bool, true, false, not, ◌&&◌, ◌==◌, nat_lt, if◌then◌else◌, List, [], ◌∷◌, ◌++◌, length, take, drop, get_or, Option, Some, None, refl, sym, ap, subst, ◌∙◌, arith, rules, length-drop}
 use Rattle.std.proofs.lemmas.Bool.{cases_Bool}
 use Rattle.std.proofs.lemmas.Bool.Decides.{nat_tests}
 use Rattle.std.proofs.lemmas.List.{take_all, append_cancel_left}
@@ -10,7 +10,7 @@ use Rattle.std.specs.Prelude.{encode_utf8_all, codes}
 use Rattle.std.specs.Str.{IsUtf8, chars, bytes_eq}
 use lib.Utf8.{scalar, scalars}
 use Rattle.yaml_scan.specs.scan_text.Classes.{is_alpha_byte}
-use Rattle.yaml_scan.specs.scan_words.Tags.{TagText, tag_at, may_end_tag}
+use Rattle.yaml_scan.specs.scan_words.Tags.{may_end_tag}
 use Rattle.yaml_scan.specs.scan_words.Written.{HasAt, are_alphas}
 use Rattle.yaml_emit_layout.specs.parse.Events.{TagDirective}
 use Rattle.yaml_emit_layout.specs.parse.Resolve.{resolved}

@@ -1,12 +1,11 @@
 -- The URIs that an emitter writes, as pieces.
-use Rattle.std.proofs.Common.{◌≡◌, inl, inr, ℕ, suc, ◌+◌, ◌-◌, ◌/◌, ◌%◌, ◌<◌, ◌≤◌, Bool, true, false, not, ◌&&◌, ◌||◌, ◌==◌, nat_lt, nat_le, if◌then◌else◌, List, [], ◌∷◌, ◌++◌, length, Result, Ok, refl, sym, ap, subst, ◌∙◌, arith, append_assoc, encode_utf8}
+use Rattle.std.proofs.Common.{◌≡◌, inl, inr, ℕ, suc, ◌+◌, ◌-◌, ◌/◌, ◌%◌, ◌<◌, ◌≤◌, Bool, true, false, ◌&&◌, ◌||◌, ◌==◌, nat_lt, nat_le, if◌then◌else◌, List, [], ◌∷◌, ◌++◌, length, Ok, refl, sym, ap, subst, ◌∙◌, arith, encode_utf8}
 use Rattle.std.proofs.lemmas.Bool.{cases_Bool, cases_lt}
 use Rattle.std.proofs.lemmas.Bool.Decides.{nat_tests}
 use Rattle.std.specs.Prelude.{encode_utf8_all}
 use Rattle.std.specs.Str.{IsUtf8}
 use lib.Utf8.{scalar, scalars, encode}
 use Rattle.std.proofs.Math.Utf8.{scalar_cases}
-use Rattle.yaml_scan.specs.scan_text.declared.problem.Problem.{Problem}
 use Rattle.yaml_scan.specs.scan_text.Classes.{is_alpha_byte, is_digit_byte}
 use Rattle.yaml_scan.specs.scan_words.Uris.{is_sign, is_wide_sign, due_behind}
 use Rattle.yaml_scan.specs.scan_words.Written as written

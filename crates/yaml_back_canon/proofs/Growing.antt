@@ -1,12 +1,12 @@
 -- Canonical words are key-free.
 use Rattle.std.proofs.Common.{◌≡◌, ℕ, Bool, true, false, not, ◌&&◌, List, [], ◌∷◌, map, reverse, Option, Some, None, refl, ap, ◌∙◌}
 use Rattle.std.specs.List.{list_all}
-use Rattle.yaml_scan_layout.specs.declared.kind.Kind.{Kind}
-use Rattle.yaml_scan_layout.specs.declared.kind.Kind.TheVariants as kinds
-use Rattle.yaml_scan_layout.specs.Kinds.{is_end}
-use Rattle.yaml_scan_layout.specs.Coming.{Stream, offline}
-use Rattle.yaml_scan.specs.declared.yaml_version_directive_t.{yaml_version_directive_t}
-use Rattle.yaml_parse.specs.Events.{TagDirective}
+use Rattle.yaml_back_keys.specs.scan_layout.declared.kind.Kind.{Kind}
+use Rattle.yaml_back_keys.specs.scan_layout.declared.kind.Kind.TheVariants as kinds
+use Rattle.yaml_back_keys.specs.scan_layout.Kinds.{is_end}
+use Rattle.yaml_back_keys.specs.scan_layout.Coming.{Stream, offline}
+use Rattle.yaml_emit_layout.specs.scan.declared.yaml_version_directive_t.{yaml_version_directive_t}
+use Rattle.yaml_emit_layout.specs.parse.Events.{TagDirective}
 use Rattle.yaml_back_keys.specs.KeyFree.{asked_after, asked, fits, is_key_free}
 use Rattle.yaml_back_keys.specs.Texts.{Word, Stand, word_kinds, token_of, first_token, ReachEnd}
 use Rattle.yaml_back_keys.proofs.TextLemmas.{words_read}

@@ -1,9 +1,9 @@
 -- The kinds of lexemes that canonical layout writes, put in front of those before it: the newest first.
 use Rattle.std.specs.Prelude.{ℕ, Bool, true, false, not, ◌&&◌, List, [], ◌∷◌, Option, Some, None}
-use Rattle.yaml_scan_layout.specs.declared.kind.Kind.{Kind}
-use Rattle.yaml_scan_layout.specs.declared.kind.Kind.TheVariants as kinds
-use Rattle.yaml_scan.specs.declared.yaml_version_directive_t.{yaml_version_directive_t}
-use Rattle.yaml_parse.specs.Events.{TagDirective}
+use Rattle.yaml_back_keys.specs.scan_layout.declared.kind.Kind.{Kind}
+use Rattle.yaml_back_keys.specs.scan_layout.declared.kind.Kind.TheVariants as kinds
+use Rattle.yaml_emit_layout.specs.scan.declared.yaml_version_directive_t.{yaml_version_directive_t}
+use Rattle.yaml_emit_layout.specs.parse.Events.{TagDirective}
 use Rattle.yaml_emit_layout.specs.Content.{Scalar, Node, alias_node, scalar_node, sequence_node, mapping_node, Nodes, no_nodes, node, Pairs, no_pairs, pair, Opening, Document}
 use Rattle.yaml_emit_layout.specs.Grammar.{has, scalar_tag, start_tag}
 use Rattle.yaml_emit_layout.specs.Nodes.{is_directed}

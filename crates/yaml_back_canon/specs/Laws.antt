@@ -1,6 +1,6 @@
 -- What a scanner makes of canonical words.
 use Rattle.std.specs.Prelude.{◌≡◌, true, List, ◌∷◌, map, reverse, None}
-use Rattle.yaml_scan_layout.specs.Coming.{Stream, offline}
+use Rattle.yaml_back_keys.specs.scan_layout.Coming.{Stream, offline}
 use Rattle.yaml_back_keys.specs.KeyFree.{is_key_free}
 use Rattle.yaml_back_keys.specs.Texts.{Word, Stand, word_kinds, token_of, first_token}
 use Rattle.yaml_emit_layout.specs.Content.{Document}

@@ -1,5 +1,5 @@
 -- What an emitter writes between double quotes is read back.
-use Rattle.std.proofs.Common.{◌≡◌, ℕ, zero, suc, ◌+◌, ◌<◌, Bool, true, false, cond, ◌&&◌, ◌==◌, not, List, [], ◌∷◌, ◌++◌, length, Result, Ok, refl, sym, ap, subst, ◌∙◌, inl, inr, ◌⊎◌, arith, append_assoc, append-nil, encode_utf8, encode_utf8_all, IsUtf8}
+use Rattle.std.proofs.Common.{◌≡◌, ℕ, suc, ◌+◌, ◌<◌, Bool, true, false, ◌&&◌, ◌==◌, not, List, [], ◌∷◌, ◌++◌, length, Result, Ok, refl, sym, ap, subst, ◌∙◌, inl, inr, arith, append_assoc, append-nil, encode_utf8, encode_utf8_all, IsUtf8}
 use Rattle.std.specs.Prelude.{if◌then◌else◌}
 use Rattle.std.proofs.lemmas.Bool.{cases_Bool}
 use Rattle.std.proofs.lemmas.Str.{encode_ascii, encodes-append, encodes-chars, scalars-chars}
@@ -11,17 +11,17 @@ use Rattle.yaml_scan_scalars.specs.Quoted.{double_quoted_at}
 use Rattle.yaml_emit_text.specs.declared.Cursor.{Cursor}
 use Rattle.yaml_emit_text.specs.declared.Encoding.TheVariants.{Utf8}
 use Rattle.yaml_emit_text.specs.Text.{Item, letter, char_bytes, encode}
-use Rattle.yaml_emit_text.specs.Layout.{Layout, Rest, ◌▹◌, choose, char, nothing_more, is_past}
+use Rattle.yaml_emit_text.specs.Layout.{Layout, ◌▹◌, choose, char, nothing_more, is_past}
 use Rattle.yaml_emit_text.specs.declared.page.Page.{Page}
 use Rattle.yaml_emit_text.specs.Quoted.{is_empty, may_fold, fold as fold_layout, escaped, quoted_char, quoted_body, double_quoted}
 use Rattle.yaml_emit_text.specs.Spelling as emitted
 use Rattle.yaml_emit_text.specs.Spelling.{in_front, Spells, QuotedSpells}
 use Rattle.yaml_back_quoted.specs.Stands.{HasAt}
-use Rattle.yaml_back_quoted.specs.Spelling.{Part, IsSpelling, spelling, meaning, quoted}
+use Rattle.yaml_back_quoted.specs.Spelling.{spelling, meaning, quoted}
 use Rattle.yaml_back_quoted.specs.ReadBack.{IsReadBack, between_quotes, gap_width}
-use Rattle.yaml_back_quoted.proofs.Values.{cond_true, cond_false}
+use Rattle.yaml_back_quoted.proofs.Values.{cond_false}
 use Rattle.yaml_back_quoted.proofs.Parts.{spelling_reads}
-use Rattle.yaml_back_quoted.proofs.Escapes.{low_encodes, PartsOf, parts_of}
+use Rattle.yaml_back_quoted.proofs.Escapes.{low_encodes, parts_of}
 
 -- ---- without lines that may be broken the indentation says nothing
 

@@ -1,19 +1,16 @@
 -- The parts of what an emitter writes between double quotes, as a reader's parts.
-use Rattle.std.proofs.Common.{◌≡◌, ◌≢◌, ℕ, zero, suc, ◌+◌, ◌*◌, ◌/◌, ◌%◌, ◌<◌, ◌≤◌, Bool, true, false, cond, not, ◌&&◌, ◌||◌, ◌==◌, nat_lt, nat_le, List, [], ◌∷◌, ◌++◌, length, replicate, Option, Some, None, refl, sym, ap, subst, ◌∙◌, inl, inr, ◌⊎◌, arith, append_assoc, append-nil, encode_utf8, encode_utf8_all}
-use Rattle.std.specs.Prelude.{if◌then◌else◌}
-use Rattle.std.proofs.lemmas.Bool.{cases_Bool, cases_lt, cases_eq}
+use Rattle.std.proofs.Common.{◌≡◌, ◌≢◌, ℕ, zero, suc, ◌+◌, ◌*◌, ◌/◌, ◌%◌, ◌<◌, ◌≤◌, Bool, true, false, not, ◌&&◌, ◌||◌, ◌==◌, nat_lt, nat_le, List, [], ◌∷◌, ◌++◌, length, replicate, Some, refl, sym, ap, subst, ◌∙◌, inl, inr, arith, append-nil, encode_utf8, encode_utf8_all}
+use Rattle.std.proofs.lemmas.Bool.{cases_lt, cases_eq}
 use Rattle.std.proofs.lemmas.Bool.Decides.{nat_tests}
 use Rattle.std.proofs.lemmas.Str.{encode_ascii, encodes-append}
 use lib.Utf8.{scalar, scalar_cases, encode}
-use Rattle.yaml_scan_scalars.specs.scan_text.Marks.{is_blank}
 use Rattle.yaml_scan_scalars.specs.Quoted.{hex_digit, hex_len, simple_escape}
 use Rattle.yaml_emit_text.specs.declared.LineBreak.{LineBreak}
 use Rattle.yaml_emit_text.specs.declared.LineBreak.TheVariants.{Lf, Cr, CrLf}
-use Rattle.yaml_emit_text.specs.Text.{is_break}
 use Rattle.yaml_emit_text.specs.Quoted.{escape_letter, escape_text, hex_2, hex_4, hex_8, hex_digit as digit_of}
 use Rattle.yaml_emit_text.specs.Spelling as emitted
-use Rattle.yaml_back_quoted.specs.Spelling.{LineEnd, feed, return, return_feed, Turn, turn_bytes, turn_means, may_turn, Part, raw, doubled, named, numbered, fold, joint, spelled, meant, spelling, meaning, number_behind, may_be_raw, MayStand, is_raw_blank, is_fold, is_turn, may_follow, may_be_next, IsSpelling}
-use Rattle.yaml_back_quoted.proofs.Bytes.{and_left, and_right, not_true, or_left, or_right, differs, AreCalm, Calm, calm_from, digit_calm, named_is}
+use Rattle.yaml_back_quoted.specs.Spelling.{LineEnd, feed, return, return_feed, turn_bytes, turn_means, may_turn, Part, raw, named, numbered, fold, spelled, meant, spelling, meaning, number_behind, may_be_raw, MayStand, is_raw_blank, is_fold, is_turn, may_follow, may_be_next, IsSpelling}
+use Rattle.yaml_back_quoted.proofs.Bytes.{and_left, and_right, not_true, or_left, or_right, differs, AreCalm, calm_from, digit_calm, named_is}
 
 -- ---- digits
 

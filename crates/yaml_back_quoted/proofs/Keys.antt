@@ -1,23 +1,21 @@
 -- A simple key in double quotes stays in its line.
-use Rattle.std.proofs.Common.{◌≡◌, ℕ, zero, suc, ◌+◌, ◌/◌, ◌%◌, ◌<◌, ◌≤◌, Bool, true, false, cond, not, ◌&&◌, ◌||◌, ◌==◌, nat_le, List, [], ◌∷◌, ◌++◌, length, refl, sym, ap, subst, ◌∙◌, inl, inr, ◌⊎◌, arith, IsUtf8}
-use Rattle.std.specs.Prelude.{if◌then◌else◌}
+use Rattle.std.proofs.Common.{◌≡◌, ℕ, suc, ◌+◌, Bool, true, false, not, ◌&&◌, ◌==◌, List, [], ◌∷◌, ◌++◌, length, refl, sym, ap, subst, ◌∙◌, inl, inr, arith, IsUtf8}
 use Rattle.std.proofs.lemmas.Bool.{cases_Bool}
-use Rattle.std.proofs.lemmas.Bool.Decides.{nat_tests}
 use Rattle.std.proofs.lemmas.List.{length-append}
 use Rattle.std.proofs.lemmas.Str.{scalars-chars}
 use Rattle.std.specs.Str.{all_scalars, chars}
 use lib.Utf8.{scalar}
 use Rattle.yaml_emit_text.specs.declared.Cursor.{Cursor}
-use Rattle.yaml_emit_text.specs.Text.{Item, letter, is_break}
+use Rattle.yaml_emit_text.specs.Text.{letter, is_break}
 use Rattle.yaml_emit_text.specs.Layout.{Layout, Rest, ◌▹◌, char, letters}
 use Rattle.yaml_emit_text.specs.declared.page.Page.{Page}
-use Rattle.yaml_emit_text.specs.Quoted.{is_printable, needs_escape, escape_text, escaped, quoted_char, quoted_body}
+use Rattle.yaml_emit_text.specs.Quoted.{needs_escape, escape_text, escaped, quoted_char, quoted_body}
 use Rattle.yaml_emit_text.specs.Spelling.{in_front}
 use Rattle.yaml_back_quoted.specs.ReadBack.{is_one_line, StaysInLine, between_quotes}
 use Rattle.yaml_back_quoted.proofs.Values.{cond_true, cond_false}
 use Rattle.yaml_back_quoted.proofs.Bytes.{or_left, or_right, differs, Calm, AreCalm}
 use Rattle.yaml_back_quoted.proofs.Escapes.{escape_calm}
-use Rattle.yaml_back_quoted.proofs.Back.{front_append, front_one, front_more, char_escaped, moved_by}
+use Rattle.yaml_back_quoted.proofs.Back.{front_append, char_escaped, moved_by}
 
 both_true : (a b : Bool) → a ≡ true → b ≡ true → (a && b) ≡ true
 both_true true b p q = q

@@ -1,18 +1,18 @@
 -- All parts of a spelling are read, and what they mean.
-use Rattle.std.proofs.Common.{◌≡◌, ◌≢◌, ℕ, zero, suc, ◌+◌, ◌<◌, ◌≤◌, Bool, true, false, cond, not, ◌&&◌, ◌||◌, ◌==◌, nat_lt, List, [], ◌∷◌, ◌++◌, length, Result, Ok, Err, refl, sym, ap, subst, ◌∙◌, inl, inr, ◌⊎◌, arith, append_assoc, encode_utf8}
+use Rattle.std.proofs.Common.{◌≡◌, ℕ, zero, suc, ◌+◌, ◌<◌, ◌≤◌, true, false, ◌==◌, List, [], ◌∷◌, ◌++◌, length, Result, Ok, Err, refl, sym, ap, subst, ◌∙◌, inl, inr, arith, append_assoc, encode_utf8}
 use Rattle.std.proofs.lemmas.Bool.{cases_Bool, cases_lt}
 use Rattle.std.proofs.lemmas.Bool.Decides.{nat_tests}
 use Rattle.std.proofs.lemmas.List.{length-append, get_or_past}
 use lib.Utf8.{scalar, scalar_cases}
-use Rattle.yaml_scan_scalars.specs.scan_text.Marks.{byte, break_of, ends_of, break_width, ends_break, starts, column_at, is_blank}
+use Rattle.yaml_scan_scalars.specs.scan_text.Marks.{byte, starts, column_at, is_blank}
 use Rattle.yaml_scan_scalars.specs.scan_text.Breaks.{is_document_indicator}
 use Rattle.yaml_scan_scalars.specs.scan_text.Wrong.{Wrong}
-use Rattle.yaml_scan_scalars.specs.Pieces.{Piece, Kept, Blank, Break, value}
+use Rattle.yaml_scan_scalars.specs.Pieces.{Piece, Kept, Blank, value}
 use Rattle.yaml_scan_scalars.specs.Quoted.{Standing, Closing, Pieces, Bad, quote_at, standing_at, with_front, followed, pieces, valued, quoted_at, double_quoted_at, single_quoted_at}
 use Rattle.yaml_back_quoted.specs.Stands.{HasAt}
 use Rattle.yaml_back_quoted.specs.Spelling.{Part, raw, doubled, named, numbered, fold, joint, spelled, spelling, meaning, is_line_end, may_be_raw, MayStand, IsSpelling, quoted}
 use Rattle.yaml_back_quoted.proofs.Chars.{encode_1}
-use Rattle.yaml_back_quoted.proofs.Values.{keeps, read_as, all_read_as, read_blank, read_kept, spelling_value}
+use Rattle.yaml_back_quoted.proofs.Values.{read_as, all_read_as, read_blank, read_kept, spelling_value}
 use Rattle.yaml_back_quoted.proofs.Bytes.{and_left, and_right, not_true, or_left, or_right, apart, differs, same_test, IsQuote, quote_some, calm_end, calm_from, Has}
 use Rattle.yaml_back_quoted.proofs.Reading.{has, has_front, has_rest, Read, Through, through_one, in_line, column_more, column_start, blank_through, Raw, raw_through}
 use Rattle.yaml_back_quoted.proofs.Turns.{named_through, numbered_through, fold_through, joint_through}

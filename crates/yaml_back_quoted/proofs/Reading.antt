@@ -1,17 +1,15 @@
 -- How characters that stand for themselves are read inside the quotes.
-use Rattle.std.proofs.Common.{◌≡◌, ◌≢◌, ℕ, zero, suc, ◌+◌, ◌-◌, ◌*◌, ◌/◌, ◌%◌, ◌<◌, ◌≤◌, Bool, true, false, cond, not, ◌&&◌, ◌||◌, ◌==◌, nat_lt, nat_le, List, [], ◌∷◌, ◌++◌, length, get_or, map, replicate, Option, Some, None, Result, Ok, Err, refl, sym, ap, subst, ◌∙◌, inl, inr, ◌⊎◌, arith, add-one, add-zero, add-suc, append_assoc, append-nil, encode_utf8}
-use Rattle.std.specs.Prelude.{if◌then◌else◌}
-use Rattle.std.proofs.lemmas.Bool.{cases_Bool, cases_lt, cases_eq}
+use Rattle.std.proofs.Common.{◌≡◌, ◌≢◌, ℕ, suc, ◌+◌, ◌-◌, ◌/◌, ◌%◌, ◌<◌, ◌≤◌, Bool, true, false, ◌&&◌, ◌==◌, List, [], ◌∷◌, ◌++◌, length, Ok, refl, sym, ap, subst, ◌∙◌, inl, inr, arith, add-one, add-zero, append_assoc, encode_utf8}
+use Rattle.std.proofs.lemmas.Bool.{cases_lt}
 use Rattle.std.proofs.lemmas.Bool.Decides.{nat_tests}
-use Rattle.yaml_scan_scalars.specs.scan_text.Marks.{byte, break_of, ends_of, break_width, ends_break, starts, column_at, is_blank, is_blank_or_end}
+use Rattle.yaml_scan_scalars.specs.scan_text.Marks.{byte, ends_of, break_width, ends_break, starts, column_at, is_blank}
 use Rattle.yaml_scan_scalars.specs.scan_text.Breaks.{is_document_indicator}
-use Rattle.yaml_scan_scalars.specs.scan_text.Wrong.{Wrong}
-use Rattle.yaml_scan_scalars.specs.Pieces.{Piece, Kept, Blank, Break}
-use Rattle.yaml_scan_scalars.specs.Quoted.{Standing, Closing, Pieces, Bad, quote_at, standing_at, with_front, followed, pieces}
+use Rattle.yaml_scan_scalars.specs.Pieces.{Piece, Kept, Blank}
+use Rattle.yaml_scan_scalars.specs.Quoted.{Pieces, standing_at, pieces}
 use Rattle.yaml_back_quoted.specs.Stands.{HasAt}
 use Rattle.yaml_back_quoted.proofs.Chars.{encode_1, encode_2, encode_3, encode_4}
 use Rattle.yaml_back_quoted.proofs.Values.{keeps}
-use Rattle.yaml_back_quoted.proofs.Bytes.{differs, same_test, IsQuote, no_quote, quote_some, no_slash, low_end, low_break, Calm, calm_end, calm_break, calm_from, Has, first_end, second_end, third_end, later_break, two_break, three_break, four_break, high_blank}
+use Rattle.yaml_back_quoted.proofs.Bytes.{differs, IsQuote, no_quote, no_slash, low_end, low_break, Calm, calm_end, calm_break, calm_from, Has, first_end, second_end, third_end, later_break, two_break, three_break, four_break, high_blank}
 
 pub has : (text : List ℕ) (p : ℕ) (xs : List ℕ) → HasAt text p xs → Has text p xs
 has text p [] h = tt

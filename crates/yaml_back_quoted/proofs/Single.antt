@@ -1,7 +1,5 @@
 -- What an emitter writes between single quotes in one line, or cuts at spaces, is read back.
-use Rattle.std.proofs.Common.{◌≡◌, ◌≢◌, ℕ, zero, suc, ◌+◌, ◌-◌, ◌<◌, Bool, true, false, cond, not, ◌&&◌, ◌||◌, ◌==◌, nat_lt, nat_le, List, [], ◌∷◌, ◌++◌, length, replicate, Result, Ok, refl, sym, ap, subst, ◌∙◌, inl, inr, ◌⊎◌, arith, append_assoc, append-nil, encode_utf8, encode_utf8_all, IsUtf8}
-use Rattle.std.specs.Prelude.{if◌then◌else◌}
-use Rattle.std.proofs.lemmas.Bool.{cases_Bool}
+use Rattle.std.proofs.Common.{◌≡◌, ℕ, zero, suc, ◌+◌, ◌-◌, ◌<◌, Bool, true, false, not, ◌&&◌, ◌||◌, ◌==◌, nat_lt, nat_le, List, [], ◌∷◌, ◌++◌, length, replicate, Ok, refl, sym, ap, subst, ◌∙◌, arith, append-nil, encode_utf8, encode_utf8_all, IsUtf8}
 use Rattle.std.proofs.lemmas.Bool.Decides.{nat_tests}
 use Rattle.std.proofs.lemmas.Str.{encode_ascii, encodes-append, encodes-chars, scalars-chars}
 use Rattle.std.specs.Str.{all_scalars, chars}
@@ -11,15 +9,15 @@ use Rattle.yaml_scan_scalars.specs.Quoted.{single_quoted_at}
 use Rattle.yaml_emit_text.specs.declared.Cursor.{Cursor}
 use Rattle.yaml_emit_text.specs.declared.LineBreak.{LineBreak}
 use Rattle.yaml_emit_text.specs.declared.LineBreak.TheVariants.{Lf, Cr, CrLf}
-use Rattle.yaml_emit_text.specs.Text.{Item, letter, is_break}
-use Rattle.yaml_emit_text.specs.Layout.{Layout, Rest, ◌▹◌, stay, choose, when, char, blanks, new_line, line, indent_to, must_break, is_past}
+use Rattle.yaml_emit_text.specs.Text.{letter, is_break}
+use Rattle.yaml_emit_text.specs.Layout.{Layout, Rest, when, char, blanks, new_line, line, indent_to, must_break, is_past}
 use Rattle.yaml_emit_text.specs.declared.page.Page.{Page}
-use Rattle.yaml_emit_text.specs.Quoted.{is_printable, first, is_empty}
-use Rattle.yaml_emit_text.specs.Scalars.{value_break, cuts_at, cut, quote_char, text_char, flow_char, flow_body}
+use Rattle.yaml_emit_text.specs.Quoted.{is_printable, first}
+use Rattle.yaml_emit_text.specs.Scalars.{cuts_at, text_char, flow_char, flow_body}
 use Rattle.yaml_emit_text.specs.Spelling.{in_front, break_text}
-use Rattle.yaml_emit_text.specs.Style.{somewhere, is_special, is_break_space, allowed_text, allowed}
+use Rattle.yaml_emit_text.specs.Style.{somewhere, is_special, is_break_space, allowed}
 use Rattle.yaml_back_quoted.specs.Stands.{HasAt}
-use Rattle.yaml_back_quoted.specs.Spelling.{LineEnd, Turn, Part, raw, doubled, fold, is_line_end, may_turn, may_be_raw, MayStand, spelled, meant, spelling, meaning, is_raw_blank, is_fold, is_turn, may_follow, may_be_next, IsSpelling, quoted}
+use Rattle.yaml_back_quoted.specs.Spelling.{Part, raw, doubled, fold, may_turn, may_be_raw, MayStand, spelled, meant, spelling, meaning, is_raw_blank, is_fold, is_turn, may_follow, may_be_next, IsSpelling, quoted}
 use Rattle.yaml_back_quoted.specs.ReadBack.{IsReadBackBefore, between_single, is_one_line}
 use Rattle.yaml_back_quoted.proofs.Values.{cond_true, cond_false}
 use Rattle.yaml_back_quoted.proofs.Bytes.{and_left, and_right, not_true, or_left, or_right, differs, apart}

@@ -1,21 +1,16 @@
 -- How escapes and ends of lines are read inside the quotes.
-use Rattle.std.proofs.Common.{◌≡◌, ◌≢◌, ℕ, zero, suc, ◌+◌, ◌-◌, ◌*◌, ◌/◌, ◌%◌, ◌<◌, ◌≤◌, Bool, true, false, cond, not, ◌&&◌, ◌||◌, ◌==◌, nat_lt, nat_le, List, [], ◌∷◌, ◌++◌, length, get_or, map, replicate, Option, Some, None, Result, Ok, Err, refl, sym, ap, subst, ◌∙◌, inl, inr, ◌⊎◌, arith, add-one, add-zero, add-suc, append_assoc, append-nil, encode_utf8}
-use Rattle.std.specs.Prelude.{if◌then◌else◌}
-use Rattle.std.proofs.lemmas.Bool.{cases_Bool, cases_lt, cases_eq}
+use Rattle.std.proofs.Common.{◌≡◌, ◌≢◌, ℕ, zero, suc, ◌+◌, ◌<◌, true, false, ◌&&◌, ◌==◌, nat_lt, List, [], ◌∷◌, ◌++◌, length, replicate, Some, refl, sym, ap, subst, ◌∙◌, inl, inr, arith, add-zero, append_assoc, append-nil, encode_utf8}
 use Rattle.std.proofs.lemmas.Bool.Decides.{nat_tests}
-use Rattle.std.proofs.lemmas.List.{length-append, get_or_past}
+use Rattle.std.proofs.lemmas.List.{length-append}
 use lib.Utf8.{scalar, scalar_cases}
-use Rattle.yaml_scan_scalars.specs.scan_text.Marks.{byte, break_of, ends_of, break_width, ends_break, starts, column_at, is_blank}
+use Rattle.yaml_scan_scalars.specs.scan_text.Marks.{byte, break_of, break_width, column_at}
 use Rattle.yaml_scan_scalars.specs.scan_text.Breaks.{break_value, is_document_indicator}
-use Rattle.yaml_scan_scalars.specs.scan_text.Wrong.{Wrong}
-use Rattle.yaml_scan_scalars.specs.Pieces.{Piece, Kept, Blank, Break, value}
-use Rattle.yaml_scan_scalars.specs.Quoted.{Standing, Closing, Pieces, Bad, hex_value, hex_len, simple_escape, is_scalar, coded, escaped, escape_at, quote_at, standing_at, with_front, followed, pieces, valued, quoted_at}
-use Rattle.yaml_back_quoted.specs.Stands.{HasAt}
-use Rattle.yaml_back_quoted.specs.Spelling.{LineEnd, feed, return, return_feed, next_line, line_separator, paragraph_separator, end_bytes, end_means, Turn, turn_bytes, turn_means, is_return, is_feed_end, may_turn, Part, raw, doubled, named, numbered, fold, joint, spelled, meant, spelling, meaning, number_behind, is_line_end, may_be_raw, MayStand, may_be_next, IsSpelling, quoted}
-use Rattle.yaml_back_quoted.proofs.Chars.{encode_1}
-use Rattle.yaml_back_quoted.proofs.Values.{keeps, blanks_of, turns_read, turn_read, read_as, all_read_as, read_blank, read_kept, spelling_value}
-use Rattle.yaml_back_quoted.proofs.Bytes.{and_left, and_right, not_true, or_left, or_right, differs, apart, same_test, IsQuote, no_quote, quote_some, Calm, AreCalm, calm_end, calm_break, calm_from, hex_start, Has, Digits, digits, Named, named_is, number_calm}
-use Rattle.yaml_back_quoted.proofs.Reading.{has, has_front, has_rest, Read, Through, through_both, read_step, through_one, through_at, in_line, no_mark, column_more, column_start, blank_through, space_standing, space_column, Raw, raw_through}
+use Rattle.yaml_scan_scalars.specs.Pieces.{Piece, Kept, Blank, Break}
+use Rattle.yaml_scan_scalars.specs.Quoted.{Pieces, hex_value, hex_len, simple_escape, is_scalar, escape_at, standing_at}
+use Rattle.yaml_back_quoted.specs.Spelling.{LineEnd, feed, return, return_feed, next_line, line_separator, paragraph_separator, end_bytes, end_means, Turn, turn_bytes, is_return, is_feed_end, may_turn, number_behind}
+use Rattle.yaml_back_quoted.proofs.Values.{blanks_of, turns_read, turn_read}
+use Rattle.yaml_back_quoted.proofs.Bytes.{and_left, and_right, not_true, IsQuote, no_quote, Calm, AreCalm, calm_end, calm_break, calm_from, hex_start, Has, digits, named_is, number_calm}
+use Rattle.yaml_back_quoted.proofs.Reading.{has_front, has_rest, Read, Through, read_step, through_one, through_at, in_line, no_mark, column_more, space_standing, space_column}
 
 -- ---- escapes
 

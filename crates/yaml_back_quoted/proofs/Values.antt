@@ -1,13 +1,13 @@
 -- What a spelling is read as, piece by piece, has the value that it means.
-use Rattle.std.proofs.Common.{◌≡◌, ℕ, zero, suc, ◌<◌, Bool, true, false, cond, not, ◌&&◌, ◌||◌, nat_lt, List, [], ◌∷◌, ◌++◌, length, map, refl, sym, ap, subst, ◌∙◌, inl, inr, ◌⊎◌, arith, append_assoc, append-nil, encode_utf8, replicate}
+use Rattle.std.proofs.Common.{◌≡◌, ℕ, zero, suc, ◌<◌, Bool, true, false, cond, List, [], ◌∷◌, ◌++◌, map, refl, sym, ap, subst, ◌∙◌, inl, inr, arith, append_assoc, encode_utf8, replicate}
 use Rattle.std.specs.Prelude.{if◌then◌else◌}
 use Rattle.std.proofs.lemmas.Bool.{cases_Bool, cases_lt}
 use Rattle.std.proofs.lemmas.Str.{encode_ascii}
 use Rattle.std.proofs.lemmas.Bool.Decides.{nat_tests}
 use Rattle.yaml_scan_scalars.specs.scan_text.Marks.{is_blank}
-use Rattle.yaml_scan_scalars.specs.Pieces.{Piece, Kept, Blank, Break, Line, lines, is_empty, text, trim_end, trim_start, gap, Rest, rest_of, folded, value}
+use Rattle.yaml_scan_scalars.specs.Pieces.{Piece, Kept, Blank, Break, Line, lines, is_empty, gap, Rest, rest_of, folded, value}
 use Rattle.yaml_scan_scalars.proofs.FoldingLemmas.{value-kept}
-use Rattle.yaml_back_quoted.specs.Spelling.{LineEnd, end_means, Turn, turn_means, Part, raw, doubled, named, numbered, fold, joint, meant, meaning, IsSpelling, MayStand, may_follow, may_be_next, is_raw_blank, is_fold, is_turn}
+use Rattle.yaml_back_quoted.specs.Spelling.{end_means, Turn, turn_means, Part, raw, doubled, named, numbered, fold, joint, meant, meaning, IsSpelling, may_follow, may_be_next, is_raw_blank, is_fold, is_turn}
 use Rattle.yaml_back_quoted.proofs.Chars.{encode_1, encode_2, encode_3, encode_4}
 
 pub cond_true : {A : Type 0} (b : Bool) (x y : A) → b ≡ true → cond b x y ≡ x

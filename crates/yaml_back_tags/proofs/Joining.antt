@@ -1,5 +1,5 @@
 -- What is written for a tag is read and resolved to it.
-use Rattle.std.proofs.Common.{◌≡◌, inl, inr, ◌⊎◌, ℕ, suc, ◌+◌, ◌-◌, ◌<◌, Bool, true, false, not, ◌&&◌, ◌==◌, nat_lt, if◌then◌else◌, List, [], ◌∷◌, ◌++◌, length, take, drop, get_or, Option, Some, None, Result, Ok, refl, sym, ap, subst, ◌∙◌, arith, rules, length-drop}
+use Rattle.std.proofs.Common.{◌≡◌, inl, inr, ℕ, suc, ◌+◌, ◌-◌, ◌<◌, Bool, true, false, not, ◌&&◌, ◌==◌, nat_lt, if◌then◌else◌, List, [], ◌∷◌, ◌++◌, length, take, drop, get_or, Option, Some, None, refl, sym, ap, subst, ◌∙◌, arith, rules, length-drop}
 use Rattle.std.proofs.lemmas.Bool.{cases_Bool}
 use Rattle.std.proofs.lemmas.Bool.Decides.{nat_tests}
 use Rattle.std.proofs.lemmas.List.{take_all, append_cancel_left}
@@ -9,12 +9,12 @@ use Rattle.std.specs.List.{list_all}
 use Rattle.std.specs.Prelude.{encode_utf8_all, codes}
 use Rattle.std.specs.Str.{IsUtf8, chars, bytes_eq}
 use lib.Utf8.{scalar, scalars}
-use Rattle.yaml_scan_text.specs.Classes.{is_alpha_byte}
-use Rattle.yaml_scan_words.specs.Tags.{TagText, tag_at, may_end_tag}
-use Rattle.yaml_scan_words.specs.Written.{HasAt, are_alphas}
-use Rattle.yaml_parse.specs.Events.{TagDirective}
-use Rattle.yaml_parse_grammar.specs.Resolve.{resolved}
-use Rattle.yaml_emit_text.specs.Tags.{has_shorter_prefix, directive_for, defines, primary, secondary, unless_defined, defaults, in_force, Split, shorthand, verbatim, split_by, split_tag, spelled, tag_spelling}
+use Rattle.yaml_scan.specs.scan_text.Classes.{is_alpha_byte}
+use Rattle.yaml_scan.specs.scan_words.Tags.{may_end_tag}
+use Rattle.yaml_scan.specs.scan_words.Written.{HasAt, are_alphas}
+use Rattle.yaml_emit_layout.specs.parse.Events.{TagDirective}
+use Rattle.yaml_emit_layout.specs.parse.Resolve.{resolved}
+use Rattle.yaml_emit_layout.specs.emit_text.Tags.{has_shorter_prefix, directive_for, defines, primary, secondary, unless_defined, defaults, in_force, Split, shorthand, verbatim, split_by, split_tag, spelled, tag_spelling}
 use Rattle.yaml_emit_layout.specs.declared.problem.Problem.{Problem}
 use Rattle.yaml_emit_layout.specs.Content.{Opening}
 use Rattle.yaml_emit_layout.specs.Grammar.{or_else, between, inner_problem, ends_problem, handle_problem, prefix_problem, twice_problem, directive_problem, directives_problem, version_problem, opening_problem}

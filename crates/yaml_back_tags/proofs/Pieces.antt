@@ -1,18 +1,17 @@
 -- The URIs that an emitter writes, as pieces.
-use Rattle.std.proofs.Common.{◌≡◌, inl, inr, ℕ, suc, ◌+◌, ◌-◌, ◌/◌, ◌%◌, ◌<◌, ◌≤◌, Bool, true, false, not, ◌&&◌, ◌||◌, ◌==◌, nat_lt, nat_le, if◌then◌else◌, List, [], ◌∷◌, ◌++◌, length, Result, Ok, refl, sym, ap, subst, ◌∙◌, arith, append_assoc, encode_utf8}
+use Rattle.std.proofs.Common.{◌≡◌, inl, inr, ℕ, suc, ◌+◌, ◌-◌, ◌/◌, ◌%◌, ◌<◌, ◌≤◌, Bool, true, false, ◌&&◌, ◌||◌, ◌==◌, nat_lt, nat_le, if◌then◌else◌, List, [], ◌∷◌, ◌++◌, length, Ok, refl, sym, ap, subst, ◌∙◌, arith, encode_utf8}
 use Rattle.std.proofs.lemmas.Bool.{cases_Bool, cases_lt}
 use Rattle.std.proofs.lemmas.Bool.Decides.{nat_tests}
 use Rattle.std.specs.Prelude.{encode_utf8_all}
 use Rattle.std.specs.Str.{IsUtf8}
 use lib.Utf8.{scalar, scalars, encode}
 use Rattle.std.proofs.Math.Utf8.{scalar_cases}
-use Rattle.yaml_scan_text.specs.declared.problem.Problem.{Problem}
-use Rattle.yaml_scan_text.specs.Classes.{is_alpha_byte, is_digit_byte}
-use Rattle.yaml_scan_words.specs.Uris.{is_sign, is_wide_sign, due_behind}
-use Rattle.yaml_scan_words.specs.Written as written
-use Rattle.yaml_scan_words.specs.Written.{UriPiece, raw, escape, capital, piece_text, piece_byte, uri_bytes, is_kept, IsUri, has_no_mark}
-use Rattle.yaml_emit_text.specs.Quoted.{hex_digit, hex_2}
-use Rattle.yaml_emit_text.specs.Tags.{suffix_keeps, prefix_keeps, keeps_byte, uri_byte, uri_text}
+use Rattle.yaml_scan.specs.scan_text.Classes.{is_alpha_byte, is_digit_byte}
+use Rattle.yaml_scan.specs.scan_words.Uris.{is_sign, is_wide_sign, due_behind}
+use Rattle.yaml_scan.specs.scan_words.Written as written
+use Rattle.yaml_scan.specs.scan_words.Written.{UriPiece, raw, escape, capital, piece_text, piece_byte, uri_bytes, is_kept, IsUri, has_no_mark}
+use Rattle.yaml_emit_layout.specs.emit_text.Quoted.{hex_digit, hex_2}
+use Rattle.yaml_emit_layout.specs.emit_text.Tags.{suffix_keeps, prefix_keeps, keeps_byte, uri_byte, uri_text}
 
 -- a byte as an emitter writes it
 abbrev pub piece_by : Bool → ℕ → UriPiece

@@ -1,11 +1,11 @@
 -- What a scanner and a parser make of a tag that an emitter splits and spells.
 use Rattle.std.specs.Prelude.{◌≡◌, ◌⊎◌, ◌<◌, ◌+◌, ℕ, Bool, true, List, [], ◌∷◌, ◌++◌, length, Option, Some, None, Ok}
 use Rattle.std.specs.Str.{IsUtf8}
-use Rattle.yaml_scan_words.specs.Tags.{TagText, tag_at, may_end_tag}
-use Rattle.yaml_scan_words.specs.Written.{HasAt, are_alphas}
-use Rattle.yaml_parse.specs.Events.{TagDirective}
-use Rattle.yaml_parse_grammar.specs.Resolve.{resolved}
-use Rattle.yaml_emit_text.specs.Tags.{Split, shorthand, verbatim, spelled, split_tag, tag_spelling}
+use Rattle.yaml_scan.specs.scan_words.Tags.{TagText, tag_at, may_end_tag}
+use Rattle.yaml_scan.specs.scan_words.Written.{HasAt, are_alphas}
+use Rattle.yaml_emit_layout.specs.parse.Events.{TagDirective}
+use Rattle.yaml_emit_layout.specs.parse.Resolve.{resolved}
+use Rattle.yaml_emit_layout.specs.emit_text.Tags.{Split, shorthand, verbatim, spelled, split_tag, tag_spelling}
 use Rattle.yaml_emit_layout.specs.Content.{Opening}
 use Rattle.yaml_emit_layout.specs.Grammar.{opening_problem}
 

@@ -1,5 +1,5 @@
 -- What an emitter completes.
-use Rattle.std.proofs.Common.{◌≡◌, ◌≢◌, ℕ, ◌<◌, List, [], ◌∷◌, ◌++◌, length, take, Bool, true, false, refl, sym, subst, inl, inr, ◌∙◌, ap, arith, Option, Some, None, append_assoc, option_map}
+use Rattle.std.proofs.Common.{◌≡◌, ℕ, List, [], ◌∷◌, ◌++◌, Bool, true, false, refl, sym, subst, inl, inr, ◌∙◌, ap, Option, Some, None, append_assoc, option_map}
 use Rattle.yaml_scan.specs.Faults.{Fault, fault_of, memory_fault}
 use Rattle.yaml_scan.specs.declared.yaml_encoding_t.{yaml_encoding_t}
 use Rattle.yaml_emit_text.specs.declared.Encoding.{Encoding}

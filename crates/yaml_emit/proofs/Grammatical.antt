@@ -8,8 +8,8 @@ use Rattle.yaml_emit_layout.specs.Grammar.{or_else, event_problem, last_problem,
 use Rattle.yaml_emit_layout.specs.State.{State, opens_empty, problem_at, top_of}
 use Rattle.yaml_emit_layout.specs.ToCome.{ToCome, stream, events}
 use Rattle.yaml_emit_layout.specs.ToCome as come
-use Rattle.yaml_emit_layout.proofs.Going.{Goes, goes}
-use Rattle.yaml_emit.specs.Judged.{first_shape, shape_after, shape_of, problem_in, first_refusal, PassesStreams}
+use Rattle.yaml_emit_layout.proofs.Going.{goes}
+use Rattle.yaml_emit.specs.Judged.{shape_after, shape_of, problem_in, first_refusal, PassesStreams}
 use Rattle.yaml_emit.proofs.Judging.{or_none, same_problem, shape_next}
 
 or_both : (p q : Option Problem) → or_else p q ≡ None → (p ≡ None) × (q ≡ None)

@@ -1,5 +1,5 @@
 -- An event that is laid out is judged, and what follows is judged and written as before.
-use Rattle.std.proofs.Common.{◌≡◌, ◌≢◌, ℕ, ◌+◌, List, [], ◌∷◌, ◌++◌, length, Bool, true, false, refl, sym, subst, ◌∙◌, ap, arith, Option, Some, None, length-append}
+use Rattle.std.proofs.Common.{◌≡◌, ℕ, ◌+◌, List, [], ◌∷◌, ◌++◌, length, Bool, true, false, refl, sym, subst, ◌∙◌, ap, arith, Option, Some, None, length-append}
 use Rattle.std.specs.Prelude.{not, nat_le, ◌||◌, ◌&&◌}
 use Rattle.std.proofs.lemmas.Bool.Decides.{nat_tests}
 use Rattle.yaml_parse.specs.Events.{TagDirective}
@@ -8,7 +8,7 @@ use Rattle.yaml_emit_text.specs.declared.Settings.{Settings}
 use Rattle.yaml_emit_text.specs.declared.Status.{Status}
 use Rattle.yaml_emit_text.specs.declared.Status.TheVariants.{Going, Full, Deep, Starved}
 use Rattle.yaml_emit_text.specs.Text.{Item}
-use Rattle.yaml_emit_text.specs.Layout.{Layout, Rest, stay, nothing_more}
+use Rattle.yaml_emit_text.specs.Layout.{Layout, Rest, nothing_more}
 use Rattle.yaml_emit_text.specs.Sink.{Ends, Puts}
 use Rattle.yaml_emit_text.proofs.Sinks.{ends_other, status_cases}
 use Rattle.yaml_emit_layout.specs.declared.Problem.{Problem}
@@ -24,8 +24,8 @@ use Rattle.yaml_emit_layout.specs.State.{State, piece, next, next_at, problem_at
 use Rattle.yaml_emit_state.specs.declared.Core.{Core}
 use Rattle.yaml_emit_state.specs.Steps.{state_of, settings_of, next_state, next_piece, LaysOut, takes_memory, may_note, goes_on}
 use Rattle.yaml_emit_state.proofs.Noting.{neither, notes_both, notes_within}
-use Rattle.yaml_emit.specs.Held.{is_ready, has_enough, needs, closes, passes, opens_level, ends_level}
-use Rattle.yaml_emit.specs.Judged.{Due, item_due, key_due, value_due, Shape, shape_after, inside, behind_node, outer_due, phase_due, level_due, problem_in, let_out, first_refusal, unless, laid, refused_at, due_in, due_of, shape_of, refusal_from, text_from, refusal_behind, LetsOut, take_memory, Judges}
+use Rattle.yaml_emit.specs.Held.{is_ready, needs, closes, passes, opens_level, ends_level}
+use Rattle.yaml_emit.specs.Judged.{Due, item_due, key_due, Shape, shape_after, inside, behind_node, outer_due, phase_due, level_due, problem_in, let_out, first_refusal, unless, laid, refused_at, due_in, due_of, shape_of, refusal_from, text_from, refusal_behind, LetsOut, take_memory, Judges}
 use Rattle.yaml_emit.proofs.Opening.{opens_none}
 use Rattle.yaml_emit.proofs.Holding.{ready_empty}
 use Rattle.yaml_emit.proofs.Ending.{none_needed}

@@ -1,12 +1,10 @@
 -- An event laid out leaves what the output ends as.
-use Rattle.std.proofs.Common.{◌≡◌, ◌≢◌, ℕ, List, [], ◌∷◌, ◌++◌, Bool, true, false, refl, sym, subst, ◌∙◌, ap, arith, Option, Some, None}
-use Rattle.yaml_emit_text.specs.declared.Cursor.{Cursor}
-use Rattle.yaml_emit_text.specs.declared.Encoding.{Encoding}
+use Rattle.std.proofs.Common.{◌≡◌, ◌≢◌, List, [], ◌∷◌, Bool, refl, sym, subst, ◌∙◌, arith, Option, Some, None}
 use Rattle.yaml_emit_text.specs.declared.Settings.{Settings}
 use Rattle.yaml_emit_text.specs.declared.Status.{Status}
 use Rattle.yaml_emit_text.specs.declared.Status.TheVariants.{Going, Full, Deep, Starved}
-use Rattle.yaml_emit_text.specs.Text.{Item, encode, is_deep}
-use Rattle.yaml_emit_text.specs.Layout.{Rest, nothing_more, written, start}
+use Rattle.yaml_emit_text.specs.Text.{Item}
+use Rattle.yaml_emit_text.specs.Layout.{Rest, nothing_more, written}
 use Rattle.yaml_emit_text.specs.Sink.{Ends, EndsBy, Puts}
 use Rattle.yaml_emit_text.proofs.Sinks.{ends_other, status_cases}
 use Rattle.yaml_scan.specs.declared.yaml_encoding_t.{yaml_encoding_t}

@@ -1,6 +1,6 @@
 -- That memory was refused outside the output is noted where this stops the output.
 use Rattle.std.proofs.Common.{◌≡◌, ◌≢◌, Bool, true, false, refl}
-use Rattle.std.specs.Prelude.{not, ◌&&◌, ◌||◌}
+use Rattle.std.specs.Prelude.{◌||◌}
 use Rattle.yaml_emit_text.specs.declared.Status.{Status}
 use Rattle.yaml_emit_text.specs.declared.Status.TheVariants.{Going, Full, Deep, Starved}
 use Rattle.yaml_emit_state.specs.declared.state.Core.{Core}

@@ -1,5 +1,5 @@
 -- The open collections as a list, and indentations that are small enough.
-use Rattle.std.specs.Prelude.{ℕ, Bool, nat_le, if◌then◌else◌, List, [], ◌∷◌, reverse, Option, Some, None}
+use Rattle.std.specs.Prelude.{ℕ, nat_le, if◌then◌else◌, List, [], ◌∷◌, reverse, Option, Some, None}
 use Rattle.yaml_emit_layout.specs.declared.Level.{Level}
 use Rattle.yaml_emit_layout.specs.Nodes.{MOST}
 use Rattle.yaml_emit_state.specs.declared.levels.Levels.{Levels}

@@ -10,14 +10,14 @@ use Rattle.yaml_emit.specs.Content.{Event}
 use Rattle.yaml_emit.specs.Emitter.{Emitter, Completes, CompletesBy, IsStream, IsLimited, IsWhole, Passes}
 use Rattle.yaml_emit.specs.Within.{IsWithin}
 use Rattle.yaml_emit.specs.Text.{Item, encode, is_deep}
-use Rattle.yaml_emit_text.specs.declared.Encoding.{Encoding}
-use Rattle.yaml_emit_text.specs.declared.Wishes.{Wishes}
+use Rattle.yaml_emit.specs.emit_text.declared.Encoding.{Encoding}
+use Rattle.yaml_emit.specs.emit_text.declared.Wishes.{Wishes}
 use Rattle.yaml_round.specs.declared.settings.yaml_settings_t.{yaml_settings_t}
 use Rattle.yaml_round.specs.Reading.{said_all}
 use Rattle.yaml_round.specs.Writing.{IsUnder, Leads, Finishes, wishes_under, IsText, IsEachLayout, IsPastEach}
 use Rattle.yaml_round.specs.Input.{Reads, events_of}
 use Rattle.yaml_round.specs.Answers.{IsLayout, IsPast, IsRight, IsWritten, bytes_of}
-use Rattle.yaml_emit_laws.specs.Laws.{HasText}
+use Rattle.yaml_round_laws.specs.emit_laws.Laws.{HasText}
 use Rattle.yaml_round.proofs.Streams.{input_text}
 
 -- a fresh emitter completes the streams of its settings

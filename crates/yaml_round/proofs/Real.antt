@@ -8,17 +8,17 @@ use Rattle.yaml_scan.specs.Tokens.{Token, TokenBody, type_of, no_token}
 use Rattle.yaml_scan.specs.Tokens as token
 use Rattle.yaml_scan.specs.Faults.{Fault}
 use Rattle.yaml_parse.specs.Events as event
-use Rattle.yaml_parse_grammar.specs.declared.name.Wants.{Wants}
-use Rattle.yaml_parse_grammar.specs.declared.name.Wants.TheVariants.{Flow, Block}
-use Rattle.yaml_parse_grammar.specs.declared.name.Brackets.{Brackets}
-use Rattle.yaml_parse_grammar.specs.declared.name.Brackets.TheVariants as brackets
-use Rattle.yaml_parse_grammar.specs.declared.name.Place.TheVariants.{Root}
-use Rattle.yaml_parse_grammar.specs.declared.name.Choice.{Choice}
-use Rattle.yaml_parse_grammar.specs.declared.name.Choice.TheVariants.{Refuse, Take, Leave, Open}
-use Rattle.yaml_parse_grammar.specs.Items.{Item, ItemBody, Properties, Shape, item_at}
-use Rattle.yaml_parse_grammar.specs.Items as item
-use Rattle.yaml_parse_grammar.specs.States.{State}
-use Rattle.yaml_parse_grammar.specs.States as state
+use Rattle.yaml_parse.specs.parse_grammar.declared.name.Wants.{Wants}
+use Rattle.yaml_parse.specs.parse_grammar.declared.name.Wants.TheVariants.{Flow, Block}
+use Rattle.yaml_parse.specs.parse_grammar.declared.name.Brackets.{Brackets}
+use Rattle.yaml_parse.specs.parse_grammar.declared.name.Brackets.TheVariants as brackets
+use Rattle.yaml_parse.specs.parse_grammar.declared.name.Place.TheVariants.{Root}
+use Rattle.yaml_parse.specs.parse_grammar.declared.name.Choice.{Choice}
+use Rattle.yaml_parse.specs.parse_grammar.declared.name.Choice.TheVariants.{Refuse, Take, Leave, Open}
+use Rattle.yaml_parse.specs.parse_grammar.Items.{Item, ItemBody, Properties, Shape, item_at}
+use Rattle.yaml_parse.specs.parse_grammar.Items as item
+use Rattle.yaml_parse.specs.parse_grammar.States.{State}
+use Rattle.yaml_parse.specs.parse_grammar.States as state
 use Rattle.yaml_parse.specs.Trees.{Given}
 use Rattle.yaml_parse.specs.Machine.{choice_at, taken_at, documents_taken, content_taken, node_taken, dressed_taken, items_taken, more_taken, stream_taken, entries_taken, pairs_taken, left_at, Fed, stop, go, with_item, given_by, turn, feed, Outcome, finished, carry, run}
 use Rattle.yaml_parse.specs.Resolve.{Directives, Settled, refused, gave, noted, settle, settle_body, reading, read_on, with_resolved, with_version, with_tag, is_known_version, resolved, directive_for, scalar_event, node_event}

@@ -14,9 +14,9 @@ use Rattle.yaml_parse.specs.Loading.{Loading, Fed, goes_on, loaded, refused, not
 use Rattle.yaml_parse.specs.Loads as parse
 use Rattle.yaml_emit.specs.Content.{Event, alias_node, scalar_node, sequence_node, mapping_node, Nodes, no_nodes, node, Pairs, no_pairs, pair, document_start, document_end, sequence_end, mapping_end, stream_start, stream_end, node_events, items_events, pairs_events, documents_events}
 use Rattle.yaml_emit.specs.Content as content
-use Rattle.yaml_emit_graph.specs.Graph.{graph_content, dumped}
+use Rattle.yaml_emit.specs.emit_graph.Graph.{graph_content, dumped}
 use Rattle.yaml_emit.specs.Emitter.{Emitter, Given, Gives, dump_events, said_by, opening_events}
-use Rattle.yaml_emit_text.specs.declared.Wishes.{Wishes}
+use Rattle.yaml_emit.specs.emit_text.declared.Wishes.{Wishes}
 use Rattle.yaml_round.specs.declared.settings.yaml_settings_t.{yaml_settings_t}
 use Rattle.yaml_round.specs.Input.{Reads}
 use Rattle.yaml_round.specs.Writing.{IsUnder, Finishes, wishes_under}

@@ -9,12 +9,12 @@ use Rattle.yaml_parse.specs.Nodes.{Node}
 use Rattle.yaml_parse.specs.Documents.{Document}
 use Rattle.yaml_parse.specs.Resolve.{Told}
 use Rattle.yaml_parse.specs.Loading.{Loading, Fed, goes_on, loaded, refused, nothing_loaded, step}
-use Rattle.yaml_emit_graph.specs.Graph.{graph_content}
-use Rattle.yaml_emit_text.specs.declared.Wishes.{Wishes}
-use Rattle.yaml_emit_laws.specs.Laws.{RightStream, HasText, RightDocument, AreRight, AreRightTold, RightFed}
-use Rattle.yaml_emit_laws.proofs.Passing.{texts}
-use Rattle.yaml_emit_laws.proofs.Contents.{dumped_streams}
-use Rattle.yaml_emit_laws.proofs.Loading.{empty_right, steps}
+use Rattle.yaml_emit.specs.emit_graph.Graph.{graph_content}
+use Rattle.yaml_emit.specs.emit_text.declared.Wishes.{Wishes}
+use Rattle.yaml_round_laws.specs.emit_laws.Laws.{RightStream, HasText, RightDocument, AreRight, AreRightTold, RightFed}
+use Rattle.yaml_round_laws.proofs.emit_laws.Passing.{texts}
+use Rattle.yaml_round_laws.proofs.emit_laws.Contents.{dumped_streams}
+use Rattle.yaml_round_laws.proofs.emit_laws.Loading.{empty_right, steps}
 use Rattle.yaml_round_laws.specs.Evened.{IsEvened, IsEvening}
 use Rattle.yaml_round_laws.proofs.Inputs.{inputs_are_streams, inputs_load_right}
 use Rattle.yaml_round.specs.Even.{is_lone_mark, even_scalar, even_body}

@@ -8,8 +8,8 @@ use Rattle.yaml_emit.specs.Content.{Event}
 use Rattle.yaml_emit.specs.Text.{Item, encode, is_deep}
 use Rattle.yaml_emit.specs.Emitter.{IsStream, Passes}
 use Rattle.yaml_emit.specs.Within.{Fits}
-use Rattle.yaml_emit_text.specs.declared.Encoding.{Encoding}
-use Rattle.yaml_emit_text.specs.declared.Wishes.{Wishes}
+use Rattle.yaml_emit.specs.emit_text.declared.Encoding.{Encoding}
+use Rattle.yaml_emit.specs.emit_text.declared.Wishes.{Wishes}
 use Rattle.yaml_round.specs.declared.settings.yaml_settings_t.{yaml_settings_t}
 use Rattle.yaml_round.specs.declared.settings.yaml_side_t.{yaml_side_t}
 use Rattle.yaml_round.specs.declared.settings.yaml_side_t.TheVariants.{First, Second}

@@ -10,10 +10,10 @@ use Rattle.yaml_parse.specs.Resolve.{Told}
 use Rattle.yaml_parse.specs.Coming.{Coming}
 use Rattle.yaml_parse.specs.Loading.{Loading, Fed, goes_on, loaded, refused, nothing_loaded, step}
 use Rattle.yaml_emit.specs.Content.{Event, documents_events, stream_events, stream_end}
-use Rattle.yaml_emit_graph.specs.Graph.{graph_content}
+use Rattle.yaml_emit.specs.emit_graph.Graph.{graph_content}
 use Rattle.yaml_emit.specs.Text.{Item}
 use Rattle.yaml_emit.specs.Emitter.{Emitter, Completes}
-use Rattle.yaml_emit_text.specs.declared.Encoding.{Encoding}
+use Rattle.yaml_emit.specs.emit_text.declared.Encoding.{Encoding}
 use Rattle.yaml_round.specs.declared.settings.yaml_settings_t.{yaml_settings_t}
 use Rattle.yaml_round.specs.Input.{events_of, ending_of}
 use Rattle.yaml_round.specs.Writing.{wishes_under, IsEachLayout, IsPastEach}

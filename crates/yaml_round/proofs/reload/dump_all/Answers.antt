@@ -1,7 +1,7 @@
 -- The first document is given, and the others are left.
 use Rattle.std.proofs.Common.{◌∙◌, map}
 use Rattle.yaml_emit.specs.Content.{documents_events}
-use Rattle.yaml_emit_graph.specs.Graph.{graph_content}
+use Rattle.yaml_emit.specs.emit_graph.Graph.{graph_content}
 use Rattle.yaml_round.proofs.Reloading.{first_rooted, others_rooted, feeds_next, feeds_all, none_left, not_none}
 use Rattle.yaml_round.proofs.reload.dump_all.Goals as goal
 

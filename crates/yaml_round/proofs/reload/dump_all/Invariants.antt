@@ -1,7 +1,7 @@
 -- What was given is a front, and the others are left.
 use Rattle.std.proofs.Common.{length, map, All}
 use Rattle.yaml_emit.specs.Content.{documents_events}
-use Rattle.yaml_emit_graph.specs.Graph.{graph_content}
+use Rattle.yaml_emit.specs.emit_graph.Graph.{graph_content}
 use Rattle.yaml_round.specs.Reload.{HasRoot, Feeds, Stands}
 use Rattle.yaml_round.proofs.reload.dump_all.Given as goal
 

@@ -180,8 +180,11 @@ impl<'a> Machine<'a> {
         ensures stands { IsMachine self.new }
         ensures gives { Gives (left_in self.old) (token_of result) (left_in self.new) }
     {
-        if let Some(body) = self.waiting[0].before(self.given) {
-            let mark = self.waiting[0].entry.lexeme.start;
+        let Some(first) = self.waiting.front() else {
+            return yaml_token_t::empty();
+        };
+        if let Some(body) = first.before(self.given) {
+            let mark = first.entry.lexeme.start;
             self.given += 1;
             return yaml_token_t {
                 body,

@@ -1,7 +1,7 @@
 //! Which lexeme stands at a place, and what it carries.
 
 ghost use Rattle.std.specs.Prelude.{◌≡◌, ◌+◌, ◌<◌, ◌≤◌, ◌⊎◌, IfSome, None, option_map, true, false, length};
-ghost use Rattle.yaml_scan_text.specs.Marks.{byte, break_width};
+ghost use Rattle.yaml_scan_text.specs.Marks.{byte, break_width, is_blank_or_end};
 ghost use Rattle.yaml_scan_scalars.specs.Plain as plains;
 ghost use Rattle.yaml_scan_text.specs.Tokens as tokens;
 ghost use Rattle.yaml_scan_text.specs.Tokens.{body_of};
@@ -54,7 +54,7 @@ pub(crate) fn kind_at(reader: &Reader, flow: bool) -> Option<Kind>
     if is_document_end(reader) {
         return Some(Kind::DocumentEnd);
     }
-    if let Some(kind) = indicator(byte, flow, reader.is_blank_or_end(1)) {
+    if let Some(kind) = indicator(byte, flow, reader) {
         return Some(kind);
     }
     if starts_plain(reader, flow) {
@@ -74,10 +74,10 @@ fn is_letter(byte: u8) -> bool
     }
 }
 
-/// The kind that a byte tells; `alone` tells that a blank, a break or the end follows it.
+/// The kind that the byte here tells; `-`, `?` and `:` where a blank, a break or the end follows.
 #[tactic(auto, unfolding(yaml_scan_layout::specs::Words::indicator_of))]
-fn indicator(byte: u8, flow: bool, alone: bool) -> Option<Kind>
-    ensures value { result ≡ spec.indicator_of flow alone byte }
+fn indicator(byte: u8, flow: bool, reader: &Reader) -> Option<Kind>
+    ensures value { result ≡ spec.indicator_of flow (is_blank_or_end reader.now.text (reader.now.at + 1)) byte }
     ensures told { IfSome result (λ k. Told k byte) }
 {
     match byte {
@@ -86,9 +86,9 @@ fn indicator(byte: u8, flow: bool, alone: bool) -> Option<Kind>
         b']' => Some(Kind::FlowSequenceEnd),
         b'}' => Some(Kind::FlowMappingEnd),
         b',' => Some(Kind::FlowEntry),
-        b'-' if alone => Some(Kind::BlockEntry),
-        b'?' if flow || alone => Some(Kind::KeyMark),
-        b':' if flow || alone => Some(Kind::ValueMark),
+        b'-' if reader.is_blank_or_end(1) => Some(Kind::BlockEntry),
+        b'?' if flow || reader.is_blank_or_end(1) => Some(Kind::KeyMark),
+        b':' if flow || reader.is_blank_or_end(1) => Some(Kind::ValueMark),
         b'*' => Some(Kind::Alias),
         b'&' => Some(Kind::Anchor),
         b'!' => Some(Kind::Tag),

@@ -19,31 +19,30 @@ use Rattle.yaml_scan.proofs.machine.Machine.take_token.Goals as goal
 pub overflow_add-self : goal.overflow_add-self
 overflow_add-self c =
     let m = c.args.self.now in
-    let w = c.index.result.now in
-    let (rest, items) = front_waits m w c.requires.ready c.index.ensures in
-    let some : front_at w.entry m.given ≡ Some (body_of c.in-Some.body) = sym c.before-2.ensures ∙ ap (option_map body_of) c.in-Some.is in
-    let room = given_room m w rest (body_of c.in-Some.body) c.requires.stands items some in
+    let w = c.in-Some.first.now in
+    let (rest, items) = front_waits m w c.requires.ready c.in-Some.ensures.lookup in
+    let some : front_at w.entry m.given ≡ Some (body_of c.in-Some-before.body) = sym c.before-2.ensures ∙ ap (option_map body_of) c.in-Some-before.is in
+    let room = given_room m w rest (body_of c.in-Some-before.body) c.requires.stands items some in
     omega (arith, room)
 
-pub returns-in-Some-clause-stands : goal.returns-in-Some-clause-stands
-returns-in-Some-clause-stands c =
+pub returns-in-Some-before-clause-stands : goal.returns-in-Some-before-clause-stands
+returns-in-Some-before-clause-stands c =
     let m = c.args.self.now in
-    let w = c.index.result.now in
-    let (rest, items) = front_waits m w c.requires.ready c.index.ensures in
-    let some : front_at w.entry m.given ≡ Some (body_of c.in-Some.body) = sym c.before-2.ensures ∙ ap (option_map body_of) c.in-Some.is in
-    stands_more m w rest (body_of c.in-Some.body) c.requires.stands items c.requires.ready some
+    let w = c.in-Some.first.now in
+    let (rest, items) = front_waits m w c.requires.ready c.in-Some.ensures.lookup in
+    let some : front_at w.entry m.given ≡ Some (body_of c.in-Some-before.body) = sym c.before-2.ensures ∙ ap (option_map body_of) c.in-Some-before.is in
+    stands_more m w rest (body_of c.in-Some-before.body) c.requires.stands items c.requires.ready some
 
-pub returns-in-Some-clause-gives : goal.returns-in-Some-clause-gives
-returns-in-Some-clause-gives c =
+pub returns-in-Some-before-clause-gives : goal.returns-in-Some-before-clause-gives
+returns-in-Some-before-clause-gives c =
     let m = c.args.self.now in
-    let w = c.index.result.now in
-    let b = body_of c.in-Some.body in
-    let (rest, items) = front_waits m w c.requires.ready c.index.ensures in
-    let some : front_at w.entry m.given ≡ Some b = sym c.before-2.ensures ∙ ap (option_map body_of) c.in-Some.is in
-    let same : c.index-in-Some.result.now ≡ w = c.index-in-Some.ensures ∙ ap (λ (ws : List Waiting). get_or ws 0 c.index-in-Some.result.now) items in
+    let w = c.in-Some.first.now in
+    let b = body_of c.in-Some-before.body in
+    let (rest, items) = front_waits m w c.requires.ready c.in-Some.ensures.lookup in
+    let some : front_at w.entry m.given ≡ Some b = sym c.before-2.ensures ∙ ap (option_map body_of) c.in-Some-before.is in
     let (tokens, fault) = gives_front m w rest b c.requires.stands items c.requires.ready some in
     let on = ready_started m c.requires.stands c.requires.ready in
-    left_gives m record m { given = m.given + 1 } (before b c.index-in-Some.result.now.entry.lexeme) on on (tokens ∙ ap (λ (x : Waiting). before b x.entry.lexeme ∷ (coming (stream_of m) m.dropped (m.given + 1)).tokens) (sym same), fault)
+    left_gives m record m { given = m.given + 1 } (before b w.entry.lexeme) on on (tokens, fault)
 
 pub returns-in-Some-pop_front-clause-stands : goal.returns-in-Some-pop_front-clause-stands
 returns-in-Some-pop_front-clause-stands c =
@@ -51,8 +50,8 @@ returns-in-Some-pop_front-clause-stands c =
     let front = c.in-Some-pop_front.front in
     let rest = c.pop_front.new.self.items in
     let items : m.waiting.items ≡ front ∷ rest = c.in-Some-pop_front.ensures.items in
-    let here : c.index.result.now ≡ front = c.index.ensures ∙ ap (λ (ws : List Waiting). get_or ws 0 c.index.result.now) items in
-    let none : front_at front.entry m.given ≡ None = ap (λ (w : Waiting). front_at w.entry m.given) (sym here) ∙ sym c.before-2.ensures ∙ ap (option_map body_of) (none_left c.before-2.result c.in_default.not-Some) in
+    let here : c.in-Some.first.now ≡ front = c.in-Some.ensures.lookup ∙ ap (λ (ws : List Waiting). get_or ws 0 c.in-Some.first.now) items in
+    let none : front_at front.entry m.given ≡ None = ap (λ (w : Waiting). front_at w.entry m.given) (sym here) ∙ sym c.before-2.ensures ∙ ap (option_map body_of) (none_left c.before-2.result c.in_default-before.not-Some) in
     let ready : ready_in m.dropped m.settled m.given (front ∷ rest) ≡ true = ap (λ (ws : List Waiting). ready_in m.dropped m.settled m.given ws) (sym items) ∙ c.requires.ready in
     let low = own_settled m.dropped m.settled m.given front rest ready none in
     let len : length m.waiting.items ≡ length rest + 1 = ap (λ (ws : List Waiting). length ws) items ∙ omega arith in
@@ -80,8 +79,8 @@ returns-in-Some-pop_front-clause-gives c =
     let front = c.in-Some-pop_front.front in
     let rest = c.pop_front.new.self.items in
     let items : m.waiting.items ≡ front ∷ rest = c.in-Some-pop_front.ensures.items in
-    let here : c.index.result.now ≡ front = c.index.ensures ∙ ap (λ (ws : List Waiting). get_or ws 0 c.index.result.now) items in
-    let none : front_at front.entry m.given ≡ None = ap (λ (w : Waiting). front_at w.entry m.given) (sym here) ∙ sym c.before-2.ensures ∙ ap (option_map body_of) (none_left c.before-2.result c.in_default.not-Some) in
+    let here : c.in-Some.first.now ≡ front = c.in-Some.ensures.lookup ∙ ap (λ (ws : List Waiting). get_or ws 0 c.in-Some.first.now) items in
+    let none : front_at front.entry m.given ≡ None = ap (λ (w : Waiting). front_at w.entry m.given) (sym here) ∙ sym c.before-2.ensures ∙ ap (option_map body_of) (none_left c.before-2.result c.in_default-before.not-Some) in
     let ready : ready_in m.dropped m.settled m.given (front ∷ rest) ≡ true = ap (λ (ws : List Waiting). ready_in m.dropped m.settled m.given ws) (sym items) ∙ c.requires.ready in
     let low = own_settled m.dropped m.settled m.given front rest ready none in
     let spoken : body_of front.body ≡ body_in (stream_of m) front.entry.lexeme = subst (λ (ws : List Waiting). AreSpoken (stream_of m) ws) items c.requires.stands.spoken 0 front (omega arith) in

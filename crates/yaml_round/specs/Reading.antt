@@ -5,6 +5,8 @@ use Rattle.yaml_scan.specs.declared.yaml_error_type_t.TheVariants.{YAML_MEMORY_E
 use Rattle.yaml_scan.specs.declared.yaml_fault_t.{yaml_fault_t}
 use Rattle.yaml_scan.specs.Faults.{Fault, fault_of}
 use Rattle.yaml_parse.specs.declared.yaml_event_t.{yaml_event_t}
+use Rattle.yaml_parse.specs.declared.yaml_found_t.{yaml_found_t}
+use Rattle.yaml_parse.specs.declared.yaml_found_t.TheVariants as found
 use Rattle.yaml_parse.specs.Events.{Event, EventBody, event_of}
 use Rattle.yaml_parse.specs.Events as event
 use Rattle.yaml_parse.specs.Constructors.{HasUtf8}
@@ -63,6 +65,12 @@ abbrev pub NextIs : Coming → Result (Option yaml_event_t) yaml_fault_t → Com
 NextIs old (Ok (Some e)) new = GivesFront (event_of e) old new
 NextIs old (Ok None) new = IsOver old × IsOver new
 NextIs old (Err f) new = IsFaultOf old.ending f
+
+-- the next event or the fault, which stands in its slot, or the end
+abbrev pub Finds : Coming → yaml_found_t → Event → yaml_fault_t → Coming → Type 0
+Finds old found.Event e f new = GivesFront e old new
+Finds old found.Refused e f new = IsFaultOf old.ending f
+Finds old found.End e f new = IsOver old × IsOver new
 
 -- the whole reading has no fault, or the answer is its fault
 abbrev pub EndsWith : Option Fault → Result (Unit {0}) yaml_fault_t → Type 0

@@ -8,12 +8,14 @@ ghost use Rattle.yaml_round.specs.Answers.{IsReformatted, IsInCanonicalForm, IsJ
 ghost use Rattle.yaml_round.specs.Writing.{WritesAll};
 
 use crate::compare::reads_back;
-use crate::reading::{Reading, next_event, read_out, reading_of};
+use crate::reading::{Reading, next_into, read_out, reading_of};
 use crate::settings::{yaml_form_t, yaml_settings_t};
 use crate::writing::{emitter_under, finished, write_rest, write_up_to};
 use std::alloc::Global;
 use yaml_emit::yaml_emitter_t;
-use yaml_parse::{yaml_parser_t, yaml_token_source_t};
+use yaml_parse::{
+    yaml_event_body_t, yaml_event_t, yaml_found_t, yaml_parser_t, yaml_token_source_t,
+};
 use yaml_round_lines::yaml_push_event_line;
 use yaml_scan::{yaml_encoding_t, yaml_fault_t, yaml_memory_fault, yaml_origin_t};
 
@@ -108,6 +110,30 @@ pub fn yaml_reformat(
     }
 }
 
+// Adds the lines of the events to their end, each of which stands in the slot in turn, or the fault that ends them in the
+// other one.
+fn push_lines_by<S: yaml_token_source_t>(
+    reading: &mut yaml_parser_t<S>,
+    lines: &mut Vec<u8>,
+    event: &mut yaml_event_t,
+    fault: &mut yaml_fault_t,
+) -> Result<(), yaml_fault_t>
+    requires { AreReal reading.old.events }
+    ensures { AddsLines reading.old lines.old.items result lines.new.items }
+{
+    'events: loop {
+        match next_into(reading, event, fault) {
+            yaml_found_t::Refused => return Err(*fault),
+            yaml_found_t::End => return Ok(()),
+            yaml_found_t::Event => {
+                if yaml_push_event_line(lines, event).is_err() {
+                    return Err(yaml_memory_fault(yaml_origin_t::Emitter));
+                }
+            }
+        }
+    }
+}
+
 // Adds the lines of the events to their end.
 fn push_lines<S: yaml_token_source_t>(
     reading: &mut yaml_parser_t<S>,
@@ -116,17 +142,11 @@ fn push_lines<S: yaml_token_source_t>(
     requires { AreReal reading.old.events }
     ensures { AddsLines reading.old lines.old.items result lines.new.items }
 {
-    'events: loop {
-        match next_event(reading) {
-            Err(fault) => return Err(fault),
-            Ok(None) => return Ok(()),
-            Ok(Some(event)) => {
-                if yaml_push_event_line(lines, &event).is_err() {
-                    return Err(yaml_memory_fault(yaml_origin_t::Emitter));
-                }
-            }
-        }
-    }
+    let mut event = yaml_event_t::unplaced(yaml_event_body_t::No);
+    let mut fault = yaml_memory_fault(yaml_origin_t::Parser);
+    let pushed = push_lines_by(reading, lines, &mut event, &mut fault);
+    drop(event);
+    pushed
 }
 
 /// A line for each event of the input, as the parser gives it. Refused by a fault of the input (kinds 2, 3 and 4) or for

@@ -4,15 +4,15 @@ ghost use Rattle.std.specs.Prelude.{◌≡◌, true, IfOk, IfErr};
 ghost use Rattle.yaml_scan.specs.Faults.{IsMemoryFault};
 ghost use Rattle.yaml_parse.specs.Events.{event_of};
 ghost use Rattle.yaml_round.specs.Input.{Reads};
-ghost use Rattle.yaml_round.specs.Reading.{AreReal, NextIs, EndsWith, is_empty};
+ghost use Rattle.yaml_round.specs.Reading.{AreReal, Finds, NextIs, EndsWith};
 
 use std::alloc::Global;
 use yaml_parse::{
-    yaml_event_body_t, yaml_event_t, yaml_parser_initialize, yaml_parser_parse, yaml_parser_t,
-    yaml_token_source_t,
+    yaml_event_body_t, yaml_event_t, yaml_found_t, yaml_parser_initialize, yaml_parser_parse_into,
+    yaml_parser_t, yaml_token_source_t,
 };
 use yaml_round_adapter::yaml_adapter_t;
-use yaml_scan::{yaml_encoding_t, yaml_fault_t};
+use yaml_scan::{yaml_encoding_t, yaml_fault_t, yaml_memory_fault, yaml_origin_t};
 
 /// A parser of an input's tokens.
 pub(crate) type Reading<'a> = yaml_parser_t<yaml_adapter_t<'a>>;
@@ -34,14 +34,16 @@ pub(crate) fn reading_of<'a>(
     }
 }
 
-// Whether it is the empty event, which stands behind the last one.
-fn is_end(event: &yaml_event_t) -> bool
-    ensures { result ≡ is_empty (event_of event.now).body }
+/// The next event in a slot that is lent, or the fault in another, or neither at the end.
+pub(crate) fn next_into<S: yaml_token_source_t>(
+    reading: &mut yaml_parser_t<S>,
+    event: &mut yaml_event_t,
+    fault: &mut yaml_fault_t,
+) -> yaml_found_t
+    requires { AreReal reading.old.events }
+    ensures { Finds reading.old result (event_of event.new) fault.new reading.new }
 {
-    match &event.body {
-        yaml_event_body_t::No => true,
-        _ => false,
-    }
+    yaml_parser_parse_into(reading, event, fault)
 }
 
 /// The next event, nothing at the end.
@@ -51,14 +53,17 @@ pub(crate) fn next_event<S: yaml_token_source_t>(
     requires { AreReal reading.old.events }
     ensures { NextIs reading.old result reading.new }
 {
-    match yaml_parser_parse(reading) {
-        Err(fault) => Err(fault),
-        Ok(event) => {
-            if is_end(&event) {
-                Ok(None)
-            } else {
-                Ok(Some(event))
-            }
+    let mut event = yaml_event_t::unplaced(yaml_event_body_t::No);
+    let mut fault = yaml_memory_fault(yaml_origin_t::Parser);
+    match next_into(reading, &mut event, &mut fault) {
+        yaml_found_t::Event => Ok(Some(event)),
+        yaml_found_t::Refused => {
+            drop(event);
+            Err(fault)
+        }
+        yaml_found_t::End => {
+            drop(event);
+            Ok(None)
         }
     }
 }

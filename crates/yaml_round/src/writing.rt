@@ -10,16 +10,19 @@ ghost use Rattle.yaml_round.specs.Reading.{AreReal};
 ghost use Rattle.yaml_round.specs.Writing.{IsUnder, wishes_under, encoding_under, Writes, WritesAll, Finishes};
 
 use crate::even::even;
-use crate::reading::next_event;
+use crate::reading::{next_event, next_into};
 use crate::settings::{yaml_output_encoding_t, yaml_settings_t};
 use std::alloc::Global;
+use std::mem;
 use yaml_emit::{
     yaml_emitter_emit, yaml_emitter_fault, yaml_emitter_initialize, yaml_emitter_into_output,
     yaml_emitter_output, yaml_emitter_set_break, yaml_emitter_set_canonical,
     yaml_emitter_set_encoding, yaml_emitter_set_indent, yaml_emitter_set_unicode,
     yaml_emitter_set_width, yaml_emitter_t,
 };
-use yaml_parse::{yaml_event_t, yaml_parser_t, yaml_token_source_t};
+use yaml_parse::{
+    yaml_event_body_t, yaml_event_t, yaml_found_t, yaml_parser_t, yaml_token_source_t,
+};
 use yaml_scan::{yaml_encoding_t, yaml_fault_t, yaml_memory_fault, yaml_origin_t};
 
 fn encoding_of(encoding: yaml_output_encoding_t) -> yaml_encoding_t
@@ -61,6 +64,41 @@ fn give(emitter: &mut yaml_emitter_t, event: yaml_event_t)
     let _ = yaml_emitter_emit(emitter, event);
 }
 
+// The event, in whose slot the empty one is left.
+fn taken(event: &mut yaml_event_t) -> yaml_event_t
+    ensures { event_of result ≡ event_of event.old }
+{
+    mem::replace(event, yaml_event_t::unplaced(yaml_event_body_t::No))
+}
+
+// Writes the events while the text has at most so many bytes. Each stands in the slot before it is given, and so does the
+// fault that ends them in the other one.
+fn write_up_to_by<S: yaml_token_source_t>(
+    reading: &mut yaml_parser_t<S>,
+    emitter: &mut yaml_emitter_t,
+    canonical: bool,
+    most: usize,
+    event: &mut yaml_event_t,
+    fault: &mut yaml_fault_t,
+) -> Result<bool, yaml_fault_t>
+    requires { AreReal reading.old.events }
+    ensures { Writes canonical reading.old emitter.old result reading.new emitter.new }
+{
+    'events: loop {
+        if yaml_emitter_output(emitter).len() > most {
+            return Ok(false);
+        }
+        match next_into(reading, event, fault) {
+            yaml_found_t::Refused => return Err(*fault),
+            yaml_found_t::End => return Ok(true),
+            yaml_found_t::Event => {
+                even(event, canonical);
+                give(emitter, taken(event));
+            }
+        }
+    }
+}
+
 /// Writes the events while the text has at most so many bytes. True at the end of the events. A fault of theirs is the
 /// answer; the emitter keeps its own.
 pub(crate) fn write_up_to<S: yaml_token_source_t>(
@@ -72,19 +110,11 @@ pub(crate) fn write_up_to<S: yaml_token_source_t>(
     requires { AreReal reading.old.events }
     ensures { Writes canonical reading.old emitter.old result reading.new emitter.new }
 {
-    'events: loop {
-        if yaml_emitter_output(emitter).len() > most {
-            return Ok(false);
-        }
-        match next_event(reading) {
-            Err(fault) => return Err(fault),
-            Ok(None) => return Ok(true),
-            Ok(Some(mut event)) => {
-                even(&mut event, canonical);
-                give(emitter, event);
-            }
-        }
-    }
+    let mut event = yaml_event_t::unplaced(yaml_event_body_t::No);
+    let mut fault = yaml_memory_fault(yaml_origin_t::Parser);
+    let written = write_up_to_by(reading, emitter, canonical, most, &mut event, &mut fault);
+    drop(event);
+    written
 }
 
 /// Writes the events to their end. A fault of theirs is the answer; the emitter keeps its own.

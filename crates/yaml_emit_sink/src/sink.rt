@@ -286,6 +286,7 @@ impl Sink {
     }
 
     /// A character with a space in front where one is due.
+    #[inline(always)]
     pub fn put_sign(&mut self, c: char)
         ensures { Puts self.old self.new (word (c ∷ [])) }
     {

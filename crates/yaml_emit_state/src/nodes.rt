@@ -78,6 +78,7 @@ fn is_kept(canonical: bool, left_out: bool) -> bool
     canonical || !left_out
 }
 
+#[inline(always)]
 fn put_properties(
     sink: &mut Sink,
     settings: &Settings,

@@ -1,19 +1,11 @@
-//! Tests of the emitter and the dumper over what callers make: events and documents to text.
+//! Tests of the emitter over events: worked streams, what is refused, limits, and at which call an event is let out.
 #![tactic(auto)]
 
 #[cfg(test)]
-mod documents;
-#[cfg(test)]
-mod dumps;
-#[cfg(test)]
 mod emitting;
-#[cfg(test)]
-mod events;
 #[cfg(test)]
 mod grammar;
 #[cfg(test)]
-mod kept_faults;
+mod limits;
 #[cfg(test)]
-mod nodes;
-#[cfg(test)]
-mod tags;
+mod turns;

@@ -1,28 +1,9 @@
 //! Worked faults of the parser and the scanner, by their lines.
 
-use crate::marks::parser_of;
-use std::alloc::Global;
+use crate::marks::fault_of;
 use std::process::Abort;
 use std::test::Fail;
-use yaml_parse::{yaml_event_type_t, yaml_parser_parse};
 use yaml_round_lines::yaml_fault_line;
-use yaml_scan::yaml_fault_t;
-
-// The fault that ends the events of a text.
-fn fault_of(alloc: Global, text: &[u8]) -> Option<yaml_fault_t> {
-    let mut parser = parser_of(alloc, text).ok()?;
-    for _ in 0..1000 {
-        match yaml_parser_parse(&mut parser) {
-            Ok(event) => {
-                if event.type_() == yaml_event_type_t::YAML_NO_EVENT {
-                    return None;
-                }
-            }
-            Err(fault) => return Some(fault),
-        }
-    }
-    None
-}
 
 fn refuses<R: AllocGlobal + Abort>(rt: &R, rows: &[(&[u8], &str)]) -> Result<(), Fail> {
     for (input, want) in rows {

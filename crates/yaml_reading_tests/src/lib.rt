@@ -12,4 +12,10 @@ mod marks;
 #[cfg(test)]
 mod parsing;
 #[cfg(test)]
+mod places;
+#[cfg(test)]
+mod scans;
+#[cfg(test)]
 mod tokens;
+#[cfg(test)]
+mod values;

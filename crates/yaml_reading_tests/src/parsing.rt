@@ -1,11 +1,10 @@
 //! Worked events of a text.
 
-use crate::marks::{Place, mark, parser_of};
+use crate::marks::{Place, mark, next_type, parser_of};
 use std::process::Abort;
 use std::test::Fail;
 use yaml_parse::{
-    yaml_error_type_t, yaml_event_t, yaml_event_type_t, yaml_parser_parse, yaml_parser_prefix,
-    yaml_parser_t,
+    yaml_error_type_t, yaml_event_type_t, yaml_parser_parse, yaml_parser_prefix, yaml_parser_t,
 };
 use yaml_round_adapter::yaml_adapter_t;
 
@@ -17,13 +16,25 @@ fn gives<R: Abort>(
     rt: &R,
     parser: &mut yaml_parser_t<yaml_adapter_t>,
     event: Event,
-) -> Result<yaml_event_t, Fail> {
+) -> Result<(), Fail> {
     let (kind, start, end) = event;
     let event = yaml_parser_parse(parser)?;
     assert_eq!(rt; event.type_(), kind);
     assert_eq!(rt; event.start_mark, mark(start));
     assert_eq!(rt; event.end_mark, mark(end));
-    Ok(event)
+    Ok(())
+}
+
+// The next events have these types.
+fn gives_types<R: Abort>(
+    rt: &R,
+    parser: &mut yaml_parser_t<yaml_adapter_t>,
+    types: &[yaml_event_type_t],
+) -> Result<(), Fail> {
+    for want in types {
+        assert_eq!(rt; next_type(parser)?, *want);
+    }
+    Ok(())
 }
 
 const ZERO: Place = (0, 0, 0);
@@ -55,25 +66,26 @@ fn events_of_a_mapping(rt: HostRuntime) -> Result<(), Fail> {
     Ok(())
 }
 
+// The value of a key that has none stands behind its `:`.
 #[test]
 fn an_empty_value(rt: HostRuntime) -> Result<(), Fail> {
     let mut parser = parser_of(rt.alloc(), b"a:")?;
-    for _ in 0..4 {
-        yaml_parser_parse(&mut parser)?;
-    }
+    let front = [
+        yaml_event_type_t::YAML_STREAM_START_EVENT,
+        yaml_event_type_t::YAML_DOCUMENT_START_EVENT,
+        yaml_event_type_t::YAML_MAPPING_START_EVENT,
+        yaml_event_type_t::YAML_SCALAR_EVENT,
+    ];
+    gives_types(&rt, &mut parser, &front)?;
     let behind = (2, 0, 2);
-    gives(
-        &rt,
-        &mut parser,
-        (yaml_event_type_t::YAML_SCALAR_EVENT, behind, behind),
-    )?;
-    Ok(())
+    let value = (yaml_event_type_t::YAML_SCALAR_EVENT, behind, behind);
+    gives(&rt, &mut parser, value)
 }
 
 #[test]
 fn an_empty_key(rt: HostRuntime) -> Result<(), Fail> {
     let mut parser = parser_of(rt.alloc(), b"[? : x]")?;
-    let kinds = [
+    let types = [
         yaml_event_type_t::YAML_STREAM_START_EVENT,
         yaml_event_type_t::YAML_DOCUMENT_START_EVENT,
         yaml_event_type_t::YAML_SEQUENCE_START_EVENT,
@@ -86,9 +98,5 @@ fn an_empty_key(rt: HostRuntime) -> Result<(), Fail> {
         yaml_event_type_t::YAML_STREAM_END_EVENT,
         yaml_event_type_t::YAML_NO_EVENT,
     ];
-    for kind in &kinds {
-        let event = yaml_parser_parse(&mut parser)?;
-        assert_eq!(rt; event.type_(), *kind);
-    }
-    Ok(())
+    gives_types(&rt, &mut parser, &types)
 }

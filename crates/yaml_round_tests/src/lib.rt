@@ -2,6 +2,8 @@
 #![tactic(auto)]
 
 #[cfg(test)]
+mod commands;
+#[cfg(test)]
 mod comparisons;
 #[cfg(test)]
 mod deep;
@@ -9,6 +11,10 @@ mod deep;
 mod devices;
 #[cfg(test)]
 mod keys;
+#[cfg(test)]
+mod limits;
+#[cfg(test)]
+mod refusals;
 #[cfg(test)]
 mod reloads;
 #[cfg(test)]

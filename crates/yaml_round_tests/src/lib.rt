@@ -1,20 +1,12 @@
-//! Tests of the engine over slices and over scripted devices.
+//! Tests of the engine over slices.
 #![tactic(auto)]
 
-#[cfg(test)]
-mod commands;
 #[cfg(test)]
 mod comparisons;
 #[cfg(test)]
 mod deep;
 #[cfg(test)]
-mod devices;
-#[cfg(test)]
 mod keys;
-#[cfg(test)]
-mod limits;
-#[cfg(test)]
-mod refusals;
 #[cfg(test)]
 mod reloads;
 #[cfg(test)]

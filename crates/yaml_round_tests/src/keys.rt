@@ -154,6 +154,7 @@ fn a_set_encoding(rt: HostRuntime) -> Result<(), Fail> {
     let utf8 = yaml_encoding_t::YAML_UTF8_ENCODING;
     let settings = yaml_settings_t::new();
     let (text, _) = yaml_reformat(rt.alloc(), b"\xEF\xBB\xBF--- a", utf8, &settings)?;
-    assert_eq!(rt; text.as_slice(), b"---\n! \"--- a\"\n".as_slice());
-    Ok(())
+    let want = b"---\n! \"--- a\"\n";
+    assert_eq!(rt; text.as_slice(), want.as_slice());
+    becomes(&rt, &settings, yaml_form_t::Canonical, want, want)
 }

@@ -1,12 +1,10 @@
-//! Tests of the engine over slices and over scripted devices.
+//! Tests of the engine over slices.
 #![tactic(auto)]
 
 #[cfg(test)]
 mod comparisons;
 #[cfg(test)]
 mod deep;
-#[cfg(test)]
-mod devices;
 #[cfg(test)]
 mod keys;
 #[cfg(test)]

@@ -173,6 +173,21 @@ fn settings(rt: HostRuntime) -> Result<(), Fail> {
 }
 
 #[test]
+fn usual_settings(rt: HostRuntime) -> Result<(), Fail> {
+    let want = yaml_settings_t {
+        encoding: yaml_output_encoding_t::Utf8,
+        canonical: true,
+        indent: 2,
+        width: 80,
+        unicode: true,
+        line_break: yaml_break_t::YAML_LN_BREAK,
+        limit: 1_099_511_627_776,
+    };
+    assert_eq!(rt; usual(), want);
+    Ok(())
+}
+
+#[test]
 fn limits(rt: HostRuntime) -> Result<(), Fail> {
     let twelve = yaml_settings_t {
         limit: 12,

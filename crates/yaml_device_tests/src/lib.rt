@@ -1,0 +1,7 @@
+//! Tests of the run over scripted devices.
+#![tactic(auto)]
+
+#[cfg(test)]
+mod commands;
+#[cfg(test)]
+mod devices;

@@ -135,7 +135,8 @@ fn sign_body(kind: Kind) -> Option<yaml_token_body_t>
     }
 }
 
-/// Reads a lexeme that is no sign of one byte.
+/// Reads a lexeme that is no sign of one byte. What carries a text is read in a call of its own, which writes its answer
+/// where it is wanted: read in one function, the answers of all kinds would be taken apart and joined again.
 #[tactic(auto, unfolding(yaml_scan_text::specs::Marks::break_of, yaml_scan_layout::specs::Words::word_at))]
 fn text_word(
     alloc: Global,
@@ -199,6 +200,7 @@ fn document_mark(reader: &mut Reader, body: yaml_token_body_t) -> Word
     carrier(reader, body)
 }
 
+#[inline(never)]
 fn directive_word(alloc: Global, reader: &mut Reader) -> Result<Word, ScanError>
     requires { byte reader.old.text reader.old.at ≡ 37 }
     ensures { ReadsWord reader.old.text reader.old.at reader.new result (spec.directed (directive_at reader.old.text reader.old.at)) }
@@ -222,6 +224,7 @@ fn directive_body(directive: Directive) -> yaml_token_body_t
     }
 }
 
+#[inline(never)]
 fn alias_word(alloc: Global, reader: &mut Reader) -> Result<Word, ScanError>
     requires { byte reader.old.text reader.old.at ≡ 42 }
     ensures { ReadsWord reader.old.text reader.old.at reader.new result (spec.valued (λ v. tokens.alias v) (anchor_at Context.Alias reader.old.text reader.old.at)) }
@@ -234,6 +237,7 @@ fn alias_word(alloc: Global, reader: &mut Reader) -> Result<Word, ScanError>
     })
 }
 
+#[inline(never)]
 fn anchor_word(alloc: Global, reader: &mut Reader) -> Result<Word, ScanError>
     requires { byte reader.old.text reader.old.at ≡ 38 }
     ensures { ReadsWord reader.old.text reader.old.at reader.new result (spec.valued (λ v. tokens.anchor v) (anchor_at Context.Anchor reader.old.text reader.old.at)) }
@@ -246,6 +250,7 @@ fn anchor_word(alloc: Global, reader: &mut Reader) -> Result<Word, ScanError>
     })
 }
 
+#[inline(never)]
 fn tag_word(alloc: Global, reader: &mut Reader, flow: bool) -> Result<Word, ScanError>
     requires { byte reader.old.text reader.old.at ≡ 33 }
     ensures { ReadsWord reader.old.text reader.old.at reader.new result (spec.tagged (tag_at flow reader.old.text reader.old.at)) }
@@ -261,6 +266,7 @@ fn tag_word(alloc: Global, reader: &mut Reader, flow: bool) -> Result<Word, Scan
     })
 }
 
+#[inline(never)]
 fn block_word(alloc: Global, reader: &mut Reader, level: u64) -> Result<Word, ScanError>
     requires level { level ≤ length reader.old.text + 1 }
     requires indicator { (byte reader.old.text reader.old.at ≡ 124) ⊎ (byte reader.old.text reader.old.at ≡ 62) }
@@ -277,6 +283,7 @@ fn block_word(alloc: Global, reader: &mut Reader, level: u64) -> Result<Word, Sc
     })
 }
 
+#[inline(never)]
 fn single_word(alloc: Global, reader: &mut Reader) -> Result<Word, ScanError>
     requires { byte reader.old.text reader.old.at ≡ 39 }
     ensures { ReadsWord reader.old.text reader.old.at reader.new result (spec.valued (λ v. tokens.scalar v yaml_scalar_style_t.YAML_SINGLE_QUOTED_SCALAR_STYLE) (single_quoted_at reader.old.text reader.old.at)) }
@@ -292,6 +299,7 @@ fn single_word(alloc: Global, reader: &mut Reader) -> Result<Word, ScanError>
     })
 }
 
+#[inline(never)]
 fn double_word(alloc: Global, reader: &mut Reader) -> Result<Word, ScanError>
     requires { byte reader.old.text reader.old.at ≡ 34 }
     ensures { ReadsWord reader.old.text reader.old.at reader.new result (spec.valued (λ v. tokens.scalar v yaml_scalar_style_t.YAML_DOUBLE_QUOTED_SCALAR_STYLE) (double_quoted_at reader.old.text reader.old.at)) }
@@ -307,6 +315,7 @@ fn double_word(alloc: Global, reader: &mut Reader) -> Result<Word, ScanError>
     })
 }
 
+#[inline(never)]
 fn plain_word(alloc: Global, reader: &mut Reader, flow: bool, level: u64) -> Result<Word, ScanError>
     requires { plains.starts_plain flow reader.old.text reader.old.at ≡ true }
     ensures { ReadsWord reader.old.text reader.old.at reader.new result (spec.plainly (plains.plain_at flow level reader.old.text reader.old.at)) }

@@ -182,6 +182,7 @@ fn stepping(stack: &mut Vec<State>, state: State, desk: &mut Desk, fault: &mut y
 }
 
 /// One step over the grammar.
+#[inline(always)]
 pub fn advance<S: yaml_token_source_t>(
     source: &mut S,
     desk: &mut Desk,
@@ -204,6 +205,7 @@ pub fn advance<S: yaml_token_source_t>(
 }
 
 /// One step, with tags and directives resolved. After a refusal the stack is empty.
+#[inline(always)]
 pub fn take_turn<S: yaml_token_source_t>(
     alloc: Global,
     source: &mut S,

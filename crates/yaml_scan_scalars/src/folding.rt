@@ -73,6 +73,7 @@ impl Folding {
     }
 
     /// Bytes that stay.
+    #[inline(always)]
     pub(crate) fn keep(&mut self, bytes: &[u8]) -> Result<(), AllocError>
         ensures value { OnOk result ((ps : List Piece) → resume self.new ps ≡ resume self.old (Kept bytes.now ∷ ps)) }
         ensures line { OnOk result ((self.new.gap ≡ Gap.Line) × (self.new.blanks.items ≡ [])) }

@@ -35,11 +35,6 @@ abbrev pub Notes : Settled → Result (Unit {0}) Refusal → spec.Directives →
 Notes s (Ok u) new = s ≡ noted new
 Notes s (Err e) new = Refused e s
 
--- the body of an event
-abbrev pub SettlesNode : Settled → Result yaml_event_body_t Refusal → spec.Directives → Type 0
-SettlesNode s (Ok b) new = s ≡ gave (body_of b) new
-SettlesNode s (Err e) new = Refused e s
-
 -- the body of an event in the slot, or nothing
 abbrev pub SettlesBody : Settled → Result Bool Refusal → yaml_event_body_t → spec.Directives → Type 0
 SettlesBody s (Ok true) b new = s ≡ gave (body_of b) new

@@ -8,7 +8,7 @@ ghost use Rattle.yaml_parse_grammar.specs.Resolve.{directive_for, default_prefix
 ghost use Rattle.yaml_parse_machine.specs.Views.{plain_of, item_of, item_body_of, shape_of, tag_option_of};
 ghost use Rattle.yaml_parse_grammar.specs.Resolve.{Directives as DirectivesSpec};
 ghost use Rattle.yaml_parse_machine.specs.declared.resolving.Refusal.TheVariants.{Fault};
-ghost use Rattle.yaml_parse_machine.specs.Settles.{directives_of, Settles, SettlesBody, SettlesNode, Resolves, Notes, IsMemory};
+ghost use Rattle.yaml_parse_machine.specs.Settles.{directives_of, Settles, SettlesBody, Resolves, Notes, IsMemory};
 
 use crate::handles::TagDirectives;
 use crate::item::{Item, ItemBody, Plain, Properties, Shape, Tag};
@@ -78,24 +78,25 @@ fn find_default(handle: &[u8]) -> Option<&'static [u8]>
 fn joined(alloc: Global, prefix: &[u8], suffix: &[u8]) -> Result<Vec<u8>, AllocError>
     ensures { IfOk result (λ v. v.items ≡ prefix.now ++ suffix.now) }
 {
-    let mut full = Vec::from_slice(alloc, prefix)?;
+    let mut full = Vec::with_capacity(alloc, prefix.len() + suffix.len())?;
+    full.extend_from_slice(prefix)?;
     full.extend_from_slice(suffix)?;
     Ok(full)
 }
 
-// The tag in full, of a node that begins there.
+// The tag in full, of a node that begins there. What its own texts are afterwards isn't told.
 fn resolve(
     alloc: Global,
     tags: &TagDirectives,
-    tag: Tag,
+    tag: &mut Tag,
     from: yaml_mark_t,
 ) -> Result<Vec<u8>, Refusal>
-    ensures { Resolves (resolved tags.now tag.handle.items tag.suffix.items) tag.mark from result }
+    ensures { Resolves (resolved tags.now tag.old.handle.items tag.old.suffix.items) tag.old.mark from result }
 {
-    let handle = tag.handle.as_slice();
-    if handle.is_empty() {
-        return Ok(tag.suffix);
+    if tag.handle.is_empty() {
+        return Ok(mem::replace(&mut tag.suffix, Vec::new(alloc)));
     }
+    let handle = tag.handle.as_slice();
     let suffix = tag.suffix.as_slice();
     match tags.prefix_of(handle) {
         Some(prefix) => Ok(joined(alloc, prefix, suffix)?),
@@ -187,33 +188,54 @@ fn scalar(
     tag: Option<Vec<u8>>,
     value: Vec<u8>,
     style: yaml_scalar_style_t,
-) -> yaml_event_body_t
-    ensures { body_of result ≡ scalar_event (text_of anchor) (text_of tag) value.items style }
+    event: &mut yaml_event_body_t,
+)
+    ensures { body_of event.new ≡ scalar_event (text_of anchor) (text_of tag) value.items style }
 {
     match tag {
         None => {
             let is_plain = is_plain(style);
-            yaml_event_body_t::Scalar {
+            *event = yaml_event_body_t::Scalar {
                 anchor,
                 tag: None,
                 value,
                 plain_implicit: is_plain,
                 quoted_implicit: !is_plain,
                 style,
-            }
+            };
         }
         Some(tag) => {
             let is_untagged = is_mark(tag.as_slice());
-            yaml_event_body_t::Scalar {
+            *event = yaml_event_body_t::Scalar {
                 anchor,
                 tag: if is_untagged { None } else { Some(tag) },
                 value,
                 plain_implicit: is_untagged,
                 quoted_implicit: false,
                 style,
-            }
+            };
         }
     }
+}
+
+// An empty scalar.
+fn empty(
+    alloc: Global,
+    anchor: Option<Vec<u8>>,
+    tag: Option<Vec<u8>>,
+    event: &mut yaml_event_body_t,
+)
+    ensures { body_of event.new ≡ node_event (text_of anchor) (text_of tag) item.empty }
+{
+    let untagged = tag.is_none();
+    *event = yaml_event_body_t::Scalar {
+        anchor,
+        tag,
+        value: Vec::new(alloc),
+        plain_implicit: untagged,
+        quoted_implicit: false,
+        style: yaml_scalar_style_t::YAML_PLAIN_SCALAR_STYLE,
+    };
 }
 
 // The event of a node whose tag is resolved.
@@ -222,41 +244,33 @@ fn node(
     anchor: Option<Vec<u8>>,
     tag: Option<Vec<u8>>,
     shape: &mut Shape,
-) -> yaml_event_body_t
-    ensures { body_of result ≡ node_event (text_of anchor) (text_of tag) (shape_of shape.old) }
+    event: &mut yaml_event_body_t,
+)
+    ensures { body_of event.new ≡ node_event (text_of anchor) (text_of tag) (shape_of shape.old) }
 {
     match shape {
-        Shape::Empty => {
-            let untagged = tag.is_none();
-            yaml_event_body_t::Scalar {
-                anchor,
-                tag,
-                value: Vec::new(alloc),
-                plain_implicit: untagged,
-                quoted_implicit: false,
-                style: yaml_scalar_style_t::YAML_PLAIN_SCALAR_STYLE,
-            }
-        }
+        Shape::Empty => empty(alloc, anchor, tag, event),
         Shape::Scalar { value, style } => {
-            scalar(anchor, tag, mem::replace(value, Vec::new(alloc)), *style)
+            let value = mem::replace(value, Vec::new(alloc));
+            scalar(anchor, tag, value, *style, event)
         }
         Shape::Sequence(style) => {
             let implicit = tag.is_none();
-            yaml_event_body_t::SequenceStart {
+            *event = yaml_event_body_t::SequenceStart {
                 anchor,
                 tag,
                 implicit,
                 style: *style,
-            }
+            };
         }
         Shape::Mapping(style) => {
             let implicit = tag.is_none();
-            yaml_event_body_t::MappingStart {
+            *event = yaml_event_body_t::MappingStart {
                 anchor,
                 tag,
                 implicit,
                 style: *style,
-            }
+            };
         }
     }
 }
@@ -364,22 +378,23 @@ fn plain_event(event: &mut Plain, alloc: Global) -> yaml_event_body_t
     }
 }
 
-// The event of a node that has properties, and begins there.
+// The event of a node that has properties, and begins there. The properties' texts are moved.
 fn dressed(
     alloc: Global,
     tags: &TagDirectives,
-    properties: Properties,
+    properties: &mut Properties,
     shape: &mut Shape,
     from: yaml_mark_t,
-) -> Result<yaml_event_body_t, Refusal>
-    ensures { (ds : DirectivesSpec) → ds.tags ≡ tags.now → SettlesNode (settle_item_body (item.node (text_of properties.anchor) (tag_option_of properties.tag) (shape_of shape.old)) from ds) result ds }
+    event: &mut yaml_event_body_t,
+) -> Result<bool, Refusal>
+    ensures { (ds : DirectivesSpec) → ds.tags ≡ tags.now → SettlesBody (settle_item_body (item.node (text_of properties.old.anchor) (tag_option_of properties.old.tag) (shape_of shape.old)) from ds) result event.new ds }
 {
-    let Properties { anchor, tag, .. } = properties;
-    let full = match tag {
+    let full = match &mut properties.tag {
         None => None,
         Some(tag) => Some(resolve(alloc, tags, tag, from)?),
     };
-    Ok(node(alloc, anchor, full, shape))
+    node(alloc, properties.anchor.take(), full, shape, event);
+    Ok(true)
 }
 
 // The event of an item, whose place is told besides.
@@ -423,16 +438,12 @@ fn settle_body(
         ItemBody::Node {
             ref mut properties,
             ref mut shape,
-        } => match properties.take() {
+        } => match properties {
             None => {
                 bare(alloc, shape, event);
                 Ok(true)
             }
-            Some(properties) => {
-                let tags = &directives.tags;
-                *event = dressed(alloc, tags, Box::into_inner(properties), shape, from)?;
-                Ok(true)
-            }
+            Some(properties) => dressed(alloc, &directives.tags, properties, shape, from, event),
         },
     }
 }

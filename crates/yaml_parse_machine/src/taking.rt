@@ -206,6 +206,7 @@ fn push_behind_part(
 }
 
 // The rest of a node behind properties.
+#[inline(always)]
 fn push_dressed(
     stack: &mut Vec<State>,
     wants: Wants,

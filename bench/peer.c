@@ -1,5 +1,6 @@
-/* The peer of the benchmark, over the C library libyaml: peer canonical|pretty|events FILE.
+/* The peer of the benchmark, over the C library libyaml: peer canonical|pretty|checked|events FILE.
    canonical and pretty: the file's events are emitted again, into memory, and then written at once.
+   checked: as pretty, but before it is written the text is read back, and its events are held against the file's, read anew.
    events: a line for each event is gathered in memory, and then written at once. */
 
 #include <stdio.h>
@@ -141,20 +142,77 @@ static void list_events(yaml_parser_t *parser, text_t *out)
     }
 }
 
+static int same_text(const yaml_char_t *one, const yaml_char_t *other)
+{
+    return one && other ? strcmp((const char *)one, (const char *)other) == 0 : one == other;
+}
+
+static int same_event(const yaml_event_t *one, const yaml_event_t *other)
+{
+    if (one->type != other->type)
+        return 0;
+    switch (one->type) {
+    case YAML_ALIAS_EVENT:
+        return same_text(one->data.alias.anchor, other->data.alias.anchor);
+    case YAML_SCALAR_EVENT:
+        return same_text(one->data.scalar.anchor, other->data.scalar.anchor)
+            && same_text(one->data.scalar.tag, other->data.scalar.tag)
+            && one->data.scalar.length == other->data.scalar.length
+            && memcmp(one->data.scalar.value, other->data.scalar.value, one->data.scalar.length) == 0;
+    case YAML_SEQUENCE_START_EVENT:
+        return same_text(one->data.sequence_start.anchor, other->data.sequence_start.anchor)
+            && same_text(one->data.sequence_start.tag, other->data.sequence_start.tag);
+    case YAML_MAPPING_START_EVENT:
+        return same_text(one->data.mapping_start.anchor, other->data.mapping_start.anchor)
+            && same_text(one->data.mapping_start.tag, other->data.mapping_start.tag);
+    default:
+        return 1;
+    }
+}
+
+static void start_over(yaml_parser_t *parser, const text_t *text)
+{
+    if (!yaml_parser_initialize(parser))
+        fail("no memory");
+    yaml_parser_set_input_string(parser, text->bytes, text->length);
+}
+
+/* The events of both texts side by side. */
+static void read_back(const text_t *input, const text_t *out)
+{
+    yaml_parser_t parsers[2];
+    int done = 0;
+    start_over(&parsers[0], input);
+    start_over(&parsers[1], out);
+    while (!done) {
+        yaml_event_t events[2];
+        for (int side = 0; side < 2; side++)
+            if (!yaml_parser_parse(&parsers[side], &events[side]))
+                fail(parsers[side].problem);
+        if (!same_event(&events[0], &events[1]))
+            fail("the text reads back with other contents");
+        done = events[0].type == YAML_STREAM_END_EVENT;
+        for (int side = 0; side < 2; side++)
+            yaml_event_delete(&events[side]);
+    }
+    for (int side = 0; side < 2; side++)
+        yaml_parser_delete(&parsers[side]);
+}
+
 int main(int count, char **words)
 {
     yaml_parser_t parser;
     text_t input, out = {0};
     if (count != 3)
-        fail("usage: peer canonical|pretty|events FILE");
+        fail("usage: peer canonical|pretty|checked|events FILE");
     input = read_file(words[2]);
-    if (!yaml_parser_initialize(&parser))
-        fail("no memory");
-    yaml_parser_set_input_string(&parser, input.bytes, input.length);
+    start_over(&parser, &input);
     if (strcmp(words[1], "events") == 0)
         list_events(&parser, &out);
     else
         emit_again(&parser, &out, strcmp(words[1], "canonical") == 0);
+    if (strcmp(words[1], "checked") == 0)
+        read_back(&input, &out);
     if (fwrite(out.bytes, 1, out.length, stdout) != out.length || fflush(stdout))
         fail("the output is not taken");
     yaml_parser_delete(&parser);

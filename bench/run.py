@@ -16,7 +16,8 @@ import tempfile
 
 HERE = os.path.dirname(os.path.abspath(__file__))
 KINDS = ["mapping", "flow", "scalars", "literals", "anchors", "json"]
-MODES = {"events": ["events"], "canonical": ["fmt"], "pretty": ["fmt", "--pretty"]}
+# 'checked' is pretty too, beside a peer that reads its text back, as the program always does.
+MODES = {"events": ["events"], "canonical": ["fmt"], "pretty": ["fmt", "--pretty"], "checked": ["fmt", "--pretty"]}
 ROUNDS = {10_000: 15, 1_000_000: 7, 10_000_000: 3}
 
 

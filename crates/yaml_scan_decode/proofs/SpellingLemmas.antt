@@ -1,5 +1,5 @@
 -- Decoding, over all characters.
-use Rattle.std.proofs.Common.{◌≡◌, ℕ, zero, suc, ◌+◌, ◌-◌, ◌<◌, ◌≤◌, Bool, true, false, nat_lt, cond, List, [], ◌∷◌, ◌++◌, drop, length, Result, Ok, Err, refl, sym, ap, ◌∙◌, arith, append_assoc, append-nil}
+use Rattle.std.proofs.Common.{◌≡◌, ℕ, zero, suc, ◌+◌, ◌-◌, ◌<◌, ◌≤◌, Bool, true, false, ◌&&◌, nat_lt, cond, List, [], ◌∷◌, ◌++◌, drop, length, Result, Ok, Err, refl, sym, ap, ◌∙◌, arith, append_assoc, append-nil, add-zero, add-one}
 use Rattle.std.proofs.lemmas.Bool.Decides.{nat_tests}
 use Rattle.std.proofs.Math.ListN.{drop_of_length-le}
 use Rattle.std.proofs.lemmas.List.Elements.{All-nil, All-cons}
@@ -18,8 +18,8 @@ use Rattle.yaml_scan_decode.specs.Characters.{is_allowed, allowed_at, valued_at,
 use Rattle.yaml_scan_decode.specs.Steps.{is_plain}
 use Rattle.yaml_scan_decode.specs.Decoding.{before, led_by, characters, in_utf8}
 use Rattle.yaml_scan_decode.specs.Spelling.{spelling, spellings}
-use Rattle.yaml_scan_decode.specs.Steps.{outcome, behind}
-use Rattle.yaml_scan_decode.proofs.DecodeLemmas.{AreBytes, character_stands}
+use Rattle.yaml_scan_decode.specs.Steps.{plain_run, outcome, outcome_at, behind}
+use Rattle.yaml_scan_decode.proofs.DecodeLemmas.{AreBytes, utf8_stands, character_stands}
 
 below : (m n : ℕ) → m < n → nat_lt m n ≡ true
 below m n h = grind (arith, nat_tests)
@@ -78,6 +78,14 @@ pub behind-nothing : (r : Result (List ℕ) Offence) → behind [] r ≡ r
 behind-nothing (Ok cs) = refl
 behind-nothing (Err o) = refl
 
+and_left : (a b : Bool) → (a && b) ≡ true → a ≡ true
+and_left true b h = refl
+and_left false b h = cc
+
+and_right : (a b : Bool) → (a && b) ≡ true → b ≡ true
+and_right true b h = h
+and_right false b h = cc
+
 -- the characters from p on are checked up to q
 pub record Checks (n : ℕ) (e : yaml_encoding_t) (bytes : List ℕ) (p q : ℕ) : Type 0 where
   pub fuel : ℕ
@@ -90,12 +98,51 @@ checks_more n e bytes p q ch k inside some h =
     let t = turn k.fuel e bytes q ch inside k.enough some h in
     record { fuel = t.fuel; enough = t.enough; same = k.same ∙ ap outcome t.same ∙ outcome-before ch.code (characters t.fuel e bytes (q + ch.width)) }
 
-pub checks_done : (n : ℕ) (e : yaml_encoding_t) (bytes : List ℕ) (p q : ℕ) → Checks n e bytes p q → length bytes ≤ q → outcome (characters n e bytes p) ≡ Ok tt
-checks_done n e bytes p q k past = k.same ∙ ap outcome (ended k.fuel e bytes q past)
-
 pub checks_refused : (n : ℕ) (e : yaml_encoding_t) (bytes : List ℕ) (p q : ℕ) (o : Offence) → Checks n e bytes p q → q < length bytes → character_at e bytes q ≡ Err o
     → outcome (characters n e bytes p) ≡ Err o
 checks_refused n e bytes p q o k inside h = k.same ∙ ap outcome (refused k.fuel e bytes q o inside k.enough h)
+
+-- the byte behind a run
+pub run_more : (k : ℕ) (bytes : List ℕ) (p : ℕ) (run own : Bool) → run ≡ plain_run k bytes p → own ≡ is_plain (byte bytes (p + k)) → (run && own) ≡ plain_run (k + 1) bytes p
+unfolding plain_run
+run_more k bytes p run own h g = rw (h, g, add-one) refl
+
+-- a run of plain bytes is checked
+pub checks_run : (k n : ℕ) (bytes : List ℕ) (p q : ℕ) → Checks n YAML_UTF8_ENCODING bytes p q → q + k ≤ length bytes → plain_run k bytes q ≡ true → Checks n YAML_UTF8_ENCODING bytes p (q + k)
+unfolding plain_run
+checks_run zero n bytes p q c inside h = rw add-zero c
+checks_run (suc k) n bytes p q c inside h =
+    let front = checks_run k n bytes p q c (omega arith) (and_left _ _ h) in
+    let here : q + k < length bytes = omega arith in
+    let next : q + suc k ≡ q + k + 1 = omega arith in
+    rw next (checks_more n YAML_UTF8_ENCODING bytes p (q + k) record { code = byte bytes (q + k); width = 1 } front here (omega arith) (plain_stands bytes (q + k) here (and_right _ _ h)))
+
+-- no more characters are asked for than bytes are left
+fuel_enough : (n m : ℕ) (bytes : List ℕ) (p : ℕ) → length bytes ≤ p + n → length bytes ≤ p + m → characters n YAML_UTF8_ENCODING bytes p ≡ characters m YAML_UTF8_ENCODING bytes p
+unfolding characters
+fuel_enough zero m bytes p h g = sym (ended m YAML_UTF8_ENCODING bytes p (omega arith))
+fuel_enough (suc n) zero bytes p h g = ended (suc n) YAML_UTF8_ENCODING bytes p (omega arith)
+fuel_enough (suc n) (suc m) bytes p h g = by (λ q past. fuel_enough n m bytes (p + q) (omega (arith, past)) (omega (arith, past))) (nat_lt p (length bytes)) refl
+  where
+    after : ((w : ℕ) → 0 < w → characters n YAML_UTF8_ENCODING bytes (p + w) ≡ characters m YAML_UTF8_ENCODING bytes (p + w)) → (r : Result Character Offence) → p < length bytes → utf8_at bytes p ≡ r
+        → led_by (characters n YAML_UTF8_ENCODING bytes) p r ≡ led_by (characters m YAML_UTF8_ENCODING bytes) p r
+    after more (Err o) inside is = refl
+    after more (Ok ch) inside is =
+        let s = utf8_stands bytes p ch inside is in
+        ap (before ch.code) (more ch.width s.some)
+
+    by : ((w : ℕ) → 0 < w → characters n YAML_UTF8_ENCODING bytes (p + w) ≡ characters m YAML_UTF8_ENCODING bytes (p + w)) → (t : Bool) → nat_lt p (length bytes) ≡ t
+        → cond t (led_by (characters n YAML_UTF8_ENCODING bytes) p (utf8_at bytes p)) (Ok []) ≡ cond t (led_by (characters m YAML_UTF8_ENCODING bytes) p (utf8_at bytes p)) (Ok [])
+    by more false is = refl
+    by more true is = after more (utf8_at bytes p) (grind (arith, nat_tests)) refl
+
+pub checks_none : (bytes : List ℕ) (p : ℕ) → Checks (length bytes) YAML_UTF8_ENCODING bytes p p
+checks_none bytes p = record { fuel = length bytes; enough = omega arith; same = refl }
+
+-- what is checked goes there
+pub checks_goes : (bytes : List ℕ) (p q : ℕ) → Checks (length bytes) YAML_UTF8_ENCODING bytes p q → outcome_at bytes p ≡ outcome_at bytes q
+unfolding outcome_at
+checks_goes bytes p q c = c.same ∙ ap outcome (fuel_enough c.fuel (length bytes) bytes q c.enough (omega arith))
 
 -- the characters from p on are written up to q
 pub record Writes (n : ℕ) (e : yaml_encoding_t) (bytes : List ℕ) (p q : ℕ) (text : List ℕ) : Type 0 where

@@ -66,7 +66,7 @@ fn expect_fault(
 
 #[test]
 fn texts(rt: HostRuntime) -> Result<(), Fail> {
-    let cases: [(&[u8], yaml_encoding_t, &[u8]); 12] = [
+    let cases: [(&[u8], yaml_encoding_t, &[u8]); 14] = [
         (b"", ANY, b""),
         (b"foo", ANY, b"foo"),
         // a mark is removed where no encoding is set
@@ -85,6 +85,17 @@ fn texts(rt: HostRuntime) -> Result<(), Fail> {
             b"\xED\x9F\xBF\xEE\x80\x80\xEF\xBF\xBD\xF0\x90\x80\x80\xF4\x8F\xBF\xBF",
         ),
         (b"\x3D\xD8\x00\xDE", UTF16LE, b"\xF0\x9F\x98\x80"),
+        // two chunks and a rest, and a character across two chunks
+        (
+            b"0123456789abcdef0123456789abcdef01",
+            ANY,
+            b"0123456789abcdef0123456789abcdef01",
+        ),
+        (
+            b"0123456789abcde\xE2\x82\xAC0123456789abcdef01",
+            ANY,
+            b"0123456789abcde\xE2\x82\xAC0123456789abcdef01",
+        ),
     ];
     for (input, encoding, want) in cases {
         expect_text(&rt, rt.alloc(), input, encoding, want);
@@ -94,7 +105,7 @@ fn texts(rt: HostRuntime) -> Result<(), Fail> {
 
 #[test]
 fn faults_of_utf8(rt: HostRuntime) -> Result<(), Fail> {
-    let cases: [(&[u8], &'static str, u64, i32); 16] = [
+    let cases: [(&[u8], &'static str, u64, i32); 19] = [
         (b"a\xFF", "invalid leading UTF-8 octet", 1, 255),
         (b"\x80", "invalid leading UTF-8 octet", 0, 128),
         (b"ab\xC3", "incomplete UTF-8 octet sequence", 2, -1),
@@ -126,6 +137,25 @@ fn faults_of_utf8(rt: HostRuntime) -> Result<(), Fail> {
             "control characters are not allowed",
             4,
             7,
+        ),
+        // the first and the last byte of a chunk, and the first behind the last chunk
+        (
+            b"0123456789abcdef\x01123456789abcdef",
+            "control characters are not allowed",
+            16,
+            1,
+        ),
+        (
+            b"0123456789abcdef0123456789abcde\x7F0",
+            "control characters are not allowed",
+            31,
+            127,
+        ),
+        (
+            b"0123456789abcdef\xFF",
+            "invalid leading UTF-8 octet",
+            16,
+            255,
         ),
     ];
     for (input, problem, offset, value) in cases {

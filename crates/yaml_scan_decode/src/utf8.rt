@@ -5,12 +5,15 @@ ghost use Rattle.yaml_scan_text.specs.declared.name.yaml_encoding_t.TheVariants.
 ghost use Rattle.yaml_scan_text.specs.Marks.{byte};
 ghost use Rattle.yaml_scan_text.specs.Classes.{width_of};
 ghost use Rattle.yaml_scan_decode.specs.Characters.{utf8_at, valued_at, sequence_of, least_code, leading_bits};
-ghost use Rattle.yaml_scan_decode.specs.Steps.{is_plain, trailing_bits};
+ghost use Rattle.yaml_scan_decode.specs.Steps.{is_plain, plain_run, trailing_bits, GoesTo};
 ghost use Rattle.yaml_scan_decode.specs.Decoding.{characters};
 ghost use Rattle.yaml_scan_decode.specs.Steps.{outcome};
 
 use crate::offence::{Character, Offence, ReaderProblem, allowed_character};
 use yaml_scan_text::WIDTH;
+
+// So many bytes are looked at together.
+const CHUNK: usize = 16;
 
 // What the character's byte that many places on adds to its code: 0 where the character has no such byte.
 #[tactic(auto, unfolding(crate::specs::Steps::trailing_bits))]
@@ -134,17 +137,58 @@ fn is_plain(byte: u8) -> bool
     byte >= 0x20 && byte < 0x7F || byte == b'\n' || byte == b'\r' || byte == b'\t'
 }
 
-/// Checks the characters from that place on.
-pub fn check_utf8(bytes: &[u8], start: usize) -> Result<(), Offence>
-    ensures { result ≡ outcome (characters (length bytes.now) YAML_UTF8_ENCODING bytes.now start) }
+// Whether the bytes of a chunk that begins there are all plain.
+fn is_plain_chunk(bytes: &[u8], at: usize) -> bool
+    requires { at + CHUNK ≤ length bytes.now }
+    ensures { result ≡ plain_run CHUNK bytes.now at }
+{
+    let mut plain = true;
+    let mut count = 0;
+    'bytes: while count < CHUNK {
+        plain = plain & is_plain(bytes[at + count]);
+        count += 1;
+    }
+    plain
+}
+
+// The place behind the characters that begin before the end, one by one.
+fn characters_to(bytes: &[u8], start: usize, end: usize) -> Result<usize, Offence>
+    requires some { start < end }
+    requires inside { end ≤ length bytes.now }
+    ensures { GoesTo bytes.now start result }
 {
     let mut at = start;
-    'characters: while at < bytes.len() {
+    'characters: while at < end {
         if is_plain(bytes[at]) {
             at += 1;
         } else {
             at += utf8_character(bytes, at)?.width;
         }
+    }
+    Ok(at)
+}
+
+// The place behind the characters that begin in the next bytes, at most a chunk of them.
+fn checked_part(bytes: &[u8], at: usize) -> Result<usize, Offence>
+    requires { at < length bytes.now }
+    ensures { GoesTo bytes.now at result }
+{
+    if bytes.len() - at < CHUNK {
+        return characters_to(bytes, at, bytes.len());
+    }
+    if is_plain_chunk(bytes, at) {
+        return Ok(at + CHUNK);
+    }
+    characters_to(bytes, at, at + CHUNK)
+}
+
+/// Checks the characters from that place on.
+pub fn check_utf8(bytes: &[u8], start: usize) -> Result<(), Offence>
+    ensures { result ≡ outcome (characters (length bytes.now) YAML_UTF8_ENCODING bytes.now start) }
+{
+    let mut at = start;
+    'parts: while at < bytes.len() {
+        at = checked_part(bytes, at)?;
     }
     Ok(())
 }

@@ -1,10 +1,9 @@
-use Rattle.std.proofs.Common.{◌-◌, length}
-use Rattle.yaml_scan_text.specs.declared.name.yaml_encoding_t.TheVariants.{YAML_UTF8_ENCODING}
-use Rattle.yaml_scan_decode.proofs.SpellingLemmas.{Checks}
+use Rattle.std.proofs.Common.{◌≡◌, ◌-◌, length}
+use Rattle.yaml_scan_decode.specs.Steps.{outcome_at}
 use Rattle.yaml_scan_decode.proofs.utf8.check_utf8.Given as goal
 
-abbrev pub invariant-characters : goal.invariant-characters
-invariant-characters l = Checks (length l.bytes) YAML_UTF8_ENCODING l.bytes l.start l.at
+abbrev pub invariant-parts : goal.invariant-parts
+invariant-parts l = outcome_at l.bytes l.start ≡ outcome_at l.bytes l.at
 
-abbrev pub decreases-characters : goal.decreases-characters
-decreases-characters l = length l.bytes - l.at
+abbrev pub decreases-parts : goal.decreases-parts
+decreases-parts l = length l.bytes - l.at

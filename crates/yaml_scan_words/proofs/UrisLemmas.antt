@@ -164,9 +164,13 @@ uri_run (suc d) n context wide text p room kept =
     let front = ap (with_bytes (byte text p ∷ [])) rest ∙ bytes_twice (byte text p ∷ []) (take d (drop (p + 1) text)) (uri_within (suc l) context wide 0 text (p + 1 + d)) in
     (l, omega arith, rw (next, drop_more text p 0 inside) (no_bytes (uri_within (suc n) context wide 0 text p) ∙ (same ∙ front)))
 
+moved : (context : Context) (wide : Bool) (text : List ℕ) (q r m : ℕ) (whole : Result (List ℕ × ℕ) Wrong) (front : List ℕ) → r ≡ q → length text ≤ r + m
+    → whole ≡ with_bytes front (uri_within (suc m) context wide 0 text r) → (n : ℕ) × (length text ≤ q + n) × (whole ≡ with_bytes front (uri_within (suc n) context wide 0 text q))
+moved context wide text q r m whole front e room same = (m, omega arith, rw e at same)
+
 pub uri_behind : (context : Context) (wide : Bool) (text : List ℕ) (p q : ℕ) → p ≤ q → ((k : ℕ) → p ≤ k → k < q → is_uri wide text k ≡ true)
     → (m : ℕ) × (length text ≤ q + m) × (uri_at context wide text p ≡ with_bytes (slice_range text p q) (uri_within (suc m) context wide 0 text q))
 uri_behind context wide text p q forward kept =
     let count : p + (q - p) ≡ q = omega arith in
     let (m, room, same) = uri_run (q - p) (length text) context wide text p (omega arith) (λ k after before. kept k after (omega arith)) in
-    (m, omega arith, rw count at same)
+    moved context wide text q (p + (q - p)) m (uri_at context wide text p) (slice_range text p q) count room same

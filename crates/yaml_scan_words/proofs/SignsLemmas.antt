@@ -1,9 +1,8 @@
 -- Runs of signs: printed ASCII but the space.
-use Rattle.std.proofs.Common.{◌≡◌, ℕ, zero, suc, ◌+◌, ◌-◌, ◌<◌, ◌≤◌, Bool, true, false, List, length, refl, inl, inr, ◌⊎◌, ◌∙◌, sym, arith, add-one}
+use Rattle.std.proofs.Common.{◌≡◌, ℕ, zero, suc, ◌+◌, ◌-◌, ◌<◌, ◌≤◌, Bool, true, false, List, length, refl, inl, inr, ◌∙◌, sym, arith}
 use Rattle.std.proofs.lemmas.Bool.{cases_Bool, cases_lt}
 use Rattle.std.proofs.lemmas.Bool.Decides.{nat_tests}
-use Rattle.yaml_scan_text.specs.declared.record.yaml_mark_t.{yaml_mark_t}
-use Rattle.yaml_scan_text.specs.Marks.{byte, break_width, splits_break, starts, line_at, column_at, mark_at}
+use Rattle.yaml_scan_text.specs.Marks.{byte, break_width, splits_break, starts, line_at, column_at}
 use Rattle.yaml_scan_text.specs.Classes.{is_alpha_byte, is_digit_byte}
 use Rattle.yaml_scan_text.proofs.MarksLemmas.{no_break, within, end_next, split_next, line_more, column_more}
 use Rattle.yaml_scan_words.specs.declared.run.Run.TheVariants as runs

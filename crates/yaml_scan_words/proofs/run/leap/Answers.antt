@@ -1,4 +1,4 @@
-use Rattle.std.proofs.Common.{◌≡◌, arith, refl}
+use Rattle.std.proofs.Common.{arith, refl}
 use Rattle.yaml_scan_text.proofs.MarksLemmas.{column_at-le}
 use Rattle.yaml_scan_words.proofs.SignsLemmas.{leaps}
 use Rattle.yaml_scan_words.proofs.run.leap.Goals as goal

@@ -1,6 +1,5 @@
-use Rattle.std.proofs.Common.{◌≡◌, ◌∙◌, ◌<◌, length, sym, true, arith}
+use Rattle.std.proofs.Common.{◌∙◌, sym, arith}
 use Rattle.yaml_scan_text.proofs.MarksLemmas.{within}
-use Rattle.yaml_scan_words.specs.Uris.{is_uri}
 use Rattle.yaml_scan_words.proofs.UrisLemmas.{uri_range}
 use Rattle.yaml_scan_words.proofs.SignsLemmas.{kept_more}
 use Rattle.yaml_scan_words.proofs.uris.kept_end.Goals as goal

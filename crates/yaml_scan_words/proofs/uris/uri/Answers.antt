@@ -1,5 +1,5 @@
-use Rattle.std.proofs.Common.{◌≡◌, ◌≤◌, ◌<◌, ℕ, true, length, ◌∙◌, refl, arith}
-use Rattle.yaml_scan_words.specs.Uris.{is_uri, spot_at, Spells, Ends, Faulty, uri_at}
+use Rattle.std.proofs.Common.{◌≡◌, ◌≤◌, ◌<◌, ℕ, true, ◌∙◌, refl, arith}
+use Rattle.yaml_scan_words.specs.Uris.{is_uri, spot_at, Spells, Ends, Faulty}
 use Rattle.yaml_scan_words.proofs.UrisLemmas.{uri_range, uri_behind, uri_more, uri_done, uri_bad}
 use Rattle.yaml_scan_words.proofs.uris.uri.Goals as goal
 

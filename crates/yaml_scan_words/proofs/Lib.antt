@@ -1,4 +1,5 @@
 pub mod RunsLemmas
+pub mod SignsLemmas
 pub mod BetweenLemmas
 pub mod UrisLemmas
 pub mod DirectivesLemmas

@@ -1,14 +1,15 @@
 -- URIs, a byte at a time.
-use Rattle.std.proofs.Common.{◌≡◌, ℕ, zero, suc, ◌+◌, ◌<◌, ◌≤◌, ◌==◌, ◌&&◌, ◌||◌, nat_lt, Bool, true, false, List, [], ◌∷◌, ◌++◌, length, Option, Some, None, IsSome, Result, Ok, Err, refl, sym, inl, inr, ◌⊎◌, append_assoc, append-nil, arith}
+use Rattle.std.proofs.Common.{◌≡◌, ℕ, zero, suc, ◌+◌, ◌<◌, ◌≤◌, ◌==◌, ◌&&◌, ◌||◌, nat_lt, Bool, true, false, List, [], ◌∷◌, ◌++◌, length, take, drop, slice_range, Option, Some, None, IsSome, Result, Ok, Err, refl, sym, ap, ◌∙◌, ◌-◌, inl, inr, ◌⊎◌, append_assoc, append-nil, arith}
 use Rattle.std.proofs.lemmas.Bool.{cases_Bool, true≢false}
 use Rattle.std.proofs.lemmas.Bool.Decides.{nat_tests}
+use Rattle.std.proofs.lemmas.List.{drop_more}
 use Rattle.yaml_scan_text.specs.declared.problem.Context.{Context}
 use Rattle.yaml_scan_text.specs.declared.problem.Problem.{Problem}
 use Rattle.yaml_scan_text.specs.Marks.{byte}
 use Rattle.yaml_scan_text.specs.Classes.{is_alpha_byte, is_digit_byte}
 use Rattle.yaml_scan_text.specs.Wrong.{Wrong}
 use Rattle.yaml_scan_text.proofs.MarksLemmas.{within}
-use Rattle.yaml_scan_words.specs.Uris.{is_sign, is_wide_sign, is_uri, hex_digit, octet_of, octet_at, due_behind, Spot, Spells, Ends, Faulty, escape_spot, octet_spot, spot_at, with_bytes, uri_within}
+use Rattle.yaml_scan_words.specs.Uris.{is_sign, is_wide_sign, is_uri, hex_digit, octet_of, octet_at, due_behind, Spot, Spells, Ends, Faulty, escape_spot, octet_spot, spot_at, with_bytes, uri_within, uri_at}
 
 alpha_range : (b : ℕ) → is_alpha_byte b ≡ true → (32 < b) × (b < 127)
 unfolding is_alpha_byte is_digit_byte
@@ -119,3 +120,57 @@ uri_bad n context wide due text p bytes problem q h = rw h refl
 pub no_bytes : (r : Result (List ℕ × ℕ) Wrong) → r ≡ with_bytes [] r
 no_bytes (Ok u) = refl
 no_bytes (Err w) = refl
+
+alpha_no_mark : (b : ℕ) → is_alpha_byte b ≡ true → (b == 37) ≡ false
+unfolding is_alpha_byte is_digit_byte
+alpha_no_mark b h = grind (arith, nat_tests)
+
+sign_no_mark : (b : ℕ) → is_sign b ≡ true → (b == 37) ≡ false
+unfolding is_sign
+sign_no_mark b h = grind (arith, nat_tests)
+
+wide_no_mark : (b : ℕ) → is_wide_sign b ≡ true → (b == 37) ≡ false
+unfolding is_wide_sign
+wide_no_mark b h = grind (arith, nat_tests)
+
+-- what a URI holds as it is, begins no escape
+kept_no_mark : (wide : Bool) (text : List ℕ) (p : ℕ) → is_uri wide text p ≡ true → (byte text p == 37) ≡ false
+kept_no_mark wide text p h =
+    elim (either (is_alpha_byte (byte text p)) (is_sign (byte text p) || (wide && is_wide_sign (byte text p))) h) [
+      | inl a ↦ alpha_no_mark (byte text p) a
+      | inr more ↦ elim (either (is_sign (byte text p)) (wide && is_wide_sign (byte text p)) more) [
+        | inl s ↦ sign_no_mark (byte text p) s
+        | inr w ↦ wide_no_mark (byte text p) (second_of wide (is_wide_sign (byte text p)) w)
+      ]
+    ]
+
+spot_kept : (wide : Bool) (due : ℕ) (text : List ℕ) (p : ℕ) → nat_lt 0 due ≡ false → is_uri wide text p ≡ true → spot_at wide due text p ≡ Spells (byte text p) 0 (p + 1)
+unfolding spot_at
+spot_kept wide due text p none h = rw (kept_no_mark wide text p h, none, h) refl
+
+-- what is left of a URI behind characters that it holds as they are
+uri_run : (d n : ℕ) (context : Context) (wide : Bool) (text : List ℕ) (p : ℕ) → length text ≤ p + n → ((k : ℕ) → p ≤ k → k < p + d → is_uri wide text k ≡ true)
+    → (m : ℕ) × (length text ≤ p + d + m) × (uri_within (suc n) context wide 0 text p ≡ with_bytes (take d (drop p text)) (uri_within (suc m) context wide 0 text (p + d)))
+uri_run zero n context wide text p room kept =
+    let z : p + 0 ≡ p = omega arith in
+    (n, omega arith, rw z (no_bytes (uri_within (suc n) context wide 0 text p)))
+uri_run (suc d) n context wide text p room kept =
+    let here = kept p (omega arith) (omega arith) in
+    let (low, high) = uri_range wide text p here in
+    let inside = within text p (omega arith) in
+    let (m, more, far, some, same) = uri_more n context wide 0 text p [] (byte text p) 0 (p + 1) (spot_kept wide 0 text p refl here) room in
+    let (l, left, rest) = uri_run d m context wide text (p + 1) more (λ k after before. kept k (omega arith) (omega arith)) in
+    let next : p + suc d ≡ p + 1 + d = omega arith in
+    let front = ap (with_bytes (byte text p ∷ [])) rest ∙ bytes_twice (byte text p ∷ []) (take d (drop (p + 1) text)) (uri_within (suc l) context wide 0 text (p + 1 + d)) in
+    (l, omega arith, rw (next, drop_more text p 0 inside) (no_bytes (uri_within (suc n) context wide 0 text p) ∙ (same ∙ front)))
+
+moved : (context : Context) (wide : Bool) (text : List ℕ) (q r m : ℕ) (whole : Result (List ℕ × ℕ) Wrong) (front : List ℕ) → r ≡ q → length text ≤ r + m
+    → whole ≡ with_bytes front (uri_within (suc m) context wide 0 text r) → (n : ℕ) × (length text ≤ q + n) × (whole ≡ with_bytes front (uri_within (suc n) context wide 0 text q))
+moved context wide text q r m whole front e room same = (m, omega arith, rw e at same)
+
+pub uri_behind : (context : Context) (wide : Bool) (text : List ℕ) (p q : ℕ) → p ≤ q → ((k : ℕ) → p ≤ k → k < q → is_uri wide text k ≡ true)
+    → (m : ℕ) × (length text ≤ q + m) × (uri_at context wide text p ≡ with_bytes (slice_range text p q) (uri_within (suc m) context wide 0 text q))
+uri_behind context wide text p q forward kept =
+    let count : p + (q - p) ≡ q = omega arith in
+    let (m, room, same) = uri_run (q - p) (length text) context wide text p (omega arith) (λ k after before. kept k after (omega arith)) in
+    moved context wide text q (p + (q - p)) m (uri_at context wide text p) (slice_range text p q) count room same

@@ -5,7 +5,7 @@ ghost use Rattle.yaml_scan_text.specs.Marks.{byte, mark_at, is_blank_or_end};
 ghost use Rattle.yaml_scan_words.specs.Anchors as spec;
 ghost use Rattle.yaml_scan_words.specs.Gives.{Gives, IsWord, behind_bytes};
 
-use crate::run::{Run, copied, skip_run, skip_sign};
+use crate::run::{copied, skip_alphas, skip_sign};
 use crate::word::{Word, refusal};
 use std::alloc::Global;
 use yaml_scan_text::{Context, Problem, Reader, ScanError};
@@ -21,7 +21,7 @@ pub fn anchor(alloc: Global, reader: &mut Reader, context: Context) -> Result<Wo
     let start = reader.mark();
     skip_sign(reader);
     let from = reader.place();
-    skip_run(Run::Alphas, reader);
+    skip_alphas(reader);
     let to = reader.place();
     if from == to || !may_end_name(reader) {
         return Err(refusal(reader, Problem::NoAlphanumeric, context, start));

@@ -6,7 +6,7 @@ ghost use Rattle.yaml_scan_words.specs.Tags as spec;
 ghost use Rattle.yaml_scan_words.specs.Gives.{Gives};
 ghost use Rattle.yaml_scan_words.specs.TagsGiven.{IsTag, IsParts};
 
-use crate::run::{Run, copied, run_end, skip_run, skip_sign};
+use crate::run::{alphas_end, copied, skip_alphas, skip_sign};
 use crate::uris::{some_uri, uri};
 use crate::word::{TagWord, refusal};
 use std::alloc::Global;
@@ -67,7 +67,7 @@ fn has_handle(reader: &Reader) -> bool
     requires { byte reader.now.text reader.now.at ≡ 33 }
     ensures { result ≡ (byte reader.now.text (spec.name_end reader.now.text reader.now.at) == 33) }
 {
-    let end = run_end(Run::Alphas, reader.text(), reader.place() + 1);
+    let end = alphas_end(reader.text(), reader.place() + 1);
     reader.text().get(end).copied().unwrap_or(0) == b'!'
 }
 
@@ -98,7 +98,7 @@ fn named(alloc: Global, reader: &mut Reader, start: yaml_mark_t) -> Result<TagPa
 {
     let from = reader.place();
     skip_sign(reader);
-    skip_run(Run::Alphas, reader);
+    skip_alphas(reader);
     skip_sign(reader);
     let handle = copied(alloc, reader.text(), from, reader.place())?;
     let suffix = some_uri(alloc, reader, Context::TagUri, false, start)?;

@@ -5,11 +5,12 @@ ghost use Rattle.yaml_scan_text.specs.Marks.{byte};
 ghost use Rattle.yaml_scan_words.specs.Uris as spec;
 ghost use Rattle.yaml_scan_words.specs.Gives.{Gives, IsBytes, behind_bytes};
 ghost use Rattle.yaml_scan_words.specs.Spelt.{spot_of};
+ghost use Rattle.yaml_scan_words.specs.Written.{is_kept};
 
-use crate::run::skip_sign;
+use crate::run::{is_alpha, leap, skip_sign};
 use crate::word::refusal;
 use std::alloc::Global;
-use yaml_scan_text::{Context, IS_ALPHA, Problem, Reader, ScanError, yaml_mark_t};
+use yaml_scan_text::{Context, Problem, Reader, ScanError, yaml_mark_t};
 
 /// A byte of a URI, and how many escapes have to follow it to spell the rest of its character.
 #[derive(Clone, Copy)]
@@ -45,7 +46,9 @@ pub(crate) fn uri(
 ) -> Result<Vec<u8>, ScanError>
     ensures { Gives IsBytes behind_bytes reader.old.text start reader.new result (spec.uri_at context wide reader.old.text reader.old.at) }
 {
-    let mut bytes = Vec::new(alloc);
+    let from = reader.place();
+    leap(reader, kept_end(reader.text(), from, wide));
+    let mut bytes = Vec::from_slice(alloc, reader.since(from))?;
     let mut due = 0;
     'bytes: loop {
         match next_byte(reader, wide, due) {
@@ -71,7 +74,7 @@ fn next_byte(reader: &mut Reader, wide: bool, due: usize) -> Result<Option<Spell
     if due > 0 {
         return Err(Problem::NoEscapedOctet);
     }
-    if !is_uri(reader, wide) {
+    if !is_kept(reader.here(), wide) {
         return Ok(None);
     }
     let byte = reader.here();
@@ -153,12 +156,33 @@ fn due_behind(octet: u8, due: usize) -> Result<usize, Problem>
     }
 }
 
-/// Whether a character stands here that a URI holds as it is.
-fn is_uri(reader: &Reader, wide: bool) -> bool
-    ensures { result ≡ spec.is_uri wide reader.now.text reader.now.at }
+/// The place behind the characters there that a URI holds as they are.
+#[inline(always)]
+fn kept_end(text: &[u8], from: usize, wide: bool) -> usize
+    ensures forward { from ≤ result }
+    ensures kept { (k : ℕ) → from ≤ k → k < result → spec.is_uri wide text.now k ≡ true }
 {
-    IS_ALPHA(reader.text(), reader.place())
-        || (is_sign(reader.here()) || wide && is_wide_sign(reader.here()))
+    let mut end = from;
+    'bytes: while kept_at(text, end, wide) {
+        end += 1;
+    }
+    end
+}
+
+/// Whether a character stands there that a URI holds as it is.
+#[inline(always)]
+fn kept_at(text: &[u8], place: usize, wide: bool) -> bool
+    ensures { result ≡ spec.is_uri wide text.now place }
+{
+    is_kept(text.get(place).copied().unwrap_or(0), wide)
+}
+
+/// Whether a URI holds the character as it is.
+#[inline(always)]
+fn is_kept(byte: u8, wide: bool) -> bool
+    ensures { result ≡ is_kept wide byte }
+{
+    is_alpha(byte) || (is_sign(byte) || wide && is_wide_sign(byte))
 }
 
 #[tactic(auto, unfolding(crate::specs::Uris::is_sign))]

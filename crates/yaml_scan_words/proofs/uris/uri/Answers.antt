@@ -1,13 +1,30 @@
-use Rattle.std.proofs.Common.{◌≡◌, length, ◌∙◌, refl, arith}
-use Rattle.yaml_scan_words.specs.Uris.{spot_at, Spells, Ends, Faulty, uri_at}
-use Rattle.yaml_scan_words.proofs.UrisLemmas.{uri_more, uri_done, uri_bad, no_bytes}
+use Rattle.std.proofs.Common.{◌≡◌, ◌≤◌, ◌<◌, ℕ, true, ◌∙◌, refl, arith}
+use Rattle.yaml_scan_words.specs.Uris.{is_uri, spot_at, Spells, Ends, Faulty}
+use Rattle.yaml_scan_words.proofs.UrisLemmas.{uri_range, uri_behind, uri_more, uri_done, uri_bad}
 use Rattle.yaml_scan_words.proofs.uris.uri.Goals as goal
 
+pub leap-requires-clause-forward : goal.leap-requires-clause-forward
+leap-requires-clause-forward c = rw c.place-from.ensures at c.kept_end.ensures.forward
+
+pub leap-requires-clause-low : goal.leap-requires-clause-low
+leap-requires-clause-low c =
+    let kept : (k : ℕ) → c.args.reader.now.at ≤ k → k < c.kept_end.result → is_uri c.args.wide c.args.reader.now.text k ≡ true = rw (c.place-from.ensures, c.text.ensures) at c.kept_end.ensures.kept in
+    λ k after before. (uri_range c.args.wide c.args.reader.now.text k (kept k after before)).0
+
+pub leap-requires-clause-high : goal.leap-requires-clause-high
+leap-requires-clause-high c =
+    let kept : (k : ℕ) → c.args.reader.now.at ≤ k → k < c.kept_end.result → is_uri c.args.wide c.args.reader.now.text k ≡ true = rw (c.place-from.ensures, c.text.ensures) at c.kept_end.ensures.kept in
+    λ k after before. (uri_range c.args.wide c.args.reader.now.text k (kept k after before)).1
+
+pub since-requires : goal.since-requires
+since-requires c = rw c.leap.ensures c.kept_end.ensures.forward
+
 pub bytes-init : goal.bytes-init
-bytes-init c = rw c.new-bytes.ensures.items record {
-  text = refl;
-  rest = (length c.args.reader.now.text, omega arith, no_bytes (uri_at c.args.context c.args.wide c.args.reader.now.text c.args.reader.now.at));
-}
+bytes-init c =
+    let forward : c.args.reader.now.at ≤ c.kept_end.result = rw c.place-from.ensures at c.kept_end.ensures.forward in
+    let kept : (k : ℕ) → c.args.reader.now.at ≤ k → k < c.kept_end.result → is_uri c.args.wide c.args.reader.now.text k ≡ true = rw (c.place-from.ensures, c.text.ensures) at c.kept_end.ensures.kept in
+    let (m, room, same) = uri_behind c.args.context c.args.wide c.args.reader.now.text c.args.reader.now.at c.kept_end.result forward kept in
+    rw (c.in_ok-bytes.ensures.items, c.since.ensures, c.leap.ensures, c.place-from.ensures) record { text = refl; rest = (m, room, same) }
 
 pub bytes-smaller : goal.bytes-smaller
 bytes-smaller c =

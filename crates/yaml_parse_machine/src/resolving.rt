@@ -78,7 +78,8 @@ fn find_default(handle: &[u8]) -> Option<&'static [u8]>
 fn joined(alloc: Global, prefix: &[u8], suffix: &[u8]) -> Result<Vec<u8>, AllocError>
     ensures { IfOk result (λ v. v.items ≡ prefix.now ++ suffix.now) }
 {
-    let mut full = Vec::from_slice(alloc, prefix)?;
+    let mut full = Vec::with_capacity(alloc, prefix.len() + suffix.len())?;
+    full.extend_from_slice(prefix)?;
     full.extend_from_slice(suffix)?;
     Ok(full)
 }

@@ -109,6 +109,7 @@ fn no_item() -> Item
         body: ItemBody::Event(Plain::StreamEnd),
         from: zero,
         to: zero,
+        spare: None,
     }
 }
 

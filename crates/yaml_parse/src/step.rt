@@ -140,11 +140,9 @@ fn opening(
 {
     match open(stack, start) {
         Ok(()) => {
-            *slot = Item {
-                body: ItemBody::Document { implicit: true },
-                from: start,
-                to: start,
-            };
+            slot.body = ItemBody::Document { implicit: true };
+            slot.from = start;
+            slot.to = start;
             Step::Item
         }
         Err(_) => {

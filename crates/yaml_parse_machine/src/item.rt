@@ -76,6 +76,8 @@ pub struct Item {
     pub body: ItemBody,
     pub from: yaml_mark_t,
     pub to: yaml_mark_t,
+    /// A box that is done with, if any, in which the properties of a node to come may lie. What it holds says nothing.
+    pub spare: Option<Box<Properties>>,
 }
 
 /// What may come. Marks are where what is open begins, unless said.

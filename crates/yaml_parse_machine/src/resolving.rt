@@ -78,24 +78,25 @@ fn find_default(handle: &[u8]) -> Option<&'static [u8]>
 fn joined(alloc: Global, prefix: &[u8], suffix: &[u8]) -> Result<Vec<u8>, AllocError>
     ensures { IfOk result (λ v. v.items ≡ prefix.now ++ suffix.now) }
 {
-    let mut full = Vec::from_slice(alloc, prefix)?;
+    let mut full = Vec::with_capacity(alloc, prefix.len() + suffix.len())?;
+    full.extend_from_slice(prefix)?;
     full.extend_from_slice(suffix)?;
     Ok(full)
 }
 
-// The tag in full, of a node that begins there.
+// The tag in full, of a node that begins there. What its own texts are afterwards isn't told.
 fn resolve(
     alloc: Global,
     tags: &TagDirectives,
-    tag: Tag,
+    tag: &mut Tag,
     from: yaml_mark_t,
 ) -> Result<Vec<u8>, Refusal>
-    ensures { Resolves (resolved tags.now tag.handle.items tag.suffix.items) tag.mark from result }
+    ensures { Resolves (resolved tags.now tag.old.handle.items tag.old.suffix.items) tag.old.mark from result }
 {
-    let handle = tag.handle.as_slice();
-    if handle.is_empty() {
-        return Ok(tag.suffix);
+    if tag.handle.is_empty() {
+        return Ok(mem::replace(&mut tag.suffix, Vec::new(alloc)));
     }
+    let handle = tag.handle.as_slice();
     let suffix = tag.suffix.as_slice();
     match tags.prefix_of(handle) {
         Some(prefix) => Ok(joined(alloc, prefix, suffix)?),
@@ -364,22 +365,21 @@ fn plain_event(event: &mut Plain, alloc: Global) -> yaml_event_body_t
     }
 }
 
-// The event of a node that has properties, and begins there.
+// The event of a node that has properties, and begins there. The anchor is moved.
 fn dressed(
     alloc: Global,
     tags: &TagDirectives,
-    properties: Properties,
+    properties: &mut Properties,
     shape: &mut Shape,
     from: yaml_mark_t,
 ) -> Result<yaml_event_body_t, Refusal>
-    ensures { (ds : DirectivesSpec) → ds.tags ≡ tags.now → SettlesNode (settle_item_body (item.node (text_of properties.anchor) (tag_option_of properties.tag) (shape_of shape.old)) from ds) result ds }
+    ensures { (ds : DirectivesSpec) → ds.tags ≡ tags.now → SettlesNode (settle_item_body (item.node (text_of properties.old.anchor) (tag_option_of properties.old.tag) (shape_of shape.old)) from ds) result ds }
 {
-    let Properties { anchor, tag, .. } = properties;
-    let full = match tag {
+    let full = match &mut properties.tag {
         None => None,
         Some(tag) => Some(resolve(alloc, tags, tag, from)?),
     };
-    Ok(node(alloc, anchor, full, shape))
+    Ok(node(alloc, properties.anchor.take(), full, shape))
 }
 
 // The event of an item, whose place is told besides.
@@ -387,6 +387,7 @@ fn settle_body(
     alloc: Global,
     directives: &mut Directives,
     body: &mut ItemBody,
+    spare: &mut Option<Box<Properties>>,
     from: yaml_mark_t,
     event: &mut yaml_event_body_t,
 ) -> Result<bool, Refusal>
@@ -428,9 +429,11 @@ fn settle_body(
                 bare(alloc, shape, event);
                 Ok(true)
             }
-            Some(properties) => {
+            Some(boxed) => {
+                let mut properties = boxed;
                 let tags = &directives.tags;
-                *event = dressed(alloc, tags, Box::into_inner(properties), shape, from)?;
+                *event = dressed(alloc, tags, &mut properties, shape, from)?;
+                *spare = Some(properties);
                 Ok(true)
             }
         },
@@ -452,6 +455,7 @@ pub fn settle(
         alloc,
         directives,
         &mut slot.body,
+        &mut slot.spare,
         slot.from,
         &mut event.body,
     )

@@ -16,7 +16,7 @@ ghost use Rattle.yaml_parse_machine.specs.Views.{properties_of, properties_optio
 
 use crate::choosing::wants;
 use crate::item::{Item, ItemBody, Plain, Properties, Shape, State, Tag};
-use std::alloc::AllocError;
+use std::alloc::{AllocError, Global};
 use std::mem;
 use yaml_parse_grammar::{Brackets, Place, Side, Wants};
 use yaml_parse_model::{
@@ -205,16 +205,43 @@ fn push_behind_part(
     }
 }
 
-// The rest of a node behind properties.
-fn push_dressed(
-    stack: &mut Vec<State>,
-    wants: Wants,
-    properties: Properties,
-) -> Result<(), AllocError>
-    ensures { OnOk result (stack_of stack.new.items ≡ state.dressed wants (properties_of properties) ∷ stack_of stack.old.items) }
+// A new box for the properties of a node.
+fn new_room(
+    alloc: Global,
+    from: yaml_mark_t,
+    to: yaml_mark_t,
+) -> Result<Box<Properties>, AllocError>
+    ensures { IfOk result (λ b. properties_of b.value ≡ record { anchor = None; tag = None; from = from; to = to }) }
 {
-    let properties = Box::new(*stack.allocator(), properties)?;
-    push(stack, State::Dressed(wants, properties))
+    let properties = Properties {
+        anchor: None,
+        tag: None,
+        from,
+        to,
+    };
+    Ok(Box::new(alloc, properties)?)
+}
+
+// A box for the properties of a node, that stand there: the one that is to spare, or else a new one.
+fn room(
+    slot: &mut Item,
+    alloc: Global,
+    from: yaml_mark_t,
+    to: yaml_mark_t,
+) -> Result<Box<Properties>, AllocError>
+    ensures { IfOk result (λ b. properties_of b.value ≡ record { anchor = None; tag = None; from = from; to = to }) }
+{
+    match slot.spare.take() {
+        None => new_room(alloc, from, to),
+        Some(spare) => {
+            let mut properties = spare;
+            properties.anchor = None;
+            properties.tag = None;
+            properties.from = from;
+            properties.to = to;
+            Ok(properties)
+        }
+    }
 }
 
 // ---- tokens
@@ -444,28 +471,21 @@ fn at_node(
             token,
         ),
         yaml_token_body_t::Anchor { value } => {
-            let properties = Properties {
-                anchor: Some(moved(value)),
-                tag: None,
-                from: token.start_mark,
-                to: token.end_mark,
-            };
-            push_dressed(stack, wants, properties)?;
+            let alloc = *value.allocator();
+            let mut properties = room(slot, alloc, token.start_mark, token.end_mark)?;
+            properties.anchor = Some(moved(value));
+            push(stack, State::Dressed(wants, properties))?;
             Ok(false)
         }
         yaml_token_body_t::Tag { handle, suffix } => {
-            let tag = Tag {
+            let alloc = *handle.allocator();
+            let mut properties = room(slot, alloc, token.start_mark, token.end_mark)?;
+            properties.tag = Some(Tag {
                 handle: moved(handle),
                 suffix: moved(suffix),
                 mark: token.start_mark,
-            };
-            let properties = Properties {
-                anchor: None,
-                tag: Some(tag),
-                from: token.start_mark,
-                to: token.end_mark,
-            };
-            push_dressed(stack, wants, properties)?;
+            });
+            push(stack, State::Dressed(wants, properties))?;
             Ok(false)
         }
         _ => at_content(stack, wants, None, token, slot),

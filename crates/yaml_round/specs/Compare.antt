@@ -1,32 +1,26 @@
 -- How two readings compare.
-use Rattle.std.specs.Prelude.{◌≡◌, ◌⊎◌, ◌↔◌, ◌<◌, Bool, true, false, IsTrue, [], length, Option, Some, None, Result, Ok, Err}
+use Rattle.std.specs.Prelude.{◌≡◌, ◌⊎◌, ◌↔◌, ◌<◌, Bool, true, false, IsTrue, List, [], ◌∷◌, length, Some, None, Result, Ok, Err}
 use Rattle.yaml_scan.specs.declared.yaml_fault_t.{yaml_fault_t}
 use Rattle.yaml_scan.specs.Faults.{IsMemoryFault, fault_of}
-use Rattle.yaml_parse.specs.declared.yaml_event_t.{yaml_event_t}
-use Rattle.yaml_parse.specs.Events.{EventBody, event_of}
+use Rattle.yaml_parse.specs.Events.{EventBody}
 use Rattle.yaml_parse.specs.Coming.{Coming}
 use Rattle.yaml_round.specs.declared.settings.yaml_side_t.{yaml_side_t}
 use Rattle.yaml_round.specs.declared.settings.yaml_side_t.TheVariants.{First, Second}
 use Rattle.yaml_round.specs.declared.compare.Next.{Next}
-use Rattle.yaml_round.specs.declared.compare.Next.TheVariants.{Same, End, Different}
+use Rattle.yaml_round.specs.declared.compare.Next.TheVariants.{Same, End, Different, Refused}
 use Rattle.yaml_round.specs.Even.{even_body}
 use Rattle.yaml_round.specs.Content.{content_of}
 use Rattle.yaml_round.specs.Reading.{contents, AreReal, IsFaultOf}
 
 -- what an event says, evened
-abbrev pub saying : yaml_event_t → EventBody
-saying e = content_of (even_body true (event_of e).body)
+abbrev pub saying : EventBody → EventBody
+saying e = content_of (even_body true e)
 
-abbrev pub Judges : yaml_event_t → yaml_event_t → Next → Type 0
+abbrev pub Judges : EventBody → EventBody → Next → Type 0
 Judges e f Same = saying e ≡ saying f
 Judges e f End = ⊥
 Judges e f Different = saying e ≡ saying f → ⊥
-
-abbrev pub JudgesNext : Option yaml_event_t → Option yaml_event_t → Next → Type 0
-JudgesNext (Some e) (Some f) n = Judges e f n
-JudgesNext None None n = n ≡ End
-JudgesNext (Some e) None n = n ≡ Different
-JudgesNext None (Some f) n = n ≡ Different
+Judges e f (Refused side) = ⊥
 
 -- no event is empty
 abbrev pub BothReal : Coming → Coming → Type 0
@@ -59,11 +53,46 @@ abbrev pub SideIs : Coming → Coming → Coming → yaml_side_t → yaml_fault_
 SideIs first second first_new First f = IsFaultOf first.ending f
 SideIs first second first_new Second f = IsFaultOf second.ending f × ((first_new.ending ≡ first.ending) × AreReal first_new.events)
 
-abbrev pub StepsOn : Coming → Coming → Result Next (yaml_side_t × yaml_fault_t) → Coming → Coming → Type 0
-StepsOn first second (Ok Same) first_new second_new = GoesOn first second first_new second_new
-StepsOn first second (Ok End) first_new second_new = EndBoth first second
-StepsOn first second (Ok Different) first_new second_new = Differ first second first_new second_new
-StepsOn first second (Err f) first_new second_new = SideIs first second first_new f.0 f.1
+-- the second's next event says what that one does
+pub record GoesBeside (e : EventBody) (second second_new : Coming) : Type 0 where
+  pub real : AreReal second_new.events
+  pub ending : second_new.ending ≡ second.ending
+  pub says : contents second.events ≡ saying e ∷ contents second_new.events
+
+-- the second has no such next event
+pub record DiffersBeside (e : EventBody) (second second_new : Coming) : Type 0 where
+  pub real : AreReal second_new.events
+  pub ending : second_new.ending ≡ second.ending
+  pub differ : (rest : List EventBody) → contents second.events ≡ saying e ∷ rest → ⊥
+
+-- the second has events to come
+pub record DiffersAlone (second second_new : Coming) : Type 0 where
+  pub real : AreReal second_new.events
+  pub ending : second_new.ending ≡ second.ending
+  pub differ : contents second.events ≡ [] → ⊥
+
+-- the second's next event beside one that the first gave
+abbrev pub StepsBeside : EventBody → Coming → Next → yaml_fault_t → Coming → Type 0
+StepsBeside e second Same f second_new = GoesBeside e second second_new
+StepsBeside e second End f second_new = ⊥
+StepsBeside e second Different f second_new = DiffersBeside e second second_new
+StepsBeside e second (Refused First) f second_new = ⊥
+StepsBeside e second (Refused Second) f second_new = IsFaultOf second.ending f
+
+-- the second beside the end of the first
+abbrev pub StepsAlone : Coming → Next → yaml_fault_t → Coming → Type 0
+StepsAlone second Same f second_new = ⊥
+StepsAlone second End f second_new = (second.events ≡ []) × (second.ending ≡ None)
+StepsAlone second Different f second_new = DiffersAlone second second_new
+StepsAlone second (Refused First) f second_new = ⊥
+StepsAlone second (Refused Second) f second_new = IsFaultOf second.ending f
+
+-- both steps; a fault stands in its slot
+abbrev pub StepsOn : Coming → Coming → Next → yaml_fault_t → Coming → Coming → Type 0
+StepsOn first second Same f first_new second_new = GoesOn first second first_new second_new
+StepsOn first second End f first_new second_new = EndBoth first second
+StepsOn first second Different f first_new second_new = Differ first second first_new second_new
+StepsOn first second (Refused side) f first_new second_new = SideIs first second first_new side f
 
 -- equal contents and no faults, contents that differ, or a fault
 pub record Equal (first second : Coming) : Type 0 where

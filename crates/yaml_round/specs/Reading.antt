@@ -4,10 +4,9 @@ use Rattle.std.specs.List.{flat_map}
 use Rattle.yaml_scan.specs.declared.yaml_error_type_t.TheVariants.{YAML_MEMORY_ERROR}
 use Rattle.yaml_scan.specs.declared.yaml_fault_t.{yaml_fault_t}
 use Rattle.yaml_scan.specs.Faults.{Fault, fault_of}
-use Rattle.yaml_parse.specs.declared.yaml_event_t.{yaml_event_t}
 use Rattle.yaml_parse.specs.declared.yaml_found_t.{yaml_found_t}
 use Rattle.yaml_parse.specs.declared.yaml_found_t.TheVariants as found
-use Rattle.yaml_parse.specs.Events.{Event, EventBody, event_of}
+use Rattle.yaml_parse.specs.Events.{Event, EventBody}
 use Rattle.yaml_parse.specs.Events as event
 use Rattle.yaml_parse.specs.Constructors.{HasUtf8}
 use Rattle.yaml_parse.specs.Resolve.{Told}
@@ -59,12 +58,6 @@ pub record IsOver (c : Coming) : Type 0 where
 -- the fault is the one that ends the reading, or want of memory
 abbrev pub IsFaultOf : Option Fault → yaml_fault_t → Type 0
 IsFaultOf ending f = (f.kind ≡ YAML_MEMORY_ERROR) ⊎ (ending ≡ Some (fault_of f))
-
--- the next event, nothing at the end, or the fault
-abbrev pub NextIs : Coming → Result (Option yaml_event_t) yaml_fault_t → Coming → Type 0
-NextIs old (Ok (Some e)) new = GivesFront (event_of e) old new
-NextIs old (Ok None) new = IsOver old × IsOver new
-NextIs old (Err f) new = IsFaultOf old.ending f
 
 -- the next event or the fault, which stands in its slot, or the end
 abbrev pub Finds : Coming → yaml_found_t → Event → yaml_fault_t → Coming → Type 0

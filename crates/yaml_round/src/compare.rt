@@ -1,16 +1,22 @@
 //! Comparisons of inputs, by their events side by side; no tree is held.
 
-ghost use Rattle.yaml_round.specs.Compare.{BothReal, Judges, JudgesNext, StepsOn, Sided, RunsOut, Compares, ReadsAlike};
+ghost use Rattle.yaml_round.specs.Compare.{BothReal, Judges, StepsBeside, StepsAlone, StepsOn, Sided, RunsOut, Compares, ReadsAlike};
+ghost use Rattle.yaml_parse.specs.Events.{event_of};
+ghost use Rattle.yaml_round.specs.Reading.{AreReal};
 ghost use Rattle.yaml_round.specs.Answers.{IsRight, IsReadBack, IsSame};
 ghost use Rattle.yaml_scan.specs.Faults.{Answers};
 
 use crate::content::agree;
 use crate::even::even;
-use crate::reading::{next_event, read_out, reading_of};
+use crate::reading::{next_into, read_out, reading_of};
 use crate::settings::yaml_side_t;
 use std::alloc::Global;
-use yaml_parse::{yaml_event_t, yaml_parser_t, yaml_token_source_t};
-use yaml_scan::{yaml_encoding_t, yaml_error_type_t, yaml_fault_t};
+use yaml_parse::{
+    yaml_event_body_t, yaml_event_t, yaml_found_t, yaml_parser_t, yaml_token_source_t,
+};
+use yaml_scan::{
+    yaml_encoding_t, yaml_error_type_t, yaml_fault_t, yaml_memory_fault, yaml_origin_t,
+};
 
 /// How two streams of events go on.
 #[derive(Clone, Copy)]
@@ -20,50 +26,95 @@ pub(crate) enum Next {
     // Both streams are at their end.
     End,
     Different,
+    // That input's fault stands in the slot.
+    Refused(yaml_side_t),
 }
 
 // A fault, and which input it is said of.
 type SideFault = (yaml_side_t, yaml_fault_t);
 
-// Two events say the same.
-fn judged_events(event: yaml_event_t, other: yaml_event_t) -> Next
-    ensures { Judges event other result }
+// Two events, evened in their slots, say the same.
+fn judged(event: &mut yaml_event_t, other: &mut yaml_event_t) -> Next
+    ensures { Judges (event_of event.old).body (event_of other.old).body result }
 {
-    let mut event = event;
-    let mut other = other;
-    even(&mut event, true);
-    even(&mut other, true);
-    let same = agree(&event, &other);
-    drop(event);
-    drop(other);
-    if same { Next::Same } else { Next::Different }
-}
-
-// Two events, where there are such, say the same.
-fn judged(event: Option<yaml_event_t>, other: Option<yaml_event_t>) -> Next
-    ensures { JudgesNext event other result }
-{
-    match (event, other) {
-        (Some(event), Some(other)) => judged_events(event, other),
-        (None, None) => Next::End,
-        _ => Next::Different,
+    even(event, true);
+    even(other, true);
+    if agree(event, other) {
+        Next::Same
+    } else {
+        Next::Different
     }
 }
 
-// The next event of each input.
+// The second input's next event beside the first's, which stands in its slot.
+fn compared_event<T: yaml_token_source_t>(
+    second: &mut yaml_parser_t<T>,
+    event: &mut yaml_event_t,
+    other: &mut yaml_event_t,
+    fault: &mut yaml_fault_t,
+) -> Next
+    requires { AreReal second.old.events }
+    ensures { StepsBeside (event_of event.old).body second.old result fault.new second.new }
+{
+    match next_into(second, other, fault) {
+        yaml_found_t::Refused => Next::Refused(yaml_side_t::Second),
+        yaml_found_t::End => Next::Different,
+        yaml_found_t::Event => judged(event, other),
+    }
+}
+
+// What the second input has where the first is at its end.
+fn compared_end<T: yaml_token_source_t>(
+    second: &mut yaml_parser_t<T>,
+    other: &mut yaml_event_t,
+    fault: &mut yaml_fault_t,
+) -> Next
+    requires { AreReal second.old.events }
+    ensures { StepsAlone second.old result fault.new second.new }
+{
+    match next_into(second, other, fault) {
+        yaml_found_t::Refused => Next::Refused(yaml_side_t::Second),
+        yaml_found_t::End => Next::End,
+        yaml_found_t::Event => Next::Different,
+    }
+}
+
+// The next event of each input, in slots that are lent.
 fn compared_next<S: yaml_token_source_t, T: yaml_token_source_t>(
     first: &mut yaml_parser_t<S>,
     second: &mut yaml_parser_t<T>,
-) -> Result<Next, SideFault>
+    event: &mut yaml_event_t,
+    other: &mut yaml_event_t,
+    fault: &mut yaml_fault_t,
+) -> Next
     requires { BothReal first.old second.old }
-    ensures { StepsOn first.old second.old result first.new second.new }
+    ensures { StepsOn first.old second.old result fault.new first.new second.new }
 {
-    match next_event(first) {
-        Err(fault) => Err((yaml_side_t::First, fault)),
-        Ok(event) => match next_event(second) {
-            Err(fault) => Err((yaml_side_t::Second, fault)),
-            Ok(other) => Ok(judged(event, other)),
-        },
+    match next_into(first, event, fault) {
+        yaml_found_t::Refused => Next::Refused(yaml_side_t::First),
+        yaml_found_t::End => compared_end(second, other, fault),
+        yaml_found_t::Event => compared_event(second, event, other, fault),
+    }
+}
+
+// Whether the events are the same to their end, each pair of which stands in the slots in turn. The first fault ends it.
+fn same_events_by<S: yaml_token_source_t, T: yaml_token_source_t>(
+    first: &mut yaml_parser_t<S>,
+    second: &mut yaml_parser_t<T>,
+    event: &mut yaml_event_t,
+    other: &mut yaml_event_t,
+    fault: &mut yaml_fault_t,
+) -> Result<bool, SideFault>
+    requires { BothReal first.old second.old }
+    ensures { Sided first.old second.old result first.new second.new }
+{
+    'events: loop {
+        match compared_next(first, second, event, other, fault) {
+            Next::Refused(side) => return Err((side, *fault)),
+            Next::End => return Ok(true),
+            Next::Different => return Ok(false),
+            Next::Same => {}
+        }
     }
 }
 
@@ -75,14 +126,13 @@ fn same_events<S: yaml_token_source_t, T: yaml_token_source_t>(
     requires { BothReal first.old second.old }
     ensures { Sided first.old second.old result first.new second.new }
 {
-    'events: loop {
-        match compared_next(first, second) {
-            Err(fault) => return Err(fault),
-            Ok(Next::End) => return Ok(true),
-            Ok(Next::Different) => return Ok(false),
-            Ok(Next::Same) => {}
-        }
-    }
+    let mut event = yaml_event_t::unplaced(yaml_event_body_t::No);
+    let mut other = yaml_event_t::unplaced(yaml_event_body_t::No);
+    let mut fault = yaml_memory_fault(yaml_origin_t::Parser);
+    let same = same_events_by(first, second, &mut event, &mut other, &mut fault);
+    drop(event);
+    drop(other);
+    same
 }
 
 // The fault of the first input, or else that of the second.

@@ -4,7 +4,7 @@ ghost use Rattle.std.specs.Prelude.{◌≡◌, true, IfOk, IfErr};
 ghost use Rattle.yaml_scan.specs.Faults.{IsMemoryFault};
 ghost use Rattle.yaml_parse.specs.Events.{event_of};
 ghost use Rattle.yaml_round.specs.Input.{Reads};
-ghost use Rattle.yaml_round.specs.Reading.{AreReal, Finds, NextIs, EndsWith};
+ghost use Rattle.yaml_round.specs.Reading.{AreReal, Finds, EndsWith};
 
 use std::alloc::Global;
 use yaml_parse::{
@@ -46,24 +46,20 @@ pub(crate) fn next_into<S: yaml_token_source_t>(
     yaml_parser_parse_into(reading, event, fault)
 }
 
-/// The next event, nothing at the end.
-pub(crate) fn next_event<S: yaml_token_source_t>(
+// Reads to the end by slots that are lent. The fault that is met is the answer.
+fn read_out_by<S: yaml_token_source_t>(
     reading: &mut yaml_parser_t<S>,
-) -> Result<Option<yaml_event_t>, yaml_fault_t>
+    event: &mut yaml_event_t,
+    fault: &mut yaml_fault_t,
+) -> Result<(), yaml_fault_t>
     requires { AreReal reading.old.events }
-    ensures { NextIs reading.old result reading.new }
+    ensures { EndsWith reading.old.ending result }
 {
-    let mut event = yaml_event_t::unplaced(yaml_event_body_t::No);
-    let mut fault = yaml_memory_fault(yaml_origin_t::Parser);
-    match next_into(reading, &mut event, &mut fault) {
-        yaml_found_t::Event => Ok(Some(event)),
-        yaml_found_t::Refused => {
-            drop(event);
-            Err(fault)
-        }
-        yaml_found_t::End => {
-            drop(event);
-            Ok(None)
+    'events: loop {
+        match next_into(reading, event, fault) {
+            yaml_found_t::Refused => return Err(*fault),
+            yaml_found_t::End => return Ok(()),
+            yaml_found_t::Event => {}
         }
     }
 }
@@ -75,11 +71,9 @@ pub(crate) fn read_out<S: yaml_token_source_t>(
     requires { AreReal reading.old.events }
     ensures { EndsWith reading.old.ending result }
 {
-    'events: loop {
-        match next_event(reading) {
-            Err(fault) => return Err(fault),
-            Ok(None) => return Ok(()),
-            Ok(Some(_)) => {}
-        }
-    }
+    let mut event = yaml_event_t::unplaced(yaml_event_body_t::No);
+    let mut fault = yaml_memory_fault(yaml_origin_t::Parser);
+    let done = read_out_by(reading, &mut event, &mut fault);
+    drop(event);
+    done
 }

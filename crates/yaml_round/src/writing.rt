@@ -10,7 +10,7 @@ ghost use Rattle.yaml_round.specs.Reading.{AreReal};
 ghost use Rattle.yaml_round.specs.Writing.{IsUnder, wishes_under, encoding_under, Writes, WritesAll, Finishes};
 
 use crate::even::even;
-use crate::reading::{next_event, next_into};
+use crate::reading::next_into;
 use crate::settings::{yaml_output_encoding_t, yaml_settings_t};
 use std::alloc::Global;
 use std::mem;
@@ -117,6 +117,30 @@ pub(crate) fn write_up_to<S: yaml_token_source_t>(
     written
 }
 
+// Writes the events to their end, each of which stands in the slot before it is given, and so does the fault that ends
+// them in the other one.
+fn write_rest_by<S: yaml_token_source_t>(
+    reading: &mut yaml_parser_t<S>,
+    emitter: &mut yaml_emitter_t,
+    canonical: bool,
+    event: &mut yaml_event_t,
+    fault: &mut yaml_fault_t,
+) -> Result<(), yaml_fault_t>
+    requires { AreReal reading.old.events }
+    ensures { WritesAll canonical reading.old emitter.old result emitter.new }
+{
+    'events: loop {
+        match next_into(reading, event, fault) {
+            yaml_found_t::Refused => return Err(*fault),
+            yaml_found_t::End => return Ok(()),
+            yaml_found_t::Event => {
+                even(event, canonical);
+                give(emitter, taken(event));
+            }
+        }
+    }
+}
+
 /// Writes the events to their end. A fault of theirs is the answer; the emitter keeps its own.
 pub(crate) fn write_rest<S: yaml_token_source_t>(
     reading: &mut yaml_parser_t<S>,
@@ -126,16 +150,11 @@ pub(crate) fn write_rest<S: yaml_token_source_t>(
     requires { AreReal reading.old.events }
     ensures { WritesAll canonical reading.old emitter.old result emitter.new }
 {
-    'events: loop {
-        match next_event(reading) {
-            Err(fault) => return Err(fault),
-            Ok(None) => return Ok(()),
-            Ok(Some(mut event)) => {
-                even(&mut event, canonical);
-                give(emitter, event);
-            }
-        }
-    }
+    let mut event = yaml_event_t::unplaced(yaml_event_body_t::No);
+    let mut fault = yaml_memory_fault(yaml_origin_t::Parser);
+    let written = write_rest_by(reading, emitter, canonical, &mut event, &mut fault);
+    drop(event);
+    written
 }
 
 fn fault_in(emitter: &yaml_emitter_t) -> Option<yaml_fault_t>

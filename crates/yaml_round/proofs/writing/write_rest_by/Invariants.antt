@@ -2,7 +2,7 @@
 use Rattle.std.proofs.Common.{◌≡◌, length}
 use Rattle.yaml_round.specs.Reading.{AreReal}
 use Rattle.yaml_round.specs.Writing.{Leads}
-use Rattle.yaml_round.proofs.writing.write_rest.Given as goal
+use Rattle.yaml_round.proofs.writing.write_rest_by.Given as goal
 
 abbrev pub invariant-events : goal.invariant-events
 invariant-events g l = record {

@@ -1,3 +1,4 @@
+pub mod RanksLemmas
 pub mod RunsLemmas
 pub mod SignsLemmas
 pub mod BetweenLemmas

@@ -85,3 +85,14 @@ run_further run text p h =
 pub digit_printed : (text : List ℕ) (p : ℕ) → belongs runs.Digits text p ≡ true → (32 < byte text p) × (byte text p < 127)
 unfolding belongs
 digit_printed text p h = let (low, high) = digit_range (byte text p) h in (omega arith, omega arith)
+
+-- nothing of a run of alphas stands past the end
+pub past_alphas : (text : List ℕ) (p : ℕ) → length text ≤ p → belongs runs.Alphas text p ≡ false
+past_alphas text p past =
+    elim (cases_Bool (belongs runs.Alphas text p)) [
+      | inl h ↦ let inside = belongs_inside runs.Alphas text p h in absurd {0} (omega arith)
+      | inr h ↦ h
+    ]
+
+pub no_less : (a b : ℕ) → b ≤ a → nat_lt a b ≡ false
+no_less a b h = grind (arith, nat_tests)

@@ -35,6 +35,14 @@ within_signs (suc n) text p k after before =
 pub run_signs : (text : List ℕ) (p k : ℕ) → p ≤ k → k < run_end runs.Alphas text p → (32 < byte text k) × (byte text k < 127)
 run_signs text p k after before = within_signs (length text) text p k after before
 
+-- a sign and the alphas that follow it
+pub name_signs : (text : List ℕ) (p k : ℕ) → (32 < byte text p) × (byte text p < 127) → p ≤ k → k < run_end runs.Alphas text (p + 1) → (32 < byte text k) × (byte text k < 127)
+name_signs text p k sign after before =
+    elim (cases_lt p k) [
+      | inl more ↦ run_signs text (p + 1) k (omega arith) before
+      | inr here ↦ let same : k ≡ p = omega arith in rw same sign
+    ]
+
 starts_sign : (b : ℕ) → b < 127 → starts b ≡ true
 starts_sign b h = grind (arith, nat_tests)
 

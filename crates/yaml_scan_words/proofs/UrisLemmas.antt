@@ -9,7 +9,7 @@ use Rattle.yaml_scan_text.specs.Marks.{byte}
 use Rattle.yaml_scan_text.specs.Classes.{is_alpha_byte, is_digit_byte}
 use Rattle.yaml_scan_text.specs.Wrong.{Wrong}
 use Rattle.yaml_scan_text.proofs.MarksLemmas.{within}
-use Rattle.yaml_scan_words.specs.Uris.{is_sign, is_wide_sign, is_uri, hex_digit, octet_of, octet_at, due_behind, Spot, Spells, Ends, Faulty, escape_spot, octet_spot, spot_at, with_bytes, uri_within, uri_at}
+use Rattle.yaml_scan_words.specs.Uris.{is_sign, is_wide_sign, is_uri, hex_digit, octet_of, octet_at, due_behind, Spot, Spells, Ends, Faulty, escape_spot, octet_spot, spot_at, with_bytes, uri_from, uri_within, uri_at}
 
 alpha_range : (b : ℕ) → is_alpha_byte b ≡ true → (32 < b) × (b < 127)
 unfolding is_alpha_byte is_digit_byte
@@ -164,13 +164,61 @@ uri_run (suc d) n context wide text p room kept =
     let front = ap (with_bytes (byte text p ∷ [])) rest ∙ bytes_twice (byte text p ∷ []) (take d (drop (p + 1) text)) (uri_within (suc l) context wide 0 text (p + 1 + d)) in
     (l, omega arith, rw (next, drop_more text p 0 inside) (no_bytes (uri_within (suc n) context wide 0 text p) ∙ (same ∙ front)))
 
+from_same : (f g : ℕ → ℕ → Result (List ℕ × ℕ) Wrong) (context : Context) (s : Spot)
+    → ((b due q : ℕ) → s ≡ Spells b due q → f due q ≡ g due q) → uri_from f context s ≡ uri_from g context s
+from_same f g context (Spells b due q) h = rw (h b due q refl) refl
+from_same f g context (Ends q) h = refl
+from_same f g context (Faulty problem q) h = refl
+
+-- a URI is the same for any number of spots that reaches the end
+uri_enough : (n m : ℕ) (context : Context) (wide : Bool) (due : ℕ) (text : List ℕ) (p : ℕ) → length text ≤ p + n → length text ≤ p + m
+    → uri_within (suc n) context wide due text p ≡ uri_within (suc m) context wide due text p
+unfolding uri_within
+uri_enough zero m context wide due text p room more =
+    from_same (λ next q. uri_within 0 context wide next text q) (λ next q. uri_within m context wide next text q) context (spot_at wide due text p)
+    (λ b next q e. absurd {0} (let (far, inside) = rw e at (moves wide due text p) in omega arith))
+uri_enough (suc n) zero context wide due text p room more =
+    from_same (λ next q. uri_within (suc n) context wide next text q) (λ next q. uri_within 0 context wide next text q) context (spot_at wide due text p)
+    (λ b next q e. absurd {0} (let (far, inside) = rw e at (moves wide due text p) in omega arith))
+uri_enough (suc n) (suc m) context wide due text p room more =
+    from_same (λ next q. uri_within (suc n) context wide next text q) (λ next q. uri_within (suc m) context wide next text q) context (spot_at wide due text p)
+    (λ b next q e. let (far, inside) = rw e at (moves wide due text p) in uri_enough n m context wide next text q (omega arith) (omega arith))
+
 moved : (context : Context) (wide : Bool) (text : List ℕ) (q r m : ℕ) (whole : Result (List ℕ × ℕ) Wrong) (front : List ℕ) → r ≡ q → length text ≤ r + m
-    → whole ≡ with_bytes front (uri_within (suc m) context wide 0 text r) → (n : ℕ) × (length text ≤ q + n) × (whole ≡ with_bytes front (uri_within (suc n) context wide 0 text q))
-moved context wide text q r m whole front e room same = (m, omega arith, rw e at same)
+    → whole ≡ with_bytes front (uri_within (suc m) context wide 0 text r) → whole ≡ with_bytes front (uri_at context wide text q)
+moved context wide text q r m whole front e room same =
+    let there : length text ≤ q + m = rw e at room in
+    let here : whole ≡ with_bytes front (uri_within (suc m) context wide 0 text q) = rw e at same in
+    here ∙ ap (with_bytes front) (uri_enough m (length text) context wide 0 text q there (omega arith))
 
 pub uri_behind : (context : Context) (wide : Bool) (text : List ℕ) (p q : ℕ) → p ≤ q → ((k : ℕ) → p ≤ k → k < q → is_uri wide text k ≡ true)
-    → (m : ℕ) × (length text ≤ q + m) × (uri_at context wide text p ≡ with_bytes (slice_range text p q) (uri_within (suc m) context wide 0 text q))
+    → uri_at context wide text p ≡ with_bytes (slice_range text p q) (uri_at context wide text q)
 uri_behind context wide text p q forward kept =
     let count : p + (q - p) ≡ q = omega arith in
     let (m, room, same) = uri_run (q - p) (length text) context wide text p (omega arith) (λ k after before. kept k after (omega arith)) in
     moved context wide text q (p + (q - p)) m (uri_at context wide text p) (slice_range text p q) count room same
+
+other : (b : ℕ) → (b ≡ 37 → ⊥) → (b == 37) ≡ false
+other b h =
+    elim (cases_Bool (b == 37)) [
+      | inl e ↦ absurd {0} (h (equal_of b 37 e))
+      | inr e ↦ e
+    ]
+
+-- nothing of a URI stands past the end
+pub past_uri : (wide : Bool) (text : List ℕ) (p : ℕ) → length text ≤ p → is_uri wide text p ≡ false
+past_uri wide text p past =
+    elim (cases_Bool (is_uri wide text p)) [
+      | inl h ↦ let (low, high) = uri_range wide text p h in let inside = within text p (omega arith) in absurd {0} (omega arith)
+      | inr h ↦ h
+    ]
+
+uri_stops : (context : Context) (wide : Bool) (text : List ℕ) (p : ℕ) → (byte text p == 37) ≡ false → is_uri wide text p ≡ false → uri_at context wide text p ≡ Ok ([], p)
+unfolding uri_within spot_at
+uri_stops context wide text p mark kept = rw (mark, kept) refl
+
+-- a URI without escapes
+pub uri_plain : (context : Context) (wide : Bool) (text : List ℕ) (p q : ℕ) → p ≤ q → ((k : ℕ) → p ≤ k → k < q → is_uri wide text k ≡ true)
+    → (byte text q ≡ 37 → ⊥) → is_uri wide text q ≡ false → uri_at context wide text p ≡ Ok (slice_range text p q, q)
+uri_plain context wide text p q forward kept mark stop =
+    uri_behind context wide text p q forward kept ∙ rw (uri_stops context wide text q (other (byte text q) mark) stop, append-nil (slice_range text p q)) refl

@@ -5,7 +5,7 @@ ghost use Rattle.yaml_scan_text.specs.Marks.{byte, mark_at, is_blank_or_end};
 ghost use Rattle.yaml_scan_words.specs.Anchors as spec;
 ghost use Rattle.yaml_scan_words.specs.Gives.{Gives, IsWord, behind_bytes};
 
-use crate::run::{copied, skip_alphas, skip_sign};
+use crate::run::{copied, leap, name_end};
 use crate::word::{Word, refusal};
 use std::alloc::Global;
 use yaml_scan_text::{Context, Problem, Reader, ScanError};
@@ -14,15 +14,15 @@ use yaml_scan_text::{Context, Problem, Reader, ScanError};
 ///
 /// The context is `Anchor` or `Alias`; it stands in the fault. A name that is empty, or goes on with what may not follow it, is
 /// refused at its end.
+#[inline(always)]
 pub fn anchor(alloc: Global, reader: &mut Reader, context: Context) -> Result<Word, ScanError>
     requires { (byte reader.old.text reader.old.at ≡ 38) ⊎ (byte reader.old.text reader.old.at ≡ 42) }
     ensures { Gives (IsWord reader.old.text reader.old.at) behind_bytes reader.old.text (mark_at reader.old.text reader.old.at) reader.new result (spec.anchor_at context reader.old.text reader.old.at) }
 {
     let start = reader.mark();
-    skip_sign(reader);
-    let from = reader.place();
-    skip_alphas(reader);
-    let to = reader.place();
+    let to = name_end(reader);
+    let from = reader.place() + 1;
+    leap(reader, to);
     if from == to || !may_end_name(reader) {
         return Err(refusal(reader, Problem::NoAlphanumeric, context, start));
     }
@@ -35,6 +35,7 @@ pub fn anchor(alloc: Global, reader: &mut Reader, context: Context) -> Result<Wo
 }
 
 /// Whether a name may end here.
+#[inline(always)]
 #[tactic(auto, unfolding(crate::specs::Anchors::may_end_name))]
 fn may_end_name(reader: &Reader) -> bool
     ensures { result ≡ spec.may_end_name reader.now.text reader.now.at }

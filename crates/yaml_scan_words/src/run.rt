@@ -5,6 +5,7 @@ ghost use Rattle.yaml_scan_text.specs.Marks.{byte};
 ghost use Rattle.yaml_scan_text.specs.Classes.{is_alpha_byte};
 ghost use Rattle.yaml_scan_words.specs.declared.run.Run.TheVariants as runs;
 ghost use Rattle.yaml_scan_words.specs.Runs as spec;
+ghost use Rattle.yaml_scan_words.specs.Written.{is_kept};
 
 use std::alloc::{AllocError, Global};
 use yaml_scan_text::{IS_ALPHA, IS_BLANK, IS_BREAKZ, IS_DIGIT, Reader, yaml_mark_t};
@@ -45,15 +46,35 @@ pub(crate) fn skip_run(run: Run, reader: &mut Reader)
     }
 }
 
+/// What each byte is in a name or a URI: `3` one of `0-9 A-Z a-z _ -`, `2` a sign that any URI holds as it is, `1` one that only
+/// a wide URI does, `0` any other.
+static RANKS: [u8; 256] = *b"\
+    00000000000000000000000000000000\
+    02002022222213223333333333220202\
+    23333333333333333333333333310103\
+    03333333333333333333333333300020\
+    00000000000000000000000000000000\
+    00000000000000000000000000000000\
+    00000000000000000000000000000000\
+    00000000000000000000000000000000";
+
 /// Whether the byte is one of `0-9 A-Z a-z _ -`.
-#[tactic(auto, unfolding(yaml_scan_text::specs::Classes::is_alpha_byte, yaml_scan_text::specs::Classes::is_digit_byte))]
 #[inline(always)]
-pub(crate) fn is_alpha(byte: u8) -> bool
+fn is_alpha(byte: u8) -> bool
     ensures { result ≡ is_alpha_byte byte }
 {
-    match byte {
-        b'a'..=b'z' | b'A'..=b'Z' | b'0'..=b'9' | b'_' | b'-' => true,
-        _ => false,
+    RANKS[byte as usize] == b'3'
+}
+
+/// Whether a URI holds the character as it is.
+#[inline(always)]
+pub(crate) fn is_kept(byte: u8, wide: bool) -> bool
+    ensures { result ≡ is_kept wide byte }
+{
+    if wide {
+        RANKS[byte as usize] >= b'1'
+    } else {
+        RANKS[byte as usize] >= b'2'
     }
 }
 
@@ -63,7 +84,7 @@ pub(crate) fn is_alpha(byte: u8) -> bool
 fn alpha_at(text: &[u8], place: usize) -> bool
     ensures { result ≡ spec.belongs runs.Alphas text.now place }
 {
-    is_alpha(text.get(place).copied().unwrap_or(0))
+    place < text.len() && is_alpha(text[place])
 }
 
 /// The place behind the alphas that stand there.
@@ -78,12 +99,13 @@ pub(crate) fn alphas_end(text: &[u8], from: usize) -> usize
     end
 }
 
-/// Past the alphas that stand here.
-pub(crate) fn skip_alphas(reader: &mut Reader)
-    ensures { reader.new ≡ record { text = reader.old.text; at = spec.run_end runs.Alphas reader.old.text reader.old.at } }
+/// The place behind the sign that stands here and the alphas that follow it.
+#[inline(always)]
+pub(crate) fn name_end(reader: &Reader) -> usize
+    requires { 0 < byte reader.now.text reader.now.at }
+    ensures { result ≡ spec.run_end runs.Alphas reader.now.text (reader.now.at + 1) }
 {
-    let end = alphas_end(reader.text(), reader.place());
-    leap(reader, end);
+    alphas_end(reader.text(), reader.place() + 1)
 }
 
 /// Past ASCII characters that are printed and no spaces, up to that place.

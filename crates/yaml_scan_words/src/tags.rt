@@ -6,7 +6,7 @@ ghost use Rattle.yaml_scan_words.specs.Tags as spec;
 ghost use Rattle.yaml_scan_words.specs.Gives.{Gives};
 ghost use Rattle.yaml_scan_words.specs.TagsGiven.{IsTag, IsParts};
 
-use crate::run::{alphas_end, copied, skip_alphas, skip_sign};
+use crate::run::{leap, name_end, skip_sign};
 use crate::uris::{some_uri, uri};
 use crate::word::{TagWord, refusal};
 use std::alloc::Global;
@@ -56,19 +56,11 @@ fn tag_parts(alloc: Global, reader: &mut Reader, start: yaml_mark_t) -> Result<T
     if reader.byte(1) == b'<' {
         return verbatim(alloc, reader, start);
     }
-    if has_handle(reader) {
-        return named(alloc, reader, start);
+    let end = name_end(reader);
+    if reader.text().get(end).copied().unwrap_or(0) == b'!' {
+        return named(alloc, reader, end, start);
     }
     bare(alloc, reader, start)
-}
-
-/// Whether the alphas behind the `!` here, if any, end in `!`.
-fn has_handle(reader: &Reader) -> bool
-    requires { byte reader.now.text reader.now.at ≡ 33 }
-    ensures { result ≡ (byte reader.now.text (spec.name_end reader.now.text reader.now.at) == 33) }
-{
-    let end = alphas_end(reader.text(), reader.place() + 1);
-    reader.text().get(end).copied().unwrap_or(0) == b'!'
 }
 
 /// The tag `!<uri>` that stands here.
@@ -90,17 +82,22 @@ fn verbatim(alloc: Global, reader: &mut Reader, start: yaml_mark_t) -> Result<Ta
     })
 }
 
-/// The tag with a handle `!alphas!` that stands here.
-fn named(alloc: Global, reader: &mut Reader, start: yaml_mark_t) -> Result<TagParts, ScanError>
+/// The tag with a handle `!alphas!` that stands here; the alphas end at that place.
+fn named(
+    alloc: Global,
+    reader: &mut Reader,
+    end: usize,
+    start: yaml_mark_t,
+) -> Result<TagParts, ScanError>
     requires mark { byte reader.old.text reader.old.at ≡ 33 }
-    requires handle { byte reader.old.text (spec.name_end reader.old.text reader.old.at) ≡ 33 }
+    requires name { end ≡ spec.name_end reader.old.text reader.old.at }
+    requires handle { byte reader.old.text end ≡ 33 }
     ensures { Gives IsParts spec.tag_end reader.old.text start reader.new result (spec.named_at reader.old.text reader.old.at) }
 {
     let from = reader.place();
+    leap(reader, end);
     skip_sign(reader);
-    skip_alphas(reader);
-    skip_sign(reader);
-    let handle = copied(alloc, reader.text(), from, reader.place())?;
+    let handle = Vec::from_slice(alloc, reader.since(from))?;
     let suffix = some_uri(alloc, reader, Context::TagUri, false, start)?;
     Ok(TagParts { handle, suffix })
 }

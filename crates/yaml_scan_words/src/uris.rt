@@ -1,13 +1,13 @@
 //! The URIs of tags and prefixes, with their escapes.
 
-ghost use Rattle.std.specs.Prelude.{◌≡◌, ◌+◌, ◌≤◌, ◌<◌, true, ℕ, length, IfSome, IsSome};
+ghost use Rattle.std.specs.Prelude.{◌≡◌, ◌+◌, ◌≤◌, ◌<◌, true, false, ℕ, length, IfSome, IsSome};
 ghost use Rattle.yaml_scan_text.specs.Marks.{byte};
 ghost use Rattle.yaml_scan_words.specs.Uris as spec;
 ghost use Rattle.yaml_scan_words.specs.Gives.{Gives, IsBytes, behind_bytes};
 ghost use Rattle.yaml_scan_words.specs.Spelt.{spot_of};
 ghost use Rattle.yaml_scan_words.specs.Written.{is_kept};
 
-use crate::run::{is_alpha, leap, skip_sign};
+use crate::run::{is_kept, leap, skip_sign};
 use crate::word::refusal;
 use std::alloc::Global;
 use yaml_scan_text::{Context, Problem, Reader, ScanError, yaml_mark_t};
@@ -20,6 +20,7 @@ pub(crate) struct Spelling {
 }
 
 /// The bytes that the URI spells which stands here, one at least. Where it is wide, `,`, `[` and `]` belong to it.
+#[inline(always)]
 pub(crate) fn some_uri(
     alloc: Global,
     reader: &mut Reader,
@@ -37,6 +38,7 @@ pub(crate) fn some_uri(
 }
 
 /// The bytes that the URI spells which stands here, none where no URI does.
+#[inline(always)]
 pub(crate) fn uri(
     alloc: Global,
     reader: &mut Reader,
@@ -48,7 +50,25 @@ pub(crate) fn uri(
 {
     let from = reader.place();
     leap(reader, kept_end(reader.text(), from, wide));
-    let mut bytes = Vec::from_slice(alloc, reader.since(from))?;
+    let bytes = Vec::from_slice(alloc, reader.since(from))?;
+    if reader.here() != b'%' {
+        return Ok(bytes);
+    }
+    escaped(reader, bytes, context, wide, start)
+}
+
+/// The bytes that were read of a URI, and those that the rest of it spells, which stands here.
+#[inline(never)]
+fn escaped(
+    reader: &mut Reader,
+    read: Vec<u8>,
+    context: Context,
+    wide: bool,
+    start: yaml_mark_t,
+) -> Result<Vec<u8>, ScanError>
+    ensures { Gives IsBytes behind_bytes reader.old.text start reader.new result (spec.with_bytes read.items (spec.uri_at context wide reader.old.text reader.old.at)) }
+{
+    let mut bytes = read;
     let mut due = 0;
     'bytes: loop {
         match next_byte(reader, wide, due) {
@@ -161,6 +181,7 @@ fn due_behind(octet: u8, due: usize) -> Result<usize, Problem>
 fn kept_end(text: &[u8], from: usize, wide: bool) -> usize
     ensures forward { from ≤ result }
     ensures kept { (k : ℕ) → from ≤ k → k < result → spec.is_uri wide text.now k ≡ true }
+    ensures stop { spec.is_uri wide text.now result ≡ false }
 {
     let mut end = from;
     'bytes: while kept_at(text, end, wide) {
@@ -174,31 +195,5 @@ fn kept_end(text: &[u8], from: usize, wide: bool) -> usize
 fn kept_at(text: &[u8], place: usize, wide: bool) -> bool
     ensures { result ≡ spec.is_uri wide text.now place }
 {
-    is_kept(text.get(place).copied().unwrap_or(0), wide)
-}
-
-/// Whether a URI holds the character as it is.
-#[inline(always)]
-fn is_kept(byte: u8, wide: bool) -> bool
-    ensures { result ≡ is_kept wide byte }
-{
-    is_alpha(byte) || (is_sign(byte) || wide && is_wide_sign(byte))
-}
-
-#[tactic(auto, unfolding(crate::specs::Uris::is_sign))]
-fn is_sign(byte: u8) -> bool
-    ensures { result ≡ spec.is_sign byte }
-{
-    match byte {
-        b';' | b'/' | b'?' | b':' | b'@' | b'&' | b'=' | b'+' => true,
-        b'$' | b'.' | b'!' | b'~' | b'*' | b'\'' | b'(' | b')' => true,
-        _ => false,
-    }
-}
-
-#[tactic(auto, unfolding(crate::specs::Uris::is_wide_sign))]
-fn is_wide_sign(byte: u8) -> bool
-    ensures { result ≡ spec.is_wide_sign byte }
-{
-    byte == b',' || (byte == b'[' || byte == b']')
+    place < text.len() && is_kept(text[place], wide)
 }

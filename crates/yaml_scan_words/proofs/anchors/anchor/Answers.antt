@@ -1,28 +1,40 @@
-use Rattle.std.proofs.Common.{◌≡◌, ◌<◌, length, ◌+◌, arith, inl, inr}
+use Rattle.std.proofs.Common.{◌≤◌, ◌<◌, length, ◌+◌, arith, inl, inr}
 use Rattle.yaml_scan_text.specs.Marks.{byte}
 use Rattle.yaml_scan_text.proofs.MarksLemmas.{within}
 use Rattle.yaml_scan_words.specs.declared.run.Run.TheVariants as runs
-use Rattle.yaml_scan_words.specs.Runs.{run_end}
 use Rattle.yaml_scan_words.proofs.RunsLemmas.{run_within-ge, run_within-le}
+use Rattle.yaml_scan_words.proofs.SignsLemmas.{name_signs}
 use Rattle.yaml_scan_words.proofs.anchors.anchor.Goals as goal
 
-pub skip_sign-requires-clause-low : goal.skip_sign-requires-clause-low
-skip_sign-requires-clause-low c = elim c.requires [ inl e ↦ omega arith | inr e ↦ omega arith ]
+pub overflow_add-from : goal.overflow_add-from
+overflow_add-from c =
+    let ge = run_within-ge (length c.args.reader.now.text) runs.Alphas c.args.reader.now.text (c.args.reader.now.at + 1) in
+    let to : c.args.reader.now.at + 1 ≤ c.name_end-to.result = rw c.name_end-to.ensures ge in
+    omega arith
 
-pub skip_sign-requires-clause-high : goal.skip_sign-requires-clause-high
-skip_sign-requires-clause-high c = elim c.requires [ inl e ↦ omega arith | inr e ↦ omega arith ]
+pub leap-requires-clause-forward : goal.leap-requires-clause-forward
+leap-requires-clause-forward c =
+    let ge = run_within-ge (length c.args.reader.now.text) runs.Alphas c.args.reader.now.text (c.args.reader.now.at + 1) in
+    rw c.name_end-to.ensures (omega arith)
+
+pub leap-requires-clause-low : goal.leap-requires-clause-low
+leap-requires-clause-low c =
+    let sign : (32 < byte c.args.reader.now.text c.args.reader.now.at) × (byte c.args.reader.now.text c.args.reader.now.at < 127) = elim c.requires [ inl e ↦ (omega arith, omega arith) | inr e ↦ (omega arith, omega arith) ] in
+    rw c.name_end-to.ensures (λ k after before. (name_signs c.args.reader.now.text c.args.reader.now.at k sign after before).0)
+
+pub leap-requires-clause-high : goal.leap-requires-clause-high
+leap-requires-clause-high c =
+    let sign : (32 < byte c.args.reader.now.text c.args.reader.now.at) × (byte c.args.reader.now.text c.args.reader.now.at < 127) = elim c.requires [ inl e ↦ (omega arith, omega arith) | inr e ↦ (omega arith, omega arith) ] in
+    rw c.name_end-to.ensures (λ k after before. (name_signs c.args.reader.now.text c.args.reader.now.at k sign after before).1)
 
 pub copied-requires-clause-forward : goal.copied-requires-clause-forward
 copied-requires-clause-forward c =
     let ge = run_within-ge (length c.args.reader.now.text) runs.Alphas c.args.reader.now.text (c.args.reader.now.at + 1) in
-    let from : c.place-from.result ≡ c.args.reader.now.at + 1 = rw c.skip_sign.ensures at c.place-from.ensures in
-    let to : c.place-to.result ≡ run_end runs.Alphas c.args.reader.now.text (c.args.reader.now.at + 1) = rw (c.skip_alphas.ensures, c.skip_sign.ensures) at c.place-to.ensures in
-    rw (from, to) ge
+    rw (c.place-from.ensures, c.name_end-to.ensures) ge
 
 pub copied-requires-clause-inside : goal.copied-requires-clause-inside
 copied-requires-clause-inside c =
     let some : 0 < byte c.args.reader.now.text c.args.reader.now.at = elim c.requires [ inl e ↦ omega arith | inr e ↦ omega arith ] in
     let inside = within c.args.reader.now.text c.args.reader.now.at some in
     let le = run_within-le (length c.args.reader.now.text) runs.Alphas c.args.reader.now.text (c.args.reader.now.at + 1) (omega arith) in
-    let to : c.place-to.result ≡ run_end runs.Alphas c.args.reader.now.text (c.args.reader.now.at + 1) = rw (c.skip_alphas.ensures, c.skip_sign.ensures) at c.place-to.ensures in
-    rw (to, c.text.ensures, c.skip_alphas.ensures, c.skip_sign.ensures) le
+    rw (c.name_end-to.ensures, c.text.ensures, c.leap.ensures) le

@@ -24,3 +24,6 @@ bytes-preserved c = record {
   forward = omega (arith, c.bytes.invariant.forward);
   kept = kept_more c.args.wide c.args.text.now c.args.from c.bytes.end c.bytes.invariant.kept (sym c.kept_at.ensures ∙ c.bytes-test.true);
 }
+
+pub returns-clause-stop : goal.returns-clause-stop
+returns-clause-stop c = sym c.kept_at.ensures ∙ c.bytes-test.false

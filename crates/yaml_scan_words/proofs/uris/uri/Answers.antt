@@ -1,6 +1,8 @@
-use Rattle.std.proofs.Common.{◌≡◌, ◌≤◌, ◌<◌, ℕ, true, ◌∙◌, refl, arith}
-use Rattle.yaml_scan_words.specs.Uris.{is_uri, spot_at, Spells, Ends, Faulty}
-use Rattle.yaml_scan_words.proofs.UrisLemmas.{uri_range, uri_behind, uri_more, uri_done, uri_bad}
+use Rattle.std.proofs.Common.{◌≡◌, ◌≤◌, ◌<◌, ℕ, true, false, slice_range, refl}
+use Rattle.yaml_scan_words.specs.Uris.{is_uri, uri_at, with_bytes}
+use Rattle.yaml_scan_words.proofs.UrisLemmas.{uri_range, uri_behind, uri_plain}
+use Rattle.yaml_scan_text.specs.Marks.{byte}
+use Rattle.yaml_scan_words.specs.Gives.{Gives, IsBytes, behind_bytes}
 use Rattle.yaml_scan_words.proofs.uris.uri.Goals as goal
 
 pub leap-requires-clause-forward : goal.leap-requires-clause-forward
@@ -19,37 +21,18 @@ leap-requires-clause-high c =
 pub since-requires : goal.since-requires
 since-requires c = rw c.leap.ensures c.kept_end.ensures.forward
 
-pub bytes-init : goal.bytes-init
-bytes-init c =
+pub returns-then-here-ne37 : goal.returns-then-here-ne37
+returns-then-here-ne37 c =
     let forward : c.args.reader.now.at ≤ c.kept_end.result = rw c.place-from.ensures at c.kept_end.ensures.forward in
     let kept : (k : ℕ) → c.args.reader.now.at ≤ k → k < c.kept_end.result → is_uri c.args.wide c.args.reader.now.text k ≡ true = rw (c.place-from.ensures, c.text.ensures) at c.kept_end.ensures.kept in
-    let (m, room, same) = uri_behind c.args.context c.args.wide c.args.reader.now.text c.args.reader.now.at c.kept_end.result forward kept in
-    rw (c.in_ok-bytes.ensures.items, c.since.ensures, c.leap.ensures, c.place-from.ensures) record { text = refl; rest = (m, room, same) }
+    let stop : is_uri c.args.wide c.args.reader.now.text c.kept_end.result ≡ false = rw c.text.ensures at c.kept_end.ensures.stop in
+    let here : c.here.result ≡ byte c.args.reader.now.text c.kept_end.result = rw c.leap.ensures at c.here.ensures in
+    let mark : byte c.args.reader.now.text c.kept_end.result ≡ 37 → ⊥ = rw here at c.if-here-ne37.true in
+    rw (uri_plain c.args.context c.args.wide c.args.reader.now.text c.args.reader.now.at c.kept_end.result forward kept mark stop, c.in_ok-bytes.ensures.items, c.since.ensures, c.leap.ensures, c.place-from.ensures) (refl, refl)
 
-pub bytes-smaller : goal.bytes-smaller
-bytes-smaller c =
-    let s : spot_at c.args.wide c.bytes.due c.args.reader.now.text c.bytes.reader.at ≡ Spells c.in-Ok-Some.next.byte c.in-Ok-Some.next.due c.next_byte.new.reader.at = rw (c.bytes.invariant.text, c.in-Ok-Some.field-0-is) at c.in-Ok-Some.ensures.spot in
-    let (n, room, same) = c.bytes.invariant.rest in
-    let (m, more, far, inside, rest) = uri_more n c.args.context c.args.wide c.bytes.due c.args.reader.now.text c.bytes.reader.at c.bytes.bytes.items c.in-Ok-Some.next.byte c.in-Ok-Some.next.due c.next_byte.new.reader.at s room in
-    omega arith
-
-pub bytes-preserved : goal.bytes-preserved
-bytes-preserved c =
-    let s : spot_at c.args.wide c.bytes.due c.args.reader.now.text c.bytes.reader.at ≡ Spells c.in-Ok-Some.next.byte c.in-Ok-Some.next.due c.next_byte.new.reader.at = rw (c.bytes.invariant.text, c.in-Ok-Some.field-0-is) at c.in-Ok-Some.ensures.spot in
-    let (n, room, same) = c.bytes.invariant.rest in
-    let (m, more, far, inside, rest) = uri_more n c.args.context c.args.wide c.bytes.due c.args.reader.now.text c.bytes.reader.at c.bytes.bytes.items c.in-Ok-Some.next.byte c.in-Ok-Some.next.due c.next_byte.new.reader.at s room in
-    rw c.in_ok-push-in-Ok-Some.ensures.items record { text = c.in-Ok-Some.ensures.text ∙ c.bytes.invariant.text; rest = (m, more, same ∙ rest) }
-
-pub returns-in-Ok-None : goal.returns-in-Ok-None
-returns-in-Ok-None c =
-    let s : spot_at c.args.wide c.bytes.due c.args.reader.now.text c.bytes.reader.at ≡ Ends c.next_byte.new.reader.at = rw (c.bytes.invariant.text, c.in-Ok-None.field-0-is) at c.in-Ok-None.ensures.spot in
-    let (n, room, same) = c.bytes.invariant.rest in
-    let t = c.in-Ok-None.ensures.text ∙ c.bytes.invariant.text in
-    rw (same, uri_done n c.args.context c.args.wide c.bytes.due c.args.reader.now.text c.bytes.reader.at c.bytes.bytes.items c.next_byte.new.reader.at s) (refl, rw (← t) refl)
-
-pub returns-in-Err : goal.returns-in-Err
-returns-in-Err c =
-    let s : spot_at c.args.wide c.bytes.due c.args.reader.now.text c.bytes.reader.at ≡ Faulty c.in-Err.problem c.next_byte.new.reader.at = rw c.bytes.invariant.text at c.in-Err.ensures.spot in
-    let (n, room, same) = c.bytes.invariant.rest in
-    let t = c.in-Err.ensures.text ∙ c.bytes.invariant.text in
-    rw (same, uri_bad n c.args.context c.args.wide c.bytes.due c.args.reader.now.text c.bytes.reader.at c.bytes.bytes.items c.in-Err.problem c.next_byte.new.reader.at s, c.refusal.ensures, t) refl
+pub returns : goal.returns
+returns c =
+    let forward : c.args.reader.now.at ≤ c.kept_end.result = rw c.place-from.ensures at c.kept_end.ensures.forward in
+    let kept : (k : ℕ) → c.args.reader.now.at ≤ k → k < c.kept_end.result → is_uri c.args.wide c.args.reader.now.text k ≡ true = rw (c.place-from.ensures, c.text.ensures) at c.kept_end.ensures.kept in
+    let told : Gives IsBytes behind_bytes c.args.reader.now.text c.args.start c.escaped.new.reader c.escaped.result (with_bytes (slice_range c.args.reader.now.text c.args.reader.now.at c.kept_end.result) (uri_at c.args.context c.args.wide c.args.reader.now.text c.kept_end.result)) = rw (c.in_ok-bytes.ensures.items, c.since.ensures, c.leap.ensures, c.place-from.ensures) at c.escaped.ensures in
+    rw (uri_behind c.args.context c.args.wide c.args.reader.now.text c.args.reader.now.at c.kept_end.result forward kept) told

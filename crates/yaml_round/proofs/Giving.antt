@@ -1,5 +1,5 @@
 -- An event that is given: the text is the same.
-use Rattle.std.proofs.Common.{◌≡◌, ◌∙◌, ap, sym, subst, ℕ, List, ◌∷◌, Bool, true, false, Option}
+use Rattle.std.proofs.Common.{◌≡◌, ◌∙◌, ap, sym, subst, ℕ, List, Bool, true, false, Option}
 use Rattle.yaml_scan.specs.declared.yaml_scalar_style_t.{yaml_scalar_style_t}
 use Rattle.yaml_parse.specs.Coming.{Coming}
 use Rattle.yaml_parse.specs.Resolve.{Told}
@@ -31,18 +31,15 @@ even_utf8 ends event.sequence_end h = h
 even_utf8 ends (event.mapping_start a t i s) h = h
 even_utf8 ends event.mapping_end h = h
 
-pub gives : (ends : Bool) (first old new : Emitter) (all : List Told) (before after : Coming) (v e : Event)
-    → Leads ends first all old before.events → GivesFront v before after → e ≡ record v { body = even_body ends v.body }
-    → Given old (said e.body) new → Leads ends first all new after.events
-gives ends first old new all before after v e l f is g =
-    let body : e.body ≡ even_body ends v.body = ap (λ (z : Event). z.body) is in
-    record {
-      completes = λ x whole c.
-          let P : List Told → Type 0 = λ es. Completes old x (said_all ends es) whole in
-          let Q : EventBody → Type 0 = λ b. Completes old x (said b ∷ said_all ends after.events) whole in
-          g.completes x (said_all ends after.events) whole (subst Q (sym body) (subst P f.events (l.completes x whole c)));
-      limit = g.limit ∙ l.limit;
-    }
+pub gives : (ends : Bool) (first old new : Emitter) (all : List Told) (before after : Coming) (v : Event)
+    → Leads ends first all old before.events → GivesFront v before after
+    → Given old (said (even_body ends v.body)) new → Leads ends first all new after.events
+gives ends first old new all before after v l f g = record {
+  completes = λ x whole c.
+      let P : List Told → Type 0 = λ es. Completes old x (said_all ends es) whole in
+      g.completes x (said_all ends after.events) whole (subst P f.events (l.completes x whole c));
+  limit = g.limit ∙ l.limit;
+}
 
 -- the same of events
 pub evened_utf8 : (ends : Bool) (v e : Event) → e ≡ record v { body = even_body ends v.body } → HasUtf8 v.body → HasUtf8 e.body

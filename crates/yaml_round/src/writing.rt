@@ -6,6 +6,7 @@ ghost use Rattle.yaml_parse.specs.Events.{event_of};
 ghost use Rattle.yaml_parse.specs.Constructors.{HasUtf8};
 ghost use Rattle.yaml_emit.specs.Content.{said};
 ghost use Rattle.yaml_emit.specs.Emitter.{Given, IsLimited};
+ghost use Rattle.yaml_round.specs.Even.{even_body};
 ghost use Rattle.yaml_round.specs.Reading.{AreReal};
 ghost use Rattle.yaml_round.specs.Writing.{IsUnder, wishes_under, encoding_under, Writes, WritesAll, Finishes};
 
@@ -56,19 +57,22 @@ pub(crate) fn emitter_under(
     Ok(emitter)
 }
 
-// Gives an event. The emitter keeps its first fault.
-fn give(emitter: &mut yaml_emitter_t, event: yaml_event_t)
-    requires { HasUtf8 (event_of event).body }
-    ensures { Given emitter.old (said (event_of event).body) emitter.new }
+// Gives the event in the slot, where the empty one is left. The emitter keeps its first fault.
+fn give(emitter: &mut yaml_emitter_t, event: &mut yaml_event_t)
+    requires { HasUtf8 (event_of event.old).body }
+    ensures { Given emitter.old (said (event_of event.old).body) emitter.new }
 {
-    let _ = yaml_emitter_emit(emitter, event);
+    let empty = yaml_event_t::unplaced(yaml_event_body_t::No);
+    let _ = yaml_emitter_emit(emitter, mem::replace(event, empty));
 }
 
-// The event, in whose slot the empty one is left.
-fn taken(event: &mut yaml_event_t) -> yaml_event_t
-    ensures { event_of result ≡ event_of event.old }
+// Gives the event in the slot, evened.
+fn give_evened(emitter: &mut yaml_emitter_t, event: &mut yaml_event_t, canonical: bool)
+    requires { HasUtf8 (event_of event.old).body }
+    ensures { Given emitter.old (said (even_body canonical (event_of event.old).body)) emitter.new }
 {
-    mem::replace(event, yaml_event_t::unplaced(yaml_event_body_t::No))
+    even(event, canonical);
+    give(emitter, event);
 }
 
 // Writes the events while the text has at most so many bytes. Each stands in the slot before it is given, and so does the
@@ -91,10 +95,7 @@ fn write_up_to_by<S: yaml_token_source_t>(
         match next_into(reading, event, fault) {
             yaml_found_t::Refused => return Err(*fault),
             yaml_found_t::End => return Ok(true),
-            yaml_found_t::Event => {
-                even(event, canonical);
-                give(emitter, taken(event));
-            }
+            yaml_found_t::Event => give_evened(emitter, event, canonical),
         }
     }
 }
@@ -133,10 +134,7 @@ fn write_rest_by<S: yaml_token_source_t>(
         match next_into(reading, event, fault) {
             yaml_found_t::Refused => return Err(*fault),
             yaml_found_t::End => return Ok(()),
-            yaml_found_t::Event => {
-                even(event, canonical);
-                give(emitter, taken(event));
-            }
+            yaml_found_t::Event => give_evened(emitter, event, canonical),
         }
     }
 }

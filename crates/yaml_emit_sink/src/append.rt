@@ -10,6 +10,28 @@ use crate::cursor::{Cursor, Status};
 use crate::settings::Encoding;
 use std::alloc::AllocError;
 
+// The most bytes that are pushed one by one: a call would take longer.
+const FEW: usize = 8;
+
+// These bytes, where nothing has to grow.
+#[inline(always)]
+fn push_each(output: &mut Vec<u8>, bytes: &[u8])
+    requires { vec_len output.old + length bytes.now ≤ vec_capacity output.old }
+    ensures { output.new.items ≡ output.old.items ++ bytes.now }
+{
+    for byte in bytes {
+        output.push_reserved(*byte);
+    }
+}
+
+// Whether these bytes are few, and nothing has to grow for them.
+#[inline(always)]
+fn are_few(output: &Vec<u8>, bytes: &[u8]) -> bool
+    ensures { result ≡ true → vec_len output.now + length bytes.now ≤ vec_capacity output.now }
+{
+    bytes.len() <= FEW && bytes.len() <= output.capacity().saturating_sub(output.len())
+}
+
 // These bytes, for which the limit has room, as far as the memory allows, and what becomes of the output.
 pub(crate) fn append_within(output: &mut Vec<u8>, limit: u64, bytes: &[u8]) -> Status
     requires { length output.old.items + length bytes.now ≤ limit }
@@ -19,6 +41,10 @@ pub(crate) fn append_within(output: &mut Vec<u8>, limit: u64, bytes: &[u8]) -> S
     ensures going { result ≡ Status.Going → length output.new.items ≡ length output.old.items + length bytes.now }
 {
     let _ = limit;
+    if are_few(output, bytes) {
+        push_each(output, bytes);
+        return Status::Going;
+    }
     match output.extend_from_slice(bytes) {
         Ok(_) => Status::Going,
         Err(_) => Status::Starved,

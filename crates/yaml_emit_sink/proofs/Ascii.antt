@@ -1,5 +1,5 @@
 -- ASCII at the end of the output.
-use Rattle.std.proofs.Common.{◌≡◌, ℕ, ◌+◌, ◌<◌, List, [], ◌∷◌, ◌++◌, length, true, false, refl, sym, ◌∙◌, ap, arith}
+use Rattle.std.proofs.Common.{◌≡◌, ℕ, ◌+◌, ◌<◌, List, [], ◌∷◌, ◌++◌, length, length-append, true, false, refl, sym, subst, ◌∙◌, ap, arith}
 use Rattle.std.specs.Prelude.{◌==◌}
 use Rattle.std.specs.Str.{IsAscii}
 use Rattle.std.proofs.lemmas.Bool.Decides.{nat_tests}
@@ -9,13 +9,14 @@ use Rattle.std.specs.Char.{is_ascii}
 use Rattle.std.specs.List.{list_all}
 use Rattle.std.proofs.lemmas.List.Sums.{AllPass-from_list_all}
 use Rattle.yaml_emit_sink.specs.declared.cursor.Cursor.{Cursor}
+use Rattle.yaml_emit_sink.specs.declared.cursor.Status.{Status}
 use Rattle.yaml_emit_sink.specs.declared.cursor.Status.TheVariants.{Going}
 use Rattle.yaml_emit_sink.specs.declared.settings.Encoding.TheVariants.{Utf8}
-use Rattle.yaml_emit_sink.specs.Text.{encode, char_bytes, is_deep}
+use Rattle.yaml_emit_sink.specs.Text.{letter, encode, char_bytes, is_deep}
 use Rattle.yaml_emit_sink.specs.Layout.{Rest, letters}
 use Rattle.yaml_emit_sink.specs.Appends.{AppendsBy, lettered}
 use Rattle.yaml_emit_sink.specs.Sink.{Output, Puts}
-use Rattle.yaml_emit_sink.proofs.Sinks.{puts_run, puts_nothing}
+use Rattle.yaml_emit_sink.proofs.Sinks.{puts_run, puts_stroke, puts_nothing}
 
 -- the cursor behind characters
 behind : List ℕ → Cursor → Cursor
@@ -58,6 +59,14 @@ puts_ascii a b [] s p g x e l h k = absurd (omega (arith, p))
 puts_ascii a b (y ∷ ys) s p g x e l h k =
     puts_run a b (letters (y ∷ ys)) (y ∷ ys) (behind (y ∷ ys)) g e l (λ rest. rw x (letters_encode (y ∷ ys) a.cursor rest s)) (λ rest. letters_deep (y ∷ ys) a.cursor rest) h
     (λ going. k going ∙ sym (behind_is y ys a.cursor))
+
+-- a character of one byte was appended
+pub puts_byte : (a b : Output) (x : ℕ) (n : Cursor → Cursor) → a.status ≡ Going → a.encoding ≡ Utf8 → x < 0x80 → length a.bytes < a.limit → b.bytes ≡ a.bytes ++ x ∷ []
+    → b.status ≡ a.status → b.encoding ≡ a.encoding → b.limit ≡ a.limit → b.cursor ≡ n a.cursor → Puts a b (λ c rest. letter x ∷ rest (n c))
+puts_byte a b x n g u s r o t e l k =
+    let P : Status → Type 0 = λ z. AppendsBy z a.limit a.bytes b.bytes (char_bytes a.encoding x) in
+    let byte : char_bytes a.encoding x ≡ x ∷ [] = rw u (one_byte x s) in
+    puts_stroke a b x n g e l (subst P (sym (t ∙ g)) (o ∙ ap (λ y. a.bytes ++ y) (sym byte), rw o (omega (arith, r, length-append a.bytes (x ∷ []))))) (λ _. k)
 
 pub no_letters : (a : Output) (xs : List ℕ) → (length xs == 0) ≡ true → Puts a a (letters xs)
 unfolding letters

@@ -1,3 +1,4 @@
+pub mod Pushes
 pub mod Sinks
 mod Encodes
 mod Ascii

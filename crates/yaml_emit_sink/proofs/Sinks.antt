@@ -24,13 +24,13 @@ unfolding Ends
 ends_other a t u whole n h = ends_stopped a.status a.limit a.encoding a.bytes t u whole n h
 
 pub puts_nothing : (a : Output) → Puts a a stay
-puts_nothing a = record { ends = λ rest whole h. h; encoding = refl; limit = refl; going = λ g. g }
+puts_nothing a = record { ends = λ rest whole h. h; encoding = refl; limit = refl; going = λ g. g; stays = λ n. refl }
 
 pub owes_same : (a : Output) (x : Layout) → Owes a a x x
-owes_same a x = record { ends = λ rest whole h. h; encoding = refl; limit = refl; going = λ g. g }
+owes_same a x = record { ends = λ rest whole h. h; encoding = refl; limit = refl; going = λ g. g; stays = λ n. refl }
 
 pub puts_stopped : (a : Output) (x : Layout) → a.status ≢ Going → Puts a a x
-puts_stopped a x n = record { ends = λ rest whole h. ends_other a _ _ whole n h; encoding = refl; limit = refl; going = λ g. g }
+puts_stopped a x n = record { ends = λ rest whole h. ends_other a _ _ whole n h; encoding = refl; limit = refl; going = λ g. g; stays = λ n. refl }
 
 -- some of what is owed is written
 pub owes_more : (a b c : Output) (x y z : Layout) → Owes a b x (y ▹ z) → Puts b c y → Owes a c x z
@@ -39,6 +39,7 @@ owes_more a b c x y z p q = record {
   encoding = q.encoding ∙ p.encoding;
   limit = q.limit ∙ p.limit;
   going = λ g. p.going (q.going g);
+  stays = λ n. q.stays (λ g. n (p.going g)) ∙ p.stays n;
 }
 
 -- one behind the other
@@ -48,6 +49,7 @@ puts_both a b c x y p q = record {
   encoding = q.encoding ∙ p.encoding;
   limit = q.limit ∙ p.limit;
   going = λ g. p.going (q.going g);
+  stays = λ n. q.stays (λ g. n (p.going g)) ∙ p.stays n;
 }
 
 -- a layout that is another at the cursor
@@ -57,6 +59,7 @@ puts_as a b x y e p = record {
   encoding = p.encoding;
   limit = p.limit;
   going = p.going;
+  stays = p.stays;
 }
 
 -- the cursor alone is moved
@@ -67,6 +70,7 @@ puts_moved a b f o s e l k = record {
   encoding = e;
   limit = l;
   going = λ g. sym s ∙ g;
+  stays = λ _. s;
 }
 
 pub cond_true : {A : Type 0} (b : Bool) (x y : A) → b ≡ true → cond b x y ≡ x
@@ -126,6 +130,7 @@ puts_stroke a b x n g e l h k = record {
   encoding = e;
   limit = l;
   going = λ _. g;
+  stays = λ n. absurd (n g);
 }
 
 -- a layout of those bytes was appended
@@ -142,6 +147,7 @@ puts_run a b y bytes n g e l u d h k = record {
   encoding = e;
   limit = l;
   going = λ _. g;
+  stays = λ n. absurd (n g);
 }
 
 -- the cursor behind a space and then some
@@ -231,7 +237,8 @@ puts_starved a b t o s g e l = record {
   ends = λ rest whole h. rw (o, s, e) (front_of a.status a.limit a.encoding a.bytes _ whole h);
   encoding = e;
   limit = l;
-  going = λ g. absurd (cc (sym s ∙ g));
+  going = λ x. absurd (cc (sym s ∙ x));
+  stays = λ n. absurd (n g);
 }
 
 deep_front : (status : Status) (limit : ℕ) (x : Encoding) (output : List ℕ) (text whole : List Item) → status ≡ Going → EndsBy status limit x output (deep ∷ text) whole → (is_deep whole ≡ true) × ((rest : List ℕ) × (encode x whole ≡ output ++ rest))
@@ -247,5 +254,6 @@ puts_deep a b o s g e l = record {
   ends = λ rest whole h. rw (o, s, e) (deep_front a.status a.limit a.encoding a.bytes _ whole g h);
   encoding = e;
   limit = l;
-  going = λ g. absurd (cc (sym s ∙ g));
+  going = λ x. absurd (cc (sym s ∙ x));
+  stays = λ n. absurd (n g);
 }

@@ -1,10 +1,11 @@
 -- What an output has of a text, and what is still to come of it.
-use Rattle.std.specs.Prelude.{◌≡◌, ℕ, ◌<◌, ◌≤◌, Bool, true, List, ◌∷◌, ◌++◌, length, take}
+use Rattle.std.specs.Prelude.{◌≡◌, ◌≢◌, ℕ, ◌<◌, ◌≤◌, Bool, true, List, ◌∷◌, ◌++◌, length, take}
 use Rattle.yaml_emit_sink.specs.declared.cursor.Cursor.{Cursor}
 use Rattle.yaml_emit_sink.specs.declared.sink.Sink.TheInside.{Inside}
 use Rattle.yaml_emit_sink.specs.declared.cursor.Status.{Status}
 use Rattle.yaml_emit_sink.specs.declared.cursor.Status.TheVariants.{Going, Full, Deep, Starved}
 use Rattle.yaml_emit_sink.specs.declared.settings.Encoding.{Encoding}
+use Rattle.yaml_emit_sink.specs.declared.settings.Encoding.TheVariants.{Utf8}
 use Rattle.yaml_emit_sink.specs.Text.{Item, letter, encode, is_deep}
 use Rattle.yaml_emit_sink.specs.Appends.{moved}
 use Rattle.yaml_emit_sink.specs.Layout.{Layout, Rest, stay}
@@ -20,10 +21,11 @@ pub record Output : Type 0 where
 abbrev pub output_of : Inside → Output
 output_of s = record { bytes = s.output.items; limit = s.limit; encoding = s.encoding; status = s.status; cursor = s.cursor }
 
--- no more bytes than the limit, and no more columns than bytes
+-- no more bytes than the limit, and no more columns than bytes; within its reach an output goes on, and a character in ASCII is a byte
 pub record IsSink (s : Inside) : Type 0 where
   pub within : length s.output.items ≤ s.limit
   pub narrow : s.cursor.column ≤ length s.output.items
+  pub reach : 0 < s.reach → (s.reach ≤ s.limit) × ((s.status ≡ Going) × (s.encoding ≡ Utf8))
 
 -- With `text` to come, the whole is `whole`: all in front of it is written, and none of that is too deep; or the first bytes up
 -- to the limit are; or some first bytes, since the whole is too deep somewhere, or since memory was refused.
@@ -36,12 +38,13 @@ EndsBy Starved limit x output text whole = (rest : List ℕ) × (encode x whole 
 unfoldable pub Ends : Output → List Item → List Item → Type 0
 Ends s text whole = EndsBy s.status s.limit s.encoding s.bytes text whole
 
--- The output owed one layout and owes another: whatever follows, it ends the same.
+-- The output owed one layout and owes another: whatever follows, it ends the same. What has stopped stays so, for the same reason.
 pub record Owes (old new : Output) (before after : Layout) : Type 0 where
   pub ends : (rest : Rest) (whole : List Item) → Ends old (before old.cursor rest) whole → Ends new (after new.cursor rest) whole
   pub encoding : new.encoding ≡ old.encoding
   pub limit : new.limit ≡ old.limit
   pub going : new.status ≡ Going → old.status ≡ Going
+  pub stays : old.status ≢ Going → new.status ≡ old.status
 
 -- a layout was written
 abbrev pub Puts : Output → Output → Layout → Type 0

@@ -1,6 +1,7 @@
 //! Bytes at the end of the output.
 
-ghost use Rattle.std.specs.Prelude.{◌≡◌, ◌≢◌, ◌<◌, ◌≤◌, ◌+◌, ◌^◌, [], ◌∷◌, ◌++◌, length, replicate, if◌then◌else◌, IfSome, OnOk, OnErr};
+ghost use Rattle.std.specs.Prelude.{◌≡◌, ◌≢◌, ◌<◌, ◌≤◌, ◌+◌, ◌^◌, [], ◌∷◌, ◌++◌, length, replicate, if◌then◌else◌, IfSome, OnOk, OnErr, true};
+ghost use Rattle.std.specs.Vec.{vec_len, vec_capacity};
 ghost use Rattle.yaml_emit_sink.specs.Appends.{AppendsBy, moved, indented, blanked, lettered};
 ghost use Rattle.yaml_emit_sink.specs.Text.{char_bytes};
 
@@ -8,6 +9,47 @@ use crate::bytes::bytes_of;
 use crate::cursor::{Cursor, Status};
 use crate::settings::Encoding;
 use std::alloc::AllocError;
+
+// The most bytes that are pushed one by one: a call would take longer.
+const FEW: usize = 8;
+
+// These bytes, where nothing has to grow.
+#[inline(always)]
+fn push_each(output: &mut Vec<u8>, bytes: &[u8])
+    requires { vec_len output.old + length bytes.now ≤ vec_capacity output.old }
+    ensures { output.new.items ≡ output.old.items ++ bytes.now }
+{
+    for byte in bytes {
+        output.push_reserved(*byte);
+    }
+}
+
+// Whether these bytes are few, and nothing has to grow for them.
+#[inline(always)]
+fn are_few(output: &Vec<u8>, bytes: &[u8]) -> bool
+    ensures { result ≡ true → vec_len output.now + length bytes.now ≤ vec_capacity output.now }
+{
+    bytes.len() <= FEW && bytes.len() <= output.capacity().saturating_sub(output.len())
+}
+
+// These bytes, for which the limit has room, as far as the memory allows, and what becomes of the output.
+pub(crate) fn append_within(output: &mut Vec<u8>, limit: u64, bytes: &[u8]) -> Status
+    requires { length output.old.items + length bytes.now ≤ limit }
+    ensures bytes { AppendsBy result limit output.old.items output.new.items bytes.now }
+    ensures within { length output.new.items ≤ limit }
+    ensures longer { length output.old.items ≤ length output.new.items }
+    ensures going { result ≡ Status.Going → length output.new.items ≡ length output.old.items + length bytes.now }
+{
+    let _ = limit;
+    if are_few(output, bytes) {
+        push_each(output, bytes);
+        return Status::Going;
+    }
+    match output.extend_from_slice(bytes) {
+        Ok(_) => Status::Going,
+        Err(_) => Status::Starved,
+    }
+}
 
 // These bytes, as far as the limit and the memory allow, and what becomes of the output.
 pub(crate) fn append(output: &mut Vec<u8>, limit: u64, bytes: &[u8]) -> Status
@@ -19,10 +61,7 @@ pub(crate) fn append(output: &mut Vec<u8>, limit: u64, bytes: &[u8]) -> Status
 {
     let room = limit - output.len() as u64;
     if bytes.len() as u64 <= room {
-        match output.extend_from_slice(bytes) {
-            Ok(_) => Status::Going,
-            Err(_) => Status::Starved,
-        }
+        append_within(output, limit, bytes)
     } else {
         match output.extend_from_slice(&bytes[..room as usize]) {
             Ok(_) => Status::Full,
@@ -84,54 +123,44 @@ pub(crate) fn append_blanks(output: &mut Vec<u8>, limit: u64, count: u64) -> Sta
 // A line feed and the most spaces that are appended at once behind it.
 const LINE: [u8; 33] = *b"\n                                ";
 
-// A line feed and so many spaces, as far as the limit and the memory allow.
+// A line feed and so many spaces, for which the limit has room, as far as the memory allows.
 pub(crate) fn append_line(output: &mut Vec<u8>, limit: u64, count: u64) -> Status
-    requires inside { length output.old.items ≤ limit }
+    requires inside { length output.old.items + (1 + count) ≤ limit }
     requires few { count ≤ 32 }
     ensures bytes { AppendsBy result limit output.old.items output.new.items (10 ∷ replicate count 32) }
     ensures within { length output.new.items ≤ limit }
     ensures longer { length output.old.items ≤ length output.new.items }
     ensures going { result ≡ Status.Going → length output.new.items ≡ length output.old.items + (1 + count) }
 {
-    append(output, limit, &LINE[..count as usize + 1])
+    append_within(output, limit, &LINE[..count as usize + 1])
 }
 
-// The cursor behind a line feed and so many spaces.
-pub(crate) fn indented(at: Cursor, count: u64) -> Cursor
-    ensures { result ≡ indented count at }
+// The cursor comes behind a line feed and so many spaces.
+pub(crate) fn indented(at: &mut Cursor, count: u64)
+    ensures { at.new ≡ indented count at.old }
 {
-    Cursor {
-        column: count,
-        white: true,
-        bare: true,
-        kept: at.kept,
-    }
+    at.column = count;
+    at.white = true;
+    at.bare = true;
 }
 
-// The cursor behind so many spaces, one at least.
-pub(crate) fn blanked(at: Cursor, count: u64) -> Cursor
-    requires { at.column + count < 2 ^ 64 }
-    ensures { result ≡ blanked count at }
+// The cursor comes behind so many spaces, one at least.
+pub(crate) fn blanked(at: &mut Cursor, count: u64)
+    requires { at.old.column + count < 2 ^ 64 }
+    ensures { at.new ≡ blanked count at.old }
 {
-    Cursor {
-        column: at.column + count,
-        white: true,
-        bare: at.bare,
-        kept: at.kept,
-    }
+    at.column = at.column + count;
+    at.white = true;
 }
 
-// The cursor behind so many characters, one at least.
-pub(crate) fn lettered(at: Cursor, count: u64) -> Cursor
-    requires { at.column + count < 2 ^ 64 }
-    ensures { result ≡ lettered count at }
+// The cursor comes behind so many characters, one at least.
+pub(crate) fn lettered(at: &mut Cursor, count: u64)
+    requires { at.old.column + count < 2 ^ 64 }
+    ensures { at.new ≡ lettered count at.old }
 {
-    Cursor {
-        column: at.column + count,
-        white: false,
-        bare: false,
-        kept: at.kept,
-    }
+    at.column = at.column + count;
+    at.white = false;
+    at.bare = false;
 }
 
 // A character's byte, where it is one.
@@ -175,15 +204,30 @@ fn next_column(ends: bool, column: u64) -> u64
     if ends { 0 } else { column + 1 }
 }
 
-// The cursor behind a character.
-pub(crate) fn moved(at: Cursor, ends: bool, white: bool, bare: bool) -> Cursor
-    requires { at.column < 2 ^ 63 }
-    ensures { result ≡ moved at ends white bare }
+// The cursor comes behind a character.
+pub(crate) fn moved(at: &mut Cursor, ends: bool, white: bool, bare: bool)
+    requires { at.old.column < 2 ^ 63 }
+    ensures { at.new ≡ moved at.old ends white bare }
 {
-    Cursor {
-        column: next_column(ends, at.column),
-        white,
-        bare,
-        kept: at.kept,
-    }
+    at.column = next_column(ends, at.column);
+    at.white = white;
+    at.bare = bare;
+}
+
+// Whether a character in ASCII comes, and there is room for a byte more, up to so many.
+#[inline(always)]
+pub(crate) fn is_roomy(output: &Vec<u8>, reach: u64, c: char) -> bool
+    ensures ascii { result ≡ true → c < 0x80 }
+    ensures near { result ≡ true → length output.now.items < reach }
+    ensures room { result ≡ true → vec_len output.now < vec_capacity output.now }
+{
+    (c as u32) < 0x80 && (output.len() as u64) < reach && output.len() < output.capacity()
+}
+
+// The byte of a character in ASCII.
+pub(crate) fn byte_of(c: char) -> u8
+    requires { c < 0x80 }
+    ensures { result ≡ c }
+{
+    c as u32 as u8
 }

@@ -3,7 +3,8 @@
 ghost use Rattle.std.specs.Prelude.{◌≡◌, ◌≢◌, ◌<◌, ◌≤◌, ℕ, ◌∷◌, [], ◌++◌, ◌+◌, ◌-◌, length, ◌^◌, false, true};
 
 use crate::append::{
-    append, append_blanks, append_char, append_line, blanked, indented, lettered, moved,
+    append, append_blanks, append_char, append_line, append_within, blanked, byte_of, indented,
+    is_roomy, lettered, moved,
 };
 use crate::cursor::{Cursor, Status};
 use crate::narrow::is_long_ascii;
@@ -20,6 +21,19 @@ pub struct Sink {
     encoding: Encoding,
     status: Status,
     cursor: Cursor,
+    /// While the output has fewer bytes than these, it goes on, and a character in ASCII is one byte more.
+    reach: u64,
+}
+
+// How far a text in ASCII is written at once.
+fn reach_in(encoding: Encoding, reach: u64) -> u64
+    ensures most { result ≤ reach }
+    ensures bytes { 0 < result → encoding ≡ Encoding.Utf8 }
+{
+    match encoding {
+        Encoding::Utf8 => reach,
+        _ => 0,
+    }
 }
 
 impl Model for Sink {
@@ -53,6 +67,7 @@ impl Sink {
                 bare: true,
                 kept: false,
             },
+            reach: limit,
         }
     }
 
@@ -61,6 +76,7 @@ impl Sink {
         ensures { self.new ≡ record { bytes = self.old.bytes; limit = self.old.limit; encoding = encoding; status = self.old.status; cursor = self.old.cursor } }
     {
         self.encoding = encoding;
+        self.reach = reach_in(encoding, self.reach);
     }
 
     /// Where the next character stands.
@@ -101,36 +117,17 @@ impl Sink {
     }
 
     // A character, and what the cursor becomes.
-    #[inline(always)]
+    #[inline(never)]
     fn stroke(&mut self, c: char, ends: bool, white: bool, bare: bool)
         ensures { Puts self.old self.new (stroke c ends white bare) }
     {
         if self.status.is_going() {
             self.status = append_char(&mut self.output, self.limit, self.encoding, c);
             if self.status.is_going() {
-                self.cursor = moved(self.cursor, ends, white, bare);
+                moved(&mut self.cursor, ends, white, bare);
+            } else {
+                self.reach = 0;
             }
-        }
-    }
-
-    // The same where the output may have to grow, the limit be met, or the character take more than a byte.
-    #[inline(never)]
-    fn stroke_at_length(&mut self, c: char, ends: bool, white: bool, bare: bool)
-        ensures { Puts self.old self.new (stroke c ends white bare) }
-    {
-        self.stroke(c, ends, white, bare);
-    }
-
-    // Whether the output has room for a character of one byte: it chooses between two ways to the same.
-    #[inline(always)]
-    fn is_roomy(&self, c: char) -> bool {
-        match self.encoding {
-            Encoding::Utf8 => {
-                (c as u32) < 0x80
-                    && self.output.len() as u64 != self.limit
-                    && self.output.len() < self.output.capacity()
-            }
-            _ => false,
         }
     }
 
@@ -138,10 +135,11 @@ impl Sink {
     fn write(&mut self, c: char, ends: bool, white: bool, bare: bool)
         ensures { Puts self.old self.new (stroke c ends white bare) }
     {
-        if self.is_roomy(c) {
-            self.stroke(c, ends, white, bare);
+        if is_roomy(&self.output, self.reach, c) {
+            self.output.push_reserved(byte_of(c));
+            moved(&mut self.cursor, ends, white, bare);
         } else {
-            self.stroke_at_length(c, ends, white, bare);
+            self.stroke(c, ends, white, bare);
         }
     }
 
@@ -197,6 +195,28 @@ impl Sink {
         }
     }
 
+    // Whether so many characters in ASCII, one at least, are as many bytes, and the output goes on behind them.
+    fn is_near(&self, count: u64) -> bool
+        ensures { result ≡ true → 0 < count → (self.now.status ≡ Status.Going) × ((self.now.encoding ≡ Encoding.Utf8) × (length self.now.bytes + count ≤ self.now.limit)) }
+    {
+        count <= self.reach.saturating_sub(self.output.len() as u64)
+    }
+
+    // Characters of one byte, one at least, for which there is room, at once.
+    fn put_near(&mut self, text: &[u8])
+        requires some { 0 < length text.now }
+        requires ascii { IsAscii text.now }
+        requires near { (self.old.status ≡ Status.Going) × ((self.old.encoding ≡ Encoding.Utf8) × (length self.old.bytes + length text.now ≤ self.old.limit)) }
+        ensures { Puts self.old self.new (letters text.now) }
+    {
+        self.status = append_within(&mut self.output, self.limit, text);
+        if self.status.is_going() {
+            lettered(&mut self.cursor, text.len() as u64);
+        } else {
+            self.reach = 0;
+        }
+    }
+
     // Characters of one byte, one at least, at once.
     fn put_bytes(&mut self, text: &[u8])
         requires some { 0 < length text.now }
@@ -207,8 +227,23 @@ impl Sink {
         if self.status.is_going() {
             self.status = append(&mut self.output, self.limit, text);
             if self.status.is_going() {
-                self.cursor = lettered(self.cursor, text.len() as u64);
+                lettered(&mut self.cursor, text.len() as u64);
+            } else {
+                self.reach = 0;
             }
+        }
+    }
+
+    // A text in ASCII, one character at least, at once where each is a byte.
+    #[inline(never)]
+    fn put_far(&mut self, text: &[u8])
+        requires some { 0 < length text.now }
+        requires ascii { IsAscii text.now }
+        ensures { Puts self.old self.new (letters text.now) }
+    {
+        match self.encoding() {
+            Encoding::Utf8 => self.put_bytes(text),
+            _ => self.put_each(text),
         }
     }
 
@@ -220,9 +255,10 @@ impl Sink {
         if text.is_empty() {
             return;
         }
-        match self.encoding() {
-            Encoding::Utf8 => self.put_bytes(text),
-            _ => self.put_each(text),
+        if self.is_near(text.len() as u64) {
+            self.put_near(text);
+        } else {
+            self.put_far(text);
         }
     }
 
@@ -250,7 +286,9 @@ impl Sink {
         if self.status.is_going() {
             self.status = append_blanks(&mut self.output, self.limit, count);
             if self.status.is_going() {
-                self.cursor = blanked(self.cursor, count);
+                blanked(&mut self.cursor, count);
+            } else {
+                self.reach = 0;
             }
         }
     }
@@ -318,40 +356,32 @@ impl Sink {
         !at.bare || indent < at.column || (at.column == indent && !at.white)
     }
 
-    // Whether a line feed is a byte, and so many spaces behind it are few.
+    // Whether a line feed and so many spaces are few bytes, and the output goes on behind them.
     fn is_brief(&self, line_break: LineBreak, indent: u64) -> bool
-        ensures { result ≡ true → (line_break ≡ LineBreak.Lf) × (self.now.encoding ≡ Encoding.Utf8) × (indent ≤ 32) }
+        ensures line { result ≡ true → (line_break ≡ LineBreak.Lf) × (indent ≤ 32) }
+        ensures near { result ≡ true → (self.now.status ≡ Status.Going) × ((self.now.encoding ≡ Encoding.Utf8) × (length self.now.bytes + (1 + indent) ≤ self.now.limit)) }
     {
         match line_break {
-            LineBreak::Lf => self.is_bytes() && indent <= 32,
+            LineBreak::Lf => indent <= 32 && self.is_near(1 + indent),
             _ => false,
         }
     }
 
-    // Whether a character in ASCII is a byte.
-    fn is_bytes(&self) -> bool
-        ensures { result ≡ true → self.now.encoding ≡ Encoding.Utf8 }
-    {
-        match self.encoding() {
-            Encoding::Utf8 => true,
-            _ => false,
-        }
-    }
-
-    // A line feed of one byte and a few spaces, at once.
+    // A line feed of one byte and a few spaces, for which there is room, at once.
     fn put_brief_line(&mut self, indent: u64)
         requires few { indent ≤ 32 }
-        requires bytes { self.old.encoding ≡ Encoding.Utf8 }
+        requires near { (self.old.status ≡ Status.Going) × ((self.old.encoding ≡ Encoding.Utf8) × (length self.old.bytes + (1 + indent) ≤ self.old.limit)) }
         ensures { Puts self.old self.new (fresh LineBreak.Lf indent) }
     {
+        self.status = append_line(&mut self.output, self.limit, indent);
         if self.status.is_going() {
-            self.status = append_line(&mut self.output, self.limit, indent);
-            if self.status.is_going() {
-                self.cursor = indented(self.cursor, indent);
-            }
+            indented(&mut self.cursor, indent);
+        } else {
+            self.reach = 0;
         }
     }
 
+    #[inline(never)]
     fn put_long_line(&mut self, line_break: LineBreak, indent: u64)
         ensures { Puts self.old self.new (fresh line_break indent) }
     {
@@ -409,6 +439,9 @@ impl Sink {
     {
         if self.status.is_going() {
             self.status = append_char(&mut self.output, self.limit, self.encoding, '\u{FEFF}');
+            if !self.status.is_going() {
+                self.reach = 0;
+            }
         }
     }
 
@@ -429,6 +462,7 @@ impl Sink {
     {
         if self.status.is_going() {
             self.status = Status::Deep;
+            self.reach = 0;
         }
     }
 
@@ -439,6 +473,7 @@ impl Sink {
     {
         if self.status.is_going() {
             self.status = Status::Starved;
+            self.reach = 0;
         }
     }
 

@@ -1,4 +1,5 @@
 pub mod Lists
+pub mod Canonical
 pub mod Seeing
 pub mod Finishing
 pub mod Noting

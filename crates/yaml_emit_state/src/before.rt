@@ -127,12 +127,12 @@ fn put_before_in(sink: &mut Sink, settings: &Settings, level: Level, simple: boo
 }
 
 /// What comes before a node in the innermost collection, by whether the node is a simple key.
-pub fn put_before(sink: &mut Sink, settings: &Settings, top: Option<Level>, simple: bool)
-    ensures { Puts sink.old sink.new (before_node settings.now top simple) }
+pub fn put_before(sink: &mut Sink, settings: &Settings, top: &Option<Level>, simple: bool)
+    ensures { Puts sink.old sink.new (before_node settings.now top.now simple) }
 {
     match top {
         None => (),
-        Some(level) => put_before_in(sink, settings, level, simple),
+        Some(level) => put_before_in(sink, settings, *level, simple),
     }
 }
 
@@ -177,8 +177,8 @@ fn is_fresh(phase: Phase) -> bool
 }
 
 /// What ends the innermost collection.
-pub fn put_closer_at(sink: &mut Sink, settings: &Settings, top: Option<Level>, c: char)
-    ensures { Puts sink.old sink.new (closer_at settings.now top c) }
+pub fn put_closer_at(sink: &mut Sink, settings: &Settings, top: &Option<Level>, c: char)
+    ensures { Puts sink.old sink.new (closer_at settings.now top.now c) }
 {
     match top {
         None => (),

@@ -115,10 +115,8 @@ fn is_simple_start(
         )
 }
 
-/// Whether a node that begins so is a simple key: an alias, a scalar without breaks or an empty collection, with at most
-/// 128 bytes of anchor, tag and value. Canonical form has none.
 #[tactic(auto, unfolding(yaml_emit_layout::specs::State::is_simple_event))]
-pub fn is_simple(
+fn is_simple_by(
     settings: &Settings,
     directives: &DirectiveTable,
     event: &yaml_event_body_t,
@@ -180,6 +178,24 @@ pub fn is_simple(
             )
         }
         _ => false,
+    }
+}
+
+/// Whether a node that begins so is a simple key: an alias, a scalar without breaks or an empty collection, with at most
+/// 128 bytes of anchor, tag and value. Canonical form has none.
+#[tactic(auto, using(crate::proofs::Canonical::no_keys))]
+pub fn is_simple(
+    settings: &Settings,
+    directives: &DirectiveTable,
+    event: &yaml_event_body_t,
+    empty: bool,
+) -> bool
+    ensures { result ≡ is_simple_event (context_of settings.now directives.now) (said (body_of event.now)) empty }
+{
+    if settings.canonical {
+        false
+    } else {
+        is_simple_by(settings, directives, event, empty)
     }
 }
 

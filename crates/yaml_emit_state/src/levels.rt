@@ -31,6 +31,13 @@ impl Levels {
         self.top
     }
 
+    /// The same, where it stands.
+    pub fn innermost(&self) -> &Option<Level>
+        ensures { result.now ≡ top_of (stack_of self.now) }
+    {
+        &self.top
+    }
+
     #[tactic(auto, unfolding(yaml_emit_layout::specs::State::phase_behind))]
     fn phase_behind(phase: Phase, simple: bool) -> Phase
         ensures { result ≡ phase_behind phase simple }

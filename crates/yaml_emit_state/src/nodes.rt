@@ -180,6 +180,7 @@ fn is_marked(
     !is_written(canonical, plain || quoted, tag) && !quoted && !is_plain(chosen)
 }
 
+#[inline(always)]
 fn put_lines(sink: &mut Sink, settings: &Settings, spot: Spot, style: Style, value: &[u8])
     requires { IsUtf8 value.now }
     ensures { Puts sink.old sink.new (checked (deeper settings.now spot.around) ▹ scalar_text (page_at settings.now spot) settings.now.indent spot.flow style (chars value.now)) }
@@ -201,9 +202,49 @@ fn put_lines(sink: &mut Sink, settings: &Settings, spot: Spot, style: Style, val
     }
 }
 
-/// A scalar, with its anchor and tag.
+// A tag, or `!` where it is due in canonical form.
+fn put_tag_or(
+    sink: &mut Sink,
+    settings: &Settings,
+    directives: &DirectiveTable,
+    tag: &Option<Vec<u8>>,
+    quoted: bool,
+)
+    ensures { Puts sink.old sink.new (tag_text (context_of settings.now directives.now) (text_of tag.now) ▹ when (not (has (text_of tag.now)) && (not quoted && true)) (word (33 ∷ []))) }
+{
+    match tag {
+        None => put_exclamation_if(sink, !quoted),
+        Some(tag) => put_tag(sink, directives, tag),
+    }
+}
+
+// A scalar in canonical form: it is double quoted, and each tag is written.
+fn put_canonical_scalar(
+    sink: &mut Sink,
+    settings: &Settings,
+    directives: &DirectiveTable,
+    spot: Spot,
+    anchor: &Option<Vec<u8>>,
+    tag: &Option<Vec<u8>>,
+    value: &[u8],
+    plain: bool,
+    quoted: bool,
+    style: yaml_scalar_style_t,
+)
+    requires utf8 { IsUtf8 value.now }
+    requires canonical { settings.now.canonical ≡ true }
+    ensures { Puts sink.old sink.new (scalar_layout (context_of settings.now directives.now) spot (record { anchor = text_of anchor.now; tag = text_of tag.now; value = value.now; plain = plain; quoted = quoted; style = style })) }
+{
+    let _ = (plain, style);
+    put_anchor(sink, anchor);
+    put_tag_or(sink, settings, directives, tag, quoted);
+    put_lines(sink, settings, spot, Style::Double, value);
+}
+
+// A scalar in pretty form, or in either.
+#[inline(never)]
 #[tactic(auto, unfolding(yaml_emit_layout::specs::Nodes::scalar_layout))]
-pub fn put_scalar(
+fn put_any_scalar(
     sink: &mut Sink,
     settings: &Settings,
     directives: &DirectiveTable,
@@ -227,6 +268,33 @@ pub fn put_scalar(
         is_marked(settings.canonical, tag, plain, quoted, chosen),
     );
     put_lines(sink, settings, spot, chosen, value);
+}
+
+/// A scalar, with its anchor and tag.
+pub fn put_scalar(
+    sink: &mut Sink,
+    settings: &Settings,
+    directives: &DirectiveTable,
+    spot: Spot,
+    anchor: &Option<Vec<u8>>,
+    tag: &Option<Vec<u8>>,
+    value: &[u8],
+    plain: bool,
+    quoted: bool,
+    style: yaml_scalar_style_t,
+)
+    requires { IsUtf8 value.now }
+    ensures { Puts sink.old sink.new (scalar_layout (context_of settings.now directives.now) spot (record { anchor = text_of anchor.now; tag = text_of tag.now; value = value.now; plain = plain; quoted = quoted; style = style })) }
+{
+    if settings.canonical {
+        put_canonical_scalar(
+            sink, settings, directives, spot, anchor, tag, value, plain, quoted, style,
+        );
+    } else {
+        put_any_scalar(
+            sink, settings, directives, spot, anchor, tag, value, plain, quoted, style,
+        );
+    }
 }
 
 /// What opens a collection, with its anchor and tag.

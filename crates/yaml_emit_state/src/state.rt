@@ -118,19 +118,19 @@ impl Core {
     }
 
     // An event in its right place.
+    #[inline(always)]
     fn take(&mut self, event: &mut yaml_event_body_t, empty: bool)
         requires { HasUtf8 (body_of event.old) }
         ensures { Takes self.old self.new (said (body_of event.old)) empty }
     {
         let settings = self.settings();
-        let top = self.levels.top();
         let simple = is_simple(&settings, &self.directives, event, empty);
         put_event(
             &mut self.sink,
             &settings,
             &self.directives,
             self.place,
-            top,
+            self.levels.innermost(),
             event,
             empty,
             simple,

@@ -26,6 +26,7 @@ owes_as a b x y z e p = record {
   encoding = p.encoding;
   limit = p.limit;
   going = p.going;
+  stays = p.stays;
 }
 
 pub owes_then : (a b c : Output) (x y z : Layout) → Owes a b x y → Owes b c y z → Owes a c x z
@@ -34,6 +35,7 @@ owes_then a b c x y z p q = record {
   encoding = q.encoding ∙ p.encoding;
   limit = q.limit ∙ p.limit;
   going = λ g. p.going (q.going g);
+  stays = λ n. q.stays (λ g. n (p.going g)) ∙ p.stays n;
 }
 
 -- Any walk: where each byte that passes is written as it is, all of them are.

@@ -26,14 +26,18 @@ pub struct Bounds {
 fn runs_on(bounds: Bounds, column: u64, byte: u8) -> bool
     ensures { result ≡ spec.runs_on bounds column byte }
 {
-    32 <= byte
-        && byte <= 126
-        && byte != bounds.quote
-        && byte != bounds.slash
-        && (byte != b' ' || !bounds.cuts || column <= bounds.width)
+    if b' ' < byte && byte <= 126 {
+        byte != bounds.quote && byte != bounds.slash
+    } else {
+        byte == b' '
+            && byte != bounds.quote
+            && byte != bounds.slash
+            && (!bounds.cuts || column <= bounds.width)
+    }
 }
 
 // The bytes in front that run on from that column.
+#[inline(always)]
 fn run_length(bounds: Bounds, column: u64, bytes: &[u8]) -> usize
     requires { column < 2 ^ 63 }
     ensures { result ≡ spec.front (spec.runs_on bounds) column bytes.now }
@@ -74,6 +78,7 @@ fn calm_length(bytes: &[u8]) -> usize
 }
 
 // A text, cut behind some bytes in ASCII.
+#[inline(always)]
 fn cut<'a>(left: &'a str, count: usize) -> (&'a [u8], &'a str)
     requires inside { count ≤ length left.now }
     requires ascii { IsAscii (take count left.now) }
@@ -88,6 +93,7 @@ fn cut<'a>(left: &'a str, count: usize) -> (&'a [u8], &'a str)
 }
 
 /// A text, cut behind the bytes in front that run on from that column.
+#[inline(always)]
 pub(crate) fn split_run<'a>(bounds: Bounds, column: u64, left: &'a str) -> (&'a [u8], &'a str)
     requires { column < 2 ^ 63 }
     ensures run { spec.all_pass (spec.runs_on bounds) column result.0.now ≡ true }

@@ -5,5 +5,5 @@ use Rattle.yaml_emit_sink.proofs.append.append_line.Goals as goal
 
 pub returns-clause-bytes : goal.returns-clause-bytes
 returns-clause-bytes c =
-    let P : List ℕ → Type 0 = λ t. AppendsBy c.append.result c.args.limit c.args.output.now.items c.append.new.output.items t in
-    subst P (line_front c.args.count c.requires.few) c.append.ensures.bytes
+    let P : List ℕ → Type 0 = λ t. AppendsBy c.append_within.result c.args.limit c.args.output.now.items c.append_within.new.output.items t in
+    subst P (line_front c.args.count c.requires.few) c.append_within.ensures.bytes

@@ -1,17 +1,13 @@
 use Rattle.std.proofs.Common.{refl}
 use Rattle.yaml_emit_sink.proofs.Lines.{puts_fresh}
-use Rattle.yaml_emit_sink.proofs.Sinks.{puts_stopped}
 use Rattle.yaml_emit_sink.proofs.sink.Sink.put_brief_line.Goals as goal
 
+pub returns-then-is_going : goal.returns-then-is_going
+returns-then-is_going c =
+    let near = rw (← c.self.view_is) at c.requires.near in
+    rw (← c.self.view_is) (puts_fresh _ _ _ near.0 near.1.0 refl refl c.append_line-self-inside.ensures.bytes (λ g. c.indented.ensures))
+
 pub returns-else-is_going : goal.returns-else-is_going
-returns-else-is_going c = rw (← c.self.view_is) (puts_stopped _ _ (c.is_going.ensures.stopped c.if-is_going.false))
-
-pub returns-else-is_going-2 : goal.returns-else-is_going-2
-returns-else-is_going-2 c =
-    rw (← c.self.view_is) (puts_fresh _ _ _ (c.is_going.ensures.going c.if-is_going.true) (rw (← c.self.view_is) at c.requires.bytes) refl refl
-    c.append_line-self-inside.ensures.bytes (λ g. absurd (c.is_going-then-is_going.ensures.stopped c.if-is_going-2.false g)))
-
-pub returns-then-is_going-2 : goal.returns-then-is_going-2
-returns-then-is_going-2 c =
-    rw (← c.self.view_is) (puts_fresh _ _ _ (c.is_going.ensures.going c.if-is_going.true) (rw (← c.self.view_is) at c.requires.bytes) refl refl
-    c.append_line-self-inside.ensures.bytes (λ g. c.indented-self-inside.ensures))
+returns-else-is_going c =
+    let near = rw (← c.self.view_is) at c.requires.near in
+    rw (← c.self.view_is) (puts_fresh _ _ _ near.0 near.1.0 refl refl c.append_line-self-inside.ensures.bytes (λ g. absurd (c.is_going.ensures.stopped c.if-is_going.false g)))

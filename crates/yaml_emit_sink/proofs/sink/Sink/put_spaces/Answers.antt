@@ -13,4 +13,4 @@ returns-else-is_going-2 c =
 pub returns-then-is_going-2 : goal.returns-then-is_going-2
 returns-then-is_going-2 c =
     rw (← c.self.view_is) (puts_spaces _ _ _ c.requires.some (c.is_going.ensures.going c.if-is_going.true) (rw (← c.self.view_is) at c.requires.bytes) refl refl
-    c.append_blanks-self-inside.ensures.bytes (λ g. c.blanked-self-inside.ensures))
+    c.append_blanks-self-inside.ensures.bytes (λ g. c.blanked.ensures))

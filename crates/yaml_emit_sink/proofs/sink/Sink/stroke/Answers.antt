@@ -14,4 +14,4 @@ returns-else-is_going-2 c =
 pub returns-then-is_going-2 : goal.returns-then-is_going-2
 returns-then-is_going-2 c =
     rw (← c.self.view_is) (puts_stroke _ _ _ (λ k. moved k c.args.ends c.args.white c.args.bare) (c.is_going.ensures.going c.if-is_going.true) refl refl
-    c.append_char-self-inside.ensures.bytes (λ g. c.moved-self-inside.ensures))
+    c.append_char-self-inside.ensures.bytes (λ g. c.moved.ensures))

@@ -1,14 +1,15 @@
 -- Runs of ordinary bytes in plain scalars.
-use Rattle.std.proofs.Common.{◌≡◌, ◌≢◌, ℕ, zero, suc, ◌+◌, ◌-◌, ◌<◌, ◌≤◌, ◌==◌, ◌&&◌, if◌then◌else◌, Bool, true, false, List, [], ◌∷◌, ◌++◌, length, Result, Ok, Err, refl, sym, ap, ◌∙◌, arith}
+use Rattle.std.proofs.Common.{◌≡◌, ◌≢◌, ℕ, zero, suc, ◌+◌, ◌-◌, ◌<◌, ◌≤◌, ◌==◌, ◌&&◌, if◌then◌else◌, Bool, true, false, List, [], ◌∷◌, ◌++◌, length, Result, Ok, Err, refl, sym, ap, ◌∙◌, inl, inr, arith}
 use Rattle.std.proofs.lemmas.Bool.Decides.{nat_tests}
-use Rattle.yaml_scan_text.specs.Marks.{Place, byte}
+use Rattle.yaml_scan_text.specs.Marks.{Place, byte, ends_break, is_blank}
 use Rattle.yaml_scan_text.specs.Wrong.{Wrong}
 use Rattle.yaml_scan_scalars.specs.declared.joining.Joining.{Joining}
-use Rattle.yaml_scan_scalars.specs.Pieces.{Piece, Kept}
+use Rattle.yaml_scan_scalars.specs.Pieces.{Piece, Kept, value}
 use Rattle.yaml_scan_scalars.specs.Ordinary.{is_ordinary, bytes_at, kept_run, IsRun}
-use Rattle.yaml_scan_scalars.specs.Plain.{Takes, Words, is_bracket, is_nothing, with_piece, with_run, words_from, words, plain_with, spot_at, ends_at, leads, after_white}
-use Rattle.yaml_scan_scalars.specs.Joined.{joined, TookWords}
-use Rattle.yaml_scan_scalars.proofs.RunLemmas.{ordinary_is, ordinary_no_break, ordinary_ends_none, ordinary_no_mark, bytes_none, bytes_more, resume_run, few}
+use Rattle.yaml_scan_scalars.specs.Plain.{Takes, Words, is_bracket, is_nothing, with_piece, with_run, words_from, words, plain_with, plain_text, plain_at, spot_at, ends_at, leads, after_white}
+use Rattle.yaml_scan_scalars.specs.Joined.{joined, TookFirst, TookWords}
+use Rattle.yaml_scan_scalars.proofs.RunLemmas.{ordinary_is, ordinary_no_break, ordinary_ends_none, ordinary_no_mark, bytes_none, bytes_more, resume_run, value_run, same_or, few}
+use Rattle.yaml_scan_scalars.proofs.FoldingLemmas.{value-kept}
 use Rattle.yaml_scan_scalars.proofs.PlainLemmas.{spot_kept, seat_text}
 
 -- many pieces or one
@@ -36,6 +37,14 @@ pub joined_run : (text : List ℕ) (p d q : ℕ) (j : Joining) (w : Words) → q
 joined_run text p zero q j w e h = absurd (let n = ap length (bytes_none text p) in omega (arith, n))
 joined_run text p (suc d) q j w e h =
     rw (with_run_is text p d w, e) (joined_parts j (bytes_at text p (suc d)) (if is_nothing w.pieces then p + suc d else w.end) w.place w.broke w.pieces h)
+
+first_value : (bs : List ℕ) (ps : List Piece) → value (Kept bs ∷ ps) ≡ value (kept_run bs ++ ps)
+first_value bs ps = value-kept [] bs ps ∙ sym (value_run bs ps)
+
+pub first_text : (text : List ℕ) (p d q : ℕ) (w : Words) → q ≡ p + suc d → plain_text (with_piece (Kept (bytes_at text p (suc d))) q w) ≡ plain_text (with_run text p (suc d) w)
+first_text text p d q w e =
+    let same = ap (λ v. record { value = v; end = if is_nothing w.pieces then p + suc d else w.end; place = w.place; broke = w.broke }) (first_value (bytes_at text p (suc d)) w.pieces) in
+    rw e (same ∙ sym (ap (λ v. plain_text v) (with_run_is text p d w)))
 
 -- what follows a run
 
@@ -73,6 +82,15 @@ pub calm_behind : (text : List ℕ) (p : ℕ) (place : Place) → IsRun text p p
 calm_behind text p place run h =
     let last : place.at - 1 + 1 ≡ place.at = omega arith in
     rw last at (calm_next text (place.at - 1) (run.ordinary (place.at - 1) (omega arith) (omega arith)))
+
+-- behind a character and a run
+pub behind_first : (text : List ℕ) (p : ℕ) (place : Place) → is_blank (byte text p) ≡ false → ends_break text p ≡ false → IsRun text (p + 1) place → (false ≡ leads text place.at) × (false ≡ after_white text place.at)
+behind_first text p place b e run =
+    let after = run.after in
+    elim (same_or (p + 1) place.at after) [
+      | inl s ↦ rw s (seat_text text p b e)
+      | inr l ↦ calm_behind text (p + 1) place run l
+    ]
 
 abbrev words_with : (Words → Words) → Result Words Wrong → Result Words Wrong
 words_with f (Ok w) = Ok (f w)
@@ -120,3 +138,27 @@ plain_run n flow level text p old new place took room =
     let at : p + (place.at - p) ≡ place.at = omega arith in
     let all = words_run (place.at - p) n flow level text p d (λ s. took.calm (omega arith)) (λ k a b. run.ordinary k a (omega arith)) in
     (n - (place.at - p), omega arith, rw at at (ap (λ r. plain_with (joined old) r) all ∙ plain_front old new (with_run text p (place.at - p)) (words (suc (n - (place.at - p))) flow level text (p + (place.at - p))) took.value))
+
+first_front : (new : Joining) (f : Words → Words) (r : Result Words Wrong) → ((w : Words) → joined new w ≡ plain_text (f w)) → plain_with plain_text (words_with f r) ≡ plain_with (joined new) r
+first_front new f (Ok w) h = rw (h w) refl
+first_front new f (Err e) h = refl
+
+pub plain_first_run : (flow : Bool) (level : ℕ) (text : List ℕ) (p : ℕ) (new : Joining) (place : Place) → TookFirst text p new place → p < length text → leads text (p + 1) ≡ false
+    → (m : ℕ) × (length text ≤ place.at + m) × (plain_at flow level text p ≡ plain_with (joined new) (words (suc m) flow level text place.at))
+plain_first_run flow level text p new place took inside calm =
+    let run = took.run in
+    let after = run.after in
+    let n : suc (length text - 1) ≡ length text = omega arith in
+    let d : place.at - (p + 1) ≤ length text - 1 = few text (p + 1) (length text - 1) place run (omega arith) in
+    let at : p + 1 + (place.at - (p + 1)) ≡ place.at = omega arith in
+    let long : place.at - p ≡ suc (place.at - (p + 1)) = omega arith in
+    let all = words_run (place.at - (p + 1)) (length text - 1) flow level text (p + 1) d (λ s. calm) (λ k a b. run.ordinary k a (omega arith)) in
+    let value = rw long at took.value in
+    let rest = words (suc (length text - 1 - (place.at - (p + 1)))) flow level text (p + 1 + (place.at - (p + 1))) in (
+      length text - 1 - (place.at - (p + 1)),
+      omega arith,
+      rw (n, at) at
+          (ap (λ r. plain_with plain_text (words_from (Kept (byte text p ∷ [])) (p + 1) r)) all
+          ∙ ap (λ r. plain_with plain_text r) (words_more (Kept (byte text p ∷ [])) (p + 1) (with_run text (p + 1) (place.at - (p + 1))) rest)
+          ∙ first_front new (with_run text p (suc (place.at - (p + 1)))) rest value),
+    )

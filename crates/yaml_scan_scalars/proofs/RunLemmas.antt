@@ -106,7 +106,7 @@ run_more text p place r h =
     let after = r.after in
     record { same = r.same; after = omega arith; ordinary = λ k a b. further text p place r h k a b }
 
-same_or : (p q : ℕ) → p ≤ q → (q ≡ p) ⊎ (p < q)
+pub same_or : (p q : ℕ) → p ≤ q → (q ≡ p) ⊎ (p < q)
 same_or p q h = grind arith
 
 -- a run is inside the text
@@ -129,6 +129,15 @@ run_slice text p place r =
       | inr l ↦ slice_bytes text p (place.at - p) (omega arith)
     ]
 
+-- with the byte before it
+pub first_slice : (text : List ℕ) (p : ℕ) (place : Place) → IsRun text (p + 1) place → p < length text → take (place.at - p) (drop p text) ≡ bytes_at text p (place.at - p)
+first_slice text p place r h =
+    let after = r.after in
+    elim (run_inside text (p + 1) place r) [
+      | inl e ↦ slice_bytes text p (place.at - p) (omega arith)
+      | inr l ↦ slice_bytes text p (place.at - p) (omega arith)
+    ]
+
 pub run_none : (text : List ℕ) (p : ℕ) (place : Place) → IsRun text p place → length (bytes_at text p (place.at - p)) ≡ 0 → place.at ≡ p
 run_none text p place r h =
     let after = r.after in
@@ -143,7 +152,7 @@ run_some text p place r h =
 
 -- a run as one piece
 
-value_run : (bs : List ℕ) (ps : List Piece) → value (kept_run bs ++ ps) ≡ bs ++ value ps
+pub value_run : (bs : List ℕ) (ps : List Piece) → value (kept_run bs ++ ps) ≡ bs ++ value ps
 value_run [] ps = refl
 value_run (b ∷ bs) ps = value-kept [] (b ∷ []) (kept_run bs ++ ps) ∙ ap (λ x. b ∷ x) (value_run bs ps)
 

@@ -1,11 +1,11 @@
 -- What a plain scalar comes to, where so much of it is joined and the rest follows.
-use Rattle.std.specs.Prelude.{ℕ, ◌-◌, ◌<◌, ◌≤◌, ◌≡◌, Bool, ◌||◌, true, false, if◌then◌else◌, List, take, length, Result, Ok, Err}
+use Rattle.std.specs.Prelude.{ℕ, ◌+◌, ◌-◌, ◌<◌, ◌≤◌, ◌≡◌, Bool, ◌||◌, true, false, if◌then◌else◌, List, take, length, Result, Ok, Err}
 use Rattle.yaml_scan_scalars.specs.declared.joining.Joining.{Joining}
 use Rattle.yaml_scan_scalars.specs.declared.scalar.Plain.{Plain}
 use Rattle.yaml_scan_text.specs.declared.record.yaml_mark_t.{yaml_mark_t}
 use Rattle.yaml_scan_text.specs.declared.problem.ScanError.{ScanError}
 use Rattle.yaml_scan_text.specs.Marks.{Place, mark_at}
-use Rattle.yaml_scan_scalars.specs.Plain.{Spot, Ends, Takes, Faulty, Words, is_nothing, with_piece, with_run, PlainText, after_white, leads}
+use Rattle.yaml_scan_scalars.specs.Plain.{Spot, Ends, Takes, Faulty, Words, is_nothing, with_piece, with_run, plain_text, PlainText, after_white, leads}
 use Rattle.yaml_scan_scalars.specs.Ordinary.{IsRun}
 use Rattle.yaml_scan_scalars.specs.Resume.{resume}
 use Rattle.yaml_scan_text.specs.Wrong.{Wrong, Refuses, IsMemory}
@@ -40,6 +40,12 @@ pub record TookWords (text : List ℕ) (p : ℕ) (old new : Joining) (place : Pl
   pub run : IsRun text p place
   pub calm : p < place.at → leads text p ≡ false
   pub value : (w : Words) → joined new w ≡ joined old (with_run text p (place.at - p) w)
+  pub seat : IsJoining text place.at new
+
+-- a scalar's first character and the ordinary bytes behind it are taken
+pub record TookFirst (text : List ℕ) (p : ℕ) (new : Joining) (place : Place) : Type 0 where
+  pub run : IsRun text (p + 1) place
+  pub value : (w : Words) → joined new w ≡ plain_text (with_run text p (place.at - p) w)
   pub seat : IsJoining text place.at new
 
 pub record IsPlain (text : List ℕ) (start : ℕ) (s : Plain) (x : PlainText) : Type 0 where

@@ -43,13 +43,13 @@ impl Folding {
         }
     }
 
-    /// With one piece, a byte that stays.
-    pub(crate) fn of_byte(alloc: Global, byte: u8) -> Result<Folding, AllocError>
-        ensures value { IfOk result (λ f. (ps : List Piece) → resume f ps ≡ value (Kept (byte ∷ []) ∷ ps)) }
+    /// With one piece, bytes that stay.
+    pub(crate) fn of_bytes(alloc: Global, bytes: &[u8]) -> Result<Folding, AllocError>
+        ensures value { IfOk result (λ f. (ps : List Piece) → resume f ps ≡ value (Kept bytes.now ∷ ps)) }
         ensures line { IfOk result (λ f. (f.gap ≡ Gap.Line) × (f.blanks.items ≡ [])) }
     {
-        let mut done = Vec::with_capacity(alloc, FIRST_CAPACITY)?;
-        done.push_reserved(byte);
+        let mut done = Vec::with_capacity(alloc, bytes.len().max(FIRST_CAPACITY))?;
+        done.extend_from_slice(bytes)?;
         Ok(Folding {
             done,
             blanks: Vec::new(alloc),

@@ -2,7 +2,7 @@
 
 ghost use Rattle.std.specs.Prelude.{◌≡◌, ◌≤◌, List, [], ◌∷◌, ◌<◌, ℕ, length, take, true, false, OnOk, IfOk};
 ghost use Rattle.yaml_scan_scalars.specs.Pieces.{Piece, Kept, Blank, Break, value};
-ghost use Rattle.yaml_scan_scalars.specs.Plain.{Words, with_piece};
+ghost use Rattle.yaml_scan_scalars.specs.Plain.{Words, plain_text, with_piece};
 ghost use Rattle.yaml_scan_scalars.specs.Joined.{joined};
 
 use crate::folding::Folding;
@@ -25,13 +25,13 @@ pub(crate) struct Joining {
 }
 
 impl Joining {
-    /// With the first character, and the place after it.
-    pub(crate) fn new(alloc: Global, byte: u8, end: yaml_mark_t) -> Result<Joining, AllocError>
-        ensures value { IfOk result (λ j. (w : Words) → joined j w ≡ record { value = value (with_piece (Kept (byte ∷ [])) end.index w).pieces; end = (with_piece (Kept (byte ∷ [])) end.index w).end; place = w.place; broke = w.broke }) }
+    /// With bytes of characters, and the place after them.
+    pub(crate) fn new(alloc: Global, bytes: &[u8], end: yaml_mark_t) -> Result<Joining, AllocError>
+        ensures value { IfOk result (λ j. (w : Words) → joined j w ≡ plain_text (with_piece (Kept bytes.now) end.index w)) }
         ensures kept { IfOk result (λ j. j.kept ≤ length j.folding.done.items) }
         ensures seat { IfOk result (λ j. (j.end ≡ end) × (j.broke ≡ false) × (j.white ≡ false)) }
     {
-        let folding = Folding::of_byte(alloc, byte)?;
+        let folding = Folding::of_bytes(alloc, bytes)?;
         let kept = folding.done.len();
         Ok(Joining {
             folding,

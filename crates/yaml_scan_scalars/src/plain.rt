@@ -1,8 +1,9 @@
 //! Plain scalars (YAML 1.1, section 9.1.3).
 
-ghost use Rattle.std.specs.Prelude.{◌≡◌, ◌||◌, ◌&&◌, ◌==◌, nat_lt, true, OnOk};
+ghost use Rattle.std.specs.Prelude.{◌≡◌, ◌||◌, ◌&&◌, ◌==◌, nat_lt, ◌<◌, true, false, OnOk, IfOk};
+ghost use Rattle.yaml_scan_text.specs.Marks.{byte, break_width, ends_break, is_blank};
 ghost use Rattle.yaml_scan_scalars.specs.Plain as spec;
-ghost use Rattle.yaml_scan_scalars.specs.Joined.{IsJoining, Steps, ReadsPlain, TookWords};
+ghost use Rattle.yaml_scan_scalars.specs.Joined.{IsJoining, Steps, ReadsPlain, TookFirst, TookWords};
 
 use crate::joining::Joining;
 use crate::run::ordinary_run;
@@ -22,12 +23,9 @@ pub fn plain_scalar(
     ensures { ReadsPlain reader.old.text reader.old.at reader.new result (spec.plain_at flow level reader.old.text reader.old.at) }
 {
     let start = reader.mark();
-    let byte = reader.here();
     let _width = reader.break_here();
-    reader.skip();
-    let mut joining = Joining::new(alloc, byte, reader.mark())?;
+    let mut joining = first_run(alloc, reader)?;
     'pieces: loop {
-        keep_run(reader, &mut joining)?;
         let more = piece(reader, &mut joining, start, flow, level)?;
         if !more {
             let end_mark = joining.end;
@@ -39,7 +37,23 @@ pub fn plain_scalar(
                 broke,
             });
         }
+        keep_run(reader, &mut joining)?;
     }
+}
+
+/// Takes the scalar's first character and the ordinary bytes behind it.
+fn first_run(alloc: Global, reader: &mut Reader) -> Result<Joining, AllocError>
+    requires some { 0 < byte reader.old.text reader.old.at }
+    requires no_blank { is_blank (byte reader.old.text reader.old.at) ≡ false }
+    requires no_break { break_width reader.old.text reader.old.at ≡ 0 }
+    requires no_end { ends_break reader.old.text reader.old.at ≡ false }
+    ensures { IfOk result (λ j. TookFirst reader.old.text reader.old.at j reader.new) }
+{
+    let from = reader.place();
+    reader.skip();
+    let _run = ordinary_run(reader);
+    let joining = Joining::new(alloc, reader.since(from), reader.mark())?;
+    Ok(joining)
 }
 
 /// Takes the ordinary bytes that stand here, but none at a line's start.

@@ -1,6 +1,6 @@
 //! Tags that aren't UTF-8.
 
-ghost use Rattle.std.specs.Prelude.{◌≡◌};
+ghost use Rattle.std.specs.Prelude.{◌≡◌, ◌<◌, ◌↔◌, IsTrue, EachIndex, slice_index};
 ghost use Rattle.std.specs.Str.{is_utf8};
 ghost use Rattle.yaml_scan.specs.Tokens.{token_of};
 ghost use Rattle.yaml_scan.specs.Faults.{fault_of};
@@ -11,10 +11,18 @@ use yaml_scan::{
     yaml_error_type_t, yaml_fault_t, yaml_mark_t, yaml_origin_t, yaml_token_body_t, yaml_token_t,
 };
 
+// Whether all bytes are ASCII.
+fn is_ascii(bytes: &[u8]) -> bool
+    ensures { IsTrue result ↔ EachIndex bytes.now (λ k. slice_index bytes.now k < 128) }
+{
+    bytes.iter().all(|byte| *byte < 0x80)
+}
+
+// Most tags are short and ASCII alone: a look at them costs less than what the decoder of UTF-8 sets up.
 fn is_text(bytes: &[u8]) -> bool
     ensures { result ≡ is_utf8 bytes.now }
 {
-    is_utf8(bytes)
+    is_ascii(bytes) || is_utf8(bytes)
 }
 
 /// Whether a tag's suffix, or a directive's prefix, is UTF-8. Their escapes spell bytes; all other texts of a session's

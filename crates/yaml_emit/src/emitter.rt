@@ -306,6 +306,18 @@ pub fn yaml_emitter_emit(
     answer
 }
 
+/// `yaml_emitter_emit` of an event that stays where it stands; what is left of it counts for nothing. The fault, if there
+/// is one, is the emitter's (`yaml_emitter_fault`).
+pub fn yaml_emitter_emit_from(emitter: &mut yaml_emitter_t, event: &mut yaml_event_t)
+    requires { HasUtf8 (event_of event.old).body }
+    ensures given { Given emitter.old (said (event_of event.old).body) emitter.new }
+    ensures judged { Judged emitter.old (said (event_of event.old).body) emitter.new }
+    ensures stays { Stays emitter.old emitter.new }
+    ensures opened { (emitter.new.opened ≡ emitter.old.opened) × (emitter.new.closed ≡ emitter.old.closed) }
+{
+    emitter.give(&mut event.body);
+}
+
 /// What was laid out is in the output. The first fault, if there is one, is answered. Asks that an event was given.
 pub fn yaml_emitter_flush(emitter: &mut yaml_emitter_t) -> Result<(), yaml_fault_t>
     requires { emitter.old.fresh ≡ false }

@@ -14,9 +14,8 @@ use crate::even::even;
 use crate::reading::next_into;
 use crate::settings::{yaml_output_encoding_t, yaml_settings_t};
 use std::alloc::Global;
-use std::mem;
 use yaml_emit::{
-    yaml_emitter_emit, yaml_emitter_fault, yaml_emitter_initialize, yaml_emitter_into_output,
+    yaml_emitter_emit_from, yaml_emitter_fault, yaml_emitter_initialize, yaml_emitter_into_output,
     yaml_emitter_output, yaml_emitter_set_break, yaml_emitter_set_canonical,
     yaml_emitter_set_encoding, yaml_emitter_set_indent, yaml_emitter_set_unicode,
     yaml_emitter_set_width, yaml_emitter_t,
@@ -57,13 +56,12 @@ pub(crate) fn emitter_under(
     Ok(emitter)
 }
 
-// Gives the event in the slot, where the empty one is left. The emitter keeps its first fault.
+// Gives the event in the slot; what is left there counts for nothing. The emitter keeps its first fault.
 fn give(emitter: &mut yaml_emitter_t, event: &mut yaml_event_t)
     requires { HasUtf8 (event_of event.old).body }
     ensures { Given emitter.old (said (event_of event.old).body) emitter.new }
 {
-    let empty = yaml_event_t::unplaced(yaml_event_body_t::No);
-    let _ = yaml_emitter_emit(emitter, mem::replace(event, empty));
+    yaml_emitter_emit_from(emitter, event);
 }
 
 // Gives the event in the slot, evened.

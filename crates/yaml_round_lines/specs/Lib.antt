@@ -1,2 +1,3 @@
 pub mod FaultLine
 pub mod EventLine
+pub mod Runs

@@ -1,12 +1,16 @@
 //! The line that tells an event.
 
-ghost use Rattle.std.specs.Prelude.{◌≡◌, ◌++◌, [], ◌∷◌, OnOk};
+ghost use Rattle.std.specs.Prelude.{◌≡◌, ◌+◌, ◌<◌, ◌≤◌, ◌++◌, [], ◌∷◌, length, take, OnOk, IfOk};
 ghost use Rattle.yaml_parse.specs.Events.{event_of, text_of};
+ghost use Rattle.yaml_round_lines.specs.Runs.{is_kept, kept_run};
 ghost use Rattle.yaml_round_lines.specs.EventLine.{escaped_byte, escaped, anchor_part, tag_part, sign_of, mark_part, event_text, event_line};
 
 use std::alloc::AllocError;
 use yaml_parse::{yaml_event_body_t, yaml_event_t};
 use yaml_scan::yaml_scalar_style_t;
+
+// So many bytes are looked at together; a shorter text is added byte by byte.
+const CHUNK: usize = 16;
 
 // Adds a backslash and a sign.
 fn push_escape(line: &mut Vec<u8>, sign: u8) -> Result<(), AllocError>
@@ -18,6 +22,7 @@ fn push_escape(line: &mut Vec<u8>, sign: u8) -> Result<(), AllocError>
 }
 
 // Adds a byte of a tag or a value.
+#[inline(always)]
 #[tactic(auto, unfolding(crate::specs::EventLine::escaped_byte))]
 fn push_byte(line: &mut Vec<u8>, byte: u8) -> Result<(), AllocError>
     ensures { OnOk result (line.new.items ≡ line.old.items ++ escaped_byte byte) }
@@ -40,14 +45,104 @@ fn push_byte(line: &mut Vec<u8>, byte: u8) -> Result<(), AllocError>
     }
 }
 
-// Adds the text of a tag or a value.
-fn push_escaped(line: &mut Vec<u8>, text: &[u8]) -> Result<(), AllocError>
+// Whether the byte is surely added as it is.
+#[tactic(auto, unfolding(crate::specs::Runs::is_kept))]
+fn is_kept(byte: u8) -> bool
+    ensures { result ≡ is_kept byte }
+{
+    byte > b'\r' && byte != b'\\'
+}
+
+// Whether the bytes of a chunk that begins there are all kept.
+fn is_kept_chunk(text: &[u8], at: usize) -> bool
+    requires { at + CHUNK ≤ length text.now }
+    ensures { result ≡ kept_run CHUNK text.now at }
+{
+    let mut kept = true;
+    let mut count = 0;
+    'bytes: while count < CHUNK {
+        kept = kept & is_kept(text[at + count]);
+        count += 1;
+    }
+    kept
+}
+
+// How many bytes the chunks in front have that are kept.
+fn kept_chunks(text: &[u8]) -> usize
+    ensures kept { escaped (take result text.now) ≡ take result text.now }
+    ensures inside { result ≤ length text.now }
+{
+    let mut count = 0;
+    'chunks: while text.len() - count >= CHUNK {
+        if !is_kept_chunk(text, count) {
+            return count;
+        }
+        count += CHUNK;
+    }
+    count
+}
+
+// How many bytes in front are kept.
+fn kept_length(text: &[u8]) -> usize
+    ensures kept { escaped (take result text.now) ≡ take result text.now }
+    ensures inside { result ≤ length text.now }
+{
+    let mut count = kept_chunks(text);
+    'bytes: while count < text.len() {
+        if !is_kept(text[count]) {
+            return count;
+        }
+        count += 1;
+    }
+    count
+}
+
+// Adds the text of a tag or a value, byte by byte.
+fn push_bytes(line: &mut Vec<u8>, text: &[u8]) -> Result<(), AllocError>
     ensures { OnOk result (line.new.items ≡ line.old.items ++ escaped text.now) }
 {
     for byte in text {
         push_byte(line, *byte)?;
     }
     Ok(())
+}
+
+// Adds the kept bytes in front, and the byte behind them; the answer is the rest.
+fn push_run<'a>(line: &mut Vec<u8>, left: &'a [u8]) -> Result<&'a [u8], AllocError>
+    requires { 0 < length left.now }
+    ensures text { IfOk result (λ rest. line.new.items ++ escaped rest.now ≡ line.old.items ++ escaped left.now) }
+    ensures shorter { IfOk result (λ rest. length rest.now < length left.now) }
+{
+    let count = kept_length(left);
+    line.extend_from_slice(&left[..count])?;
+    if count == left.len() {
+        return Ok(&left[count..]);
+    }
+    push_byte(line, left[count])?;
+    Ok(&left[count + 1..])
+}
+
+// Adds the text of a tag or a value, by runs of kept bytes.
+#[inline(never)]
+fn push_runs(line: &mut Vec<u8>, text: &[u8]) -> Result<(), AllocError>
+    ensures { OnOk result (line.new.items ≡ line.old.items ++ escaped text.now) }
+{
+    let mut left = text;
+    'runs: while !left.is_empty() {
+        left = push_run(line, left)?;
+    }
+    Ok(())
+}
+
+// Adds the text of a tag or a value.
+fn push_escaped(line: &mut Vec<u8>, text: &[u8]) -> Result<(), AllocError>
+    ensures { OnOk result (line.new.items ≡ line.old.items ++ escaped text.now) }
+{
+    if text.len() < CHUNK {
+        push_bytes(line, text)
+    } else {
+        push_runs(line, text)
+    }
 }
 
 fn push_anchor(line: &mut Vec<u8>, anchor: &Option<Vec<u8>>) -> Result<(), AllocError>

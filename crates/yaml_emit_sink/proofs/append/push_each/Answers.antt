@@ -6,9 +6,10 @@ pub loop-byte-init : goal.loop-byte-init
 loop-byte-init c = (none_pushed _ c.args.bytes.now, (omega arith, refl))
 
 pub loop-byte-preserved : goal.loop-byte-preserved
-loop-byte-preserved c =
-    (one_pushed _ _ _ _ _ c.loop-byte-test.true c.loop-byte.invariant.0 c.push_reserved.ensures.items,
-    (omega (arith, c.push_reserved.ensures.len, c.loop-byte.invariant.1.0), c.push_reserved.ensures.capacity ∙ c.loop-byte.invariant.1.1))
+loop-byte-preserved c = (
+  one_pushed _ _ _ _ _ c.loop-byte-test.true c.loop-byte.invariant.0 c.push_reserved.ensures.items,
+  (omega (arith, c.push_reserved.ensures.len, c.loop-byte.invariant.1.0), c.push_reserved.ensures.capacity ∙ c.loop-byte.invariant.1.1),
+)
 
 pub returns : goal.returns
 returns c = all_pushed _ _ _ _ c.loop-byte-test.false c.loop-byte.invariant.0

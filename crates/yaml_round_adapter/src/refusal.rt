@@ -18,7 +18,9 @@ fn is_ascii(bytes: &[u8]) -> bool
     bytes.iter().all(|byte| *byte < 0x80)
 }
 
-// Most tags are short and ASCII alone: a look at them costs less than what the decoder of UTF-8 sets up.
+// Most tags are short and ASCII alone: a look at them costs less than what the decoder of UTF-8 sets up. Inlined, the
+// decoder's aligned buffer would take a register from the whole step of the parser.
+#[inline(never)]
 fn is_text(bytes: &[u8]) -> bool
     ensures { result ≡ is_utf8 bytes.now }
 {

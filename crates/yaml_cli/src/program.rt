@@ -10,12 +10,15 @@ use clap::{ArgMatches, Error as WordFault};
 use std::alloc::Global;
 use std::convert::AsStr;
 use std::fs;
-use std::io::{Read, Write};
+use std::io::{BufReader, Read, Write};
 use std::rt::Files;
 use yaml_round::{
     yaml_command_t, yaml_encoding_t, yaml_form_t, yaml_read_all, yaml_run, yaml_same,
     yaml_settings_t, yaml_side_t, yaml_std_input_t, yaml_std_output_t, yaml_write_all,
 };
+
+// How many bytes of a file are read at once: each call of the system costs some microseconds.
+const READ_AHEAD: usize = 65_536;
 
 // What a run is told to do.
 #[derive(Clone, Copy)]
@@ -68,6 +71,19 @@ fn run_over<'a, R: Read, W: Write>(
     }
 }
 
+// The same over a file, of which more is read at once than the engine asks for, where there is room for that.
+fn run_over_file<'a, R: Read, W: Write>(
+    alloc: Global,
+    task: Task,
+    file: &mut R,
+    writer: &mut W,
+) -> Result<Option<yaml_form_t>, program_fault_t<'a>> {
+    if let Ok(mut ahead) = BufReader::with_capacity(alloc, READ_AHEAD, &mut *file) {
+        return run_over(alloc, task, &mut ahead, writer);
+    }
+    run_over(alloc, task, file, writer)
+}
+
 // Runs a command on its file, or on standard input.
 fn run_command<'a, H: Files + AllocGlobal, R: Read, W: Write>(
     rt: &H,
@@ -79,7 +95,7 @@ fn run_command<'a, H: Files + AllocGlobal, R: Read, W: Write>(
     let task = task_of(command, matches)?;
     match matches.get_str("file") {
         Some(path) => match fs::open(rt, path) {
-            Ok(mut file) => run_over(rt.alloc(), task, &mut file, writer),
+            Ok(mut file) => run_over_file(rt.alloc(), task, &mut file, writer),
             Err(_) => Err(program_fault_t::Read),
         },
         None => run_over(rt.alloc(), task, reader, writer),

@@ -149,7 +149,8 @@ fn push_anchor(line: &mut Vec<u8>, anchor: &Option<Vec<u8>>) -> Result<(), Alloc
     ensures { OnOk result (line.new.items ≡ line.old.items ++ anchor_part (text_of anchor.now)) }
 {
     if let Some(anchor) = anchor {
-        line.extend_from_slice(b" &")?;
+        line.push(b' ')?;
+        line.push(b'&')?;
         line.extend_from_slice(anchor)?;
     }
     Ok(())
@@ -159,9 +160,10 @@ fn push_tag(line: &mut Vec<u8>, tag: &Option<Vec<u8>>) -> Result<(), AllocError>
     ensures { OnOk result (line.new.items ≡ line.old.items ++ tag_part (text_of tag.now)) }
 {
     if let Some(tag) = tag {
-        line.extend_from_slice(b" <")?;
+        line.push(b' ')?;
+        line.push(b'<')?;
         push_escaped(line, tag)?;
-        line.extend_from_slice(b">")?;
+        line.push(b'>')?;
     }
     Ok(())
 }
@@ -179,8 +181,9 @@ fn style_sign(style: yaml_scalar_style_t) -> u8
     }
 }
 
-// Adds an anchor and a tag.
-fn push_properties(
+// Adds an anchor and a tag, of which there is one at least.
+#[inline(never)]
+fn push_some_properties(
     line: &mut Vec<u8>,
     anchor: &Option<Vec<u8>>,
     tag: &Option<Vec<u8>>,
@@ -189,6 +192,21 @@ fn push_properties(
 {
     push_anchor(line, anchor)?;
     push_tag(line, tag)
+}
+
+// Adds an anchor and a tag.
+#[inline(always)]
+fn push_properties(
+    line: &mut Vec<u8>,
+    anchor: &Option<Vec<u8>>,
+    tag: &Option<Vec<u8>>,
+) -> Result<(), AllocError>
+    ensures { OnOk result (line.new.items ≡ line.old.items ++ (anchor_part (text_of anchor.now) ++ tag_part (text_of tag.now))) }
+{
+    if anchor.is_none() && tag.is_none() {
+        return Ok(());
+    }
+    push_some_properties(line, anchor, tag)
 }
 
 // Adds a space, the style's sign and the value.

@@ -68,9 +68,7 @@ impl<'a> Machine<'a> {
         Machine::over(alloc, input, setting, false, yaml_text_t::Borrowed(input))
     }
 
-    /// The state before the first lexeme of a text. It is built once; in line it would lie in the way of the loop over
-    /// the lexemes.
-    #[inline(never)]
+    /// The state before the first lexeme of a text.
     fn over(
         alloc: Global,
         input: &'a [u8],

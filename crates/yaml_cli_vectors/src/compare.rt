@@ -2,7 +2,7 @@
 
 use serde_json::{Map, Value, put};
 use std::alloc::Global;
-use yaml_vectors_json::VectorError;
+use yaml_cli_vectors_json::VectorError;
 
 // The fields that calls answer. A line that has one wants it.
 const ANSWERS: [&str; 8] = [

@@ -2,12 +2,12 @@
 
 use serde_json::{Map, Value, put};
 use std::alloc::Global;
+use yaml_cli_vectors_json::{VectorError, field, settings_of, shown};
 use yaml_round::{
     yaml_events, yaml_fault_line, yaml_fault_t, yaml_form_t, yaml_output_encoding_t, yaml_reformat,
     yaml_reload, yaml_same, yaml_settings_t, yaml_side_t,
 };
 use yaml_scan::yaml_encoding_t;
-use yaml_vectors_json::{VectorError, field, settings_of, shown};
 
 fn output_encoding(encoding: yaml_encoding_t) -> Result<yaml_output_encoding_t, VectorError> {
     match encoding {

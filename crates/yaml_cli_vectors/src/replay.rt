@@ -4,10 +4,10 @@ use crate::compare::{Outcome, compare};
 use crate::engine;
 use serde_json::{Map, Value, put};
 use std::alloc::Global;
+use yaml_cli_vectors_json::{VectorError, field};
+use yaml_cli_vectors_reading::{decode, load, parse, scan, shown_fault};
+use yaml_cli_vectors_writing::{dump, emit, emit_events};
 use yaml_scan::yaml_fault_t;
-use yaml_vectors_json::{VectorError, field};
-use yaml_vectors_reading::{decode, load, parse, scan, shown_fault};
-use yaml_vectors_writing::{dump, emit, emit_events};
 
 // What the call answers on the line; an `Err` where it only refuses.
 fn answer(alloc: Global, call: &str, line: &Value) -> Result<Value, VectorError> {

@@ -2,7 +2,7 @@
 
 use crate::compare::Outcome;
 use std::io::{self, Print};
-use yaml_vectors_json::VectorError;
+use yaml_cli_vectors_json::VectorError;
 
 // How many lines that fail are shown.
 const SHOWN: u64 = 20;

@@ -2,7 +2,7 @@
 
 use serde_json::Value;
 use std::test::Fail;
-use yaml_vectors_json::{read_token, shown_token};
+use yaml_cli_vectors_json::{read_token, shown_token};
 
 #[test]
 fn written_as_read(rt: HostRuntime) -> Result<(), Fail> {

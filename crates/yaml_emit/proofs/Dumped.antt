@@ -18,31 +18,31 @@ use Rattle.yaml_emit_state.specs.Steps.{Starves, settings_of}
 use Rattle.yaml_emit_state.specs.Finish.{Finishes, FinishesAt, FinishesBy}
 use Rattle.yaml_emit_graph.specs.declared.Events.{Events}
 use Rattle.yaml_emit.specs.declared.emitter.yaml_emitter_t.TheInside.{Inside}
-use Rattle.yaml_emit_graph.specs.Events.{coming_events, IsEvents}
-use Rattle.yaml_emit.specs.Emitter.{Emitter, emitter_of, IsEmitter, CompletesBy, Completes, Given, Gives, Stuck, left_if, opening_events, closing_events, dump_events, said_by, said_document, Answers}
+use Rattle.yaml_emit_graph.specs.Events.{remaining_events, IsEvents}
+use Rattle.yaml_emit.specs.Emitter.{Emitter, emitter_of, IsEmitter, CompletesBy, Completes, Given, GivesSome, Stuck, left_if, opening_events, closing_events, dump_events, document_events_by, document_events, Answers}
 use Rattle.yaml_emit_graph.specs.Graph.{dumped}
 use Rattle.yaml_emit.specs.Dumping.{DumpsBy, Dumps}
 use Rattle.yaml_emit.proofs.Emitting.{stopped_completes, not_true}
 
-pub gives_none : (e : Emitter) (es : List Event) → Stuck e → Gives e es e []
-gives_none e es s = record { completes = λ x more whole h. s x (es ++ more) more whole h; wishes = refl; limit = refl; begun = λ b. b }
+pub gives_none : (e : Emitter) (es : List Event) → Stuck e → GivesSome e es e []
+gives_none e es s = record { completes = λ x more whole h. s x (es ++ more) more whole h; requested_settings = refl; limit = refl; begun = λ b. b }
 
-pub gives_same : (e : Emitter) → Gives e [] e []
-gives_same e = record { completes = λ x more whole h. h; wishes = refl; limit = refl; begun = λ b. b }
+pub gives_same : (e : Emitter) → GivesSome e [] e []
+gives_same e = record { completes = λ x more whole h. h; requested_settings = refl; limit = refl; begun = λ b. b }
 
-pub gives_stuck : (old new : Emitter) (e : Event) (es : List Event) → Given old e new → Stuck new → Gives old (e ∷ es) new []
-gives_stuck old new e es g s = record { completes = λ x more whole h. s x (es ++ more) more whole (g.completes x (es ++ more) whole h); wishes = g.wishes; limit = g.limit; begun = λ b. g.begun }
+pub gives_stuck : (old new : Emitter) (e : Event) (es : List Event) → Given old e new → Stuck new → GivesSome old (e ∷ es) new []
+gives_stuck old new e es g s = record { completes = λ x more whole h. s x (es ++ more) more whole (g.completes x (es ++ more) whole h); requested_settings = g.requested_settings; limit = g.limit; begun = λ b. g.begun }
 
-pub gives_one : (old new : Emitter) (e : Event) (es : List Event) → Given old e new → Gives old (e ∷ es) new es
-gives_one old new e es g = record { completes = λ x more whole h. g.completes x (es ++ more) whole h; wishes = g.wishes; limit = g.limit; begun = λ b. g.begun }
+pub gives_one : (old new : Emitter) (e : Event) (es : List Event) → Given old e new → GivesSome old (e ∷ es) new es
+gives_one old new e es g = record { completes = λ x more whole h. g.completes x (es ++ more) whole h; requested_settings = g.requested_settings; limit = g.limit; begun = λ b. g.begun }
 
-pub gives_on : (a b c : Emitter) (es fs gs : List Event) → Gives a es b fs → Gives b fs c gs → Gives a es c gs
-gives_on a b c es fs gs p q = record { completes = λ x more whole h. q.completes x more whole (p.completes x more whole h); wishes = q.wishes ∙ p.wishes; limit = q.limit ∙ p.limit; begun = λ f. q.begun (p.begun f) }
+pub gives_on : (a b c : Emitter) (es fs gs : List Event) → GivesSome a es b fs → GivesSome b fs c gs → GivesSome a es c gs
+gives_on a b c es fs gs p q = record { completes = λ x more whole h. q.completes x more whole (p.completes x more whole h); requested_settings = q.requested_settings ∙ p.requested_settings; limit = q.limit ∙ p.limit; begun = λ f. q.begun (p.begun f) }
 
-pub dumps_event : (going : Bool) (d : Document) (old new : Emitter) (before after : Events) (e : Event) → coming_events d before ≡ e ∷ coming_events d after → IsEvents d after
-    → ((es : List Event) → Gives old (e ∷ es) new (left_if going es)) → DumpsBy going d old before new after
-dumps_event true d old new before after e c w g = (w, ap length c, (let P : List Event → Type 0 = λ z. Gives old z new (coming_events d after) in subst P (sym c) (g (coming_events d after))))
-dumps_event false d old new before after e c w g = let P : List Event → Type 0 = λ z. Gives old z new [] in subst P (sym c) (g (coming_events d after))
+pub dumps_event : (going : Bool) (d : Document) (old new : Emitter) (before after : Events) (e : Event) → remaining_events d before ≡ e ∷ remaining_events d after → IsEvents d after
+    → ((es : List Event) → GivesSome old (e ∷ es) new (left_if going es)) → DumpsBy going d old before new after
+dumps_event true d old new before after e c w g = (w, ap length c, (let P : List Event → Type 0 = λ z. GivesSome old z new (remaining_events d after) in subst P (sym c) (g (remaining_events d after))))
+dumps_event false d old new before after e c w g = let P : List Event → Type 0 = λ z. GivesSome old z new [] in subst P (sym c) (g (remaining_events d after))
 
 pub dumps_on : (going : Bool) (d : Document) (old new : Emitter) (before after : Events) → going ≡ true → Dumps d going old before new after → Dumps d true old before new after
 dumps_on true d old new before after h p = p
@@ -86,10 +86,10 @@ starved_completes old new x xs ys whole a b s c =
     subst Q (sym b) ((s.text stay).encoding ∙ k.0, starved_finishes old.core new.core _ _ whole s k.1)
 
 pub inside_starves : (i : Inside) (core : Core) (fault : Option Fault) (es : List Event) → i.fresh ≡ false → Starves i.core core
-    → Gives (emitter_of i) es (record { wishes = i.wishes; limit = i.limit; core = core; held = i.held; fresh = i.fresh; opened = i.opened; closed = i.closed; fault = fault }) []
+    → GivesSome (emitter_of i) es (record { requested_settings = i.requested_settings; limit = i.limit; core = core; held = i.held; fresh = i.fresh; opened = i.opened; closed = i.closed; fault = fault }) []
 inside_starves i core fault es fr s = record {
-  completes = λ x more whole h. starved_completes (emitter_of i) (record { wishes = i.wishes; limit = i.limit; core = core; held = i.held; fresh = i.fresh; opened = i.opened; closed = i.closed; fault = fault }) x (es ++ more) more whole fr fr s h;
-  wishes = refl;
+  completes = λ x more whole h. starved_completes (emitter_of i) (record { requested_settings = i.requested_settings; limit = i.limit; core = core; held = i.held; fresh = i.fresh; opened = i.opened; closed = i.closed; fault = fault }) x (es ++ more) more whole fr fr s h;
+  requested_settings = refl;
   limit = refl;
   begun = λ b. b;
 }
@@ -99,35 +99,35 @@ inside_stuck i inv f is =
     let fr : i.fresh ≡ false = not_true i.fresh (λ t. let k = (inv.begun t).1.0 in cc) in
     λ x es more whole h. stopped_completes (emitter_of i) f x es more whole fr (sym inv.faulty ∙ is) h
 
-closes_by : (closed : Bool) (old new : Emitter) → (closed ≡ true → new ≡ old) → (closed ≡ false → Given old stream_end new) → Gives old (closing_events closed) new []
-closes_by true old new a g = let P : Emitter → Type 0 = λ z. Gives old [] z [] in subst P (sym (a refl)) (gives_same old)
+closes_by : (closed : Bool) (old new : Emitter) → (closed ≡ true → new ≡ old) → (closed ≡ false → Given old stream_end new) → GivesSome old (closing_events closed) new []
+closes_by true old new a g = let P : Emitter → Type 0 = λ z. GivesSome old [] z [] in subst P (sym (a refl)) (gives_same old)
 closes_by false old new a g = gives_one old new stream_end [] (g refl)
 
-pub said_none : (ns : List Node) (closed : Bool) (d : Document) → length ns ≡ 0 → said_by closed ns d ≡ closing_events closed
-said_none [] closed d e = refl
-said_none (n ∷ ns) closed d e = absurd (omega arith)
+pub document_events_none : (ns : List Node) (closed : Bool) (d : Document) → length ns ≡ 0 → document_events_by closed ns d ≡ closing_events closed
+document_events_none [] closed d e = refl
+document_events_none (n ∷ ns) closed d e = absurd (omega arith)
 
-pub said_some : (ns : List Node) (closed : Bool) (d : Document) → length ns ≢ 0 → said_by closed ns d ≡ dumped d
-said_some [] closed d e = absurd (e refl)
-said_some (n ∷ ns) closed d e = refl
+pub document_events_some : (ns : List Node) (closed : Bool) (d : Document) → length ns ≢ 0 → document_events_by closed ns d ≡ dumped d
+document_events_some [] closed d e = absurd (e refl)
+document_events_some (n ∷ ns) closed d e = refl
 
 -- a document without a root ends the stream
-pub closes_stream : (old new : Emitter) (d : Document) (count : ℕ) → count ≡ length d.nodes → count ≡ 0 → (old.closed ≡ true → new ≡ old) → (old.closed ≡ false → Given old stream_end new) → Gives old (said_document old.closed d) new []
-closes_stream old new d count n h a g = let P : List Event → Type 0 = λ z. Gives old z new [] in subst P (sym (said_none d.nodes old.closed d (sym n ∙ h))) (closes_by old.closed old new a g)
+pub closes_stream : (old new : Emitter) (d : Document) (count : ℕ) → count ≡ length d.nodes → count ≡ 0 → (old.closed ≡ true → new ≡ old) → (old.closed ≡ false → Given old stream_end new) → GivesSome old (document_events old.closed d) new []
+closes_stream old new d count n h a g = let P : List Event → Type 0 = λ z. GivesSome old z new [] in subst P (sym (document_events_none d.nodes old.closed d (sym n ∙ h))) (closes_by old.closed old new a g)
 
-pub says_document : (old new : Emitter) (d : Document) (count : ℕ) → count ≡ length d.nodes → count ≢ 0 → Gives old (dumped d) new [] → Gives old (said_document old.closed d) new []
-says_document old new d count n h g = let P : List Event → Type 0 = λ z. Gives old z new [] in subst P (sym (said_some d.nodes old.closed d (λ z. h (n ∙ z)))) g
+pub says_document : (old new : Emitter) (d : Document) (count : ℕ) → count ≡ length d.nodes → count ≢ 0 → GivesSome old (dumped d) new [] → GivesSome old (document_events old.closed d) new []
+says_document old new d count n h g = let P : List Event → Type 0 = λ z. GivesSome old z new [] in subst P (sym (document_events_some d.nodes old.closed d (λ z. h (n ∙ z)))) g
 
-pub dump_then : (old mid new : Emitter) (d : Document) (b : Bool) → b ≡ true → ((es : List Event) → Gives old (opening_events old.opened ++ es) mid (left_if b es)) → mid.closed ≡ old.closed
-    → Gives mid (said_document mid.closed d) new [] → Gives old (dump_events old d) new []
+pub dump_then : (old mid new : Emitter) (d : Document) (b : Bool) → b ≡ true → ((es : List Event) → GivesSome old (opening_events old.opened ++ es) mid (left_if b es)) → mid.closed ≡ old.closed
+    → GivesSome mid (document_events mid.closed d) new [] → GivesSome old (dump_events old d) new []
 dump_then old mid new d true h g c n =
-    let P : Bool → Type 0 = λ z. Gives mid (said_document z d) new [] in
-    gives_on old mid new _ _ _ (g (said_document old.closed d)) (subst P c n)
+    let P : Bool → Type 0 = λ z. GivesSome mid (document_events z d) new [] in
+    gives_on old mid new _ _ _ (g (document_events old.closed d)) (subst P c n)
 dump_then old mid new d false h g c n = absurd (cc)
 
-pub dump_else : (old mid : Emitter) (d : Document) (b : Bool) → b ≡ false → ((es : List Event) → Gives old (opening_events old.opened ++ es) mid (left_if b es)) → Gives old (dump_events old d) mid []
+pub dump_else : (old mid : Emitter) (d : Document) (b : Bool) → b ≡ false → ((es : List Event) → GivesSome old (opening_events old.opened ++ es) mid (left_if b es)) → GivesSome old (dump_events old d) mid []
 dump_else old mid d true h g = absurd (cc)
-dump_else old mid d false h g = g (said_document old.closed d)
+dump_else old mid d false h g = g (document_events old.closed d)
 
 -- an ended stream is closed, where no fault has come
 pub ended_by : (fault : Option Fault) (closed : Bool) (r : Result (Unit {0}) yaml_fault_t) → Answers fault r → OnOk r (closed ≡ true) → fault ≡ None → closed ≡ true

@@ -11,12 +11,12 @@ use Rattle.yaml_emit_state.specs.Steps.{Starves, state_of, settings_of}
 use Rattle.yaml_emit_state.proofs.Noting.{notes_some, notes_both, notes_starved}
 use Rattle.yaml_emit_graph.specs.declared.Events.{Events}
 use Rattle.yaml_emit.specs.declared.emitter.yaml_emitter_t.TheInside.{Inside}
-use Rattle.yaml_emit_graph.specs.Events.{coming_events}
-use Rattle.yaml_emit.specs.Emitter.{Emitter, emitter_of, left_if, opening_events, closing_events, dump_events, said_document}
+use Rattle.yaml_emit_graph.specs.Events.{remaining_events}
+use Rattle.yaml_emit.specs.Emitter.{Emitter, emitter_of, left_if, opening_events, closing_events, dump_events, document_events}
 use Rattle.yaml_emit_graph.specs.Graph.{dumped}
 use Rattle.yaml_emit.specs.Judged.{text_from, LetsOut}
 use Rattle.yaml_emit.specs.Verdict.{WritesBy, Writes, Judged, JudgedAll, Unjudged}
-use Rattle.yaml_emit.proofs.Dumped.{said_none, said_some}
+use Rattle.yaml_emit.proofs.Dumped.{document_events_none, document_events_some}
 
 pub judged_none : (e : Emitter) (es : List Event) → Unjudged e → JudgedAll e es e []
 judged_none e es s = record { refuses = λ g more. s.refuses g (es ++ more) more; writes = λ x more whole h. s.writes x (es ++ more) more whole h; going = λ g. g; memory = λ n. refl }
@@ -46,10 +46,10 @@ judged_on a b c es fs gs p q = record {
 }
 
 -- an event of the dump, and the others are left where it was taken
-pub judged_event : (going : Bool) (d : Document) (old new : Emitter) (before after : Events) (e : Event) → coming_events d before ≡ e ∷ coming_events d after
-    → ((es : List Event) → JudgedAll old (e ∷ es) new (left_if going es)) → JudgedAll old (coming_events d before) new (left_if going (coming_events d after))
+pub judged_event : (going : Bool) (d : Document) (old new : Emitter) (before after : Events) (e : Event) → remaining_events d before ≡ e ∷ remaining_events d after
+    → ((es : List Event) → JudgedAll old (e ∷ es) new (left_if going es)) → JudgedAll old (remaining_events d before) new (left_if going (remaining_events d after))
 judged_event going d old new before after e c g =
-    let P : List Event → Type 0 = λ z. JudgedAll old z new (left_if going (coming_events d after)) in subst P (sym c) (g (coming_events d after))
+    let P : List Event → Type 0 = λ z. JudgedAll old z new (left_if going (remaining_events d after)) in subst P (sym c) (g (remaining_events d after))
 
 pub judged_further : (going : Bool) (a b c : Emitter) (es fs gs : List Event) → going ≡ true → JudgedAll a es b fs → JudgedAll b fs c (left_if going gs) → JudgedAll a es c gs
 judged_further true a b c es fs gs h p q = judged_on a b c es fs gs p q
@@ -75,10 +75,10 @@ starved_writes old new x xs ys whole a b s c =
     subst Q (sym b) ((s.text stay).encoding ∙ k.0, starved_lets_out old.core new.core _ _ whole s k.1)
 
 pub inside_starves_judged : (i : Inside) (core : Core) (fault : Option Fault) (es : List Event) → i.fresh ≡ false → Starves i.core core
-    → JudgedAll (emitter_of i) es (record { wishes = i.wishes; limit = i.limit; core = core; held = i.held; fresh = i.fresh; opened = i.opened; closed = i.closed; fault = fault }) []
+    → JudgedAll (emitter_of i) es (record { requested_settings = i.requested_settings; limit = i.limit; core = core; held = i.held; fresh = i.fresh; opened = i.opened; closed = i.closed; fault = fault }) []
 inside_starves_judged i core fault es fr s = record {
   refuses = λ g more. absurd (s.stopped g);
-  writes = λ x more whole h. starved_writes (emitter_of i) (record { wishes = i.wishes; limit = i.limit; core = core; held = i.held; fresh = i.fresh; opened = i.opened; closed = i.closed; fault = fault }) x (es ++ more) more whole fr fr s h;
+  writes = λ x more whole h. starved_writes (emitter_of i) (record { requested_settings = i.requested_settings; limit = i.limit; core = core; held = i.held; fresh = i.fresh; opened = i.opened; closed = i.closed; fault = fault }) x (es ++ more) more whole fr fr s h;
   going = λ g. absurd (s.stopped g);
   memory = notes_starved _ _ s;
 }
@@ -89,20 +89,20 @@ judged_closing true old new a j = let P : Emitter → Type 0 = λ z. JudgedAll o
 judged_closing false old new a j = judged_one old new stream_end [] (j refl)
 
 -- a document without a root ends the stream
-pub judged_closes : (old new : Emitter) (d : Document) (count : ℕ) → count ≡ length d.nodes → count ≡ 0 → (old.closed ≡ true → new ≡ old) → (old.closed ≡ false → Judged old stream_end new) → JudgedAll old (said_document old.closed d) new []
-judged_closes old new d count n h a j = let P : List Event → Type 0 = λ z. JudgedAll old z new [] in subst P (sym (said_none d.nodes old.closed d (sym n ∙ h))) (judged_closing old.closed old new a j)
+pub judged_closes : (old new : Emitter) (d : Document) (count : ℕ) → count ≡ length d.nodes → count ≡ 0 → (old.closed ≡ true → new ≡ old) → (old.closed ≡ false → Judged old stream_end new) → JudgedAll old (document_events old.closed d) new []
+judged_closes old new d count n h a j = let P : List Event → Type 0 = λ z. JudgedAll old z new [] in subst P (sym (document_events_none d.nodes old.closed d (sym n ∙ h))) (judged_closing old.closed old new a j)
 
-pub judged_document : (old new : Emitter) (d : Document) (count : ℕ) → count ≡ length d.nodes → count ≢ 0 → JudgedAll old (dumped d) new [] → JudgedAll old (said_document old.closed d) new []
-judged_document old new d count n h j = let P : List Event → Type 0 = λ z. JudgedAll old z new [] in subst P (sym (said_some d.nodes old.closed d (λ z. h (n ∙ z)))) j
+pub judged_document : (old new : Emitter) (d : Document) (count : ℕ) → count ≡ length d.nodes → count ≢ 0 → JudgedAll old (dumped d) new [] → JudgedAll old (document_events old.closed d) new []
+judged_document old new d count n h j = let P : List Event → Type 0 = λ z. JudgedAll old z new [] in subst P (sym (document_events_some d.nodes old.closed d (λ z. h (n ∙ z)))) j
 
 -- the stream is open, and the document follows
 pub judged_then : (old mid new : Emitter) (d : Document) (b : Bool) → b ≡ true → ((es : List Event) → JudgedAll old (opening_events old.opened ++ es) mid (left_if b es)) → mid.closed ≡ old.closed
-    → JudgedAll mid (said_document mid.closed d) new [] → JudgedAll old (dump_events old d) new []
+    → JudgedAll mid (document_events mid.closed d) new [] → JudgedAll old (dump_events old d) new []
 judged_then old mid new d true h j c n =
-    let P : Bool → Type 0 = λ z. JudgedAll mid (said_document z d) new [] in
-    judged_on old mid new _ _ _ (j (said_document old.closed d)) (subst P c n)
+    let P : Bool → Type 0 = λ z. JudgedAll mid (document_events z d) new [] in
+    judged_on old mid new _ _ _ (j (document_events old.closed d)) (subst P c n)
 judged_then old mid new d false h j c n = absurd (cc)
 
 pub judged_else : (old mid : Emitter) (d : Document) (b : Bool) → b ≡ false → ((es : List Event) → JudgedAll old (opening_events old.opened ++ es) mid (left_if b es)) → JudgedAll old (dump_events old d) mid []
 judged_else old mid d true h j = absurd (cc)
-judged_else old mid d false h j = j (said_document old.closed d)
+judged_else old mid d false h j = j (document_events old.closed d)

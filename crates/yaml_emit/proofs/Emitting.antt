@@ -11,8 +11,8 @@ use Rattle.yaml_emit_text.specs.Settings.{settled}
 use Rattle.yaml_emit_text.specs.Sink.{Ends, EndsBy}
 use Rattle.yaml_emit_text.specs.Layout.{written}
 use Rattle.yaml_emit_layout.specs.declared.Problem.{Problem}
-use Rattle.yaml_emit_layout.specs.declared.Place.{Place}
-use Rattle.yaml_emit_layout.specs.declared.Place.TheVariants as at
+use Rattle.yaml_emit_layout.specs.declared.Expected.{Expected}
+use Rattle.yaml_emit_layout.specs.declared.Expected.TheVariants as at
 use Rattle.yaml_emit_layout.specs.Content.{Event, stream_start}
 use Rattle.yaml_emit_layout.specs.Grammar.{own_problems}
 use Rattle.yaml_emit_layout.specs.Nodes.{stream_layout}
@@ -31,7 +31,7 @@ use Rattle.yaml_emit.specs.Emitter.{Emitter, emitter_of, IsEmitter, write_error,
 use Rattle.yaml_emit.specs.Judged.{refused_at}
 use Rattle.yaml_emit.proofs.Ending.{all_written}
 
-pub refusal_none : (p : Place) (s : Status) (b : Bool) → refusal_by p s b ≡ None → goes_on s p ≡ true
+pub refusal_none : (p : Expected) (s : Status) (b : Bool) → refusal_by p s b ≡ None → goes_on s p ≡ true
 refusal_none at.StreamStart Going b h = refl
 refusal_none (at.Documents first unended) Going b h = refl
 refusal_none at.Node Going b h = refl
@@ -53,7 +53,7 @@ not_refused (frames g (f ∷ fs) implicit ds) p h = cc
 not_refused nothing p h = cc
 
 -- going on, a refusal is that of a refused event
-going_refused : (p : Place) (f : Fault) (st : State) (k : ToCome) → st.place ≡ p → option_map problem_fault (refused_at p) ≡ Some f → st ≡ come.state_of k → ⊥
+going_refused : (p : Expected) (f : Fault) (st : State) (k : ToCome) → st.place ≡ p → option_map problem_fault (refused_at p) ≡ Some f → st ≡ come.state_of k → ⊥
 going_refused (at.Refused q) f st k w h e = not_refused k q (sym w ∙ ap (λ (z : State). z.place) e)
 going_refused at.StreamStart f st k w h e = cc
 going_refused (at.Documents first unended) f st k w h e = cc
@@ -90,18 +90,18 @@ lay_completes old new e h x es whole a b same l c =
 
 -- the settings came into force
 pub begin_completes : (old new : Emitter) (e : Event) (x : Encoding) (es : List Event) (whole : List Item) → old.fresh ≡ true → new.fresh ≡ false → held_events new.held ≡ []
-    → IsFresh new.core (settled old.wishes (stream_encoding e)) → Completes old x (e ∷ es) whole → Completes new x (e ∷ es) whole
+    → IsFresh new.core (settled old.requested_settings (stream_encoding e)) → Completes old x (e ∷ es) whole → Completes new x (e ∷ es) whole
 unfolding Completes
 begin_completes old new e x es whole a b none f c =
     let P : Bool → Type 0 = λ z. CompletesBy z old x (e ∷ es) whole in
     let Q : Bool → Type 0 = λ z. CompletesBy z new x (e ∷ es) whole in
-    let k : IsStream old.wishes x (e ∷ es) whole = subst P a c in
+    let k : IsStream old.requested_settings x (e ∷ es) whole = subst P a c in
     let head : e ≡ stream_start k.encoding = (let w = k.same in cc) in
-    let F : yaml_encoding_t → Type 0 = λ z. IsFresh new.core (settled old.wishes z) in
-    let f' : IsFresh new.core (settled old.wishes k.encoding) = subst F (ap stream_encoding head) f in
-    let O : List Event → Type 0 = λ t. own_problems old.wishes.canonical t ≡ None in
-    let done = fresh_finishes new.core (settled old.wishes k.encoding) k.encoding k.documents f' (subst O k.same k.right) in
-    let R : List Event → Type 0 = λ t. Finishes new.core t (written (stream_layout (settled old.wishes k.encoding) k.documents)) in
+    let F : yaml_encoding_t → Type 0 = λ z. IsFresh new.core (settled old.requested_settings z) in
+    let f' : IsFresh new.core (settled old.requested_settings k.encoding) = subst F (ap stream_encoding head) f in
+    let O : List Event → Type 0 = λ t. own_problems old.requested_settings.canonical t ≡ None in
+    let done = fresh_finishes new.core (settled old.requested_settings k.encoding) k.encoding k.documents f' (subst O k.same k.right) in
+    let R : List Event → Type 0 = λ t. Finishes new.core t (written (stream_layout (settled old.requested_settings k.encoding) k.documents)) in
     let S : List Item → Type 0 = λ t. Finishes new.core (held_events new.held ++ (e ∷ es)) t in
     subst Q (sym b) (ap (λ (z : Settings). z.encoding) f'.settings ∙ sym k.coded, subst S (sym k.is) (subst R (sym (ap (λ z. z ++ (e ∷ es)) none ∙ k.same)) done))
 
@@ -161,7 +161,7 @@ limited_by Full e f s b h w = inr (λ x es whole c. inl (some_same write_error f
 limited_by Deep e f s b h w = inr (λ x es whole c. inr (some_same too_deep f h, (w x es whole c).0))
 limited_by Starved e f s b h w = inl (ap (λ (z : Fault). z.kind) (some_same (memory_fault (memory_origin e.core.starved)) f h))
 
-pub goes_going : (s : Status) (p : Place) → goes_on s p ≡ true → s ≡ Going
+pub goes_going : (s : Status) (p : Expected) → goes_on s p ≡ true → s ≡ Going
 goes_going Going p h = refl
 goes_going Full (at.Refused q) h = absurd (cc)
 goes_going Full at.StreamStart h = absurd (cc)
@@ -182,7 +182,7 @@ goes_going Starved at.Node h = absurd (cc)
 goes_going Starved at.DocumentEnd h = absurd (cc)
 goes_going Starved at.End h = absurd (cc)
 
-going_none : (p : Place) (b : Bool) → goes_on Going p ≡ true → refusal_by p Going b ≡ None
+going_none : (p : Expected) (b : Bool) → goes_on Going p ≡ true → refusal_by p Going b ≡ None
 going_none at.StreamStart b h = refl
 going_none (at.Documents first unended) b h = refl
 going_none at.Node b h = refl
@@ -209,15 +209,15 @@ inside_whole i inv = λ none x whole h.
     let g : goes_on i.core.sink.status i.core.place ≡ true = refusal_none i.core.place i.core.sink.status i.core.starved (sym inv.faulty ∙ none) in
     all_written (emitter_of i) x whole (goes_going i.core.sink.status i.core.place g) (inv.few g) h
 
-pub inside_begins : (i : Inside) (core : Core) (e : Event) (s : Settings) (z : yaml_encoding_t) → IsEmitter i → i.fresh ≡ true → s ≡ settled i.wishes z → z ≡ stream_encoding e → IsFresh core s
-    → Begins (emitter_of i) e (record { wishes = i.wishes; limit = i.limit; core = core; held = i.held; fresh = false; opened = i.opened; closed = i.closed; fault = option_map fault_of i.fault })
+pub inside_begins : (i : Inside) (core : Core) (e : Event) (s : Settings) (z : yaml_encoding_t) → IsEmitter i → i.fresh ≡ true → s ≡ settled i.requested_settings z → z ≡ stream_encoding e → IsFresh core s
+    → Begins (emitter_of i) e (record { requested_settings = i.requested_settings; limit = i.limit; core = core; held = i.held; fresh = false; opened = i.opened; closed = i.closed; fault = option_map fault_of i.fault })
 inside_begins i core e s z inv fr a b f =
     let P : Settings → Type 0 = λ t. IsFresh core t in
-    let Q : yaml_encoding_t → Type 0 = λ t. IsFresh core (settled i.wishes t) in
-    let f' : IsFresh core (settled i.wishes (stream_encoding e)) = subst Q b (subst P a f) in
+    let Q : yaml_encoding_t → Type 0 = λ t. IsFresh core (settled i.requested_settings t) in
+    let f' : IsFresh core (settled i.requested_settings (stream_encoding e)) = subst Q b (subst P a f) in
     record {
-      completes = λ x es whole h. begin_completes (emitter_of i) (record { wishes = i.wishes; limit = i.limit; core = core; held = i.held; fresh = false; opened = i.opened; closed = i.closed; fault = option_map fault_of i.fault }) e x es whole fr refl (inv.begun fr).0 f' h;
-      wishes = refl;
+      completes = λ x es whole h. begin_completes (emitter_of i) (record { requested_settings = i.requested_settings; limit = i.limit; core = core; held = i.held; fresh = false; opened = i.opened; closed = i.closed; fault = option_map fault_of i.fault }) e x es whole fr refl (inv.begun fr).0 f' h;
+      requested_settings = refl;
       limit = refl;
       begun = refl;
       fault = (inv.begun fr).1.0;
@@ -226,10 +226,10 @@ inside_begins i core e s z inv fr a b f =
     }
 
 pub inside_lays : (i : Inside) (core : Core) (h held : Held) (fault : Option Fault) (e : Event) → i.fresh ≡ false → h ≡ i.held → Leads i.core (held_events h ++ e ∷ []) core (held_events held)
-    → Given (emitter_of i) e (record { wishes = i.wishes; limit = i.limit; core = core; held = held; fresh = i.fresh; opened = i.opened; closed = i.closed; fault = fault })
+    → Given (emitter_of i) e (record { requested_settings = i.requested_settings; limit = i.limit; core = core; held = held; fresh = i.fresh; opened = i.opened; closed = i.closed; fault = fault })
 inside_lays i core h held fault e fr same l = record {
-  completes = λ x es whole c. lay_completes (emitter_of i) (record { wishes = i.wishes; limit = i.limit; core = core; held = held; fresh = i.fresh; opened = i.opened; closed = i.closed; fault = fault }) e (held_events h) x es whole fr fr (ap held_events same) l c;
-  wishes = refl;
+  completes = λ x es whole c. lay_completes (emitter_of i) (record { requested_settings = i.requested_settings; limit = i.limit; core = core; held = held; fresh = i.fresh; opened = i.opened; closed = i.closed; fault = fault }) e (held_events h) x es whole fr fr (ap held_events same) l c;
+  requested_settings = refl;
   limit = refl;
   begun = fr;
 }
@@ -250,23 +250,23 @@ inside_stays i f e inv is =
     let fr : i.fresh ≡ false = not_true i.fresh (λ t. let k = (inv.begun t).1.0 in cc) in
     record {
       completes = λ x es whole c. stopped_completes (emitter_of i) (fault_of f) x (e ∷ es) es whole fr (sym inv.faulty ∙ some) c;
-      wishes = refl;
+      requested_settings = refl;
       limit = refl;
       begun = fr;
     }
 
 -- that the stream was opened or closed is noted
 pub given_marked : (old : Emitter) (e : Event) (i : Inside) (o k : Bool) → Given old e (emitter_of i)
-    → Given old e (record { wishes = i.wishes; limit = i.limit; core = i.core; held = i.held; fresh = i.fresh; opened = o; closed = k; fault = option_map fault_of i.fault })
+    → Given old e (record { requested_settings = i.requested_settings; limit = i.limit; core = i.core; held = i.held; fresh = i.fresh; opened = o; closed = k; fault = option_map fault_of i.fault })
 unfolding Completes
 given_marked old e i o k g = record {
   completes = λ x es whole c.
-      let n : Emitter = record { wishes = i.wishes; limit = i.limit; core = i.core; held = i.held; fresh = i.fresh; opened = o; closed = k; fault = option_map fault_of i.fault } in
+      let n : Emitter = record { requested_settings = i.requested_settings; limit = i.limit; core = i.core; held = i.held; fresh = i.fresh; opened = o; closed = k; fault = option_map fault_of i.fault } in
       let P : Bool → Type 0 = λ z. CompletesBy z (emitter_of i) x es whole in
       let Q : Bool → Type 0 = λ z. CompletesBy z n x es whole in
       let done : CompletesBy false (emitter_of i) x es whole = subst P g.begun (g.completes x es whole c) in
       subst Q (sym g.begun) (done.0, done.1);
-  wishes = g.wishes;
+  requested_settings = g.requested_settings;
   limit = g.limit;
   begun = g.begun;
 }

@@ -131,7 +131,7 @@ written_at Full core xs whole same g w f = absurd (cc)
 written_at Deep core xs whole same g w f = absurd (cc)
 written_at Starved core xs whole same g w f = absurd (cc)
 
-no_stream : (e : Emitter) (x : Encoding) (whole : List Item) → IsStream e.wishes x [] whole → ⊥
+no_stream : (e : Emitter) (x : Encoding) (whole : List Item) → IsStream e.requested_settings x [] whole → ⊥
 no_stream e x whole h = let k = h.same in cc
 
 written_by_fresh : (b : Bool) (e : Emitter) (x : Encoding) (whole : List Item) → e.core.sink.status ≡ Going → is_ready (held_events e.held) ≡ false → CompletesBy b e x [] whole → e.core.sink.bytes ≡ encode x whole

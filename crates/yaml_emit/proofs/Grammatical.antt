@@ -9,7 +9,7 @@ use Rattle.yaml_emit_layout.specs.State.{State, opens_empty, problem_at, top_of}
 use Rattle.yaml_emit_layout.specs.ToCome.{ToCome, stream, events}
 use Rattle.yaml_emit_layout.specs.ToCome as come
 use Rattle.yaml_emit_layout.proofs.Going.{goes}
-use Rattle.yaml_emit.specs.Judged.{shape_after, shape_of, problem_in, first_refusal, PassesStreams}
+use Rattle.yaml_emit.specs.Judged.{progress_after, shape_of, problem_in, first_refusal, PassesStreams}
 use Rattle.yaml_emit.proofs.Judging.{or_none, same_problem, shape_next}
 
 or_both : (p q : Option Problem) → or_else p q ≡ None → (p ≡ None) × (q ≡ None)
@@ -34,7 +34,7 @@ no_refusal s (e ∷ es) more k same right =
     let go = goes s e (es ++ more) k same in
     let r = first_right s.canonical e (es ++ more) right in
     let there : problem_in s.canonical (shape_of st) e ≡ None = sym (same_problem s st e) ∙ right_there s st e r.0 go.there in
-    let shape : shape_after (shape_of st) e ≡ shape_of (come.state_of (go.rest start)) =
+    let shape : progress_after (shape_of st) e ≡ shape_of (come.state_of (go.rest start)) =
     sym (shape_next s st e (opens_empty e (es ++ more)) start) ∙ ap shape_of (go.fits start) in
     or_none _ _ there ∙ (ap (λ z. first_refusal s.canonical z es) shape ∙ no_refusal s es more (go.rest start) (go.same start) r.1)
 

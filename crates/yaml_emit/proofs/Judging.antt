@@ -15,8 +15,8 @@ use Rattle.yaml_emit_layout.specs.declared.Problem.{Problem}
 use Rattle.yaml_emit_layout.specs.declared.Level.{Level}
 use Rattle.yaml_emit_layout.specs.declared.Phase.{Phase}
 use Rattle.yaml_emit_layout.specs.declared.Phase.TheVariants.{Items, Keys, Value}
-use Rattle.yaml_emit_layout.specs.declared.Place.{Place}
-use Rattle.yaml_emit_layout.specs.declared.Place.TheVariants as at
+use Rattle.yaml_emit_layout.specs.declared.Expected.{Expected}
+use Rattle.yaml_emit_layout.specs.declared.Expected.TheVariants as at
 use Rattle.yaml_emit_layout.specs.Content.{Event, no_event, stream_start, stream_end, document_start, document_end, alias, scalar, sequence_start, sequence_end, mapping_start, mapping_end}
 use Rattle.yaml_emit_layout.specs.Grammar.{or_else, ends_phase, begins_node, may_come, node_problem, place_problem, problem_by, event_problem, last_problem}
 use Rattle.yaml_emit_layout.specs.Nodes.{Context, context_of}
@@ -25,7 +25,7 @@ use Rattle.yaml_emit_state.specs.declared.Core.{Core}
 use Rattle.yaml_emit_state.specs.Steps.{state_of, settings_of, next_state, next_piece, LaysOut, takes_memory, may_note, goes_on}
 use Rattle.yaml_emit_state.proofs.Noting.{neither, notes_both, notes_within}
 use Rattle.yaml_emit.specs.Held.{is_ready, needs, closes, passes, opens_level, ends_level}
-use Rattle.yaml_emit.specs.Judged.{Due, item_due, key_due, Shape, shape_after, inside, behind_node, outer_due, phase_due, level_due, problem_in, let_out, first_refusal, unless, laid, refused_at, due_in, due_of, shape_of, refusal_from, text_from, refusal_behind, LetsOut, take_memory, Judges}
+use Rattle.yaml_emit.specs.Judged.{Due, item_due, key_due, Progress, progress_after, inside, behind_node, outer_due, phase_due, level_due, problem_in, let_out, first_refusal, unless, laid, refused_at, due_in, due_of, shape_of, refusal_from, text_from, refusal_behind, LetsOut, take_memory, Judges}
 use Rattle.yaml_emit.proofs.Opening.{opens_none}
 use Rattle.yaml_emit.proofs.Holding.{ready_empty}
 use Rattle.yaml_emit.proofs.Ending.{none_needed}
@@ -72,7 +72,7 @@ same_may (l ∷ ls) e = ap (λ z. begins_node e || z) (same_ends l.phase e)
 same_node : (ls : List Level) (e : Event) → node_problem (top_of ls) e ≡ node_problem (level_due (due_of ls)) e
 same_node ls e = rw (same_may ls e) refl
 
-same_place : (p : Place) (ls : List Level) (e : Event) → place_problem p (top_of ls) e ≡ place_problem p (level_due (due_of ls)) e
+same_place : (p : Expected) (ls : List Level) (e : Event) → place_problem p (top_of ls) e ≡ place_problem p (level_due (due_of ls)) e
 unfolding place_problem
 same_place at.StreamStart ls e = refl
 same_place (at.Documents first unended) ls e = refl
@@ -103,8 +103,8 @@ dues_outer : (ls : List Level) → due_of (outer_of ls) ≡ outer_due (due_of ls
 dues_outer [] = refl
 dues_outer (l ∷ ls) = refl
 
-shape_at : (p : Context) (place : Place) (ls : List Level) (e : Event) (empty : Bool) (d : Cursor) → shape_of (next_at p place ls e empty d) ≡ shape_after (record { place = place; due = due_of ls }) e
-unfolding next_at shape_after
+shape_at : (p : Context) (place : Expected) (ls : List Level) (e : Event) (empty : Bool) (d : Cursor) → shape_of (next_at p place ls e empty d) ≡ progress_after (record { place = place; due = due_of ls }) e
+unfolding next_at progress_after
 shape_at p place ls no_event empty d = refl
 shape_at p place ls (stream_start x) empty d = refl
 shape_at p place ls stream_end empty d = refl
@@ -117,7 +117,7 @@ shape_at p place ls (mapping_start q) empty d = ap (λ z. inside (key_due ∷ z)
 shape_at p place ls sequence_end empty d = among_shape p.directives (outer_of ls) ∙ ap inside (dues_outer ls)
 shape_at p place ls mapping_end empty d = among_shape p.directives (outer_of ls) ∙ ap inside (dues_outer ls)
 
-pub shape_next : (s : Settings) (st : State) (e : Event) (empty : Bool) (d : Cursor) → shape_of (next s st e empty d) ≡ shape_after (shape_of st) e
+pub shape_next : (s : Settings) (st : State) (e : Event) (empty : Bool) (d : Cursor) → shape_of (next s st e empty d) ≡ progress_after (shape_of st) e
 shape_next s st e empty d = shape_at (context_of s st.directives) st.place st.levels e empty d
 
 -- ---- behind an event in its right place nothing is refused
@@ -126,7 +126,7 @@ place_open : (l : Option Level) → refused_at (place_at l) ≡ None
 place_open None = refl
 place_open (Some l) = refl
 
-open_at : (p : Context) (place : Place) (ls : List Level) (e : Event) (empty : Bool) (d : Cursor) → refused_at place ≡ None → refused_at (next_at p place ls e empty d).place ≡ None
+open_at : (p : Context) (place : Expected) (ls : List Level) (e : Event) (empty : Bool) (d : Cursor) → refused_at place ≡ None → refused_at (next_at p place ls e empty d).place ≡ None
 unfolding next_at
 open_at p place ls no_event empty d h = h
 open_at p place ls (stream_start x) empty d h = refl
@@ -143,7 +143,7 @@ open_at p place ls mapping_end empty d h = place_open (top_of (outer_of ls))
 open_next : (s : Settings) (st : State) (e : Event) (empty : Bool) (d : Cursor) → refused_at st.place ≡ None → refused_at (next s st e empty d).place ≡ None
 open_next s st e empty d h = open_at (context_of s st.directives) st.place st.levels e empty d h
 
-pub going_open : (s : Status) (p : Place) → goes_on s p ≡ true → refused_at p ≡ None
+pub going_open : (s : Status) (p : Expected) → goes_on s p ≡ true → refused_at p ≡ None
 going_open s at.StreamStart h = refl
 going_open s (at.Documents first unended) h = refl
 going_open s at.Node h = refl
@@ -165,7 +165,7 @@ first_out : (e : Event) (es : List Event) → is_ready (e ∷ es) ≡ true → l
 unfolding let_out
 first_out e es r = rw r refl
 
-first_step : (canonical : Bool) (h : Shape) (e : Event) (es : List Event) → is_ready (e ∷ es) ≡ true → first_refusal canonical h (let_out (e ∷ es)) ≡ or_else (problem_in canonical h e) (first_refusal canonical (shape_after h e) (let_out es))
+first_step : (canonical : Bool) (h : Progress) (e : Event) (es : List Event) → is_ready (e ∷ es) ≡ true → first_refusal canonical h (let_out (e ∷ es)) ≡ or_else (problem_in canonical h e) (first_refusal canonical (progress_after h e) (let_out es))
 unfolding first_refusal
 first_step canonical h e es r = ap (first_refusal canonical h) (first_out e es r)
 
@@ -173,9 +173,9 @@ refusal_step : (s : Settings) (st new : State) (e : Event) (empty : Bool) (d : C
     → new ≡ next_state p st (next s st e empty d) → refusal_from s.canonical new es ≡ refusal_from s.canonical st (e ∷ es)
 refusal_step s st new e empty d es None pe o r same =
     let right : problem_in s.canonical (shape_of st) e ≡ None = sym (same_problem s st e) ∙ sym pe in
-    let front : refusal_from s.canonical st (e ∷ es) ≡ first_refusal s.canonical (shape_after (shape_of st) e) (let_out es) =
+    let front : refusal_from s.canonical st (e ∷ es) ≡ first_refusal s.canonical (progress_after (shape_of st) e) (let_out es) =
     or_none (refused_at st.place) _ o ∙ (first_step s.canonical (shape_of st) e es r ∙ or_none _ _ right) in
-    let back : refusal_from s.canonical (next s st e empty d) es ≡ first_refusal s.canonical (shape_after (shape_of st) e) (let_out es) =
+    let back : refusal_from s.canonical (next s st e empty d) es ≡ first_refusal s.canonical (progress_after (shape_of st) e) (let_out es) =
     or_none _ _ (open_next s st e empty d o) ∙ ap (λ z. first_refusal s.canonical z (let_out es)) (shape_next s st e empty d) in
     ap (λ z. refusal_from s.canonical z es) same ∙ (back ∙ sym front)
 refusal_step s st new e empty d es (Some x) pe o r same =

@@ -14,8 +14,8 @@ use Rattle.yaml_emit_text.specs.Layout.{Rest, nothing_more, written}
 use Rattle.yaml_emit_text.specs.Sink.{Output, Ends, EndsBy}
 use Rattle.yaml_emit_text.proofs.Sinks.{ends_other, status_cases}
 use Rattle.yaml_emit_layout.specs.declared.Problem.{Problem}
-use Rattle.yaml_emit_layout.specs.declared.Place.{Place}
-use Rattle.yaml_emit_layout.specs.declared.Place.TheVariants as at
+use Rattle.yaml_emit_layout.specs.declared.Expected.{Expected}
+use Rattle.yaml_emit_layout.specs.declared.Expected.TheVariants as at
 use Rattle.yaml_emit_layout.specs.Content.{Event}
 use Rattle.yaml_emit_layout.specs.Grammar.{or_else}
 use Rattle.yaml_emit_layout.specs.State.{State, placed}
@@ -25,7 +25,7 @@ use Rattle.yaml_emit_state.specs.Finish.{Leads}
 use Rattle.yaml_emit.specs.Held.{held_events, is_ready}
 use Rattle.yaml_emit.specs.declared.held.Held.{Held}
 use Rattle.yaml_emit.specs.declared.emitter.yaml_emitter_t.TheInside.{Inside}
-use Rattle.yaml_emit.specs.Judged.{Shape, first_shape, let_out, first_refusal, unless, laid, refused_at, refusal_from, text_from, refusal_behind, LetsOut, take_memory, Judges}
+use Rattle.yaml_emit.specs.Judged.{Progress, first_progress, let_out, first_refusal, unless, laid, refused_at, refusal_from, text_from, refusal_behind, LetsOut, take_memory, Judges}
 use Rattle.yaml_emit.specs.Emitter.{Emitter, emitter_of, IsEmitter, fault_by, refusal_of, stream_encoding, problem_fault, Stays}
 use Rattle.yaml_emit.specs.Verdict.{verdict_by, verdict, IsLetOut, WritesBy, Writes, Judged, JudgesFirst, Unjudged, HasLetOut, Tells}
 use Rattle.yaml_emit.proofs.Judging.{or_some, unless_some}
@@ -52,9 +52,9 @@ lay_writes old new e h x es whole a b same l j c =
     subst Q (sym b) (l.encoding ∙ k.0, j.lets_out es whole (subst R move k.1))
 
 pub inside_judges : (i : Inside) (core : Core) (h held : Held) (fault : Option Fault) (e : Event) → i.fresh ≡ false → i.core.sink.status ≡ Going → h ≡ i.held → Leads i.core (held_events h ++ e ∷ []) core (held_events held) → Judges i.core (held_events h ++ e ∷ []) core (held_events held)
-    → Judged (emitter_of i) e (record { wishes = i.wishes; limit = i.limit; core = core; held = held; fresh = i.fresh; opened = i.opened; closed = i.closed; fault = fault })
+    → Judged (emitter_of i) e (record { requested_settings = i.requested_settings; limit = i.limit; core = core; held = held; fresh = i.fresh; opened = i.opened; closed = i.closed; fault = fault })
 inside_judges i core h held fault e fr on same l j =
-    let new : Emitter = record { wishes = i.wishes; limit = i.limit; core = core; held = held; fresh = i.fresh; opened = i.opened; closed = i.closed; fault = fault } in
+    let new : Emitter = record { requested_settings = i.requested_settings; limit = i.limit; core = core; held = held; fresh = i.fresh; opened = i.opened; closed = i.closed; fault = fault } in
     record {
       refuses = λ g es. lay_refuses (emitter_of i) new e (held_events h) es fr fr (ap held_events same) (j.refuses g es);
       writes = λ x es whole c. lay_writes (emitter_of i) new e (held_events h) x es whole fr fr (ap held_events same) l j c;
@@ -69,7 +69,7 @@ inside_going i inv none =
 
 -- ---- the settings came into force
 
-fresh_refuses : (core : Core) (s : Settings) (es : List Event) → IsFresh core s → refusal_behind core es ≡ first_refusal s.canonical first_shape (let_out es)
+fresh_refuses : (core : Core) (s : Settings) (es : List Event) → IsFresh core s → refusal_behind core es ≡ first_refusal s.canonical first_progress (let_out es)
 unfolding refusal_behind
 fresh_refuses core s es f =
     ap (λ (z : Settings). refusal_from z.canonical (state_of core) es) f.settings ∙ ap (λ (z : State). refusal_from s.canonical z es) f.state
@@ -90,32 +90,32 @@ fresh_lets_out core s es f =
     let P : List Item → Type 0 = λ t. Ends core.sink text t in
     subst P same (ends_fresh core.sink text f.output f.status)
 
-begin_refuses : (old new : Emitter) (e : Event) (es : List Event) → old.fresh ≡ true → new.fresh ≡ false → held_events new.held ≡ [] → IsFresh new.core (settled old.wishes (stream_encoding e)) → verdict new (e ∷ es) ≡ verdict old (e ∷ es)
+begin_refuses : (old new : Emitter) (e : Event) (es : List Event) → old.fresh ≡ true → new.fresh ≡ false → held_events new.held ≡ [] → IsFresh new.core (settled old.requested_settings (stream_encoding e)) → verdict new (e ∷ es) ≡ verdict old (e ∷ es)
 unfolding verdict
 begin_refuses old new e es a b none f =
     ap (λ z. verdict_by z new (e ∷ es)) b
     ∙ (ap (λ z. refusal_behind new.core (z ++ (e ∷ es))) none
-    ∙ (fresh_refuses new.core (settled old.wishes (stream_encoding e)) (e ∷ es) f ∙ sym (ap (λ z. verdict_by z old (e ∷ es)) a)))
+    ∙ (fresh_refuses new.core (settled old.requested_settings (stream_encoding e)) (e ∷ es) f ∙ sym (ap (λ z. verdict_by z old (e ∷ es)) a)))
 
-begin_writes : (old new : Emitter) (e : Event) (x : Encoding) (es : List Event) (whole : List Item) → old.fresh ≡ true → new.fresh ≡ false → held_events new.held ≡ [] → IsFresh new.core (settled old.wishes (stream_encoding e))
+begin_writes : (old new : Emitter) (e : Event) (x : Encoding) (es : List Event) (whole : List Item) → old.fresh ≡ true → new.fresh ≡ false → held_events new.held ≡ [] → IsFresh new.core (settled old.requested_settings (stream_encoding e))
     → Writes old x (e ∷ es) whole → Writes new x (e ∷ es) whole
 unfolding Writes
 begin_writes old new e x es whole a b none f c =
     let P : Bool → Type 0 = λ z. WritesBy z old x (e ∷ es) whole in
     let Q : Bool → Type 0 = λ z. WritesBy z new x (e ∷ es) whole in
-    let s : Settings = settled old.wishes (stream_encoding e) in
-    let k : IsLetOut old.wishes x (e ∷ es) whole = subst P a c in
+    let s : Settings = settled old.requested_settings (stream_encoding e) in
+    let k : IsLetOut old.requested_settings x (e ∷ es) whole = subst P a c in
     let R : List Event → Type 0 = λ t. LetsOut new.core (t ++ (e ∷ es)) (written (laid s (placed at.StreamStart) (let_out (e ∷ es)))) in
     let S : List Item → Type 0 = λ t. LetsOut new.core (held_events new.held ++ (e ∷ es)) t in
     subst Q (sym b) (ap (λ (z : Settings). z.encoding) f.settings ∙ sym k.coded, subst S (sym k.is) (subst R (sym none) (fresh_lets_out new.core s (e ∷ es) f)))
 
-pub inside_first : (i : Inside) (core : Core) (e : Event) (s : Settings) (z : yaml_encoding_t) → IsEmitter i → i.fresh ≡ true → s ≡ settled i.wishes z → z ≡ stream_encoding e → IsFresh core s
-    → JudgesFirst (emitter_of i) e (record { wishes = i.wishes; limit = i.limit; core = core; held = i.held; fresh = false; opened = i.opened; closed = i.closed; fault = option_map fault_of i.fault })
+pub inside_first : (i : Inside) (core : Core) (e : Event) (s : Settings) (z : yaml_encoding_t) → IsEmitter i → i.fresh ≡ true → s ≡ settled i.requested_settings z → z ≡ stream_encoding e → IsFresh core s
+    → JudgesFirst (emitter_of i) e (record { requested_settings = i.requested_settings; limit = i.limit; core = core; held = i.held; fresh = false; opened = i.opened; closed = i.closed; fault = option_map fault_of i.fault })
 inside_first i core e s z inv fr a b f =
     let P : Settings → Type 0 = λ t. IsFresh core t in
-    let Q : yaml_encoding_t → Type 0 = λ t. IsFresh core (settled i.wishes t) in
-    let f' : IsFresh core (settled i.wishes (stream_encoding e)) = subst Q b (subst P a f) in
-    let new : Emitter = record { wishes = i.wishes; limit = i.limit; core = core; held = i.held; fresh = false; opened = i.opened; closed = i.closed; fault = option_map fault_of i.fault } in
+    let Q : yaml_encoding_t → Type 0 = λ t. IsFresh core (settled i.requested_settings t) in
+    let f' : IsFresh core (settled i.requested_settings (stream_encoding e)) = subst Q b (subst P a f) in
+    let new : Emitter = record { requested_settings = i.requested_settings; limit = i.limit; core = core; held = i.held; fresh = false; opened = i.opened; closed = i.closed; fault = option_map fault_of i.fault } in
     record {
       refuses = λ es. begin_refuses (emitter_of i) new e es fr refl (inv.begun fr).0 f';
       writes = λ x es whole c. begin_writes (emitter_of i) new e x es whole fr refl (inv.begun fr).0 f' c;
@@ -192,7 +192,7 @@ inside_unjudged i inv f is =
 -- ---- that the stream was opened or closed is noted
 
 abbrev marked : Inside → Bool → Bool → Emitter
-marked i o k = record { wishes = i.wishes; limit = i.limit; core = i.core; held = i.held; fresh = i.fresh; opened = o; closed = k; fault = option_map fault_of i.fault }
+marked i o k = record { requested_settings = i.requested_settings; limit = i.limit; core = i.core; held = i.held; fresh = i.fresh; opened = o; closed = k; fault = option_map fault_of i.fault }
 
 marked_verdict : (b : Bool) (i : Inside) (o k : Bool) (es : List Event) → verdict_by b (marked i o k) es ≡ verdict_by b (emitter_of i) es
 marked_verdict true i o k es = refl
@@ -207,7 +207,7 @@ unmarked_writes true i o k x es whole h = h
 unmarked_writes false i o k x es whole h = h
 
 pub judged_marked : (old : Emitter) (e : Event) (i : Inside) (o k : Bool) → Judged old e (emitter_of i)
-    → Judged old e (record { wishes = i.wishes; limit = i.limit; core = i.core; held = i.held; fresh = i.fresh; opened = o; closed = k; fault = option_map fault_of i.fault })
+    → Judged old e (record { requested_settings = i.requested_settings; limit = i.limit; core = i.core; held = i.held; fresh = i.fresh; opened = o; closed = k; fault = option_map fault_of i.fault })
 unfolding verdict Writes
 judged_marked old e i o k j = record {
   refuses = λ g es. marked_verdict i.fresh i o k es ∙ j.refuses g es;
@@ -217,7 +217,7 @@ judged_marked old e i o k j = record {
 }
 
 pub tells_marked : (i : Inside) (o k : Bool) → Tells (emitter_of i)
-    → Tells (record { wishes = i.wishes; limit = i.limit; core = i.core; held = i.held; fresh = i.fresh; opened = o; closed = k; fault = option_map fault_of i.fault })
+    → Tells (record { requested_settings = i.requested_settings; limit = i.limit; core = i.core; held = i.held; fresh = i.fresh; opened = o; closed = k; fault = option_map fault_of i.fault })
 unfolding verdict Writes
 tells_marked i o k t = record {
   fault = t.fault ∙ ap (fault_by i.core.sink.status i.core.starved) (sym (marked_verdict i.fresh i o k []));
@@ -246,7 +246,7 @@ unfolding let_out
 held_stays [] r = refl
 held_stays (e ∷ es) r = rw r refl
 
-held_unjudged : (canonical : Bool) (h : Shape) (es : List Event) → is_ready es ≡ false → first_refusal canonical h (let_out es) ≡ None
+held_unjudged : (canonical : Bool) (h : Progress) (es : List Event) → is_ready es ≡ false → first_refusal canonical h (let_out es) ≡ None
 unfolding first_refusal
 held_unjudged canonical h es r = ap (first_refusal canonical h) (held_stays es r)
 
@@ -255,7 +255,7 @@ unfolding laid
 held_unwritten s st es c rest r = ap (λ z. laid s st z c rest) (held_stays es r)
 
 -- nothing is to come behind a refusal, and what is held isn't let out
-refusal_now : (p : Option Problem) (canonical : Bool) (h : Shape) (es : List Event) → (p ≡ None → is_ready es ≡ false) → p ≡ or_else p (first_refusal canonical h (let_out es))
+refusal_now : (p : Option Problem) (canonical : Bool) (h : Progress) (es : List Event) → (p ≡ None → is_ready es ≡ false) → p ≡ or_else p (first_refusal canonical h (let_out es))
 refusal_now None canonical h es w = sym (held_unjudged canonical h es (w refl))
 refusal_now (Some x) canonical h es w = refl
 
@@ -263,7 +263,7 @@ text_now : (p : Option Problem) (s : Settings) (st : State) (es : List Event) (c
 text_now None s st es c w = held_unwritten s st es c nothing_more (w refl)
 text_now (Some x) s st es c w = refl
 
-open_goes : (s : Status) (p : Place) → s ≡ Going → refused_at p ≡ None → goes_on s p ≡ true
+open_goes : (s : Status) (p : Expected) → s ≡ Going → refused_at p ≡ None → goes_on s p ≡ true
 open_goes Going at.StreamStart g h = refl
 open_goes Going (at.Documents first unended) g h = refl
 open_goes Going at.Node g h = refl
@@ -305,7 +305,7 @@ first_output : (e : Emitter) (x : Encoding) (whole : List Item) → e.fresh ≡ 
 unfolding Writes laid let_out encode is_deep
 first_output e x whole fr b g h =
     let P : Bool → Type 0 = λ z. WritesBy z e x [] whole in
-    let k : IsLetOut e.wishes x [] whole = subst P fr h in
+    let k : IsLetOut e.requested_settings x [] whole = subst P fr h in
     let S : Status → Type 0 = λ z. HasLetOut z e.limit e.core.sink.bytes (encode x whole) (is_deep whole) in
     let W : List Item → Type 0 = λ t. HasLetOut Going e.limit e.core.sink.bytes (encode x t) (is_deep t) in
     subst S (sym g) (subst W (sym k.is) (b, (rw b (omega arith), refl)))

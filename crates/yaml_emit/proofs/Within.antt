@@ -33,7 +33,7 @@ fits_at Full core xs whole same g w f = absurd (cc)
 fits_at Deep core xs whole same g w f = absurd (cc)
 fits_at Starved core xs whole same g w f = absurd (cc)
 
-no_stream : (e : Emitter) (x : Encoding) (whole : List Item) → IsStream e.wishes x [] whole → ⊥
+no_stream : (e : Emitter) (x : Encoding) (whole : List Item) → IsStream e.requested_settings x [] whole → ⊥
 no_stream e x whole h = let k = h.same in cc
 
 fits_by_fresh : (b : Bool) (e : Emitter) (x : Encoding) (whole : List Item) → e.core.sink.limit ≡ e.limit → e.core.sink.status ≡ Going → is_ready (held_events e.held) ≡ false → CompletesBy b e x [] whole → Fits e.limit x whole

@@ -13,11 +13,11 @@ use Rattle.yaml_scan.specs.Faults.{Fault, fault_of, memory_fault}
 use Rattle.yaml_emit_text.specs.declared.Encoding.{Encoding}
 use Rattle.yaml_emit_text.specs.declared.Status.{Status}
 use Rattle.yaml_emit_text.specs.declared.Status.TheVariants.{Going, Full, Deep, Starved}
-use Rattle.yaml_emit_text.specs.declared.Wishes.{Wishes}
+use Rattle.yaml_emit_text.specs.declared.RequestedSettings.{RequestedSettings}
 use Rattle.yaml_emit_text.specs.Text.{Item, encode, is_deep}
 use Rattle.yaml_emit_text.specs.Layout.{written}
 use Rattle.yaml_emit_text.specs.Settings.{settled}
-use Rattle.yaml_emit_layout.specs.declared.Place.{Place}
+use Rattle.yaml_emit_layout.specs.declared.Expected.{Expected}
 use Rattle.yaml_emit_layout.specs.declared.Problem.{Problem}
 use Rattle.yaml_parse.specs.Nodes as model
 use Rattle.yaml_parse.specs.Documents as documents
@@ -36,7 +36,7 @@ use Rattle.yaml_emit_graph.specs.Graph.{dumped}
 -- What a clause sees of an emitter.
 pub record Emitter : Type 0 where
   -- the settings that were set, and the limit
-  pub wishes : Wishes
+  pub requested_settings : RequestedSettings
   pub limit : ℕ
   pub core : Core
   pub held : Held
@@ -48,7 +48,7 @@ pub record Emitter : Type 0 where
   pub fault : Option Fault
 
 abbrev pub emitter_of : Inside → Emitter
-emitter_of e = record { wishes = e.wishes; limit = e.limit; core = e.core; held = e.held; fresh = e.fresh; opened = e.opened; closed = e.closed; fault = option_map fault_of e.fault }
+emitter_of e = record { requested_settings = e.requested_settings; limit = e.limit; core = e.core; held = e.held; fresh = e.fresh; opened = e.opened; closed = e.closed; fault = option_map fault_of e.fault }
 
 abbrev pub plain_fault : yaml_error_type_t → List ℕ → yaml_origin_t → Fault
 plain_fault kind problem origin = record { kind = kind; problem = problem; offset = 0; number = pos 0; problem_mark = zero_mark; context = None; context_mark = zero_mark; origin = origin }
@@ -85,7 +85,7 @@ fault_by Full levels p = stopped Full levels
 fault_by Deep levels p = stopped Deep levels
 fault_by Starved levels p = stopped Starved levels
 
-abbrev pub refusal_by : Place → Status → Bool → Option Fault
+abbrev pub refusal_by : Expected → Status → Bool → Option Fault
 refusal_by place s levels = fault_by s levels (refused_at place)
 
 abbrev pub refusal_of : Core → Option Fault
@@ -107,7 +107,7 @@ stream_encoding (stream_start x) = x
 stream_encoding e = YAML_ANY_ENCODING
 
 -- A fresh emitter's text: these events are a stream's in which nothing is wrong, and the text is its layout.
-pub record IsStream (w : Wishes) (x : Encoding) (es : List Event) (whole : List Item) : Type 0 where
+pub record IsStream (w : RequestedSettings) (x : Encoding) (es : List Event) (whole : List Item) : Type 0 where
   pub encoding : yaml_encoding_t
   pub documents : List Document
   pub coded : x ≡ (settled w encoding).encoding
@@ -116,7 +116,7 @@ pub record IsStream (w : Wishes) (x : Encoding) (es : List Event) (whole : List 
   pub is : whole ≡ written (stream_layout (settled w encoding) documents)
 
 abbrev pub CompletesBy : Bool → Emitter → Encoding → List Event → List Item → Type 0
-CompletesBy true e x es whole = IsStream e.wishes x es whole
+CompletesBy true e x es whole = IsStream e.requested_settings x es whole
 CompletesBy false e x es whole = (e.core.sink.encoding ≡ x) × Finishes e.core (held_events e.held ++ es) whole
 
 -- With these events to come, the whole text is `whole`, in that encoding.
@@ -126,14 +126,14 @@ Completes e x es whole = CompletesBy e.fresh e x es whole
 -- An event was given: whatever follows, the text is the same.
 pub record Given (old : Emitter) (e : Event) (new : Emitter) : Type 0 where
   pub completes : (x : Encoding) (es : List Event) (whole : List Item) → Completes old x (e ∷ es) whole → Completes new x es whole
-  pub wishes : new.wishes ≡ old.wishes
+  pub requested_settings : new.requested_settings ≡ old.requested_settings
   pub limit : new.limit ≡ old.limit
   pub begun : new.fresh ≡ false
 
 -- Of some events that were to come those are still to come, whatever follows.
-pub record Gives (old : Emitter) (es : List Event) (new : Emitter) (left : List Event) : Type 0 where
+pub record GivesSome (old : Emitter) (es : List Event) (new : Emitter) (left : List Event) : Type 0 where
   pub completes : (x : Encoding) (more : List Event) (whole : List Item) → Completes old x (es ++ more) whole → Completes new x (left ++ more) whole
-  pub wishes : new.wishes ≡ old.wishes
+  pub requested_settings : new.requested_settings ≡ old.requested_settings
   pub limit : new.limit ≡ old.limit
   pub begun : old.fresh ≡ false → new.fresh ≡ false
 
@@ -158,15 +158,15 @@ abbrev pub closing_events : Bool → List Event
 closing_events true = []
 closing_events false = stream_end ∷ []
 
-abbrev pub said_by : Bool → List model.Node → documents.Document → List Event
-said_by closed [] d = closing_events closed
-said_by closed (n ∷ ns) d = dumped d
+abbrev pub document_events_by : Bool → List model.Node → documents.Document → List Event
+document_events_by closed [] d = closing_events closed
+document_events_by closed (n ∷ ns) d = dumped d
 
-abbrev pub said_document : Bool → documents.Document → List Event
-said_document closed d = said_by closed d.nodes d
+abbrev pub document_events : Bool → documents.Document → List Event
+document_events closed d = document_events_by closed d.nodes d
 
 abbrev pub dump_events : Emitter → documents.Document → List Event
-dump_events e d = opening_events e.opened ++ said_document e.closed d
+dump_events e d = opening_events e.opened ++ document_events e.closed d
 
 -- ---- the limits
 
@@ -201,11 +201,11 @@ abbrev pub IsWhole : Emitter → List ℕ → Type 0
 IsWhole e output = e.fault ≡ None → (x : Encoding) (whole : List Item) → Completes e x [] whole → output ≡ encode x whole
 
 -- a new emitter: any encoding and break, canonical and unicode off, indent 2, width 80
-abbrev pub first_wishes : Wishes
-first_wishes = record { encoding = YAML_ANY_ENCODING; canonical = false; indent = pos 2; width = pos 80; unicode = false; line_break = YAML_ANY_BREAK }
+abbrev pub first_requested : RequestedSettings
+first_requested = record { encoding = YAML_ANY_ENCODING; canonical = false; indent = pos 2; width = pos 80; unicode = false; line_break = YAML_ANY_BREAK }
 
 pub record IsNew (e : Emitter) (most : ℕ) : Type 0 where
-  pub wishes : e.wishes ≡ first_wishes
+  pub requested_settings : e.requested_settings ≡ first_requested
   pub limit : e.limit ≡ most
   pub fresh : e.fresh ≡ true
   pub opened : e.opened ≡ false
@@ -216,7 +216,7 @@ pub record IsNew (e : Emitter) (most : ℕ) : Type 0 where
 -- the settings came into force with the first event
 pub record Begins (old : Emitter) (e : Event) (new : Emitter) : Type 0 where
   pub completes : (x : Encoding) (es : List Event) (whole : List Item) → Completes old x (e ∷ es) whole → Completes new x (e ∷ es) whole
-  pub wishes : new.wishes ≡ old.wishes
+  pub requested_settings : new.requested_settings ≡ old.requested_settings
   pub limit : new.limit ≡ old.limit
   pub begun : new.fresh ≡ false
   pub fault : new.fault ≡ None

@@ -2,7 +2,7 @@
 use Rattle.std.specs.Prelude.{ℕ, Bool, true, false, not, ◌&&◌, ◌||◌, nat_le, List, [], ◌∷◌, length}
 use Rattle.yaml_parse.specs.Events.{EventBody, body_of}
 use Rattle.yaml_parse.specs.Constructors.{HasUtf8}
-use Rattle.yaml_emit_layout.specs.Content.{Event, no_event, stream_start, stream_end, document_start, document_end, alias, scalar, sequence_start, sequence_end, mapping_start, mapping_end, said}
+use Rattle.yaml_emit_layout.specs.Content.{Event, no_event, stream_start, stream_end, document_start, document_end, alias, scalar, sequence_start, sequence_end, mapping_start, mapping_end, emitter_event}
 use Rattle.yaml_emit.specs.declared.held.Held.{Held}
 use Rattle.yaml_emit.specs.declared.held.Count.{Count}
 use Rattle.yaml_emit.specs.declared.held.Count.TheVariants.{Nothing, One, Two, Three, Four}
@@ -18,7 +18,7 @@ oldest Fourth a b c d = d
 
 -- the event in the oldest's place
 abbrev pub oldest_event : Held → Event
-oldest_event h = said (body_of (oldest h.start h.first h.second h.third h.fourth))
+oldest_event h = emitter_event (body_of (oldest h.start h.first h.second h.third h.fourth))
 
 abbrev pub events_by : Count → Event → Event → Event → Event → List Event
 events_by Nothing a b c d = []
@@ -29,8 +29,8 @@ events_by Four a b c d = a ∷ b ∷ c ∷ d ∷ []
 
 -- the oldest first
 abbrev pub held_events : Held → List Event
-held_events h = events_by h.count (said (body_of (oldest h.start h.first h.second h.third h.fourth))) (said (body_of (oldest h.start h.second h.third h.fourth h.first)))
-    (said (body_of (oldest h.start h.third h.fourth h.first h.second))) (said (body_of (oldest h.start h.fourth h.first h.second h.third)))
+held_events h = events_by h.count (emitter_event (body_of (oldest h.start h.first h.second h.third h.fourth))) (emitter_event (body_of (oldest h.start h.second h.third h.fourth h.first)))
+    (emitter_event (body_of (oldest h.start h.third h.fourth h.first h.second))) (emitter_event (body_of (oldest h.start h.fourth h.first h.second h.third)))
 
 abbrev pub Utf8By : Count → EventBody → EventBody → EventBody → EventBody → Type 0
 Utf8By Nothing a b c d = Unit {0}

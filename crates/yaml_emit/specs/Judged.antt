@@ -11,8 +11,8 @@ use Rattle.yaml_emit_layout.specs.declared.Problem.{Problem}
 use Rattle.yaml_emit_layout.specs.declared.Level.{Level}
 use Rattle.yaml_emit_layout.specs.declared.Phase.{Phase}
 use Rattle.yaml_emit_layout.specs.declared.Phase.TheVariants.{Items, Keys, Value}
-use Rattle.yaml_emit_layout.specs.declared.Place.{Place}
-use Rattle.yaml_emit_layout.specs.declared.Place.TheVariants as at
+use Rattle.yaml_emit_layout.specs.declared.Expected.{Expected}
+use Rattle.yaml_emit_layout.specs.declared.Expected.TheVariants as at
 use Rattle.yaml_emit_layout.specs.Content.{Document, stream_events, Event, no_event, stream_start, stream_end, document_start, document_end, alias, scalar, sequence_start, sequence_end, mapping_start, mapping_end}
 use Rattle.yaml_emit_layout.specs.Grammar.{or_else, problem_by, own_problems}
 use Rattle.yaml_emit_layout.specs.State.{State, piece, next, problem_at, opens_empty}
@@ -27,19 +27,19 @@ pub data Due : Type 0 where
   value_due : Due
 
 -- what a list of events has come to: what is expected next, and what is due in the open collections, the innermost first
-pub record Shape : Type 0 where
-  pub place : Place
+pub record Progress : Type 0 where
+  pub place : Expected
   pub due : List Due
 
-abbrev pub at_place : Place → Shape
+abbrev pub at_place : Expected → Progress
 at_place p = record { place = p; due = [] }
 
 -- no event has come
-abbrev pub first_shape : Shape
-first_shape = at_place at.StreamStart
+abbrev pub first_progress : Progress
+first_progress = at_place at.StreamStart
 
 -- in these open collections; behind the last one the document ends
-abbrev pub inside : List Due → Shape
+abbrev pub inside : List Due → Progress
 inside [] = at_place at.DocumentEnd
 inside (d ∷ ds) = record { place = at.Node; due = d ∷ ds }
 
@@ -55,18 +55,18 @@ outer_due [] = []
 outer_due (d ∷ ds) = ds
 
 -- an event has come in its right place
-unfoldable pub shape_after : Shape → Event → Shape
-shape_after h no_event = h
-shape_after h (stream_start x) = at_place (at.Documents true false)
-shape_after h stream_end = at_place at.End
-shape_after h (document_start o) = at_place at.Node
-shape_after h (document_end implicit) = at_place (at.Documents false implicit)
-shape_after h (alias name) = inside (behind_node h.due)
-shape_after h (scalar x) = inside (behind_node h.due)
-shape_after h (sequence_start p) = inside (item_due ∷ behind_node h.due)
-shape_after h (mapping_start p) = inside (key_due ∷ behind_node h.due)
-shape_after h sequence_end = inside (outer_due h.due)
-shape_after h mapping_end = inside (outer_due h.due)
+unfoldable pub progress_after : Progress → Event → Progress
+progress_after h no_event = h
+progress_after h (stream_start x) = at_place (at.Documents true false)
+progress_after h stream_end = at_place at.End
+progress_after h (document_start o) = at_place at.Node
+progress_after h (document_end implicit) = at_place (at.Documents false implicit)
+progress_after h (alias name) = inside (behind_node h.due)
+progress_after h (scalar x) = inside (behind_node h.due)
+progress_after h (sequence_start p) = inside (item_due ∷ behind_node h.due)
+progress_after h (mapping_start p) = inside (key_due ∷ behind_node h.due)
+progress_after h sequence_end = inside (outer_due h.due)
+progress_after h mapping_end = inside (outer_due h.due)
 
 abbrev pub phase_due : Due → Phase
 phase_due item_due = Items false
@@ -79,7 +79,7 @@ level_due [] = None
 level_due (d ∷ ds) = Some (record { phase = phase_due d; flow = false; indent = 0 })
 
 -- what is wrong with an event behind a list
-abbrev pub problem_in : Bool → Shape → Event → Option Problem
+abbrev pub problem_in : Bool → Progress → Event → Option Problem
 problem_in canonical h e = problem_by canonical h.place (level_due h.due) e
 
 -- The events of a list that are let out: all in front of the first one that is still held.
@@ -88,13 +88,13 @@ let_out [] = []
 let_out (e ∷ es) = if is_ready (e ∷ es) then e ∷ let_out es else []
 
 -- the problem of the first event of a list that is refused
-unfoldable pub first_refusal : Bool → Shape → List Event → Option Problem
+unfoldable pub first_refusal : Bool → Progress → List Event → Option Problem
 first_refusal canonical h [] = None
-first_refusal canonical h (e ∷ es) = or_else (problem_in canonical h e) (first_refusal canonical (shape_after h e) es)
+first_refusal canonical h (e ∷ es) = or_else (problem_in canonical h e) (first_refusal canonical (progress_after h e) es)
 
 -- in a front of a stream's events, with nothing wrong in them, none is refused
 abbrev pub PassesStreams : Type 0
-PassesStreams = (s : Settings) (x : yaml_encoding_t) (ds : List Document) (es more : List Event) → es ++ more ≡ stream_events x ds → own_problems s.canonical (es ++ more) ≡ None → first_refusal s.canonical first_shape es ≡ None
+PassesStreams = (s : Settings) (x : yaml_encoding_t) (ds : List Document) (es more : List Event) → es ++ more ≡ stream_events x ds → own_problems s.canonical (es ++ more) ≡ None → first_refusal s.canonical first_progress es ≡ None
 
 -- unless there is a problem
 abbrev pub unless : Option Problem → Layout → Layout
@@ -108,7 +108,7 @@ laid s st (e ∷ es) = unless (problem_at s st e) (λ c rest. piece s st e (open
 
 -- ---- behind some events that were laid out
 
-abbrev pub refused_at : Place → Option Problem
+abbrev pub refused_at : Expected → Option Problem
 refused_at (at.Refused p) = Some p
 refused_at at.StreamStart = None
 refused_at (at.Documents first unended) = None
@@ -125,7 +125,7 @@ abbrev pub due_of : List Level → List Due
 due_of [] = []
 due_of (l ∷ ls) = due_in l.phase ∷ due_of ls
 
-abbrev pub shape_of : State → Shape
+abbrev pub shape_of : State → Progress
 shape_of st = record { place = st.place; due = due_of st.levels }
 
 -- the first refusal among those that are let out; one that has come stays the first

@@ -5,21 +5,21 @@ use Rattle.yaml_emit_text.specs.declared.Encoding.{Encoding}
 use Rattle.yaml_emit_text.specs.declared.Settings.{Settings}
 use Rattle.yaml_emit_text.specs.declared.Status.{Status}
 use Rattle.yaml_emit_text.specs.declared.Status.TheVariants.{Going, Full, Deep, Starved}
-use Rattle.yaml_emit_text.specs.declared.Wishes.{Wishes}
+use Rattle.yaml_emit_text.specs.declared.RequestedSettings.{RequestedSettings}
 use Rattle.yaml_emit_text.specs.Text.{Item, encode, is_deep}
 use Rattle.yaml_emit_text.specs.Layout.{written}
 use Rattle.yaml_emit_text.specs.Settings.{settled}
 use Rattle.yaml_emit_layout.specs.declared.Problem.{Problem}
-use Rattle.yaml_emit_layout.specs.declared.Place.TheVariants as at
+use Rattle.yaml_emit_layout.specs.declared.Expected.TheVariants as at
 use Rattle.yaml_emit_layout.specs.Content.{Event}
 use Rattle.yaml_emit_layout.specs.State.{placed}
 use Rattle.yaml_emit.specs.Held.{held_events}
 use Rattle.yaml_emit_state.specs.Steps.{Notes}
-use Rattle.yaml_emit.specs.Judged.{first_shape, let_out, first_refusal, laid, refusal_behind, LetsOut, take_memory}
+use Rattle.yaml_emit.specs.Judged.{first_progress, let_out, first_refusal, laid, refusal_behind, LetsOut, take_memory}
 use Rattle.yaml_emit.specs.Emitter.{Emitter, stream_encoding, fault_by, HasWritten}
 
 abbrev pub verdict_by : Bool → Emitter → List Event → Option Problem
-verdict_by true e es = first_refusal e.wishes.canonical first_shape (let_out es)
+verdict_by true e es = first_refusal e.requested_settings.canonical first_progress (let_out es)
 verdict_by false e es = refusal_behind e.core (held_events e.held ++ es)
 
 -- The problem of the first event that is refused, among those that are let out once these are given too.
@@ -27,17 +27,17 @@ unfoldable pub verdict : Emitter → List Event → Option Problem
 verdict e es = verdict_by e.fresh e es
 
 -- the settings in force from the first event on
-abbrev pub first_settings : Wishes → List Event → Settings
+abbrev pub first_settings : RequestedSettings → List Event → Settings
 first_settings w [] = settled w YAML_ANY_ENCODING
 first_settings w (e ∷ es) = settled w (stream_encoding e)
 
 -- a fresh emitter's text, and its encoding
-pub record IsLetOut (w : Wishes) (x : Encoding) (es : List Event) (whole : List Item) : Type 0 where
+pub record IsLetOut (w : RequestedSettings) (x : Encoding) (es : List Event) (whole : List Item) : Type 0 where
   pub coded : x ≡ (first_settings w es).encoding
   pub is : whole ≡ written (laid (first_settings w es) (placed at.StreamStart) (let_out es))
 
 abbrev pub WritesBy : Bool → Emitter → Encoding → List Event → List Item → Type 0
-WritesBy true e x es whole = IsLetOut e.wishes x es whole
+WritesBy true e x es whole = IsLetOut e.requested_settings x es whole
 WritesBy false e x es whole = (e.core.sink.encoding ≡ x) × LetsOut e.core (held_events e.held ++ es) whole
 
 -- Once these events are given too, `whole` is what is written, in that encoding: all events that are let out, up to the first

@@ -5,7 +5,7 @@ ghost use Rattle.yaml_scan.specs.Faults.{Fault, fault_of, memory_fault};
 ghost use Rattle.yaml_scan.specs.declared.yaml_origin_t.TheVariants as from;
 ghost use Rattle.yaml_parse.specs.Events.{event_of, body_of};
 ghost use Rattle.yaml_parse.specs.Constructors.{HasUtf8};
-ghost use Rattle.yaml_emit_layout.specs.Content.{said};
+ghost use Rattle.yaml_emit_layout.specs.Content.{emitter_event};
 ghost use Rattle.yaml_emit.specs.Emitter.{stream_encoding, refusal_of, IsNew, IsLimited, ShowsFront, IsWhole, Given, Begins, Answers, Stays};
 ghost use Rattle.yaml_emit.specs.Within.{IsWithin};
 ghost use Rattle.yaml_emit.specs.Verdict.{Judged, JudgesFirst, Tells};
@@ -19,14 +19,14 @@ pub use dump::{yaml_emitter_close, yaml_emitter_dump, yaml_emitter_open};
 use std::alloc::Global;
 use std::marker::Model;
 use yaml_emit_state::Core;
-use yaml_emit_text::{Wishes, settled};
+use yaml_emit_text::{RequestedSettings, settled};
 use yaml_parse::{yaml_event_body_t, yaml_event_t};
 use yaml_scan::{yaml_break_t, yaml_encoding_t, yaml_fault_t};
 
 /// An emitter: events to text.
 #[derive(Drop)]
 pub struct yaml_emitter_t {
-    wishes: Wishes,
+    requested_settings: RequestedSettings,
     limit: u64,
     alloc: Global,
     core: Core,
@@ -51,7 +51,7 @@ impl Model for yaml_emitter_t {
 
 // The encoding of a stream that starts with an event.
 fn stream_encoding(event: &yaml_event_body_t) -> yaml_encoding_t
-    ensures { result ≡ stream_encoding (said (body_of event.now)) }
+    ensures { result ≡ stream_encoding (emitter_event (body_of event.now)) }
 {
     match event {
         yaml_event_body_t::StreamStart { encoding } => *encoding,
@@ -65,14 +65,14 @@ pub fn yaml_emitter_initialize(alloc: Global, limit: u64) -> Result<yaml_emitter
     ensures is { IfOk result (λ e. IsNew e limit) }
     ensures memory { IfErr result (λ f. fault_of f ≡ memory_fault from.Emitter) }
 {
-    let wishes = Wishes::new();
+    let requested_settings = RequestedSettings::new();
     Ok(yaml_emitter_t {
-        wishes,
+        requested_settings,
         limit,
         alloc,
         core: Core::new(
             alloc,
-            settled(wishes, yaml_encoding_t::YAML_ANY_ENCODING),
+            settled(requested_settings, yaml_encoding_t::YAML_ANY_ENCODING),
             limit,
         ),
         held: Held::nothing(),
@@ -87,49 +87,49 @@ pub fn yaml_emitter_initialize(alloc: Global, limit: u64) -> Result<yaml_emitter
 /// setter asks that no event was given, which `yaml_emitter_fresh` tells; the last one counts.
 pub fn yaml_emitter_set_encoding(emitter: &mut yaml_emitter_t, encoding: yaml_encoding_t)
     requires { emitter.old.fresh ≡ true }
-    ensures { emitter.new ≡ record emitter.old { wishes = record emitter.old.wishes { encoding = encoding } } }
+    ensures { emitter.new ≡ record emitter.old { requested_settings = record emitter.old.requested_settings { encoding = encoding } } }
 {
-    emitter.wishes.encoding = encoding;
+    emitter.requested_settings.encoding = encoding;
 }
 
 /// Canonical form, or pretty.
 pub fn yaml_emitter_set_canonical(emitter: &mut yaml_emitter_t, canonical: bool)
     requires { emitter.old.fresh ≡ true }
-    ensures { emitter.new ≡ record emitter.old { wishes = record emitter.old.wishes { canonical = canonical } } }
+    ensures { emitter.new ≡ record emitter.old { requested_settings = record emitter.old.requested_settings { canonical = canonical } } }
 {
-    emitter.wishes.canonical = canonical;
+    emitter.requested_settings.canonical = canonical;
 }
 
 /// The columns of one level: 2 to 9; any other number means 2.
 pub fn yaml_emitter_set_indent(emitter: &mut yaml_emitter_t, indent: i32)
     requires { emitter.old.fresh ≡ true }
-    ensures { emitter.new ≡ record emitter.old { wishes = record emitter.old.wishes { indent = indent } } }
+    ensures { emitter.new ≡ record emitter.old { requested_settings = record emitter.old.requested_settings { indent = indent } } }
 {
-    emitter.wishes.indent = indent;
+    emitter.requested_settings.indent = indent;
 }
 
 /// The column past which lines are cut. A negative one means 2,147,483,647; 0 to twice the indent means 80.
 pub fn yaml_emitter_set_width(emitter: &mut yaml_emitter_t, width: i32)
     requires { emitter.old.fresh ≡ true }
-    ensures { emitter.new ≡ record emitter.old { wishes = record emitter.old.wishes { width = width } } }
+    ensures { emitter.new ≡ record emitter.old { requested_settings = record emitter.old.requested_settings { width = width } } }
 {
-    emitter.wishes.width = width;
+    emitter.requested_settings.width = width;
 }
 
 /// Whether characters above U+007F stand as they are.
 pub fn yaml_emitter_set_unicode(emitter: &mut yaml_emitter_t, unicode: bool)
     requires { emitter.old.fresh ≡ true }
-    ensures { emitter.new ≡ record emitter.old { wishes = record emitter.old.wishes { unicode = unicode } } }
+    ensures { emitter.new ≡ record emitter.old { requested_settings = record emitter.old.requested_settings { unicode = unicode } } }
 {
-    emitter.wishes.unicode = unicode;
+    emitter.requested_settings.unicode = unicode;
 }
 
 /// What ends a line. Any break means LF.
 pub fn yaml_emitter_set_break(emitter: &mut yaml_emitter_t, line_break: yaml_break_t)
     requires { emitter.old.fresh ≡ true }
-    ensures { emitter.new ≡ record emitter.old { wishes = record emitter.old.wishes { line_break = line_break } } }
+    ensures { emitter.new ≡ record emitter.old { requested_settings = record emitter.old.requested_settings { line_break = line_break } } }
 {
-    emitter.wishes.line_break = line_break;
+    emitter.requested_settings.line_break = line_break;
 }
 
 /// Whether no event was given.
@@ -188,10 +188,10 @@ impl yaml_emitter_t {
     #[inline(never)]
     fn begin(&mut self, event: &yaml_event_body_t)
         requires { self.old.fresh ≡ true }
-        ensures begins { Begins self.old (said (body_of event.now)) self.new }
-        ensures judged { JudgesFirst self.old (said (body_of event.now)) self.new }
+        ensures begins { Begins self.old (emitter_event (body_of event.now)) self.new }
+        ensures judged { JudgesFirst self.old (emitter_event (body_of event.now)) self.new }
     {
-        let settings = settled(self.wishes, stream_encoding(event));
+        let settings = settled(self.requested_settings, stream_encoding(event));
         self.core = Core::new(self.alloc, settings, self.limit);
         self.fresh = false;
     }
@@ -201,8 +201,8 @@ impl yaml_emitter_t {
         requires utf8 { HasUtf8 (body_of event.old) }
         requires right { self.old.fault ≡ None }
         requires begun { self.old.fresh ≡ false }
-        ensures given { Given self.old (said (body_of event.old)) self.new }
-        ensures judged { Judged self.old (said (body_of event.old)) self.new }
+        ensures given { Given self.old (emitter_event (body_of event.old)) self.new }
+        ensures judged { Judged self.old (emitter_event (body_of event.old)) self.new }
         ensures opened { (self.new.opened ≡ self.old.opened) × (self.new.closed ≡ self.old.closed) }
     {
         give(&mut self.core, &mut self.held, event);
@@ -214,8 +214,8 @@ impl yaml_emitter_t {
     fn take(&mut self, event: &mut yaml_event_body_t)
         requires utf8 { HasUtf8 (body_of event.old) }
         requires right { self.old.fault ≡ None }
-        ensures given { Given self.old (said (body_of event.old)) self.new }
-        ensures judged { Judged self.old (said (body_of event.old)) self.new }
+        ensures given { Given self.old (emitter_event (body_of event.old)) self.new }
+        ensures judged { Judged self.old (emitter_event (body_of event.old)) self.new }
         ensures opened { (self.new.opened ≡ self.old.opened) × (self.new.closed ≡ self.old.closed) }
     {
         if self.fresh {
@@ -241,8 +241,8 @@ impl yaml_emitter_t {
     #[inline(never)]
     fn give(&mut self, event: &mut yaml_event_body_t)
         requires { HasUtf8 (body_of event.old) }
-        ensures given { Given self.old (said (body_of event.old)) self.new }
-        ensures judged { Judged self.old (said (body_of event.old)) self.new }
+        ensures given { Given self.old (emitter_event (body_of event.old)) self.new }
+        ensures judged { Judged self.old (emitter_event (body_of event.old)) self.new }
         ensures stays { Stays self.old self.new }
         ensures opened { (self.new.opened ≡ self.old.opened) × (self.new.closed ≡ self.old.closed) }
     {
@@ -258,8 +258,8 @@ impl yaml_emitter_t {
     #[inline(always)]
     fn emit_from(&mut self, event: &mut yaml_event_body_t) -> Result<(), yaml_fault_t>
         requires { HasUtf8 (body_of event.old) }
-        ensures given { Given self.old (said (body_of event.old)) self.new }
-        ensures judged { Judged self.old (said (body_of event.old)) self.new }
+        ensures given { Given self.old (emitter_event (body_of event.old)) self.new }
+        ensures judged { Judged self.old (emitter_event (body_of event.old)) self.new }
         ensures answer { Answers self.new.fault result }
         ensures tells { Tells self.new }
         ensures stays { Stays self.old self.new }
@@ -271,8 +271,8 @@ impl yaml_emitter_t {
 
     fn emit(&mut self, event: yaml_event_body_t) -> Result<(), yaml_fault_t>
         requires { HasUtf8 (body_of event) }
-        ensures given { Given self.old (said (body_of event)) self.new }
-        ensures judged { Judged self.old (said (body_of event)) self.new }
+        ensures given { Given self.old (emitter_event (body_of event)) self.new }
+        ensures judged { Judged self.old (emitter_event (body_of event)) self.new }
         ensures answer { Answers self.new.fault result }
         ensures tells { Tells self.new }
         ensures stays { Stays self.old self.new }
@@ -293,8 +293,8 @@ pub fn yaml_emitter_emit(
     event: yaml_event_t,
 ) -> Result<(), yaml_fault_t>
     requires { HasUtf8 (event_of event).body }
-    ensures given { Given emitter.old (said (event_of event).body) emitter.new }
-    ensures judged { Judged emitter.old (said (event_of event).body) emitter.new }
+    ensures given { Given emitter.old (emitter_event (event_of event).body) emitter.new }
+    ensures judged { Judged emitter.old (emitter_event (event_of event).body) emitter.new }
     ensures tells { Tells emitter.new }
     ensures answer { Answers emitter.new.fault result }
     ensures stays { Stays emitter.old emitter.new }
@@ -310,8 +310,8 @@ pub fn yaml_emitter_emit(
 /// is one, is the emitter's (`yaml_emitter_fault`).
 pub fn yaml_emitter_emit_from(emitter: &mut yaml_emitter_t, event: &mut yaml_event_t)
     requires { HasUtf8 (event_of event.old).body }
-    ensures given { Given emitter.old (said (event_of event.old).body) emitter.new }
-    ensures judged { Judged emitter.old (said (event_of event.old).body) emitter.new }
+    ensures given { Given emitter.old (emitter_event (event_of event.old).body) emitter.new }
+    ensures judged { Judged emitter.old (emitter_event (event_of event.old).body) emitter.new }
     ensures stays { Stays emitter.old emitter.new }
     ensures opened { (emitter.new.opened ≡ emitter.old.opened) × (emitter.new.closed ≡ emitter.old.closed) }
 {

@@ -5,7 +5,7 @@ ghost use Rattle.yaml_scan.specs.Faults.{fault_of, memory_fault};
 ghost use Rattle.yaml_emit.specs.Judged.{refused_at};
 ghost use Rattle.yaml_emit.specs.Emitter.{plain_fault, emitter_fault, problem_fault, memory_origin, stopped, refusal_of};
 
-use yaml_emit_layout::{Place, problem_text};
+use yaml_emit_layout::{Expected, problem_text};
 use yaml_emit_state::Core;
 use yaml_emit_text::Status;
 use yaml_scan::{yaml_error_type_t, yaml_fault_t, yaml_mark_t, yaml_memory_fault, yaml_origin_t};
@@ -71,11 +71,11 @@ fn stopped(status: Status, levels: bool) -> Option<yaml_fault_t>
 }
 
 // The fault of a refused event.
-fn refused(place: Place) -> Option<yaml_fault_t>
+fn refused(place: Expected) -> Option<yaml_fault_t>
     ensures { option_map fault_of result ≡ option_map problem_fault (refused_at place) }
 {
     match place {
-        Place::Refused(problem) => Some(emitter_fault(problem_text(problem))),
+        Expected::Refused(problem) => Some(emitter_fault(problem_text(problem))),
         _ => None,
     }
 }

@@ -3,7 +3,7 @@
 ghost use Rattle.std.specs.Prelude.{◌≡◌, ◌<◌, ◌≤◌, ◌++◌, ◌∷◌, [], true, false, length, List};
 ghost use Rattle.yaml_parse.specs.Events.{body_of};
 ghost use Rattle.yaml_parse.specs.Constructors.{HasUtf8};
-ghost use Rattle.yaml_emit_layout.specs.Content.{said};
+ghost use Rattle.yaml_emit_layout.specs.Content.{emitter_event};
 ghost use Rattle.yaml_emit_layout.specs.State.{opens_empty, closes_by};
 ghost use Rattle.yaml_emit_state.specs.Steps.{LaysOut};
 
@@ -61,7 +61,7 @@ impl Held {
     }
 
     fn opens_level(event: &yaml_event_body_t) -> bool
-        ensures { result ≡ opens_level (said (body_of event.now)) }
+        ensures { result ≡ opens_level (emitter_event (body_of event.now)) }
     {
         match event {
             yaml_event_body_t::StreamStart { .. }
@@ -73,7 +73,7 @@ impl Held {
     }
 
     fn ends_level(event: &yaml_event_body_t) -> bool
-        ensures { result ≡ ends_level (said (body_of event.now)) }
+        ensures { result ≡ ends_level (emitter_event (body_of event.now)) }
     {
         match event {
             yaml_event_body_t::StreamEnd
@@ -86,7 +86,7 @@ impl Held {
 
     // How many events an event needs behind it.
     fn needs(event: &yaml_event_body_t) -> u64
-        ensures { result ≡ needs (said (body_of event.now)) }
+        ensures { result ≡ needs (emitter_event (body_of event.now)) }
     {
         match event {
             yaml_event_body_t::DocumentStart { .. } => 1,
@@ -97,7 +97,7 @@ impl Held {
     }
 
     fn closes_by(first: &yaml_event_body_t, second: &yaml_event_body_t) -> bool
-        ensures { result ≡ closes_by (said (body_of first.now)) (said (body_of second.now)) }
+        ensures { result ≡ closes_by (emitter_event (body_of first.now)) (emitter_event (body_of second.now)) }
     {
         match first {
             yaml_event_body_t::SequenceStart { .. } => match second {
@@ -114,14 +114,14 @@ impl Held {
 
     // One event ends a level.
     fn closes_one(second: &yaml_event_body_t) -> bool
-        ensures { result ≡ closes (said (body_of second.now) ∷ []) }
+        ensures { result ≡ closes (emitter_event (body_of second.now) ∷ []) }
     {
         Held::ends_level(second) || (!Held::opens_level(second) && false)
     }
 
     // One of two events ends a level before another is opened.
     fn closes_two(second: &yaml_event_body_t, third: &yaml_event_body_t) -> bool
-        ensures { result ≡ closes (said (body_of second.now) ∷ said (body_of third.now) ∷ []) }
+        ensures { result ≡ closes (emitter_event (body_of second.now) ∷ emitter_event (body_of third.now) ∷ []) }
     {
         Held::ends_level(second) || (!Held::opens_level(second) && Held::closes_one(third))
     }
@@ -129,7 +129,7 @@ impl Held {
     /// Whether an event that comes needn't be held: nothing is, and it needs nothing behind it.
     #[tactic(auto, unfolding(crate::specs::Held::is_ready))]
     pub fn passes(&self, event: &yaml_event_body_t) -> bool
-        ensures { result ≡ passes (held_events self.now) (said (body_of event.now)) }
+        ensures { result ≡ passes (held_events self.now) (emitter_event (body_of event.now)) }
     {
         match self.count {
             Count::Nothing => Held::needs(event) == 0,
@@ -146,9 +146,9 @@ impl Held {
         fourth: &mut yaml_event_body_t,
         event: &mut yaml_event_body_t,
     )
-        requires few { length (events_by count.old (said (body_of first.old)) (said (body_of second.old)) (said (body_of third.old)) (said (body_of fourth.old))) < 4 }
+        requires few { length (events_by count.old (emitter_event (body_of first.old)) (emitter_event (body_of second.old)) (emitter_event (body_of third.old)) (emitter_event (body_of fourth.old))) < 4 }
         requires utf8 { Utf8By count.old (body_of first.old) (body_of second.old) (body_of third.old) (body_of fourth.old) × HasUtf8 (body_of event.old) }
-        ensures events { events_by count.new (said (body_of first.new)) (said (body_of second.new)) (said (body_of third.new)) (said (body_of fourth.new)) ≡ events_by count.old (said (body_of first.old)) (said (body_of second.old)) (said (body_of third.old)) (said (body_of fourth.old)) ++ said (body_of event.old) ∷ [] }
+        ensures events { events_by count.new (emitter_event (body_of first.new)) (emitter_event (body_of second.new)) (emitter_event (body_of third.new)) (emitter_event (body_of fourth.new)) ≡ events_by count.old (emitter_event (body_of first.old)) (emitter_event (body_of second.old)) (emitter_event (body_of third.old)) (emitter_event (body_of fourth.old)) ++ emitter_event (body_of event.old) ∷ [] }
         ensures utf8 { Utf8By count.new (body_of first.new) (body_of second.new) (body_of third.new) (body_of fourth.new) }
     {
         match *count {
@@ -176,7 +176,7 @@ impl Held {
     pub fn push(&mut self, event: &mut yaml_event_body_t)
         requires few { length (held_events self.old) < 4 }
         requires utf8 { HeldUtf8 self.old × HasUtf8 (body_of event.old) }
-        ensures events { held_events self.new ≡ held_events self.old ++ said (body_of event.old) ∷ [] }
+        ensures events { held_events self.new ≡ held_events self.old ++ emitter_event (body_of event.old) ∷ [] }
         ensures utf8 { HeldUtf8 self.new }
     {
         match self.start {
@@ -223,7 +223,7 @@ impl Held {
         third: &yaml_event_body_t,
         fourth: &yaml_event_body_t,
     ) -> bool
-        ensures { result ≡ is_ready (events_by count (said (body_of first.now)) (said (body_of second.now)) (said (body_of third.now)) (said (body_of fourth.now))) }
+        ensures { result ≡ is_ready (events_by count (emitter_event (body_of first.now)) (emitter_event (body_of second.now)) (emitter_event (body_of third.now)) (emitter_event (body_of fourth.now))) }
     {
         let _ = fourth;
         match count {
@@ -274,7 +274,7 @@ impl Held {
     // An event is laid out where it stands, by whether the next one closes what it opens.
     fn lay_before(core: &mut Core, event: &mut yaml_event_body_t, next: &yaml_event_body_t)
         requires { HasUtf8 (body_of event.old) }
-        ensures { LaysOut core.old core.new (said (body_of event.old)) (closes_by (said (body_of event.old)) (said (body_of next.now))) }
+        ensures { LaysOut core.old core.new (emitter_event (body_of event.old)) (closes_by (emitter_event (body_of event.old)) (emitter_event (body_of next.now))) }
     {
         let empty = Held::closes_by(event, next);
         core.lay_out(event, empty);
@@ -290,11 +290,11 @@ impl Held {
         third: &yaml_event_body_t,
         fourth: &yaml_event_body_t,
     )
-        requires ready { is_ready (events_by count.old (said (body_of first.old)) (said (body_of second.now)) (said (body_of third.now)) (said (body_of fourth.now))) ≡ true }
+        requires ready { is_ready (events_by count.old (emitter_event (body_of first.old)) (emitter_event (body_of second.now)) (emitter_event (body_of third.now)) (emitter_event (body_of fourth.now))) ≡ true }
         requires utf8 { Utf8By count.old (body_of first.old) (body_of second.now) (body_of third.now) (body_of fourth.now) }
-        ensures events { events_by count.old (said (body_of first.old)) (said (body_of second.now)) (said (body_of third.now)) (said (body_of fourth.now)) ≡ said (body_of first.old) ∷ events_by count.new (said (body_of second.now)) (said (body_of third.now)) (said (body_of fourth.now)) (said (body_of first.new)) }
+        ensures events { events_by count.old (emitter_event (body_of first.old)) (emitter_event (body_of second.now)) (emitter_event (body_of third.now)) (emitter_event (body_of fourth.now)) ≡ emitter_event (body_of first.old) ∷ events_by count.new (emitter_event (body_of second.now)) (emitter_event (body_of third.now)) (emitter_event (body_of fourth.now)) (emitter_event (body_of first.new)) }
         ensures utf8 { Utf8By count.new (body_of second.now) (body_of third.now) (body_of fourth.now) (body_of first.new) }
-        ensures laid { LaysOut core.old core.new (said (body_of first.old)) (opens_empty (said (body_of first.old)) (events_by count.new (said (body_of second.now)) (said (body_of third.now)) (said (body_of fourth.now)) (said (body_of first.new)))) }
+        ensures laid { LaysOut core.old core.new (emitter_event (body_of first.old)) (opens_empty (emitter_event (body_of first.old)) (events_by count.new (emitter_event (body_of second.now)) (emitter_event (body_of third.now)) (emitter_event (body_of fourth.now)) (emitter_event (body_of first.new)))) }
     {
         let _ = third;
         let _ = fourth;

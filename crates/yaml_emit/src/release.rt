@@ -3,7 +3,7 @@
 ghost use Rattle.std.specs.Prelude.{◌≡◌, ◌&&◌, ◌++◌, ◌∷◌, [], true, false};
 ghost use Rattle.yaml_parse.specs.Events.{body_of};
 ghost use Rattle.yaml_parse.specs.Constructors.{HasUtf8};
-ghost use Rattle.yaml_emit_layout.specs.Content.{said};
+ghost use Rattle.yaml_emit_layout.specs.Content.{emitter_event};
 ghost use Rattle.yaml_emit_state.specs.Steps.{goes_on};
 ghost use Rattle.yaml_emit_state.specs.Finish.{Leads};
 ghost use Rattle.yaml_emit.specs.Held.{held_events, HeldUtf8, is_ready, passes};
@@ -22,7 +22,7 @@ fn is_due(core: &Core, held: &Held) -> bool
 
 // Whether an event is to be laid out as it comes, and isn't held.
 fn passes(core: &Core, held: &Held, event: &yaml_event_body_t) -> bool
-    ensures { result ≡ (goes_on core.now.sink.status core.now.place && passes (held_events held.now) (said (body_of event.now))) }
+    ensures { result ≡ (goes_on core.now.sink.status core.now.place && passes (held_events held.now) (emitter_event (body_of event.now))) }
 {
     core.is_going() && held.passes(event)
 }
@@ -44,8 +44,8 @@ fn release(core: &mut Core, held: &mut Held)
 pub(crate) fn give(core: &mut Core, held: &mut Held, event: &mut yaml_event_body_t)
     requires few { is_ready (held_events held.old) ≡ false }
     requires utf8 { HeldUtf8 held.old × HasUtf8 (body_of event.old) }
-    ensures leads { Leads core.old (held_events held.old ++ said (body_of event.old) ∷ []) core.new (held_events held.new) }
-    ensures judges { Judges core.old (held_events held.old ++ said (body_of event.old) ∷ []) core.new (held_events held.new) }
+    ensures leads { Leads core.old (held_events held.old ++ emitter_event (body_of event.old) ∷ []) core.new (held_events held.new) }
+    ensures judges { Judges core.old (held_events held.old ++ emitter_event (body_of event.old) ∷ []) core.new (held_events held.new) }
     ensures utf8 { HeldUtf8 held.new }
     ensures waits { goes_on core.new.sink.status core.new.place ≡ true → is_ready (held_events held.new) ≡ false }
 {

@@ -8,10 +8,10 @@ use Rattle.yaml_emit_layout.specs.Content.{Node, Nodes, Pairs, node, pair, no_no
 use Rattle.yaml_parse.specs.Documents.{seq_tag, map_tag}
 use Rattle.yaml_emit_graph.specs.declared.walk.Turn.{Turn}
 use Rattle.yaml_emit_graph.specs.declared.walk.Turn.TheVariants.{Leave}
-use Rattle.yaml_emit_graph.specs.Graph.{Met, is_met, meet, pair_ids, body_of_id, tag_of_id, Rest, over, inside, visits, none_met, nothing_left, turns, numbers, number_at, anchor_of, said_start, opening_event, closing_event, turn_event, items_by, pairs_by, node_by, content_by, itself, graph_root, graph_opening, dumped}
+use Rattle.yaml_emit_graph.specs.Graph.{Met, is_met, meet, pair_ids, body_of_id, tag_of_id, Rest, over, inside, visits, none_met, nothing_left, turns, numbers, number_at, anchor_of, graph_start, opening_event, closing_event, turn_event, items_by, pairs_by, node_by, content_by, itself, graph_root, graph_opening, dumped}
 
-abbrev said_all : List ℕ → List model.Node → List Event → List Turn → List Event
-said_all table nodes es ts = map (turn_event table nodes) ts ++ es
+abbrev emitter_events : List ℕ → List model.Node → List Event → List Turn → List Event
+emitter_events table nodes es ts = map (turn_event table nodes) ts ++ es
 
 -- the content that one visit gives is that which another one's turns say
 abbrev Follows : (List Turn → List Event) → (ℤ → (Node → Met → Node) → Met → Node) → (ℤ → Rest → Rest) → Type 0
@@ -42,24 +42,24 @@ pick : (b : Bool) (g : Node → List Event) (f : List Event → List Event) (say
 pick true g f says u v ts us p q = p
 pick false g f says u v ts us p q = q
 
-node_follows : (table : List ℕ) (nodes : List model.Node) (es : List Event) (content : ℤ → (Node → Met → Node) → Met → Node) (turning : ℤ → Rest → Rest) → Follows (said_all table nodes es) content turning
+node_follows : (table : List ℕ) (nodes : List model.Node) (es : List Event) (content : ℤ → (Node → Met → Node) → Met → Node) (turning : ℤ → Rest → Rest) → Follows (emitter_events table nodes es) content turning
     → (b : model.NodeBody) (id : ℤ) (anchor : Option (List ℕ)) (tag : List ℕ) (met : Met) (k : Node → Met → Node) (r : Rest) (g : Node → List Event) (f : List Event → List Event) → body_of_id nodes id ≡ b
-    → ((v : Node) (m : Met) → g (k v m) ≡ f (node_events v (said_all table nodes es (r m)))) → g (node_by content anchor tag b k met) ≡ f (opening_event anchor tag b ∷ said_all table nodes es (inside turning id b r met))
+    → ((v : Node) (m : Met) → g (k v m) ≡ f (node_events v (emitter_events table nodes es (r m)))) → g (node_by content anchor tag b k met) ≡ f (opening_event anchor tag b ∷ emitter_events table nodes es (inside turning id b r met))
 unfolding node_events turn_event
 node_follows table nodes es content turning p model.no id anchor tag met k r g f e h = h _ met
 node_follows table nodes es content turning p (model.scalar value style) id anchor tag met k r g f e h = h _ met
 node_follows table nodes es content turning p (model.sequence items style) id anchor tag met k r g f e h =
-    items_follow (said_all table nodes es) content turning p items _ (λ m. Leave id ∷ r m) g (λ t. f (sequence_start (said_start anchor tag seq_tag (is_flow_sequence style)) ∷ t)) met
-    (λ vs m. h _ m ∙ ap (λ z. f (sequence_start (said_start anchor tag seq_tag (is_flow_sequence style)) ∷ items_events vs (z ∷ said_all table nodes es (r m)))) (sym (ap closing_event e)))
+    items_follow (emitter_events table nodes es) content turning p items _ (λ m. Leave id ∷ r m) g (λ t. f (sequence_start (graph_start anchor tag seq_tag (is_flow_sequence style)) ∷ t)) met
+    (λ vs m. h _ m ∙ ap (λ z. f (sequence_start (graph_start anchor tag seq_tag (is_flow_sequence style)) ∷ items_events vs (z ∷ emitter_events table nodes es (r m)))) (sym (ap closing_event e)))
 node_follows table nodes es content turning p (model.mapping pairs style) id anchor tag met k r g f e h =
-    pairs_follow (said_all table nodes es) content turning p pairs _ (λ m. Leave id ∷ r m) g (λ t. f (mapping_start (said_start anchor tag map_tag (is_flow_mapping style)) ∷ t)) met
-    (λ vs m. h _ m ∙ ap (λ z. f (mapping_start (said_start anchor tag map_tag (is_flow_mapping style)) ∷ pairs_events vs (z ∷ said_all table nodes es (r m)))) (sym (ap closing_event e)))
+    pairs_follow (emitter_events table nodes es) content turning p pairs _ (λ m. Leave id ∷ r m) g (λ t. f (mapping_start (graph_start anchor tag map_tag (is_flow_mapping style)) ∷ t)) met
+    (λ vs m. h _ m ∙ ap (λ z. f (mapping_start (graph_start anchor tag map_tag (is_flow_mapping style)) ∷ pairs_events vs (z ∷ emitter_events table nodes es (r m)))) (sym (ap closing_event e)))
 
-visit_follows : (n : ℕ) (table : List ℕ) (nodes : List model.Node) (es : List Event) → Follows (said_all table nodes es) (content_by n table nodes) (visits n nodes)
+visit_follows : (n : ℕ) (table : List ℕ) (nodes : List model.Node) (es : List Event) → Follows (emitter_events table nodes es) (content_by n table nodes) (visits n nodes)
 unfolding content_by visits node_events turn_event
 visit_follows zero table nodes es = λ id met k r g f h. h _ met
 visit_follows (suc n) table nodes es = λ id met k r g f h.
-    pick (is_met met id) g f (said_all table nodes es) _ _ _ _ (h _ met)
+    pick (is_met met id) g f (emitter_events table nodes es) _ _ _ _ (h _ met)
     (node_follows table nodes es (content_by n table nodes) (visits n nodes) (visit_follows n table nodes es) (body_of_id nodes id) id (anchor_of (number_at table id)) (tag_of_id nodes id) (meet met id) k r g f refl h)
 
 -- the events of a dump are the document's start, those of the turns of the walk, and the document's end

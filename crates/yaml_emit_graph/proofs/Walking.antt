@@ -10,7 +10,7 @@ use Rattle.yaml_emit_graph.specs.declared.walk.Turn.TheVariants.{First, Again, L
 use Rattle.yaml_emit_graph.specs.declared.walk.Open.{Open}
 use Rattle.yaml_emit_graph.specs.declared.walk.Walk.{Walk}
 use Rattle.yaml_emit_graph.specs.Graph.{Met, place_at, met_at, meet_at, is_met, meet, pair_ids, child_ids, is_collection, body_of_id, Rest, over, inside, visits, nothing_left, turns}
-use Rattle.yaml_emit_graph.specs.Walk.{pairs_left, left_of, NextChild, next_of_pair, rest_of, stack, stack_of, opened, frames, coming_by, coming, marked, IsWalk, with_opened, Visited, Comes}
+use Rattle.yaml_emit_graph.specs.Walk.{pairs_left, left_of, NextChild, next_of_pair, rest_of, stack, stack_of, opened, frames, remaining_by, remaining_turns, marked, IsWalk, with_opened, Visited, Comes}
 
 visit_again : (n : ℕ) (nodes : List model.Node) (id : ℤ) (r : Rest) (met : Met) → is_met met id ≡ true → visits (suc n) nodes id r met ≡ Again id ∷ r met
 unfolding visits
@@ -80,28 +80,28 @@ first_walk nodes old new id w s h m t k = record {
 
 -- a node was visited, with the open nodes to come
 pub visited : (nodes : List model.Node) (mid new : Walk) (id : ℤ) (t : Turn) (n : ℕ) → mid.started ≡ true → IsWalk nodes mid → n ≡ length nodes - length (stack_of mid) → Visited nodes id mid (Ok t) new
-    → (visits (suc n) nodes id (frames nodes (stack_of mid)) mid.met.items ≡ t ∷ coming nodes new) × IsWalk nodes new
-unfolding coming
+    → (visits (suc n) nodes id (frames nodes (stack_of mid)) mid.met.items ≡ t ∷ remaining_turns nodes new) × IsWalk nodes new
+unfolding remaining_turns
 visited nodes mid new id (Again i) n s w k v =
     let a = visit_again n nodes id (frames nodes (stack_of mid)) mid.met.items v.1 in
-    let c : coming nodes mid ≡ frames nodes (stack_of mid) mid.met.items = ap (λ z. coming_by z nodes (stack_of mid) mid.met.items) s in
+    let c : remaining_turns nodes mid ≡ frames nodes (stack_of mid) mid.met.items = ap (λ z. remaining_by z nodes (stack_of mid) mid.met.items) s in
     let P : Walk → Type 0 = λ z. IsWalk nodes z in
-    (a ∙ ap (λ z. Again z ∷ frames nodes (stack_of mid) mid.met.items) (sym v.0) ∙ ap (λ z. Again i ∷ z) (sym c ∙ ap (coming nodes) (sym v.2)), subst P (sym v.2) w)
+    (a ∙ ap (λ z. Again z ∷ frames nodes (stack_of mid) mid.met.items) (sym v.0) ∙ ap (λ z. Again i ∷ z) (sym c ∙ ap (remaining_turns nodes) (sym v.2)), subst P (sym v.2) w)
 visited nodes mid new id (First i) n s w k v =
     let a = visit_first n nodes id (frames nodes (stack_of mid)) mid.met.items v.1 in
     let b = inside_frames (body_of_id nodes id) n nodes id (stack_of mid) (meet mid.met.items id) refl k in
-    let c : frames nodes (with_opened (is_collection (body_of_id nodes id)) id (stack_of mid)) (meet mid.met.items id) ≡ coming_by new.started nodes (stack_of new) new.met.items =
+    let c : frames nodes (with_opened (is_collection (body_of_id nodes id)) id (stack_of mid)) (meet mid.met.items id) ≡ remaining_by new.started nodes (stack_of new) new.met.items =
     rw (v.4, v.3 ∙ s, v.2) refl in
-    (a ∙ ap (λ z. First id ∷ z) (b ∙ c) ∙ ap (λ z. First z ∷ coming_by new.started nodes (stack_of new) new.met.items) (sym v.0), first_walk nodes mid new id w s v.1 v.2 v.3 v.4)
+    (a ∙ ap (λ z. First id ∷ z) (b ∙ c) ∙ ap (λ z. First z ∷ remaining_by new.started nodes (stack_of new) new.met.items) (sym v.0), first_walk nodes mid new id w s v.1 v.2 v.3 v.4)
 visited nodes mid new id (Leave i) n s w k v = absurd v
 
 -- the next child of an open node
 pub child_comes : (nodes : List model.Node) (old : Walk) (o p : Open) (os : List Open) (id : ℤ) (n : ℕ) → old.started ≡ true → stack_of old ≡ o ∷ os → length nodes - length os ≡ suc n
-    → left_of (body_of_id nodes o.node) o ≡ id ∷ left_of (body_of_id nodes o.node) p → p.node ≡ o.node → coming nodes old ≡ visits (suc n) nodes id (frames nodes (p ∷ os)) old.met.items
-unfolding coming frames over
+    → left_of (body_of_id nodes o.node) o ≡ id ∷ left_of (body_of_id nodes o.node) p → p.node ≡ o.node → remaining_turns nodes old ≡ visits (suc n) nodes id (frames nodes (p ∷ os)) old.met.items
+unfolding remaining_turns frames over
 child_comes nodes old o p os id n s k f l e =
     let met : Met = old.met.items in
-    let a : coming nodes old ≡ frames nodes (o ∷ os) met = rw (s, k) refl in
+    let a : remaining_turns nodes old ≡ frames nodes (o ∷ os) met = rw (s, k) refl in
     let F : ℕ = length nodes - length os in
     let r : ℤ → Rest = λ z m. Leave z ∷ frames nodes os m in
     let b : over (visits F nodes) (left_of (body_of_id nodes o.node) o) (r o.node) met ≡ over (visits F nodes) (id ∷ left_of (body_of_id nodes o.node) p) (r o.node) met = ap (λ z. over (visits F nodes) z (r o.node) met) l in
@@ -143,8 +143,8 @@ pub pair_none : (v : Bool) (ps : List yaml_node_pair_t) (i : ℕ) → length ps 
 pair_none v ps i h = ap (pairs_left v) (drop_all i ps h) ∙ no_pairs_left v
 
 -- no node is open
-pub none_comes : (nodes : List model.Node) (w : Walk) → w.started ≡ true → w.top ≡ None → coming nodes w ≡ []
-unfolding coming frames
+pub none_comes : (nodes : List model.Node) (w : Walk) → w.started ≡ true → w.top ≡ None → remaining_turns nodes w ≡ []
+unfolding remaining_turns frames
 none_comes nodes w s t = rw (s, t) refl
 
 -- a walk with the same marks and no more open nodes
@@ -160,17 +160,17 @@ same_walk nodes old new w s m l = record {
 
 -- an open node ends
 pub leave_comes : (nodes : List model.Node) (old new : Walk) (o : Open) → old.started ≡ true → old.top ≡ Some o → IsWalk nodes old → left_of (body_of_id nodes o.node) o ≡ []
-    → stack_of new ≡ rest_of (stack_of old) → new.met ≡ old.met → new.started ≡ old.started → (coming nodes old ≡ Leave o.node ∷ coming nodes new) × IsWalk nodes new
-unfolding coming frames over
+    → stack_of new ≡ rest_of (stack_of old) → new.met ≡ old.met → new.started ≡ old.started → (remaining_turns nodes old ≡ Leave o.node ∷ remaining_turns nodes new) × IsWalk nodes new
+unfolding remaining_turns frames over
 leave_comes nodes old new o s t w l k m b =
     let os : List Open = reverse old.outer.items in
     let e : stack_of old ≡ o ∷ os = ap (λ z. stack z old.outer.items) t in
     let f : stack_of new ≡ os = k ∙ ap rest_of e in
     let met : Met = old.met.items in
-    let a : coming nodes old ≡ frames nodes (o ∷ os) met = rw (s, e) refl in
+    let a : remaining_turns nodes old ≡ frames nodes (o ∷ os) met = rw (s, e) refl in
     let r : Rest = λ z. Leave o.node ∷ frames nodes os z in
     let c : frames nodes (o ∷ os) met ≡ Leave o.node ∷ frames nodes os met = ap (λ z. over (visits (length nodes - length os) nodes) z r met) l in
-    let d : frames nodes os met ≡ coming_by new.started nodes (stack_of new) new.met.items = rw (b ∙ s, f, m) refl in
+    let d : frames nodes os met ≡ remaining_by new.started nodes (stack_of new) new.met.items = rw (b ∙ s, f, m) refl in
     let g : length (stack_of old) ≡ suc (length os) = ap length e in
     let h : length (stack_of new) ≡ length os = ap length f in
     (a ∙ c ∙ ap (λ z. Leave o.node ∷ z) d, same_walk nodes old new w (b ∙ s) m (omega (arith, g, h)))
@@ -178,7 +178,7 @@ leave_comes nodes old new o s t w l k m b =
 -- the next child of the innermost open node is visited
 pub child_met : (nodes : List model.Node) (old mid new : Walk) (o p : Open) (id : ℤ) (t : Turn) → old.started ≡ true → old.top ≡ Some o → IsWalk nodes old
     → mid.top ≡ Some p → mid.outer ≡ old.outer → mid.met ≡ old.met → mid.started ≡ true → NextChild (body_of_id nodes o.node) o (Some (id, p)) → (i : ℤ) → i ≡ id → Visited nodes i mid (Ok t) new
-    → (coming nodes old ≡ t ∷ coming nodes new) × IsWalk nodes new
+    → (remaining_turns nodes old ≡ t ∷ remaining_turns nodes new) × IsWalk nodes new
 child_met nodes old mid new o p id t s k w km out m sm next i same u =
     let V : ℤ → Type 0 = λ z. Visited nodes z mid (Ok t) new in
     let v : Visited nodes id mid (Ok t) new = subst V same u in
@@ -188,7 +188,7 @@ child_met nodes old mid new o p id t s k w km out m sm next i same u =
     let n : ℕ = length nodes - length (o ∷ os) in
     let g : length (stack_of old) ≡ suc (length os) = ap length e in
     let h : length (stack_of mid) ≡ suc (length os) = ap length f in
-    let a : coming nodes old ≡ visits (suc n) nodes id (frames nodes (p ∷ os)) old.met.items = child_comes nodes old o p os id n s e (depth_left nodes old o os w e) next.0 next.1 in
+    let a : remaining_turns nodes old ≡ visits (suc n) nodes id (frames nodes (p ∷ os)) old.met.items = child_comes nodes old o p os id n s e (depth_left nodes old o os w e) next.0 next.1 in
     let b : visits (suc n) nodes id (frames nodes (p ∷ os)) old.met.items ≡ visits (suc n) nodes id (frames nodes (stack_of mid)) mid.met.items = rw (f, m) refl in
     let w' : IsWalk nodes mid = same_walk nodes old mid w sm m (omega (arith, g, h)) in
     let c = visited nodes mid new id t n sm w' (ap (λ z. length nodes - z) (sym h)) v in
@@ -197,13 +197,13 @@ child_met nodes old mid new o p id t s k w km out m sm next i same u =
 -- the root is visited
 pub root_met : (nodes : List model.Node) (old mid new : Walk) (t : Turn) → old.started ≡ false → IsWalk nodes old
     → mid.top ≡ old.top → mid.outer ≡ old.outer → mid.met ≡ old.met → mid.started ≡ true → Visited nodes (pos 1) mid (Ok t) new
-    → (coming nodes old ≡ t ∷ coming nodes new) × IsWalk nodes new
-unfolding coming frames
+    → (remaining_turns nodes old ≡ t ∷ remaining_turns nodes new) × IsWalk nodes new
+unfolding remaining_turns frames
 root_met nodes old mid new t s w km out m sm v =
     let e : stack_of old ≡ [] = w.begun s in
     let f : stack_of mid ≡ stack_of old = rw (km, out) refl in
     let h : length (stack_of mid) ≡ 0 = ap length (f ∙ e) in
-    let a : coming nodes old ≡ visits (suc (length nodes)) nodes (pos 1) nothing_left old.met.items = ap (λ z. coming_by z nodes (stack_of old) old.met.items) s in
+    let a : remaining_turns nodes old ≡ visits (suc (length nodes)) nodes (pos 1) nothing_left old.met.items = ap (λ z. remaining_by z nodes (stack_of old) old.met.items) s in
     let b : visits (suc (length nodes)) nodes (pos 1) nothing_left old.met.items ≡ visits (suc (length nodes)) nodes (pos 1) (frames nodes (stack_of mid)) mid.met.items = rw (f ∙ e, m) refl in
     let w' : IsWalk nodes mid = same_walk nodes old mid w sm m (omega (arith, ap length f)) in
     let c = visited nodes mid new (pos 1) t (length nodes) sm w' (omega (arith, h)) v in
@@ -211,8 +211,8 @@ root_met nodes old mid new t s w km out m sm v =
 
 -- nothing was met
 pub fresh_walk : (nodes : List model.Node) (w : Walk) (count : ℕ) → count ≡ length nodes → w.started ≡ false → stack_of w ≡ [] → w.met.items ≡ replicate count false
-    → IsWalk nodes w × (coming nodes w ≡ turns nodes)
-unfolding coming turns
+    → IsWalk nodes w × (remaining_turns nodes w ≡ turns nodes)
+unfolding remaining_turns turns
 fresh_walk nodes w count n s k m = (
   record {
     sized = ap length m ∙ length-replicate count false ∙ n;
@@ -223,6 +223,6 @@ fresh_walk nodes w count n s k m = (
 )
 
 -- no turn was given
-pub none_left : (nodes : List model.Node) (old new : Walk) (r : Option Turn) → ((t : Turn) → r ≡ Some t → ⊥) → Comes nodes old (Ok r) new → coming nodes old ≡ []
+pub none_left : (nodes : List model.Node) (old new : Walk) (r : Option Turn) → ((t : Turn) → r ≡ Some t → ⊥) → Comes nodes old (Ok r) new → remaining_turns nodes old ≡ []
 none_left nodes old new None n h = h.0
 none_left nodes old new (Some t) n h = absurd (n t refl)

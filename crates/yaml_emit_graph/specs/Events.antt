@@ -6,16 +6,16 @@ use Rattle.yaml_parse.specs.Events.{body_of}
 use Rattle.yaml_parse.specs.Constructors.{HasUtf8}
 use Rattle.yaml_parse.specs.Nodes as model
 use Rattle.yaml_parse.specs.Documents.{Document}
-use Rattle.yaml_emit_layout.specs.Content.{Event, document_start, document_end, said}
+use Rattle.yaml_emit_layout.specs.Content.{Event, document_start, document_end, emitter_event}
 use Rattle.yaml_emit_graph.specs.declared.graph.Events.{Events}
-use Rattle.yaml_emit_graph.specs.declared.graph.Place.{Place}
-use Rattle.yaml_emit_graph.specs.declared.graph.Place.TheVariants as at
+use Rattle.yaml_emit_graph.specs.declared.graph.Stage.{Stage}
+use Rattle.yaml_emit_graph.specs.declared.graph.Stage.TheVariants as at
 use Rattle.yaml_emit_graph.specs.Graph.{graph_opening, turn_event}
-use Rattle.yaml_emit_graph.specs.Walk.{coming, IsWalk}
+use Rattle.yaml_emit_graph.specs.Walk.{remaining_turns, IsWalk}
 
 -- a call made that event, with texts that are UTF-8
 abbrev pub Says : Event → Result yaml_event_body_t AllocError → Type 0
-Says e result = IfOk result (λ b. (said (body_of b) ≡ e) × HasUtf8 (body_of b))
+Says e result = IfOk result (λ b. (emitter_event (body_of b) ≡ e) × HasUtf8 (body_of b))
 
 abbrev pub IsUtf8Body : model.NodeBody → Type 0
 IsUtf8Body model.no = Unit {0}
@@ -25,21 +25,21 @@ IsUtf8Body (model.mapping pairs style) = Unit {0}
 
 -- what is left of the nodes, and the document's end
 abbrev pub nodes_left : Document → Events → List Event
-nodes_left d e = map (turn_event e.numbers.items d.nodes) (coming d.nodes e.walk) ++ document_end d.end_implicit ∷ []
+nodes_left d e = map (turn_event e.numbers.items d.nodes) (remaining_turns d.nodes e.walk) ++ document_end d.end_implicit ∷ []
 
-abbrev pub coming_at : Place → Document → Events → List Event
-coming_at at.Start d e = document_start (graph_opening d) ∷ nodes_left d e
-coming_at at.Nodes d e = nodes_left d e
-coming_at at.End d e = []
+abbrev pub remaining_at : Stage → Document → Events → List Event
+remaining_at at.Start d e = document_start (graph_opening d) ∷ nodes_left d e
+remaining_at at.Nodes d e = nodes_left d e
+remaining_at at.End d e = []
 
-unfoldable pub coming_events : Document → Events → List Event
-coming_events d e = coming_at e.place d e
+unfoldable pub remaining_events : Document → Events → List Event
+remaining_events d e = remaining_at e.place d e
 
 abbrev pub IsEvents : Document → Events → Type 0
 IsEvents d e = IsWalk d.nodes e.walk
 
 -- the next event, and the others are still to come
-abbrev pub Gives : Document → Events → Result (Option yaml_event_body_t) AllocError → Events → Type 0
-Gives d old (Ok None) new = coming_events d old ≡ []
-Gives d old (Ok (Some b)) new = (coming_events d old ≡ said (body_of b) ∷ coming_events d new) × HasUtf8 (body_of b) × IsEvents d new
-Gives d old (Err e) new = Unit {0}
+abbrev pub GivesGraphEvent : Document → Events → Result (Option yaml_event_body_t) AllocError → Events → Type 0
+GivesGraphEvent d old (Ok None) new = remaining_events d old ≡ []
+GivesGraphEvent d old (Ok (Some b)) new = (remaining_events d old ≡ emitter_event (body_of b) ∷ remaining_events d new) × HasUtf8 (body_of b) × IsEvents d new
+GivesGraphEvent d old (Err e) new = Unit {0}

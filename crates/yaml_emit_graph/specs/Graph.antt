@@ -146,18 +146,18 @@ abbrev pub is_text : List ℕ → List ℕ → Bool
 is_text a b = pointwise nat_eq a b
 
 -- the tag of a text may be left out
-abbrev pub said_scalar : Option (List ℕ) → List ℕ → List ℕ → yaml_scalar_style_t → Scalar
-said_scalar anchor tag value style = record { anchor = anchor; tag = Some tag; value = value; plain = is_text tag str_tag; quoted = is_text tag str_tag; style = style }
+abbrev pub graph_scalar : Option (List ℕ) → List ℕ → List ℕ → yaml_scalar_style_t → Scalar
+graph_scalar anchor tag value style = record { anchor = anchor; tag = Some tag; value = value; plain = is_text tag str_tag; quoted = is_text tag str_tag; style = style }
 
-abbrev pub said_start : Option (List ℕ) → List ℕ → List ℕ → Bool → Start
-said_start anchor tag default flow = record { anchor = anchor; tag = Some tag; implicit = is_text tag default; flow = flow }
+abbrev pub graph_start : Option (List ℕ) → List ℕ → List ℕ → Bool → Start
+graph_start anchor tag default flow = record { anchor = anchor; tag = Some tag; implicit = is_text tag default; flow = flow }
 
 -- how a node begins; one without a kind is an empty text
 abbrev pub opening_event : Option (List ℕ) → List ℕ → model.NodeBody → Event
-opening_event anchor tag model.no = scalar (said_scalar anchor tag [] YAML_ANY_SCALAR_STYLE)
-opening_event anchor tag (model.scalar value style) = scalar (said_scalar anchor tag value style)
-opening_event anchor tag (model.sequence items style) = sequence_start (said_start anchor tag seq_tag (is_flow_sequence style))
-opening_event anchor tag (model.mapping pairs style) = mapping_start (said_start anchor tag map_tag (is_flow_mapping style))
+opening_event anchor tag model.no = scalar (graph_scalar anchor tag [] YAML_ANY_SCALAR_STYLE)
+opening_event anchor tag (model.scalar value style) = scalar (graph_scalar anchor tag value style)
+opening_event anchor tag (model.sequence items style) = sequence_start (graph_start anchor tag seq_tag (is_flow_sequence style))
+opening_event anchor tag (model.mapping pairs style) = mapping_start (graph_start anchor tag map_tag (is_flow_mapping style))
 
 abbrev pub closing_event : model.NodeBody → Event
 closing_event model.no = mapping_end
@@ -181,10 +181,10 @@ pairs_by visit [] rest met = rest no_pairs met
 pairs_by visit (p ∷ ps) rest met = visit p.key (λ k m. visit p.value (λ v n. pairs_by visit ps (λ vs o. rest (pair k v vs) o) n) m) met
 
 abbrev pub node_by : (ℤ → (Node → Met → Node) → Met → Node) → Option (List ℕ) → List ℕ → model.NodeBody → (Node → Met → Node) → Met → Node
-node_by visit anchor tag model.no rest = rest (scalar_node (said_scalar anchor tag [] YAML_ANY_SCALAR_STYLE))
-node_by visit anchor tag (model.scalar value style) rest = rest (scalar_node (said_scalar anchor tag value style))
-node_by visit anchor tag (model.sequence items style) rest = items_by visit items (λ vs. rest (sequence_node (said_start anchor tag seq_tag (is_flow_sequence style)) vs))
-node_by visit anchor tag (model.mapping pairs style) rest = pairs_by visit pairs (λ vs. rest (mapping_node (said_start anchor tag map_tag (is_flow_mapping style)) vs))
+node_by visit anchor tag model.no rest = rest (scalar_node (graph_scalar anchor tag [] YAML_ANY_SCALAR_STYLE))
+node_by visit anchor tag (model.scalar value style) rest = rest (scalar_node (graph_scalar anchor tag value style))
+node_by visit anchor tag (model.sequence items style) rest = items_by visit items (λ vs. rest (sequence_node (graph_start anchor tag seq_tag (is_flow_sequence style)) vs))
+node_by visit anchor tag (model.mapping pairs style) rest = pairs_by visit pairs (λ vs. rest (mapping_node (graph_start anchor tag map_tag (is_flow_mapping style)) vs))
 
 unfoldable pub content_by : ℕ → List ℕ → List model.Node → ℤ → (Node → Met → Node) → Met → Node
 content_by zero table nodes id rest met = rest (alias_node (name_of (number_at table id))) met

@@ -44,12 +44,12 @@ unfoldable pub frames : List model.Node → List Open → Rest
 frames nodes [] met = []
 frames nodes (o ∷ os) met = over (visits (length nodes - length os) nodes) (left_of (body_of_id nodes o.node) o) (λ m. Leave o.node ∷ frames nodes os m) met
 
-abbrev pub coming_by : Bool → List model.Node → List Open → Rest
-coming_by true nodes os = frames nodes os
-coming_by false nodes os = visits (suc (length nodes)) nodes (pos 1) nothing_left
+abbrev pub remaining_by : Bool → List model.Node → List Open → Rest
+remaining_by true nodes os = frames nodes os
+remaining_by false nodes os = visits (suc (length nodes)) nodes (pos 1) nothing_left
 
-unfoldable pub coming : List model.Node → Walk → List Turn
-coming nodes w = coming_by w.started nodes (stack_of w) w.met.items
+unfoldable pub remaining_turns : List model.Node → Walk → List Turn
+remaining_turns nodes w = remaining_by w.started nodes (stack_of w) w.met.items
 
 -- how many marks are set
 abbrev pub marked : Met → ℕ
@@ -91,6 +91,6 @@ Visited nodes id old (Err e) new = Unit {0}
 
 -- a walk gives what comes next, and the rest is still to come
 abbrev pub Comes : List model.Node → Walk → Result (Option Turn) AllocError → Walk → Type 0
-Comes nodes old (Ok None) new = (coming nodes old ≡ []) × IsWalk nodes new
-Comes nodes old (Ok (Some t)) new = (coming nodes old ≡ t ∷ coming nodes new) × IsWalk nodes new
+Comes nodes old (Ok None) new = (remaining_turns nodes old ≡ []) × IsWalk nodes new
+Comes nodes old (Ok (Some t)) new = (remaining_turns nodes old ≡ t ∷ remaining_turns nodes new) × IsWalk nodes new
 Comes nodes old (Err e) new = Unit {0}

@@ -5,9 +5,9 @@ ghost use Rattle.yaml_parse.specs.Constructors.{HasUtf8, IsUtf8Option};
 ghost use Rattle.yaml_parse.specs.Documents.{seq_tag, map_tag};
 ghost use Rattle.yaml_parse.specs.Events.{body_of, text_of, directive_of};
 ghost use Rattle.yaml_parse.specs.Nodes.{node_of};
-ghost use Rattle.yaml_emit_layout.specs.Content.{said, scalar, alias, sequence_start, mapping_start, document_start, is_flow_sequence, is_flow_mapping};
-ghost use Rattle.yaml_emit_graph.specs.Graph.{lead, name_of, anchor_of, is_text, said_scalar, said_start, opening_event, closing_event, body_of_id, tag_of_id, turn_event, graph_opening, dumped};
-ghost use Rattle.yaml_emit_graph.specs.Events.{coming_events, IsEvents, Says, Gives, IsUtf8Body};
+ghost use Rattle.yaml_emit_layout.specs.Content.{emitter_event, scalar, alias, sequence_start, mapping_start, document_start, is_flow_sequence, is_flow_mapping};
+ghost use Rattle.yaml_emit_graph.specs.Graph.{lead, name_of, anchor_of, is_text, graph_scalar, graph_start, opening_event, closing_event, body_of_id, tag_of_id, turn_event, graph_opening, dumped};
+ghost use Rattle.yaml_emit_graph.specs.Events.{remaining_events, IsEvents, Says, GivesGraphEvent, IsUtf8Body};
 
 use crate::numbers::{number_of, numbers_of};
 use crate::walk::{Turn, Walk};
@@ -26,12 +26,12 @@ pub struct Events {
     alloc: Global,
     numbers: Vec<u64>,
     walk: Walk,
-    place: Place,
+    place: Stage,
 }
 
 /// What comes next.
 #[derive(Clone, Copy, PartialEq, Eq, Debug)]
-pub enum Place {
+pub enum Stage {
     Start,
     Nodes,
     End,
@@ -111,7 +111,7 @@ fn scalar_event(
     style: yaml_scalar_style_t,
 ) -> Result<yaml_event_body_t, AllocError>
     requires { IsUtf8Option (text_of anchor) × IsUtf8 tag.now × IsUtf8 value.now }
-    ensures { Says (scalar (said_scalar (text_of anchor) tag.now value.now style)) result }
+    ensures { Says (scalar (graph_scalar (text_of anchor) tag.now value.now style)) result }
 {
     let plain = is_text(tag, b"tag:yaml.org,2002:str");
     Ok(yaml_event_body_t::Scalar {
@@ -131,7 +131,7 @@ fn sequence_event(
     style: yaml_sequence_style_t,
 ) -> Result<yaml_event_body_t, AllocError>
     requires { IsUtf8Option (text_of anchor) × IsUtf8 tag.now }
-    ensures { Says (sequence_start (said_start (text_of anchor) tag.now seq_tag (is_flow_sequence style))) result }
+    ensures { Says (sequence_start (graph_start (text_of anchor) tag.now seq_tag (is_flow_sequence style))) result }
 {
     Ok(yaml_event_body_t::SequenceStart {
         anchor,
@@ -148,7 +148,7 @@ fn mapping_event(
     style: yaml_mapping_style_t,
 ) -> Result<yaml_event_body_t, AllocError>
     requires { IsUtf8Option (text_of anchor) × IsUtf8 tag.now }
-    ensures { Says (mapping_start (said_start (text_of anchor) tag.now map_tag (is_flow_mapping style))) result }
+    ensures { Says (mapping_start (graph_start (text_of anchor) tag.now map_tag (is_flow_mapping style))) result }
 {
     Ok(yaml_event_body_t::MappingStart {
         anchor,
@@ -210,7 +210,7 @@ fn opening_event(
 
 // What ends the collection under a number.
 fn closing_event(document: &yaml_document_t, id: i32) -> yaml_event_body_t
-    ensures is { said (body_of result) ≡ closing_event (body_of_id document.now.nodes id) }
+    ensures is { emitter_event (body_of result) ≡ closing_event (body_of_id document.now.nodes id) }
     ensures utf8 { HasUtf8 (body_of result) }
 {
     match yaml_document_get_node(document, id) {
@@ -233,13 +233,13 @@ fn alias_event(alloc: Global, number: u64) -> Result<yaml_event_body_t, AllocErr
 impl Events {
     /// Before the document's start.
     pub fn of(alloc: Global, document: &yaml_document_t) -> Result<Events, AllocError>
-        ensures { IfOk result (λ e. IsEvents document.now e × (coming_events document.now e ≡ dumped document.now)) }
+        ensures { IfOk result (λ e. IsEvents document.now e × (remaining_events document.now e ≡ dumped document.now)) }
     {
         Ok(Events {
             alloc,
             numbers: numbers_of(alloc, document)?,
             walk: Walk::new(alloc, document.node_count())?,
-            place: Place::Start,
+            place: Stage::Start,
         })
     }
 
@@ -278,24 +278,24 @@ impl Events {
 
     fn begin(&mut self, document: &yaml_document_t) -> Result<Option<yaml_event_body_t>, AllocError>
         requires walk { IsEvents document.now self.old }
-        requires place { self.old.place ≡ Place.Start }
-        ensures { Gives document.now self.old result self.new }
+        requires place { self.old.place ≡ Stage.Start }
+        ensures { GivesGraphEvent document.now self.old result self.new }
     {
         let event = self.start(document)?;
-        self.place = Place::Nodes;
+        self.place = Stage::Nodes;
         Ok(Some(event))
     }
 
     // The next event of the nodes, or the document's end.
     fn step(&mut self, document: &yaml_document_t) -> Result<Option<yaml_event_body_t>, AllocError>
         requires walk { IsEvents document.now self.old }
-        requires place { self.old.place ≡ Place.Nodes }
-        ensures { Gives document.now self.old result self.new }
+        requires place { self.old.place ≡ Stage.Nodes }
+        ensures { GivesGraphEvent document.now self.old result self.new }
     {
         match self.walk.next(document)? {
             Some(turn) => Ok(Some(self.event_of(document, turn)?)),
             None => {
-                self.place = Place::End;
+                self.place = Stage::End;
                 Ok(Some(yaml_event_body_t::DocumentEnd {
                     implicit: document.end_implicit(),
                 }))
@@ -309,12 +309,12 @@ impl Events {
         document: &yaml_document_t,
     ) -> Result<Option<yaml_event_body_t>, AllocError>
         requires { IsEvents document.now self.old }
-        ensures { Gives document.now self.old result self.new }
+        ensures { GivesGraphEvent document.now self.old result self.new }
     {
         match self.place {
-            Place::Start => self.begin(document),
-            Place::Nodes => self.step(document),
-            Place::End => Ok(None),
+            Stage::Start => self.begin(document),
+            Stage::Nodes => self.step(document),
+            Stage::End => Ok(None),
         }
     }
 }

@@ -6,7 +6,7 @@ use Rattle.yaml_emit_text.specs.declared.Settings.{Settings}
 use Rattle.yaml_emit_text.specs.Layout.{Rest}
 use Rattle.yaml_emit_layout.specs.declared.level.Level.{Level}
 use Rattle.yaml_emit_layout.specs.declared.level.Phase.TheVariants.{Items, Keys, Value}
-use Rattle.yaml_emit_layout.specs.declared.level.Place.TheVariants as at
+use Rattle.yaml_emit_layout.specs.declared.level.Expected.TheVariants as at
 use Rattle.yaml_emit_layout.specs.declared.level.Spot.{Spot}
 use Rattle.yaml_emit_layout.specs.Content.{Start, Node, alias_node, scalar_node, sequence_node, mapping_node, Nodes, no_nodes, node, Pairs, no_pairs, pair, Document, Event, stream_start, stream_end, document_start, document_end, alias, scalar, sequence_start, sequence_end, mapping_start, mapping_end, node_events, items_events, pairs_events, documents_events}
 use Rattle.yaml_emit_layout.specs.Grammar.{place_problem, node_problem, begins_node, ends_phase}

@@ -77,18 +77,18 @@ is_flow_mapping mapping_style.YAML_ANY_MAPPING_STYLE = false
 is_flow_mapping mapping_style.YAML_BLOCK_MAPPING_STYLE = false
 
 -- what an emitter sees of an event
-abbrev pub said : EventBody → Event
-said model.no = no_event
-said (model.stream_start encoding) = stream_start encoding
-said model.stream_end = stream_end
-said (model.document_start version directives implicit) = document_start (record { version = version; directives = directives; implicit = implicit })
-said (model.document_end implicit) = document_end implicit
-said (model.alias name) = alias name
-said (model.scalar anchor tag value plain quoted style) = scalar (record { anchor = anchor; tag = tag; value = value; plain = plain; quoted = quoted; style = style })
-said (model.sequence_start anchor tag implicit style) = sequence_start (record { anchor = anchor; tag = tag; implicit = implicit; flow = is_flow_sequence style })
-said model.sequence_end = sequence_end
-said (model.mapping_start anchor tag implicit style) = mapping_start (record { anchor = anchor; tag = tag; implicit = implicit; flow = is_flow_mapping style })
-said model.mapping_end = mapping_end
+abbrev pub emitter_event : EventBody → Event
+emitter_event model.no = no_event
+emitter_event (model.stream_start encoding) = stream_start encoding
+emitter_event model.stream_end = stream_end
+emitter_event (model.document_start version directives implicit) = document_start (record { version = version; directives = directives; implicit = implicit })
+emitter_event (model.document_end implicit) = document_end implicit
+emitter_event (model.alias name) = alias name
+emitter_event (model.scalar anchor tag value plain quoted style) = scalar (record { anchor = anchor; tag = tag; value = value; plain = plain; quoted = quoted; style = style })
+emitter_event (model.sequence_start anchor tag implicit style) = sequence_start (record { anchor = anchor; tag = tag; implicit = implicit; flow = is_flow_sequence style })
+emitter_event model.sequence_end = sequence_end
+emitter_event (model.mapping_start anchor tag implicit style) = mapping_start (record { anchor = anchor; tag = tag; implicit = implicit; flow = is_flow_mapping style })
+emitter_event model.mapping_end = mapping_end
 
 -- the events of a node, and what follows
 unfoldable mutual

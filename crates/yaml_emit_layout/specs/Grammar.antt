@@ -11,8 +11,8 @@ use Rattle.yaml_emit_layout.specs.declared.problem.Problem.TheVariants as proble
 use Rattle.yaml_emit_layout.specs.declared.level.Level.{Level}
 use Rattle.yaml_emit_layout.specs.declared.level.Phase.{Phase}
 use Rattle.yaml_emit_layout.specs.declared.level.Phase.TheVariants.{Items, Keys, Value}
-use Rattle.yaml_emit_layout.specs.declared.level.Place.{Place}
-use Rattle.yaml_emit_layout.specs.declared.level.Place.TheVariants as at
+use Rattle.yaml_emit_layout.specs.declared.level.Expected.{Expected}
+use Rattle.yaml_emit_layout.specs.declared.level.Expected.TheVariants as at
 use Rattle.yaml_emit_layout.specs.Content.{Scalar, Start, Opening, Event, no_event, stream_start, stream_end, document_start, document_end, alias, scalar, sequence_start, sequence_end, mapping_start, mapping_end}
 
 -- the text of a problem
@@ -187,7 +187,7 @@ abbrev pub node_problem : Option Level → Event → Option Problem
 node_problem top e = if may_come top e then None else Some problem.ExpectedNode
 
 -- what is wrong with it at a place
-unfoldable pub place_problem : Place → Option Level → Event → Option Problem
+unfoldable pub place_problem : Expected → Option Level → Event → Option Problem
 place_problem at.StreamStart ls (stream_start x) = None
 place_problem at.StreamStart ls _ = Some problem.ExpectedStreamStart
 place_problem (at.Documents first unended) ls (document_start o) = None
@@ -200,5 +200,5 @@ place_problem at.End ls _ = Some problem.ExpectedNothing
 place_problem (at.Refused p) ls _ = Some p
 
 -- the anchor, the tag, the place, then the directives or the flags
-unfoldable pub problem_by : Bool → Place → Option Level → Event → Option Problem
+unfoldable pub problem_by : Bool → Expected → Option Level → Event → Option Problem
 problem_by canonical place top e = or_else (event_problem canonical e) (or_else (place_problem place top e) (last_problem e))

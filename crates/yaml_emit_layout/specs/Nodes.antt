@@ -197,7 +197,7 @@ before_value s flow n true = char 58
 before_value s true n false = turned s n ▹ word (58 ∷ [])
 before_value s false n false = line_at s n ▹ indicator 58
 
--- what ends a collection; in canonical form a comma and a line of the surroundings come before the sign, unless nothing has come
+-- what ends a collection; in canonical form a comma and a line of the surroundings come before the indicator, unless nothing has come
 unfoldable pub closer : Settings → Bool → ℕ → Bool → ℕ → Layout
 closer s true n fresh x = when (s.canonical && not fresh) (char 44 ▹ line_at s (n - s.indent)) ▹ char x
 closer s false n fresh x = stay

@@ -11,15 +11,15 @@ use Rattle.yaml_emit_layout.specs.declared.level.Spot.{Spot}
 use Rattle.yaml_emit_layout.specs.declared.level.Level.{Level}
 use Rattle.yaml_emit_layout.specs.declared.level.Phase.{Phase}
 use Rattle.yaml_emit_layout.specs.declared.level.Phase.TheVariants.{Items, Keys, Value}
-use Rattle.yaml_emit_layout.specs.declared.level.Place.{Place}
-use Rattle.yaml_emit_layout.specs.declared.level.Place.TheVariants as at
+use Rattle.yaml_emit_layout.specs.declared.level.Expected.{Expected}
+use Rattle.yaml_emit_layout.specs.declared.level.Expected.TheVariants as at
 use Rattle.yaml_emit_layout.specs.Content.{Start, Opening, Event, no_event, stream_start, stream_end, document_start, document_end, alias, scalar, sequence_start, sequence_end, mapping_start, mapping_end}
 use Rattle.yaml_emit_layout.specs.Grammar.{problem_by, start_tag}
 use Rattle.yaml_emit_layout.specs.Nodes.{Context, context_of, root_spot, spot, key_part, is_simple_scalar, is_simple_alias, is_simple_start, is_flow, indent_of, indented, checked, properties_text, scalar_layout, alias_layout, before_item, before_key, before_value, closer, start_layout, end_layout, stop_layout}
 
 -- the levels, the innermost first, and the directives of the document
 pub record State : Type 0 where
-  pub place : Place
+  pub place : Expected
   pub levels : List Level
   pub directives : List TagDirective
 
@@ -91,25 +91,25 @@ abbrev pub levels_behind : List Level → Bool → List Level
 levels_behind [] simple = []
 levels_behind (l ∷ ls) simple = record { phase = phase_behind l.phase simple; flow = l.flow; indent = l.indent } ∷ ls
 
-abbrev pub place_at : Option Level → Place
+abbrev pub place_at : Option Level → Expected
 place_at None = at.DocumentEnd
 place_at (Some l) = at.Node
 
 abbrev pub among : List TagDirective → List Level → State
 among directives ls = record { place = place_at (top_of ls); levels = ls; directives = directives }
 
-abbrev pub placed : Place → State
+abbrev pub placed : Expected → State
 placed p = record { place = p; levels = []; directives = [] }
 
 -- a collection was opened: its first phase, whether it is flow, and its indentation
 abbrev pub opened : List TagDirective → List Level → Bool → Phase → Bool → ℕ → State
 opened directives ls simple phase flow n = among directives (record { phase = phase; flow = flow; indent = n } ∷ levels_behind ls simple)
 
-abbrev pub stop_at : Settings → Place → Layout
+abbrev pub stop_at : Settings → Expected → Layout
 stop_at s (at.Documents first unended) = stop_layout s unended
 stop_at s place = stay
 
-abbrev pub start_at : Settings → Place → Opening → Layout
+abbrev pub start_at : Settings → Expected → Opening → Layout
 start_at s (at.Documents first unended) o = start_layout s first unended o
 start_at s place o = stay
 
@@ -122,7 +122,7 @@ abbrev pub closer_at : Settings → Option Level → ℕ → Layout
 closer_at s None x = stay
 closer_at s (Some l) x = closer s l.flow l.indent (is_fresh l.phase) x
 
--- what opens a collection: its anchor and tag, and the sign for flow
+-- what opens a collection: its anchor and tag, and the indicator for flow
 abbrev pub start_text : Context → Spot → ℕ → Start → Bool → Layout
 start_text p at x q empty = properties_text p q.anchor (start_tag p.settings.canonical q) ▹ when (is_flow p.settings at q empty) (opener x)
 
@@ -131,7 +131,7 @@ abbrev pub depth_text : Context → Spot → Bool → Start → Bool → Layout
 depth_text p at sequence q empty = indented (indent_of p.settings at sequence (is_flow p.settings at q empty)) checked
 
 -- what is written for an event, but for the depth
-unfoldable pub text_at : Context → Place → Option Level → Event → Bool → Layout
+unfoldable pub text_at : Context → Expected → Option Level → Event → Bool → Layout
 text_at p place top no_event empty = stay
 text_at p place top (stream_start x) empty = order_mark p.settings.encoding
 text_at p place top stream_end empty = stop_at p.settings place
@@ -158,14 +158,14 @@ depth_at p top sequence_end empty = stay
 depth_at p top mapping_end empty = stay
 
 -- what is written for an event
-abbrev pub piece_at : Context → Place → Option Level → Event → Bool → Layout
+abbrev pub piece_at : Context → Expected → Option Level → Event → Bool → Layout
 piece_at p place top e empty = text_at p place top e empty ▹ depth_at p top e empty
 
 abbrev pub piece : Settings → State → Event → Bool → Layout
 piece s st e empty = piece_at (context_of s st.directives) st.place (top_of st.levels) e empty
 
 -- the state behind it, by the cursor behind what is written
-unfoldable pub next_at : Context → Place → List Level → Event → Bool → Cursor → State
+unfoldable pub next_at : Context → Expected → List Level → Event → Bool → Cursor → State
 next_at p place ls no_event empty c = record { place = place; levels = ls; directives = p.directives }
 next_at p place ls (stream_start x) empty c = placed (at.Documents true false)
 next_at p place ls stream_end empty c = placed at.End

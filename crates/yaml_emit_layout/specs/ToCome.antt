@@ -7,7 +7,7 @@ use Rattle.yaml_emit_text.specs.Layout.{Layout, ◌▹◌, stay}
 use Rattle.yaml_emit_layout.specs.declared.level.Part.TheVariants as part
 use Rattle.yaml_emit_layout.specs.declared.level.Level.{Level}
 use Rattle.yaml_emit_layout.specs.declared.level.Phase.TheVariants.{Items, Keys, Value}
-use Rattle.yaml_emit_layout.specs.declared.level.Place.TheVariants as at
+use Rattle.yaml_emit_layout.specs.declared.level.Expected.TheVariants as at
 use Rattle.yaml_emit_layout.specs.Content.{Node, Nodes, Pairs, Document, Event, document_end, sequence_end, mapping_end, node_events, items_events, pairs_events, documents_events, stream_events}
 use Rattle.yaml_emit_layout.specs.Nodes.{Context, context_of, root_spot, spot, node_layout, items_layout, pairs_layout, before_value, end_layout, documents_layout, stream_layout}
 use Rattle.yaml_emit_layout.specs.State.{State, among, placed}

@@ -23,7 +23,7 @@ pub struct Level {
 
 /// What an emitter expects.
 #[derive(Clone, Copy, PartialEq, Eq, Debug)]
-pub enum Place {
+pub enum Expected {
     StreamStart,
     /// A document or the stream's end; whether none went before, and whether the last ended implicitly.
     Documents(bool, bool),

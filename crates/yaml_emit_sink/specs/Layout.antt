@@ -101,12 +101,12 @@ abbrev pub keep : Bool → Layout
 keep b c rest = rest (record { column = c.column; white = c.white; bare = c.bare; kept = b })
 
 -- behind a scalar in one line or in quotes
-abbrev pub dark : Layout
-dark c rest = rest (record { column = c.column; white = false; bare = false; kept = c.kept })
+abbrev pub after_text : Layout
+after_text c rest = rest (record { column = c.column; white = false; bare = false; kept = c.kept })
 
 -- behind a block scalar
-abbrev pub light : Layout
-light c rest = rest (record { column = c.column; white = true; bare = c.bare; kept = c.kept })
+abbrev pub after_block : Layout
+after_block c rest = rest (record { column = c.column; white = true; bare = c.bare; kept = c.kept })
 
 -- an indentation passes 2,147,483,647 columns
 abbrev pub too_deep : Layout

@@ -9,7 +9,7 @@ use Rattle.yaml_emit_sink.specs.declared.settings.Encoding.TheVariants.{Utf8, Ut
 use Rattle.yaml_emit_sink.specs.declared.settings.LineBreak.{LineBreak}
 use Rattle.yaml_emit_sink.specs.declared.settings.LineBreak.TheVariants.{Lf, Cr, CrLf}
 use Rattle.yaml_emit_sink.specs.declared.settings.Settings.{Settings}
-use Rattle.yaml_emit_sink.specs.declared.settings.Wishes.{Wishes}
+use Rattle.yaml_emit_sink.specs.declared.settings.RequestedSettings.{RequestedSettings}
 
 -- 2 to 9, any other number means 2
 abbrev pub settled_indent : ℤ → ℕ
@@ -35,10 +35,10 @@ encoding_or x coding.YAML_UTF16BE_ENCODING = Utf16Be
 
 -- the encoding that was set, or else that of the stream's start, or else UTF-8
 abbrev pub settled_encoding : yaml_encoding_t → yaml_encoding_t → Encoding
-settled_encoding wish stream = encoding_or (encoding_or Utf8 stream) wish
+settled_encoding requested stream = encoding_or (encoding_or Utf8 stream) requested
 
 -- what is in force, with the encoding of the stream's start
-abbrev pub settled : Wishes → yaml_encoding_t → Settings
+abbrev pub settled : RequestedSettings → yaml_encoding_t → Settings
 settled w stream = record {
   encoding = settled_encoding w.encoding stream;
   canonical = w.canonical;

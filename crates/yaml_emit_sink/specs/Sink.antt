@@ -21,11 +21,11 @@ pub record Output : Type 0 where
 abbrev pub output_of : Inside → Output
 output_of s = record { bytes = s.output.items; limit = s.limit; encoding = s.encoding; status = s.status; cursor = s.cursor }
 
--- no more bytes than the limit, and no more columns than bytes; within its reach an output goes on, and a character in ASCII is a byte
+-- no more bytes than the limit, and no more columns than bytes; up to its fast limit an output goes on, and a character in ASCII is a byte
 pub record IsSink (s : Inside) : Type 0 where
   pub within : length s.output.items ≤ s.limit
   pub narrow : s.cursor.column ≤ length s.output.items
-  pub reach : 0 < s.reach → (s.reach ≤ s.limit) × ((s.status ≡ Going) × (s.encoding ≡ Utf8))
+  pub fast_limit : 0 < s.fast_limit → (s.fast_limit ≤ s.limit) × ((s.status ≡ Going) × (s.encoding ≡ Utf8))
 
 -- With `text` to come, the whole is `whole`: all in front of it is written, and none of that is too deep; or the first bytes up
 -- to the limit are; or some first bytes, since the whole is too deep somewhere, or since memory was refused.

@@ -216,12 +216,12 @@ pub(crate) fn moved(at: &mut Cursor, ends: bool, white: bool, bare: bool)
 
 // Whether a character in ASCII comes, and there is room for a byte more, up to so many.
 #[inline(always)]
-pub(crate) fn is_roomy(output: &Vec<u8>, reach: u64, c: char) -> bool
+pub(crate) fn is_roomy(output: &Vec<u8>, fast_limit: u64, c: char) -> bool
     ensures ascii { result ≡ true → c < 0x80 }
-    ensures near { result ≡ true → length output.now.items < reach }
+    ensures near { result ≡ true → length output.now.items < fast_limit }
     ensures room { result ≡ true → vec_len output.now < vec_capacity output.now }
 {
-    (c as u32) < 0x80 && (output.len() as u64) < reach && output.len() < output.capacity()
+    (c as u32) < 0x80 && (output.len() as u64) < fast_limit && output.len() < output.capacity()
 }
 
 // The byte of a character in ASCII.

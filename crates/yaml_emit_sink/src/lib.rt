@@ -11,7 +11,7 @@ mod sink;
 
 pub use cursor::{Cursor, Status};
 pub use laws::utf8_encodes;
-pub use settings::{Encoding, LineBreak, Settings, Wishes, settled};
+pub use settings::{Encoding, LineBreak, RequestedSettings, Settings, settled};
 pub use sink::Sink;
 
 #[cfg(test)]

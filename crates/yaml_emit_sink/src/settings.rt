@@ -25,7 +25,7 @@ pub enum LineBreak {
 
 /// What an emitter was told.
 #[derive(Clone, Copy, PartialEq, Eq, Debug)]
-pub struct Wishes {
+pub struct RequestedSettings {
     pub encoding: yaml_encoding_t,
     pub canonical: bool,
     /// Columns.
@@ -51,9 +51,9 @@ pub struct Settings {
     pub line_break: LineBreak,
 }
 
-impl Wishes {
+impl RequestedSettings {
     /// Any encoding and break, canonical and unicode off, indent 2, width 80.
-    pub fn new() -> Wishes
+    pub fn new() -> RequestedSettings
         ensures encoding { result.encoding ≡ yaml_encoding_t.YAML_ANY_ENCODING }
         ensures canonical { result.canonical ≡ false }
         ensures indent { result.indent ≡ pos 2 }
@@ -61,7 +61,7 @@ impl Wishes {
         ensures unicode { result.unicode ≡ false }
         ensures line_break { result.line_break ≡ yaml_break_t.YAML_ANY_BREAK }
     {
-        Wishes {
+        RequestedSettings {
             encoding: yaml_encoding_t::YAML_ANY_ENCODING,
             canonical: false,
             indent: 2,
@@ -120,16 +120,16 @@ fn encoding_or(other: Encoding, encoding: yaml_encoding_t) -> Encoding
 /// What is in force for an emitter that was told that, in a stream that starts with that encoding. An indent of other than
 /// 2 to 9 means 2; a negative width 2,147,483,647, and one of 0 to twice the indent 80; any break LF; any encoding the
 /// stream's, or UTF-8.
-pub fn settled(wishes: Wishes, stream: yaml_encoding_t) -> Settings
-    ensures { result ≡ settled wishes stream }
+pub fn settled(requested: RequestedSettings, stream: yaml_encoding_t) -> Settings
+    ensures { result ≡ settled requested stream }
 {
-    let indent = settled_indent(wishes.indent);
+    let indent = settled_indent(requested.indent);
     Settings {
-        encoding: encoding_or(encoding_or(Encoding::Utf8, stream), wishes.encoding),
-        canonical: wishes.canonical,
+        encoding: encoding_or(encoding_or(Encoding::Utf8, stream), requested.encoding),
+        canonical: requested.canonical,
         indent,
-        width: settled_width(wishes.width, indent),
-        unicode: wishes.unicode,
-        line_break: settled_break(wishes.line_break),
+        width: settled_width(requested.width, indent),
+        unicode: requested.unicode,
+        line_break: settled_break(requested.line_break),
     }
 }

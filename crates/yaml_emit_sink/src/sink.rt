@@ -22,16 +22,16 @@ pub struct Sink {
     status: Status,
     cursor: Cursor,
     /// While the output has fewer bytes than these, it goes on, and a character in ASCII is one byte more.
-    reach: u64,
+    fast_limit: u64,
 }
 
 // How far a text in ASCII is written at once.
-fn reach_in(encoding: Encoding, reach: u64) -> u64
-    ensures most { result ≤ reach }
+fn fast_limit_in(encoding: Encoding, fast_limit: u64) -> u64
+    ensures most { result ≤ fast_limit }
     ensures bytes { 0 < result → encoding ≡ Encoding.Utf8 }
 {
     match encoding {
-        Encoding::Utf8 => reach,
+        Encoding::Utf8 => fast_limit,
         _ => 0,
     }
 }
@@ -50,7 +50,7 @@ impl Sink {
     ghost use Rattle.std.specs.Str.{IsAscii};
     ghost use Rattle.yaml_emit_sink.specs.Sink.{Puts, Output, stroke};
     ghost use Rattle.yaml_emit_sink.specs.Text.{letter, deep};
-    ghost use Rattle.yaml_emit_sink.specs.Layout.{Layout, char, letters, blank, blanks, break, new_line, gap, word, indicator, opener, line, wrap, keep, dark, light, must_break, indent_to, fresh, is_white, is_past, too_deep, order_mark, start};
+    ghost use Rattle.yaml_emit_sink.specs.Layout.{Layout, char, letters, blank, blanks, break, new_line, gap, word, indicator, opener, line, wrap, keep, after_text, after_block, must_break, indent_to, fresh, is_white, is_past, too_deep, order_mark, start};
 
     /// An empty output of at most `limit` bytes, in UTF-8.
     pub fn new(alloc: Global, limit: u64) -> Sink
@@ -67,7 +67,7 @@ impl Sink {
                 bare: true,
                 kept: false,
             },
-            reach: limit,
+            fast_limit: limit,
         }
     }
 
@@ -76,7 +76,7 @@ impl Sink {
         ensures { self.new ≡ record { bytes = self.old.bytes; limit = self.old.limit; encoding = encoding; status = self.old.status; cursor = self.old.cursor } }
     {
         self.encoding = encoding;
-        self.reach = reach_in(encoding, self.reach);
+        self.fast_limit = fast_limit_in(encoding, self.fast_limit);
     }
 
     /// Where the next character stands.
@@ -126,7 +126,7 @@ impl Sink {
             if self.status.is_going() {
                 moved(&mut self.cursor, ends, white, bare);
             } else {
-                self.reach = 0;
+                self.fast_limit = 0;
             }
         }
     }
@@ -135,7 +135,7 @@ impl Sink {
     fn write(&mut self, c: char, ends: bool, white: bool, bare: bool)
         ensures { Puts self.old self.new (stroke c ends white bare) }
     {
-        if is_roomy(&self.output, self.reach, c) {
+        if is_roomy(&self.output, self.fast_limit, c) {
             self.output.push_reserved(byte_of(c));
             moved(&mut self.cursor, ends, white, bare);
         } else {
@@ -199,7 +199,7 @@ impl Sink {
     fn is_near(&self, count: u64) -> bool
         ensures { result ≡ true → 0 < count → (self.now.status ≡ Status.Going) × ((self.now.encoding ≡ Encoding.Utf8) × (length self.now.bytes + count ≤ self.now.limit)) }
     {
-        count <= self.reach.saturating_sub(self.output.len() as u64)
+        count <= self.fast_limit.saturating_sub(self.output.len() as u64)
     }
 
     // Characters of one byte, one at least, for which there is room, at once.
@@ -213,7 +213,7 @@ impl Sink {
         if self.status.is_going() {
             lettered(&mut self.cursor, text.len() as u64);
         } else {
-            self.reach = 0;
+            self.fast_limit = 0;
         }
     }
 
@@ -229,7 +229,7 @@ impl Sink {
             if self.status.is_going() {
                 lettered(&mut self.cursor, text.len() as u64);
             } else {
-                self.reach = 0;
+                self.fast_limit = 0;
             }
         }
     }
@@ -288,7 +288,7 @@ impl Sink {
             if self.status.is_going() {
                 blanked(&mut self.cursor, count);
             } else {
-                self.reach = 0;
+                self.fast_limit = 0;
             }
         }
     }
@@ -325,7 +325,7 @@ impl Sink {
 
     /// A character with a space in front where one is due.
     #[inline(always)]
-    pub fn put_sign(&mut self, c: char)
+    pub fn put_inline_indicator(&mut self, c: char)
         ensures { Puts self.old self.new (word (c ∷ [])) }
     {
         self.put_gap();
@@ -377,7 +377,7 @@ impl Sink {
         if self.status.is_going() {
             indented(&mut self.cursor, indent);
         } else {
-            self.reach = 0;
+            self.fast_limit = 0;
         }
     }
 
@@ -440,7 +440,7 @@ impl Sink {
         if self.status.is_going() {
             self.status = append_char(&mut self.output, self.limit, self.encoding, '\u{FEFF}');
             if !self.status.is_going() {
-                self.reach = 0;
+                self.fast_limit = 0;
             }
         }
     }
@@ -462,7 +462,7 @@ impl Sink {
     {
         if self.status.is_going() {
             self.status = Status::Deep;
-            self.reach = 0;
+            self.fast_limit = 0;
         }
     }
 
@@ -473,7 +473,7 @@ impl Sink {
     {
         if self.status.is_going() {
             self.status = Status::Starved;
-            self.reach = 0;
+            self.fast_limit = 0;
         }
     }
 
@@ -485,16 +485,16 @@ impl Sink {
     }
 
     /// Behind a scalar in one line or in quotes neither white space was last nor is the line bare.
-    pub fn set_dark(&mut self)
-        ensures { Puts self.old self.new dark }
+    pub fn set_after_text(&mut self)
+        ensures { Puts self.old self.new after_text }
     {
         self.cursor.white = false;
         self.cursor.bare = false;
     }
 
     /// Behind a block scalar white space was last.
-    pub fn set_light(&mut self)
-        ensures { Puts self.old self.new light }
+    pub fn set_after_block(&mut self)
+        ensures { Puts self.old self.new after_block }
     {
         self.cursor.white = true;
     }

@@ -6,8 +6,8 @@ use Rattle.yaml_emit_text.specs.declared.Status.TheVariants.{Going, Full, Deep, 
 use Rattle.yaml_emit_text.specs.Layout.{Layout, stay, start}
 use Rattle.yaml_emit_text.specs.Sink.{Puts}
 use Rattle.yaml_emit_layout.specs.declared.Problem.{Problem}
-use Rattle.yaml_emit_layout.specs.declared.Place.{Place}
-use Rattle.yaml_emit_layout.specs.declared.Place.TheVariants as at
+use Rattle.yaml_emit_layout.specs.declared.Expected.{Expected}
+use Rattle.yaml_emit_layout.specs.declared.Expected.TheVariants as at
 use Rattle.yaml_emit_layout.specs.declared.Phase.{Phase}
 use Rattle.yaml_emit_layout.specs.declared.Phase.TheVariants.{Items, Keys}
 use Rattle.yaml_emit_layout.specs.Content.{Event, document_start, sequence_start, mapping_start}
@@ -126,7 +126,7 @@ pub record IsFresh (core : Core) (s : Settings) : Type 0 where
   pub starved : core.starved ≡ false
 
 -- no event was refused, and the output goes on
-abbrev pub goes_on : Status → Place → Bool
+abbrev pub goes_on : Status → Expected → Bool
 goes_on s (at.Refused p) = false
 goes_on s at.StreamStart = is_going s
 goes_on s (at.Documents first unended) = is_going s

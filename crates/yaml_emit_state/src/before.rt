@@ -54,7 +54,7 @@ fn put_question(sink: &mut Sink, flow: bool)
     ensures { Puts sink.old sink.new (question flow) }
 {
     if flow {
-        sink.put_sign('?');
+        sink.put_inline_indicator('?');
     } else {
         sink.put_indicator('?');
     }
@@ -96,7 +96,7 @@ fn put_before_value(sink: &mut Sink, settings: &Settings, flow: bool, indent: u6
         sink.put(':');
     } else if flow {
         put_turn(sink, settings, indent);
-        sink.put_sign(':');
+        sink.put_inline_indicator(':');
     } else {
         sink.put_line(settings.line_break, indent);
         sink.put_indicator(':');

@@ -6,7 +6,7 @@ ghost use Rattle.yaml_emit_text.specs.Layout.{◌▹◌, stay, when, choose, cha
 ghost use Rattle.yaml_emit_layout.specs.Nodes.{dots, version_text, directives_text, directive_text, has_version, has_directives, dashes, is_kept, start_layout, end_layout, stop_layout, line_at, version_word};
 ghost use Rattle.yaml_emit_layout.specs.State.{start_at, stop_at};
 
-use yaml_emit_layout::Place;
+use yaml_emit_layout::Expected;
 use yaml_emit_text::{Settings, Sink, put_prefix};
 use yaml_scan::{yaml_tag_directive_t, yaml_version_directive_t};
 
@@ -170,7 +170,7 @@ fn put_start(
 pub fn put_start_at(
     sink: &mut Sink,
     settings: &Settings,
-    place: Place,
+    place: Expected,
     version: Option<yaml_version_directive_t>,
     directives: &[yaml_tag_directive_t],
     implicit: bool,
@@ -178,7 +178,7 @@ pub fn put_start_at(
     ensures { Puts sink.old sink.new (start_at settings.now place (record { version = version; directives = map directive_of directives.now; implicit = implicit })) }
 {
     match place {
-        Place::Documents(first, unended) => put_start(
+        Expected::Documents(first, unended) => put_start(
             sink, settings, first, unended, version, directives, implicit,
         ),
         _ => (),
@@ -203,11 +203,11 @@ fn put_stop(sink: &mut Sink, settings: &Settings, unended: bool)
 }
 
 /// What ends the stream.
-pub fn put_stop_at(sink: &mut Sink, settings: &Settings, place: Place)
+pub fn put_stop_at(sink: &mut Sink, settings: &Settings, place: Expected)
     ensures { Puts sink.old sink.new (stop_at settings.now place) }
 {
     match place {
-        Place::Documents(_, unended) => put_stop(sink, settings, unended),
+        Expected::Documents(_, unended) => put_stop(sink, settings, unended),
         _ => (),
     }
 }

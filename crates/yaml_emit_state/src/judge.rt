@@ -3,7 +3,7 @@ ghost use Rattle.std.specs.List.{list_all};
 ghost use Rattle.std.specs.Prelude.{◌≡◌, ◌∷◌, [], None, Some, true, false, if◌then◌else◌, not, ◌&&◌, ◌||◌, length, map, ◌≤◌, IfOk, OnOk, OnErr};
 ghost use Rattle.yaml_scan.specs.Classes.{is_alpha_byte};
 ghost use Rattle.yaml_parse.specs.Events.{text_of, directive_of, body_of};
-ghost use Rattle.yaml_emit_layout.specs.Content.{said};
+ghost use Rattle.yaml_emit_layout.specs.Content.{emitter_event};
 ghost use Rattle.yaml_emit_layout.specs.Grammar.{has, name_problem, anchor_problem, tag_problem, kept_tag, event_problem, version_problem, handle_problem, prefix_problem, directives_problem, opening_problem, flags_problem, last_problem, ends_phase, begins_node, may_come, node_problem, place_problem, problem_by, between, inner_problem, ends_problem, is_version, or_else};
 ghost use Rattle.yaml_emit_state.specs.Seen.{is_among, Adds, Judges};
 ghost use Rattle.yaml_emit_state.specs.Steps.{takes_memory};
@@ -11,7 +11,7 @@ ghost use Rattle.yaml_emit_state.specs.Steps.{takes_memory};
 use crate::handles::add;
 use std::alloc::{AllocError, Global};
 use std::collections::BTreeSet;
-use yaml_emit_layout::{Level, Phase, Place, Problem};
+use yaml_emit_layout::{Expected, Level, Phase, Problem};
 use yaml_parse::yaml_event_body_t;
 use yaml_scan::{IS_ALPHA, yaml_tag_directive_t, yaml_version_directive_t};
 
@@ -80,7 +80,7 @@ fn properties_problem(
 
 #[tactic(auto, unfolding(yaml_emit_layout::specs::Grammar::event_problem))]
 fn event_problem(canonical: bool, event: &yaml_event_body_t) -> Option<Problem>
-    ensures { result ≡ event_problem canonical (said (body_of event.now)) }
+    ensures { result ≡ event_problem canonical (emitter_event (body_of event.now)) }
 {
     match event {
         yaml_event_body_t::Alias { anchor } => name_problem(
@@ -269,8 +269,8 @@ fn flags_problem(tag: &Option<Vec<u8>>, plain: bool, quoted: bool) -> Option<Pro
 
 #[tactic(auto, unfolding(yaml_emit_layout::specs::Grammar::last_problem))]
 fn last_problem(alloc: Global, event: &yaml_event_body_t) -> Result<Option<Problem>, AllocError>
-    ensures problem { IfOk result (λ p. p ≡ last_problem (said (body_of event.now))) }
-    ensures refused { OnErr result (takes_memory (said (body_of event.now)) ≡ true) }
+    ensures problem { IfOk result (λ p. p ≡ last_problem (emitter_event (body_of event.now))) }
+    ensures refused { OnErr result (takes_memory (emitter_event (body_of event.now)) ≡ true) }
 {
     match event {
         yaml_event_body_t::DocumentStart {
@@ -289,7 +289,7 @@ fn last_problem(alloc: Global, event: &yaml_event_body_t) -> Result<Option<Probl
 }
 
 fn begins_node(event: &yaml_event_body_t) -> bool
-    ensures { result ≡ begins_node (said (body_of event.now)) }
+    ensures { result ≡ begins_node (emitter_event (body_of event.now)) }
 {
     match event {
         yaml_event_body_t::Alias { .. }
@@ -301,7 +301,7 @@ fn begins_node(event: &yaml_event_body_t) -> bool
 }
 
 fn ends_phase(phase: Phase, event: &yaml_event_body_t) -> bool
-    ensures { result ≡ ends_phase phase (said (body_of event.now)) }
+    ensures { result ≡ ends_phase phase (emitter_event (body_of event.now)) }
 {
     match phase {
         Phase::Items(_) => match event {
@@ -317,7 +317,7 @@ fn ends_phase(phase: Phase, event: &yaml_event_body_t) -> bool
 }
 
 fn may_come(top: Option<Level>, event: &yaml_event_body_t) -> bool
-    ensures { result ≡ may_come top (said (body_of event.now)) }
+    ensures { result ≡ may_come top (emitter_event (body_of event.now)) }
 {
     match top {
         None => begins_node(event),
@@ -326,7 +326,7 @@ fn may_come(top: Option<Level>, event: &yaml_event_body_t) -> bool
 }
 
 fn node_problem(top: Option<Level>, event: &yaml_event_body_t) -> Option<Problem>
-    ensures { result ≡ node_problem top (said (body_of event.now)) }
+    ensures { result ≡ node_problem top (emitter_event (body_of event.now)) }
 {
     if may_come(top, event) {
         None
@@ -336,36 +336,36 @@ fn node_problem(top: Option<Level>, event: &yaml_event_body_t) -> Option<Problem
 }
 
 #[tactic(auto, unfolding(yaml_emit_layout::specs::Grammar::place_problem))]
-fn place_problem(place: Place, top: Option<Level>, event: &yaml_event_body_t) -> Option<Problem>
-    ensures { result ≡ place_problem place top (said (body_of event.now)) }
+fn place_problem(place: Expected, top: Option<Level>, event: &yaml_event_body_t) -> Option<Problem>
+    ensures { result ≡ place_problem place top (emitter_event (body_of event.now)) }
 {
     match place {
-        Place::StreamStart => match event {
+        Expected::StreamStart => match event {
             yaml_event_body_t::StreamStart { .. } => None,
             _ => Some(Problem::ExpectedStreamStart),
         },
-        Place::Documents(_, _) => match event {
+        Expected::Documents(_, _) => match event {
             yaml_event_body_t::DocumentStart { .. } | yaml_event_body_t::StreamEnd => None,
             _ => Some(Problem::ExpectedDocumentStartOrStreamEnd),
         },
-        Place::Node => node_problem(top, event),
-        Place::DocumentEnd => match event {
+        Expected::Node => node_problem(top, event),
+        Expected::DocumentEnd => match event {
             yaml_event_body_t::DocumentEnd { .. } => None,
             _ => Some(Problem::ExpectedDocumentEnd),
         },
-        Place::End => Some(Problem::ExpectedNothing),
-        Place::Refused(problem) => Some(problem),
+        Expected::End => Some(Problem::ExpectedNothing),
+        Expected::Refused(problem) => Some(problem),
     }
 }
 
 fn late_problem(
     alloc: Global,
-    place: Place,
+    place: Expected,
     top: Option<Level>,
     event: &yaml_event_body_t,
 ) -> Result<Option<Problem>, AllocError>
-    ensures problem { IfOk result (λ p. p ≡ or_else (place_problem place top (said (body_of event.now))) (last_problem (said (body_of event.now)))) }
-    ensures refused { OnErr result (takes_memory (said (body_of event.now)) ≡ true) }
+    ensures problem { IfOk result (λ p. p ≡ or_else (place_problem place top (emitter_event (body_of event.now))) (last_problem (emitter_event (body_of event.now)))) }
+    ensures refused { OnErr result (takes_memory (emitter_event (body_of event.now)) ≡ true) }
 {
     match place_problem(place, top, event) {
         Some(problem) => Ok(Some(problem)),
@@ -379,12 +379,12 @@ fn late_problem(
 pub fn problem_of(
     alloc: Global,
     canonical: bool,
-    place: Place,
+    place: Expected,
     top: Option<Level>,
     event: &yaml_event_body_t,
 ) -> Result<Option<Problem>, AllocError>
-    ensures problem { IfOk result (λ p. p ≡ problem_by canonical place top (said (body_of event.now))) }
-    ensures refused { OnErr result (takes_memory (said (body_of event.now)) ≡ true) }
+    ensures problem { IfOk result (λ p. p ≡ problem_by canonical place top (emitter_event (body_of event.now))) }
+    ensures refused { OnErr result (takes_memory (emitter_event (body_of event.now)) ≡ true) }
 {
     match event_problem(canonical, event) {
         Some(problem) => Ok(Some(problem)),

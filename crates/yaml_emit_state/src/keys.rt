@@ -1,7 +1,7 @@
 //! Simple keys.
 ghost use Rattle.std.specs.Prelude.{◌≡◌, ◌∷◌, [], None, Some, true, false, not, ◌&&◌, ◌||◌, map, length, nat_le, ◌+◌, ◌≤◌};
 ghost use Rattle.yaml_parse.specs.Events.{text_of, body_of};
-ghost use Rattle.yaml_emit_layout.specs.Content.{said, is_flow_sequence, is_flow_mapping};
+ghost use Rattle.yaml_emit_layout.specs.Content.{emitter_event, is_flow_sequence, is_flow_mapping};
 ghost use Rattle.yaml_emit_layout.specs.Grammar.{kept_tag};
 ghost use Rattle.yaml_emit_layout.specs.Nodes.{context_of, has_break, properties_size, text_size, written_size, is_simple_scalar, is_simple_alias, is_simple_start};
 ghost use Rattle.yaml_emit_layout.specs.State.{is_simple_event};
@@ -122,7 +122,7 @@ fn is_simple_by(
     event: &yaml_event_body_t,
     empty: bool,
 ) -> bool
-    ensures { result ≡ is_simple_event (context_of settings.now directives.now) (said (body_of event.now)) empty }
+    ensures { result ≡ is_simple_event (context_of settings.now directives.now) (emitter_event (body_of event.now)) empty }
 {
     match event {
         yaml_event_body_t::Alias { anchor } => is_simple_alias(settings, directives, anchor),
@@ -190,7 +190,7 @@ pub fn is_simple(
     event: &yaml_event_body_t,
     empty: bool,
 ) -> bool
-    ensures { result ≡ is_simple_event (context_of settings.now directives.now) (said (body_of event.now)) empty }
+    ensures { result ≡ is_simple_event (context_of settings.now directives.now) (emitter_event (body_of event.now)) empty }
 {
     if settings.canonical {
         false

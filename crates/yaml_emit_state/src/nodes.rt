@@ -17,11 +17,11 @@ use yaml_emit_text::{
 };
 use yaml_scan::yaml_scalar_style_t;
 
-fn put_name(sink: &mut Sink, sign: char, name: &[u8])
-    ensures { Puts sink.old sink.new (word (sign ∷ name.now)) }
+fn put_name(sink: &mut Sink, indicator: char, name: &[u8])
+    ensures { Puts sink.old sink.new (word (indicator ∷ name.now)) }
 {
     sink.put_gap();
-    sink.put(sign);
+    sink.put(indicator);
     sink.put_all(name);
 }
 
@@ -163,7 +163,7 @@ fn put_exclamation_if(sink: &mut Sink, due: bool)
     ensures { Puts sink.old sink.new (when due (word (33 ∷ []))) }
 {
     if due {
-        sink.put_sign('!');
+        sink.put_inline_indicator('!');
     }
 }
 

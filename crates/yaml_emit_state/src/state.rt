@@ -10,7 +10,7 @@ use crate::keys::is_simple;
 use crate::levels::Levels;
 use event::put_event;
 use std::alloc::{AllocError, Global};
-use yaml_emit_layout::Place;
+use yaml_emit_layout::Expected;
 use yaml_emit_text::{DirectiveTable, Settings, Sink, Status};
 use yaml_parse::yaml_event_body_t;
 
@@ -20,7 +20,7 @@ use yaml_parse::yaml_event_body_t;
 pub struct Core {
     settings: Settings,
     sink: Sink,
-    place: Place,
+    place: Expected,
     levels: Levels,
     directives: DirectiveTable,
     /// What has stopped the output is memory that was refused for the open collections or the directives.
@@ -29,7 +29,7 @@ pub struct Core {
 
 impl Core {
     ghost use Rattle.yaml_parse.specs.Events.{body_of};
-    ghost use Rattle.yaml_emit_layout.specs.Content.{said};
+    ghost use Rattle.yaml_emit_layout.specs.Content.{emitter_event};
     ghost use Rattle.yaml_emit_layout.specs.State.{problem_at};
     ghost use Rattle.yaml_emit_state.specs.Steps.{state_of, settings_of, LaysOut, IsFresh, Takes, Starves, is_going, goes_on};
 
@@ -43,7 +43,7 @@ impl Core {
         Core {
             settings,
             sink,
-            place: Place::StreamStart,
+            place: Expected::StreamStart,
             levels: Levels::new(alloc),
             directives: DirectiveTable::new(alloc),
             starved: false,
@@ -65,7 +65,7 @@ impl Core {
     }
 
     /// What is expected.
-    pub fn place(&self) -> Place
+    pub fn place(&self) -> Expected
         ensures { result ≡ self.now.place }
     {
         self.place
@@ -83,7 +83,7 @@ impl Core {
         ensures { result ≡ goes_on self.now.sink.status self.now.place }
     {
         match self.place {
-            Place::Refused(_) => false,
+            Expected::Refused(_) => false,
             _ => self.sink.status().is_going(),
         }
     }
@@ -121,7 +121,7 @@ impl Core {
     #[inline(always)]
     fn take(&mut self, event: &mut yaml_event_body_t, empty: bool)
         requires { HasUtf8 (body_of event.old) }
-        ensures { Takes self.old self.new (said (body_of event.old)) empty }
+        ensures { Takes self.old self.new (emitter_event (body_of event.old)) empty }
     {
         let settings = self.settings();
         let simple = is_simple(&settings, &self.directives, event, empty);
@@ -142,7 +142,7 @@ impl Core {
     /// For want of memory the output stops. What is left of the event counts for nothing.
     pub fn lay_out(&mut self, event: &mut yaml_event_body_t, empty: bool)
         requires { HasUtf8 (body_of event.old) }
-        ensures { LaysOut self.old self.new (said (body_of event.old)) empty }
+        ensures { LaysOut self.old self.new (emitter_event (body_of event.old)) empty }
     {
         match problem_of(
             self.directives.allocator(),
@@ -152,7 +152,7 @@ impl Core {
             event,
         ) {
             Ok(Some(problem)) => {
-                self.place = Place::Refused(problem);
+                self.place = Expected::Refused(problem);
             }
             Ok(None) => self.take(event, empty),
             Err(refused) => self.starve(refused),

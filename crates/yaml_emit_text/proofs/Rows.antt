@@ -158,9 +158,9 @@ tag_whole_prefix : tag_spelling (directive (codes "!e!") (codes "tag:x,2000:") �
 unfolding directive_for defines suffix_keeps uri_text spelled hex_digit
 tag_whole_prefix = refl
 
-tag_flow_signs : tag_spelling [] (codes "tag:yaml.org,2002:a,[b]") ≡ codes "!!a%2C%5Bb%5D"
+tag_flow_indicators : tag_spelling [] (codes "tag:yaml.org,2002:a,[b]") ≡ codes "!!a%2C%5Bb%5D"
 unfolding directive_for defines suffix_keeps uri_text spelled hex_digit
-tag_flow_signs = refl
+tag_flow_indicators = refl
 
 tag_first : tag_spelling (directive (codes "!e!") (codes "!") ∷ directive (codes "!f!") (codes "!") ∷ []) (codes "!x") ≡ codes "!e!x"
 unfolding directive_for defines suffix_keeps uri_text spelled hex_digit

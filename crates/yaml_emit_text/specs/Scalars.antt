@@ -7,7 +7,7 @@ use Rattle.yaml_emit_text.specs.declared.page.Chomp.{Chomp}
 use Rattle.yaml_emit_text.specs.declared.page.Chomp.TheVariants as chomping
 use Rattle.yaml_emit_sink.specs.declared.LineBreak.{LineBreak}
 use Rattle.yaml_emit_sink.specs.Text.{is_break}
-use Rattle.yaml_emit_sink.specs.Layout.{Layout, ◌▹◌, stay, choose, when, char, break, new_line, gap, line, is_past, keep, dark, light}
+use Rattle.yaml_emit_sink.specs.Layout.{Layout, ◌▹◌, stay, choose, when, char, break, new_line, gap, line, is_past, keep, after_text, after_block}
 use Rattle.yaml_emit_text.specs.Quoted.{double_quoted, first, is_empty}
 use Rattle.yaml_emit_text.specs.Style.{is_blank, last_or}
 
@@ -43,7 +43,7 @@ flow_body page quote before (x ∷ xs) = flow_char page quote before x xs ▹ fl
 
 -- a space in front stands for the start: there no space is cut; outside flow an empty one is nothing, not even a space
 abbrev pub plain : Page → Bool → List ℕ → Layout
-plain page flow value = when (flow || not (is_empty value)) gap ▹ (flow_body page false 32 value ▹ dark)
+plain page flow value = when (flow || not (is_empty value)) gap ▹ (flow_body page false 32 value ▹ after_text)
 
 abbrev pub single_quoted : Page → List ℕ → Layout
 single_quoted page value = gap ▹ (char 39 ▹ (flow_body page true 32 value ▹ char 39))
@@ -111,7 +111,7 @@ block_header digit folded value = gap ▹ (char (if folded then 62 else 124) ▹
 
 -- at the start stands a break, and the line begins with a blank
 abbrev pub block : Page → ℕ → Bool → List ℕ → Layout
-block page digit folded value = block_header digit folded value ▹ (new_line page.line_break ▹ (block_body page folded true 10 value ▹ light))
+block page digit folded value = block_header digit folded value ▹ (new_line page.line_break ▹ (block_body page folded true 10 value ▹ after_block))
 
 unfoldable pub scalar_text : Page → ℕ → Bool → Style → List ℕ → Layout
 scalar_text page digit flow style.Plain value = plain page flow value

@@ -4,7 +4,7 @@ ghost use Rattle.std.specs.Prelude.{◌≡◌, ◌≤◌, ◌+◌, length, IsUtf
 ghost use Rattle.std.specs.Str.{chars};
 ghost use Rattle.yaml_emit_sink.specs.Sink.{Puts, Owes};
 ghost use Rattle.yaml_emit_sink.specs.Text.{is_break};
-ghost use Rattle.yaml_emit_sink.specs.Layout.{◌▹◌, stay, choose, when, char, break, new_line, gap, line, is_past, keep, light};
+ghost use Rattle.yaml_emit_sink.specs.Layout.{◌▹◌, stay, choose, when, char, break, new_line, gap, line, is_past, keep, after_block};
 ghost use Rattle.yaml_emit_text.specs.Runs.{block_bounds};
 ghost use Rattle.yaml_emit_text.specs.Quoted.{first};
 ghost use Rattle.yaml_emit_text.specs.Style.{is_blank};
@@ -189,16 +189,16 @@ fn put_chomp(sink: &mut Sink, chomp: Chomp)
     ensures { Puts sink.old sink.new (chomp_mark chomp) }
 {
     match chomp {
-        Chomp::Strip => put_chomp_sign(sink, '-', false),
+        Chomp::Strip => put_chomp_indicator(sink, '-', false),
         Chomp::Clip => sink.set_kept(false),
-        Chomp::Keep => put_chomp_sign(sink, '+', true),
+        Chomp::Keep => put_chomp_indicator(sink, '+', true),
     }
 }
 
-fn put_chomp_sign(sink: &mut Sink, sign: char, kept: bool)
-    ensures { Puts sink.old sink.new (char sign ▹ keep kept) }
+fn put_chomp_indicator(sink: &mut Sink, indicator: char, kept: bool)
+    ensures { Puts sink.old sink.new (char indicator ▹ keep kept) }
 {
-    sink.put(sign);
+    sink.put(indicator);
     sink.set_kept(kept);
 }
 
@@ -242,7 +242,7 @@ fn put_block(sink: &mut Sink, page: Page, digit: u64, folded: bool, value: &str)
     put_header(sink, digit, folded, value);
     sink.put_new_line(page.line_break);
     put_block_body(sink, page, folded, value);
-    sink.set_light();
+    sink.set_after_block();
 }
 
 /// A literal scalar, with a space in front where one is due: `|`, the indent's digit where the value begins with a space or
@@ -253,7 +253,7 @@ pub fn put_literal(sink: &mut Sink, page: Page, digit: u64, value: &str)
     put_block(sink, page, digit, false, value);
 }
 
-/// A folded scalar, with a space in front where one is due: `>`, the same signs, and its lines. Behind the width a space
+/// A folded scalar, with a space in front where one is due: `>`, the same indicators, and its lines. Behind the width a space
 /// becomes a line, but not in a line that begins with a blank, nor before a space; and lines that begin with no blank are parted
 /// by a break more.
 pub fn put_folded(sink: &mut Sink, page: Page, digit: u64, value: &str)

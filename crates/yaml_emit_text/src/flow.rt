@@ -4,7 +4,7 @@ ghost use Rattle.std.specs.Prelude.{◌≡◌, ◌≤◌, length, IsUtf8, false,
 ghost use Rattle.std.specs.Str.{chars};
 ghost use Rattle.yaml_emit_sink.specs.Sink.{Puts, Owes};
 ghost use Rattle.yaml_emit_sink.specs.Text.{is_break};
-ghost use Rattle.yaml_emit_sink.specs.Layout.{◌▹◌, stay, choose, when, char, break, new_line, gap, line, is_past, dark};
+ghost use Rattle.yaml_emit_sink.specs.Layout.{◌▹◌, stay, choose, when, char, break, new_line, gap, line, is_past, after_text};
 ghost use Rattle.yaml_emit_text.specs.Runs.{flow_bounds};
 ghost use Rattle.yaml_emit_text.specs.Quoted.{first, is_empty};
 ghost use Rattle.yaml_emit_text.specs.Scalars.{value_break, cuts_at, cut, quote_char, text_char, flow_char, flow_body, plain, single_quoted};
@@ -168,7 +168,7 @@ pub fn put_plain(sink: &mut Sink, page: Page, flow: bool, value: &str)
 {
     put_gap_if(sink, flow || !is_empty(value));
     put_flow_body(sink, page, false, value);
-    sink.set_dark();
+    sink.set_after_text();
 }
 
 /// A single quoted scalar, with a space in front where one is due. `'` is doubled, spaces are cut as in plain scalars, and a

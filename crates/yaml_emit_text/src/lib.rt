@@ -26,7 +26,7 @@ pub use style::{allowed_for, taken};
 pub use table::DirectiveTable;
 pub use tag::{put_alias, put_anchor, put_prefix, put_tag, tag_size};
 pub use yaml_emit_sink::{
-    Cursor, Encoding, LineBreak, Settings, Sink, Status, Wishes, settled, utf8_encodes,
+    Cursor, Encoding, LineBreak, RequestedSettings, Settings, Sink, Status, settled, utf8_encodes,
 };
 
 #[cfg(test)]

@@ -11,21 +11,21 @@ use Rattle.yaml_parse_loader.specs.declared.Anchored.{Anchored}
 use Rattle.yaml_parse_loader.specs.Anchors.{Anchors}
 use Rattle.yaml_parse_document.specs.Documents.{Document, no_document}
 use Rattle.yaml_parse_grammar.specs.Resolve.{Told}
-use Rattle.yaml_parse_grammar.specs.Coming.{Coming, IsFinished, FaultOf}
+use Rattle.yaml_parse_grammar.specs.Remaining.{ParserRemaining, IsFinished, FaultOf}
 use Rattle.yaml_parse_loader.specs.Loading.{Loading, Fed, goes_on, loaded, refused, nothing_loaded, step, step_body, aliased, entered, load, turn}
 use Rattle.yaml_parse.specs.Finds.{GivesNext, GivesEnd}
 use Rattle.yaml_parse.specs.Loads.{Loads, load_on, behind_all, loads, loads_of, LoadGives, LoadRefuses, KeepsLoading, told_events, LoadsSame}
 
-pub keeps_first : (c : Coming) (l : Loading) → l ≡ nothing_loaded → KeepsLoading c c l
+pub keeps_first : (c : ParserRemaining) (l : Loading) → l ≡ nothing_loaded → KeepsLoading c c l
 keeps_first c l e = record { same = ap (λ (x : Loading). loads c.events c.ending x) e; ending = refl; answered = refl }
 
 -- the next event is fed
-fed : (i o n : Coming) (l : Loading) (e : Event) (c : Fed) → KeepsLoading i o l → GivesNext e o n → step e l ≡ c → loads_of i ≡ load_on c (loads n.events o.ending) n.events n.unasked
+fed : (i o n : ParserRemaining) (l : Loading) (e : Event) (c : Fed) → KeepsLoading i o l → GivesNext e o n → step e l ≡ c → loads_of i ≡ load_on c (loads n.events o.ending) n.events n.unasked
 unfolding loads
 fed i o n l e c k h s =
     sym k.same ∙ ap (λ (gs : List Told). loads gs o.ending l) h.events ∙ ap (λ (x : Fed). load_on x (loads n.events o.ending) n.events n.unasked) s
 
-pub keeps_on : (i o n : Coming) (l m : Loading) (e : Event) → KeepsLoading i o l → GivesNext e o n → step e l ≡ goes_on m → KeepsLoading i n m
+pub keeps_on : (i o n : ParserRemaining) (l m : Loading) (e : Event) → KeepsLoading i o l → GivesNext e o n → step e l ≡ goes_on m → KeepsLoading i n m
 keeps_on i o n l m e k h s = record {
   same = ap (λ (f : Option Fault). loads n.events f m) h.ending ∙ sym (fed i o n l e (goes_on m) k h s);
   ending = h.ending ∙ k.ending;
@@ -35,31 +35,31 @@ keeps_on i o n l m e k h s = record {
 shorter : (es : List Told) (t : Told) (rest : List Told) → es ≡ t ∷ rest → length rest < length es
 shorter es t rest e = rw e (omega arith)
 
-pub keeps_less : (o n : Coming) (e : Event) → GivesNext e o n → length n.events < length o.events
+pub keeps_less : (o n : ParserRemaining) (e : Event) → GivesNext e o n → length n.events < length o.events
 keeps_less o n e h = shorter o.events (e, n.unasked) n.events h.events
 
-pub loads_document : (i o n : Coming) (l : Loading) (e : Event) (d : Document) → KeepsLoading i o l → GivesNext e o n → step e l ≡ loaded d → LoadGives (loads_of i) d i n
+pub loads_document : (i o n : ParserRemaining) (l : Loading) (e : Event) (d : Document) → KeepsLoading i o l → GivesNext e o n → step e l ≡ loaded d → LoadGives (loads_of i) d i n
 loads_document i o n l e d k h s =
     subst (λ (r : Loads). LoadGives r d i n) (sym (fed i o n l e (loaded d) k h s))
     (refl, record { events = refl; ending = h.ending ∙ k.ending; unasked = refl; answered = h.answered ∙ k.answered })
 
-all_fed : (i o : Coming) (l : Loading) (f : Option Fault) → KeepsLoading i o l → o.events ≡ [] → o.ending ≡ f → loads_of i ≡ behind_all f
+all_fed : (i o : ParserRemaining) (l : Loading) (f : Option Fault) → KeepsLoading i o l → o.events ≡ [] → o.ending ≡ f → loads_of i ≡ behind_all f
 unfolding loads
 all_fed i o l f k p q = sym k.same ∙ ap (λ (gs : List Told). loads gs o.ending l) p ∙ ap behind_all q
 
-pub loads_nothing : (i o n : Coming) (l : Loading) (d : Document) → KeepsLoading i o l → GivesEnd o n → d ≡ no_document → LoadGives (loads_of i) d i n
+pub loads_nothing : (i o n : ParserRemaining) (l : Loading) (d : Document) → KeepsLoading i o l → GivesEnd o n → d ≡ no_document → LoadGives (loads_of i) d i n
 loads_nothing i o n l d k h e =
     subst (λ (r : Loads). LoadGives r d i n) (sym (all_fed i o l None k h.events h.ending))
     (e, record { finished = h.nothing.finished; answered = h.nothing.answered ∙ k.answered })
 
-pub load_faulty : (i o n : Coming) (l : Loading) (f : Fault) → KeepsLoading i o l → FaultOf o f n → LoadRefuses f i n
+pub load_faulty : (i o n : ParserRemaining) (l : Loading) (f : Fault) → KeepsLoading i o l → FaultOf o f n → LoadRefuses f i n
 load_faulty i o n l f k h = record {
   finished = h.finished;
   answered = h.answered;
   reason = elim h.reason [ inl m ↦ inl m | inr q ↦ inr (all_fed i o l (Some f) k q.0 q.1) ];
 }
 
-pub load_refused : (i o n n' : Coming) (l : Loading) (e : Event) (f : Fault) → KeepsLoading i o l → GivesNext e o n
+pub load_refused : (i o n n' : ParserRemaining) (l : Loading) (e : Event) (f : Fault) → KeepsLoading i o l → GivesNext e o n
     → (f.kind ≡ YAML_MEMORY_ERROR) ⊎ (step e l ≡ refused f) → IsFinished n' → n'.answered ≡ f → LoadRefuses f i n'
 load_refused i o n n' l e f k h r p q = record {
   finished = p;

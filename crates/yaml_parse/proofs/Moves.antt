@@ -7,7 +7,7 @@ use Rattle.yaml_scan.specs.Faults.{Fault}
 use Rattle.yaml_parse_grammar.specs.declared.name.Choice.TheVariants.{Refuse, Take, Leave, Open}
 use Rattle.yaml_parse_grammar.specs.declared.problem.ParseProblem.{ParseProblem}
 use Rattle.yaml_parse_grammar.specs.Problems.{parser_fault}
-use Rattle.yaml_parse_grammar.specs.Items.{Item, ItemBody, item_at}
+use Rattle.yaml_parse_grammar.specs.Items.{RawEvent, RawEventBody, item_at}
 use Rattle.yaml_parse_grammar.specs.Items as item
 use Rattle.yaml_parse_grammar.specs.States.{State, Taken}
 use Rattle.yaml_parse_grammar.specs.Trees.{Given}
@@ -22,7 +22,7 @@ use Rattle.yaml_parse.specs.Stepped as step
 use Rattle.yaml_parse.specs.Steps.{Raw, raw, outcome, budget, IsFront, HasNoFront, IsDirective, GivesItem, GivesNoItem, IsRefused, Steps, OpensAt, IsReal}
 
 -- a directive leaves something open
-directive_stands : (b : ItemBody) (P : Type 0) → Voiced b P → IsDirective b → P
+directive_stands : (b : RawEventBody) (P : Type 0) → Voiced b P → IsDirective b → P
 directive_stands (item.version_directive x y) P h d = h
 directive_stands (item.tag_directive x y) P h d = h
 directive_stands (item.event e) P h d = absurd d
@@ -37,10 +37,10 @@ stands_over [] ys h = absurd h
 stands_over (x ∷ xs) ys h = tt
 
 -- the item and the states of a taken token
-pub taken_is : (x : State) (t : Token) (o : Option Item) → o ≡ (taken_at x t).item → record { item = o; above = (taken_at x t).above } ≡ taken_at x t
-taken_is x t o e = ap (λ (p : Option Item). let y : Taken = record { item = p; above = (taken_at x t).above } in y) e
+pub taken_is : (x : State) (t : Token) (o : Option RawEvent) → o ≡ (taken_at x t).item → record { item = o; above = (taken_at x t).above } ≡ taken_at x t
+taken_is x t o e = ap (λ (p : Option RawEvent). let y : Taken = record { item = p; above = (taken_at x t).above } in y) e
 
-pub take_item : (x : State) (t : Token) (rest : List Token) (f : Option Fault) (s s' : List State) (i : Item) (above : List State)
+pub take_item : (x : State) (t : Token) (rest : List Token) (f : Option Fault) (s s' : List State) (i : RawEvent) (above : List State)
     → choice_at x (type_of t.body) ≡ Take → record { item = Some i; above = above } ≡ taken_at x t → s' ≡ above ++ s
     → GivesItem i (raw (Some t) rest f (x ∷ s)) (raw None rest f s')
 take_item x t rest f s s' i above h k e = record {
@@ -58,26 +58,26 @@ take_silent x t rest f s s' above h k e = record {
   stands = subst Stands (sym e) (stands_over above s (subst (λ (y : Taken). TakenSpeaks y.item y.above) (sym k) (taken_speaks x t)));
 }
 
-pub leave_item : (x : State) (t : Token) (rest : List Token) (f : Option Fault) (s : List State) (i : Item) → choice_at x (type_of t.body) ≡ Leave → i ≡ left_at x t.start_mark
+pub leave_item : (x : State) (t : Token) (rest : List Token) (f : Option Fault) (s : List State) (i : RawEvent) → choice_at x (type_of t.body) ≡ Leave → i ≡ left_at x t.start_mark
     → GivesItem i (raw (Some t) rest f (x ∷ s)) (raw (Some t) rest f s)
 leave_item x t rest f s i h e = record {
-  same = leaves_at x t rest s f h ∙ ap (λ (j : Item). giving (λ (more : List Given). (j, length rest) ∷ more) (run (t ∷ rest) s f)) (sym e);
-  less = λ d. absurd (left_is_none x t.start_mark (subst (λ (j : Item). IsDirective j.body) e d));
-  stands = λ d. absurd (left_is_none x t.start_mark (subst (λ (j : Item). IsDirective j.body) e d));
+  same = leaves_at x t rest s f h ∙ ap (λ (j : RawEvent). giving (λ (more : List Given). (j, length rest) ∷ more) (run (t ∷ rest) s f)) (sym e);
+  less = λ d. absurd (left_is_none x t.start_mark (subst (λ (j : RawEvent). IsDirective j.body) e d));
+  stands = λ d. absurd (left_is_none x t.start_mark (subst (λ (j : RawEvent). IsDirective j.body) e d));
 }
 
 pub refuse_step : (x : State) (t : Token) (rest : List Token) (f : Option Fault) (s : List State) (p : ParseProblem) (o : Option yaml_mark_t) (e : Fault) → choice_at x (type_of t.body) ≡ Refuse p o
     → e ≡ parser_fault p t.start_mark (context_of o t.start_mark) → IsRefused e (raw (Some t) rest f (x ∷ s))
 refuse_step x t rest f s p o e h q = record { reason = inr (refuses x p o t rest s f h ∙ ap (λ (g : Fault). record { items = []; ending = Some g }) (sym q)) }
 
-open_item : (x : State) (t : Token) (rest : List Token) (f : Option Fault) (s s' : List State) (i : Item) → choice_at x (type_of t.body) ≡ Open
+open_item : (x : State) (t : Token) (rest : List Token) (f : Option Fault) (s s' : List State) (i : RawEvent) → choice_at x (type_of t.body) ≡ Open
     → i ≡ item_at (item.document true) t.start_mark t.start_mark → s' ≡ opened t.start_mark ++ s → GivesItem i (raw (Some t) rest f (x ∷ s)) (raw (Some t) rest f s')
 open_item x t rest f s s' i h e q = record {
   same = opens x t rest s f h
-      ∙ ap (λ (j : Item). giving (λ (more : List Given). (j, length rest) ∷ more) (run (t ∷ rest) (opened t.start_mark ++ s) f)) (sym e)
+      ∙ ap (λ (j : RawEvent). giving (λ (more : List Given). (j, length rest) ∷ more) (run (t ∷ rest) (opened t.start_mark ++ s) f)) (sym e)
       ∙ ap (λ (z : List State). giving (λ (more : List Given). (i, length rest) ∷ more) (run (t ∷ rest) z f)) (sym q);
-  less = λ d. absurd (subst (λ (j : Item). IsDirective j.body) e d);
-  stands = λ d. absurd (subst (λ (j : Item). IsDirective j.body) e d);
+  less = λ d. absurd (subst (λ (j : RawEvent). IsDirective j.body) e d);
+  stands = λ d. absurd (subst (λ (j : RawEvent). IsDirective j.body) e d);
 }
 
 pub open_step : (x : State) (t : Token) (rest : List Token) (f : Option Fault) (s s' : List State) (r : Stepped) → choice_at x (type_of t.body) ≡ Open
@@ -88,7 +88,7 @@ open_step x t rest f s s' step.silent h o = absurd o
 open_step x t rest f s s' step.done h o = absurd o
 
 pub open_real : (x : State) (t : Token) (start : yaml_mark_t) (s s' : List State) (r : Stepped) → OpensAt start s r s' → IsReal x t r
-open_real x t start s s' (step.given i) o = λ d. absurd (subst (λ (j : Item). IsDirective j.body) o.0 d)
+open_real x t start s s' (step.given i) o = λ d. absurd (subst (λ (j : RawEvent). IsDirective j.body) o.0 d)
 open_real x t start s s' (step.refused e) o = tt
 open_real x t start s s' step.silent o = absurd o
 open_real x t start s s' step.done o = absurd o
@@ -143,5 +143,5 @@ pub no_front_step : (peeked : Option Token) (ts : List Token) (f : Option Fault)
     → old ≡ x ∷ s → HasNoFront peeked ts f e → IsRefused e (raw peeked ts f old)
 no_front_step peeked ts f old x s e p h = record { reason = elim h.reason [ inl m ↦ inl m | inr r ↦ inr (ending_outcome peeked ts f old x s e p r) ] }
 
-pub leave_real : (x : State) (t : Token) (start : yaml_mark_t) (i : Item) → i ≡ left_at x start → IsReal x t (step.given i)
-leave_real x t start i e = λ d. absurd (left_is_none x start (subst (λ (j : Item). IsDirective j.body) e d))
+pub leave_real : (x : State) (t : Token) (start : yaml_mark_t) (i : RawEvent) → i ≡ left_at x start → IsReal x t (step.given i)
+leave_real x t start i e = λ d. absurd (left_is_none x start (subst (λ (j : RawEvent). IsDirective j.body) e d))

@@ -5,34 +5,34 @@ use Rattle.yaml_scan.specs.declared.yaml_mark_t.{yaml_mark_t}
 use Rattle.yaml_scan.specs.Tokens.{Token}
 use Rattle.yaml_scan.specs.Faults.{Fault}
 use Rattle.yaml_parse_model.specs.Events.{Event, EventBody, no_event}
-use Rattle.yaml_parse_grammar.specs.Items.{Item, ItemBody}
+use Rattle.yaml_parse_grammar.specs.Items.{RawEvent, RawEventBody}
 use Rattle.yaml_parse_grammar.specs.Items as item
 use Rattle.yaml_parse_grammar.specs.States.{State}
 use Rattle.yaml_parse_grammar.specs.Trees.{Given, Stream, spell, items}
 use Rattle.yaml_parse_grammar.specs.Machine.{Outcome, run, initial, Stands}
 use Rattle.yaml_parse_grammar.specs.Resolve.{Directives, no_directives, Settled, refused, gave, noted, settle, settle_body, resolved, placed, read_on, reading, Reading, Told}
-use Rattle.yaml_parse_grammar.specs.Coming.{Coming, coming, reading_of, waiting, IsFinished, GivesNothing, GivesEvent, EventOf, FaultOf}
+use Rattle.yaml_parse_grammar.specs.Remaining.{ParserRemaining, parser_remaining, reading_of, waiting, IsFinished, GivesNothing, GivesEvent, EventOf, FaultOf}
 use Rattle.yaml_parse_grammar.proofs.Complete.{nothing_runs, stream_runs}
 use Rattle.yaml_parse_grammar.proofs.Voice.{speaks, reading_speaks, not_noted}
 use Rattle.yaml_parse.specs.Steps.{Raw, outcome, IsDirective, GivesItem, GivesNoItem, IsRefused, IsDone, IsSilent, IsTurnRefused, IsOver, Kept}
 use Rattle.yaml_parse.specs.Finds.{GivesNext, GivesEnd}
 
 -- what is to come of it
-abbrev pub of_raw : Raw → Directives → Fault → Coming
-of_raw r ds answered = coming r.peeked r.tokens r.fault r.stack ds answered
+abbrev pub of_raw : Raw → Directives → Fault → ParserRemaining
+of_raw r ds answered = parser_remaining r.peeked r.tokens r.fault r.stack ds answered
 
 -- ---- reading
 
-reading_gave : (gs : List Given) (f : Option Fault) (ds ds' : Directives) (i : Item) (left : ℕ) (body : EventBody) → settle i ds ≡ gave body ds'
+reading_gave : (gs : List Given) (f : Option Fault) (ds ds' : Directives) (i : RawEvent) (left : ℕ) (body : EventBody) → settle i ds ≡ gave body ds'
     → reading ((i, left) ∷ gs) f ds ≡ record { events = (placed body i, left) ∷ (reading gs f ds').events; ending = (reading gs f ds').ending }
 unfolding reading
 reading_gave gs f ds ds' i left body h = ap (λ (c : Settled). read_on c i left (λ d. reading gs f d)) h
 
-reading_noted : (gs : List Given) (f : Option Fault) (ds ds' : Directives) (i : Item) (left : ℕ) → settle i ds ≡ noted ds' → reading ((i, left) ∷ gs) f ds ≡ reading gs f ds'
+reading_noted : (gs : List Given) (f : Option Fault) (ds ds' : Directives) (i : RawEvent) (left : ℕ) → settle i ds ≡ noted ds' → reading ((i, left) ∷ gs) f ds ≡ reading gs f ds'
 unfolding reading
 reading_noted gs f ds ds' i left h = ap (λ (c : Settled). read_on c i left (λ d. reading gs f d)) h
 
-reading_refused : (gs : List Given) (f : Option Fault) (ds : Directives) (i : Item) (left : ℕ) (e : Fault) → settle i ds ≡ refused e
+reading_refused : (gs : List Given) (f : Option Fault) (ds : Directives) (i : RawEvent) (left : ℕ) (e : Fault) → settle i ds ≡ refused e
     → reading ((i, left) ∷ gs) f ds ≡ record { events = []; ending = Some e }
 unfolding reading
 reading_refused gs f ds i left e h = ap (λ (c : Settled). read_on c i left (λ d. reading gs f d)) h
@@ -41,7 +41,7 @@ reading_nothing : (f : Option Fault) (ds : Directives) → reading [] f ds ≡ r
 unfolding reading
 reading_nothing f ds = refl
 
-noted_directive : (b : ItemBody) (from : yaml_mark_t) (ds ds' : Directives) → settle_body b from ds ≡ noted ds' → IsDirective b
+noted_directive : (b : RawEventBody) (from : yaml_mark_t) (ds ds' : Directives) → settle_body b from ds ≡ noted ds' → IsDirective b
 noted_directive (item.version_directive x y) from ds ds' e = tt
 noted_directive (item.tag_directive x y) from ds ds' e = tt
 noted_directive (item.event b) from ds ds' e = cc
@@ -54,7 +54,7 @@ noted_directive (item.node a (Some t) shape) from ds ds' e = not_noted (resolved
 empty_reading : (ts : List Token) (f : Option Fault) (s : List State) (ds : Directives) → s ≡ [] → reading_of (run ts s f) ds ≡ record { events = []; ending = None }
 empty_reading ts f s ds e = ap (λ (z : List State). reading_of (run ts z f) ds) e ∙ ap (λ (o : Outcome). reading_of o ds) (nothing_runs ts f) ∙ reading_nothing None ds
 
-pub finishes : (peeked : Option Token) (ts : List Token) (f : Option Fault) (s : List State) (ds : Directives) (answered : Fault) → s ≡ [] → IsFinished (coming peeked ts f s ds answered)
+pub finishes : (peeked : Option Token) (ts : List Token) (f : Option Fault) (s : List State) (ds : Directives) (answered : Fault) → s ≡ [] → IsFinished (parser_remaining peeked ts f s ds answered)
 finishes peeked ts f s ds answered e = record {
   events = ap (λ (r : Reading). r.events) (empty_reading (waiting peeked ts) f s ds e);
   ending = ap (λ (r : Reading). r.ending) (empty_reading (waiting peeked ts) f s ds e);
@@ -63,7 +63,7 @@ finishes peeked ts f s ds answered e = record {
 
 -- ---- turns
 
-pub event_turn : (old new : Raw) (ds ds' : Directives) (answered : Fault) (i : Item) (body : EventBody) (e : Event) → GivesItem i old new → settle i ds ≡ gave body ds' → e ≡ placed body i
+pub event_turn : (old new : Raw) (ds ds' : Directives) (answered : Fault) (i : RawEvent) (body : EventBody) (e : Event) → GivesItem i old new → settle i ds ≡ gave body ds' → e ≡ placed body i
     → GivesNext e (of_raw old ds answered) (of_raw new ds' answered)
 event_turn old new ds ds' answered i body e h s p =
     let r : reading_of (outcome old) ds ≡ record { events = (placed body i, length new.tokens) ∷ (reading_of (outcome new) ds').events; ending = (reading_of (outcome new) ds').ending } =
@@ -74,7 +74,7 @@ event_turn old new ds ds' answered i body e h s p =
       answered = refl;
     }
 
-silent_of : (old new : Coming) (same : Reading) (more : Reading) → same ≡ more → old.events ≡ same.events → old.ending ≡ same.ending → new.events ≡ more.events → new.ending ≡ more.ending
+silent_of : (old new : ParserRemaining) (same : Reading) (more : Reading) → same ≡ more → old.events ≡ same.events → old.ending ≡ same.ending → new.events ≡ more.events → new.ending ≡ more.ending
     → new.answered ≡ old.answered → new.unasked + new.held < old.unasked + old.held → (more.events ≡ [] → more.ending ≡ None → ⊥) → IsSilent old new
 silent_of old new same more e a b c d w l s = record {
   answered = w;
@@ -92,13 +92,13 @@ silent_turn old new ds answered h =
     silent_of (of_raw old ds answered) (of_raw new ds answered) (reading_of (outcome old) ds) (reading_of (outcome new) ds) (ap (λ (o : Outcome). reading_of o ds) h.same)
     refl refl refl refl refl h.less (still_speaks new ds h.stands)
 
-pub noted_turn : (old new : Raw) (ds ds' : Directives) (answered : Fault) (i : Item) → GivesItem i old new → settle i ds ≡ noted ds' → IsSilent (of_raw old ds answered) (of_raw new ds' answered)
+pub noted_turn : (old new : Raw) (ds ds' : Directives) (answered : Fault) (i : RawEvent) → GivesItem i old new → settle i ds ≡ noted ds' → IsSilent (of_raw old ds answered) (of_raw new ds' answered)
 noted_turn old new ds ds' answered i h s =
     silent_of (of_raw old ds answered) (of_raw new ds' answered) (reading_of (outcome old) ds) (reading_of (outcome new) ds')
     (ap (λ (o : Outcome). reading_of o ds) h.same ∙ reading_noted (outcome new).items (outcome new).ending ds ds' i (length new.tokens) s)
     refl refl refl refl refl (h.less (noted_directive i.body i.from ds ds' s)) (still_speaks new ds' (h.stands (noted_directive i.body i.from ds ds' s)))
 
-refused_of : (old : Coming) (r : Reading) (e : Fault) → r ≡ record { events = []; ending = Some e } → old.events ≡ r.events → old.ending ≡ r.ending → (old.events ≡ []) × (old.ending ≡ Some e)
+refused_of : (old : ParserRemaining) (r : Reading) (e : Fault) → r ≡ record { events = []; ending = Some e } → old.events ≡ r.events → old.ending ≡ r.ending → (old.events ≡ []) × (old.ending ≡ Some e)
 refused_of old r e p a b = (a ∙ ap (λ (x : Reading). x.events) p, b ∙ ap (λ (x : Reading). x.ending) p)
 
 pub refused_turn : (old new : Raw) (ds ds' : Directives) (answered : Fault) (e : Fault) → IsRefused e old → new.stack ≡ [] → IsTurnRefused e (of_raw old ds answered) (of_raw new ds' answered)
@@ -110,7 +110,7 @@ refused_turn old new ds ds' answered e h s = record {
   ];
 }
 
-pub settled_turn : (old middle new : Raw) (ds ds' : Directives) (answered : Fault) (i : Item) (e : Fault) → GivesItem i old middle → settle i ds ≡ refused e → new.stack ≡ []
+pub settled_turn : (old middle new : Raw) (ds ds' : Directives) (answered : Fault) (i : RawEvent) (e : Fault) → GivesItem i old middle → settle i ds ≡ refused e → new.stack ≡ []
     → IsTurnRefused e (of_raw old ds answered) (of_raw new ds' answered)
 settled_turn old middle new ds ds' answered i e h r s = record {
   finished = finishes new.peeked new.tokens new.fault new.stack ds' answered s;
@@ -118,7 +118,7 @@ settled_turn old middle new ds ds' answered i e h r s = record {
       (ap (λ (o : Outcome). reading_of o ds) h.same ∙ reading_refused (outcome middle).items (outcome middle).ending ds i (length middle.tokens) e r) refl refl);
 }
 
-pub memory_turn : (old : Coming) (new : Raw) (ds' : Directives) (answered : Fault) (e : Fault) → e.kind ≡ YAML_MEMORY_ERROR → new.stack ≡ [] → IsTurnRefused e old (of_raw new ds' answered)
+pub memory_turn : (old : ParserRemaining) (new : Raw) (ds' : Directives) (answered : Fault) (e : Fault) → e.kind ≡ YAML_MEMORY_ERROR → new.stack ≡ [] → IsTurnRefused e old (of_raw new ds' answered)
 memory_turn old new ds' answered e m s = record { finished = finishes new.peeked new.tokens new.fault new.stack ds' answered s; reason = inl m }
 
 pub done_turn : (old new : Raw) (ds : Directives) (answered : Fault) → IsDone old new → IsOver (of_raw old ds answered) (of_raw new ds answered)
@@ -147,10 +147,10 @@ starts_anywhere ts f s ds e d =
 
 -- ---- the turns of a call
 
-pub kept_first : (c : Coming) → Kept c c
+pub kept_first : (c : ParserRemaining) → Kept c c
 kept_first c = record { events = refl; ending = refl; answered = refl; unasked = inl (refl, refl) }
 
-pub kept_silent : (i o n : Coming) → Kept i o → IsSilent o n → Kept i n
+pub kept_silent : (i o n : ParserRemaining) → Kept i o → IsSilent o n → Kept i n
 kept_silent i o n k s = record {
   events = s.events ∙ k.events;
   ending = s.ending ∙ k.ending;
@@ -158,14 +158,14 @@ kept_silent i o n k s = record {
   unasked = inr (λ p q. s.speaks (k.events ∙ p) (k.ending ∙ q));
 }
 
-same_unasked : (i o : Coming) → Kept i o → i.events ≡ [] → i.ending ≡ None → (o.unasked ≡ i.unasked) × (o.held ≡ i.held)
+same_unasked : (i o : ParserRemaining) → Kept i o → i.events ≡ [] → i.ending ≡ None → (o.unasked ≡ i.unasked) × (o.held ≡ i.held)
 same_unasked i o k p q = elim k.unasked [ inl a ↦ a | inr s ↦ absurd (s p q) ]
 
 -- the next event
-pub kept_event : (i o n : Coming) (e : Event) → Kept i o → GivesNext e o n → GivesNext e i n
+pub kept_event : (i o n : ParserRemaining) (e : Event) → Kept i o → GivesNext e o n → GivesNext e i n
 kept_event i o n e k h = record { events = sym k.events ∙ h.events; ending = h.ending ∙ k.ending; answered = h.answered ∙ k.answered }
 
-pub kept_end : (i o n : Coming) → Kept i o → IsOver o n → GivesEnd i n
+pub kept_end : (i o n : ParserRemaining) → Kept i o → IsOver o n → GivesEnd i n
 kept_end i o n k h =
     let p : i.events ≡ [] = sym k.events ∙ h.finished.events in
     let q : i.ending ≡ None = sym k.ending ∙ h.finished.ending in
@@ -175,26 +175,26 @@ kept_end i o n k h =
       nothing = record {
         given = refl;
         finished = subst IsFinished (sym h.same) h.finished;
-        unasked = ap (λ (c : Coming). c.unasked) h.same ∙ (same_unasked i o k p q).0;
-        held = ap (λ (c : Coming). c.held) h.same ∙ (same_unasked i o k p q).1;
-        answered = ap (λ (c : Coming). c.answered) h.same ∙ k.answered;
+        unasked = ap (λ (c : ParserRemaining). c.unasked) h.same ∙ (same_unasked i o k p q).0;
+        held = ap (λ (c : ParserRemaining). c.held) h.same ∙ (same_unasked i o k p q).1;
+        answered = ap (λ (c : ParserRemaining). c.answered) h.same ∙ k.answered;
       };
     }
 
 -- what a call gives
-given_front : (es : List Told) (f : Option Fault) (e : Event) (i n : Coming) → es ≡ (e, n.unasked) ∷ n.events → n.ending ≡ f → n.answered ≡ i.answered → GivesEvent es f e i n
+given_front : (es : List Told) (f : Option Fault) (e : Event) (i n : ParserRemaining) → es ≡ (e, n.unasked) ∷ n.events → n.ending ≡ f → n.answered ≡ i.answered → GivesEvent es f e i n
 given_front es f e i n p q a = rw p (record { given = refl; events = refl; ending = q; unasked = refl; answered = a })
 
-pub parsed_event : (i n : Coming) (e : Event) → GivesNext e i n → EventOf i e n
+pub parsed_event : (i n : ParserRemaining) (e : Event) → GivesNext e i n → EventOf i e n
 parsed_event i n e h = given_front i.events i.ending e i n h.events h.ending h.answered
 
-given_end : (es : List Told) (f : Option Fault) (e : Event) (i n : Coming) → es ≡ [] → f ≡ None → e ≡ no_event → GivesNothing no_event i n → GivesEvent es f e i n
+given_end : (es : List Told) (f : Option Fault) (e : Event) (i n : ParserRemaining) → es ≡ [] → f ≡ None → e ≡ no_event → GivesNothing no_event i n → GivesEvent es f e i n
 given_end es f e i n p q r h = rw (p, q, r) h
 
-pub parsed_end : (i n : Coming) (e : Event) → GivesEnd i n → e ≡ no_event → EventOf i e n
+pub parsed_end : (i n : ParserRemaining) (e : Event) → GivesEnd i n → e ≡ no_event → EventOf i e n
 parsed_end i n e h p = given_end i.events i.ending e i n h.events h.ending p h.nothing
 
-pub parsed_fault : (i o n n' : Coming) (f : Fault) → Kept i o → IsTurnRefused f o n → n'.events ≡ n.events → n'.ending ≡ n.ending → n'.between ≡ n.between → n'.answered ≡ f → FaultOf i f n'
+pub parsed_fault : (i o n n' : ParserRemaining) (f : Fault) → Kept i o → IsTurnRefused f o n → n'.events ≡ n.events → n'.ending ≡ n.ending → n'.between ≡ n.between → n'.answered ≡ f → FaultOf i f n'
 parsed_fault i o n n' f k h a b c d = record {
   finished = record { events = a ∙ h.finished.events; ending = b ∙ h.finished.ending; between = c ∙ h.finished.between };
   answered = d;

@@ -5,7 +5,7 @@ use Rattle.yaml_scan.specs.Faults.{Fault}
 use Rattle.yaml_parse_model.specs.Events.{Event}
 use Rattle.yaml_parse_document.specs.Documents.{Document, no_document}
 use Rattle.yaml_parse_grammar.specs.Resolve.{Told}
-use Rattle.yaml_parse_grammar.specs.Coming.{Coming, IsFinished}
+use Rattle.yaml_parse_grammar.specs.Remaining.{ParserRemaining, IsFinished}
 use Rattle.yaml_parse_loader.specs.Loading.{Loading, Fed, goes_on, loaded, refused, nothing_loaded, step, Loaded}
 use Rattle.yaml_parse_loader.specs.Loading as loading
 
@@ -30,35 +30,35 @@ loads [] f l = behind_all f
 loads (g ∷ gs) f l = load_on (step g.0 l) (loads gs f) gs g.1
 
 -- of a parser's events to come
-abbrev pub loads_of : Coming → Loads
+abbrev pub loads_of : ParserRemaining → Loads
 loads_of c = loads c.events c.ending nothing_loaded
 
 -- a document was loaded, and what stands behind it is left
-pub record GivesDocument (left : List Told) (count : ℕ) (old new : Coming) : Type 0 where
+pub record GivesDocument (left : List Told) (count : ℕ) (old new : ParserRemaining) : Type 0 where
   pub events : new.events ≡ left
   pub ending : new.ending ≡ old.ending
   pub unasked : new.unasked ≡ count
   pub answered : new.answered ≡ old.answered
 
 -- no document comes any more
-pub record GivesNoDocument (old new : Coming) : Type 0 where
+pub record GivesNoDocument (old new : ParserRemaining) : Type 0 where
   pub finished : IsFinished new
   pub answered : new.answered ≡ old.answered
 
 -- a load gives the next document with what is left, or the document without nodes where no document comes any more
-abbrev pub LoadGives : Loads → Document → Coming → Coming → Type 0
+abbrev pub LoadGives : Loads → Document → ParserRemaining → ParserRemaining → Type 0
 LoadGives (document e left unasked) d old new = (d ≡ e) × GivesDocument left unasked old new
 LoadGives nothing d old new = (d ≡ no_document) × GivesNoDocument old new
 LoadGives (faulty f) d old new = ⊥
 
 -- a load is refused by the fault that comes first, of the loader or of the parser, or for want of memory; nothing comes behind it
-pub record LoadRefuses (f : Fault) (old new : Coming) : Type 0 where
+pub record LoadRefuses (f : Fault) (old new : ParserRemaining) : Type 0 where
   pub finished : IsFinished new
   pub answered : new.answered ≡ f
   pub reason : (f.kind ≡ YAML_MEMORY_ERROR) ⊎ (loads_of old ≡ faulty f)
 
 -- what lasts while a loader is fed
-pub record KeepsLoading (initial now : Coming) (l : Loading) : Type 0 where
+pub record KeepsLoading (initial now : ParserRemaining) (l : Loading) : Type 0 where
   pub same : loads now.events now.ending l ≡ loads_of initial
   pub ending : now.ending ≡ initial.ending
   pub answered : now.answered ≡ initial.answered

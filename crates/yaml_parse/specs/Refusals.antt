@@ -4,7 +4,7 @@ use Rattle.yaml_scan.specs.Tokens.{Token}
 use Rattle.yaml_scan.specs.Faults.{Fault}
 use Rattle.yaml_parse_grammar.specs.Machine.{run, initial}
 use Rattle.yaml_parse_grammar.specs.Resolve.{reading, no_directives}
-use Rattle.yaml_parse_sound.specs.Laws.{bare, RefusedAt, RunsOut}
+use Rattle.yaml_parse_laws_sound.specs.Laws.{bare, RefusedAt, RunsOut}
 
 -- The fault is that of the first directive or tag handle that isn't in order, of those that are given; or it stands at the
 -- first token that no tree goes on with; or, where a tree goes on with the whole list, it is the source's own, or stands

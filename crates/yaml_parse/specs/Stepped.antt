@@ -1,18 +1,18 @@
 -- What a step over the grammar gives.
 use Rattle.yaml_scan.specs.Faults.{Fault}
-use Rattle.yaml_parse_grammar.specs.Items.{Item}
+use Rattle.yaml_parse_grammar.specs.Items.{RawEvent}
 use Rattle.yaml_parse.specs.declared.step.Step.{Step}
 use Rattle.yaml_parse.specs.declared.step.Step.TheVariants as code
 
 pub data Stepped : Type 0 where
-  given : Item → Stepped
+  given : RawEvent → Stepped
   silent : Stepped
   refused : Fault → Stepped
   done : Stepped
 
 -- an answer, and the item and the fault that stand in the slots
-abbrev pub stepped : Step → Item → Fault → Stepped
-stepped code.Item i f = given i
+abbrev pub stepped : Step → RawEvent → Fault → Stepped
+stepped code.RawEvent i f = given i
 stepped code.Silent i f = silent
 stepped code.Refused i f = refused f
 stepped code.Done i f = done

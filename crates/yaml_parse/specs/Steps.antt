@@ -9,12 +9,12 @@ use Rattle.yaml_parse_grammar.specs.States.{State}
 use Rattle.yaml_parse_grammar.specs.Items.{item_at}
 use Rattle.yaml_parse_grammar.specs.Items as item
 use Rattle.yaml_parse_grammar.specs.Machine.{Outcome, run, ending_at, choice_at, opened, Stands}
-use Rattle.yaml_parse_grammar.specs.Coming.{Coming, waiting, held_of, IsFinished, is_between}
+use Rattle.yaml_parse_grammar.specs.Remaining.{ParserRemaining, waiting, held_of, IsFinished, is_between}
 use Rattle.yaml_parse_grammar.specs.Texts.{IsUtf8Item, AreUtf8States, IsUtf8Token}
 use Rattle.yaml_parse_grammar.specs.Stacks.{IsStack, StandsBehind, parts_documents_behind}
 use Rattle.yaml_parse_model.specs.Constructors.{HasUtf8, AreUtf8}
 use Rattle.yaml_parse_grammar.specs.Resolve.{Directives}
-use Rattle.yaml_parse.specs.declared.step.Desk.{Desk}
+use Rattle.yaml_parse.specs.declared.step.StepBuffers.{StepBuffers}
 use Rattle.yaml_parse.specs.Finds.{GivesNext}
 use Rattle.yaml_parse.specs.Stepped.{Stepped}
 use Rattle.yaml_parse.specs.Stepped as step
@@ -26,7 +26,7 @@ held_if false t = None
 held_if true t = Some t
 
 -- the token that is still to be taken
-abbrev pub peeked_of : Desk → Option Token
+abbrev pub peeked_of : StepBuffers → Option Token
 peeked_of d = held_if d.is_held (token_of d.token)
 
 -- The token stands at the front: every stack goes on as before, and if it isn't the empty one it was asked for.
@@ -59,13 +59,13 @@ outcome r = run (waiting r.peeked r.tokens) r.stack r.fault
 abbrev pub budget : Raw → ℕ
 budget r = length r.tokens + held_of r.peeked
 
-abbrev pub IsDirective : item.ItemBody → Type 0
+abbrev pub IsDirective : item.RawEventBody → Type 0
 IsDirective (item.version_directive major minor) = Unit {0}
 IsDirective (item.tag_directive handle prefix) = Unit {0}
 IsDirective _ = ⊥
 
 -- the item comes first, and the rest follows; a directive takes its token and leaves something open
-pub record GivesItem (i : item.Item) (old new : Raw) : Type 0 where
+pub record GivesItem (i : item.RawEvent) (old new : Raw) : Type 0 where
   pub same : outcome old ≡ record { items = (i, length new.tokens) ∷ (outcome new).items; ending = (outcome new).ending }
   pub less : IsDirective i.body → budget new < budget old
   pub stands : IsDirective i.body → Stands new.stack
@@ -126,29 +126,29 @@ IsUtf8Turn (turn.event e) = HasUtf8 e.body
 IsUtf8Turn _ = Unit {0}
 
 -- nothing is given, a token is taken, and something is to come
-pub record IsSilent (old new : Coming) : Type 0 where
+pub record IsSilent (old new : ParserRemaining) : Type 0 where
   pub events : new.events ≡ old.events
   pub ending : new.ending ≡ old.ending
   pub answered : new.answered ≡ old.answered
   pub less : new.unasked + new.held < old.unasked + old.held
   pub speaks : old.events ≡ [] → old.ending ≡ None → ⊥
 
-pub record IsTurnRefused (f : Fault) (old new : Coming) : Type 0 where
+pub record IsTurnRefused (f : Fault) (old new : ParserRemaining) : Type 0 where
   pub finished : IsFinished new
   pub reason : (f.kind ≡ YAML_MEMORY_ERROR) ⊎ ((old.events ≡ []) × (old.ending ≡ Some f))
 
-pub record IsOver (old new : Coming) : Type 0 where
+pub record IsOver (old new : ParserRemaining) : Type 0 where
   pub finished : IsFinished old
   pub same : new ≡ old
 
-abbrev pub Turns : Coming → Turned → Coming → Type 0
+abbrev pub Turns : ParserRemaining → Turned → ParserRemaining → Type 0
 Turns old (turn.event e) new = GivesNext e old new
 Turns old turn.silent new = IsSilent old new
 Turns old (turn.refused f) new = IsTurnRefused f old new
 Turns old turn.done new = IsOver old new
 
 -- What lasts over the turns of a call. No token is taken unless something is to come.
-pub record Kept (initial now : Coming) : Type 0 where
+pub record Kept (initial now : ParserRemaining) : Type 0 where
   pub events : now.events ≡ initial.events
   pub ending : now.ending ≡ initial.ending
   pub answered : now.answered ≡ initial.answered

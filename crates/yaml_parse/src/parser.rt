@@ -11,19 +11,19 @@ ghost use Rattle.yaml_parse_model.specs.Prefix.{prefix_of, no_fault};
 ghost use Rattle.yaml_parse_grammar.specs.Trees.{Stream, spell, items};
 ghost use Rattle.yaml_parse_grammar.specs.Resolve.{reading, no_directives};
 ghost use Rattle.yaml_parse_grammar.specs.Machine.{run, initial};
-ghost use Rattle.yaml_parse_grammar.specs.Coming.{reading_of, EventOf, FaultOf, IsFinished};
+ghost use Rattle.yaml_parse_grammar.specs.Remaining.{reading_of, EventOf, FaultOf, IsFinished};
 ghost use Rattle.yaml_parse_model.specs.Constructors.{HasUtf8};
-ghost use Rattle.yaml_parse_sound.specs.Laws.{BeginsWithSentence};
+ghost use Rattle.yaml_parse_laws_sound.specs.Laws.{BeginsWithSentence};
 ghost use Rattle.yaml_parse.specs.Refusals.{IsRefusal};
 ghost use Rattle.yaml_parse.specs.Finds.{NextOf, Finds, IsUtf8Found, IsStackFound};
 ghost use Rattle.yaml_parse.specs.Steps.{Turns, IsUtf8Turn, IsStackTurn};
 ghost use Rattle.yaml_parse.specs.Turned.{turned};
 ghost use Rattle.yaml_parse_grammar.specs.Stacks.{parts_documents_behind};
 
-use crate::step::{Desk, Turn, take_turn};
+use crate::step::{StepBuffers, Turn, take_turn};
 use std::alloc::Global;
 use std::marker::Model;
-use yaml_parse_machine::{Directives, Item, ItemBody, Plain, State, TagDirectives};
+use yaml_parse_machine::{Directives, RawEvent, RawEventBody, Resolved, State, TagDirectives};
 use yaml_parse_model::{
     yaml_event_body_t, yaml_event_t, yaml_parser_t_prefix, yaml_token_source_t,
 };
@@ -35,7 +35,7 @@ pub struct yaml_parser_t<S: yaml_token_source_t> {
     alloc: Global,
     source: S,
     // The token at the front, and the item of the last step.
-    desk: Desk,
+    buffers: StepBuffers,
     // What may come, the nearest last.
     stack: Vec<State>,
     // Of the document that is open or begins.
@@ -46,19 +46,19 @@ pub struct yaml_parser_t<S: yaml_token_source_t> {
 
 impl<S: yaml_token_source_t> Model for yaml_parser_t<S> {
     ghost use Rattle.yaml_parse_model.specs.Prefix.{prefix_of};
-    ghost use Rattle.yaml_parse_grammar.specs.Coming.{Coming, coming};
+    ghost use Rattle.yaml_parse_grammar.specs.Remaining.{ParserRemaining, parser_remaining};
     ghost use Rattle.yaml_parse_machine.specs.Views.{stack_of};
     ghost use Rattle.yaml_parse_machine.specs.Settles.{directives_of};
     ghost use Rattle.yaml_parse.specs.Steps.{peeked_of};
 
-    ghost Value = { Coming };
+    ghost Value = { ParserRemaining };
 
-    ghost view = { λ p. coming (peeked_of p.desk) (S.to_come p.source) (S.fault_to_come p.source) (stack_of p.stack.items) (directives_of p.directives) (prefix_of p.prefix) };
+    ghost view = { λ p. parser_remaining (peeked_of p.buffers) (S.to_come p.source) (S.fault_to_come p.source) (stack_of p.stack.items) (directives_of p.directives) (prefix_of p.prefix) };
 
     ghost use Rattle.yaml_parse_grammar.specs.Texts.{IsUtf8Held};
     ghost use Rattle.yaml_parse_grammar.specs.Stacks.{IsStack};
 
-    ghost invariant = { λ p. IsUtf8Held (peeked_of p.desk) (stack_of p.stack.items) (directives_of p.directives) × IsStack (stack_of p.stack.items) };
+    ghost invariant = { λ p. IsUtf8Held (peeked_of p.buffers) (stack_of p.stack.items) (directives_of p.directives) × IsStack (stack_of p.stack.items) };
 }
 
 impl<S: yaml_token_source_t> yaml_parser_t<S> {
@@ -71,7 +71,7 @@ impl<S: yaml_token_source_t> yaml_parser_t<S> {
         take_turn(
             self.alloc,
             &mut self.source,
-            &mut self.desk,
+            &mut self.buffers,
             &mut self.stack,
             &mut self.directives,
             event,
@@ -97,7 +97,7 @@ impl<S: yaml_token_source_t> yaml_parser_t<S> {
 }
 
 // An item that nothing has given.
-fn no_item() -> Item
+fn no_item() -> RawEvent
     ensures { (item_of result).body ≡ item.event stream_end }
 {
     let zero = yaml_mark_t {
@@ -105,8 +105,8 @@ fn no_item() -> Item
         line: 0,
         column: 0,
     };
-    Item {
-        body: ItemBody::Event(Plain::StreamEnd),
+    RawEvent {
+        body: RawEventBody::Event(Resolved::StreamEnd),
         from: zero,
         to: zero,
         spare: None,
@@ -139,7 +139,7 @@ pub fn yaml_parser_initialize<S: yaml_token_source_t>(
         Ok(()) => Ok(yaml_parser_t {
             alloc,
             source,
-            desk: Desk {
+            buffers: StepBuffers {
                 token: yaml_token_t::empty(),
                 is_held: false,
                 item: no_item(),

@@ -10,7 +10,7 @@ ghost use Rattle.yaml_parse_grammar.specs.Machine.{choice_at, context_of};
 ghost use Rattle.yaml_parse_grammar.specs.declared.name.Choice.TheVariants.{Take as taking_it};
 ghost use Rattle.yaml_parse_machine.specs.Views.{state_of, stack_of, item_of};
 ghost use Rattle.yaml_parse_machine.specs.Settles.{directives_of};
-ghost use Rattle.yaml_parse_grammar.specs.Coming.{coming, is_between};
+ghost use Rattle.yaml_parse_grammar.specs.Remaining.{parser_remaining, is_between};
 ghost use Rattle.yaml_parse_grammar.specs.Resolve.{Directives as DirectivesSpec};
 ghost use Rattle.yaml_parse_grammar.specs.Stacks.{IsStack};
 ghost use Rattle.yaml_parse_grammar.specs.Texts.{IsUtf8Token, IsUtf8Held};
@@ -22,16 +22,16 @@ ghost use Rattle.yaml_parse.specs.Turned.{turned};
 use std::alloc::Global;
 use yaml_parse_grammar::{Choice, ParseFault, ParseProblem};
 use yaml_parse_machine::{
-    Directives, Item, ItemBody, Refusal, State, choose, leave, open, settle, take,
+    Directives, RawEvent, RawEventBody, Refusal, State, choose, leave, open, settle, take,
 };
 use yaml_parse_model::{yaml_event_t, yaml_token_source_t};
 use yaml_scan::{yaml_fault_t, yaml_mark_t, yaml_memory_fault, yaml_origin_t, yaml_token_t};
 
-/// What a step over the grammar gives: an item that lies on the desk, nothing, a fault that stands in its slot, or nothing
+/// What a step over the grammar gives: an item that lies in the step buffers, nothing, a fault that stands in its slot, or nothing
 /// any more.
 #[derive(Clone, Copy, PartialEq, Eq, Debug)]
 pub enum Step {
-    Item,
+    RawEvent,
     Silent,
     Refused,
     Done,
@@ -48,13 +48,13 @@ pub enum Turn {
 
 /// What the steps hand on in place, since moving it costs more than what they do.
 #[derive(Drop)]
-pub struct Desk {
+pub struct StepBuffers {
     /// The token that was asked for last.
     pub token: yaml_token_t,
     /// It is still to be taken.
     pub is_held: bool,
     /// What the last step gave, if it gave an item.
-    pub item: Item,
+    pub item: RawEvent,
 }
 
 fn want_of_memory() -> yaml_fault_t
@@ -85,14 +85,18 @@ fn ask<S: yaml_token_source_t>(
 }
 
 // The token at the front: the one that is held, or else the source's next.
-fn front<S: yaml_token_source_t>(source: &mut S, desk: &mut Desk, fault: &mut yaml_fault_t) -> bool
-    ensures front { HasFront result (peeked_of desk.old) (S.to_come source.old) (S.fault_to_come source.old) (token_of desk.new.token) (S.to_come source.new) (S.fault_to_come source.new) (fault_of fault.new) }
-    ensures utf8 { IsUtf8Token (peeked_of desk.old) → result ≡ true → HasUtf8 (token_of desk.new.token).body }
+fn front<S: yaml_token_source_t>(
+    source: &mut S,
+    buffers: &mut StepBuffers,
+    fault: &mut yaml_fault_t,
+) -> bool
+    ensures front { HasFront result (peeked_of buffers.old) (S.to_come source.old) (S.fault_to_come source.old) (token_of buffers.new.token) (S.to_come source.new) (S.fault_to_come source.new) (fault_of fault.new) }
+    ensures utf8 { IsUtf8Token (peeked_of buffers.old) → result ≡ true → HasUtf8 (token_of buffers.new.token).body }
 {
-    if desk.is_held {
+    if buffers.is_held {
         true
     } else {
-        ask(source, &mut desk.token, fault)
+        ask(source, &mut buffers.token, fault)
     }
 }
 
@@ -112,15 +116,20 @@ fn refusal(problem: ParseProblem, at: yaml_mark_t, opener: Option<yaml_mark_t>) 
 }
 
 // The state takes the token.
-fn taking(stack: &mut Vec<State>, state: State, desk: &mut Desk, fault: &mut yaml_fault_t) -> Step
-    requires { choice_at (state_of state) (type_of (token_of desk.old.token).body) ≡ taking_it }
-    ensures steps { (rest : List Token) (ending : Option Fault) → Steps (raw (Some (token_of desk.old.token)) rest ending (state_of state ∷ stack_of stack.old.items)) (stepped result (item_of desk.new.item) (fault_of fault.new)) (raw (peeked_of desk.new) rest ending (stack_of stack.new.items)) }
-    ensures utf8 { (ds : DirectivesSpec) → IsUtf8Held (Some (token_of desk.old.token)) (state_of state ∷ stack_of stack.old.items) ds → IsUtf8Step (stepped result (item_of desk.new.item) (fault_of fault.new)) (peeked_of desk.new) (stack_of stack.new.items) ds }
-    ensures stack { IsStack (state_of state ∷ stack_of stack.old.items) → IsStackStep (stepped result (item_of desk.new.item) (fault_of fault.new)) (stack_of stack.new.items) }
+fn taking(
+    stack: &mut Vec<State>,
+    state: State,
+    buffers: &mut StepBuffers,
+    fault: &mut yaml_fault_t,
+) -> Step
+    requires { choice_at (state_of state) (type_of (token_of buffers.old.token).body) ≡ taking_it }
+    ensures steps { (rest : List Token) (ending : Option Fault) → Steps (raw (Some (token_of buffers.old.token)) rest ending (state_of state ∷ stack_of stack.old.items)) (stepped result (item_of buffers.new.item) (fault_of fault.new)) (raw (peeked_of buffers.new) rest ending (stack_of stack.new.items)) }
+    ensures utf8 { (ds : DirectivesSpec) → IsUtf8Held (Some (token_of buffers.old.token)) (state_of state ∷ stack_of stack.old.items) ds → IsUtf8Step (stepped result (item_of buffers.new.item) (fault_of fault.new)) (peeked_of buffers.new) (stack_of stack.new.items) ds }
+    ensures stack { IsStack (state_of state ∷ stack_of stack.old.items) → IsStackStep (stepped result (item_of buffers.new.item) (fault_of fault.new)) (stack_of stack.new.items) }
 {
-    desk.is_held = false;
-    match take(stack, state, &mut desk.token, &mut desk.item) {
-        Ok(true) => Step::Item,
+    buffers.is_held = false;
+    match take(stack, state, &mut buffers.token, &mut buffers.item) {
+        Ok(true) => Step::RawEvent,
         Ok(false) => Step::Silent,
         Err(_) => {
             *fault = want_of_memory();
@@ -133,17 +142,17 @@ fn taking(stack: &mut Vec<State>, state: State, desk: &mut Desk, fault: &mut yam
 fn opening(
     stack: &mut Vec<State>,
     start: yaml_mark_t,
-    slot: &mut Item,
+    slot: &mut RawEvent,
     fault: &mut yaml_fault_t,
 ) -> Step
     ensures { OpensAt start (stack_of stack.old.items) (stepped result (item_of slot.new) (fault_of fault.new)) (stack_of stack.new.items) }
 {
     match open(stack, start) {
         Ok(()) => {
-            slot.body = ItemBody::Document { implicit: true };
+            slot.body = RawEventBody::Document { implicit: true };
             slot.from = start;
             slot.to = start;
-            Step::Item
+            Step::RawEvent
         }
         Err(_) => {
             *fault = want_of_memory();
@@ -153,28 +162,33 @@ fn opening(
 }
 
 // The state on top of the stack at the token.
-fn stepping(stack: &mut Vec<State>, state: State, desk: &mut Desk, fault: &mut yaml_fault_t) -> Step
-    ensures steps { (rest : List Token) (ending : Option Fault) → Steps (raw (Some (token_of desk.old.token)) rest ending (state_of state ∷ stack_of stack.old.items)) (stepped result (item_of desk.new.item) (fault_of fault.new)) (raw (peeked_of desk.new) rest ending (stack_of stack.new.items)) }
-    ensures real { IsReal (state_of state) (token_of desk.old.token) (stepped result (item_of desk.new.item) (fault_of fault.new)) }
-    ensures utf8 { (ds : DirectivesSpec) → IsUtf8Held (Some (token_of desk.old.token)) (state_of state ∷ stack_of stack.old.items) ds
-        → IsUtf8Step (stepped result (item_of desk.new.item) (fault_of fault.new)) (peeked_of desk.new) (stack_of stack.new.items) ds }
-    ensures stack { IsStack (state_of state ∷ stack_of stack.old.items) → IsStackStep (stepped result (item_of desk.new.item) (fault_of fault.new)) (stack_of stack.new.items) }
+fn stepping(
+    stack: &mut Vec<State>,
+    state: State,
+    buffers: &mut StepBuffers,
+    fault: &mut yaml_fault_t,
+) -> Step
+    ensures steps { (rest : List Token) (ending : Option Fault) → Steps (raw (Some (token_of buffers.old.token)) rest ending (state_of state ∷ stack_of stack.old.items)) (stepped result (item_of buffers.new.item) (fault_of fault.new)) (raw (peeked_of buffers.new) rest ending (stack_of stack.new.items)) }
+    ensures real { IsReal (state_of state) (token_of buffers.old.token) (stepped result (item_of buffers.new.item) (fault_of fault.new)) }
+    ensures utf8 { (ds : DirectivesSpec) → IsUtf8Held (Some (token_of buffers.old.token)) (state_of state ∷ stack_of stack.old.items) ds
+        → IsUtf8Step (stepped result (item_of buffers.new.item) (fault_of fault.new)) (peeked_of buffers.new) (stack_of stack.new.items) ds }
+    ensures stack { IsStack (state_of state ∷ stack_of stack.old.items) → IsStackStep (stepped result (item_of buffers.new.item) (fault_of fault.new)) (stack_of stack.new.items) }
 {
-    let start = desk.token.start_mark;
-    match choose(&state, desk.token.type_()) {
+    let start = buffers.token.start_mark;
+    match choose(&state, buffers.token.type_()) {
         Choice::Refuse(problem, opener) => {
             *fault = refusal(problem, start, opener);
             Step::Refused
         }
-        Choice::Take => taking(stack, state, desk, fault),
+        Choice::Take => taking(stack, state, buffers, fault),
         Choice::Leave => {
-            desk.is_held = true;
-            leave(state, start, &mut desk.item);
-            Step::Item
+            buffers.is_held = true;
+            leave(state, start, &mut buffers.item);
+            Step::RawEvent
         }
         Choice::Open => {
-            desk.is_held = true;
-            opening(stack, start, &mut desk.item, fault)
+            buffers.is_held = true;
+            opening(stack, start, &mut buffers.item, fault)
         }
     }
 }
@@ -183,20 +197,20 @@ fn stepping(stack: &mut Vec<State>, state: State, desk: &mut Desk, fault: &mut y
 #[inline(always)]
 pub fn advance<S: yaml_token_source_t>(
     source: &mut S,
-    desk: &mut Desk,
+    buffers: &mut StepBuffers,
     stack: &mut Vec<State>,
     fault: &mut yaml_fault_t,
 ) -> Step
-    ensures steps { Steps (raw (peeked_of desk.old) (S.to_come source.old) (S.fault_to_come source.old) (stack_of stack.old.items)) (stepped result (item_of desk.new.item) (fault_of fault.new))
-        (raw (peeked_of desk.new) (S.to_come source.new) (S.fault_to_come source.new) (stack_of stack.new.items)) }
-    ensures utf8 { (ds : DirectivesSpec) → IsUtf8Held (peeked_of desk.old) (stack_of stack.old.items) ds → IsUtf8Step (stepped result (item_of desk.new.item) (fault_of fault.new)) (peeked_of desk.new) (stack_of stack.new.items) ds }
-    ensures stack { IsStack (stack_of stack.old.items) → IsStackStep (stepped result (item_of desk.new.item) (fault_of fault.new)) (stack_of stack.new.items) }
+    ensures steps { Steps (raw (peeked_of buffers.old) (S.to_come source.old) (S.fault_to_come source.old) (stack_of stack.old.items)) (stepped result (item_of buffers.new.item) (fault_of fault.new))
+        (raw (peeked_of buffers.new) (S.to_come source.new) (S.fault_to_come source.new) (stack_of stack.new.items)) }
+    ensures utf8 { (ds : DirectivesSpec) → IsUtf8Held (peeked_of buffers.old) (stack_of stack.old.items) ds → IsUtf8Step (stepped result (item_of buffers.new.item) (fault_of fault.new)) (peeked_of buffers.new) (stack_of stack.new.items) ds }
+    ensures stack { IsStack (stack_of stack.old.items) → IsStackStep (stepped result (item_of buffers.new.item) (fault_of fault.new)) (stack_of stack.new.items) }
 {
     let Some(state) = stack.pop() else {
         return Step::Done;
     };
-    if front(source, desk, fault) {
-        stepping(stack, state, desk, fault)
+    if front(source, buffers, fault) {
+        stepping(stack, state, buffers, fault)
     } else {
         Step::Refused
     }
@@ -207,26 +221,26 @@ pub fn advance<S: yaml_token_source_t>(
 pub fn take_turn<S: yaml_token_source_t>(
     alloc: Global,
     source: &mut S,
-    desk: &mut Desk,
+    buffers: &mut StepBuffers,
     stack: &mut Vec<State>,
     directives: &mut Directives,
     event: &mut yaml_event_t,
     fault: &mut yaml_fault_t,
 ) -> Turn
-    ensures turns { (answered : Fault) → Turns (coming (peeked_of desk.old) (S.to_come source.old) (S.fault_to_come source.old) (stack_of stack.old.items) (directives_of directives.old) answered) (turned result (event_of event.new) (fault_of fault.new))
-        (coming (peeked_of desk.new) (S.to_come source.new) (S.fault_to_come source.new) (stack_of stack.new.items) (directives_of directives.new) answered) }
-    ensures utf8 { IsUtf8Held (peeked_of desk.old) (stack_of stack.old.items) (directives_of directives.old)
-        → IsUtf8Turn (turned result (event_of event.new) (fault_of fault.new)) × IsUtf8Held (peeked_of desk.new) (stack_of stack.new.items) (directives_of directives.new) }
+    ensures turns { (answered : Fault) → Turns (parser_remaining (peeked_of buffers.old) (S.to_come source.old) (S.fault_to_come source.old) (stack_of stack.old.items) (directives_of directives.old) answered) (turned result (event_of event.new) (fault_of fault.new))
+        (parser_remaining (peeked_of buffers.new) (S.to_come source.new) (S.fault_to_come source.new) (stack_of stack.new.items) (directives_of directives.new) answered) }
+    ensures utf8 { IsUtf8Held (peeked_of buffers.old) (stack_of stack.old.items) (directives_of directives.old)
+        → IsUtf8Turn (turned result (event_of event.new) (fault_of fault.new)) × IsUtf8Held (peeked_of buffers.new) (stack_of stack.new.items) (directives_of directives.new) }
     ensures stack { IsStack (stack_of stack.old.items) → IsStackTurn (turned result (event_of event.new) (fault_of fault.new)) (is_between (stack_of stack.new.items)) × IsStack (stack_of stack.new.items) }
 {
-    match advance(source, desk, stack, fault) {
+    match advance(source, buffers, stack, fault) {
         Step::Done => Turn::Done,
         Step::Silent => Turn::Silent,
         Step::Refused => {
             stack.clear();
             Turn::Refused
         }
-        Step::Item => match settle(alloc, directives, &mut desk.item, event) {
+        Step::RawEvent => match settle(alloc, directives, &mut buffers.item, event) {
             Ok(true) => Turn::Event,
             Ok(false) => Turn::Silent,
             Err(Refusal::Memory) => {

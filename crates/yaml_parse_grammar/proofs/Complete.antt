@@ -16,16 +16,16 @@ use Rattle.yaml_parse_grammar.specs.declared.name.Side.{Side}
 use Rattle.yaml_parse_grammar.specs.declared.name.Side.TheVariants.{Key, Value}
 use Rattle.yaml_parse_grammar.specs.declared.name.Brackets.{Brackets}
 use Rattle.yaml_parse_grammar.specs.declared.name.Brackets.TheVariants as brackets
-use Rattle.yaml_parse_grammar.specs.declared.name.Place.{Place}
-use Rattle.yaml_parse_grammar.specs.declared.name.Place.TheVariants.{Root, Entry, IndentlessEntry, BlockPair, FlowPair}
+use Rattle.yaml_parse_grammar.specs.declared.name.Site.{Site}
+use Rattle.yaml_parse_grammar.specs.declared.name.Site.TheVariants.{Root, Entry, IndentlessEntry, BlockPair, FlowPair}
 use Rattle.yaml_parse_grammar.specs.declared.name.Choice.{Choice}
 use Rattle.yaml_parse_grammar.specs.declared.name.Choice.TheVariants.{Refuse, Take, Leave, Open}
 use Rattle.yaml_parse_grammar.specs.declared.problem.ParseProblem.TheVariants as problem
-use Rattle.yaml_parse_grammar.specs.Items.{Item, Properties, item_at, node_at}
+use Rattle.yaml_parse_grammar.specs.Items.{RawEvent, Properties, item_at, node_at}
 use Rattle.yaml_parse_grammar.specs.Items as item
 use Rattle.yaml_parse_grammar.specs.States.{State, Taken}
 use Rattle.yaml_parse_grammar.specs.States as state
-use Rattle.yaml_parse_grammar.specs.Trees.{Span, Node, Content, Maybe, Colon, Items, More, Entries, Others, Pairs, Documents, First, Stream, Dress, Directive, Given, token_at, spell_dress, properties_of, opening, closing, spell_node, spell_content, spell_maybe, spell_colon, spell_items, spell_more, spell_entries, spell_others, spell_pairs, spell_directives, spell_ends, spell_documents, spell_first, spell, items_node, items_content, items_maybe, items_colon, items_items, items_more, items_entries, items_others, items_pairs, items_directives, items_ends, items_documents, items_first, items, next, behind, start_of, event_at, end_event, lone, pair_start, pair_end, mark_at, flow_shape}
+use Rattle.yaml_parse_grammar.specs.Trees.{Span, Node, Content, Maybe, Colon, Items, More, Entries, Others, Pairs, Documents, First, Stream, PropertyTokens, Directive, Given, token_at, spell_properties, properties_of, opening, closing, spell_node, spell_content, spell_maybe, spell_colon, spell_items, spell_more, spell_entries, spell_others, spell_pairs, spell_directives, spell_ends, spell_documents, spell_first, spell, items_node, items_content, items_maybe, items_colon, items_items, items_more, items_entries, items_others, items_pairs, items_directives, items_ends, items_documents, items_first, items, next, behind, start_of, event_at, end_event, lone, pair_start, pair_end, mark_at, flow_shape}
 use Rattle.yaml_parse_grammar.specs.Trees as tree
 use Rattle.yaml_parse_grammar.specs.Machine.{starts_node, wants_of, closes, parts_documents, follows, no_node, choice_at, node_taken, content_taken, items_taken, above, lone_below, taken_at, left_at, Fed, stop, go, with_item, given_by, turn, feed, Outcome, finished, carry, run, initial, opened}
 
@@ -33,7 +33,7 @@ use Rattle.yaml_parse_grammar.specs.Machine.{starts_node, wants_of, closes, part
 abbrev pub giving : (List Given → List Given) → Outcome → Outcome
 giving g o = record { items = g o.items; ending = o.ending }
 
-pub carry_with_item : (left : ℕ) (i : Item) (below : Fed) (k : List State → Outcome)
+pub carry_with_item : (left : ℕ) (i : RawEvent) (below : Fed) (k : List State → Outcome)
     → carry left (with_item i below) k ≡ giving (λ (more : List Given). (i, left) ∷ more) (carry left below k)
 carry_with_item left i (stop is f) k = refl
 carry_with_item left i (go is s) k = refl
@@ -78,11 +78,11 @@ Ends w [] = ⊥
 Ends w (t ∷ ts) = ends w (type_of t.body) ≡ true
 
 -- the first token may follow a node that is left out there
-abbrev pub Follows : Place → List Token → Type 0
+abbrev pub Follows : Site → List Token → Type 0
 Follows place [] = ⊥
 Follows place (t ∷ ts) = follows place (type_of t.body) ≡ true
 
-follows_ends_at : (place : Place) (k : yaml_token_type_t) → follows place k ≡ true → ends (wants_of place) k ≡ true
+follows_ends_at : (place : Site) (k : yaml_token_type_t) → follows place k ≡ true → ends (wants_of place) k ≡ true
 follows_ends_at Root kind.YAML_DOCUMENT_END_TOKEN h = refl
 follows_ends_at Root kind.YAML_STREAM_END_TOKEN h = refl
 follows_ends_at Root kind.YAML_VERSION_DIRECTIVE_TOKEN h = refl
@@ -105,41 +105,41 @@ follows_ends_at (FlowPair b side) kind.YAML_FLOW_MAPPING_END_TOKEN h = refl
 follows_ends_at (FlowPair brackets.Sequence side) _ h = cc
 follows_ends_at (FlowPair brackets.Mapping side) _ h = cc
 
-follows_ends : (place : Place) (ts : List Token) → Follows place ts → Ends (wants_of place) ts
+follows_ends : (place : Site) (ts : List Token) → Follows place ts → Ends (wants_of place) ts
 follows_ends place [] h = h
 follows_ends place (t ∷ ts) h = follows_ends_at place (type_of t.body) h
 
-follows_leaves : (place : Place) (before : yaml_mark_t) (ts : List Token) → Follows place ts → Leaves (state.optional place before) ts
+follows_leaves : (place : Site) (before : yaml_mark_t) (ts : List Token) → Follows place ts → Leaves (state.optional place before) ts
 follows_leaves place before [] h = h
 follows_leaves place before (t ∷ ts) h =
     ap (λ (b : Bool). if b then Leave else if starts_node (wants_of place) (type_of t.body) then Take else Refuse (no_node (wants_of place)) None) h
 
 -- ---- properties
 
-dressed_leaves_at : (w : Wants) (p : Properties) (k : yaml_token_type_t) → ends w k ≡ true → choice_at (state.dressed w p) k ≡ Leave
-dressed_leaves_at Flow p kind.YAML_FLOW_ENTRY_TOKEN h = refl
-dressed_leaves_at Flow p kind.YAML_VALUE_TOKEN h = refl
-dressed_leaves_at Flow p kind.YAML_FLOW_SEQUENCE_END_TOKEN h = refl
-dressed_leaves_at Flow p kind.YAML_FLOW_MAPPING_END_TOKEN h = refl
-dressed_leaves_at Flow p _ h = cc
-dressed_leaves_at (Block (Some side)) p kind.YAML_KEY_TOKEN h = refl
-dressed_leaves_at (Block (Some side)) p kind.YAML_BLOCK_END_TOKEN h = refl
-dressed_leaves_at (Block (Some side)) p kind.YAML_VALUE_TOKEN h = refl
-dressed_leaves_at (Block (Some side)) p _ h = cc
-dressed_leaves_at (Block None) p kind.YAML_BLOCK_ENTRY_TOKEN h = refl
-dressed_leaves_at (Block None) p kind.YAML_BLOCK_END_TOKEN h = refl
-dressed_leaves_at (Block None) p kind.YAML_KEY_TOKEN h = refl
-dressed_leaves_at (Block None) p kind.YAML_VALUE_TOKEN h = refl
-dressed_leaves_at (Block None) p kind.YAML_DOCUMENT_END_TOKEN h = refl
-dressed_leaves_at (Block None) p kind.YAML_STREAM_END_TOKEN h = refl
-dressed_leaves_at (Block None) p kind.YAML_VERSION_DIRECTIVE_TOKEN h = refl
-dressed_leaves_at (Block None) p kind.YAML_TAG_DIRECTIVE_TOKEN h = refl
-dressed_leaves_at (Block None) p kind.YAML_DOCUMENT_START_TOKEN h = refl
-dressed_leaves_at (Block None) p _ h = cc
+with_properties_leaves_at : (w : Wants) (p : Properties) (k : yaml_token_type_t) → ends w k ≡ true → choice_at (state.with_properties w p) k ≡ Leave
+with_properties_leaves_at Flow p kind.YAML_FLOW_ENTRY_TOKEN h = refl
+with_properties_leaves_at Flow p kind.YAML_VALUE_TOKEN h = refl
+with_properties_leaves_at Flow p kind.YAML_FLOW_SEQUENCE_END_TOKEN h = refl
+with_properties_leaves_at Flow p kind.YAML_FLOW_MAPPING_END_TOKEN h = refl
+with_properties_leaves_at Flow p _ h = cc
+with_properties_leaves_at (Block (Some side)) p kind.YAML_KEY_TOKEN h = refl
+with_properties_leaves_at (Block (Some side)) p kind.YAML_BLOCK_END_TOKEN h = refl
+with_properties_leaves_at (Block (Some side)) p kind.YAML_VALUE_TOKEN h = refl
+with_properties_leaves_at (Block (Some side)) p _ h = cc
+with_properties_leaves_at (Block None) p kind.YAML_BLOCK_ENTRY_TOKEN h = refl
+with_properties_leaves_at (Block None) p kind.YAML_BLOCK_END_TOKEN h = refl
+with_properties_leaves_at (Block None) p kind.YAML_KEY_TOKEN h = refl
+with_properties_leaves_at (Block None) p kind.YAML_VALUE_TOKEN h = refl
+with_properties_leaves_at (Block None) p kind.YAML_DOCUMENT_END_TOKEN h = refl
+with_properties_leaves_at (Block None) p kind.YAML_STREAM_END_TOKEN h = refl
+with_properties_leaves_at (Block None) p kind.YAML_VERSION_DIRECTIVE_TOKEN h = refl
+with_properties_leaves_at (Block None) p kind.YAML_TAG_DIRECTIVE_TOKEN h = refl
+with_properties_leaves_at (Block None) p kind.YAML_DOCUMENT_START_TOKEN h = refl
+with_properties_leaves_at (Block None) p _ h = cc
 
-dressed_leaves : (w : Wants) (p : Properties) (ts : List Token) → Ends w ts → Leaves (state.dressed w p) ts
-dressed_leaves w p [] h = h
-dressed_leaves w p (t ∷ ts) h = dressed_leaves_at w p (type_of t.body) h
+with_properties_leaves : (w : Wants) (p : Properties) (ts : List Token) → Ends w ts → Leaves (state.with_properties w p) ts
+with_properties_leaves w p [] h = h
+with_properties_leaves w p (t ∷ ts) h = with_properties_leaves_at w p (type_of t.body) h
 
 -- what a node's first token does above a stack
 abbrev run_node : Wants → List Token → List State → Option Fault → Outcome
@@ -151,23 +151,23 @@ abbrev run_content : Wants → Option Properties → List Token → List State �
 run_content w p [] s f = finished
 run_content w p (t ∷ ts) s f = carry (length ts) (given_by (content_taken w p t.start_mark t.end_mark t.body) s) (λ s'. run ts s' f)
 
-dress_runs : (d : Dress) (w : Wants) (ts : List Token) (s : List State) (f : Option Fault)
-    → run_node w (spell_dress d ts) s f ≡ run ts (state.dressed w (properties_of d) ∷ s) f
+properties_run : (d : PropertyTokens) (w : Wants) (ts : List Token) (s : List State) (f : Option Fault)
+    → run_node w (spell_properties d ts) s f ≡ run ts (state.with_properties w (properties_of d) ∷ s) f
 unfolding run feed
-dress_runs (tree.anchor a) w ts s f = refl
-dress_runs (tree.anchor_tag a t) w ts s f = refl
-dress_runs (tree.tag t) w ts s f = refl
-dress_runs (tree.tag_anchor t a) w ts s f = refl
+properties_run (tree.anchor a) w ts s f = refl
+properties_run (tree.anchor_tag a t) w ts s f = refl
+properties_run (tree.tag t) w ts s f = refl
+properties_run (tree.tag_anchor t a) w ts s f = refl
 
-dressed_content : {w : Wants} (c : Content w) (p : Properties) (rest : List Token) (s : List State) (f : Option Fault)
-    → run (spell_content c rest) (state.dressed w p ∷ s) f ≡ run_content w (Some p) (spell_content c rest) s f
+with_properties_content : {w : Wants} (c : Content w) (p : Properties) (rest : List Token) (s : List State) (f : Option Fault)
+    → run (spell_content c rest) (state.with_properties w p ∷ s) f ≡ run_content w (Some p) (spell_content c rest) s f
 unfolding run feed
-dressed_content (tree.scalar n v style) p rest s f = refl
-dressed_content (tree.flow brackets.Sequence n items) p rest s f = refl
-dressed_content (tree.flow brackets.Mapping n items) p rest s f = refl
-dressed_content (tree.block_sequence n entries) p rest s f = refl
-dressed_content (tree.block_mapping n pairs) p rest s f = refl
-dressed_content (tree.indentless n m o) p rest s f = refl
+with_properties_content (tree.scalar n v style) p rest s f = refl
+with_properties_content (tree.flow brackets.Sequence n items) p rest s f = refl
+with_properties_content (tree.flow brackets.Mapping n items) p rest s f = refl
+with_properties_content (tree.block_sequence n entries) p rest s f = refl
+with_properties_content (tree.block_mapping n pairs) p rest s f = refl
+with_properties_content (tree.indentless n m o) p rest s f = refl
 
 bare_content : {w : Wants} (c : Content w) (rest : List Token) (s : List State) (f : Option Fault)
     → run_node w (spell_content c rest) s f ≡ run_content w None (spell_content c rest) s f
@@ -192,20 +192,20 @@ content_starts (tree.block_sequence n entries) rest = refl
 content_starts (tree.block_mapping n pairs) rest = refl
 content_starts (tree.indentless n m o) rest = refl
 
-dress_starts : (w : Wants) (d : Dress) (ts : List Token) → Starts w (spell_dress d ts)
-dress_starts w (tree.anchor a) ts = refl
-dress_starts w (tree.anchor_tag a t) ts = refl
-dress_starts w (tree.tag t) ts = refl
-dress_starts w (tree.tag_anchor t a) ts = refl
+properties_start : (w : Wants) (d : PropertyTokens) (ts : List Token) → Starts w (spell_properties d ts)
+properties_start w (tree.anchor a) ts = refl
+properties_start w (tree.anchor_tag a t) ts = refl
+properties_start w (tree.tag t) ts = refl
+properties_start w (tree.tag_anchor t a) ts = refl
 
 pub node_starts : {w : Wants} (n : Node w) (rest : List Token) → Starts w (spell_node n rest)
 node_starts (tree.alias s name) rest = refl
-node_starts {w = w} (tree.dress d) rest = dress_starts w d rest
-node_starts {w = w} (tree.dressed d c) rest = dress_starts w d (spell_content c rest)
+node_starts {w = w} (tree.only_properties d) rest = properties_start w d rest
+node_starts {w = w} (tree.with_properties d c) rest = properties_start w d (spell_content c rest)
 node_starts (tree.bare c) rest = content_starts c rest
 
 -- no token that begins a node follows one that is left out
-not_following : (place : Place) (k : yaml_token_type_t) → starts_node (wants_of place) k ≡ true → follows place k ≡ false
+not_following : (place : Site) (k : yaml_token_type_t) → starts_node (wants_of place) k ≡ true → follows place k ≡ false
 not_following Root kind.YAML_DOCUMENT_END_TOKEN h = cc
 not_following Root kind.YAML_STREAM_END_TOKEN h = cc
 not_following Root kind.YAML_VERSION_DIRECTIVE_TOKEN h = cc
@@ -231,19 +231,19 @@ not_following (FlowPair b side) kind.YAML_FLOW_MAPPING_END_TOKEN h = cc
 not_following (FlowPair brackets.Sequence side) _ h = refl
 not_following (FlowPair brackets.Mapping side) _ h = refl
 
-pub optional_takes : (place : Place) (before : yaml_mark_t) (k : yaml_token_type_t) → starts_node (wants_of place) k ≡ true → choice_at (state.optional place before) k ≡ Take
+pub optional_takes : (place : Site) (before : yaml_mark_t) (k : yaml_token_type_t) → starts_node (wants_of place) k ≡ true → choice_at (state.optional place before) k ≡ Take
 optional_takes place before k h =
     ap (λ (b : Bool). if b then Leave else if starts_node (wants_of place) k then Take else Refuse (no_node (wants_of place)) None) (not_following place k h)
     ∙ ap (λ (b : Bool). if b then Take else Refuse (no_node (wants_of place)) None) h
 
-optional_node : (place : Place) (before : yaml_mark_t) (ts : List Token) (s : List State) (f : Option Fault) → Starts (wants_of place) ts
+optional_node : (place : Site) (before : yaml_mark_t) (ts : List Token) (s : List State) (f : Option Fault) → Starts (wants_of place) ts
     → run ts (state.optional place before ∷ s) f ≡ run_node (wants_of place) ts s f
 unfolding run feed
 optional_node place before [] s f h = absurd h
 optional_node place before (t ∷ ts) s f h =
     ap (λ (c : Choice). carry (length ts) (turn c (state.optional place before) t s (feed s t)) (λ s'. run ts s' f)) (optional_takes place before (type_of t.body) h)
 
-optional_wanted : (place : Place) (w : Wants) → wants_of place ≡ w → (before : yaml_mark_t) (ts : List Token) (s : List State) (f : Option Fault) → Starts w ts
+optional_wanted : (place : Site) (w : Wants) → wants_of place ≡ w → (before : yaml_mark_t) (ts : List Token) (s : List State) (f : Option Fault) → Starts w ts
     → run ts (state.optional place before ∷ s) f ≡ run_node w ts s f
 optional_wanted place w e before ts s f =
     subst (λ (v : Wants). Starts v ts → run ts (state.optional place before ∷ s) f ≡ run_node v ts s f) e (optional_node place before ts s f)
@@ -269,7 +269,7 @@ items_node_taken b opener start end token.flow_sequence_end h = cc
 items_node_taken b opener start end token.flow_mapping_end h = cc
 items_node_taken b opener start end _ h = refl
 
-given_above_at : (below : List State) (i : Option Item) (xs s : List State) → given_by (record { item = i; above = xs ++ below }) s ≡ given_by (record { item = i; above = xs }) (below ++ s)
+given_above_at : (below : List State) (i : Option RawEvent) (xs s : List State) → given_by (record { item = i; above = xs ++ below }) s ≡ given_by (record { item = i; above = xs }) (below ++ s)
 given_above_at below None xs s = ap (λ (s' : List State). go [] s') (append_assoc xs below s)
 given_above_at below (Some i) xs s = ap (λ (s' : List State). go (i ∷ []) s') (append_assoc xs below s)
 
@@ -312,7 +312,7 @@ pair_opens : (p : Span) (o : yaml_mark_t) (ts : List Token) (s : List State) (f 
     → run (token_at token.key p ∷ ts) (state.pairs o ∷ s) f ≡ run ts (state.optional (BlockPair Key) p.to ∷ state.colon (BlockPair Value) ∷ state.pairs o ∷ s) f
 pair_opens p o ts s f = step_take (state.pairs o) _ ts s f refl
 
-colon_opens : (p : Span) (place : Place) (ts : List Token) (s : List State) (f : Option Fault)
+colon_opens : (p : Span) (place : Site) (ts : List Token) (s : List State) (f : Option Fault)
     → run (token_at token.value p ∷ ts) (state.colon place ∷ s) f ≡ run ts (state.optional place p.to ∷ s) f
 colon_opens p place ts s f = step_take (state.colon place) _ ts s f refl
 
@@ -427,10 +427,10 @@ mutual
   pub node_runs : {w : Wants} (n : Node w) (rest : List Token) (s : List State) (f : Option Fault) → Ends w rest
       → run_node w (spell_node n rest) s f ≡ giving (items_node n rest) (run rest s f)
   node_runs (tree.alias p name) rest s f h = refl
-  node_runs {w = w} (tree.dress d) rest s f h =
-      dress_runs d w rest s f ∙ leaves (state.dressed w (properties_of d)) rest s f (dressed_leaves w (properties_of d) rest h)
-  node_runs {w = w} (tree.dressed d c) rest s f h =
-      dress_runs d w (spell_content c rest) s f ∙ dressed_content c (properties_of d) rest s f ∙ content_runs c (Some (properties_of d)) rest s f h
+  node_runs {w = w} (tree.only_properties d) rest s f h =
+      properties_run d w rest s f ∙ leaves (state.with_properties w (properties_of d)) rest s f (with_properties_leaves w (properties_of d) rest h)
+  node_runs {w = w} (tree.with_properties d c) rest s f h =
+      properties_run d w (spell_content c rest) s f ∙ with_properties_content c (properties_of d) rest s f ∙ content_runs c (Some (properties_of d)) rest s f h
   node_runs (tree.bare c) rest s f h = bare_content c rest s f ∙ content_runs c None rest s f h
 
   pub content_runs : {w : Wants} (c : Content w) (p : Option Properties) (rest : List Token) (s : List State) (f : Option Fault) → Ends w rest
@@ -451,13 +451,13 @@ mutual
       (maybe_runs m (IndentlessEntry side) refl n.to (spell_others o rest) (state.others side ∷ s) f (others_follow side o rest h)
       ∙ ap (giving (items_maybe m (IndentlessEntry side) n.to (spell_others o rest))) (others_run o side rest s f h))
 
-  pub maybe_runs : {w : Wants} (m : Maybe w) (place : Place) → wants_of place ≡ w → (before : yaml_mark_t) (rest : List Token) (s : List State) (f : Option Fault) → Follows place rest
+  pub maybe_runs : {w : Wants} (m : Maybe w) (place : Site) → wants_of place ≡ w → (before : yaml_mark_t) (rest : List Token) (s : List State) (f : Option Fault) → Follows place rest
       → run (spell_maybe m rest) (state.optional place before ∷ s) f ≡ giving (items_maybe m place before rest) (run rest s f)
   maybe_runs tree.left_out place e before rest s f h = leaves (state.optional place before) rest s f (follows_leaves place before rest h)
   maybe_runs {w = w} (tree.there n) place e before rest s f h =
       optional_wanted place w e before (spell_node n rest) s f (node_starts n rest) ∙ node_runs n rest s f (subst (λ (v : Wants). Ends v rest) e (follows_ends place rest h))
 
-  pub colon_runs : {w : Wants} (v : Colon w) (place : Place) → wants_of place ≡ w → (rest : List Token) (s : List State) (f : Option Fault) → Leaves (state.colon place) rest → Follows place rest
+  pub colon_runs : {w : Wants} (v : Colon w) (place : Site) → wants_of place ≡ w → (rest : List Token) (s : List State) (f : Option Fault) → Leaves (state.colon place) rest → Follows place rest
       → run (spell_colon v rest) (state.colon place ∷ s) f ≡ giving (items_colon v place rest) (run rest s f)
   colon_runs tree.no_colon place e rest s f l h = leaves (state.colon place) rest s f l
   colon_runs (tree.colon p m) place e rest s f l h = colon_opens p place (spell_maybe m rest) s f ∙ maybe_runs m place e p.to rest s f h

@@ -8,13 +8,13 @@ use Rattle.yaml_parse_model.specs.Faults.{Fault}
 use Rattle.yaml_parse_model.specs.Source.{front_of, rest_of, MayAnswer}
 use Rattle.yaml_parse_grammar.specs.declared.name.Wants.TheVariants.{Flow, Block}
 use Rattle.yaml_parse_grammar.specs.declared.name.Brackets.TheVariants as brackets
-use Rattle.yaml_parse_grammar.specs.declared.name.Place.TheVariants.{Root, Entry, IndentlessEntry, BlockPair, FlowPair}
+use Rattle.yaml_parse_grammar.specs.declared.name.Site.TheVariants.{Root, Entry, IndentlessEntry, BlockPair, FlowPair}
 use Rattle.yaml_parse_grammar.specs.declared.name.Choice.{Choice}
 use Rattle.yaml_parse_grammar.specs.declared.name.Choice.TheVariants.{Refuse, Take, Leave, Open}
 use Rattle.yaml_parse_grammar.specs.declared.problem.ParseProblem.{ParseProblem}
 use Rattle.yaml_parse_grammar.specs.declared.problem.ParseProblem.TheVariants as problem
 use Rattle.yaml_parse_grammar.specs.Problems.{parser_fault}
-use Rattle.yaml_parse_grammar.specs.Items.{Item, item_at}
+use Rattle.yaml_parse_grammar.specs.Items.{RawEvent, item_at}
 use Rattle.yaml_parse_grammar.specs.Items as item
 use Rattle.yaml_parse_grammar.specs.States.{State, Taken}
 use Rattle.yaml_parse_grammar.specs.States as state
@@ -29,7 +29,7 @@ abbrev Emptied : Fed → Type 0
 Emptied (stop is f) = Unit {0}
 Emptied (go is s) = s ≡ []
 
-emptied_with : (i : Item) (below : Fed) → Emptied below → Emptied (with_item i below)
+emptied_with : (i : RawEvent) (below : Fed) → Emptied below → Emptied (with_item i below)
 emptied_with i (stop is f) h = tt
 emptied_with i (go is s) h = h
 
@@ -42,9 +42,9 @@ opens_at_a_token (state.optional (IndentlessEntry side) before) h = cc
 opens_at_a_token (state.optional (BlockPair side) before) h = cc
 opens_at_a_token (state.optional (FlowPair brackets.Sequence side) before) h = cc
 opens_at_a_token (state.optional (FlowPair brackets.Mapping side) before) h = cc
-opens_at_a_token (state.dressed Flow p) h = cc
-opens_at_a_token (state.dressed (Block None) p) h = cc
-opens_at_a_token (state.dressed (Block (Some s)) p) h = cc
+opens_at_a_token (state.with_properties Flow p) h = cc
+opens_at_a_token (state.with_properties (Block None) p) h = cc
+opens_at_a_token (state.with_properties (Block (Some s)) p) h = cc
 opens_at_a_token (state.items brackets.Sequence o) h = cc
 opens_at_a_token (state.items brackets.Mapping o) h = cc
 opens_at_a_token (state.more brackets.Sequence o) h = cc
@@ -87,7 +87,7 @@ pub refuses : (x : State) (p : ParseProblem) (o : Option yaml_mark_t) (t : Token
 unfolding run feed
 refuses x p o t ts s f h = ap (λ (c : Choice). carry (length ts) (turn c x t s (feed s t)) (λ s'. run ts s' f)) h
 
-pub takes : (x : State) (i : Item) (above : List State) (t : Token) (ts : List Token) (s : List State) (f : Option Fault) → choice_at x (type_of t.body) ≡ Take
+pub takes : (x : State) (i : RawEvent) (above : List State) (t : Token) (ts : List Token) (s : List State) (f : Option Fault) → choice_at x (type_of t.body) ≡ Take
     → taken_at x t ≡ record { item = Some i; above = above } → run (t ∷ ts) (x ∷ s) f ≡ giving (λ (more : List Given). (i, length ts) ∷ more) (run ts (above ++ s) f)
 takes x i above t ts s f h k = step_take x t ts s f h ∙ ap (λ (y : Taken). carry (length ts) (given_by y s) (λ s'. run ts s' f)) k
 
@@ -135,7 +135,7 @@ opens_node (state.pairs o) kind.YAML_BLOCK_END_TOKEN h = cc
 opens_node (state.pairs o) _ h = cc
 opens_node (state.colon place) kind.YAML_VALUE_TOKEN h = cc
 opens_node (state.colon place) _ h = cc
-opens_node (state.dressed w p) k h = absurd (take_or_leave (joins p k || starts_content w k) h)
+opens_node (state.with_properties w p) k h = absurd (take_or_leave (joins p k || starts_content w k) h)
 opens_node (state.items b o) kind.YAML_KEY_TOKEN h = cc
 opens_node (state.items b o) k h = absurd (take_or_refuse (closes b k || starts_node Flow k) problem.NoFlowNode None h)
 opens_node (state.more b o) kind.YAML_FLOW_ENTRY_TOKEN h = cc

@@ -18,13 +18,13 @@ use Rattle.yaml_parse_grammar.specs.declared.name.Brackets.TheVariants as bracke
 use Rattle.yaml_parse_grammar.specs.declared.name.Choice.TheVariants.{Refuse, Take, Leave, Open}
 use Rattle.yaml_parse_grammar.specs.declared.problem.ParseProblem.{ParseProblem}
 use Rattle.yaml_parse_grammar.specs.declared.problem.ParseProblem.TheVariants as problem
-use Rattle.yaml_parse_grammar.specs.Items.{Item, ItemBody, Properties, Shape}
+use Rattle.yaml_parse_grammar.specs.Items.{RawEvent, RawEventBody, Properties, Shape}
 use Rattle.yaml_parse_grammar.specs.Items as item
 use Rattle.yaml_parse_grammar.specs.States.{State, Taken}
 use Rattle.yaml_parse_grammar.specs.States as state
-use Rattle.yaml_parse_grammar.specs.Machine.{choice_at, taken_at, documents_taken, content_taken, node_taken, dressed_taken, items_taken, more_taken, stream_taken, entries_taken, pairs_taken, lone_below, left_at, opened, parts_documents, starts_node, starts_content, follows, wants_of, no_node, joins, closes, no_end}
+use Rattle.yaml_parse_grammar.specs.Machine.{choice_at, taken_at, documents_taken, content_taken, node_taken, with_properties_taken, items_taken, more_taken, stream_taken, entries_taken, pairs_taken, lone_below, left_at, opened, parts_documents, starts_node, starts_content, follows, wants_of, no_node, joins, closes, no_end}
 use Rattle.yaml_parse_grammar.specs.Resolve.{Directives, Settled, refused, gave, noted, settle_body, resolved, directive_for, with_resolved, with_tag, with_version, is_known_version, node_event}
-use Rattle.yaml_parse_grammar.specs.Coming.{is_between}
+use Rattle.yaml_parse_grammar.specs.Remaining.{is_between}
 use Rattle.yaml_parse_grammar.specs.Stacks.{parts_documents_behind, StandsBehind, IsInner, InsideAt, IsInside, StackAt, IsStack}
 
 -- ---- inside a document
@@ -64,7 +64,7 @@ all_inner_above (x ∷ xs) s h k = inner_above x (xs ++ s) h.0 (all_inner_above 
 
 -- ---- taking a token inside a document
 
-abbrev TakesInside : Option Item → List State → Type 0
+abbrev TakesInside : Option RawEvent → List State → Type 0
 TakesInside None above = AreInner above
 TakesInside (Some i) above = StandsBehind i.body false × AreInner above
 
@@ -91,16 +91,16 @@ node_inside w start end (token.anchor n) = (tt, tt)
 node_inside w start end (token.tag x y) = (tt, tt)
 node_inside w start end b = content_inside w None start end b
 
-dressed_inside : (w : Wants) (p : Properties) (start end : yaml_mark_t) (b : TokenBody) → TakesInside (dressed_taken w p start end b).item (dressed_taken w p start end b).above
-dressed_inside w p start end (token.anchor n) = (tt, tt)
-dressed_inside w p start end (token.tag x y) = (tt, tt)
-dressed_inside w p start end b = content_inside w (Some p) start end b
+with_properties_inside : (w : Wants) (p : Properties) (start end : yaml_mark_t) (b : TokenBody) → TakesInside (with_properties_taken w p start end b).item (with_properties_taken w p start end b).above
+with_properties_inside w p start end (token.anchor n) = (tt, tt)
+with_properties_inside w p start end (token.tag x y) = (tt, tt)
+with_properties_inside w p start end b = content_inside w (Some p) start end b
 
 inner_over : (xs ys : List State) → AreInner xs → AreInner ys → AreInner (xs ++ ys)
 inner_over [] ys h k = k
 inner_over (x ∷ xs) ys h k = (h.0, inner_over xs ys h.1 k)
 
-takes_over : (i : Option Item) (xs ys : List State) → TakesInside i xs → AreInner ys → TakesInside i (xs ++ ys)
+takes_over : (i : Option RawEvent) (xs ys : List State) → TakesInside i xs → AreInner ys → TakesInside i (xs ++ ys)
 takes_over None xs ys h k = inner_over xs ys h k
 takes_over (Some i) xs ys h k = (h.0, inner_over xs ys h.1 k)
 
@@ -133,14 +133,14 @@ pairs_inside o start end _ = (refl, tt)
 -- ---- taking a token anywhere
 
 -- the stack above and below, and what the item says of it
-abbrev pub StandsOn : Option Item → List State → Type 0
+abbrev pub StandsOn : Option RawEvent → List State → Type 0
 StandsOn None s = IsStack s
 StandsOn (Some i) s = IsStack s × StandsBehind i.body (is_between s)
 
-behind_false : (b : ItemBody) (x : Bool) → x ≡ false → StandsBehind b false → StandsBehind b x
+behind_false : (b : RawEventBody) (x : Bool) → x ≡ false → StandsBehind b false → StandsBehind b x
 behind_false b x e h = subst (StandsBehind b) (sym e) h
 
-takes_inside : (i : Option Item) (above s : List State) → TakesInside i above → IsInside s → StandsOn i (above ++ s)
+takes_inside : (i : Option RawEvent) (above s : List State) → TakesInside i above → IsInside s → StandsOn i (above ++ s)
 takes_inside None above s h k = inside_stack (above ++ s) (all_inner_above above s h k)
 takes_inside (Some i) above s h k =
     let inside : IsInside (above ++ s) = all_inner_above above s h.1 k in
@@ -168,7 +168,7 @@ taken_stands (state.entries o) t s c h = takes_inside _ _ s (entries_inside o t.
 taken_stands (state.others side) t s c h = (tt, (tt, h.1))
 taken_stands (state.pairs o) t s c h = takes_inside _ _ s (pairs_inside o t.start_mark t.end_mark t.body) h.1
 taken_stands (state.colon place) t s c h = (tt, h.1)
-taken_stands (state.dressed w q) t s c h = takes_inside _ _ s (dressed_inside w q t.start_mark t.end_mark t.body) h.1
+taken_stands (state.with_properties w q) t s c h = takes_inside _ _ s (with_properties_inside w q t.start_mark t.end_mark t.body) h.1
 taken_stands (state.items b o) t s c h = takes_inside _ _ s (items_inside b o t.start_mark t.end_mark t.body) h.1
 taken_stands (state.more b o) t s c h = takes_inside _ _ s (more_inside b o t.start_mark t.end_mark t.body) h.1
 taken_stands state.pair_end t s c h = (tt, h.1)
@@ -185,7 +185,7 @@ not_left_first true b p h = cc
 not_left_first false true p h = cc
 not_left_first false false p h = cc
 
-abbrev StandsLeft : Item → List State → Type 0
+abbrev StandsLeft : RawEvent → List State → Type 0
 StandsLeft i s = IsStack s × StandsBehind i.body (is_between s)
 
 pub left_stands : (x : State) (k : yaml_token_type_t) (start : yaml_mark_t) (s : List State) → choice_at x k ≡ Leave → IsStack (x ∷ s) → IsStack s × StandsBehind (left_at x start).body (is_between s)
@@ -202,7 +202,7 @@ left_stands (state.entries o) k start s c h = (inside_stack s h.1, half_taken s 
 left_stands (state.others side) k start s c h = (inside_stack s h.1, half_taken s h.1)
 left_stands (state.pairs o) k start s c h = (inside_stack s h.1, half_taken s h.1)
 left_stands (state.colon place) k start s c h = (inside_stack s h.1, half_taken s h.1)
-left_stands (state.dressed w q) k start s c h = (inside_stack s h.1, half_taken s h.1)
+left_stands (state.with_properties w q) k start s c h = (inside_stack s h.1, half_taken s h.1)
 left_stands (state.items b o) k start s c h = (inside_stack s h.1, half_taken s h.1)
 left_stands (state.more b o) k start s c h = (inside_stack s h.1, half_taken s h.1)
 left_stands state.pair_end k start s c h = (inside_stack s h.1, half_taken s h.1)
@@ -214,9 +214,9 @@ not_opened : (b : Bool) (p : ParseProblem) (o : Option yaml_mark_t) → (if b th
 not_opened true p o h = cc
 not_opened false p o h = cc
 
-not_opened_dressed : (b : Bool) → (if b then Take else Leave) ≡ Open → ⊥
-not_opened_dressed true h = cc
-not_opened_dressed false h = cc
+not_opened_with_properties : (b : Bool) → (if b then Take else Leave) ≡ Open → ⊥
+not_opened_with_properties true h = cc
+not_opened_with_properties false h = cc
 
 not_opened_optional : (a b : Bool) (p : ParseProblem) → (if a then Leave else if b then Take else Refuse p None) ≡ Open → ⊥
 not_opened_optional true b p h = cc
@@ -241,7 +241,7 @@ opens_alone (state.pairs o) kind.YAML_BLOCK_END_TOKEN s c h = cc
 opens_alone (state.pairs o) _ s c h = cc
 opens_alone (state.colon place) kind.YAML_VALUE_TOKEN s c h = cc
 opens_alone (state.colon place) _ s c h = cc
-opens_alone (state.dressed w q) k s c h = absurd (not_opened_dressed (joins q k || starts_content w k) c)
+opens_alone (state.with_properties w q) k s c h = absurd (not_opened_with_properties (joins q k || starts_content w k) c)
 opens_alone (state.items b o) kind.YAML_KEY_TOKEN s c h = cc
 opens_alone (state.items b o) k s c h = absurd (not_opened (closes b k || starts_node Flow k) problem.NoFlowNode None c)
 opens_alone (state.more b o) kind.YAML_FLOW_ENTRY_TOKEN s c h = cc
@@ -290,7 +290,7 @@ handle_behind : (o : Option (List ℕ)) (ds : Directives) (handle prefix : List 
 handle_behind (Some other) ds handle prefix at x = tt
 handle_behind None ds handle prefix at x = tt
 
-pub settled_behind : (b : ItemBody) (from : yaml_mark_t) (ds : Directives) (x : Bool) → StandsBehind b x → SettledBehind (settle_body b from ds) x
+pub settled_behind : (b : RawEventBody) (from : yaml_mark_t) (ds : Directives) (x : Bool) → StandsBehind b x → SettledBehind (settle_body b from ds) x
 settled_behind (item.event body) from ds x h = h
 settled_behind (item.version_directive major minor) from ds x h = version_behind ds.version ds.tags major minor from x
 settled_behind (item.tag_directive handle prefix) from ds x h = handle_behind (directive_for handle ds.tags) ds handle prefix from x

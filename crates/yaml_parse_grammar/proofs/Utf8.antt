@@ -15,17 +15,17 @@ use Rattle.yaml_parse_grammar.specs.declared.name.Wants.{Wants}
 use Rattle.yaml_parse_grammar.specs.declared.name.Wants.TheVariants.{Flow, Block}
 use Rattle.yaml_parse_grammar.specs.declared.name.Brackets.{Brackets}
 use Rattle.yaml_parse_grammar.specs.declared.name.Brackets.TheVariants as brackets
-use Rattle.yaml_parse_grammar.specs.Items.{Item, ItemBody, Properties, Shape}
+use Rattle.yaml_parse_grammar.specs.Items.{RawEvent, RawEventBody, Properties, Shape}
 use Rattle.yaml_parse_grammar.specs.Items as item
 use Rattle.yaml_parse_grammar.specs.States.{State, Taken}
 use Rattle.yaml_parse_grammar.specs.States as state
-use Rattle.yaml_parse_grammar.specs.Machine.{taken_at, documents_taken, content_taken, node_taken, dressed_taken, items_taken, more_taken, stream_taken, entries_taken, pairs_taken, lone_below, left_at, opened}
+use Rattle.yaml_parse_grammar.specs.Machine.{taken_at, documents_taken, content_taken, node_taken, with_properties_taken, items_taken, more_taken, stream_taken, entries_taken, pairs_taken, lone_below, left_at, opened}
 use Rattle.yaml_parse_grammar.specs.Resolve.{Directives, Settled, refused, gave, noted, settle_body, resolved, directive_for, or_default, default_prefix, with_resolved, with_tag, with_version, is_known_version, behind_event, node_event, scalar_event}
 use Rattle.yaml_parse_grammar.specs.Texts.{IsUtf8Tag, IsUtf8Shape, IsUtf8Item, IsUtf8State, AreUtf8States, IsUtf8Token, IsUtf8Held}
 
 -- ---- taking a token
 
-abbrev pub IsUtf8Taken : Option Item → List State → Type 0
+abbrev pub IsUtf8Taken : Option RawEvent → List State → Type 0
 IsUtf8Taken None above = AreUtf8States above
 IsUtf8Taken (Some i) above = IsUtf8Item i.body × AreUtf8States above
 
@@ -68,17 +68,17 @@ node_utf8 w start end (token.anchor n) h = ((h, tt), tt)
 node_utf8 w start end (token.tag x y) h = ((tt, h), tt)
 node_utf8 w start end b h = content_utf8 w None start end b tt h
 
-dressed_utf8 : (w : Wants) (p : Properties) (start end : yaml_mark_t) (b : TokenBody) → IsUtf8Properties (Some p) → source.HasUtf8 b
-    → IsUtf8Taken (dressed_taken w p start end b).item (dressed_taken w p start end b).above
-dressed_utf8 w p start end (token.anchor n) q h = ((h, q.1), tt)
-dressed_utf8 w p start end (token.tag x y) q h = ((q.0, h), tt)
-dressed_utf8 w p start end b q h = content_utf8 w (Some p) start end b q h
+with_properties_utf8 : (w : Wants) (p : Properties) (start end : yaml_mark_t) (b : TokenBody) → IsUtf8Properties (Some p) → source.HasUtf8 b
+    → IsUtf8Taken (with_properties_taken w p start end b).item (with_properties_taken w p start end b).above
+with_properties_utf8 w p start end (token.anchor n) q h = ((h, q.1), tt)
+with_properties_utf8 w p start end (token.tag x y) q h = ((q.0, h), tt)
+with_properties_utf8 w p start end b q h = content_utf8 w (Some p) start end b q h
 
 pub states_over : (xs ys : List State) → AreUtf8States xs → AreUtf8States ys → AreUtf8States (xs ++ ys)
 states_over [] ys h k = k
 states_over (x ∷ xs) ys h k = (h.0, states_over xs ys h.1 k)
 
-taken_over : (i : Option Item) (xs ys : List State) → IsUtf8Taken i xs → AreUtf8States ys → IsUtf8Taken i (xs ++ ys)
+taken_over : (i : Option RawEvent) (xs ys : List State) → IsUtf8Taken i xs → AreUtf8States ys → IsUtf8Taken i (xs ++ ys)
 taken_over None xs ys h k = states_over xs ys h k
 taken_over (Some i) xs ys h k = (h.0, states_over xs ys h.1 k)
 
@@ -120,7 +120,7 @@ taken_utf8 (state.entries o) t p h = entries_utf8 o t.start_mark t.end_mark t.bo
 taken_utf8 (state.others side) t p h = (tt, (tt, tt))
 taken_utf8 (state.pairs o) t p h = pairs_utf8 o t.start_mark t.end_mark t.body
 taken_utf8 (state.colon place) t p h = (tt, tt)
-taken_utf8 (state.dressed w q) t p h = dressed_utf8 w q t.start_mark t.end_mark t.body p h
+taken_utf8 (state.with_properties w q) t p h = with_properties_utf8 w q t.start_mark t.end_mark t.body p h
 taken_utf8 (state.items b o) t p h = items_utf8 b o t.start_mark t.end_mark t.body h
 taken_utf8 (state.more b o) t p h = more_utf8 b o t.start_mark t.end_mark t.body
 taken_utf8 state.pair_end t p h = (tt, tt)
@@ -133,7 +133,7 @@ left_utf8 state.stream start h = (tt, (tt, tt))
 left_utf8 (state.optional place before) start h = (tt, (tt, tt))
 left_utf8 state.document_end start h = tt
 left_utf8 (state.others side) start h = tt
-left_utf8 (state.dressed w p) start h = (h.0, (h.1, tt))
+left_utf8 (state.with_properties w p) start h = (h.0, (h.1, tt))
 left_utf8 state.pair_end start h = tt
 left_utf8 _ start h = (tt, (tt, tt))
 
@@ -220,7 +220,7 @@ behind_utf8 : (b : EventBody) (ds : Directives) → AreUtf8 ds.tags → AreUtf8 
 behind_utf8 (event.document_end implicit) ds h = tt
 behind_utf8 _ ds h = h
 
-pub settled_utf8 : (b : ItemBody) (from : yaml_mark_t) (ds : Directives) → IsUtf8Item b → AreUtf8 ds.tags → IsUtf8Settled (settle_body b from ds)
+pub settled_utf8 : (b : RawEventBody) (from : yaml_mark_t) (ds : Directives) → IsUtf8Item b → AreUtf8 ds.tags → IsUtf8Settled (settle_body b from ds)
 settled_utf8 (item.event body) from ds h d = (h, behind_utf8 body ds d)
 settled_utf8 (item.version_directive major minor) from ds h d = with_version_utf8 ds.version ds.tags major minor from d
 settled_utf8 (item.tag_directive handle prefix) from ds h d = with_tag_utf8 (directive_for handle ds.tags) ds handle prefix from d h.0 h.1

@@ -9,19 +9,19 @@ use Rattle.yaml_parse_grammar.specs.declared.name.Wants.{Wants}
 use Rattle.yaml_parse_grammar.specs.declared.name.Wants.TheVariants.{Flow, Block}
 use Rattle.yaml_parse_grammar.specs.declared.name.Brackets.{Brackets}
 use Rattle.yaml_parse_grammar.specs.declared.name.Brackets.TheVariants as brackets
-use Rattle.yaml_parse_grammar.specs.declared.name.Place.TheVariants.{Root, Entry, IndentlessEntry, BlockPair, FlowPair}
+use Rattle.yaml_parse_grammar.specs.declared.name.Site.TheVariants.{Root, Entry, IndentlessEntry, BlockPair, FlowPair}
 use Rattle.yaml_parse_grammar.specs.declared.name.Choice.{Choice}
 use Rattle.yaml_parse_grammar.specs.declared.name.Choice.TheVariants.{Refuse, Take, Leave, Open}
-use Rattle.yaml_parse_grammar.specs.Items.{Item, ItemBody, Properties}
+use Rattle.yaml_parse_grammar.specs.Items.{RawEvent, RawEventBody, Properties}
 use Rattle.yaml_parse_grammar.specs.Items as item
 use Rattle.yaml_parse_grammar.specs.States.{State, Taken}
 use Rattle.yaml_parse_grammar.specs.States as state
 use Rattle.yaml_parse_grammar.specs.Trees.{Given}
-use Rattle.yaml_parse_grammar.specs.Machine.{choice_at, taken_at, documents_taken, content_taken, node_taken, dressed_taken, items_taken, more_taken, stream_taken, entries_taken, pairs_taken, lone_below, left_at, Fed, stop, go, with_item, given_by, turn, feed, Stands, Outcome, finished, carry, run}
+use Rattle.yaml_parse_grammar.specs.Machine.{choice_at, taken_at, documents_taken, content_taken, node_taken, with_properties_taken, items_taken, more_taken, stream_taken, entries_taken, pairs_taken, lone_below, left_at, Fed, stop, go, with_item, given_by, turn, feed, Stands, Outcome, finished, carry, run}
 use Rattle.yaml_parse_grammar.specs.Resolve.{Directives, Settled, refused, gave, noted, settle, settle_body, reading, read_on, with_resolved, resolved}
 
 -- the item is an event and no directive, or else the other fact holds
-abbrev pub Voiced : ItemBody → Type 0 → Type 0
+abbrev pub Voiced : RawEventBody → Type 0 → Type 0
 Voiced (item.version_directive major minor) P = P
 Voiced (item.tag_directive handle prefix) P = P
 Voiced _ P = Unit {0}
@@ -35,7 +35,7 @@ abbrev pub HasVoice : List Given → Option Fault → Type 0
 HasVoice [] f = IsSome f
 HasVoice (g ∷ gs) f = Voiced g.0.body (HasVoice gs f)
 
-abbrev pub TakenSpeaks : Option Item → List State → Type 0
+abbrev pub TakenSpeaks : Option RawEvent → List State → Type 0
 TakenSpeaks None above = Stands above
 TakenSpeaks (Some i) above = Voiced i.body (Stands above)
 
@@ -73,23 +73,23 @@ node_speaks w start end (token.anchor n) = tt
 node_speaks w start end (token.tag h s) = tt
 node_speaks w start end b = content_speaks w None start end b
 
-dressed_speaks : (w : Wants) (p : Properties) (start end : yaml_mark_t) (b : TokenBody) → TakenSpeaks (dressed_taken w p start end b).item (dressed_taken w p start end b).above
-dressed_speaks w p start end (token.anchor n) = tt
-dressed_speaks w p start end (token.tag h s) = tt
-dressed_speaks w p start end b = content_speaks w (Some p) start end b
+with_properties_speaks : (w : Wants) (p : Properties) (start end : yaml_mark_t) (b : TokenBody) → TakenSpeaks (with_properties_taken w p start end b).item (with_properties_taken w p start end b).above
+with_properties_speaks w p start end (token.anchor n) = tt
+with_properties_speaks w p start end (token.tag h s) = tt
+with_properties_speaks w p start end b = content_speaks w (Some p) start end b
 
 stands_above : (xs ys : List State) → Stands xs → Stands (xs ++ ys)
 stands_above [] ys h = absurd h
 stands_above (x ∷ xs) ys h = tt
 
-voiced_map : (b : ItemBody) {P Q : Type 0} → (P → Q) → Voiced b P → Voiced b Q
+voiced_map : (b : RawEventBody) {P Q : Type 0} → (P → Q) → Voiced b P → Voiced b Q
 voiced_map (item.version_directive x y) f h = f h
 voiced_map (item.tag_directive x y) f h = f h
 voiced_map (item.event e) f h = tt
 voiced_map (item.document i) f h = tt
 voiced_map (item.node a t s) f h = tt
 
-speaks_above : (i : Option Item) (xs ys : List State) → TakenSpeaks i xs → TakenSpeaks i (xs ++ ys)
+speaks_above : (i : Option RawEvent) (xs ys : List State) → TakenSpeaks i xs → TakenSpeaks i (xs ++ ys)
 speaks_above None xs ys h = stands_above xs ys h
 speaks_above (Some i) xs ys h = voiced_map i.body (stands_above xs ys) h
 
@@ -124,7 +124,7 @@ taken_speaks (state.entries o) t = entries_speak o t.start_mark t.end_mark t.bod
 taken_speaks (state.others side) t = tt
 taken_speaks (state.pairs o) t = pairs_speak o t.start_mark t.end_mark t.body
 taken_speaks (state.colon place) t = tt
-taken_speaks (state.dressed w p) t = dressed_speaks w p t.start_mark t.end_mark t.body
+taken_speaks (state.with_properties w p) t = with_properties_speaks w p t.start_mark t.end_mark t.body
 taken_speaks (state.items b o) t = items_speak b o t.start_mark t.end_mark t.body
 taken_speaks (state.more b o) t = more_speaks b o t.start_mark t.end_mark t.body
 taken_speaks state.pair_end t = tt
@@ -136,7 +136,7 @@ left_voiced state.stream start P = tt
 left_voiced (state.optional place before) start P = tt
 left_voiced state.document_end start P = tt
 left_voiced (state.others side) start P = tt
-left_voiced (state.dressed w p) start P = tt
+left_voiced (state.with_properties w p) start P = tt
 left_voiced state.pair_end start P = tt
 left_voiced _ start P = tt
 
@@ -149,9 +149,9 @@ takes_a_token (state.optional (IndentlessEntry side) before) h = cc
 takes_a_token (state.optional (BlockPair side) before) h = cc
 takes_a_token (state.optional (FlowPair brackets.Sequence side) before) h = cc
 takes_a_token (state.optional (FlowPair brackets.Mapping side) before) h = cc
-takes_a_token (state.dressed Flow p) h = cc
-takes_a_token (state.dressed (Block None) p) h = cc
-takes_a_token (state.dressed (Block (Some s)) p) h = cc
+takes_a_token (state.with_properties Flow p) h = cc
+takes_a_token (state.with_properties (Block None) p) h = cc
+takes_a_token (state.with_properties (Block (Some s)) p) h = cc
 takes_a_token (state.items brackets.Sequence o) h = cc
 takes_a_token (state.items brackets.Mapping o) h = cc
 takes_a_token (state.more brackets.Sequence o) h = cc
@@ -160,7 +160,7 @@ takes_a_token _ h = cc
 
 -- ---- a turn
 
-abbrev SpeaksIn : List Item → List State → Type 0
+abbrev SpeaksIn : List RawEvent → List State → Type 0
 SpeaksIn [] s = Stands s
 SpeaksIn (i ∷ is) s = Voiced i.body (SpeaksIn is s)
 
@@ -169,11 +169,11 @@ abbrev FedSpeaks : Fed → Type 0
 FedSpeaks (stop is f) = Unit {0}
 FedSpeaks (go is s) = SpeaksIn is s
 
-given_speaks : (i : Option Item) (above s : List State) → TakenSpeaks i above → FedSpeaks (given_by (record { item = i; above = above }) s)
+given_speaks : (i : Option RawEvent) (above s : List State) → TakenSpeaks i above → FedSpeaks (given_by (record { item = i; above = above }) s)
 given_speaks None above s h = stands_above above s h
 given_speaks (Some i) above s h = voiced_map i.body (stands_above above s) h
 
-with_speaks : (i : Item) (below : Fed) → ((P : Type 0) → Voiced i.body P) → FedSpeaks (with_item i below)
+with_speaks : (i : RawEvent) (below : Fed) → ((P : Type 0) → Voiced i.body P) → FedSpeaks (with_item i below)
 with_speaks i (stop is f) h = tt
 with_speaks i (go is s) h = h (SpeaksIn is s)
 
@@ -190,19 +190,19 @@ feed_speaks x s t = turn_speaks (choice_at x (type_of t.body)) x t s (feed s t)
 abbrev Begins : (List State → Outcome) → Type 0
 Begins k = (s : List State) → Stands s → HasVoice (k s).items (k s).ending
 
-carried_go : (left : ℕ) (is : List Item) (s : List State) (k : List State → Outcome) → SpeaksIn is s → Begins k
-    → HasVoice (map (λ (i : Item). (i, left)) is ++ (k s).items) (k s).ending
+carried_go : (left : ℕ) (is : List RawEvent) (s : List State) (k : List State → Outcome) → SpeaksIn is s → Begins k
+    → HasVoice (map (λ (i : RawEvent). (i, left)) is ++ (k s).items) (k s).ending
 carried_go left [] s k h b = b s h
 carried_go left (i ∷ is) s k h b = voiced_map i.body (λ h'. carried_go left is s k h' b) h
 
-voiced_any : (c : ItemBody) {P : Type 0} → P → Voiced c P
+voiced_any : (c : RawEventBody) {P : Type 0} → P → Voiced c P
 voiced_any (item.version_directive x y) h = h
 voiced_any (item.tag_directive x y) h = h
 voiced_any (item.event e) h = tt
 voiced_any (item.document i) h = tt
 voiced_any (item.node a t s) h = tt
 
-stopped : (left : ℕ) (is : List Item) (f : Fault) → HasVoice (map (λ (i : Item). (i, left)) is) (Some f)
+stopped : (left : ℕ) (is : List RawEvent) (f : Fault) → HasVoice (map (λ (i : RawEvent). (i, left)) is) (Some f)
 stopped left [] f = tt
 stopped left (i ∷ is) f = voiced_any i.body (stopped left is f)
 
@@ -210,7 +210,7 @@ carried_speaks : (left : ℕ) (fed : Fed) (k : List State → Outcome) → FedSp
 carried_speaks left (stop is f) k h b = stopped left is f
 carried_speaks left (go is s) k h b = carried_go left is s k h b
 
-ended_with : (i : Item) (below : Fed) → ((P : Type 0) → Voiced i.body P) → HasVoice (carry 0 (with_item i below) (λ _. finished)).items (carry 0 (with_item i below) (λ _. finished)).ending
+ended_with : (i : RawEvent) (below : Fed) → ((P : Type 0) → Voiced i.body P) → HasVoice (carry 0 (with_item i below) (λ _. finished)).items (carry 0 (with_item i below) (λ _. finished)).ending
 ended_with i (stop is f) h = h _
 ended_with i (go is s) h = h _
 
@@ -235,7 +235,7 @@ pub not_noted : (o : Option (List ℕ)) (a : Option (List ℕ)) (shape : item.Sh
 not_noted None a shape from at ds ds' h = cc
 not_noted (Some t) a shape from at ds ds' h = cc
 
-pub noted_body : (b : ItemBody) (from : yaml_mark_t) (ds ds' : Directives) (P : Type 0) → settle_body b from ds ≡ noted ds' → Voiced b P → P
+pub noted_body : (b : RawEventBody) (from : yaml_mark_t) (ds ds' : Directives) (P : Type 0) → settle_body b from ds ≡ noted ds' → Voiced b P → P
 noted_body (item.version_directive x y) from ds ds' P e h = h
 noted_body (item.tag_directive x y) from ds ds' P e h = h
 noted_body (item.event b) from ds ds' P e h = cc

@@ -26,35 +26,35 @@ pub data Shape : Type 0 where
   sequence : yaml_sequence_style_t → Shape
   mapping : yaml_mapping_style_t → Shape
 
-pub data ItemBody : Type 0 where
+pub data RawEventBody : Type 0 where
   -- an event that has nothing to resolve
-  event : EventBody → ItemBody
+  event : EventBody → RawEventBody
   -- a `%YAML` directive: major, minor
-  version_directive : ℤ → ℤ → ItemBody
+  version_directive : ℤ → ℤ → RawEventBody
   -- a `%TAG` directive: handle, prefix
-  tag_directive : List ℕ → List ℕ → ItemBody
+  tag_directive : List ℕ → List ℕ → RawEventBody
   -- a document starts, with the directives before it; implicit
-  document : Bool → ItemBody
+  document : Bool → RawEventBody
   -- a node starts, or stands whole: anchor, tag
-  node : Option (List ℕ) → Option Tag → Shape → ItemBody
+  node : Option (List ℕ) → Option Tag → Shape → RawEventBody
 
-pub record Item : Type 0 where
-  pub body : ItemBody
+pub record RawEvent : Type 0 where
+  pub body : RawEventBody
   pub from : yaml_mark_t
   pub to : yaml_mark_t
 
-abbrev pub item_at : ItemBody → yaml_mark_t → yaml_mark_t → Item
+abbrev pub item_at : RawEventBody → yaml_mark_t → yaml_mark_t → RawEvent
 item_at body from to = record { body = body; from = from; to = to }
 
 -- an empty node without properties, at a mark
-abbrev pub blank : yaml_mark_t → Item
+abbrev pub blank : yaml_mark_t → RawEvent
 blank mark = item_at (node None None empty) mark mark
 
 -- an empty node that has nothing but properties
-abbrev pub dressed_alone : Properties → Item
-dressed_alone p = item_at (node p.anchor p.tag empty) p.from p.to
+abbrev pub properties_alone : Properties → RawEvent
+properties_alone p = item_at (node p.anchor p.tag empty) p.from p.to
 
 -- a node behind its properties, if it has any, whose first token stands from one mark to another
-abbrev pub node_at : Option Properties → Shape → yaml_mark_t → yaml_mark_t → Item
+abbrev pub node_at : Option Properties → Shape → yaml_mark_t → yaml_mark_t → RawEvent
 node_at None shape from to = item_at (node None None shape) from to
 node_at (Some p) shape from to = item_at (node p.anchor p.tag shape) p.from to

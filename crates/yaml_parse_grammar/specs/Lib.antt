@@ -4,7 +4,7 @@ pub mod Trees
 pub mod States
 pub mod Machine
 pub mod Resolve
-pub mod Coming
+pub mod Remaining
 pub mod Texts
 pub mod Stacks
 -- what it stands on, for crates of laws that name this one alone

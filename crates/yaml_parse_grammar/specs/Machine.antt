@@ -14,14 +14,14 @@ use Rattle.yaml_parse_grammar.specs.declared.name.Wants.TheVariants.{Flow, Block
 use Rattle.yaml_parse_grammar.specs.declared.name.Side.TheVariants.{Key, Value}
 use Rattle.yaml_parse_grammar.specs.declared.name.Brackets.{Brackets}
 use Rattle.yaml_parse_grammar.specs.declared.name.Brackets.TheVariants as brackets
-use Rattle.yaml_parse_grammar.specs.declared.name.Place.{Place}
-use Rattle.yaml_parse_grammar.specs.declared.name.Place.TheVariants.{Root, Entry, IndentlessEntry, BlockPair, FlowPair}
+use Rattle.yaml_parse_grammar.specs.declared.name.Site.{Site}
+use Rattle.yaml_parse_grammar.specs.declared.name.Site.TheVariants.{Root, Entry, IndentlessEntry, BlockPair, FlowPair}
 use Rattle.yaml_parse_grammar.specs.declared.name.Choice.{Choice}
 use Rattle.yaml_parse_grammar.specs.declared.name.Choice.TheVariants.{Refuse, Take, Leave, Open}
 use Rattle.yaml_parse_grammar.specs.declared.problem.ParseProblem.{ParseProblem}
 use Rattle.yaml_parse_grammar.specs.declared.problem.ParseProblem.TheVariants as problem
 use Rattle.yaml_parse_grammar.specs.Problems.{parser_fault}
-use Rattle.yaml_parse_grammar.specs.Items.{Item, Tag, Properties, Shape, item_at, blank, dressed_alone, node_at}
+use Rattle.yaml_parse_grammar.specs.Items.{RawEvent, Tag, Properties, Shape, item_at, blank, properties_alone, node_at}
 use Rattle.yaml_parse_grammar.specs.Items as item
 use Rattle.yaml_parse_grammar.specs.States.{State, Taken}
 use Rattle.yaml_parse_grammar.specs.States as state
@@ -44,7 +44,7 @@ starts_node w kind.YAML_ANCHOR_TOKEN = true
 starts_node w kind.YAML_TAG_TOKEN = true
 starts_node w k = starts_content w k
 
-abbrev pub wants_of : Place → Wants
+abbrev pub wants_of : Site → Wants
 wants_of Root = Block None
 wants_of (Entry) = Block None
 wants_of (IndentlessEntry side) = Block None
@@ -65,7 +65,7 @@ parts_documents kind.YAML_DOCUMENT_START_TOKEN = true
 parts_documents _ = false
 
 -- the token may follow a node that is left out there
-abbrev pub follows : Place → yaml_token_type_t → Bool
+abbrev pub follows : Site → yaml_token_type_t → Bool
 follows Root kind.YAML_DOCUMENT_END_TOKEN = true
 follows Root k = parts_documents k
 follows (Entry) kind.YAML_BLOCK_ENTRY_TOKEN = true
@@ -127,7 +127,7 @@ choice_at (state.pairs opener) kind.YAML_BLOCK_END_TOKEN = Take
 choice_at (state.pairs opener) k = Refuse problem.NoKey (Some opener)
 choice_at (state.colon place) kind.YAML_VALUE_TOKEN = Take
 choice_at (state.colon place) k = Leave
-choice_at (state.dressed w p) k = if joins p k || starts_content w k then Take else Leave
+choice_at (state.with_properties w p) k = if joins p k || starts_content w k then Take else Leave
 choice_at (state.items b opener) kind.YAML_KEY_TOKEN = Take
 choice_at (state.items b opener) k = if closes b k || starts_node Flow k then Take else Refuse problem.NoFlowNode None
 choice_at (state.more b opener) kind.YAML_FLOW_ENTRY_TOKEN = Take
@@ -137,7 +137,7 @@ choice_at state.lone k = Leave
 
 -- ---- what taking a token gives
 
-abbrev pub taken : Option Item → List State → Taken
+abbrev pub taken : Option RawEvent → List State → Taken
 taken item above = record { item = item; above = above }
 
 -- for tokens that the state doesn't take: it is never met
@@ -175,17 +175,17 @@ tag_at handle suffix start = record { handle = handle; suffix = suffix; mark = s
 abbrev pub node_taken : Wants → yaml_mark_t → yaml_mark_t → TokenBody → Taken
 node_taken w start end (token.alias name) = taken (Some (event_at (event.alias name) start end)) []
 node_taken w start end (token.anchor name) =
-    taken None (state.dressed w (record { anchor = Some name; tag = None; from = start; to = end }) ∷ [])
+    taken None (state.with_properties w (record { anchor = Some name; tag = None; from = start; to = end }) ∷ [])
 node_taken w start end (token.tag handle suffix) =
-    taken None (state.dressed w (record { anchor = None; tag = Some (tag_at handle suffix start); from = start; to = end }) ∷ [])
+    taken None (state.with_properties w (record { anchor = None; tag = Some (tag_at handle suffix start); from = start; to = end }) ∷ [])
 node_taken w start end body = content_taken w None start end body
 
-abbrev pub dressed_taken : Wants → Properties → yaml_mark_t → yaml_mark_t → TokenBody → Taken
-dressed_taken w p start end (token.anchor name) =
-    taken None (state.dressed w (record { anchor = Some name; tag = p.tag; from = p.from; to = end }) ∷ [])
-dressed_taken w p start end (token.tag handle suffix) =
-    taken None (state.dressed w (record { anchor = p.anchor; tag = Some (tag_at handle suffix start); from = p.from; to = end }) ∷ [])
-dressed_taken w p start end body = content_taken w (Some p) start end body
+abbrev pub with_properties_taken : Wants → Properties → yaml_mark_t → yaml_mark_t → TokenBody → Taken
+with_properties_taken w p start end (token.anchor name) =
+    taken None (state.with_properties w (record { anchor = Some name; tag = p.tag; from = p.from; to = end }) ∷ [])
+with_properties_taken w p start end (token.tag handle suffix) =
+    taken None (state.with_properties w (record { anchor = p.anchor; tag = Some (tag_at handle suffix start); from = p.from; to = end }) ∷ [])
+with_properties_taken w p start end body = content_taken w (Some p) start end body
 
 abbrev pub above : List State → Taken → Taken
 above below x = taken x.item (x.above ++ below)
@@ -235,7 +235,7 @@ taken_at (state.entries opener) t = entries_taken opener t.start_mark t.end_mark
 taken_at (state.others side) t = taken None (state.optional (IndentlessEntry side) t.end_mark ∷ state.others side ∷ [])
 taken_at (state.pairs opener) t = pairs_taken opener t.start_mark t.end_mark t.body
 taken_at (state.colon place) t = taken None (state.optional place t.end_mark ∷ [])
-taken_at (state.dressed w p) t = dressed_taken w p t.start_mark t.end_mark t.body
+taken_at (state.with_properties w p) t = with_properties_taken w p t.start_mark t.end_mark t.body
 taken_at (state.items b opener) t = items_taken b opener t.start_mark t.end_mark t.body
 taken_at (state.more b opener) t = more_taken b opener t.start_mark t.end_mark t.body
 taken_at state.pair_end t = not_taken
@@ -243,28 +243,28 @@ taken_at state.lone t = not_taken
 
 -- ---- what leaving a state gives, before a token that starts there
 
-abbrev pub left_at : State → yaml_mark_t → Item
+abbrev pub left_at : State → yaml_mark_t → RawEvent
 left_at (state.optional place before) start = blank (mark_at place before start)
 left_at state.document_end start = event_at (event.document_end true) start start
 left_at (state.others side) start = event_at event.sequence_end start start
-left_at (state.dressed w p) start = dressed_alone p
+left_at (state.with_properties w p) start = properties_alone p
 left_at state.pair_end start = event_at event.mapping_end start start
 left_at _ start = blank start
 
 -- ---- a stack at a token
 
 pub data Fed : Type 0 where
-  stop : List Item → Fault → Fed
-  go : List Item → List State → Fed
+  stop : List RawEvent → Fault → Fed
+  go : List RawEvent → List State → Fed
 
-abbrev pub with_item : Item → Fed → Fed
+abbrev pub with_item : RawEvent → Fed → Fed
 with_item i (stop is f) = stop (i ∷ is) f
 with_item i (go is s) = go (i ∷ is) s
 
 abbrev pub given_by : Taken → List State → Fed
 given_by x s = go (list_of x.item) (x.above ++ s)
   where
-    list_of : Option Item → List Item
+    list_of : Option RawEvent → List RawEvent
     list_of None = []
     list_of (Some i) = i ∷ []
 
@@ -305,8 +305,8 @@ abbrev pub finished : Outcome
 finished = record { items = []; ending = None }
 
 abbrev pub carry : ℕ → Fed → (List State → Outcome) → Outcome
-carry left (stop is f) k = record { items = map (λ (i : Item). (i, left)) is; ending = Some f }
-carry left (go is s) k = record { items = map (λ (i : Item). (i, left)) is ++ (k s).items; ending = (k s).ending }
+carry left (stop is f) k = record { items = map (λ (i : RawEvent). (i, left)) is; ending = Some f }
+carry left (go is s) k = record { items = map (λ (i : RawEvent). (i, left)) is ++ (k s).items; ending = (k s).ending }
 
 abbrev pub ending_at : List State → Fault → Outcome
 ending_at [] f = finished

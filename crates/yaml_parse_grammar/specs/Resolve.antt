@@ -11,7 +11,7 @@ use Rattle.yaml_parse_model.specs.Events.{Event, EventBody, TagDirective}
 use Rattle.yaml_parse_model.specs.Events as event
 use Rattle.yaml_parse_grammar.specs.declared.problem.ParseProblem.TheVariants as problem
 use Rattle.yaml_parse_grammar.specs.Problems.{parser_fault}
-use Rattle.yaml_parse_grammar.specs.Items.{Item, ItemBody, Tag, Shape}
+use Rattle.yaml_parse_grammar.specs.Items.{RawEvent, RawEventBody, Tag, Shape}
 use Rattle.yaml_parse_grammar.specs.Items as item
 use Rattle.yaml_parse_grammar.specs.Trees.{Given}
 
@@ -102,7 +102,7 @@ abbrev pub with_resolved : Option (List ℕ) → Option (List ℕ) → Shape →
 with_resolved None anchor shape from at ds = refused (parser_fault problem.UndefinedHandle at from)
 with_resolved (Some tag) anchor shape from at ds = gave (node_event anchor (Some tag) shape) ds
 
-abbrev pub settle_body : ItemBody → yaml_mark_t → Directives → Settled
+abbrev pub settle_body : RawEventBody → yaml_mark_t → Directives → Settled
 settle_body (item.event body) from ds = gave body (behind_event body ds)
 settle_body (item.version_directive major minor) from ds = with_version ds.version ds.tags major minor from
 settle_body (item.tag_directive handle prefix) from ds = with_tag (directive_for handle ds.tags) ds handle prefix from
@@ -110,7 +110,7 @@ settle_body (item.document implicit) from ds = gave (event.document_start ds.ver
 settle_body (item.node anchor None shape) from ds = gave (node_event anchor None shape) ds
 settle_body (item.node anchor (Some tag) shape) from ds = with_resolved (resolved ds.tags tag.handle tag.suffix) anchor shape from tag.mark ds
 
-abbrev pub settle : Item → Directives → Settled
+abbrev pub settle : RawEvent → Directives → Settled
 settle i ds = settle_body i.body i.from ds
 
 -- an event to come, and the number of tokens that are not asked for as it is given
@@ -121,11 +121,11 @@ pub record Reading : Type 0 where
   pub events : List Told
   pub ending : Option Fault
 
-abbrev pub placed : EventBody → Item → Event
+abbrev pub placed : EventBody → RawEvent → Event
 placed body i = record { body = body; start_mark = i.from; end_mark = i.to }
 
 -- what one settled item puts before the reading of the others
-abbrev pub read_on : Settled → Item → ℕ → (Directives → Reading) → Reading
+abbrev pub read_on : Settled → RawEvent → ℕ → (Directives → Reading) → Reading
 read_on (refused f) i left k = record { events = []; ending = Some f }
 read_on (gave body ds) i left k = record { events = (placed body i, left) ∷ (k ds).events; ending = (k ds).ending }
 read_on (noted ds) i left k = k ds

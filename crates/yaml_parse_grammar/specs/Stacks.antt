@@ -2,7 +2,7 @@
 use Rattle.std.specs.Prelude.{◌≡◌, Bool, true, false, List, [], ◌∷◌}
 use Rattle.yaml_parse_model.specs.Events.{EventBody}
 use Rattle.yaml_parse_model.specs.Events as event
-use Rattle.yaml_parse_grammar.specs.Items.{ItemBody}
+use Rattle.yaml_parse_grammar.specs.Items.{RawEventBody}
 use Rattle.yaml_parse_grammar.specs.Items as item
 use Rattle.yaml_parse_grammar.specs.States.{State}
 use Rattle.yaml_parse_grammar.specs.States as state
@@ -16,7 +16,7 @@ parts_documents_behind (event.document_end implicit) = true
 parts_documents_behind _ = false
 
 -- the same of an item; a directive gives no event
-abbrev pub StandsBehind : ItemBody → Bool → Type 0
+abbrev pub StandsBehind : RawEventBody → Bool → Type 0
 StandsBehind (item.event body) between = between ≡ parts_documents_behind body
 StandsBehind (item.document implicit) between = between ≡ false
 StandsBehind (item.node anchor tag shape) between = between ≡ false

@@ -3,9 +3,9 @@ use Rattle.std.specs.Prelude.{List, Option}
 use Rattle.yaml_parse_model.specs.declared.yaml_mark_t.{yaml_mark_t}
 use Rattle.yaml_parse_grammar.specs.declared.name.Wants.{Wants}
 use Rattle.yaml_parse_grammar.specs.declared.name.Brackets.{Brackets}
-use Rattle.yaml_parse_grammar.specs.declared.name.Place.{Place}
+use Rattle.yaml_parse_grammar.specs.declared.name.Site.{Site}
 use Rattle.yaml_parse_grammar.specs.declared.name.Side.{Side}
-use Rattle.yaml_parse_grammar.specs.Items.{Properties, Item}
+use Rattle.yaml_parse_grammar.specs.Items.{Properties, RawEvent}
 
 -- a state of the machine; the marks are where what is open begins, unless said
 pub data State : Type 0 where
@@ -15,16 +15,16 @@ pub data State : Type 0 where
   -- behind directives
   directives : yaml_mark_t → State
   -- a node or nothing; the mark is the end of the indicator before it
-  optional : Place → yaml_mark_t → State
+  optional : Site → yaml_mark_t → State
   document_end : State
   -- the parts of a block sequence, of one that isn't indented, of a block mapping
   entries : yaml_mark_t → State
   others : Side → State
   pairs : yaml_mark_t → State
   -- a VALUE and that place, or nothing
-  colon : Place → State
+  colon : Site → State
   -- the rest of a node behind properties
-  dressed : Wants → Properties → State
+  with_properties : Wants → Properties → State
   -- behind an opening bracket or a comma; behind a part
   items : Brackets → yaml_mark_t → State
   more : Brackets → yaml_mark_t → State
@@ -35,5 +35,5 @@ pub data State : Type 0 where
 
 -- what taking a token gives, and the states that stand above the others from then on
 pub record Taken : Type 0 where
-  pub item : Option Item
+  pub item : Option RawEvent
   pub above : List State

@@ -15,9 +15,9 @@ use Rattle.yaml_parse_grammar.specs.declared.name.Side.{Side}
 use Rattle.yaml_parse_grammar.specs.declared.name.Side.TheVariants.{Key, Value}
 use Rattle.yaml_parse_grammar.specs.declared.name.Brackets.{Brackets}
 use Rattle.yaml_parse_grammar.specs.declared.name.Brackets.TheVariants as brackets
-use Rattle.yaml_parse_grammar.specs.declared.name.Place.{Place}
-use Rattle.yaml_parse_grammar.specs.declared.name.Place.TheVariants.{Root, Entry, IndentlessEntry, BlockPair, FlowPair}
-use Rattle.yaml_parse_grammar.specs.Items.{Item, Tag, Properties, Shape, item_at, blank, dressed_alone, node_at}
+use Rattle.yaml_parse_grammar.specs.declared.name.Site.{Site}
+use Rattle.yaml_parse_grammar.specs.declared.name.Site.TheVariants.{Root, Entry, IndentlessEntry, BlockPair, FlowPair}
+use Rattle.yaml_parse_grammar.specs.Items.{RawEvent, Tag, Properties, Shape, item_at, blank, properties_alone, node_at}
 use Rattle.yaml_parse_grammar.specs.Items as item
 
 -- where a token stands
@@ -38,18 +38,18 @@ pub record TagToken : Type 0 where
   pub span : Span
 
 -- ANCHOR TAG? | TAG ANCHOR?
-pub data Dress : Type 0 where
-  anchor : AnchorToken → Dress
-  anchor_tag : AnchorToken → TagToken → Dress
-  tag : TagToken → Dress
-  tag_anchor : TagToken → AnchorToken → Dress
+pub data PropertyTokens : Type 0 where
+  anchor : AnchorToken → PropertyTokens
+  anchor_tag : AnchorToken → TagToken → PropertyTokens
+  tag : TagToken → PropertyTokens
+  tag_anchor : TagToken → AnchorToken → PropertyTokens
 
 mutual
   -- ALIAS | properties content? | content, of the contents that may stand there
   pub data Node : Wants → Type 0 where
     alias : {w : Wants} → Span → List ℕ → Node w
-    dress : {w : Wants} → Dress → Node w
-    dressed : {w : Wants} → Dress → Content w → Node w
+    only_properties : {w : Wants} → PropertyTokens → Node w
+    with_properties : {w : Wants} → PropertyTokens → Content w → Node w
     bare : {w : Wants} → Content w → Node w
 
   pub data Content : Wants → Type 0 where
@@ -123,11 +123,11 @@ anchor_token a = token_at (token.anchor a.name) a.span
 abbrev pub tag_token : TagToken → Token
 tag_token t = token_at (token.tag t.handle t.suffix) t.span
 
-abbrev pub spell_dress : Dress → List Token → List Token
-spell_dress (anchor a) rest = anchor_token a ∷ rest
-spell_dress (anchor_tag a t) rest = anchor_token a ∷ tag_token t ∷ rest
-spell_dress (tag t) rest = tag_token t ∷ rest
-spell_dress (tag_anchor t a) rest = tag_token t ∷ anchor_token a ∷ rest
+abbrev pub spell_properties : PropertyTokens → List Token → List Token
+spell_properties (anchor a) rest = anchor_token a ∷ rest
+spell_properties (anchor_tag a t) rest = anchor_token a ∷ tag_token t ∷ rest
+spell_properties (tag t) rest = tag_token t ∷ rest
+spell_properties (tag_anchor t a) rest = tag_token t ∷ anchor_token a ∷ rest
 
 abbrev pub opening : Brackets → TokenBody
 opening brackets.Sequence = token.flow_sequence_start
@@ -140,8 +140,8 @@ closing brackets.Mapping = token.flow_mapping_end
 abbrev mutual
   pub spell_node : {w : Wants} → Node w → List Token → List Token
   spell_node (alias s name) rest = token_at (token.alias name) s ∷ rest
-  spell_node (dress d) rest = spell_dress d rest
-  spell_node (dressed d c) rest = spell_dress d (spell_content c rest)
+  spell_node (only_properties d) rest = spell_properties d rest
+  spell_node (with_properties d c) rest = spell_properties d (spell_content c rest)
   spell_node (bare c) rest = spell_content c rest
 
   pub spell_content : {w : Wants} → Content w → List Token → List Token
@@ -204,7 +204,7 @@ spell t rest = token_at (token.stream_start t.encoding) t.start ∷ spell_first 
 -- ---- the items of a tree, each with the number of tokens that are not asked for as it is given
 
 abbrev pub Given : Type 0
-Given = Item × ℕ
+Given = RawEvent × ℕ
 
 -- the start of the next token, and how many are left behind it
 abbrev pub next : List Token → yaml_mark_t
@@ -218,7 +218,7 @@ behind (t ∷ ts) = length ts
 abbrev pub tag_of : TagToken → Tag
 tag_of t = record { handle = t.handle; suffix = t.suffix; mark = t.span.from }
 
-abbrev pub properties_of : Dress → Properties
+abbrev pub properties_of : PropertyTokens → Properties
 properties_of (anchor a) = record { anchor = Some a.name; tag = None; from = a.span.from; to = a.span.to }
 properties_of (anchor_tag a t) = record { anchor = Some a.name; tag = Some (tag_of t); from = a.span.from; to = t.span.to }
 properties_of (tag t) = record { anchor = None; tag = Some (tag_of t); from = t.span.from; to = t.span.to }
@@ -232,11 +232,11 @@ abbrev pub end_event : Brackets → EventBody
 end_event brackets.Sequence = event.sequence_end
 end_event brackets.Mapping = event.mapping_end
 
-abbrev pub event_at : EventBody → yaml_mark_t → yaml_mark_t → Item
+abbrev pub event_at : EventBody → yaml_mark_t → yaml_mark_t → RawEvent
 event_at body from to = item_at (item.event body) from to
 
 -- a left-out node stands in a block collection at the end of the indicator before it, else at the next token's start
-abbrev pub mark_at : Place → yaml_mark_t → yaml_mark_t → yaml_mark_t
+abbrev pub mark_at : Site → yaml_mark_t → yaml_mark_t → yaml_mark_t
 mark_at Root before next = next
 mark_at (FlowPair b side) before next = next
 mark_at (Entry) before next = before
@@ -260,8 +260,8 @@ lone brackets.Mapping rest more = (blank (next rest), behind rest) ∷ more
 abbrev mutual
   pub items_node : {w : Wants} → Node w → List Token → List Given → List Given
   items_node (alias s name) rest more = (event_at (event.alias name) s.from s.to, length rest) ∷ more
-  items_node (dress d) rest more = (dressed_alone (properties_of d), behind rest) ∷ more
-  items_node (dressed d c) rest more = items_content c (Some (properties_of d)) rest more
+  items_node (only_properties d) rest more = (properties_alone (properties_of d), behind rest) ∷ more
+  items_node (with_properties d c) rest more = items_content c (Some (properties_of d)) rest more
   items_node (bare c) rest more = items_content c None rest more
 
   pub items_content : {w : Wants} → Content w → Option Properties → List Token → List Given → List Given
@@ -277,11 +277,11 @@ abbrev mutual
       ∷ items_maybe n (IndentlessEntry side) s.to (spell_others others rest) (items_others side others rest more)
 
   -- before is the end of the indicator that stands before the node
-  pub items_maybe : {w : Wants} → Maybe w → Place → yaml_mark_t → List Token → List Given → List Given
+  pub items_maybe : {w : Wants} → Maybe w → Site → yaml_mark_t → List Token → List Given → List Given
   items_maybe left_out place before rest more = (blank (mark_at place before (next rest)), behind rest) ∷ more
   items_maybe (there n) place before rest more = items_node n rest more
 
-  pub items_colon : {w : Wants} → Colon w → Place → List Token → List Given → List Given
+  pub items_colon : {w : Wants} → Colon w → Site → List Token → List Given → List Given
   items_colon no_colon place rest more = (blank (next rest), behind rest) ∷ more
   items_colon (colon s n) place rest more = items_maybe n place s.to rest more
 

@@ -4,5 +4,5 @@
 mod name;
 mod problem;
 
-pub use name::{Brackets, Choice, Place, Side, Wants};
+pub use name::{Brackets, Choice, Side, Site, Wants};
 pub use problem::{ParseFault, ParseProblem};

@@ -28,7 +28,7 @@ pub enum Brackets {
 
 /// A place where a node may stand, or be left out.
 #[derive(Clone, Copy, PartialEq, Eq, Debug)]
-pub enum Place {
+pub enum Site {
     /// Behind `---`.
     Root,
     /// Behind a `-`.

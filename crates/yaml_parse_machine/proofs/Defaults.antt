@@ -10,7 +10,7 @@ use Rattle.yaml_parse_grammar.specs.declared.name.Wants.TheVariants.{Flow}
 use Rattle.yaml_parse_grammar.specs.declared.name.Brackets.{Brackets}
 use Rattle.yaml_parse_grammar.specs.Items.{Properties}
 use Rattle.yaml_parse_grammar.specs.States as state
-use Rattle.yaml_parse_grammar.specs.Machine.{node_taken, dressed_taken, content_taken, items_taken, above, lone_below}
+use Rattle.yaml_parse_grammar.specs.Machine.{node_taken, with_properties_taken, content_taken, items_taken, above, lone_below}
 
 pub node_default : (w : Wants) (start end : yaml_mark_t) (b : yaml_token_body_t) → ((v : Vec ℕ Global) → b ≡ body.Alias v → ⊥) → ((v : Vec ℕ Global) → b ≡ body.Anchor v → ⊥)
     → ((v v' : Vec ℕ Global) → b ≡ body.Tag v v' → ⊥) → content_taken w None start end (body_of b) ≡ node_taken w start end (body_of b)
@@ -19,11 +19,11 @@ node_default w start end (body.Anchor v) a n t = absurd (n v refl)
 node_default w start end (body.Tag v v') a n t = absurd (t v v' refl)
 node_default w start end _ a n t = refl
 
-pub dressed_default : (w : Wants) (p : Properties) (start end : yaml_mark_t) (b : yaml_token_body_t) → ((v : Vec ℕ Global) → b ≡ body.Anchor v → ⊥)
-    → ((v v' : Vec ℕ Global) → b ≡ body.Tag v v' → ⊥) → content_taken w (Some p) start end (body_of b) ≡ dressed_taken w p start end (body_of b)
-dressed_default w p start end (body.Anchor v) n t = absurd (n v refl)
-dressed_default w p start end (body.Tag v v') n t = absurd (t v v' refl)
-dressed_default w p start end _ n t = refl
+pub with_properties_default : (w : Wants) (p : Properties) (start end : yaml_mark_t) (b : yaml_token_body_t) → ((v : Vec ℕ Global) → b ≡ body.Anchor v → ⊥)
+    → ((v v' : Vec ℕ Global) → b ≡ body.Tag v v' → ⊥) → content_taken w (Some p) start end (body_of b) ≡ with_properties_taken w p start end (body_of b)
+with_properties_default w p start end (body.Anchor v) n t = absurd (n v refl)
+with_properties_default w p start end (body.Tag v v') n t = absurd (t v v' refl)
+with_properties_default w p start end _ n t = refl
 
 pub items_default : (b : Brackets) (opener start end : yaml_mark_t) (x : yaml_token_body_t) → (x ≡ body.Key → ⊥) → (x ≡ body.FlowSequenceEnd → ⊥) → (x ≡ body.FlowMappingEnd → ⊥)
     → above (lone_below b (state.more b opener ∷ [])) (node_taken Flow start end (body_of x)) ≡ items_taken b opener start end (body_of x)

@@ -46,7 +46,7 @@ SettlesBody s (Ok true) b new = s ≡ gave (body_of b) new
 SettlesBody s (Ok false) b new = s ≡ noted new
 SettlesBody s (Err e) b new = Refused e s
 
-abbrev pub Settles : Settled → item.Item → Result Bool Refusal → yaml_event_t → spec.Directives → Type 0
+abbrev pub Settles : Settled → item.RawEvent → Result Bool Refusal → yaml_event_t → spec.Directives → Type 0
 Settles s i (Ok true) e new = (s ≡ gave (body_of e.body) new) × (event_of e ≡ placed (body_of e.body) i)
 Settles s i (Ok false) e new = s ≡ noted new
 Settles s i (Err x) e new = Refused x s

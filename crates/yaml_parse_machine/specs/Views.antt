@@ -9,11 +9,11 @@ use Rattle.yaml_parse_machine.specs.declared.item.Tag as tag
 use Rattle.yaml_parse_machine.specs.declared.item.Properties as properties
 use Rattle.yaml_parse_machine.specs.declared.item.Shape.{Shape}
 use Rattle.yaml_parse_machine.specs.declared.item.Shape.TheVariants.{Empty, Scalar, Sequence, Mapping}
-use Rattle.yaml_parse_machine.specs.declared.item.ItemBody.{ItemBody}
-use Rattle.yaml_parse_machine.specs.declared.item.ItemBody.TheVariants.{Event, VersionDirective, TagDirective, Document, Node}
-use Rattle.yaml_parse_machine.specs.declared.item.Plain.{Plain}
-use Rattle.yaml_parse_machine.specs.declared.item.Plain.TheVariants.{StreamStart, StreamEnd, DocumentEnd, Alias, SequenceEnd, MappingEnd}
-use Rattle.yaml_parse_machine.specs.declared.item.Item.{Item}
+use Rattle.yaml_parse_machine.specs.declared.item.RawEventBody.{RawEventBody}
+use Rattle.yaml_parse_machine.specs.declared.item.RawEventBody.TheVariants.{Event, VersionDirective, TagDirective, Document, Node}
+use Rattle.yaml_parse_machine.specs.declared.item.Resolved.{Resolved}
+use Rattle.yaml_parse_machine.specs.declared.item.Resolved.TheVariants.{StreamStart, StreamEnd, DocumentEnd, Alias, SequenceEnd, MappingEnd}
+use Rattle.yaml_parse_machine.specs.declared.item.RawEvent.{RawEvent}
 use Rattle.yaml_parse_machine.specs.declared.item.State.{State}
 use Rattle.yaml_parse_machine.specs.declared.item.State.TheVariants as code
 
@@ -37,11 +37,11 @@ shape_of (Scalar value style) = item.scalar value.items style
 shape_of (Sequence style) = item.sequence style
 shape_of (Mapping style) = item.mapping style
 
-abbrev pub node_of : Option (Box properties.Properties) → item.Shape → item.ItemBody
+abbrev pub node_of : Option (Box properties.Properties) → item.Shape → item.RawEventBody
 node_of None shape = item.node None None shape
 node_of (Some p) shape = item.node (text_of p.value.anchor) (tag_option_of p.value.tag) shape
 
-abbrev pub plain_of : Plain → event.EventBody
+abbrev pub plain_of : Resolved → event.EventBody
 plain_of (StreamStart encoding) = event.stream_start encoding
 plain_of StreamEnd = event.stream_end
 plain_of (DocumentEnd implicit) = event.document_end implicit
@@ -49,18 +49,18 @@ plain_of (Alias anchor) = event.alias anchor.items
 plain_of SequenceEnd = event.sequence_end
 plain_of MappingEnd = event.mapping_end
 
-abbrev pub item_body_of : ItemBody → item.ItemBody
+abbrev pub item_body_of : RawEventBody → item.RawEventBody
 item_body_of (Event p) = item.event (plain_of p)
 item_body_of (VersionDirective major minor) = item.version_directive major minor
 item_body_of (TagDirective handle prefix) = item.tag_directive handle.items prefix.items
 item_body_of (Document implicit) = item.document implicit
 item_body_of (Node properties shape) = node_of properties (shape_of shape)
 
-abbrev pub item_of : Item → item.Item
+abbrev pub item_of : RawEvent → item.RawEvent
 item_of i = record { body = item_body_of i.body; from = i.from; to = i.to }
 
 -- what a slot holds, if it was filled
-abbrev pub given_of : Bool → Item → Option item.Item
+abbrev pub given_of : Bool → RawEvent → Option item.RawEvent
 given_of false i = None
 given_of true i = Some (item_of i)
 
@@ -75,7 +75,7 @@ state_of (code.Entries opener) = state.entries opener
 state_of (code.Others side) = state.others side
 state_of (code.Pairs opener) = state.pairs opener
 state_of (code.Colon place) = state.colon place
-state_of (code.Dressed w p) = state.dressed w (properties_of p.value)
+state_of (code.WithProperties w p) = state.with_properties w (properties_of p.value)
 state_of (code.Items b opener) = state.items b opener
 state_of (code.More b opener) = state.more b opener
 state_of code.PairEnd = state.pair_end

@@ -3,12 +3,12 @@
 ghost use Rattle.std.specs.Prelude.{◌≡◌};
 ghost use Rattle.yaml_parse_grammar.specs.Machine.{starts_content, starts_node, wants_of, closes, parts_documents, follows, joins, no_node, no_end, choice_at};
 ghost use Rattle.yaml_parse_grammar.specs.States as state;
-ghost use Rattle.yaml_parse_grammar.specs.declared.name.Place.TheVariants.{BlockPair};
+ghost use Rattle.yaml_parse_grammar.specs.declared.name.Site.TheVariants.{BlockPair};
 ghost use Rattle.yaml_parse_model.specs.declared.yaml_token_type_t.TheVariants.{YAML_VALUE_TOKEN};
 ghost use Rattle.yaml_parse_machine.specs.Views.{properties_of, state_of};
 
 use crate::item::{Properties, State};
-use yaml_parse_grammar::{Brackets, Choice, ParseProblem, Place, Side, Wants};
+use yaml_parse_grammar::{Brackets, Choice, ParseProblem, Side, Site, Wants};
 use yaml_parse_model::{yaml_mark_t, yaml_token_type_t};
 
 // A node's content may begin with the token.
@@ -49,15 +49,15 @@ fn is_node(wants: Wants, kind: yaml_token_type_t) -> bool
 }
 
 /// Which nodes may stand there.
-pub fn wants(place: Place) -> Wants
+pub fn wants(place: Site) -> Wants
     ensures { result ≡ wants_of place }
 {
     match place {
-        Place::Root => Wants::Block(None),
-        Place::Entry => Wants::Block(None),
-        Place::IndentlessEntry(_) => Wants::Block(None),
-        Place::BlockPair(side) => Wants::Block(Some(side)),
-        Place::FlowPair(_, _) => Wants::Flow,
+        Site::Root => Wants::Block(None),
+        Site::Entry => Wants::Block(None),
+        Site::IndentlessEntry(_) => Wants::Block(None),
+        Site::BlockPair(side) => Wants::Block(Some(side)),
+        Site::FlowPair(_, _) => Wants::Flow,
     }
 }
 
@@ -98,33 +98,33 @@ fn is_key(side: Side) -> bool
 }
 
 // The token may follow a node that is left out there.
-fn is_following(place: Place, kind: yaml_token_type_t) -> bool
+fn is_following(place: Site, kind: yaml_token_type_t) -> bool
     ensures { result ≡ follows place kind }
 {
     match place {
-        Place::Root => match kind {
+        Site::Root => match kind {
             yaml_token_type_t::YAML_DOCUMENT_END_TOKEN => true,
             _ => is_parting(kind),
         },
-        Place::Entry => match kind {
+        Site::Entry => match kind {
             yaml_token_type_t::YAML_BLOCK_ENTRY_TOKEN => true,
             yaml_token_type_t::YAML_BLOCK_END_TOKEN => true,
             _ => false,
         },
-        Place::IndentlessEntry(side) => match kind {
+        Site::IndentlessEntry(side) => match kind {
             yaml_token_type_t::YAML_BLOCK_ENTRY_TOKEN => true,
             yaml_token_type_t::YAML_KEY_TOKEN => true,
             yaml_token_type_t::YAML_BLOCK_END_TOKEN => true,
             yaml_token_type_t::YAML_VALUE_TOKEN => is_key(side),
             _ => false,
         },
-        Place::BlockPair(side) => match kind {
+        Site::BlockPair(side) => match kind {
             yaml_token_type_t::YAML_KEY_TOKEN => true,
             yaml_token_type_t::YAML_BLOCK_END_TOKEN => true,
             yaml_token_type_t::YAML_VALUE_TOKEN => is_key(side),
             _ => false,
         },
-        Place::FlowPair(brackets, side) => match kind {
+        Site::FlowPair(brackets, side) => match kind {
             yaml_token_type_t::YAML_FLOW_ENTRY_TOKEN => true,
             yaml_token_type_t::YAML_VALUE_TOKEN => is_key(side),
             _ => is_closing(brackets, kind),
@@ -220,7 +220,7 @@ fn at_directives(from: yaml_mark_t, kind: yaml_token_type_t) -> Choice
     }
 }
 
-fn at_optional(place: Place, before: yaml_mark_t, kind: yaml_token_type_t) -> Choice
+fn at_optional(place: Site, before: yaml_mark_t, kind: yaml_token_type_t) -> Choice
     ensures { result ≡ choice_at (state.optional place before) kind }
 {
     if is_following(place, kind) {
@@ -270,7 +270,7 @@ fn at_pairs(opener: yaml_mark_t, kind: yaml_token_type_t) -> Choice
     }
 }
 
-fn at_colon(place: Place, kind: yaml_token_type_t) -> Choice
+fn at_colon(place: Site, kind: yaml_token_type_t) -> Choice
     ensures { result ≡ choice_at (state.colon place) kind }
 {
     match kind {
@@ -279,8 +279,8 @@ fn at_colon(place: Place, kind: yaml_token_type_t) -> Choice
     }
 }
 
-fn at_dressed(wants: Wants, properties: &Properties, kind: yaml_token_type_t) -> Choice
-    ensures { result ≡ choice_at (state.dressed wants (properties_of properties.now)) kind }
+fn at_with_properties(wants: Wants, properties: &Properties, kind: yaml_token_type_t) -> Choice
+    ensures { result ≡ choice_at (state.with_properties wants (properties_of properties.now)) kind }
 {
     if is_joining(properties, kind) || is_content(wants, kind) {
         Choice::Take
@@ -334,7 +334,7 @@ pub fn choose(state: &State, kind: yaml_token_type_t) -> Choice
         State::Others(side) => at_others(side, kind),
         State::Pairs(opener) => at_pairs(opener, kind),
         State::Colon(place) => at_colon(place, kind),
-        State::Dressed(wants, ref properties) => at_dressed(wants, properties, kind),
+        State::WithProperties(wants, ref properties) => at_with_properties(wants, properties, kind),
         State::Items(brackets, opener) => at_items(brackets, opener, kind),
         State::More(brackets, opener) => at_more(brackets, opener, kind),
         State::PairEnd => Choice::Leave,

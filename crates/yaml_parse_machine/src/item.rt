@@ -1,6 +1,6 @@
 //! States, and items: events whose tags and directives are not resolved.
 
-use yaml_parse_grammar::{Brackets, Place, Side, Wants};
+use yaml_parse_grammar::{Brackets, Side, Site, Wants};
 use yaml_parse_model::{
     yaml_encoding_t, yaml_mapping_style_t, yaml_mark_t, yaml_scalar_style_t, yaml_sequence_style_t,
 };
@@ -36,7 +36,7 @@ pub enum Shape {
 
 /// An event that has nothing to resolve.
 #[derive(Drop)]
-pub enum Plain {
+pub enum Resolved {
     StreamStart { encoding: yaml_encoding_t },
     StreamEnd,
     DocumentEnd { implicit: bool },
@@ -47,8 +47,8 @@ pub enum Plain {
 
 /// What an item is. A value is moved with each event, so the properties of a node lie apart.
 #[derive(Drop)]
-pub enum ItemBody {
-    Event(Plain),
+pub enum RawEventBody {
+    Event(Resolved),
     /// A `%YAML` directive.
     VersionDirective {
         major: i32,
@@ -72,8 +72,8 @@ pub enum ItemBody {
 
 /// An event before its tag or directives are resolved.
 #[derive(Drop)]
-pub struct Item {
-    pub body: ItemBody,
+pub struct RawEvent {
+    pub body: RawEventBody,
     pub from: yaml_mark_t,
     pub to: yaml_mark_t,
     /// A box that is done with, if any, in which the properties of a node to come may lie. What it holds says nothing.
@@ -89,7 +89,7 @@ pub enum State {
     /// Behind directives.
     Directives(yaml_mark_t),
     /// A node or nothing; the mark is the end of the indicator before it.
-    Optional(Place, yaml_mark_t),
+    Optional(Site, yaml_mark_t),
     DocumentEnd,
     /// The parts of a block sequence.
     Entries(yaml_mark_t),
@@ -98,9 +98,9 @@ pub enum State {
     /// The parts of a block mapping.
     Pairs(yaml_mark_t),
     /// A `:` and that place, or nothing.
-    Colon(Place),
+    Colon(Site),
     /// The rest of a node behind properties. They lie apart, so that the other states stay small.
-    Dressed(Wants, Box<Properties>),
+    WithProperties(Wants, Box<Properties>),
     /// Behind an opening bracket or a comma.
     Items(Brackets, yaml_mark_t),
     /// Behind a part inside brackets.

@@ -9,6 +9,6 @@ mod taking;
 
 pub use choosing::choose;
 pub use handles::TagDirectives;
-pub use item::{Item, ItemBody, Plain, Properties, Shape, State, Tag};
+pub use item::{Properties, RawEvent, RawEventBody, Resolved, Shape, State, Tag};
 pub use resolving::{Directives, Refusal, settle};
 pub use taking::{leave, open, take};

@@ -11,7 +11,7 @@ ghost use Rattle.yaml_parse_machine.specs.declared.resolving.Refusal.TheVariants
 ghost use Rattle.yaml_parse_machine.specs.Settles.{directives_of, Settles, SettlesBody, SettlesNode, Resolves, Notes, IsMemory};
 
 use crate::handles::TagDirectives;
-use crate::item::{Item, ItemBody, Plain, Properties, Shape, Tag};
+use crate::item::{Properties, RawEvent, RawEventBody, Resolved, Shape, Tag};
 use std::alloc::{AllocError, AllocFailed, Global};
 use std::mem;
 use yaml_parse_grammar::{ParseFault, ParseProblem};
@@ -334,11 +334,11 @@ fn note_tag(
 }
 
 // Nothing carries over to the next document.
-fn end_directives(directives: &mut Directives, event: &Plain)
+fn end_directives(directives: &mut Directives, event: &Resolved)
     ensures { directives_of directives.new ≡ behind_event (plain_of event.now) (directives_of directives.old) }
 {
     match *event {
-        Plain::DocumentEnd { .. } => {
+        Resolved::DocumentEnd { .. } => {
             directives.version = None;
             directives.tags.clear();
         }
@@ -346,27 +346,27 @@ fn end_directives(directives: &mut Directives, event: &Plain)
     }
 }
 
-fn plain_event(event: &mut Plain, alloc: Global) -> yaml_event_body_t
+fn plain_event(event: &mut Resolved, alloc: Global) -> yaml_event_body_t
     ensures { body_of result ≡ plain_of event.old }
 {
     match event {
-        Plain::StreamStart { encoding } => yaml_event_body_t::StreamStart {
+        Resolved::StreamStart { encoding } => yaml_event_body_t::StreamStart {
             encoding: *encoding,
         },
-        Plain::StreamEnd => yaml_event_body_t::StreamEnd,
-        Plain::DocumentEnd { implicit } => yaml_event_body_t::DocumentEnd {
+        Resolved::StreamEnd => yaml_event_body_t::StreamEnd,
+        Resolved::DocumentEnd { implicit } => yaml_event_body_t::DocumentEnd {
             implicit: *implicit,
         },
-        Plain::Alias { anchor } => yaml_event_body_t::Alias {
+        Resolved::Alias { anchor } => yaml_event_body_t::Alias {
             anchor: mem::replace(anchor, Vec::new(alloc)),
         },
-        Plain::SequenceEnd => yaml_event_body_t::SequenceEnd,
-        Plain::MappingEnd => yaml_event_body_t::MappingEnd,
+        Resolved::SequenceEnd => yaml_event_body_t::SequenceEnd,
+        Resolved::MappingEnd => yaml_event_body_t::MappingEnd,
     }
 }
 
 // The event of a node that has properties, and begins there. The anchor is moved.
-fn dressed(
+fn with_properties(
     alloc: Global,
     tags: &TagDirectives,
     properties: &mut Properties,
@@ -386,7 +386,7 @@ fn dressed(
 fn settle_body(
     alloc: Global,
     directives: &mut Directives,
-    body: &mut ItemBody,
+    body: &mut RawEventBody,
     spare: &mut Option<Box<Properties>>,
     from: yaml_mark_t,
     event: &mut yaml_event_body_t,
@@ -394,16 +394,16 @@ fn settle_body(
     ensures { SettlesBody (settle_item_body (item_body_of body.old) from (directives_of directives.old)) result event.new (directives_of directives.new) }
 {
     match *body {
-        ItemBody::Event(ref mut plain) => {
+        RawEventBody::Event(ref mut plain) => {
             end_directives(directives, plain);
             *event = plain_event(plain, alloc);
             Ok(true)
         }
-        ItemBody::VersionDirective { major, minor } => {
+        RawEventBody::VersionDirective { major, minor } => {
             note_version(directives, major, minor, from)?;
             Ok(false)
         }
-        ItemBody::TagDirective {
+        RawEventBody::TagDirective {
             ref mut handle,
             ref mut prefix,
         } => {
@@ -412,7 +412,7 @@ fn settle_body(
             note_tag(alloc, directives, handle, prefix, from)?;
             Ok(false)
         }
-        ItemBody::Document { implicit } => {
+        RawEventBody::Document { implicit } => {
             let tag_directives = copy_directives(alloc, directives.tags.as_slice())?;
             *event = yaml_event_body_t::DocumentStart {
                 version_directive: directives.version,
@@ -421,7 +421,7 @@ fn settle_body(
             };
             Ok(true)
         }
-        ItemBody::Node {
+        RawEventBody::Node {
             ref mut properties,
             ref mut shape,
         } => match properties.take() {
@@ -432,7 +432,7 @@ fn settle_body(
             Some(boxed) => {
                 let mut properties = boxed;
                 let tags = &directives.tags;
-                *event = dressed(alloc, tags, &mut properties, shape, from)?;
+                *event = with_properties(alloc, tags, &mut properties, shape, from)?;
                 *spare = Some(properties);
                 Ok(true)
             }
@@ -444,7 +444,7 @@ fn settle_body(
 pub fn settle(
     alloc: Global,
     directives: &mut Directives,
-    slot: &mut Item,
+    slot: &mut RawEvent,
     event: &mut yaml_event_t,
 ) -> Result<bool, Refusal>
     ensures { Settles (settle_item (item_of slot.old) (directives_of directives.old)) (item_of slot.old) result event.new (directives_of directives.new) }

@@ -1,24 +1,24 @@
 //! What taking a token gives, built from the moved token, and what leaving a state gives.
 
 ghost use Rattle.std.specs.Prelude.{◌≡◌, ◌<◌, ◌+◌, ◌++◌, [], ◌∷◌, vec_len, vec_capacity, OnOk, IfOk, IsOkAnd, false, Some, None};
-ghost use Rattle.yaml_parse_grammar.specs.declared.name.Place.TheVariants.{Entry, IndentlessEntry, BlockPair, FlowPair};
+ghost use Rattle.yaml_parse_grammar.specs.declared.name.Site.TheVariants.{Entry, IndentlessEntry, BlockPair, FlowPair};
 ghost use Rattle.yaml_parse_grammar.specs.declared.name.Brackets.TheVariants as brackets;
 ghost use Rattle.yaml_parse_grammar.specs.declared.name.Side.TheVariants.{Key, Value};
 ghost use Rattle.yaml_parse_model.specs.Tokens.{token_of, body_of as token_body_of};
-ghost use Rattle.yaml_parse_grammar.specs.Items.{item_at, blank, node_at, dressed_alone};
+ghost use Rattle.yaml_parse_grammar.specs.Items.{item_at, blank, node_at, properties_alone};
 ghost use Rattle.yaml_parse_grammar.specs.Items as item;
 ghost use Rattle.yaml_parse_model.specs.declared.yaml_sequence_style_t.TheVariants.{YAML_BLOCK_SEQUENCE_STYLE};
 ghost use Rattle.yaml_parse_model.specs.declared.yaml_mapping_style_t.TheVariants.{YAML_BLOCK_MAPPING_STYLE};
 ghost use Rattle.yaml_parse_grammar.specs.Trees.{mark_at, flow_shape, end_event, event_at};
 ghost use Rattle.yaml_parse_grammar.specs.States as state;
-ghost use Rattle.yaml_parse_grammar.specs.Machine.{not_taken, taken_at, left_at, documents_taken, content_taken, node_taken, dressed_taken, items_taken, more_taken, stream_taken, entries_taken, pairs_taken, pair_taken, lone_below, opened};
+ghost use Rattle.yaml_parse_grammar.specs.Machine.{not_taken, taken_at, left_at, documents_taken, content_taken, node_taken, with_properties_taken, items_taken, more_taken, stream_taken, entries_taken, pairs_taken, pair_taken, lone_below, opened};
 ghost use Rattle.yaml_parse_machine.specs.Views.{properties_of, properties_option_of, shape_of, plain_of, item_of, item_body_of, given_of, state_of, stack_of};
 
 use crate::choosing::wants;
-use crate::item::{Item, ItemBody, Plain, Properties, Shape, State, Tag};
+use crate::item::{Properties, RawEvent, RawEventBody, Resolved, Shape, State, Tag};
 use std::alloc::{AllocError, Global};
 use std::mem;
-use yaml_parse_grammar::{Brackets, Place, Side, Wants};
+use yaml_parse_grammar::{Brackets, Side, Site, Wants};
 use yaml_parse_model::{
     yaml_mapping_style_t, yaml_mark_t, yaml_sequence_style_t, yaml_token_body_t, yaml_token_t,
 };
@@ -27,8 +27,8 @@ use yaml_parse_model::{
 
 // An item in the slot.
 fn give(
-    slot: &mut Item,
-    body: ItemBody,
+    slot: &mut RawEvent,
+    body: RawEventBody,
     from: yaml_mark_t,
     to: yaml_mark_t,
 ) -> Result<bool, AllocError>
@@ -42,10 +42,10 @@ fn give(
 
 // The token's own event in the slot.
 #[inline(always)]
-fn tell(slot: &mut Item, event: Plain, token: &yaml_token_t) -> Result<bool, AllocError>
+fn tell(slot: &mut RawEvent, event: Resolved, token: &yaml_token_t) -> Result<bool, AllocError>
     ensures { IsOkAnd result (λ b. given_of b slot.new ≡ Some (event_at (plain_of event) token.now.start_mark token.now.end_mark)) }
 {
-    slot.body = ItemBody::Event(event);
+    slot.body = RawEventBody::Event(event);
     slot.from = token.start_mark;
     slot.to = token.end_mark;
     Ok(true)
@@ -64,7 +64,7 @@ fn beginning(properties: &Option<Box<Properties>>, start: yaml_mark_t) -> yaml_m
 // A node behind its properties, if it has any, whose first token that is.
 #[inline(always)]
 fn node(
-    slot: &mut Item,
+    slot: &mut RawEvent,
     properties: Option<Box<Properties>>,
     shape: Shape,
     token: &yaml_token_t,
@@ -73,7 +73,7 @@ fn node(
 {
     slot.from = beginning(&properties, token.start_mark);
     slot.to = token.end_mark;
-    slot.body = ItemBody::Node { properties, shape };
+    slot.body = RawEventBody::Node { properties, shape };
     Ok(true)
 }
 
@@ -107,7 +107,7 @@ pub fn open(stack: &mut Vec<State>, before: yaml_mark_t) -> Result<(), AllocErro
     stack.reserve(3)?;
     put(stack, State::Documents);
     put(stack, State::DocumentEnd);
-    put(stack, State::Optional(Place::Root, before));
+    put(stack, State::Optional(Site::Root, before));
     Ok(())
 }
 
@@ -117,7 +117,7 @@ fn push_indentless(stack: &mut Vec<State>, side: Side, end: yaml_mark_t) -> Resu
 {
     stack.reserve(2)?;
     put(stack, State::Others(side));
-    put(stack, State::Optional(Place::IndentlessEntry(side), end));
+    put(stack, State::Optional(Site::IndentlessEntry(side), end));
     Ok(())
 }
 
@@ -131,7 +131,7 @@ fn push_entry(
 {
     stack.reserve(2)?;
     put(stack, State::Entries(opener));
-    put(stack, State::Optional(Place::Entry, end));
+    put(stack, State::Optional(Site::Entry, end));
     Ok(())
 }
 
@@ -145,8 +145,8 @@ fn push_block_pair(
 {
     stack.reserve(3)?;
     put(stack, State::Pairs(opener));
-    put(stack, State::Colon(Place::BlockPair(Side::Value)));
-    put(stack, State::Optional(Place::BlockPair(Side::Key), end));
+    put(stack, State::Colon(Site::BlockPair(Side::Value)));
+    put(stack, State::Optional(Site::BlockPair(Side::Key), end));
     Ok(())
 }
 
@@ -163,10 +163,10 @@ fn push_sequence_pair(
     stack.reserve(4)?;
     put(stack, State::More(brackets, opener));
     put(stack, State::PairEnd);
-    put(stack, State::Colon(Place::FlowPair(brackets, Side::Value)));
+    put(stack, State::Colon(Site::FlowPair(brackets, Side::Value)));
     put(
         stack,
-        State::Optional(Place::FlowPair(brackets, Side::Key), end),
+        State::Optional(Site::FlowPair(brackets, Side::Key), end),
     );
     Ok(())
 }
@@ -182,10 +182,10 @@ fn push_mapping_pair(
     let brackets = Brackets::Mapping;
     stack.reserve(3)?;
     put(stack, State::More(brackets, opener));
-    put(stack, State::Colon(Place::FlowPair(brackets, Side::Value)));
+    put(stack, State::Colon(Site::FlowPair(brackets, Side::Value)));
     put(
         stack,
-        State::Optional(Place::FlowPair(brackets, Side::Key), end),
+        State::Optional(Site::FlowPair(brackets, Side::Key), end),
     );
     Ok(())
 }
@@ -224,7 +224,7 @@ fn new_room(
 
 // A box for the properties of a node, that stand there: the one that is to spare, or else a new one.
 fn room(
-    slot: &mut Item,
+    slot: &mut RawEvent,
     alloc: Global,
     from: yaml_mark_t,
     to: yaml_mark_t,
@@ -247,7 +247,7 @@ fn room(
 // ---- tokens
 
 // For tokens that the state doesn't take.
-fn nothing(stack: &mut Vec<State>, slot: &mut Item) -> Result<bool, AllocError>
+fn nothing(stack: &mut Vec<State>, slot: &mut RawEvent) -> Result<bool, AllocError>
     ensures item { IfOk result (λ b. given_of b slot.new ≡ not_taken.item) }
     ensures stack { OnOk result (stack_of stack.new.items ≡ not_taken.above ++ stack_of stack.old.items) }
 {
@@ -266,7 +266,7 @@ fn moved(text: &mut Vec<u8>) -> Vec<u8>
 fn at_stream(
     stack: &mut Vec<State>,
     token: &mut yaml_token_t,
-    slot: &mut Item,
+    slot: &mut RawEvent,
 ) -> Result<bool, AllocError>
     ensures item { IfOk result (λ b. given_of b slot.new ≡ (stream_taken token.old.start_mark token.old.end_mark (token_body_of token.old.body)).item) }
     ensures stack { OnOk result (stack_of stack.new.items ≡ (stream_taken token.old.start_mark token.old.end_mark (token_body_of token.old.body)).above ++ stack_of stack.old.items) }
@@ -276,7 +276,7 @@ fn at_stream(
             push(stack, State::First)?;
             tell(
                 slot,
-                Plain::StreamStart {
+                Resolved::StreamStart {
                     encoding: *encoding,
                 },
                 token,
@@ -290,7 +290,7 @@ fn at_documents(
     stack: &mut Vec<State>,
     from: yaml_mark_t,
     token: &mut yaml_token_t,
-    slot: &mut Item,
+    slot: &mut RawEvent,
 ) -> Result<bool, AllocError>
     ensures item { IfOk result (λ b. given_of b slot.new ≡ (documents_taken from token.old.start_mark token.old.end_mark (token_body_of token.old.body)).item) }
     ensures stack { OnOk result (stack_of stack.new.items ≡ (documents_taken from token.old.start_mark token.old.end_mark (token_body_of token.old.body)).above ++ stack_of stack.old.items) }
@@ -301,7 +301,7 @@ fn at_documents(
             push(stack, State::Directives(from))?;
             give(
                 slot,
-                ItemBody::VersionDirective { major, minor },
+                RawEventBody::VersionDirective { major, minor },
                 token.start_mark,
                 token.end_mark,
             )
@@ -311,7 +311,7 @@ fn at_documents(
             ref mut prefix,
         } => {
             push(stack, State::Directives(from))?;
-            let directive = ItemBody::TagDirective {
+            let directive = RawEventBody::TagDirective {
                 handle: moved(handle),
                 prefix: moved(prefix),
             };
@@ -321,12 +321,12 @@ fn at_documents(
             open(stack, token.end_mark)?;
             give(
                 slot,
-                ItemBody::Document { implicit: false },
+                RawEventBody::Document { implicit: false },
                 from,
                 token.end_mark,
             )
         }
-        yaml_token_body_t::StreamEnd => tell(slot, Plain::StreamEnd, token),
+        yaml_token_body_t::StreamEnd => tell(slot, Resolved::StreamEnd, token),
         _ => {
             push(stack, State::Documents)?;
             Ok(false)
@@ -349,12 +349,12 @@ fn block_sequence() -> Shape
     Shape::Sequence(yaml_sequence_style_t::YAML_BLOCK_SEQUENCE_STYLE)
 }
 
-fn end_of(brackets: Brackets) -> Plain
+fn end_of(brackets: Brackets) -> Resolved
     ensures { plain_of result ≡ end_event brackets }
 {
     match brackets {
-        Brackets::Sequence => Plain::SequenceEnd,
-        Brackets::Mapping => Plain::MappingEnd,
+        Brackets::Sequence => Resolved::SequenceEnd,
+        Brackets::Mapping => Resolved::MappingEnd,
     }
 }
 
@@ -364,7 +364,7 @@ fn open_brackets(
     brackets: Brackets,
     properties: Option<Box<Properties>>,
     token: &yaml_token_t,
-    slot: &mut Item,
+    slot: &mut RawEvent,
 ) -> Result<bool, AllocError>
     ensures item { IfOk result (λ b. given_of b slot.new ≡ Some (node_at (properties_option_of properties) (flow_shape brackets) token.now.start_mark token.now.end_mark)) }
     ensures stack { OnOk result (stack_of stack.new.items ≡ state.items brackets token.now.start_mark ∷ stack_of stack.old.items) }
@@ -378,7 +378,7 @@ fn open_entries(
     stack: &mut Vec<State>,
     properties: Option<Box<Properties>>,
     token: &yaml_token_t,
-    slot: &mut Item,
+    slot: &mut RawEvent,
 ) -> Result<bool, AllocError>
     ensures item { IfOk result (λ b. given_of b slot.new ≡ Some (node_at (properties_option_of properties) (item.sequence YAML_BLOCK_SEQUENCE_STYLE) token.now.start_mark token.now.end_mark)) }
     ensures stack { OnOk result (stack_of stack.new.items ≡ state.entries token.now.start_mark ∷ stack_of stack.old.items) }
@@ -392,7 +392,7 @@ fn open_pairs(
     stack: &mut Vec<State>,
     properties: Option<Box<Properties>>,
     token: &yaml_token_t,
-    slot: &mut Item,
+    slot: &mut RawEvent,
 ) -> Result<bool, AllocError>
     ensures item { IfOk result (λ b. given_of b slot.new ≡ Some (node_at (properties_option_of properties) (item.mapping YAML_BLOCK_MAPPING_STYLE) token.now.start_mark token.now.end_mark)) }
     ensures stack { OnOk result (stack_of stack.new.items ≡ state.pairs token.now.start_mark ∷ stack_of stack.old.items) }
@@ -408,7 +408,7 @@ fn open_others(
     side: Side,
     properties: Option<Box<Properties>>,
     token: &yaml_token_t,
-    slot: &mut Item,
+    slot: &mut RawEvent,
 ) -> Result<bool, AllocError>
     ensures item { IfOk result (λ b. given_of b slot.new ≡ Some (node_at (properties_option_of properties) (item.sequence YAML_BLOCK_SEQUENCE_STYLE) token.now.start_mark token.now.end_mark)) }
     ensures stack { OnOk result (stack_of stack.new.items ≡ state.optional (IndentlessEntry side) token.now.end_mark ∷ state.others side ∷ stack_of stack.old.items) }
@@ -423,7 +423,7 @@ fn at_content(
     wants: Wants,
     properties: Option<Box<Properties>>,
     token: &mut yaml_token_t,
-    slot: &mut Item,
+    slot: &mut RawEvent,
 ) -> Result<bool, AllocError>
     ensures item { IfOk result (λ b. given_of b slot.new ≡ (content_taken wants (properties_option_of properties) token.old.start_mark token.old.end_mark (token_body_of token.old.body)).item) }
     ensures stack { OnOk result (stack_of stack.new.items ≡ (content_taken wants (properties_option_of properties) token.old.start_mark token.old.end_mark (token_body_of token.old.body)).above ++ stack_of stack.old.items) }
@@ -457,7 +457,7 @@ fn at_node(
     stack: &mut Vec<State>,
     wants: Wants,
     token: &mut yaml_token_t,
-    slot: &mut Item,
+    slot: &mut RawEvent,
 ) -> Result<bool, AllocError>
     ensures item { IfOk result (λ b. given_of b slot.new ≡ (node_taken wants token.old.start_mark token.old.end_mark (token_body_of token.old.body)).item) }
     ensures stack { OnOk result (stack_of stack.new.items ≡ (node_taken wants token.old.start_mark token.old.end_mark (token_body_of token.old.body)).above ++ stack_of stack.old.items) }
@@ -465,7 +465,7 @@ fn at_node(
     match &mut token.body {
         yaml_token_body_t::Alias { value } => tell(
             slot,
-            Plain::Alias {
+            Resolved::Alias {
                 anchor: moved(value),
             },
             token,
@@ -474,7 +474,7 @@ fn at_node(
             let alloc = *value.allocator();
             let mut properties = room(slot, alloc, token.start_mark, token.end_mark)?;
             properties.anchor = Some(moved(value));
-            push(stack, State::Dressed(wants, properties))?;
+            push(stack, State::WithProperties(wants, properties))?;
             Ok(false)
         }
         yaml_token_body_t::Tag { handle, suffix } => {
@@ -485,29 +485,29 @@ fn at_node(
                 suffix: moved(suffix),
                 mark: token.start_mark,
             });
-            push(stack, State::Dressed(wants, properties))?;
+            push(stack, State::WithProperties(wants, properties))?;
             Ok(false)
         }
         _ => at_content(stack, wants, None, token, slot),
     }
 }
 
-fn at_dressed(
+fn at_with_properties(
     stack: &mut Vec<State>,
     wants: Wants,
     properties: Box<Properties>,
     token: &mut yaml_token_t,
-    slot: &mut Item,
+    slot: &mut RawEvent,
 ) -> Result<bool, AllocError>
-    ensures item { IfOk result (λ b. given_of b slot.new ≡ (dressed_taken wants (properties_of properties.value) token.old.start_mark token.old.end_mark (token_body_of token.old.body)).item) }
-    ensures stack { OnOk result (stack_of stack.new.items ≡ (dressed_taken wants (properties_of properties.value) token.old.start_mark token.old.end_mark (token_body_of token.old.body)).above ++ stack_of stack.old.items) }
+    ensures item { IfOk result (λ b. given_of b slot.new ≡ (with_properties_taken wants (properties_of properties.value) token.old.start_mark token.old.end_mark (token_body_of token.old.body)).item) }
+    ensures stack { OnOk result (stack_of stack.new.items ≡ (with_properties_taken wants (properties_of properties.value) token.old.start_mark token.old.end_mark (token_body_of token.old.body)).above ++ stack_of stack.old.items) }
 {
     match &mut token.body {
         yaml_token_body_t::Anchor { value } => {
             let mut both = properties;
             both.anchor = Some(moved(value));
             both.to = token.end_mark;
-            push(stack, State::Dressed(wants, both))?;
+            push(stack, State::WithProperties(wants, both))?;
             Ok(false)
         }
         yaml_token_body_t::Tag { handle, suffix } => {
@@ -519,7 +519,7 @@ fn at_dressed(
             let mut both = properties;
             both.tag = Some(tag);
             both.to = token.end_mark;
-            push(stack, State::Dressed(wants, both))?;
+            push(stack, State::WithProperties(wants, both))?;
             Ok(false)
         }
         _ => at_content(stack, wants, Some(properties), token, slot),
@@ -532,7 +532,7 @@ fn at_pair(
     brackets: Brackets,
     opener: yaml_mark_t,
     token: &yaml_token_t,
-    slot: &mut Item,
+    slot: &mut RawEvent,
 ) -> Result<bool, AllocError>
     ensures item { IfOk result (λ b. given_of b slot.new ≡ (pair_taken brackets opener token.now.start_mark token.now.end_mark).item) }
     ensures stack { OnOk result (stack_of stack.new.items ≡ (pair_taken brackets opener token.now.start_mark token.now.end_mark).above ++ stack_of stack.old.items) }
@@ -554,7 +554,7 @@ fn at_items(
     brackets: Brackets,
     opener: yaml_mark_t,
     token: &mut yaml_token_t,
-    slot: &mut Item,
+    slot: &mut RawEvent,
 ) -> Result<bool, AllocError>
     ensures item { IfOk result (λ b. given_of b slot.new ≡ (items_taken brackets opener token.old.start_mark token.old.end_mark (token_body_of token.old.body)).item) }
     ensures stack { OnOk result (stack_of stack.new.items ≡ (items_taken brackets opener token.old.start_mark token.old.end_mark (token_body_of token.old.body)).above ++ stack_of stack.old.items) }
@@ -575,7 +575,7 @@ fn at_more(
     brackets: Brackets,
     opener: yaml_mark_t,
     token: &mut yaml_token_t,
-    slot: &mut Item,
+    slot: &mut RawEvent,
 ) -> Result<bool, AllocError>
     ensures item { IfOk result (λ b. given_of b slot.new ≡ (more_taken brackets opener token.old.start_mark token.old.end_mark (token_body_of token.old.body)).item) }
     ensures stack { OnOk result (stack_of stack.new.items ≡ (more_taken brackets opener token.old.start_mark token.old.end_mark (token_body_of token.old.body)).above ++ stack_of stack.old.items) }
@@ -593,7 +593,7 @@ fn at_entries(
     stack: &mut Vec<State>,
     opener: yaml_mark_t,
     token: &mut yaml_token_t,
-    slot: &mut Item,
+    slot: &mut RawEvent,
 ) -> Result<bool, AllocError>
     ensures item { IfOk result (λ b. given_of b slot.new ≡ (entries_taken opener token.old.start_mark token.old.end_mark (token_body_of token.old.body)).item) }
     ensures stack { OnOk result (stack_of stack.new.items ≡ (entries_taken opener token.old.start_mark token.old.end_mark (token_body_of token.old.body)).above ++ stack_of stack.old.items) }
@@ -603,7 +603,7 @@ fn at_entries(
             push_entry(stack, opener, token.end_mark)?;
             Ok(false)
         }
-        _ => tell(slot, Plain::SequenceEnd, token),
+        _ => tell(slot, Resolved::SequenceEnd, token),
     }
 }
 
@@ -611,7 +611,7 @@ fn at_pairs(
     stack: &mut Vec<State>,
     opener: yaml_mark_t,
     token: &mut yaml_token_t,
-    slot: &mut Item,
+    slot: &mut RawEvent,
 ) -> Result<bool, AllocError>
     ensures item { IfOk result (λ b. given_of b slot.new ≡ (pairs_taken opener token.old.start_mark token.old.end_mark (token_body_of token.old.body)).item) }
     ensures stack { OnOk result (stack_of stack.new.items ≡ (pairs_taken opener token.old.start_mark token.old.end_mark (token_body_of token.old.body)).above ++ stack_of stack.old.items) }
@@ -621,7 +621,7 @@ fn at_pairs(
             push_block_pair(stack, opener, token.end_mark)?;
             Ok(false)
         }
-        _ => tell(slot, Plain::MappingEnd, token),
+        _ => tell(slot, Resolved::MappingEnd, token),
     }
 }
 
@@ -633,7 +633,7 @@ fn at_others(stack: &mut Vec<State>, side: Side, end: yaml_mark_t) -> Result<boo
     Ok(false)
 }
 
-fn at_colon(stack: &mut Vec<State>, place: Place, end: yaml_mark_t) -> Result<bool, AllocError>
+fn at_colon(stack: &mut Vec<State>, place: Site, end: yaml_mark_t) -> Result<bool, AllocError>
     ensures item { IfOk result (λ b. b ≡ false) }
     ensures stack { OnOk result (stack_of stack.new.items ≡ state.optional place end ∷ stack_of stack.old.items) }
 {
@@ -647,7 +647,7 @@ pub fn take(
     stack: &mut Vec<State>,
     state: State,
     token: &mut yaml_token_t,
-    slot: &mut Item,
+    slot: &mut RawEvent,
 ) -> Result<bool, AllocError>
     ensures item { IfOk result (λ b. given_of b slot.new ≡ (taken_at (state_of state) (token_of token.old)).item) }
     ensures stack { OnOk result (stack_of stack.new.items ≡ (taken_at (state_of state) (token_of token.old)).above ++ stack_of stack.old.items) }
@@ -659,14 +659,16 @@ pub fn take(
         State::Directives(from) => at_documents(stack, from, token, slot),
         State::Optional(place, _) => at_node(stack, wants(place), token, slot),
         State::DocumentEnd => {
-            let event = Plain::DocumentEnd { implicit: false };
+            let event = Resolved::DocumentEnd { implicit: false };
             tell(slot, event, token)
         }
         State::Entries(opener) => at_entries(stack, opener, token, slot),
         State::Others(side) => at_others(stack, side, token.end_mark),
         State::Pairs(opener) => at_pairs(stack, opener, token, slot),
         State::Colon(place) => at_colon(stack, place, token.end_mark),
-        State::Dressed(wants, properties) => at_dressed(stack, wants, properties, token, slot),
+        State::WithProperties(wants, properties) => at_with_properties(
+            stack, wants, properties, token, slot,
+        ),
         State::Items(brackets, opener) => at_items(stack, brackets, opener, token, slot),
         State::More(brackets, opener) => at_more(stack, brackets, opener, token, slot),
         State::PairEnd => nothing(stack, slot),
@@ -675,23 +677,23 @@ pub fn take(
 }
 
 // Where a left-out node stands, whose indicator ends at one mark, and behind which a token begins at the other.
-fn empty_mark(place: Place, before: yaml_mark_t, next: yaml_mark_t) -> yaml_mark_t
+fn empty_mark(place: Site, before: yaml_mark_t, next: yaml_mark_t) -> yaml_mark_t
     ensures { result ≡ mark_at place before next }
 {
     match place {
-        Place::Root => next,
-        Place::FlowPair(_, _) => next,
-        Place::Entry => before,
-        Place::IndentlessEntry(_) => before,
-        Place::BlockPair(_) => before,
+        Site::Root => next,
+        Site::FlowPair(_, _) => next,
+        Site::Entry => before,
+        Site::IndentlessEntry(_) => before,
+        Site::BlockPair(_) => before,
     }
 }
 
 // An empty node without properties.
-fn leave_blank(slot: &mut Item, mark: yaml_mark_t)
+fn leave_blank(slot: &mut RawEvent, mark: yaml_mark_t)
     ensures { item_of slot.new ≡ blank mark }
 {
-    slot.body = ItemBody::Node {
+    slot.body = RawEventBody::Node {
         properties: None,
         shape: Shape::Empty,
     };
@@ -700,36 +702,36 @@ fn leave_blank(slot: &mut Item, mark: yaml_mark_t)
 }
 
 // An empty node that has nothing but properties.
-fn leave_dressed(slot: &mut Item, p: Box<Properties>)
-    ensures { item_of slot.new ≡ dressed_alone (properties_of p.value) }
+fn leave_with_properties(slot: &mut RawEvent, p: Box<Properties>)
+    ensures { item_of slot.new ≡ properties_alone (properties_of p.value) }
 {
     slot.from = p.from;
     slot.to = p.to;
-    slot.body = ItemBody::Node {
+    slot.body = RawEventBody::Node {
         properties: Some(p),
         shape: Shape::Empty,
     };
 }
 
 // An event that stands before a token that begins there.
-fn leave_event(slot: &mut Item, event: Plain, start: yaml_mark_t)
+fn leave_event(slot: &mut RawEvent, event: Resolved, start: yaml_mark_t)
     ensures { item_of slot.new ≡ event_at (plain_of event) start start }
 {
-    slot.body = ItemBody::Event(event);
+    slot.body = RawEventBody::Event(event);
     slot.from = start;
     slot.to = start;
 }
 
 /// What the state gives as it is left before a token that begins there stands in the slot.
-pub fn leave(state: State, start: yaml_mark_t, slot: &mut Item)
+pub fn leave(state: State, start: yaml_mark_t, slot: &mut RawEvent)
     ensures { item_of slot.new ≡ left_at (state_of state) start }
 {
     match state {
         State::Optional(place, before) => leave_blank(slot, empty_mark(place, before, start)),
-        State::DocumentEnd => leave_event(slot, Plain::DocumentEnd { implicit: true }, start),
-        State::Others(_) => leave_event(slot, Plain::SequenceEnd, start),
-        State::Dressed(_, properties) => leave_dressed(slot, properties),
-        State::PairEnd => leave_event(slot, Plain::MappingEnd, start),
+        State::DocumentEnd => leave_event(slot, Resolved::DocumentEnd { implicit: true }, start),
+        State::Others(_) => leave_event(slot, Resolved::SequenceEnd, start),
+        State::WithProperties(_, properties) => leave_with_properties(slot, properties),
+        State::PairEnd => leave_event(slot, Resolved::MappingEnd, start),
         _ => leave_blank(slot, start),
     }
 }

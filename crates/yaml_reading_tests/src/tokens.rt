@@ -7,7 +7,7 @@ use yaml_parse::{
     yaml_event_body_t, yaml_event_t, yaml_event_type_t, yaml_parser_initialize, yaml_parser_parse,
     yaml_parser_t,
 };
-use yaml_round_source::{yaml_token_list_t, yaml_token_utf8};
+use yaml_parse_list::{yaml_token_list_t, yaml_token_utf8};
 use yaml_scan::{
     yaml_encoding_t, yaml_error_type_t, yaml_fault_t, yaml_mark_t, yaml_origin_t,
     yaml_scalar_style_t, yaml_token_body_t, yaml_token_t,

@@ -1,46 +1,46 @@
 -- An event that is given: the text is the same.
 use Rattle.std.proofs.Common.{◌≡◌, ◌∙◌, ap, sym, subst, ℕ, List, Bool, true, false, Option}
 use Rattle.yaml_scan.specs.declared.yaml_scalar_style_t.{yaml_scalar_style_t}
-use Rattle.yaml_parse.specs.Coming.{Coming}
+use Rattle.yaml_parse.specs.Remaining.{ParserRemaining}
 use Rattle.yaml_parse.specs.Resolve.{Told}
 use Rattle.yaml_parse.specs.Events.{Event, EventBody}
 use Rattle.yaml_parse.specs.Events as event
 use Rattle.yaml_parse.specs.Constructors.{HasUtf8}
-use Rattle.yaml_emit.specs.Content.{said}
+use Rattle.yaml_emit.specs.Content.{emitter_event}
 use Rattle.yaml_emit.specs.Emitter.{Emitter, Completes, Given}
-use Rattle.yaml_round.specs.Even.{even_body, even_scalar, is_lone_mark}
-use Rattle.yaml_round.specs.Reading.{GivesFront, said_all}
+use Rattle.yaml_round.specs.Normalize.{normalize_body, normalize_scalar, is_lone_mark}
+use Rattle.yaml_round.specs.Reading.{GivesFront, emitter_events}
 use Rattle.yaml_round.specs.Writing.{Leads}
 
 scalar_utf8 : (lone : Bool) (anchor tag : Option (List ℕ)) (value : List ℕ) (plain quoted : Bool) (style : yaml_scalar_style_t)
-    → HasUtf8 (event.scalar anchor tag value plain quoted style) → HasUtf8 (even_scalar lone anchor tag value plain quoted style)
+    → HasUtf8 (event.scalar anchor tag value plain quoted style) → HasUtf8 (normalize_scalar lone anchor tag value plain quoted style)
 scalar_utf8 true anchor tag value plain quoted style h = (h.0, tt, h.2)
 scalar_utf8 false anchor tag value plain quoted style h = h
 
--- an evened event's texts are the event's
-pub even_utf8 : (ends : Bool) (body : EventBody) → HasUtf8 body → HasUtf8 (even_body ends body)
-even_utf8 ends (event.document_end implicit) h = tt
-even_utf8 ends (event.scalar anchor tag value plain quoted style) h = scalar_utf8 (is_lone_mark tag value) anchor tag value plain quoted style h
-even_utf8 ends event.no h = h
-even_utf8 ends (event.stream_start x) h = h
-even_utf8 ends event.stream_end h = h
-even_utf8 ends (event.document_start v ds i) h = h
-even_utf8 ends (event.alias x) h = h
-even_utf8 ends (event.sequence_start a t i s) h = h
-even_utf8 ends event.sequence_end h = h
-even_utf8 ends (event.mapping_start a t i s) h = h
-even_utf8 ends event.mapping_end h = h
+-- a normalized event's texts are the event's
+pub normalize_utf8 : (ends : Bool) (body : EventBody) → HasUtf8 body → HasUtf8 (normalize_body ends body)
+normalize_utf8 ends (event.document_end implicit) h = tt
+normalize_utf8 ends (event.scalar anchor tag value plain quoted style) h = scalar_utf8 (is_lone_mark tag value) anchor tag value plain quoted style h
+normalize_utf8 ends event.no h = h
+normalize_utf8 ends (event.stream_start x) h = h
+normalize_utf8 ends event.stream_end h = h
+normalize_utf8 ends (event.document_start v ds i) h = h
+normalize_utf8 ends (event.alias x) h = h
+normalize_utf8 ends (event.sequence_start a t i s) h = h
+normalize_utf8 ends event.sequence_end h = h
+normalize_utf8 ends (event.mapping_start a t i s) h = h
+normalize_utf8 ends event.mapping_end h = h
 
-pub gives : (ends : Bool) (first old new : Emitter) (all : List Told) (before after : Coming) (v : Event)
+pub gives : (ends : Bool) (first old new : Emitter) (all : List Told) (before after : ParserRemaining) (v : Event)
     → Leads ends first all old before.events → GivesFront v before after
-    → Given old (said (even_body ends v.body)) new → Leads ends first all new after.events
+    → Given old (emitter_event (normalize_body ends v.body)) new → Leads ends first all new after.events
 gives ends first old new all before after v l f g = record {
   completes = λ x whole c.
-      let P : List Told → Type 0 = λ es. Completes old x (said_all ends es) whole in
-      g.completes x (said_all ends after.events) whole (subst P f.events (l.completes x whole c));
+      let P : List Told → Type 0 = λ es. Completes old x (emitter_events ends es) whole in
+      g.completes x (emitter_events ends after.events) whole (subst P f.events (l.completes x whole c));
   limit = g.limit ∙ l.limit;
 }
 
 -- the same of events
-pub evened_utf8 : (ends : Bool) (v e : Event) → e ≡ record v { body = even_body ends v.body } → HasUtf8 v.body → HasUtf8 e.body
-evened_utf8 ends v e is h = subst HasUtf8 (sym (ap (λ (z : Event). z.body) is)) (even_utf8 ends v.body h)
+pub normalized_utf8 : (ends : Bool) (v e : Event) → e ≡ record v { body = normalize_body ends v.body } → HasUtf8 v.body → HasUtf8 e.body
+normalized_utf8 ends v e is h = subst HasUtf8 (sym (ap (λ (z : Event). z.body) is)) (normalize_utf8 ends v.body h)

@@ -6,7 +6,7 @@ use Rattle.yaml_scan.specs.declared.yaml_encoding_t.{yaml_encoding_t}
 use Rattle.yaml_scan.specs.declared.yaml_encoding_t.TheVariants.{YAML_ANY_ENCODING}
 use Rattle.yaml_scan.specs.declared.yaml_fault_t.{yaml_fault_t}
 use Rattle.yaml_scan.specs.Faults.{Fault, fault_of, IsMemoryFault, Answers}
-use Rattle.yaml_parse.specs.Coming.{Coming}
+use Rattle.yaml_parse.specs.Remaining.{ParserRemaining}
 use Rattle.yaml_parse.specs.Resolve.{Told}
 use Rattle.yaml_parse.specs.Events.{Event}
 use Rattle.yaml_emit.specs.Emitter.{Emitter}
@@ -24,20 +24,20 @@ use Rattle.yaml_round.specs.Answers.{IsFaulty, IsRight, IsJudged, IsLaidOut, IsT
 
 -- ---- one input
 
-pub fault_met : (from : yaml_encoding_t) (input : List ℕ) (r : Coming) (f : yaml_fault_t) → Reads from input r → IsFaultOf r.ending f → IsMemoryFault f ⊎ IsFaulty from input (fault_of f)
+pub fault_met : (from : yaml_encoding_t) (input : List ℕ) (r : ParserRemaining) (f : yaml_fault_t) → Reads from input r → IsFaultOf r.ending f → IsMemoryFault f ⊎ IsFaulty from input (fault_of f)
 fault_met from input r f h e = elim e [ inl m ↦ inl m | inr k ↦ inr (sym h.ending ∙ k) ]
 
-pub judged : (from : yaml_encoding_t) (input : List ℕ) (r : Coming) (result : Result (Unit {0}) yaml_fault_t) → Reads from input r → EndsWith r.ending result
+pub judged : (from : yaml_encoding_t) (input : List ℕ) (r : ParserRemaining) (result : Result (Unit {0}) yaml_fault_t) → Reads from input r → EndsWith r.ending result
     → Answers (λ (done : Unit {0}). done) (IsJudged from input) result
 judged from input r (Ok done) h e = sym h.ending ∙ e
 judged from input r (Err f) h e = fault_met from input r f h e
 
-pub listed : (from : yaml_encoding_t) (input : List ℕ) (r : Coming) (lines : List ℕ) (old : List ℕ) → Reads from input r → old ≡ [] → r.ending ≡ None → lines ≡ old ++ event_lines r.events
+pub listed : (from : yaml_encoding_t) (input : List ℕ) (r : ParserRemaining) (lines : List ℕ) (old : List ℕ) → Reads from input r → old ≡ [] → r.ending ≡ None → lines ≡ old ++ event_lines r.events
     → IsTold from input lines
 listed from input r lines old h none e l = (sym h.ending ∙ e, l ∙ ap (λ (z : List ℕ). z ++ event_lines r.events) none ∙ ap event_lines h.events)
 
 -- a line more
-pub told_on : (all lines new : List ℕ) (before after : Coming) (v : Event) → lines ++ event_lines before.events ≡ all → GivesFront v before after → new ≡ lines ++ event_line v.body
+pub told_on : (all lines new : List ℕ) (before after : ParserRemaining) (v : Event) → lines ++ event_lines before.events ≡ all → GivesFront v before after → new ≡ lines ++ event_line v.body
     → new ++ event_lines after.events ≡ all
 told_on all lines new before after v h f n =
     ap (λ (z : List ℕ). z ++ event_lines after.events) n
@@ -48,7 +48,7 @@ told_on all lines new before after v h f n =
 -- ---- writing
 
 -- The rest was written behind a front.
-pub then_rest : (ends : Bool) (r r' : Coming) (e e' e'' : Emitter) (result : Result (Unit {0}) yaml_fault_t)
+pub then_rest : (ends : Bool) (r r' : ParserRemaining) (e e' e'' : Emitter) (result : Result (Unit {0}) yaml_fault_t)
     → r'.ending ≡ r.ending → Leads ends e r.events e' r'.events → WritesAll ends r' e' result e'' → WritesAll ends r e result e''
 then_rest ends r r' e e' e'' (Ok done) h l w = (
   sym h ∙ w.0,
@@ -63,7 +63,7 @@ then_rest ends r r' e e' e'' (Err f) h l w = elim w [ inl m ↦ inl m | inr k �
 pub met_again : (from : yaml_encoding_t) (input : List ℕ) (ending : Option Fault) (f : yaml_fault_t) → ending ≡ ending_of from input → IsMemoryFault f ⊎ IsFaulty from input (fault_of f) → IsFaultOf ending f
 met_again from input ending f e h = elim h [ inl m ↦ inl m | inr k ↦ inr (e ∙ k) ]
 
-pub not_written : (from : yaml_encoding_t) (input : List ℕ) (settings : yaml_settings_t) (canonical : Bool) (r : Coming) (f : yaml_fault_t) → Reads from input r → IsFaultOf r.ending f
+pub not_written : (from : yaml_encoding_t) (input : List ℕ) (settings : yaml_settings_t) (canonical : Bool) (r : ParserRemaining) (f : yaml_fault_t) → Reads from input r → IsFaultOf r.ending f
     → IsMemoryFault f ⊎ (IsFaulty from input (fault_of f) ⊎ IsTooLong from input settings canonical (fault_of f))
 not_written from input settings canonical r f h e = elim (fault_met from input r f h e) [ inl m ↦ inl m | inr q ↦ inr (inl q) ]
 
@@ -114,7 +114,7 @@ memory_alone f h = elim h [ inl m ↦ inl m | inr k ↦ absurd k ]
 
 -- ---- two inputs
 
-pub read_back : (from : yaml_encoding_t) (input text : List ℕ) (p q : Coming) (result : Result Bool yaml_fault_t) → Reads from input p → Reads YAML_ANY_ENCODING text q → IsRight from input
+pub read_back : (from : yaml_encoding_t) (input text : List ℕ) (p q : ParserRemaining) (result : Result Bool yaml_fault_t) → Reads from input p → Reads YAML_ANY_ENCODING text q → IsRight from input
     → ReadsAlike p q result → Answers (λ (same : Bool). same) (IsReadBack from input text) result
 read_back from input text p q (Ok true) h k r e = record {
   right = sym k.ending ∙ e.second_ending;
@@ -123,12 +123,12 @@ read_back from input text p q (Ok true) h k r e = record {
 read_back from input text p q (Ok false) h k r e = λ b. e (h.ending ∙ r) (k.ending ∙ b.right) (ap contents h.events ∙ b.same ∙ ap contents (sym k.events))
 read_back from input text p q (Err f) h k r e = inl e
 
-side_fault : (a_from : yaml_encoding_t) (a : List ℕ) (b_from : yaml_encoding_t) (b : List ℕ) (p q : Coming) (side : yaml_side_t) (f : yaml_fault_t) → Reads a_from a p → Reads b_from b q
+side_fault : (a_from : yaml_encoding_t) (a : List ℕ) (b_from : yaml_encoding_t) (b : List ℕ) (p q : ParserRemaining) (side : yaml_side_t) (f : yaml_fault_t) → Reads a_from a p → Reads b_from b q
     → IsSideFault p q side f → IsMemoryFault f ⊎ IsSideFaulty a_from a b_from b side (fault_of f)
 side_fault a_from a b_from b p q First f h k e = fault_met a_from a p f h e
 side_fault a_from a b_from b p q Second f h k e = elim e [ inl m ↦ inl m | inr z ↦ inr (sym h.ending ∙ z.0, sym k.ending ∙ z.1) ]
 
-pub same_told : (a_from : yaml_encoding_t) (a : List ℕ) (b_from : yaml_encoding_t) (b : List ℕ) (p q : Coming) (result : Result Bool (yaml_side_t × yaml_fault_t)) → Reads a_from a p → Reads b_from b q
+pub same_told : (a_from : yaml_encoding_t) (a : List ℕ) (b_from : yaml_encoding_t) (b : List ℕ) (p q : ParserRemaining) (result : Result Bool (yaml_side_t × yaml_fault_t)) → Reads a_from a p → Reads b_from b q
     → Compares p q result → IsSame a_from a b_from b result
 same_told a_from a b_from b p q (Ok same) h k e = record {
   first = sym h.ending ∙ e.first_ending;

@@ -4,39 +4,39 @@ use Rattle.std.specs.Global.{Global}
 use Rattle.yaml_scan.specs.declared.yaml_encoding_t.{yaml_encoding_t}
 use Rattle.yaml_scan.specs.declared.yaml_fault_t.{yaml_fault_t}
 use Rattle.yaml_scan.specs.Faults.{Fault, fault_of, IsMemoryFault, Answers}
-use Rattle.yaml_parse.specs.Coming.{Coming}
+use Rattle.yaml_parse.specs.Remaining.{ParserRemaining}
 use Rattle.yaml_parse.specs.Resolve.{Told}
 use Rattle.yaml_emit.specs.Content.{Event}
 use Rattle.yaml_emit.specs.Emitter.{Emitter, Completes, CompletesBy, IsStream, IsLimited, IsWhole, Passes}
 use Rattle.yaml_emit.specs.Within.{IsWithin}
 use Rattle.yaml_emit.specs.Text.{Item, encode, is_deep}
 use Rattle.yaml_emit.specs.emit_text.declared.Encoding.{Encoding}
-use Rattle.yaml_emit.specs.emit_text.declared.Wishes.{Wishes}
+use Rattle.yaml_emit.specs.emit_text.declared.RequestedSettings.{RequestedSettings}
 use Rattle.yaml_round.specs.declared.settings.yaml_settings_t.{yaml_settings_t}
-use Rattle.yaml_round.specs.Reading.{said_all}
-use Rattle.yaml_round.specs.Writing.{IsUnder, Leads, Finishes, wishes_under, IsText, IsEachLayout, IsPastEach}
+use Rattle.yaml_round.specs.Reading.{emitter_events}
+use Rattle.yaml_round.specs.Writing.{IsUnder, Leads, Finishes, requested_under, IsText, IsEachLayout, IsPastEach}
 use Rattle.yaml_round.specs.Input.{Reads, events_of}
 use Rattle.yaml_round.specs.Answers.{IsLayout, IsPast, IsRight, IsWritten, bytes_of}
-use Rattle.yaml_round_laws.specs.emit_laws.Laws.{HasText}
+use Rattle.yaml_round_laws_streams.specs.emit_laws_streams.Laws.{HasText}
 use Rattle.yaml_round.proofs.Streams.{input_text}
 
 -- a fresh emitter completes the streams of its settings
-starts_at : (b : Bool) (e : Emitter) (w : Wishes) (x : Encoding) (es : List Event) (whole : List Item) → b ≡ true → e.wishes ≡ w → IsStream w x es whole → CompletesBy b e x es whole
-starts_at b e w x es whole h k s = subst (λ (c : Bool). CompletesBy c e x es whole) (sym h) (subst (λ (v : Wishes). IsStream v x es whole) (sym k) s)
+starts_at : (b : Bool) (e : Emitter) (w : RequestedSettings) (x : Encoding) (es : List Event) (whole : List Item) → b ≡ true → e.requested_settings ≡ w → IsStream w x es whole → CompletesBy b e x es whole
+starts_at b e w x es whole h k s = subst (λ (c : Bool). CompletesBy c e x es whole) (sym h) (subst (λ (v : RequestedSettings). IsStream v x es whole) (sym k) s)
 
-pub starts : (e : Emitter) (w : Wishes) (limit : ℕ) (x : Encoding) (es : List Event) (whole : List Item) → IsUnder e w limit → IsStream w x es whole → Completes e x es whole
+pub starts : (e : Emitter) (w : RequestedSettings) (limit : ℕ) (x : Encoding) (es : List Event) (whole : List Item) → IsUnder e w limit → IsStream w x es whole → Completes e x es whole
 unfolding Completes
-starts e w limit x es whole h s = starts_at e.fresh e w x es whole h.fresh h.wishes s
+starts e w limit x es whole h s = starts_at e.fresh e w x es whole h.fresh h.requested_settings s
 
 -- The emitter was fresh, and what was given to it led to what it is now: it completes the streams of these events.
-abbrev pub Led : Wishes → ℕ → List Event → Emitter → List Event → Type 0
+abbrev pub Led : RequestedSettings → ℕ → List Event → Emitter → List Event → Type 0
 Led w limit es e left = (e.limit ≡ limit) × ((x : Encoding) (whole : List Item) → IsStream w x es whole → Completes e x left whole)
 
-pub layout : (w : Wishes) (limit : ℕ) (es : List Event) (e : Emitter) (text : List ℕ) → Led w limit es e [] → ((x : Encoding) (whole : List Item) → Completes e x [] whole → IsText e.limit x whole text) → IsEachLayout w limit es text
+pub layout : (w : RequestedSettings) (limit : ℕ) (es : List Event) (e : Emitter) (text : List ℕ) → Led w limit es e [] → ((x : Encoding) (whole : List Item) → Completes e x [] whole → IsText e.limit x whole text) → IsEachLayout w limit es text
 layout w limit es e text l f = λ x whole s. subst (λ (n : ℕ). IsText n x whole text) l.0 (f x whole (l.1 x whole s))
 
 -- a fault is want of memory, or a limit that the layout passes
-pub past : (w : Wishes) (limit : ℕ) (es : List Event) (e : Emitter) (left : List Event) (f : yaml_fault_t) → Led w limit es e left → IsLimited e (fault_of f) → IsMemoryFault f ⊎ IsPastEach w limit es (fault_of f)
+pub past : (w : RequestedSettings) (limit : ℕ) (es : List Event) (e : Emitter) (left : List Event) (f : yaml_fault_t) → Led w limit es e left → IsLimited e (fault_of f) → IsMemoryFault f ⊎ IsPastEach w limit es (fault_of f)
 past w limit es e left f l h = elim h [
   | inl m ↦ inl m
   | inr p ↦ inr (λ x whole s. subst (λ (n : ℕ). Passes n (encode x whole) (is_deep whole) (fault_of f)) l.0 (p x left whole (l.1 x whole s)))
@@ -47,38 +47,38 @@ pub whole_text : (e : Emitter) (text : Vec ℕ Global) → e.fault ≡ None → 
 whole_text e text none w k = (none, λ x whole c. record { is = w none x whole c; fits = k none x whole c })
 
 -- all events of a reading
-pub led : (from : yaml_encoding_t) (input : List ℕ) (settings : yaml_settings_t) (canonical : Bool) (r : Coming) (old new : Emitter)
-    → Reads from input r → IsUnder old (wishes_under settings canonical) settings.limit → Leads canonical old r.events new []
-    → Led (wishes_under settings canonical) settings.limit (said_all canonical (events_of from input)) new []
+pub led : (from : yaml_encoding_t) (input : List ℕ) (settings : yaml_settings_t) (canonical : Bool) (r : ParserRemaining) (old new : Emitter)
+    → Reads from input r → IsUnder old (requested_under settings canonical) settings.limit → Leads canonical old r.events new []
+    → Led (requested_under settings canonical) settings.limit (emitter_events canonical (events_of from input)) new []
 led from input settings canonical r old new h u l = (
   l.limit ∙ u.limit,
   λ x whole s. l.completes x whole
-      (starts old (wishes_under settings canonical) settings.limit x (said_all canonical r.events) whole u
-      (subst (λ (es : List Told). IsStream (wishes_under settings canonical) x (said_all canonical es) whole) (sym h.events) s)),
+      (starts old (requested_under settings canonical) settings.limit x (emitter_events canonical r.events) whole u
+      (subst (λ (es : List Told). IsStream (requested_under settings canonical) x (emitter_events canonical es) whole) (sym h.events) s)),
 )
 
 -- ---- the one layout
 
-pub one_layout : (w : Wishes) (limit : ℕ) (es : List Event) (text : List ℕ) → HasText w es → IsEachLayout w limit es text → IsLayout w limit es text
+pub one_layout : (w : RequestedSettings) (limit : ℕ) (es : List Event) (text : List ℕ) → HasText w es → IsEachLayout w limit es text → IsLayout w limit es text
 one_layout w limit es text h l =
     let t : IsText limit h.encoding h.whole text = l h.encoding h.whole h.is in
     record { encoding = h.encoding; whole = h.whole; stream = h.is; is = t.is; fits = t.fits }
 
-pub one_past : (w : Wishes) (limit : ℕ) (es : List Event) (f : Fault) → HasText w es → IsPastEach w limit es f → IsPast w limit es f
+pub one_past : (w : RequestedSettings) (limit : ℕ) (es : List Event) (f : Fault) → HasText w es → IsPastEach w limit es f → IsPast w limit es f
 one_past w limit es f h p = record { encoding = h.encoding; whole = h.whole; stream = h.is; passes = p h.encoding h.whole h.is }
 
-pub wrote : (from : yaml_encoding_t) (input : List ℕ) (settings : yaml_settings_t) (canonical : Bool) (r : Coming) (old new : Emitter) (result : Result (Vec ℕ Global) yaml_fault_t)
-    → Reads from input r → IsUnder old (wishes_under settings canonical) settings.limit → (r.ending ≡ None) × Leads canonical old r.events new [] → Finishes new result
+pub wrote : (from : yaml_encoding_t) (input : List ℕ) (settings : yaml_settings_t) (canonical : Bool) (r : ParserRemaining) (old new : Emitter) (result : Result (Vec ℕ Global) yaml_fault_t)
+    → Reads from input r → IsUnder old (requested_under settings canonical) settings.limit → (r.ending ≡ None) × Leads canonical old r.events new [] → Finishes new result
     → Answers bytes_of (IsWritten from input settings canonical) result
 wrote from input settings canonical r old new (Ok text) h u l f =
     let right : IsRight from input = sym h.ending ∙ l.0 in
-    let w : Wishes = wishes_under settings canonical in
-    let es : List Event = said_all canonical (events_of from input) in
+    let w : RequestedSettings = requested_under settings canonical in
+    let es : List Event = emitter_events canonical (events_of from input) in
     (right, one_layout w settings.limit es text.items (input_text from input w right) (layout w settings.limit es new text.items (led from input settings canonical r old new h u l.1) f.1))
 wrote from input settings canonical r old new (Err f) h u l e =
     let right : IsRight from input = sym h.ending ∙ l.0 in
-    let w : Wishes = wishes_under settings canonical in
-    let es : List Event = said_all canonical (events_of from input) in
+    let w : RequestedSettings = requested_under settings canonical in
+    let es : List Event = emitter_events canonical (events_of from input) in
     elim (past w settings.limit es new [] f (led from input settings canonical r old new h u l.1) e) [
       | inl m ↦ inl m
       | inr p ↦ inr (inr (right, one_past w settings.limit es (fault_of f) (input_text from input w right) p))

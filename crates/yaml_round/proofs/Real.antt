@@ -12,28 +12,28 @@ use Rattle.yaml_parse.specs.parse_grammar.declared.name.Wants.{Wants}
 use Rattle.yaml_parse.specs.parse_grammar.declared.name.Wants.TheVariants.{Flow, Block}
 use Rattle.yaml_parse.specs.parse_grammar.declared.name.Brackets.{Brackets}
 use Rattle.yaml_parse.specs.parse_grammar.declared.name.Brackets.TheVariants as brackets
-use Rattle.yaml_parse.specs.parse_grammar.declared.name.Place.TheVariants.{Root}
+use Rattle.yaml_parse.specs.parse_grammar.declared.name.Site.TheVariants.{Root}
 use Rattle.yaml_parse.specs.parse_grammar.declared.name.Choice.{Choice}
 use Rattle.yaml_parse.specs.parse_grammar.declared.name.Choice.TheVariants.{Refuse, Take, Leave, Open}
-use Rattle.yaml_parse.specs.parse_grammar.Items.{Item, ItemBody, Properties, Shape, item_at}
+use Rattle.yaml_parse.specs.parse_grammar.Items.{RawEvent, RawEventBody, Properties, Shape, item_at}
 use Rattle.yaml_parse.specs.parse_grammar.Items as item
 use Rattle.yaml_parse.specs.parse_grammar.States.{State}
 use Rattle.yaml_parse.specs.parse_grammar.States as state
 use Rattle.yaml_parse.specs.Trees.{Given}
-use Rattle.yaml_parse.specs.Machine.{choice_at, taken_at, documents_taken, content_taken, node_taken, dressed_taken, items_taken, more_taken, stream_taken, entries_taken, pairs_taken, left_at, Fed, stop, go, with_item, given_by, turn, feed, Outcome, finished, carry, run}
+use Rattle.yaml_parse.specs.Machine.{choice_at, taken_at, documents_taken, content_taken, node_taken, with_properties_taken, items_taken, more_taken, stream_taken, entries_taken, pairs_taken, left_at, Fed, stop, go, with_item, given_by, turn, feed, Outcome, finished, carry, run}
 use Rattle.yaml_parse.specs.Resolve.{Directives, Settled, refused, gave, noted, settle, settle_body, reading, read_on, with_resolved, with_version, with_tag, is_known_version, resolved, directive_for, scalar_event, node_event}
 use Rattle.yaml_round.specs.Reading.{AreReal, is_empty}
 
 -- the item is no empty event
-abbrev Speaks : ItemBody → Type 0
+abbrev Speaks : RawEventBody → Type 0
 Speaks (item.event e) = is_empty e ≡ false
 Speaks _ = Unit {0}
 
-abbrev OneSpeaks : Option Item → Type 0
+abbrev OneSpeaks : Option RawEvent → Type 0
 OneSpeaks None = Unit {0}
 OneSpeaks (Some i) = Speaks i.body
 
-abbrev AllSpeak : List Item → Type 0
+abbrev AllSpeak : List RawEvent → Type 0
 AllSpeak [] = Unit {0}
 AllSpeak (i ∷ is) = Speaks i.body × AllSpeak is
 
@@ -77,10 +77,10 @@ node_real w start end (token.anchor n) = tt
 node_real w start end (token.tag h s) = tt
 node_real w start end b = content_real w None start end b
 
-dressed_real : (w : Wants) (p : Properties) (start end : yaml_mark_t) (b : TokenBody) → OneSpeaks (dressed_taken w p start end b).item
-dressed_real w p start end (token.anchor n) = tt
-dressed_real w p start end (token.tag h s) = tt
-dressed_real w p start end b = content_real w (Some p) start end b
+with_properties_real : (w : Wants) (p : Properties) (start end : yaml_mark_t) (b : TokenBody) → OneSpeaks (with_properties_taken w p start end b).item
+with_properties_real w p start end (token.anchor n) = tt
+with_properties_real w p start end (token.tag h s) = tt
+with_properties_real w p start end b = content_real w (Some p) start end b
 
 items_real : (b : Brackets) (o start end : yaml_mark_t) (x : TokenBody) → OneSpeaks (items_taken b o start end x).item
 items_real brackets.Sequence o start end token.key = tt
@@ -115,7 +115,7 @@ taken_real (state.entries o) t = entries_real o t.start_mark t.end_mark t.body
 taken_real (state.others side) t = tt
 taken_real (state.pairs o) t = pairs_real o t.start_mark t.end_mark t.body
 taken_real (state.colon place) t = tt
-taken_real (state.dressed w p) t = dressed_real w p t.start_mark t.end_mark t.body
+taken_real (state.with_properties w p) t = with_properties_real w p t.start_mark t.end_mark t.body
 taken_real (state.items b o) t = items_real b o t.start_mark t.end_mark t.body
 taken_real (state.more b o) t = more_real b o t.start_mark t.end_mark t.body
 taken_real state.pair_end t = tt
@@ -125,7 +125,7 @@ left_real : (x : State) (start : yaml_mark_t) → Speaks (left_at x start).body
 left_real (state.optional place before) start = tt
 left_real state.document_end start = refl
 left_real (state.others side) start = refl
-left_real (state.dressed w p) start = tt
+left_real (state.with_properties w p) start = tt
 left_real state.pair_end start = refl
 left_real _ start = tt
 
@@ -135,11 +135,11 @@ abbrev FedSpeaks : Fed → Type 0
 FedSpeaks (stop is f) = AllSpeak is
 FedSpeaks (go is s) = AllSpeak is
 
-given_real : (i : Option Item) (above s : List State) → OneSpeaks i → FedSpeaks (given_by (record { item = i; above = above }) s)
+given_real : (i : Option RawEvent) (above s : List State) → OneSpeaks i → FedSpeaks (given_by (record { item = i; above = above }) s)
 given_real None above s h = tt
 given_real (Some i) above s h = (h, tt)
 
-with_real : (i : Item) (below : Fed) → Speaks i.body → FedSpeaks below → FedSpeaks (with_item i below)
+with_real : (i : RawEvent) (below : Fed) → Speaks i.body → FedSpeaks below → FedSpeaks (with_item i below)
 with_real i (stop is f) h k = (h, k)
 with_real i (go is s) h k = (h, k)
 
@@ -157,11 +157,11 @@ unfolding feed
 feed_real [] t = tt
 feed_real (x ∷ s) t = turn_real (choice_at x (type_of t.body)) x t s (feed s t) (feed_real s t)
 
-told_real : (left : ℕ) (is : List Item) (more : List Given) → AllSpeak is → GivenSpeak more → GivenSpeak (map (λ (i : Item). (i, left)) is ++ more)
+told_real : (left : ℕ) (is : List RawEvent) (more : List Given) → AllSpeak is → GivenSpeak more → GivenSpeak (map (λ (i : RawEvent). (i, left)) is ++ more)
 told_real left [] more h k = k
 told_real left (i ∷ is) more h k = (h.0, told_real left is more h.1 k)
 
-alone_real : (left : ℕ) (is : List Item) → AllSpeak is → GivenSpeak (map (λ (i : Item). (i, left)) is)
+alone_real : (left : ℕ) (is : List RawEvent) → AllSpeak is → GivenSpeak (map (λ (i : RawEvent). (i, left)) is)
 alone_real left [] h = tt
 alone_real left (i ∷ is) h = (h.0, alone_real left is h.1)
 
@@ -206,7 +206,7 @@ resolved_real : (o : Option (List ℕ)) (anchor : Option (List ℕ)) (shape : Sh
 resolved_real None anchor shape from at ds = tt
 resolved_real (Some tag) anchor shape from at ds = node_event_real anchor (Some tag) shape
 
-settled_real : (b : ItemBody) (from : yaml_mark_t) (ds : Directives) → Speaks b → SettledSpeaks (settle_body b from ds)
+settled_real : (b : RawEventBody) (from : yaml_mark_t) (ds : Directives) → Speaks b → SettledSpeaks (settle_body b from ds)
 settled_real (item.event e) from ds h = h
 settled_real (item.version_directive x y) from ds h = with_version_real ds.version x y
   where

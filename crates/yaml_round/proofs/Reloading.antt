@@ -9,17 +9,17 @@ use Rattle.yaml_scan.specs.Faults.{Fault, fault_of, IsMemoryFault, Answers}
 use Rattle.yaml_parse.specs.Nodes.{Node}
 use Rattle.yaml_parse.specs.Documents.{Document}
 use Rattle.yaml_parse.specs.Resolve.{Told}
-use Rattle.yaml_parse.specs.Coming.{Coming}
+use Rattle.yaml_parse.specs.Remaining.{ParserRemaining}
 use Rattle.yaml_parse.specs.Loading.{Loading, Fed, goes_on, loaded, refused, nothing_loaded, step}
 use Rattle.yaml_parse.specs.Loads as parse
 use Rattle.yaml_emit.specs.Content.{Event, alias_node, scalar_node, sequence_node, mapping_node, Nodes, no_nodes, node, Pairs, no_pairs, pair, document_start, document_end, sequence_end, mapping_end, stream_start, stream_end, node_events, items_events, pairs_events, documents_events}
 use Rattle.yaml_emit.specs.Content as content
 use Rattle.yaml_emit.specs.emit_graph.Graph.{graph_content, dumped}
-use Rattle.yaml_emit.specs.Emitter.{Emitter, Given, Gives, dump_events, said_by, opening_events}
-use Rattle.yaml_emit.specs.emit_text.declared.Wishes.{Wishes}
+use Rattle.yaml_emit.specs.Emitter.{Emitter, Given, GivesSome, dump_events, document_events_by, opening_events}
+use Rattle.yaml_emit.specs.emit_text.declared.RequestedSettings.{RequestedSettings}
 use Rattle.yaml_round.specs.declared.settings.yaml_settings_t.{yaml_settings_t}
 use Rattle.yaml_round.specs.Input.{Reads}
-use Rattle.yaml_round.specs.Writing.{IsUnder, Finishes, wishes_under}
+use Rattle.yaml_round.specs.Writing.{IsUnder, Finishes, requested_under}
 use Rattle.yaml_round.specs.Answers.{bytes_of}
 use Rattle.yaml_round.specs.Reload.{Loads, no_more, with_implicit_end, in_front, load_on, load_all, loads_of, to_load, HasRoot, LoadsDocument, IsLoaded, AreLoaded, written_events, Feeds, Stands, Dumps, DumpsStream, IsEachDump, IsDumped, IsReloaded}
 use Rattle.yaml_round.proofs.Laying.{Led, starts, layout, past, one_layout, one_past}
@@ -88,10 +88,10 @@ in_front_none : (ns : List Node) (d : Document) (rest : Loads) → length ns ≡
 in_front_none [] d rest h = refl
 in_front_none (n ∷ ns) d rest h = absurd (omega (arith, h))
 
-to_load_left : (old new : Coming) (left : List Told) → new.events ≡ left → new.ending ≡ old.ending → load_all left old.ending nothing_loaded ≡ to_load new
+to_load_left : (old new : ParserRemaining) (left : List Told) → new.events ≡ left → new.ending ≡ old.ending → load_all left old.ending nothing_loaded ≡ to_load new
 to_load_left old new left e f = rw (e, f) refl
 
-loaded_some : (r : parse.Loads) (old new : Coming) (d : Document) → parse.loads_of old ≡ r → parse.LoadGives r d old new → 0 < length d.nodes → LoadsDocument (with_implicit_end d) old new
+loaded_some : (r : parse.Loads) (old new : ParserRemaining) (d : Document) → parse.loads_of old ≡ r → parse.LoadGives r d old new → 0 < length d.nodes → LoadsDocument (with_implicit_end d) old new
 loaded_some (parse.document e left n) old new d is g h =
     let k : parse.loads_of old ≡ parse.document d left n = is ∙ ap (λ (z : Document). parse.document z left n) (sym g.0) in
     let t = document_next old.events old.ending nothing_loaded d left n k in
@@ -103,10 +103,10 @@ loaded_some (parse.document e left n) old new d is g h =
 loaded_some parse.nothing old new d is g h = absurd (let k = ap (λ (z : Document). length z.nodes) g.0 in omega (arith, h, k))
 loaded_some (parse.faulty f) old new d is g h = absurd g
 
-pub loaded_document : (old new : Coming) (d e : Document) (count : ℕ) → parse.LoadGives (parse.loads_of old) d old new → count ≡ length d.nodes → count ≢ 0 → e ≡ with_implicit_end d → LoadsDocument e old new
+pub loaded_document : (old new : ParserRemaining) (d e : Document) (count : ℕ) → parse.LoadGives (parse.loads_of old) d old new → count ≡ length d.nodes → count ≢ 0 → e ≡ with_implicit_end d → LoadsDocument e old new
 loaded_document old new d e count g c h w = rw w (loaded_some (parse.loads_of old) old new d refl g (omega (arith, c, h)))
 
-loaded_none : (r : parse.Loads) (old new : Coming) (d : Document) → parse.loads_of old ≡ r → parse.LoadGives r d old new → length d.nodes ≡ 0 → to_load old ≡ no_more None
+loaded_none : (r : parse.Loads) (old new : ParserRemaining) (d : Document) → parse.loads_of old ≡ r → parse.LoadGives r d old new → length d.nodes ≡ 0 → to_load old ≡ no_more None
 loaded_none (parse.document e left n) old new d is g h =
     let k : parse.loads_of old ≡ parse.document d left n = is ∙ ap (λ (z : Document). parse.document z left n) (sym g.0) in
     let t = document_next old.events old.ending nothing_loaded d left n k in
@@ -114,10 +114,10 @@ loaded_none (parse.document e left n) old new d is g h =
 loaded_none parse.nothing old new d is g h = nothing_next old.events old.ending nothing_loaded is
 loaded_none (parse.faulty f) old new d is g h = absurd g
 
-pub loaded_last : (old new : Coming) (d : Document) (count : ℕ) → parse.LoadGives (parse.loads_of old) d old new → count ≡ length d.nodes → count ≡ 0 → to_load old ≡ no_more None
+pub loaded_last : (old new : ParserRemaining) (d : Document) (count : ℕ) → parse.LoadGives (parse.loads_of old) d old new → count ≡ length d.nodes → count ≡ 0 → to_load old ≡ no_more None
 loaded_last old new d count g c h = loaded_none (parse.loads_of old) old new d refl g (sym c ∙ h)
 
-pub load_refused : (old new : Coming) (f : yaml_fault_t) → parse.LoadRefuses (fault_of f) old new → IsMemoryFault f ⊎ (to_load old ≡ no_more (Some (fault_of f)))
+pub load_refused : (old new : ParserRemaining) (f : yaml_fault_t) → parse.LoadRefuses (fault_of f) old new → IsMemoryFault f ⊎ (to_load old ≡ no_more (Some (fault_of f)))
 load_refused old new f r = elim r.reason [ inl m ↦ inl m | inr k ↦ inr (faulty_next old.events old.ending nothing_loaded (fault_of f) k) ]
 
 -- ---- all documents
@@ -139,28 +139,28 @@ rooted (g ∷ gs) f l = rooted_on (step g.0 l) (load_all gs f) (λ m. rooted gs 
 pub all_rooted : (from : yaml_encoding_t) (input : List ℕ) (ds : List Document) → AreLoaded from input ds → All HasRoot ds
 all_rooted from input ds a = subst (All HasRoot) (sym a.same) (rooted _ _ nothing_loaded)
 
-pub reads_to_load : (from : yaml_encoding_t) (input : List ℕ) (r : Coming) → Reads from input r → to_load r ≡ loads_of from input
+pub reads_to_load : (from : yaml_encoding_t) (input : List ℕ) (r : ParserRemaining) → Reads from input r → to_load r ≡ loads_of from input
 reads_to_load from input r h = rw (h.events, h.ending) refl
 
 -- a document more
-pub documents_on : (all items new : List Document) (d : Document) (r r' : Coming) → items ++ (to_load r).documents ≡ all → LoadsDocument d r r' → new ≡ items ++ d ∷ [] → new ++ (to_load r').documents ≡ all
+pub documents_on : (all items new : List Document) (d : Document) (r r' : ParserRemaining) → items ++ (to_load r).documents ≡ all → LoadsDocument d r r' → new ≡ items ++ d ∷ [] → new ++ (to_load r').documents ≡ all
 documents_on all items new d r r' h l n =
     ap (λ (z : List Document). z ++ (to_load r').documents) n
     ∙ append_assoc items (d ∷ []) (to_load r').documents
     ∙ ap (λ (z : Loads). items ++ z.documents) (sym l.same)
     ∙ h
 
-pub fault_on : (fault : Option Fault) (d : Document) (r r' : Coming) → (to_load r).fault ≡ fault → LoadsDocument d r r' → (to_load r').fault ≡ fault
+pub fault_on : (fault : Option Fault) (d : Document) (r r' : ParserRemaining) → (to_load r).fault ≡ fault → LoadsDocument d r r' → (to_load r').fault ≡ fault
 fault_on fault d r r' h l = ap (λ (z : Loads). z.fault) (sym l.same) ∙ h
 
-pub documents_read : (from : yaml_encoding_t) (input : List ℕ) (items : List Document) (r : Coming) → items ++ (to_load r).documents ≡ (loads_of from input).documents → (to_load r).fault ≡ (loads_of from input).fault
+pub documents_read : (from : yaml_encoding_t) (input : List ℕ) (items : List Document) (r : ParserRemaining) → items ++ (to_load r).documents ≡ (loads_of from input).documents → (to_load r).fault ≡ (loads_of from input).fault
     → to_load r ≡ no_more None → AreLoaded from input items
 documents_read from input items r h f e = record {
   same = sym (append-nil items) ∙ ap (λ (z : Loads). items ++ z.documents) (sym e) ∙ h;
   right = sym f ∙ ap (λ (z : Loads). z.fault) e;
 }
 
-pub documents_refused : (from : yaml_encoding_t) (input : List ℕ) (r : Coming) (f : yaml_fault_t) → (to_load r).fault ≡ (loads_of from input).fault → IsMemoryFault f ⊎ (to_load r ≡ no_more (Some (fault_of f)))
+pub documents_refused : (from : yaml_encoding_t) (input : List ℕ) (r : ParserRemaining) (f : yaml_fault_t) → (to_load r).fault ≡ (loads_of from input).fault → IsMemoryFault f ⊎ (to_load r ≡ no_more (Some (fault_of f)))
     → IsMemoryFault f ⊎ IsLoaded from input (Err (fault_of f))
 documents_refused from input r f h e = elim e [ inl m ↦ inl m | inr k ↦ inr (sym h ∙ ap (λ (z : Loads). z.fault) k) ]
 
@@ -191,16 +191,16 @@ dumped_more : (d : Document) (ds : List Document) → documents_events (map grap
 unfolding documents_events dumped
 dumped_more d ds = ap (λ (z : List Event). document_start (graph_content d).opening ∷ z) (node_more (graph_content d).root (document_end d.end_implicit ∷ []) (documents_events (map graph_content ds)))
 
-said_root : (ns : List Node) (closed : Bool) (d : Document) → 0 < length ns → said_by closed ns d ≡ dumped d
-said_root [] closed d h = absurd (omega (arith, h))
-said_root (n ∷ ns) closed d h = refl
+document_events_root : (ns : List Node) (closed : Bool) (d : Document) → 0 < length ns → document_events_by closed ns d ≡ dumped d
+document_events_root [] closed d h = absurd (omega (arith, h))
+document_events_root (n ∷ ns) closed d h = refl
 
 opened_already : (b : Bool) → b ≡ true → opening_events b ≡ []
 opened_already true e = refl
 opened_already false e = absurd (cc)
 
 dump_is : (e : Emitter) (d : Document) → e.opened ≡ true → HasRoot d → dump_events e d ≡ dumped d
-dump_is e d o h = ap (λ (z : List Event). z ++ said_by e.closed d.nodes d) (opened_already e.opened o) ∙ said_root d.nodes e.closed d h
+dump_is e d o h = ap (λ (z : List Event). z ++ document_events_by e.closed d.nodes d) (opened_already e.opened o) ∙ document_events_root d.nodes e.closed d h
 
 pub feeds_none : (e : Emitter) (es : List Event) → Feeds e es e es
 feeds_none e es = record { completes = λ x whole h. h; limit = refl }
@@ -211,13 +211,13 @@ feeds_on a b c es fs gs p q = record { completes = λ x whole h. q.completes x w
 pub feeds_given : (old new : Emitter) (e : Event) (es : List Event) → Given old e new → Feeds old (e ∷ es) new es
 feeds_given old new e es g = record { completes = λ x whole h. g.completes x es whole h; limit = g.limit }
 
-feeds_gives : (old new : Emitter) (es more : List Event) → Gives old es new [] → Feeds old (es ++ more) new more
+feeds_gives : (old new : Emitter) (es more : List Event) → GivesSome old es new [] → Feeds old (es ++ more) new more
 feeds_gives old new es more g = record { completes = λ x whole h. g.completes x more whole h; limit = g.limit }
 
-pub feeds_document : (old new : Emitter) (d : Document) (ds : List Document) → old.opened ≡ true → HasRoot d → Gives old (dump_events old d) new []
+pub feeds_document : (old new : Emitter) (d : Document) (ds : List Document) → old.opened ≡ true → HasRoot d → GivesSome old (dump_events old d) new []
     → Feeds old (documents_events (map graph_content (d ∷ ds))) new (documents_events (map graph_content ds))
 feeds_document old new d ds o h g =
-    let k : Gives old (dumped d) new [] = subst (λ (es : List Event). Gives old es new []) (dump_is old d o h) g in
+    let k : GivesSome old (dumped d) new [] = subst (λ (es : List Event). GivesSome old es new []) (dump_is old d o h) g in
     subst (λ (es : List Event). Feeds old es new (documents_events (map graph_content ds))) (sym (dumped_more d ds)) (feeds_gives old new (dumped d) (documents_events (map graph_content ds)) k)
 
 -- the first of the documents was given
@@ -227,7 +227,7 @@ first_rooted left rest d e h = let k : All HasRoot (d ∷ rest) = subst (All Has
 pub others_rooted : (left rest : List Document) (d : Document) → left ≡ d ∷ rest → All HasRoot left → All HasRoot rest
 others_rooted left rest d e h = let k : All HasRoot (d ∷ rest) = subst (All HasRoot) e h in All-tail HasRoot d rest k
 
-pub feeds_next : (old mid new : Emitter) (all left rest : List Document) (d : Document) → left ≡ d ∷ rest → mid.opened ≡ true → All HasRoot left → Gives mid (dump_events mid d) new []
+pub feeds_next : (old mid new : Emitter) (all left rest : List Document) (d : Document) → left ≡ d ∷ rest → mid.opened ≡ true → All HasRoot left → GivesSome mid (dump_events mid d) new []
     → Feeds old (documents_events (map graph_content all)) mid (documents_events (map graph_content left))
     → Feeds old (documents_events (map graph_content all)) new (documents_events (map graph_content rest))
 feeds_next old mid new all left rest d e o h g f =
@@ -284,25 +284,25 @@ stream_ended old mid last new ds taken e g d c = record {
 
 -- ---- the answer
 
-led : (settings : yaml_settings_t) (ds : List Document) (old new : Emitter) → IsUnder old (wishes_under settings true) settings.limit → (w : DumpsStream old ds new)
-    → Led (wishes_under settings true) settings.limit (written_events ds) new w.left
+led : (settings : yaml_settings_t) (ds : List Document) (old new : Emitter) → IsUnder old (requested_under settings true) settings.limit → (w : DumpsStream old ds new)
+    → Led (requested_under settings true) settings.limit (written_events ds) new w.left
 led settings ds old new u w = (
   w.feeds.limit ∙ u.limit,
-  λ x whole s. w.feeds.completes x whole (starts old (wishes_under settings true) settings.limit x (written_events ds) whole u s),
+  λ x whole s. w.feeds.completes x whole (starts old (requested_under settings true) settings.limit x (written_events ds) whole u s),
 )
 
 pub dumped_text : (settings : yaml_settings_t) (ds : List Document) (old new : Emitter) (result : Result (Vec ℕ Global) yaml_fault_t)
-    → IsUnder old (wishes_under settings true) settings.limit → DumpsStream old ds new → Finishes new result → Answers bytes_of (IsEachDump settings ds) result
+    → IsUnder old (requested_under settings true) settings.limit → DumpsStream old ds new → Finishes new result → Answers bytes_of (IsEachDump settings ds) result
 dumped_text settings ds old new (Ok text) u w f =
-    let W : Wishes = wishes_under settings true in
+    let W : RequestedSettings = requested_under settings true in
     let Q : List Event → Type 0 = λ es. Led W settings.limit (written_events ds) new es in
     layout W settings.limit (written_events ds) new text.items (subst Q (w.all f.0) (led settings ds old new u w)) f.1
-dumped_text settings ds old new (Err f) u w e = past (wishes_under settings true) settings.limit (written_events ds) new w.left f (led settings ds old new u w) e
+dumped_text settings ds old new (Err f) u w e = past (requested_under settings true) settings.limit (written_events ds) new w.left f (led settings ds old new u w) e
 
 -- the documents that an input loads have the one text
 one_dump : (from : yaml_encoding_t) (input : List ℕ) (settings : yaml_settings_t) (result : Result (List ℕ) Fault) → IsEachDump settings (loads_of from input).documents result → IsDumped settings (loads_of from input).documents result
-one_dump from input settings (Ok text) d = one_layout (wishes_under settings true) settings.limit (written_events (loads_of from input).documents) text (loaded_text from input (wishes_under settings true) refl) d
-one_dump from input settings (Err f) d = one_past (wishes_under settings true) settings.limit (written_events (loads_of from input).documents) f (loaded_text from input (wishes_under settings true) refl) d
+one_dump from input settings (Ok text) d = one_layout (requested_under settings true) settings.limit (written_events (loads_of from input).documents) text (loaded_text from input (requested_under settings true) refl) d
+one_dump from input settings (Err f) d = one_past (requested_under settings true) settings.limit (written_events (loads_of from input).documents) f (loaded_text from input (requested_under settings true) refl) d
 
 pub reloaded : (from : yaml_encoding_t) (input : List ℕ) (settings : yaml_settings_t) (ds : List Document) (result : Result (Vec ℕ Global) yaml_fault_t)
     → AreLoaded from input ds → Answers bytes_of (IsEachDump settings ds) result → Answers bytes_of (IsReloaded from settings input) result

@@ -10,15 +10,15 @@ use Rattle.yaml_parse.specs.Documents.{Document}
 use Rattle.yaml_parse.specs.Resolve.{Told}
 use Rattle.yaml_parse.specs.Loading.{Loading, Fed, goes_on, loaded, refused, nothing_loaded, step}
 use Rattle.yaml_emit.specs.emit_graph.Graph.{graph_content}
-use Rattle.yaml_emit.specs.emit_text.declared.Wishes.{Wishes}
-use Rattle.yaml_round_laws.specs.emit_laws.Laws.{RightStream, HasText, RightDocument, AreRight, AreRightTold, RightFed}
-use Rattle.yaml_round_laws.proofs.emit_laws.Passing.{texts}
-use Rattle.yaml_round_laws.proofs.emit_laws.Contents.{dumped_streams}
-use Rattle.yaml_round_laws.proofs.emit_laws.Loading.{empty_right, steps}
-use Rattle.yaml_round_laws.specs.Evened.{IsEvened, IsEvening}
-use Rattle.yaml_round_laws.proofs.Inputs.{inputs_are_streams, inputs_load_right}
-use Rattle.yaml_round.specs.Even.{is_lone_mark, even_scalar, even_body}
-use Rattle.yaml_round.specs.Reading.{said_all}
+use Rattle.yaml_emit.specs.emit_text.declared.RequestedSettings.{RequestedSettings}
+use Rattle.yaml_round_laws_streams.specs.emit_laws_streams.Laws.{RightStream, HasText, RightDocument, AreRight, AreRightTold, RightFed}
+use Rattle.yaml_round_laws_streams.proofs.emit_laws_streams.Passing.{texts}
+use Rattle.yaml_round_laws_streams.proofs.emit_laws_streams.Contents.{dumped_streams}
+use Rattle.yaml_round_laws_streams.proofs.emit_laws_streams.Loading.{empty_right, steps}
+use Rattle.yaml_round_laws_streams.specs.Normalized.{IsNormalized, IsNormalizing}
+use Rattle.yaml_round_laws_streams.proofs.Inputs.{inputs_are_streams, inputs_load_right}
+use Rattle.yaml_round.specs.Normalize.{is_lone_mark, normalize_scalar, normalize_body}
+use Rattle.yaml_round.specs.Reading.{emitter_events}
 use Rattle.yaml_round.specs.Input.{events_of, ending_of, read}
 use Rattle.yaml_round.specs.Answers.{IsRight}
 use Rattle.yaml_round.specs.Reload.{Loads, in_front, load_on, load_all, loads_of, written_events}
@@ -26,14 +26,14 @@ use Rattle.yaml_round.specs.Reload.{Loads, in_front, load_on, load_all, loads_of
 -- ---- events
 
 -- evening changes nothing but a document's end, or a scalar's tag
-scalar_evened : (lone : Bool) (anchor tag : Option (List ℕ)) (value : List ℕ) (plain quoted : Bool) (style : yaml_scalar_style_t)
-    → IsEvened (event.scalar anchor tag value plain quoted style) (even_scalar lone anchor tag value plain quoted style)
-scalar_evened true anchor tag value plain quoted style = inr refl
-scalar_evened false anchor tag value plain quoted style = inl refl
+scalar_normalized : (lone : Bool) (anchor tag : Option (List ℕ)) (value : List ℕ) (plain quoted : Bool) (style : yaml_scalar_style_t)
+    → IsNormalized (event.scalar anchor tag value plain quoted style) (normalize_scalar lone anchor tag value plain quoted style)
+scalar_normalized true anchor tag value plain quoted style = inr refl
+scalar_normalized false anchor tag value plain quoted style = inl refl
 
-evenly : (ends : Bool) → IsEvening (even_body ends)
+evenly : (ends : Bool) → IsNormalizing (normalize_body ends)
 evenly ends (event.document_end implicit) = (implicit || ends, refl)
-evenly ends (event.scalar anchor tag value plain quoted style) = scalar_evened (is_lone_mark tag value) anchor tag value plain quoted style
+evenly ends (event.scalar anchor tag value plain quoted style) = scalar_normalized (is_lone_mark tag value) anchor tag value plain quoted style
 evenly ends event.no = refl
 evenly ends (event.stream_start encoding) = refl
 evenly ends event.stream_end = refl
@@ -44,12 +44,12 @@ evenly ends event.sequence_end = refl
 evenly ends (event.mapping_start anchor tag implicit style) = refl
 evenly ends event.mapping_end = refl
 
-input_stream : (from : yaml_encoding_t) (input : List ℕ) (canonical : Bool) → IsRight from input → RightStream canonical (said_all canonical (events_of from input))
+input_stream : (from : yaml_encoding_t) (input : List ℕ) (canonical : Bool) → IsRight from input → RightStream canonical (emitter_events canonical (events_of from input))
 unfolding read
-input_stream from input canonical r = inputs_are_streams (even_body canonical) (evenly canonical) from input canonical r
+input_stream from input canonical r = inputs_are_streams (normalize_body canonical) (evenly canonical) from input canonical r
 
-pub input_text : (from : yaml_encoding_t) (input : List ℕ) (w : Wishes) → IsRight from input → HasText w (said_all w.canonical (events_of from input))
-input_text from input w r = texts w (said_all w.canonical (events_of from input)) (input_stream from input w.canonical r)
+pub input_text : (from : yaml_encoding_t) (input : List ℕ) (w : RequestedSettings) → IsRight from input → HasText w (emitter_events w.canonical (events_of from input))
+input_text from input w r = texts w (emitter_events w.canonical (events_of from input)) (input_stream from input w.canonical r)
 
 -- ---- documents
 
@@ -81,5 +81,5 @@ loaded_stream from input =
       right = dumped_streams true YAML_ANY_ENCODING ds (all_right (events_of from input) (ending_of from input) nothing_loaded (input_told from input) empty_right);
     }
 
-pub loaded_text : (from : yaml_encoding_t) (input : List ℕ) (w : Wishes) → w.canonical ≡ true → HasText w (written_events (loads_of from input).documents)
+pub loaded_text : (from : yaml_encoding_t) (input : List ℕ) (w : RequestedSettings) → w.canonical ≡ true → HasText w (written_events (loads_of from input).documents)
 loaded_text from input w c = texts w (written_events (loads_of from input).documents) (subst (λ (b : Bool). RightStream b (written_events (loads_of from input).documents)) (sym c) (loaded_stream from input))

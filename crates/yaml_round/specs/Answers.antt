@@ -9,14 +9,14 @@ use Rattle.yaml_emit.specs.Text.{Item, encode, is_deep}
 use Rattle.yaml_emit.specs.Emitter.{IsStream, Passes}
 use Rattle.yaml_emit.specs.Within.{Fits}
 use Rattle.yaml_emit.specs.emit_text.declared.Encoding.{Encoding}
-use Rattle.yaml_emit.specs.emit_text.declared.Wishes.{Wishes}
+use Rattle.yaml_emit.specs.emit_text.declared.RequestedSettings.{RequestedSettings}
 use Rattle.yaml_round.specs.declared.settings.yaml_settings_t.{yaml_settings_t}
 use Rattle.yaml_round.specs.declared.settings.yaml_side_t.{yaml_side_t}
 use Rattle.yaml_round.specs.declared.settings.yaml_side_t.TheVariants.{First, Second}
 use Rattle.yaml_round.specs.declared.settings.yaml_form_t.{yaml_form_t}
 use Rattle.yaml_round.specs.declared.settings.yaml_form_t.TheVariants.{Canonical, Pretty}
-use Rattle.yaml_round.specs.Reading.{said_all, contents, event_lines}
-use Rattle.yaml_round.specs.Writing.{wishes_under}
+use Rattle.yaml_round.specs.Reading.{emitter_events, contents, event_lines}
+use Rattle.yaml_round.specs.Writing.{requested_under}
 use Rattle.yaml_round.specs.Input.{events_of, ending_of}
 
 abbrev pub text_and_form : {A : Type 0} → Vec ℕ A × yaml_form_t → List ℕ × yaml_form_t
@@ -75,27 +75,27 @@ IsSame a_from a b_from b (Err f) = IsMemoryFault f.1 ⊎ IsSideFaulty a_from a b
 -- ---- layouts
 
 -- These events are those of a stream in which nothing is wrong, and the text is its layout, which passes no limit.
-pub record IsLayout (wishes : Wishes) (limit : ℕ) (events : List Event) (text : List ℕ) : Type 0 where
+pub record IsLayout (requested_settings : RequestedSettings) (limit : ℕ) (events : List Event) (text : List ℕ) : Type 0 where
   pub encoding : Encoding
   pub whole : List Item
-  pub stream : IsStream wishes encoding events whole
+  pub stream : IsStream requested_settings encoding events whole
   pub is : text ≡ encode encoding whole
   pub fits : Fits limit encoding whole
 
 -- They are, and its layout passes the limit that the fault names.
-pub record IsPast (wishes : Wishes) (limit : ℕ) (events : List Event) (fault : Fault) : Type 0 where
+pub record IsPast (requested_settings : RequestedSettings) (limit : ℕ) (events : List Event) (fault : Fault) : Type 0 where
   pub encoding : Encoding
   pub whole : List Item
-  pub stream : IsStream wishes encoding events whole
+  pub stream : IsStream requested_settings encoding events whole
   pub passes : Passes limit (encode encoding whole) (is_deep whole) fault
 
--- the layout of the input's events, evened, in canonical form or in pretty form
+-- the layout of the input's events, normalized, in canonical form or in pretty form
 abbrev pub IsLaidOut : yaml_encoding_t → List ℕ → yaml_settings_t → Bool → List ℕ → Type 0
-IsLaidOut from input settings canonical text = IsRight from input × IsLayout (wishes_under settings canonical) settings.limit (said_all canonical (events_of from input)) text
+IsLaidOut from input settings canonical text = IsRight from input × IsLayout (requested_under settings canonical) settings.limit (emitter_events canonical (events_of from input)) text
 
 -- The input is accepted, and that layout passes the limit that the fault names.
 abbrev pub IsTooLong : yaml_encoding_t → List ℕ → yaml_settings_t → Bool → Fault → Type 0
-IsTooLong from input settings canonical fault = IsRight from input × IsPast (wishes_under settings canonical) settings.limit (said_all canonical (events_of from input)) fault
+IsTooLong from input settings canonical fault = IsRight from input × IsPast (requested_under settings canonical) settings.limit (emitter_events canonical (events_of from input)) fault
 
 -- the layout, the input's fault, or a limit
 abbrev pub IsWritten : yaml_encoding_t → List ℕ → yaml_settings_t → Bool → Result (List ℕ) Fault → Type 0

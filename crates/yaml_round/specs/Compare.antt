@@ -3,18 +3,18 @@ use Rattle.std.specs.Prelude.{◌≡◌, ◌⊎◌, ◌↔◌, ◌<◌, Bool, tr
 use Rattle.yaml_scan.specs.declared.yaml_fault_t.{yaml_fault_t}
 use Rattle.yaml_scan.specs.Faults.{IsMemoryFault, fault_of}
 use Rattle.yaml_parse.specs.Events.{EventBody}
-use Rattle.yaml_parse.specs.Coming.{Coming}
+use Rattle.yaml_parse.specs.Remaining.{ParserRemaining}
 use Rattle.yaml_round.specs.declared.settings.yaml_side_t.{yaml_side_t}
 use Rattle.yaml_round.specs.declared.settings.yaml_side_t.TheVariants.{First, Second}
 use Rattle.yaml_round.specs.declared.compare.Next.{Next}
 use Rattle.yaml_round.specs.declared.compare.Next.TheVariants.{Same, End, Different, Refused}
-use Rattle.yaml_round.specs.Even.{even_body}
+use Rattle.yaml_round.specs.Normalize.{normalize_body}
 use Rattle.yaml_round.specs.Content.{content_of}
 use Rattle.yaml_round.specs.Reading.{contents, AreReal, IsFaultOf}
 
--- what an event says, evened
+-- what an event says, normalized
 abbrev pub saying : EventBody → EventBody
-saying e = content_of (even_body true e)
+saying e = content_of (normalize_body true e)
 
 abbrev pub Judges : EventBody → EventBody → Next → Type 0
 Judges e f Same = saying e ≡ saying f
@@ -23,11 +23,11 @@ Judges e f Different = saying e ≡ saying f → ⊥
 Judges e f (Refused side) = ⊥
 
 -- no event is empty
-abbrev pub BothReal : Coming → Coming → Type 0
+abbrev pub BothReal : ParserRemaining → ParserRemaining → Type 0
 BothReal first second = AreReal first.events × AreReal second.events
 
 -- both go on, and what is left compares as before
-pub record GoesOn (first second first_new second_new : Coming) : Type 0 where
+pub record GoesOn (first second first_new second_new : ParserRemaining) : Type 0 where
   pub real : BothReal first_new second_new
   pub less : length first_new.events < length first.events
   pub first_ending : first_new.ending ≡ first.ending
@@ -35,44 +35,44 @@ pub record GoesOn (first second first_new second_new : Coming) : Type 0 where
   pub alike : (contents first.events ≡ contents second.events) ↔ (contents first_new.events ≡ contents second_new.events)
 
 -- both are at their end
-pub record EndBoth (first second : Coming) : Type 0 where
+pub record EndBoth (first second : ParserRemaining) : Type 0 where
   pub first_events : first.events ≡ []
   pub second_events : second.events ≡ []
   pub first_ending : first.ending ≡ None
   pub second_ending : second.ending ≡ None
 
 -- the contents differ
-pub record Differ (first second first_new second_new : Coming) : Type 0 where
+pub record Differ (first second first_new second_new : ParserRemaining) : Type 0 where
   pub real : BothReal first_new second_new
   pub differ : contents first.events ≡ contents second.events → ⊥
   pub first_ending : first_new.ending ≡ first.ending
   pub second_ending : second_new.ending ≡ second.ending
 
 -- the fault of a side; where the second is refused, the first's is still to come
-abbrev pub SideIs : Coming → Coming → Coming → yaml_side_t → yaml_fault_t → Type 0
+abbrev pub SideIs : ParserRemaining → ParserRemaining → ParserRemaining → yaml_side_t → yaml_fault_t → Type 0
 SideIs first second first_new First f = IsFaultOf first.ending f
 SideIs first second first_new Second f = IsFaultOf second.ending f × ((first_new.ending ≡ first.ending) × AreReal first_new.events)
 
 -- the second's next event says what that one does
-pub record GoesBeside (e : EventBody) (second second_new : Coming) : Type 0 where
+pub record GoesBeside (e : EventBody) (second second_new : ParserRemaining) : Type 0 where
   pub real : AreReal second_new.events
   pub ending : second_new.ending ≡ second.ending
   pub says : contents second.events ≡ saying e ∷ contents second_new.events
 
 -- the second has no such next event
-pub record DiffersBeside (e : EventBody) (second second_new : Coming) : Type 0 where
+pub record DiffersBeside (e : EventBody) (second second_new : ParserRemaining) : Type 0 where
   pub real : AreReal second_new.events
   pub ending : second_new.ending ≡ second.ending
   pub differ : (rest : List EventBody) → contents second.events ≡ saying e ∷ rest → ⊥
 
 -- the second has events to come
-pub record DiffersAlone (second second_new : Coming) : Type 0 where
+pub record DiffersAlone (second second_new : ParserRemaining) : Type 0 where
   pub real : AreReal second_new.events
   pub ending : second_new.ending ≡ second.ending
   pub differ : contents second.events ≡ [] → ⊥
 
 -- the second's next event beside one that the first gave
-abbrev pub StepsBeside : EventBody → Coming → Next → yaml_fault_t → Coming → Type 0
+abbrev pub StepsBeside : EventBody → ParserRemaining → Next → yaml_fault_t → ParserRemaining → Type 0
 StepsBeside e second Same f second_new = GoesBeside e second second_new
 StepsBeside e second End f second_new = ⊥
 StepsBeside e second Different f second_new = DiffersBeside e second second_new
@@ -80,7 +80,7 @@ StepsBeside e second (Refused First) f second_new = ⊥
 StepsBeside e second (Refused Second) f second_new = IsFaultOf second.ending f
 
 -- the second beside the end of the first
-abbrev pub StepsAlone : Coming → Next → yaml_fault_t → Coming → Type 0
+abbrev pub StepsAlone : ParserRemaining → Next → yaml_fault_t → ParserRemaining → Type 0
 StepsAlone second Same f second_new = ⊥
 StepsAlone second End f second_new = (second.events ≡ []) × (second.ending ≡ None)
 StepsAlone second Different f second_new = DiffersAlone second second_new
@@ -88,47 +88,47 @@ StepsAlone second (Refused First) f second_new = ⊥
 StepsAlone second (Refused Second) f second_new = IsFaultOf second.ending f
 
 -- both steps; a fault stands in its slot
-abbrev pub StepsOn : Coming → Coming → Next → yaml_fault_t → Coming → Coming → Type 0
+abbrev pub StepsOn : ParserRemaining → ParserRemaining → Next → yaml_fault_t → ParserRemaining → ParserRemaining → Type 0
 StepsOn first second Same f first_new second_new = GoesOn first second first_new second_new
 StepsOn first second End f first_new second_new = EndBoth first second
 StepsOn first second Different f first_new second_new = Differ first second first_new second_new
 StepsOn first second (Refused side) f first_new second_new = SideIs first second first_new side f
 
 -- equal contents and no faults, contents that differ, or a fault
-pub record Equal (first second : Coming) : Type 0 where
+pub record Equal (first second : ParserRemaining) : Type 0 where
   pub same : contents first.events ≡ contents second.events
   pub first_ending : first.ending ≡ None
   pub second_ending : second.ending ≡ None
 
-abbrev pub Sided : Coming → Coming → Result Bool (yaml_side_t × yaml_fault_t) → Coming → Coming → Type 0
+abbrev pub Sided : ParserRemaining → ParserRemaining → Result Bool (yaml_side_t × yaml_fault_t) → ParserRemaining → ParserRemaining → Type 0
 Sided first second (Ok true) first_new second_new = Equal first second
 Sided first second (Ok false) first_new second_new = Differ first second first_new second_new
 Sided first second (Err f) first_new second_new = SideIs first second first_new f.0 f.1
 
 -- neither has a fault, or the first fault: that of the second only where the first has none
-abbrev pub IsSideFault : Coming → Coming → yaml_side_t → yaml_fault_t → Type 0
+abbrev pub IsSideFault : ParserRemaining → ParserRemaining → yaml_side_t → yaml_fault_t → Type 0
 IsSideFault first second First f = IsFaultOf first.ending f
 IsSideFault first second Second f = IsMemoryFault f ⊎ ((first.ending ≡ None) × (second.ending ≡ Some (fault_of f)))
 
-abbrev pub RunsOut : Coming → Coming → Result (Unit {0}) (yaml_side_t × yaml_fault_t) → Type 0
+abbrev pub RunsOut : ParserRemaining → ParserRemaining → Result (Unit {0}) (yaml_side_t × yaml_fault_t) → Type 0
 RunsOut first second (Ok done) = (first.ending ≡ None) × (second.ending ≡ None)
 RunsOut first second (Err f) = IsSideFault first second f.0 f.1
 
 -- without a fault the contents differ
-abbrev pub Unlike : Coming → Coming → Type 0
+abbrev pub Unlike : ParserRemaining → ParserRemaining → Type 0
 Unlike first second = first.ending ≡ None → second.ending ≡ None → contents first.events ≡ contents second.events → ⊥
 
-abbrev pub ReadsAlike : Coming → Coming → Result Bool yaml_fault_t → Type 0
+abbrev pub ReadsAlike : ParserRemaining → ParserRemaining → Result Bool yaml_fault_t → Type 0
 ReadsAlike first second (Ok true) = Equal first second
 ReadsAlike first second (Ok false) = Unlike first second
 ReadsAlike first second (Err f) = IsMemoryFault f
 
 -- true exactly where the contents are equal
-pub record Tells (first second : Coming) (same : Bool) : Type 0 where
+pub record Tells (first second : ParserRemaining) (same : Bool) : Type 0 where
   pub first_ending : first.ending ≡ None
   pub second_ending : second.ending ≡ None
   pub told : IsTrue same ↔ (contents first.events ≡ contents second.events)
 
-abbrev pub Compares : Coming → Coming → Result Bool (yaml_side_t × yaml_fault_t) → Type 0
+abbrev pub Compares : ParserRemaining → ParserRemaining → Result Bool (yaml_side_t × yaml_fault_t) → Type 0
 Compares first second (Ok same) = Tells first second same
 Compares first second (Err f) = IsSideFault first second f.0 f.1

@@ -12,7 +12,7 @@ abbrev pub counts_as_plain : Option (List ℕ) → Bool → Bool
 counts_as_plain None plain = plain
 counts_as_plain (Some tag) plain = false
 
--- what an evened event says
+-- what a normalized event says
 abbrev pub content_of : EventBody → EventBody
 content_of (event.stream_start encoding) = event.stream_start YAML_ANY_ENCODING
 content_of (event.document_start version directives implicit) = event.document_start version directives true

@@ -6,7 +6,7 @@ pub mod Input
 pub mod Answers
 pub mod Reload
 pub mod Commands
-pub mod Even
+pub mod Normalize
 pub mod Content
 pub use Rattle.yaml_round_device.specs.Run
 pub use Rattle.yaml_round_device.specs.StdDevices

@@ -10,22 +10,22 @@ use Rattle.yaml_parse.specs.Events.{Event, EventBody}
 use Rattle.yaml_parse.specs.Events as event
 use Rattle.yaml_parse.specs.Constructors.{HasUtf8}
 use Rattle.yaml_parse.specs.Resolve.{Told}
-use Rattle.yaml_parse.specs.Coming.{Coming}
+use Rattle.yaml_parse.specs.Remaining.{ParserRemaining}
 use Rattle.yaml_round_lines.specs.EventLine.{event_line}
-use Rattle.yaml_emit.specs.Content.{said}
+use Rattle.yaml_emit.specs.Content.{emitter_event}
 use Rattle.yaml_emit.specs.Content as emit
-use Rattle.yaml_round.specs.Even.{even_body}
+use Rattle.yaml_round.specs.Normalize.{normalize_body}
 use Rattle.yaml_round.specs.Content.{content_of}
 
 -- ---- events
 
--- the events evened, as an emitter sees them; `ends`: every document's end is implicit
-abbrev pub said_all : Bool → List Told → List emit.Event
-said_all ends es = map (λ (t : Told). said (even_body ends t.0.body)) es
+-- the events normalized, as an emitter sees them; `ends`: every document's end is implicit
+abbrev pub emitter_events : Bool → List Told → List emit.Event
+emitter_events ends es = map (λ (t : Told). emitter_event (normalize_body ends t.0.body)) es
 
 -- what the events say, styles and document marks aside
 abbrev pub contents : List Told → List EventBody
-contents es = map (λ (t : Told). content_of (even_body true t.0.body)) es
+contents es = map (λ (t : Told). content_of (normalize_body true t.0.body)) es
 
 -- a line for each event
 abbrev pub event_lines : List Told → List ℕ
@@ -44,14 +44,14 @@ AreReal (t ∷ ts) = (is_empty t.0.body ≡ false) × AreReal ts
 -- ---- a parser that is read
 
 -- the front of what is to come was given, and the rest is left; its texts are UTF-8
-pub record GivesFront (e : Event) (old new : Coming) : Type 0 where
+pub record GivesFront (e : Event) (old new : ParserRemaining) : Type 0 where
   pub events : old.events ≡ (e, new.unasked) ∷ new.events
   pub ending : new.ending ≡ old.ending
   pub real : AreReal new.events
   pub utf8 : HasUtf8 e.body
 
 -- nothing is to come
-pub record IsOver (c : Coming) : Type 0 where
+pub record IsOver (c : ParserRemaining) : Type 0 where
   pub events : c.events ≡ []
   pub ending : c.ending ≡ None
 
@@ -60,7 +60,7 @@ abbrev pub IsFaultOf : Option Fault → yaml_fault_t → Type 0
 IsFaultOf ending f = (f.kind ≡ YAML_MEMORY_ERROR) ⊎ (ending ≡ Some (fault_of f))
 
 -- the next event or the fault, which stands in its slot, or the end
-abbrev pub Finds : Coming → yaml_found_t → Event → yaml_fault_t → Coming → Type 0
+abbrev pub Finds : ParserRemaining → yaml_found_t → Event → yaml_fault_t → ParserRemaining → Type 0
 Finds old found.Event e f new = GivesFront e old new
 Finds old found.Refused e f new = IsFaultOf old.ending f
 Finds old found.End e f new = IsOver old × IsOver new
@@ -71,6 +71,6 @@ EndsWith ending (Ok done) = ending ≡ None
 EndsWith ending (Err f) = IsFaultOf ending f
 
 -- a line for each event was added, where no fault ends them
-abbrev pub AddsLines : Coming → List ℕ → Result (Unit {0}) yaml_fault_t → List ℕ → Type 0
+abbrev pub AddsLines : ParserRemaining → List ℕ → Result (Unit {0}) yaml_fault_t → List ℕ → Type 0
 AddsLines reading old (Ok done) new = (reading.ending ≡ None) × (new ≡ old ++ event_lines reading.events)
 AddsLines reading old (Err f) new = IsFaultOf reading.ending f

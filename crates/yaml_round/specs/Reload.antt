@@ -7,7 +7,7 @@ use Rattle.yaml_scan.specs.Faults.{Fault, fault_of, IsMemoryFault}
 use Rattle.yaml_parse.specs.Nodes.{Node}
 use Rattle.yaml_parse.specs.Documents.{Document}
 use Rattle.yaml_parse.specs.Resolve.{Told}
-use Rattle.yaml_parse.specs.Coming.{Coming}
+use Rattle.yaml_parse.specs.Remaining.{ParserRemaining}
 use Rattle.yaml_parse.specs.Loading.{Loading, Fed, goes_on, loaded, refused, nothing_loaded, step}
 use Rattle.yaml_emit.specs.Content.{Event, documents_events, stream_events, stream_end}
 use Rattle.yaml_emit.specs.emit_graph.Graph.{graph_content}
@@ -16,7 +16,7 @@ use Rattle.yaml_emit.specs.Emitter.{Emitter, Completes}
 use Rattle.yaml_emit.specs.emit_text.declared.Encoding.{Encoding}
 use Rattle.yaml_round.specs.declared.settings.yaml_settings_t.{yaml_settings_t}
 use Rattle.yaml_round.specs.Input.{events_of, ending_of}
-use Rattle.yaml_round.specs.Writing.{wishes_under, IsEachLayout, IsPastEach}
+use Rattle.yaml_round.specs.Writing.{requested_under, IsEachLayout, IsPastEach}
 use Rattle.yaml_round.specs.Answers.{IsLayout, IsPast}
 
 -- ---- what is loaded
@@ -52,7 +52,7 @@ abbrev pub loads_of : yaml_encoding_t → List ℕ → Loads
 loads_of from input = load_all (events_of from input) (ending_of from input) nothing_loaded
 
 -- what a parser still has to load
-abbrev pub to_load : Coming → Loads
+abbrev pub to_load : ParserRemaining → Loads
 to_load c = load_all c.events c.ending nothing_loaded
 
 -- ---- what is written
@@ -63,8 +63,8 @@ written_events ds = stream_events YAML_ANY_ENCODING (map graph_content ds)
 
 -- The layout of the documents in canonical form, or a limit that it passes.
 abbrev pub IsDumped : yaml_settings_t → List Document → Result (List ℕ) Fault → Type 0
-IsDumped settings ds (Ok text) = IsLayout (wishes_under settings true) settings.limit (written_events ds) text
-IsDumped settings ds (Err fault) = IsPast (wishes_under settings true) settings.limit (written_events ds) fault
+IsDumped settings ds (Ok text) = IsLayout (requested_under settings true) settings.limit (written_events ds) text
+IsDumped settings ds (Err fault) = IsPast (requested_under settings true) settings.limit (written_events ds) fault
 
 -- The input's documents, laid out; the fault that ends them; or, where none does, a limit that the layout passes.
 unfoldable pub IsReloaded : yaml_encoding_t → yaml_settings_t → List ℕ → Result (List ℕ) Fault → Type 0
@@ -78,20 +78,20 @@ abbrev pub HasRoot : Document → Type 0
 HasRoot d = 0 < length d.nodes
 
 -- the next document was loaded, and the others are left
-pub record LoadsDocument (d : Document) (old new : Coming) : Type 0 where
+pub record LoadsDocument (d : Document) (old new : ParserRemaining) : Type 0 where
   pub same : to_load old ≡ record { documents = d ∷ (to_load new).documents; fault = (to_load new).fault }
   pub less : length new.events < length old.events
   pub rooted : HasRoot d
 
-abbrev pub LoadsNext : Coming → Result (Option Document) yaml_fault_t → Coming → Type 0
+abbrev pub LoadsNext : ParserRemaining → Result (Option Document) yaml_fault_t → ParserRemaining → Type 0
 LoadsNext old (Ok (Some d)) new = LoadsDocument d old new
 LoadsNext old (Ok None) new = to_load old ≡ no_more None
 LoadsNext old (Err f) new = IsMemoryFault f ⊎ (to_load old ≡ no_more (Some (fault_of f)))
 
 -- Each layout of the documents in canonical form, or a limit that each passes.
 abbrev pub IsEachDump : yaml_settings_t → List Document → Result (List ℕ) Fault → Type 0
-IsEachDump settings ds (Ok text) = IsEachLayout (wishes_under settings true) settings.limit (written_events ds) text
-IsEachDump settings ds (Err fault) = IsPastEach (wishes_under settings true) settings.limit (written_events ds) fault
+IsEachDump settings ds (Ok text) = IsEachLayout (requested_under settings true) settings.limit (written_events ds) text
+IsEachDump settings ds (Err fault) = IsPastEach (requested_under settings true) settings.limit (written_events ds) fault
 
 -- all documents of an input
 pub record AreLoaded (from : yaml_encoding_t) (input : List ℕ) (ds : List Document) : Type 0 where

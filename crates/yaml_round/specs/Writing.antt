@@ -5,18 +5,18 @@ use Rattle.yaml_scan.specs.declared.yaml_encoding_t.{yaml_encoding_t}
 use Rattle.yaml_scan.specs.declared.yaml_encoding_t.TheVariants.{YAML_UTF8_ENCODING, YAML_UTF16LE_ENCODING, YAML_UTF16BE_ENCODING}
 use Rattle.yaml_scan.specs.declared.yaml_fault_t.{yaml_fault_t}
 use Rattle.yaml_scan.specs.Faults.{Fault, fault_of}
-use Rattle.yaml_parse.specs.Coming.{Coming}
+use Rattle.yaml_parse.specs.Remaining.{ParserRemaining}
 use Rattle.yaml_parse.specs.Resolve.{Told}
 use Rattle.yaml_emit.specs.Content.{Event}
 use Rattle.yaml_emit.specs.Emitter.{Emitter, Completes, IsLimited, IsStream, Passes}
 use Rattle.yaml_emit.specs.Within.{Fits}
 use Rattle.yaml_emit.specs.Text.{Item, encode, is_deep}
 use Rattle.yaml_emit.specs.emit_text.declared.Encoding.{Encoding}
-use Rattle.yaml_emit.specs.emit_text.declared.Wishes.{Wishes}
+use Rattle.yaml_emit.specs.emit_text.declared.RequestedSettings.{RequestedSettings}
 use Rattle.yaml_round.specs.declared.settings.yaml_settings_t.{yaml_settings_t}
 use Rattle.yaml_round.specs.declared.settings.yaml_output_encoding_t.{yaml_output_encoding_t}
 use Rattle.yaml_round.specs.declared.settings.yaml_output_encoding_t.TheVariants.{Utf8, Utf16Le, Utf16Be}
-use Rattle.yaml_round.specs.Reading.{said_all, AreReal, IsFaultOf}
+use Rattle.yaml_round.specs.Reading.{emitter_events, AreReal, IsFaultOf}
 
 -- ---- the settings of an emitter
 
@@ -26,8 +26,8 @@ encoding_under Utf16Le = YAML_UTF16LE_ENCODING
 encoding_under Utf16Be = YAML_UTF16BE_ENCODING
 
 -- in canonical form or in pretty form
-abbrev pub wishes_under : yaml_settings_t → Bool → Wishes
-wishes_under s canonical = record {
+abbrev pub requested_under : yaml_settings_t → Bool → RequestedSettings
+requested_under s canonical = record {
   encoding = encoding_under s.encoding;
   canonical = canonical;
   indent = s.indent;
@@ -37,8 +37,8 @@ wishes_under s canonical = record {
 }
 
 -- an emitter under these settings that was given nothing
-pub record IsUnder (e : Emitter) (w : Wishes) (most : ℕ) : Type 0 where
-  pub wishes : e.wishes ≡ w
+pub record IsUnder (e : Emitter) (w : RequestedSettings) (most : ℕ) : Type 0 where
+  pub requested_settings : e.requested_settings ≡ w
   pub limit : e.limit ≡ most
   pub fresh : e.fresh ≡ true
   pub opened : e.opened ≡ false
@@ -47,19 +47,19 @@ pub record IsUnder (e : Emitter) (w : Wishes) (most : ℕ) : Type 0 where
 
 -- ---- events that are given
 
--- With these events to come, evened, from one emitter and those from the other, the text is the same.
+-- With these events to come, normalized, from one emitter and those from the other, the text is the same.
 pub record Leads (ends : Bool) (old : Emitter) (before : List Told) (new : Emitter) (after : List Told) : Type 0 where
-  pub completes : (x : Encoding) (whole : List Item) → Completes old x (said_all ends before) whole → Completes new x (said_all ends after) whole
+  pub completes : (x : Encoding) (whole : List Item) → Completes old x (emitter_events ends before) whole → Completes new x (emitter_events ends after) whole
   pub limit : new.limit ≡ old.limit
 
 -- the reading's events were given to the emitter: all of them, or a front of them
-abbrev pub Writes : Bool → Coming → Emitter → Result Bool yaml_fault_t → Coming → Emitter → Type 0
+abbrev pub Writes : Bool → ParserRemaining → Emitter → Result Bool yaml_fault_t → ParserRemaining → Emitter → Type 0
 Writes ends r e (Ok true) r' e' = (r.ending ≡ None) × Leads ends e r.events e' []
 Writes ends r e (Ok false) r' e' = (r'.ending ≡ r.ending) × (AreReal r'.events × Leads ends e r.events e' r'.events)
 Writes ends r e (Err f) r' e' = IsFaultOf r.ending f
 
 -- all of the reading's events were given to the emitter
-abbrev pub WritesAll : Bool → Coming → Emitter → Result (Unit {0}) yaml_fault_t → Emitter → Type 0
+abbrev pub WritesAll : Bool → ParserRemaining → Emitter → Result (Unit {0}) yaml_fault_t → Emitter → Type 0
 WritesAll ends r e (Ok done) e' = (r.ending ≡ None) × Leads ends e r.events e' []
 WritesAll ends r e (Err f) e' = IsFaultOf r.ending f
 
@@ -76,9 +76,9 @@ Finishes e (Err f) = IsLimited e (fault_of f)
 -- ---- texts of events
 
 -- The text is each layout of these events, where they are a stream's in which nothing is wrong, and passes no limit.
-abbrev pub IsEachLayout : Wishes → ℕ → List Event → List ℕ → Type 0
-IsEachLayout wishes limit events text = (x : Encoding) (whole : List Item) → IsStream wishes x events whole → IsText limit x whole text
+abbrev pub IsEachLayout : RequestedSettings → ℕ → List Event → List ℕ → Type 0
+IsEachLayout requested_settings limit events text = (x : Encoding) (whole : List Item) → IsStream requested_settings x events whole → IsText limit x whole text
 
 -- The fault names a limit that each of them passes.
-abbrev pub IsPastEach : Wishes → ℕ → List Event → Fault → Type 0
-IsPastEach wishes limit events fault = (x : Encoding) (whole : List Item) → IsStream wishes x events whole → Passes limit (encode x whole) (is_deep whole) fault
+abbrev pub IsPastEach : RequestedSettings → ℕ → List Event → Fault → Type 0
+IsPastEach requested_settings limit events fault = (x : Encoding) (whole : List Item) → IsStream requested_settings x events whole → Passes limit (encode x whole) (is_deep whole) fault

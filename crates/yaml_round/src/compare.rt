@@ -7,7 +7,7 @@ ghost use Rattle.yaml_round.specs.Answers.{IsRight, IsReadBack, IsSame};
 ghost use Rattle.yaml_scan.specs.Faults.{Answers};
 
 use crate::content::agree;
-use crate::even::even;
+use crate::normalize::normalize;
 use crate::reading::{next_into, read_out, reading_of};
 use crate::settings::yaml_side_t;
 use std::alloc::Global;
@@ -33,12 +33,12 @@ pub(crate) enum Next {
 // A fault, and which input it is said of.
 type SideFault = (yaml_side_t, yaml_fault_t);
 
-// Two events, evened in their slots, say the same.
+// Two events, normalized in their slots, say the same.
 fn judged(event: &mut yaml_event_t, other: &mut yaml_event_t) -> Next
     ensures { Judges (event_of event.old).body (event_of other.old).body result }
 {
-    even(event, true);
-    even(other, true);
+    normalize(event, true);
+    normalize(other, true);
     if agree(event, other) {
         Next::Same
     } else {

@@ -55,7 +55,7 @@ fn same_flag(tag: &Option<Vec<u8>>, a: bool, b: bool) -> bool
     }
 }
 
-/// Whether two evened events say the same: styles and document marks aside, and of a tagged scalar the flags.
+/// Whether two normalized events say the same: styles and document marks aside, and of a tagged scalar the flags.
 pub(crate) fn agree(a: &yaml_event_t, b: &yaml_event_t) -> bool
     ensures { IsTrue result ↔ (content_of (event_of a.now).body ≡ content_of (event_of b.now).body) }
 {

@@ -4,7 +4,7 @@
 mod compare;
 mod content;
 mod engine;
-mod even;
+mod normalize;
 mod reading;
 mod reload;
 mod run;

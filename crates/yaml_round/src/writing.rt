@@ -4,13 +4,13 @@ ghost use Rattle.std.specs.Prelude.{◌≡◌, Some, IfOk, IfErr, option_map};
 ghost use Rattle.yaml_scan.specs.Faults.{Fault, fault_of, IsMemoryFault};
 ghost use Rattle.yaml_parse.specs.Events.{event_of};
 ghost use Rattle.yaml_parse.specs.Constructors.{HasUtf8};
-ghost use Rattle.yaml_emit.specs.Content.{said};
+ghost use Rattle.yaml_emit.specs.Content.{emitter_event};
 ghost use Rattle.yaml_emit.specs.Emitter.{Given, IsLimited};
-ghost use Rattle.yaml_round.specs.Even.{even_body};
+ghost use Rattle.yaml_round.specs.Normalize.{normalize_body};
 ghost use Rattle.yaml_round.specs.Reading.{AreReal};
-ghost use Rattle.yaml_round.specs.Writing.{IsUnder, wishes_under, encoding_under, Writes, WritesAll, Finishes};
+ghost use Rattle.yaml_round.specs.Writing.{IsUnder, requested_under, encoding_under, Writes, WritesAll, Finishes};
 
-use crate::even::even;
+use crate::normalize::normalize;
 use crate::reading::next_into;
 use crate::settings::{yaml_output_encoding_t, yaml_settings_t};
 use std::alloc::Global;
@@ -41,7 +41,7 @@ pub(crate) fn emitter_under(
     settings: &yaml_settings_t,
     canonical: bool,
 ) -> Result<yaml_emitter_t, yaml_fault_t>
-    ensures under { IfOk result (λ e. IsUnder e (wishes_under settings.now canonical) settings.now.limit) }
+    ensures under { IfOk result (λ e. IsUnder e (requested_under settings.now canonical) settings.now.limit) }
     ensures memory { IfErr result IsMemoryFault }
 {
     let Ok(mut emitter) = yaml_emitter_initialize(alloc, settings.limit) else {
@@ -59,17 +59,17 @@ pub(crate) fn emitter_under(
 // Gives the event in the slot; what is left there counts for nothing. The emitter keeps its first fault.
 fn give(emitter: &mut yaml_emitter_t, event: &mut yaml_event_t)
     requires { HasUtf8 (event_of event.old).body }
-    ensures { Given emitter.old (said (event_of event.old).body) emitter.new }
+    ensures { Given emitter.old (emitter_event (event_of event.old).body) emitter.new }
 {
     yaml_emitter_emit_from(emitter, event);
 }
 
-// Gives the event in the slot, evened.
-fn give_evened(emitter: &mut yaml_emitter_t, event: &mut yaml_event_t, canonical: bool)
+// Gives the event in the slot, normalized.
+fn give_normalized(emitter: &mut yaml_emitter_t, event: &mut yaml_event_t, canonical: bool)
     requires { HasUtf8 (event_of event.old).body }
-    ensures { Given emitter.old (said (even_body canonical (event_of event.old).body)) emitter.new }
+    ensures { Given emitter.old (emitter_event (normalize_body canonical (event_of event.old).body)) emitter.new }
 {
-    even(event, canonical);
+    normalize(event, canonical);
     give(emitter, event);
 }
 
@@ -93,7 +93,7 @@ fn write_up_to_by<S: yaml_token_source_t>(
         match next_into(reading, event, fault) {
             yaml_found_t::Refused => return Err(*fault),
             yaml_found_t::End => return Ok(true),
-            yaml_found_t::Event => give_evened(emitter, event, canonical),
+            yaml_found_t::Event => give_normalized(emitter, event, canonical),
         }
     }
 }
@@ -132,7 +132,7 @@ fn write_rest_by<S: yaml_token_source_t>(
         match next_into(reading, event, fault) {
             yaml_found_t::Refused => return Err(*fault),
             yaml_found_t::End => return Ok(()),
-            yaml_found_t::Event => give_evened(emitter, event, canonical),
+            yaml_found_t::Event => give_normalized(emitter, event, canonical),
         }
     }
 }

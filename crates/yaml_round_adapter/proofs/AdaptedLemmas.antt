@@ -8,9 +8,9 @@ use Rattle.yaml_scan.specs.declared.yaml_error_type_t.TheVariants.{YAML_MEMORY_E
 use Rattle.yaml_scan.specs.Tokens as token
 use Rattle.yaml_scan.specs.Tokens.{Token, TokenBody}
 use Rattle.yaml_scan.specs.Faults.{Fault}
-use Rattle.yaml_scan.specs.scan_layout.Coming.{Stream, Coming, coming}
-use Rattle.yaml_scan_utf8.specs.Texts.{HasTexts}
-use Rattle.yaml_scan_utf8.proofs.TokensUtf8.{coming_sound}
+use Rattle.yaml_scan.specs.scan_history.Remaining.{SpelledText, Remaining, remaining}
+use Rattle.yaml_scan_laws_utf8.specs.Texts.{HasTexts}
+use Rattle.yaml_scan_laws_utf8.proofs.TokensUtf8.{remaining_sound}
 use Rattle.yaml_parse.specs.Source.{front_of, rest_of, MayAnswer, HasUtf8, GivesToken, GivesFault}
 use Rattle.yaml_round_adapter.specs.Adapted.{spells_text, tag_fault, cut, adapted}
 
@@ -33,8 +33,8 @@ cut_utf8 fault (t ∷ ts) h =
     ]
 
 -- the tokens that a parser takes
-pub adapted_utf8 : (s : Stream) → IsUtf8 s.text → (dropped given : ℕ) → All (λ t. HasUtf8 t.body) (adapted (coming s dropped given)).tokens
-adapted_utf8 s t dropped given = cut_utf8 (coming s dropped given).fault (coming s dropped given).tokens (coming_sound s t dropped given)
+pub adapted_utf8 : (s : SpelledText) → IsUtf8 s.text → (dropped given : ℕ) → All (λ t. HasUtf8 t.body) (adapted (remaining s dropped given)).tokens
+adapted_utf8 s t dropped given = cut_utf8 (remaining s dropped given).fault (remaining s dropped given).tokens (remaining_sound s t dropped given)
 
 cut_taken : (fault : Option Fault) (old : List Token) → HasTexts (front_of old).body → spells_text (front_of old).body ≡ true → MayAnswer old fault
     → GivesToken (cut fault old).tokens (cut fault old).fault (front_of old) (cut fault (rest_of old)).tokens (cut fault (rest_of old)).fault
@@ -42,7 +42,7 @@ cut_taken fault [] h s may = record { given = refl; rest = refl; same = refl; ma
 cut_taken fault (t ∷ ts) h s may = rw s record { given = refl; rest = refl; same = refl; may = tt; utf8 = body_utf8 t.body h s }
 
 -- The front is taken, where its tag is UTF-8.
-pub taken : (old new : Coming) (t : Token) → t ≡ front_of old.tokens → new.tokens ≡ rest_of old.tokens → new.fault ≡ old.fault → MayAnswer old.tokens old.fault
+pub taken : (old new : Remaining) (t : Token) → t ≡ front_of old.tokens → new.tokens ≡ rest_of old.tokens → new.fault ≡ old.fault → MayAnswer old.tokens old.fault
     → HasTexts t.body → spells_text t.body ≡ true → GivesToken (adapted old).tokens (adapted old).fault t (adapted new).tokens (adapted new).fault
 taken old new t e f g may h s = rw (e, f, g) (cut_taken old.fault old.tokens (rw e at h) (rw e at s) may)
 
@@ -51,7 +51,7 @@ cut_refused fault [] s = absurd (true≢false s)
 cut_refused fault (t ∷ ts) s = rw s record { none = refl; no_fault = refl; reason = inr (refl, refl) }
 
 -- The front is refused, where its tag isn't UTF-8.
-pub refused : (old : Coming) (t : Token) → t ≡ front_of old.tokens → spells_text t.body ≡ false → GivesFault (adapted old).tokens (adapted old).fault (tag_fault t.start_mark) [] None
+pub refused : (old : Remaining) (t : Token) → t ≡ front_of old.tokens → spells_text t.body ≡ false → GivesFault (adapted old).tokens (adapted old).fault (tag_fault t.start_mark) [] None
 refused old t e s = rw e (cut_refused old.fault old.tokens (rw e at s))
 
 cut_failed : (fault : Option Fault) (old : List Token) (f : Fault) → old ≡ [] → fault ≡ Some f → ((cut fault old).tokens ≡ []) × ((cut fault old).fault ≡ Some f)
@@ -59,7 +59,7 @@ cut_failed fault [] f e g = (refl, g)
 cut_failed fault (t ∷ ts) f e g = let bad : t ∷ ts ≡ [] = e in cc
 
 -- The session's own fault is passed on.
-pub failed : (old : Coming) (f : Fault) → (f.kind ≡ YAML_MEMORY_ERROR) ⊎ ((old.tokens ≡ []) × (old.fault ≡ Some f)) → GivesFault (adapted old).tokens (adapted old).fault f [] None
+pub failed : (old : Remaining) (f : Fault) → (f.kind ≡ YAML_MEMORY_ERROR) ⊎ ((old.tokens ≡ []) × (old.fault ≡ Some f)) → GivesFault (adapted old).tokens (adapted old).fault f [] None
 failed old f (inl memory) = record { none = refl; no_fault = refl; reason = inl memory }
 failed old f (inr (e, g)) = record { none = refl; no_fault = refl; reason = inr (cut_failed old.fault old.tokens f e g) }
 

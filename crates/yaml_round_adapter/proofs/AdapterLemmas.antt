@@ -9,24 +9,24 @@ use Rattle.yaml_scan.specs.scan_decode.Encodings.{encoding_of}
 use Rattle.yaml_scan.specs.scan_decode.Decoding.{decoded_text}
 use Rattle.yaml_scan.proofs.scan_decode.DecodeLemmas.{AreBytes}
 use Rattle.yaml_scan.proofs.scan_decode.CompleteLemmas.{decoded_spells}
-use Rattle.yaml_scan_utf8.specs.Texts.{HasTexts}
-use Rattle.yaml_scan_utf8.proofs.Decoded.{spelled_utf8}
-use Rattle.yaml_scan_utf8.proofs.TokensUtf8.{coming_sound}
-use Rattle.yaml_scan.specs.scan_layout.Coming.{Coming}
+use Rattle.yaml_scan_laws_utf8.specs.Texts.{HasTexts}
+use Rattle.yaml_scan_laws_utf8.proofs.Decoded.{spelled_utf8}
+use Rattle.yaml_scan_laws_utf8.proofs.TokensUtf8.{remaining_sound}
+use Rattle.yaml_scan.specs.scan_history.Remaining.{Remaining}
 use Rattle.yaml_scan.specs.Scanned.{scanned_in, scanned}
 use Rattle.yaml_scan.specs.Session as session
 use Rattle.yaml_scan.specs.Session.{View, first_of, others_of, behind_first}
 use Rattle.yaml_parse.specs.Source.{front_of, rest_of, MayAnswer, GivesToken}
 use Rattle.yaml_round_adapter.specs.Adapted.{adapted}
 use Rattle.yaml_round_adapter.specs.Adapter.{TakesText}
-use Rattle.yaml_round_adapter.specs.AdapterView.{coming_by}
+use Rattle.yaml_round_adapter.specs.AdapterView.{remaining_by}
 use Rattle.yaml_round_adapter.proofs.AdaptedLemmas.{taken}
 
-abbrev pub HaveTexts : Coming → Type 0
+abbrev pub HaveTexts : Remaining → Type 0
 HaveTexts c = All (λ t. HasTexts t.body) c.tokens
 
 in_texts : (s : yaml_encoding_t) (bytes : List ℕ) (r : Result (List ℕ) Offence) → AreBytes bytes → decoded_text s bytes ≡ r → HaveTexts (scanned_in (encoding_of s bytes) r)
-in_texts s bytes (Ok text) are h = coming_sound record { encoding = encoding_of s bytes; text = text } (spelled_utf8 s bytes text (decoded_spells s bytes text are h)) 0 0
+in_texts s bytes (Ok text) are h = remaining_sound record { encoding = encoding_of s bytes; text = text } (spelled_utf8 s bytes text (decoded_spells s bytes text are h)) 0 0
 in_texts s bytes (Err o) are h = All-nil (λ t. HasTexts t.body)
 
 -- the tokens of an input
@@ -42,7 +42,7 @@ first_texts [] h = tt
 first_texts (t ∷ ts) h = All-head (λ t. HasTexts t.body) t ts h
 
 -- what is left behind the first token
-pub texts_left : (old new : Coming) → new ≡ behind_first old → HaveTexts old → HaveTexts new
+pub texts_left : (old new : Remaining) → new ≡ behind_first old → HaveTexts old → HaveTexts new
 texts_left old new e h = rw e (others_texts old.tokens h)
 
 first_front : (ts : List Token) → first_of ts ≡ front_of ts
@@ -58,18 +58,18 @@ same_may [] fault may = may
 same_may (t ∷ ts) fault may = tt
 
 -- a token whose tag is UTF-8 is given
-gives_text : (old new : View) (t : Token) → HaveTexts old.coming → TakesText old t new
-    → GivesToken (adapted old.coming).tokens (adapted old.coming).fault t (adapted new.coming).tokens (adapted new.coming).fault
+gives_text : (old new : View) (t : Token) → HaveTexts old.remaining → TakesText old t new
+    → GivesToken (adapted old.remaining).tokens (adapted old.remaining).fault t (adapted new.remaining).tokens (adapted new.remaining).fault
 gives_text old new t texts g =
-    taken old.coming new.coming t
-    (g.takes.token ∙ first_front old.coming.tokens)
-    (ap (λ (c : Coming). c.tokens) g.takes.rest ∙ others_rest old.coming.tokens)
-    (ap (λ (c : Coming). c.fault) g.takes.rest)
-    (same_may old.coming.tokens old.coming.fault g.takes.may)
-    (let own : HasTexts (first_of old.coming.tokens).body = first_texts old.coming.tokens texts in rw g.takes.token own)
+    taken old.remaining new.remaining t
+    (g.takes.token ∙ first_front old.remaining.tokens)
+    (ap (λ (c : Remaining). c.tokens) g.takes.rest ∙ others_rest old.remaining.tokens)
+    (ap (λ (c : Remaining). c.fault) g.takes.rest)
+    (same_may old.remaining.tokens old.remaining.fault g.takes.may)
+    (let own : HasTexts (first_of old.remaining.tokens).body = first_texts old.remaining.tokens texts in rw g.takes.token own)
     g.text
 
-pub gives_token : (over : Bool) (old new : View) (was : Coming) (t : Token) → over ≡ false → coming_by over old.coming ≡ was → HaveTexts old.coming → TakesText old t new
-    → GivesToken was.tokens was.fault t (coming_by over new.coming).tokens (coming_by over new.coming).fault
+pub gives_token : (over : Bool) (old new : View) (was : Remaining) (t : Token) → over ≡ false → remaining_by over old.remaining ≡ was → HaveTexts old.remaining → TakesText old t new
+    → GivesToken was.tokens was.fault t (remaining_by over new.remaining).tokens (remaining_by over new.remaining).fault
 gives_token true old new was t o e texts g = absurd (true≢false o)
 gives_token false old new was t o e texts g = rw (← e) (gives_text old new t texts g)

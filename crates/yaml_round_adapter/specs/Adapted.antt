@@ -7,7 +7,7 @@ use Rattle.yaml_scan.specs.declared.yaml_origin_t.TheVariants.{Adapter}
 use Rattle.yaml_scan.specs.Tokens as token
 use Rattle.yaml_scan.specs.Tokens.{Token, TokenBody}
 use Rattle.yaml_scan.specs.Faults.{Fault}
-use Rattle.yaml_scan.specs.scan_layout.Coming.{Coming}
+use Rattle.yaml_scan.specs.scan_history.Remaining.{Remaining}
 
 -- What escapes spell byte by byte is UTF-8: a tag's suffix, and a directive's prefix.
 abbrev pub spells_text : TokenBody → Bool
@@ -28,13 +28,13 @@ tag_fault mark = record {
   origin = Adapter;
 }
 
-abbrev pub with_token : Token → Coming → Coming
+abbrev pub with_token : Token → Remaining → Remaining
 with_token t c = record { tokens = t ∷ c.tokens; fault = c.fault }
 
 -- the tokens up to the first tag that isn't UTF-8, which its fault takes the place of
-abbrev pub cut : Option Fault → List Token → Coming
+abbrev pub cut : Option Fault → List Token → Remaining
 cut fault [] = record { tokens = []; fault = fault }
 cut fault (t ∷ ts) = if spells_text t.body then with_token t (cut fault ts) else record { tokens = []; fault = Some (tag_fault t.start_mark) }
 
-abbrev pub adapted : Coming → Coming
+abbrev pub adapted : Remaining → Remaining
 adapted c = cut c.fault c.tokens

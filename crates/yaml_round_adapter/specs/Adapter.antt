@@ -4,7 +4,7 @@ use Rattle.yaml_scan.specs.declared.yaml_token_t.{yaml_token_t}
 use Rattle.yaml_scan.specs.declared.yaml_fault_t.{yaml_fault_t}
 use Rattle.yaml_scan.specs.Tokens.{Token, token_of}
 use Rattle.yaml_scan.specs.Faults.{Fault, fault_of}
-use Rattle.yaml_scan.specs.scan_layout.Coming.{Coming}
+use Rattle.yaml_scan.specs.scan_history.Remaining.{Remaining}
 use Rattle.yaml_scan.specs.Scanned.{IsTold}
 use Rattle.yaml_scan.specs.Session.{View, Takes, first_of}
 use Rattle.yaml_round_adapter.specs.Adapted.{spells_text, tag_fault}
@@ -20,9 +20,9 @@ pub record TakesText (old : View) (t : Token) (new : View) : Type 0 where
   pub text : spells_text t.body ≡ true
 
 -- the session's own fault, or that of the next token's tag
-abbrev pub Stops : Coming → Fault → Type 0
+abbrev pub Stops : Remaining → Fault → Type 0
 Stops c f = IsTold c f ⊎ ((spells_text (first_of c.tokens).body ≡ false) × (f ≡ tag_fault (first_of c.tokens).start_mark))
 
-abbrev pub Gives : View → View → Result yaml_token_t yaml_fault_t → Type 0
-Gives old new (Ok t) = TakesText old (token_of t) new
-Gives old new (Err f) = Stops old.coming (fault_of f)
+abbrev pub Adapts : View → View → Result yaml_token_t yaml_fault_t → Type 0
+Adapts old new (Ok t) = TakesText old (token_of t) new
+Adapts old new (Err f) = Stops old.remaining (fault_of f)

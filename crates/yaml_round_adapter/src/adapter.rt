@@ -4,7 +4,7 @@ ghost use Rattle.std.specs.Prelude.{◌≡◌};
 ghost use Rattle.yaml_scan.specs.Tokens.{token_of};
 ghost use Rattle.yaml_scan.specs.Scanned.{scanned};
 ghost use Rattle.yaml_round_adapter.specs.Adapted.{adapted};
-ghost use Rattle.yaml_round_adapter.specs.Adapter.{Checks, Gives};
+ghost use Rattle.yaml_round_adapter.specs.Adapter.{Checks, Adapts};
 
 use crate::refusal::{yaml_tag_fault, yaml_token_spells_text};
 use std::alloc::Global;
@@ -21,9 +21,9 @@ pub struct yaml_adapter_t<'a> {
 }
 
 impl<'a> Model for yaml_adapter_t<'a> {
-    ghost use Rattle.yaml_scan.specs.scan_layout.Coming.{Coming};
+    ghost use Rattle.yaml_scan.specs.scan_history.Remaining.{Remaining};
 
-    ghost Value = { Coming };
+    ghost Value = { Remaining };
 
     ghost use Rattle.yaml_round_adapter.specs.AdapterView.{adapter_view, IsAdapter};
 
@@ -58,7 +58,7 @@ fn checked(token: yaml_token_t) -> Result<yaml_token_t, yaml_fault_t>
 
 // The session's next token, or its fault, or that of its tag.
 fn take(session: &mut yaml_parser_t) -> Result<yaml_token_t, yaml_fault_t>
-    ensures { Gives session.old session.new result }
+    ensures { Adapts session.old session.new result }
 {
     match yaml_parser_scan(session) {
         Ok(token) => checked(token),

@@ -6,7 +6,7 @@ use Rattle.yaml_scan.specs.declared.yaml_scalar_style_t.TheVariants as style
 use Rattle.yaml_parse.specs.Events.{EventBody}
 use Rattle.yaml_parse.specs.Events as event
 
--- A byte of a tag or a value: a backslash, and 00, 08, 09, 0A and 0D, are a backslash and a sign.
+-- A byte of a tag or a value: a backslash, and 00, 08, 09, 0A and 0D, are a backslash and a letter.
 unfoldable pub escaped_byte : ℕ → List ℕ
 escaped_byte b =
     if b == 92 then 92 ∷ 92 ∷ []
@@ -30,14 +30,14 @@ abbrev pub tag_part : Option (List ℕ) → List ℕ
 tag_part None = []
 tag_part (Some tag) = codes " <" ++ escaped tag ++ codes ">"
 
--- the style's sign
-abbrev pub sign_of : yaml_scalar_style_t → ℕ
-sign_of style.YAML_ANY_SCALAR_STYLE = 58
-sign_of style.YAML_PLAIN_SCALAR_STYLE = 58
-sign_of style.YAML_SINGLE_QUOTED_SCALAR_STYLE = 39
-sign_of style.YAML_DOUBLE_QUOTED_SCALAR_STYLE = 34
-sign_of style.YAML_LITERAL_SCALAR_STYLE = 124
-sign_of style.YAML_FOLDED_SCALAR_STYLE = 62
+-- the style's indicator
+abbrev pub indicator_of : yaml_scalar_style_t → ℕ
+indicator_of style.YAML_ANY_SCALAR_STYLE = 58
+indicator_of style.YAML_PLAIN_SCALAR_STYLE = 58
+indicator_of style.YAML_SINGLE_QUOTED_SCALAR_STYLE = 39
+indicator_of style.YAML_DOUBLE_QUOTED_SCALAR_STYLE = 34
+indicator_of style.YAML_LITERAL_SCALAR_STYLE = 124
+indicator_of style.YAML_FOLDED_SCALAR_STYLE = 62
 
 -- what an explicit document mark adds
 abbrev pub mark_part : Bool → List ℕ → List ℕ
@@ -52,7 +52,7 @@ event_text event.stream_end = codes "-STR"
 event_text (event.document_start version directives implicit) = codes "+DOC" ++ mark_part implicit (codes " ---")
 event_text (event.document_end implicit) = codes "-DOC" ++ mark_part implicit (codes " ...")
 event_text (event.alias anchor) = codes "=ALI *" ++ anchor
-event_text (event.scalar anchor tag value plain quoted style) = codes "=VAL" ++ anchor_part anchor ++ tag_part tag ++ (32 ∷ sign_of style ∷ []) ++ escaped value
+event_text (event.scalar anchor tag value plain quoted style) = codes "=VAL" ++ anchor_part anchor ++ tag_part tag ++ (32 ∷ indicator_of style ∷ []) ++ escaped value
 event_text (event.sequence_start anchor tag implicit style) = codes "+SEQ" ++ anchor_part anchor ++ tag_part tag
 event_text event.sequence_end = codes "-SEQ"
 event_text (event.mapping_start anchor tag implicit style) = codes "+MAP" ++ anchor_part anchor ++ tag_part tag

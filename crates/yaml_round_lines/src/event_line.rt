@@ -3,7 +3,7 @@
 ghost use Rattle.std.specs.Prelude.{◌≡◌, ◌+◌, ◌<◌, ◌≤◌, ◌++◌, [], ◌∷◌, length, take, OnOk, IfOk};
 ghost use Rattle.yaml_parse.specs.Events.{event_of, text_of};
 ghost use Rattle.yaml_round_lines.specs.Runs.{is_kept, kept_run};
-ghost use Rattle.yaml_round_lines.specs.EventLine.{escaped_byte, escaped, anchor_part, tag_part, sign_of, mark_part, event_text, event_line};
+ghost use Rattle.yaml_round_lines.specs.EventLine.{escaped_byte, escaped, anchor_part, tag_part, indicator_of, mark_part, event_text, event_line};
 
 use std::alloc::AllocError;
 use yaml_parse::{yaml_event_body_t, yaml_event_t};
@@ -12,12 +12,12 @@ use yaml_scan::yaml_scalar_style_t;
 // So many bytes are looked at together; a shorter text is added byte by byte.
 const CHUNK: usize = 16;
 
-// Adds a backslash and a sign.
-fn push_escape(line: &mut Vec<u8>, sign: u8) -> Result<(), AllocError>
-    ensures { OnOk result (line.new.items ≡ line.old.items ++ (92 ∷ sign ∷ [])) }
+// Adds a backslash and a letter.
+fn push_escape(line: &mut Vec<u8>, indicator: u8) -> Result<(), AllocError>
+    ensures { OnOk result (line.new.items ≡ line.old.items ++ (92 ∷ indicator ∷ [])) }
 {
     line.push(b'\\')?;
-    line.push(sign)?;
+    line.push(indicator)?;
     Ok(())
 }
 
@@ -168,8 +168,8 @@ fn push_tag(line: &mut Vec<u8>, tag: &Option<Vec<u8>>) -> Result<(), AllocError>
     Ok(())
 }
 
-fn style_sign(style: yaml_scalar_style_t) -> u8
-    ensures { result ≡ sign_of style }
+fn style_indicator(style: yaml_scalar_style_t) -> u8
+    ensures { result ≡ indicator_of style }
 {
     match style {
         yaml_scalar_style_t::YAML_ANY_SCALAR_STYLE => b':',
@@ -209,16 +209,16 @@ fn push_properties(
     push_some_properties(line, anchor, tag)
 }
 
-// Adds a space, the style's sign and the value.
+// Adds a space, the style's indicator and the value.
 fn push_value(
     line: &mut Vec<u8>,
     value: &[u8],
     style: yaml_scalar_style_t,
 ) -> Result<(), AllocError>
-    ensures { OnOk result (line.new.items ≡ line.old.items ++ ((32 ∷ sign_of style ∷ []) ++ escaped value.now)) }
+    ensures { OnOk result (line.new.items ≡ line.old.items ++ ((32 ∷ indicator_of style ∷ []) ++ escaped value.now)) }
 {
     line.push(b' ')?;
-    line.push(style_sign(style))?;
+    line.push(style_indicator(style))?;
     push_escaped(line, value)
 }
 
@@ -288,7 +288,7 @@ fn push_event(line: &mut Vec<u8>, event: &yaml_event_t) -> Result<(), AllocError
 
 /// Adds the line that tells an event, with a line feed at its end: `+STR`, `-STR`, `+DOC` (` ---` where it is explicit),
 /// `-DOC` (` ...` where it is explicit), `=ALI *name`, `+SEQ`, `-SEQ`, `+MAP`, `-MAP`, `=VAL`; behind a node's word its
-/// ` &anchor` and ` <tag>`, behind `=VAL` a space, the style's sign (`: ' " | >`) and the value. In tags and values a
+/// ` &anchor` and ` <tag>`, behind `=VAL` a space, the style's indicator (`: ' " | >`) and the value. In tags and values a
 /// backslash, 00, 08, 09, 0A and 0D are escaped. An error leaves a front of the line.
 pub fn yaml_push_event_line(line: &mut Vec<u8>, event: &yaml_event_t) -> Result<(), AllocError>
     ensures { OnOk result (line.new.items ≡ line.old.items ++ event_line (event_of event.now).body) }

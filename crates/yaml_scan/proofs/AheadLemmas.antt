@@ -1,29 +1,29 @@
 -- What is to come of a session.
 use Rattle.std.proofs.Common.{◌≡◌, Bool, true, false, ◌∷◌, Option, Some, None, refl, sym, ap, subst, ◌∙◌, inl, inr}
 use Rattle.std.specs.Prelude.{is_some, option_map}
-use Rattle.yaml_scan_text.specs.declared.fault.yaml_fault_t.{yaml_fault_t}
-use Rattle.yaml_scan_text.specs.Tokens.{Token, token_of, no_token}
-use Rattle.yaml_scan_text.specs.Faults.{Fault, fault_of}
-use Rattle.yaml_scan_layout.specs.Coming.{Coming, nothing}
-use Rattle.yaml_scan_forward.specs.Fronts.{Gives}
+use Rattle.yaml_scan_model.specs.declared.fault.yaml_fault_t.{yaml_fault_t}
+use Rattle.yaml_scan_model.specs.Tokens.{Token, token_of, no_token}
+use Rattle.yaml_scan_model.specs.Faults.{Fault, fault_of}
+use Rattle.yaml_scan_history.specs.Remaining.{Remaining, nothing}
+use Rattle.yaml_scan_laws_order.specs.Fronts.{GivesFirst}
 use Rattle.yaml_scan.specs.declared.ahead.Ahead.{Ahead}
 use Rattle.yaml_scan.specs.State.{is_ready}
 use Rattle.yaml_scan.specs.Scanned.{left_in}
 use Rattle.yaml_scan.specs.Session.{View, HasFirst, IsKnown, Takes, MayAnswer, others_of}
-use Rattle.yaml_scan.specs.SessionView.{coming_by, ready_by, own_by, view_of, IsAhead}
+use Rattle.yaml_scan.specs.SessionView.{remaining_by, ready_by, own_by, view_of, IsAhead}
 use Rattle.yaml_scan.proofs.TakeLemmas.{ready_first}
 
 no_fault : (o : Option yaml_fault_t) → is_some o ≡ false → o ≡ None
 no_fault None e = refl
 no_fault (Some f) e = cc
 
-first_left : (o : Option yaml_fault_t) (holds : Bool) (t : Token) (c : Coming) → o ≡ None → holds ≡ false → HasFirst c.tokens → HasFirst (coming_by o holds t c).tokens
+first_left : (o : Option yaml_fault_t) (holds : Bool) (t : Token) (c : Remaining) → o ≡ None → holds ≡ false → HasFirst c.tokens → HasFirst (remaining_by o holds t c).tokens
 first_left None false t c none off h = h
 first_left None true t c none off h = cc
 first_left (Some f) holds t c none off h = cc
 
 -- where the reader knows the next token, one is to come
-pub first_ahead : (s : Ahead) → IsAhead s → is_some s.fault ≡ false → s.holds ≡ false → is_ready s.machine ≡ true → HasFirst (view_of s).coming.tokens
+pub first_ahead : (s : Ahead) → IsAhead s → is_some s.fault ≡ false → s.holds ≡ false → is_ready s.machine ≡ true → HasFirst (view_of s).remaining.tokens
 first_ahead s i e off ready =
     let none = no_fault s.fault e in
     first_left s.fault s.holds (token_of s.shown) (left_in s.machine) none off (ready_first s.machine (i.machine none) ready)
@@ -47,17 +47,17 @@ own_parts None false ready e = (refl, refl, e)
 own_parts None true ready e = cc
 own_parts (Some f) holds ready e = cc
 
-abbrev pub view_by : Option yaml_fault_t → Bool → Token → Coming → Bool → View
-view_by o holds t c ready = record { coming = coming_by o holds t c; ready = ready_by o holds ready; answered = option_map (λ f. fault_of f) o }
+abbrev pub view_by : Option yaml_fault_t → Bool → Token → Remaining → Bool → View
+view_by o holds t c ready = record { remaining = remaining_by o holds t c; ready = ready_by o holds ready; answered = option_map (λ f. fault_of f) o }
 
-taken_rest : (c d : Coming) (t : Token) → Gives c t d → d ≡ record { tokens = others_of c.tokens; fault = c.fault }
+taken_rest : (c d : Remaining) (t : Token) → GivesFirst c t d → d ≡ record { tokens = others_of c.tokens; fault = c.fault }
 taken_rest c d t (tokens, fault) = rw (tokens, fault) refl
 
-taken_may : (c d : Coming) (t : Token) → Gives c t d → MayAnswer c.tokens c.fault
+taken_may : (c d : Remaining) (t : Token) → GivesFirst c t d → MayAnswer c.tokens c.fault
 taken_may c d t (tokens, fault) = rw tokens tt
 
 -- the reader's next token is the first to come
-pub takes_own : (o : Option yaml_fault_t) (holds ready next : Bool) (s t : Token) (c d : Coming) → own_by o holds ready ≡ true → Gives c t d → Takes (view_by o holds s c ready) t (view_by o holds s d next)
+pub takes_own : (o : Option yaml_fault_t) (holds ready next : Bool) (s t : Token) (c d : Remaining) → own_by o holds ready ≡ true → GivesFirst c t d → Takes (view_by o holds s c ready) t (view_by o holds s d next)
 takes_own None false ready next s t c d e (tokens, fault) = record {
   token = rw tokens refl;
   rest = taken_rest c d t (tokens, fault);
@@ -69,7 +69,7 @@ takes_own None true ready next s t c d e gives = cc
 takes_own (Some f) holds ready next s t c d e gives = cc
 
 -- where the reader isn't to give it, the next token is the one that was put aside, or the empty one
-pub takes_aside : (o : Option yaml_fault_t) (holds ready : Bool) (s t : Token) (c : Coming) → own_by o holds ready ≡ false → IsKnown (view_by o holds s c ready) → ((f : yaml_fault_t) → o ≡ Some f → holds ≡ false) → (holds ≡ false → s ≡ no_token) → Takes (view_by o holds s c ready) s (view_by o false t c ready)
+pub takes_aside : (o : Option yaml_fault_t) (holds ready : Bool) (s t : Token) (c : Remaining) → own_by o holds ready ≡ false → IsKnown (view_by o holds s c ready) → ((f : yaml_fault_t) → o ≡ Some f → holds ≡ false) → (holds ≡ false → s ≡ no_token) → Takes (view_by o holds s c ready) s (view_by o false t c ready)
 takes_aside (Some f) holds ready s t c e known over idle = record { token = idle (over f refl); rest = refl; may = refl; same = refl; over = λ g is. refl }
 takes_aside None true ready s t c e known over idle = record { token = refl; rest = refl; may = tt; same = refl; over = λ g bad. cc }
 takes_aside None false ready s t c e (inl on) over idle = cc

@@ -4,28 +4,28 @@ use Rattle.std.proofs.lemmas.Bool.{cases_Bool, cases_lt}
 use Rattle.std.proofs.lemmas.Bool.Decides.{nat_tests}
 use Rattle.std.proofs.lemmas.List.{length-map, get_or-drop}
 use Rattle.std.specs.Prelude.{map, IfErr, option_map}
-use Rattle.yaml_scan_text.specs.declared.name.yaml_encoding_t.{yaml_encoding_t}
-use Rattle.yaml_scan_text.specs.declared.problem.ScanFault.{ScanFault}
-use Rattle.yaml_scan_text.specs.declared.problem.ScanError.{ScanError}
-use Rattle.yaml_scan_text.specs.declared.problem.ScanError.TheVariants as errors
-use Rattle.yaml_scan_text.specs.Problems.{scanner_fault}
+use Rattle.yaml_scan_model.specs.declared.name.yaml_encoding_t.{yaml_encoding_t}
+use Rattle.yaml_scan_model.specs.declared.problem.ScanFault.{ScanFault}
+use Rattle.yaml_scan_model.specs.declared.problem.ScanError.{ScanError}
+use Rattle.yaml_scan_model.specs.declared.problem.ScanError.TheVariants as errors
+use Rattle.yaml_scan_model.specs.Problems.{scanner_fault}
 use Rattle.yaml_scan_decode.specs.DecodedText.{text_bytes, decoding_fault}
 use Rattle.yaml_scan_decode.specs.Decoding.{decoded_characters, in_utf8}
 use Rattle.yaml_scan_decode.specs.declared.offence.Offence.{Offence}
 use Rattle.yaml_scan_decode.specs.Offences.{reader_fault}
-use Rattle.yaml_scan_text.specs.declared.fault.yaml_origin_t.TheVariants.{Reader}
-use Rattle.yaml_scan_text.specs.Faults.{Fault, memory_fault}
+use Rattle.yaml_scan_model.specs.declared.fault.yaml_origin_t.TheVariants.{Reader}
+use Rattle.yaml_scan_model.specs.Faults.{Fault, memory_fault}
 use Rattle.std.specs.Result.{result_err}
 use Rattle.yaml_scan_decode.specs.Encodings.{encoding_of}
-use Rattle.yaml_scan_text.specs.Tokens.{Token}
-use Rattle.yaml_scan_forward.specs.Fronts.{Gives}
+use Rattle.yaml_scan_model.specs.Tokens.{Token}
+use Rattle.yaml_scan_laws_order.specs.Fronts.{GivesFirst}
 use Rattle.yaml_scan.specs.Scanned.{scanned, scanned_in, left_in, left_from, IsTold, IsLocated}
-use Rattle.yaml_scan_layout.specs.declared.lexeme.Entry.{Entry}
-use Rattle.yaml_scan_layout.specs.History.{entries, first_open}
-use Rattle.yaml_scan_layout.specs.Next.{Next, Read, Fails, Ends, next}
-use Rattle.yaml_scan_layout.specs.Coming.{Coming, coming, nothing}
-use Rattle.yaml_scan_layout.proofs.HistoryLemmas.{length-entries, first_open-le}
-use Rattle.yaml_scan_forward.proofs.ComingForward.{fault_comes, end_comes, front_count, front_none}
+use Rattle.yaml_scan_history.specs.declared.lexeme.Entry.{Entry}
+use Rattle.yaml_scan_history.specs.History.{entries, first_open}
+use Rattle.yaml_scan_history.specs.Next.{Next, Read, Fails, Ends, next}
+use Rattle.yaml_scan_history.specs.Remaining.{Remaining, remaining, nothing}
+use Rattle.yaml_scan_history.proofs.HistoryLemmas.{length-entries, first_open-le}
+use Rattle.yaml_scan_laws_order.proofs.RemainingForward.{fault_comes, end_comes, front_count, front_none}
 use Rattle.yaml_scan.specs.declared.machine.Machine.{Machine}
 use Rattle.yaml_scan.specs.declared.waiting.Waiting.{Waiting}
 use Rattle.yaml_scan.specs.declared.next.Read.{Read as Answer}
@@ -53,9 +53,9 @@ refused_any m (Err e) g = refused_by m e g
 -- what is to come stays
 pub goes_same : (old new : Machine) → GoesOn old new → to_come new ≡ to_come old
 goes_same old new g =
-    ap (λ (x : yaml_encoding_t). coming record { encoding = x; text = text_bytes new.text } new.dropped new.given) g.encoding
-    ∙ ap (λ (t : List ℕ). coming record { encoding = old.encoding; text = t } new.dropped new.given) (ap text_bytes g.text)
-    ∙ ap (λ d. coming (stream_of old) d new.given) g.dropped ∙ ap (λ n. coming (stream_of old) old.dropped n) g.given
+    ap (λ (x : yaml_encoding_t). remaining record { encoding = x; text = text_bytes new.text } new.dropped new.given) g.encoding
+    ∙ ap (λ (t : List ℕ). remaining record { encoding = old.encoding; text = t } new.dropped new.given) (ap text_bytes g.text)
+    ∙ ap (λ d. remaining (stream_of old) d new.given) g.dropped ∙ ap (λ n. remaining (stream_of old) old.dropped n) g.given
 
 not_ready : (d s g : ℕ) (ws : List Waiting) → ready_in d s g ws ≡ false → (ws ≡ []) ⊎ ((w : Waiting) × (rest : List Waiting) × (ws ≡ w ∷ rest) × (s ≤ d) × (w.entry.ends ≤ g))
 not_ready d s g [] e = inl refl
@@ -120,13 +120,13 @@ fault_machine m (errors.Fault p) i stuck more r =
           let zero_left : length m.waiting.items ≡ 0 = ap length empty in
           let at : first_open h h ≡ m.dropped = omega (arith, s.count, s.taken, len) in
           let gone = front_none (entries h) (first_open h h) (omega (arith, s.count, s.taken, len)) in
-          ap (λ k. coming (stream_of m) k m.given) (sym at) ∙ fault_comes (stream_of m) n p m.given r (omega (arith, gone))
+          ap (λ k. remaining (stream_of m) k m.given) (sym at) ∙ fault_comes (stream_of m) n p m.given r (omega (arith, gone))
       | inr (w, rest, is, low, few) ↦
           let at : first_open h h ≡ m.dropped = omega (arith, s.taken) in
           let (here, inside) = front_entry f m.waiting.items w rest s refl is in
           let count = front_count (entries h) (first_open h h) w.entry (omega arith) in
           let ends : (get_or (entries h) (first_open h h) w.entry).ends ≡ w.entry.ends = ap (λ k. (get_or (entries h) k w.entry).ends) at ∙ ap (λ (x : Entry). x.ends) here in
-          ap (λ k. coming (stream_of m) k m.given) (sym at) ∙ fault_comes (stream_of m) n p m.given r (omega (arith, count, ends, few))
+          ap (λ k. remaining (stream_of m) k m.given) (sym at) ∙ fault_comes (stream_of m) n p m.given r (omega (arith, count, ends, few))
     ]
 
 -- behind the first look all that is left is to come
@@ -136,12 +136,12 @@ left_is m on = ap (λ b. left_from b (to_come m) (scanned m.setting m.input.now)
 pub left_whole : (m : Machine) → m.started ≡ false → left_in m ≡ scanned m.setting m.input.now
 left_whole m off = ap (λ b. left_from b (to_come m) (scanned m.setting m.input.now)) off
 
-pub left_gives : (old new : Machine) (t : Token) → old.started ≡ true → new.started ≡ true → Gives (to_come old) t (to_come new) → Gives (left_in old) t (left_in new)
+pub left_gives : (old new : Machine) (t : Token) → old.started ≡ true → new.started ≡ true → GivesFirst (to_come old) t (to_come new) → GivesFirst (left_in old) t (left_in new)
 left_gives old new t on still (tokens, fault) =
     let a = left_is old on in
     let b = left_is new still in (
-      ap (λ (c : Coming). c.tokens) a ∙ tokens ∙ ap (λ (c : Coming). t ∷ c.tokens) (sym b),
-      ap (λ (c : Coming). c.fault) a ∙ fault ∙ ap (λ (c : Coming). c.fault) (sym b),
+      ap (λ (c : Remaining). c.tokens) a ∙ tokens ∙ ap (λ (c : Remaining). t ∷ c.tokens) (sym b),
+      ap (λ (c : Remaining). c.fault) a ∙ fault ∙ ap (λ (c : Remaining). c.fault) (sym b),
     )
 
 -- before the input is decoded no token is known
@@ -157,7 +157,7 @@ pub told_error : (m : Machine) (e : ScanError) (f : Fault) → m.started ≡ tru
 told_error m errors.Memory f on c is = inl (inl is)
 told_error m (errors.Fault p) f on c is =
     let all : left_in m ≡ record { tokens = []; fault = Some (scanner_fault p) } = left_is m on ∙ c in
-    inr (ap (λ (x : Coming). x.tokens) all, ap (λ (x : Coming). x.fault) all ∙ ap Some (sym is))
+    inr (ap (λ (x : Remaining). x.tokens) all, ap (λ (x : Remaining). x.fault) all ∙ ap Some (sym is))
 
 offence_told : (encoding : yaml_encoding_t) (r : Result (List ℕ) Offence) (f : Fault) → option_map reader_fault (result_err r) ≡ Some f → IsTold (scanned_in encoding (in_utf8 r)) f
 offence_told encoding (Ok cs) f e = cc
@@ -167,4 +167,4 @@ offence_told encoding (Err o) f e = inr (refl, e)
 pub told_decoding : (m : Machine) (f : Fault) → m.started ≡ false → (f ≡ memory_fault Reader) ⊎ (decoding_fault m.setting m.input.now ≡ Some f) → IsTold (left_in m) f
 told_decoding m f off (inl memory) = inl (inr memory)
 told_decoding m f off (inr fault) =
-    subst (λ (c : Coming). IsTold c f) (sym (left_whole m off)) (offence_told (encoding_of m.setting m.input.now) (decoded_characters m.setting m.input.now) f fault)
+    subst (λ (c : Remaining). IsTold c f) (sym (left_whole m off)) (offence_told (encoding_of m.setting m.input.now) (decoded_characters m.setting m.input.now) f fault)

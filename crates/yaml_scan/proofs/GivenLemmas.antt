@@ -3,16 +3,16 @@ use Rattle.std.proofs.Common.{◌≡◌, ℕ, suc, ◌+◌, ◌-◌, ◌<◌, �
 use Rattle.std.proofs.lemmas.Bool.{cases_Bool, cases_lt}
 use Rattle.std.proofs.lemmas.List.{get_or-append_right, get_or-drop, get_or-take}
 use Rattle.std.specs.Prelude.{filter}
-use Rattle.yaml_scan_text.specs.Tokens.{TokenBody}
-use Rattle.yaml_scan_layout.specs.declared.kind.Kind.{Kind}
-use Rattle.yaml_scan_layout.specs.declared.lexeme.Lexeme.{Lexeme}
-use Rattle.yaml_scan_layout.specs.declared.lexeme.Entry.{Entry}
-use Rattle.yaml_scan_layout.specs.Kinds.{is_start}
-use Rattle.yaml_scan_layout.specs.History.{entries, levels, left_by, keeps, opened, opens_at, found_by, inside, indent, keyed, entry_of}
-use Rattle.yaml_scan_layout.specs.Next.{Read, next}
-use Rattle.yaml_scan_layout.specs.Laws.{GoesForward}
-use Rattle.yaml_scan_layout.proofs.HistoryLemmas.{length-entries, length-keyed, take-entries}
-use Rattle.yaml_scan_forward.proofs.ComingForward.{entries_ends}
+use Rattle.yaml_scan_model.specs.Tokens.{TokenBody}
+use Rattle.yaml_scan_history.specs.declared.kind.Kind.{Kind}
+use Rattle.yaml_scan_history.specs.declared.lexeme.Lexeme.{Lexeme}
+use Rattle.yaml_scan_history.specs.declared.lexeme.Entry.{Entry}
+use Rattle.yaml_scan_history.specs.Kinds.{is_start}
+use Rattle.yaml_scan_history.specs.History.{entries, levels, left_by, keeps, opened, opens_at, found_by, inside, indent, keyed, entry_of}
+use Rattle.yaml_scan_history.specs.Next.{Read, next}
+use Rattle.yaml_scan_history.specs.Laws.{GoesForward}
+use Rattle.yaml_scan_history.proofs.HistoryLemmas.{length-entries, length-keyed, take-entries}
+use Rattle.yaml_scan_laws_order.proofs.RemainingForward.{entries_ends}
 use Rattle.yaml_scan.specs.declared.waiting.Waiting.{Waiting}
 use Rattle.yaml_scan.specs.State.{ready_in}
 use Rattle.yaml_scan.specs.Shows.{Fields, IsShown, read}

@@ -3,25 +3,25 @@ use Rattle.std.proofs.Common.{◌≡◌, ℕ, ◌+◌, ◌<◌, ◌≤◌, Bool,
 use Rattle.std.proofs.lemmas.Bool.{cases_Bool, and_parts}
 use Rattle.std.proofs.lemmas.List.{length-map}
 use Rattle.std.specs.Prelude.{is_some, IfOk}
-use Rattle.yaml_scan_text.specs.declared.record.yaml_mark_t.{yaml_mark_t}
-use Rattle.yaml_scan_text.specs.declared.token.yaml_token_body_t.{yaml_token_body_t}
-use Rattle.yaml_scan_text.specs.declared.problem.ScanFault.{ScanFault}
-use Rattle.yaml_scan_text.specs.declared.problem.Problem.TheVariants as problems
-use Rattle.yaml_scan_text.specs.declared.problem.Context.TheVariants as contexts
-use Rattle.yaml_scan_text.specs.declared.problem.ScanError.{ScanError}
-use Rattle.yaml_scan_text.specs.declared.problem.ScanError.TheVariants as errors
-use Rattle.yaml_scan_text.specs.Marks.{Place, mark_at, splits_break}
-use Rattle.yaml_scan_text.specs.Tokens.{body_of, stream_start, zero_mark}
-use Rattle.yaml_scan_text.specs.Wrong.{Wrong}
+use Rattle.yaml_scan_model.specs.declared.record.yaml_mark_t.{yaml_mark_t}
+use Rattle.yaml_scan_model.specs.declared.token.yaml_token_body_t.{yaml_token_body_t}
+use Rattle.yaml_scan_model.specs.declared.problem.ScanFault.{ScanFault}
+use Rattle.yaml_scan_model.specs.declared.problem.Problem.TheVariants as problems
+use Rattle.yaml_scan_model.specs.declared.problem.Context.TheVariants as contexts
+use Rattle.yaml_scan_model.specs.declared.problem.ScanError.{ScanError}
+use Rattle.yaml_scan_model.specs.declared.problem.ScanError.TheVariants as errors
+use Rattle.yaml_scan_model.specs.Marks.{Place, mark_at, splits_break}
+use Rattle.yaml_scan_model.specs.Tokens.{body_of, stream_start, zero_mark}
+use Rattle.yaml_scan_model.specs.Wrong.{Wrong}
 use Rattle.yaml_scan_words.specs.Between.{Gap, gap_at}
-use Rattle.yaml_scan_layout.specs.declared.kind.Kind.{Kind}
-use Rattle.yaml_scan_layout.specs.declared.kind.Kind.TheVariants as kinds
-use Rattle.yaml_scan_layout.specs.declared.lexeme.Lexeme.{Lexeme}
-use Rattle.yaml_scan_layout.specs.Kinds.{is_value, is_start, is_end, cancels, may_be_key}
-use Rattle.yaml_scan_layout.specs.History.{Candidate, candidate, fresh, has, reached, depth, placed, levels, found_by}
-use Rattle.yaml_scan_layout.specs.Words.{WordText, word_at, kind_at}
-use Rattle.yaml_scan_layout.specs.Next.{Next, Read, Fails, Ends, next, history, first_lexeme, behind, unless_missed, no_colon, no_token, not_allowed, not_allowed_by, allowed_behind, finished, misplaced, missed, lost_by, tested, unless_wrong, unless_lost, of_kind}
-use Rattle.yaml_scan_layout.specs.Coming.{Stream, body_by, body_in, body_of_word}
+use Rattle.yaml_scan_history.specs.declared.kind.Kind.{Kind}
+use Rattle.yaml_scan_history.specs.declared.kind.Kind.TheVariants as kinds
+use Rattle.yaml_scan_history.specs.declared.lexeme.Lexeme.{Lexeme}
+use Rattle.yaml_scan_history.specs.Kinds.{is_value, is_start, is_end, cancels, may_be_key}
+use Rattle.yaml_scan_history.specs.History.{Candidate, candidate, fresh, has, reached, depth, placed, levels, found_by}
+use Rattle.yaml_scan_history.specs.Words.{WordText, word_at, kind_at}
+use Rattle.yaml_scan_history.specs.Next.{Next, Read, Fails, Ends, next, history, first_lexeme, behind, unless_missed, no_colon, no_token, not_allowed, not_allowed_by, allowed_behind, finished, misplaced, missed, lost_by, tested, unless_wrong, unless_lost, of_kind}
+use Rattle.yaml_scan_history.specs.Remaining.{SpelledText, body_by, body_in, body_of_word}
 use Rattle.yaml_scan.specs.declared.machine.Machine.{Machine}
 use Rattle.yaml_scan.specs.declared.waiting.Waiting.{Waiting}
 use Rattle.yaml_scan.specs.declared.next.Read.{Read as Answer}
@@ -32,7 +32,7 @@ use Rattle.yaml_scan.specs.Shows.{Fields, fields_of, IsShown, read, Picks, histo
 use Rattle.yaml_scan.specs.Reads.{required_in, late, lost, required_behind, colon_fault, begun_in, keyed_by, ended_by, EndsAt, Finishes, GivesLexeme, GivesNext, IsRead, Owns}
 use Rattle.yaml_scan.proofs.ReadLemmas.{gap_of, finished_kind, finished_start, finished_depth, finished_level, finished_saved, finished_required}
 use Rattle.yaml_scan_decode.specs.DecodedText.{text_bytes}
-use Rattle.yaml_scan_layout.specs.Laws.{Upto}
+use Rattle.yaml_scan_history.specs.Laws.{Upto}
 use Rattle.yaml_scan.proofs.NextLemmas.{tested_same, lost_same, late_same, next_at, next_first, upto_gap}
 
 -- the lexeme of a kind that may stand there, by the fields of a machine
@@ -94,7 +94,7 @@ tested_some l h e = tested_of (missed (candidate 0 (l ∷ h)) l.reached) l e
 must_end : (text : List ℕ) (l : Lexeme) (w : WordText) → (l.required ≡ true → l.saved ≡ true) → (finished text l w).required ≡ true → (finished text l w).saved ≡ true
 must_end text l w must e = finished_saved text l w ∙ must (sym (finished_required text l w) ∙ e)
 
-pub wrong_gives : (s : Stream) (text : List ℕ) (at : ℕ) (place : Place) (e : ScanError) (x : Result WordText Wrong) (l : Lexeme) (h : List Lexeme) → x ≡ word_at l.kind (ltb 0 l.depth) l.level text at
+pub wrong_gives : (s : SpelledText) (text : List ℕ) (at : ℕ) (place : Place) (e : ScanError) (x : Result WordText Wrong) (l : Lexeme) (h : List Lexeme) → x ≡ word_at l.kind (ltb 0 l.depth) l.level text at
     → (is_end l.kind ≡ false → l.start ≡ mark_at text at) → ReadsWord text at place (Err e) x → GivesLexeme s (Err e) (unless_wrong x text l h)
 wrong_gives s text at place errors.Memory (Ok w) l h is start r = elim (cases_Next (tested (finished text l w) h)) [
   | inl (y, a) ↦ rw a tt
@@ -111,11 +111,11 @@ wrong_gives s text at place (errors.Fault f) (Err w) l h is start r =
 ended_is : (text : List ℕ) (l : Lexeme) (word : Word) (w : WordText) (r : yaml_mark_t) → IsWord text word w → r ≡ mark_at text w.reached → ended_by l word r ≡ finished text l w
 ended_is text l word w r is at = rw (is.end, is.broke, at) refl
 
-body_other : (k : Kind) (s : Stream) (l : Lexeme) → (k ≡ kinds.StreamStart → ⊥) → body_by k s l ≡ body_of_word (word_at k (ltb 0 l.depth) l.level s.text l.start.index)
+body_other : (k : Kind) (s : SpelledText) (l : Lexeme) → (k ≡ kinds.StreamStart → ⊥) → body_by k s l ≡ body_of_word (word_at k (ltb 0 l.depth) l.level s.text l.start.index)
 body_other kinds.StreamStart s l other = absurd (other refl)
 body_other _ s l other = refl
 
-body_is : (s : Stream) (l x : Lexeme) (w : WordText) → (l.kind ≡ kinds.StreamStart → ⊥) → x.kind ≡ l.kind → x.depth ≡ l.depth → x.level ≡ l.level → x.start ≡ l.start
+body_is : (s : SpelledText) (l x : Lexeme) (w : WordText) → (l.kind ≡ kinds.StreamStart → ⊥) → x.kind ≡ l.kind → x.depth ≡ l.depth → x.level ≡ l.level → x.start ≡ l.start
     → word_at l.kind (ltb 0 l.depth) l.level s.text l.start.index ≡ Ok w → body_in s x ≡ w.body
 body_is s l x w other kind deep level start reads =
     body_other x.kind s x (λ e. other (sym kind ∙ e)) ∙ rw (kind, deep, level, start, reads) refl
@@ -128,14 +128,14 @@ tested_late : (o : Option yaml_mark_t) (l : Lexeme) (s : yaml_mark_t) → o ≡ 
 tested_late None l s e = cc
 tested_late (Some x) l s e = let same : x ≡ s = cc in rw same refl
 
-gives_ok : (s : Stream) (r : Lexeme × yaml_token_body_t) (x : Next) (l : Lexeme) → x ≡ Read l → r.0 ≡ l → body_of r.1 ≡ body_in s l → GivesLexeme s (Ok r) x
+gives_ok : (s : SpelledText) (r : Lexeme × yaml_token_body_t) (x : Next) (l : Lexeme) → x ≡ Read l → r.0 ≡ l → body_of r.1 ≡ body_in s l → GivesLexeme s (Ok r) x
 gives_ok s r x l e a b = rw e (a, b)
 
-gives_err : (s : Stream) (e : ScanError) (x : Next) (start place : yaml_mark_t) → x ≡ no_colon start place → e ≡ errors.Fault (colon_fault start place) → GivesLexeme s (Err e) x
+gives_err : (s : SpelledText) (e : ScanError) (x : Next) (start place : yaml_mark_t) → x ≡ no_colon start place → e ≡ errors.Fault (colon_fault start place) → GivesLexeme s (Err e) x
 gives_err s e x start place is same = rw (is, same) refl
 
 -- a lexeme whose word is read
-pub word_gives : (s : Stream) (n : ℕ) (place : Place) (word : Word) (x : Result WordText Wrong) (l : Lexeme) (reach : yaml_mark_t) (required : Option yaml_mark_t) (result : Result (Lexeme × yaml_token_body_t) ScanError)
+pub word_gives : (s : SpelledText) (n : ℕ) (place : Place) (word : Word) (x : Result WordText Wrong) (l : Lexeme) (reach : yaml_mark_t) (required : Option yaml_mark_t) (result : Result (Lexeme × yaml_token_body_t) ScanError)
     → let h = history s.text n in x ≡ word_at l.kind (ltb 0 l.depth) l.level s.text l.start.index → (l.kind ≡ kinds.StreamStart → ⊥) → (l.required ≡ true → l.saved ≡ true)
     → required ≡ required_in (fresh (candidate 0 h) (reached h)) → ReadsWord s.text l.start.index place (Ok word) x → reach ≡ mark_at place.text place.at → Finishes l word reach required result
     → GivesLexeme s result (unless_wrong x s.text l h)
@@ -209,7 +209,7 @@ kind_at_place text n gap k m at a d ls required l here mark allow deep lev good 
 pub lost_gives : (m : Machine) (e : ScanError) (x : Next) (start place : yaml_mark_t) → x ≡ no_colon start place → e ≡ errors.Fault (colon_fault start place) → GivesNext m (Err e) x
 lost_gives m e x start place is same = rw (is, same) refl
 
-pub err_gives : (m : Machine) (s : Stream) (e : ScanError) (x : Next) → GivesLexeme s (Err e) x → GivesNext m (Err e) x
+pub err_gives : (m : Machine) (s : SpelledText) (e : ScanError) (x : Next) → GivesLexeme s (Err e) x → GivesNext m (Err e) x
 err_gives m s e (Read l) g = g
 err_gives m s e (Fails p) g = g
 err_gives m s e Ends g = g

@@ -1,13 +1,13 @@
 -- A letter starts a plain scalar.
 use Rattle.std.proofs.Common.{◌≡◌, ◌≢◌, ℕ, ◌+◌, ◌<◌, ◌==◌, ◌&&◌, Bool, true, false, List, Some, None, refl, arith}
 use Rattle.std.proofs.lemmas.Bool.Decides.{nat_tests}
-use Rattle.yaml_scan_text.specs.Marks.{byte, break_width, column_at, is_blank, is_blank_or_end}
-use Rattle.yaml_scan_text.proofs.MarksLemmas.{no_break}
+use Rattle.yaml_scan_model.specs.Marks.{byte, break_width, column_at, is_blank, is_blank_or_end}
+use Rattle.yaml_scan_model.proofs.MarksLemmas.{no_break}
 use Rattle.yaml_scan_words.specs.Indicators.{is_document_start, is_document_end}
 use Rattle.yaml_scan_scalars.specs.Plain.{starts_plain, is_indicator_byte}
 use Rattle.yaml_scan_scalars.specs.Plain as plains
-use Rattle.yaml_scan_layout.specs.declared.kind.Kind.TheVariants as kinds
-use Rattle.yaml_scan_layout.specs.Words.{kind_at, indicator_of}
+use Rattle.yaml_scan_history.specs.declared.kind.Kind.TheVariants as kinds
+use Rattle.yaml_scan_history.specs.Words.{kind_at, indicator_of}
 use Rattle.yaml_scan.specs.Stands.{is_letter}
 
 pub record IsLetter (b : ℕ) : Type 0 where
@@ -20,7 +20,7 @@ pub record IsLetter (b : ℕ) : Type 0 where
   pub no_dash : b ≢ 45
   pub no_dot : b ≢ 46
   pub no_blank : is_blank b ≡ false
-  pub no_sign : is_indicator_byte b ≡ false
+  pub no_indicator : is_indicator_byte b ≡ false
 
 letter_is : (b : ℕ) → is_letter b ≡ true → IsLetter b
 unfolding is_letter is_indicator_byte plains.is_bracket
@@ -34,7 +34,7 @@ letter_is b h = record {
   no_dash = grind (arith, nat_tests);
   no_dot = grind (arith, nat_tests);
   no_blank = grind (arith, nat_tests);
-  no_sign = grind (arith, nat_tests);
+  no_indicator = grind (arith, nat_tests);
 }
 
 tells_none : (flow alone : Bool) (b : ℕ) → is_letter b ≡ true → indicator_of flow alone b ≡ None
@@ -61,7 +61,7 @@ letter_starts flow text p h =
     let l = letter_is (byte text p) h in
     let some = l.some in
     let z : break_width text p ≡ 0 = no_break _ _ _ l.no_cr l.no_feed l.no_c2 l.no_e2 in
-    rw (l.no_blank, differs (byte text p) 0 (omega arith), z, l.no_sign) refl
+    rw (l.no_blank, differs (byte text p) 0 (omega arith), z, l.no_indicator) refl
 
 pub letter_kind : (flow : Bool) (text : List ℕ) (p : ℕ) → is_letter (byte text p) ≡ true → kind_at flow text p ≡ Some kinds.Plain
 unfolding kind_at

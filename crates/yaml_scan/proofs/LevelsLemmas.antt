@@ -4,7 +4,7 @@ use Rattle.std.proofs.lemmas.Bool.{cases_lt}
 use Rattle.std.proofs.lemmas.Bool.Decides.{nat_tests}
 use Rattle.std.proofs.lemmas.List.{length-take-le, get_or_append_left}
 use Rattle.std.specs.Prelude.{slice_index}
-use Rattle.yaml_scan_layout.specs.History.{indent}
+use Rattle.yaml_scan_history.specs.History.{indent}
 use Rattle.yaml_scan.specs.Rising.{IsRising, left_of}
 
 -- the innermost level stands last

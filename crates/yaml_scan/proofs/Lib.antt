@@ -16,12 +16,12 @@ pub mod ComesLemmas
 pub mod TakeLemmas
 pub mod AheadLemmas
 pub mod LetterLemmas
-pub mod ShutLemmas
-pub mod SignLemmas
+pub mod BoundLemmas
+pub mod IndicatorLemmas
 -- its helpers, for crates of laws that name the member alone
-pub use Rattle.yaml_scan_text.proofs as scan_text
+pub use Rattle.yaml_scan_model.proofs as scan_model
 pub use Rattle.yaml_scan_words.proofs as scan_words
 pub use Rattle.yaml_scan_scalars.proofs as scan_scalars
 pub use Rattle.yaml_scan_block.proofs as scan_block
 pub use Rattle.yaml_scan_decode.proofs as scan_decode
-pub use Rattle.yaml_scan_layout.proofs as scan_layout
+pub use Rattle.yaml_scan_history.proofs as scan_history

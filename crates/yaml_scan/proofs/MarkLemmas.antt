@@ -5,19 +5,19 @@ use Rattle.std.proofs.lemmas.Bool.Decides.{nat_tests}
 use Rattle.std.proofs.lemmas.List.{get_or-map, length-map, map-set, get_or_append_left, get_or-append_right, drop-append-le}
 use Rattle.std.proofs.Math.ListN.{set, length-set}
 use Rattle.std.specs.Prelude.{map}
-use Rattle.yaml_scan_layout.specs.declared.lexeme.Lexeme.{Lexeme}
-use Rattle.yaml_scan_layout.specs.declared.lexeme.Entry.{Entry}
+use Rattle.yaml_scan_history.specs.declared.lexeme.Lexeme.{Lexeme}
+use Rattle.yaml_scan_history.specs.declared.lexeme.Entry.{Entry}
 use Rattle.yaml_scan.specs.declared.waiting.Waiting.{Waiting}
-use Rattle.yaml_scan_layout.specs.declared.lexeme.Opens.{Opens}
-use Rattle.yaml_scan_layout.specs.declared.lexeme.Opens.TheVariants as opening
-use Rattle.yaml_scan_layout.specs.Kinds.{is_value, cancels, is_end, depth_after}
-use Rattle.yaml_scan_layout.specs.History.{Candidate, candidate, is_fresh, has_number, first_open, as_key, mark_key, keyed, entries, entry_of, reached, opens_in, depth, ended, found_by, inside, start_of, levels, key_allowed}
-use Rattle.yaml_scan_layout.specs.Next.{history, Read, Ends, next}
-use Rattle.yaml_scan_layout.specs.Laws.{Upto, GoesForward}
+use Rattle.yaml_scan_history.specs.declared.lexeme.Opens.{Opens}
+use Rattle.yaml_scan_history.specs.declared.lexeme.Opens.TheVariants as opening
+use Rattle.yaml_scan_history.specs.Kinds.{is_value, cancels, is_end, depth_after}
+use Rattle.yaml_scan_history.specs.History.{Candidate, candidate, is_fresh, has_number, first_open, as_key, mark_key, keyed, entries, entry_of, reached, opens_in, depth, ended, found_by, inside, start_of, levels, key_allowed}
+use Rattle.yaml_scan_history.specs.Next.{history, Read, Ends, next}
+use Rattle.yaml_scan_history.specs.Laws.{Upto, GoesForward}
 use Rattle.yaml_scan.proofs.ReadLemmas.{next_is, first_is, cases_Option, begun_at, finished_depth}
 use Rattle.yaml_scan.specs.Shows.{Fields, Pending, IsShown, read, Closes, settled_in, marked}
 use Rattle.yaml_scan.proofs.StepLemmas.{opens_more, opens_new, none_deeper, opens-below}
-use Rattle.yaml_scan_layout.proofs.HistoryLemmas.{length-entries, length-keyed, candidate_below, fresh_before, fresh_is, first_open-least, first_open-grows, IsOpen}
+use Rattle.yaml_scan_history.proofs.HistoryLemmas.{length-entries, length-keyed, candidate_below, fresh_before, fresh_is, first_open-least, first_open-grows, IsOpen}
 
 -- nothing comes behind the end
 pub next_ended : (text : List ℕ) (h : List Lexeme) → ended h ≡ true → next text h ≡ Ends

@@ -4,18 +4,18 @@ use Rattle.std.proofs.lemmas.Bool.{cases_Bool, cases_lt, and_parts}
 use Rattle.std.proofs.lemmas.Bool.Decides.{nat_tests}
 use Rattle.std.proofs.lemmas.List.{get_or-map, get_or-drop, length-map}
 use Rattle.std.specs.Prelude.{map}
-use Rattle.yaml_scan_text.specs.declared.record.yaml_mark_t.{yaml_mark_t}
-use Rattle.yaml_scan_text.specs.Marks.{mark_at, line_at}
+use Rattle.yaml_scan_model.specs.declared.record.yaml_mark_t.{yaml_mark_t}
+use Rattle.yaml_scan_model.specs.Marks.{mark_at, line_at}
 use Rattle.yaml_scan_words.proofs.PlacesLemmas.{gap_place}
-use Rattle.yaml_scan_layout.specs.declared.kind.Kind.{Kind}
-use Rattle.yaml_scan_layout.specs.declared.kind.Kind.TheVariants as kinds
-use Rattle.yaml_scan_layout.specs.declared.lexeme.Lexeme.{Lexeme}
-use Rattle.yaml_scan_layout.specs.declared.lexeme.Entry.{Entry}
-use Rattle.yaml_scan_layout.specs.Kinds.{is_value, cancels, may_be_key}
-use Rattle.yaml_scan_layout.specs.History.{Candidate, candidate, fresh, is_fresh, first_open, opens_in, entries, reached, depth, key_allowed, ended}
-use Rattle.yaml_scan_layout.specs.Next.{Next, Read, Fails, Ends, next, history, extended, first_lexeme, allowed_behind, missed, lost_by, behind}
-use Rattle.yaml_scan_layout.specs.Laws.{Upto}
-use Rattle.yaml_scan_layout.proofs.HistoryLemmas.{candidate_below, first_open-is, first_open-least, fresh_is, fresh_before, IsOpen}
+use Rattle.yaml_scan_history.specs.declared.kind.Kind.{Kind}
+use Rattle.yaml_scan_history.specs.declared.kind.Kind.TheVariants as kinds
+use Rattle.yaml_scan_history.specs.declared.lexeme.Lexeme.{Lexeme}
+use Rattle.yaml_scan_history.specs.declared.lexeme.Entry.{Entry}
+use Rattle.yaml_scan_history.specs.Kinds.{is_value, cancels, may_be_key}
+use Rattle.yaml_scan_history.specs.History.{Candidate, candidate, fresh, is_fresh, first_open, opens_in, entries, reached, depth, key_allowed, ended}
+use Rattle.yaml_scan_history.specs.Next.{Next, Read, Fails, Ends, next, history, extended, first_lexeme, allowed_behind, missed, lost_by, behind}
+use Rattle.yaml_scan_history.specs.Laws.{Upto}
+use Rattle.yaml_scan_history.proofs.HistoryLemmas.{candidate_below, first_open-is, first_open-least, fresh_is, fresh_before, IsOpen}
 use Rattle.yaml_scan.specs.declared.waiting.Waiting.{Waiting}
 use Rattle.yaml_scan.specs.Shows.{Fields, IsShown, read, settled_in}
 use Rattle.yaml_scan.specs.Reads.{required_in, late, lost, required_behind}
@@ -62,9 +62,9 @@ late_same (Some c) p =
       ]
     ]
 
-shut : (d : ℕ) (l : Lexeme) (h : List Lexeme) → l.depth < d → candidate d (l ∷ h) ≡ None
+candidate_bound : (d : ℕ) (l : Lexeme) (h : List Lexeme) → l.depth < d → candidate d (l ∷ h) ≡ None
 unfolding candidate
-shut d l h low =
+candidate_bound d l h low =
     let t : eqb l.depth d ≡ false = grind (arith, nat_tests) in
     let u : ltb l.depth d ≡ true = grind (arith, nat_tests) in
     rw (t, u) refl
@@ -80,7 +80,7 @@ outer_older (l ∷ h) d c x is ix deep =
         | inr before ↦ let low = candidate_below 0 h c before in omega arith
       ]
       | inr was ↦ elim (candidate_top 0 l h c is) [
-        | inl (z, up, t) ↦ let none = shut d l h (omega arith) in let bad : Some x ≡ None = sym ix ∙ none in cc
+        | inl (z, up, t) ↦ let none = candidate_bound d l h (omega arith) in let bad : Some x ≡ None = sym ix ∙ none in cc
         | inr before ↦ outer_older h d c x before was deep
       ]
     ]

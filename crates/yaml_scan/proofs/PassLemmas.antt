@@ -2,10 +2,10 @@
 use Rattle.std.proofs.Common.{◌≡◌, ℕ, zero, suc, ◌+◌, ◌-◌, ◌<◌, ◌≤◌, Bool, false, ◌&&◌, List, [], ◌∷◌, length, drop, get_or, Option, Some, refl, sym, ap, ◌∙◌, arith, length-drop}
 use Rattle.std.proofs.lemmas.List.{get_or-map, get_or-drop, length-map}
 use Rattle.std.specs.Prelude.{map}
-use Rattle.yaml_scan_layout.specs.declared.lexeme.Lexeme.{Lexeme}
-use Rattle.yaml_scan_layout.specs.declared.lexeme.Entry.{Entry}
+use Rattle.yaml_scan_history.specs.declared.lexeme.Lexeme.{Lexeme}
+use Rattle.yaml_scan_history.specs.declared.lexeme.Entry.{Entry}
 use Rattle.yaml_scan.specs.declared.waiting.Waiting.{Waiting}
-use Rattle.yaml_scan_layout.specs.History.{Candidate, is_fresh, entries, reached, opens_in}
+use Rattle.yaml_scan_history.specs.History.{Candidate, is_fresh, entries, reached, opens_in}
 use Rattle.yaml_scan.specs.Shows.{Fields, IsPending, IsShown, read}
 use Rattle.yaml_scan.proofs.StepLemmas.{back}
 

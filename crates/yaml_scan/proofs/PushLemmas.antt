@@ -3,19 +3,19 @@ use Rattle.std.proofs.Common.{◌≡◌, ℕ, zero, suc, ◌+◌, ◌-◌, ◌<�
 use Rattle.std.proofs.lemmas.Bool.{cases_Bool}
 use Rattle.std.proofs.Math.ListN.{set}
 use Rattle.std.specs.Prelude.{map, is_some, IfSome}
-use Rattle.yaml_scan_layout.specs.declared.kind.Kind.{Kind}
-use Rattle.yaml_scan_layout.specs.declared.kind.Kind.TheVariants as kinds
-use Rattle.yaml_scan_layout.specs.declared.lexeme.Lexeme.{Lexeme}
-use Rattle.yaml_scan_layout.specs.declared.lexeme.Entry.{Entry}
-use Rattle.yaml_scan_layout.specs.declared.lexeme.Opens.{Opens}
-use Rattle.yaml_scan_layout.specs.declared.lexeme.Opens.TheVariants as opening
-use Rattle.yaml_scan_layout.specs.Kinds.{is_value, is_start, is_end, cancels, allows_key, depth_after}
-use Rattle.yaml_scan_layout.specs.History.{Candidate, candidate, has, is_fresh, first_open, keyed, entries, entry_of, levels, key_allowed, found_by, inside, start_of, level_of, opens_at, opens_of, opened, opens_in}
-use Rattle.yaml_scan_layout.specs.Next.{Read, next}
-use Rattle.yaml_scan_layout.specs.Coming.{Stream, body_in}
-use Rattle.yaml_scan_layout.specs.Laws.{GoesForward}
-use Rattle.yaml_scan_forward.proofs.HistoryForward.{steps_below}
-use Rattle.yaml_scan_layout.proofs.HistoryLemmas.{first_open-le, first_open-grows}
+use Rattle.yaml_scan_history.specs.declared.kind.Kind.{Kind}
+use Rattle.yaml_scan_history.specs.declared.kind.Kind.TheVariants as kinds
+use Rattle.yaml_scan_history.specs.declared.lexeme.Lexeme.{Lexeme}
+use Rattle.yaml_scan_history.specs.declared.lexeme.Entry.{Entry}
+use Rattle.yaml_scan_history.specs.declared.lexeme.Opens.{Opens}
+use Rattle.yaml_scan_history.specs.declared.lexeme.Opens.TheVariants as opening
+use Rattle.yaml_scan_history.specs.Kinds.{is_value, is_start, is_end, cancels, allows_key, depth_after}
+use Rattle.yaml_scan_history.specs.History.{Candidate, candidate, has, is_fresh, first_open, keyed, entries, entry_of, levels, key_allowed, found_by, inside, start_of, level_of, opens_at, opens_of, opened, opens_in}
+use Rattle.yaml_scan_history.specs.Next.{Read, next}
+use Rattle.yaml_scan_history.specs.Remaining.{SpelledText, body_in}
+use Rattle.yaml_scan_history.specs.Laws.{GoesForward}
+use Rattle.yaml_scan_laws_order.proofs.HistoryForward.{steps_below}
+use Rattle.yaml_scan_history.proofs.HistoryLemmas.{first_open-le, first_open-grows}
 use Rattle.yaml_scan.specs.declared.machine.Machine.{Machine}
 use Rattle.yaml_scan.specs.declared.waiting.Waiting.{Waiting}
 use Rattle.yaml_scan.specs.Shows.{Fields, fields_of, Shows, IsShown, Pending, IsPending, read, settled_in, Closes, Finds, Picks, history_of, marked, IsSpoken, AreSpoken}
@@ -233,18 +233,18 @@ entry_is mc l h key column ends found o old lv x was left many has_key picks at 
     is ∙ ap (λ n. record { lexeme = l; ends = n; opens = cond found opening.Nothing o; key = false }) closed ∙ ap (λ (y : Opens). record { lexeme = l; ends = length (levels h) - length (inside l h); opens = y; key = false }) open_to
 
 -- What waits carries what stands there, whatever is marked.
-pub spoken_rest : (s : Stream) (w : Waiting) (ws : List Waiting) → AreSpoken s (w ∷ ws) → AreSpoken s ws
+pub spoken_rest : (s : SpelledText) (w : Waiting) (ws : List Waiting) → AreSpoken s (w ∷ ws) → AreSpoken s ws
 spoken_rest s w ws h k d lt = h (suc k) d (omega arith)
 
-spoken_cons : (s : Stream) (w : Waiting) (ws : List Waiting) → IsSpoken s w → AreSpoken s ws → AreSpoken s (w ∷ ws)
+spoken_cons : (s : SpelledText) (w : Waiting) (ws : List Waiting) → IsSpoken s w → AreSpoken s ws → AreSpoken s (w ∷ ws)
 spoken_cons s w ws is h zero d lt = is
 spoken_cons s w ws is h (suc k) d lt = h k d (omega arith)
 
-pub spoken_push : (s : Stream) (w : Waiting) (ws : List Waiting) → IsSpoken s w → AreSpoken s ws → AreSpoken s (ws ++ w ∷ [])
+pub spoken_push : (s : SpelledText) (w : Waiting) (ws : List Waiting) → IsSpoken s w → AreSpoken s ws → AreSpoken s (ws ++ w ∷ [])
 spoken_push s w [] is h = spoken_cons s w [] is h
 spoken_push s w (x ∷ xs) is h = spoken_cons s x (xs ++ w ∷ []) (h 0 x (omega arith)) (spoken_push s w xs is (spoken_rest s x xs h))
 
-spoken_set : (s : Stream) (w : Waiting) (ws : List Waiting) (i : ℕ) → IsSpoken s w → AreSpoken s ws → AreSpoken s (set ws i w)
+spoken_set : (s : SpelledText) (w : Waiting) (ws : List Waiting) (i : ℕ) → IsSpoken s w → AreSpoken s ws → AreSpoken s (set ws i w)
 spoken_set s w [] i is h = h
 spoken_set s w (x ∷ xs) zero is h = spoken_cons s w xs is (spoken_rest s x xs h)
 spoken_set s w (x ∷ xs) (suc i) is h = spoken_cons s x (set xs i w) (h 0 x (omega arith)) (spoken_set s w xs i is (spoken_rest s x xs h))
@@ -252,7 +252,7 @@ spoken_set s w (x ∷ xs) (suc i) is h = spoken_cons s x (set xs i w) (h 0 x (om
 marked_lexeme : (l : Lexeme) (o : Opens) (w : Waiting) → (marked l o w).entry.lexeme ≡ w.entry.lexeme
 marked_lexeme l o w = elim (is_value l.kind && is_fresh w.entry.lexeme.start l.start) as (λ b. (cond b record { lexeme = w.entry.lexeme; ends = w.entry.ends; opens = o; key = true } w.entry).lexeme ≡ w.entry.lexeme) [ true ↦ refl | false ↦ refl ]
 
-pub spoken_marked : (s : Stream) (own : Option ℕ) (l : Lexeme) (o : Opens) (ws new : List Waiting) → IfSome own (λ i. i < length ws) → MarksOwn own l o ws new → AreSpoken s ws → AreSpoken s new
+pub spoken_marked : (s : SpelledText) (own : Option ℕ) (l : Lexeme) (o : Opens) (ws new : List Waiting) → IfSome own (λ i. i < length ws) → MarksOwn own l o ws new → AreSpoken s ws → AreSpoken s new
 spoken_marked s None l o ws new inside_of marks h = subst (λ (xs : List Waiting). AreSpoken s xs) (sym marks) h
 spoken_marked s (Some i) l o ws new inside_of marks h =
     let x = first_of ws i inside_of in

@@ -1,16 +1,16 @@
 -- What a lexeme that is read next is made of.
 use Rattle.std.proofs.Common.{◌≡◌, ℕ, true, false, cond, ltb, ◌&&◌, List, [], ◌∷◌, Option, Some, None, Result, Ok, Err, refl, sym, ap, subst, ◌∙◌, inl, inr, ◌⊎◌}
 use Rattle.std.proofs.lemmas.Bool.{cases_Bool}
-use Rattle.yaml_scan_text.specs.declared.record.yaml_mark_t.{yaml_mark_t}
-use Rattle.yaml_scan_text.specs.Marks.{mark_at}
-use Rattle.yaml_scan_text.specs.Wrong.{Wrong}
+use Rattle.yaml_scan_model.specs.declared.record.yaml_mark_t.{yaml_mark_t}
+use Rattle.yaml_scan_model.specs.Marks.{mark_at}
+use Rattle.yaml_scan_model.specs.Wrong.{Wrong}
 use Rattle.yaml_scan_words.specs.Between.{Gap, gap_at}
-use Rattle.yaml_scan_layout.specs.declared.kind.Kind.{Kind}
-use Rattle.yaml_scan_layout.specs.declared.lexeme.Lexeme.{Lexeme}
-use Rattle.yaml_scan_layout.specs.Kinds.{is_end, may_be_key}
-use Rattle.yaml_scan_layout.specs.History.{candidate, fresh, reached, depth, key_allowed, placed}
-use Rattle.yaml_scan_layout.specs.Words.{WordText, word_at, kind_at}
-use Rattle.yaml_scan_layout.specs.Next.{Next, Read, next, first_lexeme, no_colon, allowed_behind, begun, finished, misplaced, missed, lost_by, unless_wrong, unless_lost, of_kind, unless_missed}
+use Rattle.yaml_scan_history.specs.declared.kind.Kind.{Kind}
+use Rattle.yaml_scan_history.specs.declared.lexeme.Lexeme.{Lexeme}
+use Rattle.yaml_scan_history.specs.Kinds.{is_end, may_be_key}
+use Rattle.yaml_scan_history.specs.History.{candidate, fresh, reached, depth, key_allowed, placed}
+use Rattle.yaml_scan_history.specs.Words.{WordText, word_at, kind_at}
+use Rattle.yaml_scan_history.specs.Next.{Next, Read, next, first_lexeme, no_colon, allowed_behind, begun, finished, misplaced, missed, lost_by, unless_wrong, unless_lost, of_kind, unless_missed}
 
 -- what stands between a history and the next lexeme
 abbrev pub gap_of : List ℕ → List Lexeme → Gap

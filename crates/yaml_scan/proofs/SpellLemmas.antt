@@ -3,12 +3,12 @@ use Rattle.std.proofs.Common.{◌≡◌, ℕ, zero, suc, ◌+◌, ◌-◌, ◌<�
 use Rattle.std.proofs.lemmas.Bool.{cases_Bool, cases_lt}
 use Rattle.std.proofs.lemmas.Bool.Decides.{nat_tests}
 use Rattle.std.proofs.lemmas.List.{get_or_append_left, get_or-append_right, length-replicate, get_or-replicate}
-use Rattle.yaml_scan_text.specs.Tokens.{Token, TokenBody, block_end, block_sequence_start, block_mapping_start, key}
-use Rattle.yaml_scan_layout.specs.declared.lexeme.Lexeme.{Lexeme}
-use Rattle.yaml_scan_layout.specs.declared.lexeme.Entry.{Entry}
-use Rattle.yaml_scan_layout.specs.declared.lexeme.Opens.{Opens}
-use Rattle.yaml_scan_layout.specs.declared.lexeme.Opens.TheVariants as opening
-use Rattle.yaml_scan_layout.specs.Coming.{Stream, before, token_in, start_tokens, end_tokens, own_tokens, spell}
+use Rattle.yaml_scan_model.specs.Tokens.{Token, TokenBody, block_end, block_sequence_start, block_mapping_start, key}
+use Rattle.yaml_scan_history.specs.declared.lexeme.Lexeme.{Lexeme}
+use Rattle.yaml_scan_history.specs.declared.lexeme.Entry.{Entry}
+use Rattle.yaml_scan_history.specs.declared.lexeme.Opens.{Opens}
+use Rattle.yaml_scan_history.specs.declared.lexeme.Opens.TheVariants as opening
+use Rattle.yaml_scan_history.specs.Remaining.{SpelledText, before, token_in, start_tokens, end_tokens, own_tokens, spell}
 use Rattle.yaml_scan.specs.Front.{key_at, start_at, front_at, start_count, key_count, front_count, fronted}
 
 -- a token is in front where fewer are taken than stand in front
@@ -60,10 +60,10 @@ pub front_count-le : (e : Entry) → front_count e ≤ e.ends + 2
 front_count-le e = let low = start_count-le e.opens e.key in omega (arith, low)
 
 -- KEY, then the own token
-abbrev own : Stream → Lexeme → Bool → List Token
+abbrev own : SpelledText → Lexeme → Bool → List Token
 own s l k = cond k (before key l ∷ token_in s l ∷ []) (token_in s l ∷ [])
 
-start_length : (s : Stream) (l : Lexeme) (o : Opens) (k : Bool) → length (start_tokens o l) + length (own s l k) ≡ start_count o + key_count k + 1
+start_length : (s : SpelledText) (l : Lexeme) (o : Opens) (k : Bool) → length (start_tokens o l) + length (own s l k) ≡ start_count o + key_count k + 1
 start_length s l opening.Nothing false = refl
 start_length s l opening.Nothing true = refl
 start_length s l opening.Sequence false = refl
@@ -71,7 +71,7 @@ start_length s l opening.Sequence true = refl
 start_length s l opening.Mapping false = refl
 start_length s l opening.Mapping true = refl
 
-pub spell_length : (s : Stream) (e : Entry) → length (spell s e) ≡ front_count e + 1
+pub spell_length : (s : SpelledText) (e : Entry) → length (spell s e) ≡ front_count e + 1
 spell_length s e =
     let a = length-replicate e.ends (before block_end e.lexeme) in
     let b = length-append (end_tokens e) (start_tokens e.opens e.lexeme) in
@@ -79,7 +79,7 @@ spell_length s e =
     let d = start_length s e.lexeme e.opens e.key in
     omega (arith, a, b, c, d)
 
-start_token : (s : Stream) (l : Lexeme) (o : Opens) (k : Bool) (n : ℕ) (t : Token) → n ≤ start_count o + key_count k → get_or (start_tokens o l ++ own s l k) n t ≡ fronted s l (start_at o k n)
+start_token : (s : SpelledText) (l : Lexeme) (o : Opens) (k : Bool) (n : ℕ) (t : Token) → n ≤ start_count o + key_count k → get_or (start_tokens o l ++ own s l k) n t ≡ fronted s l (start_at o k n)
 start_token s l opening.Nothing false zero t low = refl
 start_token s l opening.Nothing false (suc n) t low = absurd (omega arith)
 start_token s l opening.Nothing true zero t low = refl
@@ -101,7 +101,7 @@ start_token s l opening.Mapping true (suc (suc zero)) t low = refl
 start_token s l opening.Mapping true (suc (suc (suc n))) t low = absurd (omega arith)
 
 -- behind so many tokens of a lexeme stands that one
-pub spell_token : (s : Stream) (e : Entry) (n : ℕ) (t : Token) → n ≤ front_count e → get_or (spell s e) n t ≡ fronted s e.lexeme (front_at e n)
+pub spell_token : (s : SpelledText) (e : Entry) (n : ℕ) (t : Token) → n ≤ front_count e → get_or (spell s e) n t ≡ fronted s e.lexeme (front_at e n)
 spell_token s e n t low =
     let ends = end_tokens e in
     let rest : List Token = start_tokens e.opens e.lexeme ++ own_tokens s e in

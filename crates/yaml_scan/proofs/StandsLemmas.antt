@@ -1,8 +1,8 @@
 -- What the first byte tells.
 use Rattle.std.proofs.Common.{ℕ, Bool, List}
-use Rattle.yaml_scan_text.specs.Marks.{byte}
-use Rattle.yaml_scan_layout.specs.declared.kind.Kind.{Kind}
-use Rattle.yaml_scan_layout.specs.declared.kind.Kind.TheVariants as kinds
+use Rattle.yaml_scan_model.specs.Marks.{byte}
+use Rattle.yaml_scan_history.specs.declared.kind.Kind.{Kind}
+use Rattle.yaml_scan_history.specs.declared.kind.Kind.TheVariants as kinds
 use Rattle.yaml_scan.specs.Stands.{Stands, Told}
 
 -- a kind that its byte tells stands there

@@ -3,17 +3,17 @@ use Rattle.std.proofs.Common.{◌≡◌, ℕ, zero, suc, ◌+◌, ◌-◌, ◌<�
 use Rattle.std.proofs.lemmas.Bool.{cases_Bool, cases_lt, cases_order, and_parts}
 use Rattle.std.proofs.lemmas.Bool.Decides.{nat_tests}
 use Rattle.std.proofs.lemmas.List.{get_or_append_left, get_or-append_right}
-use Rattle.yaml_scan_layout.specs.declared.kind.Kind.{Kind}
-use Rattle.yaml_scan_layout.specs.declared.kind.Kind.TheVariants as kinds
-use Rattle.yaml_scan_layout.specs.declared.lexeme.Lexeme.{Lexeme}
-use Rattle.yaml_scan_layout.specs.declared.lexeme.Entry.{Entry}
-use Rattle.yaml_scan_text.specs.declared.record.yaml_mark_t.{yaml_mark_t}
-use Rattle.yaml_scan_layout.specs.Kinds.{is_value, cancels, may_be_key, depth_after}
-use Rattle.yaml_scan_layout.specs.History.{Candidate, candidate, is_fresh, fresh, has_number, first_open, mark_key, marked, keyed, entries, entry_of, found_by, inside, reached, depth, opens_in}
-use Rattle.yaml_scan_layout.specs.Next.{history, Next, Read, Fails, Ends, next, extended, first_lexeme}
-use Rattle.yaml_scan_layout.specs.Next.{allowed_behind}
+use Rattle.yaml_scan_history.specs.declared.kind.Kind.{Kind}
+use Rattle.yaml_scan_history.specs.declared.kind.Kind.TheVariants as kinds
+use Rattle.yaml_scan_history.specs.declared.lexeme.Lexeme.{Lexeme}
+use Rattle.yaml_scan_history.specs.declared.lexeme.Entry.{Entry}
+use Rattle.yaml_scan_model.specs.declared.record.yaml_mark_t.{yaml_mark_t}
+use Rattle.yaml_scan_history.specs.Kinds.{is_value, cancels, may_be_key, depth_after}
+use Rattle.yaml_scan_history.specs.History.{Candidate, candidate, is_fresh, fresh, has_number, first_open, mark_key, marked, keyed, entries, entry_of, found_by, inside, reached, depth, opens_in}
+use Rattle.yaml_scan_history.specs.Next.{history, Next, Read, Fails, Ends, next, extended, first_lexeme}
+use Rattle.yaml_scan_history.specs.Next.{allowed_behind}
 use Rattle.yaml_scan.proofs.ReadLemmas.{next_is, saved_is, gap_of}
-use Rattle.yaml_scan_layout.proofs.HistoryLemmas.{candidate_below, length-entries, length-keyed, first_open-le, first_open-is, first_open-least, IsOpen, fresh_is}
+use Rattle.yaml_scan_history.proofs.HistoryLemmas.{candidate_below, length-entries, length-keyed, first_open-le, first_open-is, first_open-least, IsOpen, fresh_is}
 
 lexeme-as_key : (ls : List ℕ) (es : List Entry) (k n : ℕ) (e : Entry) → (get_or (mark_key ls es k) n e).lexeme ≡ (get_or es n e).lexeme
 unfolding mark_key

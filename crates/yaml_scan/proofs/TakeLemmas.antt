@@ -4,14 +4,14 @@ use Rattle.std.proofs.lemmas.Bool.{cases_Bool, cases_lt}
 use Rattle.std.proofs.lemmas.Bool.Decides.{nat_tests}
 use Rattle.std.proofs.lemmas.List.{length-map}
 use Rattle.std.specs.Prelude.{map}
-use Rattle.yaml_scan_text.specs.Tokens.{Token, TokenBody, block_end, no_token}
-use Rattle.yaml_scan_layout.specs.declared.lexeme.Lexeme.{Lexeme}
-use Rattle.yaml_scan_layout.specs.declared.lexeme.Entry.{Entry}
-use Rattle.yaml_scan_layout.specs.History.{entries, first_open}
-use Rattle.yaml_scan_layout.specs.Next.{Ends, next, history}
-use Rattle.yaml_scan_layout.specs.Coming.{Stream, Coming, coming, spell, before, token_in}
-use Rattle.yaml_scan_forward.specs.Fronts.{Gives}
-use Rattle.yaml_scan_forward.proofs.ComingForward.{settled_comes, last_comes, ends_token}
+use Rattle.yaml_scan_model.specs.Tokens.{Token, TokenBody, block_end, no_token}
+use Rattle.yaml_scan_history.specs.declared.lexeme.Lexeme.{Lexeme}
+use Rattle.yaml_scan_history.specs.declared.lexeme.Entry.{Entry}
+use Rattle.yaml_scan_history.specs.History.{entries, first_open}
+use Rattle.yaml_scan_history.specs.Next.{Ends, next, history}
+use Rattle.yaml_scan_history.specs.Remaining.{SpelledText, Remaining, remaining, spell, before, token_in}
+use Rattle.yaml_scan_laws_order.specs.Fronts.{GivesFirst}
+use Rattle.yaml_scan_laws_order.proofs.RemainingForward.{settled_comes, last_comes, ends_token}
 use Rattle.yaml_scan.specs.declared.machine.Machine.{Machine}
 use Rattle.yaml_scan.specs.declared.waiting.Waiting.{Waiting}
 use Rattle.yaml_scan.specs.State.{IsMachine, is_ready, ready_in}
@@ -41,15 +41,15 @@ known_by m s low =
       | inr more ↦ let first = settled_first m s more in inl (omega (arith, first, low))
     ]
 
-token_gives : (s : Stream) (n k given : ℕ) (e : Entry) (t : Token) → IsKnown s.text (history s.text n) k → let x = get_or (entries (history s.text n)) k e in
-    (given < length (spell s x) → Gives (coming s k given) (get_or (spell s x) given t) (coming s k (given + 1))) × (given ≡ length (spell s x) → coming s k given ≡ coming s (k + 1) 0)
+token_gives : (s : SpelledText) (n k given : ℕ) (e : Entry) (t : Token) → IsKnown s.text (history s.text n) k → let x = get_or (entries (history s.text n)) k e in
+    (given < length (spell s x) → GivesFirst (remaining s k given) (get_or (spell s x) given t) (remaining s k (given + 1))) × (given ≡ length (spell s x) → remaining s k given ≡ remaining s (k + 1) 0)
 token_gives s n k given e t (inl low) = settled_comes s n k given e t low
 token_gives s n k given e t (inr (over, low)) = last_comes s n k given e t over low
 
 -- a lexeme that is known gives its tokens
 settled_front : (m : Machine) (e : Entry) (es : List Entry) → IsMachine m → (fields_of m).waiting ≡ e ∷ es → m.dropped < m.settled → m.given ≤ front_count e
-    → Gives (to_come m) (fronted (stream_of m) e.lexeme (front_at e m.given)) (coming (stream_of m) m.dropped (m.given + 1))
-    × (front_at e m.given ≡ None → coming (stream_of m) m.dropped (m.given + 1) ≡ coming (stream_of m) (m.dropped + 1) 0)
+    → GivesFirst (to_come m) (fronted (stream_of m) e.lexeme (front_at e m.given)) (remaining (stream_of m) m.dropped (m.given + 1))
+    × (front_at e m.given ≡ None → remaining (stream_of m) m.dropped (m.given + 1) ≡ remaining (stream_of m) (m.dropped + 1) 0)
 unfolding read
 settled_front m e es i wait low few =
     let f = fields_of m in
@@ -63,13 +63,13 @@ settled_front m e es i wait low few =
     let long : length (spell s (get_or (entries h) m.dropped e)) ≡ front_count e + 1 = ap (λ x. length (spell s x)) here ∙ spell_length s e in
     let is : get_or (spell s (get_or (entries h) m.dropped e)) m.given no_token ≡ fronted s e.lexeme (front_at e m.given) = ap (λ x. get_or (spell s x) m.given no_token) here ∙ spell_token s e m.given no_token few in
     let (tokens, fault) = now (omega (arith, long, few)) in (
-      (tokens ∙ ap (λ t. t ∷ (coming s m.dropped (m.given + 1)).tokens) is, fault),
+      (tokens ∙ ap (λ t. t ∷ (remaining s m.dropped (m.given + 1)).tokens) is, fault),
       λ none. let past = front_done e m.given none in done (omega (arith, long, few, past)),
     )
 
 -- the levels that the first lexeme closes come first
 ends_front : (m : Machine) (e : Entry) (es : List Entry) → IsMachine m → (fields_of m).waiting ≡ e ∷ es → m.ended ≡ false → m.given < e.ends
-    → Gives (to_come m) (before block_end e.lexeme) (coming (stream_of m) m.dropped (m.given + 1))
+    → GivesFirst (to_come m) (before block_end e.lexeme) (remaining (stream_of m) m.dropped (m.given + 1))
 unfolding read
 ends_front m e es i wait more few =
     let f = fields_of m in
@@ -80,16 +80,16 @@ ends_front m e es i wait more few =
     let first = settled_first f i.shown more in
     let count : (get_or (entries h) m.dropped e).ends ≡ e.ends = ap (λ (x : Entry). x.ends) here in
     let (tokens, fault) = ends_token s n m.dropped m.given e (omega (arith, first, i.taken)) inside (omega (arith, count, few)) in
-    (tokens ∙ ap (λ (x : Entry). before block_end x.lexeme ∷ (coming s m.dropped (m.given + 1)).tokens) here, fault)
+    (tokens ∙ ap (λ (x : Entry). before block_end x.lexeme ∷ (remaining s m.dropped (m.given + 1)).tokens) here, fault)
 
 -- the token in front of the first lexeme is what comes
 pub gives_front : (m : Machine) (w : Waiting) (rest : List Waiting) (b : TokenBody) → IsMachine m → m.waiting.items ≡ w ∷ rest → is_ready m ≡ true → front_at w.entry m.given ≡ Some b
-    → Gives (to_come m) (before b w.entry.lexeme) (coming (stream_of m) m.dropped (m.given + 1))
+    → GivesFirst (to_come m) (before b w.entry.lexeme) (remaining (stream_of m) m.dropped (m.given + 1))
 gives_front m w rest b i items ready some =
     let f = fields_of m in
     let s = stream_of m in
     let wait : f.waiting ≡ w.entry ∷ map (λ (x : Waiting). x.entry) rest = ap (λ ws. map (λ (x : Waiting). x.entry) ws) items in
-    let after : Coming = coming s m.dropped (m.given + 1) in
+    let after : Remaining = remaining s m.dropped (m.given + 1) in
     let few = given_few m.dropped m.settled m.given w.entry (map (λ (x : Waiting). x.entry) rest) (subst (λ es. given_in m.dropped m.settled m.given es) wait i.given) in
     elim (cases_lt m.dropped m.settled) [
       | inl low ↦
@@ -114,15 +114,15 @@ gives_front m w rest b i items ready some =
 
 -- the first lexeme's own token is what comes, and then the next one's do
 pub gives_own : (m : Machine) (w : Waiting) (rest : List Waiting) → IsMachine m → m.waiting.items ≡ w ∷ rest → m.dropped < m.settled → front_at w.entry m.given ≡ None
-    → Gives (to_come m) (token_in (stream_of m) w.entry.lexeme) (coming (stream_of m) (m.dropped + 1) 0)
+    → GivesFirst (to_come m) (token_in (stream_of m) w.entry.lexeme) (remaining (stream_of m) (m.dropped + 1) 0)
 gives_own m w rest i items low none =
     let s = stream_of m in
     let wait : (fields_of m).waiting ≡ w.entry ∷ map (λ (x : Waiting). x.entry) rest = ap (λ ws. map (λ (x : Waiting). x.entry) ws) items in
     let few = given_few m.dropped m.settled m.given w.entry (map (λ (x : Waiting). x.entry) rest) (subst (λ es. given_in m.dropped m.settled m.given es) wait i.given) in
     let ((tokens, fault), done) = settled_front m w.entry (map (λ (x : Waiting). x.entry) rest) i wait low few in
     let next = done none in (
-      tokens ∙ ap (λ o. fronted s w.entry.lexeme o ∷ (coming s m.dropped (m.given + 1)).tokens) none ∙ ap (λ (c : Coming). token_in s w.entry.lexeme ∷ c.tokens) next,
-      fault ∙ ap (λ (c : Coming). c.fault) next,
+      tokens ∙ ap (λ o. fronted s w.entry.lexeme o ∷ (remaining s m.dropped (m.given + 1)).tokens) none ∙ ap (λ (c : Remaining). token_in s w.entry.lexeme ∷ c.tokens) next,
+      fault ∙ ap (λ (c : Remaining). c.fault) next,
     )
 
 -- so few tokens stand in front of a lexeme
@@ -160,7 +160,7 @@ stands_more m w rest b i items ready some =
       taken = i.taken;
       settled = i.settled;
       last = i.last;
-      shut = i.shut;
+      candidate_bound = i.candidate_bound;
       depth = i.depth;
       levels = i.levels;
       inside = i.inside;
@@ -171,7 +171,7 @@ stands_more m w rest b i items ready some =
       spoken = i.spoken;
     }
 
-has_first : (c d : Coming) (t : Token) → Gives c t d → HasFirst c.tokens
+has_first : (c d : Remaining) (t : Token) → GivesFirst c t d → HasFirst c.tokens
 has_first c d t (tokens, fault) = subst (λ ts. HasFirst ts) (sym tokens) tt
 
 -- where the next token is known, one is to come
@@ -180,7 +180,7 @@ ready_first m i ready =
     let (w, rest, items) = first_waits m.dropped m.settled m.given m.waiting.items ready in
     let first : ready_in m.dropped m.settled m.given (w ∷ rest) ≡ true = ap (λ (ws : List Waiting). ready_in m.dropped m.settled m.given ws) (sym items) ∙ ready in
     let all = left_is m (ready_started m i ready) in
-    subst (λ (c : Coming). HasFirst c.tokens) (sym all) (elim (cases_Option (front_at w.entry m.given)) [
-      | inl none ↦ has_first (to_come m) (coming (stream_of m) (m.dropped + 1) 0) (token_in (stream_of m) w.entry.lexeme) (gives_own m w rest i items (own_settled m.dropped m.settled m.given w rest first none) none)
-      | inr (b, some) ↦ has_first (to_come m) (coming (stream_of m) m.dropped (m.given + 1)) (before b w.entry.lexeme) (gives_front m w rest b i items ready some)
+    subst (λ (c : Remaining). HasFirst c.tokens) (sym all) (elim (cases_Option (front_at w.entry m.given)) [
+      | inl none ↦ has_first (to_come m) (remaining (stream_of m) (m.dropped + 1) 0) (token_in (stream_of m) w.entry.lexeme) (gives_own m w rest i items (own_settled m.dropped m.settled m.given w rest first none) none)
+      | inr (b, some) ↦ has_first (to_come m) (remaining (stream_of m) m.dropped (m.given + 1)) (before b w.entry.lexeme) (gives_front m w rest b i items ready some)
     ])

@@ -1,11 +1,11 @@
 -- The tokens that stand in front of a lexeme's own one: BLOCK-END, a block start, KEY.
 use Rattle.std.specs.Prelude.{ℕ, ◌+◌, ◌-◌, ◌≡◌, ◌<◌, ◌≤◌, ◌==◌, ◌&&◌, ◌⊎◌, nat_lt, if◌then◌else◌, Bool, true, false, List, [], ◌∷◌, Option, Some, None}
-use Rattle.yaml_scan_text.specs.Tokens.{Token, TokenBody, block_end, block_sequence_start, block_mapping_start, key}
-use Rattle.yaml_scan_layout.specs.declared.lexeme.Lexeme.{Lexeme}
-use Rattle.yaml_scan_layout.specs.declared.lexeme.Entry.{Entry}
-use Rattle.yaml_scan_layout.specs.declared.lexeme.Opens.{Opens}
-use Rattle.yaml_scan_layout.specs.declared.lexeme.Opens.TheVariants as opening
-use Rattle.yaml_scan_layout.specs.Coming.{Stream, before, token_in}
+use Rattle.yaml_scan_model.specs.Tokens.{Token, TokenBody, block_end, block_sequence_start, block_mapping_start, key}
+use Rattle.yaml_scan_history.specs.declared.lexeme.Lexeme.{Lexeme}
+use Rattle.yaml_scan_history.specs.declared.lexeme.Entry.{Entry}
+use Rattle.yaml_scan_history.specs.declared.lexeme.Opens.{Opens}
+use Rattle.yaml_scan_history.specs.declared.lexeme.Opens.TheVariants as opening
+use Rattle.yaml_scan_history.specs.Remaining.{SpelledText, before, token_in}
 use Rattle.yaml_scan.specs.Shows.{Fields}
 
 abbrev pub key_at : Bool → ℕ → Option TokenBody
@@ -35,7 +35,7 @@ abbrev pub front_count : Entry → ℕ
 front_count e = e.ends + (start_count e.opens + key_count e.key)
 
 -- that token, or the own one
-abbrev pub fronted : Stream → Lexeme → Option TokenBody → Token
+abbrev pub fronted : SpelledText → Lexeme → Option TokenBody → Token
 fronted s l None = token_in s l
 fronted s l (Some b) = before b l
 

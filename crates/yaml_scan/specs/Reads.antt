@@ -1,25 +1,25 @@
 -- What reading the next lexeme answers.
 use Rattle.std.specs.Prelude.{ℕ, ◌+◌, ◌≡◌, ◌&&◌, ◌||◌, not, Bool, true, false, nat_lt, ◌==◌, if◌then◌else◌, Option, Some, None, Result, Ok, Err, List, slice_index_or, slice_set}
-use Rattle.yaml_scan_text.specs.declared.record.yaml_mark_t.{yaml_mark_t}
-use Rattle.yaml_scan_text.specs.declared.problem.ScanFault.{ScanFault}
-use Rattle.yaml_scan_text.specs.declared.problem.Problem.TheVariants as problems
-use Rattle.yaml_scan_text.specs.declared.problem.Context.TheVariants as contexts
-use Rattle.yaml_scan_text.specs.declared.problem.ScanError.{ScanError}
-use Rattle.yaml_scan_text.specs.declared.problem.ScanError.TheVariants as errors
-use Rattle.yaml_scan_text.specs.Tokens.{body_of}
-use Rattle.yaml_scan_text.specs.Wrong.{IsMemory}
-use Rattle.yaml_scan_layout.specs.declared.kind.Kind.{Kind}
-use Rattle.yaml_scan_layout.specs.declared.lexeme.Lexeme.{Lexeme}
-use Rattle.yaml_scan_layout.specs.declared.lexeme.Opens.{Opens}
-use Rattle.yaml_scan_layout.specs.declared.lexeme.Opens.TheVariants as opening
-use Rattle.yaml_scan_layout.specs.Kinds.{cancels, is_value, is_start, is_end, may_be_key}
-use Rattle.yaml_scan_layout.specs.History.{Candidate, is_fresh, found_by, indent, left_by, level_of}
-use Rattle.yaml_scan_layout.specs.Next.{Next, Read, Fails, Ends}
-use Rattle.yaml_scan_layout.specs.Coming.{Stream, body_in}
+use Rattle.yaml_scan_model.specs.declared.record.yaml_mark_t.{yaml_mark_t}
+use Rattle.yaml_scan_model.specs.declared.problem.ScanFault.{ScanFault}
+use Rattle.yaml_scan_model.specs.declared.problem.Problem.TheVariants as problems
+use Rattle.yaml_scan_model.specs.declared.problem.Context.TheVariants as contexts
+use Rattle.yaml_scan_model.specs.declared.problem.ScanError.{ScanError}
+use Rattle.yaml_scan_model.specs.declared.problem.ScanError.TheVariants as errors
+use Rattle.yaml_scan_model.specs.Tokens.{body_of}
+use Rattle.yaml_scan_model.specs.Wrong.{IsMemory}
+use Rattle.yaml_scan_history.specs.declared.kind.Kind.{Kind}
+use Rattle.yaml_scan_history.specs.declared.lexeme.Lexeme.{Lexeme}
+use Rattle.yaml_scan_history.specs.declared.lexeme.Opens.{Opens}
+use Rattle.yaml_scan_history.specs.declared.lexeme.Opens.TheVariants as opening
+use Rattle.yaml_scan_history.specs.Kinds.{cancels, is_value, is_start, is_end, may_be_key}
+use Rattle.yaml_scan_history.specs.History.{Candidate, is_fresh, found_by, indent, left_by, level_of}
+use Rattle.yaml_scan_history.specs.Next.{Next, Read, Fails, Ends}
+use Rattle.yaml_scan_history.specs.Remaining.{SpelledText, body_in}
 use Rattle.yaml_scan.specs.declared.machine.Machine.{Machine}
 use Rattle.yaml_scan.specs.declared.next.Read.{Read as Answer}
 use Rattle.yaml_scan.specs.declared.word.Word.{Word}
-use Rattle.yaml_scan_text.specs.declared.token.yaml_token_body_t.{yaml_token_body_t}
+use Rattle.yaml_scan_model.specs.declared.token.yaml_token_body_t.{yaml_token_body_t}
 use Rattle.yaml_scan.specs.State.{IsPlace}
 use Rattle.yaml_scan.specs.declared.waiting.Waiting.{Waiting}
 use Rattle.yaml_scan.specs.Shows.{Finds, Picks, history_of, stream_of, marked}
@@ -98,7 +98,7 @@ Finishes l word reached required (Ok r) = (r.0 ≡ ended_by l word reached) × (
 Finishes l word reached required (Err e) = (start : yaml_mark_t) × (late (required_behind required (ended_by l word reached)) (ended_by l word reached).reached ≡ Some start) × (e ≡ errors.Fault (colon_fault start (ended_by l word reached).reached))
 
 -- what reading the lexeme answers
-abbrev pub GivesLexeme : Stream → Result (Lexeme × yaml_token_body_t) ScanError → Next → Type 0
+abbrev pub GivesLexeme : SpelledText → Result (Lexeme × yaml_token_body_t) ScanError → Next → Type 0
 GivesLexeme s (Ok r) (Read l) = (r.0 ≡ l) × (body_of r.1 ≡ body_in s l)
 GivesLexeme s (Ok r) (Fails p) = ⊥
 GivesLexeme s (Ok r) Ends = ⊥
@@ -129,10 +129,10 @@ IsColumn ws l None column = column ≡ l.start.column + 1
 IsColumn ws l (Some i) column = (w : Waiting) → column ≡ (slice_index_or ws i w).entry.lexeme.start.column + 1
 
 -- the place where a candidate waits, or where it is known that none does
-abbrev pub shut_or : ℕ → ℕ → Option ℕ → ℕ
-shut_or dropped shut None = shut
-shut_or dropped shut (Some i) = dropped + i
+abbrev pub bound_or : ℕ → ℕ → Option ℕ → ℕ
+bound_or dropped candidate_bound None = candidate_bound
+bound_or dropped candidate_bound (Some i) = dropped + i
 
 -- the number from which on no lexeme is its depth's candidate, behind one that takes, cancels or replaces its own
-abbrev pub shut_behind : ℕ → ℕ → ℕ → Lexeme → Option ℕ → ℕ
-shut_behind dropped shut count l own = if l.saved then dropped + count else shut_or dropped shut own
+abbrev pub bound_behind : ℕ → ℕ → ℕ → Lexeme → Option ℕ → ℕ
+bound_behind dropped candidate_bound count l own = if l.saved then dropped + count else bound_or dropped candidate_bound own

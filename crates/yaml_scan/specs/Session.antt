@@ -1,17 +1,17 @@
 -- What a session stands for, and what its calls answer.
 use Rattle.std.specs.Prelude.{◌≡◌, Bool, true, false, List, [], ◌∷◌, Option, Some, None, Result, Ok, Err, ◌⊎◌}
 use denote.Bor.{Bor}
-use Rattle.yaml_scan_text.specs.declared.token.yaml_token_t.{yaml_token_t}
-use Rattle.yaml_scan_text.specs.declared.fault.yaml_fault_t.{yaml_fault_t}
-use Rattle.yaml_scan_text.specs.Tokens.{Token, token_of, no_token}
-use Rattle.yaml_scan_text.specs.Faults.{Fault, fault_of}
-use Rattle.yaml_scan_layout.specs.Coming.{Coming, nothing}
+use Rattle.yaml_scan_model.specs.declared.token.yaml_token_t.{yaml_token_t}
+use Rattle.yaml_scan_model.specs.declared.fault.yaml_fault_t.{yaml_fault_t}
+use Rattle.yaml_scan_model.specs.Tokens.{Token, token_of, no_token}
+use Rattle.yaml_scan_model.specs.Faults.{Fault, fault_of}
+use Rattle.yaml_scan_history.specs.Remaining.{Remaining, nothing}
 use Rattle.yaml_scan.specs.Scanned.{IsTold}
 
 -- the tokens that are still to come and the fault that ends them, whether the next token is known, and the fault that was
 -- answered
 pub record View : Type 0 where
-  pub coming : Coming
+  pub remaining : Remaining
   pub ready : Bool
   pub answered : Option Fault
 
@@ -25,7 +25,7 @@ others_of [] = []
 others_of (t ∷ ts) = ts
 
 -- what is to come behind the first token
-abbrev pub behind_first : Coming → Coming
+abbrev pub behind_first : Remaining → Remaining
 behind_first c = record { tokens = others_of c.tokens; fault = c.fault }
 
 -- a token is to come
@@ -40,42 +40,42 @@ MayAnswer (t ∷ ts) fault = Unit {0}
 
 -- behind a fault that was answered nothing comes
 abbrev pub EndsAnswered : View → Type 0
-EndsAnswered v = (f : Fault) → v.answered ≡ Some f → v.coming ≡ nothing
+EndsAnswered v = (f : Fault) → v.answered ≡ Some f → v.remaining ≡ nothing
 
 -- the next token is known, or there is none
 abbrev pub IsKnown : View → Type 0
-IsKnown v = (v.ready ≡ true) ⊎ (v.coming ≡ nothing)
+IsKnown v = (v.ready ≡ true) ⊎ (v.remaining ≡ nothing)
 
 -- A refusal tells the fault that is to come, where no token is, or that memory ran out; a token that is known isn't
 -- refused. It is answered once and kept, and nothing comes behind it.
 pub record Refuses (old : View) (f : Fault) (new : View) : Type 0 where
   pub sought : old.ready ≡ false
-  pub told : IsTold old.coming f
+  pub told : IsTold old.remaining f
   pub once : old.answered ≡ None
   pub kept : new.answered ≡ Some f
-  pub over : new.coming ≡ nothing
+  pub over : new.remaining ≡ nothing
   pub unknown : new.ready ≡ false
 
 -- a token was taken: the first to come
 pub record Takes (old : View) (t : Token) (new : View) : Type 0 where
-  pub token : t ≡ first_of old.coming.tokens
-  pub rest : new.coming ≡ behind_first old.coming
-  pub may : MayAnswer old.coming.tokens old.coming.fault
+  pub token : t ≡ first_of old.remaining.tokens
+  pub rest : new.remaining ≡ behind_first old.remaining
+  pub may : MayAnswer old.remaining.tokens old.remaining.fault
   pub same : new.answered ≡ old.answered
   pub over : EndsAnswered old
 
 -- a token was lent: the first to come, and none is taken
 pub record Lends (old : View) (t : Token) (new : View) : Type 0 where
-  pub token : t ≡ first_of old.coming.tokens
-  pub all : new.coming ≡ old.coming
-  pub may : MayAnswer old.coming.tokens old.coming.fault
+  pub token : t ≡ first_of old.remaining.tokens
+  pub all : new.remaining ≡ old.remaining
+  pub may : MayAnswer old.remaining.tokens old.remaining.fault
   pub same : new.answered ≡ old.answered
   pub known : IsKnown new
   pub over : EndsAnswered old
 
 -- what is to come stays, and the next token is known, or there is none
 pub record Stays (old new : View) : Type 0 where
-  pub all : new.coming ≡ old.coming
+  pub all : new.remaining ≡ old.remaining
   pub same : new.answered ≡ old.answered
   pub known : IsKnown new
 

@@ -1,9 +1,9 @@
 -- What a clause sees of a session.
 use Rattle.std.specs.Prelude.{◌≡◌, Bool, true, false, ◌||◌, ◌∷◌, Option, Some, None, option_map}
-use Rattle.yaml_scan_text.specs.declared.fault.yaml_fault_t.{yaml_fault_t}
-use Rattle.yaml_scan_text.specs.Tokens.{Token, token_of, no_token}
-use Rattle.yaml_scan_text.specs.Faults.{fault_of}
-use Rattle.yaml_scan_layout.specs.Coming.{Coming, nothing}
+use Rattle.yaml_scan_model.specs.declared.fault.yaml_fault_t.{yaml_fault_t}
+use Rattle.yaml_scan_model.specs.Tokens.{Token, token_of, no_token}
+use Rattle.yaml_scan_model.specs.Faults.{fault_of}
+use Rattle.yaml_scan_history.specs.Remaining.{Remaining, nothing}
 use Rattle.yaml_scan.specs.declared.ahead.Ahead.{Ahead}
 use Rattle.yaml_scan.specs.declared.session.yaml_parser_t.TheInside.{Inside}
 use Rattle.yaml_scan.specs.State.{IsMachine, is_ready}
@@ -11,14 +11,14 @@ use Rattle.yaml_scan.specs.Scanned.{left_in}
 use Rattle.yaml_scan.specs.Session.{View}
 
 -- the token that was put aside, and then the others
-abbrev pub with_shown : Bool → Token → Coming → Coming
+abbrev pub with_shown : Bool → Token → Remaining → Remaining
 with_shown true t c = record { tokens = t ∷ c.tokens; fault = c.fault }
 with_shown false t c = c
 
 -- nothing comes behind a fault that was answered
-abbrev pub coming_by : Option yaml_fault_t → Bool → Token → Coming → Coming
-coming_by (Some f) holds t c = nothing
-coming_by None holds t c = with_shown holds t c
+abbrev pub remaining_by : Option yaml_fault_t → Bool → Token → Remaining → Remaining
+remaining_by (Some f) holds t c = nothing
+remaining_by None holds t c = with_shown holds t c
 
 abbrev pub ready_by : Option yaml_fault_t → Bool → Bool → Bool
 ready_by (Some f) holds ready = false
@@ -26,7 +26,7 @@ ready_by None holds ready = holds || ready
 
 abbrev pub view_of : Ahead → View
 view_of s = record {
-  coming = coming_by s.fault s.holds (token_of s.shown) (left_in s.machine);
+  remaining = remaining_by s.fault s.holds (token_of s.shown) (left_in s.machine);
   ready = ready_by s.fault s.holds (is_ready s.machine);
   answered = option_map (λ f. fault_of f) s.fault;
 }

@@ -1,15 +1,15 @@
 -- What the fields of a machine say of the lexemes that were read.
 use Rattle.std.specs.Prelude.{ℕ, ◌+◌, ◌≡◌, ◌<◌, ◌≤◌, ◌&&◌, ◌||◌, ◌==◌, not, Bool, true, false, nat_lt, if◌then◌else◌, map, Option, Some, None, List, ◌∷◌, length, drop, slice_index_or}
-use Rattle.yaml_scan_text.specs.declared.record.yaml_mark_t.{yaml_mark_t}
-use Rattle.yaml_scan_text.specs.Tokens.{body_of}
+use Rattle.yaml_scan_model.specs.declared.record.yaml_mark_t.{yaml_mark_t}
+use Rattle.yaml_scan_model.specs.Tokens.{body_of}
 use Rattle.yaml_scan_decode.specs.DecodedText.{text_bytes}
-use Rattle.yaml_scan_layout.specs.declared.lexeme.Lexeme.{Lexeme}
-use Rattle.yaml_scan_layout.specs.declared.lexeme.Entry.{Entry}
-use Rattle.yaml_scan_layout.specs.declared.lexeme.Opens.{Opens}
-use Rattle.yaml_scan_layout.specs.Kinds.{cancels, is_value}
-use Rattle.yaml_scan_layout.specs.History.{Candidate, candidate, is_fresh, first_open, opens_in, entries, reached, depth, levels, key_allowed, ended}
-use Rattle.yaml_scan_layout.specs.Next.{history}
-use Rattle.yaml_scan_layout.specs.Coming.{Stream, body_in}
+use Rattle.yaml_scan_history.specs.declared.lexeme.Lexeme.{Lexeme}
+use Rattle.yaml_scan_history.specs.declared.lexeme.Entry.{Entry}
+use Rattle.yaml_scan_history.specs.declared.lexeme.Opens.{Opens}
+use Rattle.yaml_scan_history.specs.Kinds.{cancels, is_value}
+use Rattle.yaml_scan_history.specs.History.{Candidate, candidate, is_fresh, first_open, opens_in, entries, reached, depth, levels, key_allowed, ended}
+use Rattle.yaml_scan_history.specs.Next.{history}
+use Rattle.yaml_scan_history.specs.Remaining.{SpelledText, body_in}
 use Rattle.yaml_scan.specs.declared.machine.Machine.{Machine}
 use Rattle.yaml_scan.specs.declared.waiting.Waiting.{Waiting}
 use Rattle.yaml_scan.specs.declared.waiting.Seen.{Seen}
@@ -78,14 +78,14 @@ abbrev pub history_of : Machine → List Lexeme
 history_of m = read (fields_of m).text m.dropped (fields_of m).waiting
 
 -- the text, and how its bytes are spelled
-abbrev pub stream_of : Machine → Stream
+abbrev pub stream_of : Machine → SpelledText
 stream_of m = record { encoding = m.encoding; text = text_bytes m.text }
 
 -- What waits carries what stands there.
-abbrev pub IsSpoken : Stream → Waiting → Type 0
+abbrev pub IsSpoken : SpelledText → Waiting → Type 0
 IsSpoken s w = body_of w.body ≡ body_in s w.entry.lexeme
 
-abbrev pub AreSpoken : Stream → List Waiting → Type 0
+abbrev pub AreSpoken : SpelledText → List Waiting → Type 0
 AreSpoken s ws = (k : ℕ) → (w : Waiting) → k < length ws → IsSpoken s (slice_index_or ws k w)
 
 -- Where the candidate of a depth waits. One that is not found is settled, so stale.

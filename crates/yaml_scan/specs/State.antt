@@ -1,12 +1,12 @@
 -- What the fields of a machine say.
 use Rattle.std.specs.Prelude.{ℕ, ◌+◌, ◌^◌, ◌≡◌, ◌<◌, ◌≤◌, Bool, false, ◌||◌, nat_lt, List, [], ◌∷◌, length, slice_index, slice_index_or, IfSome}
-use Rattle.yaml_scan_text.specs.declared.record.yaml_mark_t.{yaml_mark_t}
-use Rattle.yaml_scan_text.specs.Marks.{mark_at, splits_break}
+use Rattle.yaml_scan_model.specs.declared.record.yaml_mark_t.{yaml_mark_t}
+use Rattle.yaml_scan_model.specs.Marks.{mark_at, splits_break}
 use Rattle.yaml_scan_decode.specs.DecodedText.{text_bytes}
 use Rattle.yaml_scan.specs.declared.machine.Machine.{Machine}
 use Rattle.yaml_scan.specs.declared.waiting.Waiting.{Waiting}
 use Rattle.yaml_scan.specs.declared.next.Read.{Read}
-use Rattle.yaml_scan_layout.specs.Kinds.{is_end}
+use Rattle.yaml_scan_history.specs.Kinds.{is_end}
 use Rattle.yaml_scan.specs.Shows.{IsShown, fields_of, AreSpoken, stream_of}
 use Rattle.yaml_scan.specs.Front.{IsGiven}
 
@@ -25,16 +25,16 @@ abbrev pub AreInside : ℕ → List Waiting → Type 0
 AreInside n ws = (k : ℕ) → (w : Waiting) → k < length ws → (slice_index_or ws k w).entry.lexeme.start.column ≤ n
 
 -- no lexeme that waits, from that number on, is its depth's candidate
-abbrev pub AreShut : ℕ → ℕ → List Waiting → Type 0
-AreShut n dropped ws = (k : ℕ) → (w : Waiting) → k < length ws → n ≤ dropped + k → (slice_index_or ws k w).current ≡ false
+abbrev pub AreBounded : ℕ → ℕ → List Waiting → Type 0
+AreBounded n dropped ws = (k : ℕ) → (w : Waiting) → k < length ws → n ≤ dropped + k → (slice_index_or ws k w).current ≡ false
 
 pub record IsMachine (m : Machine) : Type 0 where
   pub long : length (text_bytes m.text) < 2 ^ 63
   pub few : m.dropped + length m.waiting.items ≤ length (text_bytes m.text) + 2
   pub taken : m.dropped ≤ m.settled
   pub settled : m.settled ≤ m.dropped + length m.waiting.items
-  pub last : m.shut ≤ m.dropped + length m.waiting.items
-  pub shut : AreShut m.shut m.dropped m.waiting.items
+  pub last : m.candidate_bound ≤ m.dropped + length m.waiting.items
+  pub candidate_bound : AreBounded m.candidate_bound m.dropped m.waiting.items
   pub depth : m.depth ≤ m.dropped + length m.waiting.items
   pub levels : IsNarrow (length (text_bytes m.text) + 1) m.levels
   pub inside : AreInside (length (text_bytes m.text)) m.waiting.items
@@ -57,7 +57,7 @@ pub record IsNext (m : Machine) (r : Read) : Type 0 where
   pub column : r.lexeme.start.column ≤ length (text_bytes m.text)
   pub depth : r.lexeme.depth ≡ m.depth
   pub own : IfSome r.own (λ i. i < length m.waiting.items)
-  pub last : IfSome r.own (λ i. AreShut (m.dropped + i + 1) m.dropped m.waiting.items)
+  pub last : IfSome r.own (λ i. AreBounded (m.dropped + i + 1) m.dropped m.waiting.items)
   pub key : IfSome r.key (λ i. i < length m.waiting.items)
   pub place : is_end r.lexeme.kind ≡ false → IsPlace (text_bytes m.text) r.lexeme.reached
 

@@ -1,14 +1,14 @@
 //! The next token, which a peek puts aside.
 
 ghost use Rattle.std.specs.Prelude.{◌≡◌, true, false, None, IfOk};
-ghost use Rattle.yaml_scan_text.specs.Tokens.{token_of};
+ghost use Rattle.yaml_scan_model.specs.Tokens.{token_of};
 ghost use Rattle.yaml_scan.specs.Scanned.{scanned};
 ghost use Rattle.yaml_scan.specs.Session.{first_of, HasFirst, MayAnswer, EndsAnswered, Fills, Takes, Scans, Looks, IsKnown};
 
 use crate::machine::Machine;
 use std::alloc::Global;
 use std::mem;
-use yaml_scan_text::{yaml_encoding_t, yaml_fault_t, yaml_token_t};
+use yaml_scan_model::{yaml_encoding_t, yaml_fault_t, yaml_token_t};
 
 /// What a session holds: the state of its reader, the token that was put aside, and the fault that was answered.
 #[derive(Drop)]
@@ -26,7 +26,7 @@ impl<'a> Ahead<'a> {
 
     pub(crate) fn new(alloc: Global, input: &'a [u8], encoding: yaml_encoding_t) -> Ahead<'a>
         ensures stands { IsAhead result }
-        ensures view { view_of result ≡ record { coming = scanned encoding input.now; ready = false; answered = None } }
+        ensures view { view_of result ≡ record { remaining = scanned encoding input.now; ready = false; answered = None } }
     {
         Ahead {
             machine: Machine::new(alloc, input, encoding),
@@ -40,7 +40,7 @@ impl<'a> Ahead<'a> {
     pub(crate) fn has_token(&self) -> bool
         requires { IsAhead self.now }
         ensures ready { result ≡ (view_of self.now).ready }
-        ensures first { result ≡ true → HasFirst (view_of self.now).coming.tokens }
+        ensures first { result ≡ true → HasFirst (view_of self.now).remaining.tokens }
     {
         if self.fault.is_some() {
             return false;
@@ -115,8 +115,8 @@ impl<'a> Ahead<'a> {
         requires known { IsKnown (view_of self.old) }
         ensures stands { IsAhead self.new }
         ensures same { view_of self.new ≡ view_of self.old }
-        ensures shown { token_of self.new.shown ≡ first_of (view_of self.old).coming.tokens }
-        ensures may { MayAnswer (view_of self.old).coming.tokens (view_of self.old).coming.fault }
+        ensures shown { token_of self.new.shown ≡ first_of (view_of self.old).remaining.tokens }
+        ensures may { MayAnswer (view_of self.old).remaining.tokens (view_of self.old).remaining.fault }
         ensures over { EndsAnswered (view_of self.old) }
     {
         if self.fault.is_some() {

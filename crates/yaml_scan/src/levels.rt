@@ -1,7 +1,7 @@
 //! The open block levels.
 
 ghost use Rattle.std.specs.Prelude.{◌≡◌, ◌-◌, [], OnOk, IfOk, true, nat_lt, length};
-ghost use Rattle.yaml_scan_layout.specs.History.{indent, opened};
+ghost use Rattle.yaml_scan_history.specs.History.{indent, opened};
 
 use std::alloc::{AllocError, Global};
 use std::marker::Model;

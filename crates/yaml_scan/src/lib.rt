@@ -16,7 +16,7 @@ pub use session::{
     yaml_parser_t,
 };
 pub use yaml_scan_decode::{yaml_decode, yaml_text_t};
-pub use yaml_scan_text::{
+pub use yaml_scan_model::{
     AS_DIGIT, AS_HEX_AT, IS_ALPHA, IS_ASCII, IS_BLANK, IS_BLANKZ, IS_BOM, IS_BREAK, IS_BREAKZ,
     IS_CRLF, IS_DIGIT, IS_HEX_AT, IS_PRINTABLE, IS_SPACE, IS_TAB, IS_Z, WIDTH, yaml_break_t,
     yaml_encoding_t, yaml_error_type_t, yaml_event_type_t, yaml_fault_t, yaml_mapping_style_t,

@@ -2,10 +2,10 @@
 
 ghost use Rattle.std.specs.Prelude.{◌≡◌, ◌+◌, ◌-◌, ◌<◌, ◌≤◌, ◌^◌, ◌&&◌, ◌||◌, ◌==◌, not, nat_lt, if◌then◌else◌, ◌⊎◌, OnOk, IfOk, IfErr, IsTrue, IfSome, true, false, length, ℕ};
 ghost use Rattle.yaml_scan_decode.specs.DecodedText.{text_bytes};
-ghost use Rattle.yaml_scan_layout.specs.Kinds as kinds;
-ghost use Rattle.yaml_scan_text.specs.Faults.{fault_of};
+ghost use Rattle.yaml_scan_history.specs.Kinds as kinds;
+ghost use Rattle.yaml_scan_model.specs.Faults.{fault_of};
 ghost use Rattle.yaml_scan.specs.Scanned.{IsLocated};
-ghost use Rattle.yaml_scan_layout.specs.History as history;
+ghost use Rattle.yaml_scan_history.specs.History as history;
 
 use crate::levels::Levels;
 use crate::next::{Read, keeps};
@@ -13,8 +13,8 @@ use crate::waiting::Waiting;
 use std::alloc::{AllocError, Global};
 use std::collections::VecDeque;
 use yaml_scan_decode::{stream_encoding, yaml_decode, yaml_text_t};
-use yaml_scan_layout::{Entry, Kind, Lexeme, Opens};
-use yaml_scan_text::{
+use yaml_scan_history::{Entry, Kind, Lexeme, Opens};
+use yaml_scan_model::{
     ScanError, yaml_encoding_t, yaml_fault_t, yaml_mark_t, yaml_memory_fault, yaml_origin_t,
     yaml_token_body_t, yaml_token_t,
 };
@@ -37,7 +37,7 @@ pub(crate) struct Machine<'a> {
     /// How many lexemes no later one changes.
     pub settled: usize,
     /// No lexeme with this number or a later one is its depth's candidate.
-    pub shut: usize,
+    pub candidate_bound: usize,
     /// The place that is reached.
     pub place: yaml_mark_t,
     /// How many brackets are open.
@@ -50,15 +50,15 @@ pub(crate) struct Machine<'a> {
 }
 
 impl<'a> Machine<'a> {
-    ghost use Rattle.yaml_scan.specs.State.{IsMachine, IsNarrow, AreInside, AreShut, GoesOn, is_ready};
+    ghost use Rattle.yaml_scan.specs.State.{IsMachine, IsNarrow, AreInside, AreBounded, GoesOn, is_ready};
     ghost use Rattle.yaml_scan.specs.Scanned.{scanned, left_in, left_from, IsTold};
     ghost use Rattle.yaml_scan_decode.specs.Encodings.{encoding_of};
     ghost use Rattle.yaml_scan.specs.Shows.{IsPending, fields_of, history_of};
-    ghost use Rattle.yaml_scan.specs.Reads.{MarksOwn, IsColumn, opens_for, shut_behind};
+    ghost use Rattle.yaml_scan.specs.Reads.{MarksOwn, IsColumn, opens_for, bound_behind};
     ghost use Rattle.yaml_scan.specs.Comes.{to_come, Refused, Faults};
-    ghost use Rattle.yaml_scan_layout.specs.Coming.{nothing, offline};
-    ghost use Rattle.yaml_scan_forward.specs.Fronts.{Gives};
-    ghost use Rattle.yaml_scan_text.specs.Tokens.{token_of};
+    ghost use Rattle.yaml_scan_history.specs.Remaining.{nothing, offline};
+    ghost use Rattle.yaml_scan_laws_order.specs.Fronts.{GivesFirst};
+    ghost use Rattle.yaml_scan_model.specs.Tokens.{token_of};
 
     pub(crate) fn new(alloc: Global, input: &'a [u8], setting: yaml_encoding_t) -> Machine<'a>
         ensures stands { IsMachine result }
@@ -93,7 +93,7 @@ impl<'a> Machine<'a> {
             dropped: 0,
             given: 0,
             settled: 0,
-            shut: 0,
+            candidate_bound: 0,
             place: yaml_mark_t {
                 index: 0,
                 line: 0,
@@ -178,7 +178,7 @@ impl<'a> Machine<'a> {
         requires stands { IsMachine self.old }
         requires ready { is_ready self.old ≡ true }
         ensures stands { IsMachine self.new }
-        ensures gives { Gives (left_in self.old) (token_of result) (left_in self.new) }
+        ensures gives { GivesFirst (left_in self.old) (token_of result) (left_in self.new) }
     {
         let Some(first) = self.waiting.front() else {
             return yaml_token_t::empty();
@@ -247,7 +247,7 @@ impl<'a> Machine<'a> {
             body,
             current: lexeme.saved,
         });
-        self.shut = self.shut_behind(own, lexeme);
+        self.candidate_bound = self.bound_behind(own, lexeme);
         self.place = lexeme.reached;
         self.depth = lexeme.kind.depth_after(lexeme.depth);
         self.allowed = allows(lexeme, found);
@@ -271,17 +271,17 @@ impl<'a> Machine<'a> {
 
     /// The number from which on no lexeme is its depth's candidate, where `lexeme` is the last one and takes, cancels or
     /// replaces the one at `own`.
-    fn shut_behind(&self, own: Option<usize>, lexeme: Lexeme) -> usize
+    fn bound_behind(&self, own: Option<usize>, lexeme: Lexeme) -> usize
         requires own { IfSome own (λ i. i < length self.now.waiting.items) }
         requires few { self.now.dropped + length self.now.waiting.items < 2 ^ 64 - 1 }
-        ensures { result ≡ shut_behind self.now.dropped self.now.shut (length self.now.waiting.items) lexeme own }
+        ensures { result ≡ bound_behind self.now.dropped self.now.candidate_bound (length self.now.waiting.items) lexeme own }
     {
         if lexeme.saved {
             return self.dropped + self.waiting.len();
         }
         match own {
             Some(i) => self.dropped + i,
-            None => self.shut,
+            None => self.candidate_bound,
         }
     }
 
@@ -290,8 +290,8 @@ impl<'a> Machine<'a> {
         requires shown { IsPending (fields_of self.now) }
         requires settled { self.now.settled ≤ self.now.dropped + length self.now.waiting.items }
         requires few { self.now.dropped + length self.now.waiting.items < 2 ^ 64 - 1 }
-        requires last { self.now.shut ≤ self.now.dropped + length self.now.waiting.items }
-        requires shut { AreShut self.now.shut self.now.dropped self.now.waiting.items }
+        requires last { self.now.candidate_bound ≤ self.now.dropped + length self.now.waiting.items }
+        requires candidate_bound { AreBounded self.now.candidate_bound self.now.dropped self.now.waiting.items }
         ensures value { result ≡ (if self.now.ended then length (history_of self.now) else history.first_open (history_of self.now) (history_of self.now)) }
         ensures low { self.now.settled ≤ result }
         ensures high { result ≤ self.now.dropped + length self.now.waiting.items }
@@ -347,20 +347,20 @@ impl<'a> Machine<'a> {
     }
 
     /// The number of the earliest open candidate, or how many lexemes were read. What is settled stays so, so the
-    /// look goes on where the last one ended; behind what is shut there is none.
+    /// look goes on where the last one ended; behind the last candidate bound there is none.
     fn earliest_open(&self) -> usize
         requires shown { IsPending (fields_of self.now) }
         requires settled { self.now.settled ≤ self.now.dropped + length self.now.waiting.items }
         requires few { self.now.dropped + length self.now.waiting.items < 2 ^ 64 - 1 }
-        requires last { self.now.shut ≤ self.now.dropped + length self.now.waiting.items }
-        requires shut { AreShut self.now.shut self.now.dropped self.now.waiting.items }
+        requires last { self.now.candidate_bound ≤ self.now.dropped + length self.now.waiting.items }
+        requires candidate_bound { AreBounded self.now.candidate_bound self.now.dropped self.now.waiting.items }
         ensures value { result ≡ history.first_open (history_of self.now) (history_of self.now) }
         ensures low { self.now.settled ≤ result }
         ensures high { result ≤ self.now.dropped + length self.now.waiting.items }
     {
         let mut i = self.settled - self.dropped;
-        let shut = self.shut.saturating_sub(self.dropped);
-        'pass: while i < shut {
+        let candidate_bound = self.candidate_bound.saturating_sub(self.dropped);
+        'pass: while i < candidate_bound {
             if self.waiting[i].is_open(self.place) {
                 return self.dropped + i;
             }

@@ -2,23 +2,23 @@
 
 ghost use Rattle.std.specs.Prelude.{◌≡◌, ◌+◌, ◌≤◌, ◌<◌, ◌^◌, ◌&&◌, ◌||◌, ◌==◌, not, nat_lt, if◌then◌else◌, IfOk, IfErr, IfSome, is_some, Some, None, true, false, length};
 ghost use Rattle.yaml_scan_decode.specs.DecodedText.{text_bytes};
-ghost use Rattle.yaml_scan_text.specs.Marks.{mark_at};
-ghost use Rattle.yaml_scan_text.specs.Tokens.{body_of, stream_start};
+ghost use Rattle.yaml_scan_model.specs.Marks.{mark_at};
+ghost use Rattle.yaml_scan_model.specs.Tokens.{body_of, stream_start};
 ghost use Rattle.yaml_scan_words.specs.Between.{Gap};
-ghost use Rattle.yaml_scan_layout.specs.Kinds as kinds;
-ghost use Rattle.yaml_scan_layout.specs.Next as spec;
-ghost use Rattle.yaml_scan_layout.specs.Laws.{Upto};
-ghost use Rattle.yaml_scan_layout.specs.History.{candidate, fresh, reached, indent, left_by, placed, keeps};
+ghost use Rattle.yaml_scan_history.specs.Kinds as kinds;
+ghost use Rattle.yaml_scan_history.specs.Next as spec;
+ghost use Rattle.yaml_scan_history.specs.Laws.{Upto};
+ghost use Rattle.yaml_scan_history.specs.History.{candidate, fresh, reached, indent, left_by, placed, keeps};
 ghost use Rattle.yaml_scan.specs.Stands.{Stands};
 ghost use Rattle.yaml_scan.specs.State.{IsPlace};
-ghost use Rattle.yaml_scan_layout.specs.Words.{word_at};
+ghost use Rattle.yaml_scan_history.specs.Words.{word_at};
 ghost use Rattle.yaml_scan.specs.Reads.{late, lost, required_behind, colon_fault, begun_in, Finishes};
 
 use crate::machine::Machine;
 use crate::waiting::Seen;
 use crate::word::{Word, kind_at, read_word};
-use yaml_scan_layout::{Kind, Lexeme, is_fresh, moved_end};
-use yaml_scan_text::{
+use yaml_scan_history::{Kind, Lexeme, is_fresh, moved_end};
+use yaml_scan_model::{
     Context, Problem, Reader, ScanError, ScanFault, yaml_encoding_t, yaml_mark_t, yaml_token_body_t,
 };
 use yaml_scan_words::skip_gap;
@@ -44,7 +44,7 @@ struct Stand {
 }
 
 impl<'a> Machine<'a> {
-    ghost use Rattle.yaml_scan.specs.State.{IsMachine, IsNext, AreShut};
+    ghost use Rattle.yaml_scan.specs.State.{IsMachine, IsNext, AreBounded};
     ghost use Rattle.yaml_scan.specs.Shows.{IsShown, fields_of, history_of, stream_of, Finds, Picks};
     ghost use Rattle.yaml_scan.specs.Comes.{Refused};
     ghost use Rattle.yaml_scan.specs.Reads.{GivesNext, GivesLexeme, EndsAt, Owns, keyed_by, required_in};
@@ -192,7 +192,7 @@ impl<'a> Machine<'a> {
         requires stands { IsMachine self.now }
         ensures owns { Owns self.now self.now.depth ((stand.allowed && kinds.may_be_key stand.kind) || kinds.cancels stand.kind) result }
         ensures inside { IfSome result (λ i. i < length self.now.waiting.items) }
-        ensures last { IfSome result (λ i. AreShut (self.now.dropped + i + 1) self.now.dropped self.now.waiting.items) }
+        ensures last { IfSome result (λ i. AreBounded (self.now.dropped + i + 1) self.now.dropped self.now.waiting.items) }
     {
         if stand.asks() {
             return self.find();
@@ -240,13 +240,13 @@ impl<'a> Machine<'a> {
     fn find(&self) -> Option<usize>
         requires shown { IsShown (fields_of self.now) }
         requires settled { self.now.settled ≤ self.now.dropped + length self.now.waiting.items }
-        requires last { self.now.shut ≤ self.now.dropped + length self.now.waiting.items }
-        requires shut { AreShut self.now.shut self.now.dropped self.now.waiting.items }
+        requires last { self.now.candidate_bound ≤ self.now.dropped + length self.now.waiting.items }
+        requires candidate_bound { AreBounded self.now.candidate_bound self.now.dropped self.now.waiting.items }
         ensures finds { Finds self.now self.now.depth result }
-        ensures last { IfSome result (λ i. AreShut (self.now.dropped + i + 1) self.now.dropped self.now.waiting.items) }
+        ensures last { IfSome result (λ i. AreBounded (self.now.dropped + i + 1) self.now.dropped self.now.waiting.items) }
     {
         let first = self.settled - self.dropped;
-        let mut i = self.shut.saturating_sub(self.dropped);
+        let mut i = self.candidate_bound.saturating_sub(self.dropped);
         'back: while first < i {
             match self.waiting[i - 1].seen(self.depth) {
                 Seen::Here => return Some(i - 1),

@@ -4,7 +4,7 @@ ghost use Rattle.std.specs.Prelude.{◌≡◌, ⊤, option_map, [], true, false,
 ghost use Rattle.std.specs.Borrow.{sem, follows_so};
 ghost use mir.Syntax.{named};
 ghost use mathlib.Core.Option.{none};
-ghost use Rattle.yaml_scan_text.specs.Faults.{fault_of};
+ghost use Rattle.yaml_scan_model.specs.Faults.{fault_of};
 ghost use Rattle.yaml_scan.specs.contracts.session.yaml_parser_t.{the_row};
 ghost use Rattle.yaml_scan.specs.Session.{HasFirst, Scans, Peeks, behind_first};
 ghost use Rattle.yaml_scan.specs.Scanned.{scanned};
@@ -12,7 +12,7 @@ ghost use Rattle.yaml_scan.specs.Scanned.{scanned};
 use crate::ahead::Ahead;
 use std::alloc::Global;
 use std::marker::Model;
-use yaml_scan_text::{yaml_encoding_t, yaml_fault_t, yaml_token_t};
+use yaml_scan_model::{yaml_encoding_t, yaml_fault_t, yaml_token_t};
 
 /// The tokens of an input that are still to come, and the fault that ends them.
 #[derive(Drop)]
@@ -36,7 +36,7 @@ impl<'a> yaml_parser_t<'a> {
     /// A session over an input, in that encoding; with `YAML_ANY_ENCODING` in the one that a byte order mark tells, or
     /// UTF-8 (YAML 1.1, 5.2).
     pub fn new(alloc: Global, input: &'a [u8], encoding: yaml_encoding_t) -> yaml_parser_t<'a>
-        ensures { result ≡ record { coming = scanned encoding input.now; ready = false; answered = None } }
+        ensures { result ≡ record { remaining = scanned encoding input.now; ready = false; answered = None } }
     {
         yaml_parser_t {
             ahead: Ahead::new(alloc, input, encoding),
@@ -66,7 +66,7 @@ pub fn yaml_parser_peek<'p>(parser: &'p mut yaml_parser_t) -> Result<&'p yaml_to
 /// Whether the next token is known: the next scan gives it, and a skip may drop it.
 pub fn yaml_parser_has_token(parser: &yaml_parser_t) -> bool
     ensures ready { result ≡ parser.now.ready }
-    ensures first { result ≡ true → HasFirst parser.now.coming.tokens }
+    ensures first { result ≡ true → HasFirst parser.now.remaining.tokens }
 {
     parser.ahead.has_token()
 }
@@ -74,7 +74,7 @@ pub fn yaml_parser_has_token(parser: &yaml_parser_t) -> bool
 /// Drops the next token, which `yaml_parser_has_token` has to know.
 pub fn yaml_parser_skip(parser: &mut yaml_parser_t)
     requires { parser.old.ready ≡ true }
-    ensures rest { parser.new.coming ≡ behind_first parser.old.coming }
+    ensures rest { parser.new.remaining ≡ behind_first parser.old.remaining }
     ensures same { parser.new.answered ≡ parser.old.answered }
 {
     parser.ahead.take();

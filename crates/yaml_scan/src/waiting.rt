@@ -1,13 +1,13 @@
 //! The lexemes that wait, and the tokens that they are spelled out in.
 
 ghost use Rattle.std.specs.Prelude.{◌≡◌, ◌&&◌, ◌==◌, if◌then◌else◌, Some, None, option_map};
-ghost use Rattle.yaml_scan_text.specs.Tokens.{body_of, token_of};
+ghost use Rattle.yaml_scan_model.specs.Tokens.{body_of, token_of};
 ghost use Rattle.yaml_scan.specs.Front.{front_at, start_at, key_at};
-ghost use Rattle.yaml_scan_layout.specs.History as history;
+ghost use Rattle.yaml_scan_history.specs.History as history;
 ghost use Rattle.yaml_scan.specs.Shows as shows;
 
-use yaml_scan_layout::{Entry, Lexeme, Opens, is_fresh};
-use yaml_scan_text::{yaml_mark_t, yaml_token_body_t, yaml_token_t};
+use yaml_scan_history::{Entry, Lexeme, Opens, is_fresh};
+use yaml_scan_model::{yaml_mark_t, yaml_token_body_t, yaml_token_t};
 
 /// A lexeme that was read and not yet taken.
 #[derive(Drop)]

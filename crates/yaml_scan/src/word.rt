@@ -1,26 +1,26 @@
 //! Which lexeme stands at a place, and what it carries.
 
 ghost use Rattle.std.specs.Prelude.{◌≡◌, ◌+◌, ◌<◌, ◌≤◌, ◌⊎◌, IfSome, None, option_map, true, false, length};
-ghost use Rattle.yaml_scan_text.specs.Marks.{byte, break_width, is_blank_or_end};
+ghost use Rattle.yaml_scan_model.specs.Marks.{byte, break_width, is_blank_or_end};
 ghost use Rattle.yaml_scan_scalars.specs.Plain as plains;
-ghost use Rattle.yaml_scan_text.specs.Tokens as tokens;
-ghost use Rattle.yaml_scan_text.specs.Tokens.{body_of};
+ghost use Rattle.yaml_scan_model.specs.Tokens as tokens;
+ghost use Rattle.yaml_scan_model.specs.Tokens.{body_of};
 ghost use Rattle.yaml_scan_words.specs.Anchors.{anchor_at};
 ghost use Rattle.yaml_scan_words.specs.Tags.{tag_at};
 ghost use Rattle.yaml_scan_words.specs.Directives.{directive_at};
 ghost use Rattle.yaml_scan_scalars.specs.Quoted.{double_quoted_at, single_quoted_at};
 ghost use Rattle.yaml_scan_block.specs.Block.{block_at, style_at};
-ghost use Rattle.yaml_scan_layout.specs.Words as spec;
+ghost use Rattle.yaml_scan_history.specs.Words as spec;
 ghost use Rattle.yaml_scan.specs.Stands.{Stands, IsThrice, Told, is_letter};
-ghost use Rattle.yaml_scan.specs.Given.{IsWord, ReadsWord, IsSaid, sign_at};
+ghost use Rattle.yaml_scan.specs.Given.{IsWord, ReadsWord, IsSaid, indicator_at};
 
 use std::alloc::Global;
 use yaml_scan_block::block_scalar;
-use yaml_scan_layout::Kind;
-use yaml_scan_scalars::{double_quoted, plain_scalar, single_quoted, starts_plain};
-use yaml_scan_text::{
+use yaml_scan_history::Kind;
+use yaml_scan_model::{
     Context, Reader, ScanError, yaml_mark_t, yaml_scalar_style_t, yaml_token_body_t,
 };
+use yaml_scan_scalars::{double_quoted, plain_scalar, single_quoted, starts_plain};
 use yaml_scan_words::{Directive, anchor, directive, is_document_end, is_document_start, tag};
 
 /// A lexeme's own token, and what its end says.
@@ -33,7 +33,7 @@ pub(crate) struct Word {
 }
 
 /// The kind of the lexeme that stands here (YAML 1.1, 5.3).
-#[tactic(auto, unfolding(yaml_scan_layout::specs::Words::kind_at, yaml_scan_words::specs::Indicators::is_document_start, yaml_scan_words::specs::Indicators::is_document_end))]
+#[tactic(auto, unfolding(yaml_scan_history::specs::Words::kind_at, yaml_scan_words::specs::Indicators::is_document_start, yaml_scan_words::specs::Indicators::is_document_end))]
 pub(crate) fn kind_at(reader: &Reader, flow: bool) -> Option<Kind>
     ensures value { result ≡ spec.kind_at flow reader.now.text reader.now.at }
     ensures stands { IfSome result (λ k. Stands k flow reader.now.text reader.now.at) }
@@ -75,7 +75,7 @@ fn is_letter(byte: u8) -> bool
 }
 
 /// The kind that the byte here tells; `-`, `?` and `:` where a blank, a break or the end follows.
-#[tactic(auto, unfolding(yaml_scan_layout::specs::Words::indicator_of))]
+#[tactic(auto, unfolding(yaml_scan_history::specs::Words::indicator_of))]
 fn indicator(byte: u8, flow: bool, reader: &Reader) -> Option<Kind>
     ensures value { result ≡ spec.indicator_of flow (is_blank_or_end reader.now.text (reader.now.at + 1)) byte }
     ensures told { IfSome result (λ k. Told k byte) }
@@ -112,15 +112,15 @@ pub(crate) fn read_word(
     requires level { level ≤ length reader.old.text + 1 }
     ensures { ReadsWord reader.old.text reader.old.at reader.new result (spec.word_at kind flow level reader.old.text reader.old.at) }
 {
-    match sign_body(kind) {
-        Some(body) => Ok(sign(reader, body)),
+    match indicator_body(kind) {
+        Some(body) => Ok(read_indicator(reader, body)),
         None => text_word(alloc, reader, kind, flow, level),
     }
 }
 
-/// What the token of a sign of one byte is.
-fn sign_body(kind: Kind) -> Option<yaml_token_body_t>
-    ensures { option_map body_of result ≡ sign_at kind }
+/// What the token of an indicator of one byte is.
+fn indicator_body(kind: Kind) -> Option<yaml_token_body_t>
+    ensures { option_map body_of result ≡ indicator_at kind }
 {
     match kind {
         Kind::FlowSequenceStart => Some(yaml_token_body_t::FlowSequenceStart),
@@ -135,9 +135,9 @@ fn sign_body(kind: Kind) -> Option<yaml_token_body_t>
     }
 }
 
-/// Reads a lexeme that is no sign of one byte. What carries a text is read in a call of its own, which writes its answer
+/// Reads a lexeme that is no indicator of one byte. What carries a text is read in a call of its own, which writes its answer
 /// where it is wanted: read in one function, the answers of all kinds would be taken apart and joined again.
-#[tactic(auto, unfolding(yaml_scan_text::specs::Marks::break_of, yaml_scan_layout::specs::Words::word_at))]
+#[tactic(auto, unfolding(yaml_scan_model::specs::Marks::break_of, yaml_scan_history::specs::Words::word_at))]
 fn text_word(
     alloc: Global,
     reader: &mut Reader,
@@ -147,7 +147,7 @@ fn text_word(
 ) -> Result<Word, ScanError>
     requires stands { Stands kind flow reader.old.text reader.old.at }
     requires level { level ≤ length reader.old.text + 1 }
-    requires no_sign { sign_at kind ≡ None }
+    requires no_indicator { indicator_at kind ≡ None }
     ensures { ReadsWord reader.old.text reader.old.at reader.new result (spec.word_at kind flow level reader.old.text reader.old.at) }
 {
     match kind {
@@ -177,7 +177,7 @@ fn carrier(reader: &Reader, body: yaml_token_body_t) -> Word
 }
 
 /// A word of one byte that carries nothing.
-fn sign(reader: &mut Reader, body: yaml_token_body_t) -> Word
+fn read_indicator(reader: &mut Reader, body: yaml_token_body_t) -> Word
     requires some { 0 < byte reader.old.text reader.old.at }
     requires no_break { break_width reader.old.text reader.old.at ≡ 0 }
     ensures word { IsWord reader.old.text result (record { body = body_of body; end = reader.old.at + 1; reached = reader.old.at + 1; broke = false }) }
@@ -188,7 +188,7 @@ fn sign(reader: &mut Reader, body: yaml_token_body_t) -> Word
 }
 
 /// `---` or `...`.
-#[tactic(auto, unfolding(yaml_scan_text::specs::Marks::break_of))]
+#[tactic(auto, unfolding(yaml_scan_model::specs::Marks::break_of))]
 fn document_mark(reader: &mut Reader, body: yaml_token_body_t) -> Word
     requires { IsThrice 45 reader.old.text reader.old.at ⊎ IsThrice 46 reader.old.text reader.old.at }
     ensures word { IsWord reader.old.text result (record { body = body_of body; end = reader.old.at + 3; reached = reader.old.at + 3; broke = false }) }

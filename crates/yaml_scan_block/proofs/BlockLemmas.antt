@@ -2,12 +2,12 @@
 use Rattle.std.proofs.Common.{◌≡◌, ◌≢◌, ℕ, zero, suc, ◌+◌, ◌-◌, ◌<◌, ◌≤◌, ◌==◌, nat_lt, ◌&&◌, ◌||◌, true, false, not, List, refl, inl, inr, ◌⊎◌, arith}
 use Rattle.std.specs.Prelude.{slice_range}
 use Rattle.std.proofs.lemmas.Bool.Decides.{nat_tests}
-use Rattle.yaml_scan_text.specs.Marks.{byte, break_width, column_at, ends_break}
-use Rattle.yaml_scan_text.specs.Breaks.{break_value, feed_at}
-use Rattle.yaml_scan_text.specs.Runs.{is_text, line_end}
-use Rattle.yaml_scan_text.proofs.MarksLemmas.{column_more}
-use Rattle.yaml_scan_text.proofs.BreaksLemmas.{no_end-blank}
-use Rattle.yaml_scan_text.proofs.RunsLemmas.{past_some}
+use Rattle.yaml_scan_model.specs.Marks.{byte, break_width, column_at, ends_break}
+use Rattle.yaml_scan_model.specs.Breaks.{break_value, feed_at}
+use Rattle.yaml_scan_model.specs.Runs.{is_text, line_end}
+use Rattle.yaml_scan_model.proofs.MarksLemmas.{column_more}
+use Rattle.yaml_scan_model.proofs.BreaksLemmas.{no_end-blank}
+use Rattle.yaml_scan_model.proofs.RunsLemmas.{past_some}
 use Rattle.yaml_scan_block.specs.Value.{Empty, Words}
 use Rattle.yaml_scan_block.specs.Lines.{spaces, spot_behind, Stops, Line, Tab}
 

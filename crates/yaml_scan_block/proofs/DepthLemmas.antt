@@ -1,12 +1,12 @@
 -- The column of a block scalar's text, a line at a time.
 use Rattle.std.proofs.Common.{◌≡◌, ◌≢◌, ℕ, zero, suc, ◌+◌, ◌-◌, ◌<◌, ◌≤◌, ◌==◌, nat_lt, true, false, List, length, Result, Ok, Err, refl, sym, ap, ◌∙◌, arith}
 use Rattle.std.proofs.lemmas.Bool.Decides.{nat_tests}
-use Rattle.yaml_scan_text.specs.declared.problem.Problem.TheVariants as problems
-use Rattle.yaml_scan_text.specs.Marks.{byte, break_width, column_at}
-use Rattle.yaml_scan_text.specs.Runs.{past_spaces, is_space_there}
-use Rattle.yaml_scan_text.specs.Wrong.{Wrong}
-use Rattle.yaml_scan_text.proofs.MarksLemmas.{past_break}
-use Rattle.yaml_scan_text.proofs.RunsLemmas.{past-le}
+use Rattle.yaml_scan_model.specs.declared.problem.Problem.TheVariants as problems
+use Rattle.yaml_scan_model.specs.Marks.{byte, break_width, column_at}
+use Rattle.yaml_scan_model.specs.Runs.{past_spaces, is_space_there}
+use Rattle.yaml_scan_model.specs.Wrong.{Wrong}
+use Rattle.yaml_scan_model.proofs.MarksLemmas.{past_break}
+use Rattle.yaml_scan_model.proofs.RunsLemmas.{past-le}
 use Rattle.yaml_scan_block.specs.Lines.{in_block}
 use Rattle.yaml_scan_block.specs.Block.{larger, larger_of, deepest, column_of}
 

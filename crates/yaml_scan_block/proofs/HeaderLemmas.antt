@@ -1,24 +1,24 @@
 -- Headers of block scalars, a byte at a time.
 use Rattle.std.proofs.Common.{◌≡◌, ◌≢◌, ℕ, ◌+◌, ◌<◌, ◌==◌, Bool, true, false, List, if◌then◌else◌, Ok, Err, refl, arith}
 use Rattle.std.proofs.lemmas.Bool.Decides.{nat_tests}
-use Rattle.yaml_scan_text.specs.declared.problem.Problem.TheVariants as problems
-use Rattle.yaml_scan_text.specs.Marks.{byte, break_of, break_width}
-use Rattle.yaml_scan_text.specs.Classes.{is_digit_byte}
-use Rattle.yaml_scan_text.specs.Runs.{is_text}
-use Rattle.yaml_scan_text.proofs.MarksLemmas.{no_break}
+use Rattle.yaml_scan_model.specs.declared.problem.Problem.TheVariants as problems
+use Rattle.yaml_scan_model.specs.Marks.{byte, break_of, break_width}
+use Rattle.yaml_scan_model.specs.Classes.{is_digit_byte}
+use Rattle.yaml_scan_model.specs.Runs.{is_text}
+use Rattle.yaml_scan_model.proofs.MarksLemmas.{no_break}
 use Rattle.yaml_scan_block.specs.Lines.{in_block}
-use Rattle.yaml_scan_block.specs.Header.{is_sign, indicators, digit_place, sign_place, digit_of, chomp_of, header_end, header_at}
+use Rattle.yaml_scan_block.specs.Header.{is_chomping, indicators, digit_place, chomping_place, digit_of, chomp_of, header_end, header_at}
 
-sign_bounds : (b : ℕ) → is_sign b ≡ true → (42 < b) × (b < 58)
-unfolding is_sign
-sign_bounds b h = (grind (arith, nat_tests), grind (arith, nat_tests))
+chomping_bounds : (b : ℕ) → is_chomping b ≡ true → (42 < b) × (b < 58)
+unfolding is_chomping
+chomping_bounds b h = (grind (arith, nat_tests), grind (arith, nat_tests))
 
 first_bounds : (b c : ℕ) → indicators b c ≢ 0 → (42 < b) × (b < 58)
-unfolding indicators is_sign is_digit_byte
+unfolding indicators is_chomping is_digit_byte
 first_bounds b c h = (grind (arith, nat_tests), grind (arith, nat_tests))
 
 second_bounds : (b c : ℕ) → indicators b c ≢ 0 → indicators b c ≢ 1 → (42 < c) × (c < 58)
-unfolding indicators is_sign is_digit_byte
+unfolding indicators is_chomping is_digit_byte
 second_bounds b c h k = (grind (arith, nat_tests), grind (arith, nat_tests))
 
 pub second_two : (b c : ℕ) → indicators b c ≢ 0 → indicators b c ≢ 1 → indicators b c ≡ 2
@@ -28,8 +28,8 @@ second_two b c h k = grind (arith, nat_tests)
 between : (b c d : ℕ) → (42 < b) × (b < 58) → (0 < b) × (break_of b c d ≡ 0)
 between b c d (h, k) = (omega arith, no_break b c d (omega arith) (omega arith) (omega arith) (omega arith))
 
-pub sign_parts : (b c d : ℕ) → is_sign b ≡ true → (0 < b) × (break_of b c d ≡ 0)
-sign_parts b c d h = between b c d (sign_bounds b h)
+pub chomping_parts : (b c d : ℕ) → is_chomping b ≡ true → (0 < b) × (break_of b c d ≡ 0)
+chomping_parts b c d h = between b c d (chomping_bounds b h)
 
 pub first_parts : (b c d e : ℕ) → indicators b c ≢ 0 → (0 < b) × (break_of b d e ≡ 0)
 first_parts b c d e h = between b d e (first_bounds b c h)
@@ -41,11 +41,11 @@ at_either : (text : List ℕ) (b : Bool) (p q : ℕ) → (if b then byte text p 
 at_either text true p q = refl
 at_either text false p q = refl
 
-pub digit_there : (text : List ℕ) (p : ℕ) → (if is_sign (byte text p) then byte text (p + 1) else byte text p) ≡ byte text (digit_place text p)
-digit_there text p = at_either text (is_sign (byte text p)) (p + 1) p
+pub digit_there : (text : List ℕ) (p : ℕ) → (if is_chomping (byte text p) then byte text (p + 1) else byte text p) ≡ byte text (digit_place text p)
+digit_there text p = at_either text (is_chomping (byte text p)) (p + 1) p
 
-pub sign_there : (text : List ℕ) (p : ℕ) → (if is_digit_byte (byte text p) then byte text (p + 1) else byte text p) ≡ byte text (sign_place text p)
-sign_there text p = at_either text (is_digit_byte (byte text p)) (p + 1) p
+pub chomping_there : (text : List ℕ) (p : ℕ) → (if is_digit_byte (byte text p) then byte text (p + 1) else byte text p) ≡ byte text (chomping_place text p)
+chomping_there text p = at_either text (is_digit_byte (byte text p)) (p + 1) p
 
 same : (b n : ℕ) → b ≡ n → (b == n) ≡ true
 same b n h = grind (arith, nat_tests)
@@ -63,7 +63,7 @@ wrong_header text p h k = rw (differs (byte text (digit_place text p)) 48 h, k) 
 
 pub whole_header : (text : List ℕ) (p : ℕ) → byte text (digit_place text p) ≢ 48 → is_text text (header_end text p) ≡ false
     → header_at text p ≡ Ok record {
-      chomp = chomp_of (byte text (sign_place text p));
+      chomp = chomp_of (byte text (chomping_place text p));
       digit = digit_of (byte text (digit_place text p));
       place = header_end text p + break_width text (header_end text p);
     }

@@ -1,10 +1,10 @@
 -- Block scalars, from their header, their column and their lines.
 use Rattle.std.proofs.Common.{◌≡◌, ℕ, suc, ◌+◌, ◌==◌, Bool, List, [], length, Result, Ok, Err, refl, ap, ◌∙◌, ◌⊎◌, inl, inr, arith}
-use Rattle.yaml_scan_text.specs.declared.record.yaml_mark_t.{yaml_mark_t}
-use Rattle.yaml_scan_text.specs.declared.problem.ScanError.{ScanError}
-use Rattle.yaml_scan_text.specs.Marks.{Place, byte, break_of, mark_at}
-use Rattle.yaml_scan_text.specs.Wrong.{Wrong}
-use Rattle.yaml_scan_text.proofs.MarksLemmas.{no_break}
+use Rattle.yaml_scan_model.specs.declared.record.yaml_mark_t.{yaml_mark_t}
+use Rattle.yaml_scan_model.specs.declared.problem.ScanError.{ScanError}
+use Rattle.yaml_scan_model.specs.Marks.{Place, byte, break_of, mark_at}
+use Rattle.yaml_scan_model.specs.Wrong.{Wrong}
+use Rattle.yaml_scan_model.proofs.MarksLemmas.{no_break}
 use Rattle.yaml_scan_block.specs.declared.block.Block.{Block}
 use Rattle.yaml_scan_block.specs.declared.header.Header.{Header}
 use Rattle.yaml_scan_block.specs.declared.header.Chomp.{Chomp}
@@ -14,7 +14,7 @@ use Rattle.yaml_scan_block.specs.Lines.{Lines, lines_from}
 use Rattle.yaml_scan_block.specs.Header.{HeaderText, header_at}
 use Rattle.yaml_scan_block.specs.Block.{BlockText, block_at, block_with, column_of, style_at}
 use Rattle.yaml_scan_block.specs.Stacked.{stacked}
-use Rattle.yaml_scan_block.specs.Gives.{ReadsHeader, ReadsLines, ReadsBlock, FindsColumn}
+use Rattle.yaml_scan_block.specs.Readings.{ReadsHeader, ReadsLines, ReadsBlock, FindsColumn}
 
 -- a header that was read
 pub record IsHeader (text : List ℕ) (place : Place) (h : Header) (r : Result HeaderText Wrong) : Type 0 where

@@ -1,7 +1,7 @@
 -- Block scalars' values, a line at a time.
 use Rattle.std.proofs.Common.{◌≡◌, ℕ, Bool, true, false, not, ◌&&◌, List, [], ◌∷◌, ◌++◌, length, ◌<◌, refl, sym, ◌∙◌, append_assoc, append-nil, arith}
 use Rattle.yaml_scan_block.specs.Value.{Texts, BlockLine, Empty, Words, texts_of, value_with, behind_text, between, starts_blank, space_or}
-use Rattle.yaml_scan_text.specs.Breaks.{is_feed}
+use Rattle.yaml_scan_model.specs.Breaks.{is_feed}
 use Rattle.yaml_scan_block.specs.Stacked.{stacked_with, glued}
 use Rattle.yaml_scan_block.specs.declared.header.Chomp.{Chomp}
 use Rattle.yaml_scan_block.specs.declared.header.Chomp.TheVariants as chomps

@@ -1,11 +1,11 @@
 -- Block scalars.
 use Rattle.std.specs.Prelude.{ℕ, zero, suc, ◌+◌, ◌-◌, Bool, ◌==◌, nat_lt, nat_le, if◌then◌else◌, List, length, Result, Ok, Err}
-use Rattle.yaml_scan_text.specs.declared.name.yaml_scalar_style_t.{yaml_scalar_style_t}
-use Rattle.yaml_scan_text.specs.declared.name.yaml_scalar_style_t.TheVariants as styles
-use Rattle.yaml_scan_text.specs.declared.problem.Problem.TheVariants as problems
-use Rattle.yaml_scan_text.specs.Marks.{byte, break_width, column_at}
-use Rattle.yaml_scan_text.specs.Runs.{past_spaces}
-use Rattle.yaml_scan_text.specs.Wrong.{Wrong}
+use Rattle.yaml_scan_model.specs.declared.name.yaml_scalar_style_t.{yaml_scalar_style_t}
+use Rattle.yaml_scan_model.specs.declared.name.yaml_scalar_style_t.TheVariants as styles
+use Rattle.yaml_scan_model.specs.declared.problem.Problem.TheVariants as problems
+use Rattle.yaml_scan_model.specs.Marks.{byte, break_width, column_at}
+use Rattle.yaml_scan_model.specs.Runs.{past_spaces}
+use Rattle.yaml_scan_model.specs.Wrong.{Wrong}
 use Rattle.yaml_scan_block.specs.Value.{BlockLine, block_value}
 use Rattle.yaml_scan_block.specs.Lines.{Lines, in_block, lines_from}
 use Rattle.yaml_scan_block.specs.Header.{HeaderText, header_at}

@@ -1,10 +1,10 @@
 -- The header of a block scalar.
 use Rattle.std.specs.Prelude.{ℕ, ◌+◌, ◌-◌, Bool, ◌||◌, ◌==◌, if◌then◌else◌, List, Result, Ok, Err}
-use Rattle.yaml_scan_text.specs.declared.problem.Problem.TheVariants as problems
-use Rattle.yaml_scan_text.specs.Marks.{byte, break_width}
-use Rattle.yaml_scan_text.specs.Classes.{is_digit_byte}
-use Rattle.yaml_scan_text.specs.Runs.{is_text, past_blanks, line_end}
-use Rattle.yaml_scan_text.specs.Wrong.{Wrong}
+use Rattle.yaml_scan_model.specs.declared.problem.Problem.TheVariants as problems
+use Rattle.yaml_scan_model.specs.Marks.{byte, break_width}
+use Rattle.yaml_scan_model.specs.Classes.{is_digit_byte}
+use Rattle.yaml_scan_model.specs.Runs.{is_text, past_blanks, line_end}
+use Rattle.yaml_scan_model.specs.Wrong.{Wrong}
 use Rattle.yaml_scan_block.specs.declared.header.Chomp.{Chomp}
 use Rattle.yaml_scan_block.specs.declared.header.Chomp.TheVariants as chomps
 use Rattle.yaml_scan_block.specs.Lines.{in_block}
@@ -16,8 +16,8 @@ pub record HeaderText : Type 0 where
   pub place : ℕ
 
 -- `+` or `-`
-unfoldable pub is_sign : ℕ → Bool
-is_sign b = b == 43 || b == 45
+unfoldable pub is_chomping : ℕ → Bool
+is_chomping b = b == 43 || b == 45
 
 unfoldable pub chomp_of : ℕ → Chomp
 chomp_of b = if b == 43 then chomps.Keep else if b == 45 then chomps.Strip else chomps.Clip
@@ -26,19 +26,19 @@ chomp_of b = if b == 43 then chomps.Keep else if b == 45 then chomps.Strip else 
 unfoldable pub digit_of : ℕ → ℕ
 digit_of b = if is_digit_byte b then b - 48 else 0
 
--- the place where a digit can stand, behind a sign there
+-- the place where a digit can stand, behind a chomping indicator there
 abbrev pub digit_place : List ℕ → ℕ → ℕ
-digit_place text p = if is_sign (byte text p) then p + 1 else p
+digit_place text p = if is_chomping (byte text p) then p + 1 else p
 
--- the place where a sign can stand, behind a digit there
-abbrev pub sign_place : List ℕ → ℕ → ℕ
-sign_place text p = if is_digit_byte (byte text p) then p + 1 else p
+-- the place where a chomping indicator can stand, behind a digit there
+abbrev pub chomping_place : List ℕ → ℕ → ℕ
+chomping_place text p = if is_digit_byte (byte text p) then p + 1 else p
 
--- how many of two bytes are a sign and a digit, in either order
+-- how many of two bytes are a chomping indicator and a digit, in either order
 unfoldable pub indicators : ℕ → ℕ → ℕ
 indicators b c =
-    if is_sign b then (if is_digit_byte c then 2 else 1)
-    else if is_digit_byte b then (if is_sign c then 2 else 1)
+    if is_chomping b then (if is_digit_byte c then 2 else 1)
+    else if is_digit_byte b then (if is_chomping c then 2 else 1)
     else 0
 
 -- the place after the comment there, if one is there
@@ -55,7 +55,7 @@ header_at text p =
     if byte text (digit_place text p) == 48 then Err (in_block problems.ZeroIndentation (digit_place text p))
     else if is_text text (header_end text p) then Err (in_block problems.NoCommentOrBreak (header_end text p))
     else Ok record {
-      chomp = chomp_of (byte text (sign_place text p));
+      chomp = chomp_of (byte text (chomping_place text p));
       digit = digit_of (byte text (digit_place text p));
       place = header_end text p + break_width text (header_end text p);
     }

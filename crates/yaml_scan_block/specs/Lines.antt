@@ -1,12 +1,12 @@
 -- The lines of a block scalar whose text stands at a column.
 use Rattle.std.specs.Prelude.{ℕ, zero, suc, ◌+◌, ◌-◌, not, ◌&&◌, ◌||◌, ◌==◌, nat_lt, if◌then◌else◌, List, [], ◌∷◌, Result, Ok, Err, slice_range}
-use Rattle.yaml_scan_text.specs.declared.problem.Problem.{Problem}
-use Rattle.yaml_scan_text.specs.declared.problem.Problem.TheVariants as problems
-use Rattle.yaml_scan_text.specs.declared.problem.Context.TheVariants as contexts
-use Rattle.yaml_scan_text.specs.Marks.{byte, break_width, column_at}
-use Rattle.yaml_scan_text.specs.Breaks.{break_value, feed_at}
-use Rattle.yaml_scan_text.specs.Runs.{line_end}
-use Rattle.yaml_scan_text.specs.Wrong.{Wrong}
+use Rattle.yaml_scan_model.specs.declared.problem.Problem.{Problem}
+use Rattle.yaml_scan_model.specs.declared.problem.Problem.TheVariants as problems
+use Rattle.yaml_scan_model.specs.declared.problem.Context.TheVariants as contexts
+use Rattle.yaml_scan_model.specs.Marks.{byte, break_width, column_at}
+use Rattle.yaml_scan_model.specs.Breaks.{break_value, feed_at}
+use Rattle.yaml_scan_model.specs.Runs.{line_end}
+use Rattle.yaml_scan_model.specs.Wrong.{Wrong}
 use Rattle.yaml_scan_block.specs.Value.{BlockLine, Empty, Words}
 
 -- what is wrong in a block scalar

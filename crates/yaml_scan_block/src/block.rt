@@ -1,16 +1,16 @@
 //! Block scalars (YAML 1.1, section 9.2).
 
 ghost use Rattle.std.specs.Prelude.{◌≡◌, ◌+◌, ◌<◌, ◌≤◌, ◌⊎◌, suc, length, if◌then◌else◌};
-ghost use Rattle.yaml_scan_text.specs.Marks.{byte};
-ghost use Rattle.yaml_scan_text.specs.declared.name.yaml_scalar_style_t.TheVariants as styles;
+ghost use Rattle.yaml_scan_model.specs.Marks.{byte};
+ghost use Rattle.yaml_scan_model.specs.declared.name.yaml_scalar_style_t.TheVariants as styles;
 ghost use Rattle.yaml_scan_block.specs.Block as spec;
-ghost use Rattle.yaml_scan_block.specs.Gives.{FindsColumn, ReadsBlock};
+ghost use Rattle.yaml_scan_block.specs.Readings.{FindsColumn, ReadsBlock};
 
 use crate::header::{read_header, wrong_block};
 use crate::lines::read_lines;
 use crate::stacking::Stacking;
 use std::alloc::Global;
-use yaml_scan_text::{Problem, Reader, ScanError, skip_spaces, yaml_mark_t, yaml_scalar_style_t};
+use yaml_scan_model::{Problem, Reader, ScanError, skip_spaces, yaml_mark_t, yaml_scalar_style_t};
 
 /// A block scalar: its value, its style, the place of its indicator, and the place after its last break, or the end
 /// where none follows its last line.

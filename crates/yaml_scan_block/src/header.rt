@@ -1,12 +1,12 @@
 //! Headers of block scalars (YAML 1.1, section 9.2.1).
 
 ghost use Rattle.std.specs.Prelude.{◌≡◌, ◌+◌, ◌<◌, if◌then◌else◌, IfOk};
-ghost use Rattle.yaml_scan_text.specs.Marks.{byte, break_width, mark_at};
-ghost use Rattle.yaml_scan_text.specs.Classes.{is_digit_byte};
+ghost use Rattle.yaml_scan_model.specs.Marks.{byte, break_width, mark_at};
+ghost use Rattle.yaml_scan_model.specs.Classes.{is_digit_byte};
 ghost use Rattle.yaml_scan_block.specs.Header as spec;
-ghost use Rattle.yaml_scan_block.specs.Gives.{ReadsHeader};
+ghost use Rattle.yaml_scan_block.specs.Readings.{ReadsHeader};
 
-use yaml_scan_text::{
+use yaml_scan_model::{
     Context, Problem, Reader, ScanError, is_text, skip_blanks, skip_text, yaml_mark_t,
 };
 
@@ -35,8 +35,8 @@ pub(crate) fn read_header(reader: &mut Reader, start: yaml_mark_t) -> Result<Hea
 {
     let first = reader.here();
     let second = reader.byte(1);
-    let digit = if_sign(first, second);
-    let sign = if_digit(first, second);
+    let digit = if_chomping(first, second);
+    let chomping = if_digit(first, second);
     if digit == b'0' {
         return Err(zero_digit(reader, start));
     }
@@ -48,7 +48,7 @@ pub(crate) fn read_header(reader: &mut Reader, start: yaml_mark_t) -> Result<Hea
     }
     skip_last_break(reader);
     Ok(Header {
-        chomp: chomp_of(sign),
+        chomp: chomp_of(chomping),
         digit: digit_of(digit),
     })
 }
@@ -61,26 +61,26 @@ pub(crate) fn wrong_block(problem: Problem, start: yaml_mark_t, place: yaml_mark
 }
 
 /// `+` or `-`.
-#[tactic(auto, unfolding(crate::specs::Header::is_sign))]
-fn is_sign(byte: u8) -> bool
-    ensures { result ≡ spec.is_sign byte }
+#[tactic(auto, unfolding(crate::specs::Header::is_chomping))]
+fn is_chomping(byte: u8) -> bool
+    ensures { result ≡ spec.is_chomping byte }
 {
     byte == b'+' || byte == b'-'
 }
 
 /// One of `0-9`.
-#[tactic(auto, unfolding(yaml_scan_text::specs::Classes::is_digit_byte))]
+#[tactic(auto, unfolding(yaml_scan_model::specs::Classes::is_digit_byte))]
 fn is_digit(byte: u8) -> bool
     ensures { result ≡ is_digit_byte byte }
 {
     byte >= b'0' && byte <= b'9'
 }
 
-/// The second byte where the first is a sign, else the first.
-fn if_sign(first: u8, second: u8) -> u8
-    ensures { result ≡ (if spec.is_sign first then second else first) }
+/// The second byte where the first is a chomping indicator, else the first.
+fn if_chomping(first: u8, second: u8) -> u8
+    ensures { result ≡ (if spec.is_chomping first then second else first) }
 {
-    if is_sign(first) { second } else { first }
+    if is_chomping(first) { second } else { first }
 }
 
 /// The second byte where the first is a digit, else the first.
@@ -91,10 +91,10 @@ fn if_digit(first: u8, second: u8) -> u8
 }
 
 #[tactic(auto, unfolding(crate::specs::Header::chomp_of))]
-fn chomp_of(sign: u8) -> Chomp
-    ensures { result ≡ spec.chomp_of sign }
+fn chomp_of(chomping: u8) -> Chomp
+    ensures { result ≡ spec.chomp_of chomping }
 {
-    match sign {
+    match chomping {
         b'+' => Chomp::Keep,
         b'-' => Chomp::Strip,
         _ => Chomp::Clip,
@@ -102,7 +102,7 @@ fn chomp_of(sign: u8) -> Chomp
 }
 
 /// The digit's value, or 0.
-#[tactic(auto, unfolding(crate::specs::Header::digit_of, yaml_scan_text::specs::Classes::is_digit_byte))]
+#[tactic(auto, unfolding(crate::specs::Header::digit_of, yaml_scan_model::specs::Classes::is_digit_byte))]
 fn digit_of(byte: u8) -> u64
     ensures value { result ≡ spec.digit_of byte }
     ensures small { result < 10 }
@@ -113,32 +113,32 @@ fn digit_of(byte: u8) -> u64
     }
 }
 
-/// The refusal of the digit 0, which stands here or behind a sign.
+/// The refusal of the digit 0, which stands here or behind a chomping indicator.
 fn zero_digit(reader: &mut Reader, start: yaml_mark_t) -> ScanError
     ensures { result ≡ ScanError.Fault (record { problem = Problem.ZeroIndentation; context = Context.BlockScalar; context_mark = start; problem_mark = mark_at reader.old.text (spec.digit_place reader.old.text reader.old.at) }) }
 {
-    if is_sign(reader.here()) {
+    if is_chomping(reader.here()) {
         reader.skip();
         return wrong_block(Problem::ZeroIndentation, start, reader.mark());
     }
     wrong_block(Problem::ZeroIndentation, start, reader.mark())
 }
 
-/// How many of two bytes are a sign and a digit, in either order.
+/// How many of two bytes are a chomping indicator and a digit, in either order.
 #[tactic(auto, unfolding(crate::specs::Header::indicators))]
 fn indicators(first: u8, second: u8) -> usize
     ensures { result ≡ spec.indicators first second }
 {
-    if is_sign(first) {
+    if is_chomping(first) {
         if is_digit(second) { 2 } else { 1 }
     } else if is_digit(first) {
-        if is_sign(second) { 2 } else { 1 }
+        if is_chomping(second) { 2 } else { 1 }
     } else {
         0
     }
 }
 
-/// Past the sign and the digit here.
+/// Past the chomping indicator and the digit here.
 fn skip_indicators(reader: &mut Reader)
     ensures { reader.new ≡ record { text = reader.old.text; at = reader.old.at + spec.indicators (byte reader.old.text reader.old.at) (byte reader.old.text (reader.old.at + 1)) } }
 {

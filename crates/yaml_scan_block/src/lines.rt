@@ -1,16 +1,16 @@
 //! The lines of block scalars (YAML 1.1, sections 9.2.2 and 9.2.3).
 
 ghost use Rattle.std.specs.Prelude.{◌≡◌, ◌+◌, ◌-◌, ◌≤◌, ◌&&◌, ◌==◌, nat_lt, ℕ, suc, length};
-ghost use Rattle.yaml_scan_text.specs.Marks.{byte, column_at};
+ghost use Rattle.yaml_scan_model.specs.Marks.{byte, column_at};
 ghost use Rattle.yaml_scan_block.specs.Lines as spec;
 ghost use Rattle.yaml_scan_block.specs.Block.{block_with};
-ghost use Rattle.yaml_scan_block.specs.Gives.{LineSteps, ReadsLines};
+ghost use Rattle.yaml_scan_block.specs.Readings.{LineSteps, ReadsLines};
 ghost use Rattle.yaml_scan_block.specs.Stacked.{stacked};
 ghost use Rattle.yaml_scan_block.specs.declared.header.Chomp.{Chomp};
 
 use crate::header::{skip_last_break, wrong_block};
 use crate::stacking::Stacking;
-use yaml_scan_text::{Problem, Reader, ScanError, skip_text, yaml_mark_t};
+use yaml_scan_model::{Problem, Reader, ScanError, skip_text, yaml_mark_t};
 
 /// The lines from here on whose text stands at the column, and the place after the last one.
 pub(crate) fn read_lines(

@@ -3,13 +3,13 @@
 ghost use Rattle.std.specs.Prelude.{◌≡◌, List, [], ◌∷◌, ◌++◌, ◌&&◌, not, false, true, OnOk, IfOk};
 ghost use Rattle.yaml_scan_block.specs.Value as spec;
 ghost use Rattle.yaml_scan_block.specs.Value.{BlockLine, Empty, Words, block_value};
-ghost use Rattle.yaml_scan_text.specs.Breaks.{is_feed};
+ghost use Rattle.yaml_scan_model.specs.Breaks.{is_feed};
 ghost use Rattle.yaml_scan_block.specs.declared.header.Chomp.{Chomp};
 ghost use Rattle.yaml_scan_block.specs.Stacked.{stacked, glue};
 
 use crate::header::Chomp;
 use std::alloc::{AllocError, Global};
-use yaml_scan_text::is_blank_byte;
+use yaml_scan_model::is_blank_byte;
 
 /// The lines so far: the value up to the last text, and what stands behind it.
 #[derive(Debug, Drop)]

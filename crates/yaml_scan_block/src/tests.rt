@@ -1,7 +1,7 @@
 use crate::{Block, block_scalar};
 use std::alloc::Global;
 use std::test::Fail;
-use yaml_scan_text::{Context, Problem, Reader, ScanError, yaml_scalar_style_t};
+use yaml_scan_model::{Context, Problem, Reader, ScanError, yaml_scalar_style_t};
 
 /// The block scalar that stands here, where its indicator does.
 fn block(alloc: Global, reader: &mut Reader) -> Option<Result<Block, ScanError>> {

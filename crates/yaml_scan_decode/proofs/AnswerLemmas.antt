@@ -1,10 +1,10 @@
 -- What decoding answers, in the words of spelling.
 use Rattle.std.proofs.Common.{◌≡◌, ◌⊎◌, inl, inr, ℕ, List, length, Option, Some, None, Result, Ok, Err, IfOk, IfErr, refl}
 use Rattle.std.specs.Prelude.{option_map}
-use Rattle.yaml_scan_text.specs.declared.name.yaml_encoding_t.{yaml_encoding_t}
-use Rattle.yaml_scan_text.specs.declared.fault.yaml_fault_t.{yaml_fault_t}
-use Rattle.yaml_scan_text.specs.declared.fault.yaml_origin_t.TheVariants.{Reader}
-use Rattle.yaml_scan_text.specs.Faults.{Fault, fault_of, memory_fault}
+use Rattle.yaml_scan_model.specs.declared.name.yaml_encoding_t.{yaml_encoding_t}
+use Rattle.yaml_scan_model.specs.declared.fault.yaml_fault_t.{yaml_fault_t}
+use Rattle.yaml_scan_model.specs.declared.fault.yaml_origin_t.TheVariants.{Reader}
+use Rattle.yaml_scan_model.specs.Faults.{Fault, fault_of, memory_fault}
 use Rattle.yaml_scan_decode.specs.declared.offence.Offence.{Offence}
 use Rattle.yaml_scan_decode.specs.declared.decode.yaml_text_t.{yaml_text_t}
 use Rattle.yaml_scan_decode.specs.Offences.{reader_fault}

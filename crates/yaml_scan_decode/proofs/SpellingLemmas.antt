@@ -6,10 +6,10 @@ use Rattle.std.proofs.lemmas.List.Elements.{All-nil, All-cons}
 use Rattle.std.specs.List.{AllPass}
 use Rattle.std.specs.Char.{IsScalar}
 use Rattle.std.specs.Prelude.{encode_utf8, encode_utf8_all}
-use Rattle.yaml_scan_text.specs.declared.name.yaml_encoding_t.{yaml_encoding_t}
-use Rattle.yaml_scan_text.specs.declared.name.yaml_encoding_t.TheVariants.{YAML_UTF8_ENCODING}
-use Rattle.yaml_scan_text.specs.Marks.{byte}
-use Rattle.yaml_scan_text.specs.Classes.{width_of}
+use Rattle.yaml_scan_model.specs.declared.name.yaml_encoding_t.{yaml_encoding_t}
+use Rattle.yaml_scan_model.specs.declared.name.yaml_encoding_t.TheVariants.{YAML_UTF8_ENCODING}
+use Rattle.yaml_scan_model.specs.Marks.{byte}
+use Rattle.yaml_scan_model.specs.Classes.{width_of}
 use Rattle.yaml_scan_decode.specs.declared.offence.Offence.{Offence}
 use Rattle.yaml_scan_decode.specs.declared.offence.Character.{Character}
 use Rattle.yaml_scan_decode.specs.declared.utf16.ByteOrder.{ByteOrder}

@@ -1,9 +1,9 @@
 -- What stands at a place of the bytes: a character, or an offence.
 use Rattle.std.specs.Prelude.{ℕ, ℤ, pos, negsuc, ◌+◌, ◌-◌, ◌*◌, Bool, not, ◌&&◌, ◌||◌, ◌==◌, nat_lt, nat_le, if◌then◌else◌, List, length, Result, Ok, Err}
-use Rattle.yaml_scan_text.specs.declared.name.yaml_encoding_t.{yaml_encoding_t}
-use Rattle.yaml_scan_text.specs.declared.name.yaml_encoding_t.TheVariants.{YAML_ANY_ENCODING, YAML_UTF8_ENCODING, YAML_UTF16LE_ENCODING, YAML_UTF16BE_ENCODING}
-use Rattle.yaml_scan_text.specs.Marks.{byte}
-use Rattle.yaml_scan_text.specs.Classes.{width_of}
+use Rattle.yaml_scan_model.specs.declared.name.yaml_encoding_t.{yaml_encoding_t}
+use Rattle.yaml_scan_model.specs.declared.name.yaml_encoding_t.TheVariants.{YAML_ANY_ENCODING, YAML_UTF8_ENCODING, YAML_UTF16LE_ENCODING, YAML_UTF16BE_ENCODING}
+use Rattle.yaml_scan_model.specs.Marks.{byte}
+use Rattle.yaml_scan_model.specs.Classes.{width_of}
 use Rattle.yaml_scan_decode.specs.declared.offence.ReaderProblem.{ReaderProblem}
 use Rattle.yaml_scan_decode.specs.declared.offence.ReaderProblem.TheVariants as problems
 use Rattle.yaml_scan_decode.specs.declared.offence.Offence.{Offence}

@@ -1,7 +1,7 @@
 -- The text that bytes spell, or the first offence.
 use Rattle.std.specs.Prelude.{ℕ, zero, suc, ◌+◌, nat_lt, if◌then◌else◌, List, [], ◌∷◌, length, Option, Result, Ok, Err, encode_utf8_all}
 use Rattle.std.specs.Result.{result_err}
-use Rattle.yaml_scan_text.specs.declared.name.yaml_encoding_t.{yaml_encoding_t}
+use Rattle.yaml_scan_model.specs.declared.name.yaml_encoding_t.{yaml_encoding_t}
 use Rattle.yaml_scan_decode.specs.declared.offence.Offence.{Offence}
 use Rattle.yaml_scan_decode.specs.declared.offence.Character.{Character}
 use Rattle.yaml_scan_decode.specs.Encodings.{encoding_of, mark_length}

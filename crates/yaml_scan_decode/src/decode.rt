@@ -1,9 +1,9 @@
 //! The text that a stream's bytes spell.
 
 ghost use Rattle.std.specs.Prelude.{◌≡◌, ◌≤◌, length, Some, Ok, false, IfOk, IfErr, ◌⊎◌};
-ghost use Rattle.yaml_scan_text.specs.declared.name.yaml_encoding_t.TheVariants.{YAML_UTF8_ENCODING};
-ghost use Rattle.yaml_scan_text.specs.declared.fault.yaml_origin_t.TheVariants.{Reader};
-ghost use Rattle.yaml_scan_text.specs.Faults.{fault_of, memory_fault};
+ghost use Rattle.yaml_scan_model.specs.declared.name.yaml_encoding_t.TheVariants.{YAML_UTF8_ENCODING};
+ghost use Rattle.yaml_scan_model.specs.declared.fault.yaml_origin_t.TheVariants.{Reader};
+ghost use Rattle.yaml_scan_model.specs.Faults.{fault_of, memory_fault};
 ghost use Rattle.yaml_scan_decode.specs.Encodings.{encoding_of};
 ghost use Rattle.yaml_scan_decode.specs.Characters.{encoding_by};
 ghost use Rattle.yaml_scan_decode.specs.Decoding.{characters, in_utf8, decoded_text};
@@ -14,7 +14,7 @@ use crate::encoding::{removed_mark_length, stream_encoding};
 use crate::utf8::check_utf8;
 use crate::utf16::{ByteOrder, DecodeError, decode_utf16};
 use std::alloc::Global;
-use yaml_scan_text::{yaml_encoding_t, yaml_fault_t, yaml_memory_fault, yaml_origin_t};
+use yaml_scan_model::{yaml_encoding_t, yaml_fault_t, yaml_memory_fault, yaml_origin_t};
 
 /// A decoded text, in UTF-8.
 #[derive(Drop)]

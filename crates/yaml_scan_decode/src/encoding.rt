@@ -3,7 +3,7 @@
 ghost use Rattle.std.specs.Prelude.{◌≡◌, ◌≤◌, length};
 ghost use Rattle.yaml_scan_decode.specs.Encodings.{encoding_of, mark_length};
 
-use yaml_scan_text::yaml_encoding_t;
+use yaml_scan_model::yaml_encoding_t;
 
 // FF FE: the low byte of each unit comes first.
 const LOW_FIRST: [u8; 2] = [0xFF, 0xFE];

@@ -1,11 +1,11 @@
 //! Characters, and the first offence of bytes that spell none.
 
 ghost use Rattle.std.specs.Prelude.{◌≡◌, ◌<◌, ◌^◌, negsuc};
-ghost use Rattle.yaml_scan_text.specs.Faults.{fault_of};
+ghost use Rattle.yaml_scan_model.specs.Faults.{fault_of};
 ghost use Rattle.yaml_scan_decode.specs.Characters.{is_allowed, allowed_at};
 ghost use Rattle.yaml_scan_decode.specs.Offences.{problem_text_of, reader_fault};
 
-use yaml_scan_text::{yaml_error_type_t, yaml_fault_t, yaml_mark_t, yaml_origin_t};
+use yaml_scan_model::{yaml_error_type_t, yaml_fault_t, yaml_mark_t, yaml_origin_t};
 
 /// What is wrong with the bytes.
 #[derive(Clone, Copy, PartialEq, Eq, Debug)]

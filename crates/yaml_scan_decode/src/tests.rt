@@ -4,7 +4,7 @@ use crate::{stream_encoding, yaml_decode, yaml_text_t};
 use std::alloc::Global;
 use std::process::Abort;
 use std::test::Fail;
-use yaml_scan_text::{
+use yaml_scan_model::{
     yaml_encoding_t, yaml_error_type_t, yaml_fault_t, yaml_mark_t, yaml_origin_t,
 };
 

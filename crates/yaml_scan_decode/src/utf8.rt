@@ -1,16 +1,16 @@
 //! UTF-8.
 
 ghost use Rattle.std.specs.Prelude.{◌≡◌, ◌+◌, ◌<◌, ◌≤◌, ◌^◌, IfOk, length};
-ghost use Rattle.yaml_scan_text.specs.declared.name.yaml_encoding_t.TheVariants.{YAML_UTF8_ENCODING};
-ghost use Rattle.yaml_scan_text.specs.Marks.{byte};
-ghost use Rattle.yaml_scan_text.specs.Classes.{width_of};
+ghost use Rattle.yaml_scan_model.specs.declared.name.yaml_encoding_t.TheVariants.{YAML_UTF8_ENCODING};
+ghost use Rattle.yaml_scan_model.specs.Marks.{byte};
+ghost use Rattle.yaml_scan_model.specs.Classes.{width_of};
 ghost use Rattle.yaml_scan_decode.specs.Characters.{utf8_at, valued_at, sequence_of, least_code, leading_bits};
 ghost use Rattle.yaml_scan_decode.specs.Steps.{is_plain, plain_run, trailing_bits, GoesTo};
 ghost use Rattle.yaml_scan_decode.specs.Decoding.{characters};
 ghost use Rattle.yaml_scan_decode.specs.Steps.{outcome};
 
 use crate::offence::{Character, Offence, ReaderProblem, allowed_character};
-use yaml_scan_text::WIDTH;
+use yaml_scan_model::WIDTH;
 
 // So many bytes are looked at together.
 const CHUNK: usize = 16;
@@ -40,7 +40,7 @@ fn trailing_bits(bytes: &[u8], at: usize, width: usize, ahead: usize) -> Result<
 }
 
 // What the first byte of a character of so many bytes adds to its code.
-#[tactic(auto, unfolding(crate::specs::Characters::leading_bits, yaml_scan_text::specs::Classes::width_of))]
+#[tactic(auto, unfolding(crate::specs::Characters::leading_bits, yaml_scan_model::specs::Classes::width_of))]
 fn leading_bits(byte: u8, width: usize) -> u32
     requires some { 0 < width }
     requires width { width_of byte ≡ width }

@@ -1,7 +1,7 @@
 -- Escapes, a digit at a time.
 use Rattle.std.proofs.Common.{◌≡◌, ℕ, zero, suc, ◌+◌, ◌-◌, ◌*◌, ◌<◌, ◌≤◌, true, List, Some, None, nat_lt, refl, arith, add-one, add-zero, add-suc}
 use Rattle.std.proofs.lemmas.Bool.Decides.{nat_tests}
-use Rattle.yaml_scan_text.specs.Marks.{byte, break_width}
+use Rattle.yaml_scan_model.specs.Marks.{byte, break_width}
 use Rattle.yaml_scan_scalars.specs.Quoted.{hex_digit, hex_value, hex_len, simple_escape, escape_at, coded}
 
 pub hex_start : (text : List ℕ) (p : ℕ) → hex_value text p 0 ≡ Some 0

@@ -1,7 +1,7 @@
 -- Folding, a piece at a time.
 use Rattle.std.proofs.Common.{◌≡◌, ℕ, ◌<◌, true, false, List, [], ◌∷◌, ◌++◌, length, map, refl, sym, ap, ◌∙◌, arith, append_assoc, append-nil}
 use Rattle.yaml_scan_scalars.specs.Pieces.{Piece, Kept, Blank, Break, Line, lines, is_empty, text, trim_end, gap, rest_of, folded, value}
-use Rattle.yaml_scan_text.specs.Breaks.{is_feed}
+use Rattle.yaml_scan_model.specs.Breaks.{is_feed}
 use Rattle.yaml_scan_scalars.specs.Resume.{behind, resumed}
 use Rattle.yaml_scan_scalars.specs.declared.folding.Gap.{Gap}
 use Rattle.yaml_scan_scalars.specs.declared.folding.Gap.TheVariants as gaps

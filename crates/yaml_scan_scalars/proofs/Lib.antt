@@ -5,4 +5,4 @@ pub mod RunLemmas
 pub mod PlainLemmas
 pub mod PlainRunLemmas
 -- what it stands on, for crates of laws that name this one alone
-pub use Rattle.yaml_scan_text.proofs as scan_text
+pub use Rattle.yaml_scan_model.proofs as scan_model

@@ -5,20 +5,20 @@ use Rattle.std.proofs.lemmas.Bool.Decides.{nat_tests}
 use Rattle.std.proofs.lemmas.List.{take_all}
 use Rattle.yaml_scan_scalars.specs.Pieces.{Piece, Kept, Blank, Break, value}
 use Rattle.yaml_scan_scalars.specs.Resume.{resume}
-use Rattle.yaml_scan_text.specs.Marks.{Place, byte, mark_at, break_width, ends_break, is_blank, column_at}
-use Rattle.yaml_scan_text.specs.declared.record.yaml_mark_t.{yaml_mark_t}
+use Rattle.yaml_scan_model.specs.Marks.{Place, byte, mark_at, break_width, ends_break, is_blank, column_at}
+use Rattle.yaml_scan_model.specs.declared.record.yaml_mark_t.{yaml_mark_t}
 use Rattle.yaml_scan_scalars.specs.declared.folding.Folding.{Folding}
 use Rattle.yaml_scan_scalars.specs.declared.folding.Gap.TheVariants as gaps
 use Rattle.yaml_scan_scalars.specs.declared.joining.Joining.{Joining}
-use Rattle.yaml_scan_text.specs.declared.problem.Problem.TheVariants as problems
-use Rattle.yaml_scan_text.specs.declared.problem.ScanError.{ScanError}
-use Rattle.yaml_scan_text.specs.declared.problem.ScanError.TheVariants as errors
-use Rattle.yaml_scan_text.specs.Breaks.{feed_at}
-use Rattle.yaml_scan_text.specs.Wrong.{Wrong, IsMemory}
-use Rattle.yaml_scan_scalars.specs.Plain.{Spot, Ends, Takes, Faulty, in_plain, Words, is_bracket, with_piece, words_from, follows, words, starts_plain, plain_with, plain_text, PlainText, spot_at, ends_at, leads, after_white, is_nothing}
+use Rattle.yaml_scan_model.specs.declared.problem.Problem.TheVariants as problems
+use Rattle.yaml_scan_model.specs.declared.problem.ScanError.{ScanError}
+use Rattle.yaml_scan_model.specs.declared.problem.ScanError.TheVariants as errors
+use Rattle.yaml_scan_model.specs.Breaks.{feed_at}
+use Rattle.yaml_scan_model.specs.Wrong.{Wrong, IsMemory}
+use Rattle.yaml_scan_scalars.specs.Plain.{PlainSpot, Ends, Takes, Faulty, in_plain, Words, is_bracket, with_piece, words_from, follows, words, starts_plain, plain_with, plain_text, PlainText, spot_at, ends_at, leads, after_white, is_nothing}
 use Rattle.yaml_scan_scalars.specs.Joined.{joined, IsJoining, Steps, ReadsPlain}
-use Rattle.yaml_scan_text.proofs.MarksLemmas.{within, past_break}
-use Rattle.yaml_scan_text.proofs.BreaksLemmas.{end_not_blank, last_of}
+use Rattle.yaml_scan_model.proofs.MarksLemmas.{within, past_break}
+use Rattle.yaml_scan_model.proofs.BreaksLemmas.{end_not_blank, last_of}
 use Rattle.yaml_scan_scalars.proofs.FoldingLemmas.{end_line}
 
 or_false : (b : Bool) → (b || false) ≡ b
@@ -197,7 +197,7 @@ only_memory : (text : List ℕ) (a : ℕ) (place : Place) (e : ScanError) (r : R
 only_memory text a place errors.Memory r h = plain_memory text a place r
 only_memory text a place (errors.Fault f) r h = absurd h
 
-refused : (text : List ℕ) (a p : ℕ) (old new : Joining) (place : Place) (e : ScanError) (s : Spot) (more : ℕ → Result Words Wrong)
+refused : (text : List ℕ) (a p : ℕ) (old new : Joining) (place : Place) (e : ScanError) (s : PlainSpot) (more : ℕ → Result Words Wrong)
     → Steps text (mark_at text a) p old new place (Err e) s
     → ReadsPlain text a place (Err e) (plain_with (joined old) (follows more p s))
 refused text a p old new place e Ends more h = absurd h
@@ -210,7 +210,7 @@ pub turn_refused : (flow : Bool) (level : ℕ) (text : List ℕ) (a p n : ℕ) (
 unfolding words
 turn_refused flow level text a p n old new place e h = refused text a p old new place e (spot_at flow level text p) (words n flow level text) h
 
-done : (text : List ℕ) (start : yaml_mark_t) (p : ℕ) (old new : Joining) (place : Place) (s : Spot) (more : ℕ → Result Words Wrong)
+done : (text : List ℕ) (start : yaml_mark_t) (p : ℕ) (old new : Joining) (place : Place) (s : PlainSpot) (more : ℕ → Result Words Wrong)
     → Steps text start p old new place (Ok false) s
     → (place ≡ record { text = text; at = p }) × (new ≡ old)
     × (plain_with (joined old) (follows more p s) ≡ Ok record { value = take old.kept old.folding.done.items; end = old.end.index; place = p; broke = old.broke })
@@ -237,7 +237,7 @@ front : (old new : Joining) (x : Piece) (q : ℕ) (r : Result Words Wrong) → (
 front old new x q (Ok w) h = rw (h w) refl
 front old new x q (Err e) h = refl
 
-step : (flow : Bool) (level : ℕ) (text : List ℕ) (start : yaml_mark_t) (p n : ℕ) (old new : Joining) (place : Place) (s : Spot)
+step : (flow : Bool) (level : ℕ) (text : List ℕ) (start : yaml_mark_t) (p n : ℕ) (old new : Joining) (place : Place) (s : PlainSpot)
     → Steps text start p old new place (Ok true) s
     → (place.text ≡ text) × (p < place.at) × (p < length text) × IsJoining text place.at new
     × (plain_with (joined old) (follows (words n flow level text) p s) ≡ plain_with (joined new) (words n flow level text place.at))

@@ -1,8 +1,8 @@
 -- Runs of ordinary bytes in plain scalars.
 use Rattle.std.proofs.Common.{◌≡◌, ◌≢◌, ℕ, zero, suc, ◌+◌, ◌-◌, ◌<◌, ◌≤◌, ◌==◌, ◌&&◌, if◌then◌else◌, Bool, true, false, List, [], ◌∷◌, ◌++◌, length, Result, Ok, Err, refl, sym, ap, ◌∙◌, inl, inr, arith}
 use Rattle.std.proofs.lemmas.Bool.Decides.{nat_tests}
-use Rattle.yaml_scan_text.specs.Marks.{Place, byte, ends_break, is_blank}
-use Rattle.yaml_scan_text.specs.Wrong.{Wrong}
+use Rattle.yaml_scan_model.specs.Marks.{Place, byte, ends_break, is_blank}
+use Rattle.yaml_scan_model.specs.Wrong.{Wrong}
 use Rattle.yaml_scan_scalars.specs.declared.joining.Joining.{Joining}
 use Rattle.yaml_scan_scalars.specs.Pieces.{Piece, Kept, value}
 use Rattle.yaml_scan_scalars.specs.Ordinary.{is_ordinary, bytes_at, kept_run, IsRun}

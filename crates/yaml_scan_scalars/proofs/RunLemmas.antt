@@ -2,10 +2,10 @@
 use Rattle.std.proofs.Common.{◌≡◌, ◌≢◌, ℕ, zero, suc, ◌+◌, ◌-◌, ◌<◌, ◌≤◌, ◌==◌, ◌&&◌, ◌||◌, Bool, true, false, List, [], ◌∷◌, ◌++◌, length, take, drop, Result, Ok, Err, refl, sym, ap, ◌∙◌, inl, inr, ◌⊎◌, append_assoc, arith}
 use Rattle.std.proofs.lemmas.Bool.Decides.{nat_tests}
 use Rattle.std.proofs.lemmas.List.{drop_more}
-use Rattle.yaml_scan_text.specs.Marks.{Place, byte, break_of, ends_of, is_blank}
-use Rattle.yaml_scan_text.specs.Breaks.{is_document_indicator}
-use Rattle.yaml_scan_text.specs.Wrong.{Wrong}
-use Rattle.yaml_scan_text.proofs.MarksLemmas.{no_break, within}
+use Rattle.yaml_scan_model.specs.Marks.{Place, byte, break_of, ends_of, is_blank}
+use Rattle.yaml_scan_model.specs.Breaks.{is_document_indicator}
+use Rattle.yaml_scan_model.specs.Wrong.{Wrong}
+use Rattle.yaml_scan_model.proofs.MarksLemmas.{no_break, within}
 use Rattle.yaml_scan_scalars.specs.declared.folding.Folding.{Folding}
 use Rattle.yaml_scan_scalars.specs.declared.folding.Gap.{Gap}
 use Rattle.yaml_scan_scalars.specs.declared.folding.Gap.TheVariants as gaps

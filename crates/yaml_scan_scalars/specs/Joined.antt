@@ -1,14 +1,14 @@
 -- What a plain scalar comes to, where so much of it is joined and the rest follows.
 use Rattle.std.specs.Prelude.{ℕ, ◌+◌, ◌-◌, ◌<◌, ◌≤◌, ◌≡◌, Bool, ◌||◌, true, false, if◌then◌else◌, List, take, length, Result, Ok, Err}
 use Rattle.yaml_scan_scalars.specs.declared.joining.Joining.{Joining}
-use Rattle.yaml_scan_scalars.specs.declared.scalar.Plain.{Plain}
-use Rattle.yaml_scan_text.specs.declared.record.yaml_mark_t.{yaml_mark_t}
-use Rattle.yaml_scan_text.specs.declared.problem.ScanError.{ScanError}
-use Rattle.yaml_scan_text.specs.Marks.{Place, mark_at}
-use Rattle.yaml_scan_scalars.specs.Plain.{Spot, Ends, Takes, Faulty, Words, is_nothing, with_piece, with_run, plain_text, PlainText, after_white, leads}
+use Rattle.yaml_scan_scalars.specs.declared.scalar.PlainScalar.{PlainScalar}
+use Rattle.yaml_scan_model.specs.declared.record.yaml_mark_t.{yaml_mark_t}
+use Rattle.yaml_scan_model.specs.declared.problem.ScanError.{ScanError}
+use Rattle.yaml_scan_model.specs.Marks.{Place, mark_at}
+use Rattle.yaml_scan_scalars.specs.Plain.{PlainSpot, Ends, Takes, Faulty, Words, is_nothing, with_piece, with_run, plain_text, PlainText, after_white, leads}
 use Rattle.yaml_scan_scalars.specs.Ordinary.{IsRun}
 use Rattle.yaml_scan_scalars.specs.Resume.{resume}
-use Rattle.yaml_scan_text.specs.Wrong.{Wrong, Refuses, IsMemory}
+use Rattle.yaml_scan_model.specs.Wrong.{Wrong, Refuses, IsMemory}
 
 unfoldable pub joined : Joining → Words → PlainText
 joined j w =
@@ -23,7 +23,7 @@ pub record IsJoining (text : List ℕ) (p : ℕ) (j : Joining) : Type 0 where
   pub white : j.white ≡ after_white text p
 
 -- a step, by what stands there
-abbrev pub Steps : List ℕ → yaml_mark_t → ℕ → Joining → Joining → Place → Result Bool ScanError → Spot → Type 0
+abbrev pub Steps : List ℕ → yaml_mark_t → ℕ → Joining → Joining → Place → Result Bool ScanError → PlainSpot → Type 0
 Steps text start p old new place (Ok true) (Takes x q) =
     (place ≡ record { text = text; at = q }) × ((w : Words) → joined new w ≡ joined old (with_piece x q w)) × IsJoining text q new × (p < q) × (p < length text)
 Steps text start p old new place (Ok true) Ends = ⊥
@@ -48,14 +48,14 @@ pub record TookFirst (text : List ℕ) (p : ℕ) (new : Joining) (place : Place)
   pub value : (w : Words) → joined new w ≡ plain_text (with_run text p (place.at - p) w)
   pub seat : IsJoining text place.at new
 
-pub record IsPlain (text : List ℕ) (start : ℕ) (s : Plain) (x : PlainText) : Type 0 where
+pub record IsPlain (text : List ℕ) (start : ℕ) (s : PlainScalar) (x : PlainText) : Type 0 where
   pub value : s.value.items ≡ x.value
   pub start_mark : s.start_mark ≡ mark_at text start
   pub end_mark : s.end_mark ≡ mark_at text x.end
   pub broke : s.broke ≡ x.broke
 
 -- What reading a plain scalar answers, and where it leaves the reader.
-abbrev pub ReadsPlain : List ℕ → ℕ → Place → Result Plain ScanError → Result PlainText Wrong → Type 0
+abbrev pub ReadsPlain : List ℕ → ℕ → Place → Result PlainScalar ScanError → Result PlainText Wrong → Type 0
 ReadsPlain text start place (Ok s) (Ok x) = IsPlain text start s x × (place ≡ record { text = text; at = x.place })
 ReadsPlain text start place (Ok s) (Err w) = ⊥
 ReadsPlain text start place (Err e) (Ok x) = IsMemory e

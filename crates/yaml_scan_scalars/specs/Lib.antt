@@ -1,9 +1,9 @@
 pub mod Pieces
 pub mod Resume
 pub mod Quoted
-pub mod Gives
+pub mod Readings
 pub mod Plain
 pub mod Joined
 pub mod Ordinary
 -- what it stands on, for crates of laws that name this one alone
-pub use Rattle.yaml_scan_text.specs as scan_text
+pub use Rattle.yaml_scan_model.specs as scan_model

@@ -1,6 +1,6 @@
 -- Runs of bytes that stand for themselves.
 use Rattle.std.specs.Prelude.{ℕ, zero, suc, ◌+◌, ◌-◌, ◌<◌, ◌≤◌, ◌≡◌, Bool, true, ◌&&◌, ◌||◌, nat_le, List, [], ◌∷◌, ◌++◌}
-use Rattle.yaml_scan_text.specs.Marks.{Place, byte}
+use Rattle.yaml_scan_model.specs.Marks.{Place, byte}
 use Rattle.yaml_scan_scalars.specs.Pieces.{Piece, Kept}
 
 -- Between quotes and inside a line of a plain scalar the byte stands for itself, whatever stands beside it. Some others

@@ -1,6 +1,6 @@
 -- The value of a plain or quoted scalar, from its lines.
 use Rattle.std.specs.Prelude.{ℕ, Bool, true, false, if◌then◌else◌, List, [], ◌∷◌, ◌++◌}
-use Rattle.yaml_scan_text.specs.Breaks.{is_feed}
+use Rattle.yaml_scan_model.specs.Breaks.{is_feed}
 
 -- A piece of the text: bytes that stay, a blank, or a break by what it reads as. An escaped break is
 -- a piece that stays with no bytes, and a break that reads as nothing.

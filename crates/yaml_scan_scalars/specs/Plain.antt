@@ -1,11 +1,11 @@
 -- Plain scalars.
 use Rattle.std.specs.Prelude.{ℕ, zero, suc, ◌+◌, ◌-◌, Bool, true, false, not, ◌&&◌, ◌||◌, ◌==◌, nat_lt, if◌then◌else◌, List, [], ◌∷◌, length, Result, Ok, Err}
-use Rattle.yaml_scan_text.specs.declared.problem.Problem.{Problem}
-use Rattle.yaml_scan_text.specs.declared.problem.Problem.TheVariants as problems
-use Rattle.yaml_scan_text.specs.declared.problem.Context.TheVariants as contexts
-use Rattle.yaml_scan_text.specs.Marks.{byte, break_width, ends_break, column_at, is_blank, is_blank_or_end}
-use Rattle.yaml_scan_text.specs.Breaks.{break_value, is_document_indicator}
-use Rattle.yaml_scan_text.specs.Wrong.{Wrong}
+use Rattle.yaml_scan_model.specs.declared.problem.Problem.{Problem}
+use Rattle.yaml_scan_model.specs.declared.problem.Problem.TheVariants as problems
+use Rattle.yaml_scan_model.specs.declared.problem.Context.TheVariants as contexts
+use Rattle.yaml_scan_model.specs.Marks.{byte, break_width, ends_break, column_at, is_blank, is_blank_or_end}
+use Rattle.yaml_scan_model.specs.Breaks.{break_value, is_document_indicator}
+use Rattle.yaml_scan_model.specs.Wrong.{Wrong}
 use Rattle.yaml_scan_scalars.specs.Pieces.{Piece, Kept, Blank, Break, value}
 
 -- one of `, [ ] { }`
@@ -35,12 +35,12 @@ leads text zero = false
 leads text (suc p) = if is_blank (byte text p) then leads text p else ends_break text p
 
 -- What stands at a place inside the scalar: its end, a piece with the place after it, or what is wrong.
-pub data Spot : Type 0 where
-  Ends : Spot
-  Takes : Piece → ℕ → Spot
-  Faulty : Wrong → Spot
+pub data PlainSpot : Type 0 where
+  Ends : PlainSpot
+  Takes : Piece → ℕ → PlainSpot
+  Faulty : Wrong → PlainSpot
 
-abbrev pub in_plain : Problem → ℕ → Spot
+abbrev pub in_plain : Problem → ℕ → PlainSpot
 in_plain problem p = Faulty record { problem = problem; context = contexts.PlainScalar; place = p }
 
 -- the scalar ends before what stands there, which is no blank and no break; a level is an indent's column + 1, or 0
@@ -51,7 +51,7 @@ ends_at flow level text p =
     || ((byte text p == 58 && is_blank_or_end text (p + 1))
     || (if flow then is_bracket (byte text p) else leads text p && nat_lt (column_at text p) level)))
 
-unfoldable pub spot_at : Bool → ℕ → List ℕ → ℕ → Spot
+unfoldable pub spot_at : Bool → ℕ → List ℕ → ℕ → PlainSpot
 spot_at flow level text p =
     if nat_lt 0 (break_width text p) then Takes (Break (break_value text p)) (p + break_width text p)
     else if is_blank (byte text p) then
@@ -93,7 +93,7 @@ abbrev pub words_from : Piece → ℕ → Result Words Wrong → Result Words Wr
 words_from x q (Ok w) = Ok (with_piece x q w)
 words_from x q (Err e) = Err e
 
-abbrev pub follows : (ℕ → Result Words Wrong) → ℕ → Spot → Result Words Wrong
+abbrev pub follows : (ℕ → Result Words Wrong) → ℕ → PlainSpot → Result Words Wrong
 follows more p Ends = Ok record { pieces = []; end = p; place = p; broke = false }
 follows more p (Takes x q) = words_from x q (more q)
 follows more p (Faulty w) = Err w

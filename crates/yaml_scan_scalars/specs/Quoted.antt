@@ -1,11 +1,11 @@
 -- Double and single quoted scalars.
 use Rattle.std.specs.Prelude.{ℕ, zero, suc, ◌+◌, ◌*◌, ◌-◌, Bool, ◌&&◌, ◌||◌, ◌==◌, nat_lt, nat_le, if◌then◌else◌, List, [], ◌∷◌, ◌++◌, length, Option, Some, None, option_and_then, option_map, Result, Ok, Err, encode_utf8}
-use Rattle.yaml_scan_text.specs.declared.problem.Problem.{Problem}
-use Rattle.yaml_scan_text.specs.declared.problem.Problem.TheVariants as problems
-use Rattle.yaml_scan_text.specs.declared.problem.Context.TheVariants as contexts
-use Rattle.yaml_scan_text.specs.Marks.{byte, break_width, is_blank}
-use Rattle.yaml_scan_text.specs.Breaks.{break_value, is_document_indicator}
-use Rattle.yaml_scan_text.specs.Wrong.{Wrong}
+use Rattle.yaml_scan_model.specs.declared.problem.Problem.{Problem}
+use Rattle.yaml_scan_model.specs.declared.problem.Problem.TheVariants as problems
+use Rattle.yaml_scan_model.specs.declared.problem.Context.TheVariants as contexts
+use Rattle.yaml_scan_model.specs.Marks.{byte, break_width, is_blank}
+use Rattle.yaml_scan_model.specs.Breaks.{break_value, is_document_indicator}
+use Rattle.yaml_scan_model.specs.Wrong.{Wrong}
 use Rattle.yaml_scan_scalars.specs.Pieces.{Piece, Kept, Blank, Break, value}
 
 -- What stands at a place inside the quotes: the closing one, pieces with the place after them, or what is wrong.

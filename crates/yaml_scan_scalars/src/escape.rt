@@ -1,13 +1,13 @@
 //! Escapes in double quoted scalars (YAML 1.1, section 5.6).
 
 ghost use Rattle.std.specs.Prelude.{◌≡◌, ◌+◌, ◌<◌, ◌≤◌, ℕ, length, option_map, IfSome, IsSome};
-ghost use Rattle.yaml_scan_text.specs.Marks.{byte, break_of};
+ghost use Rattle.yaml_scan_model.specs.Marks.{byte, break_of};
 ghost use Rattle.yaml_scan_scalars.specs.Quoted as spec;
-ghost use Rattle.yaml_scan_scalars.specs.Gives.{Took};
+ghost use Rattle.yaml_scan_scalars.specs.Readings.{Took};
 ghost use Rattle.yaml_scan_scalars.specs.Resume.{resume};
 
 use crate::folding::Folding;
-use yaml_scan_text::{Context, Problem, Reader, ScanError, yaml_mark_t};
+use yaml_scan_model::{Context, Problem, Reader, ScanError, yaml_mark_t};
 
 /// The refusal of an escape, in the scalar that starts at the mark.
 fn wrong_escape(problem: Problem, start: yaml_mark_t, place: yaml_mark_t) -> ScanError

@@ -7,7 +7,7 @@ ghost use Rattle.yaml_scan_scalars.specs.Joined.{joined};
 
 use crate::folding::Folding;
 use std::alloc::{AllocError, Global};
-use yaml_scan_text::yaml_mark_t;
+use yaml_scan_model::yaml_mark_t;
 
 /// What is read of a plain scalar so far.
 #[derive(Debug, Drop)]

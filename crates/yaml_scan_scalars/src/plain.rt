@@ -1,15 +1,15 @@
 //! Plain scalars (YAML 1.1, section 9.1.3).
 
 ghost use Rattle.std.specs.Prelude.{◌≡◌, ◌||◌, ◌&&◌, ◌==◌, nat_lt, ◌<◌, true, false, OnOk, IfOk};
-ghost use Rattle.yaml_scan_text.specs.Marks.{byte, break_width, ends_break, is_blank};
+ghost use Rattle.yaml_scan_model.specs.Marks.{byte, break_width, ends_break, is_blank};
 ghost use Rattle.yaml_scan_scalars.specs.Plain as spec;
 ghost use Rattle.yaml_scan_scalars.specs.Joined.{IsJoining, Steps, ReadsPlain, TookFirst, TookWords};
 
 use crate::joining::Joining;
 use crate::run::ordinary_run;
-use crate::scalar::Plain;
+use crate::scalar::PlainScalar;
 use std::alloc::{AllocError, Global};
-use yaml_scan_text::{Context, Problem, Reader, ScanError, is_blank_byte, yaml_mark_t};
+use yaml_scan_model::{Context, Problem, Reader, ScanError, is_blank_byte, yaml_mark_t};
 
 /// The plain scalar that starts here, in flow context or not. The level is the column of the innermost open block
 /// level and one, or 0 where none is open. The reader is left behind the blanks and breaks that follow the scalar.
@@ -18,7 +18,7 @@ pub fn plain_scalar(
     reader: &mut Reader,
     flow: bool,
     level: u64,
-) -> Result<Plain, ScanError>
+) -> Result<PlainScalar, ScanError>
     requires { spec.starts_plain flow reader.old.text reader.old.at ≡ true }
     ensures { ReadsPlain reader.old.text reader.old.at reader.new result (spec.plain_at flow level reader.old.text reader.old.at) }
 {
@@ -30,7 +30,7 @@ pub fn plain_scalar(
         if !more {
             let end_mark = joining.end;
             let broke = joining.broke;
-            return Ok(Plain {
+            return Ok(PlainScalar {
                 value: joining.finish(),
                 start_mark: start,
                 end_mark,

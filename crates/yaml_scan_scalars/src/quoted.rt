@@ -1,10 +1,10 @@
 //! Double and single quoted scalars (YAML 1.1, sections 9.1.1 and 9.1.2).
 
 ghost use Rattle.std.specs.Prelude.{◌≡◌, ◌+◌, ◌&&◌, ◌==◌, ◌⊎◌, OnOk};
-ghost use Rattle.yaml_scan_text.specs.Marks.{byte};
-ghost use Rattle.yaml_scan_text.specs.declared.record.yaml_mark_t.{yaml_mark_t};
+ghost use Rattle.yaml_scan_model.specs.Marks.{byte};
+ghost use Rattle.yaml_scan_model.specs.declared.record.yaml_mark_t.{yaml_mark_t};
 ghost use Rattle.yaml_scan_scalars.specs.Quoted as spec;
-ghost use Rattle.yaml_scan_scalars.specs.Gives.{Took, Reads};
+ghost use Rattle.yaml_scan_scalars.specs.Readings.{Took, Reads};
 ghost use Rattle.yaml_scan_scalars.specs.Ordinary.{TookRun};
 ghost use Rattle.yaml_scan_scalars.specs.Resume.{resume};
 
@@ -13,7 +13,7 @@ use crate::folding::Folding;
 use crate::run::ordinary_run;
 use crate::scalar::Scalar;
 use std::alloc::{AllocError, Global};
-use yaml_scan_text::{Context, Problem, Reader, ScanError, is_blank_byte, yaml_mark_t};
+use yaml_scan_model::{Context, Problem, Reader, ScanError, is_blank_byte, yaml_mark_t};
 
 /// The double quoted scalar whose opening quote stands here. The reader is left after the closing one.
 pub fn double_quoted(alloc: Global, reader: &mut Reader) -> Result<Scalar, ScanError>

@@ -3,7 +3,7 @@
 ghost use Rattle.std.specs.Prelude.{◌≡◌, ◌-◌};
 ghost use Rattle.yaml_scan_scalars.specs.Ordinary as spec;
 
-use yaml_scan_text::Reader;
+use yaml_scan_model::Reader;
 
 /// Whether the byte stands for itself between quotes and inside a line of a plain scalar, whatever stands beside it.
 #[tactic(auto, unfolding(crate::specs::Ordinary::is_ordinary))]

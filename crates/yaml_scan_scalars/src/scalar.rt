@@ -1,6 +1,6 @@
 //! Scalars as they are read.
 
-use yaml_scan_text::yaml_mark_t;
+use yaml_scan_model::yaml_mark_t;
 
 /// A quoted scalar: its value, the place of its opening quote, and the place after its closing one.
 #[derive(Debug, Drop)]
@@ -12,7 +12,7 @@ pub struct Scalar {
 
 /// A plain scalar: its value, the place of its first character, and the place after its last one.
 #[derive(Debug, Drop)]
-pub struct Plain {
+pub struct PlainScalar {
     pub value: Vec<u8>,
     pub start_mark: yaml_mark_t,
     pub end_mark: yaml_mark_t,

@@ -1,7 +1,7 @@
 use crate::{Scalar, double_quoted, plain_scalar, single_quoted, starts_plain};
 use std::alloc::Global;
 use std::test::Fail;
-use yaml_scan_text::{Context, Problem, Reader, ScanError};
+use yaml_scan_model::{Context, Problem, Reader, ScanError};
 
 /// The quoted scalar that stands here, where a quote does.
 fn quoted(alloc: Global, reader: &mut Reader) -> Option<Result<Scalar, ScanError>> {

@@ -2,20 +2,20 @@
 use Rattle.std.proofs.Common.{◌≡◌, ℕ, zero, suc, ◌+◌, ◌-◌, ◌*◌, ◌<◌, ◌≤◌, ◌==◌, nat_lt, true, false, List, length, Result, Ok, Err, refl, ◌∙◌, arith, add-one}
 use Rattle.std.proofs.lemmas.Bool.Decides.{nat_tests}
 use Rattle.std.specs.Global.{Vec}
-use Rattle.yaml_scan_text.specs.declared.record.yaml_mark_t.{yaml_mark_t}
-use Rattle.yaml_scan_text.specs.declared.problem.Context.TheVariants as contexts
-use Rattle.yaml_scan_text.specs.declared.problem.Problem.TheVariants as problems
-use Rattle.yaml_scan_text.specs.declared.problem.ScanError.{ScanError}
-use Rattle.yaml_scan_text.specs.declared.problem.ScanError.TheVariants as errors
-use Rattle.yaml_scan_text.specs.Marks.{Place, byte, mark_at}
-use Rattle.yaml_scan_text.specs.Classes.{is_digit_byte}
-use Rattle.yaml_scan_text.specs.Wrong.{Wrong, IsMemory}
+use Rattle.yaml_scan_model.specs.declared.record.yaml_mark_t.{yaml_mark_t}
+use Rattle.yaml_scan_model.specs.declared.problem.Context.TheVariants as contexts
+use Rattle.yaml_scan_model.specs.declared.problem.Problem.TheVariants as problems
+use Rattle.yaml_scan_model.specs.declared.problem.ScanError.{ScanError}
+use Rattle.yaml_scan_model.specs.declared.problem.ScanError.TheVariants as errors
+use Rattle.yaml_scan_model.specs.Marks.{Place, byte, mark_at}
+use Rattle.yaml_scan_model.specs.Classes.{is_digit_byte}
+use Rattle.yaml_scan_model.specs.Wrong.{Wrong, IsMemory}
 use Rattle.yaml_scan_words.specs.declared.run.Run.TheVariants as runs
 use Rattle.yaml_scan_words.specs.declared.word.Directive.{Directive}
 use Rattle.yaml_scan_words.specs.declared.word.DirectiveWord.{DirectiveWord}
 use Rattle.yaml_scan_words.specs.declared.directives.DirectiveName.{DirectiveName}
 use Rattle.yaml_scan_words.specs.Runs.{belongs, run_within, run_end}
-use Rattle.yaml_scan_words.specs.Gives.{Gives, IsBytes, behind_bytes}
+use Rattle.yaml_scan_words.specs.Readings.{ReadsAs, IsBytes, behind_bytes}
 use Rattle.yaml_scan_words.specs.Directives.{ValueText, value_end, directive_place, name_behind, line_place, decimal, number_at, prefix_at, with_prefix, then_at, named_value_at, line_end_at, with_line, finished}
 use Rattle.yaml_scan_words.specs.DirectivesGiven.{IsSaid, IsName, IsEnd, IsDirective, Says}
 use Rattle.yaml_scan_words.proofs.RunsLemmas.{run_more, run_stop, run_within-ge}
@@ -85,69 +85,69 @@ number_done n text p k same stop some few =
     rw (end, one, short, count) refl
 
 memory_given : {X Y : Type 0} (Is : X → Y → Type 0) (behind : Y → ℕ) (text : List ℕ) (start : yaml_mark_t) (place : Place) (e : ScanError) (r : Result Y Wrong)
-    → IsMemory e → Gives Is behind text start place (Err e) r
+    → IsMemory e → ReadsAs Is behind text start place (Err e) r
 memory_given Is behind text start place errors.Memory (Ok y) h = tt
 memory_given Is behind text start place errors.Memory (Err w) h = tt
 memory_given Is behind text start place (errors.Fault f) (Ok y) h = absurd h
 memory_given Is behind text start place (errors.Fault f) (Err w) h = absurd h
 
 prefix_refused : (text : List ℕ) (start : yaml_mark_t) (handle : List ℕ) (place : Place) (e : ScanError) (r : Result (List ℕ × ℕ) Wrong)
-    → Gives IsBytes behind_bytes text start place (Err e) r → Gives IsSaid value_end text start place (Err e) (with_prefix handle r)
+    → ReadsAs IsBytes behind_bytes text start place (Err e) r → ReadsAs IsSaid value_end text start place (Err e) (with_prefix handle r)
 prefix_refused text start handle place e (Ok x) h = h
 prefix_refused text start handle place e (Err w) h = h
 
 -- a prefix that is refused behind a handle
 pub tag_refused : (text : List ℕ) (start : yaml_mark_t) (v : Vec ℕ) (between place : Place) (e : ScanError) (r : Result (List ℕ × ℕ) Wrong)
-    → Gives IsBytes behind_bytes text start between (Ok v) r → Gives IsBytes behind_bytes between.text start place (Err e) (prefix_at between.text between.at)
-    → Gives IsSaid value_end text start place (Err e) (then_at (λ handle q. with_prefix handle (prefix_at text q)) r)
+    → ReadsAs IsBytes behind_bytes text start between (Ok v) r → ReadsAs IsBytes behind_bytes between.text start place (Err e) (prefix_at between.text between.at)
+    → ReadsAs IsSaid value_end text start place (Err e) (then_at (λ handle q. with_prefix handle (prefix_at text q)) r)
 tag_refused text start v between place e (Ok x) (given, same) h =
     prefix_refused text start x.0 place e (prefix_at text x.1) (rw same at h)
 tag_refused text start v between place e (Err w) given h = absurd given
 
 -- a name that is refused
 pub name_refused : (text : List ℕ) (start : yaml_mark_t) (place : Place) (e : ScanError) (r : Result (DirectiveName × ℕ) Wrong)
-    → Gives IsName name_behind text start place (Err e) r → Gives IsSaid value_end text start place (Err e) (then_at (named_value_at text) r)
+    → ReadsAs IsName name_behind text start place (Err e) r → ReadsAs IsSaid value_end text start place (Err e) (then_at (named_value_at text) r)
 name_refused text start place e (Ok x) h = memory_given IsSaid value_end text start place e (named_value_at text x.0 x.1) h
 name_refused text start place e (Err w) h = h
 
 -- what follows a name
 pub name_given : (text : List ℕ) (start : yaml_mark_t) (name : DirectiveName) (between place : Place) (answer : Result Directive ScanError) (r : Result (DirectiveName × ℕ) Wrong)
-    → Gives IsName name_behind text start between (Ok name) r → Gives IsSaid value_end between.text start place answer (named_value_at between.text name between.at)
-    → Gives IsSaid value_end text start place answer (then_at (named_value_at text) r)
+    → ReadsAs IsName name_behind text start between (Ok name) r → ReadsAs IsSaid value_end between.text start place answer (named_value_at between.text name between.at)
+    → ReadsAs IsSaid value_end text start place answer (then_at (named_value_at text) r)
 name_given text start name between place answer (Ok x) (given, same) h =
     rw (given, same) at h
 name_given text start name between place answer (Err w) given h = absurd given
 
 -- a value that is refused
 pub value_refused : (text : List ℕ) (p : ℕ) (start : yaml_mark_t) (place : Place) (e : ScanError) (r : Result ValueText Wrong)
-    → Gives IsSaid value_end text start place (Err e) r → Gives (IsDirective text p) directive_place text start place (Err e) (finished text r)
+    → ReadsAs IsSaid value_end text start place (Err e) r → ReadsAs (IsDirective text p) directive_place text start place (Err e) (finished text r)
 value_refused text p start place e (Ok v) h = memory_given (IsDirective text p) directive_place text start place e (with_line v (line_end_at text v.end)) h
 value_refused text p start place e (Err w) h = h
 
 line_refused : (text : List ℕ) (p : ℕ) (start : yaml_mark_t) (place : Place) (e : ScanError) (v : ValueText) (r : Result ℕ Wrong)
-    → Gives IsEnd line_place text start place (Err e) r → Gives (IsDirective text p) directive_place text start place (Err e) (with_line v r)
+    → ReadsAs IsEnd line_place text start place (Err e) r → ReadsAs (IsDirective text p) directive_place text start place (Err e) (with_line v r)
 line_refused text p start place e v (Ok q) h = h
 line_refused text p start place e v (Err w) h = h
 
 -- a line that is refused behind a value
 pub end_refused : (text : List ℕ) (p : ℕ) (start : yaml_mark_t) (d : Directive) (between place : Place) (e : ScanError) (r : Result ValueText Wrong)
-    → Gives IsSaid value_end text start between (Ok d) r → Gives IsEnd line_place between.text start place (Err e) (line_end_at between.text between.at)
-    → Gives (IsDirective text p) directive_place text start place (Err e) (finished text r)
+    → ReadsAs IsSaid value_end text start between (Ok d) r → ReadsAs IsEnd line_place between.text start place (Err e) (line_end_at between.text between.at)
+    → ReadsAs (IsDirective text p) directive_place text start place (Err e) (finished text r)
 end_refused text p start d between place e (Ok v) (given, same) h =
     line_refused text p start place e v (line_end_at text v.end) (rw same at h)
 end_refused text p start d between place e (Err w) given h = absurd given
 
 line_given : (text : List ℕ) (p : ℕ) (start : yaml_mark_t) (place : Place) (word : DirectiveWord) (v : ValueText) (r : Result ℕ Wrong)
     → Says word.directive v.said → word.start_mark ≡ mark_at text p → word.end_mark ≡ mark_at text v.end
-    → Gives IsEnd line_place text start place (Ok tt) r → Gives (IsDirective text p) directive_place text start place (Ok word) (with_line v r)
+    → ReadsAs IsEnd line_place text start place (Ok tt) r → ReadsAs (IsDirective text p) directive_place text start place (Ok word) (with_line v r)
 line_given text p start place word v (Ok q) s m k (done, same) = (record { said = s; start_mark = m; end_mark = k }, same)
 line_given text p start place word v (Err w) s m k h = absurd h
 
 -- a directive with its line
 pub end_given : (text : List ℕ) (p : ℕ) (start : yaml_mark_t) (between place : Place) (word : DirectiveWord) (r : Result ValueText Wrong)
-    → Gives IsSaid value_end text start between (Ok word.directive) r → word.start_mark ≡ mark_at text p → word.end_mark ≡ mark_at between.text between.at
-    → Gives IsEnd line_place between.text start place (Ok tt) (line_end_at between.text between.at)
-    → Gives (IsDirective text p) directive_place text start place (Ok word) (finished text r)
+    → ReadsAs IsSaid value_end text start between (Ok word.directive) r → word.start_mark ≡ mark_at text p → word.end_mark ≡ mark_at between.text between.at
+    → ReadsAs IsEnd line_place between.text start place (Ok tt) (line_end_at between.text between.at)
+    → ReadsAs (IsDirective text p) directive_place text start place (Ok word) (finished text r)
 end_given text p start between place word (Ok v) (given, same) m k h =
     line_given text p start place word v (line_end_at text v.end) given m (rw same at k) (rw same at h)
 end_given text p start between place word (Err w) given m k h = absurd given

@@ -2,7 +2,7 @@
 use Rattle.std.proofs.Common.{◌≡◌, ℕ, zero, suc, ◌+◌, ◌-◌, ◌<◌, ◌≤◌, List, [], ◌∷◌, ◌++◌, length, get_or, take, drop, slice_range, refl, ap, subst, ◌∙◌, arith, add-zero, length-take, length-drop}
 use Rattle.std.proofs.lemmas.List.{get_or-take, get_or-drop}
 use Rattle.std.proofs.lemmas.Grind.{same_number_lists}
-use Rattle.yaml_scan_text.specs.Marks.{byte}
+use Rattle.yaml_scan_model.specs.Marks.{byte}
 use Rattle.yaml_scan_words.specs.Written.{HasAt}
 
 -- the text has these bytes from the place on, by recursion

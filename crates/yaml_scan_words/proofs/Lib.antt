@@ -1,6 +1,6 @@
 pub mod RanksLemmas
 pub mod RunsLemmas
-pub mod SignsLemmas
+pub mod PrintedLemmas
 pub mod BetweenLemmas
 pub mod UrisLemmas
 pub mod DirectivesLemmas

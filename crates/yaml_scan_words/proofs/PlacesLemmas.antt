@@ -2,22 +2,22 @@
 use Rattle.std.proofs.Common.{◌≡◌, ℕ, zero, suc, ◌+◌, ◌-◌, ◌<◌, ◌≤◌, ◌==◌, ◌&&◌, ◌||◌, nat_lt, Bool, true, false, not, List, [], ◌∷◌, length, Option, Some, None, IsSome, Result, Ok, Err, refl, inl, inr, arith}
 use Rattle.std.proofs.lemmas.Bool.{cases_Bool}
 use Rattle.std.proofs.lemmas.Bool.Decides.{nat_tests}
-use Rattle.yaml_scan_text.specs.declared.problem.Context.{Context}
-use Rattle.yaml_scan_text.specs.declared.problem.Context.TheVariants as contexts
-use Rattle.yaml_scan_text.specs.declared.problem.Problem.{Problem}
-use Rattle.yaml_scan_text.specs.Marks.{byte, break_width, is_blank_or_end}
-use Rattle.yaml_scan_text.specs.Classes.{is_bom}
-use Rattle.yaml_scan_text.specs.Wrong.{Wrong}
-use Rattle.yaml_scan_text.proofs.MarksLemmas.{within, past_break}
+use Rattle.yaml_scan_model.specs.declared.problem.Context.{Context}
+use Rattle.yaml_scan_model.specs.declared.problem.Context.TheVariants as contexts
+use Rattle.yaml_scan_model.specs.declared.problem.Problem.{Problem}
+use Rattle.yaml_scan_model.specs.Marks.{byte, break_width, is_blank_or_end}
+use Rattle.yaml_scan_model.specs.Classes.{is_bom}
+use Rattle.yaml_scan_model.specs.Wrong.{Wrong}
+use Rattle.yaml_scan_model.proofs.MarksLemmas.{within, past_break}
 use Rattle.yaml_scan_words.specs.declared.between.Standing.{Standing}
 use Rattle.yaml_scan_words.specs.declared.between.Standing.TheVariants as standings
 use Rattle.yaml_scan_words.specs.declared.run.Run.{Run}
 use Rattle.yaml_scan_words.specs.declared.run.Run.TheVariants as runs
 use Rattle.yaml_scan_words.specs.Runs.{belongs, run_end}
 use Rattle.yaml_scan_words.specs.Between.{step_at, is_skipped, Gap, gap_behind, gap_within, gap_at}
-use Rattle.yaml_scan_words.specs.Gives.{behind_bytes}
+use Rattle.yaml_scan_words.specs.Readings.{behind_bytes}
 use Rattle.yaml_scan_words.specs.Anchors.{anchor_at, name_between, may_end_name}
-use Rattle.yaml_scan_words.specs.Uris.{is_uri, octet_at, due_behind, Spot, Spells, Ends, Faulty, escape_spot, octet_spot, spot_at, with_bytes, uri_from, uri_within, uri_at, filled, some_uri_at}
+use Rattle.yaml_scan_words.specs.Uris.{is_uri, octet_at, due_behind, UriSpot, Spells, Ends, Faulty, escape_spot, octet_spot, spot_at, with_bytes, uri_from, uri_within, uri_at, filled, some_uri_at}
 use Rattle.yaml_scan_words.specs.Tags.{TagText, tag_end, bracketed, verbatim_at, name_end, with_handle, named_at, bare, parts_at, may_end_tag, ended, tag_at}
 use Rattle.yaml_scan_words.specs.declared.directives.DirectiveName.{DirectiveName}
 use Rattle.yaml_scan_words.specs.declared.directives.DirectiveName.TheVariants as names
@@ -102,7 +102,7 @@ name_place context text o p q f =
 pub anchor_place : (context : Context) (text : List ℕ) (p : ℕ) → p < length text → Lands behind_bytes text (p + 1) (anchor_at context text p)
 anchor_place context text p l = name_place context text (p + 1) (p + 1) (run_end runs.Alphas text (p + 1)) (run_place runs.Alphas text (p + 1) (omega arith))
 
-abbrev Placed : List ℕ → ℕ → Spot → Type 0
+abbrev Placed : List ℕ → ℕ → UriSpot → Type 0
 Placed text p (Spells b due q) = IsFrom text p q
 Placed text p (Ends q) = IsFrom text p q
 Placed text p (Faulty problem q) = Unit {0}
@@ -146,7 +146,7 @@ lands_further : {Y : Type 0} (end : Y → ℕ) (text : List ℕ) (o p : ℕ) (r 
 lands_further end text o p (Ok y) l h = further text o p (end y) l h
 lands_further end text o p (Err w) l h = tt
 
-uri_from-place : (more : ℕ → ℕ → Result (List ℕ × ℕ) Wrong) (context : Context) (text : List ℕ) (p : ℕ) (s : Spot)
+uri_from-place : (more : ℕ → ℕ → Result (List ℕ × ℕ) Wrong) (context : Context) (text : List ℕ) (p : ℕ) (s : UriSpot)
     → ((due q : ℕ) → q ≤ length text → Lands behind_bytes text q (more due q)) → Placed text p s → Lands behind_bytes text p (uri_from more context s)
 uri_from-place more context text p (Spells b due q) rest f =
     lands_further behind_bytes text p q (with_bytes (b ∷ []) (more due q)) f.forward (bytes_place text q (b ∷ []) (more due q) (rest due q f.inside))

@@ -2,9 +2,9 @@
 use Rattle.std.proofs.Common.{◌≡◌, ℕ, zero, suc, ◌+◌, ◌<◌, ◌≤◌, ◌==◌, nat_lt, ◌||◌, true, false, not, List, length, refl, inl, inr, ◌⊎◌, arith}
 use Rattle.std.proofs.lemmas.Bool.{cases_Bool}
 use Rattle.std.proofs.lemmas.Bool.Decides.{nat_tests}
-use Rattle.yaml_scan_text.specs.Marks.{byte, break_width, is_blank}
-use Rattle.yaml_scan_text.specs.Classes.{is_alpha_byte, is_digit_byte}
-use Rattle.yaml_scan_text.proofs.MarksLemmas.{no_break, within}
+use Rattle.yaml_scan_model.specs.Marks.{byte, break_width, is_blank}
+use Rattle.yaml_scan_model.specs.Classes.{is_alpha_byte, is_digit_byte}
+use Rattle.yaml_scan_model.proofs.MarksLemmas.{no_break, within}
 use Rattle.yaml_scan_words.specs.declared.run.Run.{Run}
 use Rattle.yaml_scan_words.specs.declared.run.Run.TheVariants as runs
 use Rattle.yaml_scan_words.specs.Runs.{belongs, run_within, run_end}

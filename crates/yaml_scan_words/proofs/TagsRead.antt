@@ -2,13 +2,13 @@
 use Rattle.std.proofs.Common.{◌≡◌, ◌≢◌, ℕ, suc, ◌+◌, ◌<◌, ◌≤◌, ◌==◌, ◌&&◌, ◌||◌, Bool, true, false, not, List, [], ◌∷◌, ◌++◌, length, slice_range, Ok, refl, sym, ◌∙◌, inl, inr, ◌⊎◌, append_assoc, arith, length-append}
 use Rattle.std.proofs.lemmas.Bool.{cases_Bool, true≢false}
 use Rattle.std.proofs.lemmas.Bool.Decides.{nat_tests}
-use Rattle.yaml_scan_text.specs.declared.problem.Context.TheVariants as contexts
-use Rattle.yaml_scan_text.specs.Marks.{byte, break_width, is_blank}
-use Rattle.yaml_scan_text.specs.Classes.{is_alpha_byte, is_digit_byte}
-use Rattle.yaml_scan_text.proofs.MarksLemmas.{no_break, within}
+use Rattle.yaml_scan_model.specs.declared.problem.Context.TheVariants as contexts
+use Rattle.yaml_scan_model.specs.Marks.{byte, break_width, is_blank}
+use Rattle.yaml_scan_model.specs.Classes.{is_alpha_byte, is_digit_byte}
+use Rattle.yaml_scan_model.proofs.MarksLemmas.{no_break, within}
 use Rattle.yaml_scan_words.specs.declared.run.Run.TheVariants as runs
 use Rattle.yaml_scan_words.specs.Runs.{belongs, run_within}
-use Rattle.yaml_scan_words.specs.Uris.{is_sign, is_wide_sign, is_uri}
+use Rattle.yaml_scan_words.specs.Uris.{is_punctuation, is_wide_punctuation, is_uri}
 use Rattle.yaml_scan_words.specs.Tags.{name_end, parts_at, may_end_tag, tag_at}
 use Rattle.yaml_scan_words.specs.Written.{HasAt, are_alphas, UriPiece, raw, escape, uri_text, uri_bytes, is_kept, IsUri, has_no_mark}
 use Rattle.yaml_scan_words.proofs.RunsLemmas.{run_more, run_stop}
@@ -32,17 +32,17 @@ alpha_none : (b : ℕ) → is_alpha_byte b ≡ true → (b ≢ 44) × (b ≢ 60)
 unfolding is_alpha_byte is_digit_byte
 alpha_none b h = (grind (arith, nat_tests), grind (arith, nat_tests), grind (arith, nat_tests), grind (arith, nat_tests))
 
-sign_none : (b : ℕ) → is_sign b ≡ true → (b ≢ 44) × (b ≢ 60)
-unfolding is_sign
-sign_none b h = (grind (arith, nat_tests), grind (arith, nat_tests))
+punctuation_none : (b : ℕ) → is_punctuation b ≡ true → (b ≢ 44) × (b ≢ 60)
+unfolding is_punctuation
+punctuation_none b h = (grind (arith, nat_tests), grind (arith, nat_tests))
 
 -- what is kept in a shorthand tag is neither `,` nor `<`
 kept_none : (b : ℕ) → is_kept false b ≡ true → (b ≢ 44) × (b ≢ 60)
 kept_none b h =
-    elim (either (is_alpha_byte b) (is_sign b || false) h) [
+    elim (either (is_alpha_byte b) (is_punctuation b || false) h) [
       | inl a ↦ let (comma, angle, low, high) = alpha_none b a in (comma, angle)
-      | inr more ↦ elim (either (is_sign b) false more) [
-        | inl s ↦ sign_none b s
+      | inr more ↦ elim (either (is_punctuation b) false more) [
+        | inl s ↦ punctuation_none b s
         | inr w ↦ absurd (true≢false (sym w))
       ]
     ]
@@ -145,8 +145,8 @@ bare_is_read flow text p pieces h some is free stop =
     let read = uri_is_read contexts.TagUri false text (p + 1) pieces all is (uri_stops flow text e stop) in
     rw (angle, name, read, some_bytes pieces some, stop) refl
 
-bracket_plain : (62 == 37 || (is_alpha_byte 62 || (is_sign 62 || (true && is_wide_sign 62)))) ≡ false
-unfolding is_alpha_byte is_digit_byte is_sign is_wide_sign
+bracket_plain : (62 == 37 || (is_alpha_byte 62 || (is_punctuation 62 || (true && is_wide_punctuation 62)))) ≡ false
+unfolding is_alpha_byte is_digit_byte is_punctuation is_wide_punctuation
 bracket_plain = refl
 
 pub verbatim_is_read : (flow : Bool) (text : List ℕ) (p : ℕ) (pieces : List UriPiece) → HasAt text p (33 ∷ (60 ∷ (uri_text pieces ++ (62 ∷ [])))) → 0 < length pieces → IsUri true 0 pieces

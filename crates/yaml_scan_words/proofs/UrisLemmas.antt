@@ -3,24 +3,24 @@ use Rattle.std.proofs.Common.{◌≡◌, ℕ, zero, suc, ◌+◌, ◌<◌, ◌�
 use Rattle.std.proofs.lemmas.Bool.{cases_Bool, true≢false}
 use Rattle.std.proofs.lemmas.Bool.Decides.{nat_tests}
 use Rattle.std.proofs.lemmas.List.{drop_more}
-use Rattle.yaml_scan_text.specs.declared.problem.Context.{Context}
-use Rattle.yaml_scan_text.specs.declared.problem.Problem.{Problem}
-use Rattle.yaml_scan_text.specs.Marks.{byte}
-use Rattle.yaml_scan_text.specs.Classes.{is_alpha_byte, is_digit_byte}
-use Rattle.yaml_scan_text.specs.Wrong.{Wrong}
-use Rattle.yaml_scan_text.proofs.MarksLemmas.{within}
-use Rattle.yaml_scan_words.specs.Uris.{is_sign, is_wide_sign, is_uri, hex_digit, octet_of, octet_at, due_behind, Spot, Spells, Ends, Faulty, escape_spot, octet_spot, spot_at, with_bytes, uri_from, uri_within, uri_at}
+use Rattle.yaml_scan_model.specs.declared.problem.Context.{Context}
+use Rattle.yaml_scan_model.specs.declared.problem.Problem.{Problem}
+use Rattle.yaml_scan_model.specs.Marks.{byte}
+use Rattle.yaml_scan_model.specs.Classes.{is_alpha_byte, is_digit_byte}
+use Rattle.yaml_scan_model.specs.Wrong.{Wrong}
+use Rattle.yaml_scan_model.proofs.MarksLemmas.{within}
+use Rattle.yaml_scan_words.specs.Uris.{is_punctuation, is_wide_punctuation, is_uri, hex_digit, octet_of, octet_at, due_behind, UriSpot, Spells, Ends, Faulty, escape_spot, octet_spot, spot_at, with_bytes, uri_from, uri_within, uri_at}
 
 alpha_range : (b : ℕ) → is_alpha_byte b ≡ true → (32 < b) × (b < 127)
 unfolding is_alpha_byte is_digit_byte
 alpha_range b h = (grind (arith, nat_tests), grind (arith, nat_tests))
 
-sign_range : (b : ℕ) → is_sign b ≡ true → (32 < b) × (b < 127)
-unfolding is_sign
-sign_range b h = (grind (arith, nat_tests), grind (arith, nat_tests))
+punctuation_range : (b : ℕ) → is_punctuation b ≡ true → (32 < b) × (b < 127)
+unfolding is_punctuation
+punctuation_range b h = (grind (arith, nat_tests), grind (arith, nat_tests))
 
-wide_range : (b : ℕ) → is_wide_sign b ≡ true → (32 < b) × (b < 127)
-unfolding is_wide_sign
+wide_range : (b : ℕ) → is_wide_punctuation b ≡ true → (32 < b) × (b < 127)
+unfolding is_wide_punctuation
 wide_range b h = (grind (arith, nat_tests), grind (arith, nat_tests))
 
 digit_range : (b : ℕ) → IsSome (hex_digit b) → (32 < b) × (b < 127)
@@ -38,11 +38,11 @@ second_of false b h = absurd (true≢false (sym h))
 -- what a URI holds as it is, is printed ASCII
 pub uri_range : (wide : Bool) (text : List ℕ) (p : ℕ) → is_uri wide text p ≡ true → (32 < byte text p) × (byte text p < 127)
 uri_range wide text p h =
-    elim (either (is_alpha_byte (byte text p)) (is_sign (byte text p) || (wide && is_wide_sign (byte text p))) h) [
+    elim (either (is_alpha_byte (byte text p)) (is_punctuation (byte text p) || (wide && is_wide_punctuation (byte text p))) h) [
       | inl a ↦ alpha_range (byte text p) a
-      | inr more ↦ elim (either (is_sign (byte text p)) (wide && is_wide_sign (byte text p)) more) [
-        | inl s ↦ sign_range (byte text p) s
-        | inr w ↦ wide_range (byte text p) (second_of wide (is_wide_sign (byte text p)) w)
+      | inr more ↦ elim (either (is_punctuation (byte text p)) (wide && is_wide_punctuation (byte text p)) more) [
+        | inl s ↦ punctuation_range (byte text p) s
+        | inr w ↦ wide_range (byte text p) (second_of wide (is_wide_punctuation (byte text p)) w)
       ]
     ]
 
@@ -61,7 +61,7 @@ octet_digits text p h =
     (digit_range (byte text (p + 1)) high, digit_range (byte text (p + 2)) low)
 
 -- a byte that is spelled moves the place
-abbrev Moves : List ℕ → ℕ → Spot → Type 0
+abbrev Moves : List ℕ → ℕ → UriSpot → Type 0
 Moves text p (Spells b due q) = (p < q) × (p < length text)
 Moves text p (Ends q) = Unit {0}
 Moves text p (Faulty problem q) = Unit {0}
@@ -125,22 +125,22 @@ alpha_no_mark : (b : ℕ) → is_alpha_byte b ≡ true → (b == 37) ≡ false
 unfolding is_alpha_byte is_digit_byte
 alpha_no_mark b h = grind (arith, nat_tests)
 
-sign_no_mark : (b : ℕ) → is_sign b ≡ true → (b == 37) ≡ false
-unfolding is_sign
-sign_no_mark b h = grind (arith, nat_tests)
+punctuation_no_mark : (b : ℕ) → is_punctuation b ≡ true → (b == 37) ≡ false
+unfolding is_punctuation
+punctuation_no_mark b h = grind (arith, nat_tests)
 
-wide_no_mark : (b : ℕ) → is_wide_sign b ≡ true → (b == 37) ≡ false
-unfolding is_wide_sign
+wide_no_mark : (b : ℕ) → is_wide_punctuation b ≡ true → (b == 37) ≡ false
+unfolding is_wide_punctuation
 wide_no_mark b h = grind (arith, nat_tests)
 
 -- what a URI holds as it is, begins no escape
 kept_no_mark : (wide : Bool) (text : List ℕ) (p : ℕ) → is_uri wide text p ≡ true → (byte text p == 37) ≡ false
 kept_no_mark wide text p h =
-    elim (either (is_alpha_byte (byte text p)) (is_sign (byte text p) || (wide && is_wide_sign (byte text p))) h) [
+    elim (either (is_alpha_byte (byte text p)) (is_punctuation (byte text p) || (wide && is_wide_punctuation (byte text p))) h) [
       | inl a ↦ alpha_no_mark (byte text p) a
-      | inr more ↦ elim (either (is_sign (byte text p)) (wide && is_wide_sign (byte text p)) more) [
-        | inl s ↦ sign_no_mark (byte text p) s
-        | inr w ↦ wide_no_mark (byte text p) (second_of wide (is_wide_sign (byte text p)) w)
+      | inr more ↦ elim (either (is_punctuation (byte text p)) (wide && is_wide_punctuation (byte text p)) more) [
+        | inl s ↦ punctuation_no_mark (byte text p) s
+        | inr w ↦ wide_no_mark (byte text p) (second_of wide (is_wide_punctuation (byte text p)) w)
       ]
     ]
 
@@ -164,7 +164,7 @@ uri_run (suc d) n context wide text p room kept =
     let front = ap (with_bytes (byte text p ∷ [])) rest ∙ bytes_twice (byte text p ∷ []) (take d (drop (p + 1) text)) (uri_within (suc l) context wide 0 text (p + 1 + d)) in
     (l, omega arith, rw (next, drop_more text p 0 inside) (no_bytes (uri_within (suc n) context wide 0 text p) ∙ (same ∙ front)))
 
-from_same : (f g : ℕ → ℕ → Result (List ℕ × ℕ) Wrong) (context : Context) (s : Spot)
+from_same : (f g : ℕ → ℕ → Result (List ℕ × ℕ) Wrong) (context : Context) (s : UriSpot)
     → ((b due q : ℕ) → s ≡ Spells b due q → f due q ≡ g due q) → uri_from f context s ≡ uri_from g context s
 from_same f g context (Spells b due q) h = rw (h b due q refl) refl
 from_same f g context (Ends q) h = refl

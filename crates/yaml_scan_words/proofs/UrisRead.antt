@@ -2,10 +2,10 @@
 use Rattle.std.proofs.Common.{◌≡◌, ◌≢◌, ℕ, suc, ◌+◌, ◌*◌, ◌/◌, ◌%◌, ◌<◌, ◌≤◌, ◌==◌, ◌&&◌, ◌||◌, Bool, true, false, List, [], ◌∷◌, length, Some, Ok, refl, sym, ap, ◌∙◌, inl, inr, ◌⊎◌, arith}
 use Rattle.std.proofs.lemmas.Bool.{cases_Bool, true≢false}
 use Rattle.std.proofs.lemmas.Bool.Decides.{nat_tests}
-use Rattle.yaml_scan_text.specs.declared.problem.Context.{Context}
-use Rattle.yaml_scan_text.specs.Marks.{byte}
-use Rattle.yaml_scan_text.specs.Classes.{is_alpha_byte, is_digit_byte}
-use Rattle.yaml_scan_words.specs.Uris.{is_sign, is_wide_sign, is_uri, hex_digit, octet_at, due_behind, Spells, Ends, spot_at, with_bytes, uri_within, uri_at}
+use Rattle.yaml_scan_model.specs.declared.problem.Context.{Context}
+use Rattle.yaml_scan_model.specs.Marks.{byte}
+use Rattle.yaml_scan_model.specs.Classes.{is_alpha_byte, is_digit_byte}
+use Rattle.yaml_scan_words.specs.Uris.{is_punctuation, is_wide_punctuation, is_uri, hex_digit, octet_at, due_behind, Spells, Ends, spot_at, with_bytes, uri_within, uri_at}
 use Rattle.yaml_scan_words.specs.Written.{UriPiece, raw, escape, capital, uri_text, uri_bytes, is_kept, IsUri}
 use Rattle.yaml_scan_words.proofs.UrisLemmas.{uri_more, no_bytes}
 use Rattle.yaml_scan_words.proofs.HasLemmas.{Has}
@@ -18,12 +18,12 @@ kept_alpha : (b : ℕ) → is_alpha_byte b ≡ true → b ≢ 37
 unfolding is_alpha_byte is_digit_byte
 kept_alpha b h = grind (arith, nat_tests)
 
-kept_sign : (b : ℕ) → is_sign b ≡ true → b ≢ 37
-unfolding is_sign
-kept_sign b h = grind (arith, nat_tests)
+kept_punctuation : (b : ℕ) → is_punctuation b ≡ true → b ≢ 37
+unfolding is_punctuation
+kept_punctuation b h = grind (arith, nat_tests)
 
-kept_wide : (b : ℕ) → is_wide_sign b ≡ true → b ≢ 37
-unfolding is_wide_sign
+kept_wide : (b : ℕ) → is_wide_punctuation b ≡ true → b ≢ 37
+unfolding is_wide_punctuation
 kept_wide b h = grind (arith, nat_tests)
 
 either : (a b : Bool) → (a || b) ≡ true → (a ≡ true) ⊎ (b ≡ true)
@@ -37,11 +37,11 @@ second_of false b h = absurd (true≢false (sym h))
 -- what is kept is no `%`
 pub kept_plain : (wide : Bool) (b : ℕ) → is_kept wide b ≡ true → b ≢ 37
 kept_plain wide b h =
-    elim (either (is_alpha_byte b) (is_sign b || (wide && is_wide_sign b)) h) [
+    elim (either (is_alpha_byte b) (is_punctuation b || (wide && is_wide_punctuation b)) h) [
       | inl a ↦ kept_alpha b a
-      | inr more ↦ elim (either (is_sign b) (wide && is_wide_sign b) more) [
-        | inl s ↦ kept_sign b s
-        | inr w ↦ kept_wide b (second_of wide (is_wide_sign b) w)
+      | inr more ↦ elim (either (is_punctuation b) (wide && is_wide_punctuation b) more) [
+        | inl s ↦ kept_punctuation b s
+        | inr w ↦ kept_wide b (second_of wide (is_wide_punctuation b) w)
       ]
     ]
 

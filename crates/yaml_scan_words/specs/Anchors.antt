@@ -2,10 +2,10 @@
 use Rattle.std.specs.Prelude.{ℕ, ◌+◌, Bool, not, ◌||◌, ◌==◌, if◌then◌else◌, List, slice_range, Result, Ok, Err}
 use Rattle.yaml_scan_words.specs.declared.run.Run.TheVariants as runs
 use Rattle.yaml_scan_words.specs.Runs.{run_end}
-use Rattle.yaml_scan_text.specs.declared.problem.Context.{Context}
-use Rattle.yaml_scan_text.specs.declared.problem.Problem.TheVariants as problems
-use Rattle.yaml_scan_text.specs.Marks.{byte, is_blank_or_end}
-use Rattle.yaml_scan_text.specs.Wrong.{Wrong}
+use Rattle.yaml_scan_model.specs.declared.problem.Context.{Context}
+use Rattle.yaml_scan_model.specs.declared.problem.Problem.TheVariants as problems
+use Rattle.yaml_scan_model.specs.Marks.{byte, is_blank_or_end}
+use Rattle.yaml_scan_model.specs.Wrong.{Wrong}
 
 -- one of ``? : , ] } % @ ` ``
 abbrev pub is_name_end : ℕ → Bool

@@ -4,8 +4,8 @@ use Rattle.yaml_scan_words.specs.declared.between.Standing.{Standing}
 use Rattle.yaml_scan_words.specs.declared.between.Standing.TheVariants as standings
 use Rattle.yaml_scan_words.specs.declared.run.Run.TheVariants as runs
 use Rattle.yaml_scan_words.specs.Runs.{run_end}
-use Rattle.yaml_scan_text.specs.Marks.{byte, break_width}
-use Rattle.yaml_scan_text.specs.Classes.{is_bom}
+use Rattle.yaml_scan_model.specs.Marks.{byte, break_width}
+use Rattle.yaml_scan_model.specs.Classes.{is_bom}
 
 -- what stands at a place between lexemes, and the place behind it
 pub record Step : Type 0 where

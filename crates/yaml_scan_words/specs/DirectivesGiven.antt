@@ -1,6 +1,6 @@
 -- What reading a directive answers.
 use Rattle.std.specs.Prelude.{ℕ, ℤ, pos, List, ◌≡◌}
-use Rattle.yaml_scan_text.specs.Marks.{mark_at}
+use Rattle.yaml_scan_model.specs.Marks.{mark_at}
 use Rattle.yaml_scan_words.specs.declared.word.Directive.{Directive}
 use Rattle.yaml_scan_words.specs.declared.word.Directive.TheVariants as directives
 use Rattle.yaml_scan_words.specs.declared.word.DirectiveWord.{DirectiveWord}

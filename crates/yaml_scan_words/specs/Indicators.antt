@@ -1,6 +1,6 @@
 -- Which indicator stands at a place.
 use Rattle.std.specs.Prelude.{ℕ, ◌+◌, Bool, ◌&&◌, ◌||◌, ◌==◌, List}
-use Rattle.yaml_scan_text.specs.Marks.{byte, column_at, is_blank_or_end}
+use Rattle.yaml_scan_model.specs.Marks.{byte, column_at, is_blank_or_end}
 
 -- the byte stands there three times
 abbrev pub is_thrice : ℕ → List ℕ → ℕ → Bool

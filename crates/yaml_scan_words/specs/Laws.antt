@@ -1,7 +1,7 @@
 -- What is written is read back, wherever a text has it and whatever follows.
 use Rattle.std.specs.Prelude.{ℕ, ◌+◌, ◌<◌, ◌==◌, ◌||◌, Bool, true, false, List, [], ◌∷◌, ◌++◌, ◌≡◌, length, Ok}
-use Rattle.yaml_scan_text.specs.declared.problem.Context.{Context}
-use Rattle.yaml_scan_text.specs.Marks.{byte}
+use Rattle.yaml_scan_model.specs.declared.problem.Context.{Context}
+use Rattle.yaml_scan_model.specs.Marks.{byte}
 use Rattle.yaml_scan_words.specs.Between.{gap_at}
 use Rattle.yaml_scan_words.specs.Anchors.{anchor_at, may_end_name}
 use Rattle.yaml_scan_words.specs.Uris.{uri_at, is_uri}

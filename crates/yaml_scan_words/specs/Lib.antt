@@ -2,7 +2,7 @@ pub mod Runs
 pub mod Between
 pub mod Indicators
 pub mod Anchors
-pub mod Gives
+pub mod Readings
 pub mod Uris
 pub mod Spelt
 pub mod Tags

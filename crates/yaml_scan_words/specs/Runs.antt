@@ -2,7 +2,7 @@
 use Rattle.std.specs.Prelude.{ℕ, zero, suc, ◌+◌, Bool, not, if◌then◌else◌, List, length}
 use Rattle.yaml_scan_words.specs.declared.run.Run.{Run}
 use Rattle.yaml_scan_words.specs.declared.run.Run.TheVariants as runs
-use Rattle.yaml_scan_text.specs.Classes.{is_alpha, is_digit, is_blank, is_breakz}
+use Rattle.yaml_scan_model.specs.Classes.{is_alpha, is_digit, is_blank, is_breakz}
 
 -- what stands there belongs to the run
 unfoldable pub belongs : Run → List ℕ → ℕ → Bool

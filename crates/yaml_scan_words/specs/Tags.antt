@@ -1,10 +1,10 @@
 -- Tags.
 use Rattle.std.specs.Prelude.{ℕ, ◌+◌, Bool, true, false, ◌&&◌, ◌||◌, ◌==◌, if◌then◌else◌, List, [], ◌∷◌, length, slice_range, Result, Ok, Err}
 use Rattle.yaml_scan_words.specs.declared.run.Run.TheVariants as runs
-use Rattle.yaml_scan_text.specs.declared.problem.Context.TheVariants as contexts
-use Rattle.yaml_scan_text.specs.declared.problem.Problem.TheVariants as problems
-use Rattle.yaml_scan_text.specs.Marks.{byte, is_blank_or_end}
-use Rattle.yaml_scan_text.specs.Wrong.{Wrong}
+use Rattle.yaml_scan_model.specs.declared.problem.Context.TheVariants as contexts
+use Rattle.yaml_scan_model.specs.declared.problem.Problem.TheVariants as problems
+use Rattle.yaml_scan_model.specs.Marks.{byte, is_blank_or_end}
+use Rattle.yaml_scan_model.specs.Wrong.{Wrong}
 use Rattle.yaml_scan_words.specs.Runs.{run_end}
 use Rattle.yaml_scan_words.specs.Uris.{uri_at, some_uri_at}
 

@@ -1,6 +1,6 @@
 -- What reading a tag answers.
 use Rattle.std.specs.Prelude.{ℕ, List, ◌≡◌}
-use Rattle.yaml_scan_text.specs.Marks.{mark_at}
+use Rattle.yaml_scan_model.specs.Marks.{mark_at}
 use Rattle.yaml_scan_words.specs.declared.tags.TagParts.{TagParts}
 use Rattle.yaml_scan_words.specs.declared.word.TagWord.{TagWord}
 use Rattle.yaml_scan_words.specs.Tags.{TagText}

@@ -1,25 +1,25 @@
 -- The URIs of tags and prefixes, with their escapes.
 use Rattle.std.specs.Prelude.{ℕ, zero, suc, ◌+◌, ◌-◌, ◌*◌, Bool, ◌&&◌, ◌||◌, ◌==◌, nat_lt, nat_le, if◌then◌else◌, List, [], ◌∷◌, ◌++◌, length, Option, Some, None, Result, Ok, Err}
-use Rattle.yaml_scan_text.specs.declared.problem.Context.{Context}
-use Rattle.yaml_scan_text.specs.declared.problem.Problem.{Problem}
-use Rattle.yaml_scan_text.specs.declared.problem.Problem.TheVariants as problems
-use Rattle.yaml_scan_text.specs.Marks.{byte}
-use Rattle.yaml_scan_text.specs.Classes.{is_alpha}
-use Rattle.yaml_scan_text.specs.Wrong.{Wrong}
+use Rattle.yaml_scan_model.specs.declared.problem.Context.{Context}
+use Rattle.yaml_scan_model.specs.declared.problem.Problem.{Problem}
+use Rattle.yaml_scan_model.specs.declared.problem.Problem.TheVariants as problems
+use Rattle.yaml_scan_model.specs.Marks.{byte}
+use Rattle.yaml_scan_model.specs.Classes.{is_alpha}
+use Rattle.yaml_scan_model.specs.Wrong.{Wrong}
 
 -- one of `; / ? : @ & = + $ . ! ~ * ' ( )`
-unfoldable pub is_sign : ℕ → Bool
-is_sign b =
+unfoldable pub is_punctuation : ℕ → Bool
+is_punctuation b =
     (b == 59 || (b == 47 || (b == 63 || (b == 58 || (b == 64 || (b == 38 || (b == 61 || b == 43)))))))
     || (b == 36 || (b == 46 || (b == 33 || (b == 126 || (b == 42 || (b == 39 || (b == 40 || b == 41)))))))
 
 -- one of `, [ ]`
-unfoldable pub is_wide_sign : ℕ → Bool
-is_wide_sign b = b == 44 || (b == 91 || b == 93)
+unfoldable pub is_wide_punctuation : ℕ → Bool
+is_wide_punctuation b = b == 44 || (b == 91 || b == 93)
 
 -- a character stands there that a URI holds as it is
 abbrev pub is_uri : Bool → List ℕ → ℕ → Bool
-is_uri wide text p = is_alpha text p || (is_sign (byte text p) || (wide && is_wide_sign (byte text p)))
+is_uri wide text p = is_alpha text p || (is_punctuation (byte text p) || (wide && is_wide_punctuation (byte text p)))
 
 -- the value of a hexadecimal digit
 unfoldable pub hex_digit : ℕ → Option ℕ
@@ -52,21 +52,21 @@ due_behind b due =
 
 -- What stands at a place of a URI: a byte, how many escapes are due behind it, and the place behind it; or the URI's end; or a
 -- problem and its place.
-pub data Spot : Type 0 where
-  Spells : ℕ → ℕ → ℕ → Spot
-  Ends : ℕ → Spot
-  Faulty : Problem → ℕ → Spot
+pub data UriSpot : Type 0 where
+  Spells : ℕ → ℕ → ℕ → UriSpot
+  Ends : ℕ → UriSpot
+  Faulty : Problem → ℕ → UriSpot
 
-abbrev pub escape_spot : ℕ → ℕ → Result ℕ Problem → Spot
+abbrev pub escape_spot : ℕ → ℕ → Result ℕ Problem → UriSpot
 escape_spot b p (Ok due) = Spells b due (p + 3)
 escape_spot b p (Err problem) = Faulty problem p
 
-abbrev pub octet_spot : ℕ → ℕ → Option ℕ → Spot
+abbrev pub octet_spot : ℕ → ℕ → Option ℕ → UriSpot
 octet_spot due p (Some b) = escape_spot b p (due_behind b due)
 octet_spot due p None = Faulty problems.NoEscapedOctet p
 
 -- what stands there, where so many escapes are due
-unfoldable pub spot_at : Bool → ℕ → List ℕ → ℕ → Spot
+unfoldable pub spot_at : Bool → ℕ → List ℕ → ℕ → UriSpot
 spot_at wide due text p =
     if byte text p == 37 then octet_spot due p (octet_at text p)
     else if nat_lt 0 due then Faulty problems.NoEscapedOctet p
@@ -79,7 +79,7 @@ with_bytes bytes (Ok u) = Ok (bytes ++ u.0, u.1)
 with_bytes bytes (Err w) = Err w
 
 -- a URI from a spot on, where `more` is its rest
-abbrev pub uri_from : (ℕ → ℕ → Result (List ℕ × ℕ) Wrong) → Context → Spot → Result (List ℕ × ℕ) Wrong
+abbrev pub uri_from : (ℕ → ℕ → Result (List ℕ × ℕ) Wrong) → Context → UriSpot → Result (List ℕ × ℕ) Wrong
 uri_from more context (Spells b due q) = with_bytes (b ∷ []) (more due q)
 uri_from more context (Ends q) = Ok ([], q)
 uri_from more context (Faulty problem q) = Err record { problem = problem; context = context; place = q }

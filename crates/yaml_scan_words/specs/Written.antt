@@ -1,8 +1,8 @@
 -- Texts that are written.
 use Rattle.std.specs.Prelude.{ℕ, ◌+◌, ◌<◌, ◌/◌, ◌%◌, Bool, true, false, not, ◌&&◌, ◌||◌, ◌==◌, nat_lt, if◌then◌else◌, List, [], ◌∷◌, ◌++◌, ◌≡◌, length, get_or, Ok}
-use Rattle.yaml_scan_text.specs.Marks.{byte, break_width}
-use Rattle.yaml_scan_text.specs.Classes.{is_alpha_byte, is_bom}
-use Rattle.yaml_scan_words.specs.Uris.{is_sign, is_wide_sign, due_behind}
+use Rattle.yaml_scan_model.specs.Marks.{byte, break_width}
+use Rattle.yaml_scan_model.specs.Classes.{is_alpha_byte, is_bom}
+use Rattle.yaml_scan_words.specs.Uris.{is_punctuation, is_wide_punctuation, due_behind}
 
 -- the text has these bytes from the place on
 abbrev pub HasAt : List ℕ → ℕ → List ℕ → Type 0
@@ -57,7 +57,7 @@ uri_bytes (piece ∷ pieces) = piece_byte piece ∷ uri_bytes pieces
 
 -- a character that a URI holds as it is
 abbrev pub is_kept : Bool → ℕ → Bool
-is_kept wide b = is_alpha_byte b || (is_sign b || (wide && is_wide_sign b))
+is_kept wide b = is_alpha_byte b || (is_punctuation b || (wide && is_wide_punctuation b))
 
 -- The pieces are a URI, where so many escapes are due: what is raw is kept, and escapes spell whole characters, a leading
 -- byte and its trailing bytes.

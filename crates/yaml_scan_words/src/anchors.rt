@@ -1,14 +1,14 @@
 //! Anchors and aliases.
 
 ghost use Rattle.std.specs.Prelude.{◌≡◌, ◌⊎◌};
-ghost use Rattle.yaml_scan_text.specs.Marks.{byte, mark_at, is_blank_or_end};
+ghost use Rattle.yaml_scan_model.specs.Marks.{byte, mark_at, is_blank_or_end};
 ghost use Rattle.yaml_scan_words.specs.Anchors as spec;
-ghost use Rattle.yaml_scan_words.specs.Gives.{Gives, IsWord, behind_bytes};
+ghost use Rattle.yaml_scan_words.specs.Readings.{ReadsAs, IsWord, behind_bytes};
 
 use crate::run::{copied, leap, name_end};
 use crate::word::{Word, refusal};
 use std::alloc::Global;
-use yaml_scan_text::{Context, Problem, Reader, ScanError};
+use yaml_scan_model::{Context, Problem, Reader, ScanError};
 
 /// The anchor or alias whose `&` or `*` stands here (YAML 1.1, 3.2.2.2): its name is one or more alphas.
 ///
@@ -17,7 +17,7 @@ use yaml_scan_text::{Context, Problem, Reader, ScanError};
 #[inline(always)]
 pub fn anchor(alloc: Global, reader: &mut Reader, context: Context) -> Result<Word, ScanError>
     requires { (byte reader.old.text reader.old.at ≡ 38) ⊎ (byte reader.old.text reader.old.at ≡ 42) }
-    ensures { Gives (IsWord reader.old.text reader.old.at) behind_bytes reader.old.text (mark_at reader.old.text reader.old.at) reader.new result (spec.anchor_at context reader.old.text reader.old.at) }
+    ensures { ReadsAs (IsWord reader.old.text reader.old.at) behind_bytes reader.old.text (mark_at reader.old.text reader.old.at) reader.new result (spec.anchor_at context reader.old.text reader.old.at) }
 {
     let start = reader.mark();
     let to = name_end(reader);

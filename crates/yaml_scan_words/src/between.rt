@@ -1,11 +1,11 @@
 //! What stands between lexemes: blanks, comments and breaks (YAML 1.1, 5.2, 6.2 and 6.3).
 
 ghost use Rattle.std.specs.Prelude.{◌≡◌, ◌≤◌, ◌<◌, ◌||◌, ◌&&◌, ◌==◌, ◌+◌, nat_lt, not, true, ℕ, length};
-ghost use Rattle.yaml_scan_text.specs.Classes.{is_bom};
+ghost use Rattle.yaml_scan_model.specs.Classes.{is_bom};
 ghost use Rattle.yaml_scan_words.specs.Between as spec;
 
 use crate::run::{Run, skip_run};
-use yaml_scan_text::{IS_BOM, Reader};
+use yaml_scan_model::{IS_BOM, Reader};
 
 /// What stands at a place between lexemes.
 #[derive(Clone, Copy)]

@@ -1,17 +1,17 @@
 //! Directives.
 
 ghost use Rattle.std.specs.Prelude.{◌≡◌, ◌≢◌, ◌+◌, ◌==◌, ◌&&◌, ◌||◌, true, ℕ, length};
-ghost use Rattle.yaml_scan_text.specs.Marks.{byte, break_width, mark_at};
+ghost use Rattle.yaml_scan_model.specs.Marks.{byte, break_width, mark_at};
 ghost use Rattle.yaml_scan_words.specs.Directives as spec;
-ghost use Rattle.yaml_scan_words.specs.Gives.{Gives};
+ghost use Rattle.yaml_scan_words.specs.Readings.{ReadsAs};
 ghost use Rattle.yaml_scan_words.specs.DirectivesGiven.{IsDirective, IsName, IsSaid, IsEnd};
 
 use crate::prefixes::tag_directive;
-use crate::run::{Run, skip_run, skip_sign};
+use crate::run::{Run, skip_indicator, skip_run};
 use crate::versions::version;
 use crate::word::{Directive, DirectiveWord, refusal};
 use std::alloc::Global;
-use yaml_scan_text::{Context, Problem, Reader, ScanError, yaml_mark_t};
+use yaml_scan_model::{Context, Problem, Reader, ScanError, yaml_mark_t};
 
 /// Which directive a name tells.
 #[derive(Clone, Copy)]
@@ -25,7 +25,7 @@ pub(crate) enum DirectiveName {
 /// Behind it blanks, a comment and the break are passed. The directive's end mark stands behind its value.
 pub fn directive(alloc: Global, reader: &mut Reader) -> Result<DirectiveWord, ScanError>
     requires { byte reader.old.text reader.old.at ≡ 37 }
-    ensures { Gives (IsDirective reader.old.text reader.old.at) spec.directive_place reader.old.text (mark_at reader.old.text reader.old.at) reader.new result (spec.directive_at reader.old.text reader.old.at) }
+    ensures { ReadsAs (IsDirective reader.old.text reader.old.at) spec.directive_place reader.old.text (mark_at reader.old.text reader.old.at) reader.new result (spec.directive_at reader.old.text reader.old.at) }
 {
     let start = reader.mark();
     let directive = directive_value(alloc, reader, start)?;
@@ -45,7 +45,7 @@ fn directive_value(
     start: yaml_mark_t,
 ) -> Result<Directive, ScanError>
     requires { byte reader.old.text reader.old.at ≡ 37 }
-    ensures { Gives IsSaid spec.value_end reader.old.text start reader.new result (spec.value_at reader.old.text reader.old.at) }
+    ensures { ReadsAs IsSaid spec.value_end reader.old.text start reader.new result (spec.value_at reader.old.text reader.old.at) }
 {
     match directive_name(reader, start)? {
         DirectiveName::Yaml => version(reader, start),
@@ -56,9 +56,9 @@ fn directive_value(
 /// The name behind the `%` that stands here.
 fn directive_name(reader: &mut Reader, start: yaml_mark_t) -> Result<DirectiveName, ScanError>
     requires { byte reader.old.text reader.old.at ≡ 37 }
-    ensures { Gives IsName spec.name_behind reader.old.text start reader.new result (spec.name_at reader.old.text reader.old.at) }
+    ensures { ReadsAs IsName spec.name_behind reader.old.text start reader.new result (spec.name_at reader.old.text reader.old.at) }
 {
-    skip_sign(reader);
+    skip_indicator(reader);
     let from = reader.place();
     let is_yaml = is_yaml(reader);
     let is_tag = is_tag(reader);
@@ -96,7 +96,7 @@ fn is_tag(reader: &Reader) -> bool
 
 /// Past blanks, a comment and the break, which end the line of a directive.
 fn finish_line(reader: &mut Reader, start: yaml_mark_t) -> Result<(), ScanError>
-    ensures { Gives IsEnd spec.line_place reader.old.text start reader.new result (spec.line_end_at reader.old.text reader.old.at) }
+    ensures { ReadsAs IsEnd spec.line_place reader.old.text start reader.new result (spec.line_end_at reader.old.text reader.old.at) }
 {
     skip_run(Run::Blanks, reader);
     skip_comment(reader);

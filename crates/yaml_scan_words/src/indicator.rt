@@ -3,7 +3,7 @@
 ghost use Rattle.std.specs.Prelude.{◌≡◌};
 ghost use Rattle.yaml_scan_words.specs.Indicators as spec;
 
-use yaml_scan_text::Reader;
+use yaml_scan_model::Reader;
 
 /// Whether `---` stands here at column 0, before a blank, a break or the end (YAML 1.1, 7.2).
 #[tactic(auto, unfolding(crate::specs::Indicators::is_document_start))]

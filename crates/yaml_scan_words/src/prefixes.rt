@@ -1,16 +1,16 @@
 //! The handle and prefix of a `%TAG` directive.
 
 ghost use Rattle.std.specs.Prelude.{◌≡◌, ◌+◌, ◌≤◌, true, ℕ, length};
-ghost use Rattle.yaml_scan_text.specs.Marks.{byte};
+ghost use Rattle.yaml_scan_model.specs.Marks.{byte};
 ghost use Rattle.yaml_scan_words.specs.Directives as spec;
-ghost use Rattle.yaml_scan_words.specs.Gives.{Gives, IsBytes, behind_bytes};
+ghost use Rattle.yaml_scan_words.specs.Readings.{ReadsAs, IsBytes, behind_bytes};
 ghost use Rattle.yaml_scan_words.specs.DirectivesGiven.{IsSaid};
 
-use crate::run::{Run, belongs, copied, skip_run, skip_sign};
+use crate::run::{Run, belongs, copied, skip_indicator, skip_run};
 use crate::uris::some_uri;
 use crate::word::{Directive, refusal};
 use std::alloc::Global;
-use yaml_scan_text::{Context, Problem, Reader, ScanError, yaml_mark_t};
+use yaml_scan_model::{Context, Problem, Reader, ScanError, yaml_mark_t};
 
 /// What follows here: blanks, a handle, blanks and a prefix (YAML 1.1, 7.1.2).
 pub(crate) fn tag_directive(
@@ -18,7 +18,7 @@ pub(crate) fn tag_directive(
     reader: &mut Reader,
     start: yaml_mark_t,
 ) -> Result<Directive, ScanError>
-    ensures { Gives IsSaid spec.value_end reader.old.text start reader.new result (spec.tag_directive_at reader.old.text reader.old.at) }
+    ensures { ReadsAs IsSaid spec.value_end reader.old.text start reader.new result (spec.tag_directive_at reader.old.text reader.old.at) }
 {
     skip_run(Run::Blanks, reader);
     let handle = tag_handle(alloc, reader, start)?;
@@ -28,7 +28,7 @@ pub(crate) fn tag_directive(
 
 /// The handle that stands here: `!` or `!alphas!`.
 fn tag_handle(alloc: Global, reader: &mut Reader, start: yaml_mark_t) -> Result<Vec<u8>, ScanError>
-    ensures { Gives IsBytes behind_bytes reader.old.text start reader.new result (spec.handle_at reader.old.text reader.old.at) }
+    ensures { ReadsAs IsBytes behind_bytes reader.old.text start reader.new result (spec.handle_at reader.old.text reader.old.at) }
 {
     let from = reader.place();
     if reader.here() != b'!' {
@@ -39,11 +39,11 @@ fn tag_handle(alloc: Global, reader: &mut Reader, start: yaml_mark_t) -> Result<
             start,
         ));
     }
-    skip_sign(reader);
+    skip_indicator(reader);
     let name = reader.place();
     skip_run(Run::Alphas, reader);
     if reader.here() == b'!' {
-        skip_sign(reader);
+        skip_indicator(reader);
         return Ok(copied(alloc, reader.text(), from, reader.place())?);
     }
     if reader.place() != name {
@@ -59,7 +59,7 @@ fn tag_handle(alloc: Global, reader: &mut Reader, start: yaml_mark_t) -> Result<
 
 /// The prefix that follows here behind blanks, which end the handle.
 fn tag_prefix(alloc: Global, reader: &mut Reader, start: yaml_mark_t) -> Result<Vec<u8>, ScanError>
-    ensures { Gives IsBytes behind_bytes reader.old.text start reader.new result (spec.prefix_at reader.old.text reader.old.at) }
+    ensures { ReadsAs IsBytes behind_bytes reader.old.text start reader.new result (spec.prefix_at reader.old.text reader.old.at) }
 {
     if !belongs(Run::Blanks, reader.text(), reader.place()) {
         return Err(refusal(reader, Problem::NoWhitespace, Context::TagDirective, start));

@@ -1,14 +1,14 @@
 //! Runs of bytes that go together.
 
 ghost use Rattle.std.specs.Prelude.{◌≡◌, ◌+◌, ◌≤◌, ◌<◌, ℕ, length, slice_range, IfOk};
-ghost use Rattle.yaml_scan_text.specs.Marks.{byte};
-ghost use Rattle.yaml_scan_text.specs.Classes.{is_alpha_byte};
+ghost use Rattle.yaml_scan_model.specs.Marks.{byte};
+ghost use Rattle.yaml_scan_model.specs.Classes.{is_alpha_byte};
 ghost use Rattle.yaml_scan_words.specs.declared.run.Run.TheVariants as runs;
 ghost use Rattle.yaml_scan_words.specs.Runs as spec;
 ghost use Rattle.yaml_scan_words.specs.Written.{is_kept};
 
 use std::alloc::{AllocError, Global};
-use yaml_scan_text::{IS_ALPHA, IS_BLANK, IS_BREAKZ, IS_DIGIT, Reader, yaml_mark_t};
+use yaml_scan_model::{IS_ALPHA, IS_BLANK, IS_BREAKZ, IS_DIGIT, Reader, yaml_mark_t};
 
 /// Which bytes go together.
 #[derive(Clone, Copy)]
@@ -46,7 +46,7 @@ pub(crate) fn skip_run(run: Run, reader: &mut Reader)
     }
 }
 
-/// What each byte is in a name or a URI: `3` one of `0-9 A-Z a-z _ -`, `2` a sign that any URI holds as it is, `1` one that only
+/// What each byte is in a name or a URI: `3` one of `0-9 A-Z a-z _ -`, `2` punctuation that any URI holds as it is, `1` one that only
 /// a wide URI does, `0` any other.
 static RANKS: [u8; 256] = *b"\
     00000000000000000000000000000000\
@@ -99,7 +99,7 @@ pub(crate) fn alphas_end(text: &[u8], from: usize) -> usize
     end
 }
 
-/// The place behind the sign that stands here and the alphas that follow it.
+/// The place behind the indicator that stands here and the alphas that follow it.
 #[inline(always)]
 pub(crate) fn name_end(reader: &Reader) -> usize
     requires { 0 < byte reader.now.text reader.now.at }
@@ -126,7 +126,7 @@ pub(crate) fn leap(reader: &mut Reader, end: usize)
 }
 
 /// Past an ASCII character that is printed and no space.
-pub(crate) fn skip_sign(reader: &mut Reader)
+pub(crate) fn skip_indicator(reader: &mut Reader)
     requires low { 32 < byte reader.old.text reader.old.at }
     requires high { byte reader.old.text reader.old.at < 127 }
     ensures { reader.new ≡ record { text = reader.old.text; at = reader.old.at + 1 } }

@@ -1,16 +1,16 @@
 //! Tags.
 
 ghost use Rattle.std.specs.Prelude.{◌≡◌, ◌+◌, ◌&&◌, ◌||◌, ◌==◌, true, ℕ, length};
-ghost use Rattle.yaml_scan_text.specs.Marks.{byte, mark_at};
+ghost use Rattle.yaml_scan_model.specs.Marks.{byte, mark_at};
 ghost use Rattle.yaml_scan_words.specs.Tags as spec;
-ghost use Rattle.yaml_scan_words.specs.Gives.{Gives};
+ghost use Rattle.yaml_scan_words.specs.Readings.{ReadsAs};
 ghost use Rattle.yaml_scan_words.specs.TagsGiven.{IsTag, IsParts};
 
-use crate::run::{leap, name_end, skip_sign};
+use crate::run::{leap, name_end, skip_indicator};
 use crate::uris::{some_uri, uri};
 use crate::word::{TagWord, refusal};
 use std::alloc::Global;
-use yaml_scan_text::{Context, Problem, Reader, ScanError, yaml_mark_t};
+use yaml_scan_model::{Context, Problem, Reader, ScanError, yaml_mark_t};
 
 /// A tag's handle and suffix.
 #[derive(Drop)]
@@ -25,7 +25,7 @@ pub(crate) struct TagParts {
 /// a blank, a break or the end, in flow context also before `,`.
 pub fn tag(alloc: Global, reader: &mut Reader, flow: bool) -> Result<TagWord, ScanError>
     requires { byte reader.old.text reader.old.at ≡ 33 }
-    ensures { Gives (IsTag reader.old.text reader.old.at) spec.tag_end reader.old.text (mark_at reader.old.text reader.old.at) reader.new result (spec.tag_at flow reader.old.text reader.old.at) }
+    ensures { ReadsAs (IsTag reader.old.text reader.old.at) spec.tag_end reader.old.text (mark_at reader.old.text reader.old.at) reader.new result (spec.tag_at flow reader.old.text reader.old.at) }
 {
     let start = reader.mark();
     let parts = tag_parts(alloc, reader, start)?;
@@ -51,7 +51,7 @@ fn may_end_tag(reader: &Reader, flow: bool) -> bool
 #[tactic(auto, unfolding(crate::specs::Tags::parts_at))]
 fn tag_parts(alloc: Global, reader: &mut Reader, start: yaml_mark_t) -> Result<TagParts, ScanError>
     requires { byte reader.old.text reader.old.at ≡ 33 }
-    ensures { Gives IsParts spec.tag_end reader.old.text start reader.new result (spec.parts_at reader.old.text reader.old.at) }
+    ensures { ReadsAs IsParts spec.tag_end reader.old.text start reader.new result (spec.parts_at reader.old.text reader.old.at) }
 {
     if reader.byte(1) == b'<' {
         return verbatim(alloc, reader, start);
@@ -67,15 +67,15 @@ fn tag_parts(alloc: Global, reader: &mut Reader, start: yaml_mark_t) -> Result<T
 fn verbatim(alloc: Global, reader: &mut Reader, start: yaml_mark_t) -> Result<TagParts, ScanError>
     requires mark { byte reader.old.text reader.old.at ≡ 33 }
     requires bracket { byte reader.old.text (reader.old.at + 1) ≡ 60 }
-    ensures { Gives IsParts spec.tag_end reader.old.text start reader.new result (spec.verbatim_at reader.old.text reader.old.at) }
+    ensures { ReadsAs IsParts spec.tag_end reader.old.text start reader.new result (spec.verbatim_at reader.old.text reader.old.at) }
 {
-    skip_sign(reader);
-    skip_sign(reader);
+    skip_indicator(reader);
+    skip_indicator(reader);
     let suffix = some_uri(alloc, reader, Context::TagUri, true, start)?;
     if reader.here() != b'>' {
         return Err(refusal(reader, Problem::NoClosingBracket, Context::Tag, start));
     }
-    skip_sign(reader);
+    skip_indicator(reader);
     Ok(TagParts {
         handle: Vec::new(alloc),
         suffix,
@@ -92,11 +92,11 @@ fn named(
     requires mark { byte reader.old.text reader.old.at ≡ 33 }
     requires name { end ≡ spec.name_end reader.old.text reader.old.at }
     requires handle { byte reader.old.text end ≡ 33 }
-    ensures { Gives IsParts spec.tag_end reader.old.text start reader.new result (spec.named_at reader.old.text reader.old.at) }
+    ensures { ReadsAs IsParts spec.tag_end reader.old.text start reader.new result (spec.named_at reader.old.text reader.old.at) }
 {
     let from = reader.place();
     leap(reader, end);
-    skip_sign(reader);
+    skip_indicator(reader);
     let handle = Vec::from_slice(alloc, reader.since(from))?;
     let suffix = some_uri(alloc, reader, Context::TagUri, false, start)?;
     Ok(TagParts { handle, suffix })
@@ -105,9 +105,9 @@ fn named(
 /// The tag `!uri` or `!` that stands here.
 fn bare(alloc: Global, reader: &mut Reader, start: yaml_mark_t) -> Result<TagParts, ScanError>
     requires { byte reader.old.text reader.old.at ≡ 33 }
-    ensures { Gives IsParts spec.tag_end reader.old.text start reader.new result (spec.bare_at reader.old.text reader.old.at) }
+    ensures { ReadsAs IsParts spec.tag_end reader.old.text start reader.new result (spec.bare_at reader.old.text reader.old.at) }
 {
-    skip_sign(reader);
+    skip_indicator(reader);
     let suffix = uri(alloc, reader, Context::TagUri, false, start)?;
     let mark = Vec::from_slice(alloc, b"!")?;
     if suffix.is_empty() {

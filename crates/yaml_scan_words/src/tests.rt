@@ -2,7 +2,7 @@ use crate::{
     Directive, anchor, directive, is_document_end, is_document_start, is_value, skip_gap, tag,
 };
 use std::test::Fail;
-use yaml_scan_text::{Context, Reader, ScanError, ScanFault, yaml_mark_t};
+use yaml_scan_model::{Context, Reader, ScanError, ScanFault, yaml_mark_t};
 
 // A place of the second line, where the lexemes of these tests stand, behind an empty first one.
 fn second_line(column: u64) -> yaml_mark_t {

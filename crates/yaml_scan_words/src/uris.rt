@@ -1,16 +1,16 @@
 //! The URIs of tags and prefixes, with their escapes.
 
 ghost use Rattle.std.specs.Prelude.{◌≡◌, ◌+◌, ◌≤◌, ◌<◌, true, false, ℕ, length, IfSome, IsSome};
-ghost use Rattle.yaml_scan_text.specs.Marks.{byte};
+ghost use Rattle.yaml_scan_model.specs.Marks.{byte};
 ghost use Rattle.yaml_scan_words.specs.Uris as spec;
-ghost use Rattle.yaml_scan_words.specs.Gives.{Gives, IsBytes, behind_bytes};
+ghost use Rattle.yaml_scan_words.specs.Readings.{ReadsAs, IsBytes, behind_bytes};
 ghost use Rattle.yaml_scan_words.specs.Spelt.{spot_of};
 ghost use Rattle.yaml_scan_words.specs.Written.{is_kept};
 
-use crate::run::{is_kept, leap, skip_sign};
+use crate::run::{is_kept, leap, skip_indicator};
 use crate::word::refusal;
 use std::alloc::Global;
-use yaml_scan_text::{Context, Problem, Reader, ScanError, yaml_mark_t};
+use yaml_scan_model::{Context, Problem, Reader, ScanError, yaml_mark_t};
 
 /// A byte of a URI, and how many escapes have to follow it to spell the rest of its character.
 #[derive(Clone, Copy)]
@@ -28,7 +28,7 @@ pub(crate) fn some_uri(
     wide: bool,
     start: yaml_mark_t,
 ) -> Result<Vec<u8>, ScanError>
-    ensures { Gives IsBytes behind_bytes reader.old.text start reader.new result (spec.some_uri_at context wide reader.old.text reader.old.at) }
+    ensures { ReadsAs IsBytes behind_bytes reader.old.text start reader.new result (spec.some_uri_at context wide reader.old.text reader.old.at) }
 {
     let bytes = uri(alloc, reader, context, wide, start)?;
     if bytes.is_empty() {
@@ -46,7 +46,7 @@ pub(crate) fn uri(
     wide: bool,
     start: yaml_mark_t,
 ) -> Result<Vec<u8>, ScanError>
-    ensures { Gives IsBytes behind_bytes reader.old.text start reader.new result (spec.uri_at context wide reader.old.text reader.old.at) }
+    ensures { ReadsAs IsBytes behind_bytes reader.old.text start reader.new result (spec.uri_at context wide reader.old.text reader.old.at) }
 {
     let from = reader.place();
     leap(reader, kept_end(reader.text(), from, wide));
@@ -66,7 +66,7 @@ fn escaped(
     wide: bool,
     start: yaml_mark_t,
 ) -> Result<Vec<u8>, ScanError>
-    ensures { Gives IsBytes behind_bytes reader.old.text start reader.new result (spec.with_bytes read.items (spec.uri_at context wide reader.old.text reader.old.at)) }
+    ensures { ReadsAs IsBytes behind_bytes reader.old.text start reader.new result (spec.with_bytes read.items (spec.uri_at context wide reader.old.text reader.old.at)) }
 {
     let mut bytes = read;
     let mut due = 0;
@@ -98,7 +98,7 @@ fn next_byte(reader: &mut Reader, wide: bool, due: usize) -> Result<Option<Spell
         return Ok(None);
     }
     let byte = reader.here();
-    skip_sign(reader);
+    skip_indicator(reader);
     Ok(Some(Spelling { byte, due: 0 }))
 }
 
@@ -127,9 +127,9 @@ fn skip_escape(reader: &mut Reader)
     requires digits { IsSome (spec.octet_at reader.old.text reader.old.at) }
     ensures { reader.new ≡ record { text = reader.old.text; at = reader.old.at + 3 } }
 {
-    skip_sign(reader);
-    skip_sign(reader);
-    skip_sign(reader);
+    skip_indicator(reader);
+    skip_indicator(reader);
+    skip_indicator(reader);
 }
 
 /// The number that the two digits spell behind the `%` here.

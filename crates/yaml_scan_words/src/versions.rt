@@ -1,19 +1,19 @@
 //! The version of a `%YAML` directive.
 
 ghost use Rattle.std.specs.Prelude.{◌≡◌, ◌+◌, ◌-◌, ◌≤◌, ◌<◌, ◌^◌, true, ℕ, pos, length};
-ghost use Rattle.yaml_scan_text.specs.Marks.{byte};
-ghost use Rattle.yaml_scan_text.specs.Classes.{is_digit};
+ghost use Rattle.yaml_scan_model.specs.Marks.{byte};
+ghost use Rattle.yaml_scan_model.specs.Classes.{is_digit};
 ghost use Rattle.yaml_scan_words.specs.Directives as spec;
-ghost use Rattle.yaml_scan_words.specs.Gives.{Gives};
+ghost use Rattle.yaml_scan_words.specs.Readings.{ReadsAs};
 ghost use Rattle.yaml_scan_words.specs.DirectivesGiven.{IsNumber, IsSaid};
 
-use crate::run::{Run, belongs, skip_run, skip_sign};
+use crate::run::{Run, belongs, skip_indicator, skip_run};
 use crate::word::{Directive, refusal};
-use yaml_scan_text::{Context, Problem, Reader, ScanError, yaml_mark_t};
+use yaml_scan_model::{Context, Problem, Reader, ScanError, yaml_mark_t};
 
 /// The version that follows here: blanks, a number, `.` and a number (YAML 1.1, 7.1.1).
 pub(crate) fn version(reader: &mut Reader, start: yaml_mark_t) -> Result<Directive, ScanError>
-    ensures { Gives IsSaid spec.value_end reader.old.text start reader.new result (spec.version_at reader.old.text reader.old.at) }
+    ensures { ReadsAs IsSaid spec.value_end reader.old.text start reader.new result (spec.version_at reader.old.text reader.old.at) }
 {
     skip_run(Run::Blanks, reader);
     let major = number(reader, start)?;
@@ -25,14 +25,14 @@ pub(crate) fn version(reader: &mut Reader, start: yaml_mark_t) -> Result<Directi
             start,
         ));
     }
-    skip_sign(reader);
+    skip_indicator(reader);
     let minor = number(reader, start)?;
     Ok(Directive::Version { major, minor })
 }
 
 /// The number that stands here, of one to nine digits.
 fn number(reader: &mut Reader, start: yaml_mark_t) -> Result<i32, ScanError>
-    ensures { Gives IsNumber spec.number_behind reader.old.text start reader.new result (spec.number_at reader.old.text reader.old.at) }
+    ensures { ReadsAs IsNumber spec.number_behind reader.old.text start reader.new result (spec.number_at reader.old.text reader.old.at) }
 {
     let mut value: u32 = 0;
     let mut count: usize = 0;
@@ -47,7 +47,7 @@ fn number(reader: &mut Reader, start: yaml_mark_t) -> Result<i32, ScanError>
         }
         value = value * 10 + digit(reader.here());
         count += 1;
-        skip_sign(reader);
+        skip_indicator(reader);
     }
     if count == 0 {
         return Err(refusal(

@@ -1,10 +1,10 @@
 //! The words that are read.
 
 ghost use Rattle.std.specs.Prelude.{◌≡◌};
-ghost use Rattle.yaml_scan_text.specs.Marks.{mark_at};
-ghost use Rattle.yaml_scan_text.specs.Wrong.{Wrong, scan_fault};
+ghost use Rattle.yaml_scan_model.specs.Marks.{mark_at};
+ghost use Rattle.yaml_scan_model.specs.Wrong.{Wrong, scan_fault};
 
-use yaml_scan_text::{Context, Problem, Reader, ScanError, ScanFault, yaml_mark_t};
+use yaml_scan_model::{Context, Problem, Reader, ScanError, ScanFault, yaml_mark_t};
 
 /// The name of an anchor or alias.
 #[derive(Drop)]

@@ -3,11 +3,11 @@
 ghost use Rattle.std.specs.Prelude.{◌≡◌, ◌≢◌, ◌<◌, ◌++◌, ◌∷◌, [], List, length, Some, None, true, false, OnOk, OnErr};
 ghost use Rattle.yaml_parse.specs.Events.{body_of};
 ghost use Rattle.yaml_parse.specs.Constructors.{HasUtf8};
-ghost use Rattle.yaml_emit_layout.specs.Content.{stream_start, stream_end, said, Event};
-ghost use Rattle.yaml_emit.specs.Emitter.{Answers, Given, Stays, Gives, Keeps, Stuck, left_if, opening_events, said_document, dump_events};
+ghost use Rattle.yaml_emit_layout.specs.Content.{stream_start, stream_end, emitter_event, Event};
+ghost use Rattle.yaml_emit.specs.Emitter.{Answers, Given, Stays, GivesSome, Keeps, Stuck, left_if, opening_events, document_events, dump_events};
 ghost use Rattle.yaml_scan.specs.Faults.{Fault};
 ghost use Rattle.yaml_emit_graph.specs.Graph.{dumped};
-ghost use Rattle.yaml_emit_graph.specs.Events.{IsEvents, coming_events};
+ghost use Rattle.yaml_emit_graph.specs.Events.{IsEvents, remaining_events};
 ghost use Rattle.yaml_emit.specs.Dumping.{Dumps};
 ghost use Rattle.yaml_emit.specs.Verdict.{Judged, JudgedAll, Unjudged, Tells};
 
@@ -74,7 +74,7 @@ impl yaml_emitter_t {
     // Memory was refused for the dump: what follows counts for nothing.
     fn starve(&mut self, refused: AllocError)
         requires begun { self.old.fresh ≡ false }
-        ensures given { (es : List Event) → Gives self.old es self.new [] }
+        ensures given { (es : List Event) → GivesSome self.old es self.new [] }
         ensures judged { (es : List Event) → JudgedAll self.old es self.new [] }
         ensures keeps { Keeps self.old self.new }
     {
@@ -86,8 +86,8 @@ impl yaml_emitter_t {
     fn dump_event(&mut self, event: yaml_event_body_t) -> bool
         requires utf8 { HasUtf8 (body_of event) }
         requires begun { self.old.fresh ≡ false }
-        ensures given { (es : List Event) → Gives self.old (said (body_of event) ∷ es) self.new (left_if result es) }
-        ensures judged { (es : List Event) → JudgedAll self.old (said (body_of event) ∷ es) self.new (left_if result es) }
+        ensures given { (es : List Event) → GivesSome self.old (emitter_event (body_of event) ∷ es) self.new (left_if result es) }
+        ensures judged { (es : List Event) → JudgedAll self.old (emitter_event (body_of event) ∷ es) self.new (left_if result es) }
         ensures keeps { Keeps self.old self.new }
     {
         match self.emit(event) {
@@ -104,7 +104,7 @@ impl yaml_emitter_t {
         requires walk { IsEvents document.now events.old }
         requires begun { self.old.fresh ≡ false }
         ensures dumps { Dumps document.now result self.old events.old self.new events.new }
-        ensures judged { JudgedAll self.old (coming_events document.now events.old) self.new (left_if result (coming_events document.now events.new)) }
+        ensures judged { JudgedAll self.old (remaining_events document.now events.old) self.new (left_if result (remaining_events document.now events.new)) }
     {
         match events.next(document) {
             Ok(None) => false,
@@ -119,8 +119,8 @@ impl yaml_emitter_t {
     fn dump_events(&mut self, events: Events, document: &yaml_document_t)
         requires walk { IsEvents document.now events }
         requires begun { self.old.fresh ≡ false }
-        ensures given { Gives self.old (coming_events document.now events) self.new [] }
-        ensures judged { JudgedAll self.old (coming_events document.now events) self.new [] }
+        ensures given { GivesSome self.old (remaining_events document.now events) self.new [] }
+        ensures judged { JudgedAll self.old (remaining_events document.now events) self.new [] }
         ensures keeps { Keeps self.old self.new }
     {
         let mut events = events;
@@ -130,7 +130,7 @@ impl yaml_emitter_t {
     // The events of a document with a root.
     fn dump_document(&mut self, document: &yaml_document_t)
         requires begun { self.old.fresh ≡ false }
-        ensures given { Gives self.old (dumped document.now) self.new [] }
+        ensures given { GivesSome self.old (dumped document.now) self.new [] }
         ensures judged { JudgedAll self.old (dumped document.now) self.new [] }
         ensures keeps { Keeps self.old self.new }
     {
@@ -143,8 +143,8 @@ impl yaml_emitter_t {
     // What a document without a root says is the end of the stream.
     fn dump_nodes(&mut self, document: &yaml_document_t)
         requires { self.old.opened ≡ true }
-        ensures given { Gives self.old (said_document self.old.closed document.now) self.new [] }
-        ensures judged { JudgedAll self.old (said_document self.old.closed document.now) self.new [] }
+        ensures given { GivesSome self.old (document_events self.old.closed document.now) self.new [] }
+        ensures judged { JudgedAll self.old (document_events self.old.closed document.now) self.new [] }
         ensures opened { self.new.opened ≡ true }
         ensures closed { 0 < length document.now.nodes → self.new.closed ≡ self.old.closed }
         ensures ended { length document.now.nodes ≡ 0 → self.new.fault ≡ None → self.new.closed ≡ true }
@@ -159,7 +159,7 @@ impl yaml_emitter_t {
 
     // Whether the stream is open.
     fn open_if_needed(&mut self) -> bool
-        ensures given { (es : List Event) → Gives self.old (opening_events self.old.opened ++ es) self.new (left_if result es) }
+        ensures given { (es : List Event) → GivesSome self.old (opening_events self.old.opened ++ es) self.new (left_if result es) }
         ensures judged { (es : List Event) → JudgedAll self.old (opening_events self.old.opened ++ es) self.new (left_if result es) }
         ensures opened { result ≡ true → self.new.opened ≡ true }
         ensures kept { self.old.opened ≡ true → self.new.opened ≡ true }
@@ -180,7 +180,7 @@ impl yaml_emitter_t {
     }
 
     fn dump_all(&mut self, document: &yaml_document_t)
-        ensures given { Gives self.old (dump_events self.old document.now) self.new [] }
+        ensures given { GivesSome self.old (dump_events self.old document.now) self.new [] }
         ensures judged { JudgedAll self.old (dump_events self.old document.now) self.new [] }
         ensures opened { self.new.fault ≡ None → self.new.opened ≡ true }
         ensures kept { self.old.opened ≡ true → self.new.opened ≡ true }
@@ -200,7 +200,7 @@ pub fn yaml_emitter_dump(
     emitter: &mut yaml_emitter_t,
     document: yaml_document_t,
 ) -> Result<(), yaml_fault_t>
-    ensures given { Gives emitter.old (dump_events emitter.old document) emitter.new [] }
+    ensures given { GivesSome emitter.old (dump_events emitter.old document) emitter.new [] }
     ensures judged { JudgedAll emitter.old (dump_events emitter.old document) emitter.new [] }
     ensures tells { Tells emitter.new }
     ensures answer { Answers emitter.new.fault result }

@@ -3,7 +3,7 @@ ghost use Rattle.std.specs.Prelude.{◌≡◌, map, IsUtf8};
 ghost use Rattle.yaml_parse.specs.Events.{body_of, text_of};
 ghost use Rattle.yaml_parse.specs.Constructors.{HasUtf8};
 ghost use Rattle.yaml_emit_text.specs.Sink.{Puts};
-ghost use Rattle.yaml_emit_layout.specs.Content.{said};
+ghost use Rattle.yaml_emit_layout.specs.Content.{emitter_event};
 ghost use Rattle.yaml_emit_text.specs.Layout.{◌▹◌};
 ghost use Rattle.yaml_emit_layout.specs.Nodes.{context_of, alias_layout, scalar_layout};
 ghost use Rattle.yaml_emit_layout.specs.State.{text_at, is_simple_event, before_node, spot_of, start_text};
@@ -13,7 +13,7 @@ use crate::documents::{put_end, put_start_at, put_stop_at};
 use crate::indent::spot_of;
 use crate::keys::{is_flow_mapping, is_flow_sequence};
 use crate::nodes::{put_alias, put_collection, put_scalar};
-use yaml_emit_layout::{Level, Place};
+use yaml_emit_layout::{Expected, Level};
 use yaml_emit_text::{DirectiveTable, Settings, Sink};
 use yaml_parse::yaml_event_body_t;
 use yaml_scan::yaml_scalar_style_t;
@@ -102,7 +102,7 @@ pub fn put_event(
     sink: &mut Sink,
     settings: &Settings,
     directives: &DirectiveTable,
-    place: Place,
+    place: Expected,
     top: &Option<Level>,
     event: &yaml_event_body_t,
     empty: bool,
@@ -110,8 +110,8 @@ pub fn put_event(
 )
     requires utf8 { HasUtf8 (body_of event.now) }
     requires encoding { settings.now.encoding ≡ sink.old.encoding }
-    requires simple { simple ≡ is_simple_event (context_of settings.now directives.now) (said (body_of event.now)) empty }
-    ensures { Puts sink.old sink.new (text_at (context_of settings.now directives.now) place top.now (said (body_of event.now)) empty) }
+    requires simple { simple ≡ is_simple_event (context_of settings.now directives.now) (emitter_event (body_of event.now)) empty }
+    ensures { Puts sink.old sink.new (text_at (context_of settings.now directives.now) place top.now (emitter_event (body_of event.now)) empty) }
 {
     match event {
         yaml_event_body_t::No => (),

@@ -3,7 +3,7 @@ ghost use Rattle.std.specs.Prelude.{◌≡◌, ◌≢◌, ◌∷◌, [], ℕ, No
 ghost use Rattle.yaml_parse.specs.Events.{directive_of, body_of};
 ghost use Rattle.yaml_emit_text.specs.Sink.{Puts};
 ghost use Rattle.yaml_emit_text.specs.Layout.{stay};
-ghost use Rattle.yaml_emit_layout.specs.Content.{said};
+ghost use Rattle.yaml_emit_layout.specs.Content.{emitter_event};
 ghost use Rattle.yaml_emit_layout.specs.State.{among, levels_behind, outer_of, place_at, opened, placed, is_simple_event};
 ghost use Rattle.yaml_emit_state.specs.Stack.{stack_of, within};
 ghost use Rattle.yaml_emit_layout.specs.Nodes.{checked, context_of};
@@ -13,17 +13,17 @@ use super::Core;
 use crate::indent::{indent_of, is_flow, spot_of};
 use crate::keys::{is_flow_mapping, is_flow_sequence};
 use std::mem;
-use yaml_emit_layout::{Level, Phase, Place};
+use yaml_emit_layout::{Expected, Level, Phase};
 use yaml_emit_text::{DirectiveTable, Settings, Status};
 use yaml_parse::yaml_event_body_t;
 use yaml_scan::yaml_tag_directive_t;
 
-fn place_behind(top: Option<Level>) -> Place
+fn place_behind(top: Option<Level>) -> Expected
     ensures { result ≡ place_at top }
 {
     match top {
-        None => Place::DocumentEnd,
-        Some(_) => Place::Node,
+        None => Expected::DocumentEnd,
+        Some(_) => Expected::Node,
     }
 }
 
@@ -56,7 +56,7 @@ impl Core {
     }
 
     // Between documents no collection is open, and no directive counts.
-    fn turn(&mut self, place: Place)
+    fn turn(&mut self, place: Expected)
         ensures state { state_of self.new ≡ placed place }
         ensures same { StaysBut self.old self.new }
     {
@@ -67,14 +67,14 @@ impl Core {
 
     // A document begins, unless memory is wanting: then the output has stopped.
     fn begin(&mut self, directives: Vec<yaml_tag_directive_t>)
-        ensures state { self.new.sink.status ≡ Status.Going → state_of self.new ≡ record { place = Place.Node; levels = []; directives = map directive_of directives.items } }
+        ensures state { self.new.sink.status ≡ Status.Going → state_of self.new ≡ record { place = Expected.Node; levels = []; directives = map directive_of directives.items } }
         ensures settings { self.new.settings ≡ self.old.settings }
         ensures cursor { self.new.sink.status ≡ Status.Going → self.new.sink.cursor ≡ self.old.sink.cursor }
         ensures text { Puts self.old.sink self.new.sink stay }
         ensures memory { Notes true self.old self.new }
         ensures noted { self.old.sink.status ≡ Status.Going → self.new.sink.status ≢ Status.Going → self.new.starved ≡ true }
     {
-        self.place = Place::Node;
+        self.place = Expected::Node;
         self.levels.clear();
         match DirectiveTable::of(directives) {
             Ok(table) => {
@@ -109,7 +109,7 @@ impl Core {
         ensures memory { Notes true self.old self.new }
         ensures noted { self.old.sink.status ≡ Status.Going → self.new.sink.status ≢ Status.Going → self.new.starved ≡ true }
     {
-        self.place = Place::Node;
+        self.place = Expected::Node;
         self.levels.step(simple);
         self.push(Level {
             phase,
@@ -152,15 +152,15 @@ impl Core {
     // The state behind an event other than a document's start.
     #[tactic(auto, unfolding(yaml_emit_layout::specs::State::next_at, yaml_emit_layout::specs::State::depth_at))]
     fn move_by(&mut self, settings: &Settings, event: &yaml_event_body_t, empty: bool, simple: bool)
-        requires other { is_document_start (said (body_of event.now)) ≡ false }
-        requires simple { simple ≡ is_simple_event (context_of settings.now (state_of self.old).directives) (said (body_of event.now)) empty }
-        ensures { MovesOn settings.now self.old self.new (said (body_of event.now)) empty }
+        requires other { is_document_start (emitter_event (body_of event.now)) ≡ false }
+        requires simple { simple ≡ is_simple_event (context_of settings.now (state_of self.old).directives) (emitter_event (body_of event.now)) empty }
+        ensures { MovesOn settings.now self.old self.new (emitter_event (body_of event.now)) empty }
     {
         match event {
             yaml_event_body_t::No | yaml_event_body_t::DocumentStart { .. } => (),
-            yaml_event_body_t::StreamStart { .. } => self.turn(Place::Documents(true, false)),
-            yaml_event_body_t::StreamEnd => self.turn(Place::End),
-            yaml_event_body_t::DocumentEnd { implicit } => self.turn(Place::Documents(
+            yaml_event_body_t::StreamStart { .. } => self.turn(Expected::Documents(true, false)),
+            yaml_event_body_t::StreamEnd => self.turn(Expected::End),
+            yaml_event_body_t::DocumentEnd { implicit } => self.turn(Expected::Documents(
                 false, *implicit,
             )),
             yaml_event_body_t::Alias { .. } | yaml_event_body_t::Scalar { .. } => self.step(simple),
@@ -192,8 +192,8 @@ impl Core {
         empty: bool,
         simple: bool,
     )
-        requires { simple ≡ is_simple_event (context_of settings.now (state_of self.old).directives) (said (body_of event.old)) empty }
-        ensures { MovesOn settings.now self.old self.new (said (body_of event.old)) empty }
+        requires { simple ≡ is_simple_event (context_of settings.now (state_of self.old).directives) (emitter_event (body_of event.old)) empty }
+        ensures { MovesOn settings.now self.old self.new (emitter_event (body_of event.old)) empty }
     {
         match event {
             yaml_event_body_t::DocumentStart { tag_directives, .. } => {

@@ -10,26 +10,26 @@ use Rattle.yaml_parse.proofs.step.advance.Goals as goal
 
 pub returns-then-front-clause-steps : goal.returns-then-front-clause-steps
 returns-then-front-clause-steps g c =
-    advanced (peeked_of c.args.desk.now) (g.S.yaml_token_source_t.to_come c.args.source.now) (g.S.yaml_token_source_t.fault_to_come c.args.source.now) (stack_of c.args.stack.now.items)
-    (state_of c.in-Some.state) (stack_of c.pop.new.self.items) (token_of c.front.new.desk.token) (g.S.yaml_token_source_t.to_come c.front.new.source) (g.S.yaml_token_source_t.fault_to_come c.front.new.source)
-    (raw (peeked_of c.stepping.new.desk) (g.S.yaml_token_source_t.to_come c.front.new.source) (g.S.yaml_token_source_t.fault_to_come c.front.new.source) (stack_of c.stepping.new.stack.items))
-    (stepped c.stepping.result (item_of c.stepping.new.desk.item) (fault_of c.stepping.new.fault)) (popped c.args.stack.now.items c.pop.new.self.items c.in-Some.state c.in-Some.ensures.items)
+    advanced (peeked_of c.args.buffers.now) (g.S.yaml_token_source_t.to_come c.args.source.now) (g.S.yaml_token_source_t.fault_to_come c.args.source.now) (stack_of c.args.stack.now.items)
+    (state_of c.in-Some.state) (stack_of c.pop.new.self.items) (token_of c.front.new.buffers.token) (g.S.yaml_token_source_t.to_come c.front.new.source) (g.S.yaml_token_source_t.fault_to_come c.front.new.source)
+    (raw (peeked_of c.stepping.new.buffers) (g.S.yaml_token_source_t.to_come c.front.new.source) (g.S.yaml_token_source_t.fault_to_come c.front.new.source) (stack_of c.stepping.new.stack.items))
+    (stepped c.stepping.result (item_of c.stepping.new.buffers.item) (fault_of c.stepping.new.fault)) (popped c.args.stack.now.items c.pop.new.self.items c.in-Some.state c.in-Some.ensures.items)
     (rw c.if-front.true at c.front.ensures.front)
     (c.stepping.ensures.steps (g.S.yaml_token_source_t.to_come c.front.new.source) (g.S.yaml_token_source_t.fault_to_come c.front.new.source)) c.stepping.ensures.real
 
 pub returns-then-front-clause-utf8 : goal.returns-then-front-clause-utf8
 returns-then-front-clause-utf8 g c = λ ds h.
-    advance_utf8 (peeked_of c.args.desk.now) (stack_of c.args.stack.now.items) (state_of c.in-Some.state) (stack_of c.pop.new.self.items) (token_of c.front.new.desk.token)
-    (peeked_of c.stepping.new.desk) (stack_of c.stepping.new.stack.items) (stepped c.stepping.result (item_of c.stepping.new.desk.item) (fault_of c.stepping.new.fault)) ds
+    advance_utf8 (peeked_of c.args.buffers.now) (stack_of c.args.stack.now.items) (state_of c.in-Some.state) (stack_of c.pop.new.self.items) (token_of c.front.new.buffers.token)
+    (peeked_of c.stepping.new.buffers) (stack_of c.stepping.new.stack.items) (stepped c.stepping.result (item_of c.stepping.new.buffers.item) (fault_of c.stepping.new.fault)) ds
     (popped c.args.stack.now.items c.pop.new.self.items c.in-Some.state c.in-Some.ensures.items) (λ u. c.front.ensures.utf8 u c.if-front.true) (c.stepping.ensures.utf8 ds) h
 
 pub returns-then-front-clause-stack : goal.returns-then-front-clause-stack
 returns-then-front-clause-stack g c = λ h.
-    advance_stands (stack_of c.args.stack.now.items) (state_of c.in-Some.state) (stack_of c.pop.new.self.items) (stack_of c.stepping.new.stack.items) (stepped c.stepping.result (item_of c.stepping.new.desk.item) (fault_of c.stepping.new.fault))
+    advance_stands (stack_of c.args.stack.now.items) (state_of c.in-Some.state) (stack_of c.pop.new.self.items) (stack_of c.stepping.new.stack.items) (stepped c.stepping.result (item_of c.stepping.new.buffers.item) (fault_of c.stepping.new.fault))
     (popped c.args.stack.now.items c.pop.new.self.items c.in-Some.state c.in-Some.ensures.items) c.stepping.ensures.stack h
 
 pub returns-else-front-clause-steps : goal.returns-else-front-clause-steps
 returns-else-front-clause-steps g c =
-    no_front_step (peeked_of c.args.desk.now) (g.S.yaml_token_source_t.to_come c.args.source.now) (g.S.yaml_token_source_t.fault_to_come c.args.source.now) (stack_of c.args.stack.now.items)
+    no_front_step (peeked_of c.args.buffers.now) (g.S.yaml_token_source_t.to_come c.args.source.now) (g.S.yaml_token_source_t.fault_to_come c.args.source.now) (stack_of c.args.stack.now.items)
     (state_of c.in-Some.state) (stack_of c.pop.new.self.items) (fault_of c.front.new.fault)
     (popped c.args.stack.now.items c.pop.new.self.items c.in-Some.state c.in-Some.ensures.items) (rw c.if-front.false at c.front.ensures.front)

@@ -2,7 +2,7 @@ use Rattle.std.proofs.Common.{◌∙◌, ap, sym}
 use Rattle.yaml_scan.specs.Faults.{Fault, fault_of}
 use Rattle.yaml_parse_model.specs.Events.{event_of, body_of}
 use Rattle.yaml_parse_grammar.specs.Resolve.{refused}
-use Rattle.yaml_parse_grammar.specs.Coming.{coming}
+use Rattle.yaml_parse_grammar.specs.Remaining.{parser_remaining}
 use Rattle.yaml_parse_machine.specs.Views.{stack_of, item_of}
 use Rattle.yaml_parse_machine.specs.Settles.{directives_of}
 use Rattle.yaml_parse.specs.Steps.{raw, peeked_of}
@@ -19,64 +19,64 @@ returns-in-Silent-clause-turns g c = λ answered. silent_turn _ _ (directives_of
 
 pub returns-in-Refused-clause-turns : goal.returns-in-Refused-clause-turns
 returns-in-Refused-clause-turns g c = λ answered.
-    refused_turn _ (raw (peeked_of c.advance.new.desk) (g.S.yaml_token_source_t.to_come c.advance.new.source) (g.S.yaml_token_source_t.fault_to_come c.advance.new.source) (stack_of c.clear.new.self.items))
+    refused_turn _ (raw (peeked_of c.advance.new.buffers) (g.S.yaml_token_source_t.to_come c.advance.new.source) (g.S.yaml_token_source_t.fault_to_come c.advance.new.source) (stack_of c.clear.new.self.items))
     (directives_of c.args.directives.now) (directives_of c.args.directives.now) answered (fault_of c.advance.new.fault) c.in-Refused.ensures.steps (ap stack_of c.clear.ensures.items)
 
 pub returns-in-Ok-true-clause-turns : goal.returns-in-Ok-true-clause-turns
 returns-in-Ok-true-clause-turns g c = λ answered.
     let q = rw c.in-Ok-true.field-0-test at c.in-Ok-true.ensures in
-    event_turn _ _ (directives_of c.args.directives.now) (directives_of c.settle.new.directives) answered (item_of c.advance.new.desk.item) (body_of c.settle.new.event.body) (event_of c.settle.new.event)
-    c.in-Item.ensures.steps q.0 q.1
+    event_turn _ _ (directives_of c.args.directives.now) (directives_of c.settle.new.directives) answered (item_of c.advance.new.buffers.item) (body_of c.settle.new.event.body) (event_of c.settle.new.event)
+    c.in-RawEvent.ensures.steps q.0 q.1
 
 pub returns-in-Ok-false-clause-turns : goal.returns-in-Ok-false-clause-turns
 returns-in-Ok-false-clause-turns g c = λ answered.
     let q = rw c.in-Ok-false.field-0-test at c.in-Ok-false.ensures in
-    noted_turn _ _ (directives_of c.args.directives.now) (directives_of c.settle.new.directives) answered (item_of c.advance.new.desk.item) c.in-Item.ensures.steps q
+    noted_turn _ _ (directives_of c.args.directives.now) (directives_of c.settle.new.directives) answered (item_of c.advance.new.buffers.item) c.in-RawEvent.ensures.steps q
 
 pub returns-in-Err-Memory-clause-turns : goal.returns-in-Err-Memory-clause-turns
 returns-in-Err-Memory-clause-turns g c = λ answered.
     memory_turn
-    (coming (peeked_of c.args.desk.now) (g.S.yaml_token_source_t.to_come c.args.source.now) (g.S.yaml_token_source_t.fault_to_come c.args.source.now) (stack_of c.args.stack.now.items) (directives_of c.args.directives.now) answered)
-    (raw (peeked_of c.advance.new.desk) (g.S.yaml_token_source_t.to_come c.advance.new.source) (g.S.yaml_token_source_t.fault_to_come c.advance.new.source) (stack_of c.clear-in-Err-Memory.new.self.items))
+    (parser_remaining (peeked_of c.args.buffers.now) (g.S.yaml_token_source_t.to_come c.args.source.now) (g.S.yaml_token_source_t.fault_to_come c.args.source.now) (stack_of c.args.stack.now.items) (directives_of c.args.directives.now) answered)
+    (raw (peeked_of c.advance.new.buffers) (g.S.yaml_token_source_t.to_come c.advance.new.source) (g.S.yaml_token_source_t.fault_to_come c.advance.new.source) (stack_of c.clear-in-Err-Memory.new.self.items))
     (directives_of c.settle.new.directives) answered (fault_of c.want_of_memory.result) (ap (λ (f : Fault). f.kind) c.want_of_memory.ensures) (ap stack_of c.clear-in-Err-Memory.ensures.items)
 
 pub returns-in-Err-Fault-clause-turns : goal.returns-in-Err-Fault-clause-turns
 returns-in-Err-Fault-clause-turns g c = λ answered.
     let q = rw c.in-Err-Fault.field-0-is at c.in-Err-Fault.ensures in
     settled_turn _ _
-    (raw (peeked_of c.advance.new.desk) (g.S.yaml_token_source_t.to_come c.advance.new.source) (g.S.yaml_token_source_t.fault_to_come c.advance.new.source) (stack_of c.clear-in-Err-Fault.new.self.items))
-    (directives_of c.args.directives.now) (directives_of c.settle.new.directives) answered (item_of c.advance.new.desk.item) (fault_of c.located.result)
-    c.in-Item.ensures.steps (q ∙ ap refused (sym c.located.ensures)) (ap stack_of c.clear-in-Err-Fault.ensures.items)
+    (raw (peeked_of c.advance.new.buffers) (g.S.yaml_token_source_t.to_come c.advance.new.source) (g.S.yaml_token_source_t.fault_to_come c.advance.new.source) (stack_of c.clear-in-Err-Fault.new.self.items))
+    (directives_of c.args.directives.now) (directives_of c.settle.new.directives) answered (item_of c.advance.new.buffers.item) (fault_of c.located.result)
+    c.in-RawEvent.ensures.steps (q ∙ ap refused (sym c.located.ensures)) (ap stack_of c.clear-in-Err-Fault.ensures.items)
 
 pub returns-in-Done-clause-utf8 : goal.returns-in-Done-clause-utf8
 returns-in-Done-clause-utf8 g c = λ h. done_utf8 _ _ (directives_of c.args.directives.now) c.in-Done.ensures.steps
 
 pub returns-in-Silent-clause-utf8 : goal.returns-in-Silent-clause-utf8
 returns-in-Silent-clause-utf8 g c = λ h.
-    silent_utf8 (peeked_of c.advance.new.desk) (stack_of c.advance.new.stack.items) (directives_of c.args.directives.now) (c.in-Silent.ensures.utf8 (directives_of c.args.directives.now) h)
+    silent_utf8 (peeked_of c.advance.new.buffers) (stack_of c.advance.new.stack.items) (directives_of c.args.directives.now) (c.in-Silent.ensures.utf8 (directives_of c.args.directives.now) h)
 
 pub returns-in-Refused-clause-utf8 : goal.returns-in-Refused-clause-utf8
-returns-in-Refused-clause-utf8 g c = λ h. cleared_utf8 (peeked_of c.advance.new.desk) (stack_of c.clear.new.self.items) (directives_of c.args.directives.now) (ap stack_of c.clear.ensures.items)
+returns-in-Refused-clause-utf8 g c = λ h. cleared_utf8 (peeked_of c.advance.new.buffers) (stack_of c.clear.new.self.items) (directives_of c.args.directives.now) (ap stack_of c.clear.ensures.items)
 
 pub returns-in-Ok-true-clause-utf8 : goal.returns-in-Ok-true-clause-utf8
 returns-in-Ok-true-clause-utf8 g c = λ h.
     let q = rw c.in-Ok-true.field-0-test at c.in-Ok-true.ensures in
-    event_utf8 (peeked_of c.advance.new.desk) (stack_of c.advance.new.stack.items) (directives_of c.args.directives.now) (directives_of c.settle.new.directives) (item_of c.advance.new.desk.item)
-    (body_of c.settle.new.event.body) q.0 (c.in-Item.ensures.utf8 (directives_of c.args.directives.now) h)
+    event_utf8 (peeked_of c.advance.new.buffers) (stack_of c.advance.new.stack.items) (directives_of c.args.directives.now) (directives_of c.settle.new.directives) (item_of c.advance.new.buffers.item)
+    (body_of c.settle.new.event.body) q.0 (c.in-RawEvent.ensures.utf8 (directives_of c.args.directives.now) h)
 
 pub returns-in-Ok-false-clause-utf8 : goal.returns-in-Ok-false-clause-utf8
 returns-in-Ok-false-clause-utf8 g c = λ h.
     let q = rw c.in-Ok-false.field-0-test at c.in-Ok-false.ensures in
-    noted_utf8 (peeked_of c.advance.new.desk) (stack_of c.advance.new.stack.items) (directives_of c.args.directives.now) (directives_of c.settle.new.directives) (item_of c.advance.new.desk.item)
-    q (c.in-Item.ensures.utf8 (directives_of c.args.directives.now) h)
+    noted_utf8 (peeked_of c.advance.new.buffers) (stack_of c.advance.new.stack.items) (directives_of c.args.directives.now) (directives_of c.settle.new.directives) (item_of c.advance.new.buffers.item)
+    q (c.in-RawEvent.ensures.utf8 (directives_of c.args.directives.now) h)
 
 pub returns-in-Err-Memory-clause-utf8 : goal.returns-in-Err-Memory-clause-utf8
 returns-in-Err-Memory-clause-utf8 g c = λ h.
-    cleared_utf8 (peeked_of c.advance.new.desk) (stack_of c.clear-in-Err-Memory.new.self.items) (directives_of c.settle.new.directives) (ap stack_of c.clear-in-Err-Memory.ensures.items)
+    cleared_utf8 (peeked_of c.advance.new.buffers) (stack_of c.clear-in-Err-Memory.new.self.items) (directives_of c.settle.new.directives) (ap stack_of c.clear-in-Err-Memory.ensures.items)
 
 pub returns-in-Err-Fault-clause-utf8 : goal.returns-in-Err-Fault-clause-utf8
 returns-in-Err-Fault-clause-utf8 g c = λ h.
-    cleared_utf8 (peeked_of c.advance.new.desk) (stack_of c.clear-in-Err-Fault.new.self.items) (directives_of c.settle.new.directives) (ap stack_of c.clear-in-Err-Fault.ensures.items)
+    cleared_utf8 (peeked_of c.advance.new.buffers) (stack_of c.clear-in-Err-Fault.new.self.items) (directives_of c.settle.new.directives) (ap stack_of c.clear-in-Err-Fault.ensures.items)
 
 pub returns-in-Done-clause-stack : goal.returns-in-Done-clause-stack
 returns-in-Done-clause-stack g c = λ h. done_stands _ _ c.in-Done.ensures.steps
@@ -90,11 +90,11 @@ returns-in-Refused-clause-stack g c = λ h. cleared_stands (stack_of c.clear.new
 pub returns-in-Ok-true-clause-stack : goal.returns-in-Ok-true-clause-stack
 returns-in-Ok-true-clause-stack g c = λ h.
     let q = rw c.in-Ok-true.field-0-test at c.in-Ok-true.ensures in
-    event_stands (stack_of c.advance.new.stack.items) (directives_of c.args.directives.now) (directives_of c.settle.new.directives) (item_of c.advance.new.desk.item)
-    (body_of c.settle.new.event.body) q.0 (c.in-Item.ensures.stack h)
+    event_stands (stack_of c.advance.new.stack.items) (directives_of c.args.directives.now) (directives_of c.settle.new.directives) (item_of c.advance.new.buffers.item)
+    (body_of c.settle.new.event.body) q.0 (c.in-RawEvent.ensures.stack h)
 
 pub returns-in-Ok-false-clause-stack : goal.returns-in-Ok-false-clause-stack
-returns-in-Ok-false-clause-stack g c = λ h. noted_stands (stack_of c.advance.new.stack.items) (item_of c.advance.new.desk.item) (c.in-Item.ensures.stack h)
+returns-in-Ok-false-clause-stack g c = λ h. noted_stands (stack_of c.advance.new.stack.items) (item_of c.advance.new.buffers.item) (c.in-RawEvent.ensures.stack h)
 
 pub returns-in-Err-Memory-clause-stack : goal.returns-in-Err-Memory-clause-stack
 returns-in-Err-Memory-clause-stack g c = λ h. cleared_stands (stack_of c.clear-in-Err-Memory.new.self.items) (ap stack_of c.clear-in-Err-Memory.ensures.items)

@@ -1,7 +1,7 @@
 -- The events that a new parser gives are those of the input.
 use Rattle.std.proofs.Common.{◌≡◌, ◌∙◌, sym, subst, ap, ℕ, List}
 use Rattle.yaml_scan.specs.declared.yaml_encoding_t.{yaml_encoding_t}
-use Rattle.yaml_scan.specs.Coming as scan
+use Rattle.yaml_scan.specs.Remaining as scan
 use Rattle.yaml_parse.specs.Resolve.{Reading, no_directives}
 use Rattle.yaml_parse.specs.Machine.{initial}
 use Rattle.yaml_round.specs.Reading.{AreReal}
@@ -9,7 +9,7 @@ use Rattle.yaml_round.specs.Input.{tokens_of, parsed, read}
 use Rattle.yaml_round.proofs.Real.{read_real}
 use Rattle.yaml_round.proofs.reading.reading_of.Goals as goal
 
-is_read : (from : yaml_encoding_t) (input : List ℕ) (c : scan.Coming) → c ≡ tokens_of from input → parsed c ≡ read from input
+is_read : (from : yaml_encoding_t) (input : List ℕ) (c : scan.Remaining) → c ≡ tokens_of from input → parsed c ≡ read from input
 unfolding read
 is_read from input c e = ap parsed e
 

@@ -1,5 +1,5 @@
 use Rattle.std.proofs.Common.{subst, ℕ, sym, ◌∙◌, ◌≡◌, true}
-use Rattle.yaml_scan_text.specs.Marks.{byte}
+use Rattle.yaml_scan_model.specs.Marks.{byte}
 use Rattle.yaml_scan.specs.Stands.{is_letter}
 use Rattle.yaml_scan.proofs.LetterLemmas.{letter_kind, letter_starts}
 use Rattle.yaml_scan.specs.Stands.{Told}

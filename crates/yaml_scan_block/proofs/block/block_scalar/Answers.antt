@@ -1,6 +1,6 @@
 use Rattle.std.proofs.Common.{◌≡◌, ◌+◌, ◌==◌, List, suc, length, refl, Ok, Err}
 use Rattle.std.proofs.lemmas.Result.{err_from_is_err_and}
-use Rattle.yaml_scan_text.specs.Marks.{byte}
+use Rattle.yaml_scan_model.specs.Marks.{byte}
 use Rattle.yaml_scan_block.specs.Value.{BlockLine, block_value}
 use Rattle.yaml_scan_block.specs.Lines.{lines_from}
 use Rattle.yaml_scan_block.specs.Header.{header_at}

@@ -1,7 +1,7 @@
 use Rattle.std.proofs.Common.{◌≡◌, ◌≢◌, sym, ◌∙◌, refl, ap, length, arith}
-use Rattle.yaml_scan_text.specs.Marks.{byte, break_width, column_at}
-use Rattle.yaml_scan_text.specs.Runs.{past_spaces}
-use Rattle.yaml_scan_text.proofs.MarksLemmas.{past_break}
+use Rattle.yaml_scan_model.specs.Marks.{byte, break_width, column_at}
+use Rattle.yaml_scan_model.specs.Runs.{past_spaces}
+use Rattle.yaml_scan_model.proofs.MarksLemmas.{past_break}
 use Rattle.yaml_scan_block.proofs.DepthLemmas.{larger_start, depth_tab, depth_done, depth_more, spaces-le}
 use Rattle.yaml_scan_block.proofs.block.deepest.Goals as goal
 

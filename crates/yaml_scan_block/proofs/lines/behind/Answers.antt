@@ -1,12 +1,12 @@
 use Rattle.std.proofs.Common.{refl, arith, ◌∙◌, sym, ◌≡◌, ◌≢◌, ◌<◌, ◌==◌, ◌&&◌, nat_lt, ap, true, false, length}
 use Rattle.std.proofs.lemmas.Result.{err_from_is_err_and}
-use Rattle.yaml_scan_text.specs.Marks.{byte, break_width, column_at}
-use Rattle.yaml_scan_text.specs.Breaks.{break_value}
-use Rattle.yaml_scan_text.proofs.BreaksLemmas.{feed_some}
-use Rattle.yaml_scan_text.specs.Runs.{is_text}
-use Rattle.yaml_scan_text.proofs.RunsLemmas.{past-le}
+use Rattle.yaml_scan_model.specs.Marks.{byte, break_width, column_at}
+use Rattle.yaml_scan_model.specs.Breaks.{break_value}
+use Rattle.yaml_scan_model.proofs.BreaksLemmas.{feed_some}
+use Rattle.yaml_scan_model.specs.Runs.{is_text}
+use Rattle.yaml_scan_model.proofs.RunsLemmas.{past-le}
 use Rattle.yaml_scan_block.proofs.BlockLemmas.{tab_spot, empty_spot, end_spot, text_spot, stop_end, stop_short, no_stop, text_long}
-use Rattle.yaml_scan_text.proofs.MarksLemmas.{past_break, within}
+use Rattle.yaml_scan_model.proofs.MarksLemmas.{past_break, within}
 use Rattle.yaml_scan_block.proofs.lines.behind.Goals as goal
 
 pub returns-then-is_tab_before : goal.returns-then-is_tab_before

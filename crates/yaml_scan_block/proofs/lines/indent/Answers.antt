@@ -1,8 +1,8 @@
 use Rattle.std.proofs.Common.{refl, arith, ◌∙◌, sym, ◌≡◌, ◌+◌, ◌-◌}
-use Rattle.yaml_scan_text.specs.Marks.{column_at}
+use Rattle.yaml_scan_model.specs.Marks.{column_at}
 use Rattle.yaml_scan_block.specs.Lines.{spaces}
 use Rattle.yaml_scan_block.proofs.BlockLemmas.{space_tests, space_step, space_stop, space_column}
-use Rattle.yaml_scan_text.proofs.MarksLemmas.{no_break}
+use Rattle.yaml_scan_model.proofs.MarksLemmas.{no_break}
 use Rattle.yaml_scan_block.proofs.lines.indent.Goals as goal
 
 pub skip-requires-clause-no_break : goal.skip-requires-clause-no_break

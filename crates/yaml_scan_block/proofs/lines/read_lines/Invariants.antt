@@ -1,5 +1,5 @@
 use Rattle.std.proofs.Common.{◌≡◌, ◌+◌, ◌-◌, ◌≤◌, ℕ, suc, length}
-use Rattle.yaml_scan_text.specs.Marks.{mark_at}
+use Rattle.yaml_scan_model.specs.Marks.{mark_at}
 use Rattle.yaml_scan_block.specs.declared.header.Chomp.{Chomp}
 use Rattle.yaml_scan_block.specs.Lines.{lines_from}
 use Rattle.yaml_scan_block.specs.Block.{block_with}

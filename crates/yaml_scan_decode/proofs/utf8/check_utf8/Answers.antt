@@ -1,6 +1,6 @@
 use Rattle.std.proofs.Common.{sym, ap, ◌∙◌}
 use Rattle.std.proofs.lemmas.Result.{err_from_is_err_and}
-use Rattle.yaml_scan_text.specs.declared.name.yaml_encoding_t.TheVariants.{YAML_UTF8_ENCODING}
+use Rattle.yaml_scan_model.specs.declared.name.yaml_encoding_t.TheVariants.{YAML_UTF8_ENCODING}
 use Rattle.yaml_scan_decode.specs.Steps.{outcome, outcome_at}
 use Rattle.yaml_scan_decode.proofs.SpellingLemmas.{ended}
 use Rattle.yaml_scan_decode.proofs.utf8.check_utf8.Goals as goal

@@ -1,7 +1,7 @@
 use Rattle.std.proofs.Common.{arith, ◌≡◌, ◌+◌, None}
 use Rattle.yaml_scan_scalars.specs.Quoted.{hex_len, simple_escape}
-use Rattle.yaml_scan_text.specs.Marks.{byte, break_width}
-use Rattle.yaml_scan_text.proofs.MarksLemmas.{no_break, within}
+use Rattle.yaml_scan_model.specs.Marks.{byte, break_width}
+use Rattle.yaml_scan_model.proofs.MarksLemmas.{no_break, within}
 use Rattle.yaml_scan_scalars.proofs.EscapeLemmas.{hex_len-zero, simple_escape-zero, not_zero, escape_code}
 use Rattle.yaml_scan_scalars.proofs.escape.escape.Goals as goal
 

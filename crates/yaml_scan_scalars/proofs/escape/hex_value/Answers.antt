@@ -1,6 +1,6 @@
 use Rattle.std.proofs.Common.{refl, arith, ◌∙◌, sym, ◌≡◌, ◌+◌, None, Some}
 use Rattle.yaml_scan_scalars.specs.Quoted.{hex_digit}
-use Rattle.yaml_scan_text.specs.Marks.{byte}
+use Rattle.yaml_scan_model.specs.Marks.{byte}
 use Rattle.yaml_scan_scalars.proofs.EscapeLemmas.{hex_start, hex_more, hex_refused, hex_room, hex_limit-more}
 use Rattle.yaml_scan_scalars.proofs.escape.hex_value.Goals as goal
 

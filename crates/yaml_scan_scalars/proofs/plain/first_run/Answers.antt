@@ -1,5 +1,5 @@
 use Rattle.std.proofs.Common.{◌≡◌, ◌∙◌, ◌+◌, ◌-◌, refl, suc, arith}
-use Rattle.yaml_scan_text.proofs.MarksLemmas.{within}
+use Rattle.yaml_scan_model.proofs.MarksLemmas.{within}
 use Rattle.yaml_scan_scalars.specs.Ordinary.{bytes_at, IsRun}
 use Rattle.yaml_scan_scalars.proofs.RunLemmas.{first_slice}
 use Rattle.yaml_scan_scalars.proofs.PlainRunLemmas.{first_text, behind_first}

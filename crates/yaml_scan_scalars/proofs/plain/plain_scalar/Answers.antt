@@ -2,7 +2,7 @@ use Rattle.std.proofs.Common.{arith, ◌∙◌, ap, sym, true, false, Ok}
 use Rattle.std.proofs.lemmas.Result.{err_from_is_err_and}
 use Rattle.yaml_scan_scalars.specs.Plain.{spot_at}
 use Rattle.yaml_scan_scalars.specs.Joined.{Steps, TookFirst, TookWords}
-use Rattle.yaml_scan_text.proofs.MarksLemmas.{within}
+use Rattle.yaml_scan_model.proofs.MarksLemmas.{within}
 use Rattle.yaml_scan_scalars.proofs.PlainLemmas.{plain_start, seat_text, turn_more, turn_done, turn_refused}
 use Rattle.yaml_scan_scalars.proofs.PlainRunLemmas.{plain_run, plain_first_run}
 use Rattle.yaml_scan_scalars.proofs.plain.plain_scalar.Goals as goal

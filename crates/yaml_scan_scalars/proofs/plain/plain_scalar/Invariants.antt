@@ -1,5 +1,5 @@
 use Rattle.std.proofs.Common.{◌≡◌, ◌+◌, ◌-◌, ◌≤◌, ℕ, suc, length}
-use Rattle.yaml_scan_text.specs.Marks.{mark_at}
+use Rattle.yaml_scan_model.specs.Marks.{mark_at}
 use Rattle.yaml_scan_scalars.specs.Plain.{words, plain_with, plain_at}
 use Rattle.yaml_scan_scalars.specs.Joined.{joined, IsJoining}
 use Rattle.yaml_scan_scalars.proofs.plain.plain_scalar.Given as goal

@@ -3,8 +3,8 @@ use Rattle.std.proofs.lemmas.Result.{err_from_is_err_and}
 use Rattle.yaml_scan_scalars.specs.Pieces.{value}
 use Rattle.yaml_scan_scalars.specs.Resume.{resume}
 use Rattle.yaml_scan_scalars.specs.Quoted.{standing_at}
-use Rattle.yaml_scan_scalars.specs.Gives.{Took}
-use Rattle.yaml_scan_text.proofs.MarksLemmas.{within}
+use Rattle.yaml_scan_scalars.specs.Readings.{Took}
+use Rattle.yaml_scan_model.proofs.MarksLemmas.{within}
 use Rattle.yaml_scan_scalars.proofs.QuotedLemmas.{quote_no_break, quote_some, turn_more, turn_done, turn_refused, valued-same}
 use Rattle.yaml_scan_scalars.specs.Ordinary.{TookRun}
 use Rattle.yaml_scan_scalars.proofs.RunLemmas.{quoted_run}

@@ -1,6 +1,6 @@
 use Rattle.std.proofs.Common.{◌≡◌, ◌+◌, ◌-◌, ◌≤◌, ℕ, suc, length}
 use Rattle.yaml_scan_scalars.specs.Resume.{resume}
-use Rattle.yaml_scan_text.specs.Marks.{mark_at}
+use Rattle.yaml_scan_model.specs.Marks.{mark_at}
 use Rattle.yaml_scan_scalars.specs.Quoted.{pieces, valued, quoted_at}
 use Rattle.yaml_scan_scalars.proofs.quoted.quoted.Given as goal
 

@@ -1,6 +1,6 @@
 use Rattle.std.proofs.Common.{◌≡◌, ◌∙◌, sym, true, arith}
-use Rattle.yaml_scan_text.specs.Marks.{byte}
-use Rattle.yaml_scan_text.proofs.MarksLemmas.{within}
+use Rattle.yaml_scan_model.specs.Marks.{byte}
+use Rattle.yaml_scan_model.proofs.MarksLemmas.{within}
 use Rattle.yaml_scan_scalars.specs.Ordinary.{is_ordinary}
 use Rattle.yaml_scan_scalars.proofs.RunLemmas.{run_start, run_more, run_slice, ordinary_is, ordinary_no_break}
 use Rattle.yaml_scan_scalars.proofs.run.ordinary_run.Goals as goal

@@ -1,9 +1,9 @@
 use Rattle.std.proofs.Common.{◌≤◌, ◌<◌, length, ◌+◌, arith, inl, inr}
-use Rattle.yaml_scan_text.specs.Marks.{byte}
-use Rattle.yaml_scan_text.proofs.MarksLemmas.{within}
+use Rattle.yaml_scan_model.specs.Marks.{byte}
+use Rattle.yaml_scan_model.proofs.MarksLemmas.{within}
 use Rattle.yaml_scan_words.specs.declared.run.Run.TheVariants as runs
 use Rattle.yaml_scan_words.proofs.RunsLemmas.{run_within-ge, run_within-le}
-use Rattle.yaml_scan_words.proofs.SignsLemmas.{name_signs}
+use Rattle.yaml_scan_words.proofs.PrintedLemmas.{name_printed}
 use Rattle.yaml_scan_words.proofs.anchors.anchor.Goals as goal
 
 pub overflow_add-from : goal.overflow_add-from
@@ -19,13 +19,13 @@ leap-requires-clause-forward c =
 
 pub leap-requires-clause-low : goal.leap-requires-clause-low
 leap-requires-clause-low c =
-    let sign : (32 < byte c.args.reader.now.text c.args.reader.now.at) × (byte c.args.reader.now.text c.args.reader.now.at < 127) = elim c.requires [ inl e ↦ (omega arith, omega arith) | inr e ↦ (omega arith, omega arith) ] in
-    rw c.name_end-to.ensures (λ k after before. (name_signs c.args.reader.now.text c.args.reader.now.at k sign after before).0)
+    let first_printed : (32 < byte c.args.reader.now.text c.args.reader.now.at) × (byte c.args.reader.now.text c.args.reader.now.at < 127) = elim c.requires [ inl e ↦ (omega arith, omega arith) | inr e ↦ (omega arith, omega arith) ] in
+    rw c.name_end-to.ensures (λ k after before. (name_printed c.args.reader.now.text c.args.reader.now.at k first_printed after before).0)
 
 pub leap-requires-clause-high : goal.leap-requires-clause-high
 leap-requires-clause-high c =
-    let sign : (32 < byte c.args.reader.now.text c.args.reader.now.at) × (byte c.args.reader.now.text c.args.reader.now.at < 127) = elim c.requires [ inl e ↦ (omega arith, omega arith) | inr e ↦ (omega arith, omega arith) ] in
-    rw c.name_end-to.ensures (λ k after before. (name_signs c.args.reader.now.text c.args.reader.now.at k sign after before).1)
+    let first_printed : (32 < byte c.args.reader.now.text c.args.reader.now.at) × (byte c.args.reader.now.text c.args.reader.now.at < 127) = elim c.requires [ inl e ↦ (omega arith, omega arith) | inr e ↦ (omega arith, omega arith) ] in
+    rw c.name_end-to.ensures (λ k after before. (name_printed c.args.reader.now.text c.args.reader.now.at k first_printed after before).1)
 
 pub copied-requires-clause-forward : goal.copied-requires-clause-forward
 copied-requires-clause-forward c =

@@ -1,5 +1,5 @@
 use Rattle.std.proofs.Common.{◌≡◌, ◌&&◌, nat_lt, true, ◌∙◌, sym}
-use Rattle.yaml_scan_text.specs.Marks.{byte}
+use Rattle.yaml_scan_model.specs.Marks.{byte}
 use Rattle.yaml_scan_words.proofs.BetweenLemmas.{lexeme_here, skipped_here, bom_first}
 use Rattle.yaml_scan_words.proofs.between.step.Goals as goal
 

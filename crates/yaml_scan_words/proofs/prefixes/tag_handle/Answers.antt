@@ -7,5 +7,5 @@ use Rattle.yaml_scan_words.proofs.prefixes.tag_handle.Goals as goal
 pub copied-requires-clause-forward : goal.copied-requires-clause-forward
 copied-requires-clause-forward c =
     let ge = run_within-ge (length c.args.reader.now.text) runs.Alphas c.args.reader.now.text (c.args.reader.now.at + 1) in
-    let to : c.place.result ≡ run_end runs.Alphas c.args.reader.now.text (c.args.reader.now.at + 1) + 1 = rw (c.skip_sign-then-here-eq33.ensures, c.skip_run.ensures, c.skip_sign.ensures) at c.place.ensures in
+    let to : c.place.result ≡ run_end runs.Alphas c.args.reader.now.text (c.args.reader.now.at + 1) + 1 = rw (c.skip_indicator-then-here-eq33.ensures, c.skip_run.ensures, c.skip_indicator.ensures) at c.place.ensures in
     rw (c.place-from.ensures, to) (omega arith)

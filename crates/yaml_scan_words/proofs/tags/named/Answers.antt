@@ -1,8 +1,8 @@
 use Rattle.std.proofs.Common.{◌≤◌, ◌<◌, length, ◌+◌, arith}
-use Rattle.yaml_scan_text.specs.Marks.{byte}
+use Rattle.yaml_scan_model.specs.Marks.{byte}
 use Rattle.yaml_scan_words.specs.declared.run.Run.TheVariants as runs
 use Rattle.yaml_scan_words.proofs.RunsLemmas.{run_within-ge}
-use Rattle.yaml_scan_words.proofs.SignsLemmas.{name_signs}
+use Rattle.yaml_scan_words.proofs.PrintedLemmas.{name_printed}
 use Rattle.yaml_scan_words.proofs.tags.named.Goals as goal
 
 pub leap-requires-clause-forward : goal.leap-requires-clause-forward
@@ -12,16 +12,16 @@ leap-requires-clause-forward c =
 
 pub leap-requires-clause-low : goal.leap-requires-clause-low
 leap-requires-clause-low c =
-    let sign : (32 < byte c.args.reader.now.text c.args.reader.now.at) × (byte c.args.reader.now.text c.args.reader.now.at < 127) = (omega (arith, c.requires.mark), omega (arith, c.requires.mark)) in
-    rw c.requires.name (λ k after before. (name_signs c.args.reader.now.text c.args.reader.now.at k sign after before).0)
+    let first_printed : (32 < byte c.args.reader.now.text c.args.reader.now.at) × (byte c.args.reader.now.text c.args.reader.now.at < 127) = (omega (arith, c.requires.mark), omega (arith, c.requires.mark)) in
+    rw c.requires.name (λ k after before. (name_printed c.args.reader.now.text c.args.reader.now.at k first_printed after before).0)
 
 pub leap-requires-clause-high : goal.leap-requires-clause-high
 leap-requires-clause-high c =
-    let sign : (32 < byte c.args.reader.now.text c.args.reader.now.at) × (byte c.args.reader.now.text c.args.reader.now.at < 127) = (omega (arith, c.requires.mark), omega (arith, c.requires.mark)) in
-    rw c.requires.name (λ k after before. (name_signs c.args.reader.now.text c.args.reader.now.at k sign after before).1)
+    let first_printed : (32 < byte c.args.reader.now.text c.args.reader.now.at) × (byte c.args.reader.now.text c.args.reader.now.at < 127) = (omega (arith, c.requires.mark), omega (arith, c.requires.mark)) in
+    rw c.requires.name (λ k after before. (name_printed c.args.reader.now.text c.args.reader.now.at k first_printed after before).1)
 
 pub since-requires : goal.since-requires
 since-requires c =
     let ge = run_within-ge (length c.args.reader.now.text) runs.Alphas c.args.reader.now.text (c.args.reader.now.at + 1) in
     let to : c.args.reader.now.at + 1 ≤ c.args.end = rw c.requires.name ge in
-    rw (c.place-from.ensures, c.skip_sign.ensures, c.leap.ensures) (omega arith)
+    rw (c.place-from.ensures, c.skip_indicator.ensures, c.leap.ensures) (omega arith)

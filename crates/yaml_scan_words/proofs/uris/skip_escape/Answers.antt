@@ -2,20 +2,20 @@ use Rattle.std.proofs.Common.{◌≡◌, ◌+◌, arith}
 use Rattle.yaml_scan_words.proofs.UrisLemmas.{octet_digits}
 use Rattle.yaml_scan_words.proofs.uris.skip_escape.Goals as goal
 
-pub skip_sign-requires-2-clause-low : goal.skip_sign-requires-2-clause-low
-skip_sign-requires-2-clause-low c = let (h, l) = octet_digits c.args.reader.now.text c.args.reader.now.at c.requires.digits in rw c.skip_sign.ensures h.0
+pub skip_indicator-requires-2-clause-low : goal.skip_indicator-requires-2-clause-low
+skip_indicator-requires-2-clause-low c = let (h, l) = octet_digits c.args.reader.now.text c.args.reader.now.at c.requires.digits in rw c.skip_indicator.ensures h.0
 
-pub skip_sign-requires-2-clause-high : goal.skip_sign-requires-2-clause-high
-skip_sign-requires-2-clause-high c = let (h, l) = octet_digits c.args.reader.now.text c.args.reader.now.at c.requires.digits in rw c.skip_sign.ensures h.1
+pub skip_indicator-requires-2-clause-high : goal.skip_indicator-requires-2-clause-high
+skip_indicator-requires-2-clause-high c = let (h, l) = octet_digits c.args.reader.now.text c.args.reader.now.at c.requires.digits in rw c.skip_indicator.ensures h.1
 
-pub skip_sign-requires-3-clause-low : goal.skip_sign-requires-3-clause-low
-skip_sign-requires-3-clause-low c =
+pub skip_indicator-requires-3-clause-low : goal.skip_indicator-requires-3-clause-low
+skip_indicator-requires-3-clause-low c =
     let (h, l) = octet_digits c.args.reader.now.text c.args.reader.now.at c.requires.digits in
     let e : c.args.reader.now.at + 1 + 1 ≡ c.args.reader.now.at + 2 = omega arith in
-    rw (c.skip_sign-2.ensures, c.skip_sign.ensures, e) l.0
+    rw (c.skip_indicator-2.ensures, c.skip_indicator.ensures, e) l.0
 
-pub skip_sign-requires-3-clause-high : goal.skip_sign-requires-3-clause-high
-skip_sign-requires-3-clause-high c =
+pub skip_indicator-requires-3-clause-high : goal.skip_indicator-requires-3-clause-high
+skip_indicator-requires-3-clause-high c =
     let (h, l) = octet_digits c.args.reader.now.text c.args.reader.now.at c.requires.digits in
     let e : c.args.reader.now.at + 1 + 1 ≡ c.args.reader.now.at + 2 = omega arith in
-    rw (c.skip_sign-2.ensures, c.skip_sign.ensures, e) l.1
+    rw (c.skip_indicator-2.ensures, c.skip_indicator.ensures, e) l.1

@@ -1,8 +1,8 @@
 use Rattle.std.proofs.Common.{◌≡◌, ◌≤◌, ◌<◌, ℕ, true, false, slice_range, refl}
 use Rattle.yaml_scan_words.specs.Uris.{is_uri, uri_at, with_bytes}
 use Rattle.yaml_scan_words.proofs.UrisLemmas.{uri_range, uri_behind, uri_plain}
-use Rattle.yaml_scan_text.specs.Marks.{byte}
-use Rattle.yaml_scan_words.specs.Gives.{Gives, IsBytes, behind_bytes}
+use Rattle.yaml_scan_model.specs.Marks.{byte}
+use Rattle.yaml_scan_words.specs.Readings.{ReadsAs, IsBytes, behind_bytes}
 use Rattle.yaml_scan_words.proofs.uris.uri.Goals as goal
 
 pub leap-requires-clause-forward : goal.leap-requires-clause-forward
@@ -34,5 +34,5 @@ pub returns : goal.returns
 returns c =
     let forward : c.args.reader.now.at ≤ c.kept_end.result = rw c.place-from.ensures at c.kept_end.ensures.forward in
     let kept : (k : ℕ) → c.args.reader.now.at ≤ k → k < c.kept_end.result → is_uri c.args.wide c.args.reader.now.text k ≡ true = rw (c.place-from.ensures, c.text.ensures) at c.kept_end.ensures.kept in
-    let told : Gives IsBytes behind_bytes c.args.reader.now.text c.args.start c.escaped.new.reader c.escaped.result (with_bytes (slice_range c.args.reader.now.text c.args.reader.now.at c.kept_end.result) (uri_at c.args.context c.args.wide c.args.reader.now.text c.kept_end.result)) = rw (c.in_ok-bytes.ensures.items, c.since.ensures, c.leap.ensures, c.place-from.ensures) at c.escaped.ensures in
+    let told : ReadsAs IsBytes behind_bytes c.args.reader.now.text c.args.start c.escaped.new.reader c.escaped.result (with_bytes (slice_range c.args.reader.now.text c.args.reader.now.at c.kept_end.result) (uri_at c.args.context c.args.wide c.args.reader.now.text c.kept_end.result)) = rw (c.in_ok-bytes.ensures.items, c.since.ensures, c.leap.ensures, c.place-from.ensures) at c.escaped.ensures in
     rw (uri_behind c.args.context c.args.wide c.args.reader.now.text c.args.reader.now.at c.kept_end.result forward kept) told

@@ -1,7 +1,7 @@
 use Rattle.std.proofs.Common.{◌≡◌, length, ◌+◌, ◌-◌, ◌∙◌, sym, refl, arith, true, false}
 use Rattle.std.proofs.lemmas.Int.{to_z_pos}
 use mir.Syntax.{w32}
-use Rattle.yaml_scan_text.specs.Marks.{byte}
+use Rattle.yaml_scan_model.specs.Marks.{byte}
 use Rattle.yaml_scan_words.specs.declared.run.Run.TheVariants as runs
 use Rattle.yaml_scan_words.specs.Runs.{belongs}
 use Rattle.yaml_scan_words.proofs.RunsLemmas.{run_more, digit_printed}
@@ -41,11 +41,11 @@ overflow_add-value c =
     let value : c.digit.result ≡ byte c.digits.reader.text c.digits.reader.at - 48 = rw c.here.ensures at c.digit.ensures in
     omega (arith, c.digits.invariant.small)
 
-pub skip_sign-requires-clause-low : goal.skip_sign-requires-clause-low
-skip_sign-requires-clause-low c = (digit_printed c.digits.reader.text c.digits.reader.at (rw (c.text.ensures, c.place.ensures) at (sym c.belongs.ensures ∙ c.digits-test.true))).0
+pub skip_indicator-requires-clause-low : goal.skip_indicator-requires-clause-low
+skip_indicator-requires-clause-low c = (digit_printed c.digits.reader.text c.digits.reader.at (rw (c.text.ensures, c.place.ensures) at (sym c.belongs.ensures ∙ c.digits-test.true))).0
 
-pub skip_sign-requires-clause-high : goal.skip_sign-requires-clause-high
-skip_sign-requires-clause-high c = (digit_printed c.digits.reader.text c.digits.reader.at (rw (c.text.ensures, c.place.ensures) at (sym c.belongs.ensures ∙ c.digits-test.true))).1
+pub skip_indicator-requires-clause-high : goal.skip_indicator-requires-clause-high
+skip_indicator-requires-clause-high c = (digit_printed c.digits.reader.text c.digits.reader.at (rw (c.text.ensures, c.place.ensures) at (sym c.belongs.ensures ∙ c.digits-test.true))).1
 
 pub digits-preserved : goal.digits-preserved
 digits-preserved c =
@@ -57,7 +57,7 @@ digits-preserved c =
     let (n, room, same) = c.digits.invariant.rest in
     let (m, left, rest) = run_more n runs.Digits text p here room in
     let next : c.args.reader.now.at + (c.digits.count + 1) ≡ c.args.reader.now.at + c.digits.count + 1 = omega arith in
-    rw (c.skip_sign.ensures, value, limit-more c.digits.count, next) record {
+    rw (c.skip_indicator.ensures, value, limit-more c.digits.count, next) record {
       text = c.digits.invariant.text;
       place = omega (arith, c.digits.invariant.place);
       value = decimal_more text c.args.reader.now.at c.digits.count c.digits.value c.digits.invariant.value;

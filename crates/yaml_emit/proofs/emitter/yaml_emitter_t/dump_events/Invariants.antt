@@ -1,6 +1,6 @@
 use Rattle.std.proofs.Common.{◌≡◌, false, length}
-use Rattle.yaml_emit.specs.Emitter.{Gives, Keeps}
-use Rattle.yaml_emit_graph.specs.Events.{IsEvents, coming_events}
+use Rattle.yaml_emit.specs.Emitter.{GivesSome, Keeps}
+use Rattle.yaml_emit_graph.specs.Events.{IsEvents, remaining_events}
 use Rattle.yaml_emit.specs.Verdict.{JudgedAll}
 use Rattle.yaml_emit.proofs.emitter.yaml_emitter_t.dump_events.Given as goal
 
@@ -9,10 +9,10 @@ abbrev pub invariant-loop : goal.invariant-loop
 invariant-loop l = record {
   walk : IsEvents l.document l.events;
   begun : l.self.fresh ≡ false;
-  gives : Gives l.initial.self (coming_events l.document l.initial.events) l.self (coming_events l.document l.events);
-  judged : JudgedAll l.initial.self (coming_events l.document l.initial.events) l.self (coming_events l.document l.events);
+  gives : GivesSome l.initial.self (remaining_events l.document l.initial.events) l.self (remaining_events l.document l.events);
+  judged : JudgedAll l.initial.self (remaining_events l.document l.initial.events) l.self (remaining_events l.document l.events);
   keeps : Keeps l.initial.self l.self;
 }
 
 abbrev pub decreases-loop : goal.decreases-loop
-decreases-loop l = length (coming_events l.document l.events)
+decreases-loop l = length (remaining_events l.document l.events)

@@ -3,7 +3,7 @@ use mir.Val.{SFits}
 use Rattle.std.proofs.Common.{◌≡◌, ℕ, rules, sym, subst, ◌∙◌, ap}
 use Rattle.std.proofs.lemmas.Int.{to_z-of_z}
 use Rattle.yaml_parse.specs.Events.{body_of}
-use Rattle.yaml_emit_layout.specs.Content.{alias, said}
+use Rattle.yaml_emit_layout.specs.Content.{alias, emitter_event}
 use Rattle.yaml_emit_graph.specs.declared.walk.Turn.{Turn}
 use Rattle.yaml_emit_graph.specs.Events.{Says}
 use Rattle.yaml_emit_graph.specs.Graph.{name_of, number_at, closing_event, body_of_id, turn_event}
@@ -23,5 +23,5 @@ unfolding turn_event
 returns-in-Leave c =
     let f : SFits w32 c.in-Leave.id = search rules in
     let fit = to_z-of_z w32 c.in-Leave.id f in
-    let e : said (body_of c.closing_event.result) ≡ closing_event (body_of_id c.args.document.now.nodes c.in-Leave.id) = c.closing_event.ensures.is ∙ ap (λ z. closing_event (body_of_id c.args.document.now.nodes z)) fit in
+    let e : emitter_event (body_of c.closing_event.result) ≡ closing_event (body_of_id c.args.document.now.nodes c.in-Leave.id) = c.closing_event.ensures.is ∙ ap (λ z. closing_event (body_of_id c.args.document.now.nodes z)) fit in
     (e ∙ ap (turn_event c.args.self.now.numbers.items c.args.document.now.nodes) (sym c.in-Leave.is), c.closing_event.ensures.utf8)

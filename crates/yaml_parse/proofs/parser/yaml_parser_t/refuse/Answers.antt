@@ -9,5 +9,5 @@ use Rattle.yaml_parse.proofs.parser.yaml_parser_t.refuse.Goals as goal
 
 pub returns-clause-finished : goal.returns-clause-finished
 returns-clause-finished g c =
-    finishes (peeked_of c.self.inside.desk) (g.S.yaml_token_source_t.to_come c.self.inside.source) (g.S.yaml_token_source_t.fault_to_come c.self.inside.source) (stack_of c.clear.new.self.items)
+    finishes (peeked_of c.self.inside.buffers) (g.S.yaml_token_source_t.to_come c.self.inside.source) (g.S.yaml_token_source_t.fault_to_come c.self.inside.source) (stack_of c.clear.new.self.items)
     (directives_of c.self.inside.directives) (prefix_of c.of-self-inside.result) (ap stack_of c.clear.ensures.items)

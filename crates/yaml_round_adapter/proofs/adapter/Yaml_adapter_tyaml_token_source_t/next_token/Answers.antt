@@ -3,7 +3,7 @@ use Rattle.yaml_round_adapter.proofs.AdapterLemmas.{texts_left, gives_token}
 use Rattle.yaml_round_adapter.proofs.adapter.Yaml_adapter_tyaml_token_source_t.next_token.Goals as goal
 
 pub invariant_of-self : goal.invariant_of-self
-invariant_of-self c = λ over. texts_left c.self.inside.session.coming c.take.new.session.coming c.in-Ok.ensures.takes.rest (c.self.invariant over)
+invariant_of-self c = λ over. texts_left c.self.inside.session.remaining c.take.new.session.remaining c.in-Ok.ensures.takes.rest (c.self.invariant over)
 
 pub returns-in-Ok-clause-ok : goal.returns-in-Ok-clause-ok
 returns-in-Ok-clause-ok c =

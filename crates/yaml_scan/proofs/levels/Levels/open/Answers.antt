@@ -1,5 +1,5 @@
 use Rattle.std.proofs.Common.{◌≡◌, ℕ, List, sym, arith, subst, ap}
-use Rattle.yaml_scan_layout.specs.History.{indent}
+use Rattle.yaml_scan_history.specs.History.{indent}
 use Rattle.yaml_scan.specs.Rising.{IsRising}
 use Rattle.yaml_scan.proofs.LevelsLemmas.{rising_more}
 use Rattle.yaml_scan.proofs.levels.Levels.open.Goals as goal

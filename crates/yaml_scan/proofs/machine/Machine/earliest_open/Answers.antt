@@ -3,7 +3,7 @@ use Rattle.std.proofs.lemmas.List.{length-map}
 use Rattle.yaml_scan.specs.declared.waiting.Waiting.{Waiting}
 use Rattle.yaml_scan.specs.Shows.{fields_of, history_of}
 use Rattle.yaml_scan.proofs.PassLemmas.{test_is}
-use Rattle.yaml_scan.proofs.ShutLemmas.{pass_shut}
+use Rattle.yaml_scan.proofs.BoundLemmas.{pass_bound}
 use Rattle.yaml_scan.proofs.StepLemmas.{pass_on, stop_at, stop_end}
 use Rattle.yaml_scan.proofs.machine.Machine.earliest_open.Goals as goal
 
@@ -11,7 +11,7 @@ pub returns-then-is_open-clause-value : goal.returns-then-is_open-clause-value
 returns-then-is_open-clause-value c =
     let m = c.args.self.now in
     let len = length-map m.waiting.items (λ (x : Waiting). x.entry) in
-    let inside : c.pass.i < length m.waiting.items = omega (arith, c.saturating_sub-shut.ensures, c.requires.last) in
+    let inside : c.pass.i < length m.waiting.items = omega (arith, c.saturating_sub-candidate_bound.ensures, c.requires.last) in
     let test = test_is (fields_of m) m.waiting.items c.index.result.now c.pass.i c.requires.shown refl refl c.index.ensures inside c.pass.invariant.high in
     sym (stop_at (history_of m) (m.dropped + c.pass.i) c.index.result.now.entry c.pass.invariant.low (omega (arith, len, c.requires.shown.count)) (test ∙ sym c.is_open.ensures ∙ c.if-is_open.true))
 
@@ -19,7 +19,7 @@ pub pass-preserved : goal.pass-preserved
 pass-preserved c =
     let m = c.args.self.now in
     let len = length-map m.waiting.items (λ (x : Waiting). x.entry) in
-    let inside : c.pass.i < length m.waiting.items = omega (arith, c.saturating_sub-shut.ensures, c.requires.last) in
+    let inside : c.pass.i < length m.waiting.items = omega (arith, c.saturating_sub-candidate_bound.ensures, c.requires.last) in
     let test = test_is (fields_of m) m.waiting.items c.index.result.now c.pass.i c.requires.shown refl refl c.index.ensures inside c.pass.invariant.high in
     let more = pass_on (history_of m) (m.dropped + c.pass.i) c.index.result.now.entry c.pass.invariant.low (omega (arith, len, c.requires.shown.count)) (test ∙ sym c.is_open.ensures ∙ c.if-is_open.false) in
     record { low = omega arith; high = omega arith; inside = omega arith }
@@ -28,5 +28,5 @@ pub returns-clause-value : goal.returns-clause-value
 returns-clause-value c =
     let m = c.args.self.now in
     let len = length-map m.waiting.items (λ (x : Waiting). x.entry) in
-    let all = pass_shut (fields_of m) m.waiting.items m.shut c.pass.i (length m.waiting.items - c.pass.i) c.requires.shown refl refl c.requires.shut (omega (arith, c.saturating_sub-shut.ensures)) (omega (arith, c.pass.invariant.inside)) c.pass.invariant.high c.pass.invariant.low in
+    let all = pass_bound (fields_of m) m.waiting.items m.candidate_bound c.pass.i (length m.waiting.items - c.pass.i) c.requires.shown refl refl c.requires.candidate_bound (omega (arith, c.saturating_sub-candidate_bound.ensures)) (omega (arith, c.pass.invariant.inside)) c.pass.invariant.high c.pass.invariant.low in
     c.count.ensures ∙ sym (stop_end (history_of m) (m.dropped + length m.waiting.items) all (omega (arith, len, c.requires.shown.count)))

@@ -1,5 +1,5 @@
 use Rattle.std.proofs.Common.{◌+◌, ◌-◌, ◌≤◌, length}
-use Rattle.yaml_scan_layout.specs.History.{first_open}
+use Rattle.yaml_scan_history.specs.History.{first_open}
 use Rattle.yaml_scan.specs.Shows.{history_of}
 use Rattle.yaml_scan.proofs.machine.Machine.earliest_open.Given as goal
 
@@ -11,4 +11,4 @@ invariant-pass l = record {
 }
 
 abbrev pub decreases-pass : goal.decreases-pass
-decreases-pass l = l.shut - l.i
+decreases-pass l = l.candidate_bound - l.i

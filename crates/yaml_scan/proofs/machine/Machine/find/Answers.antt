@@ -1,11 +1,11 @@
 use Rattle.std.proofs.Common.{◌≡◌, ◌+◌, ◌-◌, ◌<◌, ℕ, List, length, drop, refl, sym, ap, ◌∙◌, inl, inr, arith}
 use Rattle.std.proofs.lemmas.Bool.{cases_lt}
-use Rattle.yaml_scan_layout.specs.declared.lexeme.Lexeme.{Lexeme}
-use Rattle.yaml_scan_layout.specs.History.{candidate, Candidate}
+use Rattle.yaml_scan_history.specs.declared.lexeme.Lexeme.{Lexeme}
+use Rattle.yaml_scan_history.specs.History.{candidate, Candidate}
 use Rattle.yaml_scan.specs.Shows.{fields_of, history_of}
-use Rattle.yaml_scan_layout.proofs.HistoryLemmas.{candidate_below}
+use Rattle.yaml_scan_history.proofs.HistoryLemmas.{candidate_below}
 use Rattle.yaml_scan.proofs.PassLemmas.{look_back, found_start, past_all}
-use Rattle.yaml_scan.proofs.ShutLemmas.{passed, seen_here, seen_further, open_here, nowhere, first_look, some_waits, shut_more}
+use Rattle.yaml_scan.proofs.BoundLemmas.{passed, seen_here, seen_further, open_here, nowhere, first_look, some_waits, bound_more}
 use Rattle.yaml_scan.proofs.KindLemmas.{first_of}
 use Rattle.yaml_scan.proofs.machine.Machine.find.Goals as goal
 
@@ -32,8 +32,8 @@ pub back-init : goal.back-init
 back-init c =
     let m = c.args.self.now in
     record {
-      same = λ x e high. first_look (fields_of m) m.waiting.items (first_of m.waiting.items 0 (some_waits (fields_of m) m.waiting.items x c.requires.shown refl e high)) m.shut c.saturating_sub-i.result x c.requires.shown refl refl c.requires.shut c.requires.last c.saturating_sub-i.ensures e high;
-      last = λ k x lt le. c.requires.shut k x lt (omega (arith, c.saturating_sub-i.ensures));
+      same = λ x e high. first_look (fields_of m) m.waiting.items (first_of m.waiting.items 0 (some_waits (fields_of m) m.waiting.items x c.requires.shown refl e high)) m.candidate_bound c.saturating_sub-i.result x c.requires.shown refl refl c.requires.candidate_bound c.requires.last c.saturating_sub-i.ensures e high;
+      last = λ k x lt le. c.requires.candidate_bound k x lt (omega (arith, c.saturating_sub-i.ensures));
       inside = omega (arith, c.requires.last, c.saturating_sub-i.ensures);
     }
 
@@ -50,7 +50,7 @@ back-preserved c =
     let further = ap (λ (k : ℕ). candidate m.depth (drop k (history_of m))) (sym next) ∙ ap (λ (h : List Lexeme). candidate m.depth h) now ∙ passed w.entry.lexeme m.depth rest on in
     record {
       same = λ x e high. sym further ∙ c.back.invariant.same x e high;
-      last = shut_more m.dropped i m.waiting.items w (λ k x lt le. c.back.invariant.last k x lt (omega arith)) c.index.ensures inside off;
+      last = bound_more m.dropped i m.waiting.items w (λ k x lt le. c.back.invariant.last k x lt (omega arith)) c.index.ensures inside off;
       inside = omega arith;
     }
 

@@ -1,5 +1,5 @@
 use Rattle.std.proofs.Common.{◌≡◌, Option, ℕ, Bool, true, ◌&&◌, None, sym, subst, ◌∙◌}
-use Rattle.yaml_scan_layout.specs.Kinds.{may_be_key, is_value}
+use Rattle.yaml_scan_history.specs.Kinds.{may_be_key, is_value}
 use Rattle.yaml_scan.specs.Shows.{fields_of, Finds}
 use Rattle.yaml_scan.specs.Reads.{Owns}
 use Rattle.yaml_scan.proofs.NextLemmas.{stale_settled, asked_value}

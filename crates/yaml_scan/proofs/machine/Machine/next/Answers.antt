@@ -1,10 +1,10 @@
 use Rattle.std.proofs.Common.{◌≡◌, nat_lt, Some, None, refl, sym, ap, subst, ◌∙◌, arith}
 use Rattle.std.proofs.lemmas.List.{length-map}
-use Rattle.yaml_scan_text.specs.declared.record.yaml_mark_t.{yaml_mark_t}
+use Rattle.yaml_scan_model.specs.declared.record.yaml_mark_t.{yaml_mark_t}
 use Rattle.yaml_scan_decode.specs.DecodedText.{text_bytes}
 use Rattle.yaml_scan_words.specs.Between.{Gap}
-use Rattle.yaml_scan_layout.specs.Words.{kind_at}
-use Rattle.yaml_scan_layout.specs.Next.{Next, unless_missed, no_colon, no_token}
+use Rattle.yaml_scan_history.specs.Words.{kind_at}
+use Rattle.yaml_scan_history.specs.Next.{Next, unless_missed, no_colon, no_token}
 use Rattle.yaml_scan.specs.declared.waiting.Waiting.{Waiting}
 use Rattle.yaml_scan.specs.Shows.{fields_of, history_of}
 use Rattle.yaml_scan.specs.Reads.{GivesNext, late}

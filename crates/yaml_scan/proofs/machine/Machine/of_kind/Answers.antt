@@ -1,11 +1,11 @@
 use Rattle.std.proofs.Common.{◌≡◌, ℕ, nat_lt, Some, None, Ok, Err, sym, ap, subst, ◌∙◌}
-use Rattle.yaml_scan_text.specs.declared.record.yaml_mark_t.{yaml_mark_t}
+use Rattle.yaml_scan_model.specs.declared.record.yaml_mark_t.{yaml_mark_t}
 use Rattle.yaml_scan_decode.specs.DecodedText.{text_bytes}
-use Rattle.yaml_scan_layout.specs.declared.kind.Kind.{Kind}
-use Rattle.yaml_scan_layout.specs.declared.lexeme.Lexeme.{Lexeme}
-use Rattle.yaml_scan_layout.specs.Kinds.{is_end}
-use Rattle.yaml_scan_layout.specs.History.{placed}
-use Rattle.yaml_scan_layout.specs.Next.{Next, unless_lost}
+use Rattle.yaml_scan_history.specs.declared.kind.Kind.{Kind}
+use Rattle.yaml_scan_history.specs.declared.lexeme.Lexeme.{Lexeme}
+use Rattle.yaml_scan_history.specs.Kinds.{is_end}
+use Rattle.yaml_scan_history.specs.History.{placed}
+use Rattle.yaml_scan_history.specs.Next.{Next, unless_lost}
 use Rattle.yaml_scan.specs.Stands.{Stands}
 use Rattle.yaml_scan.specs.Shows.{stream_of, history_of}
 use Rattle.yaml_scan.specs.Reads.{GivesNext, lost}

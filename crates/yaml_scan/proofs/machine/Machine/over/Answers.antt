@@ -1,8 +1,8 @@
 use Rattle.std.proofs.Common.{◌≡◌, ℕ, List, sym, ap, subst, arith, ◌+◌, length}
 use Rattle.std.specs.Prelude.{map}
 use Rattle.yaml_scan_decode.specs.DecodedText.{text_bytes}
-use Rattle.yaml_scan_text.specs.declared.name.yaml_encoding_t.{yaml_encoding_t}
-use Rattle.yaml_scan_layout.specs.Coming.{coming}
+use Rattle.yaml_scan_model.specs.declared.name.yaml_encoding_t.{yaml_encoding_t}
+use Rattle.yaml_scan_history.specs.Remaining.{remaining}
 use Rattle.yaml_scan.specs.Scanned.{scanned, left_from}
 use Rattle.yaml_scan.specs.State.{IsNarrow}
 use Rattle.yaml_scan.proofs.SafeLemmas.{start_place, narrow_none}
@@ -20,7 +20,7 @@ returns-clause-stands c =
       taken = omega arith;
       settled = omega arith;
       last = omega arith;
-      shut = λ k w lt le. absurd (let bad = rw c.new.ensures.items at lt in omega (arith, bad));
+      candidate_bound = λ k w lt le. absurd (let bad = rw c.new.ensures.items at lt in omega (arith, bad));
       depth = omega arith;
       levels = subst P (sym c.new-2.ensures) (narrow_none (length (text_bytes c.args.text) + 1));
       inside = λ k w lt. absurd (let bad = rw c.new.ensures.items at lt in omega (arith, bad));
@@ -32,4 +32,4 @@ returns-clause-stands c =
     }
 
 pub returns-clause-left : goal.returns-clause-left
-returns-clause-left c = ap (λ (e : yaml_encoding_t). left_from c.args.started (coming record { encoding = e; text = text_bytes c.args.text } 0 0) (scanned c.args.setting c.args.input.now)) c.stream_encoding.ensures
+returns-clause-left c = ap (λ (e : yaml_encoding_t). left_from c.args.started (remaining record { encoding = e; text = text_bytes c.args.text } 0 0) (scanned c.args.setting c.args.input.now)) c.stream_encoding.ensures

@@ -1,9 +1,9 @@
 use Rattle.std.proofs.Common.{◌≡◌, ℕ, List, ◌+◌, nat_lt, length, false, Ok, Err, refl, sym, ap, subst, ◌∙◌}
 use Rattle.yaml_scan_decode.specs.DecodedText.{text_bytes}
-use Rattle.yaml_scan_layout.specs.declared.kind.Kind.{Kind}
-use Rattle.yaml_scan_layout.specs.Kinds.{is_end}
-use Rattle.yaml_scan_layout.specs.Words.{word_at}
-use Rattle.yaml_scan_text.specs.Marks.{mark_at}
+use Rattle.yaml_scan_history.specs.declared.kind.Kind.{Kind}
+use Rattle.yaml_scan_history.specs.Kinds.{is_end}
+use Rattle.yaml_scan_history.specs.Words.{word_at}
+use Rattle.yaml_scan_model.specs.Marks.{mark_at}
 use Rattle.yaml_scan.specs.Stands.{Stands}
 use Rattle.yaml_scan.specs.Given.{ReadsWord}
 use Rattle.yaml_scan.specs.Shows.{fields_of, stream_of, history_of, read}

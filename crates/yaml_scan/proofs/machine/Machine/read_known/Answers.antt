@@ -1,4 +1,4 @@
-use Rattle.yaml_scan_text.specs.Faults.{fault_of}
+use Rattle.yaml_scan_model.specs.Faults.{fault_of}
 use Rattle.yaml_scan.proofs.ComesLemmas.{told_error}
 use Rattle.yaml_scan.proofs.machine.Machine.read_known.Goals as goal
 

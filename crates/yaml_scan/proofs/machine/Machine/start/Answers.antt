@@ -1,4 +1,4 @@
-use Rattle.yaml_scan_text.specs.Faults.{fault_of}
+use Rattle.yaml_scan_model.specs.Faults.{fault_of}
 use Rattle.yaml_scan.proofs.ComesLemmas.{told_decoding}
 use Rattle.yaml_scan.proofs.machine.Machine.start.Goals as goal
 

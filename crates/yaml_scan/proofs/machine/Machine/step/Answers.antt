@@ -1,25 +1,25 @@
 use Rattle.std.proofs.Common.{true, false, ◌≡◌, ◌≤◌, ◌<◌, ℕ, Bool, List, ◌∷◌, [], ◌++◌, sym, ap, subst, ◌∙◌, refl, arith, ◌+◌, ◌&&◌, ◌||◌, not, ltb, eqb, length, length-append}
 use Rattle.std.specs.Prelude.{map, IfSome}
-use Rattle.yaml_scan_text.specs.declared.name.yaml_encoding_t.{yaml_encoding_t}
-use Rattle.yaml_scan_layout.specs.Kinds.{is_start, allows_key}
+use Rattle.yaml_scan_model.specs.declared.name.yaml_encoding_t.{yaml_encoding_t}
+use Rattle.yaml_scan_history.specs.Kinds.{is_start, allows_key}
 use Rattle.std.proofs.lemmas.List.{map-append, length-map}
 use Rattle.yaml_scan_decode.specs.DecodedText.{text_bytes}
 use Rattle.yaml_scan.specs.declared.machine.Machine.{Machine}
 use Rattle.yaml_scan.specs.declared.waiting.Waiting.{Waiting}
-use Rattle.yaml_scan.specs.State.{AreInside, AreShut, IsNarrow, IsPlace}
-use Rattle.yaml_scan_layout.specs.declared.lexeme.Lexeme.{Lexeme}
-use Rattle.yaml_scan_layout.specs.declared.lexeme.Entry.{Entry}
-use Rattle.yaml_scan_layout.specs.Coming.{Stream, body_in}
-use Rattle.yaml_scan_layout.specs.History.{inside, left_by, entry_of}
-use Rattle.yaml_scan_forward.proofs.HistoryForward.{goes_forward}
+use Rattle.yaml_scan.specs.State.{AreInside, AreBounded, IsNarrow, IsPlace}
+use Rattle.yaml_scan_history.specs.declared.lexeme.Lexeme.{Lexeme}
+use Rattle.yaml_scan_history.specs.declared.lexeme.Entry.{Entry}
+use Rattle.yaml_scan_history.specs.Remaining.{SpelledText, body_in}
+use Rattle.yaml_scan_history.specs.History.{inside, left_by, entry_of}
+use Rattle.yaml_scan_laws_order.proofs.HistoryForward.{goes_forward}
 use Rattle.yaml_scan.specs.Shows.{Fields, fields_of, history_of, stream_of, AreSpoken, IsSpoken}
-use Rattle.yaml_scan.specs.Reads.{opens_for, shut_behind}
+use Rattle.yaml_scan.specs.Reads.{opens_for, bound_behind}
 use Rattle.yaml_scan.proofs.SafeLemmas.{inside_push, depth_after-le, narrow_by}
 use Rattle.yaml_scan.proofs.KindLemmas.{ok_read}
 use Rattle.yaml_scan.proofs.MarkLemmas.{kept_entries}
 use Rattle.yaml_scan.proofs.PushLemmas.{IsPushed, marks_are, levels_is, entry_is, column_is, allowed_is, pending_by, shown_by, settled_value, read_pushed, spoken_marked, spoken_push, room_is}
 use Rattle.yaml_scan.proofs.GivenLemmas.{given_goes}
-use Rattle.yaml_scan.proofs.ShutLemmas.{shut_step, last_step, some_less}
+use Rattle.yaml_scan.proofs.BoundLemmas.{bound_step, last_step, some_less}
 use Rattle.yaml_scan.proofs.machine.Machine.step.Goals as goal
 
 pub settle-self-requires-clause-shown : goal.settle-self-requires-clause-shown
@@ -96,17 +96,17 @@ settle-self-requires-clause-last c =
     let next = c.in_ok-lexeme.ensures.safe in
     let drops : d.dropped ≡ m.dropped = ap (λ (x : Machine). x.dropped) to_d ∙ ap (λ (x : Machine). x.dropped) to_b ∙ ap (λ (x : Machine). x.dropped) to_a in
     let waits : b.waiting.items ≡ m.waiting.items = ap (λ (x : Machine). x.waiting.items) to_b ∙ ap (λ (x : Machine). x.waiting.items) to_a in
-    let shuts : d.shut ≡ m.shut = ap (λ (x : Machine). x.shut) to_d ∙ ap (λ (x : Machine). x.shut) to_b ∙ ap (λ (x : Machine). x.shut) to_a in
+    let bounds : d.candidate_bound ≡ m.candidate_bound = ap (λ (x : Machine). x.candidate_bound) to_d ∙ ap (λ (x : Machine). x.candidate_bound) to_b ∙ ap (λ (x : Machine). x.candidate_bound) to_a in
     let w : Waiting = record { entry = c.entry.result; body = r.body; current = l.saved } in
     let items : c.push_back_reserved.new.self.items ≡ d.waiting.items ++ w ∷ [] = c.push_back_reserved.ensures.items ∙ ap (λ (ws : List Waiting). ws ++ w ∷ []) c.reserve.ensures.items in
     let count : length d.waiting.items ≡ length m.waiting.items = c.mark_own.ensures.length ∙ ap (λ (ws : List Waiting). length ws) waits in
     let more : length c.push_back_reserved.new.self.items ≡ length m.waiting.items + 1 = ap (λ (ws : List Waiting). length ws) items ∙ length-append d.waiting.items (w ∷ []) ∙ omega (arith, count) in
     let inside_new : IfSome r.own (λ i. i < length c.push_back_reserved.new.self.items) = some_less r.own (length m.waiting.items) (length c.push_back_reserved.new.self.items) (omega (arith, more)) next.own in
     let AtLast : ℕ → Type 0 = λ k. k ≤ d.dropped + length c.push_back_reserved.new.self.items in
-    subst AtLast (sym c.shut_behind-self.ensures) (last_step d.dropped d.shut (length c.push_back_reserved.new.self.items) l r.own (omega (arith, drops, shuts, more, c.requires.stands.last)) inside_new)
+    subst AtLast (sym c.bound_behind-self.ensures) (last_step d.dropped d.candidate_bound (length c.push_back_reserved.new.self.items) l r.own (omega (arith, drops, bounds, more, c.requires.stands.last)) inside_new)
 
-pub settle-self-requires-clause-shut : goal.settle-self-requires-clause-shut
-settle-self-requires-clause-shut c =
+pub settle-self-requires-clause-candidate_bound : goal.settle-self-requires-clause-candidate_bound
+settle-self-requires-clause-candidate_bound c =
     let m = c.args.self.now in
     let a = c.close_levels-ends.new.self in
     let b = c.open_level.new.self in
@@ -121,17 +121,17 @@ settle-self-requires-clause-shut c =
     let next = c.in_ok-lexeme.ensures.safe in
     let drops : d.dropped ≡ m.dropped = ap (λ (x : Machine). x.dropped) to_d ∙ ap (λ (x : Machine). x.dropped) to_b ∙ ap (λ (x : Machine). x.dropped) to_a in
     let waits : b.waiting.items ≡ m.waiting.items = ap (λ (x : Machine). x.waiting.items) to_b ∙ ap (λ (x : Machine). x.waiting.items) to_a in
-    let shuts : d.shut ≡ m.shut = ap (λ (x : Machine). x.shut) to_d ∙ ap (λ (x : Machine). x.shut) to_b ∙ ap (λ (x : Machine). x.shut) to_a in
+    let bounds : d.candidate_bound ≡ m.candidate_bound = ap (λ (x : Machine). x.candidate_bound) to_d ∙ ap (λ (x : Machine). x.candidate_bound) to_b ∙ ap (λ (x : Machine). x.candidate_bound) to_a in
     let w : Waiting = record { entry = c.entry.result; body = r.body; current = l.saved } in
     let items : c.push_back_reserved.new.self.items ≡ d.waiting.items ++ w ∷ [] = c.push_back_reserved.ensures.items ∙ ap (λ (ws : List Waiting). ws ++ w ∷ []) c.reserve.ensures.items in
     let inside_b : IfSome r.own (λ i. i < length b.waiting.items) = subst (λ (ws : List Waiting). IfSome r.own (λ i. i < length ws)) (sym waits) next.own in
-    let from_m : AreShut m.shut m.dropped b.waiting.items = subst (λ (ws : List Waiting). AreShut m.shut m.dropped ws) (sym waits) c.requires.stands.shut in
-    let old_shut : AreShut d.shut d.dropped b.waiting.items = subst (λ k. AreShut k d.dropped b.waiting.items) (sym shuts) (subst (λ k. AreShut m.shut k b.waiting.items) (sym drops) from_m) in
-    let last_b : IfSome r.own (λ i. AreShut (m.dropped + i + 1) m.dropped b.waiting.items) = subst (λ (ws : List Waiting). IfSome r.own (λ i. AreShut (m.dropped + i + 1) m.dropped ws)) (sym waits) next.last in
-    let old_last : IfSome r.own (λ i. AreShut (d.dropped + i + 1) d.dropped b.waiting.items) = subst (λ k. IfSome r.own (λ i. AreShut (k + i + 1) k b.waiting.items)) (sym drops) last_b in
-    let AtShut : ℕ → Type 0 = λ k. AreShut k d.dropped c.push_back_reserved.new.self.items in
-    let Shut : List Waiting → Type 0 = λ ws. AreShut (shut_behind d.dropped d.shut (length ws) l r.own) d.dropped ws in
-    subst AtShut (sym c.shut_behind-self.ensures) (subst Shut (sym items) (shut_step m d.shut d.dropped l o r.own b.waiting.items d.waiting.items w own c.mark_own.ensures.marks old_shut old_last inside_b refl))
+    let from_m : AreBounded m.candidate_bound m.dropped b.waiting.items = subst (λ (ws : List Waiting). AreBounded m.candidate_bound m.dropped ws) (sym waits) c.requires.stands.candidate_bound in
+    let old_bound : AreBounded d.candidate_bound d.dropped b.waiting.items = subst (λ k. AreBounded k d.dropped b.waiting.items) (sym bounds) (subst (λ k. AreBounded m.candidate_bound k b.waiting.items) (sym drops) from_m) in
+    let last_b : IfSome r.own (λ i. AreBounded (m.dropped + i + 1) m.dropped b.waiting.items) = subst (λ (ws : List Waiting). IfSome r.own (λ i. AreBounded (m.dropped + i + 1) m.dropped ws)) (sym waits) next.last in
+    let old_last : IfSome r.own (λ i. AreBounded (d.dropped + i + 1) d.dropped b.waiting.items) = subst (λ k. IfSome r.own (λ i. AreBounded (k + i + 1) k b.waiting.items)) (sym drops) last_b in
+    let AtBound : ℕ → Type 0 = λ k. AreBounded k d.dropped c.push_back_reserved.new.self.items in
+    let Bounded : List Waiting → Type 0 = λ ws. AreBounded (bound_behind d.dropped d.candidate_bound (length ws) l r.own) d.dropped ws in
+    subst AtBound (sym c.bound_behind-self.ensures) (subst Bounded (sym items) (bound_step m d.candidate_bound d.dropped l o r.own b.waiting.items d.waiting.items w own c.mark_own.ensures.marks old_bound old_last inside_b refl))
 
 pub returns-clause-ok : goal.returns-clause-ok
 returns-clause-ok c =
@@ -209,15 +209,15 @@ returns-clause-ok c =
     let marked_spoken = spoken_marked (stream_of m) r.own l o b.waiting.items d.waiting.items inside_b c.mark_own.ensures.marks old_spoken in
     let is_w : IsSpoken (stream_of m) w = spoken ∙ ap (λ (y : Lexeme). body_in (stream_of m) y) (sym lexeme) in
     let all_spoken : AreSpoken (stream_of m) c.push_back_reserved.new.self.items = subst (λ (ws : List Waiting). AreSpoken (stream_of m) ws) (sym items) (spoken_push (stream_of m) w d.waiting.items is_w marked_spoken) in
-    let shuts : d.shut ≡ m.shut = ap (λ (x : Machine). x.shut) to_d ∙ ap (λ (x : Machine). x.shut) to_b ∙ ap (λ (x : Machine). x.shut) to_a in
-    let from_m : AreShut m.shut m.dropped b.waiting.items = subst (λ (ws : List Waiting). AreShut m.shut m.dropped ws) (sym waits) c.requires.stands.shut in
-    let old_shut : AreShut d.shut d.dropped b.waiting.items = subst (λ k. AreShut k d.dropped b.waiting.items) (sym shuts) (subst (λ k. AreShut m.shut k b.waiting.items) (sym drops) from_m) in
-    let last_b : IfSome r.own (λ i. AreShut (m.dropped + i + 1) m.dropped b.waiting.items) = subst (λ (ws : List Waiting). IfSome r.own (λ i. AreShut (m.dropped + i + 1) m.dropped ws)) (sym waits) next.last in
-    let old_last : IfSome r.own (λ i. AreShut (d.dropped + i + 1) d.dropped b.waiting.items) = subst (λ k. IfSome r.own (λ i. AreShut (k + i + 1) k b.waiting.items)) (sym drops) last_b in
+    let bounds : d.candidate_bound ≡ m.candidate_bound = ap (λ (x : Machine). x.candidate_bound) to_d ∙ ap (λ (x : Machine). x.candidate_bound) to_b ∙ ap (λ (x : Machine). x.candidate_bound) to_a in
+    let from_m : AreBounded m.candidate_bound m.dropped b.waiting.items = subst (λ (ws : List Waiting). AreBounded m.candidate_bound m.dropped ws) (sym waits) c.requires.stands.candidate_bound in
+    let old_bound : AreBounded d.candidate_bound d.dropped b.waiting.items = subst (λ k. AreBounded k d.dropped b.waiting.items) (sym bounds) (subst (λ k. AreBounded m.candidate_bound k b.waiting.items) (sym drops) from_m) in
+    let last_b : IfSome r.own (λ i. AreBounded (m.dropped + i + 1) m.dropped b.waiting.items) = subst (λ (ws : List Waiting). IfSome r.own (λ i. AreBounded (m.dropped + i + 1) m.dropped ws)) (sym waits) next.last in
+    let old_last : IfSome r.own (λ i. AreBounded (d.dropped + i + 1) d.dropped b.waiting.items) = subst (λ k. IfSome r.own (λ i. AreBounded (k + i + 1) k b.waiting.items)) (sym drops) last_b in
     let AtLast : ℕ → Type 0 = λ k. k ≤ d.dropped + length c.push_back_reserved.new.self.items in
-    let AtShut : ℕ → Type 0 = λ k. AreShut k d.dropped c.push_back_reserved.new.self.items in
-    let Shut : List Waiting → Type 0 = λ ws. AreShut (shut_behind d.dropped d.shut (length ws) l r.own) d.dropped ws in
-    let more_shut = c.shut_behind-self.ensures in
+    let AtBound : ℕ → Type 0 = λ k. AreBounded k d.dropped c.push_back_reserved.new.self.items in
+    let Bounded : List Waiting → Type 0 = λ ws. AreBounded (bound_behind d.dropped d.candidate_bound (length ws) l r.own) d.dropped ws in
+    let more_bound = c.bound_behind-self.ensures in
     let inside_new : IfSome r.own (λ i. i < length c.push_back_reserved.new.self.items) = some_less r.own (length m.waiting.items) (length c.push_back_reserved.new.self.items) (omega (arith, more)) next.own in
     let codes : d.encoding ≡ m.encoding = ap (λ (x : Machine). x.encoding) to_d ∙ ap (λ (x : Machine). x.encoding) to_b ∙ ap (λ (x : Machine). x.encoding) to_a in
     let on : d.started ≡ m.started = ap (λ (x : Machine). x.started) to_d ∙ ap (λ (x : Machine). x.started) to_b ∙ ap (λ (x : Machine). x.started) to_a in
@@ -227,8 +227,8 @@ returns-clause-ok c =
         few = omega (arith, len, drops, more, room, long);
         taken = omega (arith, drops, settles, settled.low, c.requires.stands.taken);
         settled = settled.high;
-        last = subst AtLast (sym more_shut) (last_step d.dropped d.shut (length c.push_back_reserved.new.self.items) l r.own (omega (arith, drops, shuts, more, c.requires.stands.last)) inside_new);
-        shut = subst AtShut (sym more_shut) (subst Shut (sym items) (shut_step m d.shut d.dropped l o r.own b.waiting.items d.waiting.items w own c.mark_own.ensures.marks old_shut old_last inside_b refl));
+        last = subst AtLast (sym more_bound) (last_step d.dropped d.candidate_bound (length c.push_back_reserved.new.self.items) l r.own (omega (arith, drops, bounds, more, c.requires.stands.last)) inside_new);
+        candidate_bound = subst AtBound (sym more_bound) (subst Bounded (sym items) (bound_step m d.candidate_bound d.dropped l o r.own b.waiting.items d.waiting.items w own c.mark_own.ensures.marks old_bound old_last inside_b refl));
         depth = omega (arith, above, next.depth, drops, more, c.requires.stands.depth);
         levels = subst AtText (sym len) (subst Levels (sym levels) narrow);
         inside = subst AtInside (sym len) all;
@@ -236,7 +236,7 @@ returns-clause-ok c =
         begun = λ off. let bad : true ≡ false = sym c.requires.started ∙ sym on ∙ off in cc;
         shown = shown_now;
         given = given_goes f done l c.requires.stands.shown shown_now go e same drops gives (omega (arith, settles, settled.low)) c.requires.stands.given;
-        spoken = subst (λ (s : Stream). AreSpoken s c.push_back_reserved.new.self.items) (sym stream) all_spoken;
+        spoken = subst (λ (s : SpelledText). AreSpoken s c.push_back_reserved.new.self.items) (sym stream) all_spoken;
       },
       record { text = texts; dropped = drops; further = more; given = gives; encoding = codes; started = on },
     )

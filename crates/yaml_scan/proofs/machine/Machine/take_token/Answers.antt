@@ -1,14 +1,14 @@
 use Rattle.std.proofs.Common.{◌≡◌, List, [], ◌∷◌, sym, ap, subst, ◌∙◌, arith, ◌+◌, length, get_or, true, refl, Some, None}
 use Rattle.std.specs.Prelude.{map, option_map}
 use Rattle.yaml_scan_decode.specs.DecodedText.{text_bytes}
-use Rattle.yaml_scan_text.specs.Tokens.{Token, TokenBody, body_of, token_of}
-use Rattle.yaml_scan_layout.specs.Coming.{coming, before, body_in, token_in}
+use Rattle.yaml_scan_model.specs.Tokens.{Token, TokenBody, body_of, token_of}
+use Rattle.yaml_scan_history.specs.Remaining.{remaining, before, body_in, token_in}
 use Rattle.yaml_scan.specs.declared.waiting.Waiting.{Waiting}
-use Rattle.yaml_scan.specs.State.{ready_in, AreInside, AreShut}
+use Rattle.yaml_scan.specs.State.{ready_in, AreInside, AreBounded}
 use Rattle.yaml_scan.proofs.SafeLemmas.{inside_rest, none_left}
 use Rattle.yaml_scan.specs.Shows.{fields_of, stream_of, AreSpoken}
 use Rattle.yaml_scan.specs.Front.{front_at}
-use Rattle.yaml_scan.proofs.ShutLemmas.{shut_rest}
+use Rattle.yaml_scan.proofs.BoundLemmas.{bound_rest}
 use Rattle.yaml_scan.proofs.FrontLemmas.{shown_popped}
 use Rattle.yaml_scan.proofs.PushLemmas.{spoken_rest}
 use Rattle.yaml_scan.proofs.GivenLemmas.{given_none, own_settled}
@@ -62,7 +62,7 @@ returns-in-Some-pop_front-clause-stands c =
       taken = omega (arith, low);
       settled = omega (arith, len, c.requires.stands.settled);
       last = omega (arith, len, c.requires.stands.last);
-      shut = shut_rest m.shut m.dropped front rest (subst (λ (ws : List Waiting). AreShut m.shut m.dropped ws) items c.requires.stands.shut);
+      candidate_bound = bound_rest m.candidate_bound m.dropped front rest (subst (λ (ws : List Waiting). AreBounded m.candidate_bound m.dropped ws) items c.requires.stands.candidate_bound);
       depth = omega (arith, len, c.requires.stands.depth);
       levels = c.requires.stands.levels;
       inside = inside_rest (length (text_bytes m.text)) front rest (subst Q items c.requires.stands.inside);
@@ -87,4 +87,4 @@ returns-in-Some-pop_front-clause-gives c =
     let own : token_in (stream_of m) front.entry.lexeme ≡ token_of c.token.result = ap (λ (b : TokenBody). record { body = b; start_mark = front.entry.lexeme.start; end_mark = front.entry.lexeme.end }) (sym spoken) ∙ sym c.token.ensures in
     let (tokens, fault) = gives_own m front rest c.requires.stands items low none in
     let on = ready_started m c.requires.stands c.requires.ready in
-    left_gives m record m { waiting = c.pop_front.new.self; dropped = m.dropped + 1; given = 0 } (token_of c.token.result) on on (tokens ∙ ap (λ (t : Token). t ∷ (coming (stream_of m) (m.dropped + 1) 0).tokens) own, fault)
+    left_gives m record m { waiting = c.pop_front.new.self; dropped = m.dropped + 1; given = 0 } (token_of c.token.result) on on (tokens ∙ ap (λ (t : Token). t ∷ (remaining (stream_of m) (m.dropped + 1) 0).tokens) own, fault)

@@ -1,5 +1,0 @@
-pub mod KeyFree
-pub mod Laws
-pub mod Texts
--- what it stands on, for crates of laws that name this one alone
-pub use Rattle.yaml_scan_forward.specs.scan_layout

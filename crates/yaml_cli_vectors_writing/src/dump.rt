@@ -1,0 +1,41 @@
+//! The call `dump`.
+
+use crate::emitter::emitter_of;
+use serde_json::Value;
+use std::alloc::Global;
+use yaml_cli_vectors_json::{VectorError, document_of, field, shown};
+use yaml_emit::{
+    yaml_emitter_close, yaml_emitter_dump, yaml_emitter_open, yaml_emitter_opened,
+    yaml_emitter_output, yaml_emitter_t,
+};
+use yaml_parse::{yaml_document_t, yaml_fault_t};
+
+fn open(emitter: &mut yaml_emitter_t) -> Result<(), yaml_fault_t> {
+    if yaml_emitter_opened(emitter) {
+        Ok(())
+    } else {
+        yaml_emitter_open(emitter)
+    }
+}
+
+fn close(emitter: &mut yaml_emitter_t) -> Result<(), yaml_fault_t> {
+    if yaml_emitter_opened(emitter) {
+        yaml_emitter_close(emitter)
+    } else {
+        Ok(())
+    }
+}
+
+fn write(emitter: &mut yaml_emitter_t, document: yaml_document_t) -> Result<(), yaml_fault_t> {
+    yaml_emitter_dump(emitter, document)?;
+    close(emitter)
+}
+
+/// What open, dump and close write of the line's document.
+pub fn answer(alloc: Global, line: &Value) -> Result<Value, VectorError> {
+    let mut emitter = emitter_of(alloc, line)?;
+    open(&mut emitter)?;
+    let document = document_of(alloc, field::value(line, "document")?)?;
+    write(&mut emitter, document)?;
+    Ok(shown::text_answer(alloc, yaml_emitter_output(&emitter))?)
+}

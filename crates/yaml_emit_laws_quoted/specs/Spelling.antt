@@ -1,0 +1,152 @@
+-- How a value is spelled between quotes: characters as they are, escapes, and lines that are joined.
+use Rattle.std.specs.Prelude.{◌≡◌, ◌<◌, ℕ, ◌*◌, ◌+◌, Bool, true, false, not, ◌&&◌, ◌||◌, ◌==◌, nat_lt, List, [], ◌∷◌, ◌++◌, length, replicate, Option, Some, option_and_then, encode_utf8}
+use lib.Utf8.{scalar}
+use Rattle.yaml_scan_scalars.specs.scan_model.Marks.{is_blank}
+use Rattle.yaml_scan_scalars.specs.Pieces.{gap}
+use Rattle.yaml_scan_scalars.specs.Quoted.{hex_digit, hex_len, simple_escape}
+
+-- ---- ends of lines
+
+-- What ends a line: LF, CR, CR LF, NEL, LS and PS.
+pub data LineEnd : Type 0 where
+  feed : LineEnd
+  return : LineEnd
+  return_feed : LineEnd
+  next_line : LineEnd
+  line_separator : LineEnd
+  paragraph_separator : LineEnd
+
+abbrev pub end_bytes : LineEnd → List ℕ
+end_bytes feed = 10 ∷ []
+end_bytes return = 13 ∷ []
+end_bytes return_feed = 13 ∷ 10 ∷ []
+end_bytes next_line = 0xC2 ∷ 0x85 ∷ []
+end_bytes line_separator = 0xE2 ∷ 0x80 ∷ 0xA8 ∷ []
+end_bytes paragraph_separator = 0xE2 ∷ 0x80 ∷ 0xA9 ∷ []
+
+-- LS and PS are read as themselves, the others as a line feed
+abbrev pub end_means : LineEnd → List ℕ
+end_means feed = 10 ∷ []
+end_means return = 10 ∷ []
+end_means return_feed = 10 ∷ []
+end_means next_line = 10 ∷ []
+end_means line_separator = 0xE2 ∷ 0x80 ∷ 0xA8 ∷ []
+end_means paragraph_separator = 0xE2 ∷ 0x80 ∷ 0xA9 ∷ []
+
+-- The end of a line, and how many spaces begin the next one.
+pub record Turn : Type 0 where
+  pub end : LineEnd
+  pub spaces : ℕ
+
+unfoldable pub turn_bytes : List Turn → List ℕ
+turn_bytes [] = []
+turn_bytes (t ∷ ts) = end_bytes t.end ++ (replicate t.spaces 32 ++ turn_bytes ts)
+
+unfoldable pub turn_means : List Turn → List ℕ
+turn_means [] = []
+turn_means (t ∷ ts) = end_means t.end ++ turn_means ts
+
+abbrev pub is_return : LineEnd → Bool
+is_return return = true
+is_return _ = false
+
+abbrev pub is_feed_end : LineEnd → Bool
+is_feed_end feed = true
+is_feed_end _ = false
+
+-- The last line has an indentation, so that no `---` stands at its start; and CR with LF behind it is one end, not two.
+unfoldable pub may_turn : Turn → List Turn → Bool
+may_turn t [] = nat_lt 0 t.spaces
+may_turn t (u ∷ us) = not (is_return t.end && (t.spaces == 0 && is_feed_end u.end)) && may_turn u us
+
+-- ---- parts
+
+-- What a spelling is made of.
+pub data Part : Type 0 where
+  -- a character that stands for itself
+  raw : ℕ → Part
+  -- two single quotes for one
+  doubled : Part
+  -- a backslash and a byte that names these bytes
+  named : ℕ → List ℕ → Part
+  -- a backslash, `x`, `u` or `U`, and hexadecimal digits that spell the number of a character
+  numbered : ℕ → List ℕ → ℕ → Part
+  -- the ends of one line and more
+  fold : Turn → List Turn → Part
+  -- such ends behind a backslash
+  joint : Turn → List Turn → Part
+
+abbrev pub spelled : Part → List ℕ
+spelled (raw c) = encode_utf8 c
+spelled doubled = 39 ∷ 39 ∷ []
+spelled (named b bytes) = 92 ∷ b ∷ []
+spelled (numbered b digits c) = 92 ∷ b ∷ digits
+spelled (fold t ts) = turn_bytes (t ∷ ts)
+spelled (joint t ts) = 92 ∷ turn_bytes (t ∷ ts)
+
+-- A lone line feed means a space, and one before other ends of lines nothing; behind a backslash the first end means nothing.
+abbrev pub meant : Part → List ℕ
+meant (raw c) = encode_utf8 c
+meant doubled = 39 ∷ []
+meant (named b bytes) = bytes
+meant (numbered b digits c) = encode_utf8 c
+meant (fold t ts) = gap (end_means t.end) (turn_means ts)
+meant (joint t ts) = turn_means ts
+
+unfoldable pub spelling : List Part → List ℕ
+spelling [] = []
+spelling (p ∷ ps) = spelled p ++ spelling ps
+
+unfoldable pub meaning : List Part → List ℕ
+meaning [] = []
+meaning (p ∷ ps) = meant p ++ meaning ps
+
+-- the number that hexadecimal digits spell behind others, or none
+unfoldable pub number_behind : ℕ → List ℕ → Option ℕ
+number_behind n [] = Some n
+number_behind n (d ∷ ds) = option_and_then (λ low. number_behind (n * 16 + low) ds) (hex_digit d)
+
+-- LF, CR, NEL, LS and PS
+abbrev pub is_line_end : ℕ → Bool
+is_line_end c = c == 10 || (c == 13 || (c == 0x85 || (c == 0x2028 || c == 0x2029)))
+
+-- Raw characters are no ends of lines, not the quote and not 0, which ends a stream; in double quotes no backslashes.
+abbrev pub may_be_raw : ℕ → ℕ → Bool
+may_be_raw quote c = scalar c && not (is_line_end c || (c == 0 || (c == quote || (quote == 34 && c == 92))))
+
+abbrev pub MayStand : ℕ → Part → Type 0
+MayStand quote (raw c) = may_be_raw quote c ≡ true
+MayStand quote doubled = quote ≡ 39
+MayStand quote (named b bytes) = (quote ≡ 34) × (simple_escape b ≡ Some bytes)
+MayStand quote (numbered b digits c) = (quote ≡ 34) × (0 < length digits) × (hex_len b ≡ length digits) × (number_behind 0 digits ≡ Some c) × (scalar c ≡ true)
+MayStand quote (fold t ts) = may_turn t ts ≡ true
+MayStand quote (joint t ts) = (quote ≡ 34) × (may_turn t ts ≡ true)
+
+abbrev pub is_raw_blank : Part → Bool
+is_raw_blank (raw c) = is_blank c
+is_raw_blank _ = false
+
+abbrev pub is_fold : Part → Bool
+is_fold (fold t ts) = true
+is_fold _ = false
+
+abbrev pub is_turn : Part → Bool
+is_turn (fold t ts) = true
+is_turn (joint t ts) = true
+is_turn _ = false
+
+-- Raw blanks beside the end of a line are not kept, but before a backslash; and ends of lines are one part.
+abbrev pub may_follow : Part → Part → Bool
+may_follow p q = not (is_fold q && (is_raw_blank p || is_turn p)) && not (is_raw_blank q && is_turn p)
+
+abbrev pub may_be_next : Part → List Part → Bool
+may_be_next p [] = true
+may_be_next p (q ∷ qs) = may_follow p q
+
+-- between quotes of that byte
+unfoldable pub IsSpelling : ℕ → List Part → Type 0
+IsSpelling quote [] = Unit {0}
+IsSpelling quote (p ∷ ps) = MayStand quote p × (may_be_next p ps ≡ true) × IsSpelling quote ps
+
+abbrev pub quoted : ℕ → List Part → List ℕ
+quoted quote parts = quote ∷ (spelling parts ++ quote ∷ [])

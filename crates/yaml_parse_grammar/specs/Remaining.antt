@@ -1,0 +1,85 @@
+-- What is still to come of a parser, and what its calls give.
+use Rattle.std.specs.Prelude.{◌≡◌, ◌⊎◌, ℕ, Bool, true, false, List, [], ◌∷◌, length, Option, Some, None}
+use Rattle.yaml_parse_model.specs.declared.yaml_error_type_t.TheVariants.{YAML_MEMORY_ERROR}
+use Rattle.yaml_parse_model.specs.Tokens.{Token}
+use Rattle.yaml_parse_model.specs.Faults.{Fault}
+use Rattle.yaml_parse_model.specs.Events.{Event, no_event}
+use Rattle.yaml_parse_grammar.specs.States.{State}
+use Rattle.yaml_parse_grammar.specs.States as state
+use Rattle.yaml_parse_grammar.specs.Machine.{run, Outcome}
+use Rattle.yaml_parse_grammar.specs.Resolve.{Directives, Reading, Told, reading}
+
+abbrev pub waiting : Option Token → List Token → List Token
+waiting None ts = ts
+waiting (Some t) ts = t ∷ ts
+
+abbrev pub held_of : Option Token → ℕ
+held_of None = 0
+held_of (Some t) = 1
+
+-- no document is half taken
+abbrev pub is_between : List State → Bool
+is_between [] = true
+is_between (state.stream ∷ s) = true
+is_between (state.first ∷ s) = true
+is_between (state.documents ∷ s) = true
+is_between _ = false
+
+-- The events to come and the fault that ends them, the tokens that are not asked for, how many are asked for and not
+-- consumed, whether no document is half taken, and the fault that was answered.
+pub record ParserRemaining : Type 0 where
+  pub events : List Told
+  pub ending : Option Fault
+  pub unasked : ℕ
+  pub held : ℕ
+  pub between : Bool
+  pub answered : Fault
+
+abbrev pub reading_of : Outcome → Directives → Reading
+reading_of o ds = reading o.items o.ending ds
+
+abbrev pub parser_remaining : Option Token → List Token → Option Fault → List State → Directives → Fault → ParserRemaining
+parser_remaining peeked ts f s ds answered = record {
+  events = (reading_of (run (waiting peeked ts) s f) ds).events;
+  ending = (reading_of (run (waiting peeked ts) s f) ds).ending;
+  unasked = length ts;
+  held = held_of peeked;
+  between = is_between s;
+  answered = answered;
+}
+
+-- nothing is to come
+pub record IsFinished (c : ParserRemaining) : Type 0 where
+  pub events : c.events ≡ []
+  pub ending : c.ending ≡ None
+  pub between : c.between ≡ true
+
+-- the call gives the front of what is to come, and leaves the rest
+pub record Gives (e : Event) (told : Told) (rest : List Told) (f : Option Fault) (old new : ParserRemaining) : Type 0 where
+  pub given : e ≡ told.0
+  pub events : new.events ≡ rest
+  pub ending : new.ending ≡ f
+  pub unasked : new.unasked ≡ told.1
+  pub answered : new.answered ≡ old.answered
+
+-- behind the end the empty event is given, and no token is asked for
+pub record GivesNothing (e : Event) (old new : ParserRemaining) : Type 0 where
+  pub given : e ≡ no_event
+  pub finished : IsFinished new
+  pub unasked : new.unasked ≡ old.unasked
+  pub held : new.held ≡ old.held
+  pub answered : new.answered ≡ old.answered
+
+abbrev pub GivesEvent : List Told → Option Fault → Event → ParserRemaining → ParserRemaining → Type 0
+GivesEvent (g ∷ gs) f e old new = Gives e g gs f old new
+GivesEvent [] None e old new = GivesNothing e old new
+GivesEvent [] (Some f) e old new = ⊥
+
+abbrev pub EventOf : ParserRemaining → Event → ParserRemaining → Type 0
+EventOf old e new = GivesEvent old.events old.ending e old new
+
+-- a fault is answered: the one that is to come, or want of memory; nothing comes behind it
+pub record FaultOf (old : ParserRemaining) (f : Fault) (new : ParserRemaining) : Type 0 where
+  pub finished : IsFinished new
+  pub answered : new.answered ≡ f
+  pub reason : (f.kind ≡ YAML_MEMORY_ERROR) ⊎ ((old.events ≡ []) × (old.ending ≡ Some f))

@@ -1,0 +1,20 @@
+//! Laws of the grammar of tokens.
+#![tactic(auto)]
+
+ghost use Rattle.std.specs.Prelude.{◌≤◌, ◌*◌, List, Option, length};
+ghost use Rattle.yaml_parse_grammar.specs.parse_model.Tokens.{Token};
+ghost use Rattle.yaml_parse_grammar.specs.parse_model.Faults.{Fault};
+ghost use Rattle.yaml_parse_grammar.specs.Machine.{run, initial};
+ghost use Rattle.yaml_parse_grammar.specs.Resolve.{Directives};
+ghost use Rattle.yaml_parse_grammar.specs.Remaining.{reading_of};
+ghost use Rattle.yaml_parse_laws_counts.specs.Laws.{TokensHaveOneTree};
+
+/// A law: of no list of tokens come more than four events for each token.
+pub fn at_most_four_events_a_token()
+    ensures { (ts : List Token) (f : Option Fault) (ds : Directives) → length (reading_of (run ts initial f) ds).events ≤ 4 * length ts }
+{}
+
+/// Tokens have one tree, and no tree's tokens begin another's.
+pub fn tokens_have_one_tree()
+    ensures { TokensHaveOneTree }
+{}

@@ -1,0 +1,9 @@
+-- What is given is the event, normalized.
+use Rattle.std.proofs.Common.{subst}
+use Rattle.yaml_parse.specs.Events.{Event}
+use Rattle.yaml_emit.specs.Content.{emitter_event}
+use Rattle.yaml_emit.specs.Emitter.{Given}
+use Rattle.yaml_round.proofs.writing.give_normalized.Goals as goal
+
+pub returns : goal.returns
+returns g = subst (λ (e : Event). Given g.args.emitter.now (emitter_event e.body) g.give.new.emitter) g.normalize.ensures.normalized g.give.ensures

@@ -1,0 +1,154 @@
+-- Lexemes, and what earlier ones decide. A history has the newest lexeme first, so that to look back is to go
+-- down the list.
+use Rattle.std.specs.Prelude.{ℕ, zero, suc, ◌+◌, ◌-◌, Bool, true, false, not, ◌&&◌, ◌||◌, ◌==◌, nat_lt, nat_le, if◌then◌else◌, List, [], ◌∷◌, ◌++◌, length, filter, Option, Some, None}
+use Rattle.yaml_scan_model.specs.declared.record.yaml_mark_t.{yaml_mark_t}
+use Rattle.yaml_scan_model.specs.Tokens.{zero_mark}
+use Rattle.yaml_scan_history.specs.declared.kind.Kind.{Kind}
+use Rattle.yaml_scan_history.specs.declared.kind.Kind.TheVariants as kinds
+use Rattle.yaml_scan_history.specs.declared.lexeme.Lexeme.{Lexeme}
+use Rattle.yaml_scan_history.specs.declared.lexeme.Entry.{Entry}
+use Rattle.yaml_scan_history.specs.declared.lexeme.Opens.{Opens}
+use Rattle.yaml_scan_history.specs.declared.lexeme.Opens.TheVariants as opening
+use Rattle.yaml_scan_history.specs.Kinds.{depth_after, cancels, is_value, is_start, is_outside, is_end, allows_key}
+
+-- the place that the newest lexeme reaches
+abbrev pub reached : List Lexeme → yaml_mark_t
+reached [] = zero_mark
+reached (l ∷ h) = l.reached
+
+-- how many brackets are open
+abbrev pub depth : List Lexeme → ℕ
+depth [] = 0
+depth (l ∷ h) = depth_after l.kind l.depth
+
+abbrev pub ended : List Lexeme → Bool
+ended [] = false
+ended (l ∷ h) = is_end l.kind
+
+-- a lexeme by its number: how many stand before it
+pub record Candidate : Type 0 where
+  pub number : ℕ
+  pub lexeme : Lexeme
+
+-- The last lexeme of that depth that was saved, with no lexeme of that depth behind it that cancels. A depth
+-- begins behind the opener that stands outside it.
+unfoldable pub candidate : ℕ → List Lexeme → Option Candidate
+candidate d [] = None
+candidate d (l ∷ h) =
+    if l.depth == d then (if l.saved then Some record { number = length h; lexeme = l } else if cancels l.kind then None else candidate d h)
+    else if nat_lt l.depth d then None
+    else candidate d h
+
+-- the place is on its line and within 1,024 bytes of the start
+abbrev pub is_fresh : yaml_mark_t → yaml_mark_t → Bool
+is_fresh start place = nat_le place.line start.line && nat_le place.index (start.index + 1024)
+
+-- the candidate, where it isn't stale at that place
+abbrev pub fresh : Option Candidate → yaml_mark_t → Option Candidate
+fresh None place = None
+fresh (Some c) place = if is_fresh c.lexeme.start place then Some c else None
+
+abbrev pub has_number : Option Candidate → ℕ → Bool
+has_number None n = false
+has_number (Some c) n = c.number == n
+
+-- The number of the earliest candidate among the lexemes h that is open behind `all`, or how many h are.
+unfoldable pub first_open : List Lexeme → List Lexeme → ℕ
+first_open all [] = 0
+first_open all (l ∷ h) =
+    if nat_lt (first_open all h) (length h) then first_open all h
+    else if has_number (fresh (candidate l.depth all) (reached all)) (length h) then length h
+    else suc (length h)
+
+-- which lexemes are their depth's candidate behind `all`, the first one first
+unfoldable pub opens_in : List Lexeme → List Lexeme → List Bool
+opens_in all [] = []
+opens_in all (l ∷ h) = opens_in all h ++ has_number (candidate l.depth all) (length h) ∷ []
+
+-- the candidate that a lexeme finds open at its depth
+abbrev pub found_by : Lexeme → List Lexeme → Option Candidate
+found_by l h = fresh (candidate l.depth h) l.start
+
+abbrev pub has : Option Candidate → Bool
+has None = false
+has (Some c) = true
+
+-- Levels are columns counted from 1, outermost first, so that no level is 0.
+unfoldable pub indent : List ℕ → ℕ
+indent [] = 0
+indent (c ∷ []) = c
+indent (c ∷ d ∷ cs) = indent (d ∷ cs)
+
+-- the innermost column that a lexeme leaves open
+abbrev pub keeps : Kind → ℕ → ℕ
+keeps k column = if is_outside k then 0 else column + 1
+
+-- the levels that a lexeme leaves open; inside brackets it leaves all
+abbrev pub left_by : Kind → ℕ → ℕ → List ℕ → List ℕ
+left_by k depth column levels = if nat_lt 0 depth then levels else filter (λ x. nat_le x (keeps k column)) levels
+
+-- the column where a `-`, a `?`, a `:` or the key of a `:` may open a level
+abbrev pub opens_at : Option Candidate → Kind → ℕ → ℕ
+opens_at None k column = column + 1
+opens_at (Some c) k column = if is_value k then c.lexeme.start.column + 1 else column + 1
+
+abbrev pub opened : Bool → ℕ → List ℕ → List ℕ
+opened may column levels = if may && nat_lt (indent levels) column then levels ++ column ∷ [] else levels
+
+-- the columns whose level no later lexeme has closed
+unfoldable pub levels : List Lexeme → List ℕ
+levels [] = []
+levels (l ∷ h) = opened (is_start l.kind && not (nat_lt 0 l.depth)) (opens_at (found_by l h) l.kind l.start.column) (left_by l.kind l.depth l.start.column (levels h))
+
+-- the level that opens at a column, where it passes the indent
+abbrev pub start_of : ℕ → ℕ → List ℕ → Opens → Opens
+start_of depth column levels what = if not (nat_lt 0 depth) && nat_lt (indent levels) column then what else opening.Nothing
+
+-- the level that a `-`, a `?` or a `:` may open
+abbrev pub level_of : Kind → Opens
+level_of kinds.BlockEntry = opening.Sequence
+level_of _ = opening.Mapping
+
+abbrev pub opens_of : Option Candidate → Lexeme → List ℕ → Opens
+opens_of found l levels =
+    if not (is_start l.kind) then opening.Nothing
+    else if is_value l.kind && has found then opening.Nothing
+    else start_of l.depth (l.start.column + 1) levels (level_of l.kind)
+
+-- the levels behind which a lexeme stands
+abbrev pub inside : Lexeme → List Lexeme → List ℕ
+inside l h = left_by l.kind l.depth l.start.column (levels h)
+
+abbrev pub entry_of : Lexeme → List Lexeme → Entry
+entry_of l h = record { lexeme = l; ends = length (levels h) - length (inside l h); opens = opens_of (found_by l h) l (inside l h); key = false }
+
+-- the mark that a `:` sets at its candidate: a key, which opens a mapping where its column passes the indent
+abbrev pub as_key : List ℕ → Entry → Entry
+as_key levels e = record { lexeme = e.lexeme; ends = e.ends; opens = start_of e.lexeme.depth (e.lexeme.start.column + 1) levels opening.Mapping; key = true }
+
+unfoldable pub mark_key : List ℕ → List Entry → ℕ → List Entry
+mark_key levels [] n = []
+mark_key levels (e ∷ es) zero = as_key levels e ∷ es
+mark_key levels (e ∷ es) (suc n) = e ∷ mark_key levels es n
+
+abbrev pub marked : Option Candidate → List ℕ → List Entry → List Entry
+marked None levels es = es
+marked (Some c) levels es = mark_key levels es c.number
+
+-- A `:` makes a key of the candidate that is open where it stands.
+abbrev pub keyed : Lexeme → List Lexeme → List Entry → List Entry
+keyed l h es = if is_value l.kind then marked (found_by l h) (inside l h) es else es
+
+-- the lexemes from the first on, each with its marks
+unfoldable pub entries : List Lexeme → List Entry
+entries [] = []
+entries (l ∷ h) = keyed l h (entries h) ++ entry_of l h ∷ []
+
+-- Whether a key may begin behind these lexemes, without a break between.
+abbrev pub key_allowed : List Lexeme → Bool
+key_allowed [] = false
+key_allowed (l ∷ h) = allows_key l.kind (l.depth == 0) (has (found_by l h)) || l.broke
+
+-- the stream's end stands at the start of a line
+abbrev pub placed : Kind → yaml_mark_t → yaml_mark_t
+placed k m = if is_end k && nat_lt 0 m.column then record { index = m.index; line = m.line + 1; column = 0 } else m

@@ -1,0 +1,72 @@
+//! Lexemes with what earlier ones decide of them.
+
+ghost use Rattle.std.specs.Prelude.{◌≡◌, ◌<◌, ◌^◌};
+ghost use Rattle.yaml_scan_history.specs.History.{is_fresh};
+ghost use Rattle.yaml_scan_history.specs.History.{placed};
+
+use crate::kind::Kind;
+use yaml_scan_model::yaml_mark_t;
+
+/// Where a lexeme stands, and what the lexemes before it decide.
+#[derive(Clone, Copy, Debug)]
+pub struct Lexeme {
+    pub kind: Kind,
+    /// Its token's marks.
+    pub start: yaml_mark_t,
+    pub end: yaml_mark_t,
+    /// The place that is reached behind it, with the blanks and breaks that it consumes.
+    pub reached: yaml_mark_t,
+    /// How many brackets are open before it.
+    pub depth: usize,
+    /// The column of the innermost block level that it stands in, counted from 1; 0 where none is open.
+    pub level: u64,
+    /// It was saved as a candidate: a simple key may begin with it.
+    pub saved: bool,
+    /// Its `:` must come.
+    pub required: bool,
+    /// The blanks behind a plain scalar hold a break.
+    pub broke: bool,
+}
+
+/// The level that opens before a lexeme.
+#[derive(Clone, Copy, Debug)]
+pub enum Opens {
+    Nothing,
+    Sequence,
+    Mapping,
+}
+
+/// A lexeme as it is spelled out in tokens.
+#[derive(Clone, Copy, Debug)]
+pub struct Entry {
+    pub lexeme: Lexeme,
+    /// How many block levels it closes.
+    pub ends: usize,
+    /// The level that it opens.
+    pub opens: Opens,
+    /// Its `:` has come.
+    pub key: bool,
+}
+
+/// Whether a candidate that starts there can still become a key at that place: on its line, and at most 1,024 bytes on
+/// (YAML 1.1, 7.3.3).
+pub fn is_fresh(start: yaml_mark_t, place: yaml_mark_t) -> bool
+    ensures { result ≡ is_fresh start place }
+{
+    place.line <= start.line && place.index.saturating_sub(start.index) <= 1024
+}
+
+/// Where a lexeme's token starts: the stream's end stands at the start of a line.
+pub fn moved_end(kind: Kind, mark: yaml_mark_t) -> yaml_mark_t
+    requires { mark.line < 2 ^ 63 }
+    ensures { result ≡ placed kind mark }
+{
+    if kind.is_end() && 0 < mark.column {
+        return yaml_mark_t {
+            index: mark.index,
+            line: mark.line + 1,
+            column: 0,
+        };
+    }
+    mark
+}

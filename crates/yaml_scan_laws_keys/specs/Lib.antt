@@ -1,0 +1,5 @@
+pub mod KeyFree
+pub mod Laws
+pub mod Texts
+-- what it stands on, for crates of laws that name this one alone
+pub use Rattle.yaml_scan_laws_order.specs.scan_history

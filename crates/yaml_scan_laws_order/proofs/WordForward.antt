@@ -1,0 +1,201 @@
+-- Lexemes of every kind end behind their start, inside the text.
+use Rattle.std.proofs.Common.{◌≡◌, ℕ, ◌+◌, ◌<◌, ◌≤◌, ◌==◌, ◌&&◌, ◌||◌, not, nat_lt, Bool, true, false, if◌then◌else◌, List, length, Option, Some, None, Result, Ok, Err, inl, inr, arith}
+use Rattle.std.proofs.lemmas.Bool.{cases_Bool, true≢false}
+use Rattle.std.proofs.lemmas.Bool.Decides.{nat_tests}
+use Rattle.yaml_scan_history.specs.scan_model.declared.name.yaml_scalar_style_t.{yaml_scalar_style_t}
+use Rattle.yaml_scan_history.specs.scan_model.declared.name.yaml_scalar_style_t.TheVariants as styles
+use Rattle.yaml_scan_history.specs.scan_model.declared.problem.Context.TheVariants as contexts
+use Rattle.yaml_scan_history.specs.scan_model.Tokens as tokens
+use Rattle.yaml_scan_history.specs.scan_model.Tokens.{TokenBody}
+use Rattle.yaml_scan_history.specs.scan_model.Marks.{byte, break_width, column_at, is_blank_or_end}
+use Rattle.yaml_scan_history.specs.scan_model.Wrong.{Wrong}
+use Rattle.yaml_scan_history.proofs.scan_model.MarksLemmas.{within, past_break}
+use Rattle.yaml_scan_history.specs.scan_words.Readings.{behind_bytes}
+use Rattle.yaml_scan_history.specs.scan_words.Indicators.{is_document_start, is_document_end}
+use Rattle.yaml_scan_history.specs.scan_words.Anchors.{anchor_at}
+use Rattle.yaml_scan_history.specs.scan_words.Tags.{TagText, tag_end, tag_at}
+use Rattle.yaml_scan_history.specs.scan_words.Directives.{ValueText, value_end, value_at, line_place, comment_end, break_end, line_end_at, with_line, finished}
+use Rattle.yaml_scan_history.proofs.scan_words.PlacesLemmas.{IsFrom, Lands, run_place, anchor_place, tag_place, value_place}
+use Rattle.yaml_scan_history.specs.scan_scalars.Quoted.{double_quoted_at, single_quoted_at}
+use Rattle.yaml_scan_history.specs.scan_scalars.Plain.{PlainText, starts_plain, plain_at}
+use Rattle.yaml_scan_history.specs.scan_block.Block.{BlockText, block_at, style_at}
+use Rattle.yaml_scan_history.specs.declared.kind.Kind.{Kind}
+use Rattle.yaml_scan_history.specs.declared.kind.Kind.TheVariants as kinds
+use Rattle.yaml_scan_history.specs.Kinds.{is_end}
+use Rattle.yaml_scan_history.specs.Words.{indicator_of, or_plain, kind_at, WordText, carrying, valued, tagged, directed, blocked, plainly, word_at}
+use Rattle.yaml_scan_laws_order.proofs.QuotedForward.{quoted_place}
+use Rattle.yaml_scan_laws_order.proofs.PlainForward.{LandsPlain, plain_place}
+use Rattle.yaml_scan_laws_order.proofs.BlockForward.{LandsBlock, block_place}
+
+less_of : (a b : ℕ) → nat_lt a b ≡ true → a < b
+less_of a b h = grind (arith, nat_tests)
+
+some_of : (b : ℕ) → (b == 0) ≡ false → 0 < b
+some_of b h = grind (arith, nat_tests)
+
+-- what a kind tells of the text where it stands
+abbrev pub Fits : Kind → List ℕ → ℕ → Type 0
+Fits kinds.StreamStart text p = ⊥
+Fits kinds.StreamEnd text p = Unit {0}
+Fits kinds.DocumentStart text p = p + 3 ≤ length text
+Fits kinds.DocumentEnd text p = p + 3 ≤ length text
+Fits _ text p = p < length text
+
+abbrev pub FitsAny : Option Kind → List ℕ → ℕ → Type 0
+FitsAny None text p = Unit {0}
+FitsAny (Some k) text p = Fits k text p
+
+pick : (text : List ℕ) (p : ℕ) (test : Bool) (k : Kind) (rest : Option Kind) → Fits k text p → FitsAny rest text p → FitsAny (if test then Some k else rest) text p
+pick text p true k rest f g = f
+pick text p false k rest f g = g
+
+indicator_fits : (flow alone : Bool) (b : ℕ) (text : List ℕ) (p : ℕ) → p < length text → FitsAny (indicator_of flow alone b) text p
+unfolding indicator_of
+indicator_fits flow alone b text p l =
+    pick text p (b == 91) kinds.FlowSequenceStart _ l
+    (pick text p (b == 123) kinds.FlowMappingStart _ l
+    (pick text p (b == 93) kinds.FlowSequenceEnd _ l
+    (pick text p (b == 125) kinds.FlowMappingEnd _ l
+    (pick text p (b == 44) kinds.FlowEntry _ l
+    (pick text p (b == 45 && alone) kinds.BlockEntry _ l
+    (pick text p (b == 63 && (flow || alone)) kinds.KeyMark _ l
+    (pick text p (b == 58 && (flow || alone)) kinds.ValueMark _ l
+    (pick text p (b == 42) kinds.Alias _ l
+    (pick text p (b == 38) kinds.Anchor _ l
+    (pick text p (b == 33) kinds.Tag _ l
+    (pick text p (b == 124 && not flow) kinds.Literal _ l
+    (pick text p (b == 62 && not flow) kinds.Folded _ l
+    (pick text p (b == 39) kinds.SingleQuoted _ l
+    (pick text p (b == 34) kinds.DoubleQuoted None l tt))))))))))))))
+
+plain_fits : (o : Option Kind) (starts : Bool) (text : List ℕ) (p : ℕ) → p < length text → FitsAny o text p → FitsAny (or_plain o starts) text p
+plain_fits (Some k) starts text p l f = f
+plain_fits None true text p l f = l
+plain_fits None false text p l f = tt
+
+third : (a b c d e x : ℕ) (last : Bool) → ((a == 0 && (b == x && (c == x && d == x))) && last) ≡ true → 0 < x → 0 < d
+third a b c d e x last h some = grind (arith, nat_tests)
+
+start_inside : (text : List ℕ) (p : ℕ) → is_document_start text p ≡ true → p + 3 ≤ length text
+unfolding is_document_start
+start_inside text p h =
+    let here = within text (p + 2) (third (column_at text p) (byte text p) (byte text (p + 1)) (byte text (p + 2)) 0 45 (is_blank_or_end text (p + 3)) h (omega arith)) in
+    omega (arith, here)
+
+end_inside : (text : List ℕ) (p : ℕ) → is_document_end text p ≡ true → p + 3 ≤ length text
+unfolding is_document_end
+end_inside text p h =
+    let here = within text (p + 2) (third (column_at text p) (byte text p) (byte text (p + 1)) (byte text (p + 2)) 0 46 (is_blank_or_end text (p + 3)) h (omega arith)) in
+    omega (arith, here)
+
+-- the kind of what stands there fits
+pub kind_fits : (flow : Bool) (text : List ℕ) (p : ℕ) → FitsAny (kind_at flow text p) text p
+unfolding kind_at
+kind_fits flow text p =
+    elim (cases_Bool (byte text p == 0)) [
+      | inl h ↦ rw h tt
+      | inr h ↦
+          let here = within text p (some_of (byte text p) h) in
+          elim (cases_Bool (byte text p == 37 && column_at text p == 0)) [
+            | inl i ↦ rw (h, i) here
+            | inr i ↦ elim (cases_Bool (is_document_start text p)) [
+              | inl j ↦ rw (h, i, j) (start_inside text p j)
+              | inr j ↦ elim (cases_Bool (is_document_end text p)) [
+                | inl k ↦ rw (h, i, j, k) (end_inside text p k)
+                | inr k ↦ rw (h, i, j, k) (plain_fits (indicator_of flow (is_blank_or_end text (p + 1)) (byte text p)) (starts_plain flow text p) text p here
+                    (indicator_fits flow (is_blank_or_end text (p + 1)) (byte text p) text p here))
+              ]
+            ]
+          ]
+    ]
+
+-- a lexeme ends behind its start, and reaches its end or a place behind it, inside the text
+pub record IsWordFrom (text : List ℕ) (p : ℕ) (w : WordText) : Type 0 where
+  pub end : p < w.end
+  pub place : w.end ≤ w.reached
+  pub inside : w.reached ≤ length text
+
+abbrev pub LandsWord : List ℕ → ℕ → Result WordText Wrong → Type 0
+LandsWord text p (Ok w) = IsWordFrom text p w
+LandsWord text p (Err w) = Unit {0}
+
+indicator_lands : (text : List ℕ) (p q : ℕ) (body : TokenBody) → p < q → q ≤ length text → LandsWord text p (carrying body q)
+indicator_lands text p q body f l = record { end = f; place = omega arith; inside = l }
+
+valued_lands : (text : List ℕ) (p : ℕ) (f : List ℕ → TokenBody) (r : Result (List ℕ × ℕ) Wrong) → Lands behind_bytes text (p + 1) r → LandsWord text p (valued f r)
+valued_lands text p f (Ok x) h = record { end = omega (arith, h.forward); place = omega arith; inside = h.inside }
+valued_lands text p f (Err w) h = tt
+
+tagged_lands : (text : List ℕ) (p : ℕ) (r : Result TagText Wrong) → Lands tag_end text (p + 1) r → LandsWord text p (tagged r)
+tagged_lands text p (Ok t) h = record { end = omega (arith, h.forward); place = omega arith; inside = h.inside }
+tagged_lands text p (Err w) h = tt
+
+plainly_lands : (text : List ℕ) (p : ℕ) (r : Result PlainText Wrong) → LandsPlain text (p + 1) r → LandsWord text p (plainly r)
+plainly_lands text p (Ok x) h = record { end = omega (arith, h.end); place = h.place; inside = h.inside }
+plainly_lands text p (Err w) h = tt
+
+blocked_lands : (text : List ℕ) (p : ℕ) (style : yaml_scalar_style_t) (r : Result BlockText Wrong) → LandsBlock text (p + 1) r → LandsWord text p (blocked style r)
+blocked_lands text p style (Ok x) h = record { end = omega (arith, h.end); place = h.place; inside = h.inside }
+blocked_lands text p style (Err w) h = tt
+
+comment_place : (text : List ℕ) (p : ℕ) → p ≤ length text → IsFrom text p (comment_end text p)
+comment_place text p l =
+    elim (cases_Bool (byte text p == 35)) [
+      | inl h ↦ rw h (run_place _ text p l)
+      | inr h ↦ rw h record { forward = omega arith; inside = l }
+    ]
+
+break_place : (text : List ℕ) (o p : ℕ) → o ≤ p → p ≤ length text → Lands line_place text o (break_end text p)
+break_place text o p f l =
+    elim (cases_Bool (nat_lt 0 (break_width text p))) [
+      | inl h ↦
+          let past = past_break text p (less_of _ _ h) in
+          rw h record { forward = omega (arith, f); inside = past.inside }
+      | inr h ↦ elim (cases_Bool (byte text p == 0)) [
+        | inl i ↦ rw (h, i) record { forward = f; inside = l }
+        | inr i ↦ rw (h, i) tt
+      ]
+    ]
+
+behind_place : (text : List ℕ) (p q : ℕ) → IsFrom text p q → Lands line_place text p (break_end text (comment_end text q))
+behind_place text p q f =
+    let comment = comment_place text q f.inside in
+    break_place text p (comment_end text q) (omega (arith, f.forward, comment.forward)) comment.inside
+
+line_end_place : (text : List ℕ) (p : ℕ) → p ≤ length text → Lands line_place text p (line_end_at text p)
+line_end_place text p l = behind_place text p _ (run_place _ text p l)
+
+line_lands : (text : List ℕ) (p : ℕ) (v : ValueText) (r : Result ℕ Wrong) → p < v.end → Lands line_place text v.end r → LandsWord text p (directed (with_line v r))
+line_lands text p v (Ok q) f h = record { end = f; place = h.forward; inside = h.inside }
+line_lands text p v (Err w) f h = tt
+
+finished_lands : (text : List ℕ) (p : ℕ) (r : Result ValueText Wrong) → Lands value_end text (p + 1) r → LandsWord text p (directed (finished text r))
+finished_lands text p (Ok v) h = line_lands text p v (line_end_at text v.end) (omega (arith, h.forward)) (line_end_place text v.end h.inside)
+finished_lands text p (Err w) h = tt
+
+-- what is read where its kind stands ends behind its start, the stream's end aside
+pub word_lands : (k : Kind) (flow : Bool) (level : ℕ) (text : List ℕ) (p : ℕ) → is_end k ≡ false → Fits k text p → LandsWord text p (word_at k flow level text p)
+unfolding word_at
+word_lands kinds.StreamStart flow level text p e f = absurd f
+word_lands kinds.StreamEnd flow level text p e f = absurd (true≢false e)
+word_lands kinds.Directive flow level text p e f = finished_lands text p (value_at text p) (value_place text p f)
+word_lands kinds.DocumentStart flow level text p e f = indicator_lands text p (p + 3) tokens.document_start (omega arith) f
+word_lands kinds.DocumentEnd flow level text p e f = indicator_lands text p (p + 3) tokens.document_end (omega arith) f
+word_lands kinds.FlowSequenceStart flow level text p e f = indicator_lands text p (p + 1) tokens.flow_sequence_start (omega arith) (omega (arith, f))
+word_lands kinds.FlowMappingStart flow level text p e f = indicator_lands text p (p + 1) tokens.flow_mapping_start (omega arith) (omega (arith, f))
+word_lands kinds.FlowSequenceEnd flow level text p e f = indicator_lands text p (p + 1) tokens.flow_sequence_end (omega arith) (omega (arith, f))
+word_lands kinds.FlowMappingEnd flow level text p e f = indicator_lands text p (p + 1) tokens.flow_mapping_end (omega arith) (omega (arith, f))
+word_lands kinds.FlowEntry flow level text p e f = indicator_lands text p (p + 1) tokens.flow_entry (omega arith) (omega (arith, f))
+word_lands kinds.BlockEntry flow level text p e f = indicator_lands text p (p + 1) tokens.block_entry (omega arith) (omega (arith, f))
+word_lands kinds.KeyMark flow level text p e f = indicator_lands text p (p + 1) tokens.key (omega arith) (omega (arith, f))
+word_lands kinds.ValueMark flow level text p e f = indicator_lands text p (p + 1) tokens.value (omega arith) (omega (arith, f))
+word_lands kinds.Alias flow level text p e f = valued_lands text p tokens.alias (anchor_at contexts.Alias text p) (anchor_place contexts.Alias text p f)
+word_lands kinds.Anchor flow level text p e f = valued_lands text p tokens.anchor (anchor_at contexts.Anchor text p) (anchor_place contexts.Anchor text p f)
+word_lands kinds.Tag flow level text p e f = tagged_lands text p (tag_at flow text p) (tag_place flow text p f)
+word_lands kinds.Literal flow level text p e f = blocked_lands text p (style_at text p) (block_at level text p) (block_place level text p f)
+word_lands kinds.Folded flow level text p e f = blocked_lands text p (style_at text p) (block_at level text p) (block_place level text p f)
+word_lands kinds.SingleQuoted flow level text p e f =
+    valued_lands text p (λ v. tokens.scalar v styles.YAML_SINGLE_QUOTED_SCALAR_STYLE) (single_quoted_at text p) (quoted_place 39 text p)
+word_lands kinds.DoubleQuoted flow level text p e f =
+    valued_lands text p (λ v. tokens.scalar v styles.YAML_DOUBLE_QUOTED_SCALAR_STYLE) (double_quoted_at text p) (quoted_place 34 text p)
+word_lands kinds.Plain flow level text p e f = plainly_lands text p (plain_at flow level text p) (plain_place flow level text p f)

@@ -1,0 +1,98 @@
+//! Each function's contract is a law.
+
+ghost use Rattle.yaml_scan_laws_order.specs.Laws.{
+  GoesForward,
+  LexemesStand,
+  SettledStays,
+  AreFew,
+  StepsCount,
+  AllEnds,
+  LastIsAll,
+  StaysAll,
+  HistoryGrows,
+  HeldIsShort,
+  FewAreHeld,
+  FewWait,
+  OuterIsFirst,
+};
+ghost use Rattle.yaml_scan_laws_order.specs.Streams.{StreamStarts, StreamEnds, FaultEndsNone};
+ghost use Rattle.yaml_scan_laws_order.specs.Fronts.{SettledComes, LastComes, EndsCome, FaultComes, EndComes};
+
+/// Each lexeme stands behind the ones before it: places and lines never go back.
+pub fn goes_forward()
+    ensures { GoesForward }
+{}
+
+/// A lexeme's marks are marks of the text. The stream's start and end take no byte, every other lexeme at least one.
+pub fn lexemes_stand()
+    ensures { LexemesStand }
+{}
+
+/// What stands before the earliest open candidate never changes, whatever follows.
+pub fn settled_stays()
+    ensures { SettledStays }
+{}
+
+/// A text has at most two lexemes more than bytes.
+pub fn are_few()
+    ensures { AreFew }
+{}
+
+/// While lexemes are read, each step reads one.
+pub fn steps_count()
+    ensures { StepsCount }
+{}
+
+/// No lexeme comes behind all of them.
+pub fn all_ends()
+    ensures { AllEnds }
+{}
+
+/// Where no lexeme comes, all are read.
+pub fn last_is_all()
+    ensures { LastIsAll }
+{}
+
+/// Steps behind the last one change nothing.
+pub fn stays_all()
+    ensures { StaysAll }
+{}
+
+/// A further step keeps the lexemes of the steps before it.
+pub fn history_grows()
+    ensures { HistoryGrows }
+{}
+
+/// At most 1,025 lexemes wait for what follows: those from the earliest open candidate on. Where one more is read, at
+/// most 1,024 wait for it.
+pub fn few_are_held()
+    ensures all { FewAreHeld }
+    ensures before { FewWait }
+{}
+
+/// What waits is short: it begins on the line that is reached, at most 1,024 bytes before the place that is reached.
+pub fn held_is_short()
+    ensures { HeldIsShort }
+{}
+
+/// The open candidate outside all brackets is the earliest open one.
+pub fn outer_is_first()
+    ensures { OuterIsFirst }
+{}
+
+/// What comes first of what is to come, where so much of the text is read: a token of the lexeme that is to be taken,
+/// or of those that close levels in front of a candidate, or the fault, or nothing.
+pub fn fronts_come()
+    ensures settled { SettledComes }
+    ensures last { LastComes }
+    ensures ends { EndsCome }
+    ensures fault { FaultComes }
+    ensures nothing { EndComes }
+{}
+
+/// The tokens of a text begin with STREAM-START. They end in STREAM-END where no fault comes, and hold it nowhere else.
+pub fn stream_is_framed()
+    ensures starts { StreamStarts }
+    ensures ends { StreamEnds }
+    ensures none { FaultEndsNone }
+{}

@@ -1,0 +1,20 @@
+-- Decoded texts are UTF-8.
+use Rattle.std.proofs.Common.{◌≡◌, ℕ, true, List, [], ◌∷◌, refl, sym, IsUtf8}
+use Rattle.std.specs.Char.{IsScalar}
+use Rattle.std.specs.List.{AllPass}
+use Rattle.std.specs.Str.{all_scalars}
+use Rattle.std.proofs.lemmas.List.Elements.{All-head, All-tail}
+use Rattle.yaml_scan_history.specs.scan_model.declared.name.yaml_encoding_t.{yaml_encoding_t}
+use Rattle.yaml_scan_decode.specs.Characters.{is_allowed}
+use Rattle.yaml_scan_decode.specs.Spelling.{Spells}
+use Rattle.yaml_scan_decode.proofs.SpellingLemmas.{allowed_scalar}
+
+are_scalars : (cs : List ℕ) → AllPass is_allowed cs → all_scalars cs ≡ true
+are_scalars [] h = refl
+are_scalars (c ∷ cs) h =
+    let own : IsScalar c = allowed_scalar c (All-head (λ x. is_allowed x ≡ true) c cs h) in
+    let rest = are_scalars cs (All-tail (λ x. is_allowed x ≡ true) c cs h) in
+    rw (own, rest) refl
+
+pub spelled_utf8 : (setting : yaml_encoding_t) (bytes text : List ℕ) → Spells setting bytes text → IsUtf8 text
+spelled_utf8 setting bytes text s = (s.characters, (are_scalars s.characters s.allowed, sym s.is))

@@ -1,6 +1,0 @@
-pub mod HistoryLemmas
--- what it stands on, for crates of laws that name this one alone
-pub use Rattle.yaml_scan_text.proofs as scan_text
-pub use Rattle.yaml_scan_words.proofs as scan_words
-pub use Rattle.yaml_scan_scalars.proofs as scan_scalars
-pub use Rattle.yaml_scan_block.proofs as scan_block

@@ -1,5 +1,0 @@
-use Rattle.yaml_scan_layout.proofs.HistoryLemmas.{take-handed}
-use Rattle.yaml_scan_layout.proofs.laws.settled_stays.Goals as goal
-
-pub returns : goal.returns
-returns c = λ text go n m room low. take-handed text go n m room low

@@ -1,0 +1,87 @@
+-- Breaks: what they read as, and where they end.
+use Rattle.std.proofs.Common.{◌≡◌, ◌≢◌, ℕ, ◌+◌, ◌-◌, ◌<◌, ◌≤◌, ◌==◌, nat_lt, true, false, List, [], ◌∷◌, length, refl, sym, inl, inr, arith}
+use Rattle.std.proofs.lemmas.Bool.{cases_Bool}
+use Rattle.std.proofs.lemmas.Bool.Decides.{nat_tests}
+use Rattle.yaml_scan_model.specs.Marks.{byte, break_of, ends_of, break_width, ends_break, is_blank}
+use Rattle.yaml_scan_model.specs.Breaks.{break_value, feed_at}
+use Rattle.yaml_scan_model.proofs.MarksLemmas.{widths, one, two, three}
+
+positive : (n : ℕ) → 0 < n → nat_lt 0 n ≡ true
+positive n h = grind (arith, nat_tests)
+
+pub value_three : (text : List ℕ) (p : ℕ) → break_width text p ≡ 3 → break_value text p ≡ 0xE2 ∷ 0x80 ∷ byte text (p + 2) ∷ []
+unfolding break_value
+value_three text p w = rw w refl
+
+pub value_other : (text : List ℕ) (p : ℕ) → break_width text p ≢ 3 → break_value text p ≡ 10 ∷ []
+unfolding break_value
+value_other text p w = let f : (break_width text p == 3) ≡ false = grind (arith, nat_tests) in rw f refl
+
+second : (b c d : ℕ) → break_of b c d ≡ 3 → d ≢ 168 → d ≡ 169
+unfolding break_of
+second b c d h k = grind (arith, nat_tests)
+
+pub feed_first : (text : List ℕ) (p : ℕ) → break_width text p ≡ 3 → byte text (p + 2) ≡ 168 → 226 ∷ 128 ∷ 168 ∷ [] ≡ feed_at text p
+feed_first text p w h = rw (value_three text p w, w, h) refl
+
+pub feed_second : (text : List ℕ) (p : ℕ) → break_width text p ≡ 3 → byte text (p + 2) ≢ 168 → 226 ∷ 128 ∷ 169 ∷ [] ≡ feed_at text p
+feed_second text p w h = let e : byte text (p + 2) ≡ 169 = second _ _ _ w h in rw (value_three text p w, w, e) refl
+
+pub feed_other : (text : List ℕ) (p : ℕ) → 0 < break_width text p → break_width text p ≢ 3 → 10 ∷ [] ≡ feed_at text p
+feed_other text p w h = rw (value_other text p h, positive (break_width text p) w) refl
+
+pub feed_some : (text : List ℕ) (p : ℕ) → 0 < break_width text p → feed_at text p ≡ break_value text p
+feed_some text p h = rw (positive (break_width text p) h) refl
+
+pub value_long : (text : List ℕ) (p : ℕ) → 0 < length (break_value text p)
+unfolding break_value
+value_long text p = elim (cases_Bool (break_width text p == 3)) [
+  | inl w ↦ rw w (omega arith)
+  | inr w ↦ rw w (omega arith)
+]
+
+-- a blank ends no break
+pub no_end-blank : (x y b c : ℕ) → is_blank b ≡ true → ends_of x y b c ≡ false
+unfolding ends_of
+no_end-blank x y b c h = grind (arith, nat_tests)
+
+pub end_not_blank : (x y b c : ℕ) → ends_of x y b c ≡ true → is_blank b ≡ false
+unfolding ends_of
+end_not_blank x y b c h = grind (arith, nat_tests)
+
+-- the last byte of a break
+pub record Last (text : List ℕ) (p q : ℕ) : Type 0 where
+  pub byte_at : ℕ
+  pub next : q ≡ byte_at + 1
+  pub ends : ends_break text byte_at ≡ true
+  pub after : p ≤ byte_at
+
+last_one : (text : List ℕ) (p : ℕ) → break_width text p ≡ 1 → Last text p (p + 1)
+last_one text p h =
+    let (e, s, l) = one (byte text (p - 2)) (byte text (p - 1)) (byte text p) (byte text (p + 1)) (byte text (p + 2)) h in
+    record { byte_at = p; next = refl; ends = e; after = omega arith }
+
+last_two : (text : List ℕ) (p : ℕ) → break_width text p ≡ 2 → Last text p (p + 2)
+last_two text p h =
+    let (e, f, s, l) = two (byte text (p - 2)) (byte text (p - 1)) (byte text p) (byte text (p + 1)) (byte text (p + 2)) (byte text (p + 3)) h in
+    let i : p + 1 - 1 ≡ p = omega arith in
+    let j : p + 1 - 2 ≡ p - 1 = omega arith in
+    let k : p + 1 + 1 ≡ p + 2 = omega arith in
+    record { byte_at = p + 1; next = sym k; ends = rw (i, j, k) f; after = omega arith }
+
+last_three : (text : List ℕ) (p : ℕ) → break_width text p ≡ 3 → Last text p (p + 3)
+last_three text p h =
+    let (e, f, g, s, l) = three (byte text (p - 2)) (byte text (p - 1)) (byte text p) (byte text (p + 1)) (byte text (p + 2)) (byte text (p + 3)) (byte text (p + 4)) h in
+    let i : p + 2 - 1 ≡ p + 1 = omega arith in
+    let j : p + 2 - 2 ≡ p = omega arith in
+    let k : p + 2 + 1 ≡ p + 3 = omega arith in
+    record { byte_at = p + 2; next = sym k; ends = rw (i, j, k) g; after = omega arith }
+
+pub last_of : (text : List ℕ) (p : ℕ) → 0 < break_width text p → Last text p (p + break_width text p)
+last_of text p h =
+    elim (widths (byte text p) (byte text (p + 1)) (byte text (p + 2))) [
+      | inl z ↦ absurd (omega (arith, z))
+      | inr (inl z) ↦ rw z (last_one text p z)
+      | inr (inr (inl z)) ↦ rw z (last_two text p z)
+      | inr (inr (inr z)) ↦ rw z (last_three text p z)
+    ]

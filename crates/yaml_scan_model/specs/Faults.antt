@@ -1,0 +1,53 @@
+-- Faults, their texts as bytes.
+use Rattle.std.specs.Prelude.{ℕ, ℤ, pos, List, Option, None, option_map, codes, ◌≡◌, Result, Ok, Err, ◌⊎◌}
+use Rattle.yaml_scan_model.specs.declared.name.yaml_error_type_t.{yaml_error_type_t}
+use Rattle.yaml_scan_model.specs.declared.name.yaml_error_type_t.TheVariants.{YAML_MEMORY_ERROR}
+use Rattle.yaml_scan_model.specs.declared.fault.yaml_origin_t.{yaml_origin_t}
+use Rattle.yaml_scan_model.specs.declared.fault.yaml_fault_t.{yaml_fault_t}
+use Rattle.yaml_scan_model.specs.declared.record.yaml_mark_t.{yaml_mark_t}
+use Rattle.yaml_scan_model.specs.Tokens.{zero_mark}
+
+-- a located fault
+pub record Fault : Type 0 where
+  pub kind : yaml_error_type_t
+  pub problem : List ℕ
+  pub offset : ℕ
+  pub number : ℤ
+  pub problem_mark : yaml_mark_t
+  pub context : Option (List ℕ)
+  pub context_mark : yaml_mark_t
+  pub origin : yaml_origin_t
+
+abbrev pub fault_of : yaml_fault_t → Fault
+fault_of f = record {
+  kind = f.kind;
+  problem = f.problem.now;
+  offset = f.offset;
+  number = f.value;
+  problem_mark = f.problem_mark;
+  context = option_map (λ t. t.now) f.context;
+  context_mark = f.context_mark;
+  origin = f.origin;
+}
+
+-- a growth was refused in that layer
+abbrev pub memory_fault : yaml_origin_t → Fault
+memory_fault origin = record {
+  kind = YAML_MEMORY_ERROR;
+  problem = codes "out of memory";
+  offset = 0;
+  number = pos 0;
+  problem_mark = zero_mark;
+  context = None;
+  context_mark = zero_mark;
+  origin = origin;
+}
+
+-- the fault tells that memory ran out
+abbrev pub IsMemoryFault : yaml_fault_t → Type 0
+IsMemoryFault f = f.kind ≡ YAML_MEMORY_ERROR
+
+-- what a call answered, seen by `view`, is an answer by the relation, unless memory ran out
+abbrev pub Answers : {X Y : Type 0} → (X → Y) → (Result Y Fault → Type 0) → Result X yaml_fault_t → Type 0
+Answers view Is (Ok x) = Is (Ok (view x))
+Answers view Is (Err f) = IsMemoryFault f ⊎ Is (Err (fault_of f))

@@ -1,0 +1,30 @@
+-- Runs of bytes of one kind.
+use Rattle.std.specs.Prelude.{ℕ, zero, suc, ◌+◌, Bool, not, ◌||◌, ◌==◌, nat_lt, if◌then◌else◌, List, length}
+use Rattle.yaml_scan_model.specs.Marks.{byte, break_width, is_blank}
+
+-- the first place from there on that is not of the kind, at most n bytes on
+unfoldable pub past : (List ℕ → ℕ → Bool) → ℕ → List ℕ → ℕ → ℕ
+past kind zero text p = p
+past kind (suc n) text p = if kind text p then past kind n text (p + 1) else p
+
+abbrev pub is_blank_there : List ℕ → ℕ → Bool
+is_blank_there text p = is_blank (byte text p)
+
+abbrev pub is_space_there : List ℕ → ℕ → Bool
+is_space_there text p = byte text p == 32
+
+-- neither a break nor the end stands there
+abbrev pub is_text : List ℕ → ℕ → Bool
+is_text text p = not (byte text p == 0 || nat_lt 0 (break_width text p))
+
+-- the place after the blanks there
+abbrev pub past_blanks : List ℕ → ℕ → ℕ
+past_blanks text p = past is_blank_there (length text) text p
+
+-- the place after the spaces there
+abbrev pub past_spaces : List ℕ → ℕ → ℕ
+past_spaces text p = past is_space_there (length text) text p
+
+-- the place of the break or the end behind the text there
+abbrev pub line_end : List ℕ → ℕ → ℕ
+line_end text p = past is_text (length text) text p

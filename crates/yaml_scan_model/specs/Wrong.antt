@@ -1,0 +1,29 @@
+-- Why no lexeme stands at a place, and the refusal that tells it.
+use Rattle.std.specs.Prelude.{ℕ, List, ◌≡◌}
+use Rattle.yaml_scan_model.specs.declared.record.yaml_mark_t.{yaml_mark_t}
+use Rattle.yaml_scan_model.specs.declared.problem.Problem.{Problem}
+use Rattle.yaml_scan_model.specs.declared.problem.Context.{Context}
+use Rattle.yaml_scan_model.specs.declared.problem.ScanFault.{ScanFault}
+use Rattle.yaml_scan_model.specs.declared.problem.ScanError.{ScanError}
+use Rattle.yaml_scan_model.specs.declared.problem.ScanError.TheVariants as errors
+use Rattle.yaml_scan_model.specs.Marks.{mark_at}
+
+-- a problem, what was being read, and the place of the first character that doesn't fit
+pub record Wrong : Type 0 where
+  pub problem : Problem
+  pub context : Context
+  pub place : ℕ
+
+-- the fault of a lexeme that starts at that mark
+abbrev pub scan_fault : List ℕ → yaml_mark_t → Wrong → ScanFault
+scan_fault text start w = record { problem = w.problem; context = w.context; context_mark = start; problem_mark = mark_at text w.place }
+
+-- the refusal tells what is wrong, unless memory ran out
+abbrev pub Refuses : List ℕ → yaml_mark_t → ScanError → Wrong → Type 0
+Refuses text start errors.Memory w = Unit {0}
+Refuses text start (errors.Fault f) w = f ≡ scan_fault text start w
+
+-- memory ran out
+abbrev pub IsMemory : ScanError → Type 0
+IsMemory errors.Memory = Unit {0}
+IsMemory (errors.Fault f) = ⊥

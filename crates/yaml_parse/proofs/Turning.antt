@@ -12,7 +12,7 @@ use Rattle.yaml_parse_grammar.specs.Trees.{Given, Stream, spell, items}
 use Rattle.yaml_parse_grammar.specs.Machine.{Outcome, run, initial, Stands}
 use Rattle.yaml_parse_grammar.specs.Resolve.{Directives, no_directives, Settled, refused, gave, noted, settle, settle_body, resolved, placed, read_on, reading, Reading, Told}
 use Rattle.yaml_parse_grammar.specs.Remaining.{ParserRemaining, parser_remaining, reading_of, waiting, IsFinished, GivesNothing, GivesEvent, EventOf, FaultOf}
-use Rattle.yaml_parse_grammar.proofs.Complete.{nothing_runs, stream_runs}
+use Rattle.yaml_parse_grammar.proofs.CompleteStream.{nothing_runs, stream_runs}
 use Rattle.yaml_parse_grammar.proofs.Voice.{speaks, reading_speaks, not_noted}
 use Rattle.yaml_parse.specs.Steps.{Raw, outcome, IsDirective, GivesItem, GivesNoItem, IsRefused, IsDone, IsSilent, IsTurnRefused, IsOver, Kept}
 use Rattle.yaml_parse.specs.Finds.{GivesNext, GivesEnd}

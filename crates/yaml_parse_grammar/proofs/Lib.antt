@@ -1,4 +1,5 @@
 pub mod Complete
+pub mod CompleteStream
 pub mod Voice
 pub mod Single
 pub mod Utf8

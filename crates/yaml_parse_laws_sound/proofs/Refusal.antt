@@ -10,7 +10,7 @@ use Rattle.yaml_parse_grammar.specs.Items.{RawEvent}
 use Rattle.yaml_parse_grammar.specs.States.{State}
 use Rattle.yaml_parse_grammar.specs.Trees.{Given, Stream, spell, items}
 use Rattle.yaml_parse_grammar.specs.Machine.{choice_at, left_at, Fed, stop, go, with_item, turn, feed, Outcome, finished, carry, ending_at, run, initial}
-use Rattle.yaml_parse_grammar.proofs.Complete.{stream_runs, nothing_runs}
+use Rattle.yaml_parse_grammar.proofs.CompleteStream.{stream_runs, nothing_runs}
 use Rattle.yaml_parse_laws_sound.specs.Laws.{bare, Begins, GoesOn, GoesOnGiving, StandsAt, RefusedAt, RunsOut, FaultsStandAtFirst, FrontsAreNotRefused}
 use Rattle.yaml_parse_laws_sound.proofs.Left.{Over}
 use Rattle.yaml_parse_laws_sound.proofs.Sound.{FedLeft, feed_left}

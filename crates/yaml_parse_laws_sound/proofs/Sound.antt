@@ -14,7 +14,7 @@ use Rattle.yaml_parse_grammar.specs.Trees.{Given, items}
 use Rattle.yaml_parse_grammar.specs.Machine.{choice_at, taken_at, left_at, Fed, stop, go, with_item, given_by, turn, feed, Outcome, finished, carry, ending_at, run, initial}
 use Rattle.yaml_parse_grammar.specs.Resolve.{Directives, Settled, refused, gave, noted, settle, Reading, read_on, reading, no_directives}
 use Rattle.yaml_parse_grammar.specs.Remaining.{reading_of}
-use Rattle.yaml_parse_grammar.proofs.Complete.{stream_runs}
+use Rattle.yaml_parse_grammar.proofs.CompleteStream.{stream_runs}
 use Rattle.yaml_parse_grammar.proofs.Voice.{takes_a_token}
 use Rattle.yaml_parse_grammar.proofs.Single.{opens_node}
 use Rattle.yaml_parse_laws_sound.specs.Laws.{AcceptedAreTrees, AcceptedAreSentences, SentencesAreAccepted}

@@ -4,11 +4,15 @@
 mod choosing;
 mod handles;
 mod item;
+mod leaving;
+mod pushing;
 mod resolving;
 mod taking;
 
 pub use choosing::choose;
 pub use handles::TagDirectives;
 pub use item::{Properties, RawEvent, RawEventBody, Resolved, Shape, State, Tag};
+pub use leaving::leave;
+pub use pushing::open;
 pub use resolving::{Directives, Refusal, settle};
-pub use taking::{leave, open, take};
+pub use taking::take;

@@ -1,21 +1,25 @@
-//! What taking a token gives, built from the moved token, and what leaving a state gives.
+//! What taking a token gives, built from the moved token.
 
-ghost use Rattle.std.specs.Prelude.{◌≡◌, ◌<◌, ◌+◌, ◌++◌, [], ◌∷◌, vec_len, vec_capacity, OnOk, IfOk, IsOkAnd, false, Some, None};
-ghost use Rattle.yaml_parse_grammar.specs.declared.name.Site.TheVariants.{Entry, IndentlessEntry, BlockPair, FlowPair};
+ghost use Rattle.std.specs.Prelude.{◌≡◌, ◌++◌, ◌∷◌, OnOk, IfOk, IsOkAnd, false, Some, None};
+ghost use Rattle.yaml_parse_grammar.specs.declared.name.Site.TheVariants.{IndentlessEntry};
 ghost use Rattle.yaml_parse_grammar.specs.declared.name.Brackets.TheVariants as brackets;
-ghost use Rattle.yaml_parse_grammar.specs.declared.name.Side.TheVariants.{Key, Value};
+ghost use Rattle.yaml_parse_grammar.specs.declared.name.Side.TheVariants.{Key};
 ghost use Rattle.yaml_parse_model.specs.Tokens.{token_of, body_of as token_body_of};
-ghost use Rattle.yaml_parse_grammar.specs.Items.{item_at, blank, node_at, properties_alone};
+ghost use Rattle.yaml_parse_grammar.specs.Items.{item_at, node_at};
 ghost use Rattle.yaml_parse_grammar.specs.Items as item;
 ghost use Rattle.yaml_parse_model.specs.declared.yaml_sequence_style_t.TheVariants.{YAML_BLOCK_SEQUENCE_STYLE};
 ghost use Rattle.yaml_parse_model.specs.declared.yaml_mapping_style_t.TheVariants.{YAML_BLOCK_MAPPING_STYLE};
-ghost use Rattle.yaml_parse_grammar.specs.Trees.{mark_at, flow_shape, end_event, event_at};
+ghost use Rattle.yaml_parse_grammar.specs.Trees.{flow_shape, end_event, event_at};
 ghost use Rattle.yaml_parse_grammar.specs.States as state;
-ghost use Rattle.yaml_parse_grammar.specs.Machine.{not_taken, taken_at, left_at, documents_taken, content_taken, node_taken, with_properties_taken, items_taken, more_taken, stream_taken, entries_taken, pairs_taken, pair_taken, lone_below, opened};
-ghost use Rattle.yaml_parse_machine.specs.Views.{properties_of, properties_option_of, shape_of, plain_of, item_of, item_body_of, given_of, state_of, stack_of};
+ghost use Rattle.yaml_parse_grammar.specs.Machine.{not_taken, taken_at, documents_taken, content_taken, node_taken, with_properties_taken, items_taken, more_taken, stream_taken, entries_taken, pairs_taken, pair_taken};
+ghost use Rattle.yaml_parse_machine.specs.Views.{properties_of, properties_option_of, shape_of, plain_of, item_body_of, given_of, state_of, stack_of};
 
 use crate::choosing::wants;
 use crate::item::{Properties, RawEvent, RawEventBody, Resolved, Shape, State, Tag};
+use crate::pushing::{
+    open, push, push_behind_part, push_block_pair, push_entry, push_indentless, push_mapping_pair,
+    push_sequence_pair,
+};
 use std::alloc::{AllocError, Global};
 use std::mem;
 use yaml_parse_grammar::{Brackets, Side, Site, Wants};
@@ -75,134 +79,6 @@ fn node(
     slot.to = token.end_mark;
     slot.body = RawEventBody::Node { properties, shape };
     Ok(true)
-}
-
-// ---- states on top of the stack, whose last state is the topmost
-
-// A state, for which there is room.
-#[inline(always)]
-fn put(stack: &mut Vec<State>, state: State)
-    requires { vec_len stack.old < vec_capacity stack.old }
-    ensures stack { stack_of stack.new.items ≡ state_of state ∷ stack_of stack.old.items }
-    ensures len { vec_len stack.new ≡ vec_len stack.old + 1 }
-    ensures capacity { vec_capacity stack.new ≡ vec_capacity stack.old }
-{
-    stack.push_reserved(state);
-}
-
-// A state, for which room is made.
-#[inline(always)]
-fn push(stack: &mut Vec<State>, state: State) -> Result<(), AllocError>
-    ensures { OnOk result (stack_of stack.new.items ≡ state_of state ∷ stack_of stack.old.items) }
-{
-    stack.reserve(1)?;
-    put(stack, state);
-    Ok(())
-}
-
-/// The states of a document, whose `---` ends there.
-pub fn open(stack: &mut Vec<State>, before: yaml_mark_t) -> Result<(), AllocError>
-    ensures { OnOk result (stack_of stack.new.items ≡ opened before ++ stack_of stack.old.items) }
-{
-    stack.reserve(3)?;
-    put(stack, State::Documents);
-    put(stack, State::DocumentEnd);
-    put(stack, State::Optional(Site::Root, before));
-    Ok(())
-}
-
-// A part behind a `-` that ends there, of a sequence that isn't indented, and its further parts.
-fn push_indentless(stack: &mut Vec<State>, side: Side, end: yaml_mark_t) -> Result<(), AllocError>
-    ensures { OnOk result (stack_of stack.new.items ≡ state.optional (IndentlessEntry side) end ∷ state.others side ∷ stack_of stack.old.items) }
-{
-    stack.reserve(2)?;
-    put(stack, State::Others(side));
-    put(stack, State::Optional(Site::IndentlessEntry(side), end));
-    Ok(())
-}
-
-// A part behind a `-` that ends there, and the further parts.
-fn push_entry(
-    stack: &mut Vec<State>,
-    opener: yaml_mark_t,
-    end: yaml_mark_t,
-) -> Result<(), AllocError>
-    ensures { OnOk result (stack_of stack.new.items ≡ state.optional Entry end ∷ state.entries opener ∷ stack_of stack.old.items) }
-{
-    stack.reserve(2)?;
-    put(stack, State::Entries(opener));
-    put(stack, State::Optional(Site::Entry, end));
-    Ok(())
-}
-
-// A pair of a block mapping behind a key's indicator that ends there, and the further pairs.
-fn push_block_pair(
-    stack: &mut Vec<State>,
-    opener: yaml_mark_t,
-    end: yaml_mark_t,
-) -> Result<(), AllocError>
-    ensures { OnOk result (stack_of stack.new.items ≡ state.optional (BlockPair Key) end ∷ state.colon (BlockPair Value) ∷ state.pairs opener ∷ stack_of stack.old.items) }
-{
-    stack.reserve(3)?;
-    put(stack, State::Pairs(opener));
-    put(stack, State::Colon(Site::BlockPair(Side::Value)));
-    put(stack, State::Optional(Site::BlockPair(Side::Key), end));
-    Ok(())
-}
-
-// A pair inside the brackets of a sequence behind a key's indicator that ends there, the end of its own mapping, and
-// what follows it in them.
-fn push_sequence_pair(
-    stack: &mut Vec<State>,
-    opener: yaml_mark_t,
-    end: yaml_mark_t,
-) -> Result<(), AllocError>
-    ensures { OnOk result (stack_of stack.new.items ≡ state.optional (FlowPair brackets.Sequence Key) end ∷ state.colon (FlowPair brackets.Sequence Value) ∷ state.pair_end ∷ state.more brackets.Sequence opener ∷ stack_of stack.old.items) }
-{
-    let brackets = Brackets::Sequence;
-    stack.reserve(4)?;
-    put(stack, State::More(brackets, opener));
-    put(stack, State::PairEnd);
-    put(stack, State::Colon(Site::FlowPair(brackets, Side::Value)));
-    put(
-        stack,
-        State::Optional(Site::FlowPair(brackets, Side::Key), end),
-    );
-    Ok(())
-}
-
-// A pair inside the brackets of a mapping behind a key's indicator that ends there, and what follows it in them.
-fn push_mapping_pair(
-    stack: &mut Vec<State>,
-    opener: yaml_mark_t,
-    end: yaml_mark_t,
-) -> Result<(), AllocError>
-    ensures { OnOk result (stack_of stack.new.items ≡ state.optional (FlowPair brackets.Mapping Key) end ∷ state.colon (FlowPair brackets.Mapping Value) ∷ state.more brackets.Mapping opener ∷ stack_of stack.old.items) }
-{
-    let brackets = Brackets::Mapping;
-    stack.reserve(3)?;
-    put(stack, State::More(brackets, opener));
-    put(stack, State::Colon(Site::FlowPair(brackets, Side::Value)));
-    put(
-        stack,
-        State::Optional(Site::FlowPair(brackets, Side::Key), end),
-    );
-    Ok(())
-}
-
-// What comes behind a part that stands inside brackets.
-fn push_behind_part(
-    stack: &mut Vec<State>,
-    brackets: Brackets,
-    opener: yaml_mark_t,
-) -> Result<(), AllocError>
-    ensures { OnOk result (stack_of stack.new.items ≡ lone_below brackets (state.more brackets opener ∷ []) ++ stack_of stack.old.items) }
-{
-    push(stack, State::More(brackets, opener))?;
-    match brackets {
-        Brackets::Sequence => Ok(()),
-        Brackets::Mapping => push(stack, State::Lone),
-    }
 }
 
 // A new box for the properties of a node.
@@ -673,65 +549,5 @@ pub fn take(
         State::More(brackets, opener) => at_more(stack, brackets, opener, token, slot),
         State::PairEnd => nothing(stack, slot),
         State::Lone => nothing(stack, slot),
-    }
-}
-
-// Where a left-out node stands, whose indicator ends at one mark, and behind which a token begins at the other.
-fn empty_mark(place: Site, before: yaml_mark_t, next: yaml_mark_t) -> yaml_mark_t
-    ensures { result ≡ mark_at place before next }
-{
-    match place {
-        Site::Root => next,
-        Site::FlowPair(_, _) => next,
-        Site::Entry => before,
-        Site::IndentlessEntry(_) => before,
-        Site::BlockPair(_) => before,
-    }
-}
-
-// An empty node without properties.
-fn leave_blank(slot: &mut RawEvent, mark: yaml_mark_t)
-    ensures { item_of slot.new ≡ blank mark }
-{
-    slot.body = RawEventBody::Node {
-        properties: None,
-        shape: Shape::Empty,
-    };
-    slot.from = mark;
-    slot.to = mark;
-}
-
-// An empty node that has nothing but properties.
-fn leave_with_properties(slot: &mut RawEvent, p: Box<Properties>)
-    ensures { item_of slot.new ≡ properties_alone (properties_of p.value) }
-{
-    slot.from = p.from;
-    slot.to = p.to;
-    slot.body = RawEventBody::Node {
-        properties: Some(p),
-        shape: Shape::Empty,
-    };
-}
-
-// An event that stands before a token that begins there.
-fn leave_event(slot: &mut RawEvent, event: Resolved, start: yaml_mark_t)
-    ensures { item_of slot.new ≡ event_at (plain_of event) start start }
-{
-    slot.body = RawEventBody::Event(event);
-    slot.from = start;
-    slot.to = start;
-}
-
-/// What the state gives as it is left before a token that begins there stands in the slot.
-pub fn leave(state: State, start: yaml_mark_t, slot: &mut RawEvent)
-    ensures { item_of slot.new ≡ left_at (state_of state) start }
-{
-    match state {
-        State::Optional(place, before) => leave_blank(slot, empty_mark(place, before, start)),
-        State::DocumentEnd => leave_event(slot, Resolved::DocumentEnd { implicit: true }, start),
-        State::Others(_) => leave_event(slot, Resolved::SequenceEnd, start),
-        State::WithProperties(_, properties) => leave_with_properties(slot, properties),
-        State::PairEnd => leave_event(slot, Resolved::MappingEnd, start),
-        _ => leave_blank(slot, start),
     }
 }

@@ -185,6 +185,7 @@ pub fn yaml_emitter_delete(emitter: yaml_emitter_t) {
 
 impl yaml_emitter_t {
     // The settings come into force with the first event.
+    // Out of line: it runs once a stream.
     #[inline(never)]
     fn begin(&mut self, event: &yaml_event_body_t)
         requires { self.old.fresh ≡ true }
@@ -226,6 +227,7 @@ impl yaml_emitter_t {
         }
     }
 
+    // Inlined: one look at the fault.
     #[inline(always)]
     fn answer(&self) -> Result<(), yaml_fault_t>
         ensures answer { Answers self.now.fault result }
@@ -238,6 +240,7 @@ impl yaml_emitter_t {
     }
 
     // Takes an event, unless a fault has come. What is left of the event counts for nothing.
+    // Out of line: the whole work on an event stands once, not in each of its callers.
     #[inline(never)]
     fn give(&mut self, event: &mut yaml_event_body_t)
         requires { HasUtf8 (body_of event.old) }
@@ -255,6 +258,7 @@ impl yaml_emitter_t {
     }
 
     // The same, and the answer, which isn't built where nobody looks at it.
+    // Inlined: two calls in a row.
     #[inline(always)]
     fn emit_from(&mut self, event: &mut yaml_event_body_t) -> Result<(), yaml_fault_t>
         requires { HasUtf8 (body_of event.old) }

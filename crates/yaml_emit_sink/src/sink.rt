@@ -117,6 +117,7 @@ impl Sink {
     }
 
     // A character, and what the cursor becomes.
+    // Out of line: the general way, so that the fast way before it stays small where it is inlined.
     #[inline(never)]
     fn stroke(&mut self, c: char, ends: bool, white: bool, bare: bool)
         ensures { Puts self.old self.new (stroke c ends white bare) }
@@ -324,6 +325,7 @@ impl Sink {
     }
 
     /// A character with a space in front where one is due.
+    // Inlined: mostly a byte or two, for which there is room.
     #[inline(always)]
     pub fn put_inline_indicator(&mut self, c: char)
         ensures { Puts self.old self.new (word (c ∷ [])) }
@@ -381,6 +383,7 @@ impl Sink {
         }
     }
 
+    // Out of line: the rare way of a line, beside the short one.
     #[inline(never)]
     fn put_long_line(&mut self, line_break: LineBreak, indent: u64)
         ensures { Puts self.old self.new (fresh line_break indent) }

@@ -78,6 +78,7 @@ fn is_kept(canonical: bool, left_out: bool) -> bool
     canonical || !left_out
 }
 
+// Inlined: most nodes have no property, and are asked so in place.
 #[inline(always)]
 fn put_properties(
     sink: &mut Sink,
@@ -180,6 +181,7 @@ fn is_marked(
     !is_written(canonical, plain || quoted, tag) && !quoted && !is_plain(chosen)
 }
 
+// Inlined: canonical form knows the style, so that one arm is left there.
 #[inline(always)]
 fn put_lines(sink: &mut Sink, settings: &Settings, spot: Spot, style: Style, value: &[u8])
     requires { IsUtf8 value.now }
@@ -242,6 +244,7 @@ fn put_canonical_scalar(
 }
 
 // A scalar in pretty form, or in either.
+// Out of line: it holds all styles, and canonical scalars go by it.
 #[inline(never)]
 #[tactic(auto, unfolding(yaml_emit_layout::specs::Nodes::scalar_layout))]
 fn put_any_scalar(

@@ -118,6 +118,7 @@ impl Core {
     }
 
     // An event in its right place.
+    // Inlined into its one caller: no call stands between an event's judgement and its text.
     #[inline(always)]
     fn take(&mut self, event: &mut yaml_event_body_t, empty: bool)
         requires { HasUtf8 (body_of event.old) }

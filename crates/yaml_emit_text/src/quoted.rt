@@ -181,6 +181,7 @@ fn quoted_bounds(page: Page) -> Bounds
 }
 
 // What stands in front as it is, behind a character: the last character before what is left, and that.
+// Inlined into the loop over runs.
 #[inline(always)]
 fn put_quoted_run<'a>(sink: &mut Sink, page: Page, before: char, left: &'a str) -> (char, &'a str)
     ensures text { Owes sink.old sink.new (quoted_body page before (chars left.now)) (quoted_body page result.0 (chars result.1.now)) }
@@ -192,6 +193,7 @@ fn put_quoted_run<'a>(sink: &mut Sink, page: Page, before: char, left: &'a str) 
     (last_of(before, run), rest)
 }
 
+// Out of line: a loop of its own keeps the addresses of fields that it uses.
 #[inline(never)]
 fn put_quoted_body(sink: &mut Sink, page: Page, value: &str)
     ensures { Puts sink.old sink.new (quoted_body page 32 (chars value.now)) }

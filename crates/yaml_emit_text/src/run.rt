@@ -37,6 +37,7 @@ fn runs_on(bounds: Bounds, column: u64, byte: u8) -> bool
 }
 
 // The bytes in front that run on from that column.
+// Inlined: its bounds are known where it is called.
 #[inline(always)]
 fn run_length(bounds: Bounds, column: u64, bytes: &[u8]) -> usize
     requires { column < 2 ^ 63 }
@@ -78,6 +79,7 @@ fn calm_length(bytes: &[u8]) -> usize
 }
 
 // A text, cut behind some bytes in ASCII.
+// Inlined: two slices.
 #[inline(always)]
 fn cut<'a>(left: &'a str, count: usize) -> (&'a [u8], &'a str)
     requires inside { count ≤ length left.now }
@@ -93,6 +95,7 @@ fn cut<'a>(left: &'a str, count: usize) -> (&'a [u8], &'a str)
 }
 
 /// A text, cut behind the bytes in front that run on from that column.
+// Inlined: its bounds are known where it is called.
 #[inline(always)]
 pub(crate) fn split_run<'a>(bounds: Bounds, column: u64, left: &'a str) -> (&'a [u8], &'a str)
     requires { column < 2 ^ 63 }

@@ -13,6 +13,7 @@ use crate::quoted::put_double_quoted;
 use yaml_emit_sink::Sink;
 
 /// A scalar in that style, inside a flow collection or not. The digit is the indent's, for block scalars.
+// Inlined: where the style is known one arm is left.
 #[inline(always)]
 #[tactic(auto, unfolding(crate::specs::Scalars::scalar_text))]
 pub fn put_styled(sink: &mut Sink, page: Page, digit: u64, flow: bool, style: Style, value: &str)

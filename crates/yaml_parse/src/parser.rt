@@ -62,6 +62,7 @@ impl<S: yaml_token_source_t> Model for yaml_parser_t<S> {
 }
 
 impl<S: yaml_token_source_t> yaml_parser_t<S> {
+    // Out of line: in a loop LLVM would put the addresses of all fields aside at each entry.
     #[inline(never)]
     fn turn(&mut self, event: &mut yaml_event_t, fault: &mut yaml_fault_t) -> Turn
         ensures turns { Turns self.old (turned result (event_of event.new) (fault_of fault.new)) self.new }

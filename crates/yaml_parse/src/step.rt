@@ -194,6 +194,7 @@ fn stepping(
 }
 
 /// One step over the grammar.
+// Inlined into its one caller, the turn.
 #[inline(always)]
 pub fn advance<S: yaml_token_source_t>(
     source: &mut S,
@@ -217,6 +218,7 @@ pub fn advance<S: yaml_token_source_t>(
 }
 
 /// One step, with tags and directives resolved. After a refusal the stack is empty.
+// Inlined into its one caller, the turn of the parser.
 #[inline(always)]
 pub fn take_turn<S: yaml_token_source_t>(
     alloc: Global,

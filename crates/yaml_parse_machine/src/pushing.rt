@@ -14,6 +14,7 @@ use yaml_parse_grammar::{Brackets, Side, Site};
 use yaml_parse_model::yaml_mark_t;
 
 // A state, for which there is room.
+// Inlined: one move, where room is known.
 #[inline(always)]
 fn put(stack: &mut Vec<State>, state: State)
     requires { vec_len stack.old < vec_capacity stack.old }
@@ -25,6 +26,7 @@ fn put(stack: &mut Vec<State>, state: State)
 }
 
 // A state, for which room is made.
+// Inlined: its state is known, so that it is built in its place.
 #[inline(always)]
 pub(crate) fn push(stack: &mut Vec<State>, state: State) -> Result<(), AllocError>
     ensures { OnOk result (stack_of stack.new.items ≡ state_of state ∷ stack_of stack.old.items) }

@@ -45,6 +45,7 @@ fn give(
 }
 
 // The token's own event in the slot.
+// Inlined: its event is known, so that it is built in the slot.
 #[inline(always)]
 fn tell(slot: &mut RawEvent, event: Resolved, token: &yaml_token_t) -> Result<bool, AllocError>
     ensures { IsOkAnd result (λ b. given_of b slot.new ≡ Some (event_at (plain_of event) token.now.start_mark token.now.end_mark)) }
@@ -66,6 +67,7 @@ fn beginning(properties: &Option<Box<Properties>>, start: yaml_mark_t) -> yaml_m
 }
 
 // A node behind its properties, if it has any, whose first token that is.
+// Inlined: its shape is known, so that it is built in the slot.
 #[inline(always)]
 fn node(
     slot: &mut RawEvent,
@@ -293,6 +295,7 @@ fn open_others(
     node(slot, properties, block_sequence(), token)
 }
 
+// Inlined into its callers' arms, which know whether there are properties.
 #[inline(always)]
 fn at_content(
     stack: &mut Vec<State>,
@@ -328,6 +331,7 @@ fn at_content(
     }
 }
 
+// Inlined into the arm of its state.
 #[inline(always)]
 fn at_node(
     stack: &mut Vec<State>,

@@ -20,6 +20,7 @@ fn is_ascii(bytes: &[u8]) -> bool
 
 // Most tags are short and ASCII alone: a look at them costs less than what the decoder of UTF-8 sets up. Inlined, the
 // decoder's aligned buffer would take a register from the whole step of the parser.
+// Out of line: the decoder sets up a buffer, and few tags have a byte beyond ASCII.
 #[inline(never)]
 fn is_text(bytes: &[u8]) -> bool
     ensures { result ≡ is_utf8 bytes.now }

@@ -22,6 +22,7 @@ fn push_escape(line: &mut Vec<u8>, indicator: u8) -> Result<(), AllocError>
 }
 
 // Adds a byte of a tag or a value.
+// Inlined: one byte, mostly with room.
 #[inline(always)]
 #[tactic(auto, unfolding(crate::specs::EventLine::escaped_byte))]
 fn push_byte(line: &mut Vec<u8>, byte: u8) -> Result<(), AllocError>
@@ -123,6 +124,7 @@ fn push_run<'a>(line: &mut Vec<u8>, left: &'a [u8]) -> Result<&'a [u8], AllocErr
 }
 
 // Adds the text of a tag or a value, by runs of kept bytes.
+// Out of line: for texts of 16 bytes and more.
 #[inline(never)]
 fn push_runs(line: &mut Vec<u8>, text: &[u8]) -> Result<(), AllocError>
     ensures { OnOk result (line.new.items ≡ line.old.items ++ escaped text.now) }
@@ -182,6 +184,7 @@ fn style_indicator(style: yaml_scalar_style_t) -> u8
 }
 
 // Adds an anchor and a tag, of which there is one at least.
+// Out of line: most nodes have no property.
 #[inline(never)]
 fn push_some_properties(
     line: &mut Vec<u8>,
@@ -195,6 +198,7 @@ fn push_some_properties(
 }
 
 // Adds an anchor and a tag.
+// Inlined: most nodes have no property, and are asked so in place.
 #[inline(always)]
 fn push_properties(
     line: &mut Vec<u8>,

@@ -163,6 +163,7 @@ impl<'a> Machine<'a> {
     }
 
     /// Whether the next token is known, whatever follows.
+    // Inlined: two comparisons, asked for each token.
     #[inline(always)]
     pub(crate) fn has_token(&self) -> bool
         ensures { result ≡ is_ready self.now }

@@ -200,6 +200,7 @@ fn document_mark(reader: &mut Reader, body: yaml_token_body_t) -> Word
     carrier(reader, body)
 }
 
+// Out of line: it writes its answer where it is wanted; in line all answers are taken apart.
 #[inline(never)]
 fn directive_word(alloc: Global, reader: &mut Reader) -> Result<Word, ScanError>
     requires { byte reader.old.text reader.old.at ≡ 37 }
@@ -224,6 +225,7 @@ fn directive_body(directive: Directive) -> yaml_token_body_t
     }
 }
 
+// Out of line: it writes its answer where it is wanted; in line all answers are taken apart.
 #[inline(never)]
 fn alias_word(alloc: Global, reader: &mut Reader) -> Result<Word, ScanError>
     requires { byte reader.old.text reader.old.at ≡ 42 }
@@ -237,6 +239,7 @@ fn alias_word(alloc: Global, reader: &mut Reader) -> Result<Word, ScanError>
     })
 }
 
+// Out of line: it writes its answer where it is wanted; in line all answers are taken apart.
 #[inline(never)]
 fn anchor_word(alloc: Global, reader: &mut Reader) -> Result<Word, ScanError>
     requires { byte reader.old.text reader.old.at ≡ 38 }
@@ -250,6 +253,7 @@ fn anchor_word(alloc: Global, reader: &mut Reader) -> Result<Word, ScanError>
     })
 }
 
+// Out of line: it writes its answer where it is wanted; in line all answers are taken apart.
 #[inline(never)]
 fn tag_word(alloc: Global, reader: &mut Reader, flow: bool) -> Result<Word, ScanError>
     requires { byte reader.old.text reader.old.at ≡ 33 }
@@ -266,6 +270,7 @@ fn tag_word(alloc: Global, reader: &mut Reader, flow: bool) -> Result<Word, Scan
     })
 }
 
+// Out of line: it writes its answer where it is wanted; in line all answers are taken apart.
 #[inline(never)]
 fn block_word(alloc: Global, reader: &mut Reader, level: u64) -> Result<Word, ScanError>
     requires level { level ≤ length reader.old.text + 1 }
@@ -283,6 +288,7 @@ fn block_word(alloc: Global, reader: &mut Reader, level: u64) -> Result<Word, Sc
     })
 }
 
+// Out of line: it writes its answer where it is wanted; in line all answers are taken apart.
 #[inline(never)]
 fn single_word(alloc: Global, reader: &mut Reader) -> Result<Word, ScanError>
     requires { byte reader.old.text reader.old.at ≡ 39 }
@@ -299,6 +305,7 @@ fn single_word(alloc: Global, reader: &mut Reader) -> Result<Word, ScanError>
     })
 }
 
+// Out of line: it writes its answer where it is wanted; in line all answers are taken apart.
 #[inline(never)]
 fn double_word(alloc: Global, reader: &mut Reader) -> Result<Word, ScanError>
     requires { byte reader.old.text reader.old.at ≡ 34 }
@@ -315,6 +322,7 @@ fn double_word(alloc: Global, reader: &mut Reader) -> Result<Word, ScanError>
     })
 }
 
+// Out of line: it writes its answer where it is wanted; in line all answers are taken apart.
 #[inline(never)]
 fn plain_word(alloc: Global, reader: &mut Reader, flow: bool, level: u64) -> Result<Word, ScanError>
     requires { plains.starts_plain flow reader.old.text reader.old.at ≡ true }

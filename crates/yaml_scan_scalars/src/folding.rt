@@ -73,6 +73,7 @@ impl Folding {
     }
 
     /// Bytes that stay.
+    // Inlined: what is kept is mostly one run, appended where it is found.
     #[inline(always)]
     pub(crate) fn keep(&mut self, bytes: &[u8]) -> Result<(), AllocError>
         ensures value { OnOk result ((ps : List Piece) → resume self.new ps ≡ resume self.old (Kept bytes.now ∷ ps)) }

@@ -14,6 +14,7 @@ use yaml_scan_model::{Context, Problem, Reader, ScanError};
 ///
 /// The context is `Anchor` or `Alias`; it stands in the fault. A name that is empty, or goes on with what may not follow it, is
 /// refused at its end.
+// Inlined into its two callers, each a call of its own.
 #[inline(always)]
 pub fn anchor(alloc: Global, reader: &mut Reader, context: Context) -> Result<Word, ScanError>
     requires { (byte reader.old.text reader.old.at ≡ 38) ⊎ (byte reader.old.text reader.old.at ≡ 42) }
@@ -35,6 +36,7 @@ pub fn anchor(alloc: Global, reader: &mut Reader, context: Context) -> Result<Wo
 }
 
 /// Whether a name may end here.
+// Inlined: one look at a byte.
 #[inline(always)]
 #[tactic(auto, unfolding(crate::specs::Anchors::may_end_name))]
 fn may_end_name(reader: &Reader) -> bool

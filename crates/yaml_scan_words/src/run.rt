@@ -25,6 +25,7 @@ pub(crate) enum Run {
 
 /// Whether what stands there belongs to the run.
 #[tactic(auto, unfolding(crate::specs::Runs::belongs))]
+// Inlined into the loop over bytes.
 #[inline(always)]
 pub(crate) fn belongs(run: Run, text: &[u8], place: usize) -> bool
     ensures { result ≡ spec.belongs run text.now place }
@@ -59,6 +60,7 @@ static RANKS: [u8; 256] = *b"\
     00000000000000000000000000000000";
 
 /// Whether the byte is one of `0-9 A-Z a-z _ -`.
+// Inlined into the loop over bytes.
 #[inline(always)]
 fn is_alpha(byte: u8) -> bool
     ensures { result ≡ is_alpha_byte byte }
@@ -67,6 +69,7 @@ fn is_alpha(byte: u8) -> bool
 }
 
 /// Whether a URI holds the character as it is.
+// Inlined into the loop over bytes.
 #[inline(always)]
 pub(crate) fn is_kept(byte: u8, wide: bool) -> bool
     ensures { result ≡ is_kept wide byte }
@@ -80,6 +83,7 @@ pub(crate) fn is_kept(byte: u8, wide: bool) -> bool
 
 /// Whether one of `0-9 A-Z a-z _ -` stands there.
 #[tactic(auto, unfolding(crate::specs::Runs::belongs))]
+// Inlined into the loop over bytes.
 #[inline(always)]
 fn alpha_at(text: &[u8], place: usize) -> bool
     ensures { result ≡ spec.belongs runs.Alphas text.now place }
@@ -88,6 +92,7 @@ fn alpha_at(text: &[u8], place: usize) -> bool
 }
 
 /// The place behind the alphas that stand there.
+// Inlined: a loop of a load and a comparison a byte.
 #[inline(always)]
 pub(crate) fn alphas_end(text: &[u8], from: usize) -> usize
     ensures { result ≡ spec.run_end runs.Alphas text.now from }
@@ -100,6 +105,7 @@ pub(crate) fn alphas_end(text: &[u8], from: usize) -> usize
 }
 
 /// The place behind the indicator that stands here and the alphas that follow it.
+// Inlined: a loop of a load and a comparison a byte.
 #[inline(always)]
 pub(crate) fn name_end(reader: &Reader) -> usize
     requires { 0 < byte reader.now.text reader.now.at }
@@ -109,6 +115,7 @@ pub(crate) fn name_end(reader: &Reader) -> usize
 }
 
 /// Past ASCII characters that are printed and no spaces, up to that place.
+// Inlined: one store.
 #[inline(always)]
 pub(crate) fn leap(reader: &mut Reader, end: usize)
     requires forward { reader.old.at ≤ end }

@@ -20,6 +20,7 @@ pub(crate) struct Spelling {
 }
 
 /// The bytes that the URI spells which stands here, one at least. Where it is wide, `,`, `[` and `]` belong to it.
+// Inlined into its callers, which are calls of their own.
 #[inline(always)]
 pub(crate) fn some_uri(
     alloc: Global,
@@ -38,6 +39,7 @@ pub(crate) fn some_uri(
 }
 
 /// The bytes that the URI spells which stands here, none where no URI does.
+// Inlined into its callers, which are calls of their own.
 #[inline(always)]
 pub(crate) fn uri(
     alloc: Global,
@@ -58,6 +60,7 @@ pub(crate) fn uri(
 }
 
 /// The bytes that were read of a URI, and those that the rest of it spells, which stands here.
+// Out of line: few tags have an escape.
 #[inline(never)]
 fn escaped(
     reader: &mut Reader,
@@ -177,6 +180,7 @@ fn due_behind(octet: u8, due: usize) -> Result<usize, Problem>
 }
 
 /// The place behind the characters there that a URI holds as they are.
+// Inlined: a loop of a load and a comparison a byte.
 #[inline(always)]
 fn kept_end(text: &[u8], from: usize, wide: bool) -> usize
     ensures forward { from ≤ result }
@@ -191,6 +195,7 @@ fn kept_end(text: &[u8], from: usize, wide: bool) -> usize
 }
 
 /// Whether a character stands there that a URI holds as it is.
+// Inlined into the loop over bytes.
 #[inline(always)]
 fn kept_at(text: &[u8], place: usize, wide: bool) -> bool
     ensures { result ≡ spec.is_uri wide text.now place }

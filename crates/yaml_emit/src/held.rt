@@ -225,6 +225,7 @@ impl Held {
     ) -> bool
         ensures { result ≡ is_ready (events_by count (emitter_event (body_of first.now)) (emitter_event (body_of second.now)) (emitter_event (body_of third.now)) (emitter_event (body_of fourth.now))) }
     {
+        // Of four events the oldest is always ready: the last place is named in the clause alone.
         let _ = fourth;
         match count {
             Count::Nothing => false,
@@ -296,6 +297,7 @@ impl Held {
         ensures utf8 { Utf8By count.new (body_of second.now) (body_of third.now) (body_of fourth.now) (body_of first.new) }
         ensures laid { LaysOut core.old core.new (emitter_event (body_of first.old)) (opens_empty (emitter_event (body_of first.old)) (events_by count.new (emitter_event (body_of second.now)) (emitter_event (body_of third.now)) (emitter_event (body_of fourth.now)) (emitter_event (body_of first.new)))) }
     {
+        // They stay where they are: the clauses alone name them.
         let _ = third;
         let _ = fourth;
         match *count {

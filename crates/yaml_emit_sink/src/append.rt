@@ -42,6 +42,7 @@ pub(crate) fn append_within(output: &mut Vec<u8>, limit: u64, bytes: &[u8]) -> S
     ensures longer { length output.old.items ≤ length output.new.items }
     ensures going { result ≡ Status.Going → length output.new.items ≡ length output.old.items + length bytes.now }
 {
+    // Named in the clauses alone: the caller has asked it.
     let _ = limit;
     if are_few(output, bytes) {
         push_each(output, bytes);

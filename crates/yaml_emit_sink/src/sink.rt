@@ -84,6 +84,7 @@ impl Sink {
         ensures value { result ≡ self.now.cursor }
         ensures narrow { result.column < 2 ^ 63 }
     {
+        // Read for the clauses: they see the invariant of a value that is read.
         let _ = &self.output;
         self.cursor
     }

@@ -66,6 +66,7 @@ fn are_short(a: usize, b: usize, c: usize) -> bool
 fn is_simple_alias(settings: &Settings, directives: &DirectiveTable, name: &[u8]) -> bool
     ensures { result ≡ is_simple_alias (context_of settings.now directives.now) name.now }
 {
+    // An alias has no tag; the clause names the whole context.
     let _ = directives;
     !settings.canonical && name.len() <= 128
 }
@@ -83,6 +84,7 @@ fn is_simple_scalar(
 ) -> bool
     ensures { result ≡ is_simple_scalar (context_of settings.now directives.now) (record { anchor = text_of anchor.now; tag = text_of tag.now; value = value.now; plain = plain; quoted = quoted; style = style }) }
 {
+    // Any style will do; the clause names the whole scalar.
     let _ = style;
     !settings.canonical
         && !has_break(value)
@@ -105,6 +107,7 @@ fn is_simple_start(
 ) -> bool
     ensures { result ≡ is_simple_start (context_of settings.now directives.now) (record { anchor = text_of anchor.now; tag = text_of tag.now; implicit = implicit; flow = flow }) empty }
 {
+    // Either will do; the clause names the whole start.
     let _ = flow;
     !settings.canonical
         && empty

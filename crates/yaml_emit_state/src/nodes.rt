@@ -237,6 +237,7 @@ fn put_canonical_scalar(
     requires canonical { settings.now.canonical ≡ true }
     ensures { Puts sink.old sink.new (scalar_layout (context_of settings.now directives.now) spot (record { anchor = text_of anchor.now; tag = text_of tag.now; value = value.now; plain = plain; quoted = quoted; style = style })) }
 {
+    // Canonical form looks at neither; the clause names the whole scalar.
     let _ = (plain, style);
     put_anchor(sink, anchor);
     put_tag_or(sink, settings, directives, tag, quoted);

@@ -81,6 +81,7 @@ impl<'a> Machine<'a> {
         ensures started { result.started ≡ started }
         ensures left { left_in result ≡ left_from started (offline record { encoding = encoding_of setting input.now; text = text_bytes text.entry }) (scanned setting input.now) }
     {
+        // Read for the clauses: a length that is read has a number within its type.
         let _length = text.as_slice().len();
         Machine {
             alloc,

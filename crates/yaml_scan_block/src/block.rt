@@ -70,6 +70,7 @@ fn column_of(reader: &Reader, level: u64, digit: u64, start: yaml_mark_t) -> Res
     ensures { FindsColumn reader.now.text start result (spec.column_of level reader.now.text digit reader.now.at) }
 {
     if digit > 0 {
+        // Read for the sum: a length that is read has a number within its type, and the level is at most that.
         let _room = reader.text().len();
         return Ok(level.saturating_sub(1) + digit);
     }

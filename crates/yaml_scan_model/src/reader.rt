@@ -184,6 +184,7 @@ impl<'a> Reader<'a> {
         ensures value { result ≡ break_width self.now.text self.now.at }
         ensures none { result ≡ 0 → ends_break self.now.text self.now.at ≡ false }
     {
+        // Read for the second clause: it sees the invariant of a value that is read.
         let _here = self.index;
         self.break_width_at(0)
     }

@@ -23,6 +23,7 @@ pub fn plain_scalar(
     ensures { ReadsPlain reader.old.text reader.old.at reader.new result (spec.plain_at flow level reader.old.text reader.old.at) }
 {
     let start = reader.mark();
+    // Read for the run: its clauses say that no break stands or ends where a plain scalar begins.
     let _width = reader.break_here();
     let mut joining = first_run(alloc, reader)?;
     'pieces: loop {
@@ -51,6 +52,7 @@ fn first_run(alloc: Global, reader: &mut Reader) -> Result<Joining, AllocError>
 {
     let from = reader.place();
     reader.skip();
+    // Passes the run, of which all bytes from the first one on are taken below.
     let _run = ordinary_run(reader);
     let joining = Joining::new(alloc, reader.since(from), reader.mark())?;
     Ok(joining)

@@ -68,6 +68,7 @@ impl yaml_emitter_t {
         ensures tells { Tells self.now }
         ensures running { self.now.opened ≡ true → self.now.fresh ≡ false }
     {
+        // Read for the clauses: they see the invariant of a value that is read.
         let _ = &self.fault;
     }
 

@@ -55,5 +55,6 @@ impl DocumentParts {
 pub fn document_is_sound(document: &yaml_document_t)
     ensures { IsDocument document.now }
 {
+    // Read for the clause: it sees the invariant of a value that is read.
     let _ = &document.nodes;
 }

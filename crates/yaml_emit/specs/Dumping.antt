@@ -7,7 +7,9 @@ use Rattle.yaml_emit_graph.specs.Events.{remaining_events, IsEvents}
 
 -- An event was given and the others are still to come; or all were given, or count for nothing.
 abbrev pub DumpsBy : Bool → Document → Emitter → Events → Emitter → Events → Type 0
-DumpsBy true d old before new after = IsEvents d after × (length (remaining_events d before) ≡ suc (length (remaining_events d after))) × GivesSome old (remaining_events d before) new (remaining_events d after)
+DumpsBy true d old before new after = IsEvents d after
+    × (length (remaining_events d before) ≡ suc (length (remaining_events d after)))
+    × GivesSome old (remaining_events d before) new (remaining_events d after)
 DumpsBy false d old before new after = GivesSome old (remaining_events d before) new []
 
 abbrev pub Dumps : Document → Bool → Emitter → Events → Emitter → Events → Type 0

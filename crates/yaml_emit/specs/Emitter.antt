@@ -48,10 +48,30 @@ pub record Emitter : Type 0 where
   pub fault : Option Fault
 
 abbrev pub emitter_of : Inside → Emitter
-emitter_of e = record { requested_settings = e.requested_settings; limit = e.limit; core = e.core; held = e.held; fresh = e.fresh; opened = e.opened; closed = e.closed; fault = option_map fault_of e.fault }
+emitter_of e = record {
+  requested_settings = e.requested_settings;
+  limit = e.limit;
+  core = e.core;
+  held = e.held;
+  fresh = e.fresh;
+  opened = e.opened;
+  closed = e.closed;
+  fault = option_map
+      fault_of e.fault;
+}
 
 abbrev pub plain_fault : yaml_error_type_t → List ℕ → yaml_origin_t → Fault
-plain_fault kind problem origin = record { kind = kind; problem = problem; offset = 0; number = pos 0; problem_mark = zero_mark; context = None; context_mark = zero_mark; origin = origin }
+plain_fault kind problem origin = record {
+  kind = kind;
+  problem = problem;
+  offset = 0;
+  number = pos
+      0;
+  problem_mark = zero_mark;
+  context = None;
+  context_mark = zero_mark;
+  origin = origin;
+}
 
 abbrev pub emitter_fault : List ℕ → Fault
 emitter_fault problem = plain_fault YAML_EMITTER_ERROR problem origin.Emitter
@@ -96,7 +116,9 @@ pub record IsEmitter (e : Inside) : Type 0 where
   pub faulty : option_map fault_of e.fault ≡ refusal_of e.core
   pub few : goes_on e.core.sink.status e.core.place ≡ true → is_ready (held_events e.held) ≡ false
   pub texts : HeldUtf8 e.held
-  pub begun : e.fresh ≡ true → (held_events e.held ≡ []) × ((option_map fault_of e.fault ≡ None) × ((e.core.sink.bytes ≡ []) × (e.core.sink.status ≡ Going)))
+  pub begun : e.fresh ≡ true → (held_events e.held ≡ [])
+      × ((option_map fault_of e.fault ≡ None)
+      × ((e.core.sink.bytes ≡ []) × (e.core.sink.status ≡ Going)))
   pub limited : e.core.sink.limit ≡ e.limit
   pub running : e.opened ≡ true → e.fresh ≡ false
   pub memory : e.core.sink.status ≡ Going → e.core.starved ≡ false
@@ -107,7 +129,8 @@ stream_encoding (stream_start x) = x
 stream_encoding e = YAML_ANY_ENCODING
 
 -- A fresh emitter's text: these events are a stream's in which nothing is wrong, and the text is its layout.
-pub record IsStream (w : RequestedSettings) (x : Encoding) (es : List Event) (whole : List Item) : Type 0 where
+pub record IsStream (w : RequestedSettings) (x : Encoding) (es : List Event)
+    (whole : List Item) : Type 0 where
   pub encoding : yaml_encoding_t
   pub documents : List Document
   pub coded : x ≡ (settled w encoding).encoding
@@ -117,7 +140,8 @@ pub record IsStream (w : RequestedSettings) (x : Encoding) (es : List Event) (wh
 
 abbrev pub CompletesBy : Bool → Emitter → Encoding → List Event → List Item → Type 0
 CompletesBy true e x es whole = IsStream e.requested_settings x es whole
-CompletesBy false e x es whole = (e.core.sink.encoding ≡ x) × Finishes e.core (held_events e.held ++ es) whole
+CompletesBy false e x es whole = (e.core.sink.encoding ≡ x)
+    × Finishes e.core (held_events e.held ++ es) whole
 
 -- With these events to come, the whole text is `whole`, in that encoding.
 unfoldable pub Completes : Emitter → Encoding → List Event → List Item → Type 0
@@ -125,21 +149,25 @@ Completes e x es whole = CompletesBy e.fresh e x es whole
 
 -- An event was given: whatever follows, the text is the same.
 pub record Given (old : Emitter) (e : Event) (new : Emitter) : Type 0 where
-  pub completes : (x : Encoding) (es : List Event) (whole : List Item) → Completes old x (e ∷ es) whole → Completes new x es whole
+  pub completes : (x : Encoding) (es : List Event) (whole : List Item)
+      → Completes old x (e ∷ es) whole → Completes new x es whole
   pub requested_settings : new.requested_settings ≡ old.requested_settings
   pub limit : new.limit ≡ old.limit
   pub begun : new.fresh ≡ false
 
 -- Of some events that were to come those are still to come, whatever follows.
-pub record GivesSome (old : Emitter) (es : List Event) (new : Emitter) (left : List Event) : Type 0 where
-  pub completes : (x : Encoding) (more : List Event) (whole : List Item) → Completes old x (es ++ more) whole → Completes new x (left ++ more) whole
-  pub requested_settings : new.requested_settings ≡ old.requested_settings
-  pub limit : new.limit ≡ old.limit
-  pub begun : old.fresh ≡ false → new.fresh ≡ false
+pub record GivesSome (old : Emitter) (es : List Event) (new : Emitter) (left : List Event) : Type 0
+  where
+    pub completes : (x : Encoding) (more : List Event) (whole : List Item)
+        → Completes old x (es ++ more) whole → Completes new x (left ++ more) whole
+    pub requested_settings : new.requested_settings ≡ old.requested_settings
+    pub limit : new.limit ≡ old.limit
+    pub begun : old.fresh ≡ false → new.fresh ≡ false
 
 -- events that count for nothing: behind a fault
 abbrev pub Stuck : Emitter → Type 0
-Stuck e = (x : Encoding) (es more : List Event) (whole : List Item) → Completes e x es whole → Completes e x more whole
+Stuck e = (x : Encoding) (es more : List Event) (whole : List Item) → Completes e x es whole
+    → Completes e x more whole
 
 abbrev pub Keeps : Emitter → Emitter → Type 0
 Keeps old new = (new.opened ≡ old.opened) × (new.closed ≡ old.closed)
@@ -180,29 +208,41 @@ PassesColumns deep = deep ≡ true
 
 -- the fault names the limit that is passed
 abbrev pub Passes : ℕ → List ℕ → Bool → Fault → Type 0
-Passes limit bytes deep f = ((f ≡ write_error) × PassesSize limit bytes) ⊎ ((f ≡ too_deep) × PassesColumns deep)
+Passes limit bytes deep f = ((f ≡ write_error) × PassesSize limit bytes)
+    ⊎ ((f ≡ too_deep) × PassesColumns deep)
 
 -- The fault tells that memory ran out, or names a limit that each text passes which the emitter completes.
 abbrev pub IsLimited : Emitter → Fault → Type 0
-IsLimited e f = (f.kind ≡ YAML_MEMORY_ERROR) ⊎ ((x : Encoding) (es : List Event) (whole : List Item) → Completes e x es whole → Passes e.limit (encode x whole) (is_deep whole) f)
+IsLimited e f = (f.kind ≡ YAML_MEMORY_ERROR) ⊎ ((x : Encoding) (es : List Event) (whole : List Item)
+    → Completes e x es whole → Passes e.limit (encode x whole) (is_deep whole) f)
 
 -- What is written is the front of each text that the emitter completes: all up to the limit where that was passed.
 abbrev pub HasWritten : Status → ℕ → List ℕ → List ℕ → Bool → Type 0
 HasWritten Going limit output bytes deep = (rest : List ℕ) × (bytes ≡ output ++ rest)
 HasWritten Full limit output bytes deep = (output ≡ take limit bytes) × PassesSize limit bytes
-HasWritten Deep limit output bytes deep = PassesColumns deep × ((rest : List ℕ) × (bytes ≡ output ++ rest))
+HasWritten Deep limit output bytes deep = PassesColumns deep
+    × ((rest : List ℕ) × (bytes ≡ output ++ rest))
 HasWritten Starved limit output bytes deep = (rest : List ℕ) × (bytes ≡ output ++ rest)
 
 abbrev pub ShowsFront : Emitter → List ℕ → Type 0
-ShowsFront e output = (x : Encoding) (es : List Event) (whole : List Item) → Completes e x es whole → HasWritten e.core.sink.status e.limit output (encode x whole) (is_deep whole)
+ShowsFront e output = (x : Encoding) (es : List Event) (whole : List Item) → Completes e x es whole
+    → HasWritten e.core.sink.status e.limit output (encode x whole) (is_deep whole)
 
 -- with no event to come and no fault, the output is the whole
 abbrev pub IsWhole : Emitter → List ℕ → Type 0
-IsWhole e output = e.fault ≡ None → (x : Encoding) (whole : List Item) → Completes e x [] whole → output ≡ encode x whole
+IsWhole e output = e.fault ≡ None → (x : Encoding) (whole : List Item) → Completes e x [] whole
+    → output ≡ encode x whole
 
 -- a new emitter: any encoding and break, canonical and unicode off, indent 2, width 80
 abbrev pub first_requested : RequestedSettings
-first_requested = record { encoding = YAML_ANY_ENCODING; canonical = false; indent = pos 2; width = pos 80; unicode = false; line_break = YAML_ANY_BREAK }
+first_requested = record {
+  encoding = YAML_ANY_ENCODING;
+  canonical = false;
+  indent = pos 2;
+  width = pos 80;
+  unicode = false;
+  line_break = YAML_ANY_BREAK;
+}
 
 pub record IsNew (e : Emitter) (most : ℕ) : Type 0 where
   pub requested_settings : e.requested_settings ≡ first_requested
@@ -215,7 +255,8 @@ pub record IsNew (e : Emitter) (most : ℕ) : Type 0 where
 
 -- the settings came into force with the first event
 pub record Begins (old : Emitter) (e : Event) (new : Emitter) : Type 0 where
-  pub completes : (x : Encoding) (es : List Event) (whole : List Item) → Completes old x (e ∷ es) whole → Completes new x (e ∷ es) whole
+  pub completes : (x : Encoding) (es : List Event) (whole : List Item)
+      → Completes old x (e ∷ es) whole → Completes new x (e ∷ es) whole
   pub requested_settings : new.requested_settings ≡ old.requested_settings
   pub limit : new.limit ≡ old.limit
   pub begun : new.fresh ≡ false

@@ -29,8 +29,11 @@ events_by Four a b c d = a ∷ b ∷ c ∷ d ∷ []
 
 -- the oldest first
 abbrev pub held_events : Held → List Event
-held_events h = events_by h.count (emitter_event (body_of (oldest h.start h.first h.second h.third h.fourth))) (emitter_event (body_of (oldest h.start h.second h.third h.fourth h.first)))
-    (emitter_event (body_of (oldest h.start h.third h.fourth h.first h.second))) (emitter_event (body_of (oldest h.start h.fourth h.first h.second h.third)))
+held_events h = events_by h.count
+    (emitter_event (body_of (oldest h.start h.first h.second h.third h.fourth)))
+    (emitter_event (body_of (oldest h.start h.second h.third h.fourth h.first)))
+    (emitter_event (body_of (oldest h.start h.third h.fourth h.first h.second)))
+    (emitter_event (body_of (oldest h.start h.fourth h.first h.second h.third)))
 
 abbrev pub Utf8By : Count → EventBody → EventBody → EventBody → EventBody → Type 0
 Utf8By Nothing a b c d = Unit {0}
@@ -41,8 +44,10 @@ Utf8By Four a b c d = HasUtf8 a × HasUtf8 b × HasUtf8 c × HasUtf8 d
 
 -- their texts are UTF-8
 abbrev pub HeldUtf8 : Held → Type 0
-HeldUtf8 h = Utf8By h.count (body_of (oldest h.start h.first h.second h.third h.fourth)) (body_of (oldest h.start h.second h.third h.fourth h.first))
-    (body_of (oldest h.start h.third h.fourth h.first h.second)) (body_of (oldest h.start h.fourth h.first h.second h.third))
+HeldUtf8 h = Utf8By h.count (body_of (oldest h.start h.first h.second h.third h.fourth))
+    (body_of (oldest h.start h.second h.third h.fourth h.first))
+    (body_of (oldest h.start h.third h.fourth h.first h.second))
+    (body_of (oldest h.start h.fourth h.first h.second h.third))
 
 -- it opens a level
 abbrev pub opens_level : Event → Bool

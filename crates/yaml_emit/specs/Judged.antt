@@ -90,11 +90,14 @@ let_out (e ∷ es) = if is_ready (e ∷ es) then e ∷ let_out es else []
 -- the problem of the first event of a list that is refused
 unfoldable pub first_refusal : Bool → Progress → List Event → Option Problem
 first_refusal canonical h [] = None
-first_refusal canonical h (e ∷ es) = or_else (problem_in canonical h e) (first_refusal canonical (progress_after h e) es)
+first_refusal canonical h (e ∷ es) = or_else (problem_in canonical h e)
+    (first_refusal canonical (progress_after h e) es)
 
 -- in a front of a stream's events, with nothing wrong in them, none is refused
 abbrev pub PassesStreams : Type 0
-PassesStreams = (s : Settings) (x : yaml_encoding_t) (ds : List Document) (es more : List Event) → es ++ more ≡ stream_events x ds → own_problems s.canonical (es ++ more) ≡ None → first_refusal s.canonical first_progress es ≡ None
+PassesStreams = (s : Settings) (x : yaml_encoding_t) (ds : List Document) (es more : List Event)
+    → es ++ more ≡ stream_events x ds → own_problems s.canonical (es ++ more) ≡ None
+    → first_refusal s.canonical first_progress es ≡ None
 
 -- unless there is a problem
 abbrev pub unless : Option Problem → Layout → Layout
@@ -104,7 +107,8 @@ unless (Some p) a = stay
 -- what is written for the events of a list, up to the first one that is refused
 unfoldable pub laid : Settings → State → List Event → Layout
 laid s st [] = stay
-laid s st (e ∷ es) = unless (problem_at s st e) (λ c rest. piece s st e (opens_empty e es) c (λ d. laid s (next s st e (opens_empty e es) d) es d rest))
+laid s st (e ∷ es) = unless (problem_at s st e) (λ c rest. piece s st e (opens_empty e es) c
+    (λ d. laid s (next s st e (opens_empty e es) d) es d rest))
 
 -- ---- behind some events that were laid out
 
@@ -130,7 +134,8 @@ shape_of st = record { place = st.place; due = due_of st.levels }
 
 -- the first refusal among those that are let out; one that has come stays the first
 abbrev pub refusal_from : Bool → State → List Event → Option Problem
-refusal_from canonical st es = or_else (refused_at st.place) (first_refusal canonical (shape_of st) (let_out es))
+refusal_from canonical st es = or_else (refused_at st.place)
+    (first_refusal canonical (shape_of st) (let_out es))
 
 -- what is written for those; behind a refusal nothing
 abbrev pub text_from : Settings → State → List Event → Layout
@@ -141,7 +146,8 @@ refusal_behind core es = refusal_from (settings_of core).canonical (state_of cor
 
 -- `whole` is what is written, once these events are given too
 unfoldable pub LetsOut : Core → List Event → List Item → Type 0
-LetsOut core es whole = Ends core.sink (text_from (settings_of core) (state_of core) es core.sink.cursor nothing_more) whole
+LetsOut core es whole = Ends core.sink (text_from (settings_of core) (state_of core) es
+    core.sink.cursor nothing_more) whole
 
 -- laying out some of them may take memory outside the output
 abbrev pub take_memory : List Event → Bool
@@ -149,11 +155,14 @@ take_memory es = list_any takes_memory es
 
 -- With these events to be laid out, one state leads to another with those: whatever follows, the same event is refused, unless
 -- the output has stopped, and the same is written.
-pub record Judges (old : Core) (before : List Event) (new : Core) (after : List Event) : Type 0 where
-  pub refuses : new.sink.status ≡ Going → (es : List Event) → refusal_behind new (after ++ es) ≡ refusal_behind old (before ++ es)
-  pub lets_out : (es : List Event) (whole : List Item) → LetsOut old (before ++ es) whole → LetsOut new (after ++ es) whole
-  -- an output that has stopped stays stopped
-  pub going : new.sink.status ≡ Going → old.sink.status ≡ Going
-  -- that memory was refused outside the output is noted where this stops it, by an event that takes such memory
-  pub memory : Notes (take_memory before) old new
-  pub left : take_memory before ≡ false → take_memory after ≡ false
+pub record Judges (old : Core) (before : List Event) (new : Core) (after : List Event) : Type 0
+  where
+    pub refuses : new.sink.status ≡ Going → (es : List Event) → refusal_behind new (after ++ es)
+        ≡ refusal_behind old (before ++ es)
+    pub lets_out : (es : List Event) (whole : List Item) → LetsOut old (before ++ es) whole
+        → LetsOut new (after ++ es) whole
+    -- an output that has stopped stays stopped
+    pub going : new.sink.status ≡ Going → old.sink.status ≡ Going
+    -- that memory was refused outside the output is noted where this stops it, by an event that takes such memory
+    pub memory : Notes (take_memory before) old new
+    pub left : take_memory before ≡ false → take_memory after ≡ false

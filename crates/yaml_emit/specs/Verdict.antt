@@ -32,13 +32,15 @@ first_settings w [] = settled w YAML_ANY_ENCODING
 first_settings w (e ∷ es) = settled w (stream_encoding e)
 
 -- a fresh emitter's text, and its encoding
-pub record IsLetOut (w : RequestedSettings) (x : Encoding) (es : List Event) (whole : List Item) : Type 0 where
+pub record IsLetOut (w : RequestedSettings) (x : Encoding) (es : List Event)
+    (whole : List Item) : Type 0 where
   pub coded : x ≡ (first_settings w es).encoding
   pub is : whole ≡ written (laid (first_settings w es) (placed at.StreamStart) (let_out es))
 
 abbrev pub WritesBy : Bool → Emitter → Encoding → List Event → List Item → Type 0
 WritesBy true e x es whole = IsLetOut e.requested_settings x es whole
-WritesBy false e x es whole = (e.core.sink.encoding ≡ x) × LetsOut e.core (held_events e.held ++ es) whole
+WritesBy false e x es whole = (e.core.sink.encoding ≡ x) × LetsOut e.core (held_events e.held ++ es)
+    whole
 
 -- Once these events are given too, `whole` is what is written, in that encoding: all events that are let out, up to the first
 -- one that is refused.
@@ -48,29 +50,36 @@ Writes e x es whole = WritesBy e.fresh e x es whole
 -- An event was given, and was judged in its turn: whatever follows, the same event is refused, unless the output has stopped,
 -- and the same is written.
 pub record Judged (old : Emitter) (e : Event) (new : Emitter) : Type 0 where
-  pub refuses : new.core.sink.status ≡ Going → (es : List Event) → verdict new es ≡ verdict old (e ∷ es)
-  pub writes : (x : Encoding) (es : List Event) (whole : List Item) → Writes old x (e ∷ es) whole → Writes new x es whole
+  pub refuses : new.core.sink.status ≡ Going → (es : List Event)
+      → verdict new es ≡ verdict old (e ∷ es)
+  pub writes : (x : Encoding) (es : List Event) (whole : List Item) → Writes old x (e ∷ es) whole
+      → Writes new x es whole
   -- an output that has stopped stays stopped
   pub going : new.core.sink.status ≡ Going → old.core.sink.status ≡ Going
   -- That memory was refused outside the output is noted where this stops it, once an event is held or given that takes such memory.
   pub memory : Notes (take_memory (held_events old.held ++ e ∷ [])) old.core new.core
 
 -- Of some events that were to come those are still to come, and the others were judged in their turn.
-pub record JudgedAll (old : Emitter) (es : List Event) (new : Emitter) (left : List Event) : Type 0 where
-  pub refuses : new.core.sink.status ≡ Going → (more : List Event) → verdict new (left ++ more) ≡ verdict old (es ++ more)
-  pub writes : (x : Encoding) (more : List Event) (whole : List Item) → Writes old x (es ++ more) whole → Writes new x (left ++ more) whole
-  pub going : new.core.sink.status ≡ Going → old.core.sink.status ≡ Going
-  pub memory : Notes true old.core new.core
+pub record JudgedAll (old : Emitter) (es : List Event) (new : Emitter) (left : List Event) : Type 0
+  where
+    pub refuses : new.core.sink.status ≡ Going → (more : List Event) → verdict new (left ++ more)
+        ≡ verdict old (es ++ more)
+    pub writes : (x : Encoding) (more : List Event) (whole : List Item)
+        → Writes old x (es ++ more) whole → Writes new x (left ++ more) whole
+    pub going : new.core.sink.status ≡ Going → old.core.sink.status ≡ Going
+    pub memory : Notes true old.core new.core
 
 -- events that count for nothing: behind a fault
 pub record Unjudged (e : Emitter) : Type 0 where
   pub refuses : e.core.sink.status ≡ Going → (es more : List Event) → verdict e more ≡ verdict e es
-  pub writes : (x : Encoding) (es more : List Event) (whole : List Item) → Writes e x es whole → Writes e x more whole
+  pub writes : (x : Encoding) (es more : List Event) (whole : List Item) → Writes e x es whole
+      → Writes e x more whole
 
 -- the settings came into force with the first event
 pub record JudgesFirst (old : Emitter) (e : Event) (new : Emitter) : Type 0 where
   pub refuses : (es : List Event) → verdict new (e ∷ es) ≡ verdict old (e ∷ es)
-  pub writes : (x : Encoding) (es : List Event) (whole : List Item) → Writes old x (e ∷ es) whole → Writes new x (e ∷ es) whole
+  pub writes : (x : Encoding) (es : List Event) (whole : List Item) → Writes old x (e ∷ es) whole
+      → Writes new x (e ∷ es) whole
   pub going : old.core.sink.status ≡ Going
   pub begun : new.core.sink.status ≡ Going
   pub held : held_events new.held ≡ held_events old.held
@@ -78,7 +87,8 @@ pub record JudgesFirst (old : Emitter) (e : Event) (new : Emitter) : Type 0 wher
 
 -- All of it is in the output, which passes no limit; or the output has stopped there.
 abbrev pub HasLetOut : Status → ℕ → List ℕ → List ℕ → Bool → Type 0
-HasLetOut Going limit output bytes deep = (output ≡ bytes) × ((length output ≤ limit) × (deep ≡ false))
+HasLetOut Going limit output bytes deep = (output ≡ bytes)
+    × ((length output ≤ limit) × (deep ≡ false))
 HasLetOut Full limit output bytes deep = HasWritten Full limit output bytes deep
 HasLetOut Deep limit output bytes deep = HasWritten Deep limit output bytes deep
 HasLetOut Starved limit output bytes deep = HasWritten Starved limit output bytes deep
@@ -88,5 +98,6 @@ HasLetOut Starved limit output bytes deep = HasWritten Starved limit output byte
 -- on, no memory was refused outside it.
 pub record Tells (e : Emitter) : Type 0 where
   pub fault : e.fault ≡ fault_by e.core.sink.status e.core.starved (verdict e [])
-  pub output : (x : Encoding) (whole : List Item) → Writes e x [] whole → HasLetOut e.core.sink.status e.limit e.core.sink.bytes (encode x whole) (is_deep whole)
+  pub output : (x : Encoding) (whole : List Item) → Writes e x [] whole
+      → HasLetOut e.core.sink.status e.limit e.core.sink.bytes (encode x whole) (is_deep whole)
   pub memory : e.core.sink.status ≡ Going → e.core.starved ≡ false

@@ -11,4 +11,5 @@ pub record Fits (limit : ℕ) (x : Encoding) (whole : List Item) : Type 0 where
 
 -- with no event to come and no fault, the whole passes no limit
 abbrev pub IsWithin : Emitter → Type 0
-IsWithin e = e.fault ≡ None → (x : Encoding) (whole : List Item) → Completes e x [] whole → Fits e.limit x whole
+IsWithin e = e.fault ≡ None → (x : Encoding) (whole : List Item) → Completes e x [] whole
+    → Fits e.limit x whole

@@ -87,7 +87,9 @@ pub fn yaml_emitter_initialize(alloc: Global, limit: u64) -> Result<yaml_emitter
 /// setter asks that no event was given, which `yaml_emitter_fresh` tells; the last one counts.
 pub fn yaml_emitter_set_encoding(emitter: &mut yaml_emitter_t, encoding: yaml_encoding_t)
     requires { emitter.old.fresh ≡ true }
-    ensures { emitter.new ≡ record emitter.old { requested_settings = record emitter.old.requested_settings { encoding = encoding } } }
+    ensures { emitter.new ≡ record emitter.old {
+      requested_settings = record emitter.old.requested_settings { encoding = encoding };
+    } }
 {
     emitter.requested_settings.encoding = encoding;
 }
@@ -95,7 +97,9 @@ pub fn yaml_emitter_set_encoding(emitter: &mut yaml_emitter_t, encoding: yaml_en
 /// Canonical form, or pretty.
 pub fn yaml_emitter_set_canonical(emitter: &mut yaml_emitter_t, canonical: bool)
     requires { emitter.old.fresh ≡ true }
-    ensures { emitter.new ≡ record emitter.old { requested_settings = record emitter.old.requested_settings { canonical = canonical } } }
+    ensures { emitter.new ≡ record emitter.old {
+      requested_settings = record emitter.old.requested_settings { canonical = canonical };
+    } }
 {
     emitter.requested_settings.canonical = canonical;
 }
@@ -103,7 +107,9 @@ pub fn yaml_emitter_set_canonical(emitter: &mut yaml_emitter_t, canonical: bool)
 /// The columns of one level: 2 to 9; any other number means 2.
 pub fn yaml_emitter_set_indent(emitter: &mut yaml_emitter_t, indent: i32)
     requires { emitter.old.fresh ≡ true }
-    ensures { emitter.new ≡ record emitter.old { requested_settings = record emitter.old.requested_settings { indent = indent } } }
+    ensures { emitter.new ≡ record emitter.old {
+      requested_settings = record emitter.old.requested_settings { indent = indent };
+    } }
 {
     emitter.requested_settings.indent = indent;
 }
@@ -111,7 +117,9 @@ pub fn yaml_emitter_set_indent(emitter: &mut yaml_emitter_t, indent: i32)
 /// The column past which lines are cut. A negative one means 2,147,483,647; 0 to twice the indent means 80.
 pub fn yaml_emitter_set_width(emitter: &mut yaml_emitter_t, width: i32)
     requires { emitter.old.fresh ≡ true }
-    ensures { emitter.new ≡ record emitter.old { requested_settings = record emitter.old.requested_settings { width = width } } }
+    ensures { emitter.new ≡ record emitter.old {
+      requested_settings = record emitter.old.requested_settings { width = width };
+    } }
 {
     emitter.requested_settings.width = width;
 }
@@ -119,7 +127,9 @@ pub fn yaml_emitter_set_width(emitter: &mut yaml_emitter_t, width: i32)
 /// Whether characters above U+007F stand as they are.
 pub fn yaml_emitter_set_unicode(emitter: &mut yaml_emitter_t, unicode: bool)
     requires { emitter.old.fresh ≡ true }
-    ensures { emitter.new ≡ record emitter.old { requested_settings = record emitter.old.requested_settings { unicode = unicode } } }
+    ensures { emitter.new ≡ record emitter.old {
+      requested_settings = record emitter.old.requested_settings { unicode = unicode };
+    } }
 {
     emitter.requested_settings.unicode = unicode;
 }
@@ -127,7 +137,9 @@ pub fn yaml_emitter_set_unicode(emitter: &mut yaml_emitter_t, unicode: bool)
 /// What ends a line. Any break means LF.
 pub fn yaml_emitter_set_break(emitter: &mut yaml_emitter_t, line_break: yaml_break_t)
     requires { emitter.old.fresh ≡ true }
-    ensures { emitter.new ≡ record emitter.old { requested_settings = record emitter.old.requested_settings { line_break = line_break } } }
+    ensures { emitter.new ≡ record emitter.old {
+      requested_settings = record emitter.old.requested_settings { line_break = line_break };
+    } }
 {
     emitter.requested_settings.line_break = line_break;
 }
@@ -302,7 +314,8 @@ pub fn yaml_emitter_emit(
     ensures tells { Tells emitter.new }
     ensures answer { Answers emitter.new.fault result }
     ensures stays { Stays emitter.old emitter.new }
-    ensures opened { (emitter.new.opened ≡ emitter.old.opened) × (emitter.new.closed ≡ emitter.old.closed) }
+    ensures opened { (emitter.new.opened ≡ emitter.old.opened)
+        × (emitter.new.closed ≡ emitter.old.closed) }
 {
     let mut event = event;
     let answer = emitter.emit_from(&mut event.body);
@@ -317,7 +330,8 @@ pub fn yaml_emitter_emit_from(emitter: &mut yaml_emitter_t, event: &mut yaml_eve
     ensures given { Given emitter.old (emitter_event (event_of event.old).body) emitter.new }
     ensures judged { Judged emitter.old (emitter_event (event_of event.old).body) emitter.new }
     ensures stays { Stays emitter.old emitter.new }
-    ensures opened { (emitter.new.opened ≡ emitter.old.opened) × (emitter.new.closed ≡ emitter.old.closed) }
+    ensures opened { (emitter.new.opened ≡ emitter.old.opened)
+        × (emitter.new.closed ≡ emitter.old.closed) }
 {
     emitter.give(&mut event.body);
 }

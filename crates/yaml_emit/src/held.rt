@@ -97,7 +97,8 @@ impl Held {
     }
 
     fn closes_by(first: &yaml_event_body_t, second: &yaml_event_body_t) -> bool
-        ensures { result ≡ closes_by (emitter_event (body_of first.now)) (emitter_event (body_of second.now)) }
+        ensures { result ≡ closes_by (emitter_event (body_of first.now))
+            (emitter_event (body_of second.now)) }
     {
         match first {
             yaml_event_body_t::SequenceStart { .. } => match second {
@@ -121,7 +122,8 @@ impl Held {
 
     // One of two events ends a level before another is opened.
     fn closes_two(second: &yaml_event_body_t, third: &yaml_event_body_t) -> bool
-        ensures { result ≡ closes (emitter_event (body_of second.now) ∷ emitter_event (body_of third.now) ∷ []) }
+        ensures { result ≡ closes (emitter_event (body_of second.now) ∷ emitter_event
+            (body_of third.now) ∷ []) }
     {
         Held::ends_level(second) || (!Held::opens_level(second) && Held::closes_one(third))
     }
@@ -146,10 +148,19 @@ impl Held {
         fourth: &mut yaml_event_body_t,
         event: &mut yaml_event_body_t,
     )
-        requires few { length (events_by count.old (emitter_event (body_of first.old)) (emitter_event (body_of second.old)) (emitter_event (body_of third.old)) (emitter_event (body_of fourth.old))) < 4 }
-        requires utf8 { Utf8By count.old (body_of first.old) (body_of second.old) (body_of third.old) (body_of fourth.old) × HasUtf8 (body_of event.old) }
-        ensures events { events_by count.new (emitter_event (body_of first.new)) (emitter_event (body_of second.new)) (emitter_event (body_of third.new)) (emitter_event (body_of fourth.new)) ≡ events_by count.old (emitter_event (body_of first.old)) (emitter_event (body_of second.old)) (emitter_event (body_of third.old)) (emitter_event (body_of fourth.old)) ++ emitter_event (body_of event.old) ∷ [] }
-        ensures utf8 { Utf8By count.new (body_of first.new) (body_of second.new) (body_of third.new) (body_of fourth.new) }
+        requires few { length (events_by count.old (emitter_event (body_of first.old))
+            (emitter_event (body_of second.old)) (emitter_event (body_of third.old))
+            (emitter_event (body_of fourth.old))) < 4 }
+        requires utf8 { Utf8By count.old (body_of first.old) (body_of second.old)
+            (body_of third.old) (body_of fourth.old) × HasUtf8 (body_of event.old) }
+        ensures events { events_by count.new (emitter_event (body_of first.new))
+            (emitter_event (body_of second.new)) (emitter_event (body_of third.new))
+            (emitter_event (body_of fourth.new)) ≡ events_by count.old
+            (emitter_event (body_of first.old)) (emitter_event (body_of second.old))
+            (emitter_event (body_of third.old)) (emitter_event (body_of fourth.old))
+            ++ emitter_event (body_of event.old) ∷ [] }
+        ensures utf8 { Utf8By count.new (body_of first.new) (body_of second.new) (body_of third.new)
+            (body_of fourth.new) }
     {
         match *count {
             Count::Nothing => {
@@ -176,7 +187,8 @@ impl Held {
     pub fn push(&mut self, event: &mut yaml_event_body_t)
         requires few { length (held_events self.old) < 4 }
         requires utf8 { HeldUtf8 self.old × HasUtf8 (body_of event.old) }
-        ensures events { held_events self.new ≡ held_events self.old ++ emitter_event (body_of event.old) ∷ [] }
+        ensures events { held_events self.new ≡ held_events self.old ++ emitter_event
+            (body_of event.old) ∷ [] }
         ensures utf8 { HeldUtf8 self.new }
     {
         match self.start {
@@ -223,7 +235,9 @@ impl Held {
         third: &yaml_event_body_t,
         fourth: &yaml_event_body_t,
     ) -> bool
-        ensures { result ≡ is_ready (events_by count (emitter_event (body_of first.now)) (emitter_event (body_of second.now)) (emitter_event (body_of third.now)) (emitter_event (body_of fourth.now))) }
+        ensures { result ≡ is_ready (events_by count (emitter_event (body_of first.now))
+            (emitter_event (body_of second.now)) (emitter_event (body_of third.now))
+            (emitter_event (body_of fourth.now))) }
     {
         // Of four events the oldest is always ready: the last place is named in the clause alone.
         let _ = fourth;
@@ -275,7 +289,8 @@ impl Held {
     // An event is laid out where it stands, by whether the next one closes what it opens.
     fn lay_before(core: &mut Core, event: &mut yaml_event_body_t, next: &yaml_event_body_t)
         requires { HasUtf8 (body_of event.old) }
-        ensures { LaysOut core.old core.new (emitter_event (body_of event.old)) (closes_by (emitter_event (body_of event.old)) (emitter_event (body_of next.now))) }
+        ensures { LaysOut core.old core.new (emitter_event (body_of event.old))
+            (closes_by (emitter_event (body_of event.old)) (emitter_event (body_of next.now))) }
     {
         let empty = Held::closes_by(event, next);
         core.lay_out(event, empty);
@@ -291,11 +306,23 @@ impl Held {
         third: &yaml_event_body_t,
         fourth: &yaml_event_body_t,
     )
-        requires ready { is_ready (events_by count.old (emitter_event (body_of first.old)) (emitter_event (body_of second.now)) (emitter_event (body_of third.now)) (emitter_event (body_of fourth.now))) ≡ true }
-        requires utf8 { Utf8By count.old (body_of first.old) (body_of second.now) (body_of third.now) (body_of fourth.now) }
-        ensures events { events_by count.old (emitter_event (body_of first.old)) (emitter_event (body_of second.now)) (emitter_event (body_of third.now)) (emitter_event (body_of fourth.now)) ≡ emitter_event (body_of first.old) ∷ events_by count.new (emitter_event (body_of second.now)) (emitter_event (body_of third.now)) (emitter_event (body_of fourth.now)) (emitter_event (body_of first.new)) }
-        ensures utf8 { Utf8By count.new (body_of second.now) (body_of third.now) (body_of fourth.now) (body_of first.new) }
-        ensures laid { LaysOut core.old core.new (emitter_event (body_of first.old)) (opens_empty (emitter_event (body_of first.old)) (events_by count.new (emitter_event (body_of second.now)) (emitter_event (body_of third.now)) (emitter_event (body_of fourth.now)) (emitter_event (body_of first.new)))) }
+        requires ready { is_ready (events_by count.old (emitter_event (body_of first.old))
+            (emitter_event (body_of second.now)) (emitter_event (body_of third.now))
+            (emitter_event (body_of fourth.now))) ≡ true }
+        requires utf8 { Utf8By count.old (body_of first.old) (body_of second.now)
+            (body_of third.now) (body_of fourth.now) }
+        ensures events { events_by count.old (emitter_event (body_of first.old))
+            (emitter_event (body_of second.now)) (emitter_event (body_of third.now))
+            (emitter_event (body_of fourth.now)) ≡ emitter_event (body_of first.old) ∷ events_by
+            count.new (emitter_event (body_of second.now)) (emitter_event (body_of third.now))
+            (emitter_event (body_of fourth.now)) (emitter_event (body_of first.new)) }
+        ensures utf8 { Utf8By count.new (body_of second.now) (body_of third.now)
+            (body_of fourth.now) (body_of first.new) }
+        ensures laid { LaysOut core.old core.new (emitter_event (body_of first.old))
+            (opens_empty (emitter_event (body_of first.old))
+            (events_by count.new (emitter_event (body_of second.now))
+            (emitter_event (body_of third.now)) (emitter_event (body_of fourth.now))
+            (emitter_event (body_of first.new)))) }
     {
         // They stay where they are: the clauses alone name them.
         let _ = third;
@@ -327,7 +354,8 @@ impl Held {
         requires utf8 { HeldUtf8 self.old }
         ensures events { held_events self.old ≡ oldest_event self.old ∷ held_events self.new }
         ensures utf8 { HeldUtf8 self.new }
-        ensures laid { LaysOut core.old core.new (oldest_event self.old) (opens_empty (oldest_event self.old) (held_events self.new)) }
+        ensures laid { LaysOut core.old core.new (oldest_event self.old)
+            (opens_empty (oldest_event self.old) (held_events self.new)) }
     {
         match self.start {
             Start::First => {

@@ -15,14 +15,16 @@ use yaml_parse::yaml_event_body_t;
 
 // Whether the oldest event is to be laid out.
 fn is_due(core: &Core, held: &Held) -> bool
-    ensures { result ≡ (goes_on core.now.sink.status core.now.place && is_ready (held_events held.now)) }
+    ensures { result ≡ (goes_on core.now.sink.status core.now.place
+        && is_ready (held_events held.now)) }
 {
     core.is_going() && held.is_ready()
 }
 
 // Whether an event is to be laid out as it comes, and isn't held.
 fn passes(core: &Core, held: &Held, event: &yaml_event_body_t) -> bool
-    ensures { result ≡ (goes_on core.now.sink.status core.now.place && passes (held_events held.now) (emitter_event (body_of event.now))) }
+    ensures { result ≡ (goes_on core.now.sink.status core.now.place && passes (held_events held.now)
+        (emitter_event (body_of event.now))) }
 {
     core.is_going() && held.passes(event)
 }
@@ -33,7 +35,8 @@ fn release(core: &mut Core, held: &mut Held)
     ensures leads { Leads core.old (held_events held.old) core.new (held_events held.new) }
     ensures judges { Judges core.old (held_events held.old) core.new (held_events held.new) }
     ensures utf8 { HeldUtf8 held.new }
-    ensures waits { goes_on core.new.sink.status core.new.place ≡ true → is_ready (held_events held.new) ≡ false }
+    ensures waits { goes_on core.new.sink.status core.new.place ≡ true
+        → is_ready (held_events held.new) ≡ false }
 {
     while is_due(core, held) {
         held.lay_oldest(core);
@@ -44,10 +47,13 @@ fn release(core: &mut Core, held: &mut Held)
 pub(crate) fn give(core: &mut Core, held: &mut Held, event: &mut yaml_event_body_t)
     requires few { is_ready (held_events held.old) ≡ false }
     requires utf8 { HeldUtf8 held.old × HasUtf8 (body_of event.old) }
-    ensures leads { Leads core.old (held_events held.old ++ emitter_event (body_of event.old) ∷ []) core.new (held_events held.new) }
-    ensures judges { Judges core.old (held_events held.old ++ emitter_event (body_of event.old) ∷ []) core.new (held_events held.new) }
+    ensures leads { Leads core.old (held_events held.old ++ emitter_event (body_of event.old) ∷ [])
+        core.new (held_events held.new) }
+    ensures judges { Judges core.old (held_events held.old ++ emitter_event (body_of event.old)
+        ∷ []) core.new (held_events held.new) }
     ensures utf8 { HeldUtf8 held.new }
-    ensures waits { goes_on core.new.sink.status core.new.place ≡ true → is_ready (held_events held.new) ≡ false }
+    ensures waits { goes_on core.new.sink.status core.new.place ≡ true
+        → is_ready (held_events held.new) ≡ false }
 {
     if passes(core, held, event) {
         core.lay_out(event, false);

@@ -25,7 +25,8 @@ IsUtf8Body (model.mapping pairs style) = Unit {0}
 
 -- what is left of the nodes, and the document's end
 abbrev pub nodes_left : Document → Events → List Event
-nodes_left d e = map (turn_event e.numbers.items d.nodes) (remaining_turns d.nodes e.walk) ++ document_end d.end_implicit ∷ []
+nodes_left d e = map (turn_event e.numbers.items d.nodes) (remaining_turns d.nodes e.walk)
+    ++ document_end d.end_implicit ∷ []
 
 abbrev pub remaining_at : Stage → Document → Events → List Event
 remaining_at at.Start d e = document_start (graph_opening d) ∷ nodes_left d e
@@ -39,7 +40,9 @@ abbrev pub IsEvents : Document → Events → Type 0
 IsEvents d e = IsWalk d.nodes e.walk
 
 -- the next event, and the others are still to come
-abbrev pub GivesGraphEvent : Document → Events → Result (Option yaml_event_body_t) AllocError → Events → Type 0
+abbrev pub GivesGraphEvent : Document → Events → Result (Option yaml_event_body_t) AllocError
+    → Events → Type 0
 GivesGraphEvent d old (Ok None) new = remaining_events d old ≡ []
-GivesGraphEvent d old (Ok (Some b)) new = (remaining_events d old ≡ emitter_event (body_of b) ∷ remaining_events d new) × HasUtf8 (body_of b) × IsEvents d new
+GivesGraphEvent d old (Ok (Some b)) new = (remaining_events d old ≡ emitter_event (body_of b)
+    ∷ remaining_events d new) × HasUtf8 (body_of b) × IsEvents d new
 GivesGraphEvent d old (Err e) new = Unit {0}

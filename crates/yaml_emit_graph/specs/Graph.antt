@@ -78,12 +78,14 @@ over visit (id ∷ ids) rest = visit id (over visit ids rest)
 
 -- a collection is left behind what it holds
 abbrev pub inside : (ℤ → Rest → Rest) → ℤ → model.NodeBody → Rest → Rest
-inside visit id body rest = if is_collection body then over visit (child_ids body) (λ m. Leave id ∷ rest m) else rest
+inside visit id body rest = if is_collection body then over visit (child_ids body)
+    (λ m. Leave id ∷ rest m) else rest
 
 -- From a node on. The first number bounds the depth: there are no more nodes.
 unfoldable pub visits : ℕ → List model.Node → ℤ → Rest → Rest
 visits zero nodes id rest met = Again id ∷ rest met
-visits (suc n) nodes id rest met = if is_met met id then Again id ∷ rest met else First id ∷ inside (visits n nodes) id (body_of_id nodes id) rest (meet met id)
+visits (suc n) nodes id rest met = if is_met met id then Again id ∷ rest met else First id ∷ inside
+    (visits n nodes) id (body_of_id nodes id) rest (meet met id)
 
 abbrev pub none_met : List model.Node → Met
 none_met nodes = replicate (length nodes) false
@@ -102,7 +104,8 @@ pub record Numbering : Type 0 where
   pub table : List ℕ
 
 abbrev pub next_number : Numbering → ℕ → Numbering
-next_number s k = if get_or s.table k 1 == 0 then record { given = suc s.given; table = set s.table k (suc s.given) } else s
+next_number s k = if get_or s.table k 1 == 0
+    then record { given = suc s.given; table = set s.table k (suc s.given) } else s
 
 abbrev pub again_at : Option ℕ → Numbering → Numbering
 again_at None s = s
@@ -147,17 +150,32 @@ is_text a b = pointwise nat_eq a b
 
 -- the tag of a text may be left out
 abbrev pub graph_scalar : Option (List ℕ) → List ℕ → List ℕ → yaml_scalar_style_t → Scalar
-graph_scalar anchor tag value style = record { anchor = anchor; tag = Some tag; value = value; plain = is_text tag str_tag; quoted = is_text tag str_tag; style = style }
+graph_scalar anchor tag value style = record {
+  anchor = anchor;
+  tag = Some tag;
+  value = value;
+  plain = is_text tag str_tag;
+  quoted = is_text tag str_tag;
+  style = style;
+}
 
 abbrev pub graph_start : Option (List ℕ) → List ℕ → List ℕ → Bool → Start
-graph_start anchor tag default flow = record { anchor = anchor; tag = Some tag; implicit = is_text tag default; flow = flow }
+graph_start anchor tag default flow = record {
+  anchor = anchor;
+  tag = Some tag;
+  implicit = is_text
+      tag default;
+  flow = flow;
+}
 
 -- how a node begins; one without a kind is an empty text
 abbrev pub opening_event : Option (List ℕ) → List ℕ → model.NodeBody → Event
 opening_event anchor tag model.no = scalar (graph_scalar anchor tag [] YAML_ANY_SCALAR_STYLE)
 opening_event anchor tag (model.scalar value style) = scalar (graph_scalar anchor tag value style)
-opening_event anchor tag (model.sequence items style) = sequence_start (graph_start anchor tag seq_tag (is_flow_sequence style))
-opening_event anchor tag (model.mapping pairs style) = mapping_start (graph_start anchor tag map_tag (is_flow_mapping style))
+opening_event anchor tag (model.sequence items style) = sequence_start
+    (graph_start anchor tag seq_tag (is_flow_sequence style))
+opening_event anchor tag (model.mapping pairs style) = mapping_start
+    (graph_start anchor tag map_tag (is_flow_mapping style))
 
 abbrev pub closing_event : model.NodeBody → Event
 closing_event model.no = mapping_end
@@ -166,44 +184,64 @@ closing_event (model.sequence items style) = sequence_end
 closing_event (model.mapping pairs style) = mapping_end
 
 unfoldable pub turn_event : List ℕ → List model.Node → Turn → Event
-turn_event table nodes (First id) = opening_event (anchor_of (number_at table id)) (tag_of_id nodes id) (body_of_id nodes id)
+turn_event table nodes (First id) = opening_event (anchor_of (number_at table id))
+    (tag_of_id nodes id) (body_of_id nodes id)
 turn_event table nodes (Again id) = alias (name_of (number_at table id))
 turn_event table nodes (Leave id) = closing_event (body_of_id nodes id)
 
 -- ---- the content: the first visit of a node gives the node, a later one an alias
 
-unfoldable pub items_by : (ℤ → (Node → Met → Node) → Met → Node) → List ℤ → (Nodes → Met → Node) → Met → Node
+unfoldable pub items_by : (ℤ → (Node → Met → Node) → Met → Node) → List ℤ → (Nodes → Met → Node)
+    → Met → Node
 items_by visit [] rest met = rest no_nodes met
-items_by visit (id ∷ ids) rest met = visit id (λ v m. items_by visit ids (λ vs n. rest (node v vs) n) m) met
+items_by visit (id ∷ ids) rest met = visit id
+    (λ v m. items_by visit ids (λ vs n. rest (node v vs) n) m) met
 
-unfoldable pub pairs_by : (ℤ → (Node → Met → Node) → Met → Node) → List yaml_node_pair_t → (Pairs → Met → Node) → Met → Node
+unfoldable pub pairs_by : (ℤ → (Node → Met → Node) → Met → Node) → List yaml_node_pair_t
+    → (Pairs → Met → Node) → Met → Node
 pairs_by visit [] rest met = rest no_pairs met
-pairs_by visit (p ∷ ps) rest met = visit p.key (λ k m. visit p.value (λ v n. pairs_by visit ps (λ vs o. rest (pair k v vs) o) n) m) met
+pairs_by visit (p ∷ ps) rest met = visit p.key
+    (λ k m. visit p.value (λ v n. pairs_by visit ps (λ vs o. rest (pair k v vs) o) n) m) met
 
-abbrev pub node_by : (ℤ → (Node → Met → Node) → Met → Node) → Option (List ℕ) → List ℕ → model.NodeBody → (Node → Met → Node) → Met → Node
-node_by visit anchor tag model.no rest = rest (scalar_node (graph_scalar anchor tag [] YAML_ANY_SCALAR_STYLE))
-node_by visit anchor tag (model.scalar value style) rest = rest (scalar_node (graph_scalar anchor tag value style))
-node_by visit anchor tag (model.sequence items style) rest = items_by visit items (λ vs. rest (sequence_node (graph_start anchor tag seq_tag (is_flow_sequence style)) vs))
-node_by visit anchor tag (model.mapping pairs style) rest = pairs_by visit pairs (λ vs. rest (mapping_node (graph_start anchor tag map_tag (is_flow_mapping style)) vs))
+abbrev pub node_by : (ℤ → (Node → Met → Node) → Met → Node) → Option (List ℕ) → List ℕ
+    → model.NodeBody → (Node → Met → Node) → Met → Node
+node_by visit anchor tag model.no rest = rest
+    (scalar_node (graph_scalar anchor tag [] YAML_ANY_SCALAR_STYLE))
+node_by visit anchor tag (model.scalar value style) rest = rest
+    (scalar_node (graph_scalar anchor tag value style))
+node_by visit anchor tag (model.sequence items style) rest = items_by visit items
+    (λ vs. rest (sequence_node (graph_start anchor tag seq_tag (is_flow_sequence style)) vs))
+node_by visit anchor tag (model.mapping pairs style) rest = pairs_by visit pairs
+    (λ vs. rest (mapping_node (graph_start anchor tag map_tag (is_flow_mapping style)) vs))
 
 unfoldable pub content_by : ℕ → List ℕ → List model.Node → ℤ → (Node → Met → Node) → Met → Node
 content_by zero table nodes id rest met = rest (alias_node (name_of (number_at table id))) met
 content_by (suc n) table nodes id rest met =
     if is_met met id then rest (alias_node (name_of (number_at table id))) met
-    else node_by (content_by n table nodes) (anchor_of (number_at table id)) (tag_of_id nodes id) (body_of_id nodes id) rest (meet met id)
+    else node_by (content_by n table nodes) (anchor_of (number_at table id)) (tag_of_id nodes id)
+    (body_of_id nodes id) rest (meet met id)
 
 abbrev pub itself : Node → Met → Node
 itself v met = v
 
 unfoldable pub graph_root : List model.Node → Node
-graph_root nodes = content_by (suc (length nodes)) (numbers nodes) nodes (pos 1) itself (none_met nodes)
+graph_root nodes = content_by (suc (length nodes)) (numbers nodes) nodes (pos 1) itself
+    (none_met nodes)
 
 abbrev pub graph_opening : documents.Document → Opening
-graph_opening d = record { version = d.version; directives = d.directives; implicit = d.start_implicit }
+graph_opening d = record {
+  version = d.version;
+  directives = d.directives;
+  implicit = d.start_implicit;
+}
 
 -- what a document with a root says
 abbrev pub graph_content : documents.Document → Document
-graph_content d = record { opening = graph_opening d; root = graph_root d.nodes; implicit_end = d.end_implicit }
+graph_content d = record {
+  opening = graph_opening d;
+  root = graph_root d.nodes;
+  implicit_end = d.end_implicit;
+}
 
 abbrev pub document_events : Document → List Event
 document_events d = document_start d.opening ∷ node_events d.root (document_end d.implicit_end ∷ [])

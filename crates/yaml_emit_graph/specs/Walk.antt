@@ -42,7 +42,8 @@ opened id = record { node = id; index = 0; value = false }
 -- The open nodes to their ends. None lies deeper than there are nodes.
 unfoldable pub frames : List model.Node → List Open → Rest
 frames nodes [] met = []
-frames nodes (o ∷ os) met = over (visits (length nodes - length os) nodes) (left_of (body_of_id nodes o.node) o) (λ m. Leave o.node ∷ frames nodes os m) met
+frames nodes (o ∷ os) met = over (visits (length nodes - length os) nodes)
+    (left_of (body_of_id nodes o.node) o) (λ m. Leave o.node ∷ frames nodes os m) met
 
 abbrev pub remaining_by : Bool → List model.Node → List Open → Rest
 remaining_by true nodes os = frames nodes os
@@ -84,7 +85,8 @@ with_opened false id os = os
 abbrev pub Visited : List model.Node → ℤ → Walk → Result Turn AllocError → Walk → Type 0
 Visited nodes id old (Ok (Again i)) new = (i ≡ id) × (is_met old.met.items id ≡ true) × (new ≡ old)
 Visited nodes id old (Ok (First i)) new =
-    (i ≡ id) × (is_met old.met.items id ≡ false) × (new.met.items ≡ meet old.met.items id) × (new.started ≡ old.started)
+    (i ≡ id) × (is_met old.met.items id ≡ false) × (new.met.items ≡ meet old.met.items id)
+    × (new.started ≡ old.started)
     × (stack_of new ≡ with_opened (is_collection (body_of_id nodes id)) id (stack_of old))
 Visited nodes id old (Ok (Leave i)) new = ⊥
 Visited nodes id old (Err e) new = Unit {0}
@@ -92,5 +94,6 @@ Visited nodes id old (Err e) new = Unit {0}
 -- a walk gives what comes next, and the rest is still to come
 abbrev pub Comes : List model.Node → Walk → Result (Option Turn) AllocError → Walk → Type 0
 Comes nodes old (Ok None) new = (remaining_turns nodes old ≡ []) × IsWalk nodes new
-Comes nodes old (Ok (Some t)) new = (remaining_turns nodes old ≡ t ∷ remaining_turns nodes new) × IsWalk nodes new
+Comes nodes old (Ok (Some t)) new = (remaining_turns nodes old ≡ t ∷ remaining_turns nodes new)
+    × IsWalk nodes new
 Comes nodes old (Err e) new = Unit {0}

@@ -87,7 +87,8 @@ fn copies(
     alloc: Global,
     directives: &[yaml_tag_directive_t],
 ) -> Result<Vec<yaml_tag_directive_t>, AllocError>
-    ensures { IfOk result (λ copies. map directive_of copies.items ≡ map directive_of directives.now) }
+    ensures { IfOk result (λ copies. map directive_of copies.items ≡ map directive_of
+        directives.now) }
 {
     let mut copies = Vec::new(alloc);
     for directive in directives {
@@ -131,7 +132,8 @@ fn sequence_event(
     style: yaml_sequence_style_t,
 ) -> Result<yaml_event_body_t, AllocError>
     requires { IsUtf8Option (text_of anchor) × IsUtf8 tag.now }
-    ensures { Says (sequence_start (graph_start (text_of anchor) tag.now seq_tag (is_flow_sequence style))) result }
+    ensures { Says (sequence_start (graph_start (text_of anchor) tag.now seq_tag
+        (is_flow_sequence style))) result }
 {
     Ok(yaml_event_body_t::SequenceStart {
         anchor,
@@ -148,7 +150,8 @@ fn mapping_event(
     style: yaml_mapping_style_t,
 ) -> Result<yaml_event_body_t, AllocError>
     requires { IsUtf8Option (text_of anchor) × IsUtf8 tag.now }
-    ensures { Says (mapping_start (graph_start (text_of anchor) tag.now map_tag (is_flow_mapping style))) result }
+    ensures { Says (mapping_start (graph_start (text_of anchor) tag.now map_tag
+        (is_flow_mapping style))) result }
 {
     Ok(yaml_event_body_t::MappingStart {
         anchor,
@@ -164,8 +167,10 @@ fn node_event(
     anchor: Option<Vec<u8>>,
     node: &yaml_node_t,
 ) -> Result<yaml_event_body_t, AllocError>
-    requires { IsUtf8Option (text_of anchor) × IsUtf8 (node_of node.now).tag × IsUtf8Body (node_of node.now).body }
-    ensures { Says (opening_event (text_of anchor) (node_of node.now).tag (node_of node.now).body) result }
+    requires { IsUtf8Option (text_of anchor) × IsUtf8 (node_of node.now).tag
+        × IsUtf8Body (node_of node.now).body }
+    ensures { Says (opening_event (text_of anchor) (node_of node.now).tag (node_of node.now).body)
+        result }
 {
     match &node.body {
         yaml_node_body_t::No => scalar_event(
@@ -193,7 +198,8 @@ fn opening_event(
     id: i32,
 ) -> Result<yaml_event_body_t, AllocError>
     requires { IsUtf8Option (text_of anchor) }
-    ensures { Says (opening_event (text_of anchor) (tag_of_id document.now.nodes id) (body_of_id document.now.nodes id)) result }
+    ensures { Says (opening_event (text_of anchor) (tag_of_id document.now.nodes id)
+        (body_of_id document.now.nodes id)) result }
 {
     document_is_sound(document);
     match yaml_document_get_node(document, id) {
@@ -233,7 +239,8 @@ fn alias_event(alloc: Global, number: u64) -> Result<yaml_event_body_t, AllocErr
 impl Events {
     /// Before the document's start.
     pub fn of(alloc: Global, document: &yaml_document_t) -> Result<Events, AllocError>
-        ensures { IfOk result (λ e. IsEvents document.now e × (remaining_events document.now e ≡ dumped document.now)) }
+        ensures { IfOk result (λ e. IsEvents document.now e
+            × (remaining_events document.now e ≡ dumped document.now)) }
     {
         Ok(Events {
             alloc,
@@ -244,7 +251,8 @@ impl Events {
     }
 
     fn first(&self, document: &yaml_document_t, id: i32) -> Result<yaml_event_body_t, AllocError>
-        ensures { Says (turn_event self.now.numbers.items document.now.nodes (Turn.First id)) result }
+        ensures { Says (turn_event self.now.numbers.items document.now.nodes (Turn.First id))
+            result }
     {
         let anchor = anchor_of(self.alloc, number_of(&self.numbers, id))?;
         opening_event(self.alloc, document, anchor, id)

@@ -143,7 +143,8 @@ fn child_at(document: &yaml_document_t, from: Open) -> Option<(i32, Open)>
 impl Walk {
     /// Before the root of a document with so many nodes.
     pub fn new(alloc: Global, count: usize) -> Result<Walk, AllocError>
-        ensures { IfOk result (λ w. (w.started ≡ false) × (stack_of w ≡ []) × (w.met.items ≡ replicate count false)) }
+        ensures { IfOk result (λ w. (w.started ≡ false) × (stack_of w ≡ [])
+            × (w.met.items ≡ replicate count false)) }
     {
         Ok(Walk {
             started: false,
@@ -224,7 +225,8 @@ impl Walk {
     }
 
     fn descend(&mut self, document: &yaml_document_t, id: i32) -> Result<(), AllocError>
-        ensures stack { OnOk result (stack_of self.new ≡ with_opened (is_collection (body_of_id document.now.nodes id)) id (stack_of self.old)) }
+        ensures stack { OnOk result (stack_of self.new ≡ with_opened
+            (is_collection (body_of_id document.now.nodes id)) id (stack_of self.old)) }
         ensures rest { (self.new.met ≡ self.old.met) × (self.new.started ≡ self.old.started) }
     {
         if holds_nodes(document, id) {

@@ -24,9 +24,12 @@ is_marked x = not (has (scalar_tag true x)) && not x.quoted
 unfoldable mutual
   pub node_kinds : Node → List Kind → List Kind
   node_kinds (alias_node name) ks = kinds.Alias ∷ ks
-  node_kinds (scalar_node x) ks = kinds.DoubleQuoted ∷ put_if (is_marked x) kinds.Tag (properties_kinds x.anchor (scalar_tag true x) ks)
-  node_kinds (sequence_node q items) ks = kinds.FlowSequenceEnd ∷ items_kinds items (kinds.FlowSequenceStart ∷ properties_kinds q.anchor (start_tag true q) ks)
-  node_kinds (mapping_node q pairs) ks = kinds.FlowMappingEnd ∷ pairs_kinds pairs (kinds.FlowMappingStart ∷ properties_kinds q.anchor (start_tag true q) ks)
+  node_kinds (scalar_node x) ks = kinds.DoubleQuoted ∷ put_if (is_marked x) kinds.Tag
+      (properties_kinds x.anchor (scalar_tag true x) ks)
+  node_kinds (sequence_node q items) ks = kinds.FlowSequenceEnd ∷ items_kinds items
+      (kinds.FlowSequenceStart ∷ properties_kinds q.anchor (start_tag true q) ks)
+  node_kinds (mapping_node q pairs) ks = kinds.FlowMappingEnd ∷ pairs_kinds pairs
+      (kinds.FlowMappingStart ∷ properties_kinds q.anchor (start_tag true q) ks)
 
   pub items_kinds : Nodes → List Kind → List Kind
   items_kinds no_nodes ks = ks
@@ -34,7 +37,8 @@ unfoldable mutual
 
   pub pairs_kinds : Pairs → List Kind → List Kind
   pairs_kinds no_pairs ks = ks
-  pairs_kinds (pair k v ps) ks = pairs_kinds ps (kinds.FlowEntry ∷ node_kinds v (kinds.ValueMark ∷ node_kinds k (kinds.KeyMark ∷ ks)))
+  pairs_kinds (pair k v ps) ks = pairs_kinds ps
+      (kinds.FlowEntry ∷ node_kinds v (kinds.ValueMark ∷ node_kinds k (kinds.KeyMark ∷ ks)))
 
 abbrev pub version_kinds : Option yaml_version_directive_t → List Kind → List Kind
 version_kinds None ks = ks
@@ -46,12 +50,14 @@ directives_kinds (d ∷ ds) ks = directives_kinds ds (kinds.Directive ∷ ks)
 
 -- `...` parts directives from a document that ended implicitly; each document has its `---`
 abbrev pub opening_kinds : Bool → Opening → List Kind → List Kind
-opening_kinds unended o ks = kinds.DocumentStart ∷ directives_kinds o.directives (version_kinds o.version (put_if (unended && is_directed o) kinds.DocumentEnd ks))
+opening_kinds unended o ks = kinds.DocumentStart ∷ directives_kinds o.directives
+    (version_kinds o.version (put_if (unended && is_directed o) kinds.DocumentEnd ks))
 
 unfoldable pub documents_kinds : Bool → List Document → List Kind → List Kind
 documents_kinds unended [] ks = ks
 documents_kinds unended (d ∷ ds) ks =
-    documents_kinds d.implicit_end ds (put_if (not d.implicit_end) kinds.DocumentEnd (node_kinds d.root (opening_kinds unended d.opening ks)))
+    documents_kinds d.implicit_end ds (put_if (not d.implicit_end) kinds.DocumentEnd
+    (node_kinds d.root (opening_kinds unended d.opening ks)))
 
 -- the kinds of a stream of documents, the stream's start aside
 abbrev pub stream_kinds : List Document → List Kind

@@ -12,5 +12,9 @@ CanonicalIsKeyFree = (ds : List Document) → is_key_free (stream_kinds ds) ≡ 
 
 -- A text in which words of these kinds stand one behind another is read as their tokens, without fault.
 abbrev pub CanonicalWordsAreRead : Type 0
-CanonicalWordsAreRead = (s : SpelledText) (ds : List Document) (ws : List Word) → Stand s.text ws → word_kinds ws ≡ stream_kinds ds
-    → offline s ≡ record { tokens = first_token s ∷ map (token_of s.text) (reverse ws); fault = None }
+CanonicalWordsAreRead = (s : SpelledText) (ds : List Document) (ws : List Word) → Stand s.text ws
+    → word_kinds ws ≡ stream_kinds ds
+    → offline s ≡ record {
+      tokens = first_token s ∷ map (token_of s.text) (reverse ws);
+      fault = None;
+    }

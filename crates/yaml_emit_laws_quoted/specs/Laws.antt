@@ -19,12 +19,14 @@ use Rattle.yaml_emit_laws_quoted.specs.ReadBack.{IsReadBack, IsReadBackBefore, b
 -- Where a spelling stands between double quotes, that is one scalar and has the value that it means, whatever stands before and
 -- behind.
 abbrev pub SpellingReads : Type 0
-SpellingReads = (parts : List Part) (text : List ℕ) (p : ℕ) → IsSpelling 34 parts → HasAt text p (quoted 34 parts)
+SpellingReads = (parts : List Part) (text : List ℕ) (p : ℕ) → IsSpelling 34 parts
+    → HasAt text p (quoted 34 parts)
     → double_quoted_at text p ≡ Ok (meaning parts, p + length (quoted 34 parts))
 
 -- So it is between single quotes, where no single quote stands behind.
 abbrev pub SingleSpellingReads : Type 0
-SingleSpellingReads = (parts : List Part) (text : List ℕ) (p : ℕ) → IsSpelling 39 parts → HasAt text p (quoted 39 parts)
+SingleSpellingReads = (parts : List Part) (text : List ℕ) (p : ℕ) → IsSpelling 39 parts
+    → HasAt text p (quoted 39 parts)
     → (byte text (p + length (quoted 39 parts)) ≡ 39 → ⊥)
     → single_quoted_at text p ≡ Ok (meaning parts, p + length (quoted 39 parts))
 
@@ -33,22 +35,28 @@ SingleSpellingReads = (parts : List Part) (text : List ℕ) (p : ℕ) → IsSpel
 -- What is written for a value between double quotes is read as the value: on every page, at every column, with every break; with
 -- lines that may be broken, where new lines are indented.
 abbrev pub QuotedIsReadBack : Type 0
-QuotedIsReadBack = (page : Page) (c : Cursor) (value : List ℕ) → IsUtf8 value → (page.cuts ≡ true → 0 < page.indentation)
+QuotedIsReadBack = (page : Page) (c : Cursor) (value : List ℕ) → IsUtf8 value
+    → (page.cuts ≡ true → 0 < page.indentation)
     → IsReadBack double_quoted_at (between_quotes page (chars value)) c value
 
 -- Wherever a text has a double quoted scalar's bytes in UTF-8, the value is read behind the space in front.
 abbrev pub QuotedTextIsReadBack : Type 0
-QuotedTextIsReadBack = (page : Page) (c : Cursor) (value text : List ℕ) (p : ℕ) → IsUtf8 value → (page.cuts ≡ true → 0 < page.indentation)
+QuotedTextIsReadBack = (page : Page) (c : Cursor) (value text : List ℕ) (p : ℕ) → IsUtf8 value
+    → (page.cuts ≡ true → 0 < page.indentation)
     → HasAt text p (encode Utf8 (double_quoted page (chars value) c nothing_more))
-    → double_quoted_at text (p + gap_width c) ≡ Ok (value, p + length (encode Utf8 (double_quoted page (chars value) c nothing_more)))
+    → double_quoted_at text (p + gap_width c)
+    ≡ Ok (value, p + length (encode Utf8 (double_quoted page (chars value) c nothing_more)))
 
 -- As a simple key, which may not be broken, it stays in its line, whatever the value.
 abbrev pub KeysStayInLine : Type 0
-KeysStayInLine = (page : Page) (c : Cursor) (value : List ℕ) → IsUtf8 value → page.cuts ≡ false → StaysInLine (between_quotes page (chars value)) c
+KeysStayInLine = (page : Page) (c : Cursor) (value : List ℕ) → IsUtf8 value → page.cuts ≡ false
+    → StaysInLine (between_quotes page (chars value)) c
 
 -- What is written for a value of one line between single quotes, where they are allowed, is read as the value, unless a single
 -- quote stands behind; with lines that may be broken, where new lines are indented.
 abbrev pub SingleIsReadBack : Type 0
-SingleIsReadBack = (page : Page) (c : Cursor) (value : List ℕ) → IsUtf8 value → (page.cuts ≡ true → 0 < page.indentation)
+SingleIsReadBack = (page : Page) (c : Cursor) (value : List ℕ) → IsUtf8 value
+    → (page.cuts ≡ true → 0 < page.indentation)
     → (allowed page.unicode (chars value)).single ≡ true → is_one_line (chars value) ≡ true
-    → IsReadBackBefore (λ b. b ≡ 39 → ⊥) single_quoted_at (between_single page (chars value)) c value
+    → IsReadBackBefore (λ b. b ≡ 39 → ⊥) single_quoted_at (between_single page (chars value)) c
+    value

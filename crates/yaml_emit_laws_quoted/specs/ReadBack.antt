@@ -13,18 +13,22 @@ use Rattle.yaml_emit_laws_quoted.specs.Stands.{HasAt}
 
 -- From a cursor on, a layout writes these characters, whatever follows; and wherever their bytes stand, the reading gives the
 -- value, and ends behind them.
-pub record IsReadBack (reading : List ℕ → ℕ → Result (List ℕ × ℕ) Wrong) (a : Layout) (c : Cursor) (value : List ℕ) : Type 0 where
+pub record IsReadBack (reading : List ℕ → ℕ → Result (List ℕ × ℕ) Wrong) (a : Layout) (c : Cursor)
+    (value : List ℕ) : Type 0 where
   pub letters : List ℕ
   pub behind : Cursor
   pub written : (rest : Rest) → a c rest ≡ in_front letters (rest behind)
-  pub read : (text : List ℕ) (p : ℕ) → HasAt text p (encode_utf8_all letters) → reading text p ≡ Ok (value, p + length (encode_utf8_all letters))
+  pub read : (text : List ℕ) (p : ℕ) → HasAt text p (encode_utf8_all letters)
+      → reading text p ≡ Ok (value, p + length (encode_utf8_all letters))
 
 -- the same, where the byte behind fits
-pub record IsReadBackBefore (Fits : ℕ → Type 0) (reading : List ℕ → ℕ → Result (List ℕ × ℕ) Wrong) (a : Layout) (c : Cursor) (value : List ℕ) : Type 0 where
+pub record IsReadBackBefore (Fits : ℕ → Type 0) (reading : List ℕ → ℕ → Result (List ℕ × ℕ) Wrong)
+    (a : Layout) (c : Cursor) (value : List ℕ) : Type 0 where
   pub letters : List ℕ
   pub behind : Cursor
   pub written : (rest : Rest) → a c rest ≡ in_front letters (rest behind)
-  pub read : (text : List ℕ) (p : ℕ) → HasAt text p (encode_utf8_all letters) → Fits (byte text (p + length (encode_utf8_all letters)))
+  pub read : (text : List ℕ) (p : ℕ) → HasAt text p (encode_utf8_all letters)
+      → Fits (byte text (p + length (encode_utf8_all letters)))
       → reading text p ≡ Ok (value, p + length (encode_utf8_all letters))
 
 -- a double quoted scalar from quote to quote, without the space in front

@@ -112,13 +112,15 @@ is_line_end c = c == 10 || (c == 13 || (c == 0x85 || (c == 0x2028 || c == 0x2029
 
 -- Raw characters are no ends of lines, not the quote and not 0, which ends a stream; in double quotes no backslashes.
 abbrev pub may_be_raw : ℕ → ℕ → Bool
-may_be_raw quote c = scalar c && not (is_line_end c || (c == 0 || (c == quote || (quote == 34 && c == 92))))
+may_be_raw quote c = scalar c && not (is_line_end c
+    || (c == 0 || (c == quote || (quote == 34 && c == 92))))
 
 abbrev pub MayStand : ℕ → Part → Type 0
 MayStand quote (raw c) = may_be_raw quote c ≡ true
 MayStand quote doubled = quote ≡ 39
 MayStand quote (named b bytes) = (quote ≡ 34) × (simple_escape b ≡ Some bytes)
-MayStand quote (numbered b digits c) = (quote ≡ 34) × (0 < length digits) × (hex_len b ≡ length digits) × (number_behind 0 digits ≡ Some c) × (scalar c ≡ true)
+MayStand quote (numbered b digits c) = (quote ≡ 34) × (0 < length digits)
+    × (hex_len b ≡ length digits) × (number_behind 0 digits ≡ Some c) × (scalar c ≡ true)
 MayStand quote (fold t ts) = may_turn t ts ≡ true
 MayStand quote (joint t ts) = (quote ≡ 34) × (may_turn t ts ≡ true)
 
@@ -137,7 +139,8 @@ is_turn _ = false
 
 -- Raw blanks beside the end of a line are not kept, but before a backslash; and ends of lines are one part.
 abbrev pub may_follow : Part → Part → Bool
-may_follow p q = not (is_fold q && (is_raw_blank p || is_turn p)) && not (is_raw_blank q && is_turn p)
+may_follow p q = not (is_fold q && (is_raw_blank p || is_turn p))
+    && not (is_raw_blank q && is_turn p)
 
 abbrev pub may_be_next : Part → List Part → Bool
 may_be_next p [] = true

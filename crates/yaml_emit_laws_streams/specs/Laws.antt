@@ -40,11 +40,13 @@ pub record RightFront (canonical : Bool) (es : List Event) : Type 0 where
 
 -- A list of events of which none is refused, and which ends the stream, is a stream's in which nothing is wrong.
 abbrev pub PassedAreStreams : Type 0
-PassedAreStreams = (canonical : Bool) (es : List Event) → first_refusal canonical first_progress es ≡ None → (progress_behind first_progress es).place ≡ at.End → RightStream canonical es
+PassedAreStreams = (canonical : Bool) (es : List Event) → first_refusal canonical first_progress es
+    ≡ None → (progress_behind first_progress es).place ≡ at.End → RightStream canonical es
 
 -- A list of events of which none is refused, wherever it ends, is a front of such a stream.
 abbrev pub PassedAreFronts : Type 0
-PassedAreFronts = (canonical : Bool) (es : List Event) → first_refusal canonical first_progress es ≡ None → RightFront canonical es
+PassedAreFronts = (canonical : Bool) (es : List Event) → first_refusal canonical first_progress es
+    ≡ None → RightFront canonical es
 
 -- the text of a stream under the settings that were set
 pub record HasText (w : RequestedSettings) (es : List Event) : Type 0 where
@@ -54,7 +56,8 @@ pub record HasText (w : RequestedSettings) (es : List Event) : Type 0 where
 
 -- Such a stream has a text, which is its layout.
 abbrev pub RightStreamsHaveTexts : Type 0
-RightStreamsHaveTexts = (w : RequestedSettings) (es : List Event) → RightStream w.canonical es → HasText w es
+RightStreamsHaveTexts = (w : RequestedSettings) (es : List Event) → RightStream w.canonical es
+    → HasText w es
 
 -- ---- what a document says
 
@@ -74,11 +77,13 @@ AreRight (d ∷ ds) = RightDocument d × AreRight ds
 
 -- Nothing is wrong with the events of a dump.
 abbrev pub DumpsAreRight : Type 0
-DumpsAreRight = (canonical : Bool) (d : documents.Document) → RightDocument d → own_problems canonical (dumped d) ≡ None
+DumpsAreRight = (canonical : Bool) (d : documents.Document) → RightDocument d
+    → own_problems canonical (dumped d) ≡ None
 
 -- Nor with those of a stream of dumps.
 abbrev pub DumpedStreamsAreRight : Type 0
-DumpedStreamsAreRight = (canonical : Bool) (x : yaml_encoding_t) (ds : List documents.Document) → AreRight ds → own_problems canonical (stream_events x (map graph_content ds)) ≡ None
+DumpedStreamsAreRight = (canonical : Bool) (x : yaml_encoding_t) (ds : List documents.Document)
+    → AreRight ds → own_problems canonical (stream_events x (map graph_content ds)) ≡ None
 
 -- ---- what is loaded
 
@@ -90,7 +95,8 @@ MayTag (Some tag) = 0 < length tag
 -- an event whose tag isn't empty; one that opens a document, with a version and directives that may be written
 abbrev pub RightBody : event.EventBody → Type 0
 RightBody (event.document_start version directives implicit) =
-    let o : Opening = record { version = version; directives = directives; implicit = implicit } in opening_problem o ≡ None
+    let o : Opening = record { version = version; directives = directives; implicit = implicit }
+    in opening_problem o ≡ None
 RightBody (event.scalar anchor tag value plain quoted style) = MayTag tag
 RightBody (event.sequence_start anchor tag implicit style) = MayTag tag
 RightBody (event.mapping_start anchor tag implicit style) = MayTag tag
@@ -117,8 +123,10 @@ TakenAreRight = (b : event.EventBody) → own_problem true (emitter_event b) ≡
 
 -- What a right event makes of a right document is right.
 abbrev pub StepsKeepRight : Type 0
-StepsKeepRight = (e : event.Event) (l : Loading) → RightBody e.body → RightDocument l.document → RightFed (step e l)
+StepsKeepRight = (e : event.Event) (l : Loading) → RightBody e.body → RightDocument l.document
+    → RightFed (step e l)
 
 -- A document that is loaded of right events is right.
 abbrev pub LoadsAreRight : Type 0
-LoadsAreRight = (gs : List Told) (f : Option Fault) → AreRightTold gs → RightLoads (loads gs f nothing_loaded)
+LoadsAreRight = (gs : List Told) (f : Option Fault) → AreRightTold gs
+    → RightLoads (loads gs f nothing_loaded)

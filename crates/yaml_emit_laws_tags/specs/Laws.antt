@@ -18,13 +18,15 @@ resolved_split ds (verbatim tag) = resolved ds [] tag
 
 -- Under directives that may be written each tag is resolved as it was.
 abbrev pub TagsResolve : Type 0
-TagsResolve = (o : Opening) → opening_problem o ≡ None → (tag : List ℕ) → resolved_split o.directives (split_tag o.directives tag) ≡ Some tag
+TagsResolve = (o : Opening) → opening_problem o ≡ None → (tag : List ℕ)
+    → resolved_split o.directives (split_tag o.directives tag) ≡ Some tag
 
 -- ---- reading
 
 -- `!`, or `!alphas!`, where the alphas may be none
 abbrev pub IsShaped : List ℕ → Type 0
-IsShaped handle = (handle ≡ 33 ∷ []) ⊎ ((name : List ℕ) × (handle ≡ 33 ∷ (name ++ (33 ∷ []))) × (are_alphas name ≡ true))
+IsShaped handle = (handle ≡ 33 ∷ []) ⊎ ((name : List ℕ) × (handle ≡ 33 ∷ (name ++ (33 ∷ [])))
+    × (are_alphas name ≡ true))
 
 -- a handle of that shape, and a suffix in UTF-8 of one byte at least; or such a tag
 abbrev pub IsReadable : Split → Type 0
@@ -38,7 +40,8 @@ tag_text (verbatim tag) end = record { handle = []; suffix = tag; end = end }
 
 -- Its spelling is read as it was, whatever follows that may end a tag.
 abbrev pub SplitTagsAreRead : Type 0
-SplitTagsAreRead = (split : Split) → IsReadable split → (flow : Bool) (text : List ℕ) (p : ℕ) → HasAt text p (spelled split) → may_end_tag flow text (p + length (spelled split)) ≡ true
+SplitTagsAreRead = (split : Split) → IsReadable split → (flow : Bool) (text : List ℕ) (p : ℕ)
+    → HasAt text p (spelled split) → may_end_tag flow text (p + length (spelled split)) ≡ true
     → tag_at flow text p ≡ Ok (tag_text split (p + length (spelled split)))
 
 -- ---- both
@@ -49,7 +52,8 @@ HaveUtf8 [] = Unit {0}
 HaveUtf8 (d ∷ ds) = IsUtf8 d.prefix × HaveUtf8 ds
 
 -- A tag is read there, up to the end of what is written for that one, which resolves to it.
-pub record IsReadBack (ds : List TagDirective) (tag : List ℕ) (flow : Bool) (text : List ℕ) (p : ℕ) : Type 0 where
+pub record IsReadBack (ds : List TagDirective) (tag : List ℕ) (flow : Bool) (text : List ℕ)
+    (p : ℕ) : Type 0 where
   pub said : TagText
   pub read : tag_at flow text p ≡ Ok said
   pub ends : said.end ≡ p + length (tag_spelling ds tag)
@@ -57,5 +61,8 @@ pub record IsReadBack (ds : List TagDirective) (tag : List ℕ) (flow : Bool) (t
 
 -- What is written for a tag in UTF-8, under directives that may be written, is read back as that tag.
 abbrev pub TagsAreReadBack : Type 0
-TagsAreReadBack = (o : Opening) → opening_problem o ≡ None → HaveUtf8 o.directives → (tag : List ℕ) → IsUtf8 tag → 0 < length tag → (flow : Bool) (text : List ℕ) (p : ℕ)
-    → HasAt text p (tag_spelling o.directives tag) → may_end_tag flow text (p + length (tag_spelling o.directives tag)) ≡ true → IsReadBack o.directives tag flow text p
+TagsAreReadBack = (o : Opening) → opening_problem o ≡ None → HaveUtf8 o.directives → (tag : List ℕ)
+    → IsUtf8 tag → 0 < length tag → (flow : Bool) (text : List ℕ) (p : ℕ)
+    → HasAt text p (tag_spelling o.directives tag)
+    → may_end_tag flow text (p + length (tag_spelling o.directives tag)) ≡ true
+    → IsReadBack o.directives tag flow text p

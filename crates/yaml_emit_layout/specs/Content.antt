@@ -81,13 +81,24 @@ abbrev pub emitter_event : EventBody → Event
 emitter_event model.no = no_event
 emitter_event (model.stream_start encoding) = stream_start encoding
 emitter_event model.stream_end = stream_end
-emitter_event (model.document_start version directives implicit) = document_start (record { version = version; directives = directives; implicit = implicit })
+emitter_event (model.document_start version directives implicit) = document_start
+    (record { version = version; directives = directives; implicit = implicit })
 emitter_event (model.document_end implicit) = document_end implicit
 emitter_event (model.alias name) = alias name
-emitter_event (model.scalar anchor tag value plain quoted style) = scalar (record { anchor = anchor; tag = tag; value = value; plain = plain; quoted = quoted; style = style })
-emitter_event (model.sequence_start anchor tag implicit style) = sequence_start (record { anchor = anchor; tag = tag; implicit = implicit; flow = is_flow_sequence style })
+emitter_event (model.scalar anchor tag value plain quoted style) = scalar
+    (record {
+      anchor = anchor;
+      tag = tag;
+      value = value;
+      plain = plain;
+      quoted = quoted;
+      style = style;
+    })
+emitter_event (model.sequence_start anchor tag implicit style) = sequence_start
+    (record { anchor = anchor; tag = tag; implicit = implicit; flow = is_flow_sequence style })
 emitter_event model.sequence_end = sequence_end
-emitter_event (model.mapping_start anchor tag implicit style) = mapping_start (record { anchor = anchor; tag = tag; implicit = implicit; flow = is_flow_mapping style })
+emitter_event (model.mapping_start anchor tag implicit style) = mapping_start
+    (record { anchor = anchor; tag = tag; implicit = implicit; flow = is_flow_mapping style })
 emitter_event model.mapping_end = mapping_end
 
 -- the events of a node, and what follows
@@ -108,7 +119,8 @@ unfoldable mutual
 
 unfoldable pub documents_events : List Document → List Event
 documents_events [] = stream_end ∷ []
-documents_events (d ∷ ds) = document_start d.opening ∷ node_events d.root (document_end d.implicit_end ∷ documents_events ds)
+documents_events (d ∷ ds) = document_start d.opening ∷ node_events d.root
+    (document_end d.implicit_end ∷ documents_events ds)
 
 -- the events of a stream
 abbrev pub stream_events : yaml_encoding_t → List Document → List Event

@@ -18,20 +18,25 @@ use Rattle.yaml_emit_layout.specs.Content.{Scalar, Start, Opening, Event, no_eve
 -- the text of a problem
 abbrev pub problem_bytes : Problem → List ℕ
 problem_bytes problem.AnchorEmpty = codes "anchor value must not be empty"
-problem_bytes problem.AnchorCharacters = codes "anchor value must contain alphanumerical characters only"
+problem_bytes problem.AnchorCharacters = codes
+    "anchor value must contain alphanumerical characters only"
 problem_bytes problem.AliasEmpty = codes "alias value must not be empty"
-problem_bytes problem.AliasCharacters = codes "alias value must contain alphanumerical characters only"
+problem_bytes problem.AliasCharacters = codes
+    "alias value must contain alphanumerical characters only"
 problem_bytes problem.TagEmpty = codes "tag value must not be empty"
 problem_bytes problem.ExpectedStreamStart = codes "expected STREAM-START"
-problem_bytes problem.ExpectedDocumentStartOrStreamEnd = codes "expected DOCUMENT-START or STREAM-END"
-problem_bytes problem.ExpectedNode = codes "expected SCALAR, SEQUENCE-START, MAPPING-START, or ALIAS"
+problem_bytes problem.ExpectedDocumentStartOrStreamEnd = codes
+    "expected DOCUMENT-START or STREAM-END"
+problem_bytes problem.ExpectedNode = codes
+    "expected SCALAR, SEQUENCE-START, MAPPING-START, or ALIAS"
 problem_bytes problem.ExpectedDocumentEnd = codes "expected DOCUMENT-END"
 problem_bytes problem.ExpectedNothing = codes "expected nothing after STREAM-END"
 problem_bytes problem.Version = codes "incompatible %YAML directive"
 problem_bytes problem.HandleEmpty = codes "tag handle must not be empty"
 problem_bytes problem.HandleStart = codes "tag handle must start with '!'"
 problem_bytes problem.HandleEnd = codes "tag handle must end with '!'"
-problem_bytes problem.HandleCharacters = codes "tag handle must contain alphanumerical characters only"
+problem_bytes problem.HandleCharacters = codes
+    "tag handle must contain alphanumerical characters only"
 problem_bytes problem.PrefixEmpty = codes "tag prefix must not be empty"
 problem_bytes problem.HandleTwice = codes "duplicate %TAG directive"
 problem_bytes problem.NoFlags = codes "neither tag nor implicit flags are specified"
@@ -76,9 +81,12 @@ tag_problem (Some t) = if length t == 0 then Some problem.TagEmpty else None
 -- what is wrong with an event's anchor or tag
 unfoldable pub event_problem : Bool → Event → Option Problem
 event_problem canonical (alias name) = name_problem problem.AliasEmpty problem.AliasCharacters name
-event_problem canonical (scalar x) = or_else (anchor_problem x.anchor) (tag_problem (scalar_tag canonical x))
-event_problem canonical (sequence_start p) = or_else (anchor_problem p.anchor) (tag_problem (start_tag canonical p))
-event_problem canonical (mapping_start p) = or_else (anchor_problem p.anchor) (tag_problem (start_tag canonical p))
+event_problem canonical (scalar x) = or_else (anchor_problem x.anchor)
+    (tag_problem (scalar_tag canonical x))
+event_problem canonical (sequence_start p) = or_else (anchor_problem p.anchor)
+    (tag_problem (start_tag canonical p))
+event_problem canonical (mapping_start p) = or_else (anchor_problem p.anchor)
+    (tag_problem (start_tag canonical p))
 event_problem canonical no_event = None
 event_problem canonical (stream_start x) = None
 event_problem canonical stream_end = None
@@ -123,12 +131,14 @@ abbrev pub twice_problem : List TagDirective → List ℕ → Option Problem
 twice_problem before h = if list_any (has_handle h) before then Some problem.HandleTwice else None
 
 abbrev pub directive_problem : List TagDirective → TagDirective → Option Problem
-directive_problem before d = or_else (handle_problem d.handle) (or_else (prefix_problem d.prefix) (twice_problem before d.handle))
+directive_problem before d = or_else (handle_problem d.handle)
+    (or_else (prefix_problem d.prefix) (twice_problem before d.handle))
 
 -- the first problem of a document's directives, by those before
 unfoldable pub directives_problem : List TagDirective → List TagDirective → Option Problem
 directives_problem before [] = None
-directives_problem before (d ∷ ds) = or_else (directive_problem before d) (directives_problem (before ++ d ∷ []) ds)
+directives_problem before (d ∷ ds) = or_else (directive_problem before d)
+    (directives_problem (before ++ d ∷ []) ds)
 
 abbrev pub opening_problem : Opening → Option Problem
 opening_problem o = or_else (version_problem o.version) (directives_problem [] o.directives)
@@ -201,4 +211,5 @@ place_problem (at.Refused p) ls _ = Some p
 
 -- the anchor, the tag, the place, then the directives or the flags
 unfoldable pub problem_by : Bool → Expected → Option Level → Event → Option Problem
-problem_by canonical place top e = or_else (event_problem canonical e) (or_else (place_problem place top e) (last_problem e))
+problem_by canonical place top e = or_else (event_problem canonical e)
+    (or_else (place_problem place top e) (last_problem e))

@@ -84,20 +84,30 @@ is_plain style.Folded = false
 unfoldable pub style_of : Context → Spot → Scalar → Style
 style_of p at x =
     if p.settings.canonical then style.Double
-    else taken (allowed p.settings.unicode (chars x.value)) x.style (has (scalar_tag false x) || x.plain) at.flow (is_simple_part at.part) (length x.value == 0)
+    else taken (allowed p.settings.unicode (chars x.value)) x.style (has (scalar_tag false x)
+    || x.plain) at.flow (is_simple_part at.part) (length x.value == 0)
 
 -- an untagged scalar that may not be quoted has `!` in front, unless it is plain
 abbrev pub mark_text : Context → Scalar → Style → Layout
-mark_text p x chosen = when (not (has (scalar_tag p.settings.canonical x)) && (not x.quoted && not (is_plain chosen))) (word (33 ∷ []))
+mark_text p x chosen = when (not (has (scalar_tag p.settings.canonical x))
+    && (not x.quoted && not (is_plain chosen))) (word (33 ∷ []))
 
 -- the lines that a scalar stands in
 abbrev pub page_at : Settings → Spot → Page
-page_at s at = record { width = s.width; indentation = deeper s at.around; unicode = s.unicode; cuts = not (is_simple_part at.part); line_break = s.line_break }
+page_at s at = record {
+  width = s.width;
+  indentation = deeper s at.around;
+  unicode = s.unicode;
+  cuts = not (is_simple_part at.part);
+  line_break = s.line_break;
+}
 
 unfoldable pub scalar_layout : Context → Spot → Scalar → Layout
 scalar_layout p at x =
-    properties_text p x.anchor (scalar_tag p.settings.canonical x) ▹ mark_text p x (style_of p at x) ▹ checked (deeper p.settings at.around)
-    ▹ scalar_text (page_at p.settings at) p.settings.indent at.flow (style_of p at x) (chars x.value)
+    properties_text p x.anchor (scalar_tag p.settings.canonical x) ▹ mark_text p x (style_of p at x)
+    ▹ checked (deeper p.settings at.around)
+    ▹ scalar_text (page_at p.settings at) p.settings.indent at.flow (style_of p at x)
+    (chars x.value)
 
 -- an alias as a simple key has a space behind it
 unfoldable pub alias_layout : Spot → List ℕ → Layout
@@ -126,13 +136,16 @@ has_break value = any_below (length value) (is_break value)
 
 -- a simple key has no break, and at most 128 bytes of anchor, tag and value; canonical form has none
 unfoldable pub is_simple_scalar : Context → Scalar → Bool
-is_simple_scalar p x = not p.settings.canonical && (not (has_break x.value) && nat_le (properties_size p x.anchor (scalar_tag false x) + length x.value) 128)
+is_simple_scalar p x = not p.settings.canonical
+    && (not (has_break x.value) && nat_le (properties_size p x.anchor (scalar_tag false x) + length
+    x.value) 128)
 
 unfoldable pub is_simple_alias : Context → List ℕ → Bool
 is_simple_alias p name = not p.settings.canonical && nat_le (length name) 128
 
 unfoldable pub is_simple_start : Context → Start → Bool → Bool
-is_simple_start p q empty = not p.settings.canonical && (empty && nat_le (properties_size p q.anchor (start_tag false q)) 128)
+is_simple_start p q empty = not p.settings.canonical
+    && (empty && nat_le (properties_size p q.anchor (start_tag false q)) 128)
 
 abbrev pub are_none : Nodes → Bool
 are_none no_nodes = true
@@ -165,7 +178,8 @@ is_flow s at q empty = s.canonical || (at.flow || (q.flow || empty))
 
 -- the indentation of a collection, found behind its properties: a block sequence that is a key or a value keeps that round it where the line isn't bare
 abbrev pub indent_of : Settings → Spot → Bool → Bool → Cursor → ℕ
-indent_of s at sequence flow c = if flow then deeper s at.around else block_indent_in s at.around (sequence && (is_of_mapping at.part && not c.bare))
+indent_of s at sequence flow c = if flow then deeper s at.around else block_indent_in s at.around
+    (sequence && (is_of_mapping at.part && not c.bare))
 
 -- a layout by an indentation that is found at the cursor
 abbrev pub indented : (Cursor → ℕ) → (ℕ → Layout) → Layout
@@ -189,7 +203,8 @@ question false = indicator 63
 
 -- what comes before a key, by whether none has come and whether it is simple
 unfoldable pub before_key : Settings → Bool → ℕ → Bool → Bool → Layout
-before_key s flow n fresh simple = (if flow then comma fresh ▹ turned s n else line_at s n) ▹ when (not simple) (question flow)
+before_key s flow n fresh simple = (if flow then comma fresh ▹ turned s n else line_at s n)
+    ▹ when (not simple) (question flow)
 
 -- what comes before a value, by whether its key was simple
 unfoldable pub before_value : Settings → Bool → ℕ → Bool → Layout
@@ -199,7 +214,8 @@ before_value s false n false = line_at s n ▹ indicator 58
 
 -- what ends a collection; in canonical form a comma and a line of the surroundings come before the indicator, unless nothing has come
 unfoldable pub closer : Settings → Bool → ℕ → Bool → ℕ → Layout
-closer s true n fresh x = when (s.canonical && not fresh) (char 44 ▹ line_at s (n - s.indent)) ▹ char x
+closer s true n fresh x = when (s.canonical && not fresh) (char 44 ▹ line_at s (n - s.indent))
+    ▹ char x
 closer s false n fresh x = stay
 
 abbrev pub key_part : Bool → Part
@@ -212,21 +228,29 @@ unfoldable mutual
   node_layout p at (alias_node name) = alias_layout at name
   node_layout p at (scalar_node x) = scalar_layout p at x
   node_layout p at (sequence_node q items) =
-      properties_text p q.anchor (start_tag p.settings.canonical q) ▹ when (is_flow p.settings at q (are_none items)) (opener 91)
-      ▹ indented (indent_of p.settings at true (is_flow p.settings at q (are_none items))) (λ n. checked n ▹ items_layout p (is_flow p.settings at q (are_none items)) n true items)
+      properties_text p q.anchor (start_tag p.settings.canonical q)
+      ▹ when (is_flow p.settings at q (are_none items)) (opener 91)
+      ▹ indented (indent_of p.settings at true (is_flow p.settings at q (are_none items)))
+      (λ n. checked n ▹ items_layout p (is_flow p.settings at q (are_none items)) n true items)
   node_layout p at (mapping_node q pairs) =
-      properties_text p q.anchor (start_tag p.settings.canonical q) ▹ when (is_flow p.settings at q (are_no_pairs pairs)) (opener 123)
-      ▹ indented (indent_of p.settings at false (is_flow p.settings at q (are_no_pairs pairs))) (λ n. checked n ▹ pairs_layout p (is_flow p.settings at q (are_no_pairs pairs)) n true pairs)
+      properties_text p q.anchor (start_tag p.settings.canonical q)
+      ▹ when (is_flow p.settings at q (are_no_pairs pairs)) (opener 123)
+      ▹ indented (indent_of p.settings at false (is_flow p.settings at q (are_no_pairs pairs)))
+      (λ n. checked n ▹ pairs_layout p (is_flow p.settings at q (are_no_pairs pairs)) n true
+      pairs)
 
   pub items_layout : Context → Bool → ℕ → Bool → Nodes → Layout
   items_layout p flow n fresh no_nodes = closer p.settings flow n fresh 93
-  items_layout p flow n fresh (node x xs) = before_item p.settings flow n fresh ▹ node_layout p (spot flow n part.Item) x ▹ items_layout p flow n false xs
+  items_layout p flow n fresh (node x xs) = before_item p.settings flow n fresh
+      ▹ node_layout p (spot flow n part.Item) x ▹ items_layout p flow n false xs
 
   pub pairs_layout : Context → Bool → ℕ → Bool → Pairs → Layout
   pairs_layout p flow n fresh no_pairs = closer p.settings flow n fresh 125
   pairs_layout p flow n fresh (pair k v ps) =
-      before_key p.settings flow n fresh (is_simple p k) ▹ node_layout p (spot flow n (key_part (is_simple p k))) k
-      ▹ before_value p.settings flow n (is_simple p k) ▹ node_layout p (spot flow n part.Value) v ▹ pairs_layout p flow n false ps
+      before_key p.settings flow n fresh (is_simple p k)
+      ▹ node_layout p (spot flow n (key_part (is_simple p k))) k
+      ▹ before_value p.settings flow n (is_simple p k) ▹ node_layout p (spot flow n part.Value) v
+      ▹ pairs_layout p flow n false ps
 
 abbrev pub dots : Settings → Layout
 dots s = word (46 ∷ 46 ∷ 46 ∷ []) ▹ line_at s 0
@@ -241,7 +265,8 @@ version_text s (Some v) = word (codes "%YAML") ▹ word (version_word v) ▹ lin
 
 -- `%TAG`, the handle and the prefix
 abbrev pub directive_text : Settings → TagDirective → Layout
-directive_text s d = word (codes "%TAG") ▹ word d.handle ▹ word (uri_text true d.prefix) ▹ line_at s 0
+directive_text s d = word (codes "%TAG") ▹ word d.handle ▹ word (uri_text true d.prefix)
+    ▹ line_at s 0
 
 unfoldable pub directives_text : Settings → List TagDirective → Layout
 directives_text s [] = stay
@@ -268,7 +293,8 @@ is_marked s first o = s.canonical || not (first && (o.implicit && not (is_direct
 -- `...` parts directives from a document that ended implicitly
 unfoldable pub start_layout : Settings → Bool → Bool → Opening → Layout
 start_layout s first unended o =
-    when (unended && is_directed o) (dots s) ▹ keep false ▹ version_text s o.version ▹ directives_text s o.directives ▹ when (is_marked s first o) (dashes s)
+    when (unended && is_directed o) (dots s) ▹ keep false ▹ version_text s o.version
+    ▹ directives_text s o.directives ▹ when (is_marked s first o) (dashes s)
 
 unfoldable pub end_layout : Settings → Bool → Layout
 end_layout s implicit = line_at s 0 ▹ when (not implicit) (dots s)
@@ -286,7 +312,8 @@ context_of s directives = record { settings = s; directives = directives }
 unfoldable pub documents_layout : Settings → Bool → Bool → List Document → Layout
 documents_layout s first unended [] = stop_layout s unended
 documents_layout s first unended (d ∷ ds) =
-    start_layout s first unended d.opening ▹ node_layout (context_of s d.opening.directives) root_spot d.root
+    start_layout s first unended d.opening ▹ node_layout (context_of s d.opening.directives)
+    root_spot d.root
     ▹ end_layout s d.implicit_end ▹ documents_layout s false d.implicit_end ds
 
 -- The layout of a stream: canonical or pretty, as the settings say.

@@ -89,7 +89,11 @@ phase_behind (Value was_simple) simple = Keys false
 
 abbrev pub levels_behind : List Level → Bool → List Level
 levels_behind [] simple = []
-levels_behind (l ∷ ls) simple = record { phase = phase_behind l.phase simple; flow = l.flow; indent = l.indent } ∷ ls
+levels_behind (l ∷ ls) simple = record {
+  phase = phase_behind l.phase simple;
+  flow = l.flow;
+  indent = l.indent;
+} ∷ ls
 
 abbrev pub place_at : Option Level → Expected
 place_at None = at.DocumentEnd
@@ -103,7 +107,8 @@ placed p = record { place = p; levels = []; directives = [] }
 
 -- a collection was opened: its first phase, whether it is flow, and its indentation
 abbrev pub opened : List TagDirective → List Level → Bool → Phase → Bool → ℕ → State
-opened directives ls simple phase flow n = among directives (record { phase = phase; flow = flow; indent = n } ∷ levels_behind ls simple)
+opened directives ls simple phase flow n = among directives
+    (record { phase = phase; flow = flow; indent = n } ∷ levels_behind ls simple)
 
 abbrev pub stop_at : Settings → Expected → Layout
 stop_at s (at.Documents first unended) = stop_layout s unended
@@ -124,11 +129,13 @@ closer_at s (Some l) x = closer s l.flow l.indent (is_fresh l.phase) x
 
 -- what opens a collection: its anchor and tag, and the indicator for flow
 abbrev pub start_text : Context → Spot → ℕ → Start → Bool → Layout
-start_text p at x q empty = properties_text p q.anchor (start_tag p.settings.canonical q) ▹ when (is_flow p.settings at q empty) (opener x)
+start_text p at x q empty = properties_text p q.anchor (start_tag p.settings.canonical q)
+    ▹ when (is_flow p.settings at q empty) (opener x)
 
 -- a collection that is too deep is marked behind that
 abbrev pub depth_text : Context → Spot → Bool → Start → Bool → Layout
-depth_text p at sequence q empty = indented (indent_of p.settings at sequence (is_flow p.settings at q empty)) checked
+depth_text p at sequence q empty = indented
+    (indent_of p.settings at sequence (is_flow p.settings at q empty)) checked
 
 -- what is written for an event, but for the depth
 unfoldable pub text_at : Context → Expected → Option Level → Event → Bool → Layout
@@ -137,16 +144,22 @@ text_at p place top (stream_start x) empty = order_mark p.settings.encoding
 text_at p place top stream_end empty = stop_at p.settings place
 text_at p place top (document_start o) empty = start_at p.settings place o
 text_at p place top (document_end implicit) empty = end_layout p.settings implicit
-text_at p place top (alias name) empty = let simple = is_simple_event p (alias name) empty in before_node p.settings top simple ▹ alias_layout (spot_of top simple) name
-text_at p place top (scalar v) empty = let simple = is_simple_event p (scalar v) empty in before_node p.settings top simple ▹ scalar_layout p (spot_of top simple) v
-text_at p place top (sequence_start q) empty = let simple = is_simple_event p (sequence_start q) empty in before_node p.settings top simple ▹ start_text p (spot_of top simple) 91 q empty
-text_at p place top (mapping_start q) empty = let simple = is_simple_event p (mapping_start q) empty in before_node p.settings top simple ▹ start_text p (spot_of top simple) 123 q empty
+text_at p place top (alias name) empty = let simple = is_simple_event p (alias name) empty
+    in before_node p.settings top simple ▹ alias_layout (spot_of top simple) name
+text_at p place top (scalar v) empty = let simple = is_simple_event p (scalar v) empty
+    in before_node p.settings top simple ▹ scalar_layout p (spot_of top simple) v
+text_at p place top (sequence_start q) empty = let simple = is_simple_event p (sequence_start q)
+    empty in before_node p.settings top simple ▹ start_text p (spot_of top simple) 91 q empty
+text_at p place top (mapping_start q) empty = let simple = is_simple_event p (mapping_start q) empty
+    in before_node p.settings top simple ▹ start_text p (spot_of top simple) 123 q empty
 text_at p place top sequence_end empty = closer_at p.settings top 93
 text_at p place top mapping_end empty = closer_at p.settings top 125
 
 unfoldable pub depth_at : Context → Option Level → Event → Bool → Layout
-depth_at p top (sequence_start q) empty = depth_text p (spot_of top (is_simple_event p (sequence_start q) empty)) true q empty
-depth_at p top (mapping_start q) empty = depth_text p (spot_of top (is_simple_event p (mapping_start q) empty)) false q empty
+depth_at p top (sequence_start q) empty = depth_text p
+    (spot_of top (is_simple_event p (sequence_start q) empty)) true q empty
+depth_at p top (mapping_start q) empty = depth_text p
+    (spot_of top (is_simple_event p (mapping_start q) empty)) false q empty
 depth_at p top no_event empty = stay
 depth_at p top (stream_start x) empty = stay
 depth_at p top stream_end empty = stay
@@ -166,21 +179,30 @@ piece s st e empty = piece_at (context_of s st.directives) st.place (top_of st.l
 
 -- the state behind it, by the cursor behind what is written
 unfoldable pub next_at : Context → Expected → List Level → Event → Bool → Cursor → State
-next_at p place ls no_event empty c = record { place = place; levels = ls; directives = p.directives }
+next_at p place ls no_event empty
+    c = record { place = place; levels = ls; directives = p.directives }
 next_at p place ls (stream_start x) empty c = placed (at.Documents true false)
 next_at p place ls stream_end empty c = placed at.End
-next_at p place ls (document_start o) empty c = record { place = at.Node; levels = []; directives = o.directives }
+next_at p place ls (document_start o) empty c = record {
+  place = at.Node;
+  levels = [];
+  directives = o.directives;
+}
 next_at p place ls (document_end implicit) empty c = placed (at.Documents false implicit)
-next_at p place ls (alias name) empty c = among p.directives (levels_behind ls (is_simple_event p (alias name) empty))
-next_at p place ls (scalar v) empty c = among p.directives (levels_behind ls (is_simple_event p (scalar v) empty))
+next_at p place ls (alias name) empty c = among p.directives
+    (levels_behind ls (is_simple_event p (alias name) empty))
+next_at p place ls (scalar v) empty c = among p.directives
+    (levels_behind ls (is_simple_event p (scalar v) empty))
 next_at p place ls (sequence_start q) empty c =
     let simple = is_simple_event p (sequence_start q) empty in
     let at = spot_of (top_of ls) simple in
-    opened p.directives ls simple (Items true) (is_flow p.settings at q empty) (indent_of p.settings at true (is_flow p.settings at q empty) c)
+    opened p.directives ls simple (Items true) (is_flow p.settings at q empty)
+    (indent_of p.settings at true (is_flow p.settings at q empty) c)
 next_at p place ls (mapping_start q) empty c =
     let simple = is_simple_event p (mapping_start q) empty in
     let at = spot_of (top_of ls) simple in
-    opened p.directives ls simple (Keys true) (is_flow p.settings at q empty) (indent_of p.settings at false (is_flow p.settings at q empty) c)
+    opened p.directives ls simple (Keys true) (is_flow p.settings at q empty)
+    (indent_of p.settings at false (is_flow p.settings at q empty) c)
 next_at p place ls sequence_end empty c = among p.directives (outer_of ls)
 next_at p place ls mapping_end empty c = among p.directives (outer_of ls)
 

@@ -41,7 +41,11 @@ levels_of (f ∷ fs) = level_of f ∷ levels_of fs
 unfoldable pub state_of : ToCome → State
 state_of (stream x ds) = placed at.StreamStart
 state_of (documents first unended ds) = placed (at.Documents first unended)
-state_of (root directives n implicit ds) = record { place = at.Node; levels = []; directives = directives }
+state_of (root directives n implicit ds) = record {
+  place = at.Node;
+  levels = [];
+  directives = directives;
+}
 state_of (frames directives fs implicit ds) = among directives (levels_of fs)
 state_of nothing = placed at.End
 
@@ -70,7 +74,8 @@ ending_layout s implicit ds = end_layout s implicit ▹ documents_layout s false
 unfoldable pub frame_layout : Context → Frame → Layout
 frame_layout p (items_left flow n fresh ns) = items_layout p flow n fresh ns
 frame_layout p (pairs_left flow n fresh ps) = pairs_layout p flow n fresh ps
-frame_layout p (value_left flow n simple v ps) = before_value p.settings flow n simple ▹ node_layout p (spot flow n part.Value) v ▹ pairs_layout p flow n false ps
+frame_layout p (value_left flow n simple v ps) = before_value p.settings flow n simple
+    ▹ node_layout p (spot flow n part.Value) v ▹ pairs_layout p flow n false ps
 
 unfoldable pub frames_layout : Context → List Frame → Layout
 frames_layout p [] = stay
@@ -79,6 +84,8 @@ frames_layout p (f ∷ fs) = frame_layout p f ▹ frames_layout p fs
 unfoldable pub layout : Settings → ToCome → Layout
 layout s (stream x ds) = stream_layout s ds
 layout s (documents first unended ds) = documents_layout s first unended ds
-layout s (root directives n implicit ds) = node_layout (context_of s directives) root_spot n ▹ ending_layout s implicit ds
-layout s (frames directives fs implicit ds) = frames_layout (context_of s directives) fs ▹ ending_layout s implicit ds
+layout s (root directives n implicit ds) = node_layout (context_of s directives) root_spot n
+    ▹ ending_layout s implicit ds
+layout s (frames directives fs implicit ds) = frames_layout (context_of s directives) fs
+    ▹ ending_layout s implicit ds
 layout s nothing = stay

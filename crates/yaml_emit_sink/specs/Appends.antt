@@ -7,13 +7,19 @@ use Rattle.yaml_emit_sink.specs.declared.cursor.Status.TheVariants.{Going, Full,
 -- the bytes are appended, or those of them that the limit or the memory allows
 abbrev pub AppendsBy : Status → ℕ → List ℕ → List ℕ → List ℕ → Type 0
 AppendsBy Going limit old new bytes = (new ≡ old ++ bytes) × (length new ≤ limit)
-AppendsBy Full limit old new bytes = (new ≡ take limit (old ++ bytes)) × (limit < length (old ++ bytes))
+AppendsBy Full limit old new bytes = (new ≡ take limit (old ++ bytes))
+    × (limit < length (old ++ bytes))
 AppendsBy Deep limit old new bytes = ⊥
 AppendsBy Starved limit old new bytes = new ≡ old
 
 -- the cursor behind a character
 abbrev pub moved : Cursor → Bool → Bool → Bool → Cursor
-moved c ends white bare = record { column = if ends then 0 else c.column + 1; white = white; bare = bare; kept = c.kept }
+moved c ends white bare = record {
+  column = if ends then 0 else c.column + 1;
+  white = white;
+  bare = bare;
+  kept = c.kept;
+}
 
 -- the cursor behind a line feed and so many spaces
 abbrev pub indented : ℕ → Cursor → Cursor

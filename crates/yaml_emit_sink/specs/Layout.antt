@@ -32,7 +32,8 @@ when false a = stay
 
 -- a character
 abbrev pub char : ℕ → Layout
-char x c rest = letter x ∷ rest (record { column = c.column + 1; white = false; bare = false; kept = c.kept })
+char x c rest = letter x ∷ rest
+    (record { column = c.column + 1; white = false; bare = false; kept = c.kept })
 
 unfoldable pub letters : List ℕ → Layout
 letters [] = stay
@@ -40,7 +41,8 @@ letters (x ∷ xs) = char x ▹ letters xs
 
 -- a space that parts
 abbrev pub blank : Layout
-blank c rest = letter 32 ∷ rest (record { column = c.column + 1; white = true; bare = c.bare; kept = c.kept })
+blank c rest = letter 32 ∷ rest
+    (record { column = c.column + 1; white = true; bare = c.bare; kept = c.kept })
 
 unfoldable pub blanks : ℕ → Layout
 blanks zero = stay
@@ -69,11 +71,13 @@ word t = gap ▹ letters t
 
 -- a block indicator leaves the line bare
 abbrev pub indicator : ℕ → Layout
-indicator x = gap ▹ (λ c rest. letter x ∷ rest (record { column = c.column + 1; white = false; bare = c.bare; kept = c.kept }))
+indicator x = gap ▹ (λ c rest. letter x ∷ rest
+    (record { column = c.column + 1; white = false; bare = c.bare; kept = c.kept }))
 
 -- what opens a flow collection needs no space behind it
 abbrev pub opener : ℕ → Layout
-opener x = gap ▹ (λ c rest. letter x ∷ rest (record { column = c.column + 1; white = true; bare = false; kept = c.kept }))
+opener x = gap ▹ (λ c rest. letter x ∷ rest
+    (record { column = c.column + 1; white = true; bare = false; kept = c.kept }))
 
 abbrev pub must_break : ℕ → Cursor → Bool
 must_break n c = not c.bare || nat_lt n c.column || (c.column == n && not c.white)

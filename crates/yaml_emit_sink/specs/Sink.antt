@@ -19,20 +19,30 @@ pub record Output : Type 0 where
   pub cursor : Cursor
 
 abbrev pub output_of : Inside → Output
-output_of s = record { bytes = s.output.items; limit = s.limit; encoding = s.encoding; status = s.status; cursor = s.cursor }
+output_of s = record {
+  bytes = s.output.items;
+  limit = s.limit;
+  encoding = s.encoding;
+  status = s.status;
+  cursor = s.cursor;
+}
 
 -- no more bytes than the limit, and no more columns than bytes; up to its fast limit an output goes on, and a character in ASCII is a byte
 pub record IsSink (s : Inside) : Type 0 where
   pub within : length s.output.items ≤ s.limit
   pub narrow : s.cursor.column ≤ length s.output.items
-  pub fast_limit : 0 < s.fast_limit → (s.fast_limit ≤ s.limit) × ((s.status ≡ Going) × (s.encoding ≡ Utf8))
+  pub fast_limit : 0 < s.fast_limit → (s.fast_limit ≤ s.limit)
+      × ((s.status ≡ Going) × (s.encoding ≡ Utf8))
 
 -- With `text` to come, the whole is `whole`: all in front of it is written, and none of that is too deep; or the first bytes up
 -- to the limit are; or some first bytes, since the whole is too deep somewhere, or since memory was refused.
 abbrev pub EndsBy : Status → ℕ → Encoding → List ℕ → List Item → List Item → Type 0
-EndsBy Going limit x output text whole = (encode x whole ≡ output ++ encode x text) × ((length output ≤ limit) × (is_deep whole ≡ is_deep text))
-EndsBy Full limit x output text whole = (output ≡ take limit (encode x whole)) × (limit < length (encode x whole))
-EndsBy Deep limit x output text whole = (is_deep whole ≡ true) × ((rest : List ℕ) × (encode x whole ≡ output ++ rest))
+EndsBy Going limit x output text whole = (encode x whole ≡ output ++ encode x text)
+    × ((length output ≤ limit) × (is_deep whole ≡ is_deep text))
+EndsBy Full limit x output text whole = (output ≡ take limit (encode x whole))
+    × (limit < length (encode x whole))
+EndsBy Deep limit x output text whole = (is_deep whole ≡ true)
+    × ((rest : List ℕ) × (encode x whole ≡ output ++ rest))
 EndsBy Starved limit x output text whole = (rest : List ℕ) × (encode x whole ≡ output ++ rest)
 
 unfoldable pub Ends : Output → List Item → List Item → Type 0
@@ -40,7 +50,8 @@ Ends s text whole = EndsBy s.status s.limit s.encoding s.bytes text whole
 
 -- The output owed one layout and owes another: whatever follows, it ends the same. What has stopped stays so, for the same reason.
 pub record Owes (old new : Output) (before after : Layout) : Type 0 where
-  pub ends : (rest : Rest) (whole : List Item) → Ends old (before old.cursor rest) whole → Ends new (after new.cursor rest) whole
+  pub ends : (rest : Rest) (whole : List Item) → Ends old (before old.cursor rest) whole
+      → Ends new (after new.cursor rest) whole
   pub encoding : new.encoding ≡ old.encoding
   pub limit : new.limit ≡ old.limit
   pub going : new.status ≡ Going → old.status ≡ Going

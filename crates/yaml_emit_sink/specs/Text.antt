@@ -15,8 +15,10 @@ abbrev pub utf8_bytes : ℕ → List ℕ
 utf8_bytes c =
     if nat_lt c 0x80 then c ∷ []
     else if nat_lt c 0x800 then (0xC0 + c / 0x40) ∷ (0x80 + c % 0x40) ∷ []
-    else if nat_lt c 0x1_0000 then (0xE0 + c / 0x1000) ∷ (0x80 + c / 0x40 % 0x40) ∷ (0x80 + c % 0x40) ∷ []
-    else (0xF0 + c / 0x4_0000) ∷ (0x80 + c / 0x1000 % 0x40) ∷ (0x80 + c / 0x40 % 0x40) ∷ (0x80 + c % 0x40) ∷ []
+    else if nat_lt c 0x1_0000 then (0xE0 + c / 0x1000) ∷ (0x80 + c / 0x40 % 0x40)
+    ∷ (0x80 + c % 0x40) ∷ []
+    else (0xF0 + c / 0x4_0000) ∷ (0x80 + c / 0x1000 % 0x40) ∷ (0x80 + c / 0x40 % 0x40)
+    ∷ (0x80 + c % 0x40) ∷ []
 
 -- a unit's two bytes
 abbrev pub unit_bytes : Encoding → ℕ → List ℕ
@@ -28,7 +30,8 @@ unit_bytes Utf16Be u = (u / 0x100) ∷ (u % 0x100) ∷ []
 abbrev pub utf16_bytes : Encoding → ℕ → List ℕ
 utf16_bytes x c =
     if nat_lt c 0x1_0000 then unit_bytes x c
-    else unit_bytes x (0xD800 + (c - 0x1_0000) / 0x400) ++ unit_bytes x (0xDC00 + (c - 0x1_0000) % 0x400)
+    else unit_bytes x (0xD800 + (c - 0x1_0000) / 0x400) ++ unit_bytes x
+    (0xDC00 + (c - 0x1_0000) % 0x400)
 
 -- a character's bytes
 unfoldable pub char_bytes : Encoding → ℕ → List ℕ

@@ -40,7 +40,8 @@ pub(crate) fn append_within(output: &mut Vec<u8>, limit: u64, bytes: &[u8]) -> S
     ensures bytes { AppendsBy result limit output.old.items output.new.items bytes.now }
     ensures within { length output.new.items ≤ limit }
     ensures longer { length output.old.items ≤ length output.new.items }
-    ensures going { result ≡ Status.Going → length output.new.items ≡ length output.old.items + length bytes.now }
+    ensures going { result ≡ Status.Going → length output.new.items ≡ length output.old.items
+        + length bytes.now }
 {
     // Named in the clauses alone: the caller has asked it.
     let _ = limit;
@@ -60,7 +61,8 @@ pub(crate) fn append(output: &mut Vec<u8>, limit: u64, bytes: &[u8]) -> Status
     ensures bytes { AppendsBy result limit output.old.items output.new.items bytes.now }
     ensures within { length output.new.items ≤ limit }
     ensures longer { length output.old.items ≤ length output.new.items }
-    ensures going { result ≡ Status.Going → length output.new.items ≡ length output.old.items + length bytes.now }
+    ensures going { result ≡ Status.Going → length output.new.items ≡ length output.old.items
+        + length bytes.now }
 {
     let room = limit - output.len() as u64;
     if bytes.len() as u64 <= room {
@@ -108,7 +110,8 @@ pub(crate) fn append_blanks(output: &mut Vec<u8>, limit: u64, count: u64) -> Sta
     ensures bytes { AppendsBy result limit output.old.items output.new.items (replicate count 32) }
     ensures within { length output.new.items ≤ limit }
     ensures longer { length output.old.items ≤ length output.new.items }
-    ensures going { result ≡ Status.Going → length output.new.items ≡ length output.old.items + count }
+    ensures going { result ≡ Status.Going → length output.new.items ≡ length output.old.items
+        + count }
 {
     let room = limit - output.len() as u64;
     if count <= room {
@@ -131,10 +134,12 @@ const LINE: [u8; 33] = *b"\n                                ";
 pub(crate) fn append_line(output: &mut Vec<u8>, limit: u64, count: u64) -> Status
     requires inside { length output.old.items + (1 + count) ≤ limit }
     requires few { count ≤ 32 }
-    ensures bytes { AppendsBy result limit output.old.items output.new.items (10 ∷ replicate count 32) }
+    ensures bytes { AppendsBy result limit output.old.items output.new.items
+        (10 ∷ replicate count 32) }
     ensures within { length output.new.items ≤ limit }
     ensures longer { length output.old.items ≤ length output.new.items }
-    ensures going { result ≡ Status.Going → length output.new.items ≡ length output.old.items + (1 + count) }
+    ensures going { result ≡ Status.Going → length output.new.items ≡ length output.old.items
+        + (1 + count) }
 {
     append_within(output, limit, &LINE[..count as usize + 1])
 }
@@ -188,7 +193,8 @@ fn one_byte(encoding: Encoding, c: char) -> Option<u8>
 #[inline(always)]
 pub(crate) fn append_char(output: &mut Vec<u8>, limit: u64, encoding: Encoding, c: char) -> Status
     requires { length output.old.items ≤ limit }
-    ensures bytes { AppendsBy result limit output.old.items output.new.items (char_bytes encoding c) }
+    ensures bytes { AppendsBy result limit output.old.items output.new.items
+        (char_bytes encoding c) }
     ensures within { length output.new.items ≤ limit }
     ensures longer { length output.old.items ≤ length output.new.items }
     ensures going { result ≡ Status.Going → length output.old.items < length output.new.items }

@@ -54,7 +54,13 @@ impl Sink {
 
     /// An empty output of at most `limit` bytes, in UTF-8.
     pub fn new(alloc: Global, limit: u64) -> Sink
-        ensures { result ≡ record { bytes = []; limit = limit; encoding = Encoding.Utf8; status = Status.Going; cursor = start } }
+        ensures { result ≡ record {
+          bytes = [];
+          limit = limit;
+          encoding = Encoding.Utf8;
+          status = Status.Going;
+          cursor = start;
+        } }
     {
         Sink {
             output: Vec::new(alloc),
@@ -73,7 +79,13 @@ impl Sink {
 
     /// From now on the characters are spelled so.
     pub fn set_encoding(&mut self, encoding: Encoding)
-        ensures { self.new ≡ record { bytes = self.old.bytes; limit = self.old.limit; encoding = encoding; status = self.old.status; cursor = self.old.cursor } }
+        ensures { self.new ≡ record {
+          bytes = self.old.bytes;
+          limit = self.old.limit;
+          encoding = encoding;
+          status = self.old.status;
+          cursor = self.old.cursor;
+        } }
     {
         self.encoding = encoding;
         self.fast_limit = fast_limit_in(encoding, self.fast_limit);
@@ -199,7 +211,9 @@ impl Sink {
 
     // Whether so many characters in ASCII, one at least, are as many bytes, and the output goes on behind them.
     fn is_near(&self, count: u64) -> bool
-        ensures { result ≡ true → 0 < count → (self.now.status ≡ Status.Going) × ((self.now.encoding ≡ Encoding.Utf8) × (length self.now.bytes + count ≤ self.now.limit)) }
+        ensures { result ≡ true → 0 < count → (self.now.status ≡ Status.Going)
+            × ((self.now.encoding ≡ Encoding.Utf8)
+            × (length self.now.bytes + count ≤ self.now.limit)) }
     {
         count <= self.fast_limit.saturating_sub(self.output.len() as u64)
     }
@@ -208,7 +222,9 @@ impl Sink {
     fn put_near(&mut self, text: &[u8])
         requires some { 0 < length text.now }
         requires ascii { IsAscii text.now }
-        requires near { (self.old.status ≡ Status.Going) × ((self.old.encoding ≡ Encoding.Utf8) × (length self.old.bytes + length text.now ≤ self.old.limit)) }
+        requires near { (self.old.status ≡ Status.Going)
+            × ((self.old.encoding ≡ Encoding.Utf8)
+            × (length self.old.bytes + length text.now ≤ self.old.limit)) }
         ensures { Puts self.old self.new (letters text.now) }
     {
         self.status = append_within(&mut self.output, self.limit, text);
@@ -362,7 +378,9 @@ impl Sink {
     // Whether a line feed and so many spaces are few bytes, and the output goes on behind them.
     fn is_brief(&self, line_break: LineBreak, indent: u64) -> bool
         ensures line { result ≡ true → (line_break ≡ LineBreak.Lf) × (indent ≤ 32) }
-        ensures near { result ≡ true → (self.now.status ≡ Status.Going) × ((self.now.encoding ≡ Encoding.Utf8) × (length self.now.bytes + (1 + indent) ≤ self.now.limit)) }
+        ensures near { result ≡ true → (self.now.status ≡ Status.Going)
+            × ((self.now.encoding ≡ Encoding.Utf8)
+            × (length self.now.bytes + (1 + indent) ≤ self.now.limit)) }
     {
         match line_break {
             LineBreak::Lf => indent <= 32 && self.is_near(1 + indent),
@@ -373,7 +391,9 @@ impl Sink {
     // A line feed of one byte and a few spaces, for which there is room, at once.
     fn put_brief_line(&mut self, indent: u64)
         requires few { indent ≤ 32 }
-        requires near { (self.old.status ≡ Status.Going) × ((self.old.encoding ≡ Encoding.Utf8) × (length self.old.bytes + (1 + indent) ≤ self.old.limit)) }
+        requires near { (self.old.status ≡ Status.Going)
+            × ((self.old.encoding ≡ Encoding.Utf8)
+            × (length self.old.bytes + (1 + indent) ≤ self.old.limit)) }
         ensures { Puts self.old self.new (fresh LineBreak.Lf indent) }
     {
         self.status = append_line(&mut self.output, self.limit, indent);

@@ -32,7 +32,8 @@ Finishes core es whole = FinishesAt core.sink.status core es whole
 
 -- With these events to be laid out, one state leads to another with those: whatever follows, the output ends the same.
 pub record Leads (old : Core) (before : List Event) (new : Core) (after : List Event) : Type 0 where
-  pub finishes : (es : List Event) (whole : List Item) → Finishes old (before ++ es) whole → Finishes new (after ++ es) whole
+  pub finishes : (es : List Event) (whole : List Item) → Finishes old (before ++ es) whole
+      → Finishes new (after ++ es) whole
   pub encoding : new.sink.encoding ≡ old.sink.encoding
   pub limit : new.sink.limit ≡ old.sink.limit
   pub settings : new.settings ≡ old.settings

@@ -25,6 +25,8 @@ HasHandles s ds = (h : List ℕ) → is_among h s ≡ list_any (has_handle h) ds
 
 -- a directive behind those of the set is judged, and where nothing is wrong with it the set has its handle too
 abbrev pub Judges : TagDirective → Handles → Result (Option Problem) AllocError → Handles → Type 0
-Judges d old (Ok None) new = (ds : List TagDirective) → HasHandles old ds → (directive_problem ds d ≡ None) × HasHandles new (ds ++ d ∷ [])
-Judges d old (Ok (Some p)) new = (ds : List TagDirective) → HasHandles old ds → directive_problem ds d ≡ Some p
+Judges d old (Ok None) new = (ds : List TagDirective) → HasHandles old ds
+    → (directive_problem ds d ≡ None) × HasHandles new (ds ++ d ∷ [])
+Judges d old (Ok (Some p)) new = (ds : List TagDirective) → HasHandles old ds
+    → directive_problem ds d ≡ Some p
 Judges d old (Err e) new = Unit {0}

@@ -18,7 +18,11 @@ use Rattle.yaml_emit_state.specs.Stack.{stack_of}
 
 -- where an emitter stands
 abbrev pub state_of : Core → State
-state_of core = record { place = core.place; levels = stack_of core.levels; directives = core.directives }
+state_of core = record {
+  place = core.place;
+  levels = stack_of core.levels;
+  directives = core.directives;
+}
 
 -- the settings in force: the encoding is the output's
 abbrev pub settings_of : Core → Settings
@@ -58,10 +62,12 @@ may_note takes before behind = takes && (is_going before && not (is_going behind
 
 -- That memory was refused outside the output is noted where this stops the output, and nowhere else.
 abbrev pub Notes : Bool → Core → Core → Type 0
-Notes takes old new = may_note takes old.sink.status new.sink.status ≡ false → new.starved ≡ old.starved
+Notes takes old new = may_note takes old.sink.status new.sink.status ≡ false
+    → new.starved ≡ old.starved
 
 abbrev pub StaysBut : Core → Core → Type 0
-StaysBut old new = (new.settings ≡ old.settings) × (new.sink ≡ old.sink) × (new.starved ≡ old.starved)
+StaysBut old new = (new.settings ≡ old.settings) × (new.sink ≡ old.sink)
+    × (new.starved ≡ old.starved)
 
 -- a collection was opened, behind its properties
 pub record Opens (s : Settings) (old new : Core) (simple empty flow sequence : Bool) : Type 0 where
@@ -69,10 +75,12 @@ pub record Opens (s : Settings) (old new : Core) (simple empty flow sequence : B
   pub state : new.sink.status ≡ Going →
       let at = spot_of (top_of (stack_of old.levels)) simple in
       let f = s.canonical || (at.flow || (flow || empty)) in
-      state_of new ≡ opened (state_of old).directives (stack_of old.levels) simple (first_phase sequence) f (indent_of s at sequence f old.sink.cursor)
+      state_of new ≡ opened (state_of old).directives (stack_of old.levels) simple
+      (first_phase sequence) f (indent_of s at sequence f old.sink.cursor)
   pub cursor : new.sink.status ≡ Going → new.sink.cursor ≡ old.sink.cursor
   pub text : let at = spot_of (top_of (stack_of old.levels)) simple in
-      Puts old.sink new.sink (indented (indent_of s at sequence (s.canonical || (at.flow || (flow || empty)))) checked)
+      Puts old.sink new.sink (indented
+      (indent_of s at sequence (s.canonical || (at.flow || (flow || empty)))) checked)
   pub memory : Notes true old new
 
 -- the state moved on by an event, with nothing written but the depth
@@ -80,20 +88,26 @@ pub record MovesOn (s : Settings) (old new : Core) (e : Event) (empty : Bool) : 
   pub settings : new.settings ≡ old.settings
   pub state : new.sink.status ≡ Going → state_of new ≡ next s (state_of old) e empty old.sink.cursor
   pub cursor : new.sink.status ≡ Going → new.sink.cursor ≡ old.sink.cursor
-  pub text : Puts old.sink new.sink (depth_at (context_of s (state_of old).directives) (top_of (stack_of old.levels)) e empty)
+  pub text : Puts old.sink new.sink (depth_at (context_of s (state_of old).directives)
+      (top_of (stack_of old.levels)) e empty)
   pub memory : Notes (takes_memory e) old new
 
 -- an event was laid out
 pub record Takes (old new : Core) (e : Event) (empty : Bool) : Type 0 where
   pub settings : new.settings ≡ old.settings
-  pub state : new.sink.status ≡ Going → state_of new ≡ next (settings_of old) (state_of old) e empty new.sink.cursor
+  pub state : new.sink.status ≡ Going → state_of new ≡ next (settings_of old) (state_of old) e empty
+      new.sink.cursor
   pub text : Puts old.sink new.sink (piece (settings_of old) (state_of old) e empty)
   pub memory : Notes (takes_memory e) old new
 
 -- an event was laid out, or refused
 abbrev pub next_state : Option Problem → State → State → State
 next_state None old new = new
-next_state (Some p) old new = record { place = at.Refused p; levels = old.levels; directives = old.directives }
+next_state (Some p) old new = record {
+  place = at.Refused p;
+  levels = old.levels;
+  directives = old.directives;
+}
 
 abbrev pub next_piece : Option Problem → Layout → Layout
 next_piece None a = a
@@ -102,8 +116,11 @@ next_piece (Some p) a = stay
 -- the text, and the state by the cursor behind it, while the output goes on
 pub record LaysOut (old new : Core) (e : Event) (empty : Bool) : Type 0 where
   pub settings : new.settings ≡ old.settings
-  pub state : new.sink.status ≡ Going → state_of new ≡ next_state (problem_at (settings_of old) (state_of old) e) (state_of old) (next (settings_of old) (state_of old) e empty new.sink.cursor)
-  pub text : Puts old.sink new.sink (next_piece (problem_at (settings_of old) (state_of old) e) (piece (settings_of old) (state_of old) e empty))
+  pub state : new.sink.status ≡ Going
+      → state_of new ≡ next_state (problem_at (settings_of old) (state_of old) e) (state_of old)
+      (next (settings_of old) (state_of old) e empty new.sink.cursor)
+  pub text : Puts old.sink new.sink (next_piece (problem_at (settings_of old) (state_of old) e)
+      (piece (settings_of old) (state_of old) e empty))
   pub memory : Notes (takes_memory e) old new
 
 -- memory was refused outside the output, which is noted unless the output had stopped before

@@ -104,7 +104,8 @@ fn put_before_value(sink: &mut Sink, settings: &Settings, flow: bool, indent: u6
 }
 
 fn put_before_in(sink: &mut Sink, settings: &Settings, level: Level, simple: bool)
-    ensures { Puts sink.old sink.new (before_at settings.now level.phase level.flow level.indent simple) }
+    ensures { Puts sink.old sink.new (before_at settings.now level.phase level.flow level.indent
+        simple) }
 {
     match level.phase {
         Phase::Items(fresh) => put_before_item(sink, settings, level.flow, level.indent, fresh),

@@ -67,7 +67,8 @@ fn put_directive(sink: &mut Sink, settings: &Settings, directive: &yaml_tag_dire
 }
 
 fn put_directives(sink: &mut Sink, settings: &Settings, directives: &[yaml_tag_directive_t])
-    ensures { Puts sink.old sink.new (directives_text settings.now (map directive_of directives.now)) }
+    ensures { Puts sink.old sink.new
+        (directives_text settings.now (map directive_of directives.now)) }
 {
     for directive in directives {
         put_directive(sink, settings, directive);
@@ -118,7 +119,9 @@ fn put_opening(
     version: Option<yaml_version_directive_t>,
     directives: &[yaml_tag_directive_t],
 )
-    ensures { Puts sink.old sink.new (keep false ▹ version_text settings.now version ▹ directives_text settings.now (map directive_of directives.now) ▹ when marked (dashes settings.now)) }
+    ensures { Puts sink.old sink.new (keep false ▹ version_text settings.now version
+        ▹ directives_text settings.now (map directive_of directives.now)
+        ▹ when marked (dashes settings.now)) }
 {
     sink.set_kept(false);
     put_version(sink, settings, version);
@@ -132,7 +135,8 @@ fn is_parted(
     version: Option<yaml_version_directive_t>,
     directives: &[yaml_tag_directive_t],
 ) -> bool
-    ensures { result ≡ (unended && (has_version version || has_directives (map directive_of directives.now))) }
+    ensures { result ≡ (unended && (has_version version || has_directives
+        (map directive_of directives.now))) }
 {
     unended && is_directed(version, directives)
 }
@@ -145,7 +149,9 @@ fn is_marked(
     directives: &[yaml_tag_directive_t],
     implicit: bool,
 ) -> bool
-    ensures { result ≡ (settings.now.canonical || not (first && (implicit && not (has_version version || has_directives (map directive_of directives.now))))) }
+    ensures { result ≡ (settings.now.canonical
+        || not (first && (implicit
+        && not (has_version version || has_directives (map directive_of directives.now))))) }
 {
     settings.canonical || !(first && (implicit && !is_directed(version, directives)))
 }
@@ -159,7 +165,13 @@ fn put_start(
     directives: &[yaml_tag_directive_t],
     implicit: bool,
 )
-    ensures { Puts sink.old sink.new (start_layout settings.now first unended (record { version = version; directives = map directive_of directives.now; implicit = implicit })) }
+    ensures { Puts sink.old sink.new
+        (start_layout settings.now first unended
+        (record {
+          version = version;
+          directives = map directive_of directives.now;
+          implicit = implicit;
+        })) }
 {
     let marked = is_marked(settings, first, version, directives, implicit);
     put_dots_if(sink, is_parted(unended, version, directives), settings);
@@ -175,7 +187,13 @@ pub fn put_start_at(
     directives: &[yaml_tag_directive_t],
     implicit: bool,
 )
-    ensures { Puts sink.old sink.new (start_at settings.now place (record { version = version; directives = map directive_of directives.now; implicit = implicit })) }
+    ensures { Puts sink.old sink.new
+        (start_at settings.now place
+        (record {
+          version = version;
+          directives = map directive_of directives.now;
+          implicit = implicit;
+        })) }
 {
     match place {
         Expected::Documents(first, unended) => put_start(

@@ -70,7 +70,8 @@ fn properties_problem(
     left_out: bool,
     tag: &Option<Vec<u8>>,
 ) -> Option<Problem>
-    ensures { result ≡ or_else (anchor_problem (text_of anchor.now)) (tag_problem (kept_tag canonical left_out (text_of tag.now))) }
+    ensures { result ≡ or_else (anchor_problem (text_of anchor.now))
+        (tag_problem (kept_tag canonical left_out (text_of tag.now))) }
 {
     match anchor_problem(anchor) {
         Some(problem) => Some(problem),
@@ -193,7 +194,8 @@ fn twice_problem<'a>(
     seen: &mut BTreeSet<&'a [u8]>,
     handle: &'a [u8],
 ) -> Result<Option<Problem>, AllocError>
-    ensures problem { IfOk result (λ p. p ≡ (if is_among handle.now seen.old then Some Problem.HandleTwice else None)) }
+    ensures problem { IfOk result (λ p. p ≡ (if is_among handle.now seen.old
+        then Some Problem.HandleTwice else None)) }
     ensures adds { OnOk result (Adds handle.now seen.old seen.new) }
 {
     if add(seen, handle)? {
@@ -240,7 +242,8 @@ fn opening_problem(
     version: Option<yaml_version_directive_t>,
     directives: &[yaml_tag_directive_t],
 ) -> Result<Option<Problem>, AllocError>
-    ensures { IfOk result (λ p. p ≡ or_else (version_problem version) (directives_problem [] (map directive_of directives.now))) }
+    ensures { IfOk result (λ p. p ≡ or_else (version_problem version)
+        (directives_problem [] (map directive_of directives.now))) }
 {
     match version_problem(version) {
         Some(problem) => Ok(Some(problem)),
@@ -258,7 +261,8 @@ fn is_tagged(tag: &Option<Vec<u8>>) -> bool
 }
 
 fn flags_problem(tag: &Option<Vec<u8>>, plain: bool, quoted: bool) -> Option<Problem>
-    ensures { result ≡ (if has (text_of tag.now) || (plain || quoted) then None else Some Problem.NoFlags) }
+    ensures { result ≡ (if has (text_of tag.now) || (plain || quoted) then None
+        else Some Problem.NoFlags) }
 {
     if is_tagged(tag) || (plain || quoted) {
         None
@@ -364,7 +368,9 @@ fn late_problem(
     top: Option<Level>,
     event: &yaml_event_body_t,
 ) -> Result<Option<Problem>, AllocError>
-    ensures problem { IfOk result (λ p. p ≡ or_else (place_problem place top (emitter_event (body_of event.now))) (last_problem (emitter_event (body_of event.now)))) }
+    ensures problem { IfOk result (λ p. p
+        ≡ or_else (place_problem place top (emitter_event (body_of event.now)))
+        (last_problem (emitter_event (body_of event.now)))) }
     ensures refused { OnErr result (takes_memory (emitter_event (body_of event.now)) ≡ true) }
 {
     match place_problem(place, top, event) {
@@ -383,7 +389,8 @@ pub fn problem_of(
     top: Option<Level>,
     event: &yaml_event_body_t,
 ) -> Result<Option<Problem>, AllocError>
-    ensures problem { IfOk result (λ p. p ≡ problem_by canonical place top (emitter_event (body_of event.now))) }
+    ensures problem { IfOk result (λ p. p ≡ problem_by canonical place top
+        (emitter_event (body_of event.now))) }
     ensures refused { OnErr result (takes_memory (emitter_event (body_of event.now)) ≡ true) }
 {
     match event_problem(canonical, event) {

@@ -46,7 +46,8 @@ fn written_size(
     left_out: bool,
     tag: &Option<Vec<u8>>,
 ) -> usize
-    ensures { result ≡ written_size (context_of settings.now directives.now) (kept_tag false left_out (text_of tag.now)) }
+    ensures { result ≡ written_size (context_of settings.now directives.now)
+        (kept_tag false left_out (text_of tag.now)) }
 {
     if left_out {
         0
@@ -82,7 +83,15 @@ fn is_simple_scalar(
     quoted: bool,
     style: yaml_scalar_style_t,
 ) -> bool
-    ensures { result ≡ is_simple_scalar (context_of settings.now directives.now) (record { anchor = text_of anchor.now; tag = text_of tag.now; value = value.now; plain = plain; quoted = quoted; style = style }) }
+    ensures { result ≡ is_simple_scalar (context_of settings.now directives.now)
+        (record {
+          anchor = text_of anchor.now;
+          tag = text_of tag.now;
+          value = value.now;
+          plain = plain;
+          quoted = quoted;
+          style = style;
+        }) }
 {
     // Any style will do; the clause names the whole scalar.
     let _ = style;
@@ -105,7 +114,13 @@ fn is_simple_start(
     flow: bool,
     empty: bool,
 ) -> bool
-    ensures { result ≡ is_simple_start (context_of settings.now directives.now) (record { anchor = text_of anchor.now; tag = text_of tag.now; implicit = implicit; flow = flow }) empty }
+    ensures { result ≡ is_simple_start (context_of settings.now directives.now)
+        (record {
+          anchor = text_of anchor.now;
+          tag = text_of tag.now;
+          implicit = implicit;
+          flow = flow;
+        }) empty }
 {
     // Either will do; the clause names the whole start.
     let _ = flow;
@@ -125,7 +140,8 @@ fn is_simple_by(
     event: &yaml_event_body_t,
     empty: bool,
 ) -> bool
-    ensures { result ≡ is_simple_event (context_of settings.now directives.now) (emitter_event (body_of event.now)) empty }
+    ensures { result ≡ is_simple_event (context_of settings.now directives.now)
+        (emitter_event (body_of event.now)) empty }
 {
     match event {
         yaml_event_body_t::Alias { anchor } => is_simple_alias(settings, directives, anchor),
@@ -193,7 +209,8 @@ pub fn is_simple(
     event: &yaml_event_body_t,
     empty: bool,
 ) -> bool
-    ensures { result ≡ is_simple_event (context_of settings.now directives.now) (emitter_event (body_of event.now)) empty }
+    ensures { result ≡ is_simple_event (context_of settings.now directives.now)
+        (emitter_event (body_of event.now)) empty }
 {
     if settings.canonical {
         false

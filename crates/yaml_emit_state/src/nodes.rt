@@ -49,7 +49,8 @@ fn put_given_tag(
     directives: &DirectiveTable,
     tag: &Option<Vec<u8>>,
 )
-    ensures { Puts sink.old sink.new (tag_text (context_of settings.now directives.now) (text_of tag.now)) }
+    ensures { Puts sink.old sink.new (tag_text (context_of settings.now directives.now)
+        (text_of tag.now)) }
 {
     match tag {
         None => (),
@@ -64,7 +65,8 @@ fn put_tag_if(
     kept: bool,
     tag: &Option<Vec<u8>>,
 )
-    ensures { Puts sink.old sink.new (tag_text (context_of settings.now directives.now) (kept_if kept (text_of tag.now))) }
+    ensures { Puts sink.old sink.new (tag_text (context_of settings.now directives.now)
+        (kept_if kept (text_of tag.now))) }
 {
     if kept {
         put_given_tag(sink, settings, directives, tag);
@@ -88,7 +90,8 @@ fn put_properties(
     left_out: bool,
     tag: &Option<Vec<u8>>,
 )
-    ensures { Puts sink.old sink.new (properties_text (context_of settings.now directives.now) (text_of anchor.now) (kept_tag settings.now.canonical left_out (text_of tag.now))) }
+    ensures { Puts sink.old sink.new (properties_text (context_of settings.now directives.now)
+        (text_of anchor.now) (kept_tag settings.now.canonical left_out (text_of tag.now))) }
 {
     put_anchor(sink, anchor);
     put_tag_if(
@@ -144,7 +147,15 @@ fn style_of(
     style: yaml_scalar_style_t,
 ) -> Style
     requires { IsUtf8 value.now }
-    ensures { result ≡ style_of (context_of settings.now directives.now) spot (record { anchor = text_of anchor.now; tag = text_of tag.now; value = value.now; plain = plain; quoted = quoted; style = style }) }
+    ensures { result ≡ style_of (context_of settings.now directives.now) spot
+        (record {
+          anchor = text_of anchor.now;
+          tag = text_of tag.now;
+          value = value.now;
+          plain = plain;
+          quoted = quoted;
+          style = style;
+        }) }
 {
     if settings.canonical {
         Style::Double
@@ -176,7 +187,8 @@ fn is_marked(
     quoted: bool,
     chosen: Style,
 ) -> bool
-    ensures { result ≡ (not (has (kept_tag canonical (plain || quoted) (text_of tag.now))) && (not quoted && not (is_plain chosen))) }
+    ensures { result ≡ (not (has (kept_tag canonical (plain || quoted) (text_of tag.now)))
+        && (not quoted && not (is_plain chosen))) }
 {
     !is_written(canonical, plain || quoted, tag) && !quoted && !is_plain(chosen)
 }
@@ -185,7 +197,9 @@ fn is_marked(
 #[inline(always)]
 fn put_lines(sink: &mut Sink, settings: &Settings, spot: Spot, style: Style, value: &[u8])
     requires { IsUtf8 value.now }
-    ensures { Puts sink.old sink.new (checked (deeper settings.now spot.around) ▹ scalar_text (page_at settings.now spot) settings.now.indent spot.flow style (chars value.now)) }
+    ensures { Puts sink.old sink.new (checked (deeper settings.now spot.around)
+        ▹ scalar_text (page_at settings.now spot) settings.now.indent spot.flow style
+        (chars value.now)) }
 {
     let depth = deeper(settings, spot.around);
     put_checked(sink, depth);
@@ -212,7 +226,9 @@ fn put_tag_or(
     tag: &Option<Vec<u8>>,
     quoted: bool,
 )
-    ensures { Puts sink.old sink.new (tag_text (context_of settings.now directives.now) (text_of tag.now) ▹ when (not (has (text_of tag.now)) && (not quoted && true)) (word (33 ∷ []))) }
+    ensures { Puts sink.old sink.new (tag_text (context_of settings.now directives.now)
+        (text_of tag.now) ▹ when (not (has (text_of tag.now)) && (not quoted && true))
+        (word (33 ∷ []))) }
 {
     match tag {
         None => put_exclamation_if(sink, !quoted),
@@ -235,7 +251,15 @@ fn put_canonical_scalar(
 )
     requires utf8 { IsUtf8 value.now }
     requires canonical { settings.now.canonical ≡ true }
-    ensures { Puts sink.old sink.new (scalar_layout (context_of settings.now directives.now) spot (record { anchor = text_of anchor.now; tag = text_of tag.now; value = value.now; plain = plain; quoted = quoted; style = style })) }
+    ensures { Puts sink.old sink.new (scalar_layout (context_of settings.now directives.now) spot
+        (record {
+          anchor = text_of anchor.now;
+          tag = text_of tag.now;
+          value = value.now;
+          plain = plain;
+          quoted = quoted;
+          style = style;
+        })) }
 {
     // Canonical form looks at neither; the clause names the whole scalar.
     let _ = (plain, style);
@@ -261,7 +285,15 @@ fn put_any_scalar(
     style: yaml_scalar_style_t,
 )
     requires { IsUtf8 value.now }
-    ensures { Puts sink.old sink.new (scalar_layout (context_of settings.now directives.now) spot (record { anchor = text_of anchor.now; tag = text_of tag.now; value = value.now; plain = plain; quoted = quoted; style = style })) }
+    ensures { Puts sink.old sink.new (scalar_layout (context_of settings.now directives.now) spot
+        (record {
+          anchor = text_of anchor.now;
+          tag = text_of tag.now;
+          value = value.now;
+          plain = plain;
+          quoted = quoted;
+          style = style;
+        })) }
 {
     let chosen = style_of(
         settings, directives, spot, anchor, tag, value, plain, quoted, style,
@@ -288,7 +320,15 @@ pub fn put_scalar(
     style: yaml_scalar_style_t,
 )
     requires { IsUtf8 value.now }
-    ensures { Puts sink.old sink.new (scalar_layout (context_of settings.now directives.now) spot (record { anchor = text_of anchor.now; tag = text_of tag.now; value = value.now; plain = plain; quoted = quoted; style = style })) }
+    ensures { Puts sink.old sink.new (scalar_layout (context_of settings.now directives.now) spot
+        (record {
+          anchor = text_of anchor.now;
+          tag = text_of tag.now;
+          value = value.now;
+          plain = plain;
+          quoted = quoted;
+          style = style;
+        })) }
 {
     if settings.canonical {
         put_canonical_scalar(
@@ -314,7 +354,13 @@ pub fn put_collection(
     style_flow: bool,
     empty: bool,
 )
-    ensures { Puts sink.old sink.new (start_text (context_of settings.now directives.now) spot c (record { anchor = text_of anchor.now; tag = text_of tag.now; implicit = implicit; flow = style_flow }) empty) }
+    ensures { Puts sink.old sink.new (start_text (context_of settings.now directives.now) spot c
+        (record {
+          anchor = text_of anchor.now;
+          tag = text_of tag.now;
+          implicit = implicit;
+          flow = style_flow;
+        }) empty) }
 {
     put_properties(sink, settings, directives, anchor, implicit, tag);
     put_opener_if(sink, is_flow(settings, spot, style_flow, empty), c);

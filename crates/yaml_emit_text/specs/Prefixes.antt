@@ -50,12 +50,14 @@ IsAtMost (Some n) m = n ≤ m
 -- the number stands beside a strictly shorter prefix of the tag
 abbrev pub IsFound : List Entry → List ℕ → Option ℕ → Type 0
 IsFound xs tag None = Unit {0}
-IsFound xs tag (Some n) = (k : ℕ) × (k < length xs) × (has_shorter_prefix (at xs k).0 tag ≡ true) × ((at xs k).1 ≡ n)
+IsFound xs tag (Some n) = (k : ℕ) × (k < length xs) × (has_shorter_prefix (at xs k).0 tag ≡ true)
+    × ((at xs k).1 ≡ n)
 
 -- the smallest number beside a strictly shorter prefix of the tag that has fewer bytes than this
 pub record IsFirst (xs : List Entry) (tag : List ℕ) (depth : ℕ) (best : Option ℕ) : Type 0 where
   pub found : IsFound xs tag best
-  pub least : (k : ℕ) → k < length xs → has_shorter_prefix (at xs k).0 tag ≡ true → length (at xs k).0 < depth → IsAtMost best (at xs k).1
+  pub least : (k : ℕ) → k < length xs → has_shorter_prefix (at xs k).0 tag ≡ true
+      → length (at xs k).0 < depth → IsAtMost best (at xs k).1
 
 -- a directive of a list
 abbrev pub directive_at : List TagDirective → ℕ → TagDirective
@@ -64,4 +66,5 @@ directive_at ds n = slice_index_or ds n (record { handle = []; prefix = [] })
 -- the number of the first directive whose prefix is a strictly shorter prefix of the tag
 abbrev pub IsNumber : List TagDirective → List ℕ → Option ℕ → Type 0
 IsNumber ds tag None = directive_for ds tag ≡ None
-IsNumber ds tag (Some n) = (n < length ds) × (length (directive_at ds n).prefix < length tag) × (directive_for ds tag ≡ Some (directive_at ds n))
+IsNumber ds tag (Some n) = (n < length ds) × (length (directive_at ds n).prefix < length tag)
+    × (directive_for ds tag ≡ Some (directive_at ds n))

@@ -8,7 +8,8 @@ use Rattle.yaml_emit_sink.specs.Layout.{Layout, ◌▹◌, stay, choose, when, c
 abbrev pub is_printable : ℕ → Bool
 is_printable c =
     c == 0x0A || (nat_le 0x20 c && nat_le c 0x7E) || (nat_le 0xA0 c && nat_le c 0xD7FF)
-    || (nat_le 0xE000 c && nat_le c 0xFFFD && not (c == 0xFEFF)) || (nat_le 0x1_0000 c && nat_le c 0x10_FFFF)
+    || (nat_le 0xE000 c && nat_le c 0xFFFD && not (c == 0xFEFF))
+    || (nat_le 0x1_0000 c && nat_le c 0x10_FFFF)
 
 -- what is not printable, or not ASCII with unicode off, a break, `"` or `\`
 unfoldable pub needs_escape : Bool → ℕ → Bool
@@ -71,13 +72,15 @@ may_fold page before x rest = page.cuts && (x == 32 && (not (before == 32) && no
 
 -- past the width, what is to be folded becomes a break and the indentation, and a backslash where a space follows
 abbrev pub fold : Page → List ℕ → Layout
-fold page rest = new_line page.line_break ▹ (blanks page.indentation ▹ when (first rest == 32) (char 92))
+fold page rest = new_line page.line_break
+    ▹ (blanks page.indentation ▹ when (first rest == 32) (char 92))
 
 abbrev pub escaped : Bool → ℕ → Layout
 escaped unicode x = if needs_escape unicode x then letters (escape_text x) else char x
 
 unfoldable pub quoted_char : Page → ℕ → ℕ → List ℕ → Layout
-quoted_char page before x rest = if may_fold page before x rest then choose (is_past page.width) (fold page rest) (char x) else escaped page.unicode x
+quoted_char page before x rest = if may_fold page before x rest then choose (is_past page.width)
+    (fold page rest) (char x) else escaped page.unicode x
 
 -- by the character before; a space in front stands for the start, since no space is folded behind a space
 unfoldable pub quoted_body : Page → ℕ → List ℕ → Layout

@@ -16,7 +16,8 @@ all_pass test column (b ∷ bs) = test column b && all_pass test (column + 1) bs
 -- from space to `~`, but for the two characters that are not written as they are; a space up to the width, where lines may be cut
 unfoldable pub runs_on : Bounds → ℕ → ℕ → Bool
 runs_on e column b =
-    nat_le 32 b && (nat_le b 126 && (not (b == e.quote) && (not (b == e.slash) && (not (b == 32) || (not e.cuts || nat_le column e.width)))))
+    nat_le 32 b && (nat_le b 126 && (not (b == e.quote)
+    && (not (b == e.slash) && (not (b == 32) || (not e.cuts || nat_le column e.width)))))
 
 -- in double quotes
 abbrev pub quoted_bounds : Page → Bounds
@@ -24,7 +25,12 @@ quoted_bounds page = record { quote = 34; slash = 92; cuts = page.cuts; width = 
 
 -- in single quotes, or plain
 abbrev pub flow_bounds : Page → Bool → Bounds
-flow_bounds page quote = record { quote = if quote then 39 else 0; slash = 0; cuts = page.cuts; width = page.width }
+flow_bounds page quote = record {
+  quote = if quote then 39 else 0;
+  slash = 0;
+  cuts = page.cuts;
+  width = page.width;
+}
 
 -- in a line of a block scalar
 abbrev pub block_bounds : Page → Bool → Bounds
@@ -32,7 +38,8 @@ block_bounds page folded = record { quote = 0; slash = 0; cuts = folded; width =
 
 -- from space to `~`, but for # , : ? [ ] { }: before another such one it says nothing against a style
 unfoldable pub is_calm : ℕ → Bool
-is_calm b = nat_le 32 b && (nat_le b 126 && not (b == 35 || b == 44 || b == 58 || b == 63 || b == 91 || b == 93 || b == 123 || b == 125))
+is_calm b = nat_le 32 b && (nat_le b 126 && not (b == 35 || b == 44 || b == 58 || b == 63 || b == 91
+    || b == 93 || b == 123 || b == 125))
 
 -- at any column
 abbrev pub calm : ℕ → ℕ → Bool

@@ -17,7 +17,8 @@ value_break b x = if x == 10 then new_line b else break x
 
 -- a space that may be cut: it is neither first nor last, and no space is beside it
 abbrev pub cuts_at : Page → ℕ → ℕ → List ℕ → Bool
-cuts_at page before x rest = page.cuts && (x == 32 && (not (before == 32) && (not (first rest == 32) && not (is_empty rest))))
+cuts_at page before x rest = page.cuts
+    && (x == 32 && (not (before == 32) && (not (first rest == 32) && not (is_empty rest))))
 
 -- a space that may be cut, past the width or not
 abbrev pub cut : Page → ℕ → Layout
@@ -33,8 +34,10 @@ text_char page quote cuts x = if cuts then cut page x else quote_char quote x
 -- a run of breaks that begins with LF gets one break more in front; a line follows the run
 unfoldable pub flow_char : Page → Bool → ℕ → ℕ → List ℕ → Layout
 flow_char page quote before x rest =
-    if is_break x then when (x == 10 && not (is_break before)) (new_line page.line_break) ▹ value_break page.line_break x
-    else when (is_break before) (line page.line_break page.indentation) ▹ text_char page quote (cuts_at page before x rest) x
+    if is_break x then when (x == 10 && not (is_break before)) (new_line page.line_break)
+    ▹ value_break page.line_break x
+    else when (is_break before) (line page.line_break page.indentation) ▹ text_char page quote
+    (cuts_at page before x rest) x
 
 -- by the character before
 unfoldable pub flow_body : Page → Bool → ℕ → List ℕ → Layout
@@ -43,7 +46,8 @@ flow_body page quote before (x ∷ xs) = flow_char page quote before x xs ▹ fl
 
 -- a space in front stands for the start: there no space is cut; outside flow an empty one is nothing, not even a space
 abbrev pub plain : Page → Bool → List ℕ → Layout
-plain page flow value = when (flow || not (is_empty value)) gap ▹ (flow_body page false 32 value ▹ after_text)
+plain page flow value = when (flow || not (is_empty value)) gap
+    ▹ (flow_body page false 32 value ▹ after_text)
 
 abbrev pub single_quoted : Page → List ℕ → Layout
 single_quoted page value = gap ▹ (char 39 ▹ (flow_body page true 32 value ▹ char 39))
@@ -55,15 +59,18 @@ behind_breaks (c ∷ cs) = if is_break c then behind_breaks cs else c
 
 -- folded: a break more before LF, behind a line that does not begin with a blank, before one that does not
 abbrev pub adds_break : Bool → Bool → ℕ → ℕ → List ℕ → Bool
-adds_break folded blank before x rest = folded && (x == 10 && (not (is_break before) && (not blank && not (is_blank (behind_breaks rest)))))
+adds_break folded blank before x rest = folded
+    && (x == 10 && (not (is_break before) && (not blank && not (is_blank (behind_breaks rest)))))
 
 -- folded: a space that may be cut
 abbrev pub cuts_block : Bool → Bool → ℕ → ℕ → List ℕ → Bool
-cuts_block folded blank before x rest = folded && (x == 32 && (not blank && (not (is_break before) && not (first rest == 32))))
+cuts_block folded blank before x rest = folded
+    && (x == 32 && (not blank && (not (is_break before) && not (first rest == 32))))
 
 -- whether a line begins with a blank
 abbrev pub line_blank : Bool → ℕ → ℕ → Bool
-line_blank blank before x = if is_break x then blank else if is_break before then is_blank x else blank
+line_blank blank before x = if is_break x then blank else if is_break before then is_blank x
+    else blank
 
 abbrev pub block_text : Page → Bool → ℕ → Layout
 block_text page cuts x = if cuts then cut page x else char x
@@ -71,17 +78,21 @@ block_text page cuts x = if cuts then cut page x else char x
 -- each line of text follows a line of the layout
 unfoldable pub block_char : Page → Bool → Bool → ℕ → ℕ → List ℕ → Layout
 block_char page folded blank before x rest =
-    if is_break x then when (adds_break folded blank before x rest) (new_line page.line_break) ▹ value_break page.line_break x
-    else when (is_break before) (line page.line_break page.indentation) ▹ block_text page (cuts_block folded blank before x rest) x
+    if is_break x then when (adds_break folded blank before x rest) (new_line page.line_break)
+    ▹ value_break page.line_break x
+    else when (is_break before) (line page.line_break page.indentation) ▹ block_text page
+    (cuts_block folded blank before x rest) x
 
 -- by whether the line begins with a blank, and the character before
 unfoldable pub block_body : Page → Bool → Bool → ℕ → List ℕ → Layout
 block_body page folded blank before [] = stay
-block_body page folded blank before (x ∷ xs) = block_char page folded blank before x xs ▹ block_body page folded (line_blank blank before x) x xs
+block_body page folded blank before (x ∷ xs) = block_char page folded blank before x xs
+    ▹ block_body page folded (line_blank blank before x) x xs
 
 -- by whether the last character is a break, and the one before it or nothing
 abbrev pub chomp_of : Bool → Bool → Chomp
-chomp_of broken last = if last then (if broken then chomping.Keep else chomping.Clip) else chomping.Strip
+chomp_of broken last = if last then (if broken then chomping.Keep else chomping.Clip)
+    else chomping.Strip
 
 -- a text ends in a break; an empty one counts as one that does
 abbrev pub ends_in_break : List ℕ → Bool
@@ -103,15 +114,19 @@ digit_char n = if nat_lt n 10 then 48 + n else 50
 
 -- the digit of the indent, where the value begins with a space or a break
 abbrev pub digit_mark : ℕ → List ℕ → Layout
-digit_mark digit value = when (first value == 32 || is_break (first value)) (char (digit_char digit))
+digit_mark digit value = when (first value == 32 || is_break (first value))
+    (char (digit_char digit))
 
 -- the start counts as a break, in front of nothing
 abbrev pub block_header : ℕ → Bool → List ℕ → Layout
-block_header digit folded value = gap ▹ (char (if folded then 62 else 124) ▹ (digit_mark digit value ▹ chomp_mark (chomp true true value)))
+block_header digit folded value = gap
+    ▹ (char (if folded then 62 else 124)
+    ▹ (digit_mark digit value ▹ chomp_mark (chomp true true value)))
 
 -- at the start stands a break, and the line begins with a blank
 abbrev pub block : Page → ℕ → Bool → List ℕ → Layout
-block page digit folded value = block_header digit folded value ▹ (new_line page.line_break ▹ (block_body page folded true 10 value ▹ after_block))
+block page digit folded value = block_header digit folded value
+    ▹ (new_line page.line_break ▹ (block_body page folded true 10 value ▹ after_block))
 
 unfoldable pub scalar_text : Page → ℕ → Bool → Style → List ℕ → Layout
 scalar_text page digit flow style.Plain value = plain page flow value

@@ -61,7 +61,8 @@ is_fold escaped_space = false
 
 -- a fold has no raw blank and no fold on either side
 abbrev pub may_follow : Part → Part → Bool
-may_follow p q = not (is_fold q && (is_raw_blank p || is_fold p)) && not (is_fold p && is_raw_blank q)
+may_follow p q = not (is_fold q && (is_raw_blank p || is_fold p))
+    && not (is_fold p && is_raw_blank q)
 
 -- Raw characters are no quotes, backslashes or breaks, and not 0. A fold has an indentation, so that no `---` stands at column 0.
 abbrev pub may_stand : Part → Bool
@@ -89,4 +90,5 @@ pub record Spells (a : Layout) (c : Cursor) (value : List ℕ) : Type 0 where
 
 -- What stands between double quotes is a spelling of the value, on every page with an indentation and at every column.
 abbrev pub QuotedSpells : Type 0
-QuotedSpells = (page : Page) (c : Cursor) (value : List ℕ) → all_scalars value ≡ true → 0 < page.indentation → Spells (quoted_body page 32 value) c value
+QuotedSpells = (page : Page) (c : Cursor) (value : List ℕ) → all_scalars value ≡ true
+    → 0 < page.indentation → Spells (quoted_body page 32 value) c value

@@ -23,7 +23,8 @@ somewhere p before (c ∷ cs) = p before c (first cs) || somewhere p c cs
 
 -- in double quotes alone: what is not printable, or not ASCII with unicode off, and a space before a break
 abbrev pub is_special : Bool → ℕ → ℕ → ℕ → Bool
-is_special unicode before c next = not (is_printable c) || (not unicode && nat_le 0x80 c) || (c == 32 && is_break next)
+is_special unicode before c next = not (is_printable c) || (not unicode && nat_le 0x80 c)
+    || (c == 32 && is_break next)
 
 -- a break with a space behind it
 abbrev pub is_break_space : ℕ → ℕ → ℕ → Bool
@@ -31,11 +32,13 @@ is_break_space before c next = is_break c && next == 32
 
 -- not in a plain scalar: a break, `:` at the end of a word, `#` at the start of one
 abbrev pub is_not_plain : ℕ → ℕ → ℕ → Bool
-is_not_plain before c next = is_break c || (c == 58 && ends_word next) || (c == 35 && ends_word before)
+is_not_plain before c next = is_break c || (c == 58 && ends_word next)
+    || (c == 35 && ends_word before)
 
 -- not in a plain scalar in flow: , ? : [ ] { }
 abbrev pub is_not_flow : ℕ → ℕ → ℕ → Bool
-is_not_flow before c next = c == 44 || c == 63 || c == 58 || c == 91 || c == 93 || c == 123 || c == 125
+is_not_flow before c next = c == 44 || c == 63 || c == 58 || c == 91 || c == 93 || c == 123
+    || c == 125
 
 -- the last character, or else another
 unfoldable pub last_or : ℕ → List ℕ → ℕ
@@ -49,36 +52,57 @@ ends_in_space value = last_or 32 value == 32
 -- # , [ ] { } & * ! | > ' " % @ `, or a space
 abbrev pub is_indicator : ℕ → Bool
 is_indicator c =
-    c == 32 || c == 35 || c == 44 || c == 91 || c == 93 || c == 123 || c == 125 || c == 38 || c == 42 || c == 33 || c == 124 || c == 62 || c == 39 || c == 34 || c == 37 || c == 64 || c == 96
+    c == 32 || c == 35 || c == 44 || c == 91 || c == 93 || c == 123 || c == 125 || c == 38
+    || c == 42 || c == 33 || c == 124 || c == 62 || c == 39 || c == 34 || c == 37 || c == 64
+    || c == 96
 
 -- not at the start of a plain scalar: by the first three characters, 0 behind the end
 abbrev pub is_badly_begun : ℕ → ℕ → ℕ → Bool
-is_badly_begun a b c = is_indicator a || ((a == 45 || a == 63) && ends_word b) || (a == 45 && b == 45 && c == 45) || (a == 46 && b == 46 && c == 46)
+is_badly_begun a b c = is_indicator a || ((a == 45 || a == 63) && ends_word b)
+    || (a == 45 && b == 45 && c == 45) || (a == 46 && b == 46 && c == 46)
 
 abbrev pub behind : List ℕ → List ℕ
 behind [] = []
 behind (c ∷ cs) = cs
 
 abbrev pub starts_badly : List ℕ → Bool
-starts_badly value = is_badly_begun (first value) (first (behind value)) (first (behind (behind value)))
+starts_badly value = is_badly_begun (first value) (first (behind value))
+    (first (behind (behind value)))
 
 -- what a character adds to what was seen, by the one before it and the one behind it
 abbrev pub seen : Bool → ℕ → ℕ → ℕ → Seen
-seen unicode before c next = record { special = is_special unicode before c next; broken = is_break_space before c next; not_plain = is_not_plain before c next; not_flow = is_not_flow before c next }
+seen unicode before c next = record {
+  special = is_special unicode before c next;
+  broken = is_break_space before c next;
+  not_plain = is_not_plain before c next;
+  not_flow = is_not_flow before c next;
+}
 
 -- what is seen in a text
 abbrev pub looked : Bool → ℕ → List ℕ → Seen
-looked unicode before value = record { special = somewhere (is_special unicode) before value; broken = somewhere is_break_space before value; not_plain = somewhere is_not_plain before value; not_flow = somewhere is_not_flow before value }
+looked unicode before value = record {
+  special = somewhere (is_special unicode) before value;
+  broken = somewhere is_break_space before value;
+  not_plain = somewhere is_not_plain before value;
+  not_flow = somewhere is_not_flow before value;
+}
 
 abbrev pub joined : Seen → Seen → Seen
-joined a b = record { special = a.special || b.special; broken = a.broken || b.broken; not_plain = a.not_plain || b.not_plain; not_flow = a.not_flow || b.not_flow }
+joined a b = record {
+  special = a.special || b.special;
+  broken = a.broken
+      || b.broken;
+  not_plain = a.not_plain || b.not_plain;
+  not_flow = a.not_flow || b.not_flow;
+}
 
 -- The start of a value counts as a space for `#`, the end as 0 for `:`.
 abbrev pub allowed_text : Bool → List ℕ → Allowed
 allowed_text unicode value =
     let special = somewhere (is_special unicode) 32 value in
     let broken = somewhere is_break_space 32 value in
-    let plain = not (special || broken || ends_in_space value || starts_badly value || somewhere is_not_plain 32 value) in
+    let plain = not (special || broken || ends_in_space value || starts_badly value
+    || somewhere is_not_plain 32 value) in
     record {
       plain = plain;
       flow_plain = plain && not (somewhere is_not_flow 32 value);
@@ -92,7 +116,8 @@ allowed unicode (c ∷ cs) = allowed_text unicode (c ∷ cs)
 
 -- by whether the scalar may be untagged in plain style or its tag is written, in flow, a simple key, empty
 abbrev pub plain_fits : Allowed → Bool → Bool → Bool → Bool → Bool
-plain_fits a untagged flow simple empty = (if flow then a.flow_plain else a.plain) && (not (empty && simple) && untagged)
+plain_fits a untagged flow simple empty = (if flow then a.flow_plain else a.plain)
+    && (not (empty && simple) && untagged)
 
 abbrev pub single_or : Allowed → Style
 single_or a = if a.single then style.Single else style.Double
@@ -102,13 +127,18 @@ abbrev pub block_or : Allowed → Bool → Bool → Style → Style
 block_or a flow simple s = if a.block && not (flow || simple) then s else style.Double
 
 abbrev pub plain_or : Allowed → Bool → Bool → Bool → Bool → Style
-plain_or a untagged flow simple empty = if plain_fits a untagged flow simple empty then style.Plain else single_or a
+plain_or a untagged flow simple empty = if plain_fits a untagged flow simple empty then style.Plain
+    else single_or a
 
 -- The style that was asked for, where it is allowed.
 unfoldable pub taken : Allowed → yaml_scalar_style_t → Bool → Bool → Bool → Bool → Style
-taken a asked.YAML_ANY_SCALAR_STYLE untagged flow simple empty = plain_or a untagged flow simple empty
-taken a asked.YAML_PLAIN_SCALAR_STYLE untagged flow simple empty = plain_or a untagged flow simple empty
+taken a asked.YAML_ANY_SCALAR_STYLE untagged flow simple empty = plain_or a untagged flow simple
+    empty
+taken a asked.YAML_PLAIN_SCALAR_STYLE untagged flow simple empty = plain_or a untagged flow simple
+    empty
 taken a asked.YAML_SINGLE_QUOTED_SCALAR_STYLE untagged flow simple empty = single_or a
 taken a asked.YAML_DOUBLE_QUOTED_SCALAR_STYLE untagged flow simple empty = style.Double
-taken a asked.YAML_LITERAL_SCALAR_STYLE untagged flow simple empty = block_or a flow simple style.Literal
-taken a asked.YAML_FOLDED_SCALAR_STYLE untagged flow simple empty = block_or a flow simple style.Folded
+taken a asked.YAML_LITERAL_SCALAR_STYLE untagged flow simple empty = block_or a flow simple
+    style.Literal
+taken a asked.YAML_FOLDED_SCALAR_STYLE untagged flow simple empty = block_or a flow simple
+    style.Folded

@@ -8,12 +8,14 @@ use Rattle.yaml_emit_text.specs.Quoted.{hex_2}
 
 -- whether a text begins with another one, which is shorter
 abbrev pub has_shorter_prefix : List ℕ → List ℕ → Bool
-has_shorter_prefix prefix tag = nat_lt (length prefix) (length tag) && bytes_eq (take (length prefix) tag) prefix
+has_shorter_prefix prefix tag = nat_lt (length prefix) (length tag)
+    && bytes_eq (take (length prefix) tag) prefix
 
 -- the first directive whose prefix is a strictly shorter prefix of the tag
 unfoldable pub directive_for : List TagDirective → List ℕ → Option TagDirective
 directive_for [] tag = None
-directive_for (d ∷ ds) tag = if has_shorter_prefix d.prefix tag then Some d else directive_for ds tag
+directive_for (d ∷ ds) tag = if has_shorter_prefix d.prefix tag then Some d
+    else directive_for ds tag
 
 unfoldable pub defines : List TagDirective → List ℕ → Bool
 defines [] handle = false
@@ -46,7 +48,9 @@ in_force ds = ds ++ defaults ds
 -- 0-9 A-Z a-z _ - ; / ? : @ & = + $ . ~ * ' ( )
 unfoldable pub suffix_keeps : ℕ → Bool
 suffix_keeps b =
-    (nat_le 48 b && nat_le b 57) || (nat_le 65 b && nat_le b 90) || (nat_le 97 b && nat_le b 122) || b == 95 || b == 45 || b == 59 || b == 47 || b == 63 || b == 58 || b == 64 || b == 38 || b == 61
+    (nat_le 48 b && nat_le b 57) || (nat_le 65 b && nat_le b 90) || (nat_le 97 b && nat_le b 122)
+    || b == 95 || b == 45 || b == 59 || b == 47 || b == 63 || b == 58 || b == 64 || b == 38
+    || b == 61
     || b == 43 || b == 36 || b == 46 || b == 126 || b == 42 || b == 39 || b == 40 || b == 41
 
 -- those, and , [ ]

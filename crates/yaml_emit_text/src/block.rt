@@ -112,7 +112,9 @@ fn put_block_run<'a>(
     left: &'a str,
 ) -> (char, &'a str)
     requires { is_break before ≡ false }
-    ensures text { (blank : Bool) → Owes sink.old sink.new (block_body page folded blank before (chars left.now)) (block_body page folded blank result.0 (chars result.1.now)) }
+    ensures text { (blank : Bool) → Owes sink.old sink.new
+        (block_body page folded blank before (chars left.now))
+        (block_body page folded blank result.0 (chars result.1.now)) }
     ensures utf8 { IsUtf8 result.1.now }
     ensures shorter { length result.1.now ≤ length left.now }
 {
@@ -129,7 +131,9 @@ fn put_block_run_or<'a>(
     before: char,
     left: &'a str,
 ) -> (char, &'a str)
-    ensures text { (blank : Bool) → Owes sink.old sink.new (block_body page folded blank before (chars left.now)) (block_body page folded blank result.0 (chars result.1.now)) }
+    ensures text { (blank : Bool) → Owes sink.old sink.new
+        (block_body page folded blank before (chars left.now))
+        (block_body page folded blank result.0 (chars result.1.now)) }
     ensures utf8 { IsUtf8 result.1.now }
     ensures shorter { length result.1.now ≤ length left.now }
 {

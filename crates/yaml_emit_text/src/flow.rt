@@ -111,7 +111,8 @@ fn put_flow_run<'a>(
     left: &'a str,
 ) -> (char, &'a str)
     requires { is_break before ≡ false }
-    ensures text { Owes sink.old sink.new (flow_body page quote before (chars left.now)) (flow_body page quote result.0 (chars result.1.now)) }
+    ensures text { Owes sink.old sink.new (flow_body page quote before (chars left.now))
+        (flow_body page quote result.0 (chars result.1.now)) }
     ensures utf8 { IsUtf8 result.1.now }
     ensures shorter { length result.1.now ≤ length left.now }
 {
@@ -128,7 +129,8 @@ fn put_flow_run_or<'a>(
     before: char,
     left: &'a str,
 ) -> (char, &'a str)
-    ensures text { Owes sink.old sink.new (flow_body page quote before (chars left.now)) (flow_body page quote result.0 (chars result.1.now)) }
+    ensures text { Owes sink.old sink.new (flow_body page quote before (chars left.now))
+        (flow_body page quote result.0 (chars result.1.now)) }
     ensures utf8 { IsUtf8 result.1.now }
     ensures shorter { length result.1.now ≤ length left.now }
 {

@@ -16,7 +16,8 @@ pub fn text(bytes: &[u8]) -> &str
 
 /// The first character and what follows it.
 pub(crate) fn split_first(text: &str) -> Option<(char, &str)>
-    ensures letters { MatchOption result (chars text.now ≡ []) (λ p. chars text.now ≡ p.0 ∷ chars p.1.now) }
+    ensures letters { MatchOption result (chars text.now ≡ [])
+        (λ p. chars text.now ≡ p.0 ∷ chars p.1.now) }
     ensures utf8 { IfSome result (λ p. IsUtf8 p.1.now) }
     ensures shorter { IfSome result (λ p. length p.1.now < length text.now) }
 {
@@ -29,7 +30,8 @@ pub(crate) fn split_first(text: &str) -> Option<(char, &str)>
 
 /// The last character, behind what goes before it.
 pub(crate) fn split_last(text: &str) -> Option<(&str, char)>
-    ensures letters { MatchOption result (chars text.now ≡ []) (λ p. chars text.now ≡ chars p.0.now ++ p.1 ∷ []) }
+    ensures letters { MatchOption result (chars text.now ≡ []) (λ p. chars text.now ≡ chars p.0.now
+        ++ p.1 ∷ []) }
     ensures utf8 { IfSome result (λ p. IsUtf8 p.0.now) }
 {
     let mut letters = text.chars();

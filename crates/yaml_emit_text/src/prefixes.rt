@@ -30,7 +30,8 @@ fn key(prefix: &[u8], depth: usize) -> u16
 
 // The number of a prefix that has as many bytes.
 fn ended(entry: &(Vec<u8>, usize), depth: usize) -> Option<usize>
-    ensures { result ≡ (if length (entry_of entry.now).0 == depth then Some (entry_of entry.now).1 else None) }
+    ensures { result ≡ (if length (entry_of entry.now).0 == depth then Some (entry_of entry.now).1
+        else None) }
 {
     if entry.0.len() == depth {
         Some(entry.1)
@@ -55,11 +56,14 @@ fn smaller(a: Option<usize>, b: Option<usize>) -> Option<usize>
 fn edge(entries: &[(Vec<u8>, usize)], from: usize, to: usize, depth: usize, least: u16) -> usize
     requires room { from ≤ to }
     requires inside { to ≤ length entries.now }
-    requires rises { (i j : ℕ) → from ≤ i → i ≤ j → j < to → key (at (map entry_of entries.now) i).0 depth ≤ key (at (map entry_of entries.now) j).0 depth }
+    requires rises { (i j : ℕ) → from ≤ i → i ≤ j → j < to → key (at (map entry_of entries.now) i).0
+        depth ≤ key (at (map entry_of entries.now) j).0 depth }
     ensures from { from ≤ result }
     ensures to { result ≤ to }
-    ensures below { (k : ℕ) → from ≤ k → k < result → key (at (map entry_of entries.now) k).0 depth < least }
-    ensures above { (k : ℕ) → result ≤ k → k < to → least ≤ key (at (map entry_of entries.now) k).0 depth }
+    ensures below { (k : ℕ) → from ≤ k → k < result → key (at (map entry_of entries.now) k).0 depth
+        < least }
+    ensures above { (k : ℕ) → result ≤ k → k < to → least ≤ key (at (map entry_of entries.now) k).0
+        depth }
 {
     let mut low = from;
     let mut high = to;
@@ -99,7 +103,8 @@ fn numbered(
     alloc: Global,
     directives: &[yaml_tag_directive_t],
 ) -> Result<Vec<(Vec<u8>, usize)>, AllocError>
-    ensures { IfOk result (λ es. map entry_of es.items ≡ numbered 0 (map directive_of directives.now)) }
+    ensures { IfOk result (λ es. map entry_of es.items ≡ numbered 0
+        (map directive_of directives.now)) }
 {
     let mut entries = Vec::new(alloc);
     for i in 0..directives.len() {
@@ -114,7 +119,8 @@ pub fn index_of(
     alloc: Global,
     directives: &[yaml_tag_directive_t],
 ) -> Result<Vec<(Vec<u8>, usize)>, AllocError>
-    ensures { IfOk result (λ es. IsIndex (map directive_of directives.now) (map entry_of es.items)) }
+    ensures { IfOk result (λ es. IsIndex (map directive_of directives.now)
+        (map entry_of es.items)) }
 {
     let mut entries = numbered(alloc, directives)?;
     entries.sort()?;

@@ -148,7 +148,8 @@ fn put_fold(sink: &mut Sink, page: Page, rest: &str)
 }
 
 fn put_fold_or(sink: &mut Sink, page: Page, c: char, rest: &str)
-    ensures { Puts sink.old sink.new (choose (is_past page.width) (fold page (chars rest.now)) (char c)) }
+    ensures { Puts sink.old sink.new (choose (is_past page.width) (fold page (chars rest.now))
+        (char c)) }
 {
     if sink.is_past(page.width) {
         put_fold(sink, page, rest);
@@ -184,7 +185,8 @@ fn quoted_bounds(page: Page) -> Bounds
 // Inlined into the loop over runs.
 #[inline(always)]
 fn put_quoted_run<'a>(sink: &mut Sink, page: Page, before: char, left: &'a str) -> (char, &'a str)
-    ensures text { Owes sink.old sink.new (quoted_body page before (chars left.now)) (quoted_body page result.0 (chars result.1.now)) }
+    ensures text { Owes sink.old sink.new (quoted_body page before (chars left.now))
+        (quoted_body page result.0 (chars result.1.now)) }
     ensures utf8 { IsUtf8 result.1.now }
     ensures shorter { length result.1.now ≤ length left.now }
 {

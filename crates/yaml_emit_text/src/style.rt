@@ -166,7 +166,8 @@ fn joined(a: Seen, b: Seen) -> Seen
 
 // Past what says nothing against a style, behind a character: the last character before what is left, and that.
 fn past_calm(before: char, left: &str) -> (char, &str)
-    ensures seen { (unicode : Bool) → looked unicode before (chars left.now) ≡ looked unicode result.0 (chars result.1.now) }
+    ensures seen { (unicode : Bool) → looked unicode before (chars left.now) ≡ looked unicode
+        result.0 (chars result.1.now) }
     ensures last { last_or before (chars left.now) ≡ last_or result.0 (chars result.1.now) }
     ensures utf8 { IsUtf8 result.1.now }
     ensures shorter { length result.1.now ≤ length left.now }
@@ -213,8 +214,11 @@ fn starts_badly(value: &str) -> bool
 }
 
 fn allowed_by(all: Seen, spaced: bool, badly: bool) -> Allowed
-    ensures plain { result.plain ≡ not (all.special || all.broken || spaced || badly || all.not_plain) }
-    ensures flow_plain { result.flow_plain ≡ (not (all.special || all.broken || spaced || badly || all.not_plain) && not all.not_flow) }
+    ensures plain { result.plain ≡ not (all.special || all.broken || spaced || badly
+        || all.not_plain) }
+    ensures flow_plain { result.flow_plain
+        ≡ (not (all.special || all.broken || spaced || badly || all.not_plain)
+        && not all.not_flow) }
     ensures single { result.single ≡ not (all.special || all.broken) }
     ensures block { result.block ≡ not (all.special || spaced) }
 {

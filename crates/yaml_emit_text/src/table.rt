@@ -148,7 +148,8 @@ impl DirectiveTable {
 
     /// The first whose prefix is a strictly shorter prefix of the tag.
     pub(crate) fn first_for(&self, tag: &[u8]) -> Option<&yaml_tag_directive_t>
-        ensures value { option_map (λ d. directive_of d.now) result ≡ directive_for self.now tag.now }
+        ensures value { option_map (λ d. directive_of d.now) result ≡ directive_for self.now
+            tag.now }
         ensures inside { IfSome result (λ d. length d.now.prefix.items < length tag.now) }
     {
         match number_of(&self.list, &self.sorted, tag) {

@@ -70,7 +70,8 @@ told_events gs = map (λ (g : Told). g.0) gs
 
 -- told events load what the events alone do
 abbrev pub LoadsSame : Option Fault → Loaded → Loads → Type 0
-LoadsSame f (loading.document d rest) (document e left unasked) = (d ≡ e) × (rest ≡ told_events left)
+LoadsSame f (loading.document d rest) (document e left unasked) = (d ≡ e)
+    × (rest ≡ told_events left)
 LoadsSame f (loading.faulty g) (faulty h) = g ≡ h
 LoadsSame f (loading.unfinished l) r = r ≡ behind_all f
 LoadsSame f _ _ = ⊥

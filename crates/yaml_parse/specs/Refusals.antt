@@ -12,4 +12,5 @@ use Rattle.yaml_parse_laws_sound.specs.Laws.{bare, RefusedAt, RunsOut}
 abbrev pub IsRefusal : List Token → Option Fault → Fault → Type 0
 IsRefusal ts f e =
     ((reading (run ts initial f).items None no_directives).ending ≡ Some e)
-    ⊎ (RefusedAt ts (bare (run ts initial f).items) e ⊎ RunsOut ts f (bare (run ts initial f).items) e)
+    ⊎ (RefusedAt ts (bare (run ts initial f).items) e ⊎ RunsOut ts f (bare (run ts initial f).items)
+    e)

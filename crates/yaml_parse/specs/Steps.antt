@@ -30,16 +30,20 @@ abbrev pub peeked_of : StepBuffers → Option Token
 peeked_of d = held_if d.is_held (token_of d.token)
 
 -- The token stands at the front: every stack goes on as before, and if it isn't the empty one it was asked for.
-pub record IsFront (peeked : Option Token) (ts : List Token) (fault : Option Fault) (t : Token) (rest : List Token) (after : Option Fault) : Type 0 where
+pub record IsFront (peeked : Option Token) (ts : List Token) (fault : Option Fault) (t : Token)
+    (rest : List Token) (after : Option Fault) : Type 0 where
   pub runs : (s : List State) → run (t ∷ rest) s after ≡ run (waiting peeked ts) s fault
   pub asked : (length rest + 1 ≡ length ts + held_of peeked) ⊎ (t ≡ no_token)
 
 -- No token stands there: memory ran out, or the fault ends the list.
-pub record HasNoFront (peeked : Option Token) (ts : List Token) (fault : Option Fault) (f : Fault) : Type 0 where
-  pub reason : (f.kind ≡ YAML_MEMORY_ERROR) ⊎ ((s : List State) → run (waiting peeked ts) s fault ≡ ending_at s f)
+pub record HasNoFront (peeked : Option Token) (ts : List Token) (fault : Option Fault)
+    (f : Fault) : Type 0 where
+  pub reason : (f.kind ≡ YAML_MEMORY_ERROR)
+      ⊎ ((s : List State) → run (waiting peeked ts) s fault ≡ ending_at s f)
 
 -- whether a token stands at the front
-abbrev pub HasFront : Bool → Option Token → List Token → Option Fault → Token → List Token → Option Fault → Fault → Type 0
+abbrev pub HasFront : Bool → Option Token → List Token → Option Fault → Token → List Token
+    → Option Fault → Fault → Type 0
 HasFront true peeked ts fault t rest after f = IsFront peeked ts fault t rest after
 HasFront false peeked ts fault t rest after f = HasNoFront peeked ts fault f
 
@@ -51,7 +55,12 @@ pub record Raw : Type 0 where
   pub stack : List State
 
 abbrev pub raw : Option Token → List Token → Option Fault → List State → Raw
-raw peeked tokens fault stack = record { peeked = peeked; tokens = tokens; fault = fault; stack = stack }
+raw peeked tokens fault stack = record {
+  peeked = peeked;
+  tokens = tokens;
+  fault = fault;
+  stack = stack;
+}
 
 abbrev pub outcome : Raw → Outcome
 outcome r = run (waiting r.peeked r.tokens) r.stack r.fault
@@ -66,7 +75,10 @@ IsDirective _ = ⊥
 
 -- the item comes first, and the rest follows; a directive takes its token and leaves something open
 pub record GivesItem (i : item.RawEvent) (old new : Raw) : Type 0 where
-  pub same : outcome old ≡ record { items = (i, length new.tokens) ∷ (outcome new).items; ending = (outcome new).ending }
+  pub same : outcome old ≡ record {
+    items = (i, length new.tokens) ∷ (outcome new).items;
+    ending = (outcome new).ending;
+  }
   pub less : IsDirective i.body → budget new < budget old
   pub stands : IsDirective i.body → Stands new.stack
 
@@ -91,7 +103,8 @@ Steps old step.done new = IsDone old new
 
 -- an implicit document begins there
 abbrev pub OpensAt : yaml_mark_t → List State → Stepped → List State → Type 0
-OpensAt start old (step.given i) new = (i ≡ item_at (item.document true) start start) × (new ≡ opened start ++ old)
+OpensAt start old (step.given i) new = (i ≡ item_at (item.document true) start start)
+    × (new ≡ opened start ++ old)
 OpensAt start old (step.refused f) new = f.kind ≡ YAML_MEMORY_ERROR
 OpensAt start old step.silent new = ⊥
 OpensAt start old step.done new = ⊥
@@ -105,7 +118,8 @@ IsReal x t step.done = ⊥
 
 -- the texts of what a step gives are UTF-8, and those of what is held then
 abbrev pub IsUtf8Step : Stepped → Option Token → List State → Directives → Type 0
-IsUtf8Step (step.given i) peeked s ds = IsUtf8Item i.body × (IsUtf8Token peeked × (AreUtf8States s × AreUtf8 ds.tags))
+IsUtf8Step (step.given i) peeked s ds = IsUtf8Item i.body
+    × (IsUtf8Token peeked × (AreUtf8States s × AreUtf8 ds.tags))
 IsUtf8Step step.silent peeked s ds = IsUtf8Token peeked × (AreUtf8States s × AreUtf8 ds.tags)
 IsUtf8Step (step.refused f) peeked s ds = Unit {0}
 IsUtf8Step step.done peeked s ds = Unit {0}
@@ -152,4 +166,5 @@ pub record Kept (initial now : ParserRemaining) : Type 0 where
   pub events : now.events ≡ initial.events
   pub ending : now.ending ≡ initial.ending
   pub answered : now.answered ≡ initial.answered
-  pub unasked : ((now.unasked ≡ initial.unasked) × (now.held ≡ initial.held)) ⊎ (initial.events ≡ [] → initial.ending ≡ None → ⊥)
+  pub unasked : ((now.unasked ≡ initial.unasked) × (now.held ≡ initial.held))
+      ⊎ (initial.events ≡ [] → initial.ending ≡ None → ⊥)

@@ -44,5 +44,6 @@ pub fn yaml_parser_load<S: yaml_token_source_t>(
 
 /// A law: what a parser's events to come load is what the events load by themselves.
 pub fn loads_as_the_events_do()
-    ensures { (gs : List Told) (f : Option Fault) (l : Loading) → LoadsSame f (load (told_events gs) l) (loads gs f l) }
+    ensures { (gs : List Told) (f : Option Fault) (l : Loading)
+        → LoadsSame f (load (told_events gs) l) (loads gs f l) }
 {}

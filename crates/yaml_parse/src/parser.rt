@@ -53,21 +53,26 @@ impl<S: yaml_token_source_t> Model for yaml_parser_t<S> {
 
     ghost Value = { ParserRemaining };
 
-    ghost view = { λ p. parser_remaining (peeked_of p.buffers) (S.to_come p.source) (S.fault_to_come p.source) (stack_of p.stack.items) (directives_of p.directives) (prefix_of p.prefix) };
+    ghost view = { λ p. parser_remaining (peeked_of p.buffers) (S.to_come p.source)
+        (S.fault_to_come p.source) (stack_of p.stack.items) (directives_of p.directives)
+        (prefix_of p.prefix) };
 
     ghost use Rattle.yaml_parse_grammar.specs.Texts.{IsUtf8Held};
     ghost use Rattle.yaml_parse_grammar.specs.Stacks.{IsStack};
 
-    ghost invariant = { λ p. IsUtf8Held (peeked_of p.buffers) (stack_of p.stack.items) (directives_of p.directives) × IsStack (stack_of p.stack.items) };
+    ghost invariant = { λ p. IsUtf8Held (peeked_of p.buffers) (stack_of p.stack.items)
+        (directives_of p.directives) × IsStack (stack_of p.stack.items) };
 }
 
 impl<S: yaml_token_source_t> yaml_parser_t<S> {
     // Out of line: in a loop LLVM would put the addresses of all fields aside at each entry.
     #[inline(never)]
     fn turn(&mut self, event: &mut yaml_event_t, fault: &mut yaml_fault_t) -> Turn
-        ensures turns { Turns self.old (turned result (event_of event.new) (fault_of fault.new)) self.new }
+        ensures turns { Turns self.old (turned result (event_of event.new) (fault_of fault.new))
+            self.new }
         ensures utf8 { IsUtf8Turn (turned result (event_of event.new) (fault_of fault.new)) }
-        ensures between { IsStackTurn (turned result (event_of event.new) (fault_of fault.new)) self.new.between }
+        ensures between { IsStackTurn (turned result (event_of event.new) (fault_of fault.new))
+            self.new.between }
     {
         take_turn(
             self.alloc,
@@ -122,14 +127,20 @@ pub fn yaml_parser_initialize<S: yaml_token_source_t>(
     // Where the source's tokens begin with those of a tree, the tree's events are to come, resolved by each
     // document's directives, or those before the first fault of a directive or a tag handle, and that fault.
     ensures tree { (t : Stream) (rest : List Token) → S.to_come source ≡ spell t rest
-        → IfOk result (λ p. (p.events ≡ (reading (items t rest) None no_directives).events) × (p.ending ≡ (reading (items t rest) None no_directives).ending)) }
+        → IfOk result (λ p. (p.events ≡ (reading (items t rest) None no_directives).events)
+        × (p.ending ≡ (reading (items t rest) None no_directives).ending)) }
     // Of every list, sentence or not, what the machine gives is to come.
-    ensures machine { IfOk result (λ p. (p.events ≡ (reading_of (run (S.to_come source) initial (S.fault_to_come source)) no_directives).events)
-        × (p.ending ≡ (reading_of (run (S.to_come source) initial (S.fault_to_come source)) no_directives).ending)) }
+    ensures machine { IfOk result (λ p. (p.events
+        ≡ (reading_of (run (S.to_come source) initial (S.fault_to_come source))
+        no_directives).events)
+        × (p.ending ≡ (reading_of (run (S.to_come source) initial (S.fault_to_come source))
+        no_directives).ending)) }
     // No fault is to come exactly where they begin with the tokens of a tree whose directives and tag handles are in order.
-    ensures sentence { IfOk result (λ p. (p.ending ≡ None) ↔ BeginsWithSentence (S.to_come source)) }
+    ensures sentence { IfOk result (λ p. (p.ending ≡ None)
+        ↔ BeginsWithSentence (S.to_come source)) }
     // Else the fault stands at the first token that no tree goes on with, or at a directive or a handle, or is the source's.
-    ensures refusal { (e : Fault) → IfOk result (λ p. p.ending ≡ Some e → IsRefusal (S.to_come source) (S.fault_to_come source) e) }
+    ensures refusal { (e : Fault) → IfOk result (λ p. p.ending ≡ Some e
+        → IsRefusal (S.to_come source) (S.fault_to_come source) e) }
     // No token was asked for yet.
     ensures unasked { IfOk result (λ p. (p.unasked ≡ length (S.to_come source)) × (p.held ≡ 0)) }
     ensures quiet { IfOk result (λ p. (p.answered ≡ no_fault) × (p.between ≡ true)) }
@@ -194,7 +205,8 @@ pub(crate) fn next_event<S: yaml_token_source_t>(
 ) -> Result<Option<yaml_event_t>, yaml_fault_t>
     ensures ok { IfOk result (λ e. NextOf parser.old e parser.new) }
     ensures utf8 { IfOk result (λ e. IfSome e (λ x. HasUtf8 (event_of x).body)) }
-    ensures between { IfOk result (λ e. IfSome e (λ x. parser.new.between ≡ parts_documents_behind (event_of x).body)) }
+    ensures between { IfOk result (λ e. IfSome e (λ x. parser.new.between ≡ parts_documents_behind
+        (event_of x).body)) }
     ensures err { IfErr result (λ f. FaultOf parser.old (fault_of f) parser.new) }
 {
     let mut event = yaml_event_t::unplaced(yaml_event_body_t::No);
@@ -221,7 +233,8 @@ pub fn yaml_parser_parse<S: yaml_token_source_t>(
     ensures ok { IfOk result (λ e. EventOf parser.old (event_of e) parser.new) }
     ensures utf8 { IfOk result (λ e. HasUtf8 (event_of e).body) }
     // What was given tells whether a document is half taken.
-    ensures between { IfOk result (λ e. parser.new.between ≡ parts_documents_behind (event_of e).body) }
+    ensures between { IfOk result (λ e. parser.new.between ≡ parts_documents_behind
+        (event_of e).body) }
     ensures err { IfErr result (λ f. FaultOf parser.old (fault_of f) parser.new) }
 {
     let mut event = yaml_event_t::unplaced(yaml_event_body_t::No);

@@ -69,7 +69,9 @@ fn ask<S: yaml_token_source_t>(
     token: &mut yaml_token_t,
     fault: &mut yaml_fault_t,
 ) -> bool
-    ensures front { HasFront result None (S.to_come source.old) (S.fault_to_come source.old) (token_of token.new) (S.to_come source.new) (S.fault_to_come source.new) (fault_of fault.new) }
+    ensures front { HasFront result None (S.to_come source.old) (S.fault_to_come source.old)
+        (token_of token.new) (S.to_come source.new) (S.fault_to_come source.new)
+        (fault_of fault.new) }
     ensures utf8 { result ≡ true → HasUtf8 (token_of token.new).body }
 {
     match source.next_token() {
@@ -90,8 +92,11 @@ fn front<S: yaml_token_source_t>(
     buffers: &mut StepBuffers,
     fault: &mut yaml_fault_t,
 ) -> bool
-    ensures front { HasFront result (peeked_of buffers.old) (S.to_come source.old) (S.fault_to_come source.old) (token_of buffers.new.token) (S.to_come source.new) (S.fault_to_come source.new) (fault_of fault.new) }
-    ensures utf8 { IsUtf8Token (peeked_of buffers.old) → result ≡ true → HasUtf8 (token_of buffers.new.token).body }
+    ensures front { HasFront result (peeked_of buffers.old) (S.to_come source.old)
+        (S.fault_to_come source.old) (token_of buffers.new.token) (S.to_come source.new)
+        (S.fault_to_come source.new) (fault_of fault.new) }
+    ensures utf8 { IsUtf8Token (peeked_of buffers.old) → result ≡ true
+        → HasUtf8 (token_of buffers.new.token).body }
 {
     if buffers.is_held {
         true
@@ -123,9 +128,17 @@ fn taking(
     fault: &mut yaml_fault_t,
 ) -> Step
     requires { choice_at (state_of state) (type_of (token_of buffers.old.token).body) ≡ taking_it }
-    ensures steps { (rest : List Token) (ending : Option Fault) → Steps (raw (Some (token_of buffers.old.token)) rest ending (state_of state ∷ stack_of stack.old.items)) (stepped result (item_of buffers.new.item) (fault_of fault.new)) (raw (peeked_of buffers.new) rest ending (stack_of stack.new.items)) }
-    ensures utf8 { (ds : DirectivesSpec) → IsUtf8Held (Some (token_of buffers.old.token)) (state_of state ∷ stack_of stack.old.items) ds → IsUtf8Step (stepped result (item_of buffers.new.item) (fault_of fault.new)) (peeked_of buffers.new) (stack_of stack.new.items) ds }
-    ensures stack { IsStack (state_of state ∷ stack_of stack.old.items) → IsStackStep (stepped result (item_of buffers.new.item) (fault_of fault.new)) (stack_of stack.new.items) }
+    ensures steps { (rest : List Token) (ending : Option Fault)
+        → Steps (raw (Some (token_of buffers.old.token)) rest ending
+        (state_of state ∷ stack_of stack.old.items)) (stepped result (item_of buffers.new.item)
+        (fault_of fault.new)) (raw (peeked_of buffers.new) rest ending (stack_of stack.new.items)) }
+    ensures utf8 { (ds : DirectivesSpec) → IsUtf8Held (Some (token_of buffers.old.token))
+        (state_of state ∷ stack_of stack.old.items) ds
+        → IsUtf8Step (stepped result (item_of buffers.new.item) (fault_of fault.new))
+        (peeked_of buffers.new) (stack_of stack.new.items) ds }
+    ensures stack { IsStack (state_of state ∷ stack_of stack.old.items)
+        → IsStackStep (stepped result (item_of buffers.new.item) (fault_of fault.new))
+        (stack_of stack.new.items) }
 {
     buffers.is_held = false;
     match take(stack, state, &mut buffers.token, &mut buffers.item) {
@@ -145,7 +158,8 @@ fn opening(
     slot: &mut RawEvent,
     fault: &mut yaml_fault_t,
 ) -> Step
-    ensures { OpensAt start (stack_of stack.old.items) (stepped result (item_of slot.new) (fault_of fault.new)) (stack_of stack.new.items) }
+    ensures { OpensAt start (stack_of stack.old.items)
+        (stepped result (item_of slot.new) (fault_of fault.new)) (stack_of stack.new.items) }
 {
     match open(stack, start) {
         Ok(()) => {
@@ -168,11 +182,19 @@ fn stepping(
     buffers: &mut StepBuffers,
     fault: &mut yaml_fault_t,
 ) -> Step
-    ensures steps { (rest : List Token) (ending : Option Fault) → Steps (raw (Some (token_of buffers.old.token)) rest ending (state_of state ∷ stack_of stack.old.items)) (stepped result (item_of buffers.new.item) (fault_of fault.new)) (raw (peeked_of buffers.new) rest ending (stack_of stack.new.items)) }
-    ensures real { IsReal (state_of state) (token_of buffers.old.token) (stepped result (item_of buffers.new.item) (fault_of fault.new)) }
-    ensures utf8 { (ds : DirectivesSpec) → IsUtf8Held (Some (token_of buffers.old.token)) (state_of state ∷ stack_of stack.old.items) ds
-        → IsUtf8Step (stepped result (item_of buffers.new.item) (fault_of fault.new)) (peeked_of buffers.new) (stack_of stack.new.items) ds }
-    ensures stack { IsStack (state_of state ∷ stack_of stack.old.items) → IsStackStep (stepped result (item_of buffers.new.item) (fault_of fault.new)) (stack_of stack.new.items) }
+    ensures steps { (rest : List Token) (ending : Option Fault)
+        → Steps (raw (Some (token_of buffers.old.token)) rest ending
+        (state_of state ∷ stack_of stack.old.items)) (stepped result (item_of buffers.new.item)
+        (fault_of fault.new)) (raw (peeked_of buffers.new) rest ending (stack_of stack.new.items)) }
+    ensures real { IsReal (state_of state) (token_of buffers.old.token)
+        (stepped result (item_of buffers.new.item) (fault_of fault.new)) }
+    ensures utf8 { (ds : DirectivesSpec) → IsUtf8Held (Some (token_of buffers.old.token))
+        (state_of state ∷ stack_of stack.old.items) ds
+        → IsUtf8Step (stepped result (item_of buffers.new.item) (fault_of fault.new))
+        (peeked_of buffers.new) (stack_of stack.new.items) ds }
+    ensures stack { IsStack (state_of state ∷ stack_of stack.old.items)
+        → IsStackStep (stepped result (item_of buffers.new.item) (fault_of fault.new))
+        (stack_of stack.new.items) }
 {
     let start = buffers.token.start_mark;
     match choose(&state, buffers.token.type_()) {
@@ -202,10 +224,18 @@ pub fn advance<S: yaml_token_source_t>(
     stack: &mut Vec<State>,
     fault: &mut yaml_fault_t,
 ) -> Step
-    ensures steps { Steps (raw (peeked_of buffers.old) (S.to_come source.old) (S.fault_to_come source.old) (stack_of stack.old.items)) (stepped result (item_of buffers.new.item) (fault_of fault.new))
-        (raw (peeked_of buffers.new) (S.to_come source.new) (S.fault_to_come source.new) (stack_of stack.new.items)) }
-    ensures utf8 { (ds : DirectivesSpec) → IsUtf8Held (peeked_of buffers.old) (stack_of stack.old.items) ds → IsUtf8Step (stepped result (item_of buffers.new.item) (fault_of fault.new)) (peeked_of buffers.new) (stack_of stack.new.items) ds }
-    ensures stack { IsStack (stack_of stack.old.items) → IsStackStep (stepped result (item_of buffers.new.item) (fault_of fault.new)) (stack_of stack.new.items) }
+    ensures steps { Steps (raw (peeked_of buffers.old) (S.to_come source.old)
+        (S.fault_to_come source.old) (stack_of stack.old.items))
+        (stepped result (item_of buffers.new.item) (fault_of fault.new))
+        (raw (peeked_of buffers.new) (S.to_come source.new) (S.fault_to_come source.new)
+        (stack_of stack.new.items)) }
+    ensures utf8 { (ds : DirectivesSpec) → IsUtf8Held (peeked_of buffers.old)
+        (stack_of stack.old.items) ds
+        → IsUtf8Step (stepped result (item_of buffers.new.item) (fault_of fault.new))
+        (peeked_of buffers.new) (stack_of stack.new.items) ds }
+    ensures stack { IsStack (stack_of stack.old.items)
+        → IsStackStep (stepped result (item_of buffers.new.item) (fault_of fault.new))
+        (stack_of stack.new.items) }
 {
     let Some(state) = stack.pop() else {
         return Step::Done;
@@ -229,11 +259,21 @@ pub fn take_turn<S: yaml_token_source_t>(
     event: &mut yaml_event_t,
     fault: &mut yaml_fault_t,
 ) -> Turn
-    ensures turns { (answered : Fault) → Turns (parser_remaining (peeked_of buffers.old) (S.to_come source.old) (S.fault_to_come source.old) (stack_of stack.old.items) (directives_of directives.old) answered) (turned result (event_of event.new) (fault_of fault.new))
-        (parser_remaining (peeked_of buffers.new) (S.to_come source.new) (S.fault_to_come source.new) (stack_of stack.new.items) (directives_of directives.new) answered) }
-    ensures utf8 { IsUtf8Held (peeked_of buffers.old) (stack_of stack.old.items) (directives_of directives.old)
-        → IsUtf8Turn (turned result (event_of event.new) (fault_of fault.new)) × IsUtf8Held (peeked_of buffers.new) (stack_of stack.new.items) (directives_of directives.new) }
-    ensures stack { IsStack (stack_of stack.old.items) → IsStackTurn (turned result (event_of event.new) (fault_of fault.new)) (is_between (stack_of stack.new.items)) × IsStack (stack_of stack.new.items) }
+    ensures turns { (answered : Fault)
+        → Turns (parser_remaining (peeked_of buffers.old) (S.to_come source.old)
+        (S.fault_to_come source.old) (stack_of stack.old.items) (directives_of directives.old)
+        answered) (turned result (event_of event.new) (fault_of fault.new))
+        (parser_remaining (peeked_of buffers.new) (S.to_come source.new)
+        (S.fault_to_come source.new) (stack_of stack.new.items) (directives_of directives.new)
+        answered) }
+    ensures utf8 { IsUtf8Held (peeked_of buffers.old) (stack_of stack.old.items)
+        (directives_of directives.old)
+        → IsUtf8Turn (turned result (event_of event.new) (fault_of fault.new))
+        × IsUtf8Held (peeked_of buffers.new) (stack_of stack.new.items)
+        (directives_of directives.new) }
+    ensures stack { IsStack (stack_of stack.old.items)
+        → IsStackTurn (turned result (event_of event.new) (fault_of fault.new))
+        (is_between (stack_of stack.new.items)) × IsStack (stack_of stack.new.items) }
 {
     match advance(source, buffers, stack, fault) {
         Step::Done => Turn::Done,

@@ -62,7 +62,8 @@ pub record IsDocument (d : Document) : Type 0 where
   pub nodes : AreSound (length d.nodes) d.nodes
 
 -- a document without nodes and with zero marks
-abbrev pub new_document : Option yaml_version_directive_t → List TagDirective → Bool → Bool → Document
+abbrev pub new_document : Option yaml_version_directive_t → List TagDirective → Bool → Bool
+    → Document
 new_document version directives start_implicit end_implicit = record {
   version = version;
   directives = directives;
@@ -116,7 +117,8 @@ with_node d n = record d { nodes = d.nodes ++ n ∷ [] }
 -- an adding call gives the new node's number; that a text isn't UTF-8, exactly where one isn't; else want of memory. Only
 -- where it gives a number the document changes
 abbrev pub Adds : Document → Node → Type 0 → Result ℤ yaml_text_fault_t → Document → Type 0
-Adds old n IsUtf8Texts (Ok id) new = (new ≡ with_node old n) × (id ≡ pos (suc (length old.nodes))) × IsUtf8Texts
+Adds old n IsUtf8Texts (Ok id) new = (new ≡ with_node old n) × (id ≡ pos (suc (length old.nodes)))
+    × IsUtf8Texts
 Adds old n IsUtf8Texts (Err NotUtf8) new = (new ≡ old) × ¬ IsUtf8Texts
 Adds old n IsUtf8Texts (Err Memory) new = (new ≡ old) × IsUtf8Texts
 
@@ -164,6 +166,7 @@ abbrev pub IsMappingAt : Document → ℤ → Type 0
 IsMappingAt d id = IsKindAt IsMappingBody (node_at d.nodes id)
 
 -- an appending call changes one node, or finds no memory and changes nothing
-abbrev pub Appends : {A : Type 0} → Document → Document → Result A yaml_text_fault_t → Document → Type 0
+abbrev pub Appends : {A : Type 0} → Document → Document → Result A yaml_text_fault_t → Document
+    → Type 0
 Appends old changed (Ok _) new = new ≡ changed
 Appends old changed (Err f) new = (new ≡ old) × (f ≡ Memory)

@@ -109,7 +109,8 @@ pub fn yaml_document_initialize(
     start_implicit: bool,
     end_implicit: bool,
 ) -> Result<yaml_document_t, yaml_text_fault_t>
-    ensures { IsNewDocument (new_document version_directive (map directive_of tag_directives.now) start_implicit end_implicit) result }
+    ensures { IsNewDocument (new_document version_directive (map directive_of tag_directives.now)
+        start_implicit end_implicit) result }
 {
     if !are_utf8(tag_directives) {
         return Err(yaml_text_fault_t::NotUtf8);

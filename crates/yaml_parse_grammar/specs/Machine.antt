@@ -108,13 +108,17 @@ abbrev pub choice_at : State → yaml_token_type_t → Choice
 choice_at state.stream kind.YAML_STREAM_START_TOKEN = Take
 choice_at state.stream k = Refuse problem.NoStreamStart None
 choice_at state.first k =
-    if parts_documents k then Take else if starts_node (Block None) k then Open else Refuse problem.NoBlockNode None
+    if parts_documents k then Take else if starts_node (Block None) k then Open
+    else Refuse problem.NoBlockNode None
 choice_at state.documents kind.YAML_DOCUMENT_END_TOKEN = Take
-choice_at state.documents k = if parts_documents k then Take else Refuse problem.NoDocumentStart None
+choice_at state.documents k = if parts_documents k then Take else Refuse problem.NoDocumentStart
+    None
 choice_at (state.directives from) kind.YAML_STREAM_END_TOKEN = Refuse problem.NoDocumentStart None
-choice_at (state.directives from) k = if parts_documents k then Take else Refuse problem.NoDocumentStart None
+choice_at (state.directives from) k = if parts_documents k then Take
+    else Refuse problem.NoDocumentStart None
 choice_at (state.optional place before) k =
-    if follows place k then Leave else if starts_node (wants_of place) k then Take else Refuse (no_node (wants_of place)) None
+    if follows place k then Leave else if starts_node (wants_of place) k then Take
+    else Refuse (no_node (wants_of place)) None
 choice_at state.document_end kind.YAML_DOCUMENT_END_TOKEN = Take
 choice_at state.document_end k = Leave
 choice_at (state.entries opener) kind.YAML_BLOCK_ENTRY_TOKEN = Take
@@ -129,7 +133,8 @@ choice_at (state.colon place) kind.YAML_VALUE_TOKEN = Take
 choice_at (state.colon place) k = Leave
 choice_at (state.with_properties w p) k = if joins p k || starts_content w k then Take else Leave
 choice_at (state.items b opener) kind.YAML_KEY_TOKEN = Take
-choice_at (state.items b opener) k = if closes b k || starts_node Flow k then Take else Refuse problem.NoFlowNode None
+choice_at (state.items b opener) k = if closes b k || starts_node Flow k then Take
+    else Refuse problem.NoFlowNode None
 choice_at (state.more b opener) kind.YAML_FLOW_ENTRY_TOKEN = Take
 choice_at (state.more b opener) k = if closes b k then Take else Refuse (no_end b) (Some opener)
 choice_at state.pair_end k = Leave
@@ -146,24 +151,32 @@ not_taken = taken None (state.lone ∷ [])
 
 abbrev pub documents_taken : yaml_mark_t → yaml_mark_t → yaml_mark_t → TokenBody → Taken
 documents_taken from start end (token.version_directive major minor) =
-    taken (Some (item_at (item.version_directive major minor) start end)) (state.directives from ∷ [])
+    taken (Some (item_at (item.version_directive major minor) start end))
+    (state.directives from ∷ [])
 documents_taken from start end (token.tag_directive handle prefix) =
     taken (Some (item_at (item.tag_directive handle prefix) start end)) (state.directives from ∷ [])
 documents_taken from start end token.document_start =
-    taken (Some (item_at (item.document false) from end)) (state.optional Root end ∷ state.document_end ∷ state.documents ∷ [])
-documents_taken from start end token.stream_end = taken (Some (event_at event.stream_end start end)) []
+    taken (Some (item_at (item.document false) from end))
+    (state.optional Root end ∷ state.document_end ∷ state.documents ∷ [])
+documents_taken from start end token.stream_end = taken (Some (event_at event.stream_end start end))
+    []
 documents_taken from start end _ = taken None (state.documents ∷ [])
 
 abbrev pub content_taken : Wants → Option Properties → yaml_mark_t → yaml_mark_t → TokenBody → Taken
-content_taken w p start end (token.scalar value style) = taken (Some (node_at p (item.scalar value style) start end)) []
+content_taken w p start end (token.scalar value style) = taken
+    (Some (node_at p (item.scalar value style) start end)) []
 content_taken w p start end token.flow_sequence_start =
-    taken (Some (node_at p (flow_shape brackets.Sequence) start end)) (state.items brackets.Sequence start ∷ [])
+    taken (Some (node_at p (flow_shape brackets.Sequence) start end))
+    (state.items brackets.Sequence start ∷ [])
 content_taken w p start end token.flow_mapping_start =
-    taken (Some (node_at p (flow_shape brackets.Mapping) start end)) (state.items brackets.Mapping start ∷ [])
+    taken (Some (node_at p (flow_shape brackets.Mapping) start end))
+    (state.items brackets.Mapping start ∷ [])
 content_taken w p start end token.block_sequence_start =
-    taken (Some (node_at p (item.sequence YAML_BLOCK_SEQUENCE_STYLE) start end)) (state.entries start ∷ [])
+    taken (Some (node_at p (item.sequence YAML_BLOCK_SEQUENCE_STYLE) start end))
+    (state.entries start ∷ [])
 content_taken w p start end token.block_mapping_start =
-    taken (Some (node_at p (item.mapping YAML_BLOCK_MAPPING_STYLE) start end)) (state.pairs start ∷ [])
+    taken (Some (node_at p (item.mapping YAML_BLOCK_MAPPING_STYLE) start end))
+    (state.pairs start ∷ [])
 content_taken (Block (Some side)) p start end token.block_entry =
     taken (Some (node_at p (item.sequence YAML_BLOCK_SEQUENCE_STYLE) start end))
     (state.optional (IndentlessEntry side) end ∷ state.others side ∷ [])
@@ -175,16 +188,27 @@ tag_at handle suffix start = record { handle = handle; suffix = suffix; mark = s
 abbrev pub node_taken : Wants → yaml_mark_t → yaml_mark_t → TokenBody → Taken
 node_taken w start end (token.alias name) = taken (Some (event_at (event.alias name) start end)) []
 node_taken w start end (token.anchor name) =
-    taken None (state.with_properties w (record { anchor = Some name; tag = None; from = start; to = end }) ∷ [])
+    taken None (state.with_properties w
+    (record { anchor = Some name; tag = None; from = start; to = end }) ∷ [])
 node_taken w start end (token.tag handle suffix) =
-    taken None (state.with_properties w (record { anchor = None; tag = Some (tag_at handle suffix start); from = start; to = end }) ∷ [])
+    taken None (state.with_properties w
+    (record { anchor = None; tag = Some (tag_at handle suffix start); from = start; to = end })
+    ∷ [])
 node_taken w start end body = content_taken w None start end body
 
-abbrev pub with_properties_taken : Wants → Properties → yaml_mark_t → yaml_mark_t → TokenBody → Taken
+abbrev pub with_properties_taken : Wants → Properties → yaml_mark_t → yaml_mark_t → TokenBody
+    → Taken
 with_properties_taken w p start end (token.anchor name) =
-    taken None (state.with_properties w (record { anchor = Some name; tag = p.tag; from = p.from; to = end }) ∷ [])
+    taken None (state.with_properties w
+    (record { anchor = Some name; tag = p.tag; from = p.from; to = end }) ∷ [])
 with_properties_taken w p start end (token.tag handle suffix) =
-    taken None (state.with_properties w (record { anchor = p.anchor; tag = Some (tag_at handle suffix start); from = p.from; to = end }) ∷ [])
+    taken None (state.with_properties w
+    (record {
+      anchor = p.anchor;
+      tag = Some (tag_at handle suffix start);
+      from = p.from;
+      to = end;
+    }) ∷ [])
 with_properties_taken w p start end body = content_taken w (Some p) start end body
 
 abbrev pub above : List State → Taken → Taken
@@ -197,31 +221,40 @@ lone_below brackets.Mapping below = state.lone ∷ below
 abbrev pub pair_taken : Brackets → yaml_mark_t → yaml_mark_t → yaml_mark_t → Taken
 pair_taken brackets.Sequence opener start end =
     taken (Some (item_at (item.node None None (item.mapping YAML_FLOW_MAPPING_STYLE)) start end))
-    (state.optional (FlowPair brackets.Sequence Key) end ∷ state.colon (FlowPair brackets.Sequence Value) ∷ state.pair_end ∷ state.more brackets.Sequence opener ∷ [])
+    (state.optional (FlowPair brackets.Sequence Key) end ∷ state.colon
+    (FlowPair brackets.Sequence Value) ∷ state.pair_end ∷ state.more brackets.Sequence opener
+    ∷ [])
 pair_taken brackets.Mapping opener start end =
-    taken None (state.optional (FlowPair brackets.Mapping Key) end ∷ state.colon (FlowPair brackets.Mapping Value) ∷ state.more brackets.Mapping opener ∷ [])
+    taken None (state.optional (FlowPair brackets.Mapping Key) end ∷ state.colon
+    (FlowPair brackets.Mapping Value) ∷ state.more brackets.Mapping opener ∷ [])
 
 abbrev pub items_taken : Brackets → yaml_mark_t → yaml_mark_t → yaml_mark_t → TokenBody → Taken
 items_taken b opener start end token.key = pair_taken b opener start end
-items_taken b opener start end token.flow_sequence_end = taken (Some (event_at (end_event b) start end)) []
-items_taken b opener start end token.flow_mapping_end = taken (Some (event_at (end_event b) start end)) []
-items_taken b opener start end body = above (lone_below b (state.more b opener ∷ [])) (node_taken Flow start end body)
+items_taken b opener start end token.flow_sequence_end = taken
+    (Some (event_at (end_event b) start end)) []
+items_taken b opener start end token.flow_mapping_end = taken
+    (Some (event_at (end_event b) start end)) []
+items_taken b opener start end body = above (lone_below b (state.more b opener ∷ []))
+    (node_taken Flow start end body)
 
 abbrev pub more_taken : Brackets → yaml_mark_t → yaml_mark_t → yaml_mark_t → TokenBody → Taken
 more_taken b opener start end token.flow_entry = taken None (state.items b opener ∷ [])
 more_taken b opener start end _ = taken (Some (event_at (end_event b) start end)) []
 
 abbrev pub stream_taken : yaml_mark_t → yaml_mark_t → TokenBody → Taken
-stream_taken start end (token.stream_start encoding) = taken (Some (event_at (event.stream_start encoding) start end)) (state.first ∷ [])
+stream_taken start end (token.stream_start encoding) = taken
+    (Some (event_at (event.stream_start encoding) start end)) (state.first ∷ [])
 stream_taken start end _ = not_taken
 
 abbrev pub entries_taken : yaml_mark_t → yaml_mark_t → yaml_mark_t → TokenBody → Taken
-entries_taken opener start end token.block_entry = taken None (state.optional Entry end ∷ state.entries opener ∷ [])
+entries_taken opener start end token.block_entry = taken None
+    (state.optional Entry end ∷ state.entries opener ∷ [])
 entries_taken opener start end _ = taken (Some (event_at event.sequence_end start end)) []
 
 abbrev pub pairs_taken : yaml_mark_t → yaml_mark_t → yaml_mark_t → TokenBody → Taken
 pairs_taken opener start end token.key =
-    taken None (state.optional (BlockPair Key) end ∷ state.colon (BlockPair Value) ∷ state.pairs opener ∷ [])
+    taken None (state.optional (BlockPair Key) end ∷ state.colon (BlockPair Value) ∷ state.pairs
+    opener ∷ [])
 pairs_taken opener start end _ = taken (Some (event_at event.mapping_end start end)) []
 
 abbrev pub taken_at : State → Token → Taken
@@ -229,10 +262,13 @@ taken_at state.stream t = stream_taken t.start_mark t.end_mark t.body
 taken_at state.first t = documents_taken t.start_mark t.start_mark t.end_mark t.body
 taken_at state.documents t = documents_taken t.start_mark t.start_mark t.end_mark t.body
 taken_at (state.directives from) t = documents_taken from t.start_mark t.end_mark t.body
-taken_at (state.optional place before) t = node_taken (wants_of place) t.start_mark t.end_mark t.body
-taken_at state.document_end t = taken (Some (event_at (event.document_end false) t.start_mark t.end_mark)) []
+taken_at (state.optional place before) t = node_taken (wants_of place) t.start_mark t.end_mark
+    t.body
+taken_at state.document_end t = taken
+    (Some (event_at (event.document_end false) t.start_mark t.end_mark)) []
 taken_at (state.entries opener) t = entries_taken opener t.start_mark t.end_mark t.body
-taken_at (state.others side) t = taken None (state.optional (IndentlessEntry side) t.end_mark ∷ state.others side ∷ [])
+taken_at (state.others side) t = taken None (state.optional (IndentlessEntry side) t.end_mark
+    ∷ state.others side ∷ [])
 taken_at (state.pairs opener) t = pairs_taken opener t.start_mark t.end_mark t.body
 taken_at (state.colon place) t = taken None (state.optional place t.end_mark ∷ [])
 taken_at (state.with_properties w p) t = with_properties_taken w p t.start_mark t.end_mark t.body
@@ -279,12 +315,14 @@ opened start = state.optional Root start ∷ state.document_end ∷ state.docume
 
 -- the last argument is what the states below do at the token
 abbrev pub turn : Choice → State → Token → List State → Fed → Fed
-turn (Refuse p opener) x t s below = stop [] (parser_fault p t.start_mark (context_of opener t.start_mark))
+turn (Refuse p opener) x t s below = stop []
+    (parser_fault p t.start_mark (context_of opener t.start_mark))
 turn Take x t s below = given_by (taken_at x t) s
 turn Leave x t s below = with_item (left_at x t.start_mark) below
 turn Open x t s below =
     with_item (item_at (item.document true) t.start_mark t.start_mark)
-    (given_by (taken_at (state.optional Root t.start_mark) t) (state.document_end ∷ state.documents ∷ s))
+    (given_by (taken_at (state.optional Root t.start_mark) t) (state.document_end ∷ state.documents
+    ∷ s))
 
 unfoldable pub feed : List State → Token → Fed
 feed [] t = go [] []
@@ -306,7 +344,10 @@ finished = record { items = []; ending = None }
 
 abbrev pub carry : ℕ → Fed → (List State → Outcome) → Outcome
 carry left (stop is f) k = record { items = map (λ (i : RawEvent). (i, left)) is; ending = Some f }
-carry left (go is s) k = record { items = map (λ (i : RawEvent). (i, left)) is ++ (k s).items; ending = (k s).ending }
+carry left (go is s) k = record {
+  items = map (λ (i : RawEvent). (i, left)) is ++ (k s).items;
+  ending = (k s).ending;
+}
 
 abbrev pub ending_at : List State → Fault → Outcome
 ending_at [] f = finished

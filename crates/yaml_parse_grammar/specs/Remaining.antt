@@ -38,7 +38,8 @@ pub record ParserRemaining : Type 0 where
 abbrev pub reading_of : Outcome → Directives → Reading
 reading_of o ds = reading o.items o.ending ds
 
-abbrev pub parser_remaining : Option Token → List Token → Option Fault → List State → Directives → Fault → ParserRemaining
+abbrev pub parser_remaining : Option Token → List Token → Option Fault → List State → Directives
+    → Fault → ParserRemaining
 parser_remaining peeked ts f s ds answered = record {
   events = (reading_of (run (waiting peeked ts) s f) ds).events;
   ending = (reading_of (run (waiting peeked ts) s f) ds).ending;
@@ -55,7 +56,8 @@ pub record IsFinished (c : ParserRemaining) : Type 0 where
   pub between : c.between ≡ true
 
 -- the call gives the front of what is to come, and leaves the rest
-pub record Gives (e : Event) (told : Told) (rest : List Told) (f : Option Fault) (old new : ParserRemaining) : Type 0 where
+pub record Gives (e : Event) (told : Told) (rest : List Told) (f : Option Fault)
+    (old new : ParserRemaining) : Type 0 where
   pub given : e ≡ told.0
   pub events : new.events ≡ rest
   pub ending : new.ending ≡ f
@@ -70,7 +72,8 @@ pub record GivesNothing (e : Event) (old new : ParserRemaining) : Type 0 where
   pub held : new.held ≡ old.held
   pub answered : new.answered ≡ old.answered
 
-abbrev pub GivesEvent : List Told → Option Fault → Event → ParserRemaining → ParserRemaining → Type 0
+abbrev pub GivesEvent : List Told → Option Fault → Event → ParserRemaining → ParserRemaining
+    → Type 0
 GivesEvent (g ∷ gs) f e old new = Gives e g gs f old new
 GivesEvent [] None e old new = GivesNothing e old new
 GivesEvent [] (Some f) e old new = ⊥

@@ -34,7 +34,8 @@ default_prefix handle =
 
 unfoldable pub directive_for : List ℕ → List TagDirective → Option (List ℕ)
 directive_for handle [] = None
-directive_for handle (d ∷ ds) = if bytes_eq d.handle handle then Some d.prefix else directive_for handle ds
+directive_for handle (d ∷ ds) = if bytes_eq d.handle handle then Some d.prefix
+    else directive_for handle ds
 
 abbrev pub or_default : Option (List ℕ) → List ℕ → Option (List ℕ)
 or_default None handle = default_prefix handle
@@ -43,7 +44,8 @@ or_default (Some prefix) handle = Some prefix
 -- the tag in full; a verbatim one has no handle
 abbrev pub resolved : List TagDirective → List ℕ → List ℕ → Option (List ℕ)
 resolved ds [] suffix = Some suffix
-resolved ds (c ∷ handle) suffix = option_map (λ prefix. prefix ++ suffix) (or_default (directive_for (c ∷ handle) ds) (c ∷ handle))
+resolved ds (c ∷ handle) suffix = option_map (λ prefix. prefix ++ suffix)
+    (or_default (directive_for (c ∷ handle) ds) (c ∷ handle))
 
 -- ---- events of nodes
 
@@ -52,7 +54,8 @@ abbrev pub is_plain : yaml_scalar_style_t → Bool
 is_plain YAML_PLAIN_SCALAR_STYLE = true
 is_plain _ = false
 
-abbrev pub scalar_event : Option (List ℕ) → Option (List ℕ) → List ℕ → yaml_scalar_style_t → EventBody
+abbrev pub scalar_event : Option (List ℕ) → Option (List ℕ) → List ℕ → yaml_scalar_style_t
+    → EventBody
 scalar_event anchor None value style =
     event.scalar anchor None value (is_plain style) (if is_plain style then false else true) style
 scalar_event anchor (Some tag) value style =
@@ -65,7 +68,8 @@ is_missing None = true
 is_missing (Some tag) = false
 
 abbrev pub node_event : Option (List ℕ) → Option (List ℕ) → Shape → EventBody
-node_event anchor tag item.empty = event.scalar anchor tag [] (is_missing tag) false YAML_PLAIN_SCALAR_STYLE
+node_event anchor tag item.empty = event.scalar anchor tag [] (is_missing tag) false
+    YAML_PLAIN_SCALAR_STYLE
 node_event anchor tag (item.scalar value style) = scalar_event anchor tag value style
 node_event anchor tag (item.sequence style) = event.sequence_start anchor tag (is_missing tag) style
 node_event anchor tag (item.mapping style) = event.mapping_start anchor tag (is_missing tag) style
@@ -79,9 +83,11 @@ pub data Settled : Type 0 where
   noted : Directives → Settled
 
 abbrev pub is_known_version : ℤ → ℤ → Bool
-is_known_version major minor = int_eq major (pos 1) && (int_eq minor (pos 1) || int_eq minor (pos 2))
+is_known_version major minor = int_eq major (pos 1)
+    && (int_eq minor (pos 1) || int_eq minor (pos 2))
 
-abbrev pub with_version : Option yaml_version_directive_t → List TagDirective → ℤ → ℤ → yaml_mark_t → Settled
+abbrev pub with_version : Option yaml_version_directive_t → List TagDirective → ℤ → ℤ → yaml_mark_t
+    → Settled
 with_version (Some v) tags major minor at = refused (parser_fault problem.DuplicateVersion at at)
 with_version None tags major minor at =
     if is_known_version major minor
@@ -91,24 +97,33 @@ with_version None tags major minor at =
 abbrev pub with_tag : Option (List ℕ) → Directives → List ℕ → List ℕ → yaml_mark_t → Settled
 with_tag (Some other) ds handle prefix at = refused (parser_fault problem.DuplicateHandle at at)
 with_tag None ds handle prefix at =
-    noted (record { version = ds.version; tags = ds.tags ++ (record { handle = handle; prefix = prefix } ∷ []) })
+    noted (record {
+      version = ds.version;
+      tags = ds.tags
+          ++ (record { handle = handle; prefix = prefix } ∷ []);
+    })
 
 -- nothing carries over to the next document
 abbrev pub behind_event : EventBody → Directives → Directives
 behind_event (event.document_end implicit) ds = no_directives
 behind_event _ ds = ds
 
-abbrev pub with_resolved : Option (List ℕ) → Option (List ℕ) → Shape → yaml_mark_t → yaml_mark_t → Directives → Settled
+abbrev pub with_resolved : Option (List ℕ) → Option (List ℕ) → Shape → yaml_mark_t → yaml_mark_t
+    → Directives → Settled
 with_resolved None anchor shape from at ds = refused (parser_fault problem.UndefinedHandle at from)
 with_resolved (Some tag) anchor shape from at ds = gave (node_event anchor (Some tag) shape) ds
 
 abbrev pub settle_body : RawEventBody → yaml_mark_t → Directives → Settled
 settle_body (item.event body) from ds = gave body (behind_event body ds)
-settle_body (item.version_directive major minor) from ds = with_version ds.version ds.tags major minor from
-settle_body (item.tag_directive handle prefix) from ds = with_tag (directive_for handle ds.tags) ds handle prefix from
-settle_body (item.document implicit) from ds = gave (event.document_start ds.version ds.tags implicit) ds
+settle_body (item.version_directive major minor) from ds = with_version ds.version ds.tags major
+    minor from
+settle_body (item.tag_directive handle prefix) from ds = with_tag (directive_for handle ds.tags) ds
+    handle prefix from
+settle_body (item.document implicit) from ds = gave
+    (event.document_start ds.version ds.tags implicit) ds
 settle_body (item.node anchor None shape) from ds = gave (node_event anchor None shape) ds
-settle_body (item.node anchor (Some tag) shape) from ds = with_resolved (resolved ds.tags tag.handle tag.suffix) anchor shape from tag.mark ds
+settle_body (item.node anchor (Some tag) shape) from ds = with_resolved
+    (resolved ds.tags tag.handle tag.suffix) anchor shape from tag.mark ds
 
 abbrev pub settle : RawEvent → Directives → Settled
 settle i ds = settle_body i.body i.from ds
@@ -127,7 +142,10 @@ placed body i = record { body = body; start_mark = i.from; end_mark = i.to }
 -- what one settled item puts before the reading of the others
 abbrev pub read_on : Settled → RawEvent → ℕ → (Directives → Reading) → Reading
 read_on (refused f) i left k = record { events = []; ending = Some f }
-read_on (gave body ds) i left k = record { events = (placed body i, left) ∷ (k ds).events; ending = (k ds).ending }
+read_on (gave body ds) i left k = record {
+  events = (placed body i, left) ∷ (k ds).events;
+  ending = (k ds).ending;
+}
 read_on (noted ds) i left k = k ds
 
 -- the events of the items, up to the first fault

@@ -39,4 +39,5 @@ IsUtf8Token (Some t) = source.HasUtf8 t.body
 -- of all that a parser holds; where no state is left nothing is read of it any more
 abbrev pub IsUtf8Held : Option Token → List State → Directives → Type 0
 IsUtf8Held peeked [] ds = Unit {0}
-IsUtf8Held peeked (x ∷ s) ds = IsUtf8Token peeked × ((IsUtf8State x × AreUtf8States s) × AreUtf8 ds.tags)
+IsUtf8Held peeked (x ∷ s) ds = IsUtf8Token peeked
+    × ((IsUtf8State x × AreUtf8States s) × AreUtf8 ds.tags)

@@ -147,9 +147,12 @@ abbrev mutual
   pub spell_content : {w : Wants} → Content w → List Token → List Token
   spell_content (scalar s value style) rest = token_at (token.scalar value style) s ∷ rest
   spell_content (flow b s items) rest = token_at (opening b) s ∷ spell_items b items rest
-  spell_content (block_sequence s entries) rest = token_at token.block_sequence_start s ∷ spell_entries entries rest
-  spell_content (block_mapping s pairs) rest = token_at token.block_mapping_start s ∷ spell_pairs pairs rest
-  spell_content (indentless s n others) rest = token_at token.block_entry s ∷ spell_maybe n (spell_others others rest)
+  spell_content (block_sequence s entries) rest = token_at token.block_sequence_start s
+      ∷ spell_entries entries rest
+  spell_content (block_mapping s pairs) rest = token_at token.block_mapping_start s ∷ spell_pairs
+      pairs rest
+  spell_content (indentless s n others) rest = token_at token.block_entry s ∷ spell_maybe n
+      (spell_others others rest)
 
   pub spell_maybe : {w : Wants} → Maybe w → List Token → List Token
   spell_maybe left_out rest = rest
@@ -162,7 +165,8 @@ abbrev mutual
   pub spell_items : Brackets → Items → List Token → List Token
   spell_items b (end_items s) rest = token_at (closing b) s ∷ rest
   spell_items b (single n more) rest = spell_node n (spell_more b more rest)
-  spell_items b (pair s key value more) rest = token_at token.key s ∷ spell_maybe key (spell_colon value (spell_more b more rest))
+  spell_items b (pair s key value more) rest = token_at token.key s ∷ spell_maybe key
+      (spell_colon value (spell_more b more rest))
 
   pub spell_more : Brackets → More → List Token → List Token
   spell_more b (end_more s) rest = token_at (closing b) s ∷ rest
@@ -170,20 +174,25 @@ abbrev mutual
 
   pub spell_entries : Entries → List Token → List Token
   spell_entries (end_entries s) rest = token_at token.block_end s ∷ rest
-  spell_entries (entry s n entries) rest = token_at token.block_entry s ∷ spell_maybe n (spell_entries entries rest)
+  spell_entries (entry s n entries) rest = token_at token.block_entry s ∷ spell_maybe n
+      (spell_entries entries rest)
 
   pub spell_others : Others → List Token → List Token
   spell_others no_others rest = rest
-  spell_others (other s n others) rest = token_at token.block_entry s ∷ spell_maybe n (spell_others others rest)
+  spell_others (other s n others) rest = token_at token.block_entry s ∷ spell_maybe n
+      (spell_others others rest)
 
   pub spell_pairs : Pairs → List Token → List Token
   spell_pairs (end_pairs s) rest = token_at token.block_end s ∷ rest
-  spell_pairs (block_pair s key value pairs) rest = token_at token.key s ∷ spell_maybe key (spell_colon value (spell_pairs pairs rest))
+  spell_pairs (block_pair s key value pairs) rest = token_at token.key s ∷ spell_maybe key
+      (spell_colon value (spell_pairs pairs rest))
 
 abbrev pub spell_directives : List Directive → List Token → List Token
 spell_directives [] rest = rest
-spell_directives (version s major minor ∷ ds) rest = token_at (token.version_directive major minor) s ∷ spell_directives ds rest
-spell_directives (handle s name prefix ∷ ds) rest = token_at (token.tag_directive name prefix) s ∷ spell_directives ds rest
+spell_directives (version s major minor ∷ ds) rest = token_at (token.version_directive major minor)
+    s ∷ spell_directives ds rest
+spell_directives (handle s name prefix ∷ ds) rest = token_at (token.tag_directive name prefix) s
+    ∷ spell_directives ds rest
 
 abbrev pub spell_ends : List Span → List Token → List Token
 spell_ends [] rest = rest
@@ -192,14 +201,16 @@ spell_ends (s ∷ ends) rest = token_at token.document_end s ∷ spell_ends ends
 abbrev pub spell_documents : Documents → List Token → List Token
 spell_documents (end_stream s) rest = token_at token.stream_end s ∷ rest
 spell_documents (document ds s root ends more) rest =
-    spell_directives ds (token_at token.document_start s ∷ spell_maybe root (spell_ends ends (spell_documents more rest)))
+    spell_directives ds (token_at token.document_start s ∷ spell_maybe root
+    (spell_ends ends (spell_documents more rest)))
 
 abbrev pub spell_first : First → List Token → List Token
 spell_first no_first rest = rest
 spell_first (first n ends) rest = spell_node n (spell_ends ends rest)
 
 abbrev pub spell : Stream → List Token → List Token
-spell t rest = token_at (token.stream_start t.encoding) t.start ∷ spell_first t.first (spell_documents t.documents rest)
+spell t rest = token_at (token.stream_start t.encoding) t.start ∷ spell_first t.first
+    (spell_documents t.documents rest)
 
 -- ---- the items of a tree, each with the number of tokens that are not asked for as it is given
 
@@ -219,10 +230,30 @@ abbrev pub tag_of : TagToken → Tag
 tag_of t = record { handle = t.handle; suffix = t.suffix; mark = t.span.from }
 
 abbrev pub properties_of : PropertyTokens → Properties
-properties_of (anchor a) = record { anchor = Some a.name; tag = None; from = a.span.from; to = a.span.to }
-properties_of (anchor_tag a t) = record { anchor = Some a.name; tag = Some (tag_of t); from = a.span.from; to = t.span.to }
-properties_of (tag t) = record { anchor = None; tag = Some (tag_of t); from = t.span.from; to = t.span.to }
-properties_of (tag_anchor t a) = record { anchor = Some a.name; tag = Some (tag_of t); from = t.span.from; to = a.span.to }
+properties_of (anchor a) = record {
+  anchor = Some a.name;
+  tag = None;
+  from = a.span.from;
+  to = a.span.to;
+}
+properties_of (anchor_tag a t) = record {
+  anchor = Some a.name;
+  tag = Some (tag_of t);
+  from = a.span.from;
+  to = t.span.to;
+}
+properties_of (tag t) = record {
+  anchor = None;
+  tag = Some (tag_of t);
+  from = t.span.from;
+  to = t.span.to;
+}
+properties_of (tag_anchor t a) = record {
+  anchor = Some a.name;
+  tag = Some (tag_of t);
+  from = t.span.from;
+  to = a.span.to;
+}
 
 abbrev pub flow_shape : Brackets → Shape
 flow_shape brackets.Sequence = item.sequence YAML_FLOW_SEQUENCE_STYLE
@@ -245,11 +276,20 @@ mark_at (BlockPair side) before next = before
 
 -- the mapping of a pair inside the brackets of a sequence
 abbrev pub pair_start : Brackets → Span → List Token → List Given → List Given
-pair_start brackets.Sequence s rest more = (item_at (item.node None None (item.mapping YAML_FLOW_MAPPING_STYLE)) s.from s.to, length rest) ∷ more
+pair_start brackets.Sequence s rest
+    more = (
+      item_at (item.node None None (item.mapping YAML_FLOW_MAPPING_STYLE)) s.from s.to,
+      length
+          rest,
+    ) ∷ more
 pair_start brackets.Mapping s rest more = more
 
 abbrev pub pair_end : Brackets → List Token → List Given → List Given
-pair_end brackets.Sequence rest more = (event_at event.mapping_end (next rest) (next rest), behind rest) ∷ more
+pair_end brackets.Sequence rest more = (
+  event_at event.mapping_end (next rest) (next rest),
+  behind
+      rest,
+) ∷ more
 pair_end brackets.Mapping rest more = more
 
 -- a lone node inside the brackets of a mapping has an empty value
@@ -259,26 +299,49 @@ lone brackets.Mapping rest more = (blank (next rest), behind rest) ∷ more
 
 abbrev mutual
   pub items_node : {w : Wants} → Node w → List Token → List Given → List Given
-  items_node (alias s name) rest more = (event_at (event.alias name) s.from s.to, length rest) ∷ more
-  items_node (only_properties d) rest more = (properties_alone (properties_of d), behind rest) ∷ more
+  items_node (alias s name) rest more = (event_at (event.alias name) s.from s.to, length rest)
+      ∷ more
+  items_node (only_properties d) rest more = (properties_alone (properties_of d), behind rest)
+      ∷ more
   items_node (with_properties d c) rest more = items_content c (Some (properties_of d)) rest more
   items_node (bare c) rest more = items_content c None rest more
 
-  pub items_content : {w : Wants} → Content w → Option Properties → List Token → List Given → List Given
-  items_content (scalar s value style) p rest more = (node_at p (item.scalar value style) s.from s.to, length rest) ∷ more
+  pub items_content : {w : Wants} → Content w → Option Properties → List Token → List Given
+      → List Given
+  items_content (scalar s value style) p rest more = (
+    node_at p (item.scalar value style) s.from
+        s.to,
+    length rest,
+  ) ∷ more
   items_content (flow b s items) p rest more =
-      (node_at p (flow_shape b) s.from s.to, length (spell_items b items rest)) ∷ items_items b items rest more
-  items_content (block_sequence s entries) p rest more =
-      (node_at p (item.sequence YAML_BLOCK_SEQUENCE_STYLE) s.from s.to, length (spell_entries entries rest)) ∷ items_entries entries rest more
-  items_content (block_mapping s pairs) p rest more =
-      (node_at p (item.mapping YAML_BLOCK_MAPPING_STYLE) s.from s.to, length (spell_pairs pairs rest)) ∷ items_pairs pairs rest more
-  items_content (indentless {s = side} s n others) p rest more =
-      (node_at p (item.sequence YAML_BLOCK_SEQUENCE_STYLE) s.from s.to, length (spell_maybe n (spell_others others rest)))
-      ∷ items_maybe n (IndentlessEntry side) s.to (spell_others others rest) (items_others side others rest more)
+      (node_at p (flow_shape b) s.from s.to, length (spell_items b items rest)) ∷ items_items b
+      items rest more
+  items_content (block_sequence s entries) p rest more = (
+    node_at p (item.sequence YAML_BLOCK_SEQUENCE_STYLE) s.from s.to,
+    length
+        (spell_entries entries rest),
+  ) ∷ items_entries entries rest more
+  items_content (block_mapping s pairs) p rest more = (
+    node_at p (item.mapping YAML_BLOCK_MAPPING_STYLE) s.from s.to,
+    length
+        (spell_pairs pairs rest),
+  ) ∷ items_pairs pairs rest more
+  items_content (indentless {s = side} s n others) p rest more = (
+    node_at p (item.sequence YAML_BLOCK_SEQUENCE_STYLE) s.from s.to,
+    length
+        (spell_maybe n (spell_others others rest)),
+  )
+      ∷ items_maybe n (IndentlessEntry side) s.to (spell_others others rest)
+      (items_others side others rest more)
 
   -- before is the end of the indicator that stands before the node
-  pub items_maybe : {w : Wants} → Maybe w → Site → yaml_mark_t → List Token → List Given → List Given
-  items_maybe left_out place before rest more = (blank (mark_at place before (next rest)), behind rest) ∷ more
+  pub items_maybe : {w : Wants} → Maybe w → Site → yaml_mark_t → List Token → List Given
+      → List Given
+  items_maybe left_out place before rest more = (
+    blank (mark_at place before (next rest)),
+    behind
+        rest,
+  ) ∷ more
   items_maybe (there n) place before rest more = items_node n rest more
 
   pub items_colon : {w : Wants} → Colon w → Site → List Token → List Given → List Given
@@ -288,7 +351,8 @@ abbrev mutual
   pub items_items : Brackets → Items → List Token → List Given → List Given
   items_items b (end_items s) rest more = (event_at (end_event b) s.from s.to, length rest) ∷ more
   items_items b (single n others) rest more =
-      items_node n (spell_more b others rest) (lone b (spell_more b others rest) (items_more b others rest more))
+      items_node n (spell_more b others rest)
+      (lone b (spell_more b others rest) (items_more b others rest more))
   items_items b (pair s key value others) rest more =
       pair_start b s (spell_maybe key (spell_colon value (spell_more b others rest)))
       (items_maybe key (FlowPair b Key) s.to (spell_colon value (spell_more b others rest))
@@ -300,13 +364,19 @@ abbrev mutual
   items_more b (comma s items) rest more = items_items b items rest more
 
   pub items_entries : Entries → List Token → List Given → List Given
-  items_entries (end_entries s) rest more = (event_at event.sequence_end s.from s.to, length rest) ∷ more
-  items_entries (entry s n entries) rest more = items_maybe n Entry s.to (spell_entries entries rest) (items_entries entries rest more)
+  items_entries (end_entries s) rest more = (event_at event.sequence_end s.from s.to, length rest)
+      ∷ more
+  items_entries (entry s n entries) rest more = items_maybe n Entry s.to
+      (spell_entries entries rest) (items_entries entries rest more)
 
   pub items_others : Side → Others → List Token → List Given → List Given
-  items_others side no_others rest more = (event_at event.sequence_end (next rest) (next rest), behind rest) ∷ more
+  items_others side no_others rest more = (
+    event_at event.sequence_end (next rest) (next rest),
+    behind rest,
+  ) ∷ more
   items_others side (other s n others) rest more =
-      items_maybe n (IndentlessEntry side) s.to (spell_others others rest) (items_others side others rest more)
+      items_maybe n (IndentlessEntry side) s.to (spell_others others rest)
+      (items_others side others rest more)
 
   pub items_pairs : Pairs → List Token → List Given → List Given
   items_pairs (end_pairs s) rest more = (event_at event.mapping_end s.from s.to, length rest) ∷ more
@@ -317,9 +387,11 @@ abbrev mutual
 abbrev pub items_directives : List Directive → List Token → List Given → List Given
 items_directives [] rest more = more
 items_directives (version s major minor ∷ ds) rest more =
-    (item_at (item.version_directive major minor) s.from s.to, length (spell_directives ds rest)) ∷ items_directives ds rest more
+    (item_at (item.version_directive major minor) s.from s.to, length (spell_directives ds rest))
+    ∷ items_directives ds rest more
 items_directives (handle s name prefix ∷ ds) rest more =
-    (item_at (item.tag_directive name prefix) s.from s.to, length (spell_directives ds rest)) ∷ items_directives ds rest more
+    (item_at (item.tag_directive name prefix) s.from s.to, length (spell_directives ds rest))
+    ∷ items_directives ds rest more
 
 -- where a document begins whose `---` stands there
 abbrev pub start_of : List Directive → Span → yaml_mark_t
@@ -329,26 +401,40 @@ start_of (handle d name prefix ∷ ds) s = d.from
 
 -- only the first DOCUMENT-END has an event
 abbrev pub items_ends : List Span → List Token → List Given → List Given
-items_ends [] rest more = (event_at (event.document_end true) (next rest) (next rest), behind rest) ∷ more
-items_ends (s ∷ ends) rest more = (event_at (event.document_end false) s.from s.to, length (spell_ends ends rest)) ∷ more
+items_ends [] rest more = (event_at (event.document_end true) (next rest) (next rest), behind rest)
+    ∷ more
+items_ends (s ∷ ends) rest more = (
+  event_at (event.document_end false) s.from s.to,
+  length
+      (spell_ends ends rest),
+) ∷ more
 
 abbrev pub items_documents : Documents → List Token → List Given
 items_documents (end_stream s) rest = (event_at event.stream_end s.from s.to, length rest) ∷ []
 items_documents (document ds s root ends more) rest =
-    items_directives ds (token_at token.document_start s ∷ spell_maybe root (spell_ends ends (spell_documents more rest)))
-    ((item_at (item.document false) (start_of ds s) s.to, length (spell_maybe root (spell_ends ends (spell_documents more rest))))
+    items_directives ds (token_at token.document_start s ∷ spell_maybe root
+    (spell_ends ends (spell_documents more rest)))
+    ((
+      item_at (item.document false) (start_of ds s) s.to,
+      length
+          (spell_maybe root (spell_ends ends (spell_documents more rest))),
+    )
     ∷ items_maybe root Root s.to (spell_ends ends (spell_documents more rest))
     (items_ends ends (spell_documents more rest) (items_documents more rest)))
 
 abbrev pub items_first : First → List Token → List Given → List Given
 items_first no_first rest more = more
 items_first (first n ends) rest more = (
-  item_at (item.document true) (next (spell_node n (spell_ends ends rest))) (next (spell_node n (spell_ends ends rest))),
+  item_at (item.document true) (next (spell_node n (spell_ends ends rest)))
+      (next (spell_node n (spell_ends ends rest))),
   behind (spell_node n (spell_ends ends rest)),
 )
     ∷ items_node n (spell_ends ends rest) (items_ends ends rest more)
 
 abbrev pub items : Stream → List Token → List Given
-items t rest =
-    (event_at (event.stream_start t.encoding) t.start.from t.start.to, length (spell_first t.first (spell_documents t.documents rest)))
+items t rest = (
+  event_at (event.stream_start t.encoding) t.start.from t.start.to,
+  length
+      (spell_first t.first (spell_documents t.documents rest)),
+)
     ∷ items_first t.first (spell_documents t.documents rest) (items_documents t.documents rest)

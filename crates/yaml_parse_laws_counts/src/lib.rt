@@ -11,7 +11,8 @@ ghost use Rattle.yaml_parse_laws_counts.specs.Laws.{TokensHaveOneTree};
 
 /// A law: of no list of tokens come more than four events for each token.
 pub fn at_most_four_events_a_token()
-    ensures { (ts : List Token) (f : Option Fault) (ds : Directives) → length (reading_of (run ts initial f) ds).events ≤ 4 * length ts }
+    ensures { (ts : List Token) (f : Option Fault) (ds : Directives)
+        → length (reading_of (run ts initial f) ds).events ≤ 4 * length ts }
 {}
 
 /// Tokens have one tree, and no tree's tokens begin another's.

@@ -27,15 +27,18 @@ pub record BeginsWithSentence (ts : List Token) : Type 0 where
 
 -- A list that ends in no fault begins with the tokens of a tree.
 abbrev pub AcceptedAreTrees : Type 0
-AcceptedAreTrees = (ts : List Token) (f : Option Fault) → (run ts initial f).ending ≡ None → BeginsWithTree ts
+AcceptedAreTrees = (ts : List Token) (f : Option Fault) → (run ts initial f).ending ≡ None
+    → BeginsWithTree ts
 
 -- With directives and tag handles: it begins with a sentence.
 abbrev pub AcceptedAreSentences : Type 0
-AcceptedAreSentences = (ts : List Token) (f : Option Fault) → (reading_of (run ts initial f) no_directives).ending ≡ None → BeginsWithSentence ts
+AcceptedAreSentences = (ts : List Token) (f : Option Fault)
+    → (reading_of (run ts initial f) no_directives).ending ≡ None → BeginsWithSentence ts
 
 -- And each list that begins with a sentence ends in no fault.
 abbrev pub SentencesAreAccepted : Type 0
-SentencesAreAccepted = (ts : List Token) (f : Option Fault) → BeginsWithSentence ts → (reading_of (run ts initial f) no_directives).ending ≡ None
+SentencesAreAccepted = (ts : List Token) (f : Option Fault) → BeginsWithSentence ts
+    → (reading_of (run ts initial f) no_directives).ending ≡ None
 
 -- ---- where a list is refused
 
@@ -79,18 +82,22 @@ pub record RefusedAt (ts : List Token) (given : List RawEvent) (e : Fault) : Typ
   pub stands : StandsAt token.start_mark e
 
 -- a tree goes on with the whole list and gives what was given: the fault is the source's own, or where it has none, stands at the empty token behind the list
-pub record RunsOut (ts : List Token) (f : Option Fault) (given : List RawEvent) (e : Fault) : Type 0 where
-  pub before : GoesOnGiving ts given
-  pub own : (f ≡ Some e) ⊎ ((f ≡ None) × StandsAt zero_mark e)
+pub record RunsOut (ts : List Token) (f : Option Fault) (given : List RawEvent) (e : Fault) : Type 0
+  where
+    pub before : GoesOnGiving ts given
+    pub own : (f ≡ Some e) ⊎ ((f ≡ None) × StandsAt zero_mark e)
 
 -- A list ends in a fault at the first token that no tree goes on with, or else behind its last token.
 abbrev pub FaultsStandAtFirst : Type 0
-FaultsStandAtFirst = (ts : List Token) (f : Option Fault) (e : Fault) → (run ts initial f).ending ≡ Some e
-    → RefusedAt ts (bare (run ts initial f).items) e ⊎ RunsOut ts f (bare (run ts initial f).items) e
+FaultsStandAtFirst = (ts : List Token) (f : Option Fault) (e : Fault) → (run ts initial f).ending
+    ≡ Some e
+    → RefusedAt ts (bare (run ts initial f).items) e ⊎ RunsOut ts f (bare (run ts initial f).items)
+    e
 
 -- No token is refused of a list with which a tree goes on.
 abbrev pub FrontsAreNotRefused : Type 0
-FrontsAreNotRefused = (ts : List Token) (f : Option Fault) (e : Fault) → GoesOn ts → (run ts initial f).ending ≡ Some e → RunsOut ts f (bare (run ts initial f).items) e
+FrontsAreNotRefused = (ts : List Token) (f : Option Fault) (e : Fault) → GoesOn ts
+    → (run ts initial f).ending ≡ Some e → RunsOut ts f (bare (run ts initial f).items) e
 
 -- ---- events
 
@@ -106,4 +113,6 @@ pub record BeginsWithEvents (es fs : List Event) : Type 0 where
 
 -- Where items begin with others, their events begin with the others' events, up to the first fault of a directive or handle.
 abbrev pub EventsBeginAsItems : Type 0
-EventsBeginAsItems = (gs hs : List Given) (f g : Option Fault) (ds : Directives) → Begins (bare gs) hs → BeginsWithEvents (told (reading gs f ds).events) (told (reading hs g ds).events)
+EventsBeginAsItems = (gs hs : List Given) (f g : Option Fault) (ds : Directives)
+    → Begins (bare gs) hs → BeginsWithEvents (told (reading gs f ds).events)
+    (told (reading hs g ds).events)

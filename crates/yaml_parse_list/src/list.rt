@@ -44,7 +44,10 @@ impl yaml_token_list_t {
     /// Adds a token at the end. Where the growth is refused the list stays.
     pub fn push(&mut self, token: yaml_token_t) -> Result<(), AllocError>
         requires { HasUtf8 (token_of token).body }
-        ensures ok { OnOk result (self.new ≡ record self.old { tokens = self.old.tokens ++ token_of token ∷ [] }) }
+        ensures ok { OnOk result (self.new ≡ record self.old {
+          tokens = self.old.tokens ++ token_of
+              token ∷ [];
+        }) }
         ensures err { OnErr result (self.new ≡ self.old) }
     {
         self.tokens.push_back(token)?;

@@ -34,7 +34,10 @@ nothing_loaded = record { document = no_document; levels = []; anchors = map.emp
 abbrev pub attached : ℤ → Open → Open
 attached n (open_sequence place items) = open_sequence place (items ++ n ∷ [])
 attached n (open_mapping place pairs None) = open_mapping place pairs (Some n)
-attached n (open_mapping place pairs (Some key)) = let p : yaml_node_pair_t = record { key = key; value = n } in open_mapping place (pairs ++ p ∷ []) None
+attached n (open_mapping place pairs (Some key)) = let p : yaml_node_pair_t = record {
+  key = key;
+  value = n;
+} in open_mapping place (pairs ++ p ∷ []) None
 
 abbrev pub attach : ℤ → List Open → List Open
 attach n [] = []
@@ -46,11 +49,20 @@ next l = pos (suc (length l.document.nodes))
 
 -- a node more
 abbrev pub with_leaf : Loading → Node → Anchors → Loading
-with_leaf l n known = record { document = with_node l.document n; levels = attach (next l) l.levels; anchors = known }
+with_leaf l n known = record {
+  document = with_node l.document n;
+  levels = attach (next l) l.levels;
+  anchors = known;
+}
 
 -- a node more, which is open
 abbrev pub with_open : Loading → Node → Open → Anchors → Loading
-with_open l n o known = record { document = with_node l.document n; levels = o ∷ attach (next l) l.levels; anchors = known }
+with_open l n o known = record {
+  document = with_node l.document n;
+  levels = o ∷ attach (next l)
+      l.levels;
+  anchors = known;
+}
 
 -- a collection gets what it holds, and its end
 abbrev pub filled_body : Open → NodeBody → NodeBody
@@ -59,7 +71,12 @@ filled_body (open_mapping place pairs key) (node.mapping none style) = node.mapp
 filled_body o b = b
 
 abbrev pub filled : Open → yaml_mark_t → Node → Node
-filled o to n = record { body = filled_body o n.body; tag = n.tag; start_mark = n.start_mark; end_mark = to }
+filled o to n = record {
+  body = filled_body o n.body;
+  tag = n.tag;
+  start_mark = n.start_mark;
+  end_mark = to;
+}
 
 abbrev pub place_of : Open → ℕ
 place_of (open_sequence place items) = place
@@ -67,7 +84,13 @@ place_of (open_mapping place pairs key) = place
 
 abbrev pub closed : yaml_mark_t → Loading → List Open → Loading
 closed to l [] = l
-closed to l (o ∷ os) = record l { document = record l.document { nodes = change_place (filled o to) (place_of o) l.document.nodes }; levels = os }
+closed to l (o ∷ os) = record l {
+  document = record l.document {
+    nodes = change_place (filled o to)
+        (place_of o) l.document.nodes;
+  };
+  levels = os;
+}
 
 -- what an event makes of it: it goes on, a document is loaded, or the event is refused
 pub data Fed : Type 0 where
@@ -83,7 +106,8 @@ abbrev pub aliased : Option Anchored → yaml_mark_t → Loading → Fed
 aliased None at l = refused (undefined_alias at)
 aliased (Some a) at l = goes_on (record l { levels = attach a.number l.levels })
 
-abbrev pub started : Option yaml_version_directive_t → List TagDirective → Bool → yaml_mark_t → Loading
+abbrev pub started : Option yaml_version_directive_t → List TagDirective → Bool → yaml_mark_t
+    → Loading
 started version directives implicit from = record {
   document = record {
     version = version;
@@ -108,15 +132,19 @@ abbrev pub enter : Loading → Head → Result Anchors Fault
 enter l h = known_with h.anchor (anchored (next l) h.start_mark) l.anchors
 
 abbrev pub step_body : EventBody → yaml_mark_t → yaml_mark_t → Loading → Fed
-step_body (event.document_start version directives implicit) from to l = goes_on (started version directives implicit from)
+step_body (event.document_start version directives implicit) from to l = goes_on
+    (started version directives implicit from)
 step_body (event.document_end implicit) from to l = loaded (ended l implicit to)
 step_body (event.alias name) from to l = aliased (map.get l.anchors name) from l
 step_body (event.scalar anchor tag value plain quoted style) from to l =
-    let h : Head = head_of anchor tag from to in entered (enter l h) (with_leaf l (scalar_node h value style))
+    let h : Head = head_of anchor tag from to in entered (enter l h)
+    (with_leaf l (scalar_node h value style))
 step_body (event.sequence_start anchor tag implicit style) from to l =
-    let h : Head = head_of anchor tag from to in entered (enter l h) (with_open l (sequence_node h [] style to) (open_sequence (length l.document.nodes) []))
+    let h : Head = head_of anchor tag from to in entered (enter l h)
+    (with_open l (sequence_node h [] style to) (open_sequence (length l.document.nodes) []))
 step_body (event.mapping_start anchor tag implicit style) from to l =
-    let h : Head = head_of anchor tag from to in entered (enter l h) (with_open l (mapping_node h [] style to) (open_mapping (length l.document.nodes) [] None))
+    let h : Head = head_of anchor tag from to in entered (enter l h)
+    (with_open l (mapping_node h [] style to) (open_mapping (length l.document.nodes) [] None))
 step_body event.sequence_end from to l = goes_on (closed to l l.levels)
 step_body event.mapping_end from to l = goes_on (closed to l l.levels)
 step_body _ from to l = goes_on l

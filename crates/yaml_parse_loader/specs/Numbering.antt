@@ -57,7 +57,8 @@ spanning body from to = record { body = body; start_mark = from; end_mark = to }
 abbrev mutual
   pub events : Content → List Event → List Event
   events (alias name at) rest = spanning (event.alias name) at.start_mark at.end_mark ∷ rest
-  events (scalar h value plain quoted style) rest = spanning (event.scalar h.anchor h.tag value plain quoted style) h.start_mark h.end_mark ∷ rest
+  events (scalar h value plain quoted style) rest = spanning
+      (event.scalar h.anchor h.tag value plain quoted style) h.start_mark h.end_mark ∷ rest
   events (sequence h implicit style items at) rest =
       spanning (event.sequence_start h.anchor h.tag implicit style) h.start_mark h.end_mark
       ∷ item_events items (spanning event.sequence_end at.start_mark at.end_mark ∷ rest)
@@ -103,7 +104,8 @@ abbrev pub undefined_alias : yaml_mark_t → Fault
 undefined_alias at = composer_fault (codes "found undefined alias") at None zero_mark
 
 abbrev pub second_occurrence : yaml_mark_t → yaml_mark_t → Fault
-second_occurrence first at = composer_fault (codes "second occurrence") at (Some (codes "found duplicate anchor")) first
+second_occurrence first at = composer_fault (codes "second occurrence") at
+    (Some (codes "found duplicate anchor")) first
 
 -- ---- numbers
 
@@ -136,13 +138,30 @@ alias_number None at known = Err (undefined_alias at)
 alias_number (Some a) at known = Ok (record { number = a.number; nodes = []; known = known })
 
 abbrev pub scalar_node : Head → List ℕ → yaml_scalar_style_t → Node
-scalar_node h value style = record { body = node.scalar value style; tag = loaded_tag h.tag str_tag; start_mark = h.start_mark; end_mark = h.end_mark }
+scalar_node h value style = record {
+  body = node.scalar value style;
+  tag = loaded_tag h.tag str_tag;
+  start_mark = h.start_mark;
+  end_mark = h.end_mark;
+}
 
 abbrev pub sequence_node : Head → List ℤ → yaml_sequence_style_t → yaml_mark_t → Node
-sequence_node h items style to = record { body = node.sequence items style; tag = loaded_tag h.tag seq_tag; start_mark = h.start_mark; end_mark = to }
+sequence_node h items style to = record {
+  body = node.sequence items style;
+  tag = loaded_tag h.tag
+      seq_tag;
+  start_mark = h.start_mark;
+  end_mark = to;
+}
 
 abbrev pub mapping_node : Head → List yaml_node_pair_t → yaml_mapping_style_t → yaml_mark_t → Node
-mapping_node h pairs style to = record { body = node.mapping pairs style; tag = loaded_tag h.tag map_tag; start_mark = h.start_mark; end_mark = to }
+mapping_node h pairs style to = record {
+  body = node.mapping pairs style;
+  tag = loaded_tag h.tag
+      map_tag;
+  start_mark = h.start_mark;
+  end_mark = to;
+}
 
 -- content behind that many nodes and those anchors, numbered; or its first fault
 unfoldable mutual
@@ -154,11 +173,21 @@ unfoldable mutual
   number (sequence h implicit style items at) count known =
       known_with h.anchor (anchored (pos (suc count)) h.start_mark) known >>= λ ks.
       number_items items (suc count) ks >>= λ r.
-      Ok (record { number = pos (suc count); nodes = sequence_node h r.number style at.end_mark ∷ r.nodes; known = r.known })
+      Ok (record {
+        number = pos (suc count);
+        nodes = sequence_node h r.number style at.end_mark
+            ∷ r.nodes;
+        known = r.known;
+      })
   number (mapping h implicit style pairs at) count known =
       known_with h.anchor (anchored (pos (suc count)) h.start_mark) known >>= λ ks.
       number_pairs pairs (suc count) ks >>= λ r.
-      Ok (record { number = pos (suc count); nodes = mapping_node h r.number style at.end_mark ∷ r.nodes; known = r.known })
+      Ok (record {
+        number = pos (suc count);
+        nodes = mapping_node h r.number style at.end_mark
+            ∷ r.nodes;
+        known = r.known;
+      })
 
   pub number_items : Contents → ℕ → Anchors → Result (Numbered (List ℤ)) Fault
   number_items no_items count known = Ok (record { number = []; nodes = []; known = known })
@@ -172,7 +201,11 @@ unfoldable mutual
       number key count known >>= λ r. number value (count + length r.nodes) r.known >>= λ s.
       number_pairs more (count + length r.nodes + length s.nodes) s.known >>= λ t.
       let p : yaml_node_pair_t = record { key = r.number; value = s.number } in
-      Ok (record { number = p ∷ t.number; nodes = r.nodes ++ (s.nodes ++ t.nodes); known = t.known })
+      Ok (record {
+        number = p ∷ t.number;
+        nodes = r.nodes ++ (s.nodes ++ t.nodes);
+        known = t.known;
+      })
 
 -- ---- documents
 
@@ -188,8 +221,10 @@ pub record DocumentContent : Type 0 where
 
 abbrev pub document_events : DocumentContent → List Event → List Event
 document_events d rest =
-    spanning (event.document_start d.version d.directives d.start_implicit) d.start_at.start_mark d.start_at.end_mark
-    ∷ events d.root (spanning (event.document_end d.end_implicit) d.end_at.start_mark d.end_at.end_mark ∷ rest)
+    spanning (event.document_start d.version d.directives d.start_implicit) d.start_at.start_mark
+    d.start_at.end_mark
+    ∷ events d.root (spanning (event.document_end d.end_implicit) d.end_at.start_mark
+    d.end_at.end_mark ∷ rest)
 
 -- the loaded document of content, or the content's first fault
 abbrev pub document_of : DocumentContent → Result Document Fault

@@ -18,7 +18,16 @@ abbrev pub levels_of : List Level → List Open
 levels_of ls = reverse (map level_of ls)
 
 abbrev pub loading_of : Making → Loading
-loading_of m = record { document = parts_view m.parts; levels = levels_of m.levels.items; anchors = m.anchors }
+loading_of m = record {
+  document = parts_view m.parts;
+  levels = levels_of m.levels.items;
+  anchors = m.anchors;
+}
 
 abbrev pub properties_of : Properties → Head
-properties_of p = record { anchor = text_of p.anchor; tag = text_of p.tag; start_mark = p.start_mark; end_mark = p.end_mark }
+properties_of p = record {
+  anchor = text_of p.anchor;
+  tag = text_of p.tag;
+  start_mark = p.start_mark;
+  end_mark = p.end_mark;
+}

@@ -92,7 +92,8 @@ fn tag_or_default(
     tag: Option<Vec<u8>>,
     default: &[u8],
 ) -> Result<Vec<u8>, yaml_fault_t>
-    ensures { MatchResult result (λ t. t.items ≡ loaded_tag (text_of tag) default.now) (λ f. IsMemoryFault f) }
+    ensures { MatchResult result (λ t. t.items ≡ loaded_tag (text_of tag) default.now)
+        (λ f. IsMemoryFault f) }
 {
     match tag {
         Some(tag) if !is_lone_bang(&tag) => Ok(tag),
@@ -135,7 +136,8 @@ fn register(
 // A list of a document with one entry more.
 fn extend<T: Drop>(entries: &mut Vec<T>, entry: T) -> Result<(), yaml_fault_t>
     ensures { MatchResult result
-        (λ _. (entries.new.items ≡ entries.old.items ++ entry ∷ []) × (length entries.old.items < 2147483647))
+        (λ _. (entries.new.items ≡ entries.old.items ++ entry ∷ [])
+        × (length entries.old.items < 2147483647))
         (λ f. IsMemoryFault f) }
 {
     match push_entry(entries, entry) {
@@ -146,7 +148,8 @@ fn extend<T: Drop>(entries: &mut Vec<T>, entry: T) -> Result<(), yaml_fault_t>
 
 // A node's number becomes the next item, key or value of a collection.
 fn attach_to(level: &mut Level, number: i32) -> Result<(), yaml_fault_t>
-    ensures { MatchResult result (λ _. level_of level.new ≡ attached number (level_of level.old)) (λ f. IsMemoryFault f) }
+    ensures { MatchResult result (λ _. level_of level.new ≡ attached number (level_of level.old))
+        (λ f. IsMemoryFault f) }
 {
     match level {
         Level::Sequence { items, .. } => extend(items, number),
@@ -168,7 +171,8 @@ fn attach_to(level: &mut Level, number: i32) -> Result<(), yaml_fault_t>
 
 // A node's number becomes the next item, key or value of the innermost open collection.
 fn attach(levels: &mut Vec<Level>, number: i32) -> Result<(), yaml_fault_t>
-    ensures { MatchResult result (λ _. levels_of levels.new.items ≡ attach number (levels_of levels.old.items)) (λ f. IsMemoryFault f) }
+    ensures { MatchResult result (λ _. levels_of levels.new.items ≡ attach number
+        (levels_of levels.old.items)) (λ f. IsMemoryFault f) }
 {
     let Some(mut level) = levels.pop() else {
         return Ok(());
@@ -258,7 +262,8 @@ impl Making {
         start_implicit: bool,
         start_mark: yaml_mark_t,
     )
-        ensures { loading_of self.new ≡ started version_directive (map directive_of tag_directives.items) start_implicit start_mark }
+        ensures { loading_of self.new ≡ started version_directive
+            (map directive_of tag_directives.items) start_implicit start_mark }
     {
         *self = Making::new(self.parts.alloc);
         self.parts.version_directive = version_directive;
@@ -269,7 +274,8 @@ impl Making {
 
     // An alias stands for the last node that has its anchor.
     fn alias(&mut self, name: &[u8], at: yaml_mark_t) -> Result<(), yaml_fault_t>
-        ensures { Goes (aliased (finite.get (loading_of self.old).anchors name.now) at (loading_of self.old)) result (loading_of self.new) }
+        ensures { Goes (aliased (finite.get (loading_of self.old).anchors name.now) at
+            (loading_of self.old)) result (loading_of self.new) }
     {
         match self.anchors.get(name) {
             None => Err(undefined_alias_fault(at)),
@@ -279,7 +285,8 @@ impl Making {
 
     // One node more: its anchor is noted, and the collection round it gets its number.
     fn add(&mut self, anchor: Option<Vec<u8>>, node: yaml_node_t) -> Result<(), yaml_fault_t>
-        ensures { Goes (entered (known_with (text_of anchor) (anchored (next (loading_of self.old)) node.start_mark) (loading_of self.old).anchors)
+        ensures { Goes (entered (known_with (text_of anchor)
+            (anchored (next (loading_of self.old)) node.start_mark) (loading_of self.old).anchors)
             (with_leaf (loading_of self.old) (node_of node))) result (loading_of self.new) }
     {
         let count = self.parts.nodes.len();
@@ -300,8 +307,10 @@ impl Making {
         node: yaml_node_t,
         level: Level,
     ) -> Result<(), yaml_fault_t>
-        ensures { Goes (entered (known_with (text_of anchor) (anchored (next (loading_of self.old)) node.start_mark) (loading_of self.old).anchors)
-            (with_open (loading_of self.old) (node_of node) (level_of level))) result (loading_of self.new) }
+        ensures { Goes (entered (known_with (text_of anchor)
+            (anchored (next (loading_of self.old)) node.start_mark) (loading_of self.old).anchors)
+            (with_open (loading_of self.old) (node_of node) (level_of level))) result
+            (loading_of self.new) }
     {
         self.add(anchor, node)?;
         match self.levels.push(level) {
@@ -312,7 +321,8 @@ impl Making {
 
     // The innermost open collection gets what it holds, and its end.
     fn close(&mut self, end_mark: yaml_mark_t)
-        ensures { loading_of self.new ≡ closed end_mark (loading_of self.old) (loading_of self.old).levels }
+        ensures { loading_of self.new ≡ closed end_mark (loading_of self.old)
+            (loading_of self.old).levels }
     {
         let Some(level) = self.levels.pop() else {
             return;
@@ -330,7 +340,9 @@ impl Making {
         value: Vec<u8>,
         style: yaml_scalar_style_t,
     ) -> Result<(), yaml_fault_t>
-        ensures { Goes (entered (enter (loading_of self.old) (properties_of head)) (with_leaf (loading_of self.old) (scalar_node (properties_of head) value.items style))) result (loading_of self.new) }
+        ensures { Goes (entered (enter (loading_of self.old) (properties_of head))
+            (with_leaf (loading_of self.old) (scalar_node (properties_of head) value.items style)))
+            result (loading_of self.new) }
     {
         let Properties {
             anchor,
@@ -354,8 +366,11 @@ impl Making {
         head: Properties,
         style: yaml_sequence_style_t,
     ) -> Result<(), yaml_fault_t>
-        ensures { Goes (entered (enter (loading_of self.old) (properties_of head)) (with_open (loading_of self.old) (sequence_node (properties_of head) [] style head.end_mark)
-            (open_sequence (length (loading_of self.old).document.nodes) []))) result (loading_of self.new) }
+        ensures { Goes (entered (enter (loading_of self.old) (properties_of head))
+            (with_open (loading_of self.old) (sequence_node (properties_of head) [] style
+            head.end_mark)
+            (open_sequence (length (loading_of self.old).document.nodes) []))) result
+            (loading_of self.new) }
     {
         let Properties {
             anchor,
@@ -383,8 +398,11 @@ impl Making {
 
     // A mapping begins.
     fn mapping(&mut self, head: Properties, style: yaml_mapping_style_t) -> Result<(), yaml_fault_t>
-        ensures { Goes (entered (enter (loading_of self.old) (properties_of head)) (with_open (loading_of self.old) (mapping_node (properties_of head) [] style head.end_mark)
-            (open_mapping (length (loading_of self.old).document.nodes) [] None))) result (loading_of self.new) }
+        ensures { Goes (entered (enter (loading_of self.old) (properties_of head))
+            (with_open (loading_of self.old) (mapping_node (properties_of head) [] style
+            head.end_mark)
+            (open_mapping (length (loading_of self.old).document.nodes) [] None))) result
+            (loading_of self.new) }
     {
         let Properties {
             anchor,
@@ -413,7 +431,8 @@ impl Making {
 
     /// What the event makes of the document; true where the document is whole.
     pub fn apply(&mut self, event: yaml_event_t) -> Result<bool, yaml_fault_t>
-        ensures { Applies (step (event_of event) (loading_of self.old)) result (loading_of self.new) }
+        ensures { Applies (step (event_of event) (loading_of self.old)) result
+            (loading_of self.new) }
     {
         let yaml_event_t {
             body,

@@ -26,10 +26,12 @@ abbrev pub Refused : Refusal → Settled → Type 0
 Refused Memory s = Unit {0}
 Refused (Fault f) s = s ≡ refused (parser_fault f.problem f.problem_mark f.context_mark)
 
-abbrev pub Resolves : Option (List ℕ) → yaml_mark_t → yaml_mark_t → Result (Vec ℕ Global) Refusal → Type 0
+abbrev pub Resolves : Option (List ℕ) → yaml_mark_t → yaml_mark_t → Result (Vec ℕ Global) Refusal
+    → Type 0
 Resolves o at from (Ok v) = o ≡ Some v.items
 Resolves o at from (Err Memory) = Unit {0}
-Resolves o at from (Err (Fault f)) = (o ≡ None) × (f ≡ record { problem = UndefinedHandle; problem_mark = at; context_mark = from })
+Resolves o at from (Err (Fault f)) = (o ≡ None)
+    × (f ≡ record { problem = UndefinedHandle; problem_mark = at; context_mark = from })
 
 abbrev pub Notes : Settled → Result (Unit {0}) Refusal → spec.Directives → Type 0
 Notes s (Ok u) new = s ≡ noted new
@@ -41,12 +43,15 @@ SettlesNode s (Ok b) new = s ≡ gave (body_of b) new
 SettlesNode s (Err e) new = Refused e s
 
 -- the body of an event in the slot, or nothing
-abbrev pub SettlesBody : Settled → Result Bool Refusal → yaml_event_body_t → spec.Directives → Type 0
+abbrev pub SettlesBody : Settled → Result Bool Refusal → yaml_event_body_t → spec.Directives
+    → Type 0
 SettlesBody s (Ok true) b new = s ≡ gave (body_of b) new
 SettlesBody s (Ok false) b new = s ≡ noted new
 SettlesBody s (Err e) b new = Refused e s
 
-abbrev pub Settles : Settled → item.RawEvent → Result Bool Refusal → yaml_event_t → spec.Directives → Type 0
-Settles s i (Ok true) e new = (s ≡ gave (body_of e.body) new) × (event_of e ≡ placed (body_of e.body) i)
+abbrev pub Settles : Settled → item.RawEvent → Result Bool Refusal → yaml_event_t → spec.Directives
+    → Type 0
+Settles s i (Ok true) e new = (s ≡ gave (body_of e.body) new)
+    × (event_of e ≡ placed (body_of e.body) i)
 Settles s i (Ok false) e new = s ≡ noted new
 Settles s i (Err x) e new = Refused x s

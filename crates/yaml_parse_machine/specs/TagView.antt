@@ -17,7 +17,8 @@ entry_of e = (e.0.items, e.1.items)
 
 -- the entries tell of every handle what the directives do
 abbrev pub TellsAll : List TagDirective → List (Vec ℕ Global × Vec ℕ Global) → Type 0
-TellsAll tags es = (handle : List ℕ) → find (slice_cmp nat_cmp) handle (map entry_of es) ≡ directive_for handle tags
+TellsAll tags es = (handle : List ℕ) → find (slice_cmp nat_cmp) handle (map entry_of es)
+    ≡ directive_for handle tags
 
 abbrev pub IsIndexed : Inside → Type 0
 IsIndexed t = TellsAll (map directive_of t.list.items) t.prefixes.entries

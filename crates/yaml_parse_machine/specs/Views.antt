@@ -25,7 +25,12 @@ tag_option_of None = None
 tag_option_of (Some t) = Some (tag_of t)
 
 abbrev pub properties_of : properties.Properties → item.Properties
-properties_of p = record { anchor = text_of p.anchor; tag = tag_option_of p.tag; from = p.from; to = p.to }
+properties_of p = record {
+  anchor = text_of p.anchor;
+  tag = tag_option_of p.tag;
+  from = p.from;
+  to = p.to;
+}
 
 abbrev pub properties_option_of : Option (Box properties.Properties) → Option item.Properties
 properties_option_of None = None

@@ -68,7 +68,8 @@ impl TagDirectives {
         prefix: Vec<u8>,
     ) -> Result<(), Refusal>
         requires { directive_for handle.items self.old ≡ None }
-        ensures ok { IfOk result (λ u. self.new ≡ self.old ++ record { handle = handle.items; prefix = prefix.items } ∷ []) }
+        ensures ok { IfOk result (λ u. self.new ≡ self.old
+            ++ record { handle = handle.items; prefix = prefix.items } ∷ []) }
         ensures err { IfErr result IsMemory }
     {
         let name = Vec::from_slice(alloc, handle.as_slice())?;

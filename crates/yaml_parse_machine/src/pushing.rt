@@ -53,7 +53,8 @@ pub(crate) fn push_indentless(
     side: Side,
     end: yaml_mark_t,
 ) -> Result<(), AllocError>
-    ensures { OnOk result (stack_of stack.new.items ≡ state.optional (IndentlessEntry side) end ∷ state.others side ∷ stack_of stack.old.items) }
+    ensures { OnOk result (stack_of stack.new.items ≡ state.optional (IndentlessEntry side) end
+        ∷ state.others side ∷ stack_of stack.old.items) }
 {
     stack.reserve(2)?;
     put(stack, State::Others(side));
@@ -67,7 +68,8 @@ pub(crate) fn push_entry(
     opener: yaml_mark_t,
     end: yaml_mark_t,
 ) -> Result<(), AllocError>
-    ensures { OnOk result (stack_of stack.new.items ≡ state.optional Entry end ∷ state.entries opener ∷ stack_of stack.old.items) }
+    ensures { OnOk result (stack_of stack.new.items ≡ state.optional Entry end ∷ state.entries
+        opener ∷ stack_of stack.old.items) }
 {
     stack.reserve(2)?;
     put(stack, State::Entries(opener));
@@ -81,7 +83,8 @@ pub(crate) fn push_block_pair(
     opener: yaml_mark_t,
     end: yaml_mark_t,
 ) -> Result<(), AllocError>
-    ensures { OnOk result (stack_of stack.new.items ≡ state.optional (BlockPair Key) end ∷ state.colon (BlockPair Value) ∷ state.pairs opener ∷ stack_of stack.old.items) }
+    ensures { OnOk result (stack_of stack.new.items ≡ state.optional (BlockPair Key) end
+        ∷ state.colon (BlockPair Value) ∷ state.pairs opener ∷ stack_of stack.old.items) }
 {
     stack.reserve(3)?;
     put(stack, State::Pairs(opener));
@@ -97,7 +100,9 @@ pub(crate) fn push_sequence_pair(
     opener: yaml_mark_t,
     end: yaml_mark_t,
 ) -> Result<(), AllocError>
-    ensures { OnOk result (stack_of stack.new.items ≡ state.optional (FlowPair brackets.Sequence Key) end ∷ state.colon (FlowPair brackets.Sequence Value) ∷ state.pair_end ∷ state.more brackets.Sequence opener ∷ stack_of stack.old.items) }
+    ensures { OnOk result (stack_of stack.new.items ≡ state.optional
+        (FlowPair brackets.Sequence Key) end ∷ state.colon (FlowPair brackets.Sequence Value)
+        ∷ state.pair_end ∷ state.more brackets.Sequence opener ∷ stack_of stack.old.items) }
 {
     let brackets = Brackets::Sequence;
     stack.reserve(4)?;
@@ -117,7 +122,9 @@ pub(crate) fn push_mapping_pair(
     opener: yaml_mark_t,
     end: yaml_mark_t,
 ) -> Result<(), AllocError>
-    ensures { OnOk result (stack_of stack.new.items ≡ state.optional (FlowPair brackets.Mapping Key) end ∷ state.colon (FlowPair brackets.Mapping Value) ∷ state.more brackets.Mapping opener ∷ stack_of stack.old.items) }
+    ensures { OnOk result (stack_of stack.new.items ≡ state.optional (FlowPair brackets.Mapping Key)
+        end ∷ state.colon (FlowPair brackets.Mapping Value) ∷ state.more brackets.Mapping opener
+        ∷ stack_of stack.old.items) }
 {
     let brackets = Brackets::Mapping;
     stack.reserve(3)?;
@@ -136,7 +143,8 @@ pub(crate) fn push_behind_part(
     brackets: Brackets,
     opener: yaml_mark_t,
 ) -> Result<(), AllocError>
-    ensures { OnOk result (stack_of stack.new.items ≡ lone_below brackets (state.more brackets opener ∷ []) ++ stack_of stack.old.items) }
+    ensures { OnOk result (stack_of stack.new.items ≡ lone_below brackets
+        (state.more brackets opener ∷ []) ++ stack_of stack.old.items) }
 {
     push(stack, State::More(brackets, opener))?;
     match brackets {

@@ -52,7 +52,11 @@ impl<T: Drop> From<AllocFailed<T>> for Refusal {
 }
 
 fn fault_at(problem: ParseProblem, problem_mark: yaml_mark_t, context_mark: yaml_mark_t) -> Refusal
-    ensures { result ≡ Fault (record { problem = problem; problem_mark = problem_mark; context_mark = context_mark }) }
+    ensures { result ≡ Fault (record {
+      problem = problem;
+      problem_mark = problem_mark;
+      context_mark = context_mark;
+    }) }
 {
     Refusal::Fault(ParseFault {
         problem,
@@ -91,7 +95,8 @@ fn resolve(
     tag: &mut Tag,
     from: yaml_mark_t,
 ) -> Result<Vec<u8>, Refusal>
-    ensures { Resolves (resolved tags.now tag.old.handle.items tag.old.suffix.items) tag.old.mark from result }
+    ensures { Resolves (resolved tags.now tag.old.handle.items tag.old.suffix.items) tag.old.mark
+        from result }
 {
     if tag.handle.is_empty() {
         return Ok(mem::replace(&mut tag.suffix, Vec::new(alloc)));
@@ -302,7 +307,8 @@ fn note_version(
     minor: i32,
     at: yaml_mark_t,
 ) -> Result<(), Refusal>
-    ensures { Notes (with_version (directives_of directives.old).version (directives_of directives.old).tags major minor at) result (directives_of directives.new) }
+    ensures { Notes (with_version (directives_of directives.old).version
+        (directives_of directives.old).tags major minor at) result (directives_of directives.new) }
 {
     match directives.version {
         Some(_) => Err(fault_at(ParseProblem::DuplicateVersion, at, at)),
@@ -325,7 +331,9 @@ fn note_tag(
     prefix: Vec<u8>,
     at: yaml_mark_t,
 ) -> Result<(), Refusal>
-    ensures { Notes (with_tag (directive_for handle.items (directives_of directives.old).tags) (directives_of directives.old) handle.items prefix.items at) result (directives_of directives.new) }
+    ensures { Notes (with_tag (directive_for handle.items (directives_of directives.old).tags)
+        (directives_of directives.old) handle.items prefix.items at) result
+        (directives_of directives.new) }
 {
     match directives.tags.prefix_of(handle.as_slice()) {
         Some(_) => Err(fault_at(ParseProblem::DuplicateHandle, at, at)),
@@ -335,7 +343,8 @@ fn note_tag(
 
 // Nothing carries over to the next document.
 fn end_directives(directives: &mut Directives, event: &Resolved)
-    ensures { directives_of directives.new ≡ behind_event (plain_of event.now) (directives_of directives.old) }
+    ensures { directives_of directives.new ≡ behind_event (plain_of event.now)
+        (directives_of directives.old) }
 {
     match *event {
         Resolved::DocumentEnd { .. } => {
@@ -373,7 +382,9 @@ fn with_properties(
     shape: &mut Shape,
     from: yaml_mark_t,
 ) -> Result<yaml_event_body_t, Refusal>
-    ensures { (ds : DirectivesSpec) → ds.tags ≡ tags.now → SettlesNode (settle_item_body (item.node (text_of properties.old.anchor) (tag_option_of properties.old.tag) (shape_of shape.old)) from ds) result ds }
+    ensures { (ds : DirectivesSpec) → ds.tags ≡ tags.now
+        → SettlesNode (settle_item_body (item.node (text_of properties.old.anchor)
+        (tag_option_of properties.old.tag) (shape_of shape.old)) from ds) result ds }
 {
     let full = match &mut properties.tag {
         None => None,
@@ -391,7 +402,8 @@ fn settle_body(
     from: yaml_mark_t,
     event: &mut yaml_event_body_t,
 ) -> Result<bool, Refusal>
-    ensures { SettlesBody (settle_item_body (item_body_of body.old) from (directives_of directives.old)) result event.new (directives_of directives.new) }
+    ensures { SettlesBody (settle_item_body (item_body_of body.old) from
+        (directives_of directives.old)) result event.new (directives_of directives.new) }
 {
     match *body {
         RawEventBody::Event(ref mut plain) => {
@@ -447,7 +459,8 @@ pub fn settle(
     slot: &mut RawEvent,
     event: &mut yaml_event_t,
 ) -> Result<bool, Refusal>
-    ensures { Settles (settle_item (item_of slot.old) (directives_of directives.old)) (item_of slot.old) result event.new (directives_of directives.new) }
+    ensures { Settles (settle_item (item_of slot.old) (directives_of directives.old))
+        (item_of slot.old) result event.new (directives_of directives.new) }
 {
     event.start_mark = slot.from;
     event.end_mark = slot.to;

@@ -36,7 +36,8 @@ fn give(
     from: yaml_mark_t,
     to: yaml_mark_t,
 ) -> Result<bool, AllocError>
-    ensures { IsOkAnd result (λ b. given_of b slot.new ≡ Some (item_at (item_body_of body) from to)) }
+    ensures { IsOkAnd result (λ b. given_of b slot.new
+        ≡ Some (item_at (item_body_of body) from to)) }
 {
     slot.body = body;
     slot.from = from;
@@ -48,7 +49,8 @@ fn give(
 // Inlined: its event is known, so that it is built in the slot.
 #[inline(always)]
 fn tell(slot: &mut RawEvent, event: Resolved, token: &yaml_token_t) -> Result<bool, AllocError>
-    ensures { IsOkAnd result (λ b. given_of b slot.new ≡ Some (event_at (plain_of event) token.now.start_mark token.now.end_mark)) }
+    ensures { IsOkAnd result (λ b. given_of b slot.new
+        ≡ Some (event_at (plain_of event) token.now.start_mark token.now.end_mark)) }
 {
     slot.body = RawEventBody::Event(event);
     slot.from = token.start_mark;
@@ -75,7 +77,9 @@ fn node(
     shape: Shape,
     token: &yaml_token_t,
 ) -> Result<bool, AllocError>
-    ensures { IsOkAnd result (λ b. given_of b slot.new ≡ Some (node_at (properties_option_of properties) (shape_of shape) token.now.start_mark token.now.end_mark)) }
+    ensures { IsOkAnd result (λ b. given_of b slot.new
+        ≡ Some (node_at (properties_option_of properties) (shape_of shape) token.now.start_mark
+        token.now.end_mark)) }
 {
     slot.from = beginning(&properties, token.start_mark);
     slot.to = token.end_mark;
@@ -89,7 +93,8 @@ fn new_room(
     from: yaml_mark_t,
     to: yaml_mark_t,
 ) -> Result<Box<Properties>, AllocError>
-    ensures { IfOk result (λ b. properties_of b.value ≡ record { anchor = None; tag = None; from = from; to = to }) }
+    ensures { IfOk result (λ b. properties_of b.value
+        ≡ record { anchor = None; tag = None; from = from; to = to }) }
 {
     let properties = Properties {
         anchor: None,
@@ -107,7 +112,8 @@ fn room(
     from: yaml_mark_t,
     to: yaml_mark_t,
 ) -> Result<Box<Properties>, AllocError>
-    ensures { IfOk result (λ b. properties_of b.value ≡ record { anchor = None; tag = None; from = from; to = to }) }
+    ensures { IfOk result (λ b. properties_of b.value
+        ≡ record { anchor = None; tag = None; from = from; to = to }) }
 {
     match slot.spare.take() {
         None => new_room(alloc, from, to),
@@ -127,7 +133,8 @@ fn room(
 // For tokens that the state doesn't take.
 fn nothing(stack: &mut Vec<State>, slot: &mut RawEvent) -> Result<bool, AllocError>
     ensures item { IfOk result (λ b. given_of b slot.new ≡ not_taken.item) }
-    ensures stack { OnOk result (stack_of stack.new.items ≡ not_taken.above ++ stack_of stack.old.items) }
+    ensures stack { OnOk result (stack_of stack.new.items ≡ not_taken.above ++ stack_of
+        stack.old.items) }
 {
     push(stack, State::Lone)?;
     Ok(false)
@@ -146,8 +153,12 @@ fn at_stream(
     token: &mut yaml_token_t,
     slot: &mut RawEvent,
 ) -> Result<bool, AllocError>
-    ensures item { IfOk result (λ b. given_of b slot.new ≡ (stream_taken token.old.start_mark token.old.end_mark (token_body_of token.old.body)).item) }
-    ensures stack { OnOk result (stack_of stack.new.items ≡ (stream_taken token.old.start_mark token.old.end_mark (token_body_of token.old.body)).above ++ stack_of stack.old.items) }
+    ensures item { IfOk result (λ b. given_of b slot.new
+        ≡ (stream_taken token.old.start_mark token.old.end_mark
+        (token_body_of token.old.body)).item) }
+    ensures stack { OnOk result (stack_of stack.new.items
+        ≡ (stream_taken token.old.start_mark token.old.end_mark
+        (token_body_of token.old.body)).above ++ stack_of stack.old.items) }
 {
     match &mut token.body {
         yaml_token_body_t::StreamStart { encoding } => {
@@ -170,8 +181,12 @@ fn at_documents(
     token: &mut yaml_token_t,
     slot: &mut RawEvent,
 ) -> Result<bool, AllocError>
-    ensures item { IfOk result (λ b. given_of b slot.new ≡ (documents_taken from token.old.start_mark token.old.end_mark (token_body_of token.old.body)).item) }
-    ensures stack { OnOk result (stack_of stack.new.items ≡ (documents_taken from token.old.start_mark token.old.end_mark (token_body_of token.old.body)).above ++ stack_of stack.old.items) }
+    ensures item { IfOk result (λ b. given_of b slot.new
+        ≡ (documents_taken from token.old.start_mark token.old.end_mark
+        (token_body_of token.old.body)).item) }
+    ensures stack { OnOk result (stack_of stack.new.items
+        ≡ (documents_taken from token.old.start_mark token.old.end_mark
+        (token_body_of token.old.body)).above ++ stack_of stack.old.items) }
 {
     let body = &mut token.body;
     match *body {
@@ -244,8 +259,11 @@ fn open_brackets(
     token: &yaml_token_t,
     slot: &mut RawEvent,
 ) -> Result<bool, AllocError>
-    ensures item { IfOk result (λ b. given_of b slot.new ≡ Some (node_at (properties_option_of properties) (flow_shape brackets) token.now.start_mark token.now.end_mark)) }
-    ensures stack { OnOk result (stack_of stack.new.items ≡ state.items brackets token.now.start_mark ∷ stack_of stack.old.items) }
+    ensures item { IfOk result (λ b. given_of b slot.new
+        ≡ Some (node_at (properties_option_of properties) (flow_shape brackets) token.now.start_mark
+        token.now.end_mark)) }
+    ensures stack { OnOk result (stack_of stack.new.items ≡ state.items brackets
+        token.now.start_mark ∷ stack_of stack.old.items) }
 {
     push(stack, State::Items(brackets, token.start_mark))?;
     node(slot, properties, flow_collection(brackets), token)
@@ -258,8 +276,11 @@ fn open_entries(
     token: &yaml_token_t,
     slot: &mut RawEvent,
 ) -> Result<bool, AllocError>
-    ensures item { IfOk result (λ b. given_of b slot.new ≡ Some (node_at (properties_option_of properties) (item.sequence YAML_BLOCK_SEQUENCE_STYLE) token.now.start_mark token.now.end_mark)) }
-    ensures stack { OnOk result (stack_of stack.new.items ≡ state.entries token.now.start_mark ∷ stack_of stack.old.items) }
+    ensures item { IfOk result (λ b. given_of b slot.new
+        ≡ Some (node_at (properties_option_of properties) (item.sequence YAML_BLOCK_SEQUENCE_STYLE)
+        token.now.start_mark token.now.end_mark)) }
+    ensures stack { OnOk result (stack_of stack.new.items ≡ state.entries token.now.start_mark
+        ∷ stack_of stack.old.items) }
 {
     push(stack, State::Entries(token.start_mark))?;
     node(slot, properties, block_sequence(), token)
@@ -272,8 +293,11 @@ fn open_pairs(
     token: &yaml_token_t,
     slot: &mut RawEvent,
 ) -> Result<bool, AllocError>
-    ensures item { IfOk result (λ b. given_of b slot.new ≡ Some (node_at (properties_option_of properties) (item.mapping YAML_BLOCK_MAPPING_STYLE) token.now.start_mark token.now.end_mark)) }
-    ensures stack { OnOk result (stack_of stack.new.items ≡ state.pairs token.now.start_mark ∷ stack_of stack.old.items) }
+    ensures item { IfOk result (λ b. given_of b slot.new
+        ≡ Some (node_at (properties_option_of properties) (item.mapping YAML_BLOCK_MAPPING_STYLE)
+        token.now.start_mark token.now.end_mark)) }
+    ensures stack { OnOk result (stack_of stack.new.items ≡ state.pairs token.now.start_mark
+        ∷ stack_of stack.old.items) }
 {
     push(stack, State::Pairs(token.start_mark))?;
     let shape = Shape::Mapping(yaml_mapping_style_t::YAML_BLOCK_MAPPING_STYLE);
@@ -288,8 +312,11 @@ fn open_others(
     token: &yaml_token_t,
     slot: &mut RawEvent,
 ) -> Result<bool, AllocError>
-    ensures item { IfOk result (λ b. given_of b slot.new ≡ Some (node_at (properties_option_of properties) (item.sequence YAML_BLOCK_SEQUENCE_STYLE) token.now.start_mark token.now.end_mark)) }
-    ensures stack { OnOk result (stack_of stack.new.items ≡ state.optional (IndentlessEntry side) token.now.end_mark ∷ state.others side ∷ stack_of stack.old.items) }
+    ensures item { IfOk result (λ b. given_of b slot.new
+        ≡ Some (node_at (properties_option_of properties) (item.sequence YAML_BLOCK_SEQUENCE_STYLE)
+        token.now.start_mark token.now.end_mark)) }
+    ensures stack { OnOk result (stack_of stack.new.items ≡ state.optional (IndentlessEntry side)
+        token.now.end_mark ∷ state.others side ∷ stack_of stack.old.items) }
 {
     push_indentless(stack, side, token.end_mark)?;
     node(slot, properties, block_sequence(), token)
@@ -304,8 +331,12 @@ fn at_content(
     token: &mut yaml_token_t,
     slot: &mut RawEvent,
 ) -> Result<bool, AllocError>
-    ensures item { IfOk result (λ b. given_of b slot.new ≡ (content_taken wants (properties_option_of properties) token.old.start_mark token.old.end_mark (token_body_of token.old.body)).item) }
-    ensures stack { OnOk result (stack_of stack.new.items ≡ (content_taken wants (properties_option_of properties) token.old.start_mark token.old.end_mark (token_body_of token.old.body)).above ++ stack_of stack.old.items) }
+    ensures item { IfOk result (λ b. given_of b slot.new
+        ≡ (content_taken wants (properties_option_of properties) token.old.start_mark
+        token.old.end_mark (token_body_of token.old.body)).item) }
+    ensures stack { OnOk result (stack_of stack.new.items
+        ≡ (content_taken wants (properties_option_of properties) token.old.start_mark
+        token.old.end_mark (token_body_of token.old.body)).above ++ stack_of stack.old.items) }
 {
     match &mut token.body {
         yaml_token_body_t::Scalar { value, style } => {
@@ -339,8 +370,12 @@ fn at_node(
     token: &mut yaml_token_t,
     slot: &mut RawEvent,
 ) -> Result<bool, AllocError>
-    ensures item { IfOk result (λ b. given_of b slot.new ≡ (node_taken wants token.old.start_mark token.old.end_mark (token_body_of token.old.body)).item) }
-    ensures stack { OnOk result (stack_of stack.new.items ≡ (node_taken wants token.old.start_mark token.old.end_mark (token_body_of token.old.body)).above ++ stack_of stack.old.items) }
+    ensures item { IfOk result (λ b. given_of b slot.new
+        ≡ (node_taken wants token.old.start_mark token.old.end_mark
+        (token_body_of token.old.body)).item) }
+    ensures stack { OnOk result (stack_of stack.new.items
+        ≡ (node_taken wants token.old.start_mark token.old.end_mark
+        (token_body_of token.old.body)).above ++ stack_of stack.old.items) }
 {
     match &mut token.body {
         yaml_token_body_t::Alias { value } => tell(
@@ -379,8 +414,12 @@ fn at_with_properties(
     token: &mut yaml_token_t,
     slot: &mut RawEvent,
 ) -> Result<bool, AllocError>
-    ensures item { IfOk result (λ b. given_of b slot.new ≡ (with_properties_taken wants (properties_of properties.value) token.old.start_mark token.old.end_mark (token_body_of token.old.body)).item) }
-    ensures stack { OnOk result (stack_of stack.new.items ≡ (with_properties_taken wants (properties_of properties.value) token.old.start_mark token.old.end_mark (token_body_of token.old.body)).above ++ stack_of stack.old.items) }
+    ensures item { IfOk result (λ b. given_of b slot.new
+        ≡ (with_properties_taken wants (properties_of properties.value) token.old.start_mark
+        token.old.end_mark (token_body_of token.old.body)).item) }
+    ensures stack { OnOk result (stack_of stack.new.items
+        ≡ (with_properties_taken wants (properties_of properties.value) token.old.start_mark
+        token.old.end_mark (token_body_of token.old.body)).above ++ stack_of stack.old.items) }
 {
     match &mut token.body {
         yaml_token_body_t::Anchor { value } => {
@@ -414,8 +453,11 @@ fn at_pair(
     token: &yaml_token_t,
     slot: &mut RawEvent,
 ) -> Result<bool, AllocError>
-    ensures item { IfOk result (λ b. given_of b slot.new ≡ (pair_taken brackets opener token.now.start_mark token.now.end_mark).item) }
-    ensures stack { OnOk result (stack_of stack.new.items ≡ (pair_taken brackets opener token.now.start_mark token.now.end_mark).above ++ stack_of stack.old.items) }
+    ensures item { IfOk result (λ b. given_of b slot.new
+        ≡ (pair_taken brackets opener token.now.start_mark token.now.end_mark).item) }
+    ensures stack { OnOk result (stack_of stack.new.items
+        ≡ (pair_taken brackets opener token.now.start_mark token.now.end_mark).above ++ stack_of
+        stack.old.items) }
 {
     match brackets {
         Brackets::Sequence => {
@@ -436,8 +478,12 @@ fn at_items(
     token: &mut yaml_token_t,
     slot: &mut RawEvent,
 ) -> Result<bool, AllocError>
-    ensures item { IfOk result (λ b. given_of b slot.new ≡ (items_taken brackets opener token.old.start_mark token.old.end_mark (token_body_of token.old.body)).item) }
-    ensures stack { OnOk result (stack_of stack.new.items ≡ (items_taken brackets opener token.old.start_mark token.old.end_mark (token_body_of token.old.body)).above ++ stack_of stack.old.items) }
+    ensures item { IfOk result (λ b. given_of b slot.new
+        ≡ (items_taken brackets opener token.old.start_mark token.old.end_mark
+        (token_body_of token.old.body)).item) }
+    ensures stack { OnOk result (stack_of stack.new.items
+        ≡ (items_taken brackets opener token.old.start_mark token.old.end_mark
+        (token_body_of token.old.body)).above ++ stack_of stack.old.items) }
 {
     match &mut token.body {
         yaml_token_body_t::Key => at_pair(stack, brackets, opener, token, slot),
@@ -457,8 +503,12 @@ fn at_more(
     token: &mut yaml_token_t,
     slot: &mut RawEvent,
 ) -> Result<bool, AllocError>
-    ensures item { IfOk result (λ b. given_of b slot.new ≡ (more_taken brackets opener token.old.start_mark token.old.end_mark (token_body_of token.old.body)).item) }
-    ensures stack { OnOk result (stack_of stack.new.items ≡ (more_taken brackets opener token.old.start_mark token.old.end_mark (token_body_of token.old.body)).above ++ stack_of stack.old.items) }
+    ensures item { IfOk result (λ b. given_of b slot.new
+        ≡ (more_taken brackets opener token.old.start_mark token.old.end_mark
+        (token_body_of token.old.body)).item) }
+    ensures stack { OnOk result (stack_of stack.new.items
+        ≡ (more_taken brackets opener token.old.start_mark token.old.end_mark
+        (token_body_of token.old.body)).above ++ stack_of stack.old.items) }
 {
     match &mut token.body {
         yaml_token_body_t::FlowEntry => {
@@ -475,8 +525,12 @@ fn at_entries(
     token: &mut yaml_token_t,
     slot: &mut RawEvent,
 ) -> Result<bool, AllocError>
-    ensures item { IfOk result (λ b. given_of b slot.new ≡ (entries_taken opener token.old.start_mark token.old.end_mark (token_body_of token.old.body)).item) }
-    ensures stack { OnOk result (stack_of stack.new.items ≡ (entries_taken opener token.old.start_mark token.old.end_mark (token_body_of token.old.body)).above ++ stack_of stack.old.items) }
+    ensures item { IfOk result (λ b. given_of b slot.new
+        ≡ (entries_taken opener token.old.start_mark token.old.end_mark
+        (token_body_of token.old.body)).item) }
+    ensures stack { OnOk result (stack_of stack.new.items
+        ≡ (entries_taken opener token.old.start_mark token.old.end_mark
+        (token_body_of token.old.body)).above ++ stack_of stack.old.items) }
 {
     match &mut token.body {
         yaml_token_body_t::BlockEntry => {
@@ -493,8 +547,12 @@ fn at_pairs(
     token: &mut yaml_token_t,
     slot: &mut RawEvent,
 ) -> Result<bool, AllocError>
-    ensures item { IfOk result (λ b. given_of b slot.new ≡ (pairs_taken opener token.old.start_mark token.old.end_mark (token_body_of token.old.body)).item) }
-    ensures stack { OnOk result (stack_of stack.new.items ≡ (pairs_taken opener token.old.start_mark token.old.end_mark (token_body_of token.old.body)).above ++ stack_of stack.old.items) }
+    ensures item { IfOk result (λ b. given_of b slot.new
+        ≡ (pairs_taken opener token.old.start_mark token.old.end_mark
+        (token_body_of token.old.body)).item) }
+    ensures stack { OnOk result (stack_of stack.new.items
+        ≡ (pairs_taken opener token.old.start_mark token.old.end_mark
+        (token_body_of token.old.body)).above ++ stack_of stack.old.items) }
 {
     match &mut token.body {
         yaml_token_body_t::Key => {
@@ -507,7 +565,8 @@ fn at_pairs(
 
 fn at_others(stack: &mut Vec<State>, side: Side, end: yaml_mark_t) -> Result<bool, AllocError>
     ensures item { IfOk result (λ b. b ≡ false) }
-    ensures stack { OnOk result (stack_of stack.new.items ≡ state.optional (IndentlessEntry side) end ∷ state.others side ∷ stack_of stack.old.items) }
+    ensures stack { OnOk result (stack_of stack.new.items ≡ state.optional (IndentlessEntry side)
+        end ∷ state.others side ∷ stack_of stack.old.items) }
 {
     push_indentless(stack, side, end)?;
     Ok(false)
@@ -515,7 +574,8 @@ fn at_others(stack: &mut Vec<State>, side: Side, end: yaml_mark_t) -> Result<boo
 
 fn at_colon(stack: &mut Vec<State>, place: Site, end: yaml_mark_t) -> Result<bool, AllocError>
     ensures item { IfOk result (λ b. b ≡ false) }
-    ensures stack { OnOk result (stack_of stack.new.items ≡ state.optional place end ∷ stack_of stack.old.items) }
+    ensures stack { OnOk result (stack_of stack.new.items ≡ state.optional place end ∷ stack_of
+        stack.old.items) }
 {
     push(stack, State::Optional(place, end))?;
     Ok(false)
@@ -529,8 +589,10 @@ pub fn take(
     token: &mut yaml_token_t,
     slot: &mut RawEvent,
 ) -> Result<bool, AllocError>
-    ensures item { IfOk result (λ b. given_of b slot.new ≡ (taken_at (state_of state) (token_of token.old)).item) }
-    ensures stack { OnOk result (stack_of stack.new.items ≡ (taken_at (state_of state) (token_of token.old)).above ++ stack_of stack.old.items) }
+    ensures item { IfOk result (λ b. given_of b slot.new
+        ≡ (taken_at (state_of state) (token_of token.old)).item) }
+    ensures stack { OnOk result (stack_of stack.new.items
+        ≡ (taken_at (state_of state) (token_of token.old)).above ++ stack_of stack.old.items) }
 {
     match state {
         State::Stream => at_stream(stack, token, slot),

@@ -20,7 +20,8 @@ AreUtf8 (d ∷ ds) = (IsUtf8 d.handle × IsUtf8 d.prefix) × AreUtf8 ds
 abbrev pub HasUtf8 : EventBody → Type 0
 HasUtf8 (event.document_start version directives implicit) = AreUtf8 directives
 HasUtf8 (event.alias anchor) = IsUtf8 anchor
-HasUtf8 (event.scalar anchor tag value plain quoted style) = IsUtf8Option anchor × IsUtf8Option tag × IsUtf8 value
+HasUtf8 (event.scalar anchor tag value plain quoted style) = IsUtf8Option anchor × IsUtf8Option tag
+    × IsUtf8 value
 HasUtf8 (event.sequence_start anchor tag implicit style) = IsUtf8Option anchor × IsUtf8Option tag
 HasUtf8 (event.mapping_start anchor tag implicit style) = IsUtf8Option anchor × IsUtf8Option tag
 HasUtf8 _ = Unit {0}

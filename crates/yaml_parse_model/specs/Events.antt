@@ -38,7 +38,8 @@ pub data EventBody : Type 0 where
   document_end : Bool → EventBody
   alias : List ℕ → EventBody
   -- anchor, tag, value, plain-implicit, quoted-implicit, style
-  scalar : Option (List ℕ) → Option (List ℕ) → List ℕ → Bool → Bool → yaml_scalar_style_t → EventBody
+  scalar : Option (List ℕ) → Option (List ℕ) → List ℕ → Bool → Bool → yaml_scalar_style_t
+      → EventBody
   -- anchor, tag, implicit, style
   sequence_start : Option (List ℕ) → Option (List ℕ) → Bool → yaml_sequence_style_t → EventBody
   sequence_end : EventBody
@@ -54,13 +55,17 @@ abbrev pub body_of : yaml_event_body_t → EventBody
 body_of body.No = no
 body_of (body.StreamStart encoding) = stream_start encoding
 body_of body.StreamEnd = stream_end
-body_of (body.DocumentStart version directives implicit) = document_start version (map directive_of directives.items) implicit
+body_of (body.DocumentStart version directives implicit) = document_start version
+    (map directive_of directives.items) implicit
 body_of (body.DocumentEnd implicit) = document_end implicit
 body_of (body.Alias anchor) = alias anchor.items
-body_of (body.Scalar anchor tag value plain quoted style) = scalar (text_of anchor) (text_of tag) value.items plain quoted style
-body_of (body.SequenceStart anchor tag implicit style) = sequence_start (text_of anchor) (text_of tag) implicit style
+body_of (body.Scalar anchor tag value plain quoted style) = scalar (text_of anchor) (text_of tag)
+    value.items plain quoted style
+body_of (body.SequenceStart anchor tag implicit style) = sequence_start (text_of anchor)
+    (text_of tag) implicit style
 body_of body.SequenceEnd = sequence_end
-body_of (body.MappingStart anchor tag implicit style) = mapping_start (text_of anchor) (text_of tag) implicit style
+body_of (body.MappingStart anchor tag implicit style) = mapping_start (text_of anchor) (text_of tag)
+    implicit style
 body_of body.MappingEnd = mapping_end
 
 abbrev pub event_of : yaml_event_t → Event

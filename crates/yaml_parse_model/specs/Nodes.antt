@@ -31,7 +31,12 @@ body_of (body.Sequence items style) = sequence items.items style
 body_of (body.Mapping pairs style) = mapping pairs.items style
 
 abbrev pub node_of : yaml_node_t → Node
-node_of n = record { body = body_of n.body; tag = n.tag.items; start_mark = n.start_mark; end_mark = n.end_mark }
+node_of n = record {
+  body = body_of n.body;
+  tag = n.tag.items;
+  start_mark = n.start_mark;
+  end_mark = n.end_mark;
+}
 
 -- the kind of a node
 abbrev pub type_of : NodeBody → yaml_node_type_t

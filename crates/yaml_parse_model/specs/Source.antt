@@ -29,7 +29,8 @@ HasUtf8 (token.scalar value style) = IsUtf8 value
 HasUtf8 _ = Unit {0}
 
 -- a token was given: the first to come
-pub record GivesToken (old : List Token) (fault : Option Fault) (t : Token) (new : List Token) (after : Option Fault) : Type 0 where
+pub record GivesToken (old : List Token) (fault : Option Fault) (t : Token) (new : List Token)
+    (after : Option Fault) : Type 0 where
   pub given : t ≡ front_of old
   pub rest : new ≡ rest_of old
   pub same : after ≡ fault
@@ -37,7 +38,8 @@ pub record GivesToken (old : List Token) (fault : Option Fault) (t : Token) (new
   pub utf8 : HasUtf8 t.body
 
 -- a fault was given: that to come, or want of memory; nothing comes behind it
-pub record GivesFault (old : List Token) (fault : Option Fault) (f : Fault) (new : List Token) (after : Option Fault) : Type 0 where
+pub record GivesFault (old : List Token) (fault : Option Fault) (f : Fault) (new : List Token)
+    (after : Option Fault) : Type 0 where
   pub none : new ≡ []
   pub no_fault : after ≡ None
   pub reason : (f.kind ≡ YAML_MEMORY_ERROR) ⊎ ((old ≡ []) × (fault ≡ Some f))

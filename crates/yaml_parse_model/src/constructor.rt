@@ -41,7 +41,8 @@ pub fn yaml_document_start_event_initialize(
     tag_directives: &[yaml_tag_directive_t],
     implicit: bool,
 ) -> Result<yaml_event_t, yaml_text_fault_t>
-    ensures { Constructs (event.document_start version_directive (map directive_of tag_directives.now) implicit) result }
+    ensures { Constructs (event.document_start version_directive
+        (map directive_of tag_directives.now) implicit) result }
 {
     if !are_utf8(tag_directives) {
         return Err(yaml_text_fault_t::NotUtf8);
@@ -86,7 +87,8 @@ pub fn yaml_scalar_event_initialize(
     quoted_implicit: bool,
     style: yaml_scalar_style_t,
 ) -> Result<yaml_event_t, yaml_text_fault_t>
-    ensures { Constructs (event.scalar (option_map (λ t. t.now) anchor.entry) (option_map (λ t. t.now) tag.entry) value.now plain_implicit quoted_implicit style) result }
+    ensures { Constructs (event.scalar (option_map (λ t. t.now) anchor.entry)
+        (option_map (λ t. t.now) tag.entry) value.now plain_implicit quoted_implicit style) result }
 {
     if !is_utf8_option(anchor) || !is_utf8_option(tag) || !is_utf8(value) {
         return Err(yaml_text_fault_t::NotUtf8);
@@ -112,7 +114,8 @@ pub fn yaml_sequence_start_event_initialize(
     implicit: bool,
     style: yaml_sequence_style_t,
 ) -> Result<yaml_event_t, yaml_text_fault_t>
-    ensures { Constructs (event.sequence_start (option_map (λ t. t.now) anchor.entry) (option_map (λ t. t.now) tag.entry) implicit style) result }
+    ensures { Constructs (event.sequence_start (option_map (λ t. t.now) anchor.entry)
+        (option_map (λ t. t.now) tag.entry) implicit style) result }
 {
     if !is_utf8_option(anchor) || !is_utf8_option(tag) {
         return Err(yaml_text_fault_t::NotUtf8);
@@ -142,7 +145,8 @@ pub fn yaml_mapping_start_event_initialize(
     implicit: bool,
     style: yaml_mapping_style_t,
 ) -> Result<yaml_event_t, yaml_text_fault_t>
-    ensures { Constructs (event.mapping_start (option_map (λ t. t.now) anchor.entry) (option_map (λ t. t.now) tag.entry) implicit style) result }
+    ensures { Constructs (event.mapping_start (option_map (λ t. t.now) anchor.entry)
+        (option_map (λ t. t.now) tag.entry) implicit style) result }
 {
     if !is_utf8_option(anchor) || !is_utf8_option(tag) {
         return Err(yaml_text_fault_t::NotUtf8);

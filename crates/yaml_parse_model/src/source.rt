@@ -18,6 +18,8 @@ pub trait yaml_token_source_t: Drop {
 
     /// The next token; or the fault that ends the list, once; or, from then on, the empty token.
     fn next_token(&mut self) -> Result<yaml_token_t, yaml_fault_t>
-        ensures ok { IfOk result (λ t. GivesToken (to_come self.old) (fault_to_come self.old) (token_of t) (to_come self.new) (fault_to_come self.new)) }
-        ensures err { IfErr result (λ f. GivesFault (to_come self.old) (fault_to_come self.old) (fault_of f) (to_come self.new) (fault_to_come self.new)) };
+        ensures ok { IfOk result (λ t. GivesToken (to_come self.old) (fault_to_come self.old)
+            (token_of t) (to_come self.new) (fault_to_come self.new)) }
+        ensures err { IfErr result (λ f. GivesFault (to_come self.old) (fault_to_come self.old)
+            (fault_of f) (to_come self.new) (fault_to_come self.new)) };
 }

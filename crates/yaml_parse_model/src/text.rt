@@ -33,7 +33,8 @@ pub fn are_utf8(directives: &[yaml_tag_directive_t]) -> bool
 
 /// A copy of a text.
 pub fn copy_text(alloc: Global, text: &[u8]) -> Result<Vec<u8>, yaml_text_fault_t>
-    ensures { MatchResult result (λ copy. copy.items ≡ text.now) (λ f. f ≡ yaml_text_fault_t.Memory) }
+    ensures { MatchResult result (λ copy. copy.items ≡ text.now)
+        (λ f. f ≡ yaml_text_fault_t.Memory) }
 {
     match Vec::from_slice(alloc, text) {
         Ok(copy) => Ok(copy),
@@ -46,7 +47,8 @@ pub fn copy_text_option(
     alloc: Global,
     text: Option<&[u8]>,
 ) -> Result<Option<Vec<u8>>, yaml_text_fault_t>
-    ensures { MatchResult result (λ copy. text_of copy ≡ option_map (λ t. t.now) text.entry) (λ f. f ≡ yaml_text_fault_t.Memory) }
+    ensures { MatchResult result (λ copy. text_of copy ≡ option_map (λ t. t.now) text.entry)
+        (λ f. f ≡ yaml_text_fault_t.Memory) }
 {
     match text {
         None => Ok(None),
@@ -59,7 +61,8 @@ fn copy_directive(
     alloc: Global,
     directive: &yaml_tag_directive_t,
 ) -> Result<yaml_tag_directive_t, yaml_text_fault_t>
-    ensures { MatchResult result (λ copy. directive_of copy ≡ directive_of directive.now) (λ f. f ≡ yaml_text_fault_t.Memory) }
+    ensures { MatchResult result (λ copy. directive_of copy ≡ directive_of directive.now)
+        (λ f. f ≡ yaml_text_fault_t.Memory) }
 {
     let handle = copy_text(alloc, &directive.handle)?;
     let prefix = copy_text(alloc, &directive.prefix)?;
@@ -71,7 +74,8 @@ pub fn copy_directives(
     alloc: Global,
     directives: &[yaml_tag_directive_t],
 ) -> Result<Vec<yaml_tag_directive_t>, yaml_text_fault_t>
-    ensures { MatchResult result (λ copies. map directive_of copies.items ≡ map directive_of directives.now) (λ f. f ≡ yaml_text_fault_t.Memory) }
+    ensures { MatchResult result (λ copies. map directive_of copies.items ≡ map directive_of
+        directives.now) (λ f. f ≡ yaml_text_fault_t.Memory) }
 {
     let mut copies = Vec::new(alloc);
     for directive in directives {

@@ -22,7 +22,8 @@ use Rattle.yaml_round.specs.Input.{events_of, ending_of}
 abbrev pub text_and_form : {A : Type 0} → Vec ℕ A × yaml_form_t → List ℕ × yaml_form_t
 text_and_form answer = (answer.0.items, answer.1)
 
-abbrev pub text_and_maybe_form : {A : Type 0} → Vec ℕ A × Option yaml_form_t → List ℕ × Option yaml_form_t
+abbrev pub text_and_maybe_form : {A : Type 0} → Vec ℕ A × Option yaml_form_t → List ℕ
+    × Option yaml_form_t
 text_and_maybe_form answer = (answer.0.items, answer.1)
 
 abbrev pub bytes_of : {A : Type 0} → Vec ℕ A → List ℕ
@@ -57,25 +58,30 @@ abbrev pub SameContent : yaml_encoding_t → List ℕ → yaml_encoding_t → Li
 SameContent a_from a b_from b = contents (events_of a_from a) ≡ contents (events_of b_from b)
 
 -- both are accepted, and `same` tells whether their contents are equal
-pub record IsCompared (a_from : yaml_encoding_t) (a : List ℕ) (b_from : yaml_encoding_t) (b : List ℕ) (same : Bool) : Type 0 where
+pub record IsCompared (a_from : yaml_encoding_t) (a : List ℕ) (b_from : yaml_encoding_t)
+    (b : List ℕ) (same : Bool) : Type 0 where
   pub first : IsRight a_from a
   pub second : IsRight b_from b
   pub told : IsTrue same ↔ SameContent a_from a b_from b
 
 -- the first fault: that of the second input only where the first is accepted
-abbrev pub IsSideFaulty : yaml_encoding_t → List ℕ → yaml_encoding_t → List ℕ → yaml_side_t → Fault → Type 0
+abbrev pub IsSideFaulty : yaml_encoding_t → List ℕ → yaml_encoding_t → List ℕ → yaml_side_t → Fault
+    → Type 0
 IsSideFaulty a_from a b_from b First fault = IsFaulty a_from a fault
 IsSideFaulty a_from a b_from b Second fault = IsRight a_from a × IsFaulty b_from b fault
 
 -- the answer of a comparison
-abbrev pub IsSame : yaml_encoding_t → List ℕ → yaml_encoding_t → List ℕ → Result Bool (yaml_side_t × yaml_fault_t) → Type 0
+abbrev pub IsSame : yaml_encoding_t → List ℕ → yaml_encoding_t → List ℕ
+    → Result Bool (yaml_side_t × yaml_fault_t) → Type 0
 IsSame a_from a b_from b (Ok same) = IsCompared a_from a b_from b same
-IsSame a_from a b_from b (Err f) = IsMemoryFault f.1 ⊎ IsSideFaulty a_from a b_from b f.0 (fault_of f.1)
+IsSame a_from a b_from b (Err f) = IsMemoryFault f.1 ⊎ IsSideFaulty a_from a b_from b f.0
+    (fault_of f.1)
 
 -- ---- layouts
 
 -- These events are those of a stream in which nothing is wrong, and the text is its layout, which passes no limit.
-pub record IsLayout (requested_settings : RequestedSettings) (limit : ℕ) (events : List Event) (text : List ℕ) : Type 0 where
+pub record IsLayout (requested_settings : RequestedSettings) (limit : ℕ) (events : List Event)
+    (text : List ℕ) : Type 0 where
   pub encoding : Encoding
   pub whole : List Item
   pub stream : IsStream requested_settings encoding events whole
@@ -83,7 +89,8 @@ pub record IsLayout (requested_settings : RequestedSettings) (limit : ℕ) (even
   pub fits : Fits limit encoding whole
 
 -- They are, and its layout passes the limit that the fault names.
-pub record IsPast (requested_settings : RequestedSettings) (limit : ℕ) (events : List Event) (fault : Fault) : Type 0 where
+pub record IsPast (requested_settings : RequestedSettings) (limit : ℕ) (events : List Event)
+    (fault : Fault) : Type 0 where
   pub encoding : Encoding
   pub whole : List Item
   pub stream : IsStream requested_settings encoding events whole
@@ -91,16 +98,22 @@ pub record IsPast (requested_settings : RequestedSettings) (limit : ℕ) (events
 
 -- the layout of the input's events, normalized, in canonical form or in pretty form
 abbrev pub IsLaidOut : yaml_encoding_t → List ℕ → yaml_settings_t → Bool → List ℕ → Type 0
-IsLaidOut from input settings canonical text = IsRight from input × IsLayout (requested_under settings canonical) settings.limit (emitter_events canonical (events_of from input)) text
+IsLaidOut from input settings canonical text = IsRight from input
+    × IsLayout (requested_under settings canonical) settings.limit
+    (emitter_events canonical (events_of from input)) text
 
 -- The input is accepted, and that layout passes the limit that the fault names.
 abbrev pub IsTooLong : yaml_encoding_t → List ℕ → yaml_settings_t → Bool → Fault → Type 0
-IsTooLong from input settings canonical fault = IsRight from input × IsPast (requested_under settings canonical) settings.limit (emitter_events canonical (events_of from input)) fault
+IsTooLong from input settings canonical fault = IsRight from input
+    × IsPast (requested_under settings canonical) settings.limit
+    (emitter_events canonical (events_of from input)) fault
 
 -- the layout, the input's fault, or a limit
-abbrev pub IsWritten : yaml_encoding_t → List ℕ → yaml_settings_t → Bool → Result (List ℕ) Fault → Type 0
+abbrev pub IsWritten : yaml_encoding_t → List ℕ → yaml_settings_t → Bool → Result (List ℕ) Fault
+    → Type 0
 IsWritten from input settings canonical (Ok text) = IsLaidOut from input settings canonical text
-IsWritten from input settings canonical (Err fault) = IsFaulty from input fault ⊎ IsTooLong from input settings canonical fault
+IsWritten from input settings canonical (Err fault) = IsFaulty from input fault
+    ⊎ IsTooLong from input settings canonical fault
 
 -- ---- rewriting
 
@@ -116,16 +129,20 @@ IsReadBack from input text (Ok false) = ¬ ReadsBack from input text
 IsReadBack from input text (Err fault) = ⊥
 
 -- the input's pretty form doesn't read back
-pub record IsNotReadBack (from : yaml_encoding_t) (settings : yaml_settings_t) (input : List ℕ) : Type 0 where
+pub record IsNotReadBack (from : yaml_encoding_t) (settings : yaml_settings_t)
+    (input : List ℕ) : Type 0 where
   pub pretty : List ℕ
   pub laid : IsLaidOut from input settings false pretty
   pub differs : ¬ ReadsBack from input pretty
 
 -- the answer of the engine in canonical form
-abbrev pub IsInCanonicalForm : yaml_encoding_t → yaml_settings_t → List ℕ → Result (List ℕ × yaml_form_t) Fault → Type 0
-IsInCanonicalForm from settings input (Ok (text, Canonical)) = IsLaidOut from input settings true text
+abbrev pub IsInCanonicalForm : yaml_encoding_t → yaml_settings_t → List ℕ
+    → Result (List ℕ × yaml_form_t) Fault → Type 0
+IsInCanonicalForm from settings input (Ok (text, Canonical)) = IsLaidOut from input settings true
+    text
 IsInCanonicalForm from settings input (Ok (text, Pretty)) = ⊥
-IsInCanonicalForm from settings input (Err fault) = IsFaulty from input fault ⊎ IsTooLong from input settings true fault
+IsInCanonicalForm from settings input (Err fault) = IsFaulty from input fault
+    ⊎ IsTooLong from input settings true fault
 
 -- Canonical form is due: it is asked for, or the pretty form doesn't read back.
 abbrev pub IsCanonicalDue : Bool → yaml_encoding_t → yaml_settings_t → List ℕ → Type 0
@@ -134,9 +151,14 @@ IsCanonicalDue false from settings input = IsNotReadBack from settings input
 
 -- The engine may answer this to the input under the settings: the form that is due, the input's fault, or the limit that a
 -- form that is due passes.
-unfoldable pub IsReformatted : yaml_encoding_t → yaml_settings_t → List ℕ → Result (List ℕ × yaml_form_t) Fault → Type 0
-IsReformatted from settings input (Ok (text, Canonical)) = IsCanonicalDue settings.canonical from settings input × IsLaidOut from input settings true text
-IsReformatted from settings input (Ok (text, Pretty)) = (settings.canonical ≡ false) × (IsLaidOut from input settings false text × ReadsBack from input text)
+unfoldable pub IsReformatted : yaml_encoding_t → yaml_settings_t → List ℕ
+    → Result (List ℕ × yaml_form_t) Fault → Type 0
+IsReformatted from settings input (Ok (text, Canonical)) = IsCanonicalDue settings.canonical from
+    settings input × IsLaidOut from input settings true text
+IsReformatted from settings input (Ok (text, Pretty)) = (settings.canonical ≡ false)
+    × (IsLaidOut from input settings false text × ReadsBack from input text)
 IsReformatted from settings input (Err fault) =
     IsFaulty from input fault
-    ⊎ (((settings.canonical ≡ false) × IsTooLong from input settings false fault) ⊎ (IsCanonicalDue settings.canonical from settings input × IsTooLong from input settings true fault))
+    ⊎ (((settings.canonical ≡ false) × IsTooLong from input settings false fault)
+    ⊎ (IsCanonicalDue settings.canonical from settings input
+    × IsTooLong from input settings true fault))

@@ -11,11 +11,15 @@ use Rattle.yaml_round.specs.Answers.{IsReformatted, IsListed}
 use Rattle.yaml_round.specs.Reload.{IsReloaded}
 
 -- a run of the command may answer this
-abbrev pub IsRunAnswer : yaml_command_t → yaml_encoding_t → yaml_settings_t → List ℕ → Result (List ℕ × Option yaml_form_t) Fault → Type 0
-IsRunAnswer Fmt from settings input (Ok (text, Some form)) = IsReformatted from settings input (Ok (text, form))
+abbrev pub IsRunAnswer : yaml_command_t → yaml_encoding_t → yaml_settings_t → List ℕ
+    → Result (List ℕ × Option yaml_form_t) Fault → Type 0
+IsRunAnswer Fmt from settings input (Ok (text, Some form)) = IsReformatted from settings input
+    (Ok (text, form))
 IsRunAnswer Fmt from settings input (Ok (text, None)) = ⊥
 IsRunAnswer Fmt from settings input (Err fault) = IsReformatted from settings input (Err fault)
-IsRunAnswer Docs from settings input (Ok (text, form)) = (form ≡ Some Canonical) × IsReloaded from settings input (Ok text)
+IsRunAnswer Docs from settings input (Ok (text, form)) = (form ≡ Some Canonical)
+    × IsReloaded from settings input (Ok text)
 IsRunAnswer Docs from settings input (Err fault) = IsReloaded from settings input (Err fault)
-IsRunAnswer Events from settings input (Ok (text, form)) = (form ≡ None) × IsListed from input (Ok text)
+IsRunAnswer Events from settings input (Ok (text, form)) = (form ≡ None)
+    × IsListed from input (Ok text)
 IsRunAnswer Events from settings input (Err fault) = IsListed from input (Err fault)

@@ -32,7 +32,8 @@ pub record GoesOn (first second first_new second_new : ParserRemaining) : Type 0
   pub less : length first_new.events < length first.events
   pub first_ending : first_new.ending ≡ first.ending
   pub second_ending : second_new.ending ≡ second.ending
-  pub alike : (contents first.events ≡ contents second.events) ↔ (contents first_new.events ≡ contents second_new.events)
+  pub alike : (contents first.events ≡ contents second.events)
+      ↔ (contents first_new.events ≡ contents second_new.events)
 
 -- both are at their end
 pub record EndBoth (first second : ParserRemaining) : Type 0 where
@@ -49,9 +50,11 @@ pub record Differ (first second first_new second_new : ParserRemaining) : Type 0
   pub second_ending : second_new.ending ≡ second.ending
 
 -- the fault of a side; where the second is refused, the first's is still to come
-abbrev pub SideIs : ParserRemaining → ParserRemaining → ParserRemaining → yaml_side_t → yaml_fault_t → Type 0
+abbrev pub SideIs : ParserRemaining → ParserRemaining → ParserRemaining → yaml_side_t → yaml_fault_t
+    → Type 0
 SideIs first second first_new First f = IsFaultOf first.ending f
-SideIs first second first_new Second f = IsFaultOf second.ending f × ((first_new.ending ≡ first.ending) × AreReal first_new.events)
+SideIs first second first_new Second f = IsFaultOf second.ending f
+    × ((first_new.ending ≡ first.ending) × AreReal first_new.events)
 
 -- the second's next event says what that one does
 pub record GoesBeside (e : EventBody) (second second_new : ParserRemaining) : Type 0 where
@@ -72,7 +75,8 @@ pub record DiffersAlone (second second_new : ParserRemaining) : Type 0 where
   pub differ : contents second.events ≡ [] → ⊥
 
 -- the second's next event beside one that the first gave
-abbrev pub StepsBeside : EventBody → ParserRemaining → Next → yaml_fault_t → ParserRemaining → Type 0
+abbrev pub StepsBeside : EventBody → ParserRemaining → Next → yaml_fault_t → ParserRemaining
+    → Type 0
 StepsBeside e second Same f second_new = GoesBeside e second second_new
 StepsBeside e second End f second_new = ⊥
 StepsBeside e second Different f second_new = DiffersBeside e second second_new
@@ -88,7 +92,8 @@ StepsAlone second (Refused First) f second_new = ⊥
 StepsAlone second (Refused Second) f second_new = IsFaultOf second.ending f
 
 -- both steps; a fault stands in its slot
-abbrev pub StepsOn : ParserRemaining → ParserRemaining → Next → yaml_fault_t → ParserRemaining → ParserRemaining → Type 0
+abbrev pub StepsOn : ParserRemaining → ParserRemaining → Next → yaml_fault_t → ParserRemaining
+    → ParserRemaining → Type 0
 StepsOn first second Same f first_new second_new = GoesOn first second first_new second_new
 StepsOn first second End f first_new second_new = EndBoth first second
 StepsOn first second Different f first_new second_new = Differ first second first_new second_new
@@ -100,7 +105,8 @@ pub record Equal (first second : ParserRemaining) : Type 0 where
   pub first_ending : first.ending ≡ None
   pub second_ending : second.ending ≡ None
 
-abbrev pub Sided : ParserRemaining → ParserRemaining → Result Bool (yaml_side_t × yaml_fault_t) → ParserRemaining → ParserRemaining → Type 0
+abbrev pub Sided : ParserRemaining → ParserRemaining → Result Bool (yaml_side_t × yaml_fault_t)
+    → ParserRemaining → ParserRemaining → Type 0
 Sided first second (Ok true) first_new second_new = Equal first second
 Sided first second (Ok false) first_new second_new = Differ first second first_new second_new
 Sided first second (Err f) first_new second_new = SideIs first second first_new f.0 f.1
@@ -108,15 +114,18 @@ Sided first second (Err f) first_new second_new = SideIs first second first_new 
 -- neither has a fault, or the first fault: that of the second only where the first has none
 abbrev pub IsSideFault : ParserRemaining → ParserRemaining → yaml_side_t → yaml_fault_t → Type 0
 IsSideFault first second First f = IsFaultOf first.ending f
-IsSideFault first second Second f = IsMemoryFault f ⊎ ((first.ending ≡ None) × (second.ending ≡ Some (fault_of f)))
+IsSideFault first second Second f = IsMemoryFault f
+    ⊎ ((first.ending ≡ None) × (second.ending ≡ Some (fault_of f)))
 
-abbrev pub RunsOut : ParserRemaining → ParserRemaining → Result (Unit {0}) (yaml_side_t × yaml_fault_t) → Type 0
+abbrev pub RunsOut : ParserRemaining → ParserRemaining
+    → Result (Unit {0}) (yaml_side_t × yaml_fault_t) → Type 0
 RunsOut first second (Ok done) = (first.ending ≡ None) × (second.ending ≡ None)
 RunsOut first second (Err f) = IsSideFault first second f.0 f.1
 
 -- without a fault the contents differ
 abbrev pub Unlike : ParserRemaining → ParserRemaining → Type 0
-Unlike first second = first.ending ≡ None → second.ending ≡ None → contents first.events ≡ contents second.events → ⊥
+Unlike first second = first.ending ≡ None → second.ending ≡ None → contents first.events
+    ≡ contents second.events → ⊥
 
 abbrev pub ReadsAlike : ParserRemaining → ParserRemaining → Result Bool yaml_fault_t → Type 0
 ReadsAlike first second (Ok true) = Equal first second
@@ -129,6 +138,7 @@ pub record Tells (first second : ParserRemaining) (same : Bool) : Type 0 where
   pub second_ending : second.ending ≡ None
   pub told : IsTrue same ↔ (contents first.events ≡ contents second.events)
 
-abbrev pub Compares : ParserRemaining → ParserRemaining → Result Bool (yaml_side_t × yaml_fault_t) → Type 0
+abbrev pub Compares : ParserRemaining → ParserRemaining → Result Bool (yaml_side_t × yaml_fault_t)
+    → Type 0
 Compares first second (Ok same) = Tells first second same
 Compares first second (Err f) = IsSideFault first second f.0 f.1

@@ -15,9 +15,13 @@ counts_as_plain (Some tag) plain = false
 -- what a normalized event says
 abbrev pub content_of : EventBody → EventBody
 content_of (event.stream_start encoding) = event.stream_start YAML_ANY_ENCODING
-content_of (event.document_start version directives implicit) = event.document_start version directives true
+content_of (event.document_start version directives implicit) = event.document_start version
+    directives true
 content_of (event.document_end implicit) = event.document_end true
-content_of (event.scalar anchor tag value plain quoted style) = event.scalar anchor tag value (counts_as_plain tag plain) false YAML_ANY_SCALAR_STYLE
-content_of (event.sequence_start anchor tag implicit style) = event.sequence_start anchor tag true YAML_ANY_SEQUENCE_STYLE
-content_of (event.mapping_start anchor tag implicit style) = event.mapping_start anchor tag true YAML_ANY_MAPPING_STYLE
+content_of (event.scalar anchor tag value plain quoted style) = event.scalar anchor tag value
+    (counts_as_plain tag plain) false YAML_ANY_SCALAR_STYLE
+content_of (event.sequence_start anchor tag implicit style) = event.sequence_start anchor tag true
+    YAML_ANY_SEQUENCE_STYLE
+content_of (event.mapping_start anchor tag implicit style) = event.mapping_start anchor tag true
+    YAML_ANY_MAPPING_STYLE
 content_of other = other

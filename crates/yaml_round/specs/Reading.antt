@@ -72,5 +72,6 @@ EndsWith ending (Err f) = IsFaultOf ending f
 
 -- a line for each event was added, where no fault ends them
 abbrev pub AddsLines : ParserRemaining → List ℕ → Result (Unit {0}) yaml_fault_t → List ℕ → Type 0
-AddsLines reading old (Ok done) new = (reading.ending ≡ None) × (new ≡ old ++ event_lines reading.events)
+AddsLines reading old (Ok done) new = (reading.ending ≡ None)
+    × (new ≡ old ++ event_lines reading.events)
 AddsLines reading old (Err f) new = IsFaultOf reading.ending f

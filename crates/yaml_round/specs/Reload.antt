@@ -36,7 +36,10 @@ with_implicit_end d = record d { end_implicit = true }
 -- A document in front of the others. One without a root would end them.
 abbrev pub in_front : List Node → Document → Loads → Loads
 in_front [] d rest = no_more None
-in_front (n ∷ ns) d rest = record { documents = with_implicit_end d ∷ rest.documents; fault = rest.fault }
+in_front (n ∷ ns) d rest = record {
+  documents = with_implicit_end d ∷ rest.documents;
+  fault = rest.fault;
+}
 
 abbrev pub load_on : Fed → (Loading → Loads) → Loads
 load_on (goes_on l) rest = rest l
@@ -63,14 +66,20 @@ written_events ds = stream_events YAML_ANY_ENCODING (map graph_content ds)
 
 -- The layout of the documents in canonical form, or a limit that it passes.
 abbrev pub IsDumped : yaml_settings_t → List Document → Result (List ℕ) Fault → Type 0
-IsDumped settings ds (Ok text) = IsLayout (requested_under settings true) settings.limit (written_events ds) text
-IsDumped settings ds (Err fault) = IsPast (requested_under settings true) settings.limit (written_events ds) fault
+IsDumped settings ds (Ok text) = IsLayout (requested_under settings true) settings.limit
+    (written_events ds) text
+IsDumped settings ds (Err fault) = IsPast (requested_under settings true) settings.limit
+    (written_events ds) fault
 
 -- The input's documents, laid out; the fault that ends them; or, where none does, a limit that the layout passes.
-unfoldable pub IsReloaded : yaml_encoding_t → yaml_settings_t → List ℕ → Result (List ℕ) Fault → Type 0
-IsReloaded from settings input (Ok text) = ((loads_of from input).fault ≡ None) × IsDumped settings (loads_of from input).documents (Ok text)
+unfoldable pub IsReloaded : yaml_encoding_t → yaml_settings_t → List ℕ → Result (List ℕ) Fault
+    → Type 0
+IsReloaded from settings input (Ok text) = ((loads_of from input).fault ≡ None)
+    × IsDumped settings (loads_of from input).documents (Ok text)
 IsReloaded from settings input (Err fault) =
-    ((loads_of from input).fault ≡ Some fault) ⊎ (((loads_of from input).fault ≡ None) × IsDumped settings (loads_of from input).documents (Err fault))
+    ((loads_of from input).fault ≡ Some fault)
+    ⊎ (((loads_of from input).fault ≡ None) × IsDumped settings (loads_of from input).documents
+    (Err fault))
 
 -- ---- the steps
 
@@ -79,19 +88,25 @@ HasRoot d = 0 < length d.nodes
 
 -- the next document was loaded, and the others are left
 pub record LoadsDocument (d : Document) (old new : ParserRemaining) : Type 0 where
-  pub same : to_load old ≡ record { documents = d ∷ (to_load new).documents; fault = (to_load new).fault }
+  pub same : to_load old ≡ record {
+    documents = d ∷ (to_load new).documents;
+    fault = (to_load new).fault;
+  }
   pub less : length new.events < length old.events
   pub rooted : HasRoot d
 
-abbrev pub LoadsNext : ParserRemaining → Result (Option Document) yaml_fault_t → ParserRemaining → Type 0
+abbrev pub LoadsNext : ParserRemaining → Result (Option Document) yaml_fault_t → ParserRemaining
+    → Type 0
 LoadsNext old (Ok (Some d)) new = LoadsDocument d old new
 LoadsNext old (Ok None) new = to_load old ≡ no_more None
 LoadsNext old (Err f) new = IsMemoryFault f ⊎ (to_load old ≡ no_more (Some (fault_of f)))
 
 -- Each layout of the documents in canonical form, or a limit that each passes.
 abbrev pub IsEachDump : yaml_settings_t → List Document → Result (List ℕ) Fault → Type 0
-IsEachDump settings ds (Ok text) = IsEachLayout (requested_under settings true) settings.limit (written_events ds) text
-IsEachDump settings ds (Err fault) = IsPastEach (requested_under settings true) settings.limit (written_events ds) fault
+IsEachDump settings ds (Ok text) = IsEachLayout (requested_under settings true) settings.limit
+    (written_events ds) text
+IsEachDump settings ds (Err fault) = IsPastEach (requested_under settings true) settings.limit
+    (written_events ds) fault
 
 -- all documents of an input
 pub record AreLoaded (from : yaml_encoding_t) (input : List ℕ) (ds : List Document) : Type 0 where
@@ -103,9 +118,11 @@ IsLoaded from input (Ok ds) = AreLoaded from input ds
 IsLoaded from input (Err f) = (loads_of from input).fault ≡ Some f
 
 -- With these events to come from one emitter and those from the other, the text is the same.
-pub record Feeds (old : Emitter) (before : List Event) (new : Emitter) (after : List Event) : Type 0 where
-  pub completes : (x : Encoding) (whole : List Item) → Completes old x before whole → Completes new x after whole
-  pub limit : new.limit ≡ old.limit
+pub record Feeds (old : Emitter) (before : List Event) (new : Emitter) (after : List Event) : Type 0
+  where
+    pub completes : (x : Encoding) (whole : List Item) → Completes old x before whole
+        → Completes new x after whole
+    pub limit : new.limit ≡ old.limit
 
 -- documents were given, and the end of the stream is to come; or a fault has come before
 pub record Stands (e : Emitter) : Type 0 where
@@ -113,8 +130,10 @@ pub record Stands (e : Emitter) : Type 0 where
   pub closed : e.closed ≡ false
 
 abbrev pub Dumps : Emitter → List Document → Bool → Emitter → Type 0
-Dumps old ds true new = Feeds old (documents_events (map graph_content ds)) new (stream_end ∷ []) × Stands new
-Dumps old ds false new = (left : List Event) × (Feeds old (documents_events (map graph_content ds)) new left × (new.fault ≡ None → ⊥))
+Dumps old ds true new = Feeds old (documents_events (map graph_content ds)) new (stream_end ∷ [])
+    × Stands new
+Dumps old ds false new = (left : List Event)
+    × (Feeds old (documents_events (map graph_content ds)) new left × (new.fault ≡ None → ⊥))
 
 -- the whole stream was given, or a fault has come
 pub record DumpsStream (old : Emitter) (ds : List Document) (new : Emitter) : Type 0 where

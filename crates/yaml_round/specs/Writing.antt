@@ -48,18 +48,23 @@ pub record IsUnder (e : Emitter) (w : RequestedSettings) (most : ℕ) : Type 0 w
 -- ---- events that are given
 
 -- With these events to come, normalized, from one emitter and those from the other, the text is the same.
-pub record Leads (ends : Bool) (old : Emitter) (before : List Told) (new : Emitter) (after : List Told) : Type 0 where
-  pub completes : (x : Encoding) (whole : List Item) → Completes old x (emitter_events ends before) whole → Completes new x (emitter_events ends after) whole
+pub record Leads (ends : Bool) (old : Emitter) (before : List Told) (new : Emitter)
+    (after : List Told) : Type 0 where
+  pub completes : (x : Encoding) (whole : List Item) → Completes old x (emitter_events ends before)
+      whole → Completes new x (emitter_events ends after) whole
   pub limit : new.limit ≡ old.limit
 
 -- the reading's events were given to the emitter: all of them, or a front of them
-abbrev pub Writes : Bool → ParserRemaining → Emitter → Result Bool yaml_fault_t → ParserRemaining → Emitter → Type 0
+abbrev pub Writes : Bool → ParserRemaining → Emitter → Result Bool yaml_fault_t → ParserRemaining
+    → Emitter → Type 0
 Writes ends r e (Ok true) r' e' = (r.ending ≡ None) × Leads ends e r.events e' []
-Writes ends r e (Ok false) r' e' = (r'.ending ≡ r.ending) × (AreReal r'.events × Leads ends e r.events e' r'.events)
+Writes ends r e (Ok false) r' e' = (r'.ending ≡ r.ending)
+    × (AreReal r'.events × Leads ends e r.events e' r'.events)
 Writes ends r e (Err f) r' e' = IsFaultOf r.ending f
 
 -- all of the reading's events were given to the emitter
-abbrev pub WritesAll : Bool → ParserRemaining → Emitter → Result (Unit {0}) yaml_fault_t → Emitter → Type 0
+abbrev pub WritesAll : Bool → ParserRemaining → Emitter → Result (Unit {0}) yaml_fault_t → Emitter
+    → Type 0
 WritesAll ends r e (Ok done) e' = (r.ending ≡ None) × Leads ends e r.events e' []
 WritesAll ends r e (Err f) e' = IsFaultOf r.ending f
 
@@ -70,15 +75,20 @@ pub record IsText (limit : ℕ) (x : Encoding) (whole : List Item) (text : List 
 
 -- the emitter's text, where it is whole, or its fault: a limit that each text that the emitter completes passes, or want of memory
 abbrev pub Finishes : Emitter → Result (Vec ℕ Global) yaml_fault_t → Type 0
-Finishes e (Ok text) = (e.fault ≡ None) × ((x : Encoding) (whole : List Item) → Completes e x [] whole → IsText e.limit x whole text.items)
+Finishes e (Ok text) = (e.fault ≡ None)
+    × ((x : Encoding) (whole : List Item) → Completes e x [] whole
+    → IsText e.limit x whole text.items)
 Finishes e (Err f) = IsLimited e (fault_of f)
 
 -- ---- texts of events
 
 -- The text is each layout of these events, where they are a stream's in which nothing is wrong, and passes no limit.
 abbrev pub IsEachLayout : RequestedSettings → ℕ → List Event → List ℕ → Type 0
-IsEachLayout requested_settings limit events text = (x : Encoding) (whole : List Item) → IsStream requested_settings x events whole → IsText limit x whole text
+IsEachLayout requested_settings limit events text = (x : Encoding) (whole : List Item)
+    → IsStream requested_settings x events whole → IsText limit x whole text
 
 -- The fault names a limit that each of them passes.
 abbrev pub IsPastEach : RequestedSettings → ℕ → List Event → Fault → Type 0
-IsPastEach requested_settings limit events fault = (x : Encoding) (whole : List Item) → IsStream requested_settings x events whole → Passes limit (encode x whole) (is_deep whole) fault
+IsPastEach requested_settings limit events fault = (x : Encoding) (whole : List Item)
+    → IsStream requested_settings x events whole → Passes limit (encode x whole) (is_deep whole)
+    fault

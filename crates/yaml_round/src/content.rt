@@ -47,7 +47,8 @@ fn same_directives(a: &[yaml_tag_directive_t], b: &[yaml_tag_directive_t]) -> bo
 
 // Whether two scalars without tag count as plain alike; tagged ones do.
 fn same_flag(tag: &Option<Vec<u8>>, a: bool, b: bool) -> bool
-    ensures { IsTrue result ↔ (counts_as_plain (text_of tag.now) a ≡ counts_as_plain (text_of tag.now) b) }
+    ensures { IsTrue result ↔ (counts_as_plain (text_of tag.now) a ≡ counts_as_plain
+        (text_of tag.now) b) }
 {
     match tag {
         None => a == b,
@@ -57,7 +58,8 @@ fn same_flag(tag: &Option<Vec<u8>>, a: bool, b: bool) -> bool
 
 /// Whether two normalized events say the same: styles and document marks aside, and of a tagged scalar the flags.
 pub(crate) fn agree(a: &yaml_event_t, b: &yaml_event_t) -> bool
-    ensures { IsTrue result ↔ (content_of (event_of a.now).body ≡ content_of (event_of b.now).body) }
+    ensures { IsTrue result ↔ (content_of (event_of a.now).body ≡ content_of
+        (event_of b.now).body) }
 {
     match (&a.body, &b.body) {
         (yaml_event_body_t::No, yaml_event_body_t::No)

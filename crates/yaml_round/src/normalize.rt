@@ -20,7 +20,10 @@ fn is_lone(tag: &Option<Vec<u8>>, value: &[u8]) -> bool
 /// Normalizes the event: an empty scalar with the tag `!` is untagged and plain-implicit; where `ends` is set every
 /// document's end is implicit.
 pub(crate) fn normalize(event: &mut yaml_event_t, ends: bool)
-    ensures normalized { event_of event.new ≡ record (event_of event.old) { body = normalize_body ends (event_of event.old).body } }
+    ensures normalized { event_of event.new ≡ record (event_of event.old) {
+      body = normalize_body
+          ends (event_of event.old).body;
+    } }
     ensures utf8 { HasUtf8 (event_of event.old).body → HasUtf8 (event_of event.new).body }
 {
     match &mut event.body {

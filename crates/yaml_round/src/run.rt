@@ -55,8 +55,10 @@ pub fn yaml_run<I: yaml_input_t, O: yaml_output_t>(
     settings: &yaml_settings_t,
     input_limit: u64,
 ) -> Result<Option<yaml_form_t>, yaml_run_fault_t>
-    ensures runs { Runs (I.to_come input.old) (I.to_come input.new) (O.received output.old) (O.received output.new) input_limit (IsRunAnswer command from settings.now) result }
-    ensures failures { FailsBy (I.has_failed input.old) (I.has_failed input.new) (O.has_failed output.old) (O.has_failed output.new) result }
+    ensures runs { Runs (I.to_come input.old) (I.to_come input.new) (O.received output.old)
+        (O.received output.new) input_limit (IsRunAnswer command from settings.now) result }
+    ensures failures { FailsBy (I.has_failed input.old) (I.has_failed input.new)
+        (O.has_failed output.old) (O.has_failed output.new) result }
 
     // Before the writing the output isn't touched, whether or not it tells its bytes.
     ensures untouched { IfErr result (λ fault. IsBeforeWriting fault → output.new ≡ output.old) }
@@ -81,7 +83,8 @@ pub fn yaml_text_of(
     settings: &yaml_settings_t,
     input_limit: u64,
 ) -> Result<(Vec<u8>, Option<yaml_form_t>), yaml_run_fault_t>
-    ensures text { IfOk result (λ answer. IsRunAnswer command from settings.now bytes.now (Ok (answer.0.items, answer.1))) }
+    ensures text { IfOk result (λ answer. IsRunAnswer command from settings.now bytes.now
+        (Ok (answer.0.items, answer.1))) }
     ensures long { IsErrOf result yaml_run_fault_t.TooLong → input_limit < length bytes.now }
 {
     let mut input = yaml_std_input_t::new(bytes);

@@ -41,7 +41,8 @@ pub(crate) fn emitter_under(
     settings: &yaml_settings_t,
     canonical: bool,
 ) -> Result<yaml_emitter_t, yaml_fault_t>
-    ensures under { IfOk result (λ e. IsUnder e (requested_under settings.now canonical) settings.now.limit) }
+    ensures under { IfOk result (λ e. IsUnder e (requested_under settings.now canonical)
+        settings.now.limit) }
     ensures memory { IfErr result IsMemoryFault }
 {
     let Ok(mut emitter) = yaml_emitter_initialize(alloc, settings.limit) else {
@@ -67,7 +68,8 @@ fn give(emitter: &mut yaml_emitter_t, event: &mut yaml_event_t)
 // Gives the event in the slot, normalized.
 fn give_normalized(emitter: &mut yaml_emitter_t, event: &mut yaml_event_t, canonical: bool)
     requires { HasUtf8 (event_of event.old).body }
-    ensures { Given emitter.old (emitter_event (normalize_body canonical (event_of event.old).body)) emitter.new }
+    ensures { Given emitter.old (emitter_event (normalize_body canonical (event_of event.old).body))
+        emitter.new }
 {
     normalize(event, canonical);
     give(emitter, event);

@@ -34,7 +34,8 @@ with_token t c = record { tokens = t ∷ c.tokens; fault = c.fault }
 -- the tokens up to the first tag that isn't UTF-8, which its fault takes the place of
 abbrev pub cut : Option Fault → List Token → Remaining
 cut fault [] = record { tokens = []; fault = fault }
-cut fault (t ∷ ts) = if spells_text t.body then with_token t (cut fault ts) else record { tokens = []; fault = Some (tag_fault t.start_mark) }
+cut fault (t ∷ ts) = if spells_text t.body then with_token t (cut fault ts)
+    else record { tokens = []; fault = Some (tag_fault t.start_mark) }
 
 abbrev pub adapted : Remaining → Remaining
 adapted c = cut c.fault c.tokens

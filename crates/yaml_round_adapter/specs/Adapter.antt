@@ -21,7 +21,8 @@ pub record TakesText (old : View) (t : Token) (new : View) : Type 0 where
 
 -- the session's own fault, or that of the next token's tag
 abbrev pub Stops : Remaining → Fault → Type 0
-Stops c f = IsTold c f ⊎ ((spells_text (first_of c.tokens).body ≡ false) × (f ≡ tag_fault (first_of c.tokens).start_mark))
+Stops c f = IsTold c f ⊎ ((spells_text (first_of c.tokens).body ≡ false)
+    × (f ≡ tag_fault (first_of c.tokens).start_mark))
 
 abbrev pub Adapts : View → View → Result yaml_token_t yaml_fault_t → Type 0
 Adapts old new (Ok t) = TakesText old (token_of t) new

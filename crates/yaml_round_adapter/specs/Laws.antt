@@ -10,17 +10,23 @@ use Rattle.yaml_round_adapter.specs.Adapted.{spells_text, tag_fault, adapted}
 
 -- Its texts are UTF-8.
 abbrev pub AdaptedIsUtf8 : Type 0
-AdaptedIsUtf8 = (s : SpelledText) → IsUtf8 s.text → (dropped given : ℕ) → All (λ t. HasUtf8 t.body) (adapted (remaining s dropped given)).tokens
+AdaptedIsUtf8 = (s : SpelledText) → IsUtf8 s.text → (dropped given : ℕ)
+    → All (λ t. HasUtf8 t.body) (adapted (remaining s dropped given)).tokens
 
 -- The first token that is to come is given where its tag is UTF-8, and the rest is left.
 abbrev pub FrontIsGiven : Type 0
-FrontIsGiven = (old new : Remaining) (t : Token) → t ≡ front_of old.tokens → new.tokens ≡ rest_of old.tokens → new.fault ≡ old.fault → MayAnswer old.tokens old.fault
-    → HasTexts t.body → spells_text t.body ≡ true → GivesToken (adapted old).tokens (adapted old).fault t (adapted new).tokens (adapted new).fault
+FrontIsGiven = (old new : Remaining) (t : Token) → t ≡ front_of old.tokens
+    → new.tokens ≡ rest_of old.tokens → new.fault ≡ old.fault → MayAnswer old.tokens old.fault
+    → HasTexts t.body → spells_text t.body ≡ true → GivesToken (adapted old).tokens
+    (adapted old).fault t (adapted new).tokens (adapted new).fault
 
 -- Where its tag isn't UTF-8, its fault is given, and nothing is left.
 abbrev pub TagIsRefused : Type 0
-TagIsRefused = (old : Remaining) (t : Token) → t ≡ front_of old.tokens → spells_text t.body ≡ false → GivesFault (adapted old).tokens (adapted old).fault (tag_fault t.start_mark) [] None
+TagIsRefused = (old : Remaining) (t : Token) → t ≡ front_of old.tokens → spells_text t.body ≡ false
+    → GivesFault (adapted old).tokens (adapted old).fault (tag_fault t.start_mark) [] None
 
 -- A fault that is to come, and want of memory, is given as it is.
 abbrev pub FaultIsGiven : Type 0
-FaultIsGiven = (old : Remaining) (f : Fault) → (f.kind ≡ YAML_MEMORY_ERROR) ⊎ ((old.tokens ≡ []) × (old.fault ≡ Some f)) → GivesFault (adapted old).tokens (adapted old).fault f [] None
+FaultIsGiven = (old : Remaining) (f : Fault) → (f.kind ≡ YAML_MEMORY_ERROR)
+    ⊎ ((old.tokens ≡ []) × (old.fault ≡ Some f)) → GivesFault (adapted old).tokens
+    (adapted old).fault f [] None

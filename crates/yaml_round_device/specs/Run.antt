@@ -20,23 +20,32 @@ IsReadFault to_come has_failed limit (Yaml fault) = fault.kind ≡ YAML_MEMORY_E
 IsReadFault to_come has_failed limit (Write written) = ⊥
 
 -- this is an answer to all that the input gave
-pub record AnswersAll {X : Type 0} (to_come rest : Option (List ℕ)) (limit : ℕ) (IsAnswer : List ℕ → X → Type 0) (said : X) : Type 0 where
+pub record AnswersAll {X : Type 0} (to_come rest : Option (List ℕ)) (limit : ℕ) (IsAnswer : List ℕ
+    → X → Type 0) (said : X) : Type 0 where
   pub input : List ℕ
   pub all : GivesAll to_come rest limit input
   pub answered : IsAnswer input said
 
 -- what the output received, and why, told by a run's answer
-abbrev pub Runs : {F : Type 0} → Option (List ℕ) → Option (List ℕ) → Option (List ℕ) → Option (List ℕ) → ℕ → (List ℕ → Result (List ℕ × F) Fault → Type 0) → Result F yaml_run_fault_t → Type 0
-Runs to_come rest before after limit IsAnswer (Ok form) = (text : List ℕ) × AnswersAll to_come rest limit IsAnswer (Ok (text, form)) × Appends before after text
+abbrev pub Runs : {F : Type 0} → Option (List ℕ) → Option (List ℕ) → Option (List ℕ)
+    → Option (List ℕ) → ℕ → (List ℕ → Result (List ℕ × F) Fault → Type 0)
+    → Result F yaml_run_fault_t → Type 0
+Runs to_come rest before after limit IsAnswer (Ok form) = (text : List ℕ)
+    × AnswersAll to_come rest limit IsAnswer (Ok (text, form)) × Appends before after text
 Runs {F} to_come rest before after limit IsAnswer (Err (Write written)) =
-    (text : List ℕ) × (form : F) × AnswersAll to_come rest limit IsAnswer (Ok (text, form)) × (written ≤ length text) × Appends before after (take written text)
-Runs to_come rest before after limit IsAnswer (Err (Yaml fault)) = Keeps before after × ((fault.kind ≡ YAML_MEMORY_ERROR) ⊎ AnswersAll to_come rest limit IsAnswer (Err (fault_of fault)))
-Runs to_come rest before after limit IsAnswer (Err TooLong) = Keeps before after × IfSome to_come (λ bytes. limit < length bytes)
+    (text : List ℕ) × (form : F) × AnswersAll to_come rest limit IsAnswer (Ok (text, form))
+    × (written ≤ length text) × Appends before after (take written text)
+Runs to_come rest before after limit IsAnswer (Err (Yaml fault)) = Keeps before after
+    × ((fault.kind ≡ YAML_MEMORY_ERROR) ⊎ AnswersAll to_come rest limit IsAnswer
+    (Err (fault_of fault)))
+Runs to_come rest before after limit IsAnswer (Err TooLong) = Keeps before after
+    × IfSome to_come (λ bytes. limit < length bytes)
 Runs to_come rest before after limit IsAnswer (Err Read) = Keeps before after
 
 -- which device has failed, told by a run's answer
 abbrev pub FailsBy : {F : Type 0} → Bool → Bool → Bool → Bool → Result F yaml_run_fault_t → Type 0
-FailsBy input_old input_new output_old output_new (Ok form) = (input_new ≡ input_old) × (output_new ≡ output_old)
+FailsBy input_old input_new output_old output_new (Ok form) = (input_new ≡ input_old)
+    × (output_new ≡ output_old)
 FailsBy input_old input_new output_old output_new (Err Read) = input_new ≡ true
 FailsBy input_old input_new output_old output_new (Err (Write written)) = output_new ≡ true
 FailsBy input_old input_new output_old output_new (Err TooLong) = Unit {0}

@@ -20,7 +20,8 @@ pub trait yaml_input_t {
     fn get(&mut self, buf: &mut [u8]) -> Result<usize, yaml_device_fault_t>
         ensures bound { IfOk result (λ n. n ≤ length buf.new) }
         ensures bytes { ReadConsumes (to_come self.old) (to_come self.new) result buf.new }
-        ensures failure { MatchResult result (λ _. has_failed self.new ≡ has_failed self.old) (λ _. has_failed self.new ≡ true) };
+        ensures failure { MatchResult result (λ _. has_failed self.new ≡ has_failed self.old)
+            (λ _. has_failed self.new ≡ true) };
 }
 
 /// What takes bytes. It means the bytes received, where they are told, and whether it has failed.
@@ -37,10 +38,12 @@ pub trait yaml_output_t {
         ensures bound { IfOk result (λ n. n ≤ length piece.now) }
         ensures some { IfOk result (λ n. 0 < length piece.now → 0 < n) }
         ensures bytes { WriteAppends (received self.old) (received self.new) result piece.now }
-        ensures failure { MatchResult result (λ _. has_failed self.new ≡ has_failed self.old) (λ _. has_failed self.new ≡ true) };
+        ensures failure { MatchResult result (λ _. has_failed self.new ≡ has_failed self.old)
+            (λ _. has_failed self.new ≡ true) };
 
     /// Nothing more comes: what was taken is passed on.
     fn finish(&mut self) -> Result<(), yaml_device_fault_t>
         ensures bytes { Keeps (received self.old) (received self.new) }
-        ensures failure { MatchResult result (λ _. has_failed self.new ≡ has_failed self.old) (λ _. has_failed self.new ≡ true) };
+        ensures failure { MatchResult result (λ _. has_failed self.new ≡ has_failed self.old)
+            (λ _. has_failed self.new ≡ true) };
 }

@@ -55,7 +55,8 @@ impl<R: Read> yaml_input_t for yaml_std_input_t<R> {
 // One read, tried again where it is interrupted.
 fn read_tried_again<R: Read>(reader: &mut R, buf: &mut [u8]) -> Result<usize, yaml_device_fault_t>
     ensures bound { IfOk result (λ n. n ≤ length buf.new) }
-    ensures ok { IfOk result (λ n. Consumes (R.remaining reader.old) (R.remaining reader.new) (take n buf.new)) }
+    ensures ok { IfOk result (λ n. Consumes (R.remaining reader.old) (R.remaining reader.new)
+        (take n buf.new)) }
     ensures end { IfOk result (λ n. n ≡ 0 → 0 < length buf.old → IsAtEnd (R.remaining reader.new)) }
     ensures err { OnErr result (Keeps (R.remaining reader.old) (R.remaining reader.new)) }
 {
@@ -127,7 +128,8 @@ impl<W: Write> yaml_output_t for yaml_std_output_t<W> {
 fn write_tried_again<W: Write>(writer: &mut W, piece: &[u8]) -> Result<usize, yaml_device_fault_t>
     ensures bound { IfOk result (λ n. n ≤ length piece.now) }
     ensures some { IfOk result (λ n. 0 < length piece.now → 0 < n) }
-    ensures ok { IfOk result (λ n. Appends (W.contents writer.old) (W.contents writer.new) (take n piece.now)) }
+    ensures ok { IfOk result (λ n. Appends (W.contents writer.old) (W.contents writer.new)
+        (take n piece.now)) }
     ensures err { OnErr result (Keeps (W.contents writer.old) (W.contents writer.new)) }
 {
     if piece.is_empty() {

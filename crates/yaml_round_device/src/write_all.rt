@@ -11,7 +11,8 @@ pub fn yaml_write_all<O: yaml_output_t>(output: &mut O, text: &[u8]) -> Result<(
     ensures sound { OnOk result (O.has_failed output.new ≡ O.has_failed output.old) }
     ensures failed { IfErr result (λ _. O.has_failed output.new ≡ true) }
     ensures within { IfErr result (λ written. written ≤ length text.now) }
-    ensures front { IfErr result (λ written. Appends (O.received output.old) (O.received output.new) (take written text.now)) }
+    ensures front { IfErr result (λ written. Appends (O.received output.old) (O.received output.new)
+        (take written text.now)) }
 {
     let mut written = 0;
     while written < text.len() {

@@ -7,7 +7,8 @@ use Rattle.yaml_emit_laws_streams.specs.parse.Events as event
 abbrev pub IsNormalized : EventBody → EventBody → Type 0
 IsNormalized (event.document_end implicit) new = (ends : Bool) × (new ≡ event.document_end ends)
 IsNormalized (event.scalar anchor tag value plain quoted style) new =
-    (new ≡ event.scalar anchor tag value plain quoted style) ⊎ (new ≡ event.scalar anchor None value true false style)
+    (new ≡ event.scalar anchor tag value plain quoted style)
+    ⊎ (new ≡ event.scalar anchor None value true false style)
 IsNormalized old new = new ≡ old
 
 abbrev pub IsNormalizing : (EventBody → EventBody) → Type 0

@@ -49,13 +49,17 @@ abbrev pub event_text : EventBody → List ℕ
 event_text event.no = []
 event_text (event.stream_start encoding) = codes "+STR"
 event_text event.stream_end = codes "-STR"
-event_text (event.document_start version directives implicit) = codes "+DOC" ++ mark_part implicit (codes " ---")
+event_text (event.document_start version directives implicit) = codes "+DOC" ++ mark_part implicit
+    (codes " ---")
 event_text (event.document_end implicit) = codes "-DOC" ++ mark_part implicit (codes " ...")
 event_text (event.alias anchor) = codes "=ALI *" ++ anchor
-event_text (event.scalar anchor tag value plain quoted style) = codes "=VAL" ++ anchor_part anchor ++ tag_part tag ++ (32 ∷ indicator_of style ∷ []) ++ escaped value
-event_text (event.sequence_start anchor tag implicit style) = codes "+SEQ" ++ anchor_part anchor ++ tag_part tag
+event_text (event.scalar anchor tag value plain quoted style) = codes "=VAL" ++ anchor_part anchor
+    ++ tag_part tag ++ (32 ∷ indicator_of style ∷ []) ++ escaped value
+event_text (event.sequence_start anchor tag implicit style) = codes "+SEQ" ++ anchor_part anchor
+    ++ tag_part tag
 event_text event.sequence_end = codes "-SEQ"
-event_text (event.mapping_start anchor tag implicit style) = codes "+MAP" ++ anchor_part anchor ++ tag_part tag
+event_text (event.mapping_start anchor tag implicit style) = codes "+MAP" ++ anchor_part anchor
+    ++ tag_part tag
 event_text event.mapping_end = codes "-MAP"
 
 abbrev pub event_line : EventBody → List ℕ

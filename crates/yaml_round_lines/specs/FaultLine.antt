@@ -19,12 +19,14 @@ headline YAML_EMITTER_ERROR = codes "emitter error"
 
 -- a place in a text, counted from 1
 abbrev pub place : yaml_mark_t → List ℕ
-place mark = codes " (line " ++ decimal (mark.line + 1) ++ codes ", column " ++ decimal (mark.column + 1) ++ codes ")"
+place mark = codes " (line " ++ decimal (mark.line + 1) ++ codes ", column " ++ decimal
+    (mark.column + 1) ++ codes ")"
 
 -- the offset, and the value that stands there unless it is -1
 abbrev pub bytes_place : ℕ → ℤ → List ℕ
 bytes_place offset (negsuc zero) = codes " (byte " ++ decimal offset ++ codes ")"
-bytes_place offset number = codes " (byte " ++ decimal offset ++ codes ", value " ++ signed_decimal number ++ codes ")"
+bytes_place offset number = codes " (byte " ++ decimal offset ++ codes ", value " ++ signed_decimal
+    number ++ codes ")"
 
 -- the same by its parts
 abbrev pub problem_place_of : yaml_error_type_t → ℕ → ℤ → yaml_mark_t → List ℕ
@@ -45,7 +47,8 @@ context_part (Some context) mark = codes ": " ++ context ++ place mark
 
 -- what follows the kind; nothing where memory ran out
 abbrev pub details : Fault → List ℕ
-details fault = context_part fault.context fault.context_mark ++ codes ": " ++ fault.problem ++ problem_place fault
+details fault = context_part fault.context fault.context_mark ++ codes ": " ++ fault.problem
+    ++ problem_place fault
 
 abbrev pub details_unless_memory : yaml_error_type_t → List ℕ → List ℕ
 details_unless_memory YAML_MEMORY_ERROR rest = []

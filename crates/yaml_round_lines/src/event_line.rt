@@ -111,7 +111,8 @@ fn push_bytes(line: &mut Vec<u8>, text: &[u8]) -> Result<(), AllocError>
 // Adds the kept bytes in front, and the byte behind them; the answer is the rest.
 fn push_run<'a>(line: &mut Vec<u8>, left: &'a [u8]) -> Result<&'a [u8], AllocError>
     requires { 0 < length left.now }
-    ensures text { IfOk result (λ rest. line.new.items ++ escaped rest.now ≡ line.old.items ++ escaped left.now) }
+    ensures text { IfOk result (λ rest. line.new.items ++ escaped rest.now ≡ line.old.items
+        ++ escaped left.now) }
     ensures shorter { IfOk result (λ rest. length rest.now < length left.now) }
 {
     let count = kept_length(left);
@@ -191,7 +192,8 @@ fn push_some_properties(
     anchor: &Option<Vec<u8>>,
     tag: &Option<Vec<u8>>,
 ) -> Result<(), AllocError>
-    ensures { OnOk result (line.new.items ≡ line.old.items ++ (anchor_part (text_of anchor.now) ++ tag_part (text_of tag.now))) }
+    ensures { OnOk result (line.new.items ≡ line.old.items
+        ++ (anchor_part (text_of anchor.now) ++ tag_part (text_of tag.now))) }
 {
     push_anchor(line, anchor)?;
     push_tag(line, tag)
@@ -205,7 +207,8 @@ fn push_properties(
     anchor: &Option<Vec<u8>>,
     tag: &Option<Vec<u8>>,
 ) -> Result<(), AllocError>
-    ensures { OnOk result (line.new.items ≡ line.old.items ++ (anchor_part (text_of anchor.now) ++ tag_part (text_of tag.now))) }
+    ensures { OnOk result (line.new.items ≡ line.old.items
+        ++ (anchor_part (text_of anchor.now) ++ tag_part (text_of tag.now))) }
 {
     if anchor.is_none() && tag.is_none() {
         return Ok(());
@@ -219,7 +222,8 @@ fn push_value(
     value: &[u8],
     style: yaml_scalar_style_t,
 ) -> Result<(), AllocError>
-    ensures { OnOk result (line.new.items ≡ line.old.items ++ ((32 ∷ indicator_of style ∷ []) ++ escaped value.now)) }
+    ensures { OnOk result (line.new.items ≡ line.old.items
+        ++ ((32 ∷ indicator_of style ∷ []) ++ escaped value.now)) }
 {
     line.push(b' ')?;
     line.push(style_indicator(style))?;
@@ -233,7 +237,8 @@ fn push_document(
     implicit: bool,
     mark: &[u8],
 ) -> Result<(), AllocError>
-    ensures { OnOk result (line.new.items ≡ line.old.items ++ (word.now ++ mark_part implicit mark.now)) }
+    ensures { OnOk result (line.new.items ≡ line.old.items
+        ++ (word.now ++ mark_part implicit mark.now)) }
 {
     line.extend_from_slice(word)?;
     if !implicit {
@@ -253,7 +258,8 @@ fn push_name(line: &mut Vec<u8>, word: &[u8], name: &[u8]) -> Result<(), AllocEr
 
 // Adds the line without its end.
 fn push_event(line: &mut Vec<u8>, event: &yaml_event_t) -> Result<(), AllocError>
-    ensures { OnOk result (line.new.items ≡ line.old.items ++ event_text (event_of event.now).body) }
+    ensures { OnOk result (line.new.items ≡ line.old.items ++ event_text
+        (event_of event.now).body) }
 {
     match &event.body {
         yaml_event_body_t::No => Ok(()),
@@ -295,7 +301,8 @@ fn push_event(line: &mut Vec<u8>, event: &yaml_event_t) -> Result<(), AllocError
 /// ` &anchor` and ` <tag>`, behind `=VAL` a space, the style's indicator (`: ' " | >`) and the value. In tags and values a
 /// backslash, 00, 08, 09, 0A and 0D are escaped. An error leaves a front of the line.
 pub fn yaml_push_event_line(line: &mut Vec<u8>, event: &yaml_event_t) -> Result<(), AllocError>
-    ensures { OnOk result (line.new.items ≡ line.old.items ++ event_line (event_of event.now).body) }
+    ensures { OnOk result (line.new.items ≡ line.old.items ++ event_line
+        (event_of event.now).body) }
 {
     push_event(line, event)?;
     line.push(b'\n')?;

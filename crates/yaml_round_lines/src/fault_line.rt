@@ -34,7 +34,8 @@ fn push_place(line: &mut String, mark: yaml_mark_t) -> Result<(), AllocError>
 
 // Adds the offset of a byte, and its value unless that is -1.
 fn push_bytes_place(line: &mut String, offset: u64, value: i32) -> Result<(), AllocError>
-    ensures { OnOk result (string_bytes line.new ≡ string_bytes line.old ++ bytes_place offset value) }
+    ensures { OnOk result (string_bytes line.new ≡ string_bytes line.old ++ bytes_place offset
+        value) }
 {
     if value == -1 {
         write!(line, " (byte {offset})")
@@ -45,7 +46,8 @@ fn push_bytes_place(line: &mut String, offset: u64, value: i32) -> Result<(), Al
 
 // Adds the context and its place, where there is one.
 fn push_context(line: &mut String, fault: &yaml_fault_t) -> Result<(), AllocError>
-    ensures { OnOk result (string_bytes line.new ≡ string_bytes line.old ++ context_part (fault_of fault.now).context fault.now.context_mark) }
+    ensures { OnOk result (string_bytes line.new ≡ string_bytes line.old ++ context_part
+        (fault_of fault.now).context fault.now.context_mark) }
 {
     if let Some(context) = fault.context {
         write!(line, ": {context}")?;
@@ -56,7 +58,8 @@ fn push_context(line: &mut String, fault: &yaml_fault_t) -> Result<(), AllocErro
 
 // Adds where the problem is, as the kind tells it.
 fn push_problem_place(line: &mut String, fault: &yaml_fault_t) -> Result<(), AllocError>
-    ensures { OnOk result (string_bytes line.new ≡ string_bytes line.old ++ problem_place_of fault.now.kind fault.now.offset fault.now.value fault.now.problem_mark) }
+    ensures { OnOk result (string_bytes line.new ≡ string_bytes line.old ++ problem_place_of
+        fault.now.kind fault.now.offset fault.now.value fault.now.problem_mark) }
 {
     match fault.kind {
         yaml_error_type_t::YAML_READER_ERROR => push_bytes_place(line, fault.offset, fault.value),
@@ -87,7 +90,8 @@ fn line_of(alloc: Global, fault: &yaml_fault_t) -> Result<String, AllocError>
 /// byte's. Lines and columns count from 1, bytes from 0. A refused growth is a fault of memory, origin `Writer`.
 pub fn yaml_fault_line(alloc: Global, fault: &yaml_fault_t) -> Result<Vec<u8>, yaml_fault_t>
     ensures text { IfOk result (λ text. text.items ≡ fault_line (fault_of fault.now)) }
-    ensures memory { IfErr result (λ refusal. fault_of refusal ≡ memory_fault yaml_origin_t.Writer) }
+    ensures memory { IfErr result (λ refusal. fault_of refusal ≡ memory_fault
+        yaml_origin_t.Writer) }
 {
     match line_of(alloc, fault) {
         Ok(line) => Ok(line.into_bytes()),

@@ -14,12 +14,15 @@ key_at is_key n = if is_key && n == 0 then Some key else None
 -- the block start, then KEY
 abbrev pub start_at : Opens → Bool → ℕ → Option TokenBody
 start_at opening.Nothing is_key n = key_at is_key n
-start_at opening.Sequence is_key n = if n == 0 then Some block_sequence_start else key_at is_key (n - 1)
-start_at opening.Mapping is_key n = if n == 0 then Some block_mapping_start else key_at is_key (n - 1)
+start_at opening.Sequence is_key n = if n == 0 then Some block_sequence_start
+    else key_at is_key (n - 1)
+start_at opening.Mapping is_key n = if n == 0 then Some block_mapping_start
+    else key_at is_key (n - 1)
 
 -- the token in front of a lexeme's own one behind so many of its tokens
 abbrev pub front_at : Entry → ℕ → Option TokenBody
-front_at e given = if nat_lt given e.ends then Some block_end else start_at e.opens e.key (given - e.ends)
+front_at e given = if nat_lt given e.ends then Some block_end else start_at e.opens e.key
+    (given - e.ends)
 
 abbrev pub start_count : Opens → ℕ
 start_count opening.Nothing = 0
@@ -43,7 +46,8 @@ fronted s l (Some b) = before b l
 -- settled.
 abbrev pub given_in : ℕ → ℕ → ℕ → List Entry → Type 0
 given_in dropped settled given [] = given ≡ 0
-given_in dropped settled given (e ∷ es) = (given ≤ e.ends) ⊎ ((dropped < settled) × (given ≤ front_count e))
+given_in dropped settled given (e ∷ es) = (given ≤ e.ends)
+    ⊎ ((dropped < settled) × (given ≤ front_count e))
 
 abbrev pub IsGiven : Fields → Type 0
 IsGiven m = given_in m.dropped m.settled m.given m.waiting

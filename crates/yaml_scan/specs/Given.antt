@@ -22,7 +22,8 @@ pub record IsWord (text : List ℕ) (word : Word) (x : WordText) : Type 0 where
 
 -- what reading a lexeme answers, and where it leaves the reader
 abbrev pub ReadsWord : List ℕ → ℕ → Place → Result Word ScanError → Result WordText Wrong → Type 0
-ReadsWord text start place (Ok w) (Ok x) = IsWord text w x × (place ≡ record { text = text; at = x.reached })
+ReadsWord text start place (Ok w) (Ok x) = IsWord text w x
+    × (place ≡ record { text = text; at = x.reached })
 ReadsWord text start place (Ok w) (Err e) = ⊥
 ReadsWord text start place (Err e) (Ok x) = IsMemory e
 ReadsWord text start place (Err e) (Err w) = Refuses text (mark_at text start) e w

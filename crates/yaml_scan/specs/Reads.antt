@@ -37,14 +37,21 @@ late (Some start) place = if is_fresh start place then None else Some start
 -- the start, where a lexeme cancels or replaces what starts there
 abbrev pub lost : Option yaml_mark_t → Lexeme → Option yaml_mark_t
 lost None l = None
-lost (Some start) l = if l.depth == 0 && (l.saved || (cancels l.kind && not (is_value l.kind))) then Some start else None
+lost (Some start) l = if l.depth == 0 && (l.saved || (cancels l.kind && not (is_value l.kind)))
+    then Some start else None
 
 -- the start of the required candidate that is open behind a lexeme
 abbrev pub required_behind : Option yaml_mark_t → Lexeme → Option yaml_mark_t
-required_behind o l = if nat_lt 0 l.depth || (not l.saved && not (cancels l.kind)) then o else if l.required then Some l.start else None
+required_behind o l = if nat_lt 0 l.depth || (not l.saved && not (cancels l.kind)) then o
+    else if l.required then Some l.start else None
 
 abbrev pub colon_fault : yaml_mark_t → yaml_mark_t → ScanFault
-colon_fault start place = record { problem = problems.NoColon; context = contexts.SimpleKey; context_mark = start; problem_mark = place }
+colon_fault start place = record {
+  problem = problems.NoColon;
+  context = contexts.SimpleKey;
+  context_mark = start;
+  problem_mark = place;
+}
 
 -- Where the candidate of a depth waits, if it is asked for.
 abbrev pub Owns : Machine → ℕ → Bool → Option ℕ → Type 0
@@ -65,7 +72,8 @@ begun_in k start allowed depth levels = record {
   depth = depth;
   level = indent (left_by k depth start.column levels);
   saved = allowed && may_be_key k;
-  required = (allowed && may_be_key k) && (depth == 0 && indent (left_by k depth start.column levels) == start.column + 1);
+  required = (allowed && may_be_key k)
+      && (depth == 0 && indent (left_by k depth start.column levels) == start.column + 1);
   broke = false;
 }
 
@@ -90,12 +98,18 @@ pub record EndsAt (text : List ℕ) (b l : Lexeme) : Type 0 where
 
 -- the lexeme with the end that its word tells
 abbrev pub ended_by : Lexeme → Word → yaml_mark_t → Lexeme
-ended_by l word reached = if is_end l.kind then l else record l { end = word.end; reached = reached; broke = word.broke }
+ended_by l word reached = if is_end l.kind then l
+    else record l { end = word.end; reached = reached; broke = word.broke }
 
 -- The start of a required candidate that is stale behind it is refused.
-abbrev pub Finishes : Lexeme → Word → yaml_mark_t → Option yaml_mark_t → Result (Lexeme × yaml_token_body_t) ScanError → Type 0
-Finishes l word reached required (Ok r) = (r.0 ≡ ended_by l word reached) × (r.1 ≡ word.body) × (late (required_behind required (ended_by l word reached)) (ended_by l word reached).reached ≡ None)
-Finishes l word reached required (Err e) = (start : yaml_mark_t) × (late (required_behind required (ended_by l word reached)) (ended_by l word reached).reached ≡ Some start) × (e ≡ errors.Fault (colon_fault start (ended_by l word reached).reached))
+abbrev pub Finishes : Lexeme → Word → yaml_mark_t → Option yaml_mark_t
+    → Result (Lexeme × yaml_token_body_t) ScanError → Type 0
+Finishes l word reached required (Ok r) = (r.0 ≡ ended_by l word reached) × (r.1 ≡ word.body)
+    × (late (required_behind required (ended_by l word reached)) (ended_by l word reached).reached
+    ≡ None)
+Finishes l word reached required (Err e) = (start : yaml_mark_t)
+    × (late (required_behind required (ended_by l word reached)) (ended_by l word reached).reached
+    ≡ Some start) × (e ≡ errors.Fault (colon_fault start (ended_by l word reached).reached))
 
 -- what reading the lexeme answers
 abbrev pub GivesLexeme : SpelledText → Result (Lexeme × yaml_token_body_t) ScanError → Next → Type 0
@@ -117,16 +131,20 @@ GivesNext m (Err e) Ends = ⊥
 -- what a lexeme makes of its own depth's candidate, where that waits
 abbrev pub MarksOwn : Option ℕ → Lexeme → Opens → List Waiting → List Waiting → Type 0
 MarksOwn None l opens old new = new ≡ old
-MarksOwn (Some i) l opens old new = (w : Waiting) → new ≡ slice_set old i (marked l opens (slice_index_or old i w))
+MarksOwn (Some i) l opens old new = (w : Waiting)
+    → new ≡ slice_set old i (marked l opens (slice_index_or old i w))
 
 -- what a lexeme opens at a column, where it may and the column passes the indent
 abbrev pub opens_for : Kind → ℕ → ℕ → List ℕ → Opens
-opens_for k depth column levels = if is_start k && not (nat_lt 0 depth) then (if nat_lt (indent levels) column then level_of k else opening.Nothing) else opening.Nothing
+opens_for k depth column levels = if is_start k && not (nat_lt 0 depth)
+    then (if nat_lt (indent levels) column then level_of k else opening.Nothing)
+    else opening.Nothing
 
 -- the column where a level may open: that of the key, or of the lexeme
 abbrev pub IsColumn : List Waiting → Lexeme → Option ℕ → ℕ → Type 0
 IsColumn ws l None column = column ≡ l.start.column + 1
-IsColumn ws l (Some i) column = (w : Waiting) → column ≡ (slice_index_or ws i w).entry.lexeme.start.column + 1
+IsColumn ws l (Some i) column = (w : Waiting)
+    → column ≡ (slice_index_or ws i w).entry.lexeme.start.column + 1
 
 -- the place where a candidate waits, or where it is known that none does
 abbrev pub bound_or : ℕ → ℕ → Option ℕ → ℕ
@@ -135,4 +153,5 @@ bound_or dropped candidate_bound (Some i) = dropped + i
 
 -- the number from which on no lexeme is its depth's candidate, behind one that takes, cancels or replaces its own
 abbrev pub bound_behind : ℕ → ℕ → ℕ → Lexeme → Option ℕ → ℕ
-bound_behind dropped candidate_bound count l own = if l.saved then dropped + count else bound_or dropped candidate_bound own
+bound_behind dropped candidate_bound count l own = if l.saved then dropped + count
+    else bound_or dropped candidate_bound own

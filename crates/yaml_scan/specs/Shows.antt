@@ -54,7 +54,8 @@ settled_in h = if ended h then length h else first_open h h
 
 -- From the settled ones on each lexeme is marked that is its depth's candidate.
 abbrev pub IsMarked : List Lexeme → Fields → Type 0
-IsMarked h m = (k : ℕ) → k < length m.waiting → m.settled ≤ m.dropped + k → slice_index_or m.opens k false ≡ slice_index_or (opens_in h h) (m.dropped + k) false
+IsMarked h m = (k : ℕ) → k < length m.waiting → m.settled ≤ m.dropped + k
+    → slice_index_or m.opens k false ≡ slice_index_or (opens_in h h) (m.dropped + k) false
 
 -- the fields that stand for a history
 pub record Shows (h : List Lexeme) (m : Fields) : Type 0 where
@@ -91,17 +92,27 @@ AreSpoken s ws = (k : ℕ) → (w : Waiting) → k < length ws → IsSpoken s (s
 -- Where the candidate of a depth waits. One that is not found is settled, so stale.
 abbrev pub Finds : Machine → ℕ → Option ℕ → Type 0
 Finds m d None = (c : Candidate) → candidate d (history_of m) ≡ Some c → c.number < m.settled
-Finds m d (Some i) = (i < length m.waiting.items) × ((w : Waiting) → candidate d (history_of m) ≡ Some record { number = m.dropped + i; lexeme = (slice_index_or m.waiting.items i w).entry.lexeme })
+Finds m d (Some i) = (i < length m.waiting.items)
+    × ((w : Waiting) → candidate d (history_of m)
+    ≡ Some record {
+      number = m.dropped + i;
+      lexeme = (slice_index_or m.waiting.items i
+          w).entry.lexeme;
+    })
 
 -- Where a candidate waits.
 abbrev pub Picks : Machine → Option Candidate → Option ℕ → Type 0
 Picks m o None = o ≡ None
-Picks m o (Some i) = (i < length m.waiting.items) × ((w : Waiting) → o ≡ Some record { number = m.dropped + i; lexeme = (slice_index_or m.waiting.items i w).entry.lexeme })
+Picks m o (Some i) = (i < length m.waiting.items)
+    × ((w : Waiting) → o ≡ Some
+    record { number = m.dropped + i; lexeme = (slice_index_or m.waiting.items i w).entry.lexeme })
 
 -- what a later lexeme of its depth makes of its candidate, where it opens that as a key
 abbrev pub marked : Lexeme → Opens → Waiting → Waiting
 marked l opens w = record {
-  entry = if is_value l.kind && is_fresh w.entry.lexeme.start l.start then record { lexeme = w.entry.lexeme; ends = w.entry.ends; opens = opens; key = true } else w.entry;
+  entry = if is_value l.kind && is_fresh w.entry.lexeme.start l.start
+      then record { lexeme = w.entry.lexeme; ends = w.entry.ends; opens = opens; key = true }
+      else w.entry;
   body = w.body;
   current = w.current && not (l.saved || cancels l.kind);
 }
@@ -112,12 +123,15 @@ is_passed l d = nat_lt d l.depth || (l.depth == d && not (l.saved || cancels l.k
 
 -- what a lexeme that waits says to one that looks back for the candidate of a depth
 abbrev pub seen : Waiting → ℕ → Seen
-seen w d = if w.current && w.entry.lexeme.depth == d then looks.Here else if w.current || not (is_passed w.entry.lexeme d) then looks.Nowhere else looks.Further
+seen w d = if w.current && w.entry.lexeme.depth == d then looks.Here else if w.current
+    || not (is_passed w.entry.lexeme d) then looks.Nowhere else looks.Further
 
 -- The marks as a further lexeme leaves them.
 abbrev pub Closes : Lexeme → Fields → List Bool → Type 0
-Closes l m bs = (length bs ≡ length m.waiting) × ((k : ℕ) → k < length m.waiting → m.settled ≤ m.dropped + k
-    → slice_index_or bs k false ≡ slice_index_or (opens_in (l ∷ read m.text m.dropped m.waiting) (l ∷ read m.text m.dropped m.waiting)) (m.dropped + k) false)
+Closes l m bs = (length bs ≡ length m.waiting)
+    × ((k : ℕ) → k < length m.waiting → m.settled ≤ m.dropped + k
+    → slice_index_or bs k false ≡ slice_index_or (opens_in (l ∷ read m.text m.dropped m.waiting)
+    (l ∷ read m.text m.dropped m.waiting)) (m.dropped + k) false)
 
 -- the fields where what is settled is to be brought up to date
 pub record Pending (h : List Lexeme) (m : Fields) : Type 0 where

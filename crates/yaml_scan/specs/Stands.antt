@@ -51,4 +51,5 @@ Told k b = b ≡ indicator_byte k
 
 -- a letter or digit of ASCII
 unfoldable pub is_letter : ℕ → Bool
-is_letter b = (nat_le 48 b && nat_le b 57) || ((nat_le 65 b && nat_le b 90) || (nat_le 97 b && nat_le b 122))
+is_letter b = (nat_le 48 b && nat_le b 57)
+    || ((nat_le 65 b && nat_le b 90) || (nat_le 97 b && nat_le b 122))

@@ -22,11 +22,13 @@ IsNarrow n levels = (k : ℕ) → slice_index levels k ≤ n
 
 -- no lexeme that waits stands further right than the text is long
 abbrev pub AreInside : ℕ → List Waiting → Type 0
-AreInside n ws = (k : ℕ) → (w : Waiting) → k < length ws → (slice_index_or ws k w).entry.lexeme.start.column ≤ n
+AreInside n ws = (k : ℕ) → (w : Waiting) → k < length ws
+    → (slice_index_or ws k w).entry.lexeme.start.column ≤ n
 
 -- no lexeme that waits, from that number on, is its depth's candidate
 abbrev pub AreBounded : ℕ → ℕ → List Waiting → Type 0
-AreBounded n dropped ws = (k : ℕ) → (w : Waiting) → k < length ws → n ≤ dropped + k → (slice_index_or ws k w).current ≡ false
+AreBounded n dropped ws = (k : ℕ) → (w : Waiting) → k < length ws → n ≤ dropped + k
+    → (slice_index_or ws k w).current ≡ false
 
 pub record IsMachine (m : Machine) : Type 0 where
   pub long : length (text_bytes m.text) < 2 ^ 63

@@ -26,7 +26,11 @@ impl<'a> Ahead<'a> {
 
     pub(crate) fn new(alloc: Global, input: &'a [u8], encoding: yaml_encoding_t) -> Ahead<'a>
         ensures stands { IsAhead result }
-        ensures view { view_of result ≡ record { remaining = scanned encoding input.now; ready = false; answered = None } }
+        ensures view { view_of result ≡ record {
+          remaining = scanned encoding input.now;
+          ready = false;
+          answered = None;
+        } }
     {
         Ahead {
             machine: Machine::new(alloc, input, encoding),
@@ -116,7 +120,8 @@ impl<'a> Ahead<'a> {
         ensures stands { IsAhead self.new }
         ensures same { view_of self.new ≡ view_of self.old }
         ensures shown { token_of self.new.shown ≡ first_of (view_of self.old).remaining.tokens }
-        ensures may { MayAnswer (view_of self.old).remaining.tokens (view_of self.old).remaining.fault }
+        ensures may { MayAnswer (view_of self.old).remaining.tokens
+            (view_of self.old).remaining.fault }
         ensures over { EndsAnswered (view_of self.old) }
     {
         if self.fault.is_some() {
@@ -147,7 +152,8 @@ impl<'a> Ahead<'a> {
     pub(crate) fn look(&mut self) -> Result<(), yaml_fault_t>
         requires { IsAhead self.old }
         ensures stands { IsAhead self.new }
-        ensures looks { Looks (view_of self.old) (view_of self.new) (token_of self.new.shown) result }
+        ensures looks { Looks (view_of self.old) (view_of self.new) (token_of self.new.shown)
+            result }
     {
         match self.fill() {
             Ok(_) => {

@@ -79,7 +79,12 @@ impl<'a> Machine<'a> {
         ensures stands { IsMachine result }
         ensures ready { is_ready result ≡ false }
         ensures started { result.started ≡ started }
-        ensures left { left_in result ≡ left_from started (offline record { encoding = encoding_of setting input.now; text = text_bytes text.entry }) (scanned setting input.now) }
+        ensures left { left_in result ≡ left_from started
+            (offline record {
+              encoding = encoding_of setting input.now;
+              text = text_bytes
+                  text.entry;
+            }) (scanned setting input.now) }
     {
         // Read for the clauses: a length that is read has a number within its type.
         let _length = text.as_slice().len();
@@ -208,7 +213,8 @@ impl<'a> Machine<'a> {
         requires started { self.old.started ≡ true }
         ensures stands { OnOk result (IsMachine self.new) }
         ensures started { OnOk result (self.new.started ≡ true) }
-        ensures ok { OnOk result ((to_come self.new ≡ to_come self.old) × ((is_ready self.new ≡ true) ⊎ (to_come self.new ≡ nothing))) }
+        ensures ok { OnOk result ((to_come self.new ≡ to_come self.old)
+            × ((is_ready self.new ≡ true) ⊎ (to_come self.new ≡ nothing))) }
         ensures err { IfErr result (λ e. Faults e (to_come self.old)) }
         ensures sought { IfErr result (λ e. is_ready self.old ≡ false) }
         ensures ready { IfOk result (λ known. known ≡ is_ready self.new) }
@@ -263,7 +269,8 @@ impl<'a> Machine<'a> {
         requires { IfSome own (λ i. i < length self.old.waiting.items) }
         ensures same { self.new ≡ record self.old { waiting = self.new.waiting } }
         ensures length { length self.new.waiting.items ≡ length self.old.waiting.items }
-        ensures inside { (n : ℕ) → AreInside n self.old.waiting.items → AreInside n self.new.waiting.items }
+        ensures inside { (n : ℕ) → AreInside n self.old.waiting.items
+            → AreInside n self.new.waiting.items }
         ensures marks { MarksOwn own lexeme opens self.old.waiting.items self.new.waiting.items }
     {
         if let Some(i) = own {
@@ -276,7 +283,8 @@ impl<'a> Machine<'a> {
     fn bound_behind(&self, own: Option<usize>, lexeme: Lexeme) -> usize
         requires own { IfSome own (λ i. i < length self.now.waiting.items) }
         requires few { self.now.dropped + length self.now.waiting.items < 2 ^ 64 - 1 }
-        ensures { result ≡ bound_behind self.now.dropped self.now.candidate_bound (length self.now.waiting.items) lexeme own }
+        ensures { result ≡ bound_behind self.now.dropped self.now.candidate_bound
+            (length self.now.waiting.items) lexeme own }
     {
         if lexeme.saved {
             return self.dropped + self.waiting.len();
@@ -292,9 +300,12 @@ impl<'a> Machine<'a> {
         requires shown { IsPending (fields_of self.now) }
         requires settled { self.now.settled ≤ self.now.dropped + length self.now.waiting.items }
         requires few { self.now.dropped + length self.now.waiting.items < 2 ^ 64 - 1 }
-        requires last { self.now.candidate_bound ≤ self.now.dropped + length self.now.waiting.items }
-        requires candidate_bound { AreBounded self.now.candidate_bound self.now.dropped self.now.waiting.items }
-        ensures value { result ≡ (if self.now.ended then length (history_of self.now) else history.first_open (history_of self.now) (history_of self.now)) }
+        requires last { self.now.candidate_bound ≤ self.now.dropped + length
+            self.now.waiting.items }
+        requires candidate_bound { AreBounded self.now.candidate_bound self.now.dropped
+            self.now.waiting.items }
+        ensures value { result ≡ (if self.now.ended then length (history_of self.now)
+            else history.first_open (history_of self.now) (history_of self.now)) }
         ensures low { self.now.settled ≤ result }
         ensures high { result ≤ self.now.dropped + length self.now.waiting.items }
     {
@@ -308,7 +319,8 @@ impl<'a> Machine<'a> {
     fn close_levels(&mut self, lexeme: Lexeme) -> usize
         requires { lexeme.start.column < 2 ^ 63 }
         ensures same { self.new ≡ record self.old { levels = self.new.levels } }
-        ensures levels { self.new.levels ≡ history.left_by lexeme.kind lexeme.depth lexeme.start.column self.old.levels }
+        ensures levels { self.new.levels ≡ history.left_by lexeme.kind lexeme.depth
+            lexeme.start.column self.old.levels }
         ensures count { result ≡ length self.old.levels - length self.new.levels }
         ensures narrow { (n : ℕ) → IsNarrow n self.old.levels → IsNarrow n self.new.levels }
     {
@@ -336,8 +348,10 @@ impl<'a> Machine<'a> {
     /// Opens the level of a `-`, `?` or `:` at that column, where it passes the indent.
     fn open_level(&mut self, lexeme: Lexeme, column: u64) -> Result<Opens, AllocError>
         ensures same { OnOk result (self.new ≡ record self.old { levels = self.new.levels }) }
-        ensures levels { OnOk result (self.new.levels ≡ history.opened (kinds.is_start lexeme.kind && not (nat_lt 0 lexeme.depth)) column self.old.levels) }
-        ensures opens { IfOk result (λ o. o ≡ opens_for lexeme.kind lexeme.depth column self.old.levels) }
+        ensures levels { OnOk result (self.new.levels ≡ history.opened (kinds.is_start lexeme.kind
+            && not (nat_lt 0 lexeme.depth)) column self.old.levels) }
+        ensures opens { IfOk result (λ o. o ≡ opens_for lexeme.kind lexeme.depth column
+            self.old.levels) }
     {
         if 0 < lexeme.depth || !lexeme.kind.is_start() {
             return Ok(Opens::Nothing);
@@ -354,8 +368,10 @@ impl<'a> Machine<'a> {
         requires shown { IsPending (fields_of self.now) }
         requires settled { self.now.settled ≤ self.now.dropped + length self.now.waiting.items }
         requires few { self.now.dropped + length self.now.waiting.items < 2 ^ 64 - 1 }
-        requires last { self.now.candidate_bound ≤ self.now.dropped + length self.now.waiting.items }
-        requires candidate_bound { AreBounded self.now.candidate_bound self.now.dropped self.now.waiting.items }
+        requires last { self.now.candidate_bound ≤ self.now.dropped + length
+            self.now.waiting.items }
+        requires candidate_bound { AreBounded self.now.candidate_bound self.now.dropped
+            self.now.waiting.items }
         ensures value { result ≡ history.first_open (history_of self.now) (history_of self.now) }
         ensures low { self.now.settled ≤ result }
         ensures high { result ≤ self.now.dropped + length self.now.waiting.items }
@@ -402,7 +418,13 @@ fn level_of(kind: Kind) -> Opens
 
 /// How a lexeme is spelled out, where it is read. What a `:` opens for its key stands before that key.
 fn entry(lexeme: Lexeme, ends: usize, opens: Opens, found: bool) -> Entry
-    ensures { result ≡ record { lexeme = lexeme; ends = ends; opens = if found then Opens.Nothing else opens; key = false } }
+    ensures { result ≡ record {
+      lexeme = lexeme;
+      ends = ends;
+      opens = if found then Opens.Nothing
+          else opens;
+      key = false;
+    } }
 {
     Entry {
         lexeme,

@@ -54,7 +54,8 @@ impl<'a> Machine<'a> {
         requires stands { IsMachine self.now }
         requires more { self.now.ended ≡ false }
         ensures safe { IfOk result (λ r. IsNext self.now r) }
-        ensures exact { GivesNext self.now result (spec.next (text_bytes self.now.text) (history_of self.now)) }
+        ensures exact { GivesNext self.now result
+            (spec.next (text_bytes self.now.text) (history_of self.now)) }
         ensures refused { IfErr result (Refused self.now) }
     {
         if self.dropped + self.waiting.len() == 0 {
@@ -94,10 +95,14 @@ impl<'a> Machine<'a> {
         requires place { IsPlace (text_bytes self.now.text) stand.mark }
         requires kind { Stands stand.kind (nat_lt 0 self.now.depth) reader.old.text reader.old.at }
         requires forward { Upto (reached (history_of self.now)) stand.mark }
-        requires required { required ≡ required_in (fresh (candidate 0 (history_of self.now)) (reached (history_of self.now))) }
+        requires required { required ≡ required_in (fresh (candidate 0 (history_of self.now))
+            (reached (history_of self.now))) }
         requires early { late required stand.mark ≡ None }
         ensures safe { IfOk result (λ r. IsNext self.now r) }
-        ensures exact { (gap : Gap) → gap.place ≡ reader.old.at → spec.allowed_behind (history_of self.now) gap ≡ stand.allowed → GivesNext self.now result (spec.of_kind (Some stand.kind) (text_bytes self.now.text) gap (history_of self.now)) }
+        ensures exact { (gap : Gap) → gap.place ≡ reader.old.at
+            → spec.allowed_behind (history_of self.now) gap ≡ stand.allowed
+            → GivesNext self.now result (spec.of_kind (Some stand.kind) (text_bytes self.now.text)
+            gap (history_of self.now)) }
     {
         let own = self.own(stand);
         let key = self.key(stand, own);
@@ -128,13 +133,18 @@ impl<'a> Machine<'a> {
     ) -> Result<(Lexeme, yaml_token_body_t), ScanError>
         requires text { reader.old.text ≡ text_bytes self.now.text }
         requires index { lexeme.start.index ≡ reader.old.at }
-        requires start { kinds.is_end lexeme.kind ≡ false → lexeme.start ≡ mark_at reader.old.text reader.old.at }
+        requires start { kinds.is_end lexeme.kind ≡ false → lexeme.start ≡ mark_at reader.old.text
+            reader.old.at }
         requires kind { Stands lexeme.kind (nat_lt 0 lexeme.depth) reader.old.text reader.old.at }
         requires level { lexeme.level ≤ length (text_bytes self.now.text) + 1 }
         requires saved { lexeme.required ≡ true → lexeme.saved ≡ true }
-        requires required { required ≡ required_in (fresh (candidate 0 (history_of self.now)) (reached (history_of self.now))) }
+        requires required { required ≡ required_in (fresh (candidate 0 (history_of self.now))
+            (reached (history_of self.now))) }
         ensures safe { IfOk result (λ r. EndsAt (text_bytes self.now.text) lexeme r.0) }
-        ensures exact { GivesLexeme (stream_of self.now) result (spec.unless_wrong (word_at lexeme.kind (nat_lt 0 lexeme.depth) lexeme.level (text_bytes self.now.text) lexeme.start.index) (text_bytes self.now.text) lexeme (history_of self.now)) }
+        ensures exact { GivesLexeme (stream_of self.now) result
+            (spec.unless_wrong (word_at lexeme.kind (nat_lt 0 lexeme.depth) lexeme.level
+            (text_bytes self.now.text) lexeme.start.index) (text_bytes self.now.text) lexeme
+            (history_of self.now)) }
     {
         let flow = 0 < lexeme.depth;
         match read_word(self.alloc, reader, lexeme.kind, flow, lexeme.level) {
@@ -145,7 +155,8 @@ impl<'a> Machine<'a> {
 
     /// Whether a `-`, a `?`, or a `:` without a key stands where no key may begin.
     fn is_misplaced(&self, stand: Stand, key: Option<usize>) -> bool
-        ensures { result ≡ ((not (nat_lt 0 self.now.depth) && not stand.allowed) && (kinds.is_start stand.kind && not (is_some key))) }
+        ensures { result ≡ ((not (nat_lt 0 self.now.depth) && not stand.allowed)
+            && (kinds.is_start stand.kind && not (is_some key))) }
     {
         self.depth == 0 && !stand.allowed && (stand.kind.is_start() && key.is_none())
     }
@@ -154,7 +165,8 @@ impl<'a> Machine<'a> {
     fn lexeme_at(&self, stand: Stand) -> Lexeme
         requires stands { IsMachine self.now }
         requires place { IsPlace (text_bytes self.now.text) stand.mark }
-        ensures value { result ≡ begun_in stand.kind (placed stand.kind stand.mark) stand.allowed self.now.depth self.now.levels }
+        ensures value { result ≡ begun_in stand.kind (placed stand.kind stand.mark) stand.allowed
+            self.now.depth self.now.levels }
         ensures level { result.level ≤ length (text_bytes self.now.text) + 1 }
         ensures column { result.start.column ≤ length (text_bytes self.now.text) }
     {
@@ -190,9 +202,11 @@ impl<'a> Machine<'a> {
     /// Where the candidate waits that a lexeme takes, cancels or replaces.
     fn own(&self, stand: Stand) -> Option<usize>
         requires stands { IsMachine self.now }
-        ensures owns { Owns self.now self.now.depth ((stand.allowed && kinds.may_be_key stand.kind) || kinds.cancels stand.kind) result }
+        ensures owns { Owns self.now self.now.depth ((stand.allowed && kinds.may_be_key stand.kind)
+            || kinds.cancels stand.kind) result }
         ensures inside { IfSome result (λ i. i < length self.now.waiting.items) }
-        ensures last { IfSome result (λ i. AreBounded (self.now.dropped + i + 1) self.now.dropped self.now.waiting.items) }
+        ensures last { IfSome result (λ i. AreBounded (self.now.dropped + i + 1) self.now.dropped
+            self.now.waiting.items) }
     {
         if stand.asks() {
             return self.find();
@@ -204,10 +218,13 @@ impl<'a> Machine<'a> {
     fn key(&self, stand: Stand, own: Option<usize>) -> Option<usize>
         requires stands { IsMachine self.now }
         requires more { self.now.ended ≡ false }
-        requires own { Owns self.now self.now.depth ((stand.allowed && kinds.may_be_key stand.kind) || kinds.cancels stand.kind) own }
+        requires own { Owns self.now self.now.depth ((stand.allowed && kinds.may_be_key stand.kind)
+            || kinds.cancels stand.kind) own }
         requires inside { IfSome own (λ i. i < length self.now.waiting.items) }
         requires forward { Upto (reached (history_of self.now)) stand.mark }
-        ensures picks { Picks self.now (keyed_by stand.kind (fresh (candidate self.now.depth (history_of self.now)) stand.mark)) result }
+        ensures picks { Picks self.now
+            (keyed_by stand.kind (fresh (candidate self.now.depth (history_of self.now))
+            stand.mark)) result }
         ensures inside { IfSome result (λ i. i < length self.now.waiting.items) }
     {
         if !stand.kind.is_value() {
@@ -226,7 +243,8 @@ impl<'a> Machine<'a> {
     fn required(&self) -> Option<yaml_mark_t>
         requires stands { IsMachine self.now }
         requires more { self.now.ended ≡ false }
-        ensures { result ≡ required_in (fresh (candidate 0 (history_of self.now)) (reached (history_of self.now))) }
+        ensures { result ≡ required_in (fresh (candidate 0 (history_of self.now))
+            (reached (history_of self.now))) }
     {
         let first = self.settled - self.dropped;
         if first < self.waiting.len() {
@@ -240,10 +258,13 @@ impl<'a> Machine<'a> {
     fn find(&self) -> Option<usize>
         requires shown { IsShown (fields_of self.now) }
         requires settled { self.now.settled ≤ self.now.dropped + length self.now.waiting.items }
-        requires last { self.now.candidate_bound ≤ self.now.dropped + length self.now.waiting.items }
-        requires candidate_bound { AreBounded self.now.candidate_bound self.now.dropped self.now.waiting.items }
+        requires last { self.now.candidate_bound ≤ self.now.dropped + length
+            self.now.waiting.items }
+        requires candidate_bound { AreBounded self.now.candidate_bound self.now.dropped
+            self.now.waiting.items }
         ensures finds { Finds self.now self.now.depth result }
-        ensures last { IfSome result (λ i. AreBounded (self.now.dropped + i + 1) self.now.dropped self.now.waiting.items) }
+        ensures last { IfSome result (λ i. AreBounded (self.now.dropped + i + 1) self.now.dropped
+            self.now.waiting.items) }
     {
         let first = self.settled - self.dropped;
         let mut i = self.candidate_bound.saturating_sub(self.dropped);
@@ -262,7 +283,8 @@ impl<'a> Machine<'a> {
 impl Stand {
     /// Whether its lexeme takes, cancels or replaces a candidate.
     fn asks(self) -> bool
-        ensures { result ≡ ((self.allowed && kinds.may_be_key self.kind) || kinds.cancels self.kind) }
+        ensures { result ≡ ((self.allowed && kinds.may_be_key self.kind) || kinds.cancels
+            self.kind) }
     {
         self.allowed && self.kind.may_be_key() || self.kind.cancels()
     }
@@ -277,7 +299,11 @@ fn allowed_behind(allowed: bool, broke: bool, flow: bool) -> bool
 
 /// The start of the stream.
 fn first(place: yaml_mark_t, encoding: yaml_encoding_t) -> Read
-    ensures lexeme { result.lexeme ≡ record spec.first_lexeme { start = place; end = place; reached = place } }
+    ensures lexeme { result.lexeme ≡ record spec.first_lexeme {
+      start = place;
+      end = place;
+      reached = place;
+    } }
     ensures body { body_of result.body ≡ stream_start encoding }
     ensures own { result.own ≡ None }
     ensures key { result.key ≡ None }
@@ -314,7 +340,8 @@ pub(crate) fn keeps(kind: Kind, column: u64) -> u64
 
 /// The lexeme with its end, where the place behind it is reached. The stream's end stays where it starts.
 fn ended_at(lexeme: Lexeme, read: &Word, reached: yaml_mark_t) -> Lexeme
-    ensures { result ≡ (if kinds.is_end lexeme.kind then lexeme else record lexeme { end = read.now.end; reached = reached; broke = read.now.broke }) }
+    ensures { result ≡ (if kinds.is_end lexeme.kind then lexeme
+        else record lexeme { end = read.now.end; reached = reached; broke = read.now.broke }) }
 {
     if lexeme.kind.is_end() {
         return lexeme;
@@ -384,7 +411,8 @@ fn lost(required: Option<yaml_mark_t>, lexeme: Lexeme) -> Option<yaml_mark_t>
 
 /// Whether a lexeme outside all brackets cancels or replaces its candidate; a `:` takes it.
 fn loses(lexeme: Lexeme) -> bool
-    ensures { result ≡ (lexeme.depth == 0 && (lexeme.saved || (kinds.cancels lexeme.kind && not (kinds.is_value lexeme.kind)))) }
+    ensures { result ≡ (lexeme.depth == 0
+        && (lexeme.saved || (kinds.cancels lexeme.kind && not (kinds.is_value lexeme.kind)))) }
 {
     lexeme.depth == 0 && (lexeme.saved || lexeme.kind.cancels() && !lexeme.kind.is_value())
 }
@@ -398,7 +426,13 @@ fn no_colon(start: yaml_mark_t, place: yaml_mark_t) -> ScanError
 
 /// A `-`, `?` or `:` where no key may begin.
 fn misplaced(kind: Kind, mark: yaml_mark_t) -> ScanError
-    ensures { result ≡ ScanError.Fault (record { problem = spec.not_allowed_by kind; context = Context.Nothing; context_mark = mark; problem_mark = mark }) }
+    ensures { result ≡ ScanError.Fault
+        (record {
+          problem = spec.not_allowed_by kind;
+          context = Context.Nothing;
+          context_mark = mark;
+          problem_mark = mark;
+        }) }
 {
     ScanError::refusal(not_allowed_by(kind), Context::Nothing, mark, mark)
 }

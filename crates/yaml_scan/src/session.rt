@@ -36,7 +36,11 @@ impl<'a> yaml_parser_t<'a> {
     /// A session over an input, in that encoding; with `YAML_ANY_ENCODING` in the one that a byte order mark tells, or
     /// UTF-8 (YAML 1.1, 5.2).
     pub fn new(alloc: Global, input: &'a [u8], encoding: yaml_encoding_t) -> yaml_parser_t<'a>
-        ensures { result ≡ record { remaining = scanned encoding input.now; ready = false; answered = None } }
+        ensures { result ≡ record {
+          remaining = scanned encoding input.now;
+          ready = false;
+          answered = None;
+        } }
     {
         yaml_parser_t {
             ahead: Ahead::new(alloc, input, encoding),
@@ -57,7 +61,9 @@ pub fn yaml_parser_scan(parser: &mut yaml_parser_t) -> Result<yaml_token_t, yaml
 
 /// Lends the token that the next scan gives, and takes nothing. Refused as a scan is.
 pub fn yaml_parser_peek<'p>(parser: &'p mut yaml_parser_t) -> Result<&'p yaml_token_t, yaml_fault_t>
-    ensures* lends { sem 𝓛 (follows_so (the_row (record { mir = named 1; lft = [] })) (the_row (record { mir = named 1; lft = [] })) parser.entry.ghost_name none (λ _ _. ⊤) (λ new. Peeks parser.old new result)) }
+    ensures* lends { sem 𝓛 (follows_so (the_row (record { mir = named 1; lft = [] }))
+        (the_row (record { mir = named 1; lft = [] })) parser.entry.ghost_name none (λ _ _. ⊤)
+        (λ new. Peeks parser.old new result)) }
 {
     parser.ahead.look()?;
     Ok(&parser.ahead.shown)

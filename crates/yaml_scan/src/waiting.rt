@@ -22,14 +22,16 @@ pub(crate) struct Waiting {
 impl Waiting {
     /// Whether it is an open candidate where this place is reached.
     pub(crate) fn is_open(&self, place: yaml_mark_t) -> bool
-        ensures { result ≡ (self.now.current && history.is_fresh self.now.entry.lexeme.start place) }
+        ensures { result ≡ (self.now.current && history.is_fresh self.now.entry.lexeme.start
+            place) }
     {
         self.current && is_fresh(self.entry.lexeme.start, place)
     }
 
     /// Its start, where it is the candidate outside all brackets and its `:` must come.
     pub(crate) fn must_come(&self) -> Option<yaml_mark_t>
-        ensures { result ≡ (if (self.now.current && self.now.entry.lexeme.required) && self.now.entry.lexeme.depth == 0 then Some self.now.entry.lexeme.start else None) }
+        ensures { result ≡ (if (self.now.current && self.now.entry.lexeme.required)
+            && self.now.entry.lexeme.depth == 0 then Some self.now.entry.lexeme.start else None) }
     {
         let lexeme = self.entry.lexeme;
         if self.current && lexeme.required && lexeme.depth == 0 {
@@ -75,7 +77,11 @@ impl Waiting {
 
     /// Its own token.
     pub(crate) fn token(self) -> yaml_token_t
-        ensures { token_of result ≡ record { body = body_of self.body; start_mark = self.entry.lexeme.start; end_mark = self.entry.lexeme.end } }
+        ensures { token_of result ≡ record {
+          body = body_of self.body;
+          start_mark = self.entry.lexeme.start;
+          end_mark = self.entry.lexeme.end;
+        } }
     {
         yaml_token_t {
             body: self.body,

@@ -77,7 +77,8 @@ fn is_letter(byte: u8) -> bool
 /// The kind that the byte here tells; `-`, `?` and `:` where a blank, a break or the end follows.
 #[tactic(auto, unfolding(yaml_scan_history::specs::Words::indicator_of))]
 fn indicator(byte: u8, flow: bool, reader: &Reader) -> Option<Kind>
-    ensures value { result ≡ spec.indicator_of flow (is_blank_or_end reader.now.text (reader.now.at + 1)) byte }
+    ensures value { result ≡ spec.indicator_of flow
+        (is_blank_or_end reader.now.text (reader.now.at + 1)) byte }
     ensures told { IfSome result (λ k. Told k byte) }
 {
     match byte {
@@ -110,7 +111,8 @@ pub(crate) fn read_word(
 ) -> Result<Word, ScanError>
     requires stands { Stands kind flow reader.old.text reader.old.at }
     requires level { level ≤ length reader.old.text + 1 }
-    ensures { ReadsWord reader.old.text reader.old.at reader.new result (spec.word_at kind flow level reader.old.text reader.old.at) }
+    ensures { ReadsWord reader.old.text reader.old.at reader.new result
+        (spec.word_at kind flow level reader.old.text reader.old.at) }
 {
     match indicator_body(kind) {
         Some(body) => Ok(read_indicator(reader, body)),
@@ -148,7 +150,8 @@ fn text_word(
     requires stands { Stands kind flow reader.old.text reader.old.at }
     requires level { level ≤ length reader.old.text + 1 }
     requires no_indicator { indicator_at kind ≡ None }
-    ensures { ReadsWord reader.old.text reader.old.at reader.new result (spec.word_at kind flow level reader.old.text reader.old.at) }
+    ensures { ReadsWord reader.old.text reader.old.at reader.new result
+        (spec.word_at kind flow level reader.old.text reader.old.at) }
 {
     match kind {
         Kind::DocumentStart => Ok(document_mark(reader, yaml_token_body_t::DocumentStart)),
@@ -167,7 +170,13 @@ fn text_word(
 
 /// The word that ends where the reader stands.
 fn carrier(reader: &Reader, body: yaml_token_body_t) -> Word
-    ensures { IsWord reader.now.text result (record { body = body_of body; end = reader.now.at; reached = reader.now.at; broke = false }) }
+    ensures { IsWord reader.now.text result
+        (record {
+          body = body_of body;
+          end = reader.now.at;
+          reached = reader.now.at;
+          broke = false;
+        }) }
 {
     Word {
         body,
@@ -180,7 +189,13 @@ fn carrier(reader: &Reader, body: yaml_token_body_t) -> Word
 fn read_indicator(reader: &mut Reader, body: yaml_token_body_t) -> Word
     requires some { 0 < byte reader.old.text reader.old.at }
     requires no_break { break_width reader.old.text reader.old.at ≡ 0 }
-    ensures word { IsWord reader.old.text result (record { body = body_of body; end = reader.old.at + 1; reached = reader.old.at + 1; broke = false }) }
+    ensures word { IsWord reader.old.text result
+        (record {
+          body = body_of body;
+          end = reader.old.at + 1;
+          reached = reader.old.at + 1;
+          broke = false;
+        }) }
     ensures place { reader.new ≡ record { text = reader.old.text; at = reader.old.at + 1 } }
 {
     reader.skip();
@@ -190,8 +205,15 @@ fn read_indicator(reader: &mut Reader, body: yaml_token_body_t) -> Word
 /// `---` or `...`.
 #[tactic(auto, unfolding(yaml_scan_model::specs::Marks::break_of))]
 fn document_mark(reader: &mut Reader, body: yaml_token_body_t) -> Word
-    requires { IsThrice 45 reader.old.text reader.old.at ⊎ IsThrice 46 reader.old.text reader.old.at }
-    ensures word { IsWord reader.old.text result (record { body = body_of body; end = reader.old.at + 3; reached = reader.old.at + 3; broke = false }) }
+    requires { IsThrice 45 reader.old.text reader.old.at
+        ⊎ IsThrice 46 reader.old.text reader.old.at }
+    ensures word { IsWord reader.old.text result
+        (record {
+          body = body_of body;
+          end = reader.old.at + 3;
+          reached = reader.old.at + 3;
+          broke = false;
+        }) }
     ensures place { reader.new ≡ record { text = reader.old.text; at = reader.old.at + 3 } }
 {
     reader.skip();
@@ -204,7 +226,8 @@ fn document_mark(reader: &mut Reader, body: yaml_token_body_t) -> Word
 #[inline(never)]
 fn directive_word(alloc: Global, reader: &mut Reader) -> Result<Word, ScanError>
     requires { byte reader.old.text reader.old.at ≡ 37 }
-    ensures { ReadsWord reader.old.text reader.old.at reader.new result (spec.directed (directive_at reader.old.text reader.old.at)) }
+    ensures { ReadsWord reader.old.text reader.old.at reader.new result
+        (spec.directed (directive_at reader.old.text reader.old.at)) }
 {
     match directive(alloc, reader) {
         Ok(read) => Ok(Word {
@@ -229,7 +252,9 @@ fn directive_body(directive: Directive) -> yaml_token_body_t
 #[inline(never)]
 fn alias_word(alloc: Global, reader: &mut Reader) -> Result<Word, ScanError>
     requires { byte reader.old.text reader.old.at ≡ 42 }
-    ensures { ReadsWord reader.old.text reader.old.at reader.new result (spec.valued (λ v. tokens.alias v) (anchor_at Context.Alias reader.old.text reader.old.at)) }
+    ensures { ReadsWord reader.old.text reader.old.at reader.new result
+        (spec.valued (λ v. tokens.alias v)
+        (anchor_at Context.Alias reader.old.text reader.old.at)) }
 {
     let read = anchor(alloc, reader, Context::Alias)?;
     Ok(Word {
@@ -243,7 +268,9 @@ fn alias_word(alloc: Global, reader: &mut Reader) -> Result<Word, ScanError>
 #[inline(never)]
 fn anchor_word(alloc: Global, reader: &mut Reader) -> Result<Word, ScanError>
     requires { byte reader.old.text reader.old.at ≡ 38 }
-    ensures { ReadsWord reader.old.text reader.old.at reader.new result (spec.valued (λ v. tokens.anchor v) (anchor_at Context.Anchor reader.old.text reader.old.at)) }
+    ensures { ReadsWord reader.old.text reader.old.at reader.new result
+        (spec.valued (λ v. tokens.anchor v)
+        (anchor_at Context.Anchor reader.old.text reader.old.at)) }
 {
     let read = anchor(alloc, reader, Context::Anchor)?;
     Ok(Word {
@@ -257,7 +284,8 @@ fn anchor_word(alloc: Global, reader: &mut Reader) -> Result<Word, ScanError>
 #[inline(never)]
 fn tag_word(alloc: Global, reader: &mut Reader, flow: bool) -> Result<Word, ScanError>
     requires { byte reader.old.text reader.old.at ≡ 33 }
-    ensures { ReadsWord reader.old.text reader.old.at reader.new result (spec.tagged (tag_at flow reader.old.text reader.old.at)) }
+    ensures { ReadsWord reader.old.text reader.old.at reader.new result
+        (spec.tagged (tag_at flow reader.old.text reader.old.at)) }
 {
     let read = tag(alloc, reader, flow)?;
     Ok(Word {
@@ -274,8 +302,11 @@ fn tag_word(alloc: Global, reader: &mut Reader, flow: bool) -> Result<Word, Scan
 #[inline(never)]
 fn block_word(alloc: Global, reader: &mut Reader, level: u64) -> Result<Word, ScanError>
     requires level { level ≤ length reader.old.text + 1 }
-    requires indicator { (byte reader.old.text reader.old.at ≡ 124) ⊎ (byte reader.old.text reader.old.at ≡ 62) }
-    ensures { ReadsWord reader.old.text reader.old.at reader.new result (spec.blocked (style_at reader.old.text reader.old.at) (block_at level reader.old.text reader.old.at)) }
+    requires indicator { (byte reader.old.text reader.old.at ≡ 124)
+        ⊎ (byte reader.old.text reader.old.at ≡ 62) }
+    ensures { ReadsWord reader.old.text reader.old.at reader.new result
+        (spec.blocked (style_at reader.old.text reader.old.at)
+        (block_at level reader.old.text reader.old.at)) }
 {
     let read = block_scalar(alloc, reader, level)?;
     Ok(Word {
@@ -292,7 +323,9 @@ fn block_word(alloc: Global, reader: &mut Reader, level: u64) -> Result<Word, Sc
 #[inline(never)]
 fn single_word(alloc: Global, reader: &mut Reader) -> Result<Word, ScanError>
     requires { byte reader.old.text reader.old.at ≡ 39 }
-    ensures { ReadsWord reader.old.text reader.old.at reader.new result (spec.valued (λ v. tokens.scalar v yaml_scalar_style_t.YAML_SINGLE_QUOTED_SCALAR_STYLE) (single_quoted_at reader.old.text reader.old.at)) }
+    ensures { ReadsWord reader.old.text reader.old.at reader.new result
+        (spec.valued (λ v. tokens.scalar v yaml_scalar_style_t.YAML_SINGLE_QUOTED_SCALAR_STYLE)
+        (single_quoted_at reader.old.text reader.old.at)) }
 {
     let read = single_quoted(alloc, reader)?;
     Ok(Word {
@@ -309,7 +342,9 @@ fn single_word(alloc: Global, reader: &mut Reader) -> Result<Word, ScanError>
 #[inline(never)]
 fn double_word(alloc: Global, reader: &mut Reader) -> Result<Word, ScanError>
     requires { byte reader.old.text reader.old.at ≡ 34 }
-    ensures { ReadsWord reader.old.text reader.old.at reader.new result (spec.valued (λ v. tokens.scalar v yaml_scalar_style_t.YAML_DOUBLE_QUOTED_SCALAR_STYLE) (double_quoted_at reader.old.text reader.old.at)) }
+    ensures { ReadsWord reader.old.text reader.old.at reader.new result
+        (spec.valued (λ v. tokens.scalar v yaml_scalar_style_t.YAML_DOUBLE_QUOTED_SCALAR_STYLE)
+        (double_quoted_at reader.old.text reader.old.at)) }
 {
     let read = double_quoted(alloc, reader)?;
     Ok(Word {
@@ -326,7 +361,8 @@ fn double_word(alloc: Global, reader: &mut Reader) -> Result<Word, ScanError>
 #[inline(never)]
 fn plain_word(alloc: Global, reader: &mut Reader, flow: bool, level: u64) -> Result<Word, ScanError>
     requires { plains.starts_plain flow reader.old.text reader.old.at ≡ true }
-    ensures { ReadsWord reader.old.text reader.old.at reader.new result (spec.plainly (plains.plain_at flow level reader.old.text reader.old.at)) }
+    ensures { ReadsWord reader.old.text reader.old.at reader.new result
+        (spec.plainly (plains.plain_at flow level reader.old.text reader.old.at)) }
 {
     let read = plain_scalar(alloc, reader, flow, level)?;
     Ok(Word {

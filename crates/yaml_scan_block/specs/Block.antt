@@ -21,7 +21,8 @@ larger_of a (Err w) = Err w
 abbrev pub depth_behind : (ℕ → Result ℕ Wrong) → List ℕ → ℕ → Result ℕ Wrong
 depth_behind more text q =
     if byte text q == 9 then Err (in_block problems.TabForSpace q)
-    else if nat_lt 0 (break_width text q) then larger_of (column_at text q) (more (q + break_width text q))
+    else if nat_lt 0 (break_width text q) then larger_of (column_at text q)
+    (more (q + break_width text q))
     else Ok (column_at text q)
 
 -- the greatest column that spaces reach in the blank lines there and in the line behind them, in at most n lines
@@ -47,11 +48,13 @@ block_with f (Err w) = Err w
 
 -- the lines of the text at its column
 abbrev pub block_lines : Bool → List ℕ → HeaderText → Result ℕ Wrong → Result BlockText Wrong
-block_lines folded text h (Ok c) = block_with (block_value folded h.chomp) (lines_from (suc (length text)) c text h.place h.place)
+block_lines folded text h (Ok c) = block_with (block_value folded h.chomp)
+    (lines_from (suc (length text)) c text h.place h.place)
 block_lines folded text h (Err w) = Err w
 
 abbrev pub block_behind : Bool → ℕ → List ℕ → Result HeaderText Wrong → Result BlockText Wrong
-block_behind folded level text (Ok h) = block_lines folded text h (column_of level text h.digit h.place)
+block_behind folded level text (Ok h) = block_lines folded text h
+    (column_of level text h.digit h.place)
 block_behind folded level text (Err w) = Err w
 
 -- the block scalar whose indicator stands there, `|` or `>`, or what is wrong
@@ -60,4 +63,5 @@ block_at level text p = block_behind (byte text p == 62) level text (header_at t
 
 -- `>` folds, `|` does not
 abbrev pub style_at : List ℕ → ℕ → yaml_scalar_style_t
-style_at text p = if byte text p == 62 then styles.YAML_FOLDED_SCALAR_STYLE else styles.YAML_LITERAL_SCALAR_STYLE
+style_at text p = if byte text p == 62 then styles.YAML_FOLDED_SCALAR_STYLE
+    else styles.YAML_LITERAL_SCALAR_STYLE

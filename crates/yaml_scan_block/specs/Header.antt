@@ -47,13 +47,16 @@ past_comment text p = if byte text p == 35 then line_end text p else p
 
 -- the place of the header's break, behind blanks and a comment
 abbrev pub header_end : List ℕ → ℕ → ℕ
-header_end text p = past_comment text (past_blanks text (p + indicators (byte text p) (byte text (p + 1))))
+header_end text p = past_comment text
+    (past_blanks text (p + indicators (byte text p) (byte text (p + 1))))
 
 -- the header whose indicator stands before the place
 unfoldable pub header_at : List ℕ → ℕ → Result HeaderText Wrong
 header_at text p =
-    if byte text (digit_place text p) == 48 then Err (in_block problems.ZeroIndentation (digit_place text p))
-    else if is_text text (header_end text p) then Err (in_block problems.NoCommentOrBreak (header_end text p))
+    if byte text (digit_place text p) == 48
+    then Err (in_block problems.ZeroIndentation (digit_place text p))
+    else if is_text text (header_end text p)
+    then Err (in_block problems.NoCommentOrBreak (header_end text p))
     else Ok record {
       chomp = chomp_of (byte text (chomping_place text p));
       digit = digit_of (byte text (digit_place text p));

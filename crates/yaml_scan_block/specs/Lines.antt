@@ -29,7 +29,8 @@ pub data LineSpot : Type 0 where
 unfoldable pub spot_behind : ℕ → List ℕ → ℕ → LineSpot
 spot_behind c text q =
     if byte text q == 9 && nat_lt (column_at text q) c then Tab q
-    else if nat_lt 0 (break_width text q) then Line (Empty (break_value text q)) (q + break_width text q)
+    else if nat_lt 0 (break_width text q) then Line (Empty (break_value text q))
+    (q + break_width text q)
     else if byte text q == 0 || not (column_at text q == c) then Stops q
     else
     let end = line_end text q in

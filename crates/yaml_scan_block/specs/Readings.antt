@@ -16,28 +16,37 @@ use Rattle.yaml_scan_block.specs.Block.{BlockText, style_at}
 use Rattle.yaml_scan_block.specs.Stacked.{stacked}
 
 -- a line, by what stands there
-abbrev pub LineSteps : List ℕ → yaml_mark_t → ℕ → Stacking → Stacking → Place → Result Bool ScanError → LineSpot → Type 0
+abbrev pub LineSteps : List ℕ → yaml_mark_t → ℕ → Stacking → Stacking → Place
+    → Result Bool ScanError → LineSpot → Type 0
 LineSteps text start p old new place (Ok true) (Line l q) =
-    (place ≡ record { text = text; at = q }) × ((chomp : Chomp) (ls : List BlockLine) → stacked new chomp ls ≡ stacked old chomp (l ∷ ls)) × (p < q) × (p < length text)
+    (place ≡ record { text = text; at = q })
+    × ((chomp : Chomp) (ls : List BlockLine) → stacked new chomp ls ≡ stacked old chomp
+    (l ∷ ls)) × (p < q) × (p < length text)
 LineSteps text start p old new place (Ok true) (Stops q) = ⊥
 LineSteps text start p old new place (Ok true) (Tab q) = ⊥
-LineSteps text start p old new place (Ok false) (Stops q) = (place ≡ record { text = text; at = q }) × (new ≡ old)
+LineSteps text start p old new place (Ok false) (Stops q) = (place ≡ record { text = text; at = q })
+    × (new ≡ old)
 LineSteps text start p old new place (Ok false) (Line l q) = ⊥
 LineSteps text start p old new place (Ok false) (Tab q) = ⊥
-LineSteps text start p old new place (Err e) (Tab q) = Refuses text start e (in_block problems.TabForSpace q)
+LineSteps text start p old new place (Err e) (Tab q) = Refuses text start e
+    (in_block problems.TabForSpace q)
 LineSteps text start p old new place (Err e) (Line l q) = IsMemory e
 LineSteps text start p old new place (Err e) (Stops q) = ⊥
 
 -- the lines, with the place after the last one, where the last breaks are treated so
-abbrev pub ReadsLines : List ℕ → yaml_mark_t → Chomp → Stacking → Place → Result yaml_mark_t ScanError → Result BlockText Wrong → Type 0
+abbrev pub ReadsLines : List ℕ → yaml_mark_t → Chomp → Stacking → Place
+    → Result yaml_mark_t ScanError → Result BlockText Wrong → Type 0
 ReadsLines text start chomp new place (Ok end) (Ok x) =
-    (stacked new chomp [] ≡ x.value) × (end ≡ mark_at text x.end) × (place ≡ record { text = text; at = x.place })
+    (stacked new chomp [] ≡ x.value) × (end ≡ mark_at text x.end)
+    × (place ≡ record { text = text; at = x.place })
 ReadsLines text start chomp new place (Ok end) (Err w) = ⊥
 ReadsLines text start chomp new place (Err e) (Ok x) = IsMemory e
 ReadsLines text start chomp new place (Err e) (Err w) = Refuses text start e w
 
-abbrev pub ReadsHeader : List ℕ → yaml_mark_t → Place → Result Header ScanError → Result HeaderText Wrong → Type 0
-ReadsHeader text start place (Ok h) (Ok x) = (h.chomp ≡ x.chomp) × (h.digit ≡ x.digit) × (place ≡ record { text = text; at = x.place })
+abbrev pub ReadsHeader : List ℕ → yaml_mark_t → Place → Result Header ScanError
+    → Result HeaderText Wrong → Type 0
+ReadsHeader text start place (Ok h) (Ok x) = (h.chomp ≡ x.chomp) × (h.digit ≡ x.digit)
+    × (place ≡ record { text = text; at = x.place })
 ReadsHeader text start place (Ok h) (Err w) = ⊥
 ReadsHeader text start place (Err e) (Ok x) = ⊥
 ReadsHeader text start place (Err e) (Err w) = Refuses text start e w
@@ -57,8 +66,10 @@ pub record IsBlock (text : List ℕ) (start : ℕ) (b : Block) (x : BlockText) :
 
 -- What reading a block scalar answers, and where it leaves the reader: the scalar and the place behind it, what is
 -- wrong, or that memory ran out.
-abbrev pub ReadsBlock : List ℕ → ℕ → Place → Result Block ScanError → Result BlockText Wrong → Type 0
-ReadsBlock text start place (Ok b) (Ok x) = IsBlock text start b x × (place ≡ record { text = text; at = x.place })
+abbrev pub ReadsBlock : List ℕ → ℕ → Place → Result Block ScanError → Result BlockText Wrong
+    → Type 0
+ReadsBlock text start place (Ok b) (Ok x) = IsBlock text start b x
+    × (place ≡ record { text = text; at = x.place })
 ReadsBlock text start place (Ok b) (Err w) = ⊥
 ReadsBlock text start place (Err e) (Ok x) = IsMemory e
 ReadsBlock text start place (Err e) (Err w) = Refuses text (mark_at text start) e w

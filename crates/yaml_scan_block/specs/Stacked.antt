@@ -10,7 +10,8 @@ stacked_with folded done any blank feed empties chomp g =
     else done ++ value_with folded chomp (empties ++ g.lead) g.lines
 
 abbrev pub stacked : Stacking → Chomp → List BlockLine → List ℕ
-stacked s chomp ls = stacked_with s.folded s.done.items s.any s.blank s.feed.items s.empties.items chomp (texts_of ls)
+stacked s chomp ls = stacked_with s.folded s.done.items s.any s.blank s.feed.items s.empties.items
+    chomp (texts_of ls)
 
 -- what stands before the next text
 unfoldable pub glued : Bool → Bool → Bool → List ℕ → List ℕ → Bool → List ℕ

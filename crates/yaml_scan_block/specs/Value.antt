@@ -24,7 +24,14 @@ pub record Texts : Type 0 where
 
 abbrev pub add_line : BlockLine → Texts → Texts
 add_line (Empty b) g = record { lead = b ++ g.lead; lines = g.lines }
-add_line (Words words feed) g = record { lead = []; lines = record { words = words; feed = feed; empties = g.lead } ∷ g.lines }
+add_line (Words words feed) g = record {
+  lead = [];
+  lines = record {
+    words = words;
+    feed = feed;
+    empties = g.lead;
+  } ∷ g.lines;
+}
 
 -- lines by their texts
 abbrev pub texts_of : List BlockLine → Texts
@@ -42,7 +49,8 @@ space_or (b ∷ bs) = b ∷ bs
 
 -- what stands between two texts, by their breaks; `bare`: neither begins with a blank
 unfoldable pub between : Bool → Bool → List ℕ → List ℕ → List ℕ
-between folded bare feed empties = if folded && (bare && is_feed feed) then space_or empties else feed ++ empties
+between folded bare feed empties = if folded && (bare && is_feed feed) then space_or empties
+    else feed ++ empties
 
 -- what stays of the last text's break, and of the empty lines behind it
 abbrev pub at_end : Chomp → List ℕ → List ℕ → List ℕ
@@ -59,7 +67,8 @@ behind_text folded chomp blank feed empties (l ∷ ls) =
 
 abbrev pub value_with : Bool → Chomp → List ℕ → List TextLine → List ℕ
 value_with folded chomp lead [] = at_end chomp [] lead
-value_with folded chomp lead (l ∷ ls) = lead ++ (l.words ++ behind_text folded chomp (starts_blank l.words) l.feed l.empties ls)
+value_with folded chomp lead (l ∷ ls) = lead
+    ++ (l.words ++ behind_text folded chomp (starts_blank l.words) l.feed l.empties ls)
 
 -- the value of lines
 abbrev pub block_value : Bool → Chomp → List BlockLine → List ℕ

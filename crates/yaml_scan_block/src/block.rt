@@ -25,9 +25,11 @@ pub struct Block {
 /// The block scalar whose indicator stands here. The level is the column of the innermost open block level and one, or 0
 /// where none is open. The reader is left where the scalar's lines stop, behind spaces that may follow its end.
 pub fn block_scalar(alloc: Global, reader: &mut Reader, level: u64) -> Result<Block, ScanError>
-    requires indicator { (byte reader.old.text reader.old.at ≡ 124) ⊎ (byte reader.old.text reader.old.at ≡ 62) }
+    requires indicator { (byte reader.old.text reader.old.at ≡ 124)
+        ⊎ (byte reader.old.text reader.old.at ≡ 62) }
     requires level { level ≤ length reader.old.text + 1 }
-    ensures { ReadsBlock reader.old.text reader.old.at reader.new result (spec.block_at level reader.old.text reader.old.at) }
+    ensures { ReadsBlock reader.old.text reader.old.at reader.new result
+        (spec.block_at level reader.old.text reader.old.at) }
 {
     let start = reader.mark();
     let folded = reader.here() == b'>';
@@ -46,7 +48,8 @@ pub fn block_scalar(alloc: Global, reader: &mut Reader, level: u64) -> Result<Bl
 }
 
 fn style_of(folded: bool) -> yaml_scalar_style_t
-    ensures { result ≡ (if folded then styles.YAML_FOLDED_SCALAR_STYLE else styles.YAML_LITERAL_SCALAR_STYLE) }
+    ensures { result ≡ (if folded then styles.YAML_FOLDED_SCALAR_STYLE
+        else styles.YAML_LITERAL_SCALAR_STYLE) }
 {
     if folded {
         yaml_scalar_style_t::YAML_FOLDED_SCALAR_STYLE
@@ -67,7 +70,8 @@ fn larger(a: u64, b: u64) -> u64
 fn column_of(reader: &Reader, level: u64, digit: u64, start: yaml_mark_t) -> Result<u64, ScanError>
     requires level { level ≤ length reader.now.text + 1 }
     requires digit { digit < 10 }
-    ensures { FindsColumn reader.now.text start result (spec.column_of level reader.now.text digit reader.now.at) }
+    ensures { FindsColumn reader.now.text start result (spec.column_of level reader.now.text digit
+        reader.now.at) }
 {
     if digit > 0 {
         // Read for the sum: a length that is read has a number within its type, and the level is at most that.
@@ -80,7 +84,8 @@ fn column_of(reader: &Reader, level: u64, digit: u64, start: yaml_mark_t) -> Res
 
 /// The greatest column that spaces reach in the blank lines here and in the line behind them.
 fn deepest(reader: &Reader, start: yaml_mark_t) -> Result<u64, ScanError>
-    ensures { FindsColumn reader.now.text start result (spec.deepest (suc (length reader.now.text)) reader.now.text reader.now.at) }
+    ensures { FindsColumn reader.now.text start result (spec.deepest (suc (length reader.now.text))
+        reader.now.text reader.now.at) }
 {
     let mut ahead = reader.ahead();
     let mut depth = 0;

@@ -30,7 +30,8 @@ pub(crate) struct Header {
 
 /// Past the header whose indicator stands before this place, and past its break.
 pub(crate) fn read_header(reader: &mut Reader, start: yaml_mark_t) -> Result<Header, ScanError>
-    ensures value { ReadsHeader reader.old.text start reader.new result (spec.header_at reader.old.text reader.old.at) }
+    ensures value { ReadsHeader reader.old.text start reader.new result
+        (spec.header_at reader.old.text reader.old.at) }
     ensures small { IfOk result (λ h. h.digit < 10) }
 {
     let first = reader.here();
@@ -55,7 +56,13 @@ pub(crate) fn read_header(reader: &mut Reader, start: yaml_mark_t) -> Result<Hea
 
 /// The refusal of the scalar that starts at the mark.
 pub(crate) fn wrong_block(problem: Problem, start: yaml_mark_t, place: yaml_mark_t) -> ScanError
-    ensures { result ≡ ScanError.Fault (record { problem = problem; context = Context.BlockScalar; context_mark = start; problem_mark = place }) }
+    ensures { result ≡ ScanError.Fault
+        (record {
+          problem = problem;
+          context = Context.BlockScalar;
+          context_mark = start;
+          problem_mark = place;
+        }) }
 {
     ScanError::refusal(problem, Context::BlockScalar, start, place)
 }
@@ -115,7 +122,14 @@ fn digit_of(byte: u8) -> u64
 
 /// The refusal of the digit 0, which stands here or behind a chomping indicator.
 fn zero_digit(reader: &mut Reader, start: yaml_mark_t) -> ScanError
-    ensures { result ≡ ScanError.Fault (record { problem = Problem.ZeroIndentation; context = Context.BlockScalar; context_mark = start; problem_mark = mark_at reader.old.text (spec.digit_place reader.old.text reader.old.at) }) }
+    ensures { result ≡ ScanError.Fault
+        (record {
+          problem = Problem.ZeroIndentation;
+          context = Context.BlockScalar;
+          context_mark = start;
+          problem_mark = mark_at reader.old.text
+              (spec.digit_place reader.old.text reader.old.at);
+        }) }
 {
     if is_chomping(reader.here()) {
         reader.skip();
@@ -140,7 +154,11 @@ fn indicators(first: u8, second: u8) -> usize
 
 /// Past the chomping indicator and the digit here.
 fn skip_indicators(reader: &mut Reader)
-    ensures { reader.new ≡ record { text = reader.old.text; at = reader.old.at + spec.indicators (byte reader.old.text reader.old.at) (byte reader.old.text (reader.old.at + 1)) } }
+    ensures { reader.new ≡ record {
+      text = reader.old.text;
+      at = reader.old.at + spec.indicators
+          (byte reader.old.text reader.old.at) (byte reader.old.text (reader.old.at + 1));
+    } }
 {
     let count = indicators(reader.here(), reader.byte(1));
     if count == 0 {
@@ -156,7 +174,11 @@ fn skip_indicators(reader: &mut Reader)
 /// Past the comment here, if one is here.
 #[tactic(auto, unfolding(crate::specs::Header::past_comment))]
 fn skip_comment(reader: &mut Reader)
-    ensures { reader.new ≡ record { text = reader.old.text; at = spec.past_comment reader.old.text reader.old.at } }
+    ensures { reader.new ≡ record {
+      text = reader.old.text;
+      at = spec.past_comment reader.old.text
+          reader.old.at;
+    } }
 {
     if reader.here() == b'#' {
         skip_text(reader);
@@ -165,7 +187,11 @@ fn skip_comment(reader: &mut Reader)
 
 /// Past the break here, if one is here.
 pub(crate) fn skip_last_break(reader: &mut Reader)
-    ensures { reader.new ≡ record { text = reader.old.text; at = reader.old.at + break_width reader.old.text reader.old.at } }
+    ensures { reader.new ≡ record {
+      text = reader.old.text;
+      at = reader.old.at + break_width
+          reader.old.text reader.old.at;
+    } }
 {
     if reader.break_width() > 0 {
         reader.skip_break();

@@ -19,7 +19,10 @@ pub(crate) fn read_lines(
     column: u64,
     start: yaml_mark_t,
 ) -> Result<yaml_mark_t, ScanError>
-    ensures { (chomp : Chomp) → ReadsLines reader.old.text start chomp stacking.new reader.new result (block_with (stacked stacking.old chomp) (spec.lines_from (suc (length reader.old.text)) column reader.old.text reader.old.at reader.old.at)) }
+    ensures { (chomp : Chomp) → ReadsLines reader.old.text start chomp stacking.new reader.new
+        result (block_with (stacked stacking.old chomp)
+        (spec.lines_from (suc (length reader.old.text)) column reader.old.text reader.old.at
+        reader.old.at)) }
 {
     let mut end = reader.mark();
     'lines: loop {
@@ -38,7 +41,8 @@ fn line(
     column: u64,
     start: yaml_mark_t,
 ) -> Result<bool, ScanError>
-    ensures { LineSteps reader.old.text start reader.old.at stacking.old stacking.new reader.new result (spec.line_spot column reader.old.text reader.old.at) }
+    ensures { LineSteps reader.old.text start reader.old.at stacking.old stacking.new reader.new
+        result (spec.line_spot column reader.old.text reader.old.at) }
 {
     indent(reader, column);
     behind(reader, stacking, column, start)
@@ -46,7 +50,11 @@ fn line(
 
 /// Past the spaces before the column.
 fn indent(reader: &mut Reader, column: u64)
-    ensures { reader.new ≡ record { text = reader.old.text; at = reader.old.at + spec.spaces (column - column_at reader.old.text reader.old.at) reader.old.text reader.old.at } }
+    ensures { reader.new ≡ record {
+      text = reader.old.text;
+      at = reader.old.at + spec.spaces
+          (column - column_at reader.old.text reader.old.at) reader.old.text reader.old.at;
+    } }
 {
     'spaces: while is_space_before(reader, column) {
         reader.skip();
@@ -55,14 +63,16 @@ fn indent(reader: &mut Reader, column: u64)
 
 /// Whether a space stands here, before the column.
 fn is_space_before(reader: &Reader, column: u64) -> bool
-    ensures { result ≡ (byte reader.now.text reader.now.at == 32 && nat_lt (column_at reader.now.text reader.now.at) column) }
+    ensures { result ≡ (byte reader.now.text reader.now.at == 32
+        && nat_lt (column_at reader.now.text reader.now.at) column) }
 {
     reader.here() == b' ' && reader.mark().column < column
 }
 
 /// Whether a tab stands here, before the column.
 fn is_tab_before(reader: &Reader, column: u64) -> bool
-    ensures { result ≡ (byte reader.now.text reader.now.at == 9 && nat_lt (column_at reader.now.text reader.now.at) column) }
+    ensures { result ≡ (byte reader.now.text reader.now.at == 9
+        && nat_lt (column_at reader.now.text reader.now.at) column) }
 {
     reader.here() == b'\t' && reader.mark().column < column
 }
@@ -74,7 +84,8 @@ fn behind(
     column: u64,
     start: yaml_mark_t,
 ) -> Result<bool, ScanError>
-    ensures { (p : ℕ) → p ≤ reader.old.at → LineSteps reader.old.text start p stacking.old stacking.new reader.new result (spec.spot_behind column reader.old.text reader.old.at) }
+    ensures { (p : ℕ) → p ≤ reader.old.at → LineSteps reader.old.text start p stacking.old
+        stacking.new reader.new result (spec.spot_behind column reader.old.text reader.old.at) }
 {
     if is_tab_before(reader, column) {
         return Err(wrong_block(Problem::TabForSpace, start, reader.mark()));

@@ -30,7 +30,8 @@ pub(crate) struct Stacking {
 impl Stacking {
     /// With no lines.
     pub(crate) fn new(alloc: Global, folded: bool) -> Stacking
-        ensures { (chomp : Chomp) (ls : List BlockLine) → stacked result chomp ls ≡ block_value folded chomp ls }
+        ensures { (chomp : Chomp) (ls : List BlockLine) → stacked result chomp ls ≡ block_value
+            folded chomp ls }
     {
         Stacking {
             folded,
@@ -44,7 +45,8 @@ impl Stacking {
 
     /// An empty line, by the bytes that its break reads as.
     pub(crate) fn empty(&mut self, bytes: &[u8]) -> Result<(), AllocError>
-        ensures { OnOk result ((chomp : Chomp) (ls : List BlockLine) → stacked self.new chomp ls ≡ stacked self.old chomp (Empty bytes.now ∷ ls)) }
+        ensures { OnOk result ((chomp : Chomp) (ls : List BlockLine) → stacked self.new chomp ls
+            ≡ stacked self.old chomp (Empty bytes.now ∷ ls)) }
     {
         self.empties.extend_from_slice(bytes)?;
         Ok(())
@@ -52,8 +54,17 @@ impl Stacking {
 
     /// What stands before a line that begins with a blank or doesn't.
     fn glue(&mut self, blank: bool) -> Result<(), AllocError>
-        ensures rest { OnOk result (self.new ≡ record { folded = self.old.folded; done = self.new.done; any = self.old.any; blank = self.old.blank; feed = self.old.feed; empties = self.old.empties }) }
-        ensures done { OnOk result (self.new.done.items ≡ self.old.done.items ++ glue self.old blank) }
+        ensures rest { OnOk result (self.new
+            ≡ record {
+              folded = self.old.folded;
+              done = self.new.done;
+              any = self.old.any;
+              blank = self.old.blank;
+              feed = self.old.feed;
+              empties = self.old.empties;
+            }) }
+        ensures done { OnOk result (self.new.done.items ≡ self.old.done.items ++ glue self.old
+            blank) }
     {
         if !self.any {
             self.done.extend_from_slice(self.empties.as_slice())?;
@@ -74,7 +85,8 @@ impl Stacking {
 
     /// A line with text, and the bytes that its break reads as.
     pub(crate) fn line(&mut self, words: &[u8], feed: &[u8]) -> Result<(), AllocError>
-        ensures { OnOk result ((chomp : Chomp) (ls : List BlockLine) → stacked self.new chomp ls ≡ stacked self.old chomp (Words words.now feed.now ∷ ls)) }
+        ensures { OnOk result ((chomp : Chomp) (ls : List BlockLine) → stacked self.new chomp ls
+            ≡ stacked self.old chomp (Words words.now feed.now ∷ ls)) }
     {
         let blank = starts_blank(words);
         self.glue(blank)?;

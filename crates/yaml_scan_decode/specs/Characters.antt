@@ -19,7 +19,8 @@ between first last c = nat_le first c && nat_le c last
 unfoldable pub is_allowed : ℕ → Bool
 is_allowed c =
     (c == 0x09 || (c == 0x0A || c == 0x0D))
-    || (between 0x20 0x7E c || (c == 0x85 || (between 0xA0 0xD7FF c || (between 0xE000 0xFFFD c || between 0x1_0000 0x10_FFFF c))))
+    || (between 0x20 0x7E c || (c == 0x85
+    || (between 0xA0 0xD7FF c || (between 0xE000 0xFFFD c || between 0x1_0000 0x10_FFFF c))))
 
 abbrev pub is_low_surrogate : ℕ → Bool
 is_low_surrogate c = between 0xDC00 0xDFFF c
@@ -43,13 +44,15 @@ allowed_at p width code =
 
 -- the least code that needs so many bytes of UTF-8
 unfoldable pub least_code : ℕ → ℕ
-least_code width = if width == 1 then 0 else if width == 2 then 0x80 else if width == 3 then 0x800 else 0x1_0000
+least_code width = if width == 1 then 0 else if width == 2 then 0x80 else if width == 3 then 0x800
+    else 0x1_0000
 
 -- those bytes there stand for the code: a shorter form, a surrogate and a number above 10FFFF spell no character
 unfoldable pub valued_at : ℕ → ℕ → ℕ → Result Character Offence
 valued_at p width code =
     if nat_lt code (least_code width) then offends problems.InvalidLength p no_value
-    else if between 0xD800 0xDFFF code || nat_lt 0x10_FFFF code then offends problems.InvalidCharacter p (pos code)
+    else if between 0xD800 0xDFFF code || nat_lt 0x10_FFFF code
+    then offends problems.InvalidCharacter p (pos code)
     else allowed_at p width code
 
 -- 10xxxxxx
@@ -58,7 +61,8 @@ is_trailing b = between 0x80 0xBF b
 
 -- what the first byte of a character of so many bytes adds to its code
 unfoldable pub leading_bits : ℕ → ℕ → ℕ
-leading_bits width b = if width == 1 then b else if width == 2 then b - 0xC0 else if width == 3 then b - 0xE0 else b - 0xF0
+leading_bits width b = if width == 1 then b else if width == 2 then b - 0xC0 else if width == 3
+    then b - 0xE0 else b - 0xF0
 
 -- the code that so many of these bytes stand for
 unfoldable pub utf8_code : ℕ → ℕ → ℕ → ℕ → ℕ → ℕ
@@ -72,9 +76,12 @@ utf8_code width b c d e =
 -- what so many of these bytes at p spell: each behind the first must be a trailing one
 unfoldable pub sequence_of : ℕ → ℕ → ℕ → ℕ → ℕ → ℕ → Result Character Offence
 sequence_of width p b c d e =
-    if nat_lt 1 width && not (is_trailing c) then offends problems.InvalidTrailingOctet (p + 1) (pos c)
-    else if nat_lt 2 width && not (is_trailing d) then offends problems.InvalidTrailingOctet (p + 2) (pos d)
-    else if nat_lt 3 width && not (is_trailing e) then offends problems.InvalidTrailingOctet (p + 3) (pos e)
+    if nat_lt 1 width && not (is_trailing c) then offends problems.InvalidTrailingOctet (p + 1)
+    (pos c)
+    else if nat_lt 2 width && not (is_trailing d) then offends problems.InvalidTrailingOctet (p + 2)
+    (pos d)
+    else if nat_lt 3 width && not (is_trailing e) then offends problems.InvalidTrailingOctet (p + 3)
+    (pos e)
     else valued_at p width (utf8_code width b c d e)
 
 -- what b begins at p, where c, d and e stand behind it, and so many bytes are left with b
@@ -85,7 +92,8 @@ utf8_of left p b c d e =
     else sequence_of (width_of b) p b c d e
 
 abbrev pub utf8_at : List ℕ → ℕ → Result Character Offence
-utf8_at bytes p = utf8_of (length bytes - p) p (byte bytes p) (byte bytes (p + 1)) (byte bytes (p + 2)) (byte bytes (p + 3))
+utf8_at bytes p = utf8_of (length bytes - p) p (byte bytes p) (byte bytes (p + 1))
+    (byte bytes (p + 2)) (byte bytes (p + 3))
 
 -- the encoding in 16-bit units whose bytes have this order
 abbrev pub encoding_by : ByteOrder → yaml_encoding_t
@@ -108,7 +116,8 @@ utf16_of left p u v =
     else allowed_at p 4 (0x1_0000 + (u - 0xD800) * 0x400 + (v - 0xDC00))
 
 abbrev pub utf16_at : ByteOrder → List ℕ → ℕ → Result Character Offence
-utf16_at order bytes p = utf16_of (length bytes - p) p (unit_at order bytes p) (unit_at order bytes (p + 2))
+utf16_at order bytes p = utf16_of (length bytes - p) p (unit_at order bytes p)
+    (unit_at order bytes (p + 2))
 
 -- the character there, or the first line of the table of offences that holds there
 abbrev pub character_at : yaml_encoding_t → List ℕ → ℕ → Result Character Offence

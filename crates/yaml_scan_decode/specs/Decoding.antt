@@ -13,14 +13,16 @@ before c (Ok cs) = Ok (c ∷ cs)
 before c (Err o) = Err o
 
 -- what stands there, before what the places behind it hold
-abbrev pub led_by : (ℕ → Result (List ℕ) Offence) → ℕ → Result Character Offence → Result (List ℕ) Offence
+abbrev pub led_by : (ℕ → Result (List ℕ) Offence) → ℕ → Result Character Offence
+    → Result (List ℕ) Offence
 led_by rest p (Ok c) = before c.code (rest (p + c.width))
 led_by rest p (Err o) = Err o
 
 -- the characters from the place on, at most n of them, or the first offence
 unfoldable pub characters : ℕ → yaml_encoding_t → List ℕ → ℕ → Result (List ℕ) Offence
 characters zero encoding bytes p = Ok []
-characters (suc n) encoding bytes p = if nat_lt p (length bytes) then led_by (characters n encoding bytes) p (character_at encoding bytes p) else Ok []
+characters (suc n) encoding bytes p = if nat_lt p (length bytes)
+    then led_by (characters n encoding bytes) p (character_at encoding bytes p) else Ok []
 
 -- the characters in UTF-8
 abbrev pub in_utf8 : Result (List ℕ) Offence → Result (List ℕ) Offence
@@ -29,7 +31,8 @@ in_utf8 (Err o) = Err o
 
 -- the characters of the bytes behind a mark that is removed, or the first offence
 abbrev pub decoded_characters : yaml_encoding_t → List ℕ → Result (List ℕ) Offence
-decoded_characters setting bytes = characters (length bytes) (encoding_of setting bytes) bytes (mark_length setting bytes)
+decoded_characters setting bytes = characters (length bytes) (encoding_of setting bytes) bytes
+    (mark_length setting bytes)
 
 -- the text that the bytes spell, or the first offence
 abbrev pub decoded_text : yaml_encoding_t → List ℕ → Result (List ℕ) Offence

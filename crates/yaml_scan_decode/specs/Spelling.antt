@@ -34,7 +34,8 @@ spellings encoding (c ∷ cs) = spelling encoding c ++ spellings encoding cs
 pub record Spells (setting : yaml_encoding_t) (bytes text : List ℕ) : Type 0 where
   pub characters : List ℕ
   pub allowed : AllPass is_allowed characters
-  pub spelled : drop (mark_length setting bytes) bytes ≡ spellings (encoding_of setting bytes) characters
+  pub spelled : drop (mark_length setting bytes) bytes ≡ spellings (encoding_of setting bytes)
+      characters
   pub is : text ≡ encode_utf8_all characters
 
 -- the bytes spell no text

@@ -13,7 +13,13 @@ use Rattle.yaml_scan_decode.specs.Decoding.{characters}
 -- what the byte b, which stands so many places behind the first of its character, adds to the code; 0 where the character has no such byte
 unfoldable pub trailing_bits : ℕ → ℕ → ℕ → ℕ → Result ℕ Offence
 trailing_bits p width ahead b =
-    if nat_lt ahead width && not (is_trailing b) then Err record { problem = problems.InvalidTrailingOctet; offset = p + ahead; value = pos b }
+    if nat_lt ahead width && not (is_trailing b)
+    then Err record {
+      problem = problems.InvalidTrailingOctet;
+      offset = p + ahead;
+      value = pos
+          b;
+    }
     else Ok (if nat_lt ahead width then b - 0x80 else 0)
 
 -- an ASCII character that a stream may hold

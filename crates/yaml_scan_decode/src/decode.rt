@@ -44,10 +44,12 @@ fn decode_units<'a>(
     order: ByteOrder,
 ) -> Result<yaml_text_t<'a>, yaml_fault_t>
     requires { start ≤ length input.now }
-    ensures text { IfOk result (λ t. in_utf8 (characters (length input.now) (encoding_by order) input.now start) ≡ Ok (text_bytes t)) }
+    ensures text { IfOk result (λ t. in_utf8 (characters (length input.now) (encoding_by order)
+        input.now start) ≡ Ok (text_bytes t)) }
     ensures held { IfOk result (λ t. is_borrowed t ≡ false) }
     ensures fault { IfErr result (λ f. (fault_of f ≡ memory_fault Reader)
-        ⊎ (fault_in (characters (length input.now) (encoding_by order) input.now start) ≡ Some (fault_of f))) }
+        ⊎ (fault_in (characters (length input.now) (encoding_by order) input.now start)
+        ≡ Some (fault_of f))) }
 {
     match decode_utf16(alloc, input, start, order) {
         Ok(text) => Ok(yaml_text_t::Owned(text)),
@@ -68,15 +70,18 @@ pub fn yaml_decode<'a>(
     encoding: yaml_encoding_t,
 ) -> Result<yaml_text_t<'a>, yaml_fault_t>
     ensures text { IfOk result (λ t. decoded_text encoding input.now ≡ Ok (text_bytes t)) }
-    ensures fault { IfErr result (λ f. (fault_of f ≡ memory_fault Reader) ⊎ (decoding_fault encoding input.now ≡ Some (fault_of f))) }
+    ensures fault { IfErr result (λ f. (fault_of f ≡ memory_fault Reader)
+        ⊎ (decoding_fault encoding input.now ≡ Some (fault_of f))) }
 
     // UTF-8 is lent as it stands, and takes no memory.
     ensures held { IfOk result (λ t. is_borrowed t ≡ is_utf8 (encoding_of encoding input.now)) }
-    ensures no_memory { encoding_of encoding input.now ≡ YAML_UTF8_ENCODING → IfErr result (λ f. decoding_fault encoding input.now ≡ Some (fault_of f)) }
+    ensures no_memory { encoding_of encoding input.now ≡ YAML_UTF8_ENCODING
+        → IfErr result (λ f. decoding_fault encoding input.now ≡ Some (fault_of f)) }
 
     // In the words of spelling: the text is the one that the bytes spell, and where they are refused they spell none.
     ensures spelled { IfOk result (λ t. Spells encoding input.now (text_bytes t)) }
-    ensures unspelled { IfErr result (λ f. (fault_of f ≡ memory_fault Reader) ⊎ SpellsNothing encoding input.now) }
+    ensures unspelled { IfErr result (λ f. (fault_of f ≡ memory_fault Reader)
+        ⊎ SpellsNothing encoding input.now) }
 {
     let start = removed_mark_length(input, encoding);
     match stream_encoding(input, encoding) {

@@ -126,7 +126,8 @@ pub fn decode_utf16(
     order: ByteOrder,
 ) -> Result<Vec<u8>, DecodeError>
     requires { start ≤ length bytes.now }
-    ensures { DecodesTo result (in_utf8 (characters (length bytes.now) (encoding_by order) bytes.now start)) }
+    ensures { DecodesTo result (in_utf8 (characters (length bytes.now) (encoding_by order) bytes.now
+        start)) }
 {
     // Each unit takes a byte at least.
     let mut text = String::with_capacity(alloc, (bytes.len() - start) / 2)?;

@@ -94,7 +94,8 @@ fn sequence(bytes: &[u8], at: usize, width: usize) -> Result<Character, Offence>
     requires width { width_of (byte bytes.now at) ≡ width }
     requires few { width ≤ 4 }
     requires inside { at + width ≤ length bytes.now }
-    ensures { result ≡ sequence_of width at (byte bytes.now at) (byte bytes.now (at + 1)) (byte bytes.now (at + 2)) (byte bytes.now (at + 3)) }
+    ensures { result ≡ sequence_of width at (byte bytes.now at) (byte bytes.now (at + 1))
+        (byte bytes.now (at + 2)) (byte bytes.now (at + 3)) }
 {
     let second = trailing_bits(bytes, at, width, 1)?;
     let third = trailing_bits(bytes, at, width, 2)?;

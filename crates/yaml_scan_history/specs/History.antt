@@ -35,7 +35,8 @@ pub record Candidate : Type 0 where
 unfoldable pub candidate : ℕ → List Lexeme → Option Candidate
 candidate d [] = None
 candidate d (l ∷ h) =
-    if l.depth == d then (if l.saved then Some record { number = length h; lexeme = l } else if cancels l.kind then None else candidate d h)
+    if l.depth == d then (if l.saved then Some record { number = length h; lexeme = l }
+    else if cancels l.kind then None else candidate d h)
     else if nat_lt l.depth d then None
     else candidate d h
 
@@ -85,7 +86,8 @@ keeps k column = if is_outside k then 0 else column + 1
 
 -- the levels that a lexeme leaves open; inside brackets it leaves all
 abbrev pub left_by : Kind → ℕ → ℕ → List ℕ → List ℕ
-left_by k depth column levels = if nat_lt 0 depth then levels else filter (λ x. nat_le x (keeps k column)) levels
+left_by k depth column levels = if nat_lt 0 depth then levels
+    else filter (λ x. nat_le x (keeps k column)) levels
 
 -- the column where a `-`, a `?`, a `:` or the key of a `:` may open a level
 abbrev pub opens_at : Option Candidate → Kind → ℕ → ℕ
@@ -93,16 +95,20 @@ opens_at None k column = column + 1
 opens_at (Some c) k column = if is_value k then c.lexeme.start.column + 1 else column + 1
 
 abbrev pub opened : Bool → ℕ → List ℕ → List ℕ
-opened may column levels = if may && nat_lt (indent levels) column then levels ++ column ∷ [] else levels
+opened may column levels = if may && nat_lt (indent levels) column then levels ++ column ∷ []
+    else levels
 
 -- the columns whose level no later lexeme has closed
 unfoldable pub levels : List Lexeme → List ℕ
 levels [] = []
-levels (l ∷ h) = opened (is_start l.kind && not (nat_lt 0 l.depth)) (opens_at (found_by l h) l.kind l.start.column) (left_by l.kind l.depth l.start.column (levels h))
+levels (l ∷ h) = opened (is_start l.kind && not (nat_lt 0 l.depth))
+    (opens_at (found_by l h) l.kind l.start.column)
+    (left_by l.kind l.depth l.start.column (levels h))
 
 -- the level that opens at a column, where it passes the indent
 abbrev pub start_of : ℕ → ℕ → List ℕ → Opens → Opens
-start_of depth column levels what = if not (nat_lt 0 depth) && nat_lt (indent levels) column then what else opening.Nothing
+start_of depth column levels what = if not (nat_lt 0 depth) && nat_lt (indent levels) column
+    then what else opening.Nothing
 
 -- the level that a `-`, a `?` or a `:` may open
 abbrev pub level_of : Kind → Opens
@@ -120,11 +126,23 @@ abbrev pub inside : Lexeme → List Lexeme → List ℕ
 inside l h = left_by l.kind l.depth l.start.column (levels h)
 
 abbrev pub entry_of : Lexeme → List Lexeme → Entry
-entry_of l h = record { lexeme = l; ends = length (levels h) - length (inside l h); opens = opens_of (found_by l h) l (inside l h); key = false }
+entry_of l h = record {
+  lexeme = l;
+  ends = length (levels h) - length (inside l h);
+  opens = opens_of
+      (found_by l h) l (inside l h);
+  key = false;
+}
 
 -- the mark that a `:` sets at its candidate: a key, which opens a mapping where its column passes the indent
 abbrev pub as_key : List ℕ → Entry → Entry
-as_key levels e = record { lexeme = e.lexeme; ends = e.ends; opens = start_of e.lexeme.depth (e.lexeme.start.column + 1) levels opening.Mapping; key = true }
+as_key levels e = record {
+  lexeme = e.lexeme;
+  ends = e.ends;
+  opens = start_of e.lexeme.depth
+      (e.lexeme.start.column + 1) levels opening.Mapping;
+  key = true;
+}
 
 unfoldable pub mark_key : List ℕ → List Entry → ℕ → List Entry
 mark_key levels [] n = []
@@ -151,4 +169,5 @@ key_allowed (l ∷ h) = allows_key l.kind (l.depth == 0) (has (found_by l h)) ||
 
 -- the stream's end stands at the start of a line
 abbrev pub placed : Kind → yaml_mark_t → yaml_mark_t
-placed k m = if is_end k && nat_lt 0 m.column then record { index = m.index; line = m.line + 1; column = 0 } else m
+placed k m = if is_end k && nat_lt 0 m.column
+    then record { index = m.index; line = m.line + 1; column = 0 } else m

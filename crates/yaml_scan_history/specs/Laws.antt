@@ -12,9 +12,11 @@ Upto p q = (p.index ≤ q.index) × (p.line ≤ q.line)
 
 -- each lexeme of the text stands behind the ones before it
 abbrev pub GoesForward : List ℕ → Type 0
-GoesForward text = (n : ℕ) (l : Lexeme) → next text (history text n) ≡ Read l → Upto (reached (history text n)) l.start × Upto l.start l.reached
+GoesForward text = (n : ℕ) (l : Lexeme) → next text (history text n) ≡ Read l
+    → Upto (reached (history text n)) l.start × Upto l.start l.reached
 
 -- Of the lexemes of n steps, those before the earliest open candidate are handed out as they stand, whatever follows.
 abbrev pub SettledStays : Type 0
-SettledStays = (text : List ℕ) → GoesForward text → (n m : ℕ) → n ≤ length text + 2 → m ≤ first_open (history text n) (history text n)
+SettledStays = (text : List ℕ) → GoesForward text → (n m : ℕ) → n ≤ length text + 2
+    → m ≤ first_open (history text n) (history text n)
     → take m (handed text) ≡ take m (entries (history text n))

@@ -51,7 +51,8 @@ abbrev pub end_tokens : Entry → List Token
 end_tokens e = replicate e.ends (before block_end e.lexeme)
 
 abbrev pub own_tokens : SpelledText → Entry → List Token
-own_tokens s e = if e.key then before key e.lexeme ∷ token_in s e.lexeme ∷ [] else token_in s e.lexeme ∷ []
+own_tokens s e = if e.key then before key e.lexeme ∷ token_in s e.lexeme ∷ []
+    else token_in s e.lexeme ∷ []
 
 -- the tokens of a lexeme: BLOCK-END, a block start, KEY, its own
 abbrev pub spell : SpelledText → Entry → List Token
@@ -96,7 +97,8 @@ nothing = record { tokens = []; fault = None }
 -- what comes behind these lexemes and these tokens of the next one
 unfoldable pub remaining : SpelledText → ℕ → ℕ → Remaining
 remaining s dropped given = record {
-  tokens = drop given (flat_map (spell s) (drop dropped (handed s.text)) ++ kept_of (next s.text (all s.text)) (all s.text));
+  tokens = drop given (flat_map (spell s) (drop dropped (handed s.text)) ++ kept_of
+      (next s.text (all s.text)) (all s.text));
   fault = fault_in (next s.text (all s.text));
 }
 

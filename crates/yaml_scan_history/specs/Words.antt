@@ -50,7 +50,8 @@ kind_at flow text p =
     else if byte text p == 37 && column_at text p == 0 then Some kinds.Directive
     else if is_document_start text p then Some kinds.DocumentStart
     else if is_document_end text p then Some kinds.DocumentEnd
-    else or_plain (indicator_of flow (is_blank_or_end text (p + 1)) (byte text p)) (starts_plain flow text p)
+    else or_plain (indicator_of flow (is_blank_or_end text (p + 1)) (byte text p))
+    (starts_plain flow text p)
 
 -- What a lexeme carries, where its token ends, the place that is reached behind it, and whether the blanks behind a
 -- plain scalar hold a break.
@@ -69,7 +70,12 @@ valued f (Ok x) = Ok record { body = f x.0; end = x.1; reached = x.1; broke = fa
 valued f (Err w) = Err w
 
 abbrev pub tagged : Result TagText Wrong → Result WordText Wrong
-tagged (Ok t) = Ok record { body = tokens.tag t.handle t.suffix; end = t.end; reached = t.end; broke = false }
+tagged (Ok t) = Ok record {
+  body = tokens.tag t.handle t.suffix;
+  end = t.end;
+  reached = t.end;
+  broke = false;
+}
 tagged (Err w) = Err w
 
 abbrev pub body_said : Said → TokenBody
@@ -77,15 +83,30 @@ body_said (directives.version a b) = tokens.version_directive (pos a) (pos b)
 body_said (directives.tag h p) = tokens.tag_directive h p
 
 abbrev pub directed : Result DirectiveText Wrong → Result WordText Wrong
-directed (Ok d) = Ok record { body = body_said d.said; end = d.end; reached = d.place; broke = false }
+directed (Ok d) = Ok record {
+  body = body_said d.said;
+  end = d.end;
+  reached = d.place;
+  broke = false;
+}
 directed (Err w) = Err w
 
 abbrev pub blocked : yaml_scalar_style_t → Result BlockText Wrong → Result WordText Wrong
-blocked style (Ok b) = Ok record { body = tokens.scalar b.value style; end = b.end; reached = b.place; broke = false }
+blocked style (Ok b) = Ok record {
+  body = tokens.scalar b.value style;
+  end = b.end;
+  reached = b.place;
+  broke = false;
+}
 blocked style (Err w) = Err w
 
 abbrev pub plainly : Result PlainText Wrong → Result WordText Wrong
-plainly (Ok p) = Ok record { body = tokens.scalar p.value styles.YAML_PLAIN_SCALAR_STYLE; end = p.end; reached = p.place; broke = p.broke }
+plainly (Ok p) = Ok record {
+  body = tokens.scalar p.value styles.YAML_PLAIN_SCALAR_STYLE;
+  end = p.end;
+  reached = p.place;
+  broke = p.broke;
+}
 plainly (Err w) = Err w
 
 -- the lexeme of that kind that stands there, in flow context or not, in that level; or what is wrong with it
@@ -108,6 +129,8 @@ word_at kinds.Anchor flow level text p = valued tokens.anchor (anchor_at context
 word_at kinds.Tag flow level text p = tagged (tag_at flow text p)
 word_at kinds.Literal flow level text p = blocked (style_at text p) (block_at level text p)
 word_at kinds.Folded flow level text p = blocked (style_at text p) (block_at level text p)
-word_at kinds.SingleQuoted flow level text p = valued (λ v. tokens.scalar v styles.YAML_SINGLE_QUOTED_SCALAR_STYLE) (single_quoted_at text p)
-word_at kinds.DoubleQuoted flow level text p = valued (λ v. tokens.scalar v styles.YAML_DOUBLE_QUOTED_SCALAR_STYLE) (double_quoted_at text p)
+word_at kinds.SingleQuoted flow level text p = valued
+    (λ v. tokens.scalar v styles.YAML_SINGLE_QUOTED_SCALAR_STYLE) (single_quoted_at text p)
+word_at kinds.DoubleQuoted flow level text p = valued
+    (λ v. tokens.scalar v styles.YAML_DOUBLE_QUOTED_SCALAR_STYLE) (double_quoted_at text p)
 word_at kinds.Plain flow level text p = plainly (plain_at flow level text p)

@@ -16,7 +16,8 @@ use Rattle.yaml_scan_laws_keys.specs.KeyFree.{innermost, asked, is_key_free, kin
 -- Behind a `?` in brackets, with only nodes after it, no candidate stands at its depth.
 abbrev pub AskedHaveNoCandidate : Type 0
 AskedHaveNoCandidate = (text : List ℕ) (n : ℕ) → let h = history text n in
-    is_key_free (kinds_of h) ≡ true → innermost (asked (kinds_of h)) ≡ true → candidate (depth h) h ≡ None
+    is_key_free (kinds_of h) ≡ true → innermost (asked (kinds_of h)) ≡ true → candidate (depth h) h
+    ≡ None
 
 -- The tokens of key-free lexemes are their own, in order.
 abbrev pub KeyFreeTokensAreOwn : Type 0
@@ -25,13 +26,20 @@ KeyFreeTokensAreOwn = (s : SpelledText) (n : ℕ) → let h = history s.text n i
 
 -- What comes of a key-free text that no fault ends is its lexemes' own tokens.
 abbrev pub KeyFreeTextsAreBare : Type 0
-KeyFreeTextsAreBare = (s : SpelledText) → is_key_free (kinds_of (all s.text)) ≡ true → next s.text (all s.text) ≡ Ends
-    → (dropped given : ℕ) → remaining s dropped given ≡ record { tokens = drop given (map (token_in s) (drop dropped (reverse (all s.text)))); fault = None }
+KeyFreeTextsAreBare = (s : SpelledText) → is_key_free (kinds_of (all s.text)) ≡ true
+    → next s.text (all s.text) ≡ Ends
+    → (dropped given : ℕ) → remaining s dropped given
+    ≡ record {
+      tokens = drop given (map (token_in s) (drop dropped (reverse (all s.text))));
+      fault = None;
+    }
 
 -- No candidate of key-free lexemes is missed or lost, wherever it goes stale and whatever stands in its place.
 abbrev pub NoneIsRequired : Type 0
-NoneIsRequired = (text : List ℕ) (n d : ℕ) (l : Lexeme) (at to : yaml_mark_t) → let h = history text n in
-    is_key_free (kinds_of h) ≡ true → (missed (fresh (candidate d h) at) to ≡ None) × (lost_by l (fresh (candidate d h) at) ≡ None)
+NoneIsRequired = (text : List ℕ) (n d : ℕ) (l : Lexeme) (at to : yaml_mark_t)
+    → let h = history text n in
+    is_key_free (kinds_of h) ≡ true → (missed (fresh (candidate d h) at) to ≡ None)
+    × (lost_by l (fresh (candidate d h) at) ≡ None)
 
 -- ---- one step
 
@@ -61,5 +69,6 @@ lexeme_of text h gap k w = record {
 abbrev pub WordIsRead : Type 0
 WordIsRead = (text : List ℕ) (n : ℕ) (k : Kind) (w : WordText) → let h = history text (suc n) in
     is_key_free (k ∷ kinds_of h) ≡ true → ended h ≡ false → let gap = gap_in text h in
-    kind_at (nat_lt 0 (depth h)) text gap.place ≡ Some k → word_at k (nat_lt 0 (depth h)) 0 text gap.place ≡ Ok w
+    kind_at (nat_lt 0 (depth h)) text gap.place ≡ Some k → word_at k (nat_lt 0 (depth h)) 0 text
+    gap.place ≡ Ok w
     → next text h ≡ Read (lexeme_of text h gap k w)

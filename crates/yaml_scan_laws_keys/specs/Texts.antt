@@ -22,7 +22,8 @@ pub record Word : Type 0 where
 -- the lexemes that words are, the newest first
 unfoldable pub lexemes : List ℕ → List Word → List Lexeme
 lexemes text [] = first_lexeme ∷ []
-lexemes text (w ∷ ws) = lexeme_of text (lexemes text ws) (gap_in text (lexemes text ws)) w.kind w.said ∷ lexemes text ws
+lexemes text (w ∷ ws) = lexeme_of text (lexemes text ws) (gap_in text (lexemes text ws)) w.kind
+    w.said ∷ lexemes text ws
 
 -- Behind those lexemes the word's kind stands at its place, and is read so.
 pub record StandsBehind (text : List ℕ) (h : List Lexeme) (w : Word) : Type 0 where
@@ -40,18 +41,31 @@ word_kinds ws = map (λ (w : Word). w.kind) ws
 
 -- a word's token
 abbrev pub token_of : List ℕ → Word → Token
-token_of text w = record { body = w.said.body; start_mark = placed w.kind (mark_at text w.place); end_mark = end_in text w.kind w.place w.said.end }
+token_of text w = record {
+  body = w.said.body;
+  start_mark = placed w.kind (mark_at text w.place);
+  end_mark = end_in text w.kind w.place w.said.end;
+}
 
 -- the token that begins a stream
 abbrev pub first_token : SpelledText → Token
-first_token s = record { body = stream_start s.encoding; start_mark = zero_mark; end_mark = zero_mark }
+first_token s = record {
+  body = stream_start s.encoding;
+  start_mark = zero_mark;
+  end_mark = zero_mark;
+}
 
 -- words up to the stream's end, of which no other is one
 abbrev pub ReachEnd : List Word → Type 0
 ReachEnd [] = ⊥
-ReachEnd (w ∷ ws) = (is_end w.kind ≡ true) × (list_all (λ (x : Word). not (is_end x.kind)) ws ≡ true)
+ReachEnd (w ∷ ws) = (is_end w.kind ≡ true)
+    × (list_all (λ (x : Word). not (is_end x.kind)) ws ≡ true)
 
 -- A text in which key-free words stand one behind another, up to the end, is read as their tokens, without fault.
 abbrev pub WordsAreRead : Type 0
-WordsAreRead = (s : SpelledText) (ws : List Word) → Stand s.text ws → is_key_free (word_kinds ws) ≡ true → ReachEnd ws
-    → offline s ≡ record { tokens = first_token s ∷ map (token_of s.text) (reverse ws); fault = None }
+WordsAreRead = (s : SpelledText) (ws : List Word) → Stand s.text ws → is_key_free (word_kinds ws)
+    ≡ true → ReachEnd ws
+    → offline s ≡ record {
+      tokens = first_token s ∷ map (token_of s.text) (reverse ws);
+      fault = None;
+    }

@@ -7,8 +7,10 @@ use Rattle.yaml_scan_laws_names.specs.Spelled.{AreSpelled}
 
 -- Each token that is still to come of a text is well spelled.
 abbrev pub TokensAreSpelled : Type 0
-TokensAreSpelled = (s : SpelledText) (dropped given : ℕ) → AreSpelled (remaining s dropped given).tokens
+TokensAreSpelled = (s : SpelledText) (dropped given : ℕ)
+    → AreSpelled (remaining s dropped given).tokens
 
 -- So is each token of an input, also before its fault.
 abbrev pub ScannedAreSpelled : Type 0
-ScannedAreSpelled = (setting : yaml_encoding_t) (bytes : List ℕ) → AreSpelled (scanned setting bytes).tokens
+ScannedAreSpelled = (setting : yaml_encoding_t) (bytes : List ℕ)
+    → AreSpelled (scanned setting bytes).tokens

@@ -19,7 +19,8 @@ IsName name = IsSome name × AreAlphas name
 
 -- `!`, or `!alphas!`, where the alphas may be none
 abbrev pub IsHandle : List ℕ → Type 0
-IsHandle handle = (handle ≡ 33 ∷ []) ⊎ ((name : List ℕ) × (handle ≡ 33 ∷ (name ++ (33 ∷ []))) × AreAlphas name)
+IsHandle handle = (handle ≡ 33 ∷ []) ⊎ ((name : List ℕ) × (handle ≡ 33 ∷ (name ++ (33 ∷ [])))
+    × AreAlphas name)
 
 -- Anchors and aliases have names; a tag directive has a handle and some prefix, and a tag some suffix, behind a handle or none.
 abbrev pub IsSpelled : TokenBody → Type 0

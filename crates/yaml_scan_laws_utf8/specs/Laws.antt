@@ -7,8 +7,10 @@ use Rattle.yaml_scan_laws_utf8.specs.Texts.{HasTexts}
 
 -- Each token that is still to come has texts in UTF-8, but for what escapes spell byte by byte.
 abbrev pub TokensHaveUtf8 : Type 0
-TokensHaveUtf8 = (s : SpelledText) → IsUtf8 s.text → (dropped given : ℕ) → All (λ t. HasTexts t.body) (remaining s dropped given).tokens
+TokensHaveUtf8 = (s : SpelledText) → IsUtf8 s.text → (dropped given : ℕ)
+    → All (λ t. HasTexts t.body) (remaining s dropped given).tokens
 
 -- The text that the bytes of a stream spell is UTF-8, in whatever encoding they are.
 abbrev pub TextIsUtf8 : Type 0
-TextIsUtf8 = (setting : yaml_encoding_t) (bytes text : List ℕ) → Spells setting bytes text → IsUtf8 text
+TextIsUtf8 = (setting : yaml_encoding_t) (bytes text : List ℕ) → Spells setting bytes text
+    → IsUtf8 text

@@ -4,7 +4,8 @@ use Rattle.yaml_scan_model.specs.Marks.{byte, break_width, column_at, is_blank_o
 
 -- what the break there reads as: LS and PS as themselves, every other one as a line feed
 unfoldable pub break_value : List ℕ → ℕ → List ℕ
-break_value text p = if break_width text p == 3 then 0xE2 ∷ 0x80 ∷ byte text (p + 2) ∷ [] else 10 ∷ []
+break_value text p = if break_width text p == 3 then 0xE2 ∷ 0x80 ∷ byte text (p + 2) ∷ []
+    else 10 ∷ []
 
 -- what the break there reads as, or nothing
 abbrev pub feed_at : List ℕ → ℕ → List ℕ
@@ -18,5 +19,6 @@ is_feed bytes = slice_index bytes 0 == 10
 unfoldable pub is_document_indicator : List ℕ → ℕ → Bool
 is_document_indicator text p =
     column_at text p == 0
-    && (((byte text p == 45 && byte text (p + 1) == 45) && byte text (p + 2) == 45) || ((byte text p == 46 && byte text (p + 1) == 46) && byte text (p + 2) == 46))
+    && (((byte text p == 45 && byte text (p + 1) == 45) && byte text (p + 2) == 45)
+    || ((byte text p == 46 && byte text (p + 1) == 46) && byte text (p + 2) == 46))
     && is_blank_or_end text (p + 3)

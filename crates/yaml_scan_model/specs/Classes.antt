@@ -12,7 +12,8 @@ is_hex_byte b = is_digit_byte b || ((nat_le 65 b && nat_le b 70) || (nat_le 97 b
 
 -- 0-9 A-Z a-z _ -
 unfoldable pub is_alpha_byte : ℕ → Bool
-is_alpha_byte b = is_digit_byte b || ((nat_le 65 b && nat_le b 90) || ((nat_le 97 b && nat_le b 122) || (b == 95 || b == 45)))
+is_alpha_byte b = is_digit_byte b
+    || ((nat_le 65 b && nat_le b 90) || ((nat_le 97 b && nat_le b 122) || (b == 95 || b == 45)))
 
 -- the value of a hexadecimal digit
 unfoldable pub hex_value_of : ℕ → ℕ

@@ -48,6 +48,7 @@ abbrev pub IsMemoryFault : yaml_fault_t → Type 0
 IsMemoryFault f = f.kind ≡ YAML_MEMORY_ERROR
 
 -- what a call answered, seen by `view`, is an answer by the relation, unless memory ran out
-abbrev pub Answers : {X Y : Type 0} → (X → Y) → (Result Y Fault → Type 0) → Result X yaml_fault_t → Type 0
+abbrev pub Answers : {X Y : Type 0} → (X → Y) → (Result Y Fault → Type 0) → Result X yaml_fault_t
+    → Type 0
 Answers view Is (Ok x) = Is (Ok (view x))
 Answers view Is (Err f) = IsMemoryFault f ⊎ Is (Err (fault_of f))

@@ -44,11 +44,13 @@ break_width text p = break_of (byte text p) (byte text (p + 1)) (byte text (p + 
 
 -- the byte there is the last of a break
 abbrev pub ends_break : List ℕ → ℕ → Bool
-ends_break text p = ends_of (byte text (p - 2)) (byte text (p - 1)) (byte text p) (byte text (p + 1))
+ends_break text p = ends_of (byte text (p - 2)) (byte text (p - 1)) (byte text p)
+    (byte text (p + 1))
 
 -- the byte there goes on with a break that began before it
 abbrev pub splits_break : List ℕ → ℕ → Bool
-splits_break text p = splits_of (byte text (p - 2)) (byte text (p - 1)) (byte text p) (byte text (p + 1))
+splits_break text p = splits_of (byte text (p - 2)) (byte text (p - 1)) (byte text p)
+    (byte text (p + 1))
 
 -- the byte begins a character
 abbrev pub starts : ℕ → Bool
@@ -62,7 +64,8 @@ line_at text (suc p) = line_at text p + (if ends_break text p then 1 else 0)
 -- how many characters began since the last break
 unfoldable pub column_at : List ℕ → ℕ → ℕ
 column_at text zero = 0
-column_at text (suc p) = if ends_break text p then 0 else column_at text p + (if starts (byte text p) then 1 else 0)
+column_at text (suc p) = if ends_break text p then 0
+    else column_at text p + (if starts (byte text p) then 1 else 0)
 
 abbrev pub mark_at : List ℕ → ℕ → yaml_mark_t
 mark_at text p = record { index = p; line = line_at text p; column = column_at text p }
@@ -72,4 +75,5 @@ is_blank b = b == 32 || b == 9
 
 -- a blank, a break or the end stands there
 abbrev pub is_blank_or_end : List ℕ → ℕ → Bool
-is_blank_or_end text p = (is_blank (byte text p) || byte text p == 0) || nat_lt 0 (break_width text p)
+is_blank_or_end text p = (is_blank (byte text p) || byte text p == 0)
+    || nat_lt 0 (break_width text p)

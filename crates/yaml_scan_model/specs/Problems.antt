@@ -12,7 +12,8 @@ use Rattle.yaml_scan_model.specs.Faults.{Fault}
 unfoldable pub problem_text_of : Problem → List ℕ
 problem_text_of problem.NoTokenStart = codes "found character that cannot start any token"
 problem_text_of problem.NoColon = codes "could not find expected ':'"
-problem_text_of problem.SequenceEntryNotAllowed = codes "block sequence entries are not allowed in this context"
+problem_text_of problem.SequenceEntryNotAllowed = codes
+    "block sequence entries are not allowed in this context"
 problem_text_of problem.KeyNotAllowed = codes "mapping keys are not allowed in this context"
 problem_text_of problem.ValueNotAllowed = codes "mapping values are not allowed in this context"
 problem_text_of problem.UnexpectedColon = codes "found unexpected ':'"
@@ -24,8 +25,10 @@ problem_text_of problem.DocumentIndicator = codes "found unexpected document ind
 problem_text_of problem.EndOfStream = codes "found unexpected end of stream"
 problem_text_of problem.ZeroIndentation = codes "found an indentation indicator equal to 0"
 problem_text_of problem.NoCommentOrBreak = codes "did not find expected comment or line break"
-problem_text_of problem.TabForSpace = codes "found a tab character where an indentation space is expected"
-problem_text_of problem.NoAlphanumeric = codes "did not find expected alphabetic or numeric character"
+problem_text_of problem.TabForSpace = codes
+    "found a tab character where an indentation space is expected"
+problem_text_of problem.NoAlphanumeric = codes
+    "did not find expected alphabetic or numeric character"
 problem_text_of problem.NoTagUri = codes "did not find expected tag URI"
 problem_text_of problem.NoEscapedOctet = codes "did not find URI escaped octet"
 problem_text_of problem.WrongLeadingOctet = codes "found an incorrect leading UTF-8 octet"

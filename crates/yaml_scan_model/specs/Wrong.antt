@@ -16,7 +16,12 @@ pub record Wrong : Type 0 where
 
 -- the fault of a lexeme that starts at that mark
 abbrev pub scan_fault : List ℕ → yaml_mark_t → Wrong → ScanFault
-scan_fault text start w = record { problem = w.problem; context = w.context; context_mark = start; problem_mark = mark_at text w.place }
+scan_fault text start w = record {
+  problem = w.problem;
+  context = w.context;
+  context_mark = start;
+  problem_mark = mark_at text w.place;
+}
 
 -- the refusal tells what is wrong, unless memory ran out
 abbrev pub Refuses : List ℕ → yaml_mark_t → ScanError → Wrong → Type 0

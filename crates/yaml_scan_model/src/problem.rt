@@ -93,7 +93,13 @@ impl ScanError {
         context_mark: yaml_mark_t,
         problem_mark: yaml_mark_t,
     ) -> ScanError
-        ensures { result ≡ ScanError.Fault (record { problem = problem; context = context; context_mark = context_mark; problem_mark = problem_mark }) }
+        ensures { result ≡ ScanError.Fault
+            (record {
+              problem = problem;
+              context = context;
+              context_mark = context_mark;
+              problem_mark = problem_mark;
+            }) }
     {
         ScanError::Fault(ScanFault {
             problem,

@@ -246,7 +246,11 @@ impl<'a> Reader<'a> {
     /// Past the break that stands here.
     pub fn skip_break(&mut self)
         requires { 0 < break_width self.old.text self.old.at }
-        ensures { self.new ≡ record { text = self.old.text; at = self.old.at + break_width self.old.text self.old.at } }
+        ensures { self.new ≡ record {
+          text = self.old.text;
+          at = self.old.at + break_width
+              self.old.text self.old.at;
+        } }
     {
         let width = self.break_width();
         self.index += width;

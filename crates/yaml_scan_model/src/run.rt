@@ -14,7 +14,11 @@ pub fn is_text(reader: &Reader) -> bool
 
 /// Past the blanks here.
 pub fn skip_blanks(reader: &mut Reader)
-    ensures { reader.new ≡ record { text = reader.old.text; at = spec.past_blanks reader.old.text reader.old.at } }
+    ensures { reader.new ≡ record {
+      text = reader.old.text;
+      at = spec.past_blanks reader.old.text
+          reader.old.at;
+    } }
 {
     'bytes: while is_blank(reader.here()) {
         reader.skip();
@@ -23,7 +27,11 @@ pub fn skip_blanks(reader: &mut Reader)
 
 /// Past the spaces here.
 pub fn skip_spaces(reader: &mut Reader)
-    ensures { reader.new ≡ record { text = reader.old.text; at = spec.past_spaces reader.old.text reader.old.at } }
+    ensures { reader.new ≡ record {
+      text = reader.old.text;
+      at = spec.past_spaces reader.old.text
+          reader.old.at;
+    } }
 {
     'bytes: while reader.here() == b' ' {
         reader.skip();
@@ -32,7 +40,11 @@ pub fn skip_spaces(reader: &mut Reader)
 
 /// Up to the break or the end.
 pub fn skip_text(reader: &mut Reader)
-    ensures { reader.new ≡ record { text = reader.old.text; at = spec.line_end reader.old.text reader.old.at } }
+    ensures { reader.new ≡ record {
+      text = reader.old.text;
+      at = spec.line_end reader.old.text
+          reader.old.at;
+    } }
 {
     'bytes: while is_text(reader) {
         reader.skip();

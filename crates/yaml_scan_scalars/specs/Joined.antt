@@ -12,7 +12,12 @@ use Rattle.yaml_scan_model.specs.Wrong.{Wrong, Refuses, IsMemory}
 
 unfoldable pub joined : Joining → Words → PlainText
 joined j w =
-    if is_nothing w.pieces then record { value = take j.kept j.folding.done.items; end = j.end.index; place = w.place; broke = j.broke || w.broke }
+    if is_nothing w.pieces then record {
+      value = take j.kept j.folding.done.items;
+      end = j.end.index;
+      place = w.place;
+      broke = j.broke || w.broke;
+    }
     else record { value = resume j.folding w.pieces; end = w.end; place = w.place; broke = w.broke }
 
 -- what is joined fits the place
@@ -23,12 +28,16 @@ pub record IsJoining (text : List ℕ) (p : ℕ) (j : Joining) : Type 0 where
   pub white : j.white ≡ after_white text p
 
 -- a step, by what stands there
-abbrev pub Steps : List ℕ → yaml_mark_t → ℕ → Joining → Joining → Place → Result Bool ScanError → PlainSpot → Type 0
+abbrev pub Steps : List ℕ → yaml_mark_t → ℕ → Joining → Joining → Place → Result Bool ScanError
+    → PlainSpot → Type 0
 Steps text start p old new place (Ok true) (Takes x q) =
-    (place ≡ record { text = text; at = q }) × ((w : Words) → joined new w ≡ joined old (with_piece x q w)) × IsJoining text q new × (p < q) × (p < length text)
+    (place ≡ record { text = text; at = q })
+    × ((w : Words) → joined new w ≡ joined old (with_piece x q w)) × IsJoining text q new
+    × (p < q) × (p < length text)
 Steps text start p old new place (Ok true) Ends = ⊥
 Steps text start p old new place (Ok true) (Faulty w) = ⊥
-Steps text start p old new place (Ok false) Ends = (place ≡ record { text = text; at = p }) × (new ≡ old)
+Steps text start p old new place (Ok false) Ends = (place ≡ record { text = text; at = p })
+    × (new ≡ old)
 Steps text start p old new place (Ok false) (Takes x q) = ⊥
 Steps text start p old new place (Ok false) (Faulty w) = ⊥
 Steps text start p old new place (Err e) (Faulty w) = Refuses text start e w
@@ -55,8 +64,10 @@ pub record IsPlain (text : List ℕ) (start : ℕ) (s : PlainScalar) (x : PlainT
   pub broke : s.broke ≡ x.broke
 
 -- What reading a plain scalar answers, and where it leaves the reader.
-abbrev pub ReadsPlain : List ℕ → ℕ → Place → Result PlainScalar ScanError → Result PlainText Wrong → Type 0
-ReadsPlain text start place (Ok s) (Ok x) = IsPlain text start s x × (place ≡ record { text = text; at = x.place })
+abbrev pub ReadsPlain : List ℕ → ℕ → Place → Result PlainScalar ScanError → Result PlainText Wrong
+    → Type 0
+ReadsPlain text start place (Ok s) (Ok x) = IsPlain text start s x
+    × (place ≡ record { text = text; at = x.place })
 ReadsPlain text start place (Ok s) (Err w) = ⊥
 ReadsPlain text start place (Err e) (Ok x) = IsMemory e
 ReadsPlain text start place (Err e) (Err w) = Refuses text (mark_at text start) e w

@@ -7,8 +7,13 @@ use Rattle.yaml_scan_scalars.specs.Pieces.{Piece, Kept}
 -- do as well, as a dash that is not at a line's start.
 unfoldable pub is_ordinary : ℕ → Bool
 is_ordinary b =
-    ((nat_le 40 b && nat_le b 43) || ((nat_le 47 b && nat_le b 57) || ((nat_le 59 b && nat_le b 62) || ((nat_le 64 b && nat_le b 90) || (nat_le 94 b && nat_le b 122)))))
-    || ((nat_le 0x80 b && nat_le b 0x84) || ((nat_le 0x86 b && nat_le b 0xA7) || ((nat_le 0xAA b && nat_le b 0xC1) || ((nat_le 0xC3 b && nat_le b 0xE1) || nat_le 0xE3 b))))
+    ((nat_le 40 b && nat_le b 43) || ((nat_le 47 b && nat_le b 57)
+    || ((nat_le 59 b && nat_le b 62)
+    || ((nat_le 64 b && nat_le b 90) || (nat_le 94 b && nat_le b 122)))))
+    || ((nat_le 0x80 b && nat_le b 0x84)
+    || ((nat_le 0x86 b && nat_le b 0xA7)
+    || ((nat_le 0xAA b && nat_le b 0xC1)
+    || ((nat_le 0xC3 b && nat_le b 0xE1) || nat_le 0xE3 b))))
 
 -- d bytes from there on
 unfoldable pub bytes_at : List ℕ → ℕ → ℕ → List ℕ
@@ -28,4 +33,5 @@ kept_run (b ∷ bs) = Kept (b ∷ []) ∷ kept_run bs
 
 -- the ordinary bytes up to the place are taken; `old` and `new` give the value when pieces follow
 abbrev pub TookRun : List ℕ → ℕ → (List Piece → List ℕ) → (List Piece → List ℕ) → Place → Type 0
-TookRun text p old new place = IsRun text p place × ((ps : List Piece) → new ps ≡ old (kept_run (bytes_at text p (place.at - p)) ++ ps))
+TookRun text p old new place = IsRun text p place
+    × ((ps : List Piece) → new ps ≡ old (kept_run (bytes_at text p (place.at - p)) ++ ps))

@@ -70,7 +70,11 @@ rest_of l [] = record { breaks = []; value = text (trim_start l) }
 rest_of l (next ∷ ls) =
     let rest = rest_of next.1 ls in
     if is_empty l then record { breaks = next.0 ++ rest.breaks; value = rest.value }
-    else record { breaks = []; value = text (trim_end (trim_start l)) ++ gap next.0 rest.breaks ++ rest.value }
+    else record {
+      breaks = [];
+      value = text (trim_end (trim_start l)) ++ gap next.0 rest.breaks
+          ++ rest.value;
+    }
 
 -- The value of lines: blanks round a break go, and breaks are folded.
 abbrev pub folded : Line → List (List ℕ × Line) → List ℕ

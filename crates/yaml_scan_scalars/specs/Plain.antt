@@ -16,14 +16,17 @@ is_bracket b = (b == 44 || (b == 91 || b == 93)) || (b == 123 || b == 125)
 unfoldable pub is_indicator_byte : ℕ → Bool
 is_indicator_byte b =
     (is_bracket b || (b == 45 || (b == 63 || b == 58)))
-    || ((b == 35 || (b == 38 || (b == 42 || b == 33))) || ((b == 124 || (b == 62 || b == 39)) || ((b == 34 || b == 37) || (b == 64 || b == 96))))
+    || ((b == 35 || (b == 38 || (b == 42 || b == 33)))
+    || ((b == 124 || (b == 62 || b == 39)) || ((b == 34 || b == 37) || (b == 64 || b == 96))))
 
 -- a plain scalar can start with what stands there
 unfoldable pub starts_plain : Bool → List ℕ → ℕ → Bool
 starts_plain flow text p =
     not (is_blank_or_end text p)
-    && ((not (is_indicator_byte (byte text p)) || (byte text p == 45 && not (is_blank (byte text (p + 1)))))
-    || (not flow && ((byte text p == 63 || byte text p == 58) && not (is_blank_or_end text (p + 1)))))
+    && ((not (is_indicator_byte (byte text p))
+    || (byte text p == 45 && not (is_blank (byte text (p + 1)))))
+    || (not flow && ((byte text p == 63 || byte text p == 58)
+    && not (is_blank_or_end text (p + 1)))))
 
 -- a blank or the end of a break stands before the place
 abbrev pub after_white : List ℕ → ℕ → Bool
@@ -49,16 +52,20 @@ ends_at flow level text p =
     (byte text p == 0 || is_document_indicator text p)
     || ((byte text p == 35 && after_white text p)
     || ((byte text p == 58 && is_blank_or_end text (p + 1))
-    || (if flow then is_bracket (byte text p) else leads text p && nat_lt (column_at text p) level)))
+    || (if flow then is_bracket (byte text p) else leads text p && nat_lt (column_at text p)
+    level)))
 
 unfoldable pub spot_at : Bool → ℕ → List ℕ → ℕ → PlainSpot
 spot_at flow level text p =
-    if nat_lt 0 (break_width text p) then Takes (Break (break_value text p)) (p + break_width text p)
+    if nat_lt 0 (break_width text p) then Takes (Break (break_value text p))
+    (p + break_width text p)
     else if is_blank (byte text p) then
-    (if byte text p == 9 && (leads text p && nat_lt (column_at text p) level) then in_plain problems.TabInIndentation p
+    (if byte text p == 9 && (leads text p && nat_lt (column_at text p) level)
+    then in_plain problems.TabInIndentation p
     else Takes (Blank (byte text p)) (p + 1))
     else if ends_at flow level text p then Ends
-    else if flow && (byte text p == 58 && (is_bracket (byte text (p + 1)) || byte text (p + 1) == 63)) then in_plain problems.UnexpectedColon p
+    else if flow && (byte text p == 58 && (is_bracket (byte text (p + 1)) || byte text (p + 1)
+    == 63)) then in_plain problems.UnexpectedColon p
     else Takes (Kept (byte text p ∷ [])) (p + 1)
 
 -- What follows a place inside the scalar: the pieces up to its last character, the place after that
@@ -76,7 +83,13 @@ is_nothing (x ∷ xs) = false
 -- White before what follows is a piece only where characters follow; a character that nothing follows
 -- is the last one. The place is the one after the piece.
 abbrev pub with_piece : Piece → ℕ → Words → Words
-with_piece (Kept bytes) q w = record { pieces = Kept bytes ∷ w.pieces; end = if is_nothing w.pieces then q else w.end; place = w.place; broke = w.broke }
+with_piece (Kept bytes) q w = record {
+  pieces = Kept bytes ∷ w.pieces;
+  end = if is_nothing w.pieces
+      then q else w.end;
+  place = w.place;
+  broke = w.broke;
+}
 with_piece (Blank b) q w =
     if is_nothing w.pieces then w
     else record { pieces = Blank b ∷ w.pieces; end = w.end; place = w.place; broke = w.broke }
@@ -100,7 +113,8 @@ follows more p (Faulty w) = Err w
 
 -- what follows the place, in at most n steps
 unfoldable pub words : ℕ → Bool → ℕ → List ℕ → ℕ → Result Words Wrong
-words zero flow level text p = Err record { problem = problems.EndOfStream; context = contexts.PlainScalar; place = p }
+words zero flow level text p = Err
+    record { problem = problems.EndOfStream; context = contexts.PlainScalar; place = p }
 words (suc n) flow level text p = follows (words n flow level text) p (spot_at flow level text p)
 
 -- A plain scalar: its value, the place after its last character, the place after the white behind it,
@@ -120,4 +134,5 @@ plain_text w = record { value = value w.pieces; end = w.end; place = w.place; br
 
 -- the plain scalar whose first byte stands there, or what is wrong
 abbrev pub plain_at : Bool → ℕ → List ℕ → ℕ → Result PlainText Wrong
-plain_at flow level text p = plain_with plain_text (words_from (Kept (byte text p ∷ [])) (p + 1) (words (length text) flow level text (p + 1)))
+plain_at flow level text p = plain_with plain_text (words_from (Kept (byte text p ∷ [])) (p + 1)
+    (words (length text) flow level text (p + 1)))

@@ -18,7 +18,11 @@ abbrev pub in_quotes : Problem → ℕ → Standing
 in_quotes problem p = Bad record { problem = problem; context = contexts.QuotedScalar; place = p }
 
 abbrev pub in_escape : Problem → ℕ → Standing
-in_escape problem p = Bad record { problem = problem; context = contexts.QuotedScalarEscape; place = p }
+in_escape problem p = Bad record {
+  problem = problem;
+  context = contexts.QuotedScalarEscape;
+  place = p;
+}
 
 -- the value of a hexadecimal digit
 unfoldable pub hex_digit : ℕ → Option ℕ
@@ -31,7 +35,8 @@ hex_digit b =
 -- the number that n hexadecimal digits spell, or none where one of them is no digit
 unfoldable pub hex_value : List ℕ → ℕ → ℕ → Option ℕ
 hex_value text p zero = Some 0
-hex_value text p (suc n) = option_and_then (λ high. option_map (λ low. high * 16 + low) (hex_digit (byte text (p + n)))) (hex_value text p n)
+hex_value text p (suc n) = option_and_then (λ high. option_map (λ low. high * 16 + low)
+    (hex_digit (byte text (p + n)))) (hex_value text p n)
 
 -- a Unicode scalar value
 abbrev pub is_scalar : ℕ → Bool
@@ -39,7 +44,8 @@ is_scalar c = nat_lt c 0xD800 || (nat_le 0xE000 c && nat_le c 0x10_FFFF)
 
 abbrev pub coded : ℕ → ℕ → Option ℕ → Standing
 coded p q None = in_escape problems.NoHexNumber p
-coded p q (Some c) = if is_scalar c then Pieces (Kept (encode_utf8 c) ∷ []) q else in_escape problems.InvalidCode p
+coded p q (Some c) = if is_scalar c then Pieces (Kept (encode_utf8 c) ∷ []) q
+    else in_escape problems.InvalidCode p
 
 -- how many digits follow `x`, `u` and `U`
 unfoldable pub hex_len : ℕ → ℕ
@@ -71,14 +77,17 @@ escaped p (Some bytes) = Pieces (Kept bytes ∷ []) (p + 2)
 -- what the backslash there begins
 unfoldable pub escape_at : List ℕ → ℕ → Standing
 escape_at text p =
-    if nat_lt 0 (break_width text (p + 1)) then Pieces (Kept [] ∷ Break [] ∷ []) (p + 1 + break_width text (p + 1))
+    if nat_lt 0 (break_width text (p + 1)) then Pieces (Kept [] ∷ Break [] ∷ [])
+    (p + 1 + break_width text (p + 1))
     else if nat_lt 0 (hex_len (byte text (p + 1)))
-    then coded (p + 2) (p + 2 + hex_len (byte text (p + 1))) (hex_value text (p + 2) (hex_len (byte text (p + 1))))
+    then coded (p + 2) (p + 2 + hex_len (byte text (p + 1)))
+    (hex_value text (p + 2) (hex_len (byte text (p + 1))))
     else escaped p (simple_escape (byte text (p + 1)))
 
 -- the quote there closes the scalar, or is the first of two that stand for one
 unfoldable pub quote_at : ℕ → List ℕ → ℕ → Standing
-quote_at quote text p = if quote == 39 && byte text (p + 1) == 39 then Pieces (Kept (39 ∷ []) ∷ []) (p + 2) else Closing
+quote_at quote text p = if quote == 39 && byte text (p + 1) == 39 then Pieces (Kept (39 ∷ []) ∷ [])
+    (p + 2) else Closing
 
 -- between quotes of that byte
 unfoldable pub standing_at : ℕ → List ℕ → ℕ → Standing
@@ -86,7 +95,8 @@ standing_at quote text p =
     if is_document_indicator text p then in_quotes problems.DocumentIndicator p
     else if byte text p == 0 then in_quotes problems.EndOfStream p
     else if byte text p == quote then quote_at quote text p
-    else if nat_lt 0 (break_width text p) then Pieces (Break (break_value text p) ∷ []) (p + break_width text p)
+    else if nat_lt 0 (break_width text p) then Pieces (Break (break_value text p) ∷ [])
+    (p + break_width text p)
     else if is_blank (byte text p) then Pieces (Blank (byte text p) ∷ []) (p + 1)
     else if quote == 34 && byte text p == 92 then escape_at text p
     else Pieces (Kept (byte text p ∷ []) ∷ []) (p + 1)
@@ -96,18 +106,21 @@ abbrev pub with_front : List Piece → Result (List Piece × ℕ) Wrong → Resu
 with_front ps (Ok x) = Ok (ps ++ x.0, x.1)
 with_front ps (Err w) = Err w
 
-abbrev pub followed : (ℕ → Result (List Piece × ℕ) Wrong) → ℕ → Standing → Result (List Piece × ℕ) Wrong
+abbrev pub followed : (ℕ → Result (List Piece × ℕ) Wrong) → ℕ → Standing
+    → Result (List Piece × ℕ) Wrong
 followed more p Closing = Ok ([], p + 1)
 followed more p (Pieces qs q) = with_front qs (more q)
 followed more p (Bad w) = Err w
 
 -- the pieces up to the closing quote, and the place after it, in at most n steps
 unfoldable pub pieces : ℕ → ℕ → List ℕ → ℕ → Result (List Piece × ℕ) Wrong
-pieces zero quote text p = Err record { problem = problems.EndOfStream; context = contexts.QuotedScalar; place = p }
+pieces zero quote text p = Err
+    record { problem = problems.EndOfStream; context = contexts.QuotedScalar; place = p }
 pieces (suc n) quote text p = followed (pieces n quote text) p (standing_at quote text p)
 
 -- a value of the pieces, and the place after them
-abbrev pub valued : (List Piece → List ℕ) → Result (List Piece × ℕ) Wrong → Result (List ℕ × ℕ) Wrong
+abbrev pub valued : (List Piece → List ℕ) → Result (List Piece × ℕ) Wrong
+    → Result (List ℕ × ℕ) Wrong
 valued f (Ok x) = Ok (f x.0, x.1)
 valued f (Err w) = Err w
 

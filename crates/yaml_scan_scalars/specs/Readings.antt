@@ -9,11 +9,14 @@ use Rattle.yaml_scan_scalars.specs.Pieces.{Piece}
 use Rattle.yaml_scan_scalars.specs.Quoted.{Standing, Closing, Pieces, Bad}
 
 -- What a step inside the quotes took. `old` and `new` give the value when pieces follow.
-abbrev pub Took : List ℕ → yaml_mark_t → ℕ → (List Piece → List ℕ) → (List Piece → List ℕ) → Place → Result Bool ScanError → Standing → Type 0
-Took text start p old new place (Ok true) (Pieces qs q) = (place ≡ record { text = text; at = q }) × ((ps : List Piece) → new ps ≡ old (qs ++ ps)) × (p < q) × (p < length text)
+abbrev pub Took : List ℕ → yaml_mark_t → ℕ → (List Piece → List ℕ) → (List Piece → List ℕ) → Place
+    → Result Bool ScanError → Standing → Type 0
+Took text start p old new place (Ok true) (Pieces qs q) = (place ≡ record { text = text; at = q })
+    × ((ps : List Piece) → new ps ≡ old (qs ++ ps)) × (p < q) × (p < length text)
 Took text start p old new place (Ok true) Closing = ⊥
 Took text start p old new place (Ok true) (Bad w) = ⊥
-Took text start p old new place (Ok false) Closing = (place ≡ record { text = text; at = p + 1 }) × ((ps : List Piece) → new ps ≡ old ps)
+Took text start p old new place (Ok false) Closing = (place ≡ record { text = text; at = p + 1 })
+    × ((ps : List Piece) → new ps ≡ old ps)
 Took text start p old new place (Ok false) (Pieces qs q) = ⊥
 Took text start p old new place (Ok false) (Bad w) = ⊥
 Took text start p old new place (Err e) (Bad w) = Refuses text start e w
@@ -29,7 +32,8 @@ pub record IsScalar (text : List ℕ) (start : ℕ) (s : Scalar) (x : List ℕ �
 -- What reading a scalar answers, and where it leaves the reader: the value and the place after it, what is wrong, or
 -- that memory ran out.
 abbrev pub Reads : List ℕ → ℕ → Place → Result Scalar ScanError → Result (List ℕ × ℕ) Wrong → Type 0
-Reads text start place (Ok s) (Ok x) = IsScalar text start s x × (place ≡ record { text = text; at = x.1 })
+Reads text start place (Ok s) (Ok x) = IsScalar text start s x
+    × (place ≡ record { text = text; at = x.1 })
 Reads text start place (Ok s) (Err w) = ⊥
 Reads text start place (Err e) (Ok x) = IsMemory e
 Reads text start place (Err e) (Err w) = Refuses text (mark_at text start) e w

@@ -11,7 +11,13 @@ use yaml_scan_model::{Context, Problem, Reader, ScanError, yaml_mark_t};
 
 /// The refusal of an escape, in the scalar that starts at the mark.
 fn wrong_escape(problem: Problem, start: yaml_mark_t, place: yaml_mark_t) -> ScanError
-    ensures { result ≡ ScanError.Fault (record { problem = problem; context = Context.QuotedScalarEscape; context_mark = start; problem_mark = place }) }
+    ensures { result ≡ ScanError.Fault
+        (record {
+          problem = problem;
+          context = Context.QuotedScalarEscape;
+          context_mark = start;
+          problem_mark = place;
+        }) }
 {
     ScanError::refusal(problem, Context::QuotedScalarEscape, start, place)
 }
@@ -24,7 +30,8 @@ pub(crate) fn escape(
     start: yaml_mark_t,
 ) -> Result<bool, ScanError>
     requires { byte reader.old.text reader.old.at ≡ 92 }
-    ensures { Took reader.old.text start reader.old.at (resume folding.old) (resume folding.new) reader.new result (spec.escape_at reader.old.text reader.old.at) }
+    ensures { Took reader.old.text start reader.old.at (resume folding.old) (resume folding.new)
+        reader.new result (spec.escape_at reader.old.text reader.old.at) }
 {
     let backslash = reader.mark();
     reader.skip();
@@ -87,7 +94,8 @@ fn coded(
     requires few { len ≤ 8 }
     ensures { (p : ℕ) → p < reader.old.at → p < length reader.old.text
         → Took reader.old.text start p (resume folding.old) (resume folding.new) reader.new result
-        (spec.coded reader.old.at (reader.old.at + len) (spec.hex_value reader.old.text reader.old.at len)) }
+        (spec.coded reader.old.at (reader.old.at + len)
+        (spec.hex_value reader.old.text reader.old.at len)) }
 {
     let first = reader.mark();
     let Some(value) = hex_value(reader, len) else {
@@ -105,7 +113,8 @@ fn coded(
 fn hex_value(reader: &mut Reader, len: usize) -> Option<u32>
     requires few { len ≤ 8 }
     ensures value { result ≡ spec.hex_value reader.old.text reader.old.at len }
-    ensures past { IsSome result → reader.new ≡ record { text = reader.old.text; at = reader.old.at + len } }
+    ensures past { IsSome result → reader.new
+        ≡ record { text = reader.old.text; at = reader.old.at + len } }
 {
     let mut value = 0;
     for k in 0..len {

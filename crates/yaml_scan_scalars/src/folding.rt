@@ -45,7 +45,8 @@ impl Folding {
 
     /// With one piece, bytes that stay.
     pub(crate) fn of_bytes(alloc: Global, bytes: &[u8]) -> Result<Folding, AllocError>
-        ensures value { IfOk result (λ f. (ps : List Piece) → resume f ps ≡ value (Kept bytes.now ∷ ps)) }
+        ensures value { IfOk result (λ f. (ps : List Piece)
+            → resume f ps ≡ value (Kept bytes.now ∷ ps)) }
         ensures line { IfOk result (λ f. (f.gap ≡ Gap.Line) × (f.blanks.items ≡ [])) }
     {
         let mut done = Vec::with_capacity(alloc, bytes.len().max(FIRST_CAPACITY))?;
@@ -59,8 +60,10 @@ impl Folding {
 
     /// A blank.
     pub(crate) fn blank(&mut self, byte: u8) -> Result<(), AllocError>
-        ensures value { OnOk result ((ps : List Piece) → resume self.new ps ≡ resume self.old (Blank byte ∷ ps)) }
-        ensures done { OnOk result ((n : ℕ) → n ≤ length self.old.done.items → take n self.new.done.items ≡ take n self.old.done.items) }
+        ensures value { OnOk result ((ps : List Piece) → resume self.new ps ≡ resume self.old
+            (Blank byte ∷ ps)) }
+        ensures done { OnOk result ((n : ℕ) → n ≤ length self.old.done.items
+            → take n self.new.done.items ≡ take n self.old.done.items) }
         ensures longer { OnOk result (length self.old.done.items ≤ length self.new.done.items) }
     {
         match self.gap {
@@ -76,7 +79,8 @@ impl Folding {
     // Inlined: what is kept is mostly one run, appended where it is found.
     #[inline(always)]
     pub(crate) fn keep(&mut self, bytes: &[u8]) -> Result<(), AllocError>
-        ensures value { OnOk result ((ps : List Piece) → resume self.new ps ≡ resume self.old (Kept bytes.now ∷ ps)) }
+        ensures value { OnOk result ((ps : List Piece) → resume self.new ps ≡ resume self.old
+            (Kept bytes.now ∷ ps)) }
         ensures line { OnOk result ((self.new.gap ≡ Gap.Line) × (self.new.blanks.items ≡ [])) }
     {
         match self.gap {
@@ -93,8 +97,10 @@ impl Folding {
     /// A break, by the bytes that it reads as.
     pub(crate) fn break_line(&mut self, bytes: &[u8]) -> Result<(), AllocError>
         requires { 0 < length bytes.now }
-        ensures value { OnOk result ((ps : List Piece) → resume self.new ps ≡ resume self.old (Break bytes.now ∷ ps)) }
-        ensures done { OnOk result ((n : ℕ) → n ≤ length self.old.done.items → take n self.new.done.items ≡ take n self.old.done.items) }
+        ensures value { OnOk result ((ps : List Piece) → resume self.new ps ≡ resume self.old
+            (Break bytes.now ∷ ps)) }
+        ensures done { OnOk result ((n : ℕ) → n ≤ length self.old.done.items
+            → take n self.new.done.items ≡ take n self.old.done.items) }
         ensures longer { OnOk result (length self.old.done.items ≤ length self.new.done.items) }
     {
         self.blanks.clear();
@@ -113,7 +119,8 @@ impl Folding {
 
     /// A backslash before a break: content with no bytes, and a break that reads as nothing.
     pub(crate) fn join_line(&mut self) -> Result<(), AllocError>
-        ensures { OnOk result ((ps : List Piece) → resume self.new ps ≡ resume self.old (Kept [] ∷ Break [] ∷ ps)) }
+        ensures { OnOk result ((ps : List Piece) → resume self.new ps ≡ resume self.old
+            (Kept [] ∷ Break [] ∷ ps)) }
     {
         self.keep(&[])?;
         self.gap = Gap::Kept;

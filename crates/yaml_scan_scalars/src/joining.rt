@@ -27,7 +27,8 @@ pub(crate) struct Joining {
 impl Joining {
     /// With bytes of characters, and the place after them.
     pub(crate) fn new(alloc: Global, bytes: &[u8], end: yaml_mark_t) -> Result<Joining, AllocError>
-        ensures value { IfOk result (λ j. (w : Words) → joined j w ≡ plain_text (with_piece (Kept bytes.now) end.index w)) }
+        ensures value { IfOk result (λ j. (w : Words)
+            → joined j w ≡ plain_text (with_piece (Kept bytes.now) end.index w)) }
         ensures kept { IfOk result (λ j. j.kept ≤ length j.folding.done.items) }
         ensures seat { IfOk result (λ j. (j.end ≡ end) × (j.broke ≡ false) × (j.white ≡ false)) }
     {
@@ -44,9 +45,11 @@ impl Joining {
 
     /// Bytes of characters, and the place after them.
     pub(crate) fn keep(&mut self, bytes: &[u8], end: yaml_mark_t) -> Result<(), AllocError>
-        ensures value { OnOk result ((w : Words) → joined self.new w ≡ joined self.old (with_piece (Kept bytes.now) end.index w)) }
+        ensures value { OnOk result ((w : Words) → joined self.new w ≡ joined self.old
+            (with_piece (Kept bytes.now) end.index w)) }
         ensures kept { OnOk result (self.new.kept ≤ length self.new.folding.done.items) }
-        ensures seat { OnOk result ((self.new.end ≡ end) × (self.new.broke ≡ false) × (self.new.white ≡ false)) }
+        ensures seat { OnOk result ((self.new.end ≡ end) × (self.new.broke ≡ false)
+            × (self.new.white ≡ false)) }
     {
         self.folding.keep(bytes)?;
         self.kept = self.folding.done.len();
@@ -59,9 +62,11 @@ impl Joining {
     /// A blank.
     pub(crate) fn blank(&mut self, byte: u8) -> Result<(), AllocError>
         requires { self.old.kept ≤ length self.old.folding.done.items }
-        ensures value { OnOk result ((q : ℕ) (w : Words) → joined self.new w ≡ joined self.old (with_piece (Blank byte) q w)) }
+        ensures value { OnOk result ((q : ℕ) (w : Words) → joined self.new w ≡ joined self.old
+            (with_piece (Blank byte) q w)) }
         ensures kept { OnOk result (self.new.kept ≤ length self.new.folding.done.items) }
-        ensures seat { OnOk result ((self.new.end ≡ self.old.end) × (self.new.broke ≡ self.old.broke) × (self.new.white ≡ true)) }
+        ensures seat { OnOk result ((self.new.end ≡ self.old.end)
+            × (self.new.broke ≡ self.old.broke) × (self.new.white ≡ true)) }
     {
         self.folding.blank(byte)?;
         self.white = true;
@@ -72,9 +77,11 @@ impl Joining {
     pub(crate) fn break_line(&mut self, bytes: &[u8]) -> Result<(), AllocError>
         requires some { 0 < length bytes.now }
         requires kept { self.old.kept ≤ length self.old.folding.done.items }
-        ensures value { OnOk result ((q : ℕ) (w : Words) → joined self.new w ≡ joined self.old (with_piece (Break bytes.now) q w)) }
+        ensures value { OnOk result ((q : ℕ) (w : Words) → joined self.new w ≡ joined self.old
+            (with_piece (Break bytes.now) q w)) }
         ensures kept { OnOk result (self.new.kept ≤ length self.new.folding.done.items) }
-        ensures seat { OnOk result ((self.new.end ≡ self.old.end) × (self.new.broke ≡ true) × (self.new.white ≡ true)) }
+        ensures seat { OnOk result ((self.new.end ≡ self.old.end) × (self.new.broke ≡ true)
+            × (self.new.white ≡ true)) }
     {
         self.folding.break_line(bytes)?;
         self.broke = true;

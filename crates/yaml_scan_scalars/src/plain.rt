@@ -20,7 +20,8 @@ pub fn plain_scalar(
     level: u64,
 ) -> Result<PlainScalar, ScanError>
     requires { spec.starts_plain flow reader.old.text reader.old.at ≡ true }
-    ensures { ReadsPlain reader.old.text reader.old.at reader.new result (spec.plain_at flow level reader.old.text reader.old.at) }
+    ensures { ReadsPlain reader.old.text reader.old.at reader.new result
+        (spec.plain_at flow level reader.old.text reader.old.at) }
 {
     let start = reader.mark();
     // Read for the run: its clauses say that no break stands or ends where a plain scalar begins.
@@ -61,7 +62,8 @@ fn first_run(alloc: Global, reader: &mut Reader) -> Result<Joining, AllocError>
 /// Takes the ordinary bytes that stand here, but none at a line's start.
 fn keep_run(reader: &mut Reader, joining: &mut Joining) -> Result<(), AllocError>
     requires { IsJoining reader.old.text reader.old.at joining.old }
-    ensures { OnOk result (TookWords reader.old.text reader.old.at joining.old joining.new reader.new) }
+    ensures { OnOk result (TookWords reader.old.text reader.old.at joining.old joining.new
+        reader.new) }
 {
     if joining.broke {
         return Ok(());
@@ -83,7 +85,8 @@ fn piece(
     level: u64,
 ) -> Result<bool, ScanError>
     requires { IsJoining reader.old.text reader.old.at joining.old }
-    ensures { Steps reader.old.text start reader.old.at joining.old joining.new reader.new result (spec.spot_at flow level reader.old.text reader.old.at) }
+    ensures { Steps reader.old.text start reader.old.at joining.old joining.new reader.new result
+        (spec.spot_at flow level reader.old.text reader.old.at) }
 {
     let byte = reader.here();
     if reader.break_here() > 0 {
@@ -112,7 +115,13 @@ fn piece(
 
 /// The refusal of the scalar that starts at the mark.
 fn wrong_plain(problem: Problem, start: yaml_mark_t, place: yaml_mark_t) -> ScanError
-    ensures { result ≡ ScanError.Fault (record { problem = problem; context = Context.PlainScalar; context_mark = start; problem_mark = place }) }
+    ensures { result ≡ ScanError.Fault
+        (record {
+          problem = problem;
+          context = Context.PlainScalar;
+          context_mark = start;
+          problem_mark = place;
+        }) }
 {
     ScanError::refusal(problem, Context::PlainScalar, start, place)
 }

@@ -18,7 +18,8 @@ use yaml_scan_model::{Context, Problem, Reader, ScanError, is_blank_byte, yaml_m
 /// The double quoted scalar whose opening quote stands here. The reader is left after the closing one.
 pub fn double_quoted(alloc: Global, reader: &mut Reader) -> Result<Scalar, ScanError>
     requires { byte reader.old.text reader.old.at ≡ 34 }
-    ensures { Reads reader.old.text reader.old.at reader.new result (spec.double_quoted_at reader.old.text reader.old.at) }
+    ensures { Reads reader.old.text reader.old.at reader.new result
+        (spec.double_quoted_at reader.old.text reader.old.at) }
 {
     quoted(alloc, reader, b'"')
 }
@@ -26,7 +27,8 @@ pub fn double_quoted(alloc: Global, reader: &mut Reader) -> Result<Scalar, ScanE
 /// The single quoted scalar whose opening quote stands here. The reader is left after the closing one.
 pub fn single_quoted(alloc: Global, reader: &mut Reader) -> Result<Scalar, ScanError>
     requires { byte reader.old.text reader.old.at ≡ 39 }
-    ensures { Reads reader.old.text reader.old.at reader.new result (spec.single_quoted_at reader.old.text reader.old.at) }
+    ensures { Reads reader.old.text reader.old.at reader.new result
+        (spec.single_quoted_at reader.old.text reader.old.at) }
 {
     quoted(alloc, reader, b'\'')
 }
@@ -35,7 +37,8 @@ pub fn single_quoted(alloc: Global, reader: &mut Reader) -> Result<Scalar, ScanE
 fn quoted(alloc: Global, reader: &mut Reader, quote: u8) -> Result<Scalar, ScanError>
     requires opened { byte reader.old.text reader.old.at ≡ quote }
     requires quote { (quote ≡ 34) ⊎ (quote ≡ 39) }
-    ensures { Reads reader.old.text reader.old.at reader.new result (spec.quoted_at quote reader.old.text reader.old.at) }
+    ensures { Reads reader.old.text reader.old.at reader.new result
+        (spec.quoted_at quote reader.old.text reader.old.at) }
 {
     let start = reader.mark();
     reader.skip();
@@ -56,7 +59,8 @@ fn quoted(alloc: Global, reader: &mut Reader, quote: u8) -> Result<Scalar, ScanE
 
 /// Takes the ordinary bytes that stand here.
 fn keep_run(reader: &mut Reader, folding: &mut Folding) -> Result<(), AllocError>
-    ensures { OnOk result (TookRun reader.old.text reader.old.at (resume folding.old) (resume folding.new) reader.new) }
+    ensures { OnOk result (TookRun reader.old.text reader.old.at (resume folding.old)
+        (resume folding.new) reader.new) }
 {
     let bytes = ordinary_run(reader);
     if bytes.is_empty() {
@@ -74,7 +78,8 @@ fn piece(
     start: yaml_mark_t,
 ) -> Result<bool, ScanError>
     requires { (quote ≡ 34) ⊎ (quote ≡ 39) }
-    ensures { Took reader.old.text start reader.old.at (resume folding.old) (resume folding.new) reader.new result (spec.standing_at quote reader.old.text reader.old.at) }
+    ensures { Took reader.old.text start reader.old.at (resume folding.old) (resume folding.new)
+        reader.new result (spec.standing_at quote reader.old.text reader.old.at) }
 {
     if reader.at_document_indicator() {
         return Err(wrong_scalar(Problem::DocumentIndicator, start, reader.mark()));
@@ -106,7 +111,13 @@ fn piece(
 
 /// The refusal of the scalar that starts at the mark.
 fn wrong_scalar(problem: Problem, start: yaml_mark_t, place: yaml_mark_t) -> ScanError
-    ensures { result ≡ ScanError.Fault (record { problem = problem; context = Context.QuotedScalar; context_mark = start; problem_mark = place }) }
+    ensures { result ≡ ScanError.Fault
+        (record {
+          problem = problem;
+          context = Context.QuotedScalar;
+          context_mark = start;
+          problem_mark = place;
+        }) }
 {
     ScanError::refusal(problem, Context::QuotedScalar, start, place)
 }
@@ -130,7 +141,8 @@ fn is_doubled(quote: u8, next: u8) -> bool
 fn ending(reader: &mut Reader, folding: &mut Folding, quote: u8) -> Result<bool, ScanError>
     requires opened { byte reader.old.text reader.old.at ≡ quote }
     requires quote { (quote ≡ 34) ⊎ (quote ≡ 39) }
-    ensures { (start : yaml_mark_t) → Took reader.old.text start reader.old.at (resume folding.old) (resume folding.new) reader.new result (spec.quote_at quote reader.old.text reader.old.at) }
+    ensures { (start : yaml_mark_t) → Took reader.old.text start reader.old.at (resume folding.old)
+        (resume folding.new) reader.new result (spec.quote_at quote reader.old.text reader.old.at) }
 {
     let doubled = is_doubled(quote, reader.byte(1));
     reader.skip();

@@ -20,7 +20,8 @@ fn is_ordinary(byte: u8) -> bool
 /// Past the ordinary bytes that stand here, and those bytes.
 pub(crate) fn ordinary_run<'a>(reader: &mut Reader<'a>) -> &'a [u8]
     ensures place { spec.IsRun reader.old.text reader.old.at reader.new }
-    ensures bytes { result.now ≡ spec.bytes_at reader.old.text reader.old.at (reader.new.at - reader.old.at) }
+    ensures bytes { result.now ≡ spec.bytes_at reader.old.text reader.old.at
+        (reader.new.at - reader.old.at) }
 {
     let from = reader.place();
     'bytes: while is_ordinary(reader.here()) {

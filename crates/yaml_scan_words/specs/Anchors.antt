@@ -9,7 +9,8 @@ use Rattle.yaml_scan_model.specs.Wrong.{Wrong}
 
 -- one of ``? : , ] } % @ ` ``
 abbrev pub is_name_end : ℕ → Bool
-is_name_end b = b == 63 || (b == 58 || (b == 44 || (b == 93 || (b == 125 || (b == 37 || (b == 64 || b == 96))))))
+is_name_end b = b == 63 || (b == 58
+    || (b == 44 || (b == 93 || (b == 125 || (b == 37 || (b == 64 || b == 96))))))
 
 -- a blank, a break, the end or one of ``? : , ] } % @ ` `` stands there
 unfoldable pub may_end_name : List ℕ → ℕ → Bool
@@ -18,7 +19,8 @@ may_end_name text p = is_blank_or_end text p || is_name_end (byte text p)
 -- the name from one place to another, and the place behind it
 abbrev pub name_between : Context → List ℕ → ℕ → ℕ → Result (List ℕ × ℕ) Wrong
 name_between context text p q =
-    if p == q || not (may_end_name text q) then Err record { problem = problems.NoAlphanumeric; context = context; place = q }
+    if p == q || not (may_end_name text q)
+    then Err record { problem = problems.NoAlphanumeric; context = context; place = q }
     else Ok (slice_range text p q, q)
 
 -- the name of the anchor or alias that starts there, and the place behind it, or what is wrong

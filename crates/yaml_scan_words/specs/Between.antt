@@ -21,8 +21,13 @@ unfoldable pub step_at : Bool → List ℕ → ℕ → Step
 step_at tabs text p =
     if p == 0 && is_bom text p then record { standing = standings.Blank; place = p + 3 }
     else if is_skipped tabs text p then record { standing = standings.Blank; place = p + 1 }
-    else if byte text p == 35 then record { standing = standings.Blank; place = run_end runs.Line text p }
-    else if nat_lt 0 (break_width text p) then record { standing = standings.Break; place = p + break_width text p }
+    else if byte text p == 35 then record {
+      standing = standings.Blank;
+      place = run_end runs.Line
+          text p;
+    }
+    else if nat_lt 0 (break_width text p)
+    then record { standing = standings.Break; place = p + break_width text p }
     else record { standing = standings.Lexeme; place = p }
 
 -- what stands between two lexemes: the place of the second one, and whether a break stands before it

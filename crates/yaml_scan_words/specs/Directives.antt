@@ -42,12 +42,14 @@ abbrev pub line_place : ℕ → ℕ
 line_place q = q
 
 -- a value, and the place behind it, handed to what follows there
-abbrev pub then_at : {A B : Type 0} → (A → ℕ → Result B Wrong) → Result (A × ℕ) Wrong → Result B Wrong
+abbrev pub then_at : {A B : Type 0} → (A → ℕ → Result B Wrong) → Result (A × ℕ) Wrong
+    → Result B Wrong
 then_at more (Ok x) = more x.0 x.1
 then_at more (Err w) = Err w
 
 abbrev pub is_yaml : List ℕ → ℕ → Bool
-is_yaml text p = byte text p == 89 && (byte text (p + 1) == 65 && (byte text (p + 2) == 77 && byte text (p + 3) == 76))
+is_yaml text p = byte text p == 89
+    && (byte text (p + 1) == 65 && (byte text (p + 2) == 77 && byte text (p + 3) == 76))
 
 abbrev pub is_tag : List ℕ → ℕ → Bool
 is_tag text p = byte text p == 84 && (byte text (p + 1) == 65 && byte text (p + 2) == 71)
@@ -55,8 +57,17 @@ is_tag text p = byte text p == 84 && (byte text (p + 1) == 65 && byte text (p + 
 -- the name from one place to another
 abbrev pub name_between : List ℕ → ℕ → ℕ → Result (DirectiveName × ℕ) Wrong
 name_between text p q =
-    if p == q then Err record { problem = problems.NoDirectiveName; context = contexts.Directive; place = q }
-    else if not (is_blank_or_end text q) then Err record { problem = problems.NotAlphabetical; context = contexts.Directive; place = q }
+    if p == q then Err record {
+      problem = problems.NoDirectiveName;
+      context = contexts.Directive;
+      place = q;
+    }
+    else if not (is_blank_or_end text q)
+    then Err record {
+      problem = problems.NotAlphabetical;
+      context = contexts.Directive;
+      place = q;
+    }
     else if is_yaml text p && q - p == 4 then Ok (names.Yaml, q)
     else if is_tag text p && q - p == 3 then Ok (names.Tag, q)
     else Err record { problem = problems.UnknownDirective; context = contexts.Directive; place = q }
@@ -73,8 +84,16 @@ decimal text p (suc n) = decimal text p n * 10 + (byte text (p + n) - 48)
 -- the number from one place to another
 abbrev pub number_between : List ℕ → ℕ → ℕ → Result (ℕ × ℕ) Wrong
 number_between text p q =
-    if q == p then Err record { problem = problems.NoVersionNumber; context = contexts.VersionDirective; place = q }
-    else if nat_lt (p + 9) q then Err record { problem = problems.LongVersionNumber; context = contexts.VersionDirective; place = p + 9 }
+    if q == p then Err record {
+      problem = problems.NoVersionNumber;
+      context = contexts.VersionDirective;
+      place = q;
+    }
+    else if nat_lt (p + 9) q then Err record {
+      problem = problems.LongVersionNumber;
+      context = contexts.VersionDirective;
+      place = p + 9;
+    }
     else Ok (decimal text p (q - p), q)
 
 -- the number there, of one to nine digits
@@ -89,7 +108,11 @@ with_major major (Err w) = Err w
 abbrev pub minor_at : List ℕ → ℕ → ℕ → Result ValueText Wrong
 minor_at text major q =
     if byte text q == 46 then with_major major (number_at text (q + 1))
-    else Err record { problem = problems.NoDigitOrDot; context = contexts.VersionDirective; place = q }
+    else Err record {
+      problem = problems.NoDigitOrDot;
+      context = contexts.VersionDirective;
+      place = q;
+    }
 
 -- blanks and a version
 abbrev pub version_at : List ℕ → ℕ → Result ValueText Wrong
@@ -100,25 +123,38 @@ abbrev pub handle_between : List ℕ → ℕ → ℕ → Result (List ℕ × ℕ
 handle_between text p q =
     if byte text q == 33 then Ok (slice_range text p (q + 1), q + 1)
     else if q == p + 1 then Ok (slice_range text p q, q)
-    else Err record { problem = problems.NoExclamationMark; context = contexts.TagDirectiveHandle; place = q }
+    else Err record {
+      problem = problems.NoExclamationMark;
+      context = contexts.TagDirectiveHandle;
+      place = q;
+    }
 
 -- `!` or `!alphas!`
 abbrev pub handle_at : List ℕ → ℕ → Result (List ℕ × ℕ) Wrong
 handle_at text p =
     if byte text p == 33 then handle_between text p (run_end runs.Alphas text (p + 1))
-    else Err record { problem = problems.NoExclamationMark; context = contexts.TagDirectiveStart; place = p }
+    else Err record {
+      problem = problems.NoExclamationMark;
+      context = contexts.TagDirectiveStart;
+      place = p;
+    }
 
 -- a prefix before a blank, a break or the end
 abbrev pub prefix_ended : List ℕ → Result (List ℕ × ℕ) Wrong → Result (List ℕ × ℕ) Wrong
 prefix_ended text (Ok x) =
     if is_blank_or_end text x.1 then Ok x
-    else Err record { problem = problems.NoWhitespaceOrBreak; context = contexts.TagDirective; place = x.1 }
+    else Err record {
+      problem = problems.NoWhitespaceOrBreak;
+      context = contexts.TagDirective;
+      place = x.1;
+    }
 prefix_ended text (Err w) = Err w
 
 -- blanks, one at least, and a prefix
 abbrev pub prefix_at : List ℕ → ℕ → Result (List ℕ × ℕ) Wrong
 prefix_at text p =
-    if belongs runs.Blanks text p then prefix_ended text (some_uri_at contexts.TagDirectiveUri true text (run_end runs.Blanks text p))
+    if belongs runs.Blanks text p then prefix_ended text (some_uri_at contexts.TagDirectiveUri true
+    text (run_end runs.Blanks text p))
     else Err record { problem = problems.NoWhitespace; context = contexts.TagDirective; place = p }
 
 abbrev pub with_prefix : List ℕ → Result (List ℕ × ℕ) Wrong → Result ValueText Wrong
@@ -127,7 +163,8 @@ with_prefix handle (Err w) = Err w
 
 -- blanks, a handle, blanks and a prefix
 abbrev pub tag_directive_at : List ℕ → ℕ → Result ValueText Wrong
-tag_directive_at text p = then_at (λ handle q. with_prefix handle (prefix_at text q)) (handle_at text (run_end runs.Blanks text p))
+tag_directive_at text p = then_at (λ handle q. with_prefix handle (prefix_at text q))
+    (handle_at text (run_end runs.Blanks text p))
 
 -- what follows the name
 abbrev pub named_value_at : List ℕ → DirectiveName → ℕ → Result ValueText Wrong

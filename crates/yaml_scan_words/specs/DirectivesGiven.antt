@@ -27,7 +27,8 @@ abbrev pub IsSaid : Directive → ValueText → Type 0
 IsSaid directive v = Says directive v.said
 
 -- a directive that starts there says that, and ends behind its value
-pub record IsDirective (text : List ℕ) (start : ℕ) (word : DirectiveWord) (d : DirectiveText) : Type 0 where
+pub record IsDirective (text : List ℕ) (start : ℕ) (word : DirectiveWord) (d : DirectiveText) : Type
+    0 where
   pub said : Says word.directive d.said
   pub start_mark : word.start_mark ≡ mark_at text start
   pub end_mark : word.end_mark ≡ mark_at text d.end

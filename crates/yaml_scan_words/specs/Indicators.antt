@@ -8,11 +8,13 @@ is_thrice b text p = byte text p == b && (byte text (p + 1) == b && byte text (p
 
 -- `---` at column 0 before a blank, a break or the end
 unfoldable pub is_document_start : List ℕ → ℕ → Bool
-is_document_start text p = (column_at text p == 0 && is_thrice 45 text p) && is_blank_or_end text (p + 3)
+is_document_start text p = (column_at text p == 0 && is_thrice 45 text p) && is_blank_or_end text
+    (p + 3)
 
 -- `...` at column 0 before a blank, a break or the end
 unfoldable pub is_document_end : List ℕ → ℕ → Bool
-is_document_end text p = (column_at text p == 0 && is_thrice 46 text p) && is_blank_or_end text (p + 3)
+is_document_end text p = (column_at text p == 0 && is_thrice 46 text p) && is_blank_or_end text
+    (p + 3)
 
 -- `-` before a blank, a break or the end
 abbrev pub is_block_entry : List ℕ → ℕ → Bool

@@ -9,35 +9,57 @@ use Rattle.yaml_scan_words.specs.Tags.{tag_at, may_end_tag}
 use Rattle.yaml_scan_words.specs.Written.{HasAt, are_alphas, are_gap, has_break, begins_lexeme, UriPiece, uri_text, uri_bytes, IsUri, has_no_mark}
 
 abbrev pub GapReads : Type 0
-GapReads = (flow allowed : Bool) (text : List ℕ) (p : ℕ) (gap : List ℕ) → HasAt text p gap → are_gap gap ≡ true → begins_lexeme text (p + length gap) ≡ true
+GapReads = (flow allowed : Bool) (text : List ℕ) (p : ℕ) (gap : List ℕ) → HasAt text p gap
+    → are_gap gap ≡ true → begins_lexeme text (p + length gap) ≡ true
     → gap_at flow allowed text p ≡ record { place = p + length gap; broke = has_break gap }
 
 abbrev pub AnchorReads : Type 0
-AnchorReads = (context : Context) (text : List ℕ) (p : ℕ) (name : List ℕ) → HasAt text (p + 1) name → 0 < length name → are_alphas name ≡ true
+AnchorReads = (context : Context) (text : List ℕ) (p : ℕ) (name : List ℕ) → HasAt text (p + 1) name
+    → 0 < length name → are_alphas name ≡ true
     → may_end_name text (p + 1 + length name) ≡ true
     → anchor_at context text p ≡ Ok (name, p + 1 + length name)
 
 abbrev pub UriReads : Type 0
-UriReads = (context : Context) (wide : Bool) (text : List ℕ) (p : ℕ) (pieces : List UriPiece) → HasAt text p (uri_text pieces) → IsUri wide 0 pieces
-    → (byte text (p + length (uri_text pieces)) == 37 || is_uri wide text (p + length (uri_text pieces))) ≡ false
+UriReads = (context : Context) (wide : Bool) (text : List ℕ) (p : ℕ) (pieces : List UriPiece)
+    → HasAt text p (uri_text pieces) → IsUri wide 0 pieces
+    → (byte text (p + length (uri_text pieces)) == 37 || is_uri wide text
+    (p + length (uri_text pieces))) ≡ false
     → uri_at context wide text p ≡ Ok (uri_bytes pieces, p + length (uri_text pieces))
 
 -- `!` before a URI that has no `!` of its own
 abbrev pub BareTagReads : Type 0
-BareTagReads = (flow : Bool) (text : List ℕ) (p : ℕ) (pieces : List UriPiece) → HasAt text p (33 ∷ uri_text pieces) → 0 < length pieces → IsUri false 0 pieces → has_no_mark pieces ≡ true
+BareTagReads = (flow : Bool) (text : List ℕ) (p : ℕ) (pieces : List UriPiece)
+    → HasAt text p (33 ∷ uri_text pieces) → 0 < length pieces → IsUri false 0 pieces
+    → has_no_mark pieces ≡ true
     → may_end_tag flow text (p + 1 + length (uri_text pieces)) ≡ true
-    → tag_at flow text p ≡ Ok record { handle = 33 ∷ []; suffix = uri_bytes pieces; end = p + 1 + length (uri_text pieces) }
+    → tag_at flow text p ≡ Ok record {
+      handle = 33 ∷ [];
+      suffix = uri_bytes pieces;
+      end = p + 1
+          + length (uri_text pieces);
+    }
 
 -- `!alphas!` before a URI
 abbrev pub NamedTagReads : Type 0
 NamedTagReads = (flow : Bool) (text : List ℕ) (p : ℕ) (name : List ℕ) (pieces : List UriPiece)
-    → HasAt text p (33 ∷ (name ++ (33 ∷ uri_text pieces))) → are_alphas name ≡ true → 0 < length pieces → IsUri false 0 pieces
+    → HasAt text p (33 ∷ (name ++ (33 ∷ uri_text pieces))) → are_alphas name ≡ true
+    → 0 < length pieces → IsUri false 0 pieces
     → may_end_tag flow text (p + 2 + length name + length (uri_text pieces)) ≡ true
-    → tag_at flow text p ≡ Ok record { handle = 33 ∷ (name ++ (33 ∷ [])); suffix = uri_bytes pieces; end = p + 2 + length name + length (uri_text pieces) }
+    → tag_at flow text p ≡ Ok record {
+      handle = 33 ∷ (name ++ (33 ∷ []));
+      suffix = uri_bytes pieces;
+      end = p + 2 + length name + length (uri_text pieces);
+    }
 
 -- `!<uri>`
 abbrev pub VerbatimTagReads : Type 0
 VerbatimTagReads = (flow : Bool) (text : List ℕ) (p : ℕ) (pieces : List UriPiece)
-    → HasAt text p (33 ∷ (60 ∷ (uri_text pieces ++ (62 ∷ [])))) → 0 < length pieces → IsUri true 0 pieces
+    → HasAt text p (33 ∷ (60 ∷ (uri_text pieces ++ (62 ∷ [])))) → 0 < length pieces
+    → IsUri true 0 pieces
     → may_end_tag flow text (p + 3 + length (uri_text pieces)) ≡ true
-    → tag_at flow text p ≡ Ok record { handle = []; suffix = uri_bytes pieces; end = p + 3 + length (uri_text pieces) }
+    → tag_at flow text p ≡ Ok record {
+      handle = [];
+      suffix = uri_bytes pieces;
+      end = p + 3 + length
+          (uri_text pieces);
+    }

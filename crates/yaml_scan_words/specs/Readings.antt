@@ -9,8 +9,10 @@ use Rattle.yaml_scan_words.specs.declared.word.Word.{Word}
 
 -- What a reading answers, and where it leaves the reader: what stands there, and the place behind it, or what is wrong with
 -- the lexeme that starts at that mark; or memory ran out.
-abbrev pub ReadsAs : {X Y : Type 0} → (X → Y → Type 0) → (Y → ℕ) → List ℕ → yaml_mark_t → Place → Result X ScanError → Result Y Wrong → Type 0
-ReadsAs Is behind text start place (Ok x) (Ok y) = Is x y × (place ≡ record { text = text; at = behind y })
+abbrev pub ReadsAs : {X Y : Type 0} → (X → Y → Type 0) → (Y → ℕ) → List ℕ → yaml_mark_t → Place
+    → Result X ScanError → Result Y Wrong → Type 0
+ReadsAs Is behind text start place (Ok x) (Ok y) = Is x y
+    × (place ≡ record { text = text; at = behind y })
 ReadsAs Is behind text start place (Ok x) (Err w) = ⊥
 ReadsAs Is behind text start place (Err e) (Ok y) = IsMemory e
 ReadsAs Is behind text start place (Err e) (Err w) = Refuses text start e w

@@ -38,7 +38,8 @@ with_handle handle (Err w) = Err w
 
 -- `!alphas!uri`, where the alphas may be none
 abbrev pub named_at : List ℕ → ℕ → Result TagText Wrong
-named_at text p = with_handle (slice_range text p (name_end text p + 1)) (some_uri_at contexts.TagUri false text (name_end text p + 1))
+named_at text p = with_handle (slice_range text p (name_end text p + 1))
+    (some_uri_at contexts.TagUri false text (name_end text p + 1))
 
 -- the handle `!` before a URI; `!` alone is a suffix
 abbrev pub bare : Result (List ℕ × ℕ) Wrong → Result TagText Wrong
@@ -65,7 +66,11 @@ may_end_tag flow text p = is_blank_or_end text p || (flow && byte text p == 44)
 abbrev pub ended : Bool → List ℕ → Result TagText Wrong → Result TagText Wrong
 ended flow text (Ok t) =
     if may_end_tag flow text t.end then Ok t
-    else Err record { problem = problems.NoWhitespaceOrBreak; context = contexts.Tag; place = t.end }
+    else Err record {
+      problem = problems.NoWhitespaceOrBreak;
+      context = contexts.Tag;
+      place = t.end;
+    }
 ended flow text (Err w) = Err w
 
 -- the tag whose `!` stands there, in flow context or not, and the place behind it, or what is wrong

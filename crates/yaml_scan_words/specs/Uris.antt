@@ -10,8 +10,10 @@ use Rattle.yaml_scan_model.specs.Wrong.{Wrong}
 -- one of `; / ? : @ & = + $ . ! ~ * ' ( )`
 unfoldable pub is_punctuation : ℕ → Bool
 is_punctuation b =
-    (b == 59 || (b == 47 || (b == 63 || (b == 58 || (b == 64 || (b == 38 || (b == 61 || b == 43)))))))
-    || (b == 36 || (b == 46 || (b == 33 || (b == 126 || (b == 42 || (b == 39 || (b == 40 || b == 41)))))))
+    (b == 59 || (b == 47 || (b == 63
+    || (b == 58 || (b == 64 || (b == 38 || (b == 61 || b == 43)))))))
+    || (b == 36 || (b == 46 || (b == 33
+    || (b == 126 || (b == 42 || (b == 39 || (b == 40 || b == 41)))))))
 
 -- one of `, [ ]`
 unfoldable pub is_wide_punctuation : ℕ → Bool
@@ -19,7 +21,8 @@ is_wide_punctuation b = b == 44 || (b == 91 || b == 93)
 
 -- a character stands there that a URI holds as it is
 abbrev pub is_uri : Bool → List ℕ → ℕ → Bool
-is_uri wide text p = is_alpha text p || (is_punctuation (byte text p) || (wide && is_wide_punctuation (byte text p)))
+is_uri wide text p = is_alpha text p
+    || (is_punctuation (byte text p) || (wide && is_wide_punctuation (byte text p)))
 
 -- the value of a hexadecimal digit
 unfoldable pub hex_digit : ℕ → Option ℕ
@@ -43,7 +46,8 @@ octet_at text p = octet_of (hex_digit (byte text (p + 1))) (hex_digit (byte text
 -- What the octets spell together may be overlong, a surrogate or too large.
 unfoldable pub due_behind : ℕ → ℕ → Result ℕ Problem
 due_behind b due =
-    if nat_lt 0 due then (if nat_le 0x80 b && nat_le b 0xBF then Ok (due - 1) else Err problems.WrongTrailingOctet)
+    if nat_lt 0 due then (if nat_le 0x80 b && nat_le b 0xBF then Ok (due - 1)
+    else Err problems.WrongTrailingOctet)
     else if nat_le b 0x7F then Ok 0
     else if nat_le 0xC0 b && nat_le b 0xDF then Ok 1
     else if nat_le 0xE0 b && nat_le b 0xEF then Ok 2
@@ -79,15 +83,21 @@ with_bytes bytes (Ok u) = Ok (bytes ++ u.0, u.1)
 with_bytes bytes (Err w) = Err w
 
 -- a URI from a spot on, where `more` is its rest
-abbrev pub uri_from : (ℕ → ℕ → Result (List ℕ × ℕ) Wrong) → Context → UriSpot → Result (List ℕ × ℕ) Wrong
+abbrev pub uri_from : (ℕ → ℕ → Result (List ℕ × ℕ) Wrong) → Context → UriSpot
+    → Result (List ℕ × ℕ) Wrong
 uri_from more context (Spells b due q) = with_bytes (b ∷ []) (more due q)
 uri_from more context (Ends q) = Ok ([], q)
-uri_from more context (Faulty problem q) = Err record { problem = problem; context = context; place = q }
+uri_from more context (Faulty problem q) = Err record {
+  problem = problem;
+  context = context;
+  place = q;
+}
 
 -- the bytes of the URI there, of at most n spots, where so many escapes are due, and the place behind it
 unfoldable pub uri_within : ℕ → Context → Bool → ℕ → List ℕ → ℕ → Result (List ℕ × ℕ) Wrong
 uri_within zero context wide due text p = Ok ([], p)
-uri_within (suc n) context wide due text p = uri_from (λ next q. uri_within n context wide next text q) context (spot_at wide due text p)
+uri_within (suc n) context wide due text p = uri_from (λ next q. uri_within n context wide next text
+    q) context (spot_at wide due text p)
 
 -- the bytes that the URI spells which stands there, none where no URI does, and the place behind it, or what is wrong
 abbrev pub uri_at : Context → Bool → List ℕ → ℕ → Result (List ℕ × ℕ) Wrong
@@ -95,7 +105,8 @@ uri_at context wide text p = uri_within (suc (length text)) context wide 0 text 
 
 -- a URI that has a byte at least
 abbrev pub filled : Context → Result (List ℕ × ℕ) Wrong → Result (List ℕ × ℕ) Wrong
-filled context (Ok u) = if length u.0 == 0 then Err record { problem = problems.NoTagUri; context = context; place = u.1 } else Ok u
+filled context (Ok u) = if length u.0 == 0
+    then Err record { problem = problems.NoTagUri; context = context; place = u.1 } else Ok u
 filled context (Err w) = Err w
 
 abbrev pub some_uri_at : Context → Bool → List ℕ → ℕ → Result (List ℕ × ℕ) Wrong

@@ -26,7 +26,9 @@ has_break (b ∷ bs) = (b == 10 || b == 13) || has_break bs
 -- a lexeme stands there, or the end: neither a blank nor a comment nor a break, nor U+FEFF at the start of the text
 abbrev pub begins_lexeme : List ℕ → ℕ → Bool
 begins_lexeme text p =
-    not (byte text p == 32) && (not (byte text p == 9) && (not (byte text p == 35) && (not (nat_lt 0 (break_width text p)) && not (p == 0 && is_bom text p))))
+    not (byte text p == 32) && (not (byte text p == 9)
+    && (not (byte text p == 35)
+    && (not (nat_lt 0 (break_width text p)) && not (p == 0 && is_bom text p))))
 
 -- A byte of a URI as it is, or as an escape.
 pub data UriPiece : Type 0 where
@@ -64,7 +66,8 @@ is_kept wide b = is_alpha_byte b || (is_punctuation b || (wide && is_wide_punctu
 abbrev pub IsUri : Bool → ℕ → List UriPiece → Type 0
 IsUri wide due [] = due ≡ 0
 IsUri wide due (raw b ∷ pieces) = (due ≡ 0) × (is_kept wide b ≡ true) × IsUri wide 0 pieces
-IsUri wide due (escape b ∷ pieces) = (b < 256) × ((next : ℕ) × (due_behind b due ≡ Ok next) × IsUri wide next pieces)
+IsUri wide due (escape b ∷ pieces) = (b < 256) × ((next : ℕ) × (due_behind b due ≡ Ok next)
+    × IsUri wide next pieces)
 
 -- no raw `!` is among the pieces
 abbrev pub has_no_mark : List UriPiece → Bool

@@ -17,8 +17,11 @@ use yaml_scan_model::{Context, Problem, Reader, ScanError};
 // Inlined into its two callers, each a call of its own.
 #[inline(always)]
 pub fn anchor(alloc: Global, reader: &mut Reader, context: Context) -> Result<Word, ScanError>
-    requires { (byte reader.old.text reader.old.at ≡ 38) ⊎ (byte reader.old.text reader.old.at ≡ 42) }
-    ensures { ReadsAs (IsWord reader.old.text reader.old.at) behind_bytes reader.old.text (mark_at reader.old.text reader.old.at) reader.new result (spec.anchor_at context reader.old.text reader.old.at) }
+    requires { (byte reader.old.text reader.old.at ≡ 38)
+        ⊎ (byte reader.old.text reader.old.at ≡ 42) }
+    ensures { ReadsAs (IsWord reader.old.text reader.old.at) behind_bytes reader.old.text
+        (mark_at reader.old.text reader.old.at) reader.new result
+        (spec.anchor_at context reader.old.text reader.old.at) }
 {
     let start = reader.mark();
     let to = name_end(reader);

@@ -22,7 +22,8 @@ pub(crate) enum Standing {
 /// U+FEFF is skipped at the start of the text alone, and takes a column. Tabs are skipped in flow context, and where no key
 /// is allowed; a break that is passed in block context allows one. `#` starts a comment wherever it stands here.
 pub fn skip_gap(reader: &mut Reader, flow: bool, key_allowed: bool) -> bool
-    ensures gap { spec.gap_at flow key_allowed reader.old.text reader.old.at ≡ record { place = reader.new.at; broke = result } }
+    ensures gap { spec.gap_at flow key_allowed reader.old.text reader.old.at
+        ≡ record { place = reader.new.at; broke = result } }
     ensures text { reader.new.text ≡ reader.old.text }
 {
     let mut allowed = key_allowed;
@@ -56,7 +57,8 @@ fn allows_key(flow: bool, allowed: bool) -> bool
 /// Past what stands here, where it is no lexeme.
 #[tactic(auto, unfolding(crate::specs::Between::step_at))]
 fn step(reader: &mut Reader, tabs: bool) -> Standing
-    ensures step { spec.step_at tabs reader.old.text reader.old.at ≡ record { standing = result; place = reader.new.at } }
+    ensures step { spec.step_at tabs reader.old.text reader.old.at
+        ≡ record { standing = result; place = reader.new.at } }
     ensures text { reader.new.text ≡ reader.old.text }
 {
     if begins_lexeme(reader.here()) {

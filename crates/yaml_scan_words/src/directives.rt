@@ -25,7 +25,9 @@ pub(crate) enum DirectiveName {
 /// Behind it blanks, a comment and the break are passed. The directive's end mark stands behind its value.
 pub fn directive(alloc: Global, reader: &mut Reader) -> Result<DirectiveWord, ScanError>
     requires { byte reader.old.text reader.old.at ≡ 37 }
-    ensures { ReadsAs (IsDirective reader.old.text reader.old.at) spec.directive_place reader.old.text (mark_at reader.old.text reader.old.at) reader.new result (spec.directive_at reader.old.text reader.old.at) }
+    ensures { ReadsAs (IsDirective reader.old.text reader.old.at) spec.directive_place
+        reader.old.text (mark_at reader.old.text reader.old.at) reader.new result
+        (spec.directive_at reader.old.text reader.old.at) }
 {
     let start = reader.mark();
     let directive = directive_value(alloc, reader, start)?;
@@ -45,7 +47,8 @@ fn directive_value(
     start: yaml_mark_t,
 ) -> Result<Directive, ScanError>
     requires { byte reader.old.text reader.old.at ≡ 37 }
-    ensures { ReadsAs IsSaid spec.value_end reader.old.text start reader.new result (spec.value_at reader.old.text reader.old.at) }
+    ensures { ReadsAs IsSaid spec.value_end reader.old.text start reader.new result
+        (spec.value_at reader.old.text reader.old.at) }
 {
     match directive_name(reader, start)? {
         DirectiveName::Yaml => version(reader, start),
@@ -56,7 +59,8 @@ fn directive_value(
 /// The name behind the `%` that stands here.
 fn directive_name(reader: &mut Reader, start: yaml_mark_t) -> Result<DirectiveName, ScanError>
     requires { byte reader.old.text reader.old.at ≡ 37 }
-    ensures { ReadsAs IsName spec.name_behind reader.old.text start reader.new result (spec.name_at reader.old.text reader.old.at) }
+    ensures { ReadsAs IsName spec.name_behind reader.old.text start reader.new result
+        (spec.name_at reader.old.text reader.old.at) }
 {
     skip_indicator(reader);
     let from = reader.place();
@@ -96,7 +100,8 @@ fn is_tag(reader: &Reader) -> bool
 
 /// Past blanks, a comment and the break, which end the line of a directive.
 fn finish_line(reader: &mut Reader, start: yaml_mark_t) -> Result<(), ScanError>
-    ensures { ReadsAs IsEnd spec.line_place reader.old.text start reader.new result (spec.line_end_at reader.old.text reader.old.at) }
+    ensures { ReadsAs IsEnd spec.line_place reader.old.text start reader.new result
+        (spec.line_end_at reader.old.text reader.old.at) }
 {
     skip_run(Run::Blanks, reader);
     skip_comment(reader);
@@ -112,7 +117,11 @@ fn finish_line(reader: &mut Reader, start: yaml_mark_t) -> Result<(), ScanError>
 
 /// Past the comment that stands here, if one does.
 fn skip_comment(reader: &mut Reader)
-    ensures { reader.new ≡ record { text = reader.old.text; at = spec.comment_end reader.old.text reader.old.at } }
+    ensures { reader.new ≡ record {
+      text = reader.old.text;
+      at = spec.comment_end reader.old.text
+          reader.old.at;
+    } }
 {
     if reader.here() == b'#' {
         skip_run(Run::Line, reader);

@@ -18,7 +18,8 @@ pub(crate) fn tag_directive(
     reader: &mut Reader,
     start: yaml_mark_t,
 ) -> Result<Directive, ScanError>
-    ensures { ReadsAs IsSaid spec.value_end reader.old.text start reader.new result (spec.tag_directive_at reader.old.text reader.old.at) }
+    ensures { ReadsAs IsSaid spec.value_end reader.old.text start reader.new result
+        (spec.tag_directive_at reader.old.text reader.old.at) }
 {
     skip_run(Run::Blanks, reader);
     let handle = tag_handle(alloc, reader, start)?;
@@ -28,7 +29,8 @@ pub(crate) fn tag_directive(
 
 /// The handle that stands here: `!` or `!alphas!`.
 fn tag_handle(alloc: Global, reader: &mut Reader, start: yaml_mark_t) -> Result<Vec<u8>, ScanError>
-    ensures { ReadsAs IsBytes behind_bytes reader.old.text start reader.new result (spec.handle_at reader.old.text reader.old.at) }
+    ensures { ReadsAs IsBytes behind_bytes reader.old.text start reader.new result
+        (spec.handle_at reader.old.text reader.old.at) }
 {
     let from = reader.place();
     if reader.here() != b'!' {
@@ -59,7 +61,8 @@ fn tag_handle(alloc: Global, reader: &mut Reader, start: yaml_mark_t) -> Result<
 
 /// The prefix that follows here behind blanks, which end the handle.
 fn tag_prefix(alloc: Global, reader: &mut Reader, start: yaml_mark_t) -> Result<Vec<u8>, ScanError>
-    ensures { ReadsAs IsBytes behind_bytes reader.old.text start reader.new result (spec.prefix_at reader.old.text reader.old.at) }
+    ensures { ReadsAs IsBytes behind_bytes reader.old.text start reader.new result
+        (spec.prefix_at reader.old.text reader.old.at) }
 {
     if !belongs(Run::Blanks, reader.text(), reader.place()) {
         return Err(refusal(reader, Problem::NoWhitespace, Context::TagDirective, start));

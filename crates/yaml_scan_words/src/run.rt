@@ -40,7 +40,11 @@ pub(crate) fn belongs(run: Run, text: &[u8], place: usize) -> bool
 
 /// Past the run that stands here.
 pub(crate) fn skip_run(run: Run, reader: &mut Reader)
-    ensures { reader.new ≡ record { text = reader.old.text; at = spec.run_end run reader.old.text reader.old.at } }
+    ensures { reader.new ≡ record {
+      text = reader.old.text;
+      at = spec.run_end run reader.old.text
+          reader.old.at;
+    } }
 {
     'bytes: while belongs(run, reader.text(), reader.place()) {
         reader.skip();

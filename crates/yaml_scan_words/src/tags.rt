@@ -25,7 +25,9 @@ pub(crate) struct TagParts {
 /// a blank, a break or the end, in flow context also before `,`.
 pub fn tag(alloc: Global, reader: &mut Reader, flow: bool) -> Result<TagWord, ScanError>
     requires { byte reader.old.text reader.old.at ≡ 33 }
-    ensures { ReadsAs (IsTag reader.old.text reader.old.at) spec.tag_end reader.old.text (mark_at reader.old.text reader.old.at) reader.new result (spec.tag_at flow reader.old.text reader.old.at) }
+    ensures { ReadsAs (IsTag reader.old.text reader.old.at) spec.tag_end reader.old.text
+        (mark_at reader.old.text reader.old.at) reader.new result
+        (spec.tag_at flow reader.old.text reader.old.at) }
 {
     let start = reader.mark();
     let parts = tag_parts(alloc, reader, start)?;
@@ -51,7 +53,8 @@ fn may_end_tag(reader: &Reader, flow: bool) -> bool
 #[tactic(auto, unfolding(crate::specs::Tags::parts_at))]
 fn tag_parts(alloc: Global, reader: &mut Reader, start: yaml_mark_t) -> Result<TagParts, ScanError>
     requires { byte reader.old.text reader.old.at ≡ 33 }
-    ensures { ReadsAs IsParts spec.tag_end reader.old.text start reader.new result (spec.parts_at reader.old.text reader.old.at) }
+    ensures { ReadsAs IsParts spec.tag_end reader.old.text start reader.new result
+        (spec.parts_at reader.old.text reader.old.at) }
 {
     if reader.byte(1) == b'<' {
         return verbatim(alloc, reader, start);
@@ -67,7 +70,8 @@ fn tag_parts(alloc: Global, reader: &mut Reader, start: yaml_mark_t) -> Result<T
 fn verbatim(alloc: Global, reader: &mut Reader, start: yaml_mark_t) -> Result<TagParts, ScanError>
     requires mark { byte reader.old.text reader.old.at ≡ 33 }
     requires bracket { byte reader.old.text (reader.old.at + 1) ≡ 60 }
-    ensures { ReadsAs IsParts spec.tag_end reader.old.text start reader.new result (spec.verbatim_at reader.old.text reader.old.at) }
+    ensures { ReadsAs IsParts spec.tag_end reader.old.text start reader.new result
+        (spec.verbatim_at reader.old.text reader.old.at) }
 {
     skip_indicator(reader);
     skip_indicator(reader);
@@ -92,7 +96,8 @@ fn named(
     requires mark { byte reader.old.text reader.old.at ≡ 33 }
     requires name { end ≡ spec.name_end reader.old.text reader.old.at }
     requires handle { byte reader.old.text end ≡ 33 }
-    ensures { ReadsAs IsParts spec.tag_end reader.old.text start reader.new result (spec.named_at reader.old.text reader.old.at) }
+    ensures { ReadsAs IsParts spec.tag_end reader.old.text start reader.new result
+        (spec.named_at reader.old.text reader.old.at) }
 {
     let from = reader.place();
     leap(reader, end);
@@ -105,7 +110,8 @@ fn named(
 /// The tag `!uri` or `!` that stands here.
 fn bare(alloc: Global, reader: &mut Reader, start: yaml_mark_t) -> Result<TagParts, ScanError>
     requires { byte reader.old.text reader.old.at ≡ 33 }
-    ensures { ReadsAs IsParts spec.tag_end reader.old.text start reader.new result (spec.bare_at reader.old.text reader.old.at) }
+    ensures { ReadsAs IsParts spec.tag_end reader.old.text start reader.new result
+        (spec.bare_at reader.old.text reader.old.at) }
 {
     skip_indicator(reader);
     let suffix = uri(alloc, reader, Context::TagUri, false, start)?;

@@ -29,7 +29,8 @@ pub(crate) fn some_uri(
     wide: bool,
     start: yaml_mark_t,
 ) -> Result<Vec<u8>, ScanError>
-    ensures { ReadsAs IsBytes behind_bytes reader.old.text start reader.new result (spec.some_uri_at context wide reader.old.text reader.old.at) }
+    ensures { ReadsAs IsBytes behind_bytes reader.old.text start reader.new result
+        (spec.some_uri_at context wide reader.old.text reader.old.at) }
 {
     let bytes = uri(alloc, reader, context, wide, start)?;
     if bytes.is_empty() {
@@ -48,7 +49,8 @@ pub(crate) fn uri(
     wide: bool,
     start: yaml_mark_t,
 ) -> Result<Vec<u8>, ScanError>
-    ensures { ReadsAs IsBytes behind_bytes reader.old.text start reader.new result (spec.uri_at context wide reader.old.text reader.old.at) }
+    ensures { ReadsAs IsBytes behind_bytes reader.old.text start reader.new result
+        (spec.uri_at context wide reader.old.text reader.old.at) }
 {
     let from = reader.place();
     leap(reader, kept_end(reader.text(), from, wide));
@@ -69,7 +71,8 @@ fn escaped(
     wide: bool,
     start: yaml_mark_t,
 ) -> Result<Vec<u8>, ScanError>
-    ensures { ReadsAs IsBytes behind_bytes reader.old.text start reader.new result (spec.with_bytes read.items (spec.uri_at context wide reader.old.text reader.old.at)) }
+    ensures { ReadsAs IsBytes behind_bytes reader.old.text start reader.new result
+        (spec.with_bytes read.items (spec.uri_at context wide reader.old.text reader.old.at)) }
 {
     let mut bytes = read;
     let mut due = 0;
@@ -88,7 +91,8 @@ fn escaped(
 /// Takes the byte that is spelled here, where so many escapes are due. Nothing is taken where the URI ends or has a problem.
 #[tactic(auto, unfolding(crate::specs::Uris::spot_at))]
 fn next_byte(reader: &mut Reader, wide: bool, due: usize) -> Result<Option<Spelling>, Problem>
-    ensures spot { spec.spot_at wide due reader.old.text reader.old.at ≡ spot_of result reader.new.at }
+    ensures spot { spec.spot_at wide due reader.old.text reader.old.at ≡ spot_of result
+        reader.new.at }
     ensures text { reader.new.text ≡ reader.old.text }
 {
     if reader.here() == b'%' {
@@ -109,7 +113,8 @@ fn next_byte(reader: &mut Reader, wide: bool, due: usize) -> Result<Option<Spell
 #[tactic(auto, unfolding(crate::specs::Uris::octet_at))]
 fn escape(reader: &mut Reader, due: usize) -> Result<Option<Spelling>, Problem>
     requires { byte reader.old.text reader.old.at ≡ 37 }
-    ensures spot { spec.octet_spot due reader.old.at (spec.octet_at reader.old.text reader.old.at) ≡ spot_of result reader.new.at }
+    ensures spot { spec.octet_spot due reader.old.at (spec.octet_at reader.old.text reader.old.at)
+        ≡ spot_of result reader.new.at }
     ensures text { reader.new.text ≡ reader.old.text }
 {
     let Some(byte) = octet(reader) else {

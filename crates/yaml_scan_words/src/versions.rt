@@ -13,7 +13,8 @@ use yaml_scan_model::{Context, Problem, Reader, ScanError, yaml_mark_t};
 
 /// The version that follows here: blanks, a number, `.` and a number (YAML 1.1, 7.1.1).
 pub(crate) fn version(reader: &mut Reader, start: yaml_mark_t) -> Result<Directive, ScanError>
-    ensures { ReadsAs IsSaid spec.value_end reader.old.text start reader.new result (spec.version_at reader.old.text reader.old.at) }
+    ensures { ReadsAs IsSaid spec.value_end reader.old.text start reader.new result
+        (spec.version_at reader.old.text reader.old.at) }
 {
     skip_run(Run::Blanks, reader);
     let major = number(reader, start)?;
@@ -32,7 +33,8 @@ pub(crate) fn version(reader: &mut Reader, start: yaml_mark_t) -> Result<Directi
 
 /// The number that stands here, of one to nine digits.
 fn number(reader: &mut Reader, start: yaml_mark_t) -> Result<i32, ScanError>
-    ensures { ReadsAs IsNumber spec.number_behind reader.old.text start reader.new result (spec.number_at reader.old.text reader.old.at) }
+    ensures { ReadsAs IsNumber spec.number_behind reader.old.text start reader.new result
+        (spec.number_at reader.old.text reader.old.at) }
 {
     let mut value: u32 = 0;
     let mut count: usize = 0;

@@ -48,7 +48,9 @@ pub(crate) fn refusal(
     context: Context,
     start: yaml_mark_t,
 ) -> ScanError
-    ensures { result ≡ ScanError.Fault (scan_fault reader.now.text start (record { problem = problem; context = context; place = reader.now.at })) }
+    ensures { result ≡ ScanError.Fault
+        (scan_fault reader.now.text start
+        (record { problem = problem; context = context; place = reader.now.at })) }
 {
     ScanError::Fault(ScanFault {
         problem,

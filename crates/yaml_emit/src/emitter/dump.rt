@@ -26,7 +26,8 @@ pub fn yaml_emitter_open(emitter: &mut yaml_emitter_t) -> Result<(), yaml_fault_
     ensures refused { OnErr result (emitter.new.opened ≡ false) }
     ensures keeps { emitter.new.closed ≡ emitter.old.closed }
     ensures given { Given emitter.old (stream_start yaml_encoding_t.YAML_ANY_ENCODING) emitter.new }
-    ensures judged { Judged emitter.old (stream_start yaml_encoding_t.YAML_ANY_ENCODING) emitter.new }
+    ensures judged { Judged emitter.old (stream_start yaml_encoding_t.YAML_ANY_ENCODING)
+        emitter.new }
     ensures tells { Tells emitter.new }
     ensures stays { Stays emitter.old emitter.new }
 {
@@ -87,8 +88,10 @@ impl yaml_emitter_t {
     fn dump_event(&mut self, event: yaml_event_body_t) -> bool
         requires utf8 { HasUtf8 (body_of event) }
         requires begun { self.old.fresh ≡ false }
-        ensures given { (es : List Event) → GivesSome self.old (emitter_event (body_of event) ∷ es) self.new (left_if result es) }
-        ensures judged { (es : List Event) → JudgedAll self.old (emitter_event (body_of event) ∷ es) self.new (left_if result es) }
+        ensures given { (es : List Event) → GivesSome self.old (emitter_event (body_of event) ∷ es)
+            self.new (left_if result es) }
+        ensures judged { (es : List Event) → JudgedAll self.old (emitter_event (body_of event) ∷ es)
+            self.new (left_if result es) }
         ensures keeps { Keeps self.old self.new }
     {
         match self.emit(event) {
@@ -105,7 +108,8 @@ impl yaml_emitter_t {
         requires walk { IsEvents document.now events.old }
         requires begun { self.old.fresh ≡ false }
         ensures dumps { Dumps document.now result self.old events.old self.new events.new }
-        ensures judged { JudgedAll self.old (remaining_events document.now events.old) self.new (left_if result (remaining_events document.now events.new)) }
+        ensures judged { JudgedAll self.old (remaining_events document.now events.old) self.new
+            (left_if result (remaining_events document.now events.new)) }
     {
         match events.next(document) {
             Ok(None) => false,
@@ -144,11 +148,14 @@ impl yaml_emitter_t {
     // What a document without a root says is the end of the stream.
     fn dump_nodes(&mut self, document: &yaml_document_t)
         requires { self.old.opened ≡ true }
-        ensures given { GivesSome self.old (document_events self.old.closed document.now) self.new [] }
-        ensures judged { JudgedAll self.old (document_events self.old.closed document.now) self.new [] }
+        ensures given { GivesSome self.old (document_events self.old.closed document.now) self.new
+            [] }
+        ensures judged { JudgedAll self.old (document_events self.old.closed document.now) self.new
+            [] }
         ensures opened { self.new.opened ≡ true }
         ensures closed { 0 < length document.now.nodes → self.new.closed ≡ self.old.closed }
-        ensures ended { length document.now.nodes ≡ 0 → self.new.fault ≡ None → self.new.closed ≡ true }
+        ensures ended { length document.now.nodes ≡ 0 → self.new.fault ≡ None
+            → self.new.closed ≡ true }
     {
         self.stands();
         if document.node_count() == 0 {
@@ -160,8 +167,12 @@ impl yaml_emitter_t {
 
     // Whether the stream is open.
     fn open_if_needed(&mut self) -> bool
-        ensures given { (es : List Event) → GivesSome self.old (opening_events self.old.opened ++ es) self.new (left_if result es) }
-        ensures judged { (es : List Event) → JudgedAll self.old (opening_events self.old.opened ++ es) self.new (left_if result es) }
+        ensures given { (es : List Event)
+            → GivesSome self.old (opening_events self.old.opened ++ es) self.new
+            (left_if result es) }
+        ensures judged { (es : List Event)
+            → JudgedAll self.old (opening_events self.old.opened ++ es) self.new
+            (left_if result es) }
         ensures opened { result ≡ true → self.new.opened ≡ true }
         ensures kept { self.old.opened ≡ true → self.new.opened ≡ true }
         ensures refused { result ≡ false → self.new.fault ≢ None }
@@ -186,7 +197,8 @@ impl yaml_emitter_t {
         ensures opened { self.new.fault ≡ None → self.new.opened ≡ true }
         ensures kept { self.old.opened ≡ true → self.new.opened ≡ true }
         ensures closed { 0 < length document.now.nodes → self.new.closed ≡ self.old.closed }
-        ensures ended { length document.now.nodes ≡ 0 → self.new.fault ≡ None → self.new.closed ≡ true }
+        ensures ended { length document.now.nodes ≡ 0 → self.new.fault ≡ None
+            → self.new.closed ≡ true }
     {
         if self.open_if_needed() {
             self.dump_nodes(document);

@@ -26,7 +26,8 @@ fn put_alias_node(
     simple: bool,
     name: &[u8],
 )
-    ensures { Puts sink.old sink.new (before_node settings.now top.now simple ▹ alias_layout (spot_of top.now simple) name.now) }
+    ensures { Puts sink.old sink.new (before_node settings.now top.now simple
+        ▹ alias_layout (spot_of top.now simple) name.now) }
 {
     put_before(sink, settings, top, simple);
     put_alias(sink, spot_of(*top, simple), name);
@@ -47,7 +48,16 @@ fn put_scalar_node(
     style: yaml_scalar_style_t,
 )
     requires { IsUtf8 value.now }
-    ensures { Puts sink.old sink.new (before_node settings.now top.now simple ▹ scalar_layout (context_of settings.now directives.now) (spot_of top.now simple) (record { anchor = text_of anchor.now; tag = text_of tag.now; value = value.now; plain = plain; quoted = quoted; style = style })) }
+    ensures { Puts sink.old sink.new (before_node settings.now top.now simple
+        ▹ scalar_layout (context_of settings.now directives.now) (spot_of top.now simple)
+        (record {
+          anchor = text_of anchor.now;
+          tag = text_of tag.now;
+          value = value.now;
+          plain = plain;
+          quoted = quoted;
+          style = style;
+        })) }
 {
     put_before(sink, settings, top, simple);
     put_scalar(
@@ -78,7 +88,14 @@ fn put_start_node(
     style_flow: bool,
     empty: bool,
 )
-    ensures { Puts sink.old sink.new (before_node settings.now top.now simple ▹ start_text (context_of settings.now directives.now) (spot_of top.now simple) c (record { anchor = text_of anchor.now; tag = text_of tag.now; implicit = implicit; flow = style_flow }) empty) }
+    ensures { Puts sink.old sink.new (before_node settings.now top.now simple
+        ▹ start_text (context_of settings.now directives.now) (spot_of top.now simple) c
+        (record {
+          anchor = text_of anchor.now;
+          tag = text_of tag.now;
+          implicit = implicit;
+          flow = style_flow;
+        }) empty) }
 {
     put_before(sink, settings, top, simple);
     put_collection(
@@ -110,8 +127,10 @@ pub fn put_event(
 )
     requires utf8 { HasUtf8 (body_of event.now) }
     requires encoding { settings.now.encoding ≡ sink.old.encoding }
-    requires simple { simple ≡ is_simple_event (context_of settings.now directives.now) (emitter_event (body_of event.now)) empty }
-    ensures { Puts sink.old sink.new (text_at (context_of settings.now directives.now) place top.now (emitter_event (body_of event.now)) empty) }
+    requires simple { simple ≡ is_simple_event (context_of settings.now directives.now)
+        (emitter_event (body_of event.now)) empty }
+    ensures { Puts sink.old sink.new (text_at (context_of settings.now directives.now) place top.now
+        (emitter_event (body_of event.now)) empty) }
 {
     match event {
         yaml_event_body_t::No => (),

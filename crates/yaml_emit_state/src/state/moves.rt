@@ -40,7 +40,8 @@ fn first_phase(sequence: bool) -> Phase
 impl Core {
     // Behind a node.
     fn step(&mut self, simple: bool)
-        ensures state { state_of self.new ≡ among (state_of self.old).directives (levels_behind (state_of self.old).levels simple) }
+        ensures state { state_of self.new ≡ among (state_of self.old).directives
+            (levels_behind (state_of self.old).levels simple) }
         ensures same { StaysBut self.old self.new }
     {
         self.levels.step(simple);
@@ -48,7 +49,8 @@ impl Core {
     }
 
     fn close(&mut self)
-        ensures state { state_of self.new ≡ among (state_of self.old).directives (outer_of (state_of self.old).levels) }
+        ensures state { state_of self.new ≡ among (state_of self.old).directives
+            (outer_of (state_of self.old).levels) }
         ensures same { StaysBut self.old self.new }
     {
         self.levels.pop();
@@ -67,12 +69,20 @@ impl Core {
 
     // A document begins, unless memory is wanting: then the output has stopped.
     fn begin(&mut self, directives: Vec<yaml_tag_directive_t>)
-        ensures state { self.new.sink.status ≡ Status.Going → state_of self.new ≡ record { place = Expected.Node; levels = []; directives = map directive_of directives.items } }
+        ensures state { self.new.sink.status ≡ Status.Going
+            → state_of self.new ≡ record {
+              place = Expected.Node;
+              levels = [];
+              directives = map
+                  directive_of directives.items;
+            } }
         ensures settings { self.new.settings ≡ self.old.settings }
-        ensures cursor { self.new.sink.status ≡ Status.Going → self.new.sink.cursor ≡ self.old.sink.cursor }
+        ensures cursor { self.new.sink.status ≡ Status.Going → self.new.sink.cursor
+            ≡ self.old.sink.cursor }
         ensures text { Puts self.old.sink self.new.sink stay }
         ensures memory { Notes true self.old self.new }
-        ensures noted { self.old.sink.status ≡ Status.Going → self.new.sink.status ≢ Status.Going → self.new.starved ≡ true }
+        ensures noted { self.old.sink.status ≡ Status.Going → self.new.sink.status ≢ Status.Going
+            → self.new.starved ≡ true }
     {
         self.place = Expected::Node;
         self.levels.clear();
@@ -85,14 +95,17 @@ impl Core {
     }
 
     fn push(&mut self, level: Level)
-        ensures state { self.new.sink.status ≡ Status.Going → stack_of self.new.levels ≡ level ∷ stack_of self.old.levels }
+        ensures state { self.new.sink.status ≡ Status.Going → stack_of self.new.levels ≡ level
+            ∷ stack_of self.old.levels }
         ensures place { self.new.place ≡ self.old.place }
         ensures directives { self.new.directives ≡ self.old.directives }
         ensures settings { self.new.settings ≡ self.old.settings }
-        ensures cursor { self.new.sink.status ≡ Status.Going → self.new.sink.cursor ≡ self.old.sink.cursor }
+        ensures cursor { self.new.sink.status ≡ Status.Going → self.new.sink.cursor
+            ≡ self.old.sink.cursor }
         ensures text { Puts self.old.sink self.new.sink stay }
         ensures memory { Notes true self.old self.new }
-        ensures noted { self.old.sink.status ≡ Status.Going → self.new.sink.status ≢ Status.Going → self.new.starved ≡ true }
+        ensures noted { self.old.sink.status ≡ Status.Going → self.new.sink.status ≢ Status.Going
+            → self.new.starved ≡ true }
     {
         match self.levels.push(level) {
             Ok(_) => (),
@@ -102,12 +115,16 @@ impl Core {
 
     // A collection is opened, unless it would stand too deep: then the output has stopped.
     fn open(&mut self, simple: bool, phase: Phase, flow: bool, indent: u64)
-        ensures state { self.new.sink.status ≡ Status.Going → state_of self.new ≡ opened (state_of self.old).directives (state_of self.old).levels simple phase flow indent }
+        ensures state { self.new.sink.status ≡ Status.Going
+            → state_of self.new ≡ opened (state_of self.old).directives (state_of self.old).levels
+            simple phase flow indent }
         ensures settings { self.new.settings ≡ self.old.settings }
-        ensures cursor { self.new.sink.status ≡ Status.Going → self.new.sink.cursor ≡ self.old.sink.cursor }
+        ensures cursor { self.new.sink.status ≡ Status.Going → self.new.sink.cursor
+            ≡ self.old.sink.cursor }
         ensures text { Puts self.old.sink self.new.sink stay }
         ensures memory { Notes true self.old self.new }
-        ensures noted { self.old.sink.status ≡ Status.Going → self.new.sink.status ≢ Status.Going → self.new.starved ≡ true }
+        ensures noted { self.old.sink.status ≡ Status.Going → self.new.sink.status ≢ Status.Going
+            → self.new.starved ≡ true }
     {
         self.place = Expected::Node;
         self.levels.step(simple);
@@ -120,9 +137,12 @@ impl Core {
 
     // A collection is opened, unless it would stand too deep or memory is wanting.
     fn open_at(&mut self, simple: bool, phase: Phase, flow: bool, indent: Option<u64>)
-        ensures state { self.new.sink.status ≡ Status.Going → (n : ℕ) → indent ≡ within n → state_of self.new ≡ opened (state_of self.old).directives (state_of self.old).levels simple phase flow n }
+        ensures state { self.new.sink.status ≡ Status.Going → (n : ℕ) → indent ≡ within n
+            → state_of self.new ≡ opened (state_of self.old).directives (state_of self.old).levels
+            simple phase flow n }
         ensures settings { self.new.settings ≡ self.old.settings }
-        ensures cursor { self.new.sink.status ≡ Status.Going → self.new.sink.cursor ≡ self.old.sink.cursor }
+        ensures cursor { self.new.sink.status ≡ Status.Going → self.new.sink.cursor
+            ≡ self.old.sink.cursor }
         ensures text { (n : ℕ) → indent ≡ within n → Puts self.old.sink self.new.sink (checked n) }
         ensures memory { Notes true self.old self.new }
     {
@@ -153,7 +173,9 @@ impl Core {
     #[tactic(auto, unfolding(yaml_emit_layout::specs::State::next_at, yaml_emit_layout::specs::State::depth_at))]
     fn move_by(&mut self, settings: &Settings, event: &yaml_event_body_t, empty: bool, simple: bool)
         requires other { is_document_start (emitter_event (body_of event.now)) ≡ false }
-        requires simple { simple ≡ is_simple_event (context_of settings.now (state_of self.old).directives) (emitter_event (body_of event.now)) empty }
+        requires simple { simple ≡ is_simple_event
+            (context_of settings.now (state_of self.old).directives)
+            (emitter_event (body_of event.now)) empty }
         ensures { MovesOn settings.now self.old self.new (emitter_event (body_of event.now)) empty }
     {
         match event {
@@ -192,7 +214,8 @@ impl Core {
         empty: bool,
         simple: bool,
     )
-        requires { simple ≡ is_simple_event (context_of settings.now (state_of self.old).directives) (emitter_event (body_of event.old)) empty }
+        requires { simple ≡ is_simple_event (context_of settings.now (state_of self.old).directives)
+            (emitter_event (body_of event.old)) empty }
         ensures { MovesOn settings.now self.old self.new (emitter_event (body_of event.old)) empty }
     {
         match event {

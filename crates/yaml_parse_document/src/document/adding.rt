@@ -20,7 +20,8 @@ pub const MAX_ENTRIES: usize = 2_147_483_647;
 /// One entry more at the end of a list of a document; `Memory` where a growth was refused or the list is full.
 pub fn push_entry<T: Drop>(entries: &mut Vec<T>, entry: T) -> Result<(), yaml_text_fault_t>
     ensures { MatchResult result
-        (λ _. (entries.new.items ≡ entries.old.items ++ entry ∷ []) × (length entries.old.items < 2147483647))
+        (λ _. (entries.new.items ≡ entries.old.items ++ entry ∷ [])
+        × (length entries.old.items < 2147483647))
         (λ f. (entries.new.items ≡ entries.old.items) × (f ≡ yaml_text_fault_t.Memory)) }
 {
     if entries.len() >= MAX_ENTRIES {
@@ -38,7 +39,8 @@ fn tag_or_default(
     tag: Option<&[u8]>,
     default: &[u8],
 ) -> Result<Vec<u8>, yaml_text_fault_t>
-    ensures { MatchResult result (λ copy. copy.items ≡ tag_or (option_map (λ t. t.now) tag.entry) default.now) (λ f. f ≡ yaml_text_fault_t.Memory) }
+    ensures { MatchResult result (λ copy. copy.items ≡ tag_or (option_map (λ t. t.now) tag.entry)
+        default.now) (λ f. f ≡ yaml_text_fault_t.Memory) }
 {
     match tag {
         None => copy_text(alloc, default),
@@ -67,7 +69,8 @@ fn unplaced_node(body: yaml_node_body_t, tag: Vec<u8>) -> yaml_node_t
 fn add_node(document: &mut yaml_document_t, node: yaml_node_t) -> Result<i32, yaml_text_fault_t>
     requires { IsSoundNode (length document.old.nodes) (node_of node) }
     ensures { MatchResult result
-        (λ id. (document.new ≡ with_node document.old (node_of node)) × (id ≡ pos (suc (length document.old.nodes))))
+        (λ id. (document.new ≡ with_node document.old (node_of node))
+        × (id ≡ pos (suc (length document.old.nodes))))
         (λ f. (document.new ≡ document.old) × (f ≡ yaml_text_fault_t.Memory)) }
 {
     let count = document.nodes.len();
@@ -83,7 +86,8 @@ pub fn yaml_document_add_scalar(
     value: &[u8],
     style: yaml_scalar_style_t,
 ) -> Result<i32, yaml_text_fault_t>
-    ensures { Adds document.old (new_scalar (option_map (λ t. t.now) tag.entry) value.now style) (IsUtf8Option (option_map (λ t. t.now) tag.entry) × IsUtf8 value.now) result document.new }
+    ensures { Adds document.old (new_scalar (option_map (λ t. t.now) tag.entry) value.now style)
+        (IsUtf8Option (option_map (λ t. t.now) tag.entry) × IsUtf8 value.now) result document.new }
 {
     if !is_utf8_option(tag) || !is_utf8(value) {
         return Err(yaml_text_fault_t::NotUtf8);
@@ -103,7 +107,8 @@ pub fn yaml_document_add_sequence(
     tag: Option<&[u8]>,
     style: yaml_sequence_style_t,
 ) -> Result<i32, yaml_text_fault_t>
-    ensures { Adds document.old (new_sequence (option_map (λ t. t.now) tag.entry) style) (IsUtf8Option (option_map (λ t. t.now) tag.entry)) result document.new }
+    ensures { Adds document.old (new_sequence (option_map (λ t. t.now) tag.entry) style)
+        (IsUtf8Option (option_map (λ t. t.now) tag.entry)) result document.new }
 {
     if !is_utf8_option(tag) {
         return Err(yaml_text_fault_t::NotUtf8);
@@ -123,7 +128,8 @@ pub fn yaml_document_add_mapping(
     tag: Option<&[u8]>,
     style: yaml_mapping_style_t,
 ) -> Result<i32, yaml_text_fault_t>
-    ensures { Adds document.old (new_mapping (option_map (λ t. t.now) tag.entry) style) (IsUtf8Option (option_map (λ t. t.now) tag.entry)) result document.new }
+    ensures { Adds document.old (new_mapping (option_map (λ t. t.now) tag.entry) style)
+        (IsUtf8Option (option_map (λ t. t.now) tag.entry)) result document.new }
 {
     if !is_utf8_option(tag) {
         return Err(yaml_text_fault_t::NotUtf8);
@@ -139,7 +145,10 @@ pub fn yaml_document_add_mapping(
 // One item more in a sequence.
 fn push_item(node: &mut yaml_node_t, item: yaml_node_item_t) -> Result<(), yaml_text_fault_t>
     ensures { MatchResult result
-        (λ _. node_of node.new ≡ record (node_of node.old) { body = with_item item (node_of node.old).body })
+        (λ _. node_of node.new ≡ record (node_of node.old) {
+          body = with_item item
+              (node_of node.old).body;
+        })
         (λ f. (node_of node.new ≡ node_of node.old) × (f ≡ yaml_text_fault_t.Memory)) }
 {
     match &mut node.body {
@@ -151,7 +160,10 @@ fn push_item(node: &mut yaml_node_t, item: yaml_node_item_t) -> Result<(), yaml_
 // One pair more in a mapping.
 fn push_pair(node: &mut yaml_node_t, pair: yaml_node_pair_t) -> Result<(), yaml_text_fault_t>
     ensures { MatchResult result
-        (λ _. node_of node.new ≡ record (node_of node.old) { body = with_pair pair (node_of node.old).body })
+        (λ _. node_of node.new ≡ record (node_of node.old) {
+          body = with_pair pair
+              (node_of node.old).body;
+        })
         (λ f. (node_of node.new ≡ node_of node.old) × (f ≡ yaml_text_fault_t.Memory)) }
 {
     match &mut node.body {
@@ -169,7 +181,8 @@ pub fn yaml_document_append_sequence_item(
 ) -> Result<(), yaml_text_fault_t>
     requires sequence { IsSequenceAt document.old sequence }
     requires item { IsSome (node_at document.old.nodes item) }
-    ensures { Appends document.old (change_body (with_item item) sequence document.old) result document.new }
+    ensures { Appends document.old (change_body (with_item item) sequence document.old) result
+        document.new }
 {
     push_item(&mut document.nodes[place(sequence)], item)
 }
@@ -185,7 +198,8 @@ pub fn yaml_document_append_mapping_pair(
     requires mapping { IsMappingAt document.old mapping }
     requires key { IsSome (node_at document.old.nodes key) }
     requires value { IsSome (node_at document.old.nodes value) }
-    ensures { Appends document.old (change_body (with_pair (record { key = key; value = value })) mapping document.old) result document.new }
+    ensures { Appends document.old (change_body (with_pair (record { key = key; value = value }))
+        mapping document.old) result document.new }
 {
     push_pair(
         &mut document.nodes[place(mapping)],

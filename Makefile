@@ -1,26 +1,35 @@
-# make run: formats FILE, or a small text where none is named (rt try builds the program without proving it).
+# make run: formats FILE, or a small text where none is named, with the proved program where it is built and newer than
+#   the sources, else with one that is built without proofs.
 # make test: the gate.
+# make program: proves and builds crates/yaml_cli/out/yaml_cli, and says how far it is.
+# make install: puts the proved program into PREFIX/bin, below DESTDIR where that is set.
 # make bench: the program beside C's libyaml (docs/BENCHMARK.md). It needs python3, a C compiler and libyaml's headers.
 # make bench-counts: the same by counts of instructions; it needs valgrind.
-.PHONY: run test bench bench-counts program
+# make docs: writes docs/EDITS.md and the quoted definitions of docs/MEANING.md again. It needs python3.
+.PHONY: run test program install bench bench-counts docs
 
-quiet = status=$$?; grep -Ev '^(rt: |checked: |run=)' "$$log" >&2; rm -f "$$log"; exit $$status
+PREFIX ?= /usr/local
+program = crates/yaml_cli/out/yaml_cli
 
 run:
-ifdef FILE
-	@file="$$(realpath -- '$(FILE)')"; log="$$(mktemp)"; cd crates/yaml_cli; rt try -- fmt "$$file" </dev/null 2>"$$log"; $(quiet)
-else
-	@log="$$(mktemp)"; cd crates/yaml_cli; printf '["a", "b"]' | rt try -- fmt 2>"$$log"; $(quiet)
-endif
+	@tools/run.sh "$$FILE"
 
 test:
 	rt ci
 
 program:
-	@cd crates/yaml_cli; printf 'a' | rt run -- fmt >/dev/null
+	@tools/program.py
+
+install: program
+	install -d '$(DESTDIR)$(PREFIX)/bin'
+	install -m 755 $(program) '$(DESTDIR)$(PREFIX)/bin/yaml_cli'
 
 bench: program
-	@python3 bench/run.py crates/yaml_cli/out/yaml_cli
+	@python3 bench/run.py $(program)
 
 bench-counts: program
-	@python3 bench/run.py crates/yaml_cli/out/yaml_cli --instructions
+	@python3 bench/run.py $(program) --instructions
+
+docs:
+	@tools/meaning.py
+	@tools/edits.py

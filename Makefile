@@ -5,7 +5,8 @@
 # make install: puts the proved program into PREFIX/bin, below DESTDIR where that is set.
 # make bench: the program beside C's libyaml (docs/BENCHMARK.md). It needs python3, a C compiler and libyaml's headers.
 # make bench-counts: the same by counts of instructions; it needs valgrind.
-# make docs: writes docs/EDITS.md and the quoted definitions of docs/MEANING.md again. It needs python3.
+# make docs: writes docs/EDITS.md and the quoted definitions of docs/MEANING.md again, and looks for names in the documents
+#   that are gone. It needs python3.
 .PHONY: run test program install bench bench-counts docs
 
 PREFIX ?= /usr/local
@@ -33,3 +34,4 @@ bench-counts: program
 docs:
 	@tools/meaning.py
 	@tools/edits.py
+	@tools/paths.py

@@ -3,95 +3,164 @@
 
     tools/program.py
 
-The crates that the program stands on are proved side by side, as many at a time as there are processors (JOBS sets
-another number) and as memory holds. What earlier checks proved is kept in each crate's out/ and taken from there. The
-program is then crates/yaml_cli/out/yaml_cli.
+The crates that the program stands on are proved side by side, those with the longest chain of others behind them first,
+and a crate that nothing can run beside gets the processors that are idle. JOBS sets another number of processors. What
+earlier checks proved is kept in each crate's out/ and taken from there. The program is then crates/yaml_cli/out/yaml_cli.
+
+`rt lib` locks a crate's whole base, so that two of them wait for each other. So the crates are built here by what `rt lib`
+calls, the kit's own library beside `rt`; where a kit has another one, `rt run` proves them one after another.
 """
 import os
+import shutil
 import subprocess
 import sys
 import time
+from concurrent.futures import FIRST_COMPLETED, ThreadPoolExecutor, wait
 
 TOP = os.path.dirname(os.path.dirname(os.path.abspath(__file__)))
 CRATE = f"{TOP}/crates/yaml_cli"
 PROGRAM = f"{CRATE}/out/yaml_cli"
-LOG = f"{CRATE}/out/program.log"
-# A check takes up to so many bytes of memory.
-MEMORY = 4_000_000_000
-FROM_NOTHING = "from nothing on 4 processors about 25 minutes"
+LOGS = f"{CRATE}/out/program"
+FROM_NOTHING = "up to half an hour from nothing on 4 processors, less where checks have kept their work"
+# What a check with one job is to find free, in bytes; each further job takes less.
+MEMORY = 3_000_000_000
+# More jobs than these don't make the check of one crate shorter.
+MOST_JOBS = 4
+BEGAN = time.monotonic()
 
 
-def standing_on(name):
-    """The repository's crates that the crate stands on, by crates.txt."""
-    below = {}
-    with open(f"{TOP}/crates.txt", encoding="utf-8") as lines:
-        for line in lines:
-            crate, found, names = line.partition("#")[0].partition(":")
-            if found:
-                below[crate.split()[0]] = names.split()
-    found, todo = set(), [name]
-    while todo:
-        new = [it for it in below[todo.pop()] if it in below and it not in found]
-        found.update(new)
-        todo += new
-    return found
-
-
-def jobs():
-    """How many crates are proved at a time."""
-    asked = os.environ.get("JOBS", "")
-    if asked.isdigit() and int(asked):
-        return int(asked)
-    memory = os.sysconf("SC_PAGE_SIZE") * os.sysconf("SC_PHYS_PAGES")
-    return max(1, min(len(os.sched_getaffinity(0)), memory // MEMORY))
-
-
-def say(began, text):
-    spent = int(time.monotonic() - began)
+def say(text):
+    spent = int(time.monotonic() - BEGAN)
     print(f"make program: {spent // 60}:{spent % 60:02} {text}", file=sys.stderr, flush=True)
 
 
-def prove(began):
-    """Proves the program and what it stands on, one line for each crate that is done."""
-    total, done = len(standing_on("yaml_cli")) + 1, 0
-    at_once = jobs()
-    say(began, f"proving {total} crates, {at_once} at a time: {FROM_NOTHING}, less where checks have kept their work")
-    words = ["rt", "all", "check", "--jobs", str(at_once)]
-    how = {"stdout": subprocess.PIPE, "stderr": subprocess.STDOUT, "stdin": subprocess.DEVNULL}
-    with open(LOG, "w", encoding="utf-8") as log:
-        with subprocess.Popen(words, cwd=CRATE, text=True, errors="replace", **how) as ran:
-            for line in ran.stdout:
-                log.write(line)
-                if line.startswith("== ") and line.strip() != "== summary":
-                    done += 1
-                    say(began, f"{done} of {total}: {line[3:].strip()}")
-    return ran.returncode
+def processors():
+    """How many processors there are to use, as far as memory holds."""
+    asked = os.environ.get("JOBS", "")
+    if asked.isdigit() and int(asked):
+        return int(asked)
+    memory = os.sysconf("SC_PAGE_SIZE") * os.sysconf("SC_AVPHYS_PAGES")
+    return max(1, min(len(os.sched_getaffinity(0)), memory // MEMORY))
+
+
+def kit_library():
+    sys.path.insert(0, os.path.dirname(os.path.realpath(shutil.which("rt"))))
+    import rtlib
+
+    return rtlib
+
+
+def lines_of(crate):
+    """A measure of a crate's work."""
+    found = 0
+    for part in ("src", "specs", "proofs"):
+        for folder, _, names in os.walk(f"{crate.folder}/{part}"):
+            for name in names:
+                with open(f"{folder}/{name}", "rb") as file:
+                    found += file.read().count(b"\n")
+    return found
+
+
+def longest_behind(crates, lines):
+    """For each crate its lines and those of the longest chain of crates above it."""
+    behind = dict(lines)
+    for crate in reversed(crates):
+        for it in crate.deps:
+            behind[it] = max(behind[it], lines[it] + behind[crate])
+    return behind
+
+
+def built(crate, is_top, jobs):
+    """Proves a crate and keeps its library, and says whether that went well and how long it took."""
+    began, flags = time.monotonic(), ["--jobs", str(jobs)]
+    with open(f"{LOGS}/{crate.name}.log", "w", encoding="utf-8") as crate.out:
+        os.makedirs(f"{crate.folder}/out", exist_ok=True)
+        status = crate.check(flags) if is_top else crate.build_rlib(flags, anew=False)
+    return status, time.monotonic() - began
+
+
+class Lanes:
+    """The crates that are still to be built, and those that are under way."""
+
+    def __init__(self, crates, lanes):
+        self.lines = {it: lines_of(it) for it in crates}
+        behind = longest_behind(crates, self.lines)
+        self.left = sorted(crates, key=lambda it: -behind[it])
+        self.top, self.lanes = crates[-1], lanes
+        self.total, self.done, self.running, self.failed = len(crates), set(), {}, []
+
+    def begin(self, pool):
+        """Begins what can begin, each with its share of the idle processors."""
+        ready = [it for it in self.left if all(dep in self.done for dep in it.below())]
+        for at, it in enumerate(ready):
+            idle = self.lanes - sum(jobs for _, jobs in self.running.values())
+            if idle < 1:
+                return
+            jobs = max(1, min(MOST_JOBS, idle // (len(ready) - at)))
+            self.left.remove(it)
+            self.running[pool.submit(built, it, it is self.top, jobs)] = it, jobs
+
+    def end(self):
+        """Waits until one has ended, and tells it."""
+        for future in wait(self.running, return_when=FIRST_COMPLETED).done:
+            crate, jobs = self.running.pop(future)
+            status, spent = future.result()
+            self.done.add(crate)
+            if status:
+                self.failed.append(crate.name)
+            part = 100 * sum(self.lines[it] for it in self.done) // sum(self.lines.values())
+            word = "NOT PROVED" if status else "proved"
+            say(f"{len(self.done)} of {self.total}, {part} in 100: {crate.name} {word} in {spent:.0f} s ({jobs} jobs)")
+
+    def run(self):
+        with ThreadPoolExecutor(self.lanes) as pool:
+            while self.running or (self.left and not self.failed):
+                if not self.failed:
+                    self.begin(pool)
+                self.end()
+        return not self.failed
+
+
+def prove(rtlib):
+    """Proves the program and all that it stands on."""
+    top = rtlib.Crate(CRATE, TOP, {})
+    crates, lanes = [*sorted(top.below(), key=lambda it: len(it.below())), top], processors()
+    # its first call sets a signal's handler, which only the main thread may
+    rtlib.guarded()
+    held = rtlib.lock(crates)
+    say(f"proving {len(crates)} crates on {lanes} processors: {FROM_NOTHING}")
+    try:
+        return Lanes(crates, lanes).run()
+    finally:
+        for it in held:
+            os.close(it)
 
 
 def build():
-    """Compiles and links what was proved. The program is run once, on an empty text."""
-    words = ["rt", "run", "--", "fmt"]
-    with open(LOG, "a", encoding="utf-8") as log:
-        how = {"stdout": log, "stderr": subprocess.STDOUT, "stdin": subprocess.DEVNULL}
-        return subprocess.run(words, cwd=CRATE, **how).returncode
+    """Compiles and links what was proved. `rt run` also runs the program once, here on a text of one byte."""
+    say("compiling and linking")
+    with open(f"{LOGS}/run.log", "w", encoding="utf-8") as log:
+        how = {"stdout": log, "stderr": subprocess.STDOUT, "input": b"a"}
+        return subprocess.run(["rt", "run", "--", "fmt"], cwd=CRATE, **how).returncode == 0
 
 
 def main():
     if subprocess.run([f"{TOP}/tools/is_built.sh"]).returncode == 0:
-        print("make program: crates/yaml_cli/out/yaml_cli is newer than all sources", file=sys.stderr)
+        say("crates/yaml_cli/out/yaml_cli is newer than all sources")
         return 0
-    began, since = time.monotonic(), time.time()
-    os.makedirs(f"{CRATE}/out", exist_ok=True)
-    status = prove(began)
-    if status == 0:
-        say(began, "compiling")
-        status = build()
-    if status:
-        say(began, f"not built; what was said stands in {os.path.relpath(LOG)}")
-        return status
-    # A source that was edited meanwhile is newer than the program.
+    since = time.time()
+    os.makedirs(LOGS, exist_ok=True)
+    try:
+        is_well = prove(kit_library())
+    except (ImportError, AttributeError, TypeError) as error:
+        say(f"this kit's library is another one ({error}): rt run proves one crate after another, which takes longer")
+        is_well = True
+    if not (is_well and build()):
+        say(f"not built: what the checks said stands in {os.path.relpath(LOGS)}")
+        return 1
+    # a source that was edited meanwhile is newer than the program
     os.utime(PROGRAM, (since, since))
-    say(began, "built crates/yaml_cli/out/yaml_cli")
+    say("built crates/yaml_cli/out/yaml_cli")
     return 0
 
 

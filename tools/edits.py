@@ -76,9 +76,7 @@ def why_none(it):
         return "a method of a trait: those who implement it have the edits"
     if repo.is_law(it):
         return "a law: its body is empty, and its clause speaks of definitions alone"
-    if not it.contract():
-        return "no clause"
-    return ""
+    return "" if it.contract() else "no clause"
 
 
 def table(edits):

@@ -4,7 +4,7 @@
 #
 #     tools/real_files.sh [FOLDER|FILE]..      every *.yml and *.yaml below; none named: below /
 #
-# PROGRAM names a program that is built already; else `rt run` proves, builds and keeps it. JOBS: files at a time.
+# PROGRAM names a program that is built already; else `make program` proves, builds and keeps it. JOBS: files at a time.
 # Of each file:
 #   events            the lines are libyaml's, or the line of the fault is that of its parser
 #   fmt, --pretty     is accepted where events is; `same` finds it equal to the file
@@ -19,7 +19,7 @@ work=$(mktemp -d) || exit 2
 trap 'rm -rf "$work"' EXIT
 cc -O2 -Wall -o "$work/events" "$here/events.c" -lyaml || exit 2
 if [ -z "${PROGRAM:-}" ]; then
-    (cd "$top/crates/yaml_cli" && rt run -- events /dev/null >/dev/null) || exit 2
+    "$here/program.py" || exit 2
     PROGRAM=$top/crates/yaml_cli/out/yaml_cli
 fi
 export PROGRAM work

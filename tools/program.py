@@ -4,8 +4,9 @@
     tools/program.py
 
 The crates that the program stands on are proved side by side, those with the longest chain of others behind them first,
-and a crate that nothing can run beside gets the processors that are idle. JOBS sets another number of processors. What
-earlier checks proved is kept in each crate's out/ and taken from there. The program is then crates/yaml_cli/out/yaml_cli.
+and a crate that nothing can run beside gets the processors that are idle (PROCESSORS sets how many there are to use).
+What earlier checks proved is kept in each crate's out/ and taken from there. The program is then
+crates/yaml_cli/out/yaml_cli.
 
 `rt lib` locks a crate's whole base, so that two of them wait for each other. So the crates are built here by what `rt lib`
 calls, the kit's own library beside `rt`; where a kit has another one, `rt run` proves them one after another.
@@ -36,7 +37,7 @@ def say(text):
 
 def processors():
     """How many processors there are to use, as far as memory holds."""
-    asked = os.environ.get("JOBS", "")
+    asked = os.environ.get("PROCESSORS", "")
     if asked.isdigit() and int(asked):
         return int(asked)
     memory = os.sysconf("SC_PAGE_SIZE") * os.sysconf("SC_AVPHYS_PAGES")

@@ -12,6 +12,7 @@ crates/yaml_cli/out/yaml_cli.
 calls, the kit's own library beside `rt`; where a kit has another one, `rt run` proves them one after another.
 """
 import os
+import re
 import shutil
 import subprocess
 import sys
@@ -40,8 +41,10 @@ def processors():
     asked = os.environ.get("PROCESSORS", "")
     if asked.isdigit() and int(asked):
         return int(asked)
-    memory = os.sysconf("SC_PAGE_SIZE") * os.sysconf("SC_AVPHYS_PAGES")
-    return max(1, min(len(os.sched_getaffinity(0)), memory // MEMORY))
+    with open("/proc/meminfo", encoding="utf-8") as file:
+        found = re.search(r"MemAvailable:\s+(\d+)", file.read())
+    lanes = len(os.sched_getaffinity(0))
+    return max(1, min(lanes, 1024 * int(found[1]) // MEMORY)) if found else lanes
 
 
 def kit_library():
@@ -110,8 +113,8 @@ class Lanes:
             if status:
                 self.failed.append(crate.name)
             part = 100 * sum(self.lines[it] for it in self.done) // sum(self.lines.values())
-            word = "NOT PROVED" if status else "proved"
-            say(f"{len(self.done)} of {self.total}, {part} in 100: {crate.name} {word} in {spent:.0f} s ({jobs} jobs)")
+            word = f"NOT PROVED, by {os.path.relpath(LOGS)}/{crate.name}.log" if status else "proved"
+            say(f"{len(self.done)} of {self.total}, {part} in 100: {crate.name} {word}, {spent:.0f} s, jobs {jobs}")
 
     def run(self):
         with ThreadPoolExecutor(self.lanes) as pool:
@@ -129,7 +132,7 @@ def prove(rtlib):
     # its first call sets a signal's handler, which only the main thread may
     rtlib.guarded()
     held = rtlib.lock(crates)
-    say(f"proving {len(crates)} crates on {lanes} processors: {FROM_NOTHING}")
+    say(f"proving {len(crates)} crates, jobs {lanes}: {FROM_NOTHING}")
     try:
         return Lanes(crates, lanes).run()
     finally:
@@ -157,7 +160,7 @@ def main():
         say(f"this kit's library is another one ({error}): rt run proves one crate after another, which takes longer")
         is_well = True
     if not (is_well and build()):
-        say(f"not built: what the checks said stands in {os.path.relpath(LOGS)}")
+        say(f"not built; what was said stands in {os.path.relpath(LOGS)}")
         return 1
     # a source that was edited meanwhile is newer than the program
     os.utime(PROGRAM, (since, since))

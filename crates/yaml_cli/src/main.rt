@@ -1,15 +1,8 @@
-//! The program: it reads its words, runs a command over files and the standard streams, and tells faults by a line.
+//! The program: it hands its words and the standard streams to `yaml_main`, and ends with the status that this answers.
 #![tactic(auto)]
 
-mod fault;
-mod options;
-mod program;
-mod settings;
-#[cfg(test)]
-mod tests;
-
-use program::yaml_main;
 use std::process::ExitCode;
+use yaml_cli_main::yaml_main;
 
 fn main(rt: HostRuntime) -> ExitCode {
     let Ok(args) = std::env::args(&rt) else {

@@ -5,13 +5,16 @@ use std::alloc::Global;
 use yaml_cli_vectors_json::VectorError;
 
 // The fields that calls answer. A line that has one wants it.
-const ANSWERS: [&str; 8] = [
+const ANSWERS: [&str; 11] = [
     "answer",
     "call_number",
     "fault",
+    "fault_line",
     "flushed",
     "form",
+    "length",
     "output",
+    "refused",
     "side",
     "whole",
 ];

@@ -1,12 +1,16 @@
-//! Replays vectors: reads JSON lines, makes the call that each names, and compares all that it answers.
+//! Replays vectors: reads JSON lines, makes the call that each names, and compares all that it answers. A line's `name` tells
+//! what it is a row of, and isn't looked at.
 #![tactic(auto)]
 
 mod compare;
 mod engine;
+mod given;
+mod limits;
 mod replay;
+mod run;
 mod tally;
-#[cfg(test)]
-mod tests;
+mod text;
+mod tokens;
 
 use std::io::{self, BufRead, BufReader};
 use tally::Tally;

@@ -1,12 +1,13 @@
 //! A line, replayed by the call that it names.
 
 use crate::compare::{Outcome, compare};
-use crate::engine;
+use crate::{engine, limits, run, tokens};
 use serde_json::{Map, Value, put};
 use std::alloc::Global;
-use yaml_cli_vectors_json::{VectorError, field};
+use yaml_cli_vectors_json::{VectorError, field, shown};
 use yaml_cli_vectors_reading::{decode, load, parse, scan, shown_fault};
 use yaml_cli_vectors_writing::{dump, emit, emit_events};
+use yaml_round::yaml_fault_line;
 use yaml_scan::yaml_fault_t;
 
 // What the call answers on the line; an `Err` where it only refuses.
@@ -26,14 +27,33 @@ fn answer(alloc: Global, call: &str, line: &Value) -> Result<Value, VectorError>
         "reload" => engine::reload(alloc, line),
         "same" => engine::same(alloc, line),
         "line" => engine::fault_line(alloc, line),
+        "least_limit" => limits::least_limit(alloc, line),
+        "run" => run::run(alloc, line),
+        "tokens" => tokens::tokens(alloc, line),
         _ => Err(VectorError::Field("call")),
     }
 }
 
+// The line that tells the fault, where the vector wants it.
+fn put_line(
+    alloc: Global,
+    line: &Value,
+    fault: &yaml_fault_t,
+    fields: &mut Map<String, Value>,
+) -> Result<(), VectorError> {
+    if line.get("fault_line").is_some() {
+        let text = yaml_fault_line(alloc, fault)?;
+        let text = shown::bytes(alloc, text.as_slice())?;
+        put(fields, alloc, "fault_line", text)?;
+    }
+    Ok(())
+}
+
 fn refusal(alloc: Global, line: &Value, fault: &yaml_fault_t) -> Result<Value, VectorError> {
     let mut fields = Map::new(alloc);
-    let fault = shown_fault(alloc, line, fault)?;
-    put(&mut fields, alloc, "fault", fault)?;
+    let shown = shown_fault(alloc, line, fault)?;
+    put(&mut fields, alloc, "fault", shown)?;
+    put_line(alloc, line, fault, &mut fields)?;
     Ok(Value::Object(fields))
 }
 

@@ -1,13 +1,9 @@
-//! Tests of the engine over slices.
+//! What the engine's tests have that is no line of vectors: devices that fail or are interrupted, and faults of every kind.
 #![tactic(auto)]
 
 #[cfg(test)]
-mod comparisons;
+mod lines;
 #[cfg(test)]
-mod deep;
+mod reads;
 #[cfg(test)]
-mod keys;
-#[cfg(test)]
-mod reloads;
-#[cfg(test)]
-mod rows;
+mod runs;

@@ -1,0 +1,54 @@
+//! The call `run`: a run of a command over memory.
+
+use crate::given::given_of;
+use crate::text::shown_text;
+use serde_json::{Map, Value, put};
+use std::alloc::Global;
+use yaml_cli_vectors_json::{VectorError, field};
+use yaml_round::{yaml_command_t, yaml_run_fault_t, yaml_text_of};
+
+fn command(line: &Value) -> Result<yaml_command_t, VectorError> {
+    match field::text(line, "command")? {
+        "Fmt" => Ok(yaml_command_t::Fmt),
+        "Docs" => Ok(yaml_command_t::Docs),
+        "Events" => Ok(yaml_command_t::Events),
+        _ => Err(VectorError::Field("command")),
+    }
+}
+
+// Why a run was refused, where it wasn't by a fault of the input.
+fn refusal_word(fault: &yaml_run_fault_t) -> &'static str {
+    match fault {
+        yaml_run_fault_t::Read => "Read",
+        yaml_run_fault_t::TooLong => "TooLong",
+        yaml_run_fault_t::Yaml(_) => "Yaml",
+        yaml_run_fault_t::Write { .. } => "Write",
+    }
+}
+
+fn shown_refusal(alloc: Global, fault: &yaml_run_fault_t) -> Result<Value, VectorError> {
+    let mut fields = Map::new(alloc);
+    let word = Value::try_from_str(alloc, refusal_word(fault))?;
+    put(&mut fields, alloc, "refused", word)?;
+    Ok(Value::Object(fields))
+}
+
+/// The text that the line's command makes of its input, and the form that it has; `TooLong` where the input has more bytes
+/// than `input_limit`.
+pub fn run(alloc: Global, line: &Value) -> Result<Value, VectorError> {
+    let command = command(line)?;
+    let limit = field::count(line, "input_limit")?;
+    let given = given_of(alloc, line)?;
+    match yaml_text_of(
+        alloc,
+        given.input.as_slice(),
+        command,
+        given.from,
+        &given.settings,
+        limit,
+    ) {
+        Ok((text, form)) => Ok(shown_text(alloc, line, text.as_slice(), form)?),
+        Err(yaml_run_fault_t::Yaml(fault)) => Err(VectorError::Fault(fault)),
+        Err(fault) => shown_refusal(alloc, &fault),
+    }
+}

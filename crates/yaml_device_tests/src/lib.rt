@@ -1,7 +1,0 @@
-//! Tests of the run over scripted devices.
-#![tactic(auto)]
-
-#[cfg(test)]
-mod commands;
-#[cfg(test)]
-mod devices;

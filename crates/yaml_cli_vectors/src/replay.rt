@@ -5,7 +5,7 @@ use crate::{engine, limits, run, tokens};
 use serde_json::{Map, Value, put};
 use std::alloc::Global;
 use yaml_cli_vectors_json::{VectorError, field, shown};
-use yaml_cli_vectors_reading::{decode, load, parse, scan, shown_fault};
+use yaml_cli_vectors_reading::{decode, load, next_tokens, parse, scan, shown_fault};
 use yaml_cli_vectors_writing::{dump, emit, emit_events};
 use yaml_round::yaml_fault_line;
 use yaml_scan::yaml_fault_t;
@@ -15,6 +15,7 @@ fn answer(alloc: Global, call: &str, line: &Value) -> Result<Value, VectorError>
     match call {
         "decode" => decode::answer(alloc, line),
         "scan" => scan::answer(alloc, line),
+        "next_tokens" => next_tokens::answer(alloc, line),
         "parse" => parse::of_input(alloc, line),
         "parse_tokens" => parse::of_tokens(alloc, line),
         "load" => load::of_input(alloc, line),

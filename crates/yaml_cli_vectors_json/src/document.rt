@@ -54,15 +54,23 @@ fn shown_held(alloc: Global, node: &yaml_node_t) -> Result<Value, AllocError> {
     }
 }
 
-// A node: kind, tag, value or items or pairs, style, start mark, end mark.
+// What a node is: kind, tag, value or items or pairs, style, behind the fields so far.
+fn push_content(
+    alloc: Global,
+    node: &yaml_node_t,
+    fields: &mut Vec<Value>,
+) -> Result<(), AllocError> {
+    shown::push_word(alloc, kind(node), fields)?;
+    shown::push_bytes(alloc, node.tag.as_slice(), fields)?;
+    fields.push(shown_held(alloc, node)?)?;
+    shown::push_word(alloc, style(node), fields)
+}
+
+// A node: what it is, start mark, end mark.
 fn shown_node(alloc: Global, node: &yaml_node_t) -> Result<Value, AllocError> {
     let mut fields = Vec::new(alloc);
-    fields.push(Value::try_from_str(alloc, kind(node))?)?;
-    fields.push(shown::bytes(alloc, node.tag.as_slice())?)?;
-    fields.push(shown_held(alloc, node)?)?;
-    fields.push(Value::try_from_str(alloc, style(node))?)?;
-    fields.push(shown::mark(alloc, node.start_mark)?)?;
-    fields.push(shown::mark(alloc, node.end_mark)?)?;
+    push_content(alloc, node, &mut fields)?;
+    shown::push_marks(alloc, node.start_mark, node.end_mark, &mut fields)?;
     Ok(Value::Array(fields))
 }
 

@@ -44,6 +44,36 @@ pub fn shown_directives(
     Ok(Value::Array(shown))
 }
 
+// What a document's start carries.
+fn push_directives(
+    alloc: Global,
+    version: Option<yaml_version_directive_t>,
+    directives: &[yaml_tag_directive_t],
+    fields: &mut Vec<Value>,
+) -> Result<(), VectorError> {
+    fields.push(shown_version(alloc, version)?)?;
+    fields.push(shown_directives(alloc, directives)?)?;
+    Ok(())
+}
+
+// What a scalar carries: whether its tag may be left out in plain style, and in every other.
+fn push_flags(plain: bool, quoted: bool, fields: &mut Vec<Value>) -> Result<(), VectorError> {
+    fields.push(Value::Bool(plain))?;
+    fields.push(Value::Bool(quoted))?;
+    Ok(())
+}
+
+// What the start of a collection carries.
+fn push_collection(
+    alloc: Global,
+    implicit: bool,
+    style: &'static str,
+    fields: &mut Vec<Value>,
+) -> Result<(), VectorError> {
+    fields.push(Value::Bool(implicit))?;
+    Ok(shown::push_word(alloc, style, fields)?)
+}
+
 // What the event carries that its line doesn't tell, behind the fields so far.
 fn push_carried(
     alloc: Global,
@@ -52,51 +82,46 @@ fn push_carried(
 ) -> Result<(), VectorError> {
     match body {
         yaml_event_body_t::StreamStart { encoding } => {
-            fields.push(Value::try_from_str(alloc, shown::encoding(*encoding))?)?;
+            Ok(shown::push_word(alloc, shown::encoding(*encoding), fields)?)
         }
         yaml_event_body_t::DocumentStart {
             version_directive,
             tag_directives,
             ..
-        } => {
-            fields.push(shown_version(alloc, *version_directive)?)?;
-            fields.push(shown_directives(alloc, tag_directives.as_slice())?)?;
-        }
+        } => push_directives(alloc, *version_directive, tag_directives.as_slice(), fields),
         yaml_event_body_t::Scalar {
             plain_implicit,
             quoted_implicit,
             ..
-        } => {
-            fields.push(Value::Bool(*plain_implicit))?;
-            fields.push(Value::Bool(*quoted_implicit))?;
-        }
+        } => push_flags(*plain_implicit, *quoted_implicit, fields),
         yaml_event_body_t::SequenceStart {
             implicit,
             style,
             ..
-        } => {
-            fields.push(Value::Bool(*implicit))?;
-            fields.push(Value::try_from_str(alloc, style::sequence_word(*style))?)?;
-        }
+        } => push_collection(alloc, *implicit, style::sequence_word(*style), fields),
         yaml_event_body_t::MappingStart {
             implicit,
             style,
             ..
-        } => {
-            fields.push(Value::Bool(*implicit))?;
-            fields.push(Value::try_from_str(alloc, style::mapping_word(*style))?)?;
-        }
-        _ => {}
+        } => push_collection(alloc, *implicit, style::mapping_word(*style), fields),
+        _ => Ok(()),
     }
-    Ok(())
+}
+
+// The event's fields, behind those so far.
+fn push_event(
+    alloc: Global,
+    event: &yaml_event_t,
+    fields: &mut Vec<Value>,
+) -> Result<(), VectorError> {
+    fields.push(event_line(alloc, event)?)?;
+    shown::push_marks(alloc, event.start_mark, event.end_mark, fields)?;
+    push_carried(alloc, &event.body, fields)
 }
 
 /// The event as the lines write it.
 pub fn shown_event(alloc: Global, event: &yaml_event_t) -> Result<Value, VectorError> {
     let mut fields = Vec::new(alloc);
-    fields.push(event_line(alloc, event)?)?;
-    fields.push(shown::mark(alloc, event.start_mark)?)?;
-    fields.push(shown::mark(alloc, event.end_mark)?)?;
-    push_carried(alloc, &event.body, &mut fields)?;
+    push_event(alloc, event, &mut fields)?;
     Ok(Value::Array(fields))
 }

@@ -13,13 +13,16 @@ use yaml_parse::{
     yaml_version_directive_t,
 };
 
+fn version_of(version: &Value) -> Result<yaml_version_directive_t, VectorError> {
+    let major = field::number(version, 0)?;
+    let minor = field::number(version, 1)?;
+    Ok(yaml_version_directive_t { major, minor })
+}
+
 /// A version, or null.
 pub fn version(value: Option<&Value>) -> Result<Option<yaml_version_directive_t>, VectorError> {
     match value {
-        Some(version) if version.is_array() => Ok(Some(yaml_version_directive_t {
-            major: field::number(version, 0)?,
-            minor: field::number(version, 1)?,
-        })),
+        Some(version) if version.is_array() => Ok(Some(version_of(version)?)),
         _ => Ok(None),
     }
 }

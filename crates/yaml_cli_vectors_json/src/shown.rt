@@ -28,6 +28,34 @@ pub fn mark(alloc: Global, mark: yaml_mark_t) -> Result<Value, AllocError> {
     ]?))
 }
 
+/// Adds a word behind the fields so far.
+pub fn push_word(
+    alloc: Global,
+    word: &'static str,
+    fields: &mut Vec<Value>,
+) -> Result<(), AllocError> {
+    fields.push(Value::try_from_str(alloc, word)?)?;
+    Ok(())
+}
+
+/// Adds bytes behind the fields so far.
+pub fn push_bytes(alloc: Global, text: &[u8], fields: &mut Vec<Value>) -> Result<(), AllocError> {
+    fields.push(bytes(alloc, text)?)?;
+    Ok(())
+}
+
+/// Adds where something starts and ends behind the fields so far.
+pub fn push_marks(
+    alloc: Global,
+    start: yaml_mark_t,
+    end: yaml_mark_t,
+    fields: &mut Vec<Value>,
+) -> Result<(), AllocError> {
+    fields.push(mark(alloc, start)?)?;
+    fields.push(mark(alloc, end)?)?;
+    Ok(())
+}
+
 /// An encoding: any, utf8, utf16le or utf16be.
 pub fn encoding(encoding: yaml_encoding_t) -> &'static str {
     match encoding {

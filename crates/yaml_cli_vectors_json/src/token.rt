@@ -32,6 +32,32 @@ fn word(body: &yaml_token_body_t) -> &'static str {
     }
 }
 
+fn push_numbers(major: i32, minor: i32, fields: &mut Vec<Value>) -> Result<(), AllocError> {
+    fields.push(Value::from(major))?;
+    fields.push(Value::from(minor))?;
+    Ok(())
+}
+
+fn push_texts(
+    alloc: Global,
+    first: &[u8],
+    second: &[u8],
+    fields: &mut Vec<Value>,
+) -> Result<(), AllocError> {
+    shown::push_bytes(alloc, first, fields)?;
+    shown::push_bytes(alloc, second, fields)
+}
+
+fn push_scalar(
+    alloc: Global,
+    value: &[u8],
+    style: &'static str,
+    fields: &mut Vec<Value>,
+) -> Result<(), AllocError> {
+    shown::push_bytes(alloc, value, fields)?;
+    shown::push_word(alloc, style, fields)
+}
+
 // What the token carries, behind the fields so far.
 fn push_carried(
     alloc: Global,
@@ -40,11 +66,10 @@ fn push_carried(
 ) -> Result<(), AllocError> {
     match body {
         yaml_token_body_t::StreamStart { encoding } => {
-            fields.push(Value::try_from_str(alloc, shown::encoding(*encoding))?)?;
+            shown::push_word(alloc, shown::encoding(*encoding), fields)
         }
         yaml_token_body_t::VersionDirective { major, minor } => {
-            fields.push(Value::from(*major))?;
-            fields.push(Value::from(*minor))?;
+            push_numbers(*major, *minor, fields)
         }
         yaml_token_body_t::TagDirective {
             handle: first,
@@ -53,29 +78,32 @@ fn push_carried(
         | yaml_token_body_t::Tag {
             handle: first,
             suffix: second,
-        } => {
-            fields.push(shown::bytes(alloc, first.as_slice())?)?;
-            fields.push(shown::bytes(alloc, second.as_slice())?)?;
-        }
+        } => push_texts(alloc, first.as_slice(), second.as_slice(), fields),
         yaml_token_body_t::Alias { value } | yaml_token_body_t::Anchor { value } => {
-            fields.push(shown::bytes(alloc, value.as_slice())?)?;
+            shown::push_bytes(alloc, value.as_slice(), fields)
         }
         yaml_token_body_t::Scalar { value, style } => {
-            fields.push(shown::bytes(alloc, value.as_slice())?)?;
-            fields.push(Value::try_from_str(alloc, style::scalar_word(*style))?)?;
+            push_scalar(alloc, value.as_slice(), style::scalar_word(*style), fields)
         }
-        _ => {}
+        _ => Ok(()),
     }
-    Ok(())
+}
+
+// The token's fields, behind those so far.
+fn push_token(
+    alloc: Global,
+    token: &yaml_token_t,
+    fields: &mut Vec<Value>,
+) -> Result<(), AllocError> {
+    shown::push_word(alloc, word(&token.body), fields)?;
+    shown::push_marks(alloc, token.start_mark, token.end_mark, fields)?;
+    push_carried(alloc, &token.body, fields)
 }
 
 /// The token as the lines write it.
 pub fn shown_token(alloc: Global, token: &yaml_token_t) -> Result<Value, AllocError> {
     let mut fields = Vec::new(alloc);
-    fields.push(Value::try_from_str(alloc, word(&token.body))?)?;
-    fields.push(shown::mark(alloc, token.start_mark)?)?;
-    fields.push(shown::mark(alloc, token.end_mark)?)?;
-    push_carried(alloc, &token.body, &mut fields)?;
+    push_token(alloc, token, &mut fields)?;
     Ok(Value::Array(fields))
 }
 

@@ -6,21 +6,30 @@ use serde_json::Value;
 use std::alloc::Global;
 use yaml_cli_vectors_json::{VectorError, shown_document};
 use yaml_parse::{
-    yaml_document_get_root_node, yaml_document_t, yaml_fault_t, yaml_parser_between,
-    yaml_parser_load,
+    yaml_document_get_root_node, yaml_document_t, yaml_parser_between, yaml_parser_load,
 };
 
-// The next document; `None` where it has no root, which stands behind the last.
-fn next(reading: &mut Reading) -> Result<Option<yaml_document_t>, yaml_fault_t> {
+// The document as the lines write it; `None` where it has no root, as what stands behind the last.
+fn shown_unless_empty(
+    alloc: Global,
+    document: &yaml_document_t,
+) -> Result<Option<Value>, VectorError> {
+    if yaml_document_get_root_node(document).is_some() {
+        Ok(Some(shown_document(alloc, document)?))
+    } else {
+        Ok(None)
+    }
+}
+
+// The next document; `None` behind the last.
+fn next(alloc: Global, reading: &mut Reading) -> Result<Option<Value>, VectorError> {
     if !yaml_parser_between(reading) {
         return Ok(None);
     }
     let document = yaml_parser_load(reading)?;
-    if yaml_document_get_root_node(&document).is_some() {
-        Ok(Some(document))
-    } else {
-        Ok(None)
-    }
+    let shown = shown_unless_empty(alloc, &document);
+    drop(document);
+    shown
 }
 
 // Adds the documents that the parser gives, up to the last or a fault.
@@ -30,8 +39,8 @@ fn push_documents(
     documents: &mut Vec<Value>,
 ) -> Result<(), VectorError> {
     for _ in 0..u64::MAX {
-        match next(reading)? {
-            Some(document) => documents.push(shown_document(alloc, &document)?)?,
+        match next(alloc, reading)? {
+            Some(document) => documents.push(document)?,
             None => break,
         }
     }

@@ -3,12 +3,10 @@
 use serde_json::Value;
 use std::alloc::Global;
 use yaml_cli_vectors_json::{VectorError, field, read_token, shown};
-use yaml_parse::{yaml_parser_initialize, yaml_parser_t};
+use yaml_parse::{yaml_parser_initialize, yaml_parser_t, yaml_token_source_t};
 use yaml_parse_list::{yaml_token_list_t, yaml_token_utf8};
-use yaml_scan::{
-    yaml_error_type_t, yaml_fault_t, yaml_mark_t, yaml_origin_t, yaml_parser_scan,
-    yaml_parser_t as yaml_session_t, yaml_token_t, yaml_token_type_t,
-};
+use yaml_round_adapter::yaml_adapter_t;
+use yaml_scan::{yaml_error_type_t, yaml_fault_t, yaml_origin_t, yaml_token_t, yaml_token_type_t};
 
 /// A parser of a list of tokens.
 pub type Reading = yaml_parser_t<yaml_token_list_t>;
@@ -17,74 +15,80 @@ pub type Reading = yaml_parser_t<yaml_token_list_t>;
 // those of the line.
 const OWN: &str = "the source's own fault";
 
-// A tag, or a directive's prefix, that isn't UTF-8.
-fn not_utf8(mark: yaml_mark_t) -> yaml_fault_t {
-    yaml_fault_t {
-        kind: yaml_error_type_t::YAML_SCANNER_ERROR,
-        problem: "found a tag that is not UTF-8",
-        offset: 0,
-        value: 0,
-        problem_mark: mark,
-        context: None,
-        context_mark: mark,
-        origin: yaml_origin_t::Adapter,
+// Adds a token, whose texts are to be UTF-8.
+fn add(list: &mut yaml_token_list_t, token: yaml_token_t) -> Result<(), VectorError> {
+    if yaml_token_utf8(&token) {
+        Ok(list.push(token)?)
+    } else {
+        Err(VectorError::Field("tokens"))
     }
 }
 
-// Adds a token whose texts are UTF-8; else the fault that it is.
-fn add(list: &mut yaml_token_list_t, token: yaml_token_t) -> Result<bool, VectorError> {
-    if yaml_token_utf8(&token) {
-        list.push(token)?;
-        Ok(true)
+// Ends the list with the fault, unless it is want of memory.
+fn end(list: &mut yaml_token_list_t, fault: yaml_fault_t) -> Result<bool, VectorError> {
+    if fault.kind == yaml_error_type_t::YAML_MEMORY_ERROR {
+        Err(VectorError::Memory)
     } else {
-        list.end(not_utf8(token.start_mark));
+        list.end(fault);
         Ok(false)
     }
 }
 
-// Adds the session's next token. False where there is none, or a fault ends the list.
+// Adds a token that isn't the empty one.
+fn add_some(list: &mut yaml_token_list_t, token: yaml_token_t) -> Result<bool, VectorError> {
+    if token.type_() == yaml_token_type_t::YAML_NO_TOKEN {
+        drop(token);
+        Ok(false)
+    } else {
+        add(list, token)?;
+        Ok(true)
+    }
+}
+
+// Adds the input's next token. False where there is none, or a fault ends the list.
 fn add_next(
-    session: &mut yaml_session_t<'_>,
+    adapter: &mut yaml_adapter_t<'_>,
     list: &mut yaml_token_list_t,
 ) -> Result<bool, VectorError> {
-    match yaml_parser_scan(session) {
-        Err(fault) if fault.kind == yaml_error_type_t::YAML_MEMORY_ERROR => {
-            Err(VectorError::Memory)
-        }
-        Err(fault) => {
-            list.end(fault);
-            Ok(false)
-        }
-        Ok(token) if token.type_() == yaml_token_type_t::YAML_NO_TOKEN => Ok(false),
-        Ok(token) => add(list, token),
+    match adapter.next_token() {
+        Ok(token) => add_some(list, token),
+        Err(fault) => end(list, fault),
     }
 }
 
 fn add_all(
-    session: &mut yaml_session_t<'_>,
+    adapter: &mut yaml_adapter_t<'_>,
     list: &mut yaml_token_list_t,
 ) -> Result<(), VectorError> {
     for _ in 0..u64::MAX {
-        if !add_next(session, list)? {
+        if !add_next(adapter, list)? {
             break;
         }
     }
     Ok(())
 }
 
-// The tokens of the line's input, and the fault that ends them.
-fn scanned(alloc: Global, line: &Value) -> Result<yaml_token_list_t, VectorError> {
+// The tokens that the source gives, and the fault that ends them.
+fn adapted(
+    alloc: Global,
+    adapter: &mut yaml_adapter_t<'_>,
+) -> Result<yaml_token_list_t, VectorError> {
+    let mut list = yaml_token_list_t::new(alloc);
+    add_all(adapter, &mut list)?;
+    Ok(list)
+}
+
+// Those of the line's input.
+fn adapted_input(alloc: Global, line: &Value) -> Result<yaml_token_list_t, VectorError> {
     let input = field::bytes(alloc, line, "input")?;
     let from = field::encoding(line, "from")?;
-    let mut session = yaml_session_t::new(alloc, input.as_slice(), from);
-    let mut list = yaml_token_list_t::new(alloc);
-    add_all(&mut session, &mut list)?;
-    Ok(list)
+    let mut adapter = yaml_adapter_t::new(alloc, input.as_slice(), from);
+    adapted(alloc, &mut adapter)
 }
 
 /// A parser of the tokens of the line's input.
 pub fn reading_of_input(alloc: Global, line: &Value) -> Result<Reading, VectorError> {
-    Ok(yaml_parser_initialize(alloc, scanned(alloc, line)?)?)
+    Ok(yaml_parser_initialize(alloc, adapted_input(alloc, line)?)?)
 }
 
 fn kind(number: u64) -> Result<yaml_error_type_t, VectorError> {
@@ -134,9 +138,7 @@ fn add_listed(
     list: &mut yaml_token_list_t,
 ) -> Result<(), VectorError> {
     for token in field::list(line, "tokens")? {
-        if !add(list, read_token(alloc, token)?)? {
-            return Err(VectorError::Field("tokens"));
-        }
+        add(list, read_token(alloc, token)?)?;
     }
     Ok(())
 }

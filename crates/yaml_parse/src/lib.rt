@@ -4,8 +4,6 @@
 mod load;
 mod parser;
 mod step;
-#[cfg(test)]
-mod tests;
 
 pub use load::{loads_as_the_events_do, yaml_parser_load};
 pub use parser::{

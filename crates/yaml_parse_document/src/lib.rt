@@ -10,6 +10,3 @@ pub use document::{
     yaml_document_get_node, yaml_document_get_root_node, yaml_document_initialize,
     yaml_document_set_end_implicit, yaml_document_t,
 };
-
-#[cfg(test)]
-mod tests;

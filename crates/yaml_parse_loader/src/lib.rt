@@ -9,6 +9,3 @@ mod making;
 pub use anchors::Anchored;
 pub use law::{loads_documents, numbers_follow_visits};
 pub use loader::Loader;
-
-#[cfg(test)]
-mod tests;

@@ -30,6 +30,3 @@ pub use yaml_scan::{
     yaml_tag_directive_t, yaml_token_body_t, yaml_token_t, yaml_token_type_t,
     yaml_version_directive_t,
 };
-
-#[cfg(test)]
-mod tests;

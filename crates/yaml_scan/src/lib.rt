@@ -6,8 +6,6 @@ mod levels;
 mod machine;
 mod next;
 mod session;
-#[cfg(test)]
-mod tests;
 mod waiting;
 mod word;
 

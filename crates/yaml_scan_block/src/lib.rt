@@ -7,6 +7,3 @@ mod lines;
 mod stacking;
 
 pub use block::{Block, block_scalar};
-
-#[cfg(test)]
-mod tests;

@@ -9,6 +9,3 @@ mod utf8;
 
 pub use decode::{yaml_decode, yaml_text_t};
 pub use encoding::stream_encoding;
-
-#[cfg(test)]
-mod tests;

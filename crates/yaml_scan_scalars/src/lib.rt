@@ -12,6 +12,3 @@ mod scalar;
 pub use plain::{plain_scalar, starts_plain};
 pub use quoted::{double_quoted, single_quoted};
 pub use scalar::{PlainScalar, Scalar};
-
-#[cfg(test)]
-mod tests;

@@ -9,8 +9,6 @@ mod laws;
 mod prefixes;
 mod run;
 mod tags;
-#[cfg(test)]
-mod tests;
 mod uris;
 mod versions;
 mod word;

@@ -1,9 +1,15 @@
-use crate::*;
+//! Events by their constructors, and the texts that these refuse.
+
 use std::alloc::Global;
 use std::test::Fail;
-use yaml_scan::{
-    yaml_encoding_t, yaml_event_type_t, yaml_mapping_style_t, yaml_scalar_style_t,
-    yaml_sequence_style_t, yaml_tag_directive_t, yaml_version_directive_t,
+use yaml_parse::{
+    yaml_alias_event_initialize, yaml_document_end_event_initialize,
+    yaml_document_start_event_initialize, yaml_encoding_t, yaml_event_body_t, yaml_event_t,
+    yaml_event_type_t, yaml_event_utf8, yaml_mapping_end_event_initialize,
+    yaml_mapping_start_event_initialize, yaml_mapping_style_t, yaml_scalar_event_initialize,
+    yaml_scalar_style_t, yaml_sequence_end_event_initialize, yaml_sequence_start_event_initialize,
+    yaml_sequence_style_t, yaml_stream_end_event_initialize, yaml_stream_start_event_initialize,
+    yaml_tag_directive_t, yaml_text_fault_t, yaml_version_directive_t,
 };
 
 fn text(alloc: Global, bytes: &[u8]) -> Result<Vec<u8>, Fail> {

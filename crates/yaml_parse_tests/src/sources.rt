@@ -1,12 +1,12 @@
-//! Worked examples over small sources.
+//! Sources of a caller's own.
 
-use crate::{
+use std::test::Fail;
+use yaml_parse::{
     yaml_error_type_t, yaml_event_body_t, yaml_event_t, yaml_event_type_t, yaml_fault_t,
     yaml_found_t, yaml_memory_fault, yaml_origin_t, yaml_parser_between, yaml_parser_delete,
     yaml_parser_initialize, yaml_parser_parse, yaml_parser_parse_into, yaml_parser_prefix,
     yaml_token_source_t, yaml_token_t,
 };
-use std::test::Fail;
 
 // A source that has nothing.
 #[derive(Drop)]

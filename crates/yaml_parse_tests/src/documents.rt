@@ -1,8 +1,13 @@
-use crate::*;
+//! Documents by their calls.
+
 use std::test::Fail;
-use yaml_parse_model::{
-    yaml_mapping_style_t, yaml_mark_t, yaml_node_body_t, yaml_node_pair_t, yaml_scalar_style_t,
-    yaml_sequence_style_t, yaml_tag_directive_t, yaml_text_fault_t, yaml_version_directive_t,
+use yaml_parse::{
+    yaml_document_add_mapping, yaml_document_add_scalar, yaml_document_add_sequence,
+    yaml_document_append_mapping_pair, yaml_document_append_sequence_item, yaml_document_delete,
+    yaml_document_get_node, yaml_document_get_root_node, yaml_document_initialize,
+    yaml_document_set_end_implicit, yaml_document_t, yaml_mapping_style_t, yaml_mark_t,
+    yaml_node_body_t, yaml_node_pair_t, yaml_scalar_style_t, yaml_sequence_style_t,
+    yaml_tag_directive_t, yaml_text_fault_t, yaml_version_directive_t,
 };
 
 const ZERO: yaml_mark_t = yaml_mark_t {

@@ -1,0 +1,60 @@
+//! The calls that ask for memory, with enough of it; run under refused allocations too.
+
+use std::test::Fail;
+use yaml_scan::{yaml_decode, yaml_encoding_t, yaml_parser_scan, yaml_parser_t, yaml_token_type_t};
+
+#[test]
+fn decodes(rt: HostRuntime) -> Result<(), Fail> {
+    let input = b"\xFF\xFE\x66\x00\x3D\xD8\x00\xDE";
+    let text = yaml_decode(rt.alloc(), input, yaml_encoding_t::YAML_ANY_ENCODING)?;
+    assert_eq!(rt; text.as_slice(), b"f\xF0\x9F\x98\x80".as_slice());
+    Ok(())
+}
+
+// A text with tokens of all types.
+const TEXT: &[u8] =
+    b"%YAML 1.1\n%TAG !e! x\n--- !e!y\n- &a 'b'\n- [*a, {d: \"e\"}]\n- ? |\n   f\n  : >\n   g\n...\n";
+
+const TYPES: [yaml_token_type_t; 31] = [
+    yaml_token_type_t::YAML_STREAM_START_TOKEN,
+    yaml_token_type_t::YAML_VERSION_DIRECTIVE_TOKEN,
+    yaml_token_type_t::YAML_TAG_DIRECTIVE_TOKEN,
+    yaml_token_type_t::YAML_DOCUMENT_START_TOKEN,
+    yaml_token_type_t::YAML_TAG_TOKEN,
+    yaml_token_type_t::YAML_BLOCK_SEQUENCE_START_TOKEN,
+    yaml_token_type_t::YAML_BLOCK_ENTRY_TOKEN,
+    yaml_token_type_t::YAML_ANCHOR_TOKEN,
+    yaml_token_type_t::YAML_SCALAR_TOKEN,
+    yaml_token_type_t::YAML_BLOCK_ENTRY_TOKEN,
+    yaml_token_type_t::YAML_FLOW_SEQUENCE_START_TOKEN,
+    yaml_token_type_t::YAML_ALIAS_TOKEN,
+    yaml_token_type_t::YAML_FLOW_ENTRY_TOKEN,
+    yaml_token_type_t::YAML_FLOW_MAPPING_START_TOKEN,
+    yaml_token_type_t::YAML_KEY_TOKEN,
+    yaml_token_type_t::YAML_SCALAR_TOKEN,
+    yaml_token_type_t::YAML_VALUE_TOKEN,
+    yaml_token_type_t::YAML_SCALAR_TOKEN,
+    yaml_token_type_t::YAML_FLOW_MAPPING_END_TOKEN,
+    yaml_token_type_t::YAML_FLOW_SEQUENCE_END_TOKEN,
+    yaml_token_type_t::YAML_BLOCK_ENTRY_TOKEN,
+    yaml_token_type_t::YAML_BLOCK_MAPPING_START_TOKEN,
+    yaml_token_type_t::YAML_KEY_TOKEN,
+    yaml_token_type_t::YAML_SCALAR_TOKEN,
+    yaml_token_type_t::YAML_VALUE_TOKEN,
+    yaml_token_type_t::YAML_SCALAR_TOKEN,
+    yaml_token_type_t::YAML_BLOCK_END_TOKEN,
+    yaml_token_type_t::YAML_BLOCK_END_TOKEN,
+    yaml_token_type_t::YAML_DOCUMENT_END_TOKEN,
+    yaml_token_type_t::YAML_STREAM_END_TOKEN,
+    yaml_token_type_t::YAML_NO_TOKEN,
+];
+
+#[test]
+fn scans(rt: HostRuntime) -> Result<(), Fail> {
+    let encoding = yaml_encoding_t::YAML_ANY_ENCODING;
+    let mut session = yaml_parser_t::new(rt.alloc(), TEXT, encoding);
+    for want in TYPES {
+        assert_eq!(rt; yaml_parser_scan(&mut session)?.type_(), want);
+    }
+    Ok(())
+}

@@ -6,7 +6,7 @@ use serde_json::{Map, Value, put};
 use std::alloc::Global;
 use yaml_cli_vectors_json::{VectorError, field, shown};
 use yaml_cli_vectors_reading::{decode, load, next_tokens, parse, scan, shown_fault};
-use yaml_cli_vectors_writing::{dump, emit, emit_events};
+use yaml_cli_vectors_writing::{dump, emit, emit_events, emit_limits};
 use yaml_round::yaml_fault_line;
 use yaml_scan::yaml_fault_t;
 
@@ -22,6 +22,7 @@ fn answer(alloc: Global, call: &str, line: &Value) -> Result<Value, VectorError>
         "load_tokens" => load::of_tokens(alloc, line),
         "emit" => emit::answer(alloc, line),
         "emit_events" => emit_events::answer(alloc, line),
+        "emit_limits" => emit_limits::answer(alloc, line),
         "dump" => dump::answer(alloc, line),
         "events" => engine::events(alloc, line),
         "reformat" => engine::reformat(alloc, line),

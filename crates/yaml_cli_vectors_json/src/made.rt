@@ -45,46 +45,46 @@ fn empty_document(alloc: Global, line: &Value) -> Result<yaml_document_t, Vector
 fn add_scalar(
     alloc: Global,
     document: &mut yaml_document_t,
-    tag: &[u8],
+    tag: Option<&[u8]>,
     node: &Value,
 ) -> Result<(), VectorError> {
     let style = style::scalar(field::text(node, 3)?)?;
     let value = field::bytes(alloc, node, 2)?;
-    yaml_document_add_scalar(document, Some(tag), value.as_slice(), style)?;
+    yaml_document_add_scalar(document, tag, value.as_slice(), style)?;
     Ok(())
 }
 
 fn add_sequence(
     document: &mut yaml_document_t,
-    tag: &[u8],
+    tag: Option<&[u8]>,
     node: &Value,
 ) -> Result<(), VectorError> {
     let style = style::sequence(field::text(node, 3)?)?;
-    yaml_document_add_sequence(document, Some(tag), style)?;
+    yaml_document_add_sequence(document, tag, style)?;
     Ok(())
 }
 
 fn add_mapping(
     document: &mut yaml_document_t,
-    tag: &[u8],
+    tag: Option<&[u8]>,
     node: &Value,
 ) -> Result<(), VectorError> {
     let style = style::mapping(field::text(node, 3)?)?;
-    yaml_document_add_mapping(document, Some(tag), style)?;
+    yaml_document_add_mapping(document, tag, style)?;
     Ok(())
 }
 
-// Adds a node; a collection without what it holds.
+// Adds a node, whose tag may be null; a collection without what it holds.
 fn add_node(
     alloc: Global,
     document: &mut yaml_document_t,
     node: &Value,
 ) -> Result<(), VectorError> {
-    let tag = field::bytes(alloc, node, 1)?;
+    let tag = field::optional_bytes(alloc, node, 1)?;
     match field::text(node, 0)? {
-        "scalar" => add_scalar(alloc, document, tag.as_slice(), node),
-        "sequence" => add_sequence(document, tag.as_slice(), node),
-        "mapping" => add_mapping(document, tag.as_slice(), node),
+        "scalar" => add_scalar(alloc, document, tag.as_deref(), node),
+        "sequence" => add_sequence(document, tag.as_deref(), node),
+        "mapping" => add_mapping(document, tag.as_deref(), node),
         _ => Err(VectorError::Field("nodes")),
     }
 }

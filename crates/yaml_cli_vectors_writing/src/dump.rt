@@ -31,11 +31,27 @@ fn write(emitter: &mut yaml_emitter_t, document: yaml_document_t) -> Result<(), 
     close(emitter)
 }
 
+fn write_listed(
+    alloc: Global,
+    line: &Value,
+    emitter: &mut yaml_emitter_t,
+) -> Result<(), VectorError> {
+    let document = document_of(alloc, field::value(line, "document")?)?;
+    Ok(write(emitter, document)?)
+}
+
+fn written(
+    alloc: Global,
+    line: &Value,
+    emitter: &mut yaml_emitter_t,
+) -> Result<Value, VectorError> {
+    open(emitter)?;
+    write_listed(alloc, line, emitter)?;
+    Ok(shown::text_answer(alloc, yaml_emitter_output(emitter))?)
+}
+
 /// What open, dump and close write of the line's document.
 pub fn answer(alloc: Global, line: &Value) -> Result<Value, VectorError> {
     let mut emitter = emitter_of(alloc, line)?;
-    open(&mut emitter)?;
-    let document = document_of(alloc, field::value(line, "document")?)?;
-    write(&mut emitter, document)?;
-    Ok(shown::text_answer(alloc, yaml_emitter_output(&emitter))?)
+    written(alloc, line, &mut emitter)
 }

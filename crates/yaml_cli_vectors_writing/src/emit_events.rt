@@ -1,78 +1,54 @@
 //! The call `emit_events`.
 
-use crate::emitter::{emitter_of, flush, give};
+use crate::course::Course;
+use crate::emitter::{emitter_of, flush, give_listed};
+use crate::flushed::push_flushes;
 use serde_json::{Map, Value, put};
 use std::alloc::Global;
-use yaml_cli_vectors_json::{VectorError, field, read_event, shown};
+use yaml_cli_vectors_json::{VectorError, field, shown};
 use yaml_emit::{yaml_emitter_output, yaml_emitter_t};
 use yaml_scan::{yaml_error_type_t, yaml_fault_t};
 
-// Blanks, breaks, and the indicators that part nodes or open a collection; in UTF-16 their other byte.
-fn is_between(byte: u8) -> bool {
-    matches!(
-        byte,
-        0 | b' ' | b'\r' | b'\n' | b',' | b':' | b'?' | b'-' | b'[' | b'{'
-    )
-}
-
-// Whether the text is the front and, behind it, only what stands between nodes.
-fn is_close(text: &[u8], front: &[u8]) -> bool {
-    match text.get(front.len()..) {
-        Some(rest) => text.starts_with(front) && rest.iter().all(|byte| is_between(*byte)),
-        None => false,
-    }
-}
-
-// What a flush shows behind `count` events, as the line wants it or as it is. How much of what stands between nodes it
-// shows is open: in canonical form what parts two nodes is written with the second, and a collection's opener with the
-// collection.
-fn flushed(
+fn give_next(
     alloc: Global,
-    wanted: &Value,
-    count: u64,
+    listed: &Value,
     emitter: &mut yaml_emitter_t,
-) -> Result<Value, VectorError> {
-    let want = field::bytes(alloc, wanted, 1)?;
-    let is_ok = flush(emitter).is_ok();
-    let got = yaml_emitter_output(emitter);
-    if is_ok && (is_close(got, want.as_slice()) || is_close(want.as_slice(), got)) {
-        Ok(wanted.clone()?)
-    } else {
-        let got = shown::bytes(alloc, got)?;
-        Ok(shown::pair(alloc, Value::from(count), got)?)
-    }
+    course: &mut Course,
+) -> Result<(), VectorError> {
+    let fault = give_listed(alloc, emitter, listed)?;
+    course.take(fault, yaml_emitter_output(emitter).len());
+    Ok(())
 }
 
-// Flushes behind that many events where the line has a flush there.
-fn push_flushes(
+// Gives the events, with a flush in mid-stream where the line has one and no fault has come.
+fn give_all(
     alloc: Global,
     line: &Value,
-    count: u64,
     emitter: &mut yaml_emitter_t,
+    course: &mut Course,
     flushes: &mut Vec<Value>,
 ) -> Result<(), VectorError> {
-    for wanted in field::list(line, "flushed")? {
-        if field::count(wanted, 0)? == count {
-            flushes.push(flushed(alloc, wanted, count, emitter)?)?;
+    for listed in field::list(line, "events")? {
+        give_next(alloc, listed, emitter, course)?;
+        if course.fault.is_none() {
+            push_flushes(alloc, line, course.number, emitter, flushes)?;
         }
     }
     Ok(())
 }
 
-// Gives the events, and flushes. `number` becomes that of the last call, counted from 0.
-fn give_all(
+// The same, and what the flushes showed.
+fn put_flushes(
     alloc: Global,
     line: &Value,
     emitter: &mut yaml_emitter_t,
-    flushes: &mut Vec<Value>,
-    number: &mut u64,
+    course: &mut Course,
+    fields: &mut Map<String, Value>,
 ) -> Result<(), VectorError> {
-    for listed in field::list(line, "events")? {
-        give(emitter, read_event(alloc, listed)?)?;
-        *number = number.wrapping_add(1);
-        push_flushes(alloc, line, *number, emitter, flushes)?;
-    }
-    Ok(flush(emitter)?)
+    let mut flushes = Vec::new(alloc);
+    give_all(alloc, line, emitter, course, &mut flushes)?;
+    put(fields, alloc, "flushed", Value::Array(flushes))?;
+    Ok(())
 }
 
 // Whether the last event that the line lists is the stream's end.
@@ -83,15 +59,25 @@ fn is_whole(line: &Value) -> Result<bool, VectorError> {
     }
 }
 
-// The text, and whether the events end the stream.
 fn put_text(
+    alloc: Global,
+    name: &str,
+    text: &[u8],
+    fields: &mut Map<String, Value>,
+) -> Result<(), VectorError> {
+    let text = shown::bytes(alloc, text)?;
+    put(fields, alloc, name, text)?;
+    Ok(())
+}
+
+// The text, and whether the events end the stream.
+fn put_right(
     alloc: Global,
     line: &Value,
     text: &[u8],
     fields: &mut Map<String, Value>,
 ) -> Result<(), VectorError> {
-    let text = shown::bytes(alloc, text)?;
-    put(fields, alloc, "answer", text)?;
+    put_text(alloc, "answer", text, fields)?;
     let is_whole = Value::Bool(is_whole(line)?);
     put(fields, alloc, "whole", is_whole)?;
     Ok(())
@@ -109,11 +95,36 @@ fn put_fault(
     put(fields, alloc, "fault", shown)?;
     if fault.kind == yaml_error_type_t::YAML_EMITTER_ERROR {
         put(fields, alloc, "call_number", Value::from(number))?;
+        Ok(())
     } else {
-        let text = shown::bytes(alloc, text)?;
-        put(fields, alloc, "output", text)?;
+        put_text(alloc, "output", text, fields)
+    }
+}
+
+// What no line wants: a call behind the fault answered something else, or wrote.
+fn put_unkept(
+    alloc: Global,
+    is_kept: bool,
+    fields: &mut Map<String, Value>,
+) -> Result<(), VectorError> {
+    if !is_kept {
+        put(fields, alloc, "kept", Value::Bool(false))?;
     }
     Ok(())
+}
+
+fn put_end(
+    alloc: Global,
+    line: &Value,
+    course: &Course,
+    text: &[u8],
+    fields: &mut Map<String, Value>,
+) -> Result<(), VectorError> {
+    put_unkept(alloc, course.kept, fields)?;
+    match &course.fault {
+        None => put_right(alloc, line, text, fields),
+        Some(fault) => put_fault(alloc, fault, course.number, text, fields),
+    }
 }
 
 // What became of the events, and what each flush showed.
@@ -123,23 +134,24 @@ fn put_all(
     emitter: &mut yaml_emitter_t,
     fields: &mut Map<String, Value>,
 ) -> Result<(), VectorError> {
-    let mut flushes = Vec::new(alloc);
-    let mut number = 0;
-    let end = give_all(alloc, line, emitter, &mut flushes, &mut number);
-    put(fields, alloc, "flushed", Value::Array(flushes))?;
+    let mut course = Course::new();
+    put_flushes(alloc, line, emitter, &mut course, fields)?;
+    let fault = flush(emitter);
     let text = yaml_emitter_output(emitter);
-    match end {
-        Ok(()) => put_text(alloc, line, text, fields),
-        Err(VectorError::Fault(fault)) => put_fault(alloc, &fault, number, text, fields),
-        Err(error) => Err(error),
-    }
+    course.take(fault, text.len());
+    put_end(alloc, line, &course, text, fields)
+}
+
+fn told(alloc: Global, line: &Value, emitter: &mut yaml_emitter_t) -> Result<Value, VectorError> {
+    let mut fields = Map::new(alloc);
+    put_all(alloc, line, emitter, &mut fields)?;
+    Ok(Value::Object(fields))
 }
 
 /// What the emitter answers on the line's events: the text, and whether the events end the stream; or the fault, with the
-/// refused call's number or the output; and what flushes in mid-stream show.
+/// refused call's number or the output; and what flushes in mid-stream show. A call behind a fault is to answer it again
+/// and to write nothing.
 pub fn answer(alloc: Global, line: &Value) -> Result<Value, VectorError> {
     let mut emitter = emitter_of(alloc, line)?;
-    let mut fields = Map::new(alloc);
-    put_all(alloc, line, &mut emitter, &mut fields)?;
-    Ok(Value::Object(fields))
+    told(alloc, line, &mut emitter)
 }

@@ -13,6 +13,3 @@ pub use cursor::{Cursor, Status};
 pub use laws::utf8_encodes;
 pub use settings::{Encoding, LineBreak, RequestedSettings, Settings, settled};
 pub use sink::Sink;
-
-#[cfg(test)]
-mod tests;

@@ -28,6 +28,3 @@ pub use tag::{put_alias, put_anchor, put_prefix, put_tag, tag_size};
 pub use yaml_emit_sink::{
     Cursor, Encoding, LineBreak, RequestedSettings, Settings, Sink, Status, settled, utf8_encodes,
 };
-
-#[cfg(test)]
-mod tests;

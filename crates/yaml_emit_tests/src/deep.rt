@@ -1,11 +1,11 @@
 //! Dumps of deep documents.
 
-use crate::dumping::dump;
-use crate::nodes::nested;
+use crate::calls::{canonical, dump};
+use crate::document::nested;
 use std::alloc::{AllocError, Global};
 use std::test::Fail;
+use yaml_emit::{yaml_emitter_fault, yaml_emitter_initialize, yaml_emitter_output};
 use yaml_scan::yaml_error_type_t;
-use yaml_writing_signs::{CANONICAL, PRETTY, emitter_of, fault_of, output};
 
 const LEVELS: usize = 5_000;
 
@@ -23,9 +23,9 @@ fn blocks(alloc: Global) -> Result<Vec<u8>, AllocError> {
 fn deep_blocks(rt: HostRuntime) -> Result<(), Fail> {
     let want = blocks(rt.alloc())?;
     let document = nested(rt.alloc(), LEVELS)?;
-    let mut emitter = emitter_of(rt.alloc(), 20_000, PRETTY)?;
+    let mut emitter = yaml_emitter_initialize(rt.alloc(), 20_000)?;
     assert!(rt; dump(&mut emitter, document).is_none());
-    assert!(rt; output(&emitter) == want.as_slice());
+    assert!(rt; yaml_emitter_output(&emitter) == want.as_slice());
     Ok(())
 }
 
@@ -33,11 +33,11 @@ fn deep_blocks(rt: HostRuntime) -> Result<(), Fail> {
 #[test]
 fn deep_canonical_text_stops_at_its_limit(rt: HostRuntime) -> Result<(), Fail> {
     let document = nested(rt.alloc(), LEVELS)?;
-    let mut emitter = emitter_of(rt.alloc(), 42, CANONICAL)?;
+    let mut emitter = canonical(rt.alloc(), 42)?;
     let kind = dump(&mut emitter, document).map(|fault| fault.kind);
     assert_eq!(rt; kind, Some(yaml_error_type_t::YAML_WRITER_ERROR));
-    assert!(rt; fault_of(&emitter).is_some());
+    assert!(rt; yaml_emitter_fault(&emitter).is_some());
     let want = b"---\n!!seq [\n  !!seq [\n    !!seq [\n      !!".as_slice();
-    assert_eq!(rt; output(&emitter), want);
+    assert_eq!(rt; yaml_emitter_output(&emitter), want);
     Ok(())
 }

@@ -1,7 +1,7 @@
 //! That an output stops for its own reason: a stopped one meets every clause.
 
-use crate::{Sink, Status};
 use std::test::Fail;
+use yaml_emit_text::{Sink, Status};
 
 #[test]
 fn an_output_stops(rt: HostRuntime) -> Result<(), Fail> {

@@ -22,6 +22,7 @@ use Rattle.yaml_emit_laws_quoted.specs.ReadBack.{IsReadBack, between_quotes, gap
 use Rattle.yaml_emit_laws_quoted.proofs.Values.{cond_false}
 use Rattle.yaml_emit_laws_quoted.proofs.Parts.{spelling_reads}
 use Rattle.yaml_emit_laws_quoted.proofs.Escapes.{low_encodes, parts_of}
+use Rattle.yaml_emit_laws_quoted.proofs.Kept.{body_keeps}
 
 -- ---- without lines that may be broken the indentation says nothing
 
@@ -97,6 +98,9 @@ spaced_by c = record { column = c.column + 1; white = true; bare = c.bare; kept 
 reads_as : (xs ys : List ℕ) (reading : Result (List ℕ × ℕ) Wrong) (p n m : ℕ) → reading ≡ Ok (xs, p + n) → xs ≡ ys → n ≡ m → reading ≡ Ok (ys, p + m)
 reads_as xs ys reading p n m r a b = r ∙ ap (λ v. Ok (v, p + n)) a ∙ ap (λ k. Ok (ys, p + k)) b
 
+moved_on : (n : ℕ) → n + 1 ≡ 0 → ⊥
+moved_on n e = omega arith
+
 pub quoted_back : QuotedSpells → (page : Page) (c : Cursor) (value : List ℕ) → IsUtf8 value → (page.cuts ≡ true → 0 < page.indentation)
     → IsReadBack double_quoted_at (between_quotes page (chars value)) c value
 quoted_back law page c value u deep =
@@ -114,6 +118,11 @@ quoted_back law page c value u deep =
       read = λ text p h.
           reads_as (meaning mine.parts) value (double_quoted_at text p) p (length (quoted 34 mine.parts)) (length (encode_utf8_all (34 ∷ (inner ++ 34 ∷ []))))
           (spelling_reads mine.parts text p mine.right (subst (λ (t : List ℕ). HasAt text p t) bytes h)) means (ap (λ (t : List ℕ). length t) (sym bytes));
+      inside = inner ++ 34 ∷ [];
+      begins = refl;
+      dark = refl;
+      column = λ z. moved_on s.behind.column z;
+      kept = body_keeps page 32 (chars value) (moved_by c) s.behind inner s.spelled;
     }
 
 -- ---- with the space in front

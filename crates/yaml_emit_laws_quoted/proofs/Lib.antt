@@ -5,6 +5,7 @@ mod Reading
 mod Turns
 mod Parts
 mod Escapes
+mod Kept
 mod Back
 mod Single
 mod Keys

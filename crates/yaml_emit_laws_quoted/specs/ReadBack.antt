@@ -1,5 +1,5 @@
 -- Layouts whose characters are read back.
-use Rattle.std.specs.Prelude.{ℕ, ◌+◌, ◌≡◌, Bool, true, not, ◌&&◌, if◌then◌else◌, List, [], ◌∷◌, length, Result, Ok, encode_utf8_all}
+use Rattle.std.specs.Prelude.{ℕ, ◌+◌, ◌≡◌, Bool, true, false, not, ◌&&◌, if◌then◌else◌, List, [], ◌∷◌, length, Result, Ok, encode_utf8_all}
 use Rattle.yaml_scan_scalars.specs.scan_model.Marks.{byte}
 use Rattle.yaml_scan_scalars.specs.scan_model.Wrong.{Wrong}
 use Rattle.yaml_emit_text.specs.declared.Cursor.{Cursor}
@@ -11,15 +11,20 @@ use Rattle.yaml_emit_text.specs.Scalars.{flow_body}
 use Rattle.yaml_emit_text.specs.Spelling.{in_front}
 use Rattle.yaml_emit_laws_quoted.specs.Stands.{HasAt}
 
--- From a cursor on, a layout writes these characters, whatever follows; and wherever their bytes stand, the reading gives the
--- value, and ends behind them.
+-- From a cursor on, a layout writes these characters, a double quote first, whatever follows; and wherever their bytes stand, the
+-- reading gives the value, and ends behind them. Behind them the line isn't bare, none starts, and `kept` is as it was.
 pub record IsReadBack (reading : List ℕ → ℕ → Result (List ℕ × ℕ) Wrong) (a : Layout) (c : Cursor)
     (value : List ℕ) : Type 0 where
   pub letters : List ℕ
+  pub inside : List ℕ
+  pub begins : letters ≡ 34 ∷ inside
   pub behind : Cursor
   pub written : (rest : Rest) → a c rest ≡ in_front letters (rest behind)
   pub read : (text : List ℕ) (p : ℕ) → HasAt text p (encode_utf8_all letters)
       → reading text p ≡ Ok (value, p + length (encode_utf8_all letters))
+  pub dark : behind.bare ≡ false
+  pub column : behind.column ≡ 0 → ⊥
+  pub kept : behind.kept ≡ c.kept
 
 -- the same, where the byte behind fits
 pub record IsReadBackBefore (Fits : ℕ → Type 0) (reading : List ℕ → ℕ → Result (List ℕ × ℕ) Wrong)

@@ -18,7 +18,7 @@ use Rattle.yaml_emit_layout.specs.emit_text.Tags.{has_shorter_prefix, directive_
 use Rattle.yaml_emit_layout.specs.declared.problem.Problem.{Problem}
 use Rattle.yaml_emit_layout.specs.Content.{Opening}
 use Rattle.yaml_emit_layout.specs.Grammar.{or_else, between, inner_problem, ends_problem, handle_problem, prefix_problem, twice_problem, directive_problem, directives_problem, version_problem, opening_problem}
-use Rattle.yaml_emit_laws_tags.specs.Laws.{resolved_split, IsShaped, IsReadable, tag_text, HaveUtf8, IsReadBack}
+use Rattle.yaml_emit_laws_tags.specs.Laws.{resolved_split, IsShaped, IsReadable, tag_text, HaveUtf8, IsReadBack, AreReadable}
 use Rattle.yaml_emit_laws_tags.proofs.Resolving.{or_first, or_second, and_right, whole, tags_resolve}
 use Rattle.yaml_emit_laws_tags.proofs.Reading.{split_read}
 
@@ -188,14 +188,42 @@ text_ends : (split : Split) (e : ℕ) → (tag_text split e).end ≡ e
 text_ends (shorthand handle suffix) e = refl
 text_ends (verbatim tag) e = refl
 
+pub written_readable : (o : Opening) → opening_problem o ≡ None → HaveUtf8 o.directives → (tag : List ℕ) → IsUtf8 tag → 0 < length tag → IsReadable (split_tag o.directives tag)
+written_readable o e u tag utf8 some =
+    let ds = o.directives in
+    let right = or_second (version_problem o.version) (directives_problem [] ds) e in
+    let fine = fine_append ds (defaults ds) (fine_directives [] ds right u) (fine_defaults ds) in
+    readable ds tag (directive_for (in_force ds) tag) utf8 some (λ d found. fine_found (in_force ds) tag d fine found)
+
+readable_prefix : (before : List TagDirective) (d : TagDirective) → directive_problem before d ≡ None → 0 < length d.prefix
+readable_prefix before d e =
+    let behind = or_second (handle_problem d.handle) (or_else (prefix_problem d.prefix) (twice_problem before d.handle)) e in
+    let here = or_first (prefix_problem d.prefix) (twice_problem before d.handle) behind in
+    let (some, none) = if_none (length d.prefix == 0) _ None here in
+    above_none (length d.prefix) some
+  where
+    above_none : (n : ℕ) → (n == 0) ≡ false → 0 < n
+    above_none n e = grind (arith, nat_tests)
+
+readable_directives : (before ds : List TagDirective) → directives_problem before ds ≡ None → HaveUtf8 ds → AreReadable ds
+unfolding directives_problem
+readable_directives before [] e u = tt
+readable_directives before (d ∷ ds) e (own, u) =
+    let here = or_first (directive_problem before d) (directives_problem (before ++ d ∷ []) ds) e in
+    let handle = or_first (handle_problem d.handle) (or_else (prefix_problem d.prefix) (twice_problem before d.handle)) here in (
+      (shaped d.handle (held d.handle handle), own, readable_prefix before d here),
+      readable_directives (before ++ d ∷ []) ds (or_second (directive_problem before d) (directives_problem (before ++ d ∷ []) ds) e) u,
+    )
+
+pub written_directives : (o : Opening) → opening_problem o ≡ None → HaveUtf8 o.directives → AreReadable o.directives
+written_directives o e u = readable_directives [] o.directives (or_second (version_problem o.version) (directives_problem [] o.directives) e) u
+
 pub read_back : (o : Opening) → opening_problem o ≡ None → HaveUtf8 o.directives → (tag : List ℕ) → IsUtf8 tag → 0 < length tag → (flow : Bool) (text : List ℕ) (p : ℕ)
     → HasAt text p (tag_spelling o.directives tag) → may_end_tag flow text (p + length (tag_spelling o.directives tag)) ≡ true → IsReadBack o.directives tag flow text p
 read_back o e u tag utf8 some flow text p h stop =
     let ds = o.directives in
-    let right = or_second (version_problem o.version) (directives_problem [] ds) e in
-    let fine = fine_append ds (defaults ds) (fine_directives [] ds right u) (fine_defaults ds) in
     let split = split_tag ds tag in
-    let ready = readable ds tag (directive_for (in_force ds) tag) utf8 some (λ d found. fine_found (in_force ds) tag d fine found) in
+    let ready = written_readable o e u tag utf8 some in
     record {
       said = tag_text split (p + length (spelled split));
       read = split_read split ready flow text p h stop;

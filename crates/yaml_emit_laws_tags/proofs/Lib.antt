@@ -2,3 +2,5 @@ mod Resolving
 mod Pieces
 mod Reading
 mod Joining
+mod Ascii
+mod Lines

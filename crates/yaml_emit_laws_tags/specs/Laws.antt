@@ -1,11 +1,15 @@
--- What a scanner and a parser make of a tag that an emitter splits and spells.
-use Rattle.std.specs.Prelude.{◌≡◌, ◌⊎◌, ◌<◌, ◌+◌, ℕ, Bool, true, List, [], ◌∷◌, ◌++◌, length, Option, Some, None, Ok}
+-- What a scanner and a parser make of a tag that an emitter splits and spells, and of a directive that it writes.
+use Rattle.std.specs.Prelude.{◌≡◌, ◌⊎◌, ◌<◌, ◌+◌, ◌&&◌, nat_lt, ℕ, Bool, true, List, [], ◌∷◌, ◌++◌, length, codes, Option, Some, None, Ok}
 use Rattle.std.specs.Str.{IsUtf8}
+use Rattle.yaml_scan.specs.scan_model.Marks.{break_width}
+use Rattle.yaml_scan.specs.scan_model.Classes.{is_break}
 use Rattle.yaml_scan.specs.scan_words.Tags.{TagText, tag_at, may_end_tag}
+use Rattle.yaml_scan.specs.scan_words.Directives as directives
+use Rattle.yaml_scan.specs.scan_words.Directives.{directive_at}
 use Rattle.yaml_scan.specs.scan_words.Written.{HasAt, are_alphas}
 use Rattle.yaml_emit_layout.specs.parse.Events.{TagDirective}
 use Rattle.yaml_emit_layout.specs.parse.Resolve.{resolved}
-use Rattle.yaml_emit_layout.specs.emit_text.Tags.{Split, shorthand, verbatim, spelled, split_tag, tag_spelling}
+use Rattle.yaml_emit_layout.specs.emit_text.Tags.{Split, shorthand, verbatim, spelled, split_tag, tag_spelling, uri_text}
 use Rattle.yaml_emit_layout.specs.Content.{Opening}
 use Rattle.yaml_emit_layout.specs.Grammar.{opening_problem}
 
@@ -66,3 +70,61 @@ TagsAreReadBack = (o : Opening) → opening_problem o ≡ None → HaveUtf8 o.di
     → HasAt text p (tag_spelling o.directives tag)
     → may_end_tag flow text (p + length (tag_spelling o.directives tag)) ≡ true
     → IsReadBack o.directives tag flow text p
+
+-- ---- what is written for a tag
+
+-- What is written for a tag in UTF-8, under directives that may be written, can be read.
+abbrev pub WrittenTagsAreReadable : Type 0
+WrittenTagsAreReadable = (o : Opening) → opening_problem o ≡ None → HaveUtf8 o.directives
+    → (tag : List ℕ) → IsUtf8 tag → 0 < length tag → IsReadable (split_tag o.directives tag)
+
+-- bytes below 128 alone
+abbrev pub are_ascii : List ℕ → Bool
+are_ascii [] = true
+are_ascii (b ∷ bs) = nat_lt b 128 && are_ascii bs
+
+-- `!`, and ASCII behind it
+pub record IsMarked (bs : List ℕ) : Type 0 where
+  pub more : List ℕ
+  pub begins : bs ≡ 33 ∷ more
+  pub ascii : are_ascii more ≡ true
+
+-- What can be read is written as `!` and ASCII.
+abbrev pub ReadableTagsAreAscii : Type 0
+ReadableTagsAreAscii = (split : Split) → IsReadable split → IsMarked (spelled split)
+
+-- ---- directives
+
+-- a handle of that shape, and a prefix in UTF-8 of one byte at least
+abbrev pub IsReadableDirective : TagDirective → Type 0
+IsReadableDirective d = IsShaped d.handle × IsUtf8 d.prefix × (0 < length d.prefix)
+
+abbrev pub AreReadable : List TagDirective → Type 0
+AreReadable [] = Unit {0}
+AreReadable (d ∷ ds) = IsReadableDirective d × AreReadable ds
+
+-- Directives that may be written, with prefixes in UTF-8, can be read.
+abbrev pub WrittenDirectivesAreReadable : Type 0
+WrittenDirectivesAreReadable = (o : Opening) → opening_problem o ≡ None → HaveUtf8 o.directives
+    → AreReadable o.directives
+
+-- what is written for it is ASCII
+abbrev pub ReadableDirectivesAreAscii : Type 0
+ReadableDirectivesAreAscii = (d : TagDirective) → IsReadableDirective d → IsMarked d.handle
+    × (are_ascii (uri_text true d.prefix) ≡ true)
+
+-- a directive, without its line's end
+abbrev pub directive_bytes : TagDirective → List ℕ
+directive_bytes d = codes "%TAG " ++ (d.handle ++ (32 ∷ uri_text true d.prefix))
+
+-- It is read as it was before a break, which it takes with it.
+abbrev pub DirectivesAreRead : Type 0
+DirectivesAreRead = (d : TagDirective) → IsReadableDirective d → (text : List ℕ) (p : ℕ)
+    → HasAt text p (directive_bytes d) → is_break text (p + length (directive_bytes d)) ≡ true
+    → let end = p + length (directive_bytes d) in directive_at text p
+    ≡ Ok record {
+      said = directives.tag d.handle d.prefix;
+      end = end;
+      place = end + break_width
+          text end;
+    }

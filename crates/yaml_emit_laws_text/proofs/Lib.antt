@@ -1,0 +1,9 @@
+mod Forms
+mod Places
+mod Steps
+mod Words
+mod Tags
+mod Lines
+mod Directives
+mod Nodes
+mod Documents

@@ -8,7 +8,7 @@ use Rattle.yaml_emit_state.specs.declared.Core.{Core}
 use Rattle.yaml_emit_state.specs.Steps.{LaysOut}
 use Rattle.yaml_emit_state.specs.Finish.{Finishes, Leads}
 use Rattle.yaml_emit_state.proofs.Finishing.{finishes_on}
-use Rattle.yaml_emit.specs.Held.{is_ready, needs, closes, passes}
+use Rattle.yaml_emit.specs.Held.{is_ready, needs, closes, passes, ends_level}
 use Rattle.yaml_emit.proofs.Opening.{opens_none}
 
 pub ready_empty : (e : Event) (es more : List Event) → is_ready (e ∷ es) ≡ true → opens_empty e (es ++ more) ≡ opens_empty e es
@@ -39,6 +39,20 @@ leads_more a b c h x y e empty p same r is l = record {
 pub leads_past : (a c : Core) (h : List Event) (e : Event) → passes h e ≡ true → LaysOut a c e false → Leads a (h ++ e ∷ []) c h
 leads_past a c [] e p l = leads_more a a c (e ∷ []) (e ∷ []) [] e false (leads_same a (e ∷ [])) refl p (sym (opens_none e)) l
 leads_past a c (f ∷ fs) e p l = absurd (cc)
+
+-- of one event alone, closing is ending a level
+pub closes_last : (e : Event) → ends_level e ≡ closes (e ∷ [])
+closes_last no_event = refl
+closes_last (stream_start x) = refl
+closes_last stream_end = refl
+closes_last (document_start i) = refl
+closes_last (document_end i) = refl
+closes_last (alias name) = refl
+closes_last (scalar x) = refl
+closes_last (sequence_start p) = refl
+closes_last sequence_end = refl
+closes_last (mapping_start p) = refl
+closes_last mapping_end = refl
 
 pub few_needs : (e : Event) → nat_le (needs e) 3 ≡ true
 few_needs no_event = refl

@@ -1,14 +1,14 @@
 //! The emitter.
 
-ghost use Rattle.std.specs.Prelude.{◌≡◌, Some, None, true, false, option_map, IfOk, IfErr};
+ghost use Rattle.std.specs.Prelude.{◌≡◌, Some, None, true, false, option_map, IfOk, IfErr, OnErr};
 ghost use Rattle.yaml_scan.specs.Faults.{Fault, fault_of, memory_fault};
 ghost use Rattle.yaml_scan.specs.declared.yaml_origin_t.TheVariants as from;
 ghost use Rattle.yaml_parse.specs.Events.{event_of, body_of};
 ghost use Rattle.yaml_parse.specs.Constructors.{HasUtf8};
 ghost use Rattle.yaml_emit_layout.specs.Content.{emitter_event};
-ghost use Rattle.yaml_emit.specs.Emitter.{stream_encoding, refusal_of, IsNew, IsLimited, ShowsFront, IsWhole, Given, Begins, Answers, Stays};
+ghost use Rattle.yaml_emit.specs.Emitter.{stream_encoding, refusal_of, IsNew, IsLimited, ShowsFront, IsWhole, Given, Begins, Answers, Stays, Stuck};
 ghost use Rattle.yaml_emit.specs.Within.{IsWithin};
-ghost use Rattle.yaml_emit.specs.Verdict.{Judged, JudgesFirst, Tells};
+ghost use Rattle.yaml_emit.specs.Verdict.{Judged, JudgesFirst, Tells, Unjudged};
 
 mod dump;
 
@@ -244,6 +244,8 @@ impl yaml_emitter_t {
     fn answer(&self) -> Result<(), yaml_fault_t>
         ensures answer { Answers self.now.fault result }
         ensures tells { Tells self.now }
+        ensures stuck { OnErr result (Stuck self.now) }
+        ensures unjudged { OnErr result (Unjudged self.now) }
     {
         match self.fault {
             None => Ok(()),
@@ -280,6 +282,8 @@ impl yaml_emitter_t {
         ensures tells { Tells self.new }
         ensures stays { Stays self.old self.new }
         ensures opened { (self.new.opened ≡ self.old.opened) × (self.new.closed ≡ self.old.closed) }
+        ensures stuck { OnErr result (Stuck self.new) }
+        ensures unjudged { OnErr result (Unjudged self.new) }
     {
         self.give(event);
         self.answer()
@@ -293,6 +297,8 @@ impl yaml_emitter_t {
         ensures tells { Tells self.new }
         ensures stays { Stays self.old self.new }
         ensures opened { (self.new.opened ≡ self.old.opened) × (self.new.closed ≡ self.old.closed) }
+        ensures stuck { OnErr result (Stuck self.new) }
+        ensures unjudged { OnErr result (Unjudged self.new) }
     {
         let mut event = event;
         let answer = self.emit_from(&mut event);

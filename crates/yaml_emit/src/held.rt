@@ -114,10 +114,11 @@ impl Held {
     }
 
     // One event ends a level.
+    #[tactic(auto, using(crate::proofs::Holding::closes_last))]
     fn closes_one(second: &yaml_event_body_t) -> bool
         ensures { result ≡ closes (emitter_event (body_of second.now) ∷ []) }
     {
-        Held::ends_level(second) || (!Held::opens_level(second) && false)
+        Held::ends_level(second)
     }
 
     // One of two events ends a level before another is opened.

@@ -5,7 +5,6 @@ ghost use Rattle.yaml_parse.specs.Events.{body_of};
 ghost use Rattle.yaml_parse.specs.Constructors.{HasUtf8};
 ghost use Rattle.yaml_emit_layout.specs.Content.{stream_start, stream_end, emitter_event, Event};
 ghost use Rattle.yaml_emit.specs.Emitter.{Answers, Given, Stays, GivesSome, Keeps, Stuck, left_if, opening_events, document_events, dump_events};
-ghost use Rattle.yaml_scan.specs.Faults.{Fault};
 ghost use Rattle.yaml_emit_graph.specs.Graph.{dumped};
 ghost use Rattle.yaml_emit_graph.specs.Events.{IsEvents, remaining_events};
 ghost use Rattle.yaml_emit.specs.Dumping.{Dumps};
@@ -30,6 +29,8 @@ pub fn yaml_emitter_open(emitter: &mut yaml_emitter_t) -> Result<(), yaml_fault_
         emitter.new }
     ensures tells { Tells emitter.new }
     ensures stays { Stays emitter.old emitter.new }
+    ensures stuck { OnErr result (Stuck emitter.new) }
+    ensures unjudged { OnErr result (Unjudged emitter.new) }
 {
     emitter.emit(yaml_event_body_t::StreamStart {
         encoding: yaml_encoding_t::YAML_ANY_ENCODING,
@@ -62,17 +63,6 @@ pub fn yaml_emitter_close(emitter: &mut yaml_emitter_t) -> Result<(), yaml_fault
 }
 
 impl yaml_emitter_t {
-    // A law: behind a fault events count for nothing, and an open stream has begun.
-    fn stands(&self)
-        ensures stuck { (f : Fault) → self.now.fault ≡ Some f → Stuck self.now }
-        ensures unjudged { (f : Fault) → self.now.fault ≡ Some f → Unjudged self.now }
-        ensures tells { Tells self.now }
-        ensures running { self.now.opened ≡ true → self.now.fresh ≡ false }
-    {
-        // Read for the clauses: they see the invariant of a value that is read.
-        let _ = &self.fault;
-    }
-
     // Memory was refused for the dump: what follows counts for nothing.
     fn starve(&mut self, refused: AllocError)
         requires begun { self.old.fresh ≡ false }
@@ -96,10 +86,7 @@ impl yaml_emitter_t {
     {
         match self.emit(event) {
             Ok(()) => true,
-            Err(_) => {
-                self.stands();
-                false
-            }
+            Err(_) => false,
         }
     }
 
@@ -134,7 +121,7 @@ impl yaml_emitter_t {
 
     // The events of a document with a root.
     fn dump_document(&mut self, document: &yaml_document_t)
-        requires begun { self.old.fresh ≡ false }
+        requires { self.old.opened ≡ true }
         ensures given { GivesSome self.old (dumped document.now) self.new [] }
         ensures judged { JudgedAll self.old (dumped document.now) self.new [] }
         ensures keeps { Keeps self.old self.new }
@@ -157,7 +144,6 @@ impl yaml_emitter_t {
         ensures ended { length document.now.nodes ≡ 0 → self.new.fault ≡ None
             → self.new.closed ≡ true }
     {
-        self.stands();
         if document.node_count() == 0 {
             let _ = yaml_emitter_close(self);
         } else {
@@ -183,10 +169,7 @@ impl yaml_emitter_t {
         } else {
             match yaml_emitter_open(self) {
                 Ok(()) => true,
-                Err(_) => {
-                    self.stands();
-                    false
-                }
+                Err(_) => false,
             }
         }
     }
@@ -224,12 +207,9 @@ pub fn yaml_emitter_dump(
     ensures ended { length document.nodes ≡ 0 → OnOk result (emitter.new.closed ≡ true) }
     ensures stays { Stays emitter.old emitter.new }
 {
-    match emitter.fault {
-        Some(fault) => {
-            emitter.stands();
-            Err(fault)
-        }
-        None => {
+    match emitter.answer() {
+        Err(fault) => Err(fault),
+        Ok(()) => {
             emitter.dump_all(&document);
             emitter.answer()
         }

@@ -1,0 +1,5 @@
+use Rattle.yaml_emit.proofs.DumpsJudged.{judged_closes}
+use Rattle.yaml_emit.proofs.emitter.yaml_emitter_t.dump_nodes.Goals as goal
+
+pub returns-then-node_count-eq0-clause-judged : goal.returns-then-node_count-eq0-clause-judged
+returns-then-node_count-eq0-clause-judged c = judged_closes _ _ _ _ c.node_count.ensures c.if-node_count-eq0.true c.yaml_emitter_close.ensures.again c.yaml_emitter_close.ensures.judged

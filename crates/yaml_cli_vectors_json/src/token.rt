@@ -107,23 +107,36 @@ pub fn shown_token(alloc: Global, token: &yaml_token_t) -> Result<Value, AllocEr
     Ok(Value::Array(fields))
 }
 
+fn block_body(word: &str) -> Result<yaml_token_body_t, VectorError> {
+    match word {
+        "BLOCK-SEQUENCE-START" => Ok(yaml_token_body_t::BlockSequenceStart),
+        "BLOCK-MAPPING-START" => Ok(yaml_token_body_t::BlockMappingStart),
+        "BLOCK-END" => Ok(yaml_token_body_t::BlockEnd),
+        "BLOCK-ENTRY" => Ok(yaml_token_body_t::BlockEntry),
+        _ => Err(VectorError::Field("token")),
+    }
+}
+
+fn flow_body(word: &str) -> Result<yaml_token_body_t, VectorError> {
+    match word {
+        "FLOW-SEQUENCE-START" => Ok(yaml_token_body_t::FlowSequenceStart),
+        "FLOW-SEQUENCE-END" => Ok(yaml_token_body_t::FlowSequenceEnd),
+        "FLOW-MAPPING-START" => Ok(yaml_token_body_t::FlowMappingStart),
+        "FLOW-MAPPING-END" => Ok(yaml_token_body_t::FlowMappingEnd),
+        "FLOW-ENTRY" => Ok(yaml_token_body_t::FlowEntry),
+        _ => block_body(word),
+    }
+}
+
+// The body of a token that carries nothing.
 fn plain_body(word: &str) -> Result<yaml_token_body_t, VectorError> {
     match word {
         "STREAM-END" => Ok(yaml_token_body_t::StreamEnd),
         "DOCUMENT-START" => Ok(yaml_token_body_t::DocumentStart),
         "DOCUMENT-END" => Ok(yaml_token_body_t::DocumentEnd),
-        "BLOCK-SEQUENCE-START" => Ok(yaml_token_body_t::BlockSequenceStart),
-        "BLOCK-MAPPING-START" => Ok(yaml_token_body_t::BlockMappingStart),
-        "BLOCK-END" => Ok(yaml_token_body_t::BlockEnd),
-        "FLOW-SEQUENCE-START" => Ok(yaml_token_body_t::FlowSequenceStart),
-        "FLOW-SEQUENCE-END" => Ok(yaml_token_body_t::FlowSequenceEnd),
-        "FLOW-MAPPING-START" => Ok(yaml_token_body_t::FlowMappingStart),
-        "FLOW-MAPPING-END" => Ok(yaml_token_body_t::FlowMappingEnd),
-        "BLOCK-ENTRY" => Ok(yaml_token_body_t::BlockEntry),
-        "FLOW-ENTRY" => Ok(yaml_token_body_t::FlowEntry),
         "KEY" => Ok(yaml_token_body_t::Key),
         "VALUE" => Ok(yaml_token_body_t::Value),
-        _ => Err(VectorError::Field("token")),
+        _ => flow_body(word),
     }
 }
 

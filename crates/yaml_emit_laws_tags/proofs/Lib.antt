@@ -1,4 +1,4 @@
-mod Resolving
+pub mod Resolving
 mod Pieces
 mod Reading
 mod Joining

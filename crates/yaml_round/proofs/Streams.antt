@@ -1,52 +1,26 @@
 -- What an input says, and what it loads, is a stream in which nothing is wrong, and so has a text.
-use Rattle.std.proofs.Common.{◌≡◌, ◌||◌, ℕ, List, [], ◌∷◌, map, Bool, true, false, Option, refl, sym, subst, inl, inr}
+use Rattle.std.proofs.Common.{◌≡◌, ℕ, List, [], ◌∷◌, map, Bool, true, Option, refl, sym, subst}
 use Rattle.yaml_scan.specs.declared.yaml_encoding_t.{yaml_encoding_t}
 use Rattle.yaml_scan.specs.declared.yaml_encoding_t.TheVariants.{YAML_ANY_ENCODING}
-use Rattle.yaml_scan.specs.declared.yaml_scalar_style_t.{yaml_scalar_style_t}
 use Rattle.yaml_scan.specs.Faults.{Fault}
-use Rattle.yaml_parse.specs.Events as event
 use Rattle.yaml_parse.specs.Nodes.{Node}
 use Rattle.yaml_parse.specs.Documents.{Document}
 use Rattle.yaml_parse.specs.Resolve.{Told}
 use Rattle.yaml_parse.specs.Loading.{Loading, Fed, goes_on, loaded, refused, nothing_loaded, step}
 use Rattle.yaml_emit.specs.emit_graph.Graph.{graph_content}
 use Rattle.yaml_emit.specs.emit_text.declared.RequestedSettings.{RequestedSettings}
-use Rattle.yaml_round_laws_streams.specs.emit_laws_streams.Laws.{RightStream, HasText, RightDocument, AreRight, AreRightTold, RightFed}
-use Rattle.yaml_round_laws_streams.proofs.emit_laws_streams.Passing.{texts}
-use Rattle.yaml_round_laws_streams.proofs.emit_laws_streams.Contents.{dumped_streams}
-use Rattle.yaml_round_laws_streams.proofs.emit_laws_streams.Loading.{empty_right, steps}
-use Rattle.yaml_round_laws_streams.specs.Normalized.{IsNormalized, IsNormalizing}
-use Rattle.yaml_round_laws_streams.proofs.Inputs.{inputs_are_streams, inputs_load_right}
-use Rattle.yaml_round.specs.Normalize.{is_lone_mark, normalize_scalar, normalize_body}
+use Rattle.yaml_round_content.specs.round_laws.emit_laws_streams.Laws.{RightStream, HasText, RightDocument, AreRight, AreRightTold, RightFed}
+use Rattle.yaml_round_content.proofs.round_laws.emit_laws_streams.Passing.{texts}
+use Rattle.yaml_round_content.proofs.round_laws.emit_laws_streams.Contents.{dumped_streams}
+use Rattle.yaml_round_content.proofs.round_laws.emit_laws_streams.Loading.{empty_right, steps}
+use Rattle.yaml_round_content.proofs.Inputs.{input_stream}
+use Rattle.yaml_round_content.proofs.round_laws.Inputs.{inputs_load_right}
 use Rattle.yaml_round.specs.Reading.{emitter_events}
-use Rattle.yaml_round.specs.Input.{events_of, ending_of, read}
+use Rattle.yaml_round_content.specs.Input.{events_of, ending_of, read}
 use Rattle.yaml_round.specs.Answers.{IsRight}
 use Rattle.yaml_round.specs.Reload.{Loads, in_front, load_on, load_all, loads_of, written_events}
 
 -- ---- events
-
--- evening changes nothing but a document's end, or a scalar's tag
-scalar_normalized : (lone : Bool) (anchor tag : Option (List ℕ)) (value : List ℕ) (plain quoted : Bool) (style : yaml_scalar_style_t)
-    → IsNormalized (event.scalar anchor tag value plain quoted style) (normalize_scalar lone anchor tag value plain quoted style)
-scalar_normalized true anchor tag value plain quoted style = inr refl
-scalar_normalized false anchor tag value plain quoted style = inl refl
-
-evenly : (ends : Bool) → IsNormalizing (normalize_body ends)
-evenly ends (event.document_end implicit) = (implicit || ends, refl)
-evenly ends (event.scalar anchor tag value plain quoted style) = scalar_normalized (is_lone_mark tag value) anchor tag value plain quoted style
-evenly ends event.no = refl
-evenly ends (event.stream_start encoding) = refl
-evenly ends event.stream_end = refl
-evenly ends (event.document_start version directives implicit) = refl
-evenly ends (event.alias name) = refl
-evenly ends (event.sequence_start anchor tag implicit style) = refl
-evenly ends event.sequence_end = refl
-evenly ends (event.mapping_start anchor tag implicit style) = refl
-evenly ends event.mapping_end = refl
-
-input_stream : (from : yaml_encoding_t) (input : List ℕ) (canonical : Bool) → IsRight from input → RightStream canonical (emitter_events canonical (events_of from input))
-unfolding read
-input_stream from input canonical r = inputs_are_streams (normalize_body canonical) (evenly canonical) from input canonical r
 
 pub input_text : (from : yaml_encoding_t) (input : List ℕ) (w : RequestedSettings) → IsRight from input → HasText w (emitter_events w.canonical (events_of from input))
 input_text from input w r = texts w (emitter_events w.canonical (events_of from input)) (input_stream from input w.canonical r)

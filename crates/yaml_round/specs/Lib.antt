@@ -2,12 +2,12 @@ pub mod Settings
 pub mod Reading
 pub mod Writing
 pub mod Compare
-pub mod Input
 pub mod Answers
 pub mod Reload
 pub mod Commands
-pub mod Normalize
-pub mod Content
+pub use Rattle.yaml_round_content.specs.Input
+pub use Rattle.yaml_round_content.specs.Normalize
+pub use Rattle.yaml_round_content.specs.Content
 pub use Rattle.yaml_round_device.specs.Run
 pub use Rattle.yaml_round_device.specs.StdDevices
 pub use Rattle.yaml_round_lines.specs.FaultLine

@@ -1,5 +1,5 @@
 -- What is read of an input, and what a reader of its events is given.
-use Rattle.std.specs.Prelude.{◌≡◌, ◌⊎◌, ℕ, Bool, true, false, List, [], ◌∷◌, ◌++◌, map, Option, Some, None, Result, Ok, Err}
+use Rattle.std.specs.Prelude.{◌≡◌, ◌⊎◌, ℕ, Bool, true, false, List, [], ◌∷◌, ◌++◌, Option, Some, None, Result, Ok, Err}
 use Rattle.std.specs.List.{flat_map}
 use Rattle.yaml_scan.specs.declared.yaml_error_type_t.TheVariants.{YAML_MEMORY_ERROR}
 use Rattle.yaml_scan.specs.declared.yaml_fault_t.{yaml_fault_t}
@@ -12,20 +12,9 @@ use Rattle.yaml_parse.specs.Constructors.{HasUtf8}
 use Rattle.yaml_parse.specs.Resolve.{Told}
 use Rattle.yaml_parse.specs.Remaining.{ParserRemaining}
 use Rattle.yaml_round_lines.specs.EventLine.{event_line}
-use Rattle.yaml_emit.specs.Content.{emitter_event}
-use Rattle.yaml_emit.specs.Content as emit
-use Rattle.yaml_round.specs.Normalize.{normalize_body}
-use Rattle.yaml_round.specs.Content.{content_of}
+pub use Rattle.yaml_round_content.specs.Events.{emitter_events, contents}
 
 -- ---- events
-
--- the events normalized, as an emitter sees them; `ends`: every document's end is implicit
-abbrev pub emitter_events : Bool → List Told → List emit.Event
-emitter_events ends es = map (λ (t : Told). emitter_event (normalize_body ends t.0.body)) es
-
--- what the events say, styles and document marks aside
-abbrev pub contents : List Told → List EventBody
-contents es = map (λ (t : Told). content_of (normalize_body true t.0.body)) es
 
 -- a line for each event
 abbrev pub event_lines : List Told → List ℕ

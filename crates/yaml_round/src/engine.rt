@@ -2,7 +2,7 @@
 
 ghost use Rattle.std.specs.Prelude.{◌≡◌};
 ghost use Rattle.yaml_scan.specs.Faults.{Answers};
-ghost use Rattle.yaml_round.specs.Input.{ending_of};
+ghost use Rattle.yaml_round_content.specs.Input.{ending_of};
 ghost use Rattle.yaml_round.specs.Reading.{AreReal, AddsLines};
 ghost use Rattle.yaml_round.specs.Answers.{IsReformatted, IsInCanonicalForm, IsJudged, IsWritten, IsListed, text_and_form, bytes_of};
 ghost use Rattle.yaml_round.specs.Writing.{WritesAll};

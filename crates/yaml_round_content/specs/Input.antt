@@ -1,13 +1,13 @@
 -- What an input says: its tokens as a parser takes them, the events that those make, and the fault that ends them.
 use Rattle.std.specs.Prelude.{◌≡◌, ℕ, List, Option}
-use Rattle.yaml_scan.specs.declared.yaml_encoding_t.{yaml_encoding_t}
-use Rattle.yaml_scan.specs.Faults.{Fault}
-use Rattle.yaml_scan.specs.Remaining as scan
-use Rattle.yaml_scan.specs.Scanned.{scanned}
-use Rattle.yaml_parse.specs.Remaining.{ParserRemaining, reading_of}
-use Rattle.yaml_parse.specs.Machine.{run, initial}
-use Rattle.yaml_parse.specs.Resolve.{Reading, Told, no_directives}
-use Rattle.yaml_round_adapter.specs.Adapted.{adapted}
+use Rattle.yaml_round_laws_streams.specs.emit_laws_streams.scan.declared.yaml_encoding_t.{yaml_encoding_t}
+use Rattle.yaml_round_laws_streams.specs.emit_laws_streams.scan.Faults.{Fault}
+use Rattle.yaml_round_laws_streams.specs.emit_laws_streams.scan.Remaining as scan
+use Rattle.yaml_round_laws_streams.specs.emit_laws_streams.scan.Scanned.{scanned}
+use Rattle.yaml_round_laws_streams.specs.emit_laws_streams.parse.Remaining.{Coming, reading_of}
+use Rattle.yaml_round_laws_streams.specs.emit_laws_streams.parse.Machine.{run, initial}
+use Rattle.yaml_round_laws_streams.specs.emit_laws_streams.parse.Resolve.{Reading, Told, no_directives}
+use Rattle.yaml_round_laws_streams.specs.round_adapter.Adapted.{adapted}
 
 -- the scanner's tokens, up to the first tag that isn't UTF-8
 abbrev pub tokens_of : yaml_encoding_t → List ℕ → scan.Remaining
@@ -28,6 +28,6 @@ abbrev pub ending_of : yaml_encoding_t → List ℕ → Option Fault
 ending_of from input = (read from input).ending
 
 -- a parser that reads the input from its start
-pub record Reads (from : yaml_encoding_t) (input : List ℕ) (parser : ParserRemaining) : Type 0 where
+pub record Reads (from : yaml_encoding_t) (input : List ℕ) (parser : Coming) : Type 0 where
   pub events : parser.events ≡ events_of from input
   pub ending : parser.ending ≡ ending_of from input

@@ -1,0 +1,112 @@
+-- The trees of what an emitter is given.
+use Rattle.std.proofs.Common.{◌≡◌, ℕ, Bool, true, false, List, [], ◌∷◌, map, Option, Some, None, refl, ap, ◌∙◌}
+use Rattle.yaml_round_laws_streams.specs.emit_laws_streams.scan.declared.yaml_encoding_t.{yaml_encoding_t}
+use Rattle.yaml_round_laws_streams.specs.emit_laws_streams.scan.declared.yaml_encoding_t.TheVariants.{YAML_ANY_ENCODING}
+use Rattle.yaml_round_laws_streams.specs.emit_laws_streams.scan.declared.yaml_scalar_style_t.TheVariants.{YAML_ANY_SCALAR_STYLE}
+use Rattle.yaml_round_laws_streams.specs.emit_laws_streams.scan.declared.yaml_sequence_style_t.TheVariants.{YAML_ANY_SEQUENCE_STYLE}
+use Rattle.yaml_round_laws_streams.specs.emit_laws_streams.scan.declared.yaml_mapping_style_t.TheVariants.{YAML_ANY_MAPPING_STYLE}
+use Rattle.yaml_round_laws_streams.specs.emit_laws_streams.parse.Events.{EventBody}
+use Rattle.yaml_round_laws_streams.specs.emit_laws_streams.parse.Events as event
+use Rattle.yaml_round_laws_streams.specs.emit_laws_streams.parse.Resolve.{Told}
+use Rattle.yaml_round_laws_streams.specs.emit_laws_streams.emit.Content as emit
+use Rattle.yaml_round_content.specs.Normalize.{normalize_body}
+use Rattle.yaml_round_content.specs.Content.{content_of, counts_as_plain}
+use Rattle.yaml_round_content.specs.Events.{emitter_events, contents}
+use Rattle.yaml_round_content.specs.Said.{Mark, untagged, tagged, Node, alias, scalar, sequence, mapping, Nodes, no_nodes, node, Pairs, no_pairs, pair, Document, scalar_says, node_says, items_say, pairs_say, documents_say, stream_says}
+
+-- ---- trees
+
+abbrev pub mark_of : Option (List ℕ) → Bool → Mark
+mark_of None plain = untagged plain
+mark_of (Some t) plain = tagged t
+
+abbrev mutual
+  pub tree_of : emit.Node → Node
+  tree_of (emit.alias_node name) = alias name
+  tree_of (emit.scalar_node x) = scalar x.anchor (mark_of x.tag x.plain) x.value
+  tree_of (emit.sequence_node q items) = sequence q.anchor q.tag (trees_of items)
+  tree_of (emit.mapping_node q pairs) = mapping q.anchor q.tag (pair_trees_of pairs)
+
+  pub trees_of : emit.Nodes → Nodes
+  trees_of emit.no_nodes = no_nodes
+  trees_of (emit.node n ns) = node (tree_of n) (trees_of ns)
+
+  pub pair_trees_of : emit.Pairs → Pairs
+  pair_trees_of emit.no_pairs = no_pairs
+  pair_trees_of (emit.pair k v ps) = pair (tree_of k) (tree_of v) (pair_trees_of ps)
+
+abbrev pub document_tree : emit.Document → Document
+document_tree d = record { version = d.opening.version; directives = d.opening.directives; root = tree_of d.root }
+
+abbrev pub document_trees : List emit.Document → List Document
+document_trees ds = map document_tree ds
+
+-- ---- what an emitter's event says
+
+abbrev core : emit.Event → EventBody
+core emit.no_event = event.no
+core (emit.stream_start encoding) = event.stream_start YAML_ANY_ENCODING
+core emit.stream_end = event.stream_end
+core (emit.document_start o) = event.document_start o.version o.directives true
+core (emit.document_end implicit) = event.document_end true
+core (emit.alias name) = event.alias name
+core (emit.scalar x) = event.scalar x.anchor x.tag x.value (counts_as_plain x.tag x.plain) false YAML_ANY_SCALAR_STYLE
+core (emit.sequence_start q) = event.sequence_start q.anchor q.tag true YAML_ANY_SEQUENCE_STYLE
+core emit.sequence_end = event.sequence_end
+core (emit.mapping_start q) = event.mapping_start q.anchor q.tag true YAML_ANY_MAPPING_STYLE
+core emit.mapping_end = event.mapping_end
+
+core_said : (b : EventBody) → content_of b ≡ core (emit.emitter_event b)
+core_said event.no = refl
+core_said (event.stream_start encoding) = refl
+core_said event.stream_end = refl
+core_said (event.document_start version directives implicit) = refl
+core_said (event.document_end implicit) = refl
+core_said (event.alias name) = refl
+core_said (event.scalar anchor tag value plain quoted style) = refl
+core_said (event.sequence_start anchor tag implicit style) = refl
+core_said event.sequence_end = refl
+core_said (event.mapping_start anchor tag implicit style) = refl
+core_said event.mapping_end = refl
+
+cores : (es : List Told) → contents es ≡ map core (emitter_events true es)
+cores [] = refl
+cores (t ∷ ts) =
+    ap (λ (b : EventBody). b ∷ contents ts) (core_said (normalize_body true t.0.body)) ∙ ap (λ (bs : List EventBody). core (emit.emitter_event (normalize_body true t.0.body)) ∷ bs) (cores ts)
+
+scalar_core : (anchor tag : Option (List ℕ)) (value : List ℕ) (plain : Bool)
+    → event.scalar anchor tag value (counts_as_plain tag plain) false YAML_ANY_SCALAR_STYLE ≡ scalar_says anchor (mark_of tag plain) value
+scalar_core anchor None value plain = refl
+scalar_core anchor (Some t) value plain = refl
+
+mutual
+  unfolding emit.node_events emit.items_events emit.pairs_events node_says items_say pairs_say
+
+  node_cores : (n : emit.Node) (es : List emit.Event) → map core (emit.node_events n es) ≡ node_says (tree_of n) (map core es)
+  node_cores (emit.alias_node name) es = refl
+  node_cores (emit.scalar_node x) es = ap (λ (b : EventBody). b ∷ map core es) (scalar_core x.anchor x.tag x.value x.plain)
+  node_cores (emit.sequence_node q items) es = ap (λ (bs : List EventBody). event.sequence_start q.anchor q.tag true YAML_ANY_SEQUENCE_STYLE ∷ bs) (items_cores items (emit.sequence_end ∷ es))
+  node_cores (emit.mapping_node q pairs) es = ap (λ (bs : List EventBody). event.mapping_start q.anchor q.tag true YAML_ANY_MAPPING_STYLE ∷ bs) (pairs_cores pairs (emit.mapping_end ∷ es))
+
+  items_cores : (ns : emit.Nodes) (es : List emit.Event) → map core (emit.items_events ns es) ≡ items_say (trees_of ns) (map core es)
+  items_cores emit.no_nodes es = refl
+  items_cores (emit.node n ns) es = node_cores n (emit.items_events ns es) ∙ ap (λ (bs : List EventBody). node_says (tree_of n) bs) (items_cores ns es)
+
+  pairs_cores : (ps : emit.Pairs) (es : List emit.Event) → map core (emit.pairs_events ps es) ≡ pairs_say (pair_trees_of ps) (map core es)
+  pairs_cores emit.no_pairs es = refl
+  pairs_cores (emit.pair k v ps) es =
+      node_cores k (emit.node_events v (emit.pairs_events ps es)) ∙ ap (λ (bs : List EventBody). node_says (tree_of k) bs) (node_cores v (emit.pairs_events ps es))
+      ∙ ap (λ (bs : List EventBody). node_says (tree_of k) (node_says (tree_of v) bs)) (pairs_cores ps es)
+
+documents_cores : (ds : List emit.Document) → map core (emit.documents_events ds) ≡ documents_say (document_trees ds)
+unfolding emit.documents_events documents_say
+documents_cores [] = refl
+documents_cores (d ∷ ds) =
+    let start = event.document_start d.opening.version d.opening.directives true in
+    ap (λ (bs : List EventBody). start ∷ bs) (node_cores d.root (emit.document_end d.implicit_end ∷ emit.documents_events ds))
+    ∙ ap (λ (bs : List EventBody). start ∷ node_says (tree_of d.root) (event.document_end true ∷ bs)) (documents_cores ds)
+
+-- what a stream's events say are its documents' trees
+pub stream_trees : (es : List Told) (x : yaml_encoding_t) (ds : List emit.Document) → emitter_events true es ≡ emit.stream_events x ds → contents es ≡ stream_says (document_trees ds)
+stream_trees es x ds e =
+    cores es ∙ ap (λ (bs : List emit.Event). map core bs) e ∙ ap (λ (bs : List EventBody). event.stream_start YAML_ANY_ENCODING ∷ bs) (documents_cores ds)

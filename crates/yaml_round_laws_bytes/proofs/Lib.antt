@@ -1,0 +1,7 @@
+mod Encoding
+mod Characters
+mod Layouts
+mod Leaves
+mod Nodes
+mod Marks
+mod Joining

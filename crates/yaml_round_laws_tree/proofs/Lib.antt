@@ -1,0 +1,4 @@
+mod Premises
+mod Growing
+pub mod Documents
+pub mod Passing

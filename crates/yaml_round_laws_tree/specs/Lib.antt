@@ -1,0 +1,5 @@
+pub mod Reads
+pub mod Laws
+pub mod Adapting
+-- what it stands on, for crates of laws that name this one alone
+pub use Rattle.yaml_emit_laws_canonical.specs as back_canon

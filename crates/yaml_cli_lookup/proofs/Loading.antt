@@ -1,8 +1,8 @@
 -- The first load of a new parser.
-use Rattle.std.proofs.Common.{◌≡◌, ◌⊎◌, ◌∙◌, ap, sym, refl, inl, inr, ℕ, List, Result, Ok, Err}
+use Rattle.std.proofs.Common.{◌≡◌, ◌∙◌, ap, sym, refl, inl, inr, ℕ, List, Result, Ok, Err, IfOk, IfErr}
 use Rattle.yaml_scan.specs.declared.yaml_encoding_t.{yaml_encoding_t}
 use Rattle.yaml_scan.specs.declared.yaml_fault_t.{yaml_fault_t}
-use Rattle.yaml_scan.specs.Faults.{Fault, fault_of, IsMemoryFault}
+use Rattle.yaml_scan.specs.Faults.{fault_of, Answers}
 use Rattle.yaml_scan.specs.Remaining as scan
 use Rattle.yaml_parse.specs.Documents.{Document}
 use Rattle.yaml_parse.specs.Loads.{Loads, document, faulty, nothing, loads_of, LoadGives, LoadRefuses}
@@ -22,17 +22,15 @@ gives (document e left n) d old new g = ap Ok (sym g.0)
 gives nothing d old new g = ap Ok (sym g.0)
 gives (faulty f) d old new g = absurd g
 
-pub first_given : (encoding : yaml_encoding_t) (input : List ℕ) (c : scan.Remaining) (p q : ParserRemaining) (d : Document)
+pub first_answers : (encoding : yaml_encoding_t) (input : List ℕ) (c : scan.Remaining) (p q : ParserRemaining)
+    (r : Result Document yaml_fault_t)
     → c ≡ tokens_of encoding input → p.events ≡ (parsed c).events → p.ending ≡ (parsed c).ending
-    → LoadGives (loads_of p) d p q → first_document encoding input ≡ Ok d
-first_given encoding input c p q d is events ending g =
+    → IfOk r (λ d. LoadGives (loads_of p) d p q) → IfErr r (λ f. LoadRefuses (fault_of f) p q)
+    → Answers (λ d. d) (λ z. first_document encoding input ≡ z) r
+first_answers encoding input c p q (Ok d) is events ending g h =
     first_load encoding input c p is events ending ∙ gives (loads_of p) d p q g
-
-pub first_refused : (encoding : yaml_encoding_t) (input : List ℕ) (c : scan.Remaining) (p q : ParserRemaining) (f : yaml_fault_t)
-    → c ≡ tokens_of encoding input → p.events ≡ (parsed c).events → p.ending ≡ (parsed c).ending
-    → LoadRefuses (fault_of f) p q → IsMemoryFault f ⊎ (first_document encoding input ≡ Err (fault_of f))
-first_refused encoding input c p q f is events ending r =
-    elim r.reason [
+first_answers encoding input c p q (Err f) is events ending g h =
+    elim h.reason [
       | inl m ↦ inl m
       | inr k ↦ inr (first_load encoding input c p is events ending ∙ ap outcome k)
     ]

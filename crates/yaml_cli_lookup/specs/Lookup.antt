@@ -9,7 +9,7 @@ use Rattle.yaml_cli_lookup.specs.Values.{has_mapping, value_of}
 
 -- it is the first document, and its root is a mapping
 pub record IsLoaded (first : Result Document Fault) (d : Document) : Type 0 where
-  pub first : first ≡ Ok d
+  pub same : first ≡ Ok d
   pub mapping : has_mapping d ≡ true
 
 -- When each error comes: the fault is that of the input; there is a document, and its root isn't a mapping.
@@ -22,7 +22,7 @@ abbrev pub bytes_of : Option (Vec ℕ Global) → Option (List ℕ)
 bytes_of v = option_map (λ t. t.items) v
 
 -- what the first document's root gives the key
-pub record IsFound (first : Result Document Fault) (key : List ℕ) (value : Option (Vec ℕ Global)) : Type 0 where
+pub record IsFound (first : Result Document Fault) (key : List ℕ) (found : Option (Vec ℕ Global)) : Type 0 where
   pub document : Document
   pub loaded : IsLoaded first document
-  pub value : bytes_of value ≡ value_of document key
+  pub value : bytes_of found ≡ value_of document key

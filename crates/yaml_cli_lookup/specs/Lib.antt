@@ -1,0 +1,4 @@
+pub mod Input
+pub mod Values
+pub mod Lookup
+pub mod Errors

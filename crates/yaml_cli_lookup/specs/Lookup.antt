@@ -1,0 +1,28 @@
+-- What the calls answer of the first document.
+use Rattle.std.specs.Prelude.{◌≡◌, ℕ, List, Option, option_map, Vec, Result, Ok, Err, true, false}
+use Rattle.std.specs.Global.{Global}
+use Rattle.yaml_scan.specs.Faults.{Fault, fault_of}
+use Rattle.yaml_parse.specs.Documents.{Document}
+use Rattle.yaml_cli_lookup.specs.declared.error.LookupError.{LookupError}
+use Rattle.yaml_cli_lookup.specs.declared.error.LookupError.TheVariants.{Unreadable, NotAMapping, OutOfMemory}
+use Rattle.yaml_cli_lookup.specs.Values.{has_mapping, value_of}
+
+-- it is the first document, and its root is a mapping
+pub record IsLoaded (first : Result Document Fault) (d : Document) : Type 0 where
+  pub same : first ≡ Ok d
+  pub mapping : has_mapping d ≡ true
+
+-- When each error comes: the fault is that of the input; there is a document, and its root isn't a mapping.
+abbrev pub IsDue : Result Document Fault → LookupError → Type 0
+IsDue first (Unreadable f) = first ≡ Err (fault_of f)
+IsDue first NotAMapping = (d : Document) × (first ≡ Ok d) × (has_mapping d ≡ false)
+IsDue first OutOfMemory = Unit {0}
+
+abbrev pub bytes_of : Option (Vec ℕ Global) → Option (List ℕ)
+bytes_of v = option_map (λ t. t.items) v
+
+-- what the first document's root gives the key
+pub record IsFound (first : Result Document Fault) (key : List ℕ) (found : Option (Vec ℕ Global)) : Type 0 where
+  pub document : Document
+  pub loaded : IsLoaded first document
+  pub value : bytes_of found ≡ value_of document key

@@ -1,0 +1,30 @@
+//! Why a key can't be looked up.
+
+ghost use Rattle.yaml_cli_lookup.specs.Errors.{IsErrorOf};
+
+use thiserror::Error;
+use yaml_scan::{yaml_error_type_t, yaml_fault_t};
+
+/// Why a key can't be looked up.
+#[derive(Debug, Drop, Error)]
+pub enum LookupError {
+    /// The first document isn't read to its end: the fault that is met first, with its places.
+    #[error("{}", .0.problem)]
+    Unreadable(yaml_fault_t),
+    /// There is no document, or its root isn't a mapping.
+    #[error("the root is not a mapping")]
+    NotAMapping,
+    /// A growth was refused.
+    #[error("out of memory")]
+    OutOfMemory,
+}
+
+/// The error that a load's fault is.
+pub(crate) fn error_of(fault: yaml_fault_t) -> LookupError
+    ensures { IsErrorOf fault result }
+{
+    match fault.kind {
+        yaml_error_type_t::YAML_MEMORY_ERROR => LookupError::OutOfMemory,
+        _ => LookupError::Unreadable(fault),
+    }
+}

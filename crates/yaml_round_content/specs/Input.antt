@@ -4,7 +4,7 @@ use Rattle.yaml_round_laws_streams.specs.emit_laws_streams.scan.declared.yaml_en
 use Rattle.yaml_round_laws_streams.specs.emit_laws_streams.scan.Faults.{Fault}
 use Rattle.yaml_round_laws_streams.specs.emit_laws_streams.scan.Remaining as scan
 use Rattle.yaml_round_laws_streams.specs.emit_laws_streams.scan.Scanned.{scanned}
-use Rattle.yaml_round_laws_streams.specs.emit_laws_streams.parse.Remaining.{Coming, reading_of}
+use Rattle.yaml_round_laws_streams.specs.emit_laws_streams.parse.Remaining.{ParserRemaining, reading_of}
 use Rattle.yaml_round_laws_streams.specs.emit_laws_streams.parse.Machine.{run, initial}
 use Rattle.yaml_round_laws_streams.specs.emit_laws_streams.parse.Resolve.{Reading, Told, no_directives}
 use Rattle.yaml_round_laws_streams.specs.round_adapter.Adapted.{adapted}
@@ -28,6 +28,6 @@ abbrev pub ending_of : yaml_encoding_t → List ℕ → Option Fault
 ending_of from input = (read from input).ending
 
 -- a parser that reads the input from its start
-pub record Reads (from : yaml_encoding_t) (input : List ℕ) (parser : Coming) : Type 0 where
+pub record Reads (from : yaml_encoding_t) (input : List ℕ) (parser : ParserRemaining) : Type 0 where
   pub events : parser.events ≡ events_of from input
   pub ending : parser.ending ≡ ending_of from input

@@ -1,5 +1,5 @@
 -- The tokens that canonical layout writes, without their marks, in front of those that follow.
-use Rattle.std.specs.Prelude.{ℕ, pos, Bool, true, false, not, ◌&&◌, List, [], ◌∷◌, Option, Some, None}
+use Rattle.std.specs.Prelude.{ℕ, Bool, true, false, not, ◌&&◌, List, [], ◌∷◌, Option, Some, None}
 use Rattle.yaml_emit_layout.specs.scan.declared.yaml_scalar_style_t.TheVariants.{YAML_DOUBLE_QUOTED_SCALAR_STYLE}
 use Rattle.yaml_emit_layout.specs.scan.Tokens as tokens
 use Rattle.yaml_emit_layout.specs.scan.Tokens.{TokenBody}
@@ -7,7 +7,7 @@ use Rattle.yaml_emit_layout.specs.parse.Events.{TagDirective}
 use Rattle.yaml_emit_layout.specs.emit_text.Tags.{Split, shorthand, verbatim, split_tag}
 use Rattle.yaml_emit_layout.specs.scan.declared.yaml_version_directive_t.{yaml_version_directive_t}
 use Rattle.yaml_emit_layout.specs.Nodes.{is_directed}
-use Rattle.yaml_emit_layout.specs.Content.{Opening, Document, Scalar, Node, alias_node, scalar_node, sequence_node, mapping_node, Nodes, no_nodes, node, Pairs, no_pairs, pair}
+use Rattle.yaml_emit_layout.specs.Content.{Opening, Document, Node, alias_node, scalar_node, sequence_node, mapping_node, Nodes, no_nodes, node, Pairs, no_pairs, pair}
 use Rattle.yaml_emit_layout.specs.Grammar.{scalar_tag, start_tag}
 use Rattle.yaml_emit_laws_canonical.specs.Canonical.{is_marked}
 
@@ -47,7 +47,8 @@ unfoldable mutual
 
   pub pairs_bodies : List TagDirective → Pairs → List TokenBody → List TokenBody
   pairs_bodies ds no_pairs bs = bs
-  pairs_bodies ds (pair k v ps) bs = tokens.key ∷ node_bodies ds k
+  pairs_bodies ds (pair k v ps) bs =
+      tokens.key ∷ node_bodies ds k
       (tokens.value ∷ node_bodies ds v (tokens.flow_entry ∷ pairs_bodies ds ps bs))
 
 -- ---- documents
@@ -65,11 +66,12 @@ end_bodies true bs = tokens.document_end ∷ bs
 end_bodies false bs = bs
 
 abbrev pub opening_bodies : Bool → Opening → List TokenBody → List TokenBody
-opening_bodies unended o bs = end_bodies (unended && is_directed o)
+opening_bodies unended o bs =
+    end_bodies (unended && is_directed o)
     (version_bodies o.version (directives_bodies o.directives (tokens.document_start ∷ bs)))
 
 unfoldable pub documents_bodies : Bool → List Document → List TokenBody
 documents_bodies unended [] = tokens.stream_end ∷ []
-documents_bodies unended (d ∷ ds) = opening_bodies unended d.opening
-    (node_bodies d.opening.directives d.root
+documents_bodies unended (d ∷ ds) =
+    opening_bodies unended d.opening (node_bodies d.opening.directives d.root
     (end_bodies (not d.implicit_end) (documents_bodies d.implicit_end ds)))

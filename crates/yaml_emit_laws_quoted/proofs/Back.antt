@@ -120,7 +120,7 @@ quoted_back law page c value u deep =
           (spelling_reads mine.parts text p mine.right (subst (λ (t : List ℕ). HasAt text p t) bytes h)) means (ap (λ (t : List ℕ). length t) (sym bytes));
       inside = inner ++ 34 ∷ [];
       begins = refl;
-      dark = refl;
+      bare = refl;
       column = λ z. moved_on s.behind.column z;
       kept = body_keeps page 32 (chars value) (moved_by c) s.behind inner s.spelled;
     }

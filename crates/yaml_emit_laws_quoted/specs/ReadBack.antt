@@ -11,8 +11,9 @@ use Rattle.yaml_emit_text.specs.Scalars.{flow_body}
 use Rattle.yaml_emit_text.specs.Spelling.{in_front}
 use Rattle.yaml_emit_laws_quoted.specs.Stands.{HasAt}
 
--- From a cursor on, a layout writes these characters, a double quote first, whatever follows; and wherever their bytes stand, the
--- reading gives the value, and ends behind them. Behind them the line isn't bare, none starts, and `kept` is as it was.
+-- From a cursor on, a layout writes these characters, a double quote first, whatever follows; and
+-- wherever their bytes stand, the reading gives the value, and ends behind them. Behind them the
+-- line isn't bare, none starts, and `kept` is as it was.
 pub record IsReadBack (reading : List ℕ → ℕ → Result (List ℕ × ℕ) Wrong) (a : Layout) (c : Cursor)
     (value : List ℕ) : Type 0 where
   pub letters : List ℕ
@@ -22,7 +23,7 @@ pub record IsReadBack (reading : List ℕ → ℕ → Result (List ℕ × ℕ) W
   pub written : (rest : Rest) → a c rest ≡ in_front letters (rest behind)
   pub read : (text : List ℕ) (p : ℕ) → HasAt text p (encode_utf8_all letters)
       → reading text p ≡ Ok (value, p + length (encode_utf8_all letters))
-  pub dark : behind.bare ≡ false
+  pub bare : behind.bare ≡ false
   pub column : behind.column ≡ 0 → ⊥
   pub kept : behind.kept ≡ c.kept
 

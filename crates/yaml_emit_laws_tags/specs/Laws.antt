@@ -1,12 +1,11 @@
 -- What a scanner and a parser make of a tag that an emitter splits and spells, and of a directive that it writes.
 use Rattle.std.specs.Prelude.{◌≡◌, ◌⊎◌, ◌<◌, ◌+◌, ◌&&◌, nat_lt, ℕ, Bool, true, List, [], ◌∷◌, ◌++◌, length, codes, Option, Some, None, Ok}
 use Rattle.std.specs.Str.{IsUtf8}
-use Rattle.yaml_scan.specs.scan_model.Marks.{break_width}
 use Rattle.yaml_scan.specs.scan_model.Classes.{is_break}
 use Rattle.yaml_scan.specs.scan_words.Tags.{TagText, tag_at, may_end_tag}
-use Rattle.yaml_scan.specs.scan_words.Directives as directives
 use Rattle.yaml_scan.specs.scan_words.Directives.{directive_at}
 use Rattle.yaml_scan.specs.scan_words.Written.{HasAt, are_alphas}
+use Rattle.yaml_scan_laws_words.specs.Laws.{tag_line}
 use Rattle.yaml_emit_layout.specs.parse.Events.{TagDirective}
 use Rattle.yaml_emit_layout.specs.parse.Resolve.{resolved}
 use Rattle.yaml_emit_layout.specs.emit_text.Tags.{Split, shorthand, verbatim, spelled, split_tag, tag_spelling, uri_text}
@@ -110,8 +109,8 @@ WrittenDirectivesAreReadable = (o : Opening) → opening_problem o ≡ None → 
 
 -- what is written for it is ASCII
 abbrev pub ReadableDirectivesAreAscii : Type 0
-ReadableDirectivesAreAscii = (d : TagDirective) → IsReadableDirective d → IsMarked d.handle
-    × (are_ascii (uri_text true d.prefix) ≡ true)
+ReadableDirectivesAreAscii = (d : TagDirective) → IsReadableDirective d
+    → IsMarked d.handle × (are_ascii (uri_text true d.prefix) ≡ true)
 
 -- a directive, without its line's end
 abbrev pub directive_bytes : TagDirective → List ℕ
@@ -121,10 +120,4 @@ directive_bytes d = codes "%TAG " ++ (d.handle ++ (32 ∷ uri_text true d.prefix
 abbrev pub DirectivesAreRead : Type 0
 DirectivesAreRead = (d : TagDirective) → IsReadableDirective d → (text : List ℕ) (p : ℕ)
     → HasAt text p (directive_bytes d) → is_break text (p + length (directive_bytes d)) ≡ true
-    → let end = p + length (directive_bytes d) in directive_at text p
-    ≡ Ok record {
-      said = directives.tag d.handle d.prefix;
-      end = end;
-      place = end + break_width
-          text end;
-    }
+    → directive_at text p ≡ Ok (tag_line text (p + length (directive_bytes d)) d.handle d.prefix)

@@ -1,5 +1,5 @@
 -- The lines of directives are words.
-use Rattle.std.proofs.Common.{◌≡◌, ℕ, ◌+◌, ◌<◌, ◌&&◌, ◌||◌, nat_lt, Bool, true, false, List, [], ◌∷◌, ◌++◌, length, Option, Some, None, Result, Ok, refl, sym, ap, subst, ◌∙◌, inl, inr, arith, append_assoc}
+use Rattle.std.proofs.Common.{◌≡◌, ℕ, ◌+◌, ◌<◌, ◌||◌, nat_lt, Bool, true, false, List, [], ◌∷◌, ◌++◌, length, Option, Some, None, Result, Ok, refl, sym, ap, subst, ◌∙◌, inl, inr, arith, append_assoc}
 use Rattle.std.specs.Prelude.{ℤ, pos, codes, if◌then◌else◌}
 use Rattle.std.specs.Ordering.{int_eq}
 use Rattle.std.specs.Cmp.{signed_Decides}
@@ -36,7 +36,7 @@ use Rattle.yaml_emit_laws_text.specs.Walk.{Has, Left, bytes, first}
 use Rattle.yaml_emit_laws_text.proofs.Forms.{at_line, LinesWalkTo, NoFeed, DirectivesWalk}
 use Rattle.yaml_emit_laws_text.proofs.Places.{has_front, has_at, left_first, left_rest}
 use Rattle.yaml_emit_laws_text.proofs.Steps.{sign_starts, letter_low, push_to, word_of}
-use Rattle.yaml_emit_laws_text.proofs.Words.{darker}
+use Rattle.yaml_emit_laws_text.proofs.Words.{and_left, and_right, lettered_on}
 use Rattle.yaml_emit_laws_text.proofs.Tags.{letters_are}
 use Rattle.yaml_emit_laws_text.proofs.Lines.{line_broken}
 
@@ -64,7 +64,7 @@ not_feed x e f = omega (arith, e, f)
 record WritesLine (a : Layout) (b : LineBreak) (xs : List ℕ) (kept : Bool) : Type 0 where
   behind : Cursor
   same : (rest : Rest) → bytes (a (at_line kept) rest) ≡ 37 ∷ (xs ++ bytes (line b 0 behind rest))
-  dark : behind.bare ≡ false
+  bare : behind.bare ≡ false
   still : behind.kept ≡ kept
 
 -- Such bytes are read as what is said, with the break behind them.
@@ -81,7 +81,7 @@ line_lands law a b xs said written reads rest calm kept text p ws s l =
     let h = left_first text p 37 (xs ++ tail) m in
     let q = p + length (37 ∷ xs) in
     let o : Left text q tail = left_rest text p (37 ∷ xs) tail m in
-    let broken = line_broken b text w.behind q rest w.dark calm o in
+    let broken = line_broken b text w.behind q rest w.bare calm o in
     let column = s.column refl (λ e. not_feed (byte text p) h e) in
     let place = q + break_width text q in
     let read = reads text p (has_front text p (37 ∷ xs) tail m.has) broken.is in
@@ -105,7 +105,7 @@ version_line b t = word (codes "%YAML") ▹ (word t ▹ line b 0)
 
 version_writes : (b : LineBreak) (x : ℕ) → nat_lt x 128 ≡ true → (kept : Bool) → WritesLine (version_line b (49 ∷ 46 ∷ x ∷ [])) b (89 ∷ 65 ∷ 77 ∷ 76 ∷ 32 ∷ 49 ∷ 46 ∷ x ∷ []) kept
 unfolding letters encode char_bytes
-version_writes b x low kept = record { behind = record { column = 9; white = false; bare = false; kept = kept }; same = λ rest. rw low refl; dark = refl; still = refl }
+version_writes b x low kept = record { behind = record { column = 9; white = false; bare = false; kept = kept }; same = λ rest. rw low refl; bare = refl; still = refl }
 
 version_line_lands : GapReads → VersionReads → (b : LineBreak) (n : ℕ) → n < 10 → nat_lt (48 + n) 128 ≡ true → (rest : Rest) → NoFeed rest
     → LinesWalkTo rest (version_line b (49 ∷ 46 ∷ (48 + n) ∷ [])) (λ ks. kinds.Directive ∷ ks) (λ bs. tokens.version_directive (pos 1) (pos n) ∷ bs)
@@ -121,14 +121,6 @@ version_so law versions b v n small low major minor says rest calm =
     let one : P (version_word v) (pos 1) (pos n) = subst (λ (t : List ℕ). P t (pos 1) (pos n)) (sym says) base in
     let two : P (version_word v) v.major (pos n) = subst (λ (x : ℤ). P (version_word v) x (pos n)) (sym major) one in
     subst (λ (y : ℤ). P (version_word v) v.major y) (sym minor) two
-
-and_left : (a b : Bool) → (a && b) ≡ true → a ≡ true
-and_left true b e = refl
-and_left false b e = absurd (cc)
-
-and_right : (a b : Bool) → (a && b) ≡ true → b ≡ true
-and_right true b e = e
-and_right false b e = absurd (cc)
 
 none_true : (b : Bool) (p : Problem) → (if b then None else Some p) ≡ None → b ≡ true
 none_true true p e = refl
@@ -158,7 +150,7 @@ tag_front kept rest = refl
 record Spaces (xs : List ℕ) (c : Cursor) : Type 0 where
   behind : Cursor
   same : (rest : Rest) → bytes (word xs c rest) ≡ 32 ∷ (xs ++ bytes (rest behind))
-  dark : behind.bare ≡ false
+  bare : behind.bare ≡ false
   kept : behind.kept ≡ c.kept
 
 abbrev spaced : Cursor → Cursor
@@ -169,27 +161,27 @@ space_here xs c white rest =
     ap (λ (t : Bool). bytes (if t then letters xs c rest else blank c (λ e. letters xs e rest))) white ∙ letter_low 32 (letters xs (spaced c) rest) refl
 
 spaces : (xs : List ℕ) → are_ascii xs ≡ true → (c : Cursor) → c.white ≡ false → c.bare ≡ false → Spaces xs c
-spaces xs low c white dark =
+spaces xs low c white bare =
     let r = letters_are xs low (spaced c) in
-    record { behind = r.behind; same = λ rest. space_here xs c white rest ∙ ap (λ (t : List ℕ). 32 ∷ t) (r.same rest); dark = r.dark dark; kept = r.kept }
+    record { behind = r.behind; same = λ rest. space_here xs c white rest ∙ ap (λ (t : List ℕ). 32 ∷ t) (r.same rest); bare = r.bare bare; kept = r.kept }
 
 -- the same, with a letter at least: the cursor behind isn't white
 record Handles (xs : List ℕ) (c : Cursor) : Type 0 where
   behind : Cursor
   same : (rest : Rest) → bytes (word xs c rest) ≡ 32 ∷ (xs ++ bytes (rest behind))
   white : behind.white ≡ false
-  dark : behind.bare ≡ false
+  bare : behind.bare ≡ false
   kept : behind.kept ≡ c.kept
 
 handle_spaced : (more : List ℕ) → are_ascii more ≡ true → (c : Cursor) → c.white ≡ false → Handles (33 ∷ more) c
 unfolding letters
 handle_spaced more low c white =
-    let r = letters_are more low (darker (spaced c)) in
+    let r = letters_are more low (lettered_on (spaced c)) in
     record {
       behind = r.behind;
-      same = λ rest. space_here (33 ∷ more) c white rest ∙ ap (λ (t : List ℕ). 32 ∷ t) (letter_low 33 (letters more (darker (spaced c)) rest) refl ∙ ap (λ (t : List ℕ). 33 ∷ t) (r.same rest));
+      same = λ rest. space_here (33 ∷ more) c white rest ∙ ap (λ (t : List ℕ). 32 ∷ t) (letter_low 33 (letters more (lettered_on (spaced c)) rest) refl ∙ ap (λ (t : List ℕ). 33 ∷ t) (r.same rest));
       white = r.white refl;
-      dark = r.dark refl;
+      bare = r.bare refl;
       kept = r.kept;
     }
 
@@ -203,7 +195,7 @@ tag_writes : (b : LineBreak) (handle uri : List ℕ) → IsMarked handle → are
 tag_writes b handle uri marked low kept =
     let c : Cursor = record { column = 4; white = false; bare = false; kept = kept } in
     let h = handles handle marked c refl in
-    let u = spaces uri low h.behind h.white h.dark in
+    let u = spaces uri low h.behind h.white h.bare in
     record {
       behind = u.behind;
       same = λ rest.
@@ -212,7 +204,7 @@ tag_writes b handle uri marked low kept =
           h.same (λ e. (word uri ▹ line b 0) e rest) ∙ ap (λ (t : List ℕ). 32 ∷ (handle ++ t)) (u.same (λ e. line b 0 e rest)) in
           tag_front kept (λ e. (word handle ▹ (word uri ▹ line b 0)) e rest) ∙ ap (λ (t : List ℕ). 37 ∷ 84 ∷ 65 ∷ 71 ∷ t) inner
           ∙ ap (λ (t : List ℕ). 37 ∷ 84 ∷ 65 ∷ 71 ∷ 32 ∷ t) (sym (append_assoc handle (32 ∷ uri) tail));
-      dark = u.dark;
+      bare = u.bare;
       still = u.kept ∙ h.kept;
     }
 

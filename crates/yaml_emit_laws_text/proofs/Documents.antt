@@ -1,7 +1,6 @@
 -- The words of documents.
-use Rattle.std.proofs.Common.{◌≡◌, ℕ, ◌+◌, ◌<◌, ◌==◌, ◌&&◌, not, nat_lt, Bool, true, false, List, [], ◌∷◌, ◌++◌, length, map, reverse, Some, Ok, refl, sym, ap, subst, ◌∙◌, inl, inr, arith, get_or, append_assoc, append-nil}
+use Rattle.std.proofs.Common.{◌≡◌, ℕ, ◌+◌, ◌<◌, ◌&&◌, not, nat_lt, Bool, true, false, List, [], ◌∷◌, ◌++◌, length, map, reverse, Some, Ok, refl, sym, ap, subst, ◌∙◌, arith, get_or, append_assoc, append-nil}
 use Rattle.std.specs.Prelude.{if◌then◌else◌}
-use Rattle.std.proofs.lemmas.Bool.{cases_Bool}
 use Rattle.std.proofs.lemmas.List.{get_or_past, reverse-append}
 use Rattle.yaml_emit_laws_canonical.specs.scan.declared.yaml_encoding_t.{yaml_encoding_t}
 use Rattle.yaml_emit_laws_canonical.specs.scan.Tokens as tokens
@@ -36,6 +35,7 @@ use Rattle.yaml_emit_laws_text.specs.Laws.{text_of_documents, IsReadAs}
 use Rattle.yaml_emit_laws_text.proofs.Forms.{canonical_settings, TagWalks, MarkWalks, at_line, LinesWalk, NoFeed, DirectivesWalk}
 use Rattle.yaml_emit_laws_text.proofs.Places.{has_at, left_first, left_more}
 use Rattle.yaml_emit_laws_text.proofs.Steps.{gap_byte, left_letter, behind_feed, behind_return, sign_starts, push, word_of}
+use Rattle.yaml_emit_laws_text.proofs.Words.{some_break, line_break}
 use Rattle.yaml_emit_laws_text.proofs.Nodes.{nodes_read, line_parts}
 
 -- ---- the start of the next line
@@ -79,20 +79,8 @@ three : (x : ℕ) → nat_lt x 128 ≡ true → (kept : Bool) (rest : Rest) → 
 unfolding letters encode char_bytes
 three x e kept rest = rw e refl
 
-and_false : (a : Bool) → (a && false) ≡ false
-and_false true = refl
-and_false false = refl
-
 abbrev behind_three : Bool → Cursor
 behind_three kept = record { column = 3; white = false; bare = false; kept = kept }
-
-some_break : (c d : ℕ) → nat_lt 0 (break_of 13 c d) ≡ true
-unfolding break_of
-some_break c d = elim (cases_Bool (c == 10)) [ inl e ↦ rw e refl | inr e ↦ rw e refl ]
-
-line_break : (c d : ℕ) → nat_lt 0 (break_of 10 c d) ≡ true
-unfolding break_of
-line_break c d = refl
 
 feed_blank : (text : List ℕ) (q : ℕ) → byte text q ≡ 10 → is_blank_or_end text q ≡ true
 feed_blank text q h = rw (h, line_break) refl
@@ -153,9 +141,6 @@ thrice_dot = record {
   flat = refl;
   no_feed = λ e. omega arith;
 }
-
-outside : nat_lt 0 0 ≡ false
-outside = refl
 
 thrice_lands : GapReads → (x : ℕ) (k : Kind) (body : TokenBody) → Thrice x k body → (b : LineBreak) → LinesWalk (word (x ∷ x ∷ x ∷ []) ▹ line b 0) (λ ks. k ∷ ks) (λ bs. body ∷ bs)
 thrice_lands law x k body t b rest kept text p ws s l =
@@ -246,7 +231,7 @@ root_lands law names quoted mark s some o tags n good implicit rest kept text p 
     let after : Rest = λ c. when (not implicit) (dots z) c rest in
     let k : Rest = λ c. line s.line_break 0 c after in
     let g = nodes_read law names quoted mark s o.directives tags some n good root_spot refl 0 (at_line kept) k (line_parts s.line_break 0 (when (not implicit) (dots z)) rest) text p ws stage l in
-    let h = line_lined s.line_break text g.behind g.place g.words 0 after g.dark g.stage g.left in
+    let h = line_lined s.line_break text g.behind g.place g.words 0 after g.bare g.stage g.left in
     let e = dots_if law z (not implicit) rest g.behind.kept text h.place g.words h.stage h.left in
     record { kept = e.kept; place = e.place; words = e.words; stage = e.stage; left = e.left; kinds = e.kinds ∙ ap (λ (ks : List Kind). put_if (not implicit) kinds.DocumentEnd ks) g.kinds; bodies = λ bs. e.bodies bs ∙ g.bodies (end_bodies (not implicit) bs) }
 

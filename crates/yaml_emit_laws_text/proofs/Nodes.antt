@@ -121,8 +121,8 @@ alias_goes law names name (some, are) at off d c rest ends =
 
 pub line_parts : (b : LineBreak) (n : ℕ) (a : Layout) (rest : Rest) → Parts (λ c. (line b n ▹ a) c rest)
 unfolding line
-line_parts b n a rest e dark =
-    let must : must_break n e ≡ true = rw dark refl in
+line_parts b n a rest e bare =
+    let must : must_break n e ≡ true = rw bare refl in
     let k : Rest = λ c. indent_to n c (λ x. a x rest) in
     subst (λ (t : Bool). parts (first (bytes (if t then new_line b e k else k e))) ≡ true) (sym must) (broken b e k)
   where
@@ -132,7 +132,7 @@ line_parts b n a rest e dark =
     broken CrLf e k = ap (λ (bs : List ℕ). parts (first bs)) (letter_low 13 _ refl)
 
 comma_parts : (a : Layout) (rest : Rest) → Parts (λ c. (char 44 ▹ a) c rest)
-comma_parts a rest e dark = ap (λ (bs : List ℕ). parts (first bs)) (letter_low 44 _ refl)
+comma_parts a rest e bare = ap (λ (bs : List ℕ). parts (first bs)) (letter_low 44 _ refl)
 
 more_parts : (p : Context) → p.settings.canonical ≡ true → (n : ℕ) (ns : Nodes) (rest : Rest) → Parts (λ c. items_layout p true n false ns c rest)
 unfolding items_layout before_item closer
@@ -180,24 +180,24 @@ MorePairsWalk s ds ps = (n d : ℕ) (c : Cursor) (rest : Rest) → c.bare ≡ fa
 
 items_first : GapReads → (s : Settings) (ds : List TagDirective) (x : Node) (xs : Nodes) → NodeWalks s ds x → MoreWalks s ds xs → FirstWalks s ds (node x xs)
 unfolding items_layout before_item turned items_kinds items_bodies
-items_first law s ds x xs one more n d c rest dark =
+items_first law s ds x xs one more n d c rest bare =
     let p = canonically s ds in
     walks_line s.line_break n (node_layout p (spot true n part.Item) x ▹ items_layout p true n false xs) (λ ks. kinds.FlowSequenceEnd ∷ items_kinds xs (kinds.FlowEntry ∷ node_kinds x ks))
-    (λ bs. node_bodies ds x (tokens.flow_entry ∷ items_bodies ds xs (tokens.flow_sequence_end ∷ bs))) (suc d) d c rest dark
+    (λ bs. node_bodies ds x (tokens.flow_entry ∷ items_bodies ds xs (tokens.flow_sequence_end ∷ bs))) (suc d) d c rest bare
     (λ k. both (node_layout p (spot true n part.Item) x) (items_layout p true n false xs) (node_kinds x) (λ ks. kinds.FlowSequenceEnd ∷ items_kinds xs (kinds.FlowEntry ∷ ks)) (node_bodies ds x)
     (λ bs. tokens.flow_entry ∷ items_bodies ds xs (tokens.flow_sequence_end ∷ bs)) (suc d) (suc d) d k rest
     (one (spot true n part.Item) refl (suc d) k (λ e. items_layout p true n false xs e rest) (more_parts p refl n xs rest)) (λ e off. more n d e rest off))
 
 items_more : GapReads → (s : Settings) (ds : List TagDirective) (x : Node) (xs : Nodes) → FirstWalks s ds (node x xs) → MoreWalks s ds (node x xs)
 unfolding items_layout before_item
-items_more law s ds x xs whole n d c rest dark =
+items_more law s ds x xs whole n d c rest bare =
     let p = canonically s ds in
     both (char 44) (items_layout p true n true (node x xs)) (λ ks. kinds.FlowEntry ∷ ks) (λ ks. kinds.FlowSequenceEnd ∷ items_kinds (node x xs) ks) (λ bs. tokens.flow_entry ∷ bs)
     (λ bs. items_bodies ds (node x xs) (tokens.flow_sequence_end ∷ bs)) (suc d) (suc d) d c rest (comma_walks law (suc d) c (λ e. items_layout p true n true (node x xs) e rest)) (λ e off. whole n d e rest off)
 
 pairs_first : GapReads → (s : Settings) (ds : List TagDirective) (k v : Node) (ps : Pairs) → NodeWalks s ds k → NodeWalks s ds v → MorePairsWalk s ds ps → FirstPairsWalk s ds (pair k v ps)
 unfolding pairs_layout before_key before_value turned pairs_kinds pairs_bodies
-pairs_first law s ds k v ps key value more n d c rest dark =
+pairs_first law s ds k v ps key value more n d c rest bare =
     let p = canonically s ds in
     let b = s.line_break in
     let pair_end = pairs_layout p true n false ps in
@@ -222,21 +222,21 @@ pairs_first law s ds k v ps key value more n d c rest dark =
     (key (spot true n part.Key) refl (suc d) e (λ x. (line b n ▹ colon_on) x rest) (line_parts b n colon_on rest)) (λ x off. walks_line b n colon_on KC BC (suc d) d x rest off colon_walk) in
     let question_walk : (e : Cursor) → Walks (word (63 ∷ []) ▹ key_on) (λ ks. KK (kinds.KeyMark ∷ ks)) (λ bs. tokens.key ∷ BK bs) (suc d) d e rest =
     λ e. both (word (63 ∷ [])) key_on (λ ks. kinds.KeyMark ∷ ks) KK (λ bs. tokens.key ∷ bs) BK (suc d) (suc d) d e rest (key_walks law d e (λ x. key_on x rest)) (λ x off. key_walk x) in
-    let whole = walks_line b n (word (63 ∷ []) ▹ key_on) (λ ks. KK (kinds.KeyMark ∷ ks)) (λ bs. tokens.key ∷ BK bs) (suc d) d c rest dark question_walk in
+    let whole = walks_line b n (word (63 ∷ []) ▹ key_on) (λ ks. KK (kinds.KeyMark ∷ ks)) (λ bs. tokens.key ∷ BK bs) (suc d) d c rest bare question_walk in
     subst (λ (t : Bool). Walks (before_key p.settings true n true t ▹ (node_layout p (spot true n (key_part t)) k ▹ (before_value p.settings true n t ▹ value_on)))
     (λ ks. kinds.FlowMappingEnd ∷ pairs_kinds (pair k v ps) ks) (λ bs. pairs_bodies ds (pair k v ps) (tokens.flow_mapping_end ∷ bs)) (suc d) d c rest)
     (sym (not_simple s ds k)) whole
 
 pairs_more : GapReads → (s : Settings) (ds : List TagDirective) (k v : Node) (ps : Pairs) → FirstPairsWalk s ds (pair k v ps) → MorePairsWalk s ds (pair k v ps)
 unfolding pairs_layout before_key
-pairs_more law s ds k v ps whole n d c rest dark =
+pairs_more law s ds k v ps whole n d c rest bare =
     let p = canonically s ds in
     both (char 44) (pairs_layout p true n true (pair k v ps)) (λ ks. kinds.FlowEntry ∷ ks) (λ ks. kinds.FlowMappingEnd ∷ pairs_kinds (pair k v ps) ks) (λ bs. tokens.flow_entry ∷ bs)
     (λ bs. pairs_bodies ds (pair k v ps) (tokens.flow_mapping_end ∷ bs)) (suc d) (suc d) d c rest (comma_walks law (suc d) c (λ e. pairs_layout p true n true (pair k v ps) e rest)) (λ e off. whole n d e rest off)
 
 items_closed : GapReads → (s : Settings) (ds : List TagDirective) → MoreWalks s ds no_nodes
 unfolding items_layout closer items_kinds items_bodies
-items_closed law s ds n d c rest dark =
+items_closed law s ds n d c rest bare =
     let b = s.line_break in
     let m = n - s.indent in
     both (char 44) (line b m ▹ char 93) (λ ks. kinds.FlowEntry ∷ ks) (λ ks. kinds.FlowSequenceEnd ∷ ks) (λ bs. tokens.flow_entry ∷ bs) (λ bs. tokens.flow_sequence_end ∷ bs) (suc d) (suc d) d c rest
@@ -245,7 +245,7 @@ items_closed law s ds n d c rest dark =
 
 pairs_closed : GapReads → (s : Settings) (ds : List TagDirective) → MorePairsWalk s ds no_pairs
 unfolding pairs_layout closer pairs_kinds pairs_bodies
-pairs_closed law s ds n d c rest dark =
+pairs_closed law s ds n d c rest bare =
     let b = s.line_break in
     let m = n - s.indent in
     both (char 44) (line b m ▹ char 125) (λ ks. kinds.FlowEntry ∷ ks) (λ ks. kinds.FlowMappingEnd ∷ ks) (λ bs. tokens.flow_entry ∷ bs) (λ bs. tokens.flow_mapping_end ∷ bs) (suc d) (suc d) d c rest
@@ -254,11 +254,11 @@ pairs_closed law s ds n d c rest dark =
 
 items_none : GapReads → (s : Settings) (ds : List TagDirective) → FirstWalks s ds no_nodes
 unfolding items_layout closer items_kinds items_bodies
-items_none law s ds n d c rest dark = sequence_closes law d c rest
+items_none law s ds n d c rest bare = sequence_closes law d c rest
 
 pairs_none : GapReads → (s : Settings) (ds : List TagDirective) → FirstPairsWalk s ds no_pairs
 unfolding pairs_layout closer pairs_kinds pairs_bodies
-pairs_none law s ds n d c rest dark = mapping_closes law d c rest
+pairs_none law s ds n d c rest bare = mapping_closes law d c rest
 
 sequence_walks : GapReads → AnchorReads → (s : Settings) (ds : List TagDirective) → TagWalks ds → (q : Start) (items : Nodes) → IsWritableAnchor q.anchor → IsWritableTag q.tag → FirstWalks s ds items → NodeWalks s ds (sequence_node q items)
 unfolding node_layout node_kinds node_bodies
@@ -271,7 +271,7 @@ sequence_walks law names s ds tags q items ga gt all at off d c rest ends =
     properties_if law names p tags q.anchor q.tag ga gt inner (λ ks. KI (kinds.FlowSequenceStart ∷ ks)) (λ bs. tokens.flow_sequence_start ∷ BI bs) d d rest (gap_blank _ rest)
     (λ k. both (opener 91) (checked n ▹ items_layout p true n true items) (λ ks. kinds.FlowSequenceStart ∷ ks) KI (λ bs. tokens.flow_sequence_start ∷ bs) BI d (suc d) d k rest
     (sequence_opens law d k (λ e. (checked n ▹ items_layout p true n true items) e rest))
-    (λ e dark. walks_checked n (items_layout p true n true items) KI BI (suc d) d e rest (all n d e rest dark))) c
+    (λ e bare. walks_checked n (items_layout p true n true items) KI BI (suc d) d e rest (all n d e rest bare))) c
 
 mapping_walks : GapReads → AnchorReads → (s : Settings) (ds : List TagDirective) → TagWalks ds → (q : Start) (pairs : Pairs) → IsWritableAnchor q.anchor → IsWritableTag q.tag → FirstPairsWalk s ds pairs → NodeWalks s ds (mapping_node q pairs)
 unfolding node_layout node_kinds node_bodies
@@ -284,7 +284,7 @@ mapping_walks law names s ds tags q pairs ga gt all at off d c rest ends =
     properties_if law names p tags q.anchor q.tag ga gt inner (λ ks. KI (kinds.FlowMappingStart ∷ ks)) (λ bs. tokens.flow_mapping_start ∷ BI bs) d d rest (gap_blank _ rest)
     (λ k. both (opener 123) (checked n ▹ pairs_layout p true n true pairs) (λ ks. kinds.FlowMappingStart ∷ ks) KI (λ bs. tokens.flow_mapping_start ∷ bs) BI d (suc d) d k rest
     (mapping_opens law d k (λ e. (checked n ▹ pairs_layout p true n true pairs) e rest))
-    (λ e dark. walks_checked n (pairs_layout p true n true pairs) KI BI (suc d) d e rest (all n d e rest dark))) c
+    (λ e bare. walks_checked n (pairs_layout p true n true pairs) KI BI (suc d) d e rest (all n d e rest bare))) c
 
 alias_node_walks : GapReads → AnchorReads → (s : Settings) (ds : List TagDirective) (name : List ℕ) → IsWritable (alias_node name) → NodeWalks s ds (alias_node name)
 unfolding node_layout node_kinds node_bodies

@@ -177,7 +177,7 @@ walks_gap a K B d e c rest w text p ws s l = from_here a K B d e rest text ws (g
 
 pub walks_line : (b : LineBreak) (n : ℕ) (a : Layout) (K : List Kind → List Kind) (B : List TokenBody → List TokenBody) (d e : ℕ) (c : Cursor) (rest : Rest) → c.bare ≡ false → ((c : Cursor) → Walks a K B d e c rest)
     → Walks (line b n ▹ a) K B d e c rest
-walks_line b n a K B d e c rest dark w text p ws s l = from_here a K B d e rest text ws (line_here b n text c p ws d (λ k. a k rest) dark s l) w
+walks_line b n a K B d e c rest bare w text p ws s l = from_here a K B d e rest text ws (line_here b n text c p ws d (λ k. a k rest) bare s l) w
 
 pub deep_bytes : (b : Bool) (t : List Item) → bytes (deep_if b t) ≡ bytes t
 unfolding encode
@@ -193,7 +193,7 @@ pub both : (a b : Layout) (K L : List Kind → List Kind) (B C : List TokenBody 
     → Walks (a ▹ b) (λ ks. L (K ks)) (λ bs. B (C bs)) d f c rest
 both a b K L B C d e f c rest w v text p ws s l =
     let g = w text p ws s l in
-    let h = v g.behind g.dark text g.place g.words g.stage g.left in
+    let h = v g.behind g.bare text g.place g.words g.stage g.left in
     record {
       behind = h.behind;
       place = h.place;
@@ -202,7 +202,7 @@ both a b K L B C d e f c rest w v text p ws s l =
       left = h.left;
       kinds = h.kinds ∙ ap (λ (ks : List Kind). L ks) g.kinds;
       bodies = λ bs. h.bodies bs ∙ g.bodies (C bs);
-      dark = h.dark;
+      bare = h.bare;
     }
 
 -- ---- a word

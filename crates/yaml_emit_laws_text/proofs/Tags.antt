@@ -1,5 +1,5 @@
 -- Tags as words.
-use Rattle.std.proofs.Common.{◌≡◌, ℕ, ◌+◌, ◌&&◌, nat_lt, Bool, true, false, List, [], ◌∷◌, ◌++◌, length, Some, Result, Ok, refl, sym, ap, subst, ◌∙◌, arith}
+use Rattle.std.proofs.Common.{◌≡◌, ℕ, ◌+◌, nat_lt, Bool, true, false, List, [], ◌∷◌, ◌++◌, length, Some, Result, Ok, refl, sym, ap, subst, ◌∙◌}
 use Rattle.yaml_emit_laws_canonical.specs.scan_history.scan_model.Marks.{byte}
 use Rattle.yaml_emit_laws_canonical.specs.scan_history.scan_model.Wrong.{Wrong}
 use Rattle.yaml_emit_laws_canonical.specs.scan_history.scan_words.Tags.{TagText, tag_at, may_end_tag}
@@ -21,38 +21,27 @@ use Rattle.yaml_emit_laws_text.specs.Walk.{Has, Left, bytes, Walks}
 use Rattle.yaml_emit_laws_text.proofs.Forms.{BeginsBlank, TagWalks, MarkWalks}
 use Rattle.yaml_emit_laws_text.proofs.Places.{has_front, has_at, left_first, left_rest}
 use Rattle.yaml_emit_laws_text.proofs.Steps.{Sign, sign_begins, sign_kind, push, word_of, walks_gap, letter_low}
-use Rattle.yaml_emit_laws_text.proofs.Words.{sign, darker}
-
-and_left : (a b : Bool) → (a && b) ≡ true → a ≡ true
-and_left true b e = refl
-and_left false b e = absurd (cc)
-
-and_right : (a b : Bool) → (a && b) ≡ true → b ≡ true
-and_right true b e = e
-and_right false b e = absurd (cc)
-
-more_than : (n : ℕ) → n + 1 ≡ 0 → ⊥
-more_than n e = omega arith
+use Rattle.yaml_emit_laws_text.proofs.Words.{sign, and_left, and_right, more_than, lettered_on}
 
 -- letters in ASCII, and the cursor behind them
 pub record Letters (xs : List ℕ) (c : Cursor) : Type 0 where
   pub behind : Cursor
   pub same : (rest : Rest) → bytes (letters xs c rest) ≡ xs ++ bytes (rest behind)
   pub white : c.white ≡ false → behind.white ≡ false
-  pub dark : c.bare ≡ false → behind.bare ≡ false
+  pub bare : c.bare ≡ false → behind.bare ≡ false
   pub column : (c.column ≡ 0 → ⊥) → behind.column ≡ 0 → ⊥
   pub kept : behind.kept ≡ c.kept
 
 pub letters_are : (xs : List ℕ) → are_ascii xs ≡ true → (c : Cursor) → Letters xs c
 unfolding letters
-letters_are [] are c = record { behind = c; same = λ rest. refl; white = λ e. e; dark = λ e. e; column = λ h z. h z; kept = refl }
+letters_are [] are c = record { behind = c; same = λ rest. refl; white = λ e. e; bare = λ e. e; column = λ h z. h z; kept = refl }
 letters_are (x ∷ xs) are c =
-    let r = letters_are xs (and_right (nat_lt x 128) (are_ascii xs) are) (darker c) in
+    let r = letters_are xs (and_right (nat_lt x 128) (are_ascii xs) are) (lettered_on c) in
     record {
       behind = r.behind;
-      same = λ rest. letter_low x (letters xs (darker c) rest) (and_left (nat_lt x 128) (are_ascii xs) are) ∙ ap (λ (t : List ℕ). x ∷ t) (r.same rest);
+      same = λ rest. letter_low x (letters xs (lettered_on c) rest) (and_left (nat_lt x 128) (are_ascii xs) are) ∙ ap (λ (t : List ℕ). x ∷ t) (r.same rest);
       white = λ e. r.white refl;
-      dark = λ e. r.dark refl;
+      bare = λ e. r.bare refl;
       column = λ h. r.column (λ z. more_than c.column z);
       kept = r.kept;
     }
@@ -89,9 +78,9 @@ word_walks law more low body reads b K B d e rest spaced w c =
     walks_gap (letters (33 ∷ more) ▹ b) (λ ks. K (kinds.Tag ∷ ks)) (λ bs. body ∷ B bs) d e c rest
     (λ c text p ws stage l.
     let xs = 33 ∷ more in
-    let r = letters_are more low (darker c) in
+    let r = letters_are more low (lettered_on c) in
     let k : Rest = λ x. b x rest in
-    let same : bytes (letters xs c k) ≡ xs ++ bytes (k r.behind) = letter_low 33 (letters more (darker c) k) refl ∙ ap (λ (t : List ℕ). 33 ∷ t) (r.same k) in
+    let same : bytes (letters xs c k) ≡ xs ++ bytes (k r.behind) = letter_low 33 (letters more (lettered_on c) k) refl ∙ ap (λ (t : List ℕ). 33 ∷ t) (r.same k) in
     let m = subst (λ (bs : List ℕ). Left text p bs) same l in
     let h = left_first text p 33 (more ++ bytes (k r.behind)) m in
     let o = left_rest text p xs (bytes (k r.behind)) m in
@@ -102,7 +91,7 @@ word_walks law more low body reads b K B d e rest spaced w c =
     let next = push law text c r.behind p ws d kinds.Tag said stage (sign_begins text p 33 mark_sign h) (sign_kind (nat_lt 0 d) text p 33 kinds.Tag mark_sign h (λ a. mark_kind (nat_lt 0 d) a))
     (reads (nat_lt 0 d) text p (has_front text p xs (bytes (k r.behind)) m.has) space) refl (r.column (λ z. more_than c.column z)) r.kept in
     let g = w r.behind text q (word_of kinds.Tag p said ∷ ws) next o in
-    record { behind = g.behind; place = g.place; words = g.words; stage = g.stage; left = g.left; kinds = g.kinds; bodies = λ bs. g.bodies bs; dark = g.dark })
+    record { behind = g.behind; place = g.place; words = g.words; stage = g.stage; left = g.left; kinds = g.kinds; bodies = λ bs. g.bodies bs; bare = g.bare })
 
 pub mark_walks : GapReads → LoneMarkReads → MarkWalks
 mark_walks law lone b K B d e rest spaced w c =

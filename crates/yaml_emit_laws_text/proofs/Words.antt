@@ -57,7 +57,7 @@ one_byte body p = record { body = body; end = p + 1; reached = p + 1; broke = fa
 pub letter_walks : GapReads → (b : ℕ) (k : Kind) (body : TokenBody) (d : ℕ) (e : Cursor → Cursor) → Sign b → ((alone : Bool) → indicator_of (nat_lt 0 d) alone b ≡ Some k)
     → ((text : List ℕ) (p : ℕ) → word_at k (nat_lt 0 d) 0 text p ≡ Ok (one_byte body p)) → is_end k ≡ false → ((c : Cursor) → (e c).column ≡ 0 → ⊥) → ((c : Cursor) → (e c).bare ≡ false) → ((c : Cursor) → (e c).kept ≡ c.kept) → (c : Cursor) (rest : Rest)
     → Walks (λ c rest. letter b ∷ rest (e c)) (λ ks. k ∷ ks) (λ bs. body ∷ bs) d (depth_after k d) c rest
-letter_walks law b k body d e s is reads more column dark kept c rest text p ws stage l =
+letter_walks law b k body d e s is reads more column bare kept c rest text p ws stage l =
     let m = left_letter text p b (rest (e c)) s.low l in
     let h = left_first text p b (bytes (rest (e c))) m in
     record {
@@ -68,14 +68,14 @@ letter_walks law b k body d e s is reads more column dark kept c rest text p ws 
       left = left_more text p b (bytes (rest (e c))) m;
       kinds = refl;
       bodies = λ bs. refl;
-      dark = dark c;
+      bare = bare c;
     }
 
-more_than : (n : ℕ) → n + 1 ≡ 0 → ⊥
+pub more_than : (n : ℕ) → n + 1 ≡ 0 → ⊥
 more_than n e = omega arith
 
-abbrev pub darker : Cursor → Cursor
-darker c = record { column = c.column + 1; white = false; bare = false; kept = c.kept }
+abbrev pub lettered_on : Cursor → Cursor
+lettered_on c = record { column = c.column + 1; white = false; bare = false; kept = c.kept }
 
 abbrev opened : Cursor → Cursor
 opened c = record { column = c.column + 1; white = true; bare = false; kept = c.kept }
@@ -85,7 +85,7 @@ comma_sign = sign 44 refl refl refl refl refl refl refl refl refl refl
 
 pub comma_walks : GapReads → (d : ℕ) (c : Cursor) (rest : Rest) → Walks (char 44) (λ ks. kinds.FlowEntry ∷ ks) (λ bs. tokens.flow_entry ∷ bs) d d c rest
 unfolding indicator_of word_at
-comma_walks law d c rest = letter_walks law 44 kinds.FlowEntry tokens.flow_entry d darker comma_sign (λ a. refl) (λ t p. refl) refl (λ c z. more_than c.column z) (λ c. refl) (λ c. refl) c rest
+comma_walks law d c rest = letter_walks law 44 kinds.FlowEntry tokens.flow_entry d lettered_on comma_sign (λ a. refl) (λ t p. refl) refl (λ c z. more_than c.column z) (λ c. refl) (λ c. refl) c rest
 
 down : (d : ℕ) → suc d - 1 ≡ d
 down d = omega arith
@@ -100,13 +100,13 @@ pub sequence_closes : GapReads → (d : ℕ) (c : Cursor) (rest : Rest) → Walk
 unfolding indicator_of word_at
 sequence_closes law d c rest =
     to_depth (char 93) (λ ks. kinds.FlowSequenceEnd ∷ ks) (λ bs. tokens.flow_sequence_end ∷ bs) (suc d) (suc d - 1) d c rest (down d)
-    (letter_walks law 93 kinds.FlowSequenceEnd tokens.flow_sequence_end (suc d) darker (sign 93 refl refl refl refl refl refl refl refl refl refl) (λ a. refl) (λ t p. refl) refl (λ c z. more_than c.column z) (λ c. refl) (λ c. refl) c rest)
+    (letter_walks law 93 kinds.FlowSequenceEnd tokens.flow_sequence_end (suc d) lettered_on (sign 93 refl refl refl refl refl refl refl refl refl refl) (λ a. refl) (λ t p. refl) refl (λ c z. more_than c.column z) (λ c. refl) (λ c. refl) c rest)
 
 pub mapping_closes : GapReads → (d : ℕ) (c : Cursor) (rest : Rest) → Walks (char 125) (λ ks. kinds.FlowMappingEnd ∷ ks) (λ bs. tokens.flow_mapping_end ∷ bs) (suc d) d c rest
 unfolding indicator_of word_at
 mapping_closes law d c rest =
     to_depth (char 125) (λ ks. kinds.FlowMappingEnd ∷ ks) (λ bs. tokens.flow_mapping_end ∷ bs) (suc d) (suc d - 1) d c rest (down d)
-    (letter_walks law 125 kinds.FlowMappingEnd tokens.flow_mapping_end (suc d) darker (sign 125 refl refl refl refl refl refl refl refl refl refl) (λ a. refl) (λ t p. refl) refl (λ c z. more_than c.column z) (λ c. refl) (λ c. refl) c rest)
+    (letter_walks law 125 kinds.FlowMappingEnd tokens.flow_mapping_end (suc d) lettered_on (sign 125 refl refl refl refl refl refl refl refl refl refl) (λ a. refl) (λ t p. refl) refl (λ c z. more_than c.column z) (λ c. refl) (λ c. refl) c rest)
 
 pub sequence_opens : GapReads → (d : ℕ) (c : Cursor) (rest : Rest) → Walks (opener 91) (λ ks. kinds.FlowSequenceStart ∷ ks) (λ bs. tokens.flow_sequence_start ∷ bs) d (suc d) c rest
 unfolding indicator_of word_at
@@ -137,13 +137,13 @@ pub key_walks : GapReads → (d : ℕ) (c : Cursor) (rest : Rest) → Walks (wor
 unfolding word_at letters
 key_walks law d c rest =
     walks_gap (char 63) (λ ks. kinds.KeyMark ∷ ks) (λ bs. tokens.key ∷ bs) (suc d) (suc d) c rest
-    (λ c. letter_walks law 63 kinds.KeyMark tokens.key (suc d) darker (sign 63 refl refl refl refl refl refl refl refl refl refl) (λ a. key_indicator (nat_lt 0 (suc d)) a (inside d)) (λ t p. refl) refl (λ c z. more_than c.column z) (λ c. refl) (λ c. refl) c rest)
+    (λ c. letter_walks law 63 kinds.KeyMark tokens.key (suc d) lettered_on (sign 63 refl refl refl refl refl refl refl refl refl refl) (λ a. key_indicator (nat_lt 0 (suc d)) a (inside d)) (λ t p. refl) refl (λ c z. more_than c.column z) (λ c. refl) (λ c. refl) c rest)
 
 pub value_walks : GapReads → (d : ℕ) (c : Cursor) (rest : Rest) → Walks (word (58 ∷ [])) (λ ks. kinds.ValueMark ∷ ks) (λ bs. tokens.value ∷ bs) (suc d) (suc d) c rest
 unfolding word_at letters
 value_walks law d c rest =
     walks_gap (char 58) (λ ks. kinds.ValueMark ∷ ks) (λ bs. tokens.value ∷ bs) (suc d) (suc d) c rest
-    (λ c. letter_walks law 58 kinds.ValueMark tokens.value (suc d) darker (sign 58 refl refl refl refl refl refl refl refl refl refl) (λ a. value_indicator (nat_lt 0 (suc d)) a (inside d)) (λ t p. refl) refl (λ c z. more_than c.column z) (λ c. refl) (λ c. refl) c rest)
+    (λ c. letter_walks law 58 kinds.ValueMark tokens.value (suc d) lettered_on (sign 58 refl refl refl refl refl refl refl refl refl refl) (λ a. value_indicator (nat_lt 0 (suc d)) a (inside d)) (λ t p. refl) refl (λ c z. more_than c.column z) (λ c. refl) (λ c. refl) c rest)
 
 -- ---- names
 
@@ -151,7 +151,7 @@ value_walks law d c rest =
 record Lettered (xs : List ℕ) (c : Cursor) (rest : Rest) : Type 0 where
   behind : Cursor
   same : bytes (letters xs c rest) ≡ xs ++ bytes (rest behind)
-  dark : c.bare ≡ false → behind.bare ≡ false
+  bare : c.bare ≡ false → behind.bare ≡ false
   column : (c.column ≡ 0 → ⊥) → behind.column ≡ 0 → ⊥
   kept : behind.kept ≡ c.kept
 
@@ -159,11 +159,11 @@ alpha_low : (b : ℕ) → is_alpha_byte b ≡ true → nat_lt b 128 ≡ true
 unfolding is_alpha_byte is_digit_byte
 alpha_low b h = grind (arith, nat_tests)
 
-and_left : (a b : Bool) → (a && b) ≡ true → a ≡ true
+pub and_left : (a b : Bool) → (a && b) ≡ true → a ≡ true
 and_left true b e = refl
 and_left false b e = absurd (cc)
 
-and_right : (a b : Bool) → (a && b) ≡ true → b ≡ true
+pub and_right : (a b : Bool) → (a && b) ≡ true → b ≡ true
 and_right true b e = e
 and_right false b e = absurd (cc)
 
@@ -173,13 +173,13 @@ low_letter x t e = rw e refl
 
 lettered : (xs : List ℕ) → are_alphas xs ≡ true → (c : Cursor) (rest : Rest) → Lettered xs c rest
 unfolding letters
-lettered [] are c rest = record { behind = c; same = refl; dark = λ e. e; column = λ h z. h z; kept = refl }
+lettered [] are c rest = record { behind = c; same = refl; bare = λ e. e; column = λ h z. h z; kept = refl }
 lettered (x ∷ xs) are c rest =
-    let r = lettered xs (and_right (is_alpha_byte x) (are_alphas xs) are) (darker c) rest in
+    let r = lettered xs (and_right (is_alpha_byte x) (are_alphas xs) are) (lettered_on c) rest in
     record {
       behind = r.behind;
-      same = low_letter x (letters xs (darker c) rest) (alpha_low x (and_left (is_alpha_byte x) (are_alphas xs) are)) ∙ ap (λ (t : List ℕ). x ∷ t) r.same;
-      dark = λ e. r.dark refl;
+      same = low_letter x (letters xs (lettered_on c) rest) (alpha_low x (and_left (is_alpha_byte x) (are_alphas xs) are)) ∙ ap (λ (t : List ℕ). x ∷ t) r.same;
+      bare = λ e. r.bare refl;
       column = λ h. r.column (λ z. more_than c.column z);
       kept = r.kept;
     }
@@ -187,11 +187,11 @@ lettered (x ∷ xs) are c rest =
 part_cases : (b : ℕ) → parts b ≡ true → (b ≡ 44) ⊎ ((b ≡ 10) ⊎ (b ≡ 13))
 part_cases b h = grind (arith, nat_tests)
 
-some_break : (c d : ℕ) → nat_lt 0 (break_of 13 c d) ≡ true
+pub some_break : (c d : ℕ) → nat_lt 0 (break_of 13 c d) ≡ true
 unfolding break_of
 some_break c d = elim (cases_Bool (c == 10)) [ inl e ↦ rw e refl | inr e ↦ rw e refl ]
 
-line_break : (c d : ℕ) → nat_lt 0 (break_of 10 c d) ≡ true
+pub line_break : (c d : ℕ) → nat_lt 0 (break_of 10 c d) ≡ true
 unfolding break_of
 line_break c d = refl
 
@@ -234,12 +234,12 @@ unfolding letters
 alias_walks law names name some are d c rest ends =
     walks_gap (letters (42 ∷ name)) (λ ks. kinds.Alias ∷ ks) (λ bs. tokens.alias name ∷ bs) d d c rest
     (λ c text p ws stage l.
-    let r = lettered name are (darker c) rest in
-    let m = left_letter text p 42 (letters name (darker c) rest) refl l in
-    let h = left_first text p 42 (bytes (letters name (darker c) rest)) m in
-    let n = subst (λ (bs : List ℕ). Left text (p + 1) bs) r.same (left_more text p 42 (bytes (letters name (darker c) rest)) m) in
+    let r = lettered name are (lettered_on c) rest in
+    let m = left_letter text p 42 (letters name (lettered_on c) rest) refl l in
+    let h = left_first text p 42 (bytes (letters name (lettered_on c) rest)) m in
+    let n = subst (λ (bs : List ℕ). Left text (p + 1) bs) r.same (left_more text p 42 (bytes (letters name (lettered_on c) rest)) m) in
     let o = left_rest text (p + 1) name (bytes (rest r.behind)) n in
-    let e = ends r.behind (r.dark refl) in
+    let e = ends r.behind (r.bare refl) in
     let stop = parts_end text (p + 1 + length name) (first (bytes (rest r.behind))) (left_zero text (p + 1 + length name) (bytes (rest r.behind)) o e) e in
     let q = p + 1 + length name in
     let said : WordText = record { body = tokens.alias name; end = q; reached = q; broke = false } in
@@ -253,7 +253,7 @@ alias_walks law names name some are d c rest ends =
       left = o;
       kinds = refl;
       bodies = λ bs. refl;
-      dark = r.dark refl;
+      bare = r.bare refl;
     })
 
 anchor_sign : Sign 38
@@ -274,20 +274,20 @@ space_ends text p h = rw h refl
 record Letters (xs : List ℕ) (c : Cursor) : Type 0 where
   behind : Cursor
   same : (rest : Rest) → bytes (letters xs c rest) ≡ xs ++ bytes (rest behind)
-  dark : c.bare ≡ false → behind.bare ≡ false
+  bare : c.bare ≡ false → behind.bare ≡ false
   white : c.white ≡ false → behind.white ≡ false
   column : (c.column ≡ 0 → ⊥) → behind.column ≡ 0 → ⊥
   kept : behind.kept ≡ c.kept
 
 letters_are : (xs : List ℕ) → are_alphas xs ≡ true → (c : Cursor) → Letters xs c
 unfolding letters
-letters_are [] are c = record { behind = c; same = λ rest. refl; dark = λ e. e; white = λ e. e; column = λ h z. h z; kept = refl }
+letters_are [] are c = record { behind = c; same = λ rest. refl; bare = λ e. e; white = λ e. e; column = λ h z. h z; kept = refl }
 letters_are (x ∷ xs) are c =
-    let r = letters_are xs (and_right (is_alpha_byte x) (are_alphas xs) are) (darker c) in
+    let r = letters_are xs (and_right (is_alpha_byte x) (are_alphas xs) are) (lettered_on c) in
     record {
       behind = r.behind;
-      same = λ rest. low_letter x (letters xs (darker c) rest) (alpha_low x (and_left (is_alpha_byte x) (are_alphas xs) are)) ∙ ap (λ (t : List ℕ). x ∷ t) (r.same rest);
-      dark = λ e. r.dark refl;
+      same = λ rest. low_letter x (letters xs (lettered_on c) rest) (alpha_low x (and_left (is_alpha_byte x) (are_alphas xs) are)) ∙ ap (λ (t : List ℕ). x ∷ t) (r.same rest);
+      bare = λ e. r.bare refl;
       white = λ e. r.white refl;
       column = λ h. r.column (λ z. more_than c.column z);
       kept = r.kept;
@@ -301,11 +301,11 @@ unfolding letters
 anchor_walks law names name some are b K B d e rest spaced w c =
     walks_gap (letters (38 ∷ name) ▹ b) (λ ks. K (kinds.Anchor ∷ ks)) (λ bs. tokens.anchor name ∷ B bs) d e c rest
     (λ c text p ws stage l.
-    let r = letters_are name are (darker c) in
+    let r = letters_are name are (lettered_on c) in
     let k : Rest = λ x. b x rest in
-    let m = left_letter text p 38 (letters name (darker c) k) refl l in
-    let h = left_first text p 38 (bytes (letters name (darker c) k)) m in
-    let n = subst (λ (bs : List ℕ). Left text (p + 1) bs) (r.same k) (left_more text p 38 (bytes (letters name (darker c) k)) m) in
+    let m = left_letter text p 38 (letters name (lettered_on c) k) refl l in
+    let h = left_first text p 38 (bytes (letters name (lettered_on c) k)) m in
+    let n = subst (λ (bs : List ℕ). Left text (p + 1) bs) (r.same k) (left_more text p 38 (bytes (letters name (lettered_on c) k)) m) in
     let o = left_rest text (p + 1) name (bytes (k r.behind)) n in
     let blank = spaced r.behind (r.white refl) in
     let q = p + 1 + length name in
@@ -315,7 +315,7 @@ anchor_walks law names name some are b K B d e rest spaced w c =
     let stage2 = push law text c r.behind p ws d kinds.Anchor said stage (sign_begins text p 38 anchor_sign h) (sign_kind (nat_lt 0 d) text p 38 kinds.Anchor anchor_sign h (λ a. anchor_kind (nat_lt 0 d) a))
     (anchor_word (nat_lt 0 d) text p ∙ named tokens.anchor (anchor_at contexts.Anchor text p) name q reads) refl (r.column (λ z. more_than c.column z)) r.kept in
     let g = w r.behind text q (word_of kinds.Anchor p said ∷ ws) stage2 o in
-    record { behind = g.behind; place = g.place; words = g.words; stage = g.stage; left = g.left; kinds = g.kinds; bodies = λ bs. g.bodies bs; dark = g.dark })
+    record { behind = g.behind; place = g.place; words = g.words; stage = g.stage; left = g.left; kinds = g.kinds; bodies = λ bs. g.bodies bs; bare = g.bare })
 
 -- ---- double quoted scalars
 
@@ -365,5 +365,5 @@ quoted_walks law quoted page value utf8 deep d c rest =
       left = left_rest text p bs (bytes (rest r.behind)) m;
       kinds = refl;
       bodies = λ bs. refl;
-      dark = r.dark;
+      bare = r.bare;
     })

@@ -16,12 +16,13 @@ use Rattle.yaml_emit_laws_canonical.specs.Bodies.{node_bodies, documents_bodies}
 use Rattle.yaml_emit_laws_text.specs.Writable.{IsWritable, IsWritableOpening, AreWritable}
 use Rattle.yaml_emit_laws_text.specs.Walk.{Walks, Parts}
 
--- Wherever a text goes on as the canonical layout of a node that may be written, it goes on with the node's words. The node is no
--- simple key, which canonical form doesn't have, and a comma or a break comes behind it.
+-- Wherever a text goes on as the canonical layout of a node that may be written, it goes on with
+-- the node's words. The node is no simple key, which canonical form doesn't have, and a comma or a
+-- break comes behind it.
 abbrev pub NodesAreWords : Type 0
 NodesAreWords = (s : Settings) → s.canonical ≡ true → 0 < s.indent → (o : Opening)
-    → IsWritableOpening o → (n : Node) → IsWritable n → (at : Spot) → is_simple_part at.part ≡ false
-    → (d : ℕ) (c : Cursor) (rest : Rest) → Parts rest
+    → IsWritableOpening o → (n : Node) → IsWritable n
+    → (at : Spot) → is_simple_part at.part ≡ false → (d : ℕ) (c : Cursor) (rest : Rest) → Parts rest
     → Walks (node_layout (context_of s o.directives) at n) (node_kinds n)
     (node_bodies o.directives n) d d c rest
 
@@ -35,9 +36,10 @@ pub record IsReadAs (s : SpelledText) (bs : List TokenBody) : Type 0 where
   pub read : offline s ≡ record { tokens = tokens; fault = None }
   pub same : map (λ (t : Token). t.body) tokens ≡ bs
 
--- The canonical text of documents that may be written is read as their tokens, whatever encoding is told.
+-- The canonical text of documents that may be written is read as their tokens, whatever encoding is
+-- told.
 abbrev pub CanonicalTextIsRead : Type 0
-CanonicalTextIsRead = (s : Settings) → s.canonical ≡ true → 0 < s.indent
-    → (x : yaml_encoding_t) (ds : List Document) → AreWritable ds
+CanonicalTextIsRead = (s : Settings) → s.canonical ≡ true → 0 < s.indent → (x : yaml_encoding_t)
+    → (ds : List Document) → AreWritable ds
     → IsReadAs (record { encoding = x; text = text_of_documents s ds })
     (stream_start x ∷ documents_bodies false ds)

@@ -46,8 +46,8 @@ abbrev pub bytes : List Item → List ℕ
 bytes t = encode Utf8 t
 
 -- Behind the words ws stand more, up to a place from which on the text goes on with `rest`.
-pub record Goes (text : List ℕ) (rest : Rest) (d : ℕ) (ks : List Kind) (B : List TokenBody
-    → List TokenBody) (ws : List Word) : Type 0 where
+pub record Goes (text : List ℕ) (rest : Rest) (d : ℕ) (ks : List Kind)
+    (B : List TokenBody → List TokenBody) (ws : List Word) : Type 0 where
   pub behind : Cursor
   pub place : ℕ
   pub words : List Word
@@ -55,7 +55,7 @@ pub record Goes (text : List ℕ) (rest : Rest) (d : ℕ) (ks : List Kind) (B : 
   pub left : Left text place (bytes (rest behind))
   pub kinds : word_kinds words ≡ ks
   pub bodies : (bs : List TokenBody) → told words bs ≡ told ws (B bs)
-  pub dark : behind.bare ≡ false
+  pub bare : behind.bare ≡ false
 
 -- Where a text goes on as the layout does and then as `rest`, these kinds and these tokens come.
 abbrev pub Walks : Layout → (List Kind → List Kind) → (List TokenBody → List TokenBody) → ℕ → ℕ

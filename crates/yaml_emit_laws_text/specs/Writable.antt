@@ -1,4 +1,5 @@
--- What may be written: names of alphas, tags of one byte at least, texts in UTF-8, and directives without problem.
+-- What may be written: names of alphas, tags of one byte at least, texts in UTF-8, and directives
+-- without problem.
 use Rattle.std.specs.Prelude.{◌≡◌, ℕ, ◌<◌, true, List, [], ◌∷◌, length, Option, Some, None, IsUtf8}
 use Rattle.yaml_emit_laws_canonical.specs.scan_history.scan_words.Written.{are_alphas}
 use Rattle.yaml_emit_laws_canonical.specs.emit_layout.Content.{Node, alias_node, scalar_node, sequence_node, mapping_node, Nodes, no_nodes, node, Pairs, no_pairs, pair, Opening, Document}
@@ -20,10 +21,10 @@ abbrev mutual
   pub IsWritable : Node → Type 0
   IsWritable (alias_node name) = IsWritableName name
   IsWritable (scalar_node x) = IsWritableAnchor x.anchor × IsWritableTag x.tag × IsUtf8 x.value
-  IsWritable (sequence_node q items) = IsWritableAnchor q.anchor × IsWritableTag q.tag
-      × AreItemsWritable items
-  IsWritable (mapping_node q pairs) = IsWritableAnchor q.anchor × IsWritableTag q.tag
-      × ArePairsWritable pairs
+  IsWritable (sequence_node q items) =
+      IsWritableAnchor q.anchor × IsWritableTag q.tag × AreItemsWritable items
+  IsWritable (mapping_node q pairs) =
+      IsWritableAnchor q.anchor × IsWritableTag q.tag × ArePairsWritable pairs
 
   pub AreItemsWritable : Nodes → Type 0
   AreItemsWritable no_nodes = Unit {0}

@@ -6,7 +6,7 @@ use Rattle.yaml_scan_model.specs.declared.problem.Context.TheVariants as context
 use Rattle.yaml_scan_model.specs.Marks.{byte, break_of, break_width, is_blank as is_blank_byte, is_blank_or_end}
 use Rattle.yaml_scan_model.specs.Classes.{is_alpha_byte, is_digit_byte, is_blank, is_digit, is_break}
 use Rattle.yaml_scan_words.specs.Runs.{belongs, run_end}
-use Rattle.yaml_scan_words.specs.Uris.{is_sign, is_wide_sign, is_uri}
+use Rattle.yaml_scan_words.specs.Uris.{is_punctuation, is_wide_punctuation, is_uri}
 use Rattle.yaml_scan_words.specs.Tags.{name_end, parts_at, tag_at}
 use Rattle.yaml_scan_words.specs.Directives.{comment_end, break_end, line_end_at}
 use Rattle.yaml_scan_words.proofs.RunsLemmas.{belongs_inside, run_more, run_stop}
@@ -133,8 +133,8 @@ line_ends text p h = line_by _ text p (break_no_blank text p h) (no_hash text p 
 
 -- ---- `!` alone
 
-space_plain : (32 == 37 || (is_alpha_byte 32 || (is_sign 32 || (false && is_wide_sign 32)))) ≡ false
-unfolding is_alpha_byte is_digit_byte is_sign is_wide_sign
+space_plain : (32 == 37 || (is_alpha_byte 32 || (is_punctuation 32 || (false && is_wide_punctuation 32)))) ≡ false
+unfolding is_alpha_byte is_digit_byte is_punctuation is_wide_punctuation
 space_plain = refl
 
 pub lone_mark_is_read : (flow : Bool) (text : List ℕ) (p : ℕ) → byte text p ≡ 33 → byte text (p + 1) ≡ 32 → tag_at flow text p ≡ Ok record { handle = []; suffix = 33 ∷ []; end = p + 1 }

@@ -14,7 +14,7 @@ use Rattle.yaml_parse_grammar.specs.Trees as trees
 use Rattle.yaml_parse_grammar.specs.Machine.{Outcome}
 use Rattle.yaml_parse_grammar.specs.Resolve.{Directives, no_directives, Reading, Settled, gave, noted, settle, read_on, reading, with_version, with_tag, is_known_version}
 use Rattle.yaml_parse_grammar.specs.Remaining.{reading_of}
-use Rattle.yaml_parse_grammar.proofs.Complete.{stream_runs}
+use Rattle.yaml_parse_grammar.proofs.CompleteStream.{stream_runs}
 use Rattle.yaml_emit_laws_canonical.specs.emit_layout.Content.{Opening, Document}
 use Rattle.yaml_emit_laws_canonical.specs.emit_layout.Nodes.{is_directed}
 use Rattle.yaml_emit_laws_canonical.specs.emit_layout.Grammar.{opening_problem}
@@ -32,7 +32,7 @@ pub nodes_parsed : NodesAreParsed
 nodes_parsed o e = nodes_grown o.directives (resolving o e)
 
 -- an item that changes the directives
-turn_says : (s : Settled) (b : EventBody) (D : Directives) (i : item.Item) (n : ℕ) (k : Directives → Reading) → s ≡ gave b D → Says (λ es. b ∷ es) (read_on s i n k) (k D)
+turn_says : (s : Settled) (b : EventBody) (D : Directives) (i : item.RawEvent) (n : ℕ) (k : Directives → Reading) → s ≡ gave b D → Says (λ es. b ∷ es) (read_on s i n k) (k D)
 turn_says s b D i n k e = let P : Settled → Type 0 = λ x. Says (λ es. b ∷ es) (read_on x i n k) (k D) in subst P (sym e) (record { events = refl; ending = refl })
 
 item_says : (g : Given) (gs : List Given) (f : Option Fault) (D E : Directives) (b : EventBody) → settle g.0 D ≡ gave b E → Says (λ es. b ∷ es) (reading (g ∷ gs) f D) (reading gs f E)

@@ -4,8 +4,6 @@
 
 mod error;
 mod load;
-#[cfg(test)]
-mod tests;
 mod value;
 
 pub use error::LookupError;

@@ -1,4 +1,4 @@
-//! Command lines over scripted streams.
+//! Command lines over scripted streams, and values looked up by their keys.
 #![tactic(auto)]
 
 #[cfg(test)]
@@ -7,6 +7,8 @@ mod answers;
 mod check;
 #[cfg(test)]
 mod files;
+#[cfg(test)]
+mod lookups;
 #[cfg(test)]
 mod refusals;
 #[cfg(test)]

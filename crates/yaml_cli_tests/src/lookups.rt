@@ -1,5 +1,7 @@
-use crate::{LookupError, load_mapping, lookup, value_of};
+//! Values looked up by their keys.
+
 use std::test::Fail;
+use yaml_cli_lookup::{LookupError, load_mapping, lookup, value_of};
 use yaml_scan::yaml_encoding_t;
 
 const UTF8: yaml_encoding_t = yaml_encoding_t::YAML_UTF8_ENCODING;

@@ -1,6 +1,7 @@
 //! What a parser does at a token: decide by the token's kind, then build from the moved token; and resolving.
 #![tactic(auto)]
 
+mod building;
 mod choosing;
 mod handles;
 mod item;

@@ -1,19 +1,20 @@
 //! What taking a token gives, built from the moved token.
 
-ghost use Rattle.std.specs.Prelude.{◌≡◌, ◌++◌, ◌∷◌, OnOk, IfOk, IsOkAnd, false, Some, None};
+ghost use Rattle.std.specs.Prelude.{◌≡◌, ◌++◌, ◌∷◌, OnOk, IfOk, false, Some, None};
 ghost use Rattle.yaml_parse_grammar.specs.declared.name.Site.TheVariants.{IndentlessEntry};
 ghost use Rattle.yaml_parse_grammar.specs.declared.name.Brackets.TheVariants as brackets;
 ghost use Rattle.yaml_parse_grammar.specs.declared.name.Side.TheVariants.{Key};
 ghost use Rattle.yaml_parse_model.specs.Tokens.{token_of, body_of as token_body_of};
-ghost use Rattle.yaml_parse_grammar.specs.Items.{item_at, node_at};
+ghost use Rattle.yaml_parse_grammar.specs.Items.{node_at};
 ghost use Rattle.yaml_parse_grammar.specs.Items as item;
 ghost use Rattle.yaml_parse_model.specs.declared.yaml_sequence_style_t.TheVariants.{YAML_BLOCK_SEQUENCE_STYLE};
 ghost use Rattle.yaml_parse_model.specs.declared.yaml_mapping_style_t.TheVariants.{YAML_BLOCK_MAPPING_STYLE};
-ghost use Rattle.yaml_parse_grammar.specs.Trees.{flow_shape, end_event, event_at};
+ghost use Rattle.yaml_parse_grammar.specs.Trees.{flow_shape, end_event};
 ghost use Rattle.yaml_parse_grammar.specs.States as state;
 ghost use Rattle.yaml_parse_grammar.specs.Machine.{not_taken, taken_at, documents_taken, content_taken, node_taken, with_properties_taken, items_taken, more_taken, stream_taken, entries_taken, pairs_taken, pair_taken};
-ghost use Rattle.yaml_parse_machine.specs.Views.{properties_of, properties_option_of, shape_of, plain_of, item_body_of, given_of, state_of, stack_of};
+ghost use Rattle.yaml_parse_machine.specs.Views.{properties_of, properties_option_of, shape_of, plain_of, given_of, state_of, stack_of};
 
+use crate::building::{give, node, tell};
 use crate::choosing::wants;
 use crate::item::{Properties, RawEvent, RawEventBody, Resolved, Shape, State, Tag};
 use crate::pushing::{
@@ -26,66 +27,6 @@ use yaml_parse_grammar::{Brackets, Side, Site, Wants};
 use yaml_parse_model::{
     yaml_mapping_style_t, yaml_mark_t, yaml_sequence_style_t, yaml_token_body_t, yaml_token_t,
 };
-
-// ---- items
-
-// An item in the slot.
-fn give(
-    slot: &mut RawEvent,
-    body: RawEventBody,
-    from: yaml_mark_t,
-    to: yaml_mark_t,
-) -> Result<bool, AllocError>
-    ensures { IsOkAnd result (λ b. given_of b slot.new
-        ≡ Some (item_at (item_body_of body) from to)) }
-{
-    slot.body = body;
-    slot.from = from;
-    slot.to = to;
-    Ok(true)
-}
-
-// The token's own event in the slot.
-// Inlined: its event is known, so that it is built in the slot.
-#[inline(always)]
-fn tell(slot: &mut RawEvent, event: Resolved, token: &yaml_token_t) -> Result<bool, AllocError>
-    ensures { IsOkAnd result (λ b. given_of b slot.new
-        ≡ Some (event_at (plain_of event) token.now.start_mark token.now.end_mark)) }
-{
-    slot.body = RawEventBody::Event(event);
-    slot.from = token.start_mark;
-    slot.to = token.end_mark;
-    Ok(true)
-}
-
-// Where a node begins, whose first token but properties begins there.
-fn beginning(properties: &Option<Box<Properties>>, start: yaml_mark_t) -> yaml_mark_t
-    ensures { result ≡ (node_at (properties_option_of properties.now) item.empty start start).from }
-{
-    match *properties {
-        None => start,
-        Some(ref p) => p.from,
-    }
-}
-
-// A node behind its properties, if it has any, whose first token that is.
-// Inlined: its shape is known, so that it is built in the slot.
-#[inline(always)]
-fn node(
-    slot: &mut RawEvent,
-    properties: Option<Box<Properties>>,
-    shape: Shape,
-    token: &yaml_token_t,
-) -> Result<bool, AllocError>
-    ensures { IsOkAnd result (λ b. given_of b slot.new
-        ≡ Some (node_at (properties_option_of properties) (shape_of shape) token.now.start_mark
-        token.now.end_mark)) }
-{
-    slot.from = beginning(&properties, token.start_mark);
-    slot.to = token.end_mark;
-    slot.body = RawEventBody::Node { properties, shape };
-    Ok(true)
-}
 
 // A new box for the properties of a node.
 fn new_room(

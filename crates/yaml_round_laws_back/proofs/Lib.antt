@@ -1,0 +1,2 @@
+mod Premises
+mod Joining

@@ -1,0 +1,36 @@
+-- Canonical text reads back.
+use Rattle.std.specs.Prelude.{◌≡◌, ℕ, true, false, List, ◌∷◌}
+use Rattle.yaml_round_content.specs.round_laws.emit_laws_streams.scan.declared.yaml_encoding_t.TheVariants.{YAML_ANY_ENCODING}
+use Rattle.yaml_round_content.specs.round_laws.emit_laws_streams.scan.Tokens.{Token, TokenBody}
+use Rattle.yaml_round_content.specs.round_laws.emit_laws_streams.scan.Tokens as token
+use Rattle.yaml_round_content.specs.round_laws.emit_laws_streams.scan.Scanned.{scanned}
+use Rattle.yaml_round_content.specs.round_laws.emit_laws_streams.emit.emit_text.declared.RequestedSettings.{RequestedSettings}
+use Rattle.yaml_round_content.specs.Said.{Document, HasContent}
+use Rattle.yaml_round_content.specs.Canon.{written_documents, canon, canon_encoding}
+use Rattle.yaml_round_laws_bytes.specs.Laws.{encoding_named}
+use Rattle.yaml_round_laws_tree.specs.Laws.{token_bodies}
+use Rattle.yaml_round_laws_tree.specs.Adapting.{without_fault}
+use Rattle.yaml_round_laws_tree.specs.back_canon.Bodies.{documents_bodies}
+use Rattle.yaml_round_laws_back.specs.Writable.{AreWritable}
+
+-- With the encoding detected, the bytes are scanned as tokens with these bodies, without fault.
+pub record IsScannedAs (bytes : List ℕ) (bs : List TokenBody) : Type 0 where
+  pub tokens : List Token
+  pub read : scanned YAML_ANY_ENCODING bytes ≡ without_fault tokens
+  pub same : token_bodies tokens ≡ bs
+
+-- Canonical text is scanned as the tokens of the content's documents.
+abbrev pub CanonIsScanned : Type 0
+CanonIsScanned = (w : RequestedSettings) → w.canonical ≡ true → (c : List Document) → AreWritable c
+    → IsScannedAs (canon w c) (token.stream_start (encoding_named (canon_encoding w))
+    ∷ documents_bodies false (written_documents c))
+
+-- Canonical text is accepted, and says the content. No setting but the form counts.
+abbrev pub CanonReadsBack : Type 0
+CanonReadsBack = (w : RequestedSettings) → w.canonical ≡ true → (c : List Document) → AreWritable c
+    → HasContent YAML_ANY_ENCODING (canon w c) c
+
+-- Contents of one canonical text are one.
+abbrev pub CanonTellsContents : Type 0
+CanonTellsContents = (w : RequestedSettings) → w.canonical ≡ true → (c e : List Document)
+    → AreWritable c → AreWritable e → canon w c ≡ canon w e → c ≡ e

@@ -25,12 +25,12 @@ CanonIsScanned = (w : RequestedSettings) → w.canonical ≡ true → (c : List 
     → IsScannedAs (canon w c) (token.stream_start (encoding_named (canon_encoding w))
     ∷ documents_bodies false (written_documents c))
 
--- Canonical text is accepted, and says the content. No setting but the form counts.
+-- Canonical text is accepted, and says the content, whatever else is set.
 abbrev pub CanonReadsBack : Type 0
 CanonReadsBack = (w : RequestedSettings) → w.canonical ≡ true → (c : List Document) → AreWritable c
     → HasContent YAML_ANY_ENCODING (canon w c) c
 
--- Contents of one canonical text are one.
+-- Contents that may be written and have one canonical text are one.
 abbrev pub CanonTellsContents : Type 0
 CanonTellsContents = (w : RequestedSettings) → w.canonical ≡ true → (c e : List Document)
     → AreWritable c → AreWritable e → canon w c ≡ canon w e → c ≡ e

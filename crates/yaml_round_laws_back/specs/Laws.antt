@@ -1,12 +1,17 @@
--- Canonical text reads back.
+-- Canonical text reads back, and is a normal form of what inputs say.
 use Rattle.std.specs.Prelude.{◌≡◌, ℕ, true, false, List, ◌∷◌}
+use Rattle.yaml_round_content.specs.round_laws.emit_laws_streams.scan.declared.yaml_encoding_t.{yaml_encoding_t}
 use Rattle.yaml_round_content.specs.round_laws.emit_laws_streams.scan.declared.yaml_encoding_t.TheVariants.{YAML_ANY_ENCODING}
 use Rattle.yaml_round_content.specs.round_laws.emit_laws_streams.scan.Tokens.{Token, TokenBody}
 use Rattle.yaml_round_content.specs.round_laws.emit_laws_streams.scan.Tokens as token
 use Rattle.yaml_round_content.specs.round_laws.emit_laws_streams.scan.Scanned.{scanned}
 use Rattle.yaml_round_content.specs.round_laws.emit_laws_streams.emit.emit_text.declared.RequestedSettings.{RequestedSettings}
+use Rattle.yaml_round_content.specs.round_laws.emit_laws_streams.emit.Emitter.{IsStream}
 use Rattle.yaml_round_content.specs.Said.{Document, HasContent}
-use Rattle.yaml_round_content.specs.Canon.{written_documents, canon, canon_encoding}
+use Rattle.yaml_round_content.specs.Events.{emitter_events}
+use Rattle.yaml_round_content.specs.Input.{events_of}
+use Rattle.yaml_round_content.specs.Laws.{AreCanonical}
+use Rattle.yaml_round_content.specs.Canon.{written_documents, canon, canon_encoding, canon_items}
 use Rattle.yaml_round_laws_bytes.specs.Laws.{encoding_named}
 use Rattle.yaml_round_laws_tree.specs.Laws.{token_bodies}
 use Rattle.yaml_round_laws_tree.specs.Adapting.{without_fault}
@@ -34,3 +39,25 @@ CanonReadsBack = (w : RequestedSettings) → w.canonical ≡ true → (c : List 
 abbrev pub CanonTellsContents : Type 0
 CanonTellsContents = (w : RequestedSettings) → w.canonical ≡ true → (c e : List Document)
     → AreWritable c → AreWritable e → canon w c ≡ canon w e → c ≡ e
+
+-- ---- of inputs
+
+-- For every input that is accepted, and all settings: the canonical text of what it says is accepted, with its encoding detected,
+-- and says exactly that.
+abbrev pub CanonicalReadsBack : Type 0
+CanonicalReadsBack = (from : yaml_encoding_t) (input : List ℕ) (c : List Document)
+    → HasContent from input c → (w : RequestedSettings) → w.canonical ≡ true
+    → HasContent YAML_ANY_ENCODING (canon w c) c
+
+-- Inputs whose contents have one canonical text have one content.
+abbrev pub CanonTellsInputs : Type 0
+CanonTellsInputs = (w : RequestedSettings) → w.canonical ≡ true
+    → (a_from b_from : yaml_encoding_t) (a b : List ℕ) (c e : List Document)
+    → HasContent a_from a c → HasContent b_from b e → canon w c ≡ canon w e → c ≡ e
+
+-- What is laid out for the events of a canonical text is that text again.
+abbrev pub CanonIsLaidOutAgain : Type 0
+CanonIsLaidOutAgain = (from : yaml_encoding_t) (input : List ℕ) (c : List Document)
+    → HasContent from input c → (w : RequestedSettings) → AreCanonical w
+    → IsStream w (canon_encoding w)
+    (emitter_events true (events_of YAML_ANY_ENCODING (canon w c))) (canon_items w c)

@@ -4,4 +4,7 @@
 
 mod laws;
 
-pub use laws::{canon_is_scanned, canon_reads_back, canon_tells_contents};
+pub use laws::{
+    canon_is_laid_out_again, canon_is_scanned, canon_reads_back, canon_tells_contents,
+    canon_tells_inputs, canonical_reads_back,
+};

@@ -48,7 +48,7 @@ unfolding documents_say
 documents_writable [] h = tt
 documents_writable (d ∷ ds) h =
     let (root, rest) = node_writable d.root (event.document_end true ∷ documents_say ds) h.1 in
-    ((h.0, root), documents_writable ds rest.1)
+    (record { opening = h.0.0; prefixes = h.0.1; root = root }, documents_writable ds rest.1)
 
 pub are_writable : InputsAreWritable
 are_writable from input c has =

@@ -1,0 +1,7 @@
+mod Tokens
+mod Scalars
+mod Flags
+mod Decoded
+mod Utf8
+mod Events
+mod Contents

@@ -1,0 +1,2 @@
+pub mod Writable
+pub mod Laws

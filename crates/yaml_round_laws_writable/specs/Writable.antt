@@ -1,5 +1,6 @@
--- What may be written of a content: names of alphas, tags and values in UTF-8, directives without problem. No tag is empty, and
--- no scalar's is `!`, which says in a text that an untagged scalar isn't plain.
+-- What may be written of a content: names of alphas, tags and values in UTF-8, directives that an
+-- emitter takes. No tag is empty, and no scalar's is `!`: canonical text has that in front of an
+-- untagged scalar that doesn't count as plain.
 use Rattle.std.specs.Prelude.{◌≡◌, ℕ, ◌<◌, true, List, [], ◌∷◌, length, codes, Option, Some, None}
 use Rattle.std.specs.List.{list_all}
 use Rattle.std.specs.Str.{IsUtf8}
@@ -45,7 +46,7 @@ abbrev pub HavePrefixes : List TagDirective → Type 0
 HavePrefixes [] = Unit {0}
 HavePrefixes (d ∷ ds) = IsUtf8 d.prefix × HavePrefixes ds
 
--- A document that may be written: an emitter takes its directives.
+-- a document that may be written
 pub record IsWritableDocument (d : Document) : Type 0 where
   pub opening : opening_problem (written_document d).opening ≡ None
   pub prefixes : HavePrefixes d.directives

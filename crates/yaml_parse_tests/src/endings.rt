@@ -1,12 +1,13 @@
 //! What a parser answers behind its end and behind a fault.
 
+use crate::loads::next_of;
 use std::alloc::Global;
 use std::process::Abort;
 use std::test::Fail;
 use yaml_parse::{
     yaml_encoding_t, yaml_error_type_t, yaml_event_type_t, yaml_fault_t, yaml_mark_t,
-    yaml_origin_t, yaml_parser_initialize, yaml_parser_load, yaml_parser_parse, yaml_parser_prefix,
-    yaml_parser_t, yaml_token_body_t, yaml_token_source_t, yaml_token_t,
+    yaml_origin_t, yaml_parser_initialize, yaml_parser_parse, yaml_parser_prefix, yaml_parser_t,
+    yaml_token_body_t, yaml_token_source_t, yaml_token_t,
 };
 use yaml_parse_list::{yaml_token_list_t, yaml_token_utf8};
 use yaml_round_adapter::yaml_adapter_t;
@@ -82,9 +83,9 @@ fn load_is_refused<R: AllocGlobal + Abort>(
 ) -> Result<(), Fail> {
     let mut parser = parser_of(rt.alloc(), text)?;
     for _ in 0..before {
-        let _ = yaml_parser_load(&mut parser)?;
+        let _ = next_of(rt, &mut parser)?;
     }
-    let fault = yaml_parser_load(&mut parser).err().ok_or("accepted")?;
+    let fault = next_of(rt, &mut parser).err().ok_or("accepted")?;
     assert_eq!(rt; fault.problem, problem);
     assert_eq!(rt;
         yaml_parser_prefix(&parser).problem_mark,

@@ -11,7 +11,7 @@ use yaml_parse::{
 use yaml_round_adapter::yaml_adapter_t;
 
 // The next document, of a parser that stands between two.
-fn next_of<R: Abort>(
+pub(crate) fn next_of<R: Abort>(
     rt: &R,
     parser: &mut yaml_parser_t<yaml_adapter_t>,
 ) -> Result<yaml_document_t, yaml_fault_t> {

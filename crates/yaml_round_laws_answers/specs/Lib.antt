@@ -1,0 +1,2 @@
+pub mod Normal
+pub mod Laws

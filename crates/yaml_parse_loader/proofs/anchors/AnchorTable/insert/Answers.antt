@@ -6,5 +6,5 @@ use Rattle.yaml_parse_loader.proofs.anchors.AnchorTable.insert.Goals as goal
 pub returns-clause-ok : goal.returns-clause-ok
 returns-clause-ok c =
     ap (λ es. finite.from_entries (map entry_of es)) c.in_ok-insert.ensures.entries
-    ∙ inserted c.self.inside.entries.entries c.args.name c.args.node
-    ∙ ap (λ m. finite.insert m c.args.name.items c.args.node) c.self.view_is
+    ∙ inserted c.self.inside.entries.entries c.args.name c.args.number
+    ∙ ap (λ m. finite.insert m c.args.name.items c.args.number) c.self.view_is

@@ -1,5 +1,5 @@
 -- What feeding a loader with a parser's events comes to.
-use Rattle.std.proofs.Common.{◌≡◌, ◌⊎◌, ◌<◌, ℕ, inl, inr, List, [], ◌∷◌, length, Option, Some, None, Bool, true, Result, Ok, Err, refl, sym, ap, subst, ◌∙◌, arith}
+use Rattle.std.proofs.Common.{◌≡◌, ◌⊎◌, ◌<◌, ℕ, ℤ, inl, inr, List, [], ◌∷◌, length, Option, Some, None, Bool, true, refl, sym, ap, subst, ◌∙◌, arith}
 use Rattle.yaml_scan.specs.declared.yaml_error_type_t.TheVariants.{YAML_MEMORY_ERROR}
 use Rattle.yaml_scan.specs.Faults.{Fault}
 use Rattle.yaml_scan.specs.declared.yaml_mark_t.{yaml_mark_t}
@@ -7,12 +7,10 @@ use Rattle.std.specs.FinMap as map
 use Rattle.yaml_parse_model.specs.Events.{Event, EventBody}
 use Rattle.yaml_parse_model.specs.Events as event
 use Rattle.yaml_parse_grammar.specs.Stacks.{parts_documents_behind}
-use Rattle.yaml_parse_loader.specs.declared.Anchored.{Anchored}
-use Rattle.yaml_parse_loader.specs.Anchors.{Anchors}
 use Rattle.yaml_parse_document.specs.Documents.{Document, no_document}
 use Rattle.yaml_parse_grammar.specs.Resolve.{Told}
 use Rattle.yaml_parse_grammar.specs.Remaining.{ParserRemaining, IsFinished, FaultOf}
-use Rattle.yaml_parse_loader.specs.Loading.{Loading, Fed, goes_on, loaded, refused, nothing_loaded, step, step_body, aliased, entered, load, turn}
+use Rattle.yaml_parse_loader.specs.Loading.{Loading, Fed, goes_on, loaded, refused, nothing_loaded, step, step_body, aliased, load, turn}
 use Rattle.yaml_parse.specs.Finds.{GivesNext, GivesEnd}
 use Rattle.yaml_parse.specs.Loads.{Loads, load_on, behind_all, loads, loads_of, LoadGives, LoadRefuses, KeepsLoading, told_events, LoadsSame}
 
@@ -69,13 +67,9 @@ load_refused i o n n' l e f k h r p q = record {
 
 -- ---- behind a document
 
-aliased_on : (o : Option Anchored) (at : yaml_mark_t) (l : Loading) (d : Document) → aliased o at l ≡ loaded d → ⊥
+aliased_on : (o : Option ℤ) (at : yaml_mark_t) (l : Loading) (d : Document) → aliased o at l ≡ loaded d → ⊥
 aliased_on None at l d e = cc
-aliased_on (Some a) at l d e = cc
-
-entered_on : (r : Result Anchors Fault) (go : Anchors → Loading) (d : Document) → entered r go ≡ loaded d → ⊥
-entered_on (Ok known) go d e = cc
-entered_on (Err f) go d e = cc
+aliased_on (Some n) at l d e = cc
 
 parted : (b : EventBody) (from to : yaml_mark_t) (l : Loading) (d : Document) → step_body b from to l ≡ loaded d → parts_documents_behind b ≡ true
 parted event.no from to l d e = refl
@@ -84,9 +78,9 @@ parted event.stream_end from to l d e = refl
 parted (event.document_end implicit) from to l d e = refl
 parted (event.document_start version directives implicit) from to l d e = cc
 parted (event.alias name) from to l d e = absurd (aliased_on (map.get l.anchors name) from l d e)
-parted (event.scalar anchor tag value plain quoted style) from to l d e = absurd (entered_on _ _ d e)
-parted (event.sequence_start anchor tag implicit style) from to l d e = absurd (entered_on _ _ d e)
-parted (event.mapping_start anchor tag implicit style) from to l d e = absurd (entered_on _ _ d e)
+parted (event.scalar anchor tag value plain quoted style) from to l d e = cc
+parted (event.sequence_start anchor tag implicit style) from to l d e = cc
+parted (event.mapping_start anchor tag implicit style) from to l d e = cc
 parted event.sequence_end from to l d e = cc
 parted event.mapping_end from to l d e = cc
 

@@ -12,10 +12,11 @@ use yaml_parse_loader::Loader;
 use yaml_parse_model::yaml_token_source_t;
 use yaml_scan::yaml_fault_t;
 
-/// The next document, its nodes numbered from 1 in preorder; behind the last one a document without root. Also refused,
-/// with kind 5, for an alias that no node before it anchors (`found undefined alias`), and for a second node with an anchor
-/// (`second occurrence`). What stands behind a document is left; behind a refusal nothing is to come. No document may be
-/// half taken, which `yaml_parser_between` tells; none is afterwards.
+/// The next document, its nodes numbered from 1 in preorder; behind the last one a document without root. An alias stands
+/// for the last node before it in preorder that has its anchor, a node that encloses it counting from its own start; an
+/// anchor may occur again. Also refused, with kind 5, for an alias without such a node in its document (`found undefined
+/// alias`). What stands behind a document is left; behind a refusal nothing is to come. No document may be half taken,
+/// which `yaml_parser_between` tells; none is afterwards.
 pub fn yaml_parser_load<S: yaml_token_source_t>(
     parser: &mut yaml_parser_t<S>,
 ) -> Result<yaml_document_t, yaml_fault_t>

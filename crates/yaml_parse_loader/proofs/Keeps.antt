@@ -11,10 +11,9 @@ use Rattle.yaml_parse_model.specs.Nodes.{Node, NodeBody}
 use Rattle.yaml_parse_model.specs.Nodes as node
 use Rattle.yaml_parse_document.specs.Documents.{IsDocument, IsId, IsSoundBody, IsSoundNode, AreSound, change_place, str_tag, seq_tag, map_tag}
 use Rattle.yaml_parse_document.proofs.Sound.{wider_id, wider_ids, wider_pairs, with_node_sound, length_push, length_change, sound_change, sound_ids_push, sound_pairs_push, str_utf8, seq_utf8, map_utf8}
-use Rattle.yaml_parse_loader.specs.declared.anchors.Anchored.{Anchored}
 use Rattle.yaml_parse_loader.specs.Anchors.{Anchors}
-use Rattle.yaml_parse_loader.specs.Numbering.{Head, is_bang, loaded_tag, named, known_with}
-use Rattle.yaml_parse_loader.specs.Loading.{Open, open_sequence, open_mapping, Loading, nothing_loaded, attached, attach, next, with_leaf, with_open, filled, filled_body, place_of, closed, Fed, goes_on, loaded, refused, entered, aliased, head_of, enter, step_body}
+use Rattle.yaml_parse_loader.specs.Numbering.{is_bang, loaded_tag}
+use Rattle.yaml_parse_loader.specs.Loading.{Open, open_sequence, open_mapping, Loading, nothing_loaded, attached, attach, next, with_leaf, with_open, filled, filled_body, place_of, closed, Fed, goes_on, loaded, refused, aliased, named, step_body}
 use Rattle.yaml_parse_loader.specs.Sound.{IsIdOption, IsSoundOpen, AreSoundOpen, AreAnchors, IsLoading}
 
 abbrev pub FedSound : Fed → Type 0
@@ -36,9 +35,9 @@ wider_levels : (m n : ℕ) (os : List Open) → m ≤ n → AreSoundOpen m os �
 wider_levels m n [] h s = tt
 wider_levels m n (o ∷ os) h s = (wider_open m n o h s.0, wider_levels m n os h s.1)
 
-pub wider_found : (m n : ℕ) (o : Option Anchored) → m ≤ n → IfSome o (λ a. IsId m a.number) → IfSome o (λ a. IsId n a.number)
+pub wider_found : (m n : ℕ) (o : Option ℤ) → m ≤ n → IfSome o (λ i. IsId m i) → IfSome o (λ i. IsId n i)
 wider_found m n None h s = s
-wider_found m n (Some a) h s = wider_id m n a.number h s
+wider_found m n (Some i) h s = wider_id m n i h s
 
 -- ---- numbers put where they belong
 
@@ -72,26 +71,20 @@ open_sound l n o known empty s = record { document = s.document; levels = (empty
 
 -- ---- anchors
 
-pub inserted_sound : (m : ℕ) (b : Bool) (new : Anchored) (o : Option Anchored) → IsId m new.number → IfSome o (λ a. IsId m a.number) → IfSome (cond b (Some new) o) (λ a. IsId m a.number)
+pub inserted_sound : (m : ℕ) (b : Bool) (new : ℤ) (o : Option ℤ) → IsId m new → IfSome o (λ i. IsId m i) → IfSome (cond b (Some new) o) (λ i. IsId m i)
 inserted_sound m true new o h s = h
 inserted_sound m false new o h s = s
 
-named_sound : (m : ℕ) (name : List ℕ) (new : Anchored) (known : Anchors) (o : Option Anchored) (go : Anchors → Loading)
-    → ((ks : Anchors) → AreAnchors m ks → IsLoading (go ks)) → AreAnchors m known → IsId m new.number → FedSound (entered (named name new known o) go)
-named_sound m name new known None go goes s h =
-    goes _ (λ q. subst (λ (o : Option Anchored). IfSome o (λ a. IsId m a.number)) (sym (map.get-insert nat_list_cmp_total known name new q))
-    (inserted_sound m (eq_by_cmp (slice_cmp nat_cmp) q name) new (map.get known q) h (s q)))
-named_sound m name new known (Some first) go goes s h = tt
+named_sound : (m : ℕ) (anchor : Option (List ℕ)) (new : ℤ) (known : Anchors) → AreAnchors m known → IsId m new → AreAnchors m (named anchor new known)
+named_sound m None new known s h = s
+named_sound m (Some name) new known s h = λ q.
+    subst (λ (o : Option ℤ). IfSome o (λ i. IsId m i)) (sym (map.get-insert nat_list_cmp_total known name new q))
+    (inserted_sound m (eq_by_cmp (slice_cmp nat_cmp) q name) new (map.get known q) h (s q))
 
-entered_sound : (m : ℕ) (anchor : Option (List ℕ)) (new : Anchored) (known : Anchors) (go : Anchors → Loading)
-    → ((ks : Anchors) → AreAnchors m ks → IsLoading (go ks)) → AreAnchors m known → IsId m new.number → FedSound (entered (known_with anchor new known) go)
-entered_sound m None new known go goes s h = goes known s
-entered_sound m (Some name) new known go goes s h = named_sound m name new known (map.get known name) go goes s h
-
-node_sound : (l : Loading) (h : Head) (go : Anchors → Loading) → IsLoading l
-    → ((ks : Anchors) → AreAnchors (suc (length l.document.nodes)) ks → IsLoading (go ks)) → FedSound (entered (enter l h) go)
-node_sound l h go s goes =
-    entered_sound (suc (length l.document.nodes)) h.anchor _ l.anchors go goes
+-- the anchors behind one node more
+next_sound : (l : Loading) (anchor : Option (List ℕ)) → IsLoading l → AreAnchors (suc (length l.document.nodes)) (named anchor (next l) l.anchors)
+next_sound l anchor s =
+    named_sound (suc (length l.document.nodes)) anchor (next l) l.anchors
     (λ q. wider_found _ _ (map.get l.anchors q) (omega arith) (s.anchors q)) (last_id _)
 
 -- ---- tags
@@ -132,12 +125,12 @@ closed_sound to l (o ∷ os) s h =
 
 -- ---- each event
 
-aliased_sound : (o : Option Anchored) (from : yaml_mark_t) (l : Loading) → IsLoading l → IfSome o (λ a. IsId (length l.document.nodes) a.number) → FedSound (aliased o from l)
+aliased_sound : (o : Option ℤ) (from : yaml_mark_t) (l : Loading) → IsLoading l → IfSome o (λ i. IsId (length l.document.nodes) i) → FedSound (aliased o from l)
 aliased_sound None from l s h = tt
-aliased_sound (Some a) from l s h = record { document = s.document; levels = attach_sound _ a.number l.levels h s.levels; anchors = s.anchors }
+aliased_sound (Some i) from l s h = record { document = s.document; levels = attach_sound _ i l.levels h s.levels; anchors = s.anchors }
 
 pub no_anchors : (m : ℕ) → AreAnchors m map.empty
-no_anchors m name = subst (λ (o : Option Anchored). IfSome o (λ a. IsId m a.number)) (sym (map.get-empty (slice_cmp nat_cmp) name)) tt
+no_anchors m name = subst (λ (o : Option ℤ). IfSome o (λ i. IsId m i)) (sym (map.get-empty (slice_cmp nat_cmp) name)) tt
 
 pub nothing_sound : IsLoading nothing_loaded
 nothing_sound = record { document = record { directives = tt; nodes = tt }; levels = tt; anchors = no_anchors 0 }
@@ -151,10 +144,10 @@ step_sound (event.document_start version directives implicit) from to l s h =
 step_sound (event.document_end implicit) from to l s h = record { directives = s.document.directives; nodes = s.document.nodes }
 step_sound (event.alias name) from to l s h = aliased_sound (map.get l.anchors name) from l s (s.anchors name)
 step_sound (event.scalar anchor tag value plain quoted style) from to l s h =
-    node_sound l (head_of anchor tag from to) _ s (λ ks a. leaf_sound l _ ks s (loaded_utf8 tag str_tag str_utf8 h.1, h.2) a)
+    leaf_sound l _ _ s (loaded_utf8 tag str_tag str_utf8 h.1, h.2) (next_sound l anchor s)
 step_sound (event.sequence_start anchor tag implicit style) from to l s h =
-    node_sound l (head_of anchor tag from to) _ s (λ ks a. open_sound l _ _ ks (λ m. tt) (leaf_sound l _ ks s (loaded_utf8 tag seq_tag seq_utf8 h.1, tt) a))
+    open_sound l _ _ _ (λ m. tt) (leaf_sound l _ _ s (loaded_utf8 tag seq_tag seq_utf8 h.1, tt) (next_sound l anchor s))
 step_sound event.sequence_end from to l s h = closed_sound to l l.levels s s.levels
 step_sound (event.mapping_start anchor tag implicit style) from to l s h =
-    node_sound l (head_of anchor tag from to) _ s (λ ks a. open_sound l _ _ ks (λ m. (tt, tt)) (leaf_sound l _ ks s (loaded_utf8 tag map_tag map_utf8 h.1, tt) a))
+    open_sound l _ _ _ (λ m. (tt, tt)) (leaf_sound l _ _ s (loaded_utf8 tag map_tag map_utf8 h.1, tt) (next_sound l anchor s))
 step_sound event.mapping_end from to l s h = closed_sound to l l.levels s s.levels

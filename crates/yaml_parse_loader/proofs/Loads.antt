@@ -1,6 +1,8 @@
 -- The loader makes of the events of content what the content's numbering says.
-use Rattle.std.proofs.Common.{◌≡◌, ◌+◌, ℕ, suc, ℤ, List, [], ◌∷◌, ◌++◌, length, Option, Some, None, Result, Ok, Err, refl, ap, sym, ◌∙◌, append_assoc, append-nil, length-append}
+use Rattle.std.proofs.Common.{◌≡◌, ◌+◌, ℕ, suc, ℤ, List, [], ◌∷◌, ◌++◌, length, Option, Some, None, Result, Ok, Err, cond, refl, ap, sym, ◌∙◌, append_assoc, append-nil, length-append}
 use Rattle.std.specs.FinMap as map
+use Rattle.std.specs.Ordering.{nat_cmp}
+use Rattle.std.specs.Cmp.Lexicographic.{slice_cmp, nat_list_cmp_total}
 use Rattle.yaml_parse_model.specs.declared.yaml_mark_t.{yaml_mark_t}
 use Rattle.yaml_parse_model.specs.declared.yaml_sequence_style_t.{yaml_sequence_style_t}
 use Rattle.yaml_parse_model.specs.declared.yaml_mapping_style_t.{yaml_mapping_style_t}
@@ -11,10 +13,9 @@ use Rattle.yaml_parse_model.specs.Events as event
 use Rattle.yaml_parse_model.specs.Nodes.{Node}
 use Rattle.yaml_parse_document.specs.Documents.{Document, change_place}
 use Rattle.yaml_parse_document.proofs.Sound.{length_push}
-use Rattle.yaml_parse_loader.specs.declared.anchors.Anchored.{Anchored}
 use Rattle.yaml_parse_loader.specs.Anchors.{Anchors}
-use Rattle.yaml_parse_loader.specs.Numbering.{Head, Content, Contents, Pairs, alias, scalar, sequence, mapping, no_items, item, no_pairs, pair, spanning, events, item_events, pair_events, ◌>>=◌, known_with, anchored, alias_number, sequence_node, mapping_node, number, number_items, number_pairs, DocumentContent, document_events, document_of}
-use Rattle.yaml_parse_loader.specs.Loading.{Open, open_sequence, open_mapping, Loading, attach, next, with_open, filled, closed, entered, aliased, started, Loaded, document, turn, load, behind}
+use Rattle.yaml_parse_loader.specs.Numbering.{Head, Content, Contents, Pairs, alias, scalar, sequence, mapping, no_items, item, no_pairs, pair, spanning, events, item_events, pair_events, ◌>>=◌, Anchored, is_same, last_with, and_node, alias_number, scalar_node, sequence_node, mapping_node, number, number_items, number_pairs, DocumentContent, document_events, document_of}
+use Rattle.yaml_parse_loader.specs.Loading.{Open, open_sequence, open_mapping, Loading, attach, next, with_leaf, with_open, filled, closed, named, aliased, started, Loaded, document, turn, load, behind}
 
 behind_same : {A : Type 0} (r : Result A Fault) (f g : A → Loaded) → ((x : A) → f x ≡ g x) → behind r f ≡ behind r g
 behind_same (Ok x) f g h = h x
@@ -24,9 +25,23 @@ behind_then : {A B : Type 0} (r : Result A Fault) (f : A → Result B Fault) (g 
 behind_then (Ok x) f g = refl
 behind_then (Err e) f g = refl
 
-turn_entered : (r : Result Anchors Fault) (go : Anchors → Loading) (on : Loading → Loaded) (es : List Event) → turn (entered r go) on es ≡ behind r (λ ks. on (go ks))
-turn_entered (Ok ks) go on es = refl
-turn_entered (Err e) go on es = refl
+-- ---- the table of the nodes with an anchor
+
+abbrev table : Anchored → Anchors
+table [] = map.empty
+table (n ∷ before) = map.insert (table before) n.0 n.1
+
+-- what a name names there is the last of the nodes with it
+found_last : (name : List ℕ) (before : Anchored) → map.get (table before) name ≡ last_with name before
+found_last name [] = map.get-empty (slice_cmp nat_cmp) name
+found_last name (n ∷ before) =
+    map.get-insert nat_list_cmp_total (table before) n.0 n.1 name ∙ ap (λ (o : Option ℤ). cond (is_same name n.0) (Some n.1) o) (found_last name before)
+
+named_table : (anchor : Option (List ℕ)) (n : ℤ) (before : Anchored) → named anchor n (table before) ≡ table (and_node anchor n before)
+named_table None n before = refl
+named_table (Some name) n before = refl
+
+-- ---- what is there, and content behind it
 
 -- several numbers, and several pairs of them, put where they belong
 abbrev attach_all : List ℤ → List Open → List Open
@@ -41,12 +56,16 @@ attach_pairs (p ∷ ps) os = attach_pairs ps (attach p.value (attach p.key os))
 abbrev made : Document → List Node → List Open → Anchors → Loading
 made d ns os known = record { document = record d { nodes = ns }; levels = os; anchors = known }
 
--- numbered content behind what is there
-abbrev add : Loading → List ℤ → List Node → Anchors → Loading
-add l ids ns known = made l.document (l.document.nodes ++ ns) (attach_all ids l.levels) known
+-- with these nodes under their anchors
+abbrev behind_nodes : Loading → Anchored → Loading
+behind_nodes l before = record l { anchors = table before }
 
-abbrev add_pairs : Loading → List yaml_node_pair_t → List Node → Anchors → Loading
-add_pairs l ps ns known = made l.document (l.document.nodes ++ ns) (attach_pairs ps l.levels) known
+-- numbered content behind what is there
+abbrev add : Loading → List ℤ → List Node → Anchored → Loading
+add l ids ns before = made l.document (l.document.nodes ++ ns) (attach_all ids l.levels) (table before)
+
+abbrev add_pairs : Loading → List yaml_node_pair_t → List Node → Anchored → Loading
+add_pairs l ps ns before = made l.document (l.document.nodes ++ ns) (attach_pairs ps l.levels) (table before)
 
 attached_all : (ids items : List ℤ) (place : ℕ) (os : List Open) → attach_all ids (open_sequence place items ∷ os) ≡ open_sequence place (items ++ ids) ∷ os
 attached_all [] items place os = ap (λ is. open_sequence place is ∷ os) (sym (append-nil items))
@@ -64,92 +83,93 @@ changed_at f [] ys x = refl
 changed_at f (n ∷ xs) ys x = ap (λ ns. n ∷ ns) (changed_at f xs ys x)
 
 -- a collection that is closed is one numbered node more
-sequence_closes : (l : Loading) (h : Head) (style : yaml_sequence_style_t) (to : yaml_mark_t) (ids : List ℤ) (ns : List Node) (ks known : Anchors)
-    → (let m : Loading = add (with_open l (sequence_node h [] style h.end_mark) (open_sequence (length l.document.nodes) []) ks) ids ns known in closed to m m.levels)
-    ≡ add l (next l ∷ []) (sequence_node h ids style to ∷ ns) known
-sequence_closes l h style to ids ns ks known =
-    ap (λ (os : List Open). closed to (made l.document ((l.document.nodes ++ sequence_node h [] style h.end_mark ∷ []) ++ ns) os known) os)
+sequence_closes : (l : Loading) (h : Head) (style : yaml_sequence_style_t) (to : yaml_mark_t) (ids : List ℤ) (ns : List Node) (ks : Anchors) (before : Anchored)
+    → (let m : Loading = add (with_open l (sequence_node h [] style h.end_mark) (open_sequence (length l.document.nodes) []) ks) ids ns before in closed to m m.levels)
+    ≡ add l (next l ∷ []) (sequence_node h ids style to ∷ ns) before
+sequence_closes l h style to ids ns ks before =
+    ap (λ (os : List Open). closed to (made l.document ((l.document.nodes ++ sequence_node h [] style h.end_mark ∷ []) ++ ns) os (table before)) os)
     (attached_all ids [] (length l.document.nodes) (attach (next l) l.levels))
-    ∙ ap (λ (ms : List Node). made l.document ms (attach (next l) l.levels) known)
+    ∙ ap (λ (ms : List Node). made l.document ms (attach (next l) l.levels) (table before))
     (changed_at (filled (open_sequence (length l.document.nodes) ids) to) l.document.nodes ns (sequence_node h [] style h.end_mark))
 
-mapping_closes : (l : Loading) (h : Head) (style : yaml_mapping_style_t) (to : yaml_mark_t) (ps : List yaml_node_pair_t) (ns : List Node) (ks known : Anchors)
-    → (let m : Loading = add_pairs (with_open l (mapping_node h [] style h.end_mark) (open_mapping (length l.document.nodes) [] None) ks) ps ns known in closed to m m.levels)
-    ≡ add l (next l ∷ []) (mapping_node h ps style to ∷ ns) known
-mapping_closes l h style to ps ns ks known =
-    ap (λ (os : List Open). closed to (made l.document ((l.document.nodes ++ mapping_node h [] style h.end_mark ∷ []) ++ ns) os known) os)
+mapping_closes : (l : Loading) (h : Head) (style : yaml_mapping_style_t) (to : yaml_mark_t) (ps : List yaml_node_pair_t) (ns : List Node) (ks : Anchors) (before : Anchored)
+    → (let m : Loading = add_pairs (with_open l (mapping_node h [] style h.end_mark) (open_mapping (length l.document.nodes) [] None) ks) ps ns before in closed to m m.levels)
+    ≡ add l (next l ∷ []) (mapping_node h ps style to ∷ ns) before
+mapping_closes l h style to ps ns ks before =
+    ap (λ (os : List Open). closed to (made l.document ((l.document.nodes ++ mapping_node h [] style h.end_mark ∷ []) ++ ns) os (table before)) os)
     (attached_pairs ps [] (length l.document.nodes) (attach (next l) l.levels))
-    ∙ ap (λ (ms : List Node). made l.document ms (attach (next l) l.levels) known)
+    ∙ ap (λ (ms : List Node). made l.document ms (attach (next l) l.levels) (table before))
     (changed_at (filled (open_mapping (length l.document.nodes) ps None) to) l.document.nodes ns (mapping_node h [] style h.end_mark))
 
-alias_loads : (o : Option Anchored) (at : yaml_mark_t) (l : Loading) (rest : List Event)
-    → turn (aliased o at l) (load rest) rest ≡ behind (alias_number o at l.anchors) (λ r. load rest (add l (r.number ∷ []) r.nodes r.known))
-alias_loads None at l rest = refl
-alias_loads (Some a) at l rest = ap (λ (ns : List Node). load rest (made l.document ns (attach a.number l.levels) l.anchors)) (sym (append-nil l.document.nodes))
+alias_loads : (o : Option ℤ) (at : yaml_mark_t) (l : Loading) (before : Anchored) (rest : List Event)
+    → turn (aliased o at (behind_nodes l before)) (load rest) rest ≡ behind (alias_number o at before) (λ r. load rest (add l (r.number ∷ []) r.nodes r.before))
+alias_loads None at l before rest = refl
+alias_loads (Some n) at l before rest = ap (λ (ns : List Node). load rest (made l.document ns (attach n l.levels) (table before))) (sym (append-nil l.document.nodes))
 
 mutual
   unfolding load number
 
-  pub loads : (c : Content) (rest : List Event) (l : Loading)
-      → load (events c rest) l ≡ behind (number c (length l.document.nodes) l.anchors) (λ r. load rest (add l (r.number ∷ []) r.nodes r.known))
-  loads (alias name at) rest l = alias_loads (map.get l.anchors name) at.start_mark l rest
-  loads (scalar h value plain quoted style) rest l =
-      turn_entered (known_with h.anchor (anchored (next l) h.start_mark) l.anchors) _ (load rest) rest
-      ∙ sym (behind_then (known_with h.anchor (anchored (next l) h.start_mark) l.anchors) _ _)
-  loads (sequence h implicit style items at) rest l =
-      turn_entered (known_with h.anchor (anchored (next l) h.start_mark) l.anchors) _ (load (item_events items (spanning event.sequence_end at.start_mark at.end_mark ∷ rest))) (item_events items (spanning event.sequence_end at.start_mark at.end_mark ∷ rest))
-      ∙ behind_same (known_with h.anchor (anchored (next l) h.start_mark) l.anchors) _ _ (λ ks.
-      loads_items items (spanning event.sequence_end at.start_mark at.end_mark ∷ rest) (with_open l (sequence_node h [] style h.end_mark) (open_sequence (length l.document.nodes) []) ks)
-      ∙ ap (λ (k : ℕ). behind (number_items items k ks) (λ r. load (spanning event.sequence_end at.start_mark at.end_mark ∷ rest)
-      (add (with_open l (sequence_node h [] style h.end_mark) (open_sequence (length l.document.nodes) []) ks) r.number r.nodes r.known))) (length_push l.document.nodes (sequence_node h [] style h.end_mark))
-      ∙ behind_same (number_items items (suc (length l.document.nodes)) ks) _ _ (λ r. ap (λ (m : Loading). load rest m) (sequence_closes l h style at.end_mark r.number r.nodes ks r.known))
-      ∙ sym (behind_then (number_items items (suc (length l.document.nodes)) ks) _ _))
-      ∙ sym (behind_then (known_with h.anchor (anchored (next l) h.start_mark) l.anchors) _ _)
-  loads (mapping h implicit style pairs at) rest l =
-      turn_entered (known_with h.anchor (anchored (next l) h.start_mark) l.anchors) _ (load (pair_events pairs (spanning event.mapping_end at.start_mark at.end_mark ∷ rest))) (pair_events pairs (spanning event.mapping_end at.start_mark at.end_mark ∷ rest))
-      ∙ behind_same (known_with h.anchor (anchored (next l) h.start_mark) l.anchors) _ _ (λ ks.
-      loads_pairs pairs (spanning event.mapping_end at.start_mark at.end_mark ∷ rest) (with_open l (mapping_node h [] style h.end_mark) (open_mapping (length l.document.nodes) [] None) ks)
-      ∙ ap (λ (k : ℕ). behind (number_pairs pairs k ks) (λ r. load (spanning event.mapping_end at.start_mark at.end_mark ∷ rest)
-      (add_pairs (with_open l (mapping_node h [] style h.end_mark) (open_mapping (length l.document.nodes) [] None) ks) r.number r.nodes r.known))) (length_push l.document.nodes (mapping_node h [] style h.end_mark))
-      ∙ behind_same (number_pairs pairs (suc (length l.document.nodes)) ks) _ _ (λ r. ap (λ (m : Loading). load rest m) (mapping_closes l h style at.end_mark r.number r.nodes ks r.known))
-      ∙ sym (behind_then (number_pairs pairs (suc (length l.document.nodes)) ks) _ _))
-      ∙ sym (behind_then (known_with h.anchor (anchored (next l) h.start_mark) l.anchors) _ _)
+  pub loads : (c : Content) (rest : List Event) (l : Loading) (before : Anchored)
+      → load (events c rest) (behind_nodes l before) ≡ behind (number c (length l.document.nodes) before) (λ r. load rest (add l (r.number ∷ []) r.nodes r.before))
+  loads (alias name at) rest l before =
+      ap (λ (o : Option ℤ). turn (aliased o at.start_mark (behind_nodes l before)) (load rest) rest) (found_last name before)
+      ∙ alias_loads (last_with name before) at.start_mark l before rest
+  loads (scalar h value plain quoted style) rest l before =
+      ap (λ (ks : Anchors). load rest (with_leaf l (scalar_node h value style) ks)) (named_table h.anchor (next l) before)
+  loads (sequence h implicit style items at) rest l before =
+      let within : Anchored = and_node h.anchor (next l) before in
+      let opened : Loading = with_open l (sequence_node h [] style h.end_mark) (open_sequence (length l.document.nodes) []) (table within) in
+      let close : List Event = spanning event.sequence_end at.start_mark at.end_mark ∷ rest in
+      ap (λ (ks : Anchors). load (item_events items close) (with_open l (sequence_node h [] style h.end_mark) (open_sequence (length l.document.nodes) []) ks)) (named_table h.anchor (next l) before)
+      ∙ loads_items items close opened within
+      ∙ ap (λ (k : ℕ). behind (number_items items k within) (λ r. load close (add opened r.number r.nodes r.before))) (length_push l.document.nodes (sequence_node h [] style h.end_mark))
+      ∙ behind_same (number_items items (suc (length l.document.nodes)) within) _ _ (λ r. ap (λ (m : Loading). load rest m) (sequence_closes l h style at.end_mark r.number r.nodes (table within) r.before))
+      ∙ sym (behind_then (number_items items (suc (length l.document.nodes)) within) _ _)
+  loads (mapping h implicit style pairs at) rest l before =
+      let within : Anchored = and_node h.anchor (next l) before in
+      let opened : Loading = with_open l (mapping_node h [] style h.end_mark) (open_mapping (length l.document.nodes) [] None) (table within) in
+      let close : List Event = spanning event.mapping_end at.start_mark at.end_mark ∷ rest in
+      ap (λ (ks : Anchors). load (pair_events pairs close) (with_open l (mapping_node h [] style h.end_mark) (open_mapping (length l.document.nodes) [] None) ks)) (named_table h.anchor (next l) before)
+      ∙ loads_pairs pairs close opened within
+      ∙ ap (λ (k : ℕ). behind (number_pairs pairs k within) (λ r. load close (add_pairs opened r.number r.nodes r.before))) (length_push l.document.nodes (mapping_node h [] style h.end_mark))
+      ∙ behind_same (number_pairs pairs (suc (length l.document.nodes)) within) _ _ (λ r. ap (λ (m : Loading). load rest m) (mapping_closes l h style at.end_mark r.number r.nodes (table within) r.before))
+      ∙ sym (behind_then (number_pairs pairs (suc (length l.document.nodes)) within) _ _)
 
-  pub loads_items : (cs : Contents) (rest : List Event) (l : Loading)
-      → load (item_events cs rest) l ≡ behind (number_items cs (length l.document.nodes) l.anchors) (λ r. load rest (add l r.number r.nodes r.known))
-  loads_items no_items rest l = ap (λ (ns : List Node). load rest (made l.document ns l.levels l.anchors)) (sym (append-nil l.document.nodes))
-  loads_items (item c more) rest l =
-      loads c (item_events more rest) l
-      ∙ behind_same (number c (length l.document.nodes) l.anchors) _ _ (λ r.
-      loads_items more rest (add l (r.number ∷ []) r.nodes r.known)
-      ∙ ap (λ (k : ℕ). behind (number_items more k r.known) (λ s. load rest (add (add l (r.number ∷ []) r.nodes r.known) s.number s.nodes s.known))) (length-append l.document.nodes r.nodes)
-      ∙ behind_same (number_items more (length l.document.nodes + length r.nodes) r.known) _ _ (λ s.
-      ap (λ (ns : List Node). load rest (made l.document ns (attach_all (r.number ∷ s.number) l.levels) s.known)) (append_assoc l.document.nodes r.nodes s.nodes))
-      ∙ sym (behind_then (number_items more (length l.document.nodes + length r.nodes) r.known) _ _))
-      ∙ sym (behind_then (number c (length l.document.nodes) l.anchors) _ _)
+  pub loads_items : (cs : Contents) (rest : List Event) (l : Loading) (before : Anchored)
+      → load (item_events cs rest) (behind_nodes l before) ≡ behind (number_items cs (length l.document.nodes) before) (λ r. load rest (add l r.number r.nodes r.before))
+  loads_items no_items rest l before = ap (λ (ns : List Node). load rest (made l.document ns l.levels (table before))) (sym (append-nil l.document.nodes))
+  loads_items (item c more) rest l before =
+      loads c (item_events more rest) l before
+      ∙ behind_same (number c (length l.document.nodes) before) _ _ (λ r.
+      loads_items more rest (add l (r.number ∷ []) r.nodes r.before) r.before
+      ∙ ap (λ (k : ℕ). behind (number_items more k r.before) (λ s. load rest (add (add l (r.number ∷ []) r.nodes r.before) s.number s.nodes s.before))) (length-append l.document.nodes r.nodes)
+      ∙ behind_same (number_items more (length l.document.nodes + length r.nodes) r.before) _ _ (λ s.
+      ap (λ (ns : List Node). load rest (made l.document ns (attach_all (r.number ∷ s.number) l.levels) (table s.before))) (append_assoc l.document.nodes r.nodes s.nodes))
+      ∙ sym (behind_then (number_items more (length l.document.nodes + length r.nodes) r.before) _ _))
+      ∙ sym (behind_then (number c (length l.document.nodes) before) _ _)
 
-  pub loads_pairs : (cs : Pairs) (rest : List Event) (l : Loading)
-      → load (pair_events cs rest) l ≡ behind (number_pairs cs (length l.document.nodes) l.anchors) (λ r. load rest (add_pairs l r.number r.nodes r.known))
-  loads_pairs no_pairs rest l = ap (λ (ns : List Node). load rest (made l.document ns l.levels l.anchors)) (sym (append-nil l.document.nodes))
-  loads_pairs (pair key value more) rest l =
-      loads key (events value (pair_events more rest)) l
-      ∙ behind_same (number key (length l.document.nodes) l.anchors) _ _ (λ r.
-      loads value (pair_events more rest) (add l (r.number ∷ []) r.nodes r.known)
-      ∙ ap (λ (k : ℕ). behind (number value k r.known) (λ s. load (pair_events more rest) (add (add l (r.number ∷ []) r.nodes r.known) (s.number ∷ []) s.nodes s.known))) (length-append l.document.nodes r.nodes)
-      ∙ behind_same (number value (length l.document.nodes + length r.nodes) r.known) _ _ (λ s.
-      loads_pairs more rest (add (add l (r.number ∷ []) r.nodes r.known) (s.number ∷ []) s.nodes s.known)
-      ∙ ap (λ (k : ℕ). behind (number_pairs more k s.known) (λ t. load rest (add_pairs (add (add l (r.number ∷ []) r.nodes r.known) (s.number ∷ []) s.nodes s.known) t.number t.nodes t.known)))
+  pub loads_pairs : (cs : Pairs) (rest : List Event) (l : Loading) (before : Anchored)
+      → load (pair_events cs rest) (behind_nodes l before) ≡ behind (number_pairs cs (length l.document.nodes) before) (λ r. load rest (add_pairs l r.number r.nodes r.before))
+  loads_pairs no_pairs rest l before = ap (λ (ns : List Node). load rest (made l.document ns l.levels (table before))) (sym (append-nil l.document.nodes))
+  loads_pairs (pair key value more) rest l before =
+      loads key (events value (pair_events more rest)) l before
+      ∙ behind_same (number key (length l.document.nodes) before) _ _ (λ r.
+      loads value (pair_events more rest) (add l (r.number ∷ []) r.nodes r.before) r.before
+      ∙ ap (λ (k : ℕ). behind (number value k r.before) (λ s. load (pair_events more rest) (add (add l (r.number ∷ []) r.nodes r.before) (s.number ∷ []) s.nodes s.before))) (length-append l.document.nodes r.nodes)
+      ∙ behind_same (number value (length l.document.nodes + length r.nodes) r.before) _ _ (λ s.
+      loads_pairs more rest (add (add l (r.number ∷ []) r.nodes r.before) (s.number ∷ []) s.nodes s.before) s.before
+      ∙ ap (λ (k : ℕ). behind (number_pairs more k s.before) (λ t. load rest (add_pairs (add (add l (r.number ∷ []) r.nodes r.before) (s.number ∷ []) s.nodes s.before) t.number t.nodes t.before)))
       (length-append (l.document.nodes ++ r.nodes) s.nodes ∙ ap (λ (k : ℕ). k + length s.nodes) (length-append l.document.nodes r.nodes))
-      ∙ behind_same (number_pairs more (length l.document.nodes + length r.nodes + length s.nodes) s.known) _ _ (λ t.
-      ap (λ (ns : List Node). load rest (made l.document ns (attach_pairs t.number (attach s.number (attach r.number l.levels))) t.known))
+      ∙ behind_same (number_pairs more (length l.document.nodes + length r.nodes + length s.nodes) s.before) _ _ (λ t.
+      ap (λ (ns : List Node). load rest (made l.document ns (attach_pairs t.number (attach s.number (attach r.number l.levels))) (table t.before)))
       (append_assoc (l.document.nodes ++ r.nodes) s.nodes t.nodes ∙ append_assoc l.document.nodes r.nodes (s.nodes ++ t.nodes)))
-      ∙ sym (behind_then (number_pairs more (length l.document.nodes + length r.nodes + length s.nodes) s.known) _ _))
-      ∙ sym (behind_then (number value (length l.document.nodes + length r.nodes) r.known) _ _))
-      ∙ sym (behind_then (number key (length l.document.nodes) l.anchors) _ _)
+      ∙ sym (behind_then (number_pairs more (length l.document.nodes + length r.nodes + length s.nodes) s.before) _ _))
+      ∙ sym (behind_then (number value (length l.document.nodes + length r.nodes) r.before) _ _))
+      ∙ sym (behind_then (number key (length l.document.nodes) before) _ _)
 
 -- a document
 pub loads_document : (d : DocumentContent) (rest : List Event) (l : Loading) → load (document_events d rest) l ≡ behind (document_of d) (λ e. document e rest)
 unfolding load
 loads_document d rest l =
-    loads d.root (spanning (event.document_end d.end_implicit) d.end_at.start_mark d.end_at.end_mark ∷ rest) (started d.version d.directives d.start_implicit d.start_at.start_mark)
-    ∙ sym (behind_then (number d.root 0 map.empty) _ _)
+    loads d.root (spanning (event.document_end d.end_implicit) d.end_at.start_mark d.end_at.end_mark ∷ rest) (started d.version d.directives d.start_implicit d.start_at.start_mark) []
+    ∙ sym (behind_then (number d.root 0 []) _ _)

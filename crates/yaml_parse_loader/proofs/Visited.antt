@@ -1,19 +1,13 @@
 -- The numbers of loaded content follow the first visits in preorder.
 use Rattle.std.proofs.Common.{◌≡◌, ◌≤◌, ◌+◌, ℕ, zero, suc, ℤ, pos, List, [], ◌∷◌, ◌++◌, length, Option, Some, None, Result, Ok, Err, IfOk, IfSome, refl, ap, sym, ◌∙◌, subst, arith, append_assoc, append-nil, length-append}
 use Rattle.std.specs.Prelude.{slice_get}
-use Rattle.std.specs.FinMap as map
-use Rattle.std.specs.Ordering.{nat_cmp, eq_by_cmp}
-use Rattle.std.specs.Cmp.Lexicographic.{slice_cmp, nat_list_cmp_total}
 use Rattle.yaml_parse_model.specs.Faults.{Fault}
 use Rattle.yaml_parse_model.specs.Nodes.{Node}
 use Rattle.yaml_parse_document.specs.Documents.{Document, IsId}
-use Rattle.yaml_parse_document.proofs.Sound.{length_push}
-use Rattle.yaml_parse_loader.specs.declared.anchors.Anchored.{Anchored}
-use Rattle.yaml_parse_loader.specs.Anchors.{Anchors}
-use Rattle.yaml_parse_loader.specs.Numbering.{Head, Content, Contents, Pairs, alias, scalar, sequence, mapping, no_items, item, no_pairs, pair, ◌>>=◌, Numbered, named, known_with, anchored, alias_number, number, number_items, number_pairs, DocumentContent, document_of}
-use Rattle.yaml_parse_loader.specs.Sound.{AreAnchors}
+use Rattle.yaml_parse_document.proofs.Sound.{length_push, wider_id}
+use Rattle.yaml_parse_loader.specs.Numbering.{Content, Contents, Pairs, alias, scalar, sequence, mapping, no_items, item, no_pairs, pair, ◌>>=◌, Numbered, Anchored, is_same, last_with, and_node, alias_number, number, number_items, number_pairs, DocumentContent, document_of}
 use Rattle.yaml_parse_loader.specs.Order.{Visits, done, again, first, children, pair_numbers, IsInPreorder}
-use Rattle.yaml_parse_loader.proofs.Keeps.{wider_found, no_anchors, inserted_sound}
+use Rattle.yaml_parse_loader.proofs.Keeps.{inserted_sound}
 
 -- what is true of a result, if there is one
 abbrev Good : {A : Type 0} → Result A Fault → (A → Type 0) → Type 0
@@ -26,21 +20,22 @@ good_then (Err e) f P Q g h = tt
 
 -- ---- anchors
 
-wider_anchors : (m n : ℕ) (known : Anchors) → m ≤ n → AreAnchors m known → AreAnchors n known
-wider_anchors m n known h s = λ q. wider_found m n (map.get known q) h (s q)
+-- the numbers name nodes
+abbrev AreNodes : ℕ → Anchored → Type 0
+AreNodes count [] = Unit {0}
+AreNodes count (n ∷ before) = IsId count n.1 × AreNodes count before
 
-named_good : (m : ℕ) (name : List ℕ) (new : Anchored) (known : Anchors) (o : Option Anchored) → AreAnchors m known → IsId m new.number → Good (named name new known o) (AreAnchors m)
-named_good m name new known None s h = λ q.
-    subst (λ (o : Option Anchored). IfSome o (λ a. IsId m a.number)) (sym (map.get-insert nat_list_cmp_total known name new q))
-    (inserted_sound m (eq_by_cmp (slice_cmp nat_cmp) q name) new (map.get known q) h (s q))
-named_good m name new known (Some f) s h = tt
+wider_nodes : (m n : ℕ) (before : Anchored) → m ≤ n → AreNodes m before → AreNodes n before
+wider_nodes m n [] h s = tt
+wider_nodes m n (x ∷ before) h s = (wider_id m n x.1 h s.0, wider_nodes m n before h s.1)
 
-known_good : (m : ℕ) (anchor : Option (List ℕ)) (new : Anchored) (known : Anchors) → AreAnchors m known → IsId m new.number → Good (known_with anchor new known) (AreAnchors m)
-known_good m None new known s h = s
-known_good m (Some name) new known s h = named_good m name new known (map.get known name) s h
+last_good : (m : ℕ) (name : List ℕ) (before : Anchored) → AreNodes m before → IfSome (last_with name before) (λ i. IsId m i)
+last_good m name [] s = tt
+last_good m name (n ∷ before) s = inserted_sound m (is_same name n.0) n.1 (last_with name before) s.0 (last_good m name before s.1)
 
-entry_good : (count : ℕ) (h : Head) (known : Anchors) → AreAnchors count known → Good (known_with h.anchor (anchored (pos (suc count)) h.start_mark) known) (AreAnchors (suc count))
-entry_good count h known s = known_good (suc count) h.anchor _ known (wider_anchors count (suc count) known (omega arith) s) (omega arith)
+entry_good : (count : ℕ) (anchor : Option (List ℕ)) (before : Anchored) → AreNodes count before → AreNodes (suc count) (and_node anchor (pos (suc count)) before)
+entry_good count None before s = wider_nodes count (suc count) before (omega arith) s
+entry_good count (Some name) before s = (omega arith, wider_nodes count (suc count) before (omega arith) s)
 
 -- ---- visits
 
@@ -58,7 +53,7 @@ met_again nodes seen after _ ids h v = absurd h
 
 -- numbered content, wherever its nodes stand: what stands for it is visited, and then what follows
 record Placed {A : Type 0} (numbers : A → List ℤ) (count : ℕ) (r : Numbered A) : Type 0 where
-  known : AreAnchors (count + length r.nodes) r.known
+  before : AreNodes (count + length r.nodes) r.before
   visits : (nodes before after : List Node) (mid end : ℕ) (ids : List ℤ) → nodes ≡ before ++ (r.nodes ++ after) → length before ≡ count → mid ≡ count + length r.nodes
       → Visits nodes mid ids end → Visits nodes count (numbers r.number ++ ids) end
 
@@ -68,13 +63,13 @@ alone id = id ∷ []
 abbrev these : List ℤ → List ℤ
 these ids = ids
 
-alias_good : (o : Option Anchored) (count : ℕ) (known : Anchors) (at : _) → AreAnchors count known → IfSome o (λ a. IsId count a.number) → Good (alias_number o at known) (Placed alone count)
-alias_good None count known at s h = tt
-alias_good (Some a) count known at s h = record {
-  known = wider_anchors count _ known (omega arith) s;
-  visits = λ nodes before after mid end ids split place reach v.
+alias_good : (o : Option ℤ) (count : ℕ) (before : Anchored) (at : _) → AreNodes count before → IfSome o (λ i. IsId count i) → Good (alias_number o at before) (Placed alone count)
+alias_good None count before at s h = tt
+alias_good (Some n) count before at s h = record {
+  before = wider_nodes count _ before (omega arith) s;
+  visits = λ nodes front after mid end ids split place reach v.
       let here : mid ≡ count = omega (arith, reach) in
-      met_again nodes count end a.number ids h (subst (λ (k : ℕ). Visits nodes k ids end) here v);
+      met_again nodes count end n ids h (subst (λ (k : ℕ). Visits nodes k ids end) here v);
 }
 
 -- a node, whose children are visited next
@@ -88,44 +83,44 @@ behind_node nodes before ns after n e = e ∙ sym (append_assoc before (n ∷ []
 mutual
   unfolding number
 
-  placed : (c : Content) (count : ℕ) (known : Anchors) → AreAnchors count known → Good (number c count known) (Placed alone count)
-  placed (alias name at) count known s = alias_good (map.get known name) count known at.start_mark s (s name)
-  placed (scalar h value plain quoted style) count known s =
-      good_then (known_with h.anchor (anchored (pos (suc count)) h.start_mark) known) _ _ _ (entry_good count h known s) (λ ks a. record {
-        known = subst (λ (k : ℕ). AreAnchors k ks) (omega arith) a;
+  placed : (c : Content) (count : ℕ) (ks : Anchored) → AreNodes count ks → Good (number c count ks) (Placed alone count)
+  placed (alias name at) count ks s = alias_good (last_with name ks) count ks at.start_mark s (last_good count name ks s)
+  placed (scalar h value plain quoted style) count ks s =
+      record {
+        before = subst (λ (k : ℕ). AreNodes k (and_node h.anchor (pos (suc count)) ks)) (omega arith) (entry_good count h.anchor ks s);
         visits = λ nodes before after mid end ids split place reach v.
             let here : mid ≡ suc count = omega (arith, reach) in
             opens nodes before after count (suc count) end ids _ split place (done (suc count)) (subst (λ (k : ℕ). Visits nodes k ids end) here v);
+      }
+  placed (sequence h implicit style items at) count ks s =
+      let within : Anchored = and_node h.anchor (pos (suc count)) ks in
+      good_then (number_items items (suc count) within) _ _ _ (placed_items items (suc count) within (entry_good count h.anchor ks s)) (λ r p. record {
+        before = subst (λ (k : ℕ). AreNodes k r.before) (omega arith) p.before;
+        visits = λ nodes before after mid end ids split place reach v.
+            let inner : Visits nodes (suc count) r.number mid = subst (λ (js : List ℤ). Visits nodes (suc count) js mid) (append-nil r.number)
+            (p.visits nodes (before ++ _ ∷ []) after mid mid [] (behind_node nodes before r.nodes after _ split) (length_push before _ ∙ ap suc place) (omega (arith, reach)) (done mid)) in
+            opens nodes before (r.nodes ++ after) count mid end ids _ split place inner v;
       })
-  placed (sequence h implicit style items at) count known s =
-      good_then (known_with h.anchor (anchored (pos (suc count)) h.start_mark) known) _ _ _ (entry_good count h known s) (λ ks a.
-      good_then (number_items items (suc count) ks) _ _ _ (placed_items items (suc count) ks a) (λ r p. record {
-        known = subst (λ (k : ℕ). AreAnchors k r.known) (omega arith) p.known;
+  placed (mapping h implicit style pairs at) count ks s =
+      let within : Anchored = and_node h.anchor (pos (suc count)) ks in
+      good_then (number_pairs pairs (suc count) within) _ _ _ (placed_pairs pairs (suc count) within (entry_good count h.anchor ks s)) (λ r p. record {
+        before = subst (λ (k : ℕ). AreNodes k r.before) (omega arith) p.before;
         visits = λ nodes before after mid end ids split place reach v.
-            let within : Visits nodes (suc count) r.number mid = subst (λ (js : List ℤ). Visits nodes (suc count) js mid) (append-nil r.number)
+            let inner : Visits nodes (suc count) (pair_numbers r.number) mid = subst (λ (js : List ℤ). Visits nodes (suc count) js mid) (append-nil (pair_numbers r.number))
             (p.visits nodes (before ++ _ ∷ []) after mid mid [] (behind_node nodes before r.nodes after _ split) (length_push before _ ∙ ap suc place) (omega (arith, reach)) (done mid)) in
-            opens nodes before (r.nodes ++ after) count mid end ids _ split place within v;
-      }))
-  placed (mapping h implicit style pairs at) count known s =
-      good_then (known_with h.anchor (anchored (pos (suc count)) h.start_mark) known) _ _ _ (entry_good count h known s) (λ ks a.
-      good_then (number_pairs pairs (suc count) ks) _ _ _ (placed_pairs pairs (suc count) ks a) (λ r p. record {
-        known = subst (λ (k : ℕ). AreAnchors k r.known) (omega arith) p.known;
-        visits = λ nodes before after mid end ids split place reach v.
-            let within : Visits nodes (suc count) (pair_numbers r.number) mid = subst (λ (js : List ℤ). Visits nodes (suc count) js mid) (append-nil (pair_numbers r.number))
-            (p.visits nodes (before ++ _ ∷ []) after mid mid [] (behind_node nodes before r.nodes after _ split) (length_push before _ ∙ ap suc place) (omega (arith, reach)) (done mid)) in
-            opens nodes before (r.nodes ++ after) count mid end ids _ split place within v;
-      }))
+            opens nodes before (r.nodes ++ after) count mid end ids _ split place inner v;
+      })
 
-  placed_items : (cs : Contents) (count : ℕ) (known : Anchors) → AreAnchors count known → Good (number_items cs count known) (Placed these count)
-  placed_items no_items count known s = record {
-    known = wider_anchors count _ known (omega arith) s;
+  placed_items : (cs : Contents) (count : ℕ) (ks : Anchored) → AreNodes count ks → Good (number_items cs count ks) (Placed these count)
+  placed_items no_items count ks s = record {
+    before = wider_nodes count _ ks (omega arith) s;
     visits = λ nodes before after mid end ids split place reach v.
         let here : mid ≡ count = omega (arith, reach) in subst (λ (k : ℕ). Visits nodes k ids end) here v;
   }
-  placed_items (item c more) count known s =
-      good_then (number c count known) _ _ _ (placed c count known s) (λ r p.
-      good_then (number_items more (count + length r.nodes) r.known) _ _ _ (placed_items more (count + length r.nodes) r.known p.known) (λ t q. record {
-        known = subst (λ (k : ℕ). AreAnchors k t.known) (omega (arith, length-append r.nodes t.nodes)) q.known;
+  placed_items (item c more) count ks s =
+      good_then (number c count ks) _ _ _ (placed c count ks s) (λ r p.
+      good_then (number_items more (count + length r.nodes) r.before) _ _ _ (placed_items more (count + length r.nodes) r.before p.before) (λ t q. record {
+        before = subst (λ (k : ℕ). AreNodes k t.before) (omega (arith, length-append r.nodes t.nodes)) q.before;
         visits = λ nodes before after mid end ids split place reach v.
             let apart : nodes ≡ before ++ (r.nodes ++ (t.nodes ++ after)) = split ∙ ap (λ ns. before ++ ns) (append_assoc r.nodes t.nodes after) in
             p.visits nodes before (t.nodes ++ after) (count + length r.nodes) end (t.number ++ ids) apart place refl
@@ -133,17 +128,17 @@ mutual
             (length-append before r.nodes ∙ ap (λ (k : ℕ). k + length r.nodes) place) (omega (arith, reach, length-append r.nodes t.nodes)) v);
       }))
 
-  placed_pairs : (cs : Pairs) (count : ℕ) (known : Anchors) → AreAnchors count known → Good (number_pairs cs count known) (Placed pair_numbers count)
-  placed_pairs no_pairs count known s = record {
-    known = wider_anchors count _ known (omega arith) s;
+  placed_pairs : (cs : Pairs) (count : ℕ) (ks : Anchored) → AreNodes count ks → Good (number_pairs cs count ks) (Placed pair_numbers count)
+  placed_pairs no_pairs count ks s = record {
+    before = wider_nodes count _ ks (omega arith) s;
     visits = λ nodes before after mid end ids split place reach v.
         let here : mid ≡ count = omega (arith, reach) in subst (λ (k : ℕ). Visits nodes k ids end) here v;
   }
-  placed_pairs (pair key value more) count known s =
-      good_then (number key count known) _ _ _ (placed key count known s) (λ r p.
-      good_then (number value (count + length r.nodes) r.known) _ _ _ (placed value (count + length r.nodes) r.known p.known) (λ t q.
-      good_then (number_pairs more (count + length r.nodes + length t.nodes) t.known) _ _ _ (placed_pairs more (count + length r.nodes + length t.nodes) t.known q.known) (λ u o. record {
-        known = subst (λ (k : ℕ). AreAnchors k u.known) (omega (arith, length-append r.nodes (t.nodes ++ u.nodes), length-append t.nodes u.nodes)) o.known;
+  placed_pairs (pair key value more) count ks s =
+      good_then (number key count ks) _ _ _ (placed key count ks s) (λ r p.
+      good_then (number value (count + length r.nodes) r.before) _ _ _ (placed value (count + length r.nodes) r.before p.before) (λ t q.
+      good_then (number_pairs more (count + length r.nodes + length t.nodes) t.before) _ _ _ (placed_pairs more (count + length r.nodes + length t.nodes) t.before q.before) (λ u o. record {
+        before = subst (λ (k : ℕ). AreNodes k u.before) (omega (arith, length-append r.nodes (t.nodes ++ u.nodes), length-append t.nodes u.nodes)) o.before;
         visits = λ nodes before after mid end ids split place reach v.
             let apart : nodes ≡ before ++ (r.nodes ++ ((t.nodes ++ u.nodes) ++ after)) = split ∙ ap (λ ns. before ++ ns) (append_assoc r.nodes (t.nodes ++ u.nodes) after) in
             let further : nodes ≡ (before ++ r.nodes) ++ (t.nodes ++ (u.nodes ++ after))
@@ -160,22 +155,13 @@ any_good : {A : Type 0} (r : Result A Fault) → Good r (λ x. Unit {0})
 any_good (Ok x) = tt
 any_good (Err e) = tt
 
-unlike : (a : Anchored) → Some a ≡ None → ⊥
-unlike a e = cc
-
 -- the number that stands for the root of a document that loads
-root_number : (c : Content) → Good (number c 0 map.empty) (λ r. r.number ≡ pos 1)
+root_number : (c : Content) → Good (number c 0 []) (λ r. r.number ≡ pos 1)
 unfolding number
-root_number (alias name at) = no_root (map.get map.empty name) (map.get-empty (slice_cmp nat_cmp) name)
-  where
-    no_root : (o : Option Anchored) → o ≡ None → Good (alias_number o at.start_mark map.empty) (λ r. r.number ≡ pos 1)
-    no_root None e = tt
-    no_root (Some a) e = absurd (unlike a e)
-root_number (scalar h value plain quoted style) = good_then (known_with h.anchor (anchored (pos 1) h.start_mark) map.empty) _ (λ ks. Unit {0}) _ (any_good _) (λ ks a. refl)
-root_number (sequence h implicit style items at) =
-    good_then (known_with h.anchor (anchored (pos 1) h.start_mark) map.empty) _ (λ ks. Unit {0}) _ (any_good _) (λ ks a. good_then (number_items items 1 ks) _ (λ r. Unit {0}) _ (any_good _) (λ r b. refl))
-root_number (mapping h implicit style pairs at) =
-    good_then (known_with h.anchor (anchored (pos 1) h.start_mark) map.empty) _ (λ ks. Unit {0}) _ (any_good _) (λ ks a. good_then (number_pairs pairs 1 ks) _ (λ r. Unit {0}) _ (any_good _) (λ r b. refl))
+root_number (alias name at) = tt
+root_number (scalar h value plain quoted style) = refl
+root_number (sequence h implicit style items at) = good_then (number_items items 1 (and_node h.anchor (pos 1) [])) _ (λ r. Unit {0}) _ (any_good _) (λ r b. refl)
+root_number (mapping h implicit style pairs at) = good_then (number_pairs pairs 1 (and_node h.anchor (pos 1) [])) _ (λ r. Unit {0}) _ (any_good _) (λ r b. refl)
 
 both_good : {A : Type 0} (r : Result A Fault) (P Q : A → Type 0) → Good r P → Good r Q → Good r (λ x. P x × Q x)
 both_good (Ok x) P Q p q = (p, q)
@@ -186,7 +172,7 @@ in_order r p e = subst (λ (id : ℤ). Visits r.nodes 0 (id ∷ []) (length r.no
     (p.visits r.nodes [] [] (length r.nodes) (length r.nodes) [] (sym (append-nil r.nodes)) refl (omega arith) (done (length r.nodes)))
 
 pub numbered_in_order : (d : DocumentContent) → IfOk (document_of d) (λ e. IsInPreorder e.nodes)
-numbered_in_order d = finish (number d.root 0 map.empty) (both_good _ _ _ (placed d.root 0 map.empty (no_anchors 0)) (root_number d.root))
+numbered_in_order d = finish (number d.root 0 []) (both_good _ _ _ (placed d.root 0 [] tt) (root_number d.root))
   where
     finish : (r : Result (Numbered ℤ) Fault) → Good r (λ x. Placed alone 0 x × (x.number ≡ pos 1)) → IfOk (r >>= λ x. Ok (let e : Document = record {
       version = d.version;

@@ -12,9 +12,8 @@ use Rattle.yaml_parse_model.specs.Events as event
 use Rattle.yaml_parse_model.specs.Nodes.{Node, NodeBody}
 use Rattle.yaml_parse_model.specs.Nodes as node
 use Rattle.yaml_parse_document.specs.Documents.{Document, with_node, change_place, no_document}
-use Rattle.yaml_parse_loader.specs.declared.anchors.Anchored.{Anchored}
 use Rattle.yaml_parse_loader.specs.Anchors.{Anchors}
-use Rattle.yaml_parse_loader.specs.Numbering.{Head, scalar_node, sequence_node, mapping_node, known_with, anchored, undefined_alias}
+use Rattle.yaml_parse_loader.specs.Numbering.{Head, scalar_node, sequence_node, mapping_node, undefined_alias}
 
 -- an open collection: its place among the nodes, and what it holds so far; a mapping may have a key without its value
 pub data Open : Type 0 where
@@ -98,13 +97,10 @@ pub data Fed : Type 0 where
   loaded : Document → Fed
   refused : Fault → Fed
 
-abbrev pub entered : Result Anchors Fault → (Anchors → Loading) → Fed
-entered (Ok known) go = goes_on (go known)
-entered (Err f) go = refused f
-
-abbrev pub aliased : Option Anchored → yaml_mark_t → Loading → Fed
+-- an alias stands for the node that its name names now
+abbrev pub aliased : Option ℤ → yaml_mark_t → Loading → Fed
 aliased None at l = refused (undefined_alias at)
-aliased (Some a) at l = goes_on (record l { levels = attach a.number l.levels })
+aliased (Some n) at l = goes_on (record l { levels = attach n l.levels })
 
 abbrev pub started : Option yaml_version_directive_t → List TagDirective → Bool → yaml_mark_t
     → Loading
@@ -128,8 +124,17 @@ ended l implicit to = record l.document { end_implicit = implicit; end_mark = to
 abbrev pub head_of : Option (List ℕ) → Option (List ℕ) → yaml_mark_t → yaml_mark_t → Head
 head_of anchor tag from to = record { anchor = anchor; tag = tag; start_mark = from; end_mark = to }
 
-abbrev pub enter : Loading → Head → Result Anchors Fault
-enter l h = known_with h.anchor (anchored (next l) h.start_mark) l.anchors
+-- from its start on a node is what its anchor names, also where that named another one before
+abbrev pub named : Option (List ℕ) → ℤ → Anchors → Anchors
+named None n known = known
+named (Some anchor) n known = map.insert known anchor n
+
+-- a node more, under its anchor
+abbrev pub enter_leaf : Loading → Option (List ℕ) → Node → Loading
+enter_leaf l anchor n = with_leaf l n (named anchor (next l) l.anchors)
+
+abbrev pub enter_open : Loading → Option (List ℕ) → Node → Open → Loading
+enter_open l anchor n o = with_open l n o (named anchor (next l) l.anchors)
 
 abbrev pub step_body : EventBody → yaml_mark_t → yaml_mark_t → Loading → Fed
 step_body (event.document_start version directives implicit) from to l = goes_on
@@ -137,14 +142,14 @@ step_body (event.document_start version directives implicit) from to l = goes_on
 step_body (event.document_end implicit) from to l = loaded (ended l implicit to)
 step_body (event.alias name) from to l = aliased (map.get l.anchors name) from l
 step_body (event.scalar anchor tag value plain quoted style) from to l =
-    let h : Head = head_of anchor tag from to in entered (enter l h)
-    (with_leaf l (scalar_node h value style))
+    let h : Head = head_of anchor tag from to in goes_on
+    (enter_leaf l anchor (scalar_node h value style))
 step_body (event.sequence_start anchor tag implicit style) from to l =
-    let h : Head = head_of anchor tag from to in entered (enter l h)
-    (with_open l (sequence_node h [] style to) (open_sequence (length l.document.nodes) []))
+    let h : Head = head_of anchor tag from to in goes_on
+    (enter_open l anchor (sequence_node h [] style to) (open_sequence (length l.document.nodes) []))
 step_body (event.mapping_start anchor tag implicit style) from to l =
-    let h : Head = head_of anchor tag from to in entered (enter l h)
-    (with_open l (mapping_node h [] style to) (open_mapping (length l.document.nodes) [] None))
+    let h : Head = head_of anchor tag from to in goes_on (enter_open l anchor
+    (mapping_node h [] style to) (open_mapping (length l.document.nodes) [] None))
 step_body event.sequence_end from to l = goes_on (closed to l l.levels)
 step_body event.mapping_end from to l = goes_on (closed to l l.levels)
 step_body _ from to l = goes_on l

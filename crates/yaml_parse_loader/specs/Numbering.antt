@@ -1,6 +1,8 @@
--- A document's nodes, numbered in preorder from 1, and the number that each alias stands for.
+-- A document's nodes, numbered in preorder from 1, and the number that each alias stands for: that of the last node
+-- before it with its anchor.
 use Rattle.std.specs.Prelude.{ℕ, suc, ℤ, pos, ◌+◌, ◌==◌, Bool, false, cond, List, [], ◌∷◌, ◌++◌, length, Option, Some, None, Result, Ok, Err, codes}
-use Rattle.std.specs.FinMap as map
+use Rattle.std.specs.Ordering.{nat_cmp, eq_by_cmp}
+use Rattle.std.specs.Cmp.Lexicographic.{slice_cmp}
 use Rattle.yaml_parse_model.specs.declared.yaml_mark_t.{yaml_mark_t}
 use Rattle.yaml_parse_model.specs.declared.yaml_version_directive_t.{yaml_version_directive_t}
 use Rattle.yaml_parse_model.specs.declared.yaml_scalar_style_t.{yaml_scalar_style_t}
@@ -16,8 +18,6 @@ use Rattle.yaml_parse_model.specs.Events as event
 use Rattle.yaml_parse_model.specs.Nodes.{Node, NodeBody}
 use Rattle.yaml_parse_model.specs.Nodes as node
 use Rattle.yaml_parse_document.specs.Documents.{Document, str_tag, seq_tag, map_tag}
-use Rattle.yaml_parse_loader.specs.declared.anchors.Anchored.{Anchored}
-use Rattle.yaml_parse_loader.specs.Anchors.{Anchors}
 
 -- ---- the content of a document, as a tree, and its events
 
@@ -103,10 +103,6 @@ composer_fault problem at context from = record {
 abbrev pub undefined_alias : yaml_mark_t → Fault
 undefined_alias at = composer_fault (codes "found undefined alias") at None zero_mark
 
-abbrev pub second_occurrence : yaml_mark_t → yaml_mark_t → Fault
-second_occurrence first at = composer_fault (codes "second occurrence") at
-    (Some (codes "found duplicate anchor")) first
-
 -- ---- numbers
 
 infixl 10 ◌>>=◌
@@ -114,28 +110,33 @@ abbrev pub ◌>>=◌ : {A B : Type 0} → Result A Fault → (A → Result B Fau
 (Ok x) >>= f = f x
 (Err e) >>= f = Err e
 
-abbrev pub anchored : ℤ → yaml_mark_t → Anchored
-anchored number mark = record { number = number; mark = mark }
+-- the nodes with an anchor before a place in preorder, each by its anchor and its number, the last of them first
+abbrev pub Anchored : Type 0
+Anchored = List (List ℕ × ℤ)
 
--- an anchor names the node that has it from the node's first event on; a second node with it is refused
-abbrev pub named : List ℕ → Anchored → Anchors → Option Anchored → Result Anchors Fault
-named name new known None = Ok (map.insert known name new)
-named name new known (Some first) = Err (second_occurrence first.mark new.mark)
+abbrev pub is_same : List ℕ → List ℕ → Bool
+is_same a b = eq_by_cmp (slice_cmp nat_cmp) a b
 
-abbrev pub known_with : Option (List ℕ) → Anchored → Anchors → Result Anchors Fault
-known_with None new known = Ok known
-known_with (Some name) new known = named name new known (map.get known name)
+-- what an alias means there: the last node before it that has its anchor
+abbrev pub last_with : List ℕ → Anchored → Option ℤ
+last_with name [] = None
+last_with name (n ∷ before) = cond (is_same name n.0) (Some n.1) (last_with name before)
 
--- the number that stands for a node, its own nodes in preorder, and the anchors known behind it
+-- a node stands before what it holds: it counts from its own start
+abbrev pub and_node : Option (List ℕ) → ℤ → Anchored → Anchored
+and_node None number before = before
+and_node (Some anchor) number before = (anchor, number) ∷ before
+
+-- the number that stands for a node, its own nodes in preorder, and the nodes with an anchor before what is behind it
 pub record Numbered (A : Type 0) : Type 0 where
   pub number : A
   pub nodes : List Node
-  pub known : Anchors
+  pub before : Anchored
 
--- an alias stands for the last node before it with its anchor, an enclosing one too
-abbrev pub alias_number : Option Anchored → yaml_mark_t → Anchors → Result (Numbered ℤ) Fault
-alias_number None at known = Err (undefined_alias at)
-alias_number (Some a) at known = Ok (record { number = a.number; nodes = []; known = known })
+-- an alias stands for that node, and is refused where there is none
+abbrev pub alias_number : Option ℤ → yaml_mark_t → Anchored → Result (Numbered ℤ) Fault
+alias_number None at before = Err (undefined_alias at)
+alias_number (Some n) at before = Ok (record { number = n; nodes = []; before = before })
 
 abbrev pub scalar_node : Head → List ℕ → yaml_scalar_style_t → Node
 scalar_node h value style = record {
@@ -163,48 +164,49 @@ mapping_node h pairs style to = record {
   end_mark = to;
 }
 
--- content behind that many nodes and those anchors, numbered; or its first fault
+-- content behind that many nodes, of which those have an anchor, numbered; or its first fault
 unfoldable mutual
-  pub number : Content → ℕ → Anchors → Result (Numbered ℤ) Fault
-  number (alias name at) count known = alias_number (map.get known name) at.start_mark known
-  number (scalar h value plain quoted style) count known =
-      known_with h.anchor (anchored (pos (suc count)) h.start_mark) known >>= λ ks.
-      Ok (record { number = pos (suc count); nodes = scalar_node h value style ∷ []; known = ks })
-  number (sequence h implicit style items at) count known =
-      known_with h.anchor (anchored (pos (suc count)) h.start_mark) known >>= λ ks.
-      number_items items (suc count) ks >>= λ r.
+  pub number : Content → ℕ → Anchored → Result (Numbered ℤ) Fault
+  number (alias name at) count before = alias_number (last_with name before) at.start_mark before
+  number (scalar h value plain quoted style) count before =
+      Ok (record {
+        number = pos (suc count);
+        nodes = scalar_node h value style ∷ [];
+        before = and_node h.anchor (pos (suc count)) before;
+      })
+  number (sequence h implicit style items at) count before =
+      number_items items (suc count) (and_node h.anchor (pos (suc count)) before) >>= λ r.
       Ok (record {
         number = pos (suc count);
         nodes = sequence_node h r.number style at.end_mark
             ∷ r.nodes;
-        known = r.known;
+        before = r.before;
       })
-  number (mapping h implicit style pairs at) count known =
-      known_with h.anchor (anchored (pos (suc count)) h.start_mark) known >>= λ ks.
-      number_pairs pairs (suc count) ks >>= λ r.
+  number (mapping h implicit style pairs at) count before =
+      number_pairs pairs (suc count) (and_node h.anchor (pos (suc count)) before) >>= λ r.
       Ok (record {
         number = pos (suc count);
         nodes = mapping_node h r.number style at.end_mark
             ∷ r.nodes;
-        known = r.known;
+        before = r.before;
       })
 
-  pub number_items : Contents → ℕ → Anchors → Result (Numbered (List ℤ)) Fault
-  number_items no_items count known = Ok (record { number = []; nodes = []; known = known })
-  number_items (item c more) count known =
-      number c count known >>= λ r. number_items more (count + length r.nodes) r.known >>= λ s.
-      Ok (record { number = r.number ∷ s.number; nodes = r.nodes ++ s.nodes; known = s.known })
+  pub number_items : Contents → ℕ → Anchored → Result (Numbered (List ℤ)) Fault
+  number_items no_items count before = Ok (record { number = []; nodes = []; before = before })
+  number_items (item c more) count before =
+      number c count before >>= λ r. number_items more (count + length r.nodes) r.before >>= λ s.
+      Ok (record { number = r.number ∷ s.number; nodes = r.nodes ++ s.nodes; before = s.before })
 
-  pub number_pairs : Pairs → ℕ → Anchors → Result (Numbered (List yaml_node_pair_t)) Fault
-  number_pairs no_pairs count known = Ok (record { number = []; nodes = []; known = known })
-  number_pairs (pair key value more) count known =
-      number key count known >>= λ r. number value (count + length r.nodes) r.known >>= λ s.
-      number_pairs more (count + length r.nodes + length s.nodes) s.known >>= λ t.
+  pub number_pairs : Pairs → ℕ → Anchored → Result (Numbered (List yaml_node_pair_t)) Fault
+  number_pairs no_pairs count before = Ok (record { number = []; nodes = []; before = before })
+  number_pairs (pair key value more) count before =
+      number key count before >>= λ r. number value (count + length r.nodes) r.before >>= λ s.
+      number_pairs more (count + length r.nodes + length s.nodes) s.before >>= λ t.
       let p : yaml_node_pair_t = record { key = r.number; value = s.number } in
       Ok (record {
         number = p ∷ t.number;
         nodes = r.nodes ++ (s.nodes ++ t.nodes);
-        known = t.known;
+        before = t.before;
       })
 
 -- ---- documents
@@ -228,7 +230,7 @@ document_events d rest =
 
 -- the loaded document of content, or the content's first fault
 abbrev pub document_of : DocumentContent → Result Document Fault
-document_of d = number d.root 0 map.empty >>= λ r. Ok (record {
+document_of d = number d.root 0 [] >>= λ r. Ok (record {
   version = d.version;
   directives = d.directives;
   start_implicit = d.start_implicit;

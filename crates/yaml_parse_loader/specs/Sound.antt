@@ -20,7 +20,7 @@ AreSoundOpen count (o ∷ os) = IsSoundOpen count o × AreSoundOpen count os
 
 -- each anchor names a node
 abbrev pub AreAnchors : ℕ → Anchors → Type 0
-AreAnchors count known = (name : List ℕ) → IfSome (map.get known name) (λ a. IsId count a.number)
+AreAnchors count known = (name : List ℕ) → IfSome (map.get known name) (λ n. IsId count n)
 
 -- the texts are UTF-8, and numbers name nodes, also those of open collections and anchors
 pub record IsLoading (l : Loading) : Type 0 where

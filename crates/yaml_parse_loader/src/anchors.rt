@@ -6,19 +6,11 @@ ghost use Rattle.std.specs.FinMap as map;
 use std::alloc::{AllocError, Global};
 use std::collections::BTreeMap;
 use std::marker::Model;
-use yaml_parse_model::yaml_mark_t;
 
-/// The last node so far that has an anchor: its number, and where it begins.
-#[derive(Clone, Copy)]
-pub struct Anchored {
-    pub number: i32,
-    pub mark: yaml_mark_t,
-}
-
-/// Anchors by their names, each with the last node that has it.
+/// Anchors by their names, each with the number of the last node that has it.
 #[derive(Drop)]
 pub struct AnchorTable {
-    entries: BTreeMap<Vec<u8>, Anchored>,
+    entries: BTreeMap<Vec<u8>, i32>,
 }
 
 impl Model for AnchorTable {
@@ -27,10 +19,9 @@ impl Model for AnchorTable {
     ghost Value = { Anchors };
 
     ghost use Rattle.std.specs.FinMap as map;
-    ghost use Rattle.std.specs.Coded.{coded_ℕ, coded_list};
-    ghost use Rattle.yaml_parse_loader.specs.contracts.anchors.Anchored as anchored;
+    ghost use Rattle.std.specs.Coded.{coded_ℕ, coded_ℤ, coded_list};
 
-    ghost coded = { map.code (coded_list coded_ℕ) anchored.the_row.coded };
+    ghost coded = { map.code (coded_list coded_ℕ) coded_ℤ };
 
     ghost use Rattle.yaml_parse_loader.specs.AnchorView.{anchors_view};
 
@@ -47,19 +38,19 @@ impl AnchorTable {
         }
     }
 
-    /// The last node that has the anchor.
-    pub fn get(&self, name: &[u8]) -> Option<Anchored>
+    /// The number of the last node that has the anchor.
+    pub fn get(&self, name: &[u8]) -> Option<i32>
         ensures { result ≡ map.get self.now name.now }
     {
         self.entries.get(name).copied()
     }
 
-    /// From now on the anchor names this node.
-    pub fn insert(&mut self, name: Vec<u8>, node: Anchored) -> Result<(), AllocError>
-        ensures ok { OnOk result (self.new ≡ map.insert self.old name.items node) }
+    /// From now on the anchor names the node of this number, whichever it named before.
+    pub fn insert(&mut self, name: Vec<u8>, number: i32) -> Result<(), AllocError>
+        ensures ok { OnOk result (self.new ≡ map.insert self.old name.items number) }
         ensures err { OnErr result (self.new ≡ self.old) }
     {
-        self.entries.insert(name, node)?;
+        self.entries.insert(name, number)?;
         Ok(())
     }
 }

@@ -7,8 +7,8 @@ ghost use Rattle.yaml_parse_loader.specs.Numbering.{DocumentContent, document_ev
 ghost use Rattle.yaml_parse_loader.specs.Loading.{Loading, load, document, behind};
 
 /// A law: whatever was loaded before, the loader makes of a document's events the document whose nodes are numbered in
-/// preorder, at the last of these events; or it refuses the first event at which an alias is undefined or an anchor
-/// occurs a second time.
+/// preorder, each alias standing for the last node before it with its anchor, at the last of these events; or it refuses
+/// the first alias without such a node.
 pub fn loads_documents()
     ensures { (d : DocumentContent) (rest : List Event) (l : Loading)
         → load (document_events d rest) l ≡ behind (document_of d) (λ e. document e rest) }

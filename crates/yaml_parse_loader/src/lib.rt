@@ -6,6 +6,5 @@ mod law;
 mod loader;
 mod making;
 
-pub use anchors::Anchored;
 pub use law::{loads_documents, numbers_follow_visits};
 pub use loader::Loader;

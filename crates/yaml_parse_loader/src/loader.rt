@@ -46,8 +46,8 @@ impl Loader {
     }
 
     /// Takes an event: at a DOCUMENT-END it gives the document, at every other one nothing. Nodes count from 1 in
-    /// preorder. An alias without a node before it that has its anchor is refused (`found undefined alias`), and so is
-    /// a second node with the same anchor (`second occurrence`). After a document and after a refusal it starts anew.
+    /// preorder. An alias stands for the last node before it that has its anchor, and is refused where there is none
+    /// (`found undefined alias`). After a document and after a refusal it starts anew.
     pub fn feed(&mut self, event: yaml_event_t) -> Result<Option<yaml_document_t>, yaml_fault_t>
         requires { HasUtf8 (event_of event).body }
         ensures { Feeds (step (event_of event) self.old) result self.new }

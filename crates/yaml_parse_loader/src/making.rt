@@ -5,13 +5,13 @@ ghost use Rattle.yaml_parse_model.specs.Faults.{fault_of, IsMemoryFault};
 ghost use Rattle.yaml_parse_model.specs.Events.{event_of, text_of, directive_of};
 ghost use Rattle.yaml_parse_model.specs.Nodes.{node_of};
 ghost use Rattle.yaml_parse_document.specs.Documents.{str_tag};
-ghost use Rattle.yaml_parse_loader.specs.Numbering.{is_bang, loaded_tag, scalar_node, sequence_node, mapping_node, anchored, undefined_alias, second_occurrence, known_with};
-ghost use Rattle.yaml_parse_loader.specs.Loading.{attach, attached, nothing_loaded, next, with_leaf, with_open, entered, enter, head_of, goes_on, refused, aliased, closed, place_of, filled, filled_body, started, step, Applies, Goes};
+ghost use Rattle.yaml_parse_loader.specs.Numbering.{is_bang, loaded_tag, scalar_node, sequence_node, mapping_node, undefined_alias};
+ghost use Rattle.yaml_parse_loader.specs.Loading.{attach, attached, nothing_loaded, next, named, enter_leaf, enter_open, goes_on, refused, aliased, closed, place_of, filled, filled_body, started, step, Applies, Goes};
 ghost use Rattle.yaml_parse_loader.specs.Views.{level_of, levels_of, loading_of, properties_of};
 ghost use Rattle.yaml_parse_loader.specs.Loading.{open_sequence, open_mapping};
 ghost use Rattle.std.specs.FinMap as finite;
 
-use crate::anchors::{AnchorTable, Anchored};
+use crate::anchors::AnchorTable;
 use std::alloc::Global;
 use yaml_parse_document::{DocumentParts, MAX_ENTRIES, push_entry};
 use yaml_parse_model::{
@@ -70,22 +70,6 @@ fn undefined_alias_fault(at: yaml_mark_t) -> yaml_fault_t
     }
 }
 
-// A second node with an anchor.
-fn second_occurrence_fault(first: yaml_mark_t, at: yaml_mark_t) -> yaml_fault_t
-    ensures { fault_of result ≡ second_occurrence first at }
-{
-    yaml_fault_t {
-        kind: yaml_error_type_t::YAML_COMPOSER_ERROR,
-        problem: "second occurrence",
-        offset: 0,
-        value: 0,
-        problem_mark: at,
-        context: Some("found duplicate anchor"),
-        context_mark: first,
-        origin: yaml_origin_t::Loader,
-    }
-}
-
 // No tag and the tag `!` become the default tag.
 fn tag_or_default(
     alloc: Global,
@@ -111,23 +95,19 @@ fn is_lone_bang(tag: &[u8]) -> bool
     tag.len() == 1 && tag[0] == b'!'
 }
 
-// Notes that a node has an anchor. A second node with the same anchor is refused.
+// From now on a node is what its anchor names.
 fn register(
     anchors: &mut AnchorTable,
     anchor: Option<Vec<u8>>,
-    node: Anchored,
+    number: i32,
 ) -> Result<(), yaml_fault_t>
-    ensures { MatchResult result
-        (λ _. known_with (text_of anchor) node anchors.old ≡ Ok anchors.new)
-        (λ f. IsMemoryFault f ⊎ (known_with (text_of anchor) node anchors.old ≡ Err (fault_of f))) }
+    ensures { MatchResult result (λ _. anchors.new ≡ named (text_of anchor) number anchors.old)
+        (λ f. IsMemoryFault f) }
 {
     let Some(name) = anchor else {
         return Ok(());
     };
-    if let Some(first) = anchors.get(&name) {
-        return Err(second_occurrence_fault(first.mark, node.mark));
-    }
-    match anchors.insert(name, node) {
+    match anchors.insert(name, number) {
         Ok(()) => Ok(()),
         Err(_) => Err(out_of_memory()),
     }
@@ -279,23 +259,21 @@ impl Making {
     {
         match self.anchors.get(name) {
             None => Err(undefined_alias_fault(at)),
-            Some(node) => attach(&mut self.levels, node.number),
+            Some(number) => attach(&mut self.levels, number),
         }
     }
 
     // One node more: its anchor is noted, and the collection round it gets its number.
     fn add(&mut self, anchor: Option<Vec<u8>>, node: yaml_node_t) -> Result<(), yaml_fault_t>
-        ensures { Goes (entered (known_with (text_of anchor)
-            (anchored (next (loading_of self.old)) node.start_mark) (loading_of self.old).anchors)
-            (with_leaf (loading_of self.old) (node_of node))) result (loading_of self.new) }
+        ensures { MatchResult result (λ _. loading_of self.new ≡ enter_leaf (loading_of self.old)
+            (text_of anchor) (node_of node)) (λ f. IsMemoryFault f) }
     {
         let count = self.parts.nodes.len();
         if count >= MAX_ENTRIES {
             return Err(out_of_memory());
         }
         let number = (count + 1) as i32;
-        let mark = node.start_mark;
-        register(&mut self.anchors, anchor, Anchored { number, mark })?;
+        register(&mut self.anchors, anchor, number)?;
         extend(&mut self.parts.nodes, node)?;
         attach(&mut self.levels, number)
     }
@@ -307,10 +285,8 @@ impl Making {
         node: yaml_node_t,
         level: Level,
     ) -> Result<(), yaml_fault_t>
-        ensures { Goes (entered (known_with (text_of anchor)
-            (anchored (next (loading_of self.old)) node.start_mark) (loading_of self.old).anchors)
-            (with_open (loading_of self.old) (node_of node) (level_of level))) result
-            (loading_of self.new) }
+        ensures { MatchResult result (λ _. loading_of self.new ≡ enter_open (loading_of self.old)
+            (text_of anchor) (node_of node) (level_of level)) (λ f. IsMemoryFault f) }
     {
         self.add(anchor, node)?;
         match self.levels.push(level) {
@@ -340,9 +316,9 @@ impl Making {
         value: Vec<u8>,
         style: yaml_scalar_style_t,
     ) -> Result<(), yaml_fault_t>
-        ensures { Goes (entered (enter (loading_of self.old) (properties_of head))
-            (with_leaf (loading_of self.old) (scalar_node (properties_of head) value.items style)))
-            result (loading_of self.new) }
+        ensures { MatchResult result (λ _. loading_of self.new ≡ enter_leaf (loading_of self.old)
+            (text_of head.anchor) (scalar_node (properties_of head) value.items style))
+            (λ f. IsMemoryFault f) }
     {
         let Properties {
             anchor,
@@ -366,11 +342,10 @@ impl Making {
         head: Properties,
         style: yaml_sequence_style_t,
     ) -> Result<(), yaml_fault_t>
-        ensures { Goes (entered (enter (loading_of self.old) (properties_of head))
-            (with_open (loading_of self.old) (sequence_node (properties_of head) [] style
-            head.end_mark)
-            (open_sequence (length (loading_of self.old).document.nodes) []))) result
-            (loading_of self.new) }
+        ensures { MatchResult result (λ _. loading_of self.new ≡ enter_open (loading_of self.old)
+            (text_of head.anchor) (sequence_node (properties_of head) [] style head.end_mark)
+            (open_sequence (length (loading_of self.old).document.nodes) []))
+            (λ f. IsMemoryFault f) }
     {
         let Properties {
             anchor,
@@ -398,11 +373,10 @@ impl Making {
 
     // A mapping begins.
     fn mapping(&mut self, head: Properties, style: yaml_mapping_style_t) -> Result<(), yaml_fault_t>
-        ensures { Goes (entered (enter (loading_of self.old) (properties_of head))
-            (with_open (loading_of self.old) (mapping_node (properties_of head) [] style
-            head.end_mark)
-            (open_mapping (length (loading_of self.old).document.nodes) [] None))) result
-            (loading_of self.new) }
+        ensures { MatchResult result (λ _. loading_of self.new ≡ enter_open (loading_of self.old)
+            (text_of head.anchor) (mapping_node (properties_of head) [] style head.end_mark)
+            (open_mapping (length (loading_of self.old).document.nodes) [] None))
+            (λ f. IsMemoryFault f) }
     {
         let Properties {
             anchor,

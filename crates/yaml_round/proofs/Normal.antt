@@ -23,7 +23,7 @@ set_under Utf8 = tt
 set_under Utf16Le = tt
 set_under Utf16Be = tt
 
-canonical_under : (s : yaml_settings_t) → AreCanonical (requested_under s true)
+pub canonical_under : (s : yaml_settings_t) → AreCanonical (requested_under s true)
 canonical_under s = record { canonical = refl; set = set_under s.encoding }
 
 -- ---- what is laid out
@@ -36,7 +36,7 @@ text_is from input s c text h laid =
     laid.is ∙ ap (λ (x : Encoding). encode x laid.whole) p.0 ∙ ap (encode (canon_encoding (requested_under s true))) p.1
 
 -- and that passes no limit
-text_fits : (from : yaml_encoding_t) (input : List ℕ) (s : yaml_settings_t) (c : List Document) (text : List ℕ) → HasContent from input c
+pub text_fits : (from : yaml_encoding_t) (input : List ℕ) (s : yaml_settings_t) (c : List Document) (text : List ℕ) → HasContent from input c
     → IsLayout (requested_under s true) s.limit (emitter_events true (events_of from input)) text
     → Fits s.limit (canon_encoding (requested_under s true)) (canon_items (requested_under s true) c)
 text_fits from input s c text h laid =

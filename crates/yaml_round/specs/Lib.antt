@@ -12,3 +12,5 @@ pub use Rattle.yaml_round_device.specs.Run
 pub use Rattle.yaml_round_device.specs.StdDevices
 pub use Rattle.yaml_round_lines.specs.FaultLine
 pub use Rattle.yaml_round_lines.specs.EventLine
+-- the laws beneath, for crates of laws that name this one alone
+pub use Rattle.yaml_round_laws_back.specs as round_laws_back

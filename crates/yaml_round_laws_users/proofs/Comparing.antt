@@ -1,0 +1,24 @@
+-- Comparing is an equivalence, since contents are compared by an equation.
+use Rattle.std.proofs.Common.{◌≡◌, ℕ, Bool, true, false, IsTrue, List, refl, sym, ◌∙◌}
+use Rattle.yaml_round.specs.round_laws_back.content.round_laws.emit_laws_streams.scan.declared.yaml_encoding_t.{yaml_encoding_t}
+use Rattle.yaml_round.specs.Answers.{IsCompared, SameContent}
+use Rattle.yaml_round_laws_users.specs.Laws.{SameContentIsAnEquivalence, ComparisonsAgree}
+
+pub equivalence : SameContentIsAnEquivalence
+equivalence = record {
+  reflexive = λ from a. refl;
+  symmetric = λ a_from b_from a b h. sym h;
+  transitive = λ a_from b_from c_from a b c h k. h ∙ k;
+}
+
+both_true : (x y : Bool) → (IsTrue x → IsTrue y) → (IsTrue y → IsTrue x) → x ≡ y
+both_true true true h k = refl
+both_true true false h k = absurd (h tt)
+both_true false true h k = absurd (k tt)
+both_true false false h k = refl
+
+pub agree : ComparisonsAgree
+agree = record {
+  again = λ a_from b_from a b x y h k. both_true x y (λ t. k.told.1 (h.told.0 t)) (λ t. h.told.1 (k.told.0 t));
+  turned = λ a_from b_from a b x y h k. both_true x y (λ t. k.told.1 (sym (h.told.0 t))) (λ t. h.told.1 (sym (k.told.0 t)));
+}

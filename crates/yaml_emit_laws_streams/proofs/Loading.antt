@@ -8,8 +8,8 @@ use Rattle.yaml_emit.specs.parse.Events as event
 use Rattle.yaml_emit.specs.parse.Nodes as model
 use Rattle.yaml_emit.specs.parse.Documents.{Document, with_node, change_place, str_tag, seq_tag, map_tag, no_document}
 use Rattle.yaml_emit.specs.parse.Resolve.{Told}
-use Rattle.yaml_emit.specs.parse.Numbering.{Head, loaded_tag, is_bang, scalar_node, sequence_node, mapping_node}
-use Rattle.yaml_emit.specs.parse.Loading.{Open, open_sequence, open_mapping, Loading, Fed, goes_on, loaded, refused, nothing_loaded, step, step_body, entered, enter, aliased, closed, filled, head_of, with_leaf, with_open}
+use Rattle.yaml_emit.specs.parse.Numbering.{loaded_tag, is_bang}
+use Rattle.yaml_emit.specs.parse.Loading.{Open, open_sequence, open_mapping, Loading, Fed, goes_on, loaded, refused, nothing_loaded, step, step_body, aliased, closed, filled}
 use Rattle.yaml_emit.specs.parse.Loads.{Loads, load_on, behind_all, loads}
 use Rattle.std.specs.FinMap as map
 use Rattle.yaml_emit.specs.emit_layout.declared.Problem.{Problem}
@@ -66,20 +66,6 @@ one_more (m ∷ ns) n h k = (h.0, one_more ns n h.1 k)
 with_one : (d : Document) (n : model.Node) → RightDocument d → 0 < length n.tag → RightDocument (with_node d n)
 with_one d n r k = record { tags = one_more d.nodes n r.tags k; opening = r.opening }
 
-with_leaf_right : (l : Loading) (h : Head) (n : model.Node) → RightDocument l.document → 0 < length n.tag → RightFed (entered (enter l h) (with_leaf l n))
-with_leaf_right l h n r k =
-    elim (enter l h) as (λ x. RightFed (entered x (with_leaf l n))) [
-      | Ok known ↦ with_one l.document n r k
-      | Err f ↦ tt
-    ]
-
-with_open_right : (l : Loading) (h : Head) (n : model.Node) (o : Open) → RightDocument l.document → 0 < length n.tag → RightFed (entered (enter l h) (with_open l n o))
-with_open_right l h n o r k =
-    elim (enter l h) as (λ x. RightFed (entered x (with_open l n o))) [
-      | Ok known ↦ with_one l.document n r k
-      | Err f ↦ tt
-    ]
-
 aliased_right : (name : List ℕ) (at : yaml_mark_t) (l : Loading) → RightDocument l.document → RightFed (aliased (map.get l.anchors name) at l)
 aliased_right name at l r =
     elim (map.get l.anchors name) as (λ x. RightFed (aliased x at l)) [
@@ -103,14 +89,9 @@ body_right event.stream_end from to l h r = r
 body_right (event.document_start version directives implicit) from to l h r = record { tags = tt; opening = h }
 body_right (event.document_end implicit) from to l h r = record { tags = r.tags; opening = r.opening }
 body_right (event.alias name) from to l h r = aliased_right name from l r
-body_right (event.scalar anchor tag value plain quoted style) from to l h r =
-    let p : Head = head_of anchor tag from to in with_leaf_right l p (scalar_node p value style) r (some_tag tag str_tag h (omega arith))
-body_right (event.sequence_start anchor tag implicit style) from to l h r =
-    let p : Head = head_of anchor tag from to in
-    with_open_right l p (sequence_node p [] style to) (open_sequence (length l.document.nodes) []) r (some_tag tag seq_tag h (omega arith))
-body_right (event.mapping_start anchor tag implicit style) from to l h r =
-    let p : Head = head_of anchor tag from to in
-    with_open_right l p (mapping_node p [] style to) (open_mapping (length l.document.nodes) [] None) r (some_tag tag map_tag h (omega arith))
+body_right (event.scalar anchor tag value plain quoted style) from to l h r = with_one l.document _ r (some_tag tag str_tag h (omega arith))
+body_right (event.sequence_start anchor tag implicit style) from to l h r = with_one l.document _ r (some_tag tag seq_tag h (omega arith))
+body_right (event.mapping_start anchor tag implicit style) from to l h r = with_one l.document _ r (some_tag tag map_tag h (omega arith))
 body_right event.sequence_end from to l h r = closed_right to l l.levels r
 body_right event.mapping_end from to l h r = closed_right to l l.levels r
 

@@ -1,0 +1,4 @@
+mod Core
+mod Contents
+mod Names
+mod Walks

@@ -1,0 +1,3 @@
+pub mod Agree
+pub mod Renamed
+pub mod Laws

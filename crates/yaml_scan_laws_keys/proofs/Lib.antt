@@ -1,4 +1,4 @@
-mod MadeLemmas
-mod FreeLemmas
+pub mod MadeLemmas
+pub mod FreeLemmas
 mod StepLemmas
 pub mod TextLemmas

@@ -49,7 +49,7 @@ around_length (q ∷ qs) = omega arith
 more_length : (qs : List Bool) → length qs + 1 ≡ length (false ∷ qs)
 more_length qs = omega arith
 
-depth_after_is : (k : Kind) (qs : List Bool) → depth_after k (length qs) ≡ length (asked_after k qs)
+pub depth_after_is : (k : Kind) (qs : List Bool) → depth_after k (length qs) ≡ length (asked_after k qs)
 depth_after_is kinds.FlowSequenceStart qs = more_length qs
 depth_after_is kinds.FlowMappingStart qs = more_length qs
 depth_after_is kinds.FlowSequenceEnd qs = around_length qs
@@ -83,14 +83,14 @@ Clear (q ∷ qs) h = (q ≡ true → candidate (suc (length qs)) h ≡ None) × 
 abbrev Quiet : List Bool → List Lexeme → Type 0
 Quiet qs h = innermost qs ≡ true → key_allowed h ≡ false
 
-candidate_lower : (d : ℕ) (l : Lexeme) (h : List Lexeme) → d < l.depth → candidate d (l ∷ h) ≡ candidate d h
+pub candidate_lower : (d : ℕ) (l : Lexeme) (h : List Lexeme) → d < l.depth → candidate d (l ∷ h) ≡ candidate d h
 unfolding candidate
 candidate_lower d l h e =
     let a : (l.depth == d) ≡ false = grind (arith, nat_tests) in
     let b : nat_lt l.depth d ≡ false = grind (arith, nat_tests) in
     rw (a, b) refl
 
-candidate_own : (d : ℕ) (l : Lexeme) (h : List Lexeme) → l.depth ≡ d → l.saved ≡ false → (cancels l.kind ≡ false → candidate d h ≡ None) → candidate d (l ∷ h) ≡ None
+pub candidate_own : (d : ℕ) (l : Lexeme) (h : List Lexeme) → l.depth ≡ d → l.saved ≡ false → (cancels l.kind ≡ false → candidate d h ≡ None) → candidate d (l ∷ h) ≡ None
 unfolding candidate
 candidate_own d l h e s none =
     let a : (l.depth == d) ≡ true = grind (arith, nat_tests) in

@@ -1,4 +1,4 @@
 pub mod MadeLemmas
 pub mod FreeLemmas
-mod StepLemmas
+pub mod StepLemmas
 pub mod TextLemmas

@@ -113,7 +113,7 @@ tested_read : (l : Lexeme) (h : List Lexeme) → Unrequired (candidate 0 (l ∷ 
 tested_read l h u =
     ap (λ o. elim o as (λ _. Next) [ Some start ↦ no_colon start l.reached | None ↦ Read l ]) (missed_none (candidate 0 (l ∷ h)) l.reached u)
 
-whole_of : (w : WordText) (r : Result WordText Wrong) → r ≡ Ok w → Whole r → w.broke ≡ false
+pub whole_of : (w : WordText) (r : Result WordText Wrong) → r ≡ Ok w → Whole r → w.broke ≡ false
 whole_of w (Ok x) e b = let same : x ≡ w = cc in ap (λ (y : WordText). y.broke) (sym same) ∙ b
 whole_of w (Err x) e b = absurd (cc)
 

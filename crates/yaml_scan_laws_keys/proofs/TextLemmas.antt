@@ -114,7 +114,7 @@ body_is k s l p w f level at said =
     ap (λ n. body_of_word (word_at k (nat_lt 0 l.depth) n s.text l.start.index)) level ∙ ap (λ n. body_of_word (word_at k (nat_lt 0 l.depth) 0 s.text n)) at
     ∙ ap (λ (r : Result WordText Wrong). body_of_word r) said
 
-token_is : (s : SpelledText) (w : Word) (h : List Lexeme) → StandsBehind s.text h w → token_in s (lexeme_of s.text h (gap_in s.text h) w.kind w.said) ≡ token_of s.text w
+pub token_is : (s : SpelledText) (w : Word) (h : List Lexeme) → StandsBehind s.text h w → token_in s (lexeme_of s.text h (gap_in s.text h) w.kind w.said) ≡ token_of s.text w
 token_is s w h stands =
     let gap = gap_in s.text h in
     let l = lexeme_of s.text h gap w.kind w.said in

@@ -1,0 +1,2 @@
+mod Cuts
+mod Unique

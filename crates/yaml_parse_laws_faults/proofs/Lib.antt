@@ -1,2 +1,7 @@
 mod Cuts
 mod Unique
+mod Standing
+mod Refusing
+mod Keeping
+mod Settling
+mod Properties

@@ -5,3 +5,6 @@ mod Refusing
 mod Keeping
 mod Settling
 mod Properties
+mod Stepping
+mod Going
+mod Tagging

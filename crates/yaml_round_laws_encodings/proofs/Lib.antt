@@ -1,3 +1,0 @@
-mod Tokens
-mod Events
-mod Joining

@@ -1,2 +1,0 @@
-mod Rewriting
-mod Comparing

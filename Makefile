@@ -2,7 +2,8 @@
 #   the sources, else with one that is built without proofs.
 # make test: the gate.
 # make program: proves and builds crates/yaml_cli/out/yaml_cli, and says how far it is.
-# make install: puts the proved program into PREFIX/bin, below DESTDIR where that is set.
+# make install: puts the proved program into PREFIX/bin, and its man page and completions below PREFIX/share, below DESTDIR
+#   where that is set.
 # make bench: the program beside C's libyaml (docs/BENCHMARK.md). It needs python3, a C compiler and libyaml's headers.
 # make bench-counts: the same by counts of instructions; it needs valgrind.
 # make docs: writes docs/EDITS.md and the quoted definitions of docs/MEANING.md again, and looks for names in the documents
@@ -18,6 +19,7 @@
 
 PREFIX ?= /usr/local
 program = crates/yaml_cli/out/yaml_cli
+share = $(DESTDIR)$(PREFIX)/share
 
 run:
 	@tools/run.sh "$$FILE"
@@ -31,6 +33,10 @@ program:
 install: program
 	install -d '$(DESTDIR)$(PREFIX)/bin'
 	install -m 755 $(program) '$(DESTDIR)$(PREFIX)/bin/yaml_cli'
+	install -D -m 644 docs/man/yaml_cli.1 '$(share)/man/man1/yaml_cli.1'
+	install -D -m 644 completions/yaml_cli.bash '$(share)/bash-completion/completions/yaml_cli'
+	install -D -m 644 completions/_yaml_cli '$(share)/zsh/site-functions/_yaml_cli'
+	install -D -m 644 completions/yaml_cli.fish '$(share)/fish/vendor_completions.d/yaml_cli.fish'
 
 bench: program
 	@python3 bench/run.py $(program)
@@ -47,8 +53,8 @@ docs:
 bindings-test: library
 	@tools/bindings_test.sh
 
-faults: program
+faults:
 	@tools/faults.py
 
-fuzz: program
+fuzz:
 	@tools/fuzz.py --seconds '$(or $(SECONDS),60)'

@@ -35,18 +35,19 @@ compile() {
         wrong "$file doesn't compile as $name"
 }
 
-# ends NAME STATUS OUTPUT ERRORS: what the program gave, its output's last line and its errors.
+# ends NAME STATUS OUTPUT ERRORS: what the program gave, a pattern of its output's last line and its errors.
 ends() {
-    local status=$?
-    [ "$status" = "$2" ] || wrong "$1 ends with status $status, not $2: $(head -c 2000 "$work/errors")"
-    [ "$(tail -n 1 "$work/output")" = "$3" ] || wrong "$1 writes at the end: $(tail -n 1 "$work/output")"
-    [ "$(cat "$work/errors")" = "$4" ] || wrong "$1 says: $(head -c 2000 "$work/errors")"
+    local status=$? last
+    last=$(tail -n 1 "$work/output")
+    [ "$status" = "$2" ] || wrong "$1 ends with status $status, not $2"
+    [[ $last =~ ^$3$ ]] || wrong "$1 writes at the end: $last"
+    [ "$(cat "$work/errors")" = "$4" ] || wrong "$1 says: $(head -c 1000 "$work/errors")"
 }
 
 # example NAME: the example on a text that is accepted, one that is refused, and none; all programs of it write the same.
 example() {
     "$work/$1" <<<$'%TAG !e! tag:x\n--- !e!a\n- &x {k: v}\n- *x' >"$work/output" 2>"$work/errors"
-    ends "$1" 0 '# emitted again: 94 bytes, the same content' ''
+    ends "$1" 0 '# emitted again: [1-9][0-9]* bytes, the same content' ''
     [ -f "$work/first" ] || cp "$work/output" "$work/first"
     cmp -s "$work/first" "$work/output" || wrong "$1 writes something else: $(diff "$work/first" "$work/output" | head -5)"
     "$work/$1" <<<'key: [1, 2' >"$work/output" 2>"$work/errors"

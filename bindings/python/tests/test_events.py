@@ -100,9 +100,15 @@ class Parse(unittest.TestCase):
 class Emit(unittest.TestCase):
     def test_forms(self) -> None:
         events = document(SequenceStart(), Scalar("a"), Scalar("b", style=ScalarStyle.SINGLE_QUOTED), SequenceEnd())
-        self.assertEqual(yaml_c.emit(events), b'---\n[\n  ! "a",\n  "b",\n]\n')
+        self.assertEqual(yaml_c.emit(events), b'---\n[\n  "a",\n  "b",\n]\n')
         self.assertEqual(yaml_c.emit(events, PRETTY), b"- a\n- 'b'\n")
         self.assertEqual(yaml_c.emit(iter(events), PRETTY), b"- a\n- 'b'\n")
+
+    def test_plain_scalars(self) -> None:
+        # only where the tag may not be left out in quotes, it is told that the scalar was plain
+        self.assertEqual(yaml_c.emit(document(Scalar("a", **PLAIN))), b'---\n! "a"\n')
+        self.assertEqual(yaml_c.emit(document(Scalar("a"))), b'---\n"a"\n')
+        self.assertEqual(yaml_c.emit(document(Scalar("a", **PLAIN)), PRETTY), b"a\n")
 
     def test_properties(self) -> None:
         events = document(MappingStart("!m", "x", implicit=False), Scalar("k"), Alias("x"), MappingEnd())

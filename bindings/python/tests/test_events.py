@@ -23,6 +23,8 @@ from yaml_c import (
     Style,
 )
 
+from . import NEEDS_EVENTS
+
 PRETTY = Settings(canonical=False)
 PLAIN = {"style": ScalarStyle.PLAIN, "implicit": True, "quoted_implicit": False}
 BLOCK: dict[str, Any] = {"style": Style.BLOCK}
@@ -44,6 +46,7 @@ def document(*events: Event) -> list[Event]:
     return [StreamStart(), DocumentStart(), *events, DocumentEnd(), StreamEnd()]
 
 
+@NEEDS_EVENTS
 class Parse(unittest.TestCase):
     def test_kinds(self) -> None:
         found = yaml_c.parse(b"a: &x !t [b, *x]\n")
@@ -97,6 +100,7 @@ class Parse(unittest.TestCase):
         self.assertEqual(found[2].value, "a\0b")  # type: ignore[union-attr]
 
 
+@NEEDS_EVENTS
 class Emit(unittest.TestCase):
     def test_forms(self) -> None:
         events = document(SequenceStart(), Scalar("a"), Scalar("b", style=ScalarStyle.SINGLE_QUOTED), SequenceEnd())

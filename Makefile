@@ -2,7 +2,10 @@
 #   the sources, else with one that is built without proofs.
 # make test: the gate.
 # make program: proves and builds crates/yaml_cli/out/yaml_cli, and says how far it is.
-# make install: puts the proved program into PREFIX/bin, below DESTDIR where that is set.
+# make install: puts the proved program into PREFIX/bin, and its man page and completions below PREFIX/share, below DESTDIR
+#   where that is set.
+# make library: proves and builds the library for C and what calls C: out/library/libyaml_c.a and libyaml_c.so, whose
+#   header is bindings/c/yaml_c.h. It needs a C compiler and binutils, and a machine with x86-64.
 # make bench: the program beside C's libyaml (docs/BENCHMARK.md). It needs python3, a C compiler and libyaml's headers.
 # make bench-counts: the same by counts of instructions; it needs valgrind.
 # make docs: writes docs/EDITS.md and the quoted definitions of docs/MEANING.md again, and looks for names in the documents
@@ -14,10 +17,11 @@
 #   interrupted in turn, and judges each run. It needs glibc, a C compiler and python3.
 # make fuzz SECONDS=60: feeds the program changed texts and judges its answers, beside libyaml's where its header is there.
 #   It needs python3; for libyaml a C compiler too.
-.PHONY: run test program install bench bench-counts docs bindings-test faults fuzz
+.PHONY: run test program install library bench bench-counts docs bindings-test faults fuzz
 
 PREFIX ?= /usr/local
 program = crates/yaml_cli/out/yaml_cli
+share = $(DESTDIR)$(PREFIX)/share
 
 run:
 	@tools/run.sh "$$FILE"
@@ -31,6 +35,13 @@ program:
 install: program
 	install -d '$(DESTDIR)$(PREFIX)/bin'
 	install -m 755 $(program) '$(DESTDIR)$(PREFIX)/bin/yaml_cli'
+	install -D -m 644 docs/man/yaml_cli.1 '$(share)/man/man1/yaml_cli.1'
+	install -D -m 644 completions/yaml_cli.bash '$(share)/bash-completion/completions/yaml_cli'
+	install -D -m 644 completions/_yaml_cli '$(share)/zsh/site-functions/_yaml_cli'
+	install -D -m 644 completions/yaml_cli.fish '$(share)/fish/vendor_completions.d/yaml_cli.fish'
+
+library:
+	@tools/library.sh
 
 bench: program
 	@python3 bench/run.py $(program)
@@ -47,8 +58,8 @@ docs:
 bindings-test: library
 	@tools/bindings_test.sh
 
-faults: program
+faults:
 	@tools/faults.py
 
-fuzz: program
+fuzz:
 	@tools/fuzz.py --seconds '$(or $(SECONDS),60)'

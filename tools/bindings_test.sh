@@ -6,11 +6,11 @@
 #     tools/bindings_test.sh
 #
 # The example is linked with the archive and with the shared object; both must write the same, also under ASan and UBSan, with
-# no block left. Python's tests run as they are and, with ASan's library before the C library, once more.
+# no block left. bindings/c/check.c calls the archive with numbers that mean nothing and with each allocation refused in turn.
+# Python's tests run as they are and, with ASan's library before the C library, once more.
 set -u
 top=$(cd "$(dirname "$0")/.." && pwd)
 library=$top/out/library
-example=$top/bindings/c/example.c
 compiler=${CC:-cc}
 work=$(mktemp -d) || exit 2
 trap 'rm -rf "$work"' EXIT
@@ -27,20 +27,40 @@ wrong() {
     exit 2
 }
 
-# compile NAME FLAG..: the example as a program of that name.
+# compile NAME FILE FLAG..: a program of bindings/c.
 compile() {
-    local name=$1
-    shift
-    $compiler -O1 -g -Wall -Wextra -Werror -I "$top/bindings/c" -o "$work/$name" "$example" "$@" || wrong "$name doesn't compile"
+    local name=$1 file=$2
+    shift 2
+    $compiler -O1 -g -Wall -Wextra -Werror -I "$top/bindings/c" -o "$work/$name" "$top/bindings/c/$file" "$@" ||
+        wrong "$file doesn't compile as $name"
 }
 
-# run NAME: it ends with status 0 and writes what the first one wrote.
-run() {
-    "$work/$1" >"$work/$1.out" 2>"$work/$1.err" || wrong "$1 ends with status $?: $(head -c 2000 "$work/$1.err")"
-    [ -s "$work/$1.out" ] || wrong "$1 writes nothing"
-    [ -f "$work/first" ] || cp "$work/$1.out" "$work/first"
-    cmp -s "$work/first" "$work/$1.out" || wrong "$1 writes something else: $(diff "$work/first" "$work/$1.out" | head -5)"
-    say "C example, $1: done"
+# ends NAME STATUS OUTPUT ERRORS: what the program gave, a pattern of its output's last line and its errors.
+ends() {
+    local status=$? last
+    last=$(tail -n 1 "$work/output")
+    [ "$status" = "$2" ] || wrong "$1 ends with status $status, not $2"
+    [[ $last =~ ^$3$ ]] || wrong "$1 writes at the end: $last"
+    [ "$(cat "$work/errors")" = "$4" ] || wrong "$1 says: $(head -c 1000 "$work/errors")"
+}
+
+# example NAME: the example on a text that is accepted, one that is refused, and none; all programs of it write the same.
+example() {
+    "$work/$1" <<<$'%TAG !e! tag:x\n--- !e!a\n- &x {k: v}\n- *x' >"$work/output" 2>"$work/errors"
+    ends "$1" 0 '# emitted again: [1-9][0-9]* bytes, the same content' ''
+    [ -f "$work/first" ] || cp "$work/output" "$work/first"
+    cmp -s "$work/first" "$work/output" || wrong "$1 writes something else: $(diff "$work/first" "$work/output" | head -5)"
+    "$work/$1" <<<'key: [1, 2' >"$work/output" 2>"$work/errors"
+    ends "$1" 1 '' "parser error: while parsing a flow sequence (line 1, column 6): did not find expected ',' or ']' (line 2, column 1)"
+    "$work/$1" </dev/null >"$work/output" 2>"$work/errors"
+    ends "$1" 0 '# emitted again: 0 bytes, the same content' ''
+    say "C example, $1: run"
+}
+
+# hostile NAME: bindings/c/check.c, which judges itself.
+hostile() {
+    "$work/$1" >"$work/output" 2>"$work/errors" || wrong "$1: $(cat "$work/output" "$work/errors" | head -c 3000)"
+    say "$1: $(tail -n 1 "$work/output")"
 }
 
 has_sanitizer() {
@@ -48,14 +68,28 @@ has_sanitizer() {
     $compiler -fsanitize=address,undefined -o "$work/empty" "$work/empty.c" 2>/dev/null && "$work/empty" 2>/dev/null
 }
 
-compile archive "$library/libyaml_c.a" && run archive
-compile shared "$library/libyaml_c.so" -Wl,-rpath,"$library" && run shared
+# The example needs all calls.
+has_events=
+if nm "$library/libyaml_c.a" 2>/dev/null | grep -q 'T yaml_c_emit$'; then
+    has_events=1
+else
+    say "the library has no yaml_c_parse and yaml_c_emit: the C example isn't built"
+fi
+heap=-Wl,--wrap=malloc,--wrap=realloc,--wrap=free
+if [ $has_events ]; then
+    compile archive example.c "$library/libyaml_c.a" && example archive
+    compile shared example.c "$library/libyaml_c.so" -Wl,-rpath,"$library" && example shared
+fi
+compile hostile check.c "$library/libyaml_c.a" $heap && hostile hostile
 if has_sanitizer; then
     sanitized='-fsanitize=address,undefined -fno-sanitize-recover=all'
-    compile sanitized_archive $sanitized "$library/libyaml_c.a" && ASAN_OPTIONS=detect_leaks=1 run sanitized_archive
-    compile sanitized_shared $sanitized "$library/libyaml_c.so" -Wl,-rpath,"$library" && run sanitized_shared
+    if [ $has_events ]; then
+        compile archive_asan example.c $sanitized "$library/libyaml_c.a" && example archive_asan
+        compile shared_asan example.c $sanitized "$library/libyaml_c.so" -Wl,-rpath,"$library" && example shared_asan
+    fi
+    compile hostile_asan check.c $sanitized "$library/libyaml_c.a" $heap && hostile hostile_asan
 else
-    say "$compiler has no AddressSanitizer here: the example isn't run under it"
+    say "$compiler has no AddressSanitizer here: the programs in C aren't run under it"
 fi
 echo '#include "yaml_c.h"' >"$work/header.cc"
 if $compiler -x c++ -fsyntax-only "$work/empty.c" 2>/dev/null; then

@@ -4,8 +4,8 @@
  *     FAULTS='write fail 3 1' FAULTS_FD=9 LD_PRELOAD=./faults.so PROGRAM WORD..  9>report
  *
  * FAULTS names which calls are meant (memory, read, write, open), what happens to them (fail; short: one byte is moved;
- * again: it is interrupted; none: a write takes no byte), which of them is the first, from 1 on, and how many in a row
- * (0: all that follow). At the end a line of numbers goes to the descriptor FAULTS_FD: how many calls of each of the four
+ * again: it is interrupted; none: a write takes no byte; cut: the first moves one byte, and further ones of its descriptor
+ * fail), which of them is the first, from 1 on, and how many in a row (0: all that follow). At the end a line of numbers goes to the descriptor FAULTS_FD: how many calls of each of the four
  * there were, how many went wrong, and the descriptor of the first of those (-1: it has none).
  *
  * Calls count from the start of the program's main, so the loader's own aren't met. It needs glibc. */
@@ -22,9 +22,9 @@
 #include <unistd.h>
 
 enum { MEMORY, READ, WRITE, OPEN, KINDS };
-enum { FAIL, SHORT, AGAIN, NONE, WAYS };
+enum { FAIL, SHORT, AGAIN, NONE, CUT, WAYS };
 static const char *const KIND_WORDS[] = {"memory", "read", "write", "open"};
-static const char *const WAY_WORDS[] = {"fail", "short", "again", "none"};
+static const char *const WAY_WORDS[] = {"fail", "short", "again", "none", "cut"};
 
 static long calls[KINDS], hits, first, count;
 static int kind = -1, way, is_on, report = -1, hit_fd = -1;
@@ -75,7 +75,7 @@ static int is_hit(int of, int fd)
     if (!is_on)
         return 0;
     at = ++calls[of];
-    if (of != kind || at < first || (count && at >= first + count))
+    if (of != kind || at < first || (count && at >= first + count) || (way == CUT && hits && fd != hit_fd))
         return 0;
     if (!hits++)
         hit_fd = fd;
@@ -133,7 +133,7 @@ int posix_memalign(void **block, size_t alignment, size_t size)
 /* How many bytes a call that goes wrong may move, or -1. A call for no byte or one has no half: it is left as it is. */
 static ssize_t moved(size_t size, int error)
 {
-    if (way == SHORT)
+    if (way == SHORT || (way == CUT && hits == 1))
         return size > 1 ? 1 : (ssize_t)size;
     return way == NONE ? 0 : failed(way == AGAIN ? EINTR : error);
 }
@@ -154,6 +154,11 @@ ssize_t write(int fd, const void *from, size_t size)
         return most <= 0 ? most : syscall(SYS_write, fd, from, (size_t)most);
     }
     return syscall(SYS_write, fd, from, size);
+}
+
+ssize_t __write(int fd, const void *from, size_t size)
+{
+    return write(fd, from, size);
 }
 
 static size_t sum_of(const struct iovec *parts, int number)

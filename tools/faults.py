@@ -10,17 +10,21 @@ Each case is a command line with its input. It is run as it is first, which tell
 writes and opens it makes. Then each of these goes wrong in turn:
 
     each allocation refused, alone, and with all that follow
-    each read    failing, moving one byte, interrupted once, interrupted 999 times (the last that is tried again) and 1,000
-    each write   failing, taking no byte, taking one byte, interrupted in the same ways; and all of them taking one byte
+    each read    failing, moving one byte, moving one byte before the next one fails, interrupted once, interrupted 999 times
+                 (the last that is tried again) and 1,000 times; and all of them moving one byte
+    each write   in the same ways, and taking no byte
     each open    failing, interrupted
+
+and some runs meet what goes wrong by itself: a full device as the output, a folder as the input.
 
 What is promised, and judged for each run (docs/PROFILE.md, 'The program'):
 
     an answer       the same status, output and lines as without anything wrong
     told            status 1, the one line that names what went wrong, and nothing on standard output
     written so far  a failed write of the answer: status 1, `write failed after N bytes`, and the answer's first N bytes
-    untold          of want of memory where the line itself can't be made: status 1, or 2 for the words of the command line,
-                    and nothing written at all; where a line can't be written: the status that it would have had
+    untold          of want of memory where the line itself can't be made, as where all further allocations are refused:
+                    status 1, or 2 for the words of the command line, before an input is opened or read, and nothing written
+                    at all; where a line or help can't be written: the status that it would have had, and a front of it
 
 Whatever else happens (a signal, another status, a line cut short, a front of an answer behind another line) is printed, and
 the script fails.
@@ -137,11 +141,18 @@ def judge_memory(wrong, run, usual):
         return "told"
     if run.output or run.errors:
         return None
-    return {1: "untold, status 1", 2: "untold, status 2"}.get(run.status)
+    _, reads, _, opens = run.counts
+    if run.status == 2 and not reads and not opens:
+        return "untold, of the command line's words"
+    # where one alone is refused, only a line that was to be told anyway can lack memory
+    return "untold" if run.status == 1 and (wrong.count == 0 or usual.errors) else None
 
 
 def judge_read(wrong, run, usual):
-    if wrong.way == "fail" or wrong.count >= TRIES:
+    if wrong.way in ("fail", "cut") or wrong.count >= TRIES:
+        # behind the last byte no read may come that a cut one could fail at
+        if wrong.way == "cut" and run.hits == 1 and is_answer(run, usual):
+            return "answered"
         return "told" if is_told(run, b"cannot read the input") else None
     return "answered" if is_answer(run, usual) else None
 
@@ -149,13 +160,20 @@ def judge_read(wrong, run, usual):
 def judge_write(wrong, run, usual):
     if wrong.way == "short" or (wrong.way == "again" and wrong.count < TRIES):
         return "answered" if is_answer(run, usual) else None
+    if wrong.way == "cut" and run.hits == 1:
+        # the one byte was all that there was to write
+        return "answered" if is_answer(run, usual) else None
+    is_help = b"\nUsage: " in usual.output
+    if wrong.way == "again" and (is_help or run.hit == 2) and is_answer(run, usual):
+        # lines and help are tried again for longer
+        return "answered"
     if run.hit == 2:
         # a line was to be told: a front of it is there
         is_front = usual.errors.startswith(run.errors)
         return "untold" if is_front and (run.status, run.output) == (usual.status, usual.output) else None
     is_front = usual.output.startswith(run.output) and run.output != usual.output
-    if b"\nUsage: " in usual.output:
-        # help: its status stays
+    if is_help:
+        # its status stays
         return "untold" if is_front and run.status == 0 and not run.errors else None
     line = b"yaml_cli: write failed after %d bytes\n" % len(run.output)
     return "written so far" if is_front and (run.status, run.errors) == (1, line) else None
@@ -176,7 +194,7 @@ def wrongs_of(counts):
     for at in range(1, memory + 1):
         yield Wrong("memory", "fail", at, 1)
         yield Wrong("memory", "fail", at, 0)
-    ways = [("fail", 1), ("short", 1), ("again", 1), ("again", TRIES - 1), ("again", TRIES)]
+    ways = [("fail", 1), ("short", 1), ("cut", 0), ("again", 1), ("again", TRIES - 1), ("again", TRIES)]
     for kind, number, more in [("read", reads, []), ("write", writes, [("none", 1)])]:
         for at in range(1, number + 1):
             for way, count in ways + more:
@@ -214,6 +232,22 @@ def usual_of(bench, folder, case):
     return usual
 
 
+def real_runs(bench):
+    """What no call of ours lets go wrong: a full device as the output, a folder as the input. What isn't as promised."""
+    folder = bench.place("real", Case("real", [], b"a: b", {"in.yaml": b"a: b"}))
+    for words, output, line in [
+        (["fmt", "in.yaml"], "/dev/full", b"write failed after 0 bytes"),
+        (["same", "in.yaml", "in.yaml"], "/dev/full", b"write failed after 0 bytes"),
+        (["events", "."], "/dev/null", b"cannot read the input"),
+        (["same", "in.yaml", "."], "/dev/null", b"cannot read the input"),
+    ]:
+        with open(output, "wb") as stdout:
+            how = {"cwd": folder, "stdout": stdout, "stderr": subprocess.PIPE, "timeout": SECONDS}
+            ran = subprocess.run([bench.program, *words], stdin=subprocess.DEVNULL, **how)
+        is_well = (ran.returncode, ran.stderr) == (1, b"yaml_cli: " + line + b"\n")
+        yield "" if is_well else f"{' '.join(words)} > {output}: status {ran.returncode}, errors {ran.stderr!r}"
+
+
 def compiled_program():
     if "PROGRAM" in os.environ:
         return os.environ["PROGRAM"]
@@ -241,6 +275,11 @@ def main():
             total += found
             calls = ", ".join(f"{n} {word}" for n, word in zip(usual.counts, ["allocations", "reads", "writes", "opens"]))
             print(f"{case.name}: {calls}: {sum(found.values())} runs", flush=True)
+        for text in real_runs(bench):
+            total["a full device or a folder, " + ("NOT AS PROMISED" if text else "told")] += 1
+            if text:
+                wrong_ones.append(text)
+                print(text, flush=True)
     for words, number in sorted(total.items()):
         print(f"{number:8} {words}")
     print(f"faults: {len(cases)} cases, {sum(total.values())} runs, {len(wrong_ones)} not as promised")

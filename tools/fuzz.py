@@ -11,10 +11,11 @@ Judged of each text:
 
     every command   ends by itself, with status 0 and no fault, or 1, one line that tells the fault, and nothing written
     events, fmt     accept the same texts, and tell the same fault
-    fmt             its answer is `same` as the text, and rewriting it changes no byte
+    fmt             its answer is `same` as the text, and rewriting it changes no byte, under settings that change too
     fmt --pretty    its answer is `same` as the text
     docs            rewriting its answer changes no byte; it accepts only what events accepts
-    events          the lines, or the fault's line, are libyaml's, where a C compiler and libyaml's header are there
+    events, docs    the lines of the events, or the fault's line, are those of libyaml's parser, and the fault's line of docs
+                    is its loader's, where a C compiler and libyaml's header are there
 
 Where docs/DIFFERENCES.md says that libyaml answers otherwise, its answer isn't compared, or only whether it accepts the text;
 the last lines count these by their reason. A text that is judged wrong is kept in out/fuzz/, told at once, and the script
@@ -39,6 +40,8 @@ TOP = os.path.dirname(TOOLS)
 KEPT = f"{TOP}/out/fuzz"
 LONGEST = 2000
 LIMIT = 60
+# How often a wrong text is tried with something taken out.
+TRIES = 300
 sys.path.insert(0, f"{TOP}/bench")
 
 # What is put into texts, beside bytes.
@@ -47,6 +50,13 @@ WORDS = (
     "%TAG !e! tag:x\n|---|--- |...|\n|\n\n|\r|\r\n|\t|  |    |||>|>-|>2|>+|-1|a|key: |: \n|\x85|\u2028|\u2029|\ufeff|"
     "\u00e9|\u4e2d|\U0001f600|\x7f|\x00|\x01|~|<<|=|0"
 ).split("|") + ["|", "|-", "|+", "|1"]
+
+SETTINGS = {
+    "indent": ["1", "2", "3", "9", "10"],
+    "width": ["0", "1", "5", "40", "2147483647"],
+    "break": ["lf", "cr", "crlf"],
+    "encoding": ["utf8", "utf16le", "utf16be"],
+}
 
 FAULT = re.compile(rb"yaml_cli: (?:(?:first|second) input: )?((?:reader|scanner|parser|composer|writer|emitter) error[^\n]*)\n")
 
@@ -127,6 +137,17 @@ def text_of(seed, number, others):
     return text[:LONGEST]
 
 
+def settings_of(seed, number):
+    """The words that set how the text of a number is written: none for every other one."""
+    rng, words = random.Random(f"{seed} {number} settings"), []
+    if rng.randrange(2):
+        return words
+    for name, values in SETTINGS.items():
+        if rng.randrange(2):
+            words += [f"--{name}={rng.choice(values)}"]
+    return words + ["--ascii"] * rng.randrange(2)
+
+
 class Wrong(Exception):
     """What is wrong with an answer."""
 
@@ -180,13 +201,26 @@ def decoded(text):
 def not_compared(text):
     """Why libyaml's answer for the text isn't compared, or an empty text."""
     characters = decoded(text)
-    if "\ufeff" in characters:
-        return "U+FEFF behind the first place"
+    if re.search("[\r\n\x85\u2028\u2029]\ufeff", characters):
+        return "U+FEFF at the front of a line"
     if "[" in characters and EMPTY_KEY.search(characters):
         return "the token behind an empty key of a flow pair"
     if "!" in characters and any(map(spells_none, ESCAPES.findall(characters))):
         return "escapes in a tag that spell no character, or a byte 0"
     return ""
+
+
+# A scalar that has a value, or quotes, and the tag `!`.
+LONE_TAG = re.compile(rb"^(=VAL(?: &\S+)?) <!>( (?:['\"|>]|:.))", re.M)
+
+
+def as_ours(theirs):
+    """libyaml's lines as we would write them, and which difference that met."""
+    untagged = LONE_TAG.sub(rb"\1\2", theirs)
+    if untagged != theirs:
+        return untagged, "a scalar with a value and the tag `!`"
+    shorter = theirs.replace(b"found duplicate anchor; first occurrence", b"found duplicate anchor")
+    return shorter, "the context of a duplicate anchor" if shorter != theirs else ""
 
 
 def compared_by_refusal(ours):
@@ -227,7 +261,7 @@ class Judge:
         ran = self.ours("same", one, other)
         wrong_unless(ran == Ran(0, b"equal\n", b""), f"{what} isn't `same` as its input: {ran}")
 
-    def with_libyaml(self, text, path, events, fault):
+    def with_libyaml(self, text, path, events, fault, docs):
         """In which way libyaml's answer is like ours."""
         why = not_compared(text)
         if why or not self.peer:
@@ -236,53 +270,65 @@ class Judge:
         wrong_unless(theirs.status in (0, 1), f"libyaml's events end with status {theirs.status}")
         wrong_unless(theirs.status == events.status, f"libyaml says {theirs.errors or 'yes'!r}, and we {fault or 'yes'!r}")
         if fault is None:
-            wrong_unless(theirs.output == events.output, f"libyaml's events are {theirs.output!r}, ours {events.output!r}")
-            self.loader_alike(path)
-            return "events alike"
+            found, why = as_ours(theirs.output)
+            wrong_unless(found == events.output, f"libyaml's events are {theirs.output!r}, ours {events.output!r}")
+            why = why or self.loader_alike(path, docs)
+            return f"events alike but for {why}" if why else "events alike"
         if theirs.errors == fault + b"\n":
             return "refused alike"
         why = compared_by_refusal(fault)
         wrong_unless(why, f"libyaml says {theirs.errors!r}, and we {fault!r}")
         return why
 
-    def loader_alike(self, path):
-        """The documents load as libyaml's do, or are refused with its fault."""
-        theirs = run(self.peer, "-d", path)
-        ours = fault_of("docs", self.ours("docs", path))
+    def loader_alike(self, path, docs):
+        """The documents load as libyaml's do, or are refused with its fault. Answers which difference that met."""
+        theirs, ours = run(self.peer, "-d", path), fault_of("docs", docs)
         wanted = (0, b"") if ours is None else (1, ours + b"\n")
-        wrong_unless((theirs.status, theirs.errors) == wanted, f"libyaml's loader says {theirs.errors!r}, and docs {ours!r}")
+        found, why = as_ours(theirs.errors)
+        wrong_unless((theirs.status, found) == wanted, f"libyaml's loader says {theirs.errors!r}, and docs {ours!r}")
+        return why
 
-    def accepted(self, number, path):
-        """The texts of an input that is accepted."""
-        canonical, pretty = self.ours("fmt", path), self.ours("fmt", "--pretty", path)
+    def formatted(self, number, path, settings):
+        """The two forms of an input that is accepted."""
+        canonical, pretty = self.ours("fmt", *settings, path), self.ours("fmt", "--pretty", *settings, path)
         for what, ran in [("fmt", canonical), ("fmt --pretty", pretty)]:
             wrong_unless(fault_of(what, ran) is None, f"{what} refuses what events accepts: {ran.errors!r}")
         again, styled = (self.file(number, name, ran.output) for name, ran in [("fmt", canonical), ("pretty", pretty)])
         self.is_same("the canonical text", path, again)
         self.is_same("the pretty text", path, styled)
-        wrong_unless(self.ours("fmt", again) == Ran(0, canonical.output, b""), "rewriting the canonical text changes it")
-        docs = self.ours("docs", path)
-        if fault_of("docs", docs) is None:
-            loaded = self.file(number, "docs", docs.output)
-            wrong_unless(self.ours("docs", loaded) == Ran(0, docs.output, b""), "rewriting the loaded documents changes them")
-            return "loaded"
-        wrong_unless(docs.errors.startswith(b"yaml_cli: composer error"), f"docs refuses what events accepts: {docs.errors!r}")
-        return "not loaded"
+        repeated = self.ours("fmt", *settings, again)
+        wrong_unless(repeated == Ran(0, canonical.output, b""), "rewriting the canonical text changes it")
 
-    def judge(self, number, text):
+    def loaded(self, number, docs, settings):
+        """The loaded documents' text."""
+        if fault_of("docs", docs) is not None:
+            is_composer = docs.errors.startswith(b"yaml_cli: composer error")
+            wrong_unless(is_composer, f"docs refuses what events accepts: {docs.errors!r}")
+            return "not loaded"
+        again = self.ours("docs", *settings, self.file(number, "docs", docs.output))
+        wrong_unless(again == Ran(0, docs.output, b""), "rewriting the loaded documents changes them")
+        return "loaded"
+
+    def refused(self, path, fault):
+        """Every command refuses what events refuses; docs may meet a fault of its own before."""
+        for words in (["fmt"], ["fmt", "--pretty"], ["docs"]):
+            told = fault_of(words[0], self.ours(*words, path))
+            is_loader = words == ["docs"] and told is not None and told.startswith(b"composer error")
+            wrong_unless(told == fault or is_loader, f"{' '.join(words)} says {told!r}, and events {fault!r}")
+
+    def judge(self, number, text, settings):
         """What was found of a text."""
         path = self.file(number, "yaml", text)
         events = self.ours("events", path)
         fault = fault_of("events", events)
-        found = ["accepted" if fault is None else "refused"]
-        if fault is None:
-            found.append(self.accepted(number, path))
+        if fault is not None:
+            self.refused(path, fault)
+            found = ["refused", self.with_libyaml(text, path, events, fault, None)]
         else:
-            for words in (["fmt"], ["fmt", "--pretty"], ["docs"]):
-                told = fault_of(words[0], self.ours(*words, path))
-                is_loader = words == ["docs"] and told is not None and told.startswith(b"composer error")
-                wrong_unless(told == fault or is_loader, f"{' '.join(words)} says {told!r}, and events {fault!r}")
-        found.append(self.with_libyaml(text, path, events, fault))
+            self.formatted(number, path, settings)
+            docs = self.ours("docs", *settings, path)
+            found = ["accepted", self.loaded(number, docs, settings)]
+            found.append(self.with_libyaml(text, path, events, fault, docs))
         return [it for it in found if it]
 
     def forget(self, number):
@@ -291,15 +337,39 @@ class Judge:
                 os.remove(f"{self.folder}/{number}.{name}")
 
 
-def one(judge, seed, number, others):
-    """What was found of the text with that number, and what is wrong with it."""
-    text = text_of(seed, number, others)
+def judged(judge, number, text, settings):
+    """What was found of a text, and what is wrong with it."""
     try:
-        return text, judge.judge(number, text), ""
+        return judge.judge(number, text, settings), ""
     except Wrong as wrong:
-        return text, [], str(wrong)
+        return [], f"{' '.join(settings) or 'usual settings'}: {wrong}"
     finally:
         judge.forget(number)
+
+
+def shrunk(judge, number, text, settings):
+    """A text that is wrong too, shorter where one is found soon: pieces are taken out, ever smaller ones."""
+    size, tries = len(text) // 2, TRIES
+    while size and tries:
+        at = 0
+        while at < len(text) and tries:
+            shorter, tries = text[:at] + text[at + size :], tries - 1
+            if judged(judge, number, shorter, settings)[1]:
+                text = shorter
+            else:
+                at += size
+        size //= 2
+    return text
+
+
+def one(judge, seed, number, others):
+    """What was found of the text with that number, and what is wrong with it; a wrong text is made short."""
+    text, settings = text_of(seed, number, others), settings_of(seed, number)
+    found, wrong = judged(judge, number, text, settings)
+    if wrong:
+        text = shrunk(judge, number, text, settings)
+        wrong = judged(judge, number, text, settings)[1] or wrong
+    return text, found, wrong
 
 
 def keep(number, seed, text, wrong):

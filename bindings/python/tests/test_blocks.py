@@ -12,6 +12,8 @@ from unittest import mock
 import yaml_c
 from yaml_c import _library
 
+from . import HAS_EVENTS
+
 HERE = os.path.dirname(os.path.abspath(__file__))
 HEADER = os.path.join(HERE, "..", "..", "c", "yaml_c.h")
 RECORDS: dict[str, Any] = {
@@ -26,18 +28,20 @@ CALLS = [
     lambda: yaml_c.reload(b"&x a"),
     lambda: yaml_c.events(b"a"),
     lambda: yaml_c.same(b"a", b"b"),
-    lambda: yaml_c.parse(b"%TAG !e! x\n--- !e!a b"),
-    lambda: yaml_c.parse(b""),
-    lambda: yaml_c.emit(yaml_c.parse(b"[a]")),
 ]
 REFUSED = [
     lambda: yaml_c.reformat(b"]"),
     lambda: yaml_c.reload(b"*a"),
     lambda: yaml_c.events(b"\xff"),
     lambda: yaml_c.same(b"a", b"["),
-    lambda: yaml_c.parse(b"["),
-    lambda: yaml_c.emit([yaml_c.StreamEnd()]),
 ]
+if HAS_EVENTS:
+    CALLS += [
+        lambda: yaml_c.parse(b"%TAG !e! x\n--- !e!a b"),
+        lambda: yaml_c.parse(b""),
+        lambda: yaml_c.emit(yaml_c.parse(b"[a]")),
+    ]
+    REFUSED += [lambda: yaml_c.parse(b"["), lambda: yaml_c.emit([yaml_c.StreamEnd()])]
 
 
 class Layout(unittest.TestCase):
@@ -89,8 +93,9 @@ class Blocks(unittest.TestCase):
             handed, freed = self.freed_by(call)
             self.assertEqual(handed, freed, number)
         self.assertEqual(len(self.freed_by(CALLS[0])[1]), 1)
-        # events, directives and their texts
-        self.assertEqual(len(self.freed_by(CALLS[4])[1]), 3)
+        if HAS_EVENTS:
+            # events, directives and their texts
+            self.assertEqual(len(self.freed_by(CALLS[4])[1]), 3)
 
     def test_each_of_a_refused_call_is_freed_once(self) -> None:
         for call in REFUSED:
@@ -150,12 +155,12 @@ class Blocks(unittest.TestCase):
 class Threads(unittest.TestCase):
     def test_calls_side_by_side(self) -> None:
         text = b"".join(b"- {name: alpha %d, tags: [a, 'b']}\n" % i for i in range(300))
-        wanted, parsed = yaml_c.reformat(text), yaml_c.parse(text)
+        wanted, lines = yaml_c.reformat(text), yaml_c.events(text)
         wrong: list[str] = []
 
         def work() -> None:
             for _ in range(20):
-                if yaml_c.reformat(text) != wanted or yaml_c.parse(text) != parsed:
+                if yaml_c.reformat(text) != wanted or yaml_c.events(text) != lines:
                     wrong.append("another answer")
 
         threads = [threading.Thread(target=work) for _ in range(8)]

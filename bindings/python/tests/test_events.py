@@ -23,6 +23,8 @@ from yaml_c import (
     Style,
 )
 
+from . import NEEDS_EVENTS
+
 PRETTY = Settings(canonical=False)
 PLAIN = {"style": ScalarStyle.PLAIN, "implicit": True, "quoted_implicit": False}
 BLOCK: dict[str, Any] = {"style": Style.BLOCK}
@@ -44,6 +46,7 @@ def document(*events: Event) -> list[Event]:
     return [StreamStart(), DocumentStart(), *events, DocumentEnd(), StreamEnd()]
 
 
+@NEEDS_EVENTS
 class Parse(unittest.TestCase):
     def test_kinds(self) -> None:
         found = yaml_c.parse(b"a: &x !t [b, *x]\n")
@@ -97,12 +100,19 @@ class Parse(unittest.TestCase):
         self.assertEqual(found[2].value, "a\0b")  # type: ignore[union-attr]
 
 
+@NEEDS_EVENTS
 class Emit(unittest.TestCase):
     def test_forms(self) -> None:
         events = document(SequenceStart(), Scalar("a"), Scalar("b", style=ScalarStyle.SINGLE_QUOTED), SequenceEnd())
-        self.assertEqual(yaml_c.emit(events), b'---\n[\n  ! "a",\n  "b",\n]\n')
+        self.assertEqual(yaml_c.emit(events), b'---\n[\n  "a",\n  "b",\n]\n')
         self.assertEqual(yaml_c.emit(events, PRETTY), b"- a\n- 'b'\n")
         self.assertEqual(yaml_c.emit(iter(events), PRETTY), b"- a\n- 'b'\n")
+
+    def test_plain_scalars(self) -> None:
+        # only where the tag may not be left out in quotes, it is told that the scalar was plain
+        self.assertEqual(yaml_c.emit(document(Scalar("a", **PLAIN))), b'---\n! "a"\n')
+        self.assertEqual(yaml_c.emit(document(Scalar("a"))), b'---\n"a"\n')
+        self.assertEqual(yaml_c.emit(document(Scalar("a", **PLAIN)), PRETTY), b"a\n")
 
     def test_properties(self) -> None:
         events = document(MappingStart("!m", "x", implicit=False), Scalar("k"), Alias("x"), MappingEnd())

@@ -237,7 +237,7 @@ def emit(events: Iterable[Event], settings: Settings = _USUAL) -> bytes:
     the limit.
 
     >>> emit([StreamStart(), DocumentStart(), Scalar("a"), DocumentEnd(), StreamEnd()])
-    b'---\\n! "a"\\n'
+    b'---\\n"a"\\n'
     """
     packed = Packed()
     for event in events:

@@ -120,10 +120,13 @@ def _load() -> ctypes.CDLL:
 
 
 def _call(name: str, *types: Any) -> Any:
-    try:
-        found = getattr(library, name)
-    except AttributeError:
-        raise ImportError(f"{library._name} has no {name}: it is another library") from None
+    found = getattr(library, name, None)
+    if found is None:
+
+        def lacking(*_: Any) -> int:
+            raise NotImplementedError(f"{library._name} is a library without {name}")
+
+        return lacking
     found.argtypes, found.restype = types, ctypes.c_int32
     return found
 

@@ -162,3 +162,16 @@ fn a_fall_back_is_told(rt: HostRuntime) -> Result<(), Fail> {
     check_over(&rt, FALL_BACK, &[]);
     Ok(())
 }
+
+const HELP: [Answer; 1] = [(
+    &["x", "same", "--help"],
+    b"",
+    b"Tells whether two files have the same content\n\nUsage: yaml_cli same [OPTIONS] <A> <B>\n\nArguments:\n  <A>  The file to compare\n  <B>  The file that it is compared with\n\nOptions:\n      --from <ENCODING>  How the input is encoded: auto, utf8, utf16le or utf16be [default: auto]\n  -h, --help             Print help\n",
+)];
+
+// Each argument has its words; docs/man and completions/ are made of these.
+#[test]
+fn help_tells_each_argument(rt: HostRuntime) -> Result<(), Fail> {
+    are_answered(&rt, &HELP);
+    Ok(())
+}

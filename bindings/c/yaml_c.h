@@ -1,0 +1,295 @@
+/* The proved YAML engine, parser and emitter, for C and for what calls C.
+ *
+ * Link libyaml_c.a or libyaml_c.so; `make library` builds both.
+ *
+ * A call takes a whole input and writes its answer into a record that the caller lends. Its result is the answer's kind:
+ * 0 (YAML_C_ANSWERED), the number of a fault, or -1 where a number among the arguments means nothing. Nothing else comes
+ * back: no call prints, aborts, or keeps anything between calls, so that any number of calls may run side by side on
+ * records of their own.
+ *
+ * Units. Lengths, offsets and spans count bytes. A mark's index counts bytes of the decoded text (UTF-8), which are the
+ * input's own where that is UTF-8; lines and columns count from 0, columns in characters. Every text that is handed out
+ * has a length and may hold a byte 0; none ends with one.
+ *
+ * Ownership. The caller owns every record and every input, and the call keeps no pointer to them. Blocks that a call
+ * hands out are malloc's and the caller's: `text` and `line` of an answer, and the three parts of a yaml_c_parsed, each
+ * where its length is not 0. The functions below free them. `problem` and `context` are constants of the library: never
+ * free or write them. A call overwrites the record's pointers without freeing what they named, so free a record before
+ * it is used again.
+ *
+ * Errors. A refused call hands out no text and no events; its one block is `line`, the fault in words, which is empty
+ * where even that met no memory. `problem` names the fault in any case.
+ *
+ * What nothing checks, and the caller keeps:
+ *  - a pointer with a length names that many readable bytes (or records), fewer than 2^63 bytes in all, which nothing
+ *    writes while the call runs. It isn't NULL, even where the length is 0: pass YAML_C_NOTHING or any other pointer;
+ *  - the records that a call writes are writable, set up once by yaml_c_answer_init and yaml_c_parsed_init, and neither
+ *    read nor written by others while the call runs; they don't overlap one another or the inputs;
+ *  - malloc, realloc and free are one allocator's, of blocks aligned as C's are;
+ *  - no call is made from a signal handler, or in the forked child of a process with threads.
+ *
+ * Trusted beside the proofs: this file (its sizes and offsets are asserted below, and the records' sizes in the proved
+ * code too), those duties, that free takes the blocks that the library left, and the C compiler and linker. */
+#ifndef YAML_C_H
+#define YAML_C_H
+
+#include <stddef.h>
+#include <stdint.h>
+#include <stdlib.h>
+#include <string.h>
+
+#ifdef __cplusplus
+extern "C" {
+#endif
+
+/* ---- numbers */
+
+/* What a call's result says. The faults have libyaml's numbers. */
+enum {
+    YAML_C_REFUSED_ARGUMENT = -1, /* a number means nothing, or (emit) a text that an event names isn't UTF-8 */
+    YAML_C_ANSWERED = 0,
+    YAML_C_MEMORY_ERROR = 1,   /* memory was refused */
+    YAML_C_READER_ERROR = 2,   /* the input is no text in its encoding */
+    YAML_C_SCANNER_ERROR = 3,  /* no token stands there */
+    YAML_C_PARSER_ERROR = 4,   /* tokens that are no stream, or a wrong directive */
+    YAML_C_COMPOSER_ERROR = 5, /* the documents can't be loaded */
+    YAML_C_WRITER_ERROR = 6,   /* the answer has more than `limit` bytes */
+    YAML_C_EMITTER_ERROR = 7   /* events that are no stream, or an indentation that is too deep */
+};
+
+/* Encodings. As an input's: any means that its byte order mark tells, UTF-8 where it has none. */
+enum {
+    YAML_C_ANY_ENCODING = 0,
+    YAML_C_UTF8_ENCODING = 1,
+    YAML_C_UTF16LE_ENCODING = 2,
+    YAML_C_UTF16BE_ENCODING = 3
+};
+
+/* How lines of an answer end; any means LF. */
+enum { YAML_C_ANY_BREAK = 0, YAML_C_CR_BREAK = 1, YAML_C_LN_BREAK = 2, YAML_C_CRLN_BREAK = 3 };
+
+/* What an event is. */
+enum {
+    YAML_C_STREAM_START_EVENT = 1,
+    YAML_C_STREAM_END_EVENT = 2,
+    YAML_C_DOCUMENT_START_EVENT = 3,
+    YAML_C_DOCUMENT_END_EVENT = 4,
+    YAML_C_ALIAS_EVENT = 5,
+    YAML_C_SCALAR_EVENT = 6,
+    YAML_C_SEQUENCE_START_EVENT = 7,
+    YAML_C_SEQUENCE_END_EVENT = 8,
+    YAML_C_MAPPING_START_EVENT = 9,
+    YAML_C_MAPPING_END_EVENT = 10
+};
+
+/* How a scalar is written. */
+enum {
+    YAML_C_ANY_SCALAR_STYLE = 0,
+    YAML_C_PLAIN_SCALAR_STYLE = 1,
+    YAML_C_SINGLE_QUOTED_SCALAR_STYLE = 2,
+    YAML_C_DOUBLE_QUOTED_SCALAR_STYLE = 3,
+    YAML_C_LITERAL_SCALAR_STYLE = 4,
+    YAML_C_FOLDED_SCALAR_STYLE = 5
+};
+
+/* How a sequence or a mapping is written. */
+enum { YAML_C_ANY_STYLE = 0, YAML_C_BLOCK_STYLE = 1, YAML_C_FLOW_STYLE = 2 };
+
+/* ---- records */
+
+/* Bytes. Where `len` is 0, `at` names nothing, but isn't NULL. */
+typedef struct {
+    const uint8_t *at;
+    size_t len;
+} yaml_c_bytes;
+
+/* A place in a text. */
+typedef struct {
+    uint64_t index;  /* bytes of the decoded text (UTF-8) before the place */
+    uint64_t line;   /* line breaks before it */
+    uint64_t column; /* characters since the last line break */
+} yaml_c_mark;
+
+/* How an answer is written. Set by yaml_c_defaults, then changed as one likes. */
+typedef struct {
+    int32_t encoding;   /* of the answer; any means UTF-8, in yaml_c_emit the encoding that the stream's start names */
+    int32_t canonical;  /* 0: pretty form, else canonical form; yaml_c_reload's answer is always canonical */
+    int32_t indent;     /* columns of a level, 2 to 9; any other number means 2 */
+    int32_t width;      /* the column behind which lines are folded; negative: none; 0 to twice the indent means 80 */
+    int32_t unicode;    /* 0: escape what isn't ASCII, else write what is printable as it is */
+    int32_t line_break;
+    uint64_t limit;     /* how many bytes the answer may have */
+} yaml_c_settings;
+
+/* What a call answers. */
+typedef struct {
+    int32_t kind;             /* the call's result again */
+    int32_t is;               /* yaml_c_reformat: 1 pretty form, 0 canonical; yaml_c_same: 1 equal, 0 different; else 0 */
+    int32_t second;           /* yaml_c_same: 1 where the fault is the second input's; else 0 */
+    int32_t value;            /* kind 2: the byte, unit or character that is wrong, or -1; else 0 */
+    uint64_t offset;          /* kind 2: the byte of the input at which it stands; else 0 */
+    yaml_c_mark problem_mark; /* kinds 3 to 5: where the problem is */
+    yaml_c_mark context_mark; /* where what was being read begins, if there is a context */
+    yaml_c_bytes problem;     /* what is wrong, a constant; empty for kind 0 */
+    yaml_c_bytes context;     /* what was being read, a constant; empty where none is told */
+    yaml_c_bytes text;        /* the text that the call answers; empty where it is refused */
+    yaml_c_bytes line;        /* the fault in words, in one line without its end, places counted from 1 */
+} yaml_c_answer;
+
+/* A part of a block of bytes, or of a list of directives: `len` items from `at` on. */
+typedef struct {
+    uint64_t at;
+    uint64_t len;
+} yaml_c_span;
+
+/* A %TAG directive: the handle stands for the prefix. */
+typedef struct {
+    yaml_c_span handle, prefix; /* of the bytes */
+} yaml_c_directive;
+
+/* An event. What a kind doesn't name below is 0 in what yaml_c_parse hands out, and yaml_c_emit doesn't look at it. Flags
+ * are 0 for no; any other number means yes, and yaml_c_parse writes 1. */
+typedef struct {
+    int32_t kind;
+    int32_t style;           /* of a scalar, and of the start of a sequence or mapping */
+    int32_t encoding;        /* of the stream's start: the one that was found */
+    int32_t implicit;        /* document's start and end: no `---` or `...`; scalar: the tag may be left out in plain
+                              * style; start of a sequence or mapping: the tag may be left out */
+    int32_t quoted_implicit; /* scalar: the tag may be left out in the other styles */
+    int32_t has_anchor;      /* scalar, start of a sequence or mapping: `anchor` is there */
+    int32_t has_tag;         /* likewise `tag` */
+    int32_t has_version;     /* document's start: `major` and `minor` are those of a %YAML directive */
+    int32_t major, minor;
+    yaml_c_span directives;  /* document's start: its %TAG directives, of the list of directives */
+    yaml_c_span anchor;      /* of the bytes, as the two below; an alias has it too, without a flag */
+    yaml_c_span tag;
+    yaml_c_span value;       /* of a scalar */
+    yaml_c_mark start, end;  /* where its tokens stand; yaml_c_emit doesn't look at them */
+} yaml_c_event;
+
+/* The events of an input, the directives that they name, and the block of bytes that hold their texts, one behind
+ * another. */
+typedef struct {
+    const yaml_c_event *events;
+    size_t events_len;
+    const yaml_c_directive *directives;
+    size_t directives_len;
+    yaml_c_bytes bytes;
+} yaml_c_parsed;
+
+/* ---- calls. `from` is the input's encoding. */
+
+/* Sets UTF-8, canonical form, indent 2, width 80, unicode on, LF, and a limit of 2^40 bytes. */
+void yaml_c_defaults(yaml_c_settings *settings);
+
+/* The text again, in canonical or pretty form. With `canonical` off, the pretty text is answered where, read back, it has
+ * the input's content, else the canonical one: `is` tells which. Refused by a fault of the input (2 to 4), which comes
+ * before a limit; by 6 past the limit; by 7 where an indentation is too deep. */
+int32_t yaml_c_reformat(const uint8_t *input, size_t len, int32_t from, const yaml_c_settings *settings,
+                        yaml_c_answer *answer);
+
+/* The documents of the input, loaded and written again in canonical form. Refused as above, and by 5 where a document
+ * can't be loaded. */
+int32_t yaml_c_reload(const uint8_t *input, size_t len, int32_t from, const yaml_c_settings *settings,
+                      yaml_c_answer *answer);
+
+/* Whether two inputs have the same content. The first input's fault comes before the second one's. */
+int32_t yaml_c_same(const uint8_t *first, size_t first_len, int32_t first_from, const uint8_t *second,
+                    size_t second_len, int32_t second_from, yaml_c_answer *answer);
+
+/* A line for each event of the input. */
+int32_t yaml_c_events(const uint8_t *input, size_t len, int32_t from, yaml_c_answer *answer);
+
+/* All events of the input as records, with their marks. Where the input is refused there are none. */
+int32_t yaml_c_parse(const uint8_t *input, size_t len, int32_t from, yaml_c_parsed *parsed, yaml_c_answer *answer);
+
+/* The text of events that are given as records. Spans of `anchor`, `tag`, `value`, `handle` and `prefix` lie within
+ * `bytes`, those of `directives` within the list of directives. -1 where one that is looked at doesn't, where a number
+ * means nothing, or where a text isn't UTF-8, at any event; else refused as the emitter refuses: by 7 for the first event
+ * that is in the wrong place or where an indentation is too deep, by 6 past the limit. A list that is no whole stream
+ * answers the text of the events that could be written by then. */
+int32_t yaml_c_emit(const yaml_c_event *events, size_t events_len, const yaml_c_directive *directives,
+                    size_t directives_len, const uint8_t *bytes, size_t len, const yaml_c_settings *settings,
+                    yaml_c_answer *answer);
+
+/* ---- setting up and freeing records */
+
+/* What to pass for an input without a byte. */
+#define YAML_C_NOTHING ((const uint8_t *)"")
+
+/* An answer that names nothing. Before the first call with the record. */
+static inline void yaml_c_answer_init(yaml_c_answer *answer) {
+    memset(answer, 0, sizeof *answer);
+    answer->problem.at = YAML_C_NOTHING;
+    answer->context.at = YAML_C_NOTHING;
+    answer->text.at = YAML_C_NOTHING;
+    answer->line.at = YAML_C_NOTHING;
+}
+
+/* Frees the blocks of an answer, which names nothing then. After each call; a second time does nothing. */
+static inline void yaml_c_answer_free(yaml_c_answer *answer) {
+    if (answer->text.len) free((void *)answer->text.at);
+    if (answer->line.len) free((void *)answer->line.at);
+    yaml_c_answer_init(answer);
+}
+
+/* No events. Before the first call with the record. */
+static inline void yaml_c_parsed_init(yaml_c_parsed *parsed) {
+    static const yaml_c_event no_event = {0, 0, 0, 0, 0, 0, 0, 0, 0, 0, {0, 0}, {0, 0}, {0, 0}, {0, 0}, {0, 0, 0}, {0, 0, 0}};
+    static const yaml_c_directive no_directive = {{0, 0}, {0, 0}};
+    parsed->events = &no_event;
+    parsed->events_len = 0;
+    parsed->directives = &no_directive;
+    parsed->directives_len = 0;
+    parsed->bytes.at = YAML_C_NOTHING;
+    parsed->bytes.len = 0;
+}
+
+/* Frees the events, directives and bytes; there are none then. After each call; a second time does nothing. */
+static inline void yaml_c_parsed_free(yaml_c_parsed *parsed) {
+    if (parsed->events_len) free((void *)parsed->events);
+    if (parsed->directives_len) free((void *)parsed->directives);
+    if (parsed->bytes.len) free((void *)parsed->bytes.at);
+    yaml_c_parsed_init(parsed);
+}
+
+/* ---- the layout that the proved code has, on a machine of 64 bits */
+
+#if defined(__cplusplus)
+#define YAML_C_ASSERT(condition) static_assert(condition, "yaml_c.h: another layout than the library's")
+#else
+#define YAML_C_ASSERT(condition) _Static_assert(condition, "yaml_c.h: another layout than the library's")
+#endif
+YAML_C_ASSERT(sizeof(size_t) == 8 && sizeof(void *) == 8);
+YAML_C_ASSERT(sizeof(yaml_c_bytes) == 16 && offsetof(yaml_c_bytes, len) == 8);
+YAML_C_ASSERT(sizeof(yaml_c_mark) == 24 && offsetof(yaml_c_mark, line) == 8 && offsetof(yaml_c_mark, column) == 16);
+YAML_C_ASSERT(sizeof(yaml_c_settings) == 32 && offsetof(yaml_c_settings, canonical) == 4);
+YAML_C_ASSERT(offsetof(yaml_c_settings, indent) == 8 && offsetof(yaml_c_settings, width) == 12);
+YAML_C_ASSERT(offsetof(yaml_c_settings, unicode) == 16 && offsetof(yaml_c_settings, line_break) == 20);
+YAML_C_ASSERT(offsetof(yaml_c_settings, limit) == 24);
+YAML_C_ASSERT(sizeof(yaml_c_answer) == 136 && offsetof(yaml_c_answer, is) == 4);
+YAML_C_ASSERT(offsetof(yaml_c_answer, second) == 8 && offsetof(yaml_c_answer, value) == 12);
+YAML_C_ASSERT(offsetof(yaml_c_answer, offset) == 16 && offsetof(yaml_c_answer, problem_mark) == 24);
+YAML_C_ASSERT(offsetof(yaml_c_answer, context_mark) == 48 && offsetof(yaml_c_answer, problem) == 72);
+YAML_C_ASSERT(offsetof(yaml_c_answer, context) == 88 && offsetof(yaml_c_answer, text) == 104);
+YAML_C_ASSERT(offsetof(yaml_c_answer, line) == 120);
+YAML_C_ASSERT(sizeof(yaml_c_span) == 16 && offsetof(yaml_c_span, len) == 8);
+YAML_C_ASSERT(sizeof(yaml_c_directive) == 32 && offsetof(yaml_c_directive, prefix) == 16);
+YAML_C_ASSERT(sizeof(yaml_c_event) == 152 && offsetof(yaml_c_event, style) == 4);
+YAML_C_ASSERT(offsetof(yaml_c_event, encoding) == 8 && offsetof(yaml_c_event, implicit) == 12);
+YAML_C_ASSERT(offsetof(yaml_c_event, quoted_implicit) == 16 && offsetof(yaml_c_event, has_anchor) == 20);
+YAML_C_ASSERT(offsetof(yaml_c_event, has_tag) == 24 && offsetof(yaml_c_event, has_version) == 28);
+YAML_C_ASSERT(offsetof(yaml_c_event, major) == 32 && offsetof(yaml_c_event, minor) == 36);
+YAML_C_ASSERT(offsetof(yaml_c_event, directives) == 40 && offsetof(yaml_c_event, anchor) == 56);
+YAML_C_ASSERT(offsetof(yaml_c_event, tag) == 72 && offsetof(yaml_c_event, value) == 88);
+YAML_C_ASSERT(offsetof(yaml_c_event, start) == 104 && offsetof(yaml_c_event, end) == 128);
+YAML_C_ASSERT(sizeof(yaml_c_parsed) == 48 && offsetof(yaml_c_parsed, events_len) == 8);
+YAML_C_ASSERT(offsetof(yaml_c_parsed, directives) == 16 && offsetof(yaml_c_parsed, directives_len) == 24);
+YAML_C_ASSERT(offsetof(yaml_c_parsed, bytes) == 32);
+#undef YAML_C_ASSERT
+
+#ifdef __cplusplus
+}
+#endif
+
+#endif

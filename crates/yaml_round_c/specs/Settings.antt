@@ -1,0 +1,27 @@
+-- The settings that C's record means.
+use Rattle.std.specs.Prelude.{Option, None, Some}
+use Rattle.yaml_parse.specs.declared.yaml_break_t.{yaml_break_t}
+use Rattle.yaml_round.specs.declared.settings.yaml_settings_t.{yaml_settings_t}
+use Rattle.yaml_round.specs.declared.settings.yaml_output_encoding_t.{yaml_output_encoding_t}
+use Rattle.yaml_round_c.specs.declared.settings.yaml_c_settings.{yaml_c_settings}
+use Rattle.yaml_round_c.specs.Numbers.{is_set, output_meant, break_meant}
+
+abbrev pub settings_by : Option yaml_output_encoding_t → Option yaml_break_t → yaml_c_settings
+    → Option yaml_settings_t
+settings_by None b given = None
+settings_by (Some x) None given = None
+settings_by (Some x) (Some b) given = Some
+    (record {
+      encoding = x;
+      canonical = is_set given.canonical;
+      indent = given.indent;
+      width = given.width;
+      unicode = is_set given.unicode;
+      line_break = b;
+      limit = given.limit;
+    })
+
+-- The numbers stand for themselves; where `encoding` or `line_break` means nothing, there are none.
+abbrev pub settings_meant : yaml_c_settings → Option yaml_settings_t
+settings_meant given = settings_by (output_meant given.encoding) (break_meant given.line_break)
+    given

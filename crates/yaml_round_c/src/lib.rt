@@ -1,0 +1,12 @@
+//! The engine for C: a static library. A call takes its inputs as pointers and lengths and answers through a record, which
+//! names blocks that the caller frees. `bindings/c/yaml_c.h` tells C what stands here.
+#![tactic(auto)]
+
+mod answer;
+mod engine;
+mod number;
+mod settings;
+
+pub use answer::{yaml_c_answer, yaml_c_mark};
+pub use engine::{yaml_c_events, yaml_c_reformat, yaml_c_reload, yaml_c_same};
+pub use settings::{yaml_c_defaults, yaml_c_settings};

@@ -1,0 +1,30 @@
+#!/bin/bash
+# Proves and builds the C library, as an archive and as a shared object: `make library`.
+#
+#     tools/library.sh
+#
+# What it stands on is taken from what checks and `make program` have kept, and is else proved one crate after another. The
+# archive and the shared object have the calls of bindings/c/yaml_c.h and no other symbol, and what they need beside them
+# is the C library's malloc, realloc, free and memory functions. It needs the kit, a C compiler, binutils.
+set -eu
+top=$(cd "$(dirname "$0")/.." && pwd)
+crate=$top/crates/yaml_round_c
+out=$top/out/library
+kit=$(dirname "$(rt doc)")
+
+say() { echo "make library: $*" >&2; }
+
+say "proving yaml_round_c and what it stands on"
+(cd "$crate" && rt lib) || { say "not proved, so not built"; exit 1; }
+
+work=$(mktemp -d)
+trap 'rm -rf "$work"' EXIT
+mkdir -p "$out"
+# One object of all, of which only the calls can be seen.
+ld -r -o "$work/yaml_c.o" --whole-archive "$crate/out/libyaml_round_c.a" --no-whole-archive "$kit/c/liblibc_c.a"
+objcopy --wildcard --keep-global-symbol='yaml_c_*' "$work/yaml_c.o"
+rm -f "$work/libyaml_c.a"
+ar rcs "$work/libyaml_c.a" "$work/yaml_c.o"
+${CC:-cc} -shared -Wl,-z,defs -Wl,-soname,libyaml_c.so -o "$work/libyaml_c.so" "$work/yaml_c.o"
+mv "$work/libyaml_c.a" "$work/libyaml_c.so" "$out"
+say "built out/library/libyaml_c.a and out/library/libyaml_c.so; their header is bindings/c/yaml_c.h"

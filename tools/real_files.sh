@@ -9,8 +9,8 @@
 #   events            the lines are libyaml's, or the line of the fault is that of its parser
 #   fmt, --pretty     is accepted where events is; `same` finds it equal to the file
 #   fmt               of its own answer changes nothing
-#   docs              is accepted where libyaml's loader accepts, else the line of the fault is the loader's; of its own
-#                     answer it changes nothing
+#   docs              is accepted where libyaml's loader accepts, else the line of the fault is the loader's, but for an
+#                     anchor that occurs again, which libyaml refuses; of its own answer it changes nothing
 # Each difference is one line: what differs, the file, libyaml's line and ours. The last line counts.
 set -u
 here=$(cd "$(dirname "$0")" && pwd)
@@ -67,7 +67,9 @@ compare_documents() {
     "$PROGRAM" docs "$1" >"$2/docs" 2>"$2/our_fault"
     local ours=$? a b
     a=$(told "$2/their_fault") b=$(told "$2/our_fault")
-    if [ $theirs -ne $ours ] || [ "$a" != "$b" ]; then
+    if [[ $a == *"found duplicate anchor"* ]]; then
+        echo "docs with an anchor that occurs again"
+    elif [ $theirs -ne $ours ] || [ "$a" != "$b" ]; then
         differs "docs $theirs $ours" "$1" "$a" "$b"
     elif [ $ours -eq 0 ]; then
         echo "docs accepted"

@@ -99,8 +99,9 @@ fn behind_a_refused_load(rt: HostRuntime) -> Result<(), Fail> {
     let undefined = "found undefined alias";
     load_is_refused(&rt, b"*a", 0, undefined)?;
     load_is_refused(&rt, b"--- [&a x, *a]\n--- [*a]\n", 1, undefined)?;
-    load_is_refused(&rt, b"[&a x, &a y, *a]", 0, "second occurrence")?;
-    load_is_refused(&rt, b"[&a x, &a }", 0, "second occurrence")
+    load_is_refused(&rt, b"[*a, &a x]", 0, undefined)?;
+    load_is_refused(&rt, b"--- [&a x, &a y, *a]\n--- [*a]\n", 1, undefined)?;
+    load_is_refused(&rt, b"[&a x, &a }", 0, "did not find expected ',' or ']'")
 }
 
 fn push(list: &mut yaml_token_list_t, body: yaml_token_body_t) -> Result<(), Fail> {

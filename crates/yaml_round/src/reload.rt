@@ -107,8 +107,8 @@ fn written_documents(
 
 /// The input's documents, loaded and written in canonical form: nodes with two visits or more have anchors by number, tags
 /// are written, and no document's end is explicit. `settings.canonical` isn't looked at. Also refused, with kind 5, where
-/// an alias names no node, and where an anchor is repeated. All documents are loaded before one is written, so a fault of
-/// the input comes first.
+/// an alias names no node before it; a repeated anchor names the later node. All documents are loaded before one is
+/// written, so a fault of the input comes first.
 pub fn yaml_reload(
     alloc: Global,
     input: &[u8],

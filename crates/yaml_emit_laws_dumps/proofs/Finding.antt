@@ -1,0 +1,80 @@
+-- Names of numbers are apart, so that each node that has a number is found by its name.
+use Rattle.std.proofs.Common.{◌≡◌, ◌<◌, ◌^◌, ◌==◌, ℕ, zero, suc, ℤ, pos, Bool, true, false, List, ◌++◌, length, get_or, drop, Some, None, refl, sym, ap, ◌∙◌, inl, inr, arith, decimal}
+use Rattle.std.specs.Prelude.{if◌then◌else◌, cond, codes}
+use Rattle.std.specs.Cmp.Lexicographic.{bytes_decides, texts_ties}
+use Rattle.std.specs.Str.Parse.{digits_value}
+use Rattle.std.proofs.lemmas.Bool.{cases_Bool, cases_eq}
+use Rattle.std.proofs.lemmas.Bool.Decides.{nat_tests}
+use Rattle.std.proofs.lemmas.Fmt.{decimal_is_IsNumeral}
+use Rattle.yaml_parse_loader.specs.Numbering.{Anchored, is_same, last_with, and_node}
+use Rattle.yaml_emit_graph.specs.Graph.{name_of, anchor_of, number_at}
+use Rattle.yaml_emit_laws_dumps.specs.Dumps.{IsNumbered, before_at}
+use Rattle.yaml_emit_laws_dumps.specs.Laws.{NamesAreApart}
+
+-- ---- names
+
+-- behind `id` stand the digits of the number, zeros in front
+lead_value : (b c : Bool) (ds : List ℕ) → digits_value 10 (drop 2 ((if b then codes "id00" else if c then codes "id0" else codes "id") ++ ds)) ≡ digits_value 10 ds
+lead_value true c ds = refl
+lead_value false true ds = refl
+lead_value false false ds = refl
+
+named_value : (n : ℕ) → n < 2 ^ 64 → digits_value 10 (drop 2 (name_of n)) ≡ n
+unfolding name_of
+named_value n h = lead_value (length (decimal n) == 1) (length (decimal n) == 2) (decimal n) ∙ (decimal_is_IsNumeral n h).1
+
+pub names_apart : NamesAreApart
+names_apart m n p q e = sym (named_value m p) ∙ ap (λ (bs : List ℕ). digits_value 10 (drop 2 bs)) e ∙ named_value n q
+
+-- ---- what is found
+
+abbrev TellsTexts : Bool → List ℕ → List ℕ → Type 0
+TellsTexts true a b = a ≡ b
+TellsTexts false a b = a ≡ b → ⊥
+
+same_name : (a : List ℕ) → is_same a a ≡ true
+same_name a = sym (texts_ties a a) ∙ (bytes_decides a a).1 refl
+
+true_false : true ≡ false → ⊥
+true_false e = cc
+
+other_name : (a b : List ℕ) → (a ≡ b → ⊥) → is_same a b ≡ false
+other_name a b h =
+    elim (cases_Bool (is_same a b)) [
+      | inl e ↦ absurd (h ((bytes_decides a b).0 (texts_ties a b ∙ e)))
+      | inr e ↦ e
+    ]
+
+no_zero : (n : ℕ) → (n ≡ 0 → ⊥) → (n == 0) ≡ false
+no_zero n h = grind (arith, nat_tests)
+
+-- a node with a number is found behind itself
+found_here : (number : ℕ) (id : ℤ) (before : Anchored) → (number ≡ 0 → ⊥) → last_with (name_of number) (and_node (anchor_of number) id before) ≡ Some id
+found_here number id before h =
+    ap (λ (b : Bool). last_with (name_of number) (and_node (if b then None else Some (name_of number)) id before)) (no_zero number h)
+    ∙ ap (λ (b : Bool). cond b (Some id) (last_with (name_of number) before)) (same_name (name_of number))
+
+-- another node doesn't hide it
+by_test : (b : Bool) (name other : List ℕ) (id : ℤ) (before : Anchored) → is_same name other ≡ false → last_with name (and_node (if b then None else Some other) id before) ≡ last_with name before
+by_test true name other id before h = refl
+by_test false name other id before h = ap (λ (b : Bool). cond b (Some id) (last_with name before)) h
+
+found_there : (number other : ℕ) (id : ℤ) (before : Anchored) → number < 2 ^ 64 → other < 2 ^ 64 → (number ≡ other → ⊥)
+    → last_with (name_of number) (and_node (anchor_of other) id before) ≡ last_with (name_of number) before
+found_there number other id before p q h =
+    by_test (other == 0) (name_of number) (name_of other) id before (other_name (name_of number) (name_of other) (λ e. h (names_apart number other p q e)))
+
+-- numbers that are apart and small are found
+pub found : (table : List ℕ) → ((k : ℕ) → get_or table k 0 < 2 ^ 64) → ((j k : ℕ) → get_or table j 0 ≡ get_or table k 0 → IsNumbered table j → j ≡ k)
+    → (seen k : ℕ) → k < seen → IsNumbered table k → last_with (name_of (number_at table (pos (suc k)))) (before_at table seen) ≡ Some (pos (suc k))
+unfolding before_at
+found table small apart zero k h some = absurd (omega (arith, h))
+found table small apart (suc j) k h some =
+    elim (cases_eq k j) [
+      | inl e ↦
+          ap (λ (i : ℕ). last_with (name_of (get_or table k 0)) (and_node (anchor_of (get_or table i 0)) (pos (suc i)) (before_at table j))) (sym e)
+          ∙ found_here (get_or table k 0) (pos (suc k)) (before_at table j) some
+      | inr e ↦
+          found_there (get_or table k 0) (get_or table j 0) (pos (suc j)) (before_at table j) (small k) (small j) (λ same. e (apart k j same some))
+          ∙ found table small apart j k (omega (arith, h, e)) some
+    ]

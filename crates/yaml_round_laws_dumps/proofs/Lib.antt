@@ -1,0 +1,4 @@
+mod Saying
+mod Loading
+mod Trees
+mod Agreeing

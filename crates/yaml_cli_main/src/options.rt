@@ -96,8 +96,14 @@ fn events_command<'a>(alloc: Global) -> Result<Command<'a>, AllocError> {
 }
 
 fn same_command<'a>(alloc: Global) -> Result<Command<'a>, AllocError> {
-    let first = Arg::new(alloc, "first").value_name("A").required(true);
-    let second = Arg::new(alloc, "second").value_name("B").required(true);
+    let first = Arg::new(alloc, "first")
+        .value_name("A")
+        .required(true)
+        .help("The file to compare");
+    let second = Arg::new(alloc, "second")
+        .value_name("B")
+        .required(true)
+        .help("The file that it is compared with");
     Command::new(alloc, "same")
         .about("Tells whether two files have the same content")
         .arg(first)?

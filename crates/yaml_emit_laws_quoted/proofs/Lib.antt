@@ -9,3 +9,4 @@ mod Kept
 mod Back
 mod Single
 mod Keys
+pub mod Whole

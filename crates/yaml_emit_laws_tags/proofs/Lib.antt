@@ -1,6 +1,6 @@
 pub mod Resolving
 mod Pieces
-mod Reading
-mod Joining
-mod Ascii
-mod Lines
+pub mod Reading
+pub mod Joining
+pub mod Ascii
+pub mod Lines

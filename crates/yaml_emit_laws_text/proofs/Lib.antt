@@ -7,3 +7,6 @@ mod Lines
 mod Directives
 mod Nodes
 mod Documents
+pub mod Whole
+-- the laws of tags beneath, for crates of laws that name this one alone
+pub use Rattle.yaml_emit_laws_tags.proofs as emit_laws_tags

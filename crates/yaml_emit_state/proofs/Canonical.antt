@@ -1,5 +1,5 @@
 -- A scalar in canonical form.
-use Rattle.std.proofs.Common.{◌≡◌, ℕ, Bool, true, false, refl, List, [], ◌∷◌}
+use Rattle.std.proofs.Common.{◌≡◌, Bool, true, false, refl, List, [], ◌∷◌}
 use Rattle.std.specs.Prelude.{not, ◌&&◌}
 use Rattle.std.specs.Str.{chars}
 use Rattle.yaml_emit_text.specs.parse.Events.{TagDirective}

@@ -5,7 +5,9 @@ ghost use Rattle.yaml_emit_text.specs.Sink.{Puts};
 ghost use Rattle.yaml_emit_text.specs.Layout.{◌▹◌, stay, when, choose, char, word, keep};
 ghost use Rattle.yaml_emit_layout.specs.Nodes.{dots, version_text, directives_text, directive_text, has_version, has_directives, dashes, is_kept, start_layout, end_layout, stop_layout, line_at, version_word};
 ghost use Rattle.yaml_emit_layout.specs.State.{start_at, stop_at};
+ghost use Rattle.yaml_emit_state.specs.Given.{lent_opening};
 
+use crate::given::Opening;
 use yaml_emit_layout::Expected;
 use yaml_emit_text::{Settings, Sink, put_prefix};
 use yaml_scan::{yaml_tag_directive_t, yaml_version_directive_t};
@@ -142,63 +144,37 @@ fn is_parted(
 }
 
 // Whether `---` is due.
-fn is_marked(
-    settings: &Settings,
-    first: bool,
-    version: Option<yaml_version_directive_t>,
-    directives: &[yaml_tag_directive_t],
-    implicit: bool,
-) -> bool
+fn is_marked(settings: &Settings, first: bool, opening: &Opening) -> bool
     ensures { result ≡ (settings.now.canonical
-        || not (first && (implicit
-        && not (has_version version || has_directives (map directive_of directives.now))))) }
+        || not (first && (opening.now.implicit && not (has_version opening.now.version
+        || has_directives (map directive_of opening.now.directives.now))))) }
 {
-    settings.canonical || !(first && (implicit && !is_directed(version, directives)))
+    let directed = is_directed(opening.version, opening.directives);
+    settings.canonical || !(first && (opening.implicit && !directed))
 }
 
-fn put_start(
-    sink: &mut Sink,
-    settings: &Settings,
-    first: bool,
-    unended: bool,
-    version: Option<yaml_version_directive_t>,
-    directives: &[yaml_tag_directive_t],
-    implicit: bool,
-)
+fn put_start(sink: &mut Sink, settings: &Settings, first: bool, unended: bool, opening: &Opening)
     ensures { Puts sink.old sink.new
-        (start_layout settings.now first unended
-        (record {
-          version = version;
-          directives = map directive_of directives.now;
-          implicit = implicit;
-        })) }
+        (start_layout settings.now first unended (lent_opening opening.now)) }
 {
-    let marked = is_marked(settings, first, version, directives, implicit);
+    let Opening {
+        version,
+        directives,
+        ..
+    } = *opening;
+    let marked = is_marked(settings, first, opening);
     put_dots_if(sink, is_parted(unended, version, directives), settings);
     put_opening(sink, settings, marked, version, directives);
 }
 
 /// What opens a document, where one may come.
-pub fn put_start_at(
-    sink: &mut Sink,
-    settings: &Settings,
-    place: Expected,
-    version: Option<yaml_version_directive_t>,
-    directives: &[yaml_tag_directive_t],
-    implicit: bool,
-)
-    ensures { Puts sink.old sink.new
-        (start_at settings.now place
-        (record {
-          version = version;
-          directives = map directive_of directives.now;
-          implicit = implicit;
-        })) }
+pub fn put_start_at(sink: &mut Sink, settings: &Settings, place: Expected, opening: &Opening)
+    ensures { Puts sink.old sink.new (start_at settings.now place (lent_opening opening.now)) }
 {
     match place {
-        Expected::Documents(first, unended) => put_start(
-            sink, settings, first, unended, version, directives, implicit,
-        ),
+        Expected::Documents(first, unended) => {
+            put_start(sink, settings, first, unended, opening)
+        }
         _ => (),
     }
 }

@@ -3,12 +3,14 @@ ghost use Rattle.std.specs.Prelude.{◌≡◌, ◌∷◌, [], None, Some, true, 
 ghost use Rattle.yaml_parse.specs.Events.{text_of, body_of};
 ghost use Rattle.yaml_emit_layout.specs.Content.{emitter_event, is_flow_sequence, is_flow_mapping};
 ghost use Rattle.yaml_emit_layout.specs.Grammar.{kept_tag};
-ghost use Rattle.yaml_emit_layout.specs.Nodes.{context_of, has_break, properties_size, text_size, written_size, is_simple_scalar, is_simple_alias, is_simple_start};
+ghost use Rattle.yaml_emit_layout.specs.Nodes.{has_break, properties_size, text_size, written_size, is_simple_scalar, is_simple_alias, is_simple_start};
 ghost use Rattle.yaml_emit_layout.specs.State.{is_simple_event};
+ghost use Rattle.yaml_emit_state.specs.Given.{lent_context, lent_scalar, lent_start};
 
-use yaml_emit_text::{DirectiveTable, Settings, tag_size};
+use crate::given::{Context, Scalar, Start};
+use yaml_emit_text::tag_size;
 use yaml_parse::yaml_event_body_t;
-use yaml_scan::{IS_BREAK, yaml_mapping_style_t, yaml_scalar_style_t, yaml_sequence_style_t};
+use yaml_scan::{IS_BREAK, yaml_mapping_style_t, yaml_sequence_style_t};
 
 fn has_break(value: &[u8]) -> bool
     ensures { result ≡ has_break value.now }
@@ -30,29 +32,24 @@ fn text_size(text: &Option<Vec<u8>>) -> usize
     }
 }
 
-fn given_size(settings: &Settings, directives: &DirectiveTable, tag: &Option<Vec<u8>>) -> usize
-    ensures { result ≡ written_size (context_of settings.now directives.now) (text_of tag.now) }
+fn given_size(context: &Context, tag: &Option<Vec<u8>>) -> usize
+    ensures { result ≡ written_size (lent_context context.now) (text_of tag.now) }
 {
     match tag {
         None => 0,
-        Some(tag) => tag_size(directives, tag),
+        Some(tag) => tag_size(context.directives, tag),
     }
 }
 
 // Bytes of a tag that is written in pretty form.
-fn written_size(
-    settings: &Settings,
-    directives: &DirectiveTable,
-    left_out: bool,
-    tag: &Option<Vec<u8>>,
-) -> usize
-    ensures { result ≡ written_size (context_of settings.now directives.now)
+fn written_size(context: &Context, left_out: bool, tag: &Option<Vec<u8>>) -> usize
+    ensures { result ≡ written_size (lent_context context.now)
         (kept_tag false left_out (text_of tag.now)) }
 {
     if left_out {
         0
     } else {
-        given_size(settings, directives, tag)
+        given_size(context, tag)
     }
 }
 
@@ -64,87 +61,46 @@ fn are_short(a: usize, b: usize, c: usize) -> bool
 }
 
 #[tactic(auto, unfolding(yaml_emit_layout::specs::Nodes::is_simple_alias))]
-fn is_simple_alias(settings: &Settings, directives: &DirectiveTable, name: &[u8]) -> bool
-    ensures { result ≡ is_simple_alias (context_of settings.now directives.now) name.now }
+fn is_simple_alias(context: &Context, name: &[u8]) -> bool
+    ensures { result ≡ is_simple_alias (lent_context context.now) name.now }
 {
-    // An alias has no tag; the clause names the whole context.
-    let _ = directives;
-    !settings.canonical && name.len() <= 128
+    !context.settings.canonical && name.len() <= 128
 }
 
 #[tactic(auto, unfolding(yaml_emit_layout::specs::Nodes::is_simple_scalar))]
-fn is_simple_scalar(
-    settings: &Settings,
-    directives: &DirectiveTable,
-    anchor: &Option<Vec<u8>>,
-    tag: &Option<Vec<u8>>,
-    value: &[u8],
-    plain: bool,
-    quoted: bool,
-    style: yaml_scalar_style_t,
-) -> bool
-    ensures { result ≡ is_simple_scalar (context_of settings.now directives.now)
-        (record {
-          anchor = text_of anchor.now;
-          tag = text_of tag.now;
-          value = value.now;
-          plain = plain;
-          quoted = quoted;
-          style = style;
-        }) }
+fn is_simple_scalar(context: &Context, scalar: &Scalar) -> bool
+    ensures { result ≡ is_simple_scalar (lent_context context.now) (lent_scalar scalar.now) }
 {
-    // Any style will do; the clause names the whole scalar.
-    let _ = style;
-    !settings.canonical
-        && !has_break(value)
+    !context.settings.canonical
+        && !has_break(scalar.value)
         && are_short(
-            text_size(anchor),
-            written_size(settings, directives, plain || quoted, tag),
-            value.len(),
+            text_size(scalar.anchor),
+            written_size(context, scalar.plain || scalar.quoted, scalar.tag),
+            scalar.value.len(),
         )
 }
 
 #[tactic(auto, unfolding(yaml_emit_layout::specs::Nodes::is_simple_start))]
-fn is_simple_start(
-    settings: &Settings,
-    directives: &DirectiveTable,
-    anchor: &Option<Vec<u8>>,
-    tag: &Option<Vec<u8>>,
-    implicit: bool,
-    flow: bool,
-    empty: bool,
-) -> bool
-    ensures { result ≡ is_simple_start (context_of settings.now directives.now)
-        (record {
-          anchor = text_of anchor.now;
-          tag = text_of tag.now;
-          implicit = implicit;
-          flow = flow;
-        }) empty }
+fn is_simple_start(context: &Context, start: &Start) -> bool
+    ensures { result ≡ is_simple_start (lent_context context.now) (lent_start start.now)
+        start.now.empty }
 {
-    // Either will do; the clause names the whole start.
-    let _ = flow;
-    !settings.canonical
-        && empty
+    !context.settings.canonical
+        && start.empty
         && are_short(
-            text_size(anchor),
-            written_size(settings, directives, implicit, tag),
+            text_size(start.anchor),
+            written_size(context, start.implicit, start.tag),
             0,
         )
 }
 
 #[tactic(auto, unfolding(yaml_emit_layout::specs::State::is_simple_event))]
-fn is_simple_by(
-    settings: &Settings,
-    directives: &DirectiveTable,
-    event: &yaml_event_body_t,
-    empty: bool,
-) -> bool
-    ensures { result ≡ is_simple_event (context_of settings.now directives.now)
+fn is_simple_by(context: &Context, event: &yaml_event_body_t, empty: bool) -> bool
+    ensures { result ≡ is_simple_event (lent_context context.now)
         (emitter_event (body_of event.now)) empty }
 {
     match event {
-        yaml_event_body_t::Alias { anchor } => is_simple_alias(settings, directives, anchor),
+        yaml_event_body_t::Alias { anchor } => is_simple_alias(context, anchor),
         yaml_event_body_t::Scalar {
             anchor,
             tag,
@@ -153,16 +109,15 @@ fn is_simple_by(
             quoted_implicit,
             style,
         } => {
-            is_simple_scalar(
-                settings,
-                directives,
+            let scalar = Scalar {
                 anchor,
                 tag,
                 value,
-                *plain_implicit,
-                *quoted_implicit,
-                *style,
-            )
+                plain: *plain_implicit,
+                quoted: *quoted_implicit,
+                style: *style,
+            };
+            is_simple_scalar(context, &scalar)
         }
         yaml_event_body_t::SequenceStart {
             anchor,
@@ -170,15 +125,14 @@ fn is_simple_by(
             implicit,
             style,
         } => {
-            is_simple_start(
-                settings,
-                directives,
+            let start = Start {
                 anchor,
                 tag,
-                *implicit,
-                is_flow_sequence(*style),
+                implicit: *implicit,
+                flow: is_flow_sequence(*style),
                 empty,
-            )
+            };
+            is_simple_start(context, &start)
         }
         yaml_event_body_t::MappingStart {
             anchor,
@@ -186,15 +140,14 @@ fn is_simple_by(
             implicit,
             style,
         } => {
-            is_simple_start(
-                settings,
-                directives,
+            let start = Start {
                 anchor,
                 tag,
-                *implicit,
-                is_flow_mapping(*style),
+                implicit: *implicit,
+                flow: is_flow_mapping(*style),
                 empty,
-            )
+            };
+            is_simple_start(context, &start)
         }
         _ => false,
     }
@@ -203,19 +156,14 @@ fn is_simple_by(
 /// Whether a node that begins so is a simple key: an alias, a scalar without breaks or an empty collection, with at most
 /// 128 bytes of anchor, tag and value. Canonical form has none.
 #[tactic(auto, using(crate::proofs::Canonical::no_keys))]
-pub fn is_simple(
-    settings: &Settings,
-    directives: &DirectiveTable,
-    event: &yaml_event_body_t,
-    empty: bool,
-) -> bool
-    ensures { result ≡ is_simple_event (context_of settings.now directives.now)
+pub fn is_simple(context: &Context, event: &yaml_event_body_t, empty: bool) -> bool
+    ensures { result ≡ is_simple_event (lent_context context.now)
         (emitter_event (body_of event.now)) empty }
 {
-    if settings.canonical {
+    if context.settings.canonical {
         false
     } else {
-        is_simple_by(settings, directives, event, empty)
+        is_simple_by(context, event, empty)
     }
 }
 

@@ -3,6 +3,7 @@
 
 mod before;
 mod documents;
+mod given;
 mod handles;
 mod indent;
 mod judge;

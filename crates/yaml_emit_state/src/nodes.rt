@@ -6,16 +6,15 @@ ghost use Rattle.yaml_emit_text.specs.Sink.{Puts};
 ghost use Rattle.yaml_emit_text.specs.Layout.{◌▹◌, stay, when, char, word, opener};
 ghost use Rattle.yaml_emit_text.specs.Scalars.{scalar_text};
 ghost use Rattle.yaml_emit_layout.specs.Grammar.{kept_if, kept_tag, has};
-ghost use Rattle.yaml_emit_layout.specs.Nodes.{context_of, alias_layout, anchor_text, tag_text, properties_text, mark_text, scalar_layout, style_of, is_plain, checked, deeper, page_at, is_flow};
+ghost use Rattle.yaml_emit_layout.specs.Nodes.{alias_layout, anchor_text, tag_text, properties_text, mark_text, scalar_layout, style_of, is_plain, checked, deeper, page_at, is_flow};
 ghost use Rattle.yaml_emit_layout.specs.State.{start_text};
+ghost use Rattle.yaml_emit_state.specs.Given.{lent_context, lent_scalar, lent_start};
 
 use crate::before::{put_blank_if, put_opener_if};
+use crate::given::{Context, Scalar, Start};
 use crate::indent::{deeper, is_flow, is_simple_part, put_checked};
 use yaml_emit_layout::Spot;
-use yaml_emit_text::{
-    DirectiveTable, Page, Settings, Sink, Style, allowed_for, put_styled, put_tag, taken, text,
-};
-use yaml_scan::yaml_scalar_style_t;
+use yaml_emit_text::{Page, Settings, Sink, Style, allowed_for, put_styled, put_tag, taken, text};
 
 fn put_name(sink: &mut Sink, indicator: char, name: &[u8])
     ensures { Puts sink.old sink.new (word (indicator ∷ name.now)) }
@@ -43,33 +42,21 @@ fn put_anchor(sink: &mut Sink, anchor: &Option<Vec<u8>>)
     }
 }
 
-fn put_given_tag(
-    sink: &mut Sink,
-    settings: &Settings,
-    directives: &DirectiveTable,
-    tag: &Option<Vec<u8>>,
-)
-    ensures { Puts sink.old sink.new (tag_text (context_of settings.now directives.now)
-        (text_of tag.now)) }
+fn put_given_tag(sink: &mut Sink, context: &Context, tag: &Option<Vec<u8>>)
+    ensures { Puts sink.old sink.new (tag_text (lent_context context.now) (text_of tag.now)) }
 {
     match tag {
         None => (),
-        Some(tag) => put_tag(sink, directives, tag),
+        Some(tag) => put_tag(sink, context.directives, tag),
     }
 }
 
-fn put_tag_if(
-    sink: &mut Sink,
-    settings: &Settings,
-    directives: &DirectiveTable,
-    kept: bool,
-    tag: &Option<Vec<u8>>,
-)
-    ensures { Puts sink.old sink.new (tag_text (context_of settings.now directives.now)
+fn put_tag_if(sink: &mut Sink, context: &Context, kept: bool, tag: &Option<Vec<u8>>)
+    ensures { Puts sink.old sink.new (tag_text (lent_context context.now)
         (kept_if kept (text_of tag.now))) }
 {
     if kept {
-        put_given_tag(sink, settings, directives, tag);
+        put_given_tag(sink, context, tag);
     }
 }
 
@@ -84,21 +71,20 @@ fn is_kept(canonical: bool, left_out: bool) -> bool
 #[inline(always)]
 fn put_properties(
     sink: &mut Sink,
-    settings: &Settings,
-    directives: &DirectiveTable,
+    context: &Context,
     anchor: &Option<Vec<u8>>,
     left_out: bool,
     tag: &Option<Vec<u8>>,
 )
-    ensures { Puts sink.old sink.new (properties_text (context_of settings.now directives.now)
-        (text_of anchor.now) (kept_tag settings.now.canonical left_out (text_of tag.now))) }
+    ensures { Puts sink.old sink.new (properties_text (lent_context context.now)
+        (text_of anchor.now)
+        (kept_tag context.now.settings.now.canonical left_out (text_of tag.now))) }
 {
     put_anchor(sink, anchor);
     put_tag_if(
         sink,
-        settings,
-        directives,
-        is_kept(settings.canonical, left_out),
+        context,
+        is_kept(context.settings.canonical, left_out),
         tag,
     );
 }
@@ -135,38 +121,20 @@ fn is_plain(style: Style) -> bool
 }
 
 #[tactic(auto, unfolding(yaml_emit_layout::specs::Nodes::style_of))]
-fn style_of(
-    settings: &Settings,
-    directives: &DirectiveTable,
-    spot: Spot,
-    anchor: &Option<Vec<u8>>,
-    tag: &Option<Vec<u8>>,
-    value: &[u8],
-    plain: bool,
-    quoted: bool,
-    style: yaml_scalar_style_t,
-) -> Style
-    requires { IsUtf8 value.now }
-    ensures { result ≡ style_of (context_of settings.now directives.now) spot
-        (record {
-          anchor = text_of anchor.now;
-          tag = text_of tag.now;
-          value = value.now;
-          plain = plain;
-          quoted = quoted;
-          style = style;
-        }) }
+fn style_of(context: &Context, spot: Spot, scalar: &Scalar) -> Style
+    requires { IsUtf8 scalar.now.value.now }
+    ensures { result ≡ style_of (lent_context context.now) spot (lent_scalar scalar.now) }
 {
-    if settings.canonical {
+    if context.settings.canonical {
         Style::Double
     } else {
         taken(
-            allowed_for(settings.unicode, text(value)),
-            style,
-            is_written(false, plain || quoted, tag) || plain,
+            allowed_for(context.settings.unicode, text(scalar.value)),
+            scalar.style,
+            is_written(false, scalar.plain || scalar.quoted, scalar.tag) || scalar.plain,
             spot.flow,
             is_simple_part(spot.part),
-            value.is_empty(),
+            scalar.value.is_empty(),
         )
     }
 }
@@ -219,149 +187,77 @@ fn put_lines(sink: &mut Sink, settings: &Settings, spot: Spot, style: Style, val
 }
 
 // A tag, or `!` where it is due in canonical form.
-fn put_tag_or(
-    sink: &mut Sink,
-    settings: &Settings,
-    directives: &DirectiveTable,
-    tag: &Option<Vec<u8>>,
-    quoted: bool,
-)
-    ensures { Puts sink.old sink.new (tag_text (context_of settings.now directives.now)
+fn put_tag_or(sink: &mut Sink, context: &Context, tag: &Option<Vec<u8>>, quoted: bool)
+    ensures { Puts sink.old sink.new (tag_text (lent_context context.now)
         (text_of tag.now) ▹ when (not (has (text_of tag.now)) && (not quoted && true))
         (word (33 ∷ []))) }
 {
     match tag {
         None => put_exclamation_if(sink, !quoted),
-        Some(tag) => put_tag(sink, directives, tag),
+        Some(tag) => put_tag(sink, context.directives, tag),
     }
 }
 
 // A scalar in canonical form: it is double quoted, and each tag is written.
-fn put_canonical_scalar(
-    sink: &mut Sink,
-    settings: &Settings,
-    directives: &DirectiveTable,
-    spot: Spot,
-    anchor: &Option<Vec<u8>>,
-    tag: &Option<Vec<u8>>,
-    value: &[u8],
-    plain: bool,
-    quoted: bool,
-    style: yaml_scalar_style_t,
-)
-    requires utf8 { IsUtf8 value.now }
-    requires canonical { settings.now.canonical ≡ true }
-    ensures { Puts sink.old sink.new (scalar_layout (context_of settings.now directives.now) spot
-        (record {
-          anchor = text_of anchor.now;
-          tag = text_of tag.now;
-          value = value.now;
-          plain = plain;
-          quoted = quoted;
-          style = style;
-        })) }
+fn put_canonical_scalar(sink: &mut Sink, context: &Context, spot: Spot, scalar: &Scalar)
+    requires utf8 { IsUtf8 scalar.now.value.now }
+    requires canonical { context.now.settings.now.canonical ≡ true }
+    ensures { Puts sink.old sink.new (scalar_layout (lent_context context.now) spot
+        (lent_scalar scalar.now)) }
 {
-    // Canonical form looks at neither; the clause names the whole scalar.
-    let _ = (plain, style);
-    put_anchor(sink, anchor);
-    put_tag_or(sink, settings, directives, tag, quoted);
-    put_lines(sink, settings, spot, Style::Double, value);
+    put_anchor(sink, scalar.anchor);
+    put_tag_or(sink, context, scalar.tag, scalar.quoted);
+    put_lines(sink, context.settings, spot, Style::Double, scalar.value);
 }
 
 // A scalar in pretty form, or in either.
 // Out of line: it holds all styles, and canonical scalars go by it.
 #[inline(never)]
 #[tactic(auto, unfolding(yaml_emit_layout::specs::Nodes::scalar_layout))]
-fn put_any_scalar(
-    sink: &mut Sink,
-    settings: &Settings,
-    directives: &DirectiveTable,
-    spot: Spot,
-    anchor: &Option<Vec<u8>>,
-    tag: &Option<Vec<u8>>,
-    value: &[u8],
-    plain: bool,
-    quoted: bool,
-    style: yaml_scalar_style_t,
-)
-    requires { IsUtf8 value.now }
-    ensures { Puts sink.old sink.new (scalar_layout (context_of settings.now directives.now) spot
-        (record {
-          anchor = text_of anchor.now;
-          tag = text_of tag.now;
-          value = value.now;
-          plain = plain;
-          quoted = quoted;
-          style = style;
-        })) }
+fn put_any_scalar(sink: &mut Sink, context: &Context, spot: Spot, scalar: &Scalar)
+    requires { IsUtf8 scalar.now.value.now }
+    ensures { Puts sink.old sink.new (scalar_layout (lent_context context.now) spot
+        (lent_scalar scalar.now)) }
 {
-    let chosen = style_of(
-        settings, directives, spot, anchor, tag, value, plain, quoted, style,
-    );
-    put_properties(sink, settings, directives, anchor, plain || quoted, tag);
+    let Scalar {
+        anchor,
+        tag,
+        value,
+        plain,
+        quoted,
+        ..
+    } = *scalar;
+    let chosen = style_of(context, spot, scalar);
+    put_properties(sink, context, anchor, plain || quoted, tag);
     put_exclamation_if(
         sink,
-        is_marked(settings.canonical, tag, plain, quoted, chosen),
+        is_marked(context.settings.canonical, tag, plain, quoted, chosen),
     );
-    put_lines(sink, settings, spot, chosen, value);
+    put_lines(sink, context.settings, spot, chosen, value);
 }
 
 /// A scalar, with its anchor and tag.
-pub fn put_scalar(
-    sink: &mut Sink,
-    settings: &Settings,
-    directives: &DirectiveTable,
-    spot: Spot,
-    anchor: &Option<Vec<u8>>,
-    tag: &Option<Vec<u8>>,
-    value: &[u8],
-    plain: bool,
-    quoted: bool,
-    style: yaml_scalar_style_t,
-)
-    requires { IsUtf8 value.now }
-    ensures { Puts sink.old sink.new (scalar_layout (context_of settings.now directives.now) spot
-        (record {
-          anchor = text_of anchor.now;
-          tag = text_of tag.now;
-          value = value.now;
-          plain = plain;
-          quoted = quoted;
-          style = style;
-        })) }
+pub fn put_scalar(sink: &mut Sink, context: &Context, spot: Spot, scalar: &Scalar)
+    requires { IsUtf8 scalar.now.value.now }
+    ensures { Puts sink.old sink.new (scalar_layout (lent_context context.now) spot
+        (lent_scalar scalar.now)) }
 {
-    if settings.canonical {
-        put_canonical_scalar(
-            sink, settings, directives, spot, anchor, tag, value, plain, quoted, style,
-        );
+    if context.settings.canonical {
+        put_canonical_scalar(sink, context, spot, scalar);
     } else {
-        put_any_scalar(
-            sink, settings, directives, spot, anchor, tag, value, plain, quoted, style,
-        );
+        put_any_scalar(sink, context, spot, scalar);
     }
 }
 
 /// What opens a collection, with its anchor and tag.
-pub fn put_collection(
-    sink: &mut Sink,
-    settings: &Settings,
-    directives: &DirectiveTable,
-    spot: Spot,
-    c: char,
-    anchor: &Option<Vec<u8>>,
-    tag: &Option<Vec<u8>>,
-    implicit: bool,
-    style_flow: bool,
-    empty: bool,
-)
-    ensures { Puts sink.old sink.new (start_text (context_of settings.now directives.now) spot c
-        (record {
-          anchor = text_of anchor.now;
-          tag = text_of tag.now;
-          implicit = implicit;
-          flow = style_flow;
-        }) empty) }
+pub fn put_collection(sink: &mut Sink, context: &Context, spot: Spot, c: char, start: &Start)
+    ensures { Puts sink.old sink.new (start_text (lent_context context.now) spot c
+        (lent_start start.now) start.now.empty) }
 {
-    put_properties(sink, settings, directives, anchor, implicit, tag);
-    put_opener_if(sink, is_flow(settings, spot, style_flow, empty), c);
+    put_properties(sink, context, start.anchor, start.implicit, start.tag);
+    put_opener_if(
+        sink,
+        is_flow(context.settings, spot, start.flow, start.empty),
+        c,
+    );
 }

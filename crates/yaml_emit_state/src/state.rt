@@ -5,6 +5,7 @@ ghost use Rattle.yaml_parse.specs.Constructors.{HasUtf8};
 mod event;
 mod moves;
 
+use crate::given::{Context, Where};
 use crate::judge::problem_of;
 use crate::keys::is_simple;
 use crate::levels::Levels;
@@ -125,17 +126,17 @@ impl Core {
         ensures { Takes self.old self.new (emitter_event (body_of event.old)) empty }
     {
         let settings = self.settings();
-        let simple = is_simple(&settings, &self.directives, event, empty);
-        put_event(
-            &mut self.sink,
-            &settings,
-            &self.directives,
-            self.place,
-            self.levels.innermost(),
-            event,
-            empty,
+        let context = Context {
+            settings: &settings,
+            directives: &self.directives,
+        };
+        let simple = is_simple(&context, event, empty);
+        let at = Where {
+            place: self.place,
+            top: self.levels.innermost(),
             simple,
-        );
+        };
+        put_event(&mut self.sink, &context, &at, event, empty);
         self.move_on(&settings, event, empty, simple);
     }
 

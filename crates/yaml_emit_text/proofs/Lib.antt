@@ -1,5 +1,5 @@
 pub use Rattle.yaml_emit_sink.proofs.Sinks
-mod Spelled
+pub mod Spelled
 mod Spells
 mod Walks
 mod Directives

@@ -66,18 +66,22 @@ fn put_block_text(sink: &mut Sink, page: Page, cuts: bool, c: char)
     }
 }
 
-#[tactic(auto, unfolding(crate::specs::Scalars::block_char))]
-fn put_block_char(
-    sink: &mut Sink,
-    page: Page,
-    folded: bool,
+// What stands before a character: the last one, and whether its line is blank so far.
+#[derive(Clone, Copy)]
+struct Behind {
+    last: char,
     blank: bool,
-    before: char,
-    c: char,
-    rest: &str,
-)
-    ensures { Puts sink.old sink.new (block_char page folded blank before c (chars rest.now)) }
+}
+
+#[tactic(auto, unfolding(crate::specs::Scalars::block_char))]
+fn put_block_char(sink: &mut Sink, page: Page, folded: bool, behind: Behind, c: char, rest: &str)
+    ensures { Puts sink.old sink.new
+        (block_char page folded behind.blank behind.last c (chars rest.now)) }
 {
+    let Behind {
+        last: before,
+        blank,
+    } = behind;
     let broken = is_break(before);
     if is_break(c) {
         put_new_line_if(
@@ -151,11 +155,15 @@ fn put_block_body(sink: &mut Sink, page: Page, folded: bool, value: &str)
     let mut blank = true;
     let mut left = value;
     while let Some((c, rest)) = split_first(left) {
-        put_block_char(sink, page, folded, blank, before, c, rest);
+        let behind = Behind {
+            last: before,
+            blank,
+        };
+        put_block_char(sink, page, folded, behind, c, rest);
         blank = line_blank(blank, before, c);
-        let (last, behind) = put_block_run_or(sink, page, folded, c, rest);
+        let (last, others) = put_block_run_or(sink, page, folded, c, rest);
         before = last;
-        left = behind;
+        left = others;
     }
 }
 

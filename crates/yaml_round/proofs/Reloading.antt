@@ -18,10 +18,10 @@ use Rattle.yaml_emit.specs.emit_graph.Graph.{graph_content, dumped}
 use Rattle.yaml_emit.specs.Emitter.{Emitter, Given, GivesSome, dump_events, document_events_by, opening_events}
 use Rattle.yaml_emit.specs.emit_text.declared.RequestedSettings.{RequestedSettings}
 use Rattle.yaml_round.specs.declared.settings.yaml_settings_t.{yaml_settings_t}
-use Rattle.yaml_round_content.specs.Input.{Reads}
+use Rattle.yaml_round_laws_back.specs.content.Input.{Reads}
 use Rattle.yaml_round.specs.Writing.{IsUnder, Finishes, requested_under}
 use Rattle.yaml_round.specs.Answers.{bytes_of}
-use Rattle.yaml_round_content.specs.Loads.{Loads, no_more, with_implicit_end, in_front, load_on, load_all, loads_of}
+use Rattle.yaml_round_laws_back.specs.content.Loads.{Loads, no_more, with_implicit_end, in_front, load_on, load_all, loads_of}
 use Rattle.yaml_round.specs.Reload.{to_load, HasRoot, LoadsDocument, IsLoaded, AreLoaded, written_events, Feeds, Stands, Dumps, DumpsStream, IsEachDump, IsDumped, IsReloaded}
 use Rattle.yaml_round.proofs.Laying.{Led, starts, layout, past, one_layout, one_past}
 use Rattle.yaml_round.proofs.Streams.{loaded_text}

@@ -17,7 +17,9 @@ use Rattle.yaml_round.specs.declared.settings.yaml_form_t.{yaml_form_t}
 use Rattle.yaml_round.specs.declared.settings.yaml_form_t.TheVariants.{Canonical, Pretty}
 use Rattle.yaml_round.specs.Reading.{emitter_events, contents, event_lines}
 use Rattle.yaml_round.specs.Writing.{requested_under}
-use Rattle.yaml_round_content.specs.Input.{events_of, ending_of}
+use Rattle.yaml_round_laws_back.specs.content.Input.{events_of, ending_of}
+use Rattle.yaml_round_laws_back.specs.content.Said.{Document, HasContent}
+use Rattle.yaml_round_laws_back.specs.content.Canon.{canon}
 
 abbrev pub text_and_form : {A : Type 0} → Vec ℕ A × yaml_form_t → List ℕ × yaml_form_t
 text_and_form answer = (answer.0.items, answer.1)
@@ -115,6 +117,29 @@ IsWritten from input settings canonical (Ok text) = IsLaidOut from input setting
 IsWritten from input settings canonical (Err fault) = IsFaulty from input fault
     ⊎ IsTooLong from input settings canonical fault
 
+-- ---- normal forms
+
+-- the canonical text of a content under the settings of a call
+abbrev pub canonical_text : yaml_settings_t → List Document → List ℕ
+canonical_text settings c = canon (requested_under settings true) c
+
+-- The text is the normal form of what the input says: it reads back as exactly that, no other content
+-- has it, and it is laid out again as itself.
+pub record IsNormalForm (from : yaml_encoding_t) (settings : yaml_settings_t) (input text : List ℕ)
+    : Type 0 where
+  -- what the input says
+  pub content : List Document
+  pub of_input : HasContent from input content
+  -- the text, read as its byte order mark tells, is accepted and says the same
+  pub of_text : HasContent YAML_ANY_ENCODING text content
+  -- it is that content's canonical text
+  pub is : text ≡ canonical_text settings content
+  -- what any input says whose canonical text it is, is that content
+  pub only : (other : yaml_encoding_t) (source : List ℕ) (c : List Document)
+      → HasContent other source c → canonical_text settings c ≡ text → c ≡ content
+  -- rewritten under the same settings it is the same text
+  pub again : IsLaidOut YAML_ANY_ENCODING text settings true text
+
 -- ---- rewriting
 
 -- The text, read as its byte order mark tells, is accepted and has the input's content.
@@ -139,7 +164,7 @@ pub record IsNotReadBack (from : yaml_encoding_t) (settings : yaml_settings_t)
 abbrev pub IsInCanonicalForm : yaml_encoding_t → yaml_settings_t → List ℕ
     → Result (List ℕ × yaml_form_t) Fault → Type 0
 IsInCanonicalForm from settings input (Ok (text, Canonical)) = IsLaidOut from input settings true
-    text
+    text × IsNormalForm from settings input text
 IsInCanonicalForm from settings input (Ok (text, Pretty)) = ⊥
 IsInCanonicalForm from settings input (Err fault) = IsFaulty from input fault
     ⊎ IsTooLong from input settings true fault
@@ -149,12 +174,13 @@ abbrev pub IsCanonicalDue : Bool → yaml_encoding_t → yaml_settings_t → Lis
 IsCanonicalDue true from settings input = Unit {0}
 IsCanonicalDue false from settings input = IsNotReadBack from settings input
 
--- The engine may answer this to the input under the settings: the form that is due, the input's fault, or the limit that a
--- form that is due passes.
+-- The engine may answer this to the input under the settings: the form that is due, where canonical form is a normal form and
+-- pretty form reads back; the input's fault; or the limit that a form that is due passes.
 unfoldable pub IsReformatted : yaml_encoding_t → yaml_settings_t → List ℕ
     → Result (List ℕ × yaml_form_t) Fault → Type 0
 IsReformatted from settings input (Ok (text, Canonical)) = IsCanonicalDue settings.canonical from
-    settings input × IsLaidOut from input settings true text
+    settings input × (IsLaidOut from input settings true text
+    × IsNormalForm from settings input text)
 IsReformatted from settings input (Ok (text, Pretty)) = (settings.canonical ≡ false)
     × (IsLaidOut from input settings false text × ReadsBack from input text)
 IsReformatted from settings input (Err fault) =

@@ -13,7 +13,7 @@ use Rattle.yaml_emit.specs.Text.{Item}
 use Rattle.yaml_emit.specs.Emitter.{Emitter, Completes}
 use Rattle.yaml_emit.specs.emit_text.declared.Encoding.{Encoding}
 use Rattle.yaml_round.specs.declared.settings.yaml_settings_t.{yaml_settings_t}
-use Rattle.yaml_round_content.specs.Loads.{Loads, no_more, load_all, loads_of}
+use Rattle.yaml_round_laws_back.specs.content.Loads.{Loads, no_more, load_all, loads_of}
 use Rattle.yaml_round.specs.Writing.{requested_under, IsEachLayout, IsPastEach}
 use Rattle.yaml_round.specs.Answers.{IsLayout, IsPast}
 

@@ -2,7 +2,7 @@
 
 ghost use Rattle.std.specs.Prelude.{◌≡◌};
 ghost use Rattle.yaml_scan.specs.Faults.{Answers};
-ghost use Rattle.yaml_round_content.specs.Input.{ending_of};
+ghost use Rattle.yaml_round_laws_back.specs.content.Input.{ending_of};
 ghost use Rattle.yaml_round.specs.Reading.{AreReal, AddsLines};
 ghost use Rattle.yaml_round.specs.Answers.{IsReformatted, IsInCanonicalForm, IsJudged, IsWritten, IsListed, text_and_form, bytes_of};
 ghost use Rattle.yaml_round.specs.Writing.{WritesAll};
@@ -72,6 +72,7 @@ fn written(
 }
 
 // The text in canonical form.
+#[tactic(auto, using(crate::proofs::Normal::in_normal_form))]
 fn in_canonical_form(
     alloc: Global,
     input: &[u8],

@@ -4,4 +4,4 @@ mod Layouts
 mod Leaves
 mod Nodes
 mod Marks
-mod Joining
+pub mod Joining

@@ -1,1 +1,3 @@
-mod Saying
+pub mod Saying
+-- what it stands on, for crates that name this one alone
+pub use Rattle.yaml_round_laws_tree.proofs as round_laws_tree

@@ -1,7 +1,9 @@
 mod Tokens
 mod Scalars
-mod Flags
+pub mod Flags
 mod Decoded
 mod Utf8
 mod Events
-mod Contents
+pub mod Contents
+-- what it stands on, for crates that name this one alone
+pub use Rattle.yaml_round_content.proofs as content

@@ -1,2 +1,4 @@
 pub mod Writable
 pub mod Laws
+-- what it speaks of, for crates that name this one alone
+pub use Rattle.yaml_round_content.specs as content

@@ -13,7 +13,7 @@ use Rattle.yaml_scan_laws_order.specs.scan_history.declared.lexeme.Opens.TheVari
 use Rattle.yaml_scan_laws_order.specs.scan_history.Kinds.{depth_after, may_be_key, cancels, is_value, is_start, allows_key}
 use Rattle.yaml_scan_laws_order.specs.scan_history.History.{depth, Candidate, candidate, fresh, found_by, has, key_allowed, levels, left_by, opened, opens_at, inside, entry_of, start_of, level_of, marked, entries}
 use Rattle.yaml_scan_laws_order.specs.scan_history.Remaining.{SpelledText, token_in, spell}
-use Rattle.yaml_scan_laws_keys.specs.KeyFree.{innermost, around, marked_so, is_inside, asked_after, asked, fits, is_key_free, kinds_of}
+use Rattle.yaml_scan_laws_keys.specs.KeyFree.{innermost, around, marked_so, is_inside, asked_after, asked, fits, is_key_free, keeps_level, is_level_free, kinds_of}
 use Rattle.yaml_scan_laws_keys.proofs.MadeLemmas.{is_plain, MadeBehind, AllMade}
 
 pub and_left : (a b : Bool) → (a && b) ≡ true → a ≡ true
@@ -49,7 +49,7 @@ around_length (q ∷ qs) = omega arith
 more_length : (qs : List Bool) → length qs + 1 ≡ length (false ∷ qs)
 more_length qs = omega arith
 
-depth_after_is : (k : Kind) (qs : List Bool) → depth_after k (length qs) ≡ length (asked_after k qs)
+pub depth_after_is : (k : Kind) (qs : List Bool) → depth_after k (length qs) ≡ length (asked_after k qs)
 depth_after_is kinds.FlowSequenceStart qs = more_length qs
 depth_after_is kinds.FlowMappingStart qs = more_length qs
 depth_after_is kinds.FlowSequenceEnd qs = around_length qs
@@ -83,14 +83,14 @@ Clear (q ∷ qs) h = (q ≡ true → candidate (suc (length qs)) h ≡ None) × 
 abbrev Quiet : List Bool → List Lexeme → Type 0
 Quiet qs h = innermost qs ≡ true → key_allowed h ≡ false
 
-candidate_lower : (d : ℕ) (l : Lexeme) (h : List Lexeme) → d < l.depth → candidate d (l ∷ h) ≡ candidate d h
+pub candidate_lower : (d : ℕ) (l : Lexeme) (h : List Lexeme) → d < l.depth → candidate d (l ∷ h) ≡ candidate d h
 unfolding candidate
 candidate_lower d l h e =
     let a : (l.depth == d) ≡ false = grind (arith, nat_tests) in
     let b : nat_lt l.depth d ≡ false = grind (arith, nat_tests) in
     rw (a, b) refl
 
-candidate_own : (d : ℕ) (l : Lexeme) (h : List Lexeme) → l.depth ≡ d → l.saved ≡ false → (cancels l.kind ≡ false → candidate d h ≡ None) → candidate d (l ∷ h) ≡ None
+pub candidate_own : (d : ℕ) (l : Lexeme) (h : List Lexeme) → l.depth ≡ d → l.saved ≡ false → (cancels l.kind ≡ false → candidate d h ≡ None) → candidate d (l ∷ h) ≡ None
 unfolding candidate
 candidate_own d l h e s none =
     let a : (l.depth == d) ≡ true = grind (arith, nat_tests) in
@@ -164,11 +164,11 @@ quiet_after kinds.SingleQuoted qs n found f e t = refl
 quiet_after kinds.DoubleQuoted qs n found f e t = refl
 quiet_after k qs n found f e t = absurd (off_never qs t)
 
-pub not_plain : (k : Kind) (qs : List Bool) → fits k qs ≡ true → is_plain k ≡ false
+not_plain : (k : Kind) (qs : List Bool) → fits k qs ≡ true → is_plain k ≡ false
 not_plain kinds.Plain qs f = absurd (cc)
 not_plain k qs f = refl
 
-pub unbroken : (l : Lexeme) (h : List Lexeme) → MadeBehind h l → is_key_free (kinds_of (l ∷ h)) ≡ true → l.broke ≡ false
+unbroken : (l : Lexeme) (h : List Lexeme) → MadeBehind h l → is_key_free (kinds_of (l ∷ h)) ≡ true → l.broke ≡ false
 unbroken l h m free = m.broke (not_plain l.kind (asked (kinds_of h)) (free_head l h free))
 
 quiet_more : (l : Lexeme) (h : List Lexeme) → AllMade (l ∷ h) → is_key_free (kinds_of (l ∷ h)) ≡ true → Quiet (asked (kinds_of (l ∷ h))) (l ∷ h)
@@ -208,10 +208,32 @@ deep_inside : (qs : List Bool) (n : ℕ) → is_inside qs ≡ true → n ≡ len
 deep_inside [] n i e = absurd (cc)
 deep_inside (q ∷ qs) n i e = let x : nat_lt 0 n ≡ true = positive n (length qs) e in rw x refl
 
-pub starts_none : (k : Kind) (qs : List Bool) (n : ℕ) → fits k qs ≡ true → n ≡ length qs → (is_start k && not (nat_lt 0 n)) ≡ false
-starts_none kinds.BlockEntry qs n f e = absurd (cc)
+-- what fits keeps the level
+fits_keeps : (k : Kind) (qs : List Bool) → fits k qs ≡ true → keeps_level k qs ≡ true
+fits_keeps kinds.BlockEntry qs f = absurd (cc)
+fits_keeps kinds.KeyMark qs f = f
+fits_keeps kinds.ValueMark qs f = inside_of_top qs f
+fits_keeps k qs f = refl
+
+pub level_free : (ks : List Kind) → is_key_free ks ≡ true → is_level_free ks ≡ true
+unfolding is_key_free is_level_free
+level_free [] free = refl
+level_free (k ∷ ks) free =
+    let here = fits_keeps k (asked ks) (and_left (fits k (asked ks)) (is_key_free ks) free) in
+    rw here (level_free ks (and_right (fits k (asked ks)) (is_key_free ks) free))
+
+pub level_head : (k : Kind) (ks : List Kind) → is_level_free (k ∷ ks) ≡ true → keeps_level k (asked ks) ≡ true
+unfolding is_level_free
+level_head k ks e = and_left (keeps_level k (asked ks)) (is_level_free ks) e
+
+pub level_rest : (k : Kind) (ks : List Kind) → is_level_free (k ∷ ks) ≡ true → is_level_free ks ≡ true
+unfolding is_level_free
+level_rest k ks e = and_right (keeps_level k (asked ks)) (is_level_free ks) e
+
+pub starts_none : (k : Kind) (qs : List Bool) (n : ℕ) → keeps_level k qs ≡ true → n ≡ length qs → (is_start k && not (nat_lt 0 n)) ≡ false
+starts_none kinds.BlockEntry qs n f e = deep_inside qs n f e
 starts_none kinds.KeyMark qs n f e = deep_inside qs n f e
-starts_none kinds.ValueMark qs n f e = deep_inside qs n (inside_of_top qs f) e
+starts_none kinds.ValueMark qs n f e = deep_inside qs n f e
 starts_none k qs n f e = refl
 
 left_none : (k : Kind) (d column : ℕ) → left_by k d column [] ≡ []
@@ -224,12 +246,12 @@ left_none k d column =
 opened_none : (may : Bool) (column : ℕ) (ls : List ℕ) → may ≡ false → ls ≡ [] → opened may column ls ≡ []
 opened_none may column ls e f = rw (e, f) refl
 
-pub no_levels : (h : List Lexeme) → AllMade h → is_key_free (kinds_of h) ≡ true → levels h ≡ []
+pub no_levels : (h : List Lexeme) → AllMade h → is_level_free (kinds_of h) ≡ true → levels h ≡ []
 unfolding levels AllMade
 no_levels [] made free = refl
 no_levels (l ∷ h) (m, made) free =
-    let rest = no_levels h made (free_rest l h free) in
-    let start = starts_none l.kind (asked (kinds_of h)) l.depth (free_head l h free) (m.at ∙ depth_is h made) in
+    let rest = no_levels h made (level_rest l.kind (kinds_of h) free) in
+    let start = starts_none l.kind (asked (kinds_of h)) l.depth (level_head l.kind (kinds_of h) free) (m.at ∙ depth_is h made) in
     opened_none (is_start l.kind && not (nat_lt 0 l.depth)) (opens_at (found_by l h) l.kind l.start.column) (left_by l.kind l.depth l.start.column (levels h)) start
     (ap (λ (ls : List ℕ). left_by l.kind l.depth l.start.column ls) rest ∙ left_none l.kind l.depth l.start.column)
 
@@ -250,8 +272,8 @@ none_ends xs ys e = rw e (omega arith)
 entry_bare : (l : Lexeme) (h : List Lexeme) → AllMade (l ∷ h) → is_key_free (kinds_of (l ∷ h)) ≡ true → entry_of l h ≡ bare l
 unfolding AllMade
 entry_bare l h (m, made) free =
-    let none = no_levels h made (free_rest l h free) in
-    let start = starts_none l.kind (asked (kinds_of h)) l.depth (free_head l h free) (m.at ∙ depth_is h made) in
+    let none = no_levels h made (level_free (kinds_of h) (free_rest l h free)) in
+    let start = starts_none l.kind (asked (kinds_of h)) l.depth (level_head l.kind (kinds_of h) (level_free (kinds_of (l ∷ h)) free)) (m.at ∙ depth_is h made) in
     let ends = none_ends (levels h) (inside l h) none in
     let opens = opens_none (is_start l.kind) (is_value l.kind) (has (found_by l h)) l.depth (l.start.column + 1) (inside l h) (level_of l.kind) start in
     rw (ends, opens) refl

@@ -1,4 +1,4 @@
-mod MadeLemmas
-mod FreeLemmas
-mod StepLemmas
+pub mod MadeLemmas
+pub mod FreeLemmas
+pub mod StepLemmas
 pub mod TextLemmas

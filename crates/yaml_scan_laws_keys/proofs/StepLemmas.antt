@@ -9,6 +9,7 @@ use Rattle.yaml_scan_laws_order.specs.scan_model.Marks.{mark_at}
 use Rattle.yaml_scan_laws_order.specs.scan_model.Wrong.{Wrong}
 use Rattle.yaml_scan_laws_order.specs.scan_words.Between.{Gap}
 use Rattle.yaml_scan_laws_order.specs.scan_history.declared.kind.Kind.{Kind}
+use Rattle.yaml_scan_laws_order.specs.scan_history.declared.kind.Kind.TheVariants as kinds
 use Rattle.yaml_scan_laws_order.specs.scan_history.declared.lexeme.Lexeme.{Lexeme}
 use Rattle.yaml_scan_laws_order.specs.scan_history.declared.lexeme.Entry.{Entry}
 use Rattle.yaml_scan_laws_order.specs.scan_history.Kinds.{cancels, is_value, is_start, is_end}
@@ -16,10 +17,10 @@ use Rattle.yaml_scan_laws_order.specs.scan_history.History.{depth, reached, ende
 use Rattle.yaml_scan_laws_order.specs.scan_history.Words.{WordText, kind_at, word_at}
 use Rattle.yaml_scan_laws_order.specs.scan_history.Next.{Next, Read, Fails, Ends, first_lexeme, no_colon, not_allowed, begun, finished, allowed_behind, misplaced, missed, lost_by, tested, unless_wrong, unless_lost, of_kind, unless_missed, behind, next, extended, history}
 use Rattle.yaml_scan_laws_order.specs.scan_history.Remaining.{SpelledText, token_in, spell, all, handed_out, handed, kept_of, fault_in, Remaining, remaining}
-use Rattle.yaml_scan_laws_keys.specs.KeyFree.{asked, fits, is_key_free, kinds_of}
+use Rattle.yaml_scan_laws_keys.specs.KeyFree.{asked, is_key_free, is_level_free, kinds_of}
 use Rattle.yaml_scan_laws_keys.specs.Laws.{gap_in, lexeme_of}
-use Rattle.yaml_scan_laws_keys.proofs.MadeLemmas.{AllMade, Whole, whole_word, begun_made, finished_made, history_made}
-use Rattle.yaml_scan_laws_keys.proofs.FreeLemmas.{and_left, and_right, not_plain, free_rest, depth_is, starts_none, no_levels, bare, entries_bare, bare_tokens}
+use Rattle.yaml_scan_laws_keys.proofs.MadeLemmas.{is_plain, AllMade, Whole, whole_word, begun_made, finished_made, history_made}
+use Rattle.yaml_scan_laws_keys.proofs.FreeLemmas.{level_head, level_rest, depth_is, starts_none, no_levels, bare, entries_bare, bare_tokens}
 
 -- What comes.
 
@@ -63,11 +64,11 @@ unrequired_head : (d : ℕ) (l : Lexeme) (h : List Lexeme) → l.required ≡ fa
 unfolding candidate
 unrequired_head d l h e r = unrequired_more (l.depth == d) l.saved (cancels l.kind) (nat_lt l.depth d) l (length h) (candidate d h) e r
 
-unrequired : (d : ℕ) (h : List Lexeme) → AllMade h → is_key_free (kinds_of h) ≡ true → Unrequired (candidate d h)
+unrequired : (d : ℕ) (h : List Lexeme) → AllMade h → is_level_free (kinds_of h) ≡ true → Unrequired (candidate d h)
 unfolding AllMade candidate
 unrequired d [] made free = tt
 unrequired d (l ∷ h) (m, made) free =
-    let rest = free_rest l h free in
+    let rest = level_rest l.kind (kinds_of h) free in
     unrequired_head d l h (m.required (no_levels h made rest)) (unrequired d h made rest)
 
 fresh_unrequired : (o : Option Candidate) (at : yaml_mark_t) → Unrequired o → Unrequired (fresh o at)
@@ -90,7 +91,7 @@ lost_none : (l : Lexeme) (o : Option Candidate) → Unrequired o → lost_by l o
 lost_none l None u = refl
 lost_none l (Some c) u = never c.lexeme.required (l.saved || (cancels l.kind && not (is_value l.kind))) c.lexeme.start u
 
-pub none_required : (h : List Lexeme) (d : ℕ) (l : Lexeme) (at to : yaml_mark_t) → AllMade h → is_key_free (kinds_of h) ≡ true
+pub none_required : (h : List Lexeme) (d : ℕ) (l : Lexeme) (at to : yaml_mark_t) → AllMade h → is_level_free (kinds_of h) ≡ true
     → (missed (fresh (candidate d h) at) to ≡ None) × (lost_by l (fresh (candidate d h) at) ≡ None)
 none_required h d l at to made free =
     let u = fresh_unrequired (candidate d h) at (unrequired d h made free) in
@@ -112,12 +113,12 @@ tested_read : (l : Lexeme) (h : List Lexeme) → Unrequired (candidate 0 (l ∷ 
 tested_read l h u =
     ap (λ o. elim o as (λ _. Next) [ Some start ↦ no_colon start l.reached | None ↦ Read l ]) (missed_none (candidate 0 (l ∷ h)) l.reached u)
 
-whole_of : (w : WordText) (r : Result WordText Wrong) → r ≡ Ok w → Whole r → w.broke ≡ false
+pub whole_of : (w : WordText) (r : Result WordText Wrong) → r ≡ Ok w → Whole r → w.broke ≡ false
 whole_of w (Ok x) e b = let same : x ≡ w = cc in ap (λ (y : WordText). y.broke) (sym same) ∙ b
 whole_of w (Err x) e b = absurd (cc)
 
 -- a lexeme with its end, by plain fields
-finished_plain : (text : List ℕ) (k : Kind) (start : yaml_mark_t) (d level : ℕ) (saved required : Bool) (w : WordText) → level ≡ 0 → required ≡ false → w.broke ≡ false
+finished_plain : (text : List ℕ) (k : Kind) (start : yaml_mark_t) (d level : ℕ) (saved required : Bool) (w : WordText) → level ≡ 0 → required ≡ false → (is_end k ≡ true → w.broke ≡ false)
     → let l : Lexeme = record { kind = k; start = start; end = start; reached = start; depth = d; level = level; saved = saved; required = required; broke = false } in
     finished text l w ≡ record {
       kind = k;
@@ -128,31 +129,27 @@ finished_plain : (text : List ℕ) (k : Kind) (start : yaml_mark_t) (d level : �
       level = 0;
       saved = saved;
       required = false;
-      broke = false;
+      broke = w.broke;
     }
 finished_plain text k start d level saved required w e f g =
     elim (cases_Bool (is_end k)) [
-      | inl x ↦ rw (x, e, f) refl
-      | inr x ↦ rw (x, e, f, g) refl
+      | inl x ↦ let calm = g x in rw (x, e, f, calm) refl
+      | inr x ↦ rw (x, e, f) refl
     ]
 
 -- a lexeme that begins so, with its end
 finished_is : (text : List ℕ) (h : List Lexeme) (gap : Gap) (k : Kind) (w : WordText)
     → let l = begun k (placed k (mark_at text gap.place)) (allowed_behind h gap) h in
-    l.level ≡ 0 → l.required ≡ false → w.broke ≡ false → finished text l w ≡ lexeme_of text h gap k w
+    l.level ≡ 0 → l.required ≡ false → (is_end k ≡ true → w.broke ≡ false) → finished text l w ≡ lexeme_of text h gap k w
 finished_is text h gap k w level required broke =
     let l = begun k (placed k (mark_at text gap.place)) (allowed_behind h gap) h in
     finished_plain text k l.start (depth h) l.level l.saved l.required w level required broke
 
-free_kind : (k : Kind) (ks : List Kind) → is_key_free (k ∷ ks) ≡ true → fits k (asked ks) ≡ true
-unfolding is_key_free
-free_kind k ks e = and_left (fits k (asked ks)) (is_key_free ks) e
+end_not_plain : (k : Kind) → is_end k ≡ true → is_plain k ≡ false
+end_not_plain kinds.Plain e = absurd (cc)
+end_not_plain k e = refl
 
-pub free_behind : (k : Kind) (ks : List Kind) → is_key_free (k ∷ ks) ≡ true → is_key_free ks ≡ true
-unfolding is_key_free
-free_behind k ks e = and_right (fits k (asked ks)) (is_key_free ks) e
-
-word_behind : (text : List ℕ) (x : List Lexeme) (k : Kind) (w : WordText) → AllMade x → is_key_free (k ∷ kinds_of x) ≡ true
+word_behind : (text : List ℕ) (x : List Lexeme) (k : Kind) (w : WordText) → AllMade x → is_level_free (k ∷ kinds_of x) ≡ true
     → kind_at (nat_lt 0 (depth x)) text (gap_in text x).place ≡ Some k → word_at k (nat_lt 0 (depth x)) 0 text (gap_in text x).place ≡ Ok w
     → behind text (gap_in text x) x ≡ Read (lexeme_of text x (gap_in text x) k w)
 word_behind text x k w made free kind said =
@@ -160,12 +157,12 @@ word_behind text x k w made free kind said =
     let flow = nat_lt 0 (depth x) in
     let m = mark_at text gap.place in
     let b = begun k (placed k m) (allowed_behind x gap) x in
-    let fit = free_kind k (kinds_of x) free in
-    let rest = free_behind k (kinds_of x) free in
+    let fit = level_head k (kinds_of x) free in
+    let rest = level_rest k (kinds_of x) free in
     let none = no_levels x made rest in
     let bm = begun_made k (placed k m) gap x in
-    let whole = whole_of w (word_at k flow 0 text gap.place) said (whole_word k flow 0 text gap.place (not_plain k (asked (kinds_of x)) fit)) in
-    let fm = finished_made text b x w (λ e. whole) bm in
+    let whole : is_plain k ≡ false → w.broke ≡ false = λ e. whole_of w (word_at k flow 0 text gap.place) said (whole_word k flow 0 text gap.place e) in
+    let fm = finished_made text b x w whole bm in
     let u = unrequired 0 x made rest in
     ap (λ (o : Option yaml_mark_t). unless_missed o text gap x) (missed_none (fresh (candidate 0 x) (reached x)) m (fresh_unrequired (candidate 0 x) (reached x) u))
     ∙ ap (λ (o : Option Kind). of_kind o text gap x) kind
@@ -174,9 +171,9 @@ word_behind text x k w made free kind said =
     ∙ ap (λ (o : Option yaml_mark_t). unless_lost o text gap.place b x) (lost_none b (fresh (candidate (depth x) x) m) (fresh_unrequired (candidate (depth x) x) m (unrequired (depth x) x made rest)))
     ∙ ap (λ (r : Result WordText Wrong). unless_wrong r text b x) (ap (λ n. word_at k flow n text gap.place) (bm.level none) ∙ said)
     ∙ tested_read (finished text b w) x (unrequired_head 0 (finished text b w) x (fm.required none) u)
-    ∙ ap (λ (l : Lexeme). Read l) (finished_is text x gap k w (bm.level none) (bm.required none) whole)
+    ∙ ap (λ (l : Lexeme). Read l) (finished_is text x gap k w (bm.level none) (bm.required none) (λ e. whole (end_not_plain k e)))
 
-pub word_read : (text : List ℕ) (l : Lexeme) (h : List Lexeme) (k : Kind) (w : WordText) → AllMade (l ∷ h) → is_key_free (k ∷ kinds_of (l ∷ h)) ≡ true → ended (l ∷ h) ≡ false
+pub word_read : (text : List ℕ) (l : Lexeme) (h : List Lexeme) (k : Kind) (w : WordText) → AllMade (l ∷ h) → is_level_free (k ∷ kinds_of (l ∷ h)) ≡ true → ended (l ∷ h) ≡ false
     → kind_at (nat_lt 0 (depth (l ∷ h))) text (gap_in text (l ∷ h)).place ≡ Some k → word_at k (nat_lt 0 (depth (l ∷ h))) 0 text (gap_in text (l ∷ h)).place ≡ Ok w
     → next text (l ∷ h) ≡ Read (lexeme_of text (l ∷ h) (gap_in text (l ∷ h)) k w)
 unfolding next
@@ -201,7 +198,7 @@ has_newest text (suc n) = extended_more (next text (history text (suc n))) (hist
 
 -- Each word behind such lexemes is read.
 abbrev ReadsWords : List ℕ → List Lexeme → Type 0
-ReadsWords text h = (k : Kind) (w : WordText) → AllMade h → is_key_free (k ∷ kinds_of h) ≡ true → ended h ≡ false
+ReadsWords text h = (k : Kind) (w : WordText) → AllMade h → is_level_free (k ∷ kinds_of h) ≡ true → ended h ≡ false
     → kind_at (nat_lt 0 (depth h)) text (gap_in text h).place ≡ Some k → word_at k (nat_lt 0 (depth h)) 0 text (gap_in text h).place ≡ Ok w
     → next text h ≡ Read (lexeme_of text h (gap_in text h) k w)
 

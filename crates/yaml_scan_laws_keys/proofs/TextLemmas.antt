@@ -17,12 +17,12 @@ use Rattle.yaml_scan_laws_order.specs.scan_history.Next.{Next, Read, Ends, behin
 use Rattle.yaml_scan_laws_order.specs.scan_history.Remaining.{SpelledText, body_of_word, body_by, token_in, all, Remaining, offline}
 use Rattle.yaml_scan_laws_order.proofs.HistoryForward.{last_is_all}
 use Rattle.yaml_scan_laws_order.proofs.WordForward.{FitsAny, kind_fits}
-use Rattle.yaml_scan_laws_keys.specs.KeyFree.{asked_after, asked, fits, is_key_free, kinds_of}
+use Rattle.yaml_scan_laws_keys.specs.KeyFree.{asked_after, asked, fits, is_key_free, keeps_level, is_level_free, kinds_of}
 use Rattle.yaml_scan_laws_keys.specs.Laws.{gap_in, end_in, lexeme_of}
 use Rattle.yaml_scan_laws_keys.specs.Texts.{Word, lexemes, StandsBehind, Stand, word_kinds, token_of, first_token, ReachEnd}
 use Rattle.yaml_scan_laws_keys.proofs.MadeLemmas.{AllMade, history_made}
-use Rattle.yaml_scan_laws_keys.proofs.FreeLemmas.{and_left, and_right}
-use Rattle.yaml_scan_laws_keys.proofs.StepLemmas.{free_behind, remaining_bare, step_reads}
+use Rattle.yaml_scan_laws_keys.proofs.FreeLemmas.{and_left, and_right, level_free, level_rest}
+use Rattle.yaml_scan_laws_keys.proofs.StepLemmas.{remaining_bare, step_reads}
 
 -- the stream's start changes nothing
 
@@ -36,9 +36,15 @@ unfolding is_key_free lexemes
 free_first text [] = refl
 free_first text (w ∷ ws) = ap (λ (qs : List Bool). fits w.kind qs && is_key_free (kinds_of (lexemes text ws))) (asked_first text ws) ∙ ap (λ (b : Bool). fits w.kind (asked (word_kinds ws)) && b) (free_first text ws)
 
-free_with : (text : List ℕ) (w : Word) (ws : List Word) → is_key_free (w.kind ∷ word_kinds ws) ≡ true → is_key_free (w.kind ∷ kinds_of (lexemes text ws)) ≡ true
+level_first : (text : List ℕ) (ws : List Word) → is_level_free (kinds_of (lexemes text ws)) ≡ is_level_free (word_kinds ws)
+unfolding is_level_free lexemes
+level_first text [] = refl
+level_first text (w ∷ ws) =
+    ap (λ (qs : List Bool). keeps_level w.kind qs && is_level_free (kinds_of (lexemes text ws))) (asked_first text ws) ∙ ap (λ (b : Bool). keeps_level w.kind (asked (word_kinds ws)) && b) (level_first text ws)
+
+level_with : (text : List ℕ) (w : Word) (ws : List Word) → is_level_free (w.kind ∷ word_kinds ws) ≡ true → is_level_free (w.kind ∷ kinds_of (lexemes text ws)) ≡ true
 unfolding lexemes
-free_with text w ws free = free_first text (w ∷ ws) ∙ free
+level_with text w ws free = level_first text (w ∷ ws) ∙ free
 
 not_true : (a : Bool) → not a ≡ true → a ≡ false
 not_true false e = refl
@@ -57,13 +63,13 @@ goes_behind : (w : Word) (ws : List Word) → GoOn (w ∷ ws) → GoOn ws
 goes_behind w ws g = and_right (not (is_end w.kind)) (list_all (λ (x : Word). not (is_end x.kind)) ws) g
 
 -- as many steps as there are words, and the first, read them
-words_history : (text : List ℕ) (w : Word) (ws : List Word) → Stand text (w ∷ ws) → is_key_free (w.kind ∷ word_kinds ws) ≡ true → GoOn ws
+words_history : (text : List ℕ) (w : Word) (ws : List Word) → Stand text (w ∷ ws) → is_level_free (w.kind ∷ word_kinds ws) ≡ true → GoOn ws
     → history text (suc (length ws)) ≡ lexemes text ws → history text (suc (suc (length ws))) ≡ lexemes text (w ∷ ws)
 unfolding history lexemes Stand
 words_history text w ws (stands, more) free on before =
     let h = lexemes text ws in
     let P : List Lexeme → Type 0 = λ x. AllMade x in
-    let Q : List Lexeme → Type 0 = λ x. (k : Kind) (t : WordText) → AllMade x → is_key_free (k ∷ kinds_of x) ≡ true → ended x ≡ false
+    let Q : List Lexeme → Type 0 = λ x. (k : Kind) (t : WordText) → AllMade x → is_level_free (k ∷ kinds_of x) ≡ true → ended x ≡ false
     → kind_at (nat_lt 0 (depth x)) text (gap_in text x).place ≡ Some k → word_at k (nat_lt 0 (depth x)) 0 text (gap_in text x).place ≡ Ok t
     → next text x ≡ Read (lexeme_of text x (gap_in text x) k t) in
     let made = subst P before (history_made text (suc (length ws))) in
@@ -71,14 +77,14 @@ words_history text w ws (stands, more) free on before =
     let kind = ap (λ p. kind_at (nat_lt 0 (depth h)) text p) stands.place ∙ stands.kind in
     let said = ap (λ p. word_at w.kind (nat_lt 0 (depth h)) 0 text p) stands.place ∙ stands.said in
     ap (λ (x : List Lexeme). extended (next text x) x) before
-    ∙ ap (λ (x : Next). extended x h) (reads w.kind w.said made (free_with text w ws free) (goes_on text ws on) kind said)
+    ∙ ap (λ (x : Next). extended x h) (reads w.kind w.said made (level_with text w ws free) (goes_on text ws on) kind said)
 
-read_so_far : (text : List ℕ) (ws : List Word) → Stand text ws → is_key_free (word_kinds ws) ≡ true → GoOn ws → history text (suc (length ws)) ≡ lexemes text ws
+read_so_far : (text : List ℕ) (ws : List Word) → Stand text ws → is_level_free (word_kinds ws) ≡ true → GoOn ws → history text (suc (length ws)) ≡ lexemes text ws
 unfolding history next lexemes Stand
 read_so_far text [] stand free on = refl
 read_so_far text (w ∷ ws) (stands, more) free on =
     let rest = goes_behind w ws on in
-    words_history text w ws (stands, more) free rest (read_so_far text ws more (free_behind w.kind (word_kinds ws) free) rest)
+    words_history text w ws (stands, more) free rest (read_so_far text ws more (level_rest w.kind (word_kinds ws) free) rest)
 
 -- nothing comes behind the end
 ends_behind : (text : List ℕ) (h : List Lexeme) → ended h ≡ true → next text h ≡ Ends
@@ -108,7 +114,7 @@ body_is k s l p w f level at said =
     ap (λ n. body_of_word (word_at k (nat_lt 0 l.depth) n s.text l.start.index)) level ∙ ap (λ n. body_of_word (word_at k (nat_lt 0 l.depth) 0 s.text n)) at
     ∙ ap (λ (r : Result WordText Wrong). body_of_word r) said
 
-token_is : (s : SpelledText) (w : Word) (h : List Lexeme) → StandsBehind s.text h w → token_in s (lexeme_of s.text h (gap_in s.text h) w.kind w.said) ≡ token_of s.text w
+pub token_is : (s : SpelledText) (w : Word) (h : List Lexeme) → StandsBehind s.text h w → token_in s (lexeme_of s.text h (gap_in s.text h) w.kind w.said) ≡ token_of s.text w
 token_is s w h stands =
     let gap = gap_in s.text h in
     let l = lexeme_of s.text h gap w.kind w.said in
@@ -136,18 +142,21 @@ tokens_are s (w ∷ ws) (stands, more) =
     ∙ ap (λ (t : Token). (first_token s ∷ map (token_of s.text) (reverse ws)) ++ t ∷ []) (token_is s w h stands)
     ∙ ap (λ (ts : List Token). first_token s ∷ ts) (sym (ap (λ (xs : List Word). map (token_of s.text) xs) (reverse-append (w ∷ []) ws) ∙ of_more s.text (reverse ws) (w ∷ [])))
 
+pub words_lexemes : (text : List ℕ) (ws : List Word) → Stand text ws → is_level_free (word_kinds ws) ≡ true → ReachEnd ws → (all text ≡ lexemes text ws) × (next text (all text) ≡ Ends)
+unfolding lexemes Stand
+words_lexemes text [] stand free end = absurd end
+words_lexemes text (w ∷ ws) (stands, more) free (end, on) =
+    let rest = level_rest w.kind (word_kinds ws) free in
+    let read = words_history text w ws (stands, more) free on (read_so_far text ws more rest on) in
+    let h = lexemes text (w ∷ ws) in
+    let ends : next text (history text (suc (suc (length ws)))) ≡ Ends = ap (λ (x : List Lexeme). next text x) read ∙ ends_behind text h end in
+    let whole : all text ≡ h = last_is_all text (suc (suc (length ws))) (λ l. no_read _ l ends) ∙ read in
+    (whole, ap (λ (x : List Lexeme). next text x) whole ∙ ends_behind text h end)
+
 pub words_read : (s : SpelledText) (ws : List Word) → Stand s.text ws → is_key_free (word_kinds ws) ≡ true → ReachEnd ws
     → offline s ≡ record { tokens = first_token s ∷ map (token_of s.text) (reverse ws); fault = None }
-unfolding lexemes Stand
-words_read s [] stand free end = absurd end
-words_read s (w ∷ ws) (stands, more) free (end, on) =
-    let rest = free_behind w.kind (word_kinds ws) free in
-    let read = words_history s.text w ws (stands, more) free on (read_so_far s.text ws more rest on) in
-    let h = lexemes s.text (w ∷ ws) in
-    let ends : next s.text (history s.text (suc (suc (length ws)))) ≡ Ends = ap (λ (x : List Lexeme). next s.text x) read ∙ ends_behind s.text h end in
-    let whole : all s.text ≡ h = last_is_all s.text (suc (suc (length ws))) (λ l. no_read _ l ends) ∙ read in
-    let free_all : is_key_free (kinds_of (all s.text)) ≡ true = ap (λ (x : List Lexeme). is_key_free (kinds_of x)) whole ∙ free_first s.text (w ∷ ws) ∙ free in
-    let ends_all : next s.text (all s.text) ≡ Ends = ap (λ (x : List Lexeme). next s.text x) whole ∙ ends_behind s.text h end in
-    let same = ap (λ (x : List Lexeme). map (token_in s) (reverse x)) whole ∙ tokens_are s (w ∷ ws) (stands, more) in
-    remaining_bare s free_all ends_all 0 0
-    ∙ ap (λ (ts : List Token). let one : Remaining = record { tokens = ts; fault = None } in one) same
+words_read s ws stand free end =
+    let (whole, ends) = words_lexemes s.text ws stand (level_free (word_kinds ws) free) end in
+    let free_all : is_key_free (kinds_of (all s.text)) ≡ true = ap (λ (x : List Lexeme). is_key_free (kinds_of x)) whole ∙ free_first s.text ws ∙ free in
+    let same = ap (λ (x : List Lexeme). map (token_in s) (reverse x)) whole ∙ tokens_are s ws stand in
+    remaining_bare s free_all ends 0 0 ∙ ap (λ (ts : List Token). let one : Remaining = record { tokens = ts; fault = None } in one) same

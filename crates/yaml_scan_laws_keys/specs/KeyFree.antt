@@ -56,6 +56,18 @@ unfoldable pub is_key_free : List Kind → Bool
 is_key_free [] = true
 is_key_free (k ∷ ks) = fits k (asked ks) && is_key_free ks
 
+-- `-`, `?` and `:` stand in brackets alone, where they open no level
+abbrev pub keeps_level : Kind → List Bool → Bool
+keeps_level kinds.BlockEntry qs = is_inside qs
+keeps_level kinds.KeyMark qs = is_inside qs
+keeps_level kinds.ValueMark qs = is_inside qs
+keeps_level _ qs = true
+
+-- no level opens
+unfoldable pub is_level_free : List Kind → Bool
+is_level_free [] = true
+is_level_free (k ∷ ks) = keeps_level k (asked ks) && is_level_free ks
+
 -- the kinds of lexemes
 abbrev pub kinds_of : List Lexeme → List Kind
 kinds_of h = map (λ (l : Lexeme). l.kind) h

@@ -11,7 +11,7 @@ use Rattle.yaml_scan_laws_order.specs.scan_history.History.{depth, reached, ende
 use Rattle.yaml_scan_laws_order.specs.scan_history.Words.{WordText, kind_at, word_at}
 use Rattle.yaml_scan_laws_order.specs.scan_history.Next.{Read, Ends, allowed_behind, missed, lost_by, next, history}
 use Rattle.yaml_scan_laws_order.specs.scan_history.Remaining.{SpelledText, token_in, spell, all, remaining}
-use Rattle.yaml_scan_laws_keys.specs.KeyFree.{innermost, asked, is_key_free, kinds_of}
+use Rattle.yaml_scan_laws_keys.specs.KeyFree.{innermost, asked, is_key_free, is_level_free, kinds_of}
 
 -- Behind a `?` in brackets, with only nodes after it, no candidate stands at its depth.
 abbrev pub AskedHaveNoCandidate : Type 0
@@ -34,11 +34,16 @@ KeyFreeTextsAreBare = (s : SpelledText) → is_key_free (kinds_of (all s.text)) 
       fault = None;
     }
 
--- No candidate of key-free lexemes is missed or lost, wherever it goes stale and whatever stands in its place.
+-- Behind key-free lexemes no level is open.
+abbrev pub KeyFreeIsLevelFree : Type 0
+KeyFreeIsLevelFree = (ks : List Kind) → is_key_free ks ≡ true → is_level_free ks ≡ true
+
+-- Where no level opens, no candidate is missed or lost, wherever it goes stale and whatever stands in
+-- its place.
 abbrev pub NoneIsRequired : Type 0
 NoneIsRequired = (text : List ℕ) (n d : ℕ) (l : Lexeme) (at to : yaml_mark_t)
     → let h = history text n in
-    is_key_free (kinds_of h) ≡ true → (missed (fresh (candidate d h) at) to ≡ None)
+    is_level_free (kinds_of h) ≡ true → (missed (fresh (candidate d h) at) to ≡ None)
     × (lost_by l (fresh (candidate d h) at) ≡ None)
 
 -- ---- one step
@@ -62,13 +67,13 @@ lexeme_of text h gap k w = record {
   level = 0;
   saved = allowed_behind h gap && may_be_key k;
   required = false;
-  broke = false;
+  broke = w.broke;
 }
 
--- Behind key-free lexemes the next one is what its kind and its text say.
+-- Where no level opens, the next lexeme is what its kind and its text say.
 abbrev pub WordIsRead : Type 0
 WordIsRead = (text : List ℕ) (n : ℕ) (k : Kind) (w : WordText) → let h = history text (suc n) in
-    is_key_free (k ∷ kinds_of h) ≡ true → ended h ≡ false → let gap = gap_in text h in
+    is_level_free (k ∷ kinds_of h) ≡ true → ended h ≡ false → let gap = gap_in text h in
     kind_at (nat_lt 0 (depth h)) text gap.place ≡ Some k → word_at k (nat_lt 0 (depth h)) 0 text
     gap.place ≡ Ok w
     → next text h ≡ Read (lexeme_of text h gap k w)

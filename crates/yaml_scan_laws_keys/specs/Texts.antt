@@ -1,4 +1,4 @@
--- Texts of key-free words.
+-- Texts of words.
 use Rattle.std.specs.Prelude.{◌≡◌, ℕ, nat_lt, true, not, List, [], ◌∷◌, map, reverse, Some, None, Ok}
 use Rattle.std.specs.List.{list_all}
 use Rattle.yaml_scan_laws_order.specs.scan_model.Marks.{mark_at}
@@ -8,9 +8,9 @@ use Rattle.yaml_scan_laws_order.specs.scan_history.declared.lexeme.Lexeme.{Lexem
 use Rattle.yaml_scan_laws_order.specs.scan_history.Kinds.{is_end}
 use Rattle.yaml_scan_laws_order.specs.scan_history.History.{depth, placed}
 use Rattle.yaml_scan_laws_order.specs.scan_history.Words.{WordText, kind_at, word_at}
-use Rattle.yaml_scan_laws_order.specs.scan_history.Next.{first_lexeme}
-use Rattle.yaml_scan_laws_order.specs.scan_history.Remaining.{SpelledText, offline}
-use Rattle.yaml_scan_laws_keys.specs.KeyFree.{is_key_free}
+use Rattle.yaml_scan_laws_order.specs.scan_history.Next.{first_lexeme, Ends, next}
+use Rattle.yaml_scan_laws_order.specs.scan_history.Remaining.{SpelledText, all, offline}
+use Rattle.yaml_scan_laws_keys.specs.KeyFree.{is_key_free, is_level_free}
 use Rattle.yaml_scan_laws_keys.specs.Laws.{gap_in, end_in, lexeme_of}
 
 -- a word of a text: its kind, its place, and what is read there
@@ -60,6 +60,13 @@ abbrev pub ReachEnd : List Word → Type 0
 ReachEnd [] = ⊥
 ReachEnd (w ∷ ws) = (is_end w.kind ≡ true)
     × (list_all (λ (x : Word). not (is_end x.kind)) ws ≡ true)
+
+-- The lexemes of a text in which words stand one behind another, up to the end, of which none opens a
+-- level, are these words, without fault.
+abbrev pub WordsAreLexemes : Type 0
+WordsAreLexemes = (text : List ℕ) (ws : List Word) → Stand text ws → is_level_free (word_kinds ws)
+    ≡ true → ReachEnd ws
+    → (all text ≡ lexemes text ws) × (next text (all text) ≡ Ends)
 
 -- A text in which key-free words stand one behind another, up to the end, is read as their tokens, without fault.
 abbrev pub WordsAreRead : Type 0

@@ -2,12 +2,13 @@
 
 ghost use Rattle.yaml_scan_laws_keys.specs.Laws.{
   AskedHaveNoCandidate,
+  KeyFreeIsLevelFree,
   KeyFreeTokensAreOwn,
   KeyFreeTextsAreBare,
   NoneIsRequired,
   WordIsRead,
 };
-ghost use Rattle.yaml_scan_laws_keys.specs.Texts.{WordsAreRead};
+ghost use Rattle.yaml_scan_laws_keys.specs.Texts.{WordsAreLexemes, WordsAreRead};
 
 /// Behind a `?` in brackets, with only nodes after it, no candidate stands at its depth: a `:` makes no key there.
 pub fn asked_have_no_candidate()
@@ -24,14 +25,27 @@ pub fn key_free_texts_are_bare()
     ensures { KeyFreeTextsAreBare }
 {}
 
-/// No candidate of key-free lexemes is required: none is missed where it goes stale, and none is lost.
+/// Key-free lexemes open no level.
+pub fn key_free_is_level_free()
+    ensures { KeyFreeIsLevelFree }
+{}
+
+/// Where no level opens, no candidate is required: none is missed where it goes stale, and none is
+/// lost.
 pub fn none_is_required()
     ensures { NoneIsRequired }
 {}
 
-/// Behind key-free lexemes the next one is what its kind and its text say, whatever candidates are open.
+/// Where no level opens, the next lexeme is what its kind and its text say, whatever candidates are
+/// open.
 pub fn word_is_read()
     ensures { WordIsRead }
+{}
+
+/// The lexemes of a text in which words stand one behind another, and open no level, are these
+/// words.
+pub fn words_are_lexemes()
+    ensures { WordsAreLexemes }
 {}
 
 /// A text in which key-free words stand one behind another is read as their tokens, without fault.

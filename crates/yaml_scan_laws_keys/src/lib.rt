@@ -4,6 +4,6 @@
 mod laws;
 
 pub use laws::{
-    asked_have_no_candidate, key_free_texts_are_bare, key_free_tokens_are_own, none_is_required,
-    word_is_read, words_are_read,
+    asked_have_no_candidate, key_free_is_level_free, key_free_texts_are_bare,
+    key_free_tokens_are_own, none_is_required, word_is_read, words_are_lexemes, words_are_read,
 };

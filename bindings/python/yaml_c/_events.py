@@ -1,0 +1,139 @@
+"""The events of a text, as `parse` gives them and `emit` takes them."""
+
+from __future__ import annotations
+
+from collections.abc import Sequence
+from dataclasses import dataclass, field
+from enum import IntEnum
+from typing import Union
+
+from ._faults import Mark
+
+_NOWHERE = Mark(0, 0, 0)
+
+
+class Encoding(IntEnum):
+    """How a text is encoded. As an input's, ANY means what its byte order mark tells, UTF-8 where it has none."""
+
+    ANY = 0
+    UTF8 = 1
+    UTF16LE = 2
+    UTF16BE = 3
+
+
+class ScalarStyle(IntEnum):
+    """How a scalar is written."""
+
+    ANY = 0
+    PLAIN = 1
+    SINGLE_QUOTED = 2
+    DOUBLE_QUOTED = 3
+    LITERAL = 4
+    FOLDED = 5
+
+
+class Style(IntEnum):
+    """How a sequence or a mapping is written."""
+
+    ANY = 0
+    BLOCK = 1
+    FLOW = 2
+
+
+@dataclass(frozen=True)
+class _Event:
+    """What each event has: where its tokens stand. Two events are equal also where they stand at different places."""
+
+    start: Mark = field(default=_NOWHERE, compare=False, kw_only=True, repr=False)
+    end: Mark = field(default=_NOWHERE, compare=False, kw_only=True, repr=False)
+
+
+@dataclass(frozen=True)
+class StreamStart(_Event):
+    """The first event. `encoding` is the one that was found; `emit` writes in it where the settings name none."""
+
+    encoding: Encoding = Encoding.UTF8
+
+
+@dataclass(frozen=True)
+class StreamEnd(_Event):
+    """The last event."""
+
+
+@dataclass(frozen=True)
+class DocumentStart(_Event):
+    """A document begins. `implicit`: no `---`. `version`: that of a %YAML directive. `tags`: handles and prefixes of %TAG."""
+
+    implicit: bool = True
+    version: tuple[int, int] | None = None
+    tags: Sequence[tuple[str, str]] = ()
+
+
+@dataclass(frozen=True)
+class DocumentEnd(_Event):
+    """A document ends. `implicit`: no `...`."""
+
+    implicit: bool = True
+
+
+@dataclass(frozen=True)
+class Alias(_Event):
+    """Stands for the node before it that has the anchor."""
+
+    anchor: str
+
+
+@dataclass(frozen=True)
+class Scalar(_Event):
+    """A text. `implicit`, `quoted_implicit`: whether the tag may be left out in plain style, and in the other styles."""
+
+    value: str
+    tag: str | None = None
+    anchor: str | None = None
+    style: ScalarStyle = ScalarStyle.ANY
+    implicit: bool = True
+    quoted_implicit: bool = True
+
+
+@dataclass(frozen=True)
+class SequenceStart(_Event):
+    """A sequence begins. `implicit`: whether the tag may be left out."""
+
+    tag: str | None = None
+    anchor: str | None = None
+    style: Style = Style.ANY
+    implicit: bool = True
+
+
+@dataclass(frozen=True)
+class SequenceEnd(_Event):
+    """It ends."""
+
+
+@dataclass(frozen=True)
+class MappingStart(_Event):
+    """A mapping begins: keys and values follow by turns. `implicit`: whether the tag may be left out."""
+
+    tag: str | None = None
+    anchor: str | None = None
+    style: Style = Style.ANY
+    implicit: bool = True
+
+
+@dataclass(frozen=True)
+class MappingEnd(_Event):
+    """It ends."""
+
+
+Event = Union[
+    StreamStart,
+    StreamEnd,
+    DocumentStart,
+    DocumentEnd,
+    Alias,
+    Scalar,
+    SequenceStart,
+    SequenceEnd,
+    MappingStart,
+    MappingEnd,
+]

@@ -1,0 +1,151 @@
+"""The shared object: where it is, its records and its calls, as `bindings/c/yaml_c.h` has them.
+
+Nothing here is for users of the package.
+"""
+
+from __future__ import annotations
+
+import ctypes
+import os
+from typing import Any
+
+_HERE = os.path.dirname(os.path.abspath(__file__))
+_NAME = "libyaml_c.so"
+# How a record of an event, and one of a directive, is laid out: ten numbers, four spans and two marks; two spans.
+EVENT = "=10i14Q"
+DIRECTIVE = "=4Q"
+
+
+class Bytes(ctypes.Structure):
+    """Bytes at an address."""
+
+    _fields_ = [("at", ctypes.c_void_p), ("len", ctypes.c_size_t)]
+
+    def get(self) -> bytes:
+        """A copy of them."""
+        return ctypes.string_at(self.at, self.len) if self.len else b""
+
+
+class MarkRecord(ctypes.Structure):
+    """A place."""
+
+    _fields_ = [(name, ctypes.c_uint64) for name in ("index", "line", "column")]
+
+
+class SettingsRecord(ctypes.Structure):
+    """How a text is written."""
+
+    _fields_ = [
+        *[(name, ctypes.c_int32) for name in ("encoding", "canonical", "indent", "width", "unicode", "line_break")],
+        ("limit", ctypes.c_uint64),
+    ]
+
+
+class AnswerRecord(ctypes.Structure):
+    """What a call answers."""
+
+    _fields_ = [
+        *[(name, ctypes.c_int32) for name in ("kind", "is_", "second", "value")],
+        ("offset", ctypes.c_uint64),
+        ("problem_mark", MarkRecord),
+        ("context_mark", MarkRecord),
+        *[(name, Bytes) for name in ("problem", "context", "text", "line")],
+    ]
+
+    def blocks(self) -> list[tuple[int, int]]:
+        """Address and length of what the call handed out."""
+        return [(it.at, it.len) for it in (self.text, self.line) if it.len]
+
+
+class ParsedRecord(ctypes.Structure):
+    """Events, directives, and the bytes of their texts."""
+
+    _fields_ = [
+        ("events", ctypes.c_void_p),
+        ("events_len", ctypes.c_size_t),
+        ("directives", ctypes.c_void_p),
+        ("directives_len", ctypes.c_size_t),
+        ("bytes", Bytes),
+    ]
+
+    def blocks(self) -> list[tuple[int, int]]:
+        """Address and length of what the call handed out."""
+        found = [(self.events, self.events_len), (self.directives, self.directives_len), (self.bytes.at, self.bytes.len)]
+        return [it for it in found if it[1]]
+
+
+# What a pointer names that has a length of 0: it is never NULL.
+NOTHING = ctypes.create_string_buffer(1)
+_AT = ctypes.addressof(NOTHING)
+
+
+def new_answer() -> AnswerRecord:
+    """An answer that names nothing."""
+    answer = AnswerRecord()
+    for it in (answer.problem, answer.context, answer.text, answer.line):
+        it.at = _AT
+    return answer
+
+
+def new_parsed() -> ParsedRecord:
+    """No events."""
+    return ParsedRecord(events=_AT, directives=_AT, bytes=Bytes(at=_AT))
+
+
+def free(record: AnswerRecord | ParsedRecord) -> None:
+    """Frees what a call handed out."""
+    for at, _ in record.blocks():
+        release(at)
+
+
+def _path() -> str:
+    """The shared object that YAML_C_SO names; else the one in this folder; else the one that `make library` made."""
+    named = os.environ.get("YAML_C_SO")
+    if named:
+        return named
+    beside = os.path.join(_HERE, _NAME)
+    made = os.path.join(_HERE, "..", "..", "..", "out", "library", _NAME)
+    return beside if os.path.exists(beside) else os.path.normpath(made)
+
+
+def _load() -> ctypes.CDLL:
+    path = _path()
+    try:
+        return ctypes.CDLL(path)
+    except OSError as error:
+        raise ImportError(
+            f"the library isn't there ({error}): name it by the variable YAML_C_SO, put {_NAME} beside the package's "
+            "modules, or run make library in the repository"
+        ) from None
+
+
+def _call(name: str, *types: Any) -> Any:
+    try:
+        found = getattr(library, name)
+    except AttributeError:
+        raise ImportError(f"{library._name} has no {name}: it is another library") from None
+    found.argtypes, found.restype = types, ctypes.c_int32
+    return found
+
+
+_SIZES = [(SettingsRecord, 32), (AnswerRecord, 136), (ParsedRecord, 48), (MarkRecord, 24), (Bytes, 16)]
+if any(ctypes.sizeof(it) != size for it, size in _SIZES):
+    raise ImportError("the records of the library aren't laid out here as in its header: it needs a machine of 64 bits")
+
+library = _load()
+_POINTER = ctypes.c_void_p
+_INPUT = (ctypes.c_char_p, ctypes.c_size_t, ctypes.c_int32)
+_LIST = (ctypes.c_char_p, ctypes.c_size_t)
+
+defaults = _call("yaml_c_defaults", _POINTER)
+defaults.restype = None
+reformat = _call("yaml_c_reformat", *_INPUT, _POINTER, _POINTER)
+reload = _call("yaml_c_reload", *_INPUT, _POINTER, _POINTER)
+same = _call("yaml_c_same", *_INPUT, *_INPUT, _POINTER)
+events = _call("yaml_c_events", *_INPUT, _POINTER)
+parse = _call("yaml_c_parse", *_INPUT, _POINTER, _POINTER)
+emit = _call("yaml_c_emit", *_LIST, *_LIST, *_LIST, _POINTER, _POINTER)
+
+# The heap that the library takes its blocks from is the process's own.
+release = ctypes.CDLL(None).free
+release.argtypes, release.restype = [ctypes.c_void_p], None

@@ -1,0 +1,32 @@
+# fish completion for yaml_cli. Written by tools/help.py from the program's own help.
+complete -c yaml_cli -f -n 'not __fish_seen_subcommand_from fmt docs events same help' -a fmt -d 'Writes the text again in canonical or pretty form'
+complete -c yaml_cli -f -n 'not __fish_seen_subcommand_from fmt docs events same help' -a docs -d 'Writes the loaded documents in canonical form'
+complete -c yaml_cli -f -n 'not __fish_seen_subcommand_from fmt docs events same help' -a events -d 'Writes a line for each event'
+complete -c yaml_cli -f -n 'not __fish_seen_subcommand_from fmt docs events same help' -a same -d 'Tells whether two files have the same content'
+complete -c yaml_cli -f -n 'not __fish_seen_subcommand_from fmt docs events same help' -a help -d 'Tells the help of a command'
+complete -c yaml_cli -f -n 'not __fish_seen_subcommand_from fmt docs events same help' -s h -l help -d 'Print help'
+complete -c yaml_cli -n '__fish_seen_subcommand_from fmt' -l from -x -a 'auto utf8 utf16le utf16be' -d 'How the input is encoded: auto, utf8, utf16le or utf16be'
+complete -c yaml_cli -n '__fish_seen_subcommand_from fmt' -l pretty -d 'Keep the styles, where the text then reads the same'
+complete -c yaml_cli -n '__fish_seen_subcommand_from fmt' -l indent -x -d 'Columns of a level, 2 to 9'
+complete -c yaml_cli -n '__fish_seen_subcommand_from fmt' -l width -x -d 'The column behind which lines are folded'
+complete -c yaml_cli -n '__fish_seen_subcommand_from fmt' -l ascii -d 'Escape all characters that aren\'t ASCII'
+complete -c yaml_cli -n '__fish_seen_subcommand_from fmt' -l break -x -a 'lf cr crlf' -d 'How lines end: lf, cr or crlf'
+complete -c yaml_cli -n '__fish_seen_subcommand_from fmt' -l encoding -x -a 'utf8 utf16le utf16be' -d 'How the output is encoded: utf8, utf16le or utf16be'
+complete -c yaml_cli -n '__fish_seen_subcommand_from fmt' -l limit -x -d 'How many bytes the output may have'
+complete -c yaml_cli -n '__fish_seen_subcommand_from fmt' -s h -l help -d 'Print help'
+complete -c yaml_cli -n '__fish_seen_subcommand_from fmt' -F
+complete -c yaml_cli -n '__fish_seen_subcommand_from docs' -l from -x -a 'auto utf8 utf16le utf16be' -d 'How the input is encoded: auto, utf8, utf16le or utf16be'
+complete -c yaml_cli -n '__fish_seen_subcommand_from docs' -l indent -x -d 'Columns of a level, 2 to 9'
+complete -c yaml_cli -n '__fish_seen_subcommand_from docs' -l width -x -d 'The column behind which lines are folded'
+complete -c yaml_cli -n '__fish_seen_subcommand_from docs' -l ascii -d 'Escape all characters that aren\'t ASCII'
+complete -c yaml_cli -n '__fish_seen_subcommand_from docs' -l break -x -a 'lf cr crlf' -d 'How lines end: lf, cr or crlf'
+complete -c yaml_cli -n '__fish_seen_subcommand_from docs' -l encoding -x -a 'utf8 utf16le utf16be' -d 'How the output is encoded: utf8, utf16le or utf16be'
+complete -c yaml_cli -n '__fish_seen_subcommand_from docs' -l limit -x -d 'How many bytes the output may have'
+complete -c yaml_cli -n '__fish_seen_subcommand_from docs' -s h -l help -d 'Print help'
+complete -c yaml_cli -n '__fish_seen_subcommand_from docs' -F
+complete -c yaml_cli -n '__fish_seen_subcommand_from events' -l from -x -a 'auto utf8 utf16le utf16be' -d 'How the input is encoded: auto, utf8, utf16le or utf16be'
+complete -c yaml_cli -n '__fish_seen_subcommand_from events' -s h -l help -d 'Print help'
+complete -c yaml_cli -n '__fish_seen_subcommand_from events' -F
+complete -c yaml_cli -n '__fish_seen_subcommand_from same' -l from -x -a 'auto utf8 utf16le utf16be' -d 'How the input is encoded: auto, utf8, utf16le or utf16be'
+complete -c yaml_cli -n '__fish_seen_subcommand_from same' -s h -l help -d 'Print help'
+complete -c yaml_cli -n '__fish_seen_subcommand_from same' -F

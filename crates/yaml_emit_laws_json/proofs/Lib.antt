@@ -1,0 +1,2 @@
+mod Values
+mod Layouts

@@ -1,0 +1,37 @@
+-- What the lent parts of an event say.
+use Rattle.std.specs.Prelude.{map}
+use Rattle.yaml_parse.specs.Events.{text_of, directive_of}
+use Rattle.yaml_emit_layout.specs.Content as said
+use Rattle.yaml_emit_layout.specs.Nodes as nodes
+use Rattle.yaml_emit_state.specs.declared.given.Context.{Context}
+use Rattle.yaml_emit_state.specs.declared.given.Scalar.{Scalar}
+use Rattle.yaml_emit_state.specs.declared.given.Start.{Start}
+use Rattle.yaml_emit_state.specs.declared.given.Opening.{Opening}
+
+abbrev pub lent_context : Context → nodes.Context
+lent_context p = nodes.context_of p.settings.now p.directives.now
+
+abbrev pub lent_scalar : Scalar → said.Scalar
+lent_scalar x = record {
+  anchor = text_of x.anchor.now;
+  tag = text_of x.tag.now;
+  value = x.value.now;
+  plain = x.plain;
+  quoted = x.quoted;
+  style = x.style;
+}
+
+abbrev pub lent_start : Start → said.Start
+lent_start p = record {
+  anchor = text_of p.anchor.now;
+  tag = text_of p.tag.now;
+  implicit = p.implicit;
+  flow = p.flow;
+}
+
+abbrev pub lent_opening : Opening → said.Opening
+lent_opening o = record {
+  version = o.version;
+  directives = map directive_of o.directives.now;
+  implicit = o.implicit;
+}

@@ -1,0 +1,10 @@
+mod Cuts
+mod Unique
+mod Standing
+mod Refusing
+mod Keeping
+mod Settling
+mod Properties
+mod Stepping
+mod Going
+mod Tagging

@@ -1,0 +1,18 @@
+-- The machine's fault is the list's.
+use Rattle.std.specs.Prelude.{◌≡◌, List, Option}
+use Rattle.yaml_parse_grammar.specs.parse_model.Tokens.{Token}
+use Rattle.yaml_parse_grammar.specs.parse_model.Faults.{Fault}
+use Rattle.yaml_parse_grammar.specs.Machine.{run, initial}
+use Rattle.yaml_parse_grammar.specs.Resolve.{no_directives}
+use Rattle.yaml_parse_grammar.specs.Remaining.{reading_of}
+use Rattle.yaml_parse_laws_faults.specs.Places.{FaultOfTokens}
+
+-- A list has one fault at most.
+abbrev pub FaultIsOne : Type 0
+FaultIsOne = (ts : List Token) (own : Option Fault) (x y : Option Fault) → FaultOfTokens ts own x
+    → FaultOfTokens ts own y → x ≡ y
+
+-- What the machine ends in is the list's fault, where it has one.
+abbrev pub EndsInFault : Type 0
+EndsInFault = (ts : List Token) (own : Option Fault) → FaultOfTokens ts own
+    (reading_of (run ts initial own) no_directives).ending

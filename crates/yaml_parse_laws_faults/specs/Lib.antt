@@ -1,0 +1,4 @@
+pub mod LookBack
+pub mod Wrong
+pub mod Places
+pub mod Laws

@@ -1,0 +1,87 @@
+-- The fault of a list of tokens: the one of the least place.
+use Rattle.std.specs.Prelude.{◌≡◌, ◌⊎◌, ℕ, ◌<◌, List, [], ◌∷◌, ◌++◌, length, Option, Some, None}
+use Rattle.yaml_parse_grammar.specs.parse_model.Tokens.{Token, no_token}
+use Rattle.yaml_parse_grammar.specs.parse_model.Faults.{Fault}
+use Rattle.yaml_parse_grammar.specs.Trees.{Stream, spell}
+use Rattle.yaml_parse_laws_sound.specs.Laws.{GoesOn}
+use Rattle.yaml_parse_laws_faults.specs.LookBack.{followed_by}
+use Rattle.yaml_parse_laws_faults.specs.Wrong.{grammar_fault, directive_fault, handle_fault}
+
+-- ---- places
+
+-- At a token the fault of a handle comes first: the node in front of the token has it. Then come the token's own.
+pub data Rank : Type 0 where
+  of_handle : Rank
+  of_token : Rank
+
+-- how many tokens stand before a token, and a rank
+pub record Place : Type 0 where
+  pub number : ℕ
+  pub rank : Rank
+
+abbrev pub RanksBefore : Rank → Rank → Type 0
+RanksBefore of_handle of_token = Unit {0}
+RanksBefore _ _ = ⊥
+
+abbrev pub ComesBefore : Place → Place → Type 0
+ComesBefore p q = (p.number < q.number) ⊎ ((p.number ≡ q.number) × RanksBefore p.rank q.rank)
+
+-- ---- which faults stand in a list
+
+-- No tree goes on with the token, or one does, and the token is a directive that isn't in order.
+pub data WrongToken (past : List Token) (t : Token) (e : Fault) : Type 0 where
+  grammar : (GoesOn (followed_by past (t ∷ [])) → ⊥) → e ≡ grammar_fault past t.start_mark
+      → WrongToken past t e
+  directive : GoesOn (followed_by past (t ∷ []))
+      → directive_fault past t.body t.start_mark ≡ Some e → WrongToken past t e
+
+abbrev pub FaultAt : List Token → Token → Rank → Fault → Type 0
+FaultAt past t of_handle e = handle_fault past t.body ≡ Some e
+FaultAt past t of_token e = WrongToken past t e
+
+-- the fault stands in the list, at that place
+pub record StandsIn (ts : List Token) (p : Place) (e : Fault) : Type 0 where
+  pub past : List Token
+  pub token : Token
+  pub behind : List Token
+  pub list : ts ≡ followed_by past (token ∷ behind)
+  pub number : length past ≡ p.number
+  pub fault : FaultAt past token p.rank e
+
+-- of the faults that stand at places, the one of the least place
+pub record IsFirst (Stands : Place → Fault → Type 0) (e : Fault) : Type 0 where
+  pub place : Place
+  pub stands : Stands place e
+  pub least : (p : Place) (f : Fault) → Stands p f → ComesBefore p place → ⊥
+
+abbrev pub IsFree : List Token → Type 0
+IsFree ts = (p : Place) (e : Fault) → StandsIn ts p e → ⊥
+
+-- ---- the fault of a list
+
+-- The list begins with a sentence: the tokens of a tree in which no fault stands.
+pub record BeginsWithSentence (ts : List Token) : Type 0 where
+  pub tree : Stream
+  pub rest : List Token
+  pub same : ts ≡ spell tree [] ++ rest
+  pub free : IsFree (spell tree [])
+
+-- A list without a fault of its own ends in the empty token.
+abbrev pub with_end : Option Fault → List Token → List Token
+with_end None ts = ts ++ no_token ∷ []
+with_end (Some own) ts = ts
+
+-- the list's own fault, where no other stands in it
+pub record IsOwn (ts : List Token) (own : Option Fault) (e : Fault) : Type 0 where
+  pub same : own ≡ Some e
+  pub free : IsFree ts
+
+pub record IsRefused (ts : List Token) (own : Option Fault) (e : Fault) : Type 0 where
+  pub unfinished : BeginsWithSentence ts → ⊥
+  pub fault : IsFirst (StandsIn (with_end own ts)) e ⊎ IsOwn ts own e
+
+-- The fault of a list of tokens that ends in a fault of its own, or in none. A list that begins with a sentence has no fault.
+-- Another has the one of the least place in it, and where there is none, its own.
+abbrev pub FaultOfTokens : List Token → Option Fault → Option Fault → Type 0
+FaultOfTokens ts own None = BeginsWithSentence ts
+FaultOfTokens ts own (Some e) = IsRefused ts own e

@@ -1,0 +1,3 @@
+mod ValueBytes
+mod GapWords
+pub mod PlainRead

@@ -1,0 +1,26 @@
+-- Values that are read as themselves where they stand without quotes.
+use Rattle.std.specs.Prelude.{ℕ, Bool, false, ◌&&◌, ◌||◌, ◌==◌, nat_le, List, [], ◌∷◌}
+use Rattle.std.specs.List.{list_all}
+
+-- 0-9 A-Z a-z
+unfoldable pub is_letter_or_digit : ℕ → Bool
+is_letter_or_digit b =
+    (nat_le 48 b && nat_le b 57) || ((nat_le 65 b && nat_le b 90) || (nat_le 97 b && nat_le b 122))
+
+-- 0-9 A-Z a-z + - .
+unfoldable pub is_value_byte : ℕ → Bool
+is_value_byte b = is_letter_or_digit b || (b == 43 || (b == 45 || b == 46))
+
+-- the first byte, 0 at the end
+abbrev pub first : List ℕ → ℕ
+first [] = 0
+first (b ∷ bs) = b
+
+-- a letter or a digit comes first, or `-` before one
+abbrev pub begins_value : List ℕ → Bool
+begins_value [] = false
+begins_value (b ∷ bs) = is_letter_or_digit b || (b == 45 && is_letter_or_digit (first bs))
+
+-- letters, digits, `+ - .` alone, and it begins so
+unfoldable pub is_plain_value : List ℕ → Bool
+is_plain_value value = begins_value value && list_all is_value_byte value

@@ -1,0 +1,4 @@
+mod Marking
+pub mod Held
+mod Asked
+pub mod Words

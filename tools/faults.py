@@ -1,0 +1,251 @@
+#!/usr/bin/env python3
+"""Runs the program where memory, reads, writes and opens go wrong, and judges each run: `make faults`.
+
+    tools/faults.py [WORD..]      the cases whose names have one of the words; none: all
+
+PROGRAM names a program that is built already; else `make program` proves and builds it. JOBS: runs at a time (1). It needs
+Linux with glibc, a C compiler (CC) and python3; `tools/faults.c` is put before the C library.
+
+Each case is a command line with its input. It is run as it is first, which tells its answer and how many allocations, reads,
+writes and opens it makes. Then each of these goes wrong in turn:
+
+    each allocation refused, alone, and with all that follow
+    each read    failing, moving one byte, interrupted once, interrupted 999 times (the last that is tried again) and 1,000
+    each write   failing, taking no byte, taking one byte, interrupted in the same ways; and all of them taking one byte
+    each open    failing, interrupted
+
+What is promised, and judged for each run (docs/PROFILE.md, 'The program'):
+
+    an answer       the same status, output and lines as without anything wrong
+    told            status 1, the one line that names what went wrong, and nothing on standard output
+    written so far  a failed write of the answer: status 1, `write failed after N bytes`, and the answer's first N bytes
+    untold          of want of memory where the line itself can't be made: status 1, or 2 for the words of the command line,
+                    and nothing written at all; where a line can't be written: the status that it would have had
+
+Whatever else happens (a signal, another status, a line cut short, a front of an answer behind another line) is printed, and
+the script fails.
+"""
+import collections
+import os
+import shlex
+import subprocess
+import sys
+import tempfile
+from concurrent.futures import ThreadPoolExecutor
+
+TOOLS = os.path.dirname(os.path.abspath(__file__))
+SECONDS = 60
+# How many times in all a call that is interrupted is made.
+TRIES = 1000
+
+TAGGED = b"%YAML 1.1\n%TAG !e! tag:example.org,2000:\n--- !e!top\n- &x {k: v, \"long\": 'text'}\n- *x\n- |\n  block\n...\n---\nb\n"
+MAPPING = b"".join(b"- name: alpha %d\n  tags: [a, 'b', \"c\\t\"]\n  text: >-\n    one\n    two\n" % i for i in range(150))
+UTF16 = b"\xff\xfe" + "a: [\u00e9, \U0001f600]\n".encode("utf-16le")
+
+# A name, the words, what comes on standard input, and the files that lie where the program runs.
+Case = collections.namedtuple("Case", "name words input files", defaults=[b"", {}])
+
+CASES = [
+    Case("fmt flow", ["fmt"], b'["a", b, {c: }]'),
+    Case("fmt tagged", ["fmt", "in.yaml"], files={"in.yaml": TAGGED}),
+    Case("fmt pretty", ["fmt", "--pretty", "--indent", "4"], TAGGED),
+    Case("fmt pretty that falls back", ["fmt", "--pretty"], b"!"),
+    Case("fmt long", ["fmt", "in.yaml"], files={"in.yaml": MAPPING}),
+    Case("fmt pretty long", ["fmt", "--pretty"], MAPPING),
+    Case("fmt UTF-16", ["fmt", "--encoding", "utf16be", "--break", "crlf"], UTF16),
+    Case("fmt empty", ["fmt"]),
+    Case("fmt past its limit", ["fmt", "--limit", "11"], b"foo"),
+    Case("fmt scanner fault", ["fmt"], b"a: 'b\n"),
+    Case("fmt reader fault", ["fmt", "in.yaml"], files={"in.yaml": b"a: \xff\n"}),
+    Case("docs tagged", ["docs", "in.yaml"], files={"in.yaml": TAGGED}),
+    Case("docs long", ["docs"], MAPPING),
+    Case("docs composer fault", ["docs", "in.yaml"], files={"in.yaml": b"- &a b\n- *c\n"}),
+    Case("events tagged", ["events", "--from", "utf8"], TAGGED),
+    Case("events long", ["events", "in.yaml"], files={"in.yaml": MAPPING}),
+    Case("events parser fault", ["events"], b"a: [b\n"),
+    Case("same equal", ["same", "a", "b"], files={"a": TAGGED, "b": TAGGED}),
+    Case("same different", ["same", "a", "b"], files={"a": MAPPING, "b": UTF16}),
+    Case("same first refused", ["same", "a", "b"], files={"a": b"]", "b": b"a"}),
+    Case("same second refused", ["same", "a", "b"], files={"a": b"a", "b": b"*a"}),
+    Case("help", ["--help"]),
+    Case("help of fmt", ["fmt", "--help"]),
+    Case("unknown option", ["fmt", "--ident", "2"]),
+    Case("unknown word", ["fmt", "--break", "x"]),
+    Case("missing file", ["events", "none"]),
+]
+
+# What a run gave; `counts` are the calls for memory, reads, writes and opens, `hits` those that went wrong, `hit` the descriptor.
+Run = collections.namedtuple("Run", "status output errors counts hits hit")
+# What goes wrong: which calls, how, from which one on, and how many (0: all that follow).
+Wrong = collections.namedtuple("Wrong", "kind way first count")
+KINDS = ["memory", "read", "write", "open"]
+
+
+class Bench:
+    """A folder in which the cases run, with the object that makes calls go wrong."""
+
+    def __init__(self, folder, program):
+        self.folder, self.program = folder, os.path.abspath(program)
+        self.shim = f"{folder}/faults.so"
+        compiler = shlex.split(os.environ.get("CC", "cc"))
+        subprocess.run([*compiler, "-O2", "-shared", "-fPIC", "-o", self.shim, f"{TOOLS}/faults.c"], check=True)
+
+    def place(self, number, case):
+        """The folder of a case, with its files."""
+        folder = f"{self.folder}/{number}"
+        os.makedirs(folder)
+        for name, text in [*case.files.items(), ("stdin", case.input)]:
+            with open(f"{folder}/{name}", "wb") as file:
+                file.write(text)
+        return folder
+
+    def run(self, folder, case, wrong=None):
+        reading, writing = os.pipe()
+        env = {"LD_PRELOAD": self.shim, "FAULTS_FD": str(writing)}
+        if wrong:
+            env["FAULTS"] = " ".join(map(str, wrong))
+        try:
+            with open(f"{folder}/stdin", "rb") as stdin:
+                how = {"cwd": folder, "env": env, "stdin": stdin, "capture_output": True, "timeout": SECONDS}
+                ran = subprocess.run([self.program, *case.words], pass_fds=[writing], **how)
+            os.close(writing)
+            writing = -1
+            told = [int(it) for it in os.read(reading, 4096).split()]
+        finally:
+            os.close(reading)
+            if writing >= 0:
+                os.close(writing)
+        if ran.returncode >= 0 and len(told) != 6:
+            raise SystemExit("faults: the program doesn't load the object: is it linked to glibc dynamically?")
+        counts, hits, hit = (told[:4], *told[4:]) if told else ([0] * 4, 0, -1)
+        return Run(ran.returncode, ran.stdout, ran.stderr, counts, hits, hit)
+
+
+def is_answer(run, usual):
+    return (run.status, run.output, run.errors) == (usual.status, usual.output, usual.errors)
+
+
+def is_told(run, line):
+    return (run.status, run.output, run.errors) == (1, b"", b"yaml_cli: " + line + b"\n")
+
+
+def judge_memory(wrong, run, usual):
+    if is_answer(run, usual):
+        return "answered"
+    lines = [b"memory error", b"first input: memory error", b"second input: memory error"]
+    if any(is_told(run, line) for line in lines):
+        return "told"
+    if run.output or run.errors:
+        return None
+    return {1: "untold, status 1", 2: "untold, status 2"}.get(run.status)
+
+
+def judge_read(wrong, run, usual):
+    if wrong.way == "fail" or wrong.count >= TRIES:
+        return "told" if is_told(run, b"cannot read the input") else None
+    return "answered" if is_answer(run, usual) else None
+
+
+def judge_write(wrong, run, usual):
+    if wrong.way == "short" or (wrong.way == "again" and wrong.count < TRIES):
+        return "answered" if is_answer(run, usual) else None
+    if run.hit == 2:
+        # a line was to be told: a front of it is there
+        is_front = usual.errors.startswith(run.errors)
+        return "untold" if is_front and (run.status, run.output) == (usual.status, usual.output) else None
+    is_front = usual.output.startswith(run.output) and run.output != usual.output
+    if b"\nUsage: " in usual.output:
+        # help: its status stays
+        return "untold" if is_front and run.status == 0 and not run.errors else None
+    line = b"yaml_cli: write failed after %d bytes\n" % len(run.output)
+    return "written so far" if is_front and (run.status, run.errors) == (1, line) else None
+
+
+def judge_open(wrong, run, usual):
+    if wrong.way == "fail":
+        return "told" if is_told(run, b"cannot read the input") else None
+    return "answered" if is_answer(run, usual) else None
+
+
+JUDGES = {"memory": judge_memory, "read": judge_read, "write": judge_write, "open": judge_open}
+
+
+def wrongs_of(counts):
+    """All that is to go wrong in a case with that many calls."""
+    memory, reads, writes, opens = counts
+    for at in range(1, memory + 1):
+        yield Wrong("memory", "fail", at, 1)
+        yield Wrong("memory", "fail", at, 0)
+    ways = [("fail", 1), ("short", 1), ("again", 1), ("again", TRIES - 1), ("again", TRIES)]
+    for kind, number, more in [("read", reads, []), ("write", writes, [("none", 1)])]:
+        for at in range(1, number + 1):
+            for way, count in ways + more:
+                yield Wrong(kind, way, at, count)
+        if number:
+            yield Wrong(kind, "short", 1, 0)
+    for at in range(1, opens + 1):
+        yield Wrong("open", "fail", at, 1)
+        yield Wrong("open", "again", at, 1)
+
+
+def shown(text):
+    return repr(text if len(text) < 300 else text[:140] + b" .. " + text[-140:])
+
+
+def judged(bench, folder, case, usual, wrong):
+    """What a run came to, and what is to be said of it where that isn't as promised."""
+    try:
+        run = bench.run(folder, case, wrong)
+    except subprocess.TimeoutExpired:
+        return None, f"{case.name}: {' '.join(map(str, wrong))}: no end within {SECONDS} seconds"
+    found = JUDGES[wrong.kind](wrong, run, usual) if run.status >= 0 and run.hits else None
+    if found:
+        return found, ""
+    why = "nothing went wrong" if run.status >= 0 and not run.hits else f"status {run.status}"
+    said = f"output {shown(run.output)}, errors {shown(run.errors)}, descriptor {run.hit}"
+    return None, f"{case.name}: {' '.join(map(str, wrong))}: {why}, {said}"
+
+
+def usual_of(bench, folder, case):
+    """The run of a case with nothing wrong; twice, so that what isn't always the same is seen."""
+    usual, again = bench.run(folder, case), bench.run(folder, case)
+    if usual != again or usual.status not in (0, 1, 2):
+        raise SystemExit(f"faults: {case.name}: without any fault: {usual} and then {again}")
+    return usual
+
+
+def compiled_program():
+    if "PROGRAM" in os.environ:
+        return os.environ["PROGRAM"]
+    if subprocess.run([f"{TOOLS}/program.py"]).returncode:
+        raise SystemExit(2)
+    return f"{os.path.dirname(TOOLS)}/crates/yaml_cli/out/yaml_cli"
+
+
+def main():
+    cases = [it for it in CASES if len(sys.argv) == 1 or any(word in it.name for word in sys.argv[1:])]
+    total, wrong_ones = collections.Counter(), []
+    program = compiled_program()
+    with tempfile.TemporaryDirectory(prefix="faults-") as folder, ThreadPoolExecutor(int(os.environ.get("JOBS", "1"))) as pool:
+        bench = Bench(folder, program)
+        for number, case in enumerate(cases):
+            place = bench.place(number, case)
+            usual = usual_of(bench, place, case)
+            found = collections.Counter()
+            wrongs = list(wrongs_of(usual.counts))
+            for wrong, (end, text) in zip(wrongs, pool.map(lambda it: judged(bench, place, case, usual, it), wrongs)):
+                found[f"{wrong.kind}, {end or 'NOT AS PROMISED'}"] += 1
+                if text:
+                    wrong_ones.append(text)
+                    print(text, flush=True)
+            total += found
+            calls = ", ".join(f"{n} {word}" for n, word in zip(usual.counts, ["allocations", "reads", "writes", "opens"]))
+            print(f"{case.name}: {calls}: {sum(found.values())} runs", flush=True)
+    for words, number in sorted(total.items()):
+        print(f"{number:8} {words}")
+    print(f"faults: {len(cases)} cases, {sum(total.values())} runs, {len(wrong_ones)} not as promised")
+    return bool(wrong_ones) or not total
+
+
+if __name__ == "__main__":
+    sys.exit(main())

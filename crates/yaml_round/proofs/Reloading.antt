@@ -21,7 +21,8 @@ use Rattle.yaml_round.specs.declared.settings.yaml_settings_t.{yaml_settings_t}
 use Rattle.yaml_round_laws_back.specs.content.Input.{Reads}
 use Rattle.yaml_round.specs.Writing.{IsUnder, Finishes, requested_under}
 use Rattle.yaml_round.specs.Answers.{bytes_of}
-use Rattle.yaml_round.specs.Reload.{Loads, no_more, with_implicit_end, in_front, load_on, load_all, loads_of, to_load, HasRoot, LoadsDocument, IsLoaded, AreLoaded, written_events, Feeds, Stands, Dumps, DumpsStream, IsEachDump, IsDumped, IsReloaded}
+use Rattle.yaml_round_laws_back.specs.content.Loads.{Loads, no_more, with_implicit_end, in_front, load_on, load_all, loads_of}
+use Rattle.yaml_round.specs.Reload.{to_load, HasRoot, LoadsDocument, IsLoaded, AreLoaded, written_events, Feeds, Stands, Dumps, DumpsStream, IsEachDump, IsDumped, IsReloaded}
 use Rattle.yaml_round.proofs.Laying.{Led, starts, layout, past, one_layout, one_past}
 use Rattle.yaml_round.proofs.Streams.{loaded_text}
 

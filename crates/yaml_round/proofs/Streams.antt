@@ -18,7 +18,8 @@ use Rattle.yaml_round_laws_back.proofs.content.round_laws.Inputs.{inputs_load_ri
 use Rattle.yaml_round.specs.Reading.{emitter_events}
 use Rattle.yaml_round_laws_back.specs.content.Input.{events_of, ending_of, read}
 use Rattle.yaml_round.specs.Answers.{IsRight}
-use Rattle.yaml_round.specs.Reload.{Loads, in_front, load_on, load_all, loads_of, written_events}
+use Rattle.yaml_round_laws_back.specs.content.Loads.{Loads, in_front, load_on, load_all, loads_of}
+use Rattle.yaml_round.specs.Reload.{written_events}
 
 -- ---- events
 

@@ -4,55 +4,20 @@ use Rattle.yaml_scan.specs.declared.yaml_encoding_t.{yaml_encoding_t}
 use Rattle.yaml_scan.specs.declared.yaml_encoding_t.TheVariants.{YAML_ANY_ENCODING}
 use Rattle.yaml_scan.specs.declared.yaml_fault_t.{yaml_fault_t}
 use Rattle.yaml_scan.specs.Faults.{Fault, fault_of, IsMemoryFault}
-use Rattle.yaml_parse.specs.Nodes.{Node}
 use Rattle.yaml_parse.specs.Documents.{Document}
-use Rattle.yaml_parse.specs.Resolve.{Told}
 use Rattle.yaml_parse.specs.Remaining.{ParserRemaining}
-use Rattle.yaml_parse.specs.Loading.{Loading, Fed, goes_on, loaded, refused, nothing_loaded, step}
+use Rattle.yaml_parse.specs.Loading.{nothing_loaded}
 use Rattle.yaml_emit.specs.Content.{Event, documents_events, stream_events, stream_end}
 use Rattle.yaml_emit.specs.emit_graph.Graph.{graph_content}
 use Rattle.yaml_emit.specs.Text.{Item}
 use Rattle.yaml_emit.specs.Emitter.{Emitter, Completes}
 use Rattle.yaml_emit.specs.emit_text.declared.Encoding.{Encoding}
 use Rattle.yaml_round.specs.declared.settings.yaml_settings_t.{yaml_settings_t}
-use Rattle.yaml_round_laws_back.specs.content.Input.{events_of, ending_of}
+use Rattle.yaml_round_laws_back.specs.content.Loads.{Loads, no_more, load_all, loads_of}
 use Rattle.yaml_round.specs.Writing.{requested_under, IsEachLayout, IsPastEach}
 use Rattle.yaml_round.specs.Answers.{IsLayout, IsPast}
 
 -- ---- what is loaded
-
--- documents in order, and the fault that ends them
-pub record Loads : Type 0 where
-  pub documents : List Document
-  pub fault : Option Fault
-
-abbrev pub no_more : Option Fault → Loads
-no_more f = record { documents = []; fault = f }
-
--- a document as it is written: its end is implicit
-abbrev pub with_implicit_end : Document → Document
-with_implicit_end d = record d { end_implicit = true }
-
--- A document in front of the others. One without a root would end them.
-abbrev pub in_front : List Node → Document → Loads → Loads
-in_front [] d rest = no_more None
-in_front (n ∷ ns) d rest = record {
-  documents = with_implicit_end d ∷ rest.documents;
-  fault = rest.fault;
-}
-
-abbrev pub load_on : Fed → (Loading → Loads) → Loads
-load_on (goes_on l) rest = rest l
-load_on (loaded d) rest = in_front d.nodes d (rest nothing_loaded)
-load_on (refused f) rest = no_more (Some f)
-
--- the documents of events with a fault behind them, from a document in the making on
-unfoldable pub load_all : List Told → Option Fault → Loading → Loads
-load_all [] f l = no_more f
-load_all (g ∷ gs) f l = load_on (step g.0 l) (load_all gs f)
-
-abbrev pub loads_of : yaml_encoding_t → List ℕ → Loads
-loads_of from input = load_all (events_of from input) (ending_of from input) nothing_loaded
 
 -- what a parser still has to load
 abbrev pub to_load : ParserRemaining → Loads

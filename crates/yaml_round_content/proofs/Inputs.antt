@@ -1,16 +1,16 @@
 -- What an input says is a stream in which nothing is wrong.
-use Rattle.std.proofs.Common.{◌≡◌, ◌||◌, ℕ, List, Bool, true, false, Option, None, refl, inl, inr}
+use Rattle.std.proofs.Common.{◌≡◌, ◌||◌, ℕ, List, map, Bool, true, false, Option, None, refl, inl, inr}
 use Rattle.yaml_round_laws_streams.specs.emit_laws_streams.scan.declared.yaml_encoding_t.{yaml_encoding_t}
 use Rattle.yaml_round_laws_streams.specs.emit_laws_streams.scan.declared.yaml_scalar_style_t.{yaml_scalar_style_t}
 use Rattle.yaml_round_laws_streams.specs.emit_laws_streams.parse.Events as event
 use Rattle.yaml_round_laws_streams.specs.emit_laws_streams.Laws.{RightStream}
 use Rattle.yaml_round_laws_streams.specs.Normalized.{IsNormalized, IsNormalizing}
-use Rattle.yaml_round_laws_streams.proofs.Inputs.{inputs_are_streams}
+use Rattle.yaml_round_laws_streams.proofs.Inputs.{inputs_are_streams, inputs_are_fronts}
 use Rattle.yaml_round_content.specs.Normalize.{is_lone_mark, normalize_scalar, normalize_body}
 use Rattle.yaml_round_content.specs.Events.{emitter_events}
 use Rattle.yaml_round_content.specs.Input.{events_of, ending_of, read}
-use Rattle.yaml_round_content.specs.Laws.{InputsHaveContent}
-use Rattle.yaml_round_content.proofs.Trees.{document_trees, stream_trees}
+use Rattle.yaml_round_content.specs.Laws.{InputsHaveContent, InputsSayFronts}
+use Rattle.yaml_round_content.proofs.Trees.{core, document_trees, stream_trees, front_trees}
 
 -- evening changes nothing but a document's end, or a scalar's tag
 scalar_normalized : (lone : Bool) (anchor tag : Option (List ℕ)) (value : List ℕ) (plain quoted : Bool) (style : yaml_scalar_style_t)
@@ -39,3 +39,9 @@ pub have_content : InputsHaveContent
 have_content from input r =
     let s = input_stream from input true r in
     (document_trees s.documents, record { right = r; says = stream_trees (events_of from input) s.encoding s.documents s.same })
+
+pub say_fronts : InputsSayFronts
+unfolding read
+say_fronts from input =
+    let s = inputs_are_fronts (normalize_body true) (evenly true) from input true in
+    record { content = document_trees s.whole.documents; rest = map core s.more; same = front_trees (events_of from input) s.more s.whole.encoding s.whole.documents s.whole.same }

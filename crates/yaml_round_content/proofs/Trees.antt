@@ -1,5 +1,6 @@
 -- The trees of what an emitter is given.
-use Rattle.std.proofs.Common.{◌≡◌, ℕ, Bool, true, false, List, [], ◌∷◌, map, Option, Some, None, refl, ap, ◌∙◌}
+use Rattle.std.proofs.Common.{◌≡◌, ◌++◌, ℕ, Bool, true, false, List, [], ◌∷◌, map, Option, Some, None, refl, sym, ap, ◌∙◌}
+use Rattle.std.proofs.lemmas.List.{map-append}
 use Rattle.yaml_round_laws_streams.specs.emit_laws_streams.scan.declared.yaml_encoding_t.{yaml_encoding_t}
 use Rattle.yaml_round_laws_streams.specs.emit_laws_streams.scan.declared.yaml_encoding_t.TheVariants.{YAML_ANY_ENCODING}
 use Rattle.yaml_round_laws_streams.specs.emit_laws_streams.scan.declared.yaml_scalar_style_t.TheVariants.{YAML_ANY_SCALAR_STYLE}
@@ -17,7 +18,7 @@ use Rattle.yaml_round_content.specs.Said.{scalar_says, node_says, items_say, pai
 
 -- ---- what an emitter's event says
 
-abbrev core : emit.Event → EventBody
+abbrev pub core : emit.Event → EventBody
 core emit.no_event = event.no
 core (emit.stream_start encoding) = event.stream_start YAML_ANY_ENCODING
 core emit.stream_end = event.stream_end
@@ -84,3 +85,10 @@ documents_cores (d ∷ ds) =
 pub stream_trees : (es : List Told) (x : yaml_encoding_t) (ds : List emit.Document) → emitter_events true es ≡ emit.stream_events x ds → contents es ≡ stream_says (document_trees ds)
 stream_trees es x ds e =
     cores es ∙ ap (λ (bs : List emit.Event). map core bs) e ∙ ap (λ (bs : List EventBody). event.stream_start YAML_ANY_ENCODING ∷ bs) (documents_cores ds)
+
+-- and where they are a front of a stream's events, what they say is a front of what its trees do
+pub front_trees : (es : List Told) (more : List emit.Event) (x : yaml_encoding_t) (ds : List emit.Document) → emitter_events true es ++ more ≡ emit.stream_events x ds
+    → contents es ++ map core more ≡ stream_says (document_trees ds)
+front_trees es more x ds e =
+    ap (λ (bs : List EventBody). bs ++ map core more) (cores es) ∙ sym (map-append core (emitter_events true es) more) ∙ ap (λ (bs : List emit.Event). map core bs) e
+    ∙ ap (λ (bs : List EventBody). event.stream_start YAML_ANY_ENCODING ∷ bs) (documents_cores ds)

@@ -1,7 +1,8 @@
 -- An input has one content, and what is laid out for it in canonical form is the content's text.
-use Rattle.std.specs.Prelude.{◌≡◌, ℕ, true, not, List, [], ◌∷◌, None}
+use Rattle.std.specs.Prelude.{◌≡◌, ℕ, true, not, List, [], ◌∷◌, ◌++◌, None}
 use Rattle.yaml_round_laws_streams.specs.emit_laws_streams.scan.declared.yaml_encoding_t.{yaml_encoding_t}
 use Rattle.yaml_round_laws_streams.specs.emit_laws_streams.scan.declared.yaml_encoding_t.TheVariants.{YAML_ANY_ENCODING, YAML_UTF8_ENCODING, YAML_UTF16LE_ENCODING, YAML_UTF16BE_ENCODING}
+use Rattle.yaml_round_laws_streams.specs.emit_laws_streams.parse.Events.{EventBody}
 use Rattle.yaml_round_laws_streams.specs.emit_laws_streams.parse.Resolve.{Told}
 use Rattle.yaml_round_laws_streams.specs.emit_laws_streams.emit.Content as emit
 use Rattle.yaml_round_laws_streams.specs.emit_laws_streams.emit.Emitter.{IsStream}
@@ -21,6 +22,17 @@ SaysIsInjective = (c e : List Document) → stream_says c ≡ stream_says e → 
 abbrev pub InputsHaveContent : Type 0
 InputsHaveContent = (from : yaml_encoding_t) (input : List ℕ) → ending_of from input ≡ None
     → (c : List Document) × HasContent from input c
+
+-- events that say what a stream's first ones do
+pub record SaysFront (bs : List EventBody) : Type 0 where
+  pub content : List Document
+  pub rest : List EventBody
+  pub same : bs ++ rest ≡ stream_says content
+
+-- What any input says, also in front of a fault, is a front of what a content does.
+abbrev pub InputsSayFronts : Type 0
+InputsSayFronts = (from : yaml_encoding_t) (input : List ℕ)
+    → SaysFront (contents (events_of from input))
 
 -- ---- layouts
 

@@ -1,6 +1,6 @@
 //! Each function's contract is a law.
 
-ghost use Rattle.yaml_round_content.specs.Laws.{ContentIsLaidOut, InputsHaveContent, LayoutIsOfContent, SaysIsInjective};
+ghost use Rattle.yaml_round_content.specs.Laws.{ContentIsLaidOut, InputsHaveContent, InputsSayFronts, LayoutIsOfContent, SaysIsInjective};
 
 /// A stream of events says one content at most.
 pub fn says_is_injective()
@@ -10,6 +10,11 @@ pub fn says_is_injective()
 /// Each input that is accepted has a content.
 pub fn inputs_have_content()
     ensures { InputsHaveContent }
+{}
+
+/// What any input says, also in front of a fault, is a front of what a content does.
+pub fn inputs_say_fronts()
+    ensures { InputsSayFronts }
 {}
 
 /// What is laid out in canonical form for events that say a content is the content's layout.

@@ -4,4 +4,7 @@
 
 mod laws;
 
-pub use laws::{content_is_laid_out, inputs_have_content, layout_is_of_content, says_is_injective};
+pub use laws::{
+    content_is_laid_out, inputs_have_content, inputs_say_fronts, layout_is_of_content,
+    says_is_injective,
+};

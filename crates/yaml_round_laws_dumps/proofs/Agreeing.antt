@@ -77,7 +77,7 @@ same_visits xs ys e seen ids after (first s b a more n at v w) =
     let x = beside ys xs s n e at in
     first s b a more x.other x.at (subst (λ (js : List ℤ). Visits xs (suc s) js b) (same_children n x.other x.same) (same_visits xs ys e (suc s) (children n.body) b v)) (same_visits xs ys e b more a w)
 
-document_loaded : (d e : documents.Document) → core_of d ≡ core_of e → IsLoadedDocument e → IsLoadedDocument d
+pub document_loaded : (d e : documents.Document) → core_of d ≡ core_of e → IsLoadedDocument e → IsLoadedDocument d
 document_loaded d e same l =
     let nodes : map core_node d.nodes ≡ map core_node e.nodes = ap (λ (c : Core). c.nodes) same in
     record {

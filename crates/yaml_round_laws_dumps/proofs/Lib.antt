@@ -1,4 +1,4 @@
 mod Saying
 mod Loading
 mod Trees
-mod Agreeing
+pub mod Agreeing

@@ -1,4 +1,4 @@
-mod Core
-mod Contents
+pub mod Core
+pub mod Contents
 mod Names
 mod Walks

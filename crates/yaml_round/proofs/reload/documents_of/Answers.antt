@@ -1,6 +1,6 @@
 -- The next document was loaded, and the others are left.
 use Rattle.std.proofs.Common.{ap}
-use Rattle.yaml_round.specs.Reload.{Loads}
+use Rattle.yaml_round_laws_back.specs.content.Loads.{Loads}
 use Rattle.yaml_round.proofs.Reloading.{documents_on, fault_on, documents_read, documents_refused, reads_to_load}
 use Rattle.yaml_round.proofs.reload.documents_of.Goals as goal
 

@@ -1,6 +1,7 @@
 -- What was loaded is a front, and the others are left.
 use Rattle.std.proofs.Common.{◌≡◌, ◌++◌, length, true}
-use Rattle.yaml_round.specs.Reload.{loads_of, to_load}
+use Rattle.yaml_round_laws_back.specs.content.Loads.{loads_of}
+use Rattle.yaml_round.specs.Reload.{to_load}
 use Rattle.yaml_round.proofs.reload.documents_of.Given as goal
 
 abbrev pub invariant-documents : goal.invariant-documents

@@ -1,0 +1,3 @@
+mod Fronts
+mod Sound
+mod Written

@@ -1,0 +1,173 @@
+-- What a document says that an input loads may be written.
+use Rattle.std.proofs.Common.{◌≡◌, ◌<◌, ℕ, zero, suc, ℤ, pos, negsuc, Bool, true, false, ◌==◌, if◌then◌else◌, List, [], ◌∷◌, length, Option, Some, None, IsUtf8, refl, ap, codes, arith}
+use Rattle.std.specs.Prelude.{slice_get}
+use Rattle.std.specs.List.{list_all}
+use Rattle.std.proofs.lemmas.Str.{IsUtf8-nil}
+use Rattle.std.proofs.lemmas.Bool.Decides.{nat_tests}
+use Rattle.yaml_round_content.specs.round_laws.emit_laws_streams.scan.Classes.{is_alpha_byte}
+use Rattle.yaml_round_content.specs.round_laws.emit_laws_streams.parse.declared.yaml_node_pair_t.{yaml_node_pair_t}
+use Rattle.yaml_round_content.specs.round_laws.emit_laws_streams.parse.Constructors.{AreUtf8}
+use Rattle.yaml_round_content.specs.round_laws.emit_laws_streams.parse.Events.{TagDirective}
+use Rattle.yaml_round_content.specs.round_laws.emit_laws_streams.parse.Nodes as model
+use Rattle.yaml_round_content.specs.round_laws.emit_laws_streams.parse.Documents.{IsSoundBody, AreSound, str_tag, seq_tag, map_tag}
+use Rattle.yaml_round_content.specs.round_laws.emit_laws_streams.parse.Documents as documents
+use Rattle.yaml_round_content.specs.round_laws.emit_laws_streams.parse.Numbering.{is_bang}
+use Rattle.yaml_round_content.specs.round_laws.emit_laws_streams.emit.emit_layout.declared.Problem.{Problem}
+use Rattle.yaml_round_content.specs.round_laws.emit_laws_streams.emit.emit_layout.declared.Problem.TheVariants as problem
+use Rattle.yaml_round_content.specs.round_laws.emit_laws_streams.emit.Content as emit
+use Rattle.yaml_round_content.specs.round_laws.emit_laws_streams.emit.Content.{is_flow_sequence, is_flow_mapping}
+use Rattle.yaml_round_content.specs.round_laws.emit_laws_streams.emit.emit_graph.Graph.{Met, is_met, meet, body_at, tag_at, body_of_id, tag_of_id, number_at, numbers, name_of, anchor_of, graph_start, items_by, pairs_by, node_by, content_by, itself, none_met, graph_root, graph_content}
+use Rattle.yaml_round_content.specs.round_laws.emit_laws_streams.Laws.{AreTagged, RightDocument, AreRight}
+use Rattle.yaml_parse_document.proofs.Sound.{str_utf8}
+use Rattle.yaml_round_content.proofs.round_laws.emit_laws_streams.Naming.{name_right}
+use Rattle.yaml_round_content.specs.Loads.{loads_of}
+use Rattle.yaml_round_content.specs.Trees.{tree_of, trees_of, pair_trees_of, document_tree}
+use Rattle.yaml_round_laws_writable.specs.Laws.{InputsHaveUtf8}
+use Rattle.yaml_round_laws_writable.specs.Writable.{IsName, IsAnchor, IsWritable, AreItemsWritable, ArePairsWritable, HavePrefixes, IsWritableDocument, AreWritable}
+use Rattle.yaml_emit_laws_dumps.specs.Dumps.{IsLoadedDocument}
+use Rattle.yaml_round_laws_dumps.specs.Events.{trees_of_dumps, AreLoadedDocuments}
+use Rattle.yaml_round_laws_documents.specs.Laws.{AllLoadDocuments, LoadedAreWritable}
+use Rattle.yaml_round_laws_documents.proofs.Sound.{AreDocuments, documents_sound, documents_right}
+
+-- ---- names
+
+some_byte : (n : ℕ) → (n == 0) ≡ false → 0 < n
+some_byte n h = grind (arith, nat_tests)
+
+tests_of : (none all : Bool) (p q : Problem) → (if none then Some p else if all then None else Some q) ≡ None → (none ≡ false) × (all ≡ true)
+tests_of true all p q e = absurd (cc)
+tests_of false true p q e = (refl, refl)
+tests_of false false p q e = absurd (cc)
+
+name_writable : (n : ℕ) → IsName (name_of n)
+name_writable n =
+    let both = tests_of (length (name_of n) == 0) (list_all is_alpha_byte (name_of n)) problem.AnchorEmpty problem.AnchorCharacters (name_right problem.AnchorEmpty problem.AnchorCharacters n) in
+    (some_byte (length (name_of n)) both.0, both.1)
+
+anchor_if : (b : Bool) (n : ℕ) → IsAnchor (if b then None else Some (name_of n))
+anchor_if true n = tt
+anchor_if false n = name_writable n
+
+anchor_writable : (n : ℕ) → IsAnchor (anchor_of n)
+anchor_writable n = anchor_if (n == 0) n
+
+-- ---- the nodes of a document
+
+abbrev IsText : model.NodeBody → Type 0
+IsText model.no = Unit {0}
+IsText (model.scalar value style) = IsUtf8 value
+IsText (model.sequence items style) = Unit {0}
+IsText (model.mapping pairs style) = Unit {0}
+
+-- what may be written of a node: its tag, and its value
+record IsFine (tag : List ℕ) (body : model.NodeBody) : Type 0 where
+  some : 0 < length tag
+  utf8 : IsUtf8 tag
+  other : tag ≡ codes "!" → ⊥
+  text : IsText body
+
+text_of : (count : ℕ) (b : model.NodeBody) → IsSoundBody count b → IsText b
+text_of count model.no h = tt
+text_of count (model.scalar value style) h = h
+text_of count (model.sequence items style) h = tt
+text_of count (model.mapping pairs style) h = tt
+
+not_both : (b : Bool) → b ≡ true → b ≡ false → ⊥
+not_both b e f = cc
+
+no_bang : (t : List ℕ) → is_bang t ≡ false → t ≡ codes "!" → ⊥
+no_bang t h e = not_both (is_bang t) (ap is_bang e) h
+
+str_fine : IsFine str_tag model.no
+str_fine = record { some = omega arith; utf8 = str_utf8; other = no_bang str_tag refl; text = tt }
+
+abbrev FineNodes : List model.Node → Type 0
+FineNodes nodes = (k : ℕ) → IsFine (tag_at (slice_get nodes k)) (body_at (slice_get nodes k))
+
+fine_at : (count : ℕ) (nodes : List model.Node) (k : ℕ) → AreSound count nodes → AreTagged nodes → ((n : model.Node) → slice_get nodes k ≡ Some n → is_bang n.tag ≡ false)
+    → IsFine (tag_at (slice_get nodes k)) (body_at (slice_get nodes k))
+fine_at count [] k s t b = str_fine
+fine_at count (n ∷ ns) zero s t b = record { some = t.0; utf8 = s.0.0; other = no_bang n.tag (b n refl); text = text_of count n.body s.0.1 }
+fine_at count (n ∷ ns) (suc k) s t b = fine_at count ns k s.1 t.1 b
+
+fine_id : (nodes : List model.Node) → FineNodes nodes → (id : ℤ) → IsFine (tag_of_id nodes id) (body_of_id nodes id)
+fine_id nodes h (pos zero) = str_fine
+fine_id nodes h (pos (suc k)) = h k
+fine_id nodes h (negsuc k) = str_fine
+
+-- ---- the walk: what may be written stays so, whatever is made of it
+
+record KeepsNode (rest : emit.Node → Met → emit.Node) : Type 0 where
+  goes : (v : emit.Node) (m : Met) → IsWritable (tree_of v) → IsWritable (tree_of (rest v m))
+
+record KeepsNodes (rest : emit.Nodes → Met → emit.Node) : Type 0 where
+  goes : (vs : emit.Nodes) (m : Met) → AreItemsWritable (trees_of vs) → IsWritable (tree_of (rest vs m))
+
+record KeepsPairs (rest : emit.Pairs → Met → emit.Node) : Type 0 where
+  goes : (ps : emit.Pairs) (m : Met) → ArePairsWritable (pair_trees_of ps) → IsWritable (tree_of (rest ps m))
+
+record Visits (visit : ℤ → (emit.Node → Met → emit.Node) → Met → emit.Node) : Type 0 where
+  goes : (id : ℤ) (rest : emit.Node → Met → emit.Node) (met : Met) → KeepsNode rest → IsWritable (tree_of (visit id rest met))
+
+module _ (visit : ℤ → (emit.Node → Met → emit.Node) → Met → emit.Node) (w : Visits visit) where
+  items_written : (ids : List ℤ) (rest : emit.Nodes → Met → emit.Node) (met : Met) → KeepsNodes rest → IsWritable (tree_of (items_by visit ids rest met))
+  unfolding items_by
+  items_written [] rest met k = k.goes emit.no_nodes met tt
+  items_written (id ∷ ids) rest met k = w.goes id _ met record {
+    goes = λ v m a. items_written ids _ m record { goes = λ vs n b. k.goes (emit.node v vs) n (a, b) };
+  }
+
+  pairs_written : (ps : List yaml_node_pair_t) (rest : emit.Pairs → Met → emit.Node) (met : Met) → KeepsPairs rest → IsWritable (tree_of (pairs_by visit ps rest met))
+  unfolding pairs_by
+  pairs_written [] rest met k = k.goes emit.no_pairs met tt
+  pairs_written (p ∷ ps) rest met k = w.goes p.key _ met record {
+    goes = λ x m a. w.goes p.value _ m record {
+      goes = λ v n b. pairs_written ps _ n record { goes = λ vs o c. k.goes (emit.pair x v vs) o (a, b, c) };
+    };
+  }
+
+  made_written : (anchor : Option (List ℕ)) (tag : List ℕ) (body : model.NodeBody) (rest : emit.Node → Met → emit.Node) (met : Met) → IsAnchor anchor → IsFine tag body → KeepsNode rest
+      → IsWritable (tree_of (node_by visit anchor tag body rest met))
+  made_written anchor tag model.no rest met a f k = k.goes _ met (a, ((f.some, f.utf8), f.other), IsUtf8-nil)
+  made_written anchor tag (model.scalar value style) rest met a f k = k.goes _ met (a, ((f.some, f.utf8), f.other), f.text)
+  made_written anchor tag (model.sequence items style) rest met a f k =
+      items_written items (λ vs. rest (emit.sequence_node (graph_start anchor tag seq_tag (is_flow_sequence style)) vs)) met record { goes = λ vs m b. k.goes _ m (a, (f.some, f.utf8), b) }
+  made_written anchor tag (model.mapping pairs style) rest met a f k =
+      pairs_written pairs (λ vs. rest (emit.mapping_node (graph_start anchor tag map_tag (is_flow_mapping style)) vs)) met record { goes = λ ps m b. k.goes _ m (a, (f.some, f.utf8), b) }
+
+either_written : (b : Bool) (x y : emit.Node) → IsWritable (tree_of x) → IsWritable (tree_of y) → IsWritable (tree_of (if b then x else y))
+either_written true x y h k = h
+either_written false x y h k = k
+
+content_written : (n : ℕ) (table : List ℕ) (nodes : List model.Node) → FineNodes nodes → Visits (content_by n table nodes)
+unfolding content_by
+content_written zero table nodes h = record { goes = λ id rest met k. k.goes (emit.alias_node (name_of (number_at table id))) met (name_writable (number_at table id)) }
+content_written (suc n) table nodes h = record {
+  goes = λ id rest met k. either_written (is_met met id) _ _ (k.goes (emit.alias_node (name_of (number_at table id))) met (name_writable (number_at table id)))
+      (made_written (content_by n table nodes) (content_written n table nodes h) (anchor_of (number_at table id)) (tag_of_id nodes id) (body_of_id nodes id) rest (meet met id) (anchor_writable (number_at table id)) (fine_id nodes h id) k);
+}
+
+root_written : (nodes : List model.Node) → FineNodes nodes → IsWritable (tree_of (graph_root nodes))
+unfolding graph_root
+root_written nodes h = (content_written (suc (length nodes)) (numbers nodes) nodes h).goes (pos 1) itself (none_met nodes) record { goes = λ v m r. r }
+
+-- ---- documents
+
+prefixes_written : (ds : List TagDirective) → AreUtf8 ds → HavePrefixes ds
+prefixes_written [] u = tt
+prefixes_written (d ∷ ds) u = (u.0.1, prefixes_written ds u.1)
+
+document_written : (d : documents.Document) → documents.IsDocument d → RightDocument d → IsLoadedDocument d → IsWritableDocument (document_tree (graph_content d))
+document_written d s r l = record {
+  opening = r.opening;
+  prefixes = prefixes_written d.directives s.directives;
+  root = root_written d.nodes (λ k. fine_at (length d.nodes) d.nodes k s.nodes r.tags (λ n e. (l.nodes k n e).1));
+}
+
+documents_written : (ds : List documents.Document) → AreDocuments ds → AreRight ds → AreLoadedDocuments ds → AreWritable (trees_of_dumps ds)
+documents_written [] s r l = tt
+documents_written (d ∷ ds) s r l = (document_written d s.0 r.0 l.0, documents_written ds s.1 r.1 l.1)
+
+pub loaded_writable : AllLoadDocuments → InputsHaveUtf8 → LoadedAreWritable
+loaded_writable load utf8 from input =
+    documents_written (loads_of from input).documents (documents_sound utf8 from input) (documents_right from input) (load from input)

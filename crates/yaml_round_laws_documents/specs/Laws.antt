@@ -1,0 +1,26 @@
+-- The documents that an input loads: they are sound, and what they say may be written.
+use Rattle.std.specs.Prelude.{ℕ, List}
+use Rattle.std.specs.List.{All}
+use Rattle.yaml_round_content.specs.round_laws.emit_laws_streams.scan.declared.yaml_encoding_t.{yaml_encoding_t}
+use Rattle.yaml_round_content.specs.round_laws.emit_laws_streams.parse.Documents.{IsDocument}
+use Rattle.yaml_round_content.specs.round_laws.emit_laws_streams.parse.Order.{IsInPreorder}
+use Rattle.yaml_round_content.specs.Loads.{loads_of}
+use Rattle.yaml_round_laws_writable.specs.Writable.{AreWritable}
+use Rattle.yaml_round_laws_dumps.specs.Events.{trees_of_dumps, AreLoadedDocuments}
+
+-- The documents of each input, also those in front of a fault, are documents as loading makes them: their numbers follow the first
+-- visits from the root, each node has a kind, and no tag is `!`.
+abbrev pub AllLoadDocuments : Type 0
+AllLoadDocuments = (from : yaml_encoding_t) (input : List ℕ)
+    → AreLoadedDocuments (loads_of from input).documents
+
+-- Their texts are UTF-8, their numbers name their nodes, and follow the first visits in preorder from the root, a pair's key before
+-- its value.
+abbrev pub LoadedAreSound : Type 0
+LoadedAreSound = (from : yaml_encoding_t) (input : List ℕ)
+    → All (λ d. IsDocument d × IsInPreorder d.nodes) (loads_of from input).documents
+
+-- What they say may be written.
+abbrev pub LoadedAreWritable : Type 0
+LoadedAreWritable = (from : yaml_encoding_t) (input : List ℕ)
+    → AreWritable (trees_of_dumps (loads_of from input).documents)

@@ -1,0 +1,9 @@
+//! The function's contract is a law.
+
+ghost use Rattle.yaml_round_laws_encodings.specs.Laws.{EncodingsDoNotMatter};
+
+/// Bytes that spell the same text, in UTF-8 or UTF-16, behind a byte order mark or without one, say the same, and where they are
+/// refused, they are so by the same fault at the same place.
+pub fn encodings_do_not_matter()
+    ensures { EncodingsDoNotMatter }
+{}

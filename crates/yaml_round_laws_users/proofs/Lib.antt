@@ -1,0 +1,2 @@
+mod Rewriting
+mod Comparing

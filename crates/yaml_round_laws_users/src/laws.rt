@@ -1,0 +1,41 @@
+//! Each function's contract is a law.
+
+ghost use Rattle.yaml_round_laws_users.specs.Laws.{
+  AnswersReadBack,
+  CanonicalAnswersTellContents,
+  ComparisonsAgree,
+  RewritingIsStill,
+  SameContentIsAnEquivalence,
+  SettingsDoNotMatter,
+};
+
+/// Whatever `yaml_reformat` answers, in either form, is accepted with its encoding detected, and has the input's content.
+pub fn answers_read_back()
+    ensures { AnswersReadBack }
+{}
+
+/// Two answers to one input have the same content, whatever the settings and the forms.
+pub fn settings_do_not_matter()
+    ensures { SettingsDoNotMatter }
+{}
+
+/// Two answers in canonical form under the same settings are equal exactly where the contents of their inputs are.
+pub fn canonical_answers_tell_contents()
+    ensures { CanonicalAnswersTellContents }
+{}
+
+/// To an answer in canonical form, given in under the same settings with canonical form asked for, the only answer is that text
+/// again: no byte changes, and no limit is passed.
+pub fn rewriting_is_still()
+    ensures { RewritingIsStill }
+{}
+
+/// Of inputs, to have the same content is an equivalence.
+pub fn same_content_is_an_equivalence()
+    ensures { SameContentIsAnEquivalence }
+{}
+
+/// Two comparisons of the same inputs answer the same, in either order.
+pub fn comparisons_agree()
+    ensures { ComparisonsAgree }
+{}

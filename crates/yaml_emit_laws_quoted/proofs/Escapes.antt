@@ -157,19 +157,19 @@ letter_names c n =
           ]
     ]
 
-escape_by_letter : (c : ℕ) → escape_letter c ≢ 0 → escape_text c ≡ 92 ∷ escape_letter c ∷ []
+pub escape_by_letter : (c : ℕ) → escape_letter c ≢ 0 → escape_text c ≡ 92 ∷ escape_letter c ∷ []
 unfolding escape_text
 escape_by_letter c n = grind arith
 
-escape_by_2 : (c : ℕ) → escape_letter c ≡ 0 → c < 256 → escape_text c ≡ 92 ∷ 120 ∷ hex_2 c
+pub escape_by_2 : (c : ℕ) → escape_letter c ≡ 0 → c < 256 → escape_text c ≡ 92 ∷ 120 ∷ hex_2 c
 unfolding escape_text
 escape_by_2 c n h = grind arith
 
-escape_by_4 : (c : ℕ) → escape_letter c ≡ 0 → 256 ≤ c → c < 65536 → escape_text c ≡ 92 ∷ 117 ∷ hex_4 c
+pub escape_by_4 : (c : ℕ) → escape_letter c ≡ 0 → 256 ≤ c → c < 65536 → escape_text c ≡ 92 ∷ 117 ∷ hex_4 c
 unfolding escape_text
 escape_by_4 c n l h = grind arith
 
-escape_by_8 : (c : ℕ) → escape_letter c ≡ 0 → 256 ≤ c → 65536 ≤ c → escape_text c ≡ 92 ∷ 85 ∷ hex_8 c
+pub escape_by_8 : (c : ℕ) → escape_letter c ≡ 0 → 256 ≤ c → 65536 ≤ c → escape_text c ≡ 92 ∷ 85 ∷ hex_8 c
 unfolding escape_text
 escape_by_8 c n l h = grind arith
 

@@ -17,7 +17,7 @@ use Rattle.yaml_emit_laws_quoted.proofs.Bytes.{or_left, or_right, differs, Calm,
 use Rattle.yaml_emit_laws_quoted.proofs.Escapes.{escape_calm}
 use Rattle.yaml_emit_laws_quoted.proofs.Back.{front_append, char_escaped, moved_by}
 
-both_true : (a b : Bool) → a ≡ true → b ≡ true → (a && b) ≡ true
+pub both_true : (a b : Bool) → a ≡ true → b ≡ true → (a && b) ≡ true
 both_true true b p q = q
 both_true false b p q = absurd (cc)
 
@@ -25,7 +25,7 @@ line_more : (a b r : Bool) → (a && b) ≡ true → (b ≡ true → r ≡ true)
 line_more true b r h f = f h
 line_more false b r h f = absurd (cc)
 
-line_append : (xs ys : List ℕ) → is_one_line xs ≡ true → is_one_line ys ≡ true → is_one_line (xs ++ ys) ≡ true
+pub line_append : (xs ys : List ℕ) → is_one_line xs ≡ true → is_one_line ys ≡ true → is_one_line (xs ++ ys) ≡ true
 line_append [] ys h k = k
 line_append (x ∷ xs) ys h k = line_more (not (is_break x)) (is_one_line xs) (is_one_line (xs ++ ys)) h (λ e. line_append xs ys e k)
 
@@ -34,7 +34,7 @@ calm_inside x a =
     let l = a.low in
     rw (differs x 10 a.no_feed, differs x 13 a.no_return, differs x 0x85 (λ e. omega arith), differs x 0x2028 (λ e. omega arith), differs x 0x2029 (λ e. omega arith)) refl
 
-calm_line : (xs : List ℕ) → AreCalm xs → is_one_line xs ≡ true
+pub calm_line : (xs : List ℕ) → AreCalm xs → is_one_line xs ≡ true
 calm_line [] a = refl
 calm_line (x ∷ xs) (a, b) = both_true (not (is_break x)) (is_one_line xs) (calm_inside x a) (calm_line xs b)
 
@@ -61,7 +61,7 @@ letters_move (x ∷ xs) c (a, b) =
       column = e;
     }
 
-raw_inside : (unicode : Bool) (x : ℕ) → needs_escape unicode x ≡ false → not (is_break x) ≡ true
+pub raw_inside : (unicode : Bool) (x : ℕ) → needs_escape unicode x ≡ false → not (is_break x) ≡ true
 unfolding needs_escape
 raw_inside unicode x e =
     let a = or_left _ (x == 34) (or_left _ (x == 92) e) in

@@ -1,12 +1,12 @@
-mod Chars
-mod Values
-mod Bytes
+pub mod Chars
+pub mod Values
+pub mod Bytes
 mod Reading
 mod Turns
 mod Parts
-mod Escapes
+pub mod Escapes
 mod Kept
-mod Back
+pub mod Back
 mod Single
-mod Keys
+pub mod Keys
 pub mod Whole

@@ -1,11 +1,12 @@
 -- Plain values are read as themselves, wherever a text has them.
-use Rattle.std.specs.Prelude.{◌≡◌, ℕ, ◌+◌, Bool, true, not, ◌&&◌, ◌||◌, ◌==◌, nat_lt, List, ◌++◌, length, Some, Ok}
-use Rattle.yaml_scan_history.specs.scan_model.Marks.{byte, break_width, is_blank, is_blank_or_end}
+use Rattle.std.specs.Prelude.{◌≡◌, ℕ, ◌+◌, ◌≤◌, Bool, true, not, ◌&&◌, ◌||◌, ◌==◌, nat_lt, List, ◌++◌, length, Some, Ok}
+use Rattle.yaml_scan_history.specs.scan_model.Marks.{byte, break_width, mark_at, is_blank, is_blank_or_end}
 use Rattle.yaml_scan_history.specs.scan_model.Breaks.{is_document_indicator}
 use Rattle.yaml_scan_history.specs.scan_words.Written.{HasAt, are_gap, has_break, begins_lexeme}
 use Rattle.yaml_scan_history.specs.scan_scalars.Plain.{is_bracket, ends_at, plain_at}
 use Rattle.yaml_scan_history.specs.declared.kind.Kind.TheVariants as kinds
 use Rattle.yaml_scan_history.specs.Words.{kind_at}
+use Rattle.yaml_scan_history.specs.History.{is_fresh}
 use Rattle.yaml_scan_laws_plain.specs.Values.{is_plain_value}
 
 -- a plain scalar ends before what stands there, which is neither a blank nor a break
@@ -42,3 +43,9 @@ PlainReads = (flow : Bool) (level : ℕ) (text : List ℕ) (p : ℕ) (value gap 
       place = p + length value + length gap;
       broke = has_break gap;
     }
+
+-- Such a value of at most 128 bytes ends on its line, at most 1,024 bytes behind its start.
+abbrev pub PlainIsNear : Type 0
+PlainIsNear = (text : List ℕ) (p : ℕ) (value : List ℕ) → is_plain_value value ≡ true
+    → HasAt text p value → length value ≤ 128
+    → is_fresh (mark_at text p) (mark_at text (p + length value)) ≡ true

@@ -1,6 +1,6 @@
 //! Each function's contract is a law.
 
-ghost use Rattle.yaml_scan_laws_plain.specs.Laws.{PlainBegins, PlainEnds, PlainReads};
+ghost use Rattle.yaml_scan_laws_plain.specs.Laws.{PlainBegins, PlainEnds, PlainIsNear, PlainReads};
 
 /// Where a text has such a value, a lexeme begins, and it is a plain scalar.
 pub fn plain_begins()
@@ -17,4 +17,9 @@ pub fn plain_ends()
 /// breaks between.
 pub fn plain_reads()
     ensures { PlainReads }
+{}
+
+/// As long as a simple key may be, such a value ends on its line, near its start.
+pub fn plain_is_near()
+    ensures { PlainIsNear }
 {}

@@ -4,4 +4,4 @@
 
 mod laws;
 
-pub use laws::{plain_begins, plain_ends, plain_reads};
+pub use laws::{plain_begins, plain_ends, plain_is_near, plain_reads};

@@ -1,0 +1,2 @@
+mod Lines
+mod Sizes

@@ -31,8 +31,9 @@ wrong() {
 compile() {
     local name=$1 file=$2
     shift 2
-    $compiler -O1 -g -Wall -Wextra -Werror -I "$top/bindings/c" -o "$work/$name" "$top/bindings/c/$file" "$@" ||
-        wrong "$file doesn't compile as $name"
+    $compiler -O1 -g -Wall -Wextra -Werror -I "$top/bindings/c" -o "$work/$name" "$top/bindings/c/$file" "$@" && return
+    wrong "$file doesn't compile as $name"
+    return 1
 }
 
 # ends NAME STATUS OUTPUT ERRORS: what the program gave, a pattern of its output's last line and its errors.

@@ -14,6 +14,11 @@ kit=$(dirname "$(rt doc)")
 
 say() { echo "make library: $*" >&2; }
 
+if "$top/tools/is_built.sh" "$out/libyaml_c.so"; then
+    say "out/library/libyaml_c.a and out/library/libyaml_c.so are newer than all sources"
+    exit
+fi
+since=$(date +%s)
 say "proving yaml_round_c and what it stands on"
 (cd "$crate" && rt lib) || { say "not proved, so not built"; exit 1; }
 
@@ -26,5 +31,7 @@ objcopy --wildcard --keep-global-symbol='yaml_c_*' "$work/yaml_c.o"
 rm -f "$work/libyaml_c.a"
 ar rcs "$work/libyaml_c.a" "$work/yaml_c.o"
 ${CC:-cc} -shared -Wl,-z,defs -Wl,-soname,libyaml_c.so -o "$work/libyaml_c.so" "$work/yaml_c.o"
+# a source that was edited meanwhile is newer than the library
+touch -d "@$since" "$work/libyaml_c.a" "$work/libyaml_c.so"
 mv "$work/libyaml_c.a" "$work/libyaml_c.so" "$out"
 say "built out/library/libyaml_c.a and out/library/libyaml_c.so; their header is bindings/c/yaml_c.h"

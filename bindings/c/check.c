@@ -72,8 +72,8 @@ static const char *const TEXTS[] = {
     "!",
     "[a, [b",
     "*a",
-    "\xff",
-    "\xff\xfe" "a",
+    "\377",
+    "\377\376a",
 };
 enum { TEXT_NUMBER = sizeof TEXTS / sizeof *TEXTS, CANONICAL = 0, PRETTY, RELOAD, SAME, EVENTS, PARSE, EMIT, CALL_NUMBER };
 

@@ -217,10 +217,7 @@ LONE_TAG = re.compile(rb"^(=VAL(?: &\S+)?) <!>( (?:['\"|>]|:.))", re.M)
 def as_ours(theirs):
     """libyaml's lines as we would write them, and which difference that met."""
     untagged = LONE_TAG.sub(rb"\1\2", theirs)
-    if untagged != theirs:
-        return untagged, "a scalar with a value and the tag `!`"
-    shorter = theirs.replace(b"found duplicate anchor; first occurrence", b"found duplicate anchor")
-    return shorter, "the context of a duplicate anchor" if shorter != theirs else ""
+    return untagged, "a scalar with a value and the tag `!`" if untagged != theirs else ""
 
 
 def compared_by_refusal(ours):
@@ -283,10 +280,11 @@ class Judge:
     def loader_alike(self, path, docs):
         """The documents load as libyaml's do, or are refused with its fault. Answers which difference that met."""
         theirs, ours = run(self.peer, "-d", path), fault_of("docs", docs)
+        if b"found duplicate anchor" in theirs.errors:
+            return "an anchor that occurs again, which libyaml's loader refuses"
         wanted = (0, b"") if ours is None else (1, ours + b"\n")
-        found, why = as_ours(theirs.errors)
-        wrong_unless((theirs.status, found) == wanted, f"libyaml's loader says {theirs.errors!r}, and docs {ours!r}")
-        return why
+        wrong_unless((theirs.status, theirs.errors) == wanted, f"libyaml's loader says {theirs.errors!r}, and docs {ours!r}")
+        return ""
 
     def formatted(self, number, path, settings):
         """The two forms of an input that is accepted."""

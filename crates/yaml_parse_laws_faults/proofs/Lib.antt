@@ -8,3 +8,7 @@ mod Properties
 mod Stepping
 mod Going
 mod Tagging
+mod Clean
+mod Taking
+mod Ending
+mod Rows

@@ -2,3 +2,4 @@ pub mod LookBack
 pub mod Wrong
 pub mod Places
 pub mod Laws
+pub mod Rows

@@ -10,5 +10,7 @@ mod Going
 mod Tagging
 mod Clean
 mod Taking
-mod Ending
+pub mod Ending
 mod Rows
+-- the laws beneath, for crates that name this one alone
+pub use Rattle.yaml_parse_grammar.proofs as grammar

@@ -1,0 +1,2 @@
+mod Spelling
+mod Saying

@@ -1,4 +1,4 @@
-mod Injective
+pub mod Injective
 mod Trees
 pub mod Inputs
 mod Bare

@@ -1,9 +1,7 @@
 -- Taking a token inside a document: what is open, which token was last, and how the states stand.
-use Rattle.std.proofs.Common.{◌≡◌, ◌⊎◌, inl, inr, Bool, true, false, if◌then◌else◌, ◌||◌, List, [], ◌∷◌, ◌++◌, Option, Some, None, refl, ap, sym, subst, ◌∙◌}
+use Rattle.std.proofs.Common.{◌≡◌, Bool, true, false, if◌then◌else◌, ◌||◌, List, [], ◌∷◌, ◌++◌, Option, Some, None, refl, sym, subst}
 use Rattle.std.proofs.lemmas.List.{append_assoc}
 use Rattle.yaml_parse_grammar.specs.parse_model.declared.yaml_mark_t.{yaml_mark_t}
-use Rattle.yaml_parse_grammar.specs.parse_model.declared.yaml_token_type_t.{yaml_token_type_t}
-use Rattle.yaml_parse_grammar.specs.parse_model.declared.yaml_token_type_t.TheVariants as kind
 use Rattle.yaml_parse_grammar.specs.parse_model.Tokens.{Token, TokenBody, type_of}
 use Rattle.yaml_parse_grammar.specs.parse_model.Tokens as token
 use Rattle.yaml_parse_grammar.specs.declared.name.Wants.{Wants}
@@ -13,16 +11,15 @@ use Rattle.yaml_parse_grammar.specs.declared.name.Brackets.{Brackets}
 use Rattle.yaml_parse_grammar.specs.declared.name.Brackets.TheVariants as brackets
 use Rattle.yaml_parse_grammar.specs.declared.name.Site.{Site}
 use Rattle.yaml_parse_grammar.specs.declared.name.Site.TheVariants.{IndentlessEntry}
-use Rattle.yaml_parse_grammar.specs.declared.name.Choice.{Choice}
-use Rattle.yaml_parse_grammar.specs.declared.name.Choice.TheVariants.{Refuse, Take, Leave, Open}
+use Rattle.yaml_parse_grammar.specs.declared.name.Choice.TheVariants.{Refuse, Take, Leave}
 use Rattle.yaml_parse_grammar.specs.declared.problem.ParseProblem.{ParseProblem}
 use Rattle.yaml_parse_grammar.specs.Items.{Properties}
 use Rattle.yaml_parse_grammar.specs.States.{State}
 use Rattle.yaml_parse_grammar.specs.States as state
-use Rattle.yaml_parse_grammar.specs.Stacks.{IsInner, InsideAt, IsInside}
-use Rattle.yaml_parse_grammar.specs.Machine.{starts_content, starts_node, wants_of, closes, follows, no_node, joins, choice_at, content_taken, node_taken, with_properties_taken, items_taken, more_taken, entries_taken, pairs_taken, lone_below, taken_at}
+use Rattle.yaml_parse_grammar.specs.Stacks.{IsInner, IsInside}
+use Rattle.yaml_parse_grammar.specs.Machine.{starts_content, starts_node, wants_of, follows, no_node, joins, choice_at, content_taken, node_taken, with_properties_taken, items_taken, more_taken, entries_taken, pairs_taken, lone_below, taken_at}
 use Rattle.yaml_parse_laws_faults.specs.LookBack.{is_directive, starts_document}
-use Rattle.yaml_parse_laws_faults.proofs.Standing.{Sign, signs_behind, put, open_in, bracketed, Last, last_of, asking, other, told, Plain, Topped, plain_topped, is_flow, Placed, Nested}
+use Rattle.yaml_parse_laws_faults.proofs.Standing.{Sign, signs_behind, open_in, bracketed, last_of, Plain, Topped, plain_topped, is_flow, Nested}
 
 -- the states behind a token, by what was open before it
 pub record Kept (b : TokenBody) (at : yaml_mark_t) (gs : List Sign) (s : List State) : Type 0 where

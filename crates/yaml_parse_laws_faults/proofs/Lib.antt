@@ -8,3 +8,9 @@ mod Properties
 mod Stepping
 mod Going
 mod Tagging
+mod Clean
+mod Taking
+pub mod Ending
+mod Rows
+-- the laws beneath, for crates that name this one alone
+pub use Rattle.yaml_parse_grammar.proofs as grammar

@@ -1,29 +1,25 @@
 -- The properties that a state holds are the last tokens.
-use Rattle.std.proofs.Common.{◌≡◌, ◌⊎◌, inl, inr, ℕ, Bool, true, false, if◌then◌else◌, ◌||◌, List, [], ◌∷◌, ◌++◌, Option, Some, None, is_some, refl, ap, sym, subst, ◌∙◌}
+use Rattle.std.proofs.Common.{◌≡◌, ℕ, Bool, true, false, if◌then◌else◌, ◌||◌, List, [], ◌∷◌, ◌++◌, Option, Some, None, refl, sym, subst, ◌∙◌}
 use Rattle.std.proofs.lemmas.List.{append_assoc}
 use Rattle.yaml_parse_grammar.specs.parse_model.declared.yaml_mark_t.{yaml_mark_t}
-use Rattle.yaml_parse_grammar.specs.parse_model.declared.yaml_token_type_t.{yaml_token_type_t}
-use Rattle.yaml_parse_grammar.specs.parse_model.declared.yaml_token_type_t.TheVariants as kind
 use Rattle.yaml_parse_grammar.specs.parse_model.Tokens.{Token, TokenBody, type_of}
 use Rattle.yaml_parse_grammar.specs.parse_model.Tokens as token
 use Rattle.yaml_parse_grammar.specs.parse_model.Faults.{Fault}
 use Rattle.yaml_parse_grammar.specs.declared.name.Wants.{Wants}
 use Rattle.yaml_parse_grammar.specs.declared.name.Wants.TheVariants.{Flow, Block}
-use Rattle.yaml_parse_grammar.specs.declared.name.Site.TheVariants.{Root}
 use Rattle.yaml_parse_grammar.specs.declared.name.Brackets.{Brackets}
 use Rattle.yaml_parse_grammar.specs.declared.name.Brackets.TheVariants as brackets
-use Rattle.yaml_parse_grammar.specs.declared.name.Choice.{Choice}
-use Rattle.yaml_parse_grammar.specs.declared.name.Choice.TheVariants.{Refuse, Take, Leave, Open}
+use Rattle.yaml_parse_grammar.specs.declared.name.Choice.TheVariants.{Take, Leave}
 use Rattle.yaml_parse_grammar.specs.Items.{RawEvent, Properties, Tag, Shape, item_at}
 use Rattle.yaml_parse_grammar.specs.Items as item
 use Rattle.yaml_parse_grammar.specs.States.{State}
 use Rattle.yaml_parse_grammar.specs.States as state
-use Rattle.yaml_parse_grammar.specs.Machine.{joins, starts_content, choice_at, documents_taken, content_taken, node_taken, with_properties_taken, items_taken, more_taken, stream_taken, entries_taken, pairs_taken, lone_below, taken_at, tag_at}
+use Rattle.yaml_parse_grammar.specs.Machine.{joins, starts_content, choice_at, documents_taken, content_taken, node_taken, with_properties_taken, items_taken, more_taken, stream_taken, entries_taken, pairs_taken, lone_below, taken_at}
 use Rattle.yaml_parse_grammar.specs.Resolve.{Directives, settle, directive_for}
 use Rattle.yaml_parse_laws_faults.specs.LookBack.{NodeTag, ended_tag, tag_behind, tag_before_anchor, unless_joined, has_handle}
 use Rattle.yaml_parse_laws_faults.specs.Wrong.{tag_fault}
-use Rattle.yaml_parse_laws_faults.proofs.Standing.{Last, asking, property, other, last_of, last_in, told, Plain}
-use Rattle.yaml_parse_laws_faults.proofs.Settling.{Done, bad, fine, then_read, by_fault, tag_in, resolved_done, prefix_known, Agree}
+use Rattle.yaml_parse_laws_faults.proofs.Standing.{asking, property, other, last_of, last_in, told, Plain}
+use Rattle.yaml_parse_laws_faults.proofs.Settling.{Done, then_read, by_fault, tag_in, resolved_done, prefix_known, Agree}
 
 -- ---- the tag among the last tokens
 
@@ -71,10 +67,6 @@ joined (Some a) (Some t) from to past _ h j = cc
 joined None None from to past b h j = absurd h
 
 -- ---- a property is taken
-
-before_asking : (b : TokenBody) (past : List Token) (t : Token) → t.body ≡ b → last_of b ≡ asking → tag_before_anchor (t ∷ past) ≡ None
-before_asking (token.tag handle suffix) past t p e = cc
-before_asking b past t p e = rw p refl
 
 no_tag_before : (past : List Token) → last_in past ≡ asking → tag_before_anchor past ≡ None
 no_tag_before [] e = refl

@@ -1,9 +1,9 @@
 -- A state that refuses a token tells the fault of the grammar.
-use Rattle.std.proofs.Common.{◌≡◌, ◌⊎◌, inl, inr, Bool, true, false, if◌then◌else◌, ◌||◌, List, [], ◌∷◌, Option, Some, None, refl, ap, sym, subst, ◌∙◌}
+use Rattle.std.proofs.Common.{◌≡◌, Bool, true, false, if◌then◌else◌, ◌||◌, List, [], ◌∷◌, Option, Some, None, refl, ap, sym, subst, ◌∙◌}
 use Rattle.yaml_parse_grammar.specs.parse_model.declared.yaml_mark_t.{yaml_mark_t}
 use Rattle.yaml_parse_grammar.specs.parse_model.declared.yaml_token_type_t.{yaml_token_type_t}
 use Rattle.yaml_parse_grammar.specs.parse_model.declared.yaml_token_type_t.TheVariants as kind
-use Rattle.yaml_parse_grammar.specs.parse_model.Tokens.{Token, TokenBody, type_of}
+use Rattle.yaml_parse_grammar.specs.parse_model.Tokens.{Token, type_of}
 use Rattle.yaml_parse_grammar.specs.parse_model.Tokens as token
 use Rattle.yaml_parse_grammar.specs.parse_model.Faults.{Fault}
 use Rattle.yaml_parse_grammar.specs.declared.name.Wants.{Wants}
@@ -20,10 +20,10 @@ use Rattle.yaml_parse_grammar.specs.Items.{RawEvent, Properties}
 use Rattle.yaml_parse_grammar.specs.States.{State}
 use Rattle.yaml_parse_grammar.specs.States as state
 use Rattle.yaml_parse_grammar.specs.Machine.{starts_content, starts_node, wants_of, closes, parts_documents, follows, no_node, no_end, joins, choice_at, context_of, left_at, Fed, stop, go, with_item, turn, feed}
-use Rattle.yaml_parse_laws_sound.proofs.Standing.{Goes, AllStood, Stood}
+use Rattle.yaml_parse_laws_sound.proofs.Standing.{Goes, Stood}
 use Rattle.yaml_parse_laws_faults.specs.Wrong as wrong
 use Rattle.yaml_parse_laws_faults.specs.Wrong.{grammar_fault}
-use Rattle.yaml_parse_laws_faults.proofs.Standing.{Sign, put, open_in, bracketed, stuck, Last, nothing, asking, property, directive, other, told, Plain, Topped, is_flow, Placed, Nested, told_fault}
+use Rattle.yaml_parse_laws_faults.proofs.Standing.{Sign, put, open_in, bracketed, stuck, Last, nothing, asking, property, directive, other, told, Plain, is_flow, Placed, Nested, told_fault}
 
 -- where a choice refuses, that is the fault; where it leaves, the state has no collection; a document opens at the first state alone
 abbrev pub Tells : Choice → State → List Sign → yaml_mark_t → Type 0

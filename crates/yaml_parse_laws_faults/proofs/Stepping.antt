@@ -1,11 +1,8 @@
 -- One token: what the stack gives is read, and the directives agree with the tokens from then on.
-use Rattle.std.proofs.Common.{◌≡◌, ◌⊎◌, inl, inr, ℕ, Bool, true, false, if◌then◌else◌, ◌||◌, List, [], ◌∷◌, ◌++◌, Option, Some, None, refl, ap, sym, subst, ◌∙◌}
+use Rattle.std.proofs.Common.{◌≡◌, Bool, true, false, if◌then◌else◌, List, [], ◌∷◌, ◌++◌, Option, Some, None, refl, ap, sym, subst}
 use Rattle.yaml_parse_grammar.specs.parse_model.declared.yaml_mark_t.{yaml_mark_t}
-use Rattle.yaml_parse_grammar.specs.parse_model.declared.yaml_token_type_t.{yaml_token_type_t}
-use Rattle.yaml_parse_grammar.specs.parse_model.declared.yaml_token_type_t.TheVariants as kind
 use Rattle.yaml_parse_grammar.specs.parse_model.Tokens.{Token, TokenBody, type_of}
 use Rattle.yaml_parse_grammar.specs.parse_model.Tokens as token
-use Rattle.yaml_parse_grammar.specs.parse_model.Faults.{Fault}
 use Rattle.yaml_parse_grammar.specs.parse_model.Events as event
 use Rattle.yaml_parse_grammar.specs.declared.name.Choice.{Choice}
 use Rattle.yaml_parse_grammar.specs.declared.name.Choice.TheVariants.{Refuse, Take, Leave, Open}
@@ -13,16 +10,15 @@ use Rattle.yaml_parse_grammar.specs.Items.{RawEvent, Properties, item_at, proper
 use Rattle.yaml_parse_grammar.specs.Items as item
 use Rattle.yaml_parse_grammar.specs.States.{State}
 use Rattle.yaml_parse_grammar.specs.States as state
-use Rattle.yaml_parse_grammar.specs.Stacks.{IsInner, InsideAt, IsInside, IsStack}
-use Rattle.yaml_parse_grammar.specs.Machine.{choice_at, taken_at, left_at, joins, starts_content, with_properties_taken, Fed, stop, go, with_item, given_by, turn, feed}
-use Rattle.yaml_parse_grammar.specs.Resolve.{Directives, no_directives, settle}
-use Rattle.yaml_parse_laws_faults.specs.LookBack.{directives_before, document_directives, is_directive, starts_document, ended_tag}
-use Rattle.yaml_parse_laws_faults.specs.Wrong.{directive_fault, handle_fault, tag_fault}
-use Rattle.yaml_parse_laws_faults.proofs.Standing.{Sign, put, open_in, Last, nothing, asking, property, directive, other, last_of, last_in, told, Plain, Nested}
+use Rattle.yaml_parse_grammar.specs.Stacks.{IsInner, InsideAt, IsInside}
+use Rattle.yaml_parse_grammar.specs.Machine.{choice_at, taken_at, left_at, Fed, stop, go, with_item, given_by, turn, feed}
+use Rattle.yaml_parse_grammar.specs.Resolve.{Directives, no_directives}
+use Rattle.yaml_parse_laws_faults.specs.LookBack.{directives_before, document_directives, is_directive, starts_document}
+use Rattle.yaml_parse_laws_faults.specs.Wrong.{directive_fault}
+use Rattle.yaml_parse_laws_faults.proofs.Standing.{Sign, open_in, directive, other, last_of, last_in, told, Plain, Nested}
 use Rattle.yaml_parse_laws_faults.proofs.Refusing.{Tells, tells}
-use Rattle.yaml_parse_laws_faults.proofs.Keeping.{Kept, KeptInside, inside_kept}
-use Rattle.yaml_parse_laws_faults.proofs.Settling.{Done, bad, fine, then_read, read_all, Quiet, IsMute, taken_quiet, left_quiet, Agree, none_agree, Behind, version_read, handle_read, tag_in, by_fault}
-use Rattle.yaml_parse_laws_faults.proofs.Properties.{PropsOf, ended, joined, props_read, HasFault, content_read}
+use Rattle.yaml_parse_laws_faults.proofs.Keeping.{KeptInside, inside_kept}
+use Rattle.yaml_parse_laws_faults.proofs.Settling.{Done, bad, fine, read_all, Quiet, IsMute, taken_quiet, left_quiet, Agree, none_agree, Behind, version_read, handle_read}
 
 -- ---- the directives, by the state on top
 

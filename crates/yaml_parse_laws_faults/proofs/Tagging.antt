@@ -1,31 +1,25 @@
 -- One token, behind properties too: the fault of a handle comes first.
-use Rattle.std.proofs.Common.{◌≡◌, ◌⊎◌, inl, inr, ℕ, suc, ◌<◌, Bool, true, false, if◌then◌else◌, ◌||◌, List, [], ◌∷◌, ◌++◌, length, map, Option, Some, None, refl, ap, sym, subst, ◌∙◌, arith}
+use Rattle.std.proofs.Common.{◌≡◌, Bool, true, false, if◌then◌else◌, ◌||◌, List, [], ◌∷◌, ◌++◌, Option, Some, None, refl, ap, sym, subst, ◌∙◌}
 use Rattle.yaml_parse_grammar.specs.parse_model.declared.yaml_mark_t.{yaml_mark_t}
-use Rattle.yaml_parse_grammar.specs.parse_model.declared.yaml_token_type_t.{yaml_token_type_t}
-use Rattle.yaml_parse_grammar.specs.parse_model.declared.yaml_token_type_t.TheVariants as kind
-use Rattle.yaml_parse_grammar.specs.parse_model.Tokens.{Token, TokenBody, type_of, no_token}
+use Rattle.yaml_parse_grammar.specs.parse_model.Tokens.{Token, TokenBody, type_of}
 use Rattle.yaml_parse_grammar.specs.parse_model.Tokens as token
 use Rattle.yaml_parse_grammar.specs.parse_model.Faults.{Fault}
-use Rattle.yaml_parse_grammar.specs.parse_model.Events as event
 use Rattle.yaml_parse_grammar.specs.declared.name.Wants.{Wants}
-use Rattle.yaml_parse_grammar.specs.declared.name.Wants.TheVariants.{Flow, Block}
-use Rattle.yaml_parse_grammar.specs.declared.name.Site.TheVariants.{Root}
-use Rattle.yaml_parse_grammar.specs.declared.name.Choice.{Choice}
-use Rattle.yaml_parse_grammar.specs.declared.name.Choice.TheVariants.{Refuse, Take, Leave, Open}
+use Rattle.yaml_parse_grammar.specs.declared.name.Choice.TheVariants.{Take, Leave}
 use Rattle.yaml_parse_grammar.specs.Items.{RawEvent, Properties, item_at, properties_alone}
 use Rattle.yaml_parse_grammar.specs.Items as item
 use Rattle.yaml_parse_grammar.specs.States.{State}
 use Rattle.yaml_parse_grammar.specs.States as state
-use Rattle.yaml_parse_grammar.specs.Stacks.{IsInner, InsideAt, IsInside, StackAt, IsStack}
-use Rattle.yaml_parse_grammar.specs.Machine.{joins, starts_content, choice_at, taken_at, left_at, with_properties_taken, content_taken, Fed, stop, go, with_item, given_by, turn, feed}
+use Rattle.yaml_parse_grammar.specs.Stacks.{IsInner, IsInside, IsStack}
+use Rattle.yaml_parse_grammar.specs.Machine.{joins, starts_content, choice_at, with_properties_taken, Fed, stop, go, with_item, given_by, turn, feed}
 use Rattle.yaml_parse_grammar.specs.Resolve.{Directives, no_directives, settle}
 use Rattle.yaml_parse_laws_faults.specs.LookBack.{NodeTag, directives_before, document_directives, ended_tag}
-use Rattle.yaml_parse_laws_faults.specs.Wrong.{directive_fault, handle_fault, tag_fault}
-use Rattle.yaml_parse_laws_faults.proofs.Standing.{Sign, open_in, Last, nothing, asking, property, directive, other, last_of, last_in, told, Plain, Nested}
-use Rattle.yaml_parse_laws_faults.proofs.Keeping.{Kept, KeptInside, inside_kept}
-use Rattle.yaml_parse_laws_faults.proofs.Settling.{Done, bad, fine, then_read, read_all, IsMute, Agree, none_agree, tag_in, by_fault}
+use Rattle.yaml_parse_laws_faults.specs.Wrong.{handle_fault, tag_fault}
+use Rattle.yaml_parse_laws_faults.proofs.Standing.{open_in, nothing, property, directive, other, last_of, last_in, told, Plain, Nested}
+use Rattle.yaml_parse_laws_faults.proofs.Keeping.{inside_kept}
+use Rattle.yaml_parse_laws_faults.proofs.Settling.{Done, bad, fine, then_read, read_all, IsMute, Agree, tag_in, by_fault}
 use Rattle.yaml_parse_laws_faults.proofs.Properties.{PropsOf, PropsTop, ended, joined, props_read, HasFault, content_read}
-use Rattle.yaml_parse_laws_faults.proofs.Stepping.{Dirs, StepRead, Stepped, Within, at_end, deeper, within, mute_stepped, no_directives_before, none_before, inside_read, stream_stepped, first_stepped, documents_stepped, directives_stepped, plain_mute}
+use Rattle.yaml_parse_laws_faults.proofs.Stepping.{Dirs, StepRead, Stepped, Within, within, mute_stepped, no_directives_before, none_before, inside_read, stream_stepped, first_stepped, documents_stepped, directives_stepped, plain_mute}
 
 -- the step, by the fault of a handle that the token meets
 abbrev pub Step : List Token → Directives → Token → Option Fault → Fed → Type 0

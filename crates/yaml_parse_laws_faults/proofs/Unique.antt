@@ -1,11 +1,10 @@
 -- A list of tokens has one fault at most.
-use Rattle.std.proofs.Common.{◌≡◌, ◌⊎◌, inl, inr, ℕ, ◌<◌, List, [], ◌∷◌, ◌++◌, length, Option, Some, None, refl, ap, sym, subst, ◌∙◌, arith}
+use Rattle.std.proofs.Common.{◌≡◌, ◌⊎◌, inl, inr, ℕ, ◌<◌, List, ◌∷◌, Option, Some, None, refl, ap, sym, subst, ◌∙◌}
 use Rattle.std.proofs.lemmas.Bool.{cases_order}
 use Rattle.yaml_parse_grammar.specs.parse_model.Tokens.{Token}
 use Rattle.yaml_parse_grammar.specs.parse_model.Faults.{Fault}
-use Rattle.yaml_parse_laws_faults.specs.LookBack.{followed_by}
-use Rattle.yaml_parse_laws_faults.specs.Wrong.{grammar_fault, directive_fault, handle_fault}
-use Rattle.yaml_parse_laws_faults.specs.Places.{Rank, of_handle, of_token, Place, RanksBefore, ComesBefore, WrongToken, grammar, directive, FaultAt, StandsIn, IsFirst, IsFree, BeginsWithSentence, with_end, IsOwn, IsRefused, FaultOfTokens}
+use Rattle.yaml_parse_laws_faults.specs.Wrong.{directive_fault, handle_fault}
+use Rattle.yaml_parse_laws_faults.specs.Places.{Rank, of_handle, of_token, ComesBefore, WrongToken, grammar, directive, FaultAt, StandsIn, IsFirst, with_end, IsOwn}
 use Rattle.yaml_parse_laws_faults.specs.Laws.{FaultIsOne}
 use Rattle.yaml_parse_laws_faults.proofs.Cuts.{SameCut, same_cut}
 

@@ -14,5 +14,10 @@ FaultIsOne = (ts : List Token) (own : Option Fault) (x y : Option Fault) → Fau
 
 -- What the machine ends in is the list's fault, where it has one.
 abbrev pub EndsInFault : Type 0
-EndsInFault = (ts : List Token) (own : Option Fault) → FaultOfTokens ts own
-    (reading_of (run ts initial own) no_directives).ending
+EndsInFault = (ts : List Token) (own : Option Fault)
+    → FaultOfTokens ts own (reading_of (run ts initial own) no_directives).ending
+
+-- And what is the list's fault is what the machine ends in.
+abbrev pub FaultEnds : Type 0
+FaultEnds = (ts : List Token) (own fault : Option Fault) → FaultOfTokens ts own fault
+    → (reading_of (run ts initial own) no_directives).ending ≡ fault

@@ -2,3 +2,6 @@ pub mod LookBack
 pub mod Wrong
 pub mod Places
 pub mod Laws
+pub mod Rows
+-- what it stands on, for crates of laws that name this one alone
+pub use Rattle.yaml_parse_grammar.specs as grammar

@@ -78,7 +78,7 @@ abbrev pub directives_before : List Token → List Token
 directives_before [] = []
 directives_before (t ∷ past) = if is_directive t.body then t ∷ directives_before past else []
 
--- The directives of the document that the tokens lead into: those before the last `---`, if there is one.
+-- The directives of the document that the tokens lead into: those before the last `---`, if any.
 abbrev pub document_directives : List Token → List Token
 document_directives [] = []
 document_directives (t ∷ past) = if starts_document t.body then directives_before past
@@ -142,7 +142,8 @@ tag_before_anchor (t ∷ past) = before t.body
     before (token.tag handle suffix) = begins_node handle t.start_mark
     before _ = None
 
--- The tag among the properties of a node, where those end before that token: there is one anchor and one tag at most.
+-- The tag among the properties of a node, where those end before that token.
+-- A node has one anchor and one tag at most.
 abbrev pub ended_tag : List Token → TokenBody → Option NodeTag
 ended_tag [] next = None
 ended_tag (t ∷ past) next = by_last t.body

@@ -9,7 +9,8 @@ use Rattle.yaml_parse_laws_faults.specs.Wrong.{grammar_fault, directive_fault, h
 
 -- ---- places
 
--- At a token the fault of a handle comes first: the node in front of the token has it. Then come the token's own.
+-- At a token the fault of a handle comes first: the node in front of the token has it.
+-- Then comes the token's own.
 pub data Rank : Type 0 where
   of_handle : Rank
   of_token : Rank
@@ -80,7 +81,8 @@ pub record IsRefused (ts : List Token) (own : Option Fault) (e : Fault) : Type 0
   pub unfinished : BeginsWithSentence ts → ⊥
   pub fault : IsFirst (StandsIn (with_end own ts)) e ⊎ IsOwn ts own e
 
--- The fault of a list of tokens that ends in a fault of its own, or in none. A list that begins with a sentence has no fault.
+-- The fault of a list of tokens that ends in a fault of its own, or in none.
+-- A list that begins with a sentence has no fault.
 -- Another has the one of the least place in it, and where there is none, its own.
 abbrev pub FaultOfTokens : List Token → Option Fault → Option Fault → Type 0
 FaultOfTokens ts own None = BeginsWithSentence ts

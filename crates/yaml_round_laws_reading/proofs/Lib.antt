@@ -1,0 +1,4 @@
+mod Spelling
+mod Saying
+mod Documents
+mod Joining

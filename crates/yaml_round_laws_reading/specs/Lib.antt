@@ -1,0 +1,2 @@
+pub mod TreeContent
+pub mod Reading

@@ -1,9 +1,9 @@
-mod Forms
-mod Places
-mod Steps
-mod Words
+pub mod Forms
+pub mod Places
+pub mod Steps
+pub mod Words
 mod Tags
 mod Lines
 mod Directives
-mod Nodes
-mod Documents
+pub mod Nodes
+pub mod Documents

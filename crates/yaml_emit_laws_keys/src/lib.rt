@@ -5,3 +5,4 @@
 mod laws;
 
 pub use laws::quoted_keys_are_near;
+pub use yaml_emit_laws_quoted::quoted_is_read_back;

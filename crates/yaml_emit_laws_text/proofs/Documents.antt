@@ -40,10 +40,10 @@ use Rattle.yaml_emit_laws_text.proofs.Nodes.{nodes_read, line_parts}
 
 -- ---- the start of the next line
 
-record Lined (text : List ℕ) (rest : Rest) (kept : Bool) (ws : List Word) (d : ℕ) : Type 0 where
-  place : ℕ
-  stage : Stage text (at_line kept) place ws d
-  left : Left text place (bytes (rest (at_line kept)))
+pub record Lined (text : List ℕ) (rest : Rest) (kept : Bool) (ws : List Word) (d : ℕ) : Type 0 where
+  pub place : ℕ
+  pub stage : Stage text (at_line kept) place ws d
+  pub left : Left text place (bytes (rest (at_line kept)))
 
 new_line_lined : (b : LineBreak) (text : List ℕ) (c : Cursor) (p : ℕ) (ws : List Word) (d : ℕ) (rest : Rest) → Stage text c p ws d → Left text p (bytes (new_line b c rest)) → Lined text rest c.kept ws d
 new_line_lined Lf text c p ws d rest s l =
@@ -65,7 +65,7 @@ new_line_lined CrLf text c p ws d rest s l =
     not_start : (n : ℕ) → n + 1 ≡ 0 → ⊥
     not_start n e = omega arith
 
-line_lined : (b : LineBreak) (text : List ℕ) (c : Cursor) (p : ℕ) (ws : List Word) (d : ℕ) (rest : Rest) → c.bare ≡ false → Stage text c p ws d → Left text p (bytes (line b 0 c rest)) → Lined text rest c.kept ws d
+pub line_lined : (b : LineBreak) (text : List ℕ) (c : Cursor) (p : ℕ) (ws : List Word) (d : ℕ) (rest : Rest) → c.bare ≡ false → Stage text c p ws d → Left text p (bytes (line b 0 c rest)) → Lined text rest c.kept ws d
 unfolding line blanks
 line_lined b text c p ws d rest e s l =
     let must : must_break 0 c ≡ true = rw e refl in
@@ -75,11 +75,11 @@ line_lined b text c p ws d rest e s l =
 
 -- ---- `---` and `...`
 
-three : (x : ℕ) → nat_lt x 128 ≡ true → (kept : Bool) (rest : Rest) → bytes (letters (x ∷ x ∷ x ∷ []) (at_line kept) rest) ≡ x ∷ x ∷ x ∷ bytes (rest (record { column = 3; white = false; bare = false; kept = kept }))
+pub three : (x : ℕ) → nat_lt x 128 ≡ true → (kept : Bool) (rest : Rest) → bytes (letters (x ∷ x ∷ x ∷ []) (at_line kept) rest) ≡ x ∷ x ∷ x ∷ bytes (rest (record { column = 3; white = false; bare = false; kept = kept }))
 unfolding letters encode char_bytes
 three x e kept rest = rw e refl
 
-abbrev behind_three : Bool → Cursor
+abbrev pub behind_three : Bool → Cursor
 behind_three kept = record { column = 3; white = false; bare = false; kept = kept }
 
 feed_blank : (text : List ℕ) (q : ℕ) → byte text q ≡ 10 → is_blank_or_end text q ≡ true
@@ -93,7 +93,7 @@ broken_blank Lf text c q k l = feed_blank text q (left_first text q 10 _ (left_l
 broken_blank Cr text c q k l = return_blank text q (left_first text q 13 _ (left_letter text q 13 (k (at_line c.kept)) refl l))
 broken_blank CrLf text c q k l = return_blank text q (left_first text q 13 _ (left_letter text q 13 (letter 10 ∷ k (at_line c.kept)) refl l))
 
-line_blank : (b : LineBreak) (text : List ℕ) (c : Cursor) (q : ℕ) (rest : Rest) → c.bare ≡ false → Left text q (bytes (line b 0 c rest)) → is_blank_or_end text q ≡ true
+pub line_blank : (b : LineBreak) (text : List ℕ) (c : Cursor) (q : ℕ) (rest : Rest) → c.bare ≡ false → Left text q (bytes (line b 0 c rest)) → is_blank_or_end text q ≡ true
 unfolding line
 line_blank b text c q rest e l =
     let must : must_break 0 c ≡ true = rw e refl in
@@ -101,14 +101,14 @@ line_blank b text c q rest e l =
     broken_blank b text c q k (subst (λ (t : Bool). Left text q (bytes (if t then new_line b c k else k c))) must l)
 
 -- a word of three equal signs at the start of a line
-record Thrice (x : ℕ) (k : Kind) (body : TokenBody) : Type 0 where
-  low : nat_lt x 128 ≡ true
-  begins : (text : List ℕ) (p : ℕ) → byte text p ≡ x → begins_lexeme text p ≡ true
-  kind : (text : List ℕ) (p : ℕ) → byte text p ≡ x → byte text (p + 1) ≡ x → byte text (p + 2) ≡ x → is_blank_or_end text (p + 3) ≡ true → column_at text p ≡ 0 → kind_at false text p ≡ Some k
-  said : (text : List ℕ) (p : ℕ) → word_at k false 0 text p ≡ Ok (record { body = body; end = p + 3; reached = p + 3; broke = false })
-  more : is_end k ≡ false
-  flat : depth_after k 0 ≡ 0
-  no_feed : x ≡ 10 → ⊥
+pub record Thrice (x : ℕ) (k : Kind) (body : TokenBody) : Type 0 where
+  pub low : nat_lt x 128 ≡ true
+  pub begins : (text : List ℕ) (p : ℕ) → byte text p ≡ x → begins_lexeme text p ≡ true
+  pub kind : (text : List ℕ) (p : ℕ) → byte text p ≡ x → byte text (p + 1) ≡ x → byte text (p + 2) ≡ x → is_blank_or_end text (p + 3) ≡ true → column_at text p ≡ 0 → kind_at false text p ≡ Some k
+  pub said : (text : List ℕ) (p : ℕ) → word_at k false 0 text p ≡ Ok (record { body = body; end = p + 3; reached = p + 3; broke = false })
+  pub more : is_end k ≡ false
+  pub flat : depth_after k 0 ≡ 0
+  pub no_feed : x ≡ 10 → ⊥
 
 dash_kind : (text : List ℕ) (p : ℕ) → byte text p ≡ 45 → byte text (p + 1) ≡ 45 → byte text (p + 2) ≡ 45 → is_blank_or_end text (p + 3) ≡ true → column_at text p ≡ 0 → kind_at false text p ≡ Some kinds.DocumentStart
 unfolding kind_at is_document_start
@@ -118,7 +118,7 @@ dot_kind : (text : List ℕ) (p : ℕ) → byte text p ≡ 46 → byte text (p +
 unfolding kind_at is_document_start is_document_end
 dot_kind text p a b c e z = rw (a, b, c, e, z) refl
 
-thrice_dash : Thrice 45 kinds.DocumentStart tokens.document_start
+pub thrice_dash : Thrice 45 kinds.DocumentStart tokens.document_start
 unfolding break_of word_at
 thrice_dash = record {
   low = refl;
@@ -130,7 +130,7 @@ thrice_dash = record {
   no_feed = λ e. omega arith;
 }
 
-thrice_dot : Thrice 46 kinds.DocumentEnd tokens.document_end
+pub thrice_dot : Thrice 46 kinds.DocumentEnd tokens.document_end
 unfolding break_of word_at
 thrice_dot = record {
   low = refl;
@@ -243,19 +243,19 @@ record Ended (text : List ℕ) (ks : List Kind) (ws : List Word) (B : List Token
   kinds : word_kinds words ≡ ks
   bodies : told words [] ≡ told ws B
 
-end_zero : (text : List ℕ) (p : ℕ) → Left text p (bytes []) → byte text p ≡ 0
+pub end_zero : (text : List ℕ) (p : ℕ) → Left text p (bytes []) → byte text p ≡ 0
 unfolding encode
 end_zero text p l = let e = l.ends in get_or_past text p 0 (omega (arith, e))
 
-end_kind : (text : List ℕ) (p : ℕ) → byte text p ≡ 0 → kind_at false text p ≡ Some kinds.StreamEnd
+pub end_kind : (text : List ℕ) (p : ℕ) → byte text p ≡ 0 → kind_at false text p ≡ Some kinds.StreamEnd
 unfolding kind_at
 end_kind text p h = rw h refl
 
-end_word : (text : List ℕ) (p : ℕ) → word_at kinds.StreamEnd false 0 text p ≡ Ok (record { body = tokens.stream_end; end = p; reached = p; broke = false })
+pub end_word : (text : List ℕ) (p : ℕ) → word_at kinds.StreamEnd false 0 text p ≡ Ok (record { body = tokens.stream_end; end = p; reached = p; broke = false })
 unfolding word_at
 end_word text p = refl
 
-end_begins : (text : List ℕ) (p : ℕ) → byte text p ≡ 0 → begins_lexeme text p ≡ true
+pub end_begins : (text : List ℕ) (p : ℕ) → byte text p ≡ 0 → begins_lexeme text p ≡ true
 unfolding break_of
 end_begins text p h = sign_starts text p 0 h refl refl refl refl (λ c d. refl)
 
@@ -308,7 +308,7 @@ documents_end law names quoted mark s some opens (d ∷ ds) (right, root, good) 
 
 -- ---- the whole text
 
-has_all : (text : List ℕ) (before rest : List ℕ) → text ≡ before ++ rest → Has text (length before) rest
+pub has_all : (text : List ℕ) (before rest : List ℕ) → text ≡ before ++ rest → Has text (length before) rest
 has_all text before [] e = tt
 has_all text before (x ∷ rest) e =
     let P : List ℕ → Type 0 = λ (t : List ℕ). byte t (length before) ≡ x in
@@ -323,7 +323,7 @@ has_all text before (x ∷ rest) e =
     length_one [] x = refl
     length_one (y ∷ xs) x = let e = length_one xs x in omega arith
 
-first_stage : (text : List ℕ) → Stage text start 0 [] 0
+pub first_stage : (text : List ℕ) → Stage text start 0 [] 0
 unfolding Stand lexemes column_at
 first_stage text = record { stand = tt; gap = []; from = refl; stands = tt; blank = refl; deep = refl; column = λ z n. refl; plain = refl }
 

@@ -122,14 +122,14 @@ mapping_opens law d c rest =
     (walks_gap (λ c rest. letter 123 ∷ rest (opened c)) (λ ks. kinds.FlowMappingStart ∷ ks) (λ bs. tokens.flow_mapping_start ∷ bs) d (d + 1) c rest
     (λ c. letter_walks law 123 kinds.FlowMappingStart tokens.flow_mapping_start d opened (sign 123 refl refl refl refl refl refl refl refl refl refl) (λ a. refl) (λ t p. refl) refl (λ c z. more_than c.column z) (λ c. refl) (λ c. refl) c rest))
 
-inside : (d : ℕ) → nat_lt 0 (suc d) ≡ true
+pub inside : (d : ℕ) → nat_lt 0 (suc d) ≡ true
 inside d = grind (arith, nat_tests)
 
-key_indicator : (flow alone : Bool) → flow ≡ true → indicator_of flow alone 63 ≡ Some kinds.KeyMark
+pub key_indicator : (flow alone : Bool) → flow ≡ true → indicator_of flow alone 63 ≡ Some kinds.KeyMark
 unfolding indicator_of
 key_indicator flow alone e = rw e refl
 
-value_indicator : (flow alone : Bool) → flow ≡ true → indicator_of flow alone 58 ≡ Some kinds.ValueMark
+pub value_indicator : (flow alone : Bool) → flow ≡ true → indicator_of flow alone 58 ≡ Some kinds.ValueMark
 unfolding indicator_of
 value_indicator flow alone e = rw e refl
 
@@ -213,7 +213,7 @@ left_zero : (text : List ℕ) (p : ℕ) (bs : List ℕ) → Left text p bs → p
 left_zero text p [] l e = absurd (cc)
 left_zero text p (b ∷ bs) l e = left_first text p b bs l
 
-named : (f : List ℕ → TokenBody) (r : Result (List ℕ × ℕ) Wrong) (name : List ℕ) (q : ℕ) → r ≡ Ok (name, q) → valued f r ≡ Ok (record { body = f name; end = q; reached = q; broke = false })
+pub named : (f : List ℕ → TokenBody) (r : Result (List ℕ × ℕ) Wrong) (name : List ℕ) (q : ℕ) → r ≡ Ok (name, q) → valued f r ≡ Ok (record { body = f name; end = q; reached = q; broke = false })
 named f r name q e = rw e refl
 
 alias_sign : Sign 42
@@ -319,14 +319,14 @@ anchor_walks law names name some are b K B d e rest spaced w c =
 
 -- ---- double quoted scalars
 
-quote_sign : Sign 34
+pub quote_sign : Sign 34
 quote_sign = sign 34 refl refl refl refl refl refl refl refl refl refl
 
-quote_word : (flow : Bool) (text : List ℕ) (p : ℕ) → word_at kinds.DoubleQuoted flow 0 text p ≡ valued (λ v. tokens.scalar v YAML_DOUBLE_QUOTED_SCALAR_STYLE) (double_quoted_at text p)
+pub quote_word : (flow : Bool) (text : List ℕ) (p : ℕ) → word_at kinds.DoubleQuoted flow 0 text p ≡ valued (λ v. tokens.scalar v YAML_DOUBLE_QUOTED_SCALAR_STYLE) (double_quoted_at text p)
 unfolding word_at
 quote_word flow text p = refl
 
-quote_kind : (flow alone : Bool) → indicator_of flow alone 34 ≡ Some kinds.DoubleQuoted
+pub quote_kind : (flow alone : Bool) → indicator_of flow alone 34 ≡ Some kinds.DoubleQuoted
 unfolding indicator_of
 quote_kind flow alone = refl
 
@@ -334,13 +334,13 @@ char_encodes : (c : ℕ) (t : List Item) → bytes (letter c ∷ t) ≡ encode_u
 unfolding encode char_bytes encode_char
 char_encodes c t = refl
 
-front_encodes : (xs : List ℕ) (t : List Item) → bytes (in_front xs t) ≡ encode_utf8_all xs ++ bytes t
+pub front_encodes : (xs : List ℕ) (t : List Item) → bytes (in_front xs t) ≡ encode_utf8_all xs ++ bytes t
 unfolding in_front
 front_encodes [] t = refl
 front_encodes (x ∷ xs) t =
     char_encodes x (in_front xs t) ∙ ap (λ b. encode_utf8 x ++ b) (front_encodes xs t) ∙ sym (append_assoc (encode_utf8 x) (encode_utf8_all xs) (bytes t))
 
-quote_first : (xs : List ℕ) → encode_utf8_all (34 ∷ xs) ≡ 34 ∷ encode_utf8_all xs
+pub quote_first : (xs : List ℕ) → encode_utf8_all (34 ∷ xs) ≡ 34 ∷ encode_utf8_all xs
 quote_first xs = let e : encode_utf8 34 ≡ 34 ∷ [] = encode_ascii 34 (omega arith) in rw e refl
 
 pub quoted_walks : GapReads → QuotedIsReadBack → (page : Page) (value : List ℕ) → IsUtf8 value → 0 < page.indentation → (d : ℕ) (c : Cursor) (rest : Rest)

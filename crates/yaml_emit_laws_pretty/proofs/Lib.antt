@@ -1,0 +1,5 @@
+mod Steps
+mod Words
+mod Plain
+mod Nodes
+mod Documents

@@ -1,3 +1,4 @@
 mod Tokens
 mod Events
 mod Joining
+mod Spelled

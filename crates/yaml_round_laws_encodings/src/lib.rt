@@ -1,6 +1,6 @@
-//! Law of encodings: bytes that spell one text have one content, and are refused by the same fault. No code.
+//! Laws of encodings: bytes that spell one text have one content, and are refused by the same fault. No code.
 #![tactic(auto)]
 
 mod laws;
 
-pub use laws::encodings_do_not_matter;
+pub use laws::{characters_are_enough, encodings_do_not_matter};

@@ -1,8 +1,8 @@
-mod Apart
-mod Again
-mod Back
+pub mod Apart
+pub mod Again
+pub mod Back
 mod Finding
 mod Marks
 mod Pairing
-mod Loaded
-mod Whole
+pub mod Loaded
+pub mod Whole

@@ -31,17 +31,17 @@ use Rattle.yaml_round_content.proofs.Bare.{canonical_settings, canonically, bare
 -- ---- flags
 
 abbrev mutual
-  NodeFlagged : emit.Node → Type 0
+  pub NodeFlagged : emit.Node → Type 0
   NodeFlagged (emit.alias_node name) = Unit {0}
   NodeFlagged (emit.scalar_node x) = IsFlaggedScalar x
   NodeFlagged (emit.sequence_node q items) = NodesFlagged items
   NodeFlagged (emit.mapping_node q pairs) = PairsFlagged pairs
 
-  NodesFlagged : emit.Nodes → Type 0
+  pub NodesFlagged : emit.Nodes → Type 0
   NodesFlagged emit.no_nodes = Unit {0}
   NodesFlagged (emit.node n ns) = NodeFlagged n × NodesFlagged ns
 
-  PairsFlagged : emit.Pairs → Type 0
+  pub PairsFlagged : emit.Pairs → Type 0
   PairsFlagged emit.no_pairs = Unit {0}
   PairsFlagged (emit.pair k v ps) = NodeFlagged k × NodeFlagged v × PairsFlagged ps
 
@@ -156,7 +156,7 @@ mutual
   behind_pairs (emit.pair k v ps) es hs = behind_pairs ps es (behind_node v (emit.pairs_events ps es) (behind_node k (emit.node_events v (emit.pairs_events ps es)) hs))
 
 -- what is known of the documents of such events
-abbrev Normalize : List emit.Document → Type 0
+abbrev pub Normalize : List emit.Document → Type 0
 Normalize [] = Unit {0}
 Normalize (d ∷ ds) = NodeFlagged d.root × (d.implicit_end ≡ true) × Normalize ds
 
@@ -211,13 +211,17 @@ settled_fixed w stream h =
 
 -- ---- the laws
 
+-- the layout of such documents is that of their trees
+pub normal_layout : (w : RequestedSettings) → w.canonical ≡ true → (ds : List emit.Document) → Normalize ds
+    → stream_layout (settled w YAML_ANY_ENCODING) ds ≡ stream_layout (settled w YAML_ANY_ENCODING) (written_documents (document_trees ds))
+normal_layout w e ds h = let s = settled w YAML_ANY_ENCODING in subst (Same ds) (canonical_is s e) (stream_same s ds h)
+
 pub layouts_of_content : LayoutIsOfContent
 layouts_of_content w right es flagged c says x whole stream =
     let ds = stream.documents in
     let known : c ≡ document_trees ds = says_injective c (document_trees ds) (sym says ∙ stream_trees es stream.encoding ds stream.same) in
     let normalize = documents_even ds (subst AreFlagged stream.same flagged).1 (subst AreImplicit stream.same (said_implicit es)).1 in
-    let s = settled w YAML_ANY_ENCODING in
-    let same : Same ds s = subst (Same ds) (canonical_is s right.canonical) (stream_same s ds normalize) in
+    let same : Same ds (settled w YAML_ANY_ENCODING) = normal_layout w right.canonical ds normalize in
     let fixed = settled_fixed w stream.encoding right.set in (
       stream.coded ∙ ap (λ (z : Settings). z.encoding) fixed,
       stream.is ∙ ap (λ (z : Settings). written (stream_layout z ds)) fixed ∙ ap (λ (a : Layout). written a) same ∙ ap (λ (e : List Document). canon_items w e) (sym known),

@@ -1,32 +1,44 @@
-//! Each function's contract is a law. Bodies cite laws of lower crates.
+//! Each function's contract is a law. Proofs cite laws of lower crates.
 
 ghost use Rattle.yaml_round_laws_documents.specs.Laws.{AllLoadDocuments, LoadedAreSound, LoadedAreWritable};
-
-use yaml_round_content::inputs_say_fronts;
-use yaml_round_laws_dumps::{content_is_loaded, content_loads_documents};
-use yaml_round_laws_writable::inputs_have_utf8;
+ghost use Rattle.yaml_round_laws_documents.specs.Normal.{DumpsAreLaidOut, DumpTextsLoadAgain, DumpTextsTellDocuments, InputsLoadAlike, NamesDoNotMatter};
 
 /// The documents of each input, also those in front of a fault, are documents as loading makes them.
 pub fn all_load_documents()
     ensures { AllLoadDocuments }
-{
-    inputs_say_fronts();
-    content_is_loaded();
-    content_loads_documents();
-}
+{}
 
 /// Their texts are UTF-8, their numbers name their nodes, and follow the first visits in preorder from the root.
 pub fn loaded_are_sound()
     ensures { LoadedAreSound }
-{
-    all_load_documents();
-    inputs_have_utf8();
-}
+{}
 
 /// What they say may be written.
 pub fn loaded_are_writable()
     ensures { LoadedAreWritable }
-{
-    all_load_documents();
-    inputs_have_utf8();
-}
+{}
+
+/// For the dumps of an input's documents the canonical text of what they say is laid out.
+pub fn dumps_are_laid_out()
+    ensures { DumpsAreLaidOut }
+{}
+
+/// That text, with its encoding detected, loads documents that agree with the input's, without a fault, and is their text.
+pub fn dump_texts_load_again()
+    ensures { DumpTextsLoadAgain }
+{}
+
+/// Inputs have one such text exactly if their documents agree.
+pub fn dump_texts_tell_documents()
+    ensures { DumpTextsTellDocuments }
+{}
+
+/// Inputs with one content load documents that agree, and both or neither are refused.
+pub fn inputs_load_alike()
+    ensures { InputsLoadAlike }
+{}
+
+/// The names of anchors don't matter: inputs with one content but for the names of each document have one such text.
+pub fn names_do_not_matter()
+    ensures { NamesDoNotMatter }
+{}

@@ -1,4 +1,7 @@
-mod Saying
-mod Loading
-mod Trees
+pub mod Saying
+pub mod Loading
+pub mod Trees
 pub mod Agreeing
+-- the laws beneath, for crates that name this one alone
+pub use Rattle.yaml_emit_laws_dumps.proofs as emit_laws_dumps
+pub use Rattle.yaml_round_laws_loads.proofs as round_laws_loads

@@ -1,4 +1,4 @@
 pub mod Core
 pub mod Contents
-mod Names
-mod Walks
+pub mod Names
+pub mod Walks

@@ -2,7 +2,7 @@ mod Tokens
 mod Scalars
 pub mod Flags
 mod Decoded
-mod Utf8
+pub mod Utf8
 mod Events
 pub mod Contents
 -- what it stands on, for crates that name this one alone

@@ -1,0 +1,97 @@
+-- The laws of loaded documents and of their texts, joined from the laws beneath.
+use Rattle.std.proofs.Common.{◌≡◌, ℕ, true, List, map, Option, Some, None, refl, sym, ap, ◌∙◌}
+use Rattle.yaml_round_laws_back.specs.content.round_laws.emit_laws_streams.scan.declared.yaml_encoding_t.{yaml_encoding_t}
+use Rattle.yaml_round_laws_back.specs.content.round_laws.emit_laws_streams.scan.declared.yaml_encoding_t.TheVariants.{YAML_ANY_ENCODING}
+use Rattle.yaml_round_laws_back.specs.content.round_laws.emit_laws_streams.scan.Faults.{Fault}
+use Rattle.yaml_round_laws_back.specs.content.round_laws.emit_laws_streams.parse.Documents.{Document}
+use Rattle.yaml_round_laws_back.specs.content.round_laws.emit_laws_streams.parse.Loading.{nothing_loaded}
+use Rattle.yaml_round_laws_back.specs.content.round_laws.emit_laws_streams.emit.emit_text.declared.RequestedSettings.{RequestedSettings}
+use Rattle.yaml_parse_loader.proofs.Loads.{loads_document}
+use Rattle.yaml_parse_loader.proofs.Visited.{numbered_in_order}
+use Rattle.yaml_round_laws_dumps.specs.emit_laws_dumps.Laws.{DumpsNumberBack}
+use Rattle.yaml_round_laws_dumps.proofs.emit_laws_dumps.Apart.{apart_all, again_all}
+use Rattle.yaml_round_laws_dumps.proofs.emit_laws_dumps.Again.{again_turns}
+use Rattle.yaml_round_laws_dumps.proofs.emit_laws_dumps.Back.{numbered_back}
+use Rattle.yaml_round_laws_dumps.proofs.emit_laws_dumps.Loaded.{loaded}
+use Rattle.yaml_round_laws_dumps.proofs.emit_laws_dumps.Whole.{numbers_found, number_back}
+use Rattle.yaml_round_laws_back.specs.content.Said as content
+use Rattle.yaml_round_laws_back.specs.content.Said.{HasContent}
+use Rattle.yaml_round_laws_back.specs.content.Input.{events_of, ending_of}
+use Rattle.yaml_round_laws_back.specs.content.Loads.{Loads, load_all, loads_of}
+use Rattle.yaml_round_laws_back.specs.content.Canon.{canon}
+use Rattle.yaml_round_laws_back.proofs.content.Inputs.{say_fronts}
+use Rattle.yaml_round_laws_back.proofs.round_laws_writable.Utf8.{input_utf8}
+use Rattle.yaml_round_laws_back.proofs.Whole.{reads_back}
+use Rattle.yaml_round_laws_dumps.specs.round_laws_loads.Agree.{Core, core_of, AreAgreeing}
+use Rattle.yaml_round_laws_dumps.proofs.round_laws_loads.Contents.{loads_of_contents}
+use Rattle.yaml_round_laws_dumps.proofs.round_laws_loads.Names.{loads_of_renamings}
+use Rattle.yaml_round_laws_dumps.proofs.round_laws_loads.Walks.{agreeing_said}
+use Rattle.yaml_round_laws_dumps.specs.Events.{trees_of_dumps, AreNumerable}
+use Rattle.yaml_round_laws_dumps.specs.Laws.{ContentIsLoaded, ContentLoadsDocuments, DumpsAreNumberedBack, DumpsLoadBack}
+use Rattle.yaml_round_laws_dumps.proofs.Saying.{content_said}
+use Rattle.yaml_round_laws_dumps.proofs.Loading.{content_loaded, documents_loaded}
+use Rattle.yaml_round_laws_dumps.proofs.Trees as trees
+use Rattle.yaml_round_laws_dumps.proofs.Agreeing.{dumps_loaded}
+use Rattle.yaml_round_laws_documents.specs.Laws.{AllLoadDocuments, LoadedAreSound, LoadedAreWritable}
+use Rattle.yaml_round_laws_documents.specs.Normal.{dump_text, LoadsAgain, DumpTextsLoadAgain, DumpTextsTellDocuments, InputsLoadAlike, NamesDoNotMatter}
+use Rattle.yaml_round_laws_documents.proofs.Fronts.{all_loaded}
+use Rattle.yaml_round_laws_documents.proofs.Sound.{loaded_sound}
+use Rattle.yaml_round_laws_documents.proofs.Written.{loaded_writable}
+
+-- ---- what is loaded
+
+content_is_loaded : ContentIsLoaded
+content_is_loaded = content_loaded loads_document
+
+pub all_load : AllLoadDocuments
+all_load = all_loaded say_fronts content_is_loaded (documents_loaded (loaded numbered_in_order))
+
+pub all_sound : LoadedAreSound
+all_sound = loaded_sound all_load input_utf8
+
+pub all_writable : LoadedAreWritable
+all_writable = loaded_writable all_load input_utf8
+
+-- ---- what a dump says
+
+dumps_number : DumpsNumberBack
+dumps_number = number_back again_all again_turns (numbers_found apart_all) numbered_back
+
+dumps_load : DumpsLoadBack
+dumps_load = dumps_loaded content_said content_is_loaded (trees.numbered_back dumps_number) loads_of_contents
+
+-- ---- texts
+
+pub load_again : DumpTextsLoadAgain
+load_again w k from input small =
+    let ds : List Document = (loads_of from input).documents in
+    let c : List content.Document = trees_of_dumps ds in
+    let h : HasContent YAML_ANY_ENCODING (canon w c) c = reads_back w k c (all_writable from input) in
+    let es = events_of YAML_ANY_ENCODING (canon w c) in
+    let b = dumps_load ds (all_load from input) small (all_writable from input) es h.says in
+    let same = ap (λ (f : Option Fault). load_all es f nothing_loaded) (sym h.right) in
+    let agree : AreAgreeing ds (loads_of YAML_ANY_ENCODING (canon w c)).documents = b.agree ∙ ap (λ (l : Loads). map core_of l.documents) same in
+    let says = agreeing_said ds (loads_of YAML_ANY_ENCODING (canon w c)).documents agree in
+    record {
+      right = ap (λ (l : Loads). l.fault) (sym same) ∙ b.right;
+      agree = agree;
+      says = says;
+      again = ap (λ (t : List content.Document). canon w t) says;
+    }
+
+pub tell_documents : DumpTextsTellDocuments
+tell_documents w k a_from a small b_from b little =
+    let x = load_again w k a_from a small in
+    let y = load_again w k b_from b little in (
+      λ e. x.agree ∙ ap (λ (t : List ℕ). map core_of (loads_of YAML_ANY_ENCODING t).documents) e ∙ sym y.agree,
+      λ e. ap (λ (t : List content.Document). canon w t) (agreeing_said (loads_of a_from a).documents (loads_of b_from b).documents e),
+    )
+
+pub inputs_load_alike : InputsLoadAlike
+inputs_load_alike c a_from a h b_from b g =
+    loads_of_contents (events_of a_from a) (events_of b_from b) (ending_of a_from a) (ending_of b_from b) ((λ x. g.right), (λ x. h.right)) (h.says ∙ sym g.says)
+
+pub names_do_not_matter : NamesDoNotMatter
+names_do_not_matter w r c one a_from a h b_from b g =
+    let l = loads_of_renamings r c one (events_of a_from a) (events_of b_from b) (ending_of a_from a) (ending_of b_from b) ((λ x. g.right), (λ x. h.right)) h.says g.says in
+    ap (λ (t : List content.Document). canon w t) (agreeing_said (loads_of a_from a).documents (loads_of b_from b).documents l.agree)

@@ -1,0 +1,68 @@
+-- The canonical text of what documents say: it is laid out for their dumps, and loads documents that agree with them.
+use Rattle.std.specs.Prelude.{◌≡◌, ◌↔◌, ℕ, true, List, map, None}
+use Rattle.yaml_round_laws_back.specs.content.round_laws.emit_laws_streams.scan.declared.yaml_encoding_t.{yaml_encoding_t}
+use Rattle.yaml_round_laws_back.specs.content.round_laws.emit_laws_streams.scan.declared.yaml_encoding_t.TheVariants.{YAML_ANY_ENCODING}
+use Rattle.yaml_round_laws_back.specs.content.round_laws.emit_laws_streams.parse.Documents.{Document}
+use Rattle.yaml_round_laws_back.specs.content.round_laws.emit_laws_streams.emit.emit_text.declared.RequestedSettings.{RequestedSettings}
+use Rattle.yaml_round_laws_back.specs.content.round_laws.emit_laws_streams.emit.emit_graph.Graph.{graph_content}
+use Rattle.yaml_round_laws_back.specs.content.round_laws.emit_laws_streams.emit.Content.{Event, stream_events}
+use Rattle.yaml_round_laws_back.specs.content.round_laws.emit_laws_streams.emit.Emitter.{IsStream}
+use Rattle.yaml_round_laws_back.specs.content.Said as content
+use Rattle.yaml_round_laws_back.specs.content.Said.{HasContent}
+use Rattle.yaml_round_laws_back.specs.content.Loads.{loads_of}
+use Rattle.yaml_round_laws_back.specs.content.Canon.{canon, canon_encoding, canon_items}
+use Rattle.yaml_round_laws_back.specs.content.Laws.{AreCanonical}
+use Rattle.yaml_round_laws_dumps.specs.round_laws_loads.Agree.{AreAgreeing, LoadAlike}
+use Rattle.yaml_round_laws_dumps.specs.round_laws_loads.Renamed.{Renaming, renamed, AreOneToOne}
+use Rattle.yaml_round_laws_dumps.specs.Events.{trees_of_dumps, AreNumerable}
+
+-- the events of the documents' dumps as one stream
+abbrev pub dump_events : List Document → List Event
+dump_events ds = stream_events YAML_ANY_ENCODING (map graph_content ds)
+
+-- the canonical text of what the documents say
+abbrev pub dump_text : RequestedSettings → List Document → List ℕ
+dump_text w ds = canon w (trees_of_dumps ds)
+
+-- For the dumps of an input's documents the canonical text of what they say is laid out.
+abbrev pub DumpsAreLaidOut : Type 0
+DumpsAreLaidOut = (w : RequestedSettings) → AreCanonical w
+    → (from : yaml_encoding_t) (input : List ℕ)
+    → IsStream w (canon_encoding w) (dump_events (loads_of from input).documents)
+    (canon_items w (trees_of_dumps (loads_of from input).documents))
+
+-- The text, read as its byte order mark tells, loads documents that agree with these, without a fault; those say the same, and
+-- it is their text.
+pub record LoadsAgain (w : RequestedSettings) (ds : List Document) (text : List ℕ) : Type 0 where
+  pub right : (loads_of YAML_ANY_ENCODING text).fault ≡ None
+  pub agree : AreAgreeing ds (loads_of YAML_ANY_ENCODING text).documents
+  pub says : trees_of_dumps ds ≡ trees_of_dumps (loads_of YAML_ANY_ENCODING text).documents
+  pub again : text ≡ dump_text w (loads_of YAML_ANY_ENCODING text).documents
+
+-- So the canonical text of what an input's documents say does.
+abbrev pub DumpTextsLoadAgain : Type 0
+DumpTextsLoadAgain = (w : RequestedSettings) → w.canonical ≡ true
+    → (from : yaml_encoding_t) (input : List ℕ) → AreNumerable (loads_of from input).documents
+    → LoadsAgain w (loads_of from input).documents (dump_text w (loads_of from input).documents)
+
+-- Inputs have one such text exactly if their documents agree.
+abbrev pub DumpTextsTellDocuments : Type 0
+DumpTextsTellDocuments = (w : RequestedSettings) → w.canonical ≡ true
+    → (a_from : yaml_encoding_t) (a : List ℕ) → AreNumerable (loads_of a_from a).documents
+    → (b_from : yaml_encoding_t) (b : List ℕ) → AreNumerable (loads_of b_from b).documents
+    → (dump_text w (loads_of a_from a).documents ≡ dump_text w (loads_of b_from b).documents)
+    ↔ AreAgreeing (loads_of a_from a).documents (loads_of b_from b).documents
+
+-- Inputs with one content load documents that agree, and both or neither are refused.
+abbrev pub InputsLoadAlike : Type 0
+InputsLoadAlike = (c : List content.Document)
+    → (a_from : yaml_encoding_t) (a : List ℕ) → HasContent a_from a c
+    → (b_from : yaml_encoding_t) (b : List ℕ) → HasContent b_from b c
+    → LoadAlike (loads_of a_from a) (loads_of b_from b)
+
+-- The names of anchors don't matter: inputs with one content but for the names of each document have one such text.
+abbrev pub NamesDoNotMatter : Type 0
+NamesDoNotMatter = (w : RequestedSettings) (r : ℕ → Renaming) (c : List content.Document)
+    → AreOneToOne r c → (a_from : yaml_encoding_t) (a : List ℕ) → HasContent a_from a c
+    → (b_from : yaml_encoding_t) (b : List ℕ) → HasContent b_from b (renamed r c)
+    → dump_text w (loads_of a_from a).documents ≡ dump_text w (loads_of b_from b).documents

@@ -8,7 +8,7 @@ use Rattle.yaml_parse.specs.Events as event
 use Rattle.yaml_parse.specs.Constructors.{HasUtf8}
 use Rattle.yaml_emit.specs.Content.{emitter_event}
 use Rattle.yaml_emit.specs.Emitter.{Emitter, Completes, Given}
-use Rattle.yaml_round_laws_back.specs.content.Normalize.{normalize_body, normalize_scalar, is_lone_mark}
+use Rattle.yaml_round_laws_documents.specs.round_laws_back.content.Normalize.{normalize_body, normalize_scalar, is_lone_mark}
 use Rattle.yaml_round.specs.Reading.{GivesFront, emitter_events}
 use Rattle.yaml_round.specs.Writing.{Leads}
 

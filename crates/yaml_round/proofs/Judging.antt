@@ -19,7 +19,7 @@ use Rattle.yaml_round.specs.declared.settings.yaml_form_t.TheVariants.{Canonical
 use Rattle.yaml_round.specs.Reading.{contents, event_lines, GivesFront, IsFaultOf, EndsWith}
 use Rattle.yaml_round.specs.Writing.{Leads, WritesAll}
 use Rattle.yaml_round.specs.Compare.{Compares, ReadsAlike, IsSideFault}
-use Rattle.yaml_round_laws_back.specs.content.Input.{Reads, ending_of}
+use Rattle.yaml_round_laws_documents.specs.round_laws_back.content.Input.{Reads, ending_of}
 use Rattle.yaml_round.specs.Answers.{IsFaulty, IsRight, IsJudged, IsLaidOut, IsTooLong, IsWritten, IsTold, IsReadBack, ReadsBack, IsCanonicalDue, IsSame, IsSideFaulty, IsInCanonicalForm, IsReformatted, text_and_form}
 
 -- ---- one input

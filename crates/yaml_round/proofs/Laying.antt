@@ -15,9 +15,9 @@ use Rattle.yaml_emit.specs.emit_text.declared.RequestedSettings.{RequestedSettin
 use Rattle.yaml_round.specs.declared.settings.yaml_settings_t.{yaml_settings_t}
 use Rattle.yaml_round.specs.Reading.{emitter_events}
 use Rattle.yaml_round.specs.Writing.{IsUnder, Leads, Finishes, requested_under, IsText, IsEachLayout, IsPastEach}
-use Rattle.yaml_round_laws_back.specs.content.Input.{Reads, events_of}
+use Rattle.yaml_round_laws_documents.specs.round_laws_back.content.Input.{Reads, events_of}
 use Rattle.yaml_round.specs.Answers.{IsLayout, IsPast, IsRight, IsWritten, bytes_of}
-use Rattle.yaml_round_laws_back.specs.content.round_laws.emit_laws_streams.Laws.{HasText}
+use Rattle.yaml_round_laws_documents.specs.round_laws_back.content.round_laws.emit_laws_streams.Laws.{HasText}
 use Rattle.yaml_round.proofs.Streams.{input_text}
 
 -- a fresh emitter completes the streams of its settings

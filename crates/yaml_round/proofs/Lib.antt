@@ -1,5 +1,6 @@
 mod Giving
 mod Judging
+mod Documents
 mod Laying
 mod Mapped
 pub mod Normal
@@ -7,4 +8,4 @@ mod Real
 mod Reloading
 mod Streams
 -- the laws beneath, for crates of laws that name this one alone
-pub use Rattle.yaml_round_laws_back.proofs as round_laws_back
+pub use Rattle.yaml_round_laws_documents.proofs.round_laws_back

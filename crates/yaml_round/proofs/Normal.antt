@@ -5,12 +5,12 @@ use Rattle.yaml_scan.specs.declared.yaml_encoding_t.TheVariants.{YAML_ANY_ENCODI
 use Rattle.yaml_emit.specs.Text.{Item, encode}
 use Rattle.yaml_emit.specs.Within.{Fits}
 use Rattle.yaml_emit.specs.emit_text.declared.Encoding.{Encoding}
-use Rattle.yaml_round_laws_back.specs.content.Input.{events_of}
-use Rattle.yaml_round_laws_back.specs.content.Said.{Document, HasContent}
-use Rattle.yaml_round_laws_back.specs.content.Canon.{canon_items, canon_encoding}
-use Rattle.yaml_round_laws_back.specs.content.Laws.{IsSet, AreCanonical}
-use Rattle.yaml_round_laws_back.proofs.content.Inputs.{have_content}
-use Rattle.yaml_round_laws_back.proofs.Whole.{inputs_read_back, tells_inputs, layout_is_of_input, is_laid_out_again}
+use Rattle.yaml_round_laws_documents.specs.round_laws_back.content.Input.{events_of}
+use Rattle.yaml_round_laws_documents.specs.round_laws_back.content.Said.{Document, HasContent}
+use Rattle.yaml_round_laws_documents.specs.round_laws_back.content.Canon.{canon_items, canon_encoding}
+use Rattle.yaml_round_laws_documents.specs.round_laws_back.content.Laws.{IsSet, AreCanonical}
+use Rattle.yaml_round_laws_documents.proofs.round_laws_back.content.Inputs.{have_content}
+use Rattle.yaml_round_laws_documents.proofs.round_laws_back.Whole.{inputs_read_back, tells_inputs, layout_is_of_input, is_laid_out_again}
 use Rattle.yaml_round.specs.declared.settings.yaml_settings_t.{yaml_settings_t}
 use Rattle.yaml_round.specs.declared.settings.yaml_output_encoding_t.{yaml_output_encoding_t}
 use Rattle.yaml_round.specs.declared.settings.yaml_output_encoding_t.TheVariants.{Utf8, Utf16Le, Utf16Be}

@@ -1,5 +1,5 @@
 -- Documents that are loaded one after another, and given to an emitter.
-use Rattle.std.proofs.Common.{◌≡◌, ◌⊎◌, ◌∙◌, ◌<◌, ◌+◌, ◌++◌, inl, inr, refl, ◌≢◌, ap, sym, subst, arith, ℕ, List, [], ◌∷◌, length, drop, append_assoc, append-nil, map, Bool, true, false, Option, None, Some, Result, Ok, Err, Vec, All}
+use Rattle.std.proofs.Common.{◌≡◌, ◌^◌, ◌⊎◌, ◌∙◌, ◌<◌, ◌+◌, ◌++◌, inl, inr, refl, ◌≢◌, ap, sym, subst, arith, ℕ, List, [], ◌∷◌, length, drop, append_assoc, append-nil, map, Bool, true, false, Option, None, Some, Result, Ok, Err, Vec, All}
 use Rattle.std.specs.Global.{Global}
 use Rattle.std.proofs.lemmas.List.Elements.{All-nil, All-cons, All-head, All-tail}
 use Rattle.yaml_scan.specs.declared.yaml_encoding_t.{yaml_encoding_t}
@@ -18,13 +18,15 @@ use Rattle.yaml_emit.specs.emit_graph.Graph.{graph_content, dumped}
 use Rattle.yaml_emit.specs.Emitter.{Emitter, Given, GivesSome, dump_events, document_events_by, opening_events}
 use Rattle.yaml_emit.specs.emit_text.declared.RequestedSettings.{RequestedSettings}
 use Rattle.yaml_round.specs.declared.settings.yaml_settings_t.{yaml_settings_t}
-use Rattle.yaml_round_laws_back.specs.content.Input.{Reads}
+use Rattle.yaml_round_laws_documents.specs.round_laws_back.content.Input.{Reads}
 use Rattle.yaml_round.specs.Writing.{IsUnder, Finishes, requested_under}
 use Rattle.yaml_round.specs.Answers.{bytes_of}
-use Rattle.yaml_round_laws_back.specs.content.Loads.{Loads, no_more, with_implicit_end, in_front, load_on, load_all, loads_of}
+use Rattle.yaml_round_laws_documents.specs.round_laws_back.content.Loads.{Loads, no_more, with_implicit_end, in_front, load_on, load_all, loads_of}
 use Rattle.yaml_round.specs.Reload.{to_load, HasRoot, LoadsDocument, IsLoaded, AreLoaded, written_events, Feeds, Stands, Dumps, DumpsStream, IsEachDump, IsDumped, IsReloaded}
 use Rattle.yaml_round.proofs.Laying.{Led, starts, layout, past, one_layout, one_past}
 use Rattle.yaml_round.proofs.Streams.{loaded_text}
+use Rattle.yaml_round.proofs.Documents.{in_normal_documents}
+use Rattle.yaml_round_laws_documents.specs.round_laws_dumps.Events.{AreNumerable}
 
 -- ---- the next document
 
@@ -92,20 +94,21 @@ in_front_none (n ∷ ns) d rest h = absurd (omega (arith, h))
 to_load_left : (old new : ParserRemaining) (left : List Told) → new.events ≡ left → new.ending ≡ old.ending → load_all left old.ending nothing_loaded ≡ to_load new
 to_load_left old new left e f = rw (e, f) refl
 
-loaded_some : (r : parse.Loads) (old new : ParserRemaining) (d : Document) → parse.loads_of old ≡ r → parse.LoadGives r d old new → 0 < length d.nodes → LoadsDocument (with_implicit_end d) old new
-loaded_some (parse.document e left n) old new d is g h =
+loaded_some : (r : parse.Loads) (old new : ParserRemaining) (d : Document) → parse.loads_of old ≡ r → parse.LoadGives r d old new → 0 < length d.nodes → length d.nodes < 2 ^ 64 → LoadsDocument (with_implicit_end d) old new
+loaded_some (parse.document e left n) old new d is g h small =
     let k : parse.loads_of old ≡ parse.document d left n = is ∙ ap (λ (z : Document). parse.document z left n) (sym g.0) in
     let t = document_next old.events old.ending nothing_loaded d left n k in
     record {
       same = t.0 ∙ in_front_some d.nodes d _ h ∙ ap (λ (z : Loads). record { documents = with_implicit_end d ∷ z.documents; fault = z.fault }) (to_load_left old new left g.1.events g.1.ending);
       less = rw g.1.events t.1;
       rooted = h;
+      small = small;
     }
-loaded_some parse.nothing old new d is g h = absurd (let k = ap (λ (z : Document). length z.nodes) g.0 in omega (arith, h, k))
-loaded_some (parse.faulty f) old new d is g h = absurd g
+loaded_some parse.nothing old new d is g h small = absurd (let k = ap (λ (z : Document). length z.nodes) g.0 in omega (arith, h, k))
+loaded_some (parse.faulty f) old new d is g h small = absurd g
 
-pub loaded_document : (old new : ParserRemaining) (d e : Document) (count : ℕ) → parse.LoadGives (parse.loads_of old) d old new → count ≡ length d.nodes → count ≢ 0 → e ≡ with_implicit_end d → LoadsDocument e old new
-loaded_document old new d e count g c h w = rw w (loaded_some (parse.loads_of old) old new d refl g (omega (arith, c, h)))
+pub loaded_document : (old new : ParserRemaining) (d e : Document) (count : ℕ) → parse.LoadGives (parse.loads_of old) d old new → count ≡ length d.nodes → count < 2 ^ 64 → count ≢ 0 → e ≡ with_implicit_end d → LoadsDocument e old new
+loaded_document old new d e count g c small h w = rw w (loaded_some (parse.loads_of old) old new d refl g (omega (arith, c, h)) (subst (λ (n : ℕ). n < 2 ^ 64) c small))
 
 loaded_none : (r : parse.Loads) (old new : ParserRemaining) (d : Document) → parse.loads_of old ≡ r → parse.LoadGives r d old new → length d.nodes ≡ 0 → to_load old ≡ no_more None
 loaded_none (parse.document e left n) old new d is g h =
@@ -155,11 +158,23 @@ pub fault_on : (fault : Option Fault) (d : Document) (r r' : ParserRemaining) �
 fault_on fault d r r' h l = ap (λ (z : Loads). z.fault) (sym l.same) ∙ h
 
 pub documents_read : (from : yaml_encoding_t) (input : List ℕ) (items : List Document) (r : ParserRemaining) → items ++ (to_load r).documents ≡ (loads_of from input).documents → (to_load r).fault ≡ (loads_of from input).fault
-    → to_load r ≡ no_more None → AreLoaded from input items
-documents_read from input items r h f e = record {
+    → AreNumerable items → to_load r ≡ no_more None → AreLoaded from input items
+documents_read from input items r h f small e = record {
   same = sym (append-nil items) ∙ ap (λ (z : Loads). items ++ z.documents) (sym e) ∙ h;
   right = sym f ∙ ap (λ (z : Loads). z.fault) e;
+  small = small;
 }
+
+one_numerable : (items : List Document) (d : Document) → AreNumerable items → length d.nodes < 2 ^ 64 → AreNumerable (items ++ d ∷ [])
+one_numerable [] d k h = (h, tt)
+one_numerable (e ∷ items) d k h = (k.0, one_numerable items d k.1 h)
+
+-- one more has no more nodes than can be numbered
+pub small_on : (items new : List Document) (d : Document) (r s : ParserRemaining) → AreNumerable items → LoadsDocument d r s → new ≡ items ++ d ∷ [] → AreNumerable new
+small_on items new d r s k l n = subst AreNumerable (sym n) (one_numerable items d k l.small)
+
+pub none_small : (items : List Document) → items ≡ [] → AreNumerable items
+none_small items e = subst AreNumerable (sym e) tt
 
 pub documents_refused : (from : yaml_encoding_t) (input : List ℕ) (r : ParserRemaining) (f : yaml_fault_t) → (to_load r).fault ≡ (loads_of from input).fault → IsMemoryFault f ⊎ (to_load r ≡ no_more (Some (fault_of f)))
     → IsMemoryFault f ⊎ IsLoaded from input (Err (fault_of f))
@@ -308,7 +323,10 @@ one_dump from input settings (Err f) d = one_past (requested_under settings true
 pub reloaded : (from : yaml_encoding_t) (input : List ℕ) (settings : yaml_settings_t) (ds : List Document) (result : Result (Vec ℕ Global) yaml_fault_t)
     → AreLoaded from input ds → Answers bytes_of (IsEachDump settings ds) result → Answers bytes_of (IsReloaded from settings input) result
 unfolding IsReloaded
-reloaded from input settings ds (Ok text) a d = (a.right, let P : List Document → Type 0 = λ z. IsEachDump settings z (Ok text.items) in one_dump from input settings (Ok text.items) (subst P a.same d))
+reloaded from input settings ds (Ok text) a d =
+    let P : List Document → Type 0 = λ z. IsEachDump settings z (Ok text.items) in
+    let each = subst P a.same d in
+    (a.right, one_dump from input settings (Ok text.items) each, in_normal_documents from settings input text.items (subst AreNumerable a.same a.small) each)
 reloaded from input settings ds (Err f) a d =
     let P : List Document → Type 0 = λ z. IsEachDump settings z (Err (fault_of f)) in
     elim d [ inl m ↦ inl m | inr p ↦ inr (inr (a.right, one_dump from input settings (Err (fault_of f)) (subst P a.same p))) ]

@@ -9,16 +9,16 @@ use Rattle.yaml_parse.specs.Resolve.{Told}
 use Rattle.yaml_parse.specs.Loading.{Loading, Fed, goes_on, loaded, refused, nothing_loaded, step}
 use Rattle.yaml_emit.specs.emit_graph.Graph.{graph_content}
 use Rattle.yaml_emit.specs.emit_text.declared.RequestedSettings.{RequestedSettings}
-use Rattle.yaml_round_laws_back.specs.content.round_laws.emit_laws_streams.Laws.{RightStream, HasText, RightDocument, AreRight, AreRightTold, RightFed}
-use Rattle.yaml_round_laws_back.proofs.content.round_laws.emit_laws_streams.Passing.{texts}
-use Rattle.yaml_round_laws_back.proofs.content.round_laws.emit_laws_streams.Contents.{dumped_streams}
-use Rattle.yaml_round_laws_back.proofs.content.round_laws.emit_laws_streams.Loading.{empty_right, steps}
-use Rattle.yaml_round_laws_back.proofs.content.Inputs.{input_stream}
-use Rattle.yaml_round_laws_back.proofs.content.round_laws.Inputs.{inputs_load_right}
+use Rattle.yaml_round_laws_documents.specs.round_laws_back.content.round_laws.emit_laws_streams.Laws.{RightStream, HasText, RightDocument, AreRight, AreRightTold, RightFed}
+use Rattle.yaml_round_laws_documents.proofs.round_laws_back.content.round_laws.emit_laws_streams.Passing.{texts}
+use Rattle.yaml_round_laws_documents.proofs.round_laws_back.content.round_laws.emit_laws_streams.Contents.{dumped_streams}
+use Rattle.yaml_round_laws_documents.proofs.round_laws_back.content.round_laws.emit_laws_streams.Loading.{empty_right, steps}
+use Rattle.yaml_round_laws_documents.proofs.round_laws_back.content.Inputs.{input_stream}
+use Rattle.yaml_round_laws_documents.proofs.round_laws_back.content.round_laws.Inputs.{inputs_load_right}
 use Rattle.yaml_round.specs.Reading.{emitter_events}
-use Rattle.yaml_round_laws_back.specs.content.Input.{events_of, ending_of, read}
+use Rattle.yaml_round_laws_documents.specs.round_laws_back.content.Input.{events_of, ending_of, read}
 use Rattle.yaml_round.specs.Answers.{IsRight}
-use Rattle.yaml_round_laws_back.specs.content.Loads.{Loads, in_front, load_on, load_all, loads_of}
+use Rattle.yaml_round_laws_documents.specs.round_laws_back.content.Loads.{Loads, in_front, load_on, load_all, loads_of}
 use Rattle.yaml_round.specs.Reload.{written_events}
 
 -- ---- events

@@ -17,9 +17,9 @@ use Rattle.yaml_round.specs.declared.settings.yaml_form_t.{yaml_form_t}
 use Rattle.yaml_round.specs.declared.settings.yaml_form_t.TheVariants.{Canonical, Pretty}
 use Rattle.yaml_round.specs.Reading.{emitter_events, contents, event_lines}
 use Rattle.yaml_round.specs.Writing.{requested_under}
-use Rattle.yaml_round_laws_back.specs.content.Input.{events_of, ending_of}
-use Rattle.yaml_round_laws_back.specs.content.Said.{Document, HasContent}
-use Rattle.yaml_round_laws_back.specs.content.Canon.{canon}
+use Rattle.yaml_round_laws_documents.specs.round_laws_back.content.Input.{events_of, ending_of}
+use Rattle.yaml_round_laws_documents.specs.round_laws_back.content.Said.{Document, HasContent}
+use Rattle.yaml_round_laws_documents.specs.round_laws_back.content.Canon.{canon}
 
 abbrev pub text_and_form : {A : Type 0} → Vec ℕ A × yaml_form_t → List ℕ × yaml_form_t
 text_and_form answer = (answer.0.items, answer.1)

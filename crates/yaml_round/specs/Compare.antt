@@ -8,8 +8,8 @@ use Rattle.yaml_round.specs.declared.settings.yaml_side_t.{yaml_side_t}
 use Rattle.yaml_round.specs.declared.settings.yaml_side_t.TheVariants.{First, Second}
 use Rattle.yaml_round.specs.declared.compare.Next.{Next}
 use Rattle.yaml_round.specs.declared.compare.Next.TheVariants.{Same, End, Different, Refused}
-use Rattle.yaml_round_laws_back.specs.content.Normalize.{normalize_body}
-use Rattle.yaml_round_laws_back.specs.content.Content.{content_of}
+use Rattle.yaml_round_laws_documents.specs.round_laws_back.content.Normalize.{normalize_body}
+use Rattle.yaml_round_laws_documents.specs.round_laws_back.content.Content.{content_of}
 use Rattle.yaml_round.specs.Reading.{contents, AreReal, IsFaultOf}
 
 -- what an event says, normalized

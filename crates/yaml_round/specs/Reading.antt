@@ -12,7 +12,7 @@ use Rattle.yaml_parse.specs.Constructors.{HasUtf8}
 use Rattle.yaml_parse.specs.Resolve.{Told}
 use Rattle.yaml_parse.specs.Remaining.{ParserRemaining}
 use Rattle.yaml_round_lines.specs.EventLine.{event_line}
-pub use Rattle.yaml_round_laws_back.specs.content.Events.{emitter_events, contents}
+pub use Rattle.yaml_round_laws_documents.specs.round_laws_back.content.Events.{emitter_events, contents}
 
 -- ---- events
 

@@ -1,5 +1,5 @@
 -- The documents of an input, loaded one after another, and their text.
-use Rattle.std.specs.Prelude.{◌≡◌, ◌⊎◌, ◌<◌, ℕ, Bool, true, false, List, [], ◌∷◌, length, map, Option, None, Some, Result, Ok, Err}
+use Rattle.std.specs.Prelude.{◌≡◌, ◌⊎◌, ◌<◌, ◌^◌, ℕ, Bool, true, false, List, [], ◌∷◌, length, map, Option, None, Some, Result, Ok, Err}
 use Rattle.yaml_scan.specs.declared.yaml_encoding_t.{yaml_encoding_t}
 use Rattle.yaml_scan.specs.declared.yaml_encoding_t.TheVariants.{YAML_ANY_ENCODING}
 use Rattle.yaml_scan.specs.declared.yaml_fault_t.{yaml_fault_t}
@@ -13,9 +13,11 @@ use Rattle.yaml_emit.specs.Text.{Item}
 use Rattle.yaml_emit.specs.Emitter.{Emitter, Completes}
 use Rattle.yaml_emit.specs.emit_text.declared.Encoding.{Encoding}
 use Rattle.yaml_round.specs.declared.settings.yaml_settings_t.{yaml_settings_t}
-use Rattle.yaml_round_laws_back.specs.content.Loads.{Loads, no_more, load_all, loads_of}
+use Rattle.yaml_round_laws_documents.specs.round_laws_back.content.Loads.{Loads, no_more, load_all, loads_of}
 use Rattle.yaml_round.specs.Writing.{requested_under, IsEachLayout, IsPastEach}
-use Rattle.yaml_round.specs.Answers.{IsLayout, IsPast}
+use Rattle.yaml_round_laws_documents.specs.round_laws_loads.Agree.{AreAgreeing}
+use Rattle.yaml_round_laws_documents.specs.round_laws_dumps.Events.{trees_of_dumps, AreNumerable}
+use Rattle.yaml_round.specs.Answers.{IsLayout, IsPast, canonical_text}
 
 -- ---- what is loaded
 
@@ -36,11 +38,31 @@ IsDumped settings ds (Ok text) = IsLayout (requested_under settings true) settin
 IsDumped settings ds (Err fault) = IsPast (requested_under settings true) settings.limit
     (written_events ds) fault
 
--- The input's documents, laid out; the fault that ends them; or, where none does, a limit that the layout passes.
+-- The text is the normal form of the input's documents: it loads documents that agree with them, no others have it, and it is laid
+-- out again as itself.
+pub record IsNormalOfDocuments (from : yaml_encoding_t) (settings : yaml_settings_t)
+    (input text : List ℕ) : Type 0 where
+  -- it is the canonical text of what they say
+  pub is : text ≡ canonical_text settings (trees_of_dumps (loads_of from input).documents)
+  -- read as its byte order mark tells, it loads documents that agree with them, without a fault
+  pub right : (loads_of YAML_ANY_ENCODING text).fault ≡ None
+  pub agree : AreAgreeing (loads_of from input).documents
+      (loads_of YAML_ANY_ENCODING text).documents
+  -- any input's documents whose text it is agree with them
+  pub only : (other : yaml_encoding_t) (source : List ℕ)
+      → AreNumerable (loads_of other source).documents
+      → canonical_text settings (trees_of_dumps (loads_of other source).documents) ≡ text
+      → AreAgreeing (loads_of from input).documents (loads_of other source).documents
+  -- and it is laid out for the documents that it loads itself
+  pub again : IsDumped settings (loads_of YAML_ANY_ENCODING text).documents (Ok text)
+
+-- The input's documents, laid out, a normal form of them; the fault that ends them; or, where none does, a limit that the layout
+-- passes.
 unfoldable pub IsReloaded : yaml_encoding_t → yaml_settings_t → List ℕ → Result (List ℕ) Fault
     → Type 0
 IsReloaded from settings input (Ok text) = ((loads_of from input).fault ≡ None)
     × IsDumped settings (loads_of from input).documents (Ok text)
+    × IsNormalOfDocuments from settings input text
 IsReloaded from settings input (Err fault) =
     ((loads_of from input).fault ≡ Some fault)
     ⊎ (((loads_of from input).fault ≡ None) × IsDumped settings (loads_of from input).documents
@@ -59,6 +81,7 @@ pub record LoadsDocument (d : Document) (old new : ParserRemaining) : Type 0 whe
   }
   pub less : length new.events < length old.events
   pub rooted : HasRoot d
+  pub small : length d.nodes < 2 ^ 64
 
 abbrev pub LoadsNext : ParserRemaining → Result (Option Document) yaml_fault_t → ParserRemaining
     → Type 0
@@ -73,10 +96,11 @@ IsEachDump settings ds (Ok text) = IsEachLayout (requested_under settings true) 
 IsEachDump settings ds (Err fault) = IsPastEach (requested_under settings true) settings.limit
     (written_events ds) fault
 
--- all documents of an input
+-- all documents of an input, each with fewer nodes than a `usize` can number
 pub record AreLoaded (from : yaml_encoding_t) (input : List ℕ) (ds : List Document) : Type 0 where
   pub same : ds ≡ (loads_of from input).documents
   pub right : (loads_of from input).fault ≡ None
+  pub small : AreNumerable ds
 
 abbrev pub IsLoaded : yaml_encoding_t → List ℕ → Result (List Document) Fault → Type 0
 IsLoaded from input (Ok ds) = AreLoaded from input ds

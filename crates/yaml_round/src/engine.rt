@@ -2,7 +2,7 @@
 
 ghost use Rattle.std.specs.Prelude.{◌≡◌};
 ghost use Rattle.yaml_scan.specs.Faults.{Answers};
-ghost use Rattle.yaml_round_laws_back.specs.content.Input.{ending_of};
+ghost use Rattle.yaml_round_laws_documents.specs.round_laws_back.content.Input.{ending_of};
 ghost use Rattle.yaml_round.specs.Reading.{AreReal, AddsLines};
 ghost use Rattle.yaml_round.specs.Answers.{IsReformatted, IsInCanonicalForm, IsJudged, IsWritten, IsListed, text_and_form, bytes_of};
 ghost use Rattle.yaml_round.specs.Writing.{WritesAll};

@@ -3,7 +3,7 @@
 ghost use Rattle.std.specs.Prelude.{◌≡◌, true, IfOk, IfErr};
 ghost use Rattle.yaml_scan.specs.Faults.{IsMemoryFault};
 ghost use Rattle.yaml_parse.specs.Events.{event_of};
-ghost use Rattle.yaml_round_laws_back.specs.content.Input.{Reads};
+ghost use Rattle.yaml_round_laws_documents.specs.round_laws_back.content.Input.{Reads};
 ghost use Rattle.yaml_round.specs.Reading.{AreReal, Finds, EndsWith};
 
 use std::alloc::Global;

@@ -5,7 +5,7 @@ use Rattle.yaml_scan.specs.Remaining as scan
 use Rattle.yaml_parse.specs.Resolve.{Reading, no_directives}
 use Rattle.yaml_parse.specs.Machine.{initial}
 use Rattle.yaml_round.specs.Reading.{AreReal}
-use Rattle.yaml_round_laws_back.specs.content.Input.{tokens_of, parsed, read}
+use Rattle.yaml_round_laws_documents.specs.round_laws_back.content.Input.{tokens_of, parsed, read}
 use Rattle.yaml_round.proofs.Real.{read_real}
 use Rattle.yaml_round.proofs.reading.reading_of.Goals as goal
 

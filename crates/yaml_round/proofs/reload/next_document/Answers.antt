@@ -11,4 +11,4 @@ returns-then-node_count-eq0-clause-next c =
 pub returns-else-node_count-eq0-clause-next : goal.returns-else-node_count-eq0-clause-next
 returns-else-node_count-eq0-clause-next c =
     loaded_document c.args.reading.now c.yaml_parser_load.new.parser c.in-Ok.document c.yaml_document_set_end_implicit.new.document c.node_count.result
-    c.in-Ok.ensures.ok c.node_count.ensures c.if-node_count-eq0.false c.yaml_document_set_end_implicit.ensures
+    c.in-Ok.ensures.ok c.node_count.ensures c.node_count.type_inv c.if-node_count-eq0.false c.yaml_document_set_end_implicit.ensures

@@ -1,0 +1,45 @@
+-- What is written of an input's documents is a normal form of them.
+use Rattle.std.proofs.Common.{◌≡◌, ℕ, true, List, map, Option, None, Ok, refl, sym, ap, subst, ◌∙◌}
+use Rattle.yaml_scan.specs.declared.yaml_encoding_t.{yaml_encoding_t}
+use Rattle.yaml_scan.specs.declared.yaml_encoding_t.TheVariants.{YAML_ANY_ENCODING}
+use Rattle.yaml_emit.specs.Text.{encode}
+use Rattle.yaml_emit.specs.Within.{Fits}
+use Rattle.yaml_round_laws_documents.specs.round_laws_back.content.Said as content
+use Rattle.yaml_round_laws_documents.specs.round_laws_back.content.Loads.{Loads, loads_of}
+use Rattle.yaml_round_laws_documents.specs.round_laws_back.content.Canon.{canon_items, canon_encoding}
+use Rattle.yaml_round_laws_documents.specs.round_laws_dumps.Events.{trees_of_dumps, AreNumerable}
+use Rattle.yaml_round_laws_documents.specs.Normal.{LoadsAgain}
+use Rattle.yaml_round_laws_documents.proofs.Laid.{laid_out}
+use Rattle.yaml_round_laws_documents.proofs.Whole.{load_again, tell_documents}
+use Rattle.yaml_round.specs.declared.settings.yaml_settings_t.{yaml_settings_t}
+use Rattle.yaml_round.specs.Writing.{requested_under}
+use Rattle.yaml_round.specs.Answers.{canonical_text}
+use Rattle.yaml_round.specs.Reload.{IsEachDump, IsDumped, IsNormalOfDocuments}
+use Rattle.yaml_round.proofs.Normal.{canonical_under}
+
+-- what the canonical text of documents loads is laid out as that text
+dumped_again : (s : yaml_settings_t) (c : List content.Document) (text : List ℕ) → text ≡ canonical_text s c → Fits s.limit (canon_encoding (requested_under s true)) (canon_items (requested_under s true) c)
+    → c ≡ trees_of_dumps (loads_of YAML_ANY_ENCODING text).documents → IsDumped s (loads_of YAML_ANY_ENCODING text).documents (Ok text)
+dumped_again s c text is fits says =
+    let w = requested_under s true in record {
+      encoding = canon_encoding w;
+      whole = canon_items w (trees_of_dumps (loads_of YAML_ANY_ENCODING text).documents);
+      stream = laid_out w (canonical_under s) YAML_ANY_ENCODING text;
+      is = is ∙ ap (λ (e : List content.Document). encode (canon_encoding w) (canon_items w e)) says;
+      fits = subst (λ (e : List content.Document). Fits s.limit (canon_encoding w) (canon_items w e)) says fits;
+    }
+
+pub in_normal_documents : (from : yaml_encoding_t) (s : yaml_settings_t) (input text : List ℕ) → AreNumerable (loads_of from input).documents → IsEachDump s (loads_of from input).documents (Ok text)
+    → IsNormalOfDocuments from s input text
+in_normal_documents from s input text small each =
+    let w = requested_under s true in
+    let c : List content.Document = trees_of_dumps (loads_of from input).documents in
+    let t = each (canon_encoding w) (canon_items w c) (laid_out w (canonical_under s) from input) in
+    let l : LoadsAgain w (loads_of from input).documents text = subst (LoadsAgain w (loads_of from input).documents) (sym t.is) (load_again w refl from input small) in
+    record {
+      is = t.is;
+      right = l.right;
+      agree = l.agree;
+      only = λ other source little e. (tell_documents w refl from input small other source little).0 (sym t.is ∙ sym e);
+      again = dumped_again s c text t.is t.fits l.says;
+    }

@@ -24,7 +24,8 @@ abbrev pub Keyed : List Bool → List Lexeme → Type 0
 Keyed [] [] = Unit {0}
 Keyed [] (l ∷ h) = ⊥
 Keyed (m ∷ ms) [] = ⊥
-Keyed (m ∷ ms) (l ∷ h) = IsKeyedBy m l h × ((is_start l.kind && not (nat_lt 0 l.depth)) ≡ false) × (levels h ≡ []) × Keyed ms h
+Keyed (m ∷ ms) (l ∷ h) = IsKeyedBy m l h
+    × ((is_start l.kind && not (nat_lt 0 l.depth)) ≡ false) × (levels h ≡ []) × Keyed ms h
 
 abbrev pub bare : Bool → Lexeme → Entry
 bare key l = record { lexeme = l; ends = 0; opens = opening.Nothing; key = key }
@@ -36,4 +37,5 @@ marked_entries key (m ∷ ms) [] = []
 marked_entries key (m ∷ ms) (l ∷ h) = marked_entries m ms h ++ bare key l ∷ []
 
 abbrev pub EntriesAreKeyed : Type 0
-EntriesAreKeyed = (ms : List Bool) (h : List Lexeme) → Keyed ms h → entries h ≡ marked_entries false ms h
+EntriesAreKeyed = (ms : List Bool) (h : List Lexeme) → Keyed ms h
+    → entries h ≡ marked_entries false ms h

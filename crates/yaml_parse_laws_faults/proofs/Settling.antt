@@ -37,10 +37,6 @@ abbrev pub read_all : List RawEvent → Directives → Done
 read_all [] ds = fine ds
 read_all (i ∷ is) ds = then_read (settle i ds) (λ d. read_all is d)
 
-abbrev pub read_on : Done → (Directives → Done) → Done
-read_on (bad f) k = bad f
-read_on (fine ds) k = k ds
-
 -- no fault, and the directives as they were
 abbrev pub Quiet : Option RawEvent → Type 0
 Quiet None = Unit {0}
@@ -133,9 +129,6 @@ none_agree = record { version = refl; handles = λ h. refl }
 abbrev pub Behind : Option Fault → List Token → Done → Type 0
 Behind fault ts (bad e) = fault ≡ Some e
 Behind fault ts (fine ds) = (fault ≡ None) × Agree ts ds
-
-token_of : TokenBody → yaml_mark_t → yaml_mark_t → Token
-token_of b start end = record { body = b; start_mark = start; end_mark = end }
 
 version_done : (v : Option yaml_version_directive_t) (tags : List TagDirective) (known : Bool) (major minor : ℤ) (start end : yaml_mark_t) (ts : List Token)
     → is_known_version major minor ≡ known → Agree ts (record { version = v; tags = tags })

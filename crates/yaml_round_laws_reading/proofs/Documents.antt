@@ -1,11 +1,10 @@
 -- The events that are read of a tree say its content.
-use Rattle.std.proofs.Common.{◌≡◌, ℕ, ℤ, Bool, true, false, if◌then◌else◌, List, [], ◌∷◌, ◌++◌, Option, Some, None, refl, ap, sym, subst, ◌∙◌}
+use Rattle.std.proofs.Common.{◌≡◌, ℕ, ℤ, Bool, true, false, if◌then◌else◌, List, [], ◌∷◌, ◌++◌, Option, Some, None, refl, ap, sym, ◌∙◌}
 use Rattle.std.proofs.lemmas.List.{append_assoc, append-nil}
 use Rattle.yaml_parse_laws_faults.specs.grammar.parse_model.declared.yaml_mark_t.{yaml_mark_t}
 use Rattle.yaml_parse_laws_faults.specs.grammar.parse_model.declared.yaml_version_directive_t.{yaml_version_directive_t}
 use Rattle.yaml_parse_laws_faults.specs.grammar.parse_model.declared.yaml_encoding_t.TheVariants.{YAML_ANY_ENCODING}
 use Rattle.yaml_parse_laws_faults.specs.grammar.parse_model.Tokens.{Token}
-use Rattle.yaml_parse_laws_faults.specs.grammar.parse_model.Tokens as token
 use Rattle.yaml_parse_laws_faults.specs.grammar.parse_model.Faults.{Fault}
 use Rattle.yaml_parse_laws_faults.specs.grammar.parse_model.Events.{EventBody, TagDirective}
 use Rattle.yaml_parse_laws_faults.specs.grammar.parse_model.Events as event
@@ -101,8 +100,8 @@ documents_read (tree.document ds s root ends more) rest e =
     let gs : List Given = (item_at (item.document false) (tree.start_of ds s) s.to, _) ∷ items_maybe root Root s.to (spell_ends ends (spell_documents more rest)) (items_ends ends (spell_documents more rest) (items_documents more rest)) in
     let p : reading (items_documents (tree.document ds s root ends more) rest) None no_directives ≡ reading gs None (directives (version_in ds) (tags_in ds)) = directives_read ds _ gs None None [] e in
     let c : SaysIf (λ es. event.document_start (version_in ds) (tags_in ds) true ∷ node_says (maybe_of (tags_in ds) root) (event.document_end true ∷ es)) (reading gs None (directives (version_in ds) (tags_in ds))) (reading (items_documents more rest) None no_directives) =
-        both (document_read false (tree.start_of ds s) s.to _ _ None (directives (version_in ds) (tags_in ds)))
-        (both (maybe_reads root Root s.to _ _ None (directives (version_in ds) (tags_in ds))) (more_ends ends _ (items_documents more rest) None (directives (version_in ds) (tags_in ds)))) in
+    both (document_read false (tree.start_of ds s) s.to _ _ None (directives (version_in ds) (tags_in ds)))
+    (both (maybe_reads root Root s.to _ _ None (directives (version_in ds) (tags_in ds))) (more_ends ends _ (items_documents more rest) None (directives (version_in ds) (tags_in ds)))) in
     let k : (reading gs None (directives (version_in ds) (tags_in ds))).ending ≡ None = right_behind _ _ p e in
     ap (λ (x : Reading). contents x.events) p
     ∙ c.says k
@@ -114,7 +113,7 @@ unfolding documents_say
 first_read tree.no_first d rest e = documents_read d rest e
 first_read (tree.first n ends) d rest e =
     let c : SaysIf (λ es. event.document_start None [] true ∷ node_says (node_of [] n) (event.document_end true ∷ es)) (reading (items_first (tree.first n ends) (spell_documents d rest) (items_documents d rest)) None no_directives) (reading (items_documents d rest) None no_directives) =
-        both (document_read true _ _ _ _ None no_directives) (both (node_reads n _ _ None no_directives) (more_ends ends _ (items_documents d rest) None no_directives)) in
+    both (document_read true _ _ _ _ None no_directives) (both (node_reads n _ _ None no_directives) (more_ends ends _ (items_documents d rest) None no_directives)) in
     c.says e ∙ ap (λ (es : List EventBody). event.document_start None [] true ∷ node_says (node_of [] n) (event.document_end true ∷ es)) (documents_read d rest (c.right e))
 
 -- The events of a tree in order say its content.

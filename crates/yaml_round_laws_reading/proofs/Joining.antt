@@ -1,28 +1,27 @@
 -- The plain reading of an input is what the machine reads.
-use Rattle.std.proofs.Common.{◌≡◌, ℕ, List, [], ◌∷◌, ◌++◌, Option, Some, None, Result, Ok, Err, refl, ap, sym, subst, ◌∙◌}
+use Rattle.std.proofs.Common.{◌≡◌, ℕ, List, Option, Some, None, Result, Ok, Err, refl, ap, sym, subst, ◌∙◌}
 use Rattle.yaml_parse_laws_faults.specs.grammar.parse_model.declared.yaml_encoding_t.{yaml_encoding_t}
 use Rattle.yaml_parse_laws_faults.specs.grammar.parse_model.Tokens.{Token}
 use Rattle.yaml_parse_laws_faults.specs.grammar.parse_model.Faults.{Fault}
-use Rattle.yaml_parse_laws_faults.specs.grammar.parse_model.Events.{EventBody}
-use Rattle.yaml_parse_laws_faults.specs.grammar.Trees.{spell, items}
+use Rattle.yaml_parse_laws_faults.specs.grammar.Trees.{items}
 use Rattle.yaml_parse_laws_faults.specs.grammar.Machine.{Outcome, run, initial}
-use Rattle.yaml_parse_laws_faults.specs.grammar.Resolve.{Reading, Told, reading, no_directives}
+use Rattle.yaml_parse_laws_faults.specs.grammar.Resolve.{Reading, reading, no_directives}
 use Rattle.yaml_parse_laws_faults.specs.grammar.Remaining.{reading_of}
 use Rattle.yaml_parse_laws_faults.proofs.grammar.CompleteStream.{stream_runs}
 use Rattle.yaml_parse_laws_faults.specs.Places.{BeginsWithSentence, FaultOfTokens}
 use Rattle.yaml_parse_laws_faults.proofs.Ending.{ends_in_fault, fault_ends}
 use Rattle.yaml_round_content.specs.Events.{contents}
-use Rattle.yaml_round_content.specs.Input.{tokens_of, parsed, read, events_of, ending_of}
+use Rattle.yaml_round_content.specs.Input.{tokens_of, read, events_of, ending_of}
 use Rattle.yaml_round_content.specs.Said.{Document, HasContent, stream_says}
 use Rattle.yaml_round_content.proofs.Injective.{says_injective}
 use Rattle.yaml_round_laws_reading.specs.TreeContent.{tree_content}
-use Rattle.yaml_round_laws_reading.specs.Reading.{HaveContent, TokensRead, PlainReading, InputsRead, ReadingIsOne, RefusedIsRead, ReadIsRefused, SaidIsRead, ReadIsSaid, EventsAreOfTree}
+use Rattle.yaml_round_laws_reading.specs.Reading.{TokensRead, InputsRead, ReadingIsOne, RefusedIsRead, ReadIsRefused, SaidIsRead, ReadIsSaid, EventsAreOfTree}
 use Rattle.yaml_round_laws_reading.proofs.Spelling.{spelled_before}
 use Rattle.yaml_round_laws_reading.proofs.Documents.{tree_says}
 
 -- ---- tokens
 
-abbrev reads : List Token → Option Fault → Reading
+abbrev pub reads : List Token → Option Fault → Reading
 reads ts own = reading_of (run ts initial own) no_directives
 
 -- a list that begins with a sentence is read as its tree's items are
@@ -30,7 +29,7 @@ tree_read : (ts : List Token) (own : Option Fault) (b : BeginsWithSentence ts) �
 tree_read ts own b =
     ap (λ (us : List Token). reads us own) (b.same ∙ spelled_before b.tree b.rest) ∙ ap (λ (o : Outcome). reading_of o no_directives) (stream_runs b.tree b.rest own)
 
-tokens_say : (ts : List Token) (own : Option Fault) (b : BeginsWithSentence ts) → contents (reads ts own).events ≡ stream_says (tree_content b.tree)
+pub tokens_say : (ts : List Token) (own : Option Fault) (b : BeginsWithSentence ts) → contents (reads ts own).events ≡ stream_says (tree_content b.tree)
 tokens_say ts own b =
     let p : reads ts own ≡ reading (items b.tree b.rest) None no_directives = tree_read ts own b in
     ap (λ (r : Reading). contents r.events) p ∙ tree_says b.tree b.rest (ap (λ (r : Reading). r.ending) (sym p) ∙ fault_ends ts own None b)

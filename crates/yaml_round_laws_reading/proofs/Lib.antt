@@ -2,3 +2,4 @@ mod Spelling
 mod Saying
 mod Documents
 mod Joining
+mod Rows

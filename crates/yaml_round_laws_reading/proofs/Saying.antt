@@ -1,5 +1,5 @@
 -- The events that are read of a tree's nodes say the tree's content.
-use Rattle.std.proofs.Common.{◌≡◌, ◌⊎◌, inl, inr, ℕ, Bool, true, false, if◌then◌else◌, ◌&&◌, ◌||◌, ◌==◌, List, [], ◌∷◌, ◌++◌, length, map, Option, Some, None, option_map, codes, arith, refl, ap, sym, subst, ◌∙◌}
+use Rattle.std.proofs.Common.{◌≡◌, ◌⊎◌, inl, inr, ℕ, Bool, true, false, if◌then◌else◌, ◌&&◌, ◌==◌, List, [], ◌∷◌, ◌++◌, length, Option, Some, None, option_map, codes, arith, refl, ap, sym, subst, ◌∙◌}
 use Rattle.std.specs.Str.{bytes_eq}
 use Rattle.std.proofs.lemmas.Bool.{cases_Bool}
 use Rattle.std.proofs.lemmas.Bool.Decides.{nat_tests}
@@ -200,6 +200,7 @@ blank_read at left gs f D = node_read None None item.empty at at left gs f D
 
 mutual
   unfolding node_says items_say pairs_say
+
   pub node_reads : {w : Wants} (n : tree.Node w) (rest : List Token) (gs : List Given) (f : Option Fault) (D : Directives) → SaysIf (λ es. node_says (node_of D.tags n) es) (reading (items_node n rest gs) f D) (reading gs f D)
   node_reads (tree.alias s name) rest gs f D = alias_read name s.from s.to _ gs f D
   node_reads (tree.only_properties d) rest gs f D = node_read (properties_of d).anchor (properties_of d).tag item.empty (properties_of d).from (properties_of d).to _ gs f D

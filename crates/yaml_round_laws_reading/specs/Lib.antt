@@ -1,2 +1,3 @@
 pub mod TreeContent
 pub mod Reading
+pub mod Rows

@@ -3,6 +3,7 @@
 #![tactic(auto)]
 
 ghost use Rattle.yaml_round_laws_reading.specs.Reading.{EventsAreOfTree, InputsRead, ReadIsRefused, ReadIsSaid, ReadingIsOne, RefusedIsRead, SaidIsRead};
+ghost use Rattle.yaml_round_laws_reading.specs.Rows.{RowsHold};
 
 /// Each input has a plain reading: a content, or a fault.
 pub fn each_input_has_a_reading()
@@ -37,4 +38,9 @@ pub fn read_is_said()
 /// The events of an accepted input are those of its tree, their tags resolved.
 pub fn events_are_of_the_tree()
     ensures { EventsAreOfTree }
+{}
+
+/// Lists of tokens with their contents.
+pub fn rows_of_contents_hold()
+    ensures { RowsHold }
 {}

@@ -1,0 +1,6 @@
+//! Laws of what `yaml_reload` answers, for users: each follows from the definitions that the calls' contracts name. No code.
+#![tactic(auto)]
+
+mod laws;
+
+pub use laws::{answers_and_reloads_agree, names_leave_reloads, reloads_tell_documents};

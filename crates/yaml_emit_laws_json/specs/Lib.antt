@@ -1,4 +1,5 @@
 pub mod Json
+pub mod Bodies
 pub mod Laws
 -- what it stands on, for crates of laws that name this one alone
 pub use Rattle.yaml_scan_laws_plain.specs as scan_laws_plain

@@ -54,7 +54,7 @@ use Rattle.yaml_emit_laws_json.proofs.Layouts.{plain_laid_out}
 use Rattle.yaml_emit_laws_keys.specs.emit_laws_quoted.Laws.{QuotedIsReadBack}
 use Rattle.yaml_emit_laws_keys.specs.Laws.{QuotedKeysAreNear}
 use Rattle.yaml_emit_laws_pretty.specs.Walk.{put_key, keyed_bodies, Stands, GoesOn}
-use Rattle.yaml_emit_laws_pretty.specs.Bodies.{json_bodies, start_bodies, stop_bodies, document_bodies}
+use Rattle.yaml_emit_laws_json.specs.Bodies.{json_bodies, start_bodies, stop_bodies, document_bodies}
 use Rattle.yaml_emit_laws_pretty.specs.Laws.{JsonTextIsRead}
 use Rattle.yaml_emit_laws_pretty.proofs.Plain.{done, plain_said, plain_here, value_written, or_right, or_left}
 use Rattle.yaml_emit_laws_pretty.proofs.Nodes.{prettily, body_of, quoted_scalar, sequence_walks, mapping_walks, first_walk, first_pairs_walk, node_blanks}
@@ -155,7 +155,7 @@ threes text p x low kept rest l =
 -- ---- behind the root
 
 -- an explicit end has `...`
-abbrev ending : Settings → Bool → Layout
+abbrev pub ending : Settings → Bool → Layout
 ending s implicit = when (not implicit) (dots s) ▹ stop_layout s implicit
 
 no_stop : (s : Settings) (implicit kept : Bool) → kept ≡ false → (text : List ℕ) (p : ℕ) → Left text p (bytes (stop_layout s implicit (at_line kept) nothing_more)) → Left text p (bytes [])
@@ -230,11 +230,11 @@ ending_stops s false kept e text r starts l =
     let column = starts (λ z. let h = t.first in absurd (omega (arith, z, h))) in
     value_ends false 0 text r (or_left (byte text r == 0 || is_document_indicator text r) false (or_right (byte text r == 0) (is_document_indicator text r) (dots_indicate text r column t.first t.second t.third blank)))
 
-abbrev pretty : Settings → Settings
+abbrev pub pretty : Settings → Settings
 pretty s = (prettily s []).settings
 
 -- a line, and what ends the document and the stream
-abbrev behind_root : Settings → Bool → Layout
+abbrev pub behind_root : Settings → Bool → Layout
 behind_root s implicit = line s.line_break 0 ▹ ending (pretty s) implicit
 
 -- a root, with what comes behind it
@@ -309,10 +309,10 @@ opening_is s o v d =
     ap (λ (x : Option yaml_version_directive_t). let q : Opening = record { version = x; directives = o.directives; implicit = o.implicit } in start_layout (pretty s) true false q) v
     ∙ ap (λ (x : List TagDirective). let q : Opening = record { version = None; directives = x; implicit = o.implicit } in start_layout (pretty s) true false q) d ∙ opening_by s o.implicit
 
-abbrev root_on : Settings → Document → Layout
+abbrev pub root_on : Settings → Document → Layout
 root_on s d = node_layout (prettily s []) root_spot d.root ▹ behind_root s d.implicit_end
 
-document_is : (s : Settings) (d : Document) → IsJsonDocument d → documents_layout (pretty s) true false (d ∷ []) ≡ ((keep false ▹ when (not d.opening.implicit) (dashes (pretty s))) ▹ root_on s d)
+pub document_is : (s : Settings) (d : Document) → IsJsonDocument d → documents_layout (pretty s) true false (d ∷ []) ≡ ((keep false ▹ when (not d.opening.implicit) (dashes (pretty s))) ▹ root_on s d)
 unfolding documents_layout end_layout
 document_is s d is =
     ap (λ (x : List TagDirective). start_layout (pretty s) true false d.opening ▹ (node_layout (context_of (pretty s) x) root_spot d.root ▹ behind_root s d.implicit_end)) is.directives
@@ -358,7 +358,7 @@ read_by x text B e =
       same = ap (λ (bs : List TokenBody). tokens.stream_start x ∷ bs) (bodies_of text false e.words [] ∙ e.bodies);
     }
 
-same_settings : (s : Settings) → s.canonical ≡ false → pretty s ≡ s
+pub same_settings : (s : Settings) → s.canonical ≡ false → pretty s ≡ s
 same_settings s e = ap (λ (c : Bool). record { encoding = s.encoding; canonical = c; indent = s.indent; width = s.width; unicode = s.unicode; line_break = s.line_break }) (sym e)
 
 text_ended : QuotedIsReadBack → QuotedKeysAreNear → (s : Settings) → 0 < s.indent → (x : yaml_encoding_t) (d : Document) → IsJsonDocument d → IsWritable d.root

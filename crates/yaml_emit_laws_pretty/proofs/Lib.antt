@@ -1,5 +1,5 @@
 mod Steps
 mod Words
 mod Plain
-mod Nodes
-mod Documents
+pub mod Nodes
+pub mod Documents

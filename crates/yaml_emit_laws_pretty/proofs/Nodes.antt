@@ -31,7 +31,7 @@ use Rattle.yaml_emit_laws_text.specs.Walk.{bytes, first}
 use Rattle.yaml_emit_laws_text.specs.Writable.{IsWritable, AreItemsWritable, ArePairsWritable}
 use Rattle.yaml_emit_laws_text.proofs.Steps.{letter_low, deep_bytes}
 use Rattle.yaml_emit_laws_pretty.specs.Walk.{WalksTo, WalksIn, closes, Closes}
-use Rattle.yaml_emit_laws_pretty.specs.Bodies.{json_bodies, json_items, json_pairs}
+use Rattle.yaml_emit_laws_json.specs.Bodies.{json_bodies, json_items, json_pairs}
 use Rattle.yaml_emit_laws_pretty.specs.Laws.{JsonNodesAreWords}
 use Rattle.yaml_emit_laws_pretty.proofs.Steps.{walks_wrap, walks_checked, both, in_both, to_in}
 use Rattle.yaml_emit_laws_pretty.proofs.Words.{sequence_opens, mapping_opens, sequence_closes, mapping_closes, comma_walks, question_walks, colon_walks, quoted_walks, quoted_key_walks}

@@ -14,7 +14,7 @@ use Rattle.yaml_emit_laws_json.specs.emit_layout.scan.Tokens.{stream_start}
 use Rattle.yaml_emit_laws_text.specs.Writable.{IsWritable}
 use Rattle.yaml_emit_laws_text.specs.Laws.{text_of_documents, IsReadAs}
 use Rattle.yaml_emit_laws_pretty.specs.Walk.{WalksIn, Closes}
-use Rattle.yaml_emit_laws_pretty.specs.Bodies.{json_bodies, document_bodies}
+use Rattle.yaml_emit_laws_json.specs.Bodies.{json_bodies, document_bodies}
 
 -- Wherever a text goes on as the pretty layout of a node shaped as JSON in brackets, it goes on with the
 -- node's words. A comma or a closing bracket comes behind it.

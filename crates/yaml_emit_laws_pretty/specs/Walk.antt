@@ -24,7 +24,8 @@ keyed_bodies key (w ∷ ws) bs = keyed_bodies (takes_key w.kind (lasts (word_kin
 
 -- Words stand in the text up to a gap that goes up to the place, each key near its `:`; what came last
 -- in the open brackets is told.
-pub record Stands (text : List ℕ) (c : Cursor) (p : ℕ) (ws : List Word) (ms : List Last) : Type 0 where
+pub record Stands (text : List ℕ) (c : Cursor) (p : ℕ) (ws : List Word)
+    (ms : List Last) : Type 0 where
   pub stage : Stage text c p ws (length ms)
   pub last : lasts (word_kinds ws) ≡ ms
   pub keyed : is_keyed (word_kinds ws) ≡ true

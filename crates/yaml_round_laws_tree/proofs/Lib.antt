@@ -1,4 +1,4 @@
 mod Premises
-mod Growing
+pub mod Growing
 pub mod Documents
 pub mod Passing

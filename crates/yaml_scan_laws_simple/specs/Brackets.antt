@@ -1,4 +1,5 @@
--- Kinds of lexemes, the newest first, in which each `:` stands behind a `?` or directly behind its key.
+-- Kinds of lexemes, the newest first, in which each `:` stands behind a `?` or directly behind its
+-- key.
 use Rattle.std.specs.Prelude.{Bool, true, false, ◌&&◌, List, [], ◌∷◌}
 use Rattle.yaml_scan_laws_keys.specs.scan_history.declared.kind.Kind.{Kind}
 use Rattle.yaml_scan_laws_keys.specs.scan_history.declared.kind.Kind.TheVariants as kinds
@@ -101,7 +102,8 @@ abbrev pub is_open : List Last → Bool
 is_open [] = false
 is_open (m ∷ ms) = true
 
--- `?` stands in brackets, and `:` behind its key or a `?`; block marks and block scalars have no place
+-- `?` stands in brackets, and `:` behind its key or a `?`; block marks and block scalars have no
+-- place
 abbrev pub fits_keyed : Kind → List Last → Bool
 fits_keyed kinds.KeyMark ms = is_open ms
 fits_keyed kinds.ValueMark ms = may_have_value (last_in ms)

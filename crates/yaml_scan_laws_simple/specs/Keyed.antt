@@ -6,7 +6,8 @@ use Rattle.yaml_scan_laws_keys.specs.scan_history.declared.lexeme.Opens.TheVaria
 use Rattle.yaml_scan_laws_keys.specs.scan_history.Kinds.{is_value, is_start}
 use Rattle.yaml_scan_laws_keys.specs.scan_history.History.{is_fresh, found_by, entries, levels}
 
--- a `:` stands directly behind a scalar that may be its key: on its line, and at most 1,024 bytes from its start
+-- a `:` stands directly behind a scalar that may be its key: on its line, and at most 1,024 bytes from
+-- its start
 pub record Direct (l k : Lexeme) : Type 0 where
   pub value : is_value l.kind ≡ true
   pub saved : k.saved ≡ true
@@ -20,12 +21,15 @@ IsKeyedBy false l h = is_value l.kind ≡ true → found_by l h ≡ None
 IsKeyedBy true l [] = ⊥
 IsKeyedBy true l (k ∷ h) = Direct l k
 
+-- each `:` meets no candidate or its own, and no level opens
 abbrev pub Keyed : List Bool → List Lexeme → Type 0
 Keyed [] [] = Unit {0}
 Keyed [] (l ∷ h) = ⊥
 Keyed (m ∷ ms) [] = ⊥
-Keyed (m ∷ ms) (l ∷ h) = IsKeyedBy m l h × ((is_start l.kind && not (nat_lt 0 l.depth)) ≡ false) × (levels h ≡ []) × Keyed ms h
+Keyed (m ∷ ms) (l ∷ h) = IsKeyedBy m l h
+    × ((is_start l.kind && not (nat_lt 0 l.depth)) ≡ false) × (levels h ≡ []) × Keyed ms h
 
+-- a lexeme's entry, with KEY or without
 abbrev pub bare : Bool → Lexeme → Entry
 bare key l = record { lexeme = l; ends = 0; opens = opening.Nothing; key = key }
 
@@ -35,5 +39,7 @@ marked_entries key [] h = []
 marked_entries key (m ∷ ms) [] = []
 marked_entries key (m ∷ ms) (l ∷ h) = marked_entries m ms h ++ bare key l ∷ []
 
+-- The entries of such lexemes are themselves, with KEY where a `:` stands directly behind.
 abbrev pub EntriesAreKeyed : Type 0
-EntriesAreKeyed = (ms : List Bool) (h : List Lexeme) → Keyed ms h → entries h ≡ marked_entries false ms h
+EntriesAreKeyed = (ms : List Bool) (h : List Lexeme) → Keyed ms h
+    → entries h ≡ marked_entries false ms h

@@ -1,0 +1,3 @@
+mod Growing
+mod Documents
+mod Passing

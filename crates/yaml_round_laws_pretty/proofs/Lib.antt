@@ -1,0 +1,2 @@
+mod Nodes
+mod Joining

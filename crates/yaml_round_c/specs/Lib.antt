@@ -1,3 +1,5 @@
 pub mod Numbers
 pub mod Settings
 pub mod Told
+pub mod Records
+pub mod Listing

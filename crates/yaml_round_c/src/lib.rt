@@ -4,9 +4,14 @@
 
 mod answer;
 mod engine;
+mod listing;
 mod number;
+mod parsing;
+mod record;
 mod settings;
 
 pub use answer::{yaml_c_answer, yaml_c_mark};
 pub use engine::{yaml_c_events, yaml_c_reformat, yaml_c_reload, yaml_c_same};
+pub use parsing::{yaml_c_parse, yaml_c_parsed};
+pub use record::{yaml_c_directive, yaml_c_event, yaml_c_span};
 pub use settings::{yaml_c_defaults, yaml_c_settings};

@@ -200,7 +200,9 @@ int32_t yaml_c_same(const uint8_t *first, size_t first_len, int32_t first_from, 
 /* A line for each event of the input. */
 int32_t yaml_c_events(const uint8_t *input, size_t len, int32_t from, yaml_c_answer *answer);
 
-/* All events of the input as records, with their marks. Where the input is refused there are none. */
+/* The two below aren't in the library yet: their records stand here so that callers can be written.
+ *
+ * All events of the input as records, with their marks. Where the input is refused there are none. */
 int32_t yaml_c_parse(const uint8_t *input, size_t len, int32_t from, yaml_c_parsed *parsed, yaml_c_answer *answer);
 
 /* The text of events that are given as records. Spans of `anchor`, `tag`, `value`, `handle` and `prefix` lie within

@@ -25,6 +25,10 @@ parted None p ts e = absurd (cc)
 parted (Some y) None ts e = absurd (cc)
 parted (Some y) (Some ys) ts e = record { first = y; others = ys; first_is = refl; others_are = refl; all = some_list (y ∷ ys) ts e }
 
+ap2_front : (o : Option TagDirective) (p : Option (List TagDirective)) (y : TagDirective) (ys : List TagDirective) → o ≡ Some y → p ≡ Some ys
+    → in_front o p ≡ Some (y ∷ ys)
+ap2_front o p y ys e f = rw (e, f) refl
+
 -- one more directive
 snoc : (bytes : List ℕ) (ds : List yaml_c_directive) (d : yaml_c_directive) (ts : List TagDirective) (t : TagDirective)
     → all_directives bytes ds ≡ Some ts → directive_at bytes d ≡ Some t → all_directives bytes (ds ++ d ∷ []) ≡ Some (ts ++ t ∷ [])
@@ -32,14 +36,15 @@ unfolding all_directives
 snoc bytes [] d ts t e f = rw (f, some_list [] ts e) refl
 snoc bytes (x ∷ ds) d ts t e f =
     let h = parted (directive_at bytes x) (all_directives bytes ds) ts e in
-    rw (h.first_is, snoc bytes ds d h.others t h.others_are f, h.all) refl
+    ap2_front (directive_at bytes x) (all_directives bytes (ds ++ d ∷ [])) h.first (h.others ++ t ∷ []) h.first_is (snoc bytes ds d h.others t h.others_are f)
+    ∙ ap (λ z. Some (z ++ t ∷ [])) (sym h.all)
 
 same_length : (bytes : List ℕ) (ds : List yaml_c_directive) (ts : List TagDirective) → all_directives bytes ds ≡ Some ts → length ds ≡ length ts
 unfolding all_directives
 same_length bytes [] ts e = rw (some_list [] ts e) refl
 same_length bytes (x ∷ ds) ts e =
     let h = parted (directive_at bytes x) (all_directives bytes ds) ts e in
-    rw h.all (ap suc (same_length bytes ds h.others h.others_are))
+    ap suc (same_length bytes ds h.others h.others_are) ∙ sym (ap length h.all)
 
 still : (old new : List ℕ) (ds : List yaml_c_directive) (ts : List TagDirective) → Grows old new → HoldDirectives old ds ts → HoldDirectives new ds ts
 still old new ds ts g h more =
@@ -83,3 +88,8 @@ none_put l = record {
   hold = λ more. refl;
   events = refl;
 }
+
+-- the directives of a list up to a place, and the next one
+pub up_to_next : {A B : Type 0} (f : A → B) (xs : List A) (k : ℕ) (x : A) → k < length xs → x ≡ get_or xs k x
+    → map f (take (k + 1) xs) ≡ map f (take k xs) ++ f x ∷ []
+up_to_next f xs k x h e = grind (arith, common_steps, take-suc)

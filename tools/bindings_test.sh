@@ -69,25 +69,14 @@ has_sanitizer() {
     $compiler -fsanitize=address,undefined -o "$work/empty" "$work/empty.c" 2>/dev/null && "$work/empty" 2>/dev/null
 }
 
-# The example needs all calls.
-has_events=
-if nm "$library/libyaml_c.a" 2>/dev/null | grep -q 'T yaml_c_emit$'; then
-    has_events=1
-else
-    say "the library has no yaml_c_parse and yaml_c_emit: the C example isn't built"
-fi
 heap=-Wl,--wrap=malloc,--wrap=realloc,--wrap=free
-if [ $has_events ]; then
-    compile archive example.c "$library/libyaml_c.a" && example archive
-    compile shared example.c "$library/libyaml_c.so" -Wl,-rpath,"$library" && example shared
-fi
+compile archive example.c "$library/libyaml_c.a" && example archive
+compile shared example.c "$library/libyaml_c.so" -Wl,-rpath,"$library" && example shared
 compile hostile check.c "$library/libyaml_c.a" $heap && hostile hostile
 if has_sanitizer; then
     sanitized='-fsanitize=address,undefined -fno-sanitize-recover=all'
-    if [ $has_events ]; then
-        compile archive_asan example.c $sanitized "$library/libyaml_c.a" && example archive_asan
-        compile shared_asan example.c $sanitized "$library/libyaml_c.so" -Wl,-rpath,"$library" && example shared_asan
-    fi
+    compile archive_asan example.c $sanitized "$library/libyaml_c.a" && example archive_asan
+    compile shared_asan example.c $sanitized "$library/libyaml_c.so" -Wl,-rpath,"$library" && example shared_asan
     compile hostile_asan check.c $sanitized "$library/libyaml_c.a" $heap && hostile hostile_asan
 else
     say "$compiler has no AddressSanitizer here: the programs in C aren't run under it"

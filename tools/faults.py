@@ -22,6 +22,8 @@ What is promised, and judged for each run (docs/PROFILE.md, 'The program'):
     an answer       the same status, output and lines as without anything wrong
     told            status 1, the one line that names what went wrong, and nothing on standard output
     written so far  a failed write of the answer: status 1, `write failed after N bytes`, and the answer's first N bytes
+    whose           of two inputs, a short one beside a long one: want of memory is told of the short one in no more runs
+                    than there are allocations where it stands on both sides
     untold          of want of memory where the line itself can't be made, as where all further allocations are refused:
                     status 1, or 2 for the words of the command line, before an input is opened or read, and nothing written
                     at all; where a line or help can't be written: the status that it would have had, and a front of it
@@ -46,8 +48,8 @@ TAGGED = b"%YAML 1.1\n%TAG !e! tag:example.org,2000:\n--- !e!top\n- &x {k: v, \"
 MAPPING = b"".join(b"- name: alpha %d\n  tags: [a, 'b', \"c\\t\"]\n  text: >-\n    one\n    two\n" % i for i in range(150))
 UTF16 = b"\xff\xfe" + "a: [\u00e9, \U0001f600]\n".encode("utf-16le")
 
-# A name, the words, what comes on standard input, and the files that lie where the program runs.
-Case = collections.namedtuple("Case", "name words input files", defaults=[b"", {}])
+# A name, the words, what comes on standard input, the files that lie where the program runs, and which of two is short.
+Case = collections.namedtuple("Case", "name words input files short", defaults=[b"", {}, ""])
 
 CASES = [
     Case("fmt flow", ["fmt"], b'["a", b, {c: }]'),
@@ -69,6 +71,8 @@ CASES = [
     Case("events parser fault", ["events"], b"a: [b\n"),
     Case("same equal", ["same", "a", "b"], files={"a": TAGGED, "b": TAGGED}),
     Case("same different", ["same", "a", "b"], files={"a": MAPPING, "b": UTF16}),
+    Case("same short and long", ["same", "a", "b"], files={"a": b"a", "b": MAPPING}, short="first"),
+    Case("same long and short", ["same", "a", "b"], files={"a": MAPPING, "b": b"a"}, short="second"),
     Case("same first refused", ["same", "a", "b"], files={"a": b"]", "b": b"a"}),
     Case("same second refused", ["same", "a", "b"], files={"a": b"a", "b": b"*a"}),
     Case("help", ["--help"]),
@@ -136,9 +140,11 @@ def is_told(run, line):
 def judge_memory(wrong, run, usual):
     if is_answer(run, usual):
         return "answered"
-    lines = [b"memory error", b"first input: memory error", b"second input: memory error"]
-    if any(is_told(run, line) for line in lines):
+    if is_told(run, b"memory error"):
         return "told"
+    for side in ["first", "second"]:
+        if is_told(run, side.encode() + b" input: memory error"):
+            return f"told of the {side}"
     if run.output or run.errors:
         return None
     _, reads, _, opens = run.counts
@@ -232,6 +238,20 @@ def usual_of(bench, folder, case):
     return usual
 
 
+def sided(bench, number, case, found):
+    """What isn't as promised of whose the want of memory is, where one of two inputs is short."""
+    if not case.short:
+        return ""
+    text = case.files["a" if case.short == "first" else "b"]
+    alone = Case("short alone", ["same", "a", "a"], files={"a": text})
+    most = usual_of(bench, bench.place(f"{number}-short", alone), alone).counts[0]
+    told = [found[f"memory, told of the {side}"] for side in ["first", "second"]]
+    few, many = told if case.short == "first" else told[::-1]
+    if few <= most < many:
+        return ""
+    return f"{case.name}: of the short input told {few} times, of the long one {many}, where the short one alone takes {most}"
+
+
 def real_runs(bench):
     """What no call of ours lets go wrong: a full device as the output, a folder as the input. What isn't as promised."""
     folder = bench.place("real", Case("real", [], b"a: b", {"in.yaml": b"a: b"}))
@@ -273,6 +293,10 @@ def main():
                     wrong_ones.append(text)
                     print(text, flush=True)
             total += found
+            text = sided(bench, number, case, found)
+            if text:
+                wrong_ones.append(text)
+                print(text, flush=True)
             calls = ", ".join(f"{n} {word}" for n, word in zip(usual.counts, ["allocations", "reads", "writes", "opens"]))
             print(f"{case.name}: {calls}: {sum(found.values())} runs", flush=True)
         for text in real_runs(bench):

@@ -363,7 +363,7 @@ def functions(path):
     plain, owners, found = blanked(text), [], []
     for match in re.finditer(r"^ *(?:pub(?:\([a-z]+\))? )?((?:impl|trait)\b[^{;]*)\{", plain, re.M):
         owners.append(Owner(match[1].strip(), match.start(), closed(plain, match.end() - 1)))
-    pattern = rf"^( *)((?:pub(?:\([^)]*\))? )?)((?:const |unsafe )*)fn ({NAME})"
+    pattern = rf"^( *)((?:pub(?:\([^)]*\))? )?)((?:const |unsafe |extern +)*)fn ({NAME})"
     for match in re.finditer(pattern, plain, re.M):
         own = [it for it in owners if it.start < match.start() < it.end]
         body, end = body_of(plain, match.end(), match[1])
@@ -411,12 +411,13 @@ def public_names():
 
 
 def is_public(it):
-    """Whether the function is a call that a member hands out: by its name, or as a method of a type that it hands out."""
+    """Whether the function is a call that a member hands out, by its name or as a method of a type that it hands out; or an
+    export of the library for C."""
     if it.path.endswith(("tests.rt", "main.rt")) or "/tests/" in it.path:
         return False
     if it.owner:
         return it.owner.type in public_names() and (it.is_pub or it.owner.is_of_trait)
-    return it.is_pub and it.name in public_names()
+    return it.is_pub and (it.name in public_names() or it.head.startswith("pub extern"))
 
 
 def is_law(it):

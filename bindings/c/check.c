@@ -10,10 +10,6 @@
 #include <limits.h>
 #include <stdio.h>
 
-/* A library without these two is checked without them. */
-#pragma weak yaml_c_parse
-#pragma weak yaml_c_emit
-
 void *__real_malloc(size_t size);
 void *__real_realloc(void *block, size_t size);
 void __real_free(void *block);
@@ -75,26 +71,57 @@ static const char *const TEXTS[] = {
     "\377",
     "\377\376a",
 };
-enum { TEXT_NUMBER = sizeof TEXTS / sizeof *TEXTS, CANONICAL = 0, PRETTY, RELOAD, SAME, EVENTS, PARSE, EMIT, CALL_NUMBER };
+enum { TEXT_NUMBER = sizeof TEXTS / sizeof *TEXTS, CANONICAL = 0, PRETTY, RELOAD, SAME, EVENTS, PARSE, EMIT, EMIT_AGAIN, CALL_NUMBER };
 
 static const uint8_t *bytes_of(int text)
 {
     return (const uint8_t *)TEXTS[text];
 }
 
-static int has_events(void)
-{
-    return yaml_c_parse && yaml_c_emit;
-}
-
 /* The events of the texts, where they have any; made once. */
 static yaml_c_parsed parsed_texts[TEXT_NUMBER];
+
+/* The events of a stream, and the bytes and directives that they name. */
+static const char NAMED[] = "!e!tag:x,2000:axktext";
+static const yaml_c_directive DIRECTIVE = {{0, 3}, {3, 11}};
+static const yaml_c_event STREAM[] = {
+    {.kind = YAML_C_STREAM_START_EVENT},
+    {.kind = YAML_C_DOCUMENT_START_EVENT, .has_version = 1, .major = 1, .minor = 1, .directives = {0, 1}},
+    {.kind = YAML_C_MAPPING_START_EVENT, .has_anchor = 1, .anchor = {15, 1}, .has_tag = 1, .tag = {3, 12}},
+    {.kind = YAML_C_SCALAR_EVENT, .implicit = 1, .quoted_implicit = 1, .value = {16, 1}},
+    {.kind = YAML_C_SEQUENCE_START_EVENT, .implicit = 1},
+    {.kind = YAML_C_ALIAS_EVENT, .anchor = {15, 1}},
+    {.kind = YAML_C_SCALAR_EVENT, .implicit = 1, .quoted_implicit = 1, .style = YAML_C_FOLDED_SCALAR_STYLE, .value = {17, 4}},
+    {.kind = YAML_C_SEQUENCE_END_EVENT},
+    {.kind = YAML_C_MAPPING_END_EVENT},
+    {.kind = YAML_C_DOCUMENT_END_EVENT, .implicit = 1},
+    {.kind = YAML_C_STREAM_END_EVENT},
+};
+static const char STREAM_TEXT[] = "%YAML 1.1\n%TAG !e! tag:x,2000:\n--- &x !e!a\nk: [*x, \"text\"]\n";
+enum { STREAM_LENGTH = sizeof STREAM / sizeof *STREAM };
+
+/* A list of events for each text's number: the stream, fronts of it, one without its start, and one past the limit. */
+static int emit_list(int list, yaml_c_settings *settings, yaml_c_answer *answer)
+{
+    static const size_t lengths[TEXT_NUMBER] = {STREAM_LENGTH, 0, 1, 5, 8, 10, STREAM_LENGTH - 1, STREAM_LENGTH};
+    if (list == 7)
+        settings->limit = 9;
+    return yaml_c_emit(STREAM + (list == 6), lengths[list], &DIRECTIVE, 1, (const uint8_t *)NAMED, strlen(NAMED), settings,
+                       answer);
+}
+
+/* The events of the text again, or none. */
+static int emit_parsed(int text, yaml_c_settings *settings, yaml_c_answer *answer)
+{
+    const yaml_c_parsed *events = &parsed_texts[text];
+    return yaml_c_emit(events->events, events->events_len, events->directives, events->directives_len, events->bytes.at,
+                       events->bytes.len, settings, answer);
+}
 
 /* The call of that number on a text. What it hands out stays in the records. */
 static int call_on(int call, int text, yaml_c_settings *settings, yaml_c_parsed *parsed, yaml_c_answer *answer)
 {
     const uint8_t *at = bytes_of(text);
-    const yaml_c_parsed *events = &parsed_texts[text];
     size_t len = strlen(TEXTS[text]);
     calls++;
     settings->canonical = call != PRETTY;
@@ -105,9 +132,8 @@ static int call_on(int call, int text, yaml_c_settings *settings, yaml_c_parsed 
     case SAME: return yaml_c_same(bytes_of(0), strlen(TEXTS[0]), 0, at, len, 0, answer);
     case EVENTS: return yaml_c_events(at, len, 0, answer);
     case PARSE: return yaml_c_parse(at, len, 0, parsed, answer);
-    default:
-        return yaml_c_emit(events->events, events->events_len, events->directives, events->directives_len,
-                           events->bytes.at, events->bytes.len, settings, answer);
+    case EMIT: return emit_list(text, settings, answer);
+    default: return emit_parsed(text, settings, answer);
     }
 }
 
@@ -175,7 +201,7 @@ static void read_as(int from, const yaml_c_settings *settings, int wanted)
     const uint8_t *text = bytes_of(2);
     yaml_c_parsed_init(&parsed);
     yaml_c_answer_init(&answer);
-    for (int call = 0; call < 5 + has_events(); call++) {
+    for (int call = 0; call < 6; call++) {
         int kind = call == 0   ? yaml_c_reformat(text, 1, from, settings, &answer)
                    : call == 1 ? yaml_c_reload(text, 1, from, settings, &answer)
                    : call == 2 ? yaml_c_events(text, 1, from, &answer)
@@ -204,11 +230,13 @@ static void numbers(void)
         for (int which = 0; which < 2; which++) {
             settings = usual;
             *(which ? &settings.encoding : &settings.line_break) = none[i];
-            calls += 2;
+            calls += 3;
             EXPECT(yaml_c_reformat(bytes_of(2), 1, 0, &settings, &answer) == YAML_C_REFUSED_ARGUMENT);
             EXPECT(answer.kind == YAML_C_REFUSED_ARGUMENT && answer.text.len == 0);
             yaml_c_answer_free(&answer);
             EXPECT(yaml_c_reload(bytes_of(2), 1, 0, &settings, &answer) == YAML_C_REFUSED_ARGUMENT);
+            yaml_c_answer_free(&answer);
+            EXPECT(emit_list(6, &settings, &answer) == YAML_C_REFUSED_ARGUMENT);
             yaml_c_answer_free(&answer);
         }
         settings = usual;
@@ -221,25 +249,124 @@ static void numbers(void)
     }
 }
 
-/* An event that isn't in order, behind a stream's and a document's start. */
+static int is_within(yaml_c_span span, uint64_t len)
+{
+    return span.at <= len && span.len <= len - span.at;
+}
+
+static int is_nothing(yaml_c_span span)
+{
+    return span.at == 0 && span.len == 0;
+}
+
+static int is_flag(int32_t number)
+{
+    return number == 0 || number == 1;
+}
+
+/* What the header says of a record that is handed out. */
+static void is_told(const yaml_c_parsed *parsed, const yaml_c_event *it)
+{
+    int is_scalar = it->kind == YAML_C_SCALAR_EVENT, is_document = it->kind == YAML_C_DOCUMENT_START_EVENT;
+    int is_node = is_scalar || it->kind == YAML_C_SEQUENCE_START_EVENT || it->kind == YAML_C_MAPPING_START_EVENT;
+    uint64_t len = parsed->bytes.len;
+    EXPECT(it->kind >= YAML_C_STREAM_START_EVENT && it->kind <= YAML_C_MAPPING_END_EVENT);
+    EXPECT(is_flag(it->implicit) && is_flag(it->quoted_implicit) && is_flag(it->has_version));
+    EXPECT(is_flag(it->has_anchor) && is_flag(it->has_tag));
+    EXPECT(is_node || (it->style == 0 && !it->has_anchor && !it->has_tag && is_nothing(it->tag)));
+    EXPECT(is_node || it->kind == YAML_C_ALIAS_EVENT || is_nothing(it->anchor));
+    EXPECT(is_scalar || (!it->quoted_implicit && is_nothing(it->value)));
+    EXPECT(is_document || (!it->has_version && is_nothing(it->directives)));
+    EXPECT(it->has_version || (it->major == 0 && it->minor == 0));
+    EXPECT(it->kind == YAML_C_STREAM_START_EVENT ? it->encoding == YAML_C_UTF8_ENCODING : it->encoding == 0);
+    EXPECT(is_within(it->anchor, len) && is_within(it->tag, len) && is_within(it->value, len));
+    EXPECT(is_within(it->directives, parsed->directives_len));
+    EXPECT(it->start.index <= it->end.index && it->start.line <= it->end.line);
+}
+
+static void events_are_told(void)
+{
+    for (int text = 0; text < TEXT_NUMBER; text++) {
+        const yaml_c_parsed *parsed = &parsed_texts[text];
+        for (size_t i = 0; i < parsed->events_len; i++) {
+            const yaml_c_event *it = &parsed->events[i];
+            is_told(parsed, it);
+            EXPECT((it->kind == YAML_C_STREAM_START_EVENT) == (i == 0));
+            EXPECT((it->kind == YAML_C_STREAM_END_EVENT) == (i == parsed->events_len - 1));
+        }
+        for (size_t i = 0; i < parsed->directives_len; i++) {
+            EXPECT(is_within(parsed->directives[i].handle, parsed->bytes.len));
+            EXPECT(is_within(parsed->directives[i].prefix, parsed->bytes.len));
+        }
+    }
+    EXPECT(parsed_texts[0].events_len == 17 && parsed_texts[0].directives_len == 1);
+    EXPECT(parsed_texts[1].events_len == 2 && parsed_texts[1].directives_len == 0 && parsed_texts[1].bytes.len == 0);
+    EXPECT(parsed_texts[4].events_len == 0);
+}
+
+/* What is emitted of each list. */
+static void emitted(void)
+{
+    static const int kinds[TEXT_NUMBER] = {0, 0, 0, 0, 0, 0, YAML_C_EMITTER_ERROR, YAML_C_WRITER_ERROR};
+    yaml_c_settings settings;
+    yaml_c_answer answer, same;
+    yaml_c_answer_init(&answer);
+    yaml_c_answer_init(&same);
+    for (int list = 0; list < TEXT_NUMBER; list++) {
+        yaml_c_defaults(&settings);
+        settings.canonical = list % 2;
+        calls++;
+        EXPECT(emit_list(list, &settings, &answer) == kinds[list] && answer.kind == kinds[list]);
+        if (list == 0) {
+            calls++;
+            EXPECT(yaml_c_same(answer.text.at, answer.text.len, 0, (const uint8_t *)STREAM_TEXT, strlen(STREAM_TEXT), 0, &same) == 0);
+            EXPECT(same.is == 1);
+        }
+        yaml_c_answer_free(&answer);
+        yaml_c_answer_free(&same);
+    }
+}
+
+/* What is emitted of a text's events has the text's content. */
+static void emitted_again(void)
+{
+    yaml_c_settings settings;
+    yaml_c_answer answer, same;
+    yaml_c_answer_init(&answer);
+    yaml_c_answer_init(&same);
+    for (int text = 0; text < TEXT_NUMBER; text++) {
+        if (parsed_texts[text].events_len == 0)
+            continue;
+        yaml_c_defaults(&settings);
+        calls += 2;
+        EXPECT(emit_parsed(text, &settings, &answer) == 0);
+        EXPECT(yaml_c_same(answer.text.at, answer.text.len, 0, bytes_of(text), strlen(TEXTS[text]), 0, &same) == 0 && same.is == 1);
+        yaml_c_answer_free(&answer);
+        yaml_c_answer_free(&same);
+    }
+}
+
+/* A record that means nothing, behind a stream's and a document's start, and behind an event that the emitter refuses. */
 static void emit_one(yaml_c_event event, size_t len, int wanted)
 {
     yaml_c_event events[3];
     yaml_c_settings settings;
     yaml_c_answer answer;
     yaml_c_directive directive = {{0, 2}, {0, 9}};
-    memset(events, 0, sizeof events);
-    events[0].kind = YAML_C_STREAM_START_EVENT;
-    events[1].kind = YAML_C_DOCUMENT_START_EVENT;
-    events[1].implicit = 1;
-    events[event.kind == YAML_C_DOCUMENT_START_EVENT ? 1 : 2] = event;
-    yaml_c_defaults(&settings);
     yaml_c_answer_init(&answer);
-    calls++;
-    EXPECT(yaml_c_emit(events, event.kind == YAML_C_DOCUMENT_START_EVENT ? 2 : 3, &directive, 1, (const uint8_t *)"ab\xff",
-                       len, &settings, &answer) == wanted);
-    EXPECT(answer.kind == wanted && answer.text.len == 0);
-    yaml_c_answer_free(&answer);
+    for (int is_refused = 0; is_refused < 2; is_refused++) {
+        memset(events, 0, sizeof events);
+        events[0].kind = is_refused ? YAML_C_STREAM_END_EVENT : YAML_C_STREAM_START_EVENT;
+        events[1].kind = YAML_C_DOCUMENT_START_EVENT;
+        events[1].implicit = 1;
+        events[event.kind == YAML_C_DOCUMENT_START_EVENT ? 1 : 2] = event;
+        yaml_c_defaults(&settings);
+        calls++;
+        EXPECT(yaml_c_emit(events, event.kind == YAML_C_DOCUMENT_START_EVENT ? 2 : 3, &directive, 1,
+                           (const uint8_t *)"ab\xff", len, &settings, &answer) == wanted);
+        EXPECT(answer.kind == wanted && answer.text.len == 0);
+        yaml_c_answer_free(&answer);
+    }
 }
 
 static void wrong_events(void)
@@ -248,17 +375,15 @@ static void wrong_events(void)
     memset(&scalar, 0, sizeof scalar);
     scalar.kind = YAML_C_SCALAR_EVENT;
     scalar.implicit = scalar.quoted_implicit = 1;
-    for (int which = 0; which < 6; which++) {
+    for (int which = 0; which < 7; which++) {
         yaml_c_event event = scalar;
         yaml_c_span span = {which == 1 ? UINT64_MAX : which == 2 ? 3 : 1, which == 3 ? UINT64_MAX : 2};
         if (which == 0)
             event.style = 6;
         else if (which < 4)
             event.value = span;
-        else if (which == 4)
-            event.kind = 11;
         else
-            event.kind = -1;
+            event.kind = which == 4 ? 11 : which == 5 ? -1 : 0;
         emit_one(event, 2, YAML_C_REFUSED_ARGUMENT);
     }
     scalar.value.at = 1;
@@ -278,18 +403,17 @@ int main(void)
     yaml_c_answer_init(&answer);
     for (int text = 0; text < TEXT_NUMBER; text++) {
         yaml_c_parsed_init(&parsed_texts[text]);
-        if (has_events())
-            yaml_c_parse(bytes_of(text), strlen(TEXTS[text]), 0, &parsed_texts[text], &answer);
+        yaml_c_parse(bytes_of(text), strlen(TEXTS[text]), 0, &parsed_texts[text], &answer);
         yaml_c_answer_free(&answer);
     }
-    for (int call = 0; call < (has_events() ? CALL_NUMBER : PARSE); call++)
+    events_are_told();
+    for (int call = 0; call < CALL_NUMBER; call++)
         for (int text = 0; text < TEXT_NUMBER; text++)
             refuse_in_turn(call, text);
     numbers();
-    if (has_events())
-        wrong_events();
-    else
-        puts("check: the library has no yaml_c_parse and yaml_c_emit");
+    emitted();
+    emitted_again();
+    wrong_events();
     for (int text = 0; text < TEXT_NUMBER; text++)
         yaml_c_parsed_free(&parsed_texts[text]);
     EXPECT(blocks == begun);

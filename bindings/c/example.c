@@ -1,10 +1,10 @@
-/* Lays a YAML text out in pretty form, and tells its events and whether its content is kept.
+/* Lays a YAML text out in pretty form, and shows its events as the C library hands them out.
  *
  *     cc -O2 -Wall -o example example.c ../../out/library/libyaml_c.a
  *     ./example [FILE]
  *
  * The text comes from FILE or from standard input. Status 1: the text is refused, and the line on standard error says
- * why and where; status 2: it can't be read, or a call was made wrongly. */
+ * why and where; status 2: it can't be read, or something is wrong with the library. */
 #include "yaml_c.h"
 
 #include <stdio.h>
@@ -35,39 +35,70 @@ static int refused(const yaml_c_answer *answer) {
     return answer->kind == YAML_C_REFUSED_ARGUMENT ? 2 : 1;
 }
 
-/* The text in pretty form, which stays in `pretty`. */
-static int show_pretty(const uint8_t *text, size_t len, yaml_c_answer *pretty) {
+/* The text in pretty form. */
+static int show_pretty(const uint8_t *text, size_t len) {
     yaml_c_settings settings;
+    yaml_c_answer answer;
+    int status = 0;
+    yaml_c_answer_init(&answer);
     yaml_c_defaults(&settings);
     settings.canonical = 0;
-    if (yaml_c_reformat(text, len, YAML_C_ANY_ENCODING, &settings, pretty)) return refused(pretty);
-    fwrite(pretty->text.at, 1, pretty->text.len, stdout);
-    return 0;
-}
-
-/* A line for each event. */
-static int show_events(const uint8_t *text, size_t len) {
-    yaml_c_answer events;
-    int status = 0;
-    yaml_c_answer_init(&events);
-    if (yaml_c_events(text, len, YAML_C_ANY_ENCODING, &events))
-        status = refused(&events);
+    if (yaml_c_reformat(text, len, YAML_C_ANY_ENCODING, &settings, &answer))
+        status = refused(&answer);
     else
-        fwrite(events.text.at, 1, events.text.len, stdout);
-    yaml_c_answer_free(&events);
+        fwrite(answer.text.at, 1, answer.text.len, stdout);
+    yaml_c_answer_free(&answer);
     return status;
 }
 
-/* Whether the pretty text has the content of the input, which the library promises. */
-static int show_same(const uint8_t *text, size_t len, const yaml_c_answer *pretty) {
-    yaml_c_answer same;
+/* A span's bytes, behind a word. */
+static void show_span(const char *word, const yaml_c_parsed *parsed, yaml_c_span span) {
+    printf(" %s=\"%.*s\"", word, (int)span.len, (const char *)parsed->bytes.at + span.at);
+}
+
+static void show_event(const yaml_c_parsed *parsed, const yaml_c_event *event) {
+    static const char *const names[] = {"none",     "stream start", "stream end",     "document start", "document end", "alias",
+                                        "scalar",   "sequence start", "sequence end", "mapping start",  "mapping end"};
+    printf("# %llu:%llu %s", (unsigned long long)event->start.line + 1, (unsigned long long)event->start.column + 1,
+           names[event->kind]);
+    for (uint64_t i = 0; i < event->directives.len; i++) {
+        const yaml_c_directive *directive = &parsed->directives[event->directives.at + i];
+        show_span("handle", parsed, directive->handle);
+        show_span("prefix", parsed, directive->prefix);
+    }
+    if (event->has_anchor || event->kind == YAML_C_ALIAS_EVENT) show_span("anchor", parsed, event->anchor);
+    if (event->has_tag) show_span("tag", parsed, event->tag);
+    if (event->kind == YAML_C_SCALAR_EVENT) show_span("value", parsed, event->value);
+    putchar('\n');
+}
+
+/* The events, a line for each; then their text, which has the content of the input. */
+static int show_events(const uint8_t *text, size_t len) {
+    yaml_c_settings settings;
+    yaml_c_answer answer, same;
+    yaml_c_parsed parsed;
     int status = 0;
+    yaml_c_answer_init(&answer);
     yaml_c_answer_init(&same);
-    if (yaml_c_same(text, len, YAML_C_ANY_ENCODING, pretty->text.at, pretty->text.len, YAML_C_ANY_ENCODING, &same))
-        status = refused(&same);
-    else
-        printf("%s\n", same.is ? "the same content" : "other content");
+    yaml_c_parsed_init(&parsed);
+    yaml_c_defaults(&settings);
+    if (yaml_c_parse(text, len, YAML_C_ANY_ENCODING, &parsed, &answer)) {
+        status = refused(&answer);
+    } else {
+        for (size_t i = 0; i < parsed.events_len; i++) show_event(&parsed, &parsed.events[i]);
+        if (yaml_c_emit(parsed.events, parsed.events_len, parsed.directives, parsed.directives_len, parsed.bytes.at,
+                        parsed.bytes.len, &settings, &answer)) {
+            status = refused(&answer);
+        } else if (yaml_c_same(text, len, YAML_C_ANY_ENCODING, answer.text.at, answer.text.len, YAML_C_ANY_ENCODING,
+                               &same)) {
+            status = refused(&same);
+        } else {
+            printf("# emitted again: %zu bytes, %s\n", answer.text.len, same.is ? "the same content" : "other content");
+        }
+    }
+    yaml_c_parsed_free(&parsed);
     yaml_c_answer_free(&same);
+    yaml_c_answer_free(&answer);
     return status;
 }
 
@@ -75,17 +106,13 @@ int main(int words, char **word) {
     FILE *from = words > 1 ? fopen(word[1], "rb") : stdin;
     size_t len = 0;
     uint8_t *text = from ? read_all(from, &len) : NULL;
-    yaml_c_answer pretty;
     int status;
     if (!text) {
         perror(words > 1 ? word[1] : "standard input");
         return 2;
     }
-    yaml_c_answer_init(&pretty);
-    status = show_pretty(text, len, &pretty);
+    status = show_pretty(text, len);
     if (!status) status = show_events(text, len);
-    if (!status) status = show_same(text, len, &pretty);
-    yaml_c_answer_free(&pretty);
     free(text);
     if (from != stdin) fclose(from);
     return status;

@@ -46,7 +46,7 @@ extern "C" {
 
 /* What a call's result says. The faults have libyaml's numbers. */
 enum {
-    YAML_C_REFUSED_ARGUMENT = -1, /* a number means nothing, or (emit) a text that an event names isn't UTF-8 */
+    YAML_C_REFUSED_ARGUMENT = -1, /* a number means nothing, or (emit) a span names nothing or a text that isn't UTF-8 */
     YAML_C_ANSWERED = 0,
     YAML_C_MEMORY_ERROR = 1,   /* memory was refused */
     YAML_C_READER_ERROR = 2,   /* the input is no text in its encoding */
@@ -54,7 +54,7 @@ enum {
     YAML_C_PARSER_ERROR = 4,   /* tokens that are no stream, or a wrong directive */
     YAML_C_COMPOSER_ERROR = 5, /* the documents can't be loaded */
     YAML_C_WRITER_ERROR = 6,   /* the answer has more than `limit` bytes */
-    YAML_C_EMITTER_ERROR = 7   /* events that are no stream, or an indentation that is too deep */
+    YAML_C_EMITTER_ERROR = 7   /* an event that can't be written there, or an indentation that is too deep */
 };
 
 /* Encodings. As an input's: any means that its byte order mark tells, UTF-8 where it has none. */
@@ -200,16 +200,19 @@ int32_t yaml_c_same(const uint8_t *first, size_t first_len, int32_t first_from, 
 /* A line for each event of the input. */
 int32_t yaml_c_events(const uint8_t *input, size_t len, int32_t from, yaml_c_answer *answer);
 
-/* The two below aren't in the library yet: their records stand here so that callers can be written.
- *
- * All events of the input as records, with their marks. Where the input is refused there are none. */
+/* All events of the input as records, one for each in their order, with their marks. Refused by a fault of the input (2 to 4)
+ * or for want of memory; there are none then, and none where -1 is answered. */
 int32_t yaml_c_parse(const uint8_t *input, size_t len, int32_t from, yaml_c_parsed *parsed, yaml_c_answer *answer);
 
-/* The text of events that are given as records. Spans of `anchor`, `tag`, `value`, `handle` and `prefix` lie within
- * `bytes`, those of `directives` within the list of directives. -1 where one that is looked at doesn't, where a number
- * means nothing, or where a text isn't UTF-8, at any event; else refused as the emitter refuses: by 7 for the first event
- * that is in the wrong place or where an indentation is too deep, by 6 past the limit. A list that is no whole stream
- * answers the text of the events that could be written by then. */
+/* The text of events that are given as records, one after another: what an emitter writes for them. Spans of `anchor`, `tag`,
+ * `value`, `handle` and `prefix`, empty ones too, lie within `bytes`, those of `directives` within the list of directives.
+ * All records are looked at first, so that -1 comes exactly where, in any of them or in the settings, a number means nothing,
+ * a span that is looked at doesn't lie there, or its text isn't UTF-8, whatever else is wrong. Else refused as the emitter
+ * refuses: by 7 for the first event that is in the wrong place or has a name, a tag or a directive that can't be written, or
+ * where an indentation is too deep; by 6 past the limit. A refused call hands out no text, and events behind a refused one
+ * count for nothing. A list that is no whole stream answers the text of the events that could be written by then: the start
+ * of a document is written once an event follows, that of a sequence once two do, that of a mapping once three do, or once it
+ * is ended. */
 int32_t yaml_c_emit(const yaml_c_event *events, size_t events_len, const yaml_c_directive *directives,
                     size_t directives_len, const uint8_t *bytes, size_t len, const yaml_c_settings *settings,
                     yaml_c_answer *answer);

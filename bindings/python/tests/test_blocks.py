@@ -12,8 +12,6 @@ from unittest import mock
 import yaml_c
 from yaml_c import _library
 
-from . import HAS_EVENTS
-
 HERE = os.path.dirname(os.path.abspath(__file__))
 HEADER = os.path.join(HERE, "..", "..", "c", "yaml_c.h")
 RECORDS: dict[str, Any] = {
@@ -28,20 +26,19 @@ CALLS = [
     lambda: yaml_c.reload(b"&x a"),
     lambda: yaml_c.events(b"a"),
     lambda: yaml_c.same(b"a", b"b"),
+    lambda: yaml_c.emit([yaml_c.StreamStart(), yaml_c.DocumentStart(), yaml_c.Scalar("a"), yaml_c.DocumentEnd(), yaml_c.StreamEnd()]),
+    lambda: yaml_c.parse(b"%TAG !e! x\n--- !e!a b"),
+    lambda: yaml_c.parse(b""),
+    lambda: yaml_c.emit(yaml_c.parse(b"[a]")),
 ]
 REFUSED = [
     lambda: yaml_c.reformat(b"]"),
     lambda: yaml_c.reload(b"*a"),
     lambda: yaml_c.events(b"\xff"),
     lambda: yaml_c.same(b"a", b"["),
+    lambda: yaml_c.emit([yaml_c.StreamEnd()]),
+    lambda: yaml_c.parse(b"["),
 ]
-if HAS_EVENTS:
-    CALLS += [
-        lambda: yaml_c.parse(b"%TAG !e! x\n--- !e!a b"),
-        lambda: yaml_c.parse(b""),
-        lambda: yaml_c.emit(yaml_c.parse(b"[a]")),
-    ]
-    REFUSED += [lambda: yaml_c.parse(b"["), lambda: yaml_c.emit([yaml_c.StreamEnd()])]
 
 
 class Layout(unittest.TestCase):
@@ -93,9 +90,8 @@ class Blocks(unittest.TestCase):
             handed, freed = self.freed_by(call)
             self.assertEqual(handed, freed, number)
         self.assertEqual(len(self.freed_by(CALLS[0])[1]), 1)
-        if HAS_EVENTS:
-            # events, directives and their texts
-            self.assertEqual(len(self.freed_by(CALLS[4])[1]), 3)
+        # events, directives and their texts
+        self.assertEqual(len(self.freed_by(CALLS[5])[1]), 3)
 
     def test_each_of_a_refused_call_is_freed_once(self) -> None:
         for call in REFUSED:
@@ -111,6 +107,13 @@ class Blocks(unittest.TestCase):
             handed, freed = self.freed_by(caught)
             self.assertEqual(handed, freed)
             self.assertEqual(len(handed), 1)
+
+    def test_events_of_a_refused_text(self) -> None:
+        for text, encoding, wanted in [(b"a: [b", 0, 4), (b"- a\n- 'b", 0, 3), (b"a\xff", 1, 2), (b"a", 4, -1), (b"a", -1, -1)]:
+            parsed, answer = _library.new_parsed(), _library.new_answer()
+            self.assertEqual(_library.parse(text, len(text), encoding, ctypes.byref(parsed), ctypes.byref(answer)), wanted)
+            self.assertEqual((parsed.blocks(), len(answer.blocks())), ([], int(wanted > 0)), text)
+            _library.free(answer)
 
     def test_nothing_is_kept(self) -> None:
         if "asan" in os.environ.get("LD_PRELOAD", ""):

@@ -23,8 +23,6 @@ from yaml_c import (
     Style,
 )
 
-from . import NEEDS_EVENTS
-
 PRETTY = Settings(canonical=False)
 PLAIN = {"style": ScalarStyle.PLAIN, "implicit": True, "quoted_implicit": False}
 BLOCK: dict[str, Any] = {"style": Style.BLOCK}
@@ -46,7 +44,6 @@ def document(*events: Event) -> list[Event]:
     return [StreamStart(), DocumentStart(), *events, DocumentEnd(), StreamEnd()]
 
 
-@NEEDS_EVENTS
 class Parse(unittest.TestCase):
     def test_kinds(self) -> None:
         found = yaml_c.parse(b"a: &x !t [b, *x]\n")
@@ -95,12 +92,20 @@ class Parse(unittest.TestCase):
         self.assertEqual(yaml_c.parse(b"\xff\xfea\0")[0], StreamStart(Encoding.UTF16LE))
         self.assertEqual(yaml_c.parse(b"\0a", encoding=Encoding.UTF16BE)[2], Scalar("a", **PLAIN))
 
+    def test_kinds_are_those_of_the_lines(self) -> None:
+        words = {
+            StreamStart: b"+STR", StreamEnd: b"-STR", DocumentStart: b"+DOC", DocumentEnd: b"-DOC", Alias: b"=ALI",
+            Scalar: b"=VAL", SequenceStart: b"+SEQ", SequenceEnd: b"-SEQ", MappingStart: b"+MAP", MappingEnd: b"-MAP",
+        }  # fmt: skip
+        for text in TEXTS:
+            lines = yaml_c.events(text).splitlines()
+            self.assertEqual([words[type(it)] for it in yaml_c.parse(text)], [it.split()[0] for it in lines], text)
+
     def test_byte_zero(self) -> None:
         found = yaml_c.parse(b'"a\\0b"')
         self.assertEqual(found[2].value, "a\0b")  # type: ignore[union-attr]
 
 
-@NEEDS_EVENTS
 class Emit(unittest.TestCase):
     def test_forms(self) -> None:
         events = document(SequenceStart(), Scalar("a"), Scalar("b", style=ScalarStyle.SINGLE_QUOTED), SequenceEnd())
@@ -129,7 +134,9 @@ class Emit(unittest.TestCase):
             for settings in (Settings(), PRETTY):
                 written = yaml_c.emit(found, settings)
                 self.assertTrue(yaml_c.same(written, text), (text, written))
-            self.assertEqual(yaml_c.parse(yaml_c.emit(found, PRETTY)), found, text)
+            # an empty plain scalar in brackets is written in quotes, behind a `!` that keeps its content
+            if b"{b: }" not in text:
+                self.assertEqual(yaml_c.parse(yaml_c.emit(found, PRETTY)), found, text)
 
     def test_wrong_places(self) -> None:
         rows = [
@@ -160,6 +167,34 @@ class Emit(unittest.TestCase):
                 yaml_c.emit([StreamStart(), DocumentStart(), event] if not isinstance(event, DocumentStart) else [StreamStart(), event])
         with self.assertRaises(yaml_c.ArgumentRefused):
             yaml_c.emit([StreamStart(4)])  # type: ignore[arg-type]
+
+    def test_numbers_behind_a_fault(self) -> None:
+        for events in ([StreamEnd(), Scalar("a", style=6)], [StreamEnd(), StreamStart(4)]):  # type: ignore[arg-type]
+            with self.assertRaises(yaml_c.ArgumentRefused):
+                yaml_c.emit(events)
+        for events in (document(Scalar("a")), [StreamEnd()], []):
+            with self.assertRaises(yaml_c.ArgumentRefused):
+                yaml_c.emit(events, Settings(line_break=4))  # type: ignore[arg-type]
+
+    def test_limit(self) -> None:
+        events = document(Scalar("a"))
+        self.assertEqual(yaml_c.emit(events, Settings(limit=8)), b'---\n"a"\n')
+        with self.assertRaises(yaml_c.WriterFault):
+            yaml_c.emit(events, Settings(limit=7))
+
+    def test_fronts(self) -> None:
+        # the start of a document waits for one event, that of a sequence for two, that of a mapping for three
+        begun: list[Event] = [StreamStart(), DocumentStart()]
+        rows: list[tuple[list[Event], bytes]] = [
+            (begun, b""),
+            ([*begun, Scalar("a")], b'---\n"a"'),
+            ([*begun, SequenceStart(), Scalar("a")], b"---\n"),
+            ([*begun, SequenceStart(), Scalar("a"), Scalar("b")], b'---\n[\n  "a",\n  "b"'),
+            ([*begun, MappingStart(), Scalar("a"), Scalar("b")], b"---\n"),
+            ([*begun, MappingStart(), Scalar("a"), Scalar("b"), Scalar("c")], b'---\n{\n  ? "a"\n  : "b",\n  ? "c"'),
+        ]
+        for events, wanted in rows:
+            self.assertEqual(yaml_c.emit(events), wanted, events)
 
     def test_encoding(self) -> None:
         events = [StreamStart(Encoding.UTF16LE), StreamEnd()]

@@ -6,8 +6,6 @@ import unittest
 import yaml_c
 from yaml_c import Encoding, Form, LineBreak, Settings
 
-from . import HAS_EVENTS
-
 PRETTY = Settings(canonical=False)
 MANY = b"".join(b"- {name: alpha %d, tags: [a, 'b'], text: \"c\\td\"}\n" % i for i in range(5000))
 
@@ -94,7 +92,7 @@ class Others(unittest.TestCase):
 
     def test_documented_examples(self) -> None:
         finder = doctest.DocTestFinder(exclude_empty=True)
-        tests = [it for it in finder.find(yaml_c) if it.examples and (HAS_EVENTS or it.name != "yaml_c.emit")]
+        tests = [it for it in finder.find(yaml_c) if it.examples]
         self.assertGreater(len(tests), 2)
         runner = doctest.DocTestRunner()
         for it in tests:

@@ -8,8 +8,7 @@
 
 Texts come in as bytes, or as str, which are read as UTF-8; they go out as bytes. A refused text raises a `YamlFault`, with
 the place; a number that means nothing raises `ArgumentRefused`. Calls keep nothing between them and let other threads run
-meanwhile. `libyaml_c.so` is looked for by the variable YAML_C_SO, beside these modules, and where `make library` leaves it;
-`parse` and `emit` raise NotImplementedError where it hasn't these calls.
+meanwhile. `libyaml_c.so` is looked for by the variable YAML_C_SO, beside these modules, and where `make library` leaves it.
 """
 
 from __future__ import annotations

@@ -120,13 +120,7 @@ def _load() -> ctypes.CDLL:
 
 
 def _call(name: str, *types: Any) -> Any:
-    found = getattr(library, name, None)
-    if found is None:
-
-        def lacking(*_: Any) -> int:
-            raise NotImplementedError(f"{library._name} is a library without {name}")
-
-        return lacking
+    found = getattr(library, name)
     found.argtypes, found.restype = types, ctypes.c_int32
     return found
 

@@ -2,7 +2,7 @@
 use Rattle.std.proofs.Common.{◌≡◌, ◌∙◌, ap, sym, refl, inl, inr, ℕ, List, Result, Ok, Err, IfOk, IfErr}
 use Rattle.yaml_scan.specs.declared.yaml_encoding_t.{yaml_encoding_t}
 use Rattle.yaml_scan.specs.declared.yaml_fault_t.{yaml_fault_t}
-use Rattle.yaml_scan.specs.Faults.{fault_of, Answers}
+use Rattle.yaml_scan.specs.Faults.{fault_of, load_layers, Answers}
 use Rattle.yaml_scan.specs.Remaining as scan
 use Rattle.yaml_parse.specs.Documents.{Document}
 use Rattle.yaml_parse.specs.Loads.{Loads, document, faulty, nothing, loads_of, LoadGives, LoadRefuses}
@@ -26,7 +26,7 @@ pub first_answers : (encoding : yaml_encoding_t) (input : List ℕ) (c : scan.Re
     (r : Result Document yaml_fault_t)
     → c ≡ tokens_of encoding input → p.events ≡ (parsed c).events → p.ending ≡ (parsed c).ending
     → IfOk r (λ d. LoadGives (loads_of p) d p q) → IfErr r (λ f. LoadRefuses (fault_of f) p q)
-    → Answers (λ d. d) (λ z. first_document encoding input ≡ z) r
+    → Answers load_layers (λ d. d) (λ z. first_document encoding input ≡ z) r
 first_answers encoding input c p q (Ok d) is events ending g h =
     first_load encoding input c p is events ending ∙ gives (loads_of p) d p q g
 first_answers encoding input c p q (Err f) is events ending g h =

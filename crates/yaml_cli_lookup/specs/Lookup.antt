@@ -12,7 +12,8 @@ pub record IsLoaded (first : Result Document Fault) (d : Document) : Type 0 wher
   pub same : first ≡ Ok d
   pub mapping : has_mapping d ≡ true
 
--- When each error comes: the fault is that of the input; there is a document, and its root isn't a mapping.
+-- When each error comes: the fault is that of the input; there is a document, and its root isn't
+-- a mapping.
 abbrev pub IsDue : Result Document Fault → LookupError → Type 0
 IsDue first (Unreadable f) = first ≡ Err (fault_of f)
 IsDue first NotAMapping = (d : Document) × (first ≡ Ok d) × (has_mapping d ≡ false)
@@ -22,7 +23,8 @@ abbrev pub bytes_of : Option (Vec ℕ Global) → Option (List ℕ)
 bytes_of v = option_map (λ t. t.items) v
 
 -- what the first document's root gives the key
-pub record IsFound (first : Result Document Fault) (key : List ℕ) (found : Option (Vec ℕ Global)) : Type 0 where
+pub record IsFound (first : Result Document Fault) (key : List ℕ)
+    (found : Option (Vec ℕ Global)) : Type 0 where
   pub document : Document
   pub loaded : IsLoaded first document
   pub value : bytes_of found ≡ value_of document key

@@ -1,7 +1,7 @@
 //! The first document of an input, and a value in it.
 
 ghost use Rattle.std.specs.Prelude.{◌≡◌, option_map, IfOk, IfErr};
-ghost use Rattle.yaml_scan.specs.Faults.{Answers};
+ghost use Rattle.yaml_scan.specs.Faults.{Answers, load_layers};
 ghost use Rattle.yaml_cli_lookup.specs.declared.error.LookupError.TheVariants.{OutOfMemory};
 ghost use Rattle.yaml_cli_lookup.specs.Input.{first_document};
 ghost use Rattle.yaml_cli_lookup.specs.Lookup.{IsLoaded, IsDue, IsFound, bytes_of};
@@ -19,7 +19,7 @@ fn first_document(
     input: &[u8],
     encoding: yaml_encoding_t,
 ) -> Result<yaml_document_t, yaml_fault_t>
-    ensures { Answers (λ d. d) (λ r. first_document encoding input.now ≡ r) result }
+    ensures { Answers load_layers (λ d. d) (λ r. first_document encoding input.now ≡ r) result }
 {
     let mut parser = yaml_parser_initialize(alloc, yaml_adapter_t::new(alloc, input, encoding))?;
     yaml_parser_load(&mut parser)

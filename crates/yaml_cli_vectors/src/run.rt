@@ -1,11 +1,13 @@
 //! The call `run`: a run of a command over memory.
 
-use crate::given::given_of;
+use crate::given::{Given, given_of};
 use crate::text::shown_text;
 use serde_json::{Map, Value, put};
 use std::alloc::Global;
 use yaml_cli_vectors_json::{VectorError, field};
-use yaml_round::{yaml_command_t, yaml_run_fault_t, yaml_text_of};
+use yaml_round::{
+    yaml_command_t, yaml_form_t, yaml_run, yaml_run_fault_t, yaml_std_input_t, yaml_std_output_t,
+};
 
 fn command(line: &Value) -> Result<yaml_command_t, VectorError> {
     match field::text(line, "command")? {
@@ -33,20 +35,34 @@ fn shown_refusal(alloc: Global, fault: &yaml_run_fault_t) -> Result<Value, Vecto
     Ok(Value::Object(fields))
 }
 
+// The text that the command makes of the input, and its form.
+fn text_of(
+    alloc: Global,
+    given: &Given,
+    command: yaml_command_t,
+    limit: u64,
+) -> Result<(Vec<u8>, Option<yaml_form_t>), yaml_run_fault_t> {
+    let mut input = yaml_std_input_t::new(given.input.as_slice());
+    let mut output = yaml_std_output_t::new(Vec::new(alloc));
+    let form = yaml_run(
+        alloc,
+        &mut input,
+        &mut output,
+        command,
+        given.from,
+        &given.settings,
+        limit,
+    )?;
+    Ok((output.into_inner(), form))
+}
+
 /// The text that the line's command makes of its input, and the form that it has; `TooLong` where the input has more bytes
 /// than `input_limit`.
 pub fn run(alloc: Global, line: &Value) -> Result<Value, VectorError> {
     let command = command(line)?;
     let limit = field::count(line, "input_limit")?;
     let given = given_of(alloc, line)?;
-    match yaml_text_of(
-        alloc,
-        given.input.as_slice(),
-        command,
-        given.from,
-        &given.settings,
-        limit,
-    ) {
+    match text_of(alloc, &given, command, limit) {
         Ok((text, form)) => Ok(shown_text(alloc, line, text.as_slice(), form)?),
         Err(yaml_run_fault_t::Yaml(fault)) => Err(VectorError::Fault(fault)),
         Err(fault) => shown_refusal(alloc, &fault),

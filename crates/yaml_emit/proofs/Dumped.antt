@@ -19,6 +19,7 @@ use Rattle.yaml_emit_state.specs.Finish.{Finishes, FinishesAt, FinishesBy}
 use Rattle.yaml_emit_graph.specs.declared.Events.{Events}
 use Rattle.yaml_emit.specs.declared.emitter.yaml_emitter_t.TheInside.{Inside}
 use Rattle.yaml_emit_graph.specs.Events.{remaining_events, IsEvents}
+use Rattle.yaml_emit.specs.Held.{held_events}
 use Rattle.yaml_emit.specs.Emitter.{Emitter, emitter_of, IsEmitter, CompletesBy, Completes, Given, GivesSome, Stuck, left_if, opening_events, closing_events, dump_events, document_events_by, document_events, Answers}
 use Rattle.yaml_emit_graph.specs.Graph.{dumped}
 use Rattle.yaml_emit.specs.Dumping.{DumpsBy, Dumps}
@@ -86,9 +87,9 @@ starved_completes old new x xs ys whole a b s c =
     subst Q (sym b) ((s.text stay).encoding ∙ k.0, starved_finishes old.core new.core _ _ whole s k.1)
 
 pub inside_starves : (i : Inside) (core : Core) (fault : Option Fault) (es : List Event) → i.fresh ≡ false → Starves i.core core
-    → GivesSome (emitter_of i) es (record { requested_settings = i.requested_settings; limit = i.limit; core = core; held = i.held; fresh = i.fresh; opened = i.opened; closed = i.closed; fault = fault }) []
+    → GivesSome (emitter_of i) es (record { requested_settings = i.requested_settings; limit = i.limit; core = core; held = held_events i.held; output = core.sink.bytes; fresh = i.fresh; opened = i.opened; closed = i.closed; fault = fault }) []
 inside_starves i core fault es fr s = record {
-  completes = λ x more whole h. starved_completes (emitter_of i) (record { requested_settings = i.requested_settings; limit = i.limit; core = core; held = i.held; fresh = i.fresh; opened = i.opened; closed = i.closed; fault = fault }) x (es ++ more) more whole fr fr s h;
+  completes = λ x more whole h. starved_completes (emitter_of i) (record { requested_settings = i.requested_settings; limit = i.limit; core = core; held = held_events i.held; output = core.sink.bytes; fresh = i.fresh; opened = i.opened; closed = i.closed; fault = fault }) x (es ++ more) more whole fr fr s h;
   requested_settings = refl;
   limit = refl;
   begun = λ b. b;

@@ -12,6 +12,7 @@ use Rattle.yaml_emit_state.proofs.Noting.{notes_some, notes_both, notes_starved}
 use Rattle.yaml_emit_graph.specs.declared.Events.{Events}
 use Rattle.yaml_emit.specs.declared.emitter.yaml_emitter_t.TheInside.{Inside}
 use Rattle.yaml_emit_graph.specs.Events.{remaining_events}
+use Rattle.yaml_emit.specs.Held.{held_events}
 use Rattle.yaml_emit.specs.Emitter.{Emitter, emitter_of, left_if, opening_events, closing_events, dump_events, document_events}
 use Rattle.yaml_emit_graph.specs.Graph.{dumped}
 use Rattle.yaml_emit.specs.Judged.{text_from, LetsOut}
@@ -75,10 +76,10 @@ starved_writes old new x xs ys whole a b s c =
     subst Q (sym b) ((s.text stay).encoding ∙ k.0, starved_lets_out old.core new.core _ _ whole s k.1)
 
 pub inside_starves_judged : (i : Inside) (core : Core) (fault : Option Fault) (es : List Event) → i.fresh ≡ false → Starves i.core core
-    → JudgedAll (emitter_of i) es (record { requested_settings = i.requested_settings; limit = i.limit; core = core; held = i.held; fresh = i.fresh; opened = i.opened; closed = i.closed; fault = fault }) []
+    → JudgedAll (emitter_of i) es (record { requested_settings = i.requested_settings; limit = i.limit; core = core; held = held_events i.held; output = core.sink.bytes; fresh = i.fresh; opened = i.opened; closed = i.closed; fault = fault }) []
 inside_starves_judged i core fault es fr s = record {
   refuses = λ g more. absurd (s.stopped g);
-  writes = λ x more whole h. starved_writes (emitter_of i) (record { requested_settings = i.requested_settings; limit = i.limit; core = core; held = i.held; fresh = i.fresh; opened = i.opened; closed = i.closed; fault = fault }) x (es ++ more) more whole fr fr s h;
+  writes = λ x more whole h. starved_writes (emitter_of i) (record { requested_settings = i.requested_settings; limit = i.limit; core = core; held = held_events i.held; output = core.sink.bytes; fresh = i.fresh; opened = i.opened; closed = i.closed; fault = fault }) x (es ++ more) more whole fr fr s h;
   going = λ g. absurd (s.stopped g);
   memory = notes_starved _ _ s;
 }

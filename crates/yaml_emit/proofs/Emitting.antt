@@ -1,6 +1,6 @@
 -- What an emitter completes.
 use Rattle.std.proofs.Common.{◌≡◌, ℕ, List, [], ◌∷◌, ◌++◌, Bool, true, false, refl, sym, subst, inl, inr, ◌∙◌, ap, Option, Some, None, append_assoc, option_map}
-use Rattle.yaml_scan.specs.Faults.{Fault, fault_of, memory_fault}
+use Rattle.yaml_scan.specs.Faults.{Fault, fault_of, memory_fault, IsMemoryFault, emit_layers}
 use Rattle.yaml_scan.specs.declared.yaml_encoding_t.{yaml_encoding_t}
 use Rattle.yaml_emit_text.specs.declared.Encoding.{Encoding}
 use Rattle.yaml_emit_text.specs.declared.Settings.{Settings}
@@ -77,19 +77,19 @@ stopped_completes e f x xs ys whole b h c =
     subst Q (sym b) (k.0, finishes_stopped e.core.sink.status e.core f _ _ whole h k.1)
 
 -- an event was given
-pub lay_completes : (old new : Emitter) (e : Event) (h : List Event) (x : Encoding) (es : List Event) (whole : List Item) → old.fresh ≡ false → new.fresh ≡ false → h ≡ held_events old.held
-    → Leads old.core (h ++ e ∷ []) new.core (held_events new.held) → Completes old x (e ∷ es) whole → Completes new x es whole
+pub lay_completes : (old new : Emitter) (e : Event) (h : List Event) (x : Encoding) (es : List Event) (whole : List Item) → old.fresh ≡ false → new.fresh ≡ false → h ≡ old.held
+    → Leads old.core (h ++ e ∷ []) new.core new.held → Completes old x (e ∷ es) whole → Completes new x es whole
 unfolding Completes
 lay_completes old new e h x es whole a b same l c =
     let P : Bool → Type 0 = λ z. CompletesBy z old x (e ∷ es) whole in
     let Q : Bool → Type 0 = λ z. CompletesBy z new x es whole in
     let k = subst P a c in
     let R : List Event → Type 0 = λ t. Finishes old.core t whole in
-    let move : held_events old.held ++ (e ∷ es) ≡ (h ++ e ∷ []) ++ es = ap (λ z. z ++ (e ∷ es)) (sym same) ∙ sym (append_assoc h (e ∷ []) es) in
+    let move : old.held ++ (e ∷ es) ≡ (h ++ e ∷ []) ++ es = ap (λ z. z ++ (e ∷ es)) (sym same) ∙ sym (append_assoc h (e ∷ []) es) in
     subst Q (sym b) (l.encoding ∙ k.0, l.finishes es whole (subst R move k.1))
 
 -- the settings came into force
-pub begin_completes : (old new : Emitter) (e : Event) (x : Encoding) (es : List Event) (whole : List Item) → old.fresh ≡ true → new.fresh ≡ false → held_events new.held ≡ []
+pub begin_completes : (old new : Emitter) (e : Event) (x : Encoding) (es : List Event) (whole : List Item) → old.fresh ≡ true → new.fresh ≡ false → new.held ≡ []
     → IsFresh new.core (settled old.requested_settings (stream_encoding e)) → Completes old x (e ∷ es) whole → Completes new x (e ∷ es) whole
 unfolding Completes
 begin_completes old new e x es whole a b none f c =
@@ -102,7 +102,7 @@ begin_completes old new e x es whole a b none f c =
     let O : List Event → Type 0 = λ t. own_problems old.requested_settings.canonical t ≡ None in
     let done = fresh_finishes new.core (settled old.requested_settings k.encoding) k.encoding k.documents f' (subst O k.same k.right) in
     let R : List Event → Type 0 = λ t. Finishes new.core t (written (stream_layout (settled old.requested_settings k.encoding) k.documents)) in
-    let S : List Item → Type 0 = λ t. Finishes new.core (held_events new.held ++ (e ∷ es)) t in
+    let S : List Item → Type 0 = λ t. Finishes new.core (new.held ++ (e ∷ es)) t in
     subst Q (sym b) (ap (λ (z : Settings). z.encoding) f'.settings ∙ sym k.coded, subst S (sym k.is) (subst R (sym (ap (λ z. z ++ (e ∷ es)) none ∙ k.same)) done))
 
 written_by : (s : Status) (limit : ℕ) (x : Encoding) (bytes : List ℕ) (text whole : List Item) → EndsBy s limit x bytes text whole → HasWritten s limit bytes (encode x whole) (is_deep whole)
@@ -149,17 +149,21 @@ going_never : (e : Emitter) (f : Fault) (x : Encoding) (es : List Event) (whole 
 unfolding Completes Finishes
 going_never e f x es whole b g h c =
     let P : Bool → Type 0 = λ z. CompletesBy z e x es whole in
-    let S : Status → Type 0 = λ z. FinishesAt z e.core (held_events e.held ++ es) whole in
+    let S : Status → Type 0 = λ z. FinishesAt z e.core (e.held ++ es) whole in
     let k = subst P b c in
-    let r : FinishesBy e.core (held_events e.held ++ es) whole = subst S g k.1 in
+    let r : FinishesBy e.core (e.held ++ es) whole = subst S g k.1 in
     going_refused e.core.place f (state_of e.core) r.rest refl h r.fits
+
+starved_fault : (levels : Bool) (f : Fault) → f ≡ memory_fault (memory_origin levels) → IsMemoryFault emit_layers f
+starved_fault true f h = inl h
+starved_fault false f h = inr h
 
 limited_by : (s : Status) (e : Emitter) (f : Fault) → e.core.sink.status ≡ s → e.fresh ≡ false → refusal_by e.core.place s e.core.starved ≡ Some f
     → ((x : Encoding) (es : List Event) (whole : List Item) → Completes e x es whole → HasWritten s e.limit e.core.sink.bytes (encode x whole) (is_deep whole)) → IsLimited e f
 limited_by Going e f s b h w = inr (λ x es whole c. absurd (going_never e f x es whole b s h c))
 limited_by Full e f s b h w = inr (λ x es whole c. inl (some_same write_error f h, (w x es whole c).1))
 limited_by Deep e f s b h w = inr (λ x es whole c. inr (some_same too_deep f h, (w x es whole c).0))
-limited_by Starved e f s b h w = inl (ap (λ (z : Fault). z.kind) (some_same (memory_fault (memory_origin e.core.starved)) f h))
+limited_by Starved e f s b h w = inl (starved_fault e.core.starved f (some_same (memory_fault (memory_origin e.core.starved)) f h))
 
 pub goes_going : (s : Status) (p : Expected) → goes_on s p ≡ true → s ≡ Going
 goes_going Going p h = refl
@@ -210,13 +214,13 @@ inside_whole i inv = λ none x whole h.
     all_written (emitter_of i) x whole (goes_going i.core.sink.status i.core.place g) (inv.few g) h
 
 pub inside_begins : (i : Inside) (core : Core) (e : Event) (s : Settings) (z : yaml_encoding_t) → IsEmitter i → i.fresh ≡ true → s ≡ settled i.requested_settings z → z ≡ stream_encoding e → IsFresh core s
-    → Begins (emitter_of i) e (record { requested_settings = i.requested_settings; limit = i.limit; core = core; held = i.held; fresh = false; opened = i.opened; closed = i.closed; fault = option_map fault_of i.fault })
+    → Begins (emitter_of i) e (record { requested_settings = i.requested_settings; limit = i.limit; core = core; held = held_events i.held; output = core.sink.bytes; fresh = false; opened = i.opened; closed = i.closed; fault = option_map fault_of i.fault })
 inside_begins i core e s z inv fr a b f =
     let P : Settings → Type 0 = λ t. IsFresh core t in
     let Q : yaml_encoding_t → Type 0 = λ t. IsFresh core (settled i.requested_settings t) in
     let f' : IsFresh core (settled i.requested_settings (stream_encoding e)) = subst Q b (subst P a f) in
     record {
-      completes = λ x es whole h. begin_completes (emitter_of i) (record { requested_settings = i.requested_settings; limit = i.limit; core = core; held = i.held; fresh = false; opened = i.opened; closed = i.closed; fault = option_map fault_of i.fault }) e x es whole fr refl (inv.begun fr).0 f' h;
+      completes = λ x es whole h. begin_completes (emitter_of i) (record { requested_settings = i.requested_settings; limit = i.limit; core = core; held = held_events i.held; output = core.sink.bytes; fresh = false; opened = i.opened; closed = i.closed; fault = option_map fault_of i.fault }) e x es whole fr refl (inv.begun fr).0 f' h;
       requested_settings = refl;
       limit = refl;
       begun = refl;
@@ -226,9 +230,9 @@ inside_begins i core e s z inv fr a b f =
     }
 
 pub inside_lays : (i : Inside) (core : Core) (h held : Held) (fault : Option Fault) (e : Event) → i.fresh ≡ false → h ≡ i.held → Leads i.core (held_events h ++ e ∷ []) core (held_events held)
-    → Given (emitter_of i) e (record { requested_settings = i.requested_settings; limit = i.limit; core = core; held = held; fresh = i.fresh; opened = i.opened; closed = i.closed; fault = fault })
+    → Given (emitter_of i) e (record { requested_settings = i.requested_settings; limit = i.limit; core = core; held = held_events held; output = core.sink.bytes; fresh = i.fresh; opened = i.opened; closed = i.closed; fault = fault })
 inside_lays i core h held fault e fr same l = record {
-  completes = λ x es whole c. lay_completes (emitter_of i) (record { requested_settings = i.requested_settings; limit = i.limit; core = core; held = held; fresh = i.fresh; opened = i.opened; closed = i.closed; fault = fault }) e (held_events h) x es whole fr fr (ap held_events same) l c;
+  completes = λ x es whole c. lay_completes (emitter_of i) (record { requested_settings = i.requested_settings; limit = i.limit; core = core; held = held_events held; output = core.sink.bytes; fresh = i.fresh; opened = i.opened; closed = i.closed; fault = fault }) e (held_events h) x es whole fr fr (ap held_events same) l c;
   requested_settings = refl;
   limit = refl;
   begun = fr;
@@ -257,11 +261,11 @@ inside_stays i f e inv is =
 
 -- that the stream was opened or closed is noted
 pub given_marked : (old : Emitter) (e : Event) (i : Inside) (o k : Bool) → Given old e (emitter_of i)
-    → Given old e (record { requested_settings = i.requested_settings; limit = i.limit; core = i.core; held = i.held; fresh = i.fresh; opened = o; closed = k; fault = option_map fault_of i.fault })
+    → Given old e (record { requested_settings = i.requested_settings; limit = i.limit; core = i.core; held = held_events i.held; output = i.core.sink.bytes; fresh = i.fresh; opened = o; closed = k; fault = option_map fault_of i.fault })
 unfolding Completes
 given_marked old e i o k g = record {
   completes = λ x es whole c.
-      let n : Emitter = record { requested_settings = i.requested_settings; limit = i.limit; core = i.core; held = i.held; fresh = i.fresh; opened = o; closed = k; fault = option_map fault_of i.fault } in
+      let n : Emitter = record { requested_settings = i.requested_settings; limit = i.limit; core = i.core; held = held_events i.held; output = i.core.sink.bytes; fresh = i.fresh; opened = o; closed = k; fault = option_map fault_of i.fault } in
       let P : Bool → Type 0 = λ z. CompletesBy z (emitter_of i) x es whole in
       let Q : Bool → Type 0 = λ z. CompletesBy z n x es whole in
       let done : CompletesBy false (emitter_of i) x es whole = subst P g.begun (g.completes x es whole c) in

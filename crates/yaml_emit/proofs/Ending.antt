@@ -13,7 +13,7 @@ use Rattle.yaml_emit_layout.specs.ToCome.{ToCome, stream, documents, root, frame
 use Rattle.yaml_emit_state.specs.declared.Core.{Core}
 use Rattle.yaml_emit_state.specs.Steps.{settings_of}
 use Rattle.yaml_emit_state.specs.Finish.{Finishes, FinishesAt}
-use Rattle.yaml_emit.specs.Held.{held_events, is_ready, needs, closes}
+use Rattle.yaml_emit.specs.Held.{is_ready, needs, closes}
 use Rattle.yaml_emit.specs.Emitter.{Emitter, Completes, CompletesBy, IsStream}
 use Rattle.yaml_emit.proofs.Holding.{few_needs, le_more}
 
@@ -134,14 +134,14 @@ written_at Starved core xs whole same g w f = absurd (cc)
 no_stream : (e : Emitter) (x : Encoding) (whole : List Item) → IsStream e.requested_settings x [] whole → ⊥
 no_stream e x whole h = let k = h.same in cc
 
-written_by_fresh : (b : Bool) (e : Emitter) (x : Encoding) (whole : List Item) → e.core.sink.status ≡ Going → is_ready (held_events e.held) ≡ false → CompletesBy b e x [] whole → e.core.sink.bytes ≡ encode x whole
+written_by_fresh : (b : Bool) (e : Emitter) (x : Encoding) (whole : List Item) → e.core.sink.status ≡ Going → is_ready e.held ≡ false → CompletesBy b e x [] whole → e.core.sink.bytes ≡ encode x whole
 unfolding Finishes
 written_by_fresh true e x whole g w h = absurd (no_stream e x whole h)
 written_by_fresh false e x whole g w h =
     let P : Encoding → Type 0 = λ z. e.core.sink.bytes ≡ encode z whole in
-    subst P h.0 (written_at e.core.sink.status e.core (held_events e.held) whole refl g w h.1)
+    subst P h.0 (written_at e.core.sink.status e.core e.held whole refl g w h.1)
 
 -- with no event to come, the output is the whole
-pub all_written : (e : Emitter) (x : Encoding) (whole : List Item) → e.core.sink.status ≡ Going → is_ready (held_events e.held) ≡ false → Completes e x [] whole → e.core.sink.bytes ≡ encode x whole
+pub all_written : (e : Emitter) (x : Encoding) (whole : List Item) → e.core.sink.status ≡ Going → is_ready e.held ≡ false → Completes e x [] whole → e.core.sink.bytes ≡ encode x whole
 unfolding Completes
 all_written e x whole g w h = written_by_fresh e.fresh e x whole g w h

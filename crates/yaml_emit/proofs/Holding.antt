@@ -1,5 +1,5 @@
 -- What is held, and when it is laid out.
-use Rattle.std.proofs.Common.{◌≡◌, ℕ, ◌<◌, List, [], ◌∷◌, ◌++◌, length, Bool, true, false, refl, sym, subst, ◌∙◌, ap, arith}
+use Rattle.std.proofs.Common.{◌≡◌, ℕ, ◌+◌, ◌<◌, List, [], ◌∷◌, ◌++◌, length, Bool, true, false, refl, sym, subst, ◌∙◌, ap, arith, length-append}
 use Rattle.std.specs.Prelude.{nat_le, ◌||◌, ◌&&◌, ◌≤◌}
 use Rattle.std.proofs.lemmas.Bool.Decides.{nat_tests}
 use Rattle.yaml_emit_layout.specs.Content.{Event, no_event, stream_start, stream_end, document_start, document_end, alias, scalar, sequence_start, sequence_end, mapping_start, mapping_end}
@@ -92,3 +92,25 @@ both_right false b h = absurd (cc)
 pub both_false : (a b : Bool) → a ≡ true → (a && b) ≡ false → b ≡ false
 both_false true b g h = h
 both_false false b g h = absurd (cc)
+
+-- three wait at most
+pub few_short : (xs : List Event) → is_ready xs ≡ false → length xs ≤ 3
+few_short xs h = let few = waits_few xs h in omega (arith, few)
+
+pub pushed_most : (xs ys : List Event) (e : Event) → ys ≡ xs ++ e ∷ [] → length xs < 4 → length ys ≤ 4
+pushed_most xs ys e same few =
+    let more : length ys ≡ length xs + 1 = ap (λ (zs : List Event). length zs) same ∙ length-append xs (e ∷ []) in
+    omega (arith, more, few)
+
+pub one_less : (xs ys : List Event) (e : Event) → xs ≡ e ∷ ys → length xs ≤ 4 → length ys ≤ 3
+one_less xs ys e same most =
+    let less : length xs ≡ length ys + 1 = ap (λ (zs : List Event). length zs) same ∙ omega arith in
+    omega (arith, less, most)
+
+pub less_most : (xs ys : List Event) (e : Event) → xs ≡ e ∷ ys → length xs ≤ 4 → length ys ≤ 4
+less_most xs ys e same most = let few = one_less xs ys e same most in omega (arith, few)
+
+-- behind the last that is laid out three are left: they wait, or the output has stopped
+pub short_held : (b : Bool) (xs : List Event) → (b && is_ready xs) ≡ false → (b ≡ false → length xs ≤ 3) → length xs ≤ 3
+short_held true xs h s = few_short xs h
+short_held false xs h s = s refl

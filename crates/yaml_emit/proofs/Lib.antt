@@ -8,5 +8,6 @@ pub mod Within
 pub mod Verdicts
 pub mod Dumped
 pub mod DumpsJudged
+pub mod Opened
 -- what it stands on, for laws that name the member alone
 pub use Rattle.yaml_parse.proofs as parse

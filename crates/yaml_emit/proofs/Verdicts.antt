@@ -33,28 +33,28 @@ use Rattle.yaml_emit.proofs.Emitting.{not_true, refusal_none, goes_going}
 
 -- ---- an event was given
 
-lay_refuses : (old new : Emitter) (e : Event) (h es : List Event) → old.fresh ≡ false → new.fresh ≡ false → h ≡ held_events old.held
-    → refusal_behind new.core (held_events new.held ++ es) ≡ refusal_behind old.core ((h ++ e ∷ []) ++ es) → verdict new es ≡ verdict old (e ∷ es)
+lay_refuses : (old new : Emitter) (e : Event) (h es : List Event) → old.fresh ≡ false → new.fresh ≡ false → h ≡ old.held
+    → refusal_behind new.core (new.held ++ es) ≡ refusal_behind old.core ((h ++ e ∷ []) ++ es) → verdict new es ≡ verdict old (e ∷ es)
 unfolding verdict
 lay_refuses old new e h es a b same j =
-    let move : held_events old.held ++ (e ∷ es) ≡ (h ++ e ∷ []) ++ es = ap (λ z. z ++ (e ∷ es)) (sym same) ∙ sym (append_assoc h (e ∷ []) es) in
+    let move : old.held ++ (e ∷ es) ≡ (h ++ e ∷ []) ++ es = ap (λ z. z ++ (e ∷ es)) (sym same) ∙ sym (append_assoc h (e ∷ []) es) in
     ap (λ z. verdict_by z new es) b ∙ (j ∙ (ap (refusal_behind old.core) (sym move) ∙ sym (ap (λ z. verdict_by z old (e ∷ es)) a)))
 
-lay_writes : (old new : Emitter) (e : Event) (h : List Event) (x : Encoding) (es : List Event) (whole : List Item) → old.fresh ≡ false → new.fresh ≡ false → h ≡ held_events old.held
-    → Leads old.core (h ++ e ∷ []) new.core (held_events new.held) → Judges old.core (h ++ e ∷ []) new.core (held_events new.held) → Writes old x (e ∷ es) whole → Writes new x es whole
+lay_writes : (old new : Emitter) (e : Event) (h : List Event) (x : Encoding) (es : List Event) (whole : List Item) → old.fresh ≡ false → new.fresh ≡ false → h ≡ old.held
+    → Leads old.core (h ++ e ∷ []) new.core new.held → Judges old.core (h ++ e ∷ []) new.core new.held → Writes old x (e ∷ es) whole → Writes new x es whole
 unfolding Writes
 lay_writes old new e h x es whole a b same l j c =
     let P : Bool → Type 0 = λ z. WritesBy z old x (e ∷ es) whole in
     let Q : Bool → Type 0 = λ z. WritesBy z new x es whole in
     let k = subst P a c in
     let R : List Event → Type 0 = λ t. LetsOut old.core t whole in
-    let move : held_events old.held ++ (e ∷ es) ≡ (h ++ e ∷ []) ++ es = ap (λ z. z ++ (e ∷ es)) (sym same) ∙ sym (append_assoc h (e ∷ []) es) in
+    let move : old.held ++ (e ∷ es) ≡ (h ++ e ∷ []) ++ es = ap (λ z. z ++ (e ∷ es)) (sym same) ∙ sym (append_assoc h (e ∷ []) es) in
     subst Q (sym b) (l.encoding ∙ k.0, j.lets_out es whole (subst R move k.1))
 
 pub inside_judges : (i : Inside) (core : Core) (h held : Held) (fault : Option Fault) (e : Event) → i.fresh ≡ false → i.core.sink.status ≡ Going → h ≡ i.held → Leads i.core (held_events h ++ e ∷ []) core (held_events held) → Judges i.core (held_events h ++ e ∷ []) core (held_events held)
-    → Judged (emitter_of i) e (record { requested_settings = i.requested_settings; limit = i.limit; core = core; held = held; fresh = i.fresh; opened = i.opened; closed = i.closed; fault = fault })
+    → Judged (emitter_of i) e (record { requested_settings = i.requested_settings; limit = i.limit; core = core; held = held_events held; output = core.sink.bytes; fresh = i.fresh; opened = i.opened; closed = i.closed; fault = fault })
 inside_judges i core h held fault e fr on same l j =
-    let new : Emitter = record { requested_settings = i.requested_settings; limit = i.limit; core = core; held = held; fresh = i.fresh; opened = i.opened; closed = i.closed; fault = fault } in
+    let new : Emitter = record { requested_settings = i.requested_settings; limit = i.limit; core = core; held = held_events held; output = core.sink.bytes; fresh = i.fresh; opened = i.opened; closed = i.closed; fault = fault } in
     record {
       refuses = λ g es. lay_refuses (emitter_of i) new e (held_events h) es fr fr (ap held_events same) (j.refuses g es);
       writes = λ x es whole c. lay_writes (emitter_of i) new e (held_events h) x es whole fr fr (ap held_events same) l j c;
@@ -90,14 +90,14 @@ fresh_lets_out core s es f =
     let P : List Item → Type 0 = λ t. Ends core.sink text t in
     subst P same (ends_fresh core.sink text f.output f.status)
 
-begin_refuses : (old new : Emitter) (e : Event) (es : List Event) → old.fresh ≡ true → new.fresh ≡ false → held_events new.held ≡ [] → IsFresh new.core (settled old.requested_settings (stream_encoding e)) → verdict new (e ∷ es) ≡ verdict old (e ∷ es)
+begin_refuses : (old new : Emitter) (e : Event) (es : List Event) → old.fresh ≡ true → new.fresh ≡ false → new.held ≡ [] → IsFresh new.core (settled old.requested_settings (stream_encoding e)) → verdict new (e ∷ es) ≡ verdict old (e ∷ es)
 unfolding verdict
 begin_refuses old new e es a b none f =
     ap (λ z. verdict_by z new (e ∷ es)) b
     ∙ (ap (λ z. refusal_behind new.core (z ++ (e ∷ es))) none
     ∙ (fresh_refuses new.core (settled old.requested_settings (stream_encoding e)) (e ∷ es) f ∙ sym (ap (λ z. verdict_by z old (e ∷ es)) a)))
 
-begin_writes : (old new : Emitter) (e : Event) (x : Encoding) (es : List Event) (whole : List Item) → old.fresh ≡ true → new.fresh ≡ false → held_events new.held ≡ [] → IsFresh new.core (settled old.requested_settings (stream_encoding e))
+begin_writes : (old new : Emitter) (e : Event) (x : Encoding) (es : List Event) (whole : List Item) → old.fresh ≡ true → new.fresh ≡ false → new.held ≡ [] → IsFresh new.core (settled old.requested_settings (stream_encoding e))
     → Writes old x (e ∷ es) whole → Writes new x (e ∷ es) whole
 unfolding Writes
 begin_writes old new e x es whole a b none f c =
@@ -106,16 +106,16 @@ begin_writes old new e x es whole a b none f c =
     let s : Settings = settled old.requested_settings (stream_encoding e) in
     let k : IsLetOut old.requested_settings x (e ∷ es) whole = subst P a c in
     let R : List Event → Type 0 = λ t. LetsOut new.core (t ++ (e ∷ es)) (written (laid s (placed at.StreamStart) (let_out (e ∷ es)))) in
-    let S : List Item → Type 0 = λ t. LetsOut new.core (held_events new.held ++ (e ∷ es)) t in
+    let S : List Item → Type 0 = λ t. LetsOut new.core (new.held ++ (e ∷ es)) t in
     subst Q (sym b) (ap (λ (z : Settings). z.encoding) f.settings ∙ sym k.coded, subst S (sym k.is) (subst R (sym none) (fresh_lets_out new.core s (e ∷ es) f)))
 
 pub inside_first : (i : Inside) (core : Core) (e : Event) (s : Settings) (z : yaml_encoding_t) → IsEmitter i → i.fresh ≡ true → s ≡ settled i.requested_settings z → z ≡ stream_encoding e → IsFresh core s
-    → JudgesFirst (emitter_of i) e (record { requested_settings = i.requested_settings; limit = i.limit; core = core; held = i.held; fresh = false; opened = i.opened; closed = i.closed; fault = option_map fault_of i.fault })
+    → JudgesFirst (emitter_of i) e (record { requested_settings = i.requested_settings; limit = i.limit; core = core; held = held_events i.held; output = core.sink.bytes; fresh = false; opened = i.opened; closed = i.closed; fault = option_map fault_of i.fault })
 inside_first i core e s z inv fr a b f =
     let P : Settings → Type 0 = λ t. IsFresh core t in
     let Q : yaml_encoding_t → Type 0 = λ t. IsFresh core (settled i.requested_settings t) in
     let f' : IsFresh core (settled i.requested_settings (stream_encoding e)) = subst Q b (subst P a f) in
-    let new : Emitter = record { requested_settings = i.requested_settings; limit = i.limit; core = core; held = i.held; fresh = false; opened = i.opened; closed = i.closed; fault = option_map fault_of i.fault } in
+    let new : Emitter = record { requested_settings = i.requested_settings; limit = i.limit; core = core; held = held_events i.held; output = core.sink.bytes; fresh = false; opened = i.opened; closed = i.closed; fault = option_map fault_of i.fault } in
     record {
       refuses = λ es. begin_refuses (emitter_of i) new e es fr refl (inv.begun fr).0 f';
       writes = λ x es whole c. begin_writes (emitter_of i) new e x es whole fr refl (inv.begun fr).0 f' c;
@@ -130,7 +130,7 @@ first_judged old mid new e p q = record {
   refuses = λ g es. q.refuses g es ∙ p.refuses es;
   writes = λ x es whole c. q.writes x es whole (p.writes x es whole c);
   going = λ _. p.going;
-  memory = λ n. q.memory (ap (λ z. may_note (take_memory (z ++ e ∷ [])) mid.core.sink.status new.core.sink.status) p.held ∙ (ap (λ z. may_note (take_memory (held_events old.held ++ e ∷ [])) z new.core.sink.status) (p.begun ∙ sym p.going) ∙ n)) ∙ p.memory;
+  memory = λ n. q.memory (ap (λ z. may_note (take_memory (z ++ e ∷ [])) mid.core.sink.status new.core.sink.status) p.held ∙ (ap (λ z. may_note (take_memory (old.held ++ e ∷ [])) z new.core.sink.status) (p.begun ∙ sym p.going) ∙ n)) ∙ p.memory;
 }
 
 -- ---- behind a fault
@@ -192,7 +192,7 @@ inside_unjudged i inv f is =
 -- ---- that the stream was opened or closed is noted
 
 abbrev marked : Inside → Bool → Bool → Emitter
-marked i o k = record { requested_settings = i.requested_settings; limit = i.limit; core = i.core; held = i.held; fresh = i.fresh; opened = o; closed = k; fault = option_map fault_of i.fault }
+marked i o k = record { requested_settings = i.requested_settings; limit = i.limit; core = i.core; held = held_events i.held; output = i.core.sink.bytes; fresh = i.fresh; opened = o; closed = k; fault = option_map fault_of i.fault }
 
 marked_verdict : (b : Bool) (i : Inside) (o k : Bool) (es : List Event) → verdict_by b (marked i o k) es ≡ verdict_by b (emitter_of i) es
 marked_verdict true i o k es = refl
@@ -207,7 +207,7 @@ unmarked_writes true i o k x es whole h = h
 unmarked_writes false i o k x es whole h = h
 
 pub judged_marked : (old : Emitter) (e : Event) (i : Inside) (o k : Bool) → Judged old e (emitter_of i)
-    → Judged old e (record { requested_settings = i.requested_settings; limit = i.limit; core = i.core; held = i.held; fresh = i.fresh; opened = o; closed = k; fault = option_map fault_of i.fault })
+    → Judged old e (record { requested_settings = i.requested_settings; limit = i.limit; core = i.core; held = held_events i.held; output = i.core.sink.bytes; fresh = i.fresh; opened = o; closed = k; fault = option_map fault_of i.fault })
 unfolding verdict Writes
 judged_marked old e i o k j = record {
   refuses = λ g es. marked_verdict i.fresh i o k es ∙ j.refuses g es;
@@ -217,7 +217,7 @@ judged_marked old e i o k j = record {
 }
 
 pub tells_marked : (i : Inside) (o k : Bool) → Tells (emitter_of i)
-    → Tells (record { requested_settings = i.requested_settings; limit = i.limit; core = i.core; held = i.held; fresh = i.fresh; opened = o; closed = k; fault = option_map fault_of i.fault })
+    → Tells (record { requested_settings = i.requested_settings; limit = i.limit; core = i.core; held = held_events i.held; output = i.core.sink.bytes; fresh = i.fresh; opened = o; closed = k; fault = option_map fault_of i.fault })
 unfolding verdict Writes
 tells_marked i o k t = record {
   fault = t.fault ∙ ap (fault_by i.core.sink.status i.core.starved) (sym (marked_verdict i.fresh i o k []));

@@ -12,7 +12,7 @@ use Rattle.yaml_emit_state.specs.declared.Core.{Core}
 use Rattle.yaml_emit_state.specs.Steps.{settings_of, goes_on}
 use Rattle.yaml_emit_state.specs.Finish.{Finishes, FinishesAt}
 use Rattle.yaml_emit.specs.declared.emitter.yaml_emitter_t.TheInside.{Inside}
-use Rattle.yaml_emit.specs.Held.{held_events, is_ready}
+use Rattle.yaml_emit.specs.Held.{is_ready}
 use Rattle.yaml_emit.specs.Emitter.{Emitter, emitter_of, IsEmitter, Completes, CompletesBy, IsStream}
 use Rattle.yaml_emit.specs.Within.{Fits, IsWithin}
 use Rattle.yaml_emit.proofs.Ending.{nothing_held, no_event_left}
@@ -36,15 +36,15 @@ fits_at Starved core xs whole same g w f = absurd (cc)
 no_stream : (e : Emitter) (x : Encoding) (whole : List Item) → IsStream e.requested_settings x [] whole → ⊥
 no_stream e x whole h = let k = h.same in cc
 
-fits_by_fresh : (b : Bool) (e : Emitter) (x : Encoding) (whole : List Item) → e.core.sink.limit ≡ e.limit → e.core.sink.status ≡ Going → is_ready (held_events e.held) ≡ false → CompletesBy b e x [] whole → Fits e.limit x whole
+fits_by_fresh : (b : Bool) (e : Emitter) (x : Encoding) (whole : List Item) → e.core.sink.limit ≡ e.limit → e.core.sink.status ≡ Going → is_ready e.held ≡ false → CompletesBy b e x [] whole → Fits e.limit x whole
 unfolding Finishes
 fits_by_fresh true e x whole l g w h = absurd (no_stream e x whole h)
 fits_by_fresh false e x whole l g w h =
     let P : Encoding → Type 0 = λ z. Fits e.limit z whole in
     let Q : ℕ → Type 0 = λ n. Fits n e.core.sink.encoding whole in
-    subst P h.0 (subst Q l (fits_at e.core.sink.status e.core (held_events e.held) whole refl g w h.1))
+    subst P h.0 (subst Q l (fits_at e.core.sink.status e.core e.held whole refl g w h.1))
 
-fits : (e : Emitter) (x : Encoding) (whole : List Item) → e.core.sink.limit ≡ e.limit → e.core.sink.status ≡ Going → is_ready (held_events e.held) ≡ false → Completes e x [] whole → Fits e.limit x whole
+fits : (e : Emitter) (x : Encoding) (whole : List Item) → e.core.sink.limit ≡ e.limit → e.core.sink.status ≡ Going → is_ready e.held ≡ false → Completes e x [] whole → Fits e.limit x whole
 unfolding Completes
 fits e x whole l g w h = fits_by_fresh e.fresh e x whole l g w h
 

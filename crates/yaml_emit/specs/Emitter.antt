@@ -1,15 +1,15 @@
 -- What an emitter's output ends as, with the events that follow, and its faults.
-use Rattle.std.specs.Prelude.{◌≡◌, ◌⊎◌, ℕ, ◌<◌, Bool, true, false, List, [], ◌∷◌, ◌++◌, length, take, Option, Some, None, option_map, pos, codes, Result, Ok, Err}
+use Rattle.std.specs.Prelude.{◌≡◌, ◌⊎◌, ℕ, ◌<◌, ◌≤◌, Bool, true, false, List, [], ◌∷◌, ◌++◌, length, take, Option, Some, None, option_map, pos, codes, Result, Ok, Err}
 use Rattle.yaml_scan.specs.declared.yaml_encoding_t.{yaml_encoding_t}
 use Rattle.yaml_scan.specs.declared.yaml_encoding_t.TheVariants.{YAML_ANY_ENCODING}
 use Rattle.yaml_scan.specs.declared.yaml_break_t.TheVariants.{YAML_ANY_BREAK}
 use Rattle.yaml_scan.specs.declared.yaml_fault_t.{yaml_fault_t}
 use Rattle.yaml_scan.specs.declared.yaml_error_type_t.{yaml_error_type_t}
-use Rattle.yaml_scan.specs.declared.yaml_error_type_t.TheVariants.{YAML_EMITTER_ERROR, YAML_WRITER_ERROR, YAML_MEMORY_ERROR}
+use Rattle.yaml_scan.specs.declared.yaml_error_type_t.TheVariants.{YAML_EMITTER_ERROR, YAML_WRITER_ERROR}
 use Rattle.yaml_scan.specs.declared.yaml_origin_t.{yaml_origin_t}
 use Rattle.yaml_scan.specs.declared.yaml_origin_t.TheVariants as origin
 use Rattle.yaml_scan.specs.Tokens.{zero_mark}
-use Rattle.yaml_scan.specs.Faults.{Fault, fault_of, memory_fault}
+use Rattle.yaml_scan.specs.Faults.{Fault, fault_of, memory_fault, IsMemoryFault, emit_layers}
 use Rattle.yaml_emit_text.specs.declared.Encoding.{Encoding}
 use Rattle.yaml_emit_text.specs.declared.Status.{Status}
 use Rattle.yaml_emit_text.specs.declared.Status.TheVariants.{Going, Full, Deep, Starved}
@@ -27,7 +27,6 @@ use Rattle.yaml_emit_layout.specs.Nodes.{stream_layout}
 use Rattle.yaml_emit_state.specs.declared.Core.{Core}
 use Rattle.yaml_emit_state.specs.Steps.{goes_on}
 use Rattle.yaml_emit_state.specs.Finish.{Finishes}
-use Rattle.yaml_emit.specs.declared.held.Held.{Held}
 use Rattle.yaml_emit.specs.declared.emitter.yaml_emitter_t.TheInside.{Inside}
 use Rattle.yaml_emit.specs.Held.{held_events, HeldUtf8, is_ready}
 use Rattle.yaml_emit.specs.Judged.{refused_at}
@@ -38,26 +37,31 @@ pub record Emitter : Type 0 where
   -- the settings that were set, and the limit
   pub requested_settings : RequestedSettings
   pub limit : ℕ
-  pub core : Core
-  pub held : Held
+  -- the events that were given and are not laid out, the oldest first
+  pub held : List Event
+  -- the text so far
+  pub output : List ℕ
   -- no event was given
   pub fresh : Bool
   pub opened : Bool
   pub closed : Bool
   -- the first fault
   pub fault : Option Fault
+  -- How the text goes on behind what was laid out, and what has stopped it: definitions read it, and no clause names it.
+  pub core : Core
 
 abbrev pub emitter_of : Inside → Emitter
 emitter_of e = record {
   requested_settings = e.requested_settings;
   limit = e.limit;
-  core = e.core;
-  held = e.held;
+  held = held_events e.held;
+  output = e.core.sink.bytes;
   fresh = e.fresh;
   opened = e.opened;
   closed = e.closed;
   fault = option_map
       fault_of e.fault;
+  core = e.core;
 }
 
 abbrev pub plain_fault : yaml_error_type_t → List ℕ → yaml_origin_t → Fault
@@ -111,10 +115,15 @@ refusal_by place s levels = fault_by s levels (refused_at place)
 abbrev pub refusal_of : Core → Option Fault
 refusal_of core = refusal_by core.place core.sink.status core.starved
 
+-- the fault of what has stopped an emitter
+abbrev pub stop_of : Emitter → Option Fault
+stop_of e = refusal_of e.core
+
 pub record IsEmitter (e : Inside) : Type 0 where
   -- the fault is the first that laying out met
   pub faulty : option_map fault_of e.fault ≡ refusal_of e.core
   pub few : goes_on e.core.sink.status e.core.place ≡ true → is_ready (held_events e.held) ≡ false
+  pub short : length (held_events e.held) ≤ 3
   pub texts : HeldUtf8 e.held
   pub begun : e.fresh ≡ true → (held_events e.held ≡ [])
       × ((option_map fault_of e.fault ≡ None)
@@ -141,7 +150,7 @@ pub record IsStream (w : RequestedSettings) (x : Encoding) (es : List Event)
 abbrev pub CompletesBy : Bool → Emitter → Encoding → List Event → List Item → Type 0
 CompletesBy true e x es whole = IsStream e.requested_settings x es whole
 CompletesBy false e x es whole = (e.core.sink.encoding ≡ x)
-    × Finishes e.core (held_events e.held ++ es) whole
+    × Finishes e.core (e.held ++ es) whole
 
 -- With these events to come, the whole text is `whole`, in that encoding.
 unfoldable pub Completes : Emitter → Encoding → List Event → List Item → Type 0
@@ -213,7 +222,7 @@ Passes limit bytes deep f = ((f ≡ write_error) × PassesSize limit bytes)
 
 -- The fault tells that memory ran out, or names a limit that each text passes which the emitter completes.
 abbrev pub IsLimited : Emitter → Fault → Type 0
-IsLimited e f = (f.kind ≡ YAML_MEMORY_ERROR) ⊎ ((x : Encoding) (es : List Event) (whole : List Item)
+IsLimited e f = IsMemoryFault emit_layers f ⊎ ((x : Encoding) (es : List Event) (whole : List Item)
     → Completes e x es whole → Passes e.limit (encode x whole) (is_deep whole) f)
 
 -- What is written is the front of each text that the emitter completes: all up to the limit where that was passed.
@@ -251,7 +260,8 @@ pub record IsNew (e : Emitter) (most : ℕ) : Type 0 where
   pub opened : e.opened ≡ false
   pub closed : e.closed ≡ false
   pub fault : e.fault ≡ None
-  pub output : e.core.sink.bytes ≡ []
+  pub held : e.held ≡ []
+  pub output : e.output ≡ []
 
 -- the settings came into force with the first event
 pub record Begins (old : Emitter) (e : Event) (new : Emitter) : Type 0 where

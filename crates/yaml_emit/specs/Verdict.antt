@@ -13,14 +13,13 @@ use Rattle.yaml_emit_layout.specs.declared.Problem.{Problem}
 use Rattle.yaml_emit_layout.specs.declared.Expected.TheVariants as at
 use Rattle.yaml_emit_layout.specs.Content.{Event}
 use Rattle.yaml_emit_layout.specs.State.{placed}
-use Rattle.yaml_emit.specs.Held.{held_events}
 use Rattle.yaml_emit_state.specs.Steps.{Notes}
 use Rattle.yaml_emit.specs.Judged.{first_progress, let_out, first_refusal, laid, refusal_behind, LetsOut, take_memory}
 use Rattle.yaml_emit.specs.Emitter.{Emitter, stream_encoding, fault_by, HasWritten}
 
 abbrev pub verdict_by : Bool → Emitter → List Event → Option Problem
 verdict_by true e es = first_refusal e.requested_settings.canonical first_progress (let_out es)
-verdict_by false e es = refusal_behind e.core (held_events e.held ++ es)
+verdict_by false e es = refusal_behind e.core (e.held ++ es)
 
 -- The problem of the first event that is refused, among those that are let out once these are given too.
 unfoldable pub verdict : Emitter → List Event → Option Problem
@@ -39,7 +38,7 @@ pub record IsLetOut (w : RequestedSettings) (x : Encoding) (es : List Event)
 
 abbrev pub WritesBy : Bool → Emitter → Encoding → List Event → List Item → Type 0
 WritesBy true e x es whole = IsLetOut e.requested_settings x es whole
-WritesBy false e x es whole = (e.core.sink.encoding ≡ x) × LetsOut e.core (held_events e.held ++ es)
+WritesBy false e x es whole = (e.core.sink.encoding ≡ x) × LetsOut e.core (e.held ++ es)
     whole
 
 -- Once these events are given too, `whole` is what is written, in that encoding: all events that are let out, up to the first
@@ -57,7 +56,7 @@ pub record Judged (old : Emitter) (e : Event) (new : Emitter) : Type 0 where
   -- an output that has stopped stays stopped
   pub going : new.core.sink.status ≡ Going → old.core.sink.status ≡ Going
   -- That memory was refused outside the output is noted where this stops it, once an event is held or given that takes such memory.
-  pub memory : Notes (take_memory (held_events old.held ++ e ∷ [])) old.core new.core
+  pub memory : Notes (take_memory (old.held ++ e ∷ [])) old.core new.core
 
 -- Of some events that were to come those are still to come, and the others were judged in their turn.
 pub record JudgedAll (old : Emitter) (es : List Event) (new : Emitter) (left : List Event) : Type 0
@@ -82,7 +81,7 @@ pub record JudgesFirst (old : Emitter) (e : Event) (new : Emitter) : Type 0 wher
       → Writes new x (e ∷ es) whole
   pub going : old.core.sink.status ≡ Going
   pub begun : new.core.sink.status ≡ Going
-  pub held : held_events new.held ≡ held_events old.held
+  pub held : new.held ≡ old.held
   pub memory : new.core.starved ≡ old.core.starved
 
 -- All of it is in the output, which passes no limit; or the output has stopped there.
@@ -99,5 +98,5 @@ HasLetOut Starved limit output bytes deep = HasWritten Starved limit output byte
 pub record Tells (e : Emitter) : Type 0 where
   pub fault : e.fault ≡ fault_by e.core.sink.status e.core.starved (verdict e [])
   pub output : (x : Encoding) (whole : List Item) → Writes e x [] whole
-      → HasLetOut e.core.sink.status e.limit e.core.sink.bytes (encode x whole) (is_deep whole)
+      → HasLetOut e.core.sink.status e.limit e.output (encode x whole) (is_deep whole)
   pub memory : e.core.sink.status ≡ Going → e.core.starved ≡ false

@@ -1,12 +1,12 @@
 //! The emitter.
 
-ghost use Rattle.std.specs.Prelude.{◌≡◌, Some, None, true, false, option_map, IfOk, IfErr, OnErr};
+ghost use Rattle.std.specs.Prelude.{◌≡◌, ◌≤◌, length, Some, None, true, false, option_map, IfOk, IfErr, OnErr};
 ghost use Rattle.yaml_scan.specs.Faults.{Fault, fault_of, memory_fault};
 ghost use Rattle.yaml_scan.specs.declared.yaml_origin_t.TheVariants as from;
 ghost use Rattle.yaml_parse.specs.Events.{event_of, body_of};
 ghost use Rattle.yaml_parse.specs.Constructors.{HasUtf8};
 ghost use Rattle.yaml_emit_layout.specs.Content.{emitter_event};
-ghost use Rattle.yaml_emit.specs.Emitter.{stream_encoding, refusal_of, IsNew, IsLimited, ShowsFront, IsWhole, Given, Begins, Answers, Stays, Stuck};
+ghost use Rattle.yaml_emit.specs.Emitter.{stream_encoding, stop_of, IsNew, IsLimited, ShowsFront, IsWhole, Given, Begins, Answers, Stays, Stuck};
 ghost use Rattle.yaml_emit.specs.Within.{IsWithin};
 ghost use Rattle.yaml_emit.specs.Verdict.{Judged, JudgesFirst, Tells, Unjudged};
 
@@ -162,7 +162,7 @@ pub fn yaml_emitter_opened(emitter: &yaml_emitter_t) -> bool
 /// was refused by then, what stopped the output. With no fault the text has all events that were let out.
 pub fn yaml_emitter_fault(emitter: &yaml_emitter_t) -> Option<&yaml_fault_t>
     ensures is { option_map (λ f. fault_of f.now) result ≡ emitter.now.fault }
-    ensures because { emitter.now.fault ≡ refusal_of emitter.now.core }
+    ensures because { emitter.now.fault ≡ stop_of emitter.now }
     ensures tells { Tells emitter.now }
     ensures limited { (f : Fault) → emitter.now.fault ≡ Some f → IsLimited emitter.now f }
 {
@@ -174,7 +174,7 @@ pub fn yaml_emitter_fault(emitter: &yaml_emitter_t) -> Option<&yaml_fault_t>
 
 /// The text so far: the front of each text that the emitter completes.
 pub fn yaml_emitter_output(emitter: &yaml_emitter_t) -> &[u8]
-    ensures bytes { result.now ≡ emitter.now.core.sink.bytes }
+    ensures bytes { result.now ≡ emitter.now.output }
     ensures front { ShowsFront emitter.now result.now }
 {
     emitter.core.sink().output()
@@ -182,7 +182,7 @@ pub fn yaml_emitter_output(emitter: &yaml_emitter_t) -> &[u8]
 
 /// The text: all of it, where no fault has come and no event is to come; it then passes no limit.
 pub fn yaml_emitter_into_output(emitter: yaml_emitter_t) -> Vec<u8>
-    ensures bytes { result.items ≡ emitter.core.sink.bytes }
+    ensures bytes { result.items ≡ emitter.output }
     ensures front { ShowsFront emitter result.items }
     ensures whole { IsWhole emitter result.items }
     ensures within { IsWithin emitter }
@@ -216,6 +216,7 @@ impl yaml_emitter_t {
         requires begun { self.old.fresh ≡ false }
         ensures given { Given self.old (emitter_event (body_of event.old)) self.new }
         ensures judged { Judged self.old (emitter_event (body_of event.old)) self.new }
+        ensures few { length self.new.held ≤ 3 }
         ensures opened { (self.new.opened ≡ self.old.opened) × (self.new.closed ≡ self.old.closed) }
     {
         give(&mut self.core, &mut self.held, event);
@@ -229,6 +230,7 @@ impl yaml_emitter_t {
         requires right { self.old.fault ≡ None }
         ensures given { Given self.old (emitter_event (body_of event.old)) self.new }
         ensures judged { Judged self.old (emitter_event (body_of event.old)) self.new }
+        ensures few { length self.new.held ≤ 3 }
         ensures opened { (self.new.opened ≡ self.old.opened) × (self.new.closed ≡ self.old.closed) }
     {
         if self.fresh {
@@ -246,6 +248,9 @@ impl yaml_emitter_t {
         ensures tells { Tells self.now }
         ensures stuck { OnErr result (Stuck self.now) }
         ensures unjudged { OnErr result (Unjudged self.now) }
+        ensures few { length self.now.held ≤ 3 }
+        ensures begun { OnErr result (self.now.fresh ≡ false) }
+        ensures running { self.now.opened ≡ true → self.now.fresh ≡ false }
     {
         match self.fault {
             None => Ok(()),
@@ -261,6 +266,7 @@ impl yaml_emitter_t {
         ensures given { Given self.old (emitter_event (body_of event.old)) self.new }
         ensures judged { Judged self.old (emitter_event (body_of event.old)) self.new }
         ensures stays { Stays self.old self.new }
+        ensures few { length self.new.held ≤ 3 }
         ensures opened { (self.new.opened ≡ self.old.opened) × (self.new.closed ≡ self.old.closed) }
     {
         match self.fault {
@@ -281,6 +287,7 @@ impl yaml_emitter_t {
         ensures answer { Answers self.new.fault result }
         ensures tells { Tells self.new }
         ensures stays { Stays self.old self.new }
+        ensures few { length self.new.held ≤ 3 }
         ensures opened { (self.new.opened ≡ self.old.opened) × (self.new.closed ≡ self.old.closed) }
         ensures stuck { OnErr result (Stuck self.new) }
         ensures unjudged { OnErr result (Unjudged self.new) }
@@ -296,6 +303,7 @@ impl yaml_emitter_t {
         ensures answer { Answers self.new.fault result }
         ensures tells { Tells self.new }
         ensures stays { Stays self.old self.new }
+        ensures few { length self.new.held ≤ 3 }
         ensures opened { (self.new.opened ≡ self.old.opened) × (self.new.closed ≡ self.old.closed) }
         ensures stuck { OnErr result (Stuck self.new) }
         ensures unjudged { OnErr result (Unjudged self.new) }
@@ -309,7 +317,7 @@ impl yaml_emitter_t {
 
 /// Takes an event and lays out what no longer has to be held. The first fault is answered again from then on: `write error`
 /// past the limit, the grammar's fault for the first event that it refuses, `indentation is too deep`, or want of memory.
-/// Marks are ignored. The event's texts have to be UTF-8, which `yaml_event_utf8` tells.
+/// At most three events are held then. Marks are ignored. The event's texts have to be UTF-8, which `yaml_event_utf8` tells.
 pub fn yaml_emitter_emit(
     emitter: &mut yaml_emitter_t,
     event: yaml_event_t,
@@ -320,6 +328,7 @@ pub fn yaml_emitter_emit(
     ensures tells { Tells emitter.new }
     ensures answer { Answers emitter.new.fault result }
     ensures stays { Stays emitter.old emitter.new }
+    ensures few { length emitter.new.held ≤ 3 }
     ensures opened { (emitter.new.opened ≡ emitter.old.opened)
         × (emitter.new.closed ≡ emitter.old.closed) }
 {
@@ -336,6 +345,7 @@ pub fn yaml_emitter_emit_from(emitter: &mut yaml_emitter_t, event: &mut yaml_eve
     ensures given { Given emitter.old (emitter_event (event_of event.old).body) emitter.new }
     ensures judged { Judged emitter.old (emitter_event (event_of event.old).body) emitter.new }
     ensures stays { Stays emitter.old emitter.new }
+    ensures few { length emitter.new.held ≤ 3 }
     ensures opened { (emitter.new.opened ≡ emitter.old.opened)
         × (emitter.new.closed ≡ emitter.old.closed) }
 {

@@ -1,6 +1,6 @@
 //! What no longer has to be held.
 
-ghost use Rattle.std.specs.Prelude.{◌≡◌, ◌&&◌, ◌++◌, ◌∷◌, [], true, false};
+ghost use Rattle.std.specs.Prelude.{◌≡◌, ◌≤◌, length, ◌&&◌, ◌++◌, ◌∷◌, [], true, false};
 ghost use Rattle.yaml_parse.specs.Events.{body_of};
 ghost use Rattle.yaml_parse.specs.Constructors.{HasUtf8};
 ghost use Rattle.yaml_emit_layout.specs.Content.{emitter_event};
@@ -31,10 +31,13 @@ fn passes(core: &Core, held: &Held, event: &yaml_event_body_t) -> bool
 
 // What lies ready is laid out, up to the first event that is refused.
 fn release(core: &mut Core, held: &mut Held)
-    requires { HeldUtf8 held.old }
+    requires utf8 { HeldUtf8 held.old }
+    requires most { length (held_events held.old) ≤ 4 }
+    requires going { goes_on core.old.sink.status core.old.place ≡ true }
     ensures leads { Leads core.old (held_events held.old) core.new (held_events held.new) }
     ensures judges { Judges core.old (held_events held.old) core.new (held_events held.new) }
     ensures utf8 { HeldUtf8 held.new }
+    ensures short { length (held_events held.new) ≤ 3 }
     ensures waits { goes_on core.new.sink.status core.new.place ≡ true
         → is_ready (held_events held.new) ≡ false }
 {
@@ -46,12 +49,14 @@ fn release(core: &mut Core, held: &mut Held)
 // An event is given behind the held ones. What is left of it counts for nothing.
 pub(crate) fn give(core: &mut Core, held: &mut Held, event: &mut yaml_event_body_t)
     requires few { is_ready (held_events held.old) ≡ false }
+    requires going { goes_on core.old.sink.status core.old.place ≡ true }
     requires utf8 { HeldUtf8 held.old × HasUtf8 (body_of event.old) }
     ensures leads { Leads core.old (held_events held.old ++ emitter_event (body_of event.old) ∷ [])
         core.new (held_events held.new) }
     ensures judges { Judges core.old (held_events held.old ++ emitter_event (body_of event.old)
         ∷ []) core.new (held_events held.new) }
     ensures utf8 { HeldUtf8 held.new }
+    ensures short { length (held_events held.new) ≤ 3 }
     ensures waits { goes_on core.new.sink.status core.new.place ≡ true
         → is_ready (held_events held.new) ≡ false }
 {

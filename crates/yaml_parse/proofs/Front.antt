@@ -1,11 +1,11 @@
 -- From what a source says to what every stack does.
-use Rattle.std.proofs.Common.{◌+◌, length, arith, ◌≡◌, ◌⊎◌, inl, inr, List, [], ◌∷◌, Option, Some, None, refl}
+use Rattle.std.proofs.Common.{◌+◌, length, arith, ◌≡◌, ◌⊎◌, inl, inr, List, [], ◌∷◌, Option, Some, None, refl, sym}
 use Rattle.yaml_scan.specs.Tokens.{Token, no_token}
 use Rattle.yaml_scan.specs.Faults.{Fault}
 use Rattle.yaml_parse_model.specs.Source.{front_of, rest_of, GivesToken, GivesFault}
 use Rattle.yaml_parse_grammar.specs.States.{State}
-use Rattle.yaml_parse_grammar.specs.Machine.{run, ending_at}
-use Rattle.yaml_parse_grammar.proofs.Single.{front_runs, ending_runs}
+use Rattle.yaml_parse_grammar.specs.Machine.{run, ending_at, unasked_at_stop}
+use Rattle.yaml_parse_grammar.proofs.Single.{front_runs, ending_runs, front_stops, nothing_stops}
 use Rattle.yaml_parse.specs.Steps.{IsFront, HasNoFront}
 
 asked_of : (ts : List Token) → (length (rest_of ts) + 1 ≡ length ts + 0) ⊎ (front_of ts ≡ no_token)
@@ -17,12 +17,18 @@ pub is_front : (o : Option Token) (ts : List Token) (f : Option Fault) (t : Toke
 is_front o ts f t rest after e h = record {
   runs = λ s. rw (e, h.given, h.rest, h.same) (front_runs ts f h.may s);
   asked = rw (e, h.given, h.rest) (asked_of ts);
+  stops = λ s. rw (e, h.given, h.rest) (front_stops ts s);
 }
 
 ends_here : (ts : List Token) (f : Option Fault) (e : Fault) → ts ≡ [] → f ≡ Some e → (s : List State) → run ts s f ≡ ending_at s e
 ends_here ts f e p q s = rw (p, q) (ending_runs s e)
 
+stops_here : (ts rest : List Token) → rest ≡ [] → ts ≡ [] → (s : List State) → length rest ≡ unasked_at_stop ts s
+stops_here ts rest p q s = rw (p, q) (sym (nothing_stops s))
+
 pub has_no_front : (p : Option Token) (ts : List Token) (f : Option Fault) (e : Fault) (rest : List Token) (after : Option Fault)
-    → p ≡ None → GivesFault ts f e rest after → HasNoFront p ts f e
-has_no_front p ts f e rest after n h =
-    record { reason = elim h.reason [ inl m ↦ inl m | inr q ↦ inr (λ s. rw n (ends_here ts f e q.0 q.1 s)) ] }
+    → p ≡ None → GivesFault ts f e rest after → HasNoFront p ts f e rest
+has_no_front p ts f e rest after n h = record {
+  reason = elim h.reason [ inl m ↦ inl (inr m) | inr q ↦ inr (λ s. rw n (ends_here ts f e q.0 q.1 s)) ];
+  unasked = elim h.reason [ inl m ↦ inl (inr m) | inr q ↦ inr (λ s. rw n (stops_here ts rest h.none q.0 s)) ];
+}

@@ -1,7 +1,7 @@
 -- What feeding a loader with a parser's events comes to.
 use Rattle.std.proofs.Common.{◌≡◌, ◌⊎◌, ◌<◌, ℕ, ℤ, inl, inr, List, [], ◌∷◌, length, Option, Some, None, Bool, true, refl, sym, ap, subst, ◌∙◌, arith}
-use Rattle.yaml_scan.specs.declared.yaml_error_type_t.TheVariants.{YAML_MEMORY_ERROR}
-use Rattle.yaml_scan.specs.Faults.{Fault}
+use Rattle.yaml_scan.specs.declared.yaml_origin_t.TheVariants.{Loader}
+use Rattle.yaml_scan.specs.Faults.{Fault, memory_fault}
 use Rattle.yaml_scan.specs.declared.yaml_mark_t.{yaml_mark_t}
 use Rattle.std.specs.FinMap as map
 use Rattle.yaml_parse_model.specs.Events.{Event, EventBody}
@@ -12,10 +12,10 @@ use Rattle.yaml_parse_grammar.specs.Resolve.{Told}
 use Rattle.yaml_parse_grammar.specs.Remaining.{ParserRemaining, IsFinished, FaultOf}
 use Rattle.yaml_parse_loader.specs.Loading.{Loading, Fed, goes_on, loaded, refused, nothing_loaded, step, step_body, aliased, load, turn}
 use Rattle.yaml_parse.specs.Finds.{GivesNext, GivesEnd}
-use Rattle.yaml_parse.specs.Loads.{Loads, load_on, behind_all, loads, loads_of, LoadGives, LoadRefuses, KeepsLoading, told_events, LoadsSame}
+use Rattle.yaml_parse.specs.Loads.{Loads, load_on, behind_all, loads, loads_of, unasked_on, unasked_at_refusal, unasked_of, LoadGives, LoadRefuses, KeepsLoading, told_events, LoadsSame}
 
 pub keeps_first : (c : ParserRemaining) (l : Loading) → l ≡ nothing_loaded → KeepsLoading c c l
-keeps_first c l e = record { same = ap (λ (x : Loading). loads c.events c.ending x) e; ending = refl; answered = refl }
+keeps_first c l e = record { same = ap (λ (x : Loading). loads c.events c.ending x) e; unasked = ap (λ (x : Loading). unasked_at_refusal c.events c.ending_unasked x) e; ending = refl; ending_unasked = refl; answered = refl }
 
 -- the next event is fed
 fed : (i o n : ParserRemaining) (l : Loading) (e : Event) (c : Fed) → KeepsLoading i o l → GivesNext e o n → step e l ≡ c → loads_of i ≡ load_on c (loads n.events o.ending) n.events n.unasked
@@ -23,10 +23,17 @@ unfolding loads
 fed i o n l e c k h s =
     sym k.same ∙ ap (λ (gs : List Told). loads gs o.ending l) h.events ∙ ap (λ (x : Fed). load_on x (loads n.events o.ending) n.events n.unasked) s
 
+fed_unasked : (i o n : ParserRemaining) (l : Loading) (e : Event) (c : Fed) → KeepsLoading i o l → GivesNext e o n → step e l ≡ c → unasked_of i ≡ unasked_on c n.unasked (unasked_at_refusal n.events o.ending_unasked)
+unfolding unasked_at_refusal
+fed_unasked i o n l e c k h s =
+    sym k.unasked ∙ ap (λ (gs : List Told). unasked_at_refusal gs o.ending_unasked l) h.events ∙ ap (λ (x : Fed). unasked_on x n.unasked (unasked_at_refusal n.events o.ending_unasked)) s
+
 pub keeps_on : (i o n : ParserRemaining) (l m : Loading) (e : Event) → KeepsLoading i o l → GivesNext e o n → step e l ≡ goes_on m → KeepsLoading i n m
 keeps_on i o n l m e k h s = record {
   same = ap (λ (f : Option Fault). loads n.events f m) h.ending ∙ sym (fed i o n l e (goes_on m) k h s);
+  unasked = ap (λ (u : ℕ). unasked_at_refusal n.events u m) h.ending_unasked ∙ sym (fed_unasked i o n l e (goes_on m) k h s);
   ending = h.ending ∙ k.ending;
+  ending_unasked = h.ending_unasked ∙ k.ending_unasked;
   answered = h.answered ∙ k.answered;
 }
 
@@ -39,11 +46,15 @@ keeps_less o n e h = shorter o.events (e, n.unasked) n.events h.events
 pub loads_document : (i o n : ParserRemaining) (l : Loading) (e : Event) (d : Document) → KeepsLoading i o l → GivesNext e o n → step e l ≡ loaded d → LoadGives (loads_of i) d i n
 loads_document i o n l e d k h s =
     subst (λ (r : Loads). LoadGives r d i n) (sym (fed i o n l e (loaded d) k h s))
-    (refl, record { events = refl; ending = h.ending ∙ k.ending; unasked = refl; answered = h.answered ∙ k.answered })
+    (refl, record { events = refl; ending = h.ending ∙ k.ending; ending_unasked = h.ending_unasked ∙ k.ending_unasked; unasked = refl; answered = h.answered ∙ k.answered })
 
 all_fed : (i o : ParserRemaining) (l : Loading) (f : Option Fault) → KeepsLoading i o l → o.events ≡ [] → o.ending ≡ f → loads_of i ≡ behind_all f
 unfolding loads
 all_fed i o l f k p q = sym k.same ∙ ap (λ (gs : List Told). loads gs o.ending l) p ∙ ap behind_all q
+
+all_unasked : (i o : ParserRemaining) (l : Loading) → KeepsLoading i o l → o.events ≡ [] → unasked_of i ≡ o.ending_unasked
+unfolding unasked_at_refusal
+all_unasked i o l k p = sym k.unasked ∙ ap (λ (gs : List Told). unasked_at_refusal gs o.ending_unasked l) p
 
 pub loads_nothing : (i o n : ParserRemaining) (l : Loading) (d : Document) → KeepsLoading i o l → GivesEnd o n → d ≡ no_document → LoadGives (loads_of i) d i n
 loads_nothing i o n l d k h e =
@@ -54,15 +65,17 @@ pub load_faulty : (i o n : ParserRemaining) (l : Loading) (f : Fault) → KeepsL
 load_faulty i o n l f k h = record {
   finished = h.finished;
   answered = h.answered;
-  reason = elim h.reason [ inl m ↦ inl m | inr q ↦ inr (all_fed i o l (Some f) k q.0 q.1) ];
+  reason = elim h.reason [ inl m ↦ inl (inr m) | inr q ↦ inr (all_fed i o l (Some f) k q.0 q.1) ];
+  unasked = elim h.reason [ inl m ↦ inl (inr m) | inr q ↦ elim h.unasked [ inl m ↦ inl (inr m) | inr u ↦ inr (u ∙ sym (all_unasked i o l k q.0)) ] ];
 }
 
 pub load_refused : (i o n n' : ParserRemaining) (l : Loading) (e : Event) (f : Fault) → KeepsLoading i o l → GivesNext e o n
-    → (f.kind ≡ YAML_MEMORY_ERROR) ⊎ (step e l ≡ refused f) → IsFinished n' → n'.answered ≡ f → LoadRefuses f i n'
-load_refused i o n n' l e f k h r p q = record {
+    → (f ≡ memory_fault Loader) ⊎ (step e l ≡ refused f) → IsFinished n' → n'.answered ≡ f → n'.unasked ≡ n.unasked → LoadRefuses f i n'
+load_refused i o n n' l e f k h r p q u = record {
   finished = p;
   answered = q;
-  reason = elim r [ inl m ↦ inl m | inr s ↦ inr (fed i o n l e (refused f) k h s) ];
+  reason = elim r [ inl m ↦ inl (inl m) | inr s ↦ inr (fed i o n l e (refused f) k h s) ];
+  unasked = elim r [ inl m ↦ inl (inl m) | inr s ↦ inr (u ∙ sym (fed_unasked i o n l e (refused f) k h s)) ];
 }
 
 -- ---- behind a document

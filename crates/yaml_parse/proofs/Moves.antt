@@ -11,15 +11,15 @@ use Rattle.yaml_parse_grammar.specs.Items.{RawEvent, RawEventBody, item_at}
 use Rattle.yaml_parse_grammar.specs.Items as item
 use Rattle.yaml_parse_grammar.specs.States.{State, Taken}
 use Rattle.yaml_parse_grammar.specs.Trees.{Given}
-use Rattle.yaml_parse_grammar.specs.Machine.{choice_at, taken_at, left_at, context_of, opened, run, ending_at, Stands}
+use Rattle.yaml_parse_grammar.specs.Machine.{choice_at, taken_at, left_at, context_of, opened, run, ending_at, unasked_at_stop, Stands}
 use Rattle.yaml_parse_grammar.proofs.Complete.{giving, leaves_at}
 use Rattle.yaml_parse_grammar.proofs.Voice.{Voiced, TakenSpeaks, taken_speaks, left_voiced, takes_a_token}
-use Rattle.yaml_parse_grammar.proofs.Single.{refuses, takes, takes_silently, opens}
+use Rattle.yaml_parse_grammar.proofs.Single.{refuses, takes, takes_silently, opens, refuses_stops, takes_stops, leaves_stops, opens_stops}
 use Rattle.yaml_parse_machine.specs.declared.item.State as code
 use Rattle.yaml_parse_machine.specs.Views.{state_of, stack_of}
 use Rattle.yaml_parse.specs.Stepped.{Stepped}
 use Rattle.yaml_parse.specs.Stepped as step
-use Rattle.yaml_parse.specs.Steps.{Raw, raw, outcome, budget, IsFront, HasNoFront, IsDirective, GivesItem, GivesNoItem, IsRefused, Steps, OpensAt, IsReal}
+use Rattle.yaml_parse.specs.Steps.{Raw, raw, outcome, stop_of, budget, IsFront, HasNoFront, IsDirective, GivesItem, GivesNoItem, IsRefused, Steps, OpensAt, IsReal}
 
 -- a directive leaves something open
 directive_stands : (b : RawEventBody) (P : Type 0) → Voiced b P → IsDirective b → P
@@ -45,6 +45,7 @@ pub take_item : (x : State) (t : Token) (rest : List Token) (f : Option Fault) (
     → GivesItem i (raw (Some t) rest f (x ∷ s)) (raw None rest f s')
 take_item x t rest f s s' i above h k e = record {
   same = takes x i above t rest s f h (sym k) ∙ ap (λ (z : List State). giving (λ (more : List Given). (i, length rest) ∷ more) (run rest z f)) (sym e);
+  stop = takes_stops x (Some i) above t rest s h (sym k) ∙ ap (unasked_at_stop rest) (sym e);
   less = λ d. omega arith;
   stands = λ d. subst Stands (sym e) (stands_over above s (directive_stands i.body (Stands above) (subst (λ (y : Taken). TakenSpeaks y.item y.above) (sym k) (taken_speaks x t)) d));
 }
@@ -54,6 +55,7 @@ pub take_silent : (x : State) (t : Token) (rest : List Token) (f : Option Fault)
     → GivesNoItem (raw (Some t) rest f (x ∷ s)) (raw None rest f s')
 take_silent x t rest f s s' above h k e = record {
   same = takes_silently x above t rest s f h (sym k) ∙ ap (λ (z : List State). run rest z f) (sym e);
+  stop = takes_stops x None above t rest s h (sym k) ∙ ap (unasked_at_stop rest) (sym e);
   less = omega arith;
   stands = subst Stands (sym e) (stands_over above s (subst (λ (y : Taken). TakenSpeaks y.item y.above) (sym k) (taken_speaks x t)));
 }
@@ -62,13 +64,17 @@ pub leave_item : (x : State) (t : Token) (rest : List Token) (f : Option Fault) 
     → GivesItem i (raw (Some t) rest f (x ∷ s)) (raw (Some t) rest f s)
 leave_item x t rest f s i h e = record {
   same = leaves_at x t rest s f h ∙ ap (λ (j : RawEvent). giving (λ (more : List Given). (j, length rest) ∷ more) (run (t ∷ rest) s f)) (sym e);
+  stop = leaves_stops x t rest s h;
   less = λ d. absurd (left_is_none x t.start_mark (subst (λ (j : RawEvent). IsDirective j.body) e d));
   stands = λ d. absurd (left_is_none x t.start_mark (subst (λ (j : RawEvent). IsDirective j.body) e d));
 }
 
-pub refuse_step : (x : State) (t : Token) (rest : List Token) (f : Option Fault) (s : List State) (p : ParseProblem) (o : Option yaml_mark_t) (e : Fault) → choice_at x (type_of t.body) ≡ Refuse p o
-    → e ≡ parser_fault p t.start_mark (context_of o t.start_mark) → IsRefused e (raw (Some t) rest f (x ∷ s))
-refuse_step x t rest f s p o e h q = record { reason = inr (refuses x p o t rest s f h ∙ ap (λ (g : Fault). record { items = []; ending = Some g }) (sym q)) }
+pub refuse_step : (x : State) (t : Token) (rest : List Token) (f : Option Fault) (s s' : List State) (held : Option Token) (p : ParseProblem) (o : Option yaml_mark_t) (e : Fault) → choice_at x (type_of t.body) ≡ Refuse p o
+    → e ≡ parser_fault p t.start_mark (context_of o t.start_mark) → IsRefused e (raw (Some t) rest f (x ∷ s)) (raw held rest f s')
+refuse_step x t rest f s s' held p o e h q = record {
+  reason = inr (refuses x p o t rest s f h ∙ ap (λ (g : Fault). record { items = []; ending = Some g }) (sym q));
+  unasked = inr (sym (refuses_stops x p o t rest s h));
+}
 
 open_item : (x : State) (t : Token) (rest : List Token) (f : Option Fault) (s s' : List State) (i : RawEvent) → choice_at x (type_of t.body) ≡ Open
     → i ≡ item_at (item.document true) t.start_mark t.start_mark → s' ≡ opened t.start_mark ++ s → GivesItem i (raw (Some t) rest f (x ∷ s)) (raw (Some t) rest f s')
@@ -76,6 +82,7 @@ open_item x t rest f s s' i h e q = record {
   same = opens x t rest s f h
       ∙ ap (λ (j : RawEvent). giving (λ (more : List Given). (j, length rest) ∷ more) (run (t ∷ rest) (opened t.start_mark ++ s) f)) (sym e)
       ∙ ap (λ (z : List State). giving (λ (more : List Given). (i, length rest) ∷ more) (run (t ∷ rest) z f)) (sym q);
+  stop = opens_stops x t rest s h ∙ ap (unasked_at_stop (t ∷ rest)) (sym q);
   less = λ d. absurd (subst (λ (j : RawEvent). IsDirective j.body) e d);
   stands = λ d. absurd (subst (λ (j : RawEvent). IsDirective j.body) e d);
 }
@@ -83,7 +90,7 @@ open_item x t rest f s s' i h e q = record {
 pub open_step : (x : State) (t : Token) (rest : List Token) (f : Option Fault) (s s' : List State) (r : Stepped) → choice_at x (type_of t.body) ≡ Open
     → OpensAt t.start_mark s r s' → Steps (raw (Some t) rest f (x ∷ s)) r (raw (Some t) rest f s')
 open_step x t rest f s s' (step.given i) h o = open_item x t rest f s s' i h o.0 o.1
-open_step x t rest f s s' (step.refused e) h o = record { reason = inl o }
+open_step x t rest f s s' (step.refused e) h o = record { reason = inl (inl o); unasked = inl (inl o) }
 open_step x t rest f s s' step.silent h o = absurd o
 open_step x t rest f s s' step.done h o = absurd o
 
@@ -111,20 +118,25 @@ takes_real_token x t h e = takes_a_token x (sym (ap (λ (u : Token). choice_at x
 less_of : (old middle new : ℕ) (x : State) (t : Token) → new < middle → (middle ≡ old) ⊎ (t ≡ no_token) → choice_at x (type_of t.body) ≡ Take → new < old
 less_of old middle new x t l a h = elim a [ inl e ↦ omega arith | inr e ↦ absurd (takes_real_token x t h e) ]
 
-pub bridge : (old middle new : Raw) (x : State) (t : Token) (r : Stepped) → Steps middle r new → outcome middle ≡ outcome old → (budget middle ≡ budget old) ⊎ (t ≡ no_token)
+pub bridge : (old middle new : Raw) (x : State) (t : Token) (r : Stepped) → Steps middle r new → outcome middle ≡ outcome old → stop_of middle ≡ stop_of old → (budget middle ≡ budget old) ⊎ (t ≡ no_token)
     → IsReal x t r → Steps old r new
-bridge old middle new x t (step.given i) h e a l = record {
+bridge old middle new x t (step.given i) h e q a l = record {
   same = sym e ∙ h.same;
+  stop = sym q ∙ h.stop;
   less = λ d. less_of (budget old) (budget middle) (budget new) x t (h.less d) a (l d);
   stands = h.stands;
 }
-bridge old middle new x t step.silent h e a l = record {
+bridge old middle new x t step.silent h e q a l = record {
   same = sym e ∙ h.same;
+  stop = sym q ∙ h.stop;
   less = less_of (budget old) (budget middle) (budget new) x t h.less a l;
   stands = h.stands;
 }
-bridge old middle new x t (step.refused f) h e a l = record { reason = elim h.reason [ inl m ↦ inl m | inr q ↦ inr (sym e ∙ q) ] }
-bridge old middle new x t step.done h e a l = absurd l
+bridge old middle new x t (step.refused f) h e q a l = record {
+  reason = elim h.reason [ inl m ↦ inl m | inr o ↦ inr (sym e ∙ o) ];
+  unasked = elim h.unasked [ inl m ↦ inl m | inr n ↦ inr (n ∙ q) ];
+}
+bridge old middle new x t step.done h e q a l = absurd l
 
 -- the state on top
 pub popped : (old new : List code.State) (x : code.State) → old ≡ new ++ x ∷ [] → stack_of old ≡ state_of x ∷ stack_of new
@@ -133,15 +145,18 @@ popped old new x e = ap (λ (z : List code.State). map state_of (reverse z)) e �
 pub advanced : (peeked : Option Token) (ts : List Token) (f : Option Fault) (old : List State) (x : State) (s : List State) (t : Token) (rest : List Token) (after : Option Fault) (new : Raw) (r : Stepped)
     → old ≡ x ∷ s → IsFront peeked ts f t rest after → Steps (raw (Some t) rest after (x ∷ s)) r new → IsReal x t r → Steps (raw peeked ts f old) r new
 advanced peeked ts f old x s t rest after new r e h k l =
-    bridge (raw peeked ts f old) (raw (Some t) rest after (x ∷ s)) new x t r k (rw e (h.runs (x ∷ s))) (elim h.asked [ inl a ↦ inl a | inr a ↦ inr a ]) l
+    bridge (raw peeked ts f old) (raw (Some t) rest after (x ∷ s)) new x t r k (rw e (h.runs (x ∷ s))) (rw e (h.stops (x ∷ s))) (elim h.asked [ inl a ↦ inl a | inr a ↦ inr a ]) l
 
 ending_outcome : (peeked : Option Token) (ts : List Token) (f : Option Fault) (old : List State) (x : State) (s : List State) (e : Fault)
     → old ≡ x ∷ s → ((z : List State) → outcome (raw peeked ts f z) ≡ ending_at z e) → outcome (raw peeked ts f old) ≡ record { items = []; ending = Some e }
 ending_outcome peeked ts f old x s e p r = r old ∙ ap (λ (z : List State). ending_at z e) p
 
-pub no_front_step : (peeked : Option Token) (ts : List Token) (f : Option Fault) (old : List State) (x : State) (s : List State) (e : Fault)
-    → old ≡ x ∷ s → HasNoFront peeked ts f e → IsRefused e (raw peeked ts f old)
-no_front_step peeked ts f old x s e p h = record { reason = elim h.reason [ inl m ↦ inl m | inr r ↦ inr (ending_outcome peeked ts f old x s e p r) ] }
+pub no_front_step : (peeked : Option Token) (ts : List Token) (f : Option Fault) (old : List State) (x : State) (s : List State) (e : Fault) (new : Raw)
+    → old ≡ x ∷ s → HasNoFront peeked ts f e new.tokens → IsRefused e (raw peeked ts f old) new
+no_front_step peeked ts f old x s e new p h = record {
+  reason = elim h.reason [ inl m ↦ inl m | inr r ↦ inr (ending_outcome peeked ts f old x s e p r) ];
+  unasked = elim h.unasked [ inl m ↦ inl m | inr n ↦ inr (n old) ];
+}
 
 pub leave_real : (x : State) (t : Token) (start : yaml_mark_t) (i : RawEvent) → i ≡ left_at x start → IsReal x t (step.given i)
 leave_real x t start i e = λ d. absurd (left_is_none x start (subst (λ (j : RawEvent). IsDirective j.body) e d))

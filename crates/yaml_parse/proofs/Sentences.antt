@@ -1,35 +1,52 @@
--- A parser's tokens are accepted exactly where they begin with a sentence, and its fault has its place.
-use Rattle.std.proofs.Common.{◌≡◌, ◌⊎◌, ◌↔◌, ◌∙◌, inl, inr, sym, List, [], ◌∷◌, ℕ, Option, Some, None}
+-- A parser's fault is that of its tokens, and what comes before it begins a tree.
+use Rattle.std.proofs.Common.{◌≡◌, ◌⊎◌, ◌∙◌, ℕ, inl, inr, refl, sym, subst, List, [], ◌∷◌, ◌++◌, length, Option, Some, None}
+use Rattle.std.proofs.lemmas.List.{append-nil}
 use Rattle.yaml_scan.specs.Tokens.{Token}
 use Rattle.yaml_scan.specs.Faults.{Fault}
-use Rattle.yaml_parse_grammar.specs.Items.{RawEvent}
-use Rattle.yaml_parse_grammar.specs.Trees.{Given}
+use Rattle.yaml_parse_grammar.specs.Trees.{items}
 use Rattle.yaml_parse_grammar.specs.Machine.{run, initial}
-use Rattle.yaml_parse_grammar.specs.Resolve.{Directives, Settled, refused, gave, noted, settle, Reading, read_on, reading, no_directives}
-use Rattle.yaml_parse_grammar.specs.Remaining.{reading_of}
-use Rattle.yaml_parse_laws_sound.specs.Laws.{BeginsWithSentence}
-use Rattle.yaml_parse_laws_sound.proofs.Sound.{accepted_sentences, sentences_accepted}
-use Rattle.yaml_parse_laws_sound.proofs.Refusal.{faults_stand}
-use Rattle.yaml_parse.specs.Refusals.{IsRefusal}
+use Rattle.yaml_parse_grammar.specs.Resolve.{Told, no_directives}
+use Rattle.yaml_parse_grammar.specs.Remaining.{reading_of, unasked_of}
+use Rattle.yaml_parse_laws_faults.specs.laws_sound.Laws.{BeginsWithTree, bare, GoesOnGiving, RefusedAt, RunsOut}
+use Rattle.yaml_parse_laws_faults.specs.laws_counts.Laws.{AtMostFourSoFar}
+use Rattle.yaml_parse_laws_faults.specs.Places.{FaultOfTokens, IsToldWith}
+use Rattle.yaml_parse_laws_faults.proofs.laws_counts.SoFar.{few_so_far}
+use Rattle.yaml_parse_laws_faults.proofs.laws_sound.Sound.{accepted_trees}
+use Rattle.yaml_parse_laws_faults.proofs.laws_sound.Refusal.{faults_stand}
+use Rattle.yaml_parse_laws_faults.proofs.laws_sound.Events.{events_begin}
+use Rattle.yaml_parse_laws_faults.proofs.Ending.{ends_in_fault, told_at_place}
+use Rattle.yaml_parse.specs.Fronts.{IsLongest, BeginsTree}
 
-pub sentence : (ts : List Token) (f ending : Option Fault) → ending ≡ (reading_of (run ts initial f) no_directives).ending → (ending ≡ None) ↔ BeginsWithSentence ts
-sentence ts f ending e = (λ none. accepted_sentences ts f (sym e ∙ none), λ s. e ∙ sentences_accepted ts f s)
+pub fault_of_tokens : (ts : List Token) (f ending : Option Fault) → ending ≡ (reading_of (run ts initial f) no_directives).ending → FaultOfTokens ts f ending
+fault_of_tokens ts f ending e = subst (FaultOfTokens ts f) (sym e) (ends_in_fault ts f)
 
--- the fault of an item, or the one behind them all
-split_on : (c : Settled) (i : RawEvent) (n : ℕ) (k l : Directives → Reading) (f : Option Fault) (e : Fault)
-    → ((ds : Directives) → (k ds).ending ≡ Some e → ((l ds).ending ≡ Some e) ⊎ (f ≡ Some e))
-    → (read_on c i n k).ending ≡ Some e → ((read_on c i n l).ending ≡ Some e) ⊎ (f ≡ Some e)
-split_on (refused x) i n k l f e go h = inl h
-split_on (gave b ds) i n k l f e go h = go ds h
-split_on (noted ds) i n k l f e go h = go ds h
+pub told_with : (ts : List Token) (f ending : Option Fault) (e : Fault) (unasked : ℕ) → ending ≡ (reading_of (run ts initial f) no_directives).ending → unasked ≡ unasked_of ts f initial no_directives
+    → ending ≡ Some e → IsToldWith ts f e unasked
+told_with ts f ending e unasked p q h = subst (IsToldWith ts f e) (sym q) (told_at_place ts f e (sym p ∙ h))
 
-split : (gs : List Given) (f : Option Fault) (ds : Directives) (e : Fault) → (reading gs f ds).ending ≡ Some e → ((reading gs None ds).ending ≡ Some e) ⊎ (f ≡ Some e)
-unfolding reading
-split [] f ds e h = inr h
-split (g ∷ gs) f ds e h = split_on (settle g.0 ds) g.0 g.1 (λ d. reading gs f d) (λ d. reading gs None d) f e (λ d k. split gs f d e k) h
+begin : (ts : List Token) (f : Option Fault) (front behind : List Token) → ts ≡ front ++ behind → IsLongest front behind → GoesOnGiving front (bare (run ts initial f).items)
+    → BeginsTree ts (reading_of (run ts initial f) no_directives).events
+begin ts f front behind l w g = record {
+  front = front;
+  behind = behind;
+  list = l;
+  longest = w;
+  tree = g.tree;
+  more = g.more;
+  same = g.same;
+  begins = events_begin (run ts initial f).items (items g.tree []) (run ts initial f).ending None no_directives g.begins;
+}
 
-pub refusal : (ts : List Token) (f ending : Option Fault) (e : Fault) → ending ≡ (reading_of (run ts initial f) no_directives).ending → ending ≡ Some e → IsRefusal ts f e
-refusal ts f ending e is h = elim (split (run ts initial f).items (run ts initial f).ending no_directives e (sym is ∙ h)) [
-  | inl w ↦ inl w
-  | inr s ↦ inr (faults_stand ts f e s)
-]
+begin_at : (ts : List Token) (f : Option Fault) (e : Fault) → RefusedAt ts (bare (run ts initial f).items) e ⊎ RunsOut ts f (bare (run ts initial f).items) e → BeginsTree ts (reading_of (run ts initial f) no_directives).events
+begin_at ts f e (inl r) = begin ts f r.front (r.token ∷ r.behind) r.list r.wrong r.before
+begin_at ts f e (inr r) = begin ts f ts [] (sym (append-nil ts)) tt r.before
+
+by_ending : (ts : List Token) (f o : Option Fault) → (run ts initial f).ending ≡ o → (BeginsWithTree ts → ⊥) → BeginsTree ts (reading_of (run ts initial f) no_directives).events
+by_ending ts f None p n = absurd (n (accepted_trees ts f p))
+by_ending ts f (Some e) p n = begin_at ts f e (faults_stand ts f e p)
+
+pub begins_tree : (ts : List Token) (f : Option Fault) (events : List Told) → events ≡ (reading_of (run ts initial f) no_directives).events → (BeginsWithTree ts → ⊥) → BeginsTree ts events
+begins_tree ts f events e n = subst (BeginsTree ts) (sym e) (by_ending ts f (run ts initial f).ending refl n)
+
+pub few_events : (ts : List Token) (f : Option Fault) (events : List Told) → events ≡ (reading_of (run ts initial f) no_directives).events → AtMostFourSoFar 0 (length ts) events
+few_events ts f events e = subst (AtMostFourSoFar 0 (length ts)) (sym e) (few_so_far ts f no_directives)

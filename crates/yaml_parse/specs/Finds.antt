@@ -13,6 +13,7 @@ use Rattle.yaml_parse.specs.declared.parser.yaml_found_t.TheVariants as found
 pub record GivesNext (e : Event) (old new : ParserRemaining) : Type 0 where
   pub events : old.events ≡ (e, new.unasked) ∷ new.events
   pub ending : new.ending ≡ old.ending
+  pub ending_unasked : new.ending_unasked ≡ old.ending_unasked
   pub answered : new.answered ≡ old.answered
 
 -- nothing is to come, and no token is asked for

@@ -1,7 +1,6 @@
 -- What a load gives of the events to come.
 use Rattle.std.specs.Prelude.{◌≡◌, ◌⊎◌, ℕ, List, [], ◌∷◌, map, Option, Some, None}
-use Rattle.yaml_scan.specs.declared.yaml_error_type_t.TheVariants.{YAML_MEMORY_ERROR}
-use Rattle.yaml_scan.specs.Faults.{Fault}
+use Rattle.yaml_scan.specs.Faults.{Fault, IsMemoryFault, load_layers}
 use Rattle.yaml_parse_model.specs.Events.{Event}
 use Rattle.yaml_parse_document.specs.Documents.{Document, no_document}
 use Rattle.yaml_parse_grammar.specs.Resolve.{Told}
@@ -29,14 +28,29 @@ unfoldable pub loads : List Told → Option Fault → Loading → Loads
 loads [] f l = behind_all f
 loads (g ∷ gs) f l = load_on (step g.0 l) (loads gs f) gs g.1
 
+-- How many tokens are not asked for as a load is refused: those that stand with the event that a loader refuses, or with the
+-- fault behind all.
+abbrev pub unasked_on : Fed → ℕ → (Loading → ℕ) → ℕ
+unasked_on (goes_on l) left go = go l
+unasked_on (loaded d) left go = left
+unasked_on (refused f) left go = left
+
+unfoldable pub unasked_at_refusal : List Told → ℕ → Loading → ℕ
+unasked_at_refusal [] behind l = behind
+unasked_at_refusal (g ∷ gs) behind l = unasked_on (step g.0 l) g.1 (unasked_at_refusal gs behind)
+
 -- of a parser's events to come
 abbrev pub loads_of : ParserRemaining → Loads
 loads_of c = loads c.events c.ending nothing_loaded
+
+abbrev pub unasked_of : ParserRemaining → ℕ
+unasked_of c = unasked_at_refusal c.events c.ending_unasked nothing_loaded
 
 -- a document was loaded, and what stands behind it is left
 pub record GivesDocument (left : List Told) (count : ℕ) (old new : ParserRemaining) : Type 0 where
   pub events : new.events ≡ left
   pub ending : new.ending ≡ old.ending
+  pub ending_unasked : new.ending_unasked ≡ old.ending_unasked
   pub unasked : new.unasked ≡ count
   pub answered : new.answered ≡ old.answered
 
@@ -55,12 +69,16 @@ LoadGives (faulty f) d old new = ⊥
 pub record LoadRefuses (f : Fault) (old new : ParserRemaining) : Type 0 where
   pub finished : IsFinished new
   pub answered : new.answered ≡ f
-  pub reason : (f.kind ≡ YAML_MEMORY_ERROR) ⊎ (loads_of old ≡ faulty f)
+  pub reason : IsMemoryFault load_layers f ⊎ (loads_of old ≡ faulty f)
+  -- with so many tokens asked for
+  pub unasked : IsMemoryFault load_layers f ⊎ (new.unasked ≡ unasked_of old)
 
 -- what lasts while a loader is fed
 pub record KeepsLoading (initial now : ParserRemaining) (l : Loading) : Type 0 where
   pub same : loads now.events now.ending l ≡ loads_of initial
+  pub unasked : unasked_at_refusal now.events now.ending_unasked l ≡ unasked_of initial
   pub ending : now.ending ≡ initial.ending
+  pub ending_unasked : now.ending_unasked ≡ initial.ending_unasked
   pub answered : now.answered ≡ initial.answered
 
 -- ---- the same of events alone

@@ -1,14 +1,14 @@
 -- What the private steps of a parser owe.
 use Rattle.std.specs.Prelude.{◌≡◌, ◌⊎◌, ◌+◌, ◌<◌, ◌++◌, ℕ, List, [], ◌∷◌, length, Option, Some, None, Bool, true, false}
-use Rattle.yaml_scan.specs.declared.yaml_error_type_t.TheVariants.{YAML_MEMORY_ERROR}
+use Rattle.yaml_scan.specs.declared.yaml_origin_t.TheVariants.{Parser}
 use Rattle.yaml_scan.specs.declared.yaml_mark_t.{yaml_mark_t}
 use Rattle.yaml_scan.specs.Tokens.{Token, no_token, token_of, type_of}
-use Rattle.yaml_scan.specs.Faults.{Fault}
+use Rattle.yaml_scan.specs.Faults.{Fault, memory_fault, IsMemoryFault, parse_layers}
 use Rattle.yaml_parse_grammar.specs.declared.name.Choice.TheVariants.{Take}
 use Rattle.yaml_parse_grammar.specs.States.{State}
 use Rattle.yaml_parse_grammar.specs.Items.{item_at}
 use Rattle.yaml_parse_grammar.specs.Items as item
-use Rattle.yaml_parse_grammar.specs.Machine.{Outcome, run, ending_at, choice_at, opened, Stands}
+use Rattle.yaml_parse_grammar.specs.Machine.{Outcome, run, unasked_at_stop, ending_at, choice_at, opened, Stands}
 use Rattle.yaml_parse_grammar.specs.Remaining.{ParserRemaining, waiting, held_of, IsFinished, is_between}
 use Rattle.yaml_parse_grammar.specs.Texts.{IsUtf8Item, AreUtf8States, IsUtf8Token}
 use Rattle.yaml_parse_grammar.specs.Stacks.{IsStack, StandsBehind, parts_documents_behind}
@@ -34,18 +34,22 @@ pub record IsFront (peeked : Option Token) (ts : List Token) (fault : Option Fau
     (rest : List Token) (after : Option Fault) : Type 0 where
   pub runs : (s : List State) → run (t ∷ rest) s after ≡ run (waiting peeked ts) s fault
   pub asked : (length rest + 1 ≡ length ts + held_of peeked) ⊎ (t ≡ no_token)
+  pub stops : (s : List State)
+      → unasked_at_stop (t ∷ rest) s ≡ unasked_at_stop (waiting peeked ts) s
 
 -- No token stands there: memory ran out, or the fault ends the list.
 pub record HasNoFront (peeked : Option Token) (ts : List Token) (fault : Option Fault)
-    (f : Fault) : Type 0 where
-  pub reason : (f.kind ≡ YAML_MEMORY_ERROR)
+    (f : Fault) (rest : List Token) : Type 0 where
+  pub reason : IsMemoryFault parse_layers f
       ⊎ ((s : List State) → run (waiting peeked ts) s fault ≡ ending_at s f)
+  pub unasked : IsMemoryFault parse_layers f
+      ⊎ ((s : List State) → length rest ≡ unasked_at_stop (waiting peeked ts) s)
 
 -- whether a token stands at the front
 abbrev pub HasFront : Bool → Option Token → List Token → Option Fault → Token → List Token
     → Option Fault → Fault → Type 0
 HasFront true peeked ts fault t rest after f = IsFront peeked ts fault t rest after
-HasFront false peeked ts fault t rest after f = HasNoFront peeked ts fault f
+HasFront false peeked ts fault t rest after f = HasNoFront peeked ts fault f rest
 
 -- what stands between the source and resolving
 pub record Raw : Type 0 where
@@ -65,6 +69,10 @@ raw peeked tokens fault stack = record {
 abbrev pub outcome : Raw → Outcome
 outcome r = run (waiting r.peeked r.tokens) r.stack r.fault
 
+-- how many tokens are not asked for at the first that is refused
+abbrev pub stop_of : Raw → ℕ
+stop_of r = unasked_at_stop (waiting r.peeked r.tokens) r.stack
+
 abbrev pub budget : Raw → ℕ
 budget r = length r.tokens + held_of r.peeked
 
@@ -79,17 +87,20 @@ pub record GivesItem (i : item.RawEvent) (old new : Raw) : Type 0 where
     items = (i, length new.tokens) ∷ (outcome new).items;
     ending = (outcome new).ending;
   }
+  pub stop : stop_of old ≡ stop_of new
   pub less : IsDirective i.body → budget new < budget old
   pub stands : IsDirective i.body → Stands new.stack
 
 -- a token is taken, and something is open
 pub record GivesNoItem (old new : Raw) : Type 0 where
   pub same : outcome old ≡ outcome new
+  pub stop : stop_of old ≡ stop_of new
   pub less : budget new < budget old
   pub stands : Stands new.stack
 
-pub record IsRefused (f : Fault) (old : Raw) : Type 0 where
-  pub reason : (f.kind ≡ YAML_MEMORY_ERROR) ⊎ (outcome old ≡ record { items = []; ending = Some f })
+pub record IsRefused (f : Fault) (old new : Raw) : Type 0 where
+  pub reason : IsMemoryFault parse_layers f ⊎ (outcome old ≡ record { items = []; ending = Some f })
+  pub unasked : IsMemoryFault parse_layers f ⊎ (length new.tokens ≡ stop_of old)
 
 pub record IsDone (old new : Raw) : Type 0 where
   pub empty : old.stack ≡ []
@@ -98,14 +109,14 @@ pub record IsDone (old new : Raw) : Type 0 where
 abbrev pub Steps : Raw → Stepped → Raw → Type 0
 Steps old (step.given i) new = GivesItem i old new
 Steps old step.silent new = GivesNoItem old new
-Steps old (step.refused f) new = IsRefused f old
+Steps old (step.refused f) new = IsRefused f old new
 Steps old step.done new = IsDone old new
 
 -- an implicit document begins there
 abbrev pub OpensAt : yaml_mark_t → List State → Stepped → List State → Type 0
 OpensAt start old (step.given i) new = (i ≡ item_at (item.document true) start start)
     × (new ≡ opened start ++ old)
-OpensAt start old (step.refused f) new = f.kind ≡ YAML_MEMORY_ERROR
+OpensAt start old (step.refused f) new = f ≡ memory_fault Parser
 OpensAt start old step.silent new = ⊥
 OpensAt start old step.done new = ⊥
 
@@ -143,13 +154,15 @@ IsUtf8Turn _ = Unit {0}
 pub record IsSilent (old new : ParserRemaining) : Type 0 where
   pub events : new.events ≡ old.events
   pub ending : new.ending ≡ old.ending
+  pub ending_unasked : new.ending_unasked ≡ old.ending_unasked
   pub answered : new.answered ≡ old.answered
   pub less : new.unasked + new.held < old.unasked + old.held
   pub speaks : old.events ≡ [] → old.ending ≡ None → ⊥
 
 pub record IsTurnRefused (f : Fault) (old new : ParserRemaining) : Type 0 where
   pub finished : IsFinished new
-  pub reason : (f.kind ≡ YAML_MEMORY_ERROR) ⊎ ((old.events ≡ []) × (old.ending ≡ Some f))
+  pub reason : IsMemoryFault parse_layers f ⊎ ((old.events ≡ []) × (old.ending ≡ Some f))
+  pub unasked : IsMemoryFault parse_layers f ⊎ (new.unasked ≡ old.ending_unasked)
 
 pub record IsOver (old new : ParserRemaining) : Type 0 where
   pub finished : IsFinished old
@@ -165,6 +178,7 @@ Turns old turn.done new = IsOver old new
 pub record Kept (initial now : ParserRemaining) : Type 0 where
   pub events : now.events ≡ initial.events
   pub ending : now.ending ≡ initial.ending
+  pub ending_unasked : now.ending_unasked ≡ initial.ending_unasked
   pub answered : now.answered ≡ initial.answered
   pub unasked : ((now.unasked ≡ initial.unasked) × (now.held ≡ initial.held))
       ⊎ (initial.events ≡ [] → initial.ending ≡ None → ⊥)

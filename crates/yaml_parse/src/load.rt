@@ -1,6 +1,6 @@
 //! Documents of a parser's events.
 
-ghost use Rattle.std.specs.Prelude.{◌≡◌, true, List, Option, IfOk, IfErr};
+ghost use Rattle.std.specs.Prelude.{◌≡◌, ◌≤◌, true, List, Option, IfOk, IfErr};
 ghost use Rattle.yaml_scan.specs.Faults.{Fault, fault_of};
 ghost use Rattle.yaml_parse_grammar.specs.Resolve.{Told};
 ghost use Rattle.yaml_parse_loader.specs.Loading.{Loading, load};
@@ -24,6 +24,8 @@ pub fn yaml_parser_load<S: yaml_token_source_t>(
     ensures ok { IfOk result (λ d. LoadGives (loads_of parser.old) d parser.old parser.new) }
     ensures err { IfErr result (λ f. LoadRefuses (fault_of f) parser.old parser.new) }
     ensures between { parser.new.between ≡ true }
+    // One token at most is asked for and not consumed.
+    ensures held { parser.new.held ≤ 1 }
 {
     let alloc = parser.allocator();
     let mut loader = Loader::new(alloc);

@@ -1,6 +1,6 @@
 //! The parser and its calls.
 
-ghost use Rattle.std.specs.Prelude.{◌≡◌, ◌↔◌, List, Option, Some, None, true, length, IfOk, IfErr, IfSome};
+ghost use Rattle.std.specs.Prelude.{◌≡◌, ◌≤◌, List, Option, Some, None, true, length, IfOk, IfErr, IfSome};
 ghost use Rattle.yaml_scan.specs.Tokens.{Token};
 ghost use Rattle.yaml_scan.specs.Faults.{Fault, fault_of, memory_fault};
 ghost use Rattle.yaml_scan.specs.declared.yaml_origin_t.TheVariants.{Parser};
@@ -13,8 +13,10 @@ ghost use Rattle.yaml_parse_grammar.specs.Resolve.{reading, no_directives};
 ghost use Rattle.yaml_parse_grammar.specs.Machine.{run, initial};
 ghost use Rattle.yaml_parse_grammar.specs.Remaining.{reading_of, EventOf, FaultOf, IsFinished};
 ghost use Rattle.yaml_parse_model.specs.Constructors.{HasUtf8};
-ghost use Rattle.yaml_parse_laws_sound.specs.Laws.{BeginsWithSentence};
-ghost use Rattle.yaml_parse.specs.Refusals.{IsRefusal};
+ghost use Rattle.yaml_parse_laws_faults.specs.laws_sound.Laws.{BeginsWithTree};
+ghost use Rattle.yaml_parse_laws_faults.specs.laws_counts.Laws.{AtMostFourSoFar};
+ghost use Rattle.yaml_parse_laws_faults.specs.Places.{FaultOfTokens, IsToldWith};
+ghost use Rattle.yaml_parse.specs.Fronts.{BeginsTree};
 ghost use Rattle.yaml_parse.specs.Finds.{NextOf, Finds, IsUtf8Found, IsStackFound};
 ghost use Rattle.yaml_parse.specs.Steps.{Turns, IsUtf8Turn, IsStackTurn};
 ghost use Rattle.yaml_parse.specs.Turned.{turned};
@@ -73,6 +75,7 @@ impl<S: yaml_token_source_t> yaml_parser_t<S> {
         ensures utf8 { IsUtf8Turn (turned result (event_of event.new) (fault_of fault.new)) }
         ensures between { IsStackTurn (turned result (event_of event.new) (fault_of fault.new))
             self.new.between }
+        ensures held { self.new.held ≤ 1 }
     {
         take_turn(
             self.alloc,
@@ -96,6 +99,8 @@ impl<S: yaml_token_source_t> yaml_parser_t<S> {
     pub(crate) fn refuse(&mut self, fault: &yaml_fault_t)
         ensures finished { IsFinished self.new }
         ensures answered { self.new.answered ≡ fault_of fault.now }
+        ensures unasked { self.new.unasked ≡ self.old.unasked }
+        ensures held { self.new.held ≤ 1 }
     {
         self.stack.clear();
         self.prefix = yaml_parser_t_prefix::of(fault);
@@ -135,12 +140,19 @@ pub fn yaml_parser_initialize<S: yaml_token_source_t>(
         no_directives).events)
         × (p.ending ≡ (reading_of (run (S.to_come source) initial (S.fault_to_come source))
         no_directives).ending)) }
-    // No fault is to come exactly where they begin with the tokens of a tree whose directives and tag handles are in order.
-    ensures sentence { IfOk result (λ p. (p.ending ≡ None)
-        ↔ BeginsWithSentence (S.to_come source)) }
-    // Else the fault stands at the first token that no tree goes on with, or at a directive or a handle, or is the source's.
-    ensures refusal { (e : Fault) → IfOk result (λ p. p.ending ≡ Some e
-        → IsRefusal (S.to_come source) (S.fault_to_come source) e) }
+    // No fault is to come exactly where they begin with a sentence, and else the tokens' fault: that of the least place, a
+    // token's, a directive's or a tag handle's, or behind all the source's own.
+    ensures fault { IfOk result (λ p. FaultOfTokens (S.to_come source) (S.fault_to_come source)
+        p.ending) }
+    // It is told as its place is reached, with no token asked for behind that.
+    ensures told { (e : Fault) → IfOk result (λ p. p.ending ≡ Some e
+        → IsToldWith (S.to_come source) (S.fault_to_come source) e p.ending_unasked) }
+    // As each event is given, no more have come than four for each token that was asked for by then.
+    ensures few { IfOk result (λ p. AtMostFourSoFar 0 (length (S.to_come source)) p.events) }
+    // Where they don't begin with the tokens of a tree, the events to come begin those of a tree that goes on with the longest
+    // front of them with which one does.
+    ensures front { IfOk result (λ p. (BeginsWithTree (S.to_come source) → ⊥)
+        → BeginsTree (S.to_come source) p.events) }
     // No token was asked for yet.
     ensures unasked { IfOk result (λ p. (p.unasked ≡ length (S.to_come source)) × (p.held ≡ 0)) }
     ensures quiet { IfOk result (λ p. (p.answered ≡ no_fault) × (p.between ≡ true)) }
@@ -185,6 +197,8 @@ pub fn yaml_parser_parse_into<S: yaml_token_source_t>(
     ensures finds { Finds parser.old result (event_of event.new) (fault_of fault.new) parser.new }
     ensures utf8 { IsUtf8Found result (event_of event.new) }
     ensures between { IsStackFound result (event_of event.new) parser.new.between }
+    // One token at most is asked for and not consumed.
+    ensures held { parser.new.held ≤ 1 }
 {
     'turns: loop {
         match parser.turn(event, fault) {
@@ -208,6 +222,7 @@ pub(crate) fn next_event<S: yaml_token_source_t>(
     ensures between { IfOk result (λ e. IfSome e (λ x. parser.new.between ≡ parts_documents_behind
         (event_of x).body)) }
     ensures err { IfErr result (λ f. FaultOf parser.old (fault_of f) parser.new) }
+    ensures held { parser.new.held ≤ 1 }
 {
     let mut event = yaml_event_t::unplaced(yaml_event_body_t::No);
     let mut fault = yaml_memory_fault(yaml_origin_t::Parser);
@@ -236,6 +251,8 @@ pub fn yaml_parser_parse<S: yaml_token_source_t>(
     ensures between { IfOk result (λ e. parser.new.between ≡ parts_documents_behind
         (event_of e).body) }
     ensures err { IfErr result (λ f. FaultOf parser.old (fault_of f) parser.new) }
+    // One token at most is asked for and not consumed.
+    ensures held { parser.new.held ≤ 1 }
 {
     let mut event = yaml_event_t::unplaced(yaml_event_body_t::No);
     let mut fault = yaml_memory_fault(yaml_origin_t::Parser);

@@ -1,5 +1,5 @@
 -- One step of the machine, at a token.
-use Rattle.std.proofs.Common.{◌≡◌, Bool, true, false, if◌then◌else◌, ◌||◌, List, [], ◌∷◌, ◌++◌, length, Option, Some, None, refl, ap, sym, ◌∙◌}
+use Rattle.std.proofs.Common.{◌≡◌, ℕ, Bool, true, false, if◌then◌else◌, ◌||◌, List, [], ◌∷◌, ◌++◌, length, Option, Some, None, refl, ap, sym, ◌∙◌}
 use Rattle.yaml_parse_model.specs.declared.yaml_mark_t.{yaml_mark_t}
 use Rattle.yaml_parse_model.specs.declared.yaml_token_type_t.{yaml_token_type_t}
 use Rattle.yaml_parse_model.specs.declared.yaml_token_type_t.TheVariants as kind
@@ -19,7 +19,7 @@ use Rattle.yaml_parse_grammar.specs.Items as item
 use Rattle.yaml_parse_grammar.specs.States.{State, Taken}
 use Rattle.yaml_parse_grammar.specs.States as state
 use Rattle.yaml_parse_grammar.specs.Trees.{Given}
-use Rattle.yaml_parse_grammar.specs.Machine.{starts_node, starts_content, parts_documents, follows, wants_of, no_node, no_end, joins, closes, choice_at, taken_at, left_at, context_of, opened, Fed, stop, go, with_item, given_by, turn, feed, finished, carry, ending_at, run}
+use Rattle.yaml_parse_grammar.specs.Machine.{starts_node, starts_content, parts_documents, follows, wants_of, no_node, no_end, joins, closes, choice_at, taken_at, left_at, context_of, opened, Fed, stop, go, with_item, given_by, turn, feed, finished, carry, ending_at, run, left_where_stopped, unasked_at_stop}
 use Rattle.yaml_parse_grammar.proofs.Complete.{giving, carry_with_item, step_take, optional_takes}
 use Rattle.yaml_parse_grammar.proofs.Voice.{takes_a_token}
 
@@ -157,3 +157,46 @@ opens x t ts s f h =
     ap (λ (c : Choice). carry (length ts) (turn c x t s (feed s t)) (λ s'. run ts s' f)) h
     ∙ ap (λ (fed : Fed). carry (length ts) (with_item (item_at (item.document true) t.start_mark t.start_mark) fed) (λ s'. run ts s' f)) (opens_fed t s (opens_node x (type_of t.body) h))
     ∙ carry_with_item (length ts) (item_at (item.document true) t.start_mark t.start_mark) (feed (opened t.start_mark ++ s) t) (λ s'. run ts s' f)
+
+-- ---- where the machine stops
+
+with_item_stops : (left : ℕ) (i : RawEvent) (below : Fed) (k : List State → ℕ) → left_where_stopped left (with_item i below) k ≡ left_where_stopped left below k
+with_item_stops left i (stop is f) k = refl
+with_item_stops left i (go is s) k = refl
+
+pub refuses_stops : (x : State) (p : ParseProblem) (o : Option yaml_mark_t) (t : Token) (ts : List Token) (s : List State) → choice_at x (type_of t.body) ≡ Refuse p o → unasked_at_stop (t ∷ ts) (x ∷ s) ≡ length ts
+unfolding unasked_at_stop feed
+refuses_stops x p o t ts s h = ap (λ (c : Choice). left_where_stopped (length ts) (turn c x t s (feed s t)) (λ s'. unasked_at_stop ts s')) h
+
+pub takes_stops : (x : State) (i : Option RawEvent) (above : List State) (t : Token) (ts : List Token) (s : List State) → choice_at x (type_of t.body) ≡ Take → taken_at x t ≡ record { item = i; above = above }
+    → unasked_at_stop (t ∷ ts) (x ∷ s) ≡ unasked_at_stop ts (above ++ s)
+unfolding unasked_at_stop feed
+takes_stops x i above t ts s h k =
+    ap (λ (c : Choice). left_where_stopped (length ts) (turn c x t s (feed s t)) (λ s'. unasked_at_stop ts s')) h
+    ∙ ap (λ (y : Taken). left_where_stopped (length ts) (given_by y s) (λ s'. unasked_at_stop ts s')) k
+
+pub leaves_stops : (x : State) (t : Token) (ts : List Token) (s : List State) → choice_at x (type_of t.body) ≡ Leave → unasked_at_stop (t ∷ ts) (x ∷ s) ≡ unasked_at_stop (t ∷ ts) s
+unfolding unasked_at_stop feed
+leaves_stops x t ts s h =
+    ap (λ (c : Choice). left_where_stopped (length ts) (turn c x t s (feed s t)) (λ s'. unasked_at_stop ts s')) h
+    ∙ with_item_stops (length ts) (left_at x t.start_mark) (feed s t) (λ s'. unasked_at_stop ts s')
+
+pub opens_stops : (x : State) (t : Token) (ts : List Token) (s : List State) → choice_at x (type_of t.body) ≡ Open → unasked_at_stop (t ∷ ts) (x ∷ s) ≡ unasked_at_stop (t ∷ ts) (opened t.start_mark ++ s)
+unfolding unasked_at_stop feed
+opens_stops x t ts s h =
+    ap (λ (c : Choice). left_where_stopped (length ts) (turn c x t s (feed s t)) (λ s'. unasked_at_stop ts s')) h
+    ∙ ap (λ (fed : Fed). left_where_stopped (length ts) (with_item (item_at (item.document true) t.start_mark t.start_mark) fed) (λ s'. unasked_at_stop ts s')) (opens_fed t s (opens_node x (type_of t.body) h))
+    ∙ with_item_stops (length ts) (item_at (item.document true) t.start_mark t.start_mark) (feed (opened t.start_mark ++ s) t) (λ s'. unasked_at_stop ts s')
+
+stops_at_none : (fed : Fed) → left_where_stopped 0 fed (λ s'. 0) ≡ 0
+stops_at_none (stop is f) = refl
+stops_at_none (go is s) = refl
+
+pub front_stops : (ts : List Token) (s : List State) → unasked_at_stop (front_of ts ∷ rest_of ts) s ≡ unasked_at_stop ts s
+unfolding unasked_at_stop
+front_stops [] s = stops_at_none (feed s no_token)
+front_stops (t ∷ ts) s = refl
+
+pub nothing_stops : (s : List State) → unasked_at_stop [] s ≡ 0
+unfolding unasked_at_stop
+nothing_stops s = refl

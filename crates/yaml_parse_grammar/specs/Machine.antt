@@ -364,3 +364,15 @@ run (t ∷ ts) s f = carry (length ts) (feed s t) (λ s'. run ts s' f)
 
 abbrev pub initial : List State
 initial = state.stream ∷ []
+
+-- ---- where it stops
+
+-- at a token that is refused with so many behind it, or where the tokens behind it say
+abbrev pub left_where_stopped : ℕ → Fed → (List State → ℕ) → ℕ
+left_where_stopped left (stop is f) k = left
+left_where_stopped left (go is s) k = k s
+
+-- how many tokens stand behind the first that is refused; none, where none is
+unfoldable pub unasked_at_stop : List Token → List State → ℕ
+unasked_at_stop [] s = 0
+unasked_at_stop (t ∷ ts) s = left_where_stopped (length ts) (feed s t) (λ s'. unasked_at_stop ts s')

@@ -1,13 +1,12 @@
 -- What is still to come of a parser, and what its calls give.
 use Rattle.std.specs.Prelude.{◌≡◌, ◌⊎◌, ℕ, Bool, true, false, List, [], ◌∷◌, length, Option, Some, None}
-use Rattle.yaml_parse_model.specs.declared.yaml_error_type_t.TheVariants.{YAML_MEMORY_ERROR}
 use Rattle.yaml_parse_model.specs.Tokens.{Token}
-use Rattle.yaml_parse_model.specs.Faults.{Fault}
+use Rattle.yaml_parse_model.specs.Faults.{Fault, IsMemoryFault, parse_layers}
 use Rattle.yaml_parse_model.specs.Events.{Event, no_event}
 use Rattle.yaml_parse_grammar.specs.States.{State}
 use Rattle.yaml_parse_grammar.specs.States as state
-use Rattle.yaml_parse_grammar.specs.Machine.{run, Outcome}
-use Rattle.yaml_parse_grammar.specs.Resolve.{Directives, Reading, Told, reading}
+use Rattle.yaml_parse_grammar.specs.Machine.{run, unasked_at_stop, Outcome}
+use Rattle.yaml_parse_grammar.specs.Resolve.{Directives, Reading, Told, reading, unasked_at_fault}
 
 abbrev pub waiting : Option Token → List Token → List Token
 waiting None ts = ts
@@ -25,11 +24,13 @@ is_between (state.first ∷ s) = true
 is_between (state.documents ∷ s) = true
 is_between _ = false
 
--- The events to come and the fault that ends them, the tokens that are not asked for, how many are asked for and not
--- consumed, whether no document is half taken, and the fault that was answered.
+-- The events to come and the fault that ends them, how many tokens are not asked for as that fault is told, the tokens that
+-- are not asked for, how many are asked for and not consumed, whether no document is half taken, and the fault that was
+-- answered.
 pub record ParserRemaining : Type 0 where
   pub events : List Told
   pub ending : Option Fault
+  pub ending_unasked : ℕ
   pub unasked : ℕ
   pub held : ℕ
   pub between : Bool
@@ -38,11 +39,16 @@ pub record ParserRemaining : Type 0 where
 abbrev pub reading_of : Outcome → Directives → Reading
 reading_of o ds = reading o.items o.ending ds
 
+-- how many tokens are not asked for as the fault is told
+abbrev pub unasked_of : List Token → Option Fault → List State → Directives → ℕ
+unasked_of ts f s ds = unasked_at_fault (run ts s f).items (unasked_at_stop ts s) ds
+
 abbrev pub parser_remaining : Option Token → List Token → Option Fault → List State → Directives
     → Fault → ParserRemaining
 parser_remaining peeked ts f s ds answered = record {
   events = (reading_of (run (waiting peeked ts) s f) ds).events;
   ending = (reading_of (run (waiting peeked ts) s f) ds).ending;
+  ending_unasked = unasked_of (waiting peeked ts) f s ds;
   unasked = length ts;
   held = held_of peeked;
   between = is_between s;
@@ -61,6 +67,7 @@ pub record Gives (e : Event) (told : Told) (rest : List Told) (f : Option Fault)
   pub given : e ≡ told.0
   pub events : new.events ≡ rest
   pub ending : new.ending ≡ f
+  pub ending_unasked : new.ending_unasked ≡ old.ending_unasked
   pub unasked : new.unasked ≡ told.1
   pub answered : new.answered ≡ old.answered
 
@@ -81,8 +88,10 @@ GivesEvent [] (Some f) e old new = ⊥
 abbrev pub EventOf : ParserRemaining → Event → ParserRemaining → Type 0
 EventOf old e new = GivesEvent old.events old.ending e old new
 
--- a fault is answered: the one that is to come, or want of memory; nothing comes behind it
+-- a fault is answered: the one that is to come, or want of memory, the source's or the parser's; nothing comes behind it
 pub record FaultOf (old : ParserRemaining) (f : Fault) (new : ParserRemaining) : Type 0 where
   pub finished : IsFinished new
   pub answered : new.answered ≡ f
-  pub reason : (f.kind ≡ YAML_MEMORY_ERROR) ⊎ ((old.events ≡ []) × (old.ending ≡ Some f))
+  pub reason : IsMemoryFault parse_layers f ⊎ ((old.events ≡ []) × (old.ending ≡ Some f))
+  -- with so many tokens asked for
+  pub unasked : IsMemoryFault parse_layers f ⊎ (new.unasked ≡ old.ending_unasked)

@@ -152,3 +152,15 @@ read_on (noted ds) i left k = k ds
 unfoldable pub reading : List Given → Option Fault → Directives → Reading
 reading [] f ds = record { events = []; ending = f }
 reading (g ∷ gs) f ds = read_on (settle g.0 ds) g.0 g.1 (λ ds'. reading gs f ds')
+
+-- how many tokens are not asked for at the first fault: so many where an item has it
+abbrev pub unasked_on : Settled → ℕ → (Directives → ℕ) → ℕ
+unasked_on (refused f) left k = left
+unasked_on (gave body ds) left k = k ds
+unasked_on (noted ds) left k = k ds
+
+-- the same of all items; the number given is that of the fault behind them
+unfoldable pub unasked_at_fault : List Given → ℕ → Directives → ℕ
+unasked_at_fault [] behind ds = behind
+unasked_at_fault (g ∷ gs) behind ds = unasked_on (settle g.0 ds) g.1
+    (λ ds'. unasked_at_fault gs behind ds')

@@ -38,7 +38,7 @@ owes state.pair_end = 1
 owes state.lone = 1
 owes _ = 0
 
-abbrev all_owe : List State → ℕ
+abbrev pub all_owe : List State → ℕ
 all_owe [] = 0
 all_owe (x ∷ s) = owes x + all_owe s
 
@@ -185,7 +185,7 @@ left_owes state.lone k c = refl
 
 -- ---- a stack at a token
 
-abbrev owed : Fed → ℕ
+abbrev pub owed : Fed → ℕ
 owed (stop is f) = length is
 owed (go is s) = length is + all_owe s
 
@@ -218,14 +218,14 @@ turn_owed Open x t s below l h =
     (given_owed (taken_at (state.optional Root t.start_mark) t).item (taken_at (state.optional Root t.start_mark) t).above (state.document_end ∷ state.documents ∷ s))
     (node_cost (Block None) t.start_mark t.end_mark t.body)
 
-feed_owed : (s : List State) (t : Token) → owed (feed s t) ≤ 4 + all_owe s
+pub feed_owed : (s : List State) (t : Token) → owed (feed s t) ≤ 4 + all_owe s
 unfolding feed
 feed_owed [] t = omega arith
 feed_owed (x ∷ s) t = turn_owed (choice_at x (type_of t.body)) x t s (feed s t) (left_owes x (type_of t.body)) (feed_owed s t)
 
 -- ---- the end of the list
 
-abbrev given : Fed → ℕ
+abbrev pub given : Fed → ℕ
 given (stop is f) = length is
 given (go is s) = length is
 
@@ -248,7 +248,7 @@ opens_a_token x h = unlike (opens_node x kind.YAML_NO_TOKEN h)
     unlike : false ≡ true → ⊥
     unlike e = cc
 
-end_given : (s : List State) → given (feed s no_token) ≤ all_owe s
+pub end_given : (s : List State) → given (feed s no_token) ≤ all_owe s
 unfolding feed
 end_given [] = omega arith
 end_given (x ∷ s) = turn_given (choice_at x kind.YAML_NO_TOKEN) x no_token s (feed s no_token) (left_owes x kind.YAML_NO_TOKEN) (takes_a_token x) (opens_a_token x) (end_given s)

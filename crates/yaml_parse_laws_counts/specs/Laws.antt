@@ -1,8 +1,24 @@
--- Which trees have the same tokens.
-use Rattle.std.specs.Prelude.{◌≡◌, List}
+-- Which trees have the same tokens, and how many events come of tokens.
+use Rattle.std.specs.Prelude.{◌≡◌, ◌≤◌, ◌+◌, ◌*◌, ℕ, List, [], ◌∷◌, Option, length}
 use Rattle.yaml_parse_grammar.specs.parse_model.Tokens.{Token}
+use Rattle.yaml_parse_grammar.specs.parse_model.Faults.{Fault}
 use Rattle.yaml_parse_grammar.specs.Trees.{Stream, spell}
+use Rattle.yaml_parse_grammar.specs.Machine.{run, initial}
+use Rattle.yaml_parse_grammar.specs.Resolve.{Directives}
+use Rattle.yaml_parse_grammar.specs.Remaining.{reading_of}
 
 -- Trees whose tokens begin alike are equal, and so is what follows them: equal tokens have one tree, and no tree's tokens begin another's.
 abbrev pub TokensHaveOneTree : Type 0
 TokensHaveOneTree = (s t : Stream) (x y : List Token) → spell s x ≡ spell t y → (s ≡ t) × (x ≡ y)
+
+-- Each event stands with the number of tokens, of so many in all, that are not asked for as it is given. The events up to it are
+-- at most four times the tokens asked for, where so many were given before these.
+abbrev pub AtMostFourSoFar : {A : Type 0} → ℕ → ℕ → List (A × ℕ) → Type 0
+AtMostFourSoFar given all [] = Unit {0}
+AtMostFourSoFar given all (e ∷ es) = (given + 1 + 4 * e.1 ≤ 4 * all)
+    × AtMostFourSoFar (given + 1) all es
+
+-- Of each list of tokens.
+abbrev pub EventsAreFewSoFar : Type 0
+EventsAreFewSoFar = (ts : List Token) (f : Option Fault) (ds : Directives)
+    → AtMostFourSoFar 0 (length ts) (reading_of (run ts initial f) ds).events

@@ -7,12 +7,17 @@ ghost use Rattle.yaml_parse_grammar.specs.parse_model.Faults.{Fault};
 ghost use Rattle.yaml_parse_grammar.specs.Machine.{run, initial};
 ghost use Rattle.yaml_parse_grammar.specs.Resolve.{Directives};
 ghost use Rattle.yaml_parse_grammar.specs.Remaining.{reading_of};
-ghost use Rattle.yaml_parse_laws_counts.specs.Laws.{TokensHaveOneTree};
+ghost use Rattle.yaml_parse_laws_counts.specs.Laws.{EventsAreFewSoFar, TokensHaveOneTree};
 
 /// A law: of no list of tokens come more than four events for each token.
 pub fn at_most_four_events_a_token()
     ensures { (ts : List Token) (f : Option Fault) (ds : Directives)
         → length (reading_of (run ts initial f) ds).events ≤ 4 * length ts }
+{}
+
+/// And as each event is given, no more have come than four for each token that was asked for by then.
+pub fn at_most_four_events_a_token_so_far()
+    ensures { EventsAreFewSoFar }
 {}
 
 /// Tokens have one tree, and no tree's tokens begin another's.

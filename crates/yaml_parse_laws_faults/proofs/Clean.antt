@@ -1,9 +1,9 @@
 -- Where no fault stands at the tokens that were read.
 use Rattle.std.proofs.Common.{◌≡◌, ◌⊎◌, inl, inr, ℕ, ◌<◌, ◌+◌, List, [], ◌∷◌, ◌++◌, length, Option, Some, None, refl, ap, sym, subst, ◌∙◌, arith}
 use Rattle.std.proofs.lemmas.Bool.{cases_order}
-use Rattle.yaml_parse_grammar.specs.parse_model.Tokens.{Token}
-use Rattle.yaml_parse_grammar.specs.parse_model.Faults.{Fault}
-use Rattle.yaml_parse_grammar.specs.Trees.{Stream, spell}
+use Rattle.yaml_parse_laws_sound.specs.grammar.parse_model.Tokens.{Token}
+use Rattle.yaml_parse_laws_sound.specs.grammar.parse_model.Faults.{Fault}
+use Rattle.yaml_parse_laws_sound.specs.grammar.Trees.{Stream, spell}
 use Rattle.yaml_parse_laws_sound.specs.Laws.{GoesOn}
 use Rattle.yaml_parse_laws_faults.specs.LookBack.{followed_by}
 use Rattle.yaml_parse_laws_faults.specs.Wrong.{directive_fault, handle_fault}
@@ -75,12 +75,19 @@ handle_here past other t u ts us e p n h =
 abbrev placed : List Token → Rank → Place
 placed past r = record { number = length past; rank = r }
 
-pub handle_first : (past : List Token) (t : Token) (ts : List Token) (e : Fault) → Clean past → handle_fault past t.body ≡ Some e → IsFirst (StandsIn (followed_by past (t ∷ ts))) e
-handle_first past t ts e c h = record {
-  place = placed past of_handle;
-  stands = record { past = past; token = t; behind = ts; list = refl; number = refl; fault = h };
-  least = earlier;
-}
+-- the first fault of a list has so many tokens before it
+abbrev pub FirstAt : List Token → ℕ → Fault → Type 0
+FirstAt ts n e = (first : IsFirst (StandsIn ts) e) × (first.place.number ≡ n)
+
+pub handle_first : (past : List Token) (t : Token) (ts : List Token) (e : Fault) → Clean past → handle_fault past t.body ≡ Some e → FirstAt (followed_by past (t ∷ ts)) (length past) e
+handle_first past t ts e c h = (
+  record {
+    place = placed past of_handle;
+    stands = record { past = past; token = t; behind = ts; list = refl; number = refl; fault = h };
+    least = earlier;
+  },
+  refl,
+)
   where
     earlier : (p : Place) (f : Fault) → StandsIn (followed_by past (t ∷ ts)) p f → ComesBefore p (placed past of_handle) → ⊥
     earlier p f s (inl l) = none_earlier past (t ∷ ts) (followed_by past (t ∷ ts)) p f refl c s l
@@ -90,12 +97,15 @@ handle_first past t ts e c h = record {
         no_rank of_handle h = h
         no_rank of_token h = h
 
-pub token_first : (past : List Token) (t : Token) (ts : List Token) (e : Fault) → Clean past → handle_fault past t.body ≡ None → WrongToken past t e → IsFirst (StandsIn (followed_by past (t ∷ ts))) e
-token_first past t ts e c h w = record {
-  place = placed past of_token;
-  stands = record { past = past; token = t; behind = ts; list = refl; number = refl; fault = w };
-  least = earlier;
-}
+pub token_first : (past : List Token) (t : Token) (ts : List Token) (e : Fault) → Clean past → handle_fault past t.body ≡ None → WrongToken past t e → FirstAt (followed_by past (t ∷ ts)) (length past) e
+token_first past t ts e c h w = (
+  record {
+    place = placed past of_token;
+    stands = record { past = past; token = t; behind = ts; list = refl; number = refl; fault = w };
+    least = earlier;
+  },
+  refl,
+)
   where
     ranked : (r : Rank) (f : Fault) (other : List Token) (u : Token) (us : List Token) → RanksBefore r of_token → followed_by past (t ∷ ts) ≡ followed_by other (u ∷ us) → length past ≡ length other → FaultAt other u r f → ⊥
     ranked of_token f other u us k p n x = k

@@ -1,10 +1,10 @@
 -- The rows, by running the machine.
 use Rattle.std.proofs.Common.{◌≡◌, List, [], ◌∷◌, Option, refl, subst}
-use Rattle.yaml_parse_grammar.specs.parse_model.Faults.{Fault}
-use Rattle.yaml_parse_grammar.specs.Problems.{problem_text_of, context_text_of, context_place}
-use Rattle.yaml_parse_grammar.specs.Machine.{feed, run, initial}
-use Rattle.yaml_parse_grammar.specs.Resolve.{no_directives, reading, directive_for}
-use Rattle.yaml_parse_grammar.specs.Remaining.{reading_of}
+use Rattle.yaml_parse_laws_sound.specs.grammar.parse_model.Faults.{Fault}
+use Rattle.yaml_parse_laws_sound.specs.grammar.Problems.{problem_text_of, context_text_of, context_place}
+use Rattle.yaml_parse_laws_sound.specs.grammar.Machine.{feed, run, initial}
+use Rattle.yaml_parse_laws_sound.specs.grammar.Resolve.{no_directives, reading, directive_for}
+use Rattle.yaml_parse_laws_sound.specs.grammar.Remaining.{reading_of}
 use Rattle.yaml_parse_laws_faults.specs.Places.{FaultOfTokens}
 use Rattle.yaml_parse_laws_faults.specs.Rows.{Row, grammar_rows, directive_rows, other_rows, AllHold, RowsHold}
 use Rattle.yaml_parse_laws_faults.proofs.Ending.{ends_in_fault}

@@ -1,15 +1,15 @@
 -- What a stack of states knows of the tokens that were read: which collections are open, and which token was last.
 use Rattle.std.proofs.Common.{◌≡◌, Bool, true, false, if◌then◌else◌, List, [], ◌∷◌, refl, ap}
-use Rattle.yaml_parse_grammar.specs.parse_model.declared.yaml_mark_t.{yaml_mark_t}
-use Rattle.yaml_parse_grammar.specs.parse_model.Tokens.{Token, TokenBody}
-use Rattle.yaml_parse_grammar.specs.parse_model.Tokens as token
-use Rattle.yaml_parse_grammar.specs.parse_model.Faults.{Fault}
-use Rattle.yaml_parse_grammar.specs.declared.name.Wants.{Wants}
-use Rattle.yaml_parse_grammar.specs.declared.name.Wants.TheVariants.{Flow, Block}
-use Rattle.yaml_parse_grammar.specs.States.{State}
-use Rattle.yaml_parse_grammar.specs.States as state
-use Rattle.yaml_parse_grammar.specs.Trees.{opening}
-use Rattle.yaml_parse_grammar.specs.Machine.{wants_of}
+use Rattle.yaml_parse_laws_sound.specs.grammar.parse_model.declared.yaml_mark_t.{yaml_mark_t}
+use Rattle.yaml_parse_laws_sound.specs.grammar.parse_model.Tokens.{Token, TokenBody}
+use Rattle.yaml_parse_laws_sound.specs.grammar.parse_model.Tokens as token
+use Rattle.yaml_parse_laws_sound.specs.grammar.parse_model.Faults.{Fault}
+use Rattle.yaml_parse_laws_sound.specs.grammar.declared.name.Wants.{Wants}
+use Rattle.yaml_parse_laws_sound.specs.grammar.declared.name.Wants.TheVariants.{Flow, Block}
+use Rattle.yaml_parse_laws_sound.specs.grammar.States.{State}
+use Rattle.yaml_parse_laws_sound.specs.grammar.States as state
+use Rattle.yaml_parse_laws_sound.specs.grammar.Trees.{opening}
+use Rattle.yaml_parse_laws_sound.specs.grammar.Machine.{wants_of}
 use Rattle.yaml_parse_laws_faults.specs.LookBack.{opens, closes, surrounding, opened, opens_brackets, in_brackets, asks_for_node}
 use Rattle.yaml_parse_laws_faults.specs.Wrong.{no_node, no_document, no_part, not_going_on, grammar_fault}
 

@@ -1,18 +1,18 @@
 -- One token: what the stack gives is read, and the directives agree with the tokens from then on.
 use Rattle.std.proofs.Common.{◌≡◌, Bool, true, false, if◌then◌else◌, List, [], ◌∷◌, ◌++◌, Option, Some, None, refl, ap, sym, subst}
-use Rattle.yaml_parse_grammar.specs.parse_model.declared.yaml_mark_t.{yaml_mark_t}
-use Rattle.yaml_parse_grammar.specs.parse_model.Tokens.{Token, TokenBody, type_of}
-use Rattle.yaml_parse_grammar.specs.parse_model.Tokens as token
-use Rattle.yaml_parse_grammar.specs.parse_model.Events as event
-use Rattle.yaml_parse_grammar.specs.declared.name.Choice.{Choice}
-use Rattle.yaml_parse_grammar.specs.declared.name.Choice.TheVariants.{Refuse, Take, Leave, Open}
-use Rattle.yaml_parse_grammar.specs.Items.{RawEvent, Properties, item_at, properties_alone}
-use Rattle.yaml_parse_grammar.specs.Items as item
-use Rattle.yaml_parse_grammar.specs.States.{State}
-use Rattle.yaml_parse_grammar.specs.States as state
-use Rattle.yaml_parse_grammar.specs.Stacks.{IsInner, InsideAt, IsInside}
-use Rattle.yaml_parse_grammar.specs.Machine.{choice_at, taken_at, left_at, Fed, stop, go, with_item, given_by, turn, feed}
-use Rattle.yaml_parse_grammar.specs.Resolve.{Directives, no_directives}
+use Rattle.yaml_parse_laws_sound.specs.grammar.parse_model.declared.yaml_mark_t.{yaml_mark_t}
+use Rattle.yaml_parse_laws_sound.specs.grammar.parse_model.Tokens.{Token, TokenBody, type_of}
+use Rattle.yaml_parse_laws_sound.specs.grammar.parse_model.Tokens as token
+use Rattle.yaml_parse_laws_sound.specs.grammar.parse_model.Events as event
+use Rattle.yaml_parse_laws_sound.specs.grammar.declared.name.Choice.{Choice}
+use Rattle.yaml_parse_laws_sound.specs.grammar.declared.name.Choice.TheVariants.{Refuse, Take, Leave, Open}
+use Rattle.yaml_parse_laws_sound.specs.grammar.Items.{RawEvent, Properties, item_at, properties_alone}
+use Rattle.yaml_parse_laws_sound.specs.grammar.Items as item
+use Rattle.yaml_parse_laws_sound.specs.grammar.States.{State}
+use Rattle.yaml_parse_laws_sound.specs.grammar.States as state
+use Rattle.yaml_parse_laws_sound.specs.grammar.Stacks.{IsInner, InsideAt, IsInside}
+use Rattle.yaml_parse_laws_sound.specs.grammar.Machine.{choice_at, taken_at, left_at, Fed, stop, go, with_item, given_by, turn, feed}
+use Rattle.yaml_parse_laws_sound.specs.grammar.Resolve.{Directives, no_directives}
 use Rattle.yaml_parse_laws_faults.specs.LookBack.{directives_before, document_directives, is_directive, starts_document}
 use Rattle.yaml_parse_laws_faults.specs.Wrong.{directive_fault}
 use Rattle.yaml_parse_laws_faults.proofs.Standing.{Sign, open_in, directive, other, last_of, last_in, told, Plain, Nested}

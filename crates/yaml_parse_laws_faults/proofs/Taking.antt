@@ -1,25 +1,25 @@
 -- What a stack waits for, with a token in front; and the reading of what a step gives.
 use Rattle.std.proofs.Common.{◌≡◌, ℕ, true, false, List, [], ◌∷◌, ◌++◌, map, Option, Some, None, refl, sym, subst}
-use Rattle.yaml_parse_grammar.specs.parse_model.declared.yaml_token_type_t.{yaml_token_type_t}
-use Rattle.yaml_parse_grammar.specs.parse_model.declared.yaml_token_type_t.TheVariants as kind
-use Rattle.yaml_parse_grammar.specs.parse_model.Tokens.{Token, type_of, no_token}
-use Rattle.yaml_parse_grammar.specs.parse_model.Faults.{Fault}
-use Rattle.yaml_parse_grammar.specs.declared.name.Wants.TheVariants.{Block}
-use Rattle.yaml_parse_grammar.specs.declared.name.Site.TheVariants.{Root}
-use Rattle.yaml_parse_grammar.specs.declared.name.Choice.{Choice}
-use Rattle.yaml_parse_grammar.specs.declared.name.Choice.TheVariants.{Refuse, Take, Leave, Open}
-use Rattle.yaml_parse_grammar.specs.declared.problem.ParseProblem.TheVariants as problem
-use Rattle.yaml_parse_grammar.specs.Items.{RawEvent, item_at}
-use Rattle.yaml_parse_grammar.specs.Items as item
-use Rattle.yaml_parse_grammar.specs.States.{State, Taken}
-use Rattle.yaml_parse_grammar.specs.States as state
-use Rattle.yaml_parse_grammar.specs.Stacks.{IsInside, IsStack}
-use Rattle.yaml_parse_grammar.specs.Trees.{Given}
-use Rattle.yaml_parse_grammar.specs.Machine.{starts_node, parts_documents, choice_at, taken_at, left_at, Fed, stop, go, with_item, given_by, turn, feed}
-use Rattle.yaml_parse_grammar.specs.Resolve.{Directives, Settled, refused, gave, noted, settle, Reading, reading}
-use Rattle.yaml_parse_grammar.specs.Resolve as resolve
-use Rattle.yaml_parse_grammar.proofs.Voice.{takes_a_token}
-use Rattle.yaml_parse_grammar.proofs.Single.{opens_node}
+use Rattle.yaml_parse_laws_sound.specs.grammar.parse_model.declared.yaml_token_type_t.{yaml_token_type_t}
+use Rattle.yaml_parse_laws_sound.specs.grammar.parse_model.declared.yaml_token_type_t.TheVariants as kind
+use Rattle.yaml_parse_laws_sound.specs.grammar.parse_model.Tokens.{Token, type_of, no_token}
+use Rattle.yaml_parse_laws_sound.specs.grammar.parse_model.Faults.{Fault}
+use Rattle.yaml_parse_laws_sound.specs.grammar.declared.name.Wants.TheVariants.{Block}
+use Rattle.yaml_parse_laws_sound.specs.grammar.declared.name.Site.TheVariants.{Root}
+use Rattle.yaml_parse_laws_sound.specs.grammar.declared.name.Choice.{Choice}
+use Rattle.yaml_parse_laws_sound.specs.grammar.declared.name.Choice.TheVariants.{Refuse, Take, Leave, Open}
+use Rattle.yaml_parse_laws_sound.specs.grammar.declared.problem.ParseProblem.TheVariants as problem
+use Rattle.yaml_parse_laws_sound.specs.grammar.Items.{RawEvent, item_at}
+use Rattle.yaml_parse_laws_sound.specs.grammar.Items as item
+use Rattle.yaml_parse_laws_sound.specs.grammar.States.{State, Taken}
+use Rattle.yaml_parse_laws_sound.specs.grammar.States as state
+use Rattle.yaml_parse_laws_sound.specs.grammar.Stacks.{IsInside, IsStack}
+use Rattle.yaml_parse_laws_sound.specs.grammar.Trees.{Given}
+use Rattle.yaml_parse_laws_sound.specs.grammar.Machine.{starts_node, parts_documents, choice_at, taken_at, left_at, Fed, stop, go, with_item, given_by, turn, feed}
+use Rattle.yaml_parse_laws_sound.specs.grammar.Resolve.{Directives, Settled, refused, gave, noted, settle, Reading, reading, unasked_at_fault}
+use Rattle.yaml_parse_laws_sound.specs.grammar.Resolve as resolve
+use Rattle.yaml_parse_laws_sound.proofs.grammar.Voice.{takes_a_token}
+use Rattle.yaml_parse_laws_sound.proofs.grammar.Single.{opens_node}
 use Rattle.yaml_parse_laws_sound.proofs.Left.{Left, Over, over_both, leaving, taking, opening, not_left, not_left_first}
 use Rattle.yaml_parse_laws_faults.proofs.Settling.{Done, bad, fine, then_read, read_all}
 
@@ -126,6 +126,34 @@ stops_at_none [] h = absurd h
 stops_at_none (x ∷ s) h = stops_turn (choice_at x kind.YAML_NO_TOKEN) x s (feed s no_token) refl (λ e. stops_at_none s (solid_left x kind.YAML_NO_TOKEN (Solid s) e h))
 
 -- ---- reading what a step gives
+
+-- how many tokens are not asked for at the fault
+abbrev pub number_of : Done → ℕ → (Directives → ℕ) → ℕ
+number_of (bad e) left k = left
+number_of (fine ds) left k = k ds
+
+one_number : (c : Settled) (left : ℕ) (k : Directives → ℕ) (l : Directives → Done) (m : Directives → ℕ) → ((ds : Directives) → k ds ≡ number_of (l ds) left m)
+    → resolve.unasked_on c left k ≡ number_of (then_read c l) left m
+one_number (refused e) left k l m h = refl
+one_number (gave b ds) left k l m h = h ds
+one_number (noted ds) left k l m h = h ds
+
+pub front_number : (is : List RawEvent) (left : ℕ) (gs : List Given) (n : ℕ) (ds : Directives)
+    → unasked_at_fault (map (λ (i : RawEvent). (i, left)) is ++ gs) n ds ≡ number_of (read_all is ds) left (λ d. unasked_at_fault gs n d)
+unfolding unasked_at_fault
+front_number [] left gs n ds = refl
+front_number (i ∷ is) left gs n ds =
+    one_number (settle i ds) left (λ d. unasked_at_fault (map (λ (i : RawEvent). (i, left)) is ++ gs) n d) (λ d. read_all is d) (λ d. unasked_at_fault gs n d) (λ d. front_number is left gs n d)
+
+one_last : (c : Settled) (left : ℕ) (k : Directives → ℕ) → ((ds : Directives) → k ds ≡ left) → resolve.unasked_on c left k ≡ left
+one_last (refused e) left k h = refl
+one_last (gave b ds) left k h = h ds
+one_last (noted ds) left k h = h ds
+
+pub last_number : (is : List RawEvent) (left : ℕ) (ds : Directives) → unasked_at_fault (map (λ (i : RawEvent). (i, left)) is) left ds ≡ left
+unfolding unasked_at_fault
+last_number [] left ds = refl
+last_number (i ∷ is) left ds = one_last (settle i ds) left (λ d. unasked_at_fault (map (λ (i : RawEvent). (i, left)) is) left d) (λ d. last_number is left d)
 
 abbrev pub ending_of : Done → (Directives → Option Fault) → Option Fault
 ending_of (bad e) k = Some e

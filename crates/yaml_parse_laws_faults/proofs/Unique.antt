@@ -1,8 +1,8 @@
 -- A list of tokens has one fault at most.
 use Rattle.std.proofs.Common.{◌≡◌, ◌⊎◌, inl, inr, ℕ, ◌<◌, List, ◌∷◌, Option, Some, None, refl, ap, sym, subst, ◌∙◌}
 use Rattle.std.proofs.lemmas.Bool.{cases_order}
-use Rattle.yaml_parse_grammar.specs.parse_model.Tokens.{Token}
-use Rattle.yaml_parse_grammar.specs.parse_model.Faults.{Fault}
+use Rattle.yaml_parse_laws_sound.specs.grammar.parse_model.Tokens.{Token}
+use Rattle.yaml_parse_laws_sound.specs.grammar.parse_model.Faults.{Fault}
 use Rattle.yaml_parse_laws_faults.specs.Wrong.{directive_fault, handle_fault}
 use Rattle.yaml_parse_laws_faults.specs.Places.{Rank, of_handle, of_token, ComesBefore, WrongToken, grammar, directive, FaultAt, StandsIn, IsFirst, with_end, IsOwn}
 use Rattle.yaml_parse_laws_faults.specs.Laws.{FaultIsOne}

@@ -1,11 +1,11 @@
 -- The machine's fault is the list's.
-use Rattle.std.specs.Prelude.{◌≡◌, List, Option}
-use Rattle.yaml_parse_grammar.specs.parse_model.Tokens.{Token}
-use Rattle.yaml_parse_grammar.specs.parse_model.Faults.{Fault}
-use Rattle.yaml_parse_grammar.specs.Machine.{run, initial}
-use Rattle.yaml_parse_grammar.specs.Resolve.{no_directives}
-use Rattle.yaml_parse_grammar.specs.Remaining.{reading_of}
-use Rattle.yaml_parse_laws_faults.specs.Places.{FaultOfTokens}
+use Rattle.std.specs.Prelude.{◌≡◌, List, Option, Some}
+use Rattle.yaml_parse_laws_sound.specs.grammar.parse_model.Tokens.{Token}
+use Rattle.yaml_parse_laws_sound.specs.grammar.parse_model.Faults.{Fault}
+use Rattle.yaml_parse_laws_sound.specs.grammar.Machine.{run, initial}
+use Rattle.yaml_parse_laws_sound.specs.grammar.Resolve.{no_directives}
+use Rattle.yaml_parse_laws_sound.specs.grammar.Remaining.{reading_of, unasked_of}
+use Rattle.yaml_parse_laws_faults.specs.Places.{FaultOfTokens, IsToldWith}
 
 -- A list has one fault at most.
 abbrev pub FaultIsOne : Type 0
@@ -21,3 +21,9 @@ EndsInFault = (ts : List Token) (own : Option Fault)
 abbrev pub FaultEnds : Type 0
 FaultEnds = (ts : List Token) (own fault : Option Fault) → FaultOfTokens ts own fault
     → (reading_of (run ts initial own) no_directives).ending ≡ fault
+
+-- It is told as its place is reached, with no token asked for behind that.
+abbrev pub FaultIsToldAtPlace : Type 0
+FaultIsToldAtPlace = (ts : List Token) (own : Option Fault) (e : Fault)
+    → (reading_of (run ts initial own) no_directives).ending ≡ Some e
+    → IsToldWith ts own e (unasked_of ts own initial no_directives)

@@ -1,8 +1,8 @@
 -- The fault of a list of tokens: the one of the least place.
-use Rattle.std.specs.Prelude.{◌≡◌, ◌⊎◌, ℕ, ◌<◌, List, [], ◌∷◌, ◌++◌, length, Option, Some, None}
-use Rattle.yaml_parse_grammar.specs.parse_model.Tokens.{Token, no_token}
-use Rattle.yaml_parse_grammar.specs.parse_model.Faults.{Fault}
-use Rattle.yaml_parse_grammar.specs.Trees.{Stream, spell}
+use Rattle.std.specs.Prelude.{◌≡◌, ◌⊎◌, ℕ, suc, ◌<◌, ◌-◌, List, [], ◌∷◌, ◌++◌, length, Option, Some, None}
+use Rattle.yaml_parse_laws_sound.specs.grammar.parse_model.Tokens.{Token, no_token}
+use Rattle.yaml_parse_laws_sound.specs.grammar.parse_model.Faults.{Fault}
+use Rattle.yaml_parse_laws_sound.specs.grammar.Trees.{Stream, spell}
 use Rattle.yaml_parse_laws_sound.specs.Laws.{GoesOn}
 use Rattle.yaml_parse_laws_faults.specs.LookBack.{followed_by}
 use Rattle.yaml_parse_laws_faults.specs.Wrong.{grammar_fault, directive_fault, handle_fault}
@@ -87,3 +87,15 @@ pub record IsRefused (ts : List Token) (own : Option Fault) (e : Fault) : Type 0
 abbrev pub FaultOfTokens : List Token → Option Fault → Option Fault → Type 0
 FaultOfTokens ts own None = BeginsWithSentence ts
 FaultOfTokens ts own (Some e) = IsRefused ts own e
+
+-- ---- the tokens that are asked for
+
+-- The fault is told as its place is reached: the tokens behind that place aren't asked for.
+pub record IsToldAtPlace (ts : List Token) (own : Option Fault) (e : Fault)
+    (unasked : ℕ) : Type 0 where
+  pub first : IsFirst (StandsIn (with_end own ts)) e
+  pub behind : unasked ≡ length ts - suc first.place.number
+
+-- How many of a list's tokens are not asked for as its fault is told; for a fault of its own all are.
+abbrev pub IsToldWith : List Token → Option Fault → Fault → ℕ → Type 0
+IsToldWith ts own e unasked = IsToldAtPlace ts own e unasked ⊎ (IsOwn ts own e × (unasked ≡ 0))

@@ -2,7 +2,7 @@
 //! the parser's machine ends in. No code.
 #![tactic(auto)]
 
-ghost use Rattle.yaml_parse_laws_faults.specs.Laws.{EndsInFault, FaultEnds, FaultIsOne};
+ghost use Rattle.yaml_parse_laws_faults.specs.Laws.{EndsInFault, FaultEnds, FaultIsOne, FaultIsToldAtPlace};
 ghost use Rattle.yaml_parse_laws_faults.specs.Rows.{RowsHold};
 
 /// A list of tokens has one fault at most: the one of the least place in it, or its own.
@@ -19,6 +19,11 @@ pub fn the_machine_ends_in_the_fault()
 /// And whichever fault a list has, the machine ends in it.
 pub fn the_fault_is_what_the_machine_ends_in()
     ensures { FaultEnds }
+{}
+
+/// The machine tells it at its place: it asks for no token behind that.
+pub fn the_fault_is_told_at_its_place()
+    ensures { FaultIsToldAtPlace }
 {}
 
 /// Lists with their faults, one for each text of the parser's.

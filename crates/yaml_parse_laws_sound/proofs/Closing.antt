@@ -1,26 +1,26 @@
 -- Tokens that close all that is open. What is given at a refused token is given at these too.
 use Rattle.std.proofs.Common.{◌≡◌, Bool, true, false, if◌then◌else◌, ◌||◌, List, [], ◌∷◌, Some, None, refl, ap, subst, ◌∙◌}
-use Rattle.yaml_parse_grammar.specs.parse_model.declared.yaml_mark_t.{yaml_mark_t}
-use Rattle.yaml_parse_grammar.specs.parse_model.declared.yaml_encoding_t.TheVariants.{YAML_ANY_ENCODING}
-use Rattle.yaml_parse_grammar.specs.parse_model.declared.yaml_token_type_t.{yaml_token_type_t}
-use Rattle.yaml_parse_grammar.specs.parse_model.declared.yaml_token_type_t.TheVariants as kind
-use Rattle.yaml_parse_grammar.specs.parse_model.Tokens.{Token, TokenBody, type_of}
-use Rattle.yaml_parse_grammar.specs.parse_model.Tokens as token
-use Rattle.yaml_parse_grammar.specs.parse_model.Faults.{Fault}
-use Rattle.yaml_parse_grammar.specs.declared.name.Wants.TheVariants.{Flow, Block}
-use Rattle.yaml_parse_grammar.specs.declared.name.Brackets.TheVariants as brackets
-use Rattle.yaml_parse_grammar.specs.declared.name.Site.{Site}
-use Rattle.yaml_parse_grammar.specs.declared.name.Choice.{Choice}
-use Rattle.yaml_parse_grammar.specs.declared.name.Choice.TheVariants.{Refuse, Take, Leave, Open}
-use Rattle.yaml_parse_grammar.specs.declared.problem.ParseProblem.{ParseProblem}
-use Rattle.yaml_parse_grammar.specs.declared.problem.ParseProblem.TheVariants as problem
-use Rattle.yaml_parse_grammar.specs.Items.{RawEvent}
-use Rattle.yaml_parse_grammar.specs.States.{State}
-use Rattle.yaml_parse_grammar.specs.States as state
-use Rattle.yaml_parse_grammar.specs.Trees.{Span, closing, token_at}
-use Rattle.yaml_parse_grammar.specs.Trees as tree
-use Rattle.yaml_parse_grammar.specs.Machine.{starts_node, wants_of, follows, no_node, closes, no_end, parts_documents, choice_at, left_at, Fed, stop, go, with_item, turn, feed, Outcome, run}
-use Rattle.yaml_parse_grammar.proofs.Complete.{leaves_at}
+use Rattle.yaml_parse_laws_counts.specs.grammar.parse_model.declared.yaml_mark_t.{yaml_mark_t}
+use Rattle.yaml_parse_laws_counts.specs.grammar.parse_model.declared.yaml_encoding_t.TheVariants.{YAML_ANY_ENCODING}
+use Rattle.yaml_parse_laws_counts.specs.grammar.parse_model.declared.yaml_token_type_t.{yaml_token_type_t}
+use Rattle.yaml_parse_laws_counts.specs.grammar.parse_model.declared.yaml_token_type_t.TheVariants as kind
+use Rattle.yaml_parse_laws_counts.specs.grammar.parse_model.Tokens.{Token, TokenBody, type_of}
+use Rattle.yaml_parse_laws_counts.specs.grammar.parse_model.Tokens as token
+use Rattle.yaml_parse_laws_counts.specs.grammar.parse_model.Faults.{Fault}
+use Rattle.yaml_parse_laws_counts.specs.grammar.declared.name.Wants.TheVariants.{Flow, Block}
+use Rattle.yaml_parse_laws_counts.specs.grammar.declared.name.Brackets.TheVariants as brackets
+use Rattle.yaml_parse_laws_counts.specs.grammar.declared.name.Site.{Site}
+use Rattle.yaml_parse_laws_counts.specs.grammar.declared.name.Choice.{Choice}
+use Rattle.yaml_parse_laws_counts.specs.grammar.declared.name.Choice.TheVariants.{Refuse, Take, Leave, Open}
+use Rattle.yaml_parse_laws_counts.specs.grammar.declared.problem.ParseProblem.{ParseProblem}
+use Rattle.yaml_parse_laws_counts.specs.grammar.declared.problem.ParseProblem.TheVariants as problem
+use Rattle.yaml_parse_laws_counts.specs.grammar.Items.{RawEvent}
+use Rattle.yaml_parse_laws_counts.specs.grammar.States.{State}
+use Rattle.yaml_parse_laws_counts.specs.grammar.States as state
+use Rattle.yaml_parse_laws_counts.specs.grammar.Trees.{Span, closing, token_at}
+use Rattle.yaml_parse_laws_counts.specs.grammar.Trees as tree
+use Rattle.yaml_parse_laws_counts.specs.grammar.Machine.{starts_node, wants_of, follows, no_node, closes, no_end, parts_documents, choice_at, left_at, Fed, stop, go, with_item, turn, feed, Outcome, run}
+use Rattle.yaml_parse_laws_counts.proofs.grammar.Complete.{leaves_at}
 use Rattle.yaml_parse_laws_sound.specs.Laws.{bare, Begins}
 use Rattle.yaml_parse_laws_sound.proofs.Left.{Left, Over, properties_alone, not_left, not_left_first}
 use Rattle.yaml_parse_laws_sound.proofs.Standing.{Goes, Fits, Closed, Stood, AllStood}

@@ -1,10 +1,10 @@
 -- The events of items that begin alike begin alike.
 use Rattle.std.proofs.Common.{◌≡◌, ℕ, List, [], ◌∷◌, ◌++◌, Option, refl, ap, sym, subst}
-use Rattle.yaml_parse_grammar.specs.parse_model.Faults.{Fault}
-use Rattle.yaml_parse_grammar.specs.parse_model.Events.{Event}
-use Rattle.yaml_parse_grammar.specs.Items.{RawEvent}
-use Rattle.yaml_parse_grammar.specs.Trees.{Given}
-use Rattle.yaml_parse_grammar.specs.Resolve.{Directives, Settled, refused, gave, noted, settle, Reading, placed, read_on, reading}
+use Rattle.yaml_parse_laws_counts.specs.grammar.parse_model.Faults.{Fault}
+use Rattle.yaml_parse_laws_counts.specs.grammar.parse_model.Events.{Event}
+use Rattle.yaml_parse_laws_counts.specs.grammar.Items.{RawEvent}
+use Rattle.yaml_parse_laws_counts.specs.grammar.Trees.{Given}
+use Rattle.yaml_parse_laws_counts.specs.grammar.Resolve.{Directives, Settled, refused, gave, noted, settle, Reading, placed, read_on, reading}
 use Rattle.yaml_parse_laws_sound.specs.Laws.{bare, told, BeginsWithEvents, EventsBeginAsItems}
 
 head_same : (a b : RawEvent) (x y : List RawEvent) → a ∷ x ≡ b ∷ y → a ≡ b

@@ -1,16 +1,16 @@
 -- Where a list of tokens is refused: at the first token that no tree goes on with.
 use Rattle.std.proofs.Common.{◌≡◌, ◌⊎◌, inl, inr, ℕ, List, [], ◌∷◌, ◌++◌, length, map, Option, Some, None, refl, ap, sym, subst, ◌∙◌}
 use Rattle.std.proofs.lemmas.List.{append_assoc}
-use Rattle.yaml_parse_grammar.specs.parse_model.declared.yaml_mark_t.{yaml_mark_t}
-use Rattle.yaml_parse_grammar.specs.parse_model.Tokens.{Token, type_of, no_token, zero_mark}
-use Rattle.yaml_parse_grammar.specs.parse_model.Faults.{Fault}
-use Rattle.yaml_parse_grammar.specs.declared.name.Choice.{Choice}
-use Rattle.yaml_parse_grammar.specs.declared.name.Choice.TheVariants.{Refuse, Take, Leave, Open}
-use Rattle.yaml_parse_grammar.specs.Items.{RawEvent}
-use Rattle.yaml_parse_grammar.specs.States.{State}
-use Rattle.yaml_parse_grammar.specs.Trees.{Given, Stream, spell, items}
-use Rattle.yaml_parse_grammar.specs.Machine.{choice_at, left_at, Fed, stop, go, with_item, turn, feed, Outcome, finished, carry, ending_at, run, initial}
-use Rattle.yaml_parse_grammar.proofs.CompleteStream.{stream_runs, nothing_runs}
+use Rattle.yaml_parse_laws_counts.specs.grammar.parse_model.declared.yaml_mark_t.{yaml_mark_t}
+use Rattle.yaml_parse_laws_counts.specs.grammar.parse_model.Tokens.{Token, type_of, no_token, zero_mark}
+use Rattle.yaml_parse_laws_counts.specs.grammar.parse_model.Faults.{Fault}
+use Rattle.yaml_parse_laws_counts.specs.grammar.declared.name.Choice.{Choice}
+use Rattle.yaml_parse_laws_counts.specs.grammar.declared.name.Choice.TheVariants.{Refuse, Take, Leave, Open}
+use Rattle.yaml_parse_laws_counts.specs.grammar.Items.{RawEvent}
+use Rattle.yaml_parse_laws_counts.specs.grammar.States.{State}
+use Rattle.yaml_parse_laws_counts.specs.grammar.Trees.{Given, Stream, spell, items}
+use Rattle.yaml_parse_laws_counts.specs.grammar.Machine.{choice_at, left_at, Fed, stop, go, with_item, turn, feed, Outcome, finished, carry, ending_at, run, initial}
+use Rattle.yaml_parse_laws_counts.proofs.grammar.CompleteStream.{stream_runs, nothing_runs}
 use Rattle.yaml_parse_laws_sound.specs.Laws.{bare, Begins, GoesOn, GoesOnGiving, StandsAt, RefusedAt, RunsOut, FaultsStandAtFirst, FrontsAreNotRefused}
 use Rattle.yaml_parse_laws_sound.proofs.Left.{Over}
 use Rattle.yaml_parse_laws_sound.proofs.Sound.{FedLeft, feed_left}

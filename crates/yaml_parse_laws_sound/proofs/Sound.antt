@@ -1,22 +1,22 @@
 -- What the machine accepts begins with the tokens of a tree.
 use Rattle.std.proofs.Common.{◌≡◌, ℕ, true, false, List, [], ◌∷◌, length, Option, Some, None, refl, ap, sym, subst, ◌∙◌}
-use Rattle.yaml_parse_grammar.specs.parse_model.declared.yaml_token_type_t.TheVariants as kind
-use Rattle.yaml_parse_grammar.specs.parse_model.Tokens.{Token, type_of, no_token}
-use Rattle.yaml_parse_grammar.specs.parse_model.Faults.{Fault}
-use Rattle.yaml_parse_grammar.specs.declared.name.Site.TheVariants.{Root}
-use Rattle.yaml_parse_grammar.specs.declared.name.Choice.{Choice}
-use Rattle.yaml_parse_grammar.specs.declared.name.Choice.TheVariants.{Refuse, Take, Leave, Open}
-use Rattle.yaml_parse_grammar.specs.Items.{RawEvent, item_at}
-use Rattle.yaml_parse_grammar.specs.Items as item
-use Rattle.yaml_parse_grammar.specs.States.{State}
-use Rattle.yaml_parse_grammar.specs.States as state
-use Rattle.yaml_parse_grammar.specs.Trees.{Given, items}
-use Rattle.yaml_parse_grammar.specs.Machine.{choice_at, taken_at, left_at, Fed, stop, go, with_item, given_by, turn, feed, Outcome, finished, carry, ending_at, run, initial}
-use Rattle.yaml_parse_grammar.specs.Resolve.{Directives, Settled, refused, gave, noted, settle, Reading, read_on, reading, no_directives}
-use Rattle.yaml_parse_grammar.specs.Remaining.{reading_of}
-use Rattle.yaml_parse_grammar.proofs.CompleteStream.{stream_runs}
-use Rattle.yaml_parse_grammar.proofs.Voice.{takes_a_token}
-use Rattle.yaml_parse_grammar.proofs.Single.{opens_node}
+use Rattle.yaml_parse_laws_counts.specs.grammar.parse_model.declared.yaml_token_type_t.TheVariants as kind
+use Rattle.yaml_parse_laws_counts.specs.grammar.parse_model.Tokens.{Token, type_of, no_token}
+use Rattle.yaml_parse_laws_counts.specs.grammar.parse_model.Faults.{Fault}
+use Rattle.yaml_parse_laws_counts.specs.grammar.declared.name.Site.TheVariants.{Root}
+use Rattle.yaml_parse_laws_counts.specs.grammar.declared.name.Choice.{Choice}
+use Rattle.yaml_parse_laws_counts.specs.grammar.declared.name.Choice.TheVariants.{Refuse, Take, Leave, Open}
+use Rattle.yaml_parse_laws_counts.specs.grammar.Items.{RawEvent, item_at}
+use Rattle.yaml_parse_laws_counts.specs.grammar.Items as item
+use Rattle.yaml_parse_laws_counts.specs.grammar.States.{State}
+use Rattle.yaml_parse_laws_counts.specs.grammar.States as state
+use Rattle.yaml_parse_laws_counts.specs.grammar.Trees.{Given, items}
+use Rattle.yaml_parse_laws_counts.specs.grammar.Machine.{choice_at, taken_at, left_at, Fed, stop, go, with_item, given_by, turn, feed, Outcome, finished, carry, ending_at, run, initial}
+use Rattle.yaml_parse_laws_counts.specs.grammar.Resolve.{Directives, Settled, refused, gave, noted, settle, Reading, read_on, reading, no_directives}
+use Rattle.yaml_parse_laws_counts.specs.grammar.Remaining.{reading_of}
+use Rattle.yaml_parse_laws_counts.proofs.grammar.CompleteStream.{stream_runs}
+use Rattle.yaml_parse_laws_counts.proofs.grammar.Voice.{takes_a_token}
+use Rattle.yaml_parse_laws_counts.proofs.grammar.Single.{opens_node}
 use Rattle.yaml_parse_laws_sound.specs.Laws.{AcceptedAreTrees, AcceptedAreSentences, SentencesAreAccepted}
 use Rattle.yaml_parse_laws_sound.proofs.Left.{Left, Over, over_both, leaving, taking, opening}
 

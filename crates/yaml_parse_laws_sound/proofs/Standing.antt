@@ -1,26 +1,26 @@
 -- What stands below a state: after a left-out node nothing is refused, and below a state that leaves something waits to be closed.
 use Rattle.std.proofs.Common.{◌≡◌, ◌⊎◌, inl, inr, true, List, [], ◌∷◌, ◌++◌, Option, Some, None, refl, sym, subst}
 use Rattle.std.proofs.lemmas.List.{append_assoc}
-use Rattle.yaml_parse_grammar.specs.parse_model.declared.yaml_mark_t.{yaml_mark_t}
-use Rattle.yaml_parse_grammar.specs.parse_model.declared.yaml_token_type_t.{yaml_token_type_t}
-use Rattle.yaml_parse_grammar.specs.parse_model.declared.yaml_token_type_t.TheVariants as kind
-use Rattle.yaml_parse_grammar.specs.parse_model.Tokens.{Token, TokenBody, type_of}
-use Rattle.yaml_parse_grammar.specs.parse_model.Tokens as token
-use Rattle.yaml_parse_grammar.specs.declared.name.Wants.{Wants}
-use Rattle.yaml_parse_grammar.specs.declared.name.Wants.TheVariants.{Flow, Block}
-use Rattle.yaml_parse_grammar.specs.declared.name.Side.{Side}
-use Rattle.yaml_parse_grammar.specs.declared.name.Side.TheVariants.{Key, Value}
-use Rattle.yaml_parse_grammar.specs.declared.name.Brackets.{Brackets}
-use Rattle.yaml_parse_grammar.specs.declared.name.Brackets.TheVariants as brackets
-use Rattle.yaml_parse_grammar.specs.declared.name.Site.{Site}
-use Rattle.yaml_parse_grammar.specs.declared.name.Site.TheVariants.{Root, Entry, IndentlessEntry, BlockPair, FlowPair}
-use Rattle.yaml_parse_grammar.specs.declared.name.Choice.{Choice}
-use Rattle.yaml_parse_grammar.specs.declared.name.Choice.TheVariants.{Refuse, Take, Leave, Open}
-use Rattle.yaml_parse_grammar.specs.Items.{RawEvent, Properties, item_at}
-use Rattle.yaml_parse_grammar.specs.Items as item
-use Rattle.yaml_parse_grammar.specs.States.{State}
-use Rattle.yaml_parse_grammar.specs.States as state
-use Rattle.yaml_parse_grammar.specs.Machine.{wants_of, follows, choice_at, documents_taken, content_taken, node_taken, with_properties_taken, items_taken, more_taken, entries_taken, pairs_taken, stream_taken, lone_below, taken_at, left_at, Fed, stop, go, with_item, given_by, turn, feed}
+use Rattle.yaml_parse_laws_counts.specs.grammar.parse_model.declared.yaml_mark_t.{yaml_mark_t}
+use Rattle.yaml_parse_laws_counts.specs.grammar.parse_model.declared.yaml_token_type_t.{yaml_token_type_t}
+use Rattle.yaml_parse_laws_counts.specs.grammar.parse_model.declared.yaml_token_type_t.TheVariants as kind
+use Rattle.yaml_parse_laws_counts.specs.grammar.parse_model.Tokens.{Token, TokenBody, type_of}
+use Rattle.yaml_parse_laws_counts.specs.grammar.parse_model.Tokens as token
+use Rattle.yaml_parse_laws_counts.specs.grammar.declared.name.Wants.{Wants}
+use Rattle.yaml_parse_laws_counts.specs.grammar.declared.name.Wants.TheVariants.{Flow, Block}
+use Rattle.yaml_parse_laws_counts.specs.grammar.declared.name.Side.{Side}
+use Rattle.yaml_parse_laws_counts.specs.grammar.declared.name.Side.TheVariants.{Key, Value}
+use Rattle.yaml_parse_laws_counts.specs.grammar.declared.name.Brackets.{Brackets}
+use Rattle.yaml_parse_laws_counts.specs.grammar.declared.name.Brackets.TheVariants as brackets
+use Rattle.yaml_parse_laws_counts.specs.grammar.declared.name.Site.{Site}
+use Rattle.yaml_parse_laws_counts.specs.grammar.declared.name.Site.TheVariants.{Root, Entry, IndentlessEntry, BlockPair, FlowPair}
+use Rattle.yaml_parse_laws_counts.specs.grammar.declared.name.Choice.{Choice}
+use Rattle.yaml_parse_laws_counts.specs.grammar.declared.name.Choice.TheVariants.{Refuse, Take, Leave, Open}
+use Rattle.yaml_parse_laws_counts.specs.grammar.Items.{RawEvent, Properties, item_at}
+use Rattle.yaml_parse_laws_counts.specs.grammar.Items as item
+use Rattle.yaml_parse_laws_counts.specs.grammar.States.{State}
+use Rattle.yaml_parse_laws_counts.specs.grammar.States as state
+use Rattle.yaml_parse_laws_counts.specs.grammar.Machine.{wants_of, follows, choice_at, documents_taken, content_taken, node_taken, with_properties_taken, items_taken, more_taken, entries_taken, pairs_taken, stream_taken, lone_below, taken_at, left_at, Fed, stop, go, with_item, given_by, turn, feed}
 
 -- ---- nothing is refused
 

@@ -1,16 +1,16 @@
 -- Which lists of tokens the machine accepts.
 use Rattle.std.specs.Prelude.{◌≡◌, ◌⊎◌, List, [], ◌∷◌, ◌++◌, Option, Some, None}
-use Rattle.yaml_parse_grammar.specs.parse_model.declared.yaml_mark_t.{yaml_mark_t}
-use Rattle.yaml_parse_grammar.specs.parse_model.declared.yaml_error_type_t.TheVariants.{YAML_PARSER_ERROR}
-use Rattle.yaml_parse_grammar.specs.parse_model.declared.yaml_origin_t.TheVariants.{Parser}
-use Rattle.yaml_parse_grammar.specs.parse_model.Tokens.{Token, zero_mark}
-use Rattle.yaml_parse_grammar.specs.parse_model.Faults.{Fault}
-use Rattle.yaml_parse_grammar.specs.parse_model.Events.{Event}
-use Rattle.yaml_parse_grammar.specs.Items.{RawEvent}
-use Rattle.yaml_parse_grammar.specs.Trees.{Stream, spell, items, Given}
-use Rattle.yaml_parse_grammar.specs.Machine.{run, initial}
-use Rattle.yaml_parse_grammar.specs.Resolve.{Told, Directives, reading, no_directives}
-use Rattle.yaml_parse_grammar.specs.Remaining.{reading_of}
+use Rattle.yaml_parse_laws_counts.specs.grammar.parse_model.declared.yaml_mark_t.{yaml_mark_t}
+use Rattle.yaml_parse_laws_counts.specs.grammar.parse_model.declared.yaml_error_type_t.TheVariants.{YAML_PARSER_ERROR}
+use Rattle.yaml_parse_laws_counts.specs.grammar.parse_model.declared.yaml_origin_t.TheVariants.{Parser}
+use Rattle.yaml_parse_laws_counts.specs.grammar.parse_model.Tokens.{Token, zero_mark}
+use Rattle.yaml_parse_laws_counts.specs.grammar.parse_model.Faults.{Fault}
+use Rattle.yaml_parse_laws_counts.specs.grammar.parse_model.Events.{Event}
+use Rattle.yaml_parse_laws_counts.specs.grammar.Items.{RawEvent}
+use Rattle.yaml_parse_laws_counts.specs.grammar.Trees.{Stream, spell, items, Given}
+use Rattle.yaml_parse_laws_counts.specs.grammar.Machine.{run, initial}
+use Rattle.yaml_parse_laws_counts.specs.grammar.Resolve.{Told, Directives, reading, no_directives}
+use Rattle.yaml_parse_laws_counts.specs.grammar.Remaining.{reading_of}
 
 -- the list begins with the tokens of a tree
 pub record BeginsWithTree (ts : List Token) : Type 0 where

@@ -4,8 +4,9 @@ use Rattle.std.specs.FinMap as map
 use Rattle.yaml_parse_model.specs.declared.yaml_mark_t.{yaml_mark_t}
 use Rattle.yaml_parse_model.specs.declared.yaml_version_directive_t.{yaml_version_directive_t}
 use Rattle.yaml_parse_model.specs.declared.yaml_fault_t.{yaml_fault_t}
+use Rattle.yaml_parse_model.specs.declared.yaml_origin_t.TheVariants.{Loader}
 use Rattle.yaml_parse_model.specs.Tokens.{zero_mark}
-use Rattle.yaml_parse_model.specs.Faults.{Fault, fault_of, IsMemoryFault}
+use Rattle.yaml_parse_model.specs.Faults.{Fault, fault_of, memory_fault}
 use Rattle.yaml_parse_model.specs.declared.yaml_node_pair_t.{yaml_node_pair_t}
 use Rattle.yaml_parse_model.specs.Events.{Event, EventBody, TagDirective}
 use Rattle.yaml_parse_model.specs.Events as event
@@ -157,23 +158,27 @@ step_body _ from to l = goes_on l
 abbrev pub step : Event → Loading → Fed
 step e l = step_body e.body e.start_mark e.end_mark l
 
+-- memory ran out in the loader
+abbrev pub IsStarved : yaml_fault_t → Type 0
+IsStarved f = fault_of f ≡ memory_fault Loader
+
 -- what the loader answered to an event is what the event makes of it, unless memory ran out. It starts anew after a
 -- document and after a refusal
 abbrev pub Feeds : Fed → Result (Option Document) yaml_fault_t → Loading → Type 0
 Feeds fed (Ok None) new = fed ≡ goes_on new
 Feeds fed (Ok (Some d)) new = (fed ≡ loaded d) × (new ≡ nothing_loaded)
-Feeds fed (Err f) new = (IsMemoryFault f ⊎ (fed ≡ refused (fault_of f))) × (new ≡ nothing_loaded)
+Feeds fed (Err f) new = (IsStarved f ⊎ (fed ≡ refused (fault_of f))) × (new ≡ nothing_loaded)
 
 -- the same of the document in the making, with whether the document is whole
 abbrev pub Applies : Fed → Result Bool yaml_fault_t → Loading → Type 0
 Applies fed (Ok false) new = fed ≡ goes_on new
 Applies fed (Ok true) new = fed ≡ loaded new.document
-Applies fed (Err f) new = IsMemoryFault f ⊎ (fed ≡ refused (fault_of f))
+Applies fed (Err f) new = IsStarved f ⊎ (fed ≡ refused (fault_of f))
 
 -- and of an event that ends no document
 abbrev pub Goes : {A : Type 0} → Fed → Result A yaml_fault_t → Loading → Type 0
 Goes fed (Ok _) new = fed ≡ goes_on new
-Goes fed (Err f) new = IsMemoryFault f ⊎ (fed ≡ refused (fault_of f))
+Goes fed (Err f) new = IsStarved f ⊎ (fed ≡ refused (fault_of f))
 
 -- ---- whole runs
 

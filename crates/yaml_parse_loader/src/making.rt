@@ -1,12 +1,12 @@
 //! A document in the making, and what an event makes of it.
 
 ghost use Rattle.std.specs.Prelude.{◌≡◌, ◌<◌, ◌⊎◌, ◌++◌, ◌∷◌, [], pos, suc, length, map, reverse, Option, Ok, Err, MatchResult, OnOk};
-ghost use Rattle.yaml_parse_model.specs.Faults.{fault_of, IsMemoryFault};
+ghost use Rattle.yaml_parse_model.specs.Faults.{fault_of};
 ghost use Rattle.yaml_parse_model.specs.Events.{event_of, text_of, directive_of};
 ghost use Rattle.yaml_parse_model.specs.Nodes.{node_of};
 ghost use Rattle.yaml_parse_document.specs.Documents.{str_tag};
 ghost use Rattle.yaml_parse_loader.specs.Numbering.{is_bang, loaded_tag, scalar_node, sequence_node, mapping_node, undefined_alias};
-ghost use Rattle.yaml_parse_loader.specs.Loading.{attach, attached, nothing_loaded, next, named, enter_leaf, enter_open, goes_on, refused, aliased, closed, place_of, filled, filled_body, started, step, Applies, Goes};
+ghost use Rattle.yaml_parse_loader.specs.Loading.{attach, attached, nothing_loaded, next, named, enter_leaf, enter_open, goes_on, refused, aliased, closed, place_of, filled, filled_body, started, step, Applies, Goes, IsStarved};
 ghost use Rattle.yaml_parse_loader.specs.Views.{level_of, levels_of, loading_of, properties_of};
 ghost use Rattle.yaml_parse_loader.specs.Loading.{open_sequence, open_mapping};
 ghost use Rattle.std.specs.FinMap as finite;
@@ -45,7 +45,7 @@ pub struct Making {
 
 // A growth was refused.
 fn out_of_memory() -> yaml_fault_t
-    ensures { IsMemoryFault result }
+    ensures { IsStarved result }
 {
     yaml_memory_fault(yaml_origin_t::Loader)
 }
@@ -77,7 +77,7 @@ fn tag_or_default(
     default: &[u8],
 ) -> Result<Vec<u8>, yaml_fault_t>
     ensures { MatchResult result (λ t. t.items ≡ loaded_tag (text_of tag) default.now)
-        (λ f. IsMemoryFault f) }
+        (λ f. IsStarved f) }
 {
     match tag {
         Some(tag) if !is_lone_bang(&tag) => Ok(tag),
@@ -102,7 +102,7 @@ fn register(
     number: i32,
 ) -> Result<(), yaml_fault_t>
     ensures { MatchResult result (λ _. anchors.new ≡ named (text_of anchor) number anchors.old)
-        (λ f. IsMemoryFault f) }
+        (λ f. IsStarved f) }
 {
     let Some(name) = anchor else {
         return Ok(());
@@ -118,7 +118,7 @@ fn extend<T: Drop>(entries: &mut Vec<T>, entry: T) -> Result<(), yaml_fault_t>
     ensures { MatchResult result
         (λ _. (entries.new.items ≡ entries.old.items ++ entry ∷ [])
         × (length entries.old.items < 2147483647))
-        (λ f. IsMemoryFault f) }
+        (λ f. IsStarved f) }
 {
     match push_entry(entries, entry) {
         Ok(()) => Ok(()),
@@ -129,7 +129,7 @@ fn extend<T: Drop>(entries: &mut Vec<T>, entry: T) -> Result<(), yaml_fault_t>
 // A node's number becomes the next item, key or value of a collection.
 fn attach_to(level: &mut Level, number: i32) -> Result<(), yaml_fault_t>
     ensures { MatchResult result (λ _. level_of level.new ≡ attached number (level_of level.old))
-        (λ f. IsMemoryFault f) }
+        (λ f. IsStarved f) }
 {
     match level {
         Level::Sequence { items, .. } => extend(items, number),
@@ -152,7 +152,7 @@ fn attach_to(level: &mut Level, number: i32) -> Result<(), yaml_fault_t>
 // A node's number becomes the next item, key or value of the innermost open collection.
 fn attach(levels: &mut Vec<Level>, number: i32) -> Result<(), yaml_fault_t>
     ensures { MatchResult result (λ _. levels_of levels.new.items ≡ attach number
-        (levels_of levels.old.items)) (λ f. IsMemoryFault f) }
+        (levels_of levels.old.items)) (λ f. IsStarved f) }
 {
     let Some(mut level) = levels.pop() else {
         return Ok(());
@@ -266,7 +266,7 @@ impl Making {
     // One node more: its anchor is noted, and the collection round it gets its number.
     fn add(&mut self, anchor: Option<Vec<u8>>, node: yaml_node_t) -> Result<(), yaml_fault_t>
         ensures { MatchResult result (λ _. loading_of self.new ≡ enter_leaf (loading_of self.old)
-            (text_of anchor) (node_of node)) (λ f. IsMemoryFault f) }
+            (text_of anchor) (node_of node)) (λ f. IsStarved f) }
     {
         let count = self.parts.nodes.len();
         if count >= MAX_ENTRIES {
@@ -286,7 +286,7 @@ impl Making {
         level: Level,
     ) -> Result<(), yaml_fault_t>
         ensures { MatchResult result (λ _. loading_of self.new ≡ enter_open (loading_of self.old)
-            (text_of anchor) (node_of node) (level_of level)) (λ f. IsMemoryFault f) }
+            (text_of anchor) (node_of node) (level_of level)) (λ f. IsStarved f) }
     {
         self.add(anchor, node)?;
         match self.levels.push(level) {
@@ -318,7 +318,7 @@ impl Making {
     ) -> Result<(), yaml_fault_t>
         ensures { MatchResult result (λ _. loading_of self.new ≡ enter_leaf (loading_of self.old)
             (text_of head.anchor) (scalar_node (properties_of head) value.items style))
-            (λ f. IsMemoryFault f) }
+            (λ f. IsStarved f) }
     {
         let Properties {
             anchor,
@@ -345,7 +345,7 @@ impl Making {
         ensures { MatchResult result (λ _. loading_of self.new ≡ enter_open (loading_of self.old)
             (text_of head.anchor) (sequence_node (properties_of head) [] style head.end_mark)
             (open_sequence (length (loading_of self.old).document.nodes) []))
-            (λ f. IsMemoryFault f) }
+            (λ f. IsStarved f) }
     {
         let Properties {
             anchor,
@@ -376,7 +376,7 @@ impl Making {
         ensures { MatchResult result (λ _. loading_of self.new ≡ enter_open (loading_of self.old)
             (text_of head.anchor) (mapping_node (properties_of head) [] style head.end_mark)
             (open_mapping (length (loading_of self.old).document.nodes) [] None))
-            (λ f. IsMemoryFault f) }
+            (λ f. IsStarved f) }
     {
         let Properties {
             anchor,

@@ -1,9 +1,8 @@
 -- What a source of tokens gives.
 use Rattle.std.specs.Prelude.{◌≡◌, ◌⊎◌, List, [], ◌∷◌, Option, Some, None, IsUtf8}
-use Rattle.yaml_scan.specs.declared.yaml_error_type_t.TheVariants.{YAML_MEMORY_ERROR}
 use Rattle.yaml_scan.specs.Tokens.{Token, TokenBody, no_token}
 use Rattle.yaml_scan.specs.Tokens as token
-use Rattle.yaml_scan.specs.Faults.{Fault}
+use Rattle.yaml_scan.specs.Faults.{Fault, IsMemoryFault, scan_layers}
 
 -- the first token to come, and the others; behind the last the empty token
 abbrev pub front_of : List Token → Token
@@ -37,9 +36,9 @@ pub record GivesToken (old : List Token) (fault : Option Fault) (t : Token) (new
   pub may : MayAnswer old fault
   pub utf8 : HasUtf8 t.body
 
--- a fault was given: that to come, or want of memory; nothing comes behind it
+-- a fault was given: that to come, or want of memory in a layer that scans; nothing comes behind it
 pub record GivesFault (old : List Token) (fault : Option Fault) (f : Fault) (new : List Token)
     (after : Option Fault) : Type 0 where
   pub none : new ≡ []
   pub no_fault : after ≡ None
-  pub reason : (f.kind ≡ YAML_MEMORY_ERROR) ⊎ ((old ≡ []) × (fault ≡ Some f))
+  pub reason : IsMemoryFault scan_layers f ⊎ ((old ≡ []) × (fault ≡ Some f))

@@ -8,7 +8,8 @@ ghost use Rattle.yaml_parse_model.specs.Source.{GivesToken, GivesFault};
 use yaml_scan::{yaml_fault_t, yaml_token_t};
 
 /// A source of tokens. Its meaning is the finite list of tokens to come, whose texts are UTF-8, and the fault that
-/// ends the list, if any. Behind both it answers the empty token. After a fault of memory nothing is to come.
+/// ends the list, if any. Behind both it answers the empty token. Where a growth is refused it answers
+/// `yaml_memory_fault` of the layer `Scanner` or `Reader`; after that nothing is to come.
 pub trait yaml_token_source_t: Drop {
     // The tokens to come.
     ghost to_come: { Self → List Token };

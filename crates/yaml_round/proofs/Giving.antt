@@ -1,5 +1,5 @@
 -- An event that is given: the text is the same.
-use Rattle.std.proofs.Common.{◌≡◌, ◌∙◌, ap, sym, subst, ℕ, List, Bool, true, false, Option}
+use Rattle.std.proofs.Common.{◌≡◌, ◌∙◌, ap, sym, subst, refl, ℕ, List, ◌∷◌, Bool, true, false, Option}
 use Rattle.yaml_scan.specs.declared.yaml_scalar_style_t.{yaml_scalar_style_t}
 use Rattle.yaml_parse.specs.Remaining.{ParserRemaining}
 use Rattle.yaml_parse.specs.Resolve.{Told}
@@ -10,6 +10,8 @@ use Rattle.yaml_emit.specs.Content.{emitter_event}
 use Rattle.yaml_emit.specs.Emitter.{Emitter, Completes, Given}
 use Rattle.yaml_round_laws_documents.specs.round_laws_back.content.Normalize.{normalize_body, normalize_scalar, is_lone_mark}
 use Rattle.yaml_round.specs.Reading.{GivesFront, emitter_events}
+use Rattle.yaml_round_shape.specs.Seen.{seen, seen_all}
+use Rattle.yaml_round.specs.declared.writing.Watch.{Watch}
 use Rattle.yaml_round.specs.Writing.{Leads}
 
 scalar_utf8 : (lone : Bool) (anchor tag : Option (List ℕ)) (value : List ℕ) (plain quoted : Bool) (style : yaml_scalar_style_t)
@@ -31,15 +33,31 @@ normalize_utf8 ends event.sequence_end h = h
 normalize_utf8 ends (event.mapping_start a t i s) h = h
 normalize_utf8 ends event.mapping_end h = h
 
-pub gives : (ends : Bool) (first old new : Emitter) (all : List Told) (before after : ParserRemaining) (v : Event)
-    → Leads ends first all old before.events → GivesFront v before after
-    → Given old (emitter_event (normalize_body ends v.body)) new → Leads ends first all new after.events
-gives ends first old new all before after v l f g = record {
-  completes = λ x whole c.
-      let P : List Told → Type 0 = λ es. Completes old x (emitter_events ends es) whole in
-      g.completes x (emitter_events ends after.events) whole (subst P f.events (l.completes x whole c));
+-- what is given to an emitter whose watch is at hand
+gives_by : (ends : Bool) (w : Watch) (first old new : Emitter) (all : List Told) (before after : ParserRemaining) (v : Event) (watch shape : Watch)
+    → Leads w first all watch old before.events → GivesFront v before after → watch.canonical ≡ ends → w.canonical ≡ ends
+    → Given old (emitter_event (normalize_body ends v.body)) new
+    → shape ≡ record watch { shape = seen watch.shape (emitter_event (normalize_body ends v.body)) }
+    → Leads w first all shape new after.events
+unfolding seen_all
+gives_by ends w first old new all before after v watch shape l f c d g e = record {
+  completes = λ x whole done.
+      let P : List Told → Type 0 = λ es. Completes old x (emitter_events w.canonical es) whole in
+      let Q : Bool → Type 0 = λ b. Completes old x (emitter_event (normalize_body b v.body) ∷ emitter_events w.canonical after.events) whole in
+      g.completes x (emitter_events w.canonical after.events) whole (subst Q d (subst P f.events (l.completes x whole done)));
   limit = g.limit ∙ l.limit;
+  canonical = ap (λ (z : Watch). z.canonical) e ∙ l.canonical;
+  shape = l.shape ∙ ap (λ (es : List Told). seen_all watch.shape (emitter_events w.canonical es)) f.events
+      ∙ ap (λ (b : Bool). seen_all (seen watch.shape (emitter_event (normalize_body b v.body))) (emitter_events w.canonical after.events)) d
+      ∙ ap (λ (z : Watch). seen_all z.shape (emitter_events w.canonical after.events)) (sym e);
 }
+
+pub gives : (w : Watch) (first old new : Emitter) (all : List Told) (before after : ParserRemaining) (v : Event) (watch shape : Watch)
+    → Leads w first all watch old before.events → GivesFront v before after
+    → Given old (emitter_event (normalize_body watch.canonical v.body)) new
+    → shape ≡ record watch { shape = seen watch.shape (emitter_event (normalize_body watch.canonical v.body)) }
+    → Leads w first all shape new after.events
+gives w first old new all before after v watch shape l f g e = gives_by watch.canonical w first old new all before after v watch shape l f refl (sym l.canonical) g e
 
 -- the same of events
 pub normalized_utf8 : (ends : Bool) (v e : Event) → e ≡ record v { body = normalize_body ends v.body } → HasUtf8 v.body → HasUtf8 e.body

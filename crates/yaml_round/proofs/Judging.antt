@@ -1,40 +1,50 @@
 -- From what readings say to what is said of their inputs.
-use Rattle.std.proofs.Common.{◌≡◌, ◌⊎◌, ◌∙◌, ◌++◌, inl, inr, ap, sym, ℕ, List, [], Bool, true, false, Option, None, Result, Ok, Err, Vec}
+use Rattle.std.proofs.Common.{◌≡◌, ◌⊎◌, ◌∙◌, ◌++◌, inl, inr, ap, sym, subst, ℕ, List, [], Bool, true, false, Option, None, Some, Result, Ok, Err, Vec}
 use Rattle.std.specs.Global.{Global}
 use Rattle.std.proofs.lemmas.List.{append_assoc}
 use Rattle.yaml_scan.specs.declared.yaml_encoding_t.{yaml_encoding_t}
 use Rattle.yaml_scan.specs.declared.yaml_encoding_t.TheVariants.{YAML_ANY_ENCODING}
 use Rattle.yaml_scan.specs.declared.yaml_fault_t.{yaml_fault_t}
-use Rattle.yaml_scan.specs.Faults.{Fault, fault_of, IsMemoryFault, Answers}
+use Rattle.yaml_scan.specs.declared.yaml_origin_t.TheVariants.{Parser}
+use Rattle.yaml_scan.specs.Faults.{Fault, fault_of, memory_fault, IsMemoryFault, parse_layers, Answers}
 use Rattle.yaml_parse.specs.Remaining.{ParserRemaining}
 use Rattle.yaml_parse.specs.Resolve.{Told}
 use Rattle.yaml_parse.specs.Events.{Event}
-use Rattle.yaml_emit.specs.Emitter.{Emitter}
+use Rattle.yaml_emit.specs.Emitter.{Emitter, Completes}
 use Rattle.yaml_round_lines.specs.EventLine.{event_line}
 use Rattle.yaml_round.specs.declared.settings.yaml_settings_t.{yaml_settings_t}
 use Rattle.yaml_round.specs.declared.settings.yaml_side_t.{yaml_side_t}
 use Rattle.yaml_round.specs.declared.settings.yaml_side_t.TheVariants.{First, Second}
 use Rattle.yaml_round.specs.declared.settings.yaml_form_t.{yaml_form_t}
 use Rattle.yaml_round.specs.declared.settings.yaml_form_t.TheVariants.{Canonical, Pretty}
-use Rattle.yaml_round.specs.Reading.{contents, event_lines, GivesFront, IsFaultOf, EndsWith}
+use Rattle.yaml_round.specs.Layers.{reformat_layers, list_layers}
+use Rattle.yaml_round.specs.Reading.{contents, emitter_events, event_lines, GivesFront, IsFaultOf, EndsWith}
+use Rattle.yaml_round_shape.specs.Seen.{seen_all}
+use Rattle.yaml_round.specs.declared.writing.Watch.{Watch}
 use Rattle.yaml_round.specs.Writing.{Leads, WritesAll}
-use Rattle.yaml_round.specs.Compare.{Compares, ReadsAlike, IsSideFault}
+use Rattle.yaml_round.specs.Compare.{Compares, ReadsAlike, IsSideFault, IsBehindFirst}
 use Rattle.yaml_round_laws_documents.specs.round_laws_back.content.Input.{Reads, ending_of}
-use Rattle.yaml_round.specs.Answers.{IsFaulty, IsRight, IsJudged, IsLaidOut, IsTooLong, IsWritten, IsTold, IsReadBack, ReadsBack, IsCanonicalDue, IsSame, IsSideFaulty, IsInCanonicalForm, IsReformatted, text_and_form}
+use Rattle.yaml_round.proofs.Staying.{stays}
+use Rattle.yaml_round.proofs.Plain.{faulty, faulty_ending, right, right_ending, has_events, same_content, content_same, second_right}
+use Rattle.yaml_round.specs.Answers.{IsFaulty, IsRight, IsJudged, IsLaidOut, IsTooLong, IsWritten, IsTold, IsReadBack, ReadsBack, IsCanonicalDue, IsSame, IsSideStarved, IsSideFaulty, IsInCanonicalForm, IsReformatted, text_and_form}
 
 -- ---- one input
 
-pub fault_met : (from : yaml_encoding_t) (input : List ℕ) (r : ParserRemaining) (f : yaml_fault_t) → Reads from input r → IsFaultOf r.ending f → IsMemoryFault f ⊎ IsFaulty from input (fault_of f)
-fault_met from input r f h e = elim e [ inl m ↦ inl m | inr k ↦ inr (sym h.ending ∙ k) ]
+pub fault_met : (from : yaml_encoding_t) (input : List ℕ) (r : ParserRemaining) (f : yaml_fault_t) → Reads from input r → IsFaultOf r.ending f → IsMemoryFault parse_layers (fault_of f) ⊎ IsFaulty from input (fault_of f)
+fault_met from input r f h e = elim e [ inl m ↦ inl m | inr k ↦ inr (faulty from input (fault_of f) (sym h.ending ∙ k)) ]
 
 pub judged : (from : yaml_encoding_t) (input : List ℕ) (r : ParserRemaining) (result : Result (Unit {0}) yaml_fault_t) → Reads from input r → EndsWith r.ending result
-    → Answers (λ (done : Unit {0}). done) (IsJudged from input) result
-judged from input r (Ok done) h e = sym h.ending ∙ e
+    → Answers parse_layers (λ (done : Unit {0}). done) (IsJudged from input) result
+judged from input r (Ok done) h e = right from input (sym h.ending ∙ e)
 judged from input r (Err f) h e = fault_met from input r f h e
 
 pub listed : (from : yaml_encoding_t) (input : List ℕ) (r : ParserRemaining) (lines : List ℕ) (old : List ℕ) → Reads from input r → old ≡ [] → r.ending ≡ None → lines ≡ old ++ event_lines r.events
     → IsTold from input lines
-listed from input r lines old h none e l = (sym h.ending ∙ e, l ∙ ap (λ (z : List ℕ). z ++ event_lines r.events) none ∙ ap event_lines h.events)
+listed from input r lines old h none e l = record {
+  events = r.events;
+  of_input = has_events from input r.events (sym h.ending ∙ e) h.events;
+  are = l ∙ ap (λ (z : List ℕ). z ++ event_lines r.events) none;
+}
 
 -- a line more
 pub told_on : (all lines new : List ℕ) (before after : ParserRemaining) (v : Event) → lines ++ event_lines before.events ≡ all → GivesFront v before after → new ≡ lines ++ event_line v.body
@@ -45,27 +55,37 @@ told_on all lines new before after v h f n =
     ∙ ap (λ (es : List Told). lines ++ event_lines es) (sym f.events)
     ∙ h
 
+-- a fault of the input ends them
+pub not_listed : (from : yaml_encoding_t) (input : List ℕ) (r : ParserRemaining) (f : yaml_fault_t) → Reads from input r → IsMemoryFault list_layers (fault_of f) ⊎ (r.ending ≡ Some (fault_of f))
+    → IsMemoryFault list_layers (fault_of f) ⊎ IsFaulty from input (fault_of f)
+not_listed from input r f h e = elim e [ inl m ↦ inl m | inr k ↦ inr (faulty from input (fault_of f) (sym h.ending ∙ k)) ]
+
 -- ---- writing
 
 -- The rest was written behind a front.
-pub then_rest : (ends : Bool) (r r' : ParserRemaining) (e e' e'' : Emitter) (result : Result (Unit {0}) yaml_fault_t)
-    → r'.ending ≡ r.ending → Leads ends e r.events e' r'.events → WritesAll ends r' e' result e'' → WritesAll ends r e result e''
-then_rest ends r r' e e' e'' (Ok done) h l w = (
-  sym h ∙ w.0,
-  record {
-    completes = λ x whole c. w.1.completes x whole (l.completes x whole c);
-    limit = w.1.limit ∙ l.limit;
-  },
-)
-then_rest ends r r' e e' e'' (Err f) h l w = elim w [ inl m ↦ inl m | inr k ↦ inr (sym h ∙ k) ]
+rest_led : (a b c : Watch) (e e' e'' : Emitter) (es fs : List Told) → Leads a e es b e' fs → Leads b e' fs c e'' [] → Leads a e es c e'' []
+rest_led a b c e e' e'' es fs l k = record {
+  completes = λ x whole done.
+      let P : Bool → Type 0 = λ z. Completes e' x (emitter_events z fs) whole in
+      let Q : Bool → Type 0 = λ z. Completes e'' x (emitter_events z []) whole in
+      subst Q l.canonical (k.completes x whole (subst P (sym l.canonical) (l.completes x whole done)));
+  limit = k.limit ∙ l.limit;
+  canonical = k.canonical ∙ l.canonical;
+  shape = l.shape ∙ ap (λ (z : Bool). seen_all b.shape (emitter_events z fs)) (sym l.canonical) ∙ k.shape;
+}
+
+pub then_rest : (a b c : Watch) (r r' : ParserRemaining) (e e' e'' : Emitter) (result : Result (Unit {0}) yaml_fault_t)
+    → r'.ending ≡ r.ending → Leads a e r.events b e' r'.events → WritesAll b r' e' result c e'' → WritesAll a r e result c e''
+then_rest a b c r r' e e' e'' (Ok done) h l w = (sym h ∙ w.0, rest_led a b c e e' e'' r.events r'.events l w.1)
+then_rest a b c r r' e e' e'' (Err f) h l w = elim w [ inl m ↦ inl m | inr k ↦ inr (sym h ∙ k) ]
 
 -- the fault that another reading met is this one's
-pub met_again : (from : yaml_encoding_t) (input : List ℕ) (ending : Option Fault) (f : yaml_fault_t) → ending ≡ ending_of from input → IsMemoryFault f ⊎ IsFaulty from input (fault_of f) → IsFaultOf ending f
-met_again from input ending f e h = elim h [ inl m ↦ inl m | inr k ↦ inr (e ∙ k) ]
+pub met_again : (from : yaml_encoding_t) (input : List ℕ) (ending : Option Fault) (f : yaml_fault_t) → ending ≡ ending_of from input → IsMemoryFault parse_layers (fault_of f) ⊎ IsFaulty from input (fault_of f) → IsFaultOf ending f
+met_again from input ending f e h = elim h [ inl m ↦ inl m | inr k ↦ inr (e ∙ faulty_ending from input (fault_of f) k) ]
 
 pub not_written : (from : yaml_encoding_t) (input : List ℕ) (settings : yaml_settings_t) (canonical : Bool) (r : ParserRemaining) (f : yaml_fault_t) → Reads from input r → IsFaultOf r.ending f
-    → IsMemoryFault f ⊎ (IsFaulty from input (fault_of f) ⊎ IsTooLong from input settings canonical (fault_of f))
-not_written from input settings canonical r f h e = elim (fault_met from input r f h e) [ inl m ↦ inl m | inr q ↦ inr (inl q) ]
+    → IsMemoryFault reformat_layers (fault_of f) ⊎ (IsFaulty from input (fault_of f) ⊎ IsTooLong from input settings canonical (fault_of f))
+not_written from input settings canonical r f h e = elim (fault_met from input r f h e) [ inl m ↦ inl (inr (inr m)) | inr q ↦ inr (inl q) ]
 
 -- ---- forms
 
@@ -81,7 +101,7 @@ unfolding IsReformatted
 canonical_fault from settings input f n h = elim h [ inl q ↦ inl q | inr p ↦ inr (inr (n, p)) ]
 
 canonical_answer : (from : yaml_encoding_t) (settings : yaml_settings_t) (input : List ℕ) (result : Result (Vec ℕ Global × yaml_form_t) yaml_fault_t) → IsCanonicalDue settings.canonical from settings input
-    → Answers text_and_form (IsInCanonicalForm from settings input) result → Answers text_and_form (IsReformatted from settings input) result
+    → Answers reformat_layers text_and_form (IsInCanonicalForm from settings input) result → Answers reformat_layers text_and_form (IsReformatted from settings input) result
 canonical_answer from settings input (Ok a) n h = in_form from settings input a.0.items a.1 n h
 canonical_answer from settings input (Err f) n h = elim h [ inl m ↦ inl m | inr k ↦ inr (canonical_fault from settings input (fault_of f) n k) ]
 
@@ -91,51 +111,59 @@ due_true false from settings input e = absurd (cc)
 
 due_false : (b : Bool) (from : yaml_encoding_t) (settings : yaml_settings_t) (input pretty : List ℕ) → b ≡ false → IsLaidOut from input settings false pretty → ¬ ReadsBack from input pretty → IsCanonicalDue b from settings input
 due_false true from settings input pretty e l d = absurd (cc)
-due_false false from settings input pretty e l d = record { pretty = pretty; laid = l; differs = d }
+due_false false from settings input pretty e l d = record { pretty = pretty; laid = l; differs = d; shape = λ json. d (stays from input settings pretty json l) }
 
 pub asked_for : (from : yaml_encoding_t) (settings : yaml_settings_t) (input : List ℕ) (result : Result (Vec ℕ Global × yaml_form_t) yaml_fault_t) → settings.canonical ≡ true
-    → Answers text_and_form (IsInCanonicalForm from settings input) result → Answers text_and_form (IsReformatted from settings input) result
+    → Answers reformat_layers text_and_form (IsInCanonicalForm from settings input) result → Answers reformat_layers text_and_form (IsReformatted from settings input) result
 asked_for from settings input result c h = canonical_answer from settings input result (due_true settings.canonical from settings input c) h
 
 pub fallen_back : (from : yaml_encoding_t) (settings : yaml_settings_t) (input : List ℕ) (result : Result (Vec ℕ Global × yaml_form_t) yaml_fault_t) (pretty : List ℕ) → settings.canonical ≡ false
     → IsLaidOut from input settings false pretty → IsReadBack from input pretty (Ok false)
-    → Answers text_and_form (IsInCanonicalForm from settings input) result → Answers text_and_form (IsReformatted from settings input) result
+    → Answers reformat_layers text_and_form (IsInCanonicalForm from settings input) result → Answers reformat_layers text_and_form (IsReformatted from settings input) result
 fallen_back from settings input result pretty c l d h = canonical_answer from settings input result (due_false settings.canonical from settings input pretty c l d) h
 
 -- a refusal of the pretty form
 pub pretty_refused : (from : yaml_encoding_t) (settings : yaml_settings_t) (input : List ℕ) (f : yaml_fault_t) → settings.canonical ≡ false
-    → IsMemoryFault f ⊎ IsWritten from input settings false (Err (fault_of f)) → IsMemoryFault f ⊎ IsReformatted from settings input (Err (fault_of f))
+    → IsMemoryFault reformat_layers (fault_of f) ⊎ IsWritten from input settings false (Err (fault_of f)) → IsMemoryFault reformat_layers (fault_of f) ⊎ IsReformatted from settings input (Err (fault_of f))
 unfolding IsReformatted
 pretty_refused from settings input f c h = elim h [ inl m ↦ inl m | inr k ↦ inr (elim k [ inl q ↦ inl q | inr p ↦ inr (inl (c, p)) ]) ]
 
 -- a refusal of the reading back is want of memory
-pub memory_alone : {P : Type 0} (f : yaml_fault_t) → IsMemoryFault f ⊎ ⊥ → IsMemoryFault f ⊎ P
-memory_alone f h = elim h [ inl m ↦ inl m | inr k ↦ absurd k ]
+pub memory_alone : {P : Type 0} (f : yaml_fault_t) → IsMemoryFault parse_layers (fault_of f) ⊎ ⊥ → IsMemoryFault reformat_layers (fault_of f) ⊎ P
+memory_alone f h = elim h [ inl m ↦ inl (inr (inr m)) | inr k ↦ absurd k ]
 
 -- ---- two inputs
 
 pub read_back : (from : yaml_encoding_t) (input text : List ℕ) (p q : ParserRemaining) (result : Result Bool yaml_fault_t) → Reads from input p → Reads YAML_ANY_ENCODING text q → IsRight from input
-    → ReadsAlike p q result → Answers (λ (same : Bool). same) (IsReadBack from input text) result
-read_back from input text p q (Ok true) h k r e = record {
-  right = sym k.ending ∙ e.second_ending;
-  same = ap contents (sym h.events) ∙ e.same ∙ ap contents k.events;
-}
-read_back from input text p q (Ok false) h k r e = λ b. e (h.ending ∙ r) (k.ending ∙ b.right) (ap contents h.events ∙ b.same ∙ ap contents (sym k.events))
+    → ReadsAlike p q result → Answers parse_layers (λ (same : Bool). same) (IsReadBack from input text) result
+read_back from input text p q (Ok true) h k r e =
+    same_content from YAML_ANY_ENCODING input text (right_ending from input r) (sym k.ending ∙ e.second_ending) (ap contents (sym h.events) ∙ e.same ∙ ap contents k.events)
+read_back from input text p q (Ok false) h k r e = λ b.
+    e (h.ending ∙ right_ending from input r) (k.ending ∙ right_ending YAML_ANY_ENCODING text (second_right from YAML_ANY_ENCODING input text b))
+    (ap contents h.events ∙ content_same from YAML_ANY_ENCODING input text b ∙ ap contents (sym k.events))
 read_back from input text p q (Err f) h k r e = inl e
 
 side_fault : (a_from : yaml_encoding_t) (a : List ℕ) (b_from : yaml_encoding_t) (b : List ℕ) (p q : ParserRemaining) (side : yaml_side_t) (f : yaml_fault_t) → Reads a_from a p → Reads b_from b q
-    → IsSideFault p q side f → IsMemoryFault f ⊎ IsSideFaulty a_from a b_from b side (fault_of f)
+    → IsSideFault p q side f → IsSideStarved a_from a side (fault_of f) ⊎ IsSideFaulty a_from a b_from b side (fault_of f)
 side_fault a_from a b_from b p q First f h k e = fault_met a_from a p f h e
-side_fault a_from a b_from b p q Second f h k e = elim e [ inl m ↦ inl m | inr z ↦ inr (sym h.ending ∙ z.0, sym k.ending ∙ z.1) ]
+side_fault a_from a b_from b p q Second f h k e =
+    let first = right a_from a (sym h.ending ∙ e.0) in
+    elim e.1 [ inl m ↦ inl (first, m) | inr z ↦ inr (first, faulty b_from b (fault_of f) (sym k.ending ∙ z)) ]
 
 pub same_told : (a_from : yaml_encoding_t) (a : List ℕ) (b_from : yaml_encoding_t) (b : List ℕ) (p q : ParserRemaining) (result : Result Bool (yaml_side_t × yaml_fault_t)) → Reads a_from a p → Reads b_from b q
     → Compares p q result → IsSame a_from a b_from b result
 same_told a_from a b_from b p q (Ok same) h k e = record {
-  first = sym h.ending ∙ e.first_ending;
-  second = sym k.ending ∙ e.second_ending;
+  first = right a_from a (sym h.ending ∙ e.first_ending);
+  second = right b_from b (sym k.ending ∙ e.second_ending);
   told = (
-    λ t. ap contents (sym h.events) ∙ e.told.0 t ∙ ap contents k.events,
-    λ s. e.told.1 (ap contents h.events ∙ s ∙ ap contents (sym k.events)),
+    λ t. same_content a_from b_from a b (sym h.ending ∙ e.first_ending) (sym k.ending ∙ e.second_ending) (ap contents (sym h.events) ∙ e.told.0 t ∙ ap contents k.events),
+    λ s. e.told.1 (ap contents h.events ∙ content_same a_from b_from a b s ∙ ap contents (sym k.events)),
   );
 }
 same_told a_from a b_from b p q (Err f) h k e = side_fault a_from a b_from b p q f.0 f.1 h k e
+
+-- no memory for the second input's reading
+pub not_begun : (a_from : yaml_encoding_t) (a : List ℕ) (b_from : yaml_encoding_t) (b : List ℕ) (p : ParserRemaining) (fault : yaml_fault_t) (r : yaml_side_t × yaml_fault_t) → Reads a_from a p → fault_of fault ≡ memory_fault Parser → IsBehindFirst p.ending fault r
+    → IsSideStarved a_from a r.0 (fault_of r.1) ⊎ IsSideFaulty a_from a b_from b r.0 (fault_of r.1)
+not_begun a_from a b_from b p fault (First, f) h m e = fault_met a_from a p f h e
+not_begun a_from a b_from b p fault (Second, f) h m e = inl (right a_from a (sym h.ending ∙ e.0), inl (ap fault_of e.1 ∙ m))

@@ -5,7 +5,7 @@ use Rattle.std.proofs.lemmas.List.Elements.{All-nil, All-cons, All-head, All-tai
 use Rattle.yaml_scan.specs.declared.yaml_encoding_t.{yaml_encoding_t}
 use Rattle.yaml_scan.specs.declared.yaml_encoding_t.TheVariants.{YAML_ANY_ENCODING}
 use Rattle.yaml_scan.specs.declared.yaml_fault_t.{yaml_fault_t}
-use Rattle.yaml_scan.specs.Faults.{Fault, fault_of, IsMemoryFault, Answers}
+use Rattle.yaml_scan.specs.Faults.{Fault, fault_of, IsMemoryFault, load_layers, emit_layers, Answers}
 use Rattle.yaml_parse.specs.Nodes.{Node}
 use Rattle.yaml_parse.specs.Documents.{Document}
 use Rattle.yaml_parse.specs.Resolve.{Told}
@@ -20,6 +20,7 @@ use Rattle.yaml_emit.specs.emit_text.declared.RequestedSettings.{RequestedSettin
 use Rattle.yaml_round.specs.declared.settings.yaml_settings_t.{yaml_settings_t}
 use Rattle.yaml_round_laws_documents.specs.round_laws_back.content.Input.{Reads}
 use Rattle.yaml_round.specs.Writing.{IsUnder, Finishes, requested_under}
+use Rattle.yaml_round.specs.Layers.{reload_layers}
 use Rattle.yaml_round.specs.Answers.{bytes_of}
 use Rattle.yaml_round_laws_documents.specs.round_laws_back.content.Loads.{Loads, no_more, with_implicit_end, in_front, load_on, load_all, loads_of}
 use Rattle.yaml_round.specs.Reload.{to_load, HasRoot, LoadsDocument, IsLoaded, AreLoaded, written_events, Feeds, Stands, Dumps, DumpsStream, IsEachDump, IsDumped, IsReloaded}
@@ -121,7 +122,7 @@ loaded_none (parse.faulty f) old new d is g h = absurd g
 pub loaded_last : (old new : ParserRemaining) (d : Document) (count : ℕ) → parse.LoadGives (parse.loads_of old) d old new → count ≡ length d.nodes → count ≡ 0 → to_load old ≡ no_more None
 loaded_last old new d count g c h = loaded_none (parse.loads_of old) old new d refl g (sym c ∙ h)
 
-pub load_refused : (old new : ParserRemaining) (f : yaml_fault_t) → parse.LoadRefuses (fault_of f) old new → IsMemoryFault f ⊎ (to_load old ≡ no_more (Some (fault_of f)))
+pub load_refused : (old new : ParserRemaining) (f : yaml_fault_t) → parse.LoadRefuses (fault_of f) old new → IsMemoryFault load_layers (fault_of f) ⊎ (to_load old ≡ no_more (Some (fault_of f)))
 load_refused old new f r = elim r.reason [ inl m ↦ inl m | inr k ↦ inr (faulty_next old.events old.ending nothing_loaded (fault_of f) k) ]
 
 -- ---- all documents
@@ -176,8 +177,8 @@ small_on items new d r s k l n = subst AreNumerable (sym n) (one_numerable items
 pub none_small : (items : List Document) → items ≡ [] → AreNumerable items
 none_small items e = subst AreNumerable (sym e) tt
 
-pub documents_refused : (from : yaml_encoding_t) (input : List ℕ) (r : ParserRemaining) (f : yaml_fault_t) → (to_load r).fault ≡ (loads_of from input).fault → IsMemoryFault f ⊎ (to_load r ≡ no_more (Some (fault_of f)))
-    → IsMemoryFault f ⊎ IsLoaded from input (Err (fault_of f))
+pub documents_refused : (from : yaml_encoding_t) (input : List ℕ) (r : ParserRemaining) (f : yaml_fault_t) → (to_load r).fault ≡ (loads_of from input).fault → IsMemoryFault load_layers (fault_of f) ⊎ (to_load r ≡ no_more (Some (fault_of f)))
+    → IsMemoryFault load_layers (fault_of f) ⊎ IsLoaded from input (Err (fault_of f))
 documents_refused from input r f h e = elim e [ inl m ↦ inl m | inr k ↦ inr (sym h ∙ ap (λ (z : Loads). z.fault) k) ]
 
 -- ---- the events of documents
@@ -308,7 +309,7 @@ led settings ds old new u w = (
 )
 
 pub dumped_text : (settings : yaml_settings_t) (ds : List Document) (old new : Emitter) (result : Result (Vec ℕ Global) yaml_fault_t)
-    → IsUnder old (requested_under settings true) settings.limit → DumpsStream old ds new → Finishes new result → Answers bytes_of (IsEachDump settings ds) result
+    → IsUnder old (requested_under settings true) settings.limit → DumpsStream old ds new → Finishes new result → Answers emit_layers bytes_of (IsEachDump settings ds) result
 dumped_text settings ds old new (Ok text) u w f =
     let W : RequestedSettings = requested_under settings true in
     let Q : List Event → Type 0 = λ es. Led W settings.limit (written_events ds) new es in
@@ -321,7 +322,7 @@ one_dump from input settings (Ok text) d = one_layout (requested_under settings 
 one_dump from input settings (Err f) d = one_past (requested_under settings true) settings.limit (written_events (loads_of from input).documents) f (loaded_text from input (requested_under settings true) refl) d
 
 pub reloaded : (from : yaml_encoding_t) (input : List ℕ) (settings : yaml_settings_t) (ds : List Document) (result : Result (Vec ℕ Global) yaml_fault_t)
-    → AreLoaded from input ds → Answers bytes_of (IsEachDump settings ds) result → Answers bytes_of (IsReloaded from settings input) result
+    → AreLoaded from input ds → Answers emit_layers bytes_of (IsEachDump settings ds) result → Answers reload_layers bytes_of (IsReloaded from settings input) result
 unfolding IsReloaded
 reloaded from input settings ds (Ok text) a d =
     let P : List Document → Type 0 = λ z. IsEachDump settings z (Ok text.items) in
@@ -329,9 +330,9 @@ reloaded from input settings ds (Ok text) a d =
     (a.right, one_dump from input settings (Ok text.items) each, in_normal_documents from settings input text.items (subst AreNumerable a.same a.small) each)
 reloaded from input settings ds (Err f) a d =
     let P : List Document → Type 0 = λ z. IsEachDump settings z (Err (fault_of f)) in
-    elim d [ inl m ↦ inl m | inr p ↦ inr (inr (a.right, one_dump from input settings (Err (fault_of f)) (subst P a.same p))) ]
+    elim d [ inl m ↦ inl (elim m [ inl e ↦ inl e | inr w ↦ inr (inl w) ]) | inr p ↦ inr (inr (a.right, one_dump from input settings (Err (fault_of f)) (subst P a.same p))) ]
 
-pub not_loaded : (from : yaml_encoding_t) (settings : yaml_settings_t) (input : List ℕ) (f : yaml_fault_t) → IsMemoryFault f ⊎ IsLoaded from input (Err (fault_of f))
-    → IsMemoryFault f ⊎ IsReloaded from settings input (Err (fault_of f))
+pub not_loaded : (from : yaml_encoding_t) (settings : yaml_settings_t) (input : List ℕ) (f : yaml_fault_t) → IsMemoryFault load_layers (fault_of f) ⊎ IsLoaded from input (Err (fault_of f))
+    → IsMemoryFault reload_layers (fault_of f) ⊎ IsReloaded from settings input (Err (fault_of f))
 unfolding IsReloaded
-not_loaded from settings input f h = elim h [ inl m ↦ inl m | inr k ↦ inr (inl k) ]
+not_loaded from settings input f h = elim h [ inl m ↦ inl (inr (inr m)) | inr k ↦ inr (inl k) ]

@@ -1,5 +1,5 @@
 -- What an input says, and what it loads, is a stream in which nothing is wrong, and so has a text.
-use Rattle.std.proofs.Common.{◌≡◌, ℕ, List, [], ◌∷◌, map, Bool, true, Option, refl, sym, subst}
+use Rattle.std.proofs.Common.{None, ◌≡◌, ℕ, List, [], ◌∷◌, map, Bool, true, Option, refl, sym, subst}
 use Rattle.yaml_scan.specs.declared.yaml_encoding_t.{yaml_encoding_t}
 use Rattle.yaml_scan.specs.declared.yaml_encoding_t.TheVariants.{YAML_ANY_ENCODING}
 use Rattle.yaml_scan.specs.Faults.{Fault}
@@ -17,13 +17,12 @@ use Rattle.yaml_round_laws_documents.proofs.round_laws_back.content.Inputs.{inpu
 use Rattle.yaml_round_laws_documents.proofs.round_laws_back.content.round_laws.Inputs.{inputs_load_right}
 use Rattle.yaml_round.specs.Reading.{emitter_events}
 use Rattle.yaml_round_laws_documents.specs.round_laws_back.content.Input.{events_of, ending_of, read}
-use Rattle.yaml_round.specs.Answers.{IsRight}
 use Rattle.yaml_round_laws_documents.specs.round_laws_back.content.Loads.{Loads, in_front, load_on, load_all, loads_of}
 use Rattle.yaml_round.specs.Reload.{written_events}
 
 -- ---- events
 
-pub input_text : (from : yaml_encoding_t) (input : List ℕ) (w : RequestedSettings) → IsRight from input → HasText w (emitter_events w.canonical (events_of from input))
+pub input_text : (from : yaml_encoding_t) (input : List ℕ) (w : RequestedSettings) → ending_of from input ≡ None → HasText w (emitter_events w.canonical (events_of from input))
 input_text from input w r = texts w (emitter_events w.canonical (events_of from input)) (input_stream from input w.canonical r)
 
 -- ---- documents

@@ -3,7 +3,7 @@ use Rattle.std.specs.Prelude.{◌≡◌, ◌⊎◌, ◌↔◌, IsTrue, true, fal
 use Rattle.yaml_scan.specs.declared.yaml_encoding_t.{yaml_encoding_t}
 use Rattle.yaml_scan.specs.declared.yaml_encoding_t.TheVariants.{YAML_ANY_ENCODING}
 use Rattle.yaml_scan.specs.declared.yaml_fault_t.{yaml_fault_t}
-use Rattle.yaml_scan.specs.Faults.{Fault, fault_of, IsMemoryFault}
+use Rattle.yaml_scan.specs.Faults.{Fault, fault_of, IsMemoryFault, parse_layers}
 use Rattle.yaml_emit.specs.Content.{Event}
 use Rattle.yaml_emit.specs.Text.{Item, encode, is_deep}
 use Rattle.yaml_emit.specs.Emitter.{IsStream, Passes}
@@ -15,14 +15,19 @@ use Rattle.yaml_round.specs.declared.settings.yaml_side_t.{yaml_side_t}
 use Rattle.yaml_round.specs.declared.settings.yaml_side_t.TheVariants.{First, Second}
 use Rattle.yaml_round.specs.declared.settings.yaml_form_t.{yaml_form_t}
 use Rattle.yaml_round.specs.declared.settings.yaml_form_t.TheVariants.{Canonical, Pretty}
-use Rattle.yaml_round.specs.Reading.{emitter_events, contents, event_lines}
+use Rattle.yaml_round.specs.Reading.{emitter_events, event_lines}
 use Rattle.yaml_round.specs.Writing.{requested_under}
-use Rattle.yaml_round_laws_documents.specs.round_laws_back.content.Input.{events_of, ending_of}
-use Rattle.yaml_round_laws_documents.specs.round_laws_back.content.Said.{Document, HasContent}
+use Rattle.yaml_parse.specs.Resolve.{Told}
+use Rattle.yaml_round_laws_documents.specs.round_laws_back.content.Said.{Document}
+use Rattle.yaml_round_laws_documents.specs.round_laws_reading.Reading.{PlainReading, HasEvents}
 use Rattle.yaml_round_laws_documents.specs.round_laws_back.content.Canon.{canon}
+use Rattle.yaml_round_laws_kept.specs.Laws.{IsJsonInput}
 
 abbrev pub text_and_form : {A : Type 0} → Vec ℕ A × yaml_form_t → List ℕ × yaml_form_t
 text_and_form answer = (answer.0.items, answer.1)
+
+abbrev pub text_and_known : {A : Type 0} → Vec ℕ A × Bool → List ℕ × Bool
+text_and_known answer = (answer.0.items, answer.1)
 
 abbrev pub text_and_maybe_form : {A : Type 0} → Vec ℕ A × Option yaml_form_t → List ℕ
     × Option yaml_form_t
@@ -33,22 +38,24 @@ bytes_of text = text.items
 
 -- ---- what is said of one input
 
--- the input is accepted
-abbrev pub IsRight : yaml_encoding_t → List ℕ → Type 0
-IsRight from input = ending_of from input ≡ None
+-- the input is accepted: its reading is a content
+unfoldable pub IsRight : yaml_encoding_t → List ℕ → Type 0
+IsRight from input = (c : List Document) × PlainReading from input (Ok c)
 
--- the input is refused with that fault
-abbrev pub IsFaulty : yaml_encoding_t → List ℕ → Fault → Type 0
-IsFaulty from input fault = ending_of from input ≡ Some fault
+-- the input is refused: its reading is that fault
+unfoldable pub IsFaulty : yaml_encoding_t → List ℕ → Fault → Type 0
+IsFaulty from input fault = PlainReading from input (Err fault)
 
 -- the input is read to its end, and its fault is the answer
 abbrev pub IsJudged : yaml_encoding_t → List ℕ → Result (Unit {0}) Fault → Type 0
 IsJudged from input (Ok done) = IsRight from input
 IsJudged from input (Err fault) = IsFaulty from input fault
 
--- a line for each event of the input
-abbrev pub IsTold : yaml_encoding_t → List ℕ → List ℕ → Type 0
-IsTold from input lines = IsRight from input × (lines ≡ event_lines (events_of from input))
+-- the input is accepted, and there is a line for each of its events
+pub record IsTold (from : yaml_encoding_t) (input lines : List ℕ) : Type 0 where
+  pub events : List Told
+  pub of_input : HasEvents from input events
+  pub are : lines ≡ event_lines events
 
 abbrev pub IsListed : yaml_encoding_t → List ℕ → Result (List ℕ) Fault → Type 0
 IsListed from input (Ok lines) = IsTold from input lines
@@ -56,8 +63,12 @@ IsListed from input (Err fault) = IsFaulty from input fault
 
 -- ---- two inputs
 
-abbrev pub SameContent : yaml_encoding_t → List ℕ → yaml_encoding_t → List ℕ → Type 0
-SameContent a_from a b_from b = contents (events_of a_from a) ≡ contents (events_of b_from b)
+-- both are accepted, with one content
+pub record SameContent (a_from : yaml_encoding_t) (a : List ℕ) (b_from : yaml_encoding_t)
+    (b : List ℕ) : Type 0 where
+  pub content : List Document
+  pub first : PlainReading a_from a (Ok content)
+  pub second : PlainReading b_from b (Ok content)
 
 -- both are accepted, and `same` tells whether their contents are equal
 pub record IsCompared (a_from : yaml_encoding_t) (a : List ℕ) (b_from : yaml_encoding_t)
@@ -72,12 +83,17 @@ abbrev pub IsSideFaulty : yaml_encoding_t → List ℕ → yaml_encoding_t → L
 IsSideFaulty a_from a b_from b First fault = IsFaulty a_from a fault
 IsSideFaulty a_from a b_from b Second fault = IsRight a_from a × IsFaulty b_from b fault
 
+-- memory ran out: told of the second input only where the first is accepted
+abbrev pub IsSideStarved : yaml_encoding_t → List ℕ → yaml_side_t → Fault → Type 0
+IsSideStarved a_from a First fault = IsMemoryFault parse_layers fault
+IsSideStarved a_from a Second fault = IsRight a_from a × IsMemoryFault parse_layers fault
+
 -- the answer of a comparison
 abbrev pub IsSame : yaml_encoding_t → List ℕ → yaml_encoding_t → List ℕ
     → Result Bool (yaml_side_t × yaml_fault_t) → Type 0
 IsSame a_from a b_from b (Ok same) = IsCompared a_from a b_from b same
-IsSame a_from a b_from b (Err f) = IsMemoryFault f.1 ⊎ IsSideFaulty a_from a b_from b f.0
-    (fault_of f.1)
+IsSame a_from a b_from b (Err f) = IsSideStarved a_from a f.0 (fault_of f.1)
+    ⊎ IsSideFaulty a_from a b_from b f.0 (fault_of f.1)
 
 -- ---- layouts
 
@@ -98,17 +114,21 @@ pub record IsPast (requested_settings : RequestedSettings) (limit : ℕ) (events
   pub stream : IsStream requested_settings encoding events whole
   pub passes : Passes limit (encode encoding whole) (is_deep whole) fault
 
--- the layout of the input's events, normalized, in canonical form or in pretty form
-abbrev pub IsLaidOut : yaml_encoding_t → List ℕ → yaml_settings_t → Bool → List ℕ → Type 0
-IsLaidOut from input settings canonical text = IsRight from input
-    × IsLayout (requested_under settings canonical) settings.limit
-    (emitter_events canonical (events_of from input)) text
+-- The input is accepted, and the text is the layout of its events, normalized, in canonical form or in pretty form.
+pub record IsLaidOut (from : yaml_encoding_t) (input : List ℕ) (settings : yaml_settings_t)
+    (canonical : Bool) (text : List ℕ) : Type 0 where
+  pub events : List Told
+  pub of_input : HasEvents from input events
+  pub layout : IsLayout (requested_under settings canonical) settings.limit
+      (emitter_events canonical events) text
 
 -- The input is accepted, and that layout passes the limit that the fault names.
-abbrev pub IsTooLong : yaml_encoding_t → List ℕ → yaml_settings_t → Bool → Fault → Type 0
-IsTooLong from input settings canonical fault = IsRight from input
-    × IsPast (requested_under settings canonical) settings.limit
-    (emitter_events canonical (events_of from input)) fault
+pub record IsTooLong (from : yaml_encoding_t) (input : List ℕ) (settings : yaml_settings_t)
+    (canonical : Bool) (fault : Fault) : Type 0 where
+  pub events : List Told
+  pub of_input : HasEvents from input events
+  pub past : IsPast (requested_under settings canonical) settings.limit
+      (emitter_events canonical events) fault
 
 -- the layout, the input's fault, or a limit
 abbrev pub IsWritten : yaml_encoding_t → List ℕ → yaml_settings_t → Bool → Result (List ℕ) Fault
@@ -129,23 +149,22 @@ pub record IsNormalForm (from : yaml_encoding_t) (settings : yaml_settings_t) (i
     : Type 0 where
   -- what the input says
   pub content : List Document
-  pub of_input : HasContent from input content
+  pub of_input : PlainReading from input (Ok content)
   -- the text, read as its byte order mark tells, is accepted and says the same
-  pub of_text : HasContent YAML_ANY_ENCODING text content
+  pub of_text : PlainReading YAML_ANY_ENCODING text (Ok content)
   -- it is that content's canonical text
   pub is : text ≡ canonical_text settings content
   -- what any input says whose canonical text it is, is that content
   pub only : (other : yaml_encoding_t) (source : List ℕ) (c : List Document)
-      → HasContent other source c → canonical_text settings c ≡ text → c ≡ content
+      → PlainReading other source (Ok c) → canonical_text settings c ≡ text → c ≡ content
   -- rewritten under the same settings it is the same text
   pub again : IsLaidOut YAML_ANY_ENCODING text settings true text
 
 -- ---- rewriting
 
 -- The text, read as its byte order mark tells, is accepted and has the input's content.
-pub record ReadsBack (from : yaml_encoding_t) (input text : List ℕ) : Type 0 where
-  pub right : IsRight YAML_ANY_ENCODING text
-  pub same : SameContent from input YAML_ANY_ENCODING text
+abbrev pub ReadsBack : yaml_encoding_t → List ℕ → List ℕ → Type 0
+ReadsBack from input text = SameContent from input YAML_ANY_ENCODING text
 
 -- whether a text reads back
 abbrev pub IsReadBack : yaml_encoding_t → List ℕ → List ℕ → Result Bool Fault → Type 0
@@ -153,12 +172,20 @@ IsReadBack from input text (Ok true) = ReadsBack from input text
 IsReadBack from input text (Ok false) = ¬ ReadsBack from input text
 IsReadBack from input text (Err fault) = ⊥
 
--- the input's pretty form doesn't read back
+-- the input's pretty form doesn't read back; so the input isn't shaped as JSON is
 pub record IsNotReadBack (from : yaml_encoding_t) (settings : yaml_settings_t)
     (input : List ℕ) : Type 0 where
   pub pretty : List ℕ
   pub laid : IsLaidOut from input settings false pretty
   pub differs : ¬ ReadsBack from input pretty
+  pub shape : ¬ IsJsonInput from input
+
+-- the answer of the engine in pretty form, and whether it is known to read back
+abbrev pub IsInPrettyForm : yaml_encoding_t → yaml_settings_t → List ℕ
+    → Result (List ℕ × Bool) Fault → Type 0
+IsInPrettyForm from settings input (Ok (text, known)) = IsLaidOut from input settings false text
+    × (known ≡ true → ReadsBack from input text)
+IsInPrettyForm from settings input (Err fault) = IsWritten from input settings false (Err fault)
 
 -- the answer of the engine in canonical form
 abbrev pub IsInCanonicalForm : yaml_encoding_t → yaml_settings_t → List ℕ

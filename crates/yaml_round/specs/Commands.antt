@@ -1,6 +1,7 @@
 -- What a run of a command answers.
 use Rattle.std.specs.Prelude.{◌≡◌, ℕ, List, Option, None, Some, Result, Ok, Err}
 use Rattle.yaml_scan.specs.declared.yaml_encoding_t.{yaml_encoding_t}
+use Rattle.yaml_scan.specs.declared.yaml_origin_t.{yaml_origin_t}
 use Rattle.yaml_scan.specs.Faults.{Fault}
 use Rattle.yaml_round.specs.declared.settings.yaml_settings_t.{yaml_settings_t}
 use Rattle.yaml_round.specs.declared.settings.yaml_form_t.{yaml_form_t}
@@ -9,6 +10,13 @@ use Rattle.yaml_round.specs.declared.settings.yaml_command_t.{yaml_command_t}
 use Rattle.yaml_round.specs.declared.settings.yaml_command_t.TheVariants.{Fmt, Docs, Events}
 use Rattle.yaml_round.specs.Answers.{IsReformatted, IsListed}
 use Rattle.yaml_round.specs.Reload.{IsReloaded}
+use Rattle.yaml_round.specs.Layers.{list_layers, reformat_layers, reload_layers}
+
+-- the layers in which memory may run out
+abbrev pub run_layers : yaml_command_t → List yaml_origin_t
+run_layers Fmt = reformat_layers
+run_layers Docs = reload_layers
+run_layers Events = list_layers
 
 -- a run of the command may answer this
 abbrev pub IsRunAnswer : yaml_command_t → yaml_encoding_t → yaml_settings_t → List ℕ

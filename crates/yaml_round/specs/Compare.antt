@@ -1,7 +1,7 @@
 -- How two readings compare.
-use Rattle.std.specs.Prelude.{◌≡◌, ◌⊎◌, ◌↔◌, ◌<◌, Bool, true, false, IsTrue, List, [], ◌∷◌, length, Some, None, Result, Ok, Err}
+use Rattle.std.specs.Prelude.{◌≡◌, ◌↔◌, ◌<◌, Bool, true, false, IsTrue, List, [], ◌∷◌, length, Option, None, Result, Ok, Err}
 use Rattle.yaml_scan.specs.declared.yaml_fault_t.{yaml_fault_t}
-use Rattle.yaml_scan.specs.Faults.{IsMemoryFault, fault_of}
+use Rattle.yaml_scan.specs.Faults.{Fault, fault_of, IsMemoryFault, parse_layers}
 use Rattle.yaml_parse.specs.Events.{EventBody}
 use Rattle.yaml_parse.specs.Remaining.{ParserRemaining}
 use Rattle.yaml_round.specs.declared.settings.yaml_side_t.{yaml_side_t}
@@ -111,11 +111,15 @@ Sided first second (Ok true) first_new second_new = Equal first second
 Sided first second (Ok false) first_new second_new = Differ first second first_new second_new
 Sided first second (Err f) first_new second_new = SideIs first second first_new f.0 f.1
 
--- neither has a fault, or the first fault: that of the second only where the first has none
+-- neither has a fault, or the first fault; that of the second only where the first has none, for want of memory too
 abbrev pub IsSideFault : ParserRemaining → ParserRemaining → yaml_side_t → yaml_fault_t → Type 0
 IsSideFault first second First f = IsFaultOf first.ending f
-IsSideFault first second Second f = IsMemoryFault f
-    ⊎ ((first.ending ≡ None) × (second.ending ≡ Some (fault_of f)))
+IsSideFault first second Second f = (first.ending ≡ None) × IsFaultOf second.ending f
+
+-- the first's fault, or that one, said of the second, where the first has none
+abbrev pub IsBehindFirst : Option Fault → yaml_fault_t → yaml_side_t × yaml_fault_t → Type 0
+IsBehindFirst first fault (First, f) = IsFaultOf first f
+IsBehindFirst first fault (Second, f) = (first ≡ None) × (f ≡ fault)
 
 abbrev pub RunsOut : ParserRemaining → ParserRemaining
     → Result (Unit {0}) (yaml_side_t × yaml_fault_t) → Type 0
@@ -130,7 +134,7 @@ Unlike first second = first.ending ≡ None → second.ending ≡ None → conte
 abbrev pub ReadsAlike : ParserRemaining → ParserRemaining → Result Bool yaml_fault_t → Type 0
 ReadsAlike first second (Ok true) = Equal first second
 ReadsAlike first second (Ok false) = Unlike first second
-ReadsAlike first second (Err f) = IsMemoryFault f
+ReadsAlike first second (Err f) = IsMemoryFault parse_layers (fault_of f)
 
 -- true exactly where the contents are equal
 pub record Tells (first second : ParserRemaining) (same : Bool) : Type 0 where

@@ -1,4 +1,5 @@
 pub mod Settings
+pub mod Layers
 pub mod Reading
 pub mod Writing
 pub mod Compare
@@ -14,3 +15,6 @@ pub use Rattle.yaml_round_lines.specs.FaultLine
 pub use Rattle.yaml_round_lines.specs.EventLine
 -- the laws beneath, for crates of laws that name this one alone
 pub use Rattle.yaml_round_laws_documents.specs.round_laws_back
+pub use Rattle.yaml_round_laws_documents.specs as round_laws_documents
+pub use Rattle.yaml_round_laws_documents.specs.round_laws_reading
+pub use Rattle.yaml_round_laws_kept.specs as round_laws_kept

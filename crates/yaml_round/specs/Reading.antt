@@ -1,9 +1,8 @@
 -- What is read of an input, and what a reader of its events is given.
 use Rattle.std.specs.Prelude.{◌≡◌, ◌⊎◌, ℕ, Bool, true, false, List, [], ◌∷◌, ◌++◌, Option, Some, None, Result, Ok, Err}
 use Rattle.std.specs.List.{flat_map}
-use Rattle.yaml_scan.specs.declared.yaml_error_type_t.TheVariants.{YAML_MEMORY_ERROR}
 use Rattle.yaml_scan.specs.declared.yaml_fault_t.{yaml_fault_t}
-use Rattle.yaml_scan.specs.Faults.{Fault, fault_of}
+use Rattle.yaml_scan.specs.Faults.{Fault, fault_of, IsMemoryFault, parse_layers}
 use Rattle.yaml_parse.specs.declared.yaml_found_t.{yaml_found_t}
 use Rattle.yaml_parse.specs.declared.yaml_found_t.TheVariants as found
 use Rattle.yaml_parse.specs.Events.{Event, EventBody}
@@ -12,6 +11,7 @@ use Rattle.yaml_parse.specs.Constructors.{HasUtf8}
 use Rattle.yaml_parse.specs.Resolve.{Told}
 use Rattle.yaml_parse.specs.Remaining.{ParserRemaining}
 use Rattle.yaml_round_lines.specs.EventLine.{event_line}
+use Rattle.yaml_round.specs.Layers.{list_layers}
 pub use Rattle.yaml_round_laws_documents.specs.round_laws_back.content.Events.{emitter_events, contents}
 
 -- ---- events
@@ -46,7 +46,7 @@ pub record IsOver (c : ParserRemaining) : Type 0 where
 
 -- the fault is the one that ends the reading, or want of memory
 abbrev pub IsFaultOf : Option Fault → yaml_fault_t → Type 0
-IsFaultOf ending f = (f.kind ≡ YAML_MEMORY_ERROR) ⊎ (ending ≡ Some (fault_of f))
+IsFaultOf ending f = IsMemoryFault parse_layers (fault_of f) ⊎ (ending ≡ Some (fault_of f))
 
 -- the next event or the fault, which stands in its slot, or the end
 abbrev pub Finds : ParserRemaining → yaml_found_t → Event → yaml_fault_t → ParserRemaining → Type 0
@@ -63,4 +63,5 @@ EndsWith ending (Err f) = IsFaultOf ending f
 abbrev pub AddsLines : ParserRemaining → List ℕ → Result (Unit {0}) yaml_fault_t → List ℕ → Type 0
 AddsLines reading old (Ok done) new = (reading.ending ≡ None)
     × (new ≡ old ++ event_lines reading.events)
-AddsLines reading old (Err f) new = IsFaultOf reading.ending f
+AddsLines reading old (Err f) new = IsMemoryFault list_layers (fault_of f)
+    ⊎ (reading.ending ≡ Some (fault_of f))

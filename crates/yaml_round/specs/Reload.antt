@@ -3,7 +3,7 @@ use Rattle.std.specs.Prelude.{◌≡◌, ◌⊎◌, ◌<◌, ◌^◌, ℕ, Bool,
 use Rattle.yaml_scan.specs.declared.yaml_encoding_t.{yaml_encoding_t}
 use Rattle.yaml_scan.specs.declared.yaml_encoding_t.TheVariants.{YAML_ANY_ENCODING}
 use Rattle.yaml_scan.specs.declared.yaml_fault_t.{yaml_fault_t}
-use Rattle.yaml_scan.specs.Faults.{Fault, fault_of, IsMemoryFault}
+use Rattle.yaml_scan.specs.Faults.{Fault, fault_of, IsMemoryFault, load_layers}
 use Rattle.yaml_parse.specs.Documents.{Document}
 use Rattle.yaml_parse.specs.Remaining.{ParserRemaining}
 use Rattle.yaml_parse.specs.Loading.{nothing_loaded}
@@ -87,7 +87,8 @@ abbrev pub LoadsNext : ParserRemaining → Result (Option Document) yaml_fault_t
     → Type 0
 LoadsNext old (Ok (Some d)) new = LoadsDocument d old new
 LoadsNext old (Ok None) new = to_load old ≡ no_more None
-LoadsNext old (Err f) new = IsMemoryFault f ⊎ (to_load old ≡ no_more (Some (fault_of f)))
+LoadsNext old (Err f) new = IsMemoryFault load_layers (fault_of f)
+    ⊎ (to_load old ≡ no_more (Some (fault_of f)))
 
 -- Each layout of the documents in canonical form, or a limit that each passes.
 abbrev pub IsEachDump : yaml_settings_t → List Document → Result (List ℕ) Fault → Type 0

@@ -13,7 +13,9 @@ use Rattle.yaml_emit.specs.Within.{Fits}
 use Rattle.yaml_emit.specs.Text.{Item, encode, is_deep}
 use Rattle.yaml_emit.specs.emit_text.declared.Encoding.{Encoding}
 use Rattle.yaml_emit.specs.emit_text.declared.RequestedSettings.{RequestedSettings}
+use Rattle.yaml_round_shape.specs.Seen.{seen_all}
 use Rattle.yaml_round.specs.declared.settings.yaml_settings_t.{yaml_settings_t}
+use Rattle.yaml_round.specs.declared.writing.Watch.{Watch}
 use Rattle.yaml_round.specs.declared.settings.yaml_output_encoding_t.{yaml_output_encoding_t}
 use Rattle.yaml_round.specs.declared.settings.yaml_output_encoding_t.TheVariants.{Utf8, Utf16Le, Utf16Be}
 use Rattle.yaml_round.specs.Reading.{emitter_events, AreReal, IsFaultOf}
@@ -47,26 +49,31 @@ pub record IsUnder (e : Emitter) (w : RequestedSettings) (most : ℕ) : Type 0 w
 
 -- ---- events that are given
 
--- With these events to come, normalized, from one emitter and those from the other, the text is the same.
-pub record Leads (ends : Bool) (old : Emitter) (before : List Told) (new : Emitter)
-    (after : List Told) : Type 0 where
-  pub completes : (x : Encoding) (whole : List Item) → Completes old x (emitter_events ends before)
-      whole → Completes new x (emitter_events ends after) whole
+-- With these events to come, normalized, from one emitter and those from the other, the text is the same,
+-- and so is what they tell of their shape.
+pub record Leads (watch : Watch) (old : Emitter) (before : List Told) (seen : Watch)
+    (new : Emitter) (after : List Told) : Type 0 where
+  pub completes : (x : Encoding) (whole : List Item)
+      → Completes old x (emitter_events watch.canonical before) whole
+      → Completes new x (emitter_events watch.canonical after) whole
   pub limit : new.limit ≡ old.limit
+  pub canonical : seen.canonical ≡ watch.canonical
+  pub shape : seen_all watch.shape (emitter_events watch.canonical before)
+      ≡ seen_all seen.shape (emitter_events watch.canonical after)
 
 -- the reading's events were given to the emitter: all of them, or a front of them
-abbrev pub Writes : Bool → ParserRemaining → Emitter → Result Bool yaml_fault_t → ParserRemaining
-    → Emitter → Type 0
-Writes ends r e (Ok true) r' e' = (r.ending ≡ None) × Leads ends e r.events e' []
-Writes ends r e (Ok false) r' e' = (r'.ending ≡ r.ending)
-    × (AreReal r'.events × Leads ends e r.events e' r'.events)
-Writes ends r e (Err f) r' e' = IsFaultOf r.ending f
+abbrev pub Writes : Watch → ParserRemaining → Emitter → Result Bool yaml_fault_t → Watch
+    → ParserRemaining → Emitter → Type 0
+Writes w r e (Ok true) w' r' e' = (r.ending ≡ None) × Leads w e r.events w' e' []
+Writes w r e (Ok false) w' r' e' = (r'.ending ≡ r.ending)
+    × (AreReal r'.events × Leads w e r.events w' e' r'.events)
+Writes w r e (Err f) w' r' e' = IsFaultOf r.ending f
 
 -- all of the reading's events were given to the emitter
-abbrev pub WritesAll : Bool → ParserRemaining → Emitter → Result (Unit {0}) yaml_fault_t → Emitter
-    → Type 0
-WritesAll ends r e (Ok done) e' = (r.ending ≡ None) × Leads ends e r.events e' []
-WritesAll ends r e (Err f) e' = IsFaultOf r.ending f
+abbrev pub WritesAll : Watch → ParserRemaining → Emitter → Result (Unit {0}) yaml_fault_t → Watch
+    → Emitter → Type 0
+WritesAll w r e (Ok done) w' e' = (r.ending ≡ None) × Leads w e r.events w' e' []
+WritesAll w r e (Err f) w' e' = IsFaultOf r.ending f
 
 -- the text is that layout, and passes no limit
 pub record IsText (limit : ℕ) (x : Encoding) (whole : List Item) (text : List ℕ) : Type 0 where

@@ -1,10 +1,10 @@
 //! Comparisons of inputs, by their events side by side; no tree is held.
 
-ghost use Rattle.yaml_round.specs.Compare.{BothReal, Judges, StepsBeside, StepsAlone, StepsOn, Sided, RunsOut, Compares, ReadsAlike};
+ghost use Rattle.yaml_round.specs.Compare.{BothReal, Judges, StepsBeside, StepsAlone, StepsOn, Sided, RunsOut, IsBehindFirst, Compares, ReadsAlike};
 ghost use Rattle.yaml_parse.specs.Events.{event_of};
 ghost use Rattle.yaml_round.specs.Reading.{AreReal};
 ghost use Rattle.yaml_round.specs.Answers.{IsRight, IsReadBack, IsSame};
-ghost use Rattle.yaml_scan.specs.Faults.{Answers};
+ghost use Rattle.yaml_scan.specs.Faults.{Answers, IsMemoryFault, fault_of, parse_layers};
 
 use crate::content::agree;
 use crate::normalize::normalize;
@@ -152,6 +152,20 @@ fn read_out_both<S: yaml_token_source_t, T: yaml_token_source_t>(
     }
 }
 
+// A fault of the second input, where the first, read to its end, has none.
+fn behind_first<S: yaml_token_source_t>(
+    first: &mut yaml_parser_t<S>,
+    fault: yaml_fault_t,
+) -> SideFault
+    requires { AreReal first.old.events }
+    ensures { IsBehindFirst first.old.ending fault result }
+{
+    match read_out(first) {
+        Err(earlier) => (yaml_side_t::First, earlier),
+        Ok(()) => (yaml_side_t::Second, fault),
+    }
+}
+
 /// Whether two readings have the same content. A fault of the first is answered first.
 pub(crate) fn compared<S: yaml_token_source_t, T: yaml_token_source_t>(
     first: &mut yaml_parser_t<S>,
@@ -166,11 +180,19 @@ pub(crate) fn compared<S: yaml_token_source_t, T: yaml_token_source_t>(
             Err(fault) => Err(fault),
             Ok(()) => Ok(false),
         },
-        Err((yaml_side_t::Second, fault)) => match read_out(first) {
-            Err(earlier) => Err((yaml_side_t::First, earlier)),
-            Ok(()) => Err((yaml_side_t::Second, fault)),
-        },
+        Err((yaml_side_t::Second, fault)) => Err(behind_first(first, fault)),
         Err(fault) => Err(fault),
+    }
+}
+
+// Want of memory, told again by its layer and nothing else.
+fn starved_in(origin: yaml_origin_t) -> yaml_fault_t
+    ensures { IsMemoryFault parse_layers (fault_of result) }
+{
+    match origin {
+        yaml_origin_t::Reader => yaml_memory_fault(yaml_origin_t::Reader),
+        yaml_origin_t::Scanner => yaml_memory_fault(yaml_origin_t::Scanner),
+        _ => yaml_memory_fault(yaml_origin_t::Parser),
     }
 }
 
@@ -186,7 +208,7 @@ fn reads_alike<S: yaml_token_source_t, T: yaml_token_source_t>(
         Ok(same) => Ok(same),
         Err((_, fault)) => {
             if fault.kind == yaml_error_type_t::YAML_MEMORY_ERROR {
-                Err(fault)
+                Err(starved_in(fault.origin))
             } else {
                 Ok(false)
             }
@@ -203,7 +225,7 @@ pub(crate) fn reads_back(
     text: &[u8],
 ) -> Result<bool, yaml_fault_t>
     requires { IsRight from input.now }
-    ensures { Answers (λ same. same) (IsReadBack from input.now text.now) result }
+    ensures { Answers parse_layers (λ same. same) (IsReadBack from input.now text.now) result }
 {
     let mut first = reading_of(alloc, input, from)?;
     let mut second = reading_of(alloc, text, yaml_encoding_t::YAML_ANY_ENCODING)?;
@@ -212,7 +234,7 @@ pub(crate) fn reads_back(
 
 /// Whether two inputs have the same content: their documents' versions, directives, nodes, anchors, tags and values, and of
 /// untagged scalars whether they are plain; styles, marks and comments aside. A refused first input is answered first, by
-/// its side and its fault (kinds 1 to 4).
+/// its side and its fault (kinds 1 to 4); the second is told of only where the first is accepted.
 pub fn yaml_same(
     alloc: Global,
     a: &[u8],
@@ -228,7 +250,7 @@ pub fn yaml_same(
     };
     let mut second = match reading_of(alloc, b, b_encoding) {
         Ok(second) => second,
-        Err(fault) => return Err((yaml_side_t::Second, fault)),
+        Err(fault) => return Err(behind_first(&mut first, fault)),
     };
     compared(&mut first, &mut second)
 }

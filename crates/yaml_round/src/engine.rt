@@ -1,22 +1,25 @@
 //! The calls that read a text whole and answer another.
 
-ghost use Rattle.std.specs.Prelude.{◌≡◌};
-ghost use Rattle.yaml_scan.specs.Faults.{Answers};
-ghost use Rattle.yaml_round_laws_documents.specs.round_laws_back.content.Input.{ending_of};
-ghost use Rattle.yaml_round.specs.Reading.{AreReal, AddsLines};
-ghost use Rattle.yaml_round.specs.Answers.{IsReformatted, IsInCanonicalForm, IsJudged, IsWritten, IsListed, text_and_form, bytes_of};
+ghost use Rattle.std.specs.Prelude.{◌≡◌, IfOk};
+ghost use Rattle.yaml_scan.specs.Faults.{Answers, parse_layers};
+ghost use Rattle.yaml_round.specs.Layers.{list_layers, reformat_layers};
+ghost use Rattle.yaml_round_laws_documents.specs.round_laws_back.content.Input.{ending_of, events_of};
+ghost use Rattle.yaml_round_shape.specs.Seen.{seen_all};
+ghost use Rattle.yaml_round.specs.Reading.{AreReal, AddsLines, emitter_events};
+ghost use Rattle.yaml_round.specs.Answers.{IsReformatted, IsInCanonicalForm, IsInPrettyForm, IsJudged, IsWritten, IsListed, text_and_form, text_and_known, bytes_of};
 ghost use Rattle.yaml_round.specs.Writing.{WritesAll};
 
 use crate::compare::reads_back;
 use crate::reading::{Reading, next_into, read_out, reading_of};
 use crate::settings::{yaml_form_t, yaml_settings_t};
-use crate::writing::{emitter_under, finished, write_rest, write_up_to};
+use crate::writing::{Watch, emitter_under, finished, write_rest, write_up_to};
 use std::alloc::Global;
 use yaml_emit::yaml_emitter_t;
 use yaml_parse::{
     yaml_event_body_t, yaml_event_t, yaml_found_t, yaml_parser_t, yaml_token_source_t,
 };
 use yaml_round_lines::yaml_push_event_line;
+use yaml_round_shape::{Shape, is_json};
 use yaml_scan::{yaml_encoding_t, yaml_fault_t, yaml_memory_fault, yaml_origin_t};
 
 // A text that has more than this many bytes for each byte of its input has outgrown it.
@@ -24,7 +27,7 @@ const OUTGROWN: usize = 32;
 
 // Reads the input to its end and writes nothing. Its fault is the answer.
 fn judge(alloc: Global, input: &[u8], from: yaml_encoding_t) -> Result<(), yaml_fault_t>
-    ensures { Answers (λ done. done) (IsJudged from input.now) result }
+    ensures { Answers parse_layers (λ done. done) (IsJudged from input.now) result }
 {
     let mut reading = reading_of(alloc, input, from)?;
     read_out(&mut reading)
@@ -39,18 +42,18 @@ fn write_events(
     from: yaml_encoding_t,
     reading: &mut Reading<'_>,
     emitter: &mut yaml_emitter_t,
-    canonical: bool,
+    watch: &mut Watch,
 ) -> Result<(), yaml_fault_t>
     requires real { AreReal reading.old.events }
     requires ending { reading.old.ending ≡ ending_of from input.now }
-    ensures { WritesAll canonical reading.old emitter.old result emitter.new }
+    ensures { WritesAll watch.old reading.old emitter.old result watch.new emitter.new }
 {
     let most = input.len().saturating_mul(OUTGROWN);
-    if write_up_to(reading, emitter, canonical, most)? {
+    if write_up_to(reading, emitter, watch, most)? {
         return Ok(());
     }
     judge(alloc, input, from)?;
-    write_rest(reading, emitter, canonical)
+    write_rest(reading, emitter, watch)
 }
 
 // The text of the input's events in canonical or pretty form. The input is read to its end, also where the text passes its
@@ -61,13 +64,16 @@ fn written(
     input: &[u8],
     from: yaml_encoding_t,
     settings: &yaml_settings_t,
-    canonical: bool,
+    watch: &mut Watch,
 ) -> Result<Vec<u8>, yaml_fault_t>
-    ensures { Answers bytes_of (IsWritten from input.now settings.now canonical) result }
+    ensures text { Answers reformat_layers bytes_of (IsWritten from input.now settings.now
+        watch.old.canonical) result }
+    ensures shape { IfOk result (λ _. watch.new.shape ≡ seen_all watch.old.shape
+        (emitter_events watch.old.canonical (events_of from input.now))) }
 {
     let mut reading = reading_of(alloc, input, from)?;
-    let mut emitter = emitter_under(alloc, settings, canonical)?;
-    write_events(alloc, input, from, &mut reading, &mut emitter, canonical)?;
+    let mut emitter = emitter_under(alloc, settings, watch.canonical)?;
+    write_events(alloc, input, from, &mut reading, &mut emitter, watch)?;
     finished(emitter)
 }
 
@@ -79,10 +85,38 @@ fn in_canonical_form(
     from: yaml_encoding_t,
     settings: &yaml_settings_t,
 ) -> Result<(Vec<u8>, yaml_form_t), yaml_fault_t>
-    ensures { Answers text_and_form (IsInCanonicalForm from settings.now input.now) result }
+    ensures { Answers reformat_layers text_and_form
+        (IsInCanonicalForm from settings.now input.now) result }
 {
-    let text = written(alloc, input, from, settings, true)?;
+    let mut watch = Watch {
+        canonical: true,
+        shape: Shape::Other,
+    };
+    let text = written(alloc, input, from, settings, &mut watch)?;
     Ok((text, yaml_form_t::Canonical))
+}
+
+// The text in pretty form, and whether it is known to read back: that of an input shaped as JSON does.
+#[tactic(auto, using(crate::proofs::Staying::known_back))]
+fn in_pretty_form(
+    alloc: Global,
+    input: &[u8],
+    from: yaml_encoding_t,
+    settings: &yaml_settings_t,
+) -> Result<(Vec<u8>, bool), yaml_fault_t>
+    ensures { Answers reformat_layers text_and_known
+        (IsInPrettyForm from settings.now input.now) result }
+{
+    let mut watch = Watch {
+        canonical: false,
+        shape: Shape::Json {
+            begun: false,
+            key: false,
+            mappings: 0,
+        },
+    };
+    let text = written(alloc, input, from, settings, &mut watch)?;
+    Ok((text, is_json(watch.shape)))
 }
 
 /// The text rewritten, and its form. With `settings.canonical` on the answer is in canonical form. With it off the events
@@ -98,12 +132,16 @@ pub fn yaml_reformat(
     from: yaml_encoding_t,
     settings: &yaml_settings_t,
 ) -> Result<(Vec<u8>, yaml_form_t), yaml_fault_t>
-    ensures { Answers text_and_form (IsReformatted from settings.now input.now) result }
+    ensures { Answers reformat_layers text_and_form
+        (IsReformatted from settings.now input.now) result }
 {
     if settings.canonical {
         return in_canonical_form(alloc, input, from, settings);
     }
-    let text = written(alloc, input, from, settings, false)?;
+    let (text, known) = in_pretty_form(alloc, input, from, settings)?;
+    if known {
+        return Ok((text, yaml_form_t::Pretty));
+    }
     match reads_back(alloc, input, from, &text) {
         Err(fault) => Err(fault),
         Ok(true) => Ok((text, yaml_form_t::Pretty)),
@@ -152,13 +190,13 @@ fn push_lines<S: yaml_token_source_t>(
 
 /// A line for each event of the input, as the parser gives it. Refused by a fault of the input (kinds 2, 3 and 4) or for
 /// want of memory.
-#[tactic(auto, using(crate::proofs::Judging::listed, crate::proofs::Judging::fault_met))]
+#[tactic(auto, using(crate::proofs::Judging::listed, crate::proofs::Judging::not_listed))]
 pub fn yaml_events(
     alloc: Global,
     input: &[u8],
     from: yaml_encoding_t,
 ) -> Result<Vec<u8>, yaml_fault_t>
-    ensures { Answers bytes_of (IsListed from input.now) result }
+    ensures { Answers list_layers bytes_of (IsListed from input.now) result }
 {
     let mut reading = reading_of(alloc, input, from)?;
     let mut lines = Vec::new(alloc);

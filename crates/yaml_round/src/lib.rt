@@ -14,7 +14,7 @@ mod writing;
 pub use compare::yaml_same;
 pub use engine::{yaml_events, yaml_reformat};
 pub use reload::yaml_reload;
-pub use run::{yaml_run, yaml_text_of};
+pub use run::yaml_run;
 pub use settings::{
     yaml_command_t, yaml_form_t, yaml_output_encoding_t, yaml_settings_t, yaml_side_t,
 };

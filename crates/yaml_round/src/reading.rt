@@ -1,7 +1,7 @@
 //! The events of an input.
 
 ghost use Rattle.std.specs.Prelude.{◌≡◌, true, IfOk, IfErr};
-ghost use Rattle.yaml_scan.specs.Faults.{IsMemoryFault};
+ghost use Rattle.yaml_scan.specs.Faults.{fault_of, memory_fault};
 ghost use Rattle.yaml_parse.specs.Events.{event_of};
 ghost use Rattle.yaml_round_laws_documents.specs.round_laws_back.content.Input.{Reads};
 ghost use Rattle.yaml_round.specs.Reading.{AreReal, Finds, EndsWith};
@@ -26,7 +26,7 @@ pub(crate) fn reading_of<'a>(
     ensures reads { IfOk result (Reads from input.now) }
     ensures real { IfOk result (λ p. AreReal p.events) }
     ensures between { IfOk result (λ p. p.between ≡ true) }
-    ensures memory { IfErr result IsMemoryFault }
+    ensures memory { IfErr result (λ f. fault_of f ≡ memory_fault yaml_origin_t.Parser) }
 {
     match yaml_parser_initialize(alloc, yaml_adapter_t::new(alloc, input, from)) {
         Ok(reading) => Ok(reading),

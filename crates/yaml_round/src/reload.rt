@@ -1,7 +1,8 @@
 //! Documents loaded and written again.
 
 ghost use Rattle.std.specs.Prelude.{◌≡◌, true, false, All};
-ghost use Rattle.yaml_scan.specs.Faults.{Answers};
+ghost use Rattle.yaml_scan.specs.Faults.{Answers, load_layers, emit_layers};
+ghost use Rattle.yaml_round.specs.Layers.{reload_layers};
 ghost use Rattle.yaml_round.specs.Answers.{bytes_of};
 ghost use Rattle.yaml_round.specs.Reload.{LoadsNext, IsLoaded, HasRoot, Stands, Dumps, DumpsStream, IsEachDump, IsReloaded};
 
@@ -40,7 +41,7 @@ fn documents_of(
     input: &[u8],
     from: yaml_encoding_t,
 ) -> Result<VecDeque<yaml_document_t>, yaml_fault_t>
-    ensures { Answers (λ ds. ds.items) (IsLoaded from input.now) result }
+    ensures { Answers load_layers (λ ds. ds.items) (IsLoaded from input.now) result }
 {
     let mut reading = reading_of(alloc, input, from)?;
     let mut documents = VecDeque::new(alloc);
@@ -98,7 +99,7 @@ fn written_documents(
     documents: &mut VecDeque<yaml_document_t>,
 ) -> Result<Vec<u8>, yaml_fault_t>
     requires { All HasRoot documents.old.items }
-    ensures { Answers bytes_of (IsEachDump settings.now documents.old.items) result }
+    ensures { Answers emit_layers bytes_of (IsEachDump settings.now documents.old.items) result }
 {
     let mut emitter = emitter_under(alloc, settings, true)?;
     dump_stream(&mut emitter, documents);
@@ -115,7 +116,7 @@ pub fn yaml_reload(
     from: yaml_encoding_t,
     settings: &yaml_settings_t,
 ) -> Result<Vec<u8>, yaml_fault_t>
-    ensures { Answers bytes_of (IsReloaded from settings.now input.now) result }
+    ensures { Answers reload_layers bytes_of (IsReloaded from settings.now input.now) result }
 {
     match documents_of(alloc, input, from) {
         Err(fault) => Err(fault),

@@ -1,18 +1,17 @@
 //! A run over devices: it reads to the end, works, and then writes.
 
-ghost use Rattle.std.specs.Prelude.{◌≡◌, ◌<◌, length, IfOk, IfErr, Ok, IsErrOf};
+ghost use Rattle.std.specs.Prelude.{◌≡◌, true, IfErr, OnOk};
 ghost use Rattle.yaml_round_device.specs.Run.{Runs, FailsBy, IsBeforeWriting};
 ghost use Rattle.yaml_scan.specs.Faults.{Answers};
 ghost use Rattle.yaml_round.specs.Answers.{text_and_maybe_form};
-ghost use Rattle.yaml_round.specs.Commands.{IsRunAnswer};
+ghost use Rattle.yaml_round.specs.Commands.{IsRunAnswer, run_layers};
 
 use crate::engine::{yaml_events, yaml_reformat};
 use crate::reload::yaml_reload;
 use crate::settings::{yaml_command_t, yaml_form_t, yaml_settings_t};
 use std::alloc::Global;
 use yaml_round_device::{
-    yaml_input_t, yaml_output_t, yaml_read_all, yaml_run_fault_t, yaml_std_input_t,
-    yaml_std_output_t, yaml_write_all,
+    yaml_input_t, yaml_output_t, yaml_read_all, yaml_run_fault_t, yaml_write_all,
 };
 use yaml_scan::{yaml_encoding_t, yaml_fault_t};
 
@@ -24,7 +23,8 @@ fn answer_of(
     from: yaml_encoding_t,
     settings: &yaml_settings_t,
 ) -> Result<(Vec<u8>, Option<yaml_form_t>), yaml_fault_t>
-    ensures { Answers text_and_maybe_form (IsRunAnswer command from settings.now input.now) result }
+    ensures { Answers (run_layers command) text_and_maybe_form
+        (IsRunAnswer command from settings.now input.now) result }
 {
     match command {
         yaml_command_t::Fmt => {
@@ -56,7 +56,10 @@ pub fn yaml_run<I: yaml_input_t, O: yaml_output_t>(
     input_limit: u64,
 ) -> Result<Option<yaml_form_t>, yaml_run_fault_t>
     ensures runs { Runs (I.to_come input.old) (I.to_come input.new) (O.received output.old)
-        (O.received output.new) input_limit (IsRunAnswer command from settings.now) result }
+        (O.received output.new) input_limit (run_layers command)
+        (IsRunAnswer command from settings.now) result }
+    // After a whole answer the output is finished.
+    ensures finished { OnOk result (O.is_finished output.new ≡ true) }
     ensures failures { FailsBy (I.has_failed input.old) (I.has_failed input.new)
         (O.has_failed output.old) (O.has_failed output.new) result }
 
@@ -72,31 +75,4 @@ pub fn yaml_run<I: yaml_input_t, O: yaml_output_t>(
         Ok(()) => Ok(form),
         Err(written) => Err(yaml_run_fault_t::Write { written }),
     }
-}
-
-/// A run over memory.
-pub fn yaml_text_of(
-    alloc: Global,
-    bytes: &[u8],
-    command: yaml_command_t,
-    from: yaml_encoding_t,
-    settings: &yaml_settings_t,
-    input_limit: u64,
-) -> Result<(Vec<u8>, Option<yaml_form_t>), yaml_run_fault_t>
-    ensures text { IfOk result (λ answer. IsRunAnswer command from settings.now bytes.now
-        (Ok (answer.0.items, answer.1))) }
-    ensures long { IsErrOf result yaml_run_fault_t.TooLong → input_limit < length bytes.now }
-{
-    let mut input = yaml_std_input_t::new(bytes);
-    let mut output = yaml_std_output_t::new(Vec::new(alloc));
-    let form = yaml_run(
-        alloc,
-        &mut input,
-        &mut output,
-        command,
-        from,
-        settings,
-        input_limit,
-    )?;
-    Ok((output.into_inner(), form))
 }

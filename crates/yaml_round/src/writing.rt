@@ -1,12 +1,13 @@
 //! An emitter under the engine's settings, and the writing of a reading's events.
 
 ghost use Rattle.std.specs.Prelude.{◌≡◌, Some, IfOk, IfErr, option_map};
-ghost use Rattle.yaml_scan.specs.Faults.{Fault, fault_of, IsMemoryFault};
+ghost use Rattle.yaml_scan.specs.Faults.{Fault, fault_of, memory_fault};
 ghost use Rattle.yaml_parse.specs.Events.{event_of};
 ghost use Rattle.yaml_parse.specs.Constructors.{HasUtf8};
 ghost use Rattle.yaml_emit.specs.Content.{emitter_event};
 ghost use Rattle.yaml_emit.specs.Emitter.{Given, IsLimited};
 ghost use Rattle.yaml_round_laws_documents.specs.round_laws_back.content.Normalize.{normalize_body};
+ghost use Rattle.yaml_round_shape.specs.Seen.{seen};
 ghost use Rattle.yaml_round.specs.Reading.{AreReal};
 ghost use Rattle.yaml_round.specs.Writing.{IsUnder, requested_under, encoding_under, Writes, WritesAll, Finishes};
 
@@ -23,7 +24,15 @@ use yaml_emit::{
 use yaml_parse::{
     yaml_event_body_t, yaml_event_t, yaml_found_t, yaml_parser_t, yaml_token_source_t,
 };
+use yaml_round_shape::{Shape, seen_with};
 use yaml_scan::{yaml_encoding_t, yaml_fault_t, yaml_memory_fault, yaml_origin_t};
+
+/// The form in which events are written, and what those that were given tell of their shape.
+#[derive(Clone, Copy)]
+pub(crate) struct Watch {
+    pub(crate) canonical: bool,
+    pub(crate) shape: Shape,
+}
 
 fn encoding_of(encoding: yaml_output_encoding_t) -> yaml_encoding_t
     ensures { result ≡ encoding_under encoding }
@@ -43,7 +52,7 @@ pub(crate) fn emitter_under(
 ) -> Result<yaml_emitter_t, yaml_fault_t>
     ensures under { IfOk result (λ e. IsUnder e (requested_under settings.now canonical)
         settings.now.limit) }
-    ensures memory { IfErr result IsMemoryFault }
+    ensures memory { IfErr result (λ f. fault_of f ≡ memory_fault yaml_origin_t.Emitter) }
 {
     let Ok(mut emitter) = yaml_emitter_initialize(alloc, settings.limit) else {
         return Err(yaml_memory_fault(yaml_origin_t::Emitter));
@@ -65,13 +74,18 @@ fn give(emitter: &mut yaml_emitter_t, event: &mut yaml_event_t)
     yaml_emitter_emit_from(emitter, event);
 }
 
-// Gives the event in the slot, normalized.
-fn give_normalized(emitter: &mut yaml_emitter_t, event: &mut yaml_event_t, canonical: bool)
+// Gives the event in the slot, normalized, and sees what it tells of the shape.
+fn give_normalized(emitter: &mut yaml_emitter_t, watch: &mut Watch, event: &mut yaml_event_t)
     requires { HasUtf8 (event_of event.old).body }
-    ensures { Given emitter.old (emitter_event (normalize_body canonical (event_of event.old).body))
-        emitter.new }
+    ensures given { Given emitter.old (emitter_event
+        (normalize_body watch.old.canonical (event_of event.old).body)) emitter.new }
+    ensures seen { watch.new ≡ record watch.old {
+      shape = seen watch.old.shape (emitter_event
+          (normalize_body watch.old.canonical (event_of event.old).body));
+    } }
 {
-    normalize(event, canonical);
+    normalize(event, watch.canonical);
+    watch.shape = seen_with(watch.shape, event);
     give(emitter, event);
 }
 
@@ -80,13 +94,13 @@ fn give_normalized(emitter: &mut yaml_emitter_t, event: &mut yaml_event_t, canon
 fn write_up_to_by<S: yaml_token_source_t>(
     reading: &mut yaml_parser_t<S>,
     emitter: &mut yaml_emitter_t,
-    canonical: bool,
+    watch: &mut Watch,
     most: usize,
     event: &mut yaml_event_t,
     fault: &mut yaml_fault_t,
 ) -> Result<bool, yaml_fault_t>
     requires { AreReal reading.old.events }
-    ensures { Writes canonical reading.old emitter.old result reading.new emitter.new }
+    ensures { Writes watch.old reading.old emitter.old result watch.new reading.new emitter.new }
 {
     'events: loop {
         if yaml_emitter_output(emitter).len() > most {
@@ -95,7 +109,7 @@ fn write_up_to_by<S: yaml_token_source_t>(
         match next_into(reading, event, fault) {
             yaml_found_t::Refused => return Err(*fault),
             yaml_found_t::End => return Ok(true),
-            yaml_found_t::Event => give_normalized(emitter, event, canonical),
+            yaml_found_t::Event => give_normalized(emitter, watch, event),
         }
     }
 }
@@ -105,15 +119,15 @@ fn write_up_to_by<S: yaml_token_source_t>(
 pub(crate) fn write_up_to<S: yaml_token_source_t>(
     reading: &mut yaml_parser_t<S>,
     emitter: &mut yaml_emitter_t,
-    canonical: bool,
+    watch: &mut Watch,
     most: usize,
 ) -> Result<bool, yaml_fault_t>
     requires { AreReal reading.old.events }
-    ensures { Writes canonical reading.old emitter.old result reading.new emitter.new }
+    ensures { Writes watch.old reading.old emitter.old result watch.new reading.new emitter.new }
 {
     let mut event = yaml_event_t::unplaced(yaml_event_body_t::No);
     let mut fault = yaml_memory_fault(yaml_origin_t::Parser);
-    let written = write_up_to_by(reading, emitter, canonical, most, &mut event, &mut fault);
+    let written = write_up_to_by(reading, emitter, watch, most, &mut event, &mut fault);
     drop(event);
     written
 }
@@ -123,18 +137,18 @@ pub(crate) fn write_up_to<S: yaml_token_source_t>(
 fn write_rest_by<S: yaml_token_source_t>(
     reading: &mut yaml_parser_t<S>,
     emitter: &mut yaml_emitter_t,
-    canonical: bool,
+    watch: &mut Watch,
     event: &mut yaml_event_t,
     fault: &mut yaml_fault_t,
 ) -> Result<(), yaml_fault_t>
     requires { AreReal reading.old.events }
-    ensures { WritesAll canonical reading.old emitter.old result emitter.new }
+    ensures { WritesAll watch.old reading.old emitter.old result watch.new emitter.new }
 {
     'events: loop {
         match next_into(reading, event, fault) {
             yaml_found_t::Refused => return Err(*fault),
             yaml_found_t::End => return Ok(()),
-            yaml_found_t::Event => give_normalized(emitter, event, canonical),
+            yaml_found_t::Event => give_normalized(emitter, watch, event),
         }
     }
 }
@@ -143,14 +157,14 @@ fn write_rest_by<S: yaml_token_source_t>(
 pub(crate) fn write_rest<S: yaml_token_source_t>(
     reading: &mut yaml_parser_t<S>,
     emitter: &mut yaml_emitter_t,
-    canonical: bool,
+    watch: &mut Watch,
 ) -> Result<(), yaml_fault_t>
     requires { AreReal reading.old.events }
-    ensures { WritesAll canonical reading.old emitter.old result emitter.new }
+    ensures { WritesAll watch.old reading.old emitter.old result watch.new emitter.new }
 {
     let mut event = yaml_event_t::unplaced(yaml_event_body_t::No);
     let mut fault = yaml_memory_fault(yaml_origin_t::Parser);
-    let written = write_rest_by(reading, emitter, canonical, &mut event, &mut fault);
+    let written = write_rest_by(reading, emitter, watch, &mut event, &mut fault);
     drop(event);
     written
 }

@@ -4,10 +4,9 @@ use Rattle.std.specs.Str.{is_utf8}
 use Rattle.std.proofs.lemmas.Str.{IsUtf8-from_is_utf8, is_utf8-from_IsUtf8}
 use Rattle.std.proofs.lemmas.Bool.{cases_Bool}
 use Rattle.std.proofs.lemmas.List.Elements.{All-nil, All-cons, All-head, All-tail}
-use Rattle.yaml_scan.specs.declared.yaml_error_type_t.TheVariants.{YAML_MEMORY_ERROR}
 use Rattle.yaml_scan.specs.Tokens as token
 use Rattle.yaml_scan.specs.Tokens.{Token, TokenBody}
-use Rattle.yaml_scan.specs.Faults.{Fault}
+use Rattle.yaml_scan.specs.Faults.{Fault, IsMemoryFault, scan_layers}
 use Rattle.yaml_scan.specs.scan_history.Remaining.{SpelledText, Remaining, remaining}
 use Rattle.yaml_scan_laws_utf8.specs.Texts.{HasTexts}
 use Rattle.yaml_scan_laws_utf8.proofs.TokensUtf8.{remaining_sound}
@@ -59,7 +58,7 @@ cut_failed fault [] f e g = (refl, g)
 cut_failed fault (t ∷ ts) f e g = let bad : t ∷ ts ≡ [] = e in cc
 
 -- The session's own fault is passed on.
-pub failed : (old : Remaining) (f : Fault) → (f.kind ≡ YAML_MEMORY_ERROR) ⊎ ((old.tokens ≡ []) × (old.fault ≡ Some f)) → GivesFault (adapted old).tokens (adapted old).fault f [] None
+pub failed : (old : Remaining) (f : Fault) → IsMemoryFault scan_layers f ⊎ ((old.tokens ≡ []) × (old.fault ≡ Some f)) → GivesFault (adapted old).tokens (adapted old).fault f [] None
 failed old f (inl memory) = record { none = refl; no_fault = refl; reason = inl memory }
 failed old f (inr (e, g)) = record { none = refl; no_fault = refl; reason = inr (cut_failed old.fault old.tokens f e g) }
 

@@ -1,8 +1,7 @@
 -- What a parser takes of a text in UTF-8, a token at a time.
 use Rattle.std.specs.Prelude.{ℕ, ◌≡◌, ◌⊎◌, true, false, [], None, Some, IsUtf8, All}
-use Rattle.yaml_scan.specs.declared.yaml_error_type_t.TheVariants.{YAML_MEMORY_ERROR}
 use Rattle.yaml_scan.specs.Tokens.{Token}
-use Rattle.yaml_scan.specs.Faults.{Fault}
+use Rattle.yaml_scan.specs.Faults.{Fault, IsMemoryFault, scan_layers}
 use Rattle.yaml_scan.specs.scan_history.Remaining.{SpelledText, Remaining, remaining}
 use Rattle.yaml_scan_laws_utf8.specs.Texts.{HasTexts}
 use Rattle.yaml_parse.specs.Source.{front_of, rest_of, MayAnswer, HasUtf8, GivesToken, GivesFault}
@@ -27,6 +26,6 @@ TagIsRefused = (old : Remaining) (t : Token) → t ≡ front_of old.tokens → s
 
 -- A fault that is to come, and want of memory, is given as it is.
 abbrev pub FaultIsGiven : Type 0
-FaultIsGiven = (old : Remaining) (f : Fault) → (f.kind ≡ YAML_MEMORY_ERROR)
+FaultIsGiven = (old : Remaining) (f : Fault) → IsMemoryFault scan_layers f
     ⊎ ((old.tokens ≡ []) × (old.fault ≡ Some f)) → GivesFault (adapted old).tokens
     (adapted old).fault f [] None

@@ -1,15 +1,16 @@
 -- What C is told of a call.
 use Rattle.std.specs.Prelude.{◌≡◌, ◌⊎◌, ℕ, ℤ, pos, negsuc, List, [], Bool, true, false, Option, None, Some, Result, Ok, Err, codes, unwrap_or}
 use Rattle.yaml_parse.specs.declared.yaml_encoding_t.{yaml_encoding_t}
-use Rattle.yaml_parse.specs.declared.yaml_error_type_t.TheVariants.{YAML_MEMORY_ERROR}
+use Rattle.yaml_parse.specs.declared.yaml_origin_t.{yaml_origin_t}
 use Rattle.yaml_parse.specs.declared.yaml_fault_t.{yaml_fault_t}
 use Rattle.yaml_parse.specs.declared.yaml_mark_t.{yaml_mark_t}
-use Rattle.yaml_parse.specs.Faults.{Fault, fault_of}
+use Rattle.yaml_parse.specs.Faults.{Fault, fault_of, IsMemoryFault}
 use Rattle.yaml_round.specs.declared.settings.yaml_settings_t.{yaml_settings_t}
 use Rattle.yaml_round.specs.declared.settings.yaml_side_t.{yaml_side_t}
 use Rattle.yaml_round.specs.declared.settings.yaml_side_t.TheVariants.{First, Second}
 use Rattle.yaml_round.specs.declared.settings.yaml_form_t.{yaml_form_t}
 use Rattle.yaml_round.specs.declared.settings.yaml_form_t.TheVariants.{Canonical, Pretty}
+use Rattle.yaml_round.specs.Layers.{list_layers, reformat_layers, reload_layers}
 use Rattle.yaml_round.specs.Answers.{IsListed, IsReformatted, IsSame}
 use Rattle.yaml_round.specs.Reload.{IsReloaded}
 use Rattle.yaml_round.specs.FaultLine.{fault_line}
@@ -78,10 +79,11 @@ abbrev pub TellsSame : Result Bool (yaml_side_t × yaml_fault_t) → yaml_c_answ
 TellsSame (Ok same) a = TellsText [] (same_number same) a
 TellsSame (Err (side, fault)) a = TellsFault (fault_of fault) (side_number side) a
 
--- what the relation allows, or want of memory
-abbrev pub OrMemory : {Y : Type 0} → (Result Y Fault → Type 0) → Result Y Fault → Type 0
-OrMemory Is (Ok y) = Is (Ok y)
-OrMemory Is (Err fault) = (fault.kind ≡ YAML_MEMORY_ERROR) ⊎ Is (Err fault)
+-- what the relation allows, or want of memory in one of these layers
+abbrev pub OrMemory : List yaml_origin_t → {Y : Type 0} → (Result Y Fault → Type 0)
+    → Result Y Fault → Type 0
+OrMemory layers Is (Ok y) = Is (Ok y)
+OrMemory layers Is (Err fault) = IsMemoryFault layers fault ⊎ Is (Err fault)
 
 -- C is told an answer that the relation allows.
 pub record IsAnswered {A : Type 0} (Is : A → Type 0) (TellsIt : A → yaml_c_answer → Type 0)
@@ -112,13 +114,13 @@ abbrev pub call_meant : ℤ → yaml_c_settings → Option (yaml_encoding_t × y
 call_meant from given = both (encoding_meant from) (settings_meant given)
 
 abbrev pub Reformats : List ℕ → yaml_encoding_t × yaml_settings_t → yaml_c_answer → Type 0
-Reformats input m = IsAnswered (OrMemory (IsReformatted m.0 m.1 input)) TellsForm
+Reformats input m = IsAnswered (OrMemory reformat_layers (IsReformatted m.0 m.1 input)) TellsForm
 
 abbrev pub Reloads : List ℕ → yaml_encoding_t × yaml_settings_t → yaml_c_answer → Type 0
-Reloads input m = IsAnswered (OrMemory (IsReloaded m.0 m.1 input)) Tells
+Reloads input m = IsAnswered (OrMemory reload_layers (IsReloaded m.0 m.1 input)) Tells
 
 abbrev pub Compares : List ℕ → List ℕ → yaml_encoding_t × yaml_encoding_t → yaml_c_answer → Type 0
 Compares first second m = IsAnswered (IsSame m.0 first m.1 second) TellsSame
 
 abbrev pub Lists : List ℕ → yaml_encoding_t → yaml_c_answer → Type 0
-Lists input from = IsAnswered (OrMemory (IsListed from input)) Tells
+Lists input from = IsAnswered (OrMemory list_layers (IsListed from input)) Tells

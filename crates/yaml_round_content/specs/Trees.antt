@@ -23,7 +23,8 @@ abbrev mutual
   pair_trees_of (emit.pair k v ps) = pair (tree_of k) (tree_of v) (pair_trees_of ps)
 
 abbrev pub document_tree : emit.Document → Document
-document_tree d = record { version = d.opening.version; directives = d.opening.directives; root = tree_of d.root }
+document_tree d = record
+    { version = d.opening.version; directives = d.opening.directives; root = tree_of d.root }
 
 abbrev pub document_trees : List emit.Document → List Document
 document_trees ds = map document_tree ds

@@ -18,3 +18,7 @@ output_inner d = d.inner
 -- whether a call has answered an `Err`
 abbrev pub output_failed : {W : Type 0} → yaml_std_output_t W → Bool
 output_failed d = d.has_failed
+
+-- whether the last call was a flush that succeeded
+abbrev pub output_finished : {W : Type 0} → yaml_std_output_t W → Bool
+output_finished d = d.is_finished

@@ -1,6 +1,6 @@
 //! What gives bytes, and what takes them.
 
-ghost use Rattle.std.specs.Prelude.{◌≡◌, ℕ, List, Option, Bool, true, ◌<◌, ◌≤◌, length, IfOk, MatchResult};
+ghost use Rattle.std.specs.Prelude.{◌≡◌, ℕ, List, Option, Bool, true, false, ◌<◌, ◌≤◌, length, IfOk, MatchResult};
 ghost use Rattle.std.specs.Io.KnownBytes.{Keeps, ReadConsumes, WriteAppends};
 
 /// A device has failed. What it was isn't told.
@@ -24,7 +24,8 @@ pub trait yaml_input_t {
             (λ _. has_failed self.new ≡ true) };
 }
 
-/// What takes bytes. It means the bytes received, where they are told, and whether it has failed.
+/// What takes bytes. It means the bytes received, where they are told, whether it has failed, and whether what it
+/// received was passed on.
 pub trait yaml_output_t {
     // The bytes received, where they are told.
     ghost received: { Self → Option (List ℕ) };
@@ -32,18 +33,24 @@ pub trait yaml_output_t {
     // Whether it has failed.
     ghost has_failed: { Self → Bool };
 
+    // Whether it was finished, and has taken nothing since.
+    ghost is_finished: { Self → Bool };
+
     /// Takes a front of `piece` and answers how many bytes, at least one where there are any. An error takes no byte,
     /// and the device has failed from then on.
     fn put(&mut self, piece: &[u8]) -> Result<usize, yaml_device_fault_t>
         ensures bound { IfOk result (λ n. n ≤ length piece.now) }
         ensures some { IfOk result (λ n. 0 < length piece.now → 0 < n) }
         ensures bytes { WriteAppends (received self.old) (received self.new) result piece.now }
+        ensures unfinished { is_finished self.new ≡ false }
         ensures failure { MatchResult result (λ _. has_failed self.new ≡ has_failed self.old)
             (λ _. has_failed self.new ≡ true) };
 
     /// Nothing more comes: what was taken is passed on.
     fn finish(&mut self) -> Result<(), yaml_device_fault_t>
         ensures bytes { Keeps (received self.old) (received self.new) }
+        ensures finished { MatchResult result (λ _. is_finished self.new ≡ true)
+            (λ _. is_finished self.new ≡ false) }
         ensures failure { MatchResult result (λ _. has_failed self.new ≡ has_failed self.old)
             (λ _. has_failed self.new ≡ true) };
 }

@@ -2,7 +2,7 @@
 
 ghost use Rattle.std.specs.Prelude.{◌≡◌, ◌≤◌, ◌<◌, true, false, length, take, IfOk, OnErr, MatchResult};
 ghost use Rattle.std.specs.Io.KnownBytes.{Keeps, Consumes, Appends, IsAtEnd};
-ghost use Rattle.yaml_round_device.specs.StdDevices.{input_inner, input_failed, output_inner, output_failed};
+ghost use Rattle.yaml_round_device.specs.StdDevices.{input_inner, input_failed, output_inner, output_failed, output_finished};
 
 use crate::device::{yaml_device_fault_t, yaml_input_t, yaml_output_t};
 use std::io::{ErrorKind, Read, Write};
@@ -79,17 +79,21 @@ fn read_tried_again<R: Read>(reader: &mut R, buf: &mut [u8]) -> Result<usize, ya
 pub struct yaml_std_output_t<W> {
     inner: W,
     has_failed: bool,
+    // The last call was a flush that succeeded.
+    is_finished: bool,
 }
 
 impl<W> yaml_std_output_t<W> {
-    /// The output over that writer, which hasn't failed.
+    /// The output over that writer, which hasn't failed and isn't finished.
     pub fn new(inner: W) -> Self
         ensures inner { output_inner result ≡ inner }
         ensures sound { output_failed result ≡ false }
+        ensures unfinished { output_finished result ≡ false }
     {
         yaml_std_output_t {
             inner,
             has_failed: false,
+            is_finished: false,
         }
     }
 
@@ -106,8 +110,11 @@ impl<W: Write> yaml_output_t for yaml_std_output_t<W> {
 
     ghost has_failed = { output_failed };
 
+    ghost is_finished = { output_finished };
+
     fn put(&mut self, piece: &[u8]) -> Result<usize, yaml_device_fault_t> {
         let result = write_tried_again(&mut self.inner, piece);
+        self.is_finished = false;
         if result.is_err() {
             self.has_failed = true;
         }
@@ -116,6 +123,7 @@ impl<W: Write> yaml_output_t for yaml_std_output_t<W> {
 
     fn finish(&mut self) -> Result<(), yaml_device_fault_t> {
         let result = flush_tried_again(&mut self.inner);
+        self.is_finished = result.is_ok();
         if result.is_err() {
             self.has_failed = true;
         }

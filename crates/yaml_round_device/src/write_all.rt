@@ -9,6 +9,7 @@ use crate::device::yaml_output_t;
 pub fn yaml_write_all<O: yaml_output_t>(output: &mut O, text: &[u8]) -> Result<(), u64>
     ensures ok { OnOk result (Appends (O.received output.old) (O.received output.new) text.now) }
     ensures sound { OnOk result (O.has_failed output.new ≡ O.has_failed output.old) }
+    ensures finished { OnOk result (O.is_finished output.new ≡ true) }
     ensures failed { IfErr result (λ _. O.has_failed output.new ≡ true) }
     ensures within { IfErr result (λ written. written ≤ length text.now) }
     ensures front { IfErr result (λ written. Appends (O.received output.old) (O.received output.new)

@@ -1,18 +1,18 @@
 -- Canonical bytes decode to a text of words, whose tokens pass the adapter and are parsed as the content.
 use Rattle.std.proofs.Common.{◌≡◌, ℕ, ◌<◌, ◌&&◌, nat_le, if◌then◌else◌, List, Ok, refl, sym, ap, ◌∙◌, ℤ, pos, negsuc, arith}
 use Rattle.std.proofs.lemmas.Bool.Decides.{nat_tests}
-use Rattle.yaml_round_laws_writable.specs.content.round_laws.emit_laws_streams.scan.declared.yaml_encoding_t.{yaml_encoding_t}
-use Rattle.yaml_round_laws_writable.specs.content.round_laws.emit_laws_streams.scan.declared.yaml_encoding_t.TheVariants.{YAML_ANY_ENCODING}
-use Rattle.yaml_round_laws_writable.specs.content.round_laws.emit_laws_streams.scan.Decoding.{decoded_text}
-use Rattle.yaml_round_laws_writable.specs.content.round_laws.emit_laws_streams.scan.scan_history.Remaining.{Remaining}
-use Rattle.yaml_round_laws_writable.specs.content.round_laws.emit_laws_streams.scan.Scanned.{scanned, scanned_in}
-use Rattle.yaml_round_laws_writable.specs.content.round_laws.emit_laws_streams.emit.Settings.{settled, settled_indent}
-use Rattle.yaml_round_laws_writable.specs.content.round_laws.round_adapter.Adapted.{adapted}
-use Rattle.yaml_round_laws_writable.specs.content.Events.{contents}
-use Rattle.yaml_round_laws_writable.specs.content.Input.{events_of, ending_of, read, parsed, tokens_of}
-use Rattle.yaml_round_laws_writable.specs.content.Said.{stream_says}
-use Rattle.yaml_round_laws_writable.specs.content.Canon.{written_documents, canon, canon_encoding}
-use Rattle.yaml_round_laws_writable.specs.content.Laws.{SaysIsInjective}
+use Rattle.yaml_round_laws_canonical.specs.round_laws_dumps.round_laws_loads.round_laws_writable.content.round_laws.emit_laws_streams.scan.declared.yaml_encoding_t.{yaml_encoding_t}
+use Rattle.yaml_round_laws_canonical.specs.round_laws_dumps.round_laws_loads.round_laws_writable.content.round_laws.emit_laws_streams.scan.declared.yaml_encoding_t.TheVariants.{YAML_ANY_ENCODING}
+use Rattle.yaml_round_laws_canonical.specs.round_laws_dumps.round_laws_loads.round_laws_writable.content.round_laws.emit_laws_streams.scan.Decoding.{decoded_text}
+use Rattle.yaml_round_laws_canonical.specs.round_laws_dumps.round_laws_loads.round_laws_writable.content.round_laws.emit_laws_streams.scan.scan_history.Remaining.{Remaining}
+use Rattle.yaml_round_laws_canonical.specs.round_laws_dumps.round_laws_loads.round_laws_writable.content.round_laws.emit_laws_streams.scan.Scanned.{scanned, scanned_in}
+use Rattle.yaml_round_laws_canonical.specs.round_laws_dumps.round_laws_loads.round_laws_writable.content.round_laws.emit_laws_streams.emit.Settings.{settled, settled_indent}
+use Rattle.yaml_round_laws_canonical.specs.round_laws_dumps.round_laws_loads.round_laws_writable.content.round_laws.round_adapter.Adapted.{adapted}
+use Rattle.yaml_round_laws_canonical.specs.round_laws_dumps.round_laws_loads.round_laws_writable.content.Events.{contents}
+use Rattle.yaml_round_laws_canonical.specs.round_laws_dumps.round_laws_loads.round_laws_writable.content.Input.{events_of, ending_of, read, parsed, tokens_of}
+use Rattle.yaml_round_laws_canonical.specs.round_laws_dumps.round_laws_loads.round_laws_writable.content.Said.{stream_says}
+use Rattle.yaml_round_laws_canonical.specs.round_laws_dumps.round_laws_loads.round_laws_writable.content.Canon.{written_documents, canon, canon_encoding}
+use Rattle.yaml_round_laws_canonical.specs.round_laws_dumps.round_laws_loads.round_laws_writable.content.Laws.{SaysIsInjective}
 use Rattle.yaml_emit_laws_text.specs.emit_laws_tags.Laws.{WrittenTagsAreReadable}
 use Rattle.yaml_emit_laws_text.specs.Laws.{CanonicalTextIsRead}
 use Rattle.yaml_round_laws_bytes.specs.Laws.{CanonicalBytesDecode, encoding_named, canonical_text}

@@ -1,11 +1,11 @@
 -- The laws of canonical text, joined from the laws beneath.
-use Rattle.yaml_round_laws_writable.specs.content.round_laws.emit_laws_streams.scan.declared.yaml_encoding_t.TheVariants.{YAML_ANY_ENCODING}
-use Rattle.yaml_round_laws_writable.specs.content.Canon.{canon}
-use Rattle.yaml_round_laws_writable.specs.Laws.{LayoutIsOfInputsContent, InputsContentIsLaidOut}
-use Rattle.yaml_round_laws_writable.proofs.content.Injective.{says_injective}
-use Rattle.yaml_round_laws_writable.proofs.content.Layouts.{layouts_of_content, content_laid_out}
-use Rattle.yaml_round_laws_writable.proofs.Flags.{layout_of_input, input_laid_out}
-use Rattle.yaml_round_laws_writable.proofs.Contents.{are_writable}
+use Rattle.yaml_round_laws_canonical.specs.round_laws_dumps.round_laws_loads.round_laws_writable.content.round_laws.emit_laws_streams.scan.declared.yaml_encoding_t.TheVariants.{YAML_ANY_ENCODING}
+use Rattle.yaml_round_laws_canonical.specs.round_laws_dumps.round_laws_loads.round_laws_writable.content.Canon.{canon}
+use Rattle.yaml_round_laws_canonical.specs.round_laws_dumps.round_laws_loads.round_laws_writable.Laws.{LayoutIsOfInputsContent, InputsContentIsLaidOut}
+use Rattle.yaml_round_laws_canonical.proofs.round_laws_dumps.round_laws_loads.round_laws_writable.content.Injective.{says_injective}
+use Rattle.yaml_round_laws_canonical.proofs.round_laws_dumps.round_laws_loads.round_laws_writable.content.Layouts.{layouts_of_content, content_laid_out}
+use Rattle.yaml_round_laws_canonical.proofs.round_laws_dumps.round_laws_loads.round_laws_writable.Flags.{layout_of_input, input_laid_out}
+use Rattle.yaml_round_laws_canonical.proofs.round_laws_dumps.round_laws_loads.round_laws_writable.Contents.{are_writable}
 use Rattle.yaml_emit_laws_text.proofs.emit_laws_tags.Joining.{written_readable}
 use Rattle.yaml_emit_laws_text.proofs.Whole.{text_is_read}
 use Rattle.yaml_round_laws_bytes.proofs.Joining.{bytes_decode}

@@ -1,17 +1,17 @@
 -- Canonical text reads back, and is a normal form of what inputs say.
 use Rattle.std.specs.Prelude.{◌≡◌, ℕ, true, false, List, ◌∷◌}
-use Rattle.yaml_round_laws_writable.specs.content.round_laws.emit_laws_streams.scan.declared.yaml_encoding_t.{yaml_encoding_t}
-use Rattle.yaml_round_laws_writable.specs.content.round_laws.emit_laws_streams.scan.declared.yaml_encoding_t.TheVariants.{YAML_ANY_ENCODING}
-use Rattle.yaml_round_laws_writable.specs.content.round_laws.emit_laws_streams.scan.Tokens.{Token, TokenBody}
-use Rattle.yaml_round_laws_writable.specs.content.round_laws.emit_laws_streams.scan.Tokens as token
-use Rattle.yaml_round_laws_writable.specs.content.round_laws.emit_laws_streams.scan.Scanned.{scanned}
-use Rattle.yaml_round_laws_writable.specs.content.round_laws.emit_laws_streams.emit.emit_text.declared.RequestedSettings.{RequestedSettings}
-use Rattle.yaml_round_laws_writable.specs.content.round_laws.emit_laws_streams.emit.Emitter.{IsStream}
-use Rattle.yaml_round_laws_writable.specs.content.Said.{Document, HasContent}
-use Rattle.yaml_round_laws_writable.specs.content.Events.{emitter_events}
-use Rattle.yaml_round_laws_writable.specs.content.Input.{events_of}
-use Rattle.yaml_round_laws_writable.specs.content.Laws.{AreCanonical}
-use Rattle.yaml_round_laws_writable.specs.content.Canon.{written_documents, canon, canon_encoding, canon_items}
+use Rattle.yaml_round_laws_canonical.specs.round_laws_dumps.round_laws_loads.round_laws_writable.content.round_laws.emit_laws_streams.scan.declared.yaml_encoding_t.{yaml_encoding_t}
+use Rattle.yaml_round_laws_canonical.specs.round_laws_dumps.round_laws_loads.round_laws_writable.content.round_laws.emit_laws_streams.scan.declared.yaml_encoding_t.TheVariants.{YAML_ANY_ENCODING}
+use Rattle.yaml_round_laws_canonical.specs.round_laws_dumps.round_laws_loads.round_laws_writable.content.round_laws.emit_laws_streams.scan.Tokens.{Token, TokenBody}
+use Rattle.yaml_round_laws_canonical.specs.round_laws_dumps.round_laws_loads.round_laws_writable.content.round_laws.emit_laws_streams.scan.Tokens as token
+use Rattle.yaml_round_laws_canonical.specs.round_laws_dumps.round_laws_loads.round_laws_writable.content.round_laws.emit_laws_streams.scan.Scanned.{scanned}
+use Rattle.yaml_round_laws_canonical.specs.round_laws_dumps.round_laws_loads.round_laws_writable.content.round_laws.emit_laws_streams.emit.emit_text.declared.RequestedSettings.{RequestedSettings}
+use Rattle.yaml_round_laws_canonical.specs.round_laws_dumps.round_laws_loads.round_laws_writable.content.round_laws.emit_laws_streams.emit.Emitter.{IsStream}
+use Rattle.yaml_round_laws_canonical.specs.round_laws_dumps.round_laws_loads.round_laws_writable.content.Said.{Document, HasContent}
+use Rattle.yaml_round_laws_canonical.specs.round_laws_dumps.round_laws_loads.round_laws_writable.content.Events.{emitter_events}
+use Rattle.yaml_round_laws_canonical.specs.round_laws_dumps.round_laws_loads.round_laws_writable.content.Input.{events_of}
+use Rattle.yaml_round_laws_canonical.specs.round_laws_dumps.round_laws_loads.round_laws_writable.content.Laws.{AreCanonical}
+use Rattle.yaml_round_laws_canonical.specs.round_laws_dumps.round_laws_loads.round_laws_writable.content.Canon.{written_documents, canon, canon_encoding, canon_items}
 use Rattle.yaml_round_laws_bytes.specs.Laws.{encoding_named}
 use Rattle.yaml_round_laws_canonical.specs.round_laws_tree.Laws.{token_bodies}
 use Rattle.yaml_round_laws_canonical.specs.round_laws_tree.Adapting.{without_fault}

@@ -21,7 +21,7 @@ use Rattle.yaml_round_laws_bytes.proofs.Nodes.{canonically, documents_tame}
 use Rattle.yaml_round_laws_bytes.proofs.Marks.{BeginsLow, no_mark, text_begins, low_told, low_behind, high_told, high_behind}
 
 -- the bytes decode to the text, in that encoding
-abbrev Decodes : List ℕ → List ℕ → yaml_encoding_t → Type 0
+abbrev pub Decodes : List ℕ → List ℕ → yaml_encoding_t → Type 0
 Decodes bytes text e = (decoded_text YAML_ANY_ENCODING bytes ≡ Ok text) × (encoding_of YAML_ANY_ENCODING bytes ≡ e)
 
 decoded : (bytes : List ℕ) (t : List Item) (e : yaml_encoding_t) → Allowed t → encoding_of YAML_ANY_ENCODING bytes ≡ e → drop (mark_length YAML_ANY_ENCODING bytes) bytes ≡ spellings e (shown t)
@@ -32,7 +32,7 @@ decoded bytes t e allowed told spelled =
     let spells : Spells YAML_ANY_ENCODING bytes (encode Utf8 t) = record { characters = shown t; allowed = all_pass (shown t) allowed; spelled = same; is = bytes_8 t } in
     (spells_decoded YAML_ANY_ENCODING bytes (encode Utf8 t) spells, told)
 
-decodes : (x : Encoding) (rest : Rest) → Allowed (rest start) → BeginsLow (encode Utf8 (rest start)) → Decodes (encode x (order_mark x start rest)) (encode Utf8 (rest start)) (encoding_named x)
+pub decodes : (x : Encoding) (rest : Rest) → Allowed (rest start) → BeginsLow (encode Utf8 (rest start)) → Decodes (encode x (order_mark x start rest)) (encode Utf8 (rest start)) (encoding_named x)
 decodes Utf8 rest allowed low =
     let t = rest start in
     let (told, none) = no_mark (encode Utf8 t) low in

@@ -1,7 +1,7 @@
 mod Encoding
-mod Characters
-mod Layouts
-mod Leaves
+pub mod Characters
+pub mod Layouts
+pub mod Leaves
 mod Nodes
-mod Marks
+pub mod Marks
 pub mod Joining

@@ -1,11 +1,11 @@
 -- What the tokens of a content's canonical documents say.
 use Rattle.std.specs.Prelude.{◌≡◌, false, List, ◌∷◌, None}
-use Rattle.yaml_round_content.specs.round_laws.emit_laws_streams.scan.declared.yaml_encoding_t.{yaml_encoding_t}
-use Rattle.yaml_round_content.specs.round_laws.emit_laws_streams.scan.Tokens.{Token}
-use Rattle.yaml_round_content.specs.round_laws.emit_laws_streams.scan.Tokens as token
-use Rattle.yaml_round_content.specs.Events.{contents}
-use Rattle.yaml_round_content.specs.Said.{Document, stream_says}
-use Rattle.yaml_round_content.specs.Canon.{written_documents}
+use Rattle.yaml_round_laws_dumps.specs.round_laws_loads.round_laws_writable.content.round_laws.emit_laws_streams.scan.declared.yaml_encoding_t.{yaml_encoding_t}
+use Rattle.yaml_round_laws_dumps.specs.round_laws_loads.round_laws_writable.content.round_laws.emit_laws_streams.scan.Tokens.{Token}
+use Rattle.yaml_round_laws_dumps.specs.round_laws_loads.round_laws_writable.content.round_laws.emit_laws_streams.scan.Tokens as token
+use Rattle.yaml_round_laws_dumps.specs.round_laws_loads.round_laws_writable.content.Events.{contents}
+use Rattle.yaml_round_laws_dumps.specs.round_laws_loads.round_laws_writable.content.Said.{Document, stream_says}
+use Rattle.yaml_round_laws_dumps.specs.round_laws_loads.round_laws_writable.content.Canon.{written_documents}
 use Rattle.yaml_round_laws_tree.specs.Laws.{token_bodies, AreParsable, parsed_of}
 use Rattle.yaml_round_laws_tree.specs.back_canon.Bodies.{documents_bodies}
 

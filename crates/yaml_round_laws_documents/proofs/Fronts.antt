@@ -14,13 +14,13 @@ use Rattle.yaml_round_laws_back.specs.content.Said.{Mark, untagged, tagged, Node
 use Rattle.yaml_round_laws_back.specs.content.Canon.{written_node, written_nodes, written_pairs}
 use Rattle.yaml_round_laws_back.specs.content.Laws.{InputsSayFronts}
 use Rattle.yaml_round_laws_back.specs.content.Loads.{Loads, loads_of}
-use Rattle.yaml_round_laws_dumps.specs.round_laws_loads.Agree.{Core, CoreNode, core_of}
-use Rattle.yaml_round_laws_dumps.proofs.round_laws_loads.Core.{CoreLoading, CoreFed, core_goes_on, core_loaded, core_refused, CoreLoads, core_step, core_nothing, core_in_front, core_on, core_loads, is_fault, bodies, load_cores}
-use Rattle.yaml_round_laws_dumps.proofs.round_laws_loads.Contents.{on_same, loads_said}
-use Rattle.yaml_round_laws_dumps.specs.emit_laws_dumps.Dumps.{as_content, as_contents, as_pairs}
-use Rattle.yaml_round_laws_dumps.specs.Events.{unplaced, content_events, told_by, events_saying, load_each, AreLoadedDocuments}
-use Rattle.yaml_round_laws_dumps.specs.Laws.{ContentIsLoaded, ContentLoadsDocuments}
-use Rattle.yaml_round_laws_dumps.proofs.Agreeing.{document_loaded}
+use Rattle.yaml_round_laws_back.specs.round_laws_dumps.round_laws_loads.Agree.{Core, CoreNode, core_of}
+use Rattle.yaml_round_laws_back.proofs.round_laws_dumps.round_laws_loads.Core.{CoreLoading, CoreFed, core_goes_on, core_loaded, core_refused, CoreLoads, core_step, core_nothing, core_in_front, core_on, core_loads, is_fault, bodies, load_cores}
+use Rattle.yaml_round_laws_back.proofs.round_laws_dumps.round_laws_loads.Contents.{on_same, loads_said}
+use Rattle.yaml_round_laws_back.specs.round_laws_dumps.emit_laws_dumps.Dumps.{as_content, as_contents, as_pairs}
+use Rattle.yaml_round_laws_back.specs.round_laws_dumps.Events.{unplaced, content_events, told_by, events_saying, load_each, AreLoadedDocuments}
+use Rattle.yaml_round_laws_back.specs.round_laws_dumps.Laws.{ContentIsLoaded, ContentLoadsDocuments}
+use Rattle.yaml_round_laws_back.proofs.round_laws_dumps.Agreeing.{document_loaded}
 use Rattle.yaml_round_laws_documents.specs.Laws.{AllLoadDocuments}
 
 -- ---- the events of a content load what the content says, flags aside

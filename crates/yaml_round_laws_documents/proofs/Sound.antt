@@ -16,7 +16,7 @@ use Rattle.yaml_round_laws_back.specs.content.Loads.{Loads, in_front, load_on, l
 use Rattle.yaml_round_laws_back.proofs.content.round_laws.emit_laws_streams.Loading.{steps, empty_right}
 use Rattle.yaml_round_laws_back.proofs.content.round_laws.Inputs.{inputs_load_right}
 use Rattle.yaml_round_laws_back.specs.round_laws_writable.Laws.{HaveUtf8Texts, InputsHaveUtf8}
-use Rattle.yaml_round_laws_dumps.specs.Events.{AreLoadedDocuments}
+use Rattle.yaml_round_laws_back.specs.round_laws_dumps.Events.{AreLoadedDocuments}
 use Rattle.yaml_round_laws_documents.specs.Laws.{AllLoadDocuments, LoadedAreSound}
 
 abbrev pub AreDocuments : List Document → Type 0

@@ -24,8 +24,8 @@ use Rattle.yaml_round_laws_back.specs.content.Loads.{loads_of}
 use Rattle.yaml_round_laws_back.specs.content.Trees.{tree_of, trees_of, pair_trees_of, document_tree}
 use Rattle.yaml_round_laws_back.specs.round_laws_writable.Laws.{InputsHaveUtf8}
 use Rattle.yaml_round_laws_back.specs.round_laws_writable.Writable.{IsName, IsAnchor, IsWritable, AreItemsWritable, ArePairsWritable, HavePrefixes, IsWritableDocument, AreWritable}
-use Rattle.yaml_round_laws_dumps.specs.emit_laws_dumps.Dumps.{IsLoadedDocument}
-use Rattle.yaml_round_laws_dumps.specs.Events.{trees_of_dumps, AreLoadedDocuments}
+use Rattle.yaml_round_laws_back.specs.round_laws_dumps.emit_laws_dumps.Dumps.{IsLoadedDocument}
+use Rattle.yaml_round_laws_back.specs.round_laws_dumps.Events.{trees_of_dumps, AreLoadedDocuments}
 use Rattle.yaml_round_laws_documents.specs.Laws.{AllLoadDocuments, LoadedAreWritable}
 use Rattle.yaml_round_laws_documents.proofs.Sound.{AreDocuments, documents_sound, documents_right}
 

@@ -12,9 +12,9 @@ use Rattle.yaml_round_laws_back.specs.content.Said.{HasContent}
 use Rattle.yaml_round_laws_back.specs.content.Loads.{loads_of}
 use Rattle.yaml_round_laws_back.specs.content.Canon.{canon, canon_encoding, canon_items}
 use Rattle.yaml_round_laws_back.specs.content.Laws.{AreCanonical}
-use Rattle.yaml_round_laws_dumps.specs.round_laws_loads.Agree.{AreAgreeing, LoadAlike}
-use Rattle.yaml_round_laws_dumps.specs.round_laws_loads.Renamed.{Renaming, renamed, AreOneToOne}
-use Rattle.yaml_round_laws_dumps.specs.Events.{trees_of_dumps, AreNumerable}
+use Rattle.yaml_round_laws_back.specs.round_laws_dumps.round_laws_loads.Agree.{AreAgreeing, LoadAlike}
+use Rattle.yaml_round_laws_back.specs.round_laws_dumps.round_laws_loads.Renamed.{Renaming, renamed, AreOneToOne}
+use Rattle.yaml_round_laws_back.specs.round_laws_dumps.Events.{trees_of_dumps, AreNumerable}
 
 -- the events of the documents' dumps as one stream
 abbrev pub dump_events : List Document → List Event

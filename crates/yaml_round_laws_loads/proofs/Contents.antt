@@ -2,18 +2,18 @@
 use Rattle.std.proofs.Common.{◌≡◌, ◌↔◌, ℕ, Bool, true, false, ◌==◌, ◌&&◌, cond, List, [], ◌∷◌, length, Option, Some, None, refl, sym, ap, ◌∙◌, arith}
 use Rattle.std.specs.Prelude.{slice_index}
 use Rattle.std.proofs.lemmas.Bool.Decides.{nat_tests}
-use Rattle.yaml_round_content.specs.round_laws.emit_laws_streams.scan.declared.yaml_scalar_style_t.{yaml_scalar_style_t}
-use Rattle.yaml_round_content.specs.round_laws.emit_laws_streams.scan.Faults.{Fault}
-use Rattle.yaml_round_content.specs.round_laws.emit_laws_streams.parse.Events.{EventBody}
-use Rattle.yaml_round_content.specs.round_laws.emit_laws_streams.parse.Events as event
-use Rattle.yaml_round_content.specs.round_laws.emit_laws_streams.parse.Documents.{str_tag}
-use Rattle.yaml_round_content.specs.round_laws.emit_laws_streams.parse.Resolve.{Told}
-use Rattle.yaml_round_content.specs.round_laws.emit_laws_streams.parse.Numbering.{is_bang, loaded_tag}
-use Rattle.yaml_round_content.specs.round_laws.emit_laws_streams.parse.Loading.{nothing_loaded}
-use Rattle.yaml_round_content.specs.Normalize.{is_lone_mark, normalize_scalar, normalize_body}
-use Rattle.yaml_round_content.specs.Content.{content_of}
-use Rattle.yaml_round_content.specs.Events.{contents}
-use Rattle.yaml_round_content.specs.Loads.{Loads, load_all}
+use Rattle.yaml_round_laws_writable.specs.content.round_laws.emit_laws_streams.scan.declared.yaml_scalar_style_t.{yaml_scalar_style_t}
+use Rattle.yaml_round_laws_writable.specs.content.round_laws.emit_laws_streams.scan.Faults.{Fault}
+use Rattle.yaml_round_laws_writable.specs.content.round_laws.emit_laws_streams.parse.Events.{EventBody}
+use Rattle.yaml_round_laws_writable.specs.content.round_laws.emit_laws_streams.parse.Events as event
+use Rattle.yaml_round_laws_writable.specs.content.round_laws.emit_laws_streams.parse.Documents.{str_tag}
+use Rattle.yaml_round_laws_writable.specs.content.round_laws.emit_laws_streams.parse.Resolve.{Told}
+use Rattle.yaml_round_laws_writable.specs.content.round_laws.emit_laws_streams.parse.Numbering.{is_bang, loaded_tag}
+use Rattle.yaml_round_laws_writable.specs.content.round_laws.emit_laws_streams.parse.Loading.{nothing_loaded}
+use Rattle.yaml_round_laws_writable.specs.content.Normalize.{is_lone_mark, normalize_scalar, normalize_body}
+use Rattle.yaml_round_laws_writable.specs.content.Content.{content_of}
+use Rattle.yaml_round_laws_writable.specs.content.Events.{contents}
+use Rattle.yaml_round_laws_writable.specs.content.Loads.{Loads, load_all}
 use Rattle.yaml_round_laws_loads.specs.Agree.{LoadAlike}
 use Rattle.yaml_round_laws_loads.specs.Laws.{LoadsOfContent}
 use Rattle.yaml_round_laws_loads.proofs.Core.{CoreLoading, CoreFed, core_goes_on, CoreLoads, core_leaf, core_scalar, core_loaded, core_refused, core_in_front, core_step, core_on, core_loads, core_nothing, is_fault, cores, bodies, load_cores}

@@ -1,14 +1,14 @@
 -- What is loaded depends on what the events say alone, and not on the names of anchors.
 use Rattle.std.specs.Prelude.{◌≡◌, ◌↔◌, ℕ, List, map, Option, None}
-use Rattle.yaml_round_content.specs.round_laws.emit_laws_streams.scan.Faults.{Fault}
-use Rattle.yaml_round_content.specs.round_laws.emit_laws_streams.parse.Loading.{nothing_loaded}
-use Rattle.yaml_round_content.specs.round_laws.emit_laws_streams.parse.Documents as documents
-use Rattle.yaml_round_content.specs.round_laws.emit_laws_streams.parse.Resolve.{Told}
-use Rattle.yaml_round_content.specs.round_laws.emit_laws_streams.emit.emit_graph.Graph.{graph_content}
-use Rattle.yaml_round_content.specs.Events.{contents}
-use Rattle.yaml_round_content.specs.Said.{Document, stream_says}
-use Rattle.yaml_round_content.specs.Trees.{document_trees}
-use Rattle.yaml_round_content.specs.Loads.{load_all}
+use Rattle.yaml_round_laws_writable.specs.content.round_laws.emit_laws_streams.scan.Faults.{Fault}
+use Rattle.yaml_round_laws_writable.specs.content.round_laws.emit_laws_streams.parse.Loading.{nothing_loaded}
+use Rattle.yaml_round_laws_writable.specs.content.round_laws.emit_laws_streams.parse.Documents as documents
+use Rattle.yaml_round_laws_writable.specs.content.round_laws.emit_laws_streams.parse.Resolve.{Told}
+use Rattle.yaml_round_laws_writable.specs.content.round_laws.emit_laws_streams.emit.emit_graph.Graph.{graph_content}
+use Rattle.yaml_round_laws_writable.specs.content.Events.{contents}
+use Rattle.yaml_round_laws_writable.specs.content.Said.{Document, stream_says}
+use Rattle.yaml_round_laws_writable.specs.content.Trees.{document_trees}
+use Rattle.yaml_round_laws_writable.specs.content.Loads.{load_all}
 use Rattle.yaml_round_laws_loads.specs.Agree.{AreAgreeing, LoadAlike}
 use Rattle.yaml_round_laws_loads.specs.Renamed.{Renaming, renamed, AreOneToOne}
 

@@ -4,3 +4,4 @@
 mod laws;
 
 pub use laws::{agreeing_say_the_same, loads_of_content, loads_of_renamed};
+pub use yaml_round_laws_writable::inputs_are_writable;

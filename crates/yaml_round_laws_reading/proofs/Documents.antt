@@ -1,22 +1,22 @@
 -- The events that are read of a tree say its content.
 use Rattle.std.proofs.Common.{◌≡◌, ℕ, ℤ, Bool, true, false, if◌then◌else◌, List, [], ◌∷◌, ◌++◌, Option, Some, None, refl, ap, sym, ◌∙◌}
 use Rattle.std.proofs.lemmas.List.{append_assoc, append-nil}
-use Rattle.yaml_parse_laws_faults.specs.grammar.parse_model.declared.yaml_mark_t.{yaml_mark_t}
-use Rattle.yaml_parse_laws_faults.specs.grammar.parse_model.declared.yaml_version_directive_t.{yaml_version_directive_t}
-use Rattle.yaml_parse_laws_faults.specs.grammar.parse_model.declared.yaml_encoding_t.TheVariants.{YAML_ANY_ENCODING}
-use Rattle.yaml_parse_laws_faults.specs.grammar.parse_model.Tokens.{Token}
-use Rattle.yaml_parse_laws_faults.specs.grammar.parse_model.Faults.{Fault}
-use Rattle.yaml_parse_laws_faults.specs.grammar.parse_model.Events.{EventBody, TagDirective}
-use Rattle.yaml_parse_laws_faults.specs.grammar.parse_model.Events as event
-use Rattle.yaml_parse_laws_faults.specs.grammar.declared.name.Site.TheVariants.{Root}
-use Rattle.yaml_parse_laws_faults.specs.grammar.declared.problem.ParseProblem.TheVariants as problem
-use Rattle.yaml_parse_laws_faults.specs.grammar.Problems.{parser_fault}
-use Rattle.yaml_parse_laws_faults.specs.grammar.Items.{RawEvent, item_at}
-use Rattle.yaml_parse_laws_faults.specs.grammar.Items as item
-use Rattle.yaml_parse_laws_faults.specs.grammar.Trees.{Span, Given, Directive, Documents, First, Stream, token_at, spell_directives, spell_maybe, spell_node, spell_ends, spell_documents, items_node, items_maybe, items_directives, items_ends, items_documents, items_first, items}
-use Rattle.yaml_parse_laws_faults.specs.grammar.Trees as tree
-use Rattle.yaml_parse_laws_faults.specs.grammar.Resolve.{Directives, no_directives, Reading, read_on, reading, directive_for, with_version, with_tag, is_known_version}
-use Rattle.yaml_parse_laws_faults.specs.grammar.Resolve as resolve
+use Rattle.yaml_round_content.specs.round_laws.emit_laws_streams.parse.parse_laws_faults.grammar.parse_model.declared.yaml_mark_t.{yaml_mark_t}
+use Rattle.yaml_round_content.specs.round_laws.emit_laws_streams.parse.parse_laws_faults.grammar.parse_model.declared.yaml_version_directive_t.{yaml_version_directive_t}
+use Rattle.yaml_round_content.specs.round_laws.emit_laws_streams.parse.parse_laws_faults.grammar.parse_model.declared.yaml_encoding_t.TheVariants.{YAML_ANY_ENCODING}
+use Rattle.yaml_round_content.specs.round_laws.emit_laws_streams.parse.parse_laws_faults.grammar.parse_model.Tokens.{Token}
+use Rattle.yaml_round_content.specs.round_laws.emit_laws_streams.parse.parse_laws_faults.grammar.parse_model.Faults.{Fault}
+use Rattle.yaml_round_content.specs.round_laws.emit_laws_streams.parse.parse_laws_faults.grammar.parse_model.Events.{EventBody, TagDirective}
+use Rattle.yaml_round_content.specs.round_laws.emit_laws_streams.parse.parse_laws_faults.grammar.parse_model.Events as event
+use Rattle.yaml_round_content.specs.round_laws.emit_laws_streams.parse.parse_laws_faults.grammar.declared.name.Site.TheVariants.{Root}
+use Rattle.yaml_round_content.specs.round_laws.emit_laws_streams.parse.parse_laws_faults.grammar.declared.problem.ParseProblem.TheVariants as problem
+use Rattle.yaml_round_content.specs.round_laws.emit_laws_streams.parse.parse_laws_faults.grammar.Problems.{parser_fault}
+use Rattle.yaml_round_content.specs.round_laws.emit_laws_streams.parse.parse_laws_faults.grammar.Items.{RawEvent, item_at}
+use Rattle.yaml_round_content.specs.round_laws.emit_laws_streams.parse.parse_laws_faults.grammar.Items as item
+use Rattle.yaml_round_content.specs.round_laws.emit_laws_streams.parse.parse_laws_faults.grammar.Trees.{Span, Given, Directive, Documents, First, Stream, token_at, spell_directives, spell_maybe, spell_node, spell_ends, spell_documents, items_node, items_maybe, items_directives, items_ends, items_documents, items_first, items}
+use Rattle.yaml_round_content.specs.round_laws.emit_laws_streams.parse.parse_laws_faults.grammar.Trees as tree
+use Rattle.yaml_round_content.specs.round_laws.emit_laws_streams.parse.parse_laws_faults.grammar.Resolve.{Directives, no_directives, Reading, read_on, reading, directive_for, with_version, with_tag, is_known_version}
+use Rattle.yaml_round_content.specs.round_laws.emit_laws_streams.parse.parse_laws_faults.grammar.Resolve as resolve
 use Rattle.yaml_round_content.specs.Events.{contents}
 use Rattle.yaml_round_content.specs.Said.{node_says, documents_say, stream_says}
 use Rattle.yaml_round_laws_reading.specs.TreeContent.{node_of, maybe_of, tags_in, version_in, documents_of, behind_first, tree_content}
@@ -24,7 +24,7 @@ use Rattle.yaml_round_laws_reading.proofs.Saying.{SaysIf, both, node_reads, mayb
 
 -- ---- directives
 
-abbrev first_some : Option yaml_version_directive_t → Option yaml_version_directive_t → Option yaml_version_directive_t
+abbrev pub first_some : Option yaml_version_directive_t → Option yaml_version_directive_t → Option yaml_version_directive_t
 first_some None y = y
 first_some (Some x) y = Some x
 
@@ -32,14 +32,14 @@ some_first : (v : Option yaml_version_directive_t) → first_some v None ≡ v
 some_first None = refl
 some_first (Some x) = refl
 
-abbrev directives : Option yaml_version_directive_t → List TagDirective → Directives
+abbrev pub directives : Option yaml_version_directive_t → List TagDirective → Directives
 directives v tags = record { version = v; tags = tags }
 
 not_none : (e : Fault) → Some e ≡ None → ⊥
 not_none e h = cc
 
 -- behind the directives of a document, where none is refused
-abbrev Behind : List Directive → List Token → List Given → Option Fault → Option yaml_version_directive_t → List TagDirective → Type 0
+abbrev pub Behind : List Directive → List Token → List Given → Option Fault → Option yaml_version_directive_t → List TagDirective → Type 0
 Behind ds rest gs f v tags = (reading (items_directives ds rest gs) f (directives v tags)).ending ≡ None
     → reading (items_directives ds rest gs) f (directives v tags) ≡ reading gs f (directives (first_some v (version_in ds)) (tags ++ tags_in ds))
 
@@ -63,7 +63,7 @@ handle_behind None D handle prefix at i left k to h r = h r
 first_version : (v w y : Option yaml_version_directive_t) → v ≡ None → w ≡ first_some v w
 first_version v w y p = ap (λ (z : Option yaml_version_directive_t). first_some z w) (sym p)
 
-directives_read : (ds : List Directive) (rest : List Token) (gs : List Given) (f : Option Fault) (v : Option yaml_version_directive_t) (tags : List TagDirective) → Behind ds rest gs f v tags
+pub directives_read : (ds : List Directive) (rest : List Token) (gs : List Given) (f : Option Fault) (v : Option yaml_version_directive_t) (tags : List TagDirective) → Behind ds rest gs f v tags
 unfolding reading
 directives_read [] rest gs f v tags =
     λ e. ap (λ (z : Option yaml_version_directive_t). reading gs f (directives z tags)) (sym (some_first v)) ∙ ap (λ (z : List TagDirective). reading gs f (directives (first_some v None) z)) (sym (append-nil tags))
@@ -90,7 +90,7 @@ unfolding reading
 more_ends [] rest gs f D = record { right = λ e. e; says = λ e. refl }
 more_ends (s ∷ ends) rest gs f D = record { right = λ e. e; says = λ e. refl }
 
-right_behind : (r q : Reading) → r ≡ q → r.ending ≡ None → q.ending ≡ None
+pub right_behind : (r q : Reading) → r ≡ q → r.ending ≡ None → q.ending ≡ None
 right_behind r q p e = ap (λ (x : Reading). x.ending) (sym p) ∙ e
 
 documents_read : (d : Documents) (rest : List Token) → (reading (items_documents d rest) None no_directives).ending ≡ None → contents (reading (items_documents d rest) None no_directives).events ≡ documents_say (documents_of d)

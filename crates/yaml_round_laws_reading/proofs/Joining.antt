@@ -1,15 +1,15 @@
 -- The plain reading of an input is what the machine reads.
 use Rattle.std.proofs.Common.{◌≡◌, ℕ, List, Option, Some, None, Result, Ok, Err, refl, ap, sym, subst, ◌∙◌}
-use Rattle.yaml_parse_laws_faults.specs.grammar.parse_model.declared.yaml_encoding_t.{yaml_encoding_t}
-use Rattle.yaml_parse_laws_faults.specs.grammar.parse_model.Tokens.{Token}
-use Rattle.yaml_parse_laws_faults.specs.grammar.parse_model.Faults.{Fault}
-use Rattle.yaml_parse_laws_faults.specs.grammar.Trees.{items}
-use Rattle.yaml_parse_laws_faults.specs.grammar.Machine.{Outcome, run, initial}
-use Rattle.yaml_parse_laws_faults.specs.grammar.Resolve.{Reading, reading, no_directives}
-use Rattle.yaml_parse_laws_faults.specs.grammar.Remaining.{reading_of}
-use Rattle.yaml_parse_laws_faults.proofs.grammar.CompleteStream.{stream_runs}
-use Rattle.yaml_parse_laws_faults.specs.Places.{BeginsWithSentence, FaultOfTokens}
-use Rattle.yaml_parse_laws_faults.proofs.Ending.{ends_in_fault, fault_ends}
+use Rattle.yaml_round_content.specs.round_laws.emit_laws_streams.parse.parse_laws_faults.grammar.parse_model.declared.yaml_encoding_t.{yaml_encoding_t}
+use Rattle.yaml_round_content.specs.round_laws.emit_laws_streams.parse.parse_laws_faults.grammar.parse_model.Tokens.{Token}
+use Rattle.yaml_round_content.specs.round_laws.emit_laws_streams.parse.parse_laws_faults.grammar.parse_model.Faults.{Fault}
+use Rattle.yaml_round_content.specs.round_laws.emit_laws_streams.parse.parse_laws_faults.grammar.Trees.{items}
+use Rattle.yaml_round_content.specs.round_laws.emit_laws_streams.parse.parse_laws_faults.grammar.Machine.{Outcome, run, initial}
+use Rattle.yaml_round_content.specs.round_laws.emit_laws_streams.parse.parse_laws_faults.grammar.Resolve.{Reading, reading, no_directives}
+use Rattle.yaml_round_content.specs.round_laws.emit_laws_streams.parse.parse_laws_faults.grammar.Remaining.{reading_of}
+use Rattle.yaml_round_content.proofs.round_laws.emit_laws_streams.parse.parse_laws_faults.grammar.CompleteStream.{stream_runs}
+use Rattle.yaml_round_content.specs.round_laws.emit_laws_streams.parse.parse_laws_faults.Places.{BeginsWithSentence, FaultOfTokens}
+use Rattle.yaml_round_content.proofs.round_laws.emit_laws_streams.parse.parse_laws_faults.Ending.{ends_in_fault, fault_ends}
 use Rattle.yaml_round_content.specs.Events.{contents}
 use Rattle.yaml_round_content.specs.Input.{tokens_of, read, events_of, ending_of}
 use Rattle.yaml_round_content.specs.Said.{Document, HasContent, stream_says}
@@ -25,7 +25,7 @@ abbrev pub reads : List Token → Option Fault → Reading
 reads ts own = reading_of (run ts initial own) no_directives
 
 -- a list that begins with a sentence is read as its tree's items are
-tree_read : (ts : List Token) (own : Option Fault) (b : BeginsWithSentence ts) → reads ts own ≡ reading (items b.tree b.rest) None no_directives
+pub tree_read : (ts : List Token) (own : Option Fault) (b : BeginsWithSentence ts) → reads ts own ≡ reading (items b.tree b.rest) None no_directives
 tree_read ts own b =
     ap (λ (us : List Token). reads us own) (b.same ∙ spelled_before b.tree b.rest) ∙ ap (λ (o : Outcome). reading_of o no_directives) (stream_runs b.tree b.rest own)
 
@@ -47,7 +47,7 @@ same_error o e f p q = cc
 
 -- ---- inputs
 
-read_is : (from : yaml_encoding_t) (input : List ℕ) → read from input ≡ reads (tokens_of from input).tokens (tokens_of from input).fault
+pub read_is : (from : yaml_encoding_t) (input : List ℕ) → read from input ≡ reads (tokens_of from input).tokens (tokens_of from input).fault
 unfolding read
 read_is from input = refl
 

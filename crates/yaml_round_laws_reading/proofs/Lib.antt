@@ -1,5 +1,10 @@
 mod Spelling
 mod Saying
 mod Documents
-mod Joining
+pub mod Joining
 mod Rows
+mod Placing
+mod Placed
+mod Numbered
+-- the laws beneath, for crates that name this one alone
+pub use Rattle.yaml_round_content.proofs as round_content

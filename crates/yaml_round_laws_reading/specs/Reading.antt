@@ -1,11 +1,11 @@
 -- The plain reading of an input: the content of the tree that its tokens are, or the fault of those.
 use Rattle.std.specs.Prelude.{◌≡◌, ℕ, List, Option, Some, None, Result, Ok, Err}
-use Rattle.yaml_parse_laws_faults.specs.grammar.parse_model.declared.yaml_encoding_t.{yaml_encoding_t}
-use Rattle.yaml_parse_laws_faults.specs.grammar.parse_model.Tokens.{Token}
-use Rattle.yaml_parse_laws_faults.specs.grammar.parse_model.Faults.{Fault}
-use Rattle.yaml_parse_laws_faults.specs.grammar.Trees.{items}
-use Rattle.yaml_parse_laws_faults.specs.grammar.Resolve.{reading, no_directives}
-use Rattle.yaml_parse_laws_faults.specs.Places.{BeginsWithSentence, FaultOfTokens}
+use Rattle.yaml_round_content.specs.round_laws.emit_laws_streams.parse.parse_laws_faults.grammar.parse_model.declared.yaml_encoding_t.{yaml_encoding_t}
+use Rattle.yaml_round_content.specs.round_laws.emit_laws_streams.parse.parse_laws_faults.grammar.parse_model.Tokens.{Token}
+use Rattle.yaml_round_content.specs.round_laws.emit_laws_streams.parse.parse_laws_faults.grammar.parse_model.Faults.{Fault}
+use Rattle.yaml_round_content.specs.round_laws.emit_laws_streams.parse.parse_laws_faults.grammar.Trees.{items}
+use Rattle.yaml_round_content.specs.round_laws.emit_laws_streams.parse.parse_laws_faults.grammar.Resolve.{Told, reading, no_directives}
+use Rattle.yaml_round_content.specs.round_laws.emit_laws_streams.parse.parse_laws_faults.Places.{BeginsWithSentence, FaultOfTokens}
 use Rattle.yaml_round_content.specs.Input.{tokens_of, events_of, ending_of}
 use Rattle.yaml_round_content.specs.Said.{Document, HasContent}
 use Rattle.yaml_round_laws_reading.specs.TreeContent.{tree_content}
@@ -23,6 +23,11 @@ TokensRead ts own (Err e) = FaultOfTokens ts own (Some e)
 -- The plain reading of an input, in an encoding or in the one that is detected.
 abbrev pub PlainReading : yaml_encoding_t → List ℕ → Result (List Document) Fault → Type 0
 PlainReading from input r = TokensRead (tokens_of from input).tokens (tokens_of from input).fault r
+
+-- The events of an input that is accepted: those of its tree, their tags resolved.
+pub record HasEvents (from : yaml_encoding_t) (input : List ℕ) (es : List Told) : Type 0 where
+  pub sentence : BeginsWithSentence (tokens_of from input).tokens
+  pub are : es ≡ (reading (items sentence.tree sentence.rest) None no_directives).events
 
 -- ---- laws
 

@@ -1,9 +1,14 @@
 //! Laws of the plain reading of an input: said of trees and of the fault of their tokens, it is what
-//! the engine reads. No code.
+//! the engine reads; and what is loaded of tokens that begin with a sentence is the numbering of their
+//! tree's documents. No code.
 #![tactic(auto)]
 
+ghost use Rattle.yaml_round_laws_reading.specs.Loading.{EventsArePlaced, InputsAreNumbered, LoadsAreNumbered, LoadsAreOneByOne};
 ghost use Rattle.yaml_round_laws_reading.specs.Reading.{EventsAreOfTree, InputsRead, ReadIsRefused, ReadIsSaid, ReadingIsOne, RefusedIsRead, SaidIsRead};
 ghost use Rattle.yaml_round_laws_reading.specs.Rows.{RowsHold};
+
+use yaml_parse_loader::loads_documents;
+pub use yaml_round_content::{content_is_laid_out, layout_is_of_content};
 
 /// Each input has a plain reading: a content, or a fault.
 pub fn each_input_has_a_reading()
@@ -43,4 +48,30 @@ pub fn events_are_of_the_tree()
 /// Lists of tokens with their contents.
 pub fn rows_of_contents_hold()
     ensures { RowsHold }
+{}
+
+/// Of every source: the events of tokens that begin with a sentence are the stream's start, those of the tree's documents,
+/// and its end.
+pub fn events_are_placed()
+    ensures { EventsArePlaced }
+{}
+
+/// Of every source: what such tokens load is the numbering of the tree's documents, up to the first alias that no node
+/// before it anchors.
+pub fn loads_are_numbered()
+    ensures { LoadsAreNumbered }
+{
+    loads_documents();
+}
+
+/// So is what an input loads that the parser accepts.
+pub fn inputs_are_numbered()
+    ensures { InputsAreNumbered }
+{
+    loads_documents();
+}
+
+/// The documents of events are those that `yaml_parser_load` gives, one after another.
+pub fn loads_are_one_by_one()
+    ensures { LoadsAreOneByOne }
 {}

@@ -1,19 +1,18 @@
 -- The laws of reloads, from the clauses of the calls.
 use Rattle.std.proofs.Common.{◌≡◌, ℕ, true, List, Ok, map, refl, sym, ap, ◌∙◌}
-use Rattle.yaml_round_laws_documents.specs.round_laws_back.content.round_laws.emit_laws_streams.scan.declared.yaml_encoding_t.{yaml_encoding_t}
-use Rattle.yaml_round_laws_documents.specs.round_laws_back.content.round_laws.emit_laws_streams.scan.declared.yaml_encoding_t.TheVariants.{YAML_ANY_ENCODING}
-use Rattle.yaml_round_laws_documents.specs.round_laws_back.content.Loads.{loads_of}
-use Rattle.yaml_round_laws_documents.specs.round_laws_back.content.Said as content
-use Rattle.yaml_round_laws_documents.specs.round_laws_back.content.Said.{HasContent}
-use Rattle.yaml_round_laws_documents.specs.round_laws_loads.Agree.{core_of, AreAgreeing}
-use Rattle.yaml_round_laws_documents.proofs.Whole.{inputs_load_alike, names_do_not_matter}
-use Rattle.yaml_round_laws_loads.proofs.Walks.{agreeing_said}
-use Rattle.yaml_round_laws_documents.proofs.round_laws_back.content.Inputs.{have_content}
+use Rattle.yaml_round.specs.round_laws_documents.round_laws_back.content.round_laws.emit_laws_streams.scan.declared.yaml_encoding_t.{yaml_encoding_t}
+use Rattle.yaml_round.specs.round_laws_documents.round_laws_back.content.round_laws.emit_laws_streams.scan.declared.yaml_encoding_t.TheVariants.{YAML_ANY_ENCODING}
+use Rattle.yaml_round.specs.round_laws_documents.round_laws_back.content.Loads.{loads_of}
+use Rattle.yaml_round.specs.round_laws_documents.round_laws_back.content.Said as content
+use Rattle.yaml_round.specs.round_laws_documents.round_laws_loads.Agree.{core_of, AreAgreeing}
+use Rattle.yaml_round.proofs.round_laws_documents.Whole.{inputs_load_alike, names_do_not_matter}
+use Rattle.yaml_round.proofs.round_laws_documents.round_laws_loads.Walks.{agreeing_said}
+use Rattle.yaml_round.proofs.round_laws_documents.round_laws_reading.Joining.{read_said}
 use Rattle.yaml_round.specs.declared.settings.yaml_settings_t.{yaml_settings_t}
 use Rattle.yaml_round.specs.declared.settings.yaml_form_t.{yaml_form_t}
 use Rattle.yaml_round.specs.declared.settings.yaml_form_t.TheVariants.{Canonical, Pretty}
 use Rattle.yaml_round.specs.Writing.{requested_under}
-use Rattle.yaml_round.specs.Answers.{IsReformatted, IsRight, ReadsBack, canonical_text}
+use Rattle.yaml_round.specs.Answers.{IsReformatted, ReadsBack, canonical_text}
 use Rattle.yaml_round.specs.Reload.{IsReloaded, IsNormalOfDocuments}
 use Rattle.yaml_round_laws_reloads.specs.Laws.{ReloadsTellDocuments, AnswersAndReloadsAgree, NamesLeaveReloads}
 
@@ -31,23 +30,15 @@ tell s a_from b_from a b t u h k =
 
 -- ---- rewriting and reloading
 
-right_of : (from : yaml_encoding_t) (s : yaml_settings_t) (input text : List ℕ) (form : yaml_form_t) → IsReformatted from s input (Ok (text, form)) → IsRight from input
-unfolding IsReformatted
-right_of from s input text Canonical h = h.1.0.0
-right_of from s input text Pretty h = h.1.0.0
-
 read_back : (from : yaml_encoding_t) (s : yaml_settings_t) (input text : List ℕ) (form : yaml_form_t) → IsReformatted from s input (Ok (text, form)) → ReadsBack from input text
 unfolding IsReformatted
-read_back from s input text Canonical h = record { right = h.1.1.of_text.right; same = h.1.1.of_input.says ∙ sym h.1.1.of_text.says }
+read_back from s input text Canonical h = record { content = h.1.1.content; first = h.1.1.of_input; second = h.1.1.of_text }
 read_back from s input text Pretty h = h.1.1
 
 pub agree : AnswersAndReloadsAgree
 agree from s z input t u form h k =
-    let found = have_content from input (right_of from s input t form h) in
-    let c = found.0 in
     let back = read_back from s input t form h in
-    let of_text : HasContent YAML_ANY_ENCODING t c = record { right = back.right; says = sym back.same ∙ found.1.says } in
-    let alike = inputs_load_alike c from input found.1 YAML_ANY_ENCODING t of_text in
+    let alike = inputs_load_alike back.content from input (read_said from input back.content back.first) YAML_ANY_ENCODING t (read_said YAML_ANY_ENCODING t back.content back.second) in
     sym alike.agree ∙ (normal_of from z input u k).agree
 
 -- ---- names

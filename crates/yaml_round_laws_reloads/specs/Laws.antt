@@ -1,11 +1,11 @@
 -- What follows from the definitions of answers, for loaded documents.
 use Rattle.std.specs.Prelude.{◌≡◌, ◌↔◌, ℕ, List, Ok}
-use Rattle.yaml_round_laws_documents.specs.round_laws_back.content.round_laws.emit_laws_streams.scan.declared.yaml_encoding_t.{yaml_encoding_t}
-use Rattle.yaml_round_laws_documents.specs.round_laws_back.content.round_laws.emit_laws_streams.scan.declared.yaml_encoding_t.TheVariants.{YAML_ANY_ENCODING}
-use Rattle.yaml_round_laws_documents.specs.round_laws_back.content.Loads.{loads_of}
-use Rattle.yaml_round_laws_documents.specs.round_laws_back.content.Said.{Document, HasContent}
-use Rattle.yaml_round_laws_documents.specs.round_laws_loads.Agree.{AreAgreeing}
-use Rattle.yaml_round_laws_documents.specs.round_laws_loads.Renamed.{Renaming, renamed, AreOneToOne}
+use Rattle.yaml_round.specs.round_laws_documents.round_laws_back.content.round_laws.emit_laws_streams.scan.declared.yaml_encoding_t.{yaml_encoding_t}
+use Rattle.yaml_round.specs.round_laws_documents.round_laws_back.content.round_laws.emit_laws_streams.scan.declared.yaml_encoding_t.TheVariants.{YAML_ANY_ENCODING}
+use Rattle.yaml_round.specs.round_laws_documents.round_laws_back.content.Loads.{loads_of}
+use Rattle.yaml_round.specs.round_laws_documents.round_laws_back.content.Said.{Document, HasContent}
+use Rattle.yaml_round.specs.round_laws_documents.round_laws_loads.Agree.{AreAgreeing}
+use Rattle.yaml_round.specs.round_laws_documents.round_laws_loads.Renamed.{Renaming, renamed, AreOneToOne}
 use Rattle.yaml_round.specs.declared.settings.yaml_settings_t.{yaml_settings_t}
 use Rattle.yaml_round.specs.declared.settings.yaml_form_t.{yaml_form_t}
 use Rattle.yaml_round.specs.Answers.{IsReformatted}

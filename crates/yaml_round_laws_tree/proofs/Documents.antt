@@ -35,7 +35,7 @@ nodes_parsed o e = nodes_grown o.directives (resolving o e)
 turn_says : (s : Settled) (b : EventBody) (D : Directives) (i : item.RawEvent) (n : ℕ) (k : Directives → Reading) → s ≡ gave b D → Says (λ es. b ∷ es) (read_on s i n k) (k D)
 turn_says s b D i n k e = let P : Settled → Type 0 = λ x. Says (λ es. b ∷ es) (read_on x i n k) (k D) in subst P (sym e) (record { events = refl; ending = refl })
 
-item_says : (g : Given) (gs : List Given) (f : Option Fault) (D E : Directives) (b : EventBody) → settle g.0 D ≡ gave b E → Says (λ es. b ∷ es) (reading (g ∷ gs) f D) (reading gs f E)
+pub item_says : (g : Given) (gs : List Given) (f : Option Fault) (D E : Directives) (b : EventBody) → settle g.0 D ≡ gave b E → Says (λ es. b ∷ es) (reading (g ∷ gs) f D) (reading gs f E)
 unfolding reading
 item_says g gs f D E b e = turn_says (settle g.0 D) b E g.0 g.1 (λ x. reading gs f x) e
 
@@ -100,11 +100,11 @@ version_directed (Some v) ds known fine ts bs e =
 
 -- ---- documents
 
-abbrev no_spans : List Span → Bool
+abbrev pub no_spans : List Span → Bool
 no_spans [] = true
 no_spans (s ∷ ss) = false
 
-ends_say : (ends : List Span) (more : List Token) (gs : List Given) (f : Option Fault) (D : Directives) → Says (λ es. event.document_end (no_spans ends) ∷ es) (reading (items_ends ends more gs) f D) (reading gs f no_directives)
+pub ends_say : (ends : List Span) (more : List Token) (gs : List Given) (f : Option Fault) (D : Directives) → Says (λ es. event.document_end (no_spans ends) ∷ es) (reading (items_ends ends more gs) f D) (reading gs f no_directives)
 ends_say [] more gs f D = item_says _ gs f D no_directives (event.document_end true) refl
 ends_say (s ∷ ends) more gs f D = item_says _ gs f D no_directives (event.document_end false) refl
 

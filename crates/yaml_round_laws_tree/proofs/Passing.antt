@@ -17,7 +17,7 @@ use Rattle.yaml_emit_laws_canonical.specs.Bodies.{tag_body, anchor_bodies, tag_b
 use Rattle.yaml_round_laws_tree.specs.Laws.{token_bodies}
 use Rattle.yaml_round_laws_tree.specs.Adapting.{IsReadableTag, IsTagged, AreTagged, PairsAreTagged, HaveTexts, without_fault, CanonicalTokensPass}
 
-abbrev Spell : List TokenBody → Type 0
+abbrev pub Spell : List TokenBody → Type 0
 Spell [] = Unit {0}
 Spell (b ∷ bs) = (spells_text b ≡ true) × Spell bs
 
@@ -99,7 +99,7 @@ documents_spell unended (d ∷ ds) (us, r, rs) =
     end_spells (unended && is_directed o) (version_bodies o.version (directives_bodies o.directives root))
     (version_spells o.version (directives_bodies o.directives root) (directives_spell o.directives us root said))
 
-passes : (ts : List Token) → Spell (token_bodies ts) → cut None ts ≡ without_fault ts
+pub passes : (ts : List Token) → Spell (token_bodies ts) → cut None ts ≡ without_fault ts
 passes [] s = refl
 passes (t ∷ ts) (s, ss) = rw s (ap (λ (c : Remaining). with_token t c) (passes ts ss))
 

@@ -1,2 +1,3 @@
 mod Rewriting
 mod Comparing
+mod Shaped

@@ -9,28 +9,33 @@ use Rattle.yaml_round.specs.round_laws_back.content.round_laws.emit_laws_streams
 use Rattle.yaml_round.specs.round_laws_back.content.round_laws.emit_laws_streams.emit.Emitter.{Passes}
 use Rattle.yaml_round.specs.round_laws_back.content.round_laws.emit_laws_streams.emit.emit_text.declared.Encoding.{Encoding}
 use Rattle.yaml_round.specs.round_laws_back.content.Input.{ending_of, events_of}
-use Rattle.yaml_round.specs.round_laws_back.content.Said.{Document, HasContent, stream_says}
+use Rattle.yaml_round.specs.round_laws_back.content.Said.{Document, HasContent}
+use Rattle.yaml_round.specs.round_laws_back.content.round_laws.emit_laws_streams.parse.Resolve.{Told}
+use Rattle.yaml_round.specs.round_laws_reading.Reading.{PlainReading}
 use Rattle.yaml_round.specs.round_laws_back.content.Canon.{canon_items, canon_encoding}
 use Rattle.yaml_round.specs.declared.settings.yaml_settings_t.{yaml_settings_t}
 use Rattle.yaml_round.specs.declared.settings.yaml_form_t.{yaml_form_t}
 use Rattle.yaml_round.specs.declared.settings.yaml_form_t.TheVariants.{Canonical, Pretty}
 use Rattle.yaml_round.specs.Reading.{emitter_events}
 use Rattle.yaml_round.specs.Writing.{requested_under}
-use Rattle.yaml_round.specs.Answers.{IsReformatted, IsNormalForm, IsFaulty, IsLayout, IsPast, SameContent, canonical_text}
-use Rattle.yaml_round.proofs.Normal.{canonical_under, text_is, text_fits}
-use Rattle.yaml_round.proofs.round_laws_back.content.Injective.{says_injective}
+use Rattle.yaml_round.specs.Answers.{IsReformatted, IsNormalForm, IsFaulty, IsTooLong, IsLayout, IsPast, SameContent, canonical_text}
+use Rattle.yaml_round.proofs.Normal.{canonical_under, text_is, text_fits, laid_of}
+use Rattle.yaml_round.proofs.Plain.{faulty_ending, events_are}
+use Rattle.yaml_round.proofs.round_laws_reading.Joining.{read_said}
 use Rattle.yaml_round.proofs.round_laws_back.Whole.{layout_is_of_input}
+use Rattle.yaml_round_laws_users.proofs.Comparing.{one_content, turned, equivalence}
 use Rattle.yaml_round_laws_users.specs.Laws.{AnswersReadBack, SettingsDoNotMatter, CanonicalAnswersTellContents, RewritingIsStill, asking}
 
 -- ---- reading back
 
 pub answer_reads_back : AnswersReadBack
 unfolding IsReformatted
-answer_reads_back from s input text Canonical h = record { right = h.1.1.of_text.right; same = h.1.1.of_input.says ∙ sym h.1.1.of_text.says }
+answer_reads_back from s input text Canonical h = record { content = h.1.1.content; first = h.1.1.of_input; second = h.1.1.of_text }
 answer_reads_back from s input text Pretty h = h.1.1
 
 pub no_matter : SettingsDoNotMatter
-no_matter from s z input t u f g h k = sym (answer_reads_back from s input t f h).same ∙ (answer_reads_back from z input u g k).same
+no_matter from s z input t u f g h k =
+    equivalence.transitive YAML_ANY_ENCODING from YAML_ANY_ENCODING t input u (turned from YAML_ANY_ENCODING input t (answer_reads_back from s input t f h)) (answer_reads_back from z input u g k)
 
 -- ---- canonical answers
 
@@ -39,11 +44,17 @@ unfolding IsReformatted
 normal_of from s input text h = h.1.1
 
 told_apart : (s : yaml_settings_t) (a_from b_from : yaml_encoding_t) (a b t u : List ℕ) → IsNormalForm a_from s a t → IsNormalForm b_from s b u → t ≡ u → SameContent a_from a b_from b
-told_apart s a_from b_from a b t u p q e = p.of_input.says ∙ ap stream_says (sym (p.only b_from b q.content q.of_input (sym q.is ∙ sym e))) ∙ sym q.of_input.says
+told_apart s a_from b_from a b t u p q e = record {
+  content = p.content;
+  first = p.of_input;
+  second = subst (λ (c : List Document). PlainReading b_from b (Ok c)) (p.only b_from b q.content q.of_input (sym q.is ∙ sym e)) q.of_input;
+}
 
 told_equal : (s : yaml_settings_t) (a_from b_from : yaml_encoding_t) (a b t u : List ℕ) → IsNormalForm a_from s a t → IsNormalForm b_from s b u → SameContent a_from a b_from b → t ≡ u
 told_equal s a_from b_from a b t u p q same =
-    p.is ∙ ap (canonical_text s) (says_injective p.content q.content (sym p.of_input.says ∙ same ∙ q.of_input.says)) ∙ sym q.is
+    p.is
+    ∙ ap (canonical_text s) (one_content a_from a p.content same.content p.of_input same.first ∙ one_content b_from b same.content q.content same.second q.of_input)
+    ∙ sym q.is
 
 pub tell : CanonicalAnswersTellContents
 tell s a_from b_from a b t u h k =
@@ -58,7 +69,7 @@ none_is_past limit x whole f fits (inl p) = let (is, size) = p in let kept = fit
 none_is_past limit x whole f fits (inr p) = let (is, deep) = p in true≢false (sym (sym fits.columns ∙ deep))
 
 no_fault : (from : yaml_encoding_t) (input : List ℕ) (f : Fault) → ending_of from input ≡ None → IsFaulty from input f → ⊥
-no_fault from input f h k = let bad : None ≡ Some f = sym h ∙ k in absurd cc
+no_fault from input f h k = let bad : None ≡ Some f = sym h ∙ faulty_ending from input f k in absurd cc
 
 -- a text that is laid out and fits is past no limit
 not_too_long : (s : yaml_settings_t) (text : List ℕ) (c : List Document) (f : Fault) → HasContent YAML_ANY_ENCODING text c
@@ -71,16 +82,20 @@ not_too_long s text c f h laid past =
     (subst (λ (x : Encoding). Passes s.limit (encode x past.whole) (is_deep past.whole) f) p.0 past.passes) in
     none_is_past s.limit (canon_encoding w) (canon_items w c) f (text_fits YAML_ANY_ENCODING text s c text h laid) passes
 
+-- past a limit, of the events that the machine reads
+past_of : (s : yaml_settings_t) (text : List ℕ) (f : Fault) → IsTooLong YAML_ANY_ENCODING text (asking s) true f → IsPast (requested_under s true) s.limit (emitter_events true (events_of YAML_ANY_ENCODING text)) f
+past_of s text f h = subst (λ (es : List Told). IsPast (requested_under s true) s.limit (emitter_events true es) f) (events_are YAML_ANY_ENCODING text h.events h.of_input) h.past
+
 still_from : (from : yaml_encoding_t) (s : yaml_settings_t) (input text : List ℕ) (result : Result (List ℕ × yaml_form_t) Fault) → IsNormalForm from s input text → IsReformatted YAML_ANY_ENCODING (asking s) text result → result ≡ Ok (text, Canonical)
 unfolding IsReformatted
-still_from from s input text (Ok (u, Canonical)) n k = ap (λ (x : List ℕ). Ok (x, Canonical)) (text_is YAML_ANY_ENCODING text (asking s) n.content u n.of_text k.1.0.1 ∙ sym n.is)
+still_from from s input text (Ok (u, Canonical)) n k = ap (λ (x : List ℕ). Ok (x, Canonical)) (text_is YAML_ANY_ENCODING text (asking s) n.content u (read_said YAML_ANY_ENCODING text n.content n.of_text) (laid_of YAML_ANY_ENCODING (asking s) text u true k.1.0) ∙ sym n.is)
 still_from from s input text (Ok (u, Pretty)) n k = absurd (true≢false k.0)
 still_from from s input text (Err f) n k =
     absurd (elim k [
-      | inl q ↦ no_fault YAML_ANY_ENCODING text f n.of_text.right q
+      | inl q ↦ no_fault YAML_ANY_ENCODING text f (read_said YAML_ANY_ENCODING text n.content n.of_text).right q
       | inr p ↦ elim p [
         | inl a ↦ true≢false a.0
-        | inr b ↦ not_too_long s text n.content f n.of_text n.again.1 b.1.1
+        | inr b ↦ not_too_long s text n.content f (read_said YAML_ANY_ENCODING text n.content n.of_text) (laid_of YAML_ANY_ENCODING s text text true n.again) (past_of s text f b.1)
       ]
     ])
 

@@ -1,12 +1,13 @@
 -- What follows from the definitions of answers.
-use Rattle.std.specs.Prelude.{◌≡◌, ◌↔◌, ℕ, Bool, true, List, Result, Ok}
+use Rattle.std.specs.Prelude.{◌≡◌, ◌↔◌, ◌⊎◌, ℕ, Bool, true, false, List, Result, Ok, Err}
 use Rattle.yaml_round.specs.round_laws_back.content.round_laws.emit_laws_streams.scan.declared.yaml_encoding_t.{yaml_encoding_t}
 use Rattle.yaml_round.specs.round_laws_back.content.round_laws.emit_laws_streams.scan.declared.yaml_encoding_t.TheVariants.{YAML_ANY_ENCODING}
 use Rattle.yaml_round.specs.round_laws_back.content.round_laws.emit_laws_streams.scan.Faults.{Fault}
 use Rattle.yaml_round.specs.declared.settings.yaml_settings_t.{yaml_settings_t}
 use Rattle.yaml_round.specs.declared.settings.yaml_form_t.{yaml_form_t}
-use Rattle.yaml_round.specs.declared.settings.yaml_form_t.TheVariants.{Canonical}
-use Rattle.yaml_round.specs.Answers.{IsReformatted, IsCompared, ReadsBack, SameContent}
+use Rattle.yaml_round.specs.declared.settings.yaml_form_t.TheVariants.{Canonical, Pretty}
+use Rattle.yaml_round.specs.Answers.{IsRight, IsReformatted, IsLaidOut, IsFaulty, IsTooLong, IsCompared, ReadsBack, SameContent}
+use Rattle.yaml_round.specs.round_laws_kept.Laws.{IsJsonInput}
 
 -- ---- rewriting
 
@@ -39,11 +40,29 @@ RewritingIsStill = (from : yaml_encoding_t) (s : yaml_settings_t) (input text : 
     → IsReformatted from s input (Ok (text, Canonical))
     → IsReformatted YAML_ANY_ENCODING (asking s) text result → result ≡ Ok (text, Canonical)
 
+-- ---- text shaped as JSON
+
+-- The pretty layout of the input; or its fault, or the limit that this layout passes.
+abbrev pub IsPrettyAnswer : yaml_encoding_t → yaml_settings_t → List ℕ
+    → Result (List ℕ × yaml_form_t) Fault → Type 0
+IsPrettyAnswer from s input (Ok (text, Canonical)) = ⊥
+IsPrettyAnswer from s input (Ok (text, Pretty)) = IsLaidOut from input s false text
+IsPrettyAnswer from s input (Err fault) = IsFaulty from input fault
+    ⊎ IsTooLong from input s false fault
+
+-- Where canonical form isn't asked for, an input shaped as JSON is answered in pretty form, unless its
+-- pretty layout passes a limit.
+abbrev pub JsonStaysPretty : Type 0
+JsonStaysPretty = (from : yaml_encoding_t) (s : yaml_settings_t) (input : List ℕ)
+    (result : Result (List ℕ × yaml_form_t) Fault) → s.canonical ≡ false → IsJsonInput from input
+    → IsReformatted from s input result → IsPrettyAnswer from s input result
+
 -- ---- comparing
 
--- Each input has its own content; of two that have the same content each has the other's; and content passes on.
+-- Each input that is accepted has its own content; of two that have the same content each has the other's; and content passes on.
 pub record SameContentIsAnEquivalence : Type 0 where
-  pub reflexive : (from : yaml_encoding_t) (a : List ℕ) → SameContent from a from a
+  pub reflexive : (from : yaml_encoding_t) (a : List ℕ) → IsRight from a
+      → SameContent from a from a
   pub symmetric : (a_from b_from : yaml_encoding_t) (a b : List ℕ) → SameContent a_from a b_from b
       → SameContent b_from b a_from a
   pub transitive : (a_from b_from c_from : yaml_encoding_t) (a b c : List ℕ)

@@ -4,6 +4,7 @@ ghost use Rattle.yaml_round_laws_users.specs.Laws.{
   AnswersReadBack,
   CanonicalAnswersTellContents,
   ComparisonsAgree,
+  JsonStaysPretty,
   RewritingIsStill,
   SameContentIsAnEquivalence,
   SettingsDoNotMatter,
@@ -28,6 +29,12 @@ pub fn canonical_answers_tell_contents()
 /// again: no byte changes, and no limit is passed.
 pub fn rewriting_is_still()
     ensures { RewritingIsStill }
+{}
+
+/// Where canonical form isn't asked for, `yaml_reformat` answers an input shaped as JSON in pretty form, and refuses it only for a
+/// fault of its own or for the limit that this form passes.
+pub fn json_stays_pretty()
+    ensures { JsonStaysPretty }
 {}
 
 /// Of inputs, to have the same content is an equivalence.

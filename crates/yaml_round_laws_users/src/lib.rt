@@ -5,6 +5,6 @@
 mod laws;
 
 pub use laws::{
-    answers_read_back, canonical_answers_tell_contents, comparisons_agree, rewriting_is_still,
-    same_content_is_an_equivalence, settings_do_not_matter,
+    answers_read_back, canonical_answers_tell_contents, comparisons_agree, json_stays_pretty,
+    rewriting_is_still, same_content_is_an_equivalence, settings_do_not_matter,
 };

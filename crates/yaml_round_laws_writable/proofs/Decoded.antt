@@ -3,13 +3,13 @@ use Rattle.std.proofs.Common.{◌≡◌, ℕ, zero, suc, ◌+◌, ◌-◌, ◌*�
 use Rattle.std.specs.Char.{IsScalar}
 use Rattle.std.specs.Str.{all_scalars}
 use Rattle.std.proofs.lemmas.List.Elements.{All-nil}
-use Rattle.yaml_round_content.specs.round_laws.emit_laws_streams.scan.declared.yaml_encoding_t.{yaml_encoding_t}
-use Rattle.yaml_round_content.specs.round_laws.emit_laws_streams.scan.declared.yaml_encoding_t.TheVariants.{YAML_ANY_ENCODING, YAML_UTF8_ENCODING, YAML_UTF16LE_ENCODING, YAML_UTF16BE_ENCODING}
-use Rattle.yaml_round_content.specs.round_laws.emit_laws_streams.scan.Classes.{width_of}
-use Rattle.yaml_round_content.specs.round_laws.emit_laws_streams.scan.Tokens.{Token}
-use Rattle.yaml_round_content.specs.round_laws.emit_laws_streams.scan.Scanned.{scanned_in}
-use Rattle.yaml_round_content.specs.round_laws.emit_laws_streams.parse.Source as source
-use Rattle.yaml_round_content.specs.Input.{tokens_of}
+use Rattle.yaml_round_laws_reading.specs.round_content.round_laws.emit_laws_streams.scan.declared.yaml_encoding_t.{yaml_encoding_t}
+use Rattle.yaml_round_laws_reading.specs.round_content.round_laws.emit_laws_streams.scan.declared.yaml_encoding_t.TheVariants.{YAML_ANY_ENCODING, YAML_UTF8_ENCODING, YAML_UTF16LE_ENCODING, YAML_UTF16BE_ENCODING}
+use Rattle.yaml_round_laws_reading.specs.round_content.round_laws.emit_laws_streams.scan.Classes.{width_of}
+use Rattle.yaml_round_laws_reading.specs.round_content.round_laws.emit_laws_streams.scan.Tokens.{Token}
+use Rattle.yaml_round_laws_reading.specs.round_content.round_laws.emit_laws_streams.scan.Scanned.{scanned_in}
+use Rattle.yaml_round_laws_reading.specs.round_content.round_laws.emit_laws_streams.parse.Source as source
+use Rattle.yaml_round_laws_reading.specs.round_content.Input.{tokens_of}
 use Rattle.yaml_round_adapter.specs.Adapted.{adapted}
 use Rattle.yaml_round_adapter.proofs.AdaptedLemmas.{adapted_utf8}
 use Rattle.yaml_scan_decode.specs.declared.offence.Offence.{Offence}

@@ -4,20 +4,20 @@ use Rattle.std.proofs.lemmas.Bool.Decides.{nat_tests}
 use Rattle.std.proofs.lemmas.Slice.Eq.{bytes_eq-Decides}
 use Rattle.std.specs.List.{list_all}
 use Rattle.std.specs.Str.{bytes_eq}
-use Rattle.yaml_round_content.specs.round_laws.emit_laws_streams.scan.declared.yaml_scalar_style_t.{yaml_scalar_style_t}
-use Rattle.yaml_round_content.specs.round_laws.emit_laws_streams.scan.Classes.{is_alpha_byte}
-use Rattle.yaml_round_content.specs.round_laws.emit_laws_streams.parse.Constructors.{HasUtf8, IsUtf8Option, AreUtf8}
-use Rattle.yaml_round_content.specs.round_laws.emit_laws_streams.parse.Events.{EventBody, TagDirective}
-use Rattle.yaml_round_content.specs.round_laws.emit_laws_streams.parse.Events as event
-use Rattle.yaml_round_content.specs.round_laws.emit_laws_streams.parse.Resolve.{Told}
-use Rattle.yaml_round_content.specs.round_laws.emit_laws_streams.emit.emit_layout.declared.Problem.{Problem}
-use Rattle.yaml_round_content.specs.round_laws.emit_laws_streams.emit.emit_layout.declared.Problem.TheVariants as problem
-use Rattle.yaml_round_content.specs.round_laws.emit_laws_streams.emit.Content.{Opening, emitter_event}
-use Rattle.yaml_round_content.specs.round_laws.emit_laws_streams.emit.Grammar.{opening_problem, or_else, name_problem, anchor_problem, tag_problem, event_problem, last_problem, own_problem, own_problems}
-use Rattle.yaml_round_content.specs.Normalize.{is_lone_mark, normalize_scalar, normalize_body}
-use Rattle.yaml_round_content.specs.Content.{content_of}
-use Rattle.yaml_round_content.specs.Events.{emitter_events, contents}
-use Rattle.yaml_round_content.proofs.round_laws.Emitted.{or_both}
+use Rattle.yaml_round_laws_reading.specs.round_content.round_laws.emit_laws_streams.scan.declared.yaml_scalar_style_t.{yaml_scalar_style_t}
+use Rattle.yaml_round_laws_reading.specs.round_content.round_laws.emit_laws_streams.scan.Classes.{is_alpha_byte}
+use Rattle.yaml_round_laws_reading.specs.round_content.round_laws.emit_laws_streams.parse.Constructors.{HasUtf8, IsUtf8Option, AreUtf8}
+use Rattle.yaml_round_laws_reading.specs.round_content.round_laws.emit_laws_streams.parse.Events.{EventBody, TagDirective}
+use Rattle.yaml_round_laws_reading.specs.round_content.round_laws.emit_laws_streams.parse.Events as event
+use Rattle.yaml_round_laws_reading.specs.round_content.round_laws.emit_laws_streams.parse.Resolve.{Told}
+use Rattle.yaml_round_laws_reading.specs.round_content.round_laws.emit_laws_streams.emit.emit_layout.declared.Problem.{Problem}
+use Rattle.yaml_round_laws_reading.specs.round_content.round_laws.emit_laws_streams.emit.emit_layout.declared.Problem.TheVariants as problem
+use Rattle.yaml_round_laws_reading.specs.round_content.round_laws.emit_laws_streams.emit.Content.{Opening, emitter_event}
+use Rattle.yaml_round_laws_reading.specs.round_content.round_laws.emit_laws_streams.emit.Grammar.{opening_problem, or_else, name_problem, anchor_problem, tag_problem, event_problem, last_problem, own_problem, own_problems}
+use Rattle.yaml_round_laws_reading.specs.round_content.Normalize.{is_lone_mark, normalize_scalar, normalize_body}
+use Rattle.yaml_round_laws_reading.specs.round_content.Content.{content_of}
+use Rattle.yaml_round_laws_reading.specs.round_content.Events.{emitter_events, contents}
+use Rattle.yaml_round_laws_reading.proofs.round_content.round_laws.Emitted.{or_both}
 use Rattle.yaml_round_laws_writable.specs.Writable.{IsName, IsAnchor, IsTag, HavePrefixes}
 use Rattle.yaml_round_laws_writable.specs.Laws.{HaveUtf8Texts}
 use Rattle.yaml_round_laws_writable.proofs.Scalars.{IsNoMark, IsScalarRight, IsRight, AreRight}

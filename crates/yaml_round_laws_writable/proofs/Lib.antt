@@ -6,4 +6,5 @@ pub mod Utf8
 mod Events
 pub mod Contents
 -- what it stands on, for crates that name this one alone
-pub use Rattle.yaml_round_content.proofs as content
+pub use Rattle.yaml_round_laws_reading.proofs.round_content as content
+pub use Rattle.yaml_round_laws_reading.proofs as round_laws_reading

@@ -1,17 +1,17 @@
 -- What an input says may be written, and how its events are flagged.
 use Rattle.std.specs.Prelude.{◌≡◌, ℕ, true, List, [], ◌∷◌}
-use Rattle.yaml_round_content.specs.round_laws.emit_laws_streams.scan.declared.yaml_encoding_t.{yaml_encoding_t}
-use Rattle.yaml_round_content.specs.round_laws.emit_laws_streams.parse.Constructors.{HasUtf8}
-use Rattle.yaml_round_content.specs.round_laws.emit_laws_streams.parse.Resolve.{Told}
-use Rattle.yaml_round_content.specs.round_laws.emit_laws_streams.emit.Emitter.{IsStream}
-use Rattle.yaml_round_content.specs.round_laws.emit_laws_streams.emit.Text.{Item}
-use Rattle.yaml_round_content.specs.round_laws.emit_laws_streams.emit.emit_text.declared.Encoding.{Encoding}
-use Rattle.yaml_round_content.specs.round_laws.emit_laws_streams.emit.emit_text.declared.RequestedSettings.{RequestedSettings}
-use Rattle.yaml_round_content.specs.Events.{emitter_events}
-use Rattle.yaml_round_content.specs.Input.{events_of}
-use Rattle.yaml_round_content.specs.Said.{Document, HasContent}
-use Rattle.yaml_round_content.specs.Canon.{canon_items, canon_encoding}
-use Rattle.yaml_round_content.specs.Laws.{AreCanonical, AreFlagged}
+use Rattle.yaml_round_laws_reading.specs.round_content.round_laws.emit_laws_streams.scan.declared.yaml_encoding_t.{yaml_encoding_t}
+use Rattle.yaml_round_laws_reading.specs.round_content.round_laws.emit_laws_streams.parse.Constructors.{HasUtf8}
+use Rattle.yaml_round_laws_reading.specs.round_content.round_laws.emit_laws_streams.parse.Resolve.{Told}
+use Rattle.yaml_round_laws_reading.specs.round_content.round_laws.emit_laws_streams.emit.Emitter.{IsStream}
+use Rattle.yaml_round_laws_reading.specs.round_content.round_laws.emit_laws_streams.emit.Text.{Item}
+use Rattle.yaml_round_laws_reading.specs.round_content.round_laws.emit_laws_streams.emit.emit_text.declared.Encoding.{Encoding}
+use Rattle.yaml_round_laws_reading.specs.round_content.round_laws.emit_laws_streams.emit.emit_text.declared.RequestedSettings.{RequestedSettings}
+use Rattle.yaml_round_laws_reading.specs.round_content.Events.{emitter_events}
+use Rattle.yaml_round_laws_reading.specs.round_content.Input.{events_of}
+use Rattle.yaml_round_laws_reading.specs.round_content.Said.{Document, HasContent}
+use Rattle.yaml_round_laws_reading.specs.round_content.Canon.{canon_items, canon_encoding}
+use Rattle.yaml_round_laws_reading.specs.round_content.Laws.{AreCanonical, AreFlagged}
 use Rattle.yaml_round_laws_writable.specs.Writable.{AreWritable}
 
 -- ---- flags

@@ -4,11 +4,11 @@
 use Rattle.std.specs.Prelude.{◌≡◌, ℕ, ◌<◌, true, List, [], ◌∷◌, length, codes, Option, Some, None}
 use Rattle.std.specs.List.{list_all}
 use Rattle.std.specs.Str.{IsUtf8}
-use Rattle.yaml_round_content.specs.round_laws.emit_laws_streams.scan.Classes.{is_alpha_byte}
-use Rattle.yaml_round_content.specs.round_laws.emit_laws_streams.parse.Events.{TagDirective}
-use Rattle.yaml_round_content.specs.round_laws.emit_laws_streams.emit.Grammar.{opening_problem}
-use Rattle.yaml_round_content.specs.Said.{Mark, untagged, tagged, Node, alias, scalar, sequence, mapping, Nodes, no_nodes, node, Pairs, no_pairs, pair, Document}
-use Rattle.yaml_round_content.specs.Canon.{written_document}
+use Rattle.yaml_round_laws_reading.specs.round_content.round_laws.emit_laws_streams.scan.Classes.{is_alpha_byte}
+use Rattle.yaml_round_laws_reading.specs.round_content.round_laws.emit_laws_streams.parse.Events.{TagDirective}
+use Rattle.yaml_round_laws_reading.specs.round_content.round_laws.emit_laws_streams.emit.Grammar.{opening_problem}
+use Rattle.yaml_round_laws_reading.specs.round_content.Said.{Mark, untagged, tagged, Node, alias, scalar, sequence, mapping, Nodes, no_nodes, node, Pairs, no_pairs, pair, Document}
+use Rattle.yaml_round_laws_reading.specs.round_content.Canon.{written_document}
 
 -- one or more of 0-9 A-Z a-z _ -
 abbrev pub IsName : List ℕ → Type 0

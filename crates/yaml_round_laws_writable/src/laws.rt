@@ -8,7 +8,7 @@ ghost use Rattle.yaml_round_laws_writable.specs.Laws.{
   LayoutIsOfInputsContent,
 };
 
-use yaml_round_content::{content_is_laid_out, layout_is_of_content};
+use yaml_round_laws_reading::{content_is_laid_out, layout_is_of_content};
 
 /// Of an input's normalized events an untagged scalar is quoted-implicit exactly where it isn't plain-implicit.
 pub fn inputs_are_flagged()

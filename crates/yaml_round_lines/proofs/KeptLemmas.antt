@@ -52,3 +52,15 @@ run_and_byte line middle grown text n k inside h g =
     let whole = take_all (length text - (n + 1)) (drop (n + 1) text) (omega (arith, length-drop (n + 1) text)) in
     let behind = ap escaped (drop_more text n 0 inside) in
     rw (whole, g, h, kept_front text n k, behind) (append_assoc (line ++ take n text) own rest ∙ append_assoc line (take n text) (own ++ rest))
+
+-- the kept bytes in front, and the rest, are the text
+pub front_and_rest : (line grown text : List ℕ) (n : ℕ) → Kept text n → grown ≡ line ++ take n text
+    → grown ++ escaped (take (length text - n) (drop n text)) ≡ line ++ escaped text
+front_and_rest line grown text n k g =
+    let whole = take_all (length text - n) (drop n text) (omega (arith, length-drop n text)) in
+    rw (whole, g, kept_front text n k) (append_assoc line (take n text) (escaped (drop n text)))
+
+-- one byte more of the front was added
+pub front_more : (line grown new text : List ℕ) (n : ℕ) → n < length text → grown ≡ line ++ take n text → new ≡ grown ++ slice_index text n ∷ [] → new ≡ line ++ take (n + 1) text
+front_more line grown new text n inside g h =
+    h ∙ ap (λ (t : List ℕ). t ++ slice_index text n ∷ []) g ∙ append_assoc line (take n text) (slice_index text n ∷ []) ∙ ap (λ (t : List ℕ). line ++ t) (sym (take_more text n 0 inside))

@@ -1,6 +1,6 @@
 //! The line that tells an event.
 
-ghost use Rattle.std.specs.Prelude.{◌≡◌, ◌+◌, ◌<◌, ◌≤◌, ◌++◌, [], ◌∷◌, length, take, OnOk, IfOk};
+ghost use Rattle.std.specs.Prelude.{◌≡◌, ◌+◌, ◌<◌, ◌≤◌, ◌++◌, [], ◌∷◌, length, take, codes, vec_len, vec_capacity, OnOk, IfOk};
 ghost use Rattle.yaml_parse.specs.Events.{event_of, text_of};
 ghost use Rattle.yaml_round_lines.specs.Runs.{is_kept, kept_run};
 ghost use Rattle.yaml_round_lines.specs.EventLine.{escaped_byte, escaped, anchor_part, tag_part, indicator_of, mark_part, event_text, event_line};
@@ -296,6 +296,124 @@ fn push_event(line: &mut Vec<u8>, event: &yaml_event_t) -> Result<(), AllocError
     }
 }
 
+// Adds the line's end.
+fn push_end(line: &mut Vec<u8>) -> Result<(), AllocError>
+    ensures { OnOk result (line.new.items ≡ line.old.items ++ 10 ∷ []) }
+{
+    line.push(b'\n')?;
+    Ok(())
+}
+
+// Adds these bytes, for which there is room.
+// Inlined: some stores, for words of a fixed length.
+#[inline(always)]
+fn push_each(line: &mut Vec<u8>, bytes: &[u8])
+    requires { vec_len line.old + length bytes.now ≤ vec_capacity line.old }
+    ensures items { line.new.items ≡ line.old.items ++ bytes.now }
+    ensures len { vec_len line.new ≡ vec_len line.old + length bytes.now }
+    ensures capacity { vec_capacity line.new ≡ vec_capacity line.old }
+{
+    for byte in bytes {
+        line.push_reserved(*byte);
+    }
+}
+
+// Adds the line of an event that its word alone tells: its room is made at once.
+// Inlined: some stores, for words of a fixed length.
+#[inline(always)]
+fn push_word(line: &mut Vec<u8>, word: &[u8]) -> Result<(), AllocError>
+    requires { length word.now < 16 }
+    ensures { OnOk result (line.new.items ≡ line.old.items ++ (word.now ++ 10 ∷ [])) }
+{
+    line.reserve(word.len() + 1)?;
+    push_each(line, word);
+    line.push_reserved(b'\n');
+    Ok(())
+}
+
+// Adds the kept bytes in front of a text, for all of which there is room, and answers the rest.
+// Inlined: some stores, for a short text.
+#[inline(always)]
+fn push_front<'a>(line: &mut Vec<u8>, text: &'a [u8]) -> &'a [u8]
+    requires { vec_len line.old + length text.now < vec_capacity line.old }
+    ensures text { line.new.items ++ escaped result.now ≡ line.old.items ++ escaped text.now }
+    ensures room { vec_len line.new + length result.now < vec_capacity line.new }
+{
+    let mut count = 0;
+    'bytes: while count < text.len() {
+        if !is_kept(text[count]) {
+            return &text[count..];
+        }
+        line.push_reserved(text[count]);
+        count += 1;
+    }
+    &text[count..]
+}
+
+// Adds the text of a value from a byte on that is escaped, and the line's end.
+// Out of line: most values have no such byte.
+#[inline(never)]
+fn push_escaped_end(line: &mut Vec<u8>, text: &[u8]) -> Result<(), AllocError>
+    ensures { OnOk result (line.new.items ≡ line.old.items ++ (escaped text.now ++ 10 ∷ [])) }
+{
+    push_bytes(line, text)?;
+    push_end(line)
+}
+
+// Adds a short value and the line's end, for which there is room where nothing is escaped.
+#[inline(always)]
+fn push_short(line: &mut Vec<u8>, value: &[u8]) -> Result<(), AllocError>
+    requires { vec_len line.old + length value.now < vec_capacity line.old }
+    ensures { OnOk result (line.new.items ≡ line.old.items ++ (escaped value.now ++ 10 ∷ [])) }
+{
+    let rest = push_front(line, value);
+    if rest.is_empty() {
+        line.push_reserved(b'\n');
+        return Ok(());
+    }
+    push_escaped_end(line, rest)
+}
+
+// Adds a value of 16 bytes and more, and the line's end.
+// Out of line: most values are short.
+#[inline(never)]
+fn push_long(line: &mut Vec<u8>, value: &[u8]) -> Result<(), AllocError>
+    ensures { OnOk result (line.new.items ≡ line.old.items ++ (escaped value.now ++ 10 ∷ [])) }
+{
+    push_runs(line, value)?;
+    push_end(line)
+}
+
+// Adds the line of a scalar without properties: its room is made at once.
+// Inlined: most scalars are such.
+#[inline(always)]
+fn push_bare(line: &mut Vec<u8>, value: &[u8], style: yaml_scalar_style_t) -> Result<(), AllocError>
+    ensures { OnOk result (line.new.items ≡ line.old.items
+        ++ (codes "=VAL " ++ indicator_of style ∷ (escaped value.now ++ 10 ∷ []))) }
+{
+    if value.len() < CHUNK {
+        line.reserve(value.len() + 7)?;
+        push_each(line, b"=VAL ");
+        line.push_reserved(style_indicator(style));
+        return push_short(line, value);
+    }
+    line.reserve(6)?;
+    push_each(line, b"=VAL ");
+    line.push_reserved(style_indicator(style));
+    push_long(line, value)
+}
+
+// Adds the line of any event.
+// Out of line: it asks for its room again and again.
+#[inline(never)]
+fn push_any(line: &mut Vec<u8>, event: &yaml_event_t) -> Result<(), AllocError>
+    ensures { OnOk result (line.new.items ≡ line.old.items ++ event_line
+        (event_of event.now).body) }
+{
+    push_event(line, event)?;
+    push_end(line)
+}
+
 /// Adds the line that tells an event, with a line feed at its end: `+STR`, `-STR`, `+DOC` (` ---` where it is explicit),
 /// `-DOC` (` ...` where it is explicit), `=ALI *name`, `+SEQ`, `-SEQ`, `+MAP`, `-MAP`, `=VAL`; behind a node's word its
 /// ` &anchor` and ` <tag>`, behind `=VAL` a space, the style's indicator (`: ' " | >`) and the value. In tags and values a
@@ -304,7 +422,26 @@ pub fn yaml_push_event_line(line: &mut Vec<u8>, event: &yaml_event_t) -> Result<
     ensures { OnOk result (line.new.items ≡ line.old.items ++ event_line
         (event_of event.now).body) }
 {
-    push_event(line, event)?;
-    line.push(b'\n')?;
-    Ok(())
+    match &event.body {
+        yaml_event_body_t::Scalar {
+            anchor: None,
+            tag: None,
+            value,
+            style,
+            ..
+        } => push_bare(line, value, *style),
+        yaml_event_body_t::SequenceStart {
+            anchor: None,
+            tag: None,
+            ..
+        } => push_word(line, b"+SEQ"),
+        yaml_event_body_t::SequenceEnd => push_word(line, b"-SEQ"),
+        yaml_event_body_t::MappingStart {
+            anchor: None,
+            tag: None,
+            ..
+        } => push_word(line, b"+MAP"),
+        yaml_event_body_t::MappingEnd => push_word(line, b"-MAP"),
+        _ => push_any(line, event),
+    }
 }

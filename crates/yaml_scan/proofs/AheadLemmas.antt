@@ -1,10 +1,10 @@
 -- What is to come of a session.
-use Rattle.std.proofs.Common.{◌≡◌, Bool, true, false, ◌∷◌, Option, Some, None, refl, sym, ap, subst, ◌∙◌, inl, inr}
+use Rattle.std.proofs.Common.{ℕ, ◌≡◌, Bool, true, false, Option, Some, None, refl, inl, inr}
 use Rattle.std.specs.Prelude.{is_some, option_map}
 use Rattle.yaml_scan_model.specs.declared.fault.yaml_fault_t.{yaml_fault_t}
 use Rattle.yaml_scan_model.specs.Tokens.{Token, token_of, no_token}
-use Rattle.yaml_scan_model.specs.Faults.{Fault, fault_of}
-use Rattle.yaml_scan_history.specs.Remaining.{Remaining, nothing}
+use Rattle.yaml_scan_model.specs.Faults.{fault_of}
+use Rattle.yaml_scan_history.specs.Remaining.{Remaining}
 use Rattle.yaml_scan_laws_order.specs.Fronts.{GivesFirst}
 use Rattle.yaml_scan.specs.declared.ahead.Ahead.{Ahead}
 use Rattle.yaml_scan.specs.State.{is_ready}
@@ -47,8 +47,8 @@ own_parts None false ready e = (refl, refl, e)
 own_parts None true ready e = cc
 own_parts (Some f) holds ready e = cc
 
-abbrev pub view_by : Option yaml_fault_t → Bool → Token → Remaining → Bool → View
-view_by o holds t c ready = record { remaining = remaining_by o holds t c; ready = ready_by o holds ready; answered = option_map (λ f. fault_of f) o }
+abbrev pub view_by : Option yaml_fault_t → Bool → Token → Remaining → Bool → ℕ → View
+view_by o holds t c ready n = record { remaining = remaining_by o holds t c; ready = ready_by o holds ready; answered = option_map (λ f. fault_of f) o; waiting = n }
 
 taken_rest : (c d : Remaining) (t : Token) → GivesFirst c t d → d ≡ record { tokens = others_of c.tokens; fault = c.fault }
 taken_rest c d t (tokens, fault) = rw (tokens, fault) refl
@@ -57,20 +57,20 @@ taken_may : (c d : Remaining) (t : Token) → GivesFirst c t d → MayAnswer c.t
 taken_may c d t (tokens, fault) = rw tokens tt
 
 -- the reader's next token is the first to come
-pub takes_own : (o : Option yaml_fault_t) (holds ready next : Bool) (s t : Token) (c d : Remaining) → own_by o holds ready ≡ true → GivesFirst c t d → Takes (view_by o holds s c ready) t (view_by o holds s d next)
-takes_own None false ready next s t c d e (tokens, fault) = record {
+pub takes_own : (o : Option yaml_fault_t) (holds ready next : Bool) (s t : Token) (c d : Remaining) (n k : ℕ) → own_by o holds ready ≡ true → GivesFirst c t d → Takes (view_by o holds s c ready n) t (view_by o holds s d next k)
+takes_own None false ready next s t c d n k e (tokens, fault) = record {
   token = rw tokens refl;
   rest = taken_rest c d t (tokens, fault);
   may = taken_may c d t (tokens, fault);
   same = refl;
   over = λ f bad. cc;
 }
-takes_own None true ready next s t c d e gives = cc
-takes_own (Some f) holds ready next s t c d e gives = cc
+takes_own None true ready next s t c d n k e gives = cc
+takes_own (Some f) holds ready next s t c d n k e gives = cc
 
 -- where the reader isn't to give it, the next token is the one that was put aside, or the empty one
-pub takes_aside : (o : Option yaml_fault_t) (holds ready : Bool) (s t : Token) (c : Remaining) → own_by o holds ready ≡ false → IsKnown (view_by o holds s c ready) → ((f : yaml_fault_t) → o ≡ Some f → holds ≡ false) → (holds ≡ false → s ≡ no_token) → Takes (view_by o holds s c ready) s (view_by o false t c ready)
-takes_aside (Some f) holds ready s t c e known over idle = record { token = idle (over f refl); rest = refl; may = refl; same = refl; over = λ g is. refl }
-takes_aside None true ready s t c e known over idle = record { token = refl; rest = refl; may = tt; same = refl; over = λ g bad. cc }
-takes_aside None false ready s t c e (inl on) over idle = cc
-takes_aside None false ready s t c e (inr none) over idle = record { token = rw none (idle refl); rest = rw none refl; may = rw none refl; same = refl; over = λ g bad. cc }
+pub takes_aside : (o : Option yaml_fault_t) (holds ready : Bool) (s t : Token) (c : Remaining) (n : ℕ) → own_by o holds ready ≡ false → IsKnown (view_by o holds s c ready n) → ((f : yaml_fault_t) → o ≡ Some f → holds ≡ false) → (holds ≡ false → s ≡ no_token) → Takes (view_by o holds s c ready n) s (view_by o false t c ready n)
+takes_aside (Some f) holds ready s t c n e known over idle = record { token = idle (over f refl); rest = refl; may = refl; same = refl; over = λ g is. refl }
+takes_aside None true ready s t c n e known over idle = record { token = refl; rest = refl; may = tt; same = refl; over = λ g bad. cc }
+takes_aside None false ready s t c n e (inl on) over idle = cc
+takes_aside None false ready s t c n e (inr none) over idle = record { token = rw none (idle refl); rest = rw none refl; may = rw none refl; same = refl; over = λ g bad. cc }

@@ -21,10 +21,12 @@ use Rattle.yaml_scan_model.specs.Tokens.{Token}
 use Rattle.yaml_scan_laws_order.specs.Fronts.{GivesFirst}
 use Rattle.yaml_scan.specs.Scanned.{scanned, scanned_in, left_in, left_from, IsTold, IsLocated}
 use Rattle.yaml_scan_history.specs.declared.lexeme.Entry.{Entry}
+use Rattle.yaml_scan_history.specs.declared.lexeme.Lexeme.{Lexeme}
 use Rattle.yaml_scan_history.specs.History.{entries, first_open}
 use Rattle.yaml_scan_history.specs.Next.{Next, Read, Fails, Ends, next}
 use Rattle.yaml_scan_history.specs.Remaining.{Remaining, remaining, nothing}
 use Rattle.yaml_scan_history.proofs.HistoryLemmas.{length-entries, first_open-le}
+use Rattle.yaml_scan_laws_order.proofs.HeldForward.{few_wait}
 use Rattle.yaml_scan_laws_order.proofs.RemainingForward.{fault_comes, end_comes, front_count, front_none}
 use Rattle.yaml_scan.specs.declared.machine.Machine.{Machine}
 use Rattle.yaml_scan.specs.declared.waiting.Waiting.{Waiting}
@@ -101,6 +103,20 @@ end_machine m i stuck over =
       | inr (w, rest, is, low, few) ↦ omega arith
     ] in
     end_comes (stream_of m) (m.dropped + length f.waiting) m.dropped m.given none past
+
+-- where one more is read, 1,024 wait at most
+pub waits_short : (m : Machine) (l : Lexeme) → IsMachine m → is_ready m ≡ false → m.ended ≡ false → next (text_bytes m.text) (history_of m) ≡ Read l → length m.waiting.items ≤ 1024
+unfolding read
+waits_short m l i stuck more is =
+    let f = fields_of m in
+    let s = i.shown in
+    let len = length-map m.waiting.items (λ (x : Waiting). x.entry) in
+    let first = settled_first f s more in
+    let few = few_wait (text_bytes m.text) (m.dropped + length f.waiting) l is in
+    elim (not_ready m.dropped m.settled m.given m.waiting.items stuck) [
+      | inl empty ↦ let none : length m.waiting.items ≡ 0 = ap length empty in omega (arith, none)
+      | inr (w, rest, all, low, past) ↦ omega (arith, few, first, low, s.count, len)
+    ]
 
 -- at a fault nothing is left but the fault
 pub fault_machine : (m : Machine) (e : ScanError) → IsMachine m → is_ready m ≡ false → m.ended ≡ false → Refused m e → Faults e (to_come m)

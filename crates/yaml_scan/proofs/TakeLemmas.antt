@@ -157,6 +157,7 @@ stands_more m w rest b i items ready some =
     record {
       long = i.long;
       few = i.few;
+      short = i.short;
       taken = i.taken;
       settled = i.settled;
       last = i.last;

@@ -1,11 +1,11 @@
 -- The tokens of an input, and the fault that ends them.
 use Rattle.std.specs.Prelude.{ℕ, ◌≡◌, ◌⊎◌, Bool, true, false, List, [], Some, Result, Ok, Err}
 use Rattle.yaml_scan_model.specs.declared.name.yaml_encoding_t.{yaml_encoding_t}
-use Rattle.yaml_scan_model.specs.declared.fault.yaml_origin_t.TheVariants.{Scanner, Reader}
+use Rattle.yaml_scan_model.specs.declared.fault.yaml_origin_t.TheVariants.{Scanner}
 use Rattle.yaml_scan_model.specs.declared.problem.ScanError.{ScanError}
 use Rattle.yaml_scan_model.specs.declared.problem.ScanError.TheVariants as errors
 use Rattle.yaml_scan_model.specs.Problems.{scanner_fault}
-use Rattle.yaml_scan_model.specs.Faults.{Fault, memory_fault}
+use Rattle.yaml_scan_model.specs.Faults.{Fault, memory_fault, IsMemoryFault, scan_layers}
 use Rattle.yaml_scan_decode.specs.declared.offence.Offence.{Offence}
 use Rattle.yaml_scan_decode.specs.Encodings.{encoding_of}
 use Rattle.yaml_scan_decode.specs.Offences.{reader_fault}
@@ -31,12 +31,9 @@ left_from false behind whole = whole
 abbrev pub left_in : Machine → Remaining
 left_in m = left_from m.started (to_come m) (scanned m.setting m.input.now)
 
-abbrev pub IsWantOfMemory : Fault → Type 0
-IsWantOfMemory f = (f ≡ memory_fault Scanner) ⊎ (f ≡ memory_fault Reader)
-
 -- A refusal tells the fault that is to come, where no token is, or that memory ran out.
 abbrev pub IsTold : Remaining → Fault → Type 0
-IsTold c f = IsWantOfMemory f ⊎ ((c.tokens ≡ []) × (c.fault ≡ Some f))
+IsTold c f = IsMemoryFault scan_layers f ⊎ ((c.tokens ≡ []) × (c.fault ≡ Some f))
 
 -- the fault that a refusal is answered as
 abbrev pub IsLocated : ScanError → Fault → Type 0

@@ -1,5 +1,5 @@
 -- What a session stands for, and what its calls answer.
-use Rattle.std.specs.Prelude.{◌≡◌, Bool, true, false, List, [], ◌∷◌, Option, Some, None, Result, Ok, Err, ◌⊎◌}
+use Rattle.std.specs.Prelude.{ℕ, ◌≡◌, ◌≤◌, Bool, true, false, List, [], ◌∷◌, Option, Some, None, Result, Ok, Err, ◌⊎◌}
 use denote.Bor.{Bor}
 use Rattle.yaml_scan_model.specs.declared.token.yaml_token_t.{yaml_token_t}
 use Rattle.yaml_scan_model.specs.declared.fault.yaml_fault_t.{yaml_fault_t}
@@ -8,12 +8,13 @@ use Rattle.yaml_scan_model.specs.Faults.{Fault, fault_of}
 use Rattle.yaml_scan_history.specs.Remaining.{Remaining, nothing}
 use Rattle.yaml_scan.specs.Scanned.{IsTold}
 
--- the tokens that are still to come and the fault that ends them, whether the next token is known, and the fault that was
--- answered
+-- the tokens that are still to come and the fault that ends them, whether the next token is known, the fault that was
+-- answered, and how many lexemes wait: they were read, and not all their tokens are taken
 pub record View : Type 0 where
   pub remaining : Remaining
   pub ready : Bool
   pub answered : Option Fault
+  pub waiting : ℕ
 
 -- the first token to come, and the others; behind the last the empty token
 abbrev pub first_of : List Token → Token
@@ -41,6 +42,14 @@ MayAnswer (t ∷ ts) fault = Unit {0}
 -- behind a fault that was answered nothing comes
 abbrev pub EndsAnswered : View → Type 0
 EndsAnswered v = (f : Fault) → v.answered ≡ Some f → v.remaining ≡ nothing
+
+-- At most 1,025 lexemes wait: none is read that isn't needed, and a `:` is looked for within 1,024 bytes of its key.
+abbrev pub FewWait : View → Type 0
+FewWait v = v.waiting ≤ 1025
+
+-- all stays but the number of lexemes that wait
+abbrev pub IsSame : View → View → Type 0
+IsSame old new = new ≡ record old { waiting = new.waiting }
 
 -- the next token is known, or there is none
 abbrev pub IsKnown : View → Type 0

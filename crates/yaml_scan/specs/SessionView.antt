@@ -1,5 +1,5 @@
 -- What a clause sees of a session.
-use Rattle.std.specs.Prelude.{◌≡◌, Bool, true, false, ◌||◌, ◌∷◌, Option, Some, None, option_map}
+use Rattle.std.specs.Prelude.{◌≡◌, ◌≤◌, length, Bool, true, false, ◌||◌, ◌∷◌, Option, Some, None, option_map}
 use Rattle.yaml_scan_model.specs.declared.fault.yaml_fault_t.{yaml_fault_t}
 use Rattle.yaml_scan_model.specs.Tokens.{Token, token_of, no_token}
 use Rattle.yaml_scan_model.specs.Faults.{fault_of}
@@ -29,12 +29,14 @@ view_of s = record {
   remaining = remaining_by s.fault s.holds (token_of s.shown) (left_in s.machine);
   ready = ready_by s.fault s.holds (is_ready s.machine);
   answered = option_map (λ f. fault_of f) s.fault;
+  waiting = length s.machine.waiting.items;
 }
 
 pub record IsAhead (s : Ahead) : Type 0 where
   pub machine : s.fault ≡ None → IsMachine s.machine
   pub over : (f : yaml_fault_t) → s.fault ≡ Some f → s.holds ≡ false
   pub idle : s.holds ≡ false → token_of s.shown ≡ no_token
+  pub short : length s.machine.waiting.items ≤ 1025
 
 -- the reader is to give the next token
 abbrev pub own_by : Option yaml_fault_t → Bool → Bool → Bool

@@ -33,6 +33,7 @@ AreBounded n dropped ws = (k : ℕ) → (w : Waiting) → k < length ws → n �
 pub record IsMachine (m : Machine) : Type 0 where
   pub long : length (text_bytes m.text) < 2 ^ 63
   pub few : m.dropped + length m.waiting.items ≤ length (text_bytes m.text) + 2
+  pub short : length m.waiting.items ≤ 1025
   pub taken : m.dropped ≤ m.settled
   pub settled : m.settled ≤ m.dropped + length m.waiting.items
   pub last : m.candidate_bound ≤ m.dropped + length m.waiting.items

@@ -3,7 +3,7 @@
 ghost use Rattle.std.specs.Prelude.{◌≡◌, true, false, None, IfOk};
 ghost use Rattle.yaml_scan_model.specs.Tokens.{token_of};
 ghost use Rattle.yaml_scan.specs.Scanned.{scanned};
-ghost use Rattle.yaml_scan.specs.Session.{first_of, HasFirst, MayAnswer, EndsAnswered, Fills, Takes, Scans, Looks, IsKnown};
+ghost use Rattle.yaml_scan.specs.Session.{first_of, HasFirst, MayAnswer, EndsAnswered, IsSame, Fills, Takes, Scans, Looks, IsKnown};
 
 use crate::machine::Machine;
 use std::alloc::Global;
@@ -30,6 +30,7 @@ impl<'a> Ahead<'a> {
           remaining = scanned encoding input.now;
           ready = false;
           answered = None;
+          waiting = 0;
         } }
     {
         Ahead {
@@ -118,7 +119,7 @@ impl<'a> Ahead<'a> {
         requires stands { IsAhead self.old }
         requires known { IsKnown (view_of self.old) }
         ensures stands { IsAhead self.new }
-        ensures same { view_of self.new ≡ view_of self.old }
+        ensures same { IsSame (view_of self.old) (view_of self.new) }
         ensures shown { token_of self.new.shown ≡ first_of (view_of self.old).remaining.tokens }
         ensures may { MayAnswer (view_of self.old).remaining.tokens
             (view_of self.old).remaining.fault }

@@ -1,6 +1,6 @@
 //! The state between two lexemes.
 
-ghost use Rattle.std.specs.Prelude.{◌≡◌, ◌+◌, ◌-◌, ◌<◌, ◌≤◌, ◌^◌, ◌&&◌, ◌||◌, ◌==◌, not, nat_lt, if◌then◌else◌, ◌⊎◌, OnOk, IfOk, IfErr, IsTrue, IfSome, true, false, length, ℕ};
+ghost use Rattle.std.specs.Prelude.{◌≡◌, ◌+◌, ◌-◌, ◌<◌, ◌≤◌, ◌^◌, ◌&&◌, ◌||◌, ◌==◌, not, nat_lt, if◌then◌else◌, ◌⊎◌, OnOk, IfOk, IfErr, OnErr, IsTrue, IfSome, true, false, length, ℕ};
 ghost use Rattle.yaml_scan_decode.specs.DecodedText.{text_bytes};
 ghost use Rattle.yaml_scan_history.specs.Kinds as kinds;
 ghost use Rattle.yaml_scan_model.specs.Faults.{fault_of};
@@ -63,6 +63,7 @@ impl<'a> Machine<'a> {
     pub(crate) fn new(alloc: Global, input: &'a [u8], setting: yaml_encoding_t) -> Machine<'a>
         ensures stands { IsMachine result }
         ensures ready { is_ready result ≡ false }
+        ensures waiting { length result.waiting.items ≡ 0 }
         ensures left { left_in result ≡ scanned setting input.now }
     {
         Machine::over(alloc, input, setting, false, yaml_text_t::Borrowed(input))
@@ -78,6 +79,7 @@ impl<'a> Machine<'a> {
     ) -> Machine<'a>
         ensures stands { IsMachine result }
         ensures ready { is_ready result ≡ false }
+        ensures waiting { length result.waiting.items ≡ 0 }
         ensures started { result.started ≡ started }
         ensures left { left_in result ≡ left_from started
             (offline record {
@@ -120,6 +122,7 @@ impl<'a> Machine<'a> {
         ensures left { OnOk result (left_in self.new ≡ left_in self.old) }
         ensures known { OnOk result ((is_ready self.new ≡ true) ⊎ (left_in self.new ≡ nothing)) }
         ensures told { IfErr result (λ f. IsTold (left_in self.old) (fault_of f)) }
+        ensures few { OnErr result (length self.new.waiting.items ≤ 1025) }
         ensures sought { IfErr result (λ f. is_ready self.old ≡ false) }
         ensures ready { IfOk result (λ known. known ≡ is_ready self.new) }
     {
@@ -137,6 +140,7 @@ impl<'a> Machine<'a> {
         ensures left { OnOk result (left_in self.new ≡ left_in self.old) }
         ensures ready { OnOk result (is_ready self.new ≡ is_ready self.old) }
         ensures told { IfErr result (λ f. IsTold (left_in self.old) (fault_of f)) }
+        ensures few { OnErr result (length self.new.waiting.items ≤ 1025) }
         ensures sought { IfErr result (λ f. is_ready self.old ≡ false) }
     {
         if self.started {
@@ -159,6 +163,7 @@ impl<'a> Machine<'a> {
         ensures left { OnOk result (left_in self.new ≡ left_in self.old) }
         ensures known { OnOk result ((is_ready self.new ≡ true) ⊎ (left_in self.new ≡ nothing)) }
         ensures told { IfErr result (λ f. IsTold (left_in self.old) (fault_of f)) }
+        ensures few { OnErr result (length self.new.waiting.items ≤ 1025) }
         ensures sought { IfErr result (λ f. is_ready self.old ≡ false) }
         ensures ready { IfOk result (λ known. known ≡ is_ready self.new) }
     {
@@ -216,6 +221,7 @@ impl<'a> Machine<'a> {
         ensures ok { OnOk result ((to_come self.new ≡ to_come self.old)
             × ((is_ready self.new ≡ true) ⊎ (to_come self.new ≡ nothing))) }
         ensures err { IfErr result (λ e. Faults e (to_come self.old)) }
+        ensures few { OnErr result (length self.new.waiting.items ≤ 1025) }
         ensures sought { IfErr result (λ e. is_ready self.old ≡ false) }
         ensures ready { IfOk result (λ known. known ≡ is_ready self.new) }
     {
@@ -234,9 +240,11 @@ impl<'a> Machine<'a> {
     fn step(&mut self) -> Result<(), ScanError>
         requires stands { IsMachine self.old }
         requires started { self.old.started ≡ true }
+        requires sought { is_ready self.old ≡ false }
         requires more { self.old.ended ≡ false }
         ensures ok { OnOk result (IsMachine self.new × GoesOn self.old self.new) }
         ensures err { IfErr result (Refused self.old) }
+        ensures few { OnErr result (length self.new.waiting.items ≤ 1025) }
     {
         let Read {
             lexeme,
@@ -348,6 +356,7 @@ impl<'a> Machine<'a> {
     /// Opens the level of a `-`, `?` or `:` at that column, where it passes the indent.
     fn open_level(&mut self, lexeme: Lexeme, column: u64) -> Result<Opens, AllocError>
         ensures same { OnOk result (self.new ≡ record self.old { levels = self.new.levels }) }
+        ensures waiting { self.new.waiting ≡ self.old.waiting }
         ensures levels { OnOk result (self.new.levels ≡ history.opened (kinds.is_start lexeme.kind
             && not (nat_lt 0 lexeme.depth)) column self.old.levels) }
         ensures opens { IfOk result (λ o. o ≡ opens_for lexeme.kind lexeme.depth column

@@ -6,7 +6,7 @@ ghost use mir.Syntax.{named};
 ghost use mathlib.Core.Option.{none};
 ghost use Rattle.yaml_scan_model.specs.Faults.{fault_of};
 ghost use Rattle.yaml_scan.specs.contracts.session.yaml_parser_t.{the_row};
-ghost use Rattle.yaml_scan.specs.Session.{HasFirst, Scans, Peeks, behind_first};
+ghost use Rattle.yaml_scan.specs.Session.{HasFirst, Scans, Peeks, FewWait, behind_first};
 ghost use Rattle.yaml_scan.specs.Scanned.{scanned};
 
 use crate::ahead::Ahead;
@@ -14,7 +14,7 @@ use std::alloc::Global;
 use std::marker::Model;
 use yaml_scan_model::{yaml_encoding_t, yaml_fault_t, yaml_token_t};
 
-/// The tokens of an input that are still to come, and the fault that ends them.
+/// The tokens of an input that are still to come, and the fault that ends them. At most 1,025 lexemes that were read wait.
 #[derive(Drop)]
 pub struct yaml_parser_t<'a> {
     ahead: Ahead<'a>,
@@ -40,6 +40,7 @@ impl<'a> yaml_parser_t<'a> {
           remaining = scanned encoding input.now;
           ready = false;
           answered = None;
+          waiting = 0;
         } }
     {
         yaml_parser_t {
@@ -54,7 +55,8 @@ impl<'a> yaml_parser_t<'a> {
 /// (kind 2 where its bytes spell no text, else 3), where they are all taken, or want of memory (kind 1). It is answered
 /// once; behind it, and behind the last token, comes the empty token.
 pub fn yaml_parser_scan(parser: &mut yaml_parser_t) -> Result<yaml_token_t, yaml_fault_t>
-    ensures { Scans parser.old parser.new result }
+    ensures scans { Scans parser.old parser.new result }
+    ensures few { FewWait parser.new }
 {
     parser.ahead.scan()
 }
@@ -63,7 +65,7 @@ pub fn yaml_parser_scan(parser: &mut yaml_parser_t) -> Result<yaml_token_t, yaml
 pub fn yaml_parser_peek<'p>(parser: &'p mut yaml_parser_t) -> Result<&'p yaml_token_t, yaml_fault_t>
     ensures* lends { sem 𝓛 (follows_so (the_row (record { mir = named 1; lft = [] }))
         (the_row (record { mir = named 1; lft = [] })) parser.entry.ghost_name none (λ _ _. ⊤)
-        (λ new. Peeks parser.old new result)) }
+        (λ new. Peeks parser.old new result × FewWait new)) }
 {
     parser.ahead.look()?;
     Ok(&parser.ahead.shown)
@@ -82,6 +84,7 @@ pub fn yaml_parser_skip(parser: &mut yaml_parser_t)
     requires { parser.old.ready ≡ true }
     ensures rest { parser.new.remaining ≡ behind_first parser.old.remaining }
     ensures same { parser.new.answered ≡ parser.old.answered }
+    ensures few { FewWait parser.new }
 {
     parser.ahead.take();
 }

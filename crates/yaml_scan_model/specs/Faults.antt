@@ -1,8 +1,9 @@
 -- Faults, their texts as bytes.
-use Rattle.std.specs.Prelude.{ℕ, ℤ, pos, List, Option, None, option_map, codes, ◌≡◌, Result, Ok, Err, ◌⊎◌}
+use Rattle.std.specs.Prelude.{ℕ, ℤ, pos, List, [], ◌∷◌, Option, None, option_map, codes, ◌≡◌, Result, Ok, Err, ◌⊎◌}
 use Rattle.yaml_scan_model.specs.declared.name.yaml_error_type_t.{yaml_error_type_t}
 use Rattle.yaml_scan_model.specs.declared.name.yaml_error_type_t.TheVariants.{YAML_MEMORY_ERROR}
 use Rattle.yaml_scan_model.specs.declared.fault.yaml_origin_t.{yaml_origin_t}
+use Rattle.yaml_scan_model.specs.declared.fault.yaml_origin_t.TheVariants as layer
 use Rattle.yaml_scan_model.specs.declared.fault.yaml_fault_t.{yaml_fault_t}
 use Rattle.yaml_scan_model.specs.declared.record.yaml_mark_t.{yaml_mark_t}
 use Rattle.yaml_scan_model.specs.Tokens.{zero_mark}
@@ -43,12 +44,32 @@ memory_fault origin = record {
   origin = origin;
 }
 
--- the fault tells that memory ran out
-abbrev pub IsMemoryFault : yaml_fault_t → Type 0
-IsMemoryFault f = f.kind ≡ YAML_MEMORY_ERROR
+-- The fault tells, with nothing else in it, that memory ran out in one of these layers.
+abbrev pub IsMemoryFault : List yaml_origin_t → Fault → Type 0
+IsMemoryFault [] f = ⊥
+IsMemoryFault (o ∷ []) f = f ≡ memory_fault o
+IsMemoryFault (o ∷ (p ∷ os)) f = (f ≡ memory_fault o) ⊎ IsMemoryFault (p ∷ os) f
 
--- what a call answered, seen by `view`, is an answer by the relation, unless memory ran out
-abbrev pub Answers : {X Y : Type 0} → (X → Y) → (Result Y Fault → Type 0) → Result X yaml_fault_t
-    → Type 0
-Answers view Is (Ok x) = Is (Ok (view x))
-Answers view Is (Err f) = IsMemoryFault f ⊎ Is (Err (fault_of f))
+-- ---- the layers in which memory may run out
+
+-- while tokens are scanned
+abbrev pub scan_layers : List yaml_origin_t
+scan_layers = layer.Scanner ∷ layer.Reader ∷ []
+
+-- while events are parsed of them
+abbrev pub parse_layers : List yaml_origin_t
+parse_layers = layer.Parser ∷ scan_layers
+
+-- while documents are loaded of those
+abbrev pub load_layers : List yaml_origin_t
+load_layers = layer.Loader ∷ parse_layers
+
+-- while a text is laid out
+abbrev pub emit_layers : List yaml_origin_t
+emit_layers = layer.Emitter ∷ layer.Writer ∷ []
+
+-- what a call answered, seen by `view`, is an answer by the relation, unless memory ran out in one of these layers
+abbrev pub Answers : List yaml_origin_t → {X Y : Type 0} → (X → Y)
+    → (Result Y Fault → Type 0) → Result X yaml_fault_t → Type 0
+Answers layers view Is (Ok x) = Is (Ok (view x))
+Answers layers view Is (Err f) = IsMemoryFault layers (fault_of f) ⊎ Is (Err (fault_of f))

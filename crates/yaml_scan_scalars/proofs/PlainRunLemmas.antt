@@ -17,7 +17,7 @@ use Rattle.yaml_scan_scalars.proofs.PlainLemmas.{spot_kept, seat_text}
 some_run : (text : List ℕ) (p d : ℕ) (ps : List Piece) → is_nothing (kept_run (bytes_at text p (suc d)) ++ ps) ≡ false
 some_run text p d ps = rw (bytes_more text p d) refl
 
-with_run_is : (text : List ℕ) (p d : ℕ) (w : Words)
+pub with_run_is : (text : List ℕ) (p d : ℕ) (w : Words)
     → with_run text p (suc d) w ≡ record { pieces = kept_run (bytes_at text p (suc d)) ++ w.pieces; end = if is_nothing w.pieces then p + suc d else w.end; place = w.place; broke = w.broke }
 with_run_is text p zero w =
     let e : p + 1 ≡ p + suc zero = omega arith in
@@ -92,7 +92,7 @@ behind_first text p place b e run =
       | inr l ↦ calm_behind text (p + 1) place run l
     ]
 
-abbrev words_with : (Words → Words) → Result Words Wrong → Result Words Wrong
+abbrev pub words_with : (Words → Words) → Result Words Wrong → Result Words Wrong
 words_with f (Ok w) = Ok (f w)
 words_with f (Err e) = Err e
 
@@ -109,7 +109,7 @@ words_more : (x : Piece) (q : ℕ) (f : Words → Words) (r : Result Words Wrong
 words_more x q f (Ok w) = refl
 words_more x q f (Err e) = refl
 
-words_run : (d n : ℕ) (flow : Bool) (level : ℕ) (text : List ℕ) (p : ℕ) → d ≤ n → (0 < d → leads text p ≡ false) → ((k : ℕ) → p ≤ k → k < p + d → is_ordinary (byte text k) ≡ true)
+pub words_run : (d n : ℕ) (flow : Bool) (level : ℕ) (text : List ℕ) (p : ℕ) → d ≤ n → (0 < d → leads text p ≡ false) → ((k : ℕ) → p ≤ k → k < p + d → is_ordinary (byte text k) ≡ true)
     → words (suc n) flow level text p ≡ words_with (with_run text p d) (words (suc (n - d)) flow level text (p + d))
 words_run zero n flow level text p h l o =
     let e : n - 0 ≡ n = omega arith in

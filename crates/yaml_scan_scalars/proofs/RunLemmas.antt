@@ -58,7 +58,7 @@ pub ordinary_ends_none : (x y b c : ℕ) → is_ordinary b ≡ true → ends_of 
 unfolding is_ordinary ends_of
 ordinary_ends_none x y b c h = grind (arith, nat_tests)
 
-no_mark : (b c d : ℕ) (first last : Bool) → b ≢ 45 → b ≢ 46 → (first && ((((b == 45) && (c == 45)) && (d == 45)) || (((b == 46) && (c == 46)) && (d == 46))) && last) ≡ false
+pub no_mark : (b c d : ℕ) (first last : Bool) → b ≢ 45 → b ≢ 46 → (first && ((((b == 45) && (c == 45)) && (d == 45)) || (((b == 46) && (c == 46)) && (d == 46))) && last) ≡ false
 no_mark b c d first last h k = grind (arith, nat_tests)
 
 pub ordinary_no_mark : (text : List ℕ) (p : ℕ) → is_ordinary (byte text p) ≡ true → is_document_indicator text p ≡ false
@@ -215,7 +215,7 @@ front_more : (x : Piece) (qs : List Piece) (r : Result (List Piece × ℕ) Wrong
 front_more x qs (Ok y) = refl
 front_more x qs (Err w) = refl
 
-pieces_run : (d n quote : ℕ) (text : List ℕ) (p : ℕ) → (quote ≡ 34) ⊎ (quote ≡ 39) → d ≤ n → ((k : ℕ) → p ≤ k → k < p + d → is_ordinary (byte text k) ≡ true)
+pub pieces_run : (d n quote : ℕ) (text : List ℕ) (p : ℕ) → (quote ≡ 34) ⊎ (quote ≡ 39) → d ≤ n → ((k : ℕ) → p ≤ k → k < p + d → is_ordinary (byte text k) ≡ true)
     → pieces (suc n) quote text p ≡ with_front (kept_run (bytes_at text p d)) (pieces (suc (n - d)) quote text (p + d))
 pieces_run zero n quote text p q h o =
     let e : n - 0 ≡ n = omega arith in

@@ -1,15 +1,18 @@
 //! Plain scalars (YAML 1.1, section 9.1.3).
 
-ghost use Rattle.std.specs.Prelude.{◌≡◌, ◌||◌, ◌&&◌, ◌==◌, nat_lt, ◌<◌, true, false, OnOk, IfOk};
-ghost use Rattle.yaml_scan_model.specs.Marks.{byte, break_width, ends_break, is_blank};
+ghost use Rattle.std.specs.Prelude.{◌≡◌, ◌+◌, ◌-◌, ◌||◌, ◌&&◌, ◌==◌, nat_lt, ◌<◌, ◌≤◌, ℕ, suc, true, false, [], length, OnOk, Ok};
+ghost use Rattle.yaml_scan_model.specs.Marks.{byte, break_width, ends_break, is_blank, mark_at};
 ghost use Rattle.yaml_scan_scalars.specs.Plain as spec;
-ghost use Rattle.yaml_scan_scalars.specs.Joined.{IsJoining, Steps, ReadsPlain, TookFirst, TookWords};
+ghost use Rattle.yaml_scan_scalars.specs.Joined.{IsJoining, Steps, ReadsPlain, TookWords};
+ghost use Rattle.yaml_scan_scalars.specs.Ordinary.{IsRun, bytes_at};
 
 use crate::joining::Joining;
-use crate::run::ordinary_run;
+use crate::run::{copied, ordinary_run};
 use crate::scalar::PlainScalar;
 use std::alloc::{AllocError, Global};
-use yaml_scan_model::{Context, Problem, Reader, ScanError, is_blank_byte, yaml_mark_t};
+use yaml_scan_model::{
+    Context, Problem, Reader, ScanError, is_blank_byte, skip_spaces, yaml_mark_t,
+};
 
 /// The plain scalar that starts here, in flow context or not. The level is the column of the innermost open block
 /// level and one, or 0 where none is open. The reader is left behind the blanks and breaks that follow the scalar.
@@ -26,7 +29,137 @@ pub fn plain_scalar(
     let start = reader.mark();
     // Read for the run: its clauses say that no break stands or ends where a plain scalar begins.
     let _width = reader.break_here();
-    let mut joining = first_run(alloc, reader)?;
+    let bytes = first_run(reader);
+    if is_followed(reader, flow) {
+        return one_run(alloc, reader, bytes, start);
+    }
+    if !flow {
+        let mut ahead = reader.ahead();
+        if passes_line(&mut ahead, level) {
+            return one_line(alloc, reader, &ahead, bytes, start);
+        }
+    }
+    many_runs(alloc, reader, bytes, start, flow, level)
+}
+
+/// Past the scalar's first character and the ordinary bytes behind it, and those bytes.
+fn first_run<'a>(reader: &mut Reader<'a>) -> &'a [u8]
+    requires some { 0 < byte reader.old.text reader.old.at }
+    requires no_break { break_width reader.old.text reader.old.at ≡ 0 }
+    ensures run { IsRun reader.old.text (reader.old.at + 1) reader.new }
+    ensures bytes { result.now ≡ bytes_at reader.old.text reader.old.at
+        (reader.new.at - reader.old.at) }
+{
+    let from = reader.place();
+    reader.skip();
+    // Passes the run, of which all bytes from the first one on are taken below.
+    let _run = ordinary_run(reader);
+    reader.since(from)
+}
+
+/// Whether a sign stands here that ends the scalar before it: a `:` as a mapping has it or, in flow context, a bracket or a comma.
+fn is_followed(reader: &Reader, flow: bool) -> bool
+    ensures { result ≡ true → (level : ℕ) → spec.spot_at flow level reader.now.text reader.now.at
+        ≡ spec.Ends }
+{
+    let byte = reader.here();
+    if byte == b':' {
+        return reader.is_blank_or_end(1);
+    }
+    flow && is_bracket(byte)
+}
+
+/// The scalar that starts at the mark and has those bytes, where the reader stands behind them and no white follows.
+fn one_run(
+    alloc: Global,
+    reader: &Reader,
+    bytes: &[u8],
+    start: yaml_mark_t,
+) -> Result<PlainScalar, ScanError>
+    requires start { start ≡ mark_at reader.now.text start.index }
+    ensures { ReadsPlain reader.now.text start.index reader.now result
+        (Ok (record { value = bytes.now; end = reader.now.at; place = reader.now.at; broke = false })) }
+{
+    let value = copied(alloc, bytes)?;
+    Ok(PlainScalar {
+        value,
+        start_mark: start,
+        end_mark: reader.mark(),
+        broke: false,
+    })
+}
+
+/// Past the line feed here and the spaces behind it; answers whether a word stands there that ends the scalar before them, in
+/// block context.
+fn passes_line(reader: &mut Reader, level: u64) -> bool
+    ensures same { reader.new.text ≡ reader.old.text }
+    ensures ends { result ≡ true → (n : ℕ) → length reader.old.text ≤ reader.old.at + n
+        → spec.words (suc n) false level reader.old.text reader.old.at
+        ≡ Ok (record { pieces = []; end = reader.new.at; place = reader.new.at; broke = true }) }
+{
+    if reader.here() != b'\n' {
+        return false;
+    }
+    reader.skip_break();
+    skip_spaces(reader);
+    begins_word(reader.here()) && reader.mark().column < level
+}
+
+/// Whether the byte is surely no white, no break and no comment's sign.
+fn begins_word(byte: u8) -> bool
+    ensures low { result ≡ true → 33 < byte }
+    ensures high { result ≡ true → byte < 128 }
+{
+    byte > b'#' && byte < 128 || byte == b'"'
+}
+
+/// The scalar that starts at the mark and has those bytes, where the reader stands behind them, and is left at the word behind
+/// the white that follows.
+fn one_line<'a>(
+    alloc: Global,
+    reader: &mut Reader<'a>,
+    ahead: &Reader<'a>,
+    bytes: &[u8],
+    start: yaml_mark_t,
+) -> Result<PlainScalar, ScanError>
+    requires start { start ≡ mark_at reader.old.text start.index }
+    requires same { ahead.now.text ≡ reader.old.text }
+    ensures { ReadsPlain reader.old.text start.index reader.new result
+        (Ok (record { value = bytes.now; end = reader.old.at; place = ahead.now.at; broke = true })) }
+{
+    let value = copied(alloc, bytes)?;
+    let end_mark = reader.mark();
+    *reader = ahead.ahead();
+    Ok(PlainScalar {
+        value,
+        start_mark: start,
+        end_mark,
+        broke: true,
+    })
+}
+
+/// The scalar that starts at the mark, where the reader stands behind its first run, of those bytes.
+// Out of line: most scalars have one run.
+#[inline(never)]
+fn many_runs(
+    alloc: Global,
+    reader: &mut Reader,
+    bytes: &[u8],
+    start: yaml_mark_t,
+    flow: bool,
+    level: u64,
+) -> Result<PlainScalar, ScanError>
+    requires inside { start.index < length reader.old.text }
+    requires start { start ≡ mark_at reader.old.text start.index }
+    requires no_blank { is_blank (byte reader.old.text start.index) ≡ false }
+    requires no_end { ends_break reader.old.text start.index ≡ false }
+    requires run { IsRun reader.old.text (start.index + 1) reader.old }
+    requires bytes { bytes.now ≡ bytes_at reader.old.text start.index
+        (reader.old.at - start.index) }
+    ensures { ReadsPlain reader.old.text start.index reader.new result
+        (spec.plain_at flow level reader.old.text start.index) }
+{
+    let mut joining = Joining::new(alloc, bytes, reader.mark())?;
     'pieces: loop {
         let more = piece(reader, &mut joining, start, flow, level)?;
         if !more {
@@ -41,22 +174,6 @@ pub fn plain_scalar(
         }
         keep_run(reader, &mut joining)?;
     }
-}
-
-/// Takes the scalar's first character and the ordinary bytes behind it.
-fn first_run(alloc: Global, reader: &mut Reader) -> Result<Joining, AllocError>
-    requires some { 0 < byte reader.old.text reader.old.at }
-    requires no_blank { is_blank (byte reader.old.text reader.old.at) ≡ false }
-    requires no_break { break_width reader.old.text reader.old.at ≡ 0 }
-    requires no_end { ends_break reader.old.text reader.old.at ≡ false }
-    ensures { IfOk result (λ j. TookFirst reader.old.text reader.old.at j reader.new) }
-{
-    let from = reader.place();
-    reader.skip();
-    // Passes the run, of which all bytes from the first one on are taken below.
-    let _run = ordinary_run(reader);
-    let joining = Joining::new(alloc, reader.since(from), reader.mark())?;
-    Ok(joining)
 }
 
 /// Takes the ordinary bytes that stand here, but none at a line's start.

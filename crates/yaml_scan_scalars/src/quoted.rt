@@ -1,16 +1,17 @@
 //! Double and single quoted scalars (YAML 1.1, sections 9.1.1 and 9.1.2).
 
-ghost use Rattle.std.specs.Prelude.{◌≡◌, ◌+◌, ◌&&◌, ◌==◌, ◌⊎◌, OnOk};
-ghost use Rattle.yaml_scan_model.specs.Marks.{byte};
+ghost use Rattle.std.specs.Prelude.{◌≡◌, ◌+◌, ◌-◌, ◌<◌, ◌&&◌, ◌==◌, ◌⊎◌, not, List, ◌++◌, length, OnOk, Ok};
+ghost use Rattle.yaml_scan_model.specs.Marks.{byte, mark_at};
 ghost use Rattle.yaml_scan_model.specs.declared.record.yaml_mark_t.{yaml_mark_t};
 ghost use Rattle.yaml_scan_scalars.specs.Quoted as spec;
 ghost use Rattle.yaml_scan_scalars.specs.Readings.{Took, Reads};
-ghost use Rattle.yaml_scan_scalars.specs.Ordinary.{TookRun};
+ghost use Rattle.yaml_scan_scalars.specs.Ordinary.{IsRun, bytes_at, kept_run};
+ghost use Rattle.yaml_scan_scalars.specs.Pieces.{Piece};
 ghost use Rattle.yaml_scan_scalars.specs.Resume.{resume};
 
 use crate::escape::escape;
 use crate::folding::Folding;
-use crate::run::ordinary_run;
+use crate::run::{copied, ordinary_run};
 use crate::scalar::Scalar;
 use std::alloc::{AllocError, Global};
 use yaml_scan_model::{Context, Problem, Reader, ScanError, is_blank_byte, yaml_mark_t};
@@ -42,9 +43,65 @@ fn quoted(alloc: Global, reader: &mut Reader, quote: u8) -> Result<Scalar, ScanE
 {
     let start = reader.mark();
     reader.skip();
+    let bytes = ordinary_run(reader);
+    if closes(reader, quote) {
+        return one_run(alloc, reader, bytes, start);
+    }
+    many_runs(alloc, reader, bytes, start, quote)
+}
+
+/// Whether the quote stands here and closes its scalar.
+fn closes(reader: &Reader, quote: u8) -> bool
+    ensures { result ≡ (byte reader.now.text reader.now.at == quote && not (quote == 39
+        && byte reader.now.text (reader.now.at + 1) == 39)) }
+{
+    reader.here() == quote && !is_doubled(quote, reader.byte(1))
+}
+
+/// The scalar that starts at the mark and has those bytes, where the reader stands before its closing quote.
+fn one_run(
+    alloc: Global,
+    reader: &mut Reader,
+    bytes: &[u8],
+    start: yaml_mark_t,
+) -> Result<Scalar, ScanError>
+    requires closing { (byte reader.old.text reader.old.at ≡ 34)
+        ⊎ (byte reader.old.text reader.old.at ≡ 39) }
+    requires start { start ≡ mark_at reader.old.text start.index }
+    ensures { Reads reader.old.text start.index reader.new result
+        (Ok (bytes.now, reader.old.at + 1)) }
+{
+    let value = copied(alloc, bytes)?;
+    reader.skip();
+    Ok(Scalar {
+        value,
+        start_mark: start,
+        end_mark: reader.mark(),
+    })
+}
+
+/// The scalar that starts at the mark, where the reader stands behind its first run, of those bytes.
+// Out of line: most scalars have one run.
+#[inline(never)]
+fn many_runs(
+    alloc: Global,
+    reader: &mut Reader,
+    bytes: &[u8],
+    start: yaml_mark_t,
+    quote: u8,
+) -> Result<Scalar, ScanError>
+    requires quote { (quote ≡ 34) ⊎ (quote ≡ 39) }
+    requires inside { start.index < length reader.old.text }
+    requires start { start ≡ mark_at reader.old.text start.index }
+    requires run { IsRun reader.old.text (start.index + 1) reader.old }
+    requires bytes { bytes.now ≡ bytes_at reader.old.text (start.index + 1)
+        (reader.old.at - (start.index + 1)) }
+    ensures { Reads reader.old.text start.index reader.new result
+        (spec.quoted_at quote reader.old.text start.index) }
+{
     let mut folding = Folding::new(alloc);
+    keep_some(&mut folding, bytes)?;
     'pieces: loop {
-        keep_run(reader, &mut folding)?;
         let more = piece(reader, &mut folding, quote, start)?;
         if !more {
             let value = folding.finish()?;
@@ -54,15 +111,15 @@ fn quoted(alloc: Global, reader: &mut Reader, quote: u8) -> Result<Scalar, ScanE
                 end_mark: reader.mark(),
             });
         }
+        keep_some(&mut folding, ordinary_run(reader))?;
     }
 }
 
-/// Takes the ordinary bytes that stand here.
-fn keep_run(reader: &mut Reader, folding: &mut Folding) -> Result<(), AllocError>
-    ensures { OnOk result (TookRun reader.old.text reader.old.at (resume folding.old)
-        (resume folding.new) reader.new) }
+/// Takes the bytes of a run. There may be none.
+fn keep_some(folding: &mut Folding, bytes: &[u8]) -> Result<(), AllocError>
+    ensures { OnOk result ((ps : List Piece) → resume folding.new ps ≡ resume folding.old
+        (kept_run bytes.now ++ ps)) }
 {
-    let bytes = ordinary_run(reader);
     if bytes.is_empty() {
         return Ok(());
     }

@@ -1,20 +1,48 @@
 //! Runs of bytes that stand for themselves, which are taken at once.
 
-ghost use Rattle.std.specs.Prelude.{◌≡◌, ◌-◌};
+ghost use Rattle.std.specs.Prelude.{◌≡◌, ◌-◌, if◌then◌else◌, IfOk};
+ghost use Rattle.yaml_scan_model.specs.Marks.{byte, starts};
 ghost use Rattle.yaml_scan_scalars.specs.Ordinary as spec;
 
-use yaml_scan_model::Reader;
+use std::alloc::{AllocError, Global};
+use yaml_scan_model::{Reader, yaml_mark_t};
+
+/// `1` for each byte that stands for itself between quotes and inside a line of a plain scalar, whatever stands beside it.
+static ORDINARY: [u8; 256] = *b"\
+    00000000000000000000000000000000\
+    00000000111100011111111111011110\
+    11111111111111111111111111100011\
+    11111111111111111111111111100000\
+    11111011111111111111111111111111\
+    11111111001111111111111111111111\
+    11011111111111111111111111111111\
+    11011111111111111111111111111111";
 
 /// Whether the byte stands for itself between quotes and inside a line of a plain scalar, whatever stands beside it.
-#[tactic(auto, unfolding(crate::specs::Ordinary::is_ordinary))]
+// Inlined into the loop over bytes.
+#[inline(always)]
 fn is_ordinary(byte: u8) -> bool
     ensures { result ≡ spec.is_ordinary byte }
 {
-    match byte {
-        b'('..=b'+' | b'/'..=b'9' | b';'..=b'>' | b'@'..=b'Z' | b'^'..=b'z' => true,
-        0x80..=0x84 | 0x86..=0xA7 | 0xAA..=0xC1 | 0xC3..=0xE1 | 0xE3..=0xFF => true,
-        _ => false,
-    }
+    ORDINARY[byte as usize] == b'1'
+}
+
+/// Whether an ordinary byte stands there.
+// Inlined into the loop over bytes.
+#[inline(always)]
+fn ordinary_at(text: &[u8], place: usize) -> bool
+    ensures { result ≡ spec.is_ordinary (byte text.now place) }
+{
+    place < text.len() && is_ordinary(text[place])
+}
+
+/// How many characters begin with the byte.
+// Inlined into the loop over bytes.
+#[inline(always)]
+fn begun(byte: u8) -> u64
+    ensures { result ≡ (if starts byte then 1 else 0) }
+{
+    if byte < 128 || byte >= 192 { 1 } else { 0 }
 }
 
 /// Past the ordinary bytes that stand here, and those bytes.
@@ -23,9 +51,31 @@ pub(crate) fn ordinary_run<'a>(reader: &mut Reader<'a>) -> &'a [u8]
     ensures bytes { result.now ≡ spec.bytes_at reader.old.text reader.old.at
         (reader.new.at - reader.old.at) }
 {
+    let here = reader.stop();
+    let text = reader.text();
     let from = reader.place();
-    'bytes: while is_ordinary(reader.here()) {
-        reader.skip();
+    let mut end = from;
+    let mut column = here.column;
+    'bytes: while ordinary_at(text, end) {
+        column += begun(text[end]);
+        end += 1;
     }
+    let mark = yaml_mark_t {
+        index: end as u64,
+        line: here.line,
+        column,
+    };
+    *reader = Reader::resume(text, mark);
     reader.since(from)
+}
+
+/// A copy of a run's bytes.
+// Inlined: one allocation and one copy.
+#[inline(always)]
+pub(crate) fn copied(alloc: Global, bytes: &[u8]) -> Result<Vec<u8>, AllocError>
+    ensures { IfOk result (λ v. v.items ≡ bytes.now) }
+{
+    let mut copy = Vec::with_capacity(alloc, bytes.len())?;
+    copy.extend_from_slice(bytes)?;
+    Ok(copy)
 }

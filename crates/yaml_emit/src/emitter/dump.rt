@@ -1,13 +1,13 @@
 //! Documents to text.
 
-ghost use Rattle.std.specs.Prelude.{◌≡◌, ◌≢◌, ◌<◌, ◌++◌, ◌∷◌, [], List, length, Some, None, true, false, OnOk, OnErr};
+ghost use Rattle.std.specs.Prelude.{◌≡◌, ◌≢◌, ◌<◌, ◌≤◌, ◌++◌, ◌∷◌, [], List, length, Some, None, true, false, OnOk, OnErr};
 ghost use Rattle.yaml_parse.specs.Events.{body_of};
 ghost use Rattle.yaml_parse.specs.Constructors.{HasUtf8};
 ghost use Rattle.yaml_emit_layout.specs.Content.{stream_start, stream_end, emitter_event, Event};
 ghost use Rattle.yaml_emit.specs.Emitter.{Answers, Given, Stays, GivesSome, Keeps, Stuck, left_if, opening_events, document_events, dump_events};
 ghost use Rattle.yaml_emit_graph.specs.Graph.{dumped};
 ghost use Rattle.yaml_emit_graph.specs.Events.{IsEvents, remaining_events};
-ghost use Rattle.yaml_emit.specs.Dumping.{Dumps};
+ghost use Rattle.yaml_emit.specs.Dumping.{Dumps, Opens};
 ghost use Rattle.yaml_emit.specs.Verdict.{Judged, JudgedAll, Unjudged, Tells};
 
 use super::yaml_emitter_t;
@@ -21,6 +21,7 @@ use yaml_scan::{yaml_encoding_t, yaml_fault_t};
 pub fn yaml_emitter_open(emitter: &mut yaml_emitter_t) -> Result<(), yaml_fault_t>
     requires { emitter.old.opened ≡ false }
     ensures answer { Answers emitter.new.fault result }
+    ensures few { length emitter.new.held ≤ 3 }
     ensures opened { OnOk result (emitter.new.opened ≡ true) }
     ensures refused { OnErr result (emitter.new.opened ≡ false) }
     ensures keeps { emitter.new.closed ≡ emitter.old.closed }
@@ -49,9 +50,11 @@ pub fn yaml_emitter_close(emitter: &mut yaml_emitter_t) -> Result<(), yaml_fault
     ensures judged { emitter.old.closed ≡ false → Judged emitter.old stream_end emitter.new }
     ensures tells { Tells emitter.new }
     ensures stays { Stays emitter.old emitter.new }
+    ensures few { length emitter.new.held ≤ 3 }
     ensures closed { OnOk result (emitter.new.closed ≡ true) }
     ensures refused { OnErr result (emitter.new.closed ≡ emitter.old.closed) }
     ensures keeps { emitter.new.opened ≡ emitter.old.opened }
+    ensures begun { emitter.new.fresh ≡ false }
 {
     if emitter.closed {
         emitter.answer()
@@ -143,6 +146,7 @@ impl yaml_emitter_t {
         ensures closed { 0 < length document.now.nodes → self.new.closed ≡ self.old.closed }
         ensures ended { length document.now.nodes ≡ 0 → self.new.fault ≡ None
             → self.new.closed ≡ true }
+        ensures refused { self.new.fault ≢ None → self.new.closed ≡ self.old.closed }
     {
         if document.node_count() == 0 {
             let _ = yaml_emitter_close(self);
@@ -163,6 +167,8 @@ impl yaml_emitter_t {
         ensures kept { self.old.opened ≡ true → self.new.opened ≡ true }
         ensures refused { result ≡ false → self.new.fault ≢ None }
         ensures closed { self.new.closed ≡ self.old.closed }
+        ensures opens { Opens self.old self.new }
+        ensures begun { self.new.fresh ≡ false }
     {
         if self.opened {
             true
@@ -182,6 +188,9 @@ impl yaml_emitter_t {
         ensures closed { 0 < length document.now.nodes → self.new.closed ≡ self.old.closed }
         ensures ended { length document.now.nodes ≡ 0 → self.new.fault ≡ None
             → self.new.closed ≡ true }
+        ensures refused { self.new.fault ≢ None → self.new.closed ≡ self.old.closed }
+        ensures opens { Opens self.old self.new }
+        ensures begun { self.new.fresh ≡ false }
     {
         if self.open_if_needed() {
             self.dump_nodes(document);
@@ -191,7 +200,8 @@ impl yaml_emitter_t {
 
 /// Writes a document and spends it. Opens the stream if that was not done, and closes it where the document has no root.
 /// A node that is visited more than once has an anchor, `id` and a number of at least three digits, and is an alias at its
-/// later visits. Refused as `yaml_emitter_emit` is.
+/// later visits. Refused as `yaml_emitter_emit` is: the stream is open then where its start was right, and closed where it
+/// was before.
 pub fn yaml_emitter_dump(
     emitter: &mut yaml_emitter_t,
     document: yaml_document_t,
@@ -200,11 +210,15 @@ pub fn yaml_emitter_dump(
     ensures judged { JudgedAll emitter.old (dump_events emitter.old document) emitter.new [] }
     ensures tells { Tells emitter.new }
     ensures answer { Answers emitter.new.fault result }
+    ensures few { length emitter.new.held ≤ 3 }
     ensures opened { OnOk result (emitter.new.opened ≡ true) }
     ensures kept { emitter.old.opened ≡ true → emitter.new.opened ≡ true }
     // A document with a root doesn't end the stream, one without a root does.
     ensures closed { 0 < length document.nodes → emitter.new.closed ≡ emitter.old.closed }
     ensures ended { length document.nodes ≡ 0 → OnOk result (emitter.new.closed ≡ true) }
+    ensures refused { OnErr result (emitter.new.closed ≡ emitter.old.closed) }
+    ensures opens { Opens emitter.old emitter.new }
+    ensures begun { emitter.new.fresh ≡ false }
     ensures stays { Stays emitter.old emitter.new }
 {
     match emitter.answer() {

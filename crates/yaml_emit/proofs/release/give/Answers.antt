@@ -1,5 +1,5 @@
 use Rattle.std.proofs.Common.{sym, ◌∙◌}
-use Rattle.yaml_emit.proofs.Holding.{waits_few, both_left, both_right, leads_past}
+use Rattle.yaml_emit.proofs.Holding.{waits_few, few_short, pushed_most, both_left, both_right, leads_past}
 use Rattle.yaml_emit.proofs.Judging.{judges_past}
 use Rattle.yaml_emit.proofs.release.give.Goals as goal
 
@@ -13,3 +13,9 @@ returns-then-passes-clause-judges c =
 
 pub push-requires-clause-few : goal.push-requires-clause-few
 push-requires-clause-few c = waits_few _ c.requires.few
+
+pub returns-then-passes-clause-short : goal.returns-then-passes-clause-short
+returns-then-passes-clause-short c = few_short _ c.requires.few
+
+pub release-requires-clause-most : goal.release-requires-clause-most
+release-requires-clause-most c = pushed_most _ _ _ c.push.ensures.events (waits_few _ c.requires.few)

@@ -19,7 +19,7 @@ pub returns-in-Err-feed-clause-err : goal.returns-in-Err-feed-clause-err
 returns-in-Err-feed-clause-err g c =
     let next = rw c.in-Ok-Some.field-0-is at c.in-Ok-Some.ensures.ok in
     load_refused c.args.parser.now c.events.parser c.next_event.new.parser c.refuse.new.self c.events.loader (event_of c.in-Ok-Some.event) (fault_of c.in-Err-feed.fault) c.events.invariant next
-    c.in-Err-feed.ensures.0 c.refuse.ensures.finished c.refuse.ensures.answered
+    c.in-Err-feed.ensures.0 c.refuse.ensures.finished c.refuse.ensures.answered c.refuse.ensures.unasked
 
 pub returns-in-Ok-None-clause-ok : goal.returns-in-Ok-None-clause-ok
 returns-in-Ok-None-clause-ok g c =

@@ -4,8 +4,8 @@ use Rattle.yaml_parse_grammar.specs.Resolve.{Directives}
 use Rattle.yaml_parse_machine.specs.declared.item.State as code
 use Rattle.yaml_parse_machine.specs.declared.item.State.TheVariants.{Stream}
 use Rattle.yaml_parse_machine.specs.Views.{stack_of}
-use Rattle.yaml_parse.proofs.Sentences.{sentence, refusal}
-use Rattle.yaml_parse.proofs.Turning.{starts, starts_anywhere}
+use Rattle.yaml_parse.proofs.Sentences.{fault_of_tokens, told_with, begins_tree, few_events}
+use Rattle.yaml_parse.proofs.Turning.{starts, starts_anywhere, starts_unasked}
 use Rattle.yaml_parse.proofs.parser.yaml_parser_initialize.Goals as goal
 
 pub returns-in-Ok-clause-tree : goal.returns-in-Ok-clause-tree
@@ -22,18 +22,39 @@ returns-in-Ok-clause-machine g c =
     (ap stack_of (c.in-Ok.ensures.items ∙ ap (λ (xs : List code.State). xs ++ Stream ∷ []) c.new-stack.ensures.items))
     (ap (λ (xs : List TagDirective). let ds : Directives = record { version = None; tags = xs } in ds) c.new.ensures)
 
-pub returns-in-Ok-clause-sentence : goal.returns-in-Ok-clause-sentence
-returns-in-Ok-clause-sentence g c =
-    sentence (g.S.yaml_token_source_t.to_come c.args.source) (g.S.yaml_token_source_t.fault_to_come c.args.source) _
+pub returns-in-Ok-clause-fault : goal.returns-in-Ok-clause-fault
+returns-in-Ok-clause-fault g c =
+    fault_of_tokens (g.S.yaml_token_source_t.to_come c.args.source) (g.S.yaml_token_source_t.fault_to_come c.args.source) _
     (starts_anywhere (g.S.yaml_token_source_t.to_come c.args.source) (g.S.yaml_token_source_t.fault_to_come c.args.source) (stack_of c.push.new.self.items)
     (record { version = None; tags = c.new.result })
     (ap stack_of (c.in-Ok.ensures.items ∙ ap (λ (xs : List code.State). xs ++ Stream ∷ []) c.new-stack.ensures.items))
     (ap (λ (xs : List TagDirective). let ds : Directives = record { version = None; tags = xs } in ds) c.new.ensures)).1
 
-pub returns-in-Ok-clause-refusal : goal.returns-in-Ok-clause-refusal
-returns-in-Ok-clause-refusal g c = λ e h.
-    refusal (g.S.yaml_token_source_t.to_come c.args.source) (g.S.yaml_token_source_t.fault_to_come c.args.source) _ e
+pub returns-in-Ok-clause-front : goal.returns-in-Ok-clause-front
+returns-in-Ok-clause-front g c =
+    begins_tree (g.S.yaml_token_source_t.to_come c.args.source) (g.S.yaml_token_source_t.fault_to_come c.args.source) _
     (starts_anywhere (g.S.yaml_token_source_t.to_come c.args.source) (g.S.yaml_token_source_t.fault_to_come c.args.source) (stack_of c.push.new.self.items)
     (record { version = None; tags = c.new.result })
     (ap stack_of (c.in-Ok.ensures.items ∙ ap (λ (xs : List code.State). xs ++ Stream ∷ []) c.new-stack.ensures.items))
-    (ap (λ (xs : List TagDirective). let ds : Directives = record { version = None; tags = xs } in ds) c.new.ensures)).1 h
+    (ap (λ (xs : List TagDirective). let ds : Directives = record { version = None; tags = xs } in ds) c.new.ensures)).0
+
+pub returns-in-Ok-clause-told : goal.returns-in-Ok-clause-told
+returns-in-Ok-clause-told g c = λ e p.
+    told_with (g.S.yaml_token_source_t.to_come c.args.source) (g.S.yaml_token_source_t.fault_to_come c.args.source) _ e _
+    (starts_anywhere (g.S.yaml_token_source_t.to_come c.args.source) (g.S.yaml_token_source_t.fault_to_come c.args.source) (stack_of c.push.new.self.items)
+    (record { version = None; tags = c.new.result })
+    (ap stack_of (c.in-Ok.ensures.items ∙ ap (λ (xs : List code.State). xs ++ Stream ∷ []) c.new-stack.ensures.items))
+    (ap (λ (xs : List TagDirective). let ds : Directives = record { version = None; tags = xs } in ds) c.new.ensures)).1
+    (starts_unasked (g.S.yaml_token_source_t.to_come c.args.source) (g.S.yaml_token_source_t.fault_to_come c.args.source) (stack_of c.push.new.self.items)
+    (record { version = None; tags = c.new.result })
+    (ap stack_of (c.in-Ok.ensures.items ∙ ap (λ (xs : List code.State). xs ++ Stream ∷ []) c.new-stack.ensures.items))
+    (ap (λ (xs : List TagDirective). let ds : Directives = record { version = None; tags = xs } in ds) c.new.ensures))
+    p
+
+pub returns-in-Ok-clause-few : goal.returns-in-Ok-clause-few
+returns-in-Ok-clause-few g c =
+    few_events (g.S.yaml_token_source_t.to_come c.args.source) (g.S.yaml_token_source_t.fault_to_come c.args.source) _
+    (starts_anywhere (g.S.yaml_token_source_t.to_come c.args.source) (g.S.yaml_token_source_t.fault_to_come c.args.source) (stack_of c.push.new.self.items)
+    (record { version = None; tags = c.new.result })
+    (ap stack_of (c.in-Ok.ensures.items ∙ ap (λ (xs : List code.State). xs ++ Stream ∷ []) c.new-stack.ensures.items))
+    (ap (λ (xs : List TagDirective). let ds : Directives = record { version = None; tags = xs } in ds) c.new.ensures)).0

@@ -32,4 +32,5 @@ pub returns-else-front-clause-steps : goal.returns-else-front-clause-steps
 returns-else-front-clause-steps g c =
     no_front_step (peeked_of c.args.buffers.now) (g.S.yaml_token_source_t.to_come c.args.source.now) (g.S.yaml_token_source_t.fault_to_come c.args.source.now) (stack_of c.args.stack.now.items)
     (state_of c.in-Some.state) (stack_of c.pop.new.self.items) (fault_of c.front.new.fault)
+    (raw (peeked_of c.front.new.buffers) (g.S.yaml_token_source_t.to_come c.front.new.source) (g.S.yaml_token_source_t.fault_to_come c.front.new.source) (stack_of c.pop.new.self.items))
     (popped c.args.stack.now.items c.pop.new.self.items c.in-Some.state c.in-Some.ensures.items) (rw c.if-front.false at c.front.ensures.front)

@@ -12,7 +12,7 @@ use Rattle.yaml_parse.proofs.step.stepping.Goals as goal
 
 pub returns-in-Refuse-clause-steps : goal.returns-in-Refuse-clause-steps
 returns-in-Refuse-clause-steps c = λ rest fault.
-    refuse_step (state_of c.args.state) (token_of c.args.buffers.now.token) rest fault (stack_of c.args.stack.now.items) c.in-Refuse.problem c.in-Refuse.opener (fault_of c.refusal.result)
+    refuse_step (state_of c.args.state) (token_of c.args.buffers.now.token) rest fault (stack_of c.args.stack.now.items) (stack_of c.args.stack.now.items) _ c.in-Refuse.problem c.in-Refuse.opener (fault_of c.refusal.result)
     (sym (c.in-Refuse.ensures ∙ ap (choice_at (state_of c.args.state)) c.type_.ensures)) c.refusal.ensures
 
 pub returns-in-Take-clause-real : goal.returns-in-Take-clause-real

@@ -1,5 +1,5 @@
-use Rattle.std.proofs.Common.{◌∙◌, ap, sym}
-use Rattle.yaml_scan.specs.Faults.{Fault, fault_of}
+use Rattle.std.proofs.Common.{◌∙◌, ap, sym, refl}
+use Rattle.yaml_scan.specs.Faults.{fault_of}
 use Rattle.yaml_parse_model.specs.Events.{event_of, body_of}
 use Rattle.yaml_parse_grammar.specs.Resolve.{refused}
 use Rattle.yaml_parse_grammar.specs.Remaining.{parser_remaining}
@@ -19,8 +19,8 @@ returns-in-Silent-clause-turns g c = λ answered. silent_turn _ _ (directives_of
 
 pub returns-in-Refused-clause-turns : goal.returns-in-Refused-clause-turns
 returns-in-Refused-clause-turns g c = λ answered.
-    refused_turn _ (raw (peeked_of c.advance.new.buffers) (g.S.yaml_token_source_t.to_come c.advance.new.source) (g.S.yaml_token_source_t.fault_to_come c.advance.new.source) (stack_of c.clear.new.self.items))
-    (directives_of c.args.directives.now) (directives_of c.args.directives.now) answered (fault_of c.advance.new.fault) c.in-Refused.ensures.steps (ap stack_of c.clear.ensures.items)
+    refused_turn _ _ (raw (peeked_of c.advance.new.buffers) (g.S.yaml_token_source_t.to_come c.advance.new.source) (g.S.yaml_token_source_t.fault_to_come c.advance.new.source) (stack_of c.clear.new.self.items))
+    (directives_of c.args.directives.now) (directives_of c.args.directives.now) answered (fault_of c.advance.new.fault) c.in-Refused.ensures.steps refl (ap stack_of c.clear.ensures.items)
 
 pub returns-in-Ok-true-clause-turns : goal.returns-in-Ok-true-clause-turns
 returns-in-Ok-true-clause-turns g c = λ answered.
@@ -38,7 +38,7 @@ returns-in-Err-Memory-clause-turns g c = λ answered.
     memory_turn
     (parser_remaining (peeked_of c.args.buffers.now) (g.S.yaml_token_source_t.to_come c.args.source.now) (g.S.yaml_token_source_t.fault_to_come c.args.source.now) (stack_of c.args.stack.now.items) (directives_of c.args.directives.now) answered)
     (raw (peeked_of c.advance.new.buffers) (g.S.yaml_token_source_t.to_come c.advance.new.source) (g.S.yaml_token_source_t.fault_to_come c.advance.new.source) (stack_of c.clear-in-Err-Memory.new.self.items))
-    (directives_of c.settle.new.directives) answered (fault_of c.want_of_memory.result) (ap (λ (f : Fault). f.kind) c.want_of_memory.ensures) (ap stack_of c.clear-in-Err-Memory.ensures.items)
+    (directives_of c.settle.new.directives) answered (fault_of c.want_of_memory.result) c.want_of_memory.ensures (ap stack_of c.clear-in-Err-Memory.ensures.items)
 
 pub returns-in-Err-Fault-clause-turns : goal.returns-in-Err-Fault-clause-turns
 returns-in-Err-Fault-clause-turns g c = λ answered.
@@ -46,7 +46,7 @@ returns-in-Err-Fault-clause-turns g c = λ answered.
     settled_turn _ _
     (raw (peeked_of c.advance.new.buffers) (g.S.yaml_token_source_t.to_come c.advance.new.source) (g.S.yaml_token_source_t.fault_to_come c.advance.new.source) (stack_of c.clear-in-Err-Fault.new.self.items))
     (directives_of c.args.directives.now) (directives_of c.settle.new.directives) answered (item_of c.advance.new.buffers.item) (fault_of c.located.result)
-    c.in-RawEvent.ensures.steps (q ∙ ap refused (sym c.located.ensures)) (ap stack_of c.clear-in-Err-Fault.ensures.items)
+    c.in-RawEvent.ensures.steps (q ∙ ap refused (sym c.located.ensures)) refl (ap stack_of c.clear-in-Err-Fault.ensures.items)
 
 pub returns-in-Done-clause-utf8 : goal.returns-in-Done-clause-utf8
 returns-in-Done-clause-utf8 g c = λ h. done_utf8 _ _ (directives_of c.args.directives.now) c.in-Done.ensures.steps

@@ -10,6 +10,6 @@ events-preserved g c =
     record {
       ending = front.ending ∙ c.events.invariant.ending;
       real = front.real;
-      leads = gives c.args.canonical c.args.emitter.now c.events.emitter c.give_normalized.new.emitter c.args.reading.now.events c.events.reading c.next_into.new.reading
-          (event_of c.next_into.new.event) c.events.invariant.leads front c.give_normalized.ensures;
+      leads = gives c.args.watch.now c.args.emitter.now c.events.emitter c.give_normalized.new.emitter c.args.reading.now.events c.events.reading c.next_into.new.reading
+          (event_of c.next_into.new.event) c.events.watch c.give_normalized.new.watch c.events.invariant.leads front c.give_normalized.ensures.given c.give_normalized.ensures.seen;
     }

@@ -8,7 +8,7 @@ abbrev pub invariant-events : goal.invariant-events
 invariant-events g l = record {
   ending : l.reading.ending ≡ l.fn.reading.ending;
   real : AreReal l.reading.events;
-  leads : Leads l.canonical l.fn.emitter l.fn.reading.events l.emitter l.reading.events;
+  leads : Leads l.fn.watch l.fn.emitter l.fn.reading.events l.watch l.emitter l.reading.events;
 }
 
 abbrev pub decreases-events : goal.decreases-events

@@ -1,84 +1,73 @@
-use Rattle.std.proofs.Common.{arith, ◌∙◌, ap, sym, true, false, Ok}
-use Rattle.std.proofs.lemmas.Result.{err_from_is_err_and}
-use Rattle.yaml_scan_scalars.specs.Plain.{spot_at}
-use Rattle.yaml_scan_scalars.specs.Joined.{Steps, TookFirst, TookWords}
+use Rattle.std.proofs.Common.{◌≡◌, ◌+◌, ◌-◌, ◌∙◌, ap, sym, true, false, refl, arith}
+use Rattle.yaml_scan_model.specs.Marks.{Place}
 use Rattle.yaml_scan_model.proofs.MarksLemmas.{within}
-use Rattle.yaml_scan_scalars.proofs.PlainLemmas.{plain_start, seat_text, turn_more, turn_done, turn_refused}
-use Rattle.yaml_scan_scalars.proofs.PlainRunLemmas.{plain_run, plain_first_run}
+use Rattle.yaml_scan_scalars.proofs.PlainLemmas.{plain_start, seat_text}
+use Rattle.yaml_scan_scalars.proofs.OneRunLemmas.{own_mark, plain_one, plain_then, reads_in, line_in, run_whole}
 use Rattle.yaml_scan_scalars.proofs.plain.plain_scalar.Goals as goal
 
-pub first_run-requires-clause-some : goal.first_run-requires-clause-some
-first_run-requires-clause-some c = (plain_start c.args.flow c.args.reader.now.text c.args.reader.now.at c.requires).1
+pub first_run-bytes-requires-clause-some : goal.first_run-bytes-requires-clause-some
+first_run-bytes-requires-clause-some c = (plain_start c.args.flow c.args.reader.now.text c.args.reader.now.at c.requires).1
 
-pub first_run-requires-clause-no_blank : goal.first_run-requires-clause-no_blank
-first_run-requires-clause-no_blank c = (plain_start c.args.flow c.args.reader.now.text c.args.reader.now.at c.requires).0
+pub first_run-bytes-requires-clause-no_break : goal.first_run-bytes-requires-clause-no_break
+first_run-bytes-requires-clause-no_break c = (plain_start c.args.flow c.args.reader.now.text c.args.reader.now.at c.requires).2
 
-pub first_run-requires-clause-no_break : goal.first_run-requires-clause-no_break
-first_run-requires-clause-no_break c = (plain_start c.args.flow c.args.reader.now.text c.args.reader.now.at c.requires).2
+pub one_run-requires : goal.one_run-requires
+one_run-requires c = record { start = rw c.first_run-bytes.ensures.run.same (own_mark c.args.reader.now.text _ _ c.mark-start.ensures).0 }
 
-pub first_run-requires-clause-no_end : goal.first_run-requires-clause-no_end
-first_run-requires-clause-no_end c =
-    let (blank, some, z) = plain_start c.args.flow c.args.reader.now.text c.args.reader.now.at c.requires in
-    c.break_here-width.ensures.none (c.break_here-width.ensures.value ∙ z)
-
-pub pieces-init : goal.pieces-init
-pieces-init c =
+pub returns-then-is_followed : goal.returns-then-is_followed
+returns-then-is_followed c =
     let text = c.args.reader.now.text in
     let p = c.args.reader.now.at in
     let (blank, some, z) = plain_start c.args.flow text p c.requires in
     let ends = c.break_here-width.ensures.none (c.break_here-width.ensures.value ∙ z) in
-    let took : TookFirst text p c.in_ok-joining.joining c.first_run.new.reader = c.in_ok-joining.ensures in
-    let rest = plain_first_run c.args.flow c.args.level text p c.in_ok-joining.joining c.first_run.new.reader took (within text p some) (sym (seat_text text p blank ends).0) in
-    record {
-      text = took.run.same;
-      start = c.mark-start.ensures;
-      seat = rw took.run.same took.seat;
-      rest = rest;
-    }
+    let run = c.first_run-bytes.ensures.run in
+    let followed = rw run.same at (c.is_followed.ensures c.if-is_followed.true c.args.level) in
+    let one = plain_one c.args.flow c.args.level text p c.first_run-bytes.new.reader (within text p some) (sym (seat_text text p blank ends).0) run followed in
+    let at = (own_mark text p _ c.mark-start.ensures).1 in
+    rw (one, ← c.first_run-bytes.ensures.bytes) (reads_in text p _ c.first_run-bytes.new.reader _ _ run.same at c.one_run.ensures)
 
-pub returns-in_err-more : goal.returns-in_err-more
-returns-in_err-more c =
-    let (n, room, same) = c.pieces.invariant.rest in
-    let e = err_from_is_err_and c.from_residual-in_err-more.result c.from_residual-in_err-more.ensures.1 in
-    let took = rw (c.pieces.invariant.text, c.pieces.invariant.start) at c.in_err-more.ensures in
-    rw (e.1, e.2, same) (turn_refused c.args.flow c.args.level c.args.reader.now.text c.args.reader.now.at c.pieces.reader.at n c.pieces.joining c.piece.new.joining c.piece.new.reader c.in_err-more.field-0.0 took)
+pub one_line-requires-clause-start : goal.one_line-requires-clause-start
+one_line-requires-clause-start c = rw c.first_run-bytes.ensures.run.same (own_mark c.args.reader.now.text _ _ c.mark-start.ensures).0
 
-pub returns-then-not-more : goal.returns-then-not-more
-returns-then-not-more c =
-    let (n, room, same) = c.pieces.invariant.rest in
-    let here = rw c.if-not-more.true at c.in_ok-more.ensures in
-    let took : Steps c.args.reader.now.text c.mark-start.result c.pieces.reader.at c.pieces.joining c.piece.new.joining c.piece.new.reader (Ok false) (spot_at c.args.flow c.args.level c.args.reader.now.text c.pieces.reader.at) = rw (← c.pieces.invariant.text) here in
-    let (place, kept, value) = turn_done c.args.flow c.args.level c.args.reader.now.text c.mark-start.result c.pieces.reader.at n c.pieces.joining c.piece.new.joining c.piece.new.reader took in
-    let seat = rw c.pieces.invariant.text at c.pieces.invariant.seat.end in
-    let all = rw kept at c.finish.ensures in
-    rw (same, value) (record { value = all; start_mark = c.mark-start.ensures; end_mark = rw kept seat; broke = ap (λ j. j.broke) kept }, place)
+pub one_line-requires-clause-same : goal.one_line-requires-clause-same
+one_line-requires-clause-same c = c.passes_line.ensures.same ∙ ap (λ (x : Place). x.text) c.ahead-ahead.ensures
 
-pub pieces-preserved : goal.pieces-preserved
-pieces-preserved c =
-    let (n, room, same) = c.pieces.invariant.rest in
-    let here = rw c.if-not-more.false at c.in_ok-more.ensures in
-    let took : Steps c.args.reader.now.text c.mark-start.result c.pieces.reader.at c.pieces.joining c.piece.new.joining c.piece.new.reader (Ok true) (spot_at c.args.flow c.args.level c.args.reader.now.text c.pieces.reader.at) = rw (← c.pieces.invariant.text) here in
-    let next = turn_more c.args.flow c.args.level c.args.reader.now.text c.mark-start.result c.pieces.reader.at n c.pieces.joining c.piece.new.joining c.piece.new.reader took room in
-    let (k, more, rest2) = next.rest in
-    let ran : TookWords c.args.reader.now.text c.piece.new.reader.at c.piece.new.joining c.keep_run.new.joining c.keep_run.new.reader = rw next.same at c.in_ok-keep_run.ensures in
-    let (m, room3, rest3) = plain_run k c.args.flow c.args.level c.args.reader.now.text c.piece.new.reader.at c.piece.new.joining c.keep_run.new.joining c.keep_run.new.reader ran more in
-    record { text = ran.run.same; start = c.pieces.invariant.start; seat = rw ran.run.same ran.seat; rest = (m, room3, same ∙ rest2 ∙ rest3) }
+pub returns-then-passes_line : goal.returns-then-passes_line
+returns-then-passes_line c =
+    let text = c.args.reader.now.text in
+    let p = c.args.reader.now.at in
+    let (blank, some, z) = plain_start c.args.flow text p c.requires in
+    let ends = c.break_here-width.ensures.none (c.break_here-width.ensures.value ∙ z) in
+    let run = c.first_run-bytes.ensures.run in
+    let follow = rw (c.ahead-ahead.ensures, run.same) at (c.passes_line.ensures.ends c.if-passes_line.true) in
+    let one = plain_then false c.args.level text p c.passes_line.new.reader.at c.passes_line.new.reader.at true c.first_run-bytes.new.reader (within text p some) (sym (seat_text text p blank ends).0) run follow in
+    let at = (own_mark text p _ c.mark-start.ensures).1 in
+    rw (c.if-not-flow.true, one, ← c.first_run-bytes.ensures.bytes) (line_in text p _ _ c.first_run-bytes.new.reader _ _ run.same at c.one_line.ensures)
 
-pub keep_run-requires : goal.keep_run-requires
-keep_run-requires c =
-    let (n, room, same) = c.pieces.invariant.rest in
-    let here = rw c.if-not-more.false at c.in_ok-more.ensures in
-    let took : Steps c.args.reader.now.text c.mark-start.result c.pieces.reader.at c.pieces.joining c.piece.new.joining c.piece.new.reader (Ok true) (spot_at c.args.flow c.args.level c.args.reader.now.text c.pieces.reader.at) = rw (← c.pieces.invariant.text) here in
-    let next = turn_more c.args.flow c.args.level c.args.reader.now.text c.mark-start.result c.pieces.reader.at n c.pieces.joining c.piece.new.joining c.piece.new.reader took room in
-    rw next.same next.seat
+pub many_runs-requires-clause-inside : goal.many_runs-requires-clause-inside
+many_runs-requires-clause-inside c =
+    let (blank, some, z) = plain_start c.args.flow c.args.reader.now.text c.args.reader.now.at c.requires in
+    rw (c.first_run-bytes.ensures.run.same, c.mark-start.ensures) (within c.args.reader.now.text c.args.reader.now.at some)
 
-pub pieces-smaller : goal.pieces-smaller
-pieces-smaller c =
-    let (n, room, same) = c.pieces.invariant.rest in
-    let here = rw c.if-not-more.false at c.in_ok-more.ensures in
-    let took : Steps c.args.reader.now.text c.mark-start.result c.pieces.reader.at c.pieces.joining c.piece.new.joining c.piece.new.reader (Ok true) (spot_at c.args.flow c.args.level c.args.reader.now.text c.pieces.reader.at) = rw (← c.pieces.invariant.text) here in
-    let next = turn_more c.args.flow c.args.level c.args.reader.now.text c.mark-start.result c.pieces.reader.at n c.pieces.joining c.piece.new.joining c.piece.new.reader took room in
-    let further = next.further in
-    let inside = next.inside in
-    let after = c.in_ok-keep_run.ensures.run.after in
-    omega arith
+pub many_runs-requires-clause-start : goal.many_runs-requires-clause-start
+many_runs-requires-clause-start c = rw c.first_run-bytes.ensures.run.same (own_mark c.args.reader.now.text _ _ c.mark-start.ensures).0
+
+pub many_runs-requires-clause-no_blank : goal.many_runs-requires-clause-no_blank
+many_runs-requires-clause-no_blank c =
+    rw (c.first_run-bytes.ensures.run.same, c.mark-start.ensures) (plain_start c.args.flow c.args.reader.now.text c.args.reader.now.at c.requires).0
+
+pub many_runs-requires-clause-no_end : goal.many_runs-requires-clause-no_end
+many_runs-requires-clause-no_end c =
+    let (blank, some, z) = plain_start c.args.flow c.args.reader.now.text c.args.reader.now.at c.requires in
+    rw (c.first_run-bytes.ensures.run.same, c.mark-start.ensures) (c.break_here-width.ensures.none (c.break_here-width.ensures.value ∙ z))
+
+pub many_runs-requires-clause-run : goal.many_runs-requires-clause-run
+many_runs-requires-clause-run c = rw (c.first_run-bytes.ensures.run.same, c.mark-start.ensures) (run_whole _ _ _ c.first_run-bytes.ensures.run)
+
+pub many_runs-requires-clause-bytes : goal.many_runs-requires-clause-bytes
+many_runs-requires-clause-bytes c = rw (c.first_run-bytes.ensures.run.same, c.mark-start.ensures) c.first_run-bytes.ensures.bytes
+
+pub returns : goal.returns
+returns c =
+    let at = (own_mark c.args.reader.now.text _ _ c.mark-start.ensures).1 in
+    rw (c.first_run-bytes.ensures.run.same, at) at c.many_runs.ensures

@@ -1,35 +1,49 @@
-use Rattle.std.proofs.Common.{◌≡◌, ◌∙◌, sym, true, arith}
-use Rattle.yaml_scan_model.specs.Marks.{byte}
-use Rattle.yaml_scan_model.proofs.MarksLemmas.{within}
+use Rattle.std.proofs.Common.{◌≡◌, ◌+◌, ◌≤◌, ◌<◌, length, ◌∙◌, sym, ap, true, ℕ, List, if◌then◌else◌, arith}
+use Rattle.yaml_scan_model.specs.Marks.{byte, starts, column_at}
+use Rattle.yaml_scan_model.proofs.MarksLemmas.{within, column_at-le}
 use Rattle.yaml_scan_scalars.specs.Ordinary.{is_ordinary}
-use Rattle.yaml_scan_scalars.proofs.RunLemmas.{run_start, run_more, run_slice, ordinary_is, ordinary_no_break}
+use Rattle.yaml_scan_scalars.proofs.RunLemmas.{run_more, run_slice, ordinary_is}
+use Rattle.yaml_scan_scalars.proofs.TableLemmas.{behind, one_at_most}
 use Rattle.yaml_scan_scalars.proofs.run.ordinary_run.Goals as goal
 
-pub bytes-init : goal.bytes-init
-bytes-init c = run_start c.args.reader.now.text c.args.reader.now.at
+pub bounds-text-end : goal.bounds-text-end
+bounds-text-end c =
+    let o : is_ordinary (byte c.args.reader.now.text c.bytes.end) ≡ true = rw c.text-text.ensures at (sym c.ordinary_at.ensures ∙ c.bytes-test.true) in
+    rw c.text-text.ensures (within c.args.reader.now.text c.bytes.end (ordinary_is _ o).some)
 
-pub skip-requires-clause-inside : goal.skip-requires-clause-inside
-skip-requires-clause-inside c =
-    let o : is_ordinary (byte c.bytes.reader.text c.bytes.reader.at) ≡ true = rw c.here.ensures at (sym c.is_ordinary.ensures ∙ c.bytes-test.true) in
-    (ordinary_is _ o).some
-
-pub skip-requires-clause-no_break : goal.skip-requires-clause-no_break
-skip-requires-clause-no_break c =
-    let o : is_ordinary (byte c.bytes.reader.text c.bytes.reader.at) ≡ true = rw c.here.ensures at (sym c.is_ordinary.ensures ∙ c.bytes-test.true) in
-    ordinary_no_break _ _ _ o
+pub overflow_add-column : goal.overflow_add-column
+overflow_add-column c =
+    let text = c.args.reader.now.text in
+    let o : is_ordinary (byte text c.bytes.end) ≡ true = rw c.text-text.ensures at (sym c.ordinary_at.ensures ∙ c.bytes-test.true) in
+    let inside = within text c.bytes.end (ordinary_is _ o).some in
+    let le = column_at-le text c.bytes.end in
+    let now : length c.text-text.result.now ≡ length text = ap (λ (xs : List ℕ). length xs) c.text-text.ensures in
+    let some : c.begun-column.result ≤ 1 = rw c.begun-column.ensures (one_at_most _) in
+    omega (arith, le, some, inside, now, c.bytes.invariant.column)
 
 pub bytes-smaller : goal.bytes-smaller
 bytes-smaller c =
-    let o : is_ordinary (byte c.bytes.reader.text c.bytes.reader.at) ≡ true = rw c.here.ensures at (sym c.is_ordinary.ensures ∙ c.bytes-test.true) in
-    let inside = within c.bytes.reader.text c.bytes.reader.at (ordinary_is _ o).some in
-    rw c.skip.ensures (omega arith)
+    let o : is_ordinary (byte c.args.reader.now.text c.bytes.end) ≡ true = rw c.text-text.ensures at (sym c.ordinary_at.ensures ∙ c.bytes-test.true) in
+    let inside = within c.args.reader.now.text c.bytes.end (ordinary_is _ o).some in
+    omega (arith, inside)
 
 pub bytes-preserved : goal.bytes-preserved
 bytes-preserved c =
-    let o : is_ordinary (byte c.args.reader.now.text c.bytes.reader.at) ≡ true = rw (c.here.ensures, c.bytes.invariant.same) at (sym c.is_ordinary.ensures ∙ c.bytes-test.true) in
-    rw c.skip.ensures (run_more c.args.reader.now.text c.args.reader.now.at c.bytes.reader c.bytes.invariant o)
+    let text = c.args.reader.now.text in
+    let o : is_ordinary (byte text c.bytes.end) ≡ true = rw c.text-text.ensures at (sym c.ordinary_at.ensures ∙ c.bytes-test.true) in
+    let inside = within text c.bytes.end (ordinary_is _ o).some in
+    let b = behind text c.bytes.end o c.bytes.invariant.whole in
+    let begun : c.begun-column.result ≡ (if starts (byte text c.bytes.end) then 1 else 0) = rw c.text-text.ensures at c.begun-column.ensures in
+    record {
+      run = run_more text c.args.reader.now.at (record { text = text; at = c.bytes.end }) c.bytes.invariant.run o;
+      inside = omega (arith, inside);
+      line = c.bytes.invariant.line ∙ sym b.line;
+      column = ap (λ (k : ℕ). k + c.begun-column.result) c.bytes.invariant.column ∙ ap (λ (k : ℕ). column_at text c.bytes.end + k) begun ∙ sym b.column;
+      whole = b.whole;
+    }
 
 pub returns-clause-bytes : goal.returns-clause-bytes
 returns-clause-bytes c =
-    let b = rw (c.place-from.ensures, c.bytes.invariant.same) at c.since.ensures in
-    b ∙ run_slice c.args.reader.now.text c.args.reader.now.at c.bytes.reader c.bytes.invariant
+    let text = c.args.reader.now.text in
+    let b = rw (c.place-from.ensures, c.resume.ensures, c.text-text.ensures) at c.since.ensures in
+    rw c.resume.ensures (b ∙ run_slice text c.args.reader.now.at (record { text = text; at = c.bytes.end }) c.bytes.invariant.run)

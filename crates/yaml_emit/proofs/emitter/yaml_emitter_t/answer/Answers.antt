@@ -1,5 +1,6 @@
-use Rattle.std.proofs.Common.{ap, option_map}
+use Rattle.std.proofs.Common.{◌≡◌, false, ap, option_map}
 use Rattle.yaml_scan.specs.Faults.{fault_of}
+use Rattle.yaml_emit.proofs.Emitting.{not_true}
 use Rattle.yaml_emit.proofs.Dumped.{inside_stuck}
 use Rattle.yaml_emit.proofs.Verdicts.{inside_tells, inside_unjudged}
 use Rattle.yaml_emit.proofs.emitter.yaml_emitter_t.answer.Goals as goal
@@ -15,3 +16,21 @@ returns-in-Some-clause-stuck c = rw (← c.self.view_is) (inside_stuck c.self.in
 
 pub returns-in-Some-clause-unjudged : goal.returns-in-Some-clause-unjudged
 returns-in-Some-clause-unjudged c = rw (← c.self.view_is) (inside_unjudged c.self.inside c.self.invariant (fault_of c.in-Some.fault) (ap (option_map fault_of) c.in-Some.is))
+
+pub returns-in-Some-clause-begun : goal.returns-in-Some-clause-begun
+returns-in-Some-clause-begun c =
+    let some = ap (option_map fault_of) c.in-Some.is in
+    let off : c.self.inside.fresh ≡ false = not_true c.self.inside.fresh (λ t. let k = (c.self.invariant.begun t).1.0 in cc) in
+    rw (← c.self.view_is) off
+
+pub returns-in-None-clause-running : goal.returns-in-None-clause-running
+returns-in-None-clause-running c = rw (← c.self.view_is) c.self.invariant.running
+
+pub returns-in-Some-clause-running : goal.returns-in-Some-clause-running
+returns-in-Some-clause-running c = rw (← c.self.view_is) c.self.invariant.running
+
+pub returns-in-None-clause-few : goal.returns-in-None-clause-few
+returns-in-None-clause-few c = rw (← c.self.view_is) c.self.invariant.short
+
+pub returns-in-Some-clause-few : goal.returns-in-Some-clause-few
+returns-in-Some-clause-few c = rw (← c.self.view_is) c.self.invariant.short

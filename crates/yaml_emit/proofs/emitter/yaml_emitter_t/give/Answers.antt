@@ -7,3 +7,6 @@ returns-in-Some-clause-given c = rw (← c.self.view_is) (inside_stays c.self.in
 
 pub returns-in-Some-clause-judged : goal.returns-in-Some-clause-judged
 returns-in-Some-clause-judged c = rw (← c.self.view_is) (inside_stuck_judged c.self.inside _ _ c.self.invariant c.in-Some.is)
+
+pub returns-in-Some-clause-few : goal.returns-in-Some-clause-few
+returns-in-Some-clause-few c = rw (← c.self.view_is) c.self.invariant.short

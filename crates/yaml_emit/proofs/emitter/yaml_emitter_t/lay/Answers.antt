@@ -10,6 +10,7 @@ invariant_of-self c =
     record {
       faulty = c.note.ensures;
       few = c.give.ensures.waits;
+      short = c.give.ensures.short;
       texts = c.give.ensures.utf8;
       begun = λ f. absurd (cc);
       limited = c.give.ensures.leads.limit ∙ c.self.invariant.limited;

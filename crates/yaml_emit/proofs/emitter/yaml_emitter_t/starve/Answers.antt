@@ -11,6 +11,7 @@ invariant_of-self c =
     record {
       faulty = c.refusal-self-inside.ensures;
       few = λ g. absurd (c.starve.ensures.stopped (goes_going _ _ g));
+      short = c.self.invariant.short;
       texts = c.self.invariant.texts;
       begun = λ f. absurd (cc);
       limited = (c.starve.ensures.text stay).limit ∙ c.self.invariant.limited;

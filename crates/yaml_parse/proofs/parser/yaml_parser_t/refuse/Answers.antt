@@ -4,10 +4,13 @@ use Rattle.yaml_parse_model.specs.Prefix.{prefix_of}
 use Rattle.yaml_parse_machine.specs.Views.{stack_of}
 use Rattle.yaml_parse_machine.specs.Settles.{directives_of}
 use Rattle.yaml_parse.specs.Steps.{peeked_of}
-use Rattle.yaml_parse.proofs.Turning.{finishes}
+use Rattle.yaml_parse.proofs.Turning.{finishes, one_held}
 use Rattle.yaml_parse.proofs.parser.yaml_parser_t.refuse.Goals as goal
 
 pub returns-clause-finished : goal.returns-clause-finished
 returns-clause-finished g c =
     finishes (peeked_of c.self.inside.buffers) (g.S.yaml_token_source_t.to_come c.self.inside.source) (g.S.yaml_token_source_t.fault_to_come c.self.inside.source) (stack_of c.clear.new.self.items)
     (directives_of c.self.inside.directives) (prefix_of c.of-self-inside.result) (ap stack_of c.clear.ensures.items)
+
+pub returns-clause-held : goal.returns-clause-held
+returns-clause-held g c = one_held (peeked_of c.self.inside.buffers)

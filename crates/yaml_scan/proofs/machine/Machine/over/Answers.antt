@@ -17,6 +17,7 @@ returns-clause-stands c =
     record {
       long = (let same : length c.as_slice-length.result.now ≡ length (text_bytes c.args.text) = ap (λ (t : List ℕ). length t) c.as_slice-length.ensures in omega (arith, same));
       few = rw c.new.ensures.items (omega arith);
+      short = rw c.new.ensures.items (omega arith);
       taken = omega arith;
       settled = omega arith;
       last = omega arith;

@@ -18,6 +18,7 @@ use Rattle.yaml_scan.proofs.SafeLemmas.{inside_push, depth_after-le, narrow_by}
 use Rattle.yaml_scan.proofs.KindLemmas.{ok_read}
 use Rattle.yaml_scan.proofs.MarkLemmas.{kept_entries}
 use Rattle.yaml_scan.proofs.PushLemmas.{IsPushed, marks_are, levels_is, entry_is, column_is, allowed_is, pending_by, shown_by, settled_value, read_pushed, spoken_marked, spoken_push, room_is}
+use Rattle.yaml_scan.proofs.ComesLemmas.{waits_short}
 use Rattle.yaml_scan.proofs.GivenLemmas.{given_goes}
 use Rattle.yaml_scan.proofs.BoundLemmas.{bound_step, last_step, some_less}
 use Rattle.yaml_scan.proofs.machine.Machine.step.Goals as goal
@@ -225,6 +226,7 @@ returns-clause-ok c =
       record {
         long = omega (arith, len, c.requires.stands.long);
         few = omega (arith, len, drops, more, room, long);
+        short = omega (arith, more, waits_short m l c.requires.stands c.requires.sought c.requires.more e);
         taken = omega (arith, drops, settles, settled.low, c.requires.stands.taken);
         settled = settled.high;
         last = subst AtLast (sym more_bound) (last_step d.dropped d.candidate_bound (length c.push_back_reserved.new.self.items) l r.own (omega (arith, drops, bounds, more, c.requires.stands.last)) inside_new);

@@ -59,6 +59,7 @@ returns-in-Some-pop_front-clause-stands c =
     record {
       long = c.requires.stands.long;
       few = omega (arith, len, c.requires.stands.few);
+      short = omega (arith, len, c.requires.stands.short);
       taken = omega (arith, low);
       settled = omega (arith, len, c.requires.stands.settled);
       last = omega (arith, len, c.requires.stands.last);

@@ -1,0 +1,23 @@
+-- What comes of a list of tokens that begins with those of no tree.
+use Rattle.std.specs.Prelude.{◌≡◌, List, [], ◌∷◌, ◌++◌, None}
+use Rattle.yaml_scan.specs.Tokens.{Token}
+use Rattle.yaml_parse_grammar.specs.Trees.{Stream, spell, items}
+use Rattle.yaml_parse_grammar.specs.Resolve.{Told, reading, no_directives}
+use Rattle.yaml_parse_laws_faults.specs.laws_sound.Laws.{GoesOn, told, BeginsWithEvents}
+
+-- no tree goes on with one token more
+abbrev pub IsLongest : List Token → List Token → Type 0
+IsLongest front [] = Unit {0}
+IsLongest front (t ∷ ts) = GoesOn (front ++ t ∷ []) → ⊥
+
+-- The events begin those of a tree that goes on with the longest front of the tokens with which one does.
+pub record BeginsTree (ts : List Token) (events : List Told) : Type 0 where
+  pub front : List Token
+  pub behind : List Token
+  pub list : ts ≡ front ++ behind
+  pub longest : IsLongest front behind
+  pub tree : Stream
+  pub more : List Token
+  pub same : front ++ more ≡ spell tree []
+  pub begins : BeginsWithEvents (told events)
+      (told (reading (items tree []) None no_directives).events)

@@ -1,0 +1,64 @@
+-- Events that are said one behind another.
+use Rattle.std.proofs.Common.{false, Result, Ok, Err, ◌≡◌, ◌∙◌, ap, sym, subst, refl, ℕ, List, [], ◌∷◌, ◌++◌, append_assoc}
+use Rattle.std.specs.Result.{IfOk, is_err}
+use Rattle.std.specs.declared.alloc.AllocError.{AllocError}
+use Rattle.yaml_parse.specs.Events.{Event}
+use Rattle.yaml_parse.specs.Resolve.{Told}
+use Rattle.yaml_round_c.specs.declared.record.yaml_c_directive.{yaml_c_directive}
+use Rattle.yaml_round_c.specs.declared.record.yaml_c_event.{yaml_c_event}
+use Rattle.yaml_round_c.specs.declared.listing.Listing.{Listing}
+use Rattle.yaml_round_c.specs.Records.{Says, AllSay}
+use Rattle.yaml_round_c.specs.Listing.{Adds, Said, Collected, StartsEmpty, events_alone}
+use Rattle.yaml_round_c.proofs.Placing.{regrouped}
+
+-- one more record says one more event
+one_more_says : (bytes : List ℕ) (list : List yaml_c_directive) (rs : List yaml_c_event) (es : List Event) (r : yaml_c_event) (e : Event)
+    → AllSay bytes list rs es → Says bytes list r e → AllSay bytes list (rs ++ r ∷ []) (es ++ e ∷ [])
+one_more_says bytes list [] [] r e h s = (s, tt)
+one_more_says bytes list [] (x ∷ es) r e h s = absurd h
+one_more_says bytes list (y ∷ rs) [] r e h s = absurd h
+one_more_says bytes list (y ∷ rs) (x ∷ es) r e h s = (h.0, one_more_says bytes list rs es r e h.1 s)
+
+pub say_at : (b c : List ℕ) (d f : List yaml_c_directive) (rs qs : List yaml_c_event) (es : List Event) → c ≡ b → f ≡ d → qs ≡ rs
+    → AllSay b d rs es → AllSay c f qs es
+say_at b c d f rs qs es p q r h =
+    subst (λ z. AllSay z f qs es) (sym p) (subst (λ z. AllSay b z qs es) (sym q) (subst (λ z. AllSay b d z es) (sym r) h))
+
+said_on : (old new : Listing) (e : Event) (es : List Event) → Adds old e new → Said old es → Said new (es ++ e ∷ [])
+said_on old new e es a s more others =
+    let bytes : List ℕ = new.bytes.items ++ more in
+    let list : List yaml_c_directive = new.directives.items ++ others in
+    let before : AllSay bytes list old.events.items es =
+    say_at _ bytes _ list _ old.events.items es (regrouped old.bytes.items new.bytes.items more a.bytes)
+    (regrouped old.directives.items new.directives.items others a.directives) refl (s (a.bytes.more ++ more) (a.directives.more ++ others)) in
+    subst (λ z. AllSay bytes list z (es ++ e ∷ [])) (sym a.events)
+    (one_more_says bytes list old.events.items es a.record_of e before record { body = a.body more others; start = a.start; end = a.end; alone = a.alone })
+
+nothing_says : (bytes : List ℕ) (list : List yaml_c_directive) (rs : List yaml_c_event) → rs ≡ [] → AllSay bytes list rs []
+nothing_says bytes list rs e = rw e tt
+
+-- before the first event
+pub none_collected : (start : List Told) (l : Listing) → StartsEmpty l → Collected start start l
+none_collected start l e = record {
+  given = [];
+  said = λ more others. nothing_says (l.bytes.items ++ more) (l.directives.items ++ others) l.events.items e.0;
+  split = refl;
+}
+
+-- one more event
+pub one_collected : (start left rest : List Told) (l m : Listing) (t : Told) → Collected start left l → left ≡ t ∷ rest → Adds l t.0 m
+    → Collected start rest m
+one_collected start left rest l m t c e a = record {
+  given = c.given ++ t.0 ∷ [];
+  said = said_on l m t.0 c.given a c.said;
+  split = c.split ∙ ap (λ z. c.given ++ events_alone z) e ∙ sym (append_assoc c.given (t.0 ∷ []) (events_alone rest));
+}
+
+-- behind the last one
+pub all_collected : (start left : List Told) (l : Listing) → Collected start left l → left ≡ [] → Collected start [] l
+all_collected start left l c e = subst (λ z. Collected start z l) e c
+
+-- what an answer that is no fault says
+pub it_holds : (P : Type 0) (r : Result (Unit {0}) AllocError) → IfOk r (λ _. P) → false ≡ is_err r → P
+it_holds P (Ok x) h e = h
+it_holds P (Err x) h e = absurd (cc)

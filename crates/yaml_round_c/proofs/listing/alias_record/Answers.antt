@@ -1,0 +1,10 @@
+use Rattle.std.proofs.Common.{refl}
+use Rattle.yaml_round_c.proofs.Placing.{puts_grows, puts_holds}
+use Rattle.yaml_round_c.proofs.listing.alias_record.Goals as goal
+
+pub returns : goal.returns
+returns c = record {
+  grows = puts_grows _ _ _ _ c.in_ok-record.ensures;
+  anchor = puts_holds _ _ _ _ c.in_ok-record.ensures;
+  same = refl;
+}

@@ -1,0 +1,19 @@
+use Rattle.std.proofs.Common.{ap}
+use Rattle.yaml_round_c.specs.declared.record.yaml_c_event.{yaml_c_event}
+use Rattle.yaml_round_c.proofs.Placing.{grows_on, puts_grows, puts_holds, holds_optional_on}
+use Rattle.yaml_round_c.proofs.listing.scalar_record.Goals as goal
+
+pub returns : goal.returns
+returns c =
+    let w = c.in_ok-record.ensures in
+    let p = c.in_ok-record-2.ensures in
+    let r = c.in_ok-record.record in
+    record {
+      grows = grows_on _ _ _ w.grows (puts_grows _ _ _ _ p);
+      anchor = holds_optional_on _ _ r.has_anchor r.anchor _ (puts_grows _ _ _ _ p) w.anchor;
+      has_anchor = w.has_anchor;
+      has_tag = w.has_tag;
+      tag = holds_optional_on _ _ r.has_tag r.tag _ (puts_grows _ _ _ _ p) w.tag;
+      value = puts_holds _ _ _ _ p;
+      same = ap (λ (z : yaml_c_event). record z { value = c.in_ok-record-2.field-0 }) w.same;
+    }

@@ -1,0 +1,71 @@
+//! The text of events that are given as records.
+
+ghost use Rattle.std.specs.Prelude.{◌≡◌, IsSome};
+ghost use Rattle.yaml_round_c.specs.Told.{Answers, IsExact};
+ghost use Rattle.yaml_round_c.specs.Meaning.{events_meant};
+ghost use Rattle.yaml_round_c.specs.Leading.{asked_for};
+ghost use Rattle.yaml_round_c.specs.Emitting.{emit_meant, Emits, EmitsAll};
+
+use crate::answer::{misused, refused, told, yaml_c_answer};
+use crate::emitter::{Asked, asked_of, emitted};
+use crate::meaning::are_meant;
+use crate::record::{yaml_c_directive, yaml_c_event};
+use crate::settings::yaml_c_settings;
+use std::alloc::Global;
+
+fn answered(
+    alloc: Global,
+    events: &[yaml_c_event],
+    directives: &[yaml_c_directive],
+    bytes: &[u8],
+    asked: &Asked,
+) -> yaml_c_answer
+    requires { IsSome (events_meant bytes.now directives.now events.now) }
+    ensures { EmitsAll (events_meant bytes.now directives.now events.now) (asked_for asked.now)
+        result }
+{
+    match emitted(alloc, bytes, directives, events, asked) {
+        Ok(text) => told(text, 0),
+        Err(fault) => refused(alloc, &fault, 0),
+    }
+}
+
+fn answered_by(
+    alloc: Global,
+    events: &[yaml_c_event],
+    directives: &[yaml_c_directive],
+    bytes: &[u8],
+    settings: &yaml_c_settings,
+) -> yaml_c_answer
+    ensures { Answers (emit_meant bytes.now directives.now events.now settings.now) Emits result }
+{
+    let Some(asked) = asked_of(settings) else {
+        return misused();
+    };
+    if are_meant(bytes, directives, events) {
+        answered(alloc, events, directives, bytes, &asked)
+    } else {
+        misused()
+    }
+}
+
+/// The text of the events that the records mean, one after another: what an emitter writes for them, or its fault without any
+/// text. All records are looked at before an event is given, so that -1 comes exactly where a number means nothing, a span
+/// that is looked at lies outside, or a text isn't UTF-8.
+#[unsafe(no_mangle)]
+pub extern "C" fn yaml_c_emit(
+    alloc: Global,
+    events: &[yaml_c_event],
+    directives: &[yaml_c_directive],
+    bytes: &[u8],
+    settings: &yaml_c_settings,
+    answer: &mut yaml_c_answer,
+) -> i32
+    ensures told { Answers (emit_meant bytes.now directives.now events.now settings.now) Emits
+        answer.new }
+    ensures exact { IsExact (emit_meant bytes.now directives.now events.now settings.now) result }
+    ensures kind { result ≡ answer.new.kind }
+{
+    *answer = answered_by(alloc, events, directives, bytes, settings);
+    answer.kind
+}

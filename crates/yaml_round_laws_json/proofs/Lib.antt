@@ -1,0 +1,3 @@
+mod Growing
+pub mod Documents
+pub mod Passing

@@ -1,0 +1,61 @@
+use Rattle.std.proofs.Common.{refl, arith, ◌∙◌, ◌≡◌, ◌+◌, ◌-◌, ◌++◌, ap, true, false, suc, length, ℕ, List, Ok}
+use Rattle.std.proofs.lemmas.Result.{err_from_is_err_and}
+use Rattle.yaml_scan_scalars.specs.Pieces.{Piece, value}
+use Rattle.yaml_scan_scalars.specs.Resume.{resume}
+use Rattle.yaml_scan_scalars.specs.Quoted.{standing_at}
+use Rattle.yaml_scan_scalars.specs.Readings.{Took}
+use Rattle.yaml_scan_scalars.specs.Ordinary.{TookRun, IsRun, bytes_at, kept_run}
+use Rattle.yaml_scan_scalars.proofs.QuotedLemmas.{turn_more, turn_done, turn_refused}
+use Rattle.yaml_scan_scalars.proofs.RunLemmas.{quoted_run}
+use Rattle.yaml_scan_scalars.proofs.OneRunLemmas.{quoted_first}
+use Rattle.yaml_scan_scalars.proofs.quoted.many_runs.Goals as goal
+
+pub pieces-init : goal.pieces-init
+pieces-init c =
+    let text = c.args.reader.now.text in
+    let p : ℕ = c.args.start.index in
+    let place = c.args.reader.now in
+    let same : (ps : List Piece) → resume c.keep_some.new.folding ps ≡ value (kept_run (bytes_at text (p + 1) (place.at - (p + 1))) ++ ps) =
+    λ ps. c.in_ok-keep_some.ensures ps ∙ c.new-folding.ensures (kept_run c.args.bytes.now ++ ps) ∙ ap (λ (bs : List ℕ). value (kept_run bs ++ ps)) c.requires.bytes in
+    record { text = refl; rest = quoted_first c.args.quote text p (resume c.keep_some.new.folding) place c.requires.quote c.requires.inside c.requires.run same }
+
+pub returns-in_err-more : goal.returns-in_err-more
+returns-in_err-more c =
+    let (n, room, same) = c.pieces.invariant.rest in
+    let p = err_from_is_err_and c.from_residual-in_err-more.result c.from_residual-in_err-more.ensures.1 in
+    let took = rw (c.pieces.invariant.text, c.requires.start) at c.in_err-more.ensures in
+    rw (p.1, p.2, same) (turn_refused c.args.reader.now.text c.args.quote c.args.start.index c.pieces.reader.at n (resume c.pieces.folding) (resume c.piece.new.folding) c.piece.new.reader c.in_err-more.field-0.0 took)
+
+pub returns-then-not-more : goal.returns-then-not-more
+returns-then-not-more c =
+    let (n, room, same) = c.pieces.invariant.rest in
+    let here = rw c.if-not-more.true at c.in_ok-more.ensures in
+    let took : Took c.args.reader.now.text c.args.start c.pieces.reader.at (resume c.pieces.folding) (resume c.piece.new.folding) c.piece.new.reader (Ok false) (standing_at c.args.quote c.args.reader.now.text c.pieces.reader.at) = rw (← c.pieces.invariant.text) here in
+    let (place, value) = turn_done c.args.reader.now.text c.args.start c.args.quote c.pieces.reader.at n (resume c.pieces.folding) (resume c.piece.new.folding) c.piece.new.reader took in
+    let mark = c.mark.ensures in
+    rw (same, value) (record { value = c.in_ok-value.ensures; start_mark = c.requires.start; end_mark = rw place at mark }, place)
+
+pub pieces-preserved : goal.pieces-preserved
+pieces-preserved c =
+    let (n, room, same) = c.pieces.invariant.rest in
+    let here = rw c.if-not-more.false at c.in_ok-more.ensures in
+    let took : Took c.args.reader.now.text c.args.start c.pieces.reader.at (resume c.pieces.folding) (resume c.piece.new.folding) c.piece.new.reader (Ok true) (standing_at c.args.quote c.args.reader.now.text c.pieces.reader.at) = rw (← c.pieces.invariant.text) here in
+    let next = turn_more c.args.reader.now.text c.args.start c.args.quote c.pieces.reader.at n (resume c.pieces.folding) (resume c.piece.new.folding) c.piece.new.reader took room in
+    let (k, more, rest2) = next.rest in
+    let run : IsRun c.args.reader.now.text c.piece.new.reader.at c.ordinary_run.new.reader = rw next.same at c.ordinary_run.ensures.place in
+    let bytes = rw next.same at c.ordinary_run.ensures.bytes in
+    let kept : (ps : List Piece) → resume c.keep_some-in-pieces.new.folding ps ≡ resume c.piece.new.folding (kept_run (bytes_at c.args.reader.now.text c.piece.new.reader.at (c.ordinary_run.new.reader.at - c.piece.new.reader.at)) ++ ps) =
+    λ ps. c.in_ok-keep_some-2.ensures ps ∙ ap (λ (bs : List ℕ). resume c.piece.new.folding (kept_run bs ++ ps)) bytes in
+    let (m, room3, rest3) = quoted_run k c.args.quote c.args.reader.now.text c.piece.new.reader.at (resume c.piece.new.folding) (resume c.keep_some-in-pieces.new.folding) c.ordinary_run.new.reader c.requires.quote (run, kept) more in
+    record { text = run.same; rest = (m, room3, same ∙ rest2 ∙ rest3) }
+
+pub pieces-smaller : goal.pieces-smaller
+pieces-smaller c =
+    let (n, room, same) = c.pieces.invariant.rest in
+    let here = rw c.if-not-more.false at c.in_ok-more.ensures in
+    let took : Took c.args.reader.now.text c.args.start c.pieces.reader.at (resume c.pieces.folding) (resume c.piece.new.folding) c.piece.new.reader (Ok true) (standing_at c.args.quote c.args.reader.now.text c.pieces.reader.at) = rw (← c.pieces.invariant.text) here in
+    let next = turn_more c.args.reader.now.text c.args.start c.args.quote c.pieces.reader.at n (resume c.pieces.folding) (resume c.piece.new.folding) c.piece.new.reader took room in
+    let further = next.further in
+    let inside = next.inside in
+    let after = c.ordinary_run.ensures.place.after in
+    omega arith

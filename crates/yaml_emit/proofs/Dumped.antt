@@ -1,9 +1,9 @@
 -- A dump is given event by event.
 use Rattle.std.proofs.Common.{◌≡◌, ◌≢◌, ℕ, List, [], ◌∷◌, ◌++◌, length, Bool, true, false, refl, sym, subst, ◌∙◌, ap, arith, Option, Some, None, option_map, Result, Ok, Err, OnOk}
-use Rattle.yaml_scan.specs.Faults.{Fault, fault_of}
-use Rattle.yaml_scan.specs.declared.yaml_fault_t.{yaml_fault_t}
-use Rattle.yaml_parse.specs.Nodes.{Node}
-use Rattle.yaml_parse.specs.Documents.{Document}
+use Rattle.yaml_scan_model.specs.Faults.{Fault, fault_of}
+use Rattle.yaml_scan_model.specs.declared.yaml_fault_t.{yaml_fault_t}
+use Rattle.yaml_parse_model.specs.Nodes.{Node}
+use Rattle.yaml_parse_document.specs.Documents.{Document}
 use Rattle.yaml_emit_text.specs.declared.Encoding.{Encoding}
 use Rattle.yaml_emit_text.specs.declared.Status.{Status}
 use Rattle.yaml_emit_text.specs.declared.Status.TheVariants.{Going, Full, Deep, Starved}

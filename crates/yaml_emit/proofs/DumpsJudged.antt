@@ -1,7 +1,7 @@
 -- A dump's events are judged one by one.
 use Rattle.std.proofs.Common.{◌≡◌, ◌≢◌, ℕ, List, [], ◌∷◌, ◌++◌, length, Bool, true, false, refl, sym, subst, ◌∙◌, Option}
-use Rattle.yaml_scan.specs.Faults.{Fault}
-use Rattle.yaml_parse.specs.Documents.{Document}
+use Rattle.yaml_scan_model.specs.Faults.{Fault}
+use Rattle.yaml_parse_document.specs.Documents.{Document}
 use Rattle.yaml_emit_text.specs.declared.Encoding.{Encoding}
 use Rattle.yaml_emit_text.specs.Layout.{Layout, stay, nothing_more}
 use Rattle.yaml_emit_text.specs.Text.{Item}

@@ -9,5 +9,3 @@ pub mod Verdicts
 pub mod Dumped
 pub mod DumpsJudged
 pub mod Opened
--- what it stands on, for laws that name the member alone
-pub use Rattle.yaml_parse.proofs as parse

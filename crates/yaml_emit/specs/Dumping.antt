@@ -1,7 +1,7 @@
 -- A dump goes on, and how far it has opened the stream.
 use Rattle.std.specs.Prelude.{◌≡◌, suc, Bool, true, false, List, [], ◌∷◌, length, None}
-use Rattle.yaml_scan.specs.declared.yaml_encoding_t.TheVariants.{YAML_ANY_ENCODING}
-use Rattle.yaml_parse.specs.Documents.{Document}
+use Rattle.yaml_scan_model.specs.declared.yaml_encoding_t.TheVariants.{YAML_ANY_ENCODING}
+use Rattle.yaml_parse_document.specs.Documents.{Document}
 use Rattle.yaml_emit_text.specs.declared.Encoding.{Encoding}
 use Rattle.yaml_emit_text.specs.Text.{Item}
 use Rattle.yaml_emit_layout.specs.Content.{Event, stream_start}

@@ -1,15 +1,15 @@
 -- What an emitter's output ends as, with the events that follow, and its faults.
 use Rattle.std.specs.Prelude.{◌≡◌, ◌⊎◌, ℕ, ◌<◌, ◌≤◌, Bool, true, false, List, [], ◌∷◌, ◌++◌, length, take, Option, Some, None, option_map, pos, codes, Result, Ok, Err}
-use Rattle.yaml_scan.specs.declared.yaml_encoding_t.{yaml_encoding_t}
-use Rattle.yaml_scan.specs.declared.yaml_encoding_t.TheVariants.{YAML_ANY_ENCODING}
-use Rattle.yaml_scan.specs.declared.yaml_break_t.TheVariants.{YAML_ANY_BREAK}
-use Rattle.yaml_scan.specs.declared.yaml_fault_t.{yaml_fault_t}
-use Rattle.yaml_scan.specs.declared.yaml_error_type_t.{yaml_error_type_t}
-use Rattle.yaml_scan.specs.declared.yaml_error_type_t.TheVariants.{YAML_EMITTER_ERROR, YAML_WRITER_ERROR}
-use Rattle.yaml_scan.specs.declared.yaml_origin_t.{yaml_origin_t}
-use Rattle.yaml_scan.specs.declared.yaml_origin_t.TheVariants as origin
-use Rattle.yaml_scan.specs.Tokens.{zero_mark}
-use Rattle.yaml_scan.specs.Faults.{Fault, fault_of, memory_fault, IsMemoryFault, emit_layers}
+use Rattle.yaml_scan_model.specs.declared.yaml_encoding_t.{yaml_encoding_t}
+use Rattle.yaml_scan_model.specs.declared.yaml_encoding_t.TheVariants.{YAML_ANY_ENCODING}
+use Rattle.yaml_scan_model.specs.declared.yaml_break_t.TheVariants.{YAML_ANY_BREAK}
+use Rattle.yaml_scan_model.specs.declared.yaml_fault_t.{yaml_fault_t}
+use Rattle.yaml_scan_model.specs.declared.yaml_error_type_t.{yaml_error_type_t}
+use Rattle.yaml_scan_model.specs.declared.yaml_error_type_t.TheVariants.{YAML_EMITTER_ERROR, YAML_WRITER_ERROR}
+use Rattle.yaml_scan_model.specs.declared.yaml_origin_t.{yaml_origin_t}
+use Rattle.yaml_scan_model.specs.declared.yaml_origin_t.TheVariants as origin
+use Rattle.yaml_scan_model.specs.Tokens.{zero_mark}
+use Rattle.yaml_scan_model.specs.Faults.{Fault, fault_of, memory_fault, IsMemoryFault, emit_layers}
 use Rattle.yaml_emit_text.specs.declared.Encoding.{Encoding}
 use Rattle.yaml_emit_text.specs.declared.Status.{Status}
 use Rattle.yaml_emit_text.specs.declared.Status.TheVariants.{Going, Full, Deep, Starved}
@@ -19,8 +19,8 @@ use Rattle.yaml_emit_text.specs.Layout.{written}
 use Rattle.yaml_emit_text.specs.Settings.{settled}
 use Rattle.yaml_emit_layout.specs.declared.Expected.{Expected}
 use Rattle.yaml_emit_layout.specs.declared.Problem.{Problem}
-use Rattle.yaml_parse.specs.Nodes as model
-use Rattle.yaml_parse.specs.Documents as documents
+use Rattle.yaml_parse_model.specs.Nodes as model
+use Rattle.yaml_parse_document.specs.Documents as documents
 use Rattle.yaml_emit_layout.specs.Content.{Event, stream_start, stream_end, Document, stream_events}
 use Rattle.yaml_emit_layout.specs.Grammar.{own_problems, problem_bytes}
 use Rattle.yaml_emit_layout.specs.Nodes.{stream_layout}

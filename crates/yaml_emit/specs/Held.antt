@@ -1,7 +1,7 @@
 -- The events that are held.
 use Rattle.std.specs.Prelude.{ℕ, Bool, true, false, not, ◌&&◌, ◌||◌, nat_le, List, [], ◌∷◌, length}
-use Rattle.yaml_parse.specs.Events.{EventBody, body_of}
-use Rattle.yaml_parse.specs.Constructors.{HasUtf8}
+use Rattle.yaml_parse_model.specs.Events.{EventBody, body_of}
+use Rattle.yaml_parse_model.specs.Constructors.{HasUtf8}
 use Rattle.yaml_emit_layout.specs.Content.{Event, no_event, stream_start, stream_end, document_start, document_end, alias, scalar, sequence_start, sequence_end, mapping_start, mapping_end, emitter_event}
 use Rattle.yaml_emit.specs.declared.held.Held.{Held}
 use Rattle.yaml_emit.specs.declared.held.Count.{Count}

@@ -1,10 +1,10 @@
 //! The emitter.
 
 ghost use Rattle.std.specs.Prelude.{◌≡◌, ◌≤◌, length, Some, None, true, false, option_map, IfOk, IfErr, OnErr};
-ghost use Rattle.yaml_scan.specs.Faults.{Fault, fault_of, memory_fault};
-ghost use Rattle.yaml_scan.specs.declared.yaml_origin_t.TheVariants as from;
-ghost use Rattle.yaml_parse.specs.Events.{event_of, body_of};
-ghost use Rattle.yaml_parse.specs.Constructors.{HasUtf8};
+ghost use Rattle.yaml_scan_model.specs.Faults.{Fault, fault_of, memory_fault};
+ghost use Rattle.yaml_scan_model.specs.declared.yaml_origin_t.TheVariants as from;
+ghost use Rattle.yaml_parse_model.specs.Events.{event_of, body_of};
+ghost use Rattle.yaml_parse_model.specs.Constructors.{HasUtf8};
 ghost use Rattle.yaml_emit_layout.specs.Content.{emitter_event};
 ghost use Rattle.yaml_emit.specs.Emitter.{stream_encoding, stop_of, IsNew, IsLimited, ShowsFront, IsWhole, Given, Begins, Answers, Stays, Stuck};
 ghost use Rattle.yaml_emit.specs.Within.{IsWithin};
@@ -20,8 +20,8 @@ use std::alloc::Global;
 use std::marker::Model;
 use yaml_emit_state::Core;
 use yaml_emit_text::{RequestedSettings, settled};
-use yaml_parse::{yaml_event_body_t, yaml_event_t};
-use yaml_scan::{yaml_break_t, yaml_encoding_t, yaml_fault_t};
+use yaml_parse_model::{yaml_event_body_t, yaml_event_t};
+use yaml_scan_model::{yaml_break_t, yaml_encoding_t, yaml_fault_t};
 
 /// An emitter: events to text.
 #[derive(Drop)]

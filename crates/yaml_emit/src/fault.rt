@@ -1,14 +1,16 @@
 //! The faults of an emitter.
 
 ghost use Rattle.std.specs.Prelude.{◌≡◌, None, option_map};
-ghost use Rattle.yaml_scan.specs.Faults.{fault_of, memory_fault};
+ghost use Rattle.yaml_scan_model.specs.Faults.{fault_of, memory_fault};
 ghost use Rattle.yaml_emit.specs.Judged.{refused_at};
 ghost use Rattle.yaml_emit.specs.Emitter.{plain_fault, emitter_fault, problem_fault, memory_origin, stopped, refusal_of};
 
 use yaml_emit_layout::{Expected, problem_text};
 use yaml_emit_state::Core;
 use yaml_emit_text::Status;
-use yaml_scan::{yaml_error_type_t, yaml_fault_t, yaml_mark_t, yaml_memory_fault, yaml_origin_t};
+use yaml_scan_model::{
+    yaml_error_type_t, yaml_fault_t, yaml_mark_t, yaml_memory_fault, yaml_origin_t,
+};
 
 fn plain_fault(
     kind: yaml_error_type_t,

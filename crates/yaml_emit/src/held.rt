@@ -1,15 +1,15 @@
 //! The events that are held.
 
 ghost use Rattle.std.specs.Prelude.{◌≡◌, ◌<◌, ◌≤◌, ◌++◌, ◌∷◌, [], true, false, length, List};
-ghost use Rattle.yaml_parse.specs.Events.{body_of};
-ghost use Rattle.yaml_parse.specs.Constructors.{HasUtf8};
+ghost use Rattle.yaml_parse_model.specs.Events.{body_of};
+ghost use Rattle.yaml_parse_model.specs.Constructors.{HasUtf8};
 ghost use Rattle.yaml_emit_layout.specs.Content.{emitter_event};
 ghost use Rattle.yaml_emit_layout.specs.State.{opens_empty, closes_by};
 ghost use Rattle.yaml_emit_state.specs.Steps.{LaysOut};
 
 use std::mem;
 use yaml_emit_state::Core;
-use yaml_parse::yaml_event_body_t;
+use yaml_parse_model::yaml_event_body_t;
 
 /// How many events are held.
 #[derive(Clone, Copy, PartialEq, Eq, Debug)]

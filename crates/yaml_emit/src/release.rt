@@ -1,8 +1,8 @@
 //! What no longer has to be held.
 
 ghost use Rattle.std.specs.Prelude.{◌≡◌, ◌≤◌, length, ◌&&◌, ◌++◌, ◌∷◌, [], true, false};
-ghost use Rattle.yaml_parse.specs.Events.{body_of};
-ghost use Rattle.yaml_parse.specs.Constructors.{HasUtf8};
+ghost use Rattle.yaml_parse_model.specs.Events.{body_of};
+ghost use Rattle.yaml_parse_model.specs.Constructors.{HasUtf8};
 ghost use Rattle.yaml_emit_layout.specs.Content.{emitter_event};
 ghost use Rattle.yaml_emit_state.specs.Steps.{goes_on};
 ghost use Rattle.yaml_emit_state.specs.Finish.{Leads};
@@ -11,7 +11,7 @@ ghost use Rattle.yaml_emit.specs.Judged.{Judges};
 
 use crate::held::Held;
 use yaml_emit_state::Core;
-use yaml_parse::yaml_event_body_t;
+use yaml_parse_model::yaml_event_body_t;
 
 // Whether the oldest event is to be laid out.
 fn is_due(core: &Core, held: &Held) -> bool

@@ -1,7 +1,7 @@
 -- The numbers that were given.
 use Rattle.std.proofs.Common.{◌≡◌, ℕ, ◌+◌, ◌<◌, ◌≤◌, List, [], ◌∷◌, length, get_or, refl, sym, subst, ◌∙◌, ap, arith, add-one}
 use Rattle.std.specs.Prelude.{zero, suc, replicate, set}
-use Rattle.yaml_parse.specs.Nodes.{Node}
+use Rattle.yaml_parse_model.specs.Nodes.{Node}
 use Rattle.yaml_emit_graph.specs.declared.walk.Turn.{Turn}
 use Rattle.yaml_emit_graph.specs.Graph.{Numbering, numbers, numbered, numbered_by, none_numbered, turns}
 use Rattle.yaml_emit_graph.specs.Numbers.{counted, IsNumbering}

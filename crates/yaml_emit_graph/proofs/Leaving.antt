@@ -1,7 +1,7 @@
 -- The events of a document go on.
 use Rattle.std.proofs.Common.{◌≡◌, ℕ, [], ◌∷◌, length, Bool, refl, sym}
 use Rattle.std.specs.Prelude.{false, replicate}
-use Rattle.yaml_parse.specs.Documents.{Document}
+use Rattle.yaml_parse_document.specs.Documents.{Document}
 use Rattle.yaml_emit_layout.specs.Content.{Event, document_start, document_end}
 use Rattle.yaml_emit_graph.specs.declared.graph.Events.{Events}
 use Rattle.yaml_emit_graph.specs.declared.graph.Stage.TheVariants as at

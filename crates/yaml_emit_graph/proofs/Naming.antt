@@ -4,8 +4,8 @@ use Rattle.std.specs.Prelude.{zero, suc, ℤ, pos, negsuc, ◌==◌, if◌then�
 use Rattle.std.specs.Str.{IsUtf8}
 use Rattle.std.proofs.lemmas.Str.{IsUtf8-append, IsUtf8-from_ascii}
 use Rattle.std.proofs.lemmas.Fmt.{IsAscii-decimal}
-use Rattle.yaml_parse.specs.Nodes as model
-use Rattle.yaml_parse.specs.Documents.{node_at, IsSoundBody, IsSoundNode, AreSound}
+use Rattle.yaml_parse_model.specs.Nodes as model
+use Rattle.yaml_parse_document.specs.Documents.{node_at, IsSoundBody, IsSoundNode, AreSound}
 use Rattle.yaml_emit_graph.specs.Graph.{lead, name_of}
 use Rattle.yaml_emit_graph.specs.Events.{IsUtf8Body}
 

@@ -1,11 +1,11 @@
 -- The events of a document that are still to come.
 use Rattle.std.specs.Prelude.{◌≡◌, List, [], ◌∷◌, ◌++◌, map, Option, Some, None, Result, Ok, Err, IfOk, IsUtf8}
 use Rattle.std.specs.declared.alloc.AllocError.{AllocError}
-use Rattle.yaml_parse.specs.declared.yaml_event_body_t.{yaml_event_body_t}
-use Rattle.yaml_parse.specs.Events.{body_of}
-use Rattle.yaml_parse.specs.Constructors.{HasUtf8}
-use Rattle.yaml_parse.specs.Nodes as model
-use Rattle.yaml_parse.specs.Documents.{Document}
+use Rattle.yaml_parse_model.specs.declared.yaml_event_body_t.{yaml_event_body_t}
+use Rattle.yaml_parse_model.specs.Events.{body_of}
+use Rattle.yaml_parse_model.specs.Constructors.{HasUtf8}
+use Rattle.yaml_parse_model.specs.Nodes as model
+use Rattle.yaml_parse_document.specs.Documents.{Document}
 use Rattle.yaml_emit_layout.specs.Content.{Event, document_start, document_end, emitter_event}
 use Rattle.yaml_emit_graph.specs.declared.graph.Events.{Events}
 use Rattle.yaml_emit_graph.specs.declared.graph.Stage.{Stage}

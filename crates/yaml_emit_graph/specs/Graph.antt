@@ -1,12 +1,12 @@
 -- What a document says: its nodes as a tree, and the events of a dump.
 use Rattle.std.specs.Prelude.{ℕ, zero, suc, ℤ, pos, ◌==◌, Bool, true, false, if◌then◌else◌, List, [], ◌∷◌, ◌++◌, length, get_or, set, replicate, Option, Some, None, nat_eq, codes, decimal}
 use Rattle.std.specs.Cmp.Lexicographic.{pointwise}
-use Rattle.yaml_scan.specs.declared.yaml_scalar_style_t.{yaml_scalar_style_t}
-use Rattle.yaml_scan.specs.declared.yaml_scalar_style_t.TheVariants.{YAML_ANY_SCALAR_STYLE}
-use Rattle.yaml_parse.specs.declared.yaml_node_pair_t.{yaml_node_pair_t}
-use Rattle.yaml_parse.specs.Nodes as model
-use Rattle.yaml_parse.specs.Documents.{node_at, str_tag, seq_tag, map_tag}
-use Rattle.yaml_parse.specs.Documents as documents
+use Rattle.yaml_scan_model.specs.declared.yaml_scalar_style_t.{yaml_scalar_style_t}
+use Rattle.yaml_scan_model.specs.declared.yaml_scalar_style_t.TheVariants.{YAML_ANY_SCALAR_STYLE}
+use Rattle.yaml_parse_model.specs.declared.yaml_node_pair_t.{yaml_node_pair_t}
+use Rattle.yaml_parse_model.specs.Nodes as model
+use Rattle.yaml_parse_document.specs.Documents.{node_at, str_tag, seq_tag, map_tag}
+use Rattle.yaml_parse_document.specs.Documents as documents
 use Rattle.yaml_emit_layout.specs.Content.{Scalar, Start, Node, alias_node, scalar_node, sequence_node, mapping_node, Nodes, no_nodes, node, Pairs, no_pairs, pair, Opening, Document, Event, document_start, document_end, alias, scalar, sequence_start, sequence_end, mapping_start, mapping_end, is_flow_sequence, is_flow_mapping, node_events}
 use Rattle.yaml_emit_graph.specs.declared.walk.Turn.{Turn}
 use Rattle.yaml_emit_graph.specs.declared.walk.Turn.TheVariants.{First, Again, Leave}

@@ -1,8 +1,8 @@
 -- What a walk over a document's nodes still meets.
 use Rattle.std.specs.Prelude.{◌≡◌, ◌≤◌, ℕ, suc, ◌+◌, ◌-◌, ℤ, pos, Bool, true, false, List, [], ◌∷◌, length, drop, reverse, Option, Some, None, Result, Ok, Err}
 use Rattle.std.specs.declared.alloc.AllocError.{AllocError}
-use Rattle.yaml_parse.specs.declared.yaml_node_pair_t.{yaml_node_pair_t}
-use Rattle.yaml_parse.specs.Nodes as model
+use Rattle.yaml_parse_model.specs.declared.yaml_node_pair_t.{yaml_node_pair_t}
+use Rattle.yaml_parse_model.specs.Nodes as model
 use Rattle.yaml_emit_graph.specs.declared.walk.Turn.{Turn}
 use Rattle.yaml_emit_graph.specs.declared.walk.Turn.TheVariants.{First, Again, Leave}
 use Rattle.yaml_emit_graph.specs.declared.walk.Open.{Open}

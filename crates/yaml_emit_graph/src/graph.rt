@@ -1,10 +1,10 @@
 //! The events of a document's nodes.
 
 ghost use Rattle.std.specs.Prelude.{◌≡◌, IfOk, IsUtf8, map};
-ghost use Rattle.yaml_parse.specs.Constructors.{HasUtf8, IsUtf8Option};
-ghost use Rattle.yaml_parse.specs.Documents.{seq_tag, map_tag};
-ghost use Rattle.yaml_parse.specs.Events.{body_of, text_of, directive_of};
-ghost use Rattle.yaml_parse.specs.Nodes.{node_of};
+ghost use Rattle.yaml_parse_model.specs.Constructors.{HasUtf8, IsUtf8Option};
+ghost use Rattle.yaml_parse_document.specs.Documents.{seq_tag, map_tag};
+ghost use Rattle.yaml_parse_model.specs.Events.{body_of, text_of, directive_of};
+ghost use Rattle.yaml_parse_model.specs.Nodes.{node_of};
 ghost use Rattle.yaml_emit_layout.specs.Content.{emitter_event, scalar, alias, sequence_start, mapping_start, document_start, is_flow_sequence, is_flow_mapping};
 ghost use Rattle.yaml_emit_graph.specs.Graph.{lead, name_of, anchor_of, is_text, graph_scalar, graph_start, opening_event, closing_event, body_of_id, tag_of_id, turn_event, graph_opening, dumped};
 ghost use Rattle.yaml_emit_graph.specs.Events.{remaining_events, IsEvents, Says, GivesGraphEvent, IsUtf8Body};
@@ -12,11 +12,9 @@ ghost use Rattle.yaml_emit_graph.specs.Events.{remaining_events, IsEvents, Says,
 use crate::numbers::{number_of, numbers_of};
 use crate::walk::{Turn, Walk};
 use std::alloc::{AllocError, Global};
-use yaml_parse::{
-    document_is_sound, yaml_document_get_node, yaml_document_t, yaml_event_body_t,
-    yaml_node_body_t, yaml_node_t,
-};
-use yaml_scan::{
+use yaml_parse_document::{document_is_sound, yaml_document_get_node, yaml_document_t};
+use yaml_parse_model::{yaml_event_body_t, yaml_node_body_t, yaml_node_t};
+use yaml_scan_model::{
     yaml_mapping_style_t, yaml_scalar_style_t, yaml_sequence_style_t, yaml_tag_directive_t,
 };
 

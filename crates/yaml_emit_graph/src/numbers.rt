@@ -6,7 +6,7 @@ ghost use Rattle.yaml_emit_graph.specs.Numbers.{IsNumbering, numbering_of};
 
 use crate::walk::{Turn, Walk, place_of};
 use std::alloc::{AllocError, Global};
-use yaml_parse::yaml_document_t;
+use yaml_parse_document::yaml_document_t;
 
 /// How many numbers were given, and the number of each node by its place; 0 stands for none.
 #[derive(Drop)]

@@ -1,16 +1,15 @@
 //! A walk over the nodes of a document, with a list of its own.
 
 ghost use Rattle.std.specs.Prelude.{◌≡◌, ◌<◌, ◌+◌, ◌^◌, ◌∷◌, [], None, Some, IfOk, OnOk, replicate, true, false};
-ghost use Rattle.yaml_scan.specs.declared.yaml_sequence_style_t.{yaml_sequence_style_t};
-ghost use Rattle.yaml_scan.specs.declared.yaml_mapping_style_t.{yaml_mapping_style_t};
-ghost use Rattle.yaml_parse.specs.Nodes.{body_of, sequence, mapping};
+ghost use Rattle.yaml_scan_model.specs.declared.yaml_sequence_style_t.{yaml_sequence_style_t};
+ghost use Rattle.yaml_scan_model.specs.declared.yaml_mapping_style_t.{yaml_mapping_style_t};
+ghost use Rattle.yaml_parse_model.specs.Nodes.{body_of, sequence, mapping};
 ghost use Rattle.yaml_emit_graph.specs.Graph.{place_at, met_at, meet_at, is_met, meet, is_collection, body_of_id};
 ghost use Rattle.yaml_emit_graph.specs.Walk.{NextChild, next_of_pair, IsWalk, stack_of, rest_of, with_opened, Marks, Visited, Comes};
 
 use std::alloc::{AllocError, Global};
-use yaml_parse::{
-    yaml_document_get_node, yaml_document_t, yaml_node_body_t, yaml_node_pair_t, yaml_node_t,
-};
+use yaml_parse_document::{yaml_document_get_node, yaml_document_t};
+use yaml_parse_model::{yaml_node_body_t, yaml_node_pair_t, yaml_node_t};
 
 /// A collection that is being walked, and what of it comes next: the item or pair at an index, of a pair the value where its
 /// key has come.

@@ -3,4 +3,4 @@ pub mod Naming
 pub mod Contents
 pub mod Loading
 -- what it speaks of, for laws that name this crate alone
-pub use Rattle.yaml_emit.proofs.parse
+pub use Rattle.yaml_parse.proofs as parse

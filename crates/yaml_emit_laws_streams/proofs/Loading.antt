@@ -2,15 +2,15 @@
 use Rattle.std.proofs.Common.{◌≡◌, ◌<◌, ℕ, zero, suc, Bool, true, false, List, [], ◌∷◌, ◌++◌, length, Option, Some, None, Ok, Err, refl, arith}
 use Rattle.std.specs.Prelude.{◌==◌, cond, if◌then◌else◌}
 use Rattle.std.proofs.lemmas.Bool.Decides.{nat_tests}
-use Rattle.yaml_emit.specs.scan.declared.yaml_mark_t.{yaml_mark_t}
-use Rattle.yaml_emit.specs.scan.Faults.{Fault}
-use Rattle.yaml_emit.specs.parse.Events as event
-use Rattle.yaml_emit.specs.parse.Nodes as model
-use Rattle.yaml_emit.specs.parse.Documents.{Document, with_node, change_place, str_tag, seq_tag, map_tag, no_document}
-use Rattle.yaml_emit.specs.parse.Resolve.{Told}
-use Rattle.yaml_emit.specs.parse.Numbering.{loaded_tag, is_bang}
-use Rattle.yaml_emit.specs.parse.Loading.{Open, open_sequence, open_mapping, Loading, Fed, goes_on, loaded, refused, nothing_loaded, step, step_body, aliased, closed, filled}
-use Rattle.yaml_emit.specs.parse.Loads.{Loads, load_on, behind_all, loads}
+use Rattle.yaml_scan.specs.declared.yaml_mark_t.{yaml_mark_t}
+use Rattle.yaml_scan.specs.Faults.{Fault}
+use Rattle.yaml_parse.specs.Events as event
+use Rattle.yaml_parse.specs.Nodes as model
+use Rattle.yaml_parse.specs.Documents.{Document, with_node, change_place, str_tag, seq_tag, map_tag, no_document}
+use Rattle.yaml_parse.specs.Resolve.{Told}
+use Rattle.yaml_parse.specs.Numbering.{loaded_tag, is_bang}
+use Rattle.yaml_parse.specs.Loading.{Open, open_sequence, open_mapping, Loading, Fed, goes_on, loaded, refused, nothing_loaded, step, step_body, aliased, closed, filled}
+use Rattle.yaml_parse.specs.Loads.{Loads, load_on, behind_all, loads}
 use Rattle.std.specs.FinMap as map
 use Rattle.yaml_emit.specs.emit_layout.declared.Problem.{Problem}
 use Rattle.yaml_emit.specs.emit_layout.declared.Problem.TheVariants as problem

@@ -1,14 +1,14 @@
 -- Which lists of events are a stream's, and that what a document says is right.
 use Rattle.std.specs.Prelude.{◌≡◌, ◌<◌, ℕ, Bool, true, List, [], ◌∷◌, ◌++◌, length, map, Option, Some, None}
-use Rattle.yaml_emit.specs.scan.declared.yaml_encoding_t.{yaml_encoding_t}
-use Rattle.yaml_emit.specs.scan.Faults.{Fault}
-use Rattle.yaml_emit.specs.parse.Events as event
-use Rattle.yaml_emit.specs.parse.Nodes as model
-use Rattle.yaml_emit.specs.parse.Documents as documents
-use Rattle.yaml_emit.specs.parse.Resolve.{Told}
-use Rattle.yaml_emit.specs.parse.Loading.{Loading, Fed, goes_on, loaded, refused, nothing_loaded, step}
-use Rattle.yaml_emit.specs.parse.Loads.{Loads, loads}
-use Rattle.yaml_emit.specs.parse.Loads as load
+use Rattle.yaml_scan.specs.declared.yaml_encoding_t.{yaml_encoding_t}
+use Rattle.yaml_scan.specs.Faults.{Fault}
+use Rattle.yaml_parse.specs.Events as event
+use Rattle.yaml_parse.specs.Nodes as model
+use Rattle.yaml_parse.specs.Documents as documents
+use Rattle.yaml_parse.specs.Resolve.{Told}
+use Rattle.yaml_parse.specs.Loading.{Loading, Fed, goes_on, loaded, refused, nothing_loaded, step}
+use Rattle.yaml_parse.specs.Loads.{Loads, loads}
+use Rattle.yaml_parse.specs.Loads as load
 use Rattle.yaml_emit.specs.emit_text.declared.Encoding.{Encoding}
 use Rattle.yaml_emit.specs.emit_text.declared.RequestedSettings.{RequestedSettings}
 use Rattle.yaml_emit.specs.emit_text.Text.{Item}

@@ -3,7 +3,7 @@
 ghost use Rattle.std.specs.Prelude.{◌≡◌, ◌<◌, pos, false};
 ghost use Rattle.yaml_emit_sink.specs.Settings.{settled, settled_indent, settled_width, settled_break, settled_encoding, encoding_or};
 
-use yaml_scan::{yaml_break_t, yaml_encoding_t};
+use yaml_scan_model::{yaml_break_t, yaml_encoding_t};
 
 /// How the characters are spelled in bytes.
 #[derive(Clone, Copy, PartialEq, Eq, Debug)]

@@ -12,7 +12,7 @@ use Rattle.std.specs.List.{list_any}
 use Rattle.std.proofs.lemmas.Map.Text.{is_eq-slice_cmp}
 use Rattle.std.specs.Prelude.{Ok}
 use Rattle.std.proofs.lemmas.List.{take_more, map-append}
-use Rattle.yaml_parse.specs.Events.{TagDirective}
+use Rattle.yaml_parse_model.specs.Events.{TagDirective}
 use Rattle.yaml_emit_layout.specs.declared.Problem.{Problem}
 use Rattle.yaml_emit_layout.specs.Grammar.{directive_problem}
 use Rattle.yaml_emit_state.specs.Seen.{HasHandles, Judges, Handles, is_among, Adds}

@@ -1,6 +1,6 @@
 -- What the lent parts of an event say.
 use Rattle.std.specs.Prelude.{map}
-use Rattle.yaml_parse.specs.Events.{text_of, directive_of}
+use Rattle.yaml_parse_model.specs.Events.{text_of, directive_of}
 use Rattle.yaml_emit_layout.specs.Content as said
 use Rattle.yaml_emit_layout.specs.Nodes as nodes
 use Rattle.yaml_emit_state.specs.declared.given.Context.{Context}

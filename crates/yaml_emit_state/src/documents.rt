@@ -1,6 +1,6 @@
 //! What opens and ends documents.
 ghost use Rattle.std.specs.Prelude.{◌≡◌, ◌∷◌, [], None, Some, true, false, not, ◌&&◌, ◌||◌, map};
-ghost use Rattle.yaml_parse.specs.Events.{directive_of};
+ghost use Rattle.yaml_parse_model.specs.Events.{directive_of};
 ghost use Rattle.yaml_emit_text.specs.Sink.{Puts};
 ghost use Rattle.yaml_emit_text.specs.Layout.{◌▹◌, stay, when, choose, char, word, keep};
 ghost use Rattle.yaml_emit_layout.specs.Nodes.{dots, version_text, directives_text, directive_text, has_version, has_directives, dashes, is_kept, start_layout, end_layout, stop_layout, line_at, version_word};
@@ -10,7 +10,7 @@ ghost use Rattle.yaml_emit_state.specs.Given.{lent_opening};
 use crate::given::Opening;
 use yaml_emit_layout::Expected;
 use yaml_emit_text::{Settings, Sink, put_prefix};
-use yaml_scan::{yaml_tag_directive_t, yaml_version_directive_t};
+use yaml_scan_model::{yaml_tag_directive_t, yaml_version_directive_t};
 
 fn put_dots(sink: &mut Sink, settings: &Settings)
     ensures { Puts sink.old sink.new (dots settings.now) }

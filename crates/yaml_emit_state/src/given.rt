@@ -2,7 +2,7 @@
 
 use yaml_emit_layout::{Expected, Level};
 use yaml_emit_text::{DirectiveTable, Settings};
-use yaml_scan::{yaml_scalar_style_t, yaml_tag_directive_t, yaml_version_directive_t};
+use yaml_scan_model::{yaml_scalar_style_t, yaml_tag_directive_t, yaml_version_directive_t};
 
 /// The settings in force, and the document's tag directives.
 #[derive(Clone, Copy)]

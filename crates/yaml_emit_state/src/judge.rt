@@ -1,8 +1,8 @@
 //! What is wrong with an event: its names, its tag, its place, and its directives or flags.
 ghost use Rattle.std.specs.List.{list_all};
 ghost use Rattle.std.specs.Prelude.{◌≡◌, ◌∷◌, [], None, Some, true, false, if◌then◌else◌, not, ◌&&◌, ◌||◌, length, map, ◌≤◌, IfOk, OnOk, OnErr};
-ghost use Rattle.yaml_scan.specs.Classes.{is_alpha_byte};
-ghost use Rattle.yaml_parse.specs.Events.{text_of, directive_of, body_of};
+ghost use Rattle.yaml_scan_model.specs.Classes.{is_alpha_byte};
+ghost use Rattle.yaml_parse_model.specs.Events.{text_of, directive_of, body_of};
 ghost use Rattle.yaml_emit_layout.specs.Content.{emitter_event};
 ghost use Rattle.yaml_emit_layout.specs.Grammar.{has, name_problem, anchor_problem, tag_problem, kept_tag, event_problem, version_problem, handle_problem, prefix_problem, directives_problem, opening_problem, flags_problem, last_problem, ends_phase, begins_node, may_come, node_problem, place_problem, problem_by, between, inner_problem, ends_problem, is_version, or_else};
 ghost use Rattle.yaml_emit_state.specs.Seen.{is_among, Adds, Judges};
@@ -12,8 +12,8 @@ use crate::handles::add;
 use std::alloc::{AllocError, Global};
 use std::collections::BTreeSet;
 use yaml_emit_layout::{Expected, Level, Phase, Problem};
-use yaml_parse::yaml_event_body_t;
-use yaml_scan::{IS_ALPHA, yaml_tag_directive_t, yaml_version_directive_t};
+use yaml_parse_model::yaml_event_body_t;
+use yaml_scan_model::{IS_ALPHA, yaml_tag_directive_t, yaml_version_directive_t};
 
 fn are_alphas(name: &[u8]) -> bool
     ensures { result ≡ list_all is_alpha_byte name.now }

@@ -1,6 +1,6 @@
 //! Simple keys.
 ghost use Rattle.std.specs.Prelude.{◌≡◌, ◌∷◌, [], None, Some, true, false, not, ◌&&◌, ◌||◌, map, length, nat_le, ◌+◌, ◌≤◌};
-ghost use Rattle.yaml_parse.specs.Events.{text_of, body_of};
+ghost use Rattle.yaml_parse_model.specs.Events.{text_of, body_of};
 ghost use Rattle.yaml_emit_layout.specs.Content.{emitter_event, is_flow_sequence, is_flow_mapping};
 ghost use Rattle.yaml_emit_layout.specs.Grammar.{kept_tag};
 ghost use Rattle.yaml_emit_layout.specs.Nodes.{has_break, properties_size, text_size, written_size, is_simple_scalar, is_simple_alias, is_simple_start};
@@ -9,8 +9,8 @@ ghost use Rattle.yaml_emit_state.specs.Given.{lent_context, lent_scalar, lent_st
 
 use crate::given::{Context, Scalar, Start};
 use yaml_emit_text::tag_size;
-use yaml_parse::yaml_event_body_t;
-use yaml_scan::{IS_BREAK, yaml_mapping_style_t, yaml_sequence_style_t};
+use yaml_parse_model::yaml_event_body_t;
+use yaml_scan_model::{IS_BREAK, yaml_mapping_style_t, yaml_sequence_style_t};
 
 fn has_break(value: &[u8]) -> bool
     ensures { result ≡ has_break value.now }

@@ -1,6 +1,6 @@
 //! One event after another is laid out.
 ghost use Rattle.std.specs.Prelude.{◌≡◌, ◌≢◌, ◌∷◌, [], None, Some, true, false, not, ◌&&◌, ◌||◌, IfSome, if◌then◌else◌, map, IsUtf8};
-ghost use Rattle.yaml_parse.specs.Constructors.{HasUtf8};
+ghost use Rattle.yaml_parse_model.specs.Constructors.{HasUtf8};
 
 mod event;
 mod moves;
@@ -13,7 +13,7 @@ use event::put_event;
 use std::alloc::{AllocError, Global};
 use yaml_emit_layout::Expected;
 use yaml_emit_text::{DirectiveTable, Settings, Sink, Status};
-use yaml_parse::yaml_event_body_t;
+use yaml_parse_model::yaml_event_body_t;
 
 /// Where an emitter stands: the settings in force, the output, what is expected, the open collections, and the directives of
 /// the document.
@@ -29,7 +29,7 @@ pub struct Core {
 }
 
 impl Core {
-    ghost use Rattle.yaml_parse.specs.Events.{body_of};
+    ghost use Rattle.yaml_parse_model.specs.Events.{body_of};
     ghost use Rattle.yaml_emit_layout.specs.Content.{emitter_event};
     ghost use Rattle.yaml_emit_layout.specs.State.{problem_at};
     ghost use Rattle.yaml_emit_state.specs.Steps.{state_of, settings_of, LaysOut, IsFresh, Takes, Starves, is_going, goes_on};

@@ -3,8 +3,8 @@ use Rattle.std.proofs.Common.{◌≡◌, ℕ, ◌+◌, ◌<◌, ◌≤◌, List,
 use Rattle.std.specs.Prelude.{zero, suc, Vec}
 use Rattle.std.specs.Global.{Global}
 use Rattle.std.proofs.lemmas.List.{length-map}
-use Rattle.yaml_scan.specs.declared.yaml_tag_directive_t.{yaml_tag_directive_t}
-use Rattle.yaml_parse.specs.Events.{TagDirective, directive_of}
+use Rattle.yaml_scan_model.specs.declared.yaml_tag_directive_t.{yaml_tag_directive_t}
+use Rattle.yaml_parse_model.specs.Events.{TagDirective, directive_of}
 use Rattle.yaml_emit_text.specs.Tags.{has_shorter_prefix, directive_for, defines}
 use Rattle.yaml_emit_text.specs.Prefixes.{entry_of, directive_at, IsIndex, IsFirst, IsNumber}
 use Rattle.yaml_emit_text.specs.TableView.{IsIndexed}

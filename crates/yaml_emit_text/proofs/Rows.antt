@@ -1,8 +1,8 @@
 -- Worked examples, computed by the definitions.
 use Rattle.std.proofs.Common.{◌≡◌, ℕ, List, [], ◌∷◌, refl, true, false}
 use Rattle.std.specs.Prelude.{codes}
-use Rattle.yaml_scan.specs.declared.yaml_scalar_style_t.TheVariants as asked
-use Rattle.yaml_parse.specs.Events.{TagDirective}
+use Rattle.yaml_scan_model.specs.declared.yaml_scalar_style_t.TheVariants as asked
+use Rattle.yaml_parse_model.specs.Events.{TagDirective}
 use Rattle.yaml_emit_text.specs.declared.page.Page.{Page}
 use Rattle.yaml_emit_text.specs.declared.page.Style.TheVariants as style
 use Rattle.yaml_emit_sink.specs.declared.Encoding.TheVariants.{Utf16Le, Utf16Be}

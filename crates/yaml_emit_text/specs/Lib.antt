@@ -13,5 +13,5 @@ pub use Rattle.yaml_emit_sink.specs.Appends
 pub use Rattle.yaml_emit_sink.specs.Sink
 pub use Rattle.yaml_emit_sink.specs.Laws
 -- what it stands on, for definitions and laws that name this crate alone
-pub use Rattle.yaml_scan.specs as scan
-pub use Rattle.yaml_parse.specs as parse
+pub use Rattle.yaml_scan_model.specs as scan
+pub use Rattle.yaml_parse_model.specs as parse

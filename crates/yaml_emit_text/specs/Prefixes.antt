@@ -5,7 +5,7 @@ use Rattle.std.specs.declared.cmp.Ordering.{Ordering}
 use Rattle.std.specs.Ordering.{nat_cmp, ordering_then}
 use Rattle.std.specs.Cmp.Lexicographic.{slice_cmp}
 use Rattle.std.specs.List.Sorted.{IsPermutation, IsSorted}
-use Rattle.yaml_parse.specs.Events.{TagDirective}
+use Rattle.yaml_parse_model.specs.Events.{TagDirective}
 use Rattle.yaml_emit_text.specs.Tags.{has_shorter_prefix, directive_for}
 
 -- a prefix and the number of its directive

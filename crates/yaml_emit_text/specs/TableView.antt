@@ -1,7 +1,7 @@
 -- What a clause sees of a document's directives.
 use Rattle.std.specs.Prelude.{◌≡◌, ℕ, List, [], ◌∷◌, map, Option, Some, None, Vec}
 use Rattle.std.specs.Global.{Global}
-use Rattle.yaml_parse.specs.Events.{TagDirective, directive_of}
+use Rattle.yaml_parse_model.specs.Events.{TagDirective, directive_of}
 use Rattle.yaml_emit_text.specs.Tags.{defines}
 use Rattle.yaml_emit_text.specs.Prefixes.{IsIndex, entry_of}
 use Rattle.yaml_emit_text.specs.declared.table.DirectiveTable.TheInside.{Inside}

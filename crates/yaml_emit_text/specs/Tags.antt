@@ -1,7 +1,7 @@
 -- The spelling of tags.
 use Rattle.std.specs.Prelude.{ℕ, ◌+◌, Bool, true, false, not, ◌&&◌, ◌||◌, ◌==◌, nat_lt, nat_le, if◌then◌else◌, List, [], ◌∷◌, ◌++◌, length, take, drop, codes, Option, Some, None}
 use Rattle.std.specs.Str.{bytes_eq}
-use Rattle.yaml_parse.specs.Events.{TagDirective}
+use Rattle.yaml_parse_model.specs.Events.{TagDirective}
 use Rattle.yaml_emit_text.specs.declared.split.SplitTag.{SplitTag}
 use Rattle.yaml_emit_text.specs.declared.split.SplitTag.TheVariants as tagging
 use Rattle.yaml_emit_text.specs.Quoted.{hex_2}

@@ -2,12 +2,12 @@
 //! with: a search takes as many steps as the tag has bytes, each two searches by halves, however many directives there are.
 ghost use Rattle.std.specs.Prelude.{◌≡◌, ◌==◌, ◌<◌, ◌≤◌, ℕ, map, length, Some, None, if◌then◌else◌, IfOk, true};
 ghost use Rattle.std.specs.List.Sorted.{IsSorted};
-ghost use Rattle.yaml_parse.specs.Events.{directive_of};
+ghost use Rattle.yaml_parse_model.specs.Events.{directive_of};
 ghost use Rattle.yaml_emit_text.specs.Prefixes.{key, at, entry_of, entry_cmp, smaller, numbered, IsIndex, IsFirst};
 ghost use Rattle.yaml_emit_text.specs.Tags.{has_shorter_prefix};
 
 use std::alloc::{AllocError, Global};
-use yaml_scan::yaml_tag_directive_t;
+use yaml_scan_model::yaml_tag_directive_t;
 
 /// Whether a tag begins with the prefix, and goes on behind it.
 pub fn has_shorter_prefix(prefix: &[u8], tag: &[u8]) -> bool

@@ -1,6 +1,6 @@
 //! The tag directives of a document.
 ghost use Rattle.std.specs.Prelude.{◌≡◌, ◌<◌, ◌∷◌, [], Some, None, map, length, option_map, IfOk, IfSome};
-ghost use Rattle.yaml_parse.specs.Events.{directive_of};
+ghost use Rattle.yaml_parse_model.specs.Events.{directive_of};
 ghost use Rattle.yaml_emit_text.specs.Prefixes.{IsNumber};
 ghost use Rattle.yaml_emit_text.specs.TableView.{IsIndexed};
 ghost use Rattle.yaml_emit_text.specs.Tags.{defines, directive_for};
@@ -8,7 +8,7 @@ ghost use Rattle.yaml_emit_text.specs.Tags.{defines, directive_for};
 use crate::prefixes::{first_among, has_shorter_prefix, index_of};
 use std::alloc::{AllocError, Global};
 use std::marker::Model;
-use yaml_scan::yaml_tag_directive_t;
+use yaml_scan_model::yaml_tag_directive_t;
 
 // So many directives, or fewer, have no index: a walk over them is as fast, and takes no memory.
 const FEW: usize = 32;
@@ -27,7 +27,7 @@ pub struct DirectiveTable {
 
 impl Model for DirectiveTable {
     ghost use Rattle.std.specs.Prelude.{List};
-    ghost use Rattle.yaml_parse.specs.Events.{TagDirective};
+    ghost use Rattle.yaml_parse_model.specs.Events.{TagDirective};
 
     ghost Value = { List TagDirective };
 

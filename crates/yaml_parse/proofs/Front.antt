@@ -1,7 +1,7 @@
 -- From what a source says to what every stack does.
 use Rattle.std.proofs.Common.{◌+◌, length, arith, ◌≡◌, ◌⊎◌, inl, inr, List, [], ◌∷◌, Option, Some, None, refl, sym}
-use Rattle.yaml_scan.specs.Tokens.{Token, no_token}
-use Rattle.yaml_scan.specs.Faults.{Fault}
+use Rattle.yaml_scan_model.specs.Tokens.{Token, no_token}
+use Rattle.yaml_scan_model.specs.Faults.{Fault}
 use Rattle.yaml_parse_model.specs.Source.{front_of, rest_of, GivesToken, GivesFault}
 use Rattle.yaml_parse_grammar.specs.States.{State}
 use Rattle.yaml_parse_grammar.specs.Machine.{run, ending_at, unasked_at_stop}

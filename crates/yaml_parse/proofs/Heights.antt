@@ -1,6 +1,6 @@
 -- How the states stand behind a step, and whether a document is half taken then.
 use Rattle.std.proofs.Common.{◌≡◌, false, List, [], ◌∷◌, ◌++◌, Some, None, sym, subst, ap, ◌∙◌}
-use Rattle.yaml_scan.specs.Tokens.{Token, type_of}
+use Rattle.yaml_scan_model.specs.Tokens.{Token, type_of}
 use Rattle.yaml_parse_model.specs.Events.{EventBody}
 use Rattle.yaml_parse_grammar.specs.declared.name.Choice.TheVariants.{Take, Leave, Open}
 use Rattle.yaml_parse_grammar.specs.Items.{RawEvent}

@@ -1,8 +1,8 @@
 -- What feeding a loader with a parser's events comes to.
 use Rattle.std.proofs.Common.{◌≡◌, ◌⊎◌, ◌<◌, ℕ, ℤ, inl, inr, List, [], ◌∷◌, length, Option, Some, None, Bool, true, refl, sym, ap, subst, ◌∙◌, arith}
-use Rattle.yaml_scan.specs.declared.yaml_origin_t.TheVariants.{Loader}
-use Rattle.yaml_scan.specs.Faults.{Fault, memory_fault}
-use Rattle.yaml_scan.specs.declared.yaml_mark_t.{yaml_mark_t}
+use Rattle.yaml_scan_model.specs.declared.yaml_origin_t.TheVariants.{Loader}
+use Rattle.yaml_scan_model.specs.Faults.{Fault, memory_fault}
+use Rattle.yaml_scan_model.specs.declared.yaml_mark_t.{yaml_mark_t}
 use Rattle.std.specs.FinMap as map
 use Rattle.yaml_parse_model.specs.Events.{Event, EventBody}
 use Rattle.yaml_parse_model.specs.Events as event

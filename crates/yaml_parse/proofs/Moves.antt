@@ -1,9 +1,9 @@
 -- What each step over the grammar owes.
 use Rattle.std.proofs.Common.{◌≡◌, ◌⊎◌, ◌<◌, ℕ, inl, inr, List, [], ◌∷◌, ◌++◌, length, reverse, map, Option, Some, None, sym, ap, subst, ◌∙◌, arith, true}
 use Rattle.std.proofs.lemmas.List.{reverse-append}
-use Rattle.yaml_scan.specs.declared.yaml_mark_t.{yaml_mark_t}
-use Rattle.yaml_scan.specs.Tokens.{Token, no_token, type_of}
-use Rattle.yaml_scan.specs.Faults.{Fault}
+use Rattle.yaml_scan_model.specs.declared.yaml_mark_t.{yaml_mark_t}
+use Rattle.yaml_scan_model.specs.Tokens.{Token, no_token, type_of}
+use Rattle.yaml_scan_model.specs.Faults.{Fault}
 use Rattle.yaml_parse_grammar.specs.declared.name.Choice.TheVariants.{Refuse, Take, Leave, Open}
 use Rattle.yaml_parse_grammar.specs.declared.problem.ParseProblem.{ParseProblem}
 use Rattle.yaml_parse_grammar.specs.Problems.{parser_fault}

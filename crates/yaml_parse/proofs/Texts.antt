@@ -1,7 +1,7 @@
 -- The texts of what a step gives and holds are UTF-8.
 use Rattle.std.proofs.Common.{◌≡◌, List, [], ◌∷◌, ◌++◌, Option, Some, None, sym, subst, ap, ◌∙◌}
-use Rattle.yaml_scan.specs.declared.yaml_mark_t.{yaml_mark_t}
-use Rattle.yaml_scan.specs.Tokens.{Token}
+use Rattle.yaml_scan_model.specs.declared.yaml_mark_t.{yaml_mark_t}
+use Rattle.yaml_scan_model.specs.Tokens.{Token}
 use Rattle.yaml_parse_model.specs.Source as source
 use Rattle.yaml_parse_model.specs.Events.{EventBody}
 use Rattle.yaml_parse_model.specs.Constructors.{HasUtf8, AreUtf8}

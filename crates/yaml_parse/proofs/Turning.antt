@@ -1,9 +1,9 @@
 -- What a step with its item resolved owes.
 use Rattle.std.proofs.Common.{◌≡◌, ◌+◌, ◌<◌, ◌≤◌, arith, ℕ, inl, inr, List, [], ◌∷◌, length, Option, Some, None, refl, sym, ap, subst, ◌∙◌}
-use Rattle.yaml_scan.specs.declared.yaml_origin_t.TheVariants.{Parser}
-use Rattle.yaml_scan.specs.declared.yaml_mark_t.{yaml_mark_t}
-use Rattle.yaml_scan.specs.Tokens.{Token}
-use Rattle.yaml_scan.specs.Faults.{Fault, memory_fault}
+use Rattle.yaml_scan_model.specs.declared.yaml_origin_t.TheVariants.{Parser}
+use Rattle.yaml_scan_model.specs.declared.yaml_mark_t.{yaml_mark_t}
+use Rattle.yaml_scan_model.specs.Tokens.{Token}
+use Rattle.yaml_scan_model.specs.Faults.{Fault, memory_fault}
 use Rattle.yaml_parse_model.specs.Events.{Event, EventBody, no_event}
 use Rattle.yaml_parse_grammar.specs.Items.{RawEvent, RawEventBody}
 use Rattle.yaml_parse_grammar.specs.Items as item

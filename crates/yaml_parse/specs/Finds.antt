@@ -1,6 +1,6 @@
 -- What a call that fills lent slots gives.
 use Rattle.std.specs.Prelude.{◌≡◌, Bool, [], ◌∷◌, Option, Some, None}
-use Rattle.yaml_scan.specs.Faults.{Fault}
+use Rattle.yaml_scan_model.specs.Faults.{Fault}
 use Rattle.yaml_parse_model.specs.Events.{Event, event_of, no_event}
 use Rattle.yaml_parse_model.specs.Constructors.{HasUtf8}
 use Rattle.yaml_parse_model.specs.declared.yaml_event_t.{yaml_event_t}

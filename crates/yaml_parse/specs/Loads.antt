@@ -1,6 +1,6 @@
 -- What a load gives of the events to come.
 use Rattle.std.specs.Prelude.{◌≡◌, ◌⊎◌, ℕ, List, [], ◌∷◌, map, Option, Some, None}
-use Rattle.yaml_scan.specs.Faults.{Fault, IsMemoryFault, load_layers}
+use Rattle.yaml_scan_model.specs.Faults.{Fault, IsMemoryFault, load_layers}
 use Rattle.yaml_parse_model.specs.Events.{Event}
 use Rattle.yaml_parse_document.specs.Documents.{Document, no_document}
 use Rattle.yaml_parse_grammar.specs.Resolve.{Told}

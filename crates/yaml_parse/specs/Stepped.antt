@@ -1,5 +1,5 @@
 -- What a step over the grammar gives.
-use Rattle.yaml_scan.specs.Faults.{Fault}
+use Rattle.yaml_scan_model.specs.Faults.{Fault}
 use Rattle.yaml_parse_grammar.specs.Items.{RawEvent}
 use Rattle.yaml_parse.specs.declared.step.Step.{Step}
 use Rattle.yaml_parse.specs.declared.step.Step.TheVariants as code

@@ -1,5 +1,5 @@
 -- What a step with its item resolved gives.
-use Rattle.yaml_scan.specs.Faults.{Fault}
+use Rattle.yaml_scan_model.specs.Faults.{Fault}
 use Rattle.yaml_parse_model.specs.Events.{Event}
 use Rattle.yaml_parse.specs.declared.step.Turn.{Turn}
 use Rattle.yaml_parse.specs.declared.step.Turn.TheVariants as code

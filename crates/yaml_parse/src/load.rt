@@ -1,7 +1,7 @@
 //! Documents of a parser's events.
 
 ghost use Rattle.std.specs.Prelude.{◌≡◌, ◌≤◌, true, List, Option, IfOk, IfErr};
-ghost use Rattle.yaml_scan.specs.Faults.{Fault, fault_of};
+ghost use Rattle.yaml_scan_model.specs.Faults.{Fault, fault_of};
 ghost use Rattle.yaml_parse_grammar.specs.Resolve.{Told};
 ghost use Rattle.yaml_parse_loader.specs.Loading.{Loading, load};
 ghost use Rattle.yaml_parse.specs.Loads.{loads, loads_of, told_events, LoadGives, LoadRefuses, LoadsSame};
@@ -10,7 +10,7 @@ use crate::parser::{next_event, yaml_parser_t};
 use yaml_parse_document::{no_document, yaml_document_t};
 use yaml_parse_loader::Loader;
 use yaml_parse_model::yaml_token_source_t;
-use yaml_scan::yaml_fault_t;
+use yaml_scan_model::yaml_fault_t;
 
 /// The next document, its nodes numbered from 1 in preorder; behind the last one a document without root. An alias stands
 /// for the last node before it in preorder that has its anchor, a node that encloses it counting from its own start; an

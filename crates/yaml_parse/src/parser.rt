@@ -1,9 +1,9 @@
 //! The parser and its calls.
 
 ghost use Rattle.std.specs.Prelude.{◌≡◌, ◌≤◌, List, Option, Some, None, true, length, IfOk, IfErr, IfSome};
-ghost use Rattle.yaml_scan.specs.Tokens.{Token};
-ghost use Rattle.yaml_scan.specs.Faults.{Fault, fault_of, memory_fault};
-ghost use Rattle.yaml_scan.specs.declared.yaml_origin_t.TheVariants.{Parser};
+ghost use Rattle.yaml_scan_model.specs.Tokens.{Token};
+ghost use Rattle.yaml_scan_model.specs.Faults.{Fault, fault_of, memory_fault};
+ghost use Rattle.yaml_scan_model.specs.declared.yaml_origin_t.TheVariants.{Parser};
 ghost use Rattle.yaml_parse_model.specs.Events.{event_of, stream_end};
 ghost use Rattle.yaml_parse_grammar.specs.Items as item;
 ghost use Rattle.yaml_parse_machine.specs.Views.{item_of};
@@ -29,7 +29,7 @@ use yaml_parse_machine::{Directives, RawEvent, RawEventBody, Resolved, State, Ta
 use yaml_parse_model::{
     yaml_event_body_t, yaml_event_t, yaml_parser_t_prefix, yaml_token_source_t,
 };
-use yaml_scan::{yaml_fault_t, yaml_mark_t, yaml_memory_fault, yaml_origin_t, yaml_token_t};
+use yaml_scan_model::{yaml_fault_t, yaml_mark_t, yaml_memory_fault, yaml_origin_t, yaml_token_t};
 
 /// A parser of the tokens of a source.
 #[derive(Drop)]

@@ -1,9 +1,9 @@
 //! One step of a parser: a token is taken, or a state is left before it.
 
 ghost use Rattle.std.specs.Prelude.{◌≡◌, ◌∷◌, true, List, Option, Some, None};
-ghost use Rattle.yaml_scan.specs.Tokens.{Token, token_of, type_of};
-ghost use Rattle.yaml_scan.specs.Faults.{Fault, fault_of, memory_fault};
-ghost use Rattle.yaml_scan.specs.declared.yaml_origin_t.TheVariants.{Parser};
+ghost use Rattle.yaml_scan_model.specs.Tokens.{Token, token_of, type_of};
+ghost use Rattle.yaml_scan_model.specs.Faults.{Fault, fault_of, memory_fault};
+ghost use Rattle.yaml_scan_model.specs.declared.yaml_origin_t.TheVariants.{Parser};
 ghost use Rattle.yaml_parse_model.specs.Events.{event_of};
 ghost use Rattle.yaml_parse_grammar.specs.Problems.{parser_fault};
 ghost use Rattle.yaml_parse_grammar.specs.Machine.{choice_at, context_of};
@@ -25,7 +25,7 @@ use yaml_parse_machine::{
     Directives, RawEvent, RawEventBody, Refusal, State, choose, leave, open, settle, take,
 };
 use yaml_parse_model::{yaml_event_t, yaml_token_source_t};
-use yaml_scan::{yaml_fault_t, yaml_mark_t, yaml_memory_fault, yaml_origin_t, yaml_token_t};
+use yaml_scan_model::{yaml_fault_t, yaml_mark_t, yaml_memory_fault, yaml_origin_t, yaml_token_t};
 
 /// What a step over the grammar gives: an item that lies in the step buffers, nothing, a fault that stands in its slot, or nothing
 /// any more.

@@ -1,11 +1,11 @@
 //! Whether a token's texts are UTF-8.
 
 ghost use Rattle.std.specs.Prelude.{◌↔◌, IsTrue};
-ghost use Rattle.yaml_scan.specs.Tokens.{token_of};
+ghost use Rattle.yaml_scan_model.specs.Tokens.{token_of};
 ghost use Rattle.yaml_parse.specs.Source.{HasUtf8};
 
 use simdutf8::is_utf8;
-use yaml_scan::{yaml_token_body_t, yaml_token_t};
+use yaml_scan_model::{yaml_token_body_t, yaml_token_t};
 
 /// Whether all texts of the token are UTF-8. The scanner's are, but for tags and prefixes, whose escapes can spell any
 /// bytes.

@@ -1,8 +1,8 @@
 -- What a source of tokens gives.
 use Rattle.std.specs.Prelude.{◌≡◌, ◌⊎◌, List, [], ◌∷◌, Option, Some, None, IsUtf8}
-use Rattle.yaml_scan.specs.Tokens.{Token, TokenBody, no_token}
-use Rattle.yaml_scan.specs.Tokens as token
-use Rattle.yaml_scan.specs.Faults.{Fault, IsMemoryFault, scan_layers}
+use Rattle.yaml_scan_model.specs.Tokens.{Token, TokenBody, no_token}
+use Rattle.yaml_scan_model.specs.Tokens as token
+use Rattle.yaml_scan_model.specs.Faults.{Fault, IsMemoryFault, scan_layers}
 
 -- the first token to come, and the others; behind the last the empty token
 abbrev pub front_of : List Token → Token

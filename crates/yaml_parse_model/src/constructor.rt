@@ -13,7 +13,7 @@ use crate::prefix::yaml_text_fault_t;
 use crate::text::{are_utf8, copy_directives, copy_text, copy_text_option, is_utf8_option};
 use simdutf8::is_utf8;
 use std::alloc::Global;
-use yaml_scan::{
+use yaml_scan_model::{
     yaml_encoding_t, yaml_mapping_style_t, yaml_scalar_style_t, yaml_sequence_style_t,
     yaml_tag_directive_t, yaml_version_directive_t,
 };

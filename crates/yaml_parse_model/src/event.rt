@@ -3,7 +3,7 @@
 ghost use Rattle.std.specs.Prelude.{◌≡◌};
 ghost use Rattle.yaml_parse_model.specs.Events.{type_of, body_of, event_of, unplaced, no_event};
 
-use yaml_scan::{
+use yaml_scan_model::{
     yaml_encoding_t, yaml_event_type_t, yaml_mapping_style_t, yaml_mark_t, yaml_scalar_style_t,
     yaml_sequence_style_t, yaml_tag_directive_t, yaml_version_directive_t,
 };

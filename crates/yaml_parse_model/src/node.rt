@@ -3,7 +3,7 @@
 ghost use Rattle.std.specs.Prelude.{◌≡◌};
 ghost use Rattle.yaml_parse_model.specs.Nodes.{type_of, node_of};
 
-use yaml_scan::{
+use yaml_scan_model::{
     yaml_mapping_style_t, yaml_mark_t, yaml_node_type_t, yaml_scalar_style_t, yaml_sequence_style_t,
 };
 

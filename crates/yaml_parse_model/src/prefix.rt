@@ -3,7 +3,7 @@
 ghost use Rattle.std.specs.Prelude.{◌≡◌};
 ghost use Rattle.yaml_parse_model.specs.Prefix.{IsPrefixOf, IsQuiet};
 
-use yaml_scan::{yaml_error_type_t, yaml_fault_t, yaml_mark_t, yaml_origin_t};
+use yaml_scan_model::{yaml_error_type_t, yaml_fault_t, yaml_mark_t, yaml_origin_t};
 
 /// The fault that a parser has answered, field by field; before one the kind is `YAML_NO_ERROR`.
 #[derive(Clone, Copy, PartialEq, Eq, Debug)]

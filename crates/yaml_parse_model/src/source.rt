@@ -1,11 +1,11 @@
 //! Where a parser's tokens come from.
 
 ghost use Rattle.std.specs.Prelude.{List, Option, IfOk, IfErr};
-ghost use Rattle.yaml_scan.specs.Tokens.{Token, token_of};
-ghost use Rattle.yaml_scan.specs.Faults.{Fault, fault_of};
+ghost use Rattle.yaml_scan_model.specs.Tokens.{Token, token_of};
+ghost use Rattle.yaml_scan_model.specs.Faults.{Fault, fault_of};
 ghost use Rattle.yaml_parse_model.specs.Source.{GivesToken, GivesFault};
 
-use yaml_scan::{yaml_fault_t, yaml_token_t};
+use yaml_scan_model::{yaml_fault_t, yaml_token_t};
 
 /// A source of tokens. Its meaning is the finite list of tokens to come, whose texts are UTF-8, and the fault that
 /// ends the list, if any. Behind both it answers the empty token. Where a growth is refused it answers

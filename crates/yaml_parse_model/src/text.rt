@@ -7,7 +7,7 @@ ghost use Rattle.yaml_parse_model.specs.Constructors.{IsUtf8Option, AreUtf8};
 use crate::prefix::yaml_text_fault_t;
 use simdutf8::is_utf8;
 use std::alloc::Global;
-use yaml_scan::yaml_tag_directive_t;
+use yaml_scan_model::yaml_tag_directive_t;
 
 /// Whether a text that may be left out is UTF-8.
 pub fn is_utf8_option(text: Option<&[u8]>) -> bool

@@ -6,8 +6,8 @@ use Rattle.std.proofs.lemmas.List.Elements.{All-nil, All-cons}
 use Rattle.std.proofs.lemmas.Bool.{cases_Bool, cases_lt}
 use Rattle.std.proofs.lemmas.Bool.Decides.{nat_tests}
 use lib.Utf8.{scalar, scalars, encode}
-use Rattle.yaml_scan.specs.Classes.{is_alpha_byte, is_digit_byte}
-use Rattle.yaml_scan.specs.Characters.{is_allowed}
+use Rattle.yaml_scan_model.specs.Classes.{is_alpha_byte, is_digit_byte}
+use Rattle.yaml_scan_decode.specs.Characters.{is_allowed}
 use Rattle.yaml_emit_layout.specs.emit_text.Text.{is_break}
 use Rattle.yaml_emit_layout.specs.emit_text.Quoted.{is_printable, needs_escape, escape_letter, escape_text, hex_digit, hex_2, hex_4, hex_8}
 use Rattle.yaml_emit_layout.specs.emit_text.Tags.{suffix_keeps, prefix_keeps, keeps_byte, uri_byte, uri_text}

@@ -1,11 +1,11 @@
 -- Bytes of canonical text are decoded to it.
 use Rattle.std.proofs.Common.{◌≡◌, ℕ, Bool, true, false, List, ◌∷◌, drop, Ok, sym, ap, subst, ◌∙◌}
-use Rattle.yaml_scan.specs.declared.yaml_encoding_t.{yaml_encoding_t}
-use Rattle.yaml_scan.specs.declared.yaml_encoding_t.TheVariants.{YAML_ANY_ENCODING, YAML_UTF8_ENCODING, YAML_UTF16LE_ENCODING, YAML_UTF16BE_ENCODING}
-use Rattle.yaml_scan.specs.Encodings.{encoding_of, mark_length}
-use Rattle.yaml_scan.specs.Decoding.{decoded_text}
-use Rattle.yaml_scan.specs.Spelling.{Spells, spellings}
-use Rattle.yaml_scan.proofs.scan_decode.CompleteLemmas.{spells_decoded}
+use Rattle.yaml_scan_model.specs.declared.yaml_encoding_t.{yaml_encoding_t}
+use Rattle.yaml_scan_model.specs.declared.yaml_encoding_t.TheVariants.{YAML_ANY_ENCODING, YAML_UTF8_ENCODING, YAML_UTF16LE_ENCODING, YAML_UTF16BE_ENCODING}
+use Rattle.yaml_scan_decode.specs.Encodings.{encoding_of, mark_length}
+use Rattle.yaml_scan_decode.specs.Decoding.{decoded_text}
+use Rattle.yaml_scan_decode.specs.Spelling.{Spells, spellings}
+use Rattle.yaml_scan_decode.proofs.CompleteLemmas.{spells_decoded}
 use Rattle.yaml_emit_layout.specs.emit_text.declared.Encoding.{Encoding}
 use Rattle.yaml_emit_layout.specs.emit_text.declared.Encoding.TheVariants.{Utf8, Utf16Le, Utf16Be}
 use Rattle.yaml_emit_layout.specs.emit_text.declared.Settings.{Settings}

@@ -1,8 +1,8 @@
 -- What the bytes of pretty text decode to.
 use Rattle.std.specs.Prelude.{◌≡◌, ℕ, true, false, List, [], ◌∷◌, Ok}
 use Rattle.yaml_round_laws_bytes.specs.Laws.{IsSpellable, encoding_named}
-use Rattle.yaml_emit_laws_pretty.specs.emit_laws_json.emit_layout.scan.Encodings.{encoding_of}
-use Rattle.yaml_emit_laws_pretty.specs.emit_laws_json.emit_layout.scan.Decoding.{decoded_text}
+use Rattle.yaml_round_laws_bytes.specs.scan_decode.Encodings.{encoding_of}
+use Rattle.yaml_round_laws_bytes.specs.scan_decode.Decoding.{decoded_text}
 use Rattle.yaml_emit_laws_pretty.specs.emit_laws_json.emit_layout.scan.declared.yaml_encoding_t.TheVariants.{YAML_ANY_ENCODING}
 use Rattle.yaml_emit_laws_pretty.specs.emit_laws_json.emit_layout.emit_text.declared.Settings.{Settings}
 use Rattle.yaml_emit_laws_pretty.specs.emit_laws_json.emit_layout.emit_text.declared.Encoding.TheVariants.{Utf8}

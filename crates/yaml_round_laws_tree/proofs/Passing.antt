@@ -3,7 +3,7 @@ use Rattle.std.proofs.Common.{◌≡◌, ℕ, Bool, true, false, not, ◌&&◌, 
 use Rattle.std.proofs.lemmas.Str.{is_utf8-from_IsUtf8}
 use Rattle.yaml_emit_laws_canonical.specs.emit_layout.scan.Tokens.{Token, TokenBody}
 use Rattle.yaml_emit_laws_canonical.specs.emit_layout.scan.Tokens as token
-use Rattle.yaml_emit_laws_canonical.specs.emit_layout.scan.scan_history.Remaining.{Remaining}
+use Rattle.yaml_emit_laws_canonical.specs.scan_history.Remaining.{Remaining}
 use Rattle.yaml_emit_laws_canonical.specs.emit_layout.scan.declared.yaml_version_directive_t.{yaml_version_directive_t}
 use Rattle.yaml_emit_laws_canonical.specs.emit_layout.parse.Events.{TagDirective}
 use Rattle.yaml_emit_laws_canonical.specs.emit_layout.emit_text.Tags.{Split, shorthand, verbatim, split_tag}

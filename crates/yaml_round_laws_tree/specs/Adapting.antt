@@ -3,7 +3,7 @@ use Rattle.std.specs.Prelude.{◌≡◌, ℕ, false, List, [], ◌∷◌, Option
 use Rattle.yaml_emit_laws_canonical.specs.emit_layout.scan.declared.yaml_encoding_t.{yaml_encoding_t}
 use Rattle.yaml_emit_laws_canonical.specs.emit_layout.scan.Tokens.{Token}
 use Rattle.yaml_emit_laws_canonical.specs.emit_layout.scan.Tokens as token
-use Rattle.yaml_emit_laws_canonical.specs.emit_layout.scan.scan_history.Remaining.{Remaining}
+use Rattle.yaml_emit_laws_canonical.specs.scan_history.Remaining.{Remaining}
 use Rattle.yaml_emit_laws_canonical.specs.emit_layout.parse.Events.{TagDirective}
 use Rattle.yaml_emit_laws_canonical.specs.emit_layout.emit_text.Tags.{split_tag}
 use Rattle.yaml_emit_laws_canonical.specs.emit_layout.Content.{Document, Node, alias_node, scalar_node, sequence_node, mapping_node, Nodes, no_nodes, node, Pairs, no_pairs, pair}

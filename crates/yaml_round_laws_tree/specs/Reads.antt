@@ -5,7 +5,7 @@ use Rattle.yaml_emit_laws_canonical.specs.emit_layout.scan.declared.yaml_sequenc
 use Rattle.yaml_emit_laws_canonical.specs.emit_layout.scan.declared.yaml_mapping_style_t.TheVariants.{YAML_FLOW_MAPPING_STYLE}
 use Rattle.yaml_emit_laws_canonical.specs.emit_layout.parse.Events.{EventBody}
 use Rattle.yaml_emit_laws_canonical.specs.emit_layout.parse.Events as event
-use Rattle.yaml_emit_laws_canonical.specs.emit_layout.parse.Resolve.{is_missing}
+use Rattle.yaml_parse_grammar.specs.Resolve.{is_missing}
 use Rattle.yaml_emit_laws_canonical.specs.emit_layout.Nodes.{is_directed}
 use Rattle.yaml_emit_laws_canonical.specs.emit_layout.Content.{Document, Node, alias_node, scalar_node, sequence_node, mapping_node, Nodes, no_nodes, node, Pairs, no_pairs, pair}
 

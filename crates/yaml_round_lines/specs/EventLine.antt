@@ -1,10 +1,10 @@
 -- The line that tells an event.
 use Rattle.std.specs.Prelude.{ℕ, Bool, true, false, ◌==◌, if◌then◌else◌, List, [], ◌∷◌, ◌++◌, Option, Some, None, codes}
 use Rattle.std.specs.List.{flat_map}
-use Rattle.yaml_scan.specs.declared.yaml_scalar_style_t.{yaml_scalar_style_t}
-use Rattle.yaml_scan.specs.declared.yaml_scalar_style_t.TheVariants as style
-use Rattle.yaml_parse.specs.Events.{EventBody}
-use Rattle.yaml_parse.specs.Events as event
+use Rattle.yaml_scan_model.specs.declared.yaml_scalar_style_t.{yaml_scalar_style_t}
+use Rattle.yaml_scan_model.specs.declared.yaml_scalar_style_t.TheVariants as style
+use Rattle.yaml_parse_model.specs.Events.{EventBody}
+use Rattle.yaml_parse_model.specs.Events as event
 
 -- A byte of a tag or a value: a backslash, and 00, 08, 09, 0A and 0D, are a backslash and a letter.
 unfoldable pub escaped_byte : ℕ → List ℕ

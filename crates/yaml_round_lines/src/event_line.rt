@@ -1,13 +1,13 @@
 //! The line that tells an event.
 
 ghost use Rattle.std.specs.Prelude.{◌≡◌, ◌+◌, ◌<◌, ◌≤◌, ◌++◌, [], ◌∷◌, length, take, codes, vec_len, vec_capacity, OnOk, IfOk};
-ghost use Rattle.yaml_parse.specs.Events.{event_of, text_of};
+ghost use Rattle.yaml_parse_model.specs.Events.{event_of, text_of};
 ghost use Rattle.yaml_round_lines.specs.Runs.{is_kept, kept_run};
 ghost use Rattle.yaml_round_lines.specs.EventLine.{escaped_byte, escaped, anchor_part, tag_part, indicator_of, mark_part, event_text, event_line};
 
 use std::alloc::AllocError;
-use yaml_parse::{yaml_event_body_t, yaml_event_t};
-use yaml_scan::yaml_scalar_style_t;
+use yaml_parse_model::{yaml_event_body_t, yaml_event_t};
+use yaml_scan_model::yaml_scalar_style_t;
 
 // So many bytes are looked at together; a shorter text is added byte by byte.
 const CHUNK: usize = 16;

@@ -1,8 +1,8 @@
 //! Documents to text.
 
 ghost use Rattle.std.specs.Prelude.{◌≡◌, ◌≢◌, ◌<◌, ◌≤◌, ◌++◌, ◌∷◌, [], List, length, Some, None, true, false, OnOk, OnErr};
-ghost use Rattle.yaml_parse.specs.Events.{body_of};
-ghost use Rattle.yaml_parse.specs.Constructors.{HasUtf8};
+ghost use Rattle.yaml_parse_model.specs.Events.{body_of};
+ghost use Rattle.yaml_parse_model.specs.Constructors.{HasUtf8};
 ghost use Rattle.yaml_emit_layout.specs.Content.{stream_start, stream_end, emitter_event, Event};
 ghost use Rattle.yaml_emit.specs.Emitter.{Answers, Given, Stays, GivesSome, Keeps, Stuck, left_if, opening_events, document_events, dump_events};
 ghost use Rattle.yaml_emit_graph.specs.Graph.{dumped};
@@ -14,8 +14,9 @@ use super::yaml_emitter_t;
 use crate::fault::refusal;
 use std::alloc::AllocError;
 use yaml_emit_graph::Events;
-use yaml_parse::{yaml_document_t, yaml_event_body_t};
-use yaml_scan::{yaml_encoding_t, yaml_fault_t};
+use yaml_parse_document::yaml_document_t;
+use yaml_parse_model::yaml_event_body_t;
+use yaml_scan_model::{yaml_encoding_t, yaml_fault_t};
 
 /// Starts the stream, which must not have been opened (`yaml_emitter_opened` tells). Refused as `yaml_emitter_emit` is.
 pub fn yaml_emitter_open(emitter: &mut yaml_emitter_t) -> Result<(), yaml_fault_t>

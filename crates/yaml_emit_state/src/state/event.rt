@@ -1,7 +1,7 @@
 //! What is written for an event.
 ghost use Rattle.std.specs.Prelude.{◌≡◌, map, IsUtf8};
-ghost use Rattle.yaml_parse.specs.Events.{body_of, text_of};
-ghost use Rattle.yaml_parse.specs.Constructors.{HasUtf8};
+ghost use Rattle.yaml_parse_model.specs.Events.{body_of, text_of};
+ghost use Rattle.yaml_parse_model.specs.Constructors.{HasUtf8};
 ghost use Rattle.yaml_emit_text.specs.Sink.{Puts};
 ghost use Rattle.yaml_emit_layout.specs.Content.{emitter_event};
 ghost use Rattle.yaml_emit_text.specs.Layout.{◌▹◌};
@@ -17,7 +17,7 @@ use crate::keys::{is_flow_mapping, is_flow_sequence};
 use crate::nodes::{put_alias, put_collection, put_scalar};
 use yaml_emit_layout::Level;
 use yaml_emit_text::{Settings, Sink};
-use yaml_parse::yaml_event_body_t;
+use yaml_parse_model::yaml_event_body_t;
 
 // An alias in the innermost collection, with what comes before it.
 fn put_alias_node(

@@ -1,6 +1,6 @@
 //! The state behind an event that was written.
 ghost use Rattle.std.specs.Prelude.{◌≡◌, ◌≢◌, ◌∷◌, [], ℕ, None, Some, true, false, IfSome, if◌then◌else◌, map};
-ghost use Rattle.yaml_parse.specs.Events.{directive_of, body_of};
+ghost use Rattle.yaml_parse_model.specs.Events.{directive_of, body_of};
 ghost use Rattle.yaml_emit_text.specs.Sink.{Puts};
 ghost use Rattle.yaml_emit_text.specs.Layout.{stay};
 ghost use Rattle.yaml_emit_layout.specs.Content.{emitter_event};
@@ -15,8 +15,8 @@ use crate::keys::{is_flow_mapping, is_flow_sequence};
 use std::mem;
 use yaml_emit_layout::{Expected, Level, Phase};
 use yaml_emit_text::{DirectiveTable, Settings, Status};
-use yaml_parse::yaml_event_body_t;
-use yaml_scan::yaml_tag_directive_t;
+use yaml_parse_model::yaml_event_body_t;
+use yaml_scan_model::yaml_tag_directive_t;
 
 fn place_behind(top: Option<Level>) -> Expected
     ensures { result ≡ place_at top }

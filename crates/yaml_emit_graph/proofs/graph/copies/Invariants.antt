@@ -1,5 +1,5 @@
 use Rattle.std.proofs.Common.{◌≡◌, map, take}
-use Rattle.yaml_parse.specs.Events.{directive_of}
+use Rattle.yaml_parse_model.specs.Events.{directive_of}
 use Rattle.yaml_emit_graph.proofs.graph.copies.Given as goal
 
 abbrev pub invariant-loop-directive : goal.invariant-loop-directive

@@ -1,7 +1,7 @@
 use Rattle.std.proofs.Common.{List, subst, sym, ap}
 use Rattle.std.specs.Prelude.{ℤ}
-use Rattle.yaml_parse.specs.declared.yaml_node_pair_t.{yaml_node_pair_t}
-use Rattle.yaml_parse.specs.Nodes.{NodeBody, body_of, sequence, mapping}
+use Rattle.yaml_parse_model.specs.declared.yaml_node_pair_t.{yaml_node_pair_t}
+use Rattle.yaml_parse_model.specs.Nodes.{NodeBody, body_of, sequence, mapping}
 use Rattle.yaml_emit_graph.specs.Walk.{NextChild}
 use Rattle.yaml_emit_graph.proofs.walk.next_child.Goals as goal
 

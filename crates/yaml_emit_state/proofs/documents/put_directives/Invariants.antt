@@ -1,5 +1,5 @@
 use Rattle.std.proofs.Common.{drop, map}
-use Rattle.yaml_parse.specs.Events.{directive_of}
+use Rattle.yaml_parse_model.specs.Events.{directive_of}
 use Rattle.yaml_emit_text.specs.Sink.{Owes}
 use Rattle.yaml_emit_layout.specs.Nodes.{directives_text}
 use Rattle.yaml_emit_state.proofs.documents.put_directives.Given as goal

@@ -1,5 +1,5 @@
 use Rattle.std.proofs.Common.{◌≡◌, [], drop, take, map}
-use Rattle.yaml_parse.specs.Events.{directive_of}
+use Rattle.yaml_parse_model.specs.Events.{directive_of}
 use Rattle.yaml_emit_layout.specs.Grammar.{directives_problem}
 use Rattle.yaml_emit_state.specs.Seen.{HasHandles}
 use Rattle.yaml_emit_state.proofs.judge.directives_problem.Given as goal

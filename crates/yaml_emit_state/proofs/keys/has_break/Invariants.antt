@@ -1,5 +1,5 @@
 use Rattle.std.proofs.Common.{◌≡◌, false}
-use Rattle.yaml_scan.specs.Classes.{is_break}
+use Rattle.yaml_scan_model.specs.Classes.{is_break}
 use Rattle.yaml_emit_layout.specs.Nodes.{any_below}
 use Rattle.yaml_emit_state.proofs.keys.has_break.Given as goal
 

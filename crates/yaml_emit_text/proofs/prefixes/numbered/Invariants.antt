@@ -1,5 +1,5 @@
 use Rattle.std.proofs.Common.{◌≡◌, ◌++◌, drop, map}
-use Rattle.yaml_parse.specs.Events.{directive_of}
+use Rattle.yaml_parse_model.specs.Events.{directive_of}
 use Rattle.yaml_emit_text.specs.Prefixes.{entry_of, numbered}
 use Rattle.yaml_emit_text.proofs.prefixes.numbered.Given as goal
 

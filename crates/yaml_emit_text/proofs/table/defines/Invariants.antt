@@ -1,6 +1,6 @@
 use Rattle.std.proofs.Common.{◌≡◌}
 use Rattle.std.proofs.Common.{map, drop}
-use Rattle.yaml_parse.specs.Events.{directive_of}
+use Rattle.yaml_parse_model.specs.Events.{directive_of}
 use Rattle.yaml_emit_text.specs.Tags.{defines}
 use Rattle.yaml_emit_text.proofs.table.defines.Given as goal
 

@@ -1,5 +1,5 @@
 use Rattle.std.proofs.Common.{◌≡◌, map, drop}
-use Rattle.yaml_parse.specs.Events.{directive_of}
+use Rattle.yaml_parse_model.specs.Events.{directive_of}
 use Rattle.yaml_emit_text.specs.Tags.{directive_for}
 use Rattle.yaml_emit_text.proofs.table.walked.Given as goal
 

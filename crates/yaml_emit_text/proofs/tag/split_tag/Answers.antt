@@ -1,5 +1,5 @@
 use Rattle.std.proofs.Common.{sym, ◌∙◌}
-use Rattle.yaml_parse.specs.Events.{directive_of}
+use Rattle.yaml_parse_model.specs.Events.{directive_of}
 use Rattle.yaml_emit_text.proofs.Directives.{split_found, split_none}
 use Rattle.yaml_emit_text.proofs.tag.split_tag.Goals as goal
 

@@ -1,4 +1,4 @@
-use Rattle.yaml_scan.specs.Faults.{fault_of}
+use Rattle.yaml_scan_model.specs.Faults.{fault_of}
 use Rattle.yaml_parse_model.specs.Events.{event_of}
 use Rattle.yaml_parse.proofs.Loading.{keeps_on, loads_document, loads_nothing, load_faulty, load_refused, between_documents}
 use Rattle.yaml_parse.proofs.load.yaml_parser_load.Goals as goal

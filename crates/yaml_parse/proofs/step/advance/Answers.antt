@@ -1,5 +1,5 @@
-use Rattle.yaml_scan.specs.Tokens.{token_of}
-use Rattle.yaml_scan.specs.Faults.{fault_of}
+use Rattle.yaml_scan_model.specs.Tokens.{token_of}
+use Rattle.yaml_scan_model.specs.Faults.{fault_of}
 use Rattle.yaml_parse_machine.specs.Views.{state_of, stack_of, item_of}
 use Rattle.yaml_parse.specs.Steps.{raw, peeked_of}
 use Rattle.yaml_parse.specs.Stepped.{stepped}

@@ -1,6 +1,6 @@
 use Rattle.std.proofs.Common.{◌∙◌, ap, sym, [], None}
-use Rattle.yaml_scan.specs.Tokens.{token_of}
-use Rattle.yaml_scan.specs.Faults.{fault_of}
+use Rattle.yaml_scan_model.specs.Tokens.{token_of}
+use Rattle.yaml_scan_model.specs.Faults.{fault_of}
 use Rattle.yaml_parse_grammar.specs.Machine.{choice_at}
 use Rattle.yaml_parse_machine.specs.Views.{state_of, stack_of, item_of}
 use Rattle.yaml_parse.specs.Steps.{raw, peeked_of}

@@ -1,5 +1,5 @@
 use Rattle.std.proofs.Common.{◌∙◌, ap, sym, refl}
-use Rattle.yaml_scan.specs.Faults.{fault_of}
+use Rattle.yaml_scan_model.specs.Faults.{fault_of}
 use Rattle.yaml_parse_model.specs.Events.{event_of, body_of}
 use Rattle.yaml_parse_grammar.specs.Resolve.{refused}
 use Rattle.yaml_parse_grammar.specs.Remaining.{parser_remaining}

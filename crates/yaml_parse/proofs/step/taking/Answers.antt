@@ -1,5 +1,5 @@
 use Rattle.std.proofs.Common.{Some, None}
-use Rattle.yaml_scan.specs.Tokens.{token_of}
+use Rattle.yaml_scan_model.specs.Tokens.{token_of}
 use Rattle.yaml_parse_grammar.specs.Machine.{taken_at}
 use Rattle.yaml_parse_machine.specs.Views.{state_of, stack_of, item_of}
 use Rattle.yaml_parse.proofs.Moves.{taken_is, take_item, take_silent}

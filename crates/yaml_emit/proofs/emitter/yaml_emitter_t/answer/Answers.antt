@@ -1,5 +1,5 @@
 use Rattle.std.proofs.Common.{◌≡◌, false, ap, option_map}
-use Rattle.yaml_scan.specs.Faults.{fault_of}
+use Rattle.yaml_scan_model.specs.Faults.{fault_of}
 use Rattle.yaml_emit.proofs.Emitting.{not_true}
 use Rattle.yaml_emit.proofs.Dumped.{inside_stuck}
 use Rattle.yaml_emit.proofs.Verdicts.{inside_tells, inside_unjudged}

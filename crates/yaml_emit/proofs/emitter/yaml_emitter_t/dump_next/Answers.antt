@@ -1,6 +1,6 @@
 use Rattle.std.proofs.Common.{Option, subst}
 use Rattle.std.specs.Prelude.{Ok}
-use Rattle.yaml_parse.specs.declared.yaml_event_body_t.{yaml_event_body_t}
+use Rattle.yaml_parse_model.specs.declared.yaml_event_body_t.{yaml_event_body_t}
 use Rattle.yaml_emit_graph.specs.Events.{GivesGraphEvent}
 use Rattle.yaml_emit.proofs.Dumped.{dumps_event}
 use Rattle.yaml_emit.proofs.DumpsJudged.{judged_event}

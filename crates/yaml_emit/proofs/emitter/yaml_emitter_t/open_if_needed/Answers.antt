@@ -1,5 +1,5 @@
 use Rattle.std.proofs.Common.{◌≡◌, ◌++◌, [], Bool, true, false, sym, subst}
-use Rattle.yaml_scan.specs.declared.yaml_encoding_t.TheVariants.{YAML_ANY_ENCODING}
+use Rattle.yaml_scan_model.specs.declared.yaml_encoding_t.TheVariants.{YAML_ANY_ENCODING}
 use Rattle.yaml_emit_layout.specs.Content.{stream_start}
 use Rattle.yaml_emit.specs.Emitter.{GivesSome, opening_events}
 use Rattle.yaml_emit.specs.Verdict.{JudgedAll}

@@ -2,7 +2,7 @@ use mir.Syntax.{w32}
 use mir.Val.{SFits}
 use Rattle.std.proofs.Common.{◌≡◌, ℕ, rules, sym, subst, ◌∙◌, ap}
 use Rattle.std.proofs.lemmas.Int.{to_z-of_z}
-use Rattle.yaml_parse.specs.Events.{body_of}
+use Rattle.yaml_parse_model.specs.Events.{body_of}
 use Rattle.yaml_emit_layout.specs.Content.{alias, emitter_event}
 use Rattle.yaml_emit_graph.specs.declared.walk.Turn.{Turn}
 use Rattle.yaml_emit_graph.specs.Events.{Says}

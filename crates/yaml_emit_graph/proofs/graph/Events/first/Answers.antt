@@ -2,7 +2,7 @@ use mir.Syntax.{w32}
 use Rattle.std.proofs.Common.{◌≡◌, List, ℕ, Option, subst, ◌∙◌, ap}
 use Rattle.std.specs.Prelude.{ℤ}
 use Rattle.std.proofs.lemmas.Int.{to_z-of_z}
-use Rattle.yaml_parse.specs.Events.{text_of}
+use Rattle.yaml_parse_model.specs.Events.{text_of}
 use Rattle.yaml_emit_graph.specs.Events.{Says}
 use Rattle.yaml_emit_graph.specs.Graph.{anchor_of, number_at, opening_event, tag_of_id, body_of_id, turn_event}
 use Rattle.yaml_emit_graph.proofs.graph.Events.first.Goals as goal

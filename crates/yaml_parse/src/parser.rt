@@ -34,9 +34,8 @@ use yaml_scan_model::{yaml_fault_t, yaml_mark_t, yaml_memory_fault, yaml_origin_
 /// A parser of the tokens of a source.
 #[derive(Drop)]
 pub struct yaml_parser_t<S: yaml_token_source_t> {
-    alloc: Global,
     source: S,
-    // The token at the front, and the item of the last step.
+    // The allocator, the token at the front, and the item of the last step.
     buffers: StepBuffers,
     // What may come, the nearest last.
     stack: Vec<State>,
@@ -78,7 +77,6 @@ impl<S: yaml_token_source_t> yaml_parser_t<S> {
         ensures held { self.new.held ≤ 1 }
     {
         take_turn(
-            self.alloc,
             &mut self.source,
             &mut self.buffers,
             &mut self.stack,
@@ -92,7 +90,7 @@ impl<S: yaml_token_source_t> yaml_parser_t<S> {
 impl<S: yaml_token_source_t> yaml_parser_t<S> {
     /// The allocator that the parser keeps.
     pub(crate) fn allocator(&self) -> Global {
-        self.alloc
+        self.buffers.alloc
     }
 
     /// Nothing more is to come, and that fault was answered.
@@ -161,9 +159,9 @@ pub fn yaml_parser_initialize<S: yaml_token_source_t>(
     let mut stack = Vec::new(alloc);
     match stack.push(State::Stream) {
         Ok(()) => Ok(yaml_parser_t {
-            alloc,
             source,
             buffers: StepBuffers {
+                alloc,
                 token: yaml_token_t::empty(),
                 is_held: false,
                 item: no_item(),

@@ -46,9 +46,10 @@ pub enum Turn {
     Done,
 }
 
-/// What the steps hand on in place, since moving it costs more than what they do.
+/// What the steps hand on in place, since moving it costs more than what they do, and what they ask for memory.
 #[derive(Drop)]
 pub struct StepBuffers {
+    pub alloc: Global,
     /// The token that was asked for last.
     pub token: yaml_token_t,
     /// It is still to be taken.
@@ -251,7 +252,6 @@ pub fn advance<S: yaml_token_source_t>(
 // Inlined into its one caller, the turn of the parser.
 #[inline(always)]
 pub fn take_turn<S: yaml_token_source_t>(
-    alloc: Global,
     source: &mut S,
     buffers: &mut StepBuffers,
     stack: &mut Vec<State>,
@@ -282,7 +282,7 @@ pub fn take_turn<S: yaml_token_source_t>(
             stack.clear();
             Turn::Refused
         }
-        Step::RawEvent => match settle(alloc, directives, &mut buffers.item, event) {
+        Step::RawEvent => match settle(buffers.alloc, directives, &mut buffers.item, event) {
             Ok(true) => Turn::Event,
             Ok(false) => Turn::Silent,
             Err(Refusal::Memory) => {

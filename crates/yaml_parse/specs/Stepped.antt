@@ -12,7 +12,7 @@ pub data Stepped : Type 0 where
 
 -- an answer, and the item and the fault that stand in the slots
 abbrev pub stepped : Step → RawEvent → Fault → Stepped
-stepped code.RawEvent i f = given i
+stepped code.Given i f = given i
 stepped code.Silent i f = silent
 stepped code.Refused i f = refused f
 stepped code.Done i f = done

@@ -22,7 +22,7 @@ ghost use Rattle.yaml_parse.specs.Steps.{Turns, IsUtf8Turn, IsStackTurn};
 ghost use Rattle.yaml_parse.specs.Turned.{turned};
 ghost use Rattle.yaml_parse_grammar.specs.Stacks.{parts_documents_behind};
 
-use crate::step::{StepBuffers, Turn, take_turn};
+use crate::step::{Step, StepBuffers, take_turn};
 use std::alloc::Global;
 use std::marker::Model;
 use yaml_parse_machine::{Directives, RawEvent, RawEventBody, Resolved, State, TagDirectives};
@@ -68,7 +68,7 @@ impl<S: yaml_token_source_t> Model for yaml_parser_t<S> {
 impl<S: yaml_token_source_t> yaml_parser_t<S> {
     // Out of line: in a loop LLVM would put the addresses of all fields aside at each entry.
     #[inline(never)]
-    fn turn(&mut self, event: &mut yaml_event_t, fault: &mut yaml_fault_t) -> Turn
+    fn turn(&mut self, event: &mut yaml_event_t, fault: &mut yaml_fault_t) -> Step
         ensures turns { Turns self.old (turned result (event_of event.new) (fault_of fault.new))
             self.new }
         ensures utf8 { IsUtf8Turn (turned result (event_of event.new) (fault_of fault.new)) }
@@ -200,13 +200,13 @@ pub fn yaml_parser_parse_into<S: yaml_token_source_t>(
 {
     'turns: loop {
         match parser.turn(event, fault) {
-            Turn::Event => return yaml_found_t::Event,
-            Turn::Silent => {}
-            Turn::Refused => {
+            Step::Given => return yaml_found_t::Event,
+            Step::Silent => {}
+            Step::Refused => {
                 parser.prefix = yaml_parser_t_prefix::of(fault);
                 return yaml_found_t::Refused;
             }
-            Turn::Done => return yaml_found_t::End,
+            Step::Done => return yaml_found_t::End,
         }
     }
 }

@@ -27,20 +27,11 @@ use yaml_parse_machine::{
 use yaml_parse_model::{yaml_event_t, yaml_token_source_t};
 use yaml_scan_model::{yaml_fault_t, yaml_mark_t, yaml_memory_fault, yaml_origin_t, yaml_token_t};
 
-/// What a step over the grammar gives: an item that lies in the step buffers, nothing, a fault that stands in its slot, or nothing
-/// any more.
+/// What a step gives: an item, or with tags and directives resolved an event, or a fault, each in its slot; nothing; or nothing any
+/// more.
 #[derive(Clone, Copy, PartialEq, Eq, Debug)]
 pub enum Step {
-    RawEvent,
-    Silent,
-    Refused,
-    Done,
-}
-
-/// What a step gives: an event or a fault that stands in its slot, nothing, or nothing any more.
-#[derive(Clone, Copy, PartialEq, Eq, Debug)]
-pub enum Turn {
-    Event,
+    Given,
     Silent,
     Refused,
     Done,
@@ -143,7 +134,7 @@ fn taking(
 {
     buffers.is_held = false;
     match take(stack, state, &mut buffers.token, &mut buffers.item) {
-        Ok(true) => Step::RawEvent,
+        Ok(true) => Step::Given,
         Ok(false) => Step::Silent,
         Err(_) => {
             *fault = want_of_memory();
@@ -167,7 +158,7 @@ fn opening(
             slot.body = RawEventBody::Document { implicit: true };
             slot.from = start;
             slot.to = start;
-            Step::RawEvent
+            Step::Given
         }
         Err(_) => {
             *fault = want_of_memory();
@@ -207,7 +198,7 @@ fn stepping(
         Choice::Leave => {
             buffers.is_held = true;
             leave(state, start, &mut buffers.item);
-            Step::RawEvent
+            Step::Given
         }
         Choice::Open => {
             buffers.is_held = true;
@@ -258,7 +249,7 @@ pub fn take_turn<S: yaml_token_source_t>(
     directives: &mut Directives,
     event: &mut yaml_event_t,
     fault: &mut yaml_fault_t,
-) -> Turn
+) -> Step
     ensures turns { (answered : Fault)
         → Turns (parser_remaining (peeked_of buffers.old) (S.to_come source.old)
         (S.fault_to_come source.old) (stack_of stack.old.items) (directives_of directives.old)
@@ -276,24 +267,24 @@ pub fn take_turn<S: yaml_token_source_t>(
         (is_between (stack_of stack.new.items)) × IsStack (stack_of stack.new.items) }
 {
     match advance(source, buffers, stack, fault) {
-        Step::Done => Turn::Done,
-        Step::Silent => Turn::Silent,
+        Step::Done => Step::Done,
+        Step::Silent => Step::Silent,
         Step::Refused => {
             stack.clear();
-            Turn::Refused
+            Step::Refused
         }
-        Step::RawEvent => match settle(buffers.alloc, directives, &mut buffers.item, event) {
-            Ok(true) => Turn::Event,
-            Ok(false) => Turn::Silent,
+        Step::Given => match settle(buffers.alloc, directives, &mut buffers.item, event) {
+            Ok(true) => Step::Given,
+            Ok(false) => Step::Silent,
             Err(Refusal::Memory) => {
                 stack.clear();
                 *fault = want_of_memory();
-                Turn::Refused
+                Step::Refused
             }
             Err(Refusal::Fault(refused)) => {
                 stack.clear();
                 *fault = refused.located();
-                Turn::Refused
+                Step::Refused
             }
         },
     }

@@ -26,12 +26,12 @@ pub returns-in-Ok-true-clause-turns : goal.returns-in-Ok-true-clause-turns
 returns-in-Ok-true-clause-turns g c = λ answered.
     let q = rw c.in-Ok-true.field-0-test at c.in-Ok-true.ensures in
     event_turn _ _ (directives_of c.args.directives.now) (directives_of c.settle.new.directives) answered (item_of c.advance.new.buffers.item) (body_of c.settle.new.event.body) (event_of c.settle.new.event)
-    c.in-RawEvent.ensures.steps q.0 q.1
+    c.in-Given.ensures.steps q.0 q.1
 
 pub returns-in-Ok-false-clause-turns : goal.returns-in-Ok-false-clause-turns
 returns-in-Ok-false-clause-turns g c = λ answered.
     let q = rw c.in-Ok-false.field-0-test at c.in-Ok-false.ensures in
-    noted_turn _ _ (directives_of c.args.directives.now) (directives_of c.settle.new.directives) answered (item_of c.advance.new.buffers.item) c.in-RawEvent.ensures.steps q
+    noted_turn _ _ (directives_of c.args.directives.now) (directives_of c.settle.new.directives) answered (item_of c.advance.new.buffers.item) c.in-Given.ensures.steps q
 
 pub returns-in-Err-Memory-clause-turns : goal.returns-in-Err-Memory-clause-turns
 returns-in-Err-Memory-clause-turns g c = λ answered.
@@ -46,7 +46,7 @@ returns-in-Err-Fault-clause-turns g c = λ answered.
     settled_turn _ _
     (raw (peeked_of c.advance.new.buffers) (g.S.yaml_token_source_t.to_come c.advance.new.source) (g.S.yaml_token_source_t.fault_to_come c.advance.new.source) (stack_of c.clear-in-Err-Fault.new.self.items))
     (directives_of c.args.directives.now) (directives_of c.settle.new.directives) answered (item_of c.advance.new.buffers.item) (fault_of c.located.result)
-    c.in-RawEvent.ensures.steps (q ∙ ap refused (sym c.located.ensures)) refl (ap stack_of c.clear-in-Err-Fault.ensures.items)
+    c.in-Given.ensures.steps (q ∙ ap refused (sym c.located.ensures)) refl (ap stack_of c.clear-in-Err-Fault.ensures.items)
 
 pub returns-in-Done-clause-utf8 : goal.returns-in-Done-clause-utf8
 returns-in-Done-clause-utf8 g c = λ h. done_utf8 _ _ (directives_of c.args.directives.now) c.in-Done.ensures.steps
@@ -62,13 +62,13 @@ pub returns-in-Ok-true-clause-utf8 : goal.returns-in-Ok-true-clause-utf8
 returns-in-Ok-true-clause-utf8 g c = λ h.
     let q = rw c.in-Ok-true.field-0-test at c.in-Ok-true.ensures in
     event_utf8 (peeked_of c.advance.new.buffers) (stack_of c.advance.new.stack.items) (directives_of c.args.directives.now) (directives_of c.settle.new.directives) (item_of c.advance.new.buffers.item)
-    (body_of c.settle.new.event.body) q.0 (c.in-RawEvent.ensures.utf8 (directives_of c.args.directives.now) h)
+    (body_of c.settle.new.event.body) q.0 (c.in-Given.ensures.utf8 (directives_of c.args.directives.now) h)
 
 pub returns-in-Ok-false-clause-utf8 : goal.returns-in-Ok-false-clause-utf8
 returns-in-Ok-false-clause-utf8 g c = λ h.
     let q = rw c.in-Ok-false.field-0-test at c.in-Ok-false.ensures in
     noted_utf8 (peeked_of c.advance.new.buffers) (stack_of c.advance.new.stack.items) (directives_of c.args.directives.now) (directives_of c.settle.new.directives) (item_of c.advance.new.buffers.item)
-    q (c.in-RawEvent.ensures.utf8 (directives_of c.args.directives.now) h)
+    q (c.in-Given.ensures.utf8 (directives_of c.args.directives.now) h)
 
 pub returns-in-Err-Memory-clause-utf8 : goal.returns-in-Err-Memory-clause-utf8
 returns-in-Err-Memory-clause-utf8 g c = λ h.
@@ -91,10 +91,10 @@ pub returns-in-Ok-true-clause-stack : goal.returns-in-Ok-true-clause-stack
 returns-in-Ok-true-clause-stack g c = λ h.
     let q = rw c.in-Ok-true.field-0-test at c.in-Ok-true.ensures in
     event_stands (stack_of c.advance.new.stack.items) (directives_of c.args.directives.now) (directives_of c.settle.new.directives) (item_of c.advance.new.buffers.item)
-    (body_of c.settle.new.event.body) q.0 (c.in-RawEvent.ensures.stack h)
+    (body_of c.settle.new.event.body) q.0 (c.in-Given.ensures.stack h)
 
 pub returns-in-Ok-false-clause-stack : goal.returns-in-Ok-false-clause-stack
-returns-in-Ok-false-clause-stack g c = λ h. noted_stands (stack_of c.advance.new.stack.items) (item_of c.advance.new.buffers.item) (c.in-RawEvent.ensures.stack h)
+returns-in-Ok-false-clause-stack g c = λ h. noted_stands (stack_of c.advance.new.stack.items) (item_of c.advance.new.buffers.item) (c.in-Given.ensures.stack h)
 
 pub returns-in-Err-Memory-clause-stack : goal.returns-in-Err-Memory-clause-stack
 returns-in-Err-Memory-clause-stack g c = λ h. cleared_stands (stack_of c.clear-in-Err-Memory.new.self.items) (ap stack_of c.clear-in-Err-Memory.ensures.items)

@@ -1,11 +1,11 @@
 -- What is written of an input's documents is a normal form of them.
-use Rattle.std.proofs.Common.{◌≡◌, ℕ, true, List, map, Option, None, Ok, refl, sym, ap, subst, ◌∙◌}
+use Rattle.std.proofs.Common.{◌≡◌, ℕ, true, List, Ok, refl, sym, ap, subst, ◌∙◌}
 use Rattle.yaml_scan.specs.declared.yaml_encoding_t.{yaml_encoding_t}
 use Rattle.yaml_scan.specs.declared.yaml_encoding_t.TheVariants.{YAML_ANY_ENCODING}
 use Rattle.yaml_emit.specs.Text.{encode}
 use Rattle.yaml_emit.specs.Within.{Fits}
 use Rattle.yaml_round_laws_documents.specs.round_laws_back.content.Said as content
-use Rattle.yaml_round_laws_documents.specs.round_laws_back.content.Loads.{Loads, loads_of}
+use Rattle.yaml_round_laws_documents.specs.round_laws_back.content.Loads.{loads_of}
 use Rattle.yaml_round_laws_documents.specs.round_laws_back.content.Canon.{canon_items, canon_encoding}
 use Rattle.yaml_round_laws_documents.specs.round_laws_dumps.Events.{trees_of_dumps, AreNumerable}
 use Rattle.yaml_round_laws_documents.specs.Normal.{LoadsAgain}

@@ -5,7 +5,7 @@ use Rattle.yaml_scan.specs.Faults.{Fault}
 use Rattle.yaml_parse.specs.Resolve.{Told}
 use Rattle.yaml_round.specs.Reading.{contents}
 use Rattle.yaml_round_laws_documents.specs.round_laws_back.content.Input.{events_of, ending_of}
-use Rattle.yaml_round_laws_documents.specs.round_laws_back.content.Said.{Document, HasContent}
+use Rattle.yaml_round_laws_documents.specs.round_laws_back.content.Said.{HasContent}
 use Rattle.yaml_round_laws_documents.specs.round_laws_reading.TreeContent.{tree_content}
 use Rattle.yaml_round_laws_documents.specs.round_laws_reading.Reading.{PlainReading, HasEvents}
 use Rattle.yaml_round_laws_documents.proofs.round_laws_reading.Joining.{refused_read, read_refused, said_read, read_said, events_of_tree}

@@ -1,5 +1,7 @@
 //! Comparisons of inputs, by their events side by side; no tree is held.
 
+ghost use Rattle.std.specs.Prelude.{ℕ, List};
+ghost use Rattle.yaml_round_laws_documents.specs.round_laws_back.content.Input.{Reads};
 ghost use Rattle.yaml_round.specs.Compare.{BothReal, Judges, StepsBeside, StepsAlone, StepsOn, Sided, RunsOut, IsBehindFirst, Compares, ReadsAlike};
 ghost use Rattle.yaml_parse.specs.Events.{event_of};
 ghost use Rattle.yaml_round.specs.Reading.{AreReal};
@@ -8,7 +10,7 @@ ghost use Rattle.yaml_scan.specs.Faults.{Answers, IsMemoryFault, fault_of, parse
 
 use crate::content::agree;
 use crate::normalize::normalize;
-use crate::reading::{next_into, read_out, reading_of};
+use crate::reading::{Reading, next_into, read_out, reading_of};
 use crate::settings::yaml_side_t;
 use std::alloc::Global;
 use yaml_parse::{
@@ -216,6 +218,17 @@ fn reads_alike<S: yaml_token_source_t, T: yaml_token_source_t>(
     }
 }
 
+// Whether the text, read as its byte order mark tells, is accepted and has the content of a reading.
+fn reads_as(alloc: Global, first: &mut Reading<'_>, text: &[u8]) -> Result<bool, yaml_fault_t>
+    requires { AreReal first.old.events }
+    ensures { (from : yaml_encoding_t) (input : List ℕ) → Reads from input first.old
+        → IsRight from input
+        → Answers parse_layers (λ same. same) (IsReadBack from input text.now) result }
+{
+    let mut second = reading_of(alloc, text, yaml_encoding_t::YAML_ANY_ENCODING)?;
+    reads_alike(first, &mut second)
+}
+
 /// Whether the text, read as its byte order mark tells, is accepted and has the content of the input, which is accepted.
 /// Refused only where memory ran out.
 pub(crate) fn reads_back(
@@ -228,8 +241,24 @@ pub(crate) fn reads_back(
     ensures { Answers parse_layers (λ same. same) (IsReadBack from input.now text.now) result }
 {
     let mut first = reading_of(alloc, input, from)?;
-    let mut second = reading_of(alloc, text, yaml_encoding_t::YAML_ANY_ENCODING)?;
-    reads_alike(&mut first, &mut second)
+    reads_as(alloc, &mut first, text)
+}
+
+// Whether the second input has the content of the first one's reading.
+fn same_as(
+    alloc: Global,
+    first: &mut Reading<'_>,
+    b: &[u8],
+    b_encoding: yaml_encoding_t,
+) -> Result<bool, SideFault>
+    requires { AreReal first.old.events }
+    ensures { (from : yaml_encoding_t) (input : List ℕ) → Reads from input first.old
+        → IsSame from input b_encoding b.now result }
+{
+    match reading_of(alloc, b, b_encoding) {
+        Err(fault) => Err(behind_first(first, fault)),
+        Ok(mut second) => compared(first, &mut second),
+    }
 }
 
 /// Whether two inputs have the same content: their documents' versions, directives, nodes, anchors, tags and values, and of
@@ -244,13 +273,8 @@ pub fn yaml_same(
 ) -> Result<bool, (yaml_side_t, yaml_fault_t)>
     ensures { IsSame a_encoding a.now b_encoding b.now result }
 {
-    let mut first = match reading_of(alloc, a, a_encoding) {
-        Ok(first) => first,
-        Err(fault) => return Err((yaml_side_t::First, fault)),
-    };
-    let mut second = match reading_of(alloc, b, b_encoding) {
-        Ok(second) => second,
-        Err(fault) => return Err(behind_first(&mut first, fault)),
-    };
-    compared(&mut first, &mut second)
+    match reading_of(alloc, a, a_encoding) {
+        Err(fault) => Err((yaml_side_t::First, fault)),
+        Ok(mut first) => same_as(alloc, &mut first, b, b_encoding),
+    }
 }

@@ -1,9 +1,9 @@
 //! The calls that read a text whole and answer another.
 
-ghost use Rattle.std.specs.Prelude.{◌≡◌, IfOk};
+ghost use Rattle.std.specs.Prelude.{◌≡◌, ℕ, List, IfOk};
 ghost use Rattle.yaml_scan.specs.Faults.{Answers, parse_layers};
 ghost use Rattle.yaml_round.specs.Layers.{list_layers, reformat_layers};
-ghost use Rattle.yaml_round_laws_documents.specs.round_laws_back.content.Input.{ending_of, events_of};
+ghost use Rattle.yaml_round_laws_documents.specs.round_laws_back.content.Input.{Reads, ending_of, events_of};
 ghost use Rattle.yaml_round_shape.specs.Seen.{seen_all};
 ghost use Rattle.yaml_round.specs.Reading.{AreReal, AddsLines, emitter_events};
 ghost use Rattle.yaml_round.specs.Answers.{IsReformatted, IsInCanonicalForm, IsInPrettyForm, IsJudged, IsWritten, IsListed, text_and_form, text_and_known, bytes_of};
@@ -56,9 +56,34 @@ fn write_events(
     write_rest(reading, emitter, watch)
 }
 
+// The text of the events of the input's reading in canonical or pretty form, or their fault.
+#[tactic(auto, using(crate::proofs::Judging::not_written))]
+fn written_from(
+    alloc: Global,
+    input: &[u8],
+    from: yaml_encoding_t,
+    reading: &mut Reading<'_>,
+    settings: &yaml_settings_t,
+    watch: &mut Watch,
+) -> Result<Vec<u8>, yaml_fault_t>
+    requires reads { Reads from input.now reading.old }
+    requires real { AreReal reading.old.events }
+    ensures text { Answers reformat_layers bytes_of (IsWritten from input.now settings.now
+        watch.old.canonical) result }
+    ensures shape { IfOk result (λ _. watch.new.shape ≡ seen_all watch.old.shape
+        (emitter_events watch.old.canonical (events_of from input.now))) }
+{
+    let mut emitter = emitter_under(alloc, settings, watch.canonical)?;
+    let written = write_events(alloc, input, from, reading, &mut emitter, watch);
+    let text = finished(emitter);
+    match written {
+        Err(fault) => Err(fault),
+        Ok(()) => text,
+    }
+}
+
 // The text of the input's events in canonical or pretty form. The input is read to its end, also where the text passes its
 // limit before, so that a fault of the input comes first.
-#[tactic(auto, using(crate::proofs::Judging::not_written))]
 fn written(
     alloc: Global,
     input: &[u8],
@@ -72,9 +97,7 @@ fn written(
         (emitter_events watch.old.canonical (events_of from input.now))) }
 {
     let mut reading = reading_of(alloc, input, from)?;
-    let mut emitter = emitter_under(alloc, settings, watch.canonical)?;
-    write_events(alloc, input, from, &mut reading, &mut emitter, watch)?;
-    finished(emitter)
+    written_from(alloc, input, from, &mut reading, settings, watch)
 }
 
 // The text in canonical form.
@@ -188,9 +211,20 @@ fn push_lines<S: yaml_token_source_t>(
     pushed
 }
 
+// The lines of a reading's events.
+#[tactic(auto, using(crate::proofs::Judging::listed, crate::proofs::Judging::not_listed))]
+fn lines_of(alloc: Global, reading: &mut Reading<'_>) -> Result<Vec<u8>, yaml_fault_t>
+    requires { AreReal reading.old.events }
+    ensures { (from : yaml_encoding_t) (input : List ℕ) → Reads from input reading.old
+        → Answers list_layers bytes_of (IsListed from input) result }
+{
+    let mut lines = Vec::new(alloc);
+    push_lines(reading, &mut lines)?;
+    Ok(lines)
+}
+
 /// A line for each event of the input, as the parser gives it. Refused by a fault of the input (kinds 2, 3 and 4) or for
 /// want of memory.
-#[tactic(auto, using(crate::proofs::Judging::listed, crate::proofs::Judging::not_listed))]
 pub fn yaml_events(
     alloc: Global,
     input: &[u8],
@@ -199,7 +233,5 @@ pub fn yaml_events(
     ensures { Answers list_layers bytes_of (IsListed from input.now) result }
 {
     let mut reading = reading_of(alloc, input, from)?;
-    let mut lines = Vec::new(alloc);
-    push_lines(&mut reading, &mut lines)?;
-    Ok(lines)
+    lines_of(alloc, &mut reading)
 }

@@ -1,6 +1,7 @@
 //! Documents loaded and written again.
 
-ghost use Rattle.std.specs.Prelude.{◌≡◌, true, false, All};
+ghost use Rattle.std.specs.Prelude.{◌≡◌, ℕ, List, true, false, All};
+ghost use Rattle.yaml_round_laws_documents.specs.round_laws_back.content.Input.{Reads};
 ghost use Rattle.yaml_scan.specs.Faults.{Answers, load_layers, emit_layers};
 ghost use Rattle.yaml_round.specs.Layers.{reload_layers};
 ghost use Rattle.yaml_round.specs.Answers.{bytes_of};
@@ -35,6 +36,28 @@ fn next_document(reading: &mut Reading<'_>) -> Result<Option<yaml_document_t>, y
     }
 }
 
+// The documents of a reading.
+fn documents_from(
+    alloc: Global,
+    reading: &mut Reading<'_>,
+) -> Result<VecDeque<yaml_document_t>, yaml_fault_t>
+    requires { reading.old.between ≡ true }
+    ensures { (from : yaml_encoding_t) (input : List ℕ) → Reads from input reading.old
+        → Answers load_layers (λ ds. ds.items) (IsLoaded from input) result }
+{
+    let mut documents = VecDeque::new(alloc);
+    'documents: loop {
+        match next_document(reading) {
+            Err(fault) => return Err(fault),
+            Ok(None) => return Ok(documents),
+            Ok(Some(document)) => match documents.push_back(document) {
+                Ok(()) => {}
+                Err(_) => return Err(yaml_memory_fault(yaml_origin_t::Loader)),
+            },
+        }
+    }
+}
+
 // The documents of the input.
 fn documents_of(
     alloc: Global,
@@ -44,17 +67,7 @@ fn documents_of(
     ensures { Answers load_layers (λ ds. ds.items) (IsLoaded from input.now) result }
 {
     let mut reading = reading_of(alloc, input, from)?;
-    let mut documents = VecDeque::new(alloc);
-    'documents: loop {
-        match next_document(&mut reading) {
-            Err(fault) => return Err(fault),
-            Ok(None) => return Ok(documents),
-            Ok(Some(document)) => match documents.push_back(document) {
-                Ok(()) => {}
-                Err(_) => return Err(yaml_memory_fault(yaml_origin_t::Loader)),
-            },
-        }
-    }
+    documents_from(alloc, &mut reading)
 }
 
 // Writes the documents. True where all were taken; else the emitter keeps its fault.

@@ -1,18 +1,16 @@
 -- The next document was loaded, and the others are left.
-use Rattle.std.proofs.Common.{ap}
+use Rattle.std.proofs.Common.{refl, ◌∙◌, ap}
 use Rattle.yaml_round_laws_documents.specs.round_laws_back.content.Loads.{Loads}
 use Rattle.yaml_round.proofs.Reloading.{documents_on, fault_on, documents_read, documents_refused, reads_to_load, small_on, none_small}
-use Rattle.yaml_round.proofs.reload.documents_of.Goals as goal
+use Rattle.yaml_round.proofs.reload.documents_from.Goals as goal
 
 pub documents-init : goal.documents-init
-documents-init c =
-    let e = reads_to_load c.args.from c.args.input.now c.in_ok-reading.reading c.in_ok-reading.ensures.reads in
-    record {
-      between = c.in_ok-reading.ensures.between;
-      documents = rw c.new-documents.ensures.items (ap (λ (z : Loads). z.documents) e);
-      small = none_small _ c.new-documents.ensures.items;
-      fault = ap (λ (z : Loads). z.fault) e;
-    }
+documents-init c = record {
+  between = c.requires;
+  documents = rw c.new-documents.ensures.items refl;
+  small = none_small _ c.new-documents.ensures.items;
+  fault = refl;
+}
 
 pub documents-preserved : goal.documents-preserved
 documents-preserved c =
@@ -25,9 +23,13 @@ documents-preserved c =
     }
 
 pub returns-in-Ok-None : goal.returns-in-Ok-None
-returns-in-Ok-None c =
+returns-in-Ok-None c = λ from input h.
+    let e = reads_to_load from input c.args.reading.now h in
     let next = rw c.in-Ok-None.field-0-is at c.in-Ok-None.ensures.next in
-    documents_read c.args.from c.args.input.now c.documents.documents.items c.documents.reading c.documents.invariant.documents c.documents.invariant.fault c.documents.invariant.small next
+    documents_read from input c.documents.documents.items c.documents.reading (c.documents.invariant.documents ∙ ap (λ (z : Loads). z.documents) e)
+    (c.documents.invariant.fault ∙ ap (λ (z : Loads). z.fault) e) c.documents.invariant.small next
 
 pub returns-in-Err : goal.returns-in-Err
-returns-in-Err c = documents_refused c.args.from c.args.input.now c.documents.reading c.in-Err.fault c.documents.invariant.fault c.in-Err.ensures.next
+returns-in-Err c = λ from input h.
+    let e = reads_to_load from input c.args.reading.now h in
+    documents_refused from input c.documents.reading c.in-Err.fault (c.documents.invariant.fault ∙ ap (λ (z : Loads). z.fault) e) c.in-Err.ensures.next

@@ -1,0 +1,6 @@
+use Rattle.yaml_round.proofs.Judging.{read_back}
+use Rattle.yaml_round.proofs.compare.reads_as.Goals as goal
+
+pub returns : goal.returns
+returns c = λ from input h r.
+    read_back from input c.args.text.now c.args.first.now c.in_ok-second.second c.reads_alike.result h c.in_ok-second.ensures.reads r c.reads_alike.ensures

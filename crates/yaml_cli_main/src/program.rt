@@ -13,8 +13,9 @@ use std::fs;
 use std::io::{BufReader, Read, Write};
 use std::rt::Files;
 use yaml_round::{
-    yaml_command_t, yaml_encoding_t, yaml_form_t, yaml_read_all, yaml_run, yaml_same,
-    yaml_settings_t, yaml_side_t, yaml_std_input_t, yaml_std_output_t, yaml_write_all,
+    yaml_command_t, yaml_encoding_t, yaml_form_t, yaml_input_t, yaml_output_t, yaml_read_all,
+    yaml_run, yaml_same, yaml_settings_t, yaml_side_t, yaml_std_input_t, yaml_std_output_t,
+    yaml_write_all,
 };
 
 // How many bytes of a file are read at once: each call of the system costs some microseconds.
@@ -44,6 +45,27 @@ fn task_of<'a>(
     })
 }
 
+fn run_on<'a, I: yaml_input_t, O: yaml_output_t>(
+    alloc: Global,
+    task: &Task,
+    input: &mut I,
+    output: &mut O,
+) -> Result<Option<yaml_form_t>, program_fault_t<'a>> {
+    let limit = INPUT_LIMIT;
+    match yaml_run(
+        alloc,
+        input,
+        output,
+        task.command,
+        task.from,
+        &task.settings,
+        limit,
+    ) {
+        Ok(form) => Ok(form),
+        Err(fault) => Err(from_run_fault(alloc, Input::Only, &fault)),
+    }
+}
+
 fn run_over<'a, R: Read, W: Write>(
     alloc: Global,
     task: Task,
@@ -52,23 +74,7 @@ fn run_over<'a, R: Read, W: Write>(
 ) -> Result<Option<yaml_form_t>, program_fault_t<'a>> {
     let mut input = yaml_std_input_t::new(reader);
     let mut output = yaml_std_output_t::new(writer);
-    let Task {
-        command,
-        from,
-        settings,
-    } = task;
-    match yaml_run(
-        alloc,
-        &mut input,
-        &mut output,
-        command,
-        from,
-        &settings,
-        INPUT_LIMIT,
-    ) {
-        Ok(form) => Ok(form),
-        Err(fault) => Err(from_run_fault(alloc, Input::Only, &fault)),
-    }
+    run_on(alloc, &task, &mut input, &mut output)
 }
 
 // The same over a file, of which more is read at once than the engine asks for, where there is room for that.

@@ -187,7 +187,9 @@ pub fn yaml_emitter_into_output(emitter: yaml_emitter_t) -> Vec<u8>
     ensures whole { IsWhole emitter result.items }
     ensures within { IsWithin emitter }
 {
-    emitter.core.into_output()
+    let yaml_emitter_t { core, held, .. } = emitter;
+    drop(held);
+    core.into_output()
 }
 
 /// Spends the emitter.

@@ -65,7 +65,7 @@ MODS = r"(?:(?:pub|abbrev|unfoldable|opaque)\s+)*"
 HEADER = re.compile(rf"^ *{MODS}(?:record|data)\s+(\S+)")
 SIGNATURE = re.compile(rf"^ *{MODS}(\S+) :(?:\s|$)")
 MUTUAL = re.compile(rf"^{MODS}mutual\s*$")
-USE = re.compile(r"^\s*(?:pub |ghost )*use\s+(.*)$", re.S)
+USE = re.compile(r"^\s*(?:unfoldable |pub |ghost )*use\s+(.*)$", re.S)
 
 
 def bare(line):
@@ -97,7 +97,7 @@ def items(text):
 
 
 def begins(line):
-    return bool(HEADER.match(line) or SIGNATURE.match(line) or re.match(r"(?:pub )?(?:use|mod|infix[lr]?)\b", line))
+    return bool(HEADER.match(line) or SIGNATURE.match(line) or re.match(r"(?:(?:unfoldable )?pub )?(?:use|mod|infix[lr]?)\b", line))
 
 
 def imports_of(text):

@@ -11,7 +11,7 @@ use Rattle.yaml_round_laws_documents.specs.round_laws_dumps.Events.{trees_of_dum
 use Rattle.yaml_round_laws_documents.specs.Normal.{LoadsAgain}
 use Rattle.yaml_round_laws_documents.proofs.Laid.{laid_out}
 use Rattle.yaml_round_laws_documents.proofs.Whole.{load_again, tell_documents}
-use Rattle.yaml_round.specs.declared.settings.yaml_settings_t.{yaml_settings_t}
+use Rattle.yaml_round_compare.specs.declared.yaml_settings_t.{yaml_settings_t}
 use Rattle.yaml_round.specs.Writing.{requested_under}
 use Rattle.yaml_round.specs.Answers.{canonical_text}
 use Rattle.yaml_round.specs.Reload.{IsEachDump, IsDumped, IsNormalOfDocuments}

@@ -3,35 +3,29 @@ use Rattle.std.proofs.Common.{◌≡◌, ◌⊎◌, ◌∙◌, ◌++◌, inl, in
 use Rattle.std.specs.Global.{Global}
 use Rattle.std.proofs.lemmas.List.{append_assoc}
 use Rattle.yaml_scan.specs.declared.yaml_encoding_t.{yaml_encoding_t}
-use Rattle.yaml_scan.specs.declared.yaml_encoding_t.TheVariants.{YAML_ANY_ENCODING}
 use Rattle.yaml_scan.specs.declared.yaml_fault_t.{yaml_fault_t}
-use Rattle.yaml_scan.specs.declared.yaml_origin_t.TheVariants.{Parser}
-use Rattle.yaml_scan.specs.Faults.{Fault, fault_of, memory_fault, IsMemoryFault, parse_layers, Answers}
+use Rattle.yaml_scan.specs.Faults.{Fault, fault_of, IsMemoryFault, parse_layers, Answers}
 use Rattle.yaml_parse.specs.Remaining.{ParserRemaining}
 use Rattle.yaml_parse.specs.Resolve.{Told}
 use Rattle.yaml_parse.specs.Events.{Event}
 use Rattle.yaml_emit.specs.Emitter.{Emitter, Completes}
 use Rattle.yaml_round_lines.specs.EventLine.{event_line}
-use Rattle.yaml_round.specs.declared.settings.yaml_settings_t.{yaml_settings_t}
-use Rattle.yaml_round.specs.declared.settings.yaml_side_t.{yaml_side_t}
-use Rattle.yaml_round.specs.declared.settings.yaml_side_t.TheVariants.{First, Second}
-use Rattle.yaml_round.specs.declared.settings.yaml_form_t.{yaml_form_t}
-use Rattle.yaml_round.specs.declared.settings.yaml_form_t.TheVariants.{Canonical, Pretty}
+use Rattle.yaml_round_compare.specs.declared.yaml_settings_t.{yaml_settings_t}
+use Rattle.yaml_round_compare.specs.declared.yaml_form_t.{yaml_form_t}
+use Rattle.yaml_round_compare.specs.declared.yaml_form_t.TheVariants.{Canonical, Pretty}
 use Rattle.yaml_round.specs.Layers.{reformat_layers, list_layers}
-use Rattle.yaml_round.specs.Reading.{contents, emitter_events, event_lines, GivesFront, IsFaultOf, EndsWith}
+use Rattle.yaml_round_compare.specs.Reading.{emitter_events, GivesFront, IsFaultOf, EndsWith}
+use Rattle.yaml_round.specs.Lines.{event_lines}
 use Rattle.yaml_round_shape.specs.Seen.{seen_all}
 use Rattle.yaml_round.specs.declared.writing.Watch.{Watch}
 use Rattle.yaml_round.specs.Writing.{Leads, WritesAll}
-use Rattle.yaml_round.specs.Compare.{Compares, ReadsAlike, IsSideFault, IsBehindFirst}
 use Rattle.yaml_round_laws_documents.specs.round_laws_back.content.Input.{Reads, ending_of}
 use Rattle.yaml_round.proofs.Staying.{stays}
-use Rattle.yaml_round.proofs.Plain.{faulty, faulty_ending, right, right_ending, has_events, same_content, content_same, second_right}
-use Rattle.yaml_round.specs.Answers.{IsFaulty, IsRight, IsJudged, IsLaidOut, IsTooLong, IsWritten, IsTold, IsReadBack, ReadsBack, IsCanonicalDue, IsSame, IsSideStarved, IsSideFaulty, IsInCanonicalForm, IsReformatted, text_and_form}
+use Rattle.yaml_round_compare.proofs.Plain.{faulty, faulty_ending, fault_met, right, has_events}
+use Rattle.yaml_round_compare.specs.Answers.{IsFaulty, IsReadBack, ReadsBack}
+use Rattle.yaml_round.specs.Answers.{IsJudged, IsLaidOut, IsTooLong, IsWritten, IsTold, IsCanonicalDue, IsInCanonicalForm, IsReformatted, text_and_form}
 
 -- ---- one input
-
-pub fault_met : (from : yaml_encoding_t) (input : List ℕ) (r : ParserRemaining) (f : yaml_fault_t) → Reads from input r → IsFaultOf r.ending f → IsMemoryFault parse_layers (fault_of f) ⊎ IsFaulty from input (fault_of f)
-fault_met from input r f h e = elim e [ inl m ↦ inl m | inr k ↦ inr (faulty from input (fault_of f) (sym h.ending ∙ k)) ]
 
 pub judged : (from : yaml_encoding_t) (input : List ℕ) (r : ParserRemaining) (result : Result (Unit {0}) yaml_fault_t) → Reads from input r → EndsWith r.ending result
     → Answers parse_layers (λ (done : Unit {0}). done) (IsJudged from input) result
@@ -131,39 +125,3 @@ pretty_refused from settings input f c h = elim h [ inl m ↦ inl m | inr k ↦ 
 -- a refusal of the reading back is want of memory
 pub memory_alone : {P : Type 0} (f : yaml_fault_t) → IsMemoryFault parse_layers (fault_of f) ⊎ ⊥ → IsMemoryFault reformat_layers (fault_of f) ⊎ P
 memory_alone f h = elim h [ inl m ↦ inl (inr (inr m)) | inr k ↦ absurd k ]
-
--- ---- two inputs
-
-pub read_back : (from : yaml_encoding_t) (input text : List ℕ) (p q : ParserRemaining) (result : Result Bool yaml_fault_t) → Reads from input p → Reads YAML_ANY_ENCODING text q → IsRight from input
-    → ReadsAlike p q result → Answers parse_layers (λ (same : Bool). same) (IsReadBack from input text) result
-read_back from input text p q (Ok true) h k r e =
-    same_content from YAML_ANY_ENCODING input text (right_ending from input r) (sym k.ending ∙ e.second_ending) (ap contents (sym h.events) ∙ e.same ∙ ap contents k.events)
-read_back from input text p q (Ok false) h k r e = λ b.
-    e (h.ending ∙ right_ending from input r) (k.ending ∙ right_ending YAML_ANY_ENCODING text (second_right from YAML_ANY_ENCODING input text b))
-    (ap contents h.events ∙ content_same from YAML_ANY_ENCODING input text b ∙ ap contents (sym k.events))
-read_back from input text p q (Err f) h k r e = inl e
-
-side_fault : (a_from : yaml_encoding_t) (a : List ℕ) (b_from : yaml_encoding_t) (b : List ℕ) (p q : ParserRemaining) (side : yaml_side_t) (f : yaml_fault_t) → Reads a_from a p → Reads b_from b q
-    → IsSideFault p q side f → IsSideStarved a_from a side (fault_of f) ⊎ IsSideFaulty a_from a b_from b side (fault_of f)
-side_fault a_from a b_from b p q First f h k e = fault_met a_from a p f h e
-side_fault a_from a b_from b p q Second f h k e =
-    let first = right a_from a (sym h.ending ∙ e.0) in
-    elim e.1 [ inl m ↦ inl (first, m) | inr z ↦ inr (first, faulty b_from b (fault_of f) (sym k.ending ∙ z)) ]
-
-pub same_told : (a_from : yaml_encoding_t) (a : List ℕ) (b_from : yaml_encoding_t) (b : List ℕ) (p q : ParserRemaining) (result : Result Bool (yaml_side_t × yaml_fault_t)) → Reads a_from a p → Reads b_from b q
-    → Compares p q result → IsSame a_from a b_from b result
-same_told a_from a b_from b p q (Ok same) h k e = record {
-  first = right a_from a (sym h.ending ∙ e.first_ending);
-  second = right b_from b (sym k.ending ∙ e.second_ending);
-  told = (
-    λ t. same_content a_from b_from a b (sym h.ending ∙ e.first_ending) (sym k.ending ∙ e.second_ending) (ap contents (sym h.events) ∙ e.told.0 t ∙ ap contents k.events),
-    λ s. e.told.1 (ap contents h.events ∙ content_same a_from b_from a b s ∙ ap contents (sym k.events)),
-  );
-}
-same_told a_from a b_from b p q (Err f) h k e = side_fault a_from a b_from b p q f.0 f.1 h k e
-
--- no memory for the second input's reading
-pub not_begun : (a_from : yaml_encoding_t) (a : List ℕ) (b_from : yaml_encoding_t) (b : List ℕ) (p : ParserRemaining) (fault : yaml_fault_t) (r : yaml_side_t × yaml_fault_t) → Reads a_from a p → fault_of fault ≡ memory_fault Parser → IsBehindFirst p.ending fault r
-    → IsSideStarved a_from a r.0 (fault_of r.1) ⊎ IsSideFaulty a_from a b_from b r.0 (fault_of r.1)
-not_begun a_from a b_from b p fault (First, f) h m e = fault_met a_from a p f h e
-not_begun a_from a b_from b p fault (Second, f) h m e = inl (right a_from a (sym h.ending ∙ e.0), inl (ap fault_of e.1 ∙ m))

@@ -13,15 +13,16 @@ use Rattle.yaml_emit.specs.Within.{IsWithin}
 use Rattle.yaml_emit.specs.Text.{Item, encode, is_deep}
 use Rattle.yaml_emit.specs.emit_text.declared.Encoding.{Encoding}
 use Rattle.yaml_emit.specs.emit_text.declared.RequestedSettings.{RequestedSettings}
-use Rattle.yaml_round.specs.declared.settings.yaml_settings_t.{yaml_settings_t}
+use Rattle.yaml_round_compare.specs.declared.yaml_settings_t.{yaml_settings_t}
 use Rattle.yaml_round.specs.Layers.{reformat_layers}
-use Rattle.yaml_round.specs.Reading.{emitter_events}
+use Rattle.yaml_round_compare.specs.Reading.{emitter_events}
 use Rattle.yaml_round_shape.specs.Seen.{seen_all}
 use Rattle.yaml_round.specs.declared.writing.Watch.{Watch}
 use Rattle.yaml_round.specs.Writing.{IsUnder, Leads, Finishes, requested_under, IsText, IsEachLayout, IsPastEach}
 use Rattle.yaml_round_laws_documents.specs.round_laws_back.content.Input.{Reads, events_of, ending_of}
-use Rattle.yaml_round.specs.Answers.{IsLayout, IsPast, IsWritten, bytes_of}
-use Rattle.yaml_round.proofs.Plain.{has_events}
+use Rattle.yaml_round.specs.Answers.{IsLayout, IsPast, IsLaidOut, IsWritten, bytes_of}
+use Rattle.yaml_round_compare.proofs.Plain.{has_events, events_right}
+use Rattle.yaml_round_compare.specs.Answers.{IsRight}
 use Rattle.yaml_round_laws_documents.specs.round_laws_back.content.round_laws.emit_laws_streams.Laws.{HasText}
 use Rattle.yaml_round.proofs.Streams.{input_text}
 
@@ -72,6 +73,11 @@ saw from input w v r old new h l = sym l.shape ∙ ap (λ (es : List Told). seen
 pub where_ok : {P : Type 0} (result : Result (Vec ℕ Global) yaml_fault_t) → P → IfOk result (λ text. P)
 where_ok (Ok text) h = h
 where_ok (Err f) h = tt
+
+-- ---- what is laid out is of an input that is accepted
+
+pub laid_right : (from : yaml_encoding_t) (input : List ℕ) (settings : yaml_settings_t) (canonical : Bool) (text : List ℕ) → IsLaidOut from input settings canonical text → IsRight from input
+laid_right from input settings canonical text h = events_right from input h.events h.of_input
 
 -- ---- the one layout
 

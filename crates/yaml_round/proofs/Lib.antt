@@ -2,13 +2,11 @@ mod Giving
 mod Judging
 mod Documents
 mod Laying
-mod Mapped
-pub mod Plain
 pub mod Normal
-mod Real
 mod Staying
 mod Reloading
 mod Streams
+pub use Rattle.yaml_round_compare.proofs.Plain
 -- the laws beneath, for crates of laws that name this one alone
 pub use Rattle.yaml_round_laws_documents.proofs.round_laws_back
 pub use Rattle.yaml_round_laws_documents.proofs as round_laws_documents

@@ -12,13 +12,13 @@ use Rattle.yaml_round_laws_documents.specs.round_laws_back.content.Canon.{canon_
 use Rattle.yaml_round_laws_documents.specs.round_laws_back.content.Laws.{IsSet, AreCanonical}
 use Rattle.yaml_round_laws_documents.proofs.round_laws_back.content.Inputs.{have_content}
 use Rattle.yaml_round_laws_documents.proofs.round_laws_back.Whole.{inputs_read_back, tells_inputs, layout_is_of_input, is_laid_out_again}
-use Rattle.yaml_round.specs.declared.settings.yaml_settings_t.{yaml_settings_t}
-use Rattle.yaml_round.specs.declared.settings.yaml_output_encoding_t.{yaml_output_encoding_t}
-use Rattle.yaml_round.specs.declared.settings.yaml_output_encoding_t.TheVariants.{Utf8, Utf16Le, Utf16Be}
-use Rattle.yaml_round.specs.Reading.{emitter_events}
+use Rattle.yaml_round_compare.specs.declared.yaml_settings_t.{yaml_settings_t}
+use Rattle.yaml_round_compare.specs.declared.yaml_output_encoding_t.{yaml_output_encoding_t}
+use Rattle.yaml_round_compare.specs.declared.yaml_output_encoding_t.TheVariants.{Utf8, Utf16Le, Utf16Be}
+use Rattle.yaml_round_compare.specs.Reading.{emitter_events}
 use Rattle.yaml_round.specs.Writing.{encoding_under, requested_under}
 use Rattle.yaml_round.specs.Answers.{IsLayout, IsLaidOut, IsNormalForm, canonical_text}
-use Rattle.yaml_round.proofs.Plain.{right_ending, has_events, events_are, events_right}
+use Rattle.yaml_round_compare.proofs.Plain.{right_ending, has_events, events_are, events_right}
 use Rattle.yaml_round_laws_documents.proofs.round_laws_reading.Joining.{said_read, read_said}
 
 set_under : (e : yaml_output_encoding_t) → IsSet (encoding_under e)

@@ -17,7 +17,7 @@ use Rattle.yaml_emit.specs.Content as content
 use Rattle.yaml_emit.specs.emit_graph.Graph.{graph_content, dumped}
 use Rattle.yaml_emit.specs.Emitter.{Emitter, Given, GivesSome, dump_events, document_events_by, opening_events}
 use Rattle.yaml_emit.specs.emit_text.declared.RequestedSettings.{RequestedSettings}
-use Rattle.yaml_round.specs.declared.settings.yaml_settings_t.{yaml_settings_t}
+use Rattle.yaml_round_compare.specs.declared.yaml_settings_t.{yaml_settings_t}
 use Rattle.yaml_round_laws_documents.specs.round_laws_back.content.Input.{Reads}
 use Rattle.yaml_round.specs.Writing.{IsUnder, Finishes, requested_under}
 use Rattle.yaml_round.specs.Layers.{reload_layers}

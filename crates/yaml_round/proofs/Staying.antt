@@ -14,11 +14,13 @@ use Rattle.yaml_round_laws_kept.specs.round_laws_stays.Laws.{SaysInput}
 use Rattle.yaml_round_laws_kept.proofs.Joining.{stays_pretty}
 use Rattle.yaml_round_laws_kept.proofs.round_laws_stays.Whole.{layout_reads_back}
 use Rattle.yaml_round_laws_documents.specs.round_laws_back.content.Input.{events_of}
-use Rattle.yaml_round.specs.declared.settings.yaml_settings_t.{yaml_settings_t}
-use Rattle.yaml_round.specs.Reading.{emitter_events}
+use Rattle.yaml_round_compare.specs.declared.yaml_settings_t.{yaml_settings_t}
+use Rattle.yaml_round_compare.specs.Reading.{emitter_events}
 use Rattle.yaml_round.specs.Writing.{requested_under}
-use Rattle.yaml_round.specs.Answers.{IsRight, IsLaidOut, ReadsBack}
-use Rattle.yaml_round.proofs.Plain.{right_ending, events_are, same_content, laid_right}
+use Rattle.yaml_round_compare.specs.Answers.{IsRight, ReadsBack}
+use Rattle.yaml_round.specs.Answers.{IsLaidOut}
+use Rattle.yaml_round_compare.proofs.Plain.{right_ending, events_are, same_content}
+use Rattle.yaml_round.proofs.Laying.{laid_right}
 
 reads : (from : yaml_encoding_t) (input text bytes : List ℕ) → IsRight from input → text ≡ bytes → SaysInput from input bytes → ReadsBack from input text
 reads from input text bytes is e h = subst (λ (t : List ℕ). ReadsBack from input t) (sym e) (same_content from YAML_ANY_ENCODING input bytes (right_ending from input is) h.0 (sym h.1))

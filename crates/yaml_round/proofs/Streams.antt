@@ -15,7 +15,7 @@ use Rattle.yaml_round_laws_documents.proofs.round_laws_back.content.round_laws.e
 use Rattle.yaml_round_laws_documents.proofs.round_laws_back.content.round_laws.emit_laws_streams.Loading.{empty_right, steps}
 use Rattle.yaml_round_laws_documents.proofs.round_laws_back.content.Inputs.{input_stream}
 use Rattle.yaml_round_laws_documents.proofs.round_laws_back.content.round_laws.Inputs.{inputs_load_right}
-use Rattle.yaml_round.specs.Reading.{emitter_events}
+use Rattle.yaml_round_compare.specs.Reading.{emitter_events}
 use Rattle.yaml_round_laws_documents.specs.round_laws_back.content.Input.{events_of, ending_of, read}
 use Rattle.yaml_round_laws_documents.specs.round_laws_back.content.Loads.{Loads, in_front, load_on, load_all, loads_of}
 use Rattle.yaml_round.specs.Reload.{written_events}

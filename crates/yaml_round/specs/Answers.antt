@@ -1,27 +1,27 @@
 -- What the engine answers to an input, texts in place of vectors and references.
-use Rattle.std.specs.Prelude.{◌≡◌, ◌⊎◌, ◌↔◌, IsTrue, true, false, ℕ, Bool, List, Option, Result, Ok, Err, Vec}
+use Rattle.std.specs.Prelude.{◌≡◌, ◌⊎◌, true, false, ℕ, Bool, List, Option, Result, Ok, Err, Vec}
 use Rattle.yaml_scan.specs.declared.yaml_encoding_t.{yaml_encoding_t}
 use Rattle.yaml_scan.specs.declared.yaml_encoding_t.TheVariants.{YAML_ANY_ENCODING}
-use Rattle.yaml_scan.specs.declared.yaml_fault_t.{yaml_fault_t}
-use Rattle.yaml_scan.specs.Faults.{Fault, fault_of, IsMemoryFault, parse_layers}
+use Rattle.yaml_scan.specs.Faults.{Fault}
 use Rattle.yaml_emit.specs.Content.{Event}
 use Rattle.yaml_emit.specs.Text.{Item, encode, is_deep}
 use Rattle.yaml_emit.specs.Emitter.{IsStream, Passes}
 use Rattle.yaml_emit.specs.Within.{Fits}
 use Rattle.yaml_emit.specs.emit_text.declared.Encoding.{Encoding}
 use Rattle.yaml_emit.specs.emit_text.declared.RequestedSettings.{RequestedSettings}
-use Rattle.yaml_round.specs.declared.settings.yaml_settings_t.{yaml_settings_t}
-use Rattle.yaml_round.specs.declared.settings.yaml_side_t.{yaml_side_t}
-use Rattle.yaml_round.specs.declared.settings.yaml_side_t.TheVariants.{First, Second}
-use Rattle.yaml_round.specs.declared.settings.yaml_form_t.{yaml_form_t}
-use Rattle.yaml_round.specs.declared.settings.yaml_form_t.TheVariants.{Canonical, Pretty}
-use Rattle.yaml_round.specs.Reading.{emitter_events, event_lines}
+use Rattle.yaml_round_compare.specs.declared.yaml_settings_t.{yaml_settings_t}
+use Rattle.yaml_round_compare.specs.declared.yaml_form_t.{yaml_form_t}
+use Rattle.yaml_round_compare.specs.declared.yaml_form_t.TheVariants.{Canonical, Pretty}
+use Rattle.yaml_round_compare.specs.Reading.{emitter_events}
+use Rattle.yaml_round.specs.Lines.{event_lines}
 use Rattle.yaml_round.specs.Writing.{requested_under}
 use Rattle.yaml_parse.specs.Resolve.{Told}
 use Rattle.yaml_round_laws_documents.specs.round_laws_back.content.Said.{Document}
 use Rattle.yaml_round_laws_documents.specs.round_laws_reading.Reading.{PlainReading, HasEvents}
 use Rattle.yaml_round_laws_documents.specs.round_laws_back.content.Canon.{canon}
 use Rattle.yaml_round_laws_kept.specs.Laws.{IsJsonInput}
+unfoldable pub use Rattle.yaml_round_compare.specs.Answers.{IsRight, IsFaulty}
+pub use Rattle.yaml_round_compare.specs.Answers.{SameContent, IsCompared, IsSideFaulty, IsSideStarved, IsSame, ReadsBack, IsReadBack}
 
 abbrev pub text_and_form : {A : Type 0} → Vec ℕ A × yaml_form_t → List ℕ × yaml_form_t
 text_and_form answer = (answer.0.items, answer.1)
@@ -38,14 +38,6 @@ bytes_of text = text.items
 
 -- ---- what is said of one input
 
--- the input is accepted: its reading is a content
-unfoldable pub IsRight : yaml_encoding_t → List ℕ → Type 0
-IsRight from input = (c : List Document) × PlainReading from input (Ok c)
-
--- the input is refused: its reading is that fault
-unfoldable pub IsFaulty : yaml_encoding_t → List ℕ → Fault → Type 0
-IsFaulty from input fault = PlainReading from input (Err fault)
-
 -- the input is read to its end, and its fault is the answer
 abbrev pub IsJudged : yaml_encoding_t → List ℕ → Result (Unit {0}) Fault → Type 0
 IsJudged from input (Ok done) = IsRight from input
@@ -60,40 +52,6 @@ pub record IsTold (from : yaml_encoding_t) (input lines : List ℕ) : Type 0 whe
 abbrev pub IsListed : yaml_encoding_t → List ℕ → Result (List ℕ) Fault → Type 0
 IsListed from input (Ok lines) = IsTold from input lines
 IsListed from input (Err fault) = IsFaulty from input fault
-
--- ---- two inputs
-
--- both are accepted, with one content
-pub record SameContent (a_from : yaml_encoding_t) (a : List ℕ) (b_from : yaml_encoding_t)
-    (b : List ℕ) : Type 0 where
-  pub content : List Document
-  pub first : PlainReading a_from a (Ok content)
-  pub second : PlainReading b_from b (Ok content)
-
--- both are accepted, and `same` tells whether their contents are equal
-pub record IsCompared (a_from : yaml_encoding_t) (a : List ℕ) (b_from : yaml_encoding_t)
-    (b : List ℕ) (same : Bool) : Type 0 where
-  pub first : IsRight a_from a
-  pub second : IsRight b_from b
-  pub told : IsTrue same ↔ SameContent a_from a b_from b
-
--- the first fault: that of the second input only where the first is accepted
-abbrev pub IsSideFaulty : yaml_encoding_t → List ℕ → yaml_encoding_t → List ℕ → yaml_side_t → Fault
-    → Type 0
-IsSideFaulty a_from a b_from b First fault = IsFaulty a_from a fault
-IsSideFaulty a_from a b_from b Second fault = IsRight a_from a × IsFaulty b_from b fault
-
--- memory ran out: told of the second input only where the first is accepted
-abbrev pub IsSideStarved : yaml_encoding_t → List ℕ → yaml_side_t → Fault → Type 0
-IsSideStarved a_from a First fault = IsMemoryFault parse_layers fault
-IsSideStarved a_from a Second fault = IsRight a_from a × IsMemoryFault parse_layers fault
-
--- the answer of a comparison
-abbrev pub IsSame : yaml_encoding_t → List ℕ → yaml_encoding_t → List ℕ
-    → Result Bool (yaml_side_t × yaml_fault_t) → Type 0
-IsSame a_from a b_from b (Ok same) = IsCompared a_from a b_from b same
-IsSame a_from a b_from b (Err f) = IsSideStarved a_from a f.0 (fault_of f.1)
-    ⊎ IsSideFaulty a_from a b_from b f.0 (fault_of f.1)
 
 -- ---- layouts
 
@@ -161,16 +119,6 @@ pub record IsNormalForm (from : yaml_encoding_t) (settings : yaml_settings_t) (i
   pub again : IsLaidOut YAML_ANY_ENCODING text settings true text
 
 -- ---- rewriting
-
--- The text, read as its byte order mark tells, is accepted and has the input's content.
-abbrev pub ReadsBack : yaml_encoding_t → List ℕ → List ℕ → Type 0
-ReadsBack from input text = SameContent from input YAML_ANY_ENCODING text
-
--- whether a text reads back
-abbrev pub IsReadBack : yaml_encoding_t → List ℕ → List ℕ → Result Bool Fault → Type 0
-IsReadBack from input text (Ok true) = ReadsBack from input text
-IsReadBack from input text (Ok false) = ¬ ReadsBack from input text
-IsReadBack from input text (Err fault) = ⊥
 
 -- the input's pretty form doesn't read back; so the input isn't shaped as JSON is
 pub record IsNotReadBack (from : yaml_encoding_t) (settings : yaml_settings_t)

@@ -1,11 +1,12 @@
-pub mod Settings
 pub mod Layers
-pub mod Reading
+pub mod Lines
 pub mod Writing
-pub mod Compare
 pub mod Answers
 pub mod Reload
 pub mod Commands
+pub use Rattle.yaml_round_compare.specs.Settings
+pub use Rattle.yaml_round_compare.specs.Reading
+pub use Rattle.yaml_round_compare.specs.Compare
 pub use Rattle.yaml_round_laws_documents.specs.round_laws_back.content.Input
 pub use Rattle.yaml_round_laws_documents.specs.round_laws_back.content.Normalize
 pub use Rattle.yaml_round_laws_documents.specs.round_laws_back.content.Content

@@ -12,7 +12,7 @@ use Rattle.yaml_emit.specs.emit_graph.Graph.{graph_content}
 use Rattle.yaml_emit.specs.Text.{Item}
 use Rattle.yaml_emit.specs.Emitter.{Emitter, Completes}
 use Rattle.yaml_emit.specs.emit_text.declared.Encoding.{Encoding}
-use Rattle.yaml_round.specs.declared.settings.yaml_settings_t.{yaml_settings_t}
+use Rattle.yaml_round_compare.specs.declared.yaml_settings_t.{yaml_settings_t}
 use Rattle.yaml_round_laws_documents.specs.round_laws_back.content.Loads.{Loads, no_more, load_all, loads_of}
 use Rattle.yaml_round.specs.Writing.{requested_under, IsEachLayout, IsPastEach}
 use Rattle.yaml_round_laws_documents.specs.round_laws_loads.Agree.{AreAgreeing}

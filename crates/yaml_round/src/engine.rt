@@ -5,18 +5,19 @@ ghost use Rattle.yaml_scan.specs.Faults.{Answers, parse_layers};
 ghost use Rattle.yaml_round.specs.Layers.{list_layers, reformat_layers};
 ghost use Rattle.yaml_round_laws_documents.specs.round_laws_back.content.Input.{Reads, ending_of, events_of};
 ghost use Rattle.yaml_round_shape.specs.Seen.{seen_all};
-ghost use Rattle.yaml_round.specs.Reading.{AreReal, AddsLines, emitter_events};
+ghost use Rattle.yaml_round_compare.specs.Reading.{AreReal, emitter_events};
+ghost use Rattle.yaml_round.specs.Lines.{AddsLines};
 ghost use Rattle.yaml_round.specs.Answers.{IsReformatted, IsInCanonicalForm, IsInPrettyForm, IsJudged, IsWritten, IsListed, text_and_form, text_and_known, bytes_of};
 ghost use Rattle.yaml_round.specs.Writing.{WritesAll};
 
-use crate::compare::reads_back;
-use crate::reading::{Reading, next_into, read_out, reading_of};
-use crate::settings::{yaml_form_t, yaml_settings_t};
 use crate::writing::{Watch, emitter_under, finished, write_rest, write_up_to};
 use std::alloc::Global;
 use yaml_emit::yaml_emitter_t;
 use yaml_parse::{
     yaml_event_body_t, yaml_event_t, yaml_found_t, yaml_parser_t, yaml_token_source_t,
+};
+use yaml_round_compare::{
+    Reading, next_into, read_out, reading_of, reads_back, yaml_form_t, yaml_settings_t,
 };
 use yaml_round_lines::yaml_push_event_line;
 use yaml_round_shape::{Shape, is_json};

@@ -1,24 +1,18 @@
 //! The engine: it reads a YAML text whole and writes it again in canonical or pretty form, over slices or over devices.
 #![tactic(auto)]
 
-mod compare;
-mod content;
 mod engine;
-mod normalize;
-mod reading;
 mod reload;
 mod run;
-mod settings;
 mod writing;
 
-pub use compare::yaml_same;
 pub use engine::{yaml_events, yaml_reformat};
 pub use reload::yaml_reload;
 pub use run::yaml_run;
-pub use settings::{
-    yaml_command_t, yaml_form_t, yaml_output_encoding_t, yaml_settings_t, yaml_side_t,
-};
 pub use yaml_round_adapter::yaml_adapter_t;
+pub use yaml_round_compare::{
+    yaml_command_t, yaml_form_t, yaml_output_encoding_t, yaml_same, yaml_settings_t, yaml_side_t,
+};
 pub use yaml_round_device::{
     yaml_device_fault_t, yaml_input_t, yaml_output_t, yaml_read_all, yaml_run_fault_t,
     yaml_std_input_t, yaml_std_output_t, yaml_write_all,

@@ -7,13 +7,12 @@ ghost use Rattle.yaml_round.specs.Layers.{reload_layers};
 ghost use Rattle.yaml_round.specs.Answers.{bytes_of};
 ghost use Rattle.yaml_round.specs.Reload.{LoadsNext, IsLoaded, HasRoot, Stands, Dumps, DumpsStream, IsEachDump, IsReloaded};
 
-use crate::reading::{Reading, reading_of};
-use crate::settings::yaml_settings_t;
 use crate::writing::{emitter_under, finished};
 use std::alloc::Global;
 use std::collections::VecDeque;
 use yaml_emit::{yaml_emitter_close, yaml_emitter_dump, yaml_emitter_open, yaml_emitter_t};
 use yaml_parse::{yaml_document_set_end_implicit, yaml_document_t, yaml_parser_load};
+use yaml_round_compare::{Reading, reading_of, yaml_settings_t};
 use yaml_scan::{yaml_encoding_t, yaml_fault_t, yaml_memory_fault, yaml_origin_t};
 
 // The next document, whose end is made implicit; nothing behind the last.

@@ -8,8 +8,8 @@ ghost use Rattle.yaml_round.specs.Commands.{IsRunAnswer, run_layers};
 
 use crate::engine::{yaml_events, yaml_reformat};
 use crate::reload::yaml_reload;
-use crate::settings::{yaml_command_t, yaml_form_t, yaml_settings_t};
 use std::alloc::Global;
+use yaml_round_compare::{yaml_command_t, yaml_form_t, yaml_settings_t};
 use yaml_round_device::{
     yaml_input_t, yaml_output_t, yaml_read_all, yaml_run_fault_t, yaml_write_all,
 };

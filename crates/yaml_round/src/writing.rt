@@ -8,12 +8,9 @@ ghost use Rattle.yaml_emit.specs.Content.{emitter_event};
 ghost use Rattle.yaml_emit.specs.Emitter.{Given, IsLimited};
 ghost use Rattle.yaml_round_laws_documents.specs.round_laws_back.content.Normalize.{normalize_body};
 ghost use Rattle.yaml_round_shape.specs.Seen.{seen};
-ghost use Rattle.yaml_round.specs.Reading.{AreReal};
+ghost use Rattle.yaml_round_compare.specs.Reading.{AreReal};
 ghost use Rattle.yaml_round.specs.Writing.{IsUnder, requested_under, encoding_under, Writes, WritesAll, Finishes};
 
-use crate::normalize::normalize;
-use crate::reading::next_into;
-use crate::settings::{yaml_output_encoding_t, yaml_settings_t};
 use std::alloc::Global;
 use yaml_emit::{
     yaml_emitter_emit_from, yaml_emitter_fault, yaml_emitter_initialize, yaml_emitter_into_output,
@@ -24,6 +21,7 @@ use yaml_emit::{
 use yaml_parse::{
     yaml_event_body_t, yaml_event_t, yaml_found_t, yaml_parser_t, yaml_token_source_t,
 };
+use yaml_round_compare::{next_into, normalize_event, yaml_output_encoding_t, yaml_settings_t};
 use yaml_round_shape::{Shape, seen_with};
 use yaml_scan::{yaml_encoding_t, yaml_fault_t, yaml_memory_fault, yaml_origin_t};
 
@@ -84,7 +82,7 @@ fn give_normalized(emitter: &mut yaml_emitter_t, watch: &mut Watch, event: &mut 
           (normalize_body watch.old.canonical (event_of event.old).body));
     } }
 {
-    normalize(event, watch.canonical);
+    normalize_event(event, watch.canonical);
     watch.shape = seen_with(watch.shape, event);
     give(emitter, event);
 }

@@ -1,8 +1,8 @@
 -- The settings that C's record means.
 use Rattle.std.specs.Prelude.{Option, None, Some}
 use Rattle.yaml_parse.specs.declared.yaml_break_t.{yaml_break_t}
-use Rattle.yaml_round.specs.declared.settings.yaml_settings_t.{yaml_settings_t}
-use Rattle.yaml_round.specs.declared.settings.yaml_output_encoding_t.{yaml_output_encoding_t}
+use Rattle.yaml_round.specs.declared.yaml_settings_t.{yaml_settings_t}
+use Rattle.yaml_round.specs.declared.yaml_output_encoding_t.{yaml_output_encoding_t}
 use Rattle.yaml_round_c.specs.declared.settings.yaml_c_settings.{yaml_c_settings}
 use Rattle.yaml_round_c.specs.Numbers.{is_set, output_meant, break_meant}
 

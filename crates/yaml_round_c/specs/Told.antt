@@ -5,11 +5,11 @@ use Rattle.yaml_parse.specs.declared.yaml_origin_t.{yaml_origin_t}
 use Rattle.yaml_parse.specs.declared.yaml_fault_t.{yaml_fault_t}
 use Rattle.yaml_parse.specs.declared.yaml_mark_t.{yaml_mark_t}
 use Rattle.yaml_parse.specs.Faults.{Fault, fault_of, IsMemoryFault}
-use Rattle.yaml_round.specs.declared.settings.yaml_settings_t.{yaml_settings_t}
-use Rattle.yaml_round.specs.declared.settings.yaml_side_t.{yaml_side_t}
-use Rattle.yaml_round.specs.declared.settings.yaml_side_t.TheVariants.{First, Second}
-use Rattle.yaml_round.specs.declared.settings.yaml_form_t.{yaml_form_t}
-use Rattle.yaml_round.specs.declared.settings.yaml_form_t.TheVariants.{Canonical, Pretty}
+use Rattle.yaml_round.specs.declared.yaml_settings_t.{yaml_settings_t}
+use Rattle.yaml_round.specs.declared.yaml_side_t.{yaml_side_t}
+use Rattle.yaml_round.specs.declared.yaml_side_t.TheVariants.{First, Second}
+use Rattle.yaml_round.specs.declared.yaml_form_t.{yaml_form_t}
+use Rattle.yaml_round.specs.declared.yaml_form_t.TheVariants.{Canonical, Pretty}
 use Rattle.yaml_round.specs.Layers.{list_layers, reformat_layers, reload_layers}
 use Rattle.yaml_round.specs.Answers.{IsListed, IsReformatted, IsSame}
 use Rattle.yaml_round.specs.Reload.{IsReloaded}

@@ -8,9 +8,9 @@ use Rattle.yaml_round.specs.round_laws_documents.round_laws_loads.Agree.{core_of
 use Rattle.yaml_round.proofs.round_laws_documents.Whole.{inputs_load_alike, names_do_not_matter}
 use Rattle.yaml_round.proofs.round_laws_documents.round_laws_loads.Walks.{agreeing_said}
 use Rattle.yaml_round.proofs.round_laws_documents.round_laws_reading.Joining.{read_said}
-use Rattle.yaml_round.specs.declared.settings.yaml_settings_t.{yaml_settings_t}
-use Rattle.yaml_round.specs.declared.settings.yaml_form_t.{yaml_form_t}
-use Rattle.yaml_round.specs.declared.settings.yaml_form_t.TheVariants.{Canonical, Pretty}
+use Rattle.yaml_round.specs.declared.yaml_settings_t.{yaml_settings_t}
+use Rattle.yaml_round.specs.declared.yaml_form_t.{yaml_form_t}
+use Rattle.yaml_round.specs.declared.yaml_form_t.TheVariants.{Canonical, Pretty}
 use Rattle.yaml_round.specs.Writing.{requested_under}
 use Rattle.yaml_round.specs.Answers.{IsReformatted, ReadsBack, canonical_text}
 use Rattle.yaml_round.specs.Reload.{IsReloaded, IsNormalOfDocuments}

@@ -6,8 +6,8 @@ use Rattle.yaml_round.specs.round_laws_documents.round_laws_back.content.Loads.{
 use Rattle.yaml_round.specs.round_laws_documents.round_laws_back.content.Said.{Document, HasContent}
 use Rattle.yaml_round.specs.round_laws_documents.round_laws_loads.Agree.{AreAgreeing}
 use Rattle.yaml_round.specs.round_laws_documents.round_laws_loads.Renamed.{Renaming, renamed, AreOneToOne}
-use Rattle.yaml_round.specs.declared.settings.yaml_settings_t.{yaml_settings_t}
-use Rattle.yaml_round.specs.declared.settings.yaml_form_t.{yaml_form_t}
+use Rattle.yaml_round.specs.declared.yaml_settings_t.{yaml_settings_t}
+use Rattle.yaml_round.specs.declared.yaml_form_t.{yaml_form_t}
 use Rattle.yaml_round.specs.Answers.{IsReformatted}
 use Rattle.yaml_round.specs.Reload.{IsReloaded}
 

@@ -13,9 +13,9 @@ use Rattle.yaml_round.specs.round_laws_back.content.Said.{Document, HasContent}
 use Rattle.yaml_round.specs.round_laws_back.content.round_laws.emit_laws_streams.parse.Resolve.{Told}
 use Rattle.yaml_round.specs.round_laws_reading.Reading.{PlainReading}
 use Rattle.yaml_round.specs.round_laws_back.content.Canon.{canon_items, canon_encoding}
-use Rattle.yaml_round.specs.declared.settings.yaml_settings_t.{yaml_settings_t}
-use Rattle.yaml_round.specs.declared.settings.yaml_form_t.{yaml_form_t}
-use Rattle.yaml_round.specs.declared.settings.yaml_form_t.TheVariants.{Canonical, Pretty}
+use Rattle.yaml_round.specs.declared.yaml_settings_t.{yaml_settings_t}
+use Rattle.yaml_round.specs.declared.yaml_form_t.{yaml_form_t}
+use Rattle.yaml_round.specs.declared.yaml_form_t.TheVariants.{Canonical, Pretty}
 use Rattle.yaml_round.specs.Reading.{emitter_events}
 use Rattle.yaml_round.specs.Writing.{requested_under}
 use Rattle.yaml_round.specs.Answers.{IsReformatted, IsNormalForm, IsFaulty, IsTooLong, IsLayout, IsPast, SameContent, canonical_text}

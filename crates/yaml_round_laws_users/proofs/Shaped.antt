@@ -2,8 +2,8 @@
 use Rattle.std.proofs.Common.{◌≡◌, inl, inr, ℕ, Bool, true, false, List, Ok, Err}
 use Rattle.yaml_round.specs.round_laws_back.content.round_laws.emit_laws_streams.scan.declared.yaml_encoding_t.{yaml_encoding_t}
 use Rattle.yaml_round.specs.round_laws_kept.Laws.{IsJsonInput}
-use Rattle.yaml_round.specs.declared.settings.yaml_settings_t.{yaml_settings_t}
-use Rattle.yaml_round.specs.declared.settings.yaml_form_t.TheVariants.{Canonical, Pretty}
+use Rattle.yaml_round.specs.declared.yaml_settings_t.{yaml_settings_t}
+use Rattle.yaml_round.specs.declared.yaml_form_t.TheVariants.{Canonical, Pretty}
 use Rattle.yaml_round.specs.Answers.{IsReformatted, IsCanonicalDue}
 use Rattle.yaml_round_laws_users.specs.Laws.{JsonStaysPretty}
 

@@ -3,9 +3,9 @@ use Rattle.std.specs.Prelude.{◌≡◌, ◌↔◌, ◌⊎◌, ℕ, Bool, true, 
 use Rattle.yaml_round.specs.round_laws_back.content.round_laws.emit_laws_streams.scan.declared.yaml_encoding_t.{yaml_encoding_t}
 use Rattle.yaml_round.specs.round_laws_back.content.round_laws.emit_laws_streams.scan.declared.yaml_encoding_t.TheVariants.{YAML_ANY_ENCODING}
 use Rattle.yaml_round.specs.round_laws_back.content.round_laws.emit_laws_streams.scan.Faults.{Fault}
-use Rattle.yaml_round.specs.declared.settings.yaml_settings_t.{yaml_settings_t}
-use Rattle.yaml_round.specs.declared.settings.yaml_form_t.{yaml_form_t}
-use Rattle.yaml_round.specs.declared.settings.yaml_form_t.TheVariants.{Canonical, Pretty}
+use Rattle.yaml_round.specs.declared.yaml_settings_t.{yaml_settings_t}
+use Rattle.yaml_round.specs.declared.yaml_form_t.{yaml_form_t}
+use Rattle.yaml_round.specs.declared.yaml_form_t.TheVariants.{Canonical, Pretty}
 use Rattle.yaml_round.specs.Answers.{IsRight, IsReformatted, IsLaidOut, IsFaulty, IsTooLong, IsCompared, ReadsBack, SameContent}
 use Rattle.yaml_round.specs.round_laws_kept.Laws.{IsJsonInput}
 

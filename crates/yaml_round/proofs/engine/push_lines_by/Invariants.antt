@@ -1,6 +1,7 @@
 -- The lines of the events that were given stand there, and those of the others follow.
 use Rattle.std.proofs.Common.{◌≡◌, ◌++◌, length}
-use Rattle.yaml_round.specs.Reading.{event_lines, AreReal}
+use Rattle.yaml_round_compare.specs.Reading.{AreReal}
+use Rattle.yaml_round.specs.Lines.{event_lines}
 use Rattle.yaml_round.proofs.engine.push_lines_by.Given as goal
 
 abbrev pub invariant-events : goal.invariant-events

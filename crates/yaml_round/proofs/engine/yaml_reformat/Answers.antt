@@ -1,8 +1,8 @@
 -- What is laid out is of an input that is accepted.
 use Rattle.std.proofs.Common.{ℕ, List, false, Ok, subst}
-use Rattle.yaml_round.specs.Answers.{IsReadBack}
+use Rattle.yaml_round_compare.specs.Answers.{IsReadBack}
 use Rattle.yaml_round.proofs.Judging.{fallen_back}
-use Rattle.yaml_round.proofs.Plain.{laid_right}
+use Rattle.yaml_round.proofs.Laying.{laid_right}
 use Rattle.yaml_round.proofs.engine.yaml_reformat.Goals as goal
 
 pub reads_back-requires : goal.reads_back-requires

@@ -1,6 +1,6 @@
 -- What was given is a front, and what is left is to come.
 use Rattle.std.proofs.Common.{◌≡◌, length}
-use Rattle.yaml_round.specs.Reading.{AreReal}
+use Rattle.yaml_round_compare.specs.Reading.{AreReal}
 use Rattle.yaml_round.specs.Writing.{Leads}
 use Rattle.yaml_round.proofs.writing.write_rest_by.Given as goal
 

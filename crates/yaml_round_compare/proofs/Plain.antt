@@ -1,17 +1,18 @@
 -- What the machine reads of an input is its plain reading.
-use Rattle.std.proofs.Common.{◌≡◌, ◌∙◌, sym, refl, ℕ, Bool, List, Some, None, Ok}
+use Rattle.std.proofs.Common.{◌≡◌, ◌⊎◌, ◌∙◌, inl, inr, sym, refl, ℕ, List, Some, None, Ok}
 use Rattle.yaml_scan.specs.declared.yaml_encoding_t.{yaml_encoding_t}
-use Rattle.yaml_scan.specs.Faults.{Fault}
+use Rattle.yaml_scan.specs.declared.yaml_fault_t.{yaml_fault_t}
+use Rattle.yaml_scan.specs.Faults.{Fault, fault_of, IsMemoryFault, parse_layers}
+use Rattle.yaml_parse.specs.Remaining.{ParserRemaining}
 use Rattle.yaml_parse.specs.Resolve.{Told}
-use Rattle.yaml_round.specs.Reading.{contents}
-use Rattle.yaml_round_laws_documents.specs.round_laws_back.content.Input.{events_of, ending_of}
-use Rattle.yaml_round_laws_documents.specs.round_laws_back.content.Said.{HasContent}
-use Rattle.yaml_round_laws_documents.specs.round_laws_reading.TreeContent.{tree_content}
-use Rattle.yaml_round_laws_documents.specs.round_laws_reading.Reading.{PlainReading, HasEvents}
-use Rattle.yaml_round_laws_documents.proofs.round_laws_reading.Joining.{refused_read, read_refused, said_read, read_said, events_of_tree}
-use Rattle.yaml_round_laws_documents.proofs.round_laws_back.content.Inputs.{have_content}
-use Rattle.yaml_round.specs.Answers.{IsRight, IsFaulty, SameContent, IsLaidOut}
-use Rattle.yaml_round.specs.declared.settings.yaml_settings_t.{yaml_settings_t}
+use Rattle.yaml_round_compare.specs.Reading.{contents, IsFaultOf}
+use Rattle.yaml_round_laws_reading.specs.round_content.Input.{Reads, events_of, ending_of}
+use Rattle.yaml_round_laws_reading.specs.round_content.Said.{HasContent}
+use Rattle.yaml_round_laws_reading.specs.TreeContent.{tree_content}
+use Rattle.yaml_round_laws_reading.specs.Reading.{PlainReading, HasEvents}
+use Rattle.yaml_round_laws_reading.proofs.Joining.{refused_read, read_refused, said_read, read_said, events_of_tree}
+use Rattle.yaml_round_laws_reading.proofs.round_content.Inputs.{have_content}
+use Rattle.yaml_round_compare.specs.Answers.{IsRight, IsFaulty, SameContent}
 
 -- ---- one input
 
@@ -30,6 +31,10 @@ right from input e = let h = have_content from input e in (h.0, said_read from i
 pub right_ending : (from : yaml_encoding_t) (input : List ℕ) → IsRight from input → ending_of from input ≡ None
 unfolding IsRight
 right_ending from input h = (read_said from input h.0 h.1).right
+
+-- the fault that a reading has met
+pub fault_met : (from : yaml_encoding_t) (input : List ℕ) (r : ParserRemaining) (f : yaml_fault_t) → Reads from input r → IsFaultOf r.ending f → IsMemoryFault parse_layers (fault_of f) ⊎ IsFaulty from input (fault_of f)
+fault_met from input r f h e = elim e [ inl m ↦ inl m | inr k ↦ inr (faulty from input (fault_of f) (sym h.ending ∙ k)) ]
 
 -- ---- its events
 
@@ -60,8 +65,3 @@ content_same a_from b_from a b h = (read_said a_from a h.content h.first).says �
 pub second_right : (a_from b_from : yaml_encoding_t) (a b : List ℕ) → SameContent a_from a b_from b → IsRight b_from b
 unfolding IsRight
 second_right a_from b_from a b h = (h.content, h.second)
-
--- ---- what is laid out
-
-pub laid_right : (from : yaml_encoding_t) (input : List ℕ) (settings : yaml_settings_t) (canonical : Bool) (text : List ℕ) → IsLaidOut from input settings canonical text → IsRight from input
-laid_right from input settings canonical text h = events_right from input h.events h.of_input

@@ -1,5 +1,5 @@
-use Rattle.yaml_round.proofs.Judging.{read_back}
-use Rattle.yaml_round.proofs.compare.reads_as.Goals as goal
+use Rattle.yaml_round_compare.proofs.Comparing.{read_back}
+use Rattle.yaml_round_compare.proofs.compare.reads_as.Goals as goal
 
 pub returns : goal.returns
 returns c = λ from input h r.

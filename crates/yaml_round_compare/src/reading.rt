@@ -3,8 +3,8 @@
 ghost use Rattle.std.specs.Prelude.{◌≡◌, true, IfOk, IfErr};
 ghost use Rattle.yaml_scan.specs.Faults.{fault_of, memory_fault};
 ghost use Rattle.yaml_parse.specs.Events.{event_of};
-ghost use Rattle.yaml_round_laws_documents.specs.round_laws_back.content.Input.{Reads};
-ghost use Rattle.yaml_round.specs.Reading.{AreReal, Finds, EndsWith};
+ghost use Rattle.yaml_round_laws_reading.specs.round_content.Input.{Reads};
+ghost use Rattle.yaml_round_compare.specs.Reading.{AreReal, Finds, EndsWith};
 
 use std::alloc::Global;
 use yaml_parse::{
@@ -15,10 +15,10 @@ use yaml_round_adapter::yaml_adapter_t;
 use yaml_scan::{yaml_encoding_t, yaml_fault_t, yaml_memory_fault, yaml_origin_t};
 
 /// A parser of an input's tokens.
-pub(crate) type Reading<'a> = yaml_parser_t<yaml_adapter_t<'a>>;
+pub type Reading<'a> = yaml_parser_t<yaml_adapter_t<'a>>;
 
 /// A parser of the input that has given nothing yet.
-pub(crate) fn reading_of<'a>(
+pub fn reading_of<'a>(
     alloc: Global,
     input: &'a [u8],
     from: yaml_encoding_t,
@@ -35,7 +35,7 @@ pub(crate) fn reading_of<'a>(
 }
 
 /// The next event in a slot that is lent, or the fault in another, or neither at the end.
-pub(crate) fn next_into<S: yaml_token_source_t>(
+pub fn next_into<S: yaml_token_source_t>(
     reading: &mut yaml_parser_t<S>,
     event: &mut yaml_event_t,
     fault: &mut yaml_fault_t,
@@ -65,9 +65,7 @@ fn read_out_by<S: yaml_token_source_t>(
 }
 
 /// Reads to the end. The fault that is met is the answer.
-pub(crate) fn read_out<S: yaml_token_source_t>(
-    reading: &mut yaml_parser_t<S>,
-) -> Result<(), yaml_fault_t>
+pub fn read_out<S: yaml_token_source_t>(reading: &mut yaml_parser_t<S>) -> Result<(), yaml_fault_t>
     requires { AreReal reading.old.events }
     ensures { EndsWith reading.old.ending result }
 {

@@ -1,5 +1,5 @@
-use Rattle.yaml_round.proofs.Judging.{same_told, not_begun}
-use Rattle.yaml_round.proofs.compare.same_as.Goals as goal
+use Rattle.yaml_round_compare.proofs.Comparing.{same_told, not_begun}
+use Rattle.yaml_round_compare.proofs.compare.same_as.Goals as goal
 
 pub returns-in-Ok : goal.returns-in-Ok
 returns-in-Ok c = λ from input h.

@@ -1,7 +1,7 @@
 -- What is left compares as what there was.
 use Rattle.std.proofs.Common.{◌≡◌, ◌↔◌, length}
-use Rattle.yaml_round.specs.Reading.{contents, AreReal}
-use Rattle.yaml_round.proofs.compare.same_events_by.Given as goal
+use Rattle.yaml_round_compare.specs.Reading.{contents, AreReal}
+use Rattle.yaml_round_compare.proofs.compare.same_events_by.Given as goal
 
 abbrev pub invariant-events : goal.invariant-events
 invariant-events g l = record {

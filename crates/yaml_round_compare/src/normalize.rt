@@ -3,7 +3,7 @@
 ghost use Rattle.std.specs.Prelude.{◌≡◌};
 ghost use Rattle.yaml_parse.specs.Events.{event_of, text_of};
 ghost use Rattle.yaml_parse.specs.Constructors.{HasUtf8};
-ghost use Rattle.yaml_round_laws_documents.specs.round_laws_back.content.Normalize.{normalize_body, is_lone_mark};
+ghost use Rattle.yaml_round_laws_reading.specs.round_content.Normalize.{normalize_body, is_lone_mark};
 
 use yaml_parse::{yaml_event_body_t, yaml_event_t};
 
@@ -19,7 +19,7 @@ fn is_lone(tag: &Option<Vec<u8>>, value: &[u8]) -> bool
 
 /// Normalizes the event: an empty scalar with the tag `!` is untagged and plain-implicit; where `ends` is set every
 /// document's end is implicit.
-pub(crate) fn normalize(event: &mut yaml_event_t, ends: bool)
+pub fn normalize_event(event: &mut yaml_event_t, ends: bool)
     ensures normalized { event_of event.new ≡ record (event_of event.old) {
       body = normalize_body
           ends (event_of event.old).body;

@@ -1,6 +1,5 @@
 -- What is read of an input, and what a reader of its events is given.
-use Rattle.std.specs.Prelude.{◌≡◌, ◌⊎◌, ℕ, Bool, true, false, List, [], ◌∷◌, ◌++◌, Option, Some, None, Result, Ok, Err}
-use Rattle.std.specs.List.{flat_map}
+use Rattle.std.specs.Prelude.{◌≡◌, ◌⊎◌, Bool, true, false, List, [], ◌∷◌, Option, Some, None, Result, Ok, Err}
 use Rattle.yaml_scan.specs.declared.yaml_fault_t.{yaml_fault_t}
 use Rattle.yaml_scan.specs.Faults.{Fault, fault_of, IsMemoryFault, parse_layers}
 use Rattle.yaml_parse.specs.declared.yaml_found_t.{yaml_found_t}
@@ -10,15 +9,9 @@ use Rattle.yaml_parse.specs.Events as event
 use Rattle.yaml_parse.specs.Constructors.{HasUtf8}
 use Rattle.yaml_parse.specs.Resolve.{Told}
 use Rattle.yaml_parse.specs.Remaining.{ParserRemaining}
-use Rattle.yaml_round_lines.specs.EventLine.{event_line}
-use Rattle.yaml_round.specs.Layers.{list_layers}
-pub use Rattle.yaml_round_laws_documents.specs.round_laws_back.content.Events.{emitter_events, contents}
+pub use Rattle.yaml_round_laws_reading.specs.round_content.Events.{emitter_events, contents}
 
 -- ---- events
-
--- a line for each event
-abbrev pub event_lines : List Told → List ℕ
-event_lines es = flat_map (λ (t : Told). event_line t.0.body) es
 
 -- the empty event, which stands behind the last one
 abbrev pub is_empty : EventBody → Bool
@@ -58,10 +51,3 @@ Finds old found.End e f new = IsOver old × IsOver new
 abbrev pub EndsWith : Option Fault → Result (Unit {0}) yaml_fault_t → Type 0
 EndsWith ending (Ok done) = ending ≡ None
 EndsWith ending (Err f) = IsFaultOf ending f
-
--- a line for each event was added, where no fault ends them
-abbrev pub AddsLines : ParserRemaining → List ℕ → Result (Unit {0}) yaml_fault_t → List ℕ → Type 0
-AddsLines reading old (Ok done) new = (reading.ending ≡ None)
-    × (new ≡ old ++ event_lines reading.events)
-AddsLines reading old (Err f) new = IsMemoryFault list_layers (fault_of f)
-    ⊎ (reading.ending ≡ Some (fault_of f))

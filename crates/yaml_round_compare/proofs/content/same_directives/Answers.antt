@@ -1,8 +1,8 @@
 -- Directives that differ at a place differ.
 use Rattle.std.proofs.Common.{◌<◌, length, arith}
 use Rattle.yaml_parse.specs.Events.{directive_of}
-use Rattle.yaml_round.proofs.Mapped.{same_at}
-use Rattle.yaml_round.proofs.content.same_directives.Goals as goal
+use Rattle.yaml_round_compare.proofs.Mapped.{same_at}
+use Rattle.yaml_round_compare.proofs.content.same_directives.Goals as goal
 
 pub returns-then-not-same_directive : goal.returns-then-not-same_directive
 returns-then-not-same_directive c =

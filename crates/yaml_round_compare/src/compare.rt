@@ -1,15 +1,15 @@
 //! Comparisons of inputs, by their events side by side; no tree is held.
 
 ghost use Rattle.std.specs.Prelude.{ℕ, List};
-ghost use Rattle.yaml_round_laws_documents.specs.round_laws_back.content.Input.{Reads};
-ghost use Rattle.yaml_round.specs.Compare.{BothReal, Judges, StepsBeside, StepsAlone, StepsOn, Sided, RunsOut, IsBehindFirst, Compares, ReadsAlike};
+ghost use Rattle.yaml_round_laws_reading.specs.round_content.Input.{Reads};
+ghost use Rattle.yaml_round_compare.specs.Compare.{BothReal, Judges, StepsBeside, StepsAlone, StepsOn, Sided, RunsOut, IsBehindFirst, Compares, ReadsAlike};
 ghost use Rattle.yaml_parse.specs.Events.{event_of};
-ghost use Rattle.yaml_round.specs.Reading.{AreReal};
-ghost use Rattle.yaml_round.specs.Answers.{IsRight, IsReadBack, IsSame};
+ghost use Rattle.yaml_round_compare.specs.Reading.{AreReal};
+ghost use Rattle.yaml_round_compare.specs.Answers.{IsRight, IsReadBack, IsSame};
 ghost use Rattle.yaml_scan.specs.Faults.{Answers, IsMemoryFault, fault_of, parse_layers};
 
 use crate::content::agree;
-use crate::normalize::normalize;
+use crate::normalize::normalize_event;
 use crate::reading::{Reading, next_into, read_out, reading_of};
 use crate::settings::yaml_side_t;
 use std::alloc::Global;
@@ -39,8 +39,8 @@ type SideFault = (yaml_side_t, yaml_fault_t);
 fn judged(event: &mut yaml_event_t, other: &mut yaml_event_t) -> Next
     ensures { Judges (event_of event.old).body (event_of other.old).body result }
 {
-    normalize(event, true);
-    normalize(other, true);
+    normalize_event(event, true);
+    normalize_event(other, true);
     if agree(event, other) {
         Next::Same
     } else {
@@ -168,8 +168,8 @@ fn behind_first<S: yaml_token_source_t>(
     }
 }
 
-/// Whether two readings have the same content. A fault of the first is answered first.
-pub(crate) fn compared<S: yaml_token_source_t, T: yaml_token_source_t>(
+// Whether two readings have the same content. A fault of the first is answered first.
+fn compared<S: yaml_token_source_t, T: yaml_token_source_t>(
     first: &mut yaml_parser_t<S>,
     second: &mut yaml_parser_t<T>,
 ) -> Result<bool, SideFault>
@@ -231,7 +231,7 @@ fn reads_as(alloc: Global, first: &mut Reading<'_>, text: &[u8]) -> Result<bool,
 
 /// Whether the text, read as its byte order mark tells, is accepted and has the content of the input, which is accepted.
 /// Refused only where memory ran out.
-pub(crate) fn reads_back(
+pub fn reads_back(
     alloc: Global,
     input: &[u8],
     from: yaml_encoding_t,

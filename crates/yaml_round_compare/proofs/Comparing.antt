@@ -1,0 +1,49 @@
+-- From what two readings say to what is said of their inputs.
+use Rattle.std.proofs.Common.{◌≡◌, ◌⊎◌, ◌∙◌, inl, inr, ap, sym, ℕ, List, Bool, true, false, Result, Ok, Err}
+use Rattle.yaml_scan.specs.declared.yaml_encoding_t.{yaml_encoding_t}
+use Rattle.yaml_scan.specs.declared.yaml_encoding_t.TheVariants.{YAML_ANY_ENCODING}
+use Rattle.yaml_scan.specs.declared.yaml_fault_t.{yaml_fault_t}
+use Rattle.yaml_scan.specs.declared.yaml_origin_t.TheVariants.{Parser}
+use Rattle.yaml_scan.specs.Faults.{fault_of, memory_fault, parse_layers, Answers}
+use Rattle.yaml_parse.specs.Remaining.{ParserRemaining}
+use Rattle.yaml_round_laws_reading.specs.round_content.Input.{Reads}
+use Rattle.yaml_round_compare.specs.declared.settings.yaml_side_t.{yaml_side_t}
+use Rattle.yaml_round_compare.specs.declared.settings.yaml_side_t.TheVariants.{First, Second}
+use Rattle.yaml_round_compare.specs.Reading.{contents}
+use Rattle.yaml_round_compare.specs.Compare.{Compares, ReadsAlike, IsSideFault, IsBehindFirst}
+use Rattle.yaml_round_compare.specs.Answers.{IsRight, IsReadBack, IsSame, IsSideStarved, IsSideFaulty}
+use Rattle.yaml_round_compare.proofs.Plain.{faulty, fault_met, right, right_ending, same_content, content_same, second_right}
+
+pub read_back : (from : yaml_encoding_t) (input text : List ℕ) (p q : ParserRemaining) (result : Result Bool yaml_fault_t) → Reads from input p → Reads YAML_ANY_ENCODING text q → IsRight from input
+    → ReadsAlike p q result → Answers parse_layers (λ (same : Bool). same) (IsReadBack from input text) result
+read_back from input text p q (Ok true) h k r e =
+    same_content from YAML_ANY_ENCODING input text (right_ending from input r) (sym k.ending ∙ e.second_ending) (ap contents (sym h.events) ∙ e.same ∙ ap contents k.events)
+read_back from input text p q (Ok false) h k r e = λ b.
+    e (h.ending ∙ right_ending from input r) (k.ending ∙ right_ending YAML_ANY_ENCODING text (second_right from YAML_ANY_ENCODING input text b))
+    (ap contents h.events ∙ content_same from YAML_ANY_ENCODING input text b ∙ ap contents (sym k.events))
+read_back from input text p q (Err f) h k r e = inl e
+
+side_fault : (a_from : yaml_encoding_t) (a : List ℕ) (b_from : yaml_encoding_t) (b : List ℕ) (p q : ParserRemaining) (side : yaml_side_t) (f : yaml_fault_t) → Reads a_from a p → Reads b_from b q
+    → IsSideFault p q side f → IsSideStarved a_from a side (fault_of f) ⊎ IsSideFaulty a_from a b_from b side (fault_of f)
+side_fault a_from a b_from b p q First f h k e = fault_met a_from a p f h e
+side_fault a_from a b_from b p q Second f h k e =
+    let first = right a_from a (sym h.ending ∙ e.0) in
+    elim e.1 [ inl m ↦ inl (first, m) | inr z ↦ inr (first, faulty b_from b (fault_of f) (sym k.ending ∙ z)) ]
+
+pub same_told : (a_from : yaml_encoding_t) (a : List ℕ) (b_from : yaml_encoding_t) (b : List ℕ) (p q : ParserRemaining) (result : Result Bool (yaml_side_t × yaml_fault_t)) → Reads a_from a p → Reads b_from b q
+    → Compares p q result → IsSame a_from a b_from b result
+same_told a_from a b_from b p q (Ok same) h k e = record {
+  first = right a_from a (sym h.ending ∙ e.first_ending);
+  second = right b_from b (sym k.ending ∙ e.second_ending);
+  told = (
+    λ t. same_content a_from b_from a b (sym h.ending ∙ e.first_ending) (sym k.ending ∙ e.second_ending) (ap contents (sym h.events) ∙ e.told.0 t ∙ ap contents k.events),
+    λ s. e.told.1 (ap contents h.events ∙ content_same a_from b_from a b s ∙ ap contents (sym k.events)),
+  );
+}
+same_told a_from a b_from b p q (Err f) h k e = side_fault a_from a b_from b p q f.0 f.1 h k e
+
+-- no memory for the second input's reading
+pub not_begun : (a_from : yaml_encoding_t) (a : List ℕ) (b_from : yaml_encoding_t) (b : List ℕ) (p : ParserRemaining) (fault : yaml_fault_t) (r : yaml_side_t × yaml_fault_t) → Reads a_from a p → fault_of fault ≡ memory_fault Parser → IsBehindFirst p.ending fault r
+    → IsSideStarved a_from a r.0 (fault_of r.1) ⊎ IsSideFaulty a_from a b_from b r.0 (fault_of r.1)
+not_begun a_from a b_from b p fault (First, f) h m e = fault_met a_from a p f h e
+not_begun a_from a b_from b p fault (Second, f) h m e = inl (right a_from a (sym h.ending ∙ e.0), inl (ap fault_of e.1 ∙ m))

@@ -1,0 +1,5 @@
+mod Comparing
+mod Mapped
+mod Normalizing
+pub mod Plain
+mod Real

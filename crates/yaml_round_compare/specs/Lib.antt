@@ -1,0 +1,4 @@
+pub mod Settings
+pub mod Reading
+pub mod Compare
+pub mod Answers

@@ -6,6 +6,8 @@ mod Mapped
 pub mod Plain
 pub mod Normal
 mod Real
+mod Telling
+mod Keeping
 mod Staying
 mod Reloading
 mod Streams

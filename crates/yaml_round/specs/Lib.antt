@@ -1,6 +1,7 @@
 pub mod Settings
 pub mod Layers
 pub mod Reading
+pub mod Kept
 pub mod Writing
 pub mod Compare
 pub mod Answers

@@ -188,7 +188,7 @@ pub(crate) fn compared<S: yaml_token_source_t, T: yaml_token_source_t>(
 }
 
 // Want of memory, told again by its layer and nothing else.
-fn starved_in(origin: yaml_origin_t) -> yaml_fault_t
+pub(crate) fn starved_in(origin: yaml_origin_t) -> yaml_fault_t
     ensures { IsMemoryFault parse_layers (fault_of result) }
 {
     match origin {

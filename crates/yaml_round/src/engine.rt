@@ -1,6 +1,6 @@
 //! The calls that read a text whole and answer another.
 
-ghost use Rattle.std.specs.Prelude.{◌≡◌, ℕ, List, IfOk};
+ghost use Rattle.std.specs.Prelude.{◌≡◌, ℕ, List, [], IfOk};
 ghost use Rattle.yaml_scan.specs.Faults.{Answers, parse_layers};
 ghost use Rattle.yaml_round.specs.Layers.{list_layers, reformat_layers};
 ghost use Rattle.yaml_round_laws_documents.specs.round_laws_back.content.Input.{Reads, ending_of, events_of};
@@ -8,8 +8,10 @@ ghost use Rattle.yaml_round_shape.specs.Seen.{seen_all};
 ghost use Rattle.yaml_round.specs.Reading.{AreReal, AddsLines, emitter_events};
 ghost use Rattle.yaml_round.specs.Answers.{IsReformatted, IsInCanonicalForm, IsInPrettyForm, IsJudged, IsWritten, IsListed, text_and_form, text_and_known, bytes_of};
 ghost use Rattle.yaml_round.specs.Writing.{WritesAll};
+ghost use Rattle.yaml_round.specs.Kept.{KeptOn};
+ghost use Rattle.yaml_parse.specs.Events.{text_of};
 
-use crate::compare::reads_back;
+use crate::kept::{Known, stays};
 use crate::reading::{Reading, next_into, read_out, reading_of};
 use crate::settings::{yaml_form_t, yaml_settings_t};
 use crate::writing::{Watch, emitter_under, finished, write_rest, write_up_to};
@@ -72,6 +74,8 @@ fn written_from(
         watch.old.canonical) result }
     ensures shape { IfOk result (λ _. watch.new.shape ≡ seen_all watch.old.shape
         (emitter_events watch.old.canonical (events_of from input.now))) }
+    ensures kept { IfOk result (λ _. KeptOn (text_of watch.old.kept) (events_of from input.now)
+        (text_of watch.new.kept) []) }
 {
     let mut emitter = emitter_under(alloc, settings, watch.canonical)?;
     let written = write_events(alloc, input, from, reading, &mut emitter, watch);
@@ -95,6 +99,8 @@ fn written(
         watch.old.canonical) result }
     ensures shape { IfOk result (λ _. watch.new.shape ≡ seen_all watch.old.shape
         (emitter_events watch.old.canonical (events_of from input.now))) }
+    ensures kept { IfOk result (λ _. KeptOn (text_of watch.old.kept) (events_of from input.now)
+        (text_of watch.new.kept) []) }
 {
     let mut reading = reading_of(alloc, input, from)?;
     written_from(alloc, input, from, &mut reading, settings, watch)
@@ -114,19 +120,21 @@ fn in_canonical_form(
     let mut watch = Watch {
         canonical: true,
         shape: Shape::Other,
+        kept: None,
+        most_kept: 0,
     };
     let text = written(alloc, input, from, settings, &mut watch)?;
     Ok((text, yaml_form_t::Canonical))
 }
 
-// The text in pretty form, and whether it is known to read back: that of an input shaped as JSON does.
+// The text in pretty form, and what is known of it: that of an input shaped as JSON reads back.
 #[tactic(auto, using(crate::proofs::Staying::known_back))]
 fn in_pretty_form(
     alloc: Global,
     input: &[u8],
     from: yaml_encoding_t,
     settings: &yaml_settings_t,
-) -> Result<(Vec<u8>, bool), yaml_fault_t>
+) -> Result<(Vec<u8>, Known), yaml_fault_t>
     ensures { Answers reformat_layers text_and_known
         (IsInPrettyForm from settings.now input.now) result }
 {
@@ -137,9 +145,18 @@ fn in_pretty_form(
             key: false,
             mappings: 0,
         },
+        kept: Some(Vec::new(alloc)),
+        most_kept: input.len().saturating_mul(2),
     };
     let text = written(alloc, input, from, settings, &mut watch)?;
-    Ok((text, is_json(watch.shape)))
+    let back = is_json(watch.shape);
+    Ok((
+        text,
+        Known {
+            back,
+            kept: watch.kept,
+        },
+    ))
 }
 
 /// The text rewritten, and its form. With `settings.canonical` on the answer is in canonical form. With it off the events
@@ -162,10 +179,7 @@ pub fn yaml_reformat(
         return in_canonical_form(alloc, input, from, settings);
     }
     let (text, known) = in_pretty_form(alloc, input, from, settings)?;
-    if known {
-        return Ok((text, yaml_form_t::Pretty));
-    }
-    match reads_back(alloc, input, from, &text) {
+    match stays(alloc, input, from, &text, known) {
         Err(fault) => Err(fault),
         Ok(true) => Ok((text, yaml_form_t::Pretty)),
         Ok(false) => in_canonical_form(alloc, input, from, settings),

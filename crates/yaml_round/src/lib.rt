@@ -4,6 +4,7 @@
 mod compare;
 mod content;
 mod engine;
+mod kept;
 mod normalize;
 mod reading;
 mod reload;

@@ -18,5 +18,5 @@ returns-in-Ok-clause-shape c =
 
 pub returns-in-Ok-clause-kept : goal.returns-in-Ok-clause-kept
 returns-in-Ok-clause-kept c =
-    where_ok c.finished-text.result (kept_all c.args.from c.args.input.now c.args.watch.now c.write_events-written.new.watch c.args.reading.now c.in_ok-emitter.emitter c.write_events-written.new.emitter
+    where_ok c.finished-text.result (kept_all c.args.from c.args.input.now c.args.watch.now c.write_events-written.new.watch c.args.reading.now.parser c.in_ok-emitter.emitter c.write_events-written.new.emitter
     c.requires.reads c.in-Ok.ensures.1)

@@ -13,12 +13,8 @@ ghost use Rattle.yaml_round.specs.Writing.{WritesAll};
 use crate::writing::{Watch, emitter_under, finished, write_rest, write_up_to};
 use std::alloc::Global;
 use yaml_emit::yaml_emitter_t;
-use yaml_parse::{
-    yaml_event_body_t, yaml_event_t, yaml_found_t, yaml_parser_t, yaml_token_source_t,
-};
-use yaml_round_compare::{
-    Reading, next_into, read_out, reading_of, reads_back, yaml_form_t, yaml_settings_t,
-};
+use yaml_parse::yaml_found_t;
+use yaml_round_compare::{Reading, read_out, reading_of, reads_back, yaml_form_t, yaml_settings_t};
 use yaml_round_lines::yaml_push_event_line;
 use yaml_round_shape::{Shape, is_json};
 use yaml_scan::{yaml_encoding_t, yaml_fault_t, yaml_memory_fault, yaml_origin_t};
@@ -45,9 +41,9 @@ fn write_events(
     emitter: &mut yaml_emitter_t,
     watch: &mut Watch,
 ) -> Result<(), yaml_fault_t>
-    requires real { AreReal reading.old.events }
-    requires ending { reading.old.ending ≡ ending_of from input.now }
-    ensures { WritesAll watch.old reading.old emitter.old result watch.new emitter.new }
+    requires real { AreReal reading.old.parser.events }
+    requires ending { reading.old.parser.ending ≡ ending_of from input.now }
+    ensures { WritesAll watch.old reading.old.parser emitter.old result watch.new emitter.new }
 {
     let most = input.len().saturating_mul(OUTGROWN);
     if write_up_to(reading, emitter, watch, most)? {
@@ -67,8 +63,8 @@ fn written_from(
     settings: &yaml_settings_t,
     watch: &mut Watch,
 ) -> Result<Vec<u8>, yaml_fault_t>
-    requires reads { Reads from input.now reading.old }
-    requires real { AreReal reading.old.events }
+    requires reads { Reads from input.now reading.old.parser }
+    requires real { AreReal reading.old.parser.events }
     ensures text { Answers reformat_layers bytes_of (IsWritten from input.now settings.now
         watch.old.canonical) result }
     ensures shape { IfOk result (λ _. watch.new.shape ≡ seen_all watch.old.shape
@@ -173,23 +169,17 @@ pub fn yaml_reformat(
     }
 }
 
-// Adds the lines of the events to their end, each of which stands in the slot in turn, or the fault that ends them in the
-// other one.
-fn push_lines_by<S: yaml_token_source_t>(
-    reading: &mut yaml_parser_t<S>,
-    lines: &mut Vec<u8>,
-    event: &mut yaml_event_t,
-    fault: &mut yaml_fault_t,
-) -> Result<(), yaml_fault_t>
-    requires { AreReal reading.old.events }
-    ensures { AddsLines reading.old lines.old.items result lines.new.items }
+// Adds the lines of the events to their end.
+fn push_lines(reading: &mut Reading<'_>, lines: &mut Vec<u8>) -> Result<(), yaml_fault_t>
+    requires { AreReal reading.old.parser.events }
+    ensures { AddsLines reading.old.parser lines.old.items result lines.new.items }
 {
     'events: loop {
-        match next_into(reading, event, fault) {
-            yaml_found_t::Refused => return Err(*fault),
+        match reading.next() {
+            yaml_found_t::Refused => return Err(reading.fault),
             yaml_found_t::End => return Ok(()),
             yaml_found_t::Event => {
-                if yaml_push_event_line(lines, event).is_err() {
+                if yaml_push_event_line(lines, &reading.event).is_err() {
                     return Err(yaml_memory_fault(yaml_origin_t::Emitter));
                 }
             }
@@ -197,26 +187,11 @@ fn push_lines_by<S: yaml_token_source_t>(
     }
 }
 
-// Adds the lines of the events to their end.
-fn push_lines<S: yaml_token_source_t>(
-    reading: &mut yaml_parser_t<S>,
-    lines: &mut Vec<u8>,
-) -> Result<(), yaml_fault_t>
-    requires { AreReal reading.old.events }
-    ensures { AddsLines reading.old lines.old.items result lines.new.items }
-{
-    let mut event = yaml_event_t::unplaced(yaml_event_body_t::No);
-    let mut fault = yaml_memory_fault(yaml_origin_t::Parser);
-    let pushed = push_lines_by(reading, lines, &mut event, &mut fault);
-    drop(event);
-    pushed
-}
-
 // The lines of a reading's events.
 #[tactic(auto, using(crate::proofs::Judging::listed, crate::proofs::Judging::not_listed))]
 fn lines_of(alloc: Global, reading: &mut Reading<'_>) -> Result<Vec<u8>, yaml_fault_t>
-    requires { AreReal reading.old.events }
-    ensures { (from : yaml_encoding_t) (input : List ℕ) → Reads from input reading.old
+    requires { AreReal reading.old.parser.events }
+    ensures { (from : yaml_encoding_t) (input : List ℕ) → Reads from input reading.old.parser
         → Answers list_layers bytes_of (IsListed from input) result }
 {
     let mut lines = Vec::new(alloc);

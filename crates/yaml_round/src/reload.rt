@@ -18,11 +18,11 @@ use yaml_scan::{yaml_encoding_t, yaml_fault_t, yaml_memory_fault, yaml_origin_t}
 // The next document, whose end is made implicit; nothing behind the last.
 #[tactic(auto, using(crate::proofs::Reloading::loaded_document, crate::proofs::Reloading::loaded_last, crate::proofs::Reloading::load_refused))]
 fn next_document(reading: &mut Reading<'_>) -> Result<Option<yaml_document_t>, yaml_fault_t>
-    requires { reading.old.between ≡ true }
-    ensures next { LoadsNext reading.old result reading.new }
-    ensures between { reading.new.between ≡ true }
+    requires { reading.old.parser.between ≡ true }
+    ensures next { LoadsNext reading.old.parser result reading.new.parser }
+    ensures between { reading.new.parser.between ≡ true }
 {
-    match yaml_parser_load(reading) {
+    match yaml_parser_load(&mut reading.parser) {
         Err(fault) => Err(fault),
         Ok(mut document) => {
             if document.node_count() == 0 {
@@ -40,8 +40,8 @@ fn documents_from(
     alloc: Global,
     reading: &mut Reading<'_>,
 ) -> Result<VecDeque<yaml_document_t>, yaml_fault_t>
-    requires { reading.old.between ≡ true }
-    ensures { (from : yaml_encoding_t) (input : List ℕ) → Reads from input reading.old
+    requires { reading.old.parser.between ≡ true }
+    ensures { (from : yaml_encoding_t) (input : List ℕ) → Reads from input reading.old.parser
         → Answers load_layers (λ ds. ds.items) (IsLoaded from input) result }
 {
     let mut documents = VecDeque::new(alloc);

@@ -18,10 +18,8 @@ use yaml_emit::{
     yaml_emitter_set_encoding, yaml_emitter_set_indent, yaml_emitter_set_unicode,
     yaml_emitter_set_width, yaml_emitter_t,
 };
-use yaml_parse::{
-    yaml_event_body_t, yaml_event_t, yaml_found_t, yaml_parser_t, yaml_token_source_t,
-};
-use yaml_round_compare::{next_into, normalize_event, yaml_output_encoding_t, yaml_settings_t};
+use yaml_parse::{yaml_event_t, yaml_found_t};
+use yaml_round_compare::{Reading, normalize_event, yaml_output_encoding_t, yaml_settings_t};
 use yaml_round_shape::{Shape, seen_with};
 use yaml_scan::{yaml_encoding_t, yaml_fault_t, yaml_memory_fault, yaml_origin_t};
 
@@ -87,84 +85,46 @@ fn give_normalized(emitter: &mut yaml_emitter_t, watch: &mut Watch, event: &mut 
     give(emitter, event);
 }
 
-// Writes the events while the text has at most so many bytes. Each stands in the slot before it is given, and so does the
-// fault that ends them in the other one.
-fn write_up_to_by<S: yaml_token_source_t>(
-    reading: &mut yaml_parser_t<S>,
+/// Writes the events while the text has at most so many bytes. True at the end of the events. A fault of theirs is the
+/// answer; the emitter keeps its own.
+pub(crate) fn write_up_to(
+    reading: &mut Reading<'_>,
     emitter: &mut yaml_emitter_t,
     watch: &mut Watch,
     most: usize,
-    event: &mut yaml_event_t,
-    fault: &mut yaml_fault_t,
 ) -> Result<bool, yaml_fault_t>
-    requires { AreReal reading.old.events }
-    ensures { Writes watch.old reading.old emitter.old result watch.new reading.new emitter.new }
+    requires { AreReal reading.old.parser.events }
+    ensures { Writes watch.old reading.old.parser emitter.old result watch.new reading.new.parser
+        emitter.new }
 {
     'events: loop {
         if yaml_emitter_output(emitter).len() > most {
             return Ok(false);
         }
-        match next_into(reading, event, fault) {
-            yaml_found_t::Refused => return Err(*fault),
+        match reading.next() {
+            yaml_found_t::Refused => return Err(reading.fault),
             yaml_found_t::End => return Ok(true),
-            yaml_found_t::Event => give_normalized(emitter, watch, event),
-        }
-    }
-}
-
-/// Writes the events while the text has at most so many bytes. True at the end of the events. A fault of theirs is the
-/// answer; the emitter keeps its own.
-pub(crate) fn write_up_to<S: yaml_token_source_t>(
-    reading: &mut yaml_parser_t<S>,
-    emitter: &mut yaml_emitter_t,
-    watch: &mut Watch,
-    most: usize,
-) -> Result<bool, yaml_fault_t>
-    requires { AreReal reading.old.events }
-    ensures { Writes watch.old reading.old emitter.old result watch.new reading.new emitter.new }
-{
-    let mut event = yaml_event_t::unplaced(yaml_event_body_t::No);
-    let mut fault = yaml_memory_fault(yaml_origin_t::Parser);
-    let written = write_up_to_by(reading, emitter, watch, most, &mut event, &mut fault);
-    drop(event);
-    written
-}
-
-// Writes the events to their end, each of which stands in the slot before it is given, and so does the fault that ends
-// them in the other one.
-fn write_rest_by<S: yaml_token_source_t>(
-    reading: &mut yaml_parser_t<S>,
-    emitter: &mut yaml_emitter_t,
-    watch: &mut Watch,
-    event: &mut yaml_event_t,
-    fault: &mut yaml_fault_t,
-) -> Result<(), yaml_fault_t>
-    requires { AreReal reading.old.events }
-    ensures { WritesAll watch.old reading.old emitter.old result watch.new emitter.new }
-{
-    'events: loop {
-        match next_into(reading, event, fault) {
-            yaml_found_t::Refused => return Err(*fault),
-            yaml_found_t::End => return Ok(()),
-            yaml_found_t::Event => give_normalized(emitter, watch, event),
+            yaml_found_t::Event => give_normalized(emitter, watch, &mut reading.event),
         }
     }
 }
 
 /// Writes the events to their end. A fault of theirs is the answer; the emitter keeps its own.
-pub(crate) fn write_rest<S: yaml_token_source_t>(
-    reading: &mut yaml_parser_t<S>,
+pub(crate) fn write_rest(
+    reading: &mut Reading<'_>,
     emitter: &mut yaml_emitter_t,
     watch: &mut Watch,
 ) -> Result<(), yaml_fault_t>
-    requires { AreReal reading.old.events }
-    ensures { WritesAll watch.old reading.old emitter.old result watch.new emitter.new }
+    requires { AreReal reading.old.parser.events }
+    ensures { WritesAll watch.old reading.old.parser emitter.old result watch.new emitter.new }
 {
-    let mut event = yaml_event_t::unplaced(yaml_event_body_t::No);
-    let mut fault = yaml_memory_fault(yaml_origin_t::Parser);
-    let written = write_rest_by(reading, emitter, watch, &mut event, &mut fault);
-    drop(event);
-    written
+    'events: loop {
+        match reading.next() {
+            yaml_found_t::Refused => return Err(reading.fault),
+            yaml_found_t::End => return Ok(()),
+            yaml_found_t::Event => give_normalized(emitter, watch, &mut reading.event),
+        }
+    }
 }
 
 fn fault_in(emitter: &yaml_emitter_t) -> Option<yaml_fault_t>

@@ -6,6 +6,7 @@ use Rattle.yaml_parse.specs.Events.{EventBody}
 use Rattle.yaml_parse.specs.Remaining.{ParserRemaining}
 use Rattle.yaml_round_compare.specs.declared.settings.yaml_side_t.{yaml_side_t}
 use Rattle.yaml_round_compare.specs.declared.settings.yaml_side_t.TheVariants.{First, Second}
+use Rattle.yaml_round_compare.specs.declared.reading.Reading.{Reading}
 use Rattle.yaml_round_compare.specs.declared.compare.Next.{Next}
 use Rattle.yaml_round_compare.specs.declared.compare.Next.TheVariants.{Same, End, Different, Refused}
 use Rattle.yaml_round_laws_reading.specs.round_content.Normalize.{normalize_body}
@@ -91,13 +92,17 @@ StepsAlone second Different f second_new = DiffersAlone second second_new
 StepsAlone second (Refused First) f second_new = ⊥
 StepsAlone second (Refused Second) f second_new = IsFaultOf second.ending f
 
--- both steps; a fault stands in its slot
-abbrev pub StepsOn : ParserRemaining → ParserRemaining → Next → yaml_fault_t → ParserRemaining
-    → ParserRemaining → Type 0
-StepsOn first second Same f first_new second_new = GoesOn first second first_new second_new
-StepsOn first second End f first_new second_new = EndBoth first second
-StepsOn first second Different f first_new second_new = Differ first second first_new second_new
-StepsOn first second (Refused side) f first_new second_new = SideIs first second first_new side f
+-- both steps; each reading's fault stands in a slot of its own
+abbrev pub StepsOn : Reading → Reading → Next → Reading → Reading → Type 0
+StepsOn first second Same first_new second_new = GoesOn first.parser second.parser
+    first_new.parser second_new.parser
+StepsOn first second End first_new second_new = EndBoth first.parser second.parser
+StepsOn first second Different first_new second_new = Differ first.parser second.parser
+    first_new.parser second_new.parser
+StepsOn first second (Refused First) first_new second_new = SideIs first.parser second.parser
+    first_new.parser First first_new.fault
+StepsOn first second (Refused Second) first_new second_new = SideIs first.parser second.parser
+    first_new.parser Second second_new.fault
 
 -- equal contents and no faults, contents that differ, or a fault
 pub record Equal (first second : ParserRemaining) : Type 0 where

@@ -10,12 +10,10 @@ ghost use Rattle.yaml_scan.specs.Faults.{Answers, IsMemoryFault, fault_of, parse
 
 use crate::content::agree;
 use crate::normalize::normalize_event;
-use crate::reading::{Reading, next_into, read_out, reading_of};
+use crate::reading::{Reading, read_out, reading_of};
 use crate::settings::yaml_side_t;
 use std::alloc::Global;
-use yaml_parse::{
-    yaml_event_body_t, yaml_event_t, yaml_found_t, yaml_parser_t, yaml_token_source_t,
-};
+use yaml_parse::{yaml_event_t, yaml_found_t};
 use yaml_scan::{
     yaml_encoding_t, yaml_error_type_t, yaml_fault_t, yaml_memory_fault, yaml_origin_t,
 };
@@ -49,70 +47,51 @@ fn judged(event: &mut yaml_event_t, other: &mut yaml_event_t) -> Next
 }
 
 // The second input's next event beside the first's, which stands in its slot.
-fn compared_event<T: yaml_token_source_t>(
-    second: &mut yaml_parser_t<T>,
-    event: &mut yaml_event_t,
-    other: &mut yaml_event_t,
-    fault: &mut yaml_fault_t,
-) -> Next
-    requires { AreReal second.old.events }
-    ensures { StepsBeside (event_of event.old).body second.old result fault.new second.new }
+fn compared_event(event: &mut yaml_event_t, second: &mut Reading<'_>) -> Next
+    requires { AreReal second.old.parser.events }
+    ensures { StepsBeside (event_of event.old).body second.old.parser result second.new.fault
+        second.new.parser }
 {
-    match next_into(second, other, fault) {
+    match second.next() {
         yaml_found_t::Refused => Next::Refused(yaml_side_t::Second),
         yaml_found_t::End => Next::Different,
-        yaml_found_t::Event => judged(event, other),
+        yaml_found_t::Event => judged(event, &mut second.event),
     }
 }
 
 // What the second input has where the first is at its end.
-fn compared_end<T: yaml_token_source_t>(
-    second: &mut yaml_parser_t<T>,
-    other: &mut yaml_event_t,
-    fault: &mut yaml_fault_t,
-) -> Next
-    requires { AreReal second.old.events }
-    ensures { StepsAlone second.old result fault.new second.new }
+fn compared_end(second: &mut Reading<'_>) -> Next
+    requires { AreReal second.old.parser.events }
+    ensures { StepsAlone second.old.parser result second.new.fault second.new.parser }
 {
-    match next_into(second, other, fault) {
+    match second.next() {
         yaml_found_t::Refused => Next::Refused(yaml_side_t::Second),
         yaml_found_t::End => Next::End,
         yaml_found_t::Event => Next::Different,
     }
 }
 
-// The next event of each input, in slots that are lent.
-fn compared_next<S: yaml_token_source_t, T: yaml_token_source_t>(
-    first: &mut yaml_parser_t<S>,
-    second: &mut yaml_parser_t<T>,
-    event: &mut yaml_event_t,
-    other: &mut yaml_event_t,
-    fault: &mut yaml_fault_t,
-) -> Next
-    requires { BothReal first.old second.old }
-    ensures { StepsOn first.old second.old result fault.new first.new second.new }
+// The next event of each input.
+fn compared_next(first: &mut Reading<'_>, second: &mut Reading<'_>) -> Next
+    requires { BothReal first.old.parser second.old.parser }
+    ensures { StepsOn first.old second.old result first.new second.new }
 {
-    match next_into(first, event, fault) {
+    match first.next() {
         yaml_found_t::Refused => Next::Refused(yaml_side_t::First),
-        yaml_found_t::End => compared_end(second, other, fault),
-        yaml_found_t::Event => compared_event(second, event, other, fault),
+        yaml_found_t::End => compared_end(second),
+        yaml_found_t::Event => compared_event(&mut first.event, second),
     }
 }
 
-// Whether the events are the same to their end, each pair of which stands in the slots in turn. The first fault ends it.
-fn same_events_by<S: yaml_token_source_t, T: yaml_token_source_t>(
-    first: &mut yaml_parser_t<S>,
-    second: &mut yaml_parser_t<T>,
-    event: &mut yaml_event_t,
-    other: &mut yaml_event_t,
-    fault: &mut yaml_fault_t,
-) -> Result<bool, SideFault>
-    requires { BothReal first.old second.old }
-    ensures { Sided first.old second.old result first.new second.new }
+// Whether the events are the same to their end. The first fault ends it.
+fn same_events(first: &mut Reading<'_>, second: &mut Reading<'_>) -> Result<bool, SideFault>
+    requires { BothReal first.old.parser second.old.parser }
+    ensures { Sided first.old.parser second.old.parser result first.new.parser second.new.parser }
 {
     'events: loop {
-        match compared_next(first, second, event, other, fault) {
-            Next::Refused(side) => return Err((side, *fault)),
+        match compared_next(first, second) {
+            Next::Refused(yaml_side_t::First) => return Err((yaml_side_t::First, first.fault)),
+            Next::Refused(yaml_side_t::Second) => return Err((yaml_side_t::Second, second.fault)),
             Next::End => return Ok(true),
             Next::Different => return Ok(false),
             Next::Same => {}
@@ -120,30 +99,10 @@ fn same_events_by<S: yaml_token_source_t, T: yaml_token_source_t>(
     }
 }
 
-// Whether the events are the same to their end. The first fault ends it.
-fn same_events<S: yaml_token_source_t, T: yaml_token_source_t>(
-    first: &mut yaml_parser_t<S>,
-    second: &mut yaml_parser_t<T>,
-) -> Result<bool, SideFault>
-    requires { BothReal first.old second.old }
-    ensures { Sided first.old second.old result first.new second.new }
-{
-    let mut event = yaml_event_t::unplaced(yaml_event_body_t::No);
-    let mut other = yaml_event_t::unplaced(yaml_event_body_t::No);
-    let mut fault = yaml_memory_fault(yaml_origin_t::Parser);
-    let same = same_events_by(first, second, &mut event, &mut other, &mut fault);
-    drop(event);
-    drop(other);
-    same
-}
-
 // The fault of the first input, or else that of the second.
-fn read_out_both<S: yaml_token_source_t, T: yaml_token_source_t>(
-    first: &mut yaml_parser_t<S>,
-    second: &mut yaml_parser_t<T>,
-) -> Result<(), SideFault>
-    requires { BothReal first.old second.old }
-    ensures { RunsOut first.old second.old result }
+fn read_out_both(first: &mut Reading<'_>, second: &mut Reading<'_>) -> Result<(), SideFault>
+    requires { BothReal first.old.parser second.old.parser }
+    ensures { RunsOut first.old.parser second.old.parser result }
 {
     match read_out(first) {
         Err(fault) => Err((yaml_side_t::First, fault)),
@@ -155,12 +114,9 @@ fn read_out_both<S: yaml_token_source_t, T: yaml_token_source_t>(
 }
 
 // A fault of the second input, where the first, read to its end, has none.
-fn behind_first<S: yaml_token_source_t>(
-    first: &mut yaml_parser_t<S>,
-    fault: yaml_fault_t,
-) -> SideFault
-    requires { AreReal first.old.events }
-    ensures { IsBehindFirst first.old.ending fault result }
+fn behind_first(first: &mut Reading<'_>, fault: yaml_fault_t) -> SideFault
+    requires { AreReal first.old.parser.events }
+    ensures { IsBehindFirst first.old.parser.ending fault result }
 {
     match read_out(first) {
         Err(earlier) => (yaml_side_t::First, earlier),
@@ -169,12 +125,9 @@ fn behind_first<S: yaml_token_source_t>(
 }
 
 // Whether two readings have the same content. A fault of the first is answered first.
-fn compared<S: yaml_token_source_t, T: yaml_token_source_t>(
-    first: &mut yaml_parser_t<S>,
-    second: &mut yaml_parser_t<T>,
-) -> Result<bool, SideFault>
-    requires { BothReal first.old second.old }
-    ensures { Compares first.old second.old result }
+fn compared(first: &mut Reading<'_>, second: &mut Reading<'_>) -> Result<bool, SideFault>
+    requires { BothReal first.old.parser second.old.parser }
+    ensures { Compares first.old.parser second.old.parser result }
 {
     match same_events(first, second) {
         Ok(true) => Ok(true),
@@ -199,12 +152,9 @@ fn starved_in(origin: yaml_origin_t) -> yaml_fault_t
 }
 
 // Whether two readings have the same content; a fault of either means that they haven't.
-fn reads_alike<S: yaml_token_source_t, T: yaml_token_source_t>(
-    first: &mut yaml_parser_t<S>,
-    second: &mut yaml_parser_t<T>,
-) -> Result<bool, yaml_fault_t>
-    requires { BothReal first.old second.old }
-    ensures { ReadsAlike first.old second.old result }
+fn reads_alike(first: &mut Reading<'_>, second: &mut Reading<'_>) -> Result<bool, yaml_fault_t>
+    requires { BothReal first.old.parser second.old.parser }
+    ensures { ReadsAlike first.old.parser second.old.parser result }
 {
     match same_events(first, second) {
         Ok(same) => Ok(same),
@@ -220,8 +170,8 @@ fn reads_alike<S: yaml_token_source_t, T: yaml_token_source_t>(
 
 // Whether the text, read as its byte order mark tells, is accepted and has the content of a reading.
 fn reads_as(alloc: Global, first: &mut Reading<'_>, text: &[u8]) -> Result<bool, yaml_fault_t>
-    requires { AreReal first.old.events }
-    ensures { (from : yaml_encoding_t) (input : List ℕ) → Reads from input first.old
+    requires { AreReal first.old.parser.events }
+    ensures { (from : yaml_encoding_t) (input : List ℕ) → Reads from input first.old.parser
         → IsRight from input
         → Answers parse_layers (λ same. same) (IsReadBack from input text.now) result }
 {
@@ -251,8 +201,8 @@ fn same_as(
     b: &[u8],
     b_encoding: yaml_encoding_t,
 ) -> Result<bool, SideFault>
-    requires { AreReal first.old.events }
-    ensures { (from : yaml_encoding_t) (input : List ℕ) → Reads from input first.old
+    requires { AreReal first.old.parser.events }
+    ensures { (from : yaml_encoding_t) (input : List ℕ) → Reads from input first.old.parser
         → IsSame from input b_encoding b.now result }
 {
     match reading_of(alloc, b, b_encoding) {

@@ -24,12 +24,12 @@ documents-preserved c =
 
 pub returns-in-Ok-None : goal.returns-in-Ok-None
 returns-in-Ok-None c = λ from input h.
-    let e = reads_to_load from input c.args.reading.now h in
+    let e = reads_to_load from input c.args.reading.now.parser h in
     let next = rw c.in-Ok-None.field-0-is at c.in-Ok-None.ensures.next in
-    documents_read from input c.documents.documents.items c.documents.reading (c.documents.invariant.documents ∙ ap (λ (z : Loads). z.documents) e)
+    documents_read from input c.documents.documents.items c.documents.reading.parser (c.documents.invariant.documents ∙ ap (λ (z : Loads). z.documents) e)
     (c.documents.invariant.fault ∙ ap (λ (z : Loads). z.fault) e) c.documents.invariant.small next
 
 pub returns-in-Err : goal.returns-in-Err
 returns-in-Err c = λ from input h.
-    let e = reads_to_load from input c.args.reading.now h in
-    documents_refused from input c.documents.reading c.in-Err.fault (c.documents.invariant.fault ∙ ap (λ (z : Loads). z.fault) e) c.in-Err.ensures.next
+    let e = reads_to_load from input c.args.reading.now.parser h in
+    documents_refused from input c.documents.reading.parser c.in-Err.fault (c.documents.invariant.fault ∙ ap (λ (z : Loads). z.fault) e) c.in-Err.ensures.next

@@ -6,11 +6,11 @@ use Rattle.yaml_round.proofs.reload.documents_from.Given as goal
 
 abbrev pub invariant-documents : goal.invariant-documents
 invariant-documents l = record {
-  between : l.reading.between ≡ true;
-  documents : l.documents.items ++ (to_load l.reading).documents ≡ (to_load l.fn.reading).documents;
+  between : l.reading.parser.between ≡ true;
+  documents : l.documents.items ++ (to_load l.reading.parser).documents ≡ (to_load l.fn.reading.parser).documents;
   small : AreNumerable l.documents.items;
-  fault : (to_load l.reading).fault ≡ (to_load l.fn.reading).fault;
+  fault : (to_load l.reading.parser).fault ≡ (to_load l.fn.reading.parser).fault;
 }
 
 abbrev pub decreases-documents : goal.decreases-documents
-decreases-documents l = length l.reading.events
+decreases-documents l = length l.reading.parser.events

@@ -9,13 +9,15 @@ use Rattle.yaml_round_laws_documents.specs.round_laws_back.content.Normalize.{no
 use Rattle.yaml_round_compare.specs.Reading.{GivesFront, emitter_events}
 use Rattle.yaml_round_shape.specs.Seen.{seen, seen_all}
 use Rattle.yaml_round.specs.declared.writing.Watch.{Watch}
-use Rattle.yaml_round.specs.Writing.{Leads}
+use Rattle.yaml_round_shape.specs.declared.seen.Shape.{Shape}
+use Rattle.yaml_round.specs.Writing.{Leads, Sees}
+use Rattle.yaml_round.proofs.Keeping.{kept_on}
 
 -- what is given to an emitter whose watch is at hand
 gives_by : (ends : Bool) (w : Watch) (first old new : Emitter) (all : List Told) (before after : ParserRemaining) (v : Event) (watch shape : Watch)
     → Leads w first all watch old before.events → GivesFront v before after → watch.canonical ≡ ends → w.canonical ≡ ends
     → Given old (emitter_event (normalize_body ends v.body)) new
-    → shape ≡ record watch { shape = seen watch.shape (emitter_event (normalize_body ends v.body)) }
+    → Sees watch (normalize_body ends v.body) shape
     → Leads w first all shape new after.events
 unfolding seen_all
 gives_by ends w first old new all before after v watch shape l f c d g e = record {
@@ -24,15 +26,16 @@ gives_by ends w first old new all before after v watch shape l f c d g e = recor
       let Q : Bool → Type 0 = λ b. Completes old x (emitter_event (normalize_body b v.body) ∷ emitter_events w.canonical after.events) whole in
       g.completes x (emitter_events w.canonical after.events) whole (subst Q d (subst P f.events (l.completes x whole done)));
   limit = g.limit ∙ l.limit;
-  canonical = ap (λ (z : Watch). z.canonical) e ∙ l.canonical;
+  canonical = e.canonical ∙ l.canonical;
   shape = l.shape ∙ ap (λ (es : List Told). seen_all watch.shape (emitter_events w.canonical es)) f.events
       ∙ ap (λ (b : Bool). seen_all (seen watch.shape (emitter_event (normalize_body b v.body))) (emitter_events w.canonical after.events)) d
-      ∙ ap (λ (z : Watch). seen_all z.shape (emitter_events w.canonical after.events)) (sym e);
+      ∙ ap (λ (z : Shape). seen_all z (emitter_events w.canonical after.events)) (sym e.shape);
+  kept = kept_on ends (text_of w.kept) (text_of watch.kept) (text_of shape.kept) all before after v l.kept f e.kept;
 }
 
 pub gives : (w : Watch) (first old new : Emitter) (all : List Told) (before after : ParserRemaining) (v : Event) (watch shape : Watch)
     → Leads w first all watch old before.events → GivesFront v before after
     → Given old (emitter_event (normalize_body watch.canonical v.body)) new
-    → shape ≡ record watch { shape = seen watch.shape (emitter_event (normalize_body watch.canonical v.body)) }
+    → Sees watch (normalize_body watch.canonical v.body) shape
     → Leads w first all shape new after.events
 gives w first old new all before after v watch shape l f g e = gives_by watch.canonical w first old new all before after v watch shape l f refl (sym l.canonical) g e

@@ -7,7 +7,7 @@ use Rattle.yaml_scan.specs.declared.yaml_fault_t.{yaml_fault_t}
 use Rattle.yaml_scan.specs.Faults.{Fault, fault_of, IsMemoryFault, parse_layers, Answers}
 use Rattle.yaml_parse.specs.Remaining.{ParserRemaining}
 use Rattle.yaml_parse.specs.Resolve.{Told}
-use Rattle.yaml_parse.specs.Events.{Event}
+use Rattle.yaml_parse.specs.Events.{Event, text_of}
 use Rattle.yaml_emit.specs.Emitter.{Emitter, Completes}
 use Rattle.yaml_round_lines.specs.EventLine.{event_line}
 use Rattle.yaml_round_compare.specs.declared.yaml_settings_t.{yaml_settings_t}
@@ -20,6 +20,7 @@ use Rattle.yaml_round_shape.specs.Seen.{seen_all}
 use Rattle.yaml_round.specs.declared.writing.Watch.{Watch}
 use Rattle.yaml_round.specs.Writing.{Leads, WritesAll}
 use Rattle.yaml_round_laws_documents.specs.round_laws_back.content.Input.{Reads, ending_of}
+use Rattle.yaml_round.proofs.Keeping.{kept_then}
 use Rattle.yaml_round.proofs.Staying.{stays}
 use Rattle.yaml_round_compare.proofs.Plain.{faulty, faulty_ending, fault_met, right, has_events}
 use Rattle.yaml_round_compare.specs.Answers.{IsFaulty, IsReadBack, ReadsBack}
@@ -66,6 +67,7 @@ rest_led a b c e e' e'' es fs l k = record {
   limit = k.limit ∙ l.limit;
   canonical = k.canonical ∙ l.canonical;
   shape = l.shape ∙ ap (λ (z : Bool). seen_all b.shape (emitter_events z fs)) (sym l.canonical) ∙ k.shape;
+  kept = kept_then (text_of a.kept) (text_of b.kept) (text_of c.kept) es fs [] l.kept k.kept;
 }
 
 pub then_rest : (a b c : Watch) (r r' : ParserRemaining) (e e' e'' : Emitter) (result : Result (Unit {0}) yaml_fault_t)

@@ -7,6 +7,8 @@ use Rattle.yaml_scan.specs.declared.yaml_fault_t.{yaml_fault_t}
 use Rattle.yaml_scan.specs.Faults.{Fault, fault_of, IsMemoryFault, emit_layers, Answers}
 use Rattle.yaml_parse.specs.Remaining.{ParserRemaining}
 use Rattle.yaml_parse.specs.Resolve.{Told}
+use Rattle.yaml_parse.specs.Events.{text_of}
+use Rattle.yaml_round.specs.Kept.{KeptOn}
 use Rattle.yaml_emit.specs.Content.{Event}
 use Rattle.yaml_emit.specs.Emitter.{Emitter, Completes, CompletesBy, IsStream, IsLimited, IsWhole, Passes}
 use Rattle.yaml_emit.specs.Within.{IsWithin}
@@ -68,6 +70,11 @@ pub saw : (from : yaml_encoding_t) (input : List ℕ) (w v : Watch) (r : ParserR
     → v.shape ≡ seen_all w.shape (emitter_events w.canonical (events_of from input))
 unfolding seen_all
 saw from input w v r old new h l = sym l.shape ∙ ap (λ (es : List Told). seen_all w.shape (emitter_events w.canonical es)) h.events
+
+-- and what they say was kept
+pub kept_all : (from : yaml_encoding_t) (input : List ℕ) (w v : Watch) (r : ParserRemaining) (old new : Emitter) → Reads from input r → Leads w old r.events v new []
+    → KeptOn (text_of w.kept) (events_of from input) (text_of v.kept) []
+kept_all from input w v r old new h l = subst (λ (es : List Told). KeptOn (text_of w.kept) es (text_of v.kept) []) h.events l.kept
 
 -- what is said of an answer in place of a refusal
 pub where_ok : {P : Type 0} (result : Result (Vec ℕ Global) yaml_fault_t) → P → IfOk result (λ text. P)

@@ -3,6 +3,8 @@ mod Judging
 mod Documents
 mod Laying
 pub mod Normal
+mod Telling
+mod Keeping
 mod Staying
 mod Reloading
 mod Streams

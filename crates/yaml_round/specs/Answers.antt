@@ -13,9 +13,12 @@ use Rattle.yaml_round_compare.specs.declared.yaml_settings_t.{yaml_settings_t}
 use Rattle.yaml_round_compare.specs.declared.yaml_form_t.{yaml_form_t}
 use Rattle.yaml_round_compare.specs.declared.yaml_form_t.TheVariants.{Canonical, Pretty}
 use Rattle.yaml_round_compare.specs.Reading.{emitter_events}
+use Rattle.yaml_round.specs.declared.kept.Known.{Known}
 use Rattle.yaml_round.specs.Lines.{event_lines}
+use Rattle.yaml_round.specs.Kept.{KeepsAll}
 use Rattle.yaml_round.specs.Writing.{requested_under}
 use Rattle.yaml_parse.specs.Resolve.{Told}
+use Rattle.yaml_parse.specs.Events.{text_of}
 use Rattle.yaml_round_laws_documents.specs.round_laws_back.content.Said.{Document}
 use Rattle.yaml_round_laws_documents.specs.round_laws_reading.Reading.{PlainReading, HasEvents}
 use Rattle.yaml_round_laws_documents.specs.round_laws_back.content.Canon.{canon}
@@ -26,7 +29,7 @@ pub use Rattle.yaml_round_compare.specs.Answers.{SameContent, IsCompared, IsSide
 abbrev pub text_and_form : {A : Type 0} → Vec ℕ A × yaml_form_t → List ℕ × yaml_form_t
 text_and_form answer = (answer.0.items, answer.1)
 
-abbrev pub text_and_known : {A : Type 0} → Vec ℕ A × Bool → List ℕ × Bool
+abbrev pub text_and_known : {A : Type 0} → Vec ℕ A × Known → List ℕ × Known
 text_and_known answer = (answer.0.items, answer.1)
 
 abbrev pub text_and_maybe_form : {A : Type 0} → Vec ℕ A × Option yaml_form_t → List ℕ
@@ -128,11 +131,16 @@ pub record IsNotReadBack (from : yaml_encoding_t) (settings : yaml_settings_t)
   pub differs : ¬ ReadsBack from input pretty
   pub shape : ¬ IsJsonInput from input
 
--- the answer of the engine in pretty form, and whether it is known to read back
+-- What is known is so: the text reads back; what is kept is what the input says.
+pub record IsKnown (from : yaml_encoding_t) (input text : List ℕ) (known : Known) : Type 0 where
+  pub back : known.back ≡ true → ReadsBack from input text
+  pub kept : KeepsAll from input (text_of known.kept)
+
+-- the answer of the engine in pretty form, and what is known of it
 abbrev pub IsInPrettyForm : yaml_encoding_t → yaml_settings_t → List ℕ
-    → Result (List ℕ × Bool) Fault → Type 0
+    → Result (List ℕ × Known) Fault → Type 0
 IsInPrettyForm from settings input (Ok (text, known)) = IsLaidOut from input settings false text
-    × (known ≡ true → ReadsBack from input text)
+    × IsKnown from input text known
 IsInPrettyForm from settings input (Err fault) = IsWritten from input settings false (Err fault)
 
 -- the answer of the engine in canonical form

@@ -1,5 +1,6 @@
 pub mod Layers
 pub mod Lines
+pub mod Kept
 pub mod Writing
 pub mod Answers
 pub mod Reload

@@ -7,17 +7,20 @@ use Rattle.yaml_scan.specs.declared.yaml_fault_t.{yaml_fault_t}
 use Rattle.yaml_scan.specs.Faults.{Fault, fault_of}
 use Rattle.yaml_parse.specs.Remaining.{ParserRemaining}
 use Rattle.yaml_parse.specs.Resolve.{Told}
-use Rattle.yaml_emit.specs.Content.{Event}
+use Rattle.yaml_parse.specs.Events.{EventBody, text_of}
+use Rattle.yaml_emit.specs.Content.{Event, emitter_event}
 use Rattle.yaml_emit.specs.Emitter.{Emitter, Completes, IsLimited, IsStream, Passes}
 use Rattle.yaml_emit.specs.Within.{Fits}
 use Rattle.yaml_emit.specs.Text.{Item, encode, is_deep}
 use Rattle.yaml_emit.specs.emit_text.declared.Encoding.{Encoding}
 use Rattle.yaml_emit.specs.emit_text.declared.RequestedSettings.{RequestedSettings}
-use Rattle.yaml_round_shape.specs.Seen.{seen_all}
+use Rattle.yaml_round_shape.specs.Seen.{seen, seen_all}
+use Rattle.yaml_round_kept.specs.Kept.{Keeps}
 use Rattle.yaml_round_compare.specs.declared.yaml_settings_t.{yaml_settings_t}
 use Rattle.yaml_round.specs.declared.writing.Watch.{Watch}
 use Rattle.yaml_round_compare.specs.declared.yaml_output_encoding_t.{yaml_output_encoding_t}
 use Rattle.yaml_round_compare.specs.declared.yaml_output_encoding_t.TheVariants.{Utf8, Utf16Le, Utf16Be}
+use Rattle.yaml_round.specs.Kept.{KeptOn}
 use Rattle.yaml_round_compare.specs.Reading.{emitter_events, AreReal, IsFaultOf}
 
 -- ---- the settings of an emitter
@@ -49,8 +52,14 @@ pub record IsUnder (e : Emitter) (w : RequestedSettings) (most : ℕ) : Type 0 w
 
 -- ---- events that are given
 
+-- An event, normalized, was given: what was known of the form, the shape and the content goes on.
+pub record Sees (watch : Watch) (e : EventBody) (seen_new : Watch) : Type 0 where
+  pub canonical : seen_new.canonical ≡ watch.canonical
+  pub shape : seen_new.shape ≡ seen watch.shape (emitter_event e)
+  pub kept : Keeps (text_of watch.kept) e (text_of seen_new.kept)
+
 -- With these events to come, normalized, from one emitter and those from the other, the text is the same,
--- and so is what they tell of their shape.
+-- and so is what they tell of their shape; what those between them say is kept.
 pub record Leads (watch : Watch) (old : Emitter) (before : List Told) (seen : Watch)
     (new : Emitter) (after : List Told) : Type 0 where
   pub completes : (x : Encoding) (whole : List Item)
@@ -60,6 +69,7 @@ pub record Leads (watch : Watch) (old : Emitter) (before : List Told) (seen : Wa
   pub canonical : seen.canonical ≡ watch.canonical
   pub shape : seen_all watch.shape (emitter_events watch.canonical before)
       ≡ seen_all seen.shape (emitter_events watch.canonical after)
+  pub kept : KeptOn (text_of watch.kept) before (text_of seen.kept) after
 
 -- the reading's events were given to the emitter: all of them, or a front of them
 abbrev pub Writes : Watch → ParserRemaining → Emitter → Result Bool yaml_fault_t → Watch

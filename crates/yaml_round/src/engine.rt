@@ -1,6 +1,6 @@
 //! The calls that read a text whole and answer another.
 
-ghost use Rattle.std.specs.Prelude.{◌≡◌, ℕ, List, IfOk};
+ghost use Rattle.std.specs.Prelude.{◌≡◌, ℕ, List, [], IfOk};
 ghost use Rattle.yaml_scan.specs.Faults.{Answers, parse_layers};
 ghost use Rattle.yaml_round.specs.Layers.{list_layers, reformat_layers};
 ghost use Rattle.yaml_round_laws_documents.specs.round_laws_back.content.Input.{Reads, ending_of, events_of};
@@ -9,12 +9,15 @@ ghost use Rattle.yaml_round_compare.specs.Reading.{AreReal, emitter_events};
 ghost use Rattle.yaml_round.specs.Lines.{AddsLines};
 ghost use Rattle.yaml_round.specs.Answers.{IsReformatted, IsInCanonicalForm, IsInPrettyForm, IsJudged, IsWritten, IsListed, text_and_form, text_and_known, bytes_of};
 ghost use Rattle.yaml_round.specs.Writing.{WritesAll};
+ghost use Rattle.yaml_round.specs.Kept.{KeptOn};
+ghost use Rattle.yaml_parse.specs.Events.{text_of};
 
+use crate::kept::{Known, stays};
 use crate::writing::{Watch, emitter_under, finished, write_rest, write_up_to};
 use std::alloc::Global;
 use yaml_emit::yaml_emitter_t;
 use yaml_parse::yaml_found_t;
-use yaml_round_compare::{Reading, read_out, reading_of, reads_back, yaml_form_t, yaml_settings_t};
+use yaml_round_compare::{Reading, read_out, reading_of, yaml_form_t, yaml_settings_t};
 use yaml_round_lines::yaml_push_event_line;
 use yaml_round_shape::{Shape, is_json};
 use yaml_scan::{yaml_encoding_t, yaml_fault_t, yaml_memory_fault, yaml_origin_t};
@@ -69,6 +72,8 @@ fn written_from(
         watch.old.canonical) result }
     ensures shape { IfOk result (λ _. watch.new.shape ≡ seen_all watch.old.shape
         (emitter_events watch.old.canonical (events_of from input.now))) }
+    ensures kept { IfOk result (λ _. KeptOn (text_of watch.old.kept) (events_of from input.now)
+        (text_of watch.new.kept) []) }
 {
     let mut emitter = emitter_under(alloc, settings, watch.canonical)?;
     let written = write_events(alloc, input, from, reading, &mut emitter, watch);
@@ -92,6 +97,8 @@ fn written(
         watch.old.canonical) result }
     ensures shape { IfOk result (λ _. watch.new.shape ≡ seen_all watch.old.shape
         (emitter_events watch.old.canonical (events_of from input.now))) }
+    ensures kept { IfOk result (λ _. KeptOn (text_of watch.old.kept) (events_of from input.now)
+        (text_of watch.new.kept) []) }
 {
     let mut reading = reading_of(alloc, input, from)?;
     written_from(alloc, input, from, &mut reading, settings, watch)
@@ -111,19 +118,21 @@ fn in_canonical_form(
     let mut watch = Watch {
         canonical: true,
         shape: Shape::Other,
+        kept: None,
+        most_kept: 0,
     };
     let text = written(alloc, input, from, settings, &mut watch)?;
     Ok((text, yaml_form_t::Canonical))
 }
 
-// The text in pretty form, and whether it is known to read back: that of an input shaped as JSON does.
+// The text in pretty form, and what is known of it: that of an input shaped as JSON reads back.
 #[tactic(auto, using(crate::proofs::Staying::known_back))]
 fn in_pretty_form(
     alloc: Global,
     input: &[u8],
     from: yaml_encoding_t,
     settings: &yaml_settings_t,
-) -> Result<(Vec<u8>, bool), yaml_fault_t>
+) -> Result<(Vec<u8>, Known), yaml_fault_t>
     ensures { Answers reformat_layers text_and_known
         (IsInPrettyForm from settings.now input.now) result }
 {
@@ -134,9 +143,18 @@ fn in_pretty_form(
             key: false,
             mappings: 0,
         },
+        kept: Some(Vec::new(alloc)),
+        most_kept: input.len().saturating_mul(2),
     };
     let text = written(alloc, input, from, settings, &mut watch)?;
-    Ok((text, is_json(watch.shape)))
+    let back = is_json(watch.shape);
+    Ok((
+        text,
+        Known {
+            back,
+            kept: watch.kept,
+        },
+    ))
 }
 
 /// The text rewritten, and its form. With `settings.canonical` on the answer is in canonical form. With it off the events
@@ -159,10 +177,7 @@ pub fn yaml_reformat(
         return in_canonical_form(alloc, input, from, settings);
     }
     let (text, known) = in_pretty_form(alloc, input, from, settings)?;
-    if known {
-        return Ok((text, yaml_form_t::Pretty));
-    }
-    match reads_back(alloc, input, from, &text) {
+    match stays(alloc, input, from, &text, known) {
         Err(fault) => Err(fault),
         Ok(true) => Ok((text, yaml_form_t::Pretty)),
         Ok(false) => in_canonical_form(alloc, input, from, settings),

@@ -2,6 +2,7 @@
 #![tactic(auto)]
 
 mod engine;
+mod kept;
 mod reload;
 mod run;
 mod writing;

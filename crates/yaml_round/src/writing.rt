@@ -7,9 +7,8 @@ ghost use Rattle.yaml_parse.specs.Constructors.{HasUtf8};
 ghost use Rattle.yaml_emit.specs.Content.{emitter_event};
 ghost use Rattle.yaml_emit.specs.Emitter.{Given, IsLimited};
 ghost use Rattle.yaml_round_laws_documents.specs.round_laws_back.content.Normalize.{normalize_body};
-ghost use Rattle.yaml_round_shape.specs.Seen.{seen};
 ghost use Rattle.yaml_round_compare.specs.Reading.{AreReal};
-ghost use Rattle.yaml_round.specs.Writing.{IsUnder, requested_under, encoding_under, Writes, WritesAll, Finishes};
+ghost use Rattle.yaml_round.specs.Writing.{IsUnder, requested_under, encoding_under, Sees, Writes, WritesAll, Finishes};
 
 use std::alloc::Global;
 use yaml_emit::{
@@ -20,14 +19,21 @@ use yaml_emit::{
 };
 use yaml_parse::{yaml_event_t, yaml_found_t};
 use yaml_round_compare::{Reading, normalize_event, yaml_output_encoding_t, yaml_settings_t};
+use yaml_round_kept::keep;
 use yaml_round_shape::{Shape, seen_with};
 use yaml_scan::{yaml_encoding_t, yaml_fault_t, yaml_memory_fault, yaml_origin_t};
 
-/// The form in which events are written, and what those that were given tell of their shape.
-#[derive(Clone, Copy)]
+// While the events are still JSON's, whose text isn't read back, no more is kept than this.
+const KEPT_OF_JSON: usize = 4096;
+
+/// The form in which events are written, what those that were given tell of their shape, and what they say, where it is kept.
+#[derive(Drop)]
 pub(crate) struct Watch {
     pub(crate) canonical: bool,
     pub(crate) shape: Shape,
+    pub(crate) kept: Option<Vec<u8>>,
+    /// The most bytes that are kept.
+    pub(crate) most_kept: usize,
 }
 
 fn encoding_of(encoding: yaml_output_encoding_t) -> yaml_encoding_t
@@ -70,18 +76,26 @@ fn give(emitter: &mut yaml_emitter_t, event: &mut yaml_event_t)
     yaml_emitter_emit_from(emitter, event);
 }
 
-// Gives the event in the slot, normalized, and sees what it tells of the shape.
+// The most bytes that are kept, as far as the shape is known.
+fn most_kept(watch: &Watch) -> usize {
+    match watch.shape {
+        Shape::Other => watch.most_kept,
+        Shape::Json { .. } => KEPT_OF_JSON,
+    }
+}
+
+// Gives the event in the slot, normalized, sees what it tells of the shape, and keeps what it says.
 fn give_normalized(emitter: &mut yaml_emitter_t, watch: &mut Watch, event: &mut yaml_event_t)
     requires { HasUtf8 (event_of event.old).body }
     ensures given { Given emitter.old (emitter_event
         (normalize_body watch.old.canonical (event_of event.old).body)) emitter.new }
-    ensures seen { watch.new ≡ record watch.old {
-      shape = seen watch.old.shape (emitter_event
-          (normalize_body watch.old.canonical (event_of event.old).body));
-    } }
+    ensures seen { Sees watch.old (normalize_body watch.old.canonical (event_of event.old).body)
+        watch.new }
 {
     normalize_event(event, watch.canonical);
     watch.shape = seen_with(watch.shape, event);
+    let most = most_kept(watch);
+    keep(&mut watch.kept, event, most);
     give(emitter, event);
 }
 

@@ -140,8 +140,8 @@ fn compared(first: &mut Reading<'_>, second: &mut Reading<'_>) -> Result<bool, S
     }
 }
 
-// Want of memory, told again by its layer and nothing else.
-fn starved_in(origin: yaml_origin_t) -> yaml_fault_t
+/// Want of memory, told again by its layer and nothing else.
+pub fn starved_in(origin: yaml_origin_t) -> yaml_fault_t
     ensures { IsMemoryFault parse_layers (fault_of result) }
 {
     match origin {

@@ -7,7 +7,7 @@ mod normalize;
 mod reading;
 mod settings;
 
-pub use compare::{reads_back, yaml_same};
+pub use compare::{reads_back, starved_in, yaml_same};
 pub use normalize::normalize_event;
 pub use reading::{Reading, read_out, reading_of};
 pub use settings::{

@@ -1,4 +1,4 @@
-use Rattle.yaml_round.proofs.Laying.{wrote, saw, where_ok}
+use Rattle.yaml_round.proofs.Laying.{wrote, saw, kept_all, where_ok}
 use Rattle.yaml_round.proofs.Judging.{not_written}
 use Rattle.yaml_round.proofs.engine.written_from.Goals as goal
 
@@ -14,4 +14,9 @@ returns-in-Ok-clause-text c =
 pub returns-in-Ok-clause-shape : goal.returns-in-Ok-clause-shape
 returns-in-Ok-clause-shape c =
     where_ok c.finished-text.result (saw c.args.from c.args.input.now c.args.watch.now c.write_events-written.new.watch c.args.reading.now.parser c.in_ok-emitter.emitter c.write_events-written.new.emitter
+    c.requires.reads c.in-Ok.ensures.1)
+
+pub returns-in-Ok-clause-kept : goal.returns-in-Ok-clause-kept
+returns-in-Ok-clause-kept c =
+    where_ok c.finished-text.result (kept_all c.args.from c.args.input.now c.args.watch.now c.write_events-written.new.watch c.args.reading.now c.in_ok-emitter.emitter c.write_events-written.new.emitter
     c.requires.reads c.in-Ok.ensures.1)

@@ -5,8 +5,8 @@ use Rattle.yaml_round.proofs.Judging.{fallen_back}
 use Rattle.yaml_round.proofs.Laying.{laid_right}
 use Rattle.yaml_round.proofs.engine.yaml_reformat.Goals as goal
 
-pub reads_back-requires : goal.reads_back-requires
-reads_back-requires c = laid_right c.args.from c.args.input.now c.args.settings.now false c.in_ok-text.text.items c.in_ok-text.ensures.0
+pub stays-requires-clause-right : goal.stays-requires-clause-right
+stays-requires-clause-right c = laid_right c.args.from c.args.input.now c.args.settings.now false c.in_ok-text.text.items c.in_ok-text.ensures.0
 
 pub returns-in-Ok-false : goal.returns-in-Ok-false
 returns-in-Ok-false c =

@@ -1,0 +1,22 @@
+-- What is kept of events, one after another.
+use Rattle.std.specs.Prelude.{◌≡◌, ℕ, Bool, true, false, List, [], ◌∷◌, ◌++◌, Option, Some, None}
+use Rattle.yaml_scan_model.specs.declared.yaml_version_directive_t.{yaml_version_directive_t}
+use Rattle.yaml_parse_model.specs.Events.{TagDirective, EventBody}
+use Rattle.yaml_parse_model.specs.Events as event
+use Rattle.yaml_round_kept.specs.Spelled.{spelled}
+
+abbrev pub has_none : Option yaml_version_directive_t → List TagDirective → Bool
+has_none None [] = true
+has_none None (d ∷ ds) = false
+has_none (Some version) directives = false
+
+-- its bytes tell all that it says: it has no directives
+abbrev pub is_told : EventBody → Bool
+is_told (event.document_start version directives implicit) = has_none version directives
+is_told other = true
+
+-- With one more event: nothing is kept, or the event stands behind what was kept, and its bytes tell all that it says.
+abbrev pub Keeps : Option (List ℕ) → EventBody → Option (List ℕ) → Type 0
+Keeps before e None = Unit {0}
+Keeps None e (Some after) = ⊥
+Keeps (Some before) e (Some after) = (is_told e ≡ true) × (after ≡ before ++ spelled e)

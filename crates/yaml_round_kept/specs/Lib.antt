@@ -1,0 +1,2 @@
+pub mod Spelled
+pub mod Kept

@@ -1,0 +1,179 @@
+//! What was kept, compared with what an event says.
+
+ghost use Rattle.std.specs.Prelude.{◌≡◌, ◌≢◌, ◌++◌, ◌∷◌, ◌≤◌, ℕ, List, [], MatchOption};
+ghost use Rattle.yaml_parse_model.specs.Events.{event_of, text_of};
+ghost use Rattle.yaml_round_kept.specs.Spelled.{length_bytes, long_bytes, text_bytes, given_bytes, start_bytes, spelled};
+
+use crate::spelling::{LONG, document_head, mapping_head, scalar_head, sequence_head};
+use yaml_parse_model::{yaml_event_body_t, yaml_event_t};
+
+// What stands behind a byte, where it stands in front.
+fn after_byte<'a>(left: &'a [u8], byte: u8) -> Option<&'a [u8]>
+    ensures { MatchOption result ((rest : List ℕ) → left.now ≢ byte ∷ rest) (λ x. left.now
+        ≡ byte ∷ x.now) }
+{
+    match left.split_first() {
+        None => None,
+        Some((first, rest)) => if *first == byte { Some(rest) } else { None },
+    }
+}
+
+// What stands behind a number, which needn't be a byte's.
+fn after_number<'a>(left: &'a [u8], number: usize) -> Option<&'a [u8]>
+    ensures { MatchOption result ((rest : List ℕ) → left.now ≢ number ∷ rest) (λ x. left.now
+        ≡ number ∷ x.now) }
+{
+    match left.split_first() {
+        None => None,
+        Some((first, rest)) => if *first as usize == number {
+            Some(rest)
+        } else {
+            None
+        },
+    }
+}
+
+// What stands behind a length that one byte can't tell.
+// Out of line: most texts are short.
+#[inline(never)]
+fn after_long<'a>(left: &'a [u8], length: usize) -> Option<&'a [u8]>
+    ensures { MatchOption result ((rest : List ℕ) → left.now ≢ long_bytes length ++ rest)
+        (λ x. left.now
+        ≡ long_bytes length ++ x.now) }
+{
+    let left = after_byte(left, LONG)?;
+    let left = after_byte(left, (length % 256) as u8)?;
+    let left = after_byte(left, (length / 256 % 256) as u8)?;
+    let left = after_byte(left, (length / 65536 % 256) as u8)?;
+    after_number(left, length / 16777216)
+}
+
+#[tactic(auto, unfolding(crate::specs::Spelled::length_bytes))]
+fn after_length<'a>(left: &'a [u8], length: usize) -> Option<&'a [u8]>
+    ensures { MatchOption result ((rest : List ℕ) → left.now ≢ length_bytes length ++ rest)
+        (λ x. left.now
+        ≡ length_bytes length ++ x.now) }
+{
+    if length < 255 {
+        return after_byte(left, length as u8);
+    }
+    after_long(left, length)
+}
+
+// What stands behind these bytes, where they stand in front.
+fn after_bytes<'a>(left: &'a [u8], text: &[u8]) -> Option<&'a [u8]>
+    ensures { MatchOption result ((rest : List ℕ) → left.now ≢ text.now ++ rest) (λ x. left.now
+        ≡ text.now ++ x.now) }
+{
+    left.strip_prefix(text)
+}
+
+fn after_text<'a>(left: &'a [u8], text: &[u8]) -> Option<&'a [u8]>
+    ensures { MatchOption result ((rest : List ℕ) → left.now ≢ text_bytes text.now ++ rest)
+        (λ x. left.now
+        ≡ text_bytes text.now ++ x.now) }
+{
+    let left = after_length(left, text.len())?;
+    after_bytes(left, text)
+}
+
+fn after_given<'a>(left: &'a [u8], text: &Option<Vec<u8>>) -> Option<&'a [u8]>
+    ensures { MatchOption result ((rest : List ℕ) → left.now ≢ given_bytes (text_of text.now) ++ rest)
+        (λ x. left.now
+        ≡ given_bytes (text_of text.now) ++ x.now) }
+{
+    match text {
+        None => Some(left),
+        Some(text) => after_text(left, text),
+    }
+}
+
+fn after_name<'a>(left: &'a [u8], head: u8, name: &[u8]) -> Option<&'a [u8]>
+    ensures { MatchOption result ((rest : List ℕ) → left.now ≢ (head ∷ text_bytes name.now) ++ rest)
+        (λ x. left.now
+        ≡ (head ∷ text_bytes name.now) ++ x.now) }
+{
+    let left = after_byte(left, head)?;
+    after_text(left, name)
+}
+
+fn after_start<'a>(
+    left: &'a [u8],
+    head: u8,
+    anchor: &Option<Vec<u8>>,
+    tag: &Option<Vec<u8>>,
+) -> Option<&'a [u8]>
+    ensures { MatchOption result ((rest : List ℕ) → left.now ≢ start_bytes head (text_of anchor.now) (text_of tag.now) ++ rest)
+        (λ x. left.now
+        ≡ start_bytes head (text_of anchor.now) (text_of tag.now) ++ x.now) }
+{
+    let left = after_byte(left, head)?;
+    let left = after_given(left, anchor)?;
+    after_given(left, tag)
+}
+
+#[tactic(auto, using(crate::proofs::Fronts::not_behind))]
+fn after_scalar<'a>(
+    left: &'a [u8],
+    head: u8,
+    anchor: &Option<Vec<u8>>,
+    tag: &Option<Vec<u8>>,
+    value: &[u8],
+) -> Option<&'a [u8]>
+    ensures { MatchOption result
+        ((rest : List ℕ) → left.now ≢ start_bytes head (text_of anchor.now) (text_of tag.now)
+        ++ text_bytes value.now ++ rest)
+        (λ x. left.now ≡ start_bytes head (text_of anchor.now) (text_of tag.now)
+        ++ text_bytes value.now ++ x.now) }
+{
+    let left = after_start(left, head, anchor, tag)?;
+    after_text(left, value)
+}
+
+/// What is left behind what a normalized event says, where that stands in front of what is left.
+#[tactic(auto, unfolding(crate::specs::Spelled::spelled))]
+pub fn after_event<'a>(left: &'a [u8], event: &yaml_event_t) -> Option<&'a [u8]>
+    ensures { MatchOption result ((rest : List ℕ) → left.now ≢ spelled (event_of event.now).body ++ rest)
+        (λ x. left.now
+        ≡ spelled (event_of event.now).body ++ x.now) }
+{
+    match &event.body {
+        yaml_event_body_t::No => after_byte(left, 0),
+        yaml_event_body_t::StreamStart { .. } => after_byte(left, 1),
+        yaml_event_body_t::StreamEnd => after_byte(left, 2),
+        yaml_event_body_t::DocumentStart {
+            version_directive,
+            tag_directives,
+            ..
+        } => after_byte(left, document_head(version_directive, tag_directives)),
+        yaml_event_body_t::DocumentEnd { .. } => after_byte(left, 4),
+        yaml_event_body_t::Alias { anchor } => after_name(left, 5, anchor),
+        yaml_event_body_t::Scalar {
+            anchor,
+            tag,
+            value,
+            plain_implicit,
+            ..
+        } => after_scalar(
+            left,
+            scalar_head(anchor, tag, *plain_implicit),
+            anchor,
+            tag,
+            value,
+        ),
+        yaml_event_body_t::SequenceStart { anchor, tag, .. } => after_start(
+            left,
+            sequence_head(anchor, tag),
+            anchor,
+            tag,
+        ),
+        yaml_event_body_t::SequenceEnd => after_byte(left, 6),
+        yaml_event_body_t::MappingStart { anchor, tag, .. } => after_start(
+            left,
+            mapping_head(anchor, tag),
+            anchor,
+            tag,
+        ),
+        yaml_event_body_t::MappingEnd => after_byte(left, 22),
+    }
+}

@@ -8,7 +8,13 @@ use Rattle.yaml_emit_state.specs.declared.Core.{Core}
 use Rattle.yaml_emit_state.specs.Steps.{LaysOut}
 use Rattle.yaml_emit_state.specs.Finish.{Finishes, Leads}
 use Rattle.yaml_emit_state.proofs.Finishing.{finishes_on}
-use Rattle.yaml_emit.specs.Held.{is_ready, needs, closes, passes, ends_level}
+use Rattle.yaml_parse_model.specs.declared.yaml_event_body_t.{yaml_event_body_t}
+use Rattle.yaml_emit.specs.declared.held.Held.{Held}
+use Rattle.yaml_emit.specs.declared.held.Count.{Count}
+use Rattle.yaml_emit.specs.declared.held.Count.TheVariants.{Nothing}
+use Rattle.yaml_emit.specs.declared.held.Seat.{Seat}
+use Rattle.yaml_emit.specs.declared.held.Seat.TheVariants.{First, Second, Third, Fourth}
+use Rattle.yaml_emit.specs.Held.{is_ready, needs, closes, passes, ends_level, next, less, stands, seated, held_events, oldest_event}
 use Rattle.yaml_emit.proofs.Opening.{opens_none}
 
 pub ready_empty : (e : Event) (es more : List Event) → is_ready (e ∷ es) ≡ true → opens_empty e (es ++ more) ≡ opens_empty e es
@@ -114,3 +120,26 @@ less_most xs ys e same most = let few = one_less xs ys e same most in omega (ari
 pub short_held : (b : Bool) (xs : List Event) → (b && is_ready xs) ≡ false → (b ≡ false → length xs ≤ 3) → length xs ≤ 3
 short_held true xs h s = few_short xs h
 short_held false xs h s = s refl
+
+in_seats : Count → Seat → yaml_event_body_t → yaml_event_body_t → yaml_event_body_t → yaml_event_body_t → Held
+in_seats k s a b c d = record { count = k; oldest = s; first = a; second = b; third = c; fourth = d }
+
+front_left : (k : Count) (s : Seat) (a b c d x : yaml_event_body_t) → is_ready (held_events (in_seats k s a b c d)) ≡ true
+    → let m = seated s x (in_seats k s a b c d) in
+    held_events (in_seats k s a b c d) ≡ oldest_event (in_seats k s a b c d) ∷ held_events (record m { oldest = next m.oldest; count = less m.count })
+unfolding is_ready in_seats
+front_left Nothing s a b c d x r = absurd (cc)
+front_left k First a b c d x r = refl
+front_left k Second a b c d x r = refl
+front_left k Third a b c d x r = refl
+front_left k Fourth a b c d x r = refl
+
+-- the oldest is gone, whatever stands in its seat
+pub left_behind : (old mid : Held) (k : Count) (s : Seat) → mid ≡ seated old.oldest (stands old.oldest mid) old → s ≡ next mid.oldest → k ≡ less mid.count
+    → is_ready (held_events old) ≡ true → held_events old ≡ oldest_event old ∷ held_events (record mid { oldest = s; count = k })
+unfolding in_seats
+left_behind old mid k s m e n r =
+    let P : Held → Type 0 = λ z. held_events old ≡ oldest_event old ∷ held_events (record z { oldest = next z.oldest; count = less z.count }) in
+    let Q : Seat → Type 0 = λ z. held_events old ≡ oldest_event old ∷ held_events (record mid { oldest = z; count = less mid.count }) in
+    let R : Count → Type 0 = λ z. held_events old ≡ oldest_event old ∷ held_events (record mid { oldest = s; count = z }) in
+    subst R (sym n) (subst Q (sym e) (subst P (sym m) (front_left old.count old.oldest old.first old.second old.third old.fourth (stands old.oldest mid) r)))

@@ -1,53 +1,93 @@
 -- The events that are held.
-use Rattle.std.specs.Prelude.{ℕ, Bool, true, false, not, ◌&&◌, ◌||◌, nat_le, List, [], ◌∷◌, length}
+use Rattle.std.specs.Prelude.{ℕ, Bool, true, false, not, ◌&&◌, ◌||◌, nat_le, List, [], ◌∷◌, length, map, All}
+use Rattle.yaml_parse_model.specs.declared.yaml_event_body_t.{yaml_event_body_t}
 use Rattle.yaml_parse_model.specs.Events.{EventBody, body_of}
 use Rattle.yaml_parse_model.specs.Constructors.{HasUtf8}
 use Rattle.yaml_emit_layout.specs.Content.{Event, no_event, stream_start, stream_end, document_start, document_end, alias, scalar, sequence_start, sequence_end, mapping_start, mapping_end, emitter_event}
 use Rattle.yaml_emit.specs.declared.held.Held.{Held}
 use Rattle.yaml_emit.specs.declared.held.Count.{Count}
 use Rattle.yaml_emit.specs.declared.held.Count.TheVariants.{Nothing, One, Two, Three, Four}
-use Rattle.yaml_emit.specs.declared.held.Start.{Start}
-use Rattle.yaml_emit.specs.declared.held.Start.TheVariants.{First, Second, Third, Fourth}
+use Rattle.yaml_emit.specs.declared.held.Seat.{Seat}
+use Rattle.yaml_emit.specs.declared.held.Seat.TheVariants.{First, Second, Third, Fourth}
 
--- what stands in the places from the oldest on, which follow one another in a circle
-abbrev pub oldest : {X : Type 0} → Start → X → X → X → X → X
-oldest First a b c d = a
-oldest Second a b c d = b
-oldest Third a b c d = c
-oldest Fourth a b c d = d
+-- the seat behind it, in a circle
+abbrev pub next : Seat → Seat
+next First = Second
+next Second = Third
+next Third = Fourth
+next Fourth = First
 
--- the event in the oldest's place
-abbrev pub oldest_event : Held → Event
-oldest_event h = emitter_event (body_of (oldest h.start h.first h.second h.third h.fourth))
+-- the seat so many behind it
+abbrev pub behind : Seat → Count → Seat
+behind s Nothing = s
+behind s One = next s
+behind s Two = next (next s)
+behind s Three = next (next (next s))
+behind s Four = s
 
-abbrev pub events_by : Count → Event → Event → Event → Event → List Event
-events_by Nothing a b c d = []
-events_by One a b c d = a ∷ []
-events_by Two a b c d = a ∷ b ∷ []
-events_by Three a b c d = a ∷ b ∷ c ∷ []
-events_by Four a b c d = a ∷ b ∷ c ∷ d ∷ []
+-- what stands in a seat
+abbrev pub stands : Seat → Held → yaml_event_body_t
+stands First h = h.first
+stands Second h = h.second
+stands Third h = h.third
+stands Fourth h = h.fourth
+
+-- the same, with that event in that seat
+abbrev pub seated : Seat → yaml_event_body_t → Held → Held
+seated First e h = record h { first = e }
+seated Second e h = record h { second = e }
+seated Third e h = record h { third = e }
+seated Fourth e h = record h { fourth = e }
+
+-- the front of four
+abbrev pub front : Count → EventBody → EventBody → EventBody → EventBody → List EventBody
+front Nothing a b c d = []
+front One a b c d = a ∷ []
+front Two a b c d = a ∷ b ∷ []
+front Three a b c d = a ∷ b ∷ c ∷ []
+front Four a b c d = a ∷ b ∷ c ∷ d ∷ []
+
+-- that event as contracts see it
+abbrev pub body_in : Seat → Held → EventBody
+body_in s h = body_of (stands s h)
 
 -- the oldest first
-abbrev pub held_events : Held → List Event
-held_events h = events_by h.count
-    (emitter_event (body_of (oldest h.start h.first h.second h.third h.fourth)))
-    (emitter_event (body_of (oldest h.start h.second h.third h.fourth h.first)))
-    (emitter_event (body_of (oldest h.start h.third h.fourth h.first h.second)))
-    (emitter_event (body_of (oldest h.start h.fourth h.first h.second h.third)))
+abbrev pub held_bodies : Held → List EventBody
+held_bodies h = front h.count (body_in h.oldest h) (body_in (next h.oldest) h)
+    (body_in (next (next h.oldest)) h) (body_in (next (next (next h.oldest))) h)
 
-abbrev pub Utf8By : Count → EventBody → EventBody → EventBody → EventBody → Type 0
-Utf8By Nothing a b c d = Unit {0}
-Utf8By One a b c d = HasUtf8 a
-Utf8By Two a b c d = HasUtf8 a × HasUtf8 b
-Utf8By Three a b c d = HasUtf8 a × HasUtf8 b × HasUtf8 c
-Utf8By Four a b c d = HasUtf8 a × HasUtf8 b × HasUtf8 c × HasUtf8 d
+abbrev pub held_events : Held → List Event
+held_events h = map emitter_event (held_bodies h)
+
+-- the event in the oldest's seat
+abbrev pub oldest_event : Held → Event
+oldest_event h = emitter_event (body_in h.oldest h)
+
+abbrev pub later : List Event → List Event
+later [] = []
+later (e ∷ es) = es
+
+-- those behind the oldest
+abbrev pub later_events : Held → List Event
+later_events h = later (held_events h)
 
 -- their texts are UTF-8
 abbrev pub HeldUtf8 : Held → Type 0
-HeldUtf8 h = Utf8By h.count (body_of (oldest h.start h.first h.second h.third h.fourth))
-    (body_of (oldest h.start h.second h.third h.fourth h.first))
-    (body_of (oldest h.start h.third h.fourth h.first h.second))
-    (body_of (oldest h.start h.fourth h.first h.second h.third))
+HeldUtf8 h = All HasUtf8 (held_bodies h)
+
+abbrev pub more : Count → Count
+more Nothing = One
+more One = Two
+more Two = Three
+more Three = Four
+more Four = Four
+
+abbrev pub less : Count → Count
+less Nothing = Nothing
+less One = Nothing
+less Two = One
+less Three = Two
+less Four = Three
 
 -- it opens a level
 abbrev pub opens_level : Event → Bool

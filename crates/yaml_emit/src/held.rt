@@ -1,6 +1,6 @@
 //! The events that are held.
 
-ghost use Rattle.std.specs.Prelude.{◌≡◌, ◌<◌, ◌≤◌, ◌++◌, ◌∷◌, [], true, false, length, List};
+ghost use Rattle.std.specs.Prelude.{◌≡◌, ◌<◌, ◌≤◌, ◌++◌, ◌∷◌, [], true, false, length};
 ghost use Rattle.yaml_parse_model.specs.Events.{body_of};
 ghost use Rattle.yaml_parse_model.specs.Constructors.{HasUtf8};
 ghost use Rattle.yaml_emit_layout.specs.Content.{emitter_event};
@@ -21,29 +21,88 @@ pub enum Count {
     Four,
 }
 
-/// The place of the oldest event.
+/// A seat for an event. The four follow one another in a circle.
 #[derive(Clone, Copy, PartialEq, Eq, Debug)]
-pub enum Start {
+pub enum Seat {
     First,
     Second,
     Third,
     Fourth,
 }
 
-/// Places for events in a circle, from the oldest on; what stands in the places behind doesn't count. Four are held only while
-/// one is given.
+/// Events in their seats, from the oldest one's on; what stands in the seats behind doesn't count. Four are held only while one
+/// is given.
 #[derive(Drop)]
 pub struct Held {
     count: Count,
-    start: Start,
+    oldest: Seat,
     first: yaml_event_body_t,
     second: yaml_event_body_t,
     third: yaml_event_body_t,
     fourth: yaml_event_body_t,
 }
 
+impl Count {
+    ghost use Rattle.yaml_emit.specs.Held.{more, less};
+
+    // One more, of four at most.
+    fn more(self) -> Count
+        ensures { result ≡ more self }
+    {
+        match self {
+            Count::Nothing => Count::One,
+            Count::One => Count::Two,
+            Count::Two => Count::Three,
+            Count::Three => Count::Four,
+            Count::Four => Count::Four,
+        }
+    }
+
+    // One less, if there is one.
+    fn less(self) -> Count
+        ensures { result ≡ less self }
+    {
+        match self {
+            Count::Nothing => Count::Nothing,
+            Count::One => Count::Nothing,
+            Count::Two => Count::One,
+            Count::Three => Count::Two,
+            Count::Four => Count::Three,
+        }
+    }
+}
+
+impl Seat {
+    ghost use Rattle.yaml_emit.specs.Held.{next, behind};
+
+    // The seat behind it.
+    fn next(self) -> Seat
+        ensures { result ≡ next self }
+    {
+        match self {
+            Seat::First => Seat::Second,
+            Seat::Second => Seat::Third,
+            Seat::Third => Seat::Fourth,
+            Seat::Fourth => Seat::First,
+        }
+    }
+
+    // The seat so many behind it.
+    fn behind(self, count: Count) -> Seat
+        ensures { result ≡ behind self count }
+    {
+        match count {
+            Count::Nothing => self,
+            Count::One => self.next(),
+            Count::Two => self.next().next(),
+            Count::Three => self.next().next().next(),
+            Count::Four => self,
+        }
+    }
+}
+
 impl Held {
-    ghost use Rattle.yaml_emit.specs.Held.{held_events, oldest_event, HeldUtf8, events_by, Utf8By, is_ready, closes, has_enough, needs, passes, opens_level, ends_level};
+    ghost use Rattle.yaml_emit.specs.Held.{held_bodies, held_events, oldest_event, later_events, HeldUtf8, stands, seated, is_ready, closes, needs, passes, opens_level, ends_level};
 
     /// No event.
     pub fn nothing() -> Held
@@ -52,7 +111,7 @@ impl Held {
     {
         Held {
             count: Count::Nothing,
-            start: Start::First,
+            oldest: Seat::First,
             first: yaml_event_body_t::No,
             second: yaml_event_body_t::No,
             third: yaml_event_body_t::No,
@@ -140,47 +199,42 @@ impl Held {
         }
     }
 
-    // One more in the places from the oldest on.
-    fn push_behind(
-        count: &mut Count,
-        first: &mut yaml_event_body_t,
-        second: &mut yaml_event_body_t,
-        third: &mut yaml_event_body_t,
-        fourth: &mut yaml_event_body_t,
-        event: &mut yaml_event_body_t,
-    )
-        requires few { length (events_by count.old (emitter_event (body_of first.old))
-            (emitter_event (body_of second.old)) (emitter_event (body_of third.old))
-            (emitter_event (body_of fourth.old))) < 4 }
-        requires utf8 { Utf8By count.old (body_of first.old) (body_of second.old)
-            (body_of third.old) (body_of fourth.old) × HasUtf8 (body_of event.old) }
-        ensures events { events_by count.new (emitter_event (body_of first.new))
-            (emitter_event (body_of second.new)) (emitter_event (body_of third.new))
-            (emitter_event (body_of fourth.new)) ≡ events_by count.old
-            (emitter_event (body_of first.old)) (emitter_event (body_of second.old))
-            (emitter_event (body_of third.old)) (emitter_event (body_of fourth.old))
-            ++ emitter_event (body_of event.old) ∷ [] }
-        ensures utf8 { Utf8By count.new (body_of first.new) (body_of second.new) (body_of third.new)
-            (body_of fourth.new) }
+    // What stands in that seat.
+    fn at(&self, seat: Seat) -> &yaml_event_body_t
+        ensures { result.now ≡ stands seat self.now }
     {
-        match *count {
-            Count::Nothing => {
-                mem::swap(first, event);
-                *count = Count::One;
-            }
-            Count::One => {
-                mem::swap(second, event);
-                *count = Count::Two;
-            }
-            Count::Two => {
-                mem::swap(third, event);
-                *count = Count::Three;
-            }
-            Count::Three => {
-                mem::swap(fourth, event);
-                *count = Count::Four;
-            }
-            Count::Four => unreachable!(),
+        match seat {
+            Seat::First => &self.first,
+            Seat::Second => &self.second,
+            Seat::Third => &self.third,
+            Seat::Fourth => &self.fourth,
+        }
+    }
+
+    // The event takes that seat.
+    fn sit(&mut self, seat: Seat, event: &mut yaml_event_body_t)
+        ensures { self.new ≡ seated seat event.old self.old }
+    {
+        match seat {
+            Seat::First => mem::swap(&mut self.first, event),
+            Seat::Second => mem::swap(&mut self.second, event),
+            Seat::Third => mem::swap(&mut self.third, event),
+            Seat::Fourth => mem::swap(&mut self.fourth, event),
+        }
+    }
+
+    // The event in that seat is laid out where it stands.
+    fn lay_out(&mut self, seat: Seat, core: &mut Core, empty: bool)
+        requires { HasUtf8 (body_of (stands seat self.old)) }
+        ensures laid { LaysOut core.old core.new (emitter_event (body_of (stands seat self.old)))
+            empty }
+        ensures others { self.new ≡ seated seat (stands seat self.new) self.old }
+    {
+        match seat {
+            Seat::First => core.lay_out(&mut self.first, empty),
+            Seat::Second => core.lay_out(&mut self.second, empty),
+            Seat::Third => core.lay_out(&mut self.third, empty),
+            Seat::Fourth => core.lay_out(&mut self.fourth, empty),
         }
     }
 
@@ -192,164 +246,42 @@ impl Held {
             (body_of event.old) ∷ [] }
         ensures utf8 { HeldUtf8 self.new }
     {
-        match self.start {
-            Start::First => Held::push_behind(
-                &mut self.count,
-                &mut self.first,
-                &mut self.second,
-                &mut self.third,
-                &mut self.fourth,
-                event,
-            ),
-            Start::Second => Held::push_behind(
-                &mut self.count,
-                &mut self.second,
-                &mut self.third,
-                &mut self.fourth,
-                &mut self.first,
-                event,
-            ),
-            Start::Third => Held::push_behind(
-                &mut self.count,
-                &mut self.third,
-                &mut self.fourth,
-                &mut self.first,
-                &mut self.second,
-                event,
-            ),
-            Start::Fourth => Held::push_behind(
-                &mut self.count,
-                &mut self.fourth,
-                &mut self.first,
-                &mut self.second,
-                &mut self.third,
-                event,
-            ),
-        }
+        self.sit(self.oldest.behind(self.count), event);
+        self.count = self.count.more();
     }
 
+    /// The oldest has what it needs.
     #[tactic(auto, unfolding(crate::specs::Held::is_ready))]
-    fn is_ready_by(
-        count: Count,
-        first: &yaml_event_body_t,
-        second: &yaml_event_body_t,
-        third: &yaml_event_body_t,
-        fourth: &yaml_event_body_t,
-    ) -> bool
-        ensures { result ≡ is_ready (events_by count (emitter_event (body_of first.now))
-            (emitter_event (body_of second.now)) (emitter_event (body_of third.now))
-            (emitter_event (body_of fourth.now))) }
+    pub fn is_ready(&self) -> bool
+        ensures { result ≡ is_ready (held_events self.now) }
     {
-        // Of four events the oldest is always ready: the last place is named in the clause alone.
-        let _ = fourth;
-        match count {
+        let first = self.oldest;
+        let second = first.next();
+        match self.count {
             Count::Nothing => false,
-            Count::One => Held::needs(first) == 0,
-            Count::Two => Held::needs(first) <= 1 || Held::closes_one(second),
-            Count::Three => Held::needs(first) <= 2 || Held::closes_two(second, third),
+            Count::One => Held::needs(self.at(first)) == 0,
+            Count::Two => Held::needs(self.at(first)) <= 1 || Held::closes_one(self.at(second)),
+            Count::Three => {
+                Held::needs(self.at(first)) <= 2
+                    || Held::closes_two(self.at(second), self.at(second.next()))
+            }
             Count::Four => true,
         }
     }
 
-    /// The oldest has what it needs.
-    pub fn is_ready(&self) -> bool
-        ensures { result ≡ is_ready (held_events self.now) }
+    // The oldest opens a collection that the next one closes.
+    #[tactic(auto, using(crate::proofs::Opening::opens_none, crate::proofs::Opening::opens_first))]
+    fn opens_empty(&self) -> bool
+        ensures { result ≡ opens_empty (oldest_event self.now) (later_events self.now) }
     {
-        match self.start {
-            Start::First => Held::is_ready_by(
-                self.count,
-                &self.first,
-                &self.second,
-                &self.third,
-                &self.fourth,
-            ),
-            Start::Second => Held::is_ready_by(
-                self.count,
-                &self.second,
-                &self.third,
-                &self.fourth,
-                &self.first,
-            ),
-            Start::Third => Held::is_ready_by(
-                self.count,
-                &self.third,
-                &self.fourth,
-                &self.first,
-                &self.second,
-            ),
-            Start::Fourth => Held::is_ready_by(
-                self.count,
-                &self.fourth,
-                &self.first,
-                &self.second,
-                &self.third,
-            ),
-        }
-    }
-
-    // An event is laid out where it stands, by whether the next one closes what it opens.
-    fn lay_before(core: &mut Core, event: &mut yaml_event_body_t, next: &yaml_event_body_t)
-        requires { HasUtf8 (body_of event.old) }
-        ensures { LaysOut core.old core.new (emitter_event (body_of event.old))
-            (closes_by (emitter_event (body_of event.old)) (emitter_event (body_of next.now))) }
-    {
-        let empty = Held::closes_by(event, next);
-        core.lay_out(event, empty);
-    }
-
-    // The oldest of the places from it on is laid out where it stands, and is the last place then.
-    #[tactic(auto, unfolding(crate::specs::Held::is_ready))]
-    fn lay_front(
-        core: &mut Core,
-        count: &mut Count,
-        first: &mut yaml_event_body_t,
-        second: &yaml_event_body_t,
-        third: &yaml_event_body_t,
-        fourth: &yaml_event_body_t,
-    )
-        requires ready { is_ready (events_by count.old (emitter_event (body_of first.old))
-            (emitter_event (body_of second.now)) (emitter_event (body_of third.now))
-            (emitter_event (body_of fourth.now))) ≡ true }
-        requires utf8 { Utf8By count.old (body_of first.old) (body_of second.now)
-            (body_of third.now) (body_of fourth.now) }
-        ensures events { events_by count.old (emitter_event (body_of first.old))
-            (emitter_event (body_of second.now)) (emitter_event (body_of third.now))
-            (emitter_event (body_of fourth.now)) ≡ emitter_event (body_of first.old) ∷ events_by
-            count.new (emitter_event (body_of second.now)) (emitter_event (body_of third.now))
-            (emitter_event (body_of fourth.now)) (emitter_event (body_of first.new)) }
-        ensures utf8 { Utf8By count.new (body_of second.now) (body_of third.now)
-            (body_of fourth.now) (body_of first.new) }
-        ensures laid { LaysOut core.old core.new (emitter_event (body_of first.old))
-            (opens_empty (emitter_event (body_of first.old))
-            (events_by count.new (emitter_event (body_of second.now))
-            (emitter_event (body_of third.now)) (emitter_event (body_of fourth.now))
-            (emitter_event (body_of first.new)))) }
-    {
-        // They stay where they are: the clauses alone name them.
-        let _ = third;
-        let _ = fourth;
-        match *count {
-            Count::Nothing => unreachable!(),
-            Count::One => {
-                *count = Count::Nothing;
-                core.lay_out(first, false);
-            }
-            Count::Two => {
-                *count = Count::One;
-                Held::lay_before(core, first, second);
-            }
-            Count::Three => {
-                *count = Count::Two;
-                Held::lay_before(core, first, second);
-            }
-            Count::Four => {
-                *count = Count::Three;
-                Held::lay_before(core, first, second);
-            }
+        match self.count {
+            Count::Nothing | Count::One => false,
+            _ => Held::closes_by(self.at(self.oldest), self.at(self.oldest.next())),
         }
     }
 
     /// Lays out the oldest, which isn't held then.
+    #[tactic(auto, unfolding(crate::specs::Held::is_ready))]
     pub fn lay_oldest(&mut self, core: &mut Core)
         requires ready { is_ready (held_events self.old) ≡ true }
         requires utf8 { HeldUtf8 self.old }
@@ -358,51 +290,9 @@ impl Held {
         ensures laid { LaysOut core.old core.new (oldest_event self.old)
             (opens_empty (oldest_event self.old) (held_events self.new)) }
     {
-        match self.start {
-            Start::First => {
-                Held::lay_front(
-                    core,
-                    &mut self.count,
-                    &mut self.first,
-                    &self.second,
-                    &self.third,
-                    &self.fourth,
-                );
-                self.start = Start::Second;
-            }
-            Start::Second => {
-                Held::lay_front(
-                    core,
-                    &mut self.count,
-                    &mut self.second,
-                    &self.third,
-                    &self.fourth,
-                    &self.first,
-                );
-                self.start = Start::Third;
-            }
-            Start::Third => {
-                Held::lay_front(
-                    core,
-                    &mut self.count,
-                    &mut self.third,
-                    &self.fourth,
-                    &self.first,
-                    &self.second,
-                );
-                self.start = Start::Fourth;
-            }
-            Start::Fourth => {
-                Held::lay_front(
-                    core,
-                    &mut self.count,
-                    &mut self.fourth,
-                    &self.first,
-                    &self.second,
-                    &self.third,
-                );
-                self.start = Start::First;
-            }
-        }
+        let empty = self.opens_empty();
+        self.lay_out(self.oldest, core, empty);
+        self.oldest = self.oldest.next();
+        self.count = self.count.less();
     }
 }

@@ -253,6 +253,7 @@ impl Sink {
     }
 
     // A text in ASCII, one character at least, at once where each is a byte.
+    // Out of line: the rare way, near the limit or in UTF-16, beside the short one.
     #[inline(never)]
     fn put_far(&mut self, text: &[u8])
         requires some { 0 < length text.now }

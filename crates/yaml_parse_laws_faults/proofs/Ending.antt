@@ -18,7 +18,7 @@ use Rattle.yaml_parse_laws_sound.proofs.Standing.{AllStood, FedStood, feed_stood
 use Rattle.yaml_parse_laws_sound.proofs.Closing.{closers, Empty, all_close}
 use Rattle.yaml_parse_laws_faults.specs.LookBack.{followed_by, opened}
 use Rattle.yaml_parse_laws_faults.specs.Wrong.{grammar_fault, directive_fault, handle_fault}
-use Rattle.yaml_parse_laws_faults.specs.Places.{of_handle, of_token, WrongToken, grammar, directive, StandsIn, IsFirst, BeginsWithSentence, with_end, FaultOfTokens, IsToldWith}
+use Rattle.yaml_parse_laws_faults.specs.Places.{of_handle, of_token, WrongToken, grammar, directive, StandsIn, BeginsWithSentence, with_end, FaultOfTokens, IsToldWith}
 use Rattle.yaml_parse_laws_faults.specs.Laws.{EndsInFault, FaultEnds, FaultIsToldAtPlace}
 use Rattle.yaml_parse_laws_faults.proofs.Unique.{one_fault}
 use Rattle.yaml_parse_laws_faults.proofs.Cuts.{followed_on, followed_length}
@@ -33,27 +33,27 @@ use Rattle.yaml_parse_laws_faults.proofs.Taking.{stack_solid, Takes, takes, Stop
 use Rattle.yaml_parse_laws_faults.proofs.Clean.{Clean, Unfinished, FirstAt, no_fault, free, handle_first, token_first, no_sentence, no_whole_sentence}
 
 -- what the stack and the directives are behind the tokens that were read
-record At (x : State) (s : List State) (past : List Token) (ds : Directives) : Type 0 where
-  signs : open_in (x ∷ s) ≡ signs_of (opened past)
-  last : told x ≡ last_in past
-  plain : Plain s
-  nested : Nested (x ∷ s)
-  stack : IsStack (x ∷ s)
-  stood : AllStood (x ∷ s)
-  dirs : Dirs (x ∷ s) past ds
-  props : PropsTop (x ∷ s) past
-  reached : (us : List Token) (f : Option Fault) → (run (followed_by past us) initial f).ending ≡ (run us (x ∷ s) f).ending
-  goes : (us : List Token) → Over (x ∷ s) Empty us → Over initial Empty (followed_by past us)
-  clean : Clean past
-  unfinished : Unfinished past
+pub record At (x : State) (s : List State) (past : List Token) (ds : Directives) : Type 0 where
+  pub signs : open_in (x ∷ s) ≡ signs_of (opened past)
+  pub last : told x ≡ last_in past
+  pub plain : Plain s
+  pub nested : Nested (x ∷ s)
+  pub stack : IsStack (x ∷ s)
+  pub stood : AllStood (x ∷ s)
+  pub dirs : Dirs (x ∷ s) past ds
+  pub props : PropsTop (x ∷ s) past
+  pub reached : (us : List Token) (f : Option Fault) → (run (followed_by past us) initial f).ending ≡ (run us (x ∷ s) f).ending
+  pub goes : (us : List Token) → Over (x ∷ s) Empty us → Over initial Empty (followed_by past us)
+  pub clean : Clean past
+  pub unfinished : Unfinished past
 
 -- ---- a step of the machine
 
-runs_fed : (s : List State) (t : Token) (ts : List Token) (f : Option Fault) (fed : Fed) → feed s t ≡ fed → run (t ∷ ts) s f ≡ carry (length ts) fed (λ s'. run ts s' f)
+pub runs_fed : (s : List State) (t : Token) (ts : List Token) (f : Option Fault) (fed : Fed) → feed s t ≡ fed → run (t ∷ ts) s f ≡ carry (length ts) fed (λ s'. run ts s' f)
 unfolding run
 runs_fed s t ts f fed p = ap (λ (d : Fed). carry (length ts) d (λ s'. run ts s' f)) p
 
-runs_out : (s : List State) (fed : Fed) → feed s no_token ≡ fed → run [] s None ≡ carry 0 fed (λ _. finished)
+pub runs_out : (s : List State) (fed : Fed) → feed s no_token ≡ fed → run [] s None ≡ carry 0 fed (λ _. finished)
 unfolding run
 runs_out s fed p = ap (λ (d : Fed). carry 0 d (λ _. finished)) p
 
@@ -94,7 +94,7 @@ ends_none ts f n h = record { fault = h; told = tt }
 abbrev over_closers : State → List State → List Token
 over_closers x s = closers zero_mark (x ∷ s)
 
-sentence_tree : (ts : List Token) → Over initial Empty ts → (tree : Stream) × (ts ≡ spell tree [])
+pub sentence_tree : (ts : List Token) → Over initial Empty ts → (tree : Stream) × (ts ≡ spell tree [])
 sentence_tree ts h = (h.tree, h.same ∙ ap (spell h.tree) h.goes)
 
 goes_on : (past : List Token) (t : Token) (us : List Token) → Over initial Empty (followed_by past (t ∷ us)) → GoesOn (followed_by past (t ∷ []))
@@ -121,16 +121,16 @@ refused_told x s past ds t is e a p =
 
 -- ---- a fault at a token
 
-record Found (past : List Token) (t : Token) (o : Option Fault) : Type 0 where
-  told : Fault
-  same : o ≡ Some told
-  first : (ts : List Token) → FirstAt (followed_by past (t ∷ ts)) (length past) told
-  no_sentence : (ts : List Token) → BeginsWithSentence (followed_by past (t ∷ ts)) → ⊥
+pub record Found (past : List Token) (t : Token) (o : Option Fault) : Type 0 where
+  pub told : Fault
+  pub same : o ≡ Some told
+  pub first : (ts : List Token) → FirstAt (followed_by past (t ∷ ts)) (length past) told
+  pub no_sentence : (ts : List Token) → BeginsWithSentence (followed_by past (t ∷ ts)) → ⊥
 
-found_handle : (x : State) (s : List State) (past : List Token) (ds : Directives) (t : Token) (e : Fault) (o : Option Fault) → At x s past ds → handle_fault past t.body ≡ Some e → o ≡ Some e → Found past t o
+pub found_handle : (x : State) (s : List State) (past : List Token) (ds : Directives) (t : Token) (e : Fault) (o : Option Fault) → At x s past ds → handle_fault past t.body ≡ Some e → o ≡ Some e → Found past t o
 found_handle x s past ds t e o a h p = record { told = e; same = p; first = λ ts. handle_first past t ts e a.clean h; no_sentence = λ ts. no_sentence past t ts of_handle e a.unfinished h }
 
-found_token : (x : State) (s : List State) (past : List Token) (ds : Directives) (t : Token) (e : Fault) (o : Option Fault) → At x s past ds → handle_fault past t.body ≡ None → WrongToken past t e → o ≡ Some e → Found past t o
+pub found_token : (x : State) (s : List State) (past : List Token) (ds : Directives) (t : Token) (e : Fault) (o : Option Fault) → At x s past ds → handle_fault past t.body ≡ None → WrongToken past t e → o ≡ Some e → Found past t o
 found_token x s past ds t e o a h w p = record { told = e; same = p; first = λ ts. token_first past t ts e a.clean h w; no_sentence = λ ts. no_sentence past t ts of_token e a.unfinished w }
 
 -- a token that is refused
@@ -138,14 +138,14 @@ stopped_fine : (d : Done) (e : Fault) → IsFine d → ending_of d (λ ds. Some 
 stopped_fine (bad f) e h = absurd h
 stopped_fine (fine ds) e h = refl
 
-stopped : (x : State) (s : List State) (past : List Token) (ds : Directives) (t : Token) (is : List RawEvent) (e : Fault) (f : Option Fault) → At x s past ds → feed (x ∷ s) t ≡ stop is e
+pub stopped : (x : State) (s : List State) (past : List Token) (ds : Directives) (t : Token) (is : List RawEvent) (e : Fault) (f : Option Fault) → At x s past ds → feed (x ∷ s) t ≡ stop is e
     → handle_fault past t.body ≡ f → Step past ds t f (stop is e) → (o : Option Fault) → o ≡ ending_of (read_all is ds) (λ d. Some e) → Found past t o
 stopped x s past ds t is e (Some g) a p h k o q = found_handle x s past ds t g o a h (q ∙ ap (λ (d : Done). ending_of d (λ z. Some e)) k)
 stopped x s past ds t is e None a p h k o q =
     found_token x s past ds t e o a h (grammar (refused_token x s past ds t is e a p) (refused_told x s past ds t is e a p)) (q ∙ stopped_fine (read_all is ds) e k)
 
 -- the list's fault where one is found in it
-found_first : (past : List Token) (t : Token) (ts : List Token) (f o : Option Fault) (d : Found past t o) → FirstAt (with_end f (followed_by past (t ∷ ts))) (length past) d.told
+pub found_first : (past : List Token) (t : Token) (ts : List Token) (f o : Option Fault) (d : Found past t o) → FirstAt (with_end f (followed_by past (t ∷ ts))) (length past) d.told
 found_first past t ts None o d = subst (λ (us : List Token). FirstAt us (length past) d.told) (sym (followed_on past (t ∷ ts) (no_token ∷ []))) (d.first (ts ++ no_token ∷ []))
 found_first past t ts (Some g) o d = d.first ts
 
@@ -176,10 +176,10 @@ found_at_end past o u d =
 -- ---- a token that is taken
 
 -- the stack waits for nothing where no state is left
-taken_goes : (x : State) (s s' : List State) (past : List Token) (ds : Directives) (t : Token) (is : List RawEvent) → At x s past ds → feed (x ∷ s) t ≡ go is s' → (us : List Token) → Over s' Empty us → Over initial Empty (followed_by past (t ∷ us))
+pub taken_goes : (x : State) (s s' : List State) (past : List Token) (ds : Directives) (t : Token) (is : List RawEvent) → At x s past ds → feed (x ∷ s) t ≡ go is s' → (us : List Token) → Over s' Empty us → Over initial Empty (followed_by past (t ∷ us))
 taken_goes x s s' past ds t is a p us h = a.goes (t ∷ us) (subst (Takes Empty (x ∷ s) t) p (takes Empty (x ∷ s) t (stack_solid x s a.stack)) us h)
 
-taken_on : (x : State) (s s' : List State) (past : List Token) (ds : Directives) (t : Token) (is : List RawEvent) → At x s past ds → feed (x ∷ s) t ≡ go is s' → GoesOn (followed_by past (t ∷ []))
+pub taken_on : (x : State) (s s' : List State) (past : List Token) (ds : Directives) (t : Token) (is : List RawEvent) → At x s past ds → feed (x ∷ s) t ≡ go is s' → GoesOn (followed_by past (t ∷ []))
 taken_on x s s' past ds t is a p = goes_on past t (closers zero_mark s') (taken_goes x s s' past ds t is a p (closers zero_mark s') (all_close zero_mark s'))
 
 taken_reached : (x : State) (s s' : List State) (past : List Token) (ds : Directives) (t : Token) (is : List RawEvent) → At x s past ds → feed (x ∷ s) t ≡ go is s'
@@ -197,7 +197,7 @@ not_done x s past r tree p =
     not_none g
     (sym (r [] (Some g) ∙ run_some x s g) ∙ ap (λ (us : List Token). (run us initial (Some g)).ending) p ∙ ap (λ (o : Outcome). o.ending) (stream_runs tree [] (Some g)))
 
-taken_at : (x : State) (s : List State) (y : State) (s' : List State) (past : List Token) (ds ds' : Directives) (t : Token) (is : List RawEvent) → At x s past ds → feed (x ∷ s) t ≡ go is (y ∷ s')
+pub taken_at : (x : State) (s : List State) (y : State) (s' : List State) (past : List Token) (ds ds' : Directives) (t : Token) (is : List RawEvent) → At x s past ds → feed (x ∷ s) t ≡ go is (y ∷ s')
     → handle_fault past t.body ≡ None → directive_fault past t.body t.start_mark ≡ None → Dirs (y ∷ s') (t ∷ past) ds' → At y s' (t ∷ past) ds'
 taken_at x s y s' past ds ds' t is a p h d i =
     let k : Stacked t.body t.start_mark (open_in (x ∷ s)) (y ∷ s') = subst (FedKept t.body t.start_mark (open_in (x ∷ s))) p (fed_kept x s t a.stack a.plain a.nested) in
@@ -280,7 +280,7 @@ at_last x s past ds (stop is e) a p r h =
     (found_at_end past _ a.unfinished (stopped x s past ds no_token is e (handle_fault past no_token.body) a p refl r _ (read_stop is e 0 (λ _. finished) ds)))
 at_last x s past ds (go is s') a p r h = absurd (no_stop is s' h)
 
-step_at : (x : State) (s : List State) (past : List Token) (ds : Directives) (t : Token) → At x s past ds → Step past ds t (handle_fault past t.body) (feed (x ∷ s) t)
+pub step_at : (x : State) (s : List State) (past : List Token) (ds : Directives) (t : Token) → At x s past ds → Step past ds t (handle_fault past t.body) (feed (x ∷ s) t)
 step_at x s past ds t a = step_read x s t past ds a.stack a.plain a.nested a.dirs a.last a.props
 
 -- a step of the list
@@ -305,7 +305,7 @@ ends (t ∷ ts) past x s ds f a =
     ends_same (followed_by past (t ∷ ts)) f _ _ _ _ (ap (λ (o : Outcome). (reading_of o ds).ending) (runs_fed (x ∷ s) t ts f (feed (x ∷ s) t) refl)) (step_number (x ∷ s) t ts f ds)
     (stepped x s past ds t ts f (feed (x ∷ s) t) (handle_fault past t.body) a refl refl (step_at x s past ds t a) (λ y z ds' b. ends ts (t ∷ past) y z ds' f b))
 
-at_start : At state.stream [] [] no_directives
+pub at_start : At state.stream [] [] no_directives
 at_start = record {
   signs = refl;
   last = refl;

@@ -1,15 +1,16 @@
-mod Cuts
-mod Unique
-mod Standing
+pub mod Spelling
+pub mod Cuts
+pub mod Unique
+pub mod Standing
 mod Refusing
 mod Keeping
-mod Settling
-mod Properties
-mod Stepping
-mod Going
-mod Tagging
-mod Clean
-mod Taking
+pub mod Settling
+pub mod Properties
+pub mod Stepping
+pub mod Going
+pub mod Tagging
+pub mod Clean
+pub mod Taking
 pub mod Ending
 mod Rows
 -- the laws beneath, for crates that name this one alone

@@ -25,7 +25,7 @@ use Rattle.yaml_parse_laws_faults.proofs.Settling.{Done, bad, fine, then_read, r
 
 -- ---- a state that never leaves is at the bottom
 
-abbrev SolidAt : State → Type 0 → Type 0
+abbrev pub SolidAt : State → Type 0 → Type 0
 SolidAt state.stream below = Unit {0}
 SolidAt state.first below = Unit {0}
 SolidAt state.documents below = Unit {0}
@@ -55,7 +55,7 @@ stack_solid state.documents s h = tt
 stack_solid (state.directives from) s h = tt
 stack_solid x s h = inside_solid (x ∷ s) h
 
-solid_left : (x : State) (k : yaml_token_type_t) (A : Type 0) → choice_at x k ≡ Leave → SolidAt x A → A
+pub solid_left : (x : State) (k : yaml_token_type_t) (A : Type 0) → choice_at x k ≡ Leave → SolidAt x A → A
 solid_left state.stream kind.YAML_STREAM_START_TOKEN A c h = cc
 solid_left state.stream _ A c h = cc
 solid_left state.first k A c h = absurd (not_left_first (parts_documents k) (starts_node (Block None) k) problem.NoBlockNode c)

@@ -18,7 +18,7 @@ one_wrong past t e f (directive g p) (grammar m q) = absurd (m g)
 one_wrong past t e f (directive g p) (directive h q) = same_some (directive_fault past t.body t.start_mark) e f p q
 
 -- one fault at each place
-one_at : (past : List Token) (t : Token) (r : Rank) (e f : Fault) → FaultAt past t r e → FaultAt past t r f → e ≡ f
+pub one_at : (past : List Token) (t : Token) (r : Rank) (e f : Fault) → FaultAt past t r e → FaultAt past t r f → e ≡ f
 one_at past t of_handle e f p q = same_some (handle_fault past t.body) e f p q
 one_at past t of_token e f p q = one_wrong past t e f p q
 

@@ -1,4 +1,8 @@
-//! What taking a token gives, built from the moved token.
+//! What taking a token gives, built from the moved token, where `choosing.rt` says that the state takes it.
+//!
+//! It looks at the state and the token once more, since both are moved here: the texts and properties that it gives stand in
+//! them. A value in between that names the rule would hold neither, and each rule would still have to ask for its token, with an
+//! arm for all others. What holds the two tables together stands at the head of `choosing.rt`.
 
 ghost use Rattle.std.specs.Prelude.{◌≡◌, ◌++◌, ◌∷◌, OnOk, IfOk, false, Some, None};
 ghost use Rattle.yaml_parse_grammar.specs.declared.name.Site.TheVariants.{IndentlessEntry};

@@ -16,7 +16,7 @@ use Rattle.yaml_round_kept.specs.Kept.{Keeps, is_told}
 use Rattle.yaml_round_laws_documents.specs.round_laws_back.content.Normalize.{normalize_body, normalize_scalar, is_lone_mark}
 use Rattle.yaml_round_laws_documents.specs.round_laws_back.content.Input.{Reads, events_of}
 use Rattle.yaml_round_compare.specs.Reading.{contents, GivesFront}
-use Rattle.yaml_round.specs.Answers.{IsRight, IsReadBack}
+use Rattle.yaml_round_compare.specs.Answers.{IsRight, IsReadBack}
 use Rattle.yaml_round.specs.Kept.{told_bytes, AreTold, KeptOn, KeepsAll, SaysAll, SaysKept}
 use Rattle.yaml_round.proofs.Telling.{same_front, says_same}
 use Rattle.yaml_round_compare.proofs.Plain.{right_ending, same_content, content_same, second_right}

@@ -6,8 +6,9 @@ ghost use Rattle.yaml_parse.specs.Events.{event_of};
 ghost use Rattle.yaml_round_kept.specs.Spelled.{spelled};
 ghost use Rattle.yaml_round_laws_documents.specs.round_laws_back.content.Normalize.{normalize_body};
 ghost use Rattle.yaml_round_compare.specs.Reading.{AreReal};
+ghost use Rattle.yaml_round_compare.specs.Answers.{IsRight, IsReadBack};
 ghost use Rattle.yaml_round.specs.Kept.{KeepsAll, TellsKept, SaysKept};
-ghost use Rattle.yaml_round.specs.Answers.{IsRight, IsReadBack, IsKnown};
+ghost use Rattle.yaml_round.specs.Answers.{IsKnown};
 
 use std::alloc::Global;
 use yaml_parse::{yaml_event_t, yaml_found_t};
@@ -33,7 +34,7 @@ fn left_behind<'a>(left: &'a [u8], event: &mut yaml_event_t) -> Option<&'a [u8]>
     after_event(left, event)
 }
 
-// Whether the events say what is kept, to its end. The first fault ends it.
+// Whether the text's events say what is kept, to its end. The first fault ends it.
 fn same_as_kept(text: &mut Reading<'_>, kept: &[u8]) -> Result<bool, yaml_fault_t>
     requires { AreReal text.old.parser.events }
     ensures { TellsKept kept.now text.old.parser result }

@@ -16,7 +16,7 @@ use Rattle.yaml_round_content.specs.Said.{Document, HasContent, stream_says}
 use Rattle.yaml_round_content.proofs.Injective.{says_injective}
 use Rattle.yaml_round_laws_reading.specs.TreeContent.{tree_content}
 use Rattle.yaml_round_laws_reading.specs.Reading.{TokensRead, InputsRead, ReadingIsOne, RefusedIsRead, ReadIsRefused, SaidIsRead, ReadIsSaid, EventsAreOfTree}
-use Rattle.yaml_round_laws_reading.proofs.Spelling.{spelled_before}
+use Rattle.yaml_round_content.proofs.round_laws.emit_laws_streams.parse.parse_laws_faults.Spelling.{spelled_before}
 use Rattle.yaml_round_laws_reading.proofs.Documents.{tree_says}
 
 -- ---- tokens

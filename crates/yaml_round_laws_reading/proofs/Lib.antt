@@ -1,4 +1,3 @@
-mod Spelling
 mod Saying
 mod Documents
 pub mod Joining

@@ -361,6 +361,7 @@ fn push_escaped_end(line: &mut Vec<u8>, text: &[u8]) -> Result<(), AllocError>
 }
 
 // Adds a short value and the line's end, for which there is room where nothing is escaped.
+// Inlined: some stores, for a short text.
 #[inline(always)]
 fn push_short(line: &mut Vec<u8>, value: &[u8]) -> Result<(), AllocError>
     requires { vec_len line.old + length value.now < vec_capacity line.old }

@@ -78,7 +78,12 @@ fn one_run(
 ) -> Result<PlainScalar, ScanError>
     requires start { start ≡ mark_at reader.now.text start.index }
     ensures { ReadsPlain reader.now.text start.index reader.now result
-        (Ok (record { value = bytes.now; end = reader.now.at; place = reader.now.at; broke = false })) }
+        (Ok (record {
+          value = bytes.now;
+          end = reader.now.at;
+          place = reader.now.at;
+          broke = false;
+        })) }
 {
     let value = copied(alloc, bytes)?;
     Ok(PlainScalar {
@@ -125,7 +130,12 @@ fn one_line<'a>(
     requires start { start ≡ mark_at reader.old.text start.index }
     requires same { ahead.now.text ≡ reader.old.text }
     ensures { ReadsPlain reader.old.text start.index reader.new result
-        (Ok (record { value = bytes.now; end = reader.old.at; place = ahead.now.at; broke = true })) }
+        (Ok (record {
+          value = bytes.now;
+          end = reader.old.at;
+          place = ahead.now.at;
+          broke = true;
+        })) }
 {
     let value = copied(alloc, bytes)?;
     let end_mark = reader.mark();

@@ -150,6 +150,7 @@ impl yaml_emitter_t {
         ensures refused { self.new.fault ≢ None → self.new.closed ≡ self.old.closed }
     {
         if document.node_count() == 0 {
+            // The emitter keeps its fault.
             let _ = yaml_emitter_close(self);
         } else {
             self.dump_document(document);

@@ -1,8 +1,9 @@
 //! Whether a text reads back, told by what was kept of the input's reading.
 
-ghost use Rattle.std.specs.Prelude.{◌≢◌, ◌≡◌, ◌++◌, true, ℕ, List, Some, MatchOption};
+ghost use Rattle.std.specs.Prelude.{true, ℕ, List, Some};
 ghost use Rattle.yaml_scan.specs.Faults.{Answers, parse_layers};
 ghost use Rattle.yaml_parse.specs.Events.{event_of};
+ghost use Rattle.yaml_round_kept.specs.Kept.{Leaves};
 ghost use Rattle.yaml_round_kept.specs.Spelled.{spelled};
 ghost use Rattle.yaml_round_laws_documents.specs.round_laws_back.content.Normalize.{normalize_body};
 ghost use Rattle.yaml_round_compare.specs.Reading.{AreReal};
@@ -25,10 +26,7 @@ pub(crate) struct Known {
 
 // What is left of the kept content behind a normalized event of the text.
 fn left_behind<'a>(left: &'a [u8], event: &mut yaml_event_t) -> Option<&'a [u8]>
-    ensures { MatchOption result
-        ((rest : List ℕ) → left.now ≢ spelled (normalize_body true (event_of event.old).body)
-        ++ rest)
-        (λ x. left.now ≡ spelled (normalize_body true (event_of event.old).body) ++ x.now) }
+    ensures { Leaves (spelled (normalize_body true (event_of event.old).body)) left.now result }
 {
     normalize_event(event, true);
     after_event(left, event)

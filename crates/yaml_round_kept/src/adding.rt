@@ -107,7 +107,8 @@ fn add_scalar(
 // Adds what a normalized event says.
 #[tactic(auto, unfolding(crate::specs::Spelled::spelled))]
 fn add_event(bytes: &mut Vec<u8>, event: &yaml_event_t) -> Result<(), AllocError>
-    ensures { OnOk result (bytes.new.items ≡ bytes.old.items ++ spelled (event_of event.now).body) }
+    ensures { OnOk result (bytes.new.items ≡ bytes.old.items
+        ++ spelled (event_of event.now).body) }
 {
     match &event.body {
         yaml_event_body_t::No => add_head(bytes, 0),

@@ -1,7 +1,8 @@
 //! What was kept, compared with what an event says.
 
-ghost use Rattle.std.specs.Prelude.{◌≡◌, ◌≢◌, ◌++◌, ◌∷◌, ◌≤◌, ℕ, List, [], MatchOption};
+ghost use Rattle.std.specs.Prelude.{◌++◌, ◌∷◌, []};
 ghost use Rattle.yaml_parse_model.specs.Events.{event_of, text_of};
+ghost use Rattle.yaml_round_kept.specs.Kept.{Leaves};
 ghost use Rattle.yaml_round_kept.specs.Spelled.{length_bytes, long_bytes, text_bytes, given_bytes, start_bytes, spelled};
 
 use crate::spelling::{LONG, document_head, mapping_head, scalar_head, sequence_head};
@@ -9,8 +10,7 @@ use yaml_parse_model::{yaml_event_body_t, yaml_event_t};
 
 // What stands behind a byte, where it stands in front.
 fn after_byte<'a>(left: &'a [u8], byte: u8) -> Option<&'a [u8]>
-    ensures { MatchOption result ((rest : List ℕ) → left.now ≢ byte ∷ rest)
-        (λ x. left.now ≡ byte ∷ x.now) }
+    ensures { Leaves (byte ∷ []) left.now result }
 {
     match left.split_first() {
         None => None,
@@ -20,8 +20,7 @@ fn after_byte<'a>(left: &'a [u8], byte: u8) -> Option<&'a [u8]>
 
 // What stands behind a number, which needn't be a byte's.
 fn after_number<'a>(left: &'a [u8], number: usize) -> Option<&'a [u8]>
-    ensures { MatchOption result ((rest : List ℕ) → left.now ≢ number ∷ rest)
-        (λ x. left.now ≡ number ∷ x.now) }
+    ensures { Leaves (number ∷ []) left.now result }
 {
     match left.split_first() {
         None => None,
@@ -37,8 +36,7 @@ fn after_number<'a>(left: &'a [u8], number: usize) -> Option<&'a [u8]>
 // Out of line: most texts are short.
 #[inline(never)]
 fn after_long<'a>(left: &'a [u8], length: usize) -> Option<&'a [u8]>
-    ensures { MatchOption result ((rest : List ℕ) → left.now ≢ long_bytes length ++ rest)
-        (λ x. left.now ≡ long_bytes length ++ x.now) }
+    ensures { Leaves (long_bytes length) left.now result }
 {
     let left = after_byte(left, LONG)?;
     let left = after_byte(left, (length % 256) as u8)?;
@@ -49,8 +47,7 @@ fn after_long<'a>(left: &'a [u8], length: usize) -> Option<&'a [u8]>
 
 #[tactic(auto, unfolding(crate::specs::Spelled::length_bytes))]
 fn after_length<'a>(left: &'a [u8], length: usize) -> Option<&'a [u8]>
-    ensures { MatchOption result ((rest : List ℕ) → left.now ≢ length_bytes length ++ rest)
-        (λ x. left.now ≡ length_bytes length ++ x.now) }
+    ensures { Leaves (length_bytes length) left.now result }
 {
     if length < 255 {
         return after_byte(left, length as u8);
@@ -60,24 +57,20 @@ fn after_length<'a>(left: &'a [u8], length: usize) -> Option<&'a [u8]>
 
 // What stands behind these bytes, where they stand in front.
 fn after_bytes<'a>(left: &'a [u8], text: &[u8]) -> Option<&'a [u8]>
-    ensures { MatchOption result ((rest : List ℕ) → left.now ≢ text.now ++ rest)
-        (λ x. left.now ≡ text.now ++ x.now) }
+    ensures { Leaves text.now left.now result }
 {
     left.strip_prefix(text)
 }
 
 fn after_text<'a>(left: &'a [u8], text: &[u8]) -> Option<&'a [u8]>
-    ensures { MatchOption result ((rest : List ℕ) → left.now ≢ text_bytes text.now ++ rest)
-        (λ x. left.now ≡ text_bytes text.now ++ x.now) }
+    ensures { Leaves (text_bytes text.now) left.now result }
 {
     let left = after_length(left, text.len())?;
     after_bytes(left, text)
 }
 
 fn after_given<'a>(left: &'a [u8], text: &Option<Vec<u8>>) -> Option<&'a [u8]>
-    ensures { MatchOption result ((rest : List ℕ) →
-        left.now ≢ given_bytes (text_of text.now) ++ rest)
-        (λ x. left.now ≡ given_bytes (text_of text.now) ++ x.now) }
+    ensures { Leaves (given_bytes (text_of text.now)) left.now result }
 {
     match text {
         None => Some(left),
@@ -86,8 +79,7 @@ fn after_given<'a>(left: &'a [u8], text: &Option<Vec<u8>>) -> Option<&'a [u8]>
 }
 
 fn after_name<'a>(left: &'a [u8], head: u8, name: &[u8]) -> Option<&'a [u8]>
-    ensures { MatchOption result ((rest : List ℕ) → left.now ≢ (head ∷ text_bytes name.now) ++ rest)
-        (λ x. left.now ≡ (head ∷ text_bytes name.now) ++ x.now) }
+    ensures { Leaves (head ∷ text_bytes name.now) left.now result }
 {
     let left = after_byte(left, head)?;
     after_text(left, name)
@@ -99,9 +91,7 @@ fn after_start<'a>(
     anchor: &Option<Vec<u8>>,
     tag: &Option<Vec<u8>>,
 ) -> Option<&'a [u8]>
-    ensures { MatchOption result ((rest : List ℕ) →
-        left.now ≢ start_bytes head (text_of anchor.now) (text_of tag.now) ++ rest)
-        (λ x. left.now ≡ start_bytes head (text_of anchor.now) (text_of tag.now) ++ x.now) }
+    ensures { Leaves (start_bytes head (text_of anchor.now) (text_of tag.now)) left.now result }
 {
     let left = after_byte(left, head)?;
     let left = after_given(left, anchor)?;
@@ -116,11 +106,8 @@ fn after_scalar<'a>(
     tag: &Option<Vec<u8>>,
     value: &[u8],
 ) -> Option<&'a [u8]>
-    ensures { MatchOption result
-        ((rest : List ℕ) → left.now ≢ start_bytes head (text_of anchor.now) (text_of tag.now)
-        ++ text_bytes value.now ++ rest)
-        (λ x. left.now ≡ start_bytes head (text_of anchor.now) (text_of tag.now)
-        ++ text_bytes value.now ++ x.now) }
+    ensures { Leaves (start_bytes head (text_of anchor.now) (text_of tag.now)
+        ++ text_bytes value.now) left.now result }
 {
     let left = after_start(left, head, anchor, tag)?;
     after_text(left, value)
@@ -129,9 +116,7 @@ fn after_scalar<'a>(
 /// What is left behind what a normalized event says, where that stands in front of what is left.
 #[tactic(auto, unfolding(crate::specs::Spelled::spelled))]
 pub fn after_event<'a>(left: &'a [u8], event: &yaml_event_t) -> Option<&'a [u8]>
-    ensures { MatchOption result ((rest : List ℕ) →
-        left.now ≢ spelled (event_of event.now).body ++ rest)
-        (λ x. left.now ≡ spelled (event_of event.now).body ++ x.now) }
+    ensures { Leaves (spelled (event_of event.now).body) left.now result }
 {
     match &event.body {
         yaml_event_body_t::No => after_byte(left, 0),

@@ -1,5 +1,5 @@
 mod Placing
-mod Unique
+pub mod Unique
 mod Faring
 mod Fitting
 mod Taking

@@ -5,5 +5,6 @@ mod Rows
 mod Placing
 mod Placed
 mod Numbered
+pub mod Loaded
 -- the laws beneath, for crates that name this one alone
 pub use Rattle.yaml_round_content.proofs as round_content

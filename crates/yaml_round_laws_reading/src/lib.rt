@@ -4,6 +4,7 @@
 #![tactic(auto)]
 
 ghost use Rattle.yaml_round_laws_reading.specs.Loading.{EventsArePlaced, InputsAreNumbered, LoadsAreNumbered, LoadsAreOneByOne};
+ghost use Rattle.yaml_round_laws_reading.specs.PlainLoading.{FaultlessLoad, FaultyLoad, InputsLoad, LoadingIsLoads, LoadingIsOne};
 ghost use Rattle.yaml_round_laws_reading.specs.Reading.{EventsAreOfTree, InputsRead, ReadIsRefused, ReadIsSaid, ReadingIsOne, RefusedIsRead, SaidIsRead};
 ghost use Rattle.yaml_round_laws_reading.specs.Rows.{RowsHold};
 
@@ -74,4 +75,30 @@ pub fn inputs_are_numbered()
 /// The documents of events are those that `yaml_parser_load` gives, one after another.
 pub fn loads_are_one_by_one()
     ensures { LoadsAreOneByOne }
+{}
+
+/// What an input loads is its plain loading: the documents of its tree, numbered, where it is a sentence
+/// in which each alias has its anchor; else the fault of loading its tokens, the one of the least place.
+pub fn an_input_loads_its_loading()
+    ensures { InputsLoad }
+{}
+
+/// It has one loading alone.
+pub fn an_input_has_one_loading()
+    ensures { LoadingIsOne }
+{}
+
+/// And its plain loading is what it loads.
+pub fn the_loading_is_what_it_loads()
+    ensures { LoadingIsLoads }
+{}
+
+/// By parts: where no fault ends an input's loads, their documents are its plain loading.
+pub fn what_loads_without_fault_is_its_loading()
+    ensures { FaultlessLoad }
+{}
+
+/// And a fault that ends them is its plain loading.
+pub fn the_fault_of_loads_is_its_loading()
+    ensures { FaultyLoad }
 {}

@@ -1,10 +1,10 @@
 -- The laws of reloads, from the clauses of the calls.
-use Rattle.std.proofs.Common.{◌≡◌, ℕ, true, List, Ok, map, refl, sym, ap, ◌∙◌}
+use Rattle.std.proofs.Common.{ℕ, true, List, Ok, map, sym, ap, ◌∙◌}
 use Rattle.yaml_round.specs.round_laws_documents.round_laws_back.content.round_laws.emit_laws_streams.scan.declared.yaml_encoding_t.{yaml_encoding_t}
 use Rattle.yaml_round.specs.round_laws_documents.round_laws_back.content.round_laws.emit_laws_streams.scan.declared.yaml_encoding_t.TheVariants.{YAML_ANY_ENCODING}
 use Rattle.yaml_round.specs.round_laws_documents.round_laws_back.content.Loads.{loads_of}
 use Rattle.yaml_round.specs.round_laws_documents.round_laws_back.content.Said as content
-use Rattle.yaml_round.specs.round_laws_documents.round_laws_loads.Agree.{core_of, AreAgreeing}
+use Rattle.yaml_round.specs.round_laws_documents.round_laws_loads.Agree.{core_of}
 use Rattle.yaml_round.proofs.round_laws_documents.Whole.{inputs_load_alike, names_do_not_matter}
 use Rattle.yaml_round.proofs.round_laws_documents.round_laws_loads.Walks.{agreeing_said}
 use Rattle.yaml_round.proofs.round_laws_documents.round_laws_reading.Joining.{read_said}

@@ -3,4 +3,6 @@
 
 mod laws;
 
-pub use laws::{answers_and_reloads_agree, names_leave_reloads, reloads_tell_documents};
+pub use laws::{
+    answers_and_reloads_agree, names_leave_reloads, reloads_are_of_loading, reloads_tell_documents,
+};

@@ -1,0 +1,103 @@
+-- What an input loads is its plain loading.
+use Rattle.std.proofs.Common.{◌≡◌, ℕ, List, [], ◌∷◌, Option, Some, None, Result, Ok, Err, refl, ap, sym, subst, ◌∙◌}
+use Rattle.yaml_round_content.specs.round_laws.emit_laws_streams.parse.parse_laws_faults.grammar.parse_model.declared.yaml_encoding_t.{yaml_encoding_t}
+use Rattle.yaml_round_content.specs.round_laws.emit_laws_streams.parse.parse_laws_faults.grammar.parse_model.Tokens.{Token}
+use Rattle.yaml_round_content.specs.round_laws.emit_laws_streams.parse.parse_laws_faults.grammar.parse_model.Faults.{Fault}
+use Rattle.yaml_round_content.specs.round_laws.emit_laws_streams.parse.parse_laws_faults.grammar.parse_model.Nodes.{Node}
+use Rattle.yaml_round_content.specs.round_laws.emit_laws_streams.parse.parse_laws_faults.grammar.Resolve.{Reading, Told}
+use Rattle.yaml_round_content.specs.round_laws.emit_laws_streams.parse.parse_laws_faults.Places.{BeginsWithSentence}
+use Rattle.yaml_round_content.specs.round_laws.emit_laws_streams.parse.Documents.{Document}
+use Rattle.yaml_round_content.specs.round_laws.emit_laws_streams.parse.Loading.{Loading, Fed, goes_on, loaded, refused, nothing_loaded, step}
+use Rattle.yaml_parse_laws_loading.specs.Faults.{LoadsSentence, FaultOfLoading, unless_rootless, fault_on, fault_of_loads}
+use Rattle.yaml_parse_laws_loading.proofs.Unique.{one_load_fault}
+use Rattle.yaml_parse_laws_loading.proofs.Ending.{loads_end_in_fault}
+use Rattle.yaml_round_content.specs.Input.{tokens_of}
+use Rattle.yaml_round_content.specs.Loads.{Loads, in_front, load_on, load_all, loads_of}
+use Rattle.yaml_round_laws_reading.specs.TreeDocuments.{tree_documents, numbered}
+use Rattle.yaml_round_laws_reading.specs.Loading.{read_of}
+use Rattle.yaml_round_laws_reading.specs.PlainLoading.{HaveDocuments, TokensLoad, unless_faulty, result_of, InputsLoad, LoadingIsOne, LoadingIsLoads, FaultlessLoad, FaultyLoad}
+use Rattle.yaml_round_laws_reading.proofs.Joining.{read_is}
+use Rattle.yaml_round_laws_reading.proofs.Numbered.{loads_numbered}
+use Rattle.yaml_parse_loader.proofs.Loads.{loads_document}
+
+-- ---- the fault that ends loads
+
+in_front_alike : (ns : List Node) (d : Document) (rest : Loads) (f : Option Fault) → rest.fault ≡ f → (in_front ns d rest).fault ≡ unless_rootless ns f
+in_front_alike [] d rest f h = refl
+in_front_alike (n ∷ ns) d rest f h = h
+
+on_alike : (c : Fed) (p : Loading → Loads) (q : Loading → Option Fault) → ((l : Loading) → (p l).fault ≡ q l) → (load_on c p).fault ≡ fault_on c q
+on_alike (goes_on l) p q h = h l
+on_alike (loaded d) p q h = in_front_alike d.nodes d (p nothing_loaded) (q nothing_loaded) (h nothing_loaded)
+on_alike (refused f) p q h = refl
+
+faults_alike : (gs : List Told) (f : Option Fault) (l : Loading) → (load_all gs f l).fault ≡ fault_of_loads gs f l
+unfolding load_all fault_of_loads
+faults_alike [] f l = refl
+faults_alike (g ∷ gs) f l = on_alike (step g.0 l) (load_all gs f) (fault_of_loads gs f) (λ m. faults_alike gs f m)
+
+-- ---- tokens
+
+abbrev loads_in : Reading → Loads
+loads_in r = load_all r.events r.ending nothing_loaded
+
+ends_in_fault : (ts : List Token) (own : Option Fault) → FaultOfLoading ts own (loads_in (read_of ts own)).fault
+ends_in_fault ts own =
+    subst (λ (o : Option Fault). FaultOfLoading ts own o) (sym (faults_alike (read_of ts own).events (read_of ts own).ending nothing_loaded)) (loads_end_in_fault ts own)
+
+numbered_documents : (ts : List Token) (own : Option Fault) (b : BeginsWithSentence ts) → (loads_in (read_of ts own)).documents ≡ (numbered (tree_documents b.tree b.rest)).documents
+numbered_documents ts own b = ap (λ (l : Loads). l.documents) (loads_numbered loads_document ts own b)
+
+by_fault : (ts : List Token) (own : Option Fault) (ds : List Document) (o : Option Fault) → FaultOfLoading ts own o → ((b : BeginsWithSentence ts) → ds ≡ (numbered (tree_documents b.tree b.rest)).documents)
+    → TokensLoad ts own (unless_faulty ds o)
+by_fault ts own ds None h k = record { sentence = h.sentence; loadable = h.first; documents = k h.sentence }
+by_fault ts own ds (Some e) h k = h
+
+tokens_load : (ts : List Token) (own : Option Fault) → TokensLoad ts own (result_of (loads_in (read_of ts own)))
+tokens_load ts own = by_fault ts own (loads_in (read_of ts own)).documents (loads_in (read_of ts own)).fault (ends_in_fault ts own) (λ b. numbered_documents ts own b)
+
+-- ---- one loading
+
+as_sentence : (ts : List Token) (ds : List Document) → HaveDocuments ts ds → LoadsSentence ts None
+as_sentence ts ds h = record { sentence = h.sentence; first = h.loadable }
+
+same_documents : (ts : List Token) (own : Option Fault) (ds : List Document) → HaveDocuments ts ds → ds ≡ (loads_in (read_of ts own)).documents
+same_documents ts own ds h = h.documents ∙ sym (numbered_documents ts own h.sentence)
+
+apart : (e : Fault) (A : Type 0) → None ≡ Some e → A
+apart e A h = cc
+
+same_error : (e f : Fault) → Some e ≡ Some f → e ≡ f
+same_error e f h = cc
+
+one_of_tokens : (ts : List Token) (own : Option Fault) (r q : Result (List Document) Fault) → TokensLoad ts own r → TokensLoad ts own q → r ≡ q
+one_of_tokens ts own (Ok ds) (Ok es) p q = ap (λ (z : List Document). Ok z) (same_documents ts own ds p ∙ sym (same_documents ts own es q))
+one_of_tokens ts own (Ok ds) (Err e) p q = apart e _ (one_load_fault ts own None (Some e) (as_sentence ts ds p) q)
+one_of_tokens ts own (Err e) (Ok ds) p q = apart e _ (one_load_fault ts own None (Some e) (as_sentence ts ds q) p)
+one_of_tokens ts own (Err e) (Err f) p q = ap (λ (z : Fault). Err z) (same_error e f (one_load_fault ts own (Some e) (Some f) p q))
+
+-- ---- inputs
+
+loads_are : (from : yaml_encoding_t) (input : List ℕ) → loads_of from input ≡ loads_in (read_of (tokens_of from input).tokens (tokens_of from input).fault)
+loads_are from input = ap (λ (r : Reading). loads_in r) (read_is from input)
+
+pub inputs_load : InputsLoad
+inputs_load from input =
+    subst (λ (l : Loads). TokensLoad (tokens_of from input).tokens (tokens_of from input).fault (result_of l)) (sym (loads_are from input))
+    (tokens_load (tokens_of from input).tokens (tokens_of from input).fault)
+
+pub one_loading : LoadingIsOne
+one_loading from input r q a b = one_of_tokens (tokens_of from input).tokens (tokens_of from input).fault r q a b
+
+pub loading_loads : LoadingIsLoads
+loading_loads from input r h = one_loading from input (result_of (loads_of from input)) r (inputs_load from input) h
+
+-- ---- by parts
+
+pub faultless_load : FaultlessLoad
+faultless_load from input h =
+    subst (λ (o : Option Fault). TokensLoad (tokens_of from input).tokens (tokens_of from input).fault (unless_faulty (loads_of from input).documents o)) h (inputs_load from input)
+
+pub faulty_load : FaultyLoad
+faulty_load from input e h =
+    subst (λ (o : Option Fault). TokensLoad (tokens_of from input).tokens (tokens_of from input).fault (unless_faulty (loads_of from input).documents o)) h (inputs_load from input)

@@ -1,0 +1,51 @@
+-- What is answered is said of the plain loading.
+use Rattle.std.proofs.Common.{◌≡◌, inl, inr, ℕ, List, Option, Some, None, Result, Ok, Err, refl, sym, subst}
+use Rattle.yaml_round.specs.round_laws_documents.round_laws_back.content.round_laws.emit_laws_streams.scan.declared.yaml_encoding_t.{yaml_encoding_t}
+use Rattle.yaml_round.specs.round_laws_documents.round_laws_back.content.round_laws.emit_laws_streams.scan.Faults.{Fault}
+use Rattle.yaml_round.specs.round_laws_documents.round_laws_back.content.round_laws.emit_laws_streams.parse.Documents.{Document}
+use Rattle.yaml_round.specs.round_laws_documents.round_laws_back.content.Loads.{loads_of}
+use Rattle.yaml_round.specs.round_laws_reading.PlainLoading.{unless_faulty}
+use Rattle.yaml_round.proofs.round_laws_documents.round_laws_reading.Loaded.{faultless_load, faulty_load, loading_loads}
+use Rattle.yaml_round.specs.declared.settings.yaml_settings_t.{yaml_settings_t}
+use Rattle.yaml_round.specs.Reload.{IsDumped, IsReloaded}
+use Rattle.yaml_round_laws_reloads.specs.Loading.{LaysOutLoading, IsLoadingReloaded, ReloadsAreOfLoading}
+
+no_fault : (ds es : List Document) (o : Option Fault) → unless_faulty ds o ≡ Ok es → o ≡ None
+no_fault ds es None h = refl
+no_fault ds es (Some f) h = cc
+
+same_documents : (ds es : List Document) (o : Option Fault) → unless_faulty ds o ≡ Ok es → ds ≡ es
+same_documents ds es None h = cc
+same_documents ds es (Some f) h = cc
+
+same_fault : (ds : List Document) (o : Option Fault) (e : Fault) → unless_faulty ds o ≡ Err e → o ≡ Some e
+same_fault ds None e h = cc
+same_fault ds (Some f) e h = cc
+
+abbrev Dumped : yaml_encoding_t → yaml_settings_t → List ℕ → Result (List ℕ) Fault → Type 0
+Dumped from settings input r = ((loads_of from input).fault ≡ None) × IsDumped settings (loads_of from input).documents r
+
+laid_out : (from : yaml_encoding_t) (settings : yaml_settings_t) (input : List ℕ) (r : Result (List ℕ) Fault) → Dumped from settings input r → LaysOutLoading from settings input r
+laid_out from settings input r h = record { documents = (loads_of from input).documents; loading = faultless_load from input h.0; dumped = h.1 }
+
+dumped : (from : yaml_encoding_t) (settings : yaml_settings_t) (input : List ℕ) (r : Result (List ℕ) Fault) → LaysOutLoading from settings input r → Dumped from settings input r
+dumped from settings input r h =
+    let e = loading_loads from input (Ok h.documents) h.loading in (
+      no_fault (loads_of from input).documents h.documents (loads_of from input).fault e,
+      subst (λ (ds : List Document). IsDumped settings ds r) (sym (same_documents (loads_of from input).documents h.documents (loads_of from input).fault e)) h.dumped,
+    )
+
+to_loading : (from : yaml_encoding_t) (settings : yaml_settings_t) (input : List ℕ) (r : Result (List ℕ) Fault) → IsReloaded from settings input r → IsLoadingReloaded from settings input r
+unfolding IsReloaded
+to_loading from settings input (Ok text) h = (laid_out from settings input (Ok text) (h.0, h.1), h.2)
+to_loading from settings input (Err e) (inl h) = inl (faulty_load from input e h)
+to_loading from settings input (Err e) (inr h) = inr (laid_out from settings input (Err e) h)
+
+from_loading : (from : yaml_encoding_t) (settings : yaml_settings_t) (input : List ℕ) (r : Result (List ℕ) Fault) → IsLoadingReloaded from settings input r → IsReloaded from settings input r
+unfolding IsReloaded
+from_loading from settings input (Ok text) h = let d : Dumped from settings input (Ok text) = dumped from settings input (Ok text) h.0 in (d.0, d.1, h.1)
+from_loading from settings input (Err e) (inl h) = inl (same_fault (loads_of from input).documents (loads_of from input).fault e (loading_loads from input (Err e) h))
+from_loading from settings input (Err e) (inr h) = inr (dumped from settings input (Err e) h)
+
+pub of_loading : ReloadsAreOfLoading
+of_loading from settings input r = (λ h. to_loading from settings input r h, λ h. from_loading from settings input r h)

@@ -66,16 +66,7 @@ fn ask<S: yaml_token_source_t>(
         (fault_of fault.new) }
     ensures utf8 { result ≡ true → HasUtf8 (token_of token.new).body }
 {
-    match source.next_token() {
-        Ok(given) => {
-            *token = given;
-            true
-        }
-        Err(refused) => {
-            *fault = refused;
-            false
-        }
-    }
+    source.next_token_into(token, fault)
 }
 
 // The token at the front: the one that is held, or else the source's next.

@@ -1,5 +1,5 @@
 -- What a source of tokens gives.
-use Rattle.std.specs.Prelude.{◌≡◌, ◌⊎◌, List, [], ◌∷◌, Option, Some, None, IsUtf8}
+use Rattle.std.specs.Prelude.{◌≡◌, ◌⊎◌, Bool, true, false, List, [], ◌∷◌, Option, Some, None, IsUtf8}
 use Rattle.yaml_scan_model.specs.Tokens.{Token, TokenBody, no_token}
 use Rattle.yaml_scan_model.specs.Tokens as token
 use Rattle.yaml_scan_model.specs.Faults.{Fault, IsMemoryFault, scan_layers}
@@ -42,3 +42,9 @@ pub record GivesFault (old : List Token) (fault : Option Fault) (f : Fault) (new
   pub none : new ≡ []
   pub no_fault : after ≡ None
   pub reason : IsMemoryFault scan_layers f ⊎ ((old ≡ []) × (fault ≡ Some f))
+
+-- what stands in the slots that were lent: a token, where one was given, or else a fault
+abbrev pub GivesInto : Bool → List Token → Option Fault → Token → Fault → List Token → Option Fault
+    → Type 0
+GivesInto true old fault t f new after = GivesToken old fault t new after
+GivesInto false old fault t f new after = GivesFault old fault f new after

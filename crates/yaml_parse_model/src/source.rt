@@ -3,7 +3,7 @@
 ghost use Rattle.std.specs.Prelude.{List, Option, IfOk, IfErr};
 ghost use Rattle.yaml_scan_model.specs.Tokens.{Token, token_of};
 ghost use Rattle.yaml_scan_model.specs.Faults.{Fault, fault_of};
-ghost use Rattle.yaml_parse_model.specs.Source.{GivesToken, GivesFault};
+ghost use Rattle.yaml_parse_model.specs.Source.{GivesToken, GivesFault, GivesInto};
 
 use yaml_scan_model::{yaml_fault_t, yaml_token_t};
 
@@ -23,4 +23,22 @@ pub trait yaml_token_source_t: Drop {
             (token_of t) (to_come self.new) (fault_to_come self.new)) }
         ensures err { IfErr result (λ f. GivesFault (to_come self.old) (fault_to_come self.old)
             (fault_of f) (to_come self.new) (fault_to_come self.new)) };
+
+    /// The same in a slot that is lent (true), or the fault in the other one (false). A slot that isn't filled may hold
+    /// anything afterwards. A source whose tokens can be put there at once has a body of its own for it.
+    fn next_token_into(&mut self, token: &mut yaml_token_t, fault: &mut yaml_fault_t) -> bool
+        ensures gives { GivesInto result (to_come self.old) (fault_to_come self.old)
+            (token_of token.new) (fault_of fault.new) (to_come self.new) (fault_to_come self.new) }
+    {
+        match self.next_token() {
+            Ok(given) => {
+                *token = given;
+                true
+            }
+            Err(refused) => {
+                *fault = refused;
+                false
+            }
+        }
+    }
 }

@@ -2,6 +2,7 @@
 
 ghost use Rattle.std.specs.Prelude.{◌≡◌};
 ghost use Rattle.yaml_scan.specs.Tokens.{token_of};
+ghost use Rattle.yaml_scan.specs.Faults.{fault_of};
 ghost use Rattle.yaml_scan.specs.Scanned.{scanned};
 ghost use Rattle.yaml_round_adapter.specs.Adapted.{adapted};
 ghost use Rattle.yaml_round_adapter.specs.Adapter.{Checks, Adapts};
@@ -10,7 +11,10 @@ use crate::refusal::{yaml_tag_fault, yaml_token_spells_text};
 use std::alloc::Global;
 use std::marker::Model;
 use yaml_parse::yaml_token_source_t;
-use yaml_scan::{yaml_encoding_t, yaml_fault_t, yaml_parser_scan, yaml_parser_t, yaml_token_t};
+use yaml_scan::{
+    yaml_encoding_t, yaml_fault_t, yaml_memory_fault, yaml_origin_t, yaml_parser_scan_into,
+    yaml_parser_t, yaml_token_t,
+};
 
 /// An input's tokens as a parser takes them: those of its session, up to the first tag that isn't UTF-8.
 #[derive(Drop)]
@@ -45,24 +49,25 @@ impl<'a> yaml_adapter_t<'a> {
     }
 }
 
-// The token, or the fault of its tag.
-fn checked(token: yaml_token_t) -> Result<yaml_token_t, yaml_fault_t>
-    ensures { Checks (token_of token) result }
+// Whether the token's tag is UTF-8; where it isn't, its fault is put into the slot.
+fn checked(token: &yaml_token_t, fault: &mut yaml_fault_t) -> bool
+    ensures { Checks (token_of token.now) result (fault_of fault.new) }
 {
-    if yaml_token_spells_text(&token) {
-        Ok(token)
-    } else {
-        Err(yaml_tag_fault(token.start_mark))
+    if yaml_token_spells_text(token) {
+        return true;
     }
+    *fault = yaml_tag_fault(token.start_mark);
+    false
 }
 
 // The session's next token, or its fault, or that of its tag.
-fn take(session: &mut yaml_parser_t) -> Result<yaml_token_t, yaml_fault_t>
-    ensures { Adapts session.old session.new result }
+fn take(session: &mut yaml_parser_t, token: &mut yaml_token_t, fault: &mut yaml_fault_t) -> bool
+    ensures { Adapts session.old session.new result (token_of token.new) (fault_of fault.new) }
 {
-    match yaml_parser_scan(session) {
-        Ok(token) => checked(token),
-        Err(fault) => Err(fault),
+    if yaml_parser_scan_into(session, token, fault) {
+        checked(token, fault)
+    } else {
+        false
     }
 }
 
@@ -72,15 +77,24 @@ impl<'a> yaml_token_source_t for yaml_adapter_t<'a> {
     ghost fault_to_come = { λ c. c.fault };
 
     fn next_token(&mut self) -> Result<yaml_token_t, yaml_fault_t> {
+        let mut token = yaml_token_t::empty();
+        let mut fault = yaml_memory_fault(yaml_origin_t::Adapter);
+        if self.next_token_into(&mut token, &mut fault) {
+            return Ok(token);
+        }
+        drop(token);
+        Err(fault)
+    }
+
+    fn next_token_into(&mut self, token: &mut yaml_token_t, fault: &mut yaml_fault_t) -> bool {
         if self.over {
-            return Ok(yaml_token_t::empty());
+            *token = yaml_token_t::empty();
+            return true;
         }
-        match take(&mut self.session) {
-            Ok(token) => Ok(token),
-            Err(fault) => {
-                self.over = true;
-                Err(fault)
-            }
+        if take(&mut self.session, token, fault) {
+            return true;
         }
+        self.over = true;
+        false
     }
 }

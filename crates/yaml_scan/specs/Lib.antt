@@ -7,8 +7,10 @@ pub mod Rising
 pub mod Given
 pub mod Shows
 pub mod Front
+pub mod Fronted
 pub mod Reads
 pub mod Comes
+pub mod Answered
 pub mod Scanned
 pub mod State
 pub mod Session

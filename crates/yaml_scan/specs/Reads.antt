@@ -140,11 +140,14 @@ opens_for k depth column levels = if is_start k && not (nat_lt 0 depth)
     then (if nat_lt (indent levels) column then level_of k else opening.Nothing)
     else opening.Nothing
 
--- the column where a level may open: that of the key, or of the lexeme
-abbrev pub IsColumn : List Waiting → Lexeme → Option ℕ → ℕ → Type 0
-IsColumn ws l None column = column ≡ l.start.column + 1
-IsColumn ws l (Some i) column = (w : Waiting)
+-- the column where a level may open: that of the key, or the lexeme's own
+abbrev pub IsColumnAt : List Waiting → ℕ → Option ℕ → ℕ → Type 0
+IsColumnAt ws own None column = column ≡ own + 1
+IsColumnAt ws own (Some i) column = (w : Waiting)
     → column ≡ (slice_index_or ws i w).entry.lexeme.start.column + 1
+
+abbrev pub IsColumn : List Waiting → Lexeme → Option ℕ → ℕ → Type 0
+IsColumn ws l key column = IsColumnAt ws l.start.column key column
 
 -- the place where a candidate waits, or where it is known that none does
 abbrev pub bound_or : ℕ → ℕ → Option ℕ → ℕ

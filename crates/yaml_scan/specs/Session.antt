@@ -96,6 +96,11 @@ abbrev pub Scans : View → View → Result yaml_token_t yaml_fault_t → Type 0
 Scans old new (Ok token) = Takes old (token_of token) new
 Scans old new (Err f) = Refuses old (fault_of f) new
 
+-- what stands in the slots that were lent: a token, where one was taken, or else a fault
+abbrev pub ScansInto : View → View → Bool → Token → Fault → Type 0
+ScansInto old new true token f = Takes old token new
+ScansInto old new false token f = Refuses old f new
+
 abbrev pub Looks : View → View → Token → Result (Unit {0}) yaml_fault_t → Type 0
 Looks old new token (Ok done) = Lends old token new
 Looks old new token (Err f) = Refuses old (fault_of f) new

@@ -1,14 +1,17 @@
 //! The next token, which a peek puts aside.
 
-ghost use Rattle.std.specs.Prelude.{◌≡◌, true, false, None, IfOk};
+ghost use Rattle.std.specs.Prelude.{◌≡◌, true, false, Some, None, IfOk};
 ghost use Rattle.yaml_scan_model.specs.Tokens.{token_of};
+ghost use Rattle.yaml_scan_model.specs.Faults.{fault_of};
 ghost use Rattle.yaml_scan.specs.Scanned.{scanned};
-ghost use Rattle.yaml_scan.specs.Session.{first_of, HasFirst, MayAnswer, EndsAnswered, IsSame, Fills, Takes, Scans, Looks, IsKnown};
+ghost use Rattle.yaml_scan.specs.Session.{first_of, HasFirst, MayAnswer, EndsAnswered, IsSame, Fills, Takes, Scans, ScansInto, Looks, IsKnown};
 
-use crate::machine::Machine;
+use crate::machine::{Machine, Sought};
 use std::alloc::Global;
 use std::mem;
-use yaml_scan_model::{yaml_encoding_t, yaml_fault_t, yaml_token_t};
+use yaml_scan_model::{
+    yaml_encoding_t, yaml_fault_t, yaml_memory_fault, yaml_origin_t, yaml_token_t,
+};
 
 /// What a session holds: the state of its reader, the token that was put aside, and the fault that was answered.
 #[derive(Drop)]
@@ -23,6 +26,7 @@ pub(crate) struct Ahead<'a> {
 
 impl<'a> Ahead<'a> {
     ghost use Rattle.yaml_scan.specs.SessionView.{view_of, is_own, IsAhead};
+    ghost use Rattle.yaml_scan.specs.Answered.{answer_of};
 
     pub(crate) fn new(alloc: Global, input: &'a [u8], encoding: yaml_encoding_t) -> Ahead<'a>
         ensures stands { IsAhead result }
@@ -58,23 +62,24 @@ impl<'a> Ahead<'a> {
 
     /// Reads on until the next token is known, or there is none; answers whether the reader is to give it. What is to
     /// come stays.
-    fn fill(&mut self) -> Result<bool, yaml_fault_t>
+    fn fill(&mut self, fault: &mut yaml_fault_t) -> Sought
         requires { IsAhead self.old }
         ensures stands { IsAhead self.new }
-        ensures fills { Fills (view_of self.old) (view_of self.new) result }
-        ensures own { IfOk result (λ own. own ≡ is_own self.new) }
+        ensures fills { Fills (view_of self.old) (view_of self.new) (answer_of result fault.new) }
+        ensures own { IfOk (answer_of result fault.new) (λ own. own ≡ is_own self.new) }
     {
         if self.fault.is_some() {
-            return Ok(false);
+            return Sought::Nothing;
         }
         if self.holds {
-            return Ok(false);
+            return Sought::Nothing;
         }
-        match self.machine.read_on() {
-            Ok(known) => Ok(known),
-            Err(fault) => {
-                self.fault = Some(fault);
-                Err(fault)
+        match self.machine.read_on(fault) {
+            Sought::Known => Sought::Known,
+            Sought::Nothing => Sought::Nothing,
+            Sought::Refused => {
+                keep(&mut self.fault, fault);
+                Sought::Refused
             }
         }
     }
@@ -100,18 +105,21 @@ impl<'a> Ahead<'a> {
     }
 
     /// Takes the next token, the empty one where nothing comes; `own` tells that the reader is to give it.
-    fn take_known(&mut self, own: bool) -> yaml_token_t
+    // Inlined: each of its two calls says what `own` is.
+    #[inline(always)]
+    fn take_known(&mut self, own: bool, slot: &mut yaml_token_t)
         requires stands { IsAhead self.old }
         requires known { IsKnown (view_of self.old) }
         requires own { own ≡ is_own self.old }
         ensures stands { IsAhead self.new }
-        ensures takes { Takes (view_of self.old) (token_of result) (view_of self.new) }
+        ensures takes { Takes (view_of self.old) (token_of slot.new) (view_of self.new) }
     {
         if own {
-            return self.machine.take_token();
+            self.machine.take_token_into(slot);
+        } else {
+            self.holds = false;
+            *slot = mem::replace(&mut self.shown, yaml_token_t::empty());
         }
-        self.holds = false;
-        mem::replace(&mut self.shown, yaml_token_t::empty())
     }
 
     /// Puts the next token aside, where there is one.
@@ -143,9 +151,32 @@ impl<'a> Ahead<'a> {
         ensures stands { IsAhead self.new }
         ensures scans { Scans (view_of self.old) (view_of self.new) result }
     {
-        match self.fill() {
-            Ok(own) => Ok(self.take_known(own)),
-            Err(fault) => Err(fault),
+        let mut token = yaml_token_t::empty();
+        let mut fault = yaml_memory_fault(yaml_origin_t::Scanner);
+        if self.scan_into(&mut token, &mut fault) {
+            return Ok(token);
+        }
+        drop(token);
+        Err(fault)
+    }
+
+    /// Reads on and takes the next token, in a slot; or puts the fault into the other one.
+    pub(crate) fn scan_into(&mut self, token: &mut yaml_token_t, fault: &mut yaml_fault_t) -> bool
+        requires { IsAhead self.old }
+        ensures stands { IsAhead self.new }
+        ensures scans { ScansInto (view_of self.old) (view_of self.new) result (token_of token.new)
+            (fault_of fault.new) }
+    {
+        match self.fill(fault) {
+            Sought::Known => {
+                self.take_known(true, token);
+                true
+            }
+            Sought::Nothing => {
+                self.take_known(false, token);
+                true
+            }
+            Sought::Refused => false,
         }
     }
 
@@ -156,12 +187,26 @@ impl<'a> Ahead<'a> {
         ensures looks { Looks (view_of self.old) (view_of self.new) (token_of self.new.shown)
             result }
     {
-        match self.fill() {
-            Ok(_) => {
+        let mut fault = yaml_memory_fault(yaml_origin_t::Scanner);
+        match self.fill(&mut fault) {
+            Sought::Refused => Err(fault),
+            Sought::Known => {
                 self.show();
                 Ok(())
             }
-            Err(fault) => Err(fault),
+            Sought::Nothing => {
+                self.show();
+                Ok(())
+            }
         }
     }
+}
+
+/// Keeps a fault.
+// Out of line: in line the room of its copy would be set to zero for each token.
+#[inline(never)]
+fn keep(slot: &mut Option<yaml_fault_t>, fault: &yaml_fault_t)
+    ensures { slot.new ≡ Some fault.now }
+{
+    *slot = Some(*fault);
 }

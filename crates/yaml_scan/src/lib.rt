@@ -10,8 +10,8 @@ mod waiting;
 mod word;
 
 pub use session::{
-    yaml_parser_fault, yaml_parser_has_token, yaml_parser_peek, yaml_parser_scan, yaml_parser_skip,
-    yaml_parser_t,
+    yaml_parser_fault, yaml_parser_has_token, yaml_parser_peek, yaml_parser_scan,
+    yaml_parser_scan_into, yaml_parser_skip, yaml_parser_t,
 };
 pub use yaml_scan_decode::{yaml_decode, yaml_text_t};
 pub use yaml_scan_model::{

@@ -19,6 +19,14 @@ use yaml_scan_model::{
     yaml_token_body_t, yaml_token_t,
 };
 
+/// What reading on came to: the next token is known, or there is none, or a fault stands in the slot that was lent.
+#[derive(Clone, Copy)]
+pub(crate) enum Sought {
+    Known,
+    Nothing,
+    Refused,
+}
+
 #[derive(Drop)]
 pub(crate) struct Machine<'a> {
     pub alloc: Global,
@@ -54,8 +62,9 @@ impl<'a> Machine<'a> {
     ghost use Rattle.yaml_scan.specs.Scanned.{scanned, left_in, left_from, IsTold};
     ghost use Rattle.yaml_scan_decode.specs.Encodings.{encoding_of};
     ghost use Rattle.yaml_scan.specs.Shows.{IsPending, fields_of, history_of};
-    ghost use Rattle.yaml_scan.specs.Reads.{MarksOwn, IsColumn, opens_for, bound_behind};
-    ghost use Rattle.yaml_scan.specs.Comes.{to_come, Refused, Faults};
+    ghost use Rattle.yaml_scan.specs.Reads.{MarksOwn, IsColumnAt, opens_for, bound_behind};
+    ghost use Rattle.yaml_scan.specs.Comes.{Refused};
+    ghost use Rattle.yaml_scan.specs.Answered.{answer_of};
     ghost use Rattle.yaml_scan_history.specs.Remaining.{nothing, offline};
     ghost use Rattle.yaml_scan_laws_order.specs.Fronts.{GivesFirst};
     ghost use Rattle.yaml_scan_model.specs.Tokens.{token_of};
@@ -116,19 +125,24 @@ impl<'a> Machine<'a> {
 
     /// Decodes the input, once, and reads on until the next token is known, or there is none; answers whether it is
     /// known. What is to come stays.
-    pub(crate) fn read_on(&mut self) -> Result<bool, yaml_fault_t>
+    pub(crate) fn read_on(&mut self, fault: &mut yaml_fault_t) -> Sought
         requires { IsMachine self.old }
-        ensures stands { OnOk result (IsMachine self.new) }
-        ensures left { OnOk result (left_in self.new ≡ left_in self.old) }
-        ensures known { OnOk result ((is_ready self.new ≡ true) ⊎ (left_in self.new ≡ nothing)) }
-        ensures told { IfErr result (λ f. IsTold (left_in self.old) (fault_of f)) }
-        ensures few { OnErr result (length self.new.waiting.items ≤ 1025) }
-        ensures sought { IfErr result (λ f. is_ready self.old ≡ false) }
-        ensures ready { IfOk result (λ known. known ≡ is_ready self.new) }
+        ensures stands { OnOk (answer_of result fault.new) (IsMachine self.new) }
+        ensures left { OnOk (answer_of result fault.new) (left_in self.new ≡ left_in self.old) }
+        ensures known { OnOk (answer_of result fault.new)
+            ((is_ready self.new ≡ true) ⊎ (left_in self.new ≡ nothing)) }
+        ensures told { IfErr (answer_of result fault.new)
+            (λ f. IsTold (left_in self.old) (fault_of f)) }
+        ensures few { OnErr (answer_of result fault.new) (length self.new.waiting.items ≤ 1025) }
+        ensures sought { IfErr (answer_of result fault.new) (λ f. is_ready self.old ≡ false) }
+        ensures ready { IfOk (answer_of result fault.new) (λ known. known ≡ is_ready self.new) }
     {
         match self.start() {
-            Ok(()) => self.read_known(),
-            Err(fault) => Err(fault),
+            Ok(()) => self.fill(fault),
+            Err(refused) => {
+                *fault = refused;
+                Sought::Refused
+            }
         }
     }
 
@@ -155,24 +169,6 @@ impl<'a> Machine<'a> {
         }
     }
 
-    /// Reads on in the decoded text until the next token is known, or there is none; answers whether it is known.
-    fn read_known(&mut self) -> Result<bool, yaml_fault_t>
-        requires stands { IsMachine self.old }
-        requires started { self.old.started ≡ true }
-        ensures stands { OnOk result (IsMachine self.new) }
-        ensures left { OnOk result (left_in self.new ≡ left_in self.old) }
-        ensures known { OnOk result ((is_ready self.new ≡ true) ⊎ (left_in self.new ≡ nothing)) }
-        ensures told { IfErr result (λ f. IsTold (left_in self.old) (fault_of f)) }
-        ensures few { OnErr result (length self.new.waiting.items ≤ 1025) }
-        ensures sought { IfErr result (λ f. is_ready self.old ≡ false) }
-        ensures ready { IfOk result (λ known. known ≡ is_ready self.new) }
-    {
-        match self.fill() {
-            Ok(known) => Ok(known),
-            Err(error) => Err(located(error)),
-        }
-    }
-
     /// Whether the next token is known, whatever follows.
     // Inlined: two comparisons, asked for each token.
     #[inline(always)]
@@ -192,47 +188,66 @@ impl<'a> Machine<'a> {
         ensures stands { IsMachine self.new }
         ensures gives { GivesFirst (left_in self.old) (token_of result) (left_in self.new) }
     {
+        let mut token = yaml_token_t::empty();
+        self.take_token_into(&mut token);
+        token
+    }
+
+    /// Takes the next token, in a slot that is lent.
+    pub(crate) fn take_token_into(&mut self, slot: &mut yaml_token_t)
+        requires stands { IsMachine self.old }
+        requires ready { is_ready self.old ≡ true }
+        ensures stands { IsMachine self.new }
+        ensures gives { GivesFirst (left_in self.old) (token_of slot.new) (left_in self.new) }
+    {
         let Some(first) = self.waiting.front() else {
-            return yaml_token_t::empty();
+            *slot = yaml_token_t::empty();
+            return;
         };
-        if let Some(body) = first.before(self.given) {
+        if let Some(before) = first.before(self.given) {
             let mark = first.entry.lexeme.start;
             self.given += 1;
-            return yaml_token_t {
-                body,
-                start_mark: mark,
-                end_mark: mark,
-            };
+            slot.body = before.body();
+            slot.start_mark = mark;
+            slot.end_mark = mark;
+            return;
         }
         self.dropped += 1;
         self.given = 0;
         match self.waiting.pop_front() {
-            Some(front) => front.token(),
-            None => yaml_token_t::empty(),
+            Some(front) => front.put(slot),
+            None => *slot = yaml_token_t::empty(),
         }
     }
 
-    /// Reads on until the next token is known, or there is none; answers whether it is known. What is to come stays.
-    fn fill(&mut self) -> Result<bool, ScanError>
+    /// Reads on in the decoded text until the next token is known, or there is none. What is to come stays.
+    fn fill(&mut self, fault: &mut yaml_fault_t) -> Sought
         requires stands { IsMachine self.old }
         requires started { self.old.started ≡ true }
-        ensures stands { OnOk result (IsMachine self.new) }
-        ensures started { OnOk result (self.new.started ≡ true) }
-        ensures ok { OnOk result ((to_come self.new ≡ to_come self.old)
-            × ((is_ready self.new ≡ true) ⊎ (to_come self.new ≡ nothing))) }
-        ensures err { IfErr result (λ e. Faults e (to_come self.old)) }
-        ensures few { OnErr result (length self.new.waiting.items ≤ 1025) }
-        ensures sought { IfErr result (λ e. is_ready self.old ≡ false) }
-        ensures ready { IfOk result (λ known. known ≡ is_ready self.new) }
+        ensures stands { OnOk (answer_of result fault.new) (IsMachine self.new) }
+        ensures left { OnOk (answer_of result fault.new) (left_in self.new ≡ left_in self.old) }
+        ensures known { OnOk (answer_of result fault.new)
+            ((is_ready self.new ≡ true) ⊎ (left_in self.new ≡ nothing)) }
+        ensures told { IfErr (answer_of result fault.new)
+            (λ f. IsTold (left_in self.old) (fault_of f)) }
+        ensures few { OnErr (answer_of result fault.new) (length self.new.waiting.items ≤ 1025) }
+        ensures sought { IfErr (answer_of result fault.new) (λ f. is_ready self.old ≡ false) }
+        ensures ready { IfOk (answer_of result fault.new) (λ known. known ≡ is_ready self.new) }
     {
         'steps: loop {
             if self.has_token() {
-                return Ok(true);
+                return Sought::Known;
             }
             if self.ended {
-                return Ok(false);
+                return Sought::Nothing;
             }
-            self.step()?;
+            match self.step() {
+                Ok(()) => {}
+                Err(error) => {
+                    *fault = located(error);
+                    return Sought::Refused;
+                }
+            }
         }
     }
 
@@ -253,7 +268,7 @@ impl<'a> Machine<'a> {
             key,
         } = self.next()?;
         let found = key.is_some();
-        let column = self.level_column(lexeme, key);
+        let column = self.level_column(lexeme.start.column, key);
         let ends = self.close_levels(lexeme);
         let opens = self.open_level(lexeme, column)?;
         self.mark_own(own, lexeme, opens);
@@ -339,17 +354,19 @@ impl<'a> Machine<'a> {
     }
 
     /// The column where a level may open, counted from 1: that of the key of a `:`, or the lexeme's own.
-    fn level_column(&self, lexeme: Lexeme, key: Option<usize>) -> u64
-        requires column { lexeme.start.column ≤ length (text_bytes self.now.text) }
+    // The lexeme's own column is a number: of a lexeme here and one in the list LLVM would take the place and keep
+    // both in memory.
+    fn level_column(&self, own: u64, key: Option<usize>) -> u64
+        requires column { own ≤ length (text_bytes self.now.text) }
         requires key { IfSome key (λ i. i < length self.now.waiting.items) }
         requires inside { AreInside (length (text_bytes self.now.text)) self.now.waiting.items }
         requires long { length (text_bytes self.now.text) < 2 ^ 63 }
-        ensures column { IsColumn self.now.waiting.items lexeme key result }
+        ensures column { IsColumnAt self.now.waiting.items own key result }
         ensures narrow { result ≤ length (text_bytes self.now.text) + 1 }
     {
         match key {
             Some(i) => self.waiting[i].entry.lexeme.start.column + 1,
-            None => lexeme.start.column + 1,
+            None => own + 1,
         }
     }
 

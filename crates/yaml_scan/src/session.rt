@@ -4,9 +4,10 @@ ghost use Rattle.std.specs.Prelude.{◌≡◌, ⊤, option_map, [], true, false,
 ghost use Rattle.std.specs.Borrow.{sem, follows_so};
 ghost use mir.Syntax.{named};
 ghost use mathlib.Core.Option.{none};
+ghost use Rattle.yaml_scan_model.specs.Tokens.{token_of};
 ghost use Rattle.yaml_scan_model.specs.Faults.{fault_of};
 ghost use Rattle.yaml_scan.specs.contracts.session.yaml_parser_t.{the_row};
-ghost use Rattle.yaml_scan.specs.Session.{HasFirst, Scans, Peeks, FewWait, behind_first};
+ghost use Rattle.yaml_scan.specs.Session.{HasFirst, Scans, ScansInto, Peeks, FewWait, behind_first};
 ghost use Rattle.yaml_scan.specs.Scanned.{scanned};
 
 use crate::ahead::Ahead;
@@ -59,6 +60,20 @@ pub fn yaml_parser_scan(parser: &mut yaml_parser_t) -> Result<yaml_token_t, yaml
     ensures few { FewWait parser.new }
 {
     parser.ahead.scan()
+}
+
+/// The next token in a slot that is lent (true), or the fault in the other one (false): what `yaml_parser_scan` answers,
+/// with nothing moved. A slot that isn't filled may hold anything afterwards.
+pub fn yaml_parser_scan_into(
+    parser: &mut yaml_parser_t,
+    token: &mut yaml_token_t,
+    fault: &mut yaml_fault_t,
+) -> bool
+    ensures scans { ScansInto parser.old parser.new result (token_of token.new)
+        (fault_of fault.new) }
+    ensures few { FewWait parser.new }
+{
+    parser.ahead.scan_into(token, fault)
 }
 
 /// Lends the token that the next scan gives, and takes nothing. Refused as a scan is.

@@ -3,6 +3,7 @@
 ghost use Rattle.std.specs.Prelude.{◌≡◌, ◌&&◌, ◌==◌, if◌then◌else◌, Some, None, option_map};
 ghost use Rattle.yaml_scan_model.specs.Tokens.{body_of, token_of};
 ghost use Rattle.yaml_scan.specs.Front.{front_at, start_at, key_at};
+ghost use Rattle.yaml_scan.specs.Fronted.{token_before};
 ghost use Rattle.yaml_scan_history.specs.History as history;
 ghost use Rattle.yaml_scan.specs.Shows as shows;
 
@@ -66,58 +67,79 @@ impl Waiting {
     }
 
     /// The token in front of its own one, where `given` tokens were taken: BLOCK-END tokens, a block start, KEY.
-    pub(crate) fn before(&self, given: usize) -> Option<yaml_token_body_t>
-        ensures { option_map body_of result ≡ front_at self.now.entry given }
+    pub(crate) fn before(&self, given: usize) -> Option<Before>
+        ensures { option_map token_before result ≡ front_at self.now.entry given }
     {
         if given < self.entry.ends {
-            return Some(yaml_token_body_t::BlockEnd);
+            return Some(Before::BlockEnd);
         }
-        start_body(self.entry.opens, self.entry.key, given - self.entry.ends)
+        start_before(self.entry.opens, self.entry.key, given - self.entry.ends)
     }
 
-    /// Its own token.
-    pub(crate) fn token(self) -> yaml_token_t
-        ensures { token_of result ≡ record {
+    /// Its own token, in a slot.
+    pub(crate) fn put(self, slot: &mut yaml_token_t)
+        ensures { token_of slot.new ≡ record {
           body = body_of self.body;
           start_mark = self.entry.lexeme.start;
           end_mark = self.entry.lexeme.end;
         } }
     {
-        yaml_token_t {
-            body: self.body,
-            start_mark: self.entry.lexeme.start,
-            end_mark: self.entry.lexeme.end,
+        slot.body = self.body;
+        slot.start_mark = self.entry.lexeme.start;
+        slot.end_mark = self.entry.lexeme.end;
+    }
+}
+
+/// A token in front of a lexeme's own.
+// A name, and no token: a token that is moved is copied whole.
+#[derive(Clone, Copy)]
+pub(crate) enum Before {
+    BlockEnd,
+    BlockSequenceStart,
+    BlockMappingStart,
+    Key,
+}
+
+impl Before {
+    pub(crate) fn body(self) -> yaml_token_body_t
+        ensures { body_of result ≡ token_before self }
+    {
+        match self {
+            Before::BlockEnd => yaml_token_body_t::BlockEnd,
+            Before::BlockSequenceStart => yaml_token_body_t::BlockSequenceStart,
+            Before::BlockMappingStart => yaml_token_body_t::BlockMappingStart,
+            Before::Key => yaml_token_body_t::Key,
         }
     }
 }
 
 /// Behind so many tokens the block start, then KEY.
-fn start_body(opens: Opens, is_key: bool, taken: usize) -> Option<yaml_token_body_t>
-    ensures { option_map body_of result ≡ start_at opens is_key taken }
+fn start_before(opens: Opens, is_key: bool, taken: usize) -> Option<Before>
+    ensures { option_map token_before result ≡ start_at opens is_key taken }
 {
     match opens {
-        Opens::Nothing => key_body(is_key, taken),
+        Opens::Nothing => key_before(is_key, taken),
         Opens::Sequence => {
             if taken == 0 {
-                return Some(yaml_token_body_t::BlockSequenceStart);
+                return Some(Before::BlockSequenceStart);
             }
-            key_body(is_key, taken - 1)
+            key_before(is_key, taken - 1)
         }
         Opens::Mapping => {
             if taken == 0 {
-                return Some(yaml_token_body_t::BlockMappingStart);
+                return Some(Before::BlockMappingStart);
             }
-            key_body(is_key, taken - 1)
+            key_before(is_key, taken - 1)
         }
     }
 }
 
 /// KEY in front of a key, where none was taken.
-fn key_body(is_key: bool, taken: usize) -> Option<yaml_token_body_t>
-    ensures { option_map body_of result ≡ key_at is_key taken }
+fn key_before(is_key: bool, taken: usize) -> Option<Before>
+    ensures { option_map token_before result ≡ key_at is_key taken }
 {
     if is_key && taken == 0 {
-        return Some(yaml_token_body_t::Key);
+        return Some(Before::Key);
     }
     None
 }

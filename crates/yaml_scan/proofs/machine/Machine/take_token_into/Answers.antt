@@ -8,21 +8,22 @@ use Rattle.yaml_scan.specs.State.{ready_in, AreInside, AreBounded}
 use Rattle.yaml_scan.proofs.SafeLemmas.{inside_rest, none_left}
 use Rattle.yaml_scan.specs.Shows.{fields_of, stream_of, AreSpoken}
 use Rattle.yaml_scan.specs.Front.{front_at}
+use Rattle.yaml_scan.specs.Fronted.{token_before}
 use Rattle.yaml_scan.proofs.BoundLemmas.{bound_rest}
 use Rattle.yaml_scan.proofs.FrontLemmas.{shown_popped}
 use Rattle.yaml_scan.proofs.PushLemmas.{spoken_rest}
 use Rattle.yaml_scan.proofs.GivenLemmas.{given_none, own_settled}
 use Rattle.yaml_scan.proofs.TakeLemmas.{front_waits, gives_front, gives_own, given_room, stands_more}
 use Rattle.yaml_scan.proofs.ComesLemmas.{left_gives, ready_started}
-use Rattle.yaml_scan.proofs.machine.Machine.take_token.Goals as goal
+use Rattle.yaml_scan.proofs.machine.Machine.take_token_into.Goals as goal
 
 pub overflow_add-self : goal.overflow_add-self
 overflow_add-self c =
     let m = c.args.self.now in
     let w = c.in-Some.first.now in
     let (rest, items) = front_waits m w c.requires.ready c.in-Some.ensures.lookup in
-    let some : front_at w.entry m.given ≡ Some (body_of c.in-Some-before.body) = sym c.before-2.ensures ∙ ap (option_map body_of) c.in-Some-before.is in
-    let room = given_room m w rest (body_of c.in-Some-before.body) c.requires.stands items some in
+    let some : front_at w.entry m.given ≡ Some (token_before c.in-Some-before.before) = sym c.before-2.ensures ∙ ap (option_map token_before) c.in-Some-before.is in
+    let room = given_room m w rest (token_before c.in-Some-before.before) c.requires.stands items some in
     omega (arith, room)
 
 pub returns-in-Some-before-clause-stands : goal.returns-in-Some-before-clause-stands
@@ -30,16 +31,16 @@ returns-in-Some-before-clause-stands c =
     let m = c.args.self.now in
     let w = c.in-Some.first.now in
     let (rest, items) = front_waits m w c.requires.ready c.in-Some.ensures.lookup in
-    let some : front_at w.entry m.given ≡ Some (body_of c.in-Some-before.body) = sym c.before-2.ensures ∙ ap (option_map body_of) c.in-Some-before.is in
-    stands_more m w rest (body_of c.in-Some-before.body) c.requires.stands items c.requires.ready some
+    let some : front_at w.entry m.given ≡ Some (token_before c.in-Some-before.before) = sym c.before-2.ensures ∙ ap (option_map token_before) c.in-Some-before.is in
+    stands_more m w rest (token_before c.in-Some-before.before) c.requires.stands items c.requires.ready some
 
 pub returns-in-Some-before-clause-gives : goal.returns-in-Some-before-clause-gives
 returns-in-Some-before-clause-gives c =
     let m = c.args.self.now in
     let w = c.in-Some.first.now in
-    let b = body_of c.in-Some-before.body in
+    let b = body_of c.body.result in
     let (rest, items) = front_waits m w c.requires.ready c.in-Some.ensures.lookup in
-    let some : front_at w.entry m.given ≡ Some b = sym c.before-2.ensures ∙ ap (option_map body_of) c.in-Some-before.is in
+    let some : front_at w.entry m.given ≡ Some b = sym c.before-2.ensures ∙ ap (option_map token_before) c.in-Some-before.is ∙ ap Some (sym c.body.ensures) in
     let (tokens, fault) = gives_front m w rest b c.requires.stands items c.requires.ready some in
     let on = ready_started m c.requires.stands c.requires.ready in
     left_gives m record m { given = m.given + 1 } (before b w.entry.lexeme) on on (tokens, fault)
@@ -51,7 +52,7 @@ returns-in-Some-pop_front-clause-stands c =
     let rest = c.pop_front.new.self.items in
     let items : m.waiting.items ≡ front ∷ rest = c.in-Some-pop_front.ensures.items in
     let here : c.in-Some.first.now ≡ front = c.in-Some.ensures.lookup ∙ ap (λ (ws : List Waiting). get_or ws 0 c.in-Some.first.now) items in
-    let none : front_at front.entry m.given ≡ None = ap (λ (w : Waiting). front_at w.entry m.given) (sym here) ∙ sym c.before-2.ensures ∙ ap (option_map body_of) (none_left c.before-2.result c.in_default-before.not-Some) in
+    let none : front_at front.entry m.given ≡ None = ap (λ (w : Waiting). front_at w.entry m.given) (sym here) ∙ sym c.before-2.ensures ∙ ap (option_map token_before) (none_left c.before-2.result c.in_default-before.not-Some) in
     let ready : ready_in m.dropped m.settled m.given (front ∷ rest) ≡ true = ap (λ (ws : List Waiting). ready_in m.dropped m.settled m.given ws) (sym items) ∙ c.requires.ready in
     let low = own_settled m.dropped m.settled m.given front rest ready none in
     let len : length m.waiting.items ≡ length rest + 1 = ap (λ (ws : List Waiting). length ws) items ∙ omega arith in
@@ -81,11 +82,11 @@ returns-in-Some-pop_front-clause-gives c =
     let rest = c.pop_front.new.self.items in
     let items : m.waiting.items ≡ front ∷ rest = c.in-Some-pop_front.ensures.items in
     let here : c.in-Some.first.now ≡ front = c.in-Some.ensures.lookup ∙ ap (λ (ws : List Waiting). get_or ws 0 c.in-Some.first.now) items in
-    let none : front_at front.entry m.given ≡ None = ap (λ (w : Waiting). front_at w.entry m.given) (sym here) ∙ sym c.before-2.ensures ∙ ap (option_map body_of) (none_left c.before-2.result c.in_default-before.not-Some) in
+    let none : front_at front.entry m.given ≡ None = ap (λ (w : Waiting). front_at w.entry m.given) (sym here) ∙ sym c.before-2.ensures ∙ ap (option_map token_before) (none_left c.before-2.result c.in_default-before.not-Some) in
     let ready : ready_in m.dropped m.settled m.given (front ∷ rest) ≡ true = ap (λ (ws : List Waiting). ready_in m.dropped m.settled m.given ws) (sym items) ∙ c.requires.ready in
     let low = own_settled m.dropped m.settled m.given front rest ready none in
     let spoken : body_of front.body ≡ body_in (stream_of m) front.entry.lexeme = subst (λ (ws : List Waiting). AreSpoken (stream_of m) ws) items c.requires.stands.spoken 0 front (omega arith) in
-    let own : token_in (stream_of m) front.entry.lexeme ≡ token_of c.token.result = ap (λ (b : TokenBody). record { body = b; start_mark = front.entry.lexeme.start; end_mark = front.entry.lexeme.end }) (sym spoken) ∙ sym c.token.ensures in
+    let own : token_in (stream_of m) front.entry.lexeme ≡ token_of c.put.new.slot = ap (λ (b : TokenBody). record { body = b; start_mark = front.entry.lexeme.start; end_mark = front.entry.lexeme.end }) (sym spoken) ∙ sym c.put.ensures in
     let (tokens, fault) = gives_own m front rest c.requires.stands items low none in
     let on = ready_started m c.requires.stands c.requires.ready in
-    left_gives m record m { waiting = c.pop_front.new.self; dropped = m.dropped + 1; given = 0 } (token_of c.token.result) on on (tokens ∙ ap (λ (t : Token). t ∷ (remaining (stream_of m) (m.dropped + 1) 0).tokens) own, fault)
+    left_gives m record m { waiting = c.pop_front.new.self; dropped = m.dropped + 1; given = 0 } (token_of c.put.new.slot) on on (tokens ∙ ap (λ (t : Token). t ∷ (remaining (stream_of m) (m.dropped + 1) 0).tokens) own, fault)

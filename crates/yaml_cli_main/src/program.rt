@@ -118,6 +118,7 @@ fn run_fmt<'a, H: Files + AllocGlobal, R: Read, W: Write, E: Write>(
 ) -> Result<(), program_fault_t<'a>> {
     let form = run_command(rt, yaml_command_t::Fmt, matches, reader, writer)?;
     if matches.get_flag("pretty") && form == Some(yaml_form_t::Canonical) {
+        // A note: the text is written, whether or not it can be told.
         let _ = writeln!(errors, "yaml_cli: canonical form was written");
     }
     Ok(())
@@ -188,7 +189,8 @@ fn run_matches<'a, H: Files + AllocGlobal, R: Read, W: Write, E: Write>(
     }
 }
 
-// Tells what is wrong with the words, or the help that they ask for. Of want of memory only the status tells.
+// Tells what is wrong with the words, or the help that they ask for. Of want of memory only the status tells. It is that of the
+// words, whether or not the text could be written.
 fn tell<W: Write, E: Write>(error: &WordFault, output: &mut W, errors: &mut E) -> u8 {
     if error.kind() == ErrorKind::OutOfMemory {
         2
@@ -219,6 +221,7 @@ pub fn yaml_main<H: Files + AllocGlobal, S: AsStr, R: Read, W: Write, E: Write>(
         Ok(()) => 0,
         Err(fault) => {
             if !matches!(&fault, program_fault_t::Silent) {
+                // Where it can't be told, the status still tells.
                 let _ = writeln!(errors, "yaml_cli: {fault}");
             }
             status_of(&fault)

@@ -23,7 +23,8 @@ use Rattle.yaml_round.specs.Writing.{IsUnder, Finishes, requested_under}
 use Rattle.yaml_round.specs.Layers.{reload_layers}
 use Rattle.yaml_round.specs.Answers.{bytes_of}
 use Rattle.yaml_round_laws_documents.specs.round_laws_back.content.Loads.{Loads, no_more, with_implicit_end, in_front, load_on, load_all, loads_of}
-use Rattle.yaml_round.specs.Reload.{to_load, HasRoot, LoadsDocument, IsLoaded, AreLoaded, written_events, Feeds, Stands, Dumps, DumpsStream, IsEachDump, IsDumped, IsReloaded}
+use Rattle.yaml_round.specs.Reload.{to_load, HasRoot, LoadsDocument, IsLoaded, AreLoaded, written_events, Feeds, Stands, Dumps, DumpsStream, IsEachDump, IsDumped, LaysOutLoading, IsReloaded}
+use Rattle.yaml_round_laws_documents.proofs.round_laws_reading.Loaded.{faultless_load, faulty_load}
 use Rattle.yaml_round.proofs.Laying.{Led, starts, layout, past, one_layout, one_past}
 use Rattle.yaml_round.proofs.Streams.{loaded_text}
 use Rattle.yaml_round.proofs.Documents.{in_normal_documents}
@@ -321,18 +322,22 @@ one_dump : (from : yaml_encoding_t) (input : List ℕ) (settings : yaml_settings
 one_dump from input settings (Ok text) d = one_layout (requested_under settings true) settings.limit (written_events (loads_of from input).documents) text (loaded_text from input (requested_under settings true) refl) d
 one_dump from input settings (Err f) d = one_past (requested_under settings true) settings.limit (written_events (loads_of from input).documents) f (loaded_text from input (requested_under settings true) refl) d
 
+laid_out : (from : yaml_encoding_t) (input : List ℕ) (settings : yaml_settings_t) (result : Result (List ℕ) Fault) → (loads_of from input).fault ≡ None → IsDumped settings (loads_of from input).documents result
+    → LaysOutLoading from settings input result
+laid_out from input settings result h d = record { documents = (loads_of from input).documents; loading = faultless_load from input h; dumped = d }
+
 pub reloaded : (from : yaml_encoding_t) (input : List ℕ) (settings : yaml_settings_t) (ds : List Document) (result : Result (Vec ℕ Global) yaml_fault_t)
     → AreLoaded from input ds → Answers emit_layers bytes_of (IsEachDump settings ds) result → Answers reload_layers bytes_of (IsReloaded from settings input) result
 unfolding IsReloaded
 reloaded from input settings ds (Ok text) a d =
     let P : List Document → Type 0 = λ z. IsEachDump settings z (Ok text.items) in
     let each = subst P a.same d in
-    (a.right, one_dump from input settings (Ok text.items) each, in_normal_documents from settings input text.items (subst AreNumerable a.same a.small) each)
+    (laid_out from input settings (Ok text.items) a.right (one_dump from input settings (Ok text.items) each), in_normal_documents from settings input text.items (subst AreNumerable a.same a.small) each)
 reloaded from input settings ds (Err f) a d =
     let P : List Document → Type 0 = λ z. IsEachDump settings z (Err (fault_of f)) in
-    elim d [ inl m ↦ inl (elim m [ inl e ↦ inl e | inr w ↦ inr (inl w) ]) | inr p ↦ inr (inr (a.right, one_dump from input settings (Err (fault_of f)) (subst P a.same p))) ]
+    elim d [ inl m ↦ inl (elim m [ inl e ↦ inl e | inr w ↦ inr (inl w) ]) | inr p ↦ inr (inr (laid_out from input settings (Err (fault_of f)) a.right (one_dump from input settings (Err (fault_of f)) (subst P a.same p)))) ]
 
 pub not_loaded : (from : yaml_encoding_t) (settings : yaml_settings_t) (input : List ℕ) (f : yaml_fault_t) → IsMemoryFault load_layers (fault_of f) ⊎ IsLoaded from input (Err (fault_of f))
     → IsMemoryFault reload_layers (fault_of f) ⊎ IsReloaded from settings input (Err (fault_of f))
 unfolding IsReloaded
-not_loaded from settings input f h = elim h [ inl m ↦ inl (inr (inr m)) | inr k ↦ inr (inl k) ]
+not_loaded from settings input f h = elim h [ inl m ↦ inl (inr (inr m)) | inr k ↦ inr (inl (faulty_load from input (fault_of f) k)) ]

@@ -14,6 +14,7 @@ use Rattle.yaml_emit.specs.Emitter.{Emitter, Completes}
 use Rattle.yaml_emit.specs.emit_text.declared.Encoding.{Encoding}
 use Rattle.yaml_round_compare.specs.declared.yaml_settings_t.{yaml_settings_t}
 use Rattle.yaml_round_laws_documents.specs.round_laws_back.content.Loads.{Loads, no_more, load_all, loads_of}
+use Rattle.yaml_round_laws_documents.specs.round_laws_reading.PlainLoading.{PlainLoading}
 use Rattle.yaml_round.specs.Writing.{requested_under, IsEachLayout, IsPastEach}
 use Rattle.yaml_round_laws_documents.specs.round_laws_loads.Agree.{AreAgreeing}
 use Rattle.yaml_round_laws_documents.specs.round_laws_dumps.Events.{trees_of_dumps, AreNumerable}
@@ -56,17 +57,21 @@ pub record IsNormalOfDocuments (from : yaml_encoding_t) (settings : yaml_setting
   -- and it is laid out for the documents that it loads itself
   pub again : IsDumped settings (loads_of YAML_ANY_ENCODING text).documents (Ok text)
 
--- The input's documents, laid out, a normal form of them; the fault that ends them; or, where none does, a limit that the layout
--- passes.
+-- The documents of the plain loading, laid out, or a limit that the layout passes.
+pub record LaysOutLoading (from : yaml_encoding_t) (settings : yaml_settings_t) (input : List ℕ)
+    (result : Result (List ℕ) Fault) : Type 0 where
+  pub documents : List Document
+  pub loading : PlainLoading from input (Ok documents)
+  pub dumped : IsDumped settings documents result
+
+-- The documents of the input's tree, laid out, a normal form of them; the fault that loading its tokens ends in, the one of the
+-- least place; or, where there is none, a limit that the layout passes.
 unfoldable pub IsReloaded : yaml_encoding_t → yaml_settings_t → List ℕ → Result (List ℕ) Fault
     → Type 0
-IsReloaded from settings input (Ok text) = ((loads_of from input).fault ≡ None)
-    × IsDumped settings (loads_of from input).documents (Ok text)
+IsReloaded from settings input (Ok text) = LaysOutLoading from settings input (Ok text)
     × IsNormalOfDocuments from settings input text
-IsReloaded from settings input (Err fault) =
-    ((loads_of from input).fault ≡ Some fault)
-    ⊎ (((loads_of from input).fault ≡ None) × IsDumped settings (loads_of from input).documents
-    (Err fault))
+IsReloaded from settings input (Err fault) = PlainLoading from input (Err fault)
+    ⊎ LaysOutLoading from settings input (Err fault)
 
 -- ---- the steps
 

@@ -18,7 +18,7 @@ use Rattle.yaml_round_laws_reloads.specs.Laws.{ReloadsTellDocuments, AnswersAndR
 
 normal_of : (from : yaml_encoding_t) (s : yaml_settings_t) (input text : List ℕ) → IsReloaded from s input (Ok text) → IsNormalOfDocuments from s input text
 unfolding IsReloaded
-normal_of from s input text h = h.2
+normal_of from s input text h = h.1
 
 pub tell : ReloadsTellDocuments
 tell s a_from b_from a b t u h k =

@@ -1,2 +1,2 @@
 mod Joining
-mod Loading
+mod Loads

@@ -1,2 +1,2 @@
 pub mod Laws
-pub mod Loading
+pub mod Loads

@@ -1,6 +1,6 @@
 //! Each function's contract is a law.
 
-ghost use Rattle.yaml_round_laws_reloads.specs.Loading.{ReloadsAreOfLoading};
+ghost use Rattle.yaml_round_laws_reloads.specs.Loads.{ReloadsAreOfLoads};
 ghost use Rattle.yaml_round_laws_reloads.specs.Laws.{
   AnswersAndReloadsAgree,
   NamesLeaveReloads,
@@ -23,8 +23,8 @@ pub fn names_leave_reloads()
     ensures { NamesLeaveReloads }
 {}
 
-/// What `yaml_reload` answers is said of trees and of places: the documents of the input's tree, numbered and laid out; or the fault of
-/// loading its tokens, the one of the least place; or, where there is none, a limit that the layout passes.
-pub fn reloads_are_of_loading()
-    ensures { ReloadsAreOfLoading }
+/// What `yaml_reload` answers, which its contract says of the input's plain loading, is said of its loads: the documents that they give,
+/// laid out; or the fault that ends them; or, where none does, a limit that the layout passes.
+pub fn reloads_are_of_loads()
+    ensures { ReloadsAreOfLoads }
 {}

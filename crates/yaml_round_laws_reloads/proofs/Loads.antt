@@ -1,0 +1,48 @@
+-- What is answered is said of what is loaded.
+use Rattle.std.proofs.Common.{◌≡◌, inl, inr, ℕ, List, Option, Some, None, Result, Ok, Err, refl, sym, subst}
+use Rattle.yaml_round.specs.round_laws_documents.round_laws_back.content.round_laws.emit_laws_streams.scan.declared.yaml_encoding_t.{yaml_encoding_t}
+use Rattle.yaml_round.specs.round_laws_documents.round_laws_back.content.round_laws.emit_laws_streams.scan.Faults.{Fault}
+use Rattle.yaml_round.specs.round_laws_documents.round_laws_back.content.round_laws.emit_laws_streams.parse.Documents.{Document}
+use Rattle.yaml_round.specs.round_laws_documents.round_laws_back.content.Loads.{loads_of}
+use Rattle.yaml_round.specs.round_laws_reading.PlainLoading.{unless_faulty}
+use Rattle.yaml_round.proofs.round_laws_documents.round_laws_reading.Loaded.{faultless_load, faulty_load, loading_loads}
+use Rattle.yaml_round.specs.declared.yaml_settings_t.{yaml_settings_t}
+use Rattle.yaml_round.specs.Reload.{IsDumped, LaysOutLoading, IsReloaded}
+use Rattle.yaml_round_laws_reloads.specs.Loads.{LaysOutLoads, AreLoadsReloaded, ReloadsAreOfLoads}
+
+no_fault : (ds es : List Document) (o : Option Fault) → unless_faulty ds o ≡ Ok es → o ≡ None
+no_fault ds es None h = refl
+no_fault ds es (Some f) h = cc
+
+same_documents : (ds es : List Document) (o : Option Fault) → unless_faulty ds o ≡ Ok es → ds ≡ es
+same_documents ds es None h = cc
+same_documents ds es (Some f) h = cc
+
+same_fault : (ds : List Document) (o : Option Fault) (e : Fault) → unless_faulty ds o ≡ Err e → o ≡ Some e
+same_fault ds None e h = cc
+same_fault ds (Some f) e h = cc
+
+laid_out : (from : yaml_encoding_t) (settings : yaml_settings_t) (input : List ℕ) (r : Result (List ℕ) Fault) → LaysOutLoads from settings input r → LaysOutLoading from settings input r
+laid_out from settings input r h = record { documents = (loads_of from input).documents; loading = faultless_load from input h.0; dumped = h.1 }
+
+dumped : (from : yaml_encoding_t) (settings : yaml_settings_t) (input : List ℕ) (r : Result (List ℕ) Fault) → LaysOutLoading from settings input r → LaysOutLoads from settings input r
+dumped from settings input r h =
+    let e = loading_loads from input (Ok h.documents) h.loading in (
+      no_fault (loads_of from input).documents h.documents (loads_of from input).fault e,
+      subst (λ (ds : List Document). IsDumped settings ds r) (sym (same_documents (loads_of from input).documents h.documents (loads_of from input).fault e)) h.dumped,
+    )
+
+to_loads : (from : yaml_encoding_t) (settings : yaml_settings_t) (input : List ℕ) (r : Result (List ℕ) Fault) → IsReloaded from settings input r → AreLoadsReloaded from settings input r
+unfolding IsReloaded
+to_loads from settings input (Ok text) h = (dumped from settings input (Ok text) h.0, h.1)
+to_loads from settings input (Err e) (inl h) = inl (same_fault (loads_of from input).documents (loads_of from input).fault e (loading_loads from input (Err e) h))
+to_loads from settings input (Err e) (inr h) = inr (dumped from settings input (Err e) h)
+
+from_loads : (from : yaml_encoding_t) (settings : yaml_settings_t) (input : List ℕ) (r : Result (List ℕ) Fault) → AreLoadsReloaded from settings input r → IsReloaded from settings input r
+unfolding IsReloaded
+from_loads from settings input (Ok text) h = (laid_out from settings input (Ok text) h.0, h.1)
+from_loads from settings input (Err e) (inl h) = inl (faulty_load from input e h)
+from_loads from settings input (Err e) (inr h) = inr (laid_out from settings input (Err e) h)
+
+pub of_loads : ReloadsAreOfLoads
+of_loads from settings input r = (λ h. to_loads from settings input r h, λ h. from_loads from settings input r h)

@@ -1,5 +1,5 @@
 -- What reading an indicator answers.
-use Rattle.std.proofs.Common.{◌≡◌, ℕ, ◌+◌, ◌<◌, Bool, List, Option, Some, None, Result, Ok, false, refl, sym, ap, subst, arith}
+use Rattle.std.proofs.Common.{◌≡◌, ℕ, ◌+◌, ◌<◌, Bool, List, Option, Some, None, Result, Ok, false, ap, arith}
 use Rattle.std.proofs.lemmas.Bool.Decides.{nat_tests}
 use Rattle.yaml_scan_model.specs.Tokens as tokens
 use Rattle.yaml_scan_model.specs.Tokens.{TokenBody}
@@ -8,7 +8,7 @@ use Rattle.yaml_scan_model.specs.Marks.{byte, break_of, break_width}
 use Rattle.yaml_scan_history.specs.declared.kind.Kind.{Kind}
 use Rattle.yaml_scan_history.specs.declared.kind.Kind.TheVariants as kinds
 use Rattle.yaml_scan_history.specs.Words.{WordText, carrying, word_at}
-use Rattle.yaml_scan.specs.Stands.{Stands, indicator_byte}
+use Rattle.yaml_scan.specs.Stands.{Stands}
 use Rattle.yaml_scan.specs.Given.{indicator_at}
 
 -- the byte of an indicator begins no break

@@ -204,18 +204,19 @@ impl<'a> Machine<'a> {
             *slot = yaml_token_t::empty();
             return;
         };
+        // The marks are read where they lie: of a lexeme that was taken out they would be copied with all that it has.
+        slot.start_mark = first.entry.lexeme.start;
         if let Some(before) = first.before(self.given) {
-            let mark = first.entry.lexeme.start;
+            slot.end_mark = first.entry.lexeme.start;
             self.given += 1;
             slot.body = before.body();
-            slot.start_mark = mark;
-            slot.end_mark = mark;
             return;
         }
+        slot.end_mark = first.entry.lexeme.end;
         self.dropped += 1;
         self.given = 0;
         match self.waiting.pop_front() {
-            Some(front) => front.put(slot),
+            Some(front) => slot.body = front.body,
             None => *slot = yaml_token_t::empty(),
         }
     }

@@ -1,14 +1,14 @@
 //! The lexemes that wait, and the tokens that they are spelled out in.
 
 ghost use Rattle.std.specs.Prelude.{◌≡◌, ◌&&◌, ◌==◌, if◌then◌else◌, Some, None, option_map};
-ghost use Rattle.yaml_scan_model.specs.Tokens.{body_of, token_of};
+ghost use Rattle.yaml_scan_model.specs.Tokens.{body_of};
 ghost use Rattle.yaml_scan.specs.Front.{front_at, start_at, key_at};
 ghost use Rattle.yaml_scan.specs.Fronted.{token_before};
 ghost use Rattle.yaml_scan_history.specs.History as history;
 ghost use Rattle.yaml_scan.specs.Shows as shows;
 
 use yaml_scan_history::{Entry, Lexeme, Opens, is_fresh};
-use yaml_scan_model::{yaml_mark_t, yaml_token_body_t, yaml_token_t};
+use yaml_scan_model::{yaml_mark_t, yaml_token_body_t};
 
 /// A lexeme that was read and not yet taken.
 #[derive(Drop)]
@@ -74,19 +74,6 @@ impl Waiting {
             return Some(Before::BlockEnd);
         }
         start_before(self.entry.opens, self.entry.key, given - self.entry.ends)
-    }
-
-    /// Its own token, in a slot.
-    pub(crate) fn put(self, slot: &mut yaml_token_t)
-        ensures { token_of slot.new ≡ record {
-          body = body_of self.body;
-          start_mark = self.entry.lexeme.start;
-          end_mark = self.entry.lexeme.end;
-        } }
-    {
-        slot.body = self.body;
-        slot.start_mark = self.entry.lexeme.start;
-        slot.end_mark = self.entry.lexeme.end;
     }
 }
 

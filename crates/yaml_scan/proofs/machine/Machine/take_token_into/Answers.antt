@@ -1,7 +1,7 @@
 use Rattle.std.proofs.Common.{◌≡◌, List, [], ◌∷◌, sym, ap, subst, ◌∙◌, arith, ◌+◌, length, get_or, true, refl, Some, None}
 use Rattle.std.specs.Prelude.{map, option_map}
 use Rattle.yaml_scan_decode.specs.DecodedText.{text_bytes}
-use Rattle.yaml_scan_model.specs.Tokens.{Token, TokenBody, body_of, token_of}
+use Rattle.yaml_scan_model.specs.Tokens.{Token, TokenBody, body_of}
 use Rattle.yaml_scan_history.specs.Remaining.{remaining, before, body_in, token_in}
 use Rattle.yaml_scan.specs.declared.waiting.Waiting.{Waiting}
 use Rattle.yaml_scan.specs.State.{ready_in, AreInside, AreBounded}
@@ -86,7 +86,8 @@ returns-in-Some-pop_front-clause-gives c =
     let ready : ready_in m.dropped m.settled m.given (front ∷ rest) ≡ true = ap (λ (ws : List Waiting). ready_in m.dropped m.settled m.given ws) (sym items) ∙ c.requires.ready in
     let low = own_settled m.dropped m.settled m.given front rest ready none in
     let spoken : body_of front.body ≡ body_in (stream_of m) front.entry.lexeme = subst (λ (ws : List Waiting). AreSpoken (stream_of m) ws) items c.requires.stands.spoken 0 front (omega arith) in
-    let own : token_in (stream_of m) front.entry.lexeme ≡ token_of c.put.new.slot = ap (λ (b : TokenBody). record { body = b; start_mark = front.entry.lexeme.start; end_mark = front.entry.lexeme.end }) (sym spoken) ∙ sym c.put.ensures in
+    let given : Waiting → Token = λ x. record { body = body_of front.body; start_mark = x.entry.lexeme.start; end_mark = x.entry.lexeme.end } in
+    let own : token_in (stream_of m) front.entry.lexeme ≡ given c.in-Some.first.now = ap (λ (b : TokenBody). record { body = b; start_mark = front.entry.lexeme.start; end_mark = front.entry.lexeme.end }) (sym spoken) ∙ ap given (sym here) in
     let (tokens, fault) = gives_own m front rest c.requires.stands items low none in
     let on = ready_started m c.requires.stands c.requires.ready in
-    left_gives m record m { waiting = c.pop_front.new.self; dropped = m.dropped + 1; given = 0 } (token_of c.put.new.slot) on on (tokens ∙ ap (λ (t : Token). t ∷ (remaining (stream_of m) (m.dropped + 1) 0).tokens) own, fault)
+    left_gives m record m { waiting = c.pop_front.new.self; dropped = m.dropped + 1; given = 0 } (given c.in-Some.first.now) on on (tokens ∙ ap (λ (t : Token). t ∷ (remaining (stream_of m) (m.dropped + 1) 0).tokens) own, fault)

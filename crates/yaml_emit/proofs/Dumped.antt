@@ -5,16 +5,18 @@ use Rattle.yaml_scan_model.specs.declared.yaml_fault_t.{yaml_fault_t}
 use Rattle.yaml_parse_model.specs.Nodes.{Node}
 use Rattle.yaml_parse_document.specs.Documents.{Document}
 use Rattle.yaml_emit_text.specs.declared.Encoding.{Encoding}
+use Rattle.yaml_emit_text.specs.declared.Settings.{Settings}
 use Rattle.yaml_emit_text.specs.declared.Status.{Status}
 use Rattle.yaml_emit_text.specs.declared.Status.TheVariants.{Going, Full, Deep, Starved}
 use Rattle.yaml_emit_text.specs.Text.{Item}
 use Rattle.yaml_emit_text.specs.Layout.{stay, nothing_more}
-use Rattle.yaml_emit_text.specs.Sink.{Ends}
+use Rattle.yaml_emit_text.specs.Sink.{Output, Ends}
 use Rattle.yaml_emit_text.proofs.Sinks.{ends_other, status_cases}
 use Rattle.yaml_emit_layout.specs.Content.{Event, stream_end}
+use Rattle.yaml_emit_layout.specs.State.{State}
 use Rattle.yaml_emit_layout.specs.ToCome.{layout}
 use Rattle.yaml_emit_state.specs.declared.Core.{Core}
-use Rattle.yaml_emit_state.specs.Steps.{Starves, settings_of}
+use Rattle.yaml_emit_state.specs.Steps.{Starves, state_of, settings_of}
 use Rattle.yaml_emit_state.specs.Finish.{Finishes, FinishesAt, FinishesBy}
 use Rattle.yaml_emit_graph.specs.declared.Events.{Events}
 use Rattle.yaml_emit.specs.declared.emitter.yaml_emitter_t.TheInside.{Inside}
@@ -23,6 +25,7 @@ use Rattle.yaml_emit.specs.Held.{held_events}
 use Rattle.yaml_emit.specs.Emitter.{Emitter, emitter_of, IsEmitter, CompletesBy, Completes, Given, GivesSome, Stuck, left_if, opening_events, closing_events, dump_events, document_events_by, document_events, Answers}
 use Rattle.yaml_emit_graph.specs.Graph.{dumped}
 use Rattle.yaml_emit.specs.Dumping.{DumpsBy, Dumps}
+use Rattle.yaml_emit.proofs.Viewing.{seen}
 use Rattle.yaml_emit.proofs.Emitting.{stopped_completes, not_true}
 
 pub gives_none : (e : Emitter) (es : List Event) → Stuck e → GivesSome e es e []
@@ -53,45 +56,46 @@ pub dumps_off : (going : Bool) (d : Document) (old new : Emitter) (before after 
 dumps_off true d old new before after h p = absurd (cc)
 dumps_off false d old new before after h p = p
 
-going_at : (s : Status) (core : Core) (es : List Event) (whole : List Item) → s ≡ Going → FinishesAt s core es whole → FinishesBy core es whole
-going_at Going core es whole g h = h
-going_at Full core es whole g h = absurd (cc)
-going_at Deep core es whole g h = absurd (cc)
-going_at Starved core es whole g h = absurd (cc)
+going_at : (s : Status) (v : Settings) (st : State) (o : Output) (es : List Event) (whole : List Item) → s ≡ Going → FinishesAt s v st o es whole → FinishesBy v st o es whole
+going_at Going v st o es whole g h = h
+going_at Full v st o es whole g h = absurd (cc)
+going_at Deep v st o es whole g h = absurd (cc)
+going_at Starved v st o es whole g h = absurd (cc)
 
-stopped_at : (s : Status) (core : Core) (es : List Event) (whole : List Item) → s ≢ Going → FinishesAt s core es whole → Ends core.sink [] whole
-stopped_at Going core es whole n h = absurd (n refl)
-stopped_at Full core es whole n h = h
-stopped_at Deep core es whole n h = h
-stopped_at Starved core es whole n h = h
+stopped_at : (s : Status) (v : Settings) (st : State) (o : Output) (es : List Event) (whole : List Item) → s ≢ Going → FinishesAt s v st o es whole → Ends o [] whole
+stopped_at Going v st o es whole n h = absurd (n refl)
+stopped_at Full v st o es whole n h = h
+stopped_at Deep v st o es whole n h = h
+stopped_at Starved v st o es whole n h = h
 
-at_stopped : (s : Status) (core : Core) (es : List Event) (whole : List Item) → s ≢ Going → Ends core.sink [] whole → FinishesAt s core es whole
-at_stopped Going core es whole n h = absurd (n refl)
-at_stopped Full core es whole n h = h
-at_stopped Deep core es whole n h = h
-at_stopped Starved core es whole n h = h
+at_stopped : (s : Status) (v : Settings) (st : State) (o : Output) (es : List Event) (whole : List Item) → s ≢ Going → Ends o [] whole → FinishesAt s v st o es whole
+at_stopped Going v st o es whole n h = absurd (n refl)
+at_stopped Full v st o es whole n h = h
+at_stopped Deep v st o es whole n h = h
+at_stopped Starved v st o es whole n h = h
 
-starved_finishes : (old new : Core) (xs ys : List Event) (whole : List Item) → Starves old new → Finishes old xs whole → Finishes new ys whole
+starved_finishes : (old new : Core) (xs ys : List Event) (whole : List Item) → Starves old new → Finishes (settings_of old) (state_of old) old.sink xs whole → Finishes (settings_of new) (state_of new) new.sink ys whole
 unfolding Finishes
 starved_finishes old new xs ys whole s h =
-    at_stopped new.sink.status new ys whole s.stopped (status_cases old.sink.status
-    (λ g. let f = going_at old.sink.status old xs whole g h in (s.text (layout (settings_of old) f.rest)).ends nothing_more whole f.ends)
-    (λ n. (s.text stay).ends nothing_more whole (ends_other old.sink [] _ whole n (stopped_at old.sink.status old xs whole n h))))
+    at_stopped new.sink.status (settings_of new) (state_of new) new.sink ys whole s.stopped (status_cases old.sink.status
+    (λ g. let f = going_at old.sink.status (settings_of old) (state_of old) old.sink xs whole g h in (s.text (layout (settings_of old) f.rest)).ends nothing_more whole f.ends)
+    (λ n. (s.text stay).ends nothing_more whole (ends_other old.sink [] _ whole n (stopped_at old.sink.status (settings_of old) (state_of old) old.sink xs whole n h))))
 
-starved_completes : (old new : Emitter) (x : Encoding) (xs ys : List Event) (whole : List Item) → old.fresh ≡ false → new.fresh ≡ false → Starves old.core new.core → Completes old x xs whole → Completes new x ys whole
+starved_completes : (i : Inside) (core : Core) (fault : Option Fault) (x : Encoding) (xs ys : List Event) (whole : List Item) → i.fresh ≡ false → Starves i.core core
+    → Completes (emitter_of i) x xs whole → Completes (seen i.requested_settings core (held_events i.held) i.fresh i.opened i.closed fault) x ys whole
 unfolding Completes
-starved_completes old new x xs ys whole a b s c =
-    let P : Bool → Type 0 = λ z. CompletesBy z old x xs whole in
-    let Q : Bool → Type 0 = λ z. CompletesBy z new x ys whole in
+starved_completes i core fault x xs ys whole a s c =
+    let P : Bool → Type 0 = λ z. CompletesBy z (emitter_of i) x xs whole in
+    let Q : Bool → Type 0 = λ z. CompletesBy z (seen i.requested_settings core (held_events i.held) i.fresh i.opened i.closed fault) x ys whole in
     let k = subst P a c in
-    subst Q (sym b) ((s.text stay).encoding ∙ k.0, starved_finishes old.core new.core _ _ whole s k.1)
+    subst Q (sym a) ((s.text stay).encoding ∙ k.0, starved_finishes i.core core _ _ whole s k.1)
 
 pub inside_starves : (i : Inside) (core : Core) (fault : Option Fault) (es : List Event) → i.fresh ≡ false → Starves i.core core
-    → GivesSome (emitter_of i) es (record { requested_settings = i.requested_settings; limit = i.limit; core = core; held = held_events i.held; output = core.sink.bytes; fresh = i.fresh; opened = i.opened; closed = i.closed; fault = fault }) []
+    → GivesSome (emitter_of i) es (seen i.requested_settings core (held_events i.held) i.fresh i.opened i.closed fault) []
 inside_starves i core fault es fr s = record {
-  completes = λ x more whole h. starved_completes (emitter_of i) (record { requested_settings = i.requested_settings; limit = i.limit; core = core; held = held_events i.held; output = core.sink.bytes; fresh = i.fresh; opened = i.opened; closed = i.closed; fault = fault }) x (es ++ more) more whole fr fr s h;
+  completes = λ x more whole h. starved_completes i core fault x (es ++ more) more whole fr s h;
   requested_settings = refl;
-  limit = refl;
+  limit = (s.text stay).limit;
   begun = λ b. b;
 }
 

@@ -17,6 +17,7 @@ use Rattle.yaml_emit.specs.Emitter.{Emitter, emitter_of, left_if, opening_events
 use Rattle.yaml_emit_graph.specs.Graph.{dumped}
 use Rattle.yaml_emit.specs.Judged.{text_from, LetsOut}
 use Rattle.yaml_emit.specs.Verdict.{WritesBy, Writes, Judged, JudgedAll, Unjudged}
+use Rattle.yaml_emit.proofs.Viewing.{seen}
 use Rattle.yaml_emit.proofs.Dumped.{document_events_none, document_events_some}
 
 pub judged_none : (e : Emitter) (es : List Event) → Unjudged e → JudgedAll e es e []
@@ -61,25 +62,26 @@ judged_ended true a b c es fs gs h p q = absurd (cc)
 judged_ended false a b c es fs gs h p q = judged_on a b c es fs [] p q
 
 -- memory was refused for the dump
-starved_lets_out : (old new : Core) (xs ys : List Event) (whole : List Item) → Starves old new → LetsOut old xs whole → LetsOut new ys whole
+starved_lets_out : (old new : Core) (xs ys : List Event) (whole : List Item) → Starves old new → LetsOut (settings_of old) (state_of old) old.sink xs whole → LetsOut (settings_of new) (state_of new) new.sink ys whole
 unfolding LetsOut
 starved_lets_out old new xs ys whole s h =
     let before : Layout = λ c rest. text_from (settings_of old) (state_of old) xs c nothing_more in
     (s.text before).ends (λ c. text_from (settings_of new) (state_of new) ys c nothing_more) whole h
 
-starved_writes : (old new : Emitter) (x : Encoding) (xs ys : List Event) (whole : List Item) → old.fresh ≡ false → new.fresh ≡ false → Starves old.core new.core → Writes old x xs whole → Writes new x ys whole
+starved_writes : (i : Inside) (core : Core) (fault : Option Fault) (x : Encoding) (xs ys : List Event) (whole : List Item) → i.fresh ≡ false → Starves i.core core
+    → Writes (emitter_of i) x xs whole → Writes (seen i.requested_settings core (held_events i.held) i.fresh i.opened i.closed fault) x ys whole
 unfolding Writes
-starved_writes old new x xs ys whole a b s c =
-    let P : Bool → Type 0 = λ z. WritesBy z old x xs whole in
-    let Q : Bool → Type 0 = λ z. WritesBy z new x ys whole in
+starved_writes i core fault x xs ys whole a s c =
+    let P : Bool → Type 0 = λ z. WritesBy z (emitter_of i) x xs whole in
+    let Q : Bool → Type 0 = λ z. WritesBy z (seen i.requested_settings core (held_events i.held) i.fresh i.opened i.closed fault) x ys whole in
     let k = subst P a c in
-    subst Q (sym b) ((s.text stay).encoding ∙ k.0, starved_lets_out old.core new.core _ _ whole s k.1)
+    subst Q (sym a) ((s.text stay).encoding ∙ k.0, starved_lets_out i.core core _ _ whole s k.1)
 
 pub inside_starves_judged : (i : Inside) (core : Core) (fault : Option Fault) (es : List Event) → i.fresh ≡ false → Starves i.core core
-    → JudgedAll (emitter_of i) es (record { requested_settings = i.requested_settings; limit = i.limit; core = core; held = held_events i.held; output = core.sink.bytes; fresh = i.fresh; opened = i.opened; closed = i.closed; fault = fault }) []
+    → JudgedAll (emitter_of i) es (seen i.requested_settings core (held_events i.held) i.fresh i.opened i.closed fault) []
 inside_starves_judged i core fault es fr s = record {
   refuses = λ g more. absurd (s.stopped g);
-  writes = λ x more whole h. starved_writes (emitter_of i) (record { requested_settings = i.requested_settings; limit = i.limit; core = core; held = held_events i.held; output = core.sink.bytes; fresh = i.fresh; opened = i.opened; closed = i.closed; fault = fault }) x (es ++ more) more whole fr fr s h;
+  writes = λ x more whole h. starved_writes i core fault x (es ++ more) more whole fr s h;
   going = λ g. absurd (s.stopped g);
   memory = notes_starved _ _ s;
 }

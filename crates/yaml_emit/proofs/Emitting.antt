@@ -8,7 +8,7 @@ use Rattle.yaml_emit_text.specs.declared.Status.{Status}
 use Rattle.yaml_emit_text.specs.declared.Status.TheVariants.{Going, Full, Deep, Starved}
 use Rattle.yaml_emit_text.specs.Text.{Item, encode, is_deep}
 use Rattle.yaml_emit_text.specs.Settings.{settled}
-use Rattle.yaml_emit_text.specs.Sink.{Ends, EndsBy}
+use Rattle.yaml_emit_text.specs.Sink.{Output, Ends, EndsBy}
 use Rattle.yaml_emit_text.specs.Layout.{written}
 use Rattle.yaml_emit_layout.specs.declared.Problem.{Problem}
 use Rattle.yaml_emit_layout.specs.declared.Expected.{Expected}
@@ -20,16 +20,17 @@ use Rattle.yaml_emit_layout.specs.State.{State}
 use Rattle.yaml_emit_layout.specs.ToCome.{ToCome, stream, documents, root, frames, nothing, Frame, level_of, levels_of}
 use Rattle.yaml_emit_layout.specs.ToCome as come
 use Rattle.yaml_emit_state.specs.declared.Core.{Core}
-use Rattle.yaml_emit_state.specs.Steps.{state_of, goes_on, IsFresh}
+use Rattle.yaml_emit_state.specs.Steps.{state_of, settings_of, goes_on, IsFresh}
 use Rattle.yaml_emit_state.specs.Finish.{Finishes, FinishesAt, FinishesBy, Leads}
 use Rattle.yaml_emit_state.proofs.Finishing.{fresh_finishes}
 use Rattle.yaml_emit.specs.Held.{held_events}
 use Rattle.yaml_scan_model.specs.declared.yaml_fault_t.{yaml_fault_t}
 use Rattle.yaml_emit.specs.declared.held.Held.{Held}
 use Rattle.yaml_emit.specs.declared.emitter.yaml_emitter_t.TheInside.{Inside}
-use Rattle.yaml_emit.specs.Emitter.{Emitter, emitter_of, IsEmitter, write_error, too_deep, problem_fault, memory_origin, refusal_by, refusal_of, IsLimited, stream_encoding, IsStream, CompletesBy, Completes, HasWritten, ShowsFront, IsWhole, Given, Begins}
+use Rattle.yaml_emit.specs.Emitter.{Emitter, text_of, emitter_of, IsEmitter, write_error, too_deep, problem_fault, memory_origin, refusal_by, stop_of, IsLimited, stream_encoding, IsStream, CompletesBy, Completes, HasWritten, ShowsFront, IsWhole, Given, Begins}
 use Rattle.yaml_emit.specs.Judged.{refused_at}
 use Rattle.yaml_emit.proofs.Ending.{all_written}
+use Rattle.yaml_emit.proofs.Viewing.{seen}
 
 pub refusal_none : (p : Expected) (s : Status) (b : Bool) → refusal_by p s b ≡ None → goes_on s p ≡ true
 refusal_none at.StreamStart Going b h = refl
@@ -61,49 +62,49 @@ going_refused at.Node f st k w h e = cc
 going_refused at.DocumentEnd f st k w h e = cc
 going_refused at.End f st k w h e = cc
 
-finishes_stopped : (s : Status) (core : Core) (f : Fault) (xs ys : List Event) (whole : List Item) → refusal_by core.place s core.starved ≡ Some f → FinishesAt s core xs whole → FinishesAt s core ys whole
-finishes_stopped Going core f xs ys whole h r = absurd (going_refused core.place f (state_of core) r.rest refl h r.fits)
-finishes_stopped Full core f xs ys whole h r = r
-finishes_stopped Deep core f xs ys whole h r = r
-finishes_stopped Starved core f xs ys whole h r = r
+finishes_stopped : (s : Status) (v : Settings) (st : State) (o : Output) (levels : Bool) (f : Fault) (xs ys : List Event) (whole : List Item) → refusal_by st.place s levels ≡ Some f → FinishesAt s v st o xs whole → FinishesAt s v st o ys whole
+finishes_stopped Going v st o levels f xs ys whole h r = absurd (going_refused st.place f st r.rest refl h r.fits)
+finishes_stopped Full v st o levels f xs ys whole h r = r
+finishes_stopped Deep v st o levels f xs ys whole h r = r
+finishes_stopped Starved v st o levels f xs ys whole h r = r
 
 -- behind a fault the events that come count for nothing
-pub stopped_completes : (e : Emitter) (f : Fault) (x : Encoding) (xs ys : List Event) (whole : List Item) → e.fresh ≡ false → refusal_of e.core ≡ Some f → Completes e x xs whole → Completes e x ys whole
+pub stopped_completes : (e : Emitter) (f : Fault) (x : Encoding) (xs ys : List Event) (whole : List Item) → e.fresh ≡ false → stop_of e ≡ Some f → Completes e x xs whole → Completes e x ys whole
 unfolding Completes Finishes
 stopped_completes e f x xs ys whole b h c =
     let P : Bool → Type 0 = λ z. CompletesBy z e x xs whole in
     let Q : Bool → Type 0 = λ z. CompletesBy z e x ys whole in
     let k = subst P b c in
-    subst Q (sym b) (k.0, finishes_stopped e.core.sink.status e.core f _ _ whole h k.1)
+    subst Q (sym b) (k.0, finishes_stopped e.status e.settings e.state (text_of e) e.starved f _ _ whole h k.1)
 
 -- an event was given
 pub lay_completes : (old new : Emitter) (e : Event) (h : List Event) (x : Encoding) (es : List Event) (whole : List Item) → old.fresh ≡ false → new.fresh ≡ false → h ≡ old.held
-    → Leads old.core (h ++ e ∷ []) new.core new.held → Completes old x (e ∷ es) whole → Completes new x es whole
+    → (Finishes old.settings old.state (text_of old) ((h ++ e ∷ []) ++ es) whole → Finishes new.settings new.state (text_of new) (new.held ++ es) whole) → new.settings.encoding ≡ old.settings.encoding
+    → Completes old x (e ∷ es) whole → Completes new x es whole
 unfolding Completes
-lay_completes old new e h x es whole a b same l c =
+lay_completes old new e h x es whole a b same on coded c =
     let P : Bool → Type 0 = λ z. CompletesBy z old x (e ∷ es) whole in
     let Q : Bool → Type 0 = λ z. CompletesBy z new x es whole in
     let k = subst P a c in
-    let R : List Event → Type 0 = λ t. Finishes old.core t whole in
+    let R : List Event → Type 0 = λ t. Finishes old.settings old.state (text_of old) t whole in
     let move : old.held ++ (e ∷ es) ≡ (h ++ e ∷ []) ++ es = ap (λ z. z ++ (e ∷ es)) (sym same) ∙ sym (append_assoc h (e ∷ []) es) in
-    subst Q (sym b) (l.encoding ∙ k.0, l.finishes es whole (subst R move k.1))
+    subst Q (sym b) (coded ∙ k.0, on (subst R move k.1))
 
 -- the settings came into force
-pub begin_completes : (old new : Emitter) (e : Event) (x : Encoding) (es : List Event) (whole : List Item) → old.fresh ≡ true → new.fresh ≡ false → new.held ≡ []
-    → IsFresh new.core (settled old.requested_settings (stream_encoding e)) → Completes old x (e ∷ es) whole → Completes new x (e ∷ es) whole
+pub begin_completes : (old : Emitter) (core : Core) (held : List Event) (opened closed : Bool) (fault : Option Fault) (e : Event) (x : Encoding) (es : List Event) (whole : List Item) → old.fresh ≡ true → held ≡ []
+    → IsFresh core (settled old.requested_settings (stream_encoding e)) → Completes old x (e ∷ es) whole → Completes (seen old.requested_settings core held false opened closed fault) x (e ∷ es) whole
 unfolding Completes
-begin_completes old new e x es whole a b none f c =
+begin_completes old core held opened closed fault e x es whole a none f c =
     let P : Bool → Type 0 = λ z. CompletesBy z old x (e ∷ es) whole in
-    let Q : Bool → Type 0 = λ z. CompletesBy z new x (e ∷ es) whole in
     let k : IsStream old.requested_settings x (e ∷ es) whole = subst P a c in
     let head : e ≡ stream_start k.encoding = (let w = k.same in cc) in
-    let F : yaml_encoding_t → Type 0 = λ z. IsFresh new.core (settled old.requested_settings z) in
-    let f' : IsFresh new.core (settled old.requested_settings k.encoding) = subst F (ap stream_encoding head) f in
+    let F : yaml_encoding_t → Type 0 = λ z. IsFresh core (settled old.requested_settings z) in
+    let f' : IsFresh core (settled old.requested_settings k.encoding) = subst F (ap stream_encoding head) f in
     let O : List Event → Type 0 = λ t. own_problems old.requested_settings.canonical t ≡ None in
-    let done = fresh_finishes new.core (settled old.requested_settings k.encoding) k.encoding k.documents f' (subst O k.same k.right) in
-    let R : List Event → Type 0 = λ t. Finishes new.core t (written (stream_layout (settled old.requested_settings k.encoding) k.documents)) in
-    let S : List Item → Type 0 = λ t. Finishes new.core (new.held ++ (e ∷ es)) t in
-    subst Q (sym b) (ap (λ (z : Settings). z.encoding) f'.settings ∙ sym k.coded, subst S (sym k.is) (subst R (sym (ap (λ z. z ++ (e ∷ es)) none ∙ k.same)) done))
+    let done = fresh_finishes core (settled old.requested_settings k.encoding) k.encoding k.documents f' (subst O k.same k.right) in
+    let R : List Event → Type 0 = λ t. Finishes (settings_of core) (state_of core) core.sink t (written (stream_layout (settled old.requested_settings k.encoding) k.documents)) in
+    let S : List Item → Type 0 = λ t. Finishes (settings_of core) (state_of core) core.sink (held ++ (e ∷ es)) t in
+    (ap (λ (z : Settings). z.encoding) f'.settings ∙ sym k.coded, subst S (sym k.is) (subst R (sym (ap (λ z. z ++ (e ∷ es)) none ∙ k.same)) done))
 
 written_by : (s : Status) (limit : ℕ) (x : Encoding) (bytes : List ℕ) (text whole : List Item) → EndsBy s limit x bytes text whole → HasWritten s limit bytes (encode x whole) (is_deep whole)
 written_by Going limit x bytes text whole h = (encode x text, h.0)
@@ -111,15 +112,15 @@ written_by Full limit x bytes text whole h = h
 written_by Deep limit x bytes text whole h = h
 written_by Starved limit x bytes text whole h = h
 
-ends_written : (s : Status) (core : Core) (text whole : List Item) → s ≡ core.sink.status → Ends core.sink text whole → HasWritten s core.sink.limit core.sink.bytes (encode core.sink.encoding whole) (is_deep whole)
+ends_written : (s : Status) (o : Output) (text whole : List Item) → s ≡ o.status → Ends o text whole → HasWritten s o.limit o.bytes (encode o.encoding whole) (is_deep whole)
 unfolding Ends
-ends_written s core text whole e h = let P : Status → Type 0 = λ z. EndsBy z core.sink.limit core.sink.encoding core.sink.bytes text whole in written_by s core.sink.limit core.sink.encoding core.sink.bytes text whole (subst P (sym e) h)
+ends_written s o text whole e h = let P : Status → Type 0 = λ z. EndsBy z o.limit o.encoding o.bytes text whole in written_by s o.limit o.encoding o.bytes text whole (subst P (sym e) h)
 
-finishes_written : (s : Status) (core : Core) (es : List Event) (whole : List Item) → s ≡ core.sink.status → FinishesAt s core es whole → HasWritten s core.sink.limit core.sink.bytes (encode core.sink.encoding whole) (is_deep whole)
-finishes_written Going core es whole e h = ends_written Going core _ whole e h.ends
-finishes_written Full core es whole e h = ends_written Full core [] whole e h
-finishes_written Deep core es whole e h = ends_written Deep core [] whole e h
-finishes_written Starved core es whole e h = ends_written Starved core [] whole e h
+finishes_written : (s : Status) (v : Settings) (st : State) (o : Output) (es : List Event) (whole : List Item) → s ≡ o.status → FinishesAt s v st o es whole → HasWritten s o.limit o.bytes (encode o.encoding whole) (is_deep whole)
+finishes_written Going v st o es whole e h = ends_written Going o _ whole e h.ends
+finishes_written Full v st o es whole e h = ends_written Full o [] whole e h
+finishes_written Deep v st o es whole e h = ends_written Deep o [] whole e h
+finishes_written Starved v st o es whole e h = ends_written Starved o [] whole e h
 
 fresh_written : (s : Status) (limit : ℕ) (output bytes : List ℕ) (deep : Bool) → s ≡ Going → output ≡ [] → HasWritten s limit output bytes deep
 fresh_written Going limit output bytes deep g e = (bytes, rw e refl)
@@ -127,43 +128,42 @@ fresh_written Full limit output bytes deep g e = absurd (cc)
 fresh_written Deep limit output bytes deep g e = absurd (cc)
 fresh_written Starved limit output bytes deep g e = absurd (cc)
 
-completes_written : (b : Bool) (e : Emitter) (x : Encoding) (es : List Event) (whole : List Item) → e.fresh ≡ b → e.core.sink.limit ≡ e.limit → (e.fresh ≡ true → (e.core.sink.bytes ≡ []) × (e.core.sink.status ≡ Going))
-    → CompletesBy b e x es whole → HasWritten e.core.sink.status e.limit e.core.sink.bytes (encode x whole) (is_deep whole)
+completes_written : (b : Bool) (e : Emitter) (x : Encoding) (es : List Event) (whole : List Item) → e.fresh ≡ b → (e.fresh ≡ true → (e.output ≡ []) × (e.status ≡ Going))
+    → CompletesBy b e x es whole → HasWritten e.status e.limit e.output (encode x whole) (is_deep whole)
 unfolding Finishes
-completes_written true e x es whole same l n h = fresh_written e.core.sink.status e.limit e.core.sink.bytes (encode x whole) (is_deep whole) (n same).1 (n same).0
-completes_written false e x es whole same l n h =
-    let P : ℕ → Type 0 = λ z. HasWritten e.core.sink.status z e.core.sink.bytes (encode x whole) (is_deep whole) in
-    let Q : Encoding → Type 0 = λ z. HasWritten e.core.sink.status e.core.sink.limit e.core.sink.bytes (encode z whole) (is_deep whole) in
-    subst P l (subst Q h.0 (finishes_written e.core.sink.status e.core _ whole refl h.1))
+completes_written true e x es whole same n h = fresh_written e.status e.limit e.output (encode x whole) (is_deep whole) (n same).1 (n same).0
+completes_written false e x es whole same n h =
+    let Q : Encoding → Type 0 = λ z. HasWritten e.status e.limit e.output (encode z whole) (is_deep whole) in
+    subst Q h.0 (finishes_written e.status e.settings e.state (text_of e) _ whole refl h.1)
 
-pub front_written : (e : Emitter) (x : Encoding) (es : List Event) (whole : List Item) → e.core.sink.limit ≡ e.limit → (e.fresh ≡ true → (e.core.sink.bytes ≡ []) × (e.core.sink.status ≡ Going))
-    → Completes e x es whole → HasWritten e.core.sink.status e.limit e.core.sink.bytes (encode x whole) (is_deep whole)
+pub front_written : (e : Emitter) (x : Encoding) (es : List Event) (whole : List Item) → (e.fresh ≡ true → (e.output ≡ []) × (e.status ≡ Going))
+    → Completes e x es whole → HasWritten e.status e.limit e.output (encode x whole) (is_deep whole)
 unfolding Completes
-front_written e x es whole l n h = completes_written e.fresh e x es whole refl l n h
+front_written e x es whole n h = completes_written e.fresh e x es whole refl n h
 
 some_same : (g f : Fault) → Some g ≡ Some f → f ≡ g
 some_same g f h = cc
 
 -- going on, an emitter with a fault completes no text
-going_never : (e : Emitter) (f : Fault) (x : Encoding) (es : List Event) (whole : List Item) → e.fresh ≡ false → e.core.sink.status ≡ Going → option_map problem_fault (refused_at e.core.place) ≡ Some f → Completes e x es whole → ⊥
+going_never : (e : Emitter) (f : Fault) (x : Encoding) (es : List Event) (whole : List Item) → e.fresh ≡ false → e.status ≡ Going → option_map problem_fault (refused_at e.state.place) ≡ Some f → Completes e x es whole → ⊥
 unfolding Completes Finishes
 going_never e f x es whole b g h c =
     let P : Bool → Type 0 = λ z. CompletesBy z e x es whole in
-    let S : Status → Type 0 = λ z. FinishesAt z e.core (e.held ++ es) whole in
+    let S : Status → Type 0 = λ z. FinishesAt z e.settings e.state (text_of e) (e.held ++ es) whole in
     let k = subst P b c in
-    let r : FinishesBy e.core (e.held ++ es) whole = subst S g k.1 in
-    going_refused e.core.place f (state_of e.core) r.rest refl h r.fits
+    let r : FinishesBy e.settings e.state (text_of e) (e.held ++ es) whole = subst S g k.1 in
+    going_refused e.state.place f e.state r.rest refl h r.fits
 
 starved_fault : (levels : Bool) (f : Fault) → f ≡ memory_fault (memory_origin levels) → IsMemoryFault emit_layers f
 starved_fault true f h = inl h
 starved_fault false f h = inr h
 
-limited_by : (s : Status) (e : Emitter) (f : Fault) → e.core.sink.status ≡ s → e.fresh ≡ false → refusal_by e.core.place s e.core.starved ≡ Some f
-    → ((x : Encoding) (es : List Event) (whole : List Item) → Completes e x es whole → HasWritten s e.limit e.core.sink.bytes (encode x whole) (is_deep whole)) → IsLimited e f
+limited_by : (s : Status) (e : Emitter) (f : Fault) → e.status ≡ s → e.fresh ≡ false → refusal_by e.state.place s e.starved ≡ Some f
+    → ((x : Encoding) (es : List Event) (whole : List Item) → Completes e x es whole → HasWritten s e.limit e.output (encode x whole) (is_deep whole)) → IsLimited e f
 limited_by Going e f s b h w = inr (λ x es whole c. absurd (going_never e f x es whole b s h c))
 limited_by Full e f s b h w = inr (λ x es whole c. inl (some_same write_error f h, (w x es whole c).1))
 limited_by Deep e f s b h w = inr (λ x es whole c. inr (some_same too_deep f h, (w x es whole c).0))
-limited_by Starved e f s b h w = inl (starved_fault e.core.starved f (some_same (memory_fault (memory_origin e.core.starved)) f h))
+limited_by Starved e f s b h w = inl (starved_fault e.starved f (some_same (memory_fault (memory_origin e.starved)) f h))
 
 pub goes_going : (s : Status) (p : Expected) → goes_on s p ≡ true → s ≡ Going
 goes_going Going p h = refl
@@ -195,34 +195,34 @@ going_none at.End b h = refl
 going_none (at.Refused p) b h = absurd (cc)
 
 -- going on, there is no fault
-pub unnoted : (core : Core) (f : Option Fault) → f ≡ None → goes_on core.sink.status core.place ≡ true → f ≡ refusal_of core
+pub unnoted : (core : Core) (f : Option Fault) → f ≡ None → goes_on core.sink.status core.place ≡ true → f ≡ refusal_by core.place core.sink.status core.starved
 unnoted core f none h =
     let g = goes_going core.sink.status core.place h in
     let P : Status → Type 0 = λ s. refusal_by core.place s core.starved ≡ None in
     let Q : Status → Type 0 = λ s. goes_on s core.place ≡ true in
     none ∙ sym (subst P (sym g) (going_none core.place core.starved (subst Q g h)))
 
-pub fresh_refusal : (core : Core) (s : Settings) → IsFresh core s → refusal_of core ≡ None
+pub fresh_refusal : (core : Core) (s : Settings) → IsFresh core s → refusal_by core.place core.sink.status core.starved ≡ None
 fresh_refusal core s f = let k : core.place ≡ at.StreamStart = ap (λ (z : State). z.place) f.state in rw (k, f.status) refl
 
 pub inside_front : (i : Inside) → IsEmitter i → ShowsFront (emitter_of i) i.core.sink.bytes
-inside_front i inv = λ x es whole h. front_written (emitter_of i) x es whole inv.limited (λ f. let k = inv.begun f in (k.1.1.0, k.1.1.1)) h
+inside_front i inv = λ x es whole h. front_written (emitter_of i) x es whole (λ f. let k = inv.begun f in (k.1.1.0, k.1.1.1)) h
 
 pub inside_whole : (i : Inside) → IsEmitter i → IsWhole (emitter_of i) i.core.sink.bytes
 inside_whole i inv = λ none x whole h.
     let g : goes_on i.core.sink.status i.core.place ≡ true = refusal_none i.core.place i.core.sink.status i.core.starved (sym inv.faulty ∙ none) in
     all_written (emitter_of i) x whole (goes_going i.core.sink.status i.core.place g) (inv.few g) h
 
-pub inside_begins : (i : Inside) (core : Core) (e : Event) (s : Settings) (z : yaml_encoding_t) → IsEmitter i → i.fresh ≡ true → s ≡ settled i.requested_settings z → z ≡ stream_encoding e → IsFresh core s
-    → Begins (emitter_of i) e (record { requested_settings = i.requested_settings; limit = i.limit; core = core; held = held_events i.held; output = core.sink.bytes; fresh = false; opened = i.opened; closed = i.closed; fault = option_map fault_of i.fault })
-inside_begins i core e s z inv fr a b f =
+pub inside_begins : (i : Inside) (core : Core) (e : Event) (s : Settings) (z : yaml_encoding_t) → IsEmitter i → i.fresh ≡ true → s ≡ settled i.requested_settings z → z ≡ stream_encoding e → IsFresh core s → core.sink.limit ≡ i.limit
+    → Begins (emitter_of i) e (seen i.requested_settings core (held_events i.held) false i.opened i.closed (option_map fault_of i.fault))
+inside_begins i core e s z inv fr a b f most =
     let P : Settings → Type 0 = λ t. IsFresh core t in
     let Q : yaml_encoding_t → Type 0 = λ t. IsFresh core (settled i.requested_settings t) in
     let f' : IsFresh core (settled i.requested_settings (stream_encoding e)) = subst Q b (subst P a f) in
     record {
-      completes = λ x es whole h. begin_completes (emitter_of i) (record { requested_settings = i.requested_settings; limit = i.limit; core = core; held = held_events i.held; output = core.sink.bytes; fresh = false; opened = i.opened; closed = i.closed; fault = option_map fault_of i.fault }) e x es whole fr refl (inv.begun fr).0 f' h;
+      completes = λ x es whole h. begin_completes (emitter_of i) core (held_events i.held) i.opened i.closed (option_map fault_of i.fault) e x es whole fr (inv.begun fr).0 f' h;
       requested_settings = refl;
-      limit = refl;
+      limit = most ∙ sym inv.limited;
       begun = refl;
       fault = (inv.begun fr).1.0;
       opened = refl;
@@ -230,11 +230,11 @@ inside_begins i core e s z inv fr a b f =
     }
 
 pub inside_lays : (i : Inside) (core : Core) (h held : Held) (fault : Option Fault) (e : Event) → i.fresh ≡ false → h ≡ i.held → Leads i.core (held_events h ++ e ∷ []) core (held_events held)
-    → Given (emitter_of i) e (record { requested_settings = i.requested_settings; limit = i.limit; core = core; held = held_events held; output = core.sink.bytes; fresh = i.fresh; opened = i.opened; closed = i.closed; fault = fault })
+    → Given (emitter_of i) e (seen i.requested_settings core (held_events held) i.fresh i.opened i.closed fault)
 inside_lays i core h held fault e fr same l = record {
-  completes = λ x es whole c. lay_completes (emitter_of i) (record { requested_settings = i.requested_settings; limit = i.limit; core = core; held = held_events held; output = core.sink.bytes; fresh = i.fresh; opened = i.opened; closed = i.closed; fault = fault }) e (held_events h) x es whole fr fr (ap held_events same) l c;
+  completes = λ x es whole c. lay_completes (emitter_of i) (seen i.requested_settings core (held_events held) i.fresh i.opened i.closed fault) e (held_events h) x es whole fr fr (ap held_events same) (l.finishes es whole) l.encoding c;
   requested_settings = refl;
-  limit = refl;
+  limit = l.limit;
   begun = fr;
 }
 
@@ -261,11 +261,11 @@ inside_stays i f e inv is =
 
 -- that the stream was opened or closed is noted
 pub given_marked : (old : Emitter) (e : Event) (i : Inside) (o k : Bool) → Given old e (emitter_of i)
-    → Given old e (record { requested_settings = i.requested_settings; limit = i.limit; core = i.core; held = held_events i.held; output = i.core.sink.bytes; fresh = i.fresh; opened = o; closed = k; fault = option_map fault_of i.fault })
+    → Given old e (seen i.requested_settings i.core (held_events i.held) i.fresh o k (option_map fault_of i.fault))
 unfolding Completes
 given_marked old e i o k g = record {
   completes = λ x es whole c.
-      let n : Emitter = record { requested_settings = i.requested_settings; limit = i.limit; core = i.core; held = held_events i.held; output = i.core.sink.bytes; fresh = i.fresh; opened = o; closed = k; fault = option_map fault_of i.fault } in
+      let n : Emitter = seen i.requested_settings i.core (held_events i.held) i.fresh o k (option_map fault_of i.fault) in
       let P : Bool → Type 0 = λ z. CompletesBy z (emitter_of i) x es whole in
       let Q : Bool → Type 0 = λ z. CompletesBy z n x es whole in
       let done : CompletesBy false (emitter_of i) x es whole = subst P g.begun (g.completes x es whole c) in

@@ -3,18 +3,18 @@ use Rattle.std.proofs.Common.{◌≡◌, ◌+◌, ◌≤◌, List, [], ◌∷◌
 use Rattle.std.specs.Prelude.{nat_le, ◌||◌}
 use Rattle.std.proofs.lemmas.Bool.Decides.{nat_tests}
 use Rattle.yaml_emit_text.specs.declared.Encoding.{Encoding}
+use Rattle.yaml_emit_text.specs.declared.Settings.{Settings}
 use Rattle.yaml_emit_text.specs.declared.Status.{Status}
 use Rattle.yaml_emit_text.specs.declared.Status.TheVariants.{Going, Full, Deep, Starved}
 use Rattle.yaml_emit_text.specs.Text.{Item, encode}
 use Rattle.yaml_emit_text.specs.Layout.{nothing_more}
-use Rattle.yaml_emit_text.specs.Sink.{Ends, EndsBy}
+use Rattle.yaml_emit_text.specs.Sink.{Output, Ends, EndsBy}
 use Rattle.yaml_emit_layout.specs.Content.{Event, Node, alias_node, scalar_node, sequence_node, mapping_node, Nodes, no_nodes, node, Pairs, no_pairs, pair, Document, sequence_end, mapping_end, node_events, items_events, pairs_events, documents_events}
+use Rattle.yaml_emit_layout.specs.State.{State}
 use Rattle.yaml_emit_layout.specs.ToCome.{ToCome, stream, documents, root, frames, nothing, Frame, items_left, pairs_left, value_left, events, frame_events, frames_events, ending_events, layout}
-use Rattle.yaml_emit_state.specs.declared.Core.{Core}
-use Rattle.yaml_emit_state.specs.Steps.{settings_of}
 use Rattle.yaml_emit_state.specs.Finish.{Finishes, FinishesAt}
 use Rattle.yaml_emit.specs.Held.{is_ready, needs, closes}
-use Rattle.yaml_emit.specs.Emitter.{Emitter, Completes, CompletesBy, IsStream}
+use Rattle.yaml_emit.specs.Emitter.{Emitter, text_of, Completes, CompletesBy, IsStream}
 use Rattle.yaml_emit.proofs.Holding.{few_needs, le_more}
 
 long_documents : (ds : List Document) → 1 ≤ length (documents_events ds)
@@ -117,31 +117,31 @@ pub nothing_held : (xs : List Event) (k : ToCome) → is_ready xs ≡ false → 
 nothing_held [] k w h = refl
 nothing_held (x ∷ xs) k w h = let r = ready_rest k x xs h in let P : List Event → Type 0 = λ z. is_ready z ≡ true in let r' : is_ready (x ∷ xs) ≡ true = subst P (sym h) r in absurd (cc)
 
-written_at : (s : Status) (core : Core) (xs : List Event) (whole : List Item) → s ≡ core.sink.status → s ≡ Going → is_ready xs ≡ false → FinishesAt s core (xs ++ []) whole → core.sink.bytes ≡ encode core.sink.encoding whole
+written_at : (s : Status) (v : Settings) (st : State) (o : Output) (xs : List Event) (whole : List Item) → s ≡ o.status → s ≡ Going → is_ready xs ≡ false → FinishesAt s v st o (xs ++ []) whole → o.bytes ≡ encode o.encoding whole
 unfolding Ends layout encode
-written_at Going core xs whole same g w f =
+written_at Going v st o xs whole same g w f =
     let all : xs ≡ events f.rest = sym (append-nil xs) ∙ f.same in
     let empty : xs ≡ [] = nothing_held xs f.rest w all in
     let last : f.rest ≡ nothing = no_event_left f.rest (sym empty ∙ all) in
-    let P : ToCome → Type 0 = λ k. Ends core.sink (layout (settings_of core) k core.sink.cursor nothing_more) whole in
-    let Q : Status → Type 0 = λ s. EndsBy s core.sink.limit core.sink.encoding core.sink.bytes [] whole in
-    let e : EndsBy Going core.sink.limit core.sink.encoding core.sink.bytes [] whole = subst Q (sym same) (subst P last f.ends) in
-    sym (append-nil core.sink.bytes) ∙ sym e.0
-written_at Full core xs whole same g w f = absurd (cc)
-written_at Deep core xs whole same g w f = absurd (cc)
-written_at Starved core xs whole same g w f = absurd (cc)
+    let P : ToCome → Type 0 = λ k. Ends o (layout v k o.cursor nothing_more) whole in
+    let Q : Status → Type 0 = λ s. EndsBy s o.limit o.encoding o.bytes [] whole in
+    let e : EndsBy Going o.limit o.encoding o.bytes [] whole = subst Q (sym same) (subst P last f.ends) in
+    sym (append-nil o.bytes) ∙ sym e.0
+written_at Full v st o xs whole same g w f = absurd (cc)
+written_at Deep v st o xs whole same g w f = absurd (cc)
+written_at Starved v st o xs whole same g w f = absurd (cc)
 
 no_stream : (e : Emitter) (x : Encoding) (whole : List Item) → IsStream e.requested_settings x [] whole → ⊥
 no_stream e x whole h = let k = h.same in cc
 
-written_by_fresh : (b : Bool) (e : Emitter) (x : Encoding) (whole : List Item) → e.core.sink.status ≡ Going → is_ready e.held ≡ false → CompletesBy b e x [] whole → e.core.sink.bytes ≡ encode x whole
+written_by_fresh : (b : Bool) (e : Emitter) (x : Encoding) (whole : List Item) → e.status ≡ Going → is_ready e.held ≡ false → CompletesBy b e x [] whole → e.output ≡ encode x whole
 unfolding Finishes
 written_by_fresh true e x whole g w h = absurd (no_stream e x whole h)
 written_by_fresh false e x whole g w h =
-    let P : Encoding → Type 0 = λ z. e.core.sink.bytes ≡ encode z whole in
-    subst P h.0 (written_at e.core.sink.status e.core e.held whole refl g w h.1)
+    let P : Encoding → Type 0 = λ z. e.output ≡ encode z whole in
+    subst P h.0 (written_at e.status e.settings e.state (text_of e) e.held whole refl g w h.1)
 
 -- with no event to come, the output is the whole
-pub all_written : (e : Emitter) (x : Encoding) (whole : List Item) → e.core.sink.status ≡ Going → is_ready e.held ≡ false → Completes e x [] whole → e.core.sink.bytes ≡ encode x whole
+pub all_written : (e : Emitter) (x : Encoding) (whole : List Item) → e.status ≡ Going → is_ready e.held ≡ false → Completes e x [] whole → e.output ≡ encode x whole
 unfolding Completes
 all_written e x whole g w h = written_by_fresh e.fresh e x whole g w h

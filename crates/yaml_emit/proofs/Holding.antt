@@ -5,7 +5,7 @@ use Rattle.std.proofs.lemmas.Bool.Decides.{nat_tests}
 use Rattle.yaml_emit_layout.specs.Content.{Event, no_event, stream_start, stream_end, document_start, document_end, alias, scalar, sequence_start, sequence_end, mapping_start, mapping_end}
 use Rattle.yaml_emit_layout.specs.State.{opens_empty}
 use Rattle.yaml_emit_state.specs.declared.Core.{Core}
-use Rattle.yaml_emit_state.specs.Steps.{LaysOut}
+use Rattle.yaml_emit_state.specs.Steps.{state_of, settings_of, LaysOut}
 use Rattle.yaml_emit_state.specs.Finish.{Finishes, Leads}
 use Rattle.yaml_emit_state.proofs.Finishing.{finishes_on}
 use Rattle.yaml_parse_model.specs.declared.yaml_event_body_t.{yaml_event_body_t}
@@ -31,7 +31,7 @@ leads_same a h = record { finishes = λ es whole f. f; encoding = refl; limit = 
 pub leads_more : (a b c : Core) (h x y : List Event) (e : Event) (empty : Bool) → Leads a h b x → x ≡ e ∷ y → is_ready x ≡ true → empty ≡ opens_empty e y → LaysOut b c e empty → Leads a h c y
 leads_more a b c h x y e empty p same r is l = record {
   finishes = λ es whole f.
-      let P : List Event → Type 0 = λ z. Finishes b (z ++ es) whole in
+      let P : List Event → Type 0 = λ z. Finishes (settings_of b) (state_of b) b.sink (z ++ es) whole in
       let Q : List Event → Type 0 = λ z. is_ready z ≡ true in
       let look : opens_empty e (y ++ es) ≡ opens_empty e y = ready_empty e y es (subst Q same r) in
       let R : Bool → Type 0 = λ v. LaysOut b c e v in

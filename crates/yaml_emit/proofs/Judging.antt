@@ -25,7 +25,8 @@ use Rattle.yaml_emit_state.specs.declared.Core.{Core}
 use Rattle.yaml_emit_state.specs.Steps.{state_of, settings_of, next_state, next_piece, LaysOut, takes_memory, may_note, goes_on}
 use Rattle.yaml_emit_state.proofs.Noting.{neither, notes_both, notes_within}
 use Rattle.yaml_emit.specs.Held.{is_ready, needs, closes, passes, opens_level, ends_level}
-use Rattle.yaml_emit.specs.Judged.{Due, item_due, key_due, Progress, progress_after, inside, behind_node, outer_due, phase_due, level_due, problem_in, let_out, first_refusal, unless, laid, refused_at, due_in, due_of, shape_of, refusal_from, text_from, refusal_behind, LetsOut, take_memory, Judges}
+use Rattle.yaml_emit.specs.Judged.{Due, item_due, key_due, Progress, progress_after, inside, behind_node, outer_due, phase_due, level_due, problem_in, let_out, first_refusal, unless, laid, refused_at, due_in, due_of, shape_of, refusal_from, text_from, refusal_behind, LetsOut, take_memory}
+use Rattle.yaml_emit.specs.Laying.{Judges}
 use Rattle.yaml_emit.proofs.Opening.{opens_none}
 use Rattle.yaml_emit.proofs.Holding.{ready_empty}
 use Rattle.yaml_emit.proofs.Ending.{none_needed}
@@ -272,7 +273,7 @@ record Done (old new : Core) (e : Event) (empty : Bool) (p : Option Problem) : T
 done : (old new : Core) (e : Event) (empty : Bool) → LaysOut old new e empty → Done old new e empty (problem_at (settings_of old) (state_of old) e)
 done old new e empty l = record { problem = refl; settings = same_settings old new l.settings l.text.encoding; state = l.state; text = l.text }
 
-text_step : (p : Option Problem) (old new : Core) (e : Event) (es : List Event) (whole : List Item) → refused_at old.place ≡ None → is_ready (e ∷ es) ≡ true → Done old new e (opens_empty e es) p → LetsOut old (e ∷ es) whole → LetsOut new es whole
+text_step : (p : Option Problem) (old new : Core) (e : Event) (es : List Event) (whole : List Item) → refused_at old.place ≡ None → is_ready (e ∷ es) ≡ true → Done old new e (opens_empty e es) p → LetsOut (settings_of old) (state_of old) old.sink (e ∷ es) whole → LetsOut (settings_of new) (state_of new) new.sink es whole
 unfolding LetsOut behind
 text_step None old new e es whole o r l h =
     let s : Settings = settings_of old in
@@ -306,7 +307,7 @@ text_step (Some x) old new e es whole o r l h =
 pub judges_same : (a : Core) (h : List Event) → Judges a h a h
 judges_same a h = record { refuses = λ g es. refl; lets_out = λ es whole f. f; going = λ g. g; memory = λ n. refl; left = λ n. n }
 
-refusal_on : (b c : Core) (e : Event) (es : List Event) (empty : Bool) → refused_at b.place ≡ None → is_ready (e ∷ es) ≡ true → LaysOut b c e empty → c.sink.status ≡ Going → refusal_behind c es ≡ refusal_behind b (e ∷ es)
+refusal_on : (b c : Core) (e : Event) (es : List Event) (empty : Bool) → refused_at b.place ≡ None → is_ready (e ∷ es) ≡ true → LaysOut b c e empty → c.sink.status ≡ Going → refusal_behind (settings_of c) (state_of c) es ≡ refusal_behind (settings_of b) (state_of b) (e ∷ es)
 unfolding refusal_behind
 refusal_on b c e es empty o r l g =
     ap (λ (z : Settings). refusal_from z.canonical (state_of c) es) (same_settings b c l.settings l.text.encoding)
@@ -324,9 +325,9 @@ judges_more a b c h x y e empty p same goes r is l =
     record {
       refuses = λ g es.
           refusal_on b c e (y ++ es) empty o (ready_more e y es r') l g
-          ∙ (ap (λ z. refusal_behind b (z ++ es)) (sym same) ∙ p.refuses (l.text.going g) es);
+          ∙ (ap (λ z. refusal_behind (settings_of b) (state_of b) (z ++ es)) (sym same) ∙ p.refuses (l.text.going g) es);
       lets_out = λ es whole f.
-          let P : List Event → Type 0 = λ z. LetsOut b (z ++ es) whole in
+          let P : List Event → Type 0 = λ z. LetsOut (settings_of b) (state_of b) b.sink (z ++ es) whole in
           let R : Bool → Type 0 = λ v. LaysOut b c e v in
           let l' : LaysOut b c e (opens_empty e (y ++ es)) = subst R (is ∙ sym (ready_empty e y es r')) l in
           text_step (problem_at (settings_of b) (state_of b) e) b c e (y ++ es) whole o (ready_more e y es r') (done b c e _ l') (subst P same (p.lets_out es whole f));

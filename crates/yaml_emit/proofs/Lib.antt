@@ -3,6 +3,7 @@ pub mod Holding
 pub mod Judging
 pub mod Grammatical
 pub mod Ending
+pub mod Viewing
 pub mod Emitting
 pub mod Within
 pub mod Verdicts

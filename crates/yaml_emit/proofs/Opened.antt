@@ -33,10 +33,10 @@ fits_let_out Starved old new bytes x whole g l h = absurd (cc)
 -- an event behind which there is no fault was right
 right_by : (old new : Emitter) (e : Event) → Given old e new → Judged old e new → Tells new → new.fault ≡ None → IsRight old e
 right_by old new e given judged tells none =
-    let (going, free) = none_by new.core.sink.status new.core.starved (verdict new []) (sym tells.fault ∙ none) in
+    let (going, free) = none_by new.status new.starved (verdict new []) (sym tells.fault ∙ none) in
     record {
       refused = sym (judged.refuses going []) ∙ free;
-      within = λ x whole w. fits_let_out new.core.sink.status old.limit new.limit _ x whole going given.limit (tells.output x whole (judged.writes x [] whole w));
+      within = λ x whole w. fits_let_out new.status old.limit new.limit _ x whole going given.limit (tells.output x whole (judged.writes x [] whole w));
     }
 
 pub opens_same : (e : Emitter) → e.opened ≡ true → Opens e e

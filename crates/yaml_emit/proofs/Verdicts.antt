@@ -20,46 +20,48 @@ use Rattle.yaml_emit_layout.specs.Content.{Event}
 use Rattle.yaml_emit_layout.specs.Grammar.{or_else}
 use Rattle.yaml_emit_layout.specs.State.{State, placed}
 use Rattle.yaml_emit_state.specs.declared.Core.{Core}
-use Rattle.yaml_emit_state.specs.Steps.{state_of, settings_of, goes_on, IsFresh, may_note, Notes}
+use Rattle.yaml_emit_state.specs.Steps.{state_of, settings_of, goes_on, IsFresh, may_note}
 use Rattle.yaml_emit_state.specs.Finish.{Leads}
 use Rattle.yaml_emit.specs.Held.{held_events, is_ready}
 use Rattle.yaml_emit.specs.declared.held.Held.{Held}
 use Rattle.yaml_emit.specs.declared.emitter.yaml_emitter_t.TheInside.{Inside}
-use Rattle.yaml_emit.specs.Judged.{Progress, first_progress, let_out, first_refusal, unless, laid, refused_at, refusal_from, text_from, refusal_behind, LetsOut, take_memory, Judges}
-use Rattle.yaml_emit.specs.Emitter.{Emitter, emitter_of, IsEmitter, fault_by, refusal_of, stream_encoding, problem_fault, Stays}
-use Rattle.yaml_emit.specs.Verdict.{verdict_by, verdict, IsLetOut, WritesBy, Writes, Judged, JudgesFirst, Unjudged, HasLetOut, Tells}
+use Rattle.yaml_emit.specs.Judged.{Progress, first_progress, let_out, first_refusal, unless, laid, refused_at, refusal_from, text_from, refusal_behind, LetsOut, take_memory}
+use Rattle.yaml_emit.specs.Laying.{Judges}
+use Rattle.yaml_emit.specs.Emitter.{Emitter, text_of, emitter_of, IsEmitter, fault_by, refusal_by, stop_of, stream_encoding, problem_fault, Stays}
+use Rattle.yaml_emit.specs.Verdict.{verdict_by, verdict, IsLetOut, WritesBy, Writes, Notes, Judged, JudgesFirst, Unjudged, HasLetOut, Tells}
+use Rattle.yaml_emit.proofs.Viewing.{seen}
 use Rattle.yaml_emit.proofs.Judging.{or_some, unless_some}
 use Rattle.yaml_emit.proofs.Emitting.{not_true, refusal_none, goes_going}
 
 -- ---- an event was given
 
 lay_refuses : (old new : Emitter) (e : Event) (h es : List Event) → old.fresh ≡ false → new.fresh ≡ false → h ≡ old.held
-    → refusal_behind new.core (new.held ++ es) ≡ refusal_behind old.core ((h ++ e ∷ []) ++ es) → verdict new es ≡ verdict old (e ∷ es)
+    → refusal_behind new.settings new.state (new.held ++ es) ≡ refusal_behind old.settings old.state ((h ++ e ∷ []) ++ es) → verdict new es ≡ verdict old (e ∷ es)
 unfolding verdict
 lay_refuses old new e h es a b same j =
     let move : old.held ++ (e ∷ es) ≡ (h ++ e ∷ []) ++ es = ap (λ z. z ++ (e ∷ es)) (sym same) ∙ sym (append_assoc h (e ∷ []) es) in
-    ap (λ z. verdict_by z new es) b ∙ (j ∙ (ap (refusal_behind old.core) (sym move) ∙ sym (ap (λ z. verdict_by z old (e ∷ es)) a)))
+    ap (λ z. verdict_by z new es) b ∙ (j ∙ (ap (refusal_behind old.settings old.state) (sym move) ∙ sym (ap (λ z. verdict_by z old (e ∷ es)) a)))
 
 lay_writes : (old new : Emitter) (e : Event) (h : List Event) (x : Encoding) (es : List Event) (whole : List Item) → old.fresh ≡ false → new.fresh ≡ false → h ≡ old.held
-    → Leads old.core (h ++ e ∷ []) new.core new.held → Judges old.core (h ++ e ∷ []) new.core new.held → Writes old x (e ∷ es) whole → Writes new x es whole
+    → (LetsOut old.settings old.state (text_of old) ((h ++ e ∷ []) ++ es) whole → LetsOut new.settings new.state (text_of new) (new.held ++ es) whole) → new.settings.encoding ≡ old.settings.encoding → Writes old x (e ∷ es) whole → Writes new x es whole
 unfolding Writes
-lay_writes old new e h x es whole a b same l j c =
+lay_writes old new e h x es whole a b same on coded c =
     let P : Bool → Type 0 = λ z. WritesBy z old x (e ∷ es) whole in
     let Q : Bool → Type 0 = λ z. WritesBy z new x es whole in
     let k = subst P a c in
-    let R : List Event → Type 0 = λ t. LetsOut old.core t whole in
+    let R : List Event → Type 0 = λ t. LetsOut old.settings old.state (text_of old) t whole in
     let move : old.held ++ (e ∷ es) ≡ (h ++ e ∷ []) ++ es = ap (λ z. z ++ (e ∷ es)) (sym same) ∙ sym (append_assoc h (e ∷ []) es) in
-    subst Q (sym b) (l.encoding ∙ k.0, j.lets_out es whole (subst R move k.1))
+    subst Q (sym b) (coded ∙ k.0, on (subst R move k.1))
 
 pub inside_judges : (i : Inside) (core : Core) (h held : Held) (fault : Option Fault) (e : Event) → i.fresh ≡ false → i.core.sink.status ≡ Going → h ≡ i.held → Leads i.core (held_events h ++ e ∷ []) core (held_events held) → Judges i.core (held_events h ++ e ∷ []) core (held_events held)
-    → Judged (emitter_of i) e (record { requested_settings = i.requested_settings; limit = i.limit; core = core; held = held_events held; output = core.sink.bytes; fresh = i.fresh; opened = i.opened; closed = i.closed; fault = fault })
+    → Judged (emitter_of i) e (seen i.requested_settings core (held_events held) i.fresh i.opened i.closed fault)
 inside_judges i core h held fault e fr on same l j =
-    let new : Emitter = record { requested_settings = i.requested_settings; limit = i.limit; core = core; held = held_events held; output = core.sink.bytes; fresh = i.fresh; opened = i.opened; closed = i.closed; fault = fault } in
+    let new : Emitter = seen i.requested_settings core (held_events held) i.fresh i.opened i.closed fault in
     record {
       refuses = λ g es. lay_refuses (emitter_of i) new e (held_events h) es fr fr (ap held_events same) (j.refuses g es);
-      writes = λ x es whole c. lay_writes (emitter_of i) new e (held_events h) x es whole fr fr (ap held_events same) l j c;
+      writes = λ x es whole c. lay_writes (emitter_of i) new e (held_events h) x es whole fr fr (ap held_events same) (j.lets_out es whole) l.encoding c;
       going = λ _. on;
-      memory = let P : Held → Type 0 = λ z. Notes (take_memory (held_events z ++ e ∷ [])) i.core core in subst P same j.memory;
+      memory = let P : Held → Type 0 = λ z. Notes (take_memory (held_events z ++ e ∷ [])) (emitter_of i) new in subst P same j.memory;
     }
 
 -- with no fault the output goes on
@@ -69,7 +71,7 @@ inside_going i inv none =
 
 -- ---- the settings came into force
 
-fresh_refuses : (core : Core) (s : Settings) (es : List Event) → IsFresh core s → refusal_behind core es ≡ first_refusal s.canonical first_progress (let_out es)
+fresh_refuses : (core : Core) (s : Settings) (es : List Event) → IsFresh core s → refusal_behind (settings_of core) (state_of core) es ≡ first_refusal s.canonical first_progress (let_out es)
 unfolding refusal_behind
 fresh_refuses core s es f =
     ap (λ (z : Settings). refusal_from z.canonical (state_of core) es) f.settings ∙ ap (λ (z : State). refusal_from s.canonical z es) f.state
@@ -80,7 +82,7 @@ ends_fresh o t b g =
     let P : Status → Type 0 = λ z. EndsBy z o.limit o.encoding o.bytes t t in
     subst P (sym g) (rw b refl, (rw b (omega arith), refl))
 
-fresh_lets_out : (core : Core) (s : Settings) (es : List Event) → IsFresh core s → LetsOut core es (written (laid s (placed at.StreamStart) (let_out es)))
+fresh_lets_out : (core : Core) (s : Settings) (es : List Event) → IsFresh core s → LetsOut (settings_of core) (state_of core) core.sink es (written (laid s (placed at.StreamStart) (let_out es)))
 unfolding LetsOut
 fresh_lets_out core s es f =
     let text : List Item = text_from (settings_of core) (state_of core) es core.sink.cursor nothing_more in
@@ -90,35 +92,33 @@ fresh_lets_out core s es f =
     let P : List Item → Type 0 = λ t. Ends core.sink text t in
     subst P same (ends_fresh core.sink text f.output f.status)
 
-begin_refuses : (old new : Emitter) (e : Event) (es : List Event) → old.fresh ≡ true → new.fresh ≡ false → new.held ≡ [] → IsFresh new.core (settled old.requested_settings (stream_encoding e)) → verdict new (e ∷ es) ≡ verdict old (e ∷ es)
+begin_refuses : (old : Emitter) (core : Core) (held : List Event) (opened closed : Bool) (fault : Option Fault) (e : Event) (es : List Event) → old.fresh ≡ true → held ≡ []
+    → IsFresh core (settled old.requested_settings (stream_encoding e)) → verdict (seen old.requested_settings core held false opened closed fault) (e ∷ es) ≡ verdict old (e ∷ es)
 unfolding verdict
-begin_refuses old new e es a b none f =
-    ap (λ z. verdict_by z new (e ∷ es)) b
-    ∙ (ap (λ z. refusal_behind new.core (z ++ (e ∷ es))) none
-    ∙ (fresh_refuses new.core (settled old.requested_settings (stream_encoding e)) (e ∷ es) f ∙ sym (ap (λ z. verdict_by z old (e ∷ es)) a)))
+begin_refuses old core held opened closed fault e es a none f =
+    ap (λ z. refusal_behind (settings_of core) (state_of core) (z ++ (e ∷ es))) none
+    ∙ (fresh_refuses core (settled old.requested_settings (stream_encoding e)) (e ∷ es) f ∙ sym (ap (λ z. verdict_by z old (e ∷ es)) a))
 
-begin_writes : (old new : Emitter) (e : Event) (x : Encoding) (es : List Event) (whole : List Item) → old.fresh ≡ true → new.fresh ≡ false → new.held ≡ [] → IsFresh new.core (settled old.requested_settings (stream_encoding e))
-    → Writes old x (e ∷ es) whole → Writes new x (e ∷ es) whole
+begin_writes : (old : Emitter) (core : Core) (held : List Event) (opened closed : Bool) (fault : Option Fault) (e : Event) (x : Encoding) (es : List Event) (whole : List Item) → old.fresh ≡ true → held ≡ []
+    → IsFresh core (settled old.requested_settings (stream_encoding e)) → Writes old x (e ∷ es) whole → Writes (seen old.requested_settings core held false opened closed fault) x (e ∷ es) whole
 unfolding Writes
-begin_writes old new e x es whole a b none f c =
+begin_writes old core held opened closed fault e x es whole a none f c =
     let P : Bool → Type 0 = λ z. WritesBy z old x (e ∷ es) whole in
-    let Q : Bool → Type 0 = λ z. WritesBy z new x (e ∷ es) whole in
     let s : Settings = settled old.requested_settings (stream_encoding e) in
     let k : IsLetOut old.requested_settings x (e ∷ es) whole = subst P a c in
-    let R : List Event → Type 0 = λ t. LetsOut new.core (t ++ (e ∷ es)) (written (laid s (placed at.StreamStart) (let_out (e ∷ es)))) in
-    let S : List Item → Type 0 = λ t. LetsOut new.core (new.held ++ (e ∷ es)) t in
-    subst Q (sym b) (ap (λ (z : Settings). z.encoding) f.settings ∙ sym k.coded, subst S (sym k.is) (subst R (sym none) (fresh_lets_out new.core s (e ∷ es) f)))
+    let R : List Event → Type 0 = λ t. LetsOut (settings_of core) (state_of core) core.sink (t ++ (e ∷ es)) (written (laid s (placed at.StreamStart) (let_out (e ∷ es)))) in
+    let S : List Item → Type 0 = λ t. LetsOut (settings_of core) (state_of core) core.sink (held ++ (e ∷ es)) t in
+    (ap (λ (z : Settings). z.encoding) f.settings ∙ sym k.coded, subst S (sym k.is) (subst R (sym none) (fresh_lets_out core s (e ∷ es) f)))
 
 pub inside_first : (i : Inside) (core : Core) (e : Event) (s : Settings) (z : yaml_encoding_t) → IsEmitter i → i.fresh ≡ true → s ≡ settled i.requested_settings z → z ≡ stream_encoding e → IsFresh core s
-    → JudgesFirst (emitter_of i) e (record { requested_settings = i.requested_settings; limit = i.limit; core = core; held = held_events i.held; output = core.sink.bytes; fresh = false; opened = i.opened; closed = i.closed; fault = option_map fault_of i.fault })
+    → JudgesFirst (emitter_of i) e (seen i.requested_settings core (held_events i.held) false i.opened i.closed (option_map fault_of i.fault))
 inside_first i core e s z inv fr a b f =
     let P : Settings → Type 0 = λ t. IsFresh core t in
     let Q : yaml_encoding_t → Type 0 = λ t. IsFresh core (settled i.requested_settings t) in
     let f' : IsFresh core (settled i.requested_settings (stream_encoding e)) = subst Q b (subst P a f) in
-    let new : Emitter = record { requested_settings = i.requested_settings; limit = i.limit; core = core; held = held_events i.held; output = core.sink.bytes; fresh = false; opened = i.opened; closed = i.closed; fault = option_map fault_of i.fault } in
     record {
-      refuses = λ es. begin_refuses (emitter_of i) new e es fr refl (inv.begun fr).0 f';
-      writes = λ x es whole c. begin_writes (emitter_of i) new e x es whole fr refl (inv.begun fr).0 f' c;
+      refuses = λ es. begin_refuses (emitter_of i) core (held_events i.held) i.opened i.closed (option_map fault_of i.fault) e es fr (inv.begun fr).0 f';
+      writes = λ x es whole c. begin_writes (emitter_of i) core (held_events i.held) i.opened i.closed (option_map fault_of i.fault) e x es whole fr (inv.begun fr).0 f' c;
       going = (inv.begun fr).1.1.1;
       begun = f.status;
       held = refl;
@@ -130,7 +130,7 @@ first_judged old mid new e p q = record {
   refuses = λ g es. q.refuses g es ∙ p.refuses es;
   writes = λ x es whole c. q.writes x es whole (p.writes x es whole c);
   going = λ _. p.going;
-  memory = λ n. q.memory (ap (λ z. may_note (take_memory (z ++ e ∷ [])) mid.core.sink.status new.core.sink.status) p.held ∙ (ap (λ z. may_note (take_memory (old.held ++ e ∷ [])) z new.core.sink.status) (p.begun ∙ sym p.going) ∙ n)) ∙ p.memory;
+  memory = λ n. q.memory (ap (λ z. may_note (take_memory (z ++ e ∷ [])) mid.status new.status) p.held ∙ (ap (λ z. may_note (take_memory (old.held ++ e ∷ [])) z new.status) (p.begun ∙ sym p.going) ∙ n)) ∙ p.memory;
 }
 
 -- ---- behind a fault
@@ -142,33 +142,33 @@ refused_by Full b p f g h = absurd (cc)
 refused_by Deep b p f g h = absurd (cc)
 refused_by Starved b p f g h = absurd (cc)
 
-stuck_refuses : (core : Core) (f : Fault) (xs ys : List Event) → refusal_of core ≡ Some f → core.sink.status ≡ Going → refusal_behind core xs ≡ refusal_behind core ys
+stuck_refuses : (s : Settings) (st : State) (status : Status) (levels : Bool) (f : Fault) (xs ys : List Event) → refusal_by st.place status levels ≡ Some f → status ≡ Going → refusal_behind s st xs ≡ refusal_behind s st ys
 unfolding refusal_behind
-stuck_refuses core f xs ys h g =
-    let r = refused_by core.sink.status core.starved (refused_at core.place) f g h in
-    or_some (refused_at core.place) _ r.0 r.1 ∙ sym (or_some (refused_at core.place) _ r.0 r.1)
+stuck_refuses s st status levels f xs ys h g =
+    let r = refused_by status levels (refused_at st.place) f g h in
+    or_some (refused_at st.place) _ r.0 r.1 ∙ sym (or_some (refused_at st.place) _ r.0 r.1)
 
-stuck_lets_out : (core : Core) (f : Fault) (xs ys : List Event) (whole : List Item) → refusal_of core ≡ Some f → LetsOut core xs whole → LetsOut core ys whole
+stuck_lets_out : (s : Settings) (st : State) (o : Output) (levels : Bool) (f : Fault) (xs ys : List Event) (whole : List Item) → refusal_by st.place o.status levels ≡ Some f → LetsOut s st o xs whole → LetsOut s st o ys whole
 unfolding LetsOut
-stuck_lets_out core f xs ys whole h e =
-    status_cases core.sink.status
+stuck_lets_out s st o levels f xs ys whole h e =
+    status_cases o.status
     (λ g.
-    let r = refused_by core.sink.status core.starved (refused_at core.place) f g h in
-    let P : List Item → Type 0 = λ t. Ends core.sink t whole in
-    subst P (unless_some (refused_at core.place) r.0 _ _ _ r.1 ∙ sym (unless_some (refused_at core.place) r.0 _ _ _ r.1)) e)
-    (λ n. ends_other core.sink _ _ whole n e)
+    let r = refused_by o.status levels (refused_at st.place) f g h in
+    let P : List Item → Type 0 = λ t. Ends o t whole in
+    subst P (unless_some (refused_at st.place) r.0 _ _ _ r.1 ∙ sym (unless_some (refused_at st.place) r.0 _ _ _ r.1)) e)
+    (λ n. ends_other o _ _ whole n e)
 
-stuck_verdict : (e : Emitter) (f : Fault) (xs ys : List Event) → e.fresh ≡ false → refusal_of e.core ≡ Some f → e.core.sink.status ≡ Going → verdict e xs ≡ verdict e ys
+stuck_verdict : (e : Emitter) (f : Fault) (xs ys : List Event) → e.fresh ≡ false → stop_of e ≡ Some f → e.status ≡ Going → verdict e xs ≡ verdict e ys
 unfolding verdict
-stuck_verdict e f xs ys b h g = ap (λ z. verdict_by z e xs) b ∙ (stuck_refuses e.core f _ _ h g ∙ sym (ap (λ z. verdict_by z e ys) b))
+stuck_verdict e f xs ys b h g = ap (λ z. verdict_by z e xs) b ∙ (stuck_refuses e.settings e.state e.status e.starved f _ _ h g ∙ sym (ap (λ z. verdict_by z e ys) b))
 
-stuck_writes : (e : Emitter) (f : Fault) (x : Encoding) (xs ys : List Event) (whole : List Item) → e.fresh ≡ false → refusal_of e.core ≡ Some f → Writes e x xs whole → Writes e x ys whole
+stuck_writes : (e : Emitter) (f : Fault) (x : Encoding) (xs ys : List Event) (whole : List Item) → e.fresh ≡ false → stop_of e ≡ Some f → Writes e x xs whole → Writes e x ys whole
 unfolding Writes
 stuck_writes e f x xs ys whole b h c =
     let P : Bool → Type 0 = λ z. WritesBy z e x xs whole in
     let Q : Bool → Type 0 = λ z. WritesBy z e x ys whole in
     let k = subst P b c in
-    subst Q (sym b) (k.0, stuck_lets_out e.core f _ _ whole h k.1)
+    subst Q (sym b) (k.0, stuck_lets_out e.settings e.state (text_of e) e.starved f _ _ whole h k.1)
 
 pub inside_stuck_judged : (i : Inside) (f : yaml_fault_t) (e : Event) → IsEmitter i → i.fault ≡ Some f → Judged (emitter_of i) e (emitter_of i)
 inside_stuck_judged i f e inv is =
@@ -192,7 +192,7 @@ inside_unjudged i inv f is =
 -- ---- that the stream was opened or closed is noted
 
 abbrev marked : Inside → Bool → Bool → Emitter
-marked i o k = record { requested_settings = i.requested_settings; limit = i.limit; core = i.core; held = held_events i.held; output = i.core.sink.bytes; fresh = i.fresh; opened = o; closed = k; fault = option_map fault_of i.fault }
+marked i o k = seen i.requested_settings i.core (held_events i.held) i.fresh o k (option_map fault_of i.fault)
 
 marked_verdict : (b : Bool) (i : Inside) (o k : Bool) (es : List Event) → verdict_by b (marked i o k) es ≡ verdict_by b (emitter_of i) es
 marked_verdict true i o k es = refl
@@ -207,7 +207,7 @@ unmarked_writes true i o k x es whole h = h
 unmarked_writes false i o k x es whole h = h
 
 pub judged_marked : (old : Emitter) (e : Event) (i : Inside) (o k : Bool) → Judged old e (emitter_of i)
-    → Judged old e (record { requested_settings = i.requested_settings; limit = i.limit; core = i.core; held = held_events i.held; output = i.core.sink.bytes; fresh = i.fresh; opened = o; closed = k; fault = option_map fault_of i.fault })
+    → Judged old e (seen i.requested_settings i.core (held_events i.held) i.fresh o k (option_map fault_of i.fault))
 unfolding verdict Writes
 judged_marked old e i o k j = record {
   refuses = λ g es. marked_verdict i.fresh i o k es ∙ j.refuses g es;
@@ -217,7 +217,7 @@ judged_marked old e i o k j = record {
 }
 
 pub tells_marked : (i : Inside) (o k : Bool) → Tells (emitter_of i)
-    → Tells (record { requested_settings = i.requested_settings; limit = i.limit; core = i.core; held = held_events i.held; output = i.core.sink.bytes; fresh = i.fresh; opened = o; closed = k; fault = option_map fault_of i.fault })
+    → Tells (seen i.requested_settings i.core (held_events i.held) i.fresh o k (option_map fault_of i.fault))
 unfolding verdict Writes
 tells_marked i o k t = record {
   fault = t.fault ∙ ap (fault_by i.core.sink.status i.core.starved) (sym (marked_verdict i.fresh i o k []));
@@ -288,26 +288,25 @@ unfolding verdict refusal_behind
 verdict_now i inv fr g =
     refusal_now (refused_at i.core.place) _ _ (held_events i.held ++ []) (waits_now i inv g) ∙ sym (ap (λ z. verdict_by z (emitter_of i) []) fr)
 
-output_now : (i : Inside) (x : Encoding) (whole : List Item) → IsEmitter i → i.fresh ≡ false → Writes (emitter_of i) x [] whole → HasLetOut i.core.sink.status i.limit i.core.sink.bytes (encode x whole) (is_deep whole)
+output_now : (i : Inside) (x : Encoding) (whole : List Item) → IsEmitter i → i.fresh ≡ false → Writes (emitter_of i) x [] whole → HasLetOut i.core.sink.status i.core.sink.limit i.core.sink.bytes (encode x whole) (is_deep whole)
 unfolding Writes LetsOut
 output_now i x whole inv fr h =
     let P : Bool → Type 0 = λ z. WritesBy z (emitter_of i) x [] whole in
     let k = subst P fr h in
-    let Q : ℕ → Type 0 = λ z. HasLetOut i.core.sink.status z i.core.sink.bytes (encode x whole) (is_deep whole) in
     let R : Encoding → Type 0 = λ z. HasLetOut i.core.sink.status i.core.sink.limit i.core.sink.bytes (encode z whole) (is_deep whole) in
-    subst Q inv.limited (subst R k.0 (ends_let_out i.core.sink _ whole (λ g. text_now (refused_at i.core.place) _ _ (held_events i.held ++ []) _ (waits_now i inv g)) k.1))
+    subst R k.0 (ends_let_out i.core.sink _ whole (λ g. text_now (refused_at i.core.place) _ _ (held_events i.held ++ []) _ (waits_now i inv g)) k.1)
 
 first_verdict : (e : Emitter) → e.fresh ≡ true → None ≡ verdict e []
 unfolding verdict first_refusal let_out
 first_verdict e fr = sym (ap (λ z. verdict_by z e []) fr)
 
-first_output : (e : Emitter) (x : Encoding) (whole : List Item) → e.fresh ≡ true → e.core.sink.bytes ≡ [] → e.core.sink.status ≡ Going → Writes e x [] whole → HasLetOut e.core.sink.status e.limit e.core.sink.bytes (encode x whole) (is_deep whole)
+first_output : (e : Emitter) (x : Encoding) (whole : List Item) → e.fresh ≡ true → e.output ≡ [] → e.status ≡ Going → Writes e x [] whole → HasLetOut e.status e.limit e.output (encode x whole) (is_deep whole)
 unfolding Writes laid let_out encode is_deep
 first_output e x whole fr b g h =
     let P : Bool → Type 0 = λ z. WritesBy z e x [] whole in
     let k : IsLetOut e.requested_settings x [] whole = subst P fr h in
-    let S : Status → Type 0 = λ z. HasLetOut z e.limit e.core.sink.bytes (encode x whole) (is_deep whole) in
-    let W : List Item → Type 0 = λ t. HasLetOut Going e.limit e.core.sink.bytes (encode x t) (is_deep t) in
+    let S : Status → Type 0 = λ z. HasLetOut z e.limit e.output (encode x whole) (is_deep whole) in
+    let W : List Item → Type 0 = λ t. HasLetOut Going e.limit e.output (encode x t) (is_deep t) in
     subst S (sym g) (subst W (sym k.is) (b, (rw b (omega arith), refl)))
 
 none_refused : (s : Status) (b : Bool) (p : Option Problem) → s ≡ Going → None ≡ fault_by s b p → p ≡ None

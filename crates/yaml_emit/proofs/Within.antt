@@ -1,54 +1,54 @@
 -- Where no event is to come and nothing has stopped the output, the whole passes no limit.
 use Rattle.std.proofs.Common.{◌≡◌, ℕ, ◌≤◌, List, [], ◌++◌, length, Bool, true, false, refl, sym, subst, ◌∙◌, append-nil}
 use Rattle.yaml_emit_text.specs.declared.Encoding.{Encoding}
+use Rattle.yaml_emit_text.specs.declared.Settings.{Settings}
 use Rattle.yaml_emit_text.specs.declared.Status.{Status}
 use Rattle.yaml_emit_text.specs.declared.Status.TheVariants.{Going, Full, Deep, Starved}
 use Rattle.yaml_emit_text.specs.Text.{Item, encode, is_deep}
 use Rattle.yaml_emit_text.specs.Layout.{nothing_more}
-use Rattle.yaml_emit_text.specs.Sink.{Ends, EndsBy}
+use Rattle.yaml_emit_text.specs.Sink.{Output, Ends, EndsBy}
 use Rattle.yaml_emit_layout.specs.Content.{Event}
+use Rattle.yaml_emit_layout.specs.State.{State}
 use Rattle.yaml_emit_layout.specs.ToCome.{ToCome, nothing, events, layout}
-use Rattle.yaml_emit_state.specs.declared.Core.{Core}
-use Rattle.yaml_emit_state.specs.Steps.{settings_of, goes_on}
+use Rattle.yaml_emit_state.specs.Steps.{goes_on}
 use Rattle.yaml_emit_state.specs.Finish.{Finishes, FinishesAt}
 use Rattle.yaml_emit.specs.declared.emitter.yaml_emitter_t.TheInside.{Inside}
 use Rattle.yaml_emit.specs.Held.{is_ready}
-use Rattle.yaml_emit.specs.Emitter.{Emitter, emitter_of, IsEmitter, Completes, CompletesBy, IsStream}
+use Rattle.yaml_emit.specs.Emitter.{Emitter, text_of, emitter_of, IsEmitter, Completes, CompletesBy, IsStream}
 use Rattle.yaml_emit.specs.Within.{Fits, IsWithin}
 use Rattle.yaml_emit.proofs.Ending.{nothing_held, no_event_left}
 use Rattle.yaml_emit.proofs.Emitting.{refusal_none, goes_going}
 
-fits_at : (s : Status) (core : Core) (xs : List Event) (whole : List Item) → s ≡ core.sink.status → s ≡ Going → is_ready xs ≡ false → FinishesAt s core (xs ++ []) whole → Fits core.sink.limit core.sink.encoding whole
+fits_at : (s : Status) (v : Settings) (st : State) (o : Output) (xs : List Event) (whole : List Item) → s ≡ o.status → s ≡ Going → is_ready xs ≡ false → FinishesAt s v st o (xs ++ []) whole → Fits o.limit o.encoding whole
 unfolding Ends layout encode is_deep
-fits_at Going core xs whole same g w f =
+fits_at Going v st o xs whole same g w f =
     let all : xs ≡ events f.rest = sym (append-nil xs) ∙ f.same in
     let empty : xs ≡ [] = nothing_held xs f.rest w all in
     let last : f.rest ≡ nothing = no_event_left f.rest (sym empty ∙ all) in
-    let P : ToCome → Type 0 = λ k. Ends core.sink (layout (settings_of core) k core.sink.cursor nothing_more) whole in
-    let Q : Status → Type 0 = λ s. EndsBy s core.sink.limit core.sink.encoding core.sink.bytes [] whole in
-    let e : EndsBy Going core.sink.limit core.sink.encoding core.sink.bytes [] whole = subst Q (sym same) (subst P last f.ends) in
-    let R : List ℕ → Type 0 = λ z. length z ≤ core.sink.limit in
-    record { size = subst R (sym (e.0 ∙ append-nil core.sink.bytes)) e.1.0; columns = e.1.1 }
-fits_at Full core xs whole same g w f = absurd (cc)
-fits_at Deep core xs whole same g w f = absurd (cc)
-fits_at Starved core xs whole same g w f = absurd (cc)
+    let P : ToCome → Type 0 = λ k. Ends o (layout v k o.cursor nothing_more) whole in
+    let Q : Status → Type 0 = λ s. EndsBy s o.limit o.encoding o.bytes [] whole in
+    let e : EndsBy Going o.limit o.encoding o.bytes [] whole = subst Q (sym same) (subst P last f.ends) in
+    let R : List ℕ → Type 0 = λ z. length z ≤ o.limit in
+    record { size = subst R (sym (e.0 ∙ append-nil o.bytes)) e.1.0; columns = e.1.1 }
+fits_at Full v st o xs whole same g w f = absurd (cc)
+fits_at Deep v st o xs whole same g w f = absurd (cc)
+fits_at Starved v st o xs whole same g w f = absurd (cc)
 
 no_stream : (e : Emitter) (x : Encoding) (whole : List Item) → IsStream e.requested_settings x [] whole → ⊥
 no_stream e x whole h = let k = h.same in cc
 
-fits_by_fresh : (b : Bool) (e : Emitter) (x : Encoding) (whole : List Item) → e.core.sink.limit ≡ e.limit → e.core.sink.status ≡ Going → is_ready e.held ≡ false → CompletesBy b e x [] whole → Fits e.limit x whole
+fits_by_fresh : (b : Bool) (e : Emitter) (x : Encoding) (whole : List Item) → e.status ≡ Going → is_ready e.held ≡ false → CompletesBy b e x [] whole → Fits e.limit x whole
 unfolding Finishes
-fits_by_fresh true e x whole l g w h = absurd (no_stream e x whole h)
-fits_by_fresh false e x whole l g w h =
+fits_by_fresh true e x whole g w h = absurd (no_stream e x whole h)
+fits_by_fresh false e x whole g w h =
     let P : Encoding → Type 0 = λ z. Fits e.limit z whole in
-    let Q : ℕ → Type 0 = λ n. Fits n e.core.sink.encoding whole in
-    subst P h.0 (subst Q l (fits_at e.core.sink.status e.core e.held whole refl g w h.1))
+    subst P h.0 (fits_at e.status e.settings e.state (text_of e) e.held whole refl g w h.1)
 
-fits : (e : Emitter) (x : Encoding) (whole : List Item) → e.core.sink.limit ≡ e.limit → e.core.sink.status ≡ Going → is_ready e.held ≡ false → Completes e x [] whole → Fits e.limit x whole
+fits : (e : Emitter) (x : Encoding) (whole : List Item) → e.status ≡ Going → is_ready e.held ≡ false → Completes e x [] whole → Fits e.limit x whole
 unfolding Completes
-fits e x whole l g w h = fits_by_fresh e.fresh e x whole l g w h
+fits e x whole g w h = fits_by_fresh e.fresh e x whole g w h
 
 pub inside_within : (i : Inside) → IsEmitter i → IsWithin (emitter_of i)
 inside_within i inv = λ none x whole h.
     let g : goes_on i.core.sink.status i.core.place ≡ true = refusal_none i.core.place i.core.sink.status i.core.starved (sym inv.faulty ∙ none) in
-    fits (emitter_of i) x whole inv.limited (goes_going i.core.sink.status i.core.place g) (inv.few g) h
+    fits (emitter_of i) x whole (goes_going i.core.sink.status i.core.place g) (inv.few g) h

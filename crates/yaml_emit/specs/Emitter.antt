@@ -10,13 +10,16 @@ use Rattle.yaml_scan_model.specs.declared.yaml_origin_t.{yaml_origin_t}
 use Rattle.yaml_scan_model.specs.declared.yaml_origin_t.TheVariants as origin
 use Rattle.yaml_scan_model.specs.Tokens.{zero_mark}
 use Rattle.yaml_scan_model.specs.Faults.{Fault, fault_of, memory_fault, IsMemoryFault, emit_layers}
+use Rattle.yaml_emit_text.specs.declared.Cursor.{Cursor}
 use Rattle.yaml_emit_text.specs.declared.Encoding.{Encoding}
+use Rattle.yaml_emit_text.specs.declared.Settings.{Settings}
 use Rattle.yaml_emit_text.specs.declared.Status.{Status}
 use Rattle.yaml_emit_text.specs.declared.Status.TheVariants.{Going, Full, Deep, Starved}
 use Rattle.yaml_emit_text.specs.declared.RequestedSettings.{RequestedSettings}
 use Rattle.yaml_emit_text.specs.Text.{Item, encode, is_deep}
 use Rattle.yaml_emit_text.specs.Layout.{written}
 use Rattle.yaml_emit_text.specs.Settings.{settled}
+use Rattle.yaml_emit_text.specs.Sink.{Output}
 use Rattle.yaml_emit_layout.specs.declared.Expected.{Expected}
 use Rattle.yaml_emit_layout.specs.declared.Problem.{Problem}
 use Rattle.yaml_parse_model.specs.Nodes as model
@@ -24,8 +27,8 @@ use Rattle.yaml_parse_document.specs.Documents as documents
 use Rattle.yaml_emit_layout.specs.Content.{Event, stream_start, stream_end, Document, stream_events}
 use Rattle.yaml_emit_layout.specs.Grammar.{own_problems, problem_bytes}
 use Rattle.yaml_emit_layout.specs.Nodes.{stream_layout}
-use Rattle.yaml_emit_state.specs.declared.Core.{Core}
-use Rattle.yaml_emit_state.specs.Steps.{goes_on}
+use Rattle.yaml_emit_layout.specs.State.{State}
+use Rattle.yaml_emit_state.specs.Steps.{state_of, settings_of, goes_on}
 use Rattle.yaml_emit_state.specs.Finish.{Finishes}
 use Rattle.yaml_emit.specs.declared.emitter.yaml_emitter_t.TheInside.{Inside}
 use Rattle.yaml_emit.specs.Held.{held_events, HeldUtf8, is_ready}
@@ -47,13 +50,22 @@ pub record Emitter : Type 0 where
   pub closed : Bool
   -- the first fault
   pub fault : Option Fault
-  -- How the text goes on behind what was laid out, and what has stopped it: definitions read it, and no clause names it.
-  pub core : Core
+  -- ---- how the text goes on behind the output, from the first event on
+  -- the settings in force
+  pub settings : Settings
+  -- what is expected next, the open collections, and the directives of the document
+  pub state : State
+  -- where the next character stands
+  pub cursor : Cursor
+  -- that the output goes on, or what has stopped it: the limit, an indentation that is too deep, or want of memory
+  pub status : Status
+  -- it was stopped by memory that was refused for the open collections or the directives, and not for the text
+  pub starved : Bool
 
 abbrev pub emitter_of : Inside → Emitter
 emitter_of e = record {
   requested_settings = e.requested_settings;
-  limit = e.limit;
+  limit = e.core.sink.limit;
   held = held_events e.held;
   output = e.core.sink.bytes;
   fresh = e.fresh;
@@ -61,7 +73,21 @@ emitter_of e = record {
   closed = e.closed;
   fault = option_map
       fault_of e.fault;
-  core = e.core;
+  settings = settings_of e.core;
+  state = state_of e.core;
+  cursor = e.core.sink.cursor;
+  status = e.core.sink.status;
+  starved = e.core.starved;
+}
+
+-- the output as the definitions of a text see it
+abbrev pub text_of : Emitter → Output
+text_of e = record {
+  bytes = e.output;
+  limit = e.limit;
+  encoding = e.settings.encoding;
+  status = e.status;
+  cursor = e.cursor;
 }
 
 abbrev pub plain_fault : yaml_error_type_t → List ℕ → yaml_origin_t → Fault
@@ -112,16 +138,14 @@ fault_by Starved levels p = stopped Starved levels
 abbrev pub refusal_by : Expected → Status → Bool → Option Fault
 refusal_by place s levels = fault_by s levels (refused_at place)
 
-abbrev pub refusal_of : Core → Option Fault
-refusal_of core = refusal_by core.place core.sink.status core.starved
-
 -- the fault of what has stopped an emitter
 abbrev pub stop_of : Emitter → Option Fault
-stop_of e = refusal_of e.core
+stop_of e = refusal_by e.state.place e.status e.starved
 
 pub record IsEmitter (e : Inside) : Type 0 where
   -- the fault is the first that laying out met
-  pub faulty : option_map fault_of e.fault ≡ refusal_of e.core
+  pub faulty : option_map fault_of e.fault
+      ≡ refusal_by e.core.place e.core.sink.status e.core.starved
   pub few : goes_on e.core.sink.status e.core.place ≡ true → is_ready (held_events e.held) ≡ false
   pub short : length (held_events e.held) ≤ 3
   pub texts : HeldUtf8 e.held
@@ -149,8 +173,8 @@ pub record IsStream (w : RequestedSettings) (x : Encoding) (es : List Event)
 
 abbrev pub CompletesBy : Bool → Emitter → Encoding → List Event → List Item → Type 0
 CompletesBy true e x es whole = IsStream e.requested_settings x es whole
-CompletesBy false e x es whole = (e.core.sink.encoding ≡ x)
-    × Finishes e.core (e.held ++ es) whole
+CompletesBy false e x es whole = (e.settings.encoding ≡ x)
+    × Finishes e.settings e.state (text_of e) (e.held ++ es) whole
 
 -- With these events to come, the whole text is `whole`, in that encoding.
 unfoldable pub Completes : Emitter → Encoding → List Event → List Item → Type 0
@@ -235,7 +259,7 @@ HasWritten Starved limit output bytes deep = (rest : List ℕ) × (bytes ≡ out
 
 abbrev pub ShowsFront : Emitter → List ℕ → Type 0
 ShowsFront e output = (x : Encoding) (es : List Event) (whole : List Item) → Completes e x es whole
-    → HasWritten e.core.sink.status e.limit output (encode x whole) (is_deep whole)
+    → HasWritten e.status e.limit output (encode x whole) (is_deep whole)
 
 -- with no event to come and no fault, the output is the whole
 abbrev pub IsWhole : Emitter → List ℕ → Type 0

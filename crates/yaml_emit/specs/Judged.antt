@@ -3,10 +3,9 @@ use Rattle.std.specs.Prelude.{◌≡◌, Bool, true, false, if◌then◌else◌,
 use Rattle.std.specs.List.{list_any}
 use Rattle.yaml_scan_model.specs.declared.yaml_encoding_t.{yaml_encoding_t}
 use Rattle.yaml_emit_text.specs.declared.Settings.{Settings}
-use Rattle.yaml_emit_text.specs.declared.Status.TheVariants.{Going}
 use Rattle.yaml_emit_text.specs.Text.{Item}
 use Rattle.yaml_emit_text.specs.Layout.{Layout, stay, nothing_more}
-use Rattle.yaml_emit_text.specs.Sink.{Ends}
+use Rattle.yaml_emit_text.specs.Sink.{Output, Ends}
 use Rattle.yaml_emit_layout.specs.declared.Problem.{Problem}
 use Rattle.yaml_emit_layout.specs.declared.Level.{Level}
 use Rattle.yaml_emit_layout.specs.declared.Phase.{Phase}
@@ -16,8 +15,7 @@ use Rattle.yaml_emit_layout.specs.declared.Expected.TheVariants as at
 use Rattle.yaml_emit_layout.specs.Content.{Document, stream_events, Event, no_event, stream_start, stream_end, document_start, document_end, alias, scalar, sequence_start, sequence_end, mapping_start, mapping_end}
 use Rattle.yaml_emit_layout.specs.Grammar.{or_else, problem_by, own_problems}
 use Rattle.yaml_emit_layout.specs.State.{State, piece, next, problem_at, opens_empty}
-use Rattle.yaml_emit_state.specs.declared.Core.{Core}
-use Rattle.yaml_emit_state.specs.Steps.{state_of, settings_of, takes_memory, Notes}
+use Rattle.yaml_emit_state.specs.Steps.{takes_memory}
 use Rattle.yaml_emit.specs.Held.{is_ready}
 
 -- what is due in an open collection: an item or the sequence's end, a key or the mapping's end, or the value of a key
@@ -141,28 +139,14 @@ refusal_from canonical st es = or_else (refused_at st.place)
 abbrev pub text_from : Settings → State → List Event → Layout
 text_from s st es = unless (refused_at st.place) (laid s st (let_out es))
 
-unfoldable pub refusal_behind : Core → List Event → Option Problem
-refusal_behind core es = refusal_from (settings_of core).canonical (state_of core) es
+-- the problem of the first event that is refused, once these are given too
+unfoldable pub refusal_behind : Settings → State → List Event → Option Problem
+refusal_behind s st es = refusal_from s.canonical st es
 
--- `whole` is what is written, once these events are given too
-unfoldable pub LetsOut : Core → List Event → List Item → Type 0
-LetsOut core es whole = Ends core.sink (text_from (settings_of core) (state_of core) es
-    core.sink.cursor nothing_more) whole
+-- `whole` is what is written behind that output, once these events are given too
+unfoldable pub LetsOut : Settings → State → Output → List Event → List Item → Type 0
+LetsOut s st o es whole = Ends o (text_from s st es o.cursor nothing_more) whole
 
 -- laying out some of them may take memory outside the output
 abbrev pub take_memory : List Event → Bool
 take_memory es = list_any takes_memory es
-
--- With these events to be laid out, one state leads to another with those: whatever follows, the same event is refused, unless
--- the output has stopped, and the same is written.
-pub record Judges (old : Core) (before : List Event) (new : Core) (after : List Event) : Type 0
-  where
-    pub refuses : new.sink.status ≡ Going → (es : List Event) → refusal_behind new (after ++ es)
-        ≡ refusal_behind old (before ++ es)
-    pub lets_out : (es : List Event) (whole : List Item) → LetsOut old (before ++ es) whole
-        → LetsOut new (after ++ es) whole
-    -- an output that has stopped stays stopped
-    pub going : new.sink.status ≡ Going → old.sink.status ≡ Going
-    -- that memory was refused outside the output is noted where this stops it, by an event that takes such memory
-    pub memory : Notes (take_memory before) old new
-    pub left : take_memory before ≡ false → take_memory after ≡ false

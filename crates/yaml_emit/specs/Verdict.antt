@@ -13,13 +13,13 @@ use Rattle.yaml_emit_layout.specs.declared.Problem.{Problem}
 use Rattle.yaml_emit_layout.specs.declared.Expected.TheVariants as at
 use Rattle.yaml_emit_layout.specs.Content.{Event}
 use Rattle.yaml_emit_layout.specs.State.{placed}
-use Rattle.yaml_emit_state.specs.Steps.{Notes}
+use Rattle.yaml_emit_state.specs.Steps.{may_note}
 use Rattle.yaml_emit.specs.Judged.{first_progress, let_out, first_refusal, laid, refusal_behind, LetsOut, take_memory}
-use Rattle.yaml_emit.specs.Emitter.{Emitter, stream_encoding, fault_by, HasWritten}
+use Rattle.yaml_emit.specs.Emitter.{Emitter, text_of, stream_encoding, fault_by, HasWritten}
 
 abbrev pub verdict_by : Bool → Emitter → List Event → Option Problem
 verdict_by true e es = first_refusal e.requested_settings.canonical first_progress (let_out es)
-verdict_by false e es = refusal_behind e.core (e.held ++ es)
+verdict_by false e es = refusal_behind e.settings e.state (e.held ++ es)
 
 -- The problem of the first event that is refused, among those that are let out once these are given too.
 unfoldable pub verdict : Emitter → List Event → Option Problem
@@ -38,39 +38,44 @@ pub record IsLetOut (w : RequestedSettings) (x : Encoding) (es : List Event)
 
 abbrev pub WritesBy : Bool → Emitter → Encoding → List Event → List Item → Type 0
 WritesBy true e x es whole = IsLetOut e.requested_settings x es whole
-WritesBy false e x es whole = (e.core.sink.encoding ≡ x) × LetsOut e.core (e.held ++ es)
-    whole
+WritesBy false e x es whole = (e.settings.encoding ≡ x)
+    × LetsOut e.settings e.state (text_of e) (e.held ++ es) whole
 
 -- Once these events are given too, `whole` is what is written, in that encoding: all events that are let out, up to the first
 -- one that is refused.
 unfoldable pub Writes : Emitter → Encoding → List Event → List Item → Type 0
 Writes e x es whole = WritesBy e.fresh e x es whole
 
+-- Between these two, that memory was refused outside the output is noted where this stops the output, and nowhere else; by
+-- whether what was laid out may take such memory.
+abbrev pub Notes : Bool → Emitter → Emitter → Type 0
+Notes takes old new = may_note takes old.status new.status ≡ false → new.starved ≡ old.starved
+
 -- An event was given, and was judged in its turn: whatever follows, the same event is refused, unless the output has stopped,
 -- and the same is written.
 pub record Judged (old : Emitter) (e : Event) (new : Emitter) : Type 0 where
-  pub refuses : new.core.sink.status ≡ Going → (es : List Event)
+  pub refuses : new.status ≡ Going → (es : List Event)
       → verdict new es ≡ verdict old (e ∷ es)
   pub writes : (x : Encoding) (es : List Event) (whole : List Item) → Writes old x (e ∷ es) whole
       → Writes new x es whole
   -- an output that has stopped stays stopped
-  pub going : new.core.sink.status ≡ Going → old.core.sink.status ≡ Going
+  pub going : new.status ≡ Going → old.status ≡ Going
   -- That memory was refused outside the output is noted where this stops it, once an event is held or given that takes such memory.
-  pub memory : Notes (take_memory (old.held ++ e ∷ [])) old.core new.core
+  pub memory : Notes (take_memory (old.held ++ e ∷ [])) old new
 
 -- Of some events that were to come those are still to come, and the others were judged in their turn.
 pub record JudgedAll (old : Emitter) (es : List Event) (new : Emitter) (left : List Event) : Type 0
   where
-    pub refuses : new.core.sink.status ≡ Going → (more : List Event) → verdict new (left ++ more)
+    pub refuses : new.status ≡ Going → (more : List Event) → verdict new (left ++ more)
         ≡ verdict old (es ++ more)
     pub writes : (x : Encoding) (more : List Event) (whole : List Item)
         → Writes old x (es ++ more) whole → Writes new x (left ++ more) whole
-    pub going : new.core.sink.status ≡ Going → old.core.sink.status ≡ Going
-    pub memory : Notes true old.core new.core
+    pub going : new.status ≡ Going → old.status ≡ Going
+    pub memory : Notes true old new
 
 -- events that count for nothing: behind a fault
 pub record Unjudged (e : Emitter) : Type 0 where
-  pub refuses : e.core.sink.status ≡ Going → (es more : List Event) → verdict e more ≡ verdict e es
+  pub refuses : e.status ≡ Going → (es more : List Event) → verdict e more ≡ verdict e es
   pub writes : (x : Encoding) (es more : List Event) (whole : List Item) → Writes e x es whole
       → Writes e x more whole
 
@@ -79,10 +84,10 @@ pub record JudgesFirst (old : Emitter) (e : Event) (new : Emitter) : Type 0 wher
   pub refuses : (es : List Event) → verdict new (e ∷ es) ≡ verdict old (e ∷ es)
   pub writes : (x : Encoding) (es : List Event) (whole : List Item) → Writes old x (e ∷ es) whole
       → Writes new x (e ∷ es) whole
-  pub going : old.core.sink.status ≡ Going
-  pub begun : new.core.sink.status ≡ Going
+  pub going : old.status ≡ Going
+  pub begun : new.status ≡ Going
   pub held : new.held ≡ old.held
-  pub memory : new.core.starved ≡ old.core.starved
+  pub memory : new.starved ≡ old.starved
 
 -- All of it is in the output, which passes no limit; or the output has stopped there.
 abbrev pub HasLetOut : Status → ℕ → List ℕ → List ℕ → Bool → Type 0
@@ -96,7 +101,7 @@ HasLetOut Starved limit output bytes deep = HasWritten Starved limit output byte
 -- stopped it; the output has all that was let out, or stopped at a limit that this passes or for want of memory. While it goes
 -- on, no memory was refused outside it.
 pub record Tells (e : Emitter) : Type 0 where
-  pub fault : e.fault ≡ fault_by e.core.sink.status e.core.starved (verdict e [])
+  pub fault : e.fault ≡ fault_by e.status e.starved (verdict e [])
   pub output : (x : Encoding) (whole : List Item) → Writes e x [] whole
-      → HasLetOut e.core.sink.status e.limit e.output (encode x whole) (is_deep whole)
-  pub memory : e.core.sink.status ≡ Going → e.core.starved ≡ false
+      → HasLetOut e.status e.limit e.output (encode x whole) (is_deep whole)
+  pub memory : e.status ≡ Going → e.starved ≡ false

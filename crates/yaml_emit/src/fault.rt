@@ -3,7 +3,7 @@
 ghost use Rattle.std.specs.Prelude.{◌≡◌, None, option_map};
 ghost use Rattle.yaml_scan_model.specs.Faults.{fault_of, memory_fault};
 ghost use Rattle.yaml_emit.specs.Judged.{refused_at};
-ghost use Rattle.yaml_emit.specs.Emitter.{plain_fault, emitter_fault, problem_fault, memory_origin, stopped, refusal_of};
+ghost use Rattle.yaml_emit.specs.Emitter.{plain_fault, emitter_fault, problem_fault, memory_origin, stopped, refusal_by};
 
 use yaml_emit_layout::{Expected, problem_text};
 use yaml_emit_state::Core;
@@ -84,7 +84,8 @@ fn refused(place: Expected) -> Option<yaml_fault_t>
 
 // The fault of what has stopped the output, or else of a refused event.
 pub(crate) fn refusal(core: &Core) -> Option<yaml_fault_t>
-    ensures { option_map fault_of result ≡ refusal_of core.now }
+    ensures { option_map fault_of result ≡ refusal_by core.now.place core.now.sink.status
+        core.now.starved }
 {
     match core.sink().status() {
         Status::Going => refused(core.place()),
@@ -96,7 +97,8 @@ pub(crate) fn refusal(core: &Core) -> Option<yaml_fault_t>
 #[tactic(auto, using(crate::proofs::Emitting::unnoted))]
 pub(crate) fn note(core: &Core, fault: &mut Option<yaml_fault_t>)
     requires { option_map fault_of fault.old ≡ None }
-    ensures { option_map fault_of fault.new ≡ refusal_of core.now }
+    ensures { option_map fault_of fault.new ≡ refusal_by core.now.place core.now.sink.status
+        core.now.starved }
 {
     if !core.is_going() {
         *fault = refusal(core);

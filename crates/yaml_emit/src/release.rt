@@ -7,7 +7,7 @@ ghost use Rattle.yaml_emit_layout.specs.Content.{emitter_event};
 ghost use Rattle.yaml_emit_state.specs.Steps.{goes_on};
 ghost use Rattle.yaml_emit_state.specs.Finish.{Leads};
 ghost use Rattle.yaml_emit.specs.Held.{held_events, HeldUtf8, is_ready, passes};
-ghost use Rattle.yaml_emit.specs.Judged.{Judges};
+ghost use Rattle.yaml_emit.specs.Laying.{Judges};
 
 use crate::held::Held;
 use yaml_emit_state::Core;

@@ -20,25 +20,25 @@ use Rattle.yaml_emit_state.specs.declared.state.Core.{Core}
 use Rattle.yaml_emit_state.specs.Steps.{state_of, settings_of, next_state, next_piece, LaysOut, IsFresh}
 use Rattle.yaml_emit_state.specs.Finish.{Finishes, FinishesAt, FinishesBy}
 
-going_by : (s : Status) (core : Core) (es : List Event) (whole : List Item) → s ≡ Going → FinishesAt s core es whole → FinishesBy core es whole
+going_by : (s : Status) (core : Core) (es : List Event) (whole : List Item) → s ≡ Going → FinishesAt s (settings_of core) (state_of core) core.sink es whole → FinishesBy (settings_of core) (state_of core) core.sink es whole
 going_by Going core es whole g h = h
 going_by Full core es whole g h = absurd (cc)
 going_by Deep core es whole g h = absurd (cc)
 going_by Starved core es whole g h = absurd (cc)
 
-stopped_by : (s : Status) (core : Core) (es : List Event) (whole : List Item) → s ≢ Going → FinishesAt s core es whole → Ends core.sink [] whole
+stopped_by : (s : Status) (core : Core) (es : List Event) (whole : List Item) → s ≢ Going → FinishesAt s (settings_of core) (state_of core) core.sink es whole → Ends core.sink [] whole
 stopped_by Going core es whole n h = absurd (n refl)
 stopped_by Full core es whole n h = h
 stopped_by Deep core es whole n h = h
 stopped_by Starved core es whole n h = h
 
-by_going : (s : Status) (core : Core) (es : List Event) (whole : List Item) → s ≡ Going → FinishesBy core es whole → FinishesAt s core es whole
+by_going : (s : Status) (core : Core) (es : List Event) (whole : List Item) → s ≡ Going → FinishesBy (settings_of core) (state_of core) core.sink es whole → FinishesAt s (settings_of core) (state_of core) core.sink es whole
 by_going Going core es whole g h = h
 by_going Full core es whole g h = absurd (cc)
 by_going Deep core es whole g h = absurd (cc)
 by_going Starved core es whole g h = absurd (cc)
 
-by_stopped : (s : Status) (core : Core) (es : List Event) (whole : List Item) → s ≢ Going → Ends core.sink [] whole → FinishesAt s core es whole
+by_stopped : (s : Status) (core : Core) (es : List Event) (whole : List Item) → s ≢ Going → Ends core.sink [] whole → FinishesAt s (settings_of core) (state_of core) core.sink es whole
 by_stopped Going core es whole n h = absurd (n refl)
 by_stopped Full core es whole n h = h
 by_stopped Deep core es whole n h = h
@@ -78,14 +78,14 @@ stepped old new e empty h l =
     let R : Option Problem → Type 0 = λ p. Puts old.sink new.sink (next_piece p (piece (settings_of old) (state_of old) e empty)) in
     record { settings = same_settings old new l.settings l.text.encoding; state = subst P h l.state; text = subst R h l.text }
 
-pub finishes_on : (old new : Core) (e : Event) (es : List Event) (whole : List Item) → LaysOut old new e (opens_empty e es) → Finishes old (e ∷ es) whole → Finishes new es whole
+pub finishes_on : (old new : Core) (e : Event) (es : List Event) (whole : List Item) → LaysOut old new e (opens_empty e es) → Finishes (settings_of old) (state_of old) old.sink (e ∷ es) whole → Finishes (settings_of new) (state_of new) new.sink es whole
 unfolding Finishes
 finishes_on old new e es whole l h =
     status_cases old.sink.status
     (λ g.
     let s : Settings = settings_of old in
     let b : Bool = opens_empty e es in
-    let f : FinishesBy old (e ∷ es) whole = going_by old.sink.status old (e ∷ es) whole g h in
+    let f : FinishesBy (settings_of old) (state_of old) old.sink (e ∷ es) whole = going_by old.sink.status old (e ∷ es) whole g h in
     let P : State → Type 0 = λ st. Goes s st e b es f.rest in
     let go : Goes s (state_of old) e b es f.rest = subst P (sym f.fits) (goes s e es f.rest f.same) in
     let r = first_right s.canonical e es f.right in
@@ -109,7 +109,7 @@ finishes_on old new e es whole l h =
     let back : Ends new.sink _ whole = l.text.ends nothing_more whole (ends_other old.sink [] _ whole n e') in
     by_stopped new.sink.status new es whole (λ g. n (l.text.going g)) back)
 
-pub fresh_finishes : (core : Core) (s : Settings) (x : yaml_encoding_t) (ds : List Document) → IsFresh core s → own_problems s.canonical (stream_events x ds) ≡ None → Finishes core (stream_events x ds) (written (stream_layout s ds))
+pub fresh_finishes : (core : Core) (s : Settings) (x : yaml_encoding_t) (ds : List Document) → IsFresh core s → own_problems s.canonical (stream_events x ds) ≡ None → Finishes (settings_of core) (state_of core) core.sink (stream_events x ds) (written (stream_layout s ds))
 unfolding Finishes Ends events layout come.state_of
 fresh_finishes core s x ds f r =
     by_going core.sink.status core (stream_events x ds) _ f.status (record {

@@ -180,16 +180,16 @@ some_fault Starved b p limit x whole output f h k = inr (inr (memory_told b f h)
 -- ---- the answer
 
 -- what the emitter tells of the text of the events that it was given
-told_text : (e : Emitter) (first : Emitter) (w : RequestedSettings) (limit : ℕ) (es : List Event) → StartsUnder first w limit → Leads first es e [] → Tells e → HasLetOut e.core.sink.status limit e.output (text_bytes w es) (is_deep (whole_text w es))
+told_text : (e : Emitter) (first : Emitter) (w : RequestedSettings) (limit : ℕ) (es : List Event) → StartsUnder first w limit → Leads first es e [] → Tells e → HasLetOut e.status limit e.output (text_bytes w es) (is_deep (whole_text w es))
 told_text e first w limit es s l t =
-    let k : HasLetOut e.core.sink.status e.limit e.output (text_bytes w es) (is_deep (whole_text w es)) = t.output (text_encoding w es) (whole_text w es) (l.writes (text_encoding w es) (whole_text w es) (first_writes first w limit es s)) in
-    subst (λ (n : ℕ). HasLetOut e.core.sink.status n e.output (text_bytes w es) (is_deep (whole_text w es))) (l.limit ∙ s.limit) k
+    let k : HasLetOut e.status e.limit e.output (text_bytes w es) (is_deep (whole_text w es)) = t.output (text_encoding w es) (whole_text w es) (l.writes (text_encoding w es) (whole_text w es) (first_writes first w limit es s)) in
+    subst (λ (n : ℕ). HasLetOut e.status n e.output (text_bytes w es) (is_deep (whole_text w es))) (l.limit ∙ s.limit) k
 
 whole_answer : (first e : Emitter) (w : RequestedSettings) (limit : ℕ) (es : List Event) (text : List ℕ) → StartsUnder first w limit → Leads first es e []
     → e.fault ≡ None → text ≡ e.output → Tells e → IsWhole e text → IsText w limit es text
 whole_answer first e w limit es text s l none is t h =
-    let on = none_going e.core.sink.status e.core.starved (verdict e []) (sym t.fault ∙ none) in
-    let k = has_all e.core.sink.status limit e.output (text_bytes w es) (is_deep (whole_text w es)) on.0 (told_text e first w limit es s l t) in
+    let on = none_going e.status e.starved (verdict e []) (sym t.fault ∙ none) in
+    let k = has_all e.status limit e.output (text_bytes w es) (is_deep (whole_text w es)) on.0 (told_text e first w limit es s l t) in
     record {
       right = sym (first_verdict first w limit es s) ∙ (sym (l.refuses on.0) ∙ on.1);
       is = is ∙ k.0;
@@ -201,7 +201,7 @@ refusal_or_limit : (first e : Emitter) (w : RequestedSettings) (limit : ℕ) (es
     → e.fault ≡ Some f → Tells e → IsMemoryFault emit_layers f ⊎ (IsRefused w limit es f ⊎ IsLong w limit es f)
 refusal_or_limit first e w limit es f s l is t =
     let k = told_text e first w limit es s l t in
-    elim (some_fault e.core.sink.status e.core.starved (verdict e []) limit (text_encoding w es) (whole_text w es) e.output f (sym t.fault ∙ is) k) [
+    elim (some_fault e.status e.starved (verdict e []) limit (text_encoding w es) (whole_text w es) e.output f (sym t.fault ∙ is) k) [
       | inl g ↦ inr (inl (record {
         problem = g.1.0;
         is = sym (first_verdict first w limit es s) ∙ (sym (l.refuses g.0) ∙ g.1.1.0);

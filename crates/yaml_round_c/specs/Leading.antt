@@ -43,7 +43,7 @@ all_events (Some bs) = emitter_events bs
 -- and the same is written.
 pub record Leads (old : Emitter) (before : List Event) (new : Emitter) (after : List Event) : Type 0
   where
-    pub refuses : new.core.sink.status ≡ Going → verdict new after ≡ verdict old before
+    pub refuses : new.status ≡ Going → verdict new after ≡ verdict old before
     pub writes : (x : Encoding) (whole : List Item) → Writes old x before whole
         → Writes new x after whole
     pub completes : (x : Encoding) (whole : List Item) → Completes old x before whole

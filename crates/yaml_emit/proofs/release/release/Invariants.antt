@@ -2,7 +2,7 @@ use Rattle.std.proofs.Common.{◌≡◌, ◌≤◌, false, length}
 use Rattle.yaml_emit_state.specs.Finish.{Leads}
 use Rattle.yaml_emit_state.specs.Steps.{goes_on}
 use Rattle.yaml_emit.specs.Held.{held_events, HeldUtf8}
-use Rattle.yaml_emit.specs.Judged.{Judges}
+use Rattle.yaml_emit.specs.Laying.{Judges}
 use Rattle.yaml_emit.proofs.release.release.Given as goal
 
 abbrev pub invariant-loop-held : goal.invariant-loop-held

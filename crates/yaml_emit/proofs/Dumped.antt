@@ -1,6 +1,6 @@
 -- A dump is given event by event.
-use Rattle.std.proofs.Common.{◌≡◌, ◌≢◌, ℕ, List, [], ◌∷◌, ◌++◌, length, Bool, true, false, refl, sym, subst, ◌∙◌, ap, arith, Option, Some, None, option_map, Result, Ok, Err, OnOk}
-use Rattle.yaml_scan_model.specs.Faults.{Fault, fault_of}
+use Rattle.std.proofs.Common.{◌≡◌, ◌≢◌, ℕ, List, [], ◌∷◌, ◌++◌, length, Bool, true, false, refl, sym, subst, ◌∙◌, ap, arith, Option, None, Result, Ok, Err, OnOk}
+use Rattle.yaml_scan_model.specs.Faults.{Fault}
 use Rattle.yaml_scan_model.specs.declared.yaml_fault_t.{yaml_fault_t}
 use Rattle.yaml_parse_model.specs.Nodes.{Node}
 use Rattle.yaml_parse_document.specs.Documents.{Document}
@@ -22,20 +22,20 @@ use Rattle.yaml_emit_graph.specs.declared.Events.{Events}
 use Rattle.yaml_emit.specs.declared.emitter.yaml_emitter_t.TheInside.{Inside}
 use Rattle.yaml_emit_graph.specs.Events.{remaining_events, IsEvents}
 use Rattle.yaml_emit.specs.Held.{held_events}
-use Rattle.yaml_emit.specs.Emitter.{Emitter, emitter_of, IsEmitter, CompletesBy, Completes, Given, GivesSome, Stuck, left_if, opening_events, closing_events, dump_events, document_events_by, document_events, Answers}
+use Rattle.yaml_emit.specs.Emitter.{Emitter, emitter_of, CompletesBy, Completes, Given, GivesSome, left_if, opening_events, closing_events, dump_events, document_events_by, document_events, Answers}
 use Rattle.yaml_emit_graph.specs.Graph.{dumped}
+use Rattle.yaml_emit.specs.Verdict.{Stuck}
 use Rattle.yaml_emit.specs.Dumping.{DumpsBy, Dumps}
 use Rattle.yaml_emit.proofs.Viewing.{seen}
-use Rattle.yaml_emit.proofs.Emitting.{stopped_completes, not_true}
 
 pub gives_none : (e : Emitter) (es : List Event) → Stuck e → GivesSome e es e []
-gives_none e es s = record { completes = λ x more whole h. s x (es ++ more) more whole h; requested_settings = refl; limit = refl; begun = λ b. b }
+gives_none e es s = record { completes = λ x more whole h. s.completes x (es ++ more) more whole h; requested_settings = refl; limit = refl; begun = λ b. b }
 
 pub gives_same : (e : Emitter) → GivesSome e [] e []
 gives_same e = record { completes = λ x more whole h. h; requested_settings = refl; limit = refl; begun = λ b. b }
 
 pub gives_stuck : (old new : Emitter) (e : Event) (es : List Event) → Given old e new → Stuck new → GivesSome old (e ∷ es) new []
-gives_stuck old new e es g s = record { completes = λ x more whole h. s x (es ++ more) more whole (g.completes x (es ++ more) whole h); requested_settings = g.requested_settings; limit = g.limit; begun = λ b. g.begun }
+gives_stuck old new e es g s = record { completes = λ x more whole h. s.completes x (es ++ more) more whole (g.completes x (es ++ more) whole h); requested_settings = g.requested_settings; limit = g.limit; begun = λ b. g.begun }
 
 pub gives_one : (old new : Emitter) (e : Event) (es : List Event) → Given old e new → GivesSome old (e ∷ es) new es
 gives_one old new e es g = record { completes = λ x more whole h. g.completes x (es ++ more) whole h; requested_settings = g.requested_settings; limit = g.limit; begun = λ b. g.begun }
@@ -98,11 +98,6 @@ inside_starves i core fault es fr s = record {
   limit = (s.text stay).limit;
   begun = λ b. b;
 }
-
-pub inside_stuck : (i : Inside) → IsEmitter i → (f : Fault) → option_map fault_of i.fault ≡ Some f → Stuck (emitter_of i)
-inside_stuck i inv f is =
-    let fr : i.fresh ≡ false = not_true i.fresh (λ t. let k = (inv.begun t).1.0 in cc) in
-    λ x es more whole h. stopped_completes (emitter_of i) f x es more whole fr (sym inv.faulty ∙ is) h
 
 closes_by : (closed : Bool) (old new : Emitter) → (closed ≡ true → new ≡ old) → (closed ≡ false → Given old stream_end new) → GivesSome old (closing_events closed) new []
 closes_by true old new a g = let P : Emitter → Type 0 = λ z. GivesSome old [] z [] in subst P (sym (a refl)) (gives_same old)

@@ -16,11 +16,11 @@ use Rattle.yaml_emit.specs.Held.{held_events}
 use Rattle.yaml_emit.specs.Emitter.{Emitter, emitter_of, left_if, opening_events, closing_events, dump_events, document_events}
 use Rattle.yaml_emit_graph.specs.Graph.{dumped}
 use Rattle.yaml_emit.specs.Judged.{text_from, LetsOut}
-use Rattle.yaml_emit.specs.Verdict.{WritesBy, Writes, Judged, JudgedAll, Unjudged}
+use Rattle.yaml_emit.specs.Verdict.{WritesBy, Writes, Judged, JudgedAll, Stuck}
 use Rattle.yaml_emit.proofs.Viewing.{seen}
 use Rattle.yaml_emit.proofs.Dumped.{document_events_none, document_events_some}
 
-pub judged_none : (e : Emitter) (es : List Event) → Unjudged e → JudgedAll e es e []
+pub judged_none : (e : Emitter) (es : List Event) → Stuck e → JudgedAll e es e []
 judged_none e es s = record { refuses = λ g more. s.refuses g (es ++ more) more; writes = λ x more whole h. s.writes x (es ++ more) more whole h; going = λ g. g; memory = λ n. refl }
 
 pub judged_same : (e : Emitter) (es : List Event) → es ≡ [] → JudgedAll e es e []
@@ -28,7 +28,7 @@ judged_same e es n =
     let P : List Event → Type 0 = λ z. JudgedAll e z e [] in
     subst P (sym n) (record { refuses = λ g more. refl; writes = λ x more whole h. h; going = λ g. g; memory = λ n. refl })
 
-pub judged_stuck : (old new : Emitter) (e : Event) (es : List Event) → Judged old e new → Unjudged new → JudgedAll old (e ∷ es) new []
+pub judged_stuck : (old new : Emitter) (e : Event) (es : List Event) → Judged old e new → Stuck new → JudgedAll old (e ∷ es) new []
 judged_stuck old new e es j s = record {
   refuses = λ g more. s.refuses g (es ++ more) more ∙ j.refuses g (es ++ more);
   writes = λ x more whole h. s.writes x (es ++ more) more whole (j.writes x (es ++ more) whole h);

@@ -28,10 +28,10 @@ use Rattle.yaml_emit.specs.declared.emitter.yaml_emitter_t.TheInside.{Inside}
 use Rattle.yaml_emit.specs.Judged.{Progress, first_progress, let_out, first_refusal, unless, laid, refused_at, refusal_from, text_from, refusal_behind, LetsOut, take_memory}
 use Rattle.yaml_emit.specs.Laying.{Judges}
 use Rattle.yaml_emit.specs.Emitter.{Emitter, text_of, emitter_of, IsEmitter, fault_by, refusal_by, stop_of, stream_encoding, problem_fault, Stays}
-use Rattle.yaml_emit.specs.Verdict.{verdict_by, verdict, IsLetOut, WritesBy, Writes, Notes, Judged, JudgesFirst, Unjudged, HasLetOut, Tells}
+use Rattle.yaml_emit.specs.Verdict.{verdict_by, verdict, IsLetOut, WritesBy, Writes, Notes, Judged, JudgesFirst, Stuck, HasLetOut, Tells}
 use Rattle.yaml_emit.proofs.Viewing.{seen}
 use Rattle.yaml_emit.proofs.Judging.{or_some, unless_some}
-use Rattle.yaml_emit.proofs.Emitting.{not_true, refusal_none, goes_going}
+use Rattle.yaml_emit.proofs.Emitting.{not_true, refusal_none, goes_going, stopped_completes}
 
 -- ---- an event was given
 
@@ -181,10 +181,11 @@ inside_stuck_judged i f e inv is =
       memory = λ n. refl;
     }
 
-pub inside_unjudged : (i : Inside) → IsEmitter i → (f : Fault) → option_map fault_of i.fault ≡ Some f → Unjudged (emitter_of i)
-inside_unjudged i inv f is =
+pub inside_stuck : (i : Inside) → IsEmitter i → (f : Fault) → option_map fault_of i.fault ≡ Some f → Stuck (emitter_of i)
+inside_stuck i inv f is =
     let fr : i.fresh ≡ false = not_true i.fresh (λ t. let k = (inv.begun t).1.0 in cc) in
     record {
+      completes = λ x es more whole h. stopped_completes (emitter_of i) f x es more whole fr (sym inv.faulty ∙ is) h;
       refuses = λ g es more. stuck_verdict (emitter_of i) f more es fr (sym inv.faulty ∙ is) g;
       writes = λ x es more whole h. stuck_writes (emitter_of i) f x es more whole fr (sym inv.faulty ∙ is) h;
     }

@@ -27,7 +27,7 @@ pub record IsRight (e : Emitter) (event : Event) : Type 0 where
   pub within : (x : Encoding) (whole : List Item) → Writes e x (event ∷ []) whole
       → Fits e.limit x whole
 
--- one event was given, and no other
+-- One event was given, and no other: it counts for the whole text, and was judged.
 pub record GivesOne (old : Emitter) (e : Event) (new : Emitter) : Type 0 where
   pub given : Given old e new
   pub judged : Judged old e new

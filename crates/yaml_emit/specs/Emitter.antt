@@ -1,4 +1,11 @@
 -- What an emitter's output ends as, with the events that follow, and its faults.
+--
+-- Two things are said of an emitter by the events that are still to come, and of a call by what becomes of each.
+-- `Completes` is about the end of a stream: these are all the events to come, nothing is wrong in them, and this is the whole
+-- text. `Given` (an event) and `GivesSome` (the events of a dump) say that what was taken counts for it.
+-- `verdict` and `Writes` (`Verdict.antt`) are about any events, right or not, and not about an end: once these are given too, this
+-- event is the first that is refused, and this is the text up to it. `Judged` (an event) and `JudgedAll` (the events of a dump)
+-- say that what was taken counts for them.
 use Rattle.std.specs.Prelude.{◌≡◌, ◌⊎◌, ℕ, ◌<◌, ◌≤◌, Bool, true, false, List, [], ◌∷◌, ◌++◌, length, take, Option, Some, None, option_map, pos, codes, Result, Ok, Err}
 use Rattle.yaml_scan_model.specs.declared.yaml_encoding_t.{yaml_encoding_t}
 use Rattle.yaml_scan_model.specs.declared.yaml_encoding_t.TheVariants.{YAML_ANY_ENCODING}
@@ -176,11 +183,11 @@ CompletesBy true e x es whole = IsStream e.requested_settings x es whole
 CompletesBy false e x es whole = (e.settings.encoding ≡ x)
     × Finishes e.settings e.state (text_of e) (e.held ++ es) whole
 
--- With these events to come, the whole text is `whole`, in that encoding.
+-- With these events to come up to the stream's end, and nothing wrong in them, the whole text is `whole`, in that encoding.
 unfoldable pub Completes : Emitter → Encoding → List Event → List Item → Type 0
 Completes e x es whole = CompletesBy e.fresh e x es whole
 
--- An event was given: whatever follows, the text is the same.
+-- An event was given: whatever follows, the whole text is the same, with the event in front of what follows or taken.
 pub record Given (old : Emitter) (e : Event) (new : Emitter) : Type 0 where
   pub completes : (x : Encoding) (es : List Event) (whole : List Item)
       → Completes old x (e ∷ es) whole → Completes new x es whole
@@ -188,7 +195,7 @@ pub record Given (old : Emitter) (e : Event) (new : Emitter) : Type 0 where
   pub limit : new.limit ≡ old.limit
   pub begun : new.fresh ≡ false
 
--- Of some events that were to come those are still to come, whatever follows.
+-- Of some events that were to come those are still to come, whatever follows: the whole text is the same.
 pub record GivesSome (old : Emitter) (es : List Event) (new : Emitter) (left : List Event) : Type 0
   where
     pub completes : (x : Encoding) (more : List Event) (whole : List Item)
@@ -196,11 +203,6 @@ pub record GivesSome (old : Emitter) (es : List Event) (new : Emitter) (left : L
     pub requested_settings : new.requested_settings ≡ old.requested_settings
     pub limit : new.limit ≡ old.limit
     pub begun : old.fresh ≡ false → new.fresh ≡ false
-
--- events that count for nothing: behind a fault
-abbrev pub Stuck : Emitter → Type 0
-Stuck e = (x : Encoding) (es more : List Event) (whole : List Item) → Completes e x es whole
-    → Completes e x more whole
 
 abbrev pub Keeps : Emitter → Emitter → Type 0
 Keeps old new = (new.opened ≡ old.opened) × (new.closed ≡ old.closed)

@@ -15,7 +15,7 @@ use Rattle.yaml_emit_layout.specs.Content.{Event}
 use Rattle.yaml_emit_layout.specs.State.{placed}
 use Rattle.yaml_emit_state.specs.Steps.{may_note}
 use Rattle.yaml_emit.specs.Judged.{first_progress, let_out, first_refusal, laid, refusal_behind, LetsOut, take_memory}
-use Rattle.yaml_emit.specs.Emitter.{Emitter, text_of, stream_encoding, fault_by, HasWritten}
+use Rattle.yaml_emit.specs.Emitter.{Emitter, text_of, stream_encoding, Completes, fault_by, HasWritten}
 
 abbrev pub verdict_by : Bool → Emitter → List Event → Option Problem
 verdict_by true e es = first_refusal e.requested_settings.canonical first_progress (let_out es)
@@ -73,8 +73,11 @@ pub record JudgedAll (old : Emitter) (es : List Event) (new : Emitter) (left : L
     pub going : new.status ≡ Going → old.status ≡ Going
     pub memory : Notes true old new
 
--- events that count for nothing: behind a fault
-pub record Unjudged (e : Emitter) : Type 0 where
+-- What is given behind a refusal counts for nothing: whatever it is, the same texts are completed, the same event is refused
+-- while the output goes on, and the same is written.
+pub record Stuck (e : Emitter) : Type 0 where
+  pub completes : (x : Encoding) (es more : List Event) (whole : List Item) → Completes e x es whole
+      → Completes e x more whole
   pub refuses : e.status ≡ Going → (es more : List Event) → verdict e more ≡ verdict e es
   pub writes : (x : Encoding) (es more : List Event) (whole : List Item) → Writes e x es whole
       → Writes e x more whole

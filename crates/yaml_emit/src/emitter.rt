@@ -6,9 +6,9 @@ ghost use Rattle.yaml_scan_model.specs.declared.yaml_origin_t.TheVariants as fro
 ghost use Rattle.yaml_parse_model.specs.Events.{event_of, body_of};
 ghost use Rattle.yaml_parse_model.specs.Constructors.{HasUtf8};
 ghost use Rattle.yaml_emit_layout.specs.Content.{emitter_event};
-ghost use Rattle.yaml_emit.specs.Emitter.{stream_encoding, stop_of, IsNew, IsLimited, ShowsFront, IsWhole, Given, Begins, Answers, Stays, Stuck};
+ghost use Rattle.yaml_emit.specs.Emitter.{stream_encoding, stop_of, IsNew, IsLimited, ShowsFront, IsWhole, Given, Begins, Answers, Stays};
 ghost use Rattle.yaml_emit.specs.Within.{IsWithin};
-ghost use Rattle.yaml_emit.specs.Verdict.{Judged, JudgesFirst, Tells, Unjudged};
+ghost use Rattle.yaml_emit.specs.Verdict.{Judged, JudgesFirst, Tells, Stuck};
 
 mod dump;
 
@@ -249,7 +249,6 @@ impl yaml_emitter_t {
         ensures answer { Answers self.now.fault result }
         ensures tells { Tells self.now }
         ensures stuck { OnErr result (Stuck self.now) }
-        ensures unjudged { OnErr result (Unjudged self.now) }
         ensures few { length self.now.held ≤ 3 }
         ensures begun { OnErr result (self.now.fresh ≡ false) }
         ensures running { self.now.opened ≡ true → self.now.fresh ≡ false }
@@ -292,7 +291,6 @@ impl yaml_emitter_t {
         ensures few { length self.new.held ≤ 3 }
         ensures opened { (self.new.opened ≡ self.old.opened) × (self.new.closed ≡ self.old.closed) }
         ensures stuck { OnErr result (Stuck self.new) }
-        ensures unjudged { OnErr result (Unjudged self.new) }
     {
         self.give(event);
         self.answer()
@@ -308,7 +306,6 @@ impl yaml_emitter_t {
         ensures few { length self.new.held ≤ 3 }
         ensures opened { (self.new.opened ≡ self.old.opened) × (self.new.closed ≡ self.old.closed) }
         ensures stuck { OnErr result (Stuck self.new) }
-        ensures unjudged { OnErr result (Unjudged self.new) }
     {
         let mut event = event;
         let answer = self.emit_from(&mut event);

@@ -4,11 +4,11 @@ ghost use Rattle.std.specs.Prelude.{◌≡◌, ◌≢◌, ◌<◌, ◌≤◌, �
 ghost use Rattle.yaml_parse_model.specs.Events.{body_of};
 ghost use Rattle.yaml_parse_model.specs.Constructors.{HasUtf8};
 ghost use Rattle.yaml_emit_layout.specs.Content.{stream_start, stream_end, emitter_event, Event};
-ghost use Rattle.yaml_emit.specs.Emitter.{Answers, Given, Stays, GivesSome, Keeps, Stuck, left_if, opening_events, document_events, dump_events};
+ghost use Rattle.yaml_emit.specs.Emitter.{Answers, Given, Stays, GivesSome, Keeps, left_if, opening_events, document_events, dump_events};
 ghost use Rattle.yaml_emit_graph.specs.Graph.{dumped};
 ghost use Rattle.yaml_emit_graph.specs.Events.{IsEvents, remaining_events};
 ghost use Rattle.yaml_emit.specs.Dumping.{Dumps, Opens};
-ghost use Rattle.yaml_emit.specs.Verdict.{Judged, JudgedAll, Unjudged, Tells};
+ghost use Rattle.yaml_emit.specs.Verdict.{Judged, JudgedAll, Stuck, Tells};
 
 use super::yaml_emitter_t;
 use crate::fault::refusal;
@@ -32,7 +32,6 @@ pub fn yaml_emitter_open(emitter: &mut yaml_emitter_t) -> Result<(), yaml_fault_
     ensures tells { Tells emitter.new }
     ensures stays { Stays emitter.old emitter.new }
     ensures stuck { OnErr result (Stuck emitter.new) }
-    ensures unjudged { OnErr result (Unjudged emitter.new) }
 {
     emitter.emit(yaml_event_body_t::StreamStart {
         encoding: yaml_encoding_t::YAML_ANY_ENCODING,

@@ -18,7 +18,7 @@ pub returns-in-Err-clause-judged : goal.returns-in-Err-clause-judged
 returns-in-Err-clause-judged c = λ es.
     let o : c.args.self.now.opened ≡ false = rw (← c.self.view_is) c.if-self.false in
     let P : Bool → Type 0 = λ b. JudgedAll c.args.self.now (opening_events b ++ es) c.yaml_emitter_open.new.emitter [] in
-    subst P (sym o) (judged_stuck c.args.self.now c.yaml_emitter_open.new.emitter (stream_start YAML_ANY_ENCODING) es c.in-Err.ensures.judged c.in-Err.ensures.unjudged)
+    subst P (sym o) (judged_stuck c.args.self.now c.yaml_emitter_open.new.emitter (stream_start YAML_ANY_ENCODING) es c.in-Err.ensures.judged c.in-Err.ensures.stuck)
 
 pub returns-then-self-clause-opens : goal.returns-then-self-clause-opens
 returns-then-self-clause-opens c =

@@ -1,0 +1,4 @@
+mod Calm
+mod Marks
+pub mod Depths
+mod Rows

@@ -1,0 +1,14 @@
+//! Each function's contract is a law.
+
+ghost use Rattle.yaml_emit_laws_columns.specs.Laws.{ColumnsAreByDepth};
+ghost use Rattle.yaml_emit_laws_columns.specs.Rows.{RowsHold};
+
+/// In canonical form, laying out passes the columns exactly where a node that is no alias stands too deep for the indent.
+pub fn columns_are_by_depth()
+    ensures { ColumnsAreByDepth }
+{}
+
+/// Trees by hand, one on each side of the limit for each kind of node.
+pub fn rows_of_columns_hold()
+    ensures { RowsHold }
+{}

@@ -115,10 +115,10 @@ documents_marked i d (x ∷ xs) (inr h) p = or_right (node_marks i i x.root) (do
 times : (i d : ℕ) → i + d * i ≡ (d + 1) * i
 times i d = let e = suc-mul d i in omega (arith, e)
 
-too_deep : (i : ℕ) (ds : List Document) → documents_marks i ds ≡ true → IsTooDeep i ds
+pub too_deep : (i : ℕ) (ds : List Document) → documents_marks i ds ≡ true → IsTooDeep i ds
 too_deep i ds h = let r = documents_past i ds h in record { depth = r.depth; stands = r.stands; past = subst (λ n. MOST < n) (times i r.depth) r.past }
 
-deep_marked : (i : ℕ) (ds : List Document) → IsTooDeep i ds → documents_marks i ds ≡ true
+pub deep_marked : (i : ℕ) (ds : List Document) → IsTooDeep i ds → documents_marks i ds ≡ true
 deep_marked i ds h = documents_marked i h.depth ds h.stands (subst (λ n. MOST < n) (sym (times i h.depth)) h.past)
 
 pub by_depth : ColumnsAreByDepth

@@ -1,4 +1,5 @@
 mod Calm
-mod Marks
+pub mod Marks
 pub mod Depths
+pub mod Events
 mod Rows

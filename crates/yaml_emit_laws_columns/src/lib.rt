@@ -3,4 +3,4 @@
 
 mod laws;
 
-pub use laws::{columns_are_by_depth, rows_of_columns_hold};
+pub use laws::{columns_are_by_depth, events_tell_columns, rows_of_columns_hold};

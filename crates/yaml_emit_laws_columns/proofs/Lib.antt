@@ -1,0 +1,5 @@
+mod Calm
+pub mod Marks
+pub mod Depths
+pub mod Events
+mod Rows

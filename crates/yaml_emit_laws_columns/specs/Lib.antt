@@ -1,0 +1,5 @@
+pub mod Depths
+pub mod Laws
+pub mod Rows
+-- what it stands on, for crates of laws that name this one alone
+pub use Rattle.yaml_emit_layout.specs as emit_layout

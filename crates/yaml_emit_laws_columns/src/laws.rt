@@ -1,0 +1,19 @@
+//! Each function's contract is a law.
+
+ghost use Rattle.yaml_emit_laws_columns.specs.Laws.{ColumnsAreByDepth, EventsTellColumns};
+ghost use Rattle.yaml_emit_laws_columns.specs.Rows.{RowsHold};
+
+/// In canonical form, laying out passes the columns exactly where a node that is no alias stands too deep for the indent.
+pub fn columns_are_by_depth()
+    ensures { ColumnsAreByDepth }
+{}
+
+/// That is told by the events: documents with the same ones are alike in it.
+pub fn events_tell_columns()
+    ensures { EventsTellColumns }
+{}
+
+/// Trees by hand, one on each side of the limit for each kind of node.
+pub fn rows_of_columns_hold()
+    ensures { RowsHold }
+{}

@@ -17,12 +17,14 @@ ghost use Rattle.yaml_parse_grammar.specs.Texts.{IsUtf8Token, IsUtf8Held};
 ghost use Rattle.yaml_parse_model.specs.Source.{HasUtf8};
 ghost use Rattle.yaml_parse.specs.Steps.{HasFront, Steps, Turns, OpensAt, IsReal, IsUtf8Step, IsUtf8Turn, IsStackStep, IsStackTurn, raw, peeked_of};
 ghost use Rattle.yaml_parse.specs.Stepped.{stepped};
+ghost use Rattle.yaml_parse.specs.Advanced.{advanced, IsSettled};
 ghost use Rattle.yaml_parse.specs.Turned.{turned};
 
 use std::alloc::Global;
 use yaml_parse_grammar::{Choice, ParseFault, ParseProblem};
 use yaml_parse_machine::{
-    Directives, RawEvent, RawEventBody, Refusal, State, choose, leave, open, settle, take,
+    Directives, RawEvent, RawEventBody, Refusal, State, Swift, choose, leave, open, settle, take,
+    take_swiftly,
 };
 use yaml_parse_model::{yaml_event_t, yaml_token_source_t};
 use yaml_scan_model::{yaml_fault_t, yaml_mark_t, yaml_memory_fault, yaml_origin_t, yaml_token_t};
@@ -35,6 +37,13 @@ pub enum Step {
     Silent,
     Refused,
     Done,
+}
+
+/// How far an advance came: an event that stands in its slot already, since nothing of it is to be resolved; or what a step gives.
+#[derive(Clone, Copy, PartialEq, Eq, Debug)]
+pub enum Progress {
+    Ready,
+    By(Step),
 }
 
 /// What the steps hand on in place, since moving it costs more than what they do, and what they ask for memory.
@@ -198,6 +207,49 @@ fn stepping(
     }
 }
 
+// The state on top of the stack at the token, the swift way where there is one.
+// Inlined into its one caller, the advance.
+#[inline(always)]
+fn moving(
+    stack: &mut Vec<State>,
+    state: State,
+    buffers: &mut StepBuffers,
+    event: &mut yaml_event_t,
+    fault: &mut yaml_fault_t,
+) -> Progress
+    ensures steps { (rest : List Token) (ending : Option Fault)
+        → Steps (raw (Some (token_of buffers.old.token)) rest ending
+        (state_of state ∷ stack_of stack.old.items)) (advanced result (item_of buffers.new.item)
+        (event_of event.new) (fault_of fault.new))
+        (raw (peeked_of buffers.new) rest ending (stack_of stack.new.items)) }
+    ensures real { IsReal (state_of state) (token_of buffers.old.token)
+        (advanced result (item_of buffers.new.item) (event_of event.new) (fault_of fault.new)) }
+    ensures utf8 { (ds : DirectivesSpec) → IsUtf8Held (Some (token_of buffers.old.token))
+        (state_of state ∷ stack_of stack.old.items) ds
+        → IsUtf8Step (advanced result (item_of buffers.new.item) (event_of event.new)
+        (fault_of fault.new)) (peeked_of buffers.new) (stack_of stack.new.items) ds }
+    ensures stack { IsStack (state_of state ∷ stack_of stack.old.items)
+        → IsStackStep (advanced result (item_of buffers.new.item) (event_of event.new)
+        (fault_of fault.new)) (stack_of stack.new.items) }
+    ensures ready { IsSettled result (event_of event.new) }
+{
+    match take_swiftly(stack, &state, &mut buffers.token, event) {
+        Swift::Event => {
+            buffers.is_held = false;
+            Progress::Ready
+        }
+        Swift::Silent => {
+            buffers.is_held = false;
+            Progress::By(Step::Silent)
+        }
+        Swift::Memory => {
+            *fault = want_of_memory();
+            Progress::By(Step::Refused)
+        }
+        Swift::Other => Progress::By(stepping(stack, state, buffers, fault)),
+    }
+}
+
 /// One step over the grammar.
 // Inlined into its one caller, the turn.
 #[inline(always)]
@@ -205,28 +257,30 @@ pub fn advance<S: yaml_token_source_t>(
     source: &mut S,
     buffers: &mut StepBuffers,
     stack: &mut Vec<State>,
+    event: &mut yaml_event_t,
     fault: &mut yaml_fault_t,
-) -> Step
+) -> Progress
     ensures steps { Steps (raw (peeked_of buffers.old) (S.to_come source.old)
         (S.fault_to_come source.old) (stack_of stack.old.items))
-        (stepped result (item_of buffers.new.item) (fault_of fault.new))
+        (advanced result (item_of buffers.new.item) (event_of event.new) (fault_of fault.new))
         (raw (peeked_of buffers.new) (S.to_come source.new) (S.fault_to_come source.new)
         (stack_of stack.new.items)) }
     ensures utf8 { (ds : DirectivesSpec) → IsUtf8Held (peeked_of buffers.old)
         (stack_of stack.old.items) ds
-        → IsUtf8Step (stepped result (item_of buffers.new.item) (fault_of fault.new))
-        (peeked_of buffers.new) (stack_of stack.new.items) ds }
+        → IsUtf8Step (advanced result (item_of buffers.new.item) (event_of event.new)
+        (fault_of fault.new)) (peeked_of buffers.new) (stack_of stack.new.items) ds }
     ensures stack { IsStack (stack_of stack.old.items)
-        → IsStackStep (stepped result (item_of buffers.new.item) (fault_of fault.new))
-        (stack_of stack.new.items) }
+        → IsStackStep (advanced result (item_of buffers.new.item) (event_of event.new)
+        (fault_of fault.new)) (stack_of stack.new.items) }
+    ensures ready { IsSettled result (event_of event.new) }
 {
     let Some(state) = stack.pop() else {
-        return Step::Done;
+        return Progress::By(Step::Done);
     };
     if front(source, buffers, fault) {
-        stepping(stack, state, buffers, fault)
+        moving(stack, state, buffers, event, fault)
     } else {
-        Step::Refused
+        Progress::By(Step::Refused)
     }
 }
 
@@ -257,14 +311,20 @@ pub fn take_turn<S: yaml_token_source_t>(
         → IsStackTurn (turned result (event_of event.new) (fault_of fault.new))
         (is_between (stack_of stack.new.items)) × IsStack (stack_of stack.new.items) }
 {
-    match advance(source, buffers, stack, fault) {
-        Step::Done => Step::Done,
-        Step::Silent => Step::Silent,
-        Step::Refused => {
+    match advance(source, buffers, stack, event, fault) {
+        Progress::Ready => Step::Given,
+        Progress::By(Step::Done) => Step::Done,
+        Progress::By(Step::Silent) => Step::Silent,
+        Progress::By(Step::Refused) => {
             stack.clear();
             Step::Refused
         }
-        Step::Given => match settle(buffers.alloc, directives, &mut buffers.item, event) {
+        Progress::By(Step::Given) => match settle(
+            buffers.alloc,
+            directives,
+            &mut buffers.item,
+            event,
+        ) {
             Ok(true) => Step::Given,
             Ok(false) => Step::Silent,
             Err(Refusal::Memory) => {

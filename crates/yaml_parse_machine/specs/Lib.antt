@@ -1,3 +1,4 @@
 pub mod Views
 pub mod Settles
 pub mod TagView
+pub mod Swiftly

@@ -8,6 +8,7 @@ mod item;
 mod leaving;
 mod pushing;
 mod resolving;
+mod swift_ways;
 mod taking;
 
 pub use choosing::choose;
@@ -16,4 +17,5 @@ pub use item::{Properties, RawEvent, RawEventBody, Resolved, Shape, State, Tag};
 pub use leaving::leave;
 pub use pushing::open;
 pub use resolving::{Directives, Refusal, settle};
+pub use swift_ways::{Swift, take_swiftly};
 pub use taking::take;

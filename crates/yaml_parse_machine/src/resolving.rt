@@ -128,7 +128,7 @@ fn is_plain(style: yaml_scalar_style_t) -> bool
 }
 
 // A scalar without properties.
-fn bare_scalar(
+pub(crate) fn bare_scalar(
     alloc: Global,
     value: &mut Vec<u8>,
     style: yaml_scalar_style_t,

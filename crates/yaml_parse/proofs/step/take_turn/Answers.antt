@@ -5,33 +5,39 @@ use Rattle.yaml_parse_grammar.specs.Resolve.{refused}
 use Rattle.yaml_parse_grammar.specs.Remaining.{parser_remaining}
 use Rattle.yaml_parse_machine.specs.Views.{stack_of, item_of}
 use Rattle.yaml_parse_machine.specs.Settles.{directives_of}
+use Rattle.yaml_parse_machine.specs.Swiftly.{raw_of}
 use Rattle.yaml_parse.specs.Steps.{raw, peeked_of}
 use Rattle.yaml_parse.proofs.Turning.{event_turn, silent_turn, noted_turn, refused_turn, settled_turn, memory_turn, done_turn}
 use Rattle.yaml_parse.proofs.Texts.{done_utf8, silent_utf8, event_utf8, noted_utf8, cleared_utf8}
 use Rattle.yaml_parse.proofs.Heights.{done_stands, silent_stands, event_stands, noted_stands, cleared_stands}
 use Rattle.yaml_parse.proofs.step.take_turn.Goals as goal
 
-pub returns-in-Done-clause-turns : goal.returns-in-Done-clause-turns
-returns-in-Done-clause-turns g c = λ answered. done_turn _ _ (directives_of c.args.directives.now) answered c.in-Done.ensures.steps
+pub returns-in-By-Done-clause-turns : goal.returns-in-By-Done-clause-turns
+returns-in-By-Done-clause-turns g c = λ answered.
+    let k = rw c.in-By-Done.field-0-is at c.in-By-Done.ensures in done_turn _ _ (directives_of c.args.directives.now) answered k.steps
 
-pub returns-in-Silent-clause-turns : goal.returns-in-Silent-clause-turns
-returns-in-Silent-clause-turns g c = λ answered. silent_turn _ _ (directives_of c.args.directives.now) answered c.in-Silent.ensures.steps
+pub returns-in-By-Silent-clause-turns : goal.returns-in-By-Silent-clause-turns
+returns-in-By-Silent-clause-turns g c = λ answered.
+    let k = rw c.in-By-Silent.field-0-is at c.in-By-Silent.ensures in silent_turn _ _ (directives_of c.args.directives.now) answered k.steps
 
-pub returns-in-Refused-clause-turns : goal.returns-in-Refused-clause-turns
-returns-in-Refused-clause-turns g c = λ answered.
+pub returns-in-By-Refused-clause-turns : goal.returns-in-By-Refused-clause-turns
+returns-in-By-Refused-clause-turns g c = λ answered.
+    let k = rw c.in-By-Refused.field-0-is at c.in-By-Refused.ensures in
     refused_turn _ _ (raw (peeked_of c.advance.new.buffers) (g.S.yaml_token_source_t.to_come c.advance.new.source) (g.S.yaml_token_source_t.fault_to_come c.advance.new.source) (stack_of c.clear.new.self.items))
-    (directives_of c.args.directives.now) (directives_of c.args.directives.now) answered (fault_of c.advance.new.fault) c.in-Refused.ensures.steps refl (ap stack_of c.clear.ensures.items)
+    (directives_of c.args.directives.now) (directives_of c.args.directives.now) answered (fault_of c.advance.new.fault) k.steps refl (ap stack_of c.clear.ensures.items)
 
 pub returns-in-Ok-true-clause-turns : goal.returns-in-Ok-true-clause-turns
 returns-in-Ok-true-clause-turns g c = λ answered.
+    let k = rw c.in-By-Given.field-0-is at c.in-By-Given.ensures in
     let q = rw c.in-Ok-true.field-0-test at c.in-Ok-true.ensures in
     event_turn _ _ (directives_of c.args.directives.now) (directives_of c.settle.new.directives) answered (item_of c.advance.new.buffers.item) (body_of c.settle.new.event.body) (event_of c.settle.new.event)
-    c.in-Given.ensures.steps q.0 q.1
+    k.steps q.0 q.1
 
 pub returns-in-Ok-false-clause-turns : goal.returns-in-Ok-false-clause-turns
 returns-in-Ok-false-clause-turns g c = λ answered.
+    let k = rw c.in-By-Given.field-0-is at c.in-By-Given.ensures in
     let q = rw c.in-Ok-false.field-0-test at c.in-Ok-false.ensures in
-    noted_turn _ _ (directives_of c.args.directives.now) (directives_of c.settle.new.directives) answered (item_of c.advance.new.buffers.item) c.in-Given.ensures.steps q
+    noted_turn _ _ (directives_of c.args.directives.now) (directives_of c.settle.new.directives) answered (item_of c.advance.new.buffers.item) k.steps q
 
 pub returns-in-Err-Memory-clause-turns : goal.returns-in-Err-Memory-clause-turns
 returns-in-Err-Memory-clause-turns g c = λ answered.
@@ -42,33 +48,38 @@ returns-in-Err-Memory-clause-turns g c = λ answered.
 
 pub returns-in-Err-Fault-clause-turns : goal.returns-in-Err-Fault-clause-turns
 returns-in-Err-Fault-clause-turns g c = λ answered.
+    let k = rw c.in-By-Given.field-0-is at c.in-By-Given.ensures in
     let q = rw c.in-Err-Fault.field-0-is at c.in-Err-Fault.ensures in
     settled_turn _ _
     (raw (peeked_of c.advance.new.buffers) (g.S.yaml_token_source_t.to_come c.advance.new.source) (g.S.yaml_token_source_t.fault_to_come c.advance.new.source) (stack_of c.clear-in-Err-Fault.new.self.items))
     (directives_of c.args.directives.now) (directives_of c.settle.new.directives) answered (item_of c.advance.new.buffers.item) (fault_of c.located.result)
-    c.in-Given.ensures.steps (q ∙ ap refused (sym c.located.ensures)) refl (ap stack_of c.clear-in-Err-Fault.ensures.items)
+    k.steps (q ∙ ap refused (sym c.located.ensures)) refl (ap stack_of c.clear-in-Err-Fault.ensures.items)
 
-pub returns-in-Done-clause-utf8 : goal.returns-in-Done-clause-utf8
-returns-in-Done-clause-utf8 g c = λ h. done_utf8 _ _ (directives_of c.args.directives.now) c.in-Done.ensures.steps
+pub returns-in-By-Done-clause-utf8 : goal.returns-in-By-Done-clause-utf8
+returns-in-By-Done-clause-utf8 g c = λ h.
+    let k = rw c.in-By-Done.field-0-is at c.in-By-Done.ensures in done_utf8 _ _ (directives_of c.args.directives.now) k.steps
 
-pub returns-in-Silent-clause-utf8 : goal.returns-in-Silent-clause-utf8
-returns-in-Silent-clause-utf8 g c = λ h.
-    silent_utf8 (peeked_of c.advance.new.buffers) (stack_of c.advance.new.stack.items) (directives_of c.args.directives.now) (c.in-Silent.ensures.utf8 (directives_of c.args.directives.now) h)
+pub returns-in-By-Silent-clause-utf8 : goal.returns-in-By-Silent-clause-utf8
+returns-in-By-Silent-clause-utf8 g c = λ h.
+    let k = rw c.in-By-Silent.field-0-is at c.in-By-Silent.ensures in
+    silent_utf8 (peeked_of c.advance.new.buffers) (stack_of c.advance.new.stack.items) (directives_of c.args.directives.now) (k.utf8 (directives_of c.args.directives.now) h)
 
-pub returns-in-Refused-clause-utf8 : goal.returns-in-Refused-clause-utf8
-returns-in-Refused-clause-utf8 g c = λ h. cleared_utf8 (peeked_of c.advance.new.buffers) (stack_of c.clear.new.self.items) (directives_of c.args.directives.now) (ap stack_of c.clear.ensures.items)
+pub returns-in-By-Refused-clause-utf8 : goal.returns-in-By-Refused-clause-utf8
+returns-in-By-Refused-clause-utf8 g c = λ h. cleared_utf8 (peeked_of c.advance.new.buffers) (stack_of c.clear.new.self.items) (directives_of c.args.directives.now) (ap stack_of c.clear.ensures.items)
 
 pub returns-in-Ok-true-clause-utf8 : goal.returns-in-Ok-true-clause-utf8
 returns-in-Ok-true-clause-utf8 g c = λ h.
+    let k = rw c.in-By-Given.field-0-is at c.in-By-Given.ensures in
     let q = rw c.in-Ok-true.field-0-test at c.in-Ok-true.ensures in
     event_utf8 (peeked_of c.advance.new.buffers) (stack_of c.advance.new.stack.items) (directives_of c.args.directives.now) (directives_of c.settle.new.directives) (item_of c.advance.new.buffers.item)
-    (body_of c.settle.new.event.body) q.0 (c.in-Given.ensures.utf8 (directives_of c.args.directives.now) h)
+    (body_of c.settle.new.event.body) q.0 (k.utf8 (directives_of c.args.directives.now) h)
 
 pub returns-in-Ok-false-clause-utf8 : goal.returns-in-Ok-false-clause-utf8
 returns-in-Ok-false-clause-utf8 g c = λ h.
+    let k = rw c.in-By-Given.field-0-is at c.in-By-Given.ensures in
     let q = rw c.in-Ok-false.field-0-test at c.in-Ok-false.ensures in
     noted_utf8 (peeked_of c.advance.new.buffers) (stack_of c.advance.new.stack.items) (directives_of c.args.directives.now) (directives_of c.settle.new.directives) (item_of c.advance.new.buffers.item)
-    q (c.in-Given.ensures.utf8 (directives_of c.args.directives.now) h)
+    q (k.utf8 (directives_of c.args.directives.now) h)
 
 pub returns-in-Err-Memory-clause-utf8 : goal.returns-in-Err-Memory-clause-utf8
 returns-in-Err-Memory-clause-utf8 g c = λ h.
@@ -78,26 +89,45 @@ pub returns-in-Err-Fault-clause-utf8 : goal.returns-in-Err-Fault-clause-utf8
 returns-in-Err-Fault-clause-utf8 g c = λ h.
     cleared_utf8 (peeked_of c.advance.new.buffers) (stack_of c.clear-in-Err-Fault.new.self.items) (directives_of c.settle.new.directives) (ap stack_of c.clear-in-Err-Fault.ensures.items)
 
-pub returns-in-Done-clause-stack : goal.returns-in-Done-clause-stack
-returns-in-Done-clause-stack g c = λ h. done_stands _ _ c.in-Done.ensures.steps
+pub returns-in-By-Done-clause-stack : goal.returns-in-By-Done-clause-stack
+returns-in-By-Done-clause-stack g c = λ h.
+    let k = rw c.in-By-Done.field-0-is at c.in-By-Done.ensures in done_stands _ _ k.steps
 
-pub returns-in-Silent-clause-stack : goal.returns-in-Silent-clause-stack
-returns-in-Silent-clause-stack g c = λ h. silent_stands (stack_of c.advance.new.stack.items) (c.in-Silent.ensures.stack h)
+pub returns-in-By-Silent-clause-stack : goal.returns-in-By-Silent-clause-stack
+returns-in-By-Silent-clause-stack g c = λ h.
+    let k = rw c.in-By-Silent.field-0-is at c.in-By-Silent.ensures in silent_stands (stack_of c.advance.new.stack.items) (k.stack h)
 
-pub returns-in-Refused-clause-stack : goal.returns-in-Refused-clause-stack
-returns-in-Refused-clause-stack g c = λ h. cleared_stands (stack_of c.clear.new.self.items) (ap stack_of c.clear.ensures.items)
+pub returns-in-By-Refused-clause-stack : goal.returns-in-By-Refused-clause-stack
+returns-in-By-Refused-clause-stack g c = λ h. cleared_stands (stack_of c.clear.new.self.items) (ap stack_of c.clear.ensures.items)
 
 pub returns-in-Ok-true-clause-stack : goal.returns-in-Ok-true-clause-stack
 returns-in-Ok-true-clause-stack g c = λ h.
+    let k = rw c.in-By-Given.field-0-is at c.in-By-Given.ensures in
     let q = rw c.in-Ok-true.field-0-test at c.in-Ok-true.ensures in
     event_stands (stack_of c.advance.new.stack.items) (directives_of c.args.directives.now) (directives_of c.settle.new.directives) (item_of c.advance.new.buffers.item)
-    (body_of c.settle.new.event.body) q.0 (c.in-Given.ensures.stack h)
+    (body_of c.settle.new.event.body) q.0 (k.stack h)
 
 pub returns-in-Ok-false-clause-stack : goal.returns-in-Ok-false-clause-stack
-returns-in-Ok-false-clause-stack g c = λ h. noted_stands (stack_of c.advance.new.stack.items) (item_of c.advance.new.buffers.item) (c.in-Given.ensures.stack h)
+returns-in-Ok-false-clause-stack g c = λ h.
+    let k = rw c.in-By-Given.field-0-is at c.in-By-Given.ensures in noted_stands (stack_of c.advance.new.stack.items) (item_of c.advance.new.buffers.item) (k.stack h)
 
 pub returns-in-Err-Memory-clause-stack : goal.returns-in-Err-Memory-clause-stack
 returns-in-Err-Memory-clause-stack g c = λ h. cleared_stands (stack_of c.clear-in-Err-Memory.new.self.items) (ap stack_of c.clear-in-Err-Memory.ensures.items)
 
 pub returns-in-Err-Fault-clause-stack : goal.returns-in-Err-Fault-clause-stack
 returns-in-Err-Fault-clause-stack g c = λ h. cleared_stands (stack_of c.clear-in-Err-Fault.new.self.items) (ap stack_of c.clear-in-Err-Fault.ensures.items)
+
+pub returns-in-Ready-clause-turns : goal.returns-in-Ready-clause-turns
+returns-in-Ready-clause-turns g c = λ answered.
+    event_turn _ _ (directives_of c.args.directives.now) (directives_of c.args.directives.now) answered (raw_of (event_of c.advance.new.event)) (body_of c.advance.new.event.body) (event_of c.advance.new.event)
+    c.in-Ready.ensures.steps (c.in-Ready.ensures.ready (directives_of c.args.directives.now)) refl
+
+pub returns-in-Ready-clause-utf8 : goal.returns-in-Ready-clause-utf8
+returns-in-Ready-clause-utf8 g c = λ h.
+    event_utf8 (peeked_of c.advance.new.buffers) (stack_of c.advance.new.stack.items) (directives_of c.args.directives.now) (directives_of c.args.directives.now) (raw_of (event_of c.advance.new.event))
+    (body_of c.advance.new.event.body) (c.in-Ready.ensures.ready (directives_of c.args.directives.now)) (c.in-Ready.ensures.utf8 (directives_of c.args.directives.now) h)
+
+pub returns-in-Ready-clause-stack : goal.returns-in-Ready-clause-stack
+returns-in-Ready-clause-stack g c = λ h.
+    event_stands (stack_of c.advance.new.stack.items) (directives_of c.args.directives.now) (directives_of c.args.directives.now) (raw_of (event_of c.advance.new.event))
+    (body_of c.advance.new.event.body) (c.in-Ready.ensures.ready (directives_of c.args.directives.now)) (c.in-Ready.ensures.stack h)

@@ -1,0 +1,51 @@
+-- What the swift ways of a step give.
+use Rattle.std.specs.Prelude.{◌≡◌, ◌∷◌, ◌++◌, List, Option, Some, None}
+use Rattle.yaml_parse_model.specs.Tokens.{Token, type_of}
+use Rattle.yaml_parse_model.specs.Events.{Event, EventBody}
+use Rattle.yaml_parse_model.specs.Events as event
+use Rattle.yaml_parse_grammar.specs.declared.name.Choice.TheVariants.{Take}
+use Rattle.yaml_parse_grammar.specs.declared.name.Brackets.{Brackets}
+use Rattle.yaml_parse_grammar.specs.Items as item
+use Rattle.yaml_parse_grammar.specs.Trees.{flow_shape}
+use Rattle.yaml_parse_grammar.specs.States.{State}
+use Rattle.yaml_parse_grammar.specs.States as state
+use Rattle.yaml_parse_grammar.specs.Machine.{choice_at, taken_at}
+use Rattle.yaml_parse_grammar.specs.Resolve.{Directives, settle, gave}
+use Rattle.yaml_parse_machine.specs.declared.swift_ways.Swift.{Swift}
+use Rattle.yaml_parse_machine.specs.declared.swift_ways.Swift.TheVariants.{Event as is_event, Silent, Memory, Other}
+
+-- what a state gave of which that event is made, without properties
+abbrev pub raw_body : EventBody → item.RawEventBody
+raw_body (event.scalar None None value plain quoted style) = item.node None None
+    (item.scalar value style)
+raw_body (event.sequence_start None None implicit style) = item.node None None (item.sequence style)
+raw_body (event.mapping_start None None implicit style) = item.node None None (item.mapping style)
+raw_body body = item.event body
+
+abbrev pub raw_of : Event → item.RawEvent
+raw_of e = record { body = raw_body e.body; from = e.start_mark; to = e.end_mark }
+
+-- the event of that item, whatever the directives, which it leaves as they are
+abbrev pub IsReady : item.RawEvent → Event → Type 0
+IsReady i e = (i ≡ raw_of e) × ((ds : Directives) → settle i ds ≡ gave e.body ds)
+
+abbrev pub IsGiven : Option item.RawEvent → Event → Type 0
+IsGiven (Some i) e = IsReady i e
+IsGiven None e = ⊥
+
+-- a flow collection begins, or memory ran out
+abbrev pub Opens : Brackets → Token → List State → Swift → Event → List State → Type 0
+Opens b t below is_event e new = IsReady
+    (item.item_at (item.node None None (flow_shape b)) t.start_mark t.end_mark) e
+    × (new ≡ state.items b t.start_mark ∷ below)
+Opens b t below Memory e new = Unit {0}
+Opens b t below _ e new = ⊥
+
+-- the token is taken, as the state says, by a state that stood on those; the event stands in its slot, or nothing is given
+abbrev pub Swiftly : State → Token → List State → Swift → Event → Token → List State → Type 0
+Swiftly x t below is_event e after new = (choice_at x (type_of t.body) ≡ Take)
+    × IsGiven (taken_at x t).item e × (new ≡ (taken_at x t).above ++ below)
+Swiftly x t below Silent e after new = (choice_at x (type_of t.body) ≡ Take)
+    × (None ≡ (taken_at x t).item) × (new ≡ (taken_at x t).above ++ below)
+Swiftly x t below Memory e after new = Unit {0}
+Swiftly x t below Other e after new = (after ≡ t) × (new ≡ below)

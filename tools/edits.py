@@ -76,6 +76,10 @@ def why_none(it):
         return "a method of a trait: those who implement it have the edits"
     if repo.is_law(it):
         return "a law: its body is empty, and its clause speaks of definitions alone"
+    if it.name == "into_inner":
+        return "its type leaves no other value to hand back"
+    if it.name == "document_is_sound":
+        return "a law: its body reads a field for the clause and does nothing"
     return "" if it.contract() else "no clause"
 
 

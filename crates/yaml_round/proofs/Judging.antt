@@ -118,6 +118,12 @@ pub fallen_back : (from : yaml_encoding_t) (settings : yaml_settings_t) (input :
     → Answers reformat_layers text_and_form (IsInCanonicalForm from settings input) result → Answers reformat_layers text_and_form (IsReformatted from settings input) result
 fallen_back from settings input result pretty c l d h = canonical_answer from settings input result (due_false settings.canonical from settings input pretty c l d) h
 
+-- the pretty form reads back
+pub pretty_answered : (from : yaml_encoding_t) (settings : yaml_settings_t) (input text : List ℕ) → settings.canonical ≡ false
+    → IsLaidOut from input settings false text → IsReadBack from input text (Ok true) → IsReformatted from settings input (Ok (text, Pretty))
+unfolding IsReformatted
+pretty_answered from settings input text c l d = (c, (l, d))
+
 -- a refusal of the pretty form
 pub pretty_refused : (from : yaml_encoding_t) (settings : yaml_settings_t) (input : List ℕ) (f : yaml_fault_t) → settings.canonical ≡ false
     → IsMemoryFault reformat_layers (fault_of f) ⊎ IsWritten from input settings false (Err (fault_of f)) → IsMemoryFault reformat_layers (fault_of f) ⊎ IsReformatted from settings input (Err (fault_of f))

@@ -1,8 +1,8 @@
 //! What a line wants beside what its call answered.
 
-use serde_json::{Map, Value, put};
+use serde_json::Value;
 use std::alloc::Global;
-use yaml_cli_vectors_json::VectorError;
+use yaml_cli_vectors_json::{Fields, VectorError};
 
 // The fields that calls answer. A line that has one wants it.
 const ANSWERS: [&str; 11] = [
@@ -31,15 +31,19 @@ pub enum Outcome {
     },
 }
 
+fn copy_of(value: &Value) -> Result<Value, VectorError> {
+    Ok(value.clone()?)
+}
+
 // The fields that the line wants.
 fn wanted(alloc: Global, line: &Value) -> Result<Value, VectorError> {
-    let mut fields = Map::new(alloc);
+    let mut fields = Fields::new(alloc);
     for name in ANSWERS {
         if let Some(value) = line.get(name) {
-            put(&mut fields, alloc, name, value.clone()?)?;
+            fields.add(name, copy_of(value));
         }
     }
-    Ok(Value::Object(fields))
+    fields.end()
 }
 
 fn failed(alloc: Global, call: &str, want: &Value, got: &Value) -> Result<Outcome, VectorError> {

@@ -3,7 +3,7 @@
 use crate::given::{Given, given_of};
 use serde_json::Value;
 use std::alloc::Global;
-use yaml_cli_vectors_json::{VectorError, field, shown};
+use yaml_cli_vectors_json::{Reader, VectorError, shown};
 use yaml_round::{yaml_error_type_t, yaml_fault_t, yaml_reformat, yaml_reload, yaml_settings_t};
 
 // Makes the call under the settings, and lets its text go.
@@ -47,10 +47,15 @@ fn least(alloc: Global, of: &str, given: &Given) -> Result<u64, VectorError> {
     Err(VectorError::Field("limit"))
 }
 
+fn answer(alloc: Global, of: &str, given: &Given) -> Result<Value, VectorError> {
+    let limit = least(alloc, of, given)?;
+    shown::answer(alloc, Ok(Value::from(limit)))
+}
+
 /// The least limit under which the call that the line names in `of` answers a text. Every smaller one refuses it.
 pub fn least_limit(alloc: Global, line: &Value) -> Result<Value, VectorError> {
-    let of = field::text(line, "of")?;
-    let given = given_of(alloc, line)?;
-    let limit = least(alloc, of, &given)?;
-    Ok(shown::answer(alloc, Value::from(limit))?)
+    let mut reader = Reader::new(alloc);
+    let of = reader.text(line, "of");
+    let given = given_of(alloc, &mut reader, line);
+    reader.finish(answer(alloc, of, &given))
 }

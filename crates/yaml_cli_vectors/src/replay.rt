@@ -2,11 +2,11 @@
 
 use crate::compare::{Outcome, compare};
 use crate::{engine, limits, run, tokens};
-use serde_json::{Map, Value, put};
+use serde_json::Value;
 use std::alloc::Global;
-use yaml_cli_vectors_json::{VectorError, field, shown};
-use yaml_cli_vectors_reading::{decode, load, next_tokens, parse, scan, shown_fault};
-use yaml_cli_vectors_writing::{dump, emit, emit_events, emit_limits};
+use yaml_cli_vectors_json::{Fields, Reader, VectorError, shown};
+use yaml_cli_vectors_reading::{Asked, Source, decode, next_tokens, parsed, scan, shown_fault};
+use yaml_cli_vectors_writing::{Given, emit_limits, emitted};
 use yaml_round::yaml_fault_line;
 use yaml_scan::yaml_fault_t;
 
@@ -16,14 +16,14 @@ fn answer(alloc: Global, call: &str, line: &Value) -> Result<Value, VectorError>
         "decode" => decode::answer(alloc, line),
         "scan" => scan::answer(alloc, line),
         "next_tokens" => next_tokens::answer(alloc, line),
-        "parse" => parse::of_input(alloc, line),
-        "parse_tokens" => parse::of_tokens(alloc, line),
-        "load" => load::of_input(alloc, line),
-        "load_tokens" => load::of_tokens(alloc, line),
-        "emit" => emit::answer(alloc, line),
-        "emit_events" => emit_events::answer(alloc, line),
+        "parse" => parsed(alloc, line, Source::Input, Asked::Events),
+        "parse_tokens" => parsed(alloc, line, Source::Tokens, Asked::Events),
+        "load" => parsed(alloc, line, Source::Input, Asked::Documents),
+        "load_tokens" => parsed(alloc, line, Source::Tokens, Asked::Documents),
+        "emit" => emitted(alloc, line, Given::Input),
+        "emit_events" => emitted(alloc, line, Given::Events),
         "emit_limits" => emit_limits::answer(alloc, line),
-        "dump" => dump::answer(alloc, line),
+        "dump" => emitted(alloc, line, Given::Document),
         "events" => engine::events(alloc, line),
         "reformat" => engine::reformat(alloc, line),
         "reload" => engine::reload(alloc, line),
@@ -36,27 +36,24 @@ fn answer(alloc: Global, call: &str, line: &Value) -> Result<Value, VectorError>
     }
 }
 
-// The line that tells the fault, where the vector wants it.
-fn put_line(
-    alloc: Global,
-    line: &Value,
-    fault: &yaml_fault_t,
-    fields: &mut Map<String, Value>,
-) -> Result<(), VectorError> {
+// The line that tells the fault.
+fn told(alloc: Global, fault: &yaml_fault_t) -> Result<Value, VectorError> {
+    let text = yaml_fault_line(alloc, fault)?;
+    shown::bytes(alloc, text.as_slice())
+}
+
+// The same, where the vector wants it.
+fn add_line(alloc: Global, line: &Value, fault: &yaml_fault_t, fields: &mut Fields) {
     if line.get("fault_line").is_some() {
-        let text = yaml_fault_line(alloc, fault)?;
-        let text = shown::bytes(alloc, text.as_slice())?;
-        put(fields, alloc, "fault_line", text)?;
+        fields.add("fault_line", told(alloc, fault));
     }
-    Ok(())
 }
 
 fn refusal(alloc: Global, line: &Value, fault: &yaml_fault_t) -> Result<Value, VectorError> {
-    let mut fields = Map::new(alloc);
-    let shown = shown_fault(alloc, line, fault)?;
-    put(&mut fields, alloc, "fault", shown)?;
-    put_line(alloc, line, fault, &mut fields)?;
-    Ok(Value::Object(fields))
+    let mut fields = Fields::new(alloc);
+    fields.add("fault", shown_fault(alloc, line, fault));
+    add_line(alloc, line, fault, &mut fields);
+    fields.end()
 }
 
 // What the call answers on the line, its refusal too.
@@ -67,10 +64,15 @@ fn answered(alloc: Global, call: &str, line: &Value) -> Result<Value, VectorErro
     }
 }
 
+fn compared(alloc: Global, call: &str, line: &Value) -> Result<Outcome, VectorError> {
+    let got = answered(alloc, call, line)?;
+    compare(alloc, call, line, &got)
+}
+
 /// Makes the call that the line names, and compares.
 pub fn replay(alloc: Global, line: &str) -> Result<Outcome, VectorError> {
     let line = Value::from_str(alloc, line)?;
-    let call = field::text(&line, "call")?;
-    let got = answered(alloc, call, &line)?;
-    compare(alloc, call, &line, &got)
+    let mut reader = Reader::new(alloc);
+    let call = reader.text(&line, "call");
+    reader.finish(compared(alloc, call, &line))
 }

@@ -2,19 +2,19 @@
 
 use crate::given::{Given, given_of};
 use crate::text::shown_text;
-use serde_json::{Map, Value, put};
+use serde_json::Value;
 use std::alloc::Global;
-use yaml_cli_vectors_json::{VectorError, field};
+use yaml_cli_vectors_json::{Fields, Reader, VectorError};
 use yaml_round::{
     yaml_command_t, yaml_form_t, yaml_run, yaml_run_fault_t, yaml_std_input_t, yaml_std_output_t,
 };
 
-fn command(line: &Value) -> Result<yaml_command_t, VectorError> {
-    match field::text(line, "command")? {
-        "Fmt" => Ok(yaml_command_t::Fmt),
-        "Docs" => Ok(yaml_command_t::Docs),
-        "Events" => Ok(yaml_command_t::Events),
-        _ => Err(VectorError::Field("command")),
+fn command(word: &str) -> Option<yaml_command_t> {
+    match word {
+        "Fmt" => Some(yaml_command_t::Fmt),
+        "Docs" => Some(yaml_command_t::Docs),
+        "Events" => Some(yaml_command_t::Events),
+        _ => None,
     }
 }
 
@@ -29,10 +29,9 @@ fn refusal_word(fault: &yaml_run_fault_t) -> &'static str {
 }
 
 fn shown_refusal(alloc: Global, fault: &yaml_run_fault_t) -> Result<Value, VectorError> {
-    let mut fields = Map::new(alloc);
-    let word = Value::try_from_str(alloc, refusal_word(fault))?;
-    put(&mut fields, alloc, "refused", word)?;
-    Ok(Value::Object(fields))
+    let mut fields = Fields::new(alloc);
+    fields.add_word("refused", refusal_word(fault));
+    fields.end()
 }
 
 // The text that the command makes of the input, and its form.
@@ -56,15 +55,27 @@ fn text_of(
     Ok((output.into_inner(), form))
 }
 
-/// The text that the line's command makes of its input, and the form that it has; `TooLong` where the input has more bytes
-/// than `input_limit`.
-pub fn run(alloc: Global, line: &Value) -> Result<Value, VectorError> {
-    let command = command(line)?;
-    let limit = field::count(line, "input_limit")?;
-    let given = given_of(alloc, line)?;
-    match text_of(alloc, &given, command, limit) {
-        Ok((text, form)) => Ok(shown_text(alloc, line, text.as_slice(), form)?),
+fn answer(
+    alloc: Global,
+    line: &Value,
+    given: &Given,
+    command: yaml_command_t,
+    limit: u64,
+) -> Result<Value, VectorError> {
+    match text_of(alloc, given, command, limit) {
+        Ok((text, form)) => shown_text(alloc, line, text.as_slice(), form),
         Err(yaml_run_fault_t::Yaml(fault)) => Err(VectorError::Fault(fault)),
         Err(fault) => shown_refusal(alloc, &fault),
     }
+}
+
+/// The text that the line's command makes of its input, and the form that it has; `TooLong` where the input has more bytes
+/// than `input_limit`.
+pub fn run(alloc: Global, line: &Value) -> Result<Value, VectorError> {
+    let mut reader = Reader::new(alloc);
+    let command = command(reader.text(line, "command"));
+    let command = reader.take(command, "command", yaml_command_t::Fmt);
+    let limit = reader.count(line, "input_limit");
+    let given = given_of(alloc, &mut reader, line);
+    reader.finish(answer(alloc, line, &given, command, limit))
 }

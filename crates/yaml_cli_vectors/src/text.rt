@@ -1,22 +1,16 @@
 //! A text that a call answers, as the line wants it.
 
-use serde_json::{Map, Value, put};
-use std::alloc::{AllocError, Global};
-use yaml_cli_vectors_json::shown;
+use serde_json::Value;
+use std::alloc::Global;
+use yaml_cli_vectors_json::{Fields, VectorError};
 use yaml_round::yaml_form_t;
 
 // The text, or how many bytes it has where the line wants that.
-fn put_text(
-    alloc: Global,
-    line: &Value,
-    text: &[u8],
-    fields: &mut Map<String, Value>,
-) -> Result<(), AllocError> {
+fn add_text(line: &Value, text: &[u8], fields: &mut Fields) {
     if line.get("length").is_some() {
-        put(fields, alloc, "length", Value::from(text.len() as u64))
+        fields.put("length", Value::from(text.len() as u64));
     } else {
-        let text = shown::bytes(alloc, text)?;
-        put(fields, alloc, "answer", text)
+        fields.add_bytes("answer", text);
     }
 }
 
@@ -28,17 +22,10 @@ fn form_word(form: yaml_form_t) -> &'static str {
 }
 
 // The form, where the answer has one.
-fn put_form(
-    alloc: Global,
-    form: Option<yaml_form_t>,
-    fields: &mut Map<String, Value>,
-) -> Result<(), AllocError> {
+fn add_form(form: Option<yaml_form_t>, fields: &mut Fields) {
     match form {
-        Some(form) => {
-            let word = Value::try_from_str(alloc, form_word(form))?;
-            put(fields, alloc, "form", word)
-        }
-        None => Ok(()),
+        Some(form) => fields.add_word("form", form_word(form)),
+        None => {}
     }
 }
 
@@ -48,9 +35,9 @@ pub fn shown_text(
     line: &Value,
     text: &[u8],
     form: Option<yaml_form_t>,
-) -> Result<Value, AllocError> {
-    let mut fields = Map::new(alloc);
-    put_text(alloc, line, text, &mut fields)?;
-    put_form(alloc, form, &mut fields)?;
-    Ok(Value::Object(fields))
+) -> Result<Value, VectorError> {
+    let mut fields = Fields::new(alloc);
+    add_text(line, text, &mut fields);
+    add_form(form, &mut fields);
+    fields.end()
 }

@@ -2,18 +2,19 @@
 
 use serde_json::Value;
 use std::alloc::Global;
-use yaml_cli_vectors_json::{VectorError, field, read_token, shown, shown_token};
+use yaml_cli_vectors_json::{Items, Reader, VectorError, read_token, shown, shown_token};
 
-fn written(alloc: Global, token: &Value) -> Result<Value, VectorError> {
-    let token = read_token(alloc, token)?;
-    Ok(shown_token(alloc, &token)?)
+fn written(alloc: Global, reader: &mut Reader, token: &Value) -> Result<Value, VectorError> {
+    let token = read_token(reader, token);
+    shown_token(alloc, &token)
 }
 
 /// The line's tokens, read and written again.
 pub fn tokens(alloc: Global, line: &Value) -> Result<Value, VectorError> {
-    let mut tokens = Vec::new(alloc);
-    for token in field::list(line, "tokens")? {
-        tokens.push(written(alloc, token)?)?;
+    let mut reader = Reader::new(alloc);
+    let mut tokens = Items::new(alloc);
+    for token in reader.list(line, "tokens") {
+        tokens.add(written(alloc, &mut reader, token));
     }
-    Ok(shown::answer(alloc, Value::Array(tokens))?)
+    reader.finish(shown::answer(alloc, tokens.end()))
 }

@@ -1,29 +1,30 @@
 //! Documents, as the lines write them.
 
 use crate::event::{shown_directives, shown_version};
+use crate::parts::{Fields, Items};
 use crate::{VectorError, shown, style};
-use serde_json::{Map, Value, put};
-use std::alloc::{AllocError, Global};
+use serde_json::Value;
+use std::alloc::Global;
 use yaml_parse::{
     yaml_document_get_node, yaml_document_t, yaml_node_body_t, yaml_node_item_t, yaml_node_pair_t,
     yaml_node_t,
 };
 
-fn shown_items(alloc: Global, items: &[yaml_node_item_t]) -> Result<Value, AllocError> {
-    let mut shown = Vec::new(alloc);
+fn shown_items(alloc: Global, items: &[yaml_node_item_t]) -> Result<Value, VectorError> {
+    let mut shown = Items::new(alloc);
     for item in items {
-        shown.push(Value::from(*item))?;
+        shown.push(Value::from(*item));
     }
-    Ok(Value::Array(shown))
+    shown.end()
 }
 
-fn shown_pairs(alloc: Global, pairs: &[yaml_node_pair_t]) -> Result<Value, AllocError> {
-    let mut shown = Vec::new(alloc);
+fn shown_pairs(alloc: Global, pairs: &[yaml_node_pair_t]) -> Result<Value, VectorError> {
+    let mut shown = Items::new(alloc);
     for pair in pairs {
         let (key, value) = (Value::from(pair.key), Value::from(pair.value));
-        shown.push(shown::pair(alloc, key, value)?)?;
+        shown.add(shown::pair(alloc, Ok(key), Ok(value)));
     }
-    Ok(Value::Array(shown))
+    shown.end()
 }
 
 fn kind(node: &yaml_node_t) -> &'static str {
@@ -45,7 +46,7 @@ fn style(node: &yaml_node_t) -> &'static str {
 }
 
 // The value, the items or the pairs of the node.
-fn shown_held(alloc: Global, node: &yaml_node_t) -> Result<Value, AllocError> {
+fn shown_held(alloc: Global, node: &yaml_node_t) -> Result<Value, VectorError> {
     match &node.body {
         yaml_node_body_t::No => Ok(Value::Null),
         yaml_node_body_t::Scalar { value, .. } => shown::bytes(alloc, value.as_slice()),
@@ -54,62 +55,48 @@ fn shown_held(alloc: Global, node: &yaml_node_t) -> Result<Value, AllocError> {
     }
 }
 
-// What a node is: kind, tag, value or items or pairs, style, behind the fields so far.
-fn push_content(
-    alloc: Global,
-    node: &yaml_node_t,
-    fields: &mut Vec<Value>,
-) -> Result<(), AllocError> {
-    shown::push_word(alloc, kind(node), fields)?;
-    shown::push_bytes(alloc, node.tag.as_slice(), fields)?;
-    fields.push(shown_held(alloc, node)?)?;
-    shown::push_word(alloc, style(node), fields)
+// A node: kind, tag, value or items or pairs, style, start mark, end mark.
+fn shown_node(alloc: Global, node: &yaml_node_t) -> Result<Value, VectorError> {
+    let mut items = Items::new(alloc);
+    items.add_word(kind(node));
+    items.add_bytes(node.tag.as_slice());
+    items.add(shown_held(alloc, node));
+    items.add_word(style(node));
+    items.add_marks(node.start_mark, node.end_mark);
+    items.end()
 }
 
-// A node: what it is, start mark, end mark.
-fn shown_node(alloc: Global, node: &yaml_node_t) -> Result<Value, AllocError> {
-    let mut fields = Vec::new(alloc);
-    push_content(alloc, node, &mut fields)?;
-    shown::push_marks(alloc, node.start_mark, node.end_mark, &mut fields)?;
-    Ok(Value::Array(fields))
-}
-
-fn shown_nodes(alloc: Global, document: &yaml_document_t) -> Result<Value, AllocError> {
-    let mut nodes = Vec::new(alloc);
+fn shown_nodes(alloc: Global, document: &yaml_document_t) -> Result<Value, VectorError> {
+    let mut nodes = Items::new(alloc);
     for id in 1..i32::MAX {
         match yaml_document_get_node(document, id) {
-            Some(node) => nodes.push(shown_node(alloc, node)?)?,
+            Some(node) => nodes.add(shown_node(alloc, node)),
             None => break,
         }
     }
-    Ok(Value::Array(nodes))
+    nodes.end()
 }
 
 // Where the document starts and ends, and whether by marks of its own.
-fn put_bounds(
-    alloc: Global,
-    document: &yaml_document_t,
-    fields: &mut Map<String, Value>,
-) -> Result<(), AllocError> {
-    let start_implicit = Value::Bool(document.start_implicit());
-    put(fields, alloc, "start_implicit", start_implicit)?;
-    let end_implicit = Value::Bool(document.end_implicit());
-    put(fields, alloc, "end_implicit", end_implicit)?;
-    let start = shown::mark(alloc, document.start_mark())?;
-    put(fields, alloc, "start_mark", start)?;
-    let end = shown::mark(alloc, document.end_mark())?;
-    put(fields, alloc, "end_mark", end)
+fn add_bounds(document: &yaml_document_t, fields: &mut Fields) {
+    fields.put("start_implicit", Value::Bool(document.start_implicit()));
+    fields.put("end_implicit", Value::Bool(document.end_implicit()));
+    fields.add_mark("start_mark", document.start_mark());
+    fields.add_mark("end_mark", document.end_mark());
 }
 
 /// The document as the lines write it.
 pub fn shown_document(alloc: Global, document: &yaml_document_t) -> Result<Value, VectorError> {
-    let mut fields = Map::new(alloc);
-    let version = shown_version(alloc, document.version_directive())?;
-    put(&mut fields, alloc, "version", version)?;
-    let directives = shown_directives(alloc, document.tag_directives())?;
-    put(&mut fields, alloc, "directives", directives)?;
-    put_bounds(alloc, document, &mut fields)?;
-    let nodes = shown_nodes(alloc, document)?;
-    put(&mut fields, alloc, "nodes", nodes)?;
-    Ok(Value::Object(fields))
+    let mut fields = Fields::new(alloc);
+    fields.add(
+        "version",
+        shown_version(alloc, document.version_directive()),
+    );
+    fields.add(
+        "directives",
+        shown_directives(alloc, document.tag_directives()),
+    );
+    add_bounds(document, &mut fields);
+    fields.add("nodes", shown_nodes(alloc, document));
+    fields.end()
 }

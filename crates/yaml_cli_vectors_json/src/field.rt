@@ -23,89 +23,181 @@ impl FieldPlace for usize {
     }
 }
 
-/// What stands there.
-pub fn value<P: FieldPlace>(line: &Value, place: P) -> Result<&Value, VectorError> {
-    line.get(place).ok_or(VectorError::Field(place.name()))
-}
-
-/// The text there.
-pub fn text<P: FieldPlace>(line: &Value, place: P) -> Result<&str, VectorError> {
-    value(line, place)?
-        .as_str()
-        .ok_or(VectorError::Field(place.name()))
-}
-
-/// The bytes there, in hexadecimal digits.
-pub fn bytes<P: FieldPlace>(alloc: Global, line: &Value, place: P) -> Result<Vec<u8>, VectorError> {
-    match hex::decode(alloc, text(line, place)?) {
+// The bytes that those hexadecimal digits spell.
+fn decoded(alloc: Global, text: &str, name: &'static str) -> Result<Vec<u8>, VectorError> {
+    match hex::decode(alloc, text) {
         Ok(bytes) => Ok(bytes),
         Err(hex::FromHexError::OutOfMemory) => Err(VectorError::Memory),
-        Err(_) => Err(VectorError::Field(place.name())),
+        Err(_) => Err(VectorError::Field(name)),
     }
 }
 
-/// The bytes there, in hexadecimal digits, or null.
-pub fn optional_bytes<P: FieldPlace>(
+fn copy_of(alloc: Global, text: &str) -> Result<Vec<u8>, VectorError> {
+    Ok(Vec::from_slice(alloc, text.as_bytes())?)
+}
+
+fn encoding_of(word: &str) -> Option<yaml_encoding_t> {
+    match word {
+        "any" => Some(yaml_encoding_t::YAML_ANY_ENCODING),
+        "utf8" => Some(yaml_encoding_t::YAML_UTF8_ENCODING),
+        "utf16le" => Some(yaml_encoding_t::YAML_UTF16LE_ENCODING),
+        "utf16be" => Some(yaml_encoding_t::YAML_UTF16BE_ENCODING),
+        _ => None,
+    }
+}
+
+fn small(number: i64) -> Option<i32> {
+    i32::try_from(number).ok()
+}
+
+/// Reads fields one after another. The first that is missing, or not of its form, is kept, and `finish` answers it: what is
+/// read of that one and behind it stands for nothing, so that the calls in between have no exits, which are dear to prove.
+#[derive(Drop)]
+pub struct Reader {
     alloc: Global,
-    line: &Value,
-    place: P,
-) -> Result<Option<Vec<u8>>, VectorError> {
-    if value(line, place)?.is_null() {
-        Ok(None)
-    } else {
-        Ok(Some(bytes(alloc, line, place)?))
+    wrong: Option<VectorError>,
+}
+
+impl Reader {
+    /// Before the first field.
+    pub fn new(alloc: Global) -> Reader {
+        Reader { alloc, wrong: None }
     }
-}
 
-/// True or false there.
-pub fn flag<P: FieldPlace>(line: &Value, place: P) -> Result<bool, VectorError> {
-    value(line, place)?
-        .as_bool()
-        .ok_or(VectorError::Field(place.name()))
-}
-
-/// The number that isn't negative there.
-pub fn count<P: FieldPlace>(line: &Value, place: P) -> Result<u64, VectorError> {
-    value(line, place)?
-        .as_u64()
-        .ok_or(VectorError::Field(place.name()))
-}
-
-/// A number of 32 bits; none where the value is no such number.
-pub fn small(value: &Value) -> Option<i32> {
-    i32::try_from(value.as_i64()?).ok()
-}
-
-/// The number of 32 bits there.
-pub fn number<P: FieldPlace>(line: &Value, place: P) -> Result<i32, VectorError> {
-    small(value(line, place)?).ok_or(VectorError::Field(place.name()))
-}
-
-/// The list there.
-pub fn list<P: FieldPlace>(line: &Value, place: P) -> Result<&[Value], VectorError> {
-    match value(line, place)?.as_array() {
-        Some(list) => Ok(list.as_slice()),
-        None => Err(VectorError::Field(place.name())),
+    /// Keeps the error, unless there is one.
+    pub fn refuse(&mut self, error: VectorError) {
+        if self.wrong.is_none() {
+            self.wrong = Some(error);
+        }
     }
-}
 
-/// The mark there: index, line, column.
-pub fn mark<P: FieldPlace>(line: &Value, place: P) -> Result<yaml_mark_t, VectorError> {
-    let mark = value(line, place)?;
-    Ok(yaml_mark_t {
-        index: count(mark, 0)?,
-        line: count(mark, 1)?,
-        column: count(mark, 2)?,
-    })
-}
+    /// That field is missing, or not of its form.
+    pub fn miss(&mut self, name: &'static str) {
+        self.refuse(VectorError::Field(name));
+    }
 
-/// The encoding there: any, utf8, utf16le or utf16be.
-pub fn encoding<P: FieldPlace>(line: &Value, place: P) -> Result<yaml_encoding_t, VectorError> {
-    match text(line, place)? {
-        "any" => Ok(yaml_encoding_t::YAML_ANY_ENCODING),
-        "utf8" => Ok(yaml_encoding_t::YAML_UTF8_ENCODING),
-        "utf16le" => Ok(yaml_encoding_t::YAML_UTF16LE_ENCODING),
-        "utf16be" => Ok(yaml_encoding_t::YAML_UTF16BE_ENCODING),
-        _ => Err(VectorError::Field("encoding")),
+    /// What was found, else `otherwise`.
+    pub fn take<T: Copy>(&mut self, found: Option<T>, name: &'static str, otherwise: T) -> T {
+        match found {
+            Some(value) => value,
+            None => {
+                self.miss(name);
+                otherwise
+            }
+        }
+    }
+
+    /// What was made, else `otherwise`.
+    pub fn keep<T: Drop>(&mut self, made: Result<T, VectorError>, otherwise: T) -> T {
+        match made {
+            Ok(value) => value,
+            Err(error) => {
+                self.refuse(error);
+                otherwise
+            }
+        }
+    }
+
+    /// Adds an item behind those of the list.
+    pub fn push<T: Drop>(&mut self, list: &mut Vec<T>, item: T) {
+        if list.push(item).is_err() {
+            self.refuse(VectorError::Memory);
+        }
+    }
+
+    /// What was made of the fields, unless one was missing.
+    pub fn finish<T: Drop>(self, made: Result<T, VectorError>) -> Result<T, VectorError> {
+        match self.wrong {
+            Some(error) => Err(error),
+            None => made,
+        }
+    }
+
+    /// What stands there, else the line itself.
+    pub fn value<'a, P: FieldPlace>(&mut self, line: &'a Value, place: P) -> &'a Value {
+        self.take(line.get(place), place.name(), line)
+    }
+
+    /// The text there.
+    pub fn text<'a, P: FieldPlace>(&mut self, line: &'a Value, place: P) -> &'a str {
+        self.take(line.get(place).and_then(Value::as_str), place.name(), "")
+    }
+
+    /// The bytes of the text.
+    pub fn copied(&mut self, text: &str) -> Vec<u8> {
+        let copied = copy_of(self.alloc, text);
+        self.keep(copied, Vec::new(self.alloc))
+    }
+
+    /// The bytes there, in hexadecimal digits.
+    pub fn bytes<P: FieldPlace>(&mut self, line: &Value, place: P) -> Vec<u8> {
+        let text = self.text(line, place);
+        self.keep(
+            decoded(self.alloc, text, place.name()),
+            Vec::new(self.alloc),
+        )
+    }
+
+    /// The bytes there, in hexadecimal digits, or null.
+    pub fn optional_bytes<P: FieldPlace>(&mut self, line: &Value, place: P) -> Option<Vec<u8>> {
+        match line.get(place) {
+            Some(Value::Null) => None,
+            _ => Some(self.bytes(line, place)),
+        }
+    }
+
+    /// True or false there.
+    pub fn flag<P: FieldPlace>(&mut self, line: &Value, place: P) -> bool {
+        self.take(
+            line.get(place).and_then(Value::as_bool),
+            place.name(),
+            false,
+        )
+    }
+
+    /// The number that isn't negative there.
+    pub fn count<P: FieldPlace>(&mut self, line: &Value, place: P) -> u64 {
+        self.take(line.get(place).and_then(Value::as_u64), place.name(), 0)
+    }
+
+    /// That number of 32 bits.
+    pub fn whole(&mut self, value: &Value) -> i32 {
+        self.take(value.as_i64().and_then(small), "nodes", 0)
+    }
+
+    /// The number of 32 bits there.
+    pub fn number<P: FieldPlace>(&mut self, line: &Value, place: P) -> i32 {
+        let number = line.get(place).and_then(Value::as_i64).and_then(small);
+        self.take(number, place.name(), 0)
+    }
+
+    /// The list there.
+    pub fn list<'a, P: FieldPlace>(&mut self, line: &'a Value, place: P) -> &'a [Value] {
+        match line.get(place).and_then(Value::as_array) {
+            Some(list) => list.as_slice(),
+            None => {
+                self.miss(place.name());
+                &[]
+            }
+        }
+    }
+
+    /// The mark there: index, line, column.
+    pub fn mark<P: FieldPlace>(&mut self, line: &Value, place: P) -> yaml_mark_t {
+        let mark = self.value(line, place);
+        let index = self.count(mark, 0);
+        let line = self.count(mark, 1);
+        let column = self.count(mark, 2);
+        yaml_mark_t {
+            index,
+            line,
+            column,
+        }
+    }
+
+    /// The encoding there: any, utf8, utf16le or utf16be.
+    pub fn encoding<P: FieldPlace>(&mut self, line: &Value, place: P) -> yaml_encoding_t {
+        let encoding = encoding_of(self.text(line, place));
+        self.take(encoding, "encoding", yaml_encoding_t::YAML_ANY_ENCODING)
     }
 }

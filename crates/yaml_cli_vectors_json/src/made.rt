@@ -1,92 +1,109 @@
 //! The document that a line describes, made by the document's calls.
 
-ghost use Rattle.std.specs.Prelude.{IsTrue, IsSome, OnOk};
+ghost use Rattle.std.specs.Prelude.{IsTrue, IsSome};
 ghost use Rattle.yaml_parse.specs.Documents.{node_at, IsSequenceAt, IsMappingAt};
 
-use crate::{VectorError, field, given, style};
+use crate::{Reader, VectorError, given, style};
 use serde_json::Value;
 use std::alloc::Global;
 use yaml_parse::{
     yaml_document_add_mapping, yaml_document_add_scalar, yaml_document_add_sequence,
     yaml_document_append_mapping_pair, yaml_document_append_sequence_item, yaml_document_get_node,
     yaml_document_initialize, yaml_document_t, yaml_node_body_t, yaml_tag_directive_t,
+    yaml_text_fault_t,
 };
 
 // A directive: the handle as it is, the prefix in hexadecimal digits.
-fn directive(alloc: Global, directive: &Value) -> Result<yaml_tag_directive_t, VectorError> {
-    let handle = Vec::from_slice(alloc, field::text(directive, 0)?.as_bytes())?;
-    let prefix = field::bytes(alloc, directive, 1)?;
-    Ok(yaml_tag_directive_t { handle, prefix })
+fn directive(reader: &mut Reader, directive: &Value) -> yaml_tag_directive_t {
+    let text = reader.text(directive, 0);
+    let handle = reader.copied(text);
+    let prefix = reader.bytes(directive, 1);
+    yaml_tag_directive_t { handle, prefix }
 }
 
-fn directives(alloc: Global, line: &Value) -> Result<Vec<yaml_tag_directive_t>, VectorError> {
+fn directives(alloc: Global, reader: &mut Reader, line: &Value) -> Vec<yaml_tag_directive_t> {
     let mut directives = Vec::new(alloc);
-    for listed in field::list(line, "directives")? {
-        directives.push(directive(alloc, listed)?)?;
+    for listed in reader.list(line, "directives") {
+        let directive = directive(reader, listed);
+        reader.push(&mut directives, directive);
     }
-    Ok(directives)
+    directives
 }
 
 // A document without nodes.
-fn empty_document(alloc: Global, line: &Value) -> Result<yaml_document_t, VectorError> {
-    let version = given::version(line.get("version"))?;
-    let start_implicit = field::flag(line, "start_implicit")?;
-    let end_implicit = field::flag(line, "end_implicit")?;
-    let directives = directives(alloc, line)?;
-    Ok(yaml_document_initialize(
+fn empty_document(
+    alloc: Global,
+    reader: &mut Reader,
+    line: &Value,
+) -> Result<yaml_document_t, yaml_text_fault_t> {
+    let version = given::version(reader, line.get("version"));
+    let start_implicit = reader.flag(line, "start_implicit");
+    let end_implicit = reader.flag(line, "end_implicit");
+    let directives = directives(alloc, reader, line);
+    yaml_document_initialize(
         alloc,
         version,
         directives.as_slice(),
         start_implicit,
         end_implicit,
-    )?)
+    )
 }
 
+// Adds a scalar.
 fn add_scalar(
-    alloc: Global,
     document: &mut yaml_document_t,
+    reader: &mut Reader,
     tag: Option<&[u8]>,
     node: &Value,
-) -> Result<(), VectorError> {
-    let style = style::scalar(field::text(node, 3)?)?;
-    let value = field::bytes(alloc, node, 2)?;
-    yaml_document_add_scalar(document, tag, value.as_slice(), style)?;
-    Ok(())
+) {
+    let style = style::scalar(reader, node, 3);
+    let value = reader.bytes(node, 2);
+    match yaml_document_add_scalar(document, tag, value.as_slice(), style) {
+        Ok(_) => {}
+        Err(fault) => reader.refuse(VectorError::from(fault)),
+    }
 }
 
 fn add_sequence(
     document: &mut yaml_document_t,
+    reader: &mut Reader,
     tag: Option<&[u8]>,
     node: &Value,
-) -> Result<(), VectorError> {
-    let style = style::sequence(field::text(node, 3)?)?;
-    yaml_document_add_sequence(document, tag, style)?;
-    Ok(())
+) {
+    let style = style::sequence(reader, node, 3);
+    match yaml_document_add_sequence(document, tag, style) {
+        Ok(_) => {}
+        Err(fault) => reader.refuse(VectorError::from(fault)),
+    }
 }
 
 fn add_mapping(
     document: &mut yaml_document_t,
+    reader: &mut Reader,
     tag: Option<&[u8]>,
     node: &Value,
-) -> Result<(), VectorError> {
-    let style = style::mapping(field::text(node, 3)?)?;
-    yaml_document_add_mapping(document, tag, style)?;
-    Ok(())
+) {
+    let style = style::mapping(reader, node, 3);
+    match yaml_document_add_mapping(document, tag, style) {
+        Ok(_) => {}
+        Err(fault) => reader.refuse(VectorError::from(fault)),
+    }
 }
 
-// Adds a node, whose tag may be null; a collection without what it holds.
-fn add_node(
-    alloc: Global,
-    document: &mut yaml_document_t,
-    node: &Value,
-) -> Result<(), VectorError> {
-    let tag = field::optional_bytes(alloc, node, 1)?;
-    match field::text(node, 0)? {
-        "scalar" => add_scalar(alloc, document, tag.as_deref(), node),
-        "sequence" => add_sequence(document, tag.as_deref(), node),
-        "mapping" => add_mapping(document, tag.as_deref(), node),
-        _ => Err(VectorError::Field("nodes")),
+// Adds a node with that tag, if any; a collection without what it holds.
+fn add(document: &mut yaml_document_t, reader: &mut Reader, tag: Option<&[u8]>, node: &Value) {
+    match reader.text(node, 0) {
+        "scalar" => add_scalar(document, reader, tag, node),
+        "sequence" => add_sequence(document, reader, tag, node),
+        "mapping" => add_mapping(document, reader, tag, node),
+        _ => reader.miss("nodes"),
     }
+}
+
+// The same with the tag that the node has, which may be null.
+fn add_node(document: &mut yaml_document_t, reader: &mut Reader, node: &Value) {
+    let tag = reader.optional_bytes(node, 1);
+    add(document, reader, tag.as_deref(), node);
 }
 
 fn is_sequence(document: &yaml_document_t, id: i32) -> bool
@@ -113,94 +130,95 @@ fn is_node(document: &yaml_document_t, id: i32) -> bool
     yaml_document_get_node(document, id).is_some()
 }
 
-// Refused where the test fails.
-fn check(test: bool) -> Result<(), VectorError>
-    ensures { OnOk result (IsTrue test) }
-{
-    if test {
-        Ok(())
+// Appends an item to a sequence.
+fn append_item(document: &mut yaml_document_t, reader: &mut Reader, id: i32, item: i32) {
+    if is_sequence(document, id) && is_node(document, item) {
+        if yaml_document_append_sequence_item(document, id, item).is_err() {
+            reader.refuse(VectorError::Memory);
+        }
     } else {
-        Err(VectorError::Field("nodes"))
+        reader.miss("nodes");
     }
 }
 
-fn append_item(document: &mut yaml_document_t, id: i32, item: i32) -> Result<(), VectorError> {
-    check(is_sequence(document, id))?;
-    check(is_node(document, item))?;
-    yaml_document_append_sequence_item(document, id, item)?;
-    Ok(())
+fn are_nodes(document: &yaml_document_t, key: i32, value: i32) -> bool
+    ensures { IsTrue result → IsSome (node_at document.now.nodes key)
+        × IsSome (node_at document.now.nodes value) }
+{
+    is_node(document, key) && is_node(document, value)
 }
 
-fn append_pair(
-    document: &mut yaml_document_t,
-    id: i32,
-    key: i32,
-    value: i32,
-) -> Result<(), VectorError> {
-    check(is_mapping(document, id))?;
-    check(is_node(document, key))?;
-    check(is_node(document, value))?;
-    yaml_document_append_mapping_pair(document, id, key, value)?;
-    Ok(())
+// Appends a pair to a mapping.
+fn append_pair(document: &mut yaml_document_t, reader: &mut Reader, id: i32, key: i32, value: i32) {
+    if is_mapping(document, id) && are_nodes(document, key, value) {
+        if yaml_document_append_mapping_pair(document, id, key, value).is_err() {
+            reader.refuse(VectorError::Memory);
+        }
+    } else {
+        reader.miss("nodes");
+    }
 }
 
-fn append_items(
-    document: &mut yaml_document_t,
-    id: i32,
-    items: &[Value],
-) -> Result<(), VectorError> {
+fn append_items(document: &mut yaml_document_t, reader: &mut Reader, id: i32, items: &[Value]) {
     for item in items {
-        let item = field::small(item).ok_or(VectorError::Field("nodes"))?;
-        append_item(document, id, item)?;
+        let item = reader.whole(item);
+        append_item(document, reader, id, item);
     }
-    Ok(())
 }
 
-fn append_pairs(
-    document: &mut yaml_document_t,
-    id: i32,
-    pairs: &[Value],
-) -> Result<(), VectorError> {
+fn append_pairs(document: &mut yaml_document_t, reader: &mut Reader, id: i32, pairs: &[Value]) {
     for pair in pairs {
-        let key = field::number(pair, 0)?;
-        append_pair(document, id, key, field::number(pair, 1)?)?;
+        let key = reader.number(pair, 0);
+        let value = reader.number(pair, 1);
+        append_pair(document, reader, id, key, value);
     }
-    Ok(())
+}
+
+fn fill_sequence(document: &mut yaml_document_t, reader: &mut Reader, id: i32, node: &Value) {
+    let items = reader.list(node, 2);
+    append_items(document, reader, id, items);
+}
+
+fn fill_mapping(document: &mut yaml_document_t, reader: &mut Reader, id: i32, node: &Value) {
+    let pairs = reader.list(node, 2);
+    append_pairs(document, reader, id, pairs);
 }
 
 // Adds what the node of that number holds.
-fn fill(document: &mut yaml_document_t, id: i32, node: &Value) -> Result<(), VectorError> {
-    match field::text(node, 0)? {
-        "sequence" => append_items(document, id, field::list(node, 2)?),
-        "mapping" => append_pairs(document, id, field::list(node, 2)?),
-        _ => Ok(()),
+fn fill(document: &mut yaml_document_t, reader: &mut Reader, id: i32, node: &Value) {
+    match reader.text(node, 0) {
+        "sequence" => fill_sequence(document, reader, id, node),
+        "mapping" => fill_mapping(document, reader, id, node),
+        _ => {}
     }
 }
 
-fn add_all(
-    alloc: Global,
-    document: &mut yaml_document_t,
-    fields: &Value,
-) -> Result<(), VectorError> {
-    for node in field::list(fields, "nodes")? {
-        add_node(alloc, document, node)?;
+// Adds all nodes, and then what they hold.
+fn fill_all(document: &mut yaml_document_t, reader: &mut Reader, fields: &Value) {
+    let nodes = reader.list(fields, "nodes");
+    for node in nodes {
+        add_node(document, reader, node);
     }
-    Ok(())
-}
-
-fn fill_all(document: &mut yaml_document_t, fields: &Value) -> Result<(), VectorError> {
     let mut id = 1i32;
-    for node in field::list(fields, "nodes")? {
-        fill(document, id, node)?;
+    for node in nodes {
+        fill(document, reader, id, node);
         id = id.saturating_add(1);
     }
-    Ok(())
+}
+
+fn filled(
+    alloc: Global,
+    reader: &mut Reader,
+    fields: &Value,
+) -> Result<yaml_document_t, VectorError> {
+    let mut document = empty_document(alloc, reader, fields)?;
+    fill_all(&mut document, reader, fields);
+    Ok(document)
 }
 
 /// The document that the fields describe.
 pub fn document_of(alloc: Global, fields: &Value) -> Result<yaml_document_t, VectorError> {
-    let mut document = empty_document(alloc, fields)?;
-    add_all(alloc, &mut document, fields)?;
-    fill_all(&mut document, fields)?;
-    Ok(document)
+    let mut reader = Reader::new(alloc);
+    let document = filled(alloc, &mut reader, fields);
+    reader.finish(document)
 }

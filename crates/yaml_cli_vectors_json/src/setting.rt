@@ -1,6 +1,6 @@
 //! The settings that a line says.
 
-use crate::{VectorError, field};
+use crate::Reader;
 use serde_json::Value;
 use yaml_scan::{yaml_break_t, yaml_encoding_t};
 
@@ -23,26 +23,34 @@ pub struct Settings {
 }
 
 // How lines end, by that word.
-fn line_break(word: &str) -> Result<yaml_break_t, VectorError> {
+fn line_break(word: &str) -> Option<yaml_break_t> {
     match word {
-        "any" => Ok(yaml_break_t::YAML_ANY_BREAK),
-        "cr" => Ok(yaml_break_t::YAML_CR_BREAK),
-        "lf" => Ok(yaml_break_t::YAML_LN_BREAK),
-        "crlf" => Ok(yaml_break_t::YAML_CRLN_BREAK),
-        _ => Err(VectorError::Field("break")),
+        "any" => Some(yaml_break_t::YAML_ANY_BREAK),
+        "cr" => Some(yaml_break_t::YAML_CR_BREAK),
+        "lf" => Some(yaml_break_t::YAML_LN_BREAK),
+        "crlf" => Some(yaml_break_t::YAML_CRLN_BREAK),
+        _ => None,
     }
 }
 
 /// The field `settings` of the line.
-pub fn settings_of(line: &Value) -> Result<Settings, VectorError> {
-    let fields = field::value(line, "settings")?;
-    Ok(Settings {
-        encoding: field::encoding(fields, "encoding")?,
-        canonical: field::flag(fields, "canonical")?,
-        indent: field::number(fields, "indent")?,
-        width: field::number(fields, "width")?,
-        unicode: field::flag(fields, "unicode")?,
-        line_break: line_break(field::text(fields, "break")?)?,
-        limit: field::count(fields, "limit")?,
-    })
+pub fn settings_of(reader: &mut Reader, line: &Value) -> Settings {
+    let fields = reader.value(line, "settings");
+    let encoding = reader.encoding(fields, "encoding");
+    let canonical = reader.flag(fields, "canonical");
+    let indent = reader.number(fields, "indent");
+    let width = reader.number(fields, "width");
+    let unicode = reader.flag(fields, "unicode");
+    let word = reader.text(fields, "break");
+    let line_break = reader.take(line_break(word), "break", yaml_break_t::YAML_ANY_BREAK);
+    let limit = reader.count(fields, "limit");
+    Settings {
+        encoding,
+        canonical,
+        indent,
+        width,
+        unicode,
+        line_break,
+        limit,
+    }
 }

@@ -1,59 +1,37 @@
 //! What a call answered, as the lines write it.
 
 use crate::VectorError;
-use serde_json::{Map, Value, put};
-use std::alloc::{AllocError, Global};
+use crate::parts::{Fields, Items};
+use serde_json::Value;
+use std::alloc::Global;
 use std::str;
 use yaml_scan::{yaml_encoding_t, yaml_fault_t, yaml_mark_t, yaml_origin_t};
 
+/// A word.
+pub fn word(alloc: Global, word: &str) -> Result<Value, VectorError> {
+    Ok(Value::try_from_str(alloc, word)?)
+}
+
 /// Bytes, in hexadecimal digits.
-pub fn bytes(alloc: Global, bytes: &[u8]) -> Result<Value, AllocError> {
+pub fn bytes(alloc: Global, bytes: &[u8]) -> Result<Value, VectorError> {
     Ok(Value::String(hex::encode(alloc, bytes)?))
 }
 
 /// A text that is UTF-8.
 pub fn utf8(alloc: Global, text: &[u8]) -> Result<Value, VectorError> {
     match str::from_utf8(text) {
-        Ok(text) => Ok(Value::try_from_str(alloc, text)?),
+        Ok(text) => word(alloc, text),
         Err(_) => Err(VectorError::Field("text")),
     }
 }
 
 /// A mark: index, line, column.
-pub fn mark(alloc: Global, mark: yaml_mark_t) -> Result<Value, AllocError> {
-    Ok(Value::Array(vec![in alloc;
-        Value::from(mark.index),
-        Value::from(mark.line),
-        Value::from(mark.column),
-    ]?))
-}
-
-/// Adds a word behind the fields so far.
-pub fn push_word(
-    alloc: Global,
-    word: &'static str,
-    fields: &mut Vec<Value>,
-) -> Result<(), AllocError> {
-    fields.push(Value::try_from_str(alloc, word)?)?;
-    Ok(())
-}
-
-/// Adds bytes behind the fields so far.
-pub fn push_bytes(alloc: Global, text: &[u8], fields: &mut Vec<Value>) -> Result<(), AllocError> {
-    fields.push(bytes(alloc, text)?)?;
-    Ok(())
-}
-
-/// Adds where something starts and ends behind the fields so far.
-pub fn push_marks(
-    alloc: Global,
-    start: yaml_mark_t,
-    end: yaml_mark_t,
-    fields: &mut Vec<Value>,
-) -> Result<(), AllocError> {
-    fields.push(mark(alloc, start)?)?;
-    fields.push(mark(alloc, end)?)?;
-    Ok(())
+pub fn mark(alloc: Global, mark: yaml_mark_t) -> Result<Value, VectorError> {
+    let mut numbers = Items::new(alloc);
+    numbers.push(Value::from(mark.index));
+    numbers.push(Value::from(mark.line));
+    numbers.push(Value::from(mark.column));
+    numbers.end()
 }
 
 /// An encoding: any, utf8, utf16le or utf16be.
@@ -78,63 +56,62 @@ fn origin(origin: yaml_origin_t) -> &'static str {
     }
 }
 
-// What is wrong, and where.
-fn put_problem(
-    alloc: Global,
-    fault: &yaml_fault_t,
-    fields: &mut Map<String, Value>,
-) -> Result<(), AllocError> {
-    put(fields, alloc, "kind", Value::from(fault.kind as u64))?;
-    let problem = Value::try_from_str(alloc, fault.problem)?;
-    put(fields, alloc, "problem", problem)?;
-    put(fields, alloc, "offset", Value::from(fault.offset))?;
-    put(fields, alloc, "value", Value::from(fault.value))?;
-    let problem_mark = mark(alloc, fault.problem_mark)?;
-    put(fields, alloc, "problem_mark", problem_mark)
-}
-
-fn context(alloc: Global, fault: &yaml_fault_t) -> Result<Value, AllocError> {
-    match fault.context {
-        Some(text) => Value::try_from_str(alloc, text),
+fn context(alloc: Global, context: Option<&'static str>) -> Result<Value, VectorError> {
+    match context {
+        Some(text) => word(alloc, text),
         None => Ok(Value::Null),
     }
 }
 
+// What is wrong, and where.
+fn add_problem(fault: &yaml_fault_t, fields: &mut Fields) {
+    fields.put("kind", Value::from(fault.kind as u64));
+    fields.add_word("problem", fault.problem);
+    fields.put("offset", Value::from(fault.offset));
+    fields.put("value", Value::from(fault.value));
+    fields.add_mark("problem_mark", fault.problem_mark);
+}
+
 // What was being read, and who refused it.
-fn put_context(
-    alloc: Global,
-    fault: &yaml_fault_t,
-    fields: &mut Map<String, Value>,
-) -> Result<(), AllocError> {
-    let context = context(alloc, fault)?;
-    put(fields, alloc, "context", context)?;
-    let context_mark = mark(alloc, fault.context_mark)?;
-    put(fields, alloc, "context_mark", context_mark)?;
-    let origin = Value::try_from_str(alloc, origin(fault.origin))?;
-    put(fields, alloc, "origin", origin)
+fn add_context(alloc: Global, fault: &yaml_fault_t, fields: &mut Fields) {
+    fields.add("context", context(alloc, fault.context));
+    fields.add_mark("context_mark", fault.context_mark);
+    fields.add_word("origin", origin(fault.origin));
+}
+
+/// The fields of a fault.
+pub fn fault_fields(alloc: Global, fault: &yaml_fault_t) -> Fields {
+    let mut fields = Fields::new(alloc);
+    add_problem(fault, &mut fields);
+    add_context(alloc, fault, &mut fields);
+    fields
 }
 
 /// A fault, with all its fields.
-pub fn fault(alloc: Global, fault: &yaml_fault_t) -> Result<Value, AllocError> {
-    let mut fields = Map::new(alloc);
-    put_problem(alloc, fault, &mut fields)?;
-    put_context(alloc, fault, &mut fields)?;
-    Ok(Value::Object(fields))
+pub fn fault(alloc: Global, fault: &yaml_fault_t) -> Result<Value, VectorError> {
+    fault_fields(alloc, fault).end()
 }
 
 /// A list of two.
-pub fn pair(alloc: Global, first: Value, second: Value) -> Result<Value, AllocError> {
-    Ok(Value::Array(vec![in alloc; first, second]?))
+pub fn pair(
+    alloc: Global,
+    first: Result<Value, VectorError>,
+    second: Result<Value, VectorError>,
+) -> Result<Value, VectorError> {
+    let mut pair = Items::new(alloc);
+    pair.add(first);
+    pair.add(second);
+    pair.end()
 }
 
 /// An answer that has no other field.
-pub fn answer(alloc: Global, answer: Value) -> Result<Value, AllocError> {
-    let mut fields = Map::new(alloc);
-    put(&mut fields, alloc, "answer", answer)?;
-    Ok(Value::Object(fields))
+pub fn answer(alloc: Global, answer: Result<Value, VectorError>) -> Result<Value, VectorError> {
+    let mut fields = Fields::new(alloc);
+    fields.add("answer", answer);
+    fields.end()
 }
 
 /// That answer where it is a text.
-pub fn text_answer(alloc: Global, text: &[u8]) -> Result<Value, AllocError> {
-    answer(alloc, bytes(alloc, text)?)
+pub fn text_answer(alloc: Global, text: &[u8]) -> Result<Value, VectorError> {
+    answer(alloc, bytes(alloc, text))
 }

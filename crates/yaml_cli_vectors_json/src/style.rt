@@ -1,6 +1,7 @@
 //! The words of styles.
 
-use crate::VectorError;
+use crate::Reader;
+use serde_json::Value;
 use yaml_scan::{yaml_mapping_style_t, yaml_scalar_style_t, yaml_sequence_style_t};
 
 /// The word of a scalar's style.
@@ -15,17 +16,22 @@ pub fn scalar_word(style: yaml_scalar_style_t) -> &'static str {
     }
 }
 
-/// The scalar's style of that word.
-pub fn scalar(word: &str) -> Result<yaml_scalar_style_t, VectorError> {
+fn scalar_of(word: &str) -> Option<yaml_scalar_style_t> {
     match word {
-        "any" => Ok(yaml_scalar_style_t::YAML_ANY_SCALAR_STYLE),
-        "plain" => Ok(yaml_scalar_style_t::YAML_PLAIN_SCALAR_STYLE),
-        "single" => Ok(yaml_scalar_style_t::YAML_SINGLE_QUOTED_SCALAR_STYLE),
-        "double" => Ok(yaml_scalar_style_t::YAML_DOUBLE_QUOTED_SCALAR_STYLE),
-        "literal" => Ok(yaml_scalar_style_t::YAML_LITERAL_SCALAR_STYLE),
-        "folded" => Ok(yaml_scalar_style_t::YAML_FOLDED_SCALAR_STYLE),
-        _ => Err(VectorError::Field("style")),
+        "any" => Some(yaml_scalar_style_t::YAML_ANY_SCALAR_STYLE),
+        "plain" => Some(yaml_scalar_style_t::YAML_PLAIN_SCALAR_STYLE),
+        "single" => Some(yaml_scalar_style_t::YAML_SINGLE_QUOTED_SCALAR_STYLE),
+        "double" => Some(yaml_scalar_style_t::YAML_DOUBLE_QUOTED_SCALAR_STYLE),
+        "literal" => Some(yaml_scalar_style_t::YAML_LITERAL_SCALAR_STYLE),
+        "folded" => Some(yaml_scalar_style_t::YAML_FOLDED_SCALAR_STYLE),
+        _ => None,
     }
+}
+
+/// The scalar's style there.
+pub fn scalar(reader: &mut Reader, line: &Value, place: usize) -> yaml_scalar_style_t {
+    let style = scalar_of(reader.text(line, place));
+    reader.take(style, "style", yaml_scalar_style_t::YAML_ANY_SCALAR_STYLE)
 }
 
 /// The word of a sequence's style.
@@ -37,14 +43,23 @@ pub fn sequence_word(style: yaml_sequence_style_t) -> &'static str {
     }
 }
 
-/// The sequence's style of that word.
-pub fn sequence(word: &str) -> Result<yaml_sequence_style_t, VectorError> {
+fn sequence_of(word: &str) -> Option<yaml_sequence_style_t> {
     match word {
-        "any" => Ok(yaml_sequence_style_t::YAML_ANY_SEQUENCE_STYLE),
-        "block" => Ok(yaml_sequence_style_t::YAML_BLOCK_SEQUENCE_STYLE),
-        "flow" => Ok(yaml_sequence_style_t::YAML_FLOW_SEQUENCE_STYLE),
-        _ => Err(VectorError::Field("style")),
+        "any" => Some(yaml_sequence_style_t::YAML_ANY_SEQUENCE_STYLE),
+        "block" => Some(yaml_sequence_style_t::YAML_BLOCK_SEQUENCE_STYLE),
+        "flow" => Some(yaml_sequence_style_t::YAML_FLOW_SEQUENCE_STYLE),
+        _ => None,
     }
+}
+
+/// The sequence's style there.
+pub fn sequence(reader: &mut Reader, line: &Value, place: usize) -> yaml_sequence_style_t {
+    let style = sequence_of(reader.text(line, place));
+    reader.take(
+        style,
+        "style",
+        yaml_sequence_style_t::YAML_ANY_SEQUENCE_STYLE,
+    )
 }
 
 /// The word of a mapping's style.
@@ -56,12 +71,17 @@ pub fn mapping_word(style: yaml_mapping_style_t) -> &'static str {
     }
 }
 
-/// The mapping's style of that word.
-pub fn mapping(word: &str) -> Result<yaml_mapping_style_t, VectorError> {
+fn mapping_of(word: &str) -> Option<yaml_mapping_style_t> {
     match word {
-        "any" => Ok(yaml_mapping_style_t::YAML_ANY_MAPPING_STYLE),
-        "block" => Ok(yaml_mapping_style_t::YAML_BLOCK_MAPPING_STYLE),
-        "flow" => Ok(yaml_mapping_style_t::YAML_FLOW_MAPPING_STYLE),
-        _ => Err(VectorError::Field("style")),
+        "any" => Some(yaml_mapping_style_t::YAML_ANY_MAPPING_STYLE),
+        "block" => Some(yaml_mapping_style_t::YAML_BLOCK_MAPPING_STYLE),
+        "flow" => Some(yaml_mapping_style_t::YAML_FLOW_MAPPING_STYLE),
+        _ => None,
     }
+}
+
+/// The mapping's style there.
+pub fn mapping(reader: &mut Reader, line: &Value, place: usize) -> yaml_mapping_style_t {
+    let style = mapping_of(reader.text(line, place));
+    reader.take(style, "style", yaml_mapping_style_t::YAML_ANY_MAPPING_STYLE)
 }

@@ -1,8 +1,9 @@
 //! Tokens, as the lines write them: kind, start mark, end mark, and what the token carries.
 
-use crate::{VectorError, field, shown, style};
+use crate::parts::Items;
+use crate::{Reader, VectorError, shown, style};
 use serde_json::Value;
-use std::alloc::{AllocError, Global};
+use std::alloc::Global;
 use yaml_scan::{yaml_token_body_t, yaml_token_t};
 
 fn word(body: &yaml_token_body_t) -> &'static str {
@@ -32,45 +33,27 @@ fn word(body: &yaml_token_body_t) -> &'static str {
     }
 }
 
-fn push_numbers(major: i32, minor: i32, fields: &mut Vec<Value>) -> Result<(), AllocError> {
-    fields.push(Value::from(major))?;
-    fields.push(Value::from(minor))?;
-    Ok(())
+// A version's numbers.
+fn add_numbers(items: &mut Items, major: i32, minor: i32) {
+    items.push(Value::from(major));
+    items.push(Value::from(minor));
 }
 
-fn push_texts(
-    alloc: Global,
-    first: &[u8],
-    second: &[u8],
-    fields: &mut Vec<Value>,
-) -> Result<(), AllocError> {
-    shown::push_bytes(alloc, first, fields)?;
-    shown::push_bytes(alloc, second, fields)
+fn add_texts(items: &mut Items, first: &[u8], second: &[u8]) {
+    items.add_bytes(first);
+    items.add_bytes(second);
 }
 
-fn push_scalar(
-    alloc: Global,
-    value: &[u8],
-    style: &'static str,
-    fields: &mut Vec<Value>,
-) -> Result<(), AllocError> {
-    shown::push_bytes(alloc, value, fields)?;
-    shown::push_word(alloc, style, fields)
+fn add_scalar(items: &mut Items, value: &[u8], style: &'static str) {
+    items.add_bytes(value);
+    items.add_word(style);
 }
 
-// What the token carries, behind the fields so far.
-fn push_carried(
-    alloc: Global,
-    body: &yaml_token_body_t,
-    fields: &mut Vec<Value>,
-) -> Result<(), AllocError> {
+// Adds what the token carries.
+fn add_carried(items: &mut Items, body: &yaml_token_body_t) {
     match body {
-        yaml_token_body_t::StreamStart { encoding } => {
-            shown::push_word(alloc, shown::encoding(*encoding), fields)
-        }
-        yaml_token_body_t::VersionDirective { major, minor } => {
-            push_numbers(*major, *minor, fields)
-        }
+        yaml_token_body_t::StreamStart { encoding } => items.add_word(shown::encoding(*encoding)),
+        yaml_token_body_t::VersionDirective { major, minor } => add_numbers(items, *major, *minor),
         yaml_token_body_t::TagDirective {
             handle: first,
             prefix: second,
@@ -78,106 +61,113 @@ fn push_carried(
         | yaml_token_body_t::Tag {
             handle: first,
             suffix: second,
-        } => push_texts(alloc, first.as_slice(), second.as_slice(), fields),
+        } => add_texts(items, first.as_slice(), second.as_slice()),
         yaml_token_body_t::Alias { value } | yaml_token_body_t::Anchor { value } => {
-            shown::push_bytes(alloc, value.as_slice(), fields)
+            items.add_bytes(value.as_slice())
         }
         yaml_token_body_t::Scalar { value, style } => {
-            push_scalar(alloc, value.as_slice(), style::scalar_word(*style), fields)
+            add_scalar(items, value.as_slice(), style::scalar_word(*style))
         }
-        _ => Ok(()),
+        _ => {}
     }
-}
-
-// The token's fields, behind those so far.
-fn push_token(
-    alloc: Global,
-    token: &yaml_token_t,
-    fields: &mut Vec<Value>,
-) -> Result<(), AllocError> {
-    shown::push_word(alloc, word(&token.body), fields)?;
-    shown::push_marks(alloc, token.start_mark, token.end_mark, fields)?;
-    push_carried(alloc, &token.body, fields)
 }
 
 /// The token as the lines write it.
-pub fn shown_token(alloc: Global, token: &yaml_token_t) -> Result<Value, AllocError> {
-    let mut fields = Vec::new(alloc);
-    push_token(alloc, token, &mut fields)?;
-    Ok(Value::Array(fields))
+pub fn shown_token(alloc: Global, token: &yaml_token_t) -> Result<Value, VectorError> {
+    let mut items = Items::new(alloc);
+    items.add_word(word(&token.body));
+    items.add_marks(token.start_mark, token.end_mark);
+    add_carried(&mut items, &token.body);
+    items.end()
 }
 
-fn block_body(word: &str) -> Result<yaml_token_body_t, VectorError> {
+fn block_body(reader: &mut Reader, word: &str) -> yaml_token_body_t {
     match word {
-        "BLOCK-SEQUENCE-START" => Ok(yaml_token_body_t::BlockSequenceStart),
-        "BLOCK-MAPPING-START" => Ok(yaml_token_body_t::BlockMappingStart),
-        "BLOCK-END" => Ok(yaml_token_body_t::BlockEnd),
-        "BLOCK-ENTRY" => Ok(yaml_token_body_t::BlockEntry),
-        _ => Err(VectorError::Field("token")),
+        "BLOCK-SEQUENCE-START" => yaml_token_body_t::BlockSequenceStart,
+        "BLOCK-MAPPING-START" => yaml_token_body_t::BlockMappingStart,
+        "BLOCK-END" => yaml_token_body_t::BlockEnd,
+        "BLOCK-ENTRY" => yaml_token_body_t::BlockEntry,
+        _ => {
+            reader.miss("token");
+            yaml_token_body_t::No
+        }
     }
 }
 
-fn flow_body(word: &str) -> Result<yaml_token_body_t, VectorError> {
+fn flow_body(reader: &mut Reader, word: &str) -> yaml_token_body_t {
     match word {
-        "FLOW-SEQUENCE-START" => Ok(yaml_token_body_t::FlowSequenceStart),
-        "FLOW-SEQUENCE-END" => Ok(yaml_token_body_t::FlowSequenceEnd),
-        "FLOW-MAPPING-START" => Ok(yaml_token_body_t::FlowMappingStart),
-        "FLOW-MAPPING-END" => Ok(yaml_token_body_t::FlowMappingEnd),
-        "FLOW-ENTRY" => Ok(yaml_token_body_t::FlowEntry),
-        _ => block_body(word),
+        "FLOW-SEQUENCE-START" => yaml_token_body_t::FlowSequenceStart,
+        "FLOW-SEQUENCE-END" => yaml_token_body_t::FlowSequenceEnd,
+        "FLOW-MAPPING-START" => yaml_token_body_t::FlowMappingStart,
+        "FLOW-MAPPING-END" => yaml_token_body_t::FlowMappingEnd,
+        "FLOW-ENTRY" => yaml_token_body_t::FlowEntry,
+        _ => block_body(reader, word),
     }
 }
 
 // The body of a token that carries nothing.
-fn plain_body(word: &str) -> Result<yaml_token_body_t, VectorError> {
+fn plain_body(reader: &mut Reader, word: &str) -> yaml_token_body_t {
     match word {
-        "STREAM-END" => Ok(yaml_token_body_t::StreamEnd),
-        "DOCUMENT-START" => Ok(yaml_token_body_t::DocumentStart),
-        "DOCUMENT-END" => Ok(yaml_token_body_t::DocumentEnd),
-        "KEY" => Ok(yaml_token_body_t::Key),
-        "VALUE" => Ok(yaml_token_body_t::Value),
-        _ => flow_body(word),
+        "STREAM-END" => yaml_token_body_t::StreamEnd,
+        "DOCUMENT-START" => yaml_token_body_t::DocumentStart,
+        "DOCUMENT-END" => yaml_token_body_t::DocumentEnd,
+        "KEY" => yaml_token_body_t::Key,
+        "VALUE" => yaml_token_body_t::Value,
+        _ => flow_body(reader, word),
     }
 }
 
-fn body(alloc: Global, word: &str, token: &Value) -> Result<yaml_token_body_t, VectorError> {
+fn version(reader: &mut Reader, token: &Value) -> yaml_token_body_t {
+    let major = reader.number(token, 3);
+    let minor = reader.number(token, 4);
+    yaml_token_body_t::VersionDirective { major, minor }
+}
+
+fn tag_directive(reader: &mut Reader, token: &Value) -> yaml_token_body_t {
+    let handle = reader.bytes(token, 3);
+    let prefix = reader.bytes(token, 4);
+    yaml_token_body_t::TagDirective { handle, prefix }
+}
+
+fn tag(reader: &mut Reader, token: &Value) -> yaml_token_body_t {
+    let handle = reader.bytes(token, 3);
+    let suffix = reader.bytes(token, 4);
+    yaml_token_body_t::Tag { handle, suffix }
+}
+
+fn scalar(reader: &mut Reader, token: &Value) -> yaml_token_body_t {
+    let value = reader.bytes(token, 3);
+    let style = style::scalar(reader, token, 4);
+    yaml_token_body_t::Scalar { value, style }
+}
+
+fn body(reader: &mut Reader, word: &str, token: &Value) -> yaml_token_body_t {
     match word {
-        "STREAM-START" => Ok(yaml_token_body_t::StreamStart {
-            encoding: field::encoding(token, 3)?,
-        }),
-        "VERSION-DIRECTIVE" => Ok(yaml_token_body_t::VersionDirective {
-            major: field::number(token, 3)?,
-            minor: field::number(token, 4)?,
-        }),
-        "TAG-DIRECTIVE" => Ok(yaml_token_body_t::TagDirective {
-            handle: field::bytes(alloc, token, 3)?,
-            prefix: field::bytes(alloc, token, 4)?,
-        }),
-        "ALIAS" => Ok(yaml_token_body_t::Alias {
-            value: field::bytes(alloc, token, 3)?,
-        }),
-        "ANCHOR" => Ok(yaml_token_body_t::Anchor {
-            value: field::bytes(alloc, token, 3)?,
-        }),
-        "TAG" => Ok(yaml_token_body_t::Tag {
-            handle: field::bytes(alloc, token, 3)?,
-            suffix: field::bytes(alloc, token, 4)?,
-        }),
-        "SCALAR" => Ok(yaml_token_body_t::Scalar {
-            value: field::bytes(alloc, token, 3)?,
-            style: style::scalar(field::text(token, 4)?)?,
-        }),
-        _ => plain_body(word),
+        "STREAM-START" => yaml_token_body_t::StreamStart {
+            encoding: reader.encoding(token, 3),
+        },
+        "VERSION-DIRECTIVE" => version(reader, token),
+        "TAG-DIRECTIVE" => tag_directive(reader, token),
+        "ALIAS" => yaml_token_body_t::Alias {
+            value: reader.bytes(token, 3),
+        },
+        "ANCHOR" => yaml_token_body_t::Anchor {
+            value: reader.bytes(token, 3),
+        },
+        "TAG" => tag(reader, token),
+        "SCALAR" => scalar(reader, token),
+        _ => plain_body(reader, word),
     }
 }
 
 /// The token that the lines write so.
-pub fn read_token(alloc: Global, token: &Value) -> Result<yaml_token_t, VectorError> {
-    let start_mark = field::mark(token, 1)?;
-    let end_mark = field::mark(token, 2)?;
-    Ok(yaml_token_t {
-        body: body(alloc, field::text(token, 0)?, token)?,
+pub fn read_token(reader: &mut Reader, token: &Value) -> yaml_token_t {
+    let word = reader.text(token, 0);
+    let start_mark = reader.mark(token, 1);
+    let end_mark = reader.mark(token, 2);
+    yaml_token_t {
+        body: body(reader, word, token),
         start_mark,
         end_mark,
-    })
+    }
 }

@@ -1,36 +1,23 @@
 //! Answers that are lists which a fault may end.
 
 use crate::parser::shown_fault;
-use serde_json::{Map, Value, put};
+use serde_json::Value;
 use std::alloc::Global;
-use yaml_cli_vectors_json::VectorError;
-
-// The fault that ended the list, where one did.
-fn put_end(
-    alloc: Global,
-    line: &Value,
-    end: Result<(), VectorError>,
-    fields: &mut Map<String, Value>,
-) -> Result<(), VectorError> {
-    match end {
-        Ok(()) => Ok(()),
-        Err(VectorError::Fault(fault)) => {
-            let fault = shown_fault(alloc, line, &fault)?;
-            Ok(put(fields, alloc, "fault", fault)?)
-        }
-        Err(error) => Err(error),
-    }
-}
+use yaml_cli_vectors_json::{Fields, Items, VectorError};
 
 /// The list, and behind it the fault that ended it where one did.
 pub fn ended(
     alloc: Global,
     line: &Value,
-    list: Vec<Value>,
+    list: Items,
     end: Result<(), VectorError>,
 ) -> Result<Value, VectorError> {
-    let mut fields = Map::new(alloc);
-    put(&mut fields, alloc, "answer", Value::Array(list))?;
-    put_end(alloc, line, end, &mut fields)?;
-    Ok(Value::Object(fields))
+    let mut fields = Fields::new(alloc);
+    fields.add("answer", list.end());
+    match end {
+        Ok(()) => {}
+        Err(VectorError::Fault(fault)) => fields.add("fault", shown_fault(alloc, line, &fault)),
+        Err(error) => fields.refuse(error),
+    }
+    fields.end()
 }

@@ -2,12 +2,14 @@
 //! parse and load; and parsers of a line's tokens.
 #![tactic(auto)]
 
+mod asked;
 pub mod decode;
 mod ended;
-pub mod load;
+mod load;
 pub mod next_tokens;
-pub mod parse;
+mod parse;
 mod parser;
 pub mod scan;
 
-pub use parser::{Reading, reading_of_input, reading_of_tokens, shown_fault};
+pub use asked::{Asked, parsed};
+pub use parser::{Reading, Source, reading_of, shown_fault};

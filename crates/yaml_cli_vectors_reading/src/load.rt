@@ -1,66 +1,56 @@
-//! The calls `load` and `load_tokens`.
+//! Documents that a parser gives.
 
 use crate::ended::ended;
-use crate::parser::{Reading, reading_of_input, reading_of_tokens};
+use crate::parser::Reading;
 use serde_json::Value;
 use std::alloc::Global;
-use yaml_cli_vectors_json::{VectorError, shown_document};
+use yaml_cli_vectors_json::{Items, VectorError, shown_document};
 use yaml_parse::{
     yaml_document_get_root_node, yaml_document_t, yaml_parser_between, yaml_parser_load,
 };
 
-// The document as the lines write it; `None` where it has no root, as what stands behind the last.
-fn shown_unless_empty(
-    alloc: Global,
-    document: &yaml_document_t,
-) -> Result<Option<Value>, VectorError> {
+// Adds the document, as the lines write it. False where it has no root, as what stands behind the last.
+fn add_unless_empty(alloc: Global, document: &yaml_document_t, documents: &mut Items) -> bool {
     if yaml_document_get_root_node(document).is_some() {
-        Ok(Some(shown_document(alloc, document)?))
+        documents.add(shown_document(alloc, document));
+        true
     } else {
-        Ok(None)
+        false
     }
 }
 
-// The next document; `None` behind the last.
-fn next(alloc: Global, reading: &mut Reading) -> Result<Option<Value>, VectorError> {
+// Adds the next document. False behind the last.
+fn add_next(
+    alloc: Global,
+    reading: &mut Reading,
+    documents: &mut Items,
+) -> Result<bool, VectorError> {
     if !yaml_parser_between(reading) {
-        return Ok(None);
+        return Ok(false);
     }
     let document = yaml_parser_load(reading)?;
-    let shown = shown_unless_empty(alloc, &document);
+    let is_some = add_unless_empty(alloc, &document, documents);
     drop(document);
-    shown
+    Ok(is_some)
 }
 
 // Adds the documents that the parser gives, up to the last or a fault.
-fn push_documents(
+fn add_documents(
     alloc: Global,
     reading: &mut Reading,
-    documents: &mut Vec<Value>,
+    documents: &mut Items,
 ) -> Result<(), VectorError> {
     for _ in 0..u64::MAX {
-        match next(alloc, reading)? {
-            Some(document) => documents.push(document)?,
-            None => break,
+        if !add_next(alloc, reading, documents)? {
+            break;
         }
     }
     Ok(())
 }
 
-fn documents(alloc: Global, line: &Value, reading: &mut Reading) -> Result<Value, VectorError> {
-    let mut documents = Vec::new(alloc);
-    let end = push_documents(alloc, reading, &mut documents);
+/// The documents that the parser gives, and the fault behind them where there is one.
+pub fn documents(alloc: Global, line: &Value, reading: &mut Reading) -> Result<Value, VectorError> {
+    let mut documents = Items::new(alloc);
+    let end = add_documents(alloc, reading, &mut documents);
     ended(alloc, line, documents, end)
-}
-
-/// The documents of the line's input, and the fault behind them where there is one.
-pub fn of_input(alloc: Global, line: &Value) -> Result<Value, VectorError> {
-    let mut reading = reading_of_input(alloc, line)?;
-    documents(alloc, line, &mut reading)
-}
-
-/// The documents of the line's tokens, and the fault behind them where there is one.
-pub fn of_tokens(alloc: Global, line: &Value) -> Result<Value, VectorError> {
-    let mut reading = reading_of_tokens(alloc, line)?;
-    documents(alloc, line, &mut reading)
 }

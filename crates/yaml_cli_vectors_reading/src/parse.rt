@@ -1,57 +1,44 @@
-//! The calls `parse` and `parse_tokens`.
+//! Events that a parser gives.
 
-use crate::parser::{Reading, reading_of_input, reading_of_tokens};
+use crate::parser::Reading;
 use serde_json::Value;
 use std::alloc::Global;
-use yaml_cli_vectors_json::{VectorError, shown, shown_event};
+use yaml_cli_vectors_json::{Items, VectorError, shown, shown_event};
 use yaml_parse::{yaml_event_t, yaml_event_type_t, yaml_parser_parse};
 
-// The event as the lines write it; `None` for the empty one.
-fn shown_unless_empty(alloc: Global, event: &yaml_event_t) -> Result<Option<Value>, VectorError> {
+// Adds the event, as the lines write it. False for the empty one.
+fn add_unless_empty(alloc: Global, event: &yaml_event_t, events: &mut Items) -> bool {
     if event.type_() == yaml_event_type_t::YAML_NO_EVENT {
-        Ok(None)
+        false
     } else {
-        Ok(Some(shown_event(alloc, event)?))
+        events.add(shown_event(alloc, event));
+        true
     }
 }
 
-// The next event; `None` behind the last.
-fn next(alloc: Global, reading: &mut Reading) -> Result<Option<Value>, VectorError> {
+// Adds the next event. False behind the last.
+fn add_next(alloc: Global, reading: &mut Reading, events: &mut Items) -> Result<bool, VectorError> {
     let event = yaml_parser_parse(reading)?;
-    let shown = shown_unless_empty(alloc, &event);
+    let is_some = add_unless_empty(alloc, &event, events);
     drop(event);
-    shown
+    Ok(is_some)
 }
 
 // Adds the events that the parser gives.
-fn push_events(
-    alloc: Global,
-    reading: &mut Reading,
-    events: &mut Vec<Value>,
-) -> Result<(), VectorError> {
+fn add_events(alloc: Global, reading: &mut Reading, events: &mut Items) -> Result<(), VectorError> {
     for _ in 0..u64::MAX {
-        match next(alloc, reading)? {
-            Some(event) => events.push(event)?,
-            None => break,
+        if !add_next(alloc, reading, events)? {
+            break;
         }
     }
     Ok(())
 }
 
-fn events(alloc: Global, reading: &mut Reading) -> Result<Value, VectorError> {
-    let mut events = Vec::new(alloc);
-    push_events(alloc, reading, &mut events)?;
-    Ok(shown::answer(alloc, Value::Array(events))?)
-}
-
-/// The events of the line's input.
-pub fn of_input(alloc: Global, line: &Value) -> Result<Value, VectorError> {
-    let mut reading = reading_of_input(alloc, line)?;
-    events(alloc, &mut reading)
-}
-
-/// The events of the line's tokens.
-pub fn of_tokens(alloc: Global, line: &Value) -> Result<Value, VectorError> {
-    let mut reading = reading_of_tokens(alloc, line)?;
-    events(alloc, &mut reading)
+/// The events that the parser gives.
+pub fn events(alloc: Global, reading: &mut Reading) -> Result<Value, VectorError> {
+    let mut events = Items::new(alloc);
+    match add_events(alloc, reading, &mut events) {
+        Ok(()) => shown::answer(alloc, events.end()),
+        Err(error) => Err(error),
+    }
 }

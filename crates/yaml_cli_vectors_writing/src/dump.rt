@@ -1,9 +1,8 @@
 //! The call `dump`.
 
-use crate::emitter::emitter_of;
 use serde_json::Value;
 use std::alloc::Global;
-use yaml_cli_vectors_json::{VectorError, document_of, field, shown};
+use yaml_cli_vectors_json::{Reader, VectorError, document_of, shown};
 use yaml_emit::{
     yaml_emitter_close, yaml_emitter_dump, yaml_emitter_open, yaml_emitter_opened,
     yaml_emitter_output, yaml_emitter_t,
@@ -31,27 +30,28 @@ fn write(emitter: &mut yaml_emitter_t, document: yaml_document_t) -> Result<(), 
     close(emitter)
 }
 
+fn listed(alloc: Global, line: &Value) -> Result<yaml_document_t, VectorError> {
+    let mut reader = Reader::new(alloc);
+    let fields = reader.value(line, "document");
+    reader.finish(document_of(alloc, fields))
+}
+
 fn write_listed(
     alloc: Global,
     line: &Value,
     emitter: &mut yaml_emitter_t,
 ) -> Result<(), VectorError> {
-    let document = document_of(alloc, field::value(line, "document")?)?;
+    let document = listed(alloc, line)?;
     Ok(write(emitter, document)?)
 }
 
-fn written(
+/// What open, dump and close write of the line's document.
+pub fn written(
     alloc: Global,
     line: &Value,
     emitter: &mut yaml_emitter_t,
 ) -> Result<Value, VectorError> {
     open(emitter)?;
     write_listed(alloc, line, emitter)?;
-    Ok(shown::text_answer(alloc, yaml_emitter_output(emitter))?)
-}
-
-/// What open, dump and close write of the line's document.
-pub fn answer(alloc: Global, line: &Value) -> Result<Value, VectorError> {
-    let mut emitter = emitter_of(alloc, line)?;
-    written(alloc, line, &mut emitter)
+    shown::text_answer(alloc, yaml_emitter_output(emitter))
 }

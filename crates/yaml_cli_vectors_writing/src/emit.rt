@@ -1,72 +1,65 @@
 //! The call `emit`.
 
-use crate::emitter::{emitter_of, flush};
+use crate::emitter::flush;
 use serde_json::Value;
 use std::alloc::Global;
 use yaml_cli_vectors_json::{VectorError, shown};
-use yaml_cli_vectors_reading::{Reading, reading_of_input};
+use yaml_cli_vectors_reading::{Reading, Source, reading_of};
 use yaml_emit::{yaml_emitter_emit_from, yaml_emitter_output, yaml_emitter_t};
 use yaml_parse::{yaml_event_t, yaml_event_type_t, yaml_event_utf8, yaml_parser_parse};
 
-// The events that the parser gives.
-fn push_events(reading: &mut Reading, events: &mut Vec<yaml_event_t>) -> Result<(), VectorError> {
-    for _ in 0..u64::MAX {
-        let event = yaml_parser_parse(reading)?;
-        if event.type_() == yaml_event_type_t::YAML_NO_EVENT {
-            break;
-        }
-        events.push(event)?;
-    }
-    Ok(())
-}
-
-// The events of the line's input.
-fn push_of(alloc: Global, line: &Value, events: &mut Vec<yaml_event_t>) -> Result<(), VectorError> {
-    let mut reading = reading_of_input(alloc, line)?;
-    push_events(&mut reading, events)
-}
-
-// Gives the event from where it stands.
-fn give_from(emitter: &mut yaml_emitter_t, event: &mut yaml_event_t) -> Result<(), VectorError> {
-    if yaml_event_utf8(event) {
+// Gives the event from where it stands. False for the empty one.
+fn give_from(emitter: &mut yaml_emitter_t, event: &mut yaml_event_t) -> Result<bool, VectorError> {
+    if event.type_() == yaml_event_type_t::YAML_NO_EVENT {
+        Ok(false)
+    } else if yaml_event_utf8(event) {
         yaml_emitter_emit_from(emitter, event);
-        Ok(())
+        Ok(true)
     } else {
         Err(VectorError::Field("input"))
     }
 }
 
-fn give_all(emitter: &mut yaml_emitter_t, events: &mut [yaml_event_t]) -> Result<(), VectorError> {
-    for event in events.iter_mut() {
-        give_from(emitter, event)?;
+// Gives the parser's next event. False behind the last.
+fn give_next(reading: &mut Reading, emitter: &mut yaml_emitter_t) -> Result<bool, VectorError> {
+    let mut event = yaml_parser_parse(reading)?;
+    let is_given = give_from(emitter, &mut event);
+    drop(event);
+    is_given
+}
+
+fn give_all(reading: &mut Reading, emitter: &mut yaml_emitter_t) -> Result<(), VectorError> {
+    for _ in 0..u64::MAX {
+        if !give_next(reading, emitter)? {
+            break;
+        }
     }
+    Ok(())
+}
+
+// Gives the events of the line's input. What is refused of them is answered by the flush.
+fn give_input(
+    alloc: Global,
+    line: &Value,
+    emitter: &mut yaml_emitter_t,
+) -> Result<(), VectorError> {
+    let mut reading = reading_of(alloc, line, Source::Input)?;
+    give_all(&mut reading, emitter)
+}
+
+fn text(alloc: Global, emitter: &mut yaml_emitter_t) -> Result<Value, VectorError> {
     match flush(emitter) {
-        None => Ok(()),
+        None => shown::text_answer(alloc, yaml_emitter_output(emitter)),
         Some(fault) => Err(VectorError::Fault(fault)),
     }
 }
 
-fn written(
-    alloc: Global,
-    emitter: &mut yaml_emitter_t,
-    events: &mut [yaml_event_t],
-) -> Result<Value, VectorError> {
-    give_all(emitter, events)?;
-    Ok(shown::text_answer(alloc, yaml_emitter_output(emitter))?)
-}
-
-fn answer_of(
+/// What the emitter writes of the events of the line's input, as they are.
+pub fn written(
     alloc: Global,
     line: &Value,
-    events: &mut [yaml_event_t],
+    emitter: &mut yaml_emitter_t,
 ) -> Result<Value, VectorError> {
-    let mut emitter = emitter_of(alloc, line)?;
-    written(alloc, &mut emitter, events)
-}
-
-/// What the emitter writes of the events of the line's input, as they are.
-pub fn answer(alloc: Global, line: &Value) -> Result<Value, VectorError> {
-    let mut events = Vec::new(alloc);
-    push_of(alloc, line, &mut events)?;
-    answer_of(alloc, line, events.as_mut_slice())
+    give_input(alloc, line, emitter)?;
+    text(alloc, emitter)
 }

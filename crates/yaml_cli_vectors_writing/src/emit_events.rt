@@ -1,157 +1,131 @@
 //! The call `emit_events`.
 
 use crate::course::Course;
-use crate::emitter::{emitter_of, flush, give_listed};
-use crate::flushed::push_flushes;
-use serde_json::{Map, Value, put};
+use crate::emitter::{flush, give_listed};
+use crate::flushed::add_flushes;
+use serde_json::Value;
 use std::alloc::Global;
-use yaml_cli_vectors_json::{VectorError, field, shown};
+use yaml_cli_vectors_json::{Fields, Items, Reader, VectorError, shown};
 use yaml_emit::{yaml_emitter_output, yaml_emitter_t};
 use yaml_scan::{yaml_error_type_t, yaml_fault_t};
 
-fn give_next(
+// Flushes in mid-stream where the line has one and no fault has come.
+fn flush_right(
     alloc: Global,
-    listed: &Value,
+    line: &Value,
+    reader: &mut Reader,
     emitter: &mut yaml_emitter_t,
-    course: &mut Course,
-) -> Result<(), VectorError> {
-    let fault = give_listed(alloc, emitter, listed)?;
-    course.take(fault, yaml_emitter_output(emitter).len());
-    Ok(())
+    course: &Course,
+    flushes: &mut Items,
+) {
+    if course.fault.is_none() {
+        add_flushes(alloc, line, reader, course.number, emitter, flushes);
+    }
 }
 
-// Gives the events, with a flush in mid-stream where the line has one and no fault has come.
+// Gives the events, with the flushes in mid-stream.
 fn give_all(
     alloc: Global,
     line: &Value,
+    reader: &mut Reader,
     emitter: &mut yaml_emitter_t,
     course: &mut Course,
-    flushes: &mut Vec<Value>,
-) -> Result<(), VectorError> {
-    for listed in field::list(line, "events")? {
-        give_next(alloc, listed, emitter, course)?;
-        if course.fault.is_none() {
-            push_flushes(alloc, line, course.number, emitter, flushes)?;
-        }
+    flushes: &mut Items,
+) {
+    for listed in reader.list(line, "events") {
+        give_listed(alloc, listed, reader, emitter, course);
+        flush_right(alloc, line, reader, emitter, course, flushes);
     }
-    Ok(())
-}
-
-// The same, and what the flushes showed.
-fn put_flushes(
-    alloc: Global,
-    line: &Value,
-    emitter: &mut yaml_emitter_t,
-    course: &mut Course,
-    fields: &mut Map<String, Value>,
-) -> Result<(), VectorError> {
-    let mut flushes = Vec::new(alloc);
-    give_all(alloc, line, emitter, course, &mut flushes)?;
-    put(fields, alloc, "flushed", Value::Array(flushes))?;
-    Ok(())
 }
 
 // Whether the last event that the line lists is the stream's end.
-fn is_whole(line: &Value) -> Result<bool, VectorError> {
-    match field::list(line, "events")?.last() {
-        Some(event) => Ok(field::text(event, 0)? == "STREAM-END"),
-        None => Ok(false),
+fn is_whole(reader: &mut Reader, line: &Value) -> bool {
+    match reader.list(line, "events").last() {
+        Some(event) => reader.text(event, 0) == "STREAM-END",
+        None => false,
     }
 }
 
-fn put_text(
-    alloc: Global,
-    name: &str,
-    text: &[u8],
-    fields: &mut Map<String, Value>,
-) -> Result<(), VectorError> {
-    let text = shown::bytes(alloc, text)?;
-    put(fields, alloc, name, text)?;
-    Ok(())
-}
-
 // The text, and whether the events end the stream.
-fn put_right(
-    alloc: Global,
-    line: &Value,
-    text: &[u8],
-    fields: &mut Map<String, Value>,
-) -> Result<(), VectorError> {
-    put_text(alloc, "answer", text, fields)?;
-    let is_whole = Value::Bool(is_whole(line)?);
-    put(fields, alloc, "whole", is_whole)?;
-    Ok(())
+fn add_right(reader: &mut Reader, line: &Value, text: &[u8], fields: &mut Fields) {
+    fields.add_bytes("answer", text);
+    fields.put("whole", Value::Bool(is_whole(reader, line)));
 }
 
 // The fault, with the number of the refused call where the event is refused, else with the output.
-fn put_fault(
-    alloc: Global,
-    fault: &yaml_fault_t,
-    number: u64,
-    text: &[u8],
-    fields: &mut Map<String, Value>,
-) -> Result<(), VectorError> {
-    let shown = shown::fault(alloc, fault)?;
-    put(fields, alloc, "fault", shown)?;
+fn add_fault(alloc: Global, fault: &yaml_fault_t, number: u64, text: &[u8], fields: &mut Fields) {
+    fields.add("fault", shown::fault(alloc, fault));
     if fault.kind == yaml_error_type_t::YAML_EMITTER_ERROR {
-        put(fields, alloc, "call_number", Value::from(number))?;
-        Ok(())
+        fields.put("call_number", Value::from(number));
     } else {
-        put_text(alloc, "output", text, fields)
+        fields.add_bytes("output", text);
+    }
+}
+
+fn add_end(
+    alloc: Global,
+    line: &Value,
+    reader: &mut Reader,
+    course: &Course,
+    text: &[u8],
+    fields: &mut Fields,
+) {
+    match &course.fault {
+        None => add_right(reader, line, text, fields),
+        Some(fault) => add_fault(alloc, fault, course.number, text, fields),
     }
 }
 
 // What no line wants: a call behind the fault answered something else, or wrote.
-fn put_unkept(
-    alloc: Global,
-    is_kept: bool,
-    fields: &mut Map<String, Value>,
-) -> Result<(), VectorError> {
+fn add_unkept(is_kept: bool, fields: &mut Fields) {
     if !is_kept {
-        put(fields, alloc, "kept", Value::Bool(false))?;
+        fields.put("kept", Value::Bool(false));
     }
-    Ok(())
 }
 
-fn put_end(
+// What each flush in mid-stream showed.
+fn flushed(
     alloc: Global,
     line: &Value,
-    course: &Course,
-    text: &[u8],
-    fields: &mut Map<String, Value>,
-) -> Result<(), VectorError> {
-    put_unkept(alloc, course.kept, fields)?;
-    match &course.fault {
-        None => put_right(alloc, line, text, fields),
-        Some(fault) => put_fault(alloc, fault, course.number, text, fields),
-    }
+    reader: &mut Reader,
+    emitter: &mut yaml_emitter_t,
+    course: &mut Course,
+) -> Result<Value, VectorError> {
+    let mut flushes = Items::new(alloc);
+    give_all(alloc, line, reader, emitter, course, &mut flushes);
+    flushes.end()
 }
 
 // What became of the events, and what each flush showed.
-fn put_all(
+fn add_all(
     alloc: Global,
     line: &Value,
+    reader: &mut Reader,
     emitter: &mut yaml_emitter_t,
-    fields: &mut Map<String, Value>,
-) -> Result<(), VectorError> {
+    fields: &mut Fields,
+) {
     let mut course = Course::new();
-    put_flushes(alloc, line, emitter, &mut course, fields)?;
+    fields.add(
+        "flushed",
+        flushed(alloc, line, reader, emitter, &mut course),
+    );
     let fault = flush(emitter);
     let text = yaml_emitter_output(emitter);
     course.take(fault, text.len());
-    put_end(alloc, line, &course, text, fields)
-}
-
-fn told(alloc: Global, line: &Value, emitter: &mut yaml_emitter_t) -> Result<Value, VectorError> {
-    let mut fields = Map::new(alloc);
-    put_all(alloc, line, emitter, &mut fields)?;
-    Ok(Value::Object(fields))
+    add_unkept(course.kept, fields);
+    add_end(alloc, line, reader, &course, text, fields);
 }
 
 /// What the emitter answers on the line's events: the text, and whether the events end the stream; or the fault, with the
 /// refused call's number or the output; and what flushes in mid-stream show. A call behind a fault is to answer it again
 /// and to write nothing.
-pub fn answer(alloc: Global, line: &Value) -> Result<Value, VectorError> {
-    let mut emitter = emitter_of(alloc, line)?;
-    told(alloc, line, &mut emitter)
+pub fn told(
+    alloc: Global,
+    line: &Value,
+    emitter: &mut yaml_emitter_t,
+) -> Result<Value, VectorError> {
+    let mut reader = Reader::new(alloc);
+    let mut fields = Fields::new(alloc);
+    add_all(alloc, line, &mut reader, emitter, &mut fields);
+    reader.finish(fields.end())
 }

@@ -1,40 +1,52 @@
 //! The call `emit_limits`.
 
-use crate::emitter::{emitter_of, flush, give_listed, limited_of};
+use crate::course::Course;
+use crate::emitter::{emitter_of, flush, give_listed};
 use serde_json::Value;
 use std::alloc::Global;
-use yaml_cli_vectors_json::{VectorError, field, shown};
-use yaml_emit::{yaml_emitter_into_output, yaml_emitter_output, yaml_emitter_t};
+use yaml_cli_vectors_json::{Reader, VectorError, shown};
+use yaml_emit::{yaml_emitter_into_output, yaml_emitter_t};
 use yaml_scan::{yaml_error_type_t, yaml_fault_t};
 
-// Gives all events, whatever is answered, and tells the fault.
-fn give_all(
+// Gives all events, whatever is answered.
+fn give_all(alloc: Global, line: &Value, reader: &mut Reader, emitter: &mut yaml_emitter_t) {
+    let mut course = Course::new();
+    for listed in reader.list(line, "events") {
+        give_listed(alloc, listed, reader, emitter, &mut course);
+    }
+}
+
+// The same, and the fault that a flush answers behind them.
+fn told(
     alloc: Global,
     line: &Value,
     emitter: &mut yaml_emitter_t,
 ) -> Result<Option<yaml_fault_t>, VectorError> {
-    for listed in field::list(line, "events")? {
-        give_listed(alloc, emitter, listed)?;
-    }
-    Ok(flush(emitter))
+    let mut reader = Reader::new(alloc);
+    give_all(alloc, line, &mut reader, emitter);
+    reader.finish(Ok(flush(emitter)))
 }
 
-fn give_right(
+// The text under the limit, where there is one in place of the line's, behind whatever the text holds so far; and the
+// fault.
+fn written(
     alloc: Global,
     line: &Value,
-    emitter: &mut yaml_emitter_t,
-) -> Result<(), VectorError> {
-    match give_all(alloc, line, emitter)? {
-        None => Ok(()),
-        Some(fault) => Err(VectorError::Fault(fault)),
-    }
+    limit: Option<u64>,
+    text: &mut Vec<u8>,
+) -> Result<Option<yaml_fault_t>, VectorError> {
+    let mut emitter = emitter_of(alloc, line, limit)?;
+    let fault = told(alloc, line, &mut emitter);
+    *text = yaml_emitter_into_output(emitter);
+    fault
 }
 
 // The text under the line's own limit, which is not to be passed.
-fn whole_text(alloc: Global, line: &Value) -> Result<Vec<u8>, VectorError> {
-    let mut emitter = emitter_of(alloc, line)?;
-    give_right(alloc, line, &mut emitter)?;
-    Ok(yaml_emitter_into_output(emitter))
+fn whole_text(alloc: Global, line: &Value, text: &mut Vec<u8>) -> Result<(), VectorError> {
+    match written(alloc, line, None, text)? {
+        None => Ok(()),
+        Some(fault) => Err(VectorError::Fault(fault)),
+    }
 }
 
 // Whether that is the front of the text that fits the limit, with the fault of a full output where that isn't all.
@@ -48,20 +60,10 @@ fn is_front(whole: &[u8], limit: usize, text: &[u8], fault: Option<yaml_fault_t>
     }
 }
 
-fn writes_front(
-    alloc: Global,
-    line: &Value,
-    whole: &[u8],
-    limit: usize,
-    emitter: &mut yaml_emitter_t,
-) -> Result<bool, VectorError> {
-    let fault = give_all(alloc, line, emitter)?;
-    Ok(is_front(whole, limit, yaml_emitter_output(emitter), fault))
-}
-
 fn has_front(alloc: Global, line: &Value, whole: &[u8], limit: usize) -> Result<bool, VectorError> {
-    let mut emitter = limited_of(alloc, line, limit as u64)?;
-    writes_front(alloc, line, whole, limit, &mut emitter)
+    let mut text = Vec::new(alloc);
+    let fault = written(alloc, line, Some(limit as u64), &mut text)?;
+    Ok(is_front(whole, limit, text.as_slice(), fault))
 }
 
 // The first limit under which the output isn't the front of the text, which is asked up to two behind the text's end.
@@ -76,14 +78,15 @@ fn wrong_limit(alloc: Global, line: &Value, whole: &[u8]) -> Result<Option<u64>,
 
 fn answer_of(alloc: Global, line: &Value, whole: &[u8]) -> Result<Value, VectorError> {
     match wrong_limit(alloc, line, whole)? {
-        None => Ok(shown::text_answer(alloc, whole)?),
-        Some(limit) => Ok(shown::answer(alloc, Value::from(limit))?),
+        None => shown::text_answer(alloc, whole),
+        Some(limit) => shown::answer(alloc, Ok(Value::from(limit))),
     }
 }
 
 /// The text of the line's events, of which an emitter under any lesser limit writes the front that fits, and answers
 /// that its output is full; else the first limit under which it doesn't.
 pub fn answer(alloc: Global, line: &Value) -> Result<Value, VectorError> {
-    let whole = whole_text(alloc, line)?;
+    let mut whole = Vec::new(alloc);
+    whole_text(alloc, line, &mut whole)?;
     answer_of(alloc, line, whole.as_slice())
 }

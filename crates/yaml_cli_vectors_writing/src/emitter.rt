@@ -2,13 +2,15 @@
 
 ghost use Rattle.std.specs.Prelude.{◌≡◌, true};
 
+use crate::course::Course;
 use serde_json::Value;
 use std::alloc::Global;
-use yaml_cli_vectors_json::{Settings, VectorError, read_event, settings_of};
+use yaml_cli_vectors_json::{Reader, Settings, VectorError, read_event, settings_of};
 use yaml_emit::{
     yaml_emitter_emit, yaml_emitter_flush, yaml_emitter_fresh, yaml_emitter_initialize,
-    yaml_emitter_set_break, yaml_emitter_set_canonical, yaml_emitter_set_encoding,
-    yaml_emitter_set_indent, yaml_emitter_set_unicode, yaml_emitter_set_width, yaml_emitter_t,
+    yaml_emitter_output, yaml_emitter_set_break, yaml_emitter_set_canonical,
+    yaml_emitter_set_encoding, yaml_emitter_set_indent, yaml_emitter_set_unicode,
+    yaml_emitter_set_width, yaml_emitter_t,
 };
 use yaml_parse::{yaml_event_t, yaml_event_utf8};
 use yaml_scan::yaml_fault_t;
@@ -35,38 +37,51 @@ fn emitter_under(
     Ok(emitter)
 }
 
-/// An emitter under the settings of the line, that was given nothing yet.
-pub fn emitter_of(alloc: Global, line: &Value) -> Result<yaml_emitter_t, VectorError> {
-    let settings = settings_of(line)?;
-    Ok(emitter_under(alloc, &settings, settings.limit)?)
+fn settings(alloc: Global, line: &Value) -> Result<Settings, VectorError> {
+    let mut reader = Reader::new(alloc);
+    let settings = settings_of(&mut reader, line);
+    reader.finish(Ok(settings))
 }
 
-/// The same under that limit in place of the line's.
-pub fn limited_of(alloc: Global, line: &Value, limit: u64) -> Result<yaml_emitter_t, VectorError> {
-    let settings = settings_of(line)?;
+/// An emitter under the settings of the line, but for the limit where there is one, that was given nothing yet.
+pub fn emitter_of(
+    alloc: Global,
+    line: &Value,
+    limit: Option<u64>,
+) -> Result<yaml_emitter_t, VectorError> {
+    let settings = settings(alloc, line)?;
+    let limit = limit.unwrap_or(settings.limit);
     Ok(emitter_under(alloc, &settings, limit)?)
 }
 
-/// Refused where one of the event's texts isn't UTF-8.
+// Gives the event, whose texts are to be UTF-8.
 fn give(
-    emitter: &mut yaml_emitter_t,
     event: yaml_event_t,
-) -> Result<Option<yaml_fault_t>, VectorError> {
+    reader: &mut Reader,
+    emitter: &mut yaml_emitter_t,
+    course: &mut Course,
+) {
     if yaml_event_utf8(&event) {
-        Ok(yaml_emitter_emit(emitter, event).err())
+        let fault = yaml_emitter_emit(emitter, event).err();
+        course.take(fault, yaml_emitter_output(emitter).len());
     } else {
-        Err(VectorError::Field("events"))
+        drop(event);
+        reader.miss("events");
     }
 }
 
-/// Gives the event that the line writes so, whose texts are to be UTF-8, and tells the fault that is answered.
+/// Gives the event that the line writes so, whose texts are to be UTF-8, and takes what is answered.
 pub fn give_listed(
     alloc: Global,
-    emitter: &mut yaml_emitter_t,
     listed: &Value,
-) -> Result<Option<yaml_fault_t>, VectorError> {
-    let event = read_event(alloc, listed)?;
-    give(emitter, event)
+    reader: &mut Reader,
+    emitter: &mut yaml_emitter_t,
+    course: &mut Course,
+) {
+    match read_event(alloc, listed) {
+        Ok(event) => give(event, reader, emitter, course),
+        Err(error) => reader.refuse(error),
+    }
 }
 
 /// The fault that a flush answers; none where nothing was given yet.

@@ -3,7 +3,7 @@
 use crate::emitter::flush;
 use serde_json::Value;
 use std::alloc::Global;
-use yaml_cli_vectors_json::{VectorError, field, shown};
+use yaml_cli_vectors_json::{Items, Reader, VectorError, shown};
 use yaml_emit::{yaml_emitter_output, yaml_emitter_t};
 
 // Blanks, breaks, and the indicators that part nodes or open a collection; in UTF-16 their other byte.
@@ -23,68 +23,63 @@ fn is_close(text: &[u8], front: &[u8]) -> bool {
 }
 
 // Whether the text has those bytes at least, and is a front of the line's answer.
-fn is_least(alloc: Global, line: &Value, want: &[u8], text: &[u8]) -> Result<bool, VectorError> {
-    let whole = field::bytes(alloc, line, "answer")?;
-    Ok(text.starts_with(want) && whole.starts_with(text))
+fn has_least(reader: &mut Reader, line: &Value, want: &[u8], text: &[u8]) -> bool {
+    let whole = reader.bytes(line, "answer");
+    text.starts_with(want) && whole.starts_with(text)
+}
+
+// The same, where the line wants that, else whether the text is those bytes but for what stands between nodes.
+fn has(reader: &mut Reader, line: &Value, is_least: bool, want: &[u8], text: &[u8]) -> bool {
+    if is_least {
+        has_least(reader, line, want, text)
+    } else {
+        is_close(text, want) || is_close(want, text)
+    }
 }
 
 // Whether the text is what the line wants of a flush: those bytes at least, where it says so, else those bytes but for
 // what stands between nodes. How much of that a flush shows is open: in canonical form what parts two nodes is written
 // with the second, and a collection's opener with the collection.
-fn is_wanted(
-    alloc: Global,
-    line: &Value,
-    wanted: &Value,
-    text: &[u8],
-) -> Result<bool, VectorError> {
-    let want = field::bytes(alloc, wanted, 1)?;
-    if wanted.get(2).is_some() {
-        is_least(alloc, line, want.as_slice(), text)
-    } else {
-        Ok(is_close(text, want.as_slice()) || is_close(want.as_slice(), text))
-    }
+fn is_wanted(reader: &mut Reader, line: &Value, wanted: &Value, text: &[u8]) -> bool {
+    let want = reader.bytes(wanted, 1);
+    has(reader, line, wanted.get(2).is_some(), want.as_slice(), text)
 }
 
-// The flush as the line wants it, or as it is.
-fn shown_flush(
-    alloc: Global,
-    wanted: &Value,
-    is_right: bool,
-    text: &[u8],
-) -> Result<Value, VectorError> {
-    if is_right {
-        Ok(wanted.clone()?)
-    } else {
-        let count = Value::from(field::count(wanted, 0)?);
-        let text = shown::bytes(alloc, text)?;
-        Ok(shown::pair(alloc, count, text)?)
-    }
+fn copy_of(value: &Value) -> Result<Value, VectorError> {
+    Ok(value.clone()?)
 }
 
-fn flushed(
+// Flushes, and adds that as the line wants it, or as it is.
+fn add_flush(
     alloc: Global,
     line: &Value,
+    reader: &mut Reader,
     wanted: &Value,
     emitter: &mut yaml_emitter_t,
-) -> Result<Value, VectorError> {
+    flushes: &mut Items,
+) {
     let is_right = flush(emitter).is_none();
     let text = yaml_emitter_output(emitter);
-    let is_wanted = is_wanted(alloc, line, wanted, text)?;
-    shown_flush(alloc, wanted, is_right && is_wanted, text)
+    if is_wanted(reader, line, wanted, text) && is_right {
+        flushes.add(copy_of(wanted));
+    } else {
+        let count = Value::from(reader.count(wanted, 0));
+        flushes.add(shown::pair(alloc, Ok(count), shown::bytes(alloc, text)));
+    }
 }
 
 /// Flushes behind that many events where the line has a flush there.
-pub fn push_flushes(
+pub fn add_flushes(
     alloc: Global,
     line: &Value,
+    reader: &mut Reader,
     count: u64,
     emitter: &mut yaml_emitter_t,
-    flushes: &mut Vec<Value>,
-) -> Result<(), VectorError> {
-    for wanted in field::list(line, "flushed")? {
-        if field::count(wanted, 0)? == count {
-            flushes.push(flushed(alloc, line, wanted, emitter)?)?;
+    flushes: &mut Items,
+) {
+    for wanted in reader.list(line, "flushed") {
+        if reader.count(wanted, 0) == count {
+            add_flush(alloc, line, reader, wanted, emitter, flushes);
         }
     }
-    Ok(())
 }

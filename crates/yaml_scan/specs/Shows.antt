@@ -1,5 +1,5 @@
 -- What the fields of a machine say of the lexemes that were read.
-use Rattle.std.specs.Prelude.{ℕ, ◌+◌, ◌≡◌, ◌<◌, ◌≤◌, ◌&&◌, ◌||◌, ◌==◌, not, Bool, true, false, nat_lt, if◌then◌else◌, map, Option, Some, None, List, ◌∷◌, length, drop, slice_index_or}
+use Rattle.std.specs.Prelude.{ℕ, ◌+◌, ◌-◌, ◌≡◌, ◌<◌, ◌≤◌, ◌&&◌, ◌||◌, ◌==◌, not, Bool, true, false, nat_lt, if◌then◌else◌, map, Option, Some, None, List, ◌∷◌, length, drop, slice_index_or}
 use Rattle.yaml_scan_model.specs.declared.record.yaml_mark_t.{yaml_mark_t}
 use Rattle.yaml_scan_model.specs.Tokens.{body_of}
 use Rattle.yaml_scan_decode.specs.DecodedText.{text_bytes}
@@ -99,6 +99,11 @@ Finds m d (Some i) = (i < length m.waiting.items)
       lexeme = (slice_index_or m.waiting.items i
           w).entry.lexeme;
     })
+
+-- The candidate of the open depth is settled, or is the one of what stands before that place.
+abbrev pub IsHidden : Machine → ℕ → Type 0
+IsHidden m i = (c : Candidate) → candidate m.depth (history_of m) ≡ Some c → m.settled ≤ c.number
+    → candidate m.depth (drop (length m.waiting.items - i) (history_of m)) ≡ Some c
 
 -- Where a candidate waits.
 abbrev pub Picks : Machine → Option Candidate → Option ℕ → Type 0

@@ -389,9 +389,43 @@ impl<'a> Machine<'a> {
         Ok(level_of(lexeme.kind))
     }
 
-    /// The number of the earliest open candidate, or how many lexemes were read. What is settled stays so, so the
-    /// look goes on where the last one ended; behind the last candidate bound there is none.
+    /// The number of the earliest open candidate, or how many lexemes were read. Mostly it is the one where the last
+    /// look ended: that is asked before the loop, in front of which LLVM would compute its places.
     fn earliest_open(&self) -> usize
+        requires shown { IsPending (fields_of self.now) }
+        requires settled { self.now.settled ≤ self.now.dropped + length self.now.waiting.items }
+        requires few { self.now.dropped + length self.now.waiting.items < 2 ^ 64 - 1 }
+        requires last { self.now.candidate_bound ≤ self.now.dropped + length
+            self.now.waiting.items }
+        requires candidate_bound { AreBounded self.now.candidate_bound self.now.dropped
+            self.now.waiting.items }
+        ensures value { result ≡ history.first_open (history_of self.now) (history_of self.now) }
+        ensures low { self.now.settled ≤ result }
+        ensures high { result ≤ self.now.dropped + length self.now.waiting.items }
+    {
+        if self.stays_open() {
+            return self.settled;
+        }
+        self.later_open()
+    }
+
+    /// Whether the first lexeme that isn't settled is an open candidate.
+    fn stays_open(&self) -> bool
+        requires shown { IsPending (fields_of self.now) }
+        requires settled { self.now.settled ≤ self.now.dropped + length self.now.waiting.items }
+        ensures { result ≡ true
+            → self.now.settled ≡ history.first_open (history_of self.now) (history_of self.now) }
+    {
+        let first = self.settled - self.dropped;
+        if first < self.waiting.len() {
+            return self.waiting[first].is_open(self.place);
+        }
+        false
+    }
+
+    /// The number of the earliest open candidate, or how many lexemes were read, by a look at each. What is settled
+    /// stays so, so the look goes on where the last one ended; behind the last candidate bound there is none.
+    fn later_open(&self) -> usize
         requires shown { IsPending (fields_of self.now) }
         requires settled { self.now.settled ≤ self.now.dropped + length self.now.waiting.items }
         requires few { self.now.dropped + length self.now.waiting.items < 2 ^ 64 - 1 }

@@ -45,7 +45,7 @@ struct Stand {
 
 impl<'a> Machine<'a> {
     ghost use Rattle.yaml_scan.specs.State.{IsMachine, IsNext, AreBounded};
-    ghost use Rattle.yaml_scan.specs.Shows.{IsShown, fields_of, history_of, stream_of, Finds, Picks};
+    ghost use Rattle.yaml_scan.specs.Shows.{IsShown, fields_of, history_of, stream_of, Finds, IsHidden, Picks};
     ghost use Rattle.yaml_scan.specs.Comes.{Refused};
     ghost use Rattle.yaml_scan.specs.Reads.{GivesNext, GivesLexeme, EndsAt, Owns, keyed_by, required_in};
 
@@ -254,7 +254,8 @@ impl<'a> Machine<'a> {
     }
 
     /// Where the candidate of the open depth waits, by a look back from the last lexeme that may be one. One that is not
-    /// found is stale.
+    /// found is stale. The first look mostly decides: it stands before the loop, in front of which LLVM would compute
+    /// its places.
     fn find(&self) -> Option<usize>
         requires shown { IsShown (fields_of self.now) }
         requires settled { self.now.settled ≤ self.now.dropped + length self.now.waiting.items }
@@ -267,7 +268,31 @@ impl<'a> Machine<'a> {
             self.now.waiting.items) }
     {
         let first = self.settled - self.dropped;
-        let mut i = self.candidate_bound.saturating_sub(self.dropped);
+        let i = self.candidate_bound.saturating_sub(self.dropped);
+        if i <= first {
+            return None;
+        }
+        match self.waiting[i - 1].seen(self.depth) {
+            Seen::Here => Some(i - 1),
+            Seen::Nowhere => None,
+            Seen::Further => self.look_back(i - 1),
+        }
+    }
+
+    /// Where the candidate of the open depth waits, by a look back over the lexemes before the one at `from`.
+    fn look_back(&self, from: usize) -> Option<usize>
+        requires shown { IsShown (fields_of self.now) }
+        requires settled { self.now.settled ≤ self.now.dropped + length self.now.waiting.items }
+        requires inside { from ≤ length self.now.waiting.items }
+        requires passed { AreBounded (self.now.dropped + from) self.now.dropped
+            self.now.waiting.items }
+        requires hidden { IsHidden self.now from }
+        ensures finds { Finds self.now self.now.depth result }
+        ensures last { IfSome result (λ i. AreBounded (self.now.dropped + i + 1) self.now.dropped
+            self.now.waiting.items) }
+    {
+        let first = self.settled - self.dropped;
+        let mut i = from;
         'back: while first < i {
             match self.waiting[i - 1].seen(self.depth) {
                 Seen::Here => return Some(i - 1),

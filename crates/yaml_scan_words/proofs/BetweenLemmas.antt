@@ -44,21 +44,21 @@ blank_lexeme p q h = let e : standings.Blank ≡ standings.Lexeme = ap (λ (s : 
 break_lexeme : (p q : ℕ) → ◌≡◌ {A = Step} (record { standing = standings.Break; place = p }) (record { standing = standings.Lexeme; place = q }) → ⊥
 break_lexeme p q h = let e : standings.Break ≡ standings.Lexeme = ap (λ (s : Step). s.standing) h in cc
 
-not_first : (b c d : ℕ) (first : Bool) → (nat_lt 35 b && nat_lt b 128) ≡ true → (first && (b == 0xEF && (c == 0xBB && d == 0xBF))) ≡ false
+not_first : (b c d : ℕ) (first : Bool) → (nat_lt 32 b && (nat_lt b 128 && not (b == 35))) ≡ true → (first && (b == 0xEF && (c == 0xBB && d == 0xBF))) ≡ false
 not_first b c d true h = grind (arith, nat_tests)
 not_first b c d false h = refl
 
-not_skipped : (b : ℕ) (tabs : Bool) → (nat_lt 35 b && nat_lt b 128) ≡ true → (b == 32 || (tabs && b == 9)) ≡ false
+not_skipped : (b : ℕ) (tabs : Bool) → (nat_lt 32 b && (nat_lt b 128 && not (b == 35))) ≡ true → (b == 32 || (tabs && b == 9)) ≡ false
 not_skipped b true h = grind (arith, nat_tests)
 not_skipped b false h = grind (arith, nat_tests)
 
-not_hash : (b : ℕ) → (nat_lt 35 b && nat_lt b 128) ≡ true → (b == 35) ≡ false
+not_hash : (b : ℕ) → (nat_lt 32 b && (nat_lt b 128 && not (b == 35))) ≡ true → (b == 35) ≡ false
 not_hash b h = grind (arith, nat_tests)
 
-within_ascii : (b : ℕ) → (nat_lt 35 b && nat_lt b 128) ≡ true → (35 < b) × (b < 128)
+within_ascii : (b : ℕ) → (nat_lt 32 b && (nat_lt b 128 && not (b == 35))) ≡ true → (32 < b) × (b < 128)
 within_ascii b h = (grind (arith, nat_tests), grind (arith, nat_tests))
 
-no_width : (b c d : ℕ) → (nat_lt 35 b && nat_lt b 128) ≡ true → break_of b c d ≡ 0
+no_width : (b c d : ℕ) → (nat_lt 32 b && (nat_lt b 128 && not (b == 35))) ≡ true → break_of b c d ≡ 0
 no_width b c d h =
     let (low, high) = within_ascii b h in
     no_break b c d (omega arith) (omega arith) (omega arith) (omega arith)
@@ -67,10 +67,29 @@ last_step : (a b c : Bool) (w : ℕ) (v x y z u : Step) → a ≡ false → b �
 last_step a b c w v x y z u h i j k = rw (h, i, j, k) refl
 
 --- these bytes begin a lexeme
-pub lexeme_here : (tabs : Bool) (text : List ℕ) (p : ℕ) → (nat_lt 35 (byte text p) && nat_lt (byte text p) 128) ≡ true → step_at tabs text p ≡ record { standing = standings.Lexeme; place = p }
+pub lexeme_here : (tabs : Bool) (text : List ℕ) (p : ℕ) → (nat_lt 32 (byte text p) && (nat_lt (byte text p) 128 && not (byte text p == 35))) ≡ true → step_at tabs text p ≡ record { standing = standings.Lexeme; place = p }
 unfolding step_at
 lexeme_here tabs text p h =
     last_step _ _ _ _ _ _ _ _ _ (not_first (byte text p) (byte text (p + 1)) (byte text (p + 2)) (p == 0) h) (not_skipped (byte text p) tabs h) (not_hash (byte text p) h) (no_width (byte text p) (byte text (p + 1)) (byte text (p + 2)) h)
+
+space_first : (b c d : ℕ) (first : Bool) → b ≡ 32 → (first && (b == 0xEF && (c == 0xBB && d == 0xBF))) ≡ false
+space_first b c d true h = rw h refl
+space_first b c d false h = refl
+
+space_skipped : (b : ℕ) (tabs : Bool) → b ≡ 32 → (b == 32 || (tabs && b == 9)) ≡ true
+space_skipped b tabs h = rw h refl
+
+-- a space is passed
+pub space_here : (tabs : Bool) (text : List ℕ) (p : ℕ) → byte text p ≡ 32 → step_at tabs text p ≡ record { standing = standings.Blank; place = p + 1 }
+unfolding step_at
+space_here tabs text p h =
+    let first : (p == 0 && is_bom text p) ≡ false = space_first (byte text p) (byte text (p + 1)) (byte text (p + 2)) (p == 0) h in
+    let skips : is_skipped tabs text p ≡ true = space_skipped (byte text p) tabs h in
+    rw (first, skips) refl
+
+-- a space is a byte, and no break
+pub space_byte : (text : List ℕ) (p : ℕ) → byte text p ≡ 32 → (0 < byte text p) × (break_width text p ≡ 0)
+space_byte text p e = (omega arith, no_break _ _ _ (omega arith) (omega arith) (omega arith) (omega arith))
 
 -- the bytes of U+FEFF
 pub bom_bytes : (text : List ℕ) (p : ℕ) → is_bom text p ≡ true → (byte text p ≡ 0xEF) × (byte text (p + 1) ≡ 0xBB) × (byte text (p + 2) ≡ 0xBF)

@@ -64,6 +64,10 @@ fn step(reader: &mut Reader, tabs: bool) -> Standing
     if begins_lexeme(reader.here()) {
         return Standing::Lexeme;
     }
+    if reader.here() == b' ' {
+        reader.skip();
+        return Standing::Blank;
+    }
     if is_bom_first(reader) {
         skip_bom(reader);
         return Standing::Blank;
@@ -85,9 +89,9 @@ fn step(reader: &mut Reader, tabs: bool) -> Standing
 
 /// Whether the byte begins no blank, comment, break or U+FEFF, as nearly all bytes of lexemes.
 fn begins_lexeme(byte: u8) -> bool
-    ensures { result ≡ (nat_lt 35 byte && nat_lt byte 128) }
+    ensures { result ≡ (nat_lt 32 byte && (nat_lt byte 128 && not (byte == 35))) }
 {
-    byte > b'#' && byte < 128
+    byte > b' ' && (byte < 128 && byte != b'#')
 }
 
 /// Whether this is the start of the text, and U+FEFF stands here.

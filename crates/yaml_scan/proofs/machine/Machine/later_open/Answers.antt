@@ -5,7 +5,7 @@ use Rattle.yaml_scan.specs.Shows.{fields_of, history_of}
 use Rattle.yaml_scan.proofs.PassLemmas.{test_is}
 use Rattle.yaml_scan.proofs.BoundLemmas.{pass_bound}
 use Rattle.yaml_scan.proofs.StepLemmas.{pass_on, stop_at, stop_end}
-use Rattle.yaml_scan.proofs.machine.Machine.earliest_open.Goals as goal
+use Rattle.yaml_scan.proofs.machine.Machine.later_open.Goals as goal
 
 pub returns-then-is_open-clause-value : goal.returns-then-is_open-clause-value
 returns-then-is_open-clause-value c =

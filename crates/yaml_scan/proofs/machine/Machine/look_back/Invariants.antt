@@ -2,7 +2,7 @@ use Rattle.std.proofs.Common.{◌≡◌, ◌+◌, ◌-◌, ◌≤◌, Some, leng
 use Rattle.yaml_scan_history.specs.History.{Candidate, candidate}
 use Rattle.yaml_scan.specs.Shows.{history_of}
 use Rattle.yaml_scan.specs.State.{AreBounded}
-use Rattle.yaml_scan.proofs.machine.Machine.find.Given as goal
+use Rattle.yaml_scan.proofs.machine.Machine.look_back.Given as goal
 
 abbrev pub invariant-back : goal.invariant-back
 invariant-back l = record {

@@ -1,7 +1,7 @@
 use Rattle.std.proofs.Common.{◌+◌, ◌-◌, ◌≤◌, length}
 use Rattle.yaml_scan_history.specs.History.{first_open}
 use Rattle.yaml_scan.specs.Shows.{history_of}
-use Rattle.yaml_scan.proofs.machine.Machine.earliest_open.Given as goal
+use Rattle.yaml_scan.proofs.machine.Machine.later_open.Given as goal
 
 abbrev pub invariant-pass : goal.invariant-pass
 invariant-pass l = record {

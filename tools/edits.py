@@ -78,6 +78,8 @@ def why_none(it):
         return "a law: its body is empty, and its clause speaks of definitions alone"
     if it.name == "into_inner":
         return "its type leaves no other value to hand back"
+    if it.name == "yaml_parser_prefix":
+        return "it lends the one place that it can lend; what stands there is turned at the calls that answer faults"
     if it.name == "document_is_sound":
         return "a law: its body reads a field for the clause and does nothing"
     return "" if it.contract() else "no clause"

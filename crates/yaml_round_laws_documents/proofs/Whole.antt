@@ -1,5 +1,5 @@
 -- The laws of loaded documents and of their texts, joined from the laws beneath.
-use Rattle.std.proofs.Common.{◌≡◌, ℕ, true, List, map, Option, Some, None, refl, sym, ap, ◌∙◌}
+use Rattle.std.proofs.Common.{◌≡◌, ℕ, true, List, map, Option, Some, None, Ok, refl, sym, ap, subst, ◌∙◌}
 use Rattle.yaml_round_laws_back.specs.content.round_laws.emit_laws_streams.scan.declared.yaml_encoding_t.{yaml_encoding_t}
 use Rattle.yaml_round_laws_back.specs.content.round_laws.emit_laws_streams.scan.declared.yaml_encoding_t.TheVariants.{YAML_ANY_ENCODING}
 use Rattle.yaml_round_laws_back.specs.content.round_laws.emit_laws_streams.scan.Faults.{Fault}
@@ -33,7 +33,19 @@ use Rattle.yaml_round_laws_back.proofs.round_laws_dumps.Loading.{content_loaded,
 use Rattle.yaml_round_laws_back.proofs.round_laws_dumps.Trees as trees
 use Rattle.yaml_round_laws_back.proofs.round_laws_dumps.Agreeing.{dumps_loaded}
 use Rattle.yaml_round_laws_documents.specs.Laws.{AllLoadDocuments, LoadedAreSound, LoadedAreWritable}
-use Rattle.yaml_round_laws_documents.specs.Normal.{dump_text, LoadsAgain, DumpTextsLoadAgain, DumpTextsTellDocuments, InputsLoadAlike, NamesDoNotMatter}
+use Rattle.yaml_round_laws_back.specs.round_laws_writable.round_laws_reading.PlainLoading.{unless_faulty}
+use Rattle.yaml_round_laws_back.proofs.round_laws_writable.round_laws_reading.Loaded.{loading_loads}
+use Rattle.yaml_round_laws_documents.specs.Normal.{
+  AreWritableDocuments,
+  DocumentTextsLoadAgain,
+  DocumentTextsTell,
+  LoadsAreDocuments,
+  PlainDocuments,
+  DumpTextsLoadAgain,
+  DumpTextsTellDocuments,
+  InputsLoadAlike,
+  NamesDoNotMatter,
+}
 use Rattle.yaml_round_laws_documents.proofs.Fronts.{all_loaded}
 use Rattle.yaml_round_laws_documents.proofs.Sound.{loaded_sound}
 use Rattle.yaml_round_laws_documents.proofs.Written.{loaded_writable}
@@ -62,13 +74,12 @@ dumps_load = dumps_loaded content_said content_is_loaded (trees.numbered_back du
 
 -- ---- texts
 
-pub load_again : DumpTextsLoadAgain
-load_again w k from input small =
-    let ds : List Document = (loads_of from input).documents in
+pub texts_load_again : DocumentTextsLoadAgain
+texts_load_again w k ds d =
     let c : List content.Document = trees_of_dumps ds in
-    let h : HasContent YAML_ANY_ENCODING (canon w c) c = reads_back w k c (all_writable from input) in
+    let h : HasContent YAML_ANY_ENCODING (canon w c) c = reads_back w k c d.writable in
     let es = events_of YAML_ANY_ENCODING (canon w c) in
-    let b = dumps_load ds (all_load from input) small (all_writable from input) es h.says in
+    let b = dumps_load ds d.loaded d.small d.writable es h.says in
     let same = ap (λ (f : Option Fault). load_all es f nothing_loaded) (sym h.right) in
     let agree : AreAgreeing ds (loads_of YAML_ANY_ENCODING (canon w c)).documents = b.agree ∙ ap (λ (l : Loads). map core_of l.documents) same in
     let says = agreeing_said ds (loads_of YAML_ANY_ENCODING (canon w c)).documents agree in
@@ -79,13 +90,34 @@ load_again w k from input small =
       again = ap (λ (t : List content.Document). canon w t) says;
     }
 
+pub texts_tell : DocumentTextsTell
+texts_tell w k ds es d e =
+    let x = texts_load_again w k ds d in
+    let y = texts_load_again w k es e in (
+      λ q. x.agree ∙ ap (λ (t : List ℕ). map core_of (loads_of YAML_ANY_ENCODING t).documents) q ∙ sym y.agree,
+      λ q. ap (λ (t : List content.Document). canon w t) (agreeing_said ds es q),
+    )
+
+-- ---- of inputs
+
+pub loads_are : LoadsAreDocuments
+loads_are from input small = record { loaded = all_load from input; small = small; writable = all_writable from input }
+
+documents_alike : (ds es : List Document) (o : Option Fault) → unless_faulty ds o ≡ Ok es → ds ≡ es
+documents_alike ds es None h = cc
+documents_alike ds es (Some f) h = cc
+
+pub plain_documents : PlainDocuments
+plain_documents from input ds h small =
+    let e = documents_alike (loads_of from input).documents ds (loads_of from input).fault (loading_loads from input (Ok ds) h) in
+    subst AreWritableDocuments e (loads_are from input (subst AreNumerable (sym e) small))
+
+pub load_again : DumpTextsLoadAgain
+load_again w k from input small = texts_load_again w k (loads_of from input).documents (loads_are from input small)
+
 pub tell_documents : DumpTextsTellDocuments
 tell_documents w k a_from a small b_from b little =
-    let x = load_again w k a_from a small in
-    let y = load_again w k b_from b little in (
-      λ e. x.agree ∙ ap (λ (t : List ℕ). map core_of (loads_of YAML_ANY_ENCODING t).documents) e ∙ sym y.agree,
-      λ e. ap (λ (t : List content.Document). canon w t) (agreeing_said (loads_of a_from a).documents (loads_of b_from b).documents e),
-    )
+    texts_tell w k (loads_of a_from a).documents (loads_of b_from b).documents (loads_are a_from a small) (loads_are b_from b little)
 
 pub inputs_load_alike : InputsLoadAlike
 inputs_load_alike c a_from a h b_from b g =

@@ -1,5 +1,5 @@
 -- The canonical text of what documents say: it is laid out for their dumps, and loads documents that agree with them.
-use Rattle.std.specs.Prelude.{◌≡◌, ◌↔◌, ℕ, true, List, map, None}
+use Rattle.std.specs.Prelude.{◌≡◌, ◌↔◌, ℕ, true, List, map, None, Ok}
 use Rattle.yaml_round_laws_back.specs.content.round_laws.emit_laws_streams.scan.declared.yaml_encoding_t.{yaml_encoding_t}
 use Rattle.yaml_round_laws_back.specs.content.round_laws.emit_laws_streams.scan.declared.yaml_encoding_t.TheVariants.{YAML_ANY_ENCODING}
 use Rattle.yaml_round_laws_back.specs.content.round_laws.emit_laws_streams.parse.Documents.{Document}
@@ -14,7 +14,9 @@ use Rattle.yaml_round_laws_back.specs.content.Canon.{canon, canon_encoding, cano
 use Rattle.yaml_round_laws_back.specs.content.Laws.{AreCanonical}
 use Rattle.yaml_round_laws_back.specs.round_laws_dumps.round_laws_loads.Agree.{AreAgreeing, LoadAlike}
 use Rattle.yaml_round_laws_back.specs.round_laws_dumps.round_laws_loads.Renamed.{Renaming, renamed, AreOneToOne}
-use Rattle.yaml_round_laws_back.specs.round_laws_dumps.Events.{trees_of_dumps, AreNumerable}
+use Rattle.yaml_round_laws_back.specs.round_laws_writable.Writable.{AreWritable}
+use Rattle.yaml_round_laws_back.specs.round_laws_writable.round_laws_reading.PlainLoading.{PlainLoading}
+use Rattle.yaml_round_laws_back.specs.round_laws_dumps.Events.{trees_of_dumps, AreLoadedDocuments, AreNumerable}
 
 -- the events of the documents' dumps as one stream
 abbrev pub dump_events : List Document → List Event
@@ -23,6 +25,12 @@ dump_events ds = stream_events YAML_ANY_ENCODING (map graph_content ds)
 -- the canonical text of what the documents say
 abbrev pub dump_text : RequestedSettings → List Document → List ℕ
 dump_text w ds = canon w (trees_of_dumps ds)
+
+-- Documents as loading makes them, each with fewer nodes than a `u64` can number, and what they say may be written.
+pub record AreWritableDocuments (ds : List Document) : Type 0 where
+  pub loaded : AreLoadedDocuments ds
+  pub small : AreNumerable ds
+  pub writable : AreWritable (trees_of_dumps ds)
 
 -- For the dumps of an input's documents the canonical text of what they say is laid out.
 abbrev pub DumpsAreLaidOut : Type 0
@@ -39,7 +47,29 @@ pub record LoadsAgain (w : RequestedSettings) (ds : List Document) (text : List 
   pub says : trees_of_dumps ds ≡ trees_of_dumps (loads_of YAML_ANY_ENCODING text).documents
   pub again : text ≡ dump_text w (loads_of YAML_ANY_ENCODING text).documents
 
--- So the canonical text of what an input's documents say does.
+-- So the canonical text of what such documents say does.
+abbrev pub DocumentTextsLoadAgain : Type 0
+DocumentTextsLoadAgain = (w : RequestedSettings) → w.canonical ≡ true
+    → (ds : List Document) → AreWritableDocuments ds → LoadsAgain w ds (dump_text w ds)
+
+-- They have one such text exactly if they agree.
+abbrev pub DocumentTextsTell : Type 0
+DocumentTextsTell = (w : RequestedSettings) → w.canonical ≡ true
+    → (ds es : List Document) → AreWritableDocuments ds → AreWritableDocuments es
+    → (dump_text w ds ≡ dump_text w es) ↔ AreAgreeing ds es
+
+-- Such are the documents of each input, also those in front of a fault.
+abbrev pub LoadsAreDocuments : Type 0
+LoadsAreDocuments = (from : yaml_encoding_t) (input : List ℕ)
+    → AreNumerable (loads_of from input).documents
+    → AreWritableDocuments (loads_of from input).documents
+
+-- And so are those of its plain loading.
+abbrev pub PlainDocuments : Type 0
+PlainDocuments = (from : yaml_encoding_t) (input : List ℕ) (ds : List Document)
+    → PlainLoading from input (Ok ds) → AreNumerable ds → AreWritableDocuments ds
+
+-- So the canonical text of what an input's documents say loads again.
 abbrev pub DumpTextsLoadAgain : Type 0
 DumpTextsLoadAgain = (w : RequestedSettings) → w.canonical ≡ true
     → (from : yaml_encoding_t) (input : List ℕ) → AreNumerable (loads_of from input).documents

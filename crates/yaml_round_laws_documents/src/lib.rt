@@ -5,6 +5,7 @@
 mod laws;
 
 pub use laws::{
-    all_load_documents, dump_texts_load_again, dump_texts_tell_documents, dumps_are_laid_out,
-    inputs_load_alike, loaded_are_sound, loaded_are_writable, names_do_not_matter,
+    all_load_documents, document_texts_load_again, document_texts_tell, dump_texts_load_again,
+    dump_texts_tell_documents, dumps_are_laid_out, inputs_load_alike, loaded_are_sound,
+    loaded_are_writable, loads_are_documents, names_do_not_matter, plain_documents,
 };

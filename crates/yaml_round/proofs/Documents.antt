@@ -10,7 +10,9 @@ use Rattle.yaml_round_laws_documents.specs.round_laws_back.content.Canon.{canon_
 use Rattle.yaml_round_laws_documents.specs.round_laws_dumps.Events.{trees_of_dumps, AreNumerable}
 use Rattle.yaml_round_laws_documents.specs.Normal.{LoadsAgain}
 use Rattle.yaml_round_laws_documents.proofs.Laid.{laid_out}
-use Rattle.yaml_round_laws_documents.proofs.Whole.{load_again, tell_documents}
+use Rattle.yaml_round_laws_documents.proofs.Whole.{loads_are, plain_documents, texts_load_again, texts_tell}
+use Rattle.yaml_round_laws_documents.proofs.round_laws_reading.Loaded.{faultless_load}
+use Rattle.yaml_parse.specs.Documents.{Document}
 use Rattle.yaml_round_compare.specs.declared.yaml_settings_t.{yaml_settings_t}
 use Rattle.yaml_round.specs.Writing.{requested_under}
 use Rattle.yaml_round.specs.Answers.{canonical_text}
@@ -30,16 +32,20 @@ dumped_again s c text is fits says =
     }
 
 pub in_normal_documents : (from : yaml_encoding_t) (s : yaml_settings_t) (input text : List ℕ) → AreNumerable (loads_of from input).documents → IsEachDump s (loads_of from input).documents (Ok text)
-    → IsNormalOfDocuments from s input text
+    → IsNormalOfDocuments s (loads_of from input).documents text
 in_normal_documents from s input text small each =
     let w = requested_under s true in
-    let c : List content.Document = trees_of_dumps (loads_of from input).documents in
+    let ds : List Document = (loads_of from input).documents in
+    let c : List content.Document = trees_of_dumps ds in
     let t = each (canon_encoding w) (canon_items w c) (laid_out w (canonical_under s) from input) in
-    let l : LoadsAgain w (loads_of from input).documents text = subst (LoadsAgain w (loads_of from input).documents) (sym t.is) (load_again w refl from input small) in
+    let own = loads_are from input small in
+    let l : LoadsAgain w ds text = subst (LoadsAgain w ds) (sym t.is) (texts_load_again w refl ds own) in
     record {
       is = t.is;
-      right = l.right;
+      back = (loads_of YAML_ANY_ENCODING text).documents;
+      right = faultless_load YAML_ANY_ENCODING text l.right;
       agree = l.agree;
-      only = λ other source little e. (tell_documents w refl from input small other source little).0 (sym t.is ∙ sym e);
+      only = λ other source others p little e. (texts_tell w refl ds others own (plain_documents other source others p little)).0 (sym t.is ∙ sym e);
+      any = λ others d e. (texts_tell w refl ds others own d).0 (sym t.is ∙ sym e);
       again = dumped_again s c text t.is t.fits l.says;
     }

@@ -332,7 +332,7 @@ unfolding IsReloaded
 reloaded from input settings ds (Ok text) a d =
     let P : List Document → Type 0 = λ z. IsEachDump settings z (Ok text.items) in
     let each = subst P a.same d in
-    (laid_out from input settings (Ok text.items) a.right (one_dump from input settings (Ok text.items) each), in_normal_documents from settings input text.items (subst AreNumerable a.same a.small) each)
+    (record { documents = (loads_of from input).documents; loading = faultless_load from input a.right; dumped = one_dump from input settings (Ok text.items) each }, in_normal_documents from settings input text.items (subst AreNumerable a.same a.small) each)
 reloaded from input settings ds (Err f) a d =
     let P : List Document → Type 0 = λ z. IsEachDump settings z (Err (fault_of f)) in
     elim d [ inl m ↦ inl (elim m [ inl e ↦ inl e | inr w ↦ inr (inl w) ]) | inr p ↦ inr (inr (laid_out from input settings (Err (fault_of f)) a.right (one_dump from input settings (Err (fault_of f)) (subst P a.same p)))) ]

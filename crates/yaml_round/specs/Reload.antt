@@ -18,6 +18,7 @@ use Rattle.yaml_round_laws_documents.specs.round_laws_reading.PlainLoading.{Plai
 use Rattle.yaml_round.specs.Writing.{requested_under, IsEachLayout, IsPastEach}
 use Rattle.yaml_round_laws_documents.specs.round_laws_loads.Agree.{AreAgreeing}
 use Rattle.yaml_round_laws_documents.specs.round_laws_dumps.Events.{trees_of_dumps, AreNumerable}
+use Rattle.yaml_round_laws_documents.specs.Normal.{AreWritableDocuments}
 use Rattle.yaml_round.specs.Answers.{IsLayout, IsPast, canonical_text}
 
 -- ---- what is loaded
@@ -39,23 +40,25 @@ IsDumped settings ds (Ok text) = IsLayout (requested_under settings true) settin
 IsDumped settings ds (Err fault) = IsPast (requested_under settings true) settings.limit
     (written_events ds) fault
 
--- The text is the normal form of the input's documents: it loads documents that agree with them, no others have it, and it is laid
--- out again as itself.
-pub record IsNormalOfDocuments (from : yaml_encoding_t) (settings : yaml_settings_t)
-    (input text : List ℕ) : Type 0 where
+-- The text is the normal form of the documents: it loads documents that agree with them, no others have it, and it is laid out
+-- again as itself.
+pub record IsNormalOfDocuments (settings : yaml_settings_t) (documents : List Document)
+    (text : List ℕ) : Type 0 where
   -- it is the canonical text of what they say
-  pub is : text ≡ canonical_text settings (trees_of_dumps (loads_of from input).documents)
-  -- read as its byte order mark tells, it loads documents that agree with them, without a fault
-  pub right : (loads_of YAML_ANY_ENCODING text).fault ≡ None
-  pub agree : AreAgreeing (loads_of from input).documents
-      (loads_of YAML_ANY_ENCODING text).documents
-  -- any input's documents whose text it is agree with them
-  pub only : (other : yaml_encoding_t) (source : List ℕ)
-      → AreNumerable (loads_of other source).documents
-      → canonical_text settings (trees_of_dumps (loads_of other source).documents) ≡ text
-      → AreAgreeing (loads_of from input).documents (loads_of other source).documents
-  -- and it is laid out for the documents that it loads itself
-  pub again : IsDumped settings (loads_of YAML_ANY_ENCODING text).documents (Ok text)
+  pub is : text ≡ canonical_text settings (trees_of_dumps documents)
+  -- read as its byte order mark tells, it loads, without a fault, documents that agree with them
+  pub back : List Document
+  pub right : PlainLoading YAML_ANY_ENCODING text (Ok back)
+  pub agree : AreAgreeing documents back
+  -- the documents of any input whose text it is agree with them
+  pub only : (other : yaml_encoding_t) (source : List ℕ) (others : List Document)
+      → PlainLoading other source (Ok others) → AreNumerable others
+      → canonical_text settings (trees_of_dumps others) ≡ text → AreAgreeing documents others
+  -- and so do any that are as loading makes them, as those in front of a fault are
+  pub any : (others : List Document) → AreWritableDocuments others
+      → canonical_text settings (trees_of_dumps others) ≡ text → AreAgreeing documents others
+  -- it is laid out for the documents that it loads itself
+  pub again : IsDumped settings back (Ok text)
 
 -- The documents of the plain loading, laid out, or a limit that the layout passes.
 pub record LaysOutLoading (from : yaml_encoding_t) (settings : yaml_settings_t) (input : List ℕ)
@@ -68,8 +71,8 @@ pub record LaysOutLoading (from : yaml_encoding_t) (settings : yaml_settings_t) 
 -- least place; or, where there is none, a limit that the layout passes.
 unfoldable pub IsReloaded : yaml_encoding_t → yaml_settings_t → List ℕ → Result (List ℕ) Fault
     → Type 0
-IsReloaded from settings input (Ok text) = LaysOutLoading from settings input (Ok text)
-    × IsNormalOfDocuments from settings input text
+IsReloaded from settings input (Ok text) = (laid : LaysOutLoading from settings input (Ok text))
+    × IsNormalOfDocuments settings laid.documents text
 IsReloaded from settings input (Err fault) = PlainLoading from input (Err fault)
     ⊎ LaysOutLoading from settings input (Err fault)
 

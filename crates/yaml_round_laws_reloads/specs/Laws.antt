@@ -2,8 +2,10 @@
 use Rattle.std.specs.Prelude.{◌≡◌, ◌↔◌, ℕ, List, Ok}
 use Rattle.yaml_round.specs.round_laws_documents.round_laws_back.content.round_laws.emit_laws_streams.scan.declared.yaml_encoding_t.{yaml_encoding_t}
 use Rattle.yaml_round.specs.round_laws_documents.round_laws_back.content.round_laws.emit_laws_streams.scan.declared.yaml_encoding_t.TheVariants.{YAML_ANY_ENCODING}
-use Rattle.yaml_round.specs.round_laws_documents.round_laws_back.content.Loads.{loads_of}
-use Rattle.yaml_round.specs.round_laws_documents.round_laws_back.content.Said.{Document, HasContent}
+use Rattle.yaml_round.specs.round_laws_documents.round_laws_back.content.round_laws.emit_laws_streams.parse.Documents.{Document}
+use Rattle.yaml_round.specs.round_laws_documents.round_laws_reading.PlainLoading.{PlainLoading}
+use Rattle.yaml_round.specs.round_laws_documents.round_laws_back.content.Said as content
+use Rattle.yaml_round.specs.round_laws_documents.round_laws_back.content.Said.{HasContent}
 use Rattle.yaml_round.specs.round_laws_documents.round_laws_loads.Agree.{AreAgreeing}
 use Rattle.yaml_round.specs.round_laws_documents.round_laws_loads.Renamed.{Renaming, renamed, AreOneToOne}
 use Rattle.yaml_round.specs.declared.yaml_settings_t.{yaml_settings_t}
@@ -15,18 +17,26 @@ use Rattle.yaml_round.specs.Reload.{IsReloaded}
 abbrev pub ReloadsTellDocuments : Type 0
 ReloadsTellDocuments = (s : yaml_settings_t) (a_from b_from : yaml_encoding_t) (a b t u : List ℕ)
     → IsReloaded a_from s a (Ok t) → IsReloaded b_from s b (Ok u)
-    → (t ≡ u) ↔ AreAgreeing (loads_of a_from a).documents (loads_of b_from b).documents
+    → (ds es : List Document) → PlainLoading a_from a (Ok ds) → PlainLoading b_from b (Ok es)
+    → (t ≡ u) ↔ AreAgreeing ds es
+
+-- Both texts, each read as its byte order mark tells, load without a fault, and documents that agree.
+pub record LoadAgreeing (t u : List ℕ) : Type 0 where
+  pub documents : List Document
+  pub others : List Document
+  pub first : PlainLoading YAML_ANY_ENCODING t (Ok documents)
+  pub second : PlainLoading YAML_ANY_ENCODING u (Ok others)
+  pub agree : AreAgreeing documents others
 
 -- What is answered to one input, by either call and under any settings, loads documents that agree.
 abbrev pub AnswersAndReloadsAgree : Type 0
 AnswersAndReloadsAgree = (from : yaml_encoding_t) (s z : yaml_settings_t) (input t u : List ℕ)
     (form : yaml_form_t) → IsReformatted from s input (Ok (t, form))
-    → IsReloaded from z input (Ok u)
-    → AreAgreeing (loads_of YAML_ANY_ENCODING t).documents (loads_of YAML_ANY_ENCODING u).documents
+    → IsReloaded from z input (Ok u) → LoadAgreeing t u
 
 -- Inputs with one content but for the names of each document's anchors, no two names becoming one, have one answer.
 abbrev pub NamesLeaveReloads : Type 0
-NamesLeaveReloads = (s : yaml_settings_t) (r : ℕ → Renaming) (c : List Document) → AreOneToOne r c
+NamesLeaveReloads = (s : yaml_settings_t) (r : ℕ → Renaming) (c : List content.Document) → AreOneToOne r c
     → (a_from b_from : yaml_encoding_t) (a b t u : List ℕ)
     → HasContent a_from a c → HasContent b_from b (renamed r c)
     → IsReloaded a_from s a (Ok t) → IsReloaded b_from s b (Ok u) → t ≡ u

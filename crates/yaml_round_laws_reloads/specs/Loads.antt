@@ -1,9 +1,13 @@
 -- What `yaml_reload` answers, said of what its input loads.
 use Rattle.std.specs.Prelude.{◌≡◌, ◌↔◌, ◌⊎◌, ℕ, List, Some, None, Result, Ok, Err}
 use Rattle.yaml_round.specs.round_laws_documents.round_laws_back.content.round_laws.emit_laws_streams.scan.declared.yaml_encoding_t.{yaml_encoding_t}
+use Rattle.yaml_round.specs.round_laws_documents.round_laws_back.content.round_laws.emit_laws_streams.scan.declared.yaml_encoding_t.TheVariants.{YAML_ANY_ENCODING}
 use Rattle.yaml_round.specs.round_laws_documents.round_laws_back.content.round_laws.emit_laws_streams.scan.Faults.{Fault}
 use Rattle.yaml_round.specs.round_laws_documents.round_laws_back.content.Loads.{loads_of}
+use Rattle.yaml_round.specs.round_laws_documents.round_laws_loads.Agree.{AreAgreeing}
+use Rattle.yaml_round.specs.round_laws_documents.round_laws_dumps.Events.{trees_of_dumps, AreNumerable}
 use Rattle.yaml_round.specs.declared.yaml_settings_t.{yaml_settings_t}
+use Rattle.yaml_round.specs.Answers.{canonical_text}
 use Rattle.yaml_round.specs.Reload.{IsDumped, IsNormalOfDocuments, IsReloaded}
 
 -- No fault ends the loads of the input's events, and the documents are laid out, or a limit is passed.
@@ -17,7 +21,7 @@ LaysOutLoads from settings input r = ((loads_of from input).fault ≡ None)
 abbrev pub AreLoadsReloaded : yaml_encoding_t → yaml_settings_t → List ℕ
     → Result (List ℕ) Fault → Type 0
 AreLoadsReloaded from settings input (Ok text) = LaysOutLoads from settings input (Ok text)
-    × IsNormalOfDocuments from settings input text
+    × IsNormalOfDocuments settings (loads_of from input).documents text
 AreLoadsReloaded from settings input (Err fault) = ((loads_of from input).fault ≡ Some fault)
     ⊎ LaysOutLoads from settings input (Err fault)
 
@@ -26,3 +30,22 @@ abbrev pub ReloadsAreOfLoads : Type 0
 ReloadsAreOfLoads = (from : yaml_encoding_t) (settings : yaml_settings_t) (input : List ℕ)
     (r : Result (List ℕ) Fault)
     → IsReloaded from settings input r ↔ AreLoadsReloaded from settings input r
+
+-- The normal form, said of what events load: the documents that a source loads in front of a fault are told by the text too.
+pub record IsNormalOfLoads (from : yaml_encoding_t) (settings : yaml_settings_t)
+    (input text : List ℕ) : Type 0 where
+  pub is : text ≡ canonical_text settings (trees_of_dumps (loads_of from input).documents)
+  pub right : (loads_of YAML_ANY_ENCODING text).fault ≡ None
+  pub agree : AreAgreeing (loads_of from input).documents
+      (loads_of YAML_ANY_ENCODING text).documents
+  pub only : (other : yaml_encoding_t) (source : List ℕ)
+      → AreNumerable (loads_of other source).documents
+      → canonical_text settings (trees_of_dumps (loads_of other source).documents) ≡ text
+      → AreAgreeing (loads_of from input).documents (loads_of other source).documents
+  pub again : IsDumped settings (loads_of YAML_ANY_ENCODING text).documents (Ok text)
+
+-- So is what is answered.
+abbrev pub ReloadsAreNormalOfLoads : Type 0
+ReloadsAreNormalOfLoads = (from : yaml_encoding_t) (settings : yaml_settings_t)
+    (input text : List ℕ) → IsReloaded from settings input (Ok text)
+    → IsNormalOfLoads from settings input text

@@ -1,6 +1,6 @@
 //! Each function's contract is a law.
 
-ghost use Rattle.yaml_round_laws_reloads.specs.Loads.{ReloadsAreOfLoads};
+ghost use Rattle.yaml_round_laws_reloads.specs.Loads.{ReloadsAreNormalOfLoads, ReloadsAreOfLoads};
 ghost use Rattle.yaml_round_laws_reloads.specs.Laws.{
   AnswersAndReloadsAgree,
   NamesLeaveReloads,
@@ -27,4 +27,10 @@ pub fn names_leave_reloads()
 /// laid out; or the fault that ends them; or, where none does, a limit that the layout passes.
 pub fn reloads_are_of_loads()
     ensures { ReloadsAreOfLoads }
+{}
+
+/// And what it answers is a normal form of what events load: documents that a source loads in front of a fault, and whose text it is,
+/// agree with the input's too.
+pub fn reloads_are_normal_of_loads()
+    ensures { ReloadsAreNormalOfLoads }
 {}

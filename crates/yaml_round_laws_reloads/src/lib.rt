@@ -4,5 +4,6 @@
 mod laws;
 
 pub use laws::{
-    answers_and_reloads_agree, names_leave_reloads, reloads_are_of_loads, reloads_tell_documents,
+    answers_and_reloads_agree, names_leave_reloads, reloads_are_normal_of_loads,
+    reloads_are_of_loads, reloads_tell_documents,
 };

@@ -1,6 +1,7 @@
 //! Events by their constructors, and the texts that these refuse.
 
 use std::alloc::Global;
+use std::process::Abort;
 use std::test::Fail;
 use yaml_parse::{
     yaml_alias_event_initialize, yaml_document_end_event_initialize,
@@ -12,14 +13,16 @@ use yaml_parse::{
     yaml_tag_directive_t, yaml_text_fault_t, yaml_version_directive_t,
 };
 
-fn text(alloc: Global, bytes: &[u8]) -> Result<Vec<u8>, Fail> {
-    Ok(bytes.to_vec(alloc)?)
-}
-
-fn directive(alloc: Global, handle: &[u8], prefix: &[u8]) -> Result<yaml_tag_directive_t, Fail> {
-    let handle = text(alloc, handle)?;
-    let prefix = text(alloc, prefix)?;
-    Ok(yaml_tag_directive_t { handle, prefix })
+fn push(
+    alloc: Global,
+    directives: &mut Vec<yaml_tag_directive_t>,
+    handle: &[u8],
+    prefix: &[u8],
+) -> Result<(), Fail> {
+    let handle = handle.to_vec(alloc)?;
+    let prefix = prefix.to_vec(alloc)?;
+    directives.push(yaml_tag_directive_t { handle, prefix })?;
+    Ok(())
 }
 
 // An explicit start of a YAML 1.1 document with that directive alone.
@@ -53,72 +56,133 @@ fn holds_plain_scalar(event: &yaml_event_t, name: &[u8], text: &[u8]) -> bool {
     }
 }
 
+// An explicit start of a YAML 1.1 document with those directives.
+fn document_start(
+    alloc: Global,
+    directives: &[yaml_tag_directive_t],
+) -> Result<yaml_event_t, yaml_text_fault_t> {
+    let version = Some(yaml_version_directive_t { major: 1, minor: 1 });
+    yaml_document_start_event_initialize(alloc, version, directives, false)
+}
+
+fn is_document_start<R: Abort>(rt: &R, event: &yaml_event_t) {
+    assert!(rt; yaml_event_utf8(event));
+    assert_eq!(rt; event.start_mark.index, 0);
+    assert!(rt; holds_directive(event, b"!e!", b"tag:x,2000:"));
+}
+
+fn makes_document_start<R: AllocGlobal + Abort>(
+    rt: &R,
+    directives: &[yaml_tag_directive_t],
+) -> Result<(), Fail> {
+    let event = document_start(rt.alloc(), directives)?;
+    is_document_start(rt, &event);
+    Ok(())
+}
+
+fn refuses_document_start<R: AllocGlobal + Abort>(rt: &R, directives: &[yaml_tag_directive_t]) {
+    let refused = document_start(rt.alloc(), directives);
+    assert!(rt; matches!(&refused, Err(yaml_text_fault_t::NotUtf8)));
+}
+
+// A directive, and behind it one whose prefix isn't UTF-8.
+fn document_starts<R: AllocGlobal + Abort>(
+    rt: &R,
+    directives: &mut Vec<yaml_tag_directive_t>,
+) -> Result<(), Fail> {
+    push(rt.alloc(), directives, b"!e!", b"tag:x,2000:")?;
+    makes_document_start(rt, directives.as_slice())?;
+    push(rt.alloc(), directives, b"!", b"\xFF")?;
+    refuses_document_start(rt, directives.as_slice());
+    Ok(())
+}
+
 #[test]
 fn makes_document_starts(rt: HostRuntime) -> Result<(), Fail> {
-    let alloc = rt.alloc();
-    let version = Some(yaml_version_directive_t { major: 1, minor: 1 });
-    let mut directives = Vec::new(alloc);
-    directives.push(directive(alloc, b"!e!", b"tag:x,2000:")?)?;
-    let event = yaml_document_start_event_initialize(alloc, version, &directives, false)?;
+    let mut directives = Vec::new(rt.alloc());
+    document_starts(&rt, &mut directives)
+}
+
+fn makes_alias<R: AllocGlobal + Abort>(rt: &R) -> Result<(), Fail> {
+    let event = yaml_alias_event_initialize(rt.alloc(), b"a")?;
+    assert_eq!(rt; event.type_(), yaml_event_type_t::YAML_ALIAS_EVENT);
     assert!(rt; yaml_event_utf8(&event));
-    assert_eq!(rt; event.start_mark.index, 0);
-    assert!(rt; holds_directive(&event, b"!e!", b"tag:x,2000:"));
-    directives.push(directive(alloc, b"!", b"\xFF")?)?;
-    let refused = yaml_document_start_event_initialize(alloc, None, &directives, false);
-    assert!(rt; matches!(&refused, Err(yaml_text_fault_t::NotUtf8)));
     Ok(())
 }
 
 #[test]
 fn makes_aliases(rt: HostRuntime) -> Result<(), Fail> {
-    let alloc = rt.alloc();
-    let event = yaml_alias_event_initialize(alloc, b"a")?;
-    assert_eq!(rt; event.type_(), yaml_event_type_t::YAML_ALIAS_EVENT);
-    assert!(rt; yaml_event_utf8(&event));
-    let refused = yaml_alias_event_initialize(alloc, b"\xFF");
+    makes_alias(&rt)?;
+    let refused = yaml_alias_event_initialize(rt.alloc(), b"\xFF");
     assert!(rt; matches!(&refused, Err(yaml_text_fault_t::NotUtf8)));
     Ok(())
+}
+
+const PLAIN: yaml_scalar_style_t = yaml_scalar_style_t::YAML_PLAIN_SCALAR_STYLE;
+
+fn makes_scalar<R: AllocGlobal + Abort>(rt: &R) -> Result<(), Fail> {
+    let alloc = rt.alloc();
+    let event = yaml_scalar_event_initialize(alloc, Some(b"a"), None, b"k", true, false, PLAIN)?;
+    assert!(rt; yaml_event_utf8(&event));
+    assert!(rt; holds_plain_scalar(&event, b"a", b"k"));
+    Ok(())
+}
+
+fn refuses_scalar<R: AllocGlobal + Abort>(
+    rt: &R,
+    anchor: Option<&[u8]>,
+    tag: Option<&[u8]>,
+    value: &[u8],
+) {
+    let alloc = rt.alloc();
+    let refused = yaml_scalar_event_initialize(alloc, anchor, tag, value, true, true, PLAIN);
+    assert!(rt; matches!(&refused, Err(yaml_text_fault_t::NotUtf8)));
 }
 
 #[test]
 fn makes_scalars(rt: HostRuntime) -> Result<(), Fail> {
-    let alloc = rt.alloc();
-    let style = yaml_scalar_style_t::YAML_PLAIN_SCALAR_STYLE;
-    let event = yaml_scalar_event_initialize(alloc, Some(b"a"), None, b"k", true, false, style)?;
-    assert!(rt; yaml_event_utf8(&event));
-    assert!(rt; holds_plain_scalar(&event, b"a", b"k"));
-    for (anchor, tag, value) in [
-        (Some(b"\xFF".as_slice()), None, b"k".as_slice()),
-        (None, Some(b"\xFF".as_slice()), b"k".as_slice()),
-        (None, None, b"\xFF".as_slice()),
-    ] {
-        let refused = yaml_scalar_event_initialize(alloc, anchor, tag, value, true, true, style);
-        assert!(rt; matches!(&refused, Err(yaml_text_fault_t::NotUtf8)));
-    }
+    makes_scalar(&rt)?;
+    refuses_scalar(&rt, Some(b"\xFF"), None, b"k");
+    refuses_scalar(&rt, None, Some(b"\xFF"), b"k");
+    refuses_scalar(&rt, None, None, b"\xFF");
     Ok(())
 }
 
-#[test]
-fn makes_collection_starts(rt: HostRuntime) -> Result<(), Fail> {
-    let alloc = rt.alloc();
+fn sequence_start(
+    alloc: Global,
+    anchor: Option<&[u8]>,
+    tag: Option<&[u8]>,
+) -> Result<yaml_event_t, yaml_text_fault_t> {
     let flow = yaml_sequence_style_t::YAML_FLOW_SEQUENCE_STYLE;
-    let event = yaml_sequence_start_event_initialize(alloc, None, Some(b"!t"), false, flow)?;
+    yaml_sequence_start_event_initialize(alloc, anchor, tag, false, flow)
+}
+
+#[test]
+fn makes_sequence_starts(rt: HostRuntime) -> Result<(), Fail> {
+    let refused = sequence_start(rt.alloc(), Some(b"\xC0\x80"), None);
+    assert!(rt; matches!(&refused, Err(yaml_text_fault_t::NotUtf8)));
+    let event = sequence_start(rt.alloc(), None, Some(b"!t"))?;
     assert_eq!(rt; event.type_(), yaml_event_type_t::YAML_SEQUENCE_START_EVENT);
     assert!(rt; yaml_event_utf8(&event));
-    let refused = yaml_sequence_start_event_initialize(alloc, Some(b"\xC0\x80"), None, true, flow);
-    assert!(rt; matches!(&refused, Err(yaml_text_fault_t::NotUtf8)));
+    Ok(())
+}
+
+fn mapping_start(
+    alloc: Global,
+    anchor: Option<&[u8]>,
+    tag: Option<&[u8]>,
+) -> Result<yaml_event_t, yaml_text_fault_t> {
     let block = yaml_mapping_style_t::YAML_BLOCK_MAPPING_STYLE;
-    let event = yaml_mapping_start_event_initialize(alloc, Some(b"a"), None, true, block)?;
+    yaml_mapping_start_event_initialize(alloc, anchor, tag, true, block)
+}
+
+#[test]
+fn makes_mapping_starts(rt: HostRuntime) -> Result<(), Fail> {
+    let refused = mapping_start(rt.alloc(), None, Some(b"\xED\xA0\x80"));
+    assert!(rt; matches!(&refused, Err(yaml_text_fault_t::NotUtf8)));
+    let event = mapping_start(rt.alloc(), Some(b"a"), None)?;
     assert_eq!(rt; event.type_(), yaml_event_type_t::YAML_MAPPING_START_EVENT);
     assert!(rt; yaml_event_utf8(&event));
-    let refused = yaml_mapping_start_event_initialize(
-        alloc,
-        None,
-        Some(b"\xED\xA0\x80"),
-        true,
-        block,
-    );
-    assert!(rt; matches!(&refused, Err(yaml_text_fault_t::NotUtf8)));
     Ok(())
 }
 

@@ -63,18 +63,60 @@ const MAPPING: [yaml_event_type_t; 8] = [
     yaml_event_type_t::YAML_STREAM_END_EVENT,
 ];
 
-#[test]
-fn behind_the_end(rt: HostRuntime) -> Result<(), Fail> {
-    let mut parser = parser_of(rt.alloc(), b"a: 1")?;
-    gives(&rt, &mut parser, &MAPPING)?;
-    is_over(&rt, &mut parser)?;
-    is_over(&rt, &mut parser)?;
-    let kind = yaml_parser_prefix(&parser).kind;
+// The parser gives these events, and behind them nothing, as often as it is asked.
+fn ends_behind<R: Abort, S: yaml_token_source_t>(
+    rt: &R,
+    parser: &mut yaml_parser_t<S>,
+    types: &[yaml_event_type_t],
+) -> Result<(), Fail> {
+    gives(rt, parser, types)?;
+    is_over(rt, parser)?;
+    is_over(rt, parser)?;
+    let kind = yaml_parser_prefix(parser).kind;
     assert_eq!(rt; kind, yaml_error_type_t::YAML_NO_ERROR);
     Ok(())
 }
 
-// So many documents are loaded, then one is refused. Behind its fault no event is; the parser's own place is the fault's.
+#[test]
+fn behind_the_end(rt: HostRuntime) -> Result<(), Fail> {
+    let mut parser = parser_of(rt.alloc(), b"a: 1")?;
+    ends_behind(&rt, &mut parser, &MAPPING)
+}
+
+// So many documents are loaded.
+fn loads<R: Abort>(
+    rt: &R,
+    parser: &mut yaml_parser_t<yaml_adapter_t>,
+    before: u64,
+) -> Result<(), Fail> {
+    for _ in 0..before {
+        drop(next_of(rt, parser)?);
+    }
+    Ok(())
+}
+
+// Then one is refused. Behind its fault no event is; the parser's own place is the fault's.
+fn next_is_refused<R: Abort>(
+    rt: &R,
+    parser: &mut yaml_parser_t<yaml_adapter_t>,
+    problem: &str,
+) -> Result<(), Fail> {
+    let fault = next_of(rt, parser).err().ok_or("accepted")?;
+    assert_eq!(rt; fault.problem, problem);
+    assert_eq!(rt; yaml_parser_prefix(parser).problem_mark, fault.problem_mark);
+    is_over(rt, parser)
+}
+
+fn refuses<R: Abort>(
+    rt: &R,
+    parser: &mut yaml_parser_t<yaml_adapter_t>,
+    before: u64,
+    problem: &str,
+) -> Result<(), Fail> {
+    loads(rt, parser, before)?;
+    next_is_refused(rt, parser, problem)
+}
+
 fn load_is_refused<R: AllocGlobal + Abort>(
     rt: &R,
     text: &[u8],
@@ -82,16 +124,7 @@ fn load_is_refused<R: AllocGlobal + Abort>(
     problem: &str,
 ) -> Result<(), Fail> {
     let mut parser = parser_of(rt.alloc(), text)?;
-    for _ in 0..before {
-        let _ = next_of(rt, &mut parser)?;
-    }
-    let fault = next_of(rt, &mut parser).err().ok_or("accepted")?;
-    assert_eq!(rt; fault.problem, problem);
-    assert_eq!(rt;
-        yaml_parser_prefix(&parser).problem_mark,
-        fault.problem_mark
-    );
-    is_over(rt, &mut parser)
+    refuses(rt, &mut parser, before, problem)
 }
 
 #[test]
@@ -116,6 +149,11 @@ fn push(list: &mut yaml_token_list_t, body: yaml_token_body_t) -> Result<(), Fai
     Ok(())
 }
 
+const EMPTY: [yaml_event_type_t; 2] = [
+    yaml_event_type_t::YAML_STREAM_START_EVENT,
+    yaml_event_type_t::YAML_STREAM_END_EVENT,
+];
+
 // A fault that stands behind the end of the stream.
 fn never() -> yaml_fault_t {
     yaml_fault_t {
@@ -130,12 +168,16 @@ fn never() -> yaml_fault_t {
     }
 }
 
+fn push_stream(list: &mut yaml_token_list_t) -> Result<(), Fail> {
+    let encoding = yaml_encoding_t::YAML_UTF8_ENCODING;
+    push(list, yaml_token_body_t::StreamStart { encoding })?;
+    push(list, yaml_token_body_t::StreamEnd)
+}
+
 // A stream without documents, and a fault behind it.
 fn ended(alloc: Global) -> Result<yaml_token_list_t, Fail> {
     let mut list = yaml_token_list_t::new(alloc);
-    let encoding = yaml_encoding_t::YAML_UTF8_ENCODING;
-    push(&mut list, yaml_token_body_t::StreamStart { encoding })?;
-    push(&mut list, yaml_token_body_t::StreamEnd)?;
+    push_stream(&mut list)?;
     list.end(never());
     Ok(list)
 }
@@ -143,12 +185,7 @@ fn ended(alloc: Global) -> Result<yaml_token_list_t, Fail> {
 // Behind the end of the stream no token is asked for.
 #[test]
 fn a_fault_behind_the_stream(rt: HostRuntime) -> Result<(), Fail> {
-    let mut parser = yaml_parser_initialize(rt.alloc(), ended(rt.alloc())?)?;
-    let types = [
-        yaml_event_type_t::YAML_STREAM_START_EVENT,
-        yaml_event_type_t::YAML_STREAM_END_EVENT,
-    ];
-    gives(&rt, &mut parser, &types)?;
-    is_over(&rt, &mut parser)?;
-    is_over(&rt, &mut parser)
+    let list = ended(rt.alloc())?;
+    let mut parser = yaml_parser_initialize(rt.alloc(), list)?;
+    ends_behind(&rt, &mut parser, &EMPTY)
 }

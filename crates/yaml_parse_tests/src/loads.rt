@@ -40,13 +40,39 @@ fn is_empty(document: &yaml_document_t) -> bool {
         && document.end_mark() == ZERO
 }
 
+// Whether the next document has a root.
+fn next_has_root<R: Abort>(
+    rt: &R,
+    parser: &mut yaml_parser_t<yaml_adapter_t>,
+) -> Result<bool, yaml_fault_t> {
+    let document = next_of(rt, parser)?;
+    let has_root = has_root(&document);
+    drop(document);
+    Ok(has_root)
+}
+
+// Whether the next document has nothing.
+fn next_is_empty<R: Abort>(
+    rt: &R,
+    parser: &mut yaml_parser_t<yaml_adapter_t>,
+) -> Result<bool, yaml_fault_t> {
+    let document = next_of(rt, parser)?;
+    let is_empty = is_empty(&document);
+    drop(document);
+    Ok(is_empty)
+}
+
+fn has_one<R: Abort>(rt: &R, parser: &mut yaml_parser_t<yaml_adapter_t>) -> Result<(), Fail> {
+    assert!(rt; next_has_root(rt, parser)?);
+    assert!(rt; next_is_empty(rt, parser)?);
+    assert!(rt; next_is_empty(rt, parser)?);
+    Ok(())
+}
+
 // The text has one document. The one that ends its stream has nothing, nor has one that is asked for behind it.
 fn ends<R: AllocGlobal + Abort>(rt: &R, text: &[u8]) -> Result<(), Fail> {
     let mut parser = parser_of(rt.alloc(), text)?;
-    assert!(rt; has_root(&next_of(rt, &mut parser)?));
-    assert!(rt; is_empty(&next_of(rt, &mut parser)?));
-    assert!(rt; is_empty(&next_of(rt, &mut parser)?));
-    Ok(())
+    has_one(rt, &mut parser)
 }
 
 #[test]
@@ -103,15 +129,32 @@ fn items(document: &yaml_document_t) -> &[i32] {
     }
 }
 
+// Whether the document is that sequence, and has a node for each anchor.
+fn holds(document: &yaml_document_t, want: &[i32]) -> bool {
+    let last = i32::from(ANCHORS) + 1;
+    items(document) == want
+        && yaml_document_get_node(document, last).is_some()
+        && yaml_document_get_node(document, last + 1).is_none()
+}
+
+fn next_holds<R: Abort>(
+    rt: &R,
+    parser: &mut yaml_parser_t<yaml_adapter_t>,
+    want: &[i32],
+) -> Result<(), Fail> {
+    let document = next_of(rt, parser)?;
+    assert!(rt; holds(&document, want));
+    Ok(())
+}
+
+fn loads<R: AllocGlobal + Abort>(rt: &R, text: &[u8], want: &[i32]) -> Result<(), Fail> {
+    let mut parser = parser_of(rt.alloc(), text)?;
+    next_holds(rt, &mut parser, want)
+}
+
 #[test]
 fn many_anchors(rt: HostRuntime) -> Result<(), Fail> {
     let text = anchored(rt.alloc())?;
     let want = numbers(rt.alloc())?;
-    let mut parser = parser_of(rt.alloc(), &text)?;
-    let document = next_of(&rt, &mut parser)?;
-    assert!(rt; items(&document) == want.as_slice());
-    let last = i32::from(ANCHORS) + 1;
-    assert!(rt; yaml_document_get_node(&document, last).is_some());
-    assert!(rt; yaml_document_get_node(&document, last + 1).is_none());
-    Ok(())
+    loads(&rt, &text, &want)
 }

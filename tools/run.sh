@@ -3,8 +3,8 @@
 #
 #     tools/run.sh [FILE]
 #
-# Where the proved program is built and newer than all sources, it is used at once. Else a program that is built without
-# proofs is used, and a line on standard error says so: it is built where none is kept that is newer than all sources.
+# Where the proved program is built and newer than all sources, it is used at once. Else one that is built without proofs is
+# used, and a line on standard error says so: it is built where none is kept that is newer than all sources.
 set -u
 top=$(cd "$(dirname "$0")/.." && pwd)
 program=$top/crates/yaml_cli/out/yaml_cli
@@ -32,6 +32,7 @@ without_notes() { grep -Ev '^(rt: |interpreter: |checked: |run=)'; }
 # By `rt try`, which keeps no program: where the kit doesn't build as tools/unproved.py has it, or the build is refused. One
 # step is all that its interpreter is given: a program that reads arguments gets no answer of it.
 try_it() {
+    say "that build has failed; tries the whole program by 'rt try'"
     notes=$(mktemp) || exit 2
     trap 'rm -f "$notes"' EXIT
     cd "$top/crates/yaml_cli" || exit 2
@@ -45,14 +46,23 @@ if "$top/tools/is_built.sh"; then
     format "$program"
     exit
 fi
-if "$top/tools/is_built.sh" "$unproved"; then
-    say "the program is one that was built without proofs; 'make program' builds the proved one"
+if [ -n "$file" ] && [ ! -r "$file" ]; then
+    echo "yaml_cli: cannot read the input" >&2
+    exit 1
+fi
+if "$top/tools/is_built.sh" "$unproved" && [ "$unproved" -nt "$top/tools/unproved.py" ]; then
+    say "runs the program that was built without proofs; 'make program' builds the proved one"
 else
-    say "builds the program without proofs, in about a minute, and keeps it for the next time;" \
+    say "builds the program without proofs, in about half a minute, and keeps it until a source changes;" \
         "'make program' builds the proved one"
     "$top/tools/unproved.py" || try_it
 fi
-format "$unproved"
+# It has no words, and formats what stands on standard input.
+if [ -n "$file" ]; then
+    "$unproved" <"$file"
+else
+    printf '["a", "b"]' | "$unproved"
+fi
 status=$?
 # a signal: a check that is built into the program, or the machine, has stopped it
 [ $status -lt 128 ] || say "the program was stopped; 'rt try -- fmt FILE' in crates/yaml_cli says where"

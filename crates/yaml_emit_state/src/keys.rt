@@ -94,6 +94,7 @@ fn is_simple_start(context: &Context, start: &Start) -> bool
         )
 }
 
+// Whether an event may be a simple key. It is long because it has an arm for each kind of event.
 #[tactic(auto, unfolding(yaml_emit_layout::specs::State::is_simple_event))]
 fn is_simple_by(context: &Context, event: &yaml_event_body_t, empty: bool) -> bool
     ensures { result ≡ is_simple_event (lent_context context.now)

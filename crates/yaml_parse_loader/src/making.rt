@@ -403,7 +403,8 @@ impl Making {
         self.open(anchor, node, level)
     }
 
-    /// What the event makes of the document; true where the document is whole.
+    /// What the event makes of the document; true where the document is whole. It is long because it has an arm for each kind
+    /// of event.
     pub fn apply(&mut self, event: yaml_event_t) -> Result<bool, yaml_fault_t>
         ensures { Applies (step (event_of event) (loading_of self.old)) result
             (loading_of self.new) }

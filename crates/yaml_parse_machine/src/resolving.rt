@@ -393,7 +393,7 @@ fn with_properties(
     Ok(node(alloc, properties.anchor.take(), full, shape))
 }
 
-// The event of an item, whose place is told besides.
+// The event of an item, whose place is told besides. It is long because it has an arm for each kind of item.
 fn settle_body(
     alloc: Global,
     directives: &mut Directives,

@@ -77,7 +77,7 @@ pub fn yaml_alias_event_initialize(
 }
 
 /// A SCALAR event with copies of the texts. The tag may be left out in plain style where `plain_implicit` holds, in
-/// the other styles where `quoted_implicit` does.
+/// the other styles where `quoted_implicit` does. Its arguments are libyaml's, and the allocator.
 pub fn yaml_scalar_event_initialize(
     alloc: Global,
     anchor: Option<&[u8]>,

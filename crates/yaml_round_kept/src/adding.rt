@@ -104,7 +104,7 @@ fn add_scalar(
     add_text(bytes, value)
 }
 
-// Adds what a normalized event says.
+// Adds what a normalized event says. It is long because it has an arm for each kind of event.
 #[tactic(auto, unfolding(crate::specs::Spelled::spelled))]
 fn add_event(bytes: &mut Vec<u8>, event: &yaml_event_t) -> Result<(), AllocError>
     ensures { OnOk result (bytes.new.items ≡ bytes.old.items

@@ -113,7 +113,8 @@ fn after_scalar<'a>(
     after_text(left, value)
 }
 
-/// What is left behind what a normalized event says, where that stands in front of what is left.
+/// What is left behind what a normalized event says, where that stands in front of what is left. It is long because it has
+/// an arm for each kind of event.
 #[tactic(auto, unfolding(crate::specs::Spelled::spelled))]
 pub fn after_event<'a>(left: &'a [u8], event: &yaml_event_t) -> Option<&'a [u8]>
     ensures { Leaves (spelled (event_of event.now).body) left.now result }

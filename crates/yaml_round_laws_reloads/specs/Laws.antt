@@ -36,7 +36,8 @@ AnswersAndReloadsAgree = (from : yaml_encoding_t) (s z : yaml_settings_t) (input
 
 -- Inputs with one content but for the names of each document's anchors, no two names becoming one, have one answer.
 abbrev pub NamesLeaveReloads : Type 0
-NamesLeaveReloads = (s : yaml_settings_t) (r : ℕ → Renaming) (c : List content.Document) → AreOneToOne r c
+NamesLeaveReloads = (s : yaml_settings_t) (r : ℕ → Renaming) (c : List content.Document)
+    → AreOneToOne r c
     → (a_from b_from : yaml_encoding_t) (a b t u : List ℕ)
     → HasContent a_from a c → HasContent b_from b (renamed r c)
     → IsReloaded a_from s a (Ok t) → IsReloaded b_from s b (Ok u) → t ≡ u

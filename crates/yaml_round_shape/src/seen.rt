@@ -115,7 +115,7 @@ fn while_right(right: bool, shape: Shape) -> Shape
     if right { shape } else { Shape::Other }
 }
 
-/// What is known with one more event, normalized.
+/// What is known with one more event, normalized. It is long because it has an arm for each kind of event.
 #[tactic(auto, unfolding(crate::specs::Seen::seen))]
 pub fn seen_with(shape: Shape, event: &yaml_event_t) -> Shape
     ensures { result ≡ seen.seen shape (emitter_event (event_of event.now).body) }

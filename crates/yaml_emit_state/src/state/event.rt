@@ -69,7 +69,7 @@ fn put_start_node(
 }
 
 /// What is written for an event in its right place, but for the depth, by whether it opens a collection that the next event closes,
-/// and by whether it is a simple key.
+/// and by whether it is a simple key. It is long because it has an arm for each kind of event.
 #[tactic(auto, unfolding(yaml_emit_layout::specs::State::text_at))]
 pub fn put_event(
     sink: &mut Sink,

@@ -1,5 +1,5 @@
 # make run: formats FILE, or a small text where none is named, with the proved program where it is built and newer than
-#   the sources, else with one that is built without proofs.
+#   the sources, else with the engine built without proofs, which is kept in out/unproved.
 # make test: the gate.
 # make program: proves and builds crates/yaml_cli/out/yaml_cli, and says how far it is.
 # make install: puts the proved program into PREFIX/bin, and its man page and completions below PREFIX/share, below DESTDIR

@@ -23,11 +23,13 @@ TOP = os.path.dirname(os.path.dirname(os.path.abspath(__file__)))
 CRATE = f"{TOP}/crates/yaml_cli"
 PROGRAM = f"{CRATE}/out/yaml_cli"
 LOGS = f"{CRATE}/out/program"
-FROM_NOTHING = "up to half an hour from nothing on 4 processors, less where checks have kept their work"
+FROM_NOTHING = "some 35 minutes from nothing on 4 processors, less where checks have kept their work"
 # What a check with one job is to find free, in bytes; each further job takes less.
 MEMORY = 3_000_000_000
 # More jobs than these don't make the check of one crate shorter.
 MOST_JOBS = 4
+# A crate that took fewer seconds was taken from what a check kept, and says nothing of how fast crates are proved.
+PROVED_SECONDS = 5
 BEGAN = time.monotonic()
 
 
@@ -92,6 +94,7 @@ class Lanes:
         self.left = sorted(crates, key=lambda it: -behind[it])
         self.top, self.lanes = crates[-1], lanes
         self.total, self.done, self.running, self.failed = len(crates), set(), {}, []
+        self.proved_lines = 0
 
     def begin(self, pool):
         """Begins what can begin, each with its share of the idle processors."""
@@ -104,17 +107,26 @@ class Lanes:
             self.left.remove(it)
             self.running[pool.submit(built, it, it is self.top, jobs)] = it, jobs
 
+    def time_left(self):
+        """How long the rest takes if it is proved as fast as what was proved so far."""
+        rest = sum(self.lines.values()) - sum(self.lines[it] for it in self.done)
+        if not (rest and self.proved_lines):
+            return ""
+        return f"; some {1 + int((time.monotonic() - BEGAN) * rest / self.proved_lines) // 60} min left"
+
     def end(self):
         """Waits until one has ended, and tells it."""
         for future in wait(self.running, return_when=FIRST_COMPLETED).done:
             crate, jobs = self.running.pop(future)
             status, spent = future.result()
             self.done.add(crate)
+            self.proved_lines += self.lines[crate] if spent > PROVED_SECONDS else 0
             if status:
                 self.failed.append(crate.name)
             part = 100 * sum(self.lines[it] for it in self.done) // sum(self.lines.values())
             word = f"NOT PROVED, by {os.path.relpath(LOGS)}/{crate.name}.log" if status else "proved"
-            say(f"{len(self.done)} of {self.total}, {part} in 100: {crate.name} {word}, {spent:.0f} s, jobs {jobs}")
+            line = f"{len(self.done)} of {self.total}, {part} in 100: {crate.name} {word}, {spent:.0f} s, jobs {jobs}"
+            say(line + self.time_left())
 
     def run(self):
         with ThreadPoolExecutor(self.lanes) as pool:

@@ -1,0 +1,131 @@
+#!/usr/bin/env python3
+"""Lists what breaks the rules of the house in CONTRIBUTING.md, by reading text. It fails where there is any.
+
+    tools/house.py             files of more than 600 lines; in src/ and specs/ clauses, code and definitions over 100
+                               columns (`use` lines, comments, texts and `#[tactic(..)]` aside); bodies of more than 40 lines
+                               without `long` in the comment above; functions of more than 6 arguments, without `arguments`
+                               there; laws that code calls; hints of inlining and reads that nothing uses, without a reason;
+                               public items without a doc comment
+    tools/house.py --names     records and data types of specs/ of which more than one crate has one of the name
+"""
+import collections
+import glob
+import os
+import re
+import sys
+
+import repository as repo
+
+USE = re.compile(r"\s*(?:(?:pub|unfoldable|ghost) )*use\b")
+ITEM = re.compile(r"\s*pub (?:fn|struct|enum|trait|const|extern|type)\b")
+
+
+def files():
+    found = [it for part in ("src", "specs", "proofs") for it in glob.glob(f"{repo.TOP}/crates/*/{part}/**/*.*t", recursive=True)]
+    return sorted(os.path.relpath(it, repo.TOP) for it in found)
+
+
+def comment_above(lines, at):
+    """The lines of comments and attributes above a line."""
+    found = []
+    while at > 0 and lines[at - 1].lstrip().startswith(("//", "#[", "--")):
+        at -= 1
+        found.append(lines[at].strip())
+    return found
+
+
+def wide_lines(path, lines):
+    in_use = False
+    for number, line in enumerate(lines, 1):
+        in_use = in_use or bool(USE.match(line))
+        plain = re.sub(r'b?"(?:\\.|[^"\\])*"', '""', line)
+        if not in_use and len(plain) > 100 and not line.lstrip().startswith(("//", "--", "#[tactic")):
+            yield f"{path}:{number}: {len(plain)} columns"
+        in_use = in_use and ";" not in line and not (path.endswith(".antt") and "}" in line)
+
+
+def unexplained(path, lines):
+    for at, line in enumerate(lines):
+        above = comment_above(lines, at)
+        said = [it for it in above if it.startswith("//") and not it.startswith("///")]
+        if "#[inline" in line and not said:
+            yield f"{path}:{at + 1}: a hint of inlining without a reason"
+        if re.match(r"\s*let _\w+ = ", line) and not said:
+            yield f"{path}:{at + 1}: a read that nothing uses, without a reason"
+        if ITEM.match(line) and not any(it.startswith("///") for it in above):
+            yield f"{path}:{at + 1}: public, without a doc comment"
+
+
+def arguments(it):
+    """How many arguments a function has."""
+    head, depth, count = repo.blanked(it.head), 0, 0
+    at = re.search(rf"fn {it.name}", head).end()
+    at = at if head[at] == "(" else closed_angle(head, at)
+    inner = ""
+    for sign in head[at + 1 :].replace("->", "  ").replace("=>", "  "):
+        depth += (sign in "([{<") - (sign in ")]}>")
+        if depth < 0:
+            break
+        count += sign == "," and depth == 0
+        inner = "" if sign == "," and depth == 0 else inner + sign
+    return count + bool(inner.strip())
+
+
+def closed_angle(head, at):
+    """The place of the bracket behind a function's type arguments."""
+    depth = 0
+    for place in range(at, len(head)):
+        depth += (head[place] == "<") - (head[place] == ">" and head[place - 1] != "-")
+        if depth == 0:
+            return head.index("(", place)
+    return at
+
+
+def wrong_functions():
+    every = repo.all_functions()
+    laws = {it.name: it.crate for it in every if repo.is_law(it)}
+    for it in every:
+        text = repo.read(it.path)
+        above = " ".join(comment_above(text.split("\n"), it.line - 1))
+        body = text[it.body : it.end] if it.body is not None else ""
+        where = f"{it.path}:{it.line}: {it.label}"
+        if body.count("\n") >= 40 and "long" not in above:
+            yield f"{where} has a body of {body.count(chr(10)) + 1} lines"
+        if arguments(it) > 6 and "arguments" not in above:
+            yield f"{where} has {arguments(it)} arguments"
+        for name in re.findall(r"(?<![\w.:])(\w+)\(", repo.blanked(body)):
+            is_called = laws.get(name) == it.crate and not repo.is_law(it)
+            if name == "document_is_sound" or (is_called and name not in {of.name for of in repo.functions(it.path)}):
+                yield f"{where} calls the law {name}"
+
+
+def twice_named():
+    """Records and data types of specs/ of which more than one crate has one of the name."""
+    found = collections.defaultdict(list)
+    for path in files():
+        if "/specs/" in path:
+            for name, it in repo.module(path).definitions.items():
+                if re.search(rf"^ *{repo.MODS}(?:record|data)\s", it.text, re.M):
+                    found[name].append(it)
+    for name, them in sorted(found.items()):
+        if len({it.crate for it in them}) > 1:
+            yield f"{name}: {', '.join(str(it) for it in them)}"
+
+
+def main():
+    if "--names" in sys.argv[1:]:
+        print("\n".join(twice_named()))
+        return 0
+    wrong = []
+    for path in files():
+        lines = repo.read(path).split("\n")
+        wrong += [f"{path}: {len(lines) - 1} lines"] if len(lines) > 601 else []
+        wrong += [] if "/proofs/" in path else wide_lines(path, lines)
+        wrong += unexplained(path, lines) if path.endswith(".rt") else []
+    wrong += wrong_functions()
+    print("\n".join(wrong) if wrong else "house: in order")
+    return bool(wrong)
+
+
+if __name__ == "__main__":
+    sys.exit(main())

@@ -12,10 +12,10 @@ use Rattle.yaml_parse_grammar.specs.Resolve.{Told}
 use Rattle.yaml_parse_grammar.specs.Remaining.{ParserRemaining, IsFinished, FaultOf}
 use Rattle.yaml_parse_loader.specs.Loading.{Loading, Fed, goes_on, loaded, refused, nothing_loaded, step, step_body, aliased, load, turn}
 use Rattle.yaml_parse.specs.Finds.{GivesNext, GivesEnd}
-use Rattle.yaml_parse.specs.Loads.{Loads, load_on, behind_all, loads, loads_of, unasked_on, unasked_at_refusal, unasked_of, LoadGives, LoadRefuses, KeepsLoading, told_events, LoadsSame}
+use Rattle.yaml_parse.specs.Loads.{Loads, load_on, behind_all, loads, loads_of, unasked_on, unasked_at_refusal, unasked_of, left_behind, LoadGives, LoadRefuses, KeepsLoading, told_events, LoadsSame}
 
 pub keeps_first : (c : ParserRemaining) (l : Loading) → l ≡ nothing_loaded → KeepsLoading c c l
-keeps_first c l e = record { same = ap (λ (x : Loading). loads c.events c.ending x) e; unasked = ap (λ (x : Loading). unasked_at_refusal c.events c.ending_unasked x) e; ending = refl; ending_unasked = refl; answered = refl }
+keeps_first c l e = record { same = ap (λ (x : Loading). loads c.events c.ending x) e; unasked = ap (λ (x : Loading). unasked_at_refusal c.events c.ending_unasked x) e; left = refl; ending = refl; ending_unasked = refl; answered = refl }
 
 -- the next event is fed
 fed : (i o n : ParserRemaining) (l : Loading) (e : Event) (c : Fed) → KeepsLoading i o l → GivesNext e o n → step e l ≡ c → loads_of i ≡ load_on c (loads n.events o.ending) n.events n.unasked
@@ -28,10 +28,15 @@ unfolding unasked_at_refusal
 fed_unasked i o n l e c k h s =
     sym k.unasked ∙ ap (λ (gs : List Told). unasked_at_refusal gs o.ending_unasked l) h.events ∙ ap (λ (x : Fed). unasked_on x n.unasked (unasked_at_refusal n.events o.ending_unasked)) s
 
+fed_left : (i o n : ParserRemaining) (l : Loading) (e : Event) → KeepsLoading i o l → GivesNext e o n → left_behind n.events n.unasked ≡ left_behind i.events i.unasked
+unfolding left_behind
+fed_left i o n l e k h = sym (ap (λ (gs : List Told). left_behind gs o.unasked) h.events) ∙ k.left
+
 pub keeps_on : (i o n : ParserRemaining) (l m : Loading) (e : Event) → KeepsLoading i o l → GivesNext e o n → step e l ≡ goes_on m → KeepsLoading i n m
 keeps_on i o n l m e k h s = record {
   same = ap (λ (f : Option Fault). loads n.events f m) h.ending ∙ sym (fed i o n l e (goes_on m) k h s);
   unasked = ap (λ (u : ℕ). unasked_at_refusal n.events u m) h.ending_unasked ∙ sym (fed_unasked i o n l e (goes_on m) k h s);
+  left = fed_left i o n l e k h;
   ending = h.ending ∙ k.ending;
   ending_unasked = h.ending_unasked ∙ k.ending_unasked;
   answered = h.answered ∙ k.answered;
@@ -56,10 +61,14 @@ all_unasked : (i o : ParserRemaining) (l : Loading) → KeepsLoading i o l → o
 unfolding unasked_at_refusal
 all_unasked i o l k p = sym k.unasked ∙ ap (λ (gs : List Told). unasked_at_refusal gs o.ending_unasked l) p
 
+all_left : (i o : ParserRemaining) (l : Loading) → KeepsLoading i o l → o.events ≡ [] → o.unasked ≡ left_behind i.events i.unasked
+unfolding left_behind
+all_left i o l k p = sym (ap (λ (gs : List Told). left_behind gs o.unasked) p) ∙ k.left
+
 pub loads_nothing : (i o n : ParserRemaining) (l : Loading) (d : Document) → KeepsLoading i o l → GivesEnd o n → d ≡ no_document → LoadGives (loads_of i) d i n
 loads_nothing i o n l d k h e =
     subst (λ (r : Loads). LoadGives r d i n) (sym (all_fed i o l None k h.events h.ending))
-    (e, record { finished = h.nothing.finished; answered = h.nothing.answered ∙ k.answered })
+    (e, record { finished = h.nothing.finished; unasked = h.nothing.unasked ∙ all_left i o l k h.events; answered = h.nothing.answered ∙ k.answered })
 
 pub load_faulty : (i o n : ParserRemaining) (l : Loading) (f : Fault) → KeepsLoading i o l → FaultOf o f n → LoadRefuses f i n
 load_faulty i o n l f k h = record {

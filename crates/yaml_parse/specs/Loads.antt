@@ -46,6 +46,11 @@ loads_of c = loads c.events c.ending nothing_loaded
 abbrev pub unasked_of : ParserRemaining → ℕ
 unasked_of c = unasked_at_refusal c.events c.ending_unasked nothing_loaded
 
+-- how many tokens are not asked for as the last of these events is given, or before it where there is none
+unfoldable pub left_behind : List Told → ℕ → ℕ
+left_behind [] n = n
+left_behind (g ∷ gs) n = left_behind gs g.1
+
 -- a document was loaded, and what stands behind it is left
 pub record GivesDocument (left : List Told) (count : ℕ) (old new : ParserRemaining) : Type 0 where
   pub events : new.events ≡ left
@@ -54,9 +59,10 @@ pub record GivesDocument (left : List Told) (count : ℕ) (old new : ParserRemai
   pub unasked : new.unasked ≡ count
   pub answered : new.answered ≡ old.answered
 
--- no document comes any more
+-- no document comes any more, and behind the last event no token is asked for
 pub record GivesNoDocument (old new : ParserRemaining) : Type 0 where
   pub finished : IsFinished new
+  pub unasked : new.unasked ≡ left_behind old.events old.unasked
   pub answered : new.answered ≡ old.answered
 
 -- a load gives the next document with what is left, or the document without nodes where no document comes any more
@@ -77,6 +83,7 @@ pub record LoadRefuses (f : Fault) (old new : ParserRemaining) : Type 0 where
 pub record KeepsLoading (initial now : ParserRemaining) (l : Loading) : Type 0 where
   pub same : loads now.events now.ending l ≡ loads_of initial
   pub unasked : unasked_at_refusal now.events now.ending_unasked l ≡ unasked_of initial
+  pub left : left_behind now.events now.unasked ≡ left_behind initial.events initial.unasked
   pub ending : now.ending ≡ initial.ending
   pub ending_unasked : now.ending_unasked ≡ initial.ending_unasked
   pub answered : now.answered ≡ initial.answered

@@ -1,5 +1,5 @@
 -- What a document's soundness says after a change.
-use Rattle.std.proofs.Common.{◌≡◌, ◌≤◌, ◌<◌, ℕ, zero, suc, ℤ, pos, List, [], ◌∷◌, ◌++◌, length, map, Option, Some, None, IsSome, IsUtf8, arith, sym, ◌∙◌, ap, subst, refl, get_or, Result, Ok, Err, MatchResult}
+use Rattle.std.proofs.Common.{◌≡◌, ◌≤◌, ◌<◌, ℕ, zero, suc, ℤ, pos, List, [], ◌∷◌, ◌++◌, length, map, Option, Some, None, IsSome, IsUtf8, OnOk, arith, sym, ◌∙◌, ap, subst, refl, get_or, Result, Ok, Err, MatchResult}
 use Rattle.std.proofs.Math.ListN.{set}
 use Rattle.std.specs.Prelude.{slice_get}
 use Rattle.std.proofs.lemmas.List.{length-map}
@@ -10,7 +10,7 @@ use Rattle.yaml_parse_model.specs.declared.yaml_text_fault_t.TheVariants.{NotUtf
 use Rattle.yaml_parse_model.specs.Constructors.{IsUtf8Option}
 use Rattle.yaml_parse_model.specs.Nodes.{Node, NodeBody, node_of}
 use Rattle.yaml_parse_model.specs.Nodes as node
-use Rattle.yaml_parse_document.specs.Documents.{Document, node_at, IsId, AreIds, ArePairs, IsSoundBody, IsSoundNode, AreSound, IsDocument, with_node, change_place, change_node, change_body, with_item, with_pair, IsKindAt, tag_or, str_tag, seq_tag, map_tag, Adds, Appends}
+use Rattle.yaml_parse_document.specs.Documents.{Document, node_at, IsId, AreIds, ArePairs, IsSoundBody, IsSoundNode, AreSound, IsDocument, with_node, change_place, change_node, change_body, with_item, with_pair, IsKindAt, HasRoomAt, tag_or, str_tag, seq_tag, map_tag, Adds, Appends}
 
 -- ---- more nodes
 
@@ -131,29 +131,45 @@ set_same (x ∷ items) zero old new h e i = ap (λ n. n ∷ map node_of items) (
 set_same (x ∷ items) (suc k) old new h e i = ap (λ ns. node_of x ∷ ns) (set_same items k old new (omega arith) e i)
 
 -- an appending call, seen by views: what it changed, and that the document stays sound
-pub appended : {A : Type 0} (f : NodeBody → NodeBody) (d : Document) (items : List yaml_node_t) (k : ℕ) (id : ℤ) (old new : yaml_node_t) (r : Result A yaml_text_fault_t)
+pub appended : {A : Type 0} (f : NodeBody → NodeBody) (count : NodeBody → ℕ) (d : Document) (items : List yaml_node_t) (k : ℕ) (id : ℤ) (old new : yaml_node_t) (r : Result A yaml_text_fault_t)
     → id ≡ pos (suc k) → k < length items → old ≡ get_or items k old → d.nodes ≡ map node_of items
-    → MatchResult r (λ _. node_of new ≡ record (node_of old) { body = f (node_of old).body }) (λ e. (node_of new ≡ node_of old) × (e ≡ Memory))
+    → MatchResult r (λ _. (node_of new ≡ record (node_of old) { body = f (node_of old).body }) × (count (node_of old).body < 2147483647)) (λ e. (node_of new ≡ node_of old) × (e ≡ Memory))
     → Appends d (change_body f id d) r (record d { nodes = map node_of (set items k new) })
-appended f d items k id old new (Ok x) at_k inside is view h =
+appended f count d items k id old new (Ok x) at_k inside is view h =
     let same : map node_of (set items k new) ≡ change_node (λ n. record n { body = f n.body }) id d.nodes
-    = set_changes f items k old new inside is h ∙ ap (change_place (λ n. record n { body = f n.body }) k) (sym view)
+    = set_changes f items k old new inside is h.0 ∙ ap (change_place (λ n. record n { body = f n.body }) k) (sym view)
     ∙ ap (λ (i : ℤ). change_node (λ n. record n { body = f n.body }) i d.nodes) (sym at_k) in
     ap (λ (ns : List Node). let e : Document = record d { nodes = ns } in e) same
-appended f d items k id old new (Err e) at_k inside is view h =
+appended f count d items k id old new (Err e) at_k inside is view h =
     (ap (λ (ns : List Node). let e : Document = record d { nodes = ns } in e) (set_same items k old new inside is h.0 ∙ sym view), h.1)
 
-pub appended_sound : {A : Type 0} (f : NodeBody → NodeBody) (d : Document) (items : List yaml_node_t) (k : ℕ) (old new : yaml_node_t) (r : Result A yaml_text_fault_t)
+pub appended_sound : {A : Type 0} (f : NodeBody → NodeBody) (count : NodeBody → ℕ) (d : Document) (items : List yaml_node_t) (k : ℕ) (old new : yaml_node_t) (r : Result A yaml_text_fault_t)
     → k < length items → old ≡ get_or items k old → d.nodes ≡ map node_of items
-    → MatchResult r (λ _. node_of new ≡ record (node_of old) { body = f (node_of old).body }) (λ e. (node_of new ≡ node_of old) × (e ≡ Memory))
+    → MatchResult r (λ _. (node_of new ≡ record (node_of old) { body = f (node_of old).body }) × (count (node_of old).body < 2147483647)) (λ e. (node_of new ≡ node_of old) × (e ≡ Memory))
     → ((b : NodeBody) → IsSoundBody (length d.nodes) b → IsSoundBody (length d.nodes) (f b)) → IsDocument d
     → IsDocument (record d { nodes = map node_of (set items k new) })
-appended_sound f d items k old new (Ok x) inside is view h keeps s =
+appended_sound f count d items k old new (Ok x) inside is view h keeps s =
     subst (λ (ns : List Node). IsDocument (record d { nodes = ns }))
-    (sym (set_changes f items k old new inside is h ∙ ap (change_place (λ n. record n { body = f n.body }) k) (sym view)))
+    (sym (set_changes f items k old new inside is h.0 ∙ ap (change_place (λ n. record n { body = f n.body }) k) (sym view)))
     (changed_sound d f k keeps s)
-appended_sound f d items k old new (Err e) inside is view h keeps s =
+appended_sound f count d items k old new (Err e) inside is view h keeps s =
     subst (λ (ns : List Node). IsDocument (record d { nodes = ns })) (sym (set_same items k old new inside is h.0 ∙ sym view)) s
+
+-- an appending call had room for the entry
+kind_of_place : (IsKind : NodeBody → Type 0) (items : List yaml_node_t) (k : ℕ) (old : yaml_node_t) → k < length items → old ≡ get_or items k old
+    → IsKind (node_of old).body → IsKindAt IsKind (slice_get (map node_of items) k)
+kind_of_place IsKind [] k old h e i = absurd (omega arith)
+kind_of_place IsKind (x ∷ items) zero old h e i = subst (λ (n : yaml_node_t). IsKind (node_of n).body) e i
+kind_of_place IsKind (x ∷ items) (suc k) old h e i = kind_of_place IsKind items k old (omega arith) e i
+
+pub had_room : {A : Type 0} (f : NodeBody → NodeBody) (count : NodeBody → ℕ) (d : Document) (items : List yaml_node_t) (k : ℕ) (id : ℤ) (old new : yaml_node_t) (r : Result A yaml_text_fault_t)
+    → id ≡ pos (suc k) → k < length items → old ≡ get_or items k old → d.nodes ≡ map node_of items
+    → MatchResult r (λ _. (node_of new ≡ record (node_of old) { body = f (node_of old).body }) × (count (node_of old).body < 2147483647)) (λ e. (node_of new ≡ node_of old) × (e ≡ Memory))
+    → OnOk r (HasRoomAt count d id)
+had_room f count d items k id old new (Ok x) at_k inside is view h =
+    subst (λ (i : ℤ). HasRoomAt count d i) (sym at_k)
+    (subst (λ (ns : List Node). IsKindAt (λ b. count b < 2147483647) (slice_get ns k)) (sym view) (kind_of_place (λ b. count b < 2147483647) items k old inside is h.1))
+had_room f count d items k id old new (Err e) at_k inside is view h = tt
 
 -- ---- default tags
 

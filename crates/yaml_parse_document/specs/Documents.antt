@@ -1,5 +1,5 @@
 -- Documents: nodes that name each other by number.
-use Rattle.std.specs.Prelude.{◌≡◌, ◌≤◌, ℕ, zero, suc, ℤ, pos, Bool, Option, Some, None, List, [], ◌∷◌, ◌++◌, length, slice_get, codes, Result, Ok, Err, IsUtf8, false}
+use Rattle.std.specs.Prelude.{◌≡◌, ◌≤◌, ◌<◌, ℕ, zero, suc, ℤ, pos, Bool, Option, Some, None, List, [], ◌∷◌, ◌++◌, length, slice_get, codes, Result, Ok, Err, IsUtf8, false}
 use Rattle.yaml_parse_model.specs.declared.yaml_mark_t.{yaml_mark_t}
 use Rattle.yaml_parse_model.specs.declared.yaml_version_directive_t.{yaml_version_directive_t}
 use Rattle.yaml_parse_model.specs.declared.yaml_scalar_style_t.{yaml_scalar_style_t}
@@ -164,6 +164,19 @@ IsSequenceAt d id = IsKindAt IsSequenceBody (node_at d.nodes id)
 
 abbrev pub IsMappingAt : Document → ℤ → Type 0
 IsMappingAt d id = IsKindAt IsMappingBody (node_at d.nodes id)
+
+-- how many items or pairs a node holds
+abbrev pub item_count : NodeBody → ℕ
+item_count (node.sequence items style) = length items
+item_count _ = zero
+
+abbrev pub pair_count : NodeBody → ℕ
+pair_count (node.mapping pairs style) = length pairs
+pair_count _ = zero
+
+-- the node under a number has room for an entry more: it holds fewer than 2,147,483,647 of what is counted
+abbrev pub HasRoomAt : (NodeBody → ℕ) → Document → ℤ → Type 0
+HasRoomAt count d id = IsKindAt (λ b. count b < 2147483647) (node_at d.nodes id)
 
 -- an appending call changes one node, or finds no memory and changes nothing
 abbrev pub Appends : {A : Type 0} → Document → Document → Result A yaml_text_fault_t → Document

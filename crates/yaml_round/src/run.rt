@@ -55,13 +55,19 @@ pub fn yaml_run<I: yaml_input_t, O: yaml_output_t>(
     settings: &yaml_settings_t,
     input_limit: u64,
 ) -> Result<Option<yaml_form_t>, yaml_run_fault_t>
-    ensures runs { Runs (I.to_come input.old) (I.to_come input.new) (O.received output.old)
-        (O.received output.new) input_limit (run_layers command)
-        (IsRunAnswer command from settings.now) result }
+    ensures runs { Runs
+        (record {
+          limit = input_limit;
+          layers = run_layers command;
+          IsAnswer = IsRunAnswer command from settings.now;
+        })
+        (record { to_come = I.to_come input.old; received = O.received output.old })
+        (record { to_come = I.to_come input.new; received = O.received output.new }) result }
     // After a whole answer the output is finished.
     ensures finished { OnOk result (O.is_finished output.new ≡ true) }
-    ensures failures { FailsBy (I.has_failed input.old) (I.has_failed input.new)
-        (O.has_failed output.old) (O.has_failed output.new) result }
+    ensures failures { FailsBy
+        (record { input = I.has_failed input.old; output = O.has_failed output.old })
+        (record { input = I.has_failed input.new; output = O.has_failed output.new }) result }
 
     // Before the writing the output isn't touched, whether or not it tells its bytes.
     ensures untouched { IfErr result (λ fault. IsBeforeWriting fault → output.new ≡ output.old) }

@@ -13,44 +13,63 @@ pub record GivesAll (to_come rest : Option (List ℕ)) (limit : ℕ) (bytes : Li
   pub ended : IsAtEnd rest
   pub within : length bytes ≤ limit
 
--- why the bytes of an input were not read to the end
-abbrev pub IsReadFault : Option (List ℕ) → Bool → ℕ → yaml_run_fault_t → Type 0
-IsReadFault to_come has_failed limit Read = has_failed ≡ true
-IsReadFault to_come has_failed limit TooLong = IfSome to_come (λ bytes. limit < length bytes)
-IsReadFault to_come has_failed limit (Yaml fault) = fault_of fault ≡ memory_fault Reader
-IsReadFault to_come has_failed limit (Write written) = ⊥
+-- why the bytes of an input were not read to the end; unless it is told, the input has not failed by it
+abbrev pub IsReadFault : Option (List ℕ) → (failed_before failed_after : Bool) → ℕ
+    → yaml_run_fault_t → Type 0
+IsReadFault to_come before after limit Read = after ≡ true
+IsReadFault to_come before after limit TooLong = (after ≡ before)
+    × IfSome to_come (λ bytes. limit < length bytes)
+IsReadFault to_come before after limit (Yaml fault) = (after ≡ before)
+    × (fault_of fault ≡ memory_fault Reader)
+IsReadFault to_come before after limit (Write written) = ⊥
+
+-- what a run is to do: how many bytes it may read, in which layers memory may run out, and what answers an input
+pub record Work (F : Type 0) : Type 1 where
+  pub limit : ℕ
+  pub layers : List yaml_origin_t
+  pub IsAnswer : List ℕ → Result (List ℕ × F) Fault → Type 0
+
+-- the bytes at a run's devices, where they are told: those that the input is to give, and those that the output received
+pub record Bytes : Type 0 where
+  pub to_come : Option (List ℕ)
+  pub received : Option (List ℕ)
+
+-- which of a run's devices have failed
+pub record Failures : Type 0 where
+  pub input : Bool
+  pub output : Bool
 
 -- this is an answer to all that the input gave
-pub record AnswersAll {X : Type 0} (to_come rest : Option (List ℕ)) (limit : ℕ) (IsAnswer : List ℕ
-    → X → Type 0) (said : X) : Type 0 where
+pub record AnswersAll {F : Type 0} (work : Work F) (before after : Bytes) (said : Result (List ℕ × F)
+    Fault) : Type 0 where
   pub input : List ℕ
-  pub all : GivesAll to_come rest limit input
-  pub answered : IsAnswer input said
+  pub all : GivesAll before.to_come after.to_come work.limit input
+  pub answered : work.IsAnswer input said
 
--- what the output received, and why, told by a run's answer; memory may run out in these layers
-abbrev pub Runs : {F : Type 0} → Option (List ℕ) → Option (List ℕ) → Option (List ℕ)
-    → Option (List ℕ) → ℕ → List yaml_origin_t → (List ℕ → Result (List ℕ × F) Fault → Type 0)
-    → Result F yaml_run_fault_t → Type 0
-Runs to_come rest before after limit layers IsAnswer (Ok form) = (text : List ℕ)
-    × AnswersAll to_come rest limit IsAnswer (Ok (text, form)) × Appends before after text
-Runs {F} to_come rest before after limit layers IsAnswer (Err (Write written)) =
-    (text : List ℕ) × (form : F) × AnswersAll to_come rest limit IsAnswer (Ok (text, form))
-    × (written ≤ length text) × Appends before after (take written text)
-Runs to_come rest before after limit layers IsAnswer (Err (Yaml fault)) = Keeps before after
-    × (IsMemoryFault layers (fault_of fault) ⊎ AnswersAll to_come rest limit IsAnswer
+-- what the output received, and why, told by a run's answer; memory may run out in the layers of the work
+abbrev pub Runs : {F : Type 0} → Work F → (before after : Bytes) → Result F yaml_run_fault_t
+    → Type 0
+Runs work before after (Ok form) = (text : List ℕ)
+    × AnswersAll work before after (Ok (text, form))
+    × Appends before.received after.received text
+Runs {F} work before after (Err (Write written)) = (text : List ℕ) × (form : F)
+    × AnswersAll work before after (Ok (text, form)) × (written ≤ length text)
+    × Appends before.received after.received (take written text)
+Runs work before after (Err (Yaml fault)) = Keeps before.received after.received
+    × (IsMemoryFault work.layers (fault_of fault) ⊎ AnswersAll work before after
     (Err (fault_of fault)))
-Runs to_come rest before after limit layers IsAnswer (Err TooLong) = Keeps before after
-    × IfSome to_come (λ bytes. limit < length bytes)
-Runs to_come rest before after limit layers IsAnswer (Err Read) = Keeps before after
+Runs work before after (Err TooLong) = Keeps before.received after.received
+    × IfSome before.to_come (λ bytes. work.limit < length bytes)
+Runs work before after (Err Read) = Keeps before.received after.received
 
--- which device has failed, told by a run's answer
-abbrev pub FailsBy : {F : Type 0} → Bool → Bool → Bool → Bool → Result F yaml_run_fault_t → Type 0
-FailsBy input_old input_new output_old output_new (Ok form) = (input_new ≡ input_old)
-    × (output_new ≡ output_old)
-FailsBy input_old input_new output_old output_new (Err Read) = input_new ≡ true
-FailsBy input_old input_new output_old output_new (Err (Write written)) = output_new ≡ true
-FailsBy input_old input_new output_old output_new (Err TooLong) = Unit {0}
-FailsBy input_old input_new output_old output_new (Err (Yaml fault)) = Unit {0}
+-- which device has failed, told by a run's answer: the one that it names, and no other
+abbrev pub FailsBy : {F : Type 0} → (before after : Failures) → Result F yaml_run_fault_t → Type 0
+FailsBy before after (Ok form) = (after.input ≡ before.input) × (after.output ≡ before.output)
+FailsBy before after (Err Read) = (after.input ≡ true) × (after.output ≡ before.output)
+FailsBy before after (Err TooLong) = (after.input ≡ before.input) × (after.output ≡ before.output)
+FailsBy before after (Err (Yaml fault)) = (after.input ≡ before.input)
+    × (after.output ≡ before.output)
+FailsBy before after (Err (Write written)) = (after.input ≡ before.input) × (after.output ≡ true)
 
 -- the refusal came before anything was written
 abbrev pub IsBeforeWriting : yaml_run_fault_t → Type 0

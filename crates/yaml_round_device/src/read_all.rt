@@ -21,8 +21,8 @@ pub fn yaml_read_all<I: yaml_input_t>(
     ensures all { IfOk result (λ bytes. GivesAll (I.to_come input.old) (I.to_come input.new)
         input_limit bytes.items) }
     ensures sound { OnOk result (I.has_failed input.new ≡ I.has_failed input.old) }
-    ensures cause { IfErr result (IsReadFault (I.to_come input.old) (I.has_failed input.new)
-        input_limit) }
+    ensures cause { IfErr result (IsReadFault (I.to_come input.old) (I.has_failed input.old)
+        (I.has_failed input.new) input_limit) }
 {
     let mut bytes = Vec::new(alloc);
     let mut piece = [0u8; 4096];

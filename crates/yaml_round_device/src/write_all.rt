@@ -1,6 +1,6 @@
 //! The writing of a text to an output.
 
-ghost use Rattle.std.specs.Prelude.{◌≡◌, ◌≤◌, length, take, true, IfErr, OnOk};
+ghost use Rattle.std.specs.Prelude.{◌≡◌, ◌≤◌, length, take, true, false, IfErr, OnOk, OnErr};
 ghost use Rattle.std.specs.Io.KnownBytes.{Appends};
 
 use crate::device::yaml_output_t;
@@ -10,6 +10,7 @@ pub fn yaml_write_all<O: yaml_output_t>(output: &mut O, text: &[u8]) -> Result<(
     ensures ok { OnOk result (Appends (O.received output.old) (O.received output.new) text.now) }
     ensures sound { OnOk result (O.has_failed output.new ≡ O.has_failed output.old) }
     ensures finished { OnOk result (O.is_finished output.new ≡ true) }
+    ensures unfinished { OnErr result (O.is_finished output.new ≡ false) }
     ensures failed { IfErr result (λ _. O.has_failed output.new ≡ true) }
     ensures within { IfErr result (λ written. written ≤ length text.now) }
     ensures front { IfErr result (λ written. Appends (O.received output.old) (O.received output.new)

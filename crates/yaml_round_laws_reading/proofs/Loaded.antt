@@ -15,7 +15,7 @@ use Rattle.yaml_round_content.specs.Input.{tokens_of}
 use Rattle.yaml_round_content.specs.Loads.{Loads, in_front, load_on, load_all, loads_of}
 use Rattle.yaml_round_laws_reading.specs.TreeDocuments.{tree_documents, numbered}
 use Rattle.yaml_round_laws_reading.specs.Loading.{read_of}
-use Rattle.yaml_round_laws_reading.specs.PlainLoading.{HaveDocuments, TokensLoad, unless_faulty, result_of, InputsLoad, LoadingIsOne, LoadingIsLoads, FaultlessLoad, FaultyLoad}
+use Rattle.yaml_round_laws_reading.specs.PlainLoading.{HaveDocuments, TokensLoad, unless_faulty, result_of, SourcesLoad, SourceLoadingIsOne, InputsLoad, LoadingIsOne, LoadingIsLoads, FaultlessLoad, FaultyLoad}
 use Rattle.yaml_round_laws_reading.proofs.Joining.{read_is}
 use Rattle.yaml_round_laws_reading.proofs.Numbered.{loads_numbered}
 use Rattle.yaml_parse_loader.proofs.Loads.{loads_document}
@@ -53,7 +53,7 @@ by_fault : (ts : List Token) (own : Option Fault) (ds : List Document) (o : Opti
 by_fault ts own ds None h k = record { sentence = h.sentence; loadable = h.first; documents = k h.sentence }
 by_fault ts own ds (Some e) h k = h
 
-tokens_load : (ts : List Token) (own : Option Fault) → TokensLoad ts own (result_of (loads_in (read_of ts own)))
+pub tokens_load : SourcesLoad
 tokens_load ts own = by_fault ts own (loads_in (read_of ts own)).documents (loads_in (read_of ts own)).fault (ends_in_fault ts own) (λ b. numbered_documents ts own b)
 
 -- ---- one loading
@@ -70,7 +70,7 @@ apart e A h = cc
 same_error : (e f : Fault) → Some e ≡ Some f → e ≡ f
 same_error e f h = cc
 
-one_of_tokens : (ts : List Token) (own : Option Fault) (r q : Result (List Document) Fault) → TokensLoad ts own r → TokensLoad ts own q → r ≡ q
+pub one_of_tokens : SourceLoadingIsOne
 one_of_tokens ts own (Ok ds) (Ok es) p q = ap (λ (z : List Document). Ok z) (same_documents ts own ds p ∙ sym (same_documents ts own es q))
 one_of_tokens ts own (Ok ds) (Err e) p q = apart e _ (one_load_fault ts own None (Some e) (as_sentence ts ds p) q)
 one_of_tokens ts own (Err e) (Ok ds) p q = apart e _ (one_load_fault ts own None (Some e) (as_sentence ts ds q) p)

@@ -8,8 +8,10 @@ use Rattle.yaml_round_content.specs.round_laws.emit_laws_streams.parse.parse_law
 use Rattle.yaml_round_content.specs.round_laws.emit_laws_streams.parse.Documents.{Document}
 use Rattle.yaml_parse_laws_loading.specs.Faults.{IsLoadable, FaultOfLoading}
 use Rattle.yaml_round_content.specs.Input.{tokens_of}
-use Rattle.yaml_round_content.specs.Loads.{Loads, loads_of}
+use Rattle.yaml_round_content.specs.round_laws.emit_laws_streams.parse.Loading.{nothing_loaded}
+use Rattle.yaml_round_content.specs.Loads.{Loads, load_all, loads_of}
 use Rattle.yaml_round_laws_reading.specs.TreeDocuments.{tree_documents, numbered}
+use Rattle.yaml_round_laws_reading.specs.Loading.{read_of}
 
 -- The tokens are a sentence in which each alias has its anchor, and the documents are those of its tree, numbered.
 pub record HaveDocuments (ts : List Token) (ds : List Document) : Type 0 where
@@ -35,6 +37,16 @@ unless_faulty ds (Some e) = Err e
 
 abbrev pub result_of : Loads → Result (List Document) Fault
 result_of l = unless_faulty l.documents l.fault
+
+-- Of every source: what its tokens load is their loading.
+abbrev pub SourcesLoad : Type 0
+SourcesLoad = (ts : List Token) (own : Option Fault) → TokensLoad ts own
+    (result_of (load_all (read_of ts own).events (read_of ts own).ending nothing_loaded))
+
+-- They have one alone.
+abbrev pub SourceLoadingIsOne : Type 0
+SourceLoadingIsOne = (ts : List Token) (own : Option Fault) (r q : Result (List Document) Fault)
+    → TokensLoad ts own r → TokensLoad ts own q → r ≡ q
 
 -- What an input loads is its plain loading.
 abbrev pub InputsLoad : Type 0

@@ -4,7 +4,7 @@
 #![tactic(auto)]
 
 ghost use Rattle.yaml_round_laws_reading.specs.Loading.{EventsArePlaced, InputsAreNumbered, LoadsAreNumbered, LoadsAreOneByOne};
-ghost use Rattle.yaml_round_laws_reading.specs.PlainLoading.{FaultlessLoad, FaultyLoad, InputsLoad, LoadingIsLoads, LoadingIsOne};
+ghost use Rattle.yaml_round_laws_reading.specs.PlainLoading.{FaultlessLoad, FaultyLoad, InputsLoad, LoadingIsLoads, LoadingIsOne, SourceLoadingIsOne, SourcesLoad};
 ghost use Rattle.yaml_round_laws_reading.specs.Reading.{EventsAreOfTree, InputsRead, ReadIsRefused, ReadIsSaid, ReadingIsOne, RefusedIsRead, SaidIsRead};
 ghost use Rattle.yaml_round_laws_reading.specs.Rows.{RowsHold};
 
@@ -75,6 +75,17 @@ pub fn inputs_are_numbered()
 /// The documents of events are those that `yaml_parser_load` gives, one after another.
 pub fn loads_are_one_by_one()
     ensures { LoadsAreOneByOne }
+{}
+
+/// Of every source: what its tokens load is the documents of their tree, numbered, where they begin with a
+/// sentence in which each alias has its anchor; else the fault of loading them, the one of the least place.
+pub fn a_source_loads_its_loading()
+    ensures { SourcesLoad }
+{}
+
+/// Tokens have one loading alone.
+pub fn a_source_has_one_loading()
+    ensures { SourceLoadingIsOne }
 {}
 
 /// What an input loads is its plain loading: the documents of its tree, numbered, where it is a sentence

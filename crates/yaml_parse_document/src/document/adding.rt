@@ -1,9 +1,9 @@
 //! Adding nodes to a document, and items and pairs to its collections.
 
-ghost use Rattle.std.specs.Prelude.{◌≡◌, ◌<◌, ◌≤◌, ◌++◌, ◌∷◌, [], pos, suc, length, option_map, IsSome, IsUtf8, MatchResult};
+ghost use Rattle.std.specs.Prelude.{◌≡◌, ◌<◌, ◌≤◌, ◌++◌, ◌∷◌, [], pos, suc, length, option_map, IsSome, IsUtf8, MatchResult, OnOk};
 ghost use Rattle.yaml_parse_model.specs.Constructors.{IsUtf8Option};
 ghost use Rattle.yaml_parse_model.specs.Nodes.{node_of, body_of};
-ghost use Rattle.yaml_parse_document.specs.Documents.{node_at, unplaced, new_scalar, new_sequence, new_mapping, with_node, Adds, Appends, change_body, with_item, with_pair, tag_or, IsSequenceAt, IsMappingAt, IsSequenceBody, IsMappingBody, IsSoundNode, IsSoundBody};
+ghost use Rattle.yaml_parse_document.specs.Documents.{node_at, unplaced, new_scalar, new_sequence, new_mapping, with_node, Adds, Appends, change_body, with_item, with_pair, tag_or, IsSequenceAt, IsMappingAt, IsSequenceBody, IsMappingBody, HasRoomAt, item_count, pair_count, IsSoundNode, IsSoundBody};
 
 use super::{place, yaml_document_t};
 use simdutf8::is_utf8;
@@ -145,10 +145,10 @@ pub fn yaml_document_add_mapping(
 // One item more in a sequence.
 fn push_item(node: &mut yaml_node_t, item: yaml_node_item_t) -> Result<(), yaml_text_fault_t>
     ensures { MatchResult result
-        (λ _. node_of node.new ≡ record (node_of node.old) {
+        (λ _. (node_of node.new ≡ record (node_of node.old) {
           body = with_item item
               (node_of node.old).body;
-        })
+        }) × (item_count (node_of node.old).body < 2147483647))
         (λ f. (node_of node.new ≡ node_of node.old) × (f ≡ yaml_text_fault_t.Memory)) }
 {
     match &mut node.body {
@@ -160,10 +160,10 @@ fn push_item(node: &mut yaml_node_t, item: yaml_node_item_t) -> Result<(), yaml_
 // One pair more in a mapping.
 fn push_pair(node: &mut yaml_node_t, pair: yaml_node_pair_t) -> Result<(), yaml_text_fault_t>
     ensures { MatchResult result
-        (λ _. node_of node.new ≡ record (node_of node.old) {
+        (λ _. (node_of node.new ≡ record (node_of node.old) {
           body = with_pair pair
               (node_of node.old).body;
-        })
+        }) × (pair_count (node_of node.old).body < 2147483647))
         (λ f. (node_of node.new ≡ node_of node.old) × (f ≡ yaml_text_fault_t.Memory)) }
 {
     match &mut node.body {
@@ -181,8 +181,10 @@ pub fn yaml_document_append_sequence_item(
 ) -> Result<(), yaml_text_fault_t>
     requires sequence { IsSequenceAt document.old sequence }
     requires item { IsSome (node_at document.old.nodes item) }
-    ensures { Appends document.old (change_body (with_item item) sequence document.old) result
-        document.new }
+    ensures appends { Appends document.old (change_body (with_item item) sequence document.old)
+        result document.new }
+    // No sequence gets more than 2,147,483,647 items.
+    ensures room { OnOk result (HasRoomAt item_count document.old sequence) }
 {
     push_item(&mut document.nodes[place(sequence)], item)
 }
@@ -198,8 +200,11 @@ pub fn yaml_document_append_mapping_pair(
     requires mapping { IsMappingAt document.old mapping }
     requires key { IsSome (node_at document.old.nodes key) }
     requires value { IsSome (node_at document.old.nodes value) }
-    ensures { Appends document.old (change_body (with_pair (record { key = key; value = value }))
-        mapping document.old) result document.new }
+    ensures appends { Appends document.old
+        (change_body (with_pair (record { key = key; value = value })) mapping document.old) result
+        document.new }
+    // No mapping gets more than 2,147,483,647 pairs.
+    ensures room { OnOk result (HasRoomAt pair_count document.old mapping) }
 {
     push_pair(
         &mut document.nodes[place(mapping)],

@@ -137,11 +137,30 @@ impl<'a> Machine<'a> {
         ensures sought { IfErr (answer_of result fault.new) (λ f. is_ready self.old ≡ false) }
         ensures ready { IfOk (answer_of result fault.new) (λ known. known ≡ is_ready self.new) }
     {
+        if !self.started && !self.start_on(fault) {
+            return Sought::Refused;
+        }
+        self.fill(fault)
+    }
+
+    /// Decodes the input, and answers whether it could; else the fault stands in the slot that was lent.
+    // Out of line: in line the room of its fault would be set to zero for each token.
+    #[inline(never)]
+    fn start_on(&mut self, fault: &mut yaml_fault_t) -> bool
+        requires { IsMachine self.old }
+        ensures stands { result ≡ true → IsMachine self.new }
+        ensures started { result ≡ true → self.new.started ≡ true }
+        ensures left { result ≡ true → left_in self.new ≡ left_in self.old }
+        ensures ready { result ≡ true → is_ready self.new ≡ is_ready self.old }
+        ensures told { result ≡ false → IsTold (left_in self.old) (fault_of fault.new) }
+        ensures few { result ≡ false → length self.new.waiting.items ≤ 1025 }
+        ensures sought { result ≡ false → is_ready self.old ≡ false }
+    {
         match self.start() {
-            Ok(()) => self.fill(fault),
+            Ok(()) => true,
             Err(refused) => {
                 *fault = refused;
-                Sought::Refused
+                false
             }
         }
     }
@@ -245,7 +264,7 @@ impl<'a> Machine<'a> {
             match self.step() {
                 Ok(()) => {}
                 Err(error) => {
-                    *fault = located(error);
+                    put_fault(fault, error);
                     return Sought::Refused;
                 }
             }
@@ -455,6 +474,15 @@ impl<'a> Machine<'a> {
     {
         self.dropped + self.waiting.len()
     }
+}
+
+/// Puts the fault that a refusal is answered as into a slot.
+// Out of line: in line the room of its copy would be set to zero for each token.
+#[inline(never)]
+fn put_fault(slot: &mut yaml_fault_t, error: ScanError)
+    ensures { IsLocated error (fault_of slot.new) }
+{
+    *slot = located(error);
 }
 
 /// The fault that a refusal is answered as.

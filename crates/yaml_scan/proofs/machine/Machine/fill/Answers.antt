@@ -25,7 +25,7 @@ pub returns-in-Err-clause-told : goal.returns-in-Err-clause-told
 returns-in-Err-clause-told c =
     let i = c.steps.invariant in
     let comes = fault_machine c.steps.self c.in-Err.error i.stands (sym c.has_token.ensures ∙ c.if-has_token.false) c.if-self.false c.in-Err.ensures.err in
-    told_error c.args.self.now c.in-Err.error (fault_of c.located.result) c.requires.started (rw (← i.same) comes) c.located.ensures
+    told_error c.args.self.now c.in-Err.error (fault_of c.put_fault.new.slot) c.requires.started (rw (← i.same) comes) c.put_fault.ensures
 
 pub steps-preserved : goal.steps-preserved
 steps-preserved c =

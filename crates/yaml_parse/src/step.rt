@@ -233,7 +233,13 @@ fn moving(
         (fault_of fault.new)) (stack_of stack.new.items) }
     ensures ready { IsSettled result (event_of event.new) }
 {
-    match take_swiftly(stack, &state, &mut buffers.token, event) {
+    match take_swiftly(
+        stack,
+        &state,
+        &mut buffers.token,
+        event,
+        &mut buffers.item.spare,
+    ) {
         Swift::Event => {
             buffers.is_held = false;
             Progress::Ready

@@ -9,7 +9,8 @@ use Rattle.yaml_parse_grammar.specs.Items as item
 use Rattle.yaml_parse_grammar.specs.Trees.{flow_shape}
 use Rattle.yaml_parse_grammar.specs.States.{State}
 use Rattle.yaml_parse_grammar.specs.States as state
-use Rattle.yaml_parse_grammar.specs.Machine.{choice_at, taken_at}
+use Rattle.yaml_parse_grammar.specs.declared.name.Site.{Site}
+use Rattle.yaml_parse_grammar.specs.Machine.{choice_at, taken_at, wants_of}
 use Rattle.yaml_parse_grammar.specs.Resolve.{Directives, settle, gave}
 use Rattle.yaml_parse_machine.specs.declared.swift_ways.Swift.{Swift}
 use Rattle.yaml_parse_machine.specs.declared.swift_ways.Swift.TheVariants.{Event as is_event, Silent, Memory, Other}
@@ -40,6 +41,20 @@ Opens b t below is_event e new = IsReady
     × (new ≡ state.items b t.start_mark ∷ below)
 Opens b t below Memory e new = Unit {0}
 Opens b t below _ e new = ⊥
+
+-- a block collection begins, or memory ran out
+abbrev pub OpensBlock : item.Shape → State → Token → List State → Swift → Event → List State
+    → Type 0
+OpensBlock shape x t below is_event e new = IsReady
+    (item.item_at (item.node None None shape) t.start_mark t.end_mark) e × (new ≡ x ∷ below)
+OpensBlock shape x t below Memory e new = Unit {0}
+OpensBlock shape x t below _ e new = ⊥
+
+-- the rest of a node behind those properties is waited for, or memory ran out
+abbrev pub Awaits : Site → item.Properties → List State → Swift → List State → Type 0
+Awaits place p below Silent new = new ≡ state.with_properties (wants_of place) p ∷ below
+Awaits place p below Memory new = Unit {0}
+Awaits place p below _ new = ⊥
 
 -- the token is taken, as the state says, by a state that stood on those; the event stands in its slot, or nothing is given
 abbrev pub Swiftly : State → Token → List State → Swift → Event → Token → List State → Type 0

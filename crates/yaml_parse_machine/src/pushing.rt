@@ -25,13 +25,27 @@ fn put(stack: &mut Vec<State>, state: State)
     stack.push_reserved(state);
 }
 
+// Room for a state.
+// Inlined: mostly one comparison, where `reserve` is a call.
+#[inline(always)]
+fn make_room(stack: &mut Vec<State>) -> Result<(), AllocError>
+    ensures items { stack.new.items ≡ stack.old.items }
+    ensures room { OnOk result (vec_len stack.new < vec_capacity stack.new) }
+{
+    if stack.len() < stack.capacity() {
+        Ok(())
+    } else {
+        stack.reserve(1)
+    }
+}
+
 // A state, for which room is made.
 // Inlined: its state is known, so that it is built in its place.
 #[inline(always)]
 pub(crate) fn push(stack: &mut Vec<State>, state: State) -> Result<(), AllocError>
     ensures { OnOk result (stack_of stack.new.items ≡ state_of state ∷ stack_of stack.old.items) }
 {
-    stack.reserve(1)?;
+    make_room(stack)?;
     put(stack, state);
     Ok(())
 }

@@ -127,8 +127,8 @@ fn is_plain(style: yaml_scalar_style_t) -> bool
     }
 }
 
-// A scalar without properties.
-pub(crate) fn bare_scalar(
+// A new scalar without properties.
+fn new_bare(
     alloc: Global,
     value: &mut Vec<u8>,
     style: yaml_scalar_style_t,
@@ -145,6 +145,34 @@ pub(crate) fn bare_scalar(
         quoted_implicit: !is_plain,
         style,
     };
+}
+
+// A scalar without properties. Where the slot holds such a one already, it is changed in place: to put a new one there, the
+// old one is taken apart, asked what it owns, and set to zero. The old value stands in the token then, which drops it.
+pub(crate) fn bare_scalar(
+    alloc: Global,
+    value: &mut Vec<u8>,
+    style: yaml_scalar_style_t,
+    event: &mut yaml_event_body_t,
+)
+    ensures { body_of event.new ≡ node_event None None (item.scalar value.old.items style) }
+{
+    match *event {
+        yaml_event_body_t::Scalar {
+            anchor: None,
+            tag: None,
+            value: ref mut last,
+            plain_implicit: ref mut plain,
+            quoted_implicit: ref mut quoted,
+            style: ref mut last_style,
+        } => {
+            mem::swap(last, value);
+            *plain = is_plain(style);
+            *quoted = !is_plain(style);
+            *last_style = style;
+        }
+        _ => new_bare(alloc, value, style, event),
+    }
 }
 
 // An empty scalar without properties.

@@ -51,8 +51,8 @@ fn new_room(
 }
 
 // A box for the properties of a node, that stand there: the one that is to spare, or else a new one.
-fn room(
-    slot: &mut RawEvent,
+pub(crate) fn room(
+    spare: &mut Option<Box<Properties>>,
     alloc: Global,
     from: yaml_mark_t,
     to: yaml_mark_t,
@@ -60,10 +60,10 @@ fn room(
     ensures { IfOk result (λ b. properties_of b.value
         ≡ record { anchor = None; tag = None; from = from; to = to }) }
 {
-    match slot.spare.take() {
+    match spare.take() {
         None => new_room(alloc, from, to),
-        Some(spare) => {
-            let mut properties = spare;
+        Some(emptied) => {
+            let mut properties = emptied;
             properties.anchor = None;
             properties.tag = None;
             properties.from = from;
@@ -86,7 +86,7 @@ fn nothing(stack: &mut Vec<State>, slot: &mut RawEvent) -> Result<bool, AllocErr
 }
 
 // The text, of which an empty one is left.
-fn moved(text: &mut Vec<u8>) -> Vec<u8>
+pub(crate) fn moved(text: &mut Vec<u8>) -> Vec<u8>
     ensures { result.items ≡ text.old.items }
 {
     let alloc = *text.allocator();
@@ -332,14 +332,14 @@ fn at_node(
         ),
         yaml_token_body_t::Anchor { value } => {
             let alloc = *value.allocator();
-            let mut properties = room(slot, alloc, token.start_mark, token.end_mark)?;
+            let mut properties = room(&mut slot.spare, alloc, token.start_mark, token.end_mark)?;
             properties.anchor = Some(moved(value));
             push(stack, State::WithProperties(wants, properties))?;
             Ok(false)
         }
         yaml_token_body_t::Tag { handle, suffix } => {
             let alloc = *handle.allocator();
-            let mut properties = room(slot, alloc, token.start_mark, token.end_mark)?;
+            let mut properties = room(&mut slot.spare, alloc, token.start_mark, token.end_mark)?;
             properties.tag = Some(Tag {
                 handle: moved(handle),
                 suffix: moved(suffix),

@@ -3,7 +3,7 @@
 ghost use Rattle.std.specs.Prelude.{◌≡◌, ◌+◌, ◌<◌, ◌≤◌, ◌++◌, [], ◌∷◌, length, take, codes, vec_len, vec_capacity, OnOk, IfOk};
 ghost use Rattle.yaml_parse_model.specs.Events.{event_of, text_of};
 ghost use Rattle.yaml_round_lines.specs.Runs.{is_kept, kept_run};
-ghost use Rattle.yaml_round_lines.specs.EventLine.{escaped_byte, escaped, anchor_part, tag_part, indicator_of, mark_part, event_text, event_line};
+ghost use Rattle.yaml_round_lines.specs.EventLine.{escaped_byte, escaped, anchor_part, tag_part, indicator_of, mark_part, event_line};
 
 use std::alloc::AllocError;
 use yaml_parse_model::{yaml_event_body_t, yaml_event_t};
@@ -137,40 +137,6 @@ fn push_runs(line: &mut Vec<u8>, text: &[u8]) -> Result<(), AllocError>
     Ok(())
 }
 
-// Adds the text of a tag or a value.
-fn push_escaped(line: &mut Vec<u8>, text: &[u8]) -> Result<(), AllocError>
-    ensures { OnOk result (line.new.items ≡ line.old.items ++ escaped text.now) }
-{
-    if text.len() < CHUNK {
-        push_bytes(line, text)
-    } else {
-        push_runs(line, text)
-    }
-}
-
-fn push_anchor(line: &mut Vec<u8>, anchor: &Option<Vec<u8>>) -> Result<(), AllocError>
-    ensures { OnOk result (line.new.items ≡ line.old.items ++ anchor_part (text_of anchor.now)) }
-{
-    if let Some(anchor) = anchor {
-        line.push(b' ')?;
-        line.push(b'&')?;
-        line.extend_from_slice(anchor)?;
-    }
-    Ok(())
-}
-
-fn push_tag(line: &mut Vec<u8>, tag: &Option<Vec<u8>>) -> Result<(), AllocError>
-    ensures { OnOk result (line.new.items ≡ line.old.items ++ tag_part (text_of tag.now)) }
-{
-    if let Some(tag) = tag {
-        line.push(b' ')?;
-        line.push(b'<')?;
-        push_escaped(line, tag)?;
-        line.push(b'>')?;
-    }
-    Ok(())
-}
-
 fn style_indicator(style: yaml_scalar_style_t) -> u8
     ensures { result ≡ indicator_of style }
 {
@@ -181,118 +147,6 @@ fn style_indicator(style: yaml_scalar_style_t) -> u8
         yaml_scalar_style_t::YAML_DOUBLE_QUOTED_SCALAR_STYLE => b'"',
         yaml_scalar_style_t::YAML_LITERAL_SCALAR_STYLE => b'|',
         yaml_scalar_style_t::YAML_FOLDED_SCALAR_STYLE => b'>',
-    }
-}
-
-// Adds an anchor and a tag, of which there is one at least.
-// Out of line: most nodes have no property.
-#[inline(never)]
-fn push_some_properties(
-    line: &mut Vec<u8>,
-    anchor: &Option<Vec<u8>>,
-    tag: &Option<Vec<u8>>,
-) -> Result<(), AllocError>
-    ensures { OnOk result (line.new.items ≡ line.old.items
-        ++ (anchor_part (text_of anchor.now) ++ tag_part (text_of tag.now))) }
-{
-    push_anchor(line, anchor)?;
-    push_tag(line, tag)
-}
-
-// Adds an anchor and a tag.
-// Inlined: most nodes have no property, and are asked so in place.
-#[inline(always)]
-fn push_properties(
-    line: &mut Vec<u8>,
-    anchor: &Option<Vec<u8>>,
-    tag: &Option<Vec<u8>>,
-) -> Result<(), AllocError>
-    ensures { OnOk result (line.new.items ≡ line.old.items
-        ++ (anchor_part (text_of anchor.now) ++ tag_part (text_of tag.now))) }
-{
-    if anchor.is_none() && tag.is_none() {
-        return Ok(());
-    }
-    push_some_properties(line, anchor, tag)
-}
-
-// Adds a space, the style's indicator and the value.
-fn push_value(
-    line: &mut Vec<u8>,
-    value: &[u8],
-    style: yaml_scalar_style_t,
-) -> Result<(), AllocError>
-    ensures { OnOk result (line.new.items ≡ line.old.items
-        ++ ((32 ∷ indicator_of style ∷ []) ++ escaped value.now)) }
-{
-    line.push(b' ')?;
-    line.push(style_indicator(style))?;
-    push_escaped(line, value)
-}
-
-// Adds a word, and a mark where it isn't left out.
-fn push_document(
-    line: &mut Vec<u8>,
-    word: &[u8],
-    implicit: bool,
-    mark: &[u8],
-) -> Result<(), AllocError>
-    ensures { OnOk result (line.new.items ≡ line.old.items
-        ++ (word.now ++ mark_part implicit mark.now)) }
-{
-    line.extend_from_slice(word)?;
-    if !implicit {
-        line.extend_from_slice(mark)?;
-    }
-    Ok(())
-}
-
-// Adds a word, and a name behind it.
-fn push_name(line: &mut Vec<u8>, word: &[u8], name: &[u8]) -> Result<(), AllocError>
-    ensures { OnOk result (line.new.items ≡ line.old.items ++ (word.now ++ name.now)) }
-{
-    line.extend_from_slice(word)?;
-    line.extend_from_slice(name)?;
-    Ok(())
-}
-
-// Adds the line without its end.
-fn push_event(line: &mut Vec<u8>, event: &yaml_event_t) -> Result<(), AllocError>
-    ensures { OnOk result (line.new.items ≡ line.old.items ++ event_text
-        (event_of event.now).body) }
-{
-    match &event.body {
-        yaml_event_body_t::No => Ok(()),
-        yaml_event_body_t::StreamStart { .. } => line.extend_from_slice(b"+STR"),
-        yaml_event_body_t::StreamEnd => line.extend_from_slice(b"-STR"),
-        yaml_event_body_t::DocumentStart { implicit, .. } => push_document(
-            line, b"+DOC", *implicit, b" ---",
-        ),
-        yaml_event_body_t::DocumentEnd { implicit } => push_document(
-            line, b"-DOC", *implicit, b" ...",
-        ),
-        yaml_event_body_t::Alias { anchor } => push_name(line, b"=ALI *", anchor),
-        yaml_event_body_t::Scalar {
-            anchor,
-            tag,
-            value,
-            style,
-            ..
-        } => {
-            line.extend_from_slice(b"=VAL")?;
-            push_properties(line, anchor, tag)?;
-            push_value(line, value, *style)
-        }
-        yaml_event_body_t::SequenceStart { anchor, tag, .. } => {
-            line.extend_from_slice(b"+SEQ")?;
-            push_properties(line, anchor, tag)
-        }
-        yaml_event_body_t::SequenceEnd => line.extend_from_slice(b"-SEQ"),
-        yaml_event_body_t::MappingStart { anchor, tag, .. } => {
-            line.extend_from_slice(b"+MAP")?;
-            push_properties(line, anchor, tag)
-        }
-        yaml_event_body_t::MappingEnd => line.extend_from_slice(b"-MAP"),
     }
 }
 
@@ -350,38 +204,178 @@ fn push_front<'a>(line: &mut Vec<u8>, text: &'a [u8]) -> &'a [u8]
     &text[count..]
 }
 
-// Adds the text of a value from a byte on that is escaped, and the line's end.
-// Out of line: most values have no such byte.
+// Adds the text of a tag or a value from a byte on that is escaped, and the byte that ends it.
+// Out of line: most texts have no such byte.
 #[inline(never)]
-fn push_escaped_end(line: &mut Vec<u8>, text: &[u8]) -> Result<(), AllocError>
-    ensures { OnOk result (line.new.items ≡ line.old.items ++ (escaped text.now ++ 10 ∷ [])) }
+fn push_escaped_end(line: &mut Vec<u8>, text: &[u8], end: u8) -> Result<(), AllocError>
+    ensures { OnOk result (line.new.items ≡ line.old.items ++ (escaped text.now ++ end ∷ [])) }
 {
     push_bytes(line, text)?;
+    line.push(end)?;
+    Ok(())
+}
+
+// Adds a short text and the byte that ends it, for which there is room where nothing is escaped.
+// Inlined: some stores, for a short text.
+#[inline(always)]
+fn push_short(line: &mut Vec<u8>, text: &[u8], end: u8) -> Result<(), AllocError>
+    requires { vec_len line.old + length text.now < vec_capacity line.old }
+    ensures { OnOk result (line.new.items ≡ line.old.items ++ (escaped text.now ++ end ∷ [])) }
+{
+    let rest = push_front(line, text);
+    if rest.is_empty() {
+        line.push_reserved(end);
+        return Ok(());
+    }
+    push_escaped_end(line, rest, end)
+}
+
+// Adds a text of 16 bytes and more, and the byte that ends it.
+// Out of line: most texts are short.
+#[inline(never)]
+fn push_long(line: &mut Vec<u8>, text: &[u8], end: u8) -> Result<(), AllocError>
+    ensures { OnOk result (line.new.items ≡ line.old.items ++ (escaped text.now ++ end ∷ [])) }
+{
+    push_runs(line, text)?;
+    line.push(end)?;
+    Ok(())
+}
+
+// Adds a space, an indicator, a text and the byte that ends it: room for a short text is made at once.
+// Inlined: some stores, for a short text.
+#[inline(always)]
+fn push_text(line: &mut Vec<u8>, indicator: u8, text: &[u8], end: u8) -> Result<(), AllocError>
+    ensures { OnOk result (line.new.items ≡ line.old.items
+        ++ (32 ∷ indicator ∷ (escaped text.now ++ end ∷ []))) }
+{
+    if text.len() < CHUNK {
+        line.reserve(text.len() + 3)?;
+        line.push_reserved(b' ');
+        line.push_reserved(indicator);
+        return push_short(line, text, end);
+    }
+    line.reserve(2)?;
+    line.push_reserved(b' ');
+    line.push_reserved(indicator);
+    push_long(line, text, end)
+}
+
+// Adds a word, and a name behind it.
+// Inlined: some stores, for a word of a fixed length, and a call.
+#[inline(always)]
+fn push_name(line: &mut Vec<u8>, word: &[u8], name: &[u8]) -> Result<(), AllocError>
+    requires { length word.now < 16 }
+    ensures { OnOk result (line.new.items ≡ line.old.items ++ (word.now ++ name.now)) }
+{
+    line.reserve(word.len())?;
+    push_each(line, word);
+    line.extend_from_slice(name)?;
+    Ok(())
+}
+
+// Adds an anchor, if there is one.
+// Inlined into its one caller.
+#[inline(always)]
+fn push_anchor(line: &mut Vec<u8>, anchor: &Option<Vec<u8>>) -> Result<(), AllocError>
+    ensures { OnOk result (line.new.items ≡ line.old.items ++ anchor_part (text_of anchor.now)) }
+{
+    match anchor {
+        Some(anchor) => push_name(line, b" &", anchor),
+        None => Ok(()),
+    }
+}
+
+// Adds a tag, if there is one.
+// Inlined into its one caller.
+#[inline(always)]
+fn push_tag(line: &mut Vec<u8>, tag: &Option<Vec<u8>>) -> Result<(), AllocError>
+    ensures { OnOk result (line.new.items ≡ line.old.items ++ tag_part (text_of tag.now)) }
+{
+    match tag {
+        Some(tag) => push_text(line, b'<', tag, b'>'),
+        None => Ok(()),
+    }
+}
+
+// Adds a node's word, its anchor and its tag.
+// Out of line: it is called for three kinds of nodes.
+#[inline(never)]
+fn push_node(
+    line: &mut Vec<u8>,
+    word: &[u8; 4],
+    anchor: &Option<Vec<u8>>,
+    tag: &Option<Vec<u8>>,
+) -> Result<(), AllocError>
+    ensures { OnOk result (line.new.items ≡ line.old.items
+        ++ (word.now ++ (anchor_part (text_of anchor.now) ++ tag_part (text_of tag.now)))) }
+{
+    line.reserve(4)?;
+    push_each(line, word);
+    push_anchor(line, anchor)?;
+    push_tag(line, tag)
+}
+
+// Adds the line of a scalar.
+// Out of line: see `push_alias`.
+#[inline(never)]
+fn push_scalar(
+    line: &mut Vec<u8>,
+    anchor: &Option<Vec<u8>>,
+    tag: &Option<Vec<u8>>,
+    value: &[u8],
+    style: yaml_scalar_style_t,
+) -> Result<(), AllocError>
+    ensures { OnOk result (line.new.items ≡ line.old.items
+        ++ (codes "=VAL" ++ (anchor_part (text_of anchor.now) ++ tag_part (text_of tag.now))
+        ++ 32 ∷ indicator_of style ∷ (escaped value.now ++ 10 ∷ []))) }
+{
+    push_node(line, b"=VAL", anchor, tag)?;
+    push_text(line, style_indicator(style), value, b'\n')
+}
+
+// Adds the line of a collection's start.
+// Out of line: see `push_alias`.
+#[inline(never)]
+fn push_start(
+    line: &mut Vec<u8>,
+    word: &[u8; 4],
+    anchor: &Option<Vec<u8>>,
+    tag: &Option<Vec<u8>>,
+) -> Result<(), AllocError>
+    ensures { OnOk result (line.new.items ≡ line.old.items
+        ++ (word.now ++ (anchor_part (text_of anchor.now) ++ tag_part (text_of tag.now)) ++ 10 ∷ [])) }
+{
+    push_node(line, word, anchor, tag)?;
     push_end(line)
 }
 
-// Adds a short value and the line's end, for which there is room where nothing is escaped.
-// Inlined: some stores, for a short text.
-#[inline(always)]
-fn push_short(line: &mut Vec<u8>, value: &[u8]) -> Result<(), AllocError>
-    requires { vec_len line.old + length value.now < vec_capacity line.old }
-    ensures { OnOk result (line.new.items ≡ line.old.items ++ (escaped value.now ++ 10 ∷ [])) }
+// Adds the line of an alias.
+// Out of line, as each arm of the function that calls it: LLVM looks at a hundred uses of the line at most to see that
+// nobody keeps it, and reads its place again behind each byte where it can't.
+#[inline(never)]
+fn push_alias(line: &mut Vec<u8>, name: &[u8]) -> Result<(), AllocError>
+    ensures { OnOk result (line.new.items ≡ line.old.items ++ (codes "=ALI *" ++ name.now ++ 10 ∷ [])) }
 {
-    let rest = push_front(line, value);
-    if rest.is_empty() {
-        line.push_reserved(b'\n');
-        return Ok(());
-    }
-    push_escaped_end(line, rest)
+    push_name(line, b"=ALI *", name)?;
+    push_end(line)
 }
 
-// Adds a value of 16 bytes and more, and the line's end.
-// Out of line: most values are short.
+// Adds the line of a document's start or end: a word, and a mark where it isn't left out.
+// Out of line: see `push_alias`.
 #[inline(never)]
-fn push_long(line: &mut Vec<u8>, value: &[u8]) -> Result<(), AllocError>
-    ensures { OnOk result (line.new.items ≡ line.old.items ++ (escaped value.now ++ 10 ∷ [])) }
+fn push_document(
+    line: &mut Vec<u8>,
+    word: &[u8],
+    implicit: bool,
+    mark: &[u8],
+) -> Result<(), AllocError>
+    ensures { OnOk result (line.new.items ≡ line.old.items
+        ++ (word.now ++ mark_part implicit mark.now ++ 10 ∷ [])) }
 {
-    push_runs(line, value)?;
+    line.extend_from_slice(word)?;
+    if !implicit {
+        line.extend_from_slice(mark)?;
+    }
     push_end(line)
 }
 
@@ -396,23 +390,58 @@ fn push_bare(line: &mut Vec<u8>, value: &[u8], style: yaml_scalar_style_t) -> Re
         line.reserve(value.len() + 7)?;
         push_each(line, b"=VAL ");
         line.push_reserved(style_indicator(style));
-        return push_short(line, value);
+        return push_short(line, value, b'\n');
     }
     line.reserve(6)?;
     push_each(line, b"=VAL ");
     line.push_reserved(style_indicator(style));
-    push_long(line, value)
+    push_long(line, value, b'\n')
+}
+
+// Adds the line of an event that its word alone tells, and that is rare.
+// Out of line: see `push_alias`.
+#[inline(never)]
+fn push_rare(line: &mut Vec<u8>, word: &[u8]) -> Result<(), AllocError>
+    ensures { OnOk result (line.new.items ≡ line.old.items ++ (word.now ++ 10 ∷ [])) }
+{
+    line.extend_from_slice(word)?;
+    push_end(line)
 }
 
 // Adds the line of any event.
-// Out of line: it asks for its room again and again.
+// Out of line: most events have no property, and none is added to their word or their value.
 #[inline(never)]
 fn push_any(line: &mut Vec<u8>, event: &yaml_event_t) -> Result<(), AllocError>
     ensures { OnOk result (line.new.items ≡ line.old.items ++ event_line
         (event_of event.now).body) }
 {
-    push_event(line, event)?;
-    push_end(line)
+    match &event.body {
+        yaml_event_body_t::No => push_end(line),
+        yaml_event_body_t::StreamStart { .. } => push_rare(line, b"+STR"),
+        yaml_event_body_t::StreamEnd => push_rare(line, b"-STR"),
+        yaml_event_body_t::DocumentStart { implicit, .. } => push_document(
+            line, b"+DOC", *implicit, b" ---",
+        ),
+        yaml_event_body_t::DocumentEnd { implicit } => push_document(
+            line, b"-DOC", *implicit, b" ...",
+        ),
+        yaml_event_body_t::Alias { anchor } => push_alias(line, anchor),
+        yaml_event_body_t::Scalar {
+            anchor,
+            tag,
+            value,
+            style,
+            ..
+        } => push_scalar(line, anchor, tag, value, *style),
+        yaml_event_body_t::SequenceStart { anchor, tag, .. } => {
+            push_start(line, b"+SEQ", anchor, tag)
+        }
+        yaml_event_body_t::SequenceEnd => push_rare(line, b"-SEQ"),
+        yaml_event_body_t::MappingStart { anchor, tag, .. } => {
+            push_start(line, b"+MAP", anchor, tag)
+        }
+        yaml_event_body_t::MappingEnd => push_rare(line, b"-MAP"),
+    }
 }
 
 /// Adds the line that tells an event, with a line feed at its end: `+STR`, `-STR`, `+DOC` (` ---` where it is explicit),

@@ -5,7 +5,6 @@ use Rattle.yaml_parse_laws_faults.specs.grammar.parse_model.declared.yaml_token_
 use Rattle.yaml_parse_laws_faults.specs.grammar.parse_model.declared.yaml_token_type_t.TheVariants as kind
 use Rattle.yaml_parse_laws_faults.specs.grammar.parse_model.Tokens.{Token, TokenBody, type_of}
 use Rattle.yaml_parse_laws_faults.specs.grammar.parse_model.Tokens as token
-use Rattle.yaml_parse_laws_faults.specs.grammar.parse_model.Faults.{Fault}
 use Rattle.yaml_parse_laws_faults.specs.grammar.declared.name.Wants.{Wants}
 use Rattle.yaml_parse_laws_faults.specs.grammar.declared.name.Wants.TheVariants.{Flow, Block}
 use Rattle.yaml_parse_laws_faults.specs.grammar.declared.name.Side.{Side}
@@ -20,7 +19,7 @@ use Rattle.yaml_parse_laws_faults.specs.grammar.Items.{RawEvent, Properties}
 use Rattle.yaml_parse_laws_faults.specs.grammar.States.{State}
 use Rattle.yaml_parse_laws_faults.specs.grammar.States as state
 use Rattle.yaml_parse_laws_faults.specs.grammar.Machine.{starts_content, starts_node, wants_of, closes, parts_documents, follows, no_node, no_end, joins, choice_at, documents_taken, entries_taken, pairs_taken, more_taken, taken_at, left_at, Fed, stop, go, with_item, given_by, turn, feed}
-use Rattle.yaml_parse_laws_faults.proofs.laws_sound.Standing.{Goes, Fits, Closed, Stood}
+use Rattle.yaml_parse_laws_faults.proofs.laws_sound.Standing.{Goes, Closed, Stood}
 use Rattle.yaml_parse_laws_faults.proofs.laws_sound.Closing.{closers}
 use Rattle.yaml_parse_laws_faults.proofs.Standing.{Last, nothing, asking, property, directive, other, last_of, told, Plain}
 use Rattle.yaml_parse_laws_given.specs.Given.{is_end, EndsAt, leaves_open, last_leaves_open}
@@ -154,6 +153,7 @@ document_end_light = record { leaves = leaves; never = never }
     leaves : (b : TokenBody) → is_end b ≡ true → choice_at state.document_end (type_of b) ≡ Leave
     leaves token.document_end h = cc
     leaves _ h = refl
+
     never : (k : yaml_token_type_t) (p : ParseProblem) (o : Option yaml_mark_t) → choice_at state.document_end k ≡ Refuse p o → ⊥
     never kind.YAML_DOCUMENT_END_TOKEN p o h = cc
     never _ p o h = cc
@@ -164,6 +164,7 @@ others_light side = record { leaves = leaves; never = never }
     leaves : (b : TokenBody) → is_end b ≡ true → choice_at (state.others side) (type_of b) ≡ Leave
     leaves token.block_entry h = cc
     leaves _ h = refl
+
     never : (k : yaml_token_type_t) (p : ParseProblem) (o : Option yaml_mark_t) → choice_at (state.others side) k ≡ Refuse p o → ⊥
     never kind.YAML_BLOCK_ENTRY_TOKEN p o h = cc
     never _ p o h = cc
@@ -174,6 +175,7 @@ colon_light place = record { leaves = leaves; never = never }
     leaves : (b : TokenBody) → is_end b ≡ true → choice_at (state.colon place) (type_of b) ≡ Leave
     leaves token.value h = cc
     leaves _ h = refl
+
     never : (k : yaml_token_type_t) (p : ParseProblem) (o : Option yaml_mark_t) → choice_at (state.colon place) k ≡ Refuse p o → ⊥
     never kind.YAML_VALUE_TOKEN p o h = cc
     never _ p o h = cc
@@ -187,6 +189,7 @@ properties_light w p = record { leaves = leaves; never = λ k q o h. refuses (jo
     leaves token.flow_mapping_end h = refl
     leaves token.stream_end h = refl
     leaves _ h = cc
+
     refuses : (b : Bool) (q : ParseProblem) (o : Option yaml_mark_t) → (if b then Take else Leave) ≡ Refuse q o → ⊥
     refuses true q o h = cc
     refuses false q o h = cc
@@ -214,9 +217,11 @@ documents_heavy = record { stays = stays; closed = closed; tells = λ t e c. tel
     stays : (k : yaml_token_type_t) → choice_at state.documents k ≡ Leave → ⊥
     stays kind.YAML_DOCUMENT_END_TOKEN h = cc
     stays k h = stays_or (parts_documents k) problem.NoDocumentStart None h
+
     closed : (k : yaml_token_type_t) → choice_at state.documents k ≡ Open → ⊥
     closed kind.YAML_DOCUMENT_END_TOKEN h = cc
     closed k h = closed_or (parts_documents k) problem.NoDocumentStart None h
+
     tells : (start end : yaml_mark_t) (b : TokenBody) → is_end b ≡ true → choice_at state.documents (type_of b) ≡ Take → HasItem (documents_taken start start end b).item
     tells start end token.stream_end e c = tt
     tells start end token.block_end e c = cc
@@ -231,10 +236,12 @@ entries_heavy opener = record { stays = stays; closed = closed; tells = λ t e c
     stays kind.YAML_BLOCK_ENTRY_TOKEN h = cc
     stays kind.YAML_BLOCK_END_TOKEN h = cc
     stays _ h = cc
+
     closed : (k : yaml_token_type_t) → choice_at (state.entries opener) k ≡ Open → ⊥
     closed kind.YAML_BLOCK_ENTRY_TOKEN h = cc
     closed kind.YAML_BLOCK_END_TOKEN h = cc
     closed _ h = cc
+
     tells : (start end : yaml_mark_t) (b : TokenBody) → is_end b ≡ true → HasItem (entries_taken opener start end b).item
     tells start end token.block_entry e = cc
     tells start end _ e = tt
@@ -246,10 +253,12 @@ pairs_heavy opener = record { stays = stays; closed = closed; tells = λ t e c. 
     stays kind.YAML_KEY_TOKEN h = cc
     stays kind.YAML_BLOCK_END_TOKEN h = cc
     stays _ h = cc
+
     closed : (k : yaml_token_type_t) → choice_at (state.pairs opener) k ≡ Open → ⊥
     closed kind.YAML_KEY_TOKEN h = cc
     closed kind.YAML_BLOCK_END_TOKEN h = cc
     closed _ h = cc
+
     tells : (start end : yaml_mark_t) (b : TokenBody) → is_end b ≡ true → HasItem (pairs_taken opener start end b).item
     tells start end token.key e = cc
     tells start end _ e = tt
@@ -260,9 +269,11 @@ more_heavy b opener = record { stays = stays; closed = closed; tells = λ t e c.
     stays : (k : yaml_token_type_t) → choice_at (state.more b opener) k ≡ Leave → ⊥
     stays kind.YAML_FLOW_ENTRY_TOKEN h = cc
     stays k h = stays_or (closes b k) (no_end b) (Some opener) h
+
     closed : (k : yaml_token_type_t) → choice_at (state.more b opener) k ≡ Open → ⊥
     closed kind.YAML_FLOW_ENTRY_TOKEN h = cc
     closed k h = closed_or (closes b k) (no_end b) (Some opener) h
+
     tells : (start end : yaml_mark_t) (x : TokenBody) → is_end x ≡ true → HasItem (more_taken b opener start end x).item
     tells start end token.flow_entry e = cc
     tells start end _ e = tt

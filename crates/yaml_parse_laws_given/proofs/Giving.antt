@@ -1,13 +1,13 @@
 -- The machine gives the events of a list, and a list has no others.
-use Rattle.std.proofs.Common.{◌≡◌, ◌⊎◌, inl, inr, ◌+◌, ◌-◌, ◌≤◌, ℕ, suc, Bool, true, false, ◌||◌, List, [], ◌∷◌, ◌++◌, length, map, Option, Some, None, refl, ap, sym, subst, ◌∙◌, arith, append_assoc, append-nil, le_refl}
+use Rattle.std.proofs.Common.{◌≡◌, ◌⊎◌, inl, inr, ◌+◌, ◌-◌, ◌≤◌, ℕ, suc, Bool, true, false, ◌||◌, List, [], ◌∷◌, ◌++◌, length, Option, Some, None, refl, ap, sym, subst, ◌∙◌, arith, append_assoc, append-nil, le_refl}
 use Rattle.yaml_parse_laws_faults.specs.grammar.parse_model.declared.yaml_mark_t.{yaml_mark_t}
 use Rattle.yaml_parse_laws_faults.specs.grammar.parse_model.Tokens.{Token, no_token, zero_mark}
 use Rattle.yaml_parse_laws_faults.specs.grammar.parse_model.Faults.{Fault}
 use Rattle.yaml_parse_laws_faults.specs.grammar.Items.{RawEvent}
 use Rattle.yaml_parse_laws_faults.specs.grammar.States.{State}
 use Rattle.yaml_parse_laws_faults.specs.grammar.Trees.{Stream, spell, items, Given, next}
-use Rattle.yaml_parse_laws_faults.specs.grammar.Machine.{Fed, stop, go, feed, Outcome, finished, carry, run, initial}
-use Rattle.yaml_parse_laws_faults.specs.grammar.Resolve.{Told, Reading, reading, no_directives}
+use Rattle.yaml_parse_laws_faults.specs.grammar.Machine.{Fed, stop, go, feed, Outcome, run, initial}
+use Rattle.yaml_parse_laws_faults.specs.grammar.Resolve.{Told, reading, no_directives}
 use Rattle.yaml_parse_laws_faults.specs.grammar.Remaining.{reading_of}
 use Rattle.yaml_parse_laws_faults.specs.laws_sound.Laws.{GoesOn, BeginsWithTree, bare, RefusedAt, RunsOut}
 use Rattle.yaml_parse_laws_faults.proofs.grammar.CompleteStream.{stream_runs, nothing_runs}
@@ -19,7 +19,7 @@ use Rattle.yaml_parse_laws_faults.proofs.Spelling.{spelled_before}
 use Rattle.yaml_parse_laws_faults.proofs.Standing.{Last, nothing, last_of, told}
 use Rattle.yaml_parse_laws_faults.proofs.Taking.{stack_solid, Stops, stops_at_none}
 use Rattle.yaml_parse_laws_faults.proofs.Ending.{runs_fed, runs_out}
-use Rattle.yaml_parse_laws_given.specs.Given.{IsLongest, LongestFront, first_items, events_of, events_of_front, events_at_next, but_last, is_end, EndsAt, last_leaves_open, has_fault, gives_no_more, GivesAt, GivesFront, BeginsWith, GivesLeast, EventsOfTokens}
+use Rattle.yaml_parse_laws_given.specs.Given.{IsLongest, LongestFront, first_items, events_of, events_of_front, events_at_next, but_last, EndsAt, last_leaves_open, has_fault, gives_no_more, GivesAt, GivesFront, BeginsWith, EventsOfTokens}
 use Rattle.yaml_parse_laws_given.specs.Laws.{events_run, HasFront, ListHasFront, EventsAreOne, RunGivesEvents, EventsAreRun, RunGivesLeast}
 use Rattle.yaml_parse_laws_given.proofs.Walking.{raised, numbered, before, Knows, knows_step, takes_step, Unfinished, last_behind, Walked, walk}
 use Rattle.yaml_parse_laws_given.proofs.Behind.{open_behind, front_open, GivesNone, none_given, OneMore, Alike, feed_alike, closed_top, closers_end}

@@ -6,7 +6,7 @@ use Rattle.yaml_parse_laws_faults.specs.grammar.Items.{RawEvent}
 use Rattle.yaml_parse_laws_faults.specs.grammar.States.{State}
 use Rattle.yaml_parse_laws_faults.specs.grammar.Stacks.{IsStack}
 use Rattle.yaml_parse_laws_faults.specs.grammar.Trees.{Given}
-use Rattle.yaml_parse_laws_faults.specs.grammar.Machine.{Fed, stop, go, feed, Outcome, carry, run}
+use Rattle.yaml_parse_laws_faults.specs.grammar.Machine.{Fed, stop, go, feed, Outcome, run}
 use Rattle.yaml_parse_laws_faults.proofs.laws_sound.Left.{Over}
 use Rattle.yaml_parse_laws_faults.proofs.laws_sound.Standing.{AllStood, FedStood, feed_stood}
 use Rattle.yaml_parse_laws_faults.proofs.laws_sound.Closing.{Empty}
@@ -99,8 +99,8 @@ walk_on : (t : Token) (front behind more : List Token) (l : Last) (x : State) (s
 walk_on t front behind more l x s (stop is e) p k u a r = absurd (not_none e (sym (ap (λ (o : Outcome). o.ending) (runs_fed (x ∷ s) t (front ++ more) None (stop is e) p)) ∙ a))
 walk_on t front behind more l x s (go is s') p k u a r =
     let w : Walked front behind (last_of t.body) s' = r s' (knows_step x s s' l t is k p)
-        (λ us vs q o. u (t ∷ us) vs (ap (λ (z : List Token). t ∷ z) q) (takes_step x s s' l t is k p us o))
-        (sym (ap (λ (o : Outcome). o.ending) (runs_fed (x ∷ s) t (front ++ more) None (go is s') p)) ∙ a) in
+    (λ us vs q o. u (t ∷ us) vs (ap (λ (z : List Token). t ∷ z) q) (takes_step x s s' l t is k p us o))
+    (sym (ap (λ (o : Outcome). o.ending) (runs_fed (x ∷ s) t (front ++ more) None (go is s') p)) ∙ a) in
     record {
       items = numbered (length front) is ++ w.items;
       stack = w.stack;

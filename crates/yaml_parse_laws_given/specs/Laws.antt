@@ -1,5 +1,5 @@
 -- The machine's events are the list's.
-use Rattle.std.specs.Prelude.{◌≡◌, Bool, false, List, Option}
+use Rattle.std.specs.Prelude.{◌≡◌, false, List, Option}
 use Rattle.yaml_parse_laws_faults.specs.grammar.parse_model.Tokens.{Token}
 use Rattle.yaml_parse_laws_faults.specs.grammar.parse_model.Faults.{Fault}
 use Rattle.yaml_parse_laws_faults.specs.grammar.Trees.{next}

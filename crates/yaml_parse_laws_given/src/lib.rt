@@ -3,6 +3,7 @@
 #![tactic(auto)]
 
 ghost use Rattle.yaml_parse_laws_given.specs.Laws.{EventsAreOne, EventsAreRun, ListHasFront, RunGivesEvents, RunGivesLeast};
+ghost use Rattle.yaml_parse_laws_given.specs.Rows.{RowsHold};
 
 /// A list that begins with no tree's tokens has a longest front with which a tree goes on.
 pub fn a_list_has_a_longest_front()
@@ -27,4 +28,11 @@ pub fn the_events_are_what_the_machine_gives()
 /// Of each tree that goes on with the longest front the machine gives all that needs no token behind it.
 pub fn the_machine_gives_all_of_the_front()
     ensures { RunGivesLeast }
+{}
+
+/// Lists with their events before a fault: a node that has properties alone, the end of a single pair
+/// and that of a document are given; a node that may be left out isn't, and nothing is told by a fault
+/// of the source's own.
+pub fn rows_of_events_hold()
+    ensures { RowsHold }
 {}

@@ -1,2 +1,2 @@
 mod Pairs
-mod Loading
+pub mod Loading

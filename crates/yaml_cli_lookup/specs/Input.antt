@@ -1,5 +1,5 @@
 -- What an input loads, by the definitions that the members' contracts cite.
-use Rattle.std.specs.Prelude.{ℕ, List, Result, Ok, Err}
+use Rattle.std.specs.Prelude.{◌≡◌, ℕ, List, Result, Ok, Err}
 use Rattle.yaml_scan.specs.declared.yaml_encoding_t.{yaml_encoding_t}
 use Rattle.yaml_scan.specs.Faults.{Fault}
 use Rattle.yaml_scan.specs.Remaining as scan
@@ -7,18 +7,19 @@ use Rattle.yaml_scan.specs.Scanned.{scanned}
 use Rattle.yaml_parse.specs.Documents.{Document, no_document}
 use Rattle.yaml_parse.specs.Loading.{nothing_loaded}
 use Rattle.yaml_parse.specs.Loads.{Loads, document, faulty, nothing, loads}
-use Rattle.yaml_parse.specs.Machine.{run, initial}
-use Rattle.yaml_parse.specs.Remaining.{reading_of}
-use Rattle.yaml_parse.specs.Resolve.{Reading, no_directives}
+use Rattle.yaml_parse.specs.Resolve.{Reading}
+use Rattle.yaml_parse.specs.parse_laws_faults.Places.{FaultOfTokens}
+use Rattle.yaml_parse.specs.parse_laws_given.Given.{EventsOfTokens}
 use Rattle.yaml_round_adapter.specs.Adapted.{adapted}
 
 -- the scanner's tokens of the input, as a parser takes them
 abbrev pub tokens_of : yaml_encoding_t → List ℕ → scan.Remaining
 tokens_of encoding input = adapted (scanned encoding input)
 
--- the parser's events of them, and the fault that ends them
-abbrev pub parsed : scan.Remaining → Reading
-parsed c = reading_of (run c.tokens initial c.fault) no_directives
+-- the events of those, and the fault that ends them
+pub record IsParsed (c : scan.Remaining) (r : Reading) : Type 0 where
+  pub events : EventsOfTokens c.tokens c.fault r.events
+  pub ending : FaultOfTokens c.tokens c.fault r.ending
 
 -- what the loader makes of those
 abbrev pub loaded : Reading → Loads
@@ -30,6 +31,10 @@ outcome (document d left unasked) = Ok d
 outcome nothing = Ok no_document
 outcome (faulty f) = Err f
 
--- the first document of the input, or the fault that is met before its end
-unfoldable pub first_document : yaml_encoding_t → List ℕ → Result Document Fault
-first_document encoding input = outcome (loaded (parsed (tokens_of encoding input)))
+-- The first document of the input, or the fault that is met before its end. Each input has one, and one alone: its tokens
+-- have one list of events, and one fault.
+pub record IsFirst (encoding : yaml_encoding_t) (input : List ℕ)
+    (first : Result Document Fault) : Type 0 where
+  pub reading : Reading
+  pub parsed : IsParsed (tokens_of encoding input) reading
+  pub same : first ≡ outcome (loaded reading)

@@ -8,23 +8,23 @@ use Rattle.yaml_cli_lookup.specs.declared.error.LookupError.TheVariants.{Unreada
 use Rattle.yaml_cli_lookup.specs.Values.{has_mapping, value_of}
 
 -- it is the first document, and its root is a mapping
-pub record IsLoaded (first : Result Document Fault) (d : Document) : Type 0 where
-  pub same : first ≡ Ok d
+pub record IsLoaded (First : Result Document Fault → Type 0) (d : Document) : Type 0 where
+  pub first : First (Ok d)
   pub mapping : has_mapping d ≡ true
 
 -- When each error comes: the fault is that of the input; there is a document, and its root isn't
 -- a mapping.
-abbrev pub IsDue : Result Document Fault → LookupError → Type 0
-IsDue first (Unreadable f) = first ≡ Err (fault_of f)
-IsDue first NotAMapping = (d : Document) × (first ≡ Ok d) × (has_mapping d ≡ false)
-IsDue first OutOfMemory = Unit {0}
+abbrev pub IsDue : (Result Document Fault → Type 0) → LookupError → Type 0
+IsDue First (Unreadable f) = First (Err (fault_of f))
+IsDue First NotAMapping = (d : Document) × First (Ok d) × (has_mapping d ≡ false)
+IsDue First OutOfMemory = Unit {0}
 
 abbrev pub bytes_of : Option (Vec ℕ Global) → Option (List ℕ)
 bytes_of v = option_map (λ t. t.items) v
 
 -- what the first document's root gives the key
-pub record IsFound (first : Result Document Fault) (key : List ℕ)
+pub record IsFound (First : Result Document Fault → Type 0) (key : List ℕ)
     (found : Option (Vec ℕ Global)) : Type 0 where
   pub document : Document
-  pub loaded : IsLoaded first document
+  pub loaded : IsLoaded First document
   pub value : bytes_of found ≡ value_of document key

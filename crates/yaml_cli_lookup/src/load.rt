@@ -3,7 +3,7 @@
 ghost use Rattle.std.specs.Prelude.{◌≡◌, option_map, IfOk, IfErr};
 ghost use Rattle.yaml_scan.specs.Faults.{Answers, load_layers};
 ghost use Rattle.yaml_cli_lookup.specs.declared.error.LookupError.TheVariants.{OutOfMemory};
-ghost use Rattle.yaml_cli_lookup.specs.Input.{first_document};
+ghost use Rattle.yaml_cli_lookup.specs.Input.{IsFirst};
 ghost use Rattle.yaml_cli_lookup.specs.Lookup.{IsLoaded, IsDue, IsFound, bytes_of};
 
 use crate::error::{LookupError, error_of};
@@ -19,20 +19,21 @@ fn first_document(
     input: &[u8],
     encoding: yaml_encoding_t,
 ) -> Result<yaml_document_t, yaml_fault_t>
-    ensures { Answers load_layers (λ d. d) (λ r. first_document encoding input.now ≡ r) result }
+    ensures { Answers load_layers (λ d. d) (IsFirst encoding input.now) result }
 {
     let mut parser = yaml_parser_initialize(alloc, yaml_adapter_t::new(alloc, input, encoding))?;
     yaml_parser_load(&mut parser)
 }
 
 /// The first document of the input, whose root is a mapping. No document behind it is loaded.
+#[tactic(auto, using(crate::proofs::Loading::due))]
 pub fn load_mapping(
     alloc: Global,
     input: &[u8],
     encoding: yaml_encoding_t,
 ) -> Result<yaml_document_t, LookupError>
-    ensures ok { IfOk result (IsLoaded (first_document encoding input.now)) }
-    ensures err { IfErr result (IsDue (first_document encoding input.now)) }
+    ensures ok { IfOk result (IsLoaded (IsFirst encoding input.now)) }
+    ensures err { IfErr result (IsDue (IsFirst encoding input.now)) }
 {
     match first_document(alloc, input, encoding) {
         Err(fault) => Err(error_of(fault)),
@@ -67,8 +68,8 @@ pub fn lookup(
     encoding: yaml_encoding_t,
     key: &[u8],
 ) -> Result<Option<Vec<u8>>, LookupError>
-    ensures ok { IfOk result (IsFound (first_document encoding input.now) key.now) }
-    ensures err { IfErr result (IsDue (first_document encoding input.now)) }
+    ensures ok { IfOk result (IsFound (IsFirst encoding input.now) key.now) }
+    ensures err { IfErr result (IsDue (IsFirst encoding input.now)) }
 {
     match load_mapping(alloc, input, encoding) {
         Err(error) => Err(error),

@@ -9,4 +9,6 @@ pub mod Sentences
 -- its grammar, for crates of laws that name the member alone
 pub use Rattle.yaml_parse_grammar.proofs as parse_grammar
 -- the laws of its faults, for the same
-pub use Rattle.yaml_parse_laws_faults.proofs as parse_laws_faults
+pub use Rattle.yaml_parse_laws_given.proofs.laws_faults as parse_laws_faults
+-- the laws of its events, for the same
+pub use Rattle.yaml_parse_laws_given.proofs as parse_laws_given

@@ -7,15 +7,17 @@ use Rattle.yaml_parse_grammar.specs.Trees.{items}
 use Rattle.yaml_parse_grammar.specs.Machine.{run, initial}
 use Rattle.yaml_parse_grammar.specs.Resolve.{Told, no_directives}
 use Rattle.yaml_parse_grammar.specs.Remaining.{reading_of, unasked_of}
-use Rattle.yaml_parse_laws_faults.specs.laws_sound.Laws.{BeginsWithTree, bare, GoesOnGiving, RefusedAt, RunsOut}
-use Rattle.yaml_parse_laws_faults.specs.laws_counts.Laws.{AtMostFourSoFar}
-use Rattle.yaml_parse_laws_faults.specs.Places.{FaultOfTokens, IsToldWith}
-use Rattle.yaml_parse_laws_faults.proofs.laws_counts.SoFar.{few_so_far}
-use Rattle.yaml_parse_laws_faults.proofs.laws_sound.Sound.{accepted_trees}
-use Rattle.yaml_parse_laws_faults.proofs.laws_sound.Refusal.{faults_stand}
-use Rattle.yaml_parse_laws_faults.proofs.laws_sound.Events.{events_begin}
-use Rattle.yaml_parse_laws_faults.proofs.Ending.{ends_in_fault, told_at_place}
-use Rattle.yaml_parse.specs.Fronts.{IsLongest, BeginsTree}
+use Rattle.yaml_parse_laws_given.specs.laws_faults.laws_sound.Laws.{BeginsWithTree, bare, GoesOnGiving, RefusedAt, RunsOut}
+use Rattle.yaml_parse_laws_given.specs.laws_faults.laws_counts.Laws.{AtMostFourSoFar}
+use Rattle.yaml_parse_laws_given.specs.laws_faults.Places.{FaultOfTokens, IsToldWith}
+use Rattle.yaml_parse_laws_given.proofs.laws_faults.laws_counts.SoFar.{few_so_far}
+use Rattle.yaml_parse_laws_given.proofs.laws_faults.laws_sound.Sound.{accepted_trees}
+use Rattle.yaml_parse_laws_given.proofs.laws_faults.laws_sound.Refusal.{faults_stand}
+use Rattle.yaml_parse_laws_given.proofs.laws_faults.laws_sound.Events.{events_begin}
+use Rattle.yaml_parse_laws_given.proofs.laws_faults.Ending.{ends_in_fault, fault_ends, told_at_place}
+use Rattle.yaml_parse_laws_given.specs.Given.{IsLongest, GivesLeast, EventsOfTokens}
+use Rattle.yaml_parse_laws_given.proofs.Giving.{run_gives_events, run_gives_least, events_are_run}
+use Rattle.yaml_parse.specs.Fronts.{BeginsTree}
 
 pub fault_of_tokens : (ts : List Token) (f ending : Option Fault) → ending ≡ (reading_of (run ts initial f) no_directives).ending → FaultOfTokens ts f ending
 fault_of_tokens ts f ending e = subst (FaultOfTokens ts f) (sym e) (ends_in_fault ts f)
@@ -50,3 +52,14 @@ begins_tree ts f events e n = subst (BeginsTree ts) (sym e) (by_ending ts f (run
 
 pub few_events : (ts : List Token) (f : Option Fault) (events : List Told) → events ≡ (reading_of (run ts initial f) no_directives).events → AtMostFourSoFar 0 (length ts) events
 few_events ts f events e = subst (AtMostFourSoFar 0 (length ts)) (sym e) (few_so_far ts f no_directives)
+
+pub tokens_events : (ts : List Token) (f : Option Fault) (events : List Told) → events ≡ (reading_of (run ts initial f) no_directives).events → EventsOfTokens ts f events
+tokens_events ts f events e = subst (EventsOfTokens ts f) (sym e) (run_gives_events ts f)
+
+pub least_events : (ts : List Token) (f : Option Fault) (events : List Told) → events ≡ (reading_of (run ts initial f) no_directives).events → (BeginsWithTree ts → ⊥) → GivesLeast ts events
+least_events ts f events e n = subst (GivesLeast ts) (sym e) (run_gives_least ts f n)
+
+-- events and an ending that are those of the tokens are the machine's
+pub as_run : (ts : List Token) (f : Option Fault) (events : List Told) (ending : Option Fault) → EventsOfTokens ts f events → FaultOfTokens ts f ending
+    → (events ≡ (reading_of (run ts initial f) no_directives).events) × (ending ≡ (reading_of (run ts initial f) no_directives).ending)
+as_run ts f events ending h k = (events_are_run ts f events h, sym (fault_ends ts f ending k))

@@ -1,14 +1,10 @@
 -- What comes of a list of tokens that begins with those of no tree.
-use Rattle.std.specs.Prelude.{◌≡◌, List, [], ◌∷◌, ◌++◌, None}
+use Rattle.std.specs.Prelude.{◌≡◌, List, [], ◌++◌, None}
 use Rattle.yaml_scan_model.specs.Tokens.{Token}
 use Rattle.yaml_parse_grammar.specs.Trees.{Stream, spell, items}
 use Rattle.yaml_parse_grammar.specs.Resolve.{Told, reading, no_directives}
-use Rattle.yaml_parse_laws_faults.specs.laws_sound.Laws.{GoesOn, told, BeginsWithEvents}
-
--- no tree goes on with one token more
-abbrev pub IsLongest : List Token → List Token → Type 0
-IsLongest front [] = Unit {0}
-IsLongest front (t ∷ ts) = GoesOn (front ++ t ∷ []) → ⊥
+use Rattle.yaml_parse_laws_given.specs.laws_faults.laws_sound.Laws.{told, BeginsWithEvents}
+use Rattle.yaml_parse_laws_given.specs.Given.{IsLongest}
 
 -- The events begin those of a tree that goes on with the longest front of the tokens with which one does.
 pub record BeginsTree (ts : List Token) (events : List Told) : Type 0 where

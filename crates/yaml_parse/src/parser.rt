@@ -10,12 +10,12 @@ ghost use Rattle.yaml_parse_machine.specs.Views.{item_of};
 ghost use Rattle.yaml_parse_model.specs.Prefix.{prefix_of, no_fault};
 ghost use Rattle.yaml_parse_grammar.specs.Trees.{Stream, spell, items};
 ghost use Rattle.yaml_parse_grammar.specs.Resolve.{reading, no_directives};
-ghost use Rattle.yaml_parse_grammar.specs.Machine.{run, initial};
-ghost use Rattle.yaml_parse_grammar.specs.Remaining.{reading_of, EventOf, FaultOf, IsFinished};
+ghost use Rattle.yaml_parse_grammar.specs.Remaining.{EventOf, FaultOf, IsFinished};
 ghost use Rattle.yaml_parse_model.specs.Constructors.{HasUtf8};
-ghost use Rattle.yaml_parse_laws_faults.specs.laws_sound.Laws.{BeginsWithTree};
-ghost use Rattle.yaml_parse_laws_faults.specs.laws_counts.Laws.{AtMostFourSoFar};
-ghost use Rattle.yaml_parse_laws_faults.specs.Places.{FaultOfTokens, IsToldWith};
+ghost use Rattle.yaml_parse_laws_given.specs.laws_faults.laws_sound.Laws.{BeginsWithTree};
+ghost use Rattle.yaml_parse_laws_given.specs.laws_faults.laws_counts.Laws.{AtMostFourSoFar};
+ghost use Rattle.yaml_parse_laws_given.specs.laws_faults.Places.{FaultOfTokens, IsToldWith};
+ghost use Rattle.yaml_parse_laws_given.specs.Given.{EventsOfTokens, GivesLeast};
 ghost use Rattle.yaml_parse.specs.Fronts.{BeginsTree};
 ghost use Rattle.yaml_parse.specs.Finds.{NextOf, Finds, IsUtf8Found, IsStackFound};
 ghost use Rattle.yaml_parse.specs.Steps.{Turns, IsUtf8Turn, IsStackTurn};
@@ -132,12 +132,9 @@ pub fn yaml_parser_initialize<S: yaml_token_source_t>(
     ensures tree { (t : Stream) (rest : List Token) → S.to_come source ≡ spell t rest
         → IfOk result (λ p. (p.events ≡ (reading (items t rest) None no_directives).events)
         × (p.ending ≡ (reading (items t rest) None no_directives).ending)) }
-    // Of every list, sentence or not, what the machine gives is to come.
-    ensures machine { IfOk result (λ p. (p.events
-        ≡ (reading_of (run (S.to_come source) initial (S.fault_to_come source))
-        no_directives).events)
-        × (p.ending ≡ (reading_of (run (S.to_come source) initial (S.fault_to_come source))
-        no_directives).ending)) }
+    // They are the tokens' events, also where those begin with no tree's: before their fault.
+    ensures events { IfOk result (λ p. EventsOfTokens (S.to_come source) (S.fault_to_come source)
+        p.events) }
     // No fault is to come exactly where they begin with a sentence, and else the tokens' fault: that of the least place, a
     // token's, a directive's or a tag handle's, or behind all the source's own.
     ensures fault { IfOk result (λ p. FaultOfTokens (S.to_come source) (S.fault_to_come source)
@@ -151,6 +148,9 @@ pub fn yaml_parser_initialize<S: yaml_token_source_t>(
     // front of them with which one does.
     ensures front { IfOk result (λ p. (BeginsWithTree (S.to_come source) → ⊥)
         → BeginsTree (S.to_come source) p.events) }
+    // And they begin with all that every such tree gives with no token asked for behind that front.
+    ensures least { IfOk result (λ p. (BeginsWithTree (S.to_come source) → ⊥)
+        → GivesLeast (S.to_come source) p.events) }
     // No token was asked for yet.
     ensures unasked { IfOk result (λ p. (p.unasked ≡ length (S.to_come source)) × (p.held ≡ 0)) }
     ensures quiet { IfOk result (λ p. (p.answered ≡ no_fault) × (p.between ≡ true)) }

@@ -5,5 +5,5 @@ use Rattle.yaml_cli_lookup.proofs.load.first_document.Goals as goal
 pub returns : goal.returns
 returns c =
     first_answers c.args.encoding c.args.input.now c.new.result c.in_ok-parser.parser _ c.yaml_parser_load.result
-    c.new.ensures c.in_ok-parser.ensures.machine.0 c.in_ok-parser.ensures.machine.1
+    c.new.ensures c.in_ok-parser.ensures.events c.in_ok-parser.ensures.fault
     c.yaml_parser_load.ensures.ok c.yaml_parser_load.ensures.err

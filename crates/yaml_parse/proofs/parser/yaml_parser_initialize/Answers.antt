@@ -4,7 +4,7 @@ use Rattle.yaml_parse_grammar.specs.Resolve.{Directives}
 use Rattle.yaml_parse_machine.specs.declared.item.State as code
 use Rattle.yaml_parse_machine.specs.declared.item.State.TheVariants.{Stream}
 use Rattle.yaml_parse_machine.specs.Views.{stack_of}
-use Rattle.yaml_parse.proofs.Sentences.{fault_of_tokens, told_with, begins_tree, few_events}
+use Rattle.yaml_parse.proofs.Sentences.{fault_of_tokens, told_with, begins_tree, few_events, tokens_events, least_events}
 use Rattle.yaml_parse.proofs.Turning.{starts, starts_anywhere, starts_unasked}
 use Rattle.yaml_parse.proofs.parser.yaml_parser_initialize.Goals as goal
 
@@ -14,13 +14,6 @@ returns-in-Ok-clause-tree g c = λ t rest h.
     (record { version = None; tags = c.new.result }) t rest
     (ap stack_of (c.in-Ok.ensures.items ∙ ap (λ (xs : List code.State). xs ++ Stream ∷ []) c.new-stack.ensures.items))
     (ap (λ (xs : List TagDirective). let ds : Directives = record { version = None; tags = xs } in ds) c.new.ensures) h
-
-pub returns-in-Ok-clause-machine : goal.returns-in-Ok-clause-machine
-returns-in-Ok-clause-machine g c =
-    starts_anywhere (g.S.yaml_token_source_t.to_come c.args.source) (g.S.yaml_token_source_t.fault_to_come c.args.source) (stack_of c.push.new.self.items)
-    (record { version = None; tags = c.new.result })
-    (ap stack_of (c.in-Ok.ensures.items ∙ ap (λ (xs : List code.State). xs ++ Stream ∷ []) c.new-stack.ensures.items))
-    (ap (λ (xs : List TagDirective). let ds : Directives = record { version = None; tags = xs } in ds) c.new.ensures)
 
 pub returns-in-Ok-clause-fault : goal.returns-in-Ok-clause-fault
 returns-in-Ok-clause-fault g c =
@@ -54,6 +47,22 @@ returns-in-Ok-clause-told g c = λ e p.
 pub returns-in-Ok-clause-few : goal.returns-in-Ok-clause-few
 returns-in-Ok-clause-few g c =
     few_events (g.S.yaml_token_source_t.to_come c.args.source) (g.S.yaml_token_source_t.fault_to_come c.args.source) _
+    (starts_anywhere (g.S.yaml_token_source_t.to_come c.args.source) (g.S.yaml_token_source_t.fault_to_come c.args.source) (stack_of c.push.new.self.items)
+    (record { version = None; tags = c.new.result })
+    (ap stack_of (c.in-Ok.ensures.items ∙ ap (λ (xs : List code.State). xs ++ Stream ∷ []) c.new-stack.ensures.items))
+    (ap (λ (xs : List TagDirective). let ds : Directives = record { version = None; tags = xs } in ds) c.new.ensures)).0
+
+pub returns-in-Ok-clause-events : goal.returns-in-Ok-clause-events
+returns-in-Ok-clause-events g c =
+    tokens_events (g.S.yaml_token_source_t.to_come c.args.source) (g.S.yaml_token_source_t.fault_to_come c.args.source) _
+    (starts_anywhere (g.S.yaml_token_source_t.to_come c.args.source) (g.S.yaml_token_source_t.fault_to_come c.args.source) (stack_of c.push.new.self.items)
+    (record { version = None; tags = c.new.result })
+    (ap stack_of (c.in-Ok.ensures.items ∙ ap (λ (xs : List code.State). xs ++ Stream ∷ []) c.new-stack.ensures.items))
+    (ap (λ (xs : List TagDirective). let ds : Directives = record { version = None; tags = xs } in ds) c.new.ensures)).0
+
+pub returns-in-Ok-clause-least : goal.returns-in-Ok-clause-least
+returns-in-Ok-clause-least g c =
+    least_events (g.S.yaml_token_source_t.to_come c.args.source) (g.S.yaml_token_source_t.fault_to_come c.args.source) _
     (starts_anywhere (g.S.yaml_token_source_t.to_come c.args.source) (g.S.yaml_token_source_t.fault_to_come c.args.source) (stack_of c.push.new.self.items)
     (record { version = None; tags = c.new.result })
     (ap stack_of (c.in-Ok.ensures.items ∙ ap (λ (xs : List code.State). xs ++ Stream ∷ []) c.new-stack.ensures.items))

@@ -2,6 +2,7 @@
 use Rattle.std.proofs.Common.{◌≡◌, ◌∙◌, ap, ℕ, List}
 use Rattle.yaml_parse.specs.declared.yaml_encoding_t.{yaml_encoding_t}
 use Rattle.yaml_parse.specs.Resolve.{Reading}
+use Rattle.yaml_parse.proofs.Sentences.{as_run}
 use Rattle.yaml_round.specs.Input.{tokens_of, parsed, read}
 use Rattle.yaml_round_c.proofs.parsing.reading_of.Goals as goal
 
@@ -12,7 +13,5 @@ is_read from input c e = ap parsed e
 pub returns-in-Ok-clause-reads : goal.returns-in-Ok-clause-reads
 returns-in-Ok-clause-reads c =
     let e = is_read c.args.from c.args.input.now c.new.result c.new.ensures in
-    record {
-      events = c.in-Ok.ensures.machine.0 ∙ ap (λ (r : Reading). r.events) e;
-      ending = c.in-Ok.ensures.machine.1 ∙ ap (λ (r : Reading). r.ending) e;
-    }
+    let m = as_run c.new.result.tokens c.new.result.fault c.in-Ok.reading.events c.in-Ok.reading.ending c.in-Ok.ensures.events c.in-Ok.ensures.fault in
+    record { events = m.0 ∙ ap (λ (r : Reading). r.events) e; ending = m.1 ∙ ap (λ (r : Reading). r.ending) e }

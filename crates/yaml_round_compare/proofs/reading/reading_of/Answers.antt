@@ -4,6 +4,7 @@ use Rattle.yaml_scan.specs.declared.yaml_encoding_t.{yaml_encoding_t}
 use Rattle.yaml_scan.specs.Remaining as scan
 use Rattle.yaml_parse.specs.Resolve.{Reading, no_directives}
 use Rattle.yaml_parse.specs.Machine.{initial}
+use Rattle.yaml_parse.proofs.Sentences.{as_run}
 use Rattle.yaml_round_compare.specs.Reading.{AreReal}
 use Rattle.yaml_round_laws_reading.specs.round_content.Input.{tokens_of, parsed, read}
 use Rattle.yaml_round_compare.proofs.Real.{read_real}
@@ -16,10 +17,10 @@ is_read from input c e = ap parsed e
 pub returns-in-Ok-clause-reads : goal.returns-in-Ok-clause-reads
 returns-in-Ok-clause-reads c =
     let e = is_read c.args.from c.args.input.now c.new.result c.new.ensures in
-    record {
-      events = c.in-Ok.ensures.machine.0 ∙ ap (λ (r : Reading). r.events) e;
-      ending = c.in-Ok.ensures.machine.1 ∙ ap (λ (r : Reading). r.ending) e;
-    }
+    let m = as_run c.new.result.tokens c.new.result.fault c.in-Ok.parser.events c.in-Ok.parser.ending c.in-Ok.ensures.events c.in-Ok.ensures.fault in
+    record { events = m.0 ∙ ap (λ (r : Reading). r.events) e; ending = m.1 ∙ ap (λ (r : Reading). r.ending) e }
 
 pub returns-in-Ok-clause-real : goal.returns-in-Ok-clause-real
-returns-in-Ok-clause-real c = subst AreReal (sym c.in-Ok.ensures.machine.0) (read_real c.new.result.tokens initial c.new.result.fault no_directives)
+returns-in-Ok-clause-real c =
+    subst AreReal (sym (as_run c.new.result.tokens c.new.result.fault c.in-Ok.parser.events c.in-Ok.parser.ending c.in-Ok.ensures.events c.in-Ok.ensures.fault).0)
+    (read_real c.new.result.tokens initial c.new.result.fault no_directives)

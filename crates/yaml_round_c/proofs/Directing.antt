@@ -6,9 +6,10 @@ use Rattle.yaml_round_c.specs.declared.record.yaml_c_span.{yaml_c_span}
 use Rattle.yaml_round_c.specs.declared.record.yaml_c_directive.{yaml_c_directive}
 use Rattle.yaml_round_c.specs.declared.listing.Listing.{Listing}
 use Rattle.yaml_round_c.specs.Records.{part_at, directive_at, in_front, all_directives}
-use Rattle.yaml_round_c.specs.Listing.{Grows, PutsDirective, AddsDirectives, PutsDirectives, HoldDirectives}
+use Rattle.yaml_round_c.specs.Blocks.{directive_texts}
+use Rattle.yaml_round_c.specs.Listing.{Grows, PutsDirective, Appends, AddsDirectives, PutsDirectives, HoldDirectives}
 use Rattle.std.proofs.lemmas.List.{append-nil, map_more, take_all, length-map}
-use Rattle.yaml_round_c.proofs.Placing.{grows_on, grows_itself, part_stands}
+use Rattle.yaml_round_c.proofs.Placing.{put_on, grows_on, grows_itself, part_stands}
 
 -- the parts of a list that something stands in front of
 record Parted (o : Option TagDirective) (p : Option (List TagDirective)) (ts : List TagDirective) : Type 0 where
@@ -40,6 +41,22 @@ snoc bytes (x ∷ ds) d ts t e f =
     ap2_front (directive_at bytes x) (all_directives bytes (ds ++ d ∷ [])) h.first (h.others ++ t ∷ []) h.first_is (snoc bytes ds d h.others t h.others_are f)
     ∙ ap (λ z. Some (z ++ t ∷ [])) (sym h.all)
 
+-- directives behind others
+appended : (bytes : List ℕ) (ds fs : List yaml_c_directive) (ts us : List TagDirective) → all_directives bytes ds ≡ Some ts
+    → all_directives bytes fs ≡ Some us → all_directives bytes (ds ++ fs) ≡ Some (ts ++ us)
+unfolding all_directives
+appended bytes [] fs ts us e f = rw (f, some_list [] ts e) refl
+appended bytes (x ∷ ds) fs ts us e f =
+    let h = parted (directive_at bytes x) (all_directives bytes ds) ts e in
+    ap2_front (directive_at bytes x) (all_directives bytes (ds ++ fs)) h.first (h.others ++ us) h.first_is (appended bytes ds fs h.others us h.others_are f)
+    ∙ ap (λ z. Some (z ++ us)) (sym h.all)
+
+texts_snoc : (ts : List TagDirective) (t : TagDirective) → directive_texts (ts ++ t ∷ []) ≡ directive_texts ts ++ (t.handle ++ t.prefix)
+unfolding directive_texts
+texts_snoc [] t = append-nil (t.handle ++ t.prefix)
+texts_snoc (x ∷ ts) t =
+    ap (λ z. (x.handle ++ x.prefix) ++ z) (texts_snoc ts t) ∙ sym (append_assoc (x.handle ++ x.prefix) (directive_texts ts) (t.handle ++ t.prefix))
+
 same_length : (bytes : List ℕ) (ds : List yaml_c_directive) (ts : List TagDirective) → all_directives bytes ds ≡ Some ts → length ds ≡ length ts
 unfolding all_directives
 same_length bytes [] ts e = rw (some_list [] ts e) refl
@@ -51,6 +68,18 @@ still : (old new : List ℕ) (ds : List yaml_c_directive) (ts : List TagDirectiv
 still old new ds ts g h more =
     subst (λ z. all_directives z ds ≡ Some ts) (sym (ap (λ z. z ++ more) g.is ∙ append_assoc old g.more more)) (h (g.more ++ more))
 
+-- what the list meant before, and what was put behind it
+pub append_on : (old new : List ℕ) (ds fs : List yaml_c_directive) (ts us : List TagDirective) → Grows old new → HoldDirectives old ds ts
+    → Appends new ds us fs → HoldDirectives new fs (ts ++ us)
+append_on old new ds fs ts us g h a more =
+    subst (λ z. all_directives (new ++ more) z ≡ Some (ts ++ us)) (sym a.is)
+    (appended (new ++ more) ds a.added ts us (still old new ds ts g h more) (a.hold more))
+
+-- no directive
+pub none_appended : (bytes : List ℕ) (ds : List yaml_c_directive) → Appends bytes ds [] ds
+unfolding all_directives
+none_appended bytes ds = record { added = []; is = sym (append-nil ds); hold = λ more. refl }
+
 put_at : (bytes : List ℕ) (d : yaml_c_directive) (t : TagDirective) → part_at bytes d.handle ≡ Some t.handle
     → part_at bytes d.prefix ≡ Some t.prefix → directive_at bytes d ≡ Some t
 put_at bytes d t h p = rw (h, p) refl
@@ -60,6 +89,7 @@ one_more : (old l m : Listing) (ts : List TagDirective) (t : TagDirective) (d : 
     → AddsDirectives old (ts ++ t ∷ []) m
 one_more old l m ts t d a p e f = record {
   bytes = grows_on _ _ _ a.bytes p.grows;
+  put = put_on _ _ _ (directive_texts ts) (t.handle ++ t.prefix) a.put p.put ∙ ap (λ z. old.bytes.items ++ z) (sym (texts_snoc ts t));
   added = a.added ++ d ∷ [];
   directives = e ∙ ap (λ z. z ++ d ∷ []) a.directives ∙ append_assoc old.directives.items a.added (d ∷ []);
   hold = λ more. snoc (m.bytes.items ++ more) a.added d ts t (still _ _ a.added ts p.grows a.hold more)
@@ -71,6 +101,8 @@ all_put : (old l : Listing) (ts : List TagDirective) (s : yaml_c_span) → AddsD
     → s.len ≡ length ts → PutsDirectives old ts l s
 all_put old l ts s a at len = record {
   bytes = a.bytes;
+  put = a.put;
+  list = record { added = a.added; is = a.directives; hold = a.hold };
   directives = record { more = a.added; is = a.directives };
   events = a.events;
   holds = λ more others.
@@ -81,9 +113,10 @@ all_put old l ts s a at len = record {
 }
 
 pub none_put : (l : Listing) → AddsDirectives l [] l
-unfolding all_directives
+unfolding all_directives directive_texts
 none_put l = record {
   bytes = grows_itself l.bytes.items;
+  put = sym (append-nil l.bytes.items);
   added = [];
   directives = sym (append-nil l.directives.items);
   hold = λ more. refl;

@@ -7,3 +7,4 @@ pub mod Directing
 pub mod Recording
 pub mod Saying
 pub mod Handing
+pub mod Exact

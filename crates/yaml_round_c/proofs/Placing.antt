@@ -8,6 +8,14 @@ use Rattle.yaml_round_c.specs.Records.{part_at, optional_at}
 use Rattle.yaml_round_c.specs.Numbers.{is_set}
 use Rattle.yaml_round_c.specs.Listing.{Grows, Puts, PutsOptional, Holds, HoldsOptional}
 
+-- a text behind another
+pub put_on : (old mid new a b : List ℕ) → mid ≡ old ++ a → new ≡ mid ++ b → new ≡ old ++ (a ++ b)
+put_on old mid new a b p q = q ∙ ap (λ z. z ++ b) p ∙ append_assoc old a b
+
+-- the same of texts that are known by other names
+pub put_two : (old mid new a b c d : List ℕ) → mid ≡ old ++ a → new ≡ mid ++ b → a ≡ c → b ≡ d → new ≡ old ++ (c ++ d)
+put_two old mid new a b c d p q e f = put_on old mid new a b p q ∙ ap (λ z. old ++ (z ++ b)) e ∙ ap (λ z. old ++ (c ++ z)) f
+
 pub grows_itself : {X : Type 0} → (xs : List X) → Grows xs xs
 grows_itself xs = record { more = []; is = sym (append-nil xs) }
 
@@ -52,7 +60,7 @@ unfolding is_set
 absent bytes s more = refl
 
 pub put_some : (old text new : List ℕ) (s : yaml_c_span) → Puts old text new s → PutsOptional old (Some text) new (pos 1) s
-put_some old text new s p = record { grows = puts_grows old text new s p; flag = refl; holds = there new s text (puts_holds old text new s p) }
+put_some old text new s p = record { grows = puts_grows old text new s p; put = p.bytes; flag = refl; holds = there new s text (puts_holds old text new s p) }
 
 pub put_none : (old : List ℕ) (s : yaml_c_span) → PutsOptional old None old (pos 0) s
-put_none old s = record { grows = grows_itself old; flag = refl; holds = absent old s }
+put_none old s = record { grows = grows_itself old; put = sym (append-nil old); flag = refl; holds = absent old s }

@@ -1,5 +1,5 @@
 -- A record means the event that it was made of.
-use Rattle.std.proofs.Common.{◌≡◌, ◌∙◌, ap, sym, refl, ℕ, ℤ, pos, List, ◌++◌, Bool, true, false, Option, Some}
+use Rattle.std.proofs.Common.{◌≡◌, ◌∙◌, ap, sym, subst, refl, ℕ, ℤ, pos, List, [], ◌++◌, Bool, true, false, Option, Some}
 use Rattle.std.specs.Option.{is_some}
 use Rattle.yaml_parse.specs.declared.yaml_encoding_t.{yaml_encoding_t}
 use Rattle.yaml_parse.specs.declared.yaml_event_type_t.TheVariants as kind
@@ -16,12 +16,18 @@ use Rattle.yaml_round_c.specs.declared.listing.Listing.{Listing}
 use Rattle.yaml_round_c.specs.Numbers.{is_set, flag_told, kind_meant, encoding_meant, scalar_style_meant, sequence_style_meant, mapping_style_meant}
 use Rattle.yaml_round_c.specs.Records.{part_at, optional_at, directives_at, version_by, document_by, body_by, bare, node_told, plain, body_meant}
 use Rattle.yaml_round_c.specs.Told.{mark_told}
-use Rattle.yaml_round_c.specs.Listing.{IsBase, PutsAnchor, PutsScalar, PutsProperties, PutsDocument, Records}
+use Rattle.yaml_round_c.specs.Blocks.{body_texts, body_directives}
+use Rattle.yaml_round_c.specs.Listing.{IsBase, PutsAnchor, PutsScalar, PutsProperties, PutsDocument, Appends, Records}
 use Rattle.yaml_round_c.proofs.Placing.{grows_itself}
+use Rattle.yaml_round_c.proofs.Directing.{none_appended}
+use Rattle.std.proofs.lemmas.List.{append-nil}
 
 -- two records that differ in one place by equal values, and so on
 two : (f : yaml_c_mark → yaml_c_mark → yaml_c_event) (s t u v : yaml_c_mark) → s ≡ t → u ≡ v → f s u ≡ f t v
 two f s t u v p q = rw (p, q) refl
+
+pub marked : (m n : ℤ) (s t u v : yaml_c_mark) → m ≡ n → s ≡ t → u ≡ v → plain m s u ≡ plain n t v
+marked m n s t u v k p q = ap (λ z. plain z s u) k ∙ two (plain n) s t u v p q
 
 four : (f : ℤ → ℤ → yaml_c_mark → yaml_c_mark → yaml_c_event) (a b c d : ℤ) (s t u v : yaml_c_mark) → a ≡ b → c ≡ d → s ≡ t → u ≡ v
     → f a c s u ≡ f b d t v
@@ -31,12 +37,32 @@ five : (f : ℤ → ℤ → ℤ → yaml_c_mark → yaml_c_mark → yaml_c_event
     → u ≡ v → f a c g s u ≡ f b d h t v
 five f a b c d g h s t u v p q o m n = rw (p, q, o, m, n) refl
 
+-- the body's texts and directives stand behind the old ones
+put_as : (old new : List ℕ) (b d : EventBody) → d ≡ b → new ≡ old ++ body_texts b → new ≡ old ++ body_texts d
+put_as old new b d e h = h ∙ ap (λ z. old ++ body_texts z) (sym e)
+
+list_as : (bytes : List ℕ) (old new : List yaml_c_directive) (b d : EventBody) → d ≡ b → Appends bytes old (body_directives b) new
+    → Appends bytes old (body_directives d) new
+list_as bytes old new b d e h = subst (λ z. Appends bytes old (body_directives z) new) (sym e) h
+
+-- none do
+unlisted : (bytes : List ℕ) (old new : List yaml_c_directive) (b d : EventBody) → d ≡ b → [] ≡ body_directives b → new ≡ old
+    → Appends bytes old (body_directives d) new
+unlisted bytes old new b d e none same =
+    list_as bytes old new b d e (subst (λ z. Appends bytes old (body_directives b) z) (sym same)
+    (subst (λ z. Appends bytes old z old) none (none_appended bytes old)))
+
+untold : (old : List ℕ) (b : EventBody) → [] ≡ body_texts b → old ≡ old ++ body_texts b
+untold old b none = sym (append-nil old) ∙ ap (λ z. old ++ z) none
+
 -- what needs no text
-pub alone : (l : Listing) (e : Event) (n : ℤ) (r : yaml_c_event) → IsBase n e r → r ≡ bare e.body r
-    → ((bytes : List ℕ) (list : List yaml_c_directive) → body_meant bytes list r ≡ Some e.body) → Records l e l r
-alone l e n r b only means = record {
+pub alone : (l : Listing) (e : Event) (n : ℤ) (r : yaml_c_event) → IsBase n e r → [] ≡ body_texts e.body → [] ≡ body_directives e.body
+    → r ≡ bare e.body r → ((bytes : List ℕ) (list : List yaml_c_directive) → body_meant bytes list r ≡ Some e.body) → Records l e l r
+alone l e n r b mute none only means = record {
   bytes = grows_itself l.bytes.items;
   directives = grows_itself l.directives.items;
+  put = untold l.bytes.items e.body mute;
+  list = unlisted l.bytes.items l.directives.items l.directives.items e.body e.body refl none refl;
   events = refl;
   body = λ more others. means (l.bytes.items ++ more) (l.directives.items ++ others);
   start = b.start;
@@ -59,15 +85,17 @@ only_plain r n s t p =
 bare_at : (r : yaml_c_event) (b d : EventBody) → d ≡ b → r ≡ bare b r → r ≡ bare d r
 bare_at r b d e h = h ∙ ap (λ z. bare z r) (sym e)
 
-pub recorded_alone : (l : Listing) (e : Event) (n : ℤ) (r : yaml_c_event) (b : EventBody) → IsBase n e r → e.body ≡ b → r ≡ bare b r
-    → ((bytes : List ℕ) (list : List yaml_c_directive) → body_meant bytes list r ≡ Some b) → Records l e l r
-recorded_alone l e n r b base is only means = alone l e n r base (bare_at r b e.body is only) (λ bytes list. means bytes list ∙ ap Some (sym is))
+pub recorded_alone : (l : Listing) (e : Event) (n : ℤ) (r : yaml_c_event) (b : EventBody) → IsBase n e r → e.body ≡ b → [] ≡ body_texts b
+    → [] ≡ body_directives b → r ≡ bare b r → ((bytes : List ℕ) (list : List yaml_c_directive) → body_meant bytes list r ≡ Some b) → Records l e l r
+recorded_alone l e n r b base is mute none only means =
+    alone l e n r base (mute ∙ ap body_texts (sym is)) (none ∙ ap body_directives (sym is)) (bare_at r b e.body is only) (λ bytes list. means bytes list ∙ ap Some (sym is))
 
 pub plain_recorded : (l : Listing) (e : Event) (n : ℤ) (r : yaml_c_event) (b : EventBody)
-    → r ≡ plain n (mark_told e.start_mark) (mark_told e.end_mark) → e.body ≡ b → plain n r.start r.end ≡ bare b r
+    → r ≡ plain n (mark_told e.start_mark) (mark_told e.end_mark) → e.body ≡ b → [] ≡ body_texts b → [] ≡ body_directives b
+    → plain n r.start r.end ≡ bare b r
     → ((bytes : List ℕ) (list : List yaml_c_directive) (x : yaml_c_event) → x.kind ≡ n → body_meant bytes list x ≡ Some b) → Records l e l r
-plain_recorded l e n r b p is only means =
-    recorded_alone l e n r b (plain_base e n r p) is (only_plain r n _ _ p ∙ only) (λ bytes list. means bytes list r (ap (λ (z : yaml_c_event). z.kind) p))
+plain_recorded l e n r b p is mute none only means =
+    recorded_alone l e n r b (plain_base e n r p) is mute none (only_plain r n _ _ p ∙ only) (λ bytes list. means bytes list r (ap (λ (z : yaml_c_event). z.kind) p))
 
 pub means_nothing : (bytes : List ℕ) (list : List yaml_c_directive) (r : yaml_c_event) → r.kind ≡ pos 0 → body_meant bytes list r ≡ Some event.no
 unfolding body_meant kind_meant
@@ -217,6 +245,8 @@ alias_recorded old new e base r a is q p ds es =
     let b : IsBase (pos 5) e base = plain_base e (pos 5) base q in record {
       bytes = p.grows;
       directives = rw ds (grows_itself old.directives.items);
+      put = put_as _ _ (event.alias a) e.body is p.put;
+      list = unlisted _ _ _ (event.alias a) e.body is refl ds;
       events = es;
       body = λ more others. rw is (means_alias (new.bytes.items ++ more) (new.directives.items ++ others) r a
           (ap (λ (z : yaml_c_event). z.kind) p.same ∙ b.kind) (p.anchor more));
@@ -234,6 +264,8 @@ pub scalar_recorded : (old new : Listing) (e : Event) (base r : yaml_c_event) (a
 scalar_recorded old new e base r a t v p q s is b hp hq hs only w ds es = record {
   bytes = w.grows;
   directives = rw ds (grows_itself old.directives.items);
+  put = put_as _ _ (event.scalar a t v p q s) e.body is w.put;
+  list = unlisted _ _ _ (event.scalar a t v p q s) e.body is refl ds;
   events = es;
   body = λ more others. rw is (means_scalar (new.bytes.items ++ more) (new.directives.items ++ others) r a t v p q s
       (ap (λ (z : yaml_c_event). z.kind) w.same ∙ b.kind) (w.anchor more) (w.tag more) (w.value more)
@@ -253,6 +285,8 @@ pub sequence_recorded : (old new : Listing) (e : Event) (base r : yaml_c_event) 
 sequence_recorded old new e base r a t i s is b hi hs only w ds es = record {
   bytes = w.grows;
   directives = rw ds (grows_itself old.directives.items);
+  put = put_as _ _ (event.sequence_start a t i s) e.body is w.put;
+  list = unlisted _ _ _ (event.sequence_start a t i s) e.body is refl ds;
   events = es;
   body = λ more others. rw is (means_sequence (new.bytes.items ++ more) (new.directives.items ++ others) r a t i s
       (ap (λ (z : yaml_c_event). z.kind) w.same ∙ b.kind) (w.anchor more) (w.tag more)
@@ -271,6 +305,8 @@ pub mapping_recorded : (old new : Listing) (e : Event) (base r : yaml_c_event) (
 mapping_recorded old new e base r a t i s is b hi hs only w ds es = record {
   bytes = w.grows;
   directives = rw ds (grows_itself old.directives.items);
+  put = put_as _ _ (event.mapping_start a t i s) e.body is w.put;
+  list = unlisted _ _ _ (event.mapping_start a t i s) e.body is refl ds;
   events = es;
   body = λ more others. rw is (means_mapping (new.bytes.items ++ more) (new.directives.items ++ others) r a t i s
       (ap (λ (z : yaml_c_event). z.kind) w.same ∙ b.kind) (w.anchor more) (w.tag more)
@@ -287,6 +323,8 @@ pub document_recorded : (old new : Listing) (e : Event) (base r : yaml_c_event) 
 document_recorded old new e base r v ts i is b hv hi only w = record {
   bytes = w.bytes;
   directives = w.directives;
+  put = put_as _ _ (event.document_start v ts i) e.body is w.put;
+  list = list_as _ _ _ (event.document_start v ts i) e.body is w.list;
   events = w.events;
   body = λ more others. rw is (means_document (new.bytes.items ++ more) (new.directives.items ++ others) r v ts i
       (ap (λ (z : yaml_c_event). z.kind) w.same ∙ b.kind) (w.holds more others)

@@ -1,5 +1,6 @@
 -- Events that are said one behind another.
 use Rattle.std.proofs.Common.{false, Result, Ok, Err, ◌≡◌, ◌∙◌, ap, sym, subst, refl, ℕ, List, [], ◌∷◌, ◌++◌, append_assoc}
+use Rattle.std.proofs.lemmas.List.{append-nil}
 use Rattle.std.specs.Result.{IfOk, is_err}
 use Rattle.std.specs.declared.alloc.AllocError.{AllocError}
 use Rattle.yaml_parse.specs.Events.{Event}
@@ -7,9 +8,11 @@ use Rattle.yaml_parse.specs.Resolve.{Told}
 use Rattle.yaml_round_c.specs.declared.record.yaml_c_directive.{yaml_c_directive}
 use Rattle.yaml_round_c.specs.declared.record.yaml_c_event.{yaml_c_event}
 use Rattle.yaml_round_c.specs.declared.listing.Listing.{Listing}
-use Rattle.yaml_round_c.specs.Records.{Says, AllSay}
-use Rattle.yaml_round_c.specs.Listing.{Adds, Said, Collected, StartsEmpty, events_alone}
+use Rattle.yaml_round_c.specs.Records.{Says, AllSay, all_directives}
+use Rattle.yaml_round_c.specs.Blocks.{body_texts, body_directives, all_texts, listed_directives}
+use Rattle.yaml_round_c.specs.Listing.{Adds, Said, HoldDirectives, HoldsAll, Collected, StartsEmpty, events_alone}
 use Rattle.yaml_round_c.proofs.Placing.{regrouped}
+use Rattle.yaml_round_c.proofs.Directing.{append_on}
 
 -- one more record says one more event
 one_more_says : (bytes : List ℕ) (list : List yaml_c_directive) (rs : List yaml_c_event) (es : List Event) (r : yaml_c_event) (e : Event)
@@ -37,11 +40,39 @@ said_on old new e es a s more others =
 nothing_says : (bytes : List ℕ) (list : List yaml_c_directive) (rs : List yaml_c_event) → rs ≡ [] → AllSay bytes list rs []
 nothing_says bytes list rs e = rw e tt
 
+-- ---- what the blocks hold
+
+texts_snoc : (es : List Event) (e : Event) → all_texts (es ++ e ∷ []) ≡ all_texts es ++ body_texts e.body
+unfolding all_texts
+texts_snoc [] e = append-nil (body_texts e.body)
+texts_snoc (x ∷ es) e = ap (λ z. body_texts x.body ++ z) (texts_snoc es e) ∙ sym (append_assoc (body_texts x.body) (all_texts es) (body_texts e.body))
+
+listed_snoc : (es : List Event) (e : Event) → listed_directives (es ++ e ∷ []) ≡ listed_directives es ++ body_directives e.body
+unfolding listed_directives
+listed_snoc [] e = append-nil (body_directives e.body)
+listed_snoc (x ∷ es) e =
+    ap (λ z. body_directives x.body ++ z) (listed_snoc es e)
+    ∙ sym (append_assoc (body_directives x.body) (listed_directives es) (body_directives e.body))
+
+holds_on : (old new : Listing) (e : Event) (es : List Event) → Adds old e new → HoldsAll old es → HoldsAll new (es ++ e ∷ [])
+holds_on old new e es a h = record {
+  bytes = a.put ∙ ap (λ z. z ++ body_texts e.body) h.bytes ∙ sym (texts_snoc es e);
+  directives = subst (λ z. HoldDirectives new.bytes.items new.directives.items z) (sym (listed_snoc es e))
+      (append_on _ _ old.directives.items _ (listed_directives es) (body_directives e.body) a.bytes h.directives a.list);
+}
+
+holds_nothing : (l : Listing) → StartsEmpty l → HoldsAll l []
+unfolding all_texts listed_directives all_directives
+holds_nothing l e = record { bytes = e.2; directives = λ more. rw e.1 refl }
+
+-- ---- events that are collected
+
 -- before the first event
 pub none_collected : (start : List Told) (l : Listing) → StartsEmpty l → Collected start start l
 none_collected start l e = record {
   given = [];
   said = λ more others. nothing_says (l.bytes.items ++ more) (l.directives.items ++ others) l.events.items e.0;
+  holds = holds_nothing l e;
   split = refl;
 }
 
@@ -51,6 +82,7 @@ pub one_collected : (start left rest : List Told) (l m : Listing) (t : Told) →
 one_collected start left rest l m t c e a = record {
   given = c.given ++ t.0 ∷ [];
   said = said_on l m t.0 c.given a c.said;
+  holds = holds_on l m t.0 c.given a c.holds;
   split = c.split ∙ ap (λ z. c.given ++ events_alone z) e ∙ sym (append_assoc c.given (t.0 ∷ []) (events_alone rest));
 }
 

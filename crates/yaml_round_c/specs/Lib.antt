@@ -2,6 +2,7 @@ pub mod Numbers
 pub mod Settings
 pub mod Told
 pub mod Records
+pub mod Blocks
 pub mod Meaning
 pub mod Checking
 pub mod Written

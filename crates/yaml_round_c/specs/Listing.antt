@@ -12,6 +12,7 @@ use Rattle.yaml_round_c.specs.declared.record.yaml_c_event.{yaml_c_event}
 use Rattle.yaml_round_c.specs.declared.listing.Listing.{Listing}
 use Rattle.yaml_round_c.specs.Numbers.{flag_told}
 use Rattle.yaml_round_c.specs.Records.{part_at, optional_at, all_directives, directives_at, bare, body_meant, AllSay}
+use Rattle.yaml_round_c.specs.Blocks.{optional_text, directive_texts, body_texts, body_directives, all_texts, listed_directives}
 use Rattle.yaml_round_c.specs.Told.{mark_told}
 
 -- ---- what grows
@@ -37,6 +38,7 @@ HoldsOptional bytes has s text = (more : List ℕ) → optional_at (bytes ++ mor
 pub record PutsOptional (old : List ℕ) (text : Option (List ℕ)) (new : List ℕ) (has : ℤ)
     (s : yaml_c_span) : Type 0 where
   pub grows : Grows old new
+  pub put : new ≡ old ++ optional_text text
   pub flag : has ≡ flag_told (is_some text)
   pub holds : HoldsOptional new has s text
 
@@ -44,6 +46,7 @@ pub record PutsOptional (old : List ℕ) (text : Option (List ℕ)) (new : List 
 pub record PutsProperties (old : List ℕ) (base : yaml_c_event) (a t : Option (List ℕ))
     (new : List ℕ) (r : yaml_c_event) : Type 0 where
   pub grows : Grows old new
+  pub put : new ≡ old ++ (optional_text a ++ optional_text t)
   pub anchor : HoldsOptional new r.has_anchor r.anchor a
   pub tag : HoldsOptional new r.has_tag r.tag t
   pub has_anchor : r.has_anchor ≡ flag_told (is_some a)
@@ -59,6 +62,7 @@ pub record PutsProperties (old : List ℕ) (base : yaml_c_event) (a t : Option (
 pub record PutsAnchor (old : List ℕ) (base : yaml_c_event) (a new : List ℕ)
     (r : yaml_c_event) : Type 0 where
   pub grows : Grows old new
+  pub put : new ≡ old ++ a
   pub anchor : Holds new r.anchor a
   pub same : r ≡ record base { anchor = r.anchor }
 
@@ -66,6 +70,7 @@ pub record PutsAnchor (old : List ℕ) (base : yaml_c_event) (a new : List ℕ)
 pub record PutsScalar (old : List ℕ) (base : yaml_c_event) (a t : Option (List ℕ))
     (v new : List ℕ) (r : yaml_c_event) : Type 0 where
   pub grows : Grows old new
+  pub put : new ≡ old ++ ((optional_text a ++ optional_text t) ++ v)
   pub anchor : HoldsOptional new r.has_anchor r.anchor a
   pub tag : HoldsOptional new r.has_tag r.tag t
   pub has_anchor : r.has_anchor ≡ flag_told (is_some a)
@@ -89,15 +94,24 @@ pub record IsBase (number : ℤ) (e : Event) (r : yaml_c_event) : Type 0 where
 pub record PutsDirective (old : List ℕ) (t : TagDirective) (new : List ℕ)
     (d : yaml_c_directive) : Type 0 where
   pub grows : Grows old new
+  pub put : new ≡ old ++ (t.handle ++ t.prefix)
   pub handle : Holds new d.handle t.handle
   pub prefix : Holds new d.prefix t.prefix
 
 abbrev pub HoldDirectives : List ℕ → List yaml_c_directive → List TagDirective → Type 0
 HoldDirectives bytes ds ts = (more : List ℕ) → all_directives (bytes ++ more) ds ≡ Some ts
 
+-- Behind the old directives stand those that mean these, whatever bytes follow.
+pub record Appends (bytes : List ℕ) (old : List yaml_c_directive) (ts : List TagDirective)
+    (new : List yaml_c_directive) : Type 0 where
+  pub added : List yaml_c_directive
+  pub is : new ≡ old ++ added
+  pub hold : HoldDirectives bytes added ts
+
 -- directives stand at the end of the list
 pub record AddsDirectives (old : Listing) (ts : List TagDirective) (new : Listing) : Type 0 where
   pub bytes : Grows old.bytes.items new.bytes.items
+  pub put : new.bytes.items ≡ old.bytes.items ++ directive_texts ts
   pub added : List yaml_c_directive
   pub directives : new.directives.items ≡ old.directives.items ++ added
   pub hold : HoldDirectives new.bytes.items added ts
@@ -112,6 +126,8 @@ pub record PutsDirectives (old : Listing) (ts : List TagDirective) (new : Listin
     (s : yaml_c_span) : Type 0 where
   pub bytes : Grows old.bytes.items new.bytes.items
   pub directives : Grows old.directives.items new.directives.items
+  pub put : new.bytes.items ≡ old.bytes.items ++ directive_texts ts
+  pub list : Appends new.bytes.items old.directives.items ts new.directives.items
   pub events : new.events.items ≡ old.events.items
   pub holds : HoldsList new.bytes.items new.directives.items s ts
 
@@ -120,6 +136,8 @@ pub record PutsDocument (old : Listing) (base : yaml_c_event) (ts : List TagDire
     (new : Listing) (r : yaml_c_event) : Type 0 where
   pub bytes : Grows old.bytes.items new.bytes.items
   pub directives : Grows old.directives.items new.directives.items
+  pub put : new.bytes.items ≡ old.bytes.items ++ directive_texts ts
+  pub list : Appends new.bytes.items old.directives.items ts new.directives.items
   pub events : new.events.items ≡ old.events.items
   pub holds : HoldsList new.bytes.items new.directives.items r.directives ts
   pub same : r ≡ record base { directives = r.directives }
@@ -133,6 +151,9 @@ HoldsBody bytes list r b = (more : List ℕ) (others : List yaml_c_directive)
 pub record Records (old : Listing) (e : Event) (new : Listing) (r : yaml_c_event) : Type 0 where
   pub bytes : Grows old.bytes.items new.bytes.items
   pub directives : Grows old.directives.items new.directives.items
+  pub put : new.bytes.items ≡ old.bytes.items ++ body_texts e.body
+  pub list : Appends new.bytes.items old.directives.items (body_directives e.body)
+      new.directives.items
   pub events : new.events.items ≡ old.events.items
   pub body : HoldsBody new.bytes.items new.directives.items r e.body
   pub start : r.start ≡ mark_told e.start_mark
@@ -143,6 +164,9 @@ pub record Records (old : Listing) (e : Event) (new : Listing) (r : yaml_c_event
 pub record Adds (old : Listing) (e : Event) (new : Listing) : Type 0 where
   pub bytes : Grows old.bytes.items new.bytes.items
   pub directives : Grows old.directives.items new.directives.items
+  pub put : new.bytes.items ≡ old.bytes.items ++ body_texts e.body
+  pub list : Appends new.bytes.items old.directives.items (body_directives e.body)
+      new.directives.items
   pub record_of : yaml_c_event
   pub events : new.events.items ≡ old.events.items ++ record_of ∷ []
   pub body : HoldsBody new.bytes.items new.directives.items record_of e.body
@@ -158,10 +182,16 @@ Said l es = (more : List ℕ) (others : List yaml_c_directive)
 abbrev pub events_alone : List Told → List Event
 events_alone es = map (λ (t : Told). t.0) es
 
+-- the blocks hold what the events name, and nothing beside
+pub record HoldsAll (l : Listing) (es : List Event) : Type 0 where
+  pub bytes : l.bytes.items ≡ all_texts es
+  pub directives : HoldDirectives l.bytes.items l.directives.items (listed_directives es)
+
 -- of events that were to come, those in front of what is left are said
 pub record Collected (start left : List Told) (l : Listing) : Type 0 where
   pub given : List Event
   pub said : Said l given
+  pub holds : HoldsAll l given
   pub split : events_alone start ≡ given ++ events_alone left
 
 -- all of the reading's events are said, or the fault is the one that ends them, or want of memory

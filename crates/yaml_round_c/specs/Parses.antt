@@ -10,8 +10,9 @@ use Rattle.yaml_round.specs.round_laws_reading.Reading.{HasEvents}
 use Rattle.yaml_round_c.specs.declared.answer.yaml_c_answer.{yaml_c_answer}
 use Rattle.yaml_round_c.specs.declared.listing.Listing.{Listing}
 use Rattle.yaml_round_c.specs.declared.parsing.yaml_c_parsed.{yaml_c_parsed}
-use Rattle.yaml_round_c.specs.Records.{AllSay}
-use Rattle.yaml_round_c.specs.Listing.{Said, events_alone}
+use Rattle.yaml_round_c.specs.Records.{AllSay, all_directives}
+use Rattle.yaml_round_c.specs.Blocks.{all_texts, listed_directives}
+use Rattle.yaml_round_c.specs.Listing.{Said, HoldsAll, events_alone}
 use Rattle.yaml_round_c.specs.Told.{TellsText, TellsFault, IsAnswered, OrMemory}
 
 -- the events of an input, where it is accepted: those of the tree that its tokens are
@@ -25,9 +26,13 @@ pub record HasNothing (p : yaml_c_parsed) : Type 0 where
   pub directives : p.directives.now ≡ []
   pub bytes : p.bytes.now ≡ []
 
--- The records say the events, one by one.
-abbrev pub SayEvents : yaml_c_parsed → List Told → Type 0
-SayEvents p es = AllSay p.bytes.now p.directives.now p.events.now (events_alone es)
+-- The records say the events, one by one. The bytes are the texts of these, one behind another, and the list of directives
+-- is of theirs; neither holds anything beside.
+pub record SayEvents (p : yaml_c_parsed) (es : List Told) : Type 0 where
+  pub events : AllSay p.bytes.now p.directives.now p.events.now (events_alone es)
+  pub bytes : p.bytes.now ≡ all_texts (events_alone es)
+  pub directives : all_directives p.bytes.now p.directives.now
+      ≡ Some (listed_directives (events_alone es))
 
 abbrev pub TellsEvents : yaml_c_parsed → Result (List Told) Fault → yaml_c_answer → Type 0
 TellsEvents p (Ok es) a = TellsText [] (pos 0) a × SayEvents p es
@@ -38,10 +43,11 @@ Parses input p from = IsAnswered (OrMemory parse_layers (IsParsed from input)) (
 
 -- ---- what the code hands on
 
--- the listing says the input's events; or its fault, or want of memory
+-- the listing says the input's events, and nothing beside; or its fault, or want of memory
 abbrev pub IsCollected : yaml_encoding_t → List ℕ → Result Listing yaml_fault_t → Type 0
 IsCollected from input (Ok l) = (ending_of from input ≡ None)
     × Said l (events_alone (events_of from input))
+    × HoldsAll l (events_alone (events_of from input))
 IsCollected from input (Err f) = IsMemoryFault parse_layers (fault_of f)
     ⊎ (ending_of from input ≡ Some (fault_of f))
 

@@ -1,5 +1,5 @@
 -- The settings that C's record means.
-use Rattle.std.specs.Prelude.{Option, None, Some}
+use Rattle.std.specs.Prelude.{Option, None, Some, pos}
 use Rattle.yaml_parse.specs.declared.yaml_break_t.{yaml_break_t}
 use Rattle.yaml_round.specs.declared.yaml_settings_t.{yaml_settings_t}
 use Rattle.yaml_round.specs.declared.yaml_output_encoding_t.{yaml_output_encoding_t}
@@ -25,3 +25,15 @@ settings_by (Some x) (Some b) given = Some
 abbrev pub settings_meant : yaml_c_settings → Option yaml_settings_t
 settings_meant given = settings_by (output_meant given.encoding) (break_meant given.line_break)
     given
+
+-- What the header names: UTF-8, canonical form, indent 2, width 80, unicode on, LF, and 2^40 bytes.
+abbrev pub default_record : yaml_c_settings
+default_record = record {
+  encoding = pos 1;
+  canonical = pos 1;
+  indent = pos 2;
+  width = pos 80;
+  unicode = pos 1;
+  line_break = pos 2;
+  limit = 1099511627776;
+}

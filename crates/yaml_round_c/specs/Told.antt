@@ -23,19 +23,32 @@ use Rattle.yaml_round_c.specs.Settings.{settings_meant}
 abbrev pub mark_told : yaml_mark_t → yaml_c_mark
 mark_told m = record { index = m.index; line = m.line; column = m.column }
 
+-- the mark where no place is told
+abbrev pub no_mark : yaml_c_mark
+no_mark = record { index = 0; line = 0; column = 0 }
+
 -- ---- the record
 
--- a text, and a number beside it; no other block
+-- Of each record every field is told.
+
+-- a text, and a number beside it; no other block, and nothing of a fault
 pub record TellsText (bytes : List ℕ) (number : ℤ) (a : yaml_c_answer) : Type 0 where
   pub kind : a.kind ≡ pos 0
   pub is : a.is ≡ number
   pub second : a.second ≡ pos 0
+  pub value : a.value ≡ pos 0
+  pub offset : a.offset ≡ 0
+  pub problem_mark : a.problem_mark ≡ no_mark
+  pub context_mark : a.context_mark ≡ no_mark
+  pub problem : a.problem.now ≡ []
+  pub context : a.context.now ≡ []
   pub text : a.text.now ≡ bytes
   pub line : a.line.now ≡ []
 
 -- A fault, and whose it is. The one block is its line, which is left out where memory for it is refused.
 pub record TellsFault (fault : Fault) (whose : ℤ) (a : yaml_c_answer) : Type 0 where
   pub kind : a.kind ≡ error_number fault.kind
+  pub is : a.is ≡ pos 0
   pub second : a.second ≡ whose
   pub value : a.value ≡ fault.number
   pub offset : a.offset ≡ fault.offset
@@ -46,10 +59,17 @@ pub record TellsFault (fault : Fault) (whose : ℤ) (a : yaml_c_answer) : Type 0
   pub text : a.text.now ≡ []
   pub line : (a.line.now ≡ fault_line fault) ⊎ (a.line.now ≡ [])
 
--- a number means nothing; no block
+-- a number means nothing; no block, and no place
 pub record TellsMisuse (a : yaml_c_answer) : Type 0 where
   pub kind : a.kind ≡ negsuc 0
+  pub is : a.is ≡ pos 0
+  pub second : a.second ≡ pos 0
+  pub value : a.value ≡ pos 0
+  pub offset : a.offset ≡ 0
+  pub problem_mark : a.problem_mark ≡ no_mark
+  pub context_mark : a.context_mark ≡ no_mark
   pub problem : a.problem.now ≡ codes "an argument means nothing"
+  pub context : a.context.now ≡ []
   pub text : a.text.now ≡ []
   pub line : a.line.now ≡ []
 

@@ -2,7 +2,7 @@
 
 ghost use Rattle.std.specs.Prelude.{◌≡◌, Some};
 ghost use Rattle.yaml_round.specs.Settings.{default_settings};
-ghost use Rattle.yaml_round_c.specs.Settings.{settings_meant};
+ghost use Rattle.yaml_round_c.specs.Settings.{settings_meant, default_record};
 
 use crate::number::{break_of, is_set, output_of};
 use yaml_round::yaml_settings_t;
@@ -48,7 +48,9 @@ pub(crate) fn settings_of(given: &yaml_c_settings) -> Option<yaml_settings_t>
 #[tactic(auto, unfolding(crate::specs::Numbers::is_set, crate::specs::Numbers::output_meant, crate::specs::Numbers::break_meant))]
 #[unsafe(no_mangle)]
 pub extern "C" fn yaml_c_defaults(settings: &mut yaml_c_settings)
-    ensures { settings_meant settings.new ≡ Some default_settings }
+    ensures engine { settings_meant settings.new ≡ Some default_settings }
+    // The numbers themselves: `yaml_c_emit` takes an encoding of 0 in another way than the engine does.
+    ensures numbers { settings.new ≡ default_record }
 {
     *settings = yaml_c_settings {
         encoding: 1,

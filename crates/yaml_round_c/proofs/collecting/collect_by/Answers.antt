@@ -1,7 +1,10 @@
 -- One more event is said.
-use Rattle.std.proofs.Common.{◌∙◌}
-use Rattle.yaml_round_c.proofs.Saying.{one_collected, it_holds}
+use Rattle.std.proofs.Common.{◌∙◌, refl}
+use Rattle.yaml_round_c.proofs.Saying.{none_collected, one_collected, it_holds}
 use Rattle.yaml_round_c.proofs.collecting.collect_by.Goals as goal
+
+pub events-init : goal.events-init
+events-init g c = record { ending = refl; collected = none_collected _ _ c.requires }
 
 pub events-preserved : goal.events-preserved
 events-preserved g c = record {

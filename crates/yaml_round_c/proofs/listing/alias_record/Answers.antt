@@ -5,6 +5,7 @@ use Rattle.yaml_round_c.proofs.listing.alias_record.Goals as goal
 pub returns : goal.returns
 returns c = record {
   grows = puts_grows _ _ _ _ c.in_ok-record.ensures;
+  put = c.in_ok-record.ensures.bytes;
   anchor = puts_holds _ _ _ _ c.in_ok-record.ensures;
   same = refl;
 }

@@ -6,16 +6,16 @@ use Rattle.yaml_round_c.proofs.Recording.{plain_recorded, recorded_alone, means_
 use Rattle.yaml_round_c.proofs.listing.record_of.Goals as goal
 
 pub returns-in-No : goal.returns-in-No
-returns-in-No c = plain_recorded _ _ (pos 0) _ event.no c.plain.ensures (ap body_of c.in-No.is) refl means_nothing
+returns-in-No c = plain_recorded _ _ (pos 0) _ event.no c.plain.ensures (ap body_of c.in-No.is) refl refl refl means_nothing
 
 pub returns-in-StreamStart : goal.returns-in-StreamStart
 returns-in-StreamStart c =
     let base = c.stream_start_base.ensures.base in
-    recorded_alone _ _ (pos 1) _ (event.stream_start c.in-StreamStart.encoding) base (ap body_of c.in-StreamStart.is) c.stream_start_base.ensures.bare
+    recorded_alone _ _ (pos 1) _ (event.stream_start c.in-StreamStart.encoding) base (ap body_of c.in-StreamStart.is) refl refl c.stream_start_base.ensures.bare
     (λ bytes list. means_stream_start bytes list _ _ base.kind c.stream_start_base.ensures.encoding)
 
 pub returns-in-StreamEnd : goal.returns-in-StreamEnd
-returns-in-StreamEnd c = plain_recorded _ _ (pos 2) _ event.stream_end c.plain-in-StreamEnd.ensures (ap body_of c.in-StreamEnd.is) refl means_stream_end
+returns-in-StreamEnd c = plain_recorded _ _ (pos 2) _ event.stream_end c.plain-in-StreamEnd.ensures (ap body_of c.in-StreamEnd.is) refl refl refl means_stream_end
 
 pub returns-in_ok-record-in-DocumentStart : goal.returns-in_ok-record-in-DocumentStart
 returns-in_ok-record-in-DocumentStart c =
@@ -28,7 +28,7 @@ returns-in_ok-record-in-DocumentStart c =
 pub returns-in-DocumentEnd : goal.returns-in-DocumentEnd
 returns-in-DocumentEnd c =
     let base = c.document_end_base.ensures in
-    recorded_alone _ _ (pos 4) _ (event.document_end c.in-DocumentEnd.implicit) base.base (ap body_of c.in-DocumentEnd.is) base.bare
+    recorded_alone _ _ (pos 4) _ (event.document_end c.in-DocumentEnd.implicit) base.base (ap body_of c.in-DocumentEnd.is) refl refl base.bare
     (λ bytes list. means_document_end bytes list _ _ base.base.kind base.implicit)
 
 pub returns-in_ok-record-in-Alias : goal.returns-in_ok-record-in-Alias
@@ -56,7 +56,7 @@ returns-in_ok-record-in-SequenceStart c =
 
 pub returns-in-SequenceEnd : goal.returns-in-SequenceEnd
 returns-in-SequenceEnd c =
-    plain_recorded _ _ (pos 8) _ event.sequence_end c.plain-in-SequenceEnd.ensures (ap body_of c.in-SequenceEnd.is) refl means_sequence_end
+    plain_recorded _ _ (pos 8) _ event.sequence_end c.plain-in-SequenceEnd.ensures (ap body_of c.in-SequenceEnd.is) refl refl refl means_sequence_end
 
 pub returns-in_ok-record-in-MappingStart : goal.returns-in_ok-record-in-MappingStart
 returns-in_ok-record-in-MappingStart c =
@@ -67,4 +67,4 @@ returns-in_ok-record-in-MappingStart c =
 
 pub returns-in-MappingEnd : goal.returns-in-MappingEnd
 returns-in-MappingEnd c =
-    plain_recorded _ _ (pos 10) _ event.mapping_end c.plain-in-MappingEnd.ensures (ap body_of c.in-MappingEnd.is) refl means_mapping_end
+    plain_recorded _ _ (pos 10) _ event.mapping_end c.plain-in-MappingEnd.ensures (ap body_of c.in-MappingEnd.is) refl refl refl means_mapping_end

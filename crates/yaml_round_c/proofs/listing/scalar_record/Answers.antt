@@ -1,6 +1,6 @@
 use Rattle.std.proofs.Common.{ap}
 use Rattle.yaml_round_c.specs.declared.record.yaml_c_event.{yaml_c_event}
-use Rattle.yaml_round_c.proofs.Placing.{grows_on, puts_grows, puts_holds, holds_optional_on}
+use Rattle.yaml_round_c.proofs.Placing.{put_on, grows_on, puts_grows, puts_holds, holds_optional_on}
 use Rattle.yaml_round_c.proofs.listing.scalar_record.Goals as goal
 
 pub returns : goal.returns
@@ -10,6 +10,7 @@ returns c =
     let r = c.in_ok-record.record in
     record {
       grows = grows_on _ _ _ w.grows (puts_grows _ _ _ _ p);
+      put = put_on _ _ _ _ _ w.put p.bytes;
       anchor = holds_optional_on _ _ r.has_anchor r.anchor _ (puts_grows _ _ _ _ p) w.anchor;
       has_anchor = w.has_anchor;
       has_tag = w.has_tag;

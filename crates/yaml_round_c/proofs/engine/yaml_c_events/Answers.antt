@@ -1,0 +1,18 @@
+-- What the call answers is what C is told.
+use mir.Syntax.{w32}
+use mir.Val.{SFits, to_z, of_z}
+use Rattle.std.proofs.Common.{◌≡◌, rules}
+use Rattle.std.proofs.lemmas.Int.{to_z-of_z}
+use Rattle.yaml_round_c.proofs.Exact.{listed_told, listed_exact}
+use Rattle.yaml_round_c.proofs.engine.yaml_c_events.Goals as goal
+
+pub returns-clause-told : goal.returns-clause-told
+returns-clause-told c =
+    let fits : SFits w32 c.args.from = search rules in
+    listed_told _ _ _ _ (to_z-of_z w32 c.args.from fits) c.listed_by.ensures
+
+pub returns-clause-exact : goal.returns-clause-exact
+returns-clause-exact c =
+    let fits : SFits w32 c.args.from = search rules in
+    let kind : SFits w32 c.listed_by.result.kind = search rules in
+    listed_exact _ _ _ _ _ (to_z-of_z w32 c.args.from fits) (to_z-of_z w32 c.listed_by.result.kind kind) c.listed_by.ensures

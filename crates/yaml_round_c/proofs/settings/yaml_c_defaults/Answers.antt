@@ -1,0 +1,11 @@
+-- The numbers as they stand there, and what they mean.
+use Rattle.std.proofs.Common.{refl}
+use Rattle.yaml_round_c.specs.Numbers.{is_set, output_meant, break_meant}
+use Rattle.yaml_round_c.proofs.settings.yaml_c_defaults.Goals as goal
+
+pub returns-clause-engine : goal.returns-clause-engine
+unfolding is_set output_meant break_meant
+returns-clause-engine c = refl
+
+pub returns-clause-numbers : goal.returns-clause-numbers
+returns-clause-numbers c = refl

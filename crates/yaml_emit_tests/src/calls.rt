@@ -5,29 +5,35 @@ ghost use Rattle.std.specs.Prelude.{◌≡◌, true};
 use crate::event::{Sign, event_of};
 use std::alloc::Global;
 use yaml_emit::{
-    yaml_emitter_close, yaml_emitter_dump, yaml_emitter_emit, yaml_emitter_flush,
-    yaml_emitter_fresh, yaml_emitter_initialize, yaml_emitter_open, yaml_emitter_opened,
-    yaml_emitter_set_canonical, yaml_emitter_t,
+    yaml_emitter_close, yaml_emitter_emit, yaml_emitter_flush, yaml_emitter_fresh,
+    yaml_emitter_open, yaml_emitter_opened, yaml_emitter_t,
 };
-use yaml_parse::{yaml_document_t, yaml_event_t, yaml_event_utf8, yaml_text_fault_t};
-use yaml_scan::yaml_fault_t;
+use yaml_parse::{yaml_event_t, yaml_event_utf8, yaml_text_fault_t};
+use yaml_scan::{yaml_fault_t, yaml_memory_fault, yaml_origin_t};
 
-/// An emitter in canonical form.
-pub(crate) fn canonical(alloc: Global, limit: u64) -> Result<yaml_emitter_t, yaml_fault_t> {
-    let mut emitter = yaml_emitter_initialize(alloc, limit)?;
-    yaml_emitter_set_canonical(&mut emitter, true);
-    Ok(emitter)
+/// What stands for a call that wasn't made, since what it is given couldn't be: no test wants it.
+pub(crate) fn unmade() -> Option<yaml_fault_t> {
+    Some(yaml_memory_fault(yaml_origin_t::Reader))
 }
 
-/// Gives the event, whose texts are to be UTF-8, and tells the fault that is answered.
+// Gives the event, whose texts are to be UTF-8, and tells the fault that is answered.
+fn give_event(emitter: &mut yaml_emitter_t, event: yaml_event_t) -> Option<yaml_fault_t> {
+    if yaml_event_utf8(&event) {
+        yaml_emitter_emit(emitter, event).err()
+    } else {
+        drop(event);
+        unmade()
+    }
+}
+
+/// Gives the event that was made, and tells the fault that is answered.
 pub(crate) fn give(
     emitter: &mut yaml_emitter_t,
-    event: yaml_event_t,
-) -> Result<Option<yaml_fault_t>, yaml_text_fault_t> {
-    if yaml_event_utf8(&event) {
-        Ok(yaml_emitter_emit(emitter, event).err())
-    } else {
-        Err(yaml_text_fault_t::NotUtf8)
+    made: Result<yaml_event_t, yaml_text_fault_t>,
+) -> Option<yaml_fault_t> {
+    match made {
+        Ok(event) => give_event(emitter, event),
+        Err(_) => unmade(),
     }
 }
 
@@ -36,21 +42,15 @@ pub(crate) fn give_sign(
     alloc: Global,
     emitter: &mut yaml_emitter_t,
     sign: Sign,
-) -> Result<Option<yaml_fault_t>, yaml_text_fault_t> {
-    let event = event_of(alloc, sign)?;
-    give(emitter, event)
+) -> Option<yaml_fault_t> {
+    give(emitter, event_of(alloc, sign))
 }
 
 /// Gives the events, whatever is answered.
-pub(crate) fn give_all(
-    alloc: Global,
-    emitter: &mut yaml_emitter_t,
-    signs: &[Sign],
-) -> Result<(), yaml_text_fault_t> {
+pub(crate) fn give_all(alloc: Global, emitter: &mut yaml_emitter_t, signs: &[Sign]) {
     for sign in signs {
-        give_sign(alloc, emitter, *sign)?;
+        let _ = give_sign(alloc, emitter, *sign);
     }
-    Ok(())
 }
 
 /// The fault that a flush answers, where an event was given.
@@ -69,12 +69,4 @@ pub(crate) fn turn(emitter: &mut yaml_emitter_t) -> Option<yaml_fault_t> {
     } else {
         yaml_emitter_open(emitter).err()
     }
-}
-
-/// Dumps the document, and tells the fault that is answered.
-pub(crate) fn dump(
-    emitter: &mut yaml_emitter_t,
-    document: yaml_document_t,
-) -> Option<yaml_fault_t> {
-    yaml_emitter_dump(emitter, document).err()
 }

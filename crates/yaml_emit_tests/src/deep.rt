@@ -1,43 +1,46 @@
 //! Dumps of deep documents.
 
-use crate::calls::{canonical, dump};
-use crate::document::nested;
-use std::alloc::{AllocError, Global};
+use crate::document::{Holds, dump};
+use crate::owner::{Asked, is_right};
+use std::alloc::Global;
 use std::test::Fail;
-use yaml_emit::{yaml_emitter_fault, yaml_emitter_initialize, yaml_emitter_output};
+use yaml_emit::{yaml_emitter_fault, yaml_emitter_output, yaml_emitter_t};
 use yaml_scan::yaml_error_type_t;
 
 const LEVELS: usize = 5_000;
 
 // In block form each level but the last is `- `.
-fn blocks(alloc: Global) -> Result<Vec<u8>, AllocError> {
-    let mut text = Vec::new(alloc);
+fn is_blocks(text: &[u8]) -> bool {
+    let mut rest = text;
     for _ in 1..LEVELS {
-        text.extend_from_slice(b"- ")?;
+        match rest.strip_prefix(b"- ".as_slice()) {
+            Some(inner) => rest = inner,
+            None => return false,
+        }
     }
-    text.extend_from_slice(b"[]\n")?;
-    Ok(text)
+    rest == b"[]\n".as_slice()
+}
+
+/// The whole text of a deep document in block form.
+pub(crate) fn is_dumped(alloc: Global, emitter: &mut yaml_emitter_t) -> bool {
+    let fault = dump(alloc, emitter, Holds::Sequences(LEVELS));
+    fault.is_none() && is_blocks(yaml_emitter_output(emitter))
+}
+
+// The front of the text in canonical form, which as a whole has some 50 million bytes.
+const FRONT: &[u8] = b"---\n!!seq [\n  !!seq [\n    !!seq [\n      !!";
+
+/// The front of a deep document's text, and the fault of a full output.
+pub(crate) fn has_front(alloc: Global, emitter: &mut yaml_emitter_t) -> bool {
+    let kind = dump(alloc, emitter, Holds::Sequences(LEVELS)).map(|fault| fault.kind);
+    kind == Some(yaml_error_type_t::YAML_WRITER_ERROR)
+        && yaml_emitter_fault(emitter).is_some()
+        && yaml_emitter_output(emitter) == FRONT
 }
 
 #[test]
-fn deep_blocks(rt: HostRuntime) -> Result<(), Fail> {
-    let want = blocks(rt.alloc())?;
-    let document = nested(rt.alloc(), LEVELS)?;
-    let mut emitter = yaml_emitter_initialize(rt.alloc(), 20_000)?;
-    assert!(rt; dump(&mut emitter, document).is_none());
-    assert!(rt; yaml_emitter_output(&emitter) == want.as_slice());
-    Ok(())
-}
-
-// The whole text has some 50 million bytes.
-#[test]
-fn deep_canonical_text_stops_at_its_limit(rt: HostRuntime) -> Result<(), Fail> {
-    let document = nested(rt.alloc(), LEVELS)?;
-    let mut emitter = canonical(rt.alloc(), 42)?;
-    let kind = dump(&mut emitter, document).map(|fault| fault.kind);
-    assert_eq!(rt; kind, Some(yaml_error_type_t::YAML_WRITER_ERROR));
-    assert!(rt; yaml_emitter_fault(&emitter).is_some());
-    let want = b"---\n!!seq [\n  !!seq [\n    !!seq [\n      !!".as_slice();
-    assert_eq!(rt; yaml_emitter_output(&emitter), want);
+fn deep_documents(rt: HostRuntime) -> Result<(), Fail> {
+    assert!(rt; is_right(rt.alloc(), 20_000, false, Asked::Deep));
+    assert!(rt; is_right(rt.alloc(), 42, true, Asked::DeepFront));
     Ok(())
 }

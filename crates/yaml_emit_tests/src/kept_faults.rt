@@ -1,12 +1,12 @@
 //! Behind a fault each call answers it again, and writes nothing more.
 
-use crate::calls::{canonical, dump, flush, give_all, give_sign, turn};
-use crate::document::{TEXT, empty, foo};
+use crate::calls::{flush, give_all, give_sign, turn};
+use crate::document::{Holds, TEXT, dump};
 use crate::event::Sign;
+use crate::owner::{Asked, is_right};
 use std::alloc::Global;
 use std::test::Fail;
 use yaml_emit::{yaml_emitter_opened, yaml_emitter_output, yaml_emitter_t};
-use yaml_parse::yaml_text_fault_t;
 use yaml_scan::{yaml_error_type_t, yaml_fault_t, yaml_mark_t, yaml_origin_t};
 
 const ZERO: yaml_mark_t = yaml_mark_t {
@@ -35,133 +35,82 @@ fn misplaced(problem: &'static str) -> yaml_fault_t {
     }
 }
 
-fn dump_foo(
-    alloc: Global,
-    emitter: &mut yaml_emitter_t,
-) -> Result<Option<yaml_fault_t>, yaml_text_fault_t> {
-    let document = foo(alloc)?;
-    Ok(dump(emitter, document))
+fn dump_foo(alloc: Global, emitter: &mut yaml_emitter_t) -> Option<yaml_fault_t> {
+    dump(alloc, emitter, Holds::Foo)
 }
 
 const GIVEN: [Sign; 4] = [Sign::Stream, Sign::Scalar, Sign::Bare, Sign::EndStream];
 
 // Whether every event is answered by that fault.
-fn gives(
-    alloc: Global,
-    emitter: &mut yaml_emitter_t,
-    fault: yaml_fault_t,
-) -> Result<bool, yaml_text_fault_t> {
+fn gives(alloc: Global, emitter: &mut yaml_emitter_t, fault: yaml_fault_t) -> bool {
     for sign in &GIVEN {
-        if give_sign(alloc, emitter, *sign)? != Some(fault) {
-            return Ok(false);
+        if give_sign(alloc, emitter, *sign) != Some(fault) {
+            return false;
         }
     }
-    Ok(true)
+    true
 }
 
 // Whether every call answers that fault, and the output stays.
-fn stays(
-    alloc: Global,
-    emitter: &mut yaml_emitter_t,
-    fault: yaml_fault_t,
-    text: &[u8],
-) -> Result<bool, yaml_text_fault_t> {
-    let gives = gives(alloc, emitter, fault)?;
-    let dumps = dump_foo(alloc, emitter)? == Some(fault);
+fn stays(alloc: Global, emitter: &mut yaml_emitter_t, fault: yaml_fault_t, text: &[u8]) -> bool {
+    let gives = gives(alloc, emitter, fault);
+    let dumps = dump_foo(alloc, emitter) == Some(fault);
     let turns = turn(emitter) == Some(fault);
     let flushes = flush(emitter) == Some(fault);
-    Ok(gives && dumps && turns && flushes && yaml_emitter_output(emitter) == text)
+    gives && dumps && turns && flushes && yaml_emitter_output(emitter) == text
 }
 
-// Whether a dump passes the limit, of which the output is the front of the text.
-fn has_front(
-    alloc: Global,
-    emitter: &mut yaml_emitter_t,
-    limit: usize,
-) -> Result<bool, yaml_text_fault_t> {
+/// Whether a dump passes the limit, of which the output is the front of the text.
+pub(crate) fn has_front(alloc: Global, emitter: &mut yaml_emitter_t, limit: usize) -> bool {
     let front = TEXT.get(..limit).unwrap_or(&[]);
-    let fails = dump_foo(alloc, emitter)? == Some(FULL);
-    Ok(fails && stays(alloc, emitter, FULL, front)?)
+    let fails = dump_foo(alloc, emitter) == Some(FULL);
+    fails && stays(alloc, emitter, FULL, front)
 }
 
-#[test]
-fn a_dump_past_the_limit(rt: HostRuntime) -> Result<(), Fail> {
-    for limit in [0usize, 3, 10, 15] {
-        let mut emitter = canonical(rt.alloc(), limit as u64)?;
-        assert!(rt; has_front(rt.alloc(), &mut emitter, limit)?);
-    }
-    Ok(())
+/// Whether a second dump passes the limit.
+pub(crate) fn has_whole(alloc: Global, emitter: &mut yaml_emitter_t) -> bool {
+    let first = dump_foo(alloc, emitter);
+    first.is_none() && has_front(alloc, emitter, 16)
 }
 
-// The second dump passes the limit.
-fn has_whole(alloc: Global, emitter: &mut yaml_emitter_t) -> Result<bool, yaml_text_fault_t> {
-    let first = dump_foo(alloc, emitter)?;
-    Ok(first.is_none() && has_front(alloc, emitter, 16)?)
-}
-
-#[test]
-fn a_second_dump_past_the_limit(rt: HostRuntime) -> Result<(), Fail> {
-    let mut emitter = canonical(rt.alloc(), 16)?;
-    assert!(rt; has_whole(rt.alloc(), &mut emitter)?);
-    Ok(())
-}
-
-fn dumps_nothing(alloc: Global, emitter: &mut yaml_emitter_t) -> Result<bool, yaml_text_fault_t> {
-    let fails = dump_foo(alloc, emitter)? == Some(FULL);
+fn dumps_nothing(alloc: Global, emitter: &mut yaml_emitter_t) -> bool {
+    let fails = dump_foo(alloc, emitter) == Some(FULL);
     let shows = yaml_emitter_output(emitter) == b"---".as_slice();
-    Ok(fails && shows && yaml_emitter_opened(emitter))
+    fails && shows && yaml_emitter_opened(emitter)
 }
 
-fn is_full(alloc: Global, emitter: &mut yaml_emitter_t) -> Result<bool, yaml_text_fault_t> {
+/// Whether, in a stream that was opened by hand, a dump behind one that passed the limit answers the same and writes nothing.
+pub(crate) fn is_full(alloc: Global, emitter: &mut yaml_emitter_t) -> bool {
     let opening = turn(emitter);
-    let first = dumps_nothing(alloc, emitter)?;
-    let second = dumps_nothing(alloc, emitter)?;
-    let stays = stays(alloc, emitter, FULL, b"---")?;
-    Ok(opening.is_none() && first && second && stays)
+    let first = dumps_nothing(alloc, emitter);
+    let second = dumps_nothing(alloc, emitter);
+    let stays = stays(alloc, emitter, FULL, b"---");
+    opening.is_none() && first && second && stays
 }
 
-// In a stream that was opened by hand, a dump behind one that passed the limit answers the same and writes nothing.
-#[test]
-fn a_dump_twice_behind_a_size_refusal(rt: HostRuntime) -> Result<(), Fail> {
-    let mut emitter = canonical(rt.alloc(), 3)?;
-    assert!(rt; is_full(rt.alloc(), &mut emitter)?);
-    Ok(())
-}
-
-fn dump_empty(
-    alloc: Global,
-    emitter: &mut yaml_emitter_t,
-) -> Result<Option<yaml_fault_t>, yaml_text_fault_t> {
-    let document = empty(alloc)?;
-    Ok(dump(emitter, document))
+fn dump_empty(alloc: Global, emitter: &mut yaml_emitter_t) -> Option<yaml_fault_t> {
+    dump(alloc, emitter, Holds::Nothing)
 }
 
 // A document without root closes the stream, and may come again.
-fn closes(alloc: Global, emitter: &mut yaml_emitter_t) -> Result<bool, yaml_text_fault_t> {
-    let dumped = dump_foo(alloc, emitter)?;
-    let first = dump_empty(alloc, emitter)?;
-    let second = dump_empty(alloc, emitter)?;
-    Ok(dumped.is_none() && first.is_none() && second.is_none())
+fn closes(alloc: Global, emitter: &mut yaml_emitter_t) -> bool {
+    let dumped = dump_foo(alloc, emitter);
+    let first = dump_empty(alloc, emitter);
+    let second = dump_empty(alloc, emitter);
+    dumped.is_none() && first.is_none() && second.is_none()
 }
 
-// What is dumped behind that is refused.
-fn is_closed(alloc: Global, emitter: &mut yaml_emitter_t) -> Result<bool, yaml_text_fault_t> {
+/// Whether what is dumped behind that is refused.
+pub(crate) fn is_closed(alloc: Global, emitter: &mut yaml_emitter_t) -> bool {
     let refused = misplaced("expected nothing after STREAM-END");
-    let closes = closes(alloc, emitter)?;
-    let refuses = dump_foo(alloc, emitter)? == Some(refused);
-    let stays = stays(alloc, emitter, refused, TEXT)?;
-    Ok(closes && refuses && stays)
+    let closes = closes(alloc, emitter);
+    let refuses = dump_foo(alloc, emitter) == Some(refused);
+    let stays = stays(alloc, emitter, refused, TEXT);
+    closes && refuses && stays
 }
 
-#[test]
-fn a_dump_behind_the_end(rt: HostRuntime) -> Result<(), Fail> {
-    let mut emitter = canonical(rt.alloc(), 1000)?;
-    assert!(rt; is_closed(rt.alloc(), &mut emitter)?);
-    Ok(())
-}
-
-// A refused list of events, its fault, and the text that the events before the refused one have so far.
-type Row<'a> = (&'a [Sign<'a>], &'static str, &'a [u8]);
+/// A refused list of events, its fault, and the text that the events before the refused one have so far.
+pub(crate) type Row<'a> = (&'a [Sign<'a>], &'static str, &'a [u8]);
 
 const REFUSED: [Row; 4] = [
     (&[Sign::Scalar], "expected STREAM-START", b""),
@@ -182,20 +131,28 @@ const REFUSED: [Row; 4] = [
     ),
 ];
 
-// Gives the events, the last of which is refused, and asks what stays: a front of the text. How much of it has been
-// written by then is open.
-fn keeps(alloc: Global, emitter: &mut yaml_emitter_t, row: &Row) -> Result<bool, Fail> {
-    give_all(alloc, emitter, row.0)?;
-    let front = Vec::from_slice(alloc, yaml_emitter_output(emitter))?;
-    let stays = stays(alloc, emitter, misplaced(row.1), &front)?;
-    Ok(stays && row.2.starts_with(&front))
+/// Gives the events, the last of which is refused, and asks what stays: a front of the text. How much of it has been
+/// written by then is open.
+pub(crate) fn keeps(alloc: Global, emitter: &mut yaml_emitter_t, row: &Row) -> bool {
+    give_all(alloc, emitter, row.0);
+    let size = yaml_emitter_output(emitter).len();
+    let front = row.2.get(..size).unwrap_or(&[]);
+    let shows = yaml_emitter_output(emitter) == front;
+    shows && stays(alloc, emitter, misplaced(row.1), front)
 }
 
+// A dump past the limit; a second one; one in a stream that was opened by hand; one behind the end; and calls behind a refused
+// event.
 #[test]
-fn an_event_behind_a_refused_one(rt: HostRuntime) -> Result<(), Fail> {
+fn behind_a_fault(rt: HostRuntime) -> Result<(), Fail> {
+    for limit in &[0usize, 3, 10, 15] {
+        assert!(rt; is_right(rt.alloc(), *limit as u64, true, Asked::Front(*limit)));
+    }
+    assert!(rt; is_right(rt.alloc(), 16, true, Asked::Whole));
+    assert!(rt; is_right(rt.alloc(), 3, true, Asked::Full));
+    assert!(rt; is_right(rt.alloc(), 1000, true, Asked::Closed));
     for row in &REFUSED {
-        let mut emitter = canonical(rt.alloc(), 1000)?;
-        assert!(rt; keeps(rt.alloc(), &mut emitter, row)?);
+        assert!(rt; is_right(rt.alloc(), 1000, true, Asked::Refused(row)));
     }
     Ok(())
 }

@@ -16,3 +16,5 @@ mod kept_faults;
 mod many_tags;
 #[cfg(test)]
 mod output;
+#[cfg(test)]
+mod owner;

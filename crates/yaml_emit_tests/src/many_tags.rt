@@ -2,14 +2,17 @@
 
 use crate::calls::{give, give_sign};
 use crate::event::Sign;
+use crate::owner::{Asked, is_right};
 use std::alloc::{AllocError, Global};
 use std::test::Fail;
-use yaml_emit::{yaml_emitter_initialize, yaml_emitter_output, yaml_emitter_t};
+use yaml_emit::{yaml_emitter_output, yaml_emitter_t};
 use yaml_parse::{
-    yaml_document_end_event_initialize, yaml_document_start_event_initialize,
+    yaml_document_end_event_initialize, yaml_document_start_event_initialize, yaml_event_t,
     yaml_sequence_end_event_initialize, yaml_sequence_start_event_initialize, yaml_text_fault_t,
 };
 use yaml_scan::{yaml_sequence_style_t, yaml_tag_directive_t};
+
+const COUNT: usize = 3000;
 
 // The directive of a number.
 fn numbered(alloc: Global, number: usize) -> Result<yaml_tag_directive_t, AllocError> {
@@ -21,70 +24,105 @@ fn numbered(alloc: Global, number: usize) -> Result<yaml_tag_directive_t, AllocE
     })
 }
 
-fn directives(alloc: Global, count: usize) -> Result<Vec<yaml_tag_directive_t>, AllocError> {
-    let mut directives = Vec::new(alloc);
-    for number in 0..count {
-        directives.push(numbered(alloc, number)?)?;
+fn push_numbered(
+    alloc: Global,
+    directives: &mut Vec<yaml_tag_directive_t>,
+    number: usize,
+) -> Result<(), AllocError> {
+    let directive = numbered(alloc, number)?;
+    directives.push(directive)?;
+    Ok(())
+}
+
+fn push_directives(
+    alloc: Global,
+    directives: &mut Vec<yaml_tag_directive_t>,
+) -> Result<(), AllocError> {
+    for number in 0..COUNT {
+        push_numbered(alloc, directives, number)?;
     }
-    Ok(directives)
-}
-
-// Begins a document with that many directives.
-fn begin_document(alloc: Global, emitter: &mut yaml_emitter_t, count: usize) -> Result<(), Fail> {
-    let directives = directives(alloc, count)?;
-    give_sign(alloc, emitter, Sign::Stream)?;
-    give(
-        emitter,
-        yaml_document_start_event_initialize(alloc, None, directives.as_slice(), true)?,
-    )?;
     Ok(())
 }
 
-fn begin_sequence(alloc: Global, emitter: &mut yaml_emitter_t) -> Result<(), yaml_text_fault_t> {
+// The start of a document with a directive for each number.
+fn start(alloc: Global) -> Result<yaml_event_t, yaml_text_fault_t> {
+    let mut directives = Vec::new(alloc);
+    let pushed = push_directives(alloc, &mut directives);
+    let start = yaml_document_start_event_initialize(alloc, None, directives.as_slice(), true);
+    match pushed {
+        Ok(()) => start,
+        Err(_) => Err(yaml_text_fault_t::Memory),
+    }
+}
+
+fn begin_sequence(alloc: Global, emitter: &mut yaml_emitter_t) -> bool {
     let style = yaml_sequence_style_t::YAML_BLOCK_SEQUENCE_STYLE;
-    let event = yaml_sequence_start_event_initialize(alloc, None, None, true, style)?;
-    give(emitter, event)?;
-    Ok(())
+    let start = yaml_sequence_start_event_initialize(alloc, None, None, true, style);
+    give(emitter, start).is_none()
+}
+
+fn begin(alloc: Global, emitter: &mut yaml_emitter_t) -> bool {
+    give_sign(alloc, emitter, Sign::Stream).is_none()
+        && give(emitter, start(alloc)).is_none()
+        && begin_sequence(alloc, emitter)
 }
 
 // A scalar with the tag of a number.
-fn give_numbered(alloc: Global, emitter: &mut yaml_emitter_t, number: usize) -> Result<(), Fail> {
+fn give_numbered(
+    alloc: Global,
+    emitter: &mut yaml_emitter_t,
+    number: usize,
+) -> Result<bool, AllocError> {
     let tag = format!(in alloc; "tag:x,{number}:t")?;
-    give_sign(alloc, emitter, Sign::Tagged(tag.as_bytes()))?;
-    Ok(())
+    Ok(give_sign(alloc, emitter, Sign::Tagged(tag.as_bytes())).is_none())
 }
 
-fn end(alloc: Global, emitter: &mut yaml_emitter_t) -> Result<(), yaml_text_fault_t> {
-    give(emitter, yaml_sequence_end_event_initialize())?;
-    give(emitter, yaml_document_end_event_initialize(true))?;
-    give_sign(alloc, emitter, Sign::EndStream)?;
-    Ok(())
-}
-
-fn give_many(alloc: Global, emitter: &mut yaml_emitter_t, count: usize) -> Result<(), Fail> {
-    begin_document(alloc, emitter, count)?;
-    begin_sequence(alloc, emitter)?;
-    for number in 0..count {
-        give_numbered(alloc, emitter, number)?;
+fn give_scalars(alloc: Global, emitter: &mut yaml_emitter_t) -> bool {
+    for number in 0..COUNT {
+        if give_numbered(alloc, emitter, number) != Ok(true) {
+            return false;
+        }
     }
-    end(alloc, emitter)?;
+    true
+}
+
+fn end(alloc: Global, emitter: &mut yaml_emitter_t) -> bool {
+    give(emitter, Ok(yaml_sequence_end_event_initialize())).is_none()
+        && give(emitter, Ok(yaml_document_end_event_initialize(true))).is_none()
+        && give_sign(alloc, emitter, Sign::EndStream).is_none()
+}
+
+fn give_many(alloc: Global, emitter: &mut yaml_emitter_t) -> bool {
+    begin(alloc, emitter) && give_scalars(alloc, emitter) && end(alloc, emitter)
+}
+
+// Adds the line of a number.
+fn add_line(alloc: Global, lines: &mut String, number: usize) -> Result<(), AllocError> {
+    let line = format!(in alloc; "- !h{number}!t a\n")?;
+    lines.push_str(&line)
+}
+
+fn add_lines(alloc: Global, lines: &mut String) -> Result<(), AllocError> {
+    for number in 0..COUNT {
+        add_line(alloc, lines, number)?;
+    }
     Ok(())
 }
 
-fn numbered_lines(alloc: Global, count: usize) -> Result<String, AllocError> {
+// Whether the text ends with a line for each number.
+fn has_lines(alloc: Global, text: &[u8]) -> bool {
     let mut lines = String::new(alloc);
-    for number in 0..count {
-        let line = format!(in alloc; "- !h{number}!t a\n")?;
-        lines.push_str(&line)?;
-    }
-    Ok(lines)
+    let added = add_lines(alloc, &mut lines);
+    added.is_ok() && text.ends_with(lines.as_bytes())
+}
+
+/// Whether the scalars are written, each with its own directive's handle.
+pub(crate) fn are_written(alloc: Global, emitter: &mut yaml_emitter_t) -> bool {
+    give_many(alloc, emitter) && has_lines(alloc, yaml_emitter_output(emitter))
 }
 
 #[test]
 fn many_tags_under_many_directives(rt: HostRuntime) -> Result<(), Fail> {
-    let wanted = numbered_lines(rt.alloc(), 3000)?;
-    let mut emitter = yaml_emitter_initialize(rt.alloc(), 10_000_000)?;
-    give_many(rt.alloc(), &mut emitter, 3000)?;
-    assert!(rt; yaml_emitter_output(&emitter).ends_with(wanted.as_bytes()));
+    assert!(rt; is_right(rt.alloc(), 10_000_000, false, Asked::ManyTags));
     Ok(())
 }

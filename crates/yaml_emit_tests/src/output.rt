@@ -1,22 +1,39 @@
 //! That an output stops for its own reason: a stopped one meets every clause.
 
+use std::alloc::Global;
 use std::test::Fail;
 use yaml_emit_text::{Sink, Status};
 
+// Puts one byte past the limit of three.
+fn stops_full(sink: &mut Sink) -> bool {
+    sink.put_all(b"abc");
+    let exact = sink.status();
+    sink.put('d');
+    let past = sink.status();
+    sink.put('e');
+    exact == Status::Going && past == Status::Full && sink.output() == b"abc".as_slice()
+}
+
+fn stops_deep(sink: &mut Sink) -> bool {
+    sink.put('a');
+    sink.put_too_deep();
+    sink.put('b');
+    sink.status() == Status::Deep && sink.output() == b"a".as_slice()
+}
+
+fn is_full(alloc: Global) -> bool {
+    let mut sink = Sink::new(alloc, 3);
+    stops_full(&mut sink)
+}
+
+fn is_deep(alloc: Global) -> bool {
+    let mut sink = Sink::new(alloc, 3);
+    stops_deep(&mut sink)
+}
+
 #[test]
 fn an_output_stops(rt: HostRuntime) -> Result<(), Fail> {
-    let mut exact = Sink::new(rt.alloc(), 3);
-    exact.put_all(b"abc");
-    assert!(rt; exact.status() == Status::Going);
-    exact.put('d');
-    assert!(rt; exact.status() == Status::Full);
-    exact.put('e');
-    assert_eq!(rt; exact.output(), b"abc".as_slice());
-    let mut deep = Sink::new(rt.alloc(), 3);
-    deep.put('a');
-    deep.put_too_deep();
-    deep.put('b');
-    assert!(rt; deep.status() == Status::Deep);
-    assert_eq!(rt; deep.output(), b"a".as_slice());
+    assert!(rt; is_full(rt.alloc()));
+    assert!(rt; is_deep(rt.alloc()));
     Ok(())
 }

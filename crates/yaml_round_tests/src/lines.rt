@@ -1,5 +1,6 @@
 //! The lines that tell faults, of every kind; an input has none of memory or of the emitter.
 
+use std::alloc::Global;
 use std::test::Fail;
 use yaml_round::{yaml_error_type_t, yaml_fault_line, yaml_fault_t, yaml_mark_t, yaml_origin_t};
 
@@ -69,11 +70,18 @@ fn fault(kind: yaml_error_type_t, context: Option<&'static str>) -> yaml_fault_t
     }
 }
 
+// Whether the fault's line is that one.
+fn tells(alloc: Global, fault: &yaml_fault_t, want: &str) -> bool {
+    match yaml_fault_line(alloc, fault) {
+        Ok(line) => line.as_slice() == want.as_bytes(),
+        Err(_) => false,
+    }
+}
+
 #[test]
 fn lines(rt: HostRuntime) -> Result<(), Fail> {
     for (kind, context, want) in &LINES {
-        let line = yaml_fault_line(rt.alloc(), &fault(*kind, *context))?;
-        assert_eq!(rt; line.as_slice(), want.as_bytes());
+        assert!(rt; tells(rt.alloc(), &fault(*kind, *context), *want));
     }
     Ok(())
 }

@@ -8,150 +8,217 @@ const MOST_COLUMNS: i64 = 2_147_483_647;
 
 const MOST_BYTES: i64 = 1_099_511_627_776;
 
+// A word that stands by itself.
+fn place_arg<'a>(alloc: Global, name: &'a str, value: &'a str, help: &'a str) -> Arg<'a> {
+    Arg::new(alloc, name).value_name(value).help(help)
+}
+
+// The same, and it has to be there.
+fn needed_arg<'a>(alloc: Global, name: &'a str, value: &'a str, help: &'a str) -> Arg<'a> {
+    place_arg(alloc, name, value, help).required(true)
+}
+
+// An option with a value.
+fn value_arg<'a>(alloc: Global, name: &'a str, value: &'a str, help: &'a str) -> Arg<'a> {
+    place_arg(alloc, name, value, help).long(name)
+}
+
+// The same, which is a number of columns.
+fn columns_arg<'a>(alloc: Global, name: &'a str, help: &'a str) -> Arg<'a> {
+    value_arg(alloc, name, "COLUMNS", help).value_parser(value_parser!(i32).range(0..=MOST_COLUMNS))
+}
+
+// An option without a value.
+fn flag_arg<'a>(alloc: Global, name: &'a str, help: &'a str) -> Arg<'a> {
+    Arg::new(alloc, name)
+        .long(name)
+        .action(ArgAction::SetTrue)
+        .help(help)
+}
+
 fn file_arg<'a>(alloc: Global) -> Arg<'a> {
-    Arg::new(alloc, "file")
-        .value_name("FILE")
-        .help("The file to read, in place of standard input")
+    place_arg(
+        alloc,
+        "file",
+        "FILE",
+        "The file to read, in place of standard input",
+    )
 }
 
 fn from_arg<'a>(alloc: Global) -> Arg<'a> {
-    Arg::new(alloc, "from")
-        .long("from")
-        .value_name("ENCODING")
-        .default_value("auto")
-        .help("How the input is encoded: auto, utf8, utf16le or utf16be")
+    value_arg(
+        alloc,
+        "from",
+        "ENCODING",
+        "How the input is encoded: auto, utf8, utf16le or utf16be",
+    )
+    .default_value("auto")
 }
 
 fn indent_arg<'a>(alloc: Global) -> Arg<'a> {
-    Arg::new(alloc, "indent")
-        .long("indent")
-        .value_name("COLUMNS")
-        .value_parser(value_parser!(i32).range(0..=MOST_COLUMNS))
-        .default_value("2")
-        .help("Columns of a level, 2 to 9")
+    columns_arg(alloc, "indent", "Columns of a level, 2 to 9").default_value("2")
 }
 
 fn width_arg<'a>(alloc: Global) -> Arg<'a> {
-    Arg::new(alloc, "width")
-        .long("width")
-        .value_name("COLUMNS")
-        .value_parser(value_parser!(i32).range(0..=MOST_COLUMNS))
-        .default_value("80")
-        .help("The column behind which lines are folded")
+    columns_arg(alloc, "width", "The column behind which lines are folded").default_value("80")
 }
 
 fn ascii_arg<'a>(alloc: Global) -> Arg<'a> {
-    Arg::new(alloc, "ascii")
-        .long("ascii")
-        .action(ArgAction::SetTrue)
-        .help("Escape all characters that aren't ASCII")
+    flag_arg(alloc, "ascii", "Escape all characters that aren't ASCII")
 }
 
 fn break_arg<'a>(alloc: Global) -> Arg<'a> {
-    Arg::new(alloc, "break")
-        .long("break")
-        .value_name("BREAK")
-        .default_value("lf")
-        .help("How lines end: lf, cr or crlf")
+    value_arg(alloc, "break", "BREAK", "How lines end: lf, cr or crlf").default_value("lf")
 }
 
 fn encoding_arg<'a>(alloc: Global) -> Arg<'a> {
-    Arg::new(alloc, "encoding")
-        .long("encoding")
-        .value_name("ENCODING")
-        .default_value("utf8")
-        .help("How the output is encoded: utf8, utf16le or utf16be")
+    value_arg(
+        alloc,
+        "encoding",
+        "ENCODING",
+        "How the output is encoded: utf8, utf16le or utf16be",
+    )
+    .default_value("utf8")
+}
+
+fn any_limit_arg<'a>(alloc: Global) -> Arg<'a> {
+    value_arg(
+        alloc,
+        "limit",
+        "BYTES",
+        "How many bytes the output may have",
+    )
+    .value_parser(value_parser!(u64).range(0..=MOST_BYTES))
 }
 
 fn limit_arg<'a>(alloc: Global) -> Arg<'a> {
-    Arg::new(alloc, "limit")
-        .long("limit")
-        .value_name("BYTES")
-        .value_parser(value_parser!(u64).range(0..=MOST_BYTES))
-        .default_value("1099511627776")
-        .help("How many bytes the output may have")
+    any_limit_arg(alloc).default_value("1099511627776")
 }
 
 fn pretty_arg<'a>(alloc: Global) -> Arg<'a> {
-    Arg::new(alloc, "pretty")
-        .long("pretty")
-        .action(ArgAction::SetTrue)
-        .help("Keep the styles, where the text then reads the same")
+    flag_arg(
+        alloc,
+        "pretty",
+        "Keep the styles, where the text then reads the same",
+    )
 }
 
-// What `fmt` and `docs` have. Each argument is made where it is handed over, so that none is held behind what may fail.
-fn with_layout<'a>(alloc: Global, command: Command<'a>) -> Result<Command<'a>, AllocError> {
-    command
-        .arg(indent_arg(alloc))?
-        .arg(width_arg(alloc))?
-        .arg(ascii_arg(alloc))?
-        .arg(break_arg(alloc))?
-        .arg(encoding_arg(alloc))?
-        .arg(limit_arg(alloc))
+// A command, or that there was no room for it.
+type Made<'a> = Result<Command<'a>, AllocError>;
+
+// Adds the argument. These functions take and give what was made so far, so that none but this one has an exit; what would
+// die there is dropped by a call: at a `?` the drop is written out field by field, which is dear to prove.
+fn with_arg<'a>(made: Made<'a>, arg: Arg<'a>) -> Made<'a> {
+    match made {
+        Ok(command) => command.arg(arg),
+        Err(error) => {
+            drop(arg);
+            Err(error)
+        }
+    }
 }
 
-fn fmt_command<'a>(alloc: Global) -> Result<Command<'a>, AllocError> {
-    let command = Command::new(alloc, "fmt")
-        .about("Writes the text again in canonical or pretty form")
-        .arg(file_arg(alloc))?
-        .arg(from_arg(alloc))?
-        .arg(pretty_arg(alloc))?;
-    with_layout(alloc, command)
+fn with_lines<'a>(alloc: Global, made: Made<'a>) -> Made<'a> {
+    let made = with_arg(made, indent_arg(alloc));
+    let made = with_arg(made, width_arg(alloc));
+    with_arg(made, ascii_arg(alloc))
 }
 
-fn docs_command<'a>(alloc: Global) -> Result<Command<'a>, AllocError> {
-    let command = Command::new(alloc, "docs")
-        .about("Writes the loaded documents in canonical form")
-        .arg(file_arg(alloc))?
-        .arg(from_arg(alloc))?;
-    with_layout(alloc, command)
+// What `fmt` and `docs` have.
+fn with_layout<'a>(alloc: Global, made: Made<'a>) -> Made<'a> {
+    let made = with_lines(alloc, made);
+    let made = with_arg(made, break_arg(alloc));
+    let made = with_arg(made, encoding_arg(alloc));
+    with_arg(made, limit_arg(alloc))
 }
 
-fn events_command<'a>(alloc: Global) -> Result<Command<'a>, AllocError> {
-    Command::new(alloc, "events")
-        .about("Writes a line for each event")
-        .arg(file_arg(alloc))?
-        .arg(from_arg(alloc))
+fn command_of<'a>(alloc: Global, name: &'a str, about: &'a str) -> Made<'a> {
+    Ok(Command::new(alloc, name).about(about))
+}
+
+// A command that reads one file.
+fn with_file<'a>(alloc: Global, made: Made<'a>) -> Made<'a> {
+    let made = with_arg(made, file_arg(alloc));
+    with_arg(made, from_arg(alloc))
+}
+
+fn fmt_command<'a>(alloc: Global) -> Made<'a> {
+    let made = command_of(
+        alloc,
+        "fmt",
+        "Writes the text again in canonical or pretty form",
+    );
+    let made = with_file(alloc, made);
+    let made = with_arg(made, pretty_arg(alloc));
+    with_layout(alloc, made)
+}
+
+fn docs_command<'a>(alloc: Global) -> Made<'a> {
+    let made = command_of(
+        alloc,
+        "docs",
+        "Writes the loaded documents in canonical form",
+    );
+    let made = with_file(alloc, made);
+    with_layout(alloc, made)
+}
+
+fn events_command<'a>(alloc: Global) -> Made<'a> {
+    let made = command_of(alloc, "events", "Writes a line for each event");
+    with_file(alloc, made)
 }
 
 fn first_arg<'a>(alloc: Global) -> Arg<'a> {
-    Arg::new(alloc, "first")
-        .value_name("A")
-        .required(true)
-        .help("The file to compare")
+    needed_arg(alloc, "first", "A", "The file to compare")
 }
 
 fn second_arg<'a>(alloc: Global) -> Arg<'a> {
-    Arg::new(alloc, "second")
-        .value_name("B")
-        .required(true)
-        .help("The file that it is compared with")
+    needed_arg(alloc, "second", "B", "The file that it is compared with")
 }
 
-fn same_command<'a>(alloc: Global) -> Result<Command<'a>, AllocError> {
-    Command::new(alloc, "same")
-        .about("Tells whether two files have the same content")
-        .arg(first_arg(alloc))?
-        .arg(second_arg(alloc))?
-        .arg(from_arg(alloc))
+fn same_command<'a>(alloc: Global) -> Made<'a> {
+    let made = command_of(
+        alloc,
+        "same",
+        "Tells whether two files have the same content",
+    );
+    let made = with_arg(made, first_arg(alloc));
+    let made = with_arg(made, second_arg(alloc));
+    with_arg(made, from_arg(alloc))
 }
 
-fn with_command<'a>(
-    command: Command<'a>,
-    other: Result<Command<'a>, AllocError>,
-) -> Result<Command<'a>, AllocError> {
-    command.subcommand(other?)
+fn with_made<'a>(command: Command<'a>, other: Made<'a>) -> Made<'a> {
+    match other {
+        Ok(other) => command.subcommand(other),
+        Err(error) => {
+            drop(command);
+            Err(error)
+        }
+    }
 }
 
-fn whole_command<'a>(alloc: Global) -> Result<Command<'a>, AllocError> {
-    let command = Command::new(alloc, "yaml_cli")
-        .bin_name("yaml_cli")?
+fn with_command<'a>(made: Made<'a>, other: Made<'a>) -> Made<'a> {
+    match made {
+        Ok(command) => with_made(command, other),
+        Err(error) => {
+            drop(other);
+            Err(error)
+        }
+    }
+}
+
+fn named_command<'a>(alloc: Global) -> Made<'a> {
+    Command::new(alloc, "yaml_cli")
         .about("Rewrites YAML in canonical or pretty form")
-        .subcommand_required(true);
-    let command = with_command(command, fmt_command(alloc))?;
-    let command = with_command(command, docs_command(alloc))?;
-    let command = with_command(command, events_command(alloc))?;
-    with_command(command, same_command(alloc))
+        .subcommand_required(true)
+        .bin_name("yaml_cli")
+}
+
+fn whole_command<'a>(alloc: Global) -> Made<'a> {
+    let made = with_command(named_command(alloc), fmt_command(alloc));
+    let made = with_command(made, docs_command(alloc));
+    let made = with_command(made, events_command(alloc));
+    with_command(made, same_command(alloc))
 }
 
 /// What the words say, the program's name first.

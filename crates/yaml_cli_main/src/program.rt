@@ -1,191 +1,213 @@
 //! The program over any reader and writers.
 
 use crate::fault::{
-    INPUT_LIMIT, Input, from_run_fault, from_yaml_fault, program_fault_t, status_of,
+    FAILED, INPUT_LIMIT, WRONG_WORDS, refused, run_failed, unknown_word, write_failed,
 };
 use crate::options::matches_of;
-use crate::settings::{input_encoding_of, settings_of};
+use crate::settings::{Order, Task, order_in};
+use clap::Error as WordFault;
 use clap::error::ErrorKind;
-use clap::{ArgMatches, Error as WordFault};
 use std::alloc::Global;
 use std::convert::AsStr;
 use std::fs;
 use std::io::{BufReader, Read, Write};
 use std::rt::Files;
 use yaml_round::{
-    yaml_command_t, yaml_encoding_t, yaml_form_t, yaml_input_t, yaml_output_t, yaml_read_all,
-    yaml_run, yaml_same, yaml_settings_t, yaml_side_t, yaml_std_input_t, yaml_std_output_t,
-    yaml_write_all,
+    yaml_encoding_t, yaml_form_t, yaml_input_t, yaml_output_t, yaml_read_all, yaml_run,
+    yaml_run_fault_t, yaml_same, yaml_side_t, yaml_std_input_t, yaml_std_output_t, yaml_write_all,
 };
 
 // How many bytes of a file are read at once: each call of the system costs some microseconds.
 const READ_AHEAD: usize = 65_536;
 
-// What a run is told to do.
-#[derive(Clone, Copy)]
-struct Task {
-    command: yaml_command_t,
-    from: yaml_encoding_t,
-    settings: yaml_settings_t,
-}
+// The form that a run's answer has, if any.
+type Ended = Result<Option<yaml_form_t>, yaml_run_fault_t>;
 
-fn task_of<'a>(
-    command: yaml_command_t,
-    matches: &ArgMatches<'a>,
-) -> Result<Task, program_fault_t<'a>> {
-    let settings = match command {
-        yaml_command_t::Events => yaml_settings_t::new(),
-        _ => settings_of(matches)?,
-    };
-    let from = input_encoding_of(matches)?;
-    Ok(Task {
-        command,
-        from,
-        settings,
-    })
-}
-
-fn run_on<'a, I: yaml_input_t, O: yaml_output_t>(
+fn run_on<I: yaml_input_t, O: yaml_output_t>(
     alloc: Global,
     task: &Task,
     input: &mut I,
     output: &mut O,
-) -> Result<Option<yaml_form_t>, program_fault_t<'a>> {
-    let limit = INPUT_LIMIT;
-    match yaml_run(
+) -> Ended {
+    yaml_run(
         alloc,
         input,
         output,
         task.command,
         task.from,
         &task.settings,
-        limit,
-    ) {
-        Ok(form) => Ok(form),
-        Err(fault) => Err(from_run_fault(alloc, Input::Only, &fault)),
-    }
+        INPUT_LIMIT,
+    )
 }
 
-fn run_over<'a, R: Read, W: Write>(
+fn run_over<R: Read, W: Write>(
     alloc: Global,
-    task: Task,
+    task: &Task,
     reader: &mut R,
     writer: &mut W,
-) -> Result<Option<yaml_form_t>, program_fault_t<'a>> {
+) -> Ended {
     let mut input = yaml_std_input_t::new(reader);
     let mut output = yaml_std_output_t::new(writer);
-    run_on(alloc, &task, &mut input, &mut output)
+    run_on(alloc, task, &mut input, &mut output)
 }
 
 // The same over a file, of which more is read at once than the engine asks for, where there is room for that.
-fn run_over_file<'a, R: Read, W: Write>(
+fn run_over_file<R: Read, W: Write>(
     alloc: Global,
-    task: Task,
+    task: &Task,
     file: &mut R,
     writer: &mut W,
-) -> Result<Option<yaml_form_t>, program_fault_t<'a>> {
+) -> Ended {
     if let Ok(mut ahead) = BufReader::with_capacity(alloc, READ_AHEAD, &mut *file) {
         return run_over(alloc, task, &mut ahead, writer);
     }
     run_over(alloc, task, file, writer)
 }
 
-// Runs a command on its file, or on standard input.
-fn run_command<'a, H: Files + AllocGlobal, R: Read, W: Write>(
+fn run_path<H: Files + AllocGlobal, W: Write>(
     rt: &H,
-    command: yaml_command_t,
-    matches: &ArgMatches<'a>,
+    task: &Task,
+    path: &str,
+    writer: &mut W,
+) -> Ended {
+    match fs::open(rt, path) {
+        Ok(mut file) => run_over_file(rt.alloc(), task, &mut file, writer),
+        Err(_) => Err(yaml_run_fault_t::Read),
+    }
+}
+
+// Runs a command on its file, or on standard input.
+fn run_file<H: Files + AllocGlobal, R: Read, W: Write>(
+    rt: &H,
+    task: &Task,
+    file: Option<&str>,
     reader: &mut R,
     writer: &mut W,
-) -> Result<Option<yaml_form_t>, program_fault_t<'a>> {
-    let task = task_of(command, matches)?;
-    match matches.get_str("file") {
-        Some(path) => match fs::open(rt, path) {
-            Ok(mut file) => run_over_file(rt.alloc(), task, &mut file, writer),
-            Err(_) => Err(program_fault_t::Read),
-        },
+) -> Ended {
+    match file {
+        Some(path) => run_path(rt, task, path, writer),
         None => run_over(rt.alloc(), task, reader, writer),
     }
 }
 
-// Runs `fmt`, and tells where pretty form was asked for and isn't answered.
-fn run_fmt<'a, H: Files + AllocGlobal, R: Read, W: Write, E: Write>(
-    rt: &H,
-    matches: &ArgMatches<'a>,
-    reader: &mut R,
-    writer: &mut W,
-    errors: &mut E,
-) -> Result<(), program_fault_t<'a>> {
-    let form = run_command(rt, yaml_command_t::Fmt, matches, reader, writer)?;
-    if matches.get_flag("pretty") && form == Some(yaml_form_t::Canonical) {
+// Tells where pretty form was asked for and isn't answered.
+fn note_form<E: Write>(task: &Task, form: Option<yaml_form_t>, errors: &mut E) {
+    if !task.settings.canonical && form == Some(yaml_form_t::Canonical) {
         // A note: the text is written, whether or not it can be told.
         let _ = writeln!(errors, "yaml_cli: canonical form was written");
     }
-    Ok(())
 }
 
-fn bytes_of<'a, H: Files + AllocGlobal>(
-    rt: &H,
-    which: Input,
-    path: &str,
-) -> Result<Vec<u8>, program_fault_t<'a>> {
-    match fs::open(rt, path) {
-        Ok(file) => {
-            let mut input = yaml_std_input_t::new(file);
-            match yaml_read_all(rt.alloc(), &mut input, INPUT_LIMIT) {
-                Ok(bytes) => Ok(bytes),
-                Err(fault) => Err(from_run_fault(rt.alloc(), which, &fault)),
-            }
+fn ended<E: Write>(alloc: Global, task: &Task, ended: &Ended, errors: &mut E) -> u8 {
+    match ended {
+        Ok(form) => {
+            note_form(task, *form, errors);
+            0
         }
-        Err(_) => Err(program_fault_t::Read),
+        Err(fault) => run_failed(alloc, errors, "", fault),
+    }
+}
+
+fn run_task<H: Files + AllocGlobal, R: Read, W: Write, E: Write>(
+    rt: &H,
+    task: &Task,
+    file: Option<&str>,
+    reader: &mut R,
+    writer: &mut W,
+    errors: &mut E,
+) -> u8 {
+    let answer = run_file(rt, task, file, reader, writer);
+    ended(rt.alloc(), task, &answer, errors)
+}
+
+fn all_of<R: Read>(alloc: Global, file: &mut R) -> Result<Vec<u8>, yaml_run_fault_t> {
+    let mut input = yaml_std_input_t::new(file);
+    yaml_read_all(alloc, &mut input, INPUT_LIMIT)
+}
+
+fn bytes_of<H: Files + AllocGlobal>(rt: &H, path: &str) -> Result<Vec<u8>, yaml_run_fault_t> {
+    match fs::open(rt, path) {
+        Ok(mut file) => all_of(rt.alloc(), &mut file),
+        Err(_) => Err(yaml_run_fault_t::Read),
+    }
+}
+
+fn write_answer<W: Write, E: Write>(answer: &[u8], writer: &mut W, errors: &mut E) -> u8 {
+    let mut output = yaml_std_output_t::new(writer);
+    match yaml_write_all(&mut output, answer) {
+        Ok(()) => 0,
+        Err(written) => write_failed(errors, written),
+    }
+}
+
+// How a line calls an input of two.
+fn input_name(side: yaml_side_t) -> &'static str {
+    match side {
+        yaml_side_t::First => "first input: ",
+        yaml_side_t::Second => "second input: ",
+    }
+}
+
+fn compare<W: Write, E: Write>(
+    alloc: Global,
+    from: yaml_encoding_t,
+    first: &[u8],
+    second: &[u8],
+    writer: &mut W,
+    errors: &mut E,
+) -> u8 {
+    match yaml_same(alloc, first, from, second, from) {
+        Ok(true) => write_answer(b"equal\n", writer, errors),
+        Ok(false) => write_answer(b"different\n", writer, errors),
+        Err((side, fault)) => refused(alloc, errors, input_name(side), &fault),
+    }
+}
+
+fn compare_with<H: Files + AllocGlobal, W: Write, E: Write>(
+    rt: &H,
+    from: yaml_encoding_t,
+    first: &[u8],
+    second: &str,
+    writer: &mut W,
+    errors: &mut E,
+) -> u8 {
+    match bytes_of(rt, second) {
+        Ok(second) => compare(rt.alloc(), from, first, second.as_slice(), writer, errors),
+        Err(fault) => run_failed(rt.alloc(), errors, input_name(yaml_side_t::Second), &fault),
     }
 }
 
 // Writes whether two files have the same content.
-fn run_same<'a, H: Files + AllocGlobal, W: Write>(
+fn run_same<H: Files + AllocGlobal, W: Write, E: Write>(
     rt: &H,
-    matches: &ArgMatches<'a>,
+    from: yaml_encoding_t,
+    first: &str,
+    second: &str,
     writer: &mut W,
-) -> Result<(), program_fault_t<'a>> {
-    let from = input_encoding_of(matches)?;
-    let first = bytes_of(rt, Input::First, matches.get_str("first").unwrap_or(""))?;
-    let second = bytes_of(rt, Input::Second, matches.get_str("second").unwrap_or(""))?;
-    let answer = match yaml_same(rt.alloc(), &first, from, &second, from) {
-        Ok(true) => b"equal\n".as_slice(),
-        Ok(false) => b"different\n".as_slice(),
-        Err((yaml_side_t::First, fault)) => {
-            return Err(from_yaml_fault(rt.alloc(), Input::First, &fault));
-        }
-        Err((yaml_side_t::Second, fault)) => {
-            return Err(from_yaml_fault(rt.alloc(), Input::Second, &fault));
-        }
-    };
-    let mut output = yaml_std_output_t::new(writer);
-    match yaml_write_all(&mut output, answer) {
-        Ok(()) => Ok(()),
-        Err(written) => Err(program_fault_t::Write { written }),
+    errors: &mut E,
+) -> u8 {
+    match bytes_of(rt, first) {
+        Ok(first) => compare_with(rt, from, first.as_slice(), second, writer, errors),
+        Err(fault) => run_failed(rt.alloc(), errors, input_name(yaml_side_t::First), &fault),
     }
 }
 
-fn run_matches<'a, H: Files + AllocGlobal, R: Read, W: Write, E: Write>(
+fn follow<H: Files + AllocGlobal, R: Read, W: Write, E: Write>(
     rt: &H,
-    matches: &ArgMatches<'a>,
+    order: &Order<'_>,
     reader: &mut R,
     writer: &mut W,
     errors: &mut E,
-) -> Result<(), program_fault_t<'a>> {
-    match matches.subcommand() {
-        Some(("fmt", matches)) => run_fmt(rt, matches, reader, writer, errors),
-        Some(("docs", matches)) => {
-            run_command(rt, yaml_command_t::Docs, matches, reader, writer)?;
-            Ok(())
-        }
-        Some(("events", matches)) => {
-            run_command(rt, yaml_command_t::Events, matches, reader, writer)?;
-            Ok(())
-        }
-        Some((_, matches)) => run_same(rt, matches, writer),
-        None => Err(program_fault_t::Silent),
+) -> u8 {
+    match order {
+        Order::Run { task, file } => run_task(rt, task, *file, reader, writer, errors),
+        Order::Same {
+            from,
+            first,
+            second,
+        } => run_same(rt, *from, first, second, writer, errors),
+        Order::Unknown { what, word } => unknown_word(errors, what, word),
+        Order::Nothing => FAILED,
     }
 }
 
@@ -193,13 +215,24 @@ fn run_matches<'a, H: Files + AllocGlobal, R: Read, W: Write, E: Write>(
 // words, whether or not the text could be written.
 fn tell<W: Write, E: Write>(error: &WordFault, output: &mut W, errors: &mut E) -> u8 {
     if error.kind() == ErrorKind::OutOfMemory {
-        2
+        WRONG_WORDS
     } else if error.use_stderr() {
         let _ = write!(errors, "{error}");
-        2
+        WRONG_WORDS
     } else {
         let _ = write!(output, "{error}");
         0
+    }
+}
+
+fn order_of<'a, S: AsStr>(alloc: Global, words: &'a [S]) -> Result<Order<'a>, WordFault> {
+    match matches_of(alloc, words) {
+        Ok(matches) => {
+            let order = order_in(&matches);
+            drop(matches);
+            Ok(order)
+        }
+        Err(error) => Err(error),
     }
 }
 
@@ -213,18 +246,12 @@ pub fn yaml_main<H: Files + AllocGlobal, S: AsStr, R: Read, W: Write, E: Write>(
     output: &mut W,
     errors: &mut E,
 ) -> u8 {
-    let matches = match matches_of(rt.alloc(), words) {
-        Ok(matches) => matches,
-        Err(error) => return tell(&error, output, errors),
-    };
-    match run_matches(rt, &matches, input, output, errors) {
-        Ok(()) => 0,
-        Err(fault) => {
-            if !matches!(&fault, program_fault_t::Silent) {
-                // Where it can't be told, the status still tells.
-                let _ = writeln!(errors, "yaml_cli: {fault}");
-            }
-            status_of(&fault)
+    match order_of(rt.alloc(), words) {
+        Ok(order) => follow(rt, &order, input, output, errors),
+        Err(error) => {
+            let status = tell(&error, output, errors);
+            drop(error);
+            status
         }
     }
 }

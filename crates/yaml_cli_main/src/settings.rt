@@ -1,56 +1,204 @@
-//! The settings that the words of a command say.
+//! What the words of a command say that it is to do. The words are read first, into a small record, and then judged, so that
+//! what judges them doesn't see the matches.
 
-use crate::fault::program_fault_t;
 use clap::ArgMatches;
-use yaml_round::{yaml_break_t, yaml_encoding_t, yaml_output_encoding_t, yaml_settings_t};
+use yaml_round::{
+    yaml_break_t, yaml_command_t, yaml_encoding_t, yaml_output_encoding_t, yaml_settings_t,
+};
 
-fn line_break_of<'a>(matches: &ArgMatches<'a>) -> Result<yaml_break_t, program_fault_t<'a>> {
-    match matches.get_str("break") {
-        Some("lf") | None => Ok(yaml_break_t::YAML_LN_BREAK),
-        Some("cr") => Ok(yaml_break_t::YAML_CR_BREAK),
-        Some("crlf") => Ok(yaml_break_t::YAML_CRLN_BREAK),
-        Some(word) => Err(program_fault_t::Break(word)),
+/// What a run is told to do.
+#[derive(Clone, Copy)]
+pub(crate) struct Task {
+    pub command: yaml_command_t,
+    pub from: yaml_encoding_t,
+    pub settings: yaml_settings_t,
+}
+
+/// What the program is told to do.
+#[derive(Clone, Copy)]
+pub(crate) enum Order<'a> {
+    /// A run over the file, or over standard input.
+    Run {
+        task: Task,
+        file: Option<&'a str>,
+    },
+    /// Two files are to be compared.
+    Same {
+        from: yaml_encoding_t,
+        first: &'a str,
+        second: &'a str,
+    },
+    /// That word can't stand there.
+    Unknown {
+        what: &'static str,
+        word: &'a str,
+    },
+    /// No command.
+    Nothing,
+}
+
+// The words of a run. One that the command doesn't have is as where it is left out.
+#[derive(Clone, Copy)]
+struct Words<'a> {
+    file: Option<&'a str>,
+    from: &'a str,
+    line_break: &'a str,
+    encoding: &'a str,
+    settings: yaml_settings_t,
+}
+
+fn break_named(word: &str) -> Option<yaml_break_t> {
+    match word {
+        "lf" => Some(yaml_break_t::YAML_LN_BREAK),
+        "cr" => Some(yaml_break_t::YAML_CR_BREAK),
+        "crlf" => Some(yaml_break_t::YAML_CRLN_BREAK),
+        _ => None,
     }
 }
 
-fn encoding_of<'a>(
-    matches: &ArgMatches<'a>,
-) -> Result<yaml_output_encoding_t, program_fault_t<'a>> {
-    match matches.get_str("encoding") {
-        Some("utf8") | None => Ok(yaml_output_encoding_t::Utf8),
-        Some("utf16le") => Ok(yaml_output_encoding_t::Utf16Le),
-        Some("utf16be") => Ok(yaml_output_encoding_t::Utf16Be),
-        Some(word) => Err(program_fault_t::Encoding(word)),
+fn encoding_named(word: &str) -> Option<yaml_output_encoding_t> {
+    match word {
+        "utf8" => Some(yaml_output_encoding_t::Utf8),
+        "utf16le" => Some(yaml_output_encoding_t::Utf16Le),
+        "utf16be" => Some(yaml_output_encoding_t::Utf16Be),
+        _ => None,
     }
 }
 
-/// How the input is encoded.
-pub(crate) fn input_encoding_of<'a>(
-    matches: &ArgMatches<'a>,
-) -> Result<yaml_encoding_t, program_fault_t<'a>> {
-    match matches.get_str("from") {
-        Some("auto") | None => Ok(yaml_encoding_t::YAML_ANY_ENCODING),
-        Some("utf8") => Ok(yaml_encoding_t::YAML_UTF8_ENCODING),
-        Some("utf16le") => Ok(yaml_encoding_t::YAML_UTF16LE_ENCODING),
-        Some("utf16be") => Ok(yaml_encoding_t::YAML_UTF16BE_ENCODING),
-        Some(word) => Err(program_fault_t::InputEncoding(word)),
+fn input_encoding_named(word: &str) -> Option<yaml_encoding_t> {
+    match word {
+        "auto" => Some(yaml_encoding_t::YAML_ANY_ENCODING),
+        "utf8" => Some(yaml_encoding_t::YAML_UTF8_ENCODING),
+        "utf16le" => Some(yaml_encoding_t::YAML_UTF16LE_ENCODING),
+        "utf16be" => Some(yaml_encoding_t::YAML_UTF16BE_ENCODING),
+        _ => None,
     }
 }
 
-/// How the text is written; the break is judged first, then the encoding.
-pub(crate) fn settings_of<'a>(
-    matches: &ArgMatches<'a>,
-) -> Result<yaml_settings_t, program_fault_t<'a>> {
-    let line_break = line_break_of(matches)?;
-    let encoding = encoding_of(matches)?;
+fn command_named(word: &str) -> Option<yaml_command_t> {
+    match word {
+        "fmt" => Some(yaml_command_t::Fmt),
+        "docs" => Some(yaml_command_t::Docs),
+        "events" => Some(yaml_command_t::Events),
+        _ => None,
+    }
+}
+
+// The settings but for those that are words.
+fn numbers_of(matches: &ArgMatches<'_>) -> yaml_settings_t {
     let usual = yaml_settings_t::new();
-    Ok(yaml_settings_t {
-        encoding,
+    yaml_settings_t {
+        encoding: usual.encoding,
         canonical: !matches.get_flag("pretty"),
         indent: matches.get_one::<i32>("indent").unwrap_or(usual.indent),
         width: matches.get_one::<i32>("width").unwrap_or(usual.width),
         unicode: !matches.get_flag("ascii"),
-        line_break,
+        line_break: usual.line_break,
         limit: matches.get_one::<u64>("limit").unwrap_or(usual.limit),
-    })
+    }
+}
+
+fn from_word<'a>(matches: &ArgMatches<'a>) -> &'a str {
+    matches.get_str("from").unwrap_or("auto")
+}
+
+fn words_of<'a>(matches: &ArgMatches<'a>) -> Words<'a> {
+    Words {
+        file: matches.get_str("file"),
+        from: from_word(matches),
+        line_break: matches.get_str("break").unwrap_or("lf"),
+        encoding: matches.get_str("encoding").unwrap_or("utf8"),
+        settings: numbers_of(matches),
+    }
+}
+
+// The run, once its settings are known.
+fn run_with<'a>(
+    command: yaml_command_t,
+    words: &Words<'a>,
+    settings: yaml_settings_t,
+) -> Order<'a> {
+    match input_encoding_named(words.from) {
+        Some(from) => Order::Run {
+            task: Task {
+                command,
+                from,
+                settings,
+            },
+            file: words.file,
+        },
+        None => Order::Unknown {
+            what: "input encoding",
+            word: words.from,
+        },
+    }
+}
+
+fn run_broken<'a>(
+    command: yaml_command_t,
+    words: &Words<'a>,
+    line_break: yaml_break_t,
+) -> Order<'a> {
+    match encoding_named(words.encoding) {
+        Some(encoding) => {
+            let settings = yaml_settings_t {
+                encoding,
+                line_break,
+                ..words.settings
+            };
+            run_with(command, words, settings)
+        }
+        None => Order::Unknown {
+            what: "encoding",
+            word: words.encoding,
+        },
+    }
+}
+
+// The break is judged first, then the encoding, then how the input is encoded.
+fn run_of<'a>(command: yaml_command_t, words: &Words<'a>) -> Order<'a> {
+    match break_named(words.line_break) {
+        Some(line_break) => run_broken(command, words, line_break),
+        None => Order::Unknown {
+            what: "break",
+            word: words.line_break,
+        },
+    }
+}
+
+fn same_of<'a>(from: &'a str, first: &'a str, second: &'a str) -> Order<'a> {
+    match input_encoding_named(from) {
+        Some(from) => Order::Same {
+            from,
+            first,
+            second,
+        },
+        None => Order::Unknown {
+            what: "input encoding",
+            word: from,
+        },
+    }
+}
+
+fn same_in<'a>(matches: &ArgMatches<'a>) -> Order<'a> {
+    same_of(
+        from_word(matches),
+        matches.get_str("first").unwrap_or(""),
+        matches.get_str("second").unwrap_or(""),
+    )
+}
+
+fn order_named<'a>(name: &str, matches: &ArgMatches<'a>) -> Order<'a> {
+    match command_named(name) {
+        Some(command) => run_of(command, &words_of(matches)),
+        None => same_in(matches),
+    }
+}
+
+/// What the words say.
+pub(crate) fn order_in<'a>(matches: &ArgMatches<'a>) -> Order<'a> {
+    match matches.subcommand() {
+        Some((name, matches)) => order_named(name, matches),
+        None => Order::Nothing,
+    }
 }

@@ -1,7 +1,7 @@
 -- What the call answers is what C is told.
 use mir.Syntax.{w32}
-use mir.Val.{SFits, to_z, of_z}
-use Rattle.std.proofs.Common.{◌≡◌, rules}
+use mir.Val.{SFits}
+use Rattle.std.proofs.Common.{rules}
 use Rattle.std.proofs.lemmas.Int.{to_z-of_z}
 use Rattle.yaml_round_c.proofs.Exact.{listed_told, listed_exact}
 use Rattle.yaml_round_c.proofs.engine.yaml_c_events.Goals as goal

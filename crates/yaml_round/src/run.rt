@@ -45,7 +45,7 @@ fn answer_of(
 /// Reads the input to its end, `input_limit` bytes at most, works, and then writes the whole answer and finishes.
 /// `Read`: the input has failed. `TooLong`: a byte past the limit came. `Yaml`: the input was refused, or memory was.
 /// After these three nothing was written. `Write`: the output has failed, and has received the answer's first
-/// `written` bytes.
+/// `written` bytes. Its seven arguments are those of a rewriting, with two devices in place of one input, and a limit.
 pub fn yaml_run<I: yaml_input_t, O: yaml_output_t>(
     alloc: Global,
     input: &mut I,

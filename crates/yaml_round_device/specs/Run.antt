@@ -40,8 +40,8 @@ pub record Failures : Type 0 where
   pub output : Bool
 
 -- this is an answer to all that the input gave
-pub record AnswersAll {F : Type 0} (work : Work F) (before after : Bytes) (said : Result (List ℕ × F)
-    Fault) : Type 0 where
+pub record AnswersAll {F : Type 0} (work : Work F) (before after : Bytes)
+    (said : Result (List ℕ × F) Fault) : Type 0 where
   pub input : List ℕ
   pub all : GivesAll before.to_come after.to_come work.limit input
   pub answered : work.IsAnswer input said

@@ -343,7 +343,8 @@ fn push_start(
     tag: &Option<Vec<u8>>,
 ) -> Result<(), AllocError>
     ensures { OnOk result (line.new.items ≡ line.old.items
-        ++ (word.now ++ (anchor_part (text_of anchor.now) ++ tag_part (text_of tag.now)) ++ 10 ∷ [])) }
+        ++ (word.now ++ (anchor_part (text_of anchor.now) ++ tag_part (text_of tag.now))
+        ++ 10 ∷ [])) }
 {
     push_node(line, word, anchor, tag)?;
     push_end(line)

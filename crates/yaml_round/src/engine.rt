@@ -30,7 +30,9 @@ fn judge(alloc: Global, input: &[u8], from: yaml_encoding_t) -> Result<(), yaml_
     ensures { Answers parse_layers (λ done. done) (IsJudged from input.now) result }
 {
     let mut reading = reading_of(alloc, input, from)?;
-    read_out(&mut reading)
+    let answer = read_out(&mut reading);
+    drop(reading);
+    answer
 }
 
 // Writes the events to their end. The layout of deep nesting grows with the square of its input: where the text has
@@ -101,7 +103,9 @@ fn written(
         (text_of watch.new.kept) []) }
 {
     let mut reading = reading_of(alloc, input, from)?;
-    written_from(alloc, input, from, &mut reading, settings, watch)
+    let answer = written_from(alloc, input, from, &mut reading, settings, watch);
+    drop(reading);
+    answer
 }
 
 // The text in canonical form.
@@ -224,5 +228,7 @@ pub fn yaml_events(
     ensures { Answers list_layers bytes_of (IsListed from input.now) result }
 {
     let mut reading = reading_of(alloc, input, from)?;
-    lines_of(alloc, &mut reading)
+    let answer = lines_of(alloc, &mut reading);
+    drop(reading);
+    answer
 }

@@ -74,7 +74,9 @@ fn reads_as_kept(alloc: Global, kept: &[u8], text: &[u8]) -> Result<bool, yaml_f
         → Answers parse_layers (λ same. same) (IsReadBack from input text.now) result }
 {
     let mut reading = reading_of(alloc, text, yaml_encoding_t::YAML_ANY_ENCODING)?;
-    says_kept(&mut reading, kept)
+    let answer = says_kept(&mut reading, kept);
+    drop(reading);
+    answer
 }
 
 /// Whether the text reads back, which may be known. Where the input's content wasn't kept, the input is read again.

@@ -66,7 +66,9 @@ fn documents_of(
     ensures { Answers load_layers (λ ds. ds.items) (IsLoaded from input.now) result }
 {
     let mut reading = reading_of(alloc, input, from)?;
-    documents_from(alloc, &mut reading)
+    let answer = documents_from(alloc, &mut reading);
+    drop(reading);
+    answer
 }
 
 // Writes the documents. True where all were taken; else the emitter keeps its fault.

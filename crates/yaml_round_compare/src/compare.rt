@@ -176,7 +176,9 @@ fn reads_as(alloc: Global, first: &mut Reading<'_>, text: &[u8]) -> Result<bool,
         → Answers parse_layers (λ same. same) (IsReadBack from input text.now) result }
 {
     let mut second = reading_of(alloc, text, yaml_encoding_t::YAML_ANY_ENCODING)?;
-    reads_alike(first, &mut second)
+    let answer = reads_alike(first, &mut second);
+    drop(second);
+    answer
 }
 
 /// Whether the text, read as its byte order mark tells, is accepted and has the content of the input, which is accepted.
@@ -191,7 +193,9 @@ pub fn reads_back(
     ensures { Answers parse_layers (λ same. same) (IsReadBack from input.now text.now) result }
 {
     let mut first = reading_of(alloc, input, from)?;
-    reads_as(alloc, &mut first, text)
+    let answer = reads_as(alloc, &mut first, text);
+    drop(first);
+    answer
 }
 
 // Whether the second input has the content of the first one's reading.
@@ -207,7 +211,11 @@ fn same_as(
 {
     match reading_of(alloc, b, b_encoding) {
         Err(fault) => Err(behind_first(first, fault)),
-        Ok(mut second) => compared(first, &mut second),
+        Ok(mut second) => {
+            let answer = compared(first, &mut second);
+            drop(second);
+            answer
+        }
     }
 }
 
@@ -225,6 +233,10 @@ pub fn yaml_same(
 {
     match reading_of(alloc, a, a_encoding) {
         Err(fault) => Err((yaml_side_t::First, fault)),
-        Ok(mut first) => same_as(alloc, &mut first, b, b_encoding),
+        Ok(mut first) => {
+            let answer = same_as(alloc, &mut first, b, b_encoding);
+            drop(first);
+            answer
+        }
     }
 }

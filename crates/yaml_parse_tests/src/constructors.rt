@@ -1,7 +1,7 @@
-//! Events by their constructors, and the texts that these refuse.
+//! Events by their constructors, and the texts that these refuse. Each event is given at once to a function that asks it, since
+//! an owner that may still end in several ways is dear to prove.
 
-use std::alloc::Global;
-use std::process::Abort;
+use std::alloc::{AllocError, Global};
 use std::test::Fail;
 use yaml_parse::{
     yaml_alias_event_initialize, yaml_document_end_event_initialize,
@@ -18,11 +18,26 @@ fn push(
     directives: &mut Vec<yaml_tag_directive_t>,
     handle: &[u8],
     prefix: &[u8],
-) -> Result<(), Fail> {
+) -> Result<(), AllocError> {
     let handle = handle.to_vec(alloc)?;
     let prefix = prefix.to_vec(alloc)?;
     directives.push(yaml_tag_directive_t { handle, prefix })?;
     Ok(())
+}
+
+type Made = Result<yaml_event_t, yaml_text_fault_t>;
+
+// Whether an event of that type was made, with texts in UTF-8.
+fn is_event(made: Made, want: yaml_event_type_t) -> bool {
+    match made {
+        Ok(event) => event.type_() == want && yaml_event_utf8(&event),
+        Err(_) => false,
+    }
+}
+
+// Whether a text that isn't UTF-8 was refused.
+fn is_refused(made: Made) -> bool {
+    matches!(&made, Err(yaml_text_fault_t::NotUtf8))
 }
 
 // An explicit start of a YAML 1.1 document with that directive alone.
@@ -57,147 +72,117 @@ fn holds_plain_scalar(event: &yaml_event_t, name: &[u8], text: &[u8]) -> bool {
 }
 
 // An explicit start of a YAML 1.1 document with those directives.
-fn document_start(
-    alloc: Global,
-    directives: &[yaml_tag_directive_t],
-) -> Result<yaml_event_t, yaml_text_fault_t> {
+fn document_start(alloc: Global, directives: &[yaml_tag_directive_t]) -> Made {
     let version = Some(yaml_version_directive_t { major: 1, minor: 1 });
     yaml_document_start_event_initialize(alloc, version, directives, false)
 }
 
-fn is_document_start<R: Abort>(rt: &R, event: &yaml_event_t) {
-    assert!(rt; yaml_event_utf8(event));
-    assert_eq!(rt; event.start_mark.index, 0);
-    assert!(rt; holds_directive(event, b"!e!", b"tag:x,2000:"));
-}
-
-fn makes_document_start<R: AllocGlobal + Abort>(
-    rt: &R,
-    directives: &[yaml_tag_directive_t],
-) -> Result<(), Fail> {
-    let event = document_start(rt.alloc(), directives)?;
-    is_document_start(rt, &event);
-    Ok(())
-}
-
-fn refuses_document_start<R: AllocGlobal + Abort>(rt: &R, directives: &[yaml_tag_directive_t]) {
-    let refused = document_start(rt.alloc(), directives);
-    assert!(rt; matches!(&refused, Err(yaml_text_fault_t::NotUtf8)));
+fn is_document_start(made: Made) -> bool {
+    match made {
+        Ok(event) => {
+            yaml_event_utf8(&event)
+                && event.start_mark.index == 0
+                && holds_directive(&event, b"!e!", b"tag:x,2000:")
+        }
+        Err(_) => false,
+    }
 }
 
 // A directive, and behind it one whose prefix isn't UTF-8.
-fn document_starts<R: AllocGlobal + Abort>(
-    rt: &R,
+fn document_starts(
+    alloc: Global,
     directives: &mut Vec<yaml_tag_directive_t>,
-) -> Result<(), Fail> {
-    push(rt.alloc(), directives, b"!e!", b"tag:x,2000:")?;
-    makes_document_start(rt, directives.as_slice())?;
-    push(rt.alloc(), directives, b"!", b"\xFF")?;
-    refuses_document_start(rt, directives.as_slice());
-    Ok(())
+) -> Result<bool, AllocError> {
+    push(alloc, directives, b"!e!", b"tag:x,2000:")?;
+    let is_made = is_document_start(document_start(alloc, directives.as_slice()));
+    push(alloc, directives, b"!", b"\xFF")?;
+    let is_refused = is_refused(document_start(alloc, directives.as_slice()));
+    Ok(is_made && is_refused)
 }
 
-#[test]
-fn makes_document_starts(rt: HostRuntime) -> Result<(), Fail> {
-    let mut directives = Vec::new(rt.alloc());
-    document_starts(&rt, &mut directives)
+fn are_document_starts(alloc: Global) -> bool {
+    let mut directives = Vec::new(alloc);
+    document_starts(alloc, &mut directives) == Ok(true)
 }
 
-fn makes_alias<R: AllocGlobal + Abort>(rt: &R) -> Result<(), Fail> {
-    let event = yaml_alias_event_initialize(rt.alloc(), b"a")?;
-    assert_eq!(rt; event.type_(), yaml_event_type_t::YAML_ALIAS_EVENT);
-    assert!(rt; yaml_event_utf8(&event));
-    Ok(())
-}
-
-#[test]
-fn makes_aliases(rt: HostRuntime) -> Result<(), Fail> {
-    makes_alias(&rt)?;
-    let refused = yaml_alias_event_initialize(rt.alloc(), b"\xFF");
-    assert!(rt; matches!(&refused, Err(yaml_text_fault_t::NotUtf8)));
-    Ok(())
+fn makes_aliases(alloc: Global) -> bool {
+    is_event(
+        yaml_alias_event_initialize(alloc, b"a"),
+        yaml_event_type_t::YAML_ALIAS_EVENT,
+    ) && is_refused(yaml_alias_event_initialize(alloc, b"\xFF"))
 }
 
 const PLAIN: yaml_scalar_style_t = yaml_scalar_style_t::YAML_PLAIN_SCALAR_STYLE;
 
-fn makes_scalar<R: AllocGlobal + Abort>(rt: &R) -> Result<(), Fail> {
-    let alloc = rt.alloc();
-    let event = yaml_scalar_event_initialize(alloc, Some(b"a"), None, b"k", true, false, PLAIN)?;
-    assert!(rt; yaml_event_utf8(&event));
-    assert!(rt; holds_plain_scalar(&event, b"a", b"k"));
-    Ok(())
+fn is_plain_scalar(made: Made) -> bool {
+    match made {
+        Ok(event) => yaml_event_utf8(&event) && holds_plain_scalar(&event, b"a", b"k"),
+        Err(_) => false,
+    }
 }
 
-fn refuses_scalar<R: AllocGlobal + Abort>(
-    rt: &R,
-    anchor: Option<&[u8]>,
-    tag: Option<&[u8]>,
-    value: &[u8],
-) {
-    let alloc = rt.alloc();
-    let refused = yaml_scalar_event_initialize(alloc, anchor, tag, value, true, true, PLAIN);
-    assert!(rt; matches!(&refused, Err(yaml_text_fault_t::NotUtf8)));
+fn makes_scalar(alloc: Global) -> bool {
+    is_plain_scalar(yaml_scalar_event_initialize(alloc, Some(b"a"), None, b"k", true, false, PLAIN))
 }
 
-#[test]
-fn makes_scalars(rt: HostRuntime) -> Result<(), Fail> {
-    makes_scalar(&rt)?;
-    refuses_scalar(&rt, Some(b"\xFF"), None, b"k");
-    refuses_scalar(&rt, None, Some(b"\xFF"), b"k");
-    refuses_scalar(&rt, None, None, b"\xFF");
-    Ok(())
+fn refuses_scalar(alloc: Global, anchor: Option<&[u8]>, tag: Option<&[u8]>, value: &[u8]) -> bool {
+    is_refused(yaml_scalar_event_initialize(alloc, anchor, tag, value, true, true, PLAIN))
 }
 
-fn sequence_start(
-    alloc: Global,
-    anchor: Option<&[u8]>,
-    tag: Option<&[u8]>,
-) -> Result<yaml_event_t, yaml_text_fault_t> {
+fn makes_scalars(alloc: Global) -> bool {
+    makes_scalar(alloc)
+        && refuses_scalar(alloc, Some(b"\xFF"), None, b"k")
+        && refuses_scalar(alloc, None, Some(b"\xFF"), b"k")
+        && refuses_scalar(alloc, None, None, b"\xFF")
+}
+
+fn sequence_start(alloc: Global, anchor: Option<&[u8]>, tag: Option<&[u8]>) -> Made {
     let flow = yaml_sequence_style_t::YAML_FLOW_SEQUENCE_STYLE;
     yaml_sequence_start_event_initialize(alloc, anchor, tag, false, flow)
 }
 
-#[test]
-fn makes_sequence_starts(rt: HostRuntime) -> Result<(), Fail> {
-    let refused = sequence_start(rt.alloc(), Some(b"\xC0\x80"), None);
-    assert!(rt; matches!(&refused, Err(yaml_text_fault_t::NotUtf8)));
-    let event = sequence_start(rt.alloc(), None, Some(b"!t"))?;
-    assert_eq!(rt; event.type_(), yaml_event_type_t::YAML_SEQUENCE_START_EVENT);
-    assert!(rt; yaml_event_utf8(&event));
-    Ok(())
+fn makes_sequence_starts(alloc: Global) -> bool {
+    let want = yaml_event_type_t::YAML_SEQUENCE_START_EVENT;
+    is_event(sequence_start(alloc, None, Some(b"!t")), want)
+        && is_refused(sequence_start(alloc, Some(b"\xC0\x80"), None))
 }
 
-fn mapping_start(
-    alloc: Global,
-    anchor: Option<&[u8]>,
-    tag: Option<&[u8]>,
-) -> Result<yaml_event_t, yaml_text_fault_t> {
+fn mapping_start(alloc: Global, anchor: Option<&[u8]>, tag: Option<&[u8]>) -> Made {
     let block = yaml_mapping_style_t::YAML_BLOCK_MAPPING_STYLE;
     yaml_mapping_start_event_initialize(alloc, anchor, tag, true, block)
 }
 
-#[test]
-fn makes_mapping_starts(rt: HostRuntime) -> Result<(), Fail> {
-    let refused = mapping_start(rt.alloc(), None, Some(b"\xED\xA0\x80"));
-    assert!(rt; matches!(&refused, Err(yaml_text_fault_t::NotUtf8)));
-    let event = mapping_start(rt.alloc(), Some(b"a"), None)?;
-    assert_eq!(rt; event.type_(), yaml_event_type_t::YAML_MAPPING_START_EVENT);
-    assert!(rt; yaml_event_utf8(&event));
-    Ok(())
+fn makes_mapping_starts(alloc: Global) -> bool {
+    let want = yaml_event_type_t::YAML_MAPPING_START_EVENT;
+    is_event(mapping_start(alloc, Some(b"a"), None), want)
+        && is_refused(mapping_start(alloc, None, Some(b"\xED\xA0\x80")))
+}
+
+fn makes_stream_start() -> bool {
+    let start = yaml_stream_start_event_initialize(yaml_encoding_t::YAML_UTF8_ENCODING);
+    is_event(Ok(start), yaml_event_type_t::YAML_STREAM_START_EVENT)
+}
+
+// Events that end something.
+fn makes_ends() -> bool {
+    let stream = yaml_event_type_t::YAML_STREAM_END_EVENT;
+    let document = yaml_event_type_t::YAML_DOCUMENT_END_EVENT;
+    let sequence = yaml_event_type_t::YAML_SEQUENCE_END_EVENT;
+    let mapping = yaml_event_type_t::YAML_MAPPING_END_EVENT;
+    is_event(Ok(yaml_stream_end_event_initialize()), stream)
+        && is_event(Ok(yaml_document_end_event_initialize(true)), document)
+        && is_event(Ok(yaml_sequence_end_event_initialize()), sequence)
+        && is_event(Ok(yaml_mapping_end_event_initialize()), mapping)
 }
 
 #[test]
-fn makes_events_without_texts(rt: HostRuntime) -> Result<(), Fail> {
-    let start = yaml_stream_start_event_initialize(yaml_encoding_t::YAML_UTF8_ENCODING);
-    assert_eq!(rt; start.type_(), yaml_event_type_t::YAML_STREAM_START_EVENT);
-    assert!(rt; yaml_event_utf8(&start));
-    let end = yaml_stream_end_event_initialize();
-    assert_eq!(rt; end.type_(), yaml_event_type_t::YAML_STREAM_END_EVENT);
-    let end = yaml_document_end_event_initialize(true);
-    assert_eq!(rt; end.type_(), yaml_event_type_t::YAML_DOCUMENT_END_EVENT);
-    let end = yaml_sequence_end_event_initialize();
-    assert_eq!(rt; end.type_(), yaml_event_type_t::YAML_SEQUENCE_END_EVENT);
-    let end = yaml_mapping_end_event_initialize();
-    assert_eq!(rt; end.type_(), yaml_event_type_t::YAML_MAPPING_END_EVENT);
+fn makes_events(rt: HostRuntime) -> Result<(), Fail> {
+    assert!(rt; are_document_starts(rt.alloc()));
+    assert!(rt; makes_aliases(rt.alloc()));
+    assert!(rt; makes_scalars(rt.alloc()));
+    assert!(rt; makes_sequence_starts(rt.alloc()));
+    assert!(rt; makes_mapping_starts(rt.alloc()));
+    assert!(rt; makes_stream_start());
+    assert!(rt; makes_ends());
     Ok(())
 }

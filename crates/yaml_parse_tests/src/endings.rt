@@ -1,55 +1,69 @@
 //! What a parser answers behind its end and behind a fault.
 
-use crate::loads::next_of;
-use std::alloc::Global;
-use std::process::Abort;
+use crate::loads::{Wanted, loads_next};
+use crate::owner::{Asked, is_right};
+use std::alloc::{AllocError, Global};
 use std::test::Fail;
 use yaml_parse::{
-    yaml_encoding_t, yaml_error_type_t, yaml_event_type_t, yaml_fault_t, yaml_mark_t,
-    yaml_origin_t, yaml_parser_initialize, yaml_parser_parse, yaml_parser_prefix, yaml_parser_t,
-    yaml_token_body_t, yaml_token_source_t, yaml_token_t,
+    yaml_encoding_t, yaml_error_type_t, yaml_event_t, yaml_event_type_t, yaml_fault_t, yaml_mark_t,
+    yaml_origin_t, yaml_parser_between, yaml_parser_initialize, yaml_parser_load,
+    yaml_parser_parse, yaml_parser_prefix, yaml_parser_t, yaml_token_body_t, yaml_token_source_t,
+    yaml_token_t,
 };
 use yaml_parse_list::{yaml_token_list_t, yaml_token_utf8};
 use yaml_round_adapter::yaml_adapter_t;
 
-const ZERO: yaml_mark_t = yaml_mark_t {
+/// The place of what stands nowhere.
+pub(crate) const ZERO: yaml_mark_t = yaml_mark_t {
     index: 0,
     line: 0,
     column: 0,
 };
 
-/// A parser of the tokens of a text.
-pub(crate) fn parser_of<'a>(
-    alloc: Global,
-    text: &'a [u8],
-) -> Result<yaml_parser_t<yaml_adapter_t<'a>>, yaml_fault_t> {
-    let adapter = yaml_adapter_t::new(alloc, text, yaml_encoding_t::YAML_ANY_ENCODING);
-    yaml_parser_initialize(alloc, adapter)
+fn next_type<S: yaml_token_source_t>(parser: &mut yaml_parser_t<S>) -> Option<yaml_event_type_t> {
+    match yaml_parser_parse(parser) {
+        Ok(event) => Some(event.type_()),
+        Err(_) => None,
+    }
 }
 
-// The next events have these types.
-fn gives<R: Abort, S: yaml_token_source_t>(
-    rt: &R,
+// Whether the next events have these types.
+fn gives<S: yaml_token_source_t>(
     parser: &mut yaml_parser_t<S>,
     types: &[yaml_event_type_t],
-) -> Result<(), Fail> {
+) -> bool {
     for want in types {
-        let event = yaml_parser_parse(parser)?;
-        assert_eq!(rt; event.type_(), *want);
+        if next_type(parser) != Some(*want) {
+            return false;
+        }
     }
-    Ok(())
+    true
 }
 
-// The next event is the empty one.
-fn is_over<R: Abort, S: yaml_token_source_t>(
-    rt: &R,
+fn is_empty(event: &yaml_event_t) -> bool {
+    event.type_() == yaml_event_type_t::YAML_NO_EVENT
+        && event.start_mark == ZERO
+        && event.end_mark == ZERO
+}
+
+// Whether the next event is the empty one.
+fn is_over<S: yaml_token_source_t>(parser: &mut yaml_parser_t<S>) -> bool {
+    match yaml_parser_parse(parser) {
+        Ok(event) => is_empty(&event),
+        Err(_) => false,
+    }
+}
+
+/// Whether the parser gives these events, and behind them nothing, as often as it is asked.
+pub(crate) fn ends_behind<S: yaml_token_source_t>(
     parser: &mut yaml_parser_t<S>,
-) -> Result<(), Fail> {
-    let event = yaml_parser_parse(parser)?;
-    assert_eq!(rt; event.type_(), yaml_event_type_t::YAML_NO_EVENT);
-    assert_eq!(rt; event.start_mark, ZERO);
-    assert_eq!(rt; event.end_mark, ZERO);
-    Ok(())
+    types: &[yaml_event_type_t],
+) -> bool {
+    let gives = gives(parser, types);
+    let first = is_over(parser);
+    let second = is_over(parser);
+    let kind = yaml_parser_prefix(parser).kind;
+    gives && first && second && kind == yaml_error_type_t::YAML_NO_ERROR
 }
 
 const MAPPING: [yaml_event_type_t; 8] = [
@@ -63,81 +77,55 @@ const MAPPING: [yaml_event_type_t; 8] = [
     yaml_event_type_t::YAML_STREAM_END_EVENT,
 ];
 
-// The parser gives these events, and behind them nothing, as often as it is asked.
-fn ends_behind<R: Abort, S: yaml_token_source_t>(
-    rt: &R,
-    parser: &mut yaml_parser_t<S>,
-    types: &[yaml_event_type_t],
-) -> Result<(), Fail> {
-    gives(rt, parser, types)?;
-    is_over(rt, parser)?;
-    is_over(rt, parser)?;
-    let kind = yaml_parser_prefix(parser).kind;
-    assert_eq!(rt; kind, yaml_error_type_t::YAML_NO_ERROR);
-    Ok(())
-}
-
-#[test]
-fn behind_the_end(rt: HostRuntime) -> Result<(), Fail> {
-    let mut parser = parser_of(rt.alloc(), b"a: 1")?;
-    ends_behind(&rt, &mut parser, &MAPPING)
-}
-
-// So many documents are loaded.
-fn loads<R: Abort>(
-    rt: &R,
-    parser: &mut yaml_parser_t<yaml_adapter_t>,
-    before: u64,
-) -> Result<(), Fail> {
+// Whether so many documents are loaded.
+fn loads(parser: &mut yaml_parser_t<yaml_adapter_t>, before: u64) -> bool {
     for _ in 0..before {
-        drop(next_of(rt, parser)?);
+        if !loads_next(parser, Wanted::Document) {
+            return false;
+        }
     }
-    Ok(())
+    true
 }
 
-// Then one is refused. Behind its fault no event is; the parser's own place is the fault's.
-fn next_is_refused<R: Abort>(
-    rt: &R,
-    parser: &mut yaml_parser_t<yaml_adapter_t>,
-    problem: &str,
-) -> Result<(), Fail> {
-    let fault = next_of(rt, parser).err().ok_or("accepted")?;
-    assert_eq!(rt; fault.problem, problem);
-    assert_eq!(rt; yaml_parser_prefix(parser).problem_mark, fault.problem_mark);
-    is_over(rt, parser)
+// The problem of the next document, and whether its fault stands where the parser's own does.
+fn next_problem(parser: &mut yaml_parser_t<yaml_adapter_t>) -> (Option<&'static str>, bool) {
+    if !yaml_parser_between(parser) {
+        return (None, false);
+    }
+    match yaml_parser_load(parser) {
+        Ok(_) => (None, false),
+        Err(fault) => (
+            Some(fault.problem),
+            yaml_parser_prefix(parser).problem_mark == fault.problem_mark,
+        ),
+    }
 }
 
-fn refuses<R: Abort>(
-    rt: &R,
+/// Whether so many documents are loaded, and then one is refused. Behind its fault no event is; the parser's own place is the
+/// fault's.
+pub(crate) fn refuses(
     parser: &mut yaml_parser_t<yaml_adapter_t>,
     before: u64,
     problem: &str,
-) -> Result<(), Fail> {
-    loads(rt, parser, before)?;
-    next_is_refused(rt, parser, problem)
+) -> bool {
+    let loads = loads(parser, before);
+    let (found, is_own) = next_problem(parser);
+    let over = is_over(parser);
+    loads && found == Some(problem) && is_own && over
 }
 
-fn load_is_refused<R: AllocGlobal + Abort>(
-    rt: &R,
-    text: &[u8],
-    before: u64,
-    problem: &str,
-) -> Result<(), Fail> {
-    let mut parser = parser_of(rt.alloc(), text)?;
-    refuses(rt, &mut parser, before, problem)
-}
+const UNDEFINED: &str = "found undefined alias";
 
-#[test]
-fn behind_a_refused_load(rt: HostRuntime) -> Result<(), Fail> {
-    let undefined = "found undefined alias";
-    load_is_refused(&rt, b"*a", 0, undefined)?;
-    load_is_refused(&rt, b"--- [&a x, *a]\n--- [*a]\n", 1, undefined)?;
-    load_is_refused(&rt, b"[*a, &a x]", 0, undefined)?;
-    load_is_refused(&rt, b"--- [&a x, &a y, *a]\n--- [*a]\n", 1, undefined)?;
-    load_is_refused(&rt, b"[&a x, &a }", 0, "did not find expected ',' or ']'")
-}
+// A text, how many documents it has before the refused one, and the problem.
+const REFUSED: [(&[u8], u64, &str); 5] = [
+    (b"*a", 0, UNDEFINED),
+    (b"--- [&a x, *a]\n--- [*a]\n", 1, UNDEFINED),
+    (b"[*a, &a x]", 0, UNDEFINED),
+    (b"--- [&a x, &a y, *a]\n--- [*a]\n", 1, UNDEFINED),
+    (b"[&a x, &a }", 0, "did not find expected ',' or ']'"),
+];
 
-fn push(list: &mut yaml_token_list_t, body: yaml_token_body_t) -> Result<(), Fail> {
+fn push(list: &mut yaml_token_list_t, body: yaml_token_body_t) -> Result<(), AllocError> {
     let token = yaml_token_t {
         body,
         start_mark: ZERO,
@@ -168,24 +156,36 @@ fn never() -> yaml_fault_t {
     }
 }
 
-fn push_stream(list: &mut yaml_token_list_t) -> Result<(), Fail> {
+fn push_stream(list: &mut yaml_token_list_t) -> Result<(), AllocError> {
     let encoding = yaml_encoding_t::YAML_UTF8_ENCODING;
     push(list, yaml_token_body_t::StreamStart { encoding })?;
     push(list, yaml_token_body_t::StreamEnd)
 }
 
-// A stream without documents, and a fault behind it.
-fn ended(alloc: Global) -> Result<yaml_token_list_t, Fail> {
+// Whether a parser of these tokens gives the events of a stream without documents.
+fn ends_stream(alloc: Global, list: yaml_token_list_t) -> bool {
+    match yaml_parser_initialize(alloc, list) {
+        Ok(mut parser) => ends_behind(&mut parser, &EMPTY),
+        Err(_) => false,
+    }
+}
+
+// The same of a stream without documents, and a fault behind it.
+fn ends_before_fault(alloc: Global) -> bool {
     let mut list = yaml_token_list_t::new(alloc);
-    push_stream(&mut list)?;
+    let pushed = push_stream(&mut list);
     list.end(never());
-    Ok(list)
+    let ends = ends_stream(alloc, list);
+    pushed.is_ok() && ends
 }
 
 // Behind the end of the stream no token is asked for.
 #[test]
-fn a_fault_behind_the_stream(rt: HostRuntime) -> Result<(), Fail> {
-    let list = ended(rt.alloc())?;
-    let mut parser = yaml_parser_initialize(rt.alloc(), list)?;
-    ends_behind(&rt, &mut parser, &EMPTY)
+fn endings(rt: HostRuntime) -> Result<(), Fail> {
+    assert!(rt; is_right(rt.alloc(), b"a: 1", Asked::Events(&MAPPING)));
+    assert!(rt; ends_before_fault(rt.alloc()));
+    for (text, before, problem) in &REFUSED {
+        assert!(rt; is_right(rt.alloc(), *text, Asked::Refused(*before, *problem)));
+    }
+    Ok(())
 }

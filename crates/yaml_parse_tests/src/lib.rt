@@ -12,4 +12,6 @@ mod endings;
 #[cfg(test)]
 mod loads;
 #[cfg(test)]
+mod owner;
+#[cfg(test)]
 mod sources;

@@ -17,7 +17,7 @@ use crate::writing::{Watch, emitter_under, finished, write_rest, write_up_to};
 use std::alloc::Global;
 use yaml_emit::yaml_emitter_t;
 use yaml_parse::yaml_found_t;
-use yaml_round_compare::{Reading, read_out, reading_of, yaml_form_t, yaml_settings_t};
+use yaml_round_compare::{Reading, let_go, read_out, reading_of, yaml_form_t, yaml_settings_t};
 use yaml_round_lines::yaml_push_event_line;
 use yaml_round_shape::{Shape, is_json};
 use yaml_scan::{yaml_encoding_t, yaml_fault_t, yaml_memory_fault, yaml_origin_t};
@@ -31,7 +31,7 @@ fn judge(alloc: Global, input: &[u8], from: yaml_encoding_t) -> Result<(), yaml_
 {
     let mut reading = reading_of(alloc, input, from)?;
     let answer = read_out(&mut reading);
-    drop(reading);
+    let_go(reading);
     answer
 }
 
@@ -104,7 +104,7 @@ fn written(
 {
     let mut reading = reading_of(alloc, input, from)?;
     let answer = written_from(alloc, input, from, &mut reading, settings, watch);
-    drop(reading);
+    let_go(reading);
     answer
 }
 
@@ -229,6 +229,6 @@ pub fn yaml_events(
 {
     let mut reading = reading_of(alloc, input, from)?;
     let answer = lines_of(alloc, &mut reading);
-    drop(reading);
+    let_go(reading);
     answer
 }

@@ -13,7 +13,7 @@ ghost use Rattle.yaml_round.specs.Answers.{IsKnown};
 
 use std::alloc::Global;
 use yaml_parse::{yaml_event_t, yaml_found_t};
-use yaml_round_compare::{Reading, normalize_event, reading_of, reads_back, starved_in};
+use yaml_round_compare::{Reading, let_go, normalize_event, reading_of, reads_back, starved_in};
 use yaml_round_kept::after_event;
 use yaml_scan::{yaml_encoding_t, yaml_error_type_t, yaml_fault_t};
 
@@ -75,7 +75,7 @@ fn reads_as_kept(alloc: Global, kept: &[u8], text: &[u8]) -> Result<bool, yaml_f
 {
     let mut reading = reading_of(alloc, text, yaml_encoding_t::YAML_ANY_ENCODING)?;
     let answer = says_kept(&mut reading, kept);
-    drop(reading);
+    let_go(reading);
     answer
 }
 

@@ -12,7 +12,7 @@ use std::alloc::Global;
 use std::collections::VecDeque;
 use yaml_emit::{yaml_emitter_close, yaml_emitter_dump, yaml_emitter_open, yaml_emitter_t};
 use yaml_parse::{yaml_document_set_end_implicit, yaml_document_t, yaml_parser_load};
-use yaml_round_compare::{Reading, reading_of, yaml_settings_t};
+use yaml_round_compare::{Reading, let_go, reading_of, yaml_settings_t};
 use yaml_scan::{yaml_encoding_t, yaml_fault_t, yaml_memory_fault, yaml_origin_t};
 
 // The next document, whose end is made implicit; nothing behind the last.
@@ -67,7 +67,7 @@ fn documents_of(
 {
     let mut reading = reading_of(alloc, input, from)?;
     let answer = documents_from(alloc, &mut reading);
-    drop(reading);
+    let_go(reading);
     answer
 }
 

@@ -10,7 +10,7 @@ ghost use Rattle.yaml_scan.specs.Faults.{Answers, IsMemoryFault, fault_of, parse
 
 use crate::content::agree;
 use crate::normalize::normalize_event;
-use crate::reading::{Reading, read_out, reading_of};
+use crate::reading::{Reading, let_go, read_out, reading_of};
 use crate::settings::yaml_side_t;
 use std::alloc::Global;
 use yaml_parse::{yaml_event_t, yaml_found_t};
@@ -177,7 +177,7 @@ fn reads_as(alloc: Global, first: &mut Reading<'_>, text: &[u8]) -> Result<bool,
 {
     let mut second = reading_of(alloc, text, yaml_encoding_t::YAML_ANY_ENCODING)?;
     let answer = reads_alike(first, &mut second);
-    drop(second);
+    let_go(second);
     answer
 }
 
@@ -194,7 +194,7 @@ pub fn reads_back(
 {
     let mut first = reading_of(alloc, input, from)?;
     let answer = reads_as(alloc, &mut first, text);
-    drop(first);
+    let_go(first);
     answer
 }
 
@@ -213,7 +213,7 @@ fn same_as(
         Err(fault) => Err(behind_first(first, fault)),
         Ok(mut second) => {
             let answer = compared(first, &mut second);
-            drop(second);
+            let_go(second);
             answer
         }
     }
@@ -235,7 +235,7 @@ pub fn yaml_same(
         Err(fault) => Err((yaml_side_t::First, fault)),
         Ok(mut first) => {
             let answer = same_as(alloc, &mut first, b, b_encoding);
-            drop(first);
+            let_go(first);
             answer
         }
     }

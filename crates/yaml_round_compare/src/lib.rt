@@ -9,7 +9,7 @@ mod settings;
 
 pub use compare::{reads_back, starved_in, yaml_same};
 pub use normalize::normalize_event;
-pub use reading::{Reading, read_out, reading_of};
+pub use reading::{Reading, let_go, read_out, reading_of};
 pub use settings::{
     yaml_command_t, yaml_form_t, yaml_output_encoding_t, yaml_settings_t, yaml_side_t,
 };

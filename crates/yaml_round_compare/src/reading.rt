@@ -8,8 +8,8 @@ ghost use Rattle.yaml_round_compare.specs.Reading.{AreReal, Finds, EndsWith};
 
 use std::alloc::Global;
 use yaml_parse::{
-    yaml_event_body_t, yaml_event_t, yaml_found_t, yaml_parser_initialize, yaml_parser_parse_into,
-    yaml_parser_t,
+    yaml_event_body_t, yaml_event_t, yaml_found_t, yaml_parser_delete, yaml_parser_initialize,
+    yaml_parser_parse_into, yaml_parser_t,
 };
 use yaml_round_adapter::yaml_adapter_t;
 use yaml_scan::{yaml_encoding_t, yaml_fault_t, yaml_memory_fault, yaml_origin_t};
@@ -52,6 +52,13 @@ impl Reading<'_> {
     {
         yaml_parser_parse_into(&mut self.parser, &mut self.event, &mut self.fault)
     }
+}
+
+/// Lets a reading go. It is a call, so that no owner's proof writes out the drop of all that a parser holds.
+pub fn let_go(reading: Reading<'_>) {
+    let Reading { parser, event, .. } = reading;
+    yaml_parser_delete(parser);
+    drop(event);
 }
 
 /// Reads to the end. The fault that is met is the answer.

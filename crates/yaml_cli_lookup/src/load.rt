@@ -9,7 +9,7 @@ ghost use Rattle.yaml_cli_lookup.specs.Lookup.{IsLoaded, IsDue, IsFound, bytes_o
 use crate::error::{LookupError, error_of};
 use crate::value::{has_mapping, value_of};
 use std::alloc::Global;
-use yaml_parse::{yaml_document_t, yaml_parser_initialize, yaml_parser_load};
+use yaml_parse::{yaml_document_t, yaml_parser_delete, yaml_parser_initialize, yaml_parser_load};
 use yaml_round_adapter::yaml_adapter_t;
 use yaml_scan::{yaml_encoding_t, yaml_fault_t};
 
@@ -22,7 +22,9 @@ fn first_document(
     ensures { Answers load_layers (λ d. d) (IsFirst encoding input.now) result }
 {
     let mut parser = yaml_parser_initialize(alloc, yaml_adapter_t::new(alloc, input, encoding))?;
-    yaml_parser_load(&mut parser)
+    let answer = yaml_parser_load(&mut parser);
+    yaml_parser_delete(parser);
+    answer
 }
 
 /// The first document of the input, whose root is a mapping. No document behind it is loaded.

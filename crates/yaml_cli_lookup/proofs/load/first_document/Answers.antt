@@ -4,6 +4,6 @@ use Rattle.yaml_cli_lookup.proofs.load.first_document.Goals as goal
 
 pub returns : goal.returns
 returns c =
-    first_answers c.args.encoding c.args.input.now c.new.result c.in_ok-parser.parser _ c.yaml_parser_load.result
+    first_answers c.args.encoding c.args.input.now c.new.result c.in_ok-parser.parser _ c.yaml_parser_load-answer.result
     c.new.ensures c.in_ok-parser.ensures.events c.in_ok-parser.ensures.fault
-    c.yaml_parser_load.ensures.ok c.yaml_parser_load.ensures.err
+    c.yaml_parser_load-answer.ensures.ok c.yaml_parser_load-answer.ensures.err

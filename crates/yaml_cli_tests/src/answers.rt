@@ -1,7 +1,8 @@
 //! Command lines that are answered.
 
-use crate::check::{Answer, Case, are_answered, check_over, told};
+use crate::check::{Answer, Case, Told, Want, are_answered, are_told, check};
 use std::test::Fail;
+use yaml_round_scripted::step_t;
 
 const FORMATS: [Answer; 5] = [
     (&["x", "fmt"], b"foo", b"---\n! \"foo\"\n"),
@@ -23,12 +24,6 @@ const FORMATS: [Answer; 5] = [
     ),
 ];
 
-#[test]
-fn formats(rt: HostRuntime) -> Result<(), Fail> {
-    are_answered(&rt, &FORMATS);
-    Ok(())
-}
-
 const COLUMNS: [Answer; 3] = [
     (
         &["x", "fmt", "--width", "10"],
@@ -42,12 +37,6 @@ const COLUMNS: [Answer; 3] = [
     ),
     (&["x", "fmt", "--break", "cr"], b"foo", b"---\r! \"foo\"\r"),
 ];
-
-#[test]
-fn columns(rt: HostRuntime) -> Result<(), Fail> {
-    are_answered(&rt, &COLUMNS);
-    Ok(())
-}
 
 const ENCODINGS: [Answer; 4] = [
     (&["x", "fmt", "--ascii"], b"\xC3\xA9", b"---\n! \"\\xE9\"\n"),
@@ -67,12 +56,6 @@ const ENCODINGS: [Answer; 4] = [
         b"\xFF\xFE-\0-\0-\0\n\0\"\0\x3D\xD8\x00\xDE\"\0\n\0",
     ),
 ];
-
-#[test]
-fn encodings(rt: HostRuntime) -> Result<(), Fail> {
-    are_answered(&rt, &ENCODINGS);
-    Ok(())
-}
 
 const SPELLED: [Answer; 12] = [
     (&["x", "fmt", "--break", "lf"], b"foo", b"---\n! \"foo\"\n"),
@@ -125,53 +108,40 @@ const SPELLED: [Answer; 12] = [
     (&["x", "fmt", "--limit", "12"], b"foo", b"---\n! \"foo\"\n"),
 ];
 
-#[test]
-fn breaks_and_encodings(rt: HostRuntime) -> Result<(), Fail> {
-    are_answered(&rt, &SPELLED);
-    Ok(())
-}
-
-const ACCEPTED: [(&[&str], bool); 6] = [
-    (&["x", "--help"], true),
-    (&["x", "fmt", "--help"], true),
-    (&["x", "same", "-h"], true),
-    (&["x", "fmt", "--indent", "2147483647"], false),
-    (&["x", "fmt", "--width", "2147483647"], false),
-    (&["x", "docs", "--limit", "1099511627776"], false),
-];
-
 // Help is written, and the greatest numbers are taken.
-#[test]
-fn accepted_words(rt: HostRuntime) -> Result<(), Fail> {
-    for (words, writes) in &ACCEPTED {
-        assert_eq!(rt; told(&rt, *words), (0, *writes, false), "{words:?}");
-    }
-    Ok(())
-}
+const ACCEPTED: [Told; 6] = [
+    (&["x", "--help"], 0, true, false),
+    (&["x", "fmt", "--help"], 0, true, false),
+    (&["x", "same", "-h"], 0, true, false),
+    (&["x", "fmt", "--indent", "2147483647"], 0, false, false),
+    (&["x", "fmt", "--width", "2147483647"], 0, false, false),
+    (&["x", "docs", "--limit", "1099511627776"], 0, false, false),
+];
 
 const FALL_BACK: Case = Case {
     words: &["x", "fmt", "--pretty"],
-    input: b"!",
+    reads: &[step_t::Piece(b"!")],
+    writes: &[],
+    tells: &[],
     status: 0,
-    output: b"---\n! \"\"\n",
-    errors: "yaml_cli: canonical form was written\n",
+    want: Want::Exactly(b"---\n! \"\"\n", "yaml_cli: canonical form was written\n"),
 };
 
-#[test]
-fn a_fall_back_is_told(rt: HostRuntime) -> Result<(), Fail> {
-    check_over(&rt, FALL_BACK, &[]);
-    Ok(())
-}
-
+// Each argument has its words; docs/man and completions/ are made of these.
 const HELP: [Answer; 1] = [(
     &["x", "same", "--help"],
     b"",
     b"Tells whether two files have the same content\n\nUsage: yaml_cli same [OPTIONS] <A> <B>\n\nArguments:\n  <A>  The file to compare\n  <B>  The file that it is compared with\n\nOptions:\n      --from <ENCODING>  How the input is encoded: auto, utf8, utf16le or utf16be [default: auto]\n  -h, --help             Print help\n",
 )];
 
-// Each argument has its words; docs/man and completions/ are made of these.
 #[test]
-fn help_tells_each_argument(rt: HostRuntime) -> Result<(), Fail> {
+fn answers(rt: HostRuntime) -> Result<(), Fail> {
+    are_answered(&rt, &FORMATS);
+    are_answered(&rt, &COLUMNS);
+    are_answered(&rt, &ENCODINGS);
+    are_answered(&rt, &SPELLED);
+    are_told(&rt, &ACCEPTED);
+    check(&rt, FALL_BACK);
     are_answered(&rt, &HELP);
     Ok(())
 }

@@ -1,7 +1,8 @@
 //! Commands over files.
 
-use crate::check::{Answer, Case, Refusal, are_answered, are_refused, check_over};
+use crate::check::{Answer, Case, Refusal, Want, are_answered, are_refused, check};
 use std::fs;
+use std::rt::Files;
 use std::test::Fail;
 use yaml_round_scripted::write_step_t;
 
@@ -40,32 +41,46 @@ const REFUSED: [Refusal; 3] = [
     ),
 ];
 
-#[test]
-fn files(rt: HostRuntime) -> Result<(), Fail> {
-    for (name, text) in &FILES {
-        fs::write(&rt, *name, *text)?;
-    }
-    are_answered(&rt, &ANSWERED);
-    are_refused(&rt, &REFUSED);
-    for (name, _) in &FILES {
-        fs::remove_file(&rt, *name)?;
-    }
-    Ok(())
-}
-
+// The answer of `same` where writing fails.
 const CUT: Case = Case {
-    words: &["x", "same", "like.yaml", "like.yaml"],
-    input: b"",
+    words: &["x", "same", "one.yaml", "one.yaml"],
+    reads: &[],
+    writes: &[write_step_t::Takes(3), write_step_t::Failure],
+    tells: &[],
     status: 1,
-    output: b"equ",
-    errors: "yaml_cli: write failed after 3 bytes\n",
+    want: Want::Exactly(b"equ", "yaml_cli: write failed after 3 bytes\n"),
 };
 
-// The answer of `same` where writing fails.
+fn write<H: Files>(rt: &H, name: &str, text: &str) -> bool {
+    fs::write(rt, name, text).is_ok()
+}
+
+fn write_all<H: Files>(rt: &H) -> bool {
+    let mut written = true;
+    for (name, text) in &FILES {
+        written = write(rt, *name, *text) && written;
+    }
+    written
+}
+
+fn remove<H: Files>(rt: &H, name: &str) -> bool {
+    fs::remove_file(rt, name).is_ok()
+}
+
+fn remove_all<H: Files>(rt: &H) -> bool {
+    let mut removed = true;
+    for (name, _) in &FILES {
+        removed = remove(rt, *name) && removed;
+    }
+    removed
+}
+
 #[test]
-fn a_failing_writer(rt: HostRuntime) -> Result<(), Fail> {
-    fs::write(&rt, "like.yaml", "foo")?;
-    check_over(&rt, CUT, &[write_step_t::Takes(3), write_step_t::Failure]);
-    fs::remove_file(&rt, "like.yaml")?;
+fn files(rt: HostRuntime) -> Result<(), Fail> {
+    assert!(rt; write_all(&rt));
+    are_answered(&rt, &ANSWERED);
+    are_refused(&rt, &REFUSED);
+    check(&rt, CUT);
+    assert!(rt; remove_all(&rt));
     Ok(())
 }

@@ -1,59 +1,83 @@
 //! Values looked up by their keys.
 
+use std::alloc::Global;
 use std::test::Fail;
 use yaml_cli_lookup::{LookupError, load_mapping, lookup, value_of};
-use yaml_scan::yaml_encoding_t;
+use yaml_scan::{yaml_encoding_t, yaml_fault_t};
 
 const UTF8: yaml_encoding_t = yaml_encoding_t::YAML_UTF8_ENCODING;
 
 // Whether the text's value for the key is that one.
-fn finds(rt: &HostRuntime, text: &str, key: &str, value: Option<&[u8]>) -> Result<bool, Fail> {
-    let found = lookup(rt.alloc(), text.as_bytes(), UTF8, key.as_bytes())?;
-    Ok(found.as_deref() == value)
+fn finds(alloc: Global, text: &str, key: &str, value: Option<&[u8]>) -> bool {
+    match lookup(alloc, text.as_bytes(), UTF8, key.as_bytes()) {
+        Ok(found) => found.as_deref() == value,
+        Err(_) => false,
+    }
 }
 
-#[test]
-fn a_value_is_found(rt: HostRuntime) -> Result<(), Fail> {
-    let text = "name: mill\n\"port\": '80'\nhosts: [a, b]\n";
-    assert!(rt; finds(&rt, text, "name", Some(b"mill"))?);
-    assert!(rt; finds(&rt, text, "port", Some(b"80"))?);
-    assert!(rt; finds(&rt, text, "hosts", None)?);
-    assert!(rt; finds(&rt, text, "nam", None)?);
-    assert!(rt; finds(&rt, text, "fort", None)?);
-    Ok(())
-}
+// A text, a key, and its value in it.
+type Row<'a> = (&'a str, &'a str, Option<&'a [u8]>);
+
+const SETTINGS: &str = "name: mill\n\"port\": '80'\nhosts: [a, b]\n";
+
+const FIRST: &str = "[a]: 1\na: [2]\na: &x 3\na: 4\nb: *x\n*x : 5\n--- &\n";
 
 // Pairs whose key or value isn't a scalar are passed over; an alias stands for its scalar.
+const VALUES: [Row; 8] = [
+    (SETTINGS, "name", Some(b"mill")),
+    (SETTINGS, "port", Some(b"80")),
+    (SETTINGS, "hosts", None),
+    (SETTINGS, "nam", None),
+    (SETTINGS, "fort", None),
+    (FIRST, "a", Some(b"3")),
+    (FIRST, "b", Some(b"3")),
+    (FIRST, "3", Some(b"5")),
+];
+
 #[test]
-fn the_first_scalar_counts(rt: HostRuntime) -> Result<(), Fail> {
-    let text = "[a]: 1\na: [2]\na: &x 3\na: 4\nb: *x\n*x : 5\n--- &\n";
-    assert!(rt; finds(&rt, text, "a", Some(b"3"))?);
-    assert!(rt; finds(&rt, text, "b", Some(b"3"))?);
-    assert!(rt; finds(&rt, text, "3", Some(b"5"))?);
+fn values(rt: HostRuntime) -> Result<(), Fail> {
+    for (text, key, value) in &VALUES {
+        assert!(rt; finds(rt.alloc(), *text, *key, *value), "{key}");
+    }
     Ok(())
+}
+
+fn is_not_a_mapping(alloc: Global, text: &str) -> bool {
+    let refused = load_mapping(alloc, text.as_bytes(), UTF8);
+    matches!(&refused, Err(LookupError::NotAMapping))
+}
+
+fn has_no_value(alloc: Global, text: &str) -> bool {
+    match load_mapping(alloc, text.as_bytes(), UTF8) {
+        Ok(document) => value_of(&document, b"").is_none(),
+        Err(_) => false,
+    }
 }
 
 #[test]
 fn another_root_is_refused(rt: HostRuntime) -> Result<(), Fail> {
-    let alloc = rt.alloc();
     for text in ["", "a", "[a, b]"] {
-        let refused = load_mapping(alloc, text.as_bytes(), UTF8);
-        assert!(rt; matches!(&refused, Err(LookupError::NotAMapping)));
+        assert!(rt; is_not_a_mapping(rt.alloc(), text));
     }
-    let document = load_mapping(alloc, b"{}", UTF8)?;
-    assert!(rt; value_of(&document, b"").is_none());
+    assert!(rt; has_no_value(rt.alloc(), "{}"));
     Ok(())
+}
+
+fn is_undefined(fault: &yaml_fault_t) -> bool {
+    fault.problem == "found undefined alias"
+        && fault.problem_mark.line == 1
+        && fault.problem_mark.column == 3
+}
+
+fn tells_undefined(alloc: Global, text: &str) -> bool {
+    match lookup(alloc, text.as_bytes(), UTF8, b"a") {
+        Err(LookupError::Unreadable(fault)) => is_undefined(&fault),
+        _ => false,
+    }
 }
 
 #[test]
 fn a_fault_is_told(rt: HostRuntime) -> Result<(), Fail> {
-    match lookup(rt.alloc(), b"a: 1\nb: *c\n", UTF8, b"a") {
-        Err(LookupError::Unreadable(fault)) => {
-            assert_eq!(rt; fault.problem, "found undefined alias");
-            assert_eq!(rt; fault.problem_mark.line, 1);
-            assert_eq!(rt; fault.problem_mark.column, 3);
-        }
-        _ => assert!(rt; false, "no fault"),
-    }
+    assert!(rt; tells_undefined(rt.alloc(), "a: 1\nb: *c\n"));
     Ok(())
 }

@@ -1,6 +1,6 @@
 //! Command lines that are refused.
 
-use crate::check::{Refusal, are_refused, told};
+use crate::check::{Refusal, Told, are_refused, are_told};
 use std::test::Fail;
 
 const NO_INPUT: &str = "yaml_cli: cannot read the input\n";
@@ -39,12 +39,8 @@ const REFUSED: [Refusal; 6] = [
     ),
 ];
 
-#[test]
-fn refusals(rt: HostRuntime) -> Result<(), Fail> {
-    are_refused(&rt, &REFUSED);
-    Ok(())
-}
-
+// Of several unknown words the first in the order of break, encoding and input encoding is told, before a file is
+// opened.
 const UNKNOWN: [Refusal; 6] = [
     (
         &[
@@ -94,38 +90,22 @@ const UNKNOWN: [Refusal; 6] = [
     ),
 ];
 
-// Of several unknown words the first in the order of break, encoding and input encoding is told, before a file is
-// opened.
-#[test]
-fn unknown_words(rt: HostRuntime) -> Result<(), Fail> {
-    are_refused(&rt, &UNKNOWN);
-    Ok(())
-}
-
-const WRONG: [&[&str]; 14] = [
-    &["x"],
-    &["x", "bogus"],
-    &["x", "fmt", "a", "b"],
-    &["x", "same", "a"],
-    &["x", "same", "a", "b", "c"],
-    &["x", "docs", "--pretty"],
-    &["x", "events", "--indent", "2"],
-    &["x", "same", "--ascii", "a", "b"],
-    &["x", "fmt", "--from"],
-    &["x", "fmt", "--indent", "-1"],
-    &["x", "fmt", "--indent", "2147483648"],
-    &["x", "fmt", "--width", "x"],
-    &["x", "fmt", "--limit", "1099511627777"],
-    &["x", "fmt", "--pretty", "--pretty"],
+const WRONG: [Told; 14] = [
+    (&["x"], 2, false, true),
+    (&["x", "bogus"], 2, false, true),
+    (&["x", "fmt", "a", "b"], 2, false, true),
+    (&["x", "same", "a"], 2, false, true),
+    (&["x", "same", "a", "b", "c"], 2, false, true),
+    (&["x", "docs", "--pretty"], 2, false, true),
+    (&["x", "events", "--indent", "2"], 2, false, true),
+    (&["x", "same", "--ascii", "a", "b"], 2, false, true),
+    (&["x", "fmt", "--from"], 2, false, true),
+    (&["x", "fmt", "--indent", "-1"], 2, false, true),
+    (&["x", "fmt", "--indent", "2147483648"], 2, false, true),
+    (&["x", "fmt", "--width", "x"], 2, false, true),
+    (&["x", "fmt", "--limit", "1099511627777"], 2, false, true),
+    (&["x", "fmt", "--pretty", "--pretty"], 2, false, true),
 ];
-
-#[test]
-fn wrong_words(rt: HostRuntime) -> Result<(), Fail> {
-    for words in &WRONG {
-        assert_eq!(rt; told(&rt, *words), (2, false, true), "{words:?}");
-    }
-    Ok(())
-}
 
 const MISSING: [Refusal; 4] = [
     (&["x", "docs", "no/such/file"], b"", 1, NO_INPUT),
@@ -140,7 +120,10 @@ const MISSING: [Refusal; 4] = [
 ];
 
 #[test]
-fn missing_files(rt: HostRuntime) -> Result<(), Fail> {
+fn refusals(rt: HostRuntime) -> Result<(), Fail> {
+    are_refused(&rt, &REFUSED);
+    are_refused(&rt, &UNKNOWN);
+    are_told(&rt, &WRONG);
     are_refused(&rt, &MISSING);
     Ok(())
 }

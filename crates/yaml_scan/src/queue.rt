@@ -61,7 +61,7 @@ impl Queue {
     #[inline(always)]
     pub(crate) fn mark(&mut self, i: usize, lexeme: Lexeme, opens: Opens)
         requires { i < length self.old.items }
-        ensures { (w : shows.Waiting) → self.new.items ≡ slice_set self.old.items i
+        ensures { (w : Waiting) → self.new.items ≡ slice_set self.old.items i
             (shows.marked lexeme opens (slice_index_or self.old.items i w)) }
     {
         self.slots[self.first + i].mark(lexeme, opens);
@@ -133,7 +133,7 @@ impl Queue {
     pub(crate) fn pop_body(&mut self) -> yaml_token_body_t
         requires { 0 < length self.old.items }
         ensures rest { self.new.items ≡ drop 1 self.old.items }
-        ensures body { (w : shows.Waiting) → result ≡ (slice_index_or self.old.items 0 w).body }
+        ensures body { (w : Waiting) → result ≡ (slice_index_or self.old.items 0 w).body }
     {
         let body = mem::replace(&mut self.slots[self.first].body, yaml_token_body_t::No);
         self.first += 1;

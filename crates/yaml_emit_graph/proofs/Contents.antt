@@ -8,7 +8,9 @@ use Rattle.yaml_emit_layout.specs.Content.{Node, Nodes, Pairs, node, pair, no_no
 use Rattle.yaml_parse_document.specs.Documents.{seq_tag, map_tag}
 use Rattle.yaml_emit_graph.specs.declared.walk.Turn.{Turn}
 use Rattle.yaml_emit_graph.specs.declared.walk.Turn.TheVariants.{Leave}
-use Rattle.yaml_emit_graph.specs.Graph.{Met, is_met, meet, pair_ids, body_of_id, tag_of_id, Rest, over, inside, visits, none_met, nothing_left, turns, numbers, number_at, anchor_of, graph_start, opening_event, closing_event, turn_event, items_by, pairs_by, node_by, content_by, itself, graph_root, graph_opening, dumped}
+use Rattle.yaml_emit_graph.specs.Graph.{Met, is_met, meet, pair_ids, body_of_id, tag_of_id, none_met, numbers, number_at, anchor_of, graph_start, opening_event, closing_event, turn_event, graph_opening, dumped}
+use Rattle.yaml_emit_graph.specs.Onward.{Rest, over, inside, visits, nothing_left, items_by, pairs_by, node_by, content_by, itself, turns_onward, root_onward}
+use Rattle.yaml_emit_graph.proofs.Joining.{root_joined}
 
 abbrev emitter_events : List ℕ → List model.Node → List Event → List Turn → List Event
 emitter_events table nodes es ts = map (turn_event table nodes) ts ++ es
@@ -63,8 +65,10 @@ visit_follows (suc n) table nodes es = λ id met k r g f h.
     (node_follows table nodes es (content_by n table nodes) (visits n nodes) (visit_follows n table nodes es) (body_of_id nodes id) id (anchor_of (number_at table id)) (tag_of_id nodes id) (meet met id) k r g f refl h)
 
 -- the events of a dump are the document's start, those of the turns of the walk, and the document's end
-pub dumped_turns : (d : Document) → dumped d ≡ document_start (graph_opening d) ∷ (map (turn_event (numbers d.nodes) d.nodes) (turns d.nodes) ++ document_end d.end_implicit ∷ [])
-unfolding dumped graph_root turns
+pub dumped_turns : (d : Document) → dumped d ≡ document_start (graph_opening d) ∷ (map (turn_event (numbers d.nodes) d.nodes) (turns_onward d.nodes) ++ document_end d.end_implicit ∷ [])
+unfolding dumped root_onward turns_onward
 dumped_turns d =
     let es : List Event = document_end d.end_implicit ∷ [] in
-    ap (λ z. document_start (graph_opening d) ∷ z) (visit_follows (suc (length d.nodes)) (numbers d.nodes) d.nodes es (pos 1) (none_met d.nodes) itself nothing_left (λ v. node_events v es) (λ t. t) (λ v m. refl))
+    ap (λ z. document_start (graph_opening d) ∷ z)
+    (ap (λ v. node_events v es) (sym (root_joined d.nodes))
+    ∙ visit_follows (suc (length d.nodes)) (numbers d.nodes) d.nodes es (pos 1) (none_met d.nodes) itself nothing_left (λ v. node_events v es) (λ t. t) (λ v m. refl))

@@ -3,8 +3,10 @@ use Rattle.std.proofs.Common.{◌≡◌, ℕ, ◌+◌, ◌<◌, ◌≤◌, List,
 use Rattle.std.specs.Prelude.{zero, suc, replicate, set}
 use Rattle.yaml_parse_model.specs.Nodes.{Node}
 use Rattle.yaml_emit_graph.specs.declared.walk.Turn.{Turn}
-use Rattle.yaml_emit_graph.specs.Graph.{Numbering, numbers, numbered, numbered_by, none_numbered, turns}
+use Rattle.yaml_emit_graph.specs.Graph.{Numbering, numbers, numbered, numbered_by, none_numbered}
+use Rattle.yaml_emit_graph.specs.Onward.{turns_onward}
 use Rattle.yaml_emit_graph.specs.Numbers.{counted, IsNumbering}
+use Rattle.yaml_emit_graph.proofs.Joining.{turns_joined}
 
 counted_most : (t : List ℕ) → counted t ≤ length t
 counted_most [] = omega arith
@@ -47,9 +49,9 @@ none_numbers n = record { counts = sym (none_counted n) }
 pub numbered_start : (a : Numbering) (count : ℕ) → a ≡ none_numbered count → IsNumbering a
 numbered_start a count e = let P : Numbering → Type 0 = λ z. IsNumbering z in subst P (sym e) (none_numbers count)
 
-pub numbers_start : (nodes : List Node) (a : Numbering) (ts : List Turn) (count : ℕ) → a ≡ none_numbered count → count ≡ length nodes → ts ≡ turns nodes → numbers nodes ≡ (numbered a ts).table
+pub numbers_start : (nodes : List Node) (a : Numbering) (ts : List Turn) (count : ℕ) → a ≡ none_numbered count → count ≡ length nodes → ts ≡ turns_onward nodes → numbers nodes ≡ (numbered a ts).table
 unfolding numbers
-numbers_start nodes a ts count e n t = rw (e, n, t) refl
+numbers_start nodes a ts count e n t = rw (e, n, t ∙ turns_joined nodes) refl
 
 pub numbers_more : (table : List ℕ) (a b : Numbering) (t : Turn) (ts us : List Turn) → table ≡ (numbered a ts).table → ts ≡ t ∷ us → b ≡ numbered_by t a → table ≡ (numbered b us).table
 unfolding numbered

@@ -3,3 +3,4 @@ pub mod Contents
 pub mod Counting
 pub mod Naming
 pub mod Leaving
+pub mod Joining

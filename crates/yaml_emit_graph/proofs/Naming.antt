@@ -1,11 +1,11 @@
 -- Names, and texts that are UTF-8.
-use Rattle.std.proofs.Common.{◌≡◌, ℕ, ◌<◌, ◌^◌, List, [], ◌∷◌, ◌++◌, length, Bool, true, false, refl, subst, Some, decimal, rules}
-use Rattle.std.specs.Prelude.{zero, suc, ℤ, pos, negsuc, ◌==◌, if◌then◌else◌, codes, slice_get}
+use Rattle.std.proofs.Common.{◌≡◌, ℕ, ◌<◌, ◌^◌, List, ◌++◌, length, Bool, true, false, refl, subst, Option, Some, None, decimal, rules}
+use Rattle.std.specs.Prelude.{◌==◌, if◌then◌else◌, codes}
 use Rattle.std.specs.Str.{IsUtf8}
 use Rattle.std.proofs.lemmas.Str.{IsUtf8-append, IsUtf8-from_ascii}
 use Rattle.std.proofs.lemmas.Fmt.{IsAscii-decimal}
 use Rattle.yaml_parse_model.specs.Nodes as model
-use Rattle.yaml_parse_document.specs.Documents.{node_at, IsSoundBody, IsSoundNode, AreSound}
+use Rattle.yaml_parse_document.specs.Documents.{IsSoundBody, IsSoundAt}
 use Rattle.yaml_emit_graph.specs.Graph.{lead, name_of}
 use Rattle.yaml_emit_graph.specs.Events.{IsUtf8Body}
 
@@ -24,16 +24,6 @@ pub name_made : (number size : ℕ) (items digits front : List ℕ) → digits �
 unfolding name_of
 name_made number size items digits front d n f e = rw (e, f, n, d) refl
 
-sound_item : (n : ℕ) (nodes : List model.Node) (k : ℕ) (m : model.Node) → AreSound n nodes → Some m ≡ slice_get nodes k → IsSoundNode n m
-sound_item n [] k m h e = absurd (cc)
-sound_item n (x ∷ xs) zero m h e = let s : x ≡ m = cc in let P : model.Node → Type 0 = λ z. IsSoundNode n z in subst P s h.0
-sound_item n (x ∷ xs) (suc k) m h e = sound_item n xs k m h.1 e
-
-sound_at : (n : ℕ) (nodes : List model.Node) (id : ℤ) (m : model.Node) → AreSound n nodes → Some m ≡ node_at nodes id → IsSoundNode n m
-sound_at n nodes (pos zero) m h e = absurd (cc)
-sound_at n nodes (pos (suc k)) m h e = sound_item n nodes k m h e
-sound_at n nodes (negsuc k) m h e = absurd (cc)
-
 body_utf8 : (n : ℕ) (b : model.NodeBody) → IsSoundBody n b → IsUtf8Body b
 body_utf8 n model.no h = tt
 body_utf8 n (model.scalar value style) h = h
@@ -41,5 +31,9 @@ body_utf8 n (model.sequence items style) h = tt
 body_utf8 n (model.mapping pairs style) h = tt
 
 -- the texts of a document's node
-pub utf8_at : (n : ℕ) (nodes : List model.Node) (id : ℤ) (m : model.Node) → AreSound n nodes → Some m ≡ node_at nodes id → IsUtf8 m.tag × IsUtf8Body m.body
-utf8_at n nodes id m h e = let s = sound_at n nodes id m h e in (s.0, body_utf8 n m.body s.1)
+pub utf8_at : (n : ℕ) (r : Option model.Node) (m : model.Node) → IsSoundAt n r → Some m ≡ r → IsUtf8 m.tag × IsUtf8Body m.body
+utf8_at n None m s e = absurd (cc)
+utf8_at n (Some x) m s e =
+    let same : x ≡ m = cc in
+    let P : model.Node → Type 0 = λ z. IsUtf8 z.tag × IsUtf8Body z.body in
+    subst P same (s.0, body_utf8 n x.body s.1)

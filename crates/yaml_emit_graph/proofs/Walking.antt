@@ -9,7 +9,8 @@ use Rattle.yaml_emit_graph.specs.declared.walk.Turn.{Turn}
 use Rattle.yaml_emit_graph.specs.declared.walk.Turn.TheVariants.{First, Again, Leave}
 use Rattle.yaml_emit_graph.specs.declared.walk.Open.{Open}
 use Rattle.yaml_emit_graph.specs.declared.walk.Walk.{Walk}
-use Rattle.yaml_emit_graph.specs.Graph.{Met, place_at, met_at, meet_at, is_met, meet, pair_ids, child_ids, is_collection, body_of_id, Rest, over, inside, visits, nothing_left, turns}
+use Rattle.yaml_emit_graph.specs.Graph.{Met, place_at, met_at, meet_at, is_met, meet, pair_ids, child_ids, is_collection, body_of_id}
+use Rattle.yaml_emit_graph.specs.Onward.{Rest, over, inside, visits, nothing_left, turns_onward}
 use Rattle.yaml_emit_graph.specs.Walk.{pairs_left, left_of, NextChild, next_of_pair, rest_of, stack, stack_of, opened, frames, remaining_by, remaining_turns, marked, IsWalk, with_opened, Visited, Comes}
 
 visit_again : (n : ℕ) (nodes : List model.Node) (id : ℤ) (r : Rest) (met : Met) → is_met met id ≡ true → visits (suc n) nodes id r met ≡ Again id ∷ r met
@@ -47,15 +48,15 @@ sum_set (false ∷ xs) zero h = refl
 sum_set (true ∷ xs) (suc k) h = ap suc (sum_set xs k h)
 sum_set (false ∷ xs) (suc k) h = sum_set xs k h
 
-sum_meet_at : (met : Met) (p : Option ℕ) → met_at met p ≡ false → marked (meet_at met p) ≡ suc (marked met)
+pub sum_meet_at : (met : Met) (p : Option ℕ) → met_at met p ≡ false → marked (meet_at met p) ≡ suc (marked met)
 sum_meet_at met None h = absurd (cc)
 sum_meet_at met (Some k) h = sum_set met k h
 
-length_meet_at : (met : Met) (p : Option ℕ) → length (meet_at met p) ≡ length met
+pub length_meet_at : (met : Met) (p : Option ℕ) → length (meet_at met p) ≡ length met
 length_meet_at met None = refl
 length_meet_at met (Some k) = length-set met k true
 
-sum_most : (met : Met) → marked met ≤ length met
+pub sum_most : (met : Met) → marked met ≤ length met
 sum_most [] = omega arith
 sum_most (true ∷ xs) = let e = sum_most xs in omega arith
 sum_most (false ∷ xs) = let e = sum_most xs in omega arith
@@ -211,8 +212,8 @@ root_met nodes old mid new t s w km out m sm v =
 
 -- nothing was met
 pub fresh_walk : (nodes : List model.Node) (w : Walk) (count : ℕ) → count ≡ length nodes → w.started ≡ false → stack_of w ≡ [] → w.met.items ≡ replicate count false
-    → IsWalk nodes w × (remaining_turns nodes w ≡ turns nodes)
-unfolding remaining_turns turns
+    → IsWalk nodes w × (remaining_turns nodes w ≡ turns_onward nodes)
+unfolding remaining_turns turns_onward
 fresh_walk nodes w count n s k m = (
   record {
     sized = ap length m ∙ length-replicate count false ∙ n;

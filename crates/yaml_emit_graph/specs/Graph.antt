@@ -68,33 +68,75 @@ body_of_id nodes id = body_at (node_at nodes id)
 abbrev pub tag_of_id : List model.Node → ℤ → List ℕ
 tag_of_id nodes id = tag_at (node_at nodes id)
 
--- what a walk still meets, by what was met
-abbrev pub Rest : Type 0
-Rest = Met → List Turn
-
-unfoldable pub over : (ℤ → Rest → Rest) → List ℤ → Rest → Rest
-over visit [] rest = rest
-over visit (id ∷ ids) rest = visit id (over visit ids rest)
-
--- a collection is left behind what it holds
-abbrev pub inside : (ℤ → Rest → Rest) → ℤ → model.NodeBody → Rest → Rest
-inside visit id body rest = if is_collection body then over visit (child_ids body)
-    (λ m. Leave id ∷ rest m) else rest
-
--- From a node on. The first number bounds the depth: there are no more nodes.
-unfoldable pub visits : ℕ → List model.Node → ℤ → Rest → Rest
-visits zero nodes id rest met = Again id ∷ rest met
-visits (suc n) nodes id rest met = if is_met met id then Again id ∷ rest met else First id ∷ inside
-    (visits n nodes) id (body_of_id nodes id) rest (meet met id)
-
 abbrev pub none_met : List model.Node → Met
 none_met nodes = replicate (length nodes) false
 
-abbrev pub nothing_left : Rest
-nothing_left met = []
+mutual
+  -- The visit of the node under a number: it was met before; or it is met first, and what it holds is visited behind it. (A
+  -- visit is cut off where the bound of the depth is used up: a law says that none is.)
+  pub data Visit : Type 0 where
+    cut_off : Visit
+    met_again : ℤ → Visit
+    met_first : ℤ → Visits → Visit
+
+  pub data Visits : Type 0 where
+    no_visits : Visits
+    visit : Visit → Visits → Visits
+
+abbrev pub in_front : Visit → Visits × Met → Visits × Met
+in_front v r = (visit v r.0, r.1)
+
+abbrev pub and_then : Visit × Met → (Met → Visits × Met) → Visits × Met
+and_then r rest = in_front r.0 (rest r.1)
+
+-- the nodes under some numbers, one after another
+unfoldable pub visit_all : (ℤ → Met → Visit × Met) → List ℤ → Met → Visits × Met
+visit_all one [] met = (no_visits, met)
+visit_all one (id ∷ ids) met = and_then (one id met) (visit_all one ids)
+
+abbrev pub first_with : ℤ → Visits × Met → Visit × Met
+first_with id r = (met_first id r.0, r.1)
+
+-- The node under a number, and which nodes are met then. The first number bounds the depth: there are no more nodes.
+unfoldable pub visit_node : ℕ → List model.Node → ℤ → Met → Visit × Met
+visit_node zero nodes id met = (cut_off, met)
+visit_node (suc n) nodes id met = if is_met met id then (met_again id, met) else first_with id
+    (visit_all (visit_node n nodes) (child_ids (body_of_id nodes id)) (meet met id))
+
+-- no visit is cut off
+abbrev mutual
+  pub IsWhole : Visit → Type 0
+  IsWhole cut_off = ⊥
+  IsWhole (met_again id) = Unit {0}
+  IsWhole (met_first id vs) = AreWhole vs
+
+  pub AreWhole : Visits → Type 0
+  AreWhole no_visits = Unit {0}
+  AreWhole (visit v vs) = IsWhole v × AreWhole vs
+
+-- the whole walk: the visit of the root
+unfoldable pub walked : List model.Node → Visit
+walked nodes = (visit_node (suc (length nodes)) nodes (pos 1) (none_met nodes)).0
+
+-- ---- its turns, in their order
+
+-- a collection is left behind what it holds
+abbrev pub leaving : ℤ → model.NodeBody → List Turn
+leaving id body = if is_collection body then Leave id ∷ [] else []
+
+abbrev mutual
+  pub turns_of : List model.Node → Visit → List Turn
+  turns_of nodes cut_off = []
+  turns_of nodes (met_again id) = Again id ∷ []
+  turns_of nodes (met_first id vs) =
+      First id ∷ (turns_in nodes vs ++ leaving id (body_of_id nodes id))
+
+  pub turns_in : List model.Node → Visits → List Turn
+  turns_in nodes no_visits = []
+  turns_in nodes (visit v vs) = turns_of nodes v ++ turns_in nodes vs
 
 unfoldable pub turns : List model.Node → List Turn
-turns nodes = visits (suc (length nodes)) nodes (pos 1) nothing_left (none_met nodes)
+turns nodes = turns_of nodes (walked nodes)
 
 -- ---- the numbers of the nodes that are met again: a node's second visit gives it the next one, from 1
 
@@ -189,44 +231,37 @@ turn_event table nodes (First id) = opening_event (anchor_of (number_at table id
 turn_event table nodes (Again id) = alias (name_of (number_at table id))
 turn_event table nodes (Leave id) = closing_event (body_of_id nodes id)
 
--- ---- the content: the first visit of a node gives the node, a later one an alias
+-- ---- the content: a node that is met first is written whole, with what it holds; one that is met again is an alias
 
-unfoldable pub items_by : (ℤ → (Node → Met → Node) → Met → Node) → List ℤ → (Nodes → Met → Node)
-    → Met → Node
-items_by visit [] rest met = rest no_nodes met
-items_by visit (id ∷ ids) rest met = visit id
-    (λ v m. items_by visit ids (λ vs n. rest (node v vs) n) m) met
+-- what a mapping holds: a key, its value, and so on
+abbrev pub two_by_two : Nodes → Pairs
+two_by_two (node key (node value held)) = pair key value (two_by_two held)
+two_by_two _ = no_pairs
 
-unfoldable pub pairs_by : (ℤ → (Node → Met → Node) → Met → Node) → List yaml_node_pair_t
-    → (Pairs → Met → Node) → Met → Node
-pairs_by visit [] rest met = rest no_pairs met
-pairs_by visit (p ∷ ps) rest met = visit p.key
-    (λ k m. visit p.value (λ v n. pairs_by visit ps (λ vs o. rest (pair k v vs) o) n) m) met
+-- a node that holds these
+abbrev pub with_held : Option (List ℕ) → List ℕ → model.NodeBody → Nodes → Node
+with_held anchor tag model.no held = scalar_node (graph_scalar anchor tag [] YAML_ANY_SCALAR_STYLE)
+with_held anchor tag (model.scalar value style) held = scalar_node
+    (graph_scalar anchor tag value style)
+with_held anchor tag (model.sequence items style) held = sequence_node
+    (graph_start anchor tag seq_tag (is_flow_sequence style)) held
+with_held anchor tag (model.mapping pairs style) held = mapping_node
+    (graph_start anchor tag map_tag (is_flow_mapping style)) (two_by_two held)
 
-abbrev pub node_by : (ℤ → (Node → Met → Node) → Met → Node) → Option (List ℕ) → List ℕ
-    → model.NodeBody → (Node → Met → Node) → Met → Node
-node_by visit anchor tag model.no rest = rest
-    (scalar_node (graph_scalar anchor tag [] YAML_ANY_SCALAR_STYLE))
-node_by visit anchor tag (model.scalar value style) rest = rest
-    (scalar_node (graph_scalar anchor tag value style))
-node_by visit anchor tag (model.sequence items style) rest = items_by visit items
-    (λ vs. rest (sequence_node (graph_start anchor tag seq_tag (is_flow_sequence style)) vs))
-node_by visit anchor tag (model.mapping pairs style) rest = pairs_by visit pairs
-    (λ vs. rest (mapping_node (graph_start anchor tag map_tag (is_flow_mapping style)) vs))
+abbrev mutual
+  pub node_said : List ℕ → List model.Node → Visit → Node
+  node_said table nodes cut_off = alias_node []
+  node_said table nodes (met_again id) = alias_node (name_of (number_at table id))
+  node_said table nodes (met_first id vs) =
+      with_held (anchor_of (number_at table id)) (tag_of_id nodes id) (body_of_id nodes id)
+      (nodes_said table nodes vs)
 
-unfoldable pub content_by : ℕ → List ℕ → List model.Node → ℤ → (Node → Met → Node) → Met → Node
-content_by zero table nodes id rest met = rest (alias_node (name_of (number_at table id))) met
-content_by (suc n) table nodes id rest met =
-    if is_met met id then rest (alias_node (name_of (number_at table id))) met
-    else node_by (content_by n table nodes) (anchor_of (number_at table id)) (tag_of_id nodes id)
-    (body_of_id nodes id) rest (meet met id)
-
-abbrev pub itself : Node → Met → Node
-itself v met = v
+  pub nodes_said : List ℕ → List model.Node → Visits → Nodes
+  nodes_said table nodes no_visits = no_nodes
+  nodes_said table nodes (visit v vs) = node (node_said table nodes v) (nodes_said table nodes vs)
 
 unfoldable pub graph_root : List model.Node → Node
-graph_root nodes = content_by (suc (length nodes)) (numbers nodes) nodes (pos 1) itself
-    (none_met nodes)
+graph_root nodes = node_said (numbers nodes) nodes (walked nodes)
 
 abbrev pub graph_opening : documents.Document → Opening
 graph_opening d = record {

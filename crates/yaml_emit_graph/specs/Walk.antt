@@ -7,7 +7,8 @@ use Rattle.yaml_emit_graph.specs.declared.walk.Turn.{Turn}
 use Rattle.yaml_emit_graph.specs.declared.walk.Turn.TheVariants.{First, Again, Leave}
 use Rattle.yaml_emit_graph.specs.declared.walk.Open.{Open}
 use Rattle.yaml_emit_graph.specs.declared.walk.Walk.{Walk}
-use Rattle.yaml_emit_graph.specs.Graph.{Met, is_met, meet, pair_ids, is_collection, body_of_id, Rest, over, visits, nothing_left}
+use Rattle.yaml_emit_graph.specs.Graph.{Met, is_met, meet, pair_ids, is_collection, body_of_id}
+use Rattle.yaml_emit_graph.specs.Onward.{Rest, over, visits, nothing_left}
 
 -- what is left of pairs, by whether the first one's key has come
 abbrev pub pairs_left : Bool → List yaml_node_pair_t → List ℤ

@@ -12,7 +12,7 @@ ghost use Rattle.yaml_emit_graph.specs.Events.{remaining_events, IsEvents, Says,
 use crate::numbers::{number_of, numbers_of};
 use crate::walk::{Turn, Walk};
 use std::alloc::{AllocError, Global};
-use yaml_parse_document::{document_is_sound, yaml_document_get_node, yaml_document_t};
+use yaml_parse_document::{yaml_document_get_node, yaml_document_t};
 use yaml_parse_model::{yaml_event_body_t, yaml_node_body_t, yaml_node_t};
 use yaml_scan_model::{
     yaml_mapping_style_t, yaml_scalar_style_t, yaml_sequence_style_t, yaml_tag_directive_t,
@@ -199,7 +199,6 @@ fn opening_event(
     ensures { Says (opening_event (text_of anchor) (tag_of_id document.now.nodes id)
         (body_of_id document.now.nodes id)) result }
 {
-    document_is_sound(document);
     match yaml_document_get_node(document, id) {
         None => scalar_event(
             alloc,
@@ -274,7 +273,6 @@ impl Events {
     fn start(&self, document: &yaml_document_t) -> Result<yaml_event_body_t, AllocError>
         ensures { Says (document_start (graph_opening document.now)) result }
     {
-        document_is_sound(document);
         Ok(yaml_event_body_t::DocumentStart {
             version_directive: document.version_directive(),
             tag_directives: copies(self.alloc, document.tag_directives())?,

@@ -5,10 +5,12 @@ use Rattle.std.proofs.lemmas.Option.{slice_get_within}
 use Rattle.yaml_parse_model.specs.declared.yaml_node_pair_t.{yaml_node_pair_t}
 use Rattle.yaml_parse_model.specs.Nodes.{Node, NodeBody}
 use Rattle.yaml_parse_model.specs.Nodes as model
-use Rattle.yaml_parse_loader.specs.Order.{Visits, done, again, first, children, pair_numbers}
+use Rattle.yaml_parse_loader.specs.Order.{Visits, IsInPreorder, done, again, first, children, pair_numbers}
 use Rattle.yaml_emit_graph.specs.declared.walk.Turn.{Turn}
 use Rattle.yaml_emit_graph.specs.declared.walk.Turn.TheVariants.{First, Again, Leave}
-use Rattle.yaml_emit_graph.specs.Graph.{Met, is_met, meet, pair_ids, is_collection, body_at, Rest, over, inside, visits, nothing_left, turns}
+use Rattle.yaml_emit_graph.specs.Graph.{Met, is_met, meet, pair_ids, is_collection, body_at}
+use Rattle.yaml_emit_graph.specs.Onward.{Rest, over, inside, visits, nothing_left, turns_onward}
+use Rattle.yaml_emit_graph.proofs.Joining.{turns_joined}
 use Rattle.yaml_emit_laws_dumps.specs.Dumps.{AgainsAre, MeetsAgain, met_so}
 use Rattle.yaml_emit_laws_dumps.specs.Laws.{AgainsAreTurns}
 use Rattle.yaml_emit_laws_dumps.proofs.Marks.{met_old, met_new, meets, none_yet}
@@ -115,9 +117,12 @@ told P nodes seen ids after (again s k e more h v) = again_tells P nodes s k e m
 told P nodes seen ids after (first s b e more n at v w) =
     first_tells P nodes s b e more n at v w (told P nodes (suc s) (children n.body) b v) (told P nodes b more e w)
 
-pub again_turns : AgainsAreTurns
-unfolding turns over
-again_turns nodes v =
+again_onward : (nodes : List Node) (v : IsInPreorder nodes) → AgainsAre (λ k. (k < length nodes) × MeetsAgain k (turns_onward nodes)) v
+unfolding turns_onward over
+again_onward nodes v =
     let none = λ (k : ℕ) (m : MeetsAgain k (over (visits (suc (length nodes)) nodes) (pos 1 ∷ []) nothing_left (met_so nodes 0))).
     subst (λ (met : Met). MeetsAgain k (over (visits (suc (length nodes)) nodes) (pos 1 ∷ []) nothing_left met)) (none_yet nodes) m in
-    let r = told (λ k. (k < length nodes) × MeetsAgain k (turns nodes)) nodes 0 (pos 1 ∷ []) (length nodes) v (suc (length nodes)) nothing_left (omega arith) (omega arith) (λ k w m. (w, none k m)) in r.0
+    let r = told (λ k. (k < length nodes) × MeetsAgain k (turns_onward nodes)) nodes 0 (pos 1 ∷ []) (length nodes) v (suc (length nodes)) nothing_left (omega arith) (omega arith) (λ k w m. (w, none k m)) in r.0
+
+pub again_turns : AgainsAreTurns
+again_turns nodes v = subst (λ (ts : List Turn). AgainsAre (λ k. (k < length nodes) × MeetsAgain k ts) v) (turns_joined nodes) (again_onward nodes v)

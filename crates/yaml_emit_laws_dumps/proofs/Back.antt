@@ -20,7 +20,8 @@ use Rattle.yaml_parse_loader.specs.Numbering as numbering
 use Rattle.yaml_parse_loader.specs.Order.{Visits, done, again, first, children, pair_numbers}
 use Rattle.yaml_emit_layout.specs.Content as emit
 use Rattle.yaml_emit_layout.specs.Content.{is_flow_sequence, is_flow_mapping}
-use Rattle.yaml_emit_graph.specs.Graph.{Met, is_met, meet, number_at, name_of, anchor_of, body_at, tag_at, graph_scalar, graph_start, node_by, items_by, content_by}
+use Rattle.yaml_emit_graph.specs.Graph.{Met, is_met, meet, number_at, name_of, anchor_of, body_at, tag_at, graph_scalar, graph_start}
+use Rattle.yaml_emit_graph.specs.Onward.{node_by, items_by, content_by}
 use Rattle.yaml_emit_laws_dumps.specs.Dumps.{core_body, core_node, nowhere, head_of, as_content, as_contents, as_pairs, met_so, before_at, AgainsAre, IsNumbered, HasKind, AreLoadedNodes, NumbersBack}
 use Rattle.yaml_emit_laws_dumps.specs.Laws.{Finds, VisitsNumberBack}
 use Rattle.yaml_emit_laws_dumps.proofs.Marks.{met_old, met_new, meets}

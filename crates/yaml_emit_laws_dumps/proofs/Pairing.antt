@@ -6,7 +6,8 @@ use Rattle.yaml_parse_model.specs.Nodes.{Node}
 use Rattle.yaml_parse_loader.specs.Numbering.{Anchored, Numbered, ◌>>=◌, number, number_items, number_pairs}
 use Rattle.yaml_parse_loader.specs.Order.{pair_numbers}
 use Rattle.yaml_emit_layout.specs.Content as emit
-use Rattle.yaml_emit_graph.specs.Graph.{Met, items_by, pairs_by}
+use Rattle.yaml_emit_graph.specs.Graph.{Met}
+use Rattle.yaml_emit_graph.specs.Onward.{items_by, pairs_by}
 use Rattle.yaml_emit_laws_dumps.specs.Dumps.{as_content, as_contents, as_pairs, AreAsMany}
 
 abbrev pub paired : emit.Nodes → emit.Pairs

@@ -9,7 +9,9 @@ use Rattle.yaml_parse_loader.specs.Loading as loading
 use Rattle.yaml_parse_loader.specs.Numbering.{Numbered, ◌>>=◌, number, number_items, DocumentContent, document_of, document_events}
 use Rattle.yaml_parse_loader.specs.Order.{Visits, done, again, first}
 use Rattle.yaml_emit_layout.specs.Content as emit
-use Rattle.yaml_emit_graph.specs.Graph.{Met, Numbering, numbered, none_numbered, numbers, turns, items_by, content_by, graph_root, graph_content, itself}
+use Rattle.yaml_emit_graph.specs.Graph.{Met, Numbering, numbered, none_numbered, numbers, turns, graph_root, graph_content}
+use Rattle.yaml_emit_graph.specs.Onward.{items_by, content_by, itself, root_onward}
+use Rattle.yaml_emit_graph.proofs.Joining.{root_joined}
 use Rattle.yaml_emit_laws_dumps.specs.Dumps.{core_node, core_document, as_content, as_contents, as_document, AgainsAre, MeetsAgain, IsNumbered, AreAsMany, before_at, met_so, NumbersBack}
 use Rattle.yaml_emit_laws_dumps.specs.Laws.{NumbersAreApart, MetAgainAreNumbered, AgainsAreTurns, VisitsNumberBack, NumbersAreFound, DumpsNumberBack, DumpsLoadBack}
 use Rattle.yaml_emit_laws_dumps.proofs.Apart.{given_most}
@@ -51,9 +53,10 @@ one_item d (Err e) y h = absurd (cc)
 
 root_is : (nodes : List Node) (v : emit.Node) → ((rest : emit.Nodes → Met → emit.Node) → items_by (content_by (suc (length nodes)) (numbers nodes) nodes) (pos 1 ∷ []) rest (met_so nodes 0) ≡ rest (emit.node v emit.no_nodes) (met_so nodes (length nodes)))
     → graph_root nodes ≡ v
-unfolding graph_root items_by
+unfolding root_onward items_by
 root_is nodes v same =
-    ap (λ (met : Met). content_by (suc (length nodes)) (numbers nodes) nodes (pos 1) itself met) (sym (none_yet nodes)) ∙ same (λ vs m. first_of vs)
+    sym (root_joined nodes)
+    ∙ ap (λ (met : Met). content_by (suc (length nodes)) (numbers nodes) nodes (pos 1) itself met) (sym (none_yet nodes)) ∙ same (λ vs m. first_of vs)
 
 root_back : (d : Document) (items : emit.Nodes) (y : Numbered (List ℤ)) → AreAsMany items (pos 1 ∷ [])
     → ((rest : emit.Nodes → Met → emit.Node) → items_by (content_by (suc (length d.nodes)) (numbers d.nodes) d.nodes) (pos 1 ∷ []) rest (met_so d.nodes 0) ≡ rest items (met_so d.nodes (length d.nodes)))

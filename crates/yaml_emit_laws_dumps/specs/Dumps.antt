@@ -13,7 +13,8 @@ use Rattle.yaml_parse_loader.specs.Order.{Visits, done, again, first, IsInPreord
 use Rattle.yaml_emit_layout.specs.Content as emit
 use Rattle.yaml_emit_graph.specs.declared.walk.Turn.{Turn}
 use Rattle.yaml_emit_graph.specs.declared.walk.Turn.TheVariants.{Again}
-use Rattle.yaml_emit_graph.specs.Graph.{Met, number_at, anchor_of, items_by, content_by, Numbering}
+use Rattle.yaml_emit_graph.specs.Graph.{Met, number_at, anchor_of, Numbering}
+use Rattle.yaml_emit_graph.specs.Onward.{items_by, content_by}
 
 -- ---- what styles and marks are no part of
 

@@ -8,7 +8,7 @@ use Rattle.yaml_parse_loader.specs.Loading as loading
 use Rattle.yaml_parse_loader.specs.Numbering.{DocumentContent, document_of, document_events, last_with}
 use Rattle.yaml_parse_loader.specs.Order.{Visits, IsInPreorder}
 use Rattle.yaml_emit_graph.specs.declared.walk.Turn.{Turn}
-use Rattle.yaml_emit_graph.specs.Graph.{turns, number_at, name_of, numbered, none_numbered, numbers, graph_content}
+use Rattle.yaml_emit_graph.specs.Graph.{IsWhole, walked, turns, number_at, name_of, numbered, none_numbered, numbers, graph_content}
 use Rattle.yaml_emit_laws_dumps.specs.Dumps.{core_document, as_document, AreLoadedNodes, IsLoadedDocument, AgainsAre, MeetsAgain, IsNumbered, AreApart, before_at, NumbersBack}
 
 -- ---- the numbers that a dump gives
@@ -30,6 +30,12 @@ AgainsAreTurns = (nodes : List Node) (v : IsInPreorder nodes)
 -- Numbers have names of their own.
 abbrev pub NamesAreApart : Type 0
 NamesAreApart = (m n : ℕ) → m < 2 ^ 64 → n < 2 ^ 64 → name_of m ≡ name_of n → m ≡ n
+
+-- ---- the walk
+
+-- The bound of the depth is never used up: no visit is cut off.
+abbrev pub WalksAreWhole : Type 0
+WalksAreWhole = (nodes : List Node) → IsWhole (walked nodes)
 
 -- ---- visits
 

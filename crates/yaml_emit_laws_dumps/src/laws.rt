@@ -1,6 +1,6 @@
 //! Each function's contract is a law. Bodies cite laws of lower crates.
 
-ghost use Rattle.yaml_emit_laws_dumps.specs.Laws.{AgainsAreTurns, DumpsLoadBack, DumpsNumberBack, DocumentsAreLoaded, MetAgainAreNumbered, NamesAreApart, NumbersAreApart, NumbersAreFound, VisitsNumberBack};
+ghost use Rattle.yaml_emit_laws_dumps.specs.Laws.{AgainsAreTurns, DumpsLoadBack, DumpsNumberBack, DocumentsAreLoaded, MetAgainAreNumbered, NamesAreApart, NumbersAreApart, NumbersAreFound, VisitsNumberBack, WalksAreWhole};
 
 use yaml_parse_loader::{loads_documents, numbers_follow_visits};
 
@@ -30,6 +30,11 @@ pub fn numbers_are_found()
 {
     numbers_are_apart();
 }
+
+/// The bound of a walk's depth is never used up.
+pub fn walks_are_whole()
+    ensures { WalksAreWhole }
+{}
 
 /// What is visited in preorder is numbered by its dump as it was.
 pub fn visits_number_back()

@@ -6,5 +6,5 @@ mod laws;
 pub use laws::{
     agains_are_turns, documents_are_loaded, dumps_load_back, dumps_number_back,
     met_again_are_numbered, names_are_apart, numbers_are_apart, numbers_are_found,
-    visits_number_back,
+    visits_number_back, walks_are_whole,
 };

@@ -1,5 +1,5 @@
 -- Nothing is wrong with the events of what a document says.
-use Rattle.std.proofs.Common.{◌≡◌, ◌<◌, ℕ, zero, suc, ℤ, pos, negsuc, Bool, true, false, List, [], ◌∷◌, length, map, Option, Some, None, refl, inl, inr, arith}
+use Rattle.std.proofs.Common.{subst, ◌≡◌, ◌<◌, ℕ, zero, suc, ℤ, pos, negsuc, Bool, true, false, List, [], ◌∷◌, length, map, Option, Some, None, refl, inl, inr, arith}
 use Rattle.std.specs.Prelude.{slice_get}
 use Rattle.std.proofs.lemmas.Bool.{cases_Bool}
 use Rattle.yaml_scan.specs.declared.yaml_scalar_style_t.{yaml_scalar_style_t}
@@ -11,7 +11,9 @@ use Rattle.yaml_parse.specs.Documents as documents
 use Rattle.yaml_emit.specs.emit_layout.declared.Problem.TheVariants as problem
 use Rattle.yaml_emit.specs.emit_layout.Content.{Node, alias_node, scalar_node, sequence_node, mapping_node, Nodes, no_nodes, node, Pairs, no_pairs, pair, Event, document_start, document_end, sequence_end, mapping_end, is_flow_sequence, is_flow_mapping, node_events, items_events, pairs_events, documents_events}
 use Rattle.yaml_emit.specs.emit_layout.Grammar.{kept_if, anchor_problem, tag_problem, event_problem, last_problem, own_problems}
-use Rattle.yaml_emit.specs.emit_graph.Graph.{Met, is_met, meet, body_of_id, tag_at, tag_of_id, number_at, numbers, name_of, anchor_of, graph_scalar, graph_start, items_by, pairs_by, node_by, content_by, graph_root, graph_content, none_met, itself, dumped}
+use Rattle.yaml_emit.specs.emit_graph.Graph.{Met, is_met, meet, body_of_id, tag_at, tag_of_id, number_at, numbers, name_of, anchor_of, graph_scalar, graph_start, graph_root, graph_content, none_met, dumped}
+use Rattle.yaml_emit.specs.emit_graph.Onward.{items_by, pairs_by, node_by, content_by, itself, root_onward}
+use Rattle.yaml_emit.proofs.emit_graph.Joining.{root_joined}
 use Rattle.yaml_emit_laws_streams.specs.Laws.{AreTagged, RightDocument, AreRight, DumpsAreRight, DumpedStreamsAreRight}
 use Rattle.yaml_emit_laws_streams.proofs.Passing.{or_none}
 use Rattle.yaml_emit_laws_streams.proofs.Naming.{not_zero, name_right, anchor_right}
@@ -135,8 +137,8 @@ content_right canonical (suc n) table nodes h = record {
 }
 
 root_right : (canonical : Bool) (nodes : List model.Node) → AreTagged nodes → RightNode canonical (graph_root nodes)
-unfolding graph_root
-root_right canonical nodes h = (content_right canonical (suc (length nodes)) (numbers nodes) nodes h).goes (pos 1) itself (none_met nodes) record { goes = λ v m r. r }
+unfolding root_onward
+root_right canonical nodes h = subst (λ (v : Node). RightNode canonical v) (root_joined nodes) ((content_right canonical (suc (length nodes)) (numbers nodes) nodes h).goes (pos 1) itself (none_met nodes) record { goes = λ v m r. r })
 
 -- ---- documents
 

@@ -1,7 +1,7 @@
 -- What a document's soundness says after a change.
 use Rattle.std.proofs.Common.{◌≡◌, ◌≤◌, ◌<◌, ℕ, zero, suc, ℤ, pos, List, [], ◌∷◌, ◌++◌, length, map, Option, Some, None, IsSome, IsUtf8, OnOk, arith, sym, ◌∙◌, ap, subst, refl, get_or, Result, Ok, Err, MatchResult}
 use Rattle.std.proofs.Math.ListN.{set}
-use Rattle.std.specs.Prelude.{slice_get}
+use Rattle.std.specs.Prelude.{slice_get, negsuc}
 use Rattle.std.proofs.lemmas.List.{length-map}
 use Rattle.yaml_parse_model.specs.declared.yaml_node_pair_t.{yaml_node_pair_t}
 use Rattle.yaml_parse_model.specs.declared.yaml_node_t.{yaml_node_t}
@@ -10,7 +10,7 @@ use Rattle.yaml_parse_model.specs.declared.yaml_text_fault_t.TheVariants.{NotUtf
 use Rattle.yaml_parse_model.specs.Constructors.{IsUtf8Option}
 use Rattle.yaml_parse_model.specs.Nodes.{Node, NodeBody, node_of}
 use Rattle.yaml_parse_model.specs.Nodes as node
-use Rattle.yaml_parse_document.specs.Documents.{Document, node_at, IsId, AreIds, ArePairs, IsSoundBody, IsSoundNode, AreSound, IsDocument, with_node, change_place, change_node, change_body, with_item, with_pair, IsKindAt, HasRoomAt, tag_or, str_tag, seq_tag, map_tag, Adds, Appends}
+use Rattle.yaml_parse_document.specs.Documents.{Document, node_at, IsId, AreIds, ArePairs, IsSoundBody, IsSoundNode, AreSound, IsSoundAt, IsDocument, with_node, change_place, change_node, change_body, with_item, with_pair, IsKindAt, HasRoomAt, tag_or, str_tag, seq_tag, map_tag, Adds, Appends}
 
 -- ---- more nodes
 
@@ -213,3 +213,15 @@ kind_inside IsKind d items id k e view h =
     let at : IsKindAt IsKind (node_at d.nodes (pos (suc k))) = subst (λ (i : ℤ). IsKindAt IsKind (node_at d.nodes i)) e h in
     let r : k < length d.nodes = kind_place IsKind d.nodes k at in
     omega (arith, ap length view, length-map items node_of)
+
+-- ---- a node that a number names
+
+sound_item : (n k : ℕ) (nodes : List Node) → AreSound n nodes → IsSoundAt n (slice_get nodes k)
+sound_item n k [] h = tt
+sound_item n zero (x ∷ xs) h = h.0
+sound_item n (suc k) (x ∷ xs) h = sound_item n k xs h.1
+
+pub sound_at : (n : ℕ) (nodes : List Node) (id : ℤ) → AreSound n nodes → IsSoundAt n (node_at nodes id)
+sound_at n nodes (pos zero) h = tt
+sound_at n nodes (pos (suc k)) h = sound_item n k nodes h
+sound_at n nodes (negsuc k) h = tt

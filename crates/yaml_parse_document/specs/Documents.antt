@@ -56,6 +56,11 @@ abbrev pub AreSound : ℕ → List Node → Type 0
 AreSound count [] = Unit {0}
 AreSound count (n ∷ ns) = IsSoundNode count n × AreSound count ns
 
+-- what a number names, if it names a node, is sound
+abbrev pub IsSoundAt : ℕ → Option Node → Type 0
+IsSoundAt count None = Unit {0}
+IsSoundAt count (Some n) = IsSoundNode count n
+
 -- the texts of a document are UTF-8, and its numbers name its nodes
 pub record IsDocument (d : Document) : Type 0 where
   pub directives : AreUtf8 d.directives

@@ -1,9 +1,10 @@
 //! Documents: making one, and its readers.
 
 ghost use Rattle.std.specs.Prelude.{◌≡◌, ◌≤ℤ◌, length, map, option_map, pos, suc};
+ghost use Rattle.yaml_parse_model.specs.Constructors.{AreUtf8};
 ghost use Rattle.yaml_parse_model.specs.Events.{directive_of};
 ghost use Rattle.yaml_parse_model.specs.Nodes.{node_of};
-ghost use Rattle.yaml_parse_document.specs.Documents.{no_document, node_at, IsNewDocument, new_document};
+ghost use Rattle.yaml_parse_document.specs.Documents.{no_document, node_at, IsSoundAt, IsNewDocument, new_document};
 
 mod adding;
 mod parts;
@@ -57,9 +58,10 @@ impl yaml_document_t {
         self.version_directive
     }
 
-    /// The `%TAG` directives, in order.
+    /// The `%TAG` directives, in order. Their texts are UTF-8.
     pub fn tag_directives(&self) -> &[yaml_tag_directive_t]
-        ensures { map directive_of result.now ≡ self.now.directives }
+        ensures is { map directive_of result.now ≡ self.now.directives }
+        ensures utf8 { AreUtf8 self.now.directives }
     {
         &self.tag_directives
     }
@@ -174,9 +176,10 @@ fn place(number: i32) -> usize
     (number - 1) as usize
 }
 
-/// The node under a number; numbers count from 1.
+/// The node under a number; numbers count from 1. Its texts are UTF-8, and what it holds are numbers of nodes.
 pub fn yaml_document_get_node(document: &yaml_document_t, index: i32) -> Option<&yaml_node_t>
-    ensures { option_map (λ n. node_of n.now) result ≡ node_at document.now.nodes index }
+    ensures is { option_map (λ n. node_of n.now) result ≡ node_at document.now.nodes index }
+    ensures sound { IsSoundAt (length document.now.nodes) (node_at document.now.nodes index) }
 {
     if index < 1 {
         return None;

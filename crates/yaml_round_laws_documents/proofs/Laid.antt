@@ -16,7 +16,9 @@ use Rattle.yaml_round_laws_back.specs.content.round_laws.emit_laws_streams.emit.
 use Rattle.yaml_round_laws_back.specs.content.round_laws.emit_laws_streams.emit.Content as emit
 use Rattle.yaml_round_laws_back.specs.content.round_laws.emit_laws_streams.emit.Content.{is_flow_sequence, is_flow_mapping}
 use Rattle.yaml_round_laws_back.specs.content.round_laws.emit_laws_streams.emit.emit_layout.Grammar.{own_problems}
-use Rattle.yaml_round_laws_back.specs.content.round_laws.emit_laws_streams.emit.emit_graph.Graph.{Met, is_met, meet, body_of_id, tag_of_id, number_at, numbers, name_of, anchor_of, graph_scalar, graph_start, items_by, pairs_by, node_by, content_by, itself, none_met, graph_root, graph_content}
+use Rattle.yaml_round_laws_back.specs.content.round_laws.emit_laws_streams.emit.emit_graph.Graph.{Met, is_met, meet, body_of_id, tag_of_id, number_at, numbers, name_of, anchor_of, graph_scalar, graph_start, none_met, graph_root, graph_content}
+use Rattle.yaml_round_laws_back.specs.content.round_laws.emit_laws_streams.emit.emit_graph.Onward.{items_by, pairs_by, node_by, content_by, itself, root_onward}
+use Rattle.yaml_round_laws_back.proofs.content.round_laws.emit_laws_streams.emit.emit_graph.Joining.{root_joined}
 use Rattle.yaml_round_laws_back.specs.content.Input.{events_of, ending_of}
 use Rattle.yaml_round_laws_back.specs.content.Loads.{Loads, in_front, load_on, load_all, loads_of}
 use Rattle.yaml_round_laws_back.proofs.content.Layouts.{NodeFlagged, NodesFlagged, PairsFlagged, Normalize, normal_layout}
@@ -79,8 +81,8 @@ content_flagged (suc n) table nodes = record {
 }
 
 root_flagged : (nodes : List model.Node) → NodeFlagged (graph_root nodes)
-unfolding graph_root
-root_flagged nodes = (content_flagged (suc (length nodes)) (numbers nodes) nodes).goes (pos 1) itself (none_met nodes) record { goes = λ v m r. r }
+unfolding root_onward
+root_flagged nodes = subst (λ (v : emit.Node). NodeFlagged v) (root_joined nodes) ((content_flagged (suc (length nodes)) (numbers nodes) nodes).goes (pos 1) itself (none_met nodes) record { goes = λ v m r. r })
 
 -- ---- every end is implicit
 

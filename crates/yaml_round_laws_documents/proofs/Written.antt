@@ -1,5 +1,5 @@
 -- What a document says that an input loads may be written.
-use Rattle.std.proofs.Common.{◌≡◌, ◌<◌, ℕ, zero, suc, ℤ, pos, negsuc, Bool, true, false, ◌==◌, if◌then◌else◌, List, [], ◌∷◌, length, Option, Some, None, IsUtf8, refl, ap, codes, arith}
+use Rattle.std.proofs.Common.{subst, ◌≡◌, ◌<◌, ℕ, zero, suc, ℤ, pos, negsuc, Bool, true, false, ◌==◌, if◌then◌else◌, List, [], ◌∷◌, length, Option, Some, None, IsUtf8, refl, ap, codes, arith}
 use Rattle.std.specs.Prelude.{slice_get}
 use Rattle.std.specs.List.{list_all}
 use Rattle.std.proofs.lemmas.Str.{IsUtf8-nil}
@@ -16,7 +16,9 @@ use Rattle.yaml_round_laws_back.specs.content.round_laws.emit_laws_streams.emit.
 use Rattle.yaml_round_laws_back.specs.content.round_laws.emit_laws_streams.emit.emit_layout.declared.Problem.TheVariants as problem
 use Rattle.yaml_round_laws_back.specs.content.round_laws.emit_laws_streams.emit.Content as emit
 use Rattle.yaml_round_laws_back.specs.content.round_laws.emit_laws_streams.emit.Content.{is_flow_sequence, is_flow_mapping}
-use Rattle.yaml_round_laws_back.specs.content.round_laws.emit_laws_streams.emit.emit_graph.Graph.{Met, is_met, meet, body_at, tag_at, body_of_id, tag_of_id, number_at, numbers, name_of, anchor_of, graph_start, items_by, pairs_by, node_by, content_by, itself, none_met, graph_root, graph_content}
+use Rattle.yaml_round_laws_back.specs.content.round_laws.emit_laws_streams.emit.emit_graph.Graph.{Met, is_met, meet, body_at, tag_at, body_of_id, tag_of_id, number_at, numbers, name_of, anchor_of, graph_start, none_met, graph_root, graph_content}
+use Rattle.yaml_round_laws_back.specs.content.round_laws.emit_laws_streams.emit.emit_graph.Onward.{items_by, pairs_by, node_by, content_by, itself, root_onward}
+use Rattle.yaml_round_laws_back.proofs.content.round_laws.emit_laws_streams.emit.emit_graph.Joining.{root_joined}
 use Rattle.yaml_round_laws_back.specs.content.round_laws.emit_laws_streams.Laws.{AreTagged, RightDocument, AreRight}
 use Rattle.yaml_parse_document.proofs.Sound.{str_utf8}
 use Rattle.yaml_round_laws_back.proofs.content.round_laws.emit_laws_streams.Naming.{name_right}
@@ -148,8 +150,8 @@ content_written (suc n) table nodes h = record {
 }
 
 root_written : (nodes : List model.Node) → FineNodes nodes → IsWritable (tree_of (graph_root nodes))
-unfolding graph_root
-root_written nodes h = (content_written (suc (length nodes)) (numbers nodes) nodes h).goes (pos 1) itself (none_met nodes) record { goes = λ v m r. r }
+unfolding root_onward
+root_written nodes h = subst (λ (v : emit.Node). IsWritable (tree_of v)) (root_joined nodes) ((content_written (suc (length nodes)) (numbers nodes) nodes h).goes (pos 1) itself (none_met nodes) record { goes = λ v m r. r })
 
 -- ---- documents
 

@@ -10,7 +10,9 @@ use Rattle.yaml_round_laws_writable.specs.content.round_laws.emit_laws_streams.p
 use Rattle.yaml_round_laws_writable.specs.content.round_laws.emit_laws_streams.emit.Content as emit
 use Rattle.yaml_round_laws_writable.specs.content.round_laws.emit_laws_streams.emit.emit_graph.declared.walk.Turn.{Turn}
 use Rattle.yaml_round_laws_writable.specs.content.round_laws.emit_laws_streams.emit.emit_graph.declared.walk.Turn.TheVariants.{First, Again}
-use Rattle.yaml_round_laws_writable.specs.content.round_laws.emit_laws_streams.emit.emit_graph.Graph.{Met, is_met, meet, body_at, tag_at, body_of_id, tag_of_id, Rest, inside, visits, none_met, nothing_left, turns, none_numbered, numbered, numbers, number_at, anchor_of, items_by, pairs_by, node_by, content_by, itself, graph_root, graph_content}
+use Rattle.yaml_round_laws_writable.specs.content.round_laws.emit_laws_streams.emit.emit_graph.Graph.{Met, is_met, meet, body_at, tag_at, body_of_id, tag_of_id, none_met, turns, none_numbered, numbered, numbers, number_at, anchor_of, graph_root, graph_content}
+use Rattle.yaml_round_laws_writable.specs.content.round_laws.emit_laws_streams.emit.emit_graph.Onward.{Rest, inside, visits, nothing_left, items_by, pairs_by, node_by, content_by, itself, turns_onward, root_onward}
+use Rattle.yaml_round_laws_writable.proofs.content.round_laws.emit_laws_streams.emit.emit_graph.Joining.{turns_joined, root_joined}
 use Rattle.yaml_round_laws_writable.specs.content.Said.{Node, Nodes, Pairs, Document, node, pair, sequence, mapping}
 use Rattle.yaml_round_laws_writable.specs.content.Trees.{tree_of, trees_of, pair_trees_of, document_tree, document_trees}
 use Rattle.yaml_round_laws_loads.specs.Agree.{CoreNode, Core, core_body, core_node, core_of}
@@ -79,11 +81,14 @@ visited (suc n) ns = fun_ext (λ id. fun_ext (λ r. fun_ext (λ m.
     ∙ ap (λ (ts : List Turn). if is_met m id then Again id ∷ r m else First id ∷ ts) (inside_bare (visits n (bare ns)) id (body_of_id ns id) r (meet m id))
     ∙ ap (λ (b : model.NodeBody). if is_met m id then Again id ∷ r m else First id ∷ inside (visits n (bare ns)) id b r (meet m id)) (sym (bare_body ns id)))))
 
-turns_same : (ns : List model.Node) → turns ns ≡ turns (bare ns)
-unfolding turns
-turns_same ns =
+onward_same : (ns : List model.Node) → turns_onward ns ≡ turns_onward (bare ns)
+unfolding turns_onward
+onward_same ns =
     ap (λ (k : ℕ). visits (suc k) ns (pos 1) nothing_left (replicate k false)) (length_bare ns)
     ∙ ap (λ (v : Visit). v (pos 1) nothing_left (none_met (bare ns))) (visited (suc (length (bare ns))) ns)
+
+turns_same : (ns : List model.Node) → turns ns ≡ turns (bare ns)
+turns_same ns = sym (turns_joined ns) ∙ onward_same ns ∙ turns_joined (bare ns)
 
 numbers_same : (ns : List model.Node) → numbers ns ≡ numbers (bare ns)
 unfolding numbers
@@ -149,12 +154,15 @@ making_same (suc n) table ns = record {
       ∙ ap (λ (b : model.NodeBody). tree_of (node_by (content_by n table (bare ns)) (anchor_of (number_at table id)) (tag_of_id (bare ns) id) b s (meet m id))) (sym (bare_body ns id)));
 }
 
-root_same : (ns : List model.Node) → tree_of (graph_root ns) ≡ tree_of (graph_root (bare ns))
-unfolding graph_root
-root_same ns =
+making_onward : (ns : List model.Node) → tree_of (root_onward ns) ≡ tree_of (root_onward (bare ns))
+unfolding root_onward
+making_onward ns =
     ap (λ (table : List ℕ). tree_of (content_by (suc (length ns)) table ns (pos 1) itself (none_met ns))) (numbers_same ns)
     ∙ ap (λ (k : ℕ). tree_of (content_by (suc k) (numbers (bare ns)) ns (pos 1) itself (replicate k false))) (length_bare ns)
     ∙ (making_same (suc (length (bare ns))) (numbers (bare ns)) ns).goes (pos 1) itself itself (none_met (bare ns)) record { goes = λ v w m e. e }
+
+root_same : (ns : List model.Node) → tree_of (graph_root ns) ≡ tree_of (graph_root (bare ns))
+root_same ns = ap tree_of (sym (root_joined ns)) ∙ making_onward ns ∙ ap tree_of (root_joined (bare ns))
 
 -- ---- documents
 

@@ -3,6 +3,7 @@ pub mod Moves
 pub mod Turning
 pub mod Texts
 pub mod Loading
+pub mod NextLoads
 pub mod Heights
 pub mod Swiftness
 pub mod Sentences

@@ -5,6 +5,7 @@ ghost use Rattle.yaml_scan_model.specs.Faults.{Fault, fault_of};
 ghost use Rattle.yaml_parse_grammar.specs.Resolve.{Told};
 ghost use Rattle.yaml_parse_loader.specs.Loading.{Loading, load};
 ghost use Rattle.yaml_parse.specs.Loads.{loads, loads_of, told_events, LoadGives, LoadRefuses, LoadsSame};
+ghost use Rattle.yaml_parse.specs.NextLoad.{LoadIsNext, RefusalIsNext};
 
 use crate::parser::{next_event, yaml_parser_t};
 use yaml_parse_document::{no_document, yaml_document_t};
@@ -21,6 +22,11 @@ pub fn yaml_parser_load<S: yaml_token_source_t>(
     parser: &mut yaml_parser_t<S>,
 ) -> Result<yaml_document_t, yaml_fault_t>
     requires { parser.old.between ≡ true }
+    // What is loaded is the numbering of the content whose events come next; an alias in it without an anchor is refused, before
+    // the fault behind the events.
+    ensures next { IfOk result (λ d. LoadIsNext parser.old d parser.new) }
+    ensures refused { IfErr result (λ f. RefusalIsNext parser.old (fault_of f) parser.new) }
+    // The same by the loader's steps.
     ensures ok { IfOk result (λ d. LoadGives (loads_of parser.old) d parser.old parser.new) }
     ensures err { IfErr result (λ f. LoadRefuses (fault_of f) parser.old parser.new) }
     ensures between { parser.new.between ≡ true }

@@ -1,6 +1,7 @@
 use Rattle.yaml_scan_model.specs.Faults.{fault_of}
 use Rattle.yaml_parse_model.specs.Events.{event_of}
 use Rattle.yaml_parse.proofs.Loading.{keeps_on, loads_document, loads_nothing, load_faulty, load_refused, between_documents}
+use Rattle.yaml_parse.proofs.NextLoads.{load_is_next, refusal_is_next}
 use Rattle.yaml_parse.proofs.load.yaml_parser_load.Goals as goal
 
 pub events-preserved : goal.events-preserved
@@ -34,3 +35,15 @@ returns-in-Ok-Some-feed-clause-between g c =
     let between = rw c.in-Ok-Some.field-0-is at c.in-Ok-Some.ensures.between in
     let fed = rw c.in-Ok-Some-feed.field-0-is at c.in-Ok-Some-feed.ensures in
     between_documents (event_of c.in-Ok-Some.event) c.events.loader c.in-Ok-Some-feed.document c.next_event.new.parser.between fed.0 between
+
+pub returns-in-Ok-Some-feed-clause-next : goal.returns-in-Ok-Some-feed-clause-next
+returns-in-Ok-Some-feed-clause-next g c = load_is_next c.args.parser.now c.next_event.new.parser c.in-Ok-Some-feed.document (returns-in-Ok-Some-feed-clause-ok g c)
+
+pub returns-in-Ok-None-clause-next : goal.returns-in-Ok-None-clause-next
+returns-in-Ok-None-clause-next g c = load_is_next c.args.parser.now c.next_event.new.parser c.no_document.result (returns-in-Ok-None-clause-ok g c)
+
+pub returns-in-Err-feed-clause-refused : goal.returns-in-Err-feed-clause-refused
+returns-in-Err-feed-clause-refused g c = refusal_is_next c.args.parser.now c.refuse.new.self (fault_of c.in-Err-feed.fault) (returns-in-Err-feed-clause-err g c)
+
+pub returns-in-Err-clause-refused : goal.returns-in-Err-clause-refused
+returns-in-Err-clause-refused g c = refusal_is_next c.args.parser.now c.next_event.new.parser (fault_of c.in-Err.fault) (returns-in-Err-clause-err g c)

@@ -1,0 +1,141 @@
+-- What a load comes to, said by content: by that of the document whose events come next.
+use Rattle.std.specs.Prelude.{◌≡◌, ◌⊎◌, ℕ, Bool, true, false, if◌then◌else◌, ◌||◌, List, [], ◌∷◌, ◌++◌, Option, Some, None, Ok}
+use Rattle.yaml_scan_model.specs.declared.yaml_mark_t.{yaml_mark_t}
+use Rattle.yaml_scan_model.specs.Faults.{Fault, IsMemoryFault, load_layers}
+use Rattle.yaml_parse_model.specs.Events.{Event, EventBody}
+use Rattle.yaml_parse_model.specs.Events as event
+use Rattle.yaml_parse_document.specs.Documents.{Document, no_document}
+use Rattle.yaml_parse_grammar.specs.Resolve.{Told}
+use Rattle.yaml_parse_grammar.specs.Remaining.{ParserRemaining, IsFinished}
+use Rattle.yaml_parse_loader.specs.Numbering.{is_same, undefined_alias, DocumentContent, document_events, document_of}
+use Rattle.yaml_parse.specs.Loads.{told_events, left_behind, GivesDocument, GivesNoDocument}
+
+-- ---- aliases without an anchor
+
+abbrev pub is_among : List ℕ → List (List ℕ) → Bool
+is_among name [] = false
+is_among name (n ∷ names) = is_same name n || is_among name names
+
+abbrev pub and_anchor : Option (List ℕ) → List (List ℕ) → List (List ℕ)
+and_anchor None names = names
+and_anchor (Some name) names = name ∷ names
+
+-- a node's anchor counts from the node's first event on
+abbrev pub names_behind : EventBody → List (List ℕ) → List (List ℕ)
+names_behind (event.scalar anchor tag value plain quoted style) names = and_anchor anchor names
+names_behind (event.sequence_start anchor tag implicit style) names = and_anchor anchor names
+names_behind (event.mapping_start anchor tag implicit style) names = and_anchor anchor names
+names_behind _ names = names
+
+abbrev pub unless_known : Bool → yaml_mark_t → Option Fault
+unless_known true at = None
+unless_known false at = Some (undefined_alias at)
+
+-- the fault of an alias: no node before it has one of these anchors
+abbrev pub wrong_alias : EventBody → yaml_mark_t → List (List ℕ) → Option Fault
+wrong_alias (event.alias name) at names = unless_known (is_among name names) at
+wrong_alias _ at names = None
+
+abbrev pub or_later : Option Fault → ℕ → Option (Fault × ℕ) → Option (Fault × ℕ)
+or_later None left later = later
+or_later (Some f) left later = Some (f, left)
+
+-- Of a document's events the first alias without a node before it that has its anchor: its fault, and the number of tokens
+-- that are not asked for as it is given.
+unfoldable pub first_wrong : List Told → List (List ℕ) → Option (Fault × ℕ)
+first_wrong [] names = None
+first_wrong (g ∷ gs) names = or_later (wrong_alias g.0.body g.0.start_mark names) g.1
+    (first_wrong gs (names_behind g.0.body names))
+
+-- ---- what stands next
+
+-- an event of no document
+abbrev pub IsOutside : EventBody → Type 0
+IsOutside event.no = Unit {0}
+IsOutside (event.stream_start encoding) = Unit {0}
+IsOutside event.stream_end = Unit {0}
+IsOutside _ = ⊥
+
+abbrev pub AreOutside : List Told → Type 0
+AreOutside [] = Unit {0}
+AreOutside (g ∷ gs) = IsOutside g.0.body × AreOutside gs
+
+-- A whole document comes next: events of none, those of its content, and what is left behind them.
+pub record NextDocument (gs : List Told) (d : DocumentContent) (left : List Told)
+    (unasked : ℕ) : Type 0 where
+  pub outside : List Told
+  pub told : List Told
+  pub split : gs ≡ outside ++ (told ++ left)
+  pub none : AreOutside outside
+  pub events : told_events (told ++ left) ≡ document_events d (told_events left)
+  -- so many tokens are not asked for as its last event is given
+  pub count : unasked ≡ left_behind told 0
+
+-- Less than a document comes next: events of none, and a front of those of a content, which may be empty.
+pub record NextFront (gs told left : List Told) : Type 0 where
+  pub outside : List Told
+  pub split : gs ≡ outside ++ (told ++ left)
+  pub none : AreOutside outside
+  pub content : DocumentContent
+  pub following : Event
+  pub more : List Event
+  pub front : document_events content [] ≡ told_events told ++ following ∷ more
+
+-- ---- what is loaded of it
+
+-- the next document with what is left behind it; a fault, with so many tokens not asked for; or no document any more
+pub data NextLoad : Type 0 where
+  next_document : Document → List Told → ℕ → NextLoad
+  next_fault : Fault → ℕ → NextLoad
+  next_none : NextLoad
+
+-- a document comes next, and the numbering of its content is this
+pub record NumbersNext (gs : List Told) (e : Document) (left : List Told) (unasked : ℕ) : Type 0
+  where
+    pub content : DocumentContent
+    pub next : NextDocument gs content left unasked
+    pub numbered : document_of content ≡ Ok e
+
+-- an alias of the document that comes next has no node before it with its anchor, and is the first such
+pub record WrongAliasNext (gs : List Told) (f : Fault) (unasked : ℕ) : Type 0 where
+  pub told : List Told
+  pub left : List Told
+  pub next : NextFront gs told left
+  pub first : first_wrong told [] ≡ Some (f, unasked)
+
+-- no whole document comes any more, and each alias has its anchor
+pub record NoneNext (gs : List Told) : Type 0 where
+  pub told : List Told
+  pub next : NextFront gs told []
+  pub right : first_wrong told [] ≡ None
+
+-- What a load of the events to come gives: the document that comes next, its nodes numbered; the fault of an alias in it, which
+-- comes before the fault behind the events; that fault, where no document ends before it; or that there is none any more.
+abbrev pub IsNextLoad : ParserRemaining → NextLoad → Type 0
+IsNextLoad c (next_document e left unasked) = NumbersNext c.events e left unasked
+IsNextLoad c (next_fault f unasked) = WrongAliasNext c.events f unasked
+    ⊎ (NoneNext c.events × ((c.ending ≡ Some f) × (unasked ≡ c.ending_unasked)))
+IsNextLoad c next_none = NoneNext c.events × (c.ending ≡ None)
+
+-- a load answers so
+abbrev pub GivesLoad : NextLoad → Document → ParserRemaining → ParserRemaining → Type 0
+GivesLoad (next_document e left unasked) d old new = (d ≡ e) × GivesDocument left unasked old new
+GivesLoad (next_fault f unasked) d old new = ⊥
+GivesLoad next_none d old new = (d ≡ no_document) × GivesNoDocument old new
+
+abbrev pub IsRefusalOf : NextLoad → Fault → ℕ → Type 0
+IsRefusalOf (next_fault g count) f unasked = (f ≡ g) × (unasked ≡ count)
+IsRefusalOf _ f unasked = ⊥
+
+-- or is refused so, or for want of memory
+pub record RefusesNext (n : NextLoad) (f : Fault) (old new : ParserRemaining) : Type 0 where
+  pub finished : IsFinished new
+  pub answered : new.answered ≡ f
+  pub reason : IsMemoryFault load_layers f ⊎ IsRefusalOf n f new.unasked
+
+-- The next load is the one that content says, whichever content's the events are.
+abbrev pub LoadIsNext : ParserRemaining → Document → ParserRemaining → Type 0
+LoadIsNext old d new = (n : NextLoad) → IsNextLoad old n → GivesLoad n d old new
+
+abbrev pub RefusalIsNext : ParserRemaining → Fault → ParserRemaining → Type 0
+RefusalIsNext old f new = (n : NextLoad) → IsNextLoad old n → RefusesNext n f old new

@@ -4,7 +4,9 @@
 use crate::kept_faults::{Row, has_front, has_whole, is_closed, is_full, keeps};
 use crate::{deep, document, many_tags};
 use std::alloc::Global;
-use yaml_emit::{yaml_emitter_initialize, yaml_emitter_set_canonical, yaml_emitter_t};
+use yaml_emit::{
+    yaml_emitter_delete, yaml_emitter_initialize, yaml_emitter_set_canonical, yaml_emitter_t,
+};
 
 /// What an emitter is asked.
 #[derive(Clone, Copy)]
@@ -48,7 +50,9 @@ pub(crate) fn is_right(alloc: Global, limit: u64, canonical: bool, asked: Asked)
     match yaml_emitter_initialize(alloc, limit) {
         Ok(mut emitter) => {
             yaml_emitter_set_canonical(&mut emitter, canonical);
-            answers(alloc, &mut emitter, asked)
+            let right = answers(alloc, &mut emitter, asked);
+            yaml_emitter_delete(emitter);
+            right
         }
         Err(_) => false,
     }

@@ -1,7 +1,6 @@
-//! Documents by their calls.
+//! Documents by their calls. One function owns them, and lends each at once.
 
-use std::alloc::Global;
-use std::process::Abort;
+use std::alloc::{AllocError, Global};
 use std::test::Fail;
 use yaml_parse::{
     yaml_document_add_mapping, yaml_document_add_scalar, yaml_document_add_sequence,
@@ -66,89 +65,64 @@ fn holds_scalar(document: &yaml_document_t, index: i32, tag: &[u8], text: &[u8])
     }
 }
 
-// A directive alone.
-fn directives(
-    alloc: Global,
-    handle: &[u8],
-    prefix: &[u8],
-) -> Result<Vec<yaml_tag_directive_t>, Fail> {
-    let handle = handle.to_vec(alloc)?;
-    let prefix = prefix.to_vec(alloc)?;
-    let mut directives = Vec::new(alloc);
-    directives.push(yaml_tag_directive_t { handle, prefix })?;
-    Ok(directives)
-}
-
 const VERSION: Option<yaml_version_directive_t> = Some(yaml_version_directive_t {
     major: 1,
     minor: 2,
 });
 
-fn document_with_directive(alloc: Global) -> Result<yaml_document_t, Fail> {
-    let directives = directives(alloc, b"!e!", b"tag:x,2000:")?;
-    Ok(yaml_document_initialize(alloc, VERSION, &directives, true, false)?)
+// What a document is asked that has no node yet.
+#[derive(Clone, Copy)]
+enum Asked {
+    // One of that version, with a directive.
+    Made,
+    // A sequence that holds one scalar twice, and a scalar that is refused.
+    Sequence,
+    // A mapping with one pair.
+    Mapping,
 }
 
-fn is_made<R: Abort>(rt: &R, document: &mut yaml_document_t) {
-    assert_eq!(rt; document.version_directive(), VERSION);
-    assert_eq!(rt; document.tag_directives().len(), 1);
-    assert!(rt; document.start_implicit());
-    assert!(rt; !document.end_implicit());
-    assert_eq!(rt; document.start_mark(), ZERO);
-    assert_eq!(rt; document.end_mark(), ZERO);
-    assert!(rt; yaml_document_get_root_node(document).is_none());
+fn is_made(document: &mut yaml_document_t) -> bool {
+    let is_new = document.version_directive() == VERSION
+        && document.tag_directives().len() == 1
+        && document.start_implicit()
+        && !document.end_implicit()
+        && document.start_mark() == ZERO
+        && document.end_mark() == ZERO
+        && yaml_document_get_root_node(document).is_none();
     yaml_document_set_end_implicit(document, true);
-    assert!(rt; document.end_implicit());
+    is_new && document.end_implicit()
 }
 
-#[test]
-fn makes_a_document(rt: HostRuntime) -> Result<(), Fail> {
-    let mut document = document_with_directive(rt.alloc())?;
-    is_made(&rt, &mut document);
-    yaml_document_delete(document);
-    Ok(())
+fn holds_twice(document: &yaml_document_t) -> bool {
+    holds_sequence(document, 1, b"tag:yaml.org,2002:seq", &[2, 2])
+        && holds_scalar(document, 2, b"tag:yaml.org,2002:str", b"b")
+        && yaml_document_get_node(document, 0).is_none()
+        && yaml_document_get_node(document, -1).is_none()
 }
 
-#[test]
-fn refuses_a_directive(rt: HostRuntime) -> Result<(), Fail> {
-    let directives = directives(rt.alloc(), b"!", b"\xFF")?;
-    let refused = yaml_document_initialize(rt.alloc(), None, &directives, true, true);
-    assert!(rt; matches!(&refused, Err(yaml_text_fault_t::NotUtf8)));
-    Ok(())
-}
-
-fn holds_twice<R: Abort>(rt: &R, document: &yaml_document_t) {
-    assert!(rt; holds_sequence(document, 1, b"tag:yaml.org,2002:seq", &[2, 2]));
-    assert!(rt; holds_scalar(document, 2, b"tag:yaml.org,2002:str", b"b"));
-    assert!(rt; yaml_document_get_node(document, 0).is_none());
-    assert!(rt; yaml_document_get_node(document, -1).is_none());
-}
-
-// A sequence that holds one scalar twice, and a scalar that is refused.
-fn add_sequence<R: Abort>(rt: &R, document: &mut yaml_document_t) -> Result<(), Fail> {
+// Each number is asked before the items are appended, since what it names follows from it.
+fn add_sequence(document: &mut yaml_document_t) -> Result<bool, yaml_text_fault_t> {
     let style = yaml_sequence_style_t::YAML_ANY_SEQUENCE_STYLE;
     let sequence = yaml_document_add_sequence(document, None, style)?;
     let style = yaml_scalar_style_t::YAML_ANY_SCALAR_STYLE;
     let scalar = yaml_document_add_scalar(document, None, b"b", style)?;
-    assert_eq!(rt; sequence, 1);
-    assert_eq!(rt; scalar, 2);
+    if sequence != 1 {
+        return Ok(false);
+    }
+    if scalar != 2 {
+        return Ok(false);
+    }
     let refused = yaml_document_add_scalar(document, None, b"\xFF", style);
-    assert!(rt; matches!(&refused, Err(yaml_text_fault_t::NotUtf8)));
-    assert!(rt; yaml_document_get_node(document, 3).is_none());
+    if !matches!(&refused, Err(yaml_text_fault_t::NotUtf8)) {
+        return Ok(false);
+    }
+    let is_free = yaml_document_get_node(document, 3).is_none();
     yaml_document_append_sequence_item(document, sequence, scalar)?;
     yaml_document_append_sequence_item(document, sequence, scalar)?;
-    holds_twice(rt, document);
-    Ok(())
+    Ok(is_free && holds_twice(document))
 }
 
-#[test]
-fn adds_a_sequence(rt: HostRuntime) -> Result<(), Fail> {
-    let mut document = yaml_document_initialize(rt.alloc(), None, &[], true, true)?;
-    add_sequence(&rt, &mut document)
-}
-
-// A mapping with one pair.
-fn add_mapping<R: Abort>(rt: &R, document: &mut yaml_document_t) -> Result<(), Fail> {
+fn add_mapping(document: &mut yaml_document_t) -> Result<bool, yaml_text_fault_t> {
     let style = yaml_mapping_style_t::YAML_ANY_MAPPING_STYLE;
     let mapping = yaml_document_add_mapping(document, None, style)?;
     let style = yaml_scalar_style_t::YAML_ANY_SCALAR_STYLE;
@@ -156,13 +130,73 @@ fn add_mapping<R: Abort>(rt: &R, document: &mut yaml_document_t) -> Result<(), F
     let value = yaml_document_add_scalar(document, Some(b"!t"), b"v", style)?;
     yaml_document_append_mapping_pair(document, mapping, key, value)?;
     let pair = yaml_node_pair_t { key: 2, value: 3 };
-    assert!(rt; holds_mapping(document, 1, b"tag:yaml.org,2002:map", pair));
-    assert!(rt; holds_scalar(document, 3, b"!t", b"v"));
+    Ok(
+        holds_mapping(document, 1, b"tag:yaml.org,2002:map", pair)
+            && holds_scalar(document, 3, b"!t", b"v"),
+    )
+}
+
+fn answers(document: &mut yaml_document_t, asked: Asked) -> bool {
+    match asked {
+        Asked::Made => is_made(document),
+        Asked::Sequence => add_sequence(document) == Ok(true),
+        Asked::Mapping => add_mapping(document) == Ok(true),
+    }
+}
+
+// Whether a document of that version and with those directives answers what is asked as it is to. Its start is implicit, and
+// its end where it has no directive.
+fn is_right(
+    alloc: Global,
+    version: Option<yaml_version_directive_t>,
+    directives: &[yaml_tag_directive_t],
+    asked: Asked,
+) -> bool {
+    let end_implicit = directives.is_empty();
+    match yaml_document_initialize(alloc, version, directives, true, end_implicit) {
+        Ok(mut document) => {
+            let right = answers(&mut document, asked);
+            yaml_document_delete(document);
+            right
+        }
+        Err(_) => false,
+    }
+}
+
+fn push(
+    alloc: Global,
+    directives: &mut Vec<yaml_tag_directive_t>,
+    handle: &[u8],
+    prefix: &[u8],
+) -> Result<(), AllocError> {
+    let handle = handle.to_vec(alloc)?;
+    let prefix = prefix.to_vec(alloc)?;
+    directives.push(yaml_tag_directive_t { handle, prefix })?;
     Ok(())
 }
 
+fn makes(alloc: Global) -> bool {
+    let mut directives = Vec::new(alloc);
+    let pushed = push(alloc, &mut directives, b"!e!", b"tag:x,2000:");
+    pushed.is_ok() && is_right(alloc, VERSION, directives.as_slice(), Asked::Made)
+}
+
+fn is_refused(alloc: Global, directives: &[yaml_tag_directive_t]) -> bool {
+    let refused = yaml_document_initialize(alloc, None, directives, true, true);
+    matches!(&refused, Err(yaml_text_fault_t::NotUtf8))
+}
+
+fn refuses(alloc: Global) -> bool {
+    let mut directives = Vec::new(alloc);
+    let pushed = push(alloc, &mut directives, b"!", b"\xFF");
+    pushed.is_ok() && is_refused(alloc, directives.as_slice())
+}
+
 #[test]
-fn adds_a_mapping(rt: HostRuntime) -> Result<(), Fail> {
-    let mut document = yaml_document_initialize(rt.alloc(), None, &[], true, true)?;
-    add_mapping(&rt, &mut document)
+fn documents(rt: HostRuntime) -> Result<(), Fail> {
+    assert!(rt; makes(rt.alloc()));
+    assert!(rt; refuses(rt.alloc()));
+    assert!(rt; is_right(rt.alloc(), None, &[], Asked::Sequence));
+    assert!(rt; is_right(rt.alloc(), None, &[], Asked::Mapping));
+    Ok(())
 }

@@ -6,9 +6,9 @@ use std::alloc::{AllocError, Global};
 use std::test::Fail;
 use yaml_parse::{
     yaml_encoding_t, yaml_error_type_t, yaml_event_t, yaml_event_type_t, yaml_fault_t, yaml_mark_t,
-    yaml_origin_t, yaml_parser_between, yaml_parser_initialize, yaml_parser_load,
-    yaml_parser_parse, yaml_parser_prefix, yaml_parser_t, yaml_token_body_t, yaml_token_source_t,
-    yaml_token_t,
+    yaml_origin_t, yaml_parser_between, yaml_parser_delete, yaml_parser_initialize,
+    yaml_parser_load, yaml_parser_parse, yaml_parser_prefix, yaml_parser_t, yaml_token_body_t,
+    yaml_token_source_t, yaml_token_t,
 };
 use yaml_parse_list::{yaml_token_list_t, yaml_token_utf8};
 use yaml_round_adapter::yaml_adapter_t;
@@ -165,7 +165,11 @@ fn push_stream(list: &mut yaml_token_list_t) -> Result<(), AllocError> {
 // Whether a parser of these tokens gives the events of a stream without documents.
 fn ends_stream(alloc: Global, list: yaml_token_list_t) -> bool {
     match yaml_parser_initialize(alloc, list) {
-        Ok(mut parser) => ends_behind(&mut parser, &EMPTY),
+        Ok(mut parser) => {
+            let ends = ends_behind(&mut parser, &EMPTY);
+            yaml_parser_delete(parser);
+            ends
+        }
         Err(_) => false,
     }
 }

@@ -5,8 +5,8 @@ use crate::owner::{Asked, is_right};
 use std::alloc::{AllocError, Global};
 use std::test::Fail;
 use yaml_parse::{
-    yaml_document_get_node, yaml_document_get_root_node, yaml_document_t, yaml_node_body_t,
-    yaml_parser_between, yaml_parser_load, yaml_parser_t,
+    yaml_document_delete, yaml_document_get_node, yaml_document_get_root_node, yaml_document_t,
+    yaml_node_body_t, yaml_parser_between, yaml_parser_load, yaml_parser_t,
 };
 use yaml_round_adapter::yaml_adapter_t;
 
@@ -74,7 +74,11 @@ pub(crate) fn loads_next(parser: &mut yaml_parser_t<yaml_adapter_t>, wanted: Wan
         return false;
     }
     match yaml_parser_load(parser) {
-        Ok(document) => is_wanted(&document, wanted),
+        Ok(document) => {
+            let right = is_wanted(&document, wanted);
+            yaml_document_delete(document);
+            right
+        }
         Err(_) => false,
     }
 }

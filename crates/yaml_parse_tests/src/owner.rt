@@ -4,7 +4,9 @@
 use crate::endings::{ends_behind, refuses};
 use crate::loads::{Wanted, has_one, loads_next};
 use std::alloc::Global;
-use yaml_parse::{yaml_encoding_t, yaml_event_type_t, yaml_parser_initialize, yaml_parser_t};
+use yaml_parse::{
+    yaml_encoding_t, yaml_event_type_t, yaml_parser_delete, yaml_parser_initialize, yaml_parser_t,
+};
 use yaml_round_adapter::yaml_adapter_t;
 
 /// What a parser of a text is asked.
@@ -33,7 +35,11 @@ fn answers(parser: &mut yaml_parser_t<yaml_adapter_t>, asked: Asked) -> bool {
 pub(crate) fn is_right(alloc: Global, text: &[u8], asked: Asked) -> bool {
     let adapter = yaml_adapter_t::new(alloc, text, yaml_encoding_t::YAML_ANY_ENCODING);
     match yaml_parser_initialize(alloc, adapter) {
-        Ok(mut parser) => answers(&mut parser, asked),
+        Ok(mut parser) => {
+            let right = answers(&mut parser, asked);
+            yaml_parser_delete(parser);
+            right
+        }
         Err(_) => false,
     }
 }

@@ -1,4 +1,4 @@
-//! The calls that ask for memory, with enough of it; run under refused allocations too.
+//! The scanner's calls that ask for memory, with enough of it; run under refused allocations too.
 
 use std::alloc::Global;
 use std::test::Fail;
@@ -13,13 +13,6 @@ fn decodes_text(alloc: Global) -> Result<bool, yaml_fault_t> {
         Ok(text) => Ok(text.as_slice() == b"f\xF0\x9F\x98\x80".as_slice()),
         Err(fault) => Err(fault),
     }
-}
-
-#[test]
-fn decodes(rt: HostRuntime) -> Result<(), Fail> {
-    let right = decodes_text(rt.alloc())?;
-    assert!(rt; right);
-    Ok(())
 }
 
 // A text with tokens of all types.
@@ -82,8 +75,10 @@ fn scans_all_types(alloc: Global) -> Result<bool, yaml_fault_t> {
 }
 
 #[test]
-fn scans(rt: HostRuntime) -> Result<(), Fail> {
-    let right = scans_all_types(rt.alloc())?;
-    assert!(rt; right);
+fn memory(rt: HostRuntime) -> Result<(), Fail> {
+    let decodes = decodes_text(rt.alloc())?;
+    let scans = scans_all_types(rt.alloc())?;
+    assert!(rt; decodes);
+    assert!(rt; scans);
     Ok(())
 }

@@ -1,4 +1,4 @@
-//! Sessions: what is lent and dropped, and what is answered behind the end and behind a fault. Each session is lent as soon as
+//! The scanner's sessions: what is lent and dropped, and what is answered behind the end and behind a fault. Each session is lent as soon as
 //! it is made, and what it answers is kept as plain values: an owner that may still end in several ways is dear to prove.
 
 use std::alloc::Global;
@@ -110,24 +110,20 @@ fn have_same(
     is_over(giving) && is_over(session)
 }
 
+// Whether a session of the text has so many tokens in that way, the same ones as one that gives them.
+fn has_given(alloc: Global, text: &[u8], count: u64, way: Way, giving: &mut yaml_parser_t) -> bool {
+    let mut session = session_of(alloc, text);
+    have_same(&mut session, way, giving, count)
+}
+
 // Whether sessions of the text have so many tokens, the same ones where they are asked in that way as where they are given.
 fn has_tokens(alloc: Global, text: &[u8], count: u64, way: Way) -> bool {
-    let mut session = session_of(alloc, text);
     let mut giving = session_of(alloc, text);
-    have_same(&mut session, way, &mut giving, count)
+    has_given(alloc, text, count, way, &mut giving)
 }
 
 // Texts, and how many tokens they have.
 const TEXTS: [(&[u8], u64); 2] = [(b"a: 1", 8), (b"- a\n- b\n", 8)];
-
-#[test]
-fn lends_and_skips(rt: HostRuntime) -> Result<(), Fail> {
-    for (text, count) in &TEXTS {
-        assert!(rt; has_tokens(rt.alloc(), *text, *count, Way::Lent));
-        assert!(rt; has_tokens(rt.alloc(), *text, *count, Way::Skipped));
-    }
-    Ok(())
-}
 
 fn gives(session: &mut yaml_parser_t, count: u64) -> bool {
     for _ in 0..count {
@@ -170,8 +166,13 @@ const REFUSED: [(&[u8], u64, &str); 3] = [
     ),
 ];
 
+// Tokens are lent and dropped as they are given; behind a fault nothing comes.
 #[test]
-fn behind_a_fault(rt: HostRuntime) -> Result<(), Fail> {
+fn sessions(rt: HostRuntime) -> Result<(), Fail> {
+    for (text, count) in &TEXTS {
+        assert!(rt; has_tokens(rt.alloc(), *text, *count, Way::Lent));
+        assert!(rt; has_tokens(rt.alloc(), *text, *count, Way::Skipped));
+    }
     for (text, count, problem) in &REFUSED {
         assert!(rt; is_refused(rt.alloc(), *text, *count, *problem));
     }

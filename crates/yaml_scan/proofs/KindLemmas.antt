@@ -20,7 +20,8 @@ use Rattle.yaml_scan_history.specs.declared.lexeme.Lexeme.{Lexeme}
 use Rattle.yaml_scan_history.specs.Kinds.{is_value, is_start, is_end, cancels, may_be_key}
 use Rattle.yaml_scan_history.specs.History.{Candidate, candidate, fresh, has, reached, depth, placed, levels, found_by}
 use Rattle.yaml_scan_history.specs.Words.{WordText, word_at, kind_at}
-use Rattle.yaml_scan_history.specs.Next.{Next, Read, Fails, Ends, next, history, first_lexeme, behind, unless_missed, no_colon, no_token, not_allowed, not_allowed_by, allowed_behind, finished, misplaced, missed, lost_by, tested, unless_wrong, unless_lost, of_kind}
+use Rattle.yaml_scan_history.specs.Next.{Next, Read, Fails, Ends, next, history, first_lexeme, not_allowed_by, allowed_behind, finished, misplaced, missed, lost_by}
+use Rattle.yaml_scan_history.specs.Stepwise.{behind, unless_missed, no_colon, no_token, not_allowed, tested, unless_wrong, unless_lost, of_kind}
 use Rattle.yaml_scan_history.specs.Remaining.{SpelledText, body_by, body_in, body_of_word}
 use Rattle.yaml_scan.specs.declared.machine.Machine.{Machine}
 use Rattle.yaml_scan.specs.declared.waiting.Waiting.{Waiting}

@@ -13,8 +13,10 @@ use Rattle.yaml_scan_history.specs.declared.lexeme.Lexeme.{Lexeme}
 use Rattle.yaml_scan_history.specs.declared.lexeme.Entry.{Entry}
 use Rattle.yaml_scan_history.specs.Kinds.{is_value, cancels, may_be_key}
 use Rattle.yaml_scan_history.specs.History.{Candidate, candidate, fresh, is_fresh, first_open, opens_in, entries, reached, depth, key_allowed, ended}
-use Rattle.yaml_scan_history.specs.Next.{Next, Read, Fails, Ends, next, history, extended, first_lexeme, allowed_behind, missed, lost_by, behind}
+use Rattle.yaml_scan_history.specs.Next.{Next, Read, Fails, Ends, next, history, extended, first_lexeme, allowed_behind, missed, lost_by}
+use Rattle.yaml_scan_history.specs.Stepwise.{behind}
 use Rattle.yaml_scan_history.specs.Laws.{Upto}
+use Rattle.yaml_scan_history.proofs.StepwiseLemmas.{stepwise}
 use Rattle.yaml_scan_history.proofs.HistoryLemmas.{candidate_below, first_open-is, first_open-least, fresh_is, fresh_before, IsOpen}
 use Rattle.yaml_scan.specs.declared.waiting.Waiting.{Waiting}
 use Rattle.yaml_scan.specs.Shows.{Fields, IsShown, read, settled_in}
@@ -30,7 +32,7 @@ next_first text (l ∷ h) none = absurd (omega arith)
 pub next_at : (text : List ℕ) (h : List Lexeme) → 0 < length h → ended h ≡ false → next text h ≡ behind text (gap_of text h) h
 unfolding next
 next_at text [] some more = absurd (omega arith)
-next_at text (l ∷ h) some more = rw more refl
+next_at text (l ∷ h) some more = rw more (stepwise text (l ∷ h))
 
 line_on : (text : List ℕ) (p k : ℕ) → line_at text p ≤ line_at text (k + p)
 unfolding line_at

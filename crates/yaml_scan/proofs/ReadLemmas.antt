@@ -10,7 +10,9 @@ use Rattle.yaml_scan_history.specs.declared.lexeme.Lexeme.{Lexeme}
 use Rattle.yaml_scan_history.specs.Kinds.{is_end, may_be_key}
 use Rattle.yaml_scan_history.specs.History.{candidate, fresh, reached, depth, key_allowed, placed}
 use Rattle.yaml_scan_history.specs.Words.{WordText, word_at, kind_at}
-use Rattle.yaml_scan_history.specs.Next.{Next, Read, next, first_lexeme, no_colon, allowed_behind, begun, finished, misplaced, missed, lost_by, unless_wrong, unless_lost, of_kind, unless_missed}
+use Rattle.yaml_scan_history.specs.Next.{Next, Read, kind_behind, coming, next, first_lexeme, allowed_behind, begun, finished, misplaced, missed, lost_by}
+use Rattle.yaml_scan_history.specs.Stepwise.{no_colon, unless_wrong, unless_lost, of_kind, unless_missed}
+use Rattle.yaml_scan_history.proofs.StepwiseLemmas.{stepwise}
 
 -- what stands between a history and the next lexeme
 abbrev pub gap_of : List ℕ → List Lexeme → Gap
@@ -102,7 +104,8 @@ next_is text y h x e =
       | inr more ↦
           let all = y ∷ h in
           let gap = gap_of text all in
-          let (k, some, rest) = of_kind_is (kind_at (ltb 0 (depth all)) text gap.place) text gap all x (missed_is (missed (fresh (candidate 0 all) (reached all)) (mark_at text gap.place)) text gap all x (rw more at e)) in
+          let here : coming (kind_behind text all) text all ≡ Read x = rw more at e in
+          let (k, some, rest) = of_kind_is (kind_at (ltb 0 (depth all)) text gap.place) text gap all x (missed_is (missed (fresh (candidate 0 all) (reached all)) (mark_at text gap.place)) text gap all x (sym (stepwise text all) ∙ here)) in
           let (w, reads, same, none) = wrong_is _ text (begun_at text all k) all x rest in
           read_of text all x k w some reads same none
     ]

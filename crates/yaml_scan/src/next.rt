@@ -7,6 +7,7 @@ ghost use Rattle.yaml_scan_model.specs.Tokens.{body_of, stream_start};
 ghost use Rattle.yaml_scan_words.specs.Between.{Gap};
 ghost use Rattle.yaml_scan_history.specs.Kinds as kinds;
 ghost use Rattle.yaml_scan_history.specs.Next as spec;
+ghost use Rattle.yaml_scan_history.specs.Stepwise as steps;
 ghost use Rattle.yaml_scan_history.specs.Laws.{Upto};
 ghost use Rattle.yaml_scan_history.specs.History.{candidate, fresh, reached, indent, left_by, placed, keeps};
 ghost use Rattle.yaml_scan.specs.Stands.{Stands};
@@ -101,7 +102,7 @@ impl<'a> Machine<'a> {
         ensures safe { IfOk result (λ r. IsNext self.now r) }
         ensures exact { (gap : Gap) → gap.place ≡ reader.old.at
             → spec.allowed_behind (history_of self.now) gap ≡ stand.allowed
-            → GivesNext self.now result (spec.of_kind (Some stand.kind) (text_bytes self.now.text)
+            → GivesNext self.now result (steps.of_kind (Some stand.kind) (text_bytes self.now.text)
             gap (history_of self.now)) }
     {
         let own = self.own(stand);
@@ -142,7 +143,7 @@ impl<'a> Machine<'a> {
             (reached (history_of self.now))) }
         ensures safe { IfOk result (λ r. EndsAt (text_bytes self.now.text) lexeme r.0) }
         ensures exact { GivesLexeme (stream_of self.now) result
-            (spec.unless_wrong (word_at lexeme.kind (nat_lt 0 lexeme.depth) lexeme.level
+            (steps.unless_wrong (word_at lexeme.kind (nat_lt 0 lexeme.depth) lexeme.level
             (text_bytes self.now.text) lexeme.start.index) (text_bytes self.now.text) lexeme
             (history_of self.now)) }
     {

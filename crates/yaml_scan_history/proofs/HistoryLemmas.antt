@@ -1,5 +1,5 @@
 -- Histories, a step at a time: what is before the earliest open candidate never changes.
-use Rattle.std.proofs.Common.{◌≡◌, ◌≢◌, ℕ, zero, suc, ◌+◌, ◌-◌, ◌<◌, ◌≤◌, Bool, true, false, cond, ltb, leb, eqb, ◌&&◌, List, [], ◌∷◌, ◌++◌, length, take, drop, get_or, Option, Some, None, refl, sym, ap, subst, ◌∙◌, inl, inr, ◌⊎◌, arith, add-one, append_assoc, length-append}
+use Rattle.std.proofs.Common.{◌≡◌, ◌≢◌, ℕ, zero, suc, ◌+◌, ◌-◌, ◌<◌, ◌≤◌, true, false, cond, ltb, eqb, List, [], ◌∷◌, ◌++◌, length, take, Option, Some, None, refl, sym, ap, subst, ◌∙◌, inl, inr, ◌⊎◌, arith, append_assoc, length-append}
 use Rattle.std.proofs.lemmas.Bool.{cases_Bool, cases_lt}
 use Rattle.std.proofs.lemmas.Bool.Decides.{nat_tests}
 use Rattle.std.proofs.lemmas.Grind.{common_steps}
@@ -7,9 +7,9 @@ use Rattle.std.proofs.lemmas.List.{take-append-le, take-take}
 use Rattle.yaml_scan_model.specs.declared.record.yaml_mark_t.{yaml_mark_t}
 use Rattle.yaml_scan_history.specs.declared.lexeme.Lexeme.{Lexeme}
 use Rattle.yaml_scan_history.specs.declared.lexeme.Entry.{Entry}
-use Rattle.yaml_scan_history.specs.Kinds.{is_value, cancels}
+use Rattle.yaml_scan_history.specs.Kinds.{is_value}
 use Rattle.yaml_scan_history.specs.Remaining.{all, handed_out, handed}
-use Rattle.yaml_scan_history.specs.History.{Candidate, candidate, is_fresh, fresh, has_number, first_open, as_key, mark_key, marked, keyed, entries, reached, found_by, inside}
+use Rattle.yaml_scan_history.specs.History.{Candidate, candidate, is_fresh, fresh, has_number, first_open, mark_key, marked, keyed, entries, reached, found_by, inside}
 use Rattle.yaml_scan_history.specs.Next.{history, Next, Read, Fails, Ends, next, extended}
 use Rattle.yaml_scan_history.specs.Laws.{Upto, GoesForward}
 

@@ -1,4 +1,5 @@
 pub mod HistoryLemmas
+pub mod StepwiseLemmas
 -- what it stands on, for crates of laws that name this one alone
 pub use Rattle.yaml_scan_model.proofs as scan_model
 pub use Rattle.yaml_scan_words.proofs as scan_words

@@ -21,6 +21,10 @@ abbrev pub depth : List Lexeme → ℕ
 depth [] = 0
 depth (l ∷ h) = depth_after l.kind l.depth
 
+-- some bracket is open
+abbrev pub in_flow : List Lexeme → Bool
+in_flow h = nat_lt 0 (depth h)
+
 abbrev pub ended : List Lexeme → Bool
 ended [] = false
 ended (l ∷ h) = is_end l.kind
@@ -49,17 +53,23 @@ abbrev pub fresh : Option Candidate → yaml_mark_t → Option Candidate
 fresh None place = None
 fresh (Some c) place = if is_fresh c.lexeme.start place then Some c else None
 
+-- the candidate of a depth, where it is open: not stale at the place that was reached
+abbrev pub open_at : ℕ → List Lexeme → Option Candidate
+open_at d h = fresh (candidate d h) (reached h)
+
 abbrev pub has_number : Option Candidate → ℕ → Bool
 has_number None n = false
 has_number (Some c) n = c.number == n
 
+-- The earliest open one of n lexemes and one more, or how many they all are: `first` is that of the n.
+abbrev pub first_or : ℕ → Bool → ℕ → ℕ
+first_or first is_open n = if nat_lt first n then first else if is_open then n else suc n
+
 -- The number of the earliest candidate among the lexemes h that is open behind `all`, or how many h are.
 unfoldable pub first_open : List Lexeme → List Lexeme → ℕ
 first_open all [] = 0
-first_open all (l ∷ h) =
-    if nat_lt (first_open all h) (length h) then first_open all h
-    else if has_number (fresh (candidate l.depth all) (reached all)) (length h) then length h
-    else suc (length h)
+first_open all (l ∷ h) = first_or (first_open all h) (has_number (open_at l.depth all) (length h))
+    (length h)
 
 -- which lexemes are their depth's candidate behind `all`, the first one first
 unfoldable pub opens_in : List Lexeme → List Lexeme → List Bool
@@ -74,40 +84,47 @@ abbrev pub has : Option Candidate → Bool
 has None = false
 has (Some c) = true
 
--- Levels are columns counted from 1, outermost first, so that no level is 0.
+-- A block level is told by its margin: the first column right of its own, at which what stands in it may begin.
+abbrev pub margin_at : ℕ → ℕ
+margin_at column = column + 1
+
+-- the margin of the innermost level, of levels from the outermost on; 0 where none is open
 unfoldable pub indent : List ℕ → ℕ
 indent [] = 0
 indent (c ∷ []) = c
 indent (c ∷ d ∷ cs) = indent (d ∷ cs)
 
--- the innermost column that a lexeme leaves open
+-- The greatest margin that a lexeme leaves open: it closes the levels right of its column; what stands outside of
+-- them closes all.
 abbrev pub keeps : Kind → ℕ → ℕ
-keeps k column = if is_outside k then 0 else column + 1
+keeps k column = if is_outside k then 0 else margin_at column
 
 -- the levels that a lexeme leaves open; inside brackets it leaves all
 abbrev pub left_by : Kind → ℕ → ℕ → List ℕ → List ℕ
 left_by k depth column levels = if nat_lt 0 depth then levels
     else filter (λ x. nat_le x (keeps k column)) levels
 
--- the column where a `-`, a `?`, a `:` or the key of a `:` may open a level
+-- the margin of the level that may open at the column of a `-`, a `?`, a `:` or the key of a `:`
 abbrev pub opens_at : Option Candidate → Kind → ℕ → ℕ
-opens_at None k column = column + 1
-opens_at (Some c) k column = if is_value k then c.lexeme.start.column + 1 else column + 1
+opens_at None k column = margin_at column
+opens_at (Some c) k column = if is_value k then margin_at c.lexeme.start.column
+    else margin_at column
 
+-- that level behind the others, where it may open and stands right of the innermost one
 abbrev pub opened : Bool → ℕ → List ℕ → List ℕ
-opened may column levels = if may && nat_lt (indent levels) column then levels ++ column ∷ []
+opened may margin levels = if may && nat_lt (indent levels) margin then levels ++ margin ∷ []
     else levels
 
--- the columns whose level no later lexeme has closed
+-- the margins of the levels that no later lexeme has closed
 unfoldable pub levels : List Lexeme → List ℕ
 levels [] = []
 levels (l ∷ h) = opened (is_start l.kind && not (nat_lt 0 l.depth))
     (opens_at (found_by l h) l.kind l.start.column)
     (left_by l.kind l.depth l.start.column (levels h))
 
--- the level that opens at a column, where it passes the indent
+-- the level that opens with that margin, where it stands right of the innermost one
 abbrev pub start_of : ℕ → ℕ → List ℕ → Opens → Opens
-start_of depth column levels what = if not (nat_lt 0 depth) && nat_lt (indent levels) column
+start_of depth margin levels what = if not (nat_lt 0 depth) && nat_lt (indent levels) margin
     then what else opening.Nothing
 
 -- the level that a `-`, a `?` or a `:` may open
@@ -119,7 +136,7 @@ abbrev pub opens_of : Option Candidate → Lexeme → List ℕ → Opens
 opens_of found l levels =
     if not (is_start l.kind) then opening.Nothing
     else if is_value l.kind && has found then opening.Nothing
-    else start_of l.depth (l.start.column + 1) levels (level_of l.kind)
+    else start_of l.depth (margin_at l.start.column) levels (level_of l.kind)
 
 -- the levels behind which a lexeme stands
 abbrev pub inside : Lexeme → List Lexeme → List ℕ
@@ -134,13 +151,13 @@ entry_of l h = record {
   key = false;
 }
 
--- the mark that a `:` sets at its candidate: a key, which opens a mapping where its column passes the indent
+-- the mark that a `:` sets at its candidate: a key, which opens a mapping where it stands right of the innermost level
 abbrev pub as_key : List ℕ → Entry → Entry
 as_key levels e = record {
   lexeme = e.lexeme;
   ends = e.ends;
   opens = start_of e.lexeme.depth
-      (e.lexeme.start.column + 1) levels opening.Mapping;
+      (margin_at e.lexeme.start.column) levels opening.Mapping;
   key = true;
 }
 

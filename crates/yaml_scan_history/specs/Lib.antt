@@ -2,6 +2,7 @@ pub mod Kinds
 pub mod History
 pub mod Words
 pub mod Next
+pub mod Stepwise
 pub mod Remaining
 pub mod Laws
 -- what it stands on, for crates of laws that name this one alone

@@ -1,8 +1,7 @@
 -- The tokens of a text, in order, and the fault that ends them.
-use Rattle.std.specs.Prelude.{ℕ, ◌+◌, nat_lt, if◌then◌else◌, Bool, List, [], ◌∷◌, ◌++◌, length, take, drop, replicate, Option, Some, None, Result, Ok, Err}
+use Rattle.std.specs.Prelude.{ℕ, ◌+◌, nat_lt, if◌then◌else◌, List, [], ◌∷◌, ◌++◌, length, take, drop, replicate, Option, Some, None, Result, Ok, Err}
 use Rattle.std.specs.List.{flat_map}
 use Rattle.yaml_scan_model.specs.declared.name.yaml_encoding_t.{yaml_encoding_t}
-use Rattle.yaml_scan_model.specs.declared.problem.ScanFault.{ScanFault}
 use Rattle.yaml_scan_model.specs.Tokens.{Token, TokenBody, no, stream_start, block_end, block_sequence_start, block_mapping_start, key}
 use Rattle.yaml_scan_model.specs.Faults.{Fault}
 use Rattle.yaml_scan_model.specs.Problems.{scanner_fault}

@@ -1,5 +1,5 @@
 -- What steps make of a lexeme.
-use Rattle.std.proofs.Common.{◌≡◌, ℕ, zero, suc, ◌+◌, ◌==◌, ◌&&◌, ◌||◌, not, nat_lt, Bool, true, false, List, [], ◌∷◌, Option, Some, None, Result, Ok, Err, refl, inl, inr, arith}
+use Rattle.std.proofs.Common.{◌≡◌, ℕ, zero, suc, ◌+◌, ◌==◌, ◌&&◌, ◌||◌, not, nat_lt, Bool, true, false, List, [], ◌∷◌, Option, Some, None, Result, Ok, Err, refl, sym, subst, inl, inr, arith}
 use Rattle.std.proofs.lemmas.Bool.{cases_Bool}
 use Rattle.std.proofs.lemmas.Bool.Decides.{nat_tests}
 use Rattle.yaml_scan_laws_order.specs.scan_model.declared.record.yaml_mark_t.{yaml_mark_t}
@@ -17,7 +17,9 @@ use Rattle.yaml_scan_laws_order.specs.scan_history.declared.lexeme.Lexeme.{Lexem
 use Rattle.yaml_scan_laws_order.specs.scan_history.Kinds.{may_be_key, is_end}
 use Rattle.yaml_scan_laws_order.specs.scan_history.History.{placed, depth, key_allowed, candidate, fresh, indent, left_by, levels}
 use Rattle.yaml_scan_laws_order.specs.scan_history.Words.{WordText, valued, tagged, directed, blocked, kind_at, word_at}
-use Rattle.yaml_scan_laws_order.specs.scan_history.Next.{Next, Read, Fails, Ends, no_colon, level_in, begun, finished, allowed_behind, misplaced, missed, lost_by, tested, unless_wrong, unless_lost, of_kind, unless_missed, next, extended, history}
+use Rattle.yaml_scan_laws_order.specs.scan_history.Next.{Next, Read, Fails, Ends, level_in, begun, finished, allowed_behind, misplaced, missed, lost_by, next, extended, history}
+use Rattle.yaml_scan_laws_order.specs.scan_history.Stepwise.{no_colon, tested, unless_wrong, unless_lost, of_kind, unless_missed}
+use Rattle.yaml_scan_laws_order.proofs.scan_history.StepwiseLemmas.{stepwise}
 
 abbrev pub is_plain : Kind → Bool
 is_plain kinds.Plain = true
@@ -163,7 +165,7 @@ next_made text (l ∷ h) =
     let gap = gap_at (nat_lt 0 (depth (l ∷ h))) (key_allowed (l ∷ h)) text l.reached.index in
     elim (cases_Bool (is_end l.kind)) [
       | inl e ↦ rw e tt
-      | inr e ↦ rw e (missed_made (missed (fresh (candidate 0 (l ∷ h)) l.reached) (mark_at text gap.place)) text gap (l ∷ h))
+      | inr e ↦ rw e (subst (MadeAny (l ∷ h)) (sym (stepwise text (l ∷ h))) (missed_made (missed (fresh (candidate 0 (l ∷ h)) l.reached) (mark_at text gap.place)) text gap (l ∷ h)))
     ]
 
 extended_made : (x : Next) (h : List Lexeme) → MadeAny h x → AllMade h → AllMade (extended x h)

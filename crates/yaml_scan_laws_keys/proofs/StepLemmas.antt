@@ -15,7 +15,9 @@ use Rattle.yaml_scan_laws_order.specs.scan_history.declared.lexeme.Entry.{Entry}
 use Rattle.yaml_scan_laws_order.specs.scan_history.Kinds.{cancels, is_value, is_start, is_end}
 use Rattle.yaml_scan_laws_order.specs.scan_history.History.{depth, reached, ended, Candidate, candidate, fresh, is_fresh, has, placed, entries}
 use Rattle.yaml_scan_laws_order.specs.scan_history.Words.{WordText, kind_at, word_at}
-use Rattle.yaml_scan_laws_order.specs.scan_history.Next.{Next, Read, Fails, Ends, first_lexeme, no_colon, not_allowed, begun, finished, allowed_behind, misplaced, missed, lost_by, tested, unless_wrong, unless_lost, of_kind, unless_missed, behind, next, extended, history}
+use Rattle.yaml_scan_laws_order.specs.scan_history.Next.{Next, Read, Fails, Ends, first_lexeme, begun, finished, allowed_behind, misplaced, missed, lost_by, kind_behind, coming, next, extended, history}
+use Rattle.yaml_scan_laws_order.specs.scan_history.Stepwise.{no_colon, not_allowed, tested, unless_wrong, unless_lost, of_kind, unless_missed, behind}
+use Rattle.yaml_scan_laws_order.proofs.scan_history.StepwiseLemmas.{stepwise}
 use Rattle.yaml_scan_laws_order.specs.scan_history.Remaining.{SpelledText, token_in, spell, all, handed_out, handed, kept_of, fault_in, Remaining, remaining}
 use Rattle.yaml_scan_laws_keys.specs.KeyFree.{asked, is_key_free, is_level_free, kinds_of}
 use Rattle.yaml_scan_laws_keys.specs.Laws.{gap_in, lexeme_of}
@@ -178,7 +180,7 @@ pub word_read : (text : List ℕ) (l : Lexeme) (h : List Lexeme) (k : Kind) (w :
     → next text (l ∷ h) ≡ Read (lexeme_of text (l ∷ h) (gap_in text (l ∷ h)) k w)
 unfolding next
 word_read text l h k w made free more kind said =
-    unless_so (is_end l.kind) Ends (behind text (gap_in text (l ∷ h)) (l ∷ h)) more ∙ word_behind text (l ∷ h) k w made free kind said
+    unless_so (is_end l.kind) Ends (coming (kind_behind text (l ∷ h)) text (l ∷ h)) more ∙ stepwise text (l ∷ h) ∙ word_behind text (l ∷ h) k w made free kind said
 
 -- Some lexeme is read by the first step.
 record HasNewest (h : List Lexeme) : Type 0 where

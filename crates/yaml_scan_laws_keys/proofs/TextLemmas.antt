@@ -13,7 +13,7 @@ use Rattle.yaml_scan_laws_order.specs.scan_history.declared.lexeme.Lexeme.{Lexem
 use Rattle.yaml_scan_laws_order.specs.scan_history.Kinds.{is_end}
 use Rattle.yaml_scan_laws_order.specs.scan_history.History.{depth, ended, placed}
 use Rattle.yaml_scan_laws_order.specs.scan_history.Words.{WordText, kind_at, word_at}
-use Rattle.yaml_scan_laws_order.specs.scan_history.Next.{Next, Read, Ends, behind, next, extended, history}
+use Rattle.yaml_scan_laws_order.specs.scan_history.Next.{Next, Read, Ends, kind_behind, coming, next, extended, history}
 use Rattle.yaml_scan_laws_order.specs.scan_history.Remaining.{SpelledText, body_of_word, body_by, token_in, all, Remaining, offline}
 use Rattle.yaml_scan_laws_order.proofs.HistoryForward.{last_is_all}
 use Rattle.yaml_scan_laws_order.proofs.WordForward.{FitsAny, kind_fits}
@@ -90,7 +90,7 @@ read_so_far text (w ∷ ws) (stands, more) free on =
 ends_behind : (text : List ℕ) (h : List Lexeme) → ended h ≡ true → next text h ≡ Ends
 unfolding next
 ends_behind text [] e = absurd (cc)
-ends_behind text (l ∷ h) e = ap (λ (b : Bool). if b then Ends else behind text (gap_in text (l ∷ h)) (l ∷ h)) e
+ends_behind text (l ∷ h) e = ap (λ (b : Bool). if b then Ends else coming (kind_behind text (l ∷ h)) text (l ∷ h)) e
 
 no_read : (x : Next) (l : Lexeme) → x ≡ Ends → x ≢ Read l
 no_read x l e f = cc

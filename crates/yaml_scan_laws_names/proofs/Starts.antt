@@ -14,7 +14,9 @@ use Rattle.yaml_scan.specs.scan_history.declared.lexeme.Lexeme.{Lexeme}
 use Rattle.yaml_scan.specs.scan_history.Kinds.{is_end}
 use Rattle.yaml_scan.specs.scan_history.History.{placed, depth, key_allowed, candidate, fresh}
 use Rattle.yaml_scan.specs.scan_history.Words.{indicator_of, or_plain, kind_at, WordText, word_at}
-use Rattle.yaml_scan.specs.scan_history.Next.{Next, Read, Fails, Ends, no_colon, begun, finished, allowed_behind, misplaced, missed, lost_by, tested, unless_wrong, unless_lost, of_kind, unless_missed, next, extended, history}
+use Rattle.yaml_scan.specs.scan_history.Next.{Next, Read, Fails, Ends, begun, finished, allowed_behind, misplaced, missed, lost_by, next, extended, history}
+use Rattle.yaml_scan.specs.scan_history.Stepwise.{no_colon, tested, unless_wrong, unless_lost, of_kind, unless_missed}
+use Rattle.yaml_scan.proofs.scan_history.StepwiseLemmas.{stepwise}
 use Rattle.yaml_scan_laws_names.proofs.Words.{Marked}
 
 equal_of : (a b : ℕ) → (a == b) ≡ true → a ≡ b
@@ -127,7 +129,7 @@ next_starts text (l ∷ h) =
     let gap = gap_at (nat_lt 0 (depth (l ∷ h))) (key_allowed (l ∷ h)) text l.reached.index in
     elim (cases_Bool (is_end l.kind)) [
       | inl e ↦ rw e tt
-      | inr e ↦ rw e (missed_starts (missed (fresh (candidate 0 (l ∷ h)) l.reached) (mark_at text gap.place)) text gap (l ∷ h))
+      | inr e ↦ rw e (subst (StartsAny text) (sym (stepwise text (l ∷ h))) (missed_starts (missed (fresh (candidate 0 (l ∷ h)) l.reached) (mark_at text gap.place)) text gap (l ∷ h)))
     ]
 
 abbrev pub AllStart : List ℕ → List Lexeme → Type 0

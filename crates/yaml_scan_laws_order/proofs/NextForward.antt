@@ -1,5 +1,5 @@
 -- The next lexeme stands behind the ones before it.
-use Rattle.std.proofs.Common.{◌≡◌, ℕ, ◌≤◌, ◌&&◌, nat_lt, true, false, List, ◌∷◌, length, Option, Some, None, Result, Ok, Err, refl, sym, ap, ◌∙◌, inl, inr, arith}
+use Rattle.std.proofs.Common.{◌≡◌, ℕ, ◌≤◌, ◌&&◌, nat_lt, true, false, List, ◌∷◌, length, Option, Some, None, Result, Ok, Err, refl, sym, ap, subst, ◌∙◌, inl, inr, arith}
 use Rattle.std.proofs.lemmas.Bool.{cases_Bool}
 use Rattle.yaml_scan_history.specs.scan_model.declared.record.yaml_mark_t.{yaml_mark_t}
 use Rattle.yaml_scan_history.specs.scan_model.Marks.{mark_at}
@@ -11,7 +11,9 @@ use Rattle.yaml_scan_history.specs.declared.lexeme.Lexeme.{Lexeme}
 use Rattle.yaml_scan_history.specs.Kinds.{is_end}
 use Rattle.yaml_scan_history.specs.History.{placed, depth, key_allowed, candidate, fresh}
 use Rattle.yaml_scan_history.specs.Words.{WordText, kind_at, word_at}
-use Rattle.yaml_scan_history.specs.Next.{Next, Read, Fails, Ends, no_colon, begun, finished, allowed_behind, misplaced, missed, lost_by, tested, unless_wrong, unless_lost, of_kind, unless_missed, next}
+use Rattle.yaml_scan_history.specs.Next.{Next, Read, Fails, Ends, begun, finished, allowed_behind, misplaced, missed, lost_by, next}
+use Rattle.yaml_scan_history.specs.Stepwise.{no_colon, tested, unless_wrong, unless_lost, of_kind, unless_missed}
+use Rattle.yaml_scan_history.proofs.StepwiseLemmas.{stepwise}
 use Rattle.yaml_scan_laws_order.specs.Standing.{StandsIn}
 use Rattle.yaml_scan_laws_order.proofs.WordForward.{Fits, FitsAny, kind_fits, LandsWord, IsWordFrom, word_lands}
 
@@ -105,4 +107,4 @@ next_reads text x h more i =
     let flow = nat_lt 0 (depth (x ∷ h)) in
     let gap = gap_at flow (key_allowed (x ∷ h)) text x.reached.index in
     let from = gap_place flow (key_allowed (x ∷ h)) text x.reached.index i in
-    rw more (missed_reads (missed (fresh (candidate 0 (x ∷ h)) x.reached) (mark_at text gap.place)) text x.reached.index gap (x ∷ h) from.forward from.inside)
+    rw more (subst (ReadsBehind text x.reached.index) (sym (stepwise text (x ∷ h))) (missed_reads (missed (fresh (candidate 0 (x ∷ h)) x.reached) (mark_at text gap.place)) text x.reached.index gap (x ∷ h) from.forward from.inside))

@@ -11,7 +11,9 @@ use Rattle.yaml_scan_history.specs.declared.lexeme.Lexeme.{Lexeme}
 use Rattle.yaml_scan_history.specs.Kinds.{is_end}
 use Rattle.yaml_scan_history.specs.History.{placed, depth, key_allowed, candidate, fresh}
 use Rattle.yaml_scan_history.specs.Words.{WordText, kind_at, word_at}
-use Rattle.yaml_scan_history.specs.Next.{Next, Read, Fails, Ends, no_colon, begun, finished, allowed_behind, misplaced, missed, lost_by, tested, unless_wrong, unless_lost, of_kind, unless_missed, next, extended, history}
+use Rattle.yaml_scan_history.specs.Next.{Next, Read, Fails, Ends, begun, finished, allowed_behind, misplaced, missed, lost_by, next, extended, history}
+use Rattle.yaml_scan_history.specs.Stepwise.{no_colon, tested, unless_wrong, unless_lost, of_kind, unless_missed}
+use Rattle.yaml_scan_history.proofs.StepwiseLemmas.{stepwise}
 use Rattle.yaml_scan_history.specs.Remaining.{SpelledText, body_of_word, body_by, body_in}
 use Rattle.yaml_scan_laws_utf8.specs.Texts.{HasTexts}
 use Rattle.yaml_scan_laws_utf8.proofs.Whole.{IsWhole}
@@ -112,8 +114,8 @@ next_carries s (x ∷ h) t (c, cs) =
     let gap = gap_at flow (key_allowed (x ∷ h)) s.text x.reached.index in
     elim (cases_Bool (is_end x.kind)) [
       | inl e ↦ rw e tt
-      | inr e ↦ rw e (missed_carries (missed (fresh (candidate 0 (x ∷ h)) x.reached) (mark_at s.text gap.place)) s gap (x ∷ h) t
-          (gap_at_whole flow (key_allowed (x ∷ h)) s.text x.reached.index t c.place))
+      | inr e ↦ rw e (subst (CarriesAny s) (sym (stepwise s.text (x ∷ h))) (missed_carries (missed (fresh (candidate 0 (x ∷ h)) x.reached) (mark_at s.text gap.place)) s gap (x ∷ h) t
+          (gap_at_whole flow (key_allowed (x ∷ h)) s.text x.reached.index t c.place)))
     ]
 
 extended_carry : (s : SpelledText) (x : Next) (h : List Lexeme) → CarriesAny s x → AllCarry s h → AllCarry s (extended x h)

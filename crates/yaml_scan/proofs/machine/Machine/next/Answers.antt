@@ -4,7 +4,8 @@ use Rattle.yaml_scan_model.specs.declared.record.yaml_mark_t.{yaml_mark_t}
 use Rattle.yaml_scan_decode.specs.DecodedText.{text_bytes}
 use Rattle.yaml_scan_words.specs.Between.{Gap}
 use Rattle.yaml_scan_history.specs.Words.{kind_at}
-use Rattle.yaml_scan_history.specs.Next.{Next, unless_missed, no_colon, no_token}
+use Rattle.yaml_scan_history.specs.Next.{Next}
+use Rattle.yaml_scan_history.specs.Stepwise.{unless_missed, no_colon, no_token}
 use Rattle.yaml_scan.specs.declared.waiting.Waiting.{Waiting}
 use Rattle.yaml_scan.specs.Shows.{fields_of, history_of}
 use Rattle.yaml_scan.specs.Reads.{GivesNext, late}

@@ -5,7 +5,8 @@ use Rattle.yaml_scan_history.specs.declared.kind.Kind.{Kind}
 use Rattle.yaml_scan_history.specs.declared.lexeme.Lexeme.{Lexeme}
 use Rattle.yaml_scan_history.specs.Kinds.{is_end}
 use Rattle.yaml_scan_history.specs.History.{placed}
-use Rattle.yaml_scan_history.specs.Next.{Next, unless_lost}
+use Rattle.yaml_scan_history.specs.Next.{Next}
+use Rattle.yaml_scan_history.specs.Stepwise.{unless_lost}
 use Rattle.yaml_scan.specs.Stands.{Stands}
 use Rattle.yaml_scan.specs.Shows.{stream_of, history_of}
 use Rattle.yaml_scan.specs.Reads.{GivesNext, lost}

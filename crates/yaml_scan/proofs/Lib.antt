@@ -1,4 +1,5 @@
 pub mod StandsLemmas
+pub mod QueueLemmas
 pub mod LevelsLemmas
 pub mod WordLemmas
 pub mod SafeLemmas

@@ -249,7 +249,7 @@ spoken_set s w [] i is h = h
 spoken_set s w (x ∷ xs) zero is h = spoken_cons s w xs is (spoken_rest s x xs h)
 spoken_set s w (x ∷ xs) (suc i) is h = spoken_cons s x (set xs i w) (h 0 x (omega arith)) (spoken_set s w xs i is (spoken_rest s x xs h))
 
-marked_lexeme : (l : Lexeme) (o : Opens) (w : Waiting) → (marked l o w).entry.lexeme ≡ w.entry.lexeme
+pub marked_lexeme : (l : Lexeme) (o : Opens) (w : Waiting) → (marked l o w).entry.lexeme ≡ w.entry.lexeme
 marked_lexeme l o w = elim (is_value l.kind && is_fresh w.entry.lexeme.start l.start) as (λ b. (cond b record { lexeme = w.entry.lexeme; ends = w.entry.ends; opens = o; key = true } w.entry).lexeme ≡ w.entry.lexeme) [ true ↦ refl | false ↦ refl ]
 
 pub spoken_marked : (s : SpelledText) (own : Option ℕ) (l : Lexeme) (o : Opens) (ws new : List Waiting) → IfSome own (λ i. i < length ws) → MarksOwn own l o ws new → AreSpoken s ws → AreSpoken s new

@@ -1,5 +1,5 @@
 -- What a token that is taken leaves to come.
-use Rattle.std.proofs.Common.{◌≡◌, ℕ, ◌+◌, ◌-◌, ◌<◌, ◌≤◌, true, false, ltb, List, [], ◌∷◌, length, get_or, Some, None, refl, sym, ap, subst, ◌∙◌, inl, inr, ◌⊎◌, arith, ◌^◌}
+use Rattle.std.proofs.Common.{◌≡◌, ℕ, ◌+◌, ◌-◌, ◌<◌, ◌≤◌, true, false, ltb, List, [], ◌∷◌, length, drop, get_or, Some, None, refl, sym, ap, subst, ◌∙◌, inl, inr, ◌⊎◌, arith, ◌^◌}
 use Rattle.std.proofs.lemmas.Bool.{cases_Bool, cases_lt}
 use Rattle.std.proofs.lemmas.Bool.Decides.{nat_tests}
 use Rattle.std.proofs.lemmas.List.{length-map}
@@ -148,6 +148,12 @@ front_waits m x ready here =
     let (w, rest, items) = first_waits m.dropped m.settled m.given m.waiting.items ready in
     let is : x ≡ w = here ∙ ap (λ (ws : List Waiting). get_or ws 0 x) items in
     (rest, items ∙ ap (λ (y : Waiting). y ∷ rest) (sym is))
+
+-- what waits first, where it is taken
+pub popped_waits : (m : Machine) (x : Waiting) (rest : List Waiting) → is_ready m ≡ true → x ≡ get_or m.waiting.items 0 x → rest ≡ drop 1 m.waiting.items → m.waiting.items ≡ x ∷ rest
+popped_waits m x rest ready here left =
+    let (after, items) = front_waits m x ready here in
+    items ∙ ap (λ (ws : List Waiting). x ∷ ws) (sym (left ∙ ap (λ (ws : List Waiting). drop 1 ws) items))
 
 -- the state where one more of the tokens in front is taken
 pub stands_more : (m : Machine) (w : Waiting) (rest : List Waiting) (b : TokenBody) → IsMachine m → m.waiting.items ≡ w ∷ rest → is_ready m ≡ true → front_at w.entry m.given ≡ Some b → IsMachine record m { given = m.given + 1 }

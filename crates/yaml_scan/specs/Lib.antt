@@ -2,6 +2,8 @@ pub use Rattle.yaml_scan_model.specs.Tokens
 pub use Rattle.yaml_scan_model.specs.Faults
 pub use Rattle.yaml_scan_model.specs.Classes
 pub use Rattle.yaml_scan_model.specs.Marks
+pub mod Line
+pub mod Queue
 pub mod Stands
 pub mod Rising
 pub mod Given

@@ -5,6 +5,7 @@ mod ahead;
 mod levels;
 mod machine;
 mod next;
+mod queue;
 mod session;
 mod waiting;
 mod word;

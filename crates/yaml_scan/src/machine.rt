@@ -9,9 +9,9 @@ ghost use Rattle.yaml_scan_history.specs.History as history;
 
 use crate::levels::Levels;
 use crate::next::{Read, keeps};
+use crate::queue::Queue;
 use crate::waiting::Waiting;
 use std::alloc::{AllocError, Global};
-use std::collections::VecDeque;
 use yaml_scan_decode::{stream_encoding, yaml_decode, yaml_text_t};
 use yaml_scan_history::{Entry, Kind, Lexeme, Opens};
 use yaml_scan_model::{
@@ -38,7 +38,7 @@ pub(crate) struct Machine<'a> {
     pub text: yaml_text_t<'a>,
     pub encoding: yaml_encoding_t,
     /// The lexemes that were read and are not all taken. It grows at its back alone.
-    pub waiting: VecDeque<Waiting>,
+    pub waiting: Queue,
     /// How many lexemes were taken, and how many tokens of the next one.
     pub dropped: usize,
     pub given: usize,
@@ -106,7 +106,7 @@ impl<'a> Machine<'a> {
             started,
             text,
             encoding: stream_encoding(input, setting),
-            waiting: VecDeque::new(alloc),
+            waiting: Queue::new(alloc),
             dropped: 0,
             given: 0,
             settled: 0,
@@ -234,10 +234,7 @@ impl<'a> Machine<'a> {
         slot.end_mark = first.entry.lexeme.end;
         self.dropped += 1;
         self.given = 0;
-        match self.waiting.pop_front() {
-            Some(front) => slot.body = front.body,
-            None => *slot = yaml_token_t::empty(),
-        }
+        slot.body = self.waiting.pop_body();
     }
 
     /// Reads on in the decoded text until the next token is known, or there is none. What is to come stays.
@@ -292,7 +289,7 @@ impl<'a> Machine<'a> {
         let ends = self.close_levels(lexeme);
         let opens = self.open_level(lexeme, column)?;
         self.mark_own(own, lexeme, opens);
-        self.waiting.reserve(1)?;
+        self.waiting.reserve()?;
         self.waiting.push_back_reserved(Waiting {
             entry: entry(lexeme, ends, opens, found),
             body,
@@ -317,7 +314,7 @@ impl<'a> Machine<'a> {
         ensures marks { MarksOwn own lexeme opens self.old.waiting.items self.new.waiting.items }
     {
         if let Some(i) = own {
-            self.waiting[i].mark(lexeme, opens);
+            self.waiting.mark(i, lexeme, opens);
         }
     }
 
@@ -385,7 +382,7 @@ impl<'a> Machine<'a> {
         ensures narrow { result ≤ length (text_bytes self.now.text) + 1 }
     {
         match key {
-            Some(i) => self.waiting[i].entry.lexeme.start.column + 1,
+            Some(i) => self.waiting.index(i).entry.lexeme.start.column + 1,
             None => own + 1,
         }
     }
@@ -437,7 +434,7 @@ impl<'a> Machine<'a> {
     {
         let first = self.settled - self.dropped;
         if first < self.waiting.len() {
-            return self.waiting[first].is_open(self.place);
+            return self.waiting.index(first).is_open(self.place);
         }
         false
     }
@@ -459,7 +456,7 @@ impl<'a> Machine<'a> {
         let mut i = self.settled - self.dropped;
         let candidate_bound = self.candidate_bound.saturating_sub(self.dropped);
         'pass: while i < candidate_bound {
-            if self.waiting[i].is_open(self.place) {
+            if self.waiting.index(i).is_open(self.place) {
                 return self.dropped + i;
             }
             i += 1;

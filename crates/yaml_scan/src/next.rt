@@ -234,7 +234,7 @@ impl<'a> Machine<'a> {
         let Some(i) = own else {
             return None;
         };
-        if is_fresh(self.waiting[i].entry.lexeme.start, stand.mark) {
+        if is_fresh(self.waiting.index(i).entry.lexeme.start, stand.mark) {
             return Some(i);
         }
         None
@@ -249,7 +249,7 @@ impl<'a> Machine<'a> {
     {
         let first = self.settled - self.dropped;
         if first < self.waiting.len() {
-            return self.waiting[first].must_come();
+            return self.waiting.index(first).must_come();
         }
         None
     }
@@ -273,7 +273,7 @@ impl<'a> Machine<'a> {
         if i <= first {
             return None;
         }
-        match self.waiting[i - 1].seen(self.depth) {
+        match self.waiting.index(i - 1).seen(self.depth) {
             Seen::Here => Some(i - 1),
             Seen::Nowhere => None,
             Seen::Further => self.look_back(i - 1),
@@ -295,7 +295,7 @@ impl<'a> Machine<'a> {
         let first = self.settled - self.dropped;
         let mut i = from;
         'back: while first < i {
-            match self.waiting[i - 1].seen(self.depth) {
+            match self.waiting.index(i - 1).seen(self.depth) {
                 Seen::Here => return Some(i - 1),
                 Seen::Nowhere => return None,
                 Seen::Further => {}

@@ -2,12 +2,13 @@
 
 ghost use Rattle.std.specs.Prelude.{◌≡◌, ◌&&◌, ◌==◌, if◌then◌else◌, Some, None, option_map};
 ghost use Rattle.yaml_scan_model.specs.Tokens.{body_of};
+ghost use Rattle.yaml_scan_model.specs.declared.token.yaml_token_body_t.TheVariants as bodies;
 ghost use Rattle.yaml_scan.specs.Front.{front_at, start_at, key_at};
 ghost use Rattle.yaml_scan.specs.Fronted.{token_before};
 ghost use Rattle.yaml_scan_history.specs.History as history;
 ghost use Rattle.yaml_scan.specs.Shows as shows;
 
-use yaml_scan_history::{Entry, Lexeme, Opens, is_fresh};
+use yaml_scan_history::{Entry, Kind, Lexeme, Opens, is_fresh};
 use yaml_scan_model::{yaml_mark_t, yaml_token_body_t};
 
 /// A lexeme that was read and not yet taken.
@@ -21,6 +22,37 @@ pub(crate) struct Waiting {
 }
 
 impl Waiting {
+    /// What a free slot of the list holds.
+    pub(crate) fn blank() -> Waiting
+        ensures { result.body ≡ bodies.No }
+    {
+        let zero = yaml_mark_t {
+            index: 0,
+            line: 0,
+            column: 0,
+        };
+        Waiting {
+            entry: Entry {
+                lexeme: Lexeme {
+                    kind: Kind::StreamStart,
+                    start: zero,
+                    end: zero,
+                    reached: zero,
+                    depth: 0,
+                    level: 0,
+                    saved: false,
+                    required: false,
+                    broke: false,
+                },
+                ends: 0,
+                opens: Opens::Nothing,
+                key: false,
+            },
+            body: yaml_token_body_t::No,
+            current: false,
+        }
+    }
+
     /// Whether it is an open candidate where this place is reached.
     pub(crate) fn is_open(&self, place: yaml_mark_t) -> bool
         ensures { result ≡ (self.now.current && history.is_fresh self.now.entry.lexeme.start

@@ -13,7 +13,7 @@ use Rattle.yaml_scan.proofs.BoundLemmas.{bound_rest}
 use Rattle.yaml_scan.proofs.FrontLemmas.{shown_popped}
 use Rattle.yaml_scan.proofs.PushLemmas.{spoken_rest}
 use Rattle.yaml_scan.proofs.GivenLemmas.{given_none, own_settled}
-use Rattle.yaml_scan.proofs.TakeLemmas.{front_waits, gives_front, gives_own, given_room, stands_more}
+use Rattle.yaml_scan.proofs.TakeLemmas.{front_waits, popped_waits, gives_front, gives_own, given_room, stands_more}
 use Rattle.yaml_scan.proofs.ComesLemmas.{left_gives, ready_started}
 use Rattle.yaml_scan.proofs.machine.Machine.take_token_into.Goals as goal
 
@@ -45,14 +45,13 @@ returns-in-Some-before-clause-gives c =
     let on = ready_started m c.requires.stands c.requires.ready in
     left_gives m record m { given = m.given + 1 } (before b w.entry.lexeme) on on (tokens, fault)
 
-pub returns-in-Some-pop_front-clause-stands : goal.returns-in-Some-pop_front-clause-stands
-returns-in-Some-pop_front-clause-stands c =
+pub returns-clause-stands : goal.returns-clause-stands
+returns-clause-stands c =
     let m = c.args.self.now in
-    let front = c.in-Some-pop_front.front in
-    let rest = c.pop_front.new.self.items in
-    let items : m.waiting.items ≡ front ∷ rest = c.in-Some-pop_front.ensures.items in
-    let here : c.in-Some.first.now ≡ front = c.in-Some.ensures.lookup ∙ ap (λ (ws : List Waiting). get_or ws 0 c.in-Some.first.now) items in
-    let none : front_at front.entry m.given ≡ None = ap (λ (w : Waiting). front_at w.entry m.given) (sym here) ∙ sym c.before-2.ensures ∙ ap (option_map token_before) (none_left c.before-2.result c.in_default-before.not-Some) in
+    let front = c.in-Some.first.now in
+    let rest = c.pop_body.new.self.items in
+    let items = popped_waits m front rest c.requires.ready c.in-Some.ensures.lookup c.pop_body.ensures.rest in
+    let none : front_at front.entry m.given ≡ None = sym c.before-2.ensures ∙ ap (option_map token_before) (none_left c.before-2.result c.in_default-before.not-Some) in
     let ready : ready_in m.dropped m.settled m.given (front ∷ rest) ≡ true = ap (λ (ws : List Waiting). ready_in m.dropped m.settled m.given ws) (sym items) ∙ c.requires.ready in
     let low = own_settled m.dropped m.settled m.given front rest ready none in
     let len : length m.waiting.items ≡ length rest + 1 = ap (λ (ws : List Waiting). length ws) items ∙ omega arith in
@@ -75,19 +74,19 @@ returns-in-Some-pop_front-clause-stands c =
       spoken = spoken_rest (stream_of m) front rest (subst (λ (ws : List Waiting). AreSpoken (stream_of m) ws) items c.requires.stands.spoken);
     }
 
-pub returns-in-Some-pop_front-clause-gives : goal.returns-in-Some-pop_front-clause-gives
-returns-in-Some-pop_front-clause-gives c =
+pub returns-clause-gives : goal.returns-clause-gives
+returns-clause-gives c =
     let m = c.args.self.now in
-    let front = c.in-Some-pop_front.front in
-    let rest = c.pop_front.new.self.items in
-    let items : m.waiting.items ≡ front ∷ rest = c.in-Some-pop_front.ensures.items in
-    let here : c.in-Some.first.now ≡ front = c.in-Some.ensures.lookup ∙ ap (λ (ws : List Waiting). get_or ws 0 c.in-Some.first.now) items in
-    let none : front_at front.entry m.given ≡ None = ap (λ (w : Waiting). front_at w.entry m.given) (sym here) ∙ sym c.before-2.ensures ∙ ap (option_map token_before) (none_left c.before-2.result c.in_default-before.not-Some) in
+    let front = c.in-Some.first.now in
+    let rest = c.pop_body.new.self.items in
+    let items = popped_waits m front rest c.requires.ready c.in-Some.ensures.lookup c.pop_body.ensures.rest in
+    let none : front_at front.entry m.given ≡ None = sym c.before-2.ensures ∙ ap (option_map token_before) (none_left c.before-2.result c.in_default-before.not-Some) in
     let ready : ready_in m.dropped m.settled m.given (front ∷ rest) ≡ true = ap (λ (ws : List Waiting). ready_in m.dropped m.settled m.given ws) (sym items) ∙ c.requires.ready in
     let low = own_settled m.dropped m.settled m.given front rest ready none in
     let spoken : body_of front.body ≡ body_in (stream_of m) front.entry.lexeme = subst (λ (ws : List Waiting). AreSpoken (stream_of m) ws) items c.requires.stands.spoken 0 front (omega arith) in
-    let given : Waiting → Token = λ x. record { body = body_of front.body; start_mark = x.entry.lexeme.start; end_mark = x.entry.lexeme.end } in
-    let own : token_in (stream_of m) front.entry.lexeme ≡ given c.in-Some.first.now = ap (λ (b : TokenBody). record { body = b; start_mark = front.entry.lexeme.start; end_mark = front.entry.lexeme.end }) (sym spoken) ∙ ap given (sym here) in
+    let body : c.pop_body.result ≡ front.body = c.pop_body.ensures.body front ∙ ap (λ (ws : List Waiting). (get_or ws 0 front).body) items in
+    let given : TokenBody → Token = λ b. record { body = b; start_mark = front.entry.lexeme.start; end_mark = front.entry.lexeme.end } in
+    let own : token_in (stream_of m) front.entry.lexeme ≡ given (body_of c.pop_body.result) = ap given (sym spoken ∙ ap body_of (sym body)) in
     let (tokens, fault) = gives_own m front rest c.requires.stands items low none in
     let on = ready_started m c.requires.stands c.requires.ready in
-    left_gives m record m { waiting = c.pop_front.new.self; dropped = m.dropped + 1; given = 0 } (given c.in-Some.first.now) on on (tokens ∙ ap (λ (t : Token). t ∷ (remaining (stream_of m) (m.dropped + 1) 0).tokens) own, fault)
+    left_gives m record m { waiting = c.pop_body.new.self; dropped = m.dropped + 1; given = 0 } (given (body_of c.pop_body.result)) on on (tokens ∙ ap (λ (t : Token). t ∷ (remaining (stream_of m) (m.dropped + 1) 0).tokens) own, fault)

@@ -3,7 +3,7 @@ use Rattle.std.proofs.Common.{◌≡◌, ◌⊎◌, ◌∙◌, ℕ, inl, inr, re
 use Rattle.std.proofs.lemmas.List.{append-nil}
 use Rattle.yaml_scan_model.specs.Tokens.{Token}
 use Rattle.yaml_scan_model.specs.Faults.{Fault}
-use Rattle.yaml_parse_grammar.specs.Trees.{items}
+use Rattle.yaml_parse_grammar.specs.TreeEvents.{given_of}
 use Rattle.yaml_parse_grammar.specs.Machine.{run, initial}
 use Rattle.yaml_parse_grammar.specs.Resolve.{Told, no_directives}
 use Rattle.yaml_parse_grammar.specs.Remaining.{reading_of, unasked_of}
@@ -36,7 +36,7 @@ begin ts f front behind l w g = record {
   tree = g.tree;
   more = g.more;
   same = g.same;
-  begins = events_begin (run ts initial f).items (items g.tree []) (run ts initial f).ending None no_directives g.begins;
+  begins = events_begin (run ts initial f).items (given_of g.tree 0) (run ts initial f).ending None no_directives g.begins;
 }
 
 begin_at : (ts : List Token) (f : Option Fault) (e : Fault) → RefusedAt ts (bare (run ts initial f).items) e ⊎ RunsOut ts f (bare (run ts initial f).items) e → BeginsTree ts (reading_of (run ts initial f) no_directives).events

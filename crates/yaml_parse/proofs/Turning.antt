@@ -8,12 +8,14 @@ use Rattle.yaml_parse_model.specs.Events.{Event, EventBody, no_event}
 use Rattle.yaml_parse_grammar.specs.Items.{RawEvent, RawEventBody}
 use Rattle.yaml_parse_grammar.specs.Items as item
 use Rattle.yaml_parse_grammar.specs.States.{State}
-use Rattle.yaml_parse_grammar.specs.Trees.{Given, Stream, spell, items}
+use Rattle.yaml_parse_grammar.specs.Trees.{Given, Stream, spell}
+use Rattle.yaml_parse_grammar.specs.TreeEvents.{given_of}
 use Rattle.yaml_parse_grammar.specs.Machine.{Outcome, run, initial, Stands}
 use Rattle.yaml_parse_grammar.specs.Resolve.{Directives, no_directives, Settled, refused, gave, noted, settle, settle_body, resolved, placed, read_on, reading, Reading, Told, unasked_on, unasked_at_fault}
 use Rattle.yaml_parse_grammar.specs.Remaining.{ParserRemaining, parser_remaining, reading_of, unasked_of, waiting, held_of, IsFinished, GivesNothing, GivesEvent, EventOf, FaultOf}
 use Rattle.yaml_parse_grammar.proofs.CompleteStream.{nothing_runs, stream_runs}
 use Rattle.yaml_parse_grammar.proofs.Voice.{speaks, reading_speaks, not_noted}
+use Rattle.yaml_parse_laws_given.proofs.laws_faults.laws_counts.Turns.{items_given}
 use Rattle.yaml_parse.specs.Steps.{Raw, outcome, stop_of, IsDirective, GivesItem, GivesNoItem, IsRefused, IsDone, IsSilent, IsTurnRefused, IsOver, Kept}
 use Rattle.yaml_parse.specs.Finds.{GivesNext, GivesEnd}
 
@@ -167,11 +169,15 @@ done_turn old new ds answered h = record {
 -- ---- the beginning
 
 pub starts : (ts : List Token) (f : Option Fault) (s : List State) (ds : Directives) (t : Stream) (rest : List Token) → s ≡ initial → ds ≡ no_directives → ts ≡ spell t rest
-    → ((reading_of (run ts s f) ds).events ≡ (reading (items t rest) None no_directives).events)
-    × ((reading_of (run ts s f) ds).ending ≡ (reading (items t rest) None no_directives).ending)
+    → ((reading_of (run ts s f) ds).events ≡ (reading (given_of t (length rest)) None no_directives).events)
+    × ((reading_of (run ts s f) ds).ending ≡ (reading (given_of t (length rest)) None no_directives).ending)
 starts ts f s ds t rest e d h =
-    let o : run ts s f ≡ record { items = items t rest; ending = None } = ap (λ (z : List State). run ts z f) e ∙ ap (λ (us : List Token). run us initial f) h ∙ stream_runs t rest f in
-    let r : reading_of (run ts s f) ds ≡ reading (items t rest) None no_directives = ap (reading_of (run ts s f)) d ∙ ap (λ (o : Outcome). reading_of o no_directives) o
+    let o : run ts s f ≡ record { items = given_of t (length rest); ending = None } =
+    ap (λ (z : List State). run ts z f) e
+    ∙ ap (λ (us : List Token). run us initial f) h
+    ∙ stream_runs t rest f
+    ∙ ap (λ (gs : List Given). let o : Outcome = record { items = gs; ending = None } in o) (items_given t rest) in
+    let r : reading_of (run ts s f) ds ≡ reading (given_of t (length rest)) None no_directives = ap (reading_of (run ts s f)) d ∙ ap (λ (o : Outcome). reading_of o no_directives) o
     in (ap (λ (x : Reading). x.events) r, ap (λ (x : Reading). x.ending) r)
 
 pub starts_anywhere : (ts : List Token) (f : Option Fault) (s : List State) (ds : Directives) → s ≡ initial → ds ≡ no_directives

@@ -1,7 +1,8 @@
 -- What comes of a list of tokens that begins with those of no tree.
 use Rattle.std.specs.Prelude.{◌≡◌, List, [], ◌++◌, None}
 use Rattle.yaml_scan_model.specs.Tokens.{Token}
-use Rattle.yaml_parse_grammar.specs.Trees.{Stream, spell, items}
+use Rattle.yaml_parse_grammar.specs.Trees.{Stream, spell}
+use Rattle.yaml_parse_grammar.specs.TreeEvents.{given_of}
 use Rattle.yaml_parse_grammar.specs.Resolve.{Told, reading, no_directives}
 use Rattle.yaml_parse_laws_given.specs.laws_faults.laws_sound.Laws.{told, BeginsWithEvents}
 use Rattle.yaml_parse_laws_given.specs.Given.{IsLongest}
@@ -16,4 +17,4 @@ pub record BeginsTree (ts : List Token) (events : List Told) : Type 0 where
   pub more : List Token
   pub same : front ++ more ≡ spell tree []
   pub begins : BeginsWithEvents (told events)
-      (told (reading (items tree []) None no_directives).events)
+      (told (reading (given_of tree 0) None no_directives).events)

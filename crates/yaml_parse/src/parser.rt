@@ -8,7 +8,8 @@ ghost use Rattle.yaml_parse_model.specs.Events.{event_of, stream_end};
 ghost use Rattle.yaml_parse_grammar.specs.Items as item;
 ghost use Rattle.yaml_parse_machine.specs.Views.{item_of};
 ghost use Rattle.yaml_parse_model.specs.Prefix.{prefix_of, no_fault};
-ghost use Rattle.yaml_parse_grammar.specs.Trees.{Stream, spell, items};
+ghost use Rattle.yaml_parse_grammar.specs.Trees.{Stream, spell};
+ghost use Rattle.yaml_parse_grammar.specs.TreeEvents.{given_of};
 ghost use Rattle.yaml_parse_grammar.specs.Resolve.{reading, no_directives};
 ghost use Rattle.yaml_parse_grammar.specs.Remaining.{EventOf, FaultOf, IsFinished};
 ghost use Rattle.yaml_parse_model.specs.Constructors.{HasUtf8};
@@ -130,8 +131,9 @@ pub fn yaml_parser_initialize<S: yaml_token_source_t>(
     // Where the source's tokens begin with those of a tree, the tree's events are to come, resolved by each
     // document's directives, or those before the first fault of a directive or a tag handle, and that fault.
     ensures tree { (t : Stream) (rest : List Token) → S.to_come source ≡ spell t rest
-        → IfOk result (λ p. (p.events ≡ (reading (items t rest) None no_directives).events)
-        × (p.ending ≡ (reading (items t rest) None no_directives).ending)) }
+        → IfOk result (λ p. (p.events ≡ (reading (given_of t (length rest)) None
+            no_directives).events)
+        × (p.ending ≡ (reading (given_of t (length rest)) None no_directives).ending)) }
     // They are the tokens' events, also where those begin with no tree's: before their fault.
     ensures events { IfOk result (λ p. EventsOfTokens (S.to_come source) (S.fault_to_come source)
         p.events) }

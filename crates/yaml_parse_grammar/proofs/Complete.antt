@@ -24,7 +24,8 @@ use Rattle.yaml_parse_grammar.specs.Items.{RawEvent, Properties, node_at}
 use Rattle.yaml_parse_grammar.specs.Items as item
 use Rattle.yaml_parse_grammar.specs.States.{State, Taken}
 use Rattle.yaml_parse_grammar.specs.States as state
-use Rattle.yaml_parse_grammar.specs.Trees.{Span, Node, Content, Maybe, Colon, Items, More, Entries, Others, Pairs, PropertyTokens, Given, token_at, spell_properties, properties_of, closing, spell_node, spell_content, spell_maybe, spell_colon, spell_items, spell_more, spell_entries, spell_others, spell_pairs, items_node, items_content, items_maybe, items_colon, items_items, items_more, items_entries, items_others, items_pairs, items, next, behind, lone, pair_start, pair_end, flow_shape}
+use Rattle.yaml_parse_grammar.specs.Trees.{Span, Node, Content, Maybe, Colon, Items, More, Entries, Others, Pairs, PropertyTokens, Given, token_at, spell_properties, properties_of, closing, spell_node, spell_content, spell_maybe, spell_colon, spell_items, spell_more, spell_entries, spell_others, spell_pairs, next, flow_shape}
+use Rattle.yaml_parse_grammar.specs.TreeSteps.{items_node, items_content, items_maybe, items_colon, items_items, items_more, items_entries, items_others, items_pairs, items, behind, lone, pair_start, pair_end}
 use Rattle.yaml_parse_grammar.specs.Trees as tree
 use Rattle.yaml_parse_grammar.specs.Machine.{starts_node, wants_of, closes, parts_documents, follows, no_node, choice_at, node_taken, content_taken, items_taken, above, lone_below, taken_at, left_at, Fed, stop, go, with_item, given_by, turn, feed, Outcome, finished, carry, run}
 

@@ -16,9 +16,10 @@ use Rattle.yaml_parse_grammar.specs.Items.{item_at}
 use Rattle.yaml_parse_grammar.specs.Items as item
 use Rattle.yaml_parse_grammar.specs.States.{State}
 use Rattle.yaml_parse_grammar.specs.States as state
-use Rattle.yaml_parse_grammar.specs.Trees.{Span, Documents, First, Stream, Directive, Given, token_at, spell_node, spell_maybe, spell_directives, spell_ends, spell_documents, spell_first, spell, items_node, items_maybe, items_directives, items_ends, items_documents, items_first, items, next, behind, start_of, event_at}
+use Rattle.yaml_parse_grammar.specs.Trees.{Span, Documents, First, Stream, Directive, Given, token_at, spell_node, spell_maybe, spell_directives, spell_ends, spell_documents, spell_first, spell, next, start_of, event_at}
+use Rattle.yaml_parse_grammar.specs.TreeSteps.{items_node, items_maybe, items_directives, items_ends, items_documents, items_first, items, behind}
 use Rattle.yaml_parse_grammar.specs.Trees as tree
-use Rattle.yaml_parse_grammar.specs.Machine.{starts_node, parts_documents, follows, choice_at, taken_at, given_by, turn, feed, finished, carry, run, initial, opened}
+use Rattle.yaml_parse_grammar.specs.Machine.{starts_node, parts_documents, choice_at, taken_at, given_by, turn, feed, finished, carry, run, initial, opened}
 use Rattle.yaml_parse_grammar.proofs.Complete.{giving, Leaves, leaves, Follows, follows_ends, Starts, node_starts, run_node, carry_with_item, step_take, maybe_runs, node_runs}
 
 documents_follow : (d : Documents) (rest : List Token) → Follows Root (spell_documents d rest)

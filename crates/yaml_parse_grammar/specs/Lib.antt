@@ -1,6 +1,8 @@
 pub mod Problems
 pub mod Items
 pub mod Trees
+pub mod TreeEvents
+pub mod TreeSteps
 pub mod States
 pub mod Machine
 pub mod Resolve

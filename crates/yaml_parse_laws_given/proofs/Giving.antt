@@ -5,7 +5,9 @@ use Rattle.yaml_parse_laws_faults.specs.grammar.parse_model.Tokens.{Token, no_to
 use Rattle.yaml_parse_laws_faults.specs.grammar.parse_model.Faults.{Fault}
 use Rattle.yaml_parse_laws_faults.specs.grammar.Items.{RawEvent}
 use Rattle.yaml_parse_laws_faults.specs.grammar.States.{State}
-use Rattle.yaml_parse_laws_faults.specs.grammar.Trees.{Stream, spell, items, Given, next}
+use Rattle.yaml_parse_laws_faults.specs.grammar.Trees.{Stream, spell, Given, next}
+use Rattle.yaml_parse_laws_faults.specs.grammar.TreeSteps.{items}
+use Rattle.yaml_parse_laws_faults.specs.grammar.TreeEvents.{given_of}
 use Rattle.yaml_parse_laws_faults.specs.grammar.Machine.{Fed, stop, go, feed, Outcome, run, initial}
 use Rattle.yaml_parse_laws_faults.specs.grammar.Resolve.{Told, reading, no_directives}
 use Rattle.yaml_parse_laws_faults.specs.grammar.Remaining.{reading_of}
@@ -19,6 +21,7 @@ use Rattle.yaml_parse_laws_faults.proofs.Spelling.{spelled_before}
 use Rattle.yaml_parse_laws_faults.proofs.Standing.{Last, nothing, last_of, told}
 use Rattle.yaml_parse_laws_faults.proofs.Taking.{stack_solid, Stops, stops_at_none}
 use Rattle.yaml_parse_laws_faults.proofs.Ending.{runs_fed, runs_out}
+use Rattle.yaml_parse_laws_faults.proofs.laws_counts.Turns.{items_given}
 use Rattle.yaml_parse_laws_given.specs.Given.{IsLongest, LongestFront, first_items, events_of, events_of_front, events_at_next, but_last, EndsAt, last_leaves_open, has_fault, gives_no_more, GivesAt, GivesFront, BeginsWith, EventsOfTokens}
 use Rattle.yaml_parse_laws_given.specs.Laws.{events_run, HasFront, ListHasFront, EventsAreOne, RunGivesEvents, EventsAreRun, RunGivesLeast}
 use Rattle.yaml_parse_laws_given.proofs.Walking.{raised, numbered, before, Knows, knows_step, takes_step, Unfinished, last_behind, Walked, walk}
@@ -180,11 +183,12 @@ nothing_given front behind own w r (inr p) = r.silent p
 
 gives_front : (ts : List Token) (own : Option Fault) (l : LongestFront ts) (w : Here l.front) (r : Refused (w.top ∷ w.below) l.behind own) → gives_no_more l own ≡ true → events_run ts own ≡ events_of_front l
 gives_front ts own l w r q =
-    run_events ts own (first_items (length l.more) (length l.more) (length l.behind) (items l.tree []))
+    run_events ts own (first_items (length l.more) (length l.more) (length l.behind) (given_of l.tree 0))
     (run_items ts own l w r
     ∙ ap (λ (z : List RawEvent). raised (length l.behind) w.items ++ numbered (length l.behind - 1) z) (nothing_given l.front l.behind own w r (either_true (last_leaves_open true l.front) (has_fault l.behind own) q))
     ∙ append-nil (raised (length l.behind) w.items)
-    ∙ sym (front_given ts l w))
+    ∙ sym (front_given ts l w)
+    ∙ ap (first_items (length l.more) (length l.more) (length l.behind)) (items_given l.tree []))
 
 -- ---- where an end stands behind the front
 
@@ -264,8 +268,10 @@ end_given front behind (u ∷ us) own t w r p o h =
 gives_at_end : (ts : List Token) (own : Option Fault) (l : LongestFront ts) (w : Here l.front) (r : Refused (w.top ∷ w.below) l.behind own) → gives_no_more l own ≡ false → EndsAt (next l.behind) l.more
     → events_run ts own ≡ events_at_next l
 gives_at_end ts own l w r q h =
-    run_events ts own (but_last (first_items (length l.more - 1) (length l.more) (length l.behind) (items l.tree [])))
-    (run_items ts own l w r ∙ end_given l.front l.behind l.more own l.tree w r l.same q h)
+    run_events ts own (but_last (first_items (length l.more - 1) (length l.more) (length l.behind) (given_of l.tree 0)))
+    (run_items ts own l w r
+    ∙ end_given l.front l.behind l.more own l.tree w r l.same q h
+    ∙ ap (λ (gs : List Given). but_last (first_items (length l.more - 1) (length l.more) (length l.behind) gs)) (items_given l.tree []))
 
 -- ---- the laws
 
@@ -276,9 +282,11 @@ gives_at ts own l w r false q = λ h. gives_at_end ts own l w r q h
 pub run_gives_front : (ts : List Token) (own : Option Fault) → (BeginsWithTree ts → ⊥) → GivesFront ts own (events_run ts own)
 run_gives_front ts own n = λ l. let w : Here l.front = here ts n l in gives_at ts own l w (refused l.front l.behind own w l.longest) (gives_no_more l own) refl
 
-pub run_gives_tree : (ts : List Token) (own : Option Fault) (t : Stream) (rest : List Token) → ts ≡ spell t rest → events_run ts own ≡ (reading (items t rest) None no_directives).events
+pub run_gives_tree : (ts : List Token) (own : Option Fault) (t : Stream) (rest : List Token) → ts ≡ spell t rest → events_run ts own ≡ (reading (given_of t (length rest)) None no_directives).events
 run_gives_tree ts own t rest p =
-    ap (λ (us : List Token). events_run us own) p ∙ ap (λ (o : Outcome). (reading_of o no_directives).events) (stream_runs t rest own)
+    ap (λ (us : List Token). events_run us own) p
+    ∙ ap (λ (o : Outcome). (reading_of o no_directives).events) (stream_runs t rest own)
+    ∙ ap (λ (gs : List Given). (reading gs None no_directives).events) (items_given t rest)
 
 pub run_gives_events : RunGivesEvents
 run_gives_events ts own = record { tree = run_gives_tree ts own; front = run_gives_front ts own }
@@ -292,7 +300,7 @@ least_given ts own l w r =
       others = b.others;
       same = run_events ts own (raised (length l.behind) w.items ++ gs) (run_items ts own l w r)
           ∙ b.same
-          ∙ ap (λ (z : List Given). events_of z ++ b.others) (sym (front_given ts l w));
+          ∙ ap (λ (z : List Given). events_of z ++ b.others) (sym (front_given ts l w) ∙ ap (first_items (length l.more) (length l.more) (length l.behind)) (items_given l.tree []));
     }
 
 pub run_gives_least : RunGivesLeast

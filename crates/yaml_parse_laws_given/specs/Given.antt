@@ -4,7 +4,8 @@ use Rattle.yaml_parse_laws_faults.specs.grammar.parse_model.declared.yaml_mark_t
 use Rattle.yaml_parse_laws_faults.specs.grammar.parse_model.Tokens.{Token, TokenBody}
 use Rattle.yaml_parse_laws_faults.specs.grammar.parse_model.Tokens as token
 use Rattle.yaml_parse_laws_faults.specs.grammar.parse_model.Faults.{Fault}
-use Rattle.yaml_parse_laws_faults.specs.grammar.Trees.{Stream, spell, items, Given, next}
+use Rattle.yaml_parse_laws_faults.specs.grammar.Trees.{Stream, spell, Given, next}
+use Rattle.yaml_parse_laws_faults.specs.grammar.TreeEvents.{given_of}
 use Rattle.yaml_parse_laws_faults.specs.grammar.Resolve.{Told, reading, no_directives}
 use Rattle.yaml_parse_laws_faults.specs.laws_sound.Laws.{GoesOn, BeginsWithTree}
 use Rattle.yaml_parse_laws_faults.specs.LookBack.{asks_for_node, is_directive}
@@ -28,7 +29,7 @@ pub record LongestFront (ts : List Token) : Type 0 where
 
 -- ---- what is given
 
--- The first items, up to one that is given with fewer tokens unasked for than so many. The tree has so many tokens behind the
+-- The first events of a tree, up to one that is given with fewer tokens unasked for than so many. The tree has so many tokens behind the
 -- front, and the list so many: of those it is counted how many are unasked for.
 abbrev pub first_items : ℕ → ℕ → ℕ → List Given → List Given
 first_items fewest more behind [] = []
@@ -44,7 +45,7 @@ events_of gs = (reading gs None no_directives).events
 -- What a tree gives with no token asked for behind the front.
 abbrev pub events_of_front : {ts : List Token} → LongestFront ts → List Told
 events_of_front l = events_of
-    (first_items (length l.more) (length l.more) (length l.behind) (items l.tree []))
+    (first_items (length l.more) (length l.more) (length l.behind) (given_of l.tree 0))
 
 abbrev pub but_last : List Given → List Given
 but_last [] = []
@@ -55,7 +56,7 @@ but_last (g ∷ h ∷ gs) = g ∷ but_last (h ∷ gs)
 abbrev pub events_at_next : {ts : List Token} → LongestFront ts → List Told
 events_at_next l = events_of
     (but_last (first_items (length l.more - 1) (length l.more) (length l.behind)
-    (items l.tree [])))
+    (given_of l.tree 0)))
 
 -- ---- where the first token behind the front gives something though no tree goes on with it
 
@@ -114,5 +115,5 @@ GivesLeast ts events = (l : LongestFront ts) → BeginsWith (events_of_front l) 
 -- Those of the tree with whose tokens it begins, or else those of its longest front.
 pub record EventsOfTokens (ts : List Token) (own : Option Fault) (events : List Told) : Type 0 where
   pub tree : (t : Stream) (rest : List Token) → ts ≡ spell t rest
-      → events ≡ (reading (items t rest) None no_directives).events
+      → events ≡ (reading (given_of t (length rest)) None no_directives).events
   pub front : (BeginsWithTree ts → ⊥) → GivesFront ts own events

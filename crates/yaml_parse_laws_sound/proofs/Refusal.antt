@@ -8,9 +8,11 @@ use Rattle.yaml_parse_laws_counts.specs.grammar.declared.name.Choice.{Choice}
 use Rattle.yaml_parse_laws_counts.specs.grammar.declared.name.Choice.TheVariants.{Refuse, Take, Leave, Open}
 use Rattle.yaml_parse_laws_counts.specs.grammar.Items.{RawEvent}
 use Rattle.yaml_parse_laws_counts.specs.grammar.States.{State}
-use Rattle.yaml_parse_laws_counts.specs.grammar.Trees.{Given, Stream, spell, items}
+use Rattle.yaml_parse_laws_counts.specs.grammar.Trees.{Given, Stream, spell}
+use Rattle.yaml_parse_laws_counts.specs.grammar.TreeSteps.{items}
 use Rattle.yaml_parse_laws_counts.specs.grammar.Machine.{choice_at, left_at, Fed, stop, go, with_item, turn, feed, Outcome, finished, carry, ending_at, run, initial}
 use Rattle.yaml_parse_laws_counts.proofs.grammar.CompleteStream.{stream_runs, nothing_runs}
+use Rattle.yaml_parse_laws_counts.proofs.Turns.{items_given}
 use Rattle.yaml_parse_laws_sound.specs.Laws.{bare, Begins, GoesOn, GoesOnGiving, StandsAt, RefusedAt, RunsOut, FaultsStandAtFirst, FrontsAreNotRefused}
 use Rattle.yaml_parse_laws_sound.proofs.Left.{Over}
 use Rattle.yaml_parse_laws_sound.proofs.Sound.{FedLeft, feed_left}
@@ -186,7 +188,7 @@ unfolding goes_on
 goes_giving ts more given h b =
     let g : GoesOn ts = goes_on ts more h in
     let o : run (ts ++ more) initial None ≡ record { items = items g.tree []; ending = None } = ap (λ (us : List Token). run us initial None) g.same ∙ stream_runs g.tree [] None in
-    record { tree = g.tree; more = more; same = g.same; begins = subst (λ (z : Outcome). Begins given z.items) o b }
+    record { tree = g.tree; more = more; same = g.same; begins = subst (λ (gs : List Given). Begins given gs) (items_given g.tree []) (subst (λ (z : Outcome). Begins given z.items) o b) }
 
 -- a list that isn't accepted is no tree's
 not_accepted : (ts more : List Token) (t : Stream) → ts ++ more ≡ spell t [] → ((run (ts ++ more) initial None).ending ≡ None → ⊥) → ⊥

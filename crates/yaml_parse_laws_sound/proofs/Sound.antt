@@ -10,13 +10,15 @@ use Rattle.yaml_parse_laws_counts.specs.grammar.Items.{RawEvent, item_at}
 use Rattle.yaml_parse_laws_counts.specs.grammar.Items as item
 use Rattle.yaml_parse_laws_counts.specs.grammar.States.{State}
 use Rattle.yaml_parse_laws_counts.specs.grammar.States as state
-use Rattle.yaml_parse_laws_counts.specs.grammar.Trees.{Given, items}
+use Rattle.yaml_parse_laws_counts.specs.grammar.Trees.{Given}
+use Rattle.yaml_parse_laws_counts.specs.grammar.TreeSteps.{items}
 use Rattle.yaml_parse_laws_counts.specs.grammar.Machine.{choice_at, taken_at, left_at, Fed, stop, go, with_item, given_by, turn, feed, Outcome, finished, carry, ending_at, run, initial}
 use Rattle.yaml_parse_laws_counts.specs.grammar.Resolve.{Directives, Settled, refused, gave, noted, settle, Reading, read_on, reading, no_directives}
 use Rattle.yaml_parse_laws_counts.specs.grammar.Remaining.{reading_of}
 use Rattle.yaml_parse_laws_counts.proofs.grammar.CompleteStream.{stream_runs}
 use Rattle.yaml_parse_laws_counts.proofs.grammar.Voice.{takes_a_token}
 use Rattle.yaml_parse_laws_counts.proofs.grammar.Single.{opens_node}
+use Rattle.yaml_parse_laws_counts.proofs.Turns.{items_given}
 use Rattle.yaml_parse_laws_sound.specs.Laws.{AcceptedAreTrees, AcceptedAreSentences, SentencesAreAccepted}
 use Rattle.yaml_parse_laws_sound.proofs.Left.{Left, Over, over_both, leaving, taking, opening}
 
@@ -151,10 +153,14 @@ accepted_sentences ts f e =
       tree = h.tree;
       rest = h.rest;
       same = h.same;
-      in_order = ap (λ (x : Outcome). (reading_of x no_directives).ending) (sym o) ∙ e;
+      in_order = ap (λ (gs : List Given). (reading gs None no_directives).ending) (sym (items_given h.tree h.rest))
+          ∙ ap (λ (x : Outcome). (reading_of x no_directives).ending) (sym o)
+          ∙ e;
     }
 
 pub sentences_accepted : SentencesAreAccepted
 sentences_accepted ts f b =
     let o : run ts initial f ≡ record { items = items b.tree b.rest; ending = None } = ap (λ (us : List Token). run us initial f) b.same ∙ stream_runs b.tree b.rest f in
-    ap (λ (x : Outcome). (reading_of x no_directives).ending) o ∙ b.in_order
+    ap (λ (x : Outcome). (reading_of x no_directives).ending) o
+    ∙ ap (λ (gs : List Given). (reading gs None no_directives).ending) (items_given b.tree b.rest)
+    ∙ b.in_order

@@ -1,5 +1,5 @@
 -- Which lists of tokens the machine accepts.
-use Rattle.std.specs.Prelude.{◌≡◌, ◌⊎◌, List, [], ◌∷◌, ◌++◌, Option, Some, None}
+use Rattle.std.specs.Prelude.{◌≡◌, ◌⊎◌, List, [], ◌∷◌, ◌++◌, length, Option, Some, None}
 use Rattle.yaml_parse_laws_counts.specs.grammar.parse_model.declared.yaml_mark_t.{yaml_mark_t}
 use Rattle.yaml_parse_laws_counts.specs.grammar.parse_model.declared.yaml_error_type_t.TheVariants.{YAML_PARSER_ERROR}
 use Rattle.yaml_parse_laws_counts.specs.grammar.parse_model.declared.yaml_origin_t.TheVariants.{Parser}
@@ -7,7 +7,8 @@ use Rattle.yaml_parse_laws_counts.specs.grammar.parse_model.Tokens.{Token, zero_
 use Rattle.yaml_parse_laws_counts.specs.grammar.parse_model.Faults.{Fault}
 use Rattle.yaml_parse_laws_counts.specs.grammar.parse_model.Events.{Event}
 use Rattle.yaml_parse_laws_counts.specs.grammar.Items.{RawEvent}
-use Rattle.yaml_parse_laws_counts.specs.grammar.Trees.{Stream, spell, items, Given}
+use Rattle.yaml_parse_laws_counts.specs.grammar.Trees.{Stream, spell, Given}
+use Rattle.yaml_parse_laws_counts.specs.grammar.TreeEvents.{given_of}
 use Rattle.yaml_parse_laws_counts.specs.grammar.Machine.{run, initial}
 use Rattle.yaml_parse_laws_counts.specs.grammar.Resolve.{Told, Directives, reading, no_directives}
 use Rattle.yaml_parse_laws_counts.specs.grammar.Remaining.{reading_of}
@@ -23,7 +24,7 @@ pub record BeginsWithSentence (ts : List Token) : Type 0 where
   pub tree : Stream
   pub rest : List Token
   pub same : ts ≡ spell tree rest
-  pub in_order : (reading (items tree rest) None no_directives).ending ≡ None
+  pub in_order : (reading (given_of tree (length rest)) None no_directives).ending ≡ None
 
 -- A list that ends in no fault begins with the tokens of a tree.
 abbrev pub AcceptedAreTrees : Type 0
@@ -63,7 +64,7 @@ pub record GoesOnGiving (ts : List Token) (given : List RawEvent) : Type 0 where
   pub tree : Stream
   pub more : List Token
   pub same : ts ++ more ≡ spell tree []
-  pub begins : Begins given (items tree [])
+  pub begins : Begins given (given_of tree 0)
 
 -- a fault of the parser, at a mark
 pub record StandsAt (mark : yaml_mark_t) (e : Fault) : Type 0 where

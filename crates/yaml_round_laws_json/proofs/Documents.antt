@@ -6,7 +6,8 @@ use Rattle.yaml_round_laws_tree.specs.parse_grammar.parse_model.Tokens as token
 use Rattle.yaml_round_laws_tree.specs.parse_grammar.parse_model.Events.{EventBody}
 use Rattle.yaml_round_laws_tree.specs.parse_grammar.parse_model.Events as event
 use Rattle.yaml_round_laws_tree.specs.parse_grammar.declared.name.Wants.TheVariants.{Block}
-use Rattle.yaml_round_laws_tree.specs.parse_grammar.Trees.{Span, token_at, Given, spell_node, spell_ends, items_node, items_ends, items_first, items_documents, items, there, no_first, first}
+use Rattle.yaml_round_laws_tree.specs.parse_grammar.Trees.{Span, token_at, Given, spell_node, spell_ends, there, no_first, first}
+use Rattle.yaml_round_laws_tree.specs.parse_grammar.TreeSteps.{items_node, items_ends, items_first, items_documents, items}
 use Rattle.yaml_round_laws_tree.specs.parse_grammar.Trees as trees
 use Rattle.yaml_round_laws_tree.specs.parse_grammar.Machine.{Outcome}
 use Rattle.yaml_round_laws_tree.specs.parse_grammar.Resolve.{no_directives, gave, settle, Reading, reading}

@@ -13,7 +13,8 @@ use Rattle.yaml_round_laws_tree.specs.parse_grammar.declared.name.Brackets.{Brac
 use Rattle.yaml_round_laws_tree.specs.parse_grammar.declared.name.Brackets.TheVariants as brackets
 use Rattle.yaml_round_laws_tree.specs.parse_grammar.Items.{node_at}
 use Rattle.yaml_round_laws_tree.specs.parse_grammar.Items as item
-use Rattle.yaml_round_laws_tree.specs.parse_grammar.Trees.{token_at, Given, spell_node, spell_items, spell_more, spell_colon, items_node, items_items, items_more, Items, More, end_items, end_more, single, comma, there, colon}
+use Rattle.yaml_round_laws_tree.specs.parse_grammar.Trees.{token_at, Given, spell_node, spell_items, spell_more, spell_colon, Items, More, end_items, end_more, single, comma, there, colon}
+use Rattle.yaml_round_laws_tree.specs.parse_grammar.TreeSteps.{items_node, items_items, items_more}
 use Rattle.yaml_round_laws_tree.specs.parse_grammar.Trees as trees
 use Rattle.yaml_round_laws_tree.specs.parse_grammar.Resolve.{Directives, reading, scalar_event}
 use Rattle.yaml_emit_laws_json.specs.emit_layout.Content.{Scalar, Start, Node, alias_node, scalar_node, sequence_node, mapping_node, Nodes, no_nodes, node, Pairs, no_pairs, pair}

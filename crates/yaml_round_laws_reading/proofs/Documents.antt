@@ -13,7 +13,8 @@ use Rattle.yaml_round_content.specs.round_laws.emit_laws_streams.parse.parse_law
 use Rattle.yaml_round_content.specs.round_laws.emit_laws_streams.parse.parse_laws_faults.grammar.Problems.{parser_fault}
 use Rattle.yaml_round_content.specs.round_laws.emit_laws_streams.parse.parse_laws_faults.grammar.Items.{RawEvent, item_at}
 use Rattle.yaml_round_content.specs.round_laws.emit_laws_streams.parse.parse_laws_faults.grammar.Items as item
-use Rattle.yaml_round_content.specs.round_laws.emit_laws_streams.parse.parse_laws_faults.grammar.Trees.{Span, Given, Directive, Documents, First, Stream, token_at, spell_directives, spell_maybe, spell_node, spell_ends, spell_documents, items_node, items_maybe, items_directives, items_ends, items_documents, items_first, items}
+use Rattle.yaml_round_content.specs.round_laws.emit_laws_streams.parse.parse_laws_faults.grammar.Trees.{Span, Given, Directive, Documents, First, Stream, token_at, spell_directives, spell_maybe, spell_node, spell_ends, spell_documents}
+use Rattle.yaml_round_content.specs.round_laws.emit_laws_streams.parse.parse_laws_faults.grammar.TreeSteps.{items_node, items_maybe, items_directives, items_ends, items_documents, items_first, items}
 use Rattle.yaml_round_content.specs.round_laws.emit_laws_streams.parse.parse_laws_faults.grammar.Trees as tree
 use Rattle.yaml_round_content.specs.round_laws.emit_laws_streams.parse.parse_laws_faults.grammar.Resolve.{Directives, no_directives, Reading, read_on, reading, directive_for, with_version, with_tag, is_known_version}
 use Rattle.yaml_round_content.specs.round_laws.emit_laws_streams.parse.parse_laws_faults.grammar.Resolve as resolve

@@ -3,13 +3,15 @@ use Rattle.std.proofs.Common.{◌≡◌, ℕ, List, Option, Some, None, Result, 
 use Rattle.yaml_round_content.specs.round_laws.emit_laws_streams.parse.parse_laws_faults.grammar.parse_model.declared.yaml_encoding_t.{yaml_encoding_t}
 use Rattle.yaml_round_content.specs.round_laws.emit_laws_streams.parse.parse_laws_faults.grammar.parse_model.Tokens.{Token}
 use Rattle.yaml_round_content.specs.round_laws.emit_laws_streams.parse.parse_laws_faults.grammar.parse_model.Faults.{Fault}
-use Rattle.yaml_round_content.specs.round_laws.emit_laws_streams.parse.parse_laws_faults.grammar.Trees.{items}
+use Rattle.yaml_round_content.specs.round_laws.emit_laws_streams.parse.parse_laws_faults.grammar.Trees.{Given}
+use Rattle.yaml_round_content.specs.round_laws.emit_laws_streams.parse.parse_laws_faults.grammar.TreeSteps.{items}
 use Rattle.yaml_round_content.specs.round_laws.emit_laws_streams.parse.parse_laws_faults.grammar.Machine.{Outcome, run, initial}
 use Rattle.yaml_round_content.specs.round_laws.emit_laws_streams.parse.parse_laws_faults.grammar.Resolve.{Reading, reading, no_directives}
 use Rattle.yaml_round_content.specs.round_laws.emit_laws_streams.parse.parse_laws_faults.grammar.Remaining.{reading_of}
 use Rattle.yaml_round_content.proofs.round_laws.emit_laws_streams.parse.parse_laws_faults.grammar.CompleteStream.{stream_runs}
 use Rattle.yaml_round_content.specs.round_laws.emit_laws_streams.parse.parse_laws_faults.Places.{BeginsWithSentence, FaultOfTokens}
 use Rattle.yaml_round_content.proofs.round_laws.emit_laws_streams.parse.parse_laws_faults.Ending.{ends_in_fault, fault_ends}
+use Rattle.yaml_round_content.proofs.round_laws.emit_laws_streams.parse.parse_laws_faults.laws_counts.Turns.{items_given}
 use Rattle.yaml_round_content.specs.Events.{contents}
 use Rattle.yaml_round_content.specs.Input.{tokens_of, read, events_of, ending_of}
 use Rattle.yaml_round_content.specs.Said.{Document, HasContent, stream_says}
@@ -87,6 +89,7 @@ read_said from input c h = record {
 pub events_of_tree : EventsAreOfTree
 events_of_tree from input b =
     ap (λ (r : Reading). r.events) (read_is from input) ∙ ap (λ (r : Reading). r.events) (tree_read (tokens_of from input).tokens (tokens_of from input).fault b)
+    ∙ ap (λ (gs : List Given). (reading gs None no_directives).events) (items_given b.tree b.rest)
 
 pub one_reading : ReadingIsOne
 one_reading from input (Ok c) (Ok d) p q =

@@ -8,7 +8,8 @@ use Rattle.yaml_round_content.specs.round_laws.emit_laws_streams.parse.parse_law
 use Rattle.yaml_round_content.specs.round_laws.emit_laws_streams.parse.parse_laws_faults.grammar.declared.name.Site.TheVariants.{Root}
 use Rattle.yaml_round_content.specs.round_laws.emit_laws_streams.parse.parse_laws_faults.grammar.Items.{item_at}
 use Rattle.yaml_round_content.specs.round_laws.emit_laws_streams.parse.parse_laws_faults.grammar.Items as item
-use Rattle.yaml_round_content.specs.round_laws.emit_laws_streams.parse.parse_laws_faults.grammar.Trees.{Span, Given, Documents, First, Stream, next, spell_node, spell_ends, spell_documents, items_maybe, items_ends, items_documents, items_first, items}
+use Rattle.yaml_round_content.specs.round_laws.emit_laws_streams.parse.parse_laws_faults.grammar.Trees.{Span, Given, Documents, First, Stream, next, spell_node, spell_ends, spell_documents}
+use Rattle.yaml_round_content.specs.round_laws.emit_laws_streams.parse.parse_laws_faults.grammar.TreeSteps.{items_maybe, items_ends, items_documents, items_first, items}
 use Rattle.yaml_round_content.specs.round_laws.emit_laws_streams.parse.parse_laws_faults.grammar.Trees as tree
 use Rattle.yaml_round_content.specs.round_laws.emit_laws_streams.parse.parse_laws_faults.grammar.Resolve.{Directives, no_directives, Reading, reading}
 use Rattle.yaml_round_content.specs.round_laws.emit_laws_streams.parse.Numbering.{spanning, events}

@@ -17,7 +17,8 @@ use Rattle.yaml_round_content.specs.round_laws.emit_laws_streams.parse.parse_law
 use Rattle.yaml_round_content.specs.round_laws.emit_laws_streams.parse.parse_laws_faults.grammar.declared.name.Site.{Site}
 use Rattle.yaml_round_content.specs.round_laws.emit_laws_streams.parse.parse_laws_faults.grammar.Items.{Properties, Tag, Shape, item_at, node_at}
 use Rattle.yaml_round_content.specs.round_laws.emit_laws_streams.parse.parse_laws_faults.grammar.Items as item
-use Rattle.yaml_round_content.specs.round_laws.emit_laws_streams.parse.parse_laws_faults.grammar.Trees.{Given, properties_of, items_node, items_content, items_maybe, items_colon, items_items, items_more, items_entries, items_others, items_pairs}
+use Rattle.yaml_round_content.specs.round_laws.emit_laws_streams.parse.parse_laws_faults.grammar.Trees.{Given, properties_of}
+use Rattle.yaml_round_content.specs.round_laws.emit_laws_streams.parse.parse_laws_faults.grammar.TreeSteps.{items_node, items_content, items_maybe, items_colon, items_items, items_more, items_entries, items_others, items_pairs}
 use Rattle.yaml_round_content.specs.round_laws.emit_laws_streams.parse.parse_laws_faults.grammar.Trees as tree
 use Rattle.yaml_round_content.specs.round_laws.emit_laws_streams.parse.parse_laws_faults.grammar.Resolve.{Directives, Reading, read_on, reading, resolved, with_resolved, node_event}
 use Rattle.yaml_round_content.specs.round_laws.emit_laws_streams.parse.parse_laws_faults.grammar.Resolve as resolve

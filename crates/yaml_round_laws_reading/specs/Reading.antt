@@ -1,9 +1,9 @@
 -- The plain reading of an input: the content of the tree that its tokens are, or the fault of those.
-use Rattle.std.specs.Prelude.{◌≡◌, ℕ, List, Option, Some, None, Result, Ok, Err}
+use Rattle.std.specs.Prelude.{◌≡◌, ℕ, List, length, Option, Some, None, Result, Ok, Err}
 use Rattle.yaml_round_content.specs.round_laws.emit_laws_streams.parse.parse_laws_faults.grammar.parse_model.declared.yaml_encoding_t.{yaml_encoding_t}
 use Rattle.yaml_round_content.specs.round_laws.emit_laws_streams.parse.parse_laws_faults.grammar.parse_model.Tokens.{Token}
 use Rattle.yaml_round_content.specs.round_laws.emit_laws_streams.parse.parse_laws_faults.grammar.parse_model.Faults.{Fault}
-use Rattle.yaml_round_content.specs.round_laws.emit_laws_streams.parse.parse_laws_faults.grammar.Trees.{items}
+use Rattle.yaml_round_content.specs.round_laws.emit_laws_streams.parse.parse_laws_faults.grammar.TreeEvents.{given_of}
 use Rattle.yaml_round_content.specs.round_laws.emit_laws_streams.parse.parse_laws_faults.grammar.Resolve.{Told, reading, no_directives}
 use Rattle.yaml_round_content.specs.round_laws.emit_laws_streams.parse.parse_laws_faults.Places.{BeginsWithSentence, FaultOfTokens}
 use Rattle.yaml_round_content.specs.Input.{tokens_of, events_of, ending_of}
@@ -27,7 +27,7 @@ PlainReading from input r = TokensRead (tokens_of from input).tokens (tokens_of 
 -- The events of an input that is accepted: those of its tree, their tags resolved.
 pub record HasEvents (from : yaml_encoding_t) (input : List ℕ) (es : List Told) : Type 0 where
   pub sentence : BeginsWithSentence (tokens_of from input).tokens
-  pub are : es ≡ (reading (items sentence.tree sentence.rest) None no_directives).events
+  pub are : es ≡ (reading (given_of sentence.tree (length sentence.rest)) None no_directives).events
 
 -- ---- laws
 
@@ -63,4 +63,5 @@ ReadIsSaid = (from : yaml_encoding_t) (input : List ℕ) (c : List Document)
 abbrev pub EventsAreOfTree : Type 0
 EventsAreOfTree = (from : yaml_encoding_t) (input : List ℕ)
     → (b : BeginsWithSentence (tokens_of from input).tokens)
-    → events_of from input ≡ (reading (items b.tree b.rest) None no_directives).events
+    → events_of from input
+    ≡ (reading (given_of b.tree (length b.rest)) None no_directives).events

@@ -9,7 +9,8 @@ use Rattle.yaml_parse_grammar.specs.parse_model.Events as event
 use Rattle.yaml_parse_grammar.specs.parse_model.Faults.{Fault}
 use Rattle.yaml_parse_grammar.specs.declared.name.Wants.TheVariants.{Block}
 use Rattle.yaml_parse_grammar.specs.Items as item
-use Rattle.yaml_parse_grammar.specs.Trees.{Span, token_at, Given, spell_node, spell_directives, spell_ends, spell_documents, items_node, items_directives, items_ends, items_documents, items, there, no_first}
+use Rattle.yaml_parse_grammar.specs.Trees.{Span, token_at, Given, spell_node, spell_directives, spell_ends, spell_documents, there, no_first}
+use Rattle.yaml_parse_grammar.specs.TreeSteps.{items_node, items_directives, items_ends, items_documents, items}
 use Rattle.yaml_parse_grammar.specs.Trees as trees
 use Rattle.yaml_parse_grammar.specs.Machine.{Outcome}
 use Rattle.yaml_parse_grammar.specs.Resolve.{Directives, no_directives, Reading, Settled, gave, noted, settle, read_on, reading, with_version, with_tag, is_known_version}

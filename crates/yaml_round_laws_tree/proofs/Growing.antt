@@ -18,7 +18,8 @@ use Rattle.yaml_parse_grammar.specs.declared.name.Brackets.{Brackets}
 use Rattle.yaml_parse_grammar.specs.declared.name.Brackets.TheVariants as brackets
 use Rattle.yaml_parse_grammar.specs.Items.{RawEvent, Shape, Properties, node_at}
 use Rattle.yaml_parse_grammar.specs.Items as item
-use Rattle.yaml_parse_grammar.specs.Trees.{Span, token_at, PropertyTokens, Given, spell_properties, spell_node, spell_content, spell_items, spell_more, spell_colon, properties_of, items_node, items_content, items_items, Items, More, end_items, single, comma, there, colon}
+use Rattle.yaml_parse_grammar.specs.Trees.{Span, token_at, PropertyTokens, Given, spell_properties, spell_node, spell_content, spell_items, spell_more, spell_colon, properties_of, Items, More, end_items, single, comma, there, colon}
+use Rattle.yaml_parse_grammar.specs.TreeSteps.{items_node, items_content, items_items}
 use Rattle.yaml_parse_grammar.specs.Trees as trees
 use Rattle.yaml_parse_grammar.specs.Resolve.{Directives, Reading, Settled, gave, settle, read_on, reading, resolved, with_resolved, node_event, is_missing}
 use Rattle.yaml_emit_laws_canonical.specs.emit_layout.emit_text.Tags.{Split, shorthand, verbatim, split_tag}

@@ -5,7 +5,8 @@ use Rattle.yaml_parse_grammar.specs.parse_model.Tokens.{Token, TokenBody}
 use Rattle.yaml_parse_grammar.specs.parse_model.Events.{EventBody, TagDirective}
 use Rattle.yaml_parse_grammar.specs.parse_model.Faults.{Fault}
 use Rattle.yaml_parse_grammar.specs.declared.name.Wants.{Wants}
-use Rattle.yaml_parse_grammar.specs.Trees.{Given, spell_node, items_node}
+use Rattle.yaml_parse_grammar.specs.Trees.{Given, spell_node}
+use Rattle.yaml_parse_grammar.specs.TreeSteps.{items_node}
 use Rattle.yaml_parse_grammar.specs.Trees as trees
 use Rattle.yaml_parse_grammar.specs.Resolve.{Directives, Told, Reading, reading, no_directives}
 use Rattle.yaml_parse_grammar.specs.Machine.{run, initial}

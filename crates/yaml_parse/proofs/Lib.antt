@@ -4,6 +4,7 @@ pub mod Turning
 pub mod Texts
 pub mod Loading
 pub mod NextLoads
+pub mod ByContent
 pub mod Heights
 pub mod Swiftness
 pub mod Sentences

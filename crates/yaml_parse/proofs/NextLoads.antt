@@ -22,17 +22,17 @@ use Rattle.yaml_parse.proofs.Loading.{loads_same}
 
 -- ---- inside of a document
 
-abbrev IsInner : EventBody → Type 0
+abbrev pub IsInner : EventBody → Type 0
 IsInner (event.document_start version directives implicit) = ⊥
 IsInner (event.document_end implicit) = ⊥
 IsInner _ = Unit {0}
 
-abbrev AreInner : List Event → Type 0
+abbrev pub AreInner : List Event → Type 0
 AreInner [] = Unit {0}
 AreInner (e ∷ es) = IsInner e.body × AreInner es
 
 -- whatever has events in front of it, and one more, has inner ones there
-abbrev InnerFronts : List Event → Type 0
+abbrev pub InnerFronts : List Event → Type 0
 InnerFronts es = (xs : List Event) (y : Event) (ys : List Event) → es ≡ xs ++ y ∷ ys → AreInner xs
 
 inner_more : (e : Event) (es : List Event) → IsInner e.body → InnerFronts es → InnerFronts (e ∷ es)
@@ -64,14 +64,14 @@ mutual
 
 -- ---- the names that the loader knows
 
-abbrev is_there : Option ℤ → Bool
+abbrev pub is_there : Option ℤ → Bool
 is_there None = false
 is_there (Some n) = true
 
-abbrev Knows : Anchors → List (List ℕ) → Type 0
+abbrev pub Knows : Anchors → List (List ℕ) → Type 0
 Knows known names = (name : List ℕ) → is_there (map.get known name) ≡ is_among name names
 
-knows_nothing : Knows map.empty []
+pub knows_nothing : Knows map.empty []
 knows_nothing name = ap is_there (map.get-empty (slice_cmp nat_cmp) name)
 
 there_on : (b : Bool) (n : ℤ) (o : Option ℤ) → is_there (cond b (Some n) o) ≡ b || is_there o
@@ -88,7 +88,7 @@ knows_more (Some x) n known names k = λ name.
 -- ---- one event of a document
 
 -- it goes on, or the alias is the first that is wrong
-abbrev Inner : Fed → Option Fault → List (List ℕ) → Type 0
+abbrev pub Inner : Fed → Option Fault → List (List ℕ) → Type 0
 Inner (goes_on m) wrong names = (wrong ≡ None) × Knows m.anchors names
 Inner (loaded d) wrong names = ⊥
 Inner (refused f) wrong names = wrong ≡ Some f
@@ -103,7 +103,7 @@ closed_inner : (to : yaml_mark_t) (l : Loading) (os : List Open) (names : List (
 closed_inner to l [] names k = (refl, k)
 closed_inner to l (o ∷ os) names k = (refl, k)
 
-inner_step : (b : EventBody) (from to : yaml_mark_t) (l : Loading) (names : List (List ℕ)) → IsInner b → Knows l.anchors names → Inner (step_body b from to l) (wrong_alias b from names) (names_behind b names)
+pub inner_step : (b : EventBody) (from to : yaml_mark_t) (l : Loading) (names : List (List ℕ)) → IsInner b → Knows l.anchors names → Inner (step_body b from to l) (wrong_alias b from names) (names_behind b names)
 inner_step event.no from to l names h k = (refl, k)
 inner_step (event.stream_start encoding) from to l names h k = (refl, k)
 inner_step event.stream_end from to l names h k = (refl, k)
@@ -169,16 +169,16 @@ right_inner (g ∷ gs) f behind l names h k e =
 
 -- ---- a front of a document's content
 
-abbrev start_event : DocumentContent → Event
+abbrev pub start_event : DocumentContent → Event
 start_event d = spanning (event.document_start d.version d.directives d.start_implicit) d.start_at.start_mark d.start_at.end_mark
 
-abbrev end_event : DocumentContent → Event
+abbrev pub end_event : DocumentContent → Event
 end_event d = spanning (event.document_end d.end_implicit) d.end_at.start_mark d.end_at.end_mark
 
-abbrev started_by : DocumentContent → Loading
+abbrev pub started_by : DocumentContent → Loading
 started_by d = loading.started d.version d.directives d.start_implicit d.start_at.start_mark
 
-inner_front : (d : DocumentContent) (gs : List Told) (y : Event) (ys : List Event) → events d.root (end_event d ∷ []) ≡ told_events gs ++ y ∷ ys → AreInner (told_events gs)
+pub inner_front : (d : DocumentContent) (gs : List Told) (y : Event) (ys : List Event) → events d.root (end_event d ∷ []) ≡ told_events gs ++ y ∷ ys → AreInner (told_events gs)
 inner_front d gs y ys e = inner_content d.root (end_event d ∷ []) (inner_last (end_event d)) (told_events gs) y ys e
 
 abbrev WrongOf : (w : Fault × ℕ) → List Told → List Told → Option Fault → ℕ → Type 0
@@ -297,7 +297,7 @@ split_loads c os gs e h = ap (λ (xs : List Told). loads xs c.ending nothing_loa
 split_unasked : (c : ParserRemaining) (os gs : List Told) → c.events ≡ os ++ gs → AreOutside os → unasked_of c ≡ unasked_at_refusal gs c.ending_unasked nothing_loaded
 split_unasked c os gs e h = ap (λ (xs : List Told). unasked_at_refusal xs c.ending_unasked nothing_loaded) e ∙ outside_unasked os gs c.ending_unasked nothing_loaded h
 
-no_rest : (gs : List Told) → gs ++ [] ≡ gs
+pub no_rest : (gs : List Told) → gs ++ [] ≡ gs
 no_rest [] = refl
 no_rest (g ∷ gs) = ap (λ (xs : List Told). g ∷ xs) (no_rest gs)
 

@@ -111,11 +111,14 @@ pub record NoneNext (gs : List Told) : Type 0 where
 
 -- What a load of the events to come gives: the document that comes next, its nodes numbered; the fault of an alias in it, which
 -- comes before the fault behind the events; that fault, where no document ends before it; or that there is none any more.
+abbrev pub IsLoadOf : List Told → Option Fault → ℕ → NextLoad → Type 0
+IsLoadOf gs own behind (next_document e left unasked) = NumbersNext gs e left unasked
+IsLoadOf gs own behind (next_fault f unasked) = WrongAliasNext gs f unasked
+    ⊎ (NoneNext gs × ((own ≡ Some f) × (unasked ≡ behind)))
+IsLoadOf gs own behind next_none = NoneNext gs × (own ≡ None)
+
 abbrev pub IsNextLoad : ParserRemaining → NextLoad → Type 0
-IsNextLoad c (next_document e left unasked) = NumbersNext c.events e left unasked
-IsNextLoad c (next_fault f unasked) = WrongAliasNext c.events f unasked
-    ⊎ (NoneNext c.events × ((c.ending ≡ Some f) × (unasked ≡ c.ending_unasked)))
-IsNextLoad c next_none = NoneNext c.events × (c.ending ≡ None)
+IsNextLoad c n = IsLoadOf c.events c.ending c.ending_unasked n
 
 -- a load answers so
 abbrev pub GivesLoad : NextLoad → Document → ParserRemaining → ParserRemaining → Type 0
@@ -139,3 +142,27 @@ LoadIsNext old d new = (n : NextLoad) → IsNextLoad old n → GivesLoad n d old
 
 abbrev pub RefusalIsNext : ParserRemaining → Fault → ParserRemaining → Type 0
 RefusalIsNext old f new = (n : NextLoad) → IsNextLoad old n → RefusesNext n f old new
+
+-- ---- load after load
+
+-- Load after load, each is one that content says, up to a fault or the last document.
+pub data LoadsByContent (own : Option Fault) (behind : ℕ) : List Told → Type 0 where
+  one_more : (gs left : List Told) (e : Document) (unasked : ℕ)
+      → IsLoadOf gs own behind (next_document e left unasked)
+      → LoadsByContent own behind left → LoadsByContent own behind gs
+  refused : (gs : List Told) (f : Fault) (unasked : ℕ)
+      → IsLoadOf gs own behind (next_fault f unasked) → LoadsByContent own behind gs
+  ended : (gs : List Told) → IsLoadOf gs own behind next_none → LoadsByContent own behind gs
+
+-- the events of documents, and one behind them
+abbrev pub contents_events : List DocumentContent → Event → List Event
+contents_events [] last = last ∷ []
+contents_events (d ∷ ds) last = document_events d (contents_events ds last)
+
+-- Where the events to come are a front of some documents' and of the stream's end, behind events of no document, each load is
+-- one that content says, whatever fault is behind them.
+abbrev pub FrontsLoadByContent : Type 0
+FrontsLoadByContent = (ds : List DocumentContent) (last : Event) → IsOutside last.body
+    → (outside gs : List Told) (more : List Event) (own : Option Fault) (behind : ℕ)
+    → AreOutside outside → told_events gs ++ more ≡ contents_events ds last
+    → LoadsByContent own behind (outside ++ gs)

@@ -5,7 +5,7 @@ ghost use Rattle.yaml_scan_model.specs.Faults.{Fault, fault_of};
 ghost use Rattle.yaml_parse_grammar.specs.Resolve.{Told};
 ghost use Rattle.yaml_parse_loader.specs.Loading.{Loading, load};
 ghost use Rattle.yaml_parse.specs.Loads.{loads, loads_of, told_events, LoadGives, LoadRefuses, LoadsSame};
-ghost use Rattle.yaml_parse.specs.NextLoad.{LoadIsNext, RefusalIsNext};
+ghost use Rattle.yaml_parse.specs.NextLoad.{FrontsLoadByContent, LoadIsNext, RefusalIsNext};
 
 use crate::parser::{next_event, yaml_parser_t};
 use yaml_parse_document::{no_document, yaml_document_t};
@@ -55,4 +55,10 @@ pub fn yaml_parser_load<S: yaml_token_source_t>(
 pub fn loads_as_the_events_do()
     ensures { (gs : List Told) (f : Option Fault) (l : Loading)
         → LoadsSame f (load (told_events gs) l) (loads gs f l) }
+{}
+
+/// A law: of every front of a stream of documents each load is one that content says, load after load, up to a fault or the
+/// last document.
+pub fn loads_are_by_content()
+    ensures { FrontsLoadByContent }
 {}

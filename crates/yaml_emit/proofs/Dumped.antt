@@ -22,7 +22,8 @@ use Rattle.yaml_emit_graph.specs.declared.Events.{Events}
 use Rattle.yaml_emit.specs.declared.emitter.yaml_emitter_t.TheInside.{Inside}
 use Rattle.yaml_emit_graph.specs.Events.{remaining_events, IsEvents}
 use Rattle.yaml_emit.specs.Held.{held_events}
-use Rattle.yaml_emit.specs.Emitter.{Emitter, emitter_of, CompletesBy, Completes, Given, GivesSome, left_if, opening_events, closing_events, dump_events, document_events_by, document_events, Answers}
+use Rattle.yaml_emit.specs.Emitter.{Emitter, CompletesBy, Completes, Given, GivesSome, left_if, opening_events, closing_events, dump_events, document_events_by, document_events, Answers}
+use Rattle.yaml_emit.specs.Views.{emitter_of}
 use Rattle.yaml_emit_graph.specs.Graph.{dumped}
 use Rattle.yaml_emit.specs.Verdict.{Stuck}
 use Rattle.yaml_emit.specs.Dumping.{DumpsBy, Dumps}

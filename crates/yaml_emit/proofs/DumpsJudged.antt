@@ -13,7 +13,8 @@ use Rattle.yaml_emit_graph.specs.declared.Events.{Events}
 use Rattle.yaml_emit.specs.declared.emitter.yaml_emitter_t.TheInside.{Inside}
 use Rattle.yaml_emit_graph.specs.Events.{remaining_events}
 use Rattle.yaml_emit.specs.Held.{held_events}
-use Rattle.yaml_emit.specs.Emitter.{Emitter, emitter_of, left_if, opening_events, closing_events, dump_events, document_events}
+use Rattle.yaml_emit.specs.Emitter.{Emitter, left_if, opening_events, closing_events, dump_events, document_events}
+use Rattle.yaml_emit.specs.Views.{emitter_of}
 use Rattle.yaml_emit_graph.specs.Graph.{dumped}
 use Rattle.yaml_emit.specs.Judged.{text_from, LetsOut}
 use Rattle.yaml_emit.specs.Verdict.{WritesBy, Writes, Judged, JudgedAll, Stuck}

@@ -27,7 +27,8 @@ use Rattle.yaml_emit.specs.Held.{held_events}
 use Rattle.yaml_scan_model.specs.declared.yaml_fault_t.{yaml_fault_t}
 use Rattle.yaml_emit.specs.declared.held.Held.{Held}
 use Rattle.yaml_emit.specs.declared.emitter.yaml_emitter_t.TheInside.{Inside}
-use Rattle.yaml_emit.specs.Emitter.{Emitter, text_of, emitter_of, IsEmitter, write_error, too_deep, problem_fault, memory_origin, refusal_by, stop_of, IsLimited, stream_encoding, IsStream, CompletesBy, Completes, HasWritten, ShowsFront, IsWhole, Given, Begins}
+use Rattle.yaml_emit.specs.Emitter.{Emitter, text_of, write_error, too_deep, problem_fault, memory_origin, refusal_by, stop_of, IsLimited, stream_encoding, IsStream, CompletesBy, Completes, HasWritten, ShowsFront, IsWhole, Given, Begins}
+use Rattle.yaml_emit.specs.Views.{emitter_of, IsEmitter}
 use Rattle.yaml_emit.specs.Judged.{refused_at}
 use Rattle.yaml_emit.proofs.Ending.{all_written}
 use Rattle.yaml_emit.proofs.Viewing.{seen}

@@ -27,7 +27,8 @@ use Rattle.yaml_emit.specs.declared.held.Held.{Held}
 use Rattle.yaml_emit.specs.declared.emitter.yaml_emitter_t.TheInside.{Inside}
 use Rattle.yaml_emit.specs.Judged.{Progress, first_progress, let_out, first_refusal, unless, laid, refused_at, refusal_from, text_from, refusal_behind, LetsOut, take_memory}
 use Rattle.yaml_emit.specs.Laying.{Judges}
-use Rattle.yaml_emit.specs.Emitter.{Emitter, text_of, emitter_of, IsEmitter, fault_by, refusal_by, stop_of, stream_encoding, problem_fault, Stays}
+use Rattle.yaml_emit.specs.Emitter.{Emitter, text_of, fault_by, refusal_by, stop_of, stream_encoding, problem_fault, Stays}
+use Rattle.yaml_emit.specs.Views.{emitter_of, IsEmitter}
 use Rattle.yaml_emit.specs.Verdict.{verdict_by, verdict, IsLetOut, WritesBy, Writes, Notes, Judged, JudgesFirst, Stuck, HasLetOut, Tells}
 use Rattle.yaml_emit.proofs.Viewing.{seen}
 use Rattle.yaml_emit.proofs.Judging.{or_some, unless_some}

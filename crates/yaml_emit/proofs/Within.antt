@@ -14,7 +14,8 @@ use Rattle.yaml_emit_state.specs.Steps.{goes_on}
 use Rattle.yaml_emit_state.specs.Finish.{Finishes, FinishesAt}
 use Rattle.yaml_emit.specs.declared.emitter.yaml_emitter_t.TheInside.{Inside}
 use Rattle.yaml_emit.specs.Held.{is_ready}
-use Rattle.yaml_emit.specs.Emitter.{Emitter, text_of, emitter_of, IsEmitter, Completes, CompletesBy, IsStream}
+use Rattle.yaml_emit.specs.Emitter.{Emitter, text_of, Completes, CompletesBy, IsStream}
+use Rattle.yaml_emit.specs.Views.{emitter_of, IsEmitter}
 use Rattle.yaml_emit.specs.Within.{Fits, IsWithin}
 use Rattle.yaml_emit.proofs.Ending.{nothing_held, no_event_left}
 use Rattle.yaml_emit.proofs.Emitting.{refusal_none, goes_going}

@@ -6,7 +6,7 @@
 -- `verdict` and `Writes` (`Verdict.antt`) are about any events, right or not, and not about an end: once these are given too, this
 -- event is the first that is refused, and this is the text up to it. `Judged` (an event) and `JudgedAll` (the events of a dump)
 -- say that what was taken counts for them.
-use Rattle.std.specs.Prelude.{◌≡◌, ◌⊎◌, ℕ, ◌<◌, ◌≤◌, Bool, true, false, List, [], ◌∷◌, ◌++◌, length, take, Option, Some, None, option_map, pos, codes, Result, Ok, Err}
+use Rattle.std.specs.Prelude.{◌≡◌, ◌⊎◌, ℕ, ◌<◌, Bool, true, false, List, [], ◌∷◌, ◌++◌, length, take, Option, Some, None, option_map, pos, codes, Result, Ok, Err}
 use Rattle.yaml_scan_model.specs.declared.yaml_encoding_t.{yaml_encoding_t}
 use Rattle.yaml_scan_model.specs.declared.yaml_encoding_t.TheVariants.{YAML_ANY_ENCODING}
 use Rattle.yaml_scan_model.specs.declared.yaml_break_t.TheVariants.{YAML_ANY_BREAK}
@@ -35,10 +35,7 @@ use Rattle.yaml_emit_layout.specs.Content.{Event, stream_start, stream_end, Docu
 use Rattle.yaml_emit_layout.specs.Grammar.{own_problems, problem_bytes}
 use Rattle.yaml_emit_layout.specs.Nodes.{stream_layout}
 use Rattle.yaml_emit_layout.specs.State.{State}
-use Rattle.yaml_emit_state.specs.Steps.{state_of, settings_of, goes_on}
 use Rattle.yaml_emit_state.specs.Finish.{Finishes}
-use Rattle.yaml_emit.specs.declared.emitter.yaml_emitter_t.TheInside.{Inside}
-use Rattle.yaml_emit.specs.Held.{held_events, HeldUtf8, is_ready}
 use Rattle.yaml_emit.specs.Judged.{refused_at}
 use Rattle.yaml_emit_graph.specs.Graph.{dumped}
 
@@ -66,26 +63,8 @@ pub record Emitter : Type 0 where
   pub cursor : Cursor
   -- that the output goes on, or what has stopped it: the limit, an indentation that is too deep, or want of memory
   pub status : Status
-  -- it was stopped by memory that was refused for the open collections or the directives, and not for the text
+  -- it was stopped by memory that was refused for the open collections, the directives or a dump, and not for the text
   pub starved : Bool
-
-abbrev pub emitter_of : Inside → Emitter
-emitter_of e = record {
-  requested_settings = e.requested_settings;
-  limit = e.core.sink.limit;
-  held = held_events e.held;
-  output = e.core.sink.bytes;
-  fresh = e.fresh;
-  opened = e.opened;
-  closed = e.closed;
-  fault = option_map
-      fault_of e.fault;
-  settings = settings_of e.core;
-  state = state_of e.core;
-  cursor = e.core.sink.cursor;
-  status = e.core.sink.status;
-  starved = e.core.starved;
-}
 
 -- the output as the definitions of a text see it
 abbrev pub text_of : Emitter → Output
@@ -148,20 +127,6 @@ refusal_by place s levels = fault_by s levels (refused_at place)
 -- the fault of what has stopped an emitter
 abbrev pub stop_of : Emitter → Option Fault
 stop_of e = refusal_by e.state.place e.status e.starved
-
-pub record IsEmitter (e : Inside) : Type 0 where
-  -- the fault is the first that laying out met
-  pub faulty : option_map fault_of e.fault
-      ≡ refusal_by e.core.place e.core.sink.status e.core.starved
-  pub few : goes_on e.core.sink.status e.core.place ≡ true → is_ready (held_events e.held) ≡ false
-  pub short : length (held_events e.held) ≤ 3
-  pub texts : HeldUtf8 e.held
-  pub begun : e.fresh ≡ true → (held_events e.held ≡ [])
-      × ((option_map fault_of e.fault ≡ None)
-      × ((e.core.sink.bytes ≡ []) × (e.core.sink.status ≡ Going)))
-  pub limited : e.core.sink.limit ≡ e.limit
-  pub running : e.opened ≡ true → e.fresh ≡ false
-  pub memory : e.core.sink.status ≡ Going → e.core.starved ≡ false
 
 -- the encoding of a stream that begins so
 abbrev pub stream_encoding : Event → yaml_encoding_t

@@ -40,9 +40,11 @@ pub struct yaml_emitter_t {
 }
 
 impl Model for yaml_emitter_t {
-    ghost use Rattle.yaml_emit.specs.Emitter.{Emitter, emitter_of, IsEmitter};
+    ghost use Rattle.yaml_emit.specs.Emitter.{Emitter};
 
     ghost Value = { Emitter };
+
+    ghost use Rattle.yaml_emit.specs.Views.{emitter_of, IsEmitter};
 
     ghost view = { emitter_of };
 

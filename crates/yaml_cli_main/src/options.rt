@@ -214,11 +214,21 @@ fn named_command<'a>(alloc: Global) -> Made<'a> {
         .bin_name("yaml_cli")
 }
 
-fn whole_command<'a>(alloc: Global) -> Made<'a> {
-    let made = with_command(named_command(alloc), fmt_command(alloc));
-    let made = with_command(made, docs_command(alloc));
+// The commands that write a text. These and the others are added two by two, since each call is proved with all that was made
+// before it.
+fn with_texts<'a>(alloc: Global, made: Made<'a>) -> Made<'a> {
+    let made = with_command(made, fmt_command(alloc));
+    with_command(made, docs_command(alloc))
+}
+
+fn with_answers<'a>(alloc: Global, made: Made<'a>) -> Made<'a> {
     let made = with_command(made, events_command(alloc));
     with_command(made, same_command(alloc))
+}
+
+fn whole_command<'a>(alloc: Global) -> Made<'a> {
+    let made = with_texts(alloc, named_command(alloc));
+    with_answers(alloc, made)
 }
 
 /// What the words say, the program's name first.

@@ -122,6 +122,7 @@ const FALL_BACK: Case = Case {
     words: &["x", "fmt", "--pretty"],
     reads: &[step_t::Piece(b"!")],
     writes: &[],
+    unflushed: false,
     tells: &[],
     status: 0,
     want: Want::Exactly(b"---\n! \"\"\n", "yaml_cli: canonical form was written\n"),

@@ -21,6 +21,8 @@ pub struct Case<'a> {
     pub words: &'a [&'a str],
     pub reads: &'a [step_t<'a>],
     pub writes: &'a [write_step_t],
+    /// Whether the output's writer fails to pass on what it took.
+    pub unflushed: bool,
     pub tells: &'a [write_step_t],
     pub status: u8,
     pub want: Want<'a>,
@@ -36,7 +38,7 @@ fn is_wanted(output: &[u8], errors: &[u8], want: Want) -> bool {
 /// Whether the program gives what the case says.
 pub fn is_right<H: Files + AllocGlobal>(rt: &H, case: Case) -> bool {
     let mut input = scripted_reader_t::new(case.reads);
-    let mut output = scripted_writer_t::new(rt.alloc(), case.writes, false);
+    let mut output = scripted_writer_t::new(rt.alloc(), case.writes, case.unflushed);
     let mut errors = scripted_writer_t::new(rt.alloc(), case.tells, false);
     let status = yaml_main(rt, case.words, &mut input, &mut output, &mut errors);
     status == case.status && is_wanted(output.received(), errors.received(), case.want)
@@ -65,6 +67,7 @@ pub fn are_answered<H: Files + AllocGlobal + Abort>(rt: &H, rows: &[Answer]) {
             words: *words,
             reads: &[step_t::Piece(*input)],
             writes: &[],
+            unflushed: false,
             tells: &[],
             status: 0,
             want: Want::Exactly(*output, ""),
@@ -83,6 +86,7 @@ pub fn are_refused<H: Files + AllocGlobal + Abort>(rt: &H, rows: &[Refusal]) {
             words: *words,
             reads: &[step_t::Piece(*input)],
             writes: &[],
+            unflushed: false,
             tells: &[],
             status: *status,
             want: Want::Exactly(b"", *errors),
@@ -104,6 +108,7 @@ pub fn are_told<H: Files + AllocGlobal + Abort>(rt: &H, rows: &[Told]) {
             words: *words,
             reads: NO_READS,
             writes: &[],
+            unflushed: false,
             tells: &[],
             status: *status,
             want: Want::Something(*writes, *tells),

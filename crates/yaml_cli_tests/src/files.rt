@@ -46,6 +46,7 @@ const CUT: Case = Case {
     words: &["x", "same", "one.yaml", "one.yaml"],
     reads: &[],
     writes: &[write_step_t::Takes(3), write_step_t::Failure],
+    unflushed: false,
     tells: &[],
     status: 1,
     want: Want::Exactly(b"equ", "yaml_cli: write failed after 3 bytes\n"),

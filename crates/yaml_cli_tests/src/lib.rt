@@ -1,4 +1,5 @@
-//! Command lines over scripted streams, and values looked up by their keys.
+//! Command lines over scripted streams, values looked up by their keys, and what the engine's tests have that is no line of
+//! vectors: devices that fail or are interrupted, and faults of every kind.
 #![tactic(auto)]
 
 #[cfg(test)]
@@ -8,7 +9,11 @@ mod check;
 #[cfg(test)]
 mod files;
 #[cfg(test)]
+mod lines;
+#[cfg(test)]
 mod lookups;
+#[cfg(test)]
+mod reads;
 #[cfg(test)]
 mod refusals;
 #[cfg(test)]

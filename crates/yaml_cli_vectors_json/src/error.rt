@@ -6,7 +6,7 @@ use yaml_parse::yaml_text_fault_t;
 use yaml_scan::yaml_fault_t;
 
 /// Why a line can't be replayed, or the fault that its call answers.
-#[derive(Debug, Drop)]
+#[derive(Drop)]
 pub enum VectorError {
     Memory,
     /// The line is no JSON.

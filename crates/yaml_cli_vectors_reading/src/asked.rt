@@ -6,6 +6,7 @@ use crate::{load, parse};
 use serde_json::Value;
 use std::alloc::Global;
 use yaml_cli_vectors_json::VectorError;
+use yaml_parse::yaml_parser_delete;
 
 /// What a parser is asked for.
 #[derive(Clone, Copy)]
@@ -35,5 +36,7 @@ pub fn parsed(
     asked: Asked,
 ) -> Result<Value, VectorError> {
     let mut reading = reading_of(alloc, line, source)?;
-    answer(alloc, line, asked, &mut reading)
+    let answer = answer(alloc, line, asked, &mut reading);
+    yaml_parser_delete(reading);
+    answer
 }

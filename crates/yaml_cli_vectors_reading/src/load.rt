@@ -6,7 +6,8 @@ use serde_json::Value;
 use std::alloc::Global;
 use yaml_cli_vectors_json::{Items, VectorError, shown_document};
 use yaml_parse::{
-    yaml_document_get_root_node, yaml_document_t, yaml_parser_between, yaml_parser_load,
+    yaml_document_delete, yaml_document_get_root_node, yaml_document_t, yaml_parser_between,
+    yaml_parser_load,
 };
 
 // Adds the document, as the lines write it. False where it has no root, as what stands behind the last.
@@ -30,7 +31,7 @@ fn add_next(
     }
     let document = yaml_parser_load(reading)?;
     let is_some = add_unless_empty(alloc, &document, documents);
-    drop(document);
+    yaml_document_delete(document);
     Ok(is_some)
 }
 

@@ -72,9 +72,8 @@ pub(crate) fn handed_out(text: Vec<u8>) -> &'static [u8]
     text.leak()
 }
 
-/// An answer with a text, and a number beside it.
-pub(crate) fn told(text: Vec<u8>, is: i32) -> yaml_c_answer
-    ensures { TellsText text.items is result }
+fn text_told(text: &'static [u8], is: i32) -> yaml_c_answer
+    ensures { TellsText text.now is result }
 {
     yaml_c_answer {
         kind: 0,
@@ -86,28 +85,23 @@ pub(crate) fn told(text: Vec<u8>, is: i32) -> yaml_c_answer
         context_mark: ZERO,
         problem: b"",
         context: b"",
-        text: handed_out(text),
+        text,
         line: b"",
     }
+}
+
+/// An answer with a text, and a number beside it.
+pub(crate) fn told(text: Vec<u8>, is: i32) -> yaml_c_answer
+    ensures { TellsText text.items is result }
+{
+    text_told(handed_out(text), is)
 }
 
 /// An answer that is a number alone.
 pub(crate) fn said(is: i32) -> yaml_c_answer
     ensures { TellsText [] is result }
 {
-    yaml_c_answer {
-        kind: 0,
-        is,
-        second: 0,
-        value: 0,
-        offset: 0,
-        problem_mark: ZERO,
-        context_mark: ZERO,
-        problem: b"",
-        context: b"",
-        text: b"",
-        line: b"",
-    }
+    text_told(b"", is)
 }
 
 fn context_of(context: Option<&'static str>) -> &'static [u8]

@@ -13,7 +13,7 @@ use crate::listing::Listing;
 use crate::number::encoding_of;
 use crate::record::{yaml_c_directive, yaml_c_event};
 use std::alloc::Global;
-use yaml_parse::{yaml_parser_initialize, yaml_parser_t};
+use yaml_parse::{yaml_parser_delete, yaml_parser_initialize, yaml_parser_t};
 use yaml_round::{yaml_adapter_t, yaml_encoding_t, yaml_fault_t};
 
 /// The events of an input, and the bytes and directives that they speak of. All three are the caller's to free, where they
@@ -48,7 +48,9 @@ fn collected(alloc: Global, input: &[u8], from: yaml_encoding_t) -> Result<Listi
 {
     let mut reading = reading_of(alloc, input, from)?;
     let mut listing = Listing::new(alloc);
-    match collect(&mut reading, &mut listing) {
+    let end = collect(&mut reading, &mut listing);
+    yaml_parser_delete(reading);
+    match end {
         Ok(()) => Ok(listing),
         Err(fault) => Err(fault),
     }

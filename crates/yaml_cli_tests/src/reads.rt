@@ -10,7 +10,7 @@ use yaml_round_scripted::{scripted_reader_t, step_t};
 // What a reader does, the limit, and the bytes that are answered, or why there are none.
 type Reading<'a> = (&'a [step_t<'a>], u64, Result<&'a [u8], yaml_run_fault_t>);
 
-const READINGS: [Reading; 9] = [
+const READINGS: [Reading; 11] = [
     (&[step_t::Piece(b"foo"), step_t::Zero], 3, Ok(b"foo")),
     (
         &[step_t::Piece(b"foo"), step_t::Zero],
@@ -51,6 +51,16 @@ const READINGS: [Reading; 9] = [
         ],
         3,
         Ok(b"foo"),
+    ),
+    (
+        &[step_t::Piece(b"[\"a\""), step_t::Piece(b", \"b\"]")],
+        10,
+        Ok(b"[\"a\", \"b\"]"),
+    ),
+    (
+        &[step_t::Piece(b"[\"a\"]"), step_t::Piece(b" ")],
+        5,
+        Err(yaml_run_fault_t::TooLong),
     ),
 ];
 

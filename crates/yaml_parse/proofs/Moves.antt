@@ -1,6 +1,7 @@
 -- What each step over the grammar owes.
-use Rattle.std.proofs.Common.{◌≡◌, ◌⊎◌, ◌<◌, ℕ, inl, inr, List, [], ◌∷◌, ◌++◌, length, reverse, map, Option, Some, None, sym, ap, subst, ◌∙◌, arith, true}
-use Rattle.std.proofs.lemmas.List.{reverse-append}
+use Rattle.std.proofs.Common.{◌≡◌, ◌⊎◌, ◌<◌, ℕ, inl, inr, List, [], ◌∷◌, ◌++◌, length, reverse, map, Option, Some, None, refl, sym, ap, subst, ◌∙◌, arith, true, false, ◌==◌}
+use Rattle.std.proofs.lemmas.Bool.Decides.{nat_tests}
+use Rattle.std.proofs.lemmas.List.{reverse-append, length-map, length-reverse}
 use Rattle.yaml_scan_model.specs.declared.yaml_mark_t.{yaml_mark_t}
 use Rattle.yaml_scan_model.specs.Tokens.{Token, no_token, type_of}
 use Rattle.yaml_scan_model.specs.Faults.{Fault}
@@ -151,12 +152,28 @@ ending_outcome : (peeked : Option Token) (ts : List Token) (f : Option Fault) (o
     → old ≡ x ∷ s → ((z : List State) → outcome (raw peeked ts f z) ≡ ending_at z e) → outcome (raw peeked ts f old) ≡ record { items = []; ending = Some e }
 ending_outcome peeked ts f old x s e p r = r old ∙ ap (λ (z : List State). ending_at z e) p
 
-pub no_front_step : (peeked : Option Token) (ts : List Token) (f : Option Fault) (old : List State) (x : State) (s : List State) (e : Fault) (new : Raw)
+no_front_step : (peeked : Option Token) (ts : List Token) (f : Option Fault) (old : List State) (x : State) (s : List State) (e : Fault) (new : Raw)
     → old ≡ x ∷ s → HasNoFront peeked ts f e new.tokens → IsRefused e (raw peeked ts f old) new
 no_front_step peeked ts f old x s e new p h = record {
   reason = elim h.reason [ inl m ↦ inl m | inr r ↦ inr (ending_outcome peeked ts f old x s e p r) ];
   unasked = elim h.unasked [ inl m ↦ inl m | inr n ↦ inr (n old) ];
 }
+
+no_front_at : (peeked : Option Token) (ts : List Token) (f : Option Fault) (s : List State) (e : Fault) (new : Raw)
+    → (length s ≡ 0 → ⊥) → HasNoFront peeked ts f e new.tokens → IsRefused e (raw peeked ts f s) new
+no_front_at peeked ts f [] e new k h = absurd (k refl)
+no_front_at peeked ts f (x ∷ s) e new k h = no_front_step peeked ts f (x ∷ s) x s e new refl h
+
+stack_length : (s : List code.State) → length (stack_of s) ≡ length s
+stack_length s = length-map (reverse s) state_of ∙ length-reverse s
+
+no_zero : (n : ℕ) → (n == 0) ≡ false → n ≡ 0 → ⊥
+no_zero n h e = grind (arith, nat_tests)
+
+-- the states stay where they are, of which there are some
+pub no_front_open : (peeked : Option Token) (ts : List Token) (f : Option Fault) (old : List code.State) (n : ℕ) (e : Fault) (new : Raw)
+    → n ≡ length old → (n == 0) ≡ false → HasNoFront peeked ts f e new.tokens → IsRefused e (raw peeked ts f (stack_of old)) new
+no_front_open peeked ts f old n e new q z h = no_front_at peeked ts f (stack_of old) e new (λ l. no_zero n z (q ∙ sym (stack_length old) ∙ l)) h
 
 pub leave_real : (x : State) (t : Token) (start : yaml_mark_t) (i : RawEvent) → i ≡ left_at x start → IsReal x t (step.given i)
 leave_real x t start i e = λ d. absurd (left_is_none x start (subst (λ (j : RawEvent). IsDirective j.body) e d))

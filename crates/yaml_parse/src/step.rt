@@ -280,11 +280,15 @@ pub fn advance<S: yaml_token_source_t>(
         (fault_of fault.new)) (stack_of stack.new.items) }
     ensures ready { IsSettled result (event_of event.new) }
 {
-    let Some(state) = stack.pop() else {
+    if stack.is_empty() {
         return Progress::By(Step::Done);
-    };
+    }
     if front(source, buffers, fault) {
-        moving(stack, state, buffers, event, fault)
+        // Taken off once the token is there: before that it would be put aside while the source works.
+        match stack.pop() {
+            Some(state) => moving(stack, state, buffers, event, fault),
+            None => Progress::By(Step::Done),
+        }
     } else {
         Progress::By(Step::Refused)
     }

@@ -128,6 +128,8 @@ fn is_plain(style: yaml_scalar_style_t) -> bool
 }
 
 // A new scalar without properties.
+// Out of line: mostly the slot holds such a one already, which is changed in place.
+#[inline(never)]
 fn new_bare(
     alloc: Global,
     value: &mut Vec<u8>,
@@ -149,6 +151,8 @@ fn new_bare(
 
 // A scalar without properties. Where the slot holds such a one already, it is changed in place: to put a new one there, the
 // old one is taken apart, asked what it owns, and set to zero. The old value stands in the token then, which drops it.
+// Inlined: some loads and stores.
+#[inline(always)]
 pub(crate) fn bare_scalar(
     alloc: Global,
     value: &mut Vec<u8>,

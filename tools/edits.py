@@ -5,6 +5,8 @@ public calls that have none.
     tools/edits.py             writes the page
     tools/edits.py --check     writes nothing, and fails where the page differs
 
+Both fail where an `old:` text does not stand exactly once in its file.
+
 An edit says what it turns in a line `turns: TEXT`; where it has none, its name stands for it.
 """
 import collections
@@ -42,6 +44,23 @@ class Edit:
     @property
     def meaning(self):
         return self.turns or self.name.replace("_", " ")
+
+
+def unfit(crate, path):
+    """What hinders an edit from being put into its crate's text, pair by pair as rt does it, or nothing."""
+    texts, file, old = {}, "", ""
+    for line in repo.read(path).split("\n"):
+        word, _, text = line.partition(": ")
+        if word == "file":
+            file = f"crates/{crate}/{text.strip()}"
+        elif word == "old":
+            old = text
+        elif word == "new":
+            now = texts.get(file) or repo.read(file)
+            if now.count(old) != 1:
+                return f"{path}: its text stands {now.count(old)} times in {file}: {old}"
+            texts[file] = now.replace(old, text)
+    return "" if texts else f"{path}: it changes nothing"
 
 
 def function_with(path, text):
@@ -113,6 +132,10 @@ def page():
 
 
 def main():
+    paths = [(it.crate, f"crates/{it.crate}/must-fail/{it.name}.edit") for it in all_edits()]
+    wrong = [why for why in (unfit(*it) for it in paths) if why]
+    if wrong:
+        sys.exit("edits: " + "\nedits: ".join(wrong))
     made = page()
     if "--check" in sys.argv[1:]:
         if made != repo.read(PAGE):

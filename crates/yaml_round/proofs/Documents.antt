@@ -8,7 +8,7 @@ use Rattle.yaml_round_laws_documents.specs.round_laws_back.content.Said as conte
 use Rattle.yaml_round_laws_documents.specs.round_laws_back.content.Loads.{loads_of}
 use Rattle.yaml_round_laws_documents.specs.round_laws_back.content.Canon.{canon_items, canon_encoding}
 use Rattle.yaml_round_laws_documents.specs.round_laws_dumps.Events.{trees_of_dumps, AreNumerable}
-use Rattle.yaml_round_laws_documents.specs.Normal.{LoadsAgain}
+use Rattle.yaml_round_laws_documents.specs.Normal.{ended, LoadsAgain}
 use Rattle.yaml_round_laws_documents.proofs.Laid.{laid_out}
 use Rattle.yaml_round_laws_documents.proofs.Whole.{loads_are, plain_documents, texts_load_again, texts_tell}
 use Rattle.yaml_round_laws_documents.proofs.round_laws_reading.Loaded.{faultless_load}
@@ -31,7 +31,7 @@ dumped_again s c text is fits says =
       fits = subst (λ (e : List content.Document). Fits s.limit (canon_encoding w) (canon_items w e)) says fits;
     }
 
-pub in_normal_documents : (from : yaml_encoding_t) (s : yaml_settings_t) (input text : List ℕ) → AreNumerable (loads_of from input).documents → IsEachDump s (loads_of from input).documents (Ok text)
+pub in_normal_documents : (from : yaml_encoding_t) (s : yaml_settings_t) (input text : List ℕ) → AreNumerable (loads_of from input).documents → IsEachDump s (ended (loads_of from input).documents) (Ok text)
     → IsNormalOfDocuments s (loads_of from input).documents text
 in_normal_documents from s input text small each =
     let w = requested_under s true in

@@ -23,7 +23,8 @@ use Rattle.yaml_round.specs.Writing.{IsUnder, Finishes, requested_under}
 use Rattle.yaml_round.specs.Layers.{reload_layers}
 use Rattle.yaml_round.specs.Answers.{bytes_of}
 use Rattle.yaml_round_laws_documents.specs.round_laws_back.content.Loads.{Loads, no_more, with_implicit_end, in_front, load_on, load_all, loads_of}
-use Rattle.yaml_round.specs.Reload.{to_load, HasRoot, LoadsDocument, IsLoaded, AreLoaded, written_events, Feeds, Stands, Dumps, DumpsStream, IsEachDump, IsDumped, LaysOutLoading, IsReloaded}
+use Rattle.yaml_round_laws_documents.specs.Normal.{ended}
+use Rattle.yaml_round.specs.Reload.{to_write, to_load, HasRoot, LoadsDocument, IsLoaded, AreLoaded, stream_of, written_events, Feeds, Stands, Dumps, DumpsStream, IsEachDump, IsDumped, LaysOutLoading, IsReloaded}
 use Rattle.yaml_round_laws_documents.proofs.round_laws_reading.Loaded.{faultless_load, faulty_load}
 use Rattle.yaml_round.proofs.Laying.{Led, starts, layout, past, one_layout, one_past}
 use Rattle.yaml_round.proofs.Streams.{loaded_text}
@@ -85,7 +86,7 @@ unfolding parse.loads load_all
 faulty_next [] f l x e = ap no_more (behind_faulty f x e)
 faulty_next (g ∷ gs) f l x e = fed_faulty (step g.0 l) gs f g.1 x (λ m. faulty_next gs f m x) e
 
-in_front_some : (ns : List Node) (d : Document) (rest : Loads) → 0 < length ns → in_front ns d rest ≡ record { documents = with_implicit_end d ∷ rest.documents; fault = rest.fault }
+in_front_some : (ns : List Node) (d : Document) (rest : Loads) → 0 < length ns → in_front ns d rest ≡ record { documents = d ∷ rest.documents; fault = rest.fault }
 in_front_some [] d rest h = absurd (omega (arith, h))
 in_front_some (n ∷ ns) d rest h = refl
 
@@ -93,7 +94,7 @@ in_front_none : (ns : List Node) (d : Document) (rest : Loads) → length ns ≡
 in_front_none [] d rest h = refl
 in_front_none (n ∷ ns) d rest h = absurd (omega (arith, h))
 
-to_load_left : (old new : ParserRemaining) (left : List Told) → new.events ≡ left → new.ending ≡ old.ending → load_all left old.ending nothing_loaded ≡ to_load new
+to_load_left : (old new : ParserRemaining) (left : List Told) → new.events ≡ left → new.ending ≡ old.ending → to_write (load_all left old.ending nothing_loaded) ≡ to_load new
 to_load_left old new left e f = rw (e, f) refl
 
 loaded_some : (r : parse.Loads) (old new : ParserRemaining) (d : Document) → parse.loads_of old ≡ r → parse.LoadGives r d old new → 0 < length d.nodes → length d.nodes < 2 ^ 64 → LoadsDocument (with_implicit_end d) old new
@@ -101,7 +102,7 @@ loaded_some (parse.document e left n) old new d is g h small =
     let k : parse.loads_of old ≡ parse.document d left n = is ∙ ap (λ (z : Document). parse.document z left n) (sym g.0) in
     let t = document_next old.events old.ending nothing_loaded d left n k in
     record {
-      same = t.0 ∙ in_front_some d.nodes d _ h ∙ ap (λ (z : Loads). record { documents = with_implicit_end d ∷ z.documents; fault = z.fault }) (to_load_left old new left g.1.events g.1.ending);
+      same = ap to_write (t.0 ∙ in_front_some d.nodes d _ h) ∙ ap (λ (z : Loads). record { documents = with_implicit_end d ∷ z.documents; fault = z.fault }) (to_load_left old new left g.1.events g.1.ending);
       less = rw g.1.events t.1;
       rooted = h;
       small = small;
@@ -116,21 +117,21 @@ loaded_none : (r : parse.Loads) (old new : ParserRemaining) (d : Document) → p
 loaded_none (parse.document e left n) old new d is g h =
     let k : parse.loads_of old ≡ parse.document d left n = is ∙ ap (λ (z : Document). parse.document z left n) (sym g.0) in
     let t = document_next old.events old.ending nothing_loaded d left n k in
-    t.0 ∙ in_front_none d.nodes d _ h
-loaded_none parse.nothing old new d is g h = nothing_next old.events old.ending nothing_loaded is
+    ap to_write (t.0 ∙ in_front_none d.nodes d _ h)
+loaded_none parse.nothing old new d is g h = ap to_write (nothing_next old.events old.ending nothing_loaded is)
 loaded_none (parse.faulty f) old new d is g h = absurd g
 
 pub loaded_last : (old new : ParserRemaining) (d : Document) (count : ℕ) → parse.LoadGives (parse.loads_of old) d old new → count ≡ length d.nodes → count ≡ 0 → to_load old ≡ no_more None
 loaded_last old new d count g c h = loaded_none (parse.loads_of old) old new d refl g (sym c ∙ h)
 
 pub load_refused : (old new : ParserRemaining) (f : yaml_fault_t) → parse.LoadRefuses (fault_of f) old new → IsMemoryFault load_layers (fault_of f) ⊎ (to_load old ≡ no_more (Some (fault_of f)))
-load_refused old new f r = elim r.reason [ inl m ↦ inl m | inr k ↦ inr (faulty_next old.events old.ending nothing_loaded (fault_of f) k) ]
+load_refused old new f r = elim r.reason [ inl m ↦ inl m | inr k ↦ inr (ap to_write (faulty_next old.events old.ending nothing_loaded (fault_of f) k)) ]
 
 -- ---- all documents
 
 rooted_front : (ns : List Node) (d : Document) (rest : Loads) → d.nodes ≡ ns → All HasRoot rest.documents → All HasRoot (in_front ns d rest).documents
 rooted_front [] d rest e h = All-nil HasRoot
-rooted_front (n ∷ ns) d rest e h = All-cons HasRoot (with_implicit_end d) rest.documents (rw e (omega arith)) h
+rooted_front (n ∷ ns) d rest e h = All-cons HasRoot d rest.documents (rw e (omega arith)) h
 
 rooted_on : (c : Fed) (go : Loading → Loads) → ((m : Loading) → All HasRoot (go m).documents) → All HasRoot (load_on c go).documents
 rooted_on (goes_on m) go h = h m
@@ -142,10 +143,14 @@ unfolding load_all
 rooted [] f l = All-nil HasRoot
 rooted (g ∷ gs) f l = rooted_on (step g.0 l) (load_all gs f) (λ m. rooted gs f m)
 
-pub all_rooted : (from : yaml_encoding_t) (input : List ℕ) (ds : List Document) → AreLoaded from input ds → All HasRoot ds
-all_rooted from input ds a = subst (All HasRoot) (sym a.same) (rooted _ _ nothing_loaded)
+ended_rooted : (ds : List Document) → All HasRoot ds → All HasRoot (ended ds)
+ended_rooted [] h = All-nil HasRoot
+ended_rooted (d ∷ ds) h = All-cons HasRoot (with_implicit_end d) (ended ds) (All-head HasRoot d ds h) (ended_rooted ds (All-tail HasRoot d ds h))
 
-pub reads_to_load : (from : yaml_encoding_t) (input : List ℕ) (r : ParserRemaining) → Reads from input r → to_load r ≡ loads_of from input
+pub all_rooted : (from : yaml_encoding_t) (input : List ℕ) (ds : List Document) → AreLoaded from input ds → All HasRoot ds
+all_rooted from input ds a = subst (All HasRoot) (sym a.same) (ended_rooted (loads_of from input).documents (rooted _ _ nothing_loaded))
+
+pub reads_to_load : (from : yaml_encoding_t) (input : List ℕ) (r : ParserRemaining) → Reads from input r → to_load r ≡ to_write (loads_of from input)
 reads_to_load from input r h = rw (h.events, h.ending) refl
 
 -- a document more
@@ -159,7 +164,7 @@ documents_on all items new d r r' h l n =
 pub fault_on : (fault : Option Fault) (d : Document) (r r' : ParserRemaining) → (to_load r).fault ≡ fault → LoadsDocument d r r' → (to_load r').fault ≡ fault
 fault_on fault d r r' h l = ap (λ (z : Loads). z.fault) (sym l.same) ∙ h
 
-pub documents_read : (from : yaml_encoding_t) (input : List ℕ) (items : List Document) (r : ParserRemaining) → items ++ (to_load r).documents ≡ (loads_of from input).documents → (to_load r).fault ≡ (loads_of from input).fault
+pub documents_read : (from : yaml_encoding_t) (input : List ℕ) (items : List Document) (r : ParserRemaining) → items ++ (to_load r).documents ≡ ended (loads_of from input).documents → (to_load r).fault ≡ (loads_of from input).fault
     → AreNumerable items → to_load r ≡ no_more None → AreLoaded from input items
 documents_read from input items r h f small e = record {
   same = sym (append-nil items) ∙ ap (λ (z : Loads). items ++ z.documents) (sym e) ∙ h;
@@ -268,14 +273,14 @@ feeds_all old new all left e f =
 
 -- ---- a stream
 
-pub stream_opened : (old new : Emitter) (ds : List Document) → Given old (stream_start YAML_ANY_ENCODING) new → Feeds old (written_events ds) new (documents_events (map graph_content ds))
+pub stream_opened : (old new : Emitter) (ds : List Document) → Given old (stream_start YAML_ANY_ENCODING) new → Feeds old (stream_of ds) new (documents_events (map graph_content ds))
 stream_opened old new ds g = feeds_given old new (stream_start YAML_ANY_ENCODING) (documents_events (map graph_content ds)) g
 
 -- a fault has come
 pub stream_refused : (old new : Emitter) (ds : List Document) (f : Fault) → Given old (stream_start YAML_ANY_ENCODING) new → new.fault ≡ Some f → DumpsStream old ds new
 stream_refused old new ds f g e = record { left = documents_events (map graph_content ds); feeds = stream_opened old new ds g; all = λ n. absurd (cc) }
 
-stream_left : (old mid new : Emitter) (ds : List Document) (taken : Bool) → taken ≡ false → Feeds old (written_events ds) mid (documents_events (map graph_content ds)) → Dumps mid ds taken new → DumpsStream old ds new
+stream_left : (old mid new : Emitter) (ds : List Document) (taken : Bool) → taken ≡ false → Feeds old (stream_of ds) mid (documents_events (map graph_content ds)) → Dumps mid ds taken new → DumpsStream old ds new
 stream_left old mid new ds true e f d = absurd (cc)
 stream_left old mid new ds false e f d = record { left = d.0; feeds = feeds_on old mid new _ _ _ f d.1.0; all = λ n. absurd (d.1.1 n) }
 
@@ -303,22 +308,22 @@ stream_ended old mid last new ds taken e g d c = record {
 -- ---- the answer
 
 led : (settings : yaml_settings_t) (ds : List Document) (old new : Emitter) → IsUnder old (requested_under settings true) settings.limit → (w : DumpsStream old ds new)
-    → Led (requested_under settings true) settings.limit (written_events ds) new w.left
+    → Led (requested_under settings true) settings.limit (stream_of ds) new w.left
 led settings ds old new u w = (
   w.feeds.limit ∙ u.limit,
-  λ x whole s. w.feeds.completes x whole (starts old (requested_under settings true) settings.limit x (written_events ds) whole u s),
+  λ x whole s. w.feeds.completes x whole (starts old (requested_under settings true) settings.limit x (stream_of ds) whole u s),
 )
 
 pub dumped_text : (settings : yaml_settings_t) (ds : List Document) (old new : Emitter) (result : Result (Vec ℕ Global) yaml_fault_t)
     → IsUnder old (requested_under settings true) settings.limit → DumpsStream old ds new → Finishes new result → Answers emit_layers bytes_of (IsEachDump settings ds) result
 dumped_text settings ds old new (Ok text) u w f =
     let W : RequestedSettings = requested_under settings true in
-    let Q : List Event → Type 0 = λ es. Led W settings.limit (written_events ds) new es in
-    layout W settings.limit (written_events ds) new text.items (subst Q (w.all f.0) (led settings ds old new u w)) f.1
-dumped_text settings ds old new (Err f) u w e = past (requested_under settings true) settings.limit (written_events ds) new w.left f (led settings ds old new u w) e
+    let Q : List Event → Type 0 = λ es. Led W settings.limit (stream_of ds) new es in
+    layout W settings.limit (stream_of ds) new text.items (subst Q (w.all f.0) (led settings ds old new u w)) f.1
+dumped_text settings ds old new (Err f) u w e = past (requested_under settings true) settings.limit (stream_of ds) new w.left f (led settings ds old new u w) e
 
 -- the documents that an input loads have the one text
-one_dump : (from : yaml_encoding_t) (input : List ℕ) (settings : yaml_settings_t) (result : Result (List ℕ) Fault) → IsEachDump settings (loads_of from input).documents result → IsDumped settings (loads_of from input).documents result
+one_dump : (from : yaml_encoding_t) (input : List ℕ) (settings : yaml_settings_t) (result : Result (List ℕ) Fault) → IsEachDump settings (ended (loads_of from input).documents) result → IsDumped settings (loads_of from input).documents result
 one_dump from input settings (Ok text) d = one_layout (requested_under settings true) settings.limit (written_events (loads_of from input).documents) text (loaded_text from input (requested_under settings true) refl) d
 one_dump from input settings (Err f) d = one_past (requested_under settings true) settings.limit (written_events (loads_of from input).documents) f (loaded_text from input (requested_under settings true) refl) d
 
@@ -326,13 +331,17 @@ laid_out : (from : yaml_encoding_t) (input : List ℕ) (settings : yaml_settings
     → LaysOutLoading from settings input result
 laid_out from input settings result h d = record { documents = (loads_of from input).documents; loading = faultless_load from input h; dumped = d }
 
+unended_small : (ds : List Document) → AreNumerable (ended ds) → AreNumerable ds
+unended_small [] h = tt
+unended_small (d ∷ ds) h = (h.0, unended_small ds h.1)
+
 pub reloaded : (from : yaml_encoding_t) (input : List ℕ) (settings : yaml_settings_t) (ds : List Document) (result : Result (Vec ℕ Global) yaml_fault_t)
     → AreLoaded from input ds → Answers emit_layers bytes_of (IsEachDump settings ds) result → Answers reload_layers bytes_of (IsReloaded from settings input) result
 unfolding IsReloaded
 reloaded from input settings ds (Ok text) a d =
     let P : List Document → Type 0 = λ z. IsEachDump settings z (Ok text.items) in
     let each = subst P a.same d in
-    (record { documents = (loads_of from input).documents; loading = faultless_load from input a.right; dumped = one_dump from input settings (Ok text.items) each }, in_normal_documents from settings input text.items (subst AreNumerable a.same a.small) each)
+    (record { documents = (loads_of from input).documents; loading = faultless_load from input a.right; dumped = one_dump from input settings (Ok text.items) each }, in_normal_documents from settings input text.items (unended_small (loads_of from input).documents (subst AreNumerable a.same a.small)) each)
 reloaded from input settings ds (Err f) a d =
     let P : List Document → Type 0 = λ z. IsEachDump settings z (Err (fault_of f)) in
     elim d [ inl m ↦ inl (elim m [ inl e ↦ inl e | inr w ↦ inr (inl w) ]) | inr p ↦ inr (inr (laid_out from input settings (Err (fault_of f)) a.right (one_dump from input settings (Err (fault_of f)) (subst P a.same p)))) ]

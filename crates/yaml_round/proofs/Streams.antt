@@ -18,6 +18,8 @@ use Rattle.yaml_round_laws_documents.proofs.round_laws_back.content.round_laws.I
 use Rattle.yaml_round_compare.specs.Reading.{emitter_events}
 use Rattle.yaml_round_laws_documents.specs.round_laws_back.content.Input.{events_of, ending_of, read}
 use Rattle.yaml_round_laws_documents.specs.round_laws_back.content.Loads.{Loads, in_front, load_on, load_all, loads_of}
+use Rattle.yaml_round_laws_documents.specs.Normal.{ended}
+use Rattle.yaml_round_laws_documents.proofs.Laid.{ended_right}
 use Rattle.yaml_round.specs.Reload.{written_events}
 
 -- ---- events
@@ -29,7 +31,7 @@ input_text from input w r = texts w (emitter_events w.canonical (events_of from 
 
 front_right : (ns : List Node) (d : Document) (rest : Loads) → RightDocument d → AreRight rest.documents → AreRight (in_front ns d rest).documents
 front_right [] d rest r k = tt
-front_right (n ∷ ns) d rest r k = (record { tags = r.tags; opening = r.opening }, k)
+front_right (n ∷ ns) d rest r k = (r, k)
 
 on_right : (fed : Fed) (go : Loading → Loads) → RightFed fed → ((l : Loading) → RightDocument l.document → AreRight (go l).documents) → AreRight (load_on fed go).documents
 on_right (goes_on l) go h k = k l h
@@ -50,9 +52,9 @@ loaded_stream from input =
     let ds : List Document = (loads_of from input).documents in
     record {
       encoding = YAML_ANY_ENCODING;
-      documents = map graph_content ds;
+      documents = map graph_content (ended ds);
       same = refl;
-      right = dumped_streams true YAML_ANY_ENCODING ds (all_right (events_of from input) (ending_of from input) nothing_loaded (input_told from input) empty_right);
+      right = dumped_streams true YAML_ANY_ENCODING (ended ds) (ended_right ds (all_right (events_of from input) (ending_of from input) nothing_loaded (input_told from input) empty_right));
     }
 
 pub loaded_text : (from : yaml_encoding_t) (input : List ℕ) (w : RequestedSettings) → w.canonical ≡ true → HasText w (written_events (loads_of from input).documents)

@@ -18,20 +18,28 @@ use Rattle.yaml_round_laws_documents.specs.round_laws_reading.PlainLoading.{Plai
 use Rattle.yaml_round.specs.Writing.{requested_under, IsEachLayout, IsPastEach}
 use Rattle.yaml_round_laws_documents.specs.round_laws_loads.Agree.{AreAgreeing}
 use Rattle.yaml_round_laws_documents.specs.round_laws_dumps.Events.{trees_of_dumps, AreNumerable}
-use Rattle.yaml_round_laws_documents.specs.Normal.{AreWritableDocuments}
+use Rattle.yaml_round_laws_documents.specs.Normal.{ended, AreWritableDocuments}
 use Rattle.yaml_round.specs.Answers.{IsLayout, IsPast, canonical_text}
 
 -- ---- what is loaded
 
--- what a parser still has to load
+-- the end of each document is made implicit
+abbrev pub to_write : Loads → Loads
+to_write l = record { documents = ended l.documents; fault = l.fault }
+
+-- what a parser still has to load, so
 abbrev pub to_load : ParserRemaining → Loads
-to_load c = load_all c.events c.ending nothing_loaded
+to_load c = to_write (load_all c.events c.ending nothing_loaded)
 
 -- ---- what is written
 
 -- the events of the documents as one stream
+abbrev pub stream_of : List Document → List Event
+stream_of ds = stream_events YAML_ANY_ENCODING (map graph_content ds)
+
+-- the same, each end implicit
 abbrev pub written_events : List Document → List Event
-written_events ds = stream_events YAML_ANY_ENCODING (map graph_content ds)
+written_events ds = stream_of (ended ds)
 
 -- The layout of the documents in canonical form, or a limit that it passes.
 abbrev pub IsDumped : yaml_settings_t → List Document → Result (List ℕ) Fault → Type 0
@@ -101,13 +109,13 @@ LoadsNext old (Err f) new = IsMemoryFault load_layers (fault_of f)
 -- Each layout of the documents in canonical form, or a limit that each passes.
 abbrev pub IsEachDump : yaml_settings_t → List Document → Result (List ℕ) Fault → Type 0
 IsEachDump settings ds (Ok text) = IsEachLayout (requested_under settings true) settings.limit
-    (written_events ds) text
+    (stream_of ds) text
 IsEachDump settings ds (Err fault) = IsPastEach (requested_under settings true) settings.limit
-    (written_events ds) fault
+    (stream_of ds) fault
 
--- all documents of an input, each with fewer nodes than a `usize` can number
+-- all documents of an input, their ends made implicit, each with fewer nodes than a `usize` can number
 pub record AreLoaded (from : yaml_encoding_t) (input : List ℕ) (ds : List Document) : Type 0 where
-  pub same : ds ≡ (loads_of from input).documents
+  pub same : ds ≡ ended (loads_of from input).documents
   pub right : (loads_of from input).fault ≡ None
   pub small : AreNumerable ds
 
@@ -136,5 +144,5 @@ Dumps old ds false new = (left : List Event)
 -- the whole stream was given, or a fault has come
 pub record DumpsStream (old : Emitter) (ds : List Document) (new : Emitter) : Type 0 where
   pub left : List Event
-  pub feeds : Feeds old (written_events ds) new left
+  pub feeds : Feeds old (stream_of ds) new left
   pub all : new.fault ≡ None → left ≡ []

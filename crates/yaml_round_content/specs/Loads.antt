@@ -24,7 +24,7 @@ with_implicit_end d = record d { end_implicit = true }
 abbrev pub in_front : List Node → Document → Loads → Loads
 in_front [] d rest = no_more None
 in_front (n ∷ ns) d rest = record {
-  documents = with_implicit_end d ∷ rest.documents;
+  documents = d ∷ rest.documents;
   fault = rest.fault;
 }
 

@@ -1,5 +1,5 @@
 -- For the dumps of loaded documents the canonical text of what they say is laid out.
-use Rattle.std.proofs.Common.{◌≡◌, ℕ, zero, suc, ℤ, pos, Bool, true, false, if◌then◌else◌, List, [], ◌∷◌, length, map, Option, Some, None, refl, sym, ap, subst}
+use Rattle.std.proofs.Common.{◌≡◌, ℕ, zero, suc, ℤ, pos, Bool, true, false, if◌then◌else◌, List, [], ◌∷◌, length, map, Option, Some, None, refl, sym, ap, subst, ◌∙◌}
 use Rattle.yaml_round_laws_back.specs.content.round_laws.emit_laws_streams.scan.declared.yaml_encoding_t.{yaml_encoding_t}
 use Rattle.yaml_round_laws_back.specs.content.round_laws.emit_laws_streams.scan.declared.yaml_encoding_t.TheVariants.{YAML_ANY_ENCODING}
 use Rattle.yaml_round_laws_back.specs.content.round_laws.emit_laws_streams.scan.declared.yaml_scalar_style_t.{yaml_scalar_style_t}
@@ -9,19 +9,21 @@ use Rattle.yaml_round_laws_back.specs.content.round_laws.emit_laws_streams.parse
 use Rattle.yaml_round_laws_back.specs.content.round_laws.emit_laws_streams.parse.Nodes as model
 use Rattle.yaml_round_laws_back.specs.content.round_laws.emit_laws_streams.parse.Documents as documents
 use Rattle.yaml_round_laws_back.specs.content.round_laws.emit_laws_streams.parse.Documents.{Document, seq_tag, map_tag}
-use Rattle.yaml_round_laws_back.specs.content.round_laws.emit_laws_streams.parse.Resolve.{Told}
-use Rattle.yaml_round_laws_back.specs.content.round_laws.emit_laws_streams.parse.Loading.{Loading, Fed, goes_on, loaded, refused, nothing_loaded, step}
 use Rattle.yaml_round_laws_back.specs.content.round_laws.emit_laws_streams.emit.emit_text.declared.RequestedSettings.{RequestedSettings}
 use Rattle.yaml_round_laws_back.specs.content.round_laws.emit_laws_streams.emit.Layout.{Layout, written}
 use Rattle.yaml_round_laws_back.specs.content.round_laws.emit_laws_streams.emit.Content as emit
 use Rattle.yaml_round_laws_back.specs.content.round_laws.emit_laws_streams.emit.Content.{is_flow_sequence, is_flow_mapping}
 use Rattle.yaml_round_laws_back.specs.content.round_laws.emit_laws_streams.emit.emit_layout.Grammar.{own_problems}
 use Rattle.yaml_round_laws_back.specs.content.round_laws.emit_laws_streams.emit.emit_graph.Graph.{Met, is_met, meet, body_of_id, tag_of_id, number_at, numbers, name_of, anchor_of, graph_scalar, graph_start, items_by, pairs_by, node_by, content_by, itself, none_met, graph_root, graph_content}
-use Rattle.yaml_round_laws_back.specs.content.Input.{events_of, ending_of}
-use Rattle.yaml_round_laws_back.specs.content.Loads.{Loads, in_front, load_on, load_all, loads_of}
+use Rattle.yaml_round_laws_back.specs.content.round_laws.emit_laws_streams.Laws.{AreRight}
+use Rattle.yaml_round_laws_back.specs.content.Said as content
+use Rattle.yaml_round_laws_back.specs.content.Trees.{document_tree}
+use Rattle.yaml_round_laws_back.specs.content.Canon.{canon_items}
+use Rattle.yaml_round_laws_back.specs.content.Loads.{loads_of}
+use Rattle.yaml_round_laws_back.specs.round_laws_dumps.Events.{trees_of_dumps}
 use Rattle.yaml_round_laws_back.proofs.content.Layouts.{NodeFlagged, NodesFlagged, PairsFlagged, Normalize, normal_layout}
 use Rattle.yaml_round_laws_back.proofs.content.round_laws.emit_laws_streams.Contents.{dumped_streams}
-use Rattle.yaml_round_laws_documents.specs.Normal.{dump_events, DumpsAreLaidOut}
+use Rattle.yaml_round_laws_documents.specs.Normal.{ended, dump_events, DumpsAreLaidOut}
 use Rattle.yaml_round_laws_documents.proofs.Sound.{documents_right}
 
 -- ---- the walk: each scalar of a dump has a tag
@@ -82,41 +84,30 @@ root_flagged : (nodes : List model.Node) → NodeFlagged (graph_root nodes)
 unfolding graph_root
 root_flagged nodes = (content_flagged (suc (length nodes)) (numbers nodes) nodes).goes (pos 1) itself (none_met nodes) record { goes = λ v m r. r }
 
--- ---- every end is implicit
-
-abbrev AreEnded : List Document → Type 0
-AreEnded [] = Unit {0}
-AreEnded (d ∷ ds) = (d.end_implicit ≡ true) × AreEnded ds
-
-front_ended : (ns : List model.Node) (d : Document) (rest : Loads) → AreEnded rest.documents → AreEnded (in_front ns d rest).documents
-front_ended [] d rest k = tt
-front_ended (n ∷ ns) d rest k = (refl, k)
-
-on_ended : (x : Fed) (go : Loading → Loads) → ((l : Loading) → AreEnded (go l).documents) → AreEnded (load_on x go).documents
-on_ended (goes_on l) go k = k l
-on_ended (loaded d) go k = front_ended d.nodes d (go nothing_loaded) (k nothing_loaded)
-on_ended (refused f) go k = tt
-
-all_ended : (gs : List Told) (f : Option Fault) (l : Loading) → AreEnded (load_all gs f l).documents
-unfolding load_all
-all_ended [] f l = tt
-all_ended (g ∷ gs) f l = on_ended (step g.0 l) (load_all gs f) (λ m. all_ended gs f m)
-
 -- ---- documents
 
-dumps_normal : (ds : List Document) → AreEnded ds → Normalize (map graph_content ds)
-dumps_normal [] h = tt
-dumps_normal (d ∷ ds) h = (root_flagged d.nodes, h.0, dumps_normal ds h.1)
+-- every end is implicit
+dumps_normal : (ds : List Document) → Normalize (map graph_content (ended ds))
+dumps_normal [] = tt
+dumps_normal (d ∷ ds) = (root_flagged d.nodes, refl, dumps_normal ds)
+
+-- the mark of an end is no part of what a document says
+trees_ended : (ds : List Document) → trees_of_dumps (ended ds) ≡ trees_of_dumps ds
+trees_ended [] = refl
+trees_ended (d ∷ ds) = ap (λ (ts : List content.Document). document_tree (graph_content d) ∷ ts) (trees_ended ds)
+
+pub ended_right : (ds : List Document) → AreRight ds → AreRight (ended ds)
+ended_right [] h = tt
+ended_right (d ∷ ds) h = (record { tags = h.0.tags; opening = h.0.opening }, ended_right ds h.1)
 
 pub laid_out : DumpsAreLaidOut
 laid_out w k from input =
     let ds : List Document = (loads_of from input).documents in
-    let normal = dumps_normal ds (all_ended (events_of from input) (ending_of from input) nothing_loaded) in
     record {
       encoding = YAML_ANY_ENCODING;
-      documents = map graph_content ds;
+      documents = map graph_content (ended ds);
       coded = refl;
       same = refl;
-      right = subst (λ (b : Bool). own_problems b (dump_events ds) ≡ None) (sym k.canonical) (dumped_streams true YAML_ANY_ENCODING ds (documents_right from input));
-      is = sym (ap (λ (a : Layout). written a) (normal_layout w k.canonical (map graph_content ds) normal));
+      right = subst (λ (b : Bool). own_problems b (dump_events ds) ≡ None) (sym k.canonical) (dumped_streams true YAML_ANY_ENCODING (ended ds) (ended_right ds (documents_right from input)));
+      is = sym (ap (λ (a : Layout). written a) (normal_layout w k.canonical (map graph_content (ended ds)) (dumps_normal ds)) ∙ ap (λ (ts : List content.Document). canon_items w ts) (trees_ended ds));
     }

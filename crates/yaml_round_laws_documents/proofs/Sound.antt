@@ -25,7 +25,7 @@ AreDocuments (d ∷ ds) = IsDocument d × AreDocuments ds
 
 front_sound : (ns : List model.Node) (d : Document) (rest : Loads) → IsDocument d → AreDocuments rest.documents → AreDocuments (in_front ns d rest).documents
 front_sound [] d rest h k = tt
-front_sound (n ∷ ns) d rest h k = (record { directives = h.directives; nodes = h.nodes }, k)
+front_sound (n ∷ ns) d rest h k = (h, k)
 
 on_sound : (x : Fed) (go : Loading → Loads) → FedSound x → ((l : Loading) → IsLoading l → AreDocuments (go l).documents) → AreDocuments (load_on x go).documents
 on_sound (goes_on l) go h k = k l h
@@ -54,7 +54,7 @@ loaded_sound load utf8 from input = both_sound (loads_of from input).documents (
 
 front_right : (ns : List model.Node) (d : Document) (rest : Loads) → RightDocument d → AreRight rest.documents → AreRight (in_front ns d rest).documents
 front_right [] d rest r k = tt
-front_right (n ∷ ns) d rest r k = (record { tags = r.tags; opening = r.opening }, k)
+front_right (n ∷ ns) d rest r k = (r, k)
 
 on_right : (x : Fed) (go : Loading → Loads) → RightFed x → ((l : Loading) → RightDocument l.document → AreRight (go l).documents) → AreRight (load_on x go).documents
 on_right (goes_on l) go h k = k l h

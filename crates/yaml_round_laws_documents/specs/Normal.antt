@@ -9,7 +9,7 @@ use Rattle.yaml_round_laws_back.specs.content.round_laws.emit_laws_streams.emit.
 use Rattle.yaml_round_laws_back.specs.content.round_laws.emit_laws_streams.emit.Emitter.{IsStream}
 use Rattle.yaml_round_laws_back.specs.content.Said as content
 use Rattle.yaml_round_laws_back.specs.content.Said.{HasContent}
-use Rattle.yaml_round_laws_back.specs.content.Loads.{loads_of}
+use Rattle.yaml_round_laws_back.specs.content.Loads.{with_implicit_end, loads_of}
 use Rattle.yaml_round_laws_back.specs.content.Canon.{canon, canon_encoding, canon_items}
 use Rattle.yaml_round_laws_back.specs.content.Laws.{AreCanonical}
 use Rattle.yaml_round_laws_back.specs.round_laws_dumps.round_laws_loads.Agree.{AreAgreeing, LoadAlike}
@@ -18,9 +18,13 @@ use Rattle.yaml_round_laws_back.specs.round_laws_writable.Writable.{AreWritable}
 use Rattle.yaml_round_laws_back.specs.round_laws_writable.round_laws_reading.PlainLoading.{PlainLoading}
 use Rattle.yaml_round_laws_back.specs.round_laws_dumps.Events.{trees_of_dumps, AreLoadedDocuments, AreNumerable}
 
--- the events of the documents' dumps as one stream
+-- the documents as they are written
+abbrev pub ended : List Document → List Document
+ended ds = map with_implicit_end ds
+
+-- the events of the documents' dumps as one stream, in which each end is implicit
 abbrev pub dump_events : List Document → List Event
-dump_events ds = stream_events YAML_ANY_ENCODING (map graph_content ds)
+dump_events ds = stream_events YAML_ANY_ENCODING (map graph_content (ended ds))
 
 -- the canonical text of what the documents say
 abbrev pub dump_text : RequestedSettings → List Document → List ℕ

@@ -67,7 +67,7 @@ content_loaded loads c = each_told loads c
 
 front_loaded : (ns : List model.Node) (d : documents.Document) (rest : Loads) → IsLoadedDocument d → AreLoadedDocuments rest.documents → AreLoadedDocuments (in_front ns d rest).documents
 front_loaded [] d rest h k = tt
-front_loaded (n ∷ ns) d rest h k = (record { order = h.order; nodes = h.nodes }, k)
+front_loaded (n ∷ ns) d rest h k = (h, k)
 
 number_loaded : (r : Result documents.Document Fault) (rest : Loads) → IfOk r IsLoadedDocument → AreLoadedDocuments rest.documents → AreLoadedDocuments (load_of r rest).documents
 number_loaded (Ok d) rest h k = front_loaded d.nodes d rest h k

@@ -14,7 +14,7 @@ use Rattle.yaml_round_laws_loads.specs.round_laws_writable.content.round_laws.em
 use Rattle.yaml_round_laws_loads.specs.round_laws_writable.content.round_laws.emit_laws_streams.emit.emit_graph.Graph.{graph_content}
 use Rattle.yaml_round_laws_loads.specs.round_laws_writable.content.Trees.{tree_of, trees_of, pair_trees_of, document_tree}
 use Rattle.yaml_round_laws_loads.specs.round_laws_writable.content.Canon.{written_node, written_nodes, written_pairs}
-use Rattle.yaml_round_laws_loads.specs.round_laws_writable.content.Loads.{Loads, in_front, with_implicit_end}
+use Rattle.yaml_round_laws_loads.specs.round_laws_writable.content.Loads.{Loads, in_front}
 use Rattle.yaml_emit_laws_dumps.specs.Dumps.{as_content, as_contents, as_pairs, head_of, core_node, core_document, IsLoadedDocument}
 use Rattle.yaml_emit_laws_dumps.specs.Laws.{DumpsNumberBack}
 use Rattle.yaml_round_laws_dumps.specs.Events.{loader_content, load_of, load_each, trees_of_dumps, loaded_again}
@@ -82,7 +82,7 @@ rooted : (ns : List model.Node) (after : ℕ) (v : Visits ns 0 (pos 1 ∷ []) af
 rooted ns after (again s k e more h v) z = omega (arith, h)
 rooted ns after (first s b e more n at v w) z = no_node n ns z at
 
-in_front_of : (ns : List model.Node) (d : documents.Document) (rest : Loads) → (ns ≡ [] → ⊥) → in_front ns d rest ≡ record { documents = with_implicit_end d ∷ rest.documents; fault = rest.fault }
+in_front_of : (ns : List model.Node) (d : documents.Document) (rest : Loads) → (ns ≡ [] → ⊥) → in_front ns d rest ≡ record { documents = d ∷ rest.documents; fault = rest.fault }
 in_front_of [] d rest h = absurd (h refl)
 in_front_of (n ∷ ns) d rest h = refl
 

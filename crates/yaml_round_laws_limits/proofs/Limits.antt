@@ -1,5 +1,5 @@
 -- From the columns that a layout passes to the answers of two calls.
-use Rattle.std.proofs.Common.{◌≡◌, inl, inr, ℕ, Bool, true, false, true≢false, List, Option, Some, None, Result, Ok, Err, map, refl, sym, ap, subst, ◌∙◌}
+use Rattle.std.proofs.Common.{◌≡◌, inl, inr, ℕ, Bool, true, false, true≢false, List, [], ◌∷◌, Option, Some, None, Result, Ok, Err, map, refl, sym, ap, subst, ◌∙◌}
 use Rattle.yaml_round.specs.round_laws_back.content.round_laws.emit_laws_streams.scan.declared.yaml_encoding_t.{yaml_encoding_t}
 use Rattle.yaml_round.specs.round_laws_back.content.round_laws.emit_laws_streams.scan.declared.yaml_encoding_t.TheVariants.{YAML_ANY_ENCODING}
 use Rattle.yaml_round.specs.round_laws_back.content.round_laws.emit_laws_streams.scan.Faults.{Fault}
@@ -20,6 +20,7 @@ use Rattle.yaml_round.specs.round_laws_back.content.Canon.{written_documents, ca
 use Rattle.yaml_round.specs.round_laws_reading.Reading.{PlainReading}
 use Rattle.yaml_round.specs.round_laws_reading.PlainLoading.{PlainLoading, unless_faulty}
 use Rattle.yaml_round.specs.round_laws_documents.round_laws_dumps.Events.{trees_of_dumps}
+use Rattle.yaml_round.specs.round_laws_documents.Normal.{ended}
 use Rattle.yaml_round.specs.declared.yaml_settings_t.{yaml_settings_t}
 use Rattle.yaml_round.specs.Reading.{emitter_events}
 use Rattle.yaml_round.specs.Writing.{requested_under}
@@ -33,7 +34,7 @@ use Rattle.yaml_round.proofs.round_laws_back.Whole.{layout_is_of_input}
 use Rattle.yaml_round.proofs.round_laws_back.round_laws_writable.Flags.{input_laid_out}
 use Rattle.yaml_round.proofs.round_laws_back.content.Layouts.{content_laid_out}
 use Rattle.yaml_round.proofs.round_laws_documents.Laid.{laid_out}
-use Rattle.yaml_emit_laws_columns.specs.Depths.{IsTooDeep}
+use Rattle.yaml_emit_laws_columns.specs.Depths.{RootStandsAt, IsTooDeep}
 use Rattle.yaml_emit_laws_columns.proofs.Depths.{by_depth}
 use Rattle.yaml_emit_laws_columns.proofs.Events.{events_tell}
 use Rattle.yaml_round_laws_limits.specs.Laws.{IsContentTooDeep, AreDumpsTooDeep, CanonicalFormPassesColumns, ReformatsNameColumns, CanonicalAnswersKeepColumns, ReloadsNameColumns, ReloadsKeepColumns}
@@ -142,9 +143,27 @@ unfaulty ds es (Some f) h = cc
 loads_are : (from : yaml_encoding_t) (input : List ℕ) (ds : List documents.Document) → PlainLoading from input (Ok ds) → (loads_of from input).documents ≡ ds
 loads_are from input ds h = unfaulty (loads_of from input).documents ds (loads_of from input).fault (loading_loads from input (Ok ds) h)
 
+-- the mark of an end has no depth
+ended_stands : (n : ℕ) (ds : List documents.Document) → RootStandsAt n (map graph_content (ended ds)) → RootStandsAt n (map graph_content ds)
+unfolding RootStandsAt
+ended_stands n [] h = h
+ended_stands n (d ∷ ds) h = elim h [ inl x ↦ inl x | inr y ↦ inr (ended_stands n ds y) ]
+
+stands_ended : (n : ℕ) (ds : List documents.Document) → RootStandsAt n (map graph_content ds) → RootStandsAt n (map graph_content (ended ds))
+unfolding RootStandsAt
+stands_ended n [] h = h
+stands_ended n (d ∷ ds) h = elim h [ inl x ↦ inl x | inr y ↦ inr (stands_ended n ds y) ]
+
+ended_deep : (k : ℕ) (ds : List documents.Document) → IsTooDeep k (map graph_content (ended ds)) → IsTooDeep k (map graph_content ds)
+ended_deep k ds t = record { depth = t.depth; stands = ended_stands t.depth ds t.stands; past = t.past }
+
+deep_ended : (k : ℕ) (ds : List documents.Document) → IsTooDeep k (map graph_content ds) → IsTooDeep k (map graph_content (ended ds))
+deep_ended k ds t = record { depth = t.depth; stands = stands_ended t.depth ds t.stands; past = t.past }
+
 dumped_deep : (s : yaml_settings_t) (ds : List documents.Document) → IsDumped s ds (Err too_deep) → AreDumpsTooDeep s ds
 dumped_deep s ds k =
-    stream_deep (requested_under s true) refl k.encoding YAML_ANY_ENCODING (map graph_content ds) k.whole k.stream (past_columns s.limit (encode k.encoding k.whole) (is_deep k.whole) k.passes)
+    ended_deep (settled_indent s.indent) ds
+    (stream_deep (requested_under s true) refl k.encoding YAML_ANY_ENCODING (map graph_content (ended ds)) k.whole k.stream (past_columns s.limit (encode k.encoding k.whole) (is_deep k.whole) k.passes))
 
 deep_dumped : (from : yaml_encoding_t) (s : yaml_settings_t) (input : List ℕ) → AreDumpsTooDeep s (loads_of from input).documents → IsDumped s (loads_of from input).documents (Err too_deep)
 deep_dumped from s input deep =
@@ -152,7 +171,7 @@ deep_dumped from s input deep =
     let ds = (loads_of from input).documents in
     let whole = canon_items w (trees_of_dumps ds) in
     let stream = laid_out w (canonical_under s) from input in
-    record { encoding = canon_encoding w; whole = whole; stream = stream; passes = inr (refl, deep_stream w refl (canon_encoding w) YAML_ANY_ENCODING (map graph_content ds) whole stream deep) }
+    record { encoding = canon_encoding w; whole = whole; stream = stream; passes = inr (refl, deep_stream w refl (canon_encoding w) YAML_ANY_ENCODING (map graph_content (ended ds)) whole stream (deep_ended (settled_indent s.indent) ds deep)) }
 
 pub reloads : ReloadsNameColumns
 unfolding IsReloaded
@@ -171,7 +190,7 @@ reloads from s input ds h = (
 
 laid_shallow : (s : yaml_settings_t) (ds : List documents.Document) (text : List ℕ) → IsDumped s ds (Ok text) → AreDumpsTooDeep s ds → ⊥
 laid_shallow s ds text k deep =
-    kept_columns (is_deep k.whole) k.fits.columns (deep_stream (requested_under s true) refl k.encoding YAML_ANY_ENCODING (map graph_content ds) k.whole k.stream deep)
+    kept_columns (is_deep k.whole) k.fits.columns (deep_stream (requested_under s true) refl k.encoding YAML_ANY_ENCODING (map graph_content (ended ds)) k.whole k.stream (deep_ended (settled_indent s.indent) ds deep))
 
 pub reloads_keep : ReloadsKeepColumns
 unfolding IsReloaded

@@ -132,7 +132,7 @@ pub fn yaml_parser_initialize<S: yaml_token_source_t>(
     // document's directives, or those before the first fault of a directive or a tag handle, and that fault.
     ensures tree { (t : Stream) (rest : List Token) → S.to_come source ≡ spell t rest
         → IfOk result (λ p. (p.events ≡ (reading (given_of t (length rest)) None
-            no_directives).events)
+        no_directives).events)
         × (p.ending ≡ (reading (given_of t (length rest)) None no_directives).ending)) }
     // They are the tokens' events, also where those begin with no tree's: before their fault.
     ensures events { IfOk result (λ p. EventsOfTokens (S.to_come source) (S.fault_to_come source)

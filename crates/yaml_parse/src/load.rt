@@ -3,6 +3,7 @@
 ghost use Rattle.std.specs.Prelude.{◌≡◌, ◌≤◌, true, List, Option, IfOk, IfErr};
 ghost use Rattle.yaml_scan_model.specs.Faults.{Fault, fault_of};
 ghost use Rattle.yaml_parse_grammar.specs.Resolve.{Told};
+ghost use Rattle.yaml_parse_document.specs.Sizes.{IsSized};
 ghost use Rattle.yaml_parse_loader.specs.Loading.{Loading, load};
 ghost use Rattle.yaml_parse.specs.Loads.{loads, loads_of, told_events, LoadGives, LoadRefuses, LoadsSame};
 ghost use Rattle.yaml_parse.specs.NextLoad.{FrontsLoadByContent, LoadIsNext, RefusalIsNext};
@@ -30,6 +31,8 @@ pub fn yaml_parser_load<S: yaml_token_source_t>(
     ensures ok { IfOk result (λ d. LoadGives (loads_of parser.old) d parser.old parser.new) }
     ensures err { IfErr result (λ f. LoadRefuses (fault_of f) parser.old parser.new) }
     ensures between { parser.new.between ≡ true }
+    // No list of a document (its nodes, the items of a sequence, the pairs of a mapping) has more than 2,147,483,647 entries.
+    ensures sized { IfOk result (λ d. IsSized d) }
     // One token at most is asked for and not consumed.
     ensures held { parser.new.held ≤ 1 }
 {

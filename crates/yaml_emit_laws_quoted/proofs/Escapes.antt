@@ -9,7 +9,7 @@ use Rattle.yaml_emit_text.specs.declared.LineBreak.{LineBreak}
 use Rattle.yaml_emit_text.specs.declared.LineBreak.TheVariants.{Lf, Cr, CrLf}
 use Rattle.yaml_emit_text.specs.Quoted.{escape_letter, escape_text, hex_2, hex_4, hex_8, hex_digit as digit_of}
 use Rattle.yaml_emit_text.specs.Spelling as emitted
-use Rattle.yaml_emit_laws_quoted.specs.Spelling.{LineEnd, feed, return, return_feed, turn_bytes, turn_means, may_turn, Part, raw, named, numbered, fold, spelled, meant, spelling, meaning, number_behind, may_be_raw, MayStand, is_raw_blank, is_fold, is_turn, may_follow, may_be_next, IsSpelling}
+use Rattle.yaml_emit_laws_quoted.specs.Spelling.{LineEnd, feed, return, return_feed, turn_bytes, turn_means, may_turn, QuotedPart, raw, named, numbered, fold, spelled, meant, spelling, meaning, number_behind, may_be_raw, MayStand, is_raw_blank, is_fold, is_turn, may_follow, may_be_next, IsSpelling}
 use Rattle.yaml_emit_laws_quoted.proofs.Bytes.{and_left, and_right, not_true, or_left, or_right, differs, AreCalm, calm_from, digit_calm, named_is}
 
 -- ---- digits
@@ -198,7 +198,7 @@ spaces_low (suc n) = (omega arith, spaces_low n)
 
 -- a reader's part for one that is written
 record PartOf (x : emitted.Part) : Type 0 where
-  part : Part
+  part : QuotedPart
   stand : MayStand 34 part
   bytes : encode_utf8_all (emitted.spelled x) ≡ spelled part
   means : meant part ≡ encode_utf8 (emitted.meant x)
@@ -363,11 +363,11 @@ part_of (emitted.fold b n) s = record {
 
 -- all of them, behind one
 pub record PartsOf (before : emitted.Part) (xs : List emitted.Part) : Type 0 where
-  pub parts : List Part
+  pub parts : List QuotedPart
   pub right : IsSpelling 34 parts
   pub bytes : encode_utf8_all (emitted.spelling xs) ≡ spelling parts
   pub means : meaning parts ≡ encode_utf8_all (emitted.meaning xs)
-  pub next : (p : Part) → is_turn p ≡ emitted.is_fold before → is_raw_blank p ≡ emitted.is_raw_blank before → may_be_next p parts ≡ true
+  pub next : (p : QuotedPart) → is_turn p ≡ emitted.is_fold before → is_raw_blank p ≡ emitted.is_raw_blank before → may_be_next p parts ≡ true
 
 follow_test : (fq bp fp bq : Bool) → (not (fq && (bp || fp)) && not (fp && bq)) ≡ true → (not (fq && (bp || fp)) && not (bq && fp)) ≡ true
 follow_test fq bp true true h = h
@@ -375,7 +375,7 @@ follow_test fq bp true false h = h
 follow_test fq bp false true h = h
 follow_test fq bp false false h = h
 
-follow_is : (x y : emitted.Part) (p q : Part) → emitted.may_follow x y ≡ true → is_turn p ≡ emitted.is_fold x → is_raw_blank p ≡ emitted.is_raw_blank x → is_fold q ≡ emitted.is_fold y → is_raw_blank q ≡ emitted.is_raw_blank y
+follow_is : (x y : emitted.Part) (p q : QuotedPart) → emitted.may_follow x y ≡ true → is_turn p ≡ emitted.is_fold x → is_raw_blank p ≡ emitted.is_raw_blank x → is_fold q ≡ emitted.is_fold y → is_raw_blank q ≡ emitted.is_raw_blank y
     → may_follow p q ≡ true
 follow_is x y p q h a b d e = rw (a, b, d, e) (follow_test (emitted.is_fold y) (emitted.is_raw_blank x) (emitted.is_fold x) (emitted.is_raw_blank y) h)
 

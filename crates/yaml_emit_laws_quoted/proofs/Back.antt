@@ -15,7 +15,7 @@ use Rattle.yaml_emit_text.specs.Layout.{Layout, ◌▹◌, choose, char, nothing
 use Rattle.yaml_emit_text.specs.declared.page.Page.{Page}
 use Rattle.yaml_emit_text.specs.Quoted.{is_empty, may_fold, fold as fold_layout, escaped, quoted_char, quoted_body, double_quoted}
 use Rattle.yaml_emit_text.specs.Spelling as emitted
-use Rattle.yaml_emit_text.specs.Spelling.{in_front, Spells, QuotedSpells}
+use Rattle.yaml_emit_text.specs.Spelling.{in_front, WritesSpelling, QuotedSpells}
 use Rattle.yaml_emit_laws_quoted.specs.Stands.{HasAt}
 use Rattle.yaml_emit_laws_quoted.specs.Spelling.{spelling, meaning, quoted}
 use Rattle.yaml_emit_laws_quoted.specs.ReadBack.{ValueIsReadBack, between_quotes, gap_width}
@@ -43,11 +43,11 @@ body_flat page before (x ∷ xs) e =
     ap (λ (a : Layout). a ▹ quoted_body (flat page) x xs) (char_escaped (flat page) before x xs e ∙ sym (char_escaped page before x xs e))
     ∙ ap (λ (a : Layout). quoted_char page before x xs ▹ a) (body_flat page x xs e)
 
-body_spells : QuotedSpells → (page : Page) (c : Cursor) (cs : List ℕ) → all_scalars cs ≡ true → (page.cuts ≡ true → 0 < page.indentation) → Spells (quoted_body page 32 cs) c cs
+body_spells : QuotedSpells → (page : Page) (c : Cursor) (cs : List ℕ) → all_scalars cs ≡ true → (page.cuts ≡ true → 0 < page.indentation) → WritesSpelling (quoted_body page 32 cs) c cs
 body_spells law page c cs good deep =
     elim (cases_Bool page.cuts) [
       | inl e ↦ law page c cs good (deep e)
-      | inr e ↦ subst (λ (a : Layout). Spells a c cs) (body_flat page 32 cs e) (law (flat page) c cs good (omega arith))
+      | inr e ↦ subst (λ (a : Layout). WritesSpelling a c cs) (body_flat page 32 cs e) (law (flat page) c cs good (omega arith))
     ]
 
 -- ---- characters and bytes

@@ -16,16 +16,16 @@ use Rattle.yaml_cli_lookup.specs.declared.error.LookupError.{LookupError}
 use Rattle.yaml_cli_lookup.specs.declared.error.LookupError.TheVariants.{Unreadable, NotAMapping, OutOfMemory}
 use Rattle.yaml_cli_lookup.specs.Errors.{IsErrorOf}
 use Rattle.yaml_cli_lookup.specs.Lookup.{IsDue}
-use Rattle.yaml_cli_lookup.specs.Input.{tokens_of, IsParsed, outcome, IsFirst}
+use Rattle.yaml_cli_lookup.specs.Input.{tokens_of, IsReadingOf, outcome, IsFirstDocument}
 
 -- the first load of a parser of these tokens is that of the input
 first_load : (encoding : yaml_encoding_t) (input : List ℕ) (c : scan.Remaining) (p : ParserRemaining) (first : Result Document Fault)
     → c ≡ tokens_of encoding input → EventsOfTokens c.tokens c.fault p.events → FaultOfTokens c.tokens c.fault p.ending
-    → first ≡ outcome (loads_of p) → IsFirst encoding input first
+    → first ≡ outcome (loads_of p) → IsFirstDocument encoding input first
 first_load encoding input c p first is events ending same =
     let r : Reading = record { events = p.events; ending = p.ending } in
-    let parsed : IsParsed c r = record { events = events; ending = ending } in
-    record { reading = r; parsed = subst (λ (z : scan.Remaining). IsParsed z r) is parsed; same = same }
+    let parsed : IsReadingOf c r = record { events = events; ending = ending } in
+    record { reading = r; parsed = subst (λ (z : scan.Remaining). IsReadingOf z r) is parsed; same = same }
 
 gives : (r : Loads) (d : Document) (old new : ParserRemaining) → LoadGives r d old new → outcome r ≡ Ok d
 gives (document e left n) d old new g = ap Ok (sym g.0)
@@ -36,7 +36,7 @@ pub first_answers : (encoding : yaml_encoding_t) (input : List ℕ) (c : scan.Re
     (r : Result Document yaml_fault_t)
     → c ≡ tokens_of encoding input → EventsOfTokens c.tokens c.fault p.events → FaultOfTokens c.tokens c.fault p.ending
     → IfOk r (λ d. LoadGives (loads_of p) d p q) → IfErr r (λ f. LoadRefuses (fault_of f) p q)
-    → Answers load_layers (λ d. d) (IsFirst encoding input) r
+    → Answers load_layers (λ d. d) (IsFirstDocument encoding input) r
 first_answers encoding input c p q (Ok d) is events ending g h =
     first_load encoding input c p (Ok d) is events ending (sym (gives (loads_of p) d p q g))
 first_answers encoding input c p q (Err f) is events ending g h =

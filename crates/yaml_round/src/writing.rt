@@ -8,7 +8,7 @@ ghost use Rattle.yaml_emit.specs.Content.{emitter_event};
 ghost use Rattle.yaml_emit.specs.Emitter.{Given, IsLimited};
 ghost use Rattle.yaml_round_laws_documents.specs.round_laws_back.content.Normalize.{normalize_body};
 ghost use Rattle.yaml_round_compare.specs.Reading.{AreReal};
-ghost use Rattle.yaml_round.specs.Writing.{IsUnder, requested_under, encoding_under, Sees, Writes, WritesAll, Finishes};
+ghost use Rattle.yaml_round.specs.Writing.{IsUnder, requested_under, encoding_under, Sees, WritesReading, WritesAll, FinishesText};
 
 use std::alloc::Global;
 use yaml_emit::{
@@ -108,8 +108,8 @@ pub(crate) fn write_up_to(
     most: usize,
 ) -> Result<bool, yaml_fault_t>
     requires { AreReal reading.old.parser.events }
-    ensures { Writes watch.old reading.old.parser emitter.old result watch.new reading.new.parser
-        emitter.new }
+    ensures { WritesReading watch.old reading.old.parser emitter.old result watch.new
+        reading.new.parser emitter.new }
 {
     'events: loop {
         if yaml_emitter_output(emitter).len() > most {
@@ -154,7 +154,7 @@ fn fault_in(emitter: &yaml_emitter_t) -> Option<yaml_fault_t>
 /// The text, which passes no limit, or the emitter's fault, which names a limit or tells that memory ran out.
 #[tactic(auto, using(crate::proofs::Laying::whole_text))]
 pub(crate) fn finished(emitter: yaml_emitter_t) -> Result<Vec<u8>, yaml_fault_t>
-    ensures { Finishes emitter result }
+    ensures { FinishesText emitter result }
 {
     let fault = fault_in(&emitter);
     let text = yaml_emitter_into_output(emitter);

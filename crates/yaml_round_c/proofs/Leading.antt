@@ -22,8 +22,8 @@ use Rattle.yaml_round_c.specs.declared.record.yaml_c_directive.{yaml_c_directive
 use Rattle.yaml_round_c.specs.declared.record.yaml_c_event.{yaml_c_event}
 use Rattle.yaml_round_c.specs.Records.{body_in_front}
 use Rattle.yaml_round_c.specs.Meaning.{event_meant, events_meant}
-use Rattle.yaml_round_c.specs.Written.{refusal, whole_text, text_encoding, text_bytes, IsLong, IsText, IsRefused, IsFault, IsEmitted}
-use Rattle.yaml_round_c.specs.Leading.{all_events, StartsUnder, Leads, Finishes}
+use Rattle.yaml_round_c.specs.Written.{refusal, whole_text, text_encoding, text_bytes, IsLong, IsEmittedText, IsEventRefused, IsFault, IsEmitted}
+use Rattle.yaml_round_c.specs.Leading.{all_events, StartsUnder, LeadsEmitter, FinishesEmitter}
 
 -- ---- the records that are left
 
@@ -76,10 +76,10 @@ none_left bytes list = refl
 
 -- ---- one more event
 
-pub leads_same : (e : Emitter) (es : List Event) → Leads e es e es
+pub leads_same : (e : Emitter) (es : List Event) → LeadsEmitter e es e es
 leads_same e es = record { refuses = λ g. refl; writes = λ x whole h. h; completes = λ x whole h. h; limit = refl }
 
-pub leads_more : (first old new : Emitter) (all : List Event) (x : Event) (rest : List Event) → Leads first all old (x ∷ rest) → Given old x new → Judged old x new → Leads first all new rest
+pub leads_more : (first old new : Emitter) (all : List Event) (x : Event) (rest : List Event) → LeadsEmitter first all old (x ∷ rest) → Given old x new → Judged old x new → LeadsEmitter first all new rest
 leads_more first old new all x rest l g j = record {
   refuses = λ on. j.refuses on rest ∙ l.refuses (j.going on);
   writes = λ c whole h. j.writes c rest whole (l.writes c whole h);
@@ -87,17 +87,17 @@ leads_more first old new all x rest l g j = record {
   limit = g.limit ∙ l.limit;
 }
 
-pub leads_on : (first old new : Emitter) (all es : List Event) (x : Event) (rest : List Event) → es ≡ x ∷ rest → Leads first all old es → Given old x new → Judged old x new → Leads first all new rest
-leads_on first old new all es x rest is l g j = leads_more first old new all x rest (subst (λ (t : List Event). Leads first all old t) is l) g j
+pub leads_on : (first old new : Emitter) (all es : List Event) (x : Event) (rest : List Event) → es ≡ x ∷ rest → LeadsEmitter first all old es → Given old x new → Judged old x new → LeadsEmitter first all new rest
+leads_on first old new all es x rest is l g j = leads_more first old new all x rest (subst (λ (t : List Event). LeadsEmitter first all old t) is l) g j
 
 pub leads_record : (bytes : List ℕ) (list : List yaml_c_directive) (rs : List yaml_c_event) (i : ℕ) (d : yaml_c_event) (b : EventBody) (first old new : Emitter) (all : List Event) → i < length rs → is_some (events_meant bytes list (drop i rs)) ≡ true
-    → event_meant bytes list (get_or rs i d) ≡ Some b → Leads first all old (all_events (events_meant bytes list (drop i rs))) → Given old (emitter_event b) new → Judged old (emitter_event b) new
-    → Leads first all new (all_events (events_meant bytes list (drop (i + 1) rs)))
+    → event_meant bytes list (get_or rs i d) ≡ Some b → LeadsEmitter first all old (all_events (events_meant bytes list (drop i rs))) → Given old (emitter_event b) new → Judged old (emitter_event b) new
+    → LeadsEmitter first all new (all_events (events_meant bytes list (drop (i + 1) rs)))
 leads_record bytes list rs i d b first old new all h m is l g j = leads_on first old new all _ (emitter_event b) _ (events_left bytes list rs i d b h m is) l g j
 
-pub leads_end : (bytes : List ℕ) (list : List yaml_c_directive) (rs : List yaml_c_event) (i : ℕ) (first new : Emitter) (all : List Event) → length rs ≤ i → Leads first all new (all_events (events_meant bytes list (drop i rs))) → Leads first all new []
+pub leads_end : (bytes : List ℕ) (list : List yaml_c_directive) (rs : List yaml_c_event) (i : ℕ) (first new : Emitter) (all : List Event) → length rs ≤ i → LeadsEmitter first all new (all_events (events_meant bytes list (drop i rs))) → LeadsEmitter first all new []
 leads_end bytes list rs i first new all h l =
-    subst (λ (es : List Event). Leads first all new es) (ap (λ es. all_events (events_meant bytes list es)) (drop_all i rs h) ∙ none_left bytes list) l
+    subst (λ (es : List Event). LeadsEmitter first all new es) (ap (λ es. all_events (events_meant bytes list es)) (drop_all i rs h) ∙ none_left bytes list) l
 
 -- ---- a fresh emitter
 
@@ -180,13 +180,13 @@ some_fault Starved b p limit x whole output f h k = inr (inr (memory_told b f h)
 -- ---- the answer
 
 -- what the emitter tells of the text of the events that it was given
-told_text : (e : Emitter) (first : Emitter) (w : RequestedSettings) (limit : ℕ) (es : List Event) → StartsUnder first w limit → Leads first es e [] → Tells e → HasLetOut e.status limit e.output (text_bytes w es) (is_deep (whole_text w es))
+told_text : (e : Emitter) (first : Emitter) (w : RequestedSettings) (limit : ℕ) (es : List Event) → StartsUnder first w limit → LeadsEmitter first es e [] → Tells e → HasLetOut e.status limit e.output (text_bytes w es) (is_deep (whole_text w es))
 told_text e first w limit es s l t =
     let k : HasLetOut e.status e.limit e.output (text_bytes w es) (is_deep (whole_text w es)) = t.output (text_encoding w es) (whole_text w es) (l.writes (text_encoding w es) (whole_text w es) (first_writes first w limit es s)) in
     subst (λ (n : ℕ). HasLetOut e.status n e.output (text_bytes w es) (is_deep (whole_text w es))) (l.limit ∙ s.limit) k
 
-whole_answer : (first e : Emitter) (w : RequestedSettings) (limit : ℕ) (es : List Event) (text : List ℕ) → StartsUnder first w limit → Leads first es e []
-    → e.fault ≡ None → text ≡ e.output → Tells e → IsWhole e text → IsText w limit es text
+whole_answer : (first e : Emitter) (w : RequestedSettings) (limit : ℕ) (es : List Event) (text : List ℕ) → StartsUnder first w limit → LeadsEmitter first es e []
+    → e.fault ≡ None → text ≡ e.output → Tells e → IsWhole e text → IsEmittedText w limit es text
 whole_answer first e w limit es text s l none is t h =
     let on = none_going e.status e.starved (verdict e []) (sym t.fault ∙ none) in
     let k = has_all e.status limit e.output (text_bytes w es) (is_deep (whole_text w es)) on.0 (told_text e first w limit es s l t) in
@@ -197,8 +197,8 @@ whole_answer first e w limit es text s l none is t h =
       stream = λ x whole c. h none x whole (l.completes x whole (first_whole first w limit x es whole s c));
     }
 
-refusal_or_limit : (first e : Emitter) (w : RequestedSettings) (limit : ℕ) (es : List Event) (f : Fault) → StartsUnder first w limit → Leads first es e []
-    → e.fault ≡ Some f → Tells e → IsMemoryFault emit_layers f ⊎ (IsRefused w limit es f ⊎ IsLong w limit es f)
+refusal_or_limit : (first e : Emitter) (w : RequestedSettings) (limit : ℕ) (es : List Event) (f : Fault) → StartsUnder first w limit → LeadsEmitter first es e []
+    → e.fault ≡ Some f → Tells e → IsMemoryFault emit_layers f ⊎ (IsEventRefused w limit es f ⊎ IsLong w limit es f)
 refusal_or_limit first e w limit es f s l is t =
     let k = told_text e first w limit es s l t in
     elim (some_fault e.status e.starved (verdict e []) limit (text_encoding w es) (whole_text w es) e.output f (sym t.fault ∙ is) k) [
@@ -218,13 +218,13 @@ refusal_or_limit first e w limit es f s l is t =
 abbrev Past : RequestedSettings → ℕ → List Event → Fault → Type 0
 Past w limit es f = (x : Encoding) (whole : List Item) → IsStream w x es whole → Passes limit (encode x whole) (is_deep whole) f
 
-past_limit : (first e : Emitter) (w : RequestedSettings) (limit : ℕ) (es : List Event) (f : Fault) → StartsUnder first w limit → Leads first es e [] → IsLimited e f → IsMemoryFault emit_layers f ⊎ Past w limit es f
+past_limit : (first e : Emitter) (w : RequestedSettings) (limit : ℕ) (es : List Event) (f : Fault) → StartsUnder first w limit → LeadsEmitter first es e [] → IsLimited e f → IsMemoryFault emit_layers f ⊎ Past w limit es f
 past_limit first e w limit es f s l h = elim h [
   | inl m ↦ inl m
   | inr p ↦ inr (λ x whole c. subst (λ (n : ℕ). Passes n (encode x whole) (is_deep whole) f) (l.limit ∙ s.limit) (p x [] whole (l.completes x whole (first_whole first w limit x es whole s c))))
 ]
 
-fault_answer : (first e : Emitter) (w : RequestedSettings) (limit : ℕ) (es : List Event) (f : Fault) → StartsUnder first w limit → Leads first es e []
+fault_answer : (first e : Emitter) (w : RequestedSettings) (limit : ℕ) (es : List Event) (f : Fault) → StartsUnder first w limit → LeadsEmitter first es e []
     → e.fault ≡ Some f → Tells e → IsLimited e f → IsMemoryFault emit_layers f ⊎ IsFault w limit es f
 fault_answer first e w limit es f s l is t h =
     elim (refusal_or_limit first e w limit es f s l is t) [
@@ -235,7 +235,7 @@ fault_answer first e w limit es f s l is t h =
       ]
     ]
 
-pub emitter_answer : (first e : Emitter) (w : RequestedSettings) (limit : ℕ) (es : List Event) (r : Result (Vec ℕ Global) yaml_fault_t) → StartsUnder first w limit → Leads first es e [] → Finishes e r → Answers emit_layers bytes_of (IsEmitted w limit es) r
+pub emitter_answer : (first e : Emitter) (w : RequestedSettings) (limit : ℕ) (es : List Event) (r : Result (Vec ℕ Global) yaml_fault_t) → StartsUnder first w limit → LeadsEmitter first es e [] → FinishesEmitter e r → Answers emit_layers bytes_of (IsEmitted w limit es) r
 unfolding IsEmitted
 emitter_answer first e w limit es (Ok text) s l h = whole_answer first e w limit es text.items s l h.0 h.1 h.2 h.3
 emitter_answer first e w limit es (Err f) s l h = fault_answer first e w limit es (fault_of f) s l h.0 h.1 h.2

@@ -10,7 +10,7 @@ ghost use Rattle.yaml_emit.specs.Verdict.{Judged, Tells};
 ghost use Rattle.yaml_round.specs.Answers.{bytes_of};
 ghost use Rattle.yaml_round_c.specs.Meaning.{events_meant, asked_meant};
 ghost use Rattle.yaml_round_c.specs.Written.{IsEmitted};
-ghost use Rattle.yaml_round_c.specs.Leading.{requested, asked_for, all_events, StartsUnder, Leads, Finishes};
+ghost use Rattle.yaml_round_c.specs.Leading.{requested, asked_for, all_events, StartsUnder, LeadsEmitter, FinishesEmitter};
 
 use crate::event::event_of;
 use crate::number::{break_of, encoding_of, is_set};
@@ -96,7 +96,7 @@ fn give_all(
     emitter: &mut yaml_emitter_t,
 ) -> Result<(), yaml_fault_t>
     requires { IsSome (events_meant bytes.now list.now records.now) }
-    ensures given { OnOk result (Leads emitter.old
+    ensures given { OnOk result (LeadsEmitter emitter.old
         (all_events (events_meant bytes.now list.now records.now)) emitter.new []) }
     ensures memory { IfErr result (λ f. IsMemoryFault emit_layers (fault_of f)) }
 {
@@ -122,7 +122,7 @@ fn fault_in(emitter: &yaml_emitter_t) -> Option<yaml_fault_t>
 
 // The text, or the emitter's fault.
 fn finished(emitter: yaml_emitter_t) -> Result<Vec<u8>, yaml_fault_t>
-    ensures { Finishes emitter result }
+    ensures { FinishesEmitter emitter result }
 {
     let fault = fault_in(&emitter);
     let text = yaml_emitter_into_output(emitter);

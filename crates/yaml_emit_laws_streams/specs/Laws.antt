@@ -6,7 +6,7 @@ use Rattle.yaml_parse.specs.Events as event
 use Rattle.yaml_parse.specs.Nodes as model
 use Rattle.yaml_parse.specs.Documents as documents
 use Rattle.yaml_parse.specs.Resolve.{Told}
-use Rattle.yaml_parse.specs.Loading.{Loading, Fed, goes_on, loaded, refused, nothing_loaded, step}
+use Rattle.yaml_parse.specs.Loading.{Loading, LoadStep, goes_on, loaded, refused, nothing_loaded, step}
 use Rattle.yaml_parse.specs.Loads.{Loads, loads}
 use Rattle.yaml_parse.specs.Loads as load
 use Rattle.yaml_emit.specs.emit_text.declared.Encoding.{Encoding}
@@ -107,7 +107,7 @@ AreRightTold [] = Unit {0}
 AreRightTold (g ∷ gs) = RightBody g.0.body × AreRightTold gs
 
 -- a document in the making, or a whole one
-abbrev pub RightFed : Fed → Type 0
+abbrev pub RightFed : LoadStep → Type 0
 RightFed (goes_on l) = RightDocument l.document
 RightFed (loaded d) = RightDocument d
 RightFed (refused f) = Unit {0}

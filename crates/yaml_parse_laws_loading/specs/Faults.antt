@@ -6,7 +6,7 @@ use Rattle.yaml_parse_laws_faults.specs.grammar.Trees.{spell}
 use Rattle.yaml_parse_laws_faults.specs.grammar.Resolve.{Told}
 use Rattle.yaml_parse_laws_faults.specs.LookBack.{followed_by}
 use Rattle.yaml_parse_laws_faults.specs.Places.{Rank, RanksBefore, FaultAt, BeginsWithSentence, with_end}
-use Rattle.yaml_parse_loader.specs.Loading.{Loading, Fed, goes_on, loaded, refused, nothing_loaded, step}
+use Rattle.yaml_parse_loader.specs.Loading.{Loading, LoadStep, goes_on, loaded, refused, nothing_loaded, step}
 use Rattle.yaml_parse_laws_faults.specs.grammar.parse_model.Nodes.{Node}
 use Rattle.yaml_parse_laws_loading.specs.Aliases.{alias_fault}
 
@@ -91,7 +91,7 @@ abbrev pub unless_rootless : List Node → Option Fault → Option Fault
 unless_rootless [] f = None
 unless_rootless (n ∷ ns) f = f
 
-abbrev pub fault_on : Fed → (Loading → Option Fault) → Option Fault
+abbrev pub fault_on : LoadStep → (Loading → Option Fault) → Option Fault
 fault_on (goes_on l) rest = rest l
 fault_on (loaded d) rest = unless_rootless d.nodes (rest nothing_loaded)
 fault_on (refused f) rest = Some f

@@ -10,7 +10,7 @@ use Rattle.yaml_parse.specs.Nodes.{Node}
 use Rattle.yaml_parse.specs.Documents.{Document}
 use Rattle.yaml_parse.specs.Resolve.{Told}
 use Rattle.yaml_parse.specs.Remaining.{ParserRemaining}
-use Rattle.yaml_parse.specs.Loading.{Loading, Fed, goes_on, loaded, refused, nothing_loaded, step}
+use Rattle.yaml_parse.specs.Loading.{Loading, LoadStep, goes_on, loaded, refused, nothing_loaded, step}
 use Rattle.yaml_parse.specs.Loads as parse
 use Rattle.yaml_emit.specs.Content.{Event, alias_node, scalar_node, sequence_node, mapping_node, Nodes, no_nodes, node, Pairs, no_pairs, pair, document_start, document_end, sequence_end, mapping_end, stream_start, stream_end, node_events, items_events, pairs_events, documents_events}
 use Rattle.yaml_emit.specs.Content as content
@@ -40,7 +40,7 @@ behind_document : (f : Option Fault) (d : Document) (left : List Told) (n : ℕ)
 behind_document None d left n e = cc
 behind_document (Some g) d left n e = cc
 
-fed_document : (c : Fed) (gs : List Told) (f : Option Fault) (k : ℕ) (d : Document) (left : List Told) (n : ℕ)
+fed_document : (c : LoadStep) (gs : List Told) (f : Option Fault) (k : ℕ) (d : Document) (left : List Told) (n : ℕ)
     → ((m : Loading) → parse.loads gs f m ≡ parse.document d left n → Next gs f m d left)
     → parse.load_on c (parse.loads gs f) gs k ≡ parse.document d left n → (load_on c (load_all gs f) ≡ in_front d.nodes d (load_all left f nothing_loaded)) × (length left < length gs + 1)
 fed_document (goes_on m) gs f k d left n h e = let r = h m e in (r.0, omega (arith, r.1))
@@ -60,7 +60,7 @@ behind_nothing : (f : Option Fault) → parse.behind_all f ≡ parse.nothing →
 behind_nothing None e = refl
 behind_nothing (Some g) e = absurd (cc)
 
-fed_nothing : (c : Fed) (gs : List Told) (f : Option Fault) (k : ℕ) → ((m : Loading) → parse.loads gs f m ≡ parse.nothing → load_all gs f m ≡ no_more None)
+fed_nothing : (c : LoadStep) (gs : List Told) (f : Option Fault) (k : ℕ) → ((m : Loading) → parse.loads gs f m ≡ parse.nothing → load_all gs f m ≡ no_more None)
     → parse.load_on c (parse.loads gs f) gs k ≡ parse.nothing → load_on c (load_all gs f) ≡ no_more None
 fed_nothing (goes_on m) gs f k h e = h m e
 fed_nothing (loaded b) gs f k h e = absurd (cc)
@@ -75,7 +75,7 @@ behind_faulty : (f : Option Fault) (x : Fault) → parse.behind_all f ≡ parse.
 behind_faulty None x e = absurd (cc)
 behind_faulty (Some g) x e = cc
 
-fed_faulty : (c : Fed) (gs : List Told) (f : Option Fault) (k : ℕ) (x : Fault) → ((m : Loading) → parse.loads gs f m ≡ parse.faulty x → load_all gs f m ≡ no_more (Some x))
+fed_faulty : (c : LoadStep) (gs : List Told) (f : Option Fault) (k : ℕ) (x : Fault) → ((m : Loading) → parse.loads gs f m ≡ parse.faulty x → load_all gs f m ≡ no_more (Some x))
     → parse.load_on c (parse.loads gs f) gs k ≡ parse.faulty x → load_on c (load_all gs f) ≡ no_more (Some x)
 fed_faulty (goes_on m) gs f k x h e = h m e
 fed_faulty (loaded b) gs f k x h e = absurd (cc)
@@ -133,7 +133,7 @@ rooted_front : (ns : List Node) (d : Document) (rest : Loads) → d.nodes ≡ ns
 rooted_front [] d rest e h = All-nil HasRoot
 rooted_front (n ∷ ns) d rest e h = All-cons HasRoot d rest.documents (rw e (omega arith)) h
 
-rooted_on : (c : Fed) (go : Loading → Loads) → ((m : Loading) → All HasRoot (go m).documents) → All HasRoot (load_on c go).documents
+rooted_on : (c : LoadStep) (go : Loading → Loads) → ((m : Loading) → All HasRoot (go m).documents) → All HasRoot (load_on c go).documents
 rooted_on (goes_on m) go h = h m
 rooted_on (loaded d) go h = rooted_front d.nodes d (go nothing_loaded) refl (h nothing_loaded)
 rooted_on (refused f) go h = All-nil HasRoot

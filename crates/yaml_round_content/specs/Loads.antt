@@ -5,7 +5,7 @@ use Rattle.yaml_round_laws_streams.specs.emit_laws_streams.scan.Faults.{Fault}
 use Rattle.yaml_round_laws_streams.specs.emit_laws_streams.parse.Nodes.{Node}
 use Rattle.yaml_round_laws_streams.specs.emit_laws_streams.parse.Documents.{Document}
 use Rattle.yaml_round_laws_streams.specs.emit_laws_streams.parse.Resolve.{Told}
-use Rattle.yaml_round_laws_streams.specs.emit_laws_streams.parse.Loading.{Loading, Fed, goes_on, loaded, refused, nothing_loaded, step}
+use Rattle.yaml_round_laws_streams.specs.emit_laws_streams.parse.Loading.{Loading, LoadStep, goes_on, loaded, refused, nothing_loaded, step}
 use Rattle.yaml_round_content.specs.Input.{events_of, ending_of}
 
 -- documents in order, and the fault that ends them
@@ -28,7 +28,7 @@ in_front (n ∷ ns) d rest = record {
   fault = rest.fault;
 }
 
-abbrev pub load_on : Fed → (Loading → Loads) → Loads
+abbrev pub load_on : LoadStep → (Loading → Loads) → Loads
 load_on (goes_on l) rest = rest l
 load_on (loaded d) rest = in_front d.nodes d (rest nothing_loaded)
 load_on (refused f) rest = no_more (Some f)

@@ -7,7 +7,7 @@ use Rattle.yaml_round_content.specs.round_laws.emit_laws_streams.parse.parse_law
 use Rattle.yaml_round_content.specs.round_laws.emit_laws_streams.parse.parse_laws_faults.grammar.Resolve.{Reading, Told}
 use Rattle.yaml_round_content.specs.round_laws.emit_laws_streams.parse.parse_laws_faults.Places.{BeginsWithSentence}
 use Rattle.yaml_round_content.specs.round_laws.emit_laws_streams.parse.Documents.{Document}
-use Rattle.yaml_round_content.specs.round_laws.emit_laws_streams.parse.Loading.{Loading, Fed, goes_on, loaded, refused, nothing_loaded, step}
+use Rattle.yaml_round_content.specs.round_laws.emit_laws_streams.parse.Loading.{Loading, LoadStep, goes_on, loaded, refused, nothing_loaded, step}
 use Rattle.yaml_parse_laws_loading.specs.Faults.{LoadsSentence, FaultOfLoading, unless_rootless, fault_on, fault_of_loads}
 use Rattle.yaml_parse_laws_loading.proofs.Unique.{one_load_fault}
 use Rattle.yaml_parse_laws_loading.proofs.Ending.{loads_end_in_fault}
@@ -26,7 +26,7 @@ in_front_alike : (ns : List Node) (d : Document) (rest : Loads) (f : Option Faul
 in_front_alike [] d rest f h = refl
 in_front_alike (n ∷ ns) d rest f h = h
 
-on_alike : (c : Fed) (p : Loading → Loads) (q : Loading → Option Fault) → ((l : Loading) → (p l).fault ≡ q l) → (load_on c p).fault ≡ fault_on c q
+on_alike : (c : LoadStep) (p : Loading → Loads) (q : Loading → Option Fault) → ((l : Loading) → (p l).fault ≡ q l) → (load_on c p).fault ≡ fault_on c q
 on_alike (goes_on l) p q h = h l
 on_alike (loaded d) p q h = in_front_alike d.nodes d (p nothing_loaded) (q nothing_loaded) (h nothing_loaded)
 on_alike (refused f) p q h = refl

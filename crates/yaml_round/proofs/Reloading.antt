@@ -15,7 +15,8 @@ use Rattle.yaml_parse.specs.Loads as parse
 use Rattle.yaml_emit.specs.Content.{Event, alias_node, scalar_node, sequence_node, mapping_node, Nodes, no_nodes, node, Pairs, no_pairs, pair, document_start, document_end, sequence_end, mapping_end, stream_start, stream_end, node_events, items_events, pairs_events, documents_events}
 use Rattle.yaml_emit.specs.Content as content
 use Rattle.yaml_emit.specs.emit_graph.Graph.{graph_content, dumped}
-use Rattle.yaml_emit.specs.Emitter.{Emitter, Given, GivesSome, dump_events, document_events_by, opening_events}
+use Rattle.yaml_emit.specs.Emitter.{Emitter, dump_events, document_events_by, opening_events}
+use Rattle.yaml_emit.specs.Taking.{TakesEvents}
 use Rattle.yaml_emit.specs.emit_text.declared.RequestedSettings.{RequestedSettings}
 use Rattle.yaml_round_compare.specs.declared.yaml_settings_t.{yaml_settings_t}
 use Rattle.yaml_round_laws_documents.specs.round_laws_back.content.Input.{Reads}
@@ -231,16 +232,16 @@ feeds_none e es = record { completes = λ x whole h. h; limit = refl }
 pub feeds_on : (a b c : Emitter) (es fs gs : List Event) → FeedsEmitter a es b fs → FeedsEmitter b fs c gs → FeedsEmitter a es c gs
 feeds_on a b c es fs gs p q = record { completes = λ x whole h. q.completes x whole (p.completes x whole h); limit = q.limit ∙ p.limit }
 
-pub feeds_given : (old new : Emitter) (e : Event) (es : List Event) → Given old e new → FeedsEmitter old (e ∷ es) new es
+pub feeds_given : (old new : Emitter) (e : Event) (es : List Event) → TakesEvents old (e ∷ []) new [] → FeedsEmitter old (e ∷ es) new es
 feeds_given old new e es g = record { completes = λ x whole h. g.completes x es whole h; limit = g.limit }
 
-feeds_gives : (old new : Emitter) (es more : List Event) → GivesSome old es new [] → FeedsEmitter old (es ++ more) new more
+feeds_gives : (old new : Emitter) (es more : List Event) → TakesEvents old es new [] → FeedsEmitter old (es ++ more) new more
 feeds_gives old new es more g = record { completes = λ x whole h. g.completes x more whole h; limit = g.limit }
 
-pub feeds_document : (old new : Emitter) (d : Document) (ds : List Document) → old.opened ≡ true → HasRoot d → GivesSome old (dump_events old d) new []
+pub feeds_document : (old new : Emitter) (d : Document) (ds : List Document) → old.opened ≡ true → HasRoot d → TakesEvents old (dump_events old d) new []
     → FeedsEmitter old (documents_events (map graph_content (d ∷ ds))) new (documents_events (map graph_content ds))
 feeds_document old new d ds o h g =
-    let k : GivesSome old (dumped d) new [] = subst (λ (es : List Event). GivesSome old es new []) (dump_is old d o h) g in
+    let k : TakesEvents old (dumped d) new [] = subst (λ (es : List Event). TakesEvents old es new []) (dump_is old d o h) g in
     subst (λ (es : List Event). FeedsEmitter old es new (documents_events (map graph_content ds))) (sym (dumped_more d ds)) (feeds_gives old new (dumped d) (documents_events (map graph_content ds)) k)
 
 -- the first of the documents was given
@@ -250,7 +251,7 @@ first_rooted left rest d e h = let k : All HasRoot (d ∷ rest) = subst (All Has
 pub others_rooted : (left rest : List Document) (d : Document) → left ≡ d ∷ rest → All HasRoot left → All HasRoot rest
 others_rooted left rest d e h = let k : All HasRoot (d ∷ rest) = subst (All HasRoot) e h in All-tail HasRoot d rest k
 
-pub feeds_next : (old mid new : Emitter) (all left rest : List Document) (d : Document) → left ≡ d ∷ rest → mid.opened ≡ true → All HasRoot left → GivesSome mid (dump_events mid d) new []
+pub feeds_next : (old mid new : Emitter) (all left rest : List Document) (d : Document) → left ≡ d ∷ rest → mid.opened ≡ true → All HasRoot left → TakesEvents mid (dump_events mid d) new []
     → FeedsEmitter old (documents_events (map graph_content all)) mid (documents_events (map graph_content left))
     → FeedsEmitter old (documents_events (map graph_content all)) new (documents_events (map graph_content rest))
 feeds_next old mid new all left rest d e o h g f =
@@ -273,18 +274,18 @@ feeds_all old new all left e f =
 
 -- ---- a stream
 
-pub stream_opened : (old new : Emitter) (ds : List Document) → Given old (stream_start YAML_ANY_ENCODING) new → FeedsEmitter old (stream_of ds) new (documents_events (map graph_content ds))
+pub stream_opened : (old new : Emitter) (ds : List Document) → TakesEvents old (stream_start YAML_ANY_ENCODING ∷ []) new [] → FeedsEmitter old (stream_of ds) new (documents_events (map graph_content ds))
 stream_opened old new ds g = feeds_given old new (stream_start YAML_ANY_ENCODING) (documents_events (map graph_content ds)) g
 
 -- a fault has come
-pub stream_refused : (old new : Emitter) (ds : List Document) (f : Fault) → Given old (stream_start YAML_ANY_ENCODING) new → new.fault ≡ Some f → DumpsStream old ds new
+pub stream_refused : (old new : Emitter) (ds : List Document) (f : Fault) → TakesEvents old (stream_start YAML_ANY_ENCODING ∷ []) new [] → new.fault ≡ Some f → DumpsStream old ds new
 stream_refused old new ds f g e = record { left = documents_events (map graph_content ds); feeds = stream_opened old new ds g; all = λ n. absurd (cc) }
 
 stream_left : (old mid new : Emitter) (ds : List Document) (taken : Bool) → taken ≡ false → FeedsEmitter old (stream_of ds) mid (documents_events (map graph_content ds)) → DumpsAll mid ds taken new → DumpsStream old ds new
 stream_left old mid new ds true e f d = absurd (cc)
 stream_left old mid new ds false e f d = record { left = d.0; feeds = feeds_on old mid new _ _ _ f d.1.0; all = λ n. absurd (d.1.1 n) }
 
-pub stream_stopped : (old mid new : Emitter) (ds : List Document) (taken : Bool) → taken ≡ false → Given old (stream_start YAML_ANY_ENCODING) mid → DumpsAll mid ds taken new → DumpsStream old ds new
+pub stream_stopped : (old mid new : Emitter) (ds : List Document) (taken : Bool) → taken ≡ false → TakesEvents old (stream_start YAML_ANY_ENCODING ∷ []) mid [] → DumpsAll mid ds taken new → DumpsStream old ds new
 stream_stopped old mid new ds taken e g d = stream_left old mid new ds taken e (stream_opened old mid ds g) d
 
 pub stands_by : (mid new : Emitter) (ds : List Document) (taken : Bool) → taken ≡ true → DumpsAll mid ds taken new → IsWithinStream new
@@ -295,8 +296,8 @@ feeds_by : (mid new : Emitter) (ds : List Document) (taken : Bool) → taken ≡
 feeds_by mid new ds true e d = d.0
 feeds_by mid new ds false e d = absurd (cc)
 
-pub stream_ended : (old mid last new : Emitter) (ds : List Document) (taken : Bool) → taken ≡ true → Given old (stream_start YAML_ANY_ENCODING) mid → DumpsAll mid ds taken last
-    → (last.closed ≡ false → Given last stream_end new) → DumpsStream old ds new
+pub stream_ended : (old mid last new : Emitter) (ds : List Document) (taken : Bool) → taken ≡ true → TakesEvents old (stream_start YAML_ANY_ENCODING ∷ []) mid [] → DumpsAll mid ds taken last
+    → (last.closed ≡ false → TakesEvents last (stream_end ∷ []) new []) → DumpsStream old ds new
 stream_ended old mid last new ds taken e g d c = record {
   left = [];
   feeds =

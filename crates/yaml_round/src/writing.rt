@@ -1,11 +1,12 @@
 //! An emitter under the engine's settings, and the writing of a reading's events.
 
-ghost use Rattle.std.specs.Prelude.{◌≡◌, Some, IfOk, IfErr, option_map};
+ghost use Rattle.std.specs.Prelude.{◌≡◌, ◌∷◌, [], Some, IfOk, IfErr, option_map};
 ghost use Rattle.yaml_scan.specs.Faults.{Fault, fault_of, memory_fault};
 ghost use Rattle.yaml_parse.specs.Events.{event_of};
 ghost use Rattle.yaml_parse.specs.Constructors.{HasUtf8};
 ghost use Rattle.yaml_emit.specs.Content.{emitter_event};
-ghost use Rattle.yaml_emit.specs.Emitter.{Given, IsLimited};
+ghost use Rattle.yaml_emit.specs.Emitter.{IsLimited};
+ghost use Rattle.yaml_emit.specs.Taking.{TakesEvents};
 ghost use Rattle.yaml_round_laws_documents.specs.round_laws_back.content.Normalize.{normalize_body};
 ghost use Rattle.yaml_round_compare.specs.Reading.{AreReal};
 ghost use Rattle.yaml_round.specs.Writing.{IsUnder, requested_under, encoding_under, Sees, WritesReading, WritesAll, FinishesText};
@@ -71,7 +72,8 @@ pub(crate) fn emitter_under(
 // Gives the event in the slot; what is left there counts for nothing. The emitter keeps its first fault.
 fn give(emitter: &mut yaml_emitter_t, event: &mut yaml_event_t)
     requires { HasUtf8 (event_of event.old).body }
-    ensures { Given emitter.old (emitter_event (event_of event.old).body) emitter.new }
+    ensures { TakesEvents emitter.old (emitter_event (event_of event.old).body ∷ []) emitter.new
+        [] }
 {
     yaml_emitter_emit_from(emitter, event);
 }
@@ -87,8 +89,8 @@ fn most_kept(watch: &Watch) -> usize {
 // Gives the event in the slot, normalized, sees what it tells of the shape, and keeps what it says.
 fn give_normalized(emitter: &mut yaml_emitter_t, watch: &mut Watch, event: &mut yaml_event_t)
     requires { HasUtf8 (event_of event.old).body }
-    ensures given { Given emitter.old (emitter_event
-        (normalize_body watch.old.canonical (event_of event.old).body)) emitter.new }
+    ensures takes { TakesEvents emitter.old (emitter_event
+        (normalize_body watch.old.canonical (event_of event.old).body) ∷ []) emitter.new [] }
     ensures seen { Sees watch.old (normalize_body watch.old.canonical (event_of event.old).body)
         watch.new }
 {

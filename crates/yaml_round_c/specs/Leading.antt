@@ -6,7 +6,7 @@ use Rattle.yaml_parse.specs.declared.yaml_fault_t.{yaml_fault_t}
 use Rattle.yaml_parse.specs.Events.{EventBody}
 use Rattle.yaml_emit.specs.Content.{Event}
 use Rattle.yaml_emit.specs.Text.{Item}
-use Rattle.yaml_emit.specs.Verdict.{verdict, Writes, Tells}
+use Rattle.yaml_emit.specs.Verdict.{verdict, Writes, TellsOutcome}
 use Rattle.yaml_emit.specs.Within.{IsWithin}
 use Rattle.yaml_emit.specs.Emitter.{Emitter, Completes, IsLimited, IsWhole}
 use Rattle.yaml_emit.specs.emit_text.declared.Encoding.{Encoding}
@@ -52,6 +52,6 @@ pub record LeadsEmitter (old : Emitter) (before : List Event) (new : Emitter)
 
 -- an emitter's text or fault, and what that tells
 abbrev pub FinishesEmitter : Emitter → Result (Vec ℕ Global) yaml_fault_t → Type 0
-FinishesEmitter e (Ok text) = (e.fault ≡ None) × (text.items ≡ e.output) × Tells e
+FinishesEmitter e (Ok text) = (e.fault ≡ None) × (text.items ≡ e.output) × TellsOutcome e
     × IsWhole e text.items × IsWithin e
-FinishesEmitter e (Err f) = (e.fault ≡ Some (fault_of f)) × Tells e × IsLimited e (fault_of f)
+FinishesEmitter e (Err f) = (e.fault ≡ Some (fault_of f)) × TellsOutcome e × IsLimited e (fault_of f)

@@ -1,12 +1,13 @@
 //! What an emitter makes of records.
 
-ghost use Rattle.std.specs.Prelude.{◌≡◌, [], Some, IsSome, IfOk, IfErr, OnOk, option_map};
+ghost use Rattle.std.specs.Prelude.{◌≡◌, ◌∷◌, [], Some, IsSome, IfOk, IfErr, OnOk, option_map};
 ghost use Rattle.yaml_parse.specs.Faults.{Fault, fault_of, IsMemoryFault, emit_layers, Answers};
 ghost use Rattle.yaml_parse.specs.Events.{event_of};
 ghost use Rattle.yaml_parse.specs.Constructors.{HasUtf8};
 ghost use Rattle.yaml_emit.specs.Content.{emitter_event};
-ghost use Rattle.yaml_emit.specs.Emitter.{Given, IsLimited};
-ghost use Rattle.yaml_emit.specs.Verdict.{Judged, Tells};
+ghost use Rattle.yaml_emit.specs.Emitter.{IsLimited};
+ghost use Rattle.yaml_emit.specs.Verdict.{TellsOutcome};
+ghost use Rattle.yaml_emit.specs.Taking.{TakesEvents};
 ghost use Rattle.yaml_round.specs.Answers.{bytes_of};
 ghost use Rattle.yaml_round_c.specs.Meaning.{events_meant, asked_meant};
 ghost use Rattle.yaml_round_c.specs.Written.{IsEmitted};
@@ -79,8 +80,8 @@ fn emitter_under(alloc: Global, asked: &Asked) -> Result<yaml_emitter_t, yaml_fa
 // Gives an event. The emitter keeps its first fault.
 fn give(emitter: &mut yaml_emitter_t, event: yaml_event_t)
     requires { HasUtf8 (event_of event).body }
-    ensures given { Given emitter.old (emitter_event (event_of event).body) emitter.new }
-    ensures judged { Judged emitter.old (emitter_event (event_of event).body) emitter.new }
+    ensures takes { TakesEvents emitter.old (emitter_event (event_of event).body ∷ []) emitter.new
+        [] }
 {
     let mut event = event;
     yaml_emitter_emit_from(emitter, &mut event);
@@ -111,7 +112,7 @@ fn give_all(
 
 fn fault_in(emitter: &yaml_emitter_t) -> Option<yaml_fault_t>
     ensures is { option_map fault_of result ≡ emitter.now.fault }
-    ensures tells { Tells emitter.now }
+    ensures tells { TellsOutcome emitter.now }
     ensures limited { (f : Fault) → emitter.now.fault ≡ Some f → IsLimited emitter.now f }
 {
     match yaml_emitter_fault(emitter) {

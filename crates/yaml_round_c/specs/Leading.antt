@@ -54,4 +54,5 @@ pub record LeadsEmitter (old : Emitter) (before : List Event) (new : Emitter)
 abbrev pub FinishesEmitter : Emitter → Result (Vec ℕ Global) yaml_fault_t → Type 0
 FinishesEmitter e (Ok text) = (e.fault ≡ None) × (text.items ≡ e.output) × TellsOutcome e
     × IsWhole e text.items × IsWithin e
-FinishesEmitter e (Err f) = (e.fault ≡ Some (fault_of f)) × TellsOutcome e × IsLimited e (fault_of f)
+FinishesEmitter e (Err f) = (e.fault ≡ Some (fault_of f)) × TellsOutcome e
+    × IsLimited e (fault_of f)

@@ -10,10 +10,10 @@ use Rattle.yaml_parse_document.specs.Sizes.{IsSizedBody, AreSized, IsSized}
 use Rattle.yaml_parse_document.proofs.Sizing.{with_node_sized, entry_more, nothing_listed}
 use Rattle.yaml_parse_document.proofs.Sound.{length_change}
 use Rattle.yaml_parse_loader.specs.Anchors.{Anchors}
-use Rattle.yaml_parse_loader.specs.Loading.{Open, open_sequence, open_mapping, Loading, nothing_loaded, attached, attach, next, with_leaf, with_open, filled, filled_body, place_of, closed, Fed, goes_on, loaded, refused, aliased, step_body}
+use Rattle.yaml_parse_loader.specs.Loading.{Open, open_sequence, open_mapping, Loading, nothing_loaded, attached, attach, next, with_leaf, with_open, filled, filled_body, place_of, closed, LoadStep, goes_on, loaded, refused, aliased, step_body}
 use Rattle.yaml_parse_loader.specs.Sizes.{HasRoom, HaveRoom, HasRoomForNode, HasRoomFor, IsSizedOpen, AreSizedOpen, IsSizedLoading}
 
-abbrev pub FedSized : Fed → Type 0
+abbrev pub FedSized : LoadStep → Type 0
 FedSized (goes_on l) = IsSizedLoading l
 FedSized (loaded d) = IsSized d
 FedSized (refused f) = Unit {0}

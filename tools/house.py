@@ -6,7 +6,8 @@
                                without `long` in the comment above; functions of more than 6 arguments, without `arguments`
                                there; laws that code calls; hints of inlining and reads that nothing uses, without a reason;
                                public items without a doc comment
-    tools/house.py --names     records and data types of specs/ of which more than one crate has one of the name
+    tools/house.py --names     records and data types of specs/ of which more than one crate has one of the name, but for
+                               the nouns that docs/GLOSSARY.md says layer by layer
 """
 import collections
 import glob
@@ -99,6 +100,12 @@ def wrong_functions():
                 yield f"{where} calls the law {name}"
 
 
+def layered_nouns():
+    """The nouns that each layer may have as its own: the second table of the glossary."""
+    table = repo.read("docs/GLOSSARY.md").partition("## One name in several layers")[2]
+    return re.findall(r"^\| `(\w+)` \|", table, re.M)
+
+
 def twice_named():
     """Records and data types of specs/ of which more than one crate has one of the name."""
     found = collections.defaultdict(list)
@@ -108,7 +115,7 @@ def twice_named():
                 if re.search(rf"^ *{repo.MODS}(?:record|data)\s", it.text, re.M):
                     found[name].append(it)
     for name, them in sorted(found.items()):
-        if len({it.crate for it in them}) > 1:
+        if len({it.crate for it in them}) > 1 and name not in layered_nouns():
             yield f"{name}: {', '.join(str(it) for it in them)}"
 
 

@@ -17,16 +17,16 @@ use Rattle.yaml_cli_lookup.specs.declared.error.LookupError.{LookupError}
 use Rattle.yaml_cli_lookup.specs.declared.error.LookupError.TheVariants.{Unreadable, NotAMapping, OutOfMemory}
 use Rattle.yaml_cli_lookup.specs.Errors.{IsErrorOf}
 use Rattle.yaml_cli_lookup.specs.Lookup.{IsDue}
-use Rattle.yaml_cli_lookup.specs.Input.{tokens_of, IsParsed, outcome, IsFirst}
+use Rattle.yaml_cli_lookup.specs.Input.{tokens_of, IsReadingOf, outcome, IsFirstDocument}
 
 -- the first load of a parser of these tokens is that of the input
 first_load : (encoding : yaml_encoding_t) (input : List ℕ) (c : scan.Remaining) (p : ParserRemaining) (first : Result Document Fault) (n : NextLoad)
     → c ≡ tokens_of encoding input → EventsOfTokens c.tokens c.fault p.events → FaultOfTokens c.tokens c.fault p.ending
-    → IsNextLoad p n → first ≡ outcome n → IsFirst encoding input first
+    → IsNextLoad p n → first ≡ outcome n → IsFirstDocument encoding input first
 first_load encoding input c p first n is events ending next same =
     let r : Reading = record { events = p.events; ending = p.ending } in
-    let parsed : IsParsed c r = record { events = events; ending = ending } in
-    record { reading = r; parsed = subst (λ (z : scan.Remaining). IsParsed z r) is parsed; load = n; unasked = p.ending_unasked; is = next; same = same }
+    let parsed : IsReadingOf c r = record { events = events; ending = ending } in
+    record { reading = r; parsed = subst (λ (z : scan.Remaining). IsReadingOf z r) is parsed; load = n; unasked = p.ending_unasked; is = next; same = same }
 
 gives : (n : NextLoad) (d : Document) (old new : ParserRemaining) → GivesLoad n d old new → Ok d ≡ outcome n
 gives (next_document e left unasked) d old new g = ap Ok g.0
@@ -42,7 +42,7 @@ pub first_answers : (encoding : yaml_encoding_t) (input : List ℕ) (c : scan.Re
     (r : Result Document yaml_fault_t)
     → c ≡ tokens_of encoding input → EventsOfTokens c.tokens c.fault p.events → FaultOfTokens c.tokens c.fault p.ending
     → AreLoadsByContent p → IfOk r (λ d. LoadIsNext p d q) → IfErr r (λ f. RefusalIsNext p (fault_of f) q)
-    → Answers load_layers (λ d. d) (IsFirst encoding input) r
+    → Answers load_layers (λ d. d) (IsFirstDocument encoding input) r
 first_answers encoding input c p q (Ok d) is events ending loads g h =
     let n = next_load p.ending p.ending_unasked p.events loads in
     first_load encoding input c p (Ok d) n.load is events ending n.is (gives n.load d p q (g n.load n.is))

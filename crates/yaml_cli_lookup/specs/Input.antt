@@ -16,7 +16,7 @@ abbrev pub tokens_of : yaml_encoding_t → List ℕ → scan.Remaining
 tokens_of encoding input = adapted (scanned encoding input)
 
 -- the events of those, and the fault that ends them
-pub record IsParsed (c : scan.Remaining) (r : Reading) : Type 0 where
+pub record IsReadingOf (c : scan.Remaining) (r : Reading) : Type 0 where
   pub events : EventsOfTokens c.tokens c.fault r.events
   pub ending : FaultOfTokens c.tokens c.fault r.ending
 
@@ -28,10 +28,10 @@ outcome (next_fault f unasked) = Err f
 
 -- The first document of the input, or the fault that is met before its end. Each input has one, and one alone: its tokens
 -- have one list of events, and one fault, and these one first load.
-pub record IsFirst (encoding : yaml_encoding_t) (input : List ℕ)
+pub record IsFirstDocument (encoding : yaml_encoding_t) (input : List ℕ)
     (first : Result Document Fault) : Type 0 where
   pub reading : Reading
-  pub parsed : IsParsed (tokens_of encoding input) reading
+  pub parsed : IsReadingOf (tokens_of encoding input) reading
   pub load : NextLoad
   -- so many tokens are not asked for as the fault behind the events is told
   pub unasked : ℕ

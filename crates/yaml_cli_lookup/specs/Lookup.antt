@@ -8,7 +8,7 @@ use Rattle.yaml_cli_lookup.specs.declared.error.LookupError.TheVariants.{Unreada
 use Rattle.yaml_cli_lookup.specs.Values.{has_mapping, value_of}
 
 -- it is the first document, and its root is a mapping
-pub record IsLoaded (First : Result Document Fault → Type 0) (d : Document) : Type 0 where
+pub record IsFirstMapping (First : Result Document Fault → Type 0) (d : Document) : Type 0 where
   pub first : First (Ok d)
   pub mapping : has_mapping d ≡ true
 
@@ -23,8 +23,8 @@ abbrev pub bytes_of : Option (Vec ℕ Global) → Option (List ℕ)
 bytes_of v = option_map (λ t. t.items) v
 
 -- what the first document's root gives the key
-pub record IsFound (First : Result Document Fault → Type 0) (key : List ℕ)
+pub record IsValueFound (First : Result Document Fault → Type 0) (key : List ℕ)
     (found : Option (Vec ℕ Global)) : Type 0 where
   pub document : Document
-  pub loaded : IsLoaded First document
+  pub loaded : IsFirstMapping First document
   pub value : bytes_of found ≡ value_of document key

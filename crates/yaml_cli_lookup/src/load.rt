@@ -3,8 +3,8 @@
 ghost use Rattle.std.specs.Prelude.{◌≡◌, option_map, IfOk, IfErr};
 ghost use Rattle.yaml_scan.specs.Faults.{Answers, load_layers};
 ghost use Rattle.yaml_cli_lookup.specs.declared.error.LookupError.TheVariants.{OutOfMemory};
-ghost use Rattle.yaml_cli_lookup.specs.Input.{IsFirst};
-ghost use Rattle.yaml_cli_lookup.specs.Lookup.{IsLoaded, IsDue, IsFound, bytes_of};
+ghost use Rattle.yaml_cli_lookup.specs.Input.{IsFirstDocument};
+ghost use Rattle.yaml_cli_lookup.specs.Lookup.{IsFirstMapping, IsDue, IsValueFound, bytes_of};
 
 use crate::error::{LookupError, error_of};
 use crate::value::{has_mapping, value_of};
@@ -19,7 +19,7 @@ fn first_document(
     input: &[u8],
     encoding: yaml_encoding_t,
 ) -> Result<yaml_document_t, yaml_fault_t>
-    ensures { Answers load_layers (λ d. d) (IsFirst encoding input.now) result }
+    ensures { Answers load_layers (λ d. d) (IsFirstDocument encoding input.now) result }
 {
     let mut parser = yaml_parser_initialize(alloc, yaml_adapter_t::new(alloc, input, encoding))?;
     let answer = yaml_parser_load(&mut parser);
@@ -34,8 +34,8 @@ pub fn load_mapping(
     input: &[u8],
     encoding: yaml_encoding_t,
 ) -> Result<yaml_document_t, LookupError>
-    ensures ok { IfOk result (IsLoaded (IsFirst encoding input.now)) }
-    ensures err { IfErr result (IsDue (IsFirst encoding input.now)) }
+    ensures ok { IfOk result (IsFirstMapping (IsFirstDocument encoding input.now)) }
+    ensures err { IfErr result (IsDue (IsFirstDocument encoding input.now)) }
 {
     match first_document(alloc, input, encoding) {
         Err(fault) => Err(error_of(fault)),
@@ -70,8 +70,8 @@ pub fn lookup(
     encoding: yaml_encoding_t,
     key: &[u8],
 ) -> Result<Option<Vec<u8>>, LookupError>
-    ensures ok { IfOk result (IsFound (IsFirst encoding input.now) key.now) }
-    ensures err { IfErr result (IsDue (IsFirst encoding input.now)) }
+    ensures ok { IfOk result (IsValueFound (IsFirstDocument encoding input.now) key.now) }
+    ensures err { IfErr result (IsDue (IsFirstDocument encoding input.now)) }
 {
     match load_mapping(alloc, input, encoding) {
         Err(error) => Err(error),

@@ -21,13 +21,10 @@ use Rattle.yaml_emit_layout.specs.ToCome.{ToCome, stream, documents, root, frame
 use Rattle.yaml_emit_layout.specs.ToCome as come
 use Rattle.yaml_emit_state.specs.declared.Core.{Core}
 use Rattle.yaml_emit_state.specs.Steps.{state_of, settings_of, goes_on, IsFresh}
-use Rattle.yaml_emit_state.specs.Finish.{Finishes, FinishesAt, FinishesBy, Leads}
+use Rattle.yaml_emit_state.specs.Finish.{Finishes, FinishesAt, FinishesBy}
 use Rattle.yaml_emit_state.proofs.Finishing.{fresh_finishes}
-use Rattle.yaml_emit.specs.Held.{held_events}
-use Rattle.yaml_scan_model.specs.declared.yaml_fault_t.{yaml_fault_t}
-use Rattle.yaml_emit.specs.declared.held.Held.{Held}
 use Rattle.yaml_emit.specs.declared.emitter.yaml_emitter_t.TheInside.{Inside}
-use Rattle.yaml_emit.specs.Emitter.{Emitter, text_of, write_error, too_deep, problem_fault, memory_origin, refusal_by, stop_of, IsLimited, stream_encoding, IsStream, CompletesBy, Completes, HasWritten, ShowsFront, IsWhole, Given, Begins}
+use Rattle.yaml_emit.specs.Emitter.{Emitter, text_of, write_error, too_deep, problem_fault, memory_origin, refusal_by, stop_of, IsLimited, stream_encoding, IsStream, CompletesBy, Completes, HasWritten, ShowsFront, IsWhole}
 use Rattle.yaml_emit.specs.Views.{emitter_of, IsEmitter}
 use Rattle.yaml_emit.specs.Judged.{refused_at}
 use Rattle.yaml_emit.proofs.Ending.{all_written}
@@ -214,31 +211,6 @@ inside_whole i inv = λ none x whole h.
     let g : goes_on i.core.sink.status i.core.place ≡ true = refusal_none i.core.place i.core.sink.status i.core.starved (sym inv.faulty ∙ none) in
     all_written (emitter_of i) x whole (goes_going i.core.sink.status i.core.place g) (inv.few g) h
 
-pub inside_begins : (i : Inside) (core : Core) (e : Event) (s : Settings) (z : yaml_encoding_t) → IsEmitter i → i.fresh ≡ true → s ≡ settled i.requested_settings z → z ≡ stream_encoding e → IsFresh core s → core.sink.limit ≡ i.limit
-    → Begins (emitter_of i) e (seen i.requested_settings core (held_events i.held) false i.opened i.closed (option_map fault_of i.fault))
-inside_begins i core e s z inv fr a b f most =
-    let P : Settings → Type 0 = λ t. IsFresh core t in
-    let Q : yaml_encoding_t → Type 0 = λ t. IsFresh core (settled i.requested_settings t) in
-    let f' : IsFresh core (settled i.requested_settings (stream_encoding e)) = subst Q b (subst P a f) in
-    record {
-      completes = λ x es whole h. begin_completes (emitter_of i) core (held_events i.held) i.opened i.closed (option_map fault_of i.fault) e x es whole fr (inv.begun fr).0 f' h;
-      requested_settings = refl;
-      limit = most ∙ sym inv.limited;
-      begun = refl;
-      fault = (inv.begun fr).1.0;
-      opened = refl;
-      closed = refl;
-    }
-
-pub inside_lays : (i : Inside) (core : Core) (h held : Held) (fault : Option Fault) (e : Event) → i.fresh ≡ false → h ≡ i.held → Leads i.core (held_events h ++ e ∷ []) core (held_events held)
-    → Given (emitter_of i) e (seen i.requested_settings core (held_events held) i.fresh i.opened i.closed fault)
-inside_lays i core h held fault e fr same l = record {
-  completes = λ x es whole c. lay_completes (emitter_of i) (seen i.requested_settings core (held_events held) i.fresh i.opened i.closed fault) e (held_events h) x es whole fr fr (ap held_events same) (l.finishes es whole) l.encoding c;
-  requested_settings = refl;
-  limit = l.limit;
-  begun = fr;
-}
-
 pub not_true : (b : Bool) → (b ≡ true → ⊥) → b ≡ false
 not_true false n = refl
 not_true true n = absurd (n refl)
@@ -248,30 +220,3 @@ pub inside_limited : (i : Inside) → IsEmitter i → (f : Fault) → option_map
 inside_limited i inv f is =
     let fr : i.fresh ≡ false = not_true i.fresh (λ t. let k = (inv.begun t).1.0 in cc) in
     limited_by i.core.sink.status (emitter_of i) f refl fr (sym inv.faulty ∙ is) (inside_front i inv)
-
-pub inside_stays : (i : Inside) (f : yaml_fault_t) (e : Event) → IsEmitter i → i.fault ≡ Some f → Given (emitter_of i) e (emitter_of i)
-inside_stays i f e inv is =
-    let some : option_map fault_of i.fault ≡ Some (fault_of f) = ap (option_map fault_of) is in
-    let fr : i.fresh ≡ false = not_true i.fresh (λ t. let k = (inv.begun t).1.0 in cc) in
-    record {
-      completes = λ x es whole c. stopped_completes (emitter_of i) (fault_of f) x (e ∷ es) es whole fr (sym inv.faulty ∙ some) c;
-      requested_settings = refl;
-      limit = refl;
-      begun = fr;
-    }
-
--- that the stream was opened or closed is noted
-pub given_marked : (old : Emitter) (e : Event) (i : Inside) (o k : Bool) → Given old e (emitter_of i)
-    → Given old e (seen i.requested_settings i.core (held_events i.held) i.fresh o k (option_map fault_of i.fault))
-unfolding Completes
-given_marked old e i o k g = record {
-  completes = λ x es whole c.
-      let n : Emitter = seen i.requested_settings i.core (held_events i.held) i.fresh o k (option_map fault_of i.fault) in
-      let P : Bool → Type 0 = λ z. CompletesBy z (emitter_of i) x es whole in
-      let Q : Bool → Type 0 = λ z. CompletesBy z n x es whole in
-      let done : CompletesBy false (emitter_of i) x es whole = subst P g.begun (g.completes x es whole c) in
-      subst Q (sym g.begun) (done.0, done.1);
-  requested_settings = g.requested_settings;
-  limit = g.limit;
-  begun = g.begun;
-}

@@ -6,9 +6,9 @@ pub mod Ending
 pub mod Viewing
 pub mod Emitting
 pub mod Within
+pub mod Taking
 pub mod Verdicts
 pub mod Dumped
-pub mod DumpsJudged
 pub mod Opened
 -- what it stands on, for crates that name the member alone
 pub use Rattle.yaml_emit_graph.proofs as emit_graph

@@ -1,5 +1,5 @@
 -- How far a dump has opened the stream.
-use Rattle.std.proofs.Common.{◌≡◌, ◌≢◌, ℕ, ◌≤◌, List, [], length, Bool, true, false, sym, subst, refl, ◌∙◌, Option, Some, None, Result, Ok, Err}
+use Rattle.std.proofs.Common.{◌≡◌, ◌≢◌, ℕ, ◌≤◌, List, [], ◌∷◌, length, Bool, true, false, sym, subst, refl, ◌∙◌, Option, Some, None, Result, Ok, Err}
 use Rattle.std.specs.Prelude.{OnErr}
 use Rattle.yaml_scan_model.specs.Faults.{Fault}
 use Rattle.yaml_scan_model.specs.declared.yaml_fault_t.{yaml_fault_t}
@@ -9,10 +9,11 @@ use Rattle.yaml_emit_text.specs.declared.Status.TheVariants.{Going, Full, Deep, 
 use Rattle.yaml_emit_text.specs.Text.{Item, encode, is_deep}
 use Rattle.yaml_emit_layout.specs.declared.Problem.{Problem}
 use Rattle.yaml_emit_layout.specs.Content.{Event}
-use Rattle.yaml_emit.specs.Emitter.{Emitter, Given, Answers, fault_by}
+use Rattle.yaml_emit.specs.Emitter.{Emitter, Answers, fault_by}
 use Rattle.yaml_emit.specs.Within.{Fits}
-use Rattle.yaml_emit.specs.Verdict.{verdict, Judged, HasLetOut, Tells}
-use Rattle.yaml_emit.specs.Dumping.{IsRight, Opens, opening_event}
+use Rattle.yaml_emit.specs.Verdict.{verdict, HasLetOut, TellsOutcome}
+use Rattle.yaml_emit.specs.Taking.{TakesEvents, NotesMemoryOf}
+use Rattle.yaml_emit.specs.Dumping.{IsRightNext, OpensStream, opening_event}
 
 none_by : (s : Status) (b : Bool) (p : Option Problem) → fault_by s b p ≡ None → (s ≡ Going) × (p ≡ None)
 none_by Going b None h = (refl, refl)
@@ -31,34 +32,27 @@ fits_let_out Deep old new bytes x whole g l h = absurd (cc)
 fits_let_out Starved old new bytes x whole g l h = absurd (cc)
 
 -- an event behind which there is no fault was right
-right_by : (old new : Emitter) (e : Event) → Given old e new → Judged old e new → Tells new → new.fault ≡ None → IsRight old e
-right_by old new e given judged tells none =
+pub right_by : (old new : Emitter) (e : Event) → TakesEvents old (e ∷ []) new [] → TellsOutcome new → new.fault ≡ None → IsRightNext old e
+right_by old new e taken tells none =
     let (going, free) = none_by new.status new.starved (verdict new []) (sym tells.fault ∙ none) in
     record {
-      refused = sym (judged.refuses going []) ∙ free;
-      within = λ x whole w. fits_let_out new.status old.limit new.limit _ x whole going given.limit (tells.output x whole (judged.writes x [] whole w));
+      refused = sym (taken.refuses going []) ∙ free;
+      within = λ x whole w. fits_let_out new.status old.limit new.limit _ x whole going taken.limit (tells.output x whole (taken.writes x [] whole w));
     }
 
-pub opens_same : (e : Emitter) → e.opened ≡ true → Opens e e
-opens_same e on = record { kept = λ o. o; right = λ off o. absurd (cc); alone = λ none off. absurd (cc) }
+pub opens_same : (e : Emitter) → e.opened ≡ true → OpensStream e e
+opens_same e on = record { kept = λ o. o; right = λ off o. absurd (cc); alone = λ none off. absurd (cc); memory = λ none off. absurd (cc) }
 
-pub opens_right : (old new : Emitter) → new.opened ≡ true → Given old opening_event new → Judged old opening_event new → Tells new → new.fault ≡ None → Opens old new
-opens_right old new on g j t none = record { kept = λ o. on; right = λ off o. right_by old new opening_event g j t none; alone = λ n off. absurd (cc) }
+pub opens_right : (old new : Emitter) → new.opened ≡ true → TakesEvents old (opening_event ∷ []) new [] → TellsOutcome new → new.fault ≡ None → OpensStream old new
+opens_right old new on t tells none = record { kept = λ o. on; right = λ off o. right_by old new opening_event t tells none; alone = λ n off. absurd (cc); memory = λ n off. absurd (cc) }
 
-pub opens_alone : (old new : Emitter) → old.opened ≡ false → new.opened ≡ false → Given old opening_event new → Judged old opening_event new → Opens old new
-opens_alone old new before off g j = record { kept = λ o. absurd (cc); right = λ f o. absurd (cc); alone = λ n f. record { given = g; judged = j } }
+pub opens_alone : (old new : Emitter) → old.opened ≡ false → new.opened ≡ false → TakesEvents old (opening_event ∷ []) new [] → NotesMemoryOf opening_event old new → OpensStream old new
+opens_alone old new before off t m = record { kept = λ o. absurd (cc); right = λ f o. absurd (cc); alone = λ n f. t; memory = λ n f. m }
 
-pub opens_on : (old mid new : Emitter) → mid.opened ≡ true → new.opened ≡ true → Opens old mid → Opens old new
-opens_on old mid new on still p = record { kept = λ o. still; right = λ off o. p.right off on; alone = λ n off. absurd (cc) }
-
-pub opens_faulty : (e : Emitter) (f : Fault) → e.fault ≡ Some f → Opens e e
-opens_faulty e f is = record { kept = λ o. o; right = λ off on. absurd (cc); alone = λ none off. absurd (cc) }
+pub opens_on : (old mid new : Emitter) → mid.opened ≡ true → new.opened ≡ true → OpensStream old mid → OpensStream old new
+opens_on old mid new on still p = record { kept = λ o. still; right = λ off o. p.right off on; alone = λ n off. absurd (cc); memory = λ n off. absurd (cc) }
 
 -- a refused close leaves the stream as it was
 pub refused_close : (fault : Option Fault) (old new : Bool) (r : Result (Unit {0}) yaml_fault_t) → Answers fault r → OnErr r (new ≡ old) → fault ≢ None → new ≡ old
 refused_close fault old new (Ok x) a k n = absurd (n a)
 refused_close fault old new (Err f) a k n = k
-
-pub refused_on : (fault : Option Fault) (old new : Bool) (r : Result (Unit {0}) yaml_fault_t) → Answers fault r → (fault ≢ None → new ≡ old) → OnErr r (new ≡ old)
-refused_on fault old new (Ok x) a k = tt
-refused_on fault old new (Err f) a k = k (λ n. cc)

@@ -1,11 +1,11 @@
 -- What an emitter's output ends as, with the events that follow, and its faults.
 --
--- Two things are said of an emitter by the events that are still to come, and of a call by what becomes of each.
+-- Two things are said of an emitter by the events that are still to come, and of a call by what becomes of these.
 -- `Completes` is about the end of a stream: these are all the events to come, nothing is wrong in them, and this is the whole
--- text. `Given` (an event) and `GivesSome` (the events of a dump) say that what was taken counts for it.
+-- text.
 -- `verdict` and `Writes` (`Verdict.antt`) are about any events, right or not, and not about an end: once these are given too, this
--- event is the first that is refused, and this is the text up to it. `Judged` (an event) and `JudgedAll` (the events of a dump)
--- say that what was taken counts for them.
+-- event is the first that is refused, and this is the text up to it.
+-- `TakesEvents` (`Taking.antt`) says of a call, by both, which of the events that were to come it took.
 use Rattle.std.specs.Prelude.{◌≡◌, ◌⊎◌, ℕ, ◌<◌, Bool, true, false, List, [], ◌∷◌, ◌++◌, length, take, Option, Some, None, option_map, pos, codes, Result, Ok, Err}
 use Rattle.yaml_scan_model.specs.declared.yaml_encoding_t.{yaml_encoding_t}
 use Rattle.yaml_scan_model.specs.declared.yaml_encoding_t.TheVariants.{YAML_ANY_ENCODING}
@@ -152,23 +152,7 @@ CompletesBy false e x es whole = (e.settings.encoding ≡ x)
 unfoldable pub Completes : Emitter → Encoding → List Event → List Item → Type 0
 Completes e x es whole = CompletesBy e.fresh e x es whole
 
--- An event was given: whatever follows, the whole text is the same, with the event in front of what follows or taken.
-pub record Given (old : Emitter) (e : Event) (new : Emitter) : Type 0 where
-  pub completes : (x : Encoding) (es : List Event) (whole : List Item)
-      → Completes old x (e ∷ es) whole → Completes new x es whole
-  pub requested_settings : new.requested_settings ≡ old.requested_settings
-  pub limit : new.limit ≡ old.limit
-  pub begun : new.fresh ≡ false
-
--- Of some events that were to come those are still to come, whatever follows: the whole text is the same.
-pub record GivesSome (old : Emitter) (es : List Event) (new : Emitter) (left : List Event) : Type 0
-  where
-    pub completes : (x : Encoding) (more : List Event) (whole : List Item)
-        → Completes old x (es ++ more) whole → Completes new x (left ++ more) whole
-    pub requested_settings : new.requested_settings ≡ old.requested_settings
-    pub limit : new.limit ≡ old.limit
-    pub begun : old.fresh ≡ false → new.fresh ≡ false
-
+-- the stream is open, or closed, as it was
 abbrev pub Keeps : Emitter → Emitter → Type 0
 Keeps old new = (new.opened ≡ old.opened) × (new.closed ≡ old.closed)
 
@@ -253,17 +237,6 @@ pub record IsNew (e : Emitter) (most : ℕ) : Type 0 where
   pub fault : e.fault ≡ None
   pub held : e.held ≡ []
   pub output : e.output ≡ []
-
--- the settings came into force with the first event
-pub record Begins (old : Emitter) (e : Event) (new : Emitter) : Type 0 where
-  pub completes : (x : Encoding) (es : List Event) (whole : List Item)
-      → Completes old x (e ∷ es) whole → Completes new x (e ∷ es) whole
-  pub requested_settings : new.requested_settings ≡ old.requested_settings
-  pub limit : new.limit ≡ old.limit
-  pub begun : new.fresh ≡ false
-  pub fault : new.fault ≡ None
-  pub opened : new.opened ≡ old.opened
-  pub closed : new.closed ≡ old.closed
 
 -- a call answers the first fault, if there is one
 abbrev pub Answers : Option Fault → Result (Unit {0}) yaml_fault_t → Type 0

@@ -13,9 +13,8 @@ use Rattle.yaml_emit_layout.specs.declared.Problem.{Problem}
 use Rattle.yaml_emit_layout.specs.declared.Expected.TheVariants as at
 use Rattle.yaml_emit_layout.specs.Content.{Event}
 use Rattle.yaml_emit_layout.specs.State.{placed}
-use Rattle.yaml_emit_state.specs.Steps.{may_note}
-use Rattle.yaml_emit.specs.Judged.{first_progress, let_out, first_refusal, laid, refusal_behind, LetsOut, take_memory}
-use Rattle.yaml_emit.specs.Emitter.{Emitter, text_of, stream_encoding, Completes, fault_by, HasWritten}
+use Rattle.yaml_emit.specs.Judged.{first_progress, let_out, first_refusal, laid, refusal_behind, LetsOut}
+use Rattle.yaml_emit.specs.Emitter.{Emitter, text_of, stream_encoding, fault_by, HasWritten}
 
 abbrev pub verdict_by : Bool → Emitter → List Event → Option Problem
 verdict_by true e es = first_refusal e.requested_settings.canonical first_progress (let_out es)
@@ -46,52 +45,6 @@ WritesBy false e x es whole = (e.settings.encoding ≡ x)
 unfoldable pub Writes : Emitter → Encoding → List Event → List Item → Type 0
 Writes e x es whole = WritesBy e.fresh e x es whole
 
--- Between these two, that memory was refused outside the output is noted where this stops the output, and nowhere else; by
--- whether what was laid out may take such memory.
-abbrev pub Notes : Bool → Emitter → Emitter → Type 0
-Notes takes old new = may_note takes old.status new.status ≡ false → new.starved ≡ old.starved
-
--- An event was given, and was judged in its turn: whatever follows, the same event is refused, unless the output has stopped,
--- and the same is written.
-pub record Judged (old : Emitter) (e : Event) (new : Emitter) : Type 0 where
-  pub refuses : new.status ≡ Going → (es : List Event)
-      → verdict new es ≡ verdict old (e ∷ es)
-  pub writes : (x : Encoding) (es : List Event) (whole : List Item) → Writes old x (e ∷ es) whole
-      → Writes new x es whole
-  -- an output that has stopped stays stopped
-  pub going : new.status ≡ Going → old.status ≡ Going
-  -- That memory was refused outside the output is noted where this stops it, once an event is held or given that takes such memory.
-  pub memory : Notes (take_memory (old.held ++ e ∷ [])) old new
-
--- Of some events that were to come those are still to come, and the others were judged in their turn.
-pub record JudgedAll (old : Emitter) (es : List Event) (new : Emitter) (left : List Event) : Type 0
-  where
-    pub refuses : new.status ≡ Going → (more : List Event) → verdict new (left ++ more)
-        ≡ verdict old (es ++ more)
-    pub writes : (x : Encoding) (more : List Event) (whole : List Item)
-        → Writes old x (es ++ more) whole → Writes new x (left ++ more) whole
-    pub going : new.status ≡ Going → old.status ≡ Going
-    pub memory : Notes true old new
-
--- What is given behind a refusal counts for nothing: whatever it is, the same texts are completed, the same event is refused
--- while the output goes on, and the same is written.
-pub record Stuck (e : Emitter) : Type 0 where
-  pub completes : (x : Encoding) (es more : List Event) (whole : List Item) → Completes e x es whole
-      → Completes e x more whole
-  pub refuses : e.status ≡ Going → (es more : List Event) → verdict e more ≡ verdict e es
-  pub writes : (x : Encoding) (es more : List Event) (whole : List Item) → Writes e x es whole
-      → Writes e x more whole
-
--- the settings came into force with the first event
-pub record JudgesFirst (old : Emitter) (e : Event) (new : Emitter) : Type 0 where
-  pub refuses : (es : List Event) → verdict new (e ∷ es) ≡ verdict old (e ∷ es)
-  pub writes : (x : Encoding) (es : List Event) (whole : List Item) → Writes old x (e ∷ es) whole
-      → Writes new x (e ∷ es) whole
-  pub going : old.status ≡ Going
-  pub begun : new.status ≡ Going
-  pub held : new.held ≡ old.held
-  pub memory : new.starved ≡ old.starved
-
 -- All of it is in the output, which passes no limit; or the output has stopped there.
 abbrev pub HasLetOut : Status → ℕ → List ℕ → List ℕ → Bool → Type 0
 HasLetOut Going limit output bytes deep = (output ≡ bytes)
@@ -103,7 +56,7 @@ HasLetOut Starved limit output bytes deep = HasWritten Starved limit output byte
 -- The fault is that of the first refused event among those that were let out, or, once the output has stopped, that of what
 -- stopped it; the output has all that was let out, or stopped at a limit that this passes or for want of memory. While it goes
 -- on, no memory was refused outside it.
-pub record Tells (e : Emitter) : Type 0 where
+pub record TellsOutcome (e : Emitter) : Type 0 where
   pub fault : e.fault ≡ fault_by e.status e.starved (verdict e [])
   pub output : (x : Encoding) (whole : List Item) → Writes e x [] whole
       → HasLetOut e.status e.limit e.output (encode x whole) (is_deep whole)

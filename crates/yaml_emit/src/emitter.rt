@@ -1,14 +1,15 @@
 //! The emitter.
 
-ghost use Rattle.std.specs.Prelude.{◌≡◌, ◌≤◌, length, Some, None, true, false, option_map, IfOk, IfErr, OnErr};
+ghost use Rattle.std.specs.Prelude.{◌≡◌, ◌≤◌, ◌∷◌, [], length, Some, None, true, false, option_map, IfOk, IfErr, OnErr};
 ghost use Rattle.yaml_scan_model.specs.Faults.{Fault, fault_of, memory_fault};
 ghost use Rattle.yaml_scan_model.specs.declared.yaml_origin_t.TheVariants as from;
 ghost use Rattle.yaml_parse_model.specs.Events.{event_of, body_of};
 ghost use Rattle.yaml_parse_model.specs.Constructors.{HasUtf8};
 ghost use Rattle.yaml_emit_layout.specs.Content.{emitter_event};
-ghost use Rattle.yaml_emit.specs.Emitter.{stream_encoding, stop_of, IsNew, IsLimited, ShowsFront, IsWhole, Given, Begins, Answers, Stays};
+ghost use Rattle.yaml_emit.specs.Emitter.{stream_encoding, stop_of, IsNew, IsLimited, ShowsFront, IsWhole, Answers, Stays};
 ghost use Rattle.yaml_emit.specs.Within.{IsWithin};
-ghost use Rattle.yaml_emit.specs.Verdict.{Judged, JudgesFirst, Tells, Stuck};
+ghost use Rattle.yaml_emit.specs.Verdict.{TellsOutcome};
+ghost use Rattle.yaml_emit.specs.Taking.{TakesEvents, Stuck, NotesMemoryOf, ComesIntoForce};
 
 mod dump;
 
@@ -165,7 +166,7 @@ pub fn yaml_emitter_opened(emitter: &yaml_emitter_t) -> bool
 pub fn yaml_emitter_fault(emitter: &yaml_emitter_t) -> Option<&yaml_fault_t>
     ensures is { option_map (λ f. fault_of f.now) result ≡ emitter.now.fault }
     ensures because { emitter.now.fault ≡ stop_of emitter.now }
-    ensures tells { Tells emitter.now }
+    ensures tells { TellsOutcome emitter.now }
     ensures limited { (f : Fault) → emitter.now.fault ≡ Some f → IsLimited emitter.now f }
 {
     match &emitter.fault {
@@ -205,8 +206,7 @@ impl yaml_emitter_t {
     #[inline(never)]
     fn begin(&mut self, event: &yaml_event_body_t)
         requires { self.old.fresh ≡ true }
-        ensures begins { Begins self.old (emitter_event (body_of event.now)) self.new }
-        ensures judged { JudgesFirst self.old (emitter_event (body_of event.now)) self.new }
+        ensures begins { ComesIntoForce self.old (emitter_event (body_of event.now)) self.new }
     {
         let settings = settled(self.requested_settings, stream_encoding(event));
         self.core = Core::new(self.alloc, settings, self.limit);
@@ -218,8 +218,8 @@ impl yaml_emitter_t {
         requires utf8 { HasUtf8 (body_of event.old) }
         requires right { self.old.fault ≡ None }
         requires begun { self.old.fresh ≡ false }
-        ensures given { Given self.old (emitter_event (body_of event.old)) self.new }
-        ensures judged { Judged self.old (emitter_event (body_of event.old)) self.new }
+        ensures takes { TakesEvents self.old (emitter_event (body_of event.old) ∷ []) self.new [] }
+        ensures memory { NotesMemoryOf (emitter_event (body_of event.old)) self.old self.new }
         ensures few { length self.new.held ≤ 3 }
         ensures opened { (self.new.opened ≡ self.old.opened) × (self.new.closed ≡ self.old.closed) }
     {
@@ -228,12 +228,12 @@ impl yaml_emitter_t {
     }
 
     // An emitter without a fault takes an event.
-    #[tactic(auto, using(crate::proofs::Verdicts::first_judged))]
+    #[tactic(auto, using(crate::proofs::Taking::begins_takes, crate::proofs::Taking::begins_notes))]
     fn take(&mut self, event: &mut yaml_event_body_t)
         requires utf8 { HasUtf8 (body_of event.old) }
         requires right { self.old.fault ≡ None }
-        ensures given { Given self.old (emitter_event (body_of event.old)) self.new }
-        ensures judged { Judged self.old (emitter_event (body_of event.old)) self.new }
+        ensures takes { TakesEvents self.old (emitter_event (body_of event.old) ∷ []) self.new [] }
+        ensures memory { NotesMemoryOf (emitter_event (body_of event.old)) self.old self.new }
         ensures few { length self.new.held ≤ 3 }
         ensures opened { (self.new.opened ≡ self.old.opened) × (self.new.closed ≡ self.old.closed) }
     {
@@ -249,7 +249,7 @@ impl yaml_emitter_t {
     #[inline(always)]
     fn answer(&self) -> Result<(), yaml_fault_t>
         ensures answer { Answers self.now.fault result }
-        ensures tells { Tells self.now }
+        ensures tells { TellsOutcome self.now }
         ensures stuck { OnErr result (Stuck self.now) }
         ensures few { length self.now.held ≤ 3 }
         ensures begun { OnErr result (self.now.fresh ≡ false) }
@@ -266,8 +266,8 @@ impl yaml_emitter_t {
     #[inline(never)]
     fn give(&mut self, event: &mut yaml_event_body_t)
         requires { HasUtf8 (body_of event.old) }
-        ensures given { Given self.old (emitter_event (body_of event.old)) self.new }
-        ensures judged { Judged self.old (emitter_event (body_of event.old)) self.new }
+        ensures takes { TakesEvents self.old (emitter_event (body_of event.old) ∷ []) self.new [] }
+        ensures memory { NotesMemoryOf (emitter_event (body_of event.old)) self.old self.new }
         ensures stays { Stays self.old self.new }
         ensures few { length self.new.held ≤ 3 }
         ensures opened { (self.new.opened ≡ self.old.opened) × (self.new.closed ≡ self.old.closed) }
@@ -285,10 +285,10 @@ impl yaml_emitter_t {
     #[inline(always)]
     fn emit_from(&mut self, event: &mut yaml_event_body_t) -> Result<(), yaml_fault_t>
         requires { HasUtf8 (body_of event.old) }
-        ensures given { Given self.old (emitter_event (body_of event.old)) self.new }
-        ensures judged { Judged self.old (emitter_event (body_of event.old)) self.new }
+        ensures takes { TakesEvents self.old (emitter_event (body_of event.old) ∷ []) self.new [] }
+        ensures memory { NotesMemoryOf (emitter_event (body_of event.old)) self.old self.new }
         ensures answer { Answers self.new.fault result }
-        ensures tells { Tells self.new }
+        ensures tells { TellsOutcome self.new }
         ensures stays { Stays self.old self.new }
         ensures few { length self.new.held ≤ 3 }
         ensures opened { (self.new.opened ≡ self.old.opened) × (self.new.closed ≡ self.old.closed) }
@@ -300,10 +300,10 @@ impl yaml_emitter_t {
 
     fn emit(&mut self, event: yaml_event_body_t) -> Result<(), yaml_fault_t>
         requires { HasUtf8 (body_of event) }
-        ensures given { Given self.old (emitter_event (body_of event)) self.new }
-        ensures judged { Judged self.old (emitter_event (body_of event)) self.new }
+        ensures takes { TakesEvents self.old (emitter_event (body_of event) ∷ []) self.new [] }
+        ensures memory { NotesMemoryOf (emitter_event (body_of event)) self.old self.new }
         ensures answer { Answers self.new.fault result }
-        ensures tells { Tells self.new }
+        ensures tells { TellsOutcome self.new }
         ensures stays { Stays self.old self.new }
         ensures few { length self.new.held ≤ 3 }
         ensures opened { (self.new.opened ≡ self.old.opened) × (self.new.closed ≡ self.old.closed) }
@@ -324,9 +324,10 @@ pub fn yaml_emitter_emit(
     event: yaml_event_t,
 ) -> Result<(), yaml_fault_t>
     requires { HasUtf8 (event_of event).body }
-    ensures given { Given emitter.old (emitter_event (event_of event).body) emitter.new }
-    ensures judged { Judged emitter.old (emitter_event (event_of event).body) emitter.new }
-    ensures tells { Tells emitter.new }
+    ensures takes { TakesEvents emitter.old (emitter_event (event_of event).body ∷ []) emitter.new
+        [] }
+    ensures memory { NotesMemoryOf (emitter_event (event_of event).body) emitter.old emitter.new }
+    ensures tells { TellsOutcome emitter.new }
     ensures answer { Answers emitter.new.fault result }
     ensures stays { Stays emitter.old emitter.new }
     ensures few { length emitter.new.held ≤ 3 }
@@ -343,8 +344,10 @@ pub fn yaml_emitter_emit(
 /// is one, is the emitter's (`yaml_emitter_fault`).
 pub fn yaml_emitter_emit_from(emitter: &mut yaml_emitter_t, event: &mut yaml_event_t)
     requires { HasUtf8 (event_of event.old).body }
-    ensures given { Given emitter.old (emitter_event (event_of event.old).body) emitter.new }
-    ensures judged { Judged emitter.old (emitter_event (event_of event.old).body) emitter.new }
+    ensures takes { TakesEvents emitter.old (emitter_event (event_of event.old).body ∷ [])
+        emitter.new [] }
+    ensures memory { NotesMemoryOf (emitter_event (event_of event.old).body) emitter.old
+        emitter.new }
     ensures stays { Stays emitter.old emitter.new }
     ensures few { length emitter.new.held ≤ 3 }
     ensures opened { (emitter.new.opened ≡ emitter.old.opened)

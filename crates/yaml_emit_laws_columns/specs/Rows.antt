@@ -56,15 +56,15 @@ empty = sequence_node bare no_nodes
 abbrev pub of_pair : Node → Node → Node
 of_pair k v = mapping_node bare (pair k v no_pairs)
 
-pub record Row : Type 0 where
+pub record ColumnsRow : Type 0 where
   pub indent : ℕ
   pub roots : List Node
   pub passed : Bool
 
-abbrev pub row : ℕ → Node → Bool → Row
+abbrev pub row : ℕ → Node → Bool → ColumnsRow
 row indent root passed = record { indent = indent; roots = root ∷ []; passed = passed }
 
-abbrev pub rows : List Row
+abbrev pub rows : List ColumnsRow
 rows =
     -- at depth 0: the most columns, and one more
     row 2147483647 a false ∷ row 2147483648 a true ∷ row 2147483648 empty true
@@ -86,10 +86,10 @@ unfoldable pub documents_of : List Node → List Document
 documents_of [] = []
 documents_of (n ∷ ns) = alone n ∷ documents_of ns
 
-abbrev pub Holds : Row → Type 0
+abbrev pub Holds : ColumnsRow → Type 0
 Holds r = is_deep (written (stream_layout (canonical r.indent) (documents_of r.roots))) ≡ r.passed
 
-unfoldable pub AllHold : List Row → Type 0
+unfoldable pub AllHold : List ColumnsRow → Type 0
 AllHold [] = Unit {0}
 AllHold (r ∷ rs) = Holds r × AllHold rs
 

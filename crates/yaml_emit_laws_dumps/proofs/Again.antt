@@ -5,7 +5,7 @@ use Rattle.std.proofs.lemmas.Option.{slice_get_within}
 use Rattle.yaml_parse_model.specs.declared.yaml_node_pair_t.{yaml_node_pair_t}
 use Rattle.yaml_parse_model.specs.Nodes.{Node, NodeBody}
 use Rattle.yaml_parse_model.specs.Nodes as model
-use Rattle.yaml_parse_loader.specs.Order.{Visits, IsInPreorder, done, again, first, children, pair_numbers}
+use Rattle.yaml_parse_loader.specs.Order.{VisitsInPreorder, IsInPreorder, done, again, first, children, pair_numbers}
 use Rattle.yaml_emit_graph.specs.declared.walk.Turn.{Turn}
 use Rattle.yaml_emit_graph.specs.declared.walk.Turn.TheVariants.{First, Again, Leave}
 use Rattle.yaml_emit_graph.specs.Graph.{Met, is_met, meet, pair_ids, is_collection, body_at}
@@ -17,13 +17,13 @@ use Rattle.yaml_emit_laws_dumps.proofs.Marks.{met_old, met_new, meets, none_yet}
 
 -- ---- how many nodes are visited
 
-pub onward : (nodes : List Node) (seen after : ℕ) (ids : List ℤ) → Visits nodes seen ids after → seen ≤ after
+pub onward : (nodes : List Node) (seen after : ℕ) (ids : List ℤ) → VisitsInPreorder nodes seen ids after → seen ≤ after
 onward nodes seen after ids (done s) = omega arith
 onward nodes seen after ids (again s k e more h v) = onward nodes s e more v
 onward nodes seen after ids (first s b e more n at v w) =
     let x = onward nodes (suc s) b (children n.body) v in let y = onward nodes b e more w in omega (arith, x, y)
 
-pub inside_all : (nodes : List Node) (seen after : ℕ) (ids : List ℤ) → seen ≤ length nodes → Visits nodes seen ids after → after ≤ length nodes
+pub inside_all : (nodes : List Node) (seen after : ℕ) (ids : List ℤ) → seen ≤ length nodes → VisitsInPreorder nodes seen ids after → after ≤ length nodes
 inside_all nodes seen after ids le (done s) = le
 inside_all nodes seen after ids le (again s k e more h v) = inside_all nodes s e more le v
 inside_all nodes seen after ids le (first s b e more n at v w) =
@@ -82,7 +82,7 @@ into count P f nodes seen n rest at h all =
     λ k w m. moved k w (inr m)
 
 -- What is true of all that the turns of some visits meet again is true of all that the derivation does, and of what follows.
-abbrev Tells : (P : ℕ → Type 0) (nodes : List Node) (seen : ℕ) (ids : List ℤ) (after : ℕ) → Visits nodes seen ids after → Type 0
+abbrev Tells : (P : ℕ → Type 0) (nodes : List Node) (seen : ℕ) (ids : List ℤ) (after : ℕ) → VisitsInPreorder nodes seen ids after → Type 0
 Tells P nodes seen ids after v = (f : ℕ) (rest : Rest) → length nodes < f + seen → seen ≤ length nodes → AllMet (length nodes) P (over (visits f nodes) ids rest (met_so nodes seen))
     → AgainsAre P v × AllMet (length nodes) P (rest (met_so nodes after))
 
@@ -90,7 +90,7 @@ none_tells : (P : ℕ → Type 0) (nodes : List Node) (s : ℕ) → Tells P node
 unfolding over
 none_tells P nodes s f rest fuel le all = (tt, all)
 
-again_tells : (P : ℕ → Type 0) (nodes : List Node) (s k e : ℕ) (more : List ℤ) (h : k < s) (v : Visits nodes s more e) → Tells P nodes s more e v → Tells P nodes s (pos (suc k) ∷ more) e (again s k e more h v)
+again_tells : (P : ℕ → Type 0) (nodes : List Node) (s k e : ℕ) (more : List ℤ) (h : k < s) (v : VisitsInPreorder nodes s more e) → Tells P nodes s more e v → Tells P nodes s (pos (suc k) ∷ more) e (again s k e more h v)
 unfolding over
 again_tells P nodes s k e more h v next f rest fuel le all =
     let moved : AllMet (length nodes) P (Again (pos (suc k)) ∷ over (visits f nodes) more rest (met_so nodes s))
@@ -98,7 +98,7 @@ again_tells P nodes s k e more h v next f rest fuel le all =
     let r = next f rest fuel le (λ j w m. moved j w (inr m)) in
     ((moved k (omega (arith, h, le)) (inl refl), r.0), r.1)
 
-first_tells : (P : ℕ → Type 0) (nodes : List Node) (s b e : ℕ) (more : List ℤ) (n : Node) (at : slice_get nodes s ≡ Some n) (v : Visits nodes (suc s) (children n.body) b) (w : Visits nodes b more e)
+first_tells : (P : ℕ → Type 0) (nodes : List Node) (s b e : ℕ) (more : List ℤ) (n : Node) (at : slice_get nodes s ≡ Some n) (v : VisitsInPreorder nodes (suc s) (children n.body) b) (w : VisitsInPreorder nodes b more e)
     → Tells P nodes (suc s) (children n.body) b v → Tells P nodes b more e w → Tells P nodes s (pos (suc s) ∷ more) e (first s b e more n at v w)
 unfolding over
 first_tells P nodes s b e more n at v w inner outer zero rest fuel le all = absurd (omega (arith, fuel, le))
@@ -111,7 +111,7 @@ first_tells P nodes s b e more n at v w inner outer (suc f) rest fuel le all =
     (behind_left (length nodes) P (is_collection n.body) (pos (suc s)) (over (visits (suc f) nodes) more rest) (met_so nodes b) r.1) in
     ((r.0, q.0), q.1)
 
-told : (P : ℕ → Type 0) (nodes : List Node) (seen : ℕ) (ids : List ℤ) (after : ℕ) (v : Visits nodes seen ids after) → Tells P nodes seen ids after v
+told : (P : ℕ → Type 0) (nodes : List Node) (seen : ℕ) (ids : List ℤ) (after : ℕ) (v : VisitsInPreorder nodes seen ids after) → Tells P nodes seen ids after v
 told P nodes seen ids after (done s) = none_tells P nodes s
 told P nodes seen ids after (again s k e more h v) = again_tells P nodes s k e more h v (told P nodes s more e v)
 told P nodes seen ids after (first s b e more n at v w) =

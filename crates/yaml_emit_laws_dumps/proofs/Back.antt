@@ -17,13 +17,13 @@ use Rattle.yaml_parse_model.specs.Nodes as model
 use Rattle.yaml_parse_document.specs.Documents.{map_tag, seq_tag, str_tag}
 use Rattle.yaml_parse_loader.specs.Numbering.{Head, Content, Contents, Numbered, ◌>>=◌, Anchored, last_with, and_node, alias_number, number, number_items, number_pairs, is_bang, loaded_tag}
 use Rattle.yaml_parse_loader.specs.Numbering as numbering
-use Rattle.yaml_parse_loader.specs.Order.{Visits, done, again, first, children, pair_numbers}
+use Rattle.yaml_parse_loader.specs.Order.{VisitsInPreorder, done, again, first, children, pair_numbers}
 use Rattle.yaml_emit_layout.specs.Content as emit
 use Rattle.yaml_emit_layout.specs.Content.{is_flow_sequence, is_flow_mapping}
 use Rattle.yaml_emit_graph.specs.Graph.{Met, is_met, meet, number_at, name_of, anchor_of, body_at, tag_at, graph_scalar, graph_start}
 use Rattle.yaml_emit_graph.specs.Onward.{node_by, items_by, content_by}
 use Rattle.yaml_emit_laws_dumps.specs.Dumps.{core_body, core_node, nowhere, head_of, as_content, as_contents, as_pairs, met_so, before_at, AgainsAre, IsNumbered, HasKind, AreLoadedNodes, NumbersBack}
-use Rattle.yaml_emit_laws_dumps.specs.Laws.{Finds, VisitsNumberBack}
+use Rattle.yaml_emit_laws_dumps.specs.Laws.{NamesAreFound, VisitsNumberBack}
 use Rattle.yaml_emit_laws_dumps.proofs.Marks.{met_old, met_new, meets}
 use Rattle.yaml_emit_laws_dumps.proofs.Pairing.{paired, pairs_written, paired_numbers}
 
@@ -60,7 +60,7 @@ record One (nodes : List Node) (table : List ℕ) (f seen between : ℕ) (n : No
   count : suc seen + length inner ≡ between
   within : between ≤ length nodes
 
-none_visited : (nodes : List Node) (a b : ℕ) (ids : List ℤ) → ids ≡ [] → Visits nodes a ids b → a ≡ b
+none_visited : (nodes : List Node) (a b : ℕ) (ids : List ℤ) → ids ≡ [] → VisitsInPreorder nodes a ids b → a ≡ b
 none_visited nodes a b ids e (done seen) = refl
 none_visited nodes a b ids e (again seen k after more h v) = absurd (cc)
 none_visited nodes a b ids e (first seen between after more n at v w) = absurd (cc)
@@ -121,7 +121,7 @@ core_mapping n pairs style anchor e b =
     ap (λ (t : List ℕ). let m : Node = record { body = model.mapping pairs YAML_ANY_MAPPING_STYLE; tag = t; start_mark = zero_mark; end_mark = zero_mark } in m) (tag_kept n.tag map_tag b)
     ∙ ap (λ (x : NodeBody). let m : Node = record { body = core_body x; tag = n.tag; start_mark = zero_mark; end_mark = zero_mark } in m) (sym e)
 
-one_scalar : (nodes : List Node) (table : List ℕ) (f seen between : ℕ) (n : Node) (value : List ℕ) (style : yaml_scalar_style_t) → n.body ≡ model.scalar value style → is_bang n.tag ≡ false → slice_get nodes seen ≡ Some n → seen < length nodes → Visits nodes (suc seen) (children n.body) between → One nodes table f seen between n
+one_scalar : (nodes : List Node) (table : List ℕ) (f seen between : ℕ) (n : Node) (value : List ℕ) (style : yaml_scalar_style_t) → n.body ≡ model.scalar value style → is_bang n.tag ≡ false → slice_get nodes seen ≡ Some n → seen < length nodes → VisitsInPreorder nodes (suc seen) (children n.body) between → One nodes table f seen between n
 one_scalar nodes table f seen between n value style is plain at h inner =
     let anchor = anchor_of (number_at table (pos (suc seen))) in
     let x : emit.Node = emit.scalar_node (graph_scalar anchor n.tag value style) in
@@ -209,7 +209,7 @@ then_back nodes table f seen between after n ids at a b =
       within = b.within;
     }
 
-again_back : (nodes : List Node) (table : List ℕ) (f seen k after : ℕ) (ids : List ℤ) → Finds table (length nodes) → IsNumbered table k → k < seen → seen ≤ length nodes → NumbersBack nodes table f seen ids after → NumbersBack nodes table f seen (pos (suc k) ∷ ids) after
+again_back : (nodes : List Node) (table : List ℕ) (f seen k after : ℕ) (ids : List ℤ) → NamesAreFound table (length nodes) → IsNumbered table k → k < seen → seen ≤ length nodes → NumbersBack nodes table f seen ids after → NumbersBack nodes table f seen (pos (suc k) ∷ ids) after
 unfolding items_by
 again_back nodes table f seen k after ids fi met h le b =
     let z : seen + 0 ≡ seen = omega arith in
@@ -236,7 +236,7 @@ abbrev Backs : List Node → List ℕ → ℕ → List ℤ → ℕ → Type 0
 Backs nodes table seen ids after = (f : ℕ) → length nodes < f + seen → seen ≤ length nodes → NumbersBack nodes table f seen ids after
 
 one_body : (nodes : List Node) (table : List ℕ) (f seen between : ℕ) (n : Node) (body : NodeBody) → n.body ≡ body → HasKind body → is_bang n.tag ≡ false → slice_get nodes seen ≡ Some n → seen < length nodes
-    → length nodes < f + suc seen → Visits nodes (suc seen) (children n.body) between → Backs nodes table (suc seen) (children n.body) between → One nodes table f seen between n
+    → length nodes < f + suc seen → VisitsInPreorder nodes (suc seen) (children n.body) between → Backs nodes table (suc seen) (children n.body) between → One nodes table f seen between n
 one_body nodes table f seen between n model.no is p plain at h fuel v back = absurd p
 one_body nodes table f seen between n (model.scalar value style) is p plain at h fuel v back = one_scalar nodes table f seen between n value style is plain at h v
 one_body nodes table f seen between n (model.sequence items style) is p plain at h fuel v back =
@@ -245,7 +245,7 @@ one_body nodes table f seen between n (model.mapping ps style) is p plain at h f
     one_mapping nodes table f seen between n ps style is plain at h (subst (λ (b : NodeBody). NumbersBack nodes table f (suc seen) (children b) between) is (back f fuel (omega (arith, h))))
 
 first_back : (nodes : List Node) (table : List ℕ) → AreLoadedNodes nodes → (seen between after : ℕ) (ids : List ℤ) (n : Node) → slice_get nodes seen ≡ Some n
-    → Visits nodes (suc seen) (children n.body) between → Backs nodes table (suc seen) (children n.body) between → Backs nodes table between ids after → Backs nodes table seen (pos (suc seen) ∷ ids) after
+    → VisitsInPreorder nodes (suc seen) (children n.body) between → Backs nodes table (suc seen) (children n.body) between → Backs nodes table between ids after → Backs nodes table seen (pos (suc seen) ∷ ids) after
 first_back nodes table ld seen between after ids n at v inner outer zero fuel le = absurd (omega (arith, fuel, le))
 first_back nodes table ld seen between after ids n at v inner outer (suc f) fuel le =
     let h = slice_get_within nodes seen n at in
@@ -253,7 +253,7 @@ first_back nodes table ld seen between after ids n at v inner outer (suc f) fuel
     let c = a.count in
     then_back nodes table f seen between after n ids at a (outer (suc f) (omega (arith, fuel, c)) a.within)
 
-backs : (nodes : List Node) (table : List ℕ) → AreLoadedNodes nodes → Finds table (length nodes) → (seen : ℕ) (ids : List ℤ) (after : ℕ) (v : Visits nodes seen ids after) → AgainsAre (IsNumbered table) v → Backs nodes table seen ids after
+backs : (nodes : List Node) (table : List ℕ) → AreLoadedNodes nodes → NamesAreFound table (length nodes) → (seen : ℕ) (ids : List ℤ) (after : ℕ) (v : VisitsInPreorder nodes seen ids after) → AgainsAre (IsNumbered table) v → Backs nodes table seen ids after
 backs nodes table ld fi seen ids after (done s) m f fuel le = none_back nodes table f s le
 backs nodes table ld fi seen ids after (again s k e more h v) (met, m) f fuel le = again_back nodes table f s k e more fi met h le (backs nodes table ld fi s more e v m f fuel le)
 backs nodes table ld fi seen ids after (first s b e more n at v w) (m, o) f fuel le =

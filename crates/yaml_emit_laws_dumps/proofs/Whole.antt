@@ -7,7 +7,7 @@ use Rattle.yaml_parse_document.specs.Documents.{Document}
 use Rattle.yaml_parse_loader.specs.Loading.{Loading, load, behind}
 use Rattle.yaml_parse_loader.specs.Loading as loading
 use Rattle.yaml_parse_loader.specs.Numbering.{Numbered, ◌>>=◌, number, number_items, DocumentContent, document_of, document_events}
-use Rattle.yaml_parse_loader.specs.Order.{Visits, done, again, first}
+use Rattle.yaml_parse_loader.specs.Order.{VisitsInPreorder, done, again, first}
 use Rattle.yaml_emit_layout.specs.Content as emit
 use Rattle.yaml_emit_graph.specs.Graph.{Met, Numbering, numbered, none_numbered, numbers, turns, graph_root, graph_content}
 use Rattle.yaml_emit_graph.specs.Onward.{items_by, content_by, itself, root_onward}
@@ -25,7 +25,7 @@ numbers_found apart nodes small seen k h le some =
     let a = apart (length nodes) (turns nodes) in
     found s.table (λ j. let b = a.bound j in let m = given_most (length nodes) (turns nodes) in omega (arith, b, m, small)) a.apart seen k h some
 
-agains_weaker : (P Q : ℕ → Type 0) (nodes : List Node) (seen : ℕ) (ids : List ℤ) (after : ℕ) → ((k : ℕ) → P k → Q k) → (v : Visits nodes seen ids after) → AgainsAre P v → AgainsAre Q v
+agains_weaker : (P Q : ℕ → Type 0) (nodes : List Node) (seen : ℕ) (ids : List ℤ) (after : ℕ) → ((k : ℕ) → P k → Q k) → (v : VisitsInPreorder nodes seen ids after) → AgainsAre P v → AgainsAre Q v
 agains_weaker P Q nodes seen ids after f (done s) h = tt
 agains_weaker P Q nodes seen ids after f (again s k e more less v) h = (f k h.0, agains_weaker P Q nodes s more e f v h.1)
 agains_weaker P Q nodes seen ids after f (first s b e more n at v w) h = (agains_weaker P Q nodes _ _ b f v h.0, agains_weaker P Q nodes b more e f w h.1)

@@ -9,7 +9,7 @@ use Rattle.yaml_parse_model.specs.Nodes as model
 use Rattle.yaml_parse_document.specs.Documents.{Document}
 use Rattle.yaml_parse_loader.specs.Numbering.{Head, Span, Content, Contents, DocumentContent, Anchored, and_node, number_items, is_bang}
 use Rattle.yaml_parse_loader.specs.Numbering as numbering
-use Rattle.yaml_parse_loader.specs.Order.{Visits, done, again, first, IsInPreorder}
+use Rattle.yaml_parse_loader.specs.Order.{VisitsInPreorder, done, again, first, IsInPreorder}
 use Rattle.yaml_emit_layout.specs.Content as emit
 use Rattle.yaml_emit_graph.specs.declared.walk.Turn.{Turn}
 use Rattle.yaml_emit_graph.specs.declared.walk.Turn.TheVariants.{Again}
@@ -113,7 +113,7 @@ pub record IsLoadedDocument (d : Document) : Type 0 where
 
 -- what is true of each node that a derivation meets again, by its place
 abbrev pub AgainsAre : (P : ℕ → Type 0) {nodes : List Node} {seen : ℕ} {ids : List ℤ} {after : ℕ}
-    → Visits nodes seen ids after → Type 0
+    → VisitsInPreorder nodes seen ids after → Type 0
 AgainsAre P (done s) = Unit {0}
 AgainsAre P (again s k e more h v) = P k × AgainsAre P v
 AgainsAre P (first s b e more n at v w) = AgainsAre P v × AgainsAre P w

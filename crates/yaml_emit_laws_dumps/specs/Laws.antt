@@ -6,7 +6,7 @@ use Rattle.yaml_parse_model.specs.Events.{Event}
 use Rattle.yaml_parse_loader.specs.Loading.{Loading, load}
 use Rattle.yaml_parse_loader.specs.Loading as loading
 use Rattle.yaml_parse_loader.specs.Numbering.{DocumentContent, document_of, document_events, last_with}
-use Rattle.yaml_parse_loader.specs.Order.{Visits, IsInPreorder}
+use Rattle.yaml_parse_loader.specs.Order.{VisitsInPreorder, IsInPreorder}
 use Rattle.yaml_emit_graph.specs.declared.walk.Turn.{Turn}
 use Rattle.yaml_emit_graph.specs.Graph.{IsWhole, walked, turns, number_at, name_of, numbered, none_numbered, numbers, graph_content}
 use Rattle.yaml_emit_laws_dumps.specs.Dumps.{core_document, as_document, AreLoadedNodes, IsLoadedDocument, AgainsAre, MeetsAgain, IsNumbered, AreApart, before_at, NumbersBack}
@@ -40,22 +40,23 @@ WalksAreWhole = (nodes : List Node) → IsWhole (walked nodes)
 -- ---- visits
 
 -- behind some nodes the name of each that has a number is found
-abbrev pub Finds : List ℕ → ℕ → Type 0
-Finds table n = (seen k : ℕ) → k < seen → seen ≤ n → IsNumbered table k
+abbrev pub NamesAreFound : List ℕ → ℕ → Type 0
+NamesAreFound table n = (seen k : ℕ) → k < seen → seen ≤ n → IsNumbered table k
     → last_with (name_of (number_at table (pos (suc k)))) (before_at table seen)
     ≡ Some (pos (suc k))
 
 -- What is visited in preorder is numbered by its dump as it was.
 abbrev pub VisitsNumberBack : Type 0
 VisitsNumberBack = (nodes : List Node) (table : List ℕ) → AreLoadedNodes nodes
-    → Finds table (length nodes)
-    → (f seen : ℕ) (ids : List ℤ) (after : ℕ) (v : Visits nodes seen ids after)
+    → NamesAreFound table (length nodes)
+    → (f seen : ℕ) (ids : List ℤ) (after : ℕ) (v : VisitsInPreorder nodes seen ids after)
     → AgainsAre (IsNumbered table) v → length nodes < f + seen → seen ≤ length nodes
     → NumbersBack nodes table f seen ids after
 
 -- The name of each node that has a number is found behind it.
 abbrev pub NumbersAreFound : Type 0
-NumbersAreFound = (nodes : List Node) → length nodes < 2 ^ 64 → Finds (numbers nodes) (length nodes)
+NumbersAreFound = (nodes : List Node) → length nodes < 2 ^ 64
+    → NamesAreFound (numbers nodes) (length nodes)
 
 -- ---- documents
 

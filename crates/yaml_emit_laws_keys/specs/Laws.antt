@@ -7,13 +7,13 @@ use Rattle.yaml_scan_laws_plain.specs.scan_history.scan_scalars.Quoted.{double_q
 use Rattle.yaml_scan_laws_plain.specs.scan_history.History.{is_fresh}
 use Rattle.yaml_emit_laws_quoted.specs.emit_text.declared.Cursor.{Cursor}
 use Rattle.yaml_emit_laws_quoted.specs.emit_text.declared.Page.{Page}
-use Rattle.yaml_emit_laws_quoted.specs.ReadBack.{IsReadBack, between_quotes}
+use Rattle.yaml_emit_laws_quoted.specs.ReadBack.{ValueIsReadBack, between_quotes}
 
 -- Wherever a text has what is written for a value of at most 128 bytes between double quotes, without
 -- lines that may be broken, its end stands on the line of its start, at most 1,024 bytes behind.
 abbrev pub QuotedKeysAreNear : Type 0
 QuotedKeysAreNear = (page : Page) (c : Cursor) (value : List ℕ) → IsUtf8 value → page.cuts ≡ false
     → length value ≤ 128
-    → (back : IsReadBack double_quoted_at (between_quotes page (chars value)) c value)
+    → (back : ValueIsReadBack double_quoted_at (between_quotes page (chars value)) c value)
     → (text : List ℕ) (p : ℕ) → HasAt text p (encode_utf8_all back.letters)
     → is_fresh (mark_at text p) (mark_at text (p + length (encode_utf8_all back.letters))) ≡ true

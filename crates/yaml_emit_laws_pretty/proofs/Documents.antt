@@ -53,7 +53,7 @@ use Rattle.yaml_emit_laws_json.specs.Json.{IsQuotedScalar, IsPlainScalar, IsJson
 use Rattle.yaml_emit_laws_json.proofs.Layouts.{plain_laid_out}
 use Rattle.yaml_emit_laws_keys.specs.emit_laws_quoted.Laws.{QuotedIsReadBack}
 use Rattle.yaml_emit_laws_keys.specs.Laws.{QuotedKeysAreNear}
-use Rattle.yaml_emit_laws_pretty.specs.Walk.{put_key, keyed_bodies, Stands, GoesOn}
+use Rattle.yaml_emit_laws_pretty.specs.Walk.{put_key, keyed_bodies, WordsStand, WordsGoOn}
 use Rattle.yaml_emit_laws_json.specs.Bodies.{json_bodies, start_bodies, stop_bodies, document_bodies}
 use Rattle.yaml_emit_laws_pretty.specs.Laws.{JsonTextIsRead}
 use Rattle.yaml_emit_laws_pretty.proofs.Plain.{done, plain_said, plain_here, value_written, or_right, or_left}
@@ -97,7 +97,7 @@ end_bodies : (w : Word) (ws : List Word) → w.kind ≡ kinds.StreamEnd → keye
 unfolding keyed_bodies
 end_bodies w ws e = ap (λ (k : Kind). keyed_bodies (takes_key k (lasts (word_kinds ws))) ws (w.said.body ∷ [])) e
 
-pub stream_ended : (text : List ℕ) (c : Cursor) (p : ℕ) (ws : List Word) → Stands text c p ws [] → Left text p (bytes []) → Ended text ws (tokens.stream_end ∷ [])
+pub stream_ended : (text : List ℕ) (c : Cursor) (p : ℕ) (ws : List Word) → WordsStand text c p ws [] → Left text p (bytes []) → Ended text ws (tokens.stream_end ∷ [])
 unfolding Stand
 stream_ended text c p ws s l =
     let st = s.stage in
@@ -123,8 +123,8 @@ stream_ended text c p ws s l =
 
 -- ---- `---` and `...`
 
-pub thrice_push : (x : ℕ) (k : Kind) (body : TokenBody) → Thrice x k body → fits_keyed k [] ≡ true → last_after k [] ≡ [] → takes_key k [] ≡ false → (text : List ℕ) (kept : Bool) (p : ℕ) (ws : List Word) → Stands text (at_line kept) p ws []
-    → byte text p ≡ x → byte text (p + 1) ≡ x → byte text (p + 2) ≡ x → is_blank_or_end text (p + 3) ≡ true → Stands text (behind_three kept) (p + 3) (word_of k p (record { body = body; end = p + 3; reached = p + 3; broke = false }) ∷ ws) []
+pub thrice_push : (x : ℕ) (k : Kind) (body : TokenBody) → Thrice x k body → fits_keyed k [] ≡ true → last_after k [] ≡ [] → takes_key k [] ≡ false → (text : List ℕ) (kept : Bool) (p : ℕ) (ws : List Word) → WordsStand text (at_line kept) p ws []
+    → byte text p ≡ x → byte text (p + 1) ≡ x → byte text (p + 2) ≡ x → is_blank_or_end text (p + 3) ≡ true → WordsStand text (behind_three kept) (p + 3) (word_of k p (record { body = body; end = p + 3; reached = p + 3; broke = false }) ∷ ws) []
 thrice_push x k body t fits after takes text kept p ws s h0 h1 h2 e =
     let said : WordText = record { body = body; end = p + 3; reached = p + 3; broke = false } in
     let column = s.stage.column refl (λ z. t.no_feed (sym h0 ∙ z)) in
@@ -168,7 +168,7 @@ abbrev end_tokens : Bool → List TokenBody
 end_tokens implicit = stop_bodies implicit (tokens.stream_end ∷ [])
 
 -- at the start of a line
-pub ending_ended : (s : Settings) (implicit : Bool) (text : List ℕ) (kept : Bool) (p : ℕ) (ws : List Word) → Stands text (at_line kept) p ws [] → Left text p (bytes (ending s implicit (at_line kept) nothing_more)) → Ended text ws (end_tokens implicit)
+pub ending_ended : (s : Settings) (implicit : Bool) (text : List ℕ) (kept : Bool) (p : ℕ) (ws : List Word) → WordsStand text (at_line kept) p ws [] → Left text p (bytes (ending s implicit (at_line kept) nothing_more)) → Ended text ws (end_tokens implicit)
 ending_ended s true text kept p ws st l = stream_ended text (at_line kept) p ws st (no_stop s true kept st.stage.plain text p l)
 ending_ended s false text kept p ws st l =
     let stop : Rest = λ c. stop_layout s false c nothing_more in
@@ -182,7 +182,7 @@ ending_ended s false text kept p ws st l =
     record { words = e.words; stand = e.stand; keyed = e.keyed; near = e.near; end = e.end; bodies = e.bodies ∙ word_bodies text (at_line kept) p p ws [] kinds.DocumentEnd said st refl (tokens.stream_end ∷ []) }
 
 -- behind a line that isn't bare
-pub line_ended : (s : Settings) (implicit : Bool) (text : List ℕ) (c : Cursor) (p : ℕ) (ws : List Word) → c.bare ≡ false → Stands text c p ws [] → Left text p (bytes ((line s.line_break 0 ▹ ending s implicit) c nothing_more)) → Ended text ws (end_tokens implicit)
+pub line_ended : (s : Settings) (implicit : Bool) (text : List ℕ) (c : Cursor) (p : ℕ) (ws : List Word) → c.bare ≡ false → WordsStand text c p ws [] → Left text p (bytes ((line s.line_break 0 ▹ ending s implicit) c nothing_more)) → Ended text ws (end_tokens implicit)
 line_ended s implicit text c p ws bare st l =
     let after : Rest = λ k. ending s implicit k nothing_more in
     let n = line_lined s.line_break text c p ws 0 after bare st.stage l in
@@ -239,15 +239,15 @@ behind_root s implicit = line s.line_break 0 ▹ ending (pretty s) implicit
 
 -- a root, with what comes behind it
 abbrev RootEnds : Settings → Node → Type 0
-RootEnds s n = (implicit : Bool) (text : List ℕ) (c : Cursor) (p : ℕ) (ws : List Word) → Stands text c p ws []
+RootEnds s n = (implicit : Bool) (text : List ℕ) (c : Cursor) (p : ℕ) (ws : List Word) → WordsStand text c p ws []
     → Left text p (bytes ((node_layout (prettily s []) root_spot n ▹ behind_root s implicit) c nothing_more)) → Ended text ws (json_bodies n (end_tokens implicit))
 
-root_by : (s : Settings) (implicit : Bool) (text : List ℕ) (B : List TokenBody → List TokenBody) (ws : List Word) → GoesOn text (λ k. behind_root s implicit k nothing_more) [] B ws → Ended text ws (B (end_tokens implicit))
+root_by : (s : Settings) (implicit : Bool) (text : List ℕ) (B : List TokenBody → List TokenBody) (ws : List Word) → WordsGoOn text (λ k. behind_root s implicit k nothing_more) [] B ws → Ended text ws (B (end_tokens implicit))
 root_by s implicit text B ws g =
     let e = line_ended (pretty s) implicit text g.behind g.place g.words g.bare g.stands g.left in
     record { words = e.words; stand = e.stand; keyed = e.keyed; near = e.near; end = e.end; bodies = e.bodies ∙ g.bodies (end_tokens implicit) }
 
-plain_root_at : (s : Settings) (value : List ℕ) → is_plain_value value ≡ true → (implicit : Bool) (text : List ℕ) (c : Cursor) (p : ℕ) (ws : List Word) → Stands text c p ws []
+plain_root_at : (s : Settings) (value : List ℕ) → is_plain_value value ≡ true → (implicit : Bool) (text : List ℕ) (c : Cursor) (p : ℕ) (ws : List Word) → WordsStand text c p ws []
     → Left text p (bytes ((letters value ▹ (after_text ▹ behind_root s implicit)) c nothing_more)) → Ended text ws (tokens.scalar value YAML_PLAIN_SCALAR_STYLE ∷ end_tokens implicit)
 plain_root_at s value is implicit text c p ws st l =
     let w = value_written value is c in
@@ -318,7 +318,7 @@ document_is s d is =
     ap (λ (x : List TagDirective). start_layout (pretty s) true false d.opening ▹ (node_layout (context_of (pretty s) x) root_spot d.root ▹ behind_root s d.implicit_end)) is.directives
     ∙ ap (λ (a : Layout). a ▹ root_on s d) (opening_is s d.opening is.version is.directives)
 
-first_stands : (text : List ℕ) → Stands text start 0 [] []
+first_stands : (text : List ℕ) → WordsStand text start 0 [] []
 unfolding lasts is_keyed AreNear
 first_stands text = record { stage = first_stage text; last = refl; keyed = refl; near = tt; more = refl }
 

@@ -30,7 +30,7 @@ use Rattle.yaml_emit_laws_text.specs.Walk.{Has, Left, Starts, bytes, first}
 use Rattle.yaml_emit_laws_text.proofs.Places.{has_front, has_at, left_first, left_more, left_rest}
 use Rattle.yaml_emit_laws_text.proofs.Steps.{word_of, left_letter, letter_low}
 use Rattle.yaml_emit_laws_text.proofs.Words.{more_than, lettered_on, inside}
-use Rattle.yaml_emit_laws_pretty.specs.Walk.{keyed_bodies, Stands, GoesOn, WalksTo, closes, Closes}
+use Rattle.yaml_emit_laws_pretty.specs.Walk.{keyed_bodies, WordsStand, WordsGoOn, WalksTo, closes, Closes}
 use Rattle.yaml_emit_laws_pretty.proofs.Steps.{walks_gap, Pushed, push_word, word_bodies}
 use Rattle.yaml_emit_laws_pretty.proofs.Words.{one_byte, pushed_byte, colon_is, colon_here}
 
@@ -113,9 +113,9 @@ plain_word flow text p = refl
 said_plain : (r : Result PlainText Wrong) (x : PlainText) → r ≡ Ok x → plainly r ≡ Ok (record { body = tokens.scalar x.value YAML_PLAIN_SCALAR_STYLE; end = x.end; reached = x.place; broke = x.broke })
 said_plain r x e = rw e refl
 
-pub plain_here : GapReads → (text : List ℕ) (c e : Cursor) (p : ℕ) (ws : List Word) (ms : List Last) (value g : List ℕ) → Stands text c p ws ms → is_plain_value value ≡ true → Has text p (value ++ g) → are_gap g ≡ true
+pub plain_here : GapReads → (text : List ℕ) (c e : Cursor) (p : ℕ) (ws : List Word) (ms : List Last) (value g : List ℕ) → WordsStand text c p ws ms → is_plain_value value ≡ true → Has text p (value ++ g) → are_gap g ≡ true
     → ends_plain (nat_lt 0 (length ms)) 0 text (p + length value + length g) ≡ true → (e.column ≡ 0 → Starts text (p + length value + length g)) → e.kept ≡ c.kept
-    → Stands text e (p + length value + length g) (word_of kinds.Plain p (plain_said value g p) ∷ ws) (changed plain_after ms)
+    → WordsStand text e (p + length value + length g) (word_of kinds.Plain p (plain_said value g p) ∷ ws) (changed plain_after ms)
 plain_here law text c e p ws ms value g s is here blank ends column kept =
     let flow = nat_lt 0 (length ms) in
     let (begins, kind) = value_begins flow text p value is (has_at text p value (has_front text p value g here)) in
@@ -170,14 +170,14 @@ unfolding no_gap
 alone text p value h = subst (λ (xs : List ℕ). Has text p xs) (sym (append-nil value)) h
 
 -- without a gap
-plain_alone : GapReads → (text : List ℕ) (c e : Cursor) (p : ℕ) (ws : List Word) (m : Last) (os : List Last) (value : List ℕ) → Stands text c p ws (m ∷ os) → is_plain_value value ≡ true → Has text p value
+plain_alone : GapReads → (text : List ℕ) (c e : Cursor) (p : ℕ) (ws : List Word) (m : Last) (os : List Last) (value : List ℕ) → WordsStand text c p ws (m ∷ os) → is_plain_value value ≡ true → Has text p value
     → (is_bracket (byte text (p + length value)) || (byte text (p + length value) == 58 && is_blank_or_end text (p + length value + 1))) ≡ true → (e.column ≡ 0 → ⊥) → e.kept ≡ c.kept
-    → Stands text e (p + length value) (word_of kinds.Plain p (plain_said value no_gap p) ∷ ws) (plain_after m ∷ os)
+    → WordsStand text e (p + length value) (word_of kinds.Plain p (plain_said value no_gap p) ∷ ws) (plain_after m ∷ os)
 plain_alone law text c e p ws m os value s is here stop column kept =
     let q = p + length value in
     let z = none_far q in
     let ends = subst (λ r. ends_plain (nat_lt 0 (length (m ∷ os))) 0 text r ≡ true) (sym z) (in_flow m os text q stop) in
-    subst (λ r. Stands text e r (word_of kinds.Plain p (plain_said value no_gap p) ∷ ws) (plain_after m ∷ os)) z
+    subst (λ r. WordsStand text e r (word_of kinds.Plain p (plain_said value no_gap p) ∷ ws) (plain_after m ∷ os)) z
     (plain_here law text c e p ws (m ∷ os) value no_gap s is (alone text p value here) none_blank ends (λ z. absurd (column z)) kept)
 
 pub plain_walks : GapReads → (value : List ℕ) → is_plain_value value ≡ true → (m : Last) (os : List Last) (c : Cursor) (rest : Rest) → Closes rest

@@ -23,11 +23,11 @@ use Rattle.yaml_emit_laws_json.specs.emit_layout.emit_text.Layout.{Layout, Rest,
 use Rattle.yaml_emit_laws_json.specs.emit_layout.Nodes.{checked, deep_if, MOST}
 use Rattle.yaml_emit_laws_text.specs.Walk.{Left, Starts, Stage, bytes}
 use Rattle.yaml_emit_laws_text.proofs.Steps.{gap_here, line_here, deep_bytes, push_to, word_of}
-use Rattle.yaml_emit_laws_pretty.specs.Walk.{put_key, keyed_bodies, Stands, GoesOn, WalksTo, WalksIn}
+use Rattle.yaml_emit_laws_pretty.specs.Walk.{put_key, keyed_bodies, WordsStand, WordsGoOn, WalksTo, WalksIn}
 
 -- ---- layouts of gaps
 
-pub restage : (text : List ℕ) (c e : Cursor) (p q : ℕ) (ws : List Word) (ms : List Last) → Stands text c p ws ms → Stage text e q ws (length ms) → Stands text e q ws ms
+pub restage : (text : List ℕ) (c e : Cursor) (p q : ℕ) (ws : List Word) (ms : List Last) → WordsStand text c p ws ms → Stage text e q ws (length ms) → WordsStand text e q ws ms
 restage text c e p q ws ms s t = record { stage = t; last = s.last; keyed = s.keyed; near = s.near; more = s.more }
 
 pub walks_gap : (a : Layout) (B : List TokenBody → List TokenBody) (ms ns : List Last) (c : Cursor) (rest : Rest) → ((c : Cursor) → WalksTo a B ms ns c rest) → WalksTo (gap ▹ a) B ms ns c rest
@@ -104,14 +104,14 @@ pub record Pushed (text : List ℕ) (p : ℕ) (ms ns : List Last) (k : Kind) (sa
   pub fits : fits_keyed k ms ≡ true
   pub after : last_after k ms ≡ ns
 
-stage_of : GapReads → (text : List ℕ) (c e : Cursor) (p : ℕ) (ws : List Word) (ms ns : List Last) (k : Kind) (said : WordText) → Stands text c p ws ms → Pushed text p ms ns k said → (e.column ≡ 0 → Starts text said.reached) → e.kept ≡ c.kept
+stage_of : GapReads → (text : List ℕ) (c e : Cursor) (p : ℕ) (ws : List Word) (ms ns : List Last) (k : Kind) (said : WordText) → WordsStand text c p ws ms → Pushed text p ms ns k said → (e.column ≡ 0 → Starts text said.reached) → e.kept ≡ c.kept
     → Stage text e said.reached (word_of k p said ∷ ws) (length ns)
 stage_of law text c e p ws ms ns k said s w column kept =
     subst (λ (d : ℕ). Stage text e said.reached (word_of k p said ∷ ws) d) (last_depth k ms ∙ ap (λ (xs : List Last). length xs) w.after)
     (push_to law text c e p ws (length ms) k said s.stage w.begins w.kind w.reads w.more column kept)
 
-pub push_near : GapReads → (text : List ℕ) (c e : Cursor) (p : ℕ) (ws : List Word) (ms ns : List Last) (k : Kind) (said : WordText) → Stands text c p ws ms → Pushed text p ms ns k said → (e.column ≡ 0 → Starts text said.reached) → e.kept ≡ c.kept
-    → IsNear text (word_of k p said) ws → Stands text e said.reached (word_of k p said ∷ ws) ns
+pub push_near : GapReads → (text : List ℕ) (c e : Cursor) (p : ℕ) (ws : List Word) (ms ns : List Last) (k : Kind) (said : WordText) → WordsStand text c p ws ms → Pushed text p ms ns k said → (e.column ≡ 0 → Starts text said.reached) → e.kept ≡ c.kept
+    → IsNear text (word_of k p said) ws → WordsStand text e said.reached (word_of k p said ∷ ws) ns
 push_near law text c e p ws ms ns k said s w column kept near = record {
   stage = stage_of law text c e p ws ms ns k said s w column kept;
   last = last_more k (word_kinds ws) ms ns s.last w.after;
@@ -121,11 +121,11 @@ push_near law text c e p ws ms ns k said s w column kept near = record {
 }
 
 -- a word that takes no key
-pub push_word : GapReads → (text : List ℕ) (c e : Cursor) (p : ℕ) (ws : List Word) (ms ns : List Last) (k : Kind) (said : WordText) → Stands text c p ws ms → Pushed text p ms ns k said → (e.column ≡ 0 → Starts text said.reached) → e.kept ≡ c.kept
-    → takes_key k ms ≡ false → Stands text e said.reached (word_of k p said ∷ ws) ns
+pub push_word : GapReads → (text : List ℕ) (c e : Cursor) (p : ℕ) (ws : List Word) (ms ns : List Last) (k : Kind) (said : WordText) → WordsStand text c p ws ms → Pushed text p ms ns k said → (e.column ≡ 0 → Starts text said.reached) → e.kept ≡ c.kept
+    → takes_key k ms ≡ false → WordsStand text e said.reached (word_of k p said ∷ ws) ns
 push_word law text c e p ws ms ns k said s w column kept t = push_near law text c e p ws ms ns k said s w column kept (near_other text (word_of k p said) ws ms s.last t)
 
-pub word_bodies : (text : List ℕ) (c : Cursor) (p q : ℕ) (ws : List Word) (ms : List Last) (k : Kind) (said : WordText) → Stands text c q ws ms → takes_key k ms ≡ false → (bs : List TokenBody)
+pub word_bodies : (text : List ℕ) (c : Cursor) (p q : ℕ) (ws : List Word) (ms : List Last) (k : Kind) (said : WordText) → WordsStand text c q ws ms → takes_key k ms ≡ false → (bs : List TokenBody)
     → keyed_bodies false (word_of k p said ∷ ws) bs ≡ keyed_bodies false ws (said.body ∷ bs)
 word_bodies text c p q ws ms k said s t bs = other_bodies (word_of k p said) ws ms s.last t bs
 
@@ -134,8 +134,8 @@ word_bodies text c p q ws ms k said s t bs = other_bodies (word_of k p said) ws 
 near_key : (text : List ℕ) (k : Word) (q : ℕ) (said : WordText) (ws : List Word) → is_fresh (mark_at text k.place) (mark_at text q) ≡ true → IsNear text (word_of kinds.ValueMark q said) (k ∷ ws)
 near_key text k q said ws f = λ u. f
 
-pub push_key : GapReads → (text : List ℕ) (c e : Cursor) (q : ℕ) (k : Word) (ws : List Word) (ms : List Last) (said : WordText) → Stands text c q (k ∷ ws) (Held ∷ ms) → Pushed text q (Held ∷ ms) (Other ∷ ms) kinds.ValueMark said
-    → (e.column ≡ 0 → Starts text said.reached) → e.kept ≡ c.kept → is_fresh (mark_at text k.place) (mark_at text q) ≡ true → Stands text e said.reached (word_of kinds.ValueMark q said ∷ k ∷ ws) (Other ∷ ms)
+pub push_key : GapReads → (text : List ℕ) (c e : Cursor) (q : ℕ) (k : Word) (ws : List Word) (ms : List Last) (said : WordText) → WordsStand text c q (k ∷ ws) (Held ∷ ms) → Pushed text q (Held ∷ ms) (Other ∷ ms) kinds.ValueMark said
+    → (e.column ≡ 0 → Starts text said.reached) → e.kept ≡ c.kept → is_fresh (mark_at text k.place) (mark_at text q) ≡ true → WordsStand text e said.reached (word_of kinds.ValueMark q said ∷ k ∷ ws) (Other ∷ ms)
 push_key law text c e q k ws ms said s w column kept f = push_near law text c e q (k ∷ ws) (Held ∷ ms) (Other ∷ ms) kinds.ValueMark said s w column kept (near_key text k q said ws f)
 
 pub key_bodies : (q : ℕ) (k : Word) (ws : List Word) (ms ns : List Last) (said : WordText) → lasts (word_kinds (k ∷ ws)) ≡ Held ∷ ms → lasts (word_kinds ws) ≡ ns → takes_key k.kind ns ≡ false → (bs : List TokenBody)

@@ -33,14 +33,14 @@ use Rattle.yaml_emit_laws_json.specs.emit_layout.emit_text.declared.LineBreak.Th
 use Rattle.yaml_emit_laws_json.specs.emit_layout.emit_text.Text.{Item, letter}
 use Rattle.yaml_emit_laws_json.specs.emit_layout.emit_text.Layout.{Layout, Rest, ◌▹◌, stay, choose, char, letters, word, opener, blank, blanks, break, new_line, gap, line, wrap, is_past, must_break, indent_to, after_text}
 use Rattle.yaml_emit_laws_json.specs.emit_layout.emit_text.Quoted.{double_quoted}
-use Rattle.yaml_emit_laws_keys.specs.emit_laws_quoted.ReadBack.{between_quotes, IsReadBack}
+use Rattle.yaml_emit_laws_keys.specs.emit_laws_quoted.ReadBack.{between_quotes, ValueIsReadBack}
 use Rattle.yaml_emit_laws_keys.specs.emit_laws_quoted.Laws.{QuotedIsReadBack}
 use Rattle.yaml_emit_laws_keys.specs.Laws.{QuotedKeysAreNear}
 use Rattle.yaml_emit_laws_text.specs.Walk.{Has, Left, bytes, first}
 use Rattle.yaml_emit_laws_text.proofs.Places.{has_front, has_rest, has_both, has_at, left_first, left_more, left_rest}
 use Rattle.yaml_emit_laws_text.proofs.Steps.{Sign, sign_begins, sign_kind, word_of, left_letter, letter_low}
 use Rattle.yaml_emit_laws_text.proofs.Words.{sign, more_than, lettered_on, quote_sign, quote_word, quote_kind, named, front_encodes, quote_first, value_indicator, key_indicator, inside}
-use Rattle.yaml_emit_laws_pretty.specs.Walk.{keyed_bodies, Stands, GoesOn, WalksTo, WalksIn, closes, Closes}
+use Rattle.yaml_emit_laws_pretty.specs.Walk.{keyed_bodies, WordsStand, WordsGoOn, WalksTo, WalksIn, closes, Closes}
 use Rattle.yaml_emit_laws_pretty.proofs.Steps.{restage, walks_gap, Pushed, push_word, word_bodies, push_key, key_bodies}
 
 -- ---- words of one byte
@@ -137,8 +137,8 @@ colon_walks law m os f t c rest =
     (λ c. letter_walks law 58 kinds.ValueMark tokens.value (m ∷ os) (Other ∷ os) lettered_on (colon_is m os f) t (λ c z. more_than c.column z) (λ c. refl) (λ c. refl) c rest)
 
 -- directly behind its key
-pub colon_here : GapReads → (text : List ℕ) (c : Cursor) (q : ℕ) (k : Word) (ws : List Word) (os ns : List Last) (rest : Rest) → Stands text c q (k ∷ ws) (Held ∷ os) → lasts (word_kinds ws) ≡ ns → takes_key k.kind ns ≡ false → is_fresh (mark_at text k.place) (mark_at text q) ≡ true
-    → Left text q (bytes (char 58 c rest)) → GoesOn text rest (Other ∷ os) (λ bs. tokens.key ∷ k.said.body ∷ tokens.value ∷ bs) ws
+pub colon_here : GapReads → (text : List ℕ) (c : Cursor) (q : ℕ) (k : Word) (ws : List Word) (os ns : List Last) (rest : Rest) → WordsStand text c q (k ∷ ws) (Held ∷ os) → lasts (word_kinds ws) ≡ ns → takes_key k.kind ns ≡ false → is_fresh (mark_at text k.place) (mark_at text q) ≡ true
+    → Left text q (bytes (char 58 c rest)) → WordsGoOn text rest (Other ∷ os) (λ bs. tokens.key ∷ k.said.body ∷ tokens.value ∷ bs) ws
 colon_here law text c q k ws os ns rest s e t near l =
     let m = left_letter text q 58 (rest (lettered_on c)) refl l in
     let h = left_first text q 58 (bytes (rest (lettered_on c))) m in
@@ -159,12 +159,12 @@ abbrev quoted_said : List ℕ → ℕ → WordText
 quoted_said value q = record { body = tokens.scalar value YAML_DOUBLE_QUOTED_SCALAR_STYLE; end = q; reached = q; broke = false }
 
 -- it stands there
-record QuotedHere (text : List ℕ) (p : ℕ) (ms : List Last) (ws : List Word) (rest : Rest) (page : Page) (c : Cursor) (value : List ℕ) (r : IsReadBack double_quoted_at (between_quotes page (chars value)) c value) : Type 0 where
+record QuotedHere (text : List ℕ) (p : ℕ) (ms : List Last) (ws : List Word) (rest : Rest) (page : Page) (c : Cursor) (value : List ℕ) (r : ValueIsReadBack double_quoted_at (between_quotes page (chars value)) c value) : Type 0 where
   has : HasAt text p (encode_utf8_all r.letters)
-  stands : let q = p + length (encode_utf8_all r.letters) in Stands text r.behind q (word_of kinds.DoubleQuoted p (quoted_said value q) ∷ ws) (changed quoted_after ms)
+  stands : let q = p + length (encode_utf8_all r.letters) in WordsStand text r.behind q (word_of kinds.DoubleQuoted p (quoted_said value q) ∷ ws) (changed quoted_after ms)
   left : Left text (p + length (encode_utf8_all r.letters)) (bytes (rest r.behind))
 
-quoted_here : GapReads → (text : List ℕ) (p : ℕ) (ms : List Last) (ws : List Word) (rest : Rest) (page : Page) (c : Cursor) (value : List ℕ) (r : IsReadBack double_quoted_at (between_quotes page (chars value)) c value) → Stands text c p ws ms
+quoted_here : GapReads → (text : List ℕ) (p : ℕ) (ms : List Last) (ws : List Word) (rest : Rest) (page : Page) (c : Cursor) (value : List ℕ) (r : ValueIsReadBack double_quoted_at (between_quotes page (chars value)) c value) → WordsStand text c p ws ms
     → Left text p (bytes (between_quotes page (chars value) c rest)) → QuotedHere text p ms ws rest page c value r
 quoted_here law text p ms ws rest page c value r s l =
     let xs = r.letters in

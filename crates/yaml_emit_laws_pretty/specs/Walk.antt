@@ -24,7 +24,7 @@ keyed_bodies key (w ∷ ws) bs = keyed_bodies (takes_key w.kind (lasts (word_kin
 
 -- Words stand in the text up to a gap that goes up to the place, each key near its `:`; what came last
 -- in the open brackets is told.
-pub record Stands (text : List ℕ) (c : Cursor) (p : ℕ) (ws : List Word)
+pub record WordsStand (text : List ℕ) (c : Cursor) (p : ℕ) (ws : List Word)
     (ms : List Last) : Type 0 where
   pub stage : Stage text c p ws (length ms)
   pub last : lasts (word_kinds ws) ≡ ms
@@ -33,12 +33,12 @@ pub record Stands (text : List ℕ) (c : Cursor) (p : ℕ) (ws : List Word)
   pub more : list_all (λ (x : Word). not (is_end x.kind)) ws ≡ true
 
 -- Behind the words ws stand more, up to a place from which on the text goes on with `rest`.
-pub record GoesOn (text : List ℕ) (rest : Rest) (ms : List Last)
+pub record WordsGoOn (text : List ℕ) (rest : Rest) (ms : List Last)
     (B : List TokenBody → List TokenBody) (ws : List Word) : Type 0 where
   pub behind : Cursor
   pub place : ℕ
   pub words : List Word
-  pub stands : Stands text behind place words ms
+  pub stands : WordsStand text behind place words ms
   pub left : Left text place (bytes (rest behind))
   pub bodies : (bs : List TokenBody) → keyed_bodies false words bs ≡ keyed_bodies false ws (B bs)
   pub bare : behind.bare ≡ false
@@ -46,14 +46,14 @@ pub record GoesOn (text : List ℕ) (rest : Rest) (ms : List Last)
 -- Where a text goes on as the layout does and then as `rest`, these tokens come.
 abbrev pub WalksTo : Layout → (List TokenBody → List TokenBody) → List Last → List Last → Cursor
     → Rest → Type 0
-WalksTo a B ms ns c rest = (text : List ℕ) (p : ℕ) (ws : List Word) → Stands text c p ws ms
-    → Left text p (bytes (a c rest)) → GoesOn text rest ns B ws
+WalksTo a B ms ns c rest = (text : List ℕ) (p : ℕ) (ws : List Word) → WordsStand text c p ws ms
+    → Left text p (bytes (a c rest)) → WordsGoOn text rest ns B ws
 
 -- Behind them something came last in the innermost bracket.
 abbrev pub WalksIn : Layout → (List TokenBody → List TokenBody) → List Last → List Last → Cursor
     → Rest → Type 0
-WalksIn a B ms os c rest = (text : List ℕ) (p : ℕ) (ws : List Word) → Stands text c p ws ms
-    → Left text p (bytes (a c rest)) → (m : Last) × GoesOn text rest (m ∷ os) B ws
+WalksIn a B ms os c rest = (text : List ℕ) (p : ℕ) (ws : List Word) → WordsStand text c p ws ms
+    → Left text p (bytes (a c rest)) → (m : Last) × WordsGoOn text rest (m ∷ os) B ws
 
 -- what follows a plain scalar in brackets begins with a comma or a closing bracket
 abbrev pub closes : ℕ → Bool

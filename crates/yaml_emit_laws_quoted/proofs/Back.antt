@@ -15,10 +15,10 @@ use Rattle.yaml_emit_text.specs.Layout.{Layout, ◌▹◌, choose, char, nothing
 use Rattle.yaml_emit_text.specs.declared.page.Page.{Page}
 use Rattle.yaml_emit_text.specs.Quoted.{is_empty, may_fold, fold as fold_layout, escaped, quoted_char, quoted_body, double_quoted}
 use Rattle.yaml_emit_text.specs.Spelling as emitted
-use Rattle.yaml_emit_text.specs.Spelling.{in_front, Spells, QuotedSpells}
+use Rattle.yaml_emit_text.specs.Spelling.{in_front, WritesSpelling, QuotedSpells}
 use Rattle.yaml_emit_laws_quoted.specs.Stands.{HasAt}
 use Rattle.yaml_emit_laws_quoted.specs.Spelling.{spelling, meaning, quoted}
-use Rattle.yaml_emit_laws_quoted.specs.ReadBack.{IsReadBack, between_quotes, gap_width}
+use Rattle.yaml_emit_laws_quoted.specs.ReadBack.{ValueIsReadBack, between_quotes, gap_width}
 use Rattle.yaml_emit_laws_quoted.proofs.Values.{cond_false}
 use Rattle.yaml_emit_laws_quoted.proofs.Parts.{spelling_reads}
 use Rattle.yaml_emit_laws_quoted.proofs.Escapes.{low_encodes, parts_of}
@@ -43,11 +43,11 @@ body_flat page before (x ∷ xs) e =
     ap (λ (a : Layout). a ▹ quoted_body (flat page) x xs) (char_escaped (flat page) before x xs e ∙ sym (char_escaped page before x xs e))
     ∙ ap (λ (a : Layout). quoted_char page before x xs ▹ a) (body_flat page x xs e)
 
-body_spells : QuotedSpells → (page : Page) (c : Cursor) (cs : List ℕ) → all_scalars cs ≡ true → (page.cuts ≡ true → 0 < page.indentation) → Spells (quoted_body page 32 cs) c cs
+body_spells : QuotedSpells → (page : Page) (c : Cursor) (cs : List ℕ) → all_scalars cs ≡ true → (page.cuts ≡ true → 0 < page.indentation) → WritesSpelling (quoted_body page 32 cs) c cs
 body_spells law page c cs good deep =
     elim (cases_Bool page.cuts) [
       | inl e ↦ law page c cs good (deep e)
-      | inr e ↦ subst (λ (a : Layout). Spells a c cs) (body_flat page 32 cs e) (law (flat page) c cs good (omega arith))
+      | inr e ↦ subst (λ (a : Layout). WritesSpelling a c cs) (body_flat page 32 cs e) (law (flat page) c cs good (omega arith))
     ]
 
 -- ---- characters and bytes
@@ -102,7 +102,7 @@ moved_on : (n : ℕ) → n + 1 ≡ 0 → ⊥
 moved_on n e = omega arith
 
 pub quoted_back : QuotedSpells → (page : Page) (c : Cursor) (value : List ℕ) → IsUtf8 value → (page.cuts ≡ true → 0 < page.indentation)
-    → IsReadBack double_quoted_at (between_quotes page (chars value)) c value
+    → ValueIsReadBack double_quoted_at (between_quotes page (chars value)) c value
 quoted_back law page c value u deep =
     let s = body_spells law page (moved_by c) (chars value) (scalars-chars value u) deep in
     let mine = parts_of (emitted.raw 32) s.parts s.right in
@@ -130,7 +130,7 @@ quoted_back law page c value u deep =
 stands_behind : (text : List ℕ) (p x : ℕ) (xs : List ℕ) → HasAt text p (x ∷ xs) → HasAt text (p + 1) xs
 stands_behind text p x xs h = λ k l. let e : p + 1 + k ≡ p + suc k = omega arith in ap (λ q. byte text q) e ∙ h (suc k) (omega arith)
 
-read_white : (a : Layout) (c : Cursor) (value text : List ℕ) (p : ℕ) → IsReadBack double_quoted_at a c value → HasAt text p (encode Utf8 (a c nothing_more))
+read_white : (a : Layout) (c : Cursor) (value text : List ℕ) (p : ℕ) → ValueIsReadBack double_quoted_at a c value → HasAt text p (encode Utf8 (a c nothing_more))
     → double_quoted_at text (p + 0) ≡ Ok (value, p + length (encode Utf8 (a c nothing_more)))
 read_white a c value text p b h =
     let all : encode Utf8 (a c nothing_more) ≡ encode_utf8_all b.letters = ap (encode Utf8) (b.written nothing_more) ∙ alone_encodes b.letters in
@@ -142,7 +142,7 @@ space_encodes : (t : List Item) → encode Utf8 (letter 32 ∷ t) ≡ 32 ∷ enc
 unfolding encode
 space_encodes t = ap (λ b. b ++ encode Utf8 t) (char_encodes 32 ∙ encode_ascii 32 (omega arith))
 
-read_spaced : (a : Layout) (c d : Cursor) (value text : List ℕ) (p : ℕ) → IsReadBack double_quoted_at a d value → HasAt text p (encode Utf8 (letter 32 ∷ a d nothing_more))
+read_spaced : (a : Layout) (c d : Cursor) (value text : List ℕ) (p : ℕ) → ValueIsReadBack double_quoted_at a d value → HasAt text p (encode Utf8 (letter 32 ∷ a d nothing_more))
     → double_quoted_at text (p + 1) ≡ Ok (value, p + length (encode Utf8 (letter 32 ∷ a d nothing_more)))
 read_spaced a c d value text p b h =
     let all : encode Utf8 (letter 32 ∷ a d nothing_more) ≡ 32 ∷ encode_utf8_all b.letters =

@@ -9,7 +9,7 @@ use Rattle.yaml_emit_text.specs.declared.LineBreak.{LineBreak}
 use Rattle.yaml_emit_text.specs.declared.LineBreak.TheVariants.{Lf, Cr, CrLf}
 use Rattle.yaml_emit_text.specs.Quoted.{escape_letter, escape_text, hex_2, hex_4, hex_8, hex_digit as digit_of}
 use Rattle.yaml_emit_text.specs.Spelling as emitted
-use Rattle.yaml_emit_laws_quoted.specs.Spelling.{LineEnd, feed, return, return_feed, turn_bytes, turn_means, may_turn, Part, raw, named, numbered, fold, spelled, meant, spelling, meaning, number_behind, may_be_raw, MayStand, is_raw_blank, is_fold, is_turn, may_follow, may_be_next, IsSpelling}
+use Rattle.yaml_emit_laws_quoted.specs.Spelling.{LineEnd, feed, return, return_feed, turn_bytes, turn_means, may_turn, QuotedPart, raw, named, numbered, fold, spelled, meant, spelling, meaning, number_behind, may_be_raw, MayStand, is_raw_blank, is_fold, is_turn, may_follow, may_be_next, IsSpelling}
 use Rattle.yaml_emit_laws_quoted.proofs.Bytes.{and_left, and_right, not_true, or_left, or_right, differs, AreCalm, calm_from, digit_calm, named_is}
 
 -- ---- digits
@@ -197,8 +197,8 @@ spaces_low (suc n) = (omega arith, spaces_low n)
 -- ---- parts
 
 -- a reader's part for one that is written
-record PartOf (x : emitted.Part) : Type 0 where
-  part : Part
+record PartOf (x : emitted.SpelledPart) : Type 0 where
+  part : QuotedPart
   stand : MayStand 34 part
   bytes : encode_utf8_all (emitted.spelled x) ≡ spelled part
   means : meant part ≡ encode_utf8 (emitted.meant x)
@@ -339,7 +339,7 @@ fold_may : (b : LineBreak) (n : ℕ) → nat_lt 0 n ≡ true → MayStand 34 (fo
 unfolding may_turn
 fold_may b n h = h
 
-part_of : (x : emitted.Part) → emitted.may_stand x ≡ true → PartOf x
+part_of : (x : emitted.SpelledPart) → emitted.may_stand x ≡ true → PartOf x
 part_of (emitted.raw c) s = record { part = raw c; stand = raw_may c s; bytes = append-nil (encode_utf8 c); means = refl; folds = refl; turns = refl; blank = refl }
 part_of (emitted.escape c) s = escape_part c s
 part_of emitted.escaped_space s = record {
@@ -362,12 +362,12 @@ part_of (emitted.fold b n) s = record {
 }
 
 -- all of them, behind one
-pub record PartsOf (before : emitted.Part) (xs : List emitted.Part) : Type 0 where
-  pub parts : List Part
+pub record PartsOf (before : emitted.SpelledPart) (xs : List emitted.SpelledPart) : Type 0 where
+  pub parts : List QuotedPart
   pub right : IsSpelling 34 parts
   pub bytes : encode_utf8_all (emitted.spelling xs) ≡ spelling parts
   pub means : meaning parts ≡ encode_utf8_all (emitted.meaning xs)
-  pub next : (p : Part) → is_turn p ≡ emitted.is_fold before → is_raw_blank p ≡ emitted.is_raw_blank before → may_be_next p parts ≡ true
+  pub next : (p : QuotedPart) → is_turn p ≡ emitted.is_fold before → is_raw_blank p ≡ emitted.is_raw_blank before → may_be_next p parts ≡ true
 
 follow_test : (fq bp fp bq : Bool) → (not (fq && (bp || fp)) && not (fp && bq)) ≡ true → (not (fq && (bp || fp)) && not (bq && fp)) ≡ true
 follow_test fq bp true true h = h
@@ -375,11 +375,11 @@ follow_test fq bp true false h = h
 follow_test fq bp false true h = h
 follow_test fq bp false false h = h
 
-follow_is : (x y : emitted.Part) (p q : Part) → emitted.may_follow x y ≡ true → is_turn p ≡ emitted.is_fold x → is_raw_blank p ≡ emitted.is_raw_blank x → is_fold q ≡ emitted.is_fold y → is_raw_blank q ≡ emitted.is_raw_blank y
+follow_is : (x y : emitted.SpelledPart) (p q : QuotedPart) → emitted.may_follow x y ≡ true → is_turn p ≡ emitted.is_fold x → is_raw_blank p ≡ emitted.is_raw_blank x → is_fold q ≡ emitted.is_fold y → is_raw_blank q ≡ emitted.is_raw_blank y
     → may_follow p q ≡ true
 follow_is x y p q h a b d e = rw (a, b, d, e) (follow_test (emitted.is_fold y) (emitted.is_raw_blank x) (emitted.is_fold x) (emitted.is_raw_blank y) h)
 
-pub parts_of : (before : emitted.Part) (xs : List emitted.Part) → emitted.IsSpelling before xs → PartsOf before xs
+pub parts_of : (before : emitted.SpelledPart) (xs : List emitted.SpelledPart) → emitted.IsSpelling before xs → PartsOf before xs
 unfolding emitted.IsSpelling emitted.spelling emitted.meaning IsSpelling spelling meaning
 parts_of before [] h = record { parts = []; right = tt; bytes = refl; means = refl; next = λ p a b. refl }
 parts_of before (x ∷ xs) (follow, stand, more) =

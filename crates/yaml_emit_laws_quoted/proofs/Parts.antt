@@ -10,7 +10,7 @@ use Rattle.yaml_scan_scalars.specs.scan_model.Wrong.{Wrong}
 use Rattle.yaml_scan_scalars.specs.Pieces.{Piece, Kept, Blank, value}
 use Rattle.yaml_scan_scalars.specs.Quoted.{Standing, Closing, Pieces, Bad, quote_at, standing_at, with_front, followed, pieces, valued, quoted_at, double_quoted_at, single_quoted_at}
 use Rattle.yaml_emit_laws_quoted.specs.Stands.{HasAt}
-use Rattle.yaml_emit_laws_quoted.specs.Spelling.{Part, raw, doubled, named, numbered, fold, joint, spelled, spelling, meaning, is_line_end, may_be_raw, MayStand, IsSpelling, quoted}
+use Rattle.yaml_emit_laws_quoted.specs.Spelling.{QuotedPart, raw, doubled, named, numbered, fold, joint, spelled, spelling, meaning, is_line_end, may_be_raw, MayStand, IsSpelling, quoted}
 use Rattle.yaml_emit_laws_quoted.proofs.Chars.{encode_1}
 use Rattle.yaml_emit_laws_quoted.proofs.Values.{read_as, all_read_as, read_blank, read_kept, spelling_value}
 use Rattle.yaml_emit_laws_quoted.proofs.Bytes.{and_left, and_right, not_true, or_left, or_right, apart, differs, same_test, IsQuote, quote_some, calm_end, calm_from, Has}
@@ -72,7 +72,7 @@ doubled_through text p c (e, (f, u)) =
 
 -- ---- parts
 
-part_through : (quote : ℕ) (text : List ℕ) (p : ℕ) (x : Part) → IsQuote quote → MayStand quote x → 0 < column_at text p → Has text p (spelled x) → Through quote text p (read_as x) (p + length (spelled x))
+part_through : (quote : ℕ) (text : List ℕ) (p : ℕ) (x : QuotedPart) → IsQuote quote → MayStand quote x → 0 < column_at text p → Has text p (spelled x) → Through quote text p (read_as x) (p + length (spelled x))
 part_through quote text p (raw c) q s col h = raw_part quote text p c q s col h
 part_through quote text p doubled q s col h = subst (λ k. Through k text p (Kept (39 ∷ []) ∷ []) (p + 2)) (sym s) (doubled_through text p col h)
 part_through quote text p (named b bs) q (s, n) col h = subst (λ k. Through k text p (Kept bs ∷ []) (p + 2)) (sym s) (named_through text p b bs col n h)
@@ -94,7 +94,7 @@ unfolding pieces
 read_close quote text p s = record { fuel = 1; few = omega arith; gives = rw s refl }
 
 -- a spelling and a closing quote
-parts_read : (quote : ℕ) (ps : List Part) (text : List ℕ) (p : ℕ) → IsQuote quote → IsSpelling quote ps → 0 < column_at text p → Has text p (spelling ps ++ quote ∷ [])
+parts_read : (quote : ℕ) (ps : List QuotedPart) (text : List ℕ) (p : ℕ) → IsQuote quote → IsSpelling quote ps → 0 < column_at text p → Has text p (spelling ps ++ quote ∷ [])
     → quote_at quote text (p + length (spelling ps)) ≡ Closing → Read quote text p (all_read_as ps) (p + length (spelling ps) + 1)
 unfolding IsSpelling all_read_as spelling
 parts_read quote [] text p q s c h k =
@@ -143,7 +143,7 @@ quote_starts : (quote : ℕ) → IsQuote quote → starts quote ≡ true
 quote_starts quote (inl e) = rw e refl
 quote_starts quote (inr e) = rw e refl
 
-quoted_reads : (quote : ℕ) (ps : List Part) (text : List ℕ) (p : ℕ) → IsQuote quote → IsSpelling quote ps → HasAt text p (quoted quote ps)
+quoted_reads : (quote : ℕ) (ps : List QuotedPart) (text : List ℕ) (p : ℕ) → IsQuote quote → IsSpelling quote ps → HasAt text p (quoted quote ps)
     → quote_at quote text (p + 1 + length (spelling ps)) ≡ Closing
     → quoted_at quote text p ≡ Ok (meaning ps, p + length (quoted quote ps))
 quoted_reads quote ps text p q s at k =
@@ -165,11 +165,11 @@ single_closing : (text : List ℕ) (p : ℕ) → (byte text (p + 1) == 39) ≡ f
 unfolding quote_at
 single_closing text p n = rw n refl
 
-pub spelling_reads : (parts : List Part) (text : List ℕ) (p : ℕ) → IsSpelling 34 parts → HasAt text p (quoted 34 parts)
+pub spelling_reads : (parts : List QuotedPart) (text : List ℕ) (p : ℕ) → IsSpelling 34 parts → HasAt text p (quoted 34 parts)
     → double_quoted_at text p ≡ Ok (meaning parts, p + length (quoted 34 parts))
 spelling_reads parts text p s at = quoted_reads 34 parts text p (inl refl) s at (double_closing text _)
 
-pub single_spelling_reads : (parts : List Part) (text : List ℕ) (p : ℕ) → IsSpelling 39 parts → HasAt text p (quoted 39 parts)
+pub single_spelling_reads : (parts : List QuotedPart) (text : List ℕ) (p : ℕ) → IsSpelling 39 parts → HasAt text p (quoted 39 parts)
     → (byte text (p + length (quoted 39 parts)) ≡ 39 → ⊥)
     → single_quoted_at text p ≡ Ok (meaning parts, p + length (quoted 39 parts))
 single_spelling_reads parts text p s at n =

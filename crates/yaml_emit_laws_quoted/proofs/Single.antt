@@ -17,8 +17,8 @@ use Rattle.yaml_emit_text.specs.Scalars.{cuts_at, text_char, flow_char, flow_bod
 use Rattle.yaml_emit_text.specs.Spelling.{in_front, break_text}
 use Rattle.yaml_emit_text.specs.Style.{somewhere, is_special, is_break_space, allowed}
 use Rattle.yaml_emit_laws_quoted.specs.Stands.{HasAt}
-use Rattle.yaml_emit_laws_quoted.specs.Spelling.{Part, raw, doubled, fold, may_turn, may_be_raw, MayStand, spelled, meant, spelling, meaning, is_raw_blank, is_fold, is_turn, may_follow, may_be_next, IsSpelling, quoted}
-use Rattle.yaml_emit_laws_quoted.specs.ReadBack.{IsReadBackBefore, between_single, is_one_line}
+use Rattle.yaml_emit_laws_quoted.specs.Spelling.{QuotedPart, raw, doubled, fold, may_turn, may_be_raw, MayStand, spelled, meant, spelling, meaning, is_raw_blank, is_fold, is_turn, may_follow, may_be_next, IsSpelling, quoted}
+use Rattle.yaml_emit_laws_quoted.specs.ReadBack.{ValueIsReadBackBefore, between_single, is_one_line}
 use Rattle.yaml_emit_laws_quoted.proofs.Values.{cond_true, cond_false}
 use Rattle.yaml_emit_laws_quoted.proofs.Bytes.{and_left, and_right, not_true, or_left, or_right, differs, apart}
 use Rattle.yaml_emit_laws_quoted.proofs.Parts.{single_spelling_reads}
@@ -117,8 +117,8 @@ doubled_is : (page : Page) (b : Bool) (x : ℕ) (c : Cursor) (rest : Rest) → b
 doubled_is page true x c rest e q = absurd (cc)
 doubled_is page false x c rest e q = ap (λ t. when t (char 39) c (λ d. char x d rest)) q
 
-record Step (page : Page) (before x : ℕ) (xs : List ℕ) (c : Cursor) (last : Part) : Type 0 where
-  part : Part
+record Step (page : Page) (before x : ℕ) (xs : List ℕ) (c : Cursor) (last : QuotedPart) : Type 0 where
+  part : QuotedPart
   letters : List ℕ
   after : Cursor
   stand : MayStand 39 part
@@ -131,7 +131,7 @@ record Step (page : Page) (before x : ℕ) (xs : List ℕ) (c : Cursor) (last : 
   bare : (x == 32) ≡ false → after.bare ≡ false
 
 -- how the last part stands to the character before
-record Behind (before : ℕ) (c : Cursor) (last : Part) (value : List ℕ) : Type 0 where
+record Behind (before : ℕ) (c : Cursor) (last : QuotedPart) (value : List ℕ) : Type 0 where
   inside : is_break before ≡ false
   blank : is_raw_blank last ≡ true → before ≡ 32
   turn : is_turn last ≡ true → (before ≡ 32) × ((first value == 32) ≡ false)
@@ -165,20 +165,20 @@ cut_needs page before x xs e =
     let d = and_right (not (before == 32)) _ b in
     record { cuts = and_left page.cuts _ e; space = equal_from x 32 (and_left (x == 32) _ a); behind = not_true (before == 32) (and_left (not (before == 32)) _ b); next = not_true (first xs == 32) (and_left (not (first xs == 32)) _ d) }
 
-fold_follows : (last q : Part) → is_fold q ≡ true → is_raw_blank q ≡ false → is_raw_blank last ≡ false → is_turn last ≡ false → may_follow last q ≡ true
+fold_follows : (last q : QuotedPart) → is_fold q ≡ true → is_raw_blank q ≡ false → is_raw_blank last ≡ false → is_turn last ≡ false → may_follow last q ≡ true
 fold_follows last q a b d e = rw (a, b, d, e) refl
 
-other_follows : (last q : Part) → is_fold q ≡ false → is_raw_blank q ≡ false → may_follow last q ≡ true
+other_follows : (last q : QuotedPart) → is_fold q ≡ false → is_raw_blank q ≡ false → may_follow last q ≡ true
 other_follows last q a b = rw (a, b) refl
 
-blank_follows : (last q : Part) → is_fold q ≡ false → is_turn last ≡ false → may_follow last q ≡ true
+blank_follows : (last q : QuotedPart) → is_fold q ≡ false → is_turn last ≡ false → may_follow last q ≡ true
 blank_follows last q a e = rw (a, e) (no_and (is_raw_blank q))
   where
     no_and : (b : Bool) → not (b && false) ≡ true
     no_and true = refl
     no_and false = refl
 
-step_cut : (page : Page) (before x : ℕ) (xs : List ℕ) (c : Cursor) (last : Part) → (page.cuts ≡ true → 0 < page.indentation) → Shows x → Behind before c last (x ∷ xs) → cuts_at page before x xs ≡ true → is_past page.width c ≡ true → Step page before x xs c last
+step_cut : (page : Page) (before x : ℕ) (xs : List ℕ) (c : Cursor) (last : QuotedPart) → (page.cuts ≡ true → 0 < page.indentation) → Shows x → Behind before c last (x ∷ xs) → cuts_at page before x xs ≡ true → is_past page.width c ≡ true → Step page before x xs c last
 step_cut page before x xs c last deep s h m p =
     let needs = cut_needs page before x xs m in
     let n = page.indentation in
@@ -198,7 +198,7 @@ step_cut page before x xs c last deep s h m p =
       bare = λ f. absurd (cc (sym (ap (λ k. k == 32) needs.space) ∙ f));
     }
 
-step_doubled : (page : Page) (before x : ℕ) (xs : List ℕ) (c : Cursor) (last : Part) → Shows x → Behind before c last (x ∷ xs) → (x == 39) ≡ true → cuts_at page before x xs ≡ false → Step page before x xs c last
+step_doubled : (page : Page) (before x : ℕ) (xs : List ℕ) (c : Cursor) (last : QuotedPart) → Shows x → Behind before c last (x ∷ xs) → (x == 39) ≡ true → cuts_at page before x xs ≡ false → Step page before x xs c last
 unfolding in_front
 step_doubled page before x xs c last s h q m =
     let same = equal_from x 39 q in
@@ -217,7 +217,7 @@ step_doubled page before x xs c last s h q m =
       bare = λ f. refl;
     }
 
-step_raw : (page : Page) (before x : ℕ) (xs : List ℕ) (c : Cursor) (last : Part) → Shows x → Behind before c last (x ∷ xs) → (x == 39) ≡ false → (cuts_at page before x xs && is_past page.width c) ≡ false → Step page before x xs c last
+step_raw : (page : Page) (before x : ℕ) (xs : List ℕ) (c : Cursor) (last : QuotedPart) → Shows x → Behind before c last (x ∷ xs) → (x == 39) ≡ false → (cuts_at page before x xs && is_past page.width c) ≡ false → Step page before x xs c last
 unfolding in_front
 step_raw page before x xs c last s h q m = record {
   part = raw x;
@@ -241,7 +241,7 @@ quote_uncut page before x xs q =
     (λ t. let needs = cut_needs page before x xs t in absurd (cc (sym (ap (λ k. k == 39) needs.space) ∙ q)))
     (λ f. f)
 
-step : (page : Page) (before x : ℕ) (xs : List ℕ) (c : Cursor) (last : Part) → (page.cuts ≡ true → 0 < page.indentation) → Shows x → Behind before c last (x ∷ xs) → Step page before x xs c last
+step : (page : Page) (before x : ℕ) (xs : List ℕ) (c : Cursor) (last : QuotedPart) → (page.cuts ≡ true → 0 < page.indentation) → Shows x → Behind before c last (x ∷ xs) → Step page before x xs c last
 step page before x xs c last deep s h =
     bool_cases (x == 39)
     (λ q. step_doubled page before x xs c last s h q (quote_uncut page before x xs q))
@@ -255,8 +255,8 @@ abbrev AllShow : List ℕ → Type 0
 AllShow [] = Unit {0}
 AllShow (x ∷ xs) = Shows x × AllShow xs
 
-record Left (page : Page) (before : ℕ) (c : Cursor) (last : Part) (value : List ℕ) : Type 0 where
-  parts : List Part
+record Left (page : Page) (before : ℕ) (c : Cursor) (last : QuotedPart) (value : List ℕ) : Type 0 where
+  parts : List QuotedPart
   letters : List ℕ
   behind : Cursor
   right : IsSpelling 39 parts
@@ -265,7 +265,7 @@ record Left (page : Page) (before : ℕ) (c : Cursor) (last : Part) (value : Lis
   bytes : encode_utf8_all letters ≡ spelling parts
   means : meaning parts ≡ encode_utf8_all value
 
-left : (page : Page) (before : ℕ) (c : Cursor) (last : Part) (value : List ℕ) → (page.cuts ≡ true → 0 < page.indentation) → AllShow value → Behind before c last value → Left page before c last value
+left : (page : Page) (before : ℕ) (c : Cursor) (last : QuotedPart) (value : List ℕ) → (page.cuts ≡ true → 0 < page.indentation) → AllShow value → Behind before c last value → Left page before c last value
 unfolding flow_body in_front IsSpelling spelling meaning
 left page before c last [] deep a h = record {
   parts = [];
@@ -330,7 +330,7 @@ start_behind : (c : Cursor) (value : List ℕ) → Behind 32 (moved_by c) double
 start_behind c value = record { inside = refl; blank = λ t. absurd (cc); turn = λ t. absurd (cc); bare = λ f. refl }
 
 pub single_back : (page : Page) (c : Cursor) (value : List ℕ) → IsUtf8 value → (page.cuts ≡ true → 0 < page.indentation) → (allowed page.unicode (chars value)).single ≡ true → is_one_line (chars value) ≡ true
-    → IsReadBackBefore (λ b. b ≡ 39 → ⊥) single_quoted_at (between_single page (chars value)) c value
+    → ValueIsReadBackBefore (λ b. b ≡ 39 → ⊥) single_quoted_at (between_single page (chars value)) c value
 single_back page c value u deep a l =
     let good = all_show page.unicode 32 (chars value) (no_special page.unicode (chars value) a) l (scalars-chars value u) in
     let r = left page 32 (moved_by c) doubled (chars value) deep good (start_behind c (chars value)) in

@@ -7,7 +7,7 @@ use Rattle.yaml_scan_scalars.specs.scan_model.Marks.{byte, break_of, break_width
 use Rattle.yaml_scan_scalars.specs.scan_model.Breaks.{break_value, is_document_indicator}
 use Rattle.yaml_scan_scalars.specs.Pieces.{Piece, Kept, Blank, Break}
 use Rattle.yaml_scan_scalars.specs.Quoted.{Pieces, hex_value, hex_len, simple_escape, is_scalar, escape_at, standing_at}
-use Rattle.yaml_emit_laws_quoted.specs.Spelling.{LineEnd, feed, return, return_feed, next_line, line_separator, paragraph_separator, end_bytes, end_means, Turn, turn_bytes, is_return, is_feed_end, may_turn, number_behind}
+use Rattle.yaml_emit_laws_quoted.specs.Spelling.{LineEnd, feed, return, return_feed, next_line, line_separator, paragraph_separator, end_bytes, end_means, LineTurn, turn_bytes, is_return, is_feed_end, may_turn, number_behind}
 use Rattle.yaml_emit_laws_quoted.proofs.Values.{blanks_of, turns_read, turn_read}
 use Rattle.yaml_emit_laws_quoted.proofs.Bytes.{and_left, and_right, not_true, IsQuote, no_quote, Calm, AreCalm, calm_end, calm_break, calm_from, hex_start, Has, digits, named_is, number_calm}
 use Rattle.yaml_emit_laws_quoted.proofs.Reading.{has_front, has_rest, Read, Through, read_step, through_one, through_at, in_line, no_mark, column_more, space_standing, space_column}
@@ -133,10 +133,10 @@ end_first text p line_separator xs f (e, h) = rw e refl
 end_first text p paragraph_separator xs f (e, h) = rw e refl
 
 -- the spaces of a turn, and those behind it
-abbrev after_end : Turn → List Turn → List ℕ
+abbrev after_end : LineTurn → List LineTurn → List ℕ
 after_end t ts = replicate t.spaces 32 ++ turn_bytes ts
 
-no_split : (text : List ℕ) (p n : ℕ) (r : LineEnd) (ts : List Turn) → is_return r ≡ true → may_turn (record { end = r; spaces = n }) ts ≡ true → Has text p (replicate n 32 ++ turn_bytes ts) → (byte text p == 10) ≡ false
+no_split : (text : List ℕ) (p n : ℕ) (r : LineEnd) (ts : List LineTurn) → is_return r ≡ true → may_turn (record { end = r; spaces = n }) ts ≡ true → Has text p (replicate n 32 ++ turn_bytes ts) → (byte text p == 10) ≡ false
 unfolding may_turn turn_bytes
 no_split text p (suc n) r ts i m h = spaces_first text p n (turn_bytes ts) h
 no_split text p zero r [] i m h = absurd (cc)
@@ -146,7 +146,7 @@ no_split text p zero r (u ∷ us) i m h =
     end_first text p u.end (after_end u us) b h
 
 -- the byte behind CR
-behind_end : (text : List ℕ) (p : ℕ) (t : Turn) (ts : List Turn) → may_turn t ts ≡ true → Has text p (turn_bytes (t ∷ ts)) → is_return t.end ≡ true → (byte text (p + 1) == 10) ≡ false
+behind_end : (text : List ℕ) (p : ℕ) (t : LineTurn) (ts : List LineTurn) → may_turn t ts ≡ true → Has text p (turn_bytes (t ∷ ts)) → is_return t.end ≡ true → (byte text (p + 1) == 10) ≡ false
 unfolding turn_bytes
 behind_end text p t ts m h i =
     no_split text (p + 1) t.spaces t.end ts i m (behind_return text p t.end (after_end t ts) i h)
@@ -159,7 +159,7 @@ behind_end text p t ts m h i =
     behind_return text p line_separator xs i h = absurd (cc)
     behind_return text p paragraph_separator xs i h = absurd (cc)
 
-turn_at : (text : List ℕ) (p : ℕ) (t : Turn) (ts : List Turn) → may_turn t ts ≡ true → Has text p (turn_bytes (t ∷ ts)) → EndAt text p t.end
+turn_at : (text : List ℕ) (p : ℕ) (t : LineTurn) (ts : List LineTurn) → may_turn t ts ≡ true → Has text p (turn_bytes (t ∷ ts)) → EndAt text p t.end
 unfolding turn_bytes
 turn_at text p t ts m h = end_at text p t.end (has_front text p (end_bytes t.end) (after_end t ts) h) (behind_end text p t ts m h)
 
@@ -182,7 +182,7 @@ length_spaces zero = refl
 length_spaces (suc n) = ap (λ k. suc k) (length_spaces n)
 
 -- behind the end of a line
-abbrev pub tail_read : Turn → List Turn → List Piece
+abbrev pub tail_read : LineTurn → List LineTurn → List Piece
 tail_read t ts = blanks_of t.spaces ++ turns_read ts
 
 last_through : (quote : ℕ) (text : List ℕ) (r n : ℕ) → IsQuote quote → nat_lt 0 n ≡ true → Has text r (replicate n 32) → Through quote text r (blanks_of n) (r + n)
@@ -192,7 +192,7 @@ last_through quote text r (suc n) q m h = record {
   column = spaces_column text r n h;
 }
 
-tail_through : (quote : ℕ) (text : List ℕ) (r : ℕ) (t : Turn) (ts : List Turn) → IsQuote quote → may_turn t ts ≡ true → Has text r (after_end t ts)
+tail_through : (quote : ℕ) (text : List ℕ) (r : ℕ) (t : LineTurn) (ts : List LineTurn) → IsQuote quote → may_turn t ts ≡ true → Has text r (after_end t ts)
     → Through quote text r (tail_read t ts) (r + length (after_end t ts))
 unfolding may_turn turn_bytes turns_read
 tail_through quote text r t [] q m h =
@@ -222,7 +222,7 @@ tail_through quote text r t (u ∷ us) q m h =
     })
 
 -- a step before the tail
-first_through : (quote : ℕ) (text : List ℕ) (p s : ℕ) (qs : List Piece) (t : Turn) (ts : List Turn) → IsQuote quote → may_turn t ts ≡ true → standing_at quote text p ≡ Pieces qs s → p < s → Has text s (after_end t ts)
+first_through : (quote : ℕ) (text : List ℕ) (p s : ℕ) (qs : List Piece) (t : LineTurn) (ts : List LineTurn) → IsQuote quote → may_turn t ts ≡ true → standing_at quote text p ≡ Pieces qs s → p < s → Has text s (after_end t ts)
     → Through quote text p (qs ++ tail_read t ts) (s + length (after_end t ts))
 first_through quote text p s qs t ts q m st l h =
     let rest = tail_through quote text s t ts q m h in
@@ -231,7 +231,7 @@ first_through quote text p s qs t ts q m st l h =
       column = rest.column;
     }
 
-pub fold_through : (quote : ℕ) (text : List ℕ) (p : ℕ) (t : Turn) (ts : List Turn) → IsQuote quote → may_turn t ts ≡ true → Has text p (turn_bytes (t ∷ ts))
+pub fold_through : (quote : ℕ) (text : List ℕ) (p : ℕ) (t : LineTurn) (ts : List LineTurn) → IsQuote quote → may_turn t ts ≡ true → Has text p (turn_bytes (t ∷ ts))
     → Through quote text p (turn_read (end_means t.end) t ts) (p + length (turn_bytes (t ∷ ts)))
 unfolding turn_bytes
 fold_through quote text p t ts q m h =
@@ -241,7 +241,7 @@ fold_through quote text p t ts q m h =
     (first_through quote text p (p + length (end_bytes t.end)) (Break (end_means t.end) ∷ []) t ts q m (end_standing quote text p t.end q (turn_at text p t ts m h)) (omega (arith, some))
     (has_rest text p (end_bytes t.end) (after_end t ts) h))
 
-pub joint_through : (text : List ℕ) (p : ℕ) (t : Turn) (ts : List Turn) → 0 < column_at text p → may_turn t ts ≡ true → Has text p (92 ∷ turn_bytes (t ∷ ts))
+pub joint_through : (text : List ℕ) (p : ℕ) (t : LineTurn) (ts : List LineTurn) → 0 < column_at text p → may_turn t ts ≡ true → Has text p (92 ∷ turn_bytes (t ∷ ts))
     → Through 34 text p (Kept [] ∷ turn_read [] t ts) (p + length (92 ∷ turn_bytes (t ∷ ts)))
 unfolding turn_bytes
 joint_through text p t ts c m (e, h) =

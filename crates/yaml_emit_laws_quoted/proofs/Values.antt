@@ -7,7 +7,7 @@ use Rattle.std.proofs.lemmas.Bool.Decides.{nat_tests}
 use Rattle.yaml_scan_scalars.specs.scan_model.Marks.{is_blank}
 use Rattle.yaml_scan_scalars.specs.Pieces.{Piece, Kept, Blank, Break, Line, lines, is_empty, gap, Rest, rest_of, folded, value}
 use Rattle.yaml_scan_scalars.proofs.FoldingLemmas.{value-kept}
-use Rattle.yaml_emit_laws_quoted.specs.Spelling.{end_means, Turn, turn_means, Part, raw, doubled, named, numbered, fold, joint, meant, meaning, IsSpelling, may_follow, may_be_next, is_raw_blank, is_fold, is_turn}
+use Rattle.yaml_emit_laws_quoted.specs.Spelling.{end_means, LineTurn, turn_means, QuotedPart, raw, doubled, named, numbered, fold, joint, meant, meaning, IsSpelling, may_follow, may_be_next, is_raw_blank, is_fold, is_turn}
 use Rattle.yaml_emit_laws_quoted.proofs.Chars.{encode_1, encode_2, encode_3, encode_4}
 
 pub cond_true : {A : Type 0} (b : Bool) (x y : A) → b ≡ true → cond b x y ≡ x
@@ -27,15 +27,15 @@ abbrev pub blanks_of : ℕ → List Piece
 blanks_of n = replicate n (Blank 32)
 
 -- ends of lines behind others
-unfoldable pub turns_read : List Turn → List Piece
+unfoldable pub turns_read : List LineTurn → List Piece
 turns_read [] = []
 turns_read (t ∷ ts) = Break (end_means t.end) ∷ (blanks_of t.spaces ++ turns_read ts)
 
 -- a first one that is read as these bytes, and others
-abbrev pub turn_read : List ℕ → Turn → List Turn → List Piece
+abbrev pub turn_read : List ℕ → LineTurn → List LineTurn → List Piece
 turn_read bytes t ts = Break bytes ∷ (blanks_of t.spaces ++ turns_read ts)
 
-abbrev pub read_as : Part → List Piece
+abbrev pub read_as : QuotedPart → List Piece
 read_as (raw c) = if is_blank c then Blank c ∷ [] else keeps (encode_utf8 c)
 read_as doubled = Kept (39 ∷ []) ∷ []
 read_as (named b bytes) = Kept bytes ∷ []
@@ -43,7 +43,7 @@ read_as (numbered b digits c) = Kept (encode_utf8 c) ∷ []
 read_as (fold t ts) = turn_read (end_means t.end) t ts
 read_as (joint t ts) = Kept [] ∷ turn_read [] t ts
 
-unfoldable pub all_read_as : List Part → List Piece
+unfoldable pub all_read_as : List QuotedPart → List Piece
 all_read_as [] = []
 all_read_as (p ∷ ps) = read_as p ++ all_read_as ps
 
@@ -107,7 +107,7 @@ read_kept c e = cond_false (is_blank c) (Blank c ∷ []) (keeps (encode_utf8 c))
 front_same : (ps qs : List Piece) → ps ≡ qs → Front qs → Front ps
 front_same ps qs e f = record { bytes = f.bytes; rest = f.rest; is = e ∙ f.is }
 
-part_front : (p : Part) → is_fold p ≡ false → is_raw_blank p ≡ false → Front (read_as p)
+part_front : (p : QuotedPart) → is_fold p ≡ false → is_raw_blank p ≡ false → Front (read_as p)
 part_front (raw c) f b = front_same _ _ (read_kept c b) (keeps_front (encode_utf8 c) (encoded_front c))
 part_front doubled f b = record { bytes = 39 ∷ []; rest = []; is = refl }
 part_front (named k bytes) f b = record { bytes = bytes; rest = []; is = refl }
@@ -121,7 +121,7 @@ firm_front ps qs f = subst (λ (t : List Piece). IsFirm (t ++ qs)) (sym f.is) (�
 firm_blank : (b : ℕ) (ps : List Piece) → IsFirm ps → IsFirm (Blank b ∷ ps)
 firm_blank b ps h = h
 
-follow_blank : (p q : Part) → is_raw_blank p ≡ true → may_follow p q ≡ true → is_fold q ≡ false
+follow_blank : (p q : QuotedPart) → is_raw_blank p ≡ true → may_follow p q ≡ true → is_fold q ≡ false
 follow_blank p (fold t ts) b f = let g = rw b at f in absurd (cc)
 follow_blank p (raw c) b f = refl
 follow_blank p doubled b f = refl
@@ -130,7 +130,7 @@ follow_blank p (numbered k digits c) b f = refl
 follow_blank p (joint t ts) b f = refl
 
 -- what follows a raw blank
-firm : (quote : ℕ) (p : Part) (ps : List Part) → is_raw_blank p ≡ true → may_be_next p ps ≡ true → IsSpelling quote ps → IsFirm (all_read_as ps)
+firm : (quote : ℕ) (p : QuotedPart) (ps : List QuotedPart) → is_raw_blank p ≡ true → may_be_next p ps ≡ true → IsSpelling quote ps → IsFirm (all_read_as ps)
 unfolding IsSpelling all_read_as
 firm quote p [] b next h = λ e. refl
 firm quote p (q ∷ ps) b next (stand, later, more) =
@@ -139,7 +139,7 @@ firm quote p (q ∷ ps) b next (stand, later, more) =
       | inl e ↦ firm_raw q e (firm quote q ps e later more)
     ]
   where
-    firm_raw : (q : Part) → is_raw_blank q ≡ true → IsFirm (all_read_as ps) → IsFirm (read_as q ++ all_read_as ps)
+    firm_raw : (q : QuotedPart) → is_raw_blank q ≡ true → IsFirm (all_read_as ps) → IsFirm (read_as q ++ all_read_as ps)
     firm_raw (raw c) e h = subst (λ (t : List Piece). IsFirm (t ++ all_read_as ps)) (sym (read_blank c e)) (firm_blank c (all_read_as ps) h)
     firm_raw doubled e h = absurd (cc)
     firm_raw (named k bytes) e h = absurd (cc)
@@ -172,27 +172,27 @@ rest_front ps qs f =
     let P : List Piece → Type 0 = λ t. rest_after (t ++ qs) ≡ settled [] (t ++ qs) in
     subst P (sym f.is) (rest_kept f.bytes (lines (f.rest ++ qs)).first (lines (f.rest ++ qs)).others)
 
-rest_turns : (ts : List Turn) (ps : List Piece) → rest_after ps ≡ settled [] ps → rest_after (turns_read ts ++ ps) ≡ settled (turn_means ts) ps
+rest_turns : (ts : List LineTurn) (ps : List Piece) → rest_after ps ≡ settled [] ps → rest_after (turns_read ts ++ ps) ≡ settled (turn_means ts) ps
 unfolding turns_read turn_means
 rest_turns [] ps h = h
 rest_turns (t ∷ ts) ps h =
     let again = ap (λ (x : List Piece). rest_after x) (append_assoc (blanks_of t.spaces) (turns_read ts) ps) ∙ rest_blanks t.spaces (turns_read ts ++ ps) ∙ rest_turns ts ps h in
     ap (λ (r : Rest). record { breaks = end_means t.end ++ r.breaks; value = r.value }) again
 
-value_turns : (first : List ℕ) (t : Turn) (ts : List Turn) (ps : List Piece) → rest_after ps ≡ settled [] ps
+value_turns : (first : List ℕ) (t : LineTurn) (ts : List LineTurn) (ps : List Piece) → rest_after ps ≡ settled [] ps
     → value (turn_read first t ts ++ ps) ≡ gap first (turn_means ts) ++ value ps
 value_turns first t ts ps h =
     let again = ap (λ (x : List Piece). rest_after x) (append_assoc (blanks_of t.spaces) (turns_read ts) ps) ∙ rest_blanks t.spaces (turns_read ts ++ ps) ∙ rest_turns ts ps h in
     ap (λ (r : Rest). gap first r.breaks ++ r.value) again
 
-follow_turn : (p q : Part) → is_turn p ≡ true → may_follow p q ≡ true → (is_fold q ≡ false) × (is_raw_blank q ≡ false)
+follow_turn : (p q : QuotedPart) → is_turn p ≡ true → may_follow p q ≡ true → (is_fold q ≡ false) × (is_raw_blank q ≡ false)
 follow_turn p q t f = elim (cases_Bool (is_fold q)) [
   | inl a ↦ elim (cases_Bool (is_raw_blank p)) [ inl b ↦ let g = rw (a, b) at f in absurd (cc) | inr b ↦ let g = rw (a, b, t) at f in absurd (cc) ]
   | inr a ↦ elim (cases_Bool (is_raw_blank q)) [ inl b ↦ let g = rw (a, b, t) at f in absurd (cc) | inr b ↦ (a, b) ]
 ]
 
 -- what follows the ends of lines
-rest_parts : (quote : ℕ) (p : Part) (ps : List Part) → is_turn p ≡ true → may_be_next p ps ≡ true → rest_after (all_read_as ps) ≡ settled [] (all_read_as ps)
+rest_parts : (quote : ℕ) (p : QuotedPart) (ps : List QuotedPart) → is_turn p ≡ true → may_be_next p ps ≡ true → rest_after (all_read_as ps) ≡ settled [] (all_read_as ps)
 unfolding all_read_as
 rest_parts quote p [] t next = refl
 rest_parts quote p (q ∷ ps) t next =
@@ -215,7 +215,7 @@ blank_value : (c : ℕ) (ps : List Piece) → is_blank c ≡ true → IsFirm ps 
 blank_value c ps e f =
     ap (λ (t : List Piece). value (t ++ ps)) (read_blank c e) ∙ value_blank c ps f ∙ ap (λ (t : List ℕ). t ++ value ps) (sym (encode_ascii c (blank_small c e)))
 
-part_value : (quote : ℕ) (p : Part) (ps : List Part) → may_be_next p ps ≡ true → IsSpelling quote ps → value (read_as p ++ all_read_as ps) ≡ meant p ++ value (all_read_as ps)
+part_value : (quote : ℕ) (p : QuotedPart) (ps : List QuotedPart) → may_be_next p ps ≡ true → IsSpelling quote ps → value (read_as p ++ all_read_as ps) ≡ meant p ++ value (all_read_as ps)
 part_value quote (raw c) ps next h =
     elim (cases_Bool (is_blank c)) [
       | inl e ↦ blank_value c (all_read_as ps) e (firm quote (raw c) ps e next h)
@@ -230,7 +230,7 @@ part_value quote (joint t ts) ps next h =
     ∙ ap (λ (x : List ℕ). x ++ value (all_read_as ps)) (gap_joint (turn_means ts))
 
 -- the value of a spelling's pieces
-pub spelling_value : (quote : ℕ) (ps : List Part) → IsSpelling quote ps → value (all_read_as ps) ≡ meaning ps
+pub spelling_value : (quote : ℕ) (ps : List QuotedPart) → IsSpelling quote ps → value (all_read_as ps) ≡ meaning ps
 unfolding IsSpelling all_read_as meaning
 spelling_value quote [] h = refl
 spelling_value quote (p ∷ ps) (stand, next, more) = part_value quote p ps next more ∙ ap (λ t. meant p ++ t) (spelling_value quote ps more)

@@ -11,21 +11,21 @@ use Rattle.yaml_emit_text.specs.declared.page.Page.{Page}
 use Rattle.yaml_emit_text.specs.Quoted.{double_quoted}
 use Rattle.yaml_emit_text.specs.Style.{allowed}
 use Rattle.yaml_emit_laws_quoted.specs.Stands.{HasAt}
-use Rattle.yaml_emit_laws_quoted.specs.Spelling.{Part, IsSpelling, meaning, quoted}
-use Rattle.yaml_emit_laws_quoted.specs.ReadBack.{IsReadBack, IsReadBackBefore, between_quotes, between_single, gap_width, is_one_line, StaysInLine}
+use Rattle.yaml_emit_laws_quoted.specs.Spelling.{QuotedPart, IsSpelling, meaning, quoted}
+use Rattle.yaml_emit_laws_quoted.specs.ReadBack.{ValueIsReadBack, ValueIsReadBackBefore, between_quotes, between_single, gap_width, is_one_line, StaysInLine}
 
 -- ---- spellings
 
 -- Where a spelling stands between double quotes, that is one scalar and has the value that it means, whatever stands before and
 -- behind.
 abbrev pub SpellingReads : Type 0
-SpellingReads = (parts : List Part) (text : List ℕ) (p : ℕ) → IsSpelling 34 parts
+SpellingReads = (parts : List QuotedPart) (text : List ℕ) (p : ℕ) → IsSpelling 34 parts
     → HasAt text p (quoted 34 parts)
     → double_quoted_at text p ≡ Ok (meaning parts, p + length (quoted 34 parts))
 
 -- So it is between single quotes, where no single quote stands behind.
 abbrev pub SingleSpellingReads : Type 0
-SingleSpellingReads = (parts : List Part) (text : List ℕ) (p : ℕ) → IsSpelling 39 parts
+SingleSpellingReads = (parts : List QuotedPart) (text : List ℕ) (p : ℕ) → IsSpelling 39 parts
     → HasAt text p (quoted 39 parts)
     → (byte text (p + length (quoted 39 parts)) ≡ 39 → ⊥)
     → single_quoted_at text p ≡ Ok (meaning parts, p + length (quoted 39 parts))
@@ -37,7 +37,7 @@ SingleSpellingReads = (parts : List Part) (text : List ℕ) (p : ℕ) → IsSpel
 abbrev pub QuotedIsReadBack : Type 0
 QuotedIsReadBack = (page : Page) (c : Cursor) (value : List ℕ) → IsUtf8 value
     → (page.cuts ≡ true → 0 < page.indentation)
-    → IsReadBack double_quoted_at (between_quotes page (chars value)) c value
+    → ValueIsReadBack double_quoted_at (between_quotes page (chars value)) c value
 
 -- Wherever a text has a double quoted scalar's bytes in UTF-8, the value is read behind the space in front.
 abbrev pub QuotedTextIsReadBack : Type 0
@@ -58,5 +58,5 @@ abbrev pub SingleIsReadBack : Type 0
 SingleIsReadBack = (page : Page) (c : Cursor) (value : List ℕ) → IsUtf8 value
     → (page.cuts ≡ true → 0 < page.indentation)
     → (allowed page.unicode (chars value)).single ≡ true → is_one_line (chars value) ≡ true
-    → IsReadBackBefore (λ b. b ≡ 39 → ⊥) single_quoted_at (between_single page (chars value)) c
+    → ValueIsReadBackBefore (λ b. b ≡ 39 → ⊥) single_quoted_at (between_single page (chars value)) c
     value

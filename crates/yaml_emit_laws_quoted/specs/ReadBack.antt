@@ -14,8 +14,8 @@ use Rattle.yaml_emit_laws_quoted.specs.Stands.{HasAt}
 -- From a cursor on, a layout writes these characters, a double quote first, whatever follows; and
 -- wherever their bytes stand, the reading gives the value, and ends behind them. Behind them the
 -- line isn't bare, none starts, and `kept` is as it was.
-pub record IsReadBack (reading : List ℕ → ℕ → Result (List ℕ × ℕ) Wrong) (a : Layout) (c : Cursor)
-    (value : List ℕ) : Type 0 where
+pub record ValueIsReadBack (reading : List ℕ → ℕ → Result (List ℕ × ℕ) Wrong) (a : Layout)
+    (c : Cursor) (value : List ℕ) : Type 0 where
   pub letters : List ℕ
   pub inside : List ℕ
   pub begins : letters ≡ 34 ∷ inside
@@ -28,8 +28,9 @@ pub record IsReadBack (reading : List ℕ → ℕ → Result (List ℕ × ℕ) W
   pub kept : behind.kept ≡ c.kept
 
 -- the same, where the byte behind fits
-pub record IsReadBackBefore (Fits : ℕ → Type 0) (reading : List ℕ → ℕ → Result (List ℕ × ℕ) Wrong)
-    (a : Layout) (c : Cursor) (value : List ℕ) : Type 0 where
+pub record ValueIsReadBackBefore (Fits : ℕ → Type 0)
+    (reading : List ℕ → ℕ → Result (List ℕ × ℕ) Wrong) (a : Layout) (c : Cursor)
+    (value : List ℕ) : Type 0 where
   pub letters : List ℕ
   pub behind : Cursor
   pub written : (rest : Rest) → a c rest ≡ in_front letters (rest behind)

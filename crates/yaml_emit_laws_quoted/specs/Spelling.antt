@@ -34,15 +34,15 @@ end_means line_separator = 0xE2 ∷ 0x80 ∷ 0xA8 ∷ []
 end_means paragraph_separator = 0xE2 ∷ 0x80 ∷ 0xA9 ∷ []
 
 -- The end of a line, and how many spaces begin the next one.
-pub record Turn : Type 0 where
+pub record LineTurn : Type 0 where
   pub end : LineEnd
   pub spaces : ℕ
 
-unfoldable pub turn_bytes : List Turn → List ℕ
+unfoldable pub turn_bytes : List LineTurn → List ℕ
 turn_bytes [] = []
 turn_bytes (t ∷ ts) = end_bytes t.end ++ (replicate t.spaces 32 ++ turn_bytes ts)
 
-unfoldable pub turn_means : List Turn → List ℕ
+unfoldable pub turn_means : List LineTurn → List ℕ
 turn_means [] = []
 turn_means (t ∷ ts) = end_means t.end ++ turn_means ts
 
@@ -55,28 +55,28 @@ is_feed_end feed = true
 is_feed_end _ = false
 
 -- The last line has an indentation, so that no `---` stands at its start; and CR with LF behind it is one end, not two.
-unfoldable pub may_turn : Turn → List Turn → Bool
+unfoldable pub may_turn : LineTurn → List LineTurn → Bool
 may_turn t [] = nat_lt 0 t.spaces
 may_turn t (u ∷ us) = not (is_return t.end && (t.spaces == 0 && is_feed_end u.end)) && may_turn u us
 
 -- ---- parts
 
 -- What a spelling is made of.
-pub data Part : Type 0 where
+pub data QuotedPart : Type 0 where
   -- a character that stands for itself
-  raw : ℕ → Part
+  raw : ℕ → QuotedPart
   -- two single quotes for one
-  doubled : Part
+  doubled : QuotedPart
   -- a backslash and a byte that names these bytes
-  named : ℕ → List ℕ → Part
+  named : ℕ → List ℕ → QuotedPart
   -- a backslash, `x`, `u` or `U`, and hexadecimal digits that spell the number of a character
-  numbered : ℕ → List ℕ → ℕ → Part
+  numbered : ℕ → List ℕ → ℕ → QuotedPart
   -- the ends of one line and more
-  fold : Turn → List Turn → Part
+  fold : LineTurn → List LineTurn → QuotedPart
   -- such ends behind a backslash
-  joint : Turn → List Turn → Part
+  joint : LineTurn → List LineTurn → QuotedPart
 
-abbrev pub spelled : Part → List ℕ
+abbrev pub spelled : QuotedPart → List ℕ
 spelled (raw c) = encode_utf8 c
 spelled doubled = 39 ∷ 39 ∷ []
 spelled (named b bytes) = 92 ∷ b ∷ []
@@ -85,7 +85,7 @@ spelled (fold t ts) = turn_bytes (t ∷ ts)
 spelled (joint t ts) = 92 ∷ turn_bytes (t ∷ ts)
 
 -- A lone line feed means a space, and one before other ends of lines nothing; behind a backslash the first end means nothing.
-abbrev pub meant : Part → List ℕ
+abbrev pub meant : QuotedPart → List ℕ
 meant (raw c) = encode_utf8 c
 meant doubled = 39 ∷ []
 meant (named b bytes) = bytes
@@ -93,11 +93,11 @@ meant (numbered b digits c) = encode_utf8 c
 meant (fold t ts) = gap (end_means t.end) (turn_means ts)
 meant (joint t ts) = turn_means ts
 
-unfoldable pub spelling : List Part → List ℕ
+unfoldable pub spelling : List QuotedPart → List ℕ
 spelling [] = []
 spelling (p ∷ ps) = spelled p ++ spelling ps
 
-unfoldable pub meaning : List Part → List ℕ
+unfoldable pub meaning : List QuotedPart → List ℕ
 meaning [] = []
 meaning (p ∷ ps) = meant p ++ meaning ps
 
@@ -115,7 +115,7 @@ abbrev pub may_be_raw : ℕ → ℕ → Bool
 may_be_raw quote c = scalar c && not (is_line_end c
     || (c == 0 || (c == quote || (quote == 34 && c == 92))))
 
-abbrev pub MayStand : ℕ → Part → Type 0
+abbrev pub MayStand : ℕ → QuotedPart → Type 0
 MayStand quote (raw c) = may_be_raw quote c ≡ true
 MayStand quote doubled = quote ≡ 39
 MayStand quote (named b bytes) = (quote ≡ 34) × (simple_escape b ≡ Some bytes)
@@ -124,32 +124,32 @@ MayStand quote (numbered b digits c) = (quote ≡ 34) × (0 < length digits)
 MayStand quote (fold t ts) = may_turn t ts ≡ true
 MayStand quote (joint t ts) = (quote ≡ 34) × (may_turn t ts ≡ true)
 
-abbrev pub is_raw_blank : Part → Bool
+abbrev pub is_raw_blank : QuotedPart → Bool
 is_raw_blank (raw c) = is_blank c
 is_raw_blank _ = false
 
-abbrev pub is_fold : Part → Bool
+abbrev pub is_fold : QuotedPart → Bool
 is_fold (fold t ts) = true
 is_fold _ = false
 
-abbrev pub is_turn : Part → Bool
+abbrev pub is_turn : QuotedPart → Bool
 is_turn (fold t ts) = true
 is_turn (joint t ts) = true
 is_turn _ = false
 
 -- Raw blanks beside the end of a line are not kept, but before a backslash; and ends of lines are one part.
-abbrev pub may_follow : Part → Part → Bool
+abbrev pub may_follow : QuotedPart → QuotedPart → Bool
 may_follow p q = not (is_fold q && (is_raw_blank p || is_turn p))
     && not (is_raw_blank q && is_turn p)
 
-abbrev pub may_be_next : Part → List Part → Bool
+abbrev pub may_be_next : QuotedPart → List QuotedPart → Bool
 may_be_next p [] = true
 may_be_next p (q ∷ qs) = may_follow p q
 
 -- between quotes of that byte
-unfoldable pub IsSpelling : ℕ → List Part → Type 0
+unfoldable pub IsSpelling : ℕ → List QuotedPart → Type 0
 IsSpelling quote [] = Unit {0}
 IsSpelling quote (p ∷ ps) = MayStand quote p × (may_be_next p ps ≡ true) × IsSpelling quote ps
 
-abbrev pub quoted : ℕ → List Part → List ℕ
+abbrev pub quoted : ℕ → List QuotedPart → List ℕ
 quoted quote parts = quote ∷ (spelling parts ++ quote ∷ [])

@@ -9,7 +9,7 @@ use Rattle.yaml_parse.specs.Nodes as model
 use Rattle.yaml_parse.specs.Documents.{Document, with_node, change_place, str_tag, seq_tag, map_tag, no_document}
 use Rattle.yaml_parse.specs.Resolve.{Told}
 use Rattle.yaml_parse.specs.Numbering.{loaded_tag, is_bang}
-use Rattle.yaml_parse.specs.Loading.{Open, Loading, Fed, goes_on, loaded, refused, nothing_loaded, step, step_body, aliased, closed, filled}
+use Rattle.yaml_parse.specs.Loading.{Open, Loading, LoadStep, goes_on, loaded, refused, nothing_loaded, step, step_body, aliased, closed, filled}
 use Rattle.yaml_parse.specs.NextLoad.{NextLoad, next_document, next_fault, next_none}
 use Rattle.yaml_parse.proofs.ByStep.{Loads, load_on, behind_all, loads}
 use Rattle.yaml_parse.proofs.ByStep as load
@@ -116,7 +116,7 @@ at_end : (f : Option Fault) → RightLoads (behind_all f)
 at_end None = tt
 at_end (Some f) = tt
 
-turn_right : (fed : Fed) (go : Loading → Loads) (gs : List Told) (n : ℕ) → RightFed fed → AreRightTold gs → ((l : Loading) → RightDocument l.document → RightLoads (go l)) → RightLoads (load_on fed go gs n)
+turn_right : (fed : LoadStep) (go : Loading → Loads) (gs : List Told) (n : ℕ) → RightFed fed → AreRightTold gs → ((l : Loading) → RightDocument l.document → RightLoads (go l)) → RightLoads (load_on fed go gs n)
 turn_right (goes_on l) go gs n h k f = f l h
 turn_right (loaded d) go gs n h k f = (h, k)
 turn_right (refused g) go gs n h k f = tt

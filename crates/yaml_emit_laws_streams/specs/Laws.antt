@@ -6,7 +6,7 @@ use Rattle.yaml_parse.specs.Events as event
 use Rattle.yaml_parse.specs.Nodes as model
 use Rattle.yaml_parse.specs.Documents as documents
 use Rattle.yaml_parse.specs.Resolve.{Told}
-use Rattle.yaml_parse.specs.Loading.{Loading, Fed, goes_on, loaded, refused, step}
+use Rattle.yaml_parse.specs.Loading.{Loading, LoadStep, goes_on, loaded, refused, step}
 use Rattle.yaml_parse.specs.NextLoad.{NextLoad, next_document, next_fault, next_none, IsLoadOf}
 use Rattle.yaml_emit.specs.emit_text.declared.Encoding.{Encoding}
 use Rattle.yaml_emit.specs.emit_text.declared.RequestedSettings.{RequestedSettings}
@@ -106,7 +106,7 @@ AreRightTold [] = Unit {0}
 AreRightTold (g ∷ gs) = RightBody g.0.body × AreRightTold gs
 
 -- a document in the making, or a whole one
-abbrev pub RightFed : Fed → Type 0
+abbrev pub RightFed : LoadStep → Type 0
 RightFed (goes_on l) = RightDocument l.document
 RightFed (loaded d) = RightDocument d
 RightFed (refused f) = Unit {0}

@@ -18,7 +18,7 @@ use Rattle.yaml_emit_layout.specs.emit_text.Tags.{has_shorter_prefix, directive_
 use Rattle.yaml_emit_layout.specs.declared.problem.Problem.{Problem}
 use Rattle.yaml_emit_layout.specs.Content.{Opening}
 use Rattle.yaml_emit_layout.specs.Grammar.{or_else, between, inner_problem, ends_problem, handle_problem, prefix_problem, twice_problem, directive_problem, directives_problem, version_problem, opening_problem}
-use Rattle.yaml_emit_laws_tags.specs.Laws.{resolved_split, IsShaped, IsReadable, tag_text, HaveUtf8, IsReadBack, AreReadable}
+use Rattle.yaml_emit_laws_tags.specs.Laws.{resolved_split, IsShaped, IsReadable, tag_text, HaveUtf8, IsTagReadBack, AreReadable}
 use Rattle.yaml_emit_laws_tags.proofs.Resolving.{or_first, or_second, and_right, whole, tags_resolve}
 use Rattle.yaml_emit_laws_tags.proofs.Reading.{split_read}
 
@@ -219,7 +219,7 @@ pub written_directives : (o : Opening) → opening_problem o ≡ None → HaveUt
 written_directives o e u = readable_directives [] o.directives (or_second (version_problem o.version) (directives_problem [] o.directives) e) u
 
 pub read_back : (o : Opening) → opening_problem o ≡ None → HaveUtf8 o.directives → (tag : List ℕ) → IsUtf8 tag → 0 < length tag → (flow : Bool) (text : List ℕ) (p : ℕ)
-    → HasAt text p (tag_spelling o.directives tag) → may_end_tag flow text (p + length (tag_spelling o.directives tag)) ≡ true → IsReadBack o.directives tag flow text p
+    → HasAt text p (tag_spelling o.directives tag) → may_end_tag flow text (p + length (tag_spelling o.directives tag)) ≡ true → IsTagReadBack o.directives tag flow text p
 read_back o e u tag utf8 some flow text p h stop =
     let ds = o.directives in
     let split = split_tag ds tag in

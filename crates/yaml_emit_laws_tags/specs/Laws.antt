@@ -55,7 +55,7 @@ HaveUtf8 [] = Unit {0}
 HaveUtf8 (d ∷ ds) = IsUtf8 d.prefix × HaveUtf8 ds
 
 -- A tag is read there, up to the end of what is written for that one, which resolves to it.
-pub record IsReadBack (ds : List TagDirective) (tag : List ℕ) (flow : Bool) (text : List ℕ)
+pub record IsTagReadBack (ds : List TagDirective) (tag : List ℕ) (flow : Bool) (text : List ℕ)
     (p : ℕ) : Type 0 where
   pub said : TagText
   pub read : tag_at flow text p ≡ Ok said
@@ -68,7 +68,7 @@ TagsAreReadBack = (o : Opening) → opening_problem o ≡ None → HaveUtf8 o.di
     → IsUtf8 tag → 0 < length tag → (flow : Bool) (text : List ℕ) (p : ℕ)
     → HasAt text p (tag_spelling o.directives tag)
     → may_end_tag flow text (p + length (tag_spelling o.directives tag)) ≡ true
-    → IsReadBack o.directives tag flow text p
+    → IsTagReadBack o.directives tag flow text p
 
 -- ---- what is written for a tag
 

@@ -70,7 +70,8 @@ StaysBut old new = (new.settings ≡ old.settings) × (new.sink ≡ old.sink)
     × (new.starved ≡ old.starved)
 
 -- a collection was opened, behind its properties
-pub record Opens (s : Settings) (old new : Core) (simple empty flow sequence : Bool) : Type 0 where
+pub record OpensCollection (s : Settings) (old new : Core)
+    (simple empty flow sequence : Bool) : Type 0 where
   pub settings : new.settings ≡ old.settings
   pub state : new.sink.status ≡ Going →
       let at = spot_of (top_of (stack_of old.levels)) simple in
@@ -92,8 +93,8 @@ pub record MovesOn (s : Settings) (old new : Core) (e : Event) (empty : Bool) : 
       (top_of (stack_of old.levels)) e empty)
   pub memory : Notes (takes_memory e) old new
 
--- an event was laid out
-pub record Takes (old new : Core) (e : Event) (empty : Bool) : Type 0 where
+-- an event that comes right was laid out
+pub record LaysOutRight (old new : Core) (e : Event) (empty : Bool) : Type 0 where
   pub settings : new.settings ≡ old.settings
   pub state : new.sink.status ≡ Going → state_of new ≡ next (settings_of old) (state_of old) e empty
       new.sink.cursor

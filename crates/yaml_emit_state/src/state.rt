@@ -32,7 +32,7 @@ impl Core {
     ghost use Rattle.yaml_parse_model.specs.Events.{body_of};
     ghost use Rattle.yaml_emit_layout.specs.Content.{emitter_event};
     ghost use Rattle.yaml_emit_layout.specs.State.{problem_at};
-    ghost use Rattle.yaml_emit_state.specs.Steps.{state_of, settings_of, LaysOut, IsFresh, Takes, Starves, is_going, goes_on};
+    ghost use Rattle.yaml_emit_state.specs.Steps.{state_of, settings_of, LaysOut, IsFresh, LaysOutRight, Starves, is_going, goes_on};
 
     /// Nothing was laid out.
     pub fn new(alloc: Global, settings: Settings, limit: u64) -> Core
@@ -123,7 +123,7 @@ impl Core {
     #[inline(always)]
     fn take(&mut self, event: &mut yaml_event_body_t, empty: bool)
         requires { HasUtf8 (body_of event.old) }
-        ensures { Takes self.old self.new (emitter_event (body_of event.old)) empty }
+        ensures { LaysOutRight self.old self.new (emitter_event (body_of event.old)) empty }
     {
         let settings = self.settings();
         let context = Context {

@@ -11,7 +11,7 @@ use Rattle.yaml_emit_sink.specs.declared.LineBreak.TheVariants.{Lf, Cr, CrLf}
 use Rattle.yaml_emit_sink.specs.Text.{Item, letter, is_break}
 use Rattle.yaml_emit_sink.specs.Layout.{Layout, Rest, choose, when, char, letters, blanks, new_line, is_past}
 use Rattle.yaml_emit_text.specs.Quoted.{needs_escape, escape_text, first, is_empty, may_fold, fold as fold_layout, escaped, quoted_char, quoted_body}
-use Rattle.yaml_emit_text.specs.Spelling.{Part, raw, escape, escaped_space, fold, break_text, spelled, meant, spelling, meaning, is_raw_blank, is_fold, may_follow, may_stand, IsSpelling, in_front, Spells}
+use Rattle.yaml_emit_text.specs.Spelling.{SpelledPart, raw, escape, escaped_space, fold, break_text, spelled, meant, spelling, meaning, is_raw_blank, is_fold, may_follow, may_stand, IsSpelling, in_front, WritesSpelling}
 
 -- Layouts that write characters, and the cursor behind them.
 
@@ -105,15 +105,15 @@ char_plain page before x cs c rest m n =
     ap (λ (a : Layout). a c rest) (cond_false (may_fold page before x cs) (choose (is_past page.width) (fold_layout page cs) (char x)) (escaped page.unicode x) m ∙ cond_false (needs_escape page.unicode x) (letters (escape_text x)) (char x) n)
 
 -- A rest of a value behind a part, and behind a backslash where one was written for its space.
-record Left (page : Page) (before : ℕ) (c : Cursor) (slash : Bool) (last : Part) (value : List ℕ) : Type 0 where
-  parts : List Part
+record Left (page : Page) (before : ℕ) (c : Cursor) (slash : Bool) (last : SpelledPart) (value : List ℕ) : Type 0 where
+  parts : List SpelledPart
   behind : Cursor
   right : IsSpelling last parts
   text : (rest : Rest) → slashed slash (quoted_body page before value c rest) ≡ in_front (spelling parts) (rest behind)
   means : value ≡ meaning parts
 
 -- how the last part stands to the character before
-record Behind (before : ℕ) (slash : Bool) (last : Part) (value : List ℕ) : Type 0 where
+record Behind (before : ℕ) (slash : Bool) (last : SpelledPart) (value : List ℕ) : Type 0 where
   same : meant last ≡ before
   folded : is_fold last ≡ true → (slash ≡ (first value == 32)) × (is_empty value ≡ false)
   unfolded : is_fold last ≡ false → slash ≡ false
@@ -225,27 +225,27 @@ raw_no_tab unicode c e n =
     (λ f. f) in
     both_false (c == 32) (c == 9) no_space no_tab
 
-follow_fold : (last : Part) (k : LineBreak) (n : ℕ) → is_raw_blank last ≡ false → is_fold last ≡ false → may_follow last (fold k n) ≡ true
+follow_fold : (last : SpelledPart) (k : LineBreak) (n : ℕ) → is_raw_blank last ≡ false → is_fold last ≡ false → may_follow last (fold k n) ≡ true
 follow_fold last k n a b = rw (a, b) refl
 
 no_and : (a : Bool) → not (a && false) ≡ true
 no_and true = refl
 no_and false = refl
 
-follow_other : (last p : Part) → is_fold p ≡ false → is_raw_blank p ≡ false → may_follow last p ≡ true
+follow_other : (last p : SpelledPart) → is_fold p ≡ false → is_raw_blank p ≡ false → may_follow last p ≡ true
 follow_other last p a b = rw (a, b) (no_and (is_fold last))
 
-follow_raw : (last p : Part) → is_fold p ≡ false → is_fold last ≡ false → may_follow last p ≡ true
+follow_raw : (last p : SpelledPart) → is_fold p ≡ false → is_fold last ≡ false → may_follow last p ≡ true
 follow_raw last p a b = rw (a, b) refl
 
-fold_means : (p : Part) → is_fold p ≡ true → meant p ≡ 32
+fold_means : (p : SpelledPart) → is_fold p ≡ true → meant p ≡ 32
 fold_means (fold b n) e = refl
 fold_means (raw c) e = absurd (cc)
 fold_means (escape c) e = absurd (cc)
 fold_means escaped_space e = refl
 
 -- a part more in front
-part_more : (page : Page) (before x : ℕ) (c d : Cursor) (cs : List ℕ) (slash slash' : Bool) (last p : Part)
+part_more : (page : Page) (before x : ℕ) (c d : Cursor) (cs : List ℕ) (slash slash' : Bool) (last p : SpelledPart)
     → may_follow last p ≡ true → may_stand p ≡ true → meant p ≡ x
     → ((rest : Rest) → slashed slash (quoted_char page before x cs c rest) ≡ in_front (spelled p) (slashed slash' (rest d)))
     → Left page x d slash' p cs → Left page before c slash last (x ∷ cs)
@@ -298,7 +298,7 @@ no_fold page before x cs e =
     (λ t. let needs = fold_needs page before x cs t in absurd (differs_from x 32 e needs.space))
     (λ f. f)
 
-left : (page : Page) (before : ℕ) (c : Cursor) (slash : Bool) (last : Part) (value : List ℕ) → all_scalars value ≡ true → 0 < page.indentation → Behind before slash last value → Left page before c slash last value
+left : (page : Page) (before : ℕ) (c : Cursor) (slash : Bool) (last : SpelledPart) (value : List ℕ) → all_scalars value ≡ true → 0 < page.indentation → Behind before slash last value → Left page before c slash last value
 unfolding IsSpelling quoted_body spelling meaning in_front
 left page before c slash last [] good deep h =
     let unfolded : is_fold last ≡ false = bool_cases (is_fold last) (λ t. let k = (h.folded t).1 in absurd (cc k)) (λ f. f) in
@@ -347,7 +347,7 @@ left page before c slash last (x ∷ cs) good deep h =
     (step_char page before x c cs slash unslashed (λ rest. char_plain page before x cs c rest m n))
     (left page x (moved_by c) false (raw x) cs more deep (record { same = refl; folded = λ e. absurd (cc); unfolded = λ e. refl; blank = λ e. absurd (cc (sym e ∙ unblank)) })))))
 
-pub quoted-spells : (page : Page) (c : Cursor) (value : List ℕ) → all_scalars value ≡ true → 0 < page.indentation → Spells (quoted_body page 32 value) c value
+pub quoted-spells : (page : Page) (c : Cursor) (value : List ℕ) → all_scalars value ≡ true → 0 < page.indentation → WritesSpelling (quoted_body page 32 value) c value
 quoted-spells page c value good deep =
     let r = left page 32 c false (raw 32) value good deep (record { same = refl; folded = λ e. absurd (cc); unfolded = λ e. refl; blank = λ e. refl }) in
     record { parts = r.parts; behind = r.behind; right = r.right; spelled = r.text; meant = r.means }

@@ -11,15 +11,15 @@ use Rattle.yaml_emit_sink.specs.Layout.{Layout, Rest}
 use Rattle.yaml_emit_text.specs.Quoted.{escape_text, quoted_body}
 use Rattle.yaml_emit_text.specs.Style.{is_blank}
 
-pub data Part : Type 0 where
+pub data SpelledPart : Type 0 where
   -- a character that stands for itself
-  raw : ℕ → Part
+  raw : ℕ → SpelledPart
   -- a character by its letter or number
-  escape : ℕ → Part
+  escape : ℕ → SpelledPart
   -- a backslash and a space
-  escaped_space : Part
+  escaped_space : SpelledPart
   -- a break and spaces, for one space
-  fold : LineBreak → ℕ → Part
+  fold : LineBreak → ℕ → SpelledPart
 
 -- the characters of a break
 abbrev pub break_text : LineBreak → List ℕ
@@ -27,51 +27,51 @@ break_text Lf = 10 ∷ []
 break_text Cr = 13 ∷ []
 break_text CrLf = 13 ∷ 10 ∷ []
 
-abbrev pub spelled : Part → List ℕ
+abbrev pub spelled : SpelledPart → List ℕ
 spelled (raw c) = c ∷ []
 spelled (escape c) = escape_text c
 spelled escaped_space = 92 ∷ 32 ∷ []
 spelled (fold b n) = break_text b ++ replicate n 32
 
-abbrev pub meant : Part → ℕ
+abbrev pub meant : SpelledPart → ℕ
 meant (raw c) = c
 meant (escape c) = c
 meant escaped_space = 32
 meant (fold b n) = 32
 
-unfoldable pub spelling : List Part → List ℕ
+unfoldable pub spelling : List SpelledPart → List ℕ
 spelling [] = []
 spelling (p ∷ ps) = spelled p ++ spelling ps
 
-unfoldable pub meaning : List Part → List ℕ
+unfoldable pub meaning : List SpelledPart → List ℕ
 meaning [] = []
 meaning (p ∷ ps) = meant p ∷ meaning ps
 
-abbrev pub is_raw_blank : Part → Bool
+abbrev pub is_raw_blank : SpelledPart → Bool
 is_raw_blank (raw c) = is_blank c
 is_raw_blank (escape c) = false
 is_raw_blank escaped_space = false
 is_raw_blank (fold b n) = false
 
-abbrev pub is_fold : Part → Bool
+abbrev pub is_fold : SpelledPart → Bool
 is_fold (fold b n) = true
 is_fold (raw c) = false
 is_fold (escape c) = false
 is_fold escaped_space = false
 
 -- a fold has no raw blank and no fold on either side
-abbrev pub may_follow : Part → Part → Bool
+abbrev pub may_follow : SpelledPart → SpelledPart → Bool
 may_follow p q = not (is_fold q && (is_raw_blank p || is_fold p))
     && not (is_fold p && is_raw_blank q)
 
 -- Raw characters are no quotes, backslashes or breaks, and not 0. A fold has an indentation, so that no `---` stands at column 0.
-abbrev pub may_stand : Part → Bool
+abbrev pub may_stand : SpelledPart → Bool
 may_stand (raw c) = scalar c && not (is_break c || c == 34 || c == 92 || c == 0)
 may_stand (escape c) = scalar c
 may_stand escaped_space = true
 may_stand (fold b n) = nat_lt 0 n
 
-unfoldable pub IsSpelling : Part → List Part → Type 0
+unfoldable pub IsSpelling : SpelledPart → List SpelledPart → Type 0
 IsSpelling before [] = is_fold before ≡ false
 IsSpelling before (p ∷ ps) = (may_follow before p ≡ true) × (may_stand p ≡ true) × IsSpelling p ps
 
@@ -81,8 +81,8 @@ in_front [] t = t
 in_front (c ∷ cs) t = letter c ∷ in_front cs t
 
 -- From a cursor on, a layout writes a spelling of the value, whatever follows. Behind a space, at the start, no fold may stand.
-pub record Spells (a : Layout) (c : Cursor) (value : List ℕ) : Type 0 where
-  pub parts : List Part
+pub record WritesSpelling (a : Layout) (c : Cursor) (value : List ℕ) : Type 0 where
+  pub parts : List SpelledPart
   pub behind : Cursor
   pub right : IsSpelling (raw 32) parts
   pub spelled : (rest : Rest) → a c rest ≡ in_front (spelling parts) (rest behind)
@@ -91,4 +91,4 @@ pub record Spells (a : Layout) (c : Cursor) (value : List ℕ) : Type 0 where
 -- What stands between double quotes is a spelling of the value, on every page with an indentation and at every column.
 abbrev pub QuotedSpells : Type 0
 QuotedSpells = (page : Page) (c : Cursor) (value : List ℕ) → all_scalars value ≡ true
-    → 0 < page.indentation → Spells (quoted_body page 32 value) c value
+    → 0 < page.indentation → WritesSpelling (quoted_body page 32 value) c value

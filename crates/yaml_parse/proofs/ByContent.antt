@@ -7,7 +7,7 @@ use Rattle.yaml_parse_model.specs.Events as event
 use Rattle.yaml_parse_document.specs.Documents.{Document}
 use Rattle.yaml_parse_grammar.specs.Resolve.{Told}
 use Rattle.yaml_parse_loader.specs.Numbering.{Span, spanning, Content, Contents, Pairs, alias, scalar, sequence, mapping, no_items, item, no_pairs, pair, events, item_events, pair_events, DocumentContent, document_events, document_of}
-use Rattle.yaml_parse_loader.specs.Loading.{Loading, Fed, goes_on, loaded, refused, nothing_loaded, step, load, turn, behind}
+use Rattle.yaml_parse_loader.specs.Loading.{Loading, LoadStep, goes_on, loaded, refused, nothing_loaded, step, load, turn, behind}
 use Rattle.yaml_parse_loader.specs.Loading as loading
 use Rattle.yaml_parse_loader.proofs.Loads as numbering
 use Rattle.yaml_parse.specs.NextLoad.{told_events, left_behind, names_behind, wrong_alias, or_later, first_wrong, IsOutside, AreOutside, NoneNext, LoadsByContent, one_more, ended, contents_events, FrontsLoadByContent}
@@ -66,7 +66,7 @@ split (x ∷ xs) (g ∷ gs) more rest e =
 
 -- ---- where each alias has its anchor, the content is numbered
 
-reach_on : (fed : Fed) (wrong : Option Fault) (names : List (List ℕ)) (later : Option (Fault × ℕ)) (n : ℕ) (xs es : List Event)
+reach_on : (fed : LoadStep) (wrong : Option Fault) (names : List (List ℕ)) (later : Option (Fault × ℕ)) (n : ℕ) (xs es : List Event)
     → Inner fed wrong names → or_later wrong n later ≡ None → ((k : Loading) → Knows k.anchors names → later ≡ None → (m : Loading) × (load xs k ≡ load es m))
     → (m : Loading) × (turn fed (load xs) xs ≡ load es m)
 reach_on (goes_on k) wrong names later n xs es i e h = h k i.1 (ap (λ (o : Option Fault). or_later o n later) (sym i.0) ∙ e)

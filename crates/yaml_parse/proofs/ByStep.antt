@@ -4,7 +4,7 @@ use Rattle.yaml_scan_model.specs.Faults.{Fault, IsMemoryFault, load_layers}
 use Rattle.yaml_parse_document.specs.Documents.{Document, no_document}
 use Rattle.yaml_parse_grammar.specs.Resolve.{Told}
 use Rattle.yaml_parse_grammar.specs.Remaining.{ParserRemaining, IsFinished}
-use Rattle.yaml_parse_loader.specs.Loading.{Loading, Fed, goes_on, loaded, refused, nothing_loaded, step, Loaded}
+use Rattle.yaml_parse_loader.specs.Loading.{Loading, LoadStep, goes_on, loaded, refused, nothing_loaded, step, Loaded}
 use Rattle.yaml_parse_loader.specs.Loading as loading
 use Rattle.yaml_parse.specs.NextLoad.{told_events, left_behind, GivesDocument, GivesNoDocument}
 
@@ -15,7 +15,7 @@ pub data Loads : Type 0 where
   faulty : Fault → Loads
   nothing : Loads
 
-abbrev pub load_on : Fed → (Loading → Loads) → List Told → ℕ → Loads
+abbrev pub load_on : LoadStep → (Loading → Loads) → List Told → ℕ → Loads
 load_on (goes_on l) go rest left = go l
 load_on (loaded d) go rest left = document d rest left
 load_on (refused f) go rest left = faulty f
@@ -30,7 +30,7 @@ loads (g ∷ gs) f l = load_on (step g.0 l) (loads gs f) gs g.1
 
 -- How many tokens are not asked for as a load is refused: those that stand with the event that a loader refuses, or with the
 -- fault behind all.
-abbrev pub unasked_on : Fed → ℕ → (Loading → ℕ) → ℕ
+abbrev pub unasked_on : LoadStep → ℕ → (Loading → ℕ) → ℕ
 unasked_on (goes_on l) left go = go l
 unasked_on (loaded d) left go = left
 unasked_on (refused f) left go = left

@@ -10,7 +10,7 @@ use Rattle.yaml_parse_grammar.specs.Stacks.{parts_documents_behind}
 use Rattle.yaml_parse_document.specs.Documents.{Document, no_document}
 use Rattle.yaml_parse_grammar.specs.Resolve.{Told}
 use Rattle.yaml_parse_grammar.specs.Remaining.{ParserRemaining, IsFinished, FaultOf}
-use Rattle.yaml_parse_loader.specs.Loading.{Loading, Fed, goes_on, loaded, refused, nothing_loaded, step, step_body, aliased, load, turn}
+use Rattle.yaml_parse_loader.specs.Loading.{Loading, LoadStep, goes_on, loaded, refused, nothing_loaded, step, step_body, aliased, load, turn}
 use Rattle.yaml_parse.specs.Finds.{GivesNext, GivesEnd}
 use Rattle.yaml_parse.specs.NextLoad.{told_events, left_behind}
 use Rattle.yaml_parse.proofs.ByStep.{Loads, load_on, behind_all, loads, loads_of, unasked_on, unasked_at_refusal, unasked_of, LoadGives, LoadRefuses, KeepsLoading, LoadsSame}
@@ -19,15 +19,15 @@ pub keeps_first : (c : ParserRemaining) (l : Loading) → l ≡ nothing_loaded �
 keeps_first c l e = record { same = ap (λ (x : Loading). loads c.events c.ending x) e; unasked = ap (λ (x : Loading). unasked_at_refusal c.events c.ending_unasked x) e; left = refl; ending = refl; ending_unasked = refl; answered = refl }
 
 -- the next event is fed
-fed : (i o n : ParserRemaining) (l : Loading) (e : Event) (c : Fed) → KeepsLoading i o l → GivesNext e o n → step e l ≡ c → loads_of i ≡ load_on c (loads n.events o.ending) n.events n.unasked
+fed : (i o n : ParserRemaining) (l : Loading) (e : Event) (c : LoadStep) → KeepsLoading i o l → GivesNext e o n → step e l ≡ c → loads_of i ≡ load_on c (loads n.events o.ending) n.events n.unasked
 unfolding loads
 fed i o n l e c k h s =
-    sym k.same ∙ ap (λ (gs : List Told). loads gs o.ending l) h.events ∙ ap (λ (x : Fed). load_on x (loads n.events o.ending) n.events n.unasked) s
+    sym k.same ∙ ap (λ (gs : List Told). loads gs o.ending l) h.events ∙ ap (λ (x : LoadStep). load_on x (loads n.events o.ending) n.events n.unasked) s
 
-fed_unasked : (i o n : ParserRemaining) (l : Loading) (e : Event) (c : Fed) → KeepsLoading i o l → GivesNext e o n → step e l ≡ c → unasked_of i ≡ unasked_on c n.unasked (unasked_at_refusal n.events o.ending_unasked)
+fed_unasked : (i o n : ParserRemaining) (l : Loading) (e : Event) (c : LoadStep) → KeepsLoading i o l → GivesNext e o n → step e l ≡ c → unasked_of i ≡ unasked_on c n.unasked (unasked_at_refusal n.events o.ending_unasked)
 unfolding unasked_at_refusal
 fed_unasked i o n l e c k h s =
-    sym k.unasked ∙ ap (λ (gs : List Told). unasked_at_refusal gs o.ending_unasked l) h.events ∙ ap (λ (x : Fed). unasked_on x n.unasked (unasked_at_refusal n.events o.ending_unasked)) s
+    sym k.unasked ∙ ap (λ (gs : List Told). unasked_at_refusal gs o.ending_unasked l) h.events ∙ ap (λ (x : LoadStep). unasked_on x n.unasked (unasked_at_refusal n.events o.ending_unasked)) s
 
 fed_left : (i o n : ParserRemaining) (l : Loading) (e : Event) → KeepsLoading i o l → GivesNext e o n → left_behind n.events n.unasked ≡ left_behind i.events i.unasked
 unfolding left_behind
@@ -112,7 +112,7 @@ between_documents e l d between s h = h ∙ parted e.body e.start_mark e.end_mar
 
 -- ---- events alone
 
-same_on : (c : Fed) (gs : List Told) (left : ℕ) (f : Option Fault) → ((l : Loading) → LoadsSame f (load (told_events gs) l) (loads gs f l))
+same_on : (c : LoadStep) (gs : List Told) (left : ℕ) (f : Option Fault) → ((l : Loading) → LoadsSame f (load (told_events gs) l) (loads gs f l))
     → LoadsSame f (turn c (load (told_events gs)) (told_events gs)) (load_on c (loads gs f) gs left)
 same_on (goes_on l) gs left f h = h l
 same_on (loaded d) gs left f h = (refl, refl)

@@ -13,7 +13,7 @@ use Rattle.yaml_parse_grammar.specs.Resolve.{Told}
 use Rattle.yaml_parse_grammar.specs.Remaining.{ParserRemaining}
 use Rattle.yaml_parse_loader.specs.Anchors.{Anchors}
 use Rattle.yaml_parse_loader.specs.Numbering.{is_same, spanning, Content, Contents, Pairs, alias, scalar, sequence, mapping, no_items, item, no_pairs, pair, events, item_events, pair_events, DocumentContent, document_events, document_of}
-use Rattle.yaml_parse_loader.specs.Loading.{Open, Loading, Fed, goes_on, loaded, refused, nothing_loaded, named, closed, aliased, step, step_body, load, turn, behind}
+use Rattle.yaml_parse_loader.specs.Loading.{Open, Loading, LoadStep, goes_on, loaded, refused, nothing_loaded, named, closed, aliased, step, step_body, load, turn, behind}
 use Rattle.yaml_parse_loader.specs.Loading as loading
 use Rattle.yaml_parse_loader.proofs.Loads as numbering
 use Rattle.yaml_parse.specs.NextLoad.{told_events, left_behind, is_among, and_anchor, names_behind, unless_known, wrong_alias, or_later, first_wrong, IsOutside, AreOutside, NextLoad, next_document, next_fault, next_none, NoneNext, IsLoadOf, IsNextLoad, GivesLoad, IsRefusalOf, RefusesNext, LoadIsNext, RefusalIsNext, LoadsByContent, one_more, ended, AreLoadsByContent}
@@ -89,7 +89,7 @@ knows_more (Some x) n known names k = λ name.
 -- ---- one event of a document
 
 -- it goes on, or the alias is the first that is wrong
-abbrev pub Inner : Fed → Option Fault → List (List ℕ) → Type 0
+abbrev pub Inner : LoadStep → Option Fault → List (List ℕ) → Type 0
 Inner (goes_on m) wrong names = (wrong ≡ None) × Knows m.anchors names
 Inner (loaded d) wrong names = ⊥
 Inner (refused f) wrong names = wrong ≡ Some f
@@ -123,7 +123,7 @@ inner_step event.mapping_end from to l names h k = closed_inner to l l.levels na
 abbrev RefusedAt : Loads → ℕ → Fault × ℕ → Type 0
 RefusedAt r count w = (r ≡ told.faulty w.0) × (count ≡ w.1)
 
-wrong_on : (fed : Fed) (wrong : Option Fault) (names : List (List ℕ)) (later : Option (Fault × ℕ)) (w : Fault × ℕ) (go : Loading → Loads) (count : Loading → ℕ) (rest : List Told) (n : ℕ)
+wrong_on : (fed : LoadStep) (wrong : Option Fault) (names : List (List ℕ)) (later : Option (Fault × ℕ)) (w : Fault × ℕ) (go : Loading → Loads) (count : Loading → ℕ) (rest : List Told) (n : ℕ)
     → Inner fed wrong names → or_later wrong n later ≡ Some w → ((m : Loading) → Knows m.anchors names → later ≡ Some w → RefusedAt (go m) (count m) w)
     → RefusedAt (load_on fed go rest n) (unasked_on fed n count) w
 wrong_on (goes_on m) wrong names later w go count rest n i e h =
@@ -148,7 +148,7 @@ wrong_inner (g ∷ gs) left f behind l names w h k e =
 abbrev EndsAt : Loads → ℕ → Option Fault → ℕ → Type 0
 EndsAt r count f behind = (r ≡ behind_all f) × (count ≡ behind)
 
-right_on : (fed : Fed) (wrong : Option Fault) (names : List (List ℕ)) (later : Option (Fault × ℕ)) (f : Option Fault) (behind : ℕ) (go : Loading → Loads) (count : Loading → ℕ) (rest : List Told) (n : ℕ)
+right_on : (fed : LoadStep) (wrong : Option Fault) (names : List (List ℕ)) (later : Option (Fault × ℕ)) (f : Option Fault) (behind : ℕ) (go : Loading → Loads) (count : Loading → ℕ) (rest : List Told) (n : ℕ)
     → Inner fed wrong names → or_later wrong n later ≡ None → ((m : Loading) → Knows m.anchors names → later ≡ None → EndsAt (go m) (count m) f behind)
     → EndsAt (load_on fed go rest n) (unasked_on fed n count) f behind
 right_on (goes_on m) wrong names later f behind go count rest n i e h =
@@ -231,13 +231,13 @@ outside_loads : (os gs : List Told) (f : Option Fault) (l : Loading) → AreOuts
 unfolding loads
 outside_loads [] gs f l h = refl
 outside_loads (o ∷ os) gs f l h =
-    ap (λ (x : Fed). load_on x (loads (os ++ gs) f) (os ++ gs) o.1) (outside_step o.0.body o.0.start_mark o.0.end_mark l h.0) ∙ outside_loads os gs f l h.1
+    ap (λ (x : LoadStep). load_on x (loads (os ++ gs) f) (os ++ gs) o.1) (outside_step o.0.body o.0.start_mark o.0.end_mark l h.0) ∙ outside_loads os gs f l h.1
 
 outside_unasked : (os gs : List Told) (behind : ℕ) (l : Loading) → AreOutside os → unasked_at_refusal (os ++ gs) behind l ≡ unasked_at_refusal gs behind l
 unfolding unasked_at_refusal
 outside_unasked [] gs behind l h = refl
 outside_unasked (o ∷ os) gs behind l h =
-    ap (λ (x : Fed). unasked_on x o.1 (unasked_at_refusal (os ++ gs) behind)) (outside_step o.0.body o.0.start_mark o.0.end_mark l h.0) ∙ outside_unasked os gs behind l h.1
+    ap (λ (x : LoadStep). unasked_on x o.1 (unasked_at_refusal (os ++ gs) behind)) (outside_step o.0.body o.0.start_mark o.0.end_mark l h.0) ∙ outside_unasked os gs behind l h.1
 
 -- ---- a whole document
 
@@ -245,7 +245,7 @@ longer : (gs left : List Told) → length (told_events (gs ++ left)) ≡ length 
 longer [] left = omega arith
 longer (g ∷ gs) left = omega (arith, longer gs left)
 
-less_on : (fed : Fed) (es rest : List Event) (d : Document) → ((m : Loading) → load es m ≡ loading.document d rest → length rest < length es) → turn fed (load es) es ≡ loading.document d rest → length rest < suc (length es)
+less_on : (fed : LoadStep) (es rest : List Event) (d : Document) → ((m : Loading) → load es m ≡ loading.document d rest → length rest < length es) → turn fed (load es) es ≡ loading.document d rest → length rest < suc (length es)
 less_on (goes_on m) es rest d h e = let k : length rest < length es = h m e in omega arith
 less_on (loaded c) es rest d h e = let p : es ≡ rest = cc in let q : length es ≡ length rest = ap (λ (xs : List Event). length xs) p in omega arith
 less_on (refused f) es rest d h e = absurd (cc)
@@ -263,7 +263,7 @@ last_event (g ∷ gs) left n f d e =
     let q : length (told_events ((g ∷ gs) ++ left)) ≡ suc (length gs) + length (told_events left) = longer (g ∷ gs) left in
     absurd (omega arith)
 
-whole_on : (fed : Fed) (gs left : List Told) (n : ℕ) (f : Option Fault) (d : Document)
+whole_on : (fed : LoadStep) (gs left : List Told) (n : ℕ) (f : Option Fault) (d : Document)
     → ((m : Loading) → load (told_events (gs ++ left)) m ≡ loading.document d (told_events left) → loads (gs ++ left) f m ≡ told.document d left (left_behind gs n))
     → turn fed (load (told_events (gs ++ left))) (told_events (gs ++ left)) ≡ loading.document d (told_events left)
     → load_on fed (loads (gs ++ left) f) (gs ++ left) n ≡ told.document d left (left_behind gs n)

@@ -7,7 +7,7 @@ use Rattle.yaml_parse_grammar.specs.TreeEvents.{given_of}
 use Rattle.yaml_parse_grammar.specs.Machine.{run, initial}
 use Rattle.yaml_parse_grammar.specs.Resolve.{Told, no_directives}
 use Rattle.yaml_parse_grammar.specs.Remaining.{reading_of, unasked_of}
-use Rattle.yaml_parse_laws_given.specs.laws_faults.laws_sound.Laws.{BeginsWithTree, bare, GoesOnGiving, RefusedAt, RunsOut}
+use Rattle.yaml_parse_laws_given.specs.laws_faults.laws_sound.Laws.{BeginsWithTree, bare, TreeGoesOnGiving, RefusedAt, RunsOut}
 use Rattle.yaml_parse_laws_given.specs.laws_faults.laws_counts.Laws.{AtMostFourSoFar}
 use Rattle.yaml_parse_laws_given.specs.laws_faults.Places.{FaultOfTokens, IsToldWith}
 use Rattle.yaml_parse_laws_given.proofs.laws_faults.laws_counts.SoFar.{few_so_far}
@@ -26,7 +26,7 @@ pub told_with : (ts : List Token) (f ending : Option Fault) (e : Fault) (unasked
     → ending ≡ Some e → IsToldWith ts f e unasked
 told_with ts f ending e unasked p q h = subst (IsToldWith ts f e) (sym q) (told_at_place ts f e (sym p ∙ h))
 
-begin : (ts : List Token) (f : Option Fault) (front behind : List Token) → ts ≡ front ++ behind → IsLongest front behind → GoesOnGiving front (bare (run ts initial f).items)
+begin : (ts : List Token) (f : Option Fault) (front behind : List Token) → ts ≡ front ++ behind → IsLongest front behind → TreeGoesOnGiving front (bare (run ts initial f).items)
     → BeginsTree ts (reading_of (run ts initial f) no_directives).events
 begin ts f front behind l w g = record {
   front = front;

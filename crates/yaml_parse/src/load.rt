@@ -2,6 +2,7 @@
 
 ghost use Rattle.std.specs.Prelude.{◌≡◌, ◌≤◌, true, IfOk, IfErr};
 ghost use Rattle.yaml_scan_model.specs.Faults.{fault_of};
+ghost use Rattle.yaml_parse_document.specs.Sizes.{IsSized};
 ghost use Rattle.yaml_parse.specs.NextLoad.{AreLoadsByContent, FrontsLoadByContent, LoadIsNext, RefusalIsNext};
 
 use crate::parser::{next_event, yaml_parser_t};
@@ -26,6 +27,8 @@ pub fn yaml_parser_load<S: yaml_token_source_t>(
     ensures next { IfOk result (λ d. LoadIsNext parser.old d parser.new) }
     ensures refused { IfErr result (λ f. RefusalIsNext parser.old (fault_of f) parser.new) }
     ensures between { parser.new.between ≡ true }
+    // No list of a document (its nodes, the items of a sequence, the pairs of a mapping) has more than 2,147,483,647 entries.
+    ensures sized { IfOk result (λ d. IsSized d) }
     // One token at most is asked for and not consumed.
     ensures held { parser.new.held ≤ 1 }
 {

@@ -1,3 +1,4 @@
 pub mod Documents
 pub mod Parts
+pub mod Sizes
 pub mod Views

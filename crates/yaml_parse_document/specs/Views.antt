@@ -4,6 +4,7 @@ use Rattle.yaml_parse_model.specs.Events.{directive_of}
 use Rattle.yaml_parse_model.specs.Nodes.{node_of}
 use Rattle.yaml_parse_document.specs.declared.document.yaml_document_t.TheInside.{Inside}
 use Rattle.yaml_parse_document.specs.Documents.{Document, IsDocument}
+use Rattle.yaml_parse_document.specs.Sizes.{IsSized}
 
 abbrev pub document_view : Inside → Document
 document_view d = record {
@@ -17,4 +18,4 @@ document_view d = record {
 }
 
 abbrev pub IsDocumentInside : Inside → Type 0
-IsDocumentInside d = IsDocument (document_view d)
+IsDocumentInside d = IsDocument (document_view d) × IsSized (document_view d)

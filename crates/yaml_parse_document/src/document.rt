@@ -23,7 +23,8 @@ use yaml_parse_model::{
 };
 
 /// A document: its directives, and its nodes, which name each other by their numbers. The numbers count from 1, and
-/// the first node is the root. Its texts are UTF-8, and its numbers name its nodes.
+/// the first node is the root. Its texts are UTF-8, its numbers name its nodes, and none of its lists (its nodes, the
+/// items of a sequence, the pairs of a mapping) has more than 2,147,483,647 entries.
 ///
 /// A document keeps its allocator, so calls on it take none.
 #[derive(Drop)]

@@ -4,10 +4,10 @@ use Rattle.std.proofs.lemmas.Bool.{cases_order}
 use Rattle.yaml_parse_laws_sound.specs.grammar.parse_model.Tokens.{Token}
 use Rattle.yaml_parse_laws_sound.specs.grammar.parse_model.Faults.{Fault}
 use Rattle.yaml_parse_laws_sound.specs.grammar.Trees.{Stream, spell}
-use Rattle.yaml_parse_laws_sound.specs.Laws.{GoesOn}
+use Rattle.yaml_parse_laws_sound.specs.Laws.{TreeGoesOn}
 use Rattle.yaml_parse_laws_faults.specs.LookBack.{followed_by}
 use Rattle.yaml_parse_laws_faults.specs.Wrong.{directive_fault, handle_fault}
-use Rattle.yaml_parse_laws_faults.specs.Places.{Rank, of_handle, of_token, Place, RanksBefore, ComesBefore, WrongToken, grammar, directive, FaultAt, StandsIn, IsFirst, IsFree, BeginsWithSentence}
+use Rattle.yaml_parse_laws_faults.specs.Places.{Rank, of_handle, of_token, FaultPlace, RanksBefore, ComesBefore, WrongToken, grammar, directive, FaultAt, StandsIn, IsOfLeastPlace, IsFree, BeginsWithSentence}
 use Rattle.yaml_parse_laws_faults.proofs.Cuts.{SameCut, same_cut, IsNoFront, Reaches, reaches, followed_length}
 
 abbrev pub NoFault : List Token → Token → Type 0
@@ -24,7 +24,7 @@ Unfinished past = (tree : Stream) → IsNoFront (spell tree []) past
 some_none : (o : Option Fault) (e : Fault) → o ≡ None → o ≡ Some e → ⊥
 some_none o e p q = cc
 
-pub no_fault : (past : List Token) (t : Token) → handle_fault past t.body ≡ None → GoesOn (followed_by past (t ∷ [])) → directive_fault past t.body t.start_mark ≡ None → NoFault past t
+pub no_fault : (past : List Token) (t : Token) → handle_fault past t.body ≡ None → TreeGoesOn (followed_by past (t ∷ [])) → directive_fault past t.body t.start_mark ≡ None → NoFault past t
 no_fault past t h g d of_handle e p = some_none (handle_fault past t.body) e h p
 no_fault past t h g d of_token e (grammar n p) = n g
 no_fault past t h g d of_token e (directive k p) = some_none (directive_fault past t.body t.start_mark) e d p
@@ -51,7 +51,7 @@ clean_cut (x ∷ past) us other t behind p l c = by_length (λ e. clean_cut past
     by_length k (inr (inr e)) = absurd (over e l)
 
 -- nothing stands before a place
-pub none_earlier : (past us ts : List Token) (p : Place) (e : Fault) → ts ≡ followed_by past us → Clean past → StandsIn ts p e → p.number < length past → ⊥
+pub none_earlier : (past us ts : List Token) (p : FaultPlace) (e : Fault) → ts ≡ followed_by past us → Clean past → StandsIn ts p e → p.number < length past → ⊥
 none_earlier past us ts p e l c s n =
     clean_cut past us s.past s.token s.behind (sym l ∙ s.list) (subst (λ (z : ℕ). z < length past) (sym s.number) n) c p.rank e s.fault
 
@@ -72,12 +72,12 @@ handle_here past other t u ts us e p n h =
     let c : SameCut past other (t ∷ ts) (u ∷ us) = same_cut past other (t ∷ ts) (u ∷ us) p n in
     subst (λ (z : Token). handle_fault past z.body ≡ Some e) (sym (head_same t u ts us c.behind)) (subst (λ (z : List Token). handle_fault z u.body ≡ Some e) (sym c.before) h)
 
-abbrev placed : List Token → Rank → Place
+abbrev placed : List Token → Rank → FaultPlace
 placed past r = record { number = length past; rank = r }
 
 -- the first fault of a list has so many tokens before it
 abbrev pub FirstAt : List Token → ℕ → Fault → Type 0
-FirstAt ts n e = (first : IsFirst (StandsIn ts) e) × (first.place.number ≡ n)
+FirstAt ts n e = (first : IsOfLeastPlace (StandsIn ts) e) × (first.place.number ≡ n)
 
 pub handle_first : (past : List Token) (t : Token) (ts : List Token) (e : Fault) → Clean past → handle_fault past t.body ≡ Some e → FirstAt (followed_by past (t ∷ ts)) (length past) e
 handle_first past t ts e c h = (
@@ -89,7 +89,7 @@ handle_first past t ts e c h = (
   refl,
 )
   where
-    earlier : (p : Place) (f : Fault) → StandsIn (followed_by past (t ∷ ts)) p f → ComesBefore p (placed past of_handle) → ⊥
+    earlier : (p : FaultPlace) (f : Fault) → StandsIn (followed_by past (t ∷ ts)) p f → ComesBefore p (placed past of_handle) → ⊥
     earlier p f s (inl l) = none_earlier past (t ∷ ts) (followed_by past (t ∷ ts)) p f refl c s l
     earlier p f s (inr k) = no_rank p.rank k.1
       where
@@ -111,7 +111,7 @@ token_first past t ts e c h w = (
     ranked of_token f other u us k p n x = k
     ranked of_handle f other u us k p n x = some_none (handle_fault past t.body) f h (handle_here past other t u ts us f p n x)
 
-    earlier : (p : Place) (f : Fault) → StandsIn (followed_by past (t ∷ ts)) p f → ComesBefore p (placed past of_token) → ⊥
+    earlier : (p : FaultPlace) (f : Fault) → StandsIn (followed_by past (t ∷ ts)) p f → ComesBefore p (placed past of_token) → ⊥
     earlier p f s (inl l) = none_earlier past (t ∷ ts) (followed_by past (t ∷ ts)) p f refl c s l
     earlier p f s (inr k) = ranked p.rank f s.past s.token s.behind k.1 s.list (sym k.0 ∙ sym s.number) s.fault
 

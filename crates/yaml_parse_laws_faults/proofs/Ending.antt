@@ -12,7 +12,7 @@ use Rattle.yaml_parse_laws_sound.specs.grammar.Machine.{Fed, stop, go, feed, Out
 use Rattle.yaml_parse_laws_sound.specs.grammar.Resolve.{Directives, no_directives, reading, unasked_at_fault}
 use Rattle.yaml_parse_laws_sound.specs.grammar.Remaining.{reading_of, unasked_of}
 use Rattle.yaml_parse_laws_sound.proofs.grammar.CompleteStream.{stream_runs, nothing_runs}
-use Rattle.yaml_parse_laws_sound.specs.Laws.{GoesOn}
+use Rattle.yaml_parse_laws_sound.specs.Laws.{TreeGoesOn}
 use Rattle.yaml_parse_laws_sound.proofs.Left.{Over}
 use Rattle.yaml_parse_laws_sound.proofs.Standing.{AllStood, FedStood, feed_stood}
 use Rattle.yaml_parse_laws_sound.proofs.Closing.{closers, Empty, all_close}
@@ -97,14 +97,14 @@ over_closers x s = closers zero_mark (x ∷ s)
 pub sentence_tree : (ts : List Token) → Over initial Empty ts → (tree : Stream) × (ts ≡ spell tree [])
 sentence_tree ts h = (h.tree, h.same ∙ ap (spell h.tree) h.goes)
 
-goes_on : (past : List Token) (t : Token) (us : List Token) → Over initial Empty (followed_by past (t ∷ us)) → GoesOn (followed_by past (t ∷ []))
+goes_on : (past : List Token) (t : Token) (us : List Token) → Over initial Empty (followed_by past (t ∷ us)) → TreeGoesOn (followed_by past (t ∷ []))
 goes_on past t us h = record { tree = h.tree; more = us; same = followed_on past (t ∷ []) us ∙ h.same ∙ ap (spell h.tree) h.goes }
 
 not_none : (e : Fault) → Some e ≡ None → ⊥
 not_none e h = cc
 
 -- no tree goes on with a token that is refused
-refused_token : (x : State) (s : List State) (past : List Token) (ds : Directives) (t : Token) (is : List RawEvent) (e : Fault) → At x s past ds → feed (x ∷ s) t ≡ stop is e → GoesOn (followed_by past (t ∷ [])) → ⊥
+refused_token : (x : State) (s : List State) (past : List Token) (ds : Directives) (t : Token) (is : List RawEvent) (e : Fault) → At x s past ds → feed (x ∷ s) t ≡ stop is e → TreeGoesOn (followed_by past (t ∷ [])) → ⊥
 refused_token x s past ds t is e a p g =
     let same : followed_by past (t ∷ g.more) ≡ spell g.tree [] = sym (followed_on past (t ∷ []) g.more) ∙ g.same in
     not_none e
@@ -179,7 +179,7 @@ found_at_end past o u d =
 pub taken_goes : (x : State) (s s' : List State) (past : List Token) (ds : Directives) (t : Token) (is : List RawEvent) → At x s past ds → feed (x ∷ s) t ≡ go is s' → (us : List Token) → Over s' Empty us → Over initial Empty (followed_by past (t ∷ us))
 taken_goes x s s' past ds t is a p us h = a.goes (t ∷ us) (subst (Takes Empty (x ∷ s) t) p (takes Empty (x ∷ s) t (stack_solid x s a.stack)) us h)
 
-pub taken_on : (x : State) (s s' : List State) (past : List Token) (ds : Directives) (t : Token) (is : List RawEvent) → At x s past ds → feed (x ∷ s) t ≡ go is s' → GoesOn (followed_by past (t ∷ []))
+pub taken_on : (x : State) (s s' : List State) (past : List Token) (ds : Directives) (t : Token) (is : List RawEvent) → At x s past ds → feed (x ∷ s) t ≡ go is s' → TreeGoesOn (followed_by past (t ∷ []))
 taken_on x s s' past ds t is a p = goes_on past t (closers zero_mark s') (taken_goes x s s' past ds t is a p (closers zero_mark s') (all_close zero_mark s'))
 
 taken_reached : (x : State) (s s' : List State) (past : List Token) (ds : Directives) (t : Token) (is : List RawEvent) → At x s past ds → feed (x ∷ s) t ≡ go is s'

@@ -6,14 +6,14 @@ use Rattle.yaml_parse_laws_sound.specs.grammar.Machine.{feed, run, initial}
 use Rattle.yaml_parse_laws_sound.specs.grammar.Resolve.{no_directives, reading, directive_for}
 use Rattle.yaml_parse_laws_sound.specs.grammar.Remaining.{reading_of}
 use Rattle.yaml_parse_laws_faults.specs.Places.{FaultOfTokens}
-use Rattle.yaml_parse_laws_faults.specs.Rows.{Row, grammar_rows, directive_rows, other_rows, AllHold, RowsHold}
+use Rattle.yaml_parse_laws_faults.specs.Rows.{FaultRow, grammar_rows, directive_rows, other_rows, AllHold, RowsHold}
 use Rattle.yaml_parse_laws_faults.proofs.Ending.{ends_in_fault}
 
-abbrev AllRun : List Row → Type 0
+abbrev AllRun : List FaultRow → Type 0
 AllRun [] = Unit {0}
 AllRun (r ∷ rs) = ((reading_of (run r.tokens initial r.own) no_directives).ending ≡ r.fault) × AllRun rs
 
-all_hold : (rs : List Row) → AllRun rs → AllHold rs
+all_hold : (rs : List FaultRow) → AllRun rs → AllHold rs
 all_hold [] h = tt
 all_hold (r ∷ rs) h = (subst (λ (z : Option Fault). FaultOfTokens r.tokens r.own z) h.0 (ends_in_fault r.tokens r.own), all_hold rs h.1)
 

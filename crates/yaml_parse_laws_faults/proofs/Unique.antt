@@ -4,7 +4,7 @@ use Rattle.std.proofs.lemmas.Bool.{cases_order}
 use Rattle.yaml_parse_laws_sound.specs.grammar.parse_model.Tokens.{Token}
 use Rattle.yaml_parse_laws_sound.specs.grammar.parse_model.Faults.{Fault}
 use Rattle.yaml_parse_laws_faults.specs.Wrong.{directive_fault, handle_fault}
-use Rattle.yaml_parse_laws_faults.specs.Places.{Rank, of_handle, of_token, ComesBefore, WrongToken, grammar, directive, FaultAt, StandsIn, IsFirst, with_end, IsOwn}
+use Rattle.yaml_parse_laws_faults.specs.Places.{Rank, of_handle, of_token, ComesBefore, WrongToken, grammar, directive, FaultAt, StandsIn, IsOfLeastPlace, with_end, IsOwn}
 use Rattle.yaml_parse_laws_faults.specs.Laws.{FaultIsOne}
 use Rattle.yaml_parse_laws_faults.proofs.Cuts.{SameCut, same_cut}
 
@@ -39,7 +39,7 @@ by_rank ts n m of_token of_token e f p x y a b = one_standing ts n m of_token e 
 by_rank ts n m of_handle of_token e f p x y a b = absurd (a (inr (p, tt)))
 by_rank ts n m of_token of_handle e f p x y a b = absurd (b (inr (sym p, tt)))
 
-one_first : (ts : List Token) (e f : Fault) → IsFirst (StandsIn ts) e → IsFirst (StandsIn ts) f → e ≡ f
+one_first : (ts : List Token) (e f : Fault) → IsOfLeastPlace (StandsIn ts) e → IsOfLeastPlace (StandsIn ts) f → e ≡ f
 one_first ts e f x y = by_number (cases_order x.place.number y.place.number)
   where
     by_number : (x.place.number ≡ y.place.number) ⊎ ((x.place.number < y.place.number) ⊎ (y.place.number < x.place.number)) → e ≡ f
@@ -47,14 +47,14 @@ one_first ts e f x y = by_number (cases_order x.place.number y.place.number)
     by_number (inr (inl p)) = absurd (y.least x.place e x.stands (inl p))
     by_number (inr (inr p)) = absurd (x.least y.place f y.stands (inl p))
 
-not_own : (ts : List Token) (own : Option Fault) (e f : Fault) → IsFirst (StandsIn (with_end own ts)) e → IsOwn ts own f → ⊥
+not_own : (ts : List Token) (own : Option Fault) (e f : Fault) → IsOfLeastPlace (StandsIn (with_end own ts)) e → IsOwn ts own f → ⊥
 not_own ts None e f x y = cc_some y.same
   where
     cc_some : None ≡ Some f → ⊥
     cc_some h = cc
 not_own ts (Some g) e f x y = y.free x.place e x.stands
 
-one_refused : (ts : List Token) (own : Option Fault) (e f : Fault) → IsFirst (StandsIn (with_end own ts)) e ⊎ IsOwn ts own e → IsFirst (StandsIn (with_end own ts)) f ⊎ IsOwn ts own f → e ≡ f
+one_refused : (ts : List Token) (own : Option Fault) (e f : Fault) → IsOfLeastPlace (StandsIn (with_end own ts)) e ⊎ IsOwn ts own e → IsOfLeastPlace (StandsIn (with_end own ts)) f ⊎ IsOwn ts own f → e ≡ f
 one_refused ts own e f (inl x) (inl y) = one_first (with_end own ts) e f x y
 one_refused ts own e f (inl x) (inr y) = absurd (not_own ts own e f x y)
 one_refused ts own e f (inr x) (inl y) = absurd (not_own ts own f e y x)

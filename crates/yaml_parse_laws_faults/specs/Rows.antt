@@ -33,13 +33,13 @@ abbrev pub tag_e : TokenBody
 tag_e = token.tag (codes "!e!") (codes "x")
 
 -- a list of tokens, its own fault, and the fault that it has
-pub record Row : Type 0 where
+pub record FaultRow : Type 0 where
   pub tokens : List Token
   pub own : Option Fault
   pub fault : Option Fault
 
 -- a list without a fault of its own
-abbrev pub row : List Token → Fault → Row
+abbrev pub row : List Token → Fault → FaultRow
 row ts fault = record { tokens = ts; own = None; fault = Some fault }
 
 abbrev pub no_node_at : List ℕ → ℕ → Fault
@@ -50,7 +50,7 @@ abbrev pub scanner_fault : Fault
 scanner_fault = alone (codes "a fault of the scanner") (column 2)
 
 -- The texts, contexts and marks of the grammar's faults.
-abbrev pub grammar_rows : List Row
+abbrev pub grammar_rows : List FaultRow
 grammar_rows =
     -- nothing at all
     row [] (alone (codes "did not find expected <stream-start>") zero_mark)
@@ -86,7 +86,7 @@ grammar_rows =
     ∷ []
 
 -- Those of directives and of tag handles.
-abbrev pub directive_rows : List Row
+abbrev pub directive_rows : List FaultRow
 directive_rows =
     row (stream (in_column 1 (version 1 1) ∷ in_column 2 (version 1 2) ∷ []))
     (alone (codes "found duplicate %YAML directive") (column 2))
@@ -107,7 +107,7 @@ directive_rows =
     ∷ []
 
 -- A whole stream has none, whatever follows it. An unfinished list has its own.
-abbrev pub other_rows : List Row
+abbrev pub other_rows : List FaultRow
 other_rows =
     record {
       tokens = stream (in_column 1 token.stream_end ∷ in_column 2 word ∷ []);
@@ -121,7 +121,7 @@ other_rows =
     }
     ∷ []
 
-abbrev pub AllHold : List Row → Type 0
+abbrev pub AllHold : List FaultRow → Type 0
 AllHold [] = Unit {0}
 AllHold (r ∷ rs) = FaultOfTokens r.tokens r.own r.fault × AllHold rs
 

@@ -11,7 +11,7 @@ use Rattle.yaml_parse_laws_faults.specs.grammar.TreeEvents.{given_of}
 use Rattle.yaml_parse_laws_faults.specs.grammar.Machine.{Fed, stop, go, feed, Outcome, run, initial}
 use Rattle.yaml_parse_laws_faults.specs.grammar.Resolve.{Told, reading, no_directives}
 use Rattle.yaml_parse_laws_faults.specs.grammar.Remaining.{reading_of}
-use Rattle.yaml_parse_laws_faults.specs.laws_sound.Laws.{GoesOn, BeginsWithTree, bare, RefusedAt, RunsOut}
+use Rattle.yaml_parse_laws_faults.specs.laws_sound.Laws.{TreeGoesOn, BeginsWithTree, bare, RefusedAt, RunsOut}
 use Rattle.yaml_parse_laws_faults.proofs.grammar.CompleteStream.{stream_runs, nothing_runs}
 use Rattle.yaml_parse_laws_faults.proofs.laws_sound.Left.{Over}
 use Rattle.yaml_parse_laws_faults.proofs.laws_sound.Closing.{closers, Empty, all_close}
@@ -108,7 +108,7 @@ refused_token s t ts own (stop is e) p h = record {
 refused_token s t ts own (go is s') p h = absurd (h is s' p)
 
 -- no tree goes on with it
-goes_further : (front : List Token) (w : Here front) (t : Token) (is : List RawEvent) (s' : List State) → feed (w.top ∷ w.below) t ≡ go is s' → GoesOn (front ++ t ∷ [])
+goes_further : (front : List Token) (w : Here front) (t : Token) (is : List RawEvent) (s' : List State) → feed (w.top ∷ w.below) t ≡ go is s' → TreeGoesOn (front ++ t ∷ [])
 goes_further front w t is s' p =
     let us : List Token = closers zero_mark s' in
     let h : Over initial Empty (front ++ t ∷ us) = w.goes (t ∷ us) (takes_step w.top w.below s' (last_behind nothing front) t is w.knows p us (all_close zero_mark s')) in

@@ -4,14 +4,14 @@ use Rattle.yaml_parse_laws_faults.specs.grammar.Machine.{feed, run}
 use Rattle.yaml_parse_laws_faults.specs.grammar.Resolve.{Told, reading}
 use Rattle.yaml_parse_laws_given.specs.Given.{EventsOfTokens}
 use Rattle.yaml_parse_laws_given.specs.Laws.{events_run}
-use Rattle.yaml_parse_laws_given.specs.Rows.{Row, rows, AllHold, RowsHold}
+use Rattle.yaml_parse_laws_given.specs.Rows.{EventsRow, rows, AllHold, RowsHold}
 use Rattle.yaml_parse_laws_given.proofs.Giving.{run_gives_events}
 
-abbrev AllRun : List Row → Type 0
+abbrev AllRun : List EventsRow → Type 0
 AllRun [] = Unit {0}
 AllRun (r ∷ rs) = (events_run r.tokens r.own ≡ r.events) × AllRun rs
 
-all_hold : (rs : List Row) → AllRun rs → AllHold rs
+all_hold : (rs : List EventsRow) → AllRun rs → AllHold rs
 all_hold [] h = tt
 all_hold (r ∷ rs) h = (subst (λ (z : List Told). EventsOfTokens r.tokens r.own z) h.0 (run_gives_events r.tokens r.own), all_hold rs h.1)
 

@@ -7,7 +7,7 @@ use Rattle.yaml_parse_laws_faults.specs.grammar.parse_model.Faults.{Fault}
 use Rattle.yaml_parse_laws_faults.specs.grammar.Trees.{Stream, spell, Given, next}
 use Rattle.yaml_parse_laws_faults.specs.grammar.TreeEvents.{given_of}
 use Rattle.yaml_parse_laws_faults.specs.grammar.Resolve.{Told, reading, no_directives}
-use Rattle.yaml_parse_laws_faults.specs.laws_sound.Laws.{GoesOn, BeginsWithTree}
+use Rattle.yaml_parse_laws_faults.specs.laws_sound.Laws.{TreeGoesOn, BeginsWithTree}
 use Rattle.yaml_parse_laws_faults.specs.LookBack.{asks_for_node, is_directive}
 
 -- ---- the longest front
@@ -15,7 +15,7 @@ use Rattle.yaml_parse_laws_faults.specs.LookBack.{asks_for_node, is_directive}
 -- no tree goes on with one token more
 abbrev pub IsLongest : List Token → List Token → Type 0
 IsLongest front [] = Unit {0}
-IsLongest front (t ∷ ts) = GoesOn (front ++ t ∷ []) → ⊥
+IsLongest front (t ∷ ts) = TreeGoesOn (front ++ t ∷ []) → ⊥
 
 -- A tree that goes on with the longest front of the tokens with which one does; it has tokens of its own behind that.
 pub record LongestFront (ts : List Token) : Type 0 where

@@ -37,15 +37,15 @@ abbrev pub anchor_b : TokenBody
 anchor_b = token.anchor (codes "b")
 
 -- a list of tokens, its own fault, and its events
-pub record Row : Type 0 where
+pub record EventsRow : Type 0 where
   pub tokens : List Token
   pub own : Option Fault
   pub events : List Told
 
-abbrev pub row : List Token → Option Fault → List Told → Row
+abbrev pub row : List Token → Option Fault → List Told → EventsRow
 row ts own events = record { tokens = ts; own = own; events = events }
 
-abbrev pub rows : List Row
+abbrev pub rows : List EventsRow
 rows =
     -- `[? a : &b`, and a block's end: the node that has an anchor alone is given, and the end of the pair
     row (stream (in_column 1 token.flow_sequence_start ∷ in_column 2 token.key ∷ in_column 3 word
@@ -70,7 +70,7 @@ rows =
     ∷ row (stream (in_column 1 anchor_b ∷ [])) (Some scanner_fault) (begun 1 0 [])
     ∷ []
 
-abbrev pub AllHold : List Row → Type 0
+abbrev pub AllHold : List EventsRow → Type 0
 AllHold [] = Unit {0}
 AllHold (r ∷ rs) = EventsOfTokens r.tokens r.own r.events × AllHold rs
 

@@ -4,7 +4,7 @@ use Rattle.yaml_parse_laws_faults.specs.grammar.parse_model.Faults.{Fault}
 use Rattle.yaml_parse_laws_faults.specs.grammar.parse_model.Nodes.{Node}
 use Rattle.yaml_parse_laws_faults.specs.grammar.Resolve.{Told}
 use Rattle.yaml_parse_document.specs.Documents.{Document}
-use Rattle.yaml_parse_loader.specs.Loading.{Loading, Fed, goes_on, loaded, refused, nothing_loaded, step}
+use Rattle.yaml_parse_loader.specs.Loading.{Loading, LoadStep, goes_on, loaded, refused, nothing_loaded, step}
 use Rattle.yaml_parse_laws_loading.specs.AllLoads.{Loads, in_front, load_on, load_all}
 
 -- a document without a root ends them
@@ -12,7 +12,7 @@ abbrev pub unless_rootless : List Node → Option Fault → Option Fault
 unless_rootless [] f = None
 unless_rootless (n ∷ ns) f = f
 
-abbrev pub fault_on : Fed → (Loading → Option Fault) → Option Fault
+abbrev pub fault_on : LoadStep → (Loading → Option Fault) → Option Fault
 fault_on (goes_on l) rest = rest l
 fault_on (loaded d) rest = unless_rootless d.nodes (rest nothing_loaded)
 fault_on (refused f) rest = Some f
@@ -28,7 +28,7 @@ in_front_alike : (ns : List Node) (d : Document) (rest : Loads) (f : Option Faul
 in_front_alike [] d rest f h = refl
 in_front_alike (n ∷ ns) d rest f h = h
 
-on_alike : (c : Fed) (p : Loading → Loads) (q : Loading → Option Fault) → ((l : Loading) → (p l).fault ≡ q l) → (load_on c p).fault ≡ fault_on c q
+on_alike : (c : LoadStep) (p : Loading → Loads) (q : Loading → Option Fault) → ((l : Loading) → (p l).fault ≡ q l) → (load_on c p).fault ≡ fault_on c q
 on_alike (goes_on l) p q h = h l
 on_alike (loaded d) p q h = in_front_alike d.nodes d (p nothing_loaded) (q nothing_loaded) (h nothing_loaded)
 on_alike (refused f) p q h = refl

@@ -6,7 +6,7 @@ use Rattle.yaml_parse_laws_faults.specs.grammar.Items.{RawEvent}
 use Rattle.yaml_parse_laws_faults.specs.grammar.Trees.{Given}
 use Rattle.yaml_parse_laws_faults.specs.grammar.Resolve.{Directives, Settled, gave, noted, settle, placed, Reading, reading, read_on}
 use Rattle.yaml_parse_laws_faults.specs.grammar.Resolve as resolve
-use Rattle.yaml_parse_loader.specs.Loading.{Loading, Fed, goes_on, loaded, refused, nothing_loaded, step}
+use Rattle.yaml_parse_loader.specs.Loading.{Loading, LoadStep, goes_on, loaded, refused, nothing_loaded, step}
 use Rattle.yaml_parse_laws_loading.proofs.Ends.{unless_rootless, fault_on, fault_of_loads}
 
 -- loads end with that, or they go on
@@ -18,7 +18,7 @@ abbrev pub unless_empty : List Node → Fared → Fared
 unless_empty [] r = ended None
 unless_empty (n ∷ ns) r = r
 
-abbrev pub then_fed : Fed → (Loading → Fared) → Fared
+abbrev pub then_fed : LoadStep → (Loading → Fared) → Fared
 then_fed (goes_on l) k = k l
 then_fed (loaded d) k = unless_empty d.nodes (k nothing_loaded)
 then_fed (refused f) k = ended (Some f)
@@ -44,7 +44,7 @@ rootless : (ns : List Node) (f : Option Fault) (r : Fared) (m : Directives → L
 rootless [] f r m h = refl
 rootless (n ∷ ns) f r m h = h
 
-one_fed : (c : Fed) (k : Loading → Option Fault) (q : Loading → Fared) (m : Directives → Loading → Option Fault) → ((l : Loading) → k l ≡ fared_fault (q l) m) → fault_on c k ≡ fared_fault (then_fed c q) m
+one_fed : (c : LoadStep) (k : Loading → Option Fault) (q : Loading → Fared) (m : Directives → Loading → Option Fault) → ((l : Loading) → k l ≡ fared_fault (q l) m) → fault_on c k ≡ fared_fault (then_fed c q) m
 one_fed (goes_on l) k q m h = h l
 one_fed (loaded d) k q m h = rootless d.nodes (k nothing_loaded) (q nothing_loaded) m (h nothing_loaded)
 one_fed (refused f) k q m h = refl

@@ -4,7 +4,7 @@ use Rattle.yaml_parse_laws_faults.specs.grammar.parse_model.Faults.{Fault}
 use Rattle.yaml_parse_laws_faults.specs.grammar.parse_model.Nodes.{Node}
 use Rattle.yaml_parse_laws_faults.specs.grammar.Resolve.{Told}
 use Rattle.yaml_parse_document.specs.Documents.{Document}
-use Rattle.yaml_parse_loader.specs.Loading.{Loading, Fed, goes_on, loaded, refused, nothing_loaded, step}
+use Rattle.yaml_parse_loader.specs.Loading.{Loading, LoadStep, goes_on, loaded, refused, nothing_loaded, step}
 
 -- documents in order, and the fault that ends them
 pub record Loads : Type 0 where
@@ -22,7 +22,7 @@ in_front (n ∷ ns) d rest = record {
   fault = rest.fault;
 }
 
-abbrev pub load_on : Fed → (Loading → Loads) → Loads
+abbrev pub load_on : LoadStep → (Loading → Loads) → Loads
 load_on (goes_on l) rest = rest l
 load_on (loaded d) rest = in_front d.nodes d (rest nothing_loaded)
 load_on (refused f) rest = no_more (Some f)

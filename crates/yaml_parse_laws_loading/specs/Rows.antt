@@ -4,7 +4,7 @@ use Rattle.yaml_parse_laws_faults.specs.grammar.parse_model.Tokens.{TokenBody, z
 use Rattle.yaml_parse_laws_faults.specs.grammar.parse_model.Tokens as token
 use Rattle.yaml_parse_laws_faults.specs.grammar.parse_model.Faults.{Fault}
 use Rattle.yaml_parse_laws_faults.specs.Wrong.{while_parsing, alone}
-use Rattle.yaml_parse_laws_faults.specs.Rows.{column, in_column, stream, word, tag_e, Row, row, scanner_fault}
+use Rattle.yaml_parse_laws_faults.specs.Rows.{column, in_column, stream, word, tag_e, FaultRow, row, scanner_fault}
 use Rattle.yaml_parse_loader.specs.Numbering.{undefined_alias}
 use Rattle.yaml_parse_laws_loading.specs.Faults.{FaultOfLoading}
 
@@ -18,7 +18,7 @@ abbrev pub no_anchor_at : ℕ → Fault
 no_anchor_at n = undefined_alias (column n)
 
 -- Aliases without an anchor before them.
-abbrev pub alias_rows : List Row
+abbrev pub alias_rows : List FaultRow
 alias_rows =
     -- `*b`
     row (stream (in_column 1 alias_b ∷ in_column 2 token.stream_end ∷ [])) (no_anchor_at 1)
@@ -38,7 +38,7 @@ alias_rows =
     ∷ []
 
 -- What the parser finds wrong comes first, also at the alias itself.
-abbrev pub parser_rows : List Row
+abbrev pub parser_rows : List FaultRow
 parser_rows =
     -- `a *b`
     row (stream (in_column 1 word ∷ in_column 2 alias_b ∷ []))
@@ -50,7 +50,7 @@ parser_rows =
     ∷ []
 
 -- Each alias has its anchor.
-abbrev pub right_rows : List Row
+abbrev pub right_rows : List FaultRow
 right_rows =
     -- `&b [*b`: a collection is named from its start on
     row (stream (in_column 1 anchor_b ∷ in_column 2 token.flow_sequence_start
@@ -67,7 +67,7 @@ right_rows =
     }
     ∷ []
 
-abbrev pub AllHold : List Row → Type 0
+abbrev pub AllHold : List FaultRow → Type 0
 AllHold [] = Unit {0}
 AllHold (r ∷ rs) = FaultOfLoading r.tokens r.own r.fault × AllHold rs
 

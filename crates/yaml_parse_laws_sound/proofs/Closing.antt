@@ -21,7 +21,7 @@ use Rattle.yaml_parse_laws_counts.specs.grammar.Trees.{Span, closing, token_at}
 use Rattle.yaml_parse_laws_counts.specs.grammar.Trees as tree
 use Rattle.yaml_parse_laws_counts.specs.grammar.Machine.{starts_node, wants_of, follows, no_node, closes, no_end, parts_documents, choice_at, left_at, Fed, stop, go, with_item, turn, feed, Outcome, run}
 use Rattle.yaml_parse_laws_counts.proofs.grammar.Complete.{leaves_at}
-use Rattle.yaml_parse_laws_sound.specs.Laws.{bare, Begins}
+use Rattle.yaml_parse_laws_sound.specs.Laws.{bare, BeginsWithItems}
 use Rattle.yaml_parse_laws_sound.proofs.Left.{Left, Over, properties_alone, not_left, not_left_first}
 use Rattle.yaml_parse_laws_sound.proofs.Standing.{Goes, Fits, Closed, Stood, AllStood}
 
@@ -142,7 +142,7 @@ light_leaves state.pair_end k l h = refl
 light_leaves state.lone k l h = refl
 light_leaves _ k l h = absurd l
 
-light_begins : (x : State) (m : yaml_mark_t) (ts : List Token) (s : List State) (is : List RawEvent) → IsLight x → ClosesAt m ts → Begins is (run ts s None).items → Begins (left_at x m ∷ is) (run ts (x ∷ s) None).items
+light_begins : (x : State) (m : yaml_mark_t) (ts : List Token) (s : List State) (is : List RawEvent) → IsLight x → ClosesAt m ts → BeginsWithItems is (run ts s None).items → BeginsWithItems (left_at x m ∷ is) (run ts (x ∷ s) None).items
 light_begins x m [] s is l h b = absurd h
 light_begins x m (t ∷ ts) s is l h b = record {
   others = b.others;
@@ -154,7 +154,7 @@ light_begins x m (t ∷ ts) s is l h b = record {
 -- ---- what is given at a refused token
 
 abbrev pub StopBegins : yaml_mark_t → List State → Fed → Type 0
-StopBegins m s (stop is f) = Begins is (run (closers m s) s None).items
+StopBegins m s (stop is f) = BeginsWithItems is (run (closers m s) s None).items
 StopBegins m s (go is s') = Unit {0}
 
 fits_follows : (a b : Bool) (p : ParseProblem) → (if a then Leave else if b then Take else Refuse p None) ≡ Leave → a ≡ true
@@ -167,7 +167,7 @@ fitting : (place : Site) (before : yaml_mark_t) (s : List State) (t : Token) →
 fitting place before s t c f = f t (fits_follows (follows place (type_of t.body)) (starts_node (wants_of place) (type_of t.body)) (no_node (wants_of place)) c)
 
 left_begins : (x : State) (k : yaml_token_type_t) (m : yaml_mark_t) (s : List State) (is : List RawEvent) → choice_at x k ≡ Leave → Stood x s → ((place : Site) (before : yaml_mark_t) → x ≡ state.optional place before → ⊥)
-    → Begins is (run (closers m s) s None).items → Begins (left_at x m ∷ is) (run (closers m (x ∷ s)) (x ∷ s) None).items
+    → BeginsWithItems is (run (closers m s) s None).items → BeginsWithItems (left_at x m ∷ is) (run (closers m (x ∷ s)) (x ∷ s) None).items
 left_begins state.stream kind.YAML_STREAM_START_TOKEN m s is c h u b = cc
 left_begins state.stream _ m s is c h u b = cc
 left_begins state.first k m s is c h u b = absurd (not_left_first (parts_documents k) (starts_node (Block None) k) problem.NoBlockNode c)

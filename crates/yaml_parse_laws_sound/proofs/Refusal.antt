@@ -13,7 +13,7 @@ use Rattle.yaml_parse_laws_counts.specs.grammar.TreeSteps.{items}
 use Rattle.yaml_parse_laws_counts.specs.grammar.Machine.{choice_at, left_at, Fed, stop, go, with_item, turn, feed, Outcome, finished, carry, ending_at, run, initial}
 use Rattle.yaml_parse_laws_counts.proofs.grammar.CompleteStream.{stream_runs, nothing_runs}
 use Rattle.yaml_parse_laws_counts.proofs.Turns.{items_given}
-use Rattle.yaml_parse_laws_sound.specs.Laws.{bare, Begins, GoesOn, GoesOnGiving, StandsAt, RefusedAt, RunsOut, FaultsStandAtFirst, FrontsAreNotRefused}
+use Rattle.yaml_parse_laws_sound.specs.Laws.{bare, BeginsWithItems, TreeGoesOn, TreeGoesOnGiving, StandsAt, RefusedAt, RunsOut, FaultsStandAtFirst, FrontsAreNotRefused}
 use Rattle.yaml_parse_laws_sound.proofs.Left.{Over}
 use Rattle.yaml_parse_laws_sound.proofs.Sound.{FedLeft, feed_left}
 use Rattle.yaml_parse_laws_sound.proofs.Standing.{AllStood, FedStood, feed_stood}
@@ -50,7 +50,7 @@ record RefusedFrom (s : List State) (ts : List Token) (given : List RawEvent) (e
   list : ts ≡ front ++ token ∷ behind
   closing : List Token
   before : Over s Empty (front ++ closing)
-  begins : Begins given (run (front ++ closing) s None).items
+  begins : BeginsWithItems given (run (front ++ closing) s None).items
   wrong : (more : List Token) (f : Option Fault) → (run (front ++ token ∷ more) s f).ending ≡ None → ⊥
   stands : StandsAt token.start_mark e
 
@@ -58,7 +58,7 @@ record RefusedFrom (s : List State) (ts : List Token) (given : List RawEvent) (e
 record RunsOutFrom (s : List State) (ts : List Token) (f : Option Fault) (given : List RawEvent) (e : Fault) : Type 0 where
   closing : List Token
   before : Over s Empty (ts ++ closing)
-  begins : Begins given (run (ts ++ closing) s None).items
+  begins : BeginsWithItems given (run (ts ++ closing) s None).items
   own : (f ≡ Some e) ⊎ ((f ≡ None) × StandsAt zero_mark e)
 
 abbrev given_from : List State → List Token → Option Fault → List RawEvent
@@ -89,7 +89,7 @@ gone_given s t ts f is s' p = ap (λ (d : Fed). bare (carry (length ts) d (λ z.
 
 -- a token in front
 begins_behind : (s : List State) (t : Token) (ts us : List Token) (f : Option Fault) (is : List RawEvent) (s' : List State) → feed s t ≡ go is s'
-    → Begins (given_from s' ts f) (run us s' None).items → Begins (given_from s (t ∷ ts) f) (run (t ∷ us) s None).items
+    → BeginsWithItems (given_from s' ts f) (run us s' None).items → BeginsWithItems (given_from s (t ∷ ts) f) (run (t ∷ us) s None).items
 begins_behind s t ts us f is s' p b = record {
   others = b.others;
   same = gone_given s t us None is s' p
@@ -98,8 +98,8 @@ begins_behind s t ts us f is s' p b = record {
       ∙ ap (λ (z : List RawEvent). z ++ b.others) (sym (gone_given s t ts f is s' p));
 }
 
-begins_same : (is js : List RawEvent) (more : List Given) → is ≡ js → Begins is more → Begins js more
-begins_same is js more p b = subst (λ (z : List RawEvent). Begins z more) p b
+begins_same : (is js : List RawEvent) (more : List Given) → is ≡ js → BeginsWithItems is more → BeginsWithItems js more
+begins_same is js more p b = subst (λ (z : List RawEvent). BeginsWithItems z more) p b
 
 some_same : (g e : Fault) (at : yaml_mark_t) → Some g ≡ Some e → StandsAt at g → StandsAt at e
 some_same g e at p h = let same : g ≡ e = cc in subst (StandsAt at) same h
@@ -162,11 +162,11 @@ source_gives : (s : List State) (g : Fault) → bare (ending_at s g).items ≡ [
 source_gives [] g = refl
 source_gives (x ∷ s) g = refl
 
-end_gives : (s : List State) (e : Fault) (fed : Fed) → StopBegins zero_mark s fed → (carry 0 fed (λ _. finished)).ending ≡ Some e → Begins (bare (carry 0 fed (λ _. finished)).items) (run (closers zero_mark s) s None).items
+end_gives : (s : List State) (e : Fault) (fed : Fed) → StopBegins zero_mark s fed → (carry 0 fed (λ _. finished)).ending ≡ Some e → BeginsWithItems (bare (carry 0 fed (λ _. finished)).items) (run (closers zero_mark s) s None).items
 end_gives s e (stop is g) b q = begins_same is (bare (map (λ (i : RawEvent). (i, 0)) is)) (run (closers zero_mark s) s None).items (sym (bare_all 0 is)) b
 end_gives s e (go is s') b q = cc
 
-end_begins : (s : List State) (f : Option Fault) (e : Fault) → AllStood s → (run [] s f).ending ≡ Some e → Begins (given_from s [] f) (run (closers zero_mark s) s None).items
+end_begins : (s : List State) (f : Option Fault) (e : Fault) → AllStood s → (run [] s f).ending ≡ Some e → BeginsWithItems (given_from s [] f) (run (closers zero_mark s) s None).items
 unfolding run
 end_begins s (Some g) e a q =
     begins_same [] (bare (ending_at s g).items) (run (closers zero_mark s) s None).items (sym (source_gives s g)) (record { others = bare (run (closers zero_mark s) s None).items; same = refl })
@@ -180,15 +180,15 @@ placed (t ∷ ts) f e s a q =
 
 -- ---- a list of tokens
 
-goes_on : (ts more : List Token) → Over initial Empty (ts ++ more) → GoesOn ts
+goes_on : (ts more : List Token) → Over initial Empty (ts ++ more) → TreeGoesOn ts
 goes_on ts more h = record { tree = h.tree; more = more; same = h.same ∙ ap (spell h.tree) h.goes }
 
-goes_giving : (ts more : List Token) (given : List RawEvent) → Over initial Empty (ts ++ more) → Begins given (run (ts ++ more) initial None).items → GoesOnGiving ts given
+goes_giving : (ts more : List Token) (given : List RawEvent) → Over initial Empty (ts ++ more) → BeginsWithItems given (run (ts ++ more) initial None).items → TreeGoesOnGiving ts given
 unfolding goes_on
 goes_giving ts more given h b =
-    let g : GoesOn ts = goes_on ts more h in
+    let g : TreeGoesOn ts = goes_on ts more h in
     let o : run (ts ++ more) initial None ≡ record { items = items g.tree []; ending = None } = ap (λ (us : List Token). run us initial None) g.same ∙ stream_runs g.tree [] None in
-    record { tree = g.tree; more = more; same = g.same; begins = subst (λ (gs : List Given). Begins given gs) (items_given g.tree []) (subst (λ (z : Outcome). Begins given z.items) o b) }
+    record { tree = g.tree; more = more; same = g.same; begins = subst (λ (gs : List Given). BeginsWithItems given gs) (items_given g.tree []) (subst (λ (z : Outcome). BeginsWithItems given z.items) o b) }
 
 -- a list that isn't accepted is no tree's
 not_accepted : (ts more : List Token) (t : Stream) → ts ++ more ≡ spell t [] → ((run (ts ++ more) initial None).ending ≡ None → ⊥) → ⊥
@@ -213,7 +213,7 @@ faults_stand ts f e q = whole (placed ts f e initial (tt, tt) q)
     whole (inr r) = inr record { before = goes_giving ts r.closing (given_from initial ts f) r.before r.begins; own = r.own }
 
 -- a front of such a list is one
-front_goes_on : (ts front : List Token) (t : Token) (behind : List Token) → ts ≡ front ++ t ∷ behind → GoesOn ts → GoesOn (front ++ t ∷ [])
+front_goes_on : (ts front : List Token) (t : Token) (behind : List Token) → ts ≡ front ++ t ∷ behind → TreeGoesOn ts → TreeGoesOn (front ++ t ∷ [])
 front_goes_on ts front t behind p g = record {
   tree = g.tree;
   more = behind ++ g.more;

@@ -19,8 +19,8 @@ pub record BeginsWithTree (ts : List Token) : Type 0 where
   pub rest : List Token
   pub same : ts ≡ spell tree rest
 
--- the same of a sentence: a tree whose directives and tag handles are in order
-pub record BeginsWithSentence (ts : List Token) : Type 0 where
+-- the same of a sentence, as the machine reads it: a tree whose directives and tag handles are in order
+pub record BeginsWithTreeInOrder (ts : List Token) : Type 0 where
   pub tree : Stream
   pub rest : List Token
   pub same : ts ≡ spell tree rest
@@ -34,17 +34,17 @@ AcceptedAreTrees = (ts : List Token) (f : Option Fault) → (run ts initial f).e
 -- With directives and tag handles: it begins with a sentence.
 abbrev pub AcceptedAreSentences : Type 0
 AcceptedAreSentences = (ts : List Token) (f : Option Fault)
-    → (reading_of (run ts initial f) no_directives).ending ≡ None → BeginsWithSentence ts
+    → (reading_of (run ts initial f) no_directives).ending ≡ None → BeginsWithTreeInOrder ts
 
 -- And each list that begins with a sentence ends in no fault.
 abbrev pub SentencesAreAccepted : Type 0
-SentencesAreAccepted = (ts : List Token) (f : Option Fault) → BeginsWithSentence ts
+SentencesAreAccepted = (ts : List Token) (f : Option Fault) → BeginsWithTreeInOrder ts
     → (reading_of (run ts initial f) no_directives).ending ≡ None
 
 -- ---- where a list is refused
 
 -- a tree goes on with the list: it is a front of the tree's tokens
-pub record GoesOn (ts : List Token) : Type 0 where
+pub record TreeGoesOn (ts : List Token) : Type 0 where
   pub tree : Stream
   pub more : List Token
   pub same : ts ++ more ≡ spell tree []
@@ -55,16 +55,16 @@ bare [] = []
 bare (g ∷ gs) = g.0 ∷ bare gs
 
 -- items begin with these
-pub record Begins (is : List RawEvent) (gs : List Given) : Type 0 where
+pub record BeginsWithItems (is : List RawEvent) (gs : List Given) : Type 0 where
   pub others : List RawEvent
   pub same : bare gs ≡ is ++ others
 
 -- a tree goes on with the list, and its items begin with these
-pub record GoesOnGiving (ts : List Token) (given : List RawEvent) : Type 0 where
+pub record TreeGoesOnGiving (ts : List Token) (given : List RawEvent) : Type 0 where
   pub tree : Stream
   pub more : List Token
   pub same : ts ++ more ≡ spell tree []
-  pub begins : Begins given (given_of tree 0)
+  pub begins : BeginsWithItems given (given_of tree 0)
 
 -- a fault of the parser, at a mark
 pub record StandsAt (mark : yaml_mark_t) (e : Fault) : Type 0 where
@@ -78,14 +78,14 @@ pub record RefusedAt (ts : List Token) (given : List RawEvent) (e : Fault) : Typ
   pub token : Token
   pub behind : List Token
   pub list : ts ≡ front ++ token ∷ behind
-  pub before : GoesOnGiving front given
-  pub wrong : GoesOn (front ++ token ∷ []) → ⊥
+  pub before : TreeGoesOnGiving front given
+  pub wrong : TreeGoesOn (front ++ token ∷ []) → ⊥
   pub stands : StandsAt token.start_mark e
 
 -- a tree goes on with the whole list and gives what was given: the fault is the source's own, or where it has none, stands at the empty token behind the list
 pub record RunsOut (ts : List Token) (f : Option Fault) (given : List RawEvent) (e : Fault) : Type 0
   where
-    pub before : GoesOnGiving ts given
+    pub before : TreeGoesOnGiving ts given
     pub own : (f ≡ Some e) ⊎ ((f ≡ None) × StandsAt zero_mark e)
 
 -- A list ends in a fault at the first token that no tree goes on with, or else behind its last token.
@@ -97,7 +97,7 @@ FaultsStandAtFirst = (ts : List Token) (f : Option Fault) (e : Fault) → (run t
 
 -- No token is refused of a list with which a tree goes on.
 abbrev pub FrontsAreNotRefused : Type 0
-FrontsAreNotRefused = (ts : List Token) (f : Option Fault) (e : Fault) → GoesOn ts
+FrontsAreNotRefused = (ts : List Token) (f : Option Fault) (e : Fault) → TreeGoesOn ts
     → (run ts initial f).ending ≡ Some e → RunsOut ts f (bare (run ts initial f).items) e
 
 -- ---- events
@@ -115,5 +115,5 @@ pub record BeginsWithEvents (es fs : List Event) : Type 0 where
 -- Where items begin with others, their events begin with the others' events, up to the first fault of a directive or handle.
 abbrev pub EventsBeginAsItems : Type 0
 EventsBeginAsItems = (gs hs : List Given) (f g : Option Fault) (ds : Directives)
-    → Begins (bare gs) hs → BeginsWithEvents (told (reading gs f ds).events)
+    → BeginsWithItems (bare gs) hs → BeginsWithEvents (told (reading gs f ds).events)
     (told (reading hs g ds).events)

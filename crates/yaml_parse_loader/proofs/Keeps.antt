@@ -13,10 +13,10 @@ use Rattle.yaml_parse_document.specs.Documents.{IsDocument, IsId, IsSoundBody, I
 use Rattle.yaml_parse_document.proofs.Sound.{wider_id, wider_ids, wider_pairs, with_node_sound, length_push, length_change, sound_change, sound_ids_push, sound_pairs_push, str_utf8, seq_utf8, map_utf8}
 use Rattle.yaml_parse_loader.specs.Anchors.{Anchors}
 use Rattle.yaml_parse_loader.specs.Numbering.{is_bang, loaded_tag}
-use Rattle.yaml_parse_loader.specs.Loading.{Open, open_sequence, open_mapping, Loading, nothing_loaded, attached, attach, next, with_leaf, with_open, filled, filled_body, place_of, closed, Fed, goes_on, loaded, refused, aliased, named, step_body}
+use Rattle.yaml_parse_loader.specs.Loading.{Open, open_sequence, open_mapping, Loading, nothing_loaded, attached, attach, next, with_leaf, with_open, filled, filled_body, place_of, closed, LoadStep, goes_on, loaded, refused, aliased, named, step_body}
 use Rattle.yaml_parse_loader.specs.Sound.{IsIdOption, IsSoundOpen, AreSoundOpen, AreAnchors, IsLoading}
 
-abbrev pub FedSound : Fed → Type 0
+abbrev pub FedSound : LoadStep → Type 0
 FedSound (goes_on l) = IsLoading l
 FedSound (loaded d) = IsDocument d
 FedSound (refused f) = Unit {0}

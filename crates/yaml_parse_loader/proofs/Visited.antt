@@ -6,7 +6,7 @@ use Rattle.yaml_parse_model.specs.Nodes.{Node}
 use Rattle.yaml_parse_document.specs.Documents.{Document, IsId}
 use Rattle.yaml_parse_document.proofs.Sound.{length_push, wider_id}
 use Rattle.yaml_parse_loader.specs.Numbering.{Content, Contents, Pairs, alias, scalar, sequence, mapping, no_items, item, no_pairs, pair, ◌>>=◌, Numbered, Anchored, is_same, last_with, and_node, alias_number, number, number_items, number_pairs, DocumentContent, document_of}
-use Rattle.yaml_parse_loader.specs.Order.{Visits, done, again, first, children, pair_numbers, IsInPreorder}
+use Rattle.yaml_parse_loader.specs.Order.{VisitsInPreorder, done, again, first, children, pair_numbers, IsInPreorder}
 use Rattle.yaml_parse_loader.proofs.Keeps.{inserted_sound}
 
 -- what is true of a result, if there is one
@@ -46,7 +46,7 @@ node_behind (x ∷ before) after n = node_behind before after n
 node_at_place : (nodes before after : List Node) (count : ℕ) (n : Node) → nodes ≡ before ++ n ∷ after → length before ≡ count → slice_get nodes count ≡ Some n
 node_at_place nodes before after count n e l = ap (λ (ns : List Node). slice_get ns count) e ∙ ap (λ (k : ℕ). slice_get (before ++ n ∷ after) k) (sym l) ∙ node_behind before after n
 
-met_again : (nodes : List Node) (seen after : ℕ) (id : ℤ) (ids : List ℤ) → IsId seen id → Visits nodes seen ids after → Visits nodes seen (id ∷ ids) after
+met_again : (nodes : List Node) (seen after : ℕ) (id : ℤ) (ids : List ℤ) → IsId seen id → VisitsInPreorder nodes seen ids after → VisitsInPreorder nodes seen (id ∷ ids) after
 met_again nodes seen after (pos zero) ids h v = absurd h
 met_again nodes seen after (pos (suc k)) ids h v = again seen k after ids (omega arith) v
 met_again nodes seen after _ ids h v = absurd h
@@ -55,7 +55,7 @@ met_again nodes seen after _ ids h v = absurd h
 record Placed {A : Type 0} (numbers : A → List ℤ) (count : ℕ) (r : Numbered A) : Type 0 where
   before : AreNodes (count + length r.nodes) r.before
   visits : (nodes before after : List Node) (mid end : ℕ) (ids : List ℤ) → nodes ≡ before ++ (r.nodes ++ after) → length before ≡ count → mid ≡ count + length r.nodes
-      → Visits nodes mid ids end → Visits nodes count (numbers r.number ++ ids) end
+      → VisitsInPreorder nodes mid ids end → VisitsInPreorder nodes count (numbers r.number ++ ids) end
 
 abbrev alone : ℤ → List ℤ
 alone id = id ∷ []
@@ -69,12 +69,12 @@ alias_good (Some n) count before at s h = record {
   before = wider_nodes count _ before (omega arith) s;
   visits = λ nodes front after mid end ids split place reach v.
       let here : mid ≡ count = omega (arith, reach) in
-      met_again nodes count end n ids h (subst (λ (k : ℕ). Visits nodes k ids end) here v);
+      met_again nodes count end n ids h (subst (λ (k : ℕ). VisitsInPreorder nodes k ids end) here v);
 }
 
 -- a node, whose children are visited next
 opens : (nodes before after : List Node) (count mid end : ℕ) (ids : List ℤ) (n : Node) → nodes ≡ before ++ n ∷ after → length before ≡ count
-    → Visits nodes (suc count) (children n.body) mid → Visits nodes mid ids end → Visits nodes count (pos (suc count) ∷ ids) end
+    → VisitsInPreorder nodes (suc count) (children n.body) mid → VisitsInPreorder nodes mid ids end → VisitsInPreorder nodes count (pos (suc count) ∷ ids) end
 opens nodes before after count mid end ids n split place inner v = first count mid end ids n (node_at_place nodes before after count n split place) inner v
 
 behind_node : (nodes before ns after : List Node) (n : Node) → nodes ≡ before ++ ((n ∷ ns) ++ after) → nodes ≡ (before ++ n ∷ []) ++ (ns ++ after)
@@ -90,14 +90,14 @@ mutual
         before = subst (λ (k : ℕ). AreNodes k (and_node h.anchor (pos (suc count)) ks)) (omega arith) (entry_good count h.anchor ks s);
         visits = λ nodes before after mid end ids split place reach v.
             let here : mid ≡ suc count = omega (arith, reach) in
-            opens nodes before after count (suc count) end ids _ split place (done (suc count)) (subst (λ (k : ℕ). Visits nodes k ids end) here v);
+            opens nodes before after count (suc count) end ids _ split place (done (suc count)) (subst (λ (k : ℕ). VisitsInPreorder nodes k ids end) here v);
       }
   placed (sequence h implicit style items at) count ks s =
       let within : Anchored = and_node h.anchor (pos (suc count)) ks in
       good_then (number_items items (suc count) within) _ _ _ (placed_items items (suc count) within (entry_good count h.anchor ks s)) (λ r p. record {
         before = subst (λ (k : ℕ). AreNodes k r.before) (omega arith) p.before;
         visits = λ nodes before after mid end ids split place reach v.
-            let inner : Visits nodes (suc count) r.number mid = subst (λ (js : List ℤ). Visits nodes (suc count) js mid) (append-nil r.number)
+            let inner : VisitsInPreorder nodes (suc count) r.number mid = subst (λ (js : List ℤ). VisitsInPreorder nodes (suc count) js mid) (append-nil r.number)
             (p.visits nodes (before ++ _ ∷ []) after mid mid [] (behind_node nodes before r.nodes after _ split) (length_push before _ ∙ ap suc place) (omega (arith, reach)) (done mid)) in
             opens nodes before (r.nodes ++ after) count mid end ids _ split place inner v;
       })
@@ -106,7 +106,7 @@ mutual
       good_then (number_pairs pairs (suc count) within) _ _ _ (placed_pairs pairs (suc count) within (entry_good count h.anchor ks s)) (λ r p. record {
         before = subst (λ (k : ℕ). AreNodes k r.before) (omega arith) p.before;
         visits = λ nodes before after mid end ids split place reach v.
-            let inner : Visits nodes (suc count) (pair_numbers r.number) mid = subst (λ (js : List ℤ). Visits nodes (suc count) js mid) (append-nil (pair_numbers r.number))
+            let inner : VisitsInPreorder nodes (suc count) (pair_numbers r.number) mid = subst (λ (js : List ℤ). VisitsInPreorder nodes (suc count) js mid) (append-nil (pair_numbers r.number))
             (p.visits nodes (before ++ _ ∷ []) after mid mid [] (behind_node nodes before r.nodes after _ split) (length_push before _ ∙ ap suc place) (omega (arith, reach)) (done mid)) in
             opens nodes before (r.nodes ++ after) count mid end ids _ split place inner v;
       })
@@ -115,7 +115,7 @@ mutual
   placed_items no_items count ks s = record {
     before = wider_nodes count _ ks (omega arith) s;
     visits = λ nodes before after mid end ids split place reach v.
-        let here : mid ≡ count = omega (arith, reach) in subst (λ (k : ℕ). Visits nodes k ids end) here v;
+        let here : mid ≡ count = omega (arith, reach) in subst (λ (k : ℕ). VisitsInPreorder nodes k ids end) here v;
   }
   placed_items (item c more) count ks s =
       good_then (number c count ks) _ _ _ (placed c count ks s) (λ r p.
@@ -132,7 +132,7 @@ mutual
   placed_pairs no_pairs count ks s = record {
     before = wider_nodes count _ ks (omega arith) s;
     visits = λ nodes before after mid end ids split place reach v.
-        let here : mid ≡ count = omega (arith, reach) in subst (λ (k : ℕ). Visits nodes k ids end) here v;
+        let here : mid ≡ count = omega (arith, reach) in subst (λ (k : ℕ). VisitsInPreorder nodes k ids end) here v;
   }
   placed_pairs (pair key value more) count ks s =
       good_then (number key count ks) _ _ _ (placed key count ks s) (λ r p.
@@ -168,7 +168,7 @@ both_good (Ok x) P Q p q = (p, q)
 both_good (Err e) P Q p q = tt
 
 in_order : (r : Numbered ℤ) → Placed alone 0 r → r.number ≡ pos 1 → IsInPreorder r.nodes
-in_order r p e = subst (λ (id : ℤ). Visits r.nodes 0 (id ∷ []) (length r.nodes)) e
+in_order r p e = subst (λ (id : ℤ). VisitsInPreorder r.nodes 0 (id ∷ []) (length r.nodes)) e
     (p.visits r.nodes [] [] (length r.nodes) (length r.nodes) [] (sym (append-nil r.nodes)) refl (omega arith) (done (length r.nodes)))
 
 pub numbered_in_order : (d : DocumentContent) → IfOk (document_of d) (λ e. IsInPreorder e.nodes)

@@ -5,5 +5,6 @@ pub mod Numbering
 pub mod Order
 pub mod Loading
 pub mod LoaderView
+pub mod Sizes
 pub mod Sound
 pub mod Views

@@ -93,13 +93,13 @@ closed to l (o ∷ os) = record l {
 }
 
 -- what an event makes of it: it goes on, a document is loaded, or the event is refused
-pub data Fed : Type 0 where
-  goes_on : Loading → Fed
-  loaded : Document → Fed
-  refused : Fault → Fed
+pub data LoadStep : Type 0 where
+  goes_on : Loading → LoadStep
+  loaded : Document → LoadStep
+  refused : Fault → LoadStep
 
 -- an alias stands for the node that its name names now
-abbrev pub aliased : Option ℤ → yaml_mark_t → Loading → Fed
+abbrev pub aliased : Option ℤ → yaml_mark_t → Loading → LoadStep
 aliased None at l = refused (undefined_alias at)
 aliased (Some n) at l = goes_on (record l { levels = attach n l.levels })
 
@@ -137,7 +137,7 @@ enter_leaf l anchor n = with_leaf l n (named anchor (next l) l.anchors)
 abbrev pub enter_open : Loading → Option (List ℕ) → Node → Open → Loading
 enter_open l anchor n o = with_open l n o (named anchor (next l) l.anchors)
 
-abbrev pub step_body : EventBody → yaml_mark_t → yaml_mark_t → Loading → Fed
+abbrev pub step_body : EventBody → yaml_mark_t → yaml_mark_t → Loading → LoadStep
 step_body (event.document_start version directives implicit) from to l = goes_on
     (started version directives implicit from)
 step_body (event.document_end implicit) from to l = loaded (ended l implicit to)
@@ -155,7 +155,7 @@ step_body event.sequence_end from to l = goes_on (closed to l l.levels)
 step_body event.mapping_end from to l = goes_on (closed to l l.levels)
 step_body _ from to l = goes_on l
 
-abbrev pub step : Event → Loading → Fed
+abbrev pub step : Event → Loading → LoadStep
 step e l = step_body e.body e.start_mark e.end_mark l
 
 -- memory ran out in the loader
@@ -164,19 +164,19 @@ IsStarved f = fault_of f ≡ memory_fault Loader
 
 -- what the loader answered to an event is what the event makes of it, unless memory ran out. It starts anew after a
 -- document and after a refusal
-abbrev pub Feeds : Fed → Result (Option Document) yaml_fault_t → Loading → Type 0
+abbrev pub Feeds : LoadStep → Result (Option Document) yaml_fault_t → Loading → Type 0
 Feeds fed (Ok None) new = fed ≡ goes_on new
 Feeds fed (Ok (Some d)) new = (fed ≡ loaded d) × (new ≡ nothing_loaded)
 Feeds fed (Err f) new = (IsStarved f ⊎ (fed ≡ refused (fault_of f))) × (new ≡ nothing_loaded)
 
 -- the same of the document in the making, with whether the document is whole
-abbrev pub Applies : Fed → Result Bool yaml_fault_t → Loading → Type 0
+abbrev pub Applies : LoadStep → Result Bool yaml_fault_t → Loading → Type 0
 Applies fed (Ok false) new = fed ≡ goes_on new
 Applies fed (Ok true) new = fed ≡ loaded new.document
 Applies fed (Err f) new = IsStarved f ⊎ (fed ≡ refused (fault_of f))
 
 -- and of an event that ends no document
-abbrev pub Goes : {A : Type 0} → Fed → Result A yaml_fault_t → Loading → Type 0
+abbrev pub Goes : {A : Type 0} → LoadStep → Result A yaml_fault_t → Loading → Type 0
 Goes fed (Ok _) new = fed ≡ goes_on new
 Goes fed (Err f) new = IsStarved f ⊎ (fed ≡ refused (fault_of f))
 
@@ -188,7 +188,7 @@ pub data Loaded : Type 0 where
   document : Document → List Event → Loaded
   faulty : Fault → Loaded
 
-abbrev pub turn : Fed → (Loading → Loaded) → List Event → Loaded
+abbrev pub turn : LoadStep → (Loading → Loaded) → List Event → Loaded
 turn (goes_on l) go rest = go l
 turn (loaded d) go rest = document d rest
 turn (refused f) go rest = faulty f

@@ -17,14 +17,15 @@ children _ = []
 
 -- the visits of numbers, one after another, with that many nodes visited before them and that many afterwards: a node
 -- that was visited is only met again; a first visit has the next number, and goes on with what the node names
-pub data Visits (nodes : List Node) : ℕ → List ℤ → ℕ → Type 0 where
-  done : (seen : ℕ) → Visits nodes seen [] seen
-  again : (seen k after : ℕ) (ids : List ℤ) → k < seen → Visits nodes seen ids after
-      → Visits nodes seen (pos (suc k) ∷ ids) after
+pub data VisitsInPreorder (nodes : List Node) : ℕ → List ℤ → ℕ → Type 0 where
+  done : (seen : ℕ) → VisitsInPreorder nodes seen [] seen
+  again : (seen k after : ℕ) (ids : List ℤ) → k < seen → VisitsInPreorder nodes seen ids after
+      → VisitsInPreorder nodes seen (pos (suc k) ∷ ids) after
   first : (seen between after : ℕ) (ids : List ℤ) (n : Node) → slice_get nodes seen ≡ Some n
-      → Visits nodes (suc seen) (children n.body) between → Visits nodes between ids after
-      → Visits nodes seen (pos (suc seen) ∷ ids) after
+      → VisitsInPreorder nodes (suc seen) (children n.body) between
+      → VisitsInPreorder nodes between ids after
+      → VisitsInPreorder nodes seen (pos (suc seen) ∷ ids) after
 
 -- from the root all nodes are visited, and their numbers follow their first visits
 abbrev pub IsInPreorder : List Node → Type 0
-IsInPreorder nodes = Visits nodes 0 (pos 1 ∷ []) (length nodes)
+IsInPreorder nodes = VisitsInPreorder nodes 0 (pos 1 ∷ []) (length nodes)

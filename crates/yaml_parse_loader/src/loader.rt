@@ -1,8 +1,9 @@
 //! The loader: a machine that is fed a parser's events, one at a time, and gives a document at its last.
 
-ghost use Rattle.std.specs.Prelude.{◌≡◌};
+ghost use Rattle.std.specs.Prelude.{◌≡◌, IfOk, IfSome};
 ghost use Rattle.yaml_parse_model.specs.Events.{event_of};
 ghost use Rattle.yaml_parse_model.specs.Constructors.{HasUtf8};
+ghost use Rattle.yaml_parse_document.specs.Sizes.{IsSized};
 ghost use Rattle.yaml_parse_loader.specs.Loading.{nothing_loaded, step, Feeds};
 
 use crate::making::Making;
@@ -47,10 +48,13 @@ impl Loader {
 
     /// Takes an event: at a DOCUMENT-END it gives the document, at every other one nothing. Nodes count from 1 in
     /// preorder. An alias stands for the last node before it that has its anchor, and is refused where there is none
-    /// (`found undefined alias`). After a document and after a refusal it starts anew.
+    /// (`found undefined alias`). Where a list would get more than 2,147,483,647 entries, want of memory is answered.
+    /// After a document and after a refusal it starts anew.
     pub fn feed(&mut self, event: yaml_event_t) -> Result<Option<yaml_document_t>, yaml_fault_t>
         requires { HasUtf8 (event_of event).body }
-        ensures { Feeds (step (event_of event) self.old) result self.new }
+        ensures feeds { Feeds (step (event_of event) self.old) result self.new }
+        // No list of a document has more than 2,147,483,647 entries.
+        ensures sized { IfOk result (λ o. IfSome o (λ d. IsSized d)) }
     {
         let alloc = self.making.parts.alloc;
         match self.making.apply(event) {

@@ -7,6 +7,7 @@ ghost use Rattle.yaml_parse_model.specs.Nodes.{node_of};
 ghost use Rattle.yaml_parse_document.specs.Documents.{str_tag};
 ghost use Rattle.yaml_parse_loader.specs.Numbering.{is_bang, loaded_tag, scalar_node, sequence_node, mapping_node, undefined_alias};
 ghost use Rattle.yaml_parse_loader.specs.Loading.{attach, attached, nothing_loaded, next, named, enter_leaf, enter_open, goes_on, refused, aliased, closed, place_of, filled, filled_body, started, step, Applies, Goes, IsStarved};
+ghost use Rattle.yaml_parse_loader.specs.Sizes.{HasRoom, HaveRoom, HasRoomForNode, HasRoomFor};
 ghost use Rattle.yaml_parse_loader.specs.Views.{level_of, levels_of, loading_of, properties_of};
 ghost use Rattle.yaml_parse_loader.specs.Loading.{open_sequence, open_mapping};
 ghost use Rattle.std.specs.FinMap as finite;
@@ -128,7 +129,9 @@ fn extend<T: Drop>(entries: &mut Vec<T>, entry: T) -> Result<(), yaml_fault_t>
 
 // A node's number becomes the next item, key or value of a collection.
 fn attach_to(level: &mut Level, number: i32) -> Result<(), yaml_fault_t>
-    ensures { MatchResult result (λ _. level_of level.new ≡ attached number (level_of level.old))
+    ensures { MatchResult result
+        (λ _. (level_of level.new ≡ attached number (level_of level.old))
+        × HasRoom (level_of level.old))
         (λ f. IsStarved f) }
 {
     match level {
@@ -151,8 +154,10 @@ fn attach_to(level: &mut Level, number: i32) -> Result<(), yaml_fault_t>
 
 // A node's number becomes the next item, key or value of the innermost open collection.
 fn attach(levels: &mut Vec<Level>, number: i32) -> Result<(), yaml_fault_t>
-    ensures { MatchResult result (λ _. levels_of levels.new.items ≡ attach number
-        (levels_of levels.old.items)) (λ f. IsStarved f) }
+    ensures { MatchResult result
+        (λ _. (levels_of levels.new.items ≡ attach number (levels_of levels.old.items))
+        × HaveRoom (levels_of levels.old.items))
+        (λ f. IsStarved f) }
 {
     let Some(mut level) = levels.pop() else {
         return Ok(());
@@ -254,8 +259,9 @@ impl Making {
 
     // An alias stands for the last node that has its anchor.
     fn alias(&mut self, name: &[u8], at: yaml_mark_t) -> Result<(), yaml_fault_t>
-        ensures { Goes (aliased (finite.get (loading_of self.old).anchors name.now) at
+        ensures goes { Goes (aliased (finite.get (loading_of self.old).anchors name.now) at
             (loading_of self.old)) result (loading_of self.new) }
+        ensures room { OnOk result (HaveRoom (loading_of self.old).levels) }
     {
         match self.anchors.get(name) {
             None => Err(undefined_alias_fault(at)),
@@ -265,8 +271,10 @@ impl Making {
 
     // One node more: its anchor is noted, and the collection round it gets its number.
     fn add(&mut self, anchor: Option<Vec<u8>>, node: yaml_node_t) -> Result<(), yaml_fault_t>
-        ensures { MatchResult result (λ _. loading_of self.new ≡ enter_leaf (loading_of self.old)
-            (text_of anchor) (node_of node)) (λ f. IsStarved f) }
+        ensures { MatchResult result
+            (λ _. (loading_of self.new ≡ enter_leaf (loading_of self.old) (text_of anchor)
+            (node_of node)) × HasRoomForNode (loading_of self.old))
+            (λ f. IsStarved f) }
     {
         let count = self.parts.nodes.len();
         if count >= MAX_ENTRIES {
@@ -285,8 +293,10 @@ impl Making {
         node: yaml_node_t,
         level: Level,
     ) -> Result<(), yaml_fault_t>
-        ensures { MatchResult result (λ _. loading_of self.new ≡ enter_open (loading_of self.old)
-            (text_of anchor) (node_of node) (level_of level)) (λ f. IsStarved f) }
+        ensures { MatchResult result
+            (λ _. (loading_of self.new ≡ enter_open (loading_of self.old) (text_of anchor)
+            (node_of node) (level_of level)) × HasRoomForNode (loading_of self.old))
+            (λ f. IsStarved f) }
     {
         self.add(anchor, node)?;
         match self.levels.push(level) {
@@ -316,8 +326,10 @@ impl Making {
         value: Vec<u8>,
         style: yaml_scalar_style_t,
     ) -> Result<(), yaml_fault_t>
-        ensures { MatchResult result (λ _. loading_of self.new ≡ enter_leaf (loading_of self.old)
-            (text_of head.anchor) (scalar_node (properties_of head) value.items style))
+        ensures { MatchResult result
+            (λ _. (loading_of self.new ≡ enter_leaf (loading_of self.old) (text_of head.anchor)
+            (scalar_node (properties_of head) value.items style))
+            × HasRoomForNode (loading_of self.old))
             (λ f. IsStarved f) }
     {
         let Properties {
@@ -342,9 +354,11 @@ impl Making {
         head: Properties,
         style: yaml_sequence_style_t,
     ) -> Result<(), yaml_fault_t>
-        ensures { MatchResult result (λ _. loading_of self.new ≡ enter_open (loading_of self.old)
-            (text_of head.anchor) (sequence_node (properties_of head) [] style head.end_mark)
+        ensures { MatchResult result
+            (λ _. (loading_of self.new ≡ enter_open (loading_of self.old) (text_of head.anchor)
+            (sequence_node (properties_of head) [] style head.end_mark)
             (open_sequence (length (loading_of self.old).document.nodes) []))
+            × HasRoomForNode (loading_of self.old))
             (λ f. IsStarved f) }
     {
         let Properties {
@@ -373,9 +387,11 @@ impl Making {
 
     // A mapping begins.
     fn mapping(&mut self, head: Properties, style: yaml_mapping_style_t) -> Result<(), yaml_fault_t>
-        ensures { MatchResult result (λ _. loading_of self.new ≡ enter_open (loading_of self.old)
-            (text_of head.anchor) (mapping_node (properties_of head) [] style head.end_mark)
+        ensures { MatchResult result
+            (λ _. (loading_of self.new ≡ enter_open (loading_of self.old) (text_of head.anchor)
+            (mapping_node (properties_of head) [] style head.end_mark)
             (open_mapping (length (loading_of self.old).document.nodes) [] None))
+            × HasRoomForNode (loading_of self.old))
             (λ f. IsStarved f) }
     {
         let Properties {
@@ -406,8 +422,9 @@ impl Making {
     /// What the event makes of the document; true where the document is whole. It is long because it has an arm for each kind
     /// of event.
     pub fn apply(&mut self, event: yaml_event_t) -> Result<bool, yaml_fault_t>
-        ensures { Applies (step (event_of event) (loading_of self.old)) result
+        ensures applies { Applies (step (event_of event) (loading_of self.old)) result
             (loading_of self.new) }
+        ensures room { OnOk result (HasRoomFor (event_of event).body (loading_of self.old)) }
     {
         let yaml_event_t {
             body,

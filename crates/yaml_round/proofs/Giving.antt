@@ -1,24 +1,25 @@
 -- An event that is given: the text is the same.
-use Rattle.std.proofs.Common.{◌≡◌, ◌∙◌, ap, sym, subst, refl, List, ◌∷◌, Bool}
+use Rattle.std.proofs.Common.{◌≡◌, ◌∙◌, ap, sym, subst, refl, List, [], ◌∷◌, Bool}
 use Rattle.yaml_parse.specs.Remaining.{ParserRemaining}
 use Rattle.yaml_parse.specs.Resolve.{Told}
 use Rattle.yaml_parse.specs.Events.{Event, text_of}
 use Rattle.yaml_emit.specs.Content.{emitter_event}
-use Rattle.yaml_emit.specs.Emitter.{Emitter, Completes, Given}
+use Rattle.yaml_emit.specs.Emitter.{Emitter, Completes}
+use Rattle.yaml_emit.specs.Taking.{TakesEvents}
 use Rattle.yaml_round_laws_documents.specs.round_laws_back.content.Normalize.{normalize_body}
-use Rattle.yaml_round_compare.specs.Reading.{GivesFront, emitter_events}
+use Rattle.yaml_round_compare.specs.Reading.{GivesNextEvent, emitter_events}
 use Rattle.yaml_round_shape.specs.Seen.{seen, seen_all}
 use Rattle.yaml_round.specs.declared.writing.Watch.{Watch}
 use Rattle.yaml_round_shape.specs.declared.seen.Shape.{Shape}
-use Rattle.yaml_round.specs.Writing.{Leads, Sees}
+use Rattle.yaml_round.specs.Writing.{LeadsWatched, Sees}
 use Rattle.yaml_round.proofs.Keeping.{kept_on}
 
 -- what is given to an emitter whose watch is at hand
 gives_by : (ends : Bool) (w : Watch) (first old new : Emitter) (all : List Told) (before after : ParserRemaining) (v : Event) (watch shape : Watch)
-    → Leads w first all watch old before.events → GivesFront v before after → watch.canonical ≡ ends → w.canonical ≡ ends
-    → Given old (emitter_event (normalize_body ends v.body)) new
+    → LeadsWatched w first all watch old before.events → GivesNextEvent v before after → watch.canonical ≡ ends → w.canonical ≡ ends
+    → TakesEvents old (emitter_event (normalize_body ends v.body) ∷ []) new []
     → Sees watch (normalize_body ends v.body) shape
-    → Leads w first all shape new after.events
+    → LeadsWatched w first all shape new after.events
 unfolding seen_all
 gives_by ends w first old new all before after v watch shape l f c d g e = record {
   completes = λ x whole done.
@@ -34,8 +35,8 @@ gives_by ends w first old new all before after v watch shape l f c d g e = recor
 }
 
 pub gives : (w : Watch) (first old new : Emitter) (all : List Told) (before after : ParserRemaining) (v : Event) (watch shape : Watch)
-    → Leads w first all watch old before.events → GivesFront v before after
-    → Given old (emitter_event (normalize_body watch.canonical v.body)) new
+    → LeadsWatched w first all watch old before.events → GivesNextEvent v before after
+    → TakesEvents old (emitter_event (normalize_body watch.canonical v.body) ∷ []) new []
     → Sees watch (normalize_body watch.canonical v.body) shape
-    → Leads w first all shape new after.events
+    → LeadsWatched w first all shape new after.events
 gives w first old new all before after v watch shape l f g e = gives_by watch.canonical w first old new all before after v watch shape l f refl (sym l.canonical) g e

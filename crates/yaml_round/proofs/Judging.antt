@@ -14,17 +14,17 @@ use Rattle.yaml_round_compare.specs.declared.yaml_settings_t.{yaml_settings_t}
 use Rattle.yaml_round_compare.specs.declared.yaml_form_t.{yaml_form_t}
 use Rattle.yaml_round_compare.specs.declared.yaml_form_t.TheVariants.{Canonical, Pretty}
 use Rattle.yaml_round.specs.Layers.{reformat_layers, list_layers}
-use Rattle.yaml_round_compare.specs.Reading.{emitter_events, GivesFront, IsFaultOf, EndsWith}
+use Rattle.yaml_round_compare.specs.Reading.{emitter_events, GivesNextEvent, IsFaultOf, EndsWith}
 use Rattle.yaml_round.specs.Lines.{event_lines}
 use Rattle.yaml_round_shape.specs.Seen.{seen_all}
 use Rattle.yaml_round.specs.declared.writing.Watch.{Watch}
-use Rattle.yaml_round.specs.Writing.{Leads, WritesAll}
+use Rattle.yaml_round.specs.Writing.{LeadsWatched, WritesAll}
 use Rattle.yaml_round_laws_documents.specs.round_laws_back.content.Input.{Reads, ending_of}
 use Rattle.yaml_round.proofs.Keeping.{kept_then}
 use Rattle.yaml_round.proofs.Staying.{stays}
 use Rattle.yaml_round_compare.proofs.Plain.{faulty, faulty_ending, fault_met, right, has_events}
 use Rattle.yaml_round_compare.specs.Answers.{IsFaulty, IsReadBack, ReadsBack}
-use Rattle.yaml_round.specs.Answers.{IsJudged, IsLaidOut, IsTooLong, IsWritten, IsTold, IsCanonicalDue, IsInCanonicalForm, IsReformatted, text_and_form}
+use Rattle.yaml_round.specs.Answers.{IsJudged, IsLaidOut, IsTooLong, IsWritten, HasLines, IsCanonicalDue, IsInCanonicalForm, IsReformatted, text_and_form}
 
 -- ---- one input
 
@@ -34,7 +34,7 @@ judged from input r (Ok done) h e = right from input (sym h.ending ∙ e)
 judged from input r (Err f) h e = fault_met from input r f h e
 
 pub listed : (from : yaml_encoding_t) (input : List ℕ) (r : ParserRemaining) (lines : List ℕ) (old : List ℕ) → Reads from input r → old ≡ [] → r.ending ≡ None → lines ≡ old ++ event_lines r.events
-    → IsTold from input lines
+    → HasLines from input lines
 listed from input r lines old h none e l = record {
   events = r.events;
   of_input = has_events from input r.events (sym h.ending ∙ e) h.events;
@@ -42,7 +42,7 @@ listed from input r lines old h none e l = record {
 }
 
 -- a line more
-pub told_on : (all lines new : List ℕ) (before after : ParserRemaining) (v : Event) → lines ++ event_lines before.events ≡ all → GivesFront v before after → new ≡ lines ++ event_line v.body
+pub told_on : (all lines new : List ℕ) (before after : ParserRemaining) (v : Event) → lines ++ event_lines before.events ≡ all → GivesNextEvent v before after → new ≡ lines ++ event_line v.body
     → new ++ event_lines after.events ≡ all
 told_on all lines new before after v h f n =
     ap (λ (z : List ℕ). z ++ event_lines after.events) n
@@ -58,7 +58,7 @@ not_listed from input r f h e = elim e [ inl m ↦ inl m | inr k ↦ inr (faulty
 -- ---- writing
 
 -- The rest was written behind a front.
-rest_led : (a b c : Watch) (e e' e'' : Emitter) (es fs : List Told) → Leads a e es b e' fs → Leads b e' fs c e'' [] → Leads a e es c e'' []
+rest_led : (a b c : Watch) (e e' e'' : Emitter) (es fs : List Told) → LeadsWatched a e es b e' fs → LeadsWatched b e' fs c e'' [] → LeadsWatched a e es c e'' []
 rest_led a b c e e' e'' es fs l k = record {
   completes = λ x whole done.
       let P : Bool → Type 0 = λ z. Completes e' x (emitter_events z fs) whole in
@@ -71,7 +71,7 @@ rest_led a b c e e' e'' es fs l k = record {
 }
 
 pub then_rest : (a b c : Watch) (r r' : ParserRemaining) (e e' e'' : Emitter) (result : Result (Unit {0}) yaml_fault_t)
-    → r'.ending ≡ r.ending → Leads a e r.events b e' r'.events → WritesAll b r' e' result c e'' → WritesAll a r e result c e''
+    → r'.ending ≡ r.ending → LeadsWatched a e r.events b e' r'.events → WritesAll b r' e' result c e'' → WritesAll a r e result c e''
 then_rest a b c r r' e e' e'' (Ok done) h l w = (sym h ∙ w.0, rest_led a b c e e' e'' r.events r'.events l w.1)
 then_rest a b c r r' e e' e'' (Err f) h l w = elim w [ inl m ↦ inl m | inr k ↦ inr (sym h ∙ k) ]
 

@@ -15,7 +15,7 @@ use Rattle.yaml_round_kept.specs.Spelled.{spelled}
 use Rattle.yaml_round_kept.specs.Kept.{Keeps, is_told}
 use Rattle.yaml_round_laws_documents.specs.round_laws_back.content.Normalize.{normalize_body, normalize_scalar, is_lone_mark}
 use Rattle.yaml_round_laws_documents.specs.round_laws_back.content.Input.{Reads, events_of}
-use Rattle.yaml_round_compare.specs.Reading.{contents, GivesFront}
+use Rattle.yaml_round_compare.specs.Reading.{contents, GivesNextEvent}
 use Rattle.yaml_round_compare.specs.Answers.{IsRight, IsReadBack}
 use Rattle.yaml_round.specs.Kept.{told_bytes, AreTold, KeptOn, KeepsAll, SaysAll, SaysKept}
 use Rattle.yaml_round.proofs.Telling.{same_front, says_same}
@@ -64,7 +64,7 @@ kept_next b t (Some first) (Some old) (Some new) all after s d l k = (
   ap (λ (z : List ℕ). z ++ told_bytes after) (k.1 ∙ ap (λ (z : List ℕ). old ++ z) s) ∙ append_assoc old (spelled (normalize_body true t.0.body)) (told_bytes after) ∙ l.1,
 )
 
-pub kept_on : (ends : Bool) (first old new : Option (List ℕ)) (all : List Told) (before after : ParserRemaining) (v : Event) → KeptOn first all old before.events → GivesFront v before after
+pub kept_on : (ends : Bool) (first old new : Option (List ℕ)) (all : List Told) (before after : ParserRemaining) (v : Event) → KeptOn first all old before.events → GivesNextEvent v before after
     → Keeps old (normalize_body ends v.body) new → KeptOn first all new after.events
 kept_on ends first old new all before after v l f k =
     kept_next (normalize_body ends v.body) (v, after.unasked) first old new all after.events (spelled_ends ends v.body) (told_ends ends v.body)
@@ -129,7 +129,7 @@ read_kept from input text kept q (Ok false) r i k s = λ b.
 read_kept from input text kept q (Err f) r i k s = inl s
 
 -- what is left of the kept bytes behind an event compares as before
-pub left_alike : (kept left rest : List ℕ) (all : List Told) (before after : ParserRemaining) (v : Event) → GivesFront v before after → left ≡ spelled (normalize_body true v.body) ++ rest
+pub left_alike : (kept left rest : List ℕ) (all : List Told) (before after : ParserRemaining) (v : Event) → GivesNextEvent v before after → left ≡ spelled (normalize_body true v.body) ++ rest
     → (kept ≡ told_bytes all) ↔ (left ≡ told_bytes before.events) → (kept ≡ told_bytes all) ↔ (rest ≡ told_bytes after.events)
 left_alike kept left rest all before after v f e h =
     let says = spelled (normalize_body true v.body) in

@@ -20,7 +20,7 @@ use Rattle.yaml_round.specs.Layers.{reformat_layers}
 use Rattle.yaml_round_compare.specs.Reading.{emitter_events}
 use Rattle.yaml_round_shape.specs.Seen.{seen_all}
 use Rattle.yaml_round.specs.declared.writing.Watch.{Watch}
-use Rattle.yaml_round.specs.Writing.{IsUnder, Leads, Finishes, requested_under, IsText, IsEachLayout, IsPastEach}
+use Rattle.yaml_round.specs.Writing.{IsUnder, LeadsWatched, FinishesText, requested_under, IsText, IsEachLayout, IsPastEach}
 use Rattle.yaml_round_laws_documents.specs.round_laws_back.content.Input.{Reads, events_of, ending_of}
 use Rattle.yaml_round.specs.Answers.{IsLayout, IsPast, IsLaidOut, IsWritten, bytes_of}
 use Rattle.yaml_round_compare.proofs.Plain.{has_events, events_right}
@@ -51,12 +51,12 @@ past w limit es e left f l h = elim h [
 ]
 
 -- the emitter's text, where it is whole
-pub whole_text : (e : Emitter) (text : Vec ℕ Global) → e.fault ≡ None → IsWhole e text.items → IsWithin e → Finishes e (Ok text)
+pub whole_text : (e : Emitter) (text : Vec ℕ Global) → e.fault ≡ None → IsWhole e text.items → IsWithin e → FinishesText e (Ok text)
 whole_text e text none w k = (none, λ x whole c. record { is = w none x whole c; fits = k none x whole c })
 
 -- all events of a reading
 pub led : (from : yaml_encoding_t) (input : List ℕ) (settings : yaml_settings_t) (w v : Watch) (r : ParserRemaining) (old new : Emitter)
-    → Reads from input r → IsUnder old (requested_under settings w.canonical) settings.limit → Leads w old r.events v new []
+    → Reads from input r → IsUnder old (requested_under settings w.canonical) settings.limit → LeadsWatched w old r.events v new []
     → Led (requested_under settings w.canonical) settings.limit (emitter_events w.canonical (events_of from input)) new []
 led from input settings w v r old new h u l = (
   l.limit ∙ u.limit,
@@ -66,13 +66,13 @@ led from input settings w v r old new h u l = (
 )
 
 -- and their shape
-pub saw : (from : yaml_encoding_t) (input : List ℕ) (w v : Watch) (r : ParserRemaining) (old new : Emitter) → Reads from input r → Leads w old r.events v new []
+pub saw : (from : yaml_encoding_t) (input : List ℕ) (w v : Watch) (r : ParserRemaining) (old new : Emitter) → Reads from input r → LeadsWatched w old r.events v new []
     → v.shape ≡ seen_all w.shape (emitter_events w.canonical (events_of from input))
 unfolding seen_all
 saw from input w v r old new h l = sym l.shape ∙ ap (λ (es : List Told). seen_all w.shape (emitter_events w.canonical es)) h.events
 
 -- and what they say was kept
-pub kept_all : (from : yaml_encoding_t) (input : List ℕ) (w v : Watch) (r : ParserRemaining) (old new : Emitter) → Reads from input r → Leads w old r.events v new []
+pub kept_all : (from : yaml_encoding_t) (input : List ℕ) (w v : Watch) (r : ParserRemaining) (old new : Emitter) → Reads from input r → LeadsWatched w old r.events v new []
     → KeptOn (text_of w.kept) (events_of from input) (text_of v.kept) []
 kept_all from input w v r old new h l = subst (λ (es : List Told). KeptOn (text_of w.kept) es (text_of v.kept) []) h.events l.kept
 
@@ -100,7 +100,7 @@ emits : (f : yaml_fault_t) → IsMemoryFault emit_layers (fault_of f) → IsMemo
 emits f m = elim m [ inl e ↦ inl e | inr w ↦ inr (inl w) ]
 
 pub wrote : (from : yaml_encoding_t) (input : List ℕ) (settings : yaml_settings_t) (a b : Watch) (r : ParserRemaining) (old new : Emitter) (result : Result (Vec ℕ Global) yaml_fault_t)
-    → Reads from input r → IsUnder old (requested_under settings a.canonical) settings.limit → (r.ending ≡ None) × Leads a old r.events b new [] → Finishes new result
+    → Reads from input r → IsUnder old (requested_under settings a.canonical) settings.limit → (r.ending ≡ None) × LeadsWatched a old r.events b new [] → FinishesText new result
     → Answers reformat_layers bytes_of (IsWritten from input settings a.canonical) result
 wrote from input settings a b r old new (Ok text) h u l f =
     let right : ending_of from input ≡ None = sym h.ending ∙ l.0 in

@@ -10,23 +10,24 @@ use Rattle.yaml_parse.specs.Nodes.{Node}
 use Rattle.yaml_parse.specs.Documents.{Document}
 use Rattle.yaml_parse.specs.Resolve.{Told}
 use Rattle.yaml_parse.specs.Remaining.{ParserRemaining}
-use Rattle.yaml_parse.specs.Loading.{Loading, Fed, goes_on, loaded, refused, nothing_loaded, step}
+use Rattle.yaml_parse.specs.Loading.{Loading, LoadStep, goes_on, loaded, refused, nothing_loaded, step}
 use Rattle.yaml_parse.specs.NextLoad.{AreLoadsByContent, LoadIsNext, RefusalIsNext}
 use Rattle.yaml_parse.proofs.ByStep as parse
 use Rattle.yaml_parse.proofs.NextLoads.{load_gives, load_refuses}
 use Rattle.yaml_emit.specs.Content.{Event, alias_node, scalar_node, sequence_node, mapping_node, Nodes, no_nodes, node, Pairs, no_pairs, pair, document_start, document_end, sequence_end, mapping_end, stream_start, stream_end, node_events, items_events, pairs_events, documents_events}
 use Rattle.yaml_emit.specs.Content as content
 use Rattle.yaml_emit.specs.emit_graph.Graph.{graph_content, dumped}
-use Rattle.yaml_emit.specs.Emitter.{Emitter, Given, GivesSome, dump_events, document_events_by, opening_events}
+use Rattle.yaml_emit.specs.Emitter.{Emitter, dump_events, document_events_by, opening_events}
+use Rattle.yaml_emit.specs.Taking.{TakesEvents}
 use Rattle.yaml_emit.specs.emit_text.declared.RequestedSettings.{RequestedSettings}
 use Rattle.yaml_round_compare.specs.declared.yaml_settings_t.{yaml_settings_t}
 use Rattle.yaml_round_laws_documents.specs.round_laws_back.content.Input.{Reads}
-use Rattle.yaml_round.specs.Writing.{IsUnder, Finishes, requested_under}
+use Rattle.yaml_round.specs.Writing.{IsUnder, FinishesText, requested_under}
 use Rattle.yaml_round.specs.Layers.{reload_layers}
 use Rattle.yaml_round.specs.Answers.{bytes_of}
 use Rattle.yaml_round_laws_documents.specs.round_laws_back.content.Loads.{Loads, no_more, with_implicit_end, in_front, load_on, load_all, loads_of}
 use Rattle.yaml_round_laws_documents.specs.Normal.{ended}
-use Rattle.yaml_round.specs.Reload.{to_write, to_load, HasRoot, LoadsDocument, IsLoaded, AreLoaded, stream_of, written_events, Feeds, Stands, Dumps, DumpsStream, IsEachDump, IsDumped, LaysOutLoading, IsReloaded}
+use Rattle.yaml_round.specs.Reload.{to_write, to_load, HasRoot, LoadsDocument, IsLoaded, AreLoaded, stream_of, written_events, FeedsEmitter, IsWithinStream, DumpsAll, DumpsStream, IsEachDump, IsDumped, LaysOutLoading, IsReloaded}
 use Rattle.yaml_round_laws_documents.proofs.round_laws_reading.Loaded.{faultless_load, faulty_load}
 use Rattle.yaml_round.proofs.Laying.{Led, starts, layout, past, one_layout, one_past}
 use Rattle.yaml_round.proofs.Streams.{loaded_text}
@@ -42,7 +43,7 @@ behind_document : (f : Option Fault) (d : Document) (left : List Told) (n : ℕ)
 behind_document None d left n e = cc
 behind_document (Some g) d left n e = cc
 
-fed_document : (c : Fed) (gs : List Told) (f : Option Fault) (k : ℕ) (d : Document) (left : List Told) (n : ℕ)
+fed_document : (c : LoadStep) (gs : List Told) (f : Option Fault) (k : ℕ) (d : Document) (left : List Told) (n : ℕ)
     → ((m : Loading) → parse.loads gs f m ≡ parse.document d left n → Next gs f m d left)
     → parse.load_on c (parse.loads gs f) gs k ≡ parse.document d left n → (load_on c (load_all gs f) ≡ in_front d.nodes d (load_all left f nothing_loaded)) × (length left < length gs + 1)
 fed_document (goes_on m) gs f k d left n h e = let r = h m e in (r.0, omega (arith, r.1))
@@ -62,7 +63,7 @@ behind_nothing : (f : Option Fault) → parse.behind_all f ≡ parse.nothing →
 behind_nothing None e = refl
 behind_nothing (Some g) e = absurd (cc)
 
-fed_nothing : (c : Fed) (gs : List Told) (f : Option Fault) (k : ℕ) → ((m : Loading) → parse.loads gs f m ≡ parse.nothing → load_all gs f m ≡ no_more None)
+fed_nothing : (c : LoadStep) (gs : List Told) (f : Option Fault) (k : ℕ) → ((m : Loading) → parse.loads gs f m ≡ parse.nothing → load_all gs f m ≡ no_more None)
     → parse.load_on c (parse.loads gs f) gs k ≡ parse.nothing → load_on c (load_all gs f) ≡ no_more None
 fed_nothing (goes_on m) gs f k h e = h m e
 fed_nothing (loaded b) gs f k h e = absurd (cc)
@@ -77,7 +78,7 @@ behind_faulty : (f : Option Fault) (x : Fault) → parse.behind_all f ≡ parse.
 behind_faulty None x e = absurd (cc)
 behind_faulty (Some g) x e = cc
 
-fed_faulty : (c : Fed) (gs : List Told) (f : Option Fault) (k : ℕ) (x : Fault) → ((m : Loading) → parse.loads gs f m ≡ parse.faulty x → load_all gs f m ≡ no_more (Some x))
+fed_faulty : (c : LoadStep) (gs : List Told) (f : Option Fault) (k : ℕ) (x : Fault) → ((m : Loading) → parse.loads gs f m ≡ parse.faulty x → load_all gs f m ≡ no_more (Some x))
     → parse.load_on c (parse.loads gs f) gs k ≡ parse.faulty x → load_on c (load_all gs f) ≡ no_more (Some x)
 fed_faulty (goes_on m) gs f k x h e = h m e
 fed_faulty (loaded b) gs f k x h e = absurd (cc)
@@ -135,7 +136,7 @@ rooted_front : (ns : List Node) (d : Document) (rest : Loads) → d.nodes ≡ ns
 rooted_front [] d rest e h = All-nil HasRoot
 rooted_front (n ∷ ns) d rest e h = All-cons HasRoot d rest.documents (rw e (omega arith)) h
 
-rooted_on : (c : Fed) (go : Loading → Loads) → ((m : Loading) → All HasRoot (go m).documents) → All HasRoot (load_on c go).documents
+rooted_on : (c : LoadStep) (go : Loading → Loads) → ((m : Loading) → All HasRoot (go m).documents) → All HasRoot (load_on c go).documents
 rooted_on (goes_on m) go h = h m
 rooted_on (loaded d) go h = rooted_front d.nodes d (go nothing_loaded) refl (h nothing_loaded)
 rooted_on (refused f) go h = All-nil HasRoot
@@ -227,23 +228,23 @@ opened_already false e = absurd (cc)
 dump_is : (e : Emitter) (d : Document) → e.opened ≡ true → HasRoot d → dump_events e d ≡ dumped d
 dump_is e d o h = ap (λ (z : List Event). z ++ document_events_by e.closed d.nodes d) (opened_already e.opened o) ∙ document_events_root d.nodes e.closed d h
 
-pub feeds_none : (e : Emitter) (es : List Event) → Feeds e es e es
+pub feeds_none : (e : Emitter) (es : List Event) → FeedsEmitter e es e es
 feeds_none e es = record { completes = λ x whole h. h; limit = refl }
 
-pub feeds_on : (a b c : Emitter) (es fs gs : List Event) → Feeds a es b fs → Feeds b fs c gs → Feeds a es c gs
+pub feeds_on : (a b c : Emitter) (es fs gs : List Event) → FeedsEmitter a es b fs → FeedsEmitter b fs c gs → FeedsEmitter a es c gs
 feeds_on a b c es fs gs p q = record { completes = λ x whole h. q.completes x whole (p.completes x whole h); limit = q.limit ∙ p.limit }
 
-pub feeds_given : (old new : Emitter) (e : Event) (es : List Event) → Given old e new → Feeds old (e ∷ es) new es
+pub feeds_given : (old new : Emitter) (e : Event) (es : List Event) → TakesEvents old (e ∷ []) new [] → FeedsEmitter old (e ∷ es) new es
 feeds_given old new e es g = record { completes = λ x whole h. g.completes x es whole h; limit = g.limit }
 
-feeds_gives : (old new : Emitter) (es more : List Event) → GivesSome old es new [] → Feeds old (es ++ more) new more
+feeds_gives : (old new : Emitter) (es more : List Event) → TakesEvents old es new [] → FeedsEmitter old (es ++ more) new more
 feeds_gives old new es more g = record { completes = λ x whole h. g.completes x more whole h; limit = g.limit }
 
-pub feeds_document : (old new : Emitter) (d : Document) (ds : List Document) → old.opened ≡ true → HasRoot d → GivesSome old (dump_events old d) new []
-    → Feeds old (documents_events (map graph_content (d ∷ ds))) new (documents_events (map graph_content ds))
+pub feeds_document : (old new : Emitter) (d : Document) (ds : List Document) → old.opened ≡ true → HasRoot d → TakesEvents old (dump_events old d) new []
+    → FeedsEmitter old (documents_events (map graph_content (d ∷ ds))) new (documents_events (map graph_content ds))
 feeds_document old new d ds o h g =
-    let k : GivesSome old (dumped d) new [] = subst (λ (es : List Event). GivesSome old es new []) (dump_is old d o h) g in
-    subst (λ (es : List Event). Feeds old es new (documents_events (map graph_content ds))) (sym (dumped_more d ds)) (feeds_gives old new (dumped d) (documents_events (map graph_content ds)) k)
+    let k : TakesEvents old (dumped d) new [] = subst (λ (es : List Event). TakesEvents old es new []) (dump_is old d o h) g in
+    subst (λ (es : List Event). FeedsEmitter old es new (documents_events (map graph_content ds))) (sym (dumped_more d ds)) (feeds_gives old new (dumped d) (documents_events (map graph_content ds)) k)
 
 -- the first of the documents was given
 pub first_rooted : (left rest : List Document) (d : Document) → left ≡ d ∷ rest → All HasRoot left → HasRoot d
@@ -252,11 +253,11 @@ first_rooted left rest d e h = let k : All HasRoot (d ∷ rest) = subst (All Has
 pub others_rooted : (left rest : List Document) (d : Document) → left ≡ d ∷ rest → All HasRoot left → All HasRoot rest
 others_rooted left rest d e h = let k : All HasRoot (d ∷ rest) = subst (All HasRoot) e h in All-tail HasRoot d rest k
 
-pub feeds_next : (old mid new : Emitter) (all left rest : List Document) (d : Document) → left ≡ d ∷ rest → mid.opened ≡ true → All HasRoot left → GivesSome mid (dump_events mid d) new []
-    → Feeds old (documents_events (map graph_content all)) mid (documents_events (map graph_content left))
-    → Feeds old (documents_events (map graph_content all)) new (documents_events (map graph_content rest))
+pub feeds_next : (old mid new : Emitter) (all left rest : List Document) (d : Document) → left ≡ d ∷ rest → mid.opened ≡ true → All HasRoot left → TakesEvents mid (dump_events mid d) new []
+    → FeedsEmitter old (documents_events (map graph_content all)) mid (documents_events (map graph_content left))
+    → FeedsEmitter old (documents_events (map graph_content all)) new (documents_events (map graph_content rest))
 feeds_next old mid new all left rest d e o h g f =
-    let P : List Document → Type 0 = λ z. Feeds old (documents_events (map graph_content all)) mid (documents_events (map graph_content z)) in
+    let P : List Document → Type 0 = λ z. FeedsEmitter old (documents_events (map graph_content all)) mid (documents_events (map graph_content z)) in
     feeds_on old mid new _ _ _ (subst P e f) (feeds_document mid new d rest o (first_rooted left rest d e h) g)
 
 pub not_none : (o : Option Fault) (f : Fault) → o ≡ Some f → o ≡ None → ⊥
@@ -267,38 +268,38 @@ none_left [] rest e h = refl
 none_left (d ∷ ds) rest e h = absurd (let k = ap length (e ∙ h) in omega (arith, k))
 
 pub feeds_all : (old new : Emitter) (all left : List Document) → left ≡ []
-    → Feeds old (documents_events (map graph_content all)) new (documents_events (map graph_content left)) → Feeds old (documents_events (map graph_content all)) new (stream_end ∷ [])
+    → FeedsEmitter old (documents_events (map graph_content all)) new (documents_events (map graph_content left)) → FeedsEmitter old (documents_events (map graph_content all)) new (stream_end ∷ [])
 unfolding documents_events
 feeds_all old new all left e f =
-    let P : List Document → Type 0 = λ z. Feeds old (documents_events (map graph_content all)) new (documents_events (map graph_content z)) in
+    let P : List Document → Type 0 = λ z. FeedsEmitter old (documents_events (map graph_content all)) new (documents_events (map graph_content z)) in
     subst P e f
 
 -- ---- a stream
 
-pub stream_opened : (old new : Emitter) (ds : List Document) → Given old (stream_start YAML_ANY_ENCODING) new → Feeds old (stream_of ds) new (documents_events (map graph_content ds))
+pub stream_opened : (old new : Emitter) (ds : List Document) → TakesEvents old (stream_start YAML_ANY_ENCODING ∷ []) new [] → FeedsEmitter old (stream_of ds) new (documents_events (map graph_content ds))
 stream_opened old new ds g = feeds_given old new (stream_start YAML_ANY_ENCODING) (documents_events (map graph_content ds)) g
 
 -- a fault has come
-pub stream_refused : (old new : Emitter) (ds : List Document) (f : Fault) → Given old (stream_start YAML_ANY_ENCODING) new → new.fault ≡ Some f → DumpsStream old ds new
+pub stream_refused : (old new : Emitter) (ds : List Document) (f : Fault) → TakesEvents old (stream_start YAML_ANY_ENCODING ∷ []) new [] → new.fault ≡ Some f → DumpsStream old ds new
 stream_refused old new ds f g e = record { left = documents_events (map graph_content ds); feeds = stream_opened old new ds g; all = λ n. absurd (cc) }
 
-stream_left : (old mid new : Emitter) (ds : List Document) (taken : Bool) → taken ≡ false → Feeds old (stream_of ds) mid (documents_events (map graph_content ds)) → Dumps mid ds taken new → DumpsStream old ds new
+stream_left : (old mid new : Emitter) (ds : List Document) (taken : Bool) → taken ≡ false → FeedsEmitter old (stream_of ds) mid (documents_events (map graph_content ds)) → DumpsAll mid ds taken new → DumpsStream old ds new
 stream_left old mid new ds true e f d = absurd (cc)
 stream_left old mid new ds false e f d = record { left = d.0; feeds = feeds_on old mid new _ _ _ f d.1.0; all = λ n. absurd (d.1.1 n) }
 
-pub stream_stopped : (old mid new : Emitter) (ds : List Document) (taken : Bool) → taken ≡ false → Given old (stream_start YAML_ANY_ENCODING) mid → Dumps mid ds taken new → DumpsStream old ds new
+pub stream_stopped : (old mid new : Emitter) (ds : List Document) (taken : Bool) → taken ≡ false → TakesEvents old (stream_start YAML_ANY_ENCODING ∷ []) mid [] → DumpsAll mid ds taken new → DumpsStream old ds new
 stream_stopped old mid new ds taken e g d = stream_left old mid new ds taken e (stream_opened old mid ds g) d
 
-pub stands_by : (mid new : Emitter) (ds : List Document) (taken : Bool) → taken ≡ true → Dumps mid ds taken new → Stands new
+pub stands_by : (mid new : Emitter) (ds : List Document) (taken : Bool) → taken ≡ true → DumpsAll mid ds taken new → IsWithinStream new
 stands_by mid new ds true e d = d.1
 stands_by mid new ds false e d = absurd (cc)
 
-feeds_by : (mid new : Emitter) (ds : List Document) (taken : Bool) → taken ≡ true → Dumps mid ds taken new → Feeds mid (documents_events (map graph_content ds)) new (stream_end ∷ [])
+feeds_by : (mid new : Emitter) (ds : List Document) (taken : Bool) → taken ≡ true → DumpsAll mid ds taken new → FeedsEmitter mid (documents_events (map graph_content ds)) new (stream_end ∷ [])
 feeds_by mid new ds true e d = d.0
 feeds_by mid new ds false e d = absurd (cc)
 
-pub stream_ended : (old mid last new : Emitter) (ds : List Document) (taken : Bool) → taken ≡ true → Given old (stream_start YAML_ANY_ENCODING) mid → Dumps mid ds taken last
-    → (last.closed ≡ false → Given last stream_end new) → DumpsStream old ds new
+pub stream_ended : (old mid last new : Emitter) (ds : List Document) (taken : Bool) → taken ≡ true → TakesEvents old (stream_start YAML_ANY_ENCODING ∷ []) mid [] → DumpsAll mid ds taken last
+    → (last.closed ≡ false → TakesEvents last (stream_end ∷ []) new []) → DumpsStream old ds new
 stream_ended old mid last new ds taken e g d c = record {
   left = [];
   feeds =
@@ -317,7 +318,7 @@ led settings ds old new u w = (
 )
 
 pub dumped_text : (settings : yaml_settings_t) (ds : List Document) (old new : Emitter) (result : Result (Vec ℕ Global) yaml_fault_t)
-    → IsUnder old (requested_under settings true) settings.limit → DumpsStream old ds new → Finishes new result → Answers emit_layers bytes_of (IsEachDump settings ds) result
+    → IsUnder old (requested_under settings true) settings.limit → DumpsStream old ds new → FinishesText new result → Answers emit_layers bytes_of (IsEachDump settings ds) result
 dumped_text settings ds old new (Ok text) u w f =
     let W : RequestedSettings = requested_under settings true in
     let Q : List Event → Type 0 = λ es. Led W settings.limit (stream_of ds) new es in

@@ -6,7 +6,7 @@ use Rattle.yaml_scan.specs.Faults.{Fault}
 use Rattle.yaml_parse.specs.Nodes.{Node}
 use Rattle.yaml_parse.specs.Documents.{Document}
 use Rattle.yaml_parse.specs.Resolve.{Told}
-use Rattle.yaml_parse.specs.Loading.{Loading, Fed, goes_on, loaded, refused, nothing_loaded, step}
+use Rattle.yaml_parse.specs.Loading.{Loading, LoadStep, goes_on, loaded, refused, nothing_loaded, step}
 use Rattle.yaml_emit.specs.emit_graph.Graph.{graph_content}
 use Rattle.yaml_emit.specs.emit_text.declared.RequestedSettings.{RequestedSettings}
 use Rattle.yaml_round_laws_documents.specs.round_laws_back.content.round_laws.emit_laws_streams.Laws.{RightStream, HasText, RightDocument, AreRight, AreRightTold, RightFed}
@@ -33,7 +33,7 @@ front_right : (ns : List Node) (d : Document) (rest : Loads) → RightDocument d
 front_right [] d rest r k = tt
 front_right (n ∷ ns) d rest r k = (r, k)
 
-on_right : (fed : Fed) (go : Loading → Loads) → RightFed fed → ((l : Loading) → RightDocument l.document → AreRight (go l).documents) → AreRight (load_on fed go).documents
+on_right : (fed : LoadStep) (go : Loading → Loads) → RightFed fed → ((l : Loading) → RightDocument l.document → AreRight (go l).documents) → AreRight (load_on fed go).documents
 on_right (goes_on l) go h k = k l h
 on_right (loaded d) go h k = front_right d.nodes d (go nothing_loaded) h (k nothing_loaded empty_right)
 on_right (refused f) go h k = tt

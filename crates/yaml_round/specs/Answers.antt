@@ -47,13 +47,13 @@ IsJudged from input (Ok done) = IsRight from input
 IsJudged from input (Err fault) = IsFaulty from input fault
 
 -- the input is accepted, and there is a line for each of its events
-pub record IsTold (from : yaml_encoding_t) (input lines : List ℕ) : Type 0 where
+pub record HasLines (from : yaml_encoding_t) (input lines : List ℕ) : Type 0 where
   pub events : List Told
   pub of_input : HasEvents from input events
   pub are : lines ≡ event_lines events
 
 abbrev pub IsListed : yaml_encoding_t → List ℕ → Result (List ℕ) Fault → Type 0
-IsListed from input (Ok lines) = IsTold from input lines
+IsListed from input (Ok lines) = HasLines from input lines
 IsListed from input (Err fault) = IsFaulty from input fault
 
 -- ---- layouts
@@ -132,7 +132,7 @@ pub record IsNotReadBack (from : yaml_encoding_t) (settings : yaml_settings_t)
   pub shape : ¬ IsJsonInput from input
 
 -- What is known is so: the text reads back; what is kept is what the input says.
-pub record IsKnown (from : yaml_encoding_t) (input text : List ℕ) (known : Known) : Type 0 where
+pub record KnownHolds (from : yaml_encoding_t) (input text : List ℕ) (known : Known) : Type 0 where
   pub back : known.back ≡ true → ReadsBack from input text
   pub kept : KeepsAll from input (text_of known.kept)
 
@@ -140,7 +140,7 @@ pub record IsKnown (from : yaml_encoding_t) (input text : List ℕ) (known : Kno
 abbrev pub IsInPrettyForm : yaml_encoding_t → yaml_settings_t → List ℕ
     → Result (List ℕ × Known) Fault → Type 0
 IsInPrettyForm from settings input (Ok (text, known)) = IsLaidOut from input settings false text
-    × IsKnown from input text known
+    × KnownHolds from input text known
 IsInPrettyForm from settings input (Err fault) = IsWritten from input settings false (Err fault)
 
 -- the answer of the engine in canonical form

@@ -124,25 +124,26 @@ IsLoaded from input (Ok ds) = AreLoaded from input ds
 IsLoaded from input (Err f) = (loads_of from input).fault ≡ Some f
 
 -- With these events to come from one emitter and those from the other, the text is the same.
-pub record Feeds (old : Emitter) (before : List Event) (new : Emitter) (after : List Event) : Type 0
-  where
-    pub completes : (x : Encoding) (whole : List Item) → Completes old x before whole
-        → Completes new x after whole
-    pub limit : new.limit ≡ old.limit
+pub record FeedsEmitter (old : Emitter) (before : List Event) (new : Emitter)
+    (after : List Event) : Type 0 where
+  pub completes : (x : Encoding) (whole : List Item) → Completes old x before whole
+      → Completes new x after whole
+  pub limit : new.limit ≡ old.limit
 
 -- documents were given, and the end of the stream is to come; or a fault has come before
-pub record Stands (e : Emitter) : Type 0 where
+pub record IsWithinStream (e : Emitter) : Type 0 where
   pub opened : e.opened ≡ true
   pub closed : e.closed ≡ false
 
-abbrev pub Dumps : Emitter → List Document → Bool → Emitter → Type 0
-Dumps old ds true new = Feeds old (documents_events (map graph_content ds)) new (stream_end ∷ [])
-    × Stands new
-Dumps old ds false new = (left : List Event)
-    × (Feeds old (documents_events (map graph_content ds)) new left × (new.fault ≡ None → ⊥))
+abbrev pub DumpsAll : Emitter → List Document → Bool → Emitter → Type 0
+DumpsAll old ds true new =
+    FeedsEmitter old (documents_events (map graph_content ds)) new (stream_end ∷ [])
+    × IsWithinStream new
+DumpsAll old ds false new = (left : List Event)
+    × (FeedsEmitter old (documents_events (map graph_content ds)) new left × (new.fault ≡ None → ⊥))
 
 -- the whole stream was given, or a fault has come
 pub record DumpsStream (old : Emitter) (ds : List Document) (new : Emitter) : Type 0 where
   pub left : List Event
-  pub feeds : Feeds old (stream_of ds) new left
+  pub feeds : FeedsEmitter old (stream_of ds) new left
   pub all : new.fault ≡ None → left ≡ []

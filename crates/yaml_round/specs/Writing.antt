@@ -60,7 +60,7 @@ pub record Sees (watch : Watch) (e : EventBody) (seen_new : Watch) : Type 0 wher
 
 -- With these events to come, normalized, from one emitter and those from the other, the text is the same,
 -- and so is what they tell of their shape; what those between them say is kept.
-pub record Leads (watch : Watch) (old : Emitter) (before : List Told) (seen : Watch)
+pub record LeadsWatched (watch : Watch) (old : Emitter) (before : List Told) (seen : Watch)
     (new : Emitter) (after : List Told) : Type 0 where
   pub completes : (x : Encoding) (whole : List Item)
       → Completes old x (emitter_events watch.canonical before) whole
@@ -72,17 +72,17 @@ pub record Leads (watch : Watch) (old : Emitter) (before : List Told) (seen : Wa
   pub kept : KeptOn (text_of watch.kept) before (text_of seen.kept) after
 
 -- the reading's events were given to the emitter: all of them, or a front of them
-abbrev pub Writes : Watch → ParserRemaining → Emitter → Result Bool yaml_fault_t → Watch
+abbrev pub WritesReading : Watch → ParserRemaining → Emitter → Result Bool yaml_fault_t → Watch
     → ParserRemaining → Emitter → Type 0
-Writes w r e (Ok true) w' r' e' = (r.ending ≡ None) × Leads w e r.events w' e' []
-Writes w r e (Ok false) w' r' e' = (r'.ending ≡ r.ending)
-    × (AreReal r'.events × Leads w e r.events w' e' r'.events)
-Writes w r e (Err f) w' r' e' = IsFaultOf r.ending f
+WritesReading w r e (Ok true) w' r' e' = (r.ending ≡ None) × LeadsWatched w e r.events w' e' []
+WritesReading w r e (Ok false) w' r' e' = (r'.ending ≡ r.ending)
+    × (AreReal r'.events × LeadsWatched w e r.events w' e' r'.events)
+WritesReading w r e (Err f) w' r' e' = IsFaultOf r.ending f
 
 -- all of the reading's events were given to the emitter
 abbrev pub WritesAll : Watch → ParserRemaining → Emitter → Result (Unit {0}) yaml_fault_t → Watch
     → Emitter → Type 0
-WritesAll w r e (Ok done) w' e' = (r.ending ≡ None) × Leads w e r.events w' e' []
+WritesAll w r e (Ok done) w' e' = (r.ending ≡ None) × LeadsWatched w e r.events w' e' []
 WritesAll w r e (Err f) w' e' = IsFaultOf r.ending f
 
 -- the text is that layout, and passes no limit
@@ -91,11 +91,11 @@ pub record IsText (limit : ℕ) (x : Encoding) (whole : List Item) (text : List 
   pub fits : Fits limit x whole
 
 -- the emitter's text, where it is whole, or its fault: a limit that each text that the emitter completes passes, or want of memory
-abbrev pub Finishes : Emitter → Result (Vec ℕ Global) yaml_fault_t → Type 0
-Finishes e (Ok text) = (e.fault ≡ None)
+abbrev pub FinishesText : Emitter → Result (Vec ℕ Global) yaml_fault_t → Type 0
+FinishesText e (Ok text) = (e.fault ≡ None)
     × ((x : Encoding) (whole : List Item) → Completes e x [] whole
     → IsText e.limit x whole text.items)
-Finishes e (Err f) = IsLimited e (fault_of f)
+FinishesText e (Err f) = IsLimited e (fault_of f)
 
 -- ---- texts of events
 

@@ -9,7 +9,7 @@ ghost use Rattle.yaml_round_laws_documents.specs.round_laws_back.content.Normali
 ghost use Rattle.yaml_round_compare.specs.Reading.{AreReal};
 ghost use Rattle.yaml_round_compare.specs.Answers.{IsRight, IsReadBack};
 ghost use Rattle.yaml_round.specs.Kept.{KeepsAll, TellsKept, SaysKept};
-ghost use Rattle.yaml_round.specs.Answers.{IsKnown};
+ghost use Rattle.yaml_round.specs.Answers.{KnownHolds};
 
 use std::alloc::Global;
 use yaml_parse::{yaml_event_t, yaml_found_t};
@@ -88,7 +88,7 @@ pub(crate) fn stays(
     known: Known,
 ) -> Result<bool, yaml_fault_t>
     requires right { IsRight from input.now }
-    requires known { IsKnown from input.now text.now known }
+    requires known { KnownHolds from input.now text.now known }
     ensures { Answers parse_layers (λ same. same) (IsReadBack from input.now text.now) result }
 {
     if known.back {

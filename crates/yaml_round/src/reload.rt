@@ -5,7 +5,7 @@ ghost use Rattle.yaml_round_laws_documents.specs.round_laws_back.content.Input.{
 ghost use Rattle.yaml_scan.specs.Faults.{Answers, load_layers, emit_layers};
 ghost use Rattle.yaml_round.specs.Layers.{reload_layers};
 ghost use Rattle.yaml_round.specs.Answers.{bytes_of};
-ghost use Rattle.yaml_round.specs.Reload.{LoadsNext, IsLoaded, HasRoot, Stands, Dumps, DumpsStream, IsEachDump, IsReloaded};
+ghost use Rattle.yaml_round.specs.Reload.{LoadsNext, IsLoaded, HasRoot, IsWithinStream, DumpsAll, DumpsStream, IsEachDump, IsReloaded};
 
 use crate::writing::{emitter_under, finished};
 use std::alloc::Global;
@@ -73,9 +73,9 @@ fn documents_of(
 
 // Writes the documents. True where all were taken; else the emitter keeps its fault.
 fn dump_all(emitter: &mut yaml_emitter_t, documents: &mut VecDeque<yaml_document_t>) -> bool
-    requires stands { Stands emitter.old }
+    requires stands { IsWithinStream emitter.old }
     requires rooted { All HasRoot documents.old.items }
-    ensures { Dumps emitter.old documents.old.items result emitter.new }
+    ensures { DumpsAll emitter.old documents.old.items result emitter.new }
 {
     'documents: loop {
         match documents.pop_front() {

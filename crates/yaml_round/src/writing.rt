@@ -1,14 +1,15 @@
 //! An emitter under the engine's settings, and the writing of a reading's events.
 
-ghost use Rattle.std.specs.Prelude.{◌≡◌, Some, IfOk, IfErr, option_map};
+ghost use Rattle.std.specs.Prelude.{◌≡◌, ◌∷◌, [], Some, IfOk, IfErr, option_map};
 ghost use Rattle.yaml_scan.specs.Faults.{Fault, fault_of, memory_fault};
 ghost use Rattle.yaml_parse.specs.Events.{event_of};
 ghost use Rattle.yaml_parse.specs.Constructors.{HasUtf8};
 ghost use Rattle.yaml_emit.specs.Content.{emitter_event};
-ghost use Rattle.yaml_emit.specs.Emitter.{Given, IsLimited};
+ghost use Rattle.yaml_emit.specs.Emitter.{IsLimited};
+ghost use Rattle.yaml_emit.specs.Taking.{TakesEvents};
 ghost use Rattle.yaml_round_laws_documents.specs.round_laws_back.content.Normalize.{normalize_body};
 ghost use Rattle.yaml_round_compare.specs.Reading.{AreReal};
-ghost use Rattle.yaml_round.specs.Writing.{IsUnder, requested_under, encoding_under, Sees, Writes, WritesAll, Finishes};
+ghost use Rattle.yaml_round.specs.Writing.{IsUnder, requested_under, encoding_under, Sees, WritesReading, WritesAll, FinishesText};
 
 use std::alloc::Global;
 use yaml_emit::{
@@ -71,7 +72,8 @@ pub(crate) fn emitter_under(
 // Gives the event in the slot; what is left there counts for nothing. The emitter keeps its first fault.
 fn give(emitter: &mut yaml_emitter_t, event: &mut yaml_event_t)
     requires { HasUtf8 (event_of event.old).body }
-    ensures { Given emitter.old (emitter_event (event_of event.old).body) emitter.new }
+    ensures { TakesEvents emitter.old (emitter_event (event_of event.old).body ∷ []) emitter.new
+        [] }
 {
     yaml_emitter_emit_from(emitter, event);
 }
@@ -87,8 +89,8 @@ fn most_kept(watch: &Watch) -> usize {
 // Gives the event in the slot, normalized, sees what it tells of the shape, and keeps what it says.
 fn give_normalized(emitter: &mut yaml_emitter_t, watch: &mut Watch, event: &mut yaml_event_t)
     requires { HasUtf8 (event_of event.old).body }
-    ensures given { Given emitter.old (emitter_event
-        (normalize_body watch.old.canonical (event_of event.old).body)) emitter.new }
+    ensures takes { TakesEvents emitter.old (emitter_event
+        (normalize_body watch.old.canonical (event_of event.old).body) ∷ []) emitter.new [] }
     ensures seen { Sees watch.old (normalize_body watch.old.canonical (event_of event.old).body)
         watch.new }
 {
@@ -108,8 +110,8 @@ pub(crate) fn write_up_to(
     most: usize,
 ) -> Result<bool, yaml_fault_t>
     requires { AreReal reading.old.parser.events }
-    ensures { Writes watch.old reading.old.parser emitter.old result watch.new reading.new.parser
-        emitter.new }
+    ensures { WritesReading watch.old reading.old.parser emitter.old result watch.new
+        reading.new.parser emitter.new }
 {
     'events: loop {
         if yaml_emitter_output(emitter).len() > most {
@@ -154,7 +156,7 @@ fn fault_in(emitter: &yaml_emitter_t) -> Option<yaml_fault_t>
 /// The text, which passes no limit, or the emitter's fault, which names a limit or tells that memory ran out.
 #[tactic(auto, using(crate::proofs::Laying::whole_text))]
 pub(crate) fn finished(emitter: yaml_emitter_t) -> Result<Vec<u8>, yaml_fault_t>
-    ensures { Finishes emitter result }
+    ensures { FinishesText emitter result }
 {
     let fault = fault_in(&emitter);
     let text = yaml_emitter_into_output(emitter);

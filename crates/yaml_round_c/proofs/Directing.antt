@@ -7,7 +7,7 @@ use Rattle.yaml_round_c.specs.declared.record.yaml_c_directive.{yaml_c_directive
 use Rattle.yaml_round_c.specs.declared.listing.Listing.{Listing}
 use Rattle.yaml_round_c.specs.Records.{part_at, directive_at, in_front, all_directives}
 use Rattle.yaml_round_c.specs.Blocks.{directive_texts}
-use Rattle.yaml_round_c.specs.Listing.{Grows, PutsDirective, Appends, AddsDirectives, PutsDirectives, HoldDirectives}
+use Rattle.yaml_round_c.specs.Listing.{Grows, PutsDirective, AppendsDirectives, AddsDirectives, PutsDirectives, HoldDirectives}
 use Rattle.std.proofs.lemmas.List.{append-nil, map_more, take_all, length-map}
 use Rattle.yaml_round_c.proofs.Placing.{put_on, grows_on, grows_itself, part_stands}
 
@@ -70,13 +70,13 @@ still old new ds ts g h more =
 
 -- what the list meant before, and what was put behind it
 pub append_on : (old new : List ℕ) (ds fs : List yaml_c_directive) (ts us : List TagDirective) → Grows old new → HoldDirectives old ds ts
-    → Appends new ds us fs → HoldDirectives new fs (ts ++ us)
+    → AppendsDirectives new ds us fs → HoldDirectives new fs (ts ++ us)
 append_on old new ds fs ts us g h a more =
     subst (λ z. all_directives (new ++ more) z ≡ Some (ts ++ us)) (sym a.is)
     (appended (new ++ more) ds a.added ts us (still old new ds ts g h more) (a.hold more))
 
 -- no directive
-pub none_appended : (bytes : List ℕ) (ds : List yaml_c_directive) → Appends bytes ds [] ds
+pub none_appended : (bytes : List ℕ) (ds : List yaml_c_directive) → AppendsDirectives bytes ds [] ds
 unfolding all_directives
 none_appended bytes ds = record { added = []; is = sym (append-nil ds); hold = λ more. refl }
 

@@ -7,7 +7,7 @@ use Rattle.yaml_parse.specs.Faults.{Fault, fault_of}
 use Rattle.yaml_round.specs.declared.yaml_side_t.{yaml_side_t}
 use Rattle.yaml_round_c.specs.declared.answer.yaml_c_answer.{yaml_c_answer}
 use Rattle.yaml_round_c.specs.Numbers.{encoding_meant, error_number}
-use Rattle.yaml_round_c.specs.Told.{TellsText, TellsFault, Tells, TellsSame, Answers, IsExact, both, same_number, side_number, Lists, Compares}
+use Rattle.yaml_round_c.specs.Told.{TellsText, TellsFault, TellsResult, TellsSame, AnswersMeant, IsExact, both, same_number, side_number, Lists, Compares}
 
 -- no number of a fault's kind is -1
 no_minus : (m : ℕ) (n : ℤ) → n ≡ pos m → ¬ (n ≡ negsuc 0)
@@ -29,7 +29,7 @@ text_kind bytes number a h = no_minus 0 a.kind h.kind
 fault_kind : (f : Fault) (whose : ℤ) (a : yaml_c_answer) → TellsFault f whose a → ¬ (a.kind ≡ negsuc 0)
 fault_kind f whose a h = fault_number f.kind a.kind h.kind
 
-tells_kind : (r : Result (List ℕ) Fault) (a : yaml_c_answer) → Tells r a → ¬ (a.kind ≡ negsuc 0)
+tells_kind : (r : Result (List ℕ) Fault) (a : yaml_c_answer) → TellsResult r a → ¬ (a.kind ≡ negsuc 0)
 tells_kind (Ok text) a h = text_kind text (pos 0) a h
 tells_kind (Err f) a h = fault_kind f (pos 0) a h
 
@@ -39,30 +39,30 @@ same_kind (Err (side, f)) a h = fault_kind (fault_of f) (side_number side) a h
 
 -- a call whose answers tell no -1
 exact : {M : Type 0} (o : Option M) (Is : M → yaml_c_answer → Type 0) (a : yaml_c_answer) → ((m : M) → Is m a → ¬ (a.kind ≡ negsuc 0))
-    → Answers o Is a → IsExact o a.kind
+    → AnswersMeant o Is a → IsExact o a.kind
 exact None Is a f h = h.kind
 exact (Some m) Is a f h = f m h
 
 -- the same, of numbers and a kind that are known by other names
-pub listed_told : (n from : ℤ) (input : List ℕ) (a : yaml_c_answer) → n ≡ from → Answers (encoding_meant n) (Lists input) a
-    → Answers (encoding_meant from) (Lists input) a
-listed_told n from input a p h = subst (λ z. Answers (encoding_meant z) (Lists input) a) p h
+pub listed_told : (n from : ℤ) (input : List ℕ) (a : yaml_c_answer) → n ≡ from → AnswersMeant (encoding_meant n) (Lists input) a
+    → AnswersMeant (encoding_meant from) (Lists input) a
+listed_told n from input a p h = subst (λ z. AnswersMeant (encoding_meant z) (Lists input) a) p h
 
-pub listed_exact : (n from k : ℤ) (input : List ℕ) (a : yaml_c_answer) → n ≡ from → k ≡ a.kind → Answers (encoding_meant n) (Lists input) a
+pub listed_exact : (n from k : ℤ) (input : List ℕ) (a : yaml_c_answer) → n ≡ from → k ≡ a.kind → AnswersMeant (encoding_meant n) (Lists input) a
     → IsExact (encoding_meant from) k
 listed_exact n from k input a p q h =
     subst (λ z. IsExact (encoding_meant from) z) (sym q)
     (exact (encoding_meant from) (Lists input) a (λ m l. tells_kind l.result a l.told) (listed_told n from input a p h))
 
 pub compared_told : (m n first_from second_from : ℤ) (first second : List ℕ) (a : yaml_c_answer) → m ≡ first_from → n ≡ second_from
-    → Answers (both (encoding_meant m) (encoding_meant n)) (Compares first second) a
-    → Answers (both (encoding_meant first_from) (encoding_meant second_from)) (Compares first second) a
+    → AnswersMeant (both (encoding_meant m) (encoding_meant n)) (Compares first second) a
+    → AnswersMeant (both (encoding_meant first_from) (encoding_meant second_from)) (Compares first second) a
 compared_told m n first_from second_from first second a p q h =
-    subst (λ z. Answers (both (encoding_meant first_from) (encoding_meant z)) (Compares first second) a) q
-    (subst (λ z. Answers (both (encoding_meant z) (encoding_meant n)) (Compares first second) a) p h)
+    subst (λ z. AnswersMeant (both (encoding_meant first_from) (encoding_meant z)) (Compares first second) a) q
+    (subst (λ z. AnswersMeant (both (encoding_meant z) (encoding_meant n)) (Compares first second) a) p h)
 
 pub compared_exact : (m n first_from second_from k : ℤ) (first second : List ℕ) (a : yaml_c_answer) → m ≡ first_from → n ≡ second_from
-    → k ≡ a.kind → Answers (both (encoding_meant m) (encoding_meant n)) (Compares first second) a
+    → k ≡ a.kind → AnswersMeant (both (encoding_meant m) (encoding_meant n)) (Compares first second) a
     → IsExact (both (encoding_meant first_from) (encoding_meant second_from)) k
 compared_exact m n first_from second_from k first second a p q r h =
     subst (λ z. IsExact (both (encoding_meant first_from) (encoding_meant second_from)) z) (sym r)

@@ -15,17 +15,17 @@ use Rattle.yaml_round_c.specs.declared.record.yaml_c_directive.{yaml_c_directive
 use Rattle.yaml_round_c.specs.declared.parsing.yaml_c_parsed.{yaml_c_parsed}
 use Rattle.yaml_round_c.specs.Records.{all_directives}
 use Rattle.yaml_round_c.specs.Blocks.{listed_directives}
-use Rattle.yaml_round_c.specs.Listing.{Collected, Said, HoldsAll, events_alone}
+use Rattle.yaml_round_c.specs.Listing.{Collected, AreSaid, HoldsAll, events_alone}
 use Rattle.yaml_round_c.specs.Parses.{HandsOut, SayEvents}
 use Rattle.yaml_round_c.proofs.Saying.{say_at}
 
 -- the events of a reading that has no fault are the input's
 pub all_taken : (from : yaml_encoding_t) (input : List ℕ) (p : ParserRemaining) (l : Listing) → Reads from input p → p.ending ≡ None
     → Collected p.events [] l
-    → (ending_of from input ≡ None) × Said l (events_alone (events_of from input)) × HoldsAll l (events_alone (events_of from input))
+    → (ending_of from input ≡ None) × AreSaid l (events_alone (events_of from input)) × HoldsAll l (events_alone (events_of from input))
 all_taken from input p l r e c =
     let all : events_alone (events_of from input) ≡ c.given = sym (ap events_alone r.events) ∙ c.split ∙ append-nil c.given in
-    (sym r.ending ∙ e, subst (λ z. Said l z) (sym all) c.said, subst (λ z. HoldsAll l z) (sym all) c.holds)
+    (sym r.ending ∙ e, subst (λ z. AreSaid l z) (sym all) c.said, subst (λ z. HoldsAll l z) (sym all) c.holds)
 
 -- its fault is the input's
 pub fault_taken : (from : yaml_encoding_t) (input : List ℕ) (p : ParserRemaining) (f : yaml_fault_t) → Reads from input p
@@ -44,7 +44,7 @@ list_at : (b c : List ℕ) (d f : List yaml_c_directive) (ts : List TagDirective
 list_at b c d f ts p q h = subst (λ z. all_directives z f ≡ Some ts) (sym p) (subst (λ z. all_directives b z ≡ Some ts) (sym q) h)
 
 -- the blocks say what the listing does, and hold what it holds
-pub handed_says : (l : Listing) (p : yaml_c_parsed) (es : List Told) → HandsOut l p → Said l (events_alone es)
+pub handed_says : (l : Listing) (p : yaml_c_parsed) (es : List Told) → HandsOut l p → AreSaid l (events_alone es)
     → HoldsAll l (events_alone es) → SayEvents p es
 handed_says l p es h s a =
     let bytes : p.bytes.now ≡ l.bytes.items ++ [] = h.bytes ∙ sym (append-nil l.bytes.items) in record {

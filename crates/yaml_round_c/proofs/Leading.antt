@@ -7,9 +7,10 @@ use Rattle.yaml_parse.specs.Events.{EventBody}
 use Rattle.yaml_emit.specs.Content.{Event, emitter_event}
 use Rattle.yaml_emit.specs.Text.{Item, encode, is_deep}
 use Rattle.yaml_emit.specs.Judged.{first_progress, first_refusal, let_out}
-use Rattle.yaml_emit.specs.Verdict.{verdict, verdict_by, Writes, WritesBy, IsLetOut, HasLetOut, Judged, Tells}
+use Rattle.yaml_emit.specs.Verdict.{verdict, verdict_by, Writes, WritesBy, IsLetOut, HasLetOut, TellsOutcome}
+use Rattle.yaml_emit.specs.Taking.{TakesEvents}
 use Rattle.yaml_emit.specs.Within.{Fits}
-use Rattle.yaml_emit.specs.Emitter.{Emitter, Completes, CompletesBy, Given, IsStream, IsLimited, IsWhole, Passes, problem_fault, fault_by, write_error, too_deep, memory_origin}
+use Rattle.yaml_emit.specs.Emitter.{Emitter, Completes, CompletesBy, IsStream, IsLimited, IsWhole, Passes, problem_fault, fault_by, write_error, too_deep, memory_origin}
 use Rattle.yaml_emit.specs.emit_layout.declared.Problem.{Problem}
 use Rattle.yaml_emit.specs.emit_text.declared.Encoding.{Encoding}
 use Rattle.yaml_emit.specs.emit_text.declared.Status.{Status}
@@ -22,8 +23,8 @@ use Rattle.yaml_round_c.specs.declared.record.yaml_c_directive.{yaml_c_directive
 use Rattle.yaml_round_c.specs.declared.record.yaml_c_event.{yaml_c_event}
 use Rattle.yaml_round_c.specs.Records.{body_in_front}
 use Rattle.yaml_round_c.specs.Meaning.{event_meant, events_meant}
-use Rattle.yaml_round_c.specs.Written.{refusal, whole_text, text_encoding, text_bytes, IsLong, IsText, IsRefused, IsFault, IsEmitted}
-use Rattle.yaml_round_c.specs.Leading.{all_events, StartsUnder, Leads, Finishes}
+use Rattle.yaml_round_c.specs.Written.{refusal, whole_text, text_encoding, text_bytes, IsLong, IsEmittedText, IsEventRefused, IsFault, IsEmitted}
+use Rattle.yaml_round_c.specs.Leading.{all_events, StartsUnder, LeadsEmitter, FinishesEmitter}
 
 -- ---- the records that are left
 
@@ -76,28 +77,28 @@ none_left bytes list = refl
 
 -- ---- one more event
 
-pub leads_same : (e : Emitter) (es : List Event) → Leads e es e es
+pub leads_same : (e : Emitter) (es : List Event) → LeadsEmitter e es e es
 leads_same e es = record { refuses = λ g. refl; writes = λ x whole h. h; completes = λ x whole h. h; limit = refl }
 
-pub leads_more : (first old new : Emitter) (all : List Event) (x : Event) (rest : List Event) → Leads first all old (x ∷ rest) → Given old x new → Judged old x new → Leads first all new rest
-leads_more first old new all x rest l g j = record {
-  refuses = λ on. j.refuses on rest ∙ l.refuses (j.going on);
-  writes = λ c whole h. j.writes c rest whole (l.writes c whole h);
-  completes = λ c whole h. g.completes c rest whole (l.completes c whole h);
-  limit = g.limit ∙ l.limit;
+pub leads_more : (first old new : Emitter) (all : List Event) (x : Event) (rest : List Event) → LeadsEmitter first all old (x ∷ rest) → TakesEvents old (x ∷ []) new [] → LeadsEmitter first all new rest
+leads_more first old new all x rest l t = record {
+  refuses = λ on. t.refuses on rest ∙ l.refuses (t.going on);
+  writes = λ c whole h. t.writes c rest whole (l.writes c whole h);
+  completes = λ c whole h. t.completes c rest whole (l.completes c whole h);
+  limit = t.limit ∙ l.limit;
 }
 
-pub leads_on : (first old new : Emitter) (all es : List Event) (x : Event) (rest : List Event) → es ≡ x ∷ rest → Leads first all old es → Given old x new → Judged old x new → Leads first all new rest
-leads_on first old new all es x rest is l g j = leads_more first old new all x rest (subst (λ (t : List Event). Leads first all old t) is l) g j
+pub leads_on : (first old new : Emitter) (all es : List Event) (x : Event) (rest : List Event) → es ≡ x ∷ rest → LeadsEmitter first all old es → TakesEvents old (x ∷ []) new [] → LeadsEmitter first all new rest
+leads_on first old new all es x rest is l t = leads_more first old new all x rest (subst (λ (z : List Event). LeadsEmitter first all old z) is l) t
 
 pub leads_record : (bytes : List ℕ) (list : List yaml_c_directive) (rs : List yaml_c_event) (i : ℕ) (d : yaml_c_event) (b : EventBody) (first old new : Emitter) (all : List Event) → i < length rs → is_some (events_meant bytes list (drop i rs)) ≡ true
-    → event_meant bytes list (get_or rs i d) ≡ Some b → Leads first all old (all_events (events_meant bytes list (drop i rs))) → Given old (emitter_event b) new → Judged old (emitter_event b) new
-    → Leads first all new (all_events (events_meant bytes list (drop (i + 1) rs)))
-leads_record bytes list rs i d b first old new all h m is l g j = leads_on first old new all _ (emitter_event b) _ (events_left bytes list rs i d b h m is) l g j
+    → event_meant bytes list (get_or rs i d) ≡ Some b → LeadsEmitter first all old (all_events (events_meant bytes list (drop i rs))) → TakesEvents old (emitter_event b ∷ []) new []
+    → LeadsEmitter first all new (all_events (events_meant bytes list (drop (i + 1) rs)))
+leads_record bytes list rs i d b first old new all h m is l t = leads_on first old new all _ (emitter_event b) _ (events_left bytes list rs i d b h m is) l t
 
-pub leads_end : (bytes : List ℕ) (list : List yaml_c_directive) (rs : List yaml_c_event) (i : ℕ) (first new : Emitter) (all : List Event) → length rs ≤ i → Leads first all new (all_events (events_meant bytes list (drop i rs))) → Leads first all new []
+pub leads_end : (bytes : List ℕ) (list : List yaml_c_directive) (rs : List yaml_c_event) (i : ℕ) (first new : Emitter) (all : List Event) → length rs ≤ i → LeadsEmitter first all new (all_events (events_meant bytes list (drop i rs))) → LeadsEmitter first all new []
 leads_end bytes list rs i first new all h l =
-    subst (λ (es : List Event). Leads first all new es) (ap (λ es. all_events (events_meant bytes list es)) (drop_all i rs h) ∙ none_left bytes list) l
+    subst (λ (es : List Event). LeadsEmitter first all new es) (ap (λ es. all_events (events_meant bytes list es)) (drop_all i rs h) ∙ none_left bytes list) l
 
 -- ---- a fresh emitter
 
@@ -180,13 +181,13 @@ some_fault Starved b p limit x whole output f h k = inr (inr (memory_told b f h)
 -- ---- the answer
 
 -- what the emitter tells of the text of the events that it was given
-told_text : (e : Emitter) (first : Emitter) (w : RequestedSettings) (limit : ℕ) (es : List Event) → StartsUnder first w limit → Leads first es e [] → Tells e → HasLetOut e.status limit e.output (text_bytes w es) (is_deep (whole_text w es))
+told_text : (e : Emitter) (first : Emitter) (w : RequestedSettings) (limit : ℕ) (es : List Event) → StartsUnder first w limit → LeadsEmitter first es e [] → TellsOutcome e → HasLetOut e.status limit e.output (text_bytes w es) (is_deep (whole_text w es))
 told_text e first w limit es s l t =
     let k : HasLetOut e.status e.limit e.output (text_bytes w es) (is_deep (whole_text w es)) = t.output (text_encoding w es) (whole_text w es) (l.writes (text_encoding w es) (whole_text w es) (first_writes first w limit es s)) in
     subst (λ (n : ℕ). HasLetOut e.status n e.output (text_bytes w es) (is_deep (whole_text w es))) (l.limit ∙ s.limit) k
 
-whole_answer : (first e : Emitter) (w : RequestedSettings) (limit : ℕ) (es : List Event) (text : List ℕ) → StartsUnder first w limit → Leads first es e []
-    → e.fault ≡ None → text ≡ e.output → Tells e → IsWhole e text → IsText w limit es text
+whole_answer : (first e : Emitter) (w : RequestedSettings) (limit : ℕ) (es : List Event) (text : List ℕ) → StartsUnder first w limit → LeadsEmitter first es e []
+    → e.fault ≡ None → text ≡ e.output → TellsOutcome e → IsWhole e text → IsEmittedText w limit es text
 whole_answer first e w limit es text s l none is t h =
     let on = none_going e.status e.starved (verdict e []) (sym t.fault ∙ none) in
     let k = has_all e.status limit e.output (text_bytes w es) (is_deep (whole_text w es)) on.0 (told_text e first w limit es s l t) in
@@ -197,8 +198,8 @@ whole_answer first e w limit es text s l none is t h =
       stream = λ x whole c. h none x whole (l.completes x whole (first_whole first w limit x es whole s c));
     }
 
-refusal_or_limit : (first e : Emitter) (w : RequestedSettings) (limit : ℕ) (es : List Event) (f : Fault) → StartsUnder first w limit → Leads first es e []
-    → e.fault ≡ Some f → Tells e → IsMemoryFault emit_layers f ⊎ (IsRefused w limit es f ⊎ IsLong w limit es f)
+refusal_or_limit : (first e : Emitter) (w : RequestedSettings) (limit : ℕ) (es : List Event) (f : Fault) → StartsUnder first w limit → LeadsEmitter first es e []
+    → e.fault ≡ Some f → TellsOutcome e → IsMemoryFault emit_layers f ⊎ (IsEventRefused w limit es f ⊎ IsLong w limit es f)
 refusal_or_limit first e w limit es f s l is t =
     let k = told_text e first w limit es s l t in
     elim (some_fault e.status e.starved (verdict e []) limit (text_encoding w es) (whole_text w es) e.output f (sym t.fault ∙ is) k) [
@@ -218,14 +219,14 @@ refusal_or_limit first e w limit es f s l is t =
 abbrev Past : RequestedSettings → ℕ → List Event → Fault → Type 0
 Past w limit es f = (x : Encoding) (whole : List Item) → IsStream w x es whole → Passes limit (encode x whole) (is_deep whole) f
 
-past_limit : (first e : Emitter) (w : RequestedSettings) (limit : ℕ) (es : List Event) (f : Fault) → StartsUnder first w limit → Leads first es e [] → IsLimited e f → IsMemoryFault emit_layers f ⊎ Past w limit es f
+past_limit : (first e : Emitter) (w : RequestedSettings) (limit : ℕ) (es : List Event) (f : Fault) → StartsUnder first w limit → LeadsEmitter first es e [] → IsLimited e f → IsMemoryFault emit_layers f ⊎ Past w limit es f
 past_limit first e w limit es f s l h = elim h [
   | inl m ↦ inl m
   | inr p ↦ inr (λ x whole c. subst (λ (n : ℕ). Passes n (encode x whole) (is_deep whole) f) (l.limit ∙ s.limit) (p x [] whole (l.completes x whole (first_whole first w limit x es whole s c))))
 ]
 
-fault_answer : (first e : Emitter) (w : RequestedSettings) (limit : ℕ) (es : List Event) (f : Fault) → StartsUnder first w limit → Leads first es e []
-    → e.fault ≡ Some f → Tells e → IsLimited e f → IsMemoryFault emit_layers f ⊎ IsFault w limit es f
+fault_answer : (first e : Emitter) (w : RequestedSettings) (limit : ℕ) (es : List Event) (f : Fault) → StartsUnder first w limit → LeadsEmitter first es e []
+    → e.fault ≡ Some f → TellsOutcome e → IsLimited e f → IsMemoryFault emit_layers f ⊎ IsFault w limit es f
 fault_answer first e w limit es f s l is t h =
     elim (refusal_or_limit first e w limit es f s l is t) [
       | inl m ↦ inl m
@@ -235,7 +236,7 @@ fault_answer first e w limit es f s l is t h =
       ]
     ]
 
-pub emitter_answer : (first e : Emitter) (w : RequestedSettings) (limit : ℕ) (es : List Event) (r : Result (Vec ℕ Global) yaml_fault_t) → StartsUnder first w limit → Leads first es e [] → Finishes e r → Answers emit_layers bytes_of (IsEmitted w limit es) r
+pub emitter_answer : (first e : Emitter) (w : RequestedSettings) (limit : ℕ) (es : List Event) (r : Result (Vec ℕ Global) yaml_fault_t) → StartsUnder first w limit → LeadsEmitter first es e [] → FinishesEmitter e r → Answers emit_layers bytes_of (IsEmitted w limit es) r
 unfolding IsEmitted
 emitter_answer first e w limit es (Ok text) s l h = whole_answer first e w limit es text.items s l h.0 h.1 h.2 h.3
 emitter_answer first e w limit es (Err f) s l h = fault_answer first e w limit es (fault_of f) s l h.0 h.1 h.2

@@ -6,7 +6,7 @@ use Rattle.std.proofs.lemmas.List.{append-nil}
 use Rattle.yaml_round_c.specs.declared.record.yaml_c_span.{yaml_c_span}
 use Rattle.yaml_round_c.specs.Records.{part_at, optional_at}
 use Rattle.yaml_round_c.specs.Numbers.{is_set}
-use Rattle.yaml_round_c.specs.Listing.{Grows, Puts, PutsOptional, Holds, HoldsOptional}
+use Rattle.yaml_round_c.specs.Listing.{Grows, PutsText, PutsOptional, HoldsText, HoldsOptional}
 
 -- a text behind another
 pub put_on : (old mid new a b : List ℕ) → mid ≡ old ++ a → new ≡ mid ++ b → new ≡ old ++ (a ++ b)
@@ -34,16 +34,16 @@ pub part_stands : {X : Type 0} (old text more : List X) (s : yaml_c_span) → s.
 unfolding part_at
 part_stands old text more s at len = rw (at, len, long old text more, middle old text more) refl
 
-pub puts_holds : (old text new : List ℕ) (s : yaml_c_span) → Puts old text new s → Holds new s text
+pub puts_holds : (old text new : List ℕ) (s : yaml_c_span) → PutsText old text new s → HoldsText new s text
 puts_holds old text new s p more = rw p.bytes (part_stands old text more s p.at p.len)
 
-pub puts_grows : (old text new : List ℕ) (s : yaml_c_span) → Puts old text new s → Grows old new
+pub puts_grows : (old text new : List ℕ) (s : yaml_c_span) → PutsText old text new s → Grows old new
 puts_grows old text new s p = record { more = text; is = p.bytes }
 
 pub regrouped : {X : Type 0} (old new more : List X) → (g : Grows old new) → new ++ more ≡ old ++ (g.more ++ more)
 regrouped old new more g = ap (λ z. z ++ more) g.is ∙ append_assoc old g.more more
 
-pub holds_on : (old new : List ℕ) (s : yaml_c_span) (text : List ℕ) → Grows old new → Holds old s text → Holds new s text
+pub holds_on : (old new : List ℕ) (s : yaml_c_span) (text : List ℕ) → Grows old new → HoldsText old s text → HoldsText new s text
 holds_on old new s text g h more = subst (λ z. part_at z s ≡ Some text) (sym (regrouped old new more g)) (h (g.more ++ more))
 
 pub holds_optional_on : (old new : List ℕ) (has : ℤ) (s : yaml_c_span) (text : Option (List ℕ)) → Grows old new
@@ -51,7 +51,7 @@ pub holds_optional_on : (old new : List ℕ) (has : ℤ) (s : yaml_c_span) (text
 holds_optional_on old new has s text g h more =
     subst (λ z. optional_at z has s ≡ Some text) (sym (regrouped old new more g)) (h (g.more ++ more))
 
-there : (bytes : List ℕ) (s : yaml_c_span) (text : List ℕ) → Holds bytes s text → HoldsOptional bytes (pos 1) s (Some text)
+there : (bytes : List ℕ) (s : yaml_c_span) (text : List ℕ) → HoldsText bytes s text → HoldsOptional bytes (pos 1) s (Some text)
 unfolding is_set
 there bytes s text h more = rw (h more) refl
 
@@ -59,7 +59,7 @@ absent : (bytes : List ℕ) (s : yaml_c_span) → HoldsOptional bytes (pos 0) s 
 unfolding is_set
 absent bytes s more = refl
 
-pub put_some : (old text new : List ℕ) (s : yaml_c_span) → Puts old text new s → PutsOptional old (Some text) new (pos 1) s
+pub put_some : (old text new : List ℕ) (s : yaml_c_span) → PutsText old text new s → PutsOptional old (Some text) new (pos 1) s
 put_some old text new s p = record { grows = puts_grows old text new s p; put = p.bytes; flag = refl; holds = there new s text (puts_holds old text new s p) }
 
 pub put_none : (old : List ℕ) (s : yaml_c_span) → PutsOptional old None old (pos 0) s

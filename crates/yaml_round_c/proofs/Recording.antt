@@ -17,7 +17,7 @@ use Rattle.yaml_round_c.specs.Numbers.{is_set, flag_told, kind_meant, encoding_m
 use Rattle.yaml_round_c.specs.Records.{part_at, optional_at, directives_at, version_by, document_by, body_by, bare, node_told, plain, body_meant}
 use Rattle.yaml_round_c.specs.Told.{mark_told}
 use Rattle.yaml_round_c.specs.Blocks.{body_texts, body_directives}
-use Rattle.yaml_round_c.specs.Listing.{IsBase, PutsAnchor, PutsScalar, PutsProperties, PutsDocument, Appends, Records}
+use Rattle.yaml_round_c.specs.Listing.{IsBase, PutsAnchor, PutsScalar, PutsProperties, PutsDocument, AppendsDirectives, Records}
 use Rattle.yaml_round_c.proofs.Placing.{grows_itself}
 use Rattle.yaml_round_c.proofs.Directing.{none_appended}
 use Rattle.std.proofs.lemmas.List.{append-nil}
@@ -41,16 +41,16 @@ five f a b c d g h s t u v p q o m n = rw (p, q, o, m, n) refl
 put_as : (old new : List ℕ) (b d : EventBody) → d ≡ b → new ≡ old ++ body_texts b → new ≡ old ++ body_texts d
 put_as old new b d e h = h ∙ ap (λ z. old ++ body_texts z) (sym e)
 
-list_as : (bytes : List ℕ) (old new : List yaml_c_directive) (b d : EventBody) → d ≡ b → Appends bytes old (body_directives b) new
-    → Appends bytes old (body_directives d) new
-list_as bytes old new b d e h = subst (λ z. Appends bytes old (body_directives z) new) (sym e) h
+list_as : (bytes : List ℕ) (old new : List yaml_c_directive) (b d : EventBody) → d ≡ b → AppendsDirectives bytes old (body_directives b) new
+    → AppendsDirectives bytes old (body_directives d) new
+list_as bytes old new b d e h = subst (λ z. AppendsDirectives bytes old (body_directives z) new) (sym e) h
 
 -- none do
 unlisted : (bytes : List ℕ) (old new : List yaml_c_directive) (b d : EventBody) → d ≡ b → [] ≡ body_directives b → new ≡ old
-    → Appends bytes old (body_directives d) new
+    → AppendsDirectives bytes old (body_directives d) new
 unlisted bytes old new b d e none same =
-    list_as bytes old new b d e (subst (λ z. Appends bytes old (body_directives b) z) (sym same)
-    (subst (λ z. Appends bytes old z old) none (none_appended bytes old)))
+    list_as bytes old new b d e (subst (λ z. AppendsDirectives bytes old (body_directives b) z) (sym same)
+    (subst (λ z. AppendsDirectives bytes old z old) none (none_appended bytes old)))
 
 untold : (old : List ℕ) (b : EventBody) → [] ≡ body_texts b → old ≡ old ++ body_texts b
 untold old b none = sym (append-nil old) ∙ ap (λ z. old ++ z) none

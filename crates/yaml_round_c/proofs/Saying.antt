@@ -8,15 +8,15 @@ use Rattle.yaml_parse.specs.Resolve.{Told}
 use Rattle.yaml_round_c.specs.declared.record.yaml_c_directive.{yaml_c_directive}
 use Rattle.yaml_round_c.specs.declared.record.yaml_c_event.{yaml_c_event}
 use Rattle.yaml_round_c.specs.declared.listing.Listing.{Listing}
-use Rattle.yaml_round_c.specs.Records.{Says, AllSay, all_directives}
+use Rattle.yaml_round_c.specs.Records.{RecordSays, AllSay, all_directives}
 use Rattle.yaml_round_c.specs.Blocks.{body_texts, body_directives, all_texts, listed_directives}
-use Rattle.yaml_round_c.specs.Listing.{Adds, Said, HoldDirectives, HoldsAll, Collected, StartsEmpty, events_alone}
+use Rattle.yaml_round_c.specs.Listing.{AddsRecord, AreSaid, HoldDirectives, HoldsAll, Collected, StartsEmpty, events_alone}
 use Rattle.yaml_round_c.proofs.Placing.{regrouped}
 use Rattle.yaml_round_c.proofs.Directing.{append_on}
 
 -- one more record says one more event
 one_more_says : (bytes : List ℕ) (list : List yaml_c_directive) (rs : List yaml_c_event) (es : List Event) (r : yaml_c_event) (e : Event)
-    → AllSay bytes list rs es → Says bytes list r e → AllSay bytes list (rs ++ r ∷ []) (es ++ e ∷ [])
+    → AllSay bytes list rs es → RecordSays bytes list r e → AllSay bytes list (rs ++ r ∷ []) (es ++ e ∷ [])
 one_more_says bytes list [] [] r e h s = (s, tt)
 one_more_says bytes list [] (x ∷ es) r e h s = absurd h
 one_more_says bytes list (y ∷ rs) [] r e h s = absurd h
@@ -27,7 +27,7 @@ pub say_at : (b c : List ℕ) (d f : List yaml_c_directive) (rs qs : List yaml_c
 say_at b c d f rs qs es p q r h =
     subst (λ z. AllSay z f qs es) (sym p) (subst (λ z. AllSay b z qs es) (sym q) (subst (λ z. AllSay b d z es) (sym r) h))
 
-said_on : (old new : Listing) (e : Event) (es : List Event) → Adds old e new → Said old es → Said new (es ++ e ∷ [])
+said_on : (old new : Listing) (e : Event) (es : List Event) → AddsRecord old e new → AreSaid old es → AreSaid new (es ++ e ∷ [])
 said_on old new e es a s more others =
     let bytes : List ℕ = new.bytes.items ++ more in
     let list : List yaml_c_directive = new.directives.items ++ others in
@@ -54,7 +54,7 @@ listed_snoc (x ∷ es) e =
     ap (λ z. body_directives x.body ++ z) (listed_snoc es e)
     ∙ sym (append_assoc (body_directives x.body) (listed_directives es) (body_directives e.body))
 
-holds_on : (old new : Listing) (e : Event) (es : List Event) → Adds old e new → HoldsAll old es → HoldsAll new (es ++ e ∷ [])
+holds_on : (old new : Listing) (e : Event) (es : List Event) → AddsRecord old e new → HoldsAll old es → HoldsAll new (es ++ e ∷ [])
 holds_on old new e es a h = record {
   bytes = a.put ∙ ap (λ z. z ++ body_texts e.body) h.bytes ∙ sym (texts_snoc es e);
   directives = subst (λ z. HoldDirectives new.bytes.items new.directives.items z) (sym (listed_snoc es e))
@@ -77,7 +77,7 @@ none_collected start l e = record {
 }
 
 -- one more event
-pub one_collected : (start left rest : List Told) (l m : Listing) (t : Told) → Collected start left l → left ≡ t ∷ rest → Adds l t.0 m
+pub one_collected : (start left rest : List Told) (l m : Listing) (t : Told) → Collected start left l → left ≡ t ∷ rest → AddsRecord l t.0 m
     → Collected start rest m
 one_collected start left rest l m t c e a = record {
   given = c.given ++ t.0 ∷ [];

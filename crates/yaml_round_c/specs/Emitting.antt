@@ -8,7 +8,7 @@ use Rattle.yaml_round_c.specs.declared.record.yaml_c_directive.{yaml_c_directive
 use Rattle.yaml_round_c.specs.declared.record.yaml_c_event.{yaml_c_event}
 use Rattle.yaml_round_c.specs.declared.settings.yaml_c_settings.{yaml_c_settings}
 use Rattle.yaml_round_c.specs.Meaning.{events_meant, asked_meant}
-use Rattle.yaml_round_c.specs.Told.{both, IsAnswered, OrMemory, Tells}
+use Rattle.yaml_round_c.specs.Told.{both, IsAnswered, OrMemory, TellsResult}
 use Rattle.yaml_round_c.specs.Written.{emitter_events, IsEmitted}
 
 -- the events, the settings and the limit of a call
@@ -18,7 +18,7 @@ emit_meant bytes list records given = both (events_meant bytes list records) (as
 
 -- what an emitter under these settings makes of the events
 abbrev pub Emits : List EventBody × (RequestedSettings × ℕ) → yaml_c_answer → Type 0
-Emits m = IsAnswered (OrMemory emit_layers (IsEmitted m.1.0 m.1.1 (emitter_events m.0))) Tells
+Emits m = IsAnswered (OrMemory emit_layers (IsEmitted m.1.0 m.1.1 (emitter_events m.0))) TellsResult
 
 -- the same, where the events mean something
 abbrev pub EmitsAll : Option (List EventBody) → RequestedSettings × ℕ → yaml_c_answer → Type 0

@@ -6,7 +6,7 @@ use Rattle.yaml_parse.specs.declared.yaml_fault_t.{yaml_fault_t}
 use Rattle.yaml_parse.specs.Events.{EventBody}
 use Rattle.yaml_emit.specs.Content.{Event}
 use Rattle.yaml_emit.specs.Text.{Item}
-use Rattle.yaml_emit.specs.Verdict.{verdict, Writes, Tells}
+use Rattle.yaml_emit.specs.Verdict.{verdict, Writes, TellsOutcome}
 use Rattle.yaml_emit.specs.Within.{IsWithin}
 use Rattle.yaml_emit.specs.Emitter.{Emitter, Completes, IsLimited, IsWhole}
 use Rattle.yaml_emit.specs.emit_text.declared.Encoding.{Encoding}
@@ -41,17 +41,18 @@ all_events (Some bs) = emitter_events bs
 
 -- With these events to come from one emitter and those from the other, the same is refused, unless the output has stopped,
 -- and the same is written.
-pub record Leads (old : Emitter) (before : List Event) (new : Emitter) (after : List Event) : Type 0
-  where
-    pub refuses : new.status ≡ Going → verdict new after ≡ verdict old before
-    pub writes : (x : Encoding) (whole : List Item) → Writes old x before whole
-        → Writes new x after whole
-    pub completes : (x : Encoding) (whole : List Item) → Completes old x before whole
-        → Completes new x after whole
-    pub limit : new.limit ≡ old.limit
+pub record LeadsEmitter (old : Emitter) (before : List Event) (new : Emitter)
+    (after : List Event) : Type 0 where
+  pub refuses : new.status ≡ Going → verdict new after ≡ verdict old before
+  pub writes : (x : Encoding) (whole : List Item) → Writes old x before whole
+      → Writes new x after whole
+  pub completes : (x : Encoding) (whole : List Item) → Completes old x before whole
+      → Completes new x after whole
+  pub limit : new.limit ≡ old.limit
 
 -- an emitter's text or fault, and what that tells
-abbrev pub Finishes : Emitter → Result (Vec ℕ Global) yaml_fault_t → Type 0
-Finishes e (Ok text) = (e.fault ≡ None) × (text.items ≡ e.output) × Tells e
+abbrev pub FinishesEmitter : Emitter → Result (Vec ℕ Global) yaml_fault_t → Type 0
+FinishesEmitter e (Ok text) = (e.fault ≡ None) × (text.items ≡ e.output) × TellsOutcome e
     × IsWhole e text.items × IsWithin e
-Finishes e (Err f) = (e.fault ≡ Some (fault_of f)) × Tells e × IsLimited e (fault_of f)
+FinishesEmitter e (Err f) = (e.fault ≡ Some (fault_of f)) × TellsOutcome e
+    × IsLimited e (fault_of f)

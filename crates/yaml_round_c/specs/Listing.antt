@@ -22,14 +22,14 @@ pub record Grows {X : Type 0} (old new : List X) : Type 0 where
   pub is : new ≡ old ++ more
 
 -- a text stands at the end
-pub record Puts (old text new : List ℕ) (s : yaml_c_span) : Type 0 where
+pub record PutsText (old text new : List ℕ) (s : yaml_c_span) : Type 0 where
   pub bytes : new ≡ old ++ text
   pub at : s.at ≡ length old
   pub len : s.len ≡ length text
 
 -- Whatever follows, the span names the text.
-abbrev pub Holds : List ℕ → yaml_c_span → List ℕ → Type 0
-Holds bytes s text = (more : List ℕ) → part_at (bytes ++ more) s ≡ Some text
+abbrev pub HoldsText : List ℕ → yaml_c_span → List ℕ → Type 0
+HoldsText bytes s text = (more : List ℕ) → part_at (bytes ++ more) s ≡ Some text
 
 abbrev pub HoldsOptional : List ℕ → ℤ → yaml_c_span → Option (List ℕ) → Type 0
 HoldsOptional bytes has s text = (more : List ℕ) → optional_at (bytes ++ more) has s ≡ Some text
@@ -63,7 +63,7 @@ pub record PutsAnchor (old : List ℕ) (base : yaml_c_event) (a new : List ℕ)
     (r : yaml_c_event) : Type 0 where
   pub grows : Grows old new
   pub put : new ≡ old ++ a
-  pub anchor : Holds new r.anchor a
+  pub anchor : HoldsText new r.anchor a
   pub same : r ≡ record base { anchor = r.anchor }
 
 -- a scalar's properties and value stand there
@@ -75,7 +75,7 @@ pub record PutsScalar (old : List ℕ) (base : yaml_c_event) (a t : Option (List
   pub tag : HoldsOptional new r.has_tag r.tag t
   pub has_anchor : r.has_anchor ≡ flag_told (is_some a)
   pub has_tag : r.has_tag ≡ flag_told (is_some t)
-  pub value : Holds new r.value v
+  pub value : HoldsText new r.value v
   pub same : r ≡ record base {
     has_anchor = r.has_anchor;
     anchor = r.anchor;
@@ -95,14 +95,14 @@ pub record PutsDirective (old : List ℕ) (t : TagDirective) (new : List ℕ)
     (d : yaml_c_directive) : Type 0 where
   pub grows : Grows old new
   pub put : new ≡ old ++ (t.handle ++ t.prefix)
-  pub handle : Holds new d.handle t.handle
-  pub prefix : Holds new d.prefix t.prefix
+  pub handle : HoldsText new d.handle t.handle
+  pub prefix : HoldsText new d.prefix t.prefix
 
 abbrev pub HoldDirectives : List ℕ → List yaml_c_directive → List TagDirective → Type 0
 HoldDirectives bytes ds ts = (more : List ℕ) → all_directives (bytes ++ more) ds ≡ Some ts
 
 -- Behind the old directives stand those that mean these, whatever bytes follow.
-pub record Appends (bytes : List ℕ) (old : List yaml_c_directive) (ts : List TagDirective)
+pub record AppendsDirectives (bytes : List ℕ) (old : List yaml_c_directive) (ts : List TagDirective)
     (new : List yaml_c_directive) : Type 0 where
   pub added : List yaml_c_directive
   pub is : new ≡ old ++ added
@@ -127,7 +127,7 @@ pub record PutsDirectives (old : Listing) (ts : List TagDirective) (new : Listin
   pub bytes : Grows old.bytes.items new.bytes.items
   pub directives : Grows old.directives.items new.directives.items
   pub put : new.bytes.items ≡ old.bytes.items ++ directive_texts ts
-  pub list : Appends new.bytes.items old.directives.items ts new.directives.items
+  pub list : AppendsDirectives new.bytes.items old.directives.items ts new.directives.items
   pub events : new.events.items ≡ old.events.items
   pub holds : HoldsList new.bytes.items new.directives.items s ts
 
@@ -137,7 +137,7 @@ pub record PutsDocument (old : Listing) (base : yaml_c_event) (ts : List TagDire
   pub bytes : Grows old.bytes.items new.bytes.items
   pub directives : Grows old.directives.items new.directives.items
   pub put : new.bytes.items ≡ old.bytes.items ++ directive_texts ts
-  pub list : Appends new.bytes.items old.directives.items ts new.directives.items
+  pub list : AppendsDirectives new.bytes.items old.directives.items ts new.directives.items
   pub events : new.events.items ≡ old.events.items
   pub holds : HoldsList new.bytes.items new.directives.items r.directives ts
   pub same : r ≡ record base { directives = r.directives }
@@ -152,7 +152,7 @@ pub record Records (old : Listing) (e : Event) (new : Listing) (r : yaml_c_event
   pub bytes : Grows old.bytes.items new.bytes.items
   pub directives : Grows old.directives.items new.directives.items
   pub put : new.bytes.items ≡ old.bytes.items ++ body_texts e.body
-  pub list : Appends new.bytes.items old.directives.items (body_directives e.body)
+  pub list : AppendsDirectives new.bytes.items old.directives.items (body_directives e.body)
       new.directives.items
   pub events : new.events.items ≡ old.events.items
   pub body : HoldsBody new.bytes.items new.directives.items r e.body
@@ -161,11 +161,11 @@ pub record Records (old : Listing) (e : Event) (new : Listing) (r : yaml_c_event
   pub alone : r ≡ bare e.body r
 
 -- the record of an event stands at the end of the list
-pub record Adds (old : Listing) (e : Event) (new : Listing) : Type 0 where
+pub record AddsRecord (old : Listing) (e : Event) (new : Listing) : Type 0 where
   pub bytes : Grows old.bytes.items new.bytes.items
   pub directives : Grows old.directives.items new.directives.items
   pub put : new.bytes.items ≡ old.bytes.items ++ body_texts e.body
-  pub list : Appends new.bytes.items old.directives.items (body_directives e.body)
+  pub list : AppendsDirectives new.bytes.items old.directives.items (body_directives e.body)
       new.directives.items
   pub record_of : yaml_c_event
   pub events : new.events.items ≡ old.events.items ++ record_of ∷ []
@@ -175,8 +175,8 @@ pub record Adds (old : Listing) (e : Event) (new : Listing) : Type 0 where
   pub alone : record_of ≡ bare e.body record_of
 
 -- Whatever follows, the records say these events.
-abbrev pub Said : Listing → List Event → Type 0
-Said l es = (more : List ℕ) (others : List yaml_c_directive)
+abbrev pub AreSaid : Listing → List Event → Type 0
+AreSaid l es = (more : List ℕ) (others : List yaml_c_directive)
     → AllSay (l.bytes.items ++ more) (l.directives.items ++ others) l.events.items es
 
 abbrev pub events_alone : List Told → List Event
@@ -190,7 +190,7 @@ pub record HoldsAll (l : Listing) (es : List Event) : Type 0 where
 -- of events that were to come, those in front of what is left are said
 pub record Collected (start left : List Told) (l : Listing) : Type 0 where
   pub given : List Event
-  pub said : Said l given
+  pub said : AreSaid l given
   pub holds : HoldsAll l given
   pub split : events_alone start ≡ given ++ events_alone left
 

@@ -12,7 +12,7 @@ use Rattle.yaml_round_c.specs.declared.listing.Listing.{Listing}
 use Rattle.yaml_round_c.specs.declared.parsing.yaml_c_parsed.{yaml_c_parsed}
 use Rattle.yaml_round_c.specs.Records.{AllSay, all_directives}
 use Rattle.yaml_round_c.specs.Blocks.{all_texts, listed_directives}
-use Rattle.yaml_round_c.specs.Listing.{Said, HoldsAll, events_alone}
+use Rattle.yaml_round_c.specs.Listing.{AreSaid, HoldsAll, events_alone}
 use Rattle.yaml_round_c.specs.Told.{TellsText, TellsFault, IsAnswered, OrMemory}
 
 -- the events of an input, where it is accepted: those of the tree that its tokens are
@@ -46,7 +46,7 @@ Parses input p from = IsAnswered (OrMemory parse_layers (IsParsed from input)) (
 -- the listing says the input's events, and nothing beside; or its fault, or want of memory
 abbrev pub IsCollected : yaml_encoding_t → List ℕ → Result Listing yaml_fault_t → Type 0
 IsCollected from input (Ok l) = (ending_of from input ≡ None)
-    × Said l (events_alone (events_of from input))
+    × AreSaid l (events_alone (events_of from input))
     × HoldsAll l (events_alone (events_of from input))
 IsCollected from input (Err f) = IsMemoryFault parse_layers (fault_of f)
     ⊎ (ending_of from input ≡ Some (fault_of f))

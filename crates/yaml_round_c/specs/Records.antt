@@ -182,7 +182,7 @@ bare (event.mapping_start a t i s) r = node_told (pos 9) a t i r
 bare event.mapping_end r = plain (pos 10) r.start r.end
 
 -- a record says the event, marks too, and nothing beside
-pub record Says (bytes : List ℕ) (list : List yaml_c_directive) (r : yaml_c_event)
+pub record RecordSays (bytes : List ℕ) (list : List yaml_c_directive) (r : yaml_c_event)
     (e : Event) : Type 0 where
   pub body : body_meant bytes list r ≡ Some e.body
   pub start : r.start ≡ mark_told e.start_mark
@@ -191,6 +191,6 @@ pub record Says (bytes : List ℕ) (list : List yaml_c_directive) (r : yaml_c_ev
 
 abbrev pub AllSay : List ℕ → List yaml_c_directive → List yaml_c_event → List Event → Type 0
 AllSay bytes list [] [] = Unit {0}
-AllSay bytes list (r ∷ rs) (e ∷ es) = Says bytes list r e × AllSay bytes list rs es
+AllSay bytes list (r ∷ rs) (e ∷ es) = RecordSays bytes list r e × AllSay bytes list rs es
 AllSay bytes list [] (e ∷ es) = ⊥
 AllSay bytes list (r ∷ rs) [] = ⊥

@@ -75,9 +75,9 @@ pub record TellsMisuse (a : yaml_c_answer) : Type 0 where
 
 -- ---- answers
 
-abbrev pub Tells : Result (List ℕ) Fault → yaml_c_answer → Type 0
-Tells (Ok text) a = TellsText text (pos 0) a
-Tells (Err fault) a = TellsFault fault (pos 0) a
+abbrev pub TellsResult : Result (List ℕ) Fault → yaml_c_answer → Type 0
+TellsResult (Ok text) a = TellsText text (pos 0) a
+TellsResult (Err fault) a = TellsFault fault (pos 0) a
 
 abbrev pub form_number : yaml_form_t → ℤ
 form_number Canonical = pos 0
@@ -113,9 +113,10 @@ pub record IsAnswered {A : Type 0} (Is : A → Type 0) (TellsIt : A → yaml_c_a
   pub told : TellsIt result a
 
 -- C is told that a number means nothing, where one does, and else what a call with their meaning answers.
-abbrev pub Answers : {M : Type 0} → Option M → (M → yaml_c_answer → Type 0) → yaml_c_answer → Type 0
-Answers None Is a = TellsMisuse a
-Answers (Some m) Is a = Is m a
+abbrev pub AnswersMeant : {M : Type 0} → Option M → (M → yaml_c_answer → Type 0) → yaml_c_answer
+    → Type 0
+AnswersMeant None Is a = TellsMisuse a
+AnswersMeant (Some m) Is a = Is m a
 
 -- The kind is -1 where a number means nothing, and nowhere else.
 abbrev pub IsExact : {M : Type 0} → Option M → ℤ → Type 0
@@ -137,10 +138,10 @@ abbrev pub Reformats : List ℕ → yaml_encoding_t × yaml_settings_t → yaml_
 Reformats input m = IsAnswered (OrMemory reformat_layers (IsReformatted m.0 m.1 input)) TellsForm
 
 abbrev pub Reloads : List ℕ → yaml_encoding_t × yaml_settings_t → yaml_c_answer → Type 0
-Reloads input m = IsAnswered (OrMemory reload_layers (IsReloaded m.0 m.1 input)) Tells
+Reloads input m = IsAnswered (OrMemory reload_layers (IsReloaded m.0 m.1 input)) TellsResult
 
 abbrev pub Compares : List ℕ → List ℕ → yaml_encoding_t × yaml_encoding_t → yaml_c_answer → Type 0
 Compares first second m = IsAnswered (IsSame m.0 first m.1 second) TellsSame
 
 abbrev pub Lists : List ℕ → yaml_encoding_t → yaml_c_answer → Type 0
-Lists input from = IsAnswered (OrMemory list_layers (IsListed from input)) Tells
+Lists input from = IsAnswered (OrMemory list_layers (IsListed from input)) TellsResult

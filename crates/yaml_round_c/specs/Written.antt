@@ -42,26 +42,26 @@ abbrev pub IsLong : RequestedSettings → ℕ → List Event → Fault → Type 
 IsLong w limit es fault = Passes limit (text_bytes w es) (is_deep (whole_text w es)) fault
 
 -- No event is refused, and all that is written for them is the text, which passes no limit.
-pub record IsText (w : RequestedSettings) (limit : ℕ) (es : List Event) (text : List ℕ) : Type 0
-  where
-    pub right : refusal w es ≡ None
-    pub is : text ≡ text_bytes w es
-    pub short : IsShort w limit es
-    -- of a stream in which nothing is wrong it is the layout
-    pub stream : (x : Encoding) (whole : List Item) → IsStream w x es whole → text ≡ encode x whole
+pub record IsEmittedText (w : RequestedSettings) (limit : ℕ) (es : List Event)
+    (text : List ℕ) : Type 0 where
+  pub right : refusal w es ≡ None
+  pub is : text ≡ text_bytes w es
+  pub short : IsShort w limit es
+  -- of a stream in which nothing is wrong it is the layout
+  pub stream : (x : Encoding) (whole : List Item) → IsStream w x es whole → text ≡ encode x whole
 
 -- An event is refused with that fault, and what is written in front of it passes no limit.
-pub record IsRefused (w : RequestedSettings) (limit : ℕ) (es : List Event) (fault : Fault) : Type 0
-  where
-    pub problem : Problem
-    pub is : refusal w es ≡ Some problem
-    pub told : fault ≡ problem_fault problem
-    pub short : IsShort w limit es
+pub record IsEventRefused (w : RequestedSettings) (limit : ℕ) (es : List Event)
+    (fault : Fault) : Type 0 where
+  pub problem : Problem
+  pub is : refusal w es ≡ Some problem
+  pub told : fault ≡ problem_fault problem
+  pub short : IsShort w limit es
 
 -- It is refused: an event is, or the text in front of such a one passes a limit.
 pub record IsFault (w : RequestedSettings) (limit : ℕ) (es : List Event) (fault : Fault) : Type 0
   where
-    pub is : IsRefused w limit es fault ⊎ IsLong w limit es fault
+    pub is : IsEventRefused w limit es fault ⊎ IsLong w limit es fault
     -- of a stream in which nothing is wrong the layout passes that limit
     pub stream : (x : Encoding) (whole : List Item) → IsStream w x es whole
         → Passes limit (encode x whole) (is_deep whole) fault
@@ -69,5 +69,5 @@ pub record IsFault (w : RequestedSettings) (limit : ℕ) (es : List Event) (faul
 -- An emitter may answer this: the text of the events that are let out; the fault of the first one that is refused, where what
 -- is written in front of it passes no limit; or the limit that this passes.
 unfoldable pub IsEmitted : RequestedSettings → ℕ → List Event → Result (List ℕ) Fault → Type 0
-IsEmitted w limit es (Ok text) = IsText w limit es text
+IsEmitted w limit es (Ok text) = IsEmittedText w limit es text
 IsEmitted w limit es (Err fault) = IsFault w limit es fault

@@ -1,16 +1,17 @@
 //! What an emitter makes of records.
 
-ghost use Rattle.std.specs.Prelude.{◌≡◌, [], Some, IsSome, IfOk, IfErr, OnOk, option_map};
+ghost use Rattle.std.specs.Prelude.{◌≡◌, ◌∷◌, [], Some, IsSome, IfOk, IfErr, OnOk, option_map};
 ghost use Rattle.yaml_parse.specs.Faults.{Fault, fault_of, IsMemoryFault, emit_layers, Answers};
 ghost use Rattle.yaml_parse.specs.Events.{event_of};
 ghost use Rattle.yaml_parse.specs.Constructors.{HasUtf8};
 ghost use Rattle.yaml_emit.specs.Content.{emitter_event};
-ghost use Rattle.yaml_emit.specs.Emitter.{Given, IsLimited};
-ghost use Rattle.yaml_emit.specs.Verdict.{Judged, Tells};
+ghost use Rattle.yaml_emit.specs.Emitter.{IsLimited};
+ghost use Rattle.yaml_emit.specs.Verdict.{TellsOutcome};
+ghost use Rattle.yaml_emit.specs.Taking.{TakesEvents};
 ghost use Rattle.yaml_round.specs.Answers.{bytes_of};
 ghost use Rattle.yaml_round_c.specs.Meaning.{events_meant, asked_meant};
 ghost use Rattle.yaml_round_c.specs.Written.{IsEmitted};
-ghost use Rattle.yaml_round_c.specs.Leading.{requested, asked_for, all_events, StartsUnder, Leads, Finishes};
+ghost use Rattle.yaml_round_c.specs.Leading.{requested, asked_for, all_events, StartsUnder, LeadsEmitter, FinishesEmitter};
 
 use crate::event::event_of;
 use crate::number::{break_of, encoding_of, is_set};
@@ -79,8 +80,8 @@ fn emitter_under(alloc: Global, asked: &Asked) -> Result<yaml_emitter_t, yaml_fa
 // Gives an event. The emitter keeps its first fault.
 fn give(emitter: &mut yaml_emitter_t, event: yaml_event_t)
     requires { HasUtf8 (event_of event).body }
-    ensures given { Given emitter.old (emitter_event (event_of event).body) emitter.new }
-    ensures judged { Judged emitter.old (emitter_event (event_of event).body) emitter.new }
+    ensures takes { TakesEvents emitter.old (emitter_event (event_of event).body ∷ []) emitter.new
+        [] }
 {
     let mut event = event;
     yaml_emitter_emit_from(emitter, &mut event);
@@ -96,7 +97,7 @@ fn give_all(
     emitter: &mut yaml_emitter_t,
 ) -> Result<(), yaml_fault_t>
     requires { IsSome (events_meant bytes.now list.now records.now) }
-    ensures given { OnOk result (Leads emitter.old
+    ensures given { OnOk result (LeadsEmitter emitter.old
         (all_events (events_meant bytes.now list.now records.now)) emitter.new []) }
     ensures memory { IfErr result (λ f. IsMemoryFault emit_layers (fault_of f)) }
 {
@@ -111,7 +112,7 @@ fn give_all(
 
 fn fault_in(emitter: &yaml_emitter_t) -> Option<yaml_fault_t>
     ensures is { option_map fault_of result ≡ emitter.now.fault }
-    ensures tells { Tells emitter.now }
+    ensures tells { TellsOutcome emitter.now }
     ensures limited { (f : Fault) → emitter.now.fault ≡ Some f → IsLimited emitter.now f }
 {
     match yaml_emitter_fault(emitter) {
@@ -122,7 +123,7 @@ fn fault_in(emitter: &yaml_emitter_t) -> Option<yaml_fault_t>
 
 // The text, or the emitter's fault.
 fn finished(emitter: yaml_emitter_t) -> Result<Vec<u8>, yaml_fault_t>
-    ensures { Finishes emitter result }
+    ensures { FinishesEmitter emitter result }
 {
     let fault = fault_in(&emitter);
     let text = yaml_emitter_into_output(emitter);

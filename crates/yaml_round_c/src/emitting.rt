@@ -1,7 +1,7 @@
 //! The text of events that are given as records.
 
 ghost use Rattle.std.specs.Prelude.{◌≡◌, IsSome};
-ghost use Rattle.yaml_round_c.specs.Told.{Answers, IsExact};
+ghost use Rattle.yaml_round_c.specs.Told.{AnswersMeant, IsExact};
 ghost use Rattle.yaml_round_c.specs.Meaning.{events_meant};
 ghost use Rattle.yaml_round_c.specs.Leading.{asked_for};
 ghost use Rattle.yaml_round_c.specs.Emitting.{emit_meant, Emits, EmitsAll};
@@ -37,7 +37,8 @@ fn answered_by(
     bytes: &[u8],
     settings: &yaml_c_settings,
 ) -> yaml_c_answer
-    ensures { Answers (emit_meant bytes.now directives.now events.now settings.now) Emits result }
+    ensures { AnswersMeant (emit_meant bytes.now directives.now events.now settings.now) Emits
+        result }
 {
     let Some(asked) = asked_of(settings) else {
         return misused();
@@ -61,7 +62,7 @@ pub extern "C" fn yaml_c_emit(
     settings: &yaml_c_settings,
     answer: &mut yaml_c_answer,
 ) -> i32
-    ensures told { Answers (emit_meant bytes.now directives.now events.now settings.now) Emits
+    ensures told { AnswersMeant (emit_meant bytes.now directives.now events.now settings.now) Emits
         answer.new }
     ensures exact { IsExact (emit_meant bytes.now directives.now events.now settings.now) result }
     ensures kind { result ≡ answer.new.kind }

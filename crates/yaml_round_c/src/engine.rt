@@ -2,7 +2,7 @@
 
 ghost use Rattle.std.specs.Prelude.{◌≡◌};
 ghost use Rattle.yaml_round_c.specs.Numbers.{encoding_meant};
-ghost use Rattle.yaml_round_c.specs.Told.{form_number, same_number, side_number, Answers, IsExact, both, call_meant, Reformats, Reloads, Compares, Lists};
+ghost use Rattle.yaml_round_c.specs.Told.{form_number, same_number, side_number, AnswersMeant, IsExact, both, call_meant, Reformats, Reloads, Compares, Lists};
 
 use crate::answer::{misused, refused, said, told, yaml_c_answer};
 use crate::number::encoding_of;
@@ -57,7 +57,7 @@ fn reformatted_by(
     from: i32,
     settings: &yaml_c_settings,
 ) -> yaml_c_answer
-    ensures { Answers (call_meant from settings.now) (Reformats input.now) result }
+    ensures { AnswersMeant (call_meant from settings.now) (Reformats input.now) result }
 {
     let Some(from) = encoding_of(from) else {
         return misused();
@@ -77,7 +77,7 @@ pub extern "C" fn yaml_c_reformat(
     settings: &yaml_c_settings,
     answer: &mut yaml_c_answer,
 ) -> i32
-    ensures told { Answers (call_meant from settings.now) (Reformats input.now) answer.new }
+    ensures told { AnswersMeant (call_meant from settings.now) (Reformats input.now) answer.new }
     ensures exact { IsExact (call_meant from settings.now) result }
     ensures kind { result ≡ answer.new.kind }
 {
@@ -100,7 +100,7 @@ fn reloaded(
 }
 
 fn reloaded_by(alloc: Global, input: &[u8], from: i32, settings: &yaml_c_settings) -> yaml_c_answer
-    ensures { Answers (call_meant from settings.now) (Reloads input.now) result }
+    ensures { AnswersMeant (call_meant from settings.now) (Reloads input.now) result }
 {
     let Some(from) = encoding_of(from) else {
         return misused();
@@ -120,7 +120,7 @@ pub extern "C" fn yaml_c_reload(
     settings: &yaml_c_settings,
     answer: &mut yaml_c_answer,
 ) -> i32
-    ensures told { Answers (call_meant from settings.now) (Reloads input.now) answer.new }
+    ensures told { AnswersMeant (call_meant from settings.now) (Reloads input.now) answer.new }
     ensures exact { IsExact (call_meant from settings.now) result }
     ensures kind { result ≡ answer.new.kind }
 {
@@ -150,7 +150,7 @@ fn compared_by(
     second: &[u8],
     second_from: i32,
 ) -> yaml_c_answer
-    ensures { Answers (both (encoding_meant first_from) (encoding_meant second_from))
+    ensures { AnswersMeant (both (encoding_meant first_from) (encoding_meant second_from))
         (Compares first.now second.now) result }
 {
     let Some(first_from) = encoding_of(first_from) else {
@@ -172,7 +172,7 @@ pub extern "C" fn yaml_c_same(
     second_from: i32,
     answer: &mut yaml_c_answer,
 ) -> i32
-    ensures told { Answers (both (encoding_meant first_from) (encoding_meant second_from))
+    ensures told { AnswersMeant (both (encoding_meant first_from) (encoding_meant second_from))
         (Compares first.now second.now) answer.new }
     ensures exact { IsExact (both (encoding_meant first_from) (encoding_meant second_from)) result }
     ensures kind { result ≡ answer.new.kind }
@@ -191,7 +191,7 @@ fn listed(alloc: Global, input: &[u8], from: yaml_encoding_t) -> yaml_c_answer
 }
 
 fn listed_by(alloc: Global, input: &[u8], from: i32) -> yaml_c_answer
-    ensures { Answers (encoding_meant from) (Lists input.now) result }
+    ensures { AnswersMeant (encoding_meant from) (Lists input.now) result }
 {
     match encoding_of(from) {
         Some(from) => listed(alloc, input, from),
@@ -207,7 +207,7 @@ pub extern "C" fn yaml_c_events(
     from: i32,
     answer: &mut yaml_c_answer,
 ) -> i32
-    ensures told { Answers (encoding_meant from) (Lists input.now) answer.new }
+    ensures told { AnswersMeant (encoding_meant from) (Lists input.now) answer.new }
     ensures exact { IsExact (encoding_meant from) result }
     ensures kind { result ≡ answer.new.kind }
 {

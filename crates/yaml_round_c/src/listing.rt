@@ -6,7 +6,7 @@ ghost use Rattle.yaml_round_c.specs.Told.{mark_told};
 ghost use Rattle.std.specs.Option.{is_some};
 ghost use Rattle.yaml_round_c.specs.Numbers.{is_set, flag_told, encoding_meant, scalar_style_meant, sequence_style_meant, mapping_style_meant};
 ghost use Rattle.yaml_round_c.specs.Records.{plain, version_by};
-ghost use Rattle.yaml_round_c.specs.Listing.{Puts, PutsOptional, PutsProperties, PutsAnchor, PutsScalar, PutsDirective, PutsDirectives, PutsDocument, IsBase, Records, Adds};
+ghost use Rattle.yaml_round_c.specs.Listing.{PutsText, PutsOptional, PutsProperties, PutsAnchor, PutsScalar, PutsDirective, PutsDirectives, PutsDocument, IsBase, Records, AddsRecord};
 
 use crate::answer::mark_told;
 use crate::number::{
@@ -56,7 +56,7 @@ fn plain(kind: i32, event: &yaml_event_t) -> yaml_c_event
 
 // Puts a text behind the others.
 fn put(bytes: &mut Vec<u8>, text: &[u8]) -> Result<yaml_c_span, AllocError>
-    ensures { IfOk result (λ s. Puts bytes.old.items text.now bytes.new.items s) }
+    ensures { IfOk result (λ s. PutsText bytes.old.items text.now bytes.new.items s) }
 {
     let at = bytes.len() as u64;
     bytes.extend_from_slice(text)?;
@@ -368,7 +368,7 @@ fn record_of(listing: &mut Listing, event: &yaml_event_t) -> Result<yaml_c_event
 impl Listing {
     /// Puts an event behind the others.
     pub(crate) fn add(&mut self, event: &yaml_event_t) -> Result<(), AllocError>
-        ensures { IfOk result (λ _. Adds self.old (event_of event.now) self.new) }
+        ensures { IfOk result (λ _. AddsRecord self.old (event_of event.now) self.new) }
     {
         let record = record_of(self, event)?;
         self.events.push(record)?;

@@ -4,7 +4,7 @@ ghost use Rattle.std.specs.Prelude.{◌≡◌, ◌⊎◌, pos, IfOk, IfErr};
 ghost use Rattle.yaml_parse.specs.Faults.{fault_of, IsMemoryFault, parse_layers};
 ghost use Rattle.yaml_round.specs.Input.{Reads};
 ghost use Rattle.yaml_round_c.specs.Numbers.{encoding_meant};
-ghost use Rattle.yaml_round_c.specs.Told.{Answers, IsExact};
+ghost use Rattle.yaml_round_c.specs.Told.{AnswersMeant, IsExact};
 ghost use Rattle.yaml_round_c.specs.Parses.{HasNothing, HandsOut, Parses, IsCollected};
 
 use crate::answer::{handed_out, misused, refused, said, yaml_c_answer};
@@ -122,7 +122,7 @@ fn parsed(
 }
 
 fn parsed_by(alloc: Global, input: &[u8], from: i32, blocks: &mut yaml_c_parsed) -> yaml_c_answer
-    ensures told { Answers (encoding_meant from) (Parses input.now blocks.new) result }
+    ensures told { AnswersMeant (encoding_meant from) (Parses input.now blocks.new) result }
     ensures none { (result.kind ≡ pos 0) ⊎ HasNothing blocks.new }
 {
     match encoding_of(from) {
@@ -143,7 +143,7 @@ pub extern "C" fn yaml_c_parse(
     blocks: &mut yaml_c_parsed,
     answer: &mut yaml_c_answer,
 ) -> i32
-    ensures told { Answers (encoding_meant from) (Parses input.now blocks.new) answer.new }
+    ensures told { AnswersMeant (encoding_meant from) (Parses input.now blocks.new) answer.new }
     ensures none { (result ≡ pos 0) ⊎ HasNothing blocks.new }
     ensures exact { IsExact (encoding_meant from) result }
     ensures kind { result ≡ answer.new.kind }

@@ -10,7 +10,7 @@ use Rattle.yaml_round_laws_reading.specs.round_content.Input.{Reads}
 use Rattle.yaml_round_compare.specs.declared.settings.yaml_side_t.{yaml_side_t}
 use Rattle.yaml_round_compare.specs.declared.settings.yaml_side_t.TheVariants.{First, Second}
 use Rattle.yaml_round_compare.specs.Reading.{contents}
-use Rattle.yaml_round_compare.specs.Compare.{Compares, ReadsAlike, IsSideFault, IsBehindFirst}
+use Rattle.yaml_round_compare.specs.Compare.{ComparesReadings, ReadsAlike, IsSideFault, IsBehindFirst}
 use Rattle.yaml_round_compare.specs.Answers.{IsRight, IsReadBack, IsSame, IsSideStarved, IsSideFaulty}
 use Rattle.yaml_round_compare.proofs.Plain.{faulty, fault_met, right, right_ending, same_content, content_same, second_right}
 
@@ -31,7 +31,7 @@ side_fault a_from a b_from b p q Second f h k e =
     elim e.1 [ inl m ↦ inl (first, m) | inr z ↦ inr (first, faulty b_from b (fault_of f) (sym k.ending ∙ z)) ]
 
 pub same_told : (a_from : yaml_encoding_t) (a : List ℕ) (b_from : yaml_encoding_t) (b : List ℕ) (p q : ParserRemaining) (result : Result Bool (yaml_side_t × yaml_fault_t)) → Reads a_from a p → Reads b_from b q
-    → Compares p q result → IsSame a_from a b_from b result
+    → ComparesReadings p q result → IsSame a_from a b_from b result
 same_told a_from a b_from b p q (Ok same) h k e = record {
   first = right a_from a (sym h.ending ∙ e.first_ending);
   second = right b_from b (sym k.ending ∙ e.second_ending);

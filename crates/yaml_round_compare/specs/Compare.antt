@@ -17,18 +17,18 @@ use Rattle.yaml_round_compare.specs.Reading.{contents, AreReal, IsFaultOf}
 abbrev pub saying : EventBody → EventBody
 saying e = content_of (normalize_body true e)
 
-abbrev pub Judges : EventBody → EventBody → Next → Type 0
-Judges e f Same = saying e ≡ saying f
-Judges e f End = ⊥
-Judges e f Different = saying e ≡ saying f → ⊥
-Judges e f (Refused side) = ⊥
+abbrev pub JudgesEvents : EventBody → EventBody → Next → Type 0
+JudgesEvents e f Same = saying e ≡ saying f
+JudgesEvents e f End = ⊥
+JudgesEvents e f Different = saying e ≡ saying f → ⊥
+JudgesEvents e f (Refused side) = ⊥
 
 -- no event is empty
 abbrev pub BothReal : ParserRemaining → ParserRemaining → Type 0
 BothReal first second = AreReal first.events × AreReal second.events
 
 -- both go on, and what is left compares as before
-pub record GoesOn (first second first_new second_new : ParserRemaining) : Type 0 where
+pub record BothGoOn (first second first_new second_new : ParserRemaining) : Type 0 where
   pub real : BothReal first_new second_new
   pub less : length first_new.events < length first.events
   pub first_ending : first_new.ending ≡ first.ending
@@ -94,7 +94,7 @@ StepsAlone second (Refused Second) f second_new = IsFaultOf second.ending f
 
 -- both steps; each reading's fault stands in a slot of its own
 abbrev pub StepsOn : Reading → Reading → Next → Reading → Reading → Type 0
-StepsOn first second Same first_new second_new = GoesOn first.parser second.parser
+StepsOn first second Same first_new second_new = BothGoOn first.parser second.parser
     first_new.parser second_new.parser
 StepsOn first second End first_new second_new = EndBoth first.parser second.parser
 StepsOn first second Different first_new second_new = Differ first.parser second.parser
@@ -126,10 +126,10 @@ abbrev pub IsBehindFirst : Option Fault → yaml_fault_t → yaml_side_t × yaml
 IsBehindFirst first fault (First, f) = IsFaultOf first f
 IsBehindFirst first fault (Second, f) = (first ≡ None) × (f ≡ fault)
 
-abbrev pub RunsOut : ParserRemaining → ParserRemaining
+abbrev pub ReadsOutBoth : ParserRemaining → ParserRemaining
     → Result (Unit {0}) (yaml_side_t × yaml_fault_t) → Type 0
-RunsOut first second (Ok done) = (first.ending ≡ None) × (second.ending ≡ None)
-RunsOut first second (Err f) = IsSideFault first second f.0 f.1
+ReadsOutBoth first second (Ok done) = (first.ending ≡ None) × (second.ending ≡ None)
+ReadsOutBoth first second (Err f) = IsSideFault first second f.0 f.1
 
 -- without a fault the contents differ
 abbrev pub Unlike : ParserRemaining → ParserRemaining → Type 0
@@ -142,12 +142,12 @@ ReadsAlike first second (Ok false) = Unlike first second
 ReadsAlike first second (Err f) = IsMemoryFault parse_layers (fault_of f)
 
 -- true exactly where the contents are equal
-pub record Tells (first second : ParserRemaining) (same : Bool) : Type 0 where
+pub record TellsWhetherEqual (first second : ParserRemaining) (same : Bool) : Type 0 where
   pub first_ending : first.ending ≡ None
   pub second_ending : second.ending ≡ None
   pub told : IsTrue same ↔ (contents first.events ≡ contents second.events)
 
-abbrev pub Compares : ParserRemaining → ParserRemaining → Result Bool (yaml_side_t × yaml_fault_t)
-    → Type 0
-Compares first second (Ok same) = Tells first second same
-Compares first second (Err f) = IsSideFault first second f.0 f.1
+abbrev pub ComparesReadings : ParserRemaining → ParserRemaining
+    → Result Bool (yaml_side_t × yaml_fault_t) → Type 0
+ComparesReadings first second (Ok same) = TellsWhetherEqual first second same
+ComparesReadings first second (Err f) = IsSideFault first second f.0 f.1

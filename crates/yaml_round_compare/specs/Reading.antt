@@ -26,14 +26,14 @@ AreReal (t ∷ ts) = (is_empty t.0.body ≡ false) × AreReal ts
 -- ---- a parser that is read
 
 -- the front of what is to come was given, and the rest is left; its texts are UTF-8
-pub record GivesFront (e : Event) (old new : ParserRemaining) : Type 0 where
+pub record GivesNextEvent (e : Event) (old new : ParserRemaining) : Type 0 where
   pub events : old.events ≡ (e, new.unasked) ∷ new.events
   pub ending : new.ending ≡ old.ending
   pub real : AreReal new.events
   pub utf8 : HasUtf8 e.body
 
 -- nothing is to come
-pub record IsOver (c : ParserRemaining) : Type 0 where
+pub record HasNothingToCome (c : ParserRemaining) : Type 0 where
   pub events : c.events ≡ []
   pub ending : c.ending ≡ None
 
@@ -42,10 +42,11 @@ abbrev pub IsFaultOf : Option Fault → yaml_fault_t → Type 0
 IsFaultOf ending f = IsMemoryFault parse_layers (fault_of f) ⊎ (ending ≡ Some (fault_of f))
 
 -- the next event or the fault, which stands in its slot, or the end
-abbrev pub Finds : ParserRemaining → yaml_found_t → Event → yaml_fault_t → ParserRemaining → Type 0
-Finds old found.Event e f new = GivesFront e old new
-Finds old found.Refused e f new = IsFaultOf old.ending f
-Finds old found.End e f new = IsOver old × IsOver new
+abbrev pub FindsNextEvent : ParserRemaining → yaml_found_t → Event → yaml_fault_t
+    → ParserRemaining → Type 0
+FindsNextEvent old found.Event e f new = GivesNextEvent e old new
+FindsNextEvent old found.Refused e f new = IsFaultOf old.ending f
+FindsNextEvent old found.End e f new = HasNothingToCome old × HasNothingToCome new
 
 -- the whole reading has no fault, or the answer is its fault
 abbrev pub EndsWith : Option Fault → Result (Unit {0}) yaml_fault_t → Type 0

@@ -2,7 +2,7 @@
 
 ghost use Rattle.std.specs.Prelude.{ℕ, List};
 ghost use Rattle.yaml_round_laws_reading.specs.round_content.Input.{Reads};
-ghost use Rattle.yaml_round_compare.specs.Compare.{BothReal, Judges, StepsBeside, StepsAlone, StepsOn, Sided, RunsOut, IsBehindFirst, Compares, ReadsAlike};
+ghost use Rattle.yaml_round_compare.specs.Compare.{BothReal, JudgesEvents, StepsBeside, StepsAlone, StepsOn, Sided, ReadsOutBoth, IsBehindFirst, ComparesReadings, ReadsAlike};
 ghost use Rattle.yaml_parse.specs.Events.{event_of};
 ghost use Rattle.yaml_round_compare.specs.Reading.{AreReal};
 ghost use Rattle.yaml_round_compare.specs.Answers.{IsRight, IsReadBack, IsSame};
@@ -35,7 +35,7 @@ type SideFault = (yaml_side_t, yaml_fault_t);
 
 // Two events, normalized in their slots, say the same.
 fn judged(event: &mut yaml_event_t, other: &mut yaml_event_t) -> Next
-    ensures { Judges (event_of event.old).body (event_of other.old).body result }
+    ensures { JudgesEvents (event_of event.old).body (event_of other.old).body result }
 {
     normalize_event(event, true);
     normalize_event(other, true);
@@ -102,7 +102,7 @@ fn same_events(first: &mut Reading<'_>, second: &mut Reading<'_>) -> Result<bool
 // The fault of the first input, or else that of the second.
 fn read_out_both(first: &mut Reading<'_>, second: &mut Reading<'_>) -> Result<(), SideFault>
     requires { BothReal first.old.parser second.old.parser }
-    ensures { RunsOut first.old.parser second.old.parser result }
+    ensures { ReadsOutBoth first.old.parser second.old.parser result }
 {
     match read_out(first) {
         Err(fault) => Err((yaml_side_t::First, fault)),
@@ -127,7 +127,7 @@ fn behind_first(first: &mut Reading<'_>, fault: yaml_fault_t) -> SideFault
 // Whether two readings have the same content. A fault of the first is answered first.
 fn compared(first: &mut Reading<'_>, second: &mut Reading<'_>) -> Result<bool, SideFault>
     requires { BothReal first.old.parser second.old.parser }
-    ensures { Compares first.old.parser second.old.parser result }
+    ensures { ComparesReadings first.old.parser second.old.parser result }
 {
     match same_events(first, second) {
         Ok(true) => Ok(true),

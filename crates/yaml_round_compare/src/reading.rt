@@ -4,7 +4,7 @@ ghost use Rattle.std.specs.Prelude.{◌≡◌, true, IfOk, IfErr};
 ghost use Rattle.yaml_scan.specs.Faults.{fault_of, memory_fault};
 ghost use Rattle.yaml_parse.specs.Events.{event_of};
 ghost use Rattle.yaml_round_laws_reading.specs.round_content.Input.{Reads};
-ghost use Rattle.yaml_round_compare.specs.Reading.{AreReal, Finds, EndsWith};
+ghost use Rattle.yaml_round_compare.specs.Reading.{AreReal, FindsNextEvent, EndsWith};
 
 use std::alloc::Global;
 use yaml_parse::{
@@ -47,7 +47,7 @@ impl Reading<'_> {
     /// The next event in its slot, or the fault in the other, or neither at the end.
     pub fn next(&mut self) -> yaml_found_t
         requires { AreReal self.old.parser.events }
-        ensures { Finds self.old.parser result (event_of self.new.event) self.new.fault
+        ensures { FindsNextEvent self.old.parser result (event_of self.new.event) self.new.fault
             self.new.parser }
     {
         yaml_parser_parse_into(&mut self.parser, &mut self.event, &mut self.fault)

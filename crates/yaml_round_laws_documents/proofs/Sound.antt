@@ -7,7 +7,7 @@ use Rattle.yaml_round_laws_back.specs.content.round_laws.emit_laws_streams.parse
 use Rattle.yaml_round_laws_back.specs.content.round_laws.emit_laws_streams.parse.Documents.{Document, IsDocument}
 use Rattle.yaml_round_laws_back.specs.content.round_laws.emit_laws_streams.parse.Order.{IsInPreorder}
 use Rattle.yaml_round_laws_back.specs.content.round_laws.emit_laws_streams.parse.Resolve.{Told}
-use Rattle.yaml_round_laws_back.specs.content.round_laws.emit_laws_streams.parse.Loading.{Loading, Fed, goes_on, loaded, refused, nothing_loaded, step}
+use Rattle.yaml_round_laws_back.specs.content.round_laws.emit_laws_streams.parse.Loading.{Loading, LoadStep, goes_on, loaded, refused, nothing_loaded, step}
 use Rattle.yaml_round_laws_back.specs.content.round_laws.emit_laws_streams.Laws.{RightDocument, AreRight, AreRightTold, RightFed}
 use Rattle.yaml_parse_loader.specs.Sound.{IsLoading}
 use Rattle.yaml_parse_loader.proofs.Keeps.{FedSound, nothing_sound, step_sound}
@@ -27,7 +27,7 @@ front_sound : (ns : List model.Node) (d : Document) (rest : Loads) → IsDocumen
 front_sound [] d rest h k = tt
 front_sound (n ∷ ns) d rest h k = (h, k)
 
-on_sound : (x : Fed) (go : Loading → Loads) → FedSound x → ((l : Loading) → IsLoading l → AreDocuments (go l).documents) → AreDocuments (load_on x go).documents
+on_sound : (x : LoadStep) (go : Loading → Loads) → FedSound x → ((l : Loading) → IsLoading l → AreDocuments (go l).documents) → AreDocuments (load_on x go).documents
 on_sound (goes_on l) go h k = k l h
 on_sound (loaded d) go h k = front_sound d.nodes d (go nothing_loaded) h (k nothing_loaded nothing_sound)
 on_sound (refused f) go h k = tt
@@ -56,7 +56,7 @@ front_right : (ns : List model.Node) (d : Document) (rest : Loads) → RightDocu
 front_right [] d rest r k = tt
 front_right (n ∷ ns) d rest r k = (r, k)
 
-on_right : (x : Fed) (go : Loading → Loads) → RightFed x → ((l : Loading) → RightDocument l.document → AreRight (go l).documents) → AreRight (load_on x go).documents
+on_right : (x : LoadStep) (go : Loading → Loads) → RightFed x → ((l : Loading) → RightDocument l.document → AreRight (go l).documents) → AreRight (load_on x go).documents
 on_right (goes_on l) go h k = k l h
 on_right (loaded d) go h k = front_right d.nodes d (go nothing_loaded) h (k nothing_loaded empty_right)
 on_right (refused f) go h k = tt

@@ -4,7 +4,7 @@ use Rattle.std.specs.Prelude.{false, slice_get, pos}
 use Rattle.yaml_round_laws_loads.specs.round_laws_writable.content.round_laws.emit_laws_streams.parse.Nodes as model
 use Rattle.yaml_round_laws_loads.specs.round_laws_writable.content.round_laws.emit_laws_streams.parse.Documents as documents
 use Rattle.yaml_round_laws_loads.specs.round_laws_writable.content.round_laws.emit_laws_streams.parse.Numbering.{is_bang}
-use Rattle.yaml_round_laws_loads.specs.round_laws_writable.content.round_laws.emit_laws_streams.parse.Order.{Visits, done, again, first, children}
+use Rattle.yaml_round_laws_loads.specs.round_laws_writable.content.round_laws.emit_laws_streams.parse.Order.{VisitsInPreorder, done, again, first, children}
 use Rattle.yaml_round_laws_loads.specs.round_laws_writable.content.Input.{events_of, ending_of}
 use Rattle.yaml_round_laws_loads.specs.round_laws_writable.content.Said.{Document}
 use Rattle.yaml_round_laws_loads.specs.round_laws_writable.content.Loads.{Loads, loads_of}
@@ -70,18 +70,18 @@ same_length [] (y ∷ ys) e = absurd (cc)
 same_length (x ∷ xs) [] e = absurd (cc)
 same_length (x ∷ xs) (y ∷ ys) e = let h : map core_node xs ≡ map core_node ys = cc in ap (λ (n : ℕ). suc n) (same_length xs ys h)
 
-same_visits : (xs ys : List model.Node) → map core_node ys ≡ map core_node xs → (seen : ℕ) (ids : List ℤ) (after : ℕ) → Visits ys seen ids after → Visits xs seen ids after
+same_visits : (xs ys : List model.Node) → map core_node ys ≡ map core_node xs → (seen : ℕ) (ids : List ℤ) (after : ℕ) → VisitsInPreorder ys seen ids after → VisitsInPreorder xs seen ids after
 same_visits xs ys e seen ids after (done s) = done s
 same_visits xs ys e seen ids after (again s k a more h v) = again s k a more h (same_visits xs ys e s more a v)
 same_visits xs ys e seen ids after (first s b a more n at v w) =
     let x = beside ys xs s n e at in
-    first s b a more x.other x.at (subst (λ (js : List ℤ). Visits xs (suc s) js b) (same_children n x.other x.same) (same_visits xs ys e (suc s) (children n.body) b v)) (same_visits xs ys e b more a w)
+    first s b a more x.other x.at (subst (λ (js : List ℤ). VisitsInPreorder xs (suc s) js b) (same_children n x.other x.same) (same_visits xs ys e (suc s) (children n.body) b v)) (same_visits xs ys e b more a w)
 
 pub document_loaded : (d e : documents.Document) → core_of d ≡ core_of e → IsLoadedDocument e → IsLoadedDocument d
 document_loaded d e same l =
     let nodes : map core_node d.nodes ≡ map core_node e.nodes = ap (λ (c : Core). c.nodes) same in
     record {
-      order = subst (λ (n : ℕ). Visits d.nodes 0 (pos 1 ∷ []) n) (sym (same_length d.nodes e.nodes nodes)) (same_visits d.nodes e.nodes (sym nodes) 0 (pos 1 ∷ []) (length e.nodes) l.order);
+      order = subst (λ (n : ℕ). VisitsInPreorder d.nodes 0 (pos 1 ∷ []) n) (sym (same_length d.nodes e.nodes nodes)) (same_visits d.nodes e.nodes (sym nodes) 0 (pos 1 ∷ []) (length e.nodes) l.order);
       nodes = λ k n at. let b = beside d.nodes e.nodes k n nodes at in node_loaded n b.other b.same (l.nodes k b.other b.at);
     }
 

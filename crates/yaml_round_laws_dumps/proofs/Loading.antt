@@ -5,7 +5,7 @@ use Rattle.yaml_round_laws_loads.specs.round_laws_writable.content.round_laws.em
 use Rattle.yaml_round_laws_loads.specs.round_laws_writable.content.round_laws.emit_laws_streams.parse.Nodes as model
 use Rattle.yaml_round_laws_loads.specs.round_laws_writable.content.round_laws.emit_laws_streams.parse.Documents as documents
 use Rattle.yaml_round_laws_loads.specs.round_laws_writable.content.round_laws.emit_laws_streams.parse.Numbering.{DocumentContent, document_events, document_of}
-use Rattle.yaml_round_laws_loads.specs.round_laws_writable.content.round_laws.emit_laws_streams.parse.Loading.{Loading, Fed, goes_on, loaded, refused, nothing_loaded, step, turn, load, behind}
+use Rattle.yaml_round_laws_loads.specs.round_laws_writable.content.round_laws.emit_laws_streams.parse.Loading.{Loading, LoadStep, goes_on, loaded, refused, nothing_loaded, step, turn, load, behind}
 use Rattle.yaml_round_laws_loads.specs.round_laws_writable.content.round_laws.emit_laws_streams.parse.Loading as loading
 use Rattle.yaml_round_laws_loads.specs.round_laws_writable.content.Said.{Document}
 use Rattle.yaml_round_laws_loads.specs.round_laws_writable.content.Loads.{Loads, no_more, in_front, load_on, load_all}
@@ -16,7 +16,7 @@ use Rattle.yaml_round_laws_dumps.specs.Laws.{ContentIsLoaded, ContentLoadsDocume
 
 -- ---- the first document of events
 
-document_turn : (fed : Fed) (es : List Event) (f : Option Fault) (d : documents.Document) (rest : List Event)
+document_turn : (fed : LoadStep) (es : List Event) (f : Option Fault) (d : documents.Document) (rest : List Event)
     → ((m : Loading) → load es m ≡ loading.document d rest → load_all (told_by es) f m ≡ in_front d.nodes d (load_all (told_by rest) f nothing_loaded))
     → turn fed (load es) es ≡ loading.document d rest → load_on fed (load_all (told_by es) f) ≡ in_front d.nodes d (load_all (told_by rest) f nothing_loaded)
 document_turn (goes_on m) es f d rest next e = next m e
@@ -32,7 +32,7 @@ unfolding load load_all
 document_told [] l f d rest e = absurd (cc)
 document_told (x ∷ es) l f d rest e = document_turn (step x l) es f d rest (λ m h. document_told es m f d rest h) e
 
-fault_turn : (fed : Fed) (es : List Event) (f : Option Fault) (g : Fault) → ((m : Loading) → load es m ≡ loading.faulty g → load_all (told_by es) f m ≡ no_more (Some g))
+fault_turn : (fed : LoadStep) (es : List Event) (f : Option Fault) (g : Fault) → ((m : Loading) → load es m ≡ loading.faulty g → load_all (told_by es) f m ≡ no_more (Some g))
     → turn fed (load es) es ≡ loading.faulty g → load_on fed (load_all (told_by es) f) ≡ no_more (Some g)
 fault_turn (goes_on m) es f g next e = next m e
 fault_turn (loaded c) es f g next e = absurd (cc)

@@ -9,7 +9,7 @@ use Rattle.yaml_round_laws_loads.specs.round_laws_writable.content.round_laws.em
 use Rattle.yaml_round_laws_loads.specs.round_laws_writable.content.round_laws.emit_laws_streams.parse.Nodes as model
 use Rattle.yaml_round_laws_loads.specs.round_laws_writable.content.round_laws.emit_laws_streams.parse.Documents as documents
 use Rattle.yaml_round_laws_loads.specs.round_laws_writable.content.round_laws.emit_laws_streams.parse.Numbering.{Anchored, Numbered, ◌>>=◌, and_node, number, number_items, number_pairs, sequence_node, mapping_node, document_of}
-use Rattle.yaml_round_laws_loads.specs.round_laws_writable.content.round_laws.emit_laws_streams.parse.Order.{Visits, again, first}
+use Rattle.yaml_round_laws_loads.specs.round_laws_writable.content.round_laws.emit_laws_streams.parse.Order.{VisitsInPreorder, again, first}
 use Rattle.yaml_round_laws_loads.specs.round_laws_writable.content.round_laws.emit_laws_streams.emit.Content as emit
 use Rattle.yaml_round_laws_loads.specs.round_laws_writable.content.round_laws.emit_laws_streams.emit.emit_graph.Graph.{graph_content}
 use Rattle.yaml_round_laws_loads.specs.round_laws_writable.content.Trees.{tree_of, trees_of, pair_trees_of, document_tree}
@@ -78,7 +78,7 @@ no_node n [] z at = cc
 no_node n (m ∷ ns) z at = cc
 
 -- a document that is visited from its root has one
-rooted : (ns : List model.Node) (after : ℕ) (v : Visits ns 0 (pos 1 ∷ []) after) → ns ≡ [] → ⊥
+rooted : (ns : List model.Node) (after : ℕ) (v : VisitsInPreorder ns 0 (pos 1 ∷ []) after) → ns ≡ [] → ⊥
 rooted ns after (again s k e more h v) z = omega (arith, h)
 rooted ns after (first s b e more n at v w) z = no_node n ns z at
 

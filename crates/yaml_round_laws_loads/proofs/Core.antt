@@ -18,7 +18,7 @@ use Rattle.yaml_round_laws_writable.specs.content.round_laws.emit_laws_streams.p
 use Rattle.yaml_round_laws_writable.specs.content.round_laws.emit_laws_streams.parse.Documents.{Document, change_place, str_tag, seq_tag, map_tag}
 use Rattle.yaml_round_laws_writable.specs.content.round_laws.emit_laws_streams.parse.Resolve.{Told}
 use Rattle.yaml_round_laws_writable.specs.content.round_laws.emit_laws_streams.parse.Numbering.{loaded_tag}
-use Rattle.yaml_round_laws_writable.specs.content.round_laws.emit_laws_streams.parse.Loading.{Open, open_sequence, open_mapping, Loading, nothing_loaded, attach, named, filled, filled_body, place_of, closed, aliased, enter_leaf, enter_open, Fed, goes_on, loaded, refused, step, step_body}
+use Rattle.yaml_round_laws_writable.specs.content.round_laws.emit_laws_streams.parse.Loading.{Open, open_sequence, open_mapping, Loading, nothing_loaded, attach, named, filled, filled_body, place_of, closed, aliased, enter_leaf, enter_open, LoadStep, goes_on, loaded, refused, step, step_body}
 use Rattle.yaml_round_laws_writable.specs.content.Loads.{Loads, in_front, load_on, load_all}
 use Rattle.yaml_round_laws_loads.specs.Agree.{CoreNode, Core, core_body, core_node, core_of}
 
@@ -128,7 +128,7 @@ core_loads (b ∷ bs) f l = core_on (core_step b l) (core_loads bs f)
 abbrev pub core_loading : Loading → CoreLoading
 core_loading l = record { document = core_of l.document; levels = l.levels; anchors = l.anchors }
 
-abbrev pub core_fed : Fed → CoreFed
+abbrev pub core_fed : LoadStep → CoreFed
 core_fed (goes_on l) = core_goes_on (core_loading l)
 core_fed (loaded d) = core_loaded (core_of d)
 core_fed (refused f) = core_refused
@@ -220,7 +220,7 @@ front_core : (ns : List Node) (d : Document) (rest : Loads) → cores (in_front 
 front_core [] d rest = refl
 front_core (n ∷ ns) d rest = refl
 
-on_core : (x : Fed) (go : Loading → Loads) (more : CoreLoading → CoreLoads) → ((l : Loading) → cores (go l) ≡ more (core_loading l)) → cores (load_on x go) ≡ core_on (core_fed x) more
+on_core : (x : LoadStep) (go : Loading → Loads) (more : CoreLoading → CoreLoads) → ((l : Loading) → cores (go l) ≡ more (core_loading l)) → cores (load_on x go) ≡ core_on (core_fed x) more
 on_core (goes_on l) go more h = h l
 on_core (loaded d) go more h = front_core d.nodes d (go nothing_loaded) ∙ ap (λ (a : CoreLoads). core_in_front (map core_node d.nodes) (core_of d) a) (h nothing_loaded)
 on_core (refused f) go more h = refl

@@ -10,7 +10,7 @@ use Rattle.yaml_round_content.specs.round_laws.emit_laws_streams.parse.parse_law
 use Rattle.yaml_round_content.proofs.round_laws.emit_laws_streams.parse.parse_laws_faults.Ending.{fault_ends}
 use Rattle.yaml_round_content.specs.round_laws.emit_laws_streams.parse.Documents as documents
 use Rattle.yaml_round_content.specs.round_laws.emit_laws_streams.parse.Numbering.{DocumentContent, document_events, document_of}
-use Rattle.yaml_round_content.specs.round_laws.emit_laws_streams.parse.Loading.{Loading, Fed, goes_on, loaded, refused, nothing_loaded, step, turn, load, behind}
+use Rattle.yaml_round_content.specs.round_laws.emit_laws_streams.parse.Loading.{Loading, LoadStep, goes_on, loaded, refused, nothing_loaded, step, turn, load, behind}
 use Rattle.yaml_round_content.specs.round_laws.emit_laws_streams.parse.Loading as loading
 use Rattle.yaml_round_content.specs.round_laws.emit_laws_streams.parse.NextLoad.{NextLoad, next_document, next_fault, next_none}
 use Rattle.yaml_round_content.proofs.round_laws.emit_laws_streams.parse.ByStep as parse
@@ -27,7 +27,7 @@ use Rattle.yaml_round_laws_reading.proofs.Placed.{tree_reads}
 abbrev bare : List Event → List Told
 bare es = map (λ (e : Event). (e, 0)) es
 
-on_alike : (c : Fed) (p q : Loading → Loads) → ((l : Loading) → p l ≡ q l) → load_on c p ≡ load_on c q
+on_alike : (c : LoadStep) (p q : Loading → Loads) → ((l : Loading) → p l ≡ q l) → load_on c p ≡ load_on c q
 on_alike (goes_on m) p q h = h m
 on_alike (loaded d) p q h = ap (λ (x : Loads). in_front d.nodes d x) (h nothing_loaded)
 on_alike (refused f) p q h = refl
@@ -37,7 +37,7 @@ unfolding load_all
 counts_aside [] f l = refl
 counts_aside (g ∷ gs) f l = on_alike (step g.0 l) (load_all gs f) (load_all (bare (events_told gs)) f) (λ m. counts_aside gs f m)
 
-document_turn : (fed : Fed) (es : List Event) (f : Option Fault) (d : documents.Document) (rest : List Event)
+document_turn : (fed : LoadStep) (es : List Event) (f : Option Fault) (d : documents.Document) (rest : List Event)
     → ((m : Loading) → load es m ≡ loading.document d rest → load_all (bare es) f m ≡ in_front d.nodes d (load_all (bare rest) f nothing_loaded))
     → turn fed (load es) es ≡ loading.document d rest → load_on fed (load_all (bare es) f) ≡ in_front d.nodes d (load_all (bare rest) f nothing_loaded)
 document_turn (goes_on m) es f d rest next e = next m e
@@ -53,7 +53,7 @@ unfolding load load_all
 document_told [] l f d rest e = absurd (cc)
 document_told (x ∷ es) l f d rest e = document_turn (step x l) es f d rest (λ m h. document_told es m f d rest h) e
 
-fault_turn : (fed : Fed) (es : List Event) (f : Option Fault) (g : Fault) → ((m : Loading) → load es m ≡ loading.faulty g → load_all (bare es) f m ≡ no_more (Some g))
+fault_turn : (fed : LoadStep) (es : List Event) (f : Option Fault) (g : Fault) → ((m : Loading) → load es m ≡ loading.faulty g → load_all (bare es) f m ≡ no_more (Some g))
     → turn fed (load es) es ≡ loading.faulty g → load_on fed (load_all (bare es) f) ≡ no_more (Some g)
 fault_turn (goes_on m) es f g next e = next m e
 fault_turn (loaded c) es f g next e = absurd (cc)
@@ -116,7 +116,7 @@ at_end : (f : Option Fault) → no_more f ≡ by_first (parse.behind_all f) f
 at_end None = refl
 at_end (Some e) = refl
 
-first_on : (c : Fed) (gs : List Told) (f : Option Fault) (n : ℕ) → ((m : Loading) → load_all gs f m ≡ by_first (parse.loads gs f m) f) → load_on c (load_all gs f) ≡ by_first (parse.load_on c (parse.loads gs f) gs n) f
+first_on : (c : LoadStep) (gs : List Told) (f : Option Fault) (n : ℕ) → ((m : Loading) → load_all gs f m ≡ by_first (parse.loads gs f m) f) → load_on c (load_all gs f) ≡ by_first (parse.load_on c (parse.loads gs f) gs n) f
 first_on (goes_on m) gs f n h = h m
 first_on (loaded d) gs f n h = refl
 first_on (refused e) gs f n h = refl

@@ -1,5 +1,5 @@
 -- Where a machine stops.
-use Rattle.std.proofs.Common.{◌≡◌, ℕ, ◌+◌, ◌<◌, ◌≤◌, true, false, ltb, List, [], ◌∷◌, length, get_or, Result, Ok, Err, refl, sym, ap, subst, ◌∙◌, inl, inr, ◌⊎◌, arith, Some}
+use Rattle.std.proofs.Common.{◌≡◌, ℕ, ◌+◌, ◌<◌, ◌≤◌, Bool, true, false, ltb, List, [], ◌∷◌, length, get_or, Result, Ok, Err, refl, sym, ap, subst, ◌∙◌, inl, inr, ◌⊎◌, arith, Some}
 use Rattle.std.proofs.lemmas.Bool.{cases_Bool, cases_lt}
 use Rattle.std.proofs.lemmas.Bool.Decides.{nat_tests}
 use Rattle.std.proofs.lemmas.List.{length-map, get_or-drop}
@@ -34,6 +34,7 @@ use Rattle.yaml_scan.specs.declared.next.Read.{Read as Answer}
 use Rattle.yaml_scan.specs.State.{IsMachine, GoesOn, ready_in, is_ready}
 use Rattle.yaml_scan.specs.Shows.{Fields, fields_of, IsShown, read, settled_in, history_of, stream_of}
 use Rattle.yaml_scan.specs.Reads.{GivesNext}
+use Rattle.yaml_scan.specs.Stood.{Steps, IsRefused}
 use Rattle.yaml_scan.specs.Comes.{to_come, Refused, Faults}
 use Rattle.yaml_scan.proofs.MarkLemmas.{next_ended}
 use Rattle.yaml_scan.proofs.NextLemmas.{settled_first}
@@ -184,3 +185,16 @@ pub told_decoding : (m : Machine) (f : Fault) → m.started ≡ false → (f ≡
 told_decoding m f off (inl memory) = inl (inr memory)
 told_decoding m f off (inr fault) =
     subst (λ (c : Remaining). IsTold c f) (sym (left_whole m off)) (offence_told (encoding_of m.setting m.input.now) (decoded_characters m.setting m.input.now) f fault)
+
+-- what a step answers
+pub steps_on : (old new : Machine) (f : Fault) (b : Bool) → b ≡ true → Steps old new f b → IsMachine new × GoesOn old new
+steps_on old new f true e s = s
+steps_on old new f false e s = cc
+
+pub steps_off : (old new : Machine) (f : Fault) (b : Bool) → b ≡ false → Steps old new f b → IsRefused old f × (length new.waiting.items ≤ 1025)
+steps_off old new f true e s = cc
+steps_off old new f false e s = s
+
+-- a step's fault is the one that a machine tells, where the same is to come
+pub told_refused : (first m : Machine) (f : Fault) → first.started ≡ true → to_come m ≡ to_come first → IsMachine m → is_ready m ≡ false → m.ended ≡ false → IsRefused m f → IsTold (left_in first) f
+told_refused first m f on same i stuck more (e, refused, is) = told_error first e f on (subst (λ (c : Remaining). Faults e c) same (fault_machine m e i stuck more refused)) is

@@ -15,6 +15,7 @@ pub mod Comes
 pub mod Answered
 pub mod Scanned
 pub mod State
+pub mod Stood
 pub mod Session
 pub mod SessionView
 pub use Rattle.yaml_scan_history.specs.Remaining

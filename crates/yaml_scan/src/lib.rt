@@ -7,6 +7,7 @@ mod machine;
 mod next;
 mod queue;
 mod session;
+mod step;
 mod waiting;
 mod word;
 

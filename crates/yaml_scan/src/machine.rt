@@ -8,9 +8,8 @@ ghost use Rattle.yaml_scan.specs.Scanned.{IsLocated};
 ghost use Rattle.yaml_scan_history.specs.History as history;
 
 use crate::levels::Levels;
-use crate::next::{Read, keeps};
+use crate::next::keeps;
 use crate::queue::Queue;
-use crate::waiting::Waiting;
 use std::alloc::{AllocError, Global};
 use yaml_scan_decode::{stream_encoding, yaml_decode, yaml_text_t};
 use yaml_scan_history::{Entry, Kind, Lexeme, Opens};
@@ -251,6 +250,28 @@ impl<'a> Machine<'a> {
         ensures sought { IfErr (answer_of result fault.new) (λ f. is_ready self.old ≡ false) }
         ensures ready { IfOk (answer_of result fault.new) (λ known. known ≡ is_ready self.new) }
     {
+        if self.has_token() {
+            return Sought::Known;
+        }
+        self.fill_on(fault)
+    }
+
+    /// Reads on until the next token is known, or there is none.
+    // Out of line: mostly the next token is known.
+    #[inline(never)]
+    fn fill_on(&mut self, fault: &mut yaml_fault_t) -> Sought
+        requires stands { IsMachine self.old }
+        requires started { self.old.started ≡ true }
+        ensures stands { OnOk (answer_of result fault.new) (IsMachine self.new) }
+        ensures left { OnOk (answer_of result fault.new) (left_in self.new ≡ left_in self.old) }
+        ensures known { OnOk (answer_of result fault.new)
+            ((is_ready self.new ≡ true) ⊎ (left_in self.new ≡ nothing)) }
+        ensures told { IfErr (answer_of result fault.new)
+            (λ f. IsTold (left_in self.old) (fault_of f)) }
+        ensures few { OnErr (answer_of result fault.new) (length self.new.waiting.items ≤ 1025) }
+        ensures sought { IfErr (answer_of result fault.new) (λ f. is_ready self.old ≡ false) }
+        ensures ready { IfOk (answer_of result fault.new) (λ known. known ≡ is_ready self.new) }
+    {
         'steps: loop {
             if self.has_token() {
                 return Sought::Known;
@@ -258,54 +279,16 @@ impl<'a> Machine<'a> {
             if self.ended {
                 return Sought::Nothing;
             }
-            match self.step() {
-                Ok(()) => {}
-                Err(error) => {
-                    put_fault(fault, error);
-                    return Sought::Refused;
-                }
+            if !self.step(fault) {
+                return Sought::Refused;
             }
         }
     }
 
-    /// Reads one lexeme.
-    fn step(&mut self) -> Result<(), ScanError>
-        requires stands { IsMachine self.old }
-        requires started { self.old.started ≡ true }
-        requires sought { is_ready self.old ≡ false }
-        requires more { self.old.ended ≡ false }
-        ensures ok { OnOk result (IsMachine self.new × GoesOn self.old self.new) }
-        ensures err { IfErr result (Refused self.old) }
-        ensures few { OnErr result (length self.new.waiting.items ≤ 1025) }
-    {
-        let Read {
-            lexeme,
-            body,
-            own,
-            key,
-        } = self.next()?;
-        let found = key.is_some();
-        let column = self.level_column(lexeme.start.column, key);
-        let ends = self.close_levels(lexeme);
-        let opens = self.open_level(lexeme, column)?;
-        self.mark_own(own, lexeme, opens);
-        self.waiting.reserve()?;
-        self.waiting.push_back_reserved(Waiting {
-            entry: entry(lexeme, ends, opens, found),
-            body,
-            current: lexeme.saved,
-        });
-        self.candidate_bound = self.bound_behind(own, lexeme);
-        self.place = lexeme.reached;
-        self.depth = lexeme.kind.depth_after(lexeme.depth);
-        self.allowed = allows(lexeme, found);
-        self.ended = lexeme.kind.is_end();
-        self.settled = self.settle();
-        Ok(())
-    }
-
     /// Tells the candidate of a lexeme's depth what the lexeme makes of it.
-    fn mark_own(&mut self, own: Option<usize>, lexeme: Lexeme, opens: Opens)
+    // Inlined: the kind is known where it is called.
+    #[inline(always)]
+    pub(crate) fn mark_own(&mut self, own: Option<usize>, lexeme: Lexeme, opens: Opens)
         requires { IfSome own (λ i. i < length self.old.waiting.items) }
         ensures same { self.new ≡ record self.old { waiting = self.new.waiting } }
         ensures length { length self.new.waiting.items ≡ length self.old.waiting.items }
@@ -320,7 +303,9 @@ impl<'a> Machine<'a> {
 
     /// The number from which on no lexeme is its depth's candidate, where `lexeme` is the last one and takes, cancels or
     /// replaces the one at `own`.
-    fn bound_behind(&self, own: Option<usize>, lexeme: Lexeme) -> usize
+    // Inlined: the kind is known where it is called.
+    #[inline(always)]
+    pub(crate) fn bound_behind(&self, own: Option<usize>, lexeme: Lexeme) -> usize
         requires own { IfSome own (λ i. i < length self.now.waiting.items) }
         requires few { self.now.dropped + length self.now.waiting.items < 2 ^ 64 - 1 }
         ensures { result ≡ bound_behind self.now.dropped self.now.candidate_bound
@@ -336,7 +321,9 @@ impl<'a> Machine<'a> {
     }
 
     /// How many lexemes no later one changes: those before the earliest open candidate, or all behind the end.
-    fn settle(&self) -> usize
+    // Inlined: the kind is known where it is called.
+    #[inline(always)]
+    pub(crate) fn settle(&self) -> usize
         requires shown { IsPending (fields_of self.now) }
         requires settled { self.now.settled ≤ self.now.dropped + length self.now.waiting.items }
         requires few { self.now.dropped + length self.now.waiting.items < 2 ^ 64 - 1 }
@@ -356,7 +343,9 @@ impl<'a> Machine<'a> {
     }
 
     /// Closes the levels right of a lexeme outside all brackets, and answers how many they are.
-    fn close_levels(&mut self, lexeme: Lexeme) -> usize
+    // Inlined: the kind is known where it is called.
+    #[inline(always)]
+    pub(crate) fn close_levels(&mut self, lexeme: Lexeme) -> usize
         requires { lexeme.start.column < 2 ^ 63 }
         ensures same { self.new ≡ record self.old { levels = self.new.levels } }
         ensures levels { self.new.levels ≡ history.left_by lexeme.kind lexeme.depth
@@ -373,7 +362,9 @@ impl<'a> Machine<'a> {
     /// The column where a level may open, counted from 1: that of the key of a `:`, or the lexeme's own.
     // The lexeme's own column is a number: of a lexeme here and one in the list LLVM would take the place and keep
     // both in memory.
-    fn level_column(&self, own: u64, key: Option<usize>) -> u64
+    // Inlined: the kind is known where it is called.
+    #[inline(always)]
+    pub(crate) fn level_column(&self, own: u64, key: Option<usize>) -> u64
         requires column { own ≤ length (text_bytes self.now.text) }
         requires key { IfSome key (λ i. i < length self.now.waiting.items) }
         requires inside { AreInside (length (text_bytes self.now.text)) self.now.waiting.items }
@@ -388,7 +379,9 @@ impl<'a> Machine<'a> {
     }
 
     /// Opens the level of a `-`, `?` or `:` at that column, where it passes the indent.
-    fn open_level(&mut self, lexeme: Lexeme, column: u64) -> Result<Opens, AllocError>
+    // Inlined: the kind is known where it is called.
+    #[inline(always)]
+    pub(crate) fn open_level(&mut self, lexeme: Lexeme, column: u64) -> Result<Opens, AllocError>
         ensures same { OnOk result (self.new ≡ record self.old { levels = self.new.levels }) }
         ensures waiting { self.new.waiting ≡ self.old.waiting }
         ensures levels { OnOk result (self.new.levels ≡ history.opened (kinds.is_start lexeme.kind
@@ -407,6 +400,8 @@ impl<'a> Machine<'a> {
 
     /// The number of the earliest open candidate, or how many lexemes were read. Mostly it is the one where the last
     /// look ended: that is asked before the loop, in front of which LLVM would compute its places.
+    // Inlined: the kind is known where it is called.
+    #[inline(always)]
     fn earliest_open(&self) -> usize
         requires shown { IsPending (fields_of self.now) }
         requires settled { self.now.settled ≤ self.now.dropped + length self.now.waiting.items }
@@ -426,6 +421,8 @@ impl<'a> Machine<'a> {
     }
 
     /// Whether the first lexeme that isn't settled is an open candidate.
+    // Inlined: the kind is known where it is called.
+    #[inline(always)]
     fn stays_open(&self) -> bool
         requires shown { IsPending (fields_of self.now) }
         requires settled { self.now.settled ≤ self.now.dropped + length self.now.waiting.items }
@@ -441,6 +438,8 @@ impl<'a> Machine<'a> {
 
     /// The number of the earliest open candidate, or how many lexemes were read, by a look at each. What is settled
     /// stays so, so the look goes on where the last one ended; behind the last candidate bound there is none.
+    // Out of line: it is seldom asked.
+    #[inline(never)]
     fn later_open(&self) -> usize
         requires shown { IsPending (fields_of self.now) }
         requires settled { self.now.settled ≤ self.now.dropped + length self.now.waiting.items }
@@ -476,7 +475,7 @@ impl<'a> Machine<'a> {
 /// Puts the fault that a refusal is answered as into a slot.
 // Out of line: in line the room of its copy would be set to zero for each token.
 #[inline(never)]
-fn put_fault(slot: &mut yaml_fault_t, error: ScanError)
+pub(crate) fn put_fault(slot: &mut yaml_fault_t, error: ScanError)
     ensures { IsLocated error (fault_of slot.new) }
 {
     *slot = located(error);
@@ -503,7 +502,7 @@ fn level_of(kind: Kind) -> Opens
 }
 
 /// How a lexeme is spelled out, where it is read. What a `:` opens for its key stands before that key.
-fn entry(lexeme: Lexeme, ends: usize, opens: Opens, found: bool) -> Entry
+pub(crate) fn entry(lexeme: Lexeme, ends: usize, opens: Opens, found: bool) -> Entry
     ensures { result ≡ record {
       lexeme = lexeme;
       ends = ends;
@@ -521,7 +520,7 @@ fn entry(lexeme: Lexeme, ends: usize, opens: Opens, found: bool) -> Entry
 }
 
 /// Whether a key may begin behind a lexeme.
-fn allows(lexeme: Lexeme, found: bool) -> bool
+pub(crate) fn allows(lexeme: Lexeme, found: bool) -> bool
     ensures { result ≡ (kinds.allows_key lexeme.kind (lexeme.depth == 0) found || lexeme.broke) }
 {
     lexeme.kind.allows_key(lexeme.depth == 0, found) || lexeme.broke

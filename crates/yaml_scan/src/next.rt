@@ -1,9 +1,10 @@
 //! The lexeme that comes next, and why there may be none.
 
-ghost use Rattle.std.specs.Prelude.{◌≡◌, ◌+◌, ◌≤◌, ◌<◌, ◌^◌, ◌&&◌, ◌||◌, ◌==◌, not, nat_lt, if◌then◌else◌, IfOk, IfErr, IfSome, is_some, Some, None, true, false, length};
+ghost use Rattle.std.specs.Prelude.{◌≡◌, ◌+◌, ◌≤◌, ◌<◌, ◌^◌, ◌&&◌, ◌||◌, ◌==◌, not, nat_lt, if◌then◌else◌, Ok, IfOk, IfErr, IfSome, is_some, Some, None, true, false, length};
 ghost use Rattle.yaml_scan_decode.specs.DecodedText.{text_bytes};
 ghost use Rattle.yaml_scan_model.specs.Marks.{mark_at};
-ghost use Rattle.yaml_scan_model.specs.Tokens.{body_of, stream_start};
+ghost use Rattle.yaml_scan_model.specs.Tokens as tokens;
+ghost use Rattle.yaml_scan_model.specs.Tokens.{body_of};
 ghost use Rattle.yaml_scan_words.specs.Between.{Gap};
 ghost use Rattle.yaml_scan_history.specs.Kinds as kinds;
 ghost use Rattle.yaml_scan_history.specs.Next as spec;
@@ -35,6 +36,16 @@ pub(crate) struct Read {
     pub key: Option<usize>,
 }
 
+/// The place where a lexeme stands, behind the gap, and what is known there before its kind is.
+#[derive(Clone, Copy)]
+pub(crate) struct Spot {
+    pub mark: yaml_mark_t,
+    /// A key may begin there.
+    pub allowed: bool,
+    /// The start of the required candidate that is open.
+    pub required: Option<yaml_mark_t>,
+}
+
 /// The place where a lexeme stands, behind the gap.
 #[derive(Clone, Copy)]
 struct Stand {
@@ -48,20 +59,19 @@ impl<'a> Machine<'a> {
     ghost use Rattle.yaml_scan.specs.State.{IsMachine, IsNext, AreBounded};
     ghost use Rattle.yaml_scan.specs.Shows.{IsShown, fields_of, history_of, stream_of, Finds, IsHidden, Picks};
     ghost use Rattle.yaml_scan.specs.Comes.{Refused};
+    ghost use Rattle.yaml_scan.specs.Stood.{IsStand};
     ghost use Rattle.yaml_scan.specs.Reads.{GivesNext, GivesLexeme, EndsAt, Owns, keyed_by, required_in};
 
-    /// The lexeme that comes next.
-    pub(crate) fn next(&self) -> Result<Read, ScanError>
+    /// What stands behind the gap, where a lexeme was read before.
+    // Inlined: it is called at one place.
+    #[inline(always)]
+    pub(crate) fn stand(&self) -> Result<(Kind, Spot), ScanError>
         requires stands { IsMachine self.now }
         requires more { self.now.ended ≡ false }
-        ensures safe { IfOk result (λ r. IsNext self.now r) }
-        ensures exact { GivesNext self.now result
-            (spec.next (text_bytes self.now.text) (history_of self.now)) }
+        requires some { 0 < self.now.dropped + length self.now.waiting.items }
+        ensures ok { IfOk result (λ r. IsStand self.now r.0 r.1) }
         ensures refused { IfErr result (Refused self.now) }
     {
-        if self.dropped + self.waiting.len() == 0 {
-            return Ok(first(self.place, self.encoding));
-        }
         let mut reader = Reader::resume(self.text.as_slice(), self.place);
         let flow = 0 < self.depth;
         let broke = skip_gap(&mut reader, flow, self.allowed);
@@ -74,15 +84,50 @@ impl<'a> Machine<'a> {
             return Err(ScanError::refusal(Problem::NoTokenStart, Context::NextToken, mark, mark));
         };
         let allowed = allowed_behind(self.allowed, broke, flow);
-        let stand = Stand {
+        let spot = Spot {
             mark,
-            kind,
             allowed,
+            required,
         };
-        self.of_kind(&mut reader, stand, required)
+        Ok((kind, spot))
+    }
+
+    /// The lexeme that comes first.
+    pub(crate) fn first(&self) -> Read
+        requires stands { IsMachine self.now }
+        requires more { self.now.ended ≡ false }
+        requires none { self.now.dropped + length self.now.waiting.items ≡ 0 }
+        ensures safe { IsNext self.now result }
+        ensures exact { GivesNext self.now (Ok result)
+            (spec.next (text_bytes self.now.text) (history_of self.now)) }
+    {
+        stream_start(self.place, self.encoding)
+    }
+
+    /// The lexeme that comes next, which stands there.
+    // Inlined: its kind is known where it is called.
+    #[inline(always)]
+    pub(crate) fn next(&self, kind: Kind, spot: Spot) -> Result<Read, ScanError>
+        requires stands { IsMachine self.now }
+        requires more { self.now.ended ≡ false }
+        requires stand { IsStand self.now kind spot }
+        ensures safe { IfOk result (λ r. IsNext self.now r) }
+        ensures exact { GivesNext self.now result
+            (spec.next (text_bytes self.now.text) (history_of self.now)) }
+        ensures refused { IfErr result (Refused self.now) }
+    {
+        let mut reader = Reader::resume(self.text.as_slice(), spot.mark);
+        let stand = Stand {
+            mark: spot.mark,
+            kind,
+            allowed: spot.allowed,
+        };
+        self.of_kind(&mut reader, stand, spot.required)
     }
 
     /// The lexeme of that kind, which stands there.
+    // Inlined: the kind is known where it is called.
+    #[inline(always)]
     fn of_kind(
         &self,
         reader: &mut Reader,
@@ -126,6 +171,8 @@ impl<'a> Machine<'a> {
     }
 
     /// The lexeme with its end, and what its token carries.
+    // Inlined: the kind is known where it is called.
+    #[inline(always)]
     fn read(
         &self,
         reader: &mut Reader,
@@ -155,6 +202,8 @@ impl<'a> Machine<'a> {
     }
 
     /// Whether a `-`, a `?`, or a `:` without a key stands where no key may begin.
+    // Inlined: the kind is known where it is called.
+    #[inline(always)]
     fn is_misplaced(&self, stand: Stand, key: Option<usize>) -> bool
         ensures { result ≡ ((not (nat_lt 0 self.now.depth) && not stand.allowed)
             && (kinds.is_start stand.kind && not (is_some key))) }
@@ -163,6 +212,8 @@ impl<'a> Machine<'a> {
     }
 
     /// The lexeme that stands there, without its end.
+    // Inlined: the kind is known where it is called.
+    #[inline(always)]
     fn lexeme_at(&self, stand: Stand) -> Lexeme
         requires stands { IsMachine self.now }
         requires place { IsPlace (text_bytes self.now.text) stand.mark }
@@ -188,6 +239,8 @@ impl<'a> Machine<'a> {
     }
 
     /// The innermost level that a lexeme at a column stands in, or 0.
+    // Inlined: the kind is known where it is called.
+    #[inline(always)]
     fn level_at(&self, kind: Kind, column: u64) -> u64
         requires stands { IsMachine self.now }
         requires column { column ≤ length (text_bytes self.now.text) }
@@ -201,6 +254,8 @@ impl<'a> Machine<'a> {
     }
 
     /// Where the candidate waits that a lexeme takes, cancels or replaces.
+    // Inlined: the kind is known where it is called.
+    #[inline(always)]
     fn own(&self, stand: Stand) -> Option<usize>
         requires stands { IsMachine self.now }
         ensures owns { Owns self.now self.now.depth ((stand.allowed && kinds.may_be_key stand.kind)
@@ -216,6 +271,8 @@ impl<'a> Machine<'a> {
     }
 
     /// Where the candidate waits of which a `:` makes a key.
+    // Inlined: the kind is known where it is called.
+    #[inline(always)]
     fn key(&self, stand: Stand, own: Option<usize>) -> Option<usize>
         requires stands { IsMachine self.now }
         requires more { self.now.ended ≡ false }
@@ -257,6 +314,8 @@ impl<'a> Machine<'a> {
     /// Where the candidate of the open depth waits, by a look back from the last lexeme that may be one. One that is not
     /// found is stale. The first look mostly decides: it stands before the loop, in front of which LLVM would compute
     /// its places.
+    // Inlined: the kind is known where it is called.
+    #[inline(always)]
     fn find(&self) -> Option<usize>
         requires shown { IsShown (fields_of self.now) }
         requires settled { self.now.settled ≤ self.now.dropped + length self.now.waiting.items }
@@ -281,6 +340,8 @@ impl<'a> Machine<'a> {
     }
 
     /// Where the candidate of the open depth waits, by a look back over the lexemes before the one at `from`.
+    // Out of line: it is seldom asked.
+    #[inline(never)]
     fn look_back(&self, from: usize) -> Option<usize>
         requires shown { IsShown (fields_of self.now) }
         requires settled { self.now.settled ≤ self.now.dropped + length self.now.waiting.items }
@@ -324,13 +385,13 @@ fn allowed_behind(allowed: bool, broke: bool, flow: bool) -> bool
 }
 
 /// The start of the stream.
-fn first(place: yaml_mark_t, encoding: yaml_encoding_t) -> Read
+fn stream_start(place: yaml_mark_t, encoding: yaml_encoding_t) -> Read
     ensures lexeme { result.lexeme ≡ record spec.first_lexeme {
       start = place;
       end = place;
       reached = place;
     } }
-    ensures body { body_of result.body ≡ stream_start encoding }
+    ensures body { body_of result.body ≡ tokens.stream_start encoding }
     ensures own { result.own ≡ None }
     ensures key { result.key ≡ None }
 {
@@ -365,6 +426,8 @@ pub(crate) fn keeps(kind: Kind, column: u64) -> u64
 }
 
 /// The lexeme with its end, where the place behind it is reached. The stream's end stays where it starts.
+// Inlined: the kind is known where it is called.
+#[inline(always)]
 fn ended_at(lexeme: Lexeme, read: &Word, reached: yaml_mark_t) -> Lexeme
     ensures { result ≡ (if kinds.is_end lexeme.kind then lexeme
         else record lexeme { end = read.now.end; reached = reached; broke = read.now.broke }) }
@@ -381,6 +444,8 @@ fn ended_at(lexeme: Lexeme, read: &Word, reached: yaml_mark_t) -> Lexeme
 }
 
 /// The required candidate that is open behind a lexeme.
+// Inlined: the kind is known where it is called.
+#[inline(always)]
 fn still_required(required: Option<yaml_mark_t>, lexeme: Lexeme) -> Option<yaml_mark_t>
     ensures { result ≡ required_behind required lexeme }
 {
@@ -394,6 +459,8 @@ fn still_required(required: Option<yaml_mark_t>, lexeme: Lexeme) -> Option<yaml_
 }
 
 /// The lexeme with its end, unless a required candidate is stale there.
+// Inlined: the kind is known where it is called.
+#[inline(always)]
 fn finish(
     lexeme: Lexeme,
     word: Word,
@@ -410,6 +477,8 @@ fn finish(
 }
 
 /// The start of a required candidate, where it is stale at a place.
+// Inlined: the kind is known where it is called.
+#[inline(always)]
 fn late(required: Option<yaml_mark_t>, place: yaml_mark_t) -> Option<yaml_mark_t>
     ensures { result ≡ late required place }
 {
@@ -423,6 +492,8 @@ fn late(required: Option<yaml_mark_t>, place: yaml_mark_t) -> Option<yaml_mark_t
 }
 
 /// The start of a required candidate, where a lexeme cancels or replaces it.
+// Inlined: the kind is known where it is called.
+#[inline(always)]
 fn lost(required: Option<yaml_mark_t>, lexeme: Lexeme) -> Option<yaml_mark_t>
     ensures { result ≡ lost required lexeme }
 {
@@ -436,6 +507,8 @@ fn lost(required: Option<yaml_mark_t>, lexeme: Lexeme) -> Option<yaml_mark_t>
 }
 
 /// Whether a lexeme outside all brackets cancels or replaces its candidate; a `:` takes it.
+// Inlined: the kind is known where it is called.
+#[inline(always)]
 fn loses(lexeme: Lexeme) -> bool
     ensures { result ≡ (lexeme.depth == 0
         && (lexeme.saved || (kinds.cancels lexeme.kind && not (kinds.is_value lexeme.kind)))) }

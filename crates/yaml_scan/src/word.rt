@@ -102,6 +102,8 @@ fn indicator(byte: u8, flow: bool, reader: &Reader) -> Option<Kind>
 }
 
 /// Reads the lexeme of that kind, which stands here.
+// Inlined: the kind is known where it is called.
+#[inline(always)]
 pub(crate) fn read_word(
     alloc: Global,
     reader: &mut Reader,
@@ -121,6 +123,8 @@ pub(crate) fn read_word(
 }
 
 /// What the token of an indicator of one byte is.
+// Inlined: the kind is known where it is called.
+#[inline(always)]
 fn indicator_body(kind: Kind) -> Option<yaml_token_body_t>
     ensures { option_map body_of result ≡ indicator_at kind }
 {
@@ -140,6 +144,8 @@ fn indicator_body(kind: Kind) -> Option<yaml_token_body_t>
 /// Reads a lexeme that is no indicator of one byte. What carries a text is read in a call of its own, which writes its answer
 /// where it is wanted: read in one function, the answers of all kinds would be taken apart and joined again.
 #[tactic(auto, unfolding(yaml_scan_model::specs::Marks::break_of, yaml_scan_history::specs::Words::word_at))]
+// Inlined: the kind is known where it is called.
+#[inline(always)]
 fn text_word(
     alloc: Global,
     reader: &mut Reader,
@@ -169,6 +175,8 @@ fn text_word(
 }
 
 /// The word that ends where the reader stands.
+// Inlined: the kind is known where it is called.
+#[inline(always)]
 fn carrier(reader: &Reader, body: yaml_token_body_t) -> Word
     ensures { IsWord reader.now.text result
         (record {
@@ -186,6 +194,8 @@ fn carrier(reader: &Reader, body: yaml_token_body_t) -> Word
 }
 
 /// A word of one byte that carries nothing.
+// Inlined: the kind is known where it is called.
+#[inline(always)]
 fn read_indicator(reader: &mut Reader, body: yaml_token_body_t) -> Word
     requires some { 0 < byte reader.old.text reader.old.at }
     requires no_break { break_width reader.old.text reader.old.at ≡ 0 }

@@ -3,12 +3,13 @@
 ghost use Rattle.std.specs.Prelude.{◌≡◌, ◌≢◌, ◌<◌, ◌≤◌, ◌++◌, ◌∷◌, [], List, length, Some, None, true, false, OnOk, OnErr};
 ghost use Rattle.yaml_parse_model.specs.Events.{body_of};
 ghost use Rattle.yaml_parse_model.specs.Constructors.{HasUtf8};
-ghost use Rattle.yaml_emit_layout.specs.Content.{stream_start, stream_end, emitter_event, Event};
-ghost use Rattle.yaml_emit.specs.Emitter.{Answers, Given, Stays, GivesSome, Keeps, left_if, opening_events, document_events, dump_events};
+ghost use Rattle.yaml_emit_layout.specs.Content.{stream_end, emitter_event, Event};
 ghost use Rattle.yaml_emit_graph.specs.Graph.{dumped};
 ghost use Rattle.yaml_emit_graph.specs.Events.{IsEvents, remaining_events};
-ghost use Rattle.yaml_emit.specs.Dumping.{Dumps, Opens};
-ghost use Rattle.yaml_emit.specs.Verdict.{Judged, JudgedAll, Stuck, Tells};
+ghost use Rattle.yaml_emit.specs.Emitter.{Answers, Stays, Keeps, left_if, opening_events, document_events, dump_events};
+ghost use Rattle.yaml_emit.specs.Verdict.{TellsOutcome};
+ghost use Rattle.yaml_emit.specs.Taking.{TakesEvents, Stuck, NotesMemory, NotesMemoryOf};
+ghost use Rattle.yaml_emit.specs.Dumping.{OpensStream, opening_event};
 
 use super::yaml_emitter_t;
 use crate::fault::refusal;
@@ -26,10 +27,9 @@ pub fn yaml_emitter_open(emitter: &mut yaml_emitter_t) -> Result<(), yaml_fault_
     ensures opened { OnOk result (emitter.new.opened ≡ true) }
     ensures refused { OnErr result (emitter.new.opened ≡ false) }
     ensures keeps { emitter.new.closed ≡ emitter.old.closed }
-    ensures given { Given emitter.old (stream_start yaml_encoding_t.YAML_ANY_ENCODING) emitter.new }
-    ensures judged { Judged emitter.old (stream_start yaml_encoding_t.YAML_ANY_ENCODING)
-        emitter.new }
-    ensures tells { Tells emitter.new }
+    ensures takes { TakesEvents emitter.old (opening_event ∷ []) emitter.new [] }
+    ensures memory { NotesMemoryOf opening_event emitter.old emitter.new }
+    ensures tells { TellsOutcome emitter.new }
     ensures stays { Stays emitter.old emitter.new }
     ensures stuck { OnErr result (Stuck emitter.new) }
 {
@@ -46,9 +46,11 @@ pub fn yaml_emitter_close(emitter: &mut yaml_emitter_t) -> Result<(), yaml_fault
     requires { emitter.old.opened ≡ true }
     ensures answer { Answers emitter.new.fault result }
     ensures again { emitter.old.closed ≡ true → emitter.new ≡ emitter.old }
-    ensures given { emitter.old.closed ≡ false → Given emitter.old stream_end emitter.new }
-    ensures judged { emitter.old.closed ≡ false → Judged emitter.old stream_end emitter.new }
-    ensures tells { Tells emitter.new }
+    ensures takes { emitter.old.closed ≡ false
+        → TakesEvents emitter.old (stream_end ∷ []) emitter.new [] }
+    ensures memory { emitter.old.closed ≡ false
+        → NotesMemoryOf stream_end emitter.old emitter.new }
+    ensures tells { TellsOutcome emitter.new }
     ensures stays { Stays emitter.old emitter.new }
     ensures few { length emitter.new.held ≤ 3 }
     ensures closed { OnOk result (emitter.new.closed ≡ true) }
@@ -69,8 +71,8 @@ impl yaml_emitter_t {
     // Memory was refused for the dump: what follows counts for nothing.
     fn starve(&mut self, refused: AllocError)
         requires begun { self.old.fresh ≡ false }
-        ensures given { (es : List Event) → GivesSome self.old es self.new [] }
-        ensures judged { (es : List Event) → JudgedAll self.old es self.new [] }
+        ensures takes { (es : List Event) → TakesEvents self.old es self.new [] }
+        ensures memory { NotesMemory true self.old self.new }
         ensures keeps { Keeps self.old self.new }
     {
         self.core.starve(refused);
@@ -81,10 +83,10 @@ impl yaml_emitter_t {
     fn dump_event(&mut self, event: yaml_event_body_t) -> bool
         requires utf8 { HasUtf8 (body_of event) }
         requires begun { self.old.fresh ≡ false }
-        ensures given { (es : List Event) → GivesSome self.old (emitter_event (body_of event) ∷ es)
-            self.new (left_if result es) }
-        ensures judged { (es : List Event) → JudgedAll self.old (emitter_event (body_of event) ∷ es)
-            self.new (left_if result es) }
+        ensures takes { (es : List Event)
+            → TakesEvents self.old (emitter_event (body_of event) ∷ es) self.new
+            (left_if result es) }
+        ensures memory { NotesMemory true self.old self.new }
         ensures keeps { Keeps self.old self.new }
     {
         match self.emit(event) {
@@ -97,9 +99,13 @@ impl yaml_emitter_t {
     fn dump_next(&mut self, events: &mut Events, document: &yaml_document_t) -> bool
         requires walk { IsEvents document.now events.old }
         requires begun { self.old.fresh ≡ false }
-        ensures dumps { Dumps document.now result self.old events.old self.new events.new }
-        ensures judged { JudgedAll self.old (remaining_events document.now events.old) self.new
+        ensures takes { TakesEvents self.old (remaining_events document.now events.old) self.new
             (left_if result (remaining_events document.now events.new)) }
+        ensures memory { NotesMemory true self.old self.new }
+        ensures keeps { Keeps self.old self.new }
+        ensures walk { result ≡ true → IsEvents document.now events.new }
+        ensures less { result ≡ true → length (remaining_events document.now events.new)
+            < length (remaining_events document.now events.old) }
     {
         match events.next(document) {
             Ok(None) => false,
@@ -114,8 +120,8 @@ impl yaml_emitter_t {
     fn dump_events(&mut self, events: Events, document: &yaml_document_t)
         requires walk { IsEvents document.now events }
         requires begun { self.old.fresh ≡ false }
-        ensures given { GivesSome self.old (remaining_events document.now events) self.new [] }
-        ensures judged { JudgedAll self.old (remaining_events document.now events) self.new [] }
+        ensures takes { TakesEvents self.old (remaining_events document.now events) self.new [] }
+        ensures memory { NotesMemory true self.old self.new }
         ensures keeps { Keeps self.old self.new }
     {
         let mut events = events;
@@ -125,8 +131,8 @@ impl yaml_emitter_t {
     // The events of a document with a root.
     fn dump_document(&mut self, document: &yaml_document_t)
         requires { self.old.opened ≡ true }
-        ensures given { GivesSome self.old (dumped document.now) self.new [] }
-        ensures judged { JudgedAll self.old (dumped document.now) self.new [] }
+        ensures takes { TakesEvents self.old (dumped document.now) self.new [] }
+        ensures memory { NotesMemory true self.old self.new }
         ensures keeps { Keeps self.old self.new }
     {
         match Events::of(self.alloc, document) {
@@ -138,10 +144,9 @@ impl yaml_emitter_t {
     // What a document without a root says is the end of the stream.
     fn dump_nodes(&mut self, document: &yaml_document_t)
         requires { self.old.opened ≡ true }
-        ensures given { GivesSome self.old (document_events self.old.closed document.now) self.new
-            [] }
-        ensures judged { JudgedAll self.old (document_events self.old.closed document.now) self.new
-            [] }
+        ensures takes { TakesEvents self.old (document_events self.old.closed document.now)
+            self.new [] }
+        ensures memory { NotesMemory true self.old self.new }
         ensures opened { self.new.opened ≡ true }
         ensures closed { 0 < length document.now.nodes → self.new.closed ≡ self.old.closed }
         ensures ended { length document.now.nodes ≡ 0 → self.new.fault ≡ None
@@ -158,17 +163,15 @@ impl yaml_emitter_t {
 
     // Whether the stream is open.
     fn open_if_needed(&mut self) -> bool
-        ensures given { (es : List Event)
-            → GivesSome self.old (opening_events self.old.opened ++ es) self.new
+        ensures takes { (es : List Event)
+            → TakesEvents self.old (opening_events self.old.opened ++ es) self.new
             (left_if result es) }
-        ensures judged { (es : List Event)
-            → JudgedAll self.old (opening_events self.old.opened ++ es) self.new
-            (left_if result es) }
+        ensures memory { NotesMemory true self.old self.new }
         ensures opened { result ≡ true → self.new.opened ≡ true }
         ensures kept { self.old.opened ≡ true → self.new.opened ≡ true }
         ensures refused { result ≡ false → self.new.fault ≢ None }
         ensures closed { self.new.closed ≡ self.old.closed }
-        ensures opens { Opens self.old self.new }
+        ensures opens { OpensStream self.old self.new }
         ensures begun { self.new.fresh ≡ false }
     {
         if self.opened {
@@ -182,15 +185,15 @@ impl yaml_emitter_t {
     }
 
     fn dump_all(&mut self, document: &yaml_document_t)
-        ensures given { GivesSome self.old (dump_events self.old document.now) self.new [] }
-        ensures judged { JudgedAll self.old (dump_events self.old document.now) self.new [] }
+        ensures takes { TakesEvents self.old (dump_events self.old document.now) self.new [] }
+        ensures memory { NotesMemory true self.old self.new }
         ensures opened { self.new.fault ≡ None → self.new.opened ≡ true }
         ensures kept { self.old.opened ≡ true → self.new.opened ≡ true }
         ensures closed { 0 < length document.now.nodes → self.new.closed ≡ self.old.closed }
         ensures ended { length document.now.nodes ≡ 0 → self.new.fault ≡ None
             → self.new.closed ≡ true }
         ensures refused { self.new.fault ≢ None → self.new.closed ≡ self.old.closed }
-        ensures opens { Opens self.old self.new }
+        ensures opens { OpensStream self.old self.new }
         ensures begun { self.new.fresh ≡ false }
     {
         if self.open_if_needed() {
@@ -207,9 +210,9 @@ pub fn yaml_emitter_dump(
     emitter: &mut yaml_emitter_t,
     document: yaml_document_t,
 ) -> Result<(), yaml_fault_t>
-    ensures given { GivesSome emitter.old (dump_events emitter.old document) emitter.new [] }
-    ensures judged { JudgedAll emitter.old (dump_events emitter.old document) emitter.new [] }
-    ensures tells { Tells emitter.new }
+    ensures takes { TakesEvents emitter.old (dump_events emitter.old document) emitter.new [] }
+    ensures memory { NotesMemory true emitter.old emitter.new }
+    ensures tells { TellsOutcome emitter.new }
     ensures answer { Answers emitter.new.fault result }
     ensures few { length emitter.new.held ≤ 3 }
     ensures opened { OnOk result (emitter.new.opened ≡ true) }
@@ -218,7 +221,7 @@ pub fn yaml_emitter_dump(
     ensures closed { 0 < length document.nodes → emitter.new.closed ≡ emitter.old.closed }
     ensures ended { length document.nodes ≡ 0 → OnOk result (emitter.new.closed ≡ true) }
     ensures refused { OnErr result (emitter.new.closed ≡ emitter.old.closed) }
-    ensures opens { Opens emitter.old emitter.new }
+    ensures opens { OpensStream emitter.old emitter.new }
     ensures begun { emitter.new.fresh ≡ false }
     ensures stays { Stays emitter.old emitter.new }
 {

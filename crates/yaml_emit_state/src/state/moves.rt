@@ -7,7 +7,7 @@ ghost use Rattle.yaml_emit_layout.specs.Content.{emitter_event};
 ghost use Rattle.yaml_emit_layout.specs.State.{among, levels_behind, outer_of, place_at, opened, placed, is_simple_event};
 ghost use Rattle.yaml_emit_state.specs.Stack.{stack_of, within};
 ghost use Rattle.yaml_emit_layout.specs.Nodes.{checked, context_of};
-ghost use Rattle.yaml_emit_state.specs.Steps.{state_of, StaysBut, MovesOn, Opens, Notes, first_phase, is_document_start};
+ghost use Rattle.yaml_emit_state.specs.Steps.{state_of, StaysBut, MovesOn, OpensCollection, Notes, first_phase, is_document_start};
 
 use super::Core;
 use crate::indent::{indent_of, is_flow, spot_of};
@@ -160,7 +160,7 @@ impl Core {
         style_flow: bool,
         sequence: bool,
     )
-        ensures { Opens settings.now self.old self.new simple empty style_flow sequence }
+        ensures { OpensCollection settings.now self.old self.new simple empty style_flow sequence }
     {
         let spot = spot_of(self.levels.top(), simple);
         let flow = is_flow(settings, spot, style_flow, empty);

@@ -4,6 +4,7 @@ ghost use Rattle.std.specs.Prelude.{◌≡◌, ◌<◌, ◌≤◌, ◌++◌, ◌
 ghost use Rattle.yaml_parse_model.specs.Constructors.{IsUtf8Option};
 ghost use Rattle.yaml_parse_model.specs.Nodes.{node_of, body_of};
 ghost use Rattle.yaml_parse_document.specs.Documents.{node_at, unplaced, new_scalar, new_sequence, new_mapping, with_node, Adds, Appends, change_body, with_item, with_pair, tag_or, IsSequenceAt, IsMappingAt, IsSequenceBody, IsMappingBody, HasRoomAt, item_count, pair_count, IsSoundNode, IsSoundBody};
+ghost use Rattle.yaml_parse_document.specs.Sizes.{IsSizedBody};
 
 use super::{place, yaml_document_t};
 use simdutf8::is_utf8;
@@ -67,7 +68,8 @@ fn unplaced_node(body: yaml_node_body_t, tag: Vec<u8>) -> yaml_node_t
 
 // One node more, under the next number.
 fn add_node(document: &mut yaml_document_t, node: yaml_node_t) -> Result<i32, yaml_text_fault_t>
-    requires { IsSoundNode (length document.old.nodes) (node_of node) }
+    requires sound { IsSoundNode (length document.old.nodes) (node_of node) }
+    requires sized { IsSizedBody (body_of node.body) }
     ensures { MatchResult result
         (λ id. (document.new ≡ with_node document.old (node_of node))
         × (id ≡ pos (suc (length document.old.nodes))))

@@ -2,6 +2,7 @@
 
 ghost use Rattle.std.specs.Prelude.{◌≡◌};
 ghost use Rattle.yaml_parse_document.specs.Documents.{IsDocument};
+ghost use Rattle.yaml_parse_document.specs.Sizes.{IsSized};
 
 use super::yaml_document_t;
 use std::alloc::Global;
@@ -25,7 +26,8 @@ impl DocumentParts {
 
     /// The document of these parts.
     pub fn into_document(self) -> yaml_document_t
-        requires { IsDocument (parts_view self) }
+        requires sound { IsDocument (parts_view self) }
+        requires sized { IsSized (parts_view self) }
         ensures { result ≡ parts_view self }
     {
         let DocumentParts {
@@ -51,9 +53,11 @@ impl DocumentParts {
     }
 }
 
-/// A law: the texts of each document are UTF-8, and its numbers name its nodes.
+/// A law: the texts of each document are UTF-8, its numbers name its nodes, and none of its lists (its nodes, the items of
+/// a sequence, the pairs of a mapping) has more than 2,147,483,647 entries.
 pub fn document_is_sound(document: &yaml_document_t)
-    ensures { IsDocument document.now }
+    ensures sound { IsDocument document.now }
+    ensures sized { IsSized document.now }
 {
     // Read for the clause: it sees the invariant of a value that is read.
     let _ = &document.nodes;

@@ -12,7 +12,7 @@ documents-preserved c =
     record {
       stands = record { opened = c.in-Ok.ensures.opened; closed = c.yaml_emitter_dump.ensures.closed (first_rooted _ _ _ e k.rooted) ∙ k.stands.closed };
       rooted = others_rooted _ _ _ e k.rooted;
-      feeds = feeds_next _ _ _ _ _ _ _ e k.stands.opened k.rooted c.yaml_emitter_dump.ensures.given k.feeds;
+      feeds = feeds_next _ _ _ _ _ _ _ e k.stands.opened k.rooted c.yaml_emitter_dump.ensures.takes k.feeds;
     }
 
 pub returns-in-None : goal.returns-in-None
@@ -23,5 +23,5 @@ returns-in-Err c =
     let e = c.in-Some.ensures.items in
     let k = c.documents.invariant in (
       documents_events (map graph_content c.pop_front.new.self.items),
-      (feeds_next _ _ _ _ _ _ _ e k.stands.opened k.rooted c.yaml_emitter_dump.ensures.given k.feeds, not_none _ _ c.in-Err.ensures.answer),
+      (feeds_next _ _ _ _ _ _ _ e k.stands.opened k.rooted c.yaml_emitter_dump.ensures.takes k.feeds, not_none _ _ c.in-Err.ensures.answer),
     )

@@ -1,5 +1,5 @@
 -- The output received the text's front.
-use Rattle.std.proofs.Common.{rules, subst, ℕ, List, Ok}
+use Rattle.std.proofs.Common.{rules, subst, refl, ℕ, List, Ok}
 use Rattle.yaml_round.specs.Commands.{IsRunAnswer}
 use Rattle.yaml_round.proofs.run.yaml_run.Goals as goal
 
@@ -11,3 +11,7 @@ returns-clause-runs g c = (
   search rules,
   search rules,
 )
+
+-- Not searched for, so that a refusal that names a device fails by its type, at once.
+pub returns-in-Err-clause-failures : goal.returns-in-Err-clause-failures
+returns-in-Err-clause-failures g c = (c.in_ok-bytes.ensures.sound, refl)

@@ -7,7 +7,7 @@ event_of-requires c = first_meant _ _ _ _ _ c.loop-record-test.true c.loop-recor
 pub loop-record-preserved : goal.loop-record-preserved
 loop-record-preserved c = record {
   meant = rest_meant _ _ _ _ _ _ c.loop-record-test.true c.loop-record.invariant.meant c.in-Some.ensures.is;
-  leads = leads_record _ _ _ _ _ _ _ _ _ _ c.loop-record-test.true c.loop-record.invariant.meant c.in-Some.ensures.is c.loop-record.invariant.leads c.give.ensures.given c.give.ensures.judged;
+  leads = leads_record _ _ _ _ _ _ _ _ _ _ c.loop-record-test.true c.loop-record.invariant.meant c.in-Some.ensures.is c.loop-record.invariant.leads c.give.ensures.takes;
 }
 
 pub returns-clause-given : goal.returns-clause-given

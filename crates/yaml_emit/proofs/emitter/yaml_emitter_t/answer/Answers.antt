@@ -1,7 +1,8 @@
 use Rattle.std.proofs.Common.{◌≡◌, false, ap, option_map}
 use Rattle.yaml_scan_model.specs.Faults.{fault_of}
 use Rattle.yaml_emit.proofs.Emitting.{not_true}
-use Rattle.yaml_emit.proofs.Verdicts.{inside_tells, inside_stuck}
+use Rattle.yaml_emit.proofs.Taking.{inside_stuck}
+use Rattle.yaml_emit.proofs.Verdicts.{inside_tells}
 use Rattle.yaml_emit.proofs.emitter.yaml_emitter_t.answer.Goals as goal
 
 pub returns-in-None-clause-tells : goal.returns-in-None-clause-tells

@@ -1,12 +1,16 @@
-use Rattle.yaml_emit.proofs.Dumped.{gives_stuck}
-use Rattle.yaml_emit.proofs.DumpsJudged.{judged_one, judged_stuck}
+use Rattle.yaml_parse_model.specs.Events.{body_of}
+use Rattle.yaml_emit_layout.specs.Content.{emitter_event}
+use Rattle.yaml_emit.proofs.Taking.{takes_first, takes_stuck, notes_any}
 use Rattle.yaml_emit.proofs.emitter.yaml_emitter_t.dump_event.Goals as goal
 
-pub returns-in-Err-clause-given : goal.returns-in-Err-clause-given
-returns-in-Err-clause-given c = λ es. gives_stuck _ _ _ es c.in-Err.ensures.given c.in-Err.ensures.stuck
+pub returns-in-Ok-clause-takes : goal.returns-in-Ok-clause-takes
+returns-in-Ok-clause-takes c = λ es. takes_first _ _ _ es c.in-Ok.ensures.takes
 
-pub returns-in-Err-clause-judged : goal.returns-in-Err-clause-judged
-returns-in-Err-clause-judged c = λ es. judged_stuck _ _ _ es c.in-Err.ensures.judged c.in-Err.ensures.stuck
+pub returns-in-Ok-clause-memory : goal.returns-in-Ok-clause-memory
+returns-in-Ok-clause-memory c = notes_any (emitter_event (body_of c.args.event)) c.args.self.now c.emit.new.self c.in-Ok.ensures.memory
 
-pub returns-in-Ok-clause-judged : goal.returns-in-Ok-clause-judged
-returns-in-Ok-clause-judged c = λ es. judged_one _ _ _ es c.in-Ok.ensures.judged
+pub returns-in-Err-clause-takes : goal.returns-in-Err-clause-takes
+returns-in-Err-clause-takes c = λ es. takes_stuck _ _ _ es c.in-Err.ensures.takes c.in-Err.ensures.stuck
+
+pub returns-in-Err-clause-memory : goal.returns-in-Err-clause-memory
+returns-in-Err-clause-memory c = notes_any (emitter_event (body_of c.args.event)) c.args.self.now c.emit.new.self c.in-Err.ensures.memory

@@ -1,16 +1,16 @@
-use Rattle.std.proofs.Common.{◌≡◌, false, length}
-use Rattle.yaml_emit.specs.Emitter.{GivesSome, Keeps}
+use Rattle.std.proofs.Common.{◌≡◌, true, false, length}
+use Rattle.yaml_emit.specs.Emitter.{Keeps}
+use Rattle.yaml_emit.specs.Taking.{TakesEvents, NotesMemory}
 use Rattle.yaml_emit_graph.specs.Events.{IsEvents, remaining_events}
-use Rattle.yaml_emit.specs.Verdict.{JudgedAll}
 use Rattle.yaml_emit.proofs.emitter.yaml_emitter_t.dump_events.Given as goal
 
--- some events were given, and the others are still to come
+-- some events were taken, and the others are still to come
 abbrev pub invariant-loop : goal.invariant-loop
 invariant-loop l = record {
   walk : IsEvents l.document l.events;
   begun : l.self.fresh ≡ false;
-  gives : GivesSome l.initial.self (remaining_events l.document l.initial.events) l.self (remaining_events l.document l.events);
-  judged : JudgedAll l.initial.self (remaining_events l.document l.initial.events) l.self (remaining_events l.document l.events);
+  takes : TakesEvents l.initial.self (remaining_events l.document l.initial.events) l.self (remaining_events l.document l.events);
+  memory : NotesMemory true l.initial.self l.self;
   keeps : Keeps l.initial.self l.self;
 }
 

@@ -1,12 +1,10 @@
-use Rattle.yaml_emit.proofs.Emitting.{inside_stays}
-use Rattle.yaml_emit.proofs.Verdicts.{inside_stuck_judged}
+use Rattle.std.proofs.Common.{[], ap, option_map}
+use Rattle.yaml_scan_model.specs.Faults.{fault_of}
+use Rattle.yaml_emit.proofs.Taking.{inside_stuck}
 use Rattle.yaml_emit.proofs.emitter.yaml_emitter_t.give.Goals as goal
 
-pub returns-in-Some-clause-given : goal.returns-in-Some-clause-given
-returns-in-Some-clause-given c = rw (← c.self.view_is) (inside_stays c.self.inside _ _ c.self.invariant c.in-Some.is)
-
-pub returns-in-Some-clause-judged : goal.returns-in-Some-clause-judged
-returns-in-Some-clause-judged c = rw (← c.self.view_is) (inside_stuck_judged c.self.inside _ _ c.self.invariant c.in-Some.is)
+pub returns-in-Some-clause-takes : goal.returns-in-Some-clause-takes
+returns-in-Some-clause-takes c = rw (← c.self.view_is) (inside_stuck c.self.inside c.self.invariant _ (ap (option_map fault_of) c.in-Some.is) _ [])
 
 pub returns-in-Some-clause-few : goal.returns-in-Some-clause-few
 returns-in-Some-clause-few c = rw (← c.self.view_is) c.self.invariant.short

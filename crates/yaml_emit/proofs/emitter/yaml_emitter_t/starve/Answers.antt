@@ -1,8 +1,7 @@
-use Rattle.std.proofs.Common.{◌∙◌}
+use Rattle.std.proofs.Common.{◌∙◌, None}
 use Rattle.yaml_emit_text.specs.Layout.{stay}
 use Rattle.yaml_emit.proofs.Emitting.{goes_going}
-use Rattle.yaml_emit.proofs.Dumped.{inside_starves}
-use Rattle.yaml_emit.proofs.DumpsJudged.{inside_starves_judged}
+use Rattle.yaml_emit.proofs.Dumped.{inside_starves, inside_starves_notes}
 use Rattle.yaml_emit.proofs.emitter.yaml_emitter_t.starve.Goals as goal
 
 pub invariant_of-self : goal.invariant_of-self
@@ -19,12 +18,10 @@ invariant_of-self c =
       memory = λ g. absurd (c.starve.ensures.stopped g);
     }
 
-pub returns-clause-given : goal.returns-clause-given
-returns-clause-given c = λ es.
+pub returns-clause-takes : goal.returns-clause-takes
+returns-clause-takes c = λ es.
     let fr = rw (← c.self.view_is) at c.requires.begun in
     rw (← c.self.view_is) (inside_starves c.self.inside c.starve.new.self _ es fr c.starve.ensures)
 
-pub returns-clause-judged : goal.returns-clause-judged
-returns-clause-judged c = λ es.
-    let fr = rw (← c.self.view_is) at c.requires.begun in
-    rw (← c.self.view_is) (inside_starves_judged c.self.inside c.starve.new.self _ es fr c.starve.ensures)
+pub returns-clause-memory : goal.returns-clause-memory
+returns-clause-memory c = rw (← c.self.view_is) (inside_starves_notes c.self.inside c.starve.new.self None c.starve.ensures)

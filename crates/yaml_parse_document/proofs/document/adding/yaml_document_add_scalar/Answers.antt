@@ -2,15 +2,20 @@ use Rattle.std.proofs.Common.{◌≡◌, sym, subst, option_map, IsUtf8, length,
 use Rattle.yaml_parse_model.specs.Constructors.{IsUtf8Option}
 use Rattle.yaml_parse_model.specs.Nodes.{Node, node_of}
 use Rattle.yaml_parse_document.specs.Documents.{IsSoundNode, new_scalar}
+use Rattle.yaml_parse_document.specs.Sizes.{IsSizedBody}
+use Rattle.yaml_parse_document.proofs.Sizing.{nothing_listed}
 use Rattle.yaml_parse_document.proofs.Sound.{tag_utf8, str_utf8, added}
 use Rattle.yaml_parse_document.proofs.document.adding.yaml_document_add_scalar.Goals as goal
 
-pub add_node-requires : goal.add_node-requires
-add_node-requires c =
+pub add_node-requires-clause-sound : goal.add_node-requires-clause-sound
+add_node-requires-clause-sound c =
     let tag : IsUtf8Option (option_map (λ t. t.now) c.args.tag) = search rules in
     let value : IsUtf8 c.args.value.now = search rules in
     subst (λ (n : Node). IsSoundNode (length c.args.document.now.nodes) n) (sym c.unplaced_node.ensures)
     (subst IsUtf8 (sym c.in_ok-tag.ensures) (tag_utf8 _ _ str_utf8 tag), subst IsUtf8 (sym c.in_ok-value.ensures) value)
+
+pub add_node-requires-clause-sized : goal.add_node-requires-clause-sized
+add_node-requires-clause-sized c = subst (λ (n : Node). IsSizedBody n.body) (sym c.unplaced_node.ensures) nothing_listed
 
 pub returns : goal.returns
 returns c =

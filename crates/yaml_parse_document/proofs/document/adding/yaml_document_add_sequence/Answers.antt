@@ -2,14 +2,19 @@ use Rattle.std.proofs.Common.{◌≡◌, sym, subst, option_map, IsUtf8, length,
 use Rattle.yaml_parse_model.specs.Constructors.{IsUtf8Option}
 use Rattle.yaml_parse_model.specs.Nodes.{Node, node_of}
 use Rattle.yaml_parse_document.specs.Documents.{IsSoundNode, AreIds, new_sequence}
+use Rattle.yaml_parse_document.specs.Sizes.{IsSizedBody}
+use Rattle.yaml_parse_document.proofs.Sizing.{no_items_sized}
 use Rattle.yaml_parse_document.proofs.Sound.{tag_utf8, seq_utf8, added}
 use Rattle.yaml_parse_document.proofs.document.adding.yaml_document_add_sequence.Goals as goal
 
-pub add_node-requires : goal.add_node-requires
-add_node-requires c =
+pub add_node-requires-clause-sound : goal.add_node-requires-clause-sound
+add_node-requires-clause-sound c =
     let tag : IsUtf8Option (option_map (λ t. t.now) c.args.tag) = search rules in
     subst (λ (n : Node). IsSoundNode (length c.args.document.now.nodes) n) (sym c.unplaced_node.ensures)
     (subst IsUtf8 (sym c.in_ok-tag.ensures) (tag_utf8 _ _ seq_utf8 tag), subst (AreIds _) (sym c.new-items.ensures.items) tt)
+
+pub add_node-requires-clause-sized : goal.add_node-requires-clause-sized
+add_node-requires-clause-sized c = subst (λ (n : Node). IsSizedBody n.body) (sym c.unplaced_node.ensures) (no_items_sized _ c.args.style c.new-items.ensures.items)
 
 pub returns : goal.returns
 returns c =

@@ -4,6 +4,7 @@ use Rattle.std.proofs.Math.ListN.{set}
 use Rattle.yaml_parse_model.specs.Nodes.{node_of}
 use Rattle.yaml_parse_document.specs.Documents.{Document, Appends, change_body, HasRoomAt, pair_count, with_pair, IsId, IsMappingBody}
 use Rattle.yaml_parse_document.specs.Views.{document_view}
+use Rattle.yaml_parse_document.proofs.Sizing.{appended_sized, pair_sized}
 use Rattle.yaml_parse_document.proofs.Sound.{pair_of, appended, appended_sound, had_room, pair_sound, some_id, kind_inside}
 use Rattle.yaml_parse_document.proofs.document.adding.yaml_document_append_mapping_pair.Goals as goal
 
@@ -16,10 +17,14 @@ invariant_of-document c =
     ) in
     let at_place : c.args.mapping ≡ pos (suc c.place.result) = sym (to_z-of_z w32 c.args.mapping c.ranges.mapping) ∙ c.place.ensures in
     let inside : c.place.result < length c.document.inside.nodes.items
-    = kind_inside IsMappingBody c.args.document.now _ _ _ at_place (ap (λ (d : Document). d.nodes) (sym c.document.view_is)) c.requires.mapping in
-    appended_sound (with_pair (pair_of (to_z w32 (of_z w32 c.args.key)) (to_z w32 (of_z w32 c.args.value)))) pair_count (document_view c.document.inside) c.document.inside.nodes.items c.place.result
-    c.index_mut.result.now c.push_pair.new.node c.push_pair.result inside c.index_mut.ensures.value refl c.push_pair.ensures
-    (pair_sound _ _ named) c.document.invariant
+    = kind_inside IsMappingBody c.args.document.now _ _ _ at_place (ap (λ (d : Document). d.nodes) (sym c.document.view_is)) c.requires.mapping in (
+      appended_sound (with_pair (pair_of (to_z w32 (of_z w32 c.args.key)) (to_z w32 (of_z w32 c.args.value)))) pair_count (document_view c.document.inside) c.document.inside.nodes.items c.place.result
+          c.index_mut.result.now c.push_pair.new.node c.push_pair.result inside c.index_mut.ensures.value refl c.push_pair.ensures
+          (pair_sound _ _ named) c.document.invariant.0,
+      appended_sized (with_pair (pair_of (to_z w32 (of_z w32 c.args.key)) (to_z w32 (of_z w32 c.args.value)))) pair_count (document_view c.document.inside) c.document.inside.nodes.items c.place.result
+          c.index_mut.result.now c.push_pair.new.node c.push_pair.result inside c.index_mut.ensures.value refl c.push_pair.ensures
+          (pair_sized _) c.document.invariant.1,
+    )
 
 pub returns-clause-appends : goal.returns-clause-appends
 returns-clause-appends c =

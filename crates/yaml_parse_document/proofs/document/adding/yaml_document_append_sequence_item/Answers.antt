@@ -4,6 +4,7 @@ use Rattle.std.proofs.Math.ListN.{set}
 use Rattle.yaml_parse_model.specs.Nodes.{node_of}
 use Rattle.yaml_parse_document.specs.Documents.{Document, Appends, change_body, HasRoomAt, item_count, with_item, IsId, IsSequenceBody}
 use Rattle.yaml_parse_document.specs.Views.{document_view}
+use Rattle.yaml_parse_document.proofs.Sizing.{appended_sized, item_sized}
 use Rattle.yaml_parse_document.proofs.Sound.{appended, appended_sound, had_room, item_sound, some_id, kind_inside}
 use Rattle.yaml_parse_document.proofs.document.adding.yaml_document_append_sequence_item.Goals as goal
 
@@ -14,10 +15,14 @@ invariant_of-document c =
     (subst (λ (i : ℤ). IsId (length c.args.document.now.nodes) i) (sym (to_z-of_z w32 c.args.item c.ranges.item)) (some_id _ _ c.requires.item)) in
     let at_place : c.args.sequence ≡ pos (suc c.place.result) = sym (to_z-of_z w32 c.args.sequence c.ranges.sequence) ∙ c.place.ensures in
     let inside : c.place.result < length c.document.inside.nodes.items
-    = kind_inside IsSequenceBody c.args.document.now _ _ _ at_place (ap (λ (d : Document). d.nodes) (sym c.document.view_is)) c.requires.sequence in
-    appended_sound (with_item (to_z w32 (of_z w32 c.args.item))) item_count (document_view c.document.inside) c.document.inside.nodes.items c.place.result
-    c.index_mut.result.now c.push_item.new.node c.push_item.result inside c.index_mut.ensures.value refl c.push_item.ensures
-    (item_sound _ _ named) c.document.invariant
+    = kind_inside IsSequenceBody c.args.document.now _ _ _ at_place (ap (λ (d : Document). d.nodes) (sym c.document.view_is)) c.requires.sequence in (
+      appended_sound (with_item (to_z w32 (of_z w32 c.args.item))) item_count (document_view c.document.inside) c.document.inside.nodes.items c.place.result
+          c.index_mut.result.now c.push_item.new.node c.push_item.result inside c.index_mut.ensures.value refl c.push_item.ensures
+          (item_sound _ _ named) c.document.invariant.0,
+      appended_sized (with_item (to_z w32 (of_z w32 c.args.item))) item_count (document_view c.document.inside) c.document.inside.nodes.items c.place.result
+          c.index_mut.result.now c.push_item.new.node c.push_item.result inside c.index_mut.ensures.value refl c.push_item.ensures
+          (item_sized _) c.document.invariant.1,
+    )
 
 pub returns-clause-appends : goal.returns-clause-appends
 returns-clause-appends c =

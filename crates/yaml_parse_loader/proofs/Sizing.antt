@@ -1,0 +1,92 @@
+-- Every event that finds room leaves a document in the making sized, and the document that it ends is sized.
+use Rattle.std.proofs.Common.{◌≤◌, ℕ, zero, suc, ℤ, List, [], ◌∷◌, Option, Some, None, sym, subst, arith}
+use Rattle.yaml_parse_model.specs.declared.yaml_mark_t.{yaml_mark_t}
+use Rattle.yaml_parse_model.specs.Events.{EventBody}
+use Rattle.yaml_parse_model.specs.Events as event
+use Rattle.yaml_parse_model.specs.Nodes.{Node, NodeBody}
+use Rattle.yaml_parse_model.specs.Nodes as node
+use Rattle.yaml_parse_document.specs.Documents.{change_place}
+use Rattle.yaml_parse_document.specs.Sizes.{IsSizedBody, AreSized, IsSized}
+use Rattle.yaml_parse_document.proofs.Sizing.{with_node_sized, entry_more, nothing_listed}
+use Rattle.yaml_parse_document.proofs.Sound.{length_change}
+use Rattle.yaml_parse_loader.specs.Anchors.{Anchors}
+use Rattle.yaml_parse_loader.specs.Loading.{Open, open_sequence, open_mapping, Loading, nothing_loaded, attached, attach, next, with_leaf, with_open, filled, filled_body, place_of, closed, LoadStep, goes_on, loaded, refused, aliased, step_body}
+use Rattle.yaml_parse_loader.specs.Sizes.{HasRoom, HaveRoom, HasRoomForNode, HasRoomFor, IsSizedOpen, AreSizedOpen, IsSizedLoading}
+
+abbrev pub FedSized : LoadStep → Type 0
+FedSized (goes_on l) = IsSizedLoading l
+FedSized (loaded d) = IsSized d
+FedSized (refused f) = Unit {0}
+
+-- ---- a number more
+
+attached_sized : (id : ℤ) (o : Open) → HasRoom o → IsSizedOpen o → IsSizedOpen (attached id o)
+attached_sized id (open_sequence place items) h s = entry_more items id h
+attached_sized id (open_mapping place pairs None) h s = s
+attached_sized id (open_mapping place pairs (Some key)) h s = entry_more pairs _ h
+
+attach_sized : (id : ℤ) (os : List Open) → HaveRoom os → AreSizedOpen os → AreSizedOpen (attach id os)
+attach_sized id [] h s = tt
+attach_sized id (o ∷ os) h s = (attached_sized id o h s.0, s.1)
+
+-- ---- a node more
+
+leaf_sized : (l : Loading) (n : Node) (known : Anchors) → HasRoomForNode l → IsSizedBody n.body → IsSizedLoading l → IsSizedLoading (with_leaf l n known)
+leaf_sized l n known h b s = record {
+  document = with_node_sized l.document n s.document h.0 b;
+  levels = attach_sized (next l) l.levels h.1 s.levels;
+}
+
+open_sized : (l : Loading) (n : Node) (o : Open) (known : Anchors) → HasRoomForNode l → IsSizedBody n.body → IsSizedOpen o → IsSizedLoading l → IsSizedLoading (with_open l n o known)
+open_sized l n o known h b empty s =
+    let leaf : IsSizedLoading (with_leaf l n known) = leaf_sized l n known h b s in
+    record { document = leaf.document; levels = (empty, leaf.levels) }
+
+-- ---- a collection's end
+
+filled_sized : (o : Open) (b : NodeBody) → IsSizedOpen o → IsSizedBody b → IsSizedBody (filled_body o b)
+filled_sized (open_sequence place items) node.no s h = h
+filled_sized (open_sequence place items) (node.scalar value style) s h = h
+filled_sized (open_sequence place items) (node.sequence none style) s h = (s, h.1)
+filled_sized (open_sequence place items) (node.mapping none style) s h = h
+filled_sized (open_mapping place pairs key) node.no s h = h
+filled_sized (open_mapping place pairs key) (node.scalar value style) s h = h
+filled_sized (open_mapping place pairs key) (node.sequence none style) s h = h
+filled_sized (open_mapping place pairs key) (node.mapping none style) s h = (h.0, s)
+
+place_sized : (f : Node → Node) (k : ℕ) (ns : List Node) → ((x : Node) → IsSizedBody x.body → IsSizedBody (f x).body) → AreSized ns → AreSized (change_place f k ns)
+place_sized f k [] h s = tt
+place_sized f zero (n ∷ ns) h s = (h n s.0, s.1)
+place_sized f (suc k) (n ∷ ns) h s = (s.0, place_sized f k ns h s.1)
+
+closed_sized : (to : yaml_mark_t) (l : Loading) (os : List Open) → IsSizedLoading l → AreSizedOpen os → IsSizedLoading (closed to l os)
+closed_sized to l [] s h = s
+closed_sized to l (o ∷ os) s h = record {
+  document = record {
+    nodes = subst (λ (k : ℕ). k ≤ 2147483647) (sym (length_change (filled o to) (place_of o) l.document.nodes)) s.document.nodes;
+    entries = place_sized (filled o to) (place_of o) l.document.nodes (λ x t. filled_sized o x.body h.0 t) s.document.entries;
+  };
+  levels = h.1;
+}
+
+-- ---- each event
+
+aliased_sized : (o : Option ℤ) (from : yaml_mark_t) (l : Loading) → HaveRoom l.levels → IsSizedLoading l → FedSized (aliased o from l)
+aliased_sized None from l h s = tt
+aliased_sized (Some i) from l h s = record { document = s.document; levels = attach_sized i l.levels h s.levels }
+
+pub nothing_sized : IsSizedLoading nothing_loaded
+nothing_sized = record { document = record { nodes = omega arith; entries = tt }; levels = tt }
+
+pub step_sized : (b : EventBody) (from to : yaml_mark_t) (l : Loading) → IsSizedLoading l → HasRoomFor b l → FedSized (step_body b from to l)
+step_sized event.no from to l s h = s
+step_sized (event.stream_start encoding) from to l s h = s
+step_sized event.stream_end from to l s h = s
+step_sized (event.document_start version directives implicit) from to l s h = record { document = record { nodes = omega arith; entries = tt }; levels = tt }
+step_sized (event.document_end implicit) from to l s h = record { nodes = s.document.nodes; entries = s.document.entries }
+step_sized (event.alias name) from to l s h = aliased_sized _ from l h s
+step_sized (event.scalar anchor tag value plain quoted style) from to l s h = leaf_sized l _ _ h nothing_listed s
+step_sized (event.sequence_start anchor tag implicit style) from to l s h = open_sized l _ _ _ h nothing_listed (omega arith) s
+step_sized event.sequence_end from to l s h = closed_sized to l l.levels s s.levels
+step_sized (event.mapping_start anchor tag implicit style) from to l s h = open_sized l _ _ _ h nothing_listed (omega arith) s
+step_sized event.mapping_end from to l s h = closed_sized to l l.levels s s.levels

@@ -7,7 +7,8 @@ use Rattle.yaml_scan.specs.declared.yaml_error_type_t.TheVariants.{YAML_MEMORY_E
 use Rattle.yaml_scan.specs.Faults.{Fault, fault_of, IsMemoryFault, load_layers, Answers}
 use Rattle.yaml_scan.specs.Remaining as scan
 use Rattle.yaml_parse.specs.Documents.{Document}
-use Rattle.yaml_parse.specs.Loads.{Loads, document, faulty, nothing, loads_of, LoadGives, LoadRefuses}
+use Rattle.yaml_parse.specs.NextLoad.{NextLoad, next_document, next_fault, next_none, IsNextLoad, GivesLoad, IsRefusalOf, AreLoadsByContent, LoadIsNext, RefusalIsNext}
+use Rattle.yaml_parse.proofs.NextLoads.{next_load}
 use Rattle.yaml_parse.specs.Remaining.{ParserRemaining}
 use Rattle.yaml_parse.specs.Resolve.{Reading}
 use Rattle.yaml_parse.specs.parse_laws_faults.Places.{FaultOfTokens}
@@ -19,30 +20,37 @@ use Rattle.yaml_cli_lookup.specs.Lookup.{IsDue}
 use Rattle.yaml_cli_lookup.specs.Input.{tokens_of, IsReadingOf, outcome, IsFirstDocument}
 
 -- the first load of a parser of these tokens is that of the input
-first_load : (encoding : yaml_encoding_t) (input : List ℕ) (c : scan.Remaining) (p : ParserRemaining) (first : Result Document Fault)
+first_load : (encoding : yaml_encoding_t) (input : List ℕ) (c : scan.Remaining) (p : ParserRemaining) (first : Result Document Fault) (n : NextLoad)
     → c ≡ tokens_of encoding input → EventsOfTokens c.tokens c.fault p.events → FaultOfTokens c.tokens c.fault p.ending
-    → first ≡ outcome (loads_of p) → IsFirstDocument encoding input first
-first_load encoding input c p first is events ending same =
+    → IsNextLoad p n → first ≡ outcome n → IsFirstDocument encoding input first
+first_load encoding input c p first n is events ending next same =
     let r : Reading = record { events = p.events; ending = p.ending } in
     let parsed : IsReadingOf c r = record { events = events; ending = ending } in
-    record { reading = r; parsed = subst (λ (z : scan.Remaining). IsReadingOf z r) is parsed; same = same }
+    record { reading = r; parsed = subst (λ (z : scan.Remaining). IsReadingOf z r) is parsed; load = n; unasked = p.ending_unasked; is = next; same = same }
 
-gives : (r : Loads) (d : Document) (old new : ParserRemaining) → LoadGives r d old new → outcome r ≡ Ok d
-gives (document e left n) d old new g = ap Ok (sym g.0)
-gives nothing d old new g = ap Ok (sym g.0)
-gives (faulty f) d old new g = absurd g
+gives : (n : NextLoad) (d : Document) (old new : ParserRemaining) → GivesLoad n d old new → Ok d ≡ outcome n
+gives (next_document e left unasked) d old new g = ap Ok g.0
+gives next_none d old new g = ap Ok g.0
+gives (next_fault f unasked) d old new g = absurd g
+
+refuses : (n : NextLoad) (f : Fault) (unasked : ℕ) → IsRefusalOf n f unasked → Err f ≡ outcome n
+refuses (next_document e left count) f unasked h = absurd h
+refuses next_none f unasked h = absurd h
+refuses (next_fault g count) f unasked h = ap Err h.0
 
 pub first_answers : (encoding : yaml_encoding_t) (input : List ℕ) (c : scan.Remaining) (p q : ParserRemaining)
     (r : Result Document yaml_fault_t)
     → c ≡ tokens_of encoding input → EventsOfTokens c.tokens c.fault p.events → FaultOfTokens c.tokens c.fault p.ending
-    → IfOk r (λ d. LoadGives (loads_of p) d p q) → IfErr r (λ f. LoadRefuses (fault_of f) p q)
+    → AreLoadsByContent p → IfOk r (λ d. LoadIsNext p d q) → IfErr r (λ f. RefusalIsNext p (fault_of f) q)
     → Answers load_layers (λ d. d) (IsFirstDocument encoding input) r
-first_answers encoding input c p q (Ok d) is events ending g h =
-    first_load encoding input c p (Ok d) is events ending (sym (gives (loads_of p) d p q g))
-first_answers encoding input c p q (Err f) is events ending g h =
-    elim h.reason [
+first_answers encoding input c p q (Ok d) is events ending loads g h =
+    let n = next_load p.ending p.ending_unasked p.events loads in
+    first_load encoding input c p (Ok d) n.load is events ending n.is (gives n.load d p q (g n.load n.is))
+first_answers encoding input c p q (Err f) is events ending loads g h =
+    let n = next_load p.ending p.ending_unasked p.events loads in
+    elim (h n.load n.is).reason [
       | inl m ↦ inl m
-      | inr k ↦ inr (first_load encoding input c p (Err (fault_of f)) is events ending (sym (ap outcome k)))
+      | inr k ↦ inr (first_load encoding input c p (Err (fault_of f)) n.load is events ending n.is (refuses n.load (fault_of f) q.unasked k))
     ]
 
 -- ---- the error that a fault is

@@ -5,8 +5,7 @@ use Rattle.yaml_scan.specs.Faults.{Fault}
 use Rattle.yaml_scan.specs.Remaining as scan
 use Rattle.yaml_scan.specs.Scanned.{scanned}
 use Rattle.yaml_parse.specs.Documents.{Document, no_document}
-use Rattle.yaml_parse.specs.Loading.{nothing_loaded}
-use Rattle.yaml_parse.specs.Loads.{Loads, document, faulty, nothing, loads}
+use Rattle.yaml_parse.specs.NextLoad.{NextLoad, next_document, next_fault, next_none, IsLoadOf}
 use Rattle.yaml_parse.specs.Resolve.{Reading}
 use Rattle.yaml_parse.specs.parse_laws_faults.Places.{FaultOfTokens}
 use Rattle.yaml_parse.specs.parse_laws_given.Given.{EventsOfTokens}
@@ -21,20 +20,20 @@ pub record IsReadingOf (c : scan.Remaining) (r : Reading) : Type 0 where
   pub events : EventsOfTokens c.tokens c.fault r.events
   pub ending : FaultOfTokens c.tokens c.fault r.ending
 
--- what the loader makes of those
-abbrev pub loaded : Reading → Loads
-loaded r = loads r.events r.ending nothing_loaded
-
 -- a document, that without nodes where none comes, or the fault
-abbrev pub outcome : Loads → Result Document Fault
-outcome (document d left unasked) = Ok d
-outcome nothing = Ok no_document
-outcome (faulty f) = Err f
+abbrev pub outcome : NextLoad → Result Document Fault
+outcome (next_document d left unasked) = Ok d
+outcome next_none = Ok no_document
+outcome (next_fault f unasked) = Err f
 
 -- The first document of the input, or the fault that is met before its end. Each input has one, and one alone: its tokens
--- have one list of events, and one fault.
+-- have one list of events, and one fault, and these one first load.
 pub record IsFirstDocument (encoding : yaml_encoding_t) (input : List ℕ)
     (first : Result Document Fault) : Type 0 where
   pub reading : Reading
   pub parsed : IsReadingOf (tokens_of encoding input) reading
-  pub same : first ≡ outcome (loaded reading)
+  pub load : NextLoad
+  -- so many tokens are not asked for as the fault behind the events is told
+  pub unasked : ℕ
+  pub is : IsLoadOf reading.events reading.ending unasked load
+  pub same : first ≡ outcome load

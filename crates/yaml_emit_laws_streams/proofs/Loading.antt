@@ -1,5 +1,5 @@
 -- What is loaded of right events is right.
-use Rattle.std.proofs.Common.{◌≡◌, ◌<◌, ℕ, zero, suc, Bool, true, false, List, [], ◌∷◌, ◌++◌, length, Option, Some, None, Ok, Err, refl, arith}
+use Rattle.std.proofs.Common.{◌≡◌, ◌<◌, ℕ, zero, suc, subst, Bool, true, false, List, [], ◌∷◌, ◌++◌, length, Option, Some, None, refl, arith}
 use Rattle.std.specs.Prelude.{◌==◌, cond, if◌then◌else◌}
 use Rattle.std.proofs.lemmas.Bool.Decides.{nat_tests}
 use Rattle.yaml_scan.specs.declared.yaml_mark_t.{yaml_mark_t}
@@ -9,13 +9,16 @@ use Rattle.yaml_parse.specs.Nodes as model
 use Rattle.yaml_parse.specs.Documents.{Document, with_node, change_place, str_tag, seq_tag, map_tag, no_document}
 use Rattle.yaml_parse.specs.Resolve.{Told}
 use Rattle.yaml_parse.specs.Numbering.{loaded_tag, is_bang}
-use Rattle.yaml_parse.specs.Loading.{Open, open_sequence, open_mapping, Loading, LoadStep, goes_on, loaded, refused, nothing_loaded, step, step_body, aliased, closed, filled}
-use Rattle.yaml_parse.specs.Loads.{Loads, load_on, behind_all, loads}
+use Rattle.yaml_parse.specs.Loading.{Open, Loading, LoadStep, goes_on, loaded, refused, nothing_loaded, step, step_body, aliased, closed, filled}
+use Rattle.yaml_parse.specs.NextLoad.{NextLoad, next_document, next_fault, next_none}
+use Rattle.yaml_parse.proofs.ByStep.{Loads, load_on, behind_all, loads}
+use Rattle.yaml_parse.proofs.ByStep as load
+use Rattle.yaml_parse.proofs.NextLoads.{IsOf, load_is}
 use Rattle.std.specs.FinMap as map
 use Rattle.yaml_emit.specs.emit_layout.declared.Problem.{Problem}
 use Rattle.yaml_emit.specs.emit_layout.declared.Problem.TheVariants as problem
 use Rattle.yaml_emit.specs.emit_layout.Grammar.{or_else, anchor_problem, tag_problem, directives_problem, event_problem, last_problem}
-use Rattle.yaml_emit_laws_streams.specs.Laws.{AreTagged, RightDocument, MayTag, RightBody, AreRightTold, RightFed, RightLoads, TakenAreRight, StepsKeepRight, LoadsAreRight}
+use Rattle.yaml_emit_laws_streams.specs.Laws.{AreTagged, RightDocument, MayTag, RightBody, AreRightTold, RightFed, RightLoad, TakenAreRight, StepsKeepRight, LoadsAreRight}
 use Rattle.yaml_emit_laws_streams.proofs.Passing.{or_both}
 
 -- ---- events that an emitter takes
@@ -104,6 +107,11 @@ pub empty_right : RightDocument no_document
 unfolding directives_problem
 empty_right = record { tags = tt; opening = refl }
 
+abbrev RightLoads : Loads → Type 0
+RightLoads (load.document d left unasked) = RightDocument d × AreRightTold left
+RightLoads (load.faulty f) = Unit {0}
+RightLoads load.nothing = Unit {0}
+
 at_end : (f : Option Fault) → RightLoads (behind_all f)
 at_end None = tt
 at_end (Some f) = tt
@@ -118,5 +126,10 @@ unfolding loads
 all_right [] f l h r = at_end f
 all_right (g ∷ gs) f l h r = turn_right (step g.0 l) (loads gs f) gs g.1 (steps g.0 l h.0 r) h.1 (λ m s. all_right gs f m h.1 s)
 
+next_right : (n : NextLoad) (r : Loads) (u : ℕ) → IsOf n r u → RightLoads r → RightLoad n
+next_right (next_document d left count) r u e h = subst RightLoads e h
+next_right (next_fault f count) r u e h = tt
+next_right next_none r u e h = tt
+
 pub loads_right : LoadsAreRight
-loads_right gs f h = all_right gs f nothing_loaded h empty_right
+loads_right gs f unasked n h k = next_right n _ _ (load_is gs f unasked n k) (all_right gs f nothing_loaded h empty_right)

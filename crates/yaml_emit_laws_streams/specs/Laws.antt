@@ -6,9 +6,8 @@ use Rattle.yaml_parse.specs.Events as event
 use Rattle.yaml_parse.specs.Nodes as model
 use Rattle.yaml_parse.specs.Documents as documents
 use Rattle.yaml_parse.specs.Resolve.{Told}
-use Rattle.yaml_parse.specs.Loading.{Loading, LoadStep, goes_on, loaded, refused, nothing_loaded, step}
-use Rattle.yaml_parse.specs.Loads.{Loads, loads}
-use Rattle.yaml_parse.specs.Loads as load
+use Rattle.yaml_parse.specs.Loading.{Loading, LoadStep, goes_on, loaded, refused, step}
+use Rattle.yaml_parse.specs.NextLoad.{NextLoad, next_document, next_fault, next_none, IsLoadOf}
 use Rattle.yaml_emit.specs.emit_text.declared.Encoding.{Encoding}
 use Rattle.yaml_emit.specs.emit_text.declared.RequestedSettings.{RequestedSettings}
 use Rattle.yaml_emit.specs.emit_text.Text.{Item}
@@ -112,10 +111,10 @@ RightFed (goes_on l) = RightDocument l.document
 RightFed (loaded d) = RightDocument d
 RightFed (refused f) = Unit {0}
 
-abbrev pub RightLoads : Loads → Type 0
-RightLoads (load.document d left unasked) = RightDocument d × AreRightTold left
-RightLoads (load.faulty f) = Unit {0}
-RightLoads load.nothing = Unit {0}
+abbrev pub RightLoad : NextLoad → Type 0
+RightLoad (next_document d left unasked) = RightDocument d × AreRightTold left
+RightLoad (next_fault f unasked) = Unit {0}
+RightLoad next_none = Unit {0}
 
 -- An event that an emitter takes in canonical form is right.
 abbrev pub TakenAreRight : Type 0
@@ -128,5 +127,5 @@ StepsKeepRight = (e : event.Event) (l : Loading) → RightBody e.body → RightD
 
 -- A document that is loaded of right events is right.
 abbrev pub LoadsAreRight : Type 0
-LoadsAreRight = (gs : List Told) (f : Option Fault) → AreRightTold gs
-    → RightLoads (loads gs f nothing_loaded)
+LoadsAreRight = (gs : List Told) (f : Option Fault) (unasked : ℕ) (n : NextLoad)
+    → AreRightTold gs → IsLoadOf gs f unasked n → RightLoad n

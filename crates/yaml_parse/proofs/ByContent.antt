@@ -2,7 +2,7 @@
 use Rattle.std.proofs.Common.{◌≡◌, ℕ, true, List, [], ◌∷◌, ◌++◌, Option, Some, None, Result, Ok, Err, refl, sym, ap, subst, ◌∙◌, append_assoc, inl, inr}
 use Rattle.yaml_scan_model.specs.Faults.{Fault}
 use Rattle.yaml_scan_model.specs.Tokens.{zero_mark}
-use Rattle.yaml_parse_model.specs.Events.{Event, EventBody}
+use Rattle.yaml_parse_model.specs.Events.{Event}
 use Rattle.yaml_parse_model.specs.Events as event
 use Rattle.yaml_parse_document.specs.Documents.{Document}
 use Rattle.yaml_parse_grammar.specs.Resolve.{Told}
@@ -10,8 +10,7 @@ use Rattle.yaml_parse_loader.specs.Numbering.{Span, spanning, Content, Contents,
 use Rattle.yaml_parse_loader.specs.Loading.{Loading, LoadStep, goes_on, loaded, refused, nothing_loaded, step, load, turn, behind}
 use Rattle.yaml_parse_loader.specs.Loading as loading
 use Rattle.yaml_parse_loader.proofs.Loads as numbering
-use Rattle.yaml_parse.specs.Loads.{left_behind, told_events}
-use Rattle.yaml_parse.specs.NextLoad.{names_behind, wrong_alias, or_later, first_wrong, IsOutside, AreOutside, NoneNext, IsLoadOf, next_fault, LoadsByContent, one_more, ended, contents_events, FrontsLoadByContent}
+use Rattle.yaml_parse.specs.NextLoad.{told_events, left_behind, names_behind, wrong_alias, or_later, first_wrong, IsOutside, AreOutside, NoneNext, LoadsByContent, one_more, ended, contents_events, FrontsLoadByContent}
 use Rattle.yaml_parse.specs.NextLoad as next
 use Rattle.yaml_parse.proofs.NextLoads.{AreInner, Knows, Inner, start_event, end_event, started_by, knows_nothing, inner_step, inner_front, no_rest}
 

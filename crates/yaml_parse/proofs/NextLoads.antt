@@ -1,24 +1,25 @@
 -- What a load comes to by content is what it comes to by the loader's steps.
-use Rattle.std.proofs.Common.{◌≡◌, ◌⊎◌, ◌<◌, ◌+◌, ℕ, suc, ℤ, inl, inr, Bool, true, false, ◌||◌, cond, List, [], ◌∷◌, ◌++◌, length, Option, Some, None, Result, Ok, Err, refl, sym, ap, subst, ◌∙◌, arith}
+use Rattle.std.proofs.Common.{◌≡◌, ◌<◌, ◌+◌, ℕ, suc, ℤ, inl, inr, Bool, true, false, ◌||◌, cond, List, [], ◌∷◌, ◌++◌, length, Option, Some, None, Result, Ok, refl, sym, ap, subst, ◌∙◌, arith}
 use Rattle.std.specs.FinMap as map
-use Rattle.std.specs.Ordering.{nat_cmp, eq_by_cmp}
+use Rattle.std.specs.Ordering.{nat_cmp}
 use Rattle.std.specs.Cmp.Lexicographic.{slice_cmp, nat_list_cmp_total}
 use Rattle.yaml_scan_model.specs.declared.yaml_mark_t.{yaml_mark_t}
-use Rattle.yaml_scan_model.specs.Faults.{Fault, IsMemoryFault, load_layers}
+use Rattle.yaml_scan_model.specs.Faults.{Fault}
 use Rattle.yaml_parse_model.specs.Events.{Event, EventBody}
 use Rattle.yaml_parse_model.specs.Events as event
-use Rattle.yaml_parse_document.specs.Documents.{Document, no_document}
+use Rattle.yaml_parse_model.specs.Prefix.{no_fault}
+use Rattle.yaml_parse_document.specs.Documents.{Document}
 use Rattle.yaml_parse_grammar.specs.Resolve.{Told}
-use Rattle.yaml_parse_grammar.specs.Remaining.{ParserRemaining, IsFinished}
+use Rattle.yaml_parse_grammar.specs.Remaining.{ParserRemaining}
 use Rattle.yaml_parse_loader.specs.Anchors.{Anchors}
-use Rattle.yaml_parse_loader.specs.Numbering.{is_same, undefined_alias, spanning, Content, Contents, Pairs, alias, scalar, sequence, mapping, no_items, item, no_pairs, pair, events, item_events, pair_events, DocumentContent, document_events, document_of}
+use Rattle.yaml_parse_loader.specs.Numbering.{is_same, spanning, Content, Contents, Pairs, alias, scalar, sequence, mapping, no_items, item, no_pairs, pair, events, item_events, pair_events, DocumentContent, document_events, document_of}
 use Rattle.yaml_parse_loader.specs.Loading.{Open, Loading, LoadStep, goes_on, loaded, refused, nothing_loaded, named, closed, aliased, step, step_body, load, turn, behind}
 use Rattle.yaml_parse_loader.specs.Loading as loading
 use Rattle.yaml_parse_loader.proofs.Loads as numbering
-use Rattle.yaml_parse.specs.Loads.{Loads, load_on, behind_all, loads, loads_of, unasked_on, unasked_at_refusal, unasked_of, left_behind, LoadGives, LoadRefuses, told_events, LoadsSame}
-use Rattle.yaml_parse.specs.Loads as told
-use Rattle.yaml_parse.specs.NextLoad.{is_among, and_anchor, names_behind, unless_known, wrong_alias, or_later, first_wrong, IsOutside, AreOutside, NextDocument, NextFront, NextLoad, next_document, next_fault, next_none, NumbersNext, WrongAliasNext, NoneNext, IsNextLoad, GivesLoad, IsRefusalOf, RefusesNext, LoadIsNext, RefusalIsNext}
-use Rattle.yaml_parse.proofs.Loading.{loads_same}
+use Rattle.yaml_parse.specs.NextLoad.{told_events, left_behind, is_among, and_anchor, names_behind, unless_known, wrong_alias, or_later, first_wrong, IsOutside, AreOutside, NextLoad, next_document, next_fault, next_none, NoneNext, IsLoadOf, IsNextLoad, GivesLoad, IsRefusalOf, RefusesNext, LoadIsNext, RefusalIsNext, LoadsByContent, one_more, ended, AreLoadsByContent}
+use Rattle.yaml_parse.specs.NextLoad as next
+use Rattle.yaml_parse.proofs.ByStep as told
+use Rattle.yaml_parse.proofs.ByStep.{Loads, load_on, behind_all, loads, loads_of, unasked_on, unasked_at_refusal, unasked_of, LoadGives, LoadRefuses}
 
 -- ---- inside of a document
 
@@ -286,7 +287,7 @@ document_loads gs left f c d e k =
 
 -- ---- the next load
 
-abbrev IsOf : NextLoad → Loads → ℕ → Type 0
+abbrev pub IsOf : NextLoad → Loads → ℕ → Type 0
 IsOf (next_document e left count) r u = r ≡ told.document e left count
 IsOf (next_fault f count) r u = (r ≡ told.faulty f) × (u ≡ count)
 IsOf next_none r u = r ≡ told.nothing
@@ -308,7 +309,7 @@ none_loads c h =
     let s = ap (λ (xs : List Told). n.outside ++ xs) (no_rest h.told) in
     (split_loads c n.outside h.told (n.split ∙ s) n.none ∙ e.0, split_unasked c n.outside h.told (n.split ∙ s) n.none ∙ e.1)
 
-next_is : (c : ParserRemaining) (n : NextLoad) → IsNextLoad c n → IsOf n (loads_of c) (unasked_of c)
+pub next_is : (c : ParserRemaining) (n : NextLoad) → IsNextLoad c n → IsOf n (loads_of c) (unasked_of c)
 next_is c (next_document e left count) h =
     let n = h.next in
     split_loads c n.outside (n.told ++ left) n.split n.none
@@ -322,6 +323,9 @@ next_is c (next_fault f count) (inr h) =
     let e = none_loads c h.0 in
     (e.0 ∙ ap behind_all h.1.0, e.1 ∙ sym h.1.1)
 next_is c next_none h = (none_loads c h.0).0 ∙ ap behind_all h.1
+
+pub load_is : (gs : List Told) (own : Option Fault) (behind : ℕ) (n : NextLoad) → IsLoadOf gs own behind n → IsOf n (loads gs own nothing_loaded) (unasked_at_refusal gs behind nothing_loaded)
+load_is gs own behind n h = next_is (record { events = gs; ending = own; ending_unasked = behind; unasked = 0; held = 0; between = true; answered = no_fault }) n h
 
 gives_of : (n : NextLoad) (r : Loads) (u : ℕ) (d : Document) (old new : ParserRemaining) → IsOf n r u → LoadGives r d old new → GivesLoad n d old new
 gives_of (next_document e left count) r u d old new p h = subst (λ (x : Loads). LoadGives x d old new) p h
@@ -342,3 +346,41 @@ refusal_is_next old new f h n k = record {
   answered = h.answered;
   reason = elim h.reason [ inl m ↦ inl m | inr q ↦ elim h.unasked [ inl m ↦ inl m | inr u ↦ inr (refusal_of n (loads_of old) (unasked_of old) new.unasked f (next_is old n k) q u) ] ];
 }
+
+-- ---- and by the loader's steps it is what content says
+
+pub record SomeLoad (own : Option Fault) (behind : ℕ) (gs : List Told) : Type 0 where
+  pub load : NextLoad
+  pub is : IsLoadOf gs own behind load
+
+-- the first of the loads
+pub next_load : (own : Option Fault) (behind : ℕ) (gs : List Told) → LoadsByContent own behind gs → SomeLoad own behind gs
+next_load own behind gs (one_more hs left e unasked h more) = record { load = next_document e left unasked; is = h }
+next_load own behind gs (next.refused hs f unasked h) = record { load = next_fault f unasked; is = h }
+next_load own behind gs (ended hs h) = record { load = next_none; is = h }
+
+gives_steps : (n : NextLoad) (r : Loads) (u : ℕ) (d : Document) (old new : ParserRemaining) → IsOf n r u → GivesLoad n d old new → LoadGives r d old new
+gives_steps (next_document e left count) r u d old new p h = subst (λ (x : Loads). LoadGives x d old new) (sym p) h
+gives_steps (next_fault f count) r u d old new p h = absurd h
+gives_steps next_none r u d old new p h = subst (λ (x : Loads). LoadGives x d old new) (sym p) h
+
+pub load_gives : (old new : ParserRemaining) (d : Document) → AreLoadsByContent old → LoadIsNext old d new → LoadGives (loads_of old) d old new
+load_gives old new d h k =
+    let n = next_load old.ending old.ending_unasked old.events h in
+    gives_steps n.load (loads_of old) (unasked_of old) d old new (next_is old n.load n.is) (k n.load n.is)
+
+refuses_steps : (n : NextLoad) (r : Loads) (u m : ℕ) (f : Fault) → IsOf n r u → IsRefusalOf n f m → (r ≡ told.faulty f) × (m ≡ u)
+refuses_steps (next_document e left count) r u m f p h = absurd h
+refuses_steps (next_fault g count) r u m f p h = (p.0 ∙ ap told.faulty (sym h.0), h.1 ∙ sym p.1)
+refuses_steps next_none r u m f p h = absurd h
+
+pub load_refuses : (old new : ParserRemaining) (f : Fault) → AreLoadsByContent old → RefusalIsNext old f new → LoadRefuses f old new
+load_refuses old new f h k =
+    let n = next_load old.ending old.ending_unasked old.events h in
+    let r : RefusesNext n.load f old new = k n.load n.is in
+    record {
+      finished = r.finished;
+      answered = r.answered;
+      reason = elim r.reason [ inl m ↦ inl m | inr q ↦ inr (refuses_steps n.load (loads_of old) (unasked_of old) new.unasked f (next_is old n.load n.is) q).0 ];
+      unasked = elim r.reason [ inl m ↦ inl m | inr q ↦ inr (refuses_steps n.load (loads_of old) (unasked_of old) new.unasked f (next_is old n.load n.is) q).1 ];
+    }

@@ -1,5 +1,5 @@
 -- What a load comes to, said by content: by that of the document whose events come next.
-use Rattle.std.specs.Prelude.{◌≡◌, ◌⊎◌, ℕ, Bool, true, false, if◌then◌else◌, ◌||◌, List, [], ◌∷◌, ◌++◌, Option, Some, None, Ok}
+use Rattle.std.specs.Prelude.{◌≡◌, ◌⊎◌, ℕ, Bool, true, false, ◌||◌, List, [], ◌∷◌, ◌++◌, map, Option, Some, None, Ok}
 use Rattle.yaml_scan_model.specs.declared.yaml_mark_t.{yaml_mark_t}
 use Rattle.yaml_scan_model.specs.Faults.{Fault, IsMemoryFault, load_layers}
 use Rattle.yaml_parse_model.specs.Events.{Event, EventBody}
@@ -8,7 +8,16 @@ use Rattle.yaml_parse_document.specs.Documents.{Document, no_document}
 use Rattle.yaml_parse_grammar.specs.Resolve.{Told}
 use Rattle.yaml_parse_grammar.specs.Remaining.{ParserRemaining, IsFinished}
 use Rattle.yaml_parse_loader.specs.Numbering.{is_same, undefined_alias, DocumentContent, document_events, document_of}
-use Rattle.yaml_parse.specs.Loads.{told_events, left_behind, GivesDocument, GivesNoDocument}
+
+-- ---- told events
+
+abbrev pub told_events : List Told → List Event
+told_events gs = map (λ (g : Told). g.0) gs
+
+-- how many tokens are not asked for as the last of these events is given, or before it where there is none
+unfoldable pub left_behind : List Told → ℕ → ℕ
+left_behind [] n = n
+left_behind (g ∷ gs) n = left_behind gs g.1
 
 -- ---- aliases without an anchor
 
@@ -120,6 +129,20 @@ IsLoadOf gs own behind next_none = NoneNext gs × (own ≡ None)
 abbrev pub IsNextLoad : ParserRemaining → NextLoad → Type 0
 IsNextLoad c n = IsLoadOf c.events c.ending c.ending_unasked n
 
+-- a document was loaded, and what stands behind it is left
+pub record GivesDocument (left : List Told) (count : ℕ) (old new : ParserRemaining) : Type 0 where
+  pub events : new.events ≡ left
+  pub ending : new.ending ≡ old.ending
+  pub ending_unasked : new.ending_unasked ≡ old.ending_unasked
+  pub unasked : new.unasked ≡ count
+  pub answered : new.answered ≡ old.answered
+
+-- no document comes any more, and behind the last event no token is asked for
+pub record GivesNoDocument (old new : ParserRemaining) : Type 0 where
+  pub finished : IsFinished new
+  pub unasked : new.unasked ≡ left_behind old.events old.unasked
+  pub answered : new.answered ≡ old.answered
+
 -- a load answers so
 abbrev pub GivesLoad : NextLoad → Document → ParserRemaining → ParserRemaining → Type 0
 GivesLoad (next_document e left unasked) d old new = (d ≡ e) × GivesDocument left unasked old new
@@ -153,6 +176,10 @@ pub data LoadsByContent (own : Option Fault) (behind : ℕ) : List Told → Type
   refused : (gs : List Told) (f : Fault) (unasked : ℕ)
       → IsLoadOf gs own behind (next_fault f unasked) → LoadsByContent own behind gs
   ended : (gs : List Told) → IsLoadOf gs own behind next_none → LoadsByContent own behind gs
+
+-- Of what is to come of a parser each load is such a one.
+abbrev pub AreLoadsByContent : ParserRemaining → Type 0
+AreLoadsByContent c = LoadsByContent c.ending c.ending_unasked c.events
 
 -- the events of documents, and one behind them
 abbrev pub contents_events : List DocumentContent → Event → List Event

@@ -5,7 +5,7 @@ mod load;
 mod parser;
 mod step;
 
-pub use load::{loads_are_by_content, loads_as_the_events_do, yaml_parser_load};
+pub use load::{loads_are_by_content, yaml_parser_load};
 pub use parser::{
     yaml_found_t, yaml_parser_between, yaml_parser_delete, yaml_parser_initialize,
     yaml_parser_parse, yaml_parser_parse_into, yaml_parser_prefix, yaml_parser_t,

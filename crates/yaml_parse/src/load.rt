@@ -1,12 +1,9 @@
 //! Documents of a parser's events.
 
-ghost use Rattle.std.specs.Prelude.{◌≡◌, ◌≤◌, true, List, Option, IfOk, IfErr};
-ghost use Rattle.yaml_scan_model.specs.Faults.{Fault, fault_of};
-ghost use Rattle.yaml_parse_grammar.specs.Resolve.{Told};
+ghost use Rattle.std.specs.Prelude.{◌≡◌, ◌≤◌, true, IfOk, IfErr};
+ghost use Rattle.yaml_scan_model.specs.Faults.{fault_of};
 ghost use Rattle.yaml_parse_document.specs.Sizes.{IsSized};
-ghost use Rattle.yaml_parse_loader.specs.Loading.{Loading, load};
-ghost use Rattle.yaml_parse.specs.Loads.{loads, loads_of, told_events, LoadGives, LoadRefuses, LoadsSame};
-ghost use Rattle.yaml_parse.specs.NextLoad.{FrontsLoadByContent, LoadIsNext, RefusalIsNext};
+ghost use Rattle.yaml_parse.specs.NextLoad.{AreLoadsByContent, FrontsLoadByContent, LoadIsNext, RefusalIsNext};
 
 use crate::parser::{next_event, yaml_parser_t};
 use yaml_parse_document::{no_document, yaml_document_t};
@@ -23,13 +20,12 @@ pub fn yaml_parser_load<S: yaml_token_source_t>(
     parser: &mut yaml_parser_t<S>,
 ) -> Result<yaml_document_t, yaml_fault_t>
     requires { parser.old.between ≡ true }
+    // Load after load, there is a next one that content says, up to a fault or the last document.
+    ensures by_content { AreLoadsByContent parser.old }
     // What is loaded is the numbering of the content whose events come next; an alias in it without an anchor is refused, before
     // the fault behind the events.
     ensures next { IfOk result (λ d. LoadIsNext parser.old d parser.new) }
     ensures refused { IfErr result (λ f. RefusalIsNext parser.old (fault_of f) parser.new) }
-    // The same by the loader's steps.
-    ensures ok { IfOk result (λ d. LoadGives (loads_of parser.old) d parser.old parser.new) }
-    ensures err { IfErr result (λ f. LoadRefuses (fault_of f) parser.old parser.new) }
     ensures between { parser.new.between ≡ true }
     // No list of a document (its nodes, the items of a sequence, the pairs of a mapping) has more than 2,147,483,647 entries.
     ensures sized { IfOk result (λ d. IsSized d) }
@@ -53,12 +49,6 @@ pub fn yaml_parser_load<S: yaml_token_source_t>(
         }
     }
 }
-
-/// A law: what a parser's events to come load is what the events load by themselves.
-pub fn loads_as_the_events_do()
-    ensures { (gs : List Told) (f : Option Fault) (l : Loading)
-        → LoadsSame f (load (told_events gs) l) (loads gs f l) }
-{}
 
 /// A law: of every front of a stream of documents each load is one that content says, load after load, up to a fault or the
 /// last document.

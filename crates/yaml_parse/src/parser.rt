@@ -21,6 +21,7 @@ ghost use Rattle.yaml_parse.specs.Fronts.{BeginsTree};
 ghost use Rattle.yaml_parse.specs.Finds.{NextOf, Finds, IsUtf8Found, IsStackFound};
 ghost use Rattle.yaml_parse.specs.Steps.{Turns, IsUtf8Turn, IsStackTurn};
 ghost use Rattle.yaml_parse.specs.Turned.{turned};
+ghost use Rattle.yaml_parse.specs.NextLoad.{AreLoadsByContent};
 ghost use Rattle.yaml_parse_grammar.specs.Stacks.{parts_documents_behind};
 
 use crate::step::{Step, StepBuffers, take_turn};
@@ -90,7 +91,10 @@ impl<S: yaml_token_source_t> yaml_parser_t<S> {
 
 impl<S: yaml_token_source_t> yaml_parser_t<S> {
     /// The allocator that the parser keeps.
-    pub(crate) fn allocator(&self) -> Global {
+    pub(crate) fn allocator(&self) -> Global
+        // Between documents, whole ones are to come, and a front of one.
+        ensures { self.now.between ≡ true → AreLoadsByContent self.now }
+    {
         self.buffers.alloc
     }
 

@@ -7,7 +7,7 @@ use Rattle.yaml_parse_laws_faults.specs.grammar.States.{State}
 use Rattle.yaml_parse_laws_faults.specs.grammar.States as state
 use Rattle.yaml_parse_laws_faults.specs.grammar.Trees.{Stream, spell}
 use Rattle.yaml_parse_laws_faults.specs.grammar.Machine.{Fed, stop, go, feed, Outcome, finished, carry, run, initial}
-use Rattle.yaml_parse_laws_faults.specs.grammar.Resolve.{Directives, no_directives, reading}
+use Rattle.yaml_parse_laws_faults.specs.grammar.Resolve.{Directives, no_directives, Reading, reading}
 use Rattle.yaml_parse_laws_faults.specs.grammar.Remaining.{reading_of}
 use Rattle.yaml_parse_laws_faults.proofs.grammar.CompleteStream.{nothing_runs}
 use Rattle.yaml_parse_laws_faults.specs.LookBack.{followed_by}
@@ -22,7 +22,8 @@ use Rattle.yaml_parse_laws_faults.proofs.Clean.{Clean, Unfinished, FirstAt, no_f
 use Rattle.yaml_parse_laws_faults.proofs.Ending.{At, at_start, step_at, Found, found_handle, found_token, found_first, stopped, taken_goes, taken_on, taken_at, sentence_tree, runs_fed, runs_out, ends_in_fault}
 use Rattle.yaml_parse_loader.specs.Loading.{Loading, nothing_loaded}
 use Rattle.yaml_parse_laws_loading.specs.Aliases.{alias_fault}
-use Rattle.yaml_parse_laws_loading.specs.Faults.{IsFirstIn, IsLoadable, FaultOfLoading, fault_of_loads}
+use Rattle.yaml_parse_laws_loading.specs.Faults.{IsFirstIn, IsLoadable, FaultOfLoading}
+use Rattle.yaml_parse_laws_loading.proofs.Ends.{fault_of_loads, faults_alike}
 use Rattle.yaml_parse_laws_loading.specs.Laws.{LoadsEndInFault, FaultEndsLoads, loads_end}
 use Rattle.yaml_parse_laws_loading.proofs.Placing.{Anchored, loadable, parser_first, alias_first}
 use Rattle.yaml_parse_laws_loading.proofs.Unique.{one_load_fault}
@@ -195,8 +196,13 @@ loads (t ∷ ts) past x s ds l f a n h =
     loads_same (followed_by past (t ∷ ts)) f _ _ (ap (λ (o : Outcome). ends_in (reading_of o ds) l) (runs_fed (x ∷ s) t ts f (feed (x ∷ s) t) refl))
     (stepped x s past ds l t ts f (feed (x ∷ s) t) (handle_fault past t.body) a n refl refl (step_at x s past ds t a) (loads_at x s past ds l t a h) (λ y z ds' m b c k. loads ts (t ∷ past) y z ds' m f b c k))
 
+pub steps_end_in_fault : (ts : List Token) (own : Option Fault) → FaultOfLoading ts own (ends_in (reading_of (run ts initial own) no_directives) nothing_loaded)
+steps_end_in_fault ts own = loads ts [] state.stream [] no_directives nothing_loaded own at_start tt (λ name. refl)
+
 pub loads_end_in_fault : LoadsEndInFault
-loads_end_in_fault ts own = loads ts [] state.stream [] no_directives nothing_loaded own at_start tt (λ name. refl)
+loads_end_in_fault ts own =
+    let r : Reading = reading_of (run ts initial own) no_directives in
+    loads_same ts own (ends_in r nothing_loaded) (loads_end r) (faults_alike r.events r.ending nothing_loaded) (steps_end_in_fault ts own)
 
 pub fault_ends_loads : FaultEndsLoads
 fault_ends_loads ts own fault h = one_load_fault ts own (loads_end (reading_of (run ts initial own) no_directives)) fault (loads_end_in_fault ts own) h

@@ -7,7 +7,7 @@ use Rattle.yaml_parse_laws_faults.specs.grammar.Trees.{Given}
 use Rattle.yaml_parse_laws_faults.specs.grammar.Resolve.{Directives, Settled, gave, noted, settle, placed, Reading, reading, read_on}
 use Rattle.yaml_parse_laws_faults.specs.grammar.Resolve as resolve
 use Rattle.yaml_parse_loader.specs.Loading.{Loading, LoadStep, goes_on, loaded, refused, nothing_loaded, step}
-use Rattle.yaml_parse_laws_loading.specs.Faults.{unless_rootless, fault_on, fault_of_loads}
+use Rattle.yaml_parse_laws_loading.proofs.Ends.{unless_rootless, fault_on, fault_of_loads}
 
 -- loads end with that, or they go on
 pub data Fared : Type 0 where

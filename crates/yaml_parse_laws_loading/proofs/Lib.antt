@@ -1,5 +1,6 @@
 mod Placing
 pub mod Unique
+mod Ends
 mod Faring
 mod Fitting
 mod Taking

@@ -12,18 +12,19 @@ use Rattle.yaml_parse_laws_faults.specs.grammar.Remaining.{reading_of}
 use Rattle.yaml_parse_laws_faults.specs.Rows.{FaultRow, column}
 use Rattle.yaml_parse_loader.specs.Numbering.{undefined_alias}
 use Rattle.yaml_parse_loader.specs.Loading.{Loading, nothing_loaded, attach, aliased}
-use Rattle.yaml_parse_laws_loading.specs.Faults.{FaultOfLoading, fault_on, fault_of_loads}
-use Rattle.yaml_parse_laws_loading.specs.Laws.{loads_end}
+use Rattle.yaml_parse_laws_loading.specs.Faults.{FaultOfLoading}
 use Rattle.yaml_parse_laws_loading.specs.Rows.{alias_rows, parser_rows, right_rows, AllHold, RowsHold}
-use Rattle.yaml_parse_laws_loading.proofs.Ending.{loads_end_in_fault}
+use Rattle.yaml_parse_laws_loading.proofs.Ends.{fault_on, fault_of_loads}
+use Rattle.yaml_parse_laws_loading.proofs.Faring.{ends_in}
+use Rattle.yaml_parse_laws_loading.proofs.Ending.{steps_end_in_fault}
 
 abbrev AllLoad : List FaultRow → Type 0
 AllLoad [] = Unit {0}
-AllLoad (r ∷ rs) = (loads_end (reading_of (run r.tokens initial r.own) no_directives) ≡ r.fault) × AllLoad rs
+AllLoad (r ∷ rs) = (ends_in (reading_of (run r.tokens initial r.own) no_directives) nothing_loaded ≡ r.fault) × AllLoad rs
 
 all_hold : (rs : List FaultRow) → AllLoad rs → AllHold rs
 all_hold [] h = tt
-all_hold (r ∷ rs) h = (subst (λ (z : Option Fault). FaultOfLoading r.tokens r.own z) h.0 (loads_end_in_fault r.tokens r.own), all_hold rs h.1)
+all_hold (r ∷ rs) h = (subst (λ (z : Option Fault). FaultOfLoading r.tokens r.own z) h.0 (steps_end_in_fault r.tokens r.own), all_hold rs h.1)
 
 unknown : map.get nothing_loaded.anchors (codes "b") ≡ None
 unknown = map.get-empty (slice_cmp nat_cmp) (codes "b")

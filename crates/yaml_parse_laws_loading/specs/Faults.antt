@@ -3,11 +3,8 @@ use Rattle.std.specs.Prelude.{◌≡◌, ◌⊎◌, ℕ, ◌<◌, List, [], ◌�
 use Rattle.yaml_parse_laws_faults.specs.grammar.parse_model.Tokens.{Token}
 use Rattle.yaml_parse_laws_faults.specs.grammar.parse_model.Faults.{Fault}
 use Rattle.yaml_parse_laws_faults.specs.grammar.Trees.{spell}
-use Rattle.yaml_parse_laws_faults.specs.grammar.Resolve.{Told}
 use Rattle.yaml_parse_laws_faults.specs.LookBack.{followed_by}
 use Rattle.yaml_parse_laws_faults.specs.Places.{Rank, RanksBefore, FaultAt, BeginsWithSentence, with_end}
-use Rattle.yaml_parse_loader.specs.Loading.{Loading, LoadStep, goes_on, loaded, refused, nothing_loaded, step}
-use Rattle.yaml_parse_laws_faults.specs.grammar.parse_model.Nodes.{Node}
 use Rattle.yaml_parse_laws_loading.specs.Aliases.{alias_fault}
 
 -- ---- places
@@ -83,20 +80,3 @@ pub record LoadsUnfinished (ts : List Token) (own : Option Fault) (e : Fault) : 
 abbrev pub FaultOfLoading : List Token → Option Fault → Option Fault → Type 0
 FaultOfLoading ts own None = LoadsSentence ts None
 FaultOfLoading ts own (Some e) = LoadsSentence ts (Some e) ⊎ LoadsUnfinished ts own e
-
--- ---- what loads end in
-
--- a document without a root ends them
-abbrev pub unless_rootless : List Node → Option Fault → Option Fault
-unless_rootless [] f = None
-unless_rootless (n ∷ ns) f = f
-
-abbrev pub fault_on : LoadStep → (Loading → Option Fault) → Option Fault
-fault_on (goes_on l) rest = rest l
-fault_on (loaded d) rest = unless_rootless d.nodes (rest nothing_loaded)
-fault_on (refused f) rest = Some f
-
--- The fault that loads end in, one document after another: of events with a fault behind them, from a document in the making on.
-unfoldable pub fault_of_loads : List Told → Option Fault → Loading → Option Fault
-fault_of_loads [] f l = f
-fault_of_loads (g ∷ gs) f l = fault_on (step g.0 l) (fault_of_loads gs f)

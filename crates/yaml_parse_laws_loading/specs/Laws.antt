@@ -6,11 +6,12 @@ use Rattle.yaml_parse_laws_faults.specs.grammar.Machine.{run, initial}
 use Rattle.yaml_parse_laws_faults.specs.grammar.Resolve.{no_directives, Reading}
 use Rattle.yaml_parse_laws_faults.specs.grammar.Remaining.{reading_of}
 use Rattle.yaml_parse_loader.specs.Loading.{nothing_loaded}
-use Rattle.yaml_parse_laws_loading.specs.Faults.{FaultOfLoading, fault_of_loads}
+use Rattle.yaml_parse_laws_loading.specs.AllLoads.{load_all}
+use Rattle.yaml_parse_laws_loading.specs.Faults.{FaultOfLoading}
 
 -- what all loads of a reading end in
 abbrev pub loads_end : Reading → Option Fault
-loads_end r = fault_of_loads r.events r.ending nothing_loaded
+loads_end r = (load_all r.events r.ending nothing_loaded).fault
 
 -- A list has one such fault at most.
 abbrev pub LoadFaultIsOne : Type 0

@@ -1,5 +1,6 @@
 pub mod Aliases
 pub mod Faults
+pub mod AllLoads
 pub mod Laws
 pub mod Rows
 -- what it stands on, for crates of laws that name this one alone

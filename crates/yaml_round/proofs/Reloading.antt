@@ -11,7 +11,9 @@ use Rattle.yaml_parse.specs.Documents.{Document}
 use Rattle.yaml_parse.specs.Resolve.{Told}
 use Rattle.yaml_parse.specs.Remaining.{ParserRemaining}
 use Rattle.yaml_parse.specs.Loading.{Loading, LoadStep, goes_on, loaded, refused, nothing_loaded, step}
-use Rattle.yaml_parse.specs.Loads as parse
+use Rattle.yaml_parse.specs.NextLoad.{AreLoadsByContent, LoadIsNext, RefusalIsNext}
+use Rattle.yaml_parse.proofs.ByStep as parse
+use Rattle.yaml_parse.proofs.NextLoads.{load_gives, load_refuses}
 use Rattle.yaml_emit.specs.Content.{Event, alias_node, scalar_node, sequence_node, mapping_node, Nodes, no_nodes, node, Pairs, no_pairs, pair, document_start, document_end, sequence_end, mapping_end, stream_start, stream_end, node_events, items_events, pairs_events, documents_events}
 use Rattle.yaml_emit.specs.Content as content
 use Rattle.yaml_emit.specs.emit_graph.Graph.{graph_content, dumped}
@@ -111,8 +113,8 @@ loaded_some (parse.document e left n) old new d is g h small =
 loaded_some parse.nothing old new d is g h small = absurd (let k = ap (λ (z : Document). length z.nodes) g.0 in omega (arith, h, k))
 loaded_some (parse.faulty f) old new d is g h small = absurd g
 
-pub loaded_document : (old new : ParserRemaining) (d e : Document) (count : ℕ) → parse.LoadGives (parse.loads_of old) d old new → count ≡ length d.nodes → count < 2 ^ 64 → count ≢ 0 → e ≡ with_implicit_end d → LoadsDocument e old new
-loaded_document old new d e count g c small h w = rw w (loaded_some (parse.loads_of old) old new d refl g (omega (arith, c, h)) (subst (λ (n : ℕ). n < 2 ^ 64) c small))
+pub loaded_document : (old new : ParserRemaining) (d e : Document) (count : ℕ) → AreLoadsByContent old → LoadIsNext old d new → count ≡ length d.nodes → count < 2 ^ 64 → count ≢ 0 → e ≡ with_implicit_end d → LoadsDocument e old new
+loaded_document old new d e count k g c small h w = rw w (loaded_some (parse.loads_of old) old new d refl (load_gives old new d k g) (omega (arith, c, h)) (subst (λ (n : ℕ). n < 2 ^ 64) c small))
 
 loaded_none : (r : parse.Loads) (old new : ParserRemaining) (d : Document) → parse.loads_of old ≡ r → parse.LoadGives r d old new → length d.nodes ≡ 0 → to_load old ≡ no_more None
 loaded_none (parse.document e left n) old new d is g h =
@@ -122,11 +124,11 @@ loaded_none (parse.document e left n) old new d is g h =
 loaded_none parse.nothing old new d is g h = ap to_write (nothing_next old.events old.ending nothing_loaded is)
 loaded_none (parse.faulty f) old new d is g h = absurd g
 
-pub loaded_last : (old new : ParserRemaining) (d : Document) (count : ℕ) → parse.LoadGives (parse.loads_of old) d old new → count ≡ length d.nodes → count ≡ 0 → to_load old ≡ no_more None
-loaded_last old new d count g c h = loaded_none (parse.loads_of old) old new d refl g (sym c ∙ h)
+pub loaded_last : (old new : ParserRemaining) (d : Document) (count : ℕ) → AreLoadsByContent old → LoadIsNext old d new → count ≡ length d.nodes → count ≡ 0 → to_load old ≡ no_more None
+loaded_last old new d count k g c h = loaded_none (parse.loads_of old) old new d refl (load_gives old new d k g) (sym c ∙ h)
 
-pub load_refused : (old new : ParserRemaining) (f : yaml_fault_t) → parse.LoadRefuses (fault_of f) old new → IsMemoryFault load_layers (fault_of f) ⊎ (to_load old ≡ no_more (Some (fault_of f)))
-load_refused old new f r = elim r.reason [ inl m ↦ inl m | inr k ↦ inr (ap to_write (faulty_next old.events old.ending nothing_loaded (fault_of f) k)) ]
+pub load_refused : (old new : ParserRemaining) (f : yaml_fault_t) → AreLoadsByContent old → RefusalIsNext old (fault_of f) new → IsMemoryFault load_layers (fault_of f) ⊎ (to_load old ≡ no_more (Some (fault_of f)))
+load_refused old new f h k = elim (load_refuses old new (fault_of f) h k).reason [ inl m ↦ inl m | inr k ↦ inr (ap to_write (faulty_next old.events old.ending nothing_loaded (fault_of f) k)) ]
 
 -- ---- all documents
 

@@ -1,42 +1,15 @@
--- The documents of events, loaded one after another.
-use Rattle.std.specs.Prelude.{ℕ, true, List, [], ◌∷◌, Option, Some, None}
+-- The documents of an input, loaded one after another.
+use Rattle.std.specs.Prelude.{ℕ, true, List}
 use Rattle.yaml_round_laws_streams.specs.emit_laws_streams.scan.declared.yaml_encoding_t.{yaml_encoding_t}
-use Rattle.yaml_round_laws_streams.specs.emit_laws_streams.scan.Faults.{Fault}
-use Rattle.yaml_round_laws_streams.specs.emit_laws_streams.parse.Nodes.{Node}
 use Rattle.yaml_round_laws_streams.specs.emit_laws_streams.parse.Documents.{Document}
-use Rattle.yaml_round_laws_streams.specs.emit_laws_streams.parse.Resolve.{Told}
-use Rattle.yaml_round_laws_streams.specs.emit_laws_streams.parse.Loading.{Loading, LoadStep, goes_on, loaded, refused, nothing_loaded, step}
+use Rattle.yaml_round_laws_streams.specs.emit_laws_streams.parse.Loading.{nothing_loaded}
+pub use Rattle.yaml_parse_laws_loading.specs.AllLoads.{Loads, no_more, in_front, load_on}
+unfoldable pub use Rattle.yaml_parse_laws_loading.specs.AllLoads.{load_all}
 use Rattle.yaml_round_content.specs.Input.{events_of, ending_of}
-
--- documents in order, and the fault that ends them
-pub record Loads : Type 0 where
-  pub documents : List Document
-  pub fault : Option Fault
-
-abbrev pub no_more : Option Fault → Loads
-no_more f = record { documents = []; fault = f }
 
 -- a document as it is written: its end is implicit
 abbrev pub with_implicit_end : Document → Document
 with_implicit_end d = record d { end_implicit = true }
-
--- A document in front of the others. One without a root would end them.
-abbrev pub in_front : List Node → Document → Loads → Loads
-in_front [] d rest = no_more None
-in_front (n ∷ ns) d rest = record {
-  documents = d ∷ rest.documents;
-  fault = rest.fault;
-}
-
-abbrev pub load_on : LoadStep → (Loading → Loads) → Loads
-load_on (goes_on l) rest = rest l
-load_on (loaded d) rest = in_front d.nodes d (rest nothing_loaded)
-load_on (refused f) rest = no_more (Some f)
-
--- the documents of events with a fault behind them, from a document in the making on
-unfoldable pub load_all : List Told → Option Fault → Loading → Loads
-load_all [] f l = no_more f
-load_all (g ∷ gs) f l = load_on (step g.0 l) (load_all gs f)
 
 -- those of an input
 abbrev pub loads_of : yaml_encoding_t → List ℕ → Loads

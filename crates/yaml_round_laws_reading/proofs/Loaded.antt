@@ -1,18 +1,17 @@
 -- What an input loads is its plain loading.
-use Rattle.std.proofs.Common.{◌≡◌, ℕ, List, [], ◌∷◌, Option, Some, None, Result, Ok, Err, refl, ap, sym, subst, ◌∙◌}
+use Rattle.std.proofs.Common.{◌≡◌, ℕ, List, Option, Some, None, Ok, Err, ap, sym, subst, ◌∙◌}
 use Rattle.yaml_round_content.specs.round_laws.emit_laws_streams.parse.parse_laws_faults.grammar.parse_model.declared.yaml_encoding_t.{yaml_encoding_t}
 use Rattle.yaml_round_content.specs.round_laws.emit_laws_streams.parse.parse_laws_faults.grammar.parse_model.Tokens.{Token}
 use Rattle.yaml_round_content.specs.round_laws.emit_laws_streams.parse.parse_laws_faults.grammar.parse_model.Faults.{Fault}
-use Rattle.yaml_round_content.specs.round_laws.emit_laws_streams.parse.parse_laws_faults.grammar.parse_model.Nodes.{Node}
-use Rattle.yaml_round_content.specs.round_laws.emit_laws_streams.parse.parse_laws_faults.grammar.Resolve.{Reading, Told}
+use Rattle.yaml_round_content.specs.round_laws.emit_laws_streams.parse.parse_laws_faults.grammar.Resolve.{Reading}
 use Rattle.yaml_round_content.specs.round_laws.emit_laws_streams.parse.parse_laws_faults.Places.{BeginsWithSentence}
 use Rattle.yaml_round_content.specs.round_laws.emit_laws_streams.parse.Documents.{Document}
-use Rattle.yaml_round_content.specs.round_laws.emit_laws_streams.parse.Loading.{Loading, LoadStep, goes_on, loaded, refused, nothing_loaded, step}
-use Rattle.yaml_parse_laws_loading.specs.Faults.{LoadsSentence, FaultOfLoading, unless_rootless, fault_on, fault_of_loads}
+use Rattle.yaml_round_content.specs.round_laws.emit_laws_streams.parse.Loading.{nothing_loaded}
+use Rattle.yaml_parse_laws_loading.specs.Faults.{LoadsSentence, FaultOfLoading}
 use Rattle.yaml_parse_laws_loading.proofs.Unique.{one_load_fault}
 use Rattle.yaml_parse_laws_loading.proofs.Ending.{loads_end_in_fault}
 use Rattle.yaml_round_content.specs.Input.{tokens_of}
-use Rattle.yaml_round_content.specs.Loads.{Loads, in_front, load_on, load_all, loads_of}
+use Rattle.yaml_round_content.specs.Loads.{Loads, load_all, loads_of}
 use Rattle.yaml_round_laws_reading.specs.TreeDocuments.{tree_documents, numbered}
 use Rattle.yaml_round_laws_reading.specs.Loading.{read_of}
 use Rattle.yaml_round_laws_reading.specs.PlainLoading.{HaveDocuments, TokensLoad, unless_faulty, result_of, SourcesLoad, SourceLoadingIsOne, InputsLoad, LoadingIsOne, LoadingIsLoads, FaultlessLoad, FaultyLoad}
@@ -20,30 +19,13 @@ use Rattle.yaml_round_laws_reading.proofs.Joining.{read_is}
 use Rattle.yaml_round_laws_reading.proofs.Numbered.{loads_numbered}
 use Rattle.yaml_parse_loader.proofs.Loads.{loads_document}
 
--- ---- the fault that ends loads
-
-in_front_alike : (ns : List Node) (d : Document) (rest : Loads) (f : Option Fault) → rest.fault ≡ f → (in_front ns d rest).fault ≡ unless_rootless ns f
-in_front_alike [] d rest f h = refl
-in_front_alike (n ∷ ns) d rest f h = h
-
-on_alike : (c : LoadStep) (p : Loading → Loads) (q : Loading → Option Fault) → ((l : Loading) → (p l).fault ≡ q l) → (load_on c p).fault ≡ fault_on c q
-on_alike (goes_on l) p q h = h l
-on_alike (loaded d) p q h = in_front_alike d.nodes d (p nothing_loaded) (q nothing_loaded) (h nothing_loaded)
-on_alike (refused f) p q h = refl
-
-faults_alike : (gs : List Told) (f : Option Fault) (l : Loading) → (load_all gs f l).fault ≡ fault_of_loads gs f l
-unfolding load_all fault_of_loads
-faults_alike [] f l = refl
-faults_alike (g ∷ gs) f l = on_alike (step g.0 l) (load_all gs f) (fault_of_loads gs f) (λ m. faults_alike gs f m)
-
 -- ---- tokens
 
 abbrev loads_in : Reading → Loads
 loads_in r = load_all r.events r.ending nothing_loaded
 
 ends_in_fault : (ts : List Token) (own : Option Fault) → FaultOfLoading ts own (loads_in (read_of ts own)).fault
-ends_in_fault ts own =
-    subst (λ (o : Option Fault). FaultOfLoading ts own o) (sym (faults_alike (read_of ts own).events (read_of ts own).ending nothing_loaded)) (loads_end_in_fault ts own)
+ends_in_fault ts own = loads_end_in_fault ts own
 
 numbered_documents : (ts : List Token) (own : Option Fault) (b : BeginsWithSentence ts) → (loads_in (read_of ts own)).documents ≡ (numbered (tree_documents b.tree b.rest)).documents
 numbered_documents ts own b = ap (λ (l : Loads). l.documents) (loads_numbered loads_document ts own b)

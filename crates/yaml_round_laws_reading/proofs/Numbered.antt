@@ -12,11 +12,13 @@ use Rattle.yaml_round_content.specs.round_laws.emit_laws_streams.parse.Documents
 use Rattle.yaml_round_content.specs.round_laws.emit_laws_streams.parse.Numbering.{DocumentContent, document_events, document_of}
 use Rattle.yaml_round_content.specs.round_laws.emit_laws_streams.parse.Loading.{Loading, LoadStep, goes_on, loaded, refused, nothing_loaded, step, turn, load, behind}
 use Rattle.yaml_round_content.specs.round_laws.emit_laws_streams.parse.Loading as loading
-use Rattle.yaml_round_content.specs.round_laws.emit_laws_streams.parse.Loads as parse
+use Rattle.yaml_round_content.specs.round_laws.emit_laws_streams.parse.NextLoad.{NextLoad, next_document, next_fault, next_none}
+use Rattle.yaml_round_content.proofs.round_laws.emit_laws_streams.parse.ByStep as parse
+use Rattle.yaml_round_content.proofs.round_laws.emit_laws_streams.parse.NextLoads.{IsOf, load_is}
 use Rattle.yaml_round_content.specs.Input.{tokens_of}
 use Rattle.yaml_round_content.specs.Loads.{Loads, no_more, in_front, load_on, load_all}
 use Rattle.yaml_round_laws_reading.specs.TreeDocuments.{tree_documents, numbered_one, numbered}
-use Rattle.yaml_round_laws_reading.specs.Loading.{placed_events, tree_events, events_told, read_of, end_of, EventsArePlaced, LoadsAreNumbered, InputsAreNumbered, by_first, LoadsAreOneByOne}
+use Rattle.yaml_round_laws_reading.specs.Loading.{placed_events, tree_events, events_told, read_of, end_of, EventsArePlaced, LoadsAreNumbered, InputsAreNumbered, by_next, LoadsAreOneByOne}
 use Rattle.yaml_round_laws_reading.proofs.Joining.{tree_read, read_is}
 use Rattle.yaml_round_laws_reading.proofs.Placed.{tree_reads}
 
@@ -105,6 +107,11 @@ inputs_numbered loads from input b =
 
 -- ---- one load after another
 
+abbrev by_first : parse.Loads → Option Fault → Loads
+by_first (parse.document d left unasked) f = in_front d.nodes d (load_all left f nothing_loaded)
+by_first (parse.faulty e) f = no_more (Some e)
+by_first parse.nothing f = no_more None
+
 at_end : (f : Option Fault) → no_more f ≡ by_first (parse.behind_all f) f
 at_end None = refl
 at_end (Some e) = refl
@@ -119,5 +126,10 @@ unfolding load_all parse.loads
 one_more [] f l = at_end f
 one_more (g ∷ gs) f l = first_on (step g.0 l) gs f g.1 (λ m. one_more gs f m)
 
+as_next : (n : NextLoad) (r : parse.Loads) (u : ℕ) (f : Option Fault) → IsOf n r u → by_first r f ≡ by_next n f
+as_next (next_document e left count) r u f h = ap (λ (x : parse.Loads). by_first x f) h
+as_next (next_fault e count) r u f h = ap (λ (x : parse.Loads). by_first x f) h.0
+as_next next_none r u f h = ap (λ (x : parse.Loads). by_first x f) h
+
 pub one_by_one : LoadsAreOneByOne
-one_by_one = one_more
+one_by_one gs f unasked n h = one_more gs f nothing_loaded ∙ as_next n _ _ f (load_is gs f unasked n h)

@@ -10,8 +10,8 @@ use Rattle.yaml_round_content.specs.round_laws.emit_laws_streams.parse.parse_law
 use Rattle.yaml_round_content.specs.round_laws.emit_laws_streams.parse.parse_laws_faults.grammar.Resolve.{Reading, Told, no_directives}
 use Rattle.yaml_round_content.specs.round_laws.emit_laws_streams.parse.parse_laws_faults.grammar.Remaining.{reading_of}
 use Rattle.yaml_round_content.specs.round_laws.emit_laws_streams.parse.parse_laws_faults.Places.{BeginsWithSentence}
-use Rattle.yaml_round_content.specs.round_laws.emit_laws_streams.parse.Loading.{Loading, nothing_loaded}
-use Rattle.yaml_round_content.specs.round_laws.emit_laws_streams.parse.Loads as parse
+use Rattle.yaml_round_content.specs.round_laws.emit_laws_streams.parse.Loading.{nothing_loaded}
+use Rattle.yaml_round_content.specs.round_laws.emit_laws_streams.parse.NextLoad.{NextLoad, next_document, next_fault, next_none, IsLoadOf}
 use Rattle.yaml_round_content.specs.round_laws.emit_laws_streams.parse.Numbering.{DocumentContent, spanning, document_events}
 use Rattle.yaml_round_content.specs.Input.{tokens_of}
 use Rattle.yaml_round_content.specs.Loads.{Loads, no_more, in_front, load_all, loads_of}
@@ -58,13 +58,13 @@ InputsAreNumbered = (from : yaml_encoding_t) (input : List ℕ)
 
 -- ---- one load after another
 
--- What is loaded in all, by what the first load gives: its document in front of the others, its fault, or nothing.
-abbrev pub by_first : parse.Loads → Option Fault → Loads
-by_first (parse.document d left unasked) f = in_front d.nodes d (load_all left f nothing_loaded)
-by_first (parse.faulty e) f = no_more (Some e)
-by_first parse.nothing f = no_more None
+-- What is loaded in all, by what the next load gives: its document in front of the others, its fault, or nothing.
+abbrev pub by_next : NextLoad → Option Fault → Loads
+by_next (next_document d left unasked) f = in_front d.nodes d (load_all left f nothing_loaded)
+by_next (next_fault e unasked) f = no_more (Some e)
+by_next next_none f = no_more None
 
--- The documents of events are those that loads give, one after another.
+-- The documents of events are those that loads give, one after another, each the one that content says.
 abbrev pub LoadsAreOneByOne : Type 0
-LoadsAreOneByOne = (gs : List Told) (f : Option Fault) (l : Loading)
-    → load_all gs f l ≡ by_first (parse.loads gs f l) f
+LoadsAreOneByOne = (gs : List Told) (f : Option Fault) (unasked : ℕ) (n : NextLoad)
+    → IsLoadOf gs f unasked n → load_all gs f nothing_loaded ≡ by_next n f

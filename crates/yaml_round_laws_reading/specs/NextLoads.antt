@@ -2,11 +2,11 @@
 use Rattle.std.specs.Prelude.{ℕ, List, Option}
 use Rattle.yaml_round_content.specs.round_laws.emit_laws_streams.parse.parse_laws_faults.grammar.parse_model.Tokens.{Token}
 use Rattle.yaml_round_content.specs.round_laws.emit_laws_streams.parse.parse_laws_faults.grammar.parse_model.Faults.{Fault}
-use Rattle.yaml_round_content.specs.round_laws.emit_laws_streams.parse.parse_laws_faults.Places.{BeginsWithSentence}
 use Rattle.yaml_round_content.specs.round_laws.emit_laws_streams.parse.NextLoad.{LoadsByContent}
 use Rattle.yaml_round_laws_reading.specs.Loading.{read_of}
 
--- Where a source's tokens begin with a sentence, each load of its events, one after another, is one that content says.
-abbrev pub SentencesLoadByContent : Type 0
-SentencesLoadByContent = (ts : List Token) (own : Option Fault) (count : ℕ) → BeginsWithSentence ts
+-- Of each source, whether or not its tokens begin with a sentence, each load of its events, one after another, is one that
+-- content says.
+abbrev pub SourcesLoadByContent : Type 0
+SourcesLoadByContent = (ts : List Token) (own : Option Fault) (count : ℕ)
     → LoadsByContent (read_of ts own).ending count (read_of ts own).events

@@ -4,7 +4,7 @@
 #![tactic(auto)]
 
 ghost use Rattle.yaml_round_laws_reading.specs.Loading.{EventsArePlaced, InputsAreNumbered, LoadsAreNumbered, LoadsAreOneByOne};
-ghost use Rattle.yaml_round_laws_reading.specs.NextLoads.{SentencesLoadByContent};
+ghost use Rattle.yaml_round_laws_reading.specs.NextLoads.{SourcesLoadByContent};
 ghost use Rattle.yaml_round_laws_reading.specs.PlainLoading.{FaultlessLoad, FaultyLoad, InputsLoad, LoadingIsLoads, LoadingIsOne, SourceLoadingIsOne, SourcesLoad};
 ghost use Rattle.yaml_round_laws_reading.specs.Reading.{EventsAreOfTree, InputsRead, ReadIsRefused, ReadIsSaid, ReadingIsOne, RefusedIsRead, SaidIsRead};
 ghost use Rattle.yaml_round_laws_reading.specs.Rows.{RowsHold};
@@ -73,15 +73,15 @@ pub fn inputs_are_numbered()
     loads_documents();
 }
 
-/// The documents of events are those that `yaml_parser_load` gives, one after another.
+/// The documents of events are those that `yaml_parser_load` gives, one after another, as content says each.
 pub fn loads_are_one_by_one()
     ensures { LoadsAreOneByOne }
 {}
 
-/// Of every source: each load of tokens that begin with a sentence, one after another, is one that content says, as the contract
-/// of `yaml_parser_load` does.
-pub fn sentences_load_by_content()
-    ensures { SentencesLoadByContent }
+/// Of every source: each load of its tokens, one after another, is one that content says, as the contract of `yaml_parser_load`
+/// does.
+pub fn sources_load_by_content()
+    ensures { SourcesLoadByContent }
 {}
 
 /// Of every source: what its tokens load is the documents of their tree, numbered, where they begin with a

@@ -6,4 +6,4 @@ pub returns : goal.returns
 returns c =
     first_answers c.args.encoding c.args.input.now c.new.result c.in_ok-parser.parser _ c.yaml_parser_load-answer.result
     c.new.ensures c.in_ok-parser.ensures.events c.in_ok-parser.ensures.fault
-    c.yaml_parser_load-answer.ensures.ok c.yaml_parser_load-answer.ensures.err
+    c.yaml_parser_load-answer.ensures.by_content c.yaml_parser_load-answer.ensures.next c.yaml_parser_load-answer.ensures.refused

@@ -1,12 +1,12 @@
--- What a load gives of the events to come.
-use Rattle.std.specs.Prelude.{◌≡◌, ◌⊎◌, ℕ, List, [], ◌∷◌, map, Option, Some, None}
+-- What a load gives, by the loader's steps: how it is proved.
+use Rattle.std.proofs.Common.{◌≡◌, ◌⊎◌, ℕ, List, [], ◌∷◌, Option, Some, None}
 use Rattle.yaml_scan_model.specs.Faults.{Fault, IsMemoryFault, load_layers}
-use Rattle.yaml_parse_model.specs.Events.{Event}
 use Rattle.yaml_parse_document.specs.Documents.{Document, no_document}
 use Rattle.yaml_parse_grammar.specs.Resolve.{Told}
 use Rattle.yaml_parse_grammar.specs.Remaining.{ParserRemaining, IsFinished}
 use Rattle.yaml_parse_loader.specs.Loading.{Loading, LoadStep, goes_on, loaded, refused, nothing_loaded, step, Loaded}
 use Rattle.yaml_parse_loader.specs.Loading as loading
+use Rattle.yaml_parse.specs.NextLoad.{told_events, left_behind, GivesDocument, GivesNoDocument}
 
 -- What events come to that a loader is fed, and the fault behind them: the document that ends first, the events that are
 -- left and the number of tokens that are not asked for then; or the fault that comes first; or neither.
@@ -46,25 +46,6 @@ loads_of c = loads c.events c.ending nothing_loaded
 abbrev pub unasked_of : ParserRemaining → ℕ
 unasked_of c = unasked_at_refusal c.events c.ending_unasked nothing_loaded
 
--- how many tokens are not asked for as the last of these events is given, or before it where there is none
-unfoldable pub left_behind : List Told → ℕ → ℕ
-left_behind [] n = n
-left_behind (g ∷ gs) n = left_behind gs g.1
-
--- a document was loaded, and what stands behind it is left
-pub record GivesDocument (left : List Told) (count : ℕ) (old new : ParserRemaining) : Type 0 where
-  pub events : new.events ≡ left
-  pub ending : new.ending ≡ old.ending
-  pub ending_unasked : new.ending_unasked ≡ old.ending_unasked
-  pub unasked : new.unasked ≡ count
-  pub answered : new.answered ≡ old.answered
-
--- no document comes any more, and behind the last event no token is asked for
-pub record GivesNoDocument (old new : ParserRemaining) : Type 0 where
-  pub finished : IsFinished new
-  pub unasked : new.unasked ≡ left_behind old.events old.unasked
-  pub answered : new.answered ≡ old.answered
-
 -- a load gives the next document with what is left, or the document without nodes where no document comes any more
 abbrev pub LoadGives : Loads → Document → ParserRemaining → ParserRemaining → Type 0
 LoadGives (document e left unasked) d old new = (d ≡ e) × GivesDocument left unasked old new
@@ -89,9 +70,6 @@ pub record KeepsLoading (initial now : ParserRemaining) (l : Loading) : Type 0 w
   pub answered : now.answered ≡ initial.answered
 
 -- ---- the same of events alone
-
-abbrev pub told_events : List Told → List Event
-told_events gs = map (λ (g : Told). g.0) gs
 
 -- told events load what the events alone do
 abbrev pub LoadsSame : Option Fault → Loaded → Loads → Type 0

@@ -12,7 +12,7 @@ use yaml_emit_state::Core;
 use yaml_parse_model::yaml_event_body_t;
 
 /// How many events are held.
-#[derive(Clone, Copy, PartialEq, Eq, Debug)]
+#[derive(Clone, Copy)]
 pub enum Count {
     Nothing,
     One,
@@ -22,7 +22,7 @@ pub enum Count {
 }
 
 /// A seat for an event. The four follow one another in a circle.
-#[derive(Clone, Copy, PartialEq, Eq, Debug)]
+#[derive(Clone, Copy)]
 pub enum Seat {
     First,
     Second,

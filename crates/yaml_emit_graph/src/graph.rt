@@ -28,7 +28,7 @@ pub struct Events {
 }
 
 /// What comes next.
-#[derive(Clone, Copy, PartialEq, Eq, Debug)]
+#[derive(Clone, Copy)]
 pub enum Stage {
     Start,
     Nodes,

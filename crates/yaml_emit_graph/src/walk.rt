@@ -13,7 +13,7 @@ use yaml_parse_model::{yaml_node_body_t, yaml_node_pair_t, yaml_node_t};
 
 /// A collection that is being walked, and what of it comes next: the item or pair at an index, of a pair the value where its
 /// key has come.
-#[derive(Clone, Copy, PartialEq, Eq, Debug)]
+#[derive(Clone, Copy)]
 pub struct Open {
     pub node: i32,
     pub index: usize,
@@ -21,7 +21,7 @@ pub struct Open {
 }
 
 /// What a walk meets.
-#[derive(Clone, Copy, PartialEq, Eq, Debug)]
+#[derive(Clone, Copy)]
 pub enum Turn {
     /// A node for the first time.
     First(i32),

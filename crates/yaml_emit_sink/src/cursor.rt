@@ -3,7 +3,7 @@
 ghost use Rattle.std.specs.Prelude.{◌≡◌, ◌≢◌, true, false};
 
 /// Whether an output goes on.
-#[derive(Clone, Copy, PartialEq, Eq, Debug)]
+#[derive(Clone, Copy, PartialEq, Eq)]
 pub enum Status {
     Going,
     /// More than the limit was to be written. The bytes up to the limit are.
@@ -15,7 +15,7 @@ pub enum Status {
 }
 
 /// Where the next character stands.
-#[derive(Clone, Copy, PartialEq, Eq, Debug)]
+#[derive(Clone, Copy)]
 pub struct Cursor {
     /// Characters since the last line break, from 0.
     pub column: u64,

@@ -6,7 +6,7 @@ ghost use Rattle.yaml_emit_sink.specs.Settings.{settled, settled_indent, settled
 use yaml_scan_model::{yaml_break_t, yaml_encoding_t};
 
 /// How the characters are spelled in bytes.
-#[derive(Clone, Copy, PartialEq, Eq, Debug)]
+#[derive(Clone, Copy)]
 pub enum Encoding {
     Utf8,
     /// UTF-16, the low byte of a unit first; a byte order mark stands in front.
@@ -16,7 +16,7 @@ pub enum Encoding {
 }
 
 /// What ends a line.
-#[derive(Clone, Copy, PartialEq, Eq, Debug)]
+#[derive(Clone, Copy)]
 pub enum LineBreak {
     Lf,
     Cr,
@@ -24,7 +24,7 @@ pub enum LineBreak {
 }
 
 /// What an emitter was told.
-#[derive(Clone, Copy, PartialEq, Eq, Debug)]
+#[derive(Clone, Copy)]
 pub struct RequestedSettings {
     pub encoding: yaml_encoding_t,
     pub canonical: bool,
@@ -37,7 +37,7 @@ pub struct RequestedSettings {
 }
 
 /// What is in force.
-#[derive(Clone, Copy, PartialEq, Eq, Debug)]
+#[derive(Clone, Copy)]
 pub struct Settings {
     pub encoding: Encoding,
     /// The canonical layout and not the pretty one.

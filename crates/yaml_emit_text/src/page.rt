@@ -3,7 +3,7 @@
 use yaml_emit_sink::LineBreak;
 
 /// Where a scalar stands.
-#[derive(Clone, Copy, PartialEq, Eq, Debug)]
+#[derive(Clone, Copy)]
 pub struct Page {
     /// Behind this column a line may be broken.
     pub width: u64,
@@ -17,7 +17,7 @@ pub struct Page {
 }
 
 /// How a scalar is written.
-#[derive(Clone, Copy, PartialEq, Eq, Debug)]
+#[derive(Clone, Copy)]
 pub enum Style {
     Plain,
     Single,
@@ -27,7 +27,7 @@ pub enum Style {
 }
 
 /// The styles that a value allows.
-#[derive(Clone, Copy, PartialEq, Eq, Debug)]
+#[derive(Clone, Copy)]
 pub struct Allowed {
     /// Plain outside flow collections.
     pub plain: bool,
@@ -40,7 +40,7 @@ pub struct Allowed {
 }
 
 /// What becomes of the breaks at a block scalar's end.
-#[derive(Clone, Copy, PartialEq, Eq, Debug)]
+#[derive(Clone, Copy)]
 pub enum Chomp {
     /// None is there.
     Strip,

@@ -31,7 +31,7 @@ use yaml_scan_model::{yaml_fault_t, yaml_mark_t, yaml_memory_fault, yaml_origin_
 
 /// What a step gives: an item, or with tags and directives resolved an event, or a fault, each in its slot; nothing; or nothing any
 /// more.
-#[derive(Clone, Copy, PartialEq, Eq, Debug)]
+#[derive(Clone, Copy)]
 pub enum Step {
     Given,
     Silent,
@@ -40,7 +40,7 @@ pub enum Step {
 }
 
 /// How far an advance came: an event that stands in its slot already, since nothing of it is to be resolved; or what a step gives.
-#[derive(Clone, Copy, PartialEq, Eq, Debug)]
+#[derive(Clone, Copy)]
 pub enum Progress {
     Ready,
     By(Step),

@@ -4,14 +4,14 @@ use crate::problem::ParseProblem;
 use yaml_parse_model::yaml_mark_t;
 
 /// The two parts of a pair.
-#[derive(Clone, Copy, PartialEq, Eq, Debug)]
+#[derive(Clone, Copy)]
 pub enum Side {
     Key,
     Value,
 }
 
 /// Which nodes may come (YAML 1.1, 4.2.2).
-#[derive(Clone, Copy, PartialEq, Eq, Debug)]
+#[derive(Clone, Copy)]
 pub enum Wants {
     /// Nodes that may stand inside brackets.
     Flow,
@@ -20,14 +20,14 @@ pub enum Wants {
 }
 
 /// The two flow collections.
-#[derive(Clone, Copy, PartialEq, Eq, Debug)]
+#[derive(Clone, Copy)]
 pub enum Brackets {
     Sequence,
     Mapping,
 }
 
 /// A place where a node may stand, or be left out.
-#[derive(Clone, Copy, PartialEq, Eq, Debug)]
+#[derive(Clone, Copy)]
 pub enum Site {
     /// Behind `---`.
     Root,
@@ -42,7 +42,7 @@ pub enum Site {
 }
 
 /// What a state does at a token.
-#[derive(Clone, Copy, PartialEq, Eq, Debug)]
+#[derive(Clone, Copy)]
 pub enum Choice {
     /// The token is wrong here. The mark is where the open collection begins; without one the context is the token.
     Refuse(ParseProblem, Option<yaml_mark_t>),

@@ -7,7 +7,7 @@ ghost use Rattle.yaml_parse_grammar.specs.Problems.{problem_text_of, context_tex
 use yaml_parse_model::{yaml_error_type_t, yaml_fault_t, yaml_mark_t, yaml_origin_t};
 
 /// What is wrong, and in what.
-#[derive(Clone, Copy, PartialEq, Eq, Debug)]
+#[derive(Clone, Copy)]
 pub enum ParseProblem {
     NoStreamStart,
     NoDocumentStart,
@@ -28,7 +28,7 @@ pub enum ParseProblem {
 }
 
 /// A problem, where it is, and where what was being parsed begins.
-#[derive(Clone, Copy, PartialEq, Eq, Debug)]
+#[derive(Clone, Copy)]
 pub struct ParseFault {
     pub problem: ParseProblem,
     pub problem_mark: yaml_mark_t,

@@ -28,7 +28,7 @@ pub struct Directives {
 }
 
 /// Why an item is refused.
-#[derive(Debug, Drop)]
+#[derive(Drop)]
 pub enum Refusal {
     /// A growth was refused.
     Memory,

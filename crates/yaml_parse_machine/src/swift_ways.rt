@@ -29,7 +29,7 @@ use yaml_parse_model::{
 };
 
 /// What a swift way gives.
-#[derive(Clone, Copy, PartialEq, Eq, Debug)]
+#[derive(Clone, Copy)]
 pub enum Swift {
     /// The token is taken, and the event stands in its slot.
     Event,

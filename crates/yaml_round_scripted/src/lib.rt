@@ -6,7 +6,7 @@ use std::io;
 use std::io::{ErrorKind, Read, Write};
 
 /// What a reader does at its next calls.
-#[derive(Clone, Copy, Debug)]
+#[derive(Clone, Copy)]
 pub enum step_t<'a> {
     /// These bytes are given, over several calls where they do not fit. A writer takes as many at most.
     Piece(&'a [u8]),
@@ -78,7 +78,7 @@ impl Read for scripted_reader_t<'_> {
 }
 
 /// What a writer does at its next calls.
-#[derive(Clone, Copy, Debug)]
+#[derive(Clone, Copy)]
 pub enum write_step_t {
     /// A call takes so many bytes at most.
     Takes(usize),

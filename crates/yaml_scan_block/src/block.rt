@@ -14,7 +14,7 @@ use yaml_scan_model::{Problem, Reader, ScanError, skip_spaces, yaml_mark_t, yaml
 
 /// A block scalar: its value, its style, the place of its indicator, and the place after its last break, or the end
 /// where none follows its last line.
-#[derive(Debug, Drop)]
+#[derive(Drop)]
 pub struct Block {
     pub value: Vec<u8>,
     pub style: yaml_scalar_style_t,

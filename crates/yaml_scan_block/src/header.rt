@@ -11,7 +11,7 @@ use yaml_scan_model::{
 };
 
 /// What happens to the breaks at the end.
-#[derive(Clone, Copy, Debug, PartialEq, Eq)]
+#[derive(Clone, Copy)]
 pub(crate) enum Chomp {
     /// None stays.
     Strip,
@@ -22,7 +22,7 @@ pub(crate) enum Chomp {
 }
 
 /// A header: what happens to the breaks at the end, and the indentation's digit or 0.
-#[derive(Clone, Copy, Debug, PartialEq, Eq)]
+#[derive(Clone, Copy)]
 pub(crate) struct Header {
     pub chomp: Chomp,
     pub digit: u64,

@@ -12,7 +12,7 @@ use std::alloc::{AllocError, Global};
 use yaml_scan_model::is_blank_byte;
 
 /// The lines so far: the value up to the last text, and what stands behind it.
-#[derive(Debug, Drop)]
+#[derive(Drop)]
 pub(crate) struct Stacking {
     pub folded: bool,
     /// The value up to the last line with text.

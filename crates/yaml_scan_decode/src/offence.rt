@@ -8,7 +8,7 @@ ghost use Rattle.yaml_scan_decode.specs.Offences.{problem_text_of, reader_fault}
 use yaml_scan_model::{yaml_error_type_t, yaml_fault_t, yaml_mark_t, yaml_origin_t};
 
 /// What is wrong with the bytes.
-#[derive(Clone, Copy, PartialEq, Eq, Debug)]
+#[derive(Clone, Copy)]
 pub enum ReaderProblem {
     InvalidLeadingOctet,
     IncompleteSequence,
@@ -23,7 +23,7 @@ pub enum ReaderProblem {
 }
 
 /// What is wrong, and where.
-#[derive(Clone, Copy, PartialEq, Eq, Debug)]
+#[derive(Clone, Copy)]
 pub struct Offence {
     pub problem: ReaderProblem,
     /// The byte of the whole input at which it stands, a removed mark counted.
@@ -33,7 +33,7 @@ pub struct Offence {
 }
 
 /// A character, and how many bytes spell it.
-#[derive(Clone, Copy, PartialEq, Eq, Debug)]
+#[derive(Clone, Copy)]
 pub struct Character {
     pub code: u32,
     pub width: usize,

@@ -11,14 +11,14 @@ use crate::offence::{Character, Offence, ReaderProblem, allowed_character};
 use std::alloc::{AllocError, Global};
 
 /// Which byte of a 16-bit unit comes first.
-#[derive(Clone, Copy, PartialEq, Eq, Debug)]
+#[derive(Clone, Copy)]
 pub enum ByteOrder {
     LowFirst,
     HighFirst,
 }
 
 /// Why a text can't be decoded.
-#[derive(Debug, Drop)]
+#[derive(Drop)]
 pub enum DecodeError {
     /// A growth was refused.
     Memory,

@@ -8,7 +8,7 @@ use crate::kind::Kind;
 use yaml_scan_model::yaml_mark_t;
 
 /// Where a lexeme stands, and what the lexemes before it decide.
-#[derive(Clone, Copy, Debug)]
+#[derive(Clone, Copy)]
 pub struct Lexeme {
     pub kind: Kind,
     /// Its token's marks.
@@ -29,7 +29,7 @@ pub struct Lexeme {
 }
 
 /// The level that opens before a lexeme.
-#[derive(Clone, Copy, Debug)]
+#[derive(Clone, Copy)]
 pub enum Opens {
     Nothing,
     Sequence,
@@ -37,7 +37,7 @@ pub enum Opens {
 }
 
 /// A lexeme as it is spelled out in tokens.
-#[derive(Clone, Copy, Debug)]
+#[derive(Clone, Copy)]
 pub struct Entry {
     pub lexeme: Lexeme,
     /// How many block levels it closes.

@@ -11,7 +11,7 @@ use crate::record::yaml_mark_t;
 use std::alloc::{AllocError, AllocFailed};
 
 /// What is wrong.
-#[derive(Clone, Copy, PartialEq, Eq, Debug)]
+#[derive(Clone, Copy)]
 pub enum Problem {
     NoTokenStart,
     NoColon,
@@ -46,7 +46,7 @@ pub enum Problem {
 }
 
 /// What was being scanned.
-#[derive(Clone, Copy, PartialEq, Eq, Debug)]
+#[derive(Clone, Copy)]
 pub enum Context {
     /// Nothing is told, and the context's place is the problem's.
     Nothing,
@@ -69,7 +69,7 @@ pub enum Context {
 }
 
 /// A problem in its context, and where both stand.
-#[derive(Clone, Copy, PartialEq, Eq, Debug)]
+#[derive(Clone, Copy)]
 pub struct ScanFault {
     pub problem: Problem,
     pub context: Context,
@@ -78,7 +78,7 @@ pub struct ScanFault {
 }
 
 /// Why a call of the scanner's helpers was refused.
-#[derive(Debug, Drop)]
+#[derive(Drop)]
 pub enum ScanError {
     /// A growth was refused.
     Memory,

@@ -9,7 +9,7 @@ use std::alloc::{AllocError, Global};
 const FIRST_CAPACITY: usize = 24;
 
 /// What stands before the next piece.
-#[derive(Clone, Copy, Debug, PartialEq, Eq)]
+#[derive(Clone, Copy)]
 pub(crate) enum Gap {
     /// A character of this line, or blanks after it.
     Line,
@@ -20,7 +20,7 @@ pub(crate) enum Gap {
 }
 
 /// The pieces so far, as far as no later one changes them.
-#[derive(Debug, Drop)]
+#[derive(Drop)]
 pub(crate) struct Folding {
     /// The value so far.
     pub done: Vec<u8>,

@@ -10,7 +10,7 @@ use std::alloc::{AllocError, Global};
 use yaml_scan_model::yaml_mark_t;
 
 /// What is read of a plain scalar so far.
-#[derive(Debug, Drop)]
+#[derive(Drop)]
 pub(crate) struct Joining {
     /// All pieces so far, with the white behind the last character.
     pub folding: Folding,

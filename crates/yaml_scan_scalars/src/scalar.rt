@@ -3,7 +3,7 @@
 use yaml_scan_model::yaml_mark_t;
 
 /// A quoted scalar: its value, the place of its opening quote, and the place after its closing one.
-#[derive(Debug, Drop)]
+#[derive(Drop)]
 pub struct Scalar {
     pub value: Vec<u8>,
     pub start_mark: yaml_mark_t,
@@ -11,7 +11,7 @@ pub struct Scalar {
 }
 
 /// A plain scalar: its value, the place of its first character, and the place after its last one.
-#[derive(Debug, Drop)]
+#[derive(Drop)]
 pub struct PlainScalar {
     pub value: Vec<u8>,
     pub start_mark: yaml_mark_t,

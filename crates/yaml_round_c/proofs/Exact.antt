@@ -6,7 +6,7 @@ use Rattle.yaml_parse.specs.declared.yaml_fault_t.{yaml_fault_t}
 use Rattle.yaml_parse.specs.Faults.{Fault, fault_of}
 use Rattle.yaml_round.specs.declared.yaml_side_t.{yaml_side_t}
 use Rattle.yaml_round_c.specs.declared.answer.yaml_c_answer.{yaml_c_answer}
-use Rattle.yaml_round_c.specs.Numbers.{encoding_meant, error_number}
+use Rattle.yaml_round_records.specs.Numbers.{encoding_meant, error_number}
 use Rattle.yaml_round_c.specs.Told.{TellsText, TellsFault, TellsResult, TellsSame, AnswersMeant, IsExact, both, same_number, side_number, Lists, Compares}
 
 -- no number of a fault's kind is -1

@@ -10,14 +10,14 @@ use Rattle.yaml_parse.specs.Remaining.{ParserRemaining}
 use Rattle.yaml_round.specs.Answers.{IsFaulty}
 use Rattle.yaml_round.specs.Input.{Reads, events_of, ending_of}
 use Rattle.yaml_round.proofs.Plain.{faulty}
-use Rattle.yaml_round_c.specs.declared.listing.Listing.{Listing}
-use Rattle.yaml_round_c.specs.declared.record.yaml_c_directive.{yaml_c_directive}
+use Rattle.yaml_round_records.specs.declared.Listing.{Listing}
+use Rattle.yaml_round_records.specs.declared.yaml_c_directive.{yaml_c_directive}
 use Rattle.yaml_round_c.specs.declared.parsing.yaml_c_parsed.{yaml_c_parsed}
-use Rattle.yaml_round_c.specs.Records.{all_directives}
-use Rattle.yaml_round_c.specs.Blocks.{listed_directives}
-use Rattle.yaml_round_c.specs.Listing.{Collected, AreSaid, HoldsAll, events_alone}
+use Rattle.yaml_round_records.specs.Records.{all_directives}
+use Rattle.yaml_round_records.specs.Blocks.{listed_directives}
+use Rattle.yaml_round_records.specs.Listing.{Collected, AreSaid, HoldsAll, events_alone}
 use Rattle.yaml_round_c.specs.Parses.{HandsOut, SayEvents}
-use Rattle.yaml_round_c.proofs.Saying.{say_at}
+use Rattle.yaml_round_records.proofs.Saying.{say_at}
 
 -- the events of a reading that has no fault are the input's
 pub all_taken : (from : yaml_encoding_t) (input : List ℕ) (p : ParserRemaining) (l : Listing) → Reads from input p → p.ending ≡ None

@@ -1,10 +1,3 @@
-pub mod Checked
-pub mod Building
-pub mod Leading
 pub mod Telling
-pub mod Placing
-pub mod Directing
-pub mod Recording
-pub mod Saying
 pub mod Handing
 pub mod Exact

@@ -4,8 +4,8 @@ use Rattle.yaml_parse.specs.Events.{EventBody}
 use Rattle.yaml_parse.specs.Faults.{Fault, emit_layers}
 use Rattle.yaml_emit.specs.emit_text.declared.RequestedSettings.{RequestedSettings}
 use Rattle.yaml_round_c.specs.declared.answer.yaml_c_answer.{yaml_c_answer}
-use Rattle.yaml_round_c.specs.Written.{IsEmitted}
-use Rattle.yaml_round_c.specs.Leading.{all_events}
+use Rattle.yaml_round_records.specs.Written.{IsEmitted}
+use Rattle.yaml_round_records.specs.Leading.{all_events}
 use Rattle.yaml_round_c.specs.Emitting.{Emits, EmitsAll}
 use Rattle.yaml_round_c.specs.Told.{AnswersMeant, both, OrMemory, TellsResult, TellsMisuse}
 

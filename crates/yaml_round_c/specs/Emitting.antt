@@ -4,12 +4,12 @@ use Rattle.yaml_parse.specs.Events.{EventBody}
 use Rattle.yaml_parse.specs.Faults.{emit_layers}
 use Rattle.yaml_emit.specs.emit_text.declared.RequestedSettings.{RequestedSettings}
 use Rattle.yaml_round_c.specs.declared.answer.yaml_c_answer.{yaml_c_answer}
-use Rattle.yaml_round_c.specs.declared.record.yaml_c_directive.{yaml_c_directive}
-use Rattle.yaml_round_c.specs.declared.record.yaml_c_event.{yaml_c_event}
-use Rattle.yaml_round_c.specs.declared.settings.yaml_c_settings.{yaml_c_settings}
-use Rattle.yaml_round_c.specs.Meaning.{events_meant, asked_meant}
+use Rattle.yaml_round_records.specs.declared.yaml_c_directive.{yaml_c_directive}
+use Rattle.yaml_round_records.specs.declared.yaml_c_event.{yaml_c_event}
+use Rattle.yaml_round_records.specs.declared.yaml_c_settings.{yaml_c_settings}
+use Rattle.yaml_round_records.specs.Meaning.{events_meant, asked_meant}
 use Rattle.yaml_round_c.specs.Told.{both, IsAnswered, OrMemory, TellsResult}
-use Rattle.yaml_round_c.specs.Written.{emitter_events, IsEmitted}
+use Rattle.yaml_round_records.specs.Written.{emitter_events, IsEmitted}
 
 -- the events, the settings and the limit of a call
 abbrev pub emit_meant : List ℕ → List yaml_c_directive → List yaml_c_event → yaml_c_settings

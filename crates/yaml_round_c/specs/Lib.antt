@@ -1,12 +1,4 @@
-pub mod Numbers
 pub mod Settings
 pub mod Told
-pub mod Records
-pub mod Blocks
-pub mod Meaning
-pub mod Checking
-pub mod Written
-pub mod Leading
 pub mod Emitting
-pub mod Listing
 pub mod Parses

@@ -8,11 +8,11 @@ use Rattle.yaml_round.specs.Answers.{IsFaulty}
 use Rattle.yaml_round.specs.Input.{events_of, ending_of}
 use Rattle.yaml_round.specs.round_laws_reading.Reading.{HasEvents}
 use Rattle.yaml_round_c.specs.declared.answer.yaml_c_answer.{yaml_c_answer}
-use Rattle.yaml_round_c.specs.declared.listing.Listing.{Listing}
+use Rattle.yaml_round_records.specs.declared.Listing.{Listing}
 use Rattle.yaml_round_c.specs.declared.parsing.yaml_c_parsed.{yaml_c_parsed}
-use Rattle.yaml_round_c.specs.Records.{AllSay, all_directives}
-use Rattle.yaml_round_c.specs.Blocks.{all_texts, listed_directives}
-use Rattle.yaml_round_c.specs.Listing.{AreSaid, HoldsAll, events_alone}
+use Rattle.yaml_round_records.specs.Records.{AllSay, all_directives}
+use Rattle.yaml_round_records.specs.Blocks.{all_texts, listed_directives}
+use Rattle.yaml_round_records.specs.Listing.{AreSaid, HoldsAll, events_alone}
 use Rattle.yaml_round_c.specs.Told.{TellsText, TellsFault, IsAnswered, OrMemory}
 
 -- the events of an input, where it is accepted: those of the tree that its tokens are

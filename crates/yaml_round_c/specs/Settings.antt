@@ -1,10 +1,21 @@
 -- The settings that C's record means.
-use Rattle.std.specs.Prelude.{Option, None, Some, pos}
+use Rattle.std.specs.Prelude.{ℤ, pos, if◌then◌else◌, Option, None, Some}
+use Rattle.std.specs.Ordering.{int_eq}
 use Rattle.yaml_parse.specs.declared.yaml_break_t.{yaml_break_t}
 use Rattle.yaml_round.specs.declared.yaml_settings_t.{yaml_settings_t}
 use Rattle.yaml_round.specs.declared.yaml_output_encoding_t.{yaml_output_encoding_t}
-use Rattle.yaml_round_c.specs.declared.settings.yaml_c_settings.{yaml_c_settings}
-use Rattle.yaml_round_c.specs.Numbers.{is_set, output_meant, break_meant}
+use Rattle.yaml_round.specs.declared.yaml_output_encoding_t.TheVariants as output
+use Rattle.yaml_round_records.specs.declared.yaml_c_settings.{yaml_c_settings}
+use Rattle.yaml_round_records.specs.Numbers.{is_set, break_meant}
+
+-- the encoding of an answer: any means UTF-8
+unfoldable pub output_meant : ℤ → Option yaml_output_encoding_t
+output_meant n =
+    if int_eq n (pos 0) then Some output.Utf8
+    else if int_eq n (pos 1) then Some output.Utf8
+    else if int_eq n (pos 2) then Some output.Utf16Le
+    else if int_eq n (pos 3) then Some output.Utf16Be
+    else None
 
 abbrev pub settings_by : Option yaml_output_encoding_t → Option yaml_break_t → yaml_c_settings
     → Option yaml_settings_t

@@ -3,7 +3,6 @@ use Rattle.std.specs.Prelude.{◌≡◌, ◌⊎◌, ℕ, ℤ, pos, negsuc, List,
 use Rattle.yaml_parse.specs.declared.yaml_encoding_t.{yaml_encoding_t}
 use Rattle.yaml_parse.specs.declared.yaml_origin_t.{yaml_origin_t}
 use Rattle.yaml_parse.specs.declared.yaml_fault_t.{yaml_fault_t}
-use Rattle.yaml_parse.specs.declared.yaml_mark_t.{yaml_mark_t}
 use Rattle.yaml_parse.specs.Faults.{Fault, fault_of, IsMemoryFault}
 use Rattle.yaml_round.specs.declared.yaml_settings_t.{yaml_settings_t}
 use Rattle.yaml_round.specs.declared.yaml_side_t.{yaml_side_t}
@@ -15,13 +14,11 @@ use Rattle.yaml_round.specs.Answers.{IsListed, IsReformatted, IsSame}
 use Rattle.yaml_round.specs.Reload.{IsReloaded}
 use Rattle.yaml_round.specs.FaultLine.{fault_line}
 use Rattle.yaml_round_c.specs.declared.answer.yaml_c_answer.{yaml_c_answer}
-use Rattle.yaml_round_c.specs.declared.answer.yaml_c_mark.{yaml_c_mark}
-use Rattle.yaml_round_c.specs.declared.settings.yaml_c_settings.{yaml_c_settings}
-use Rattle.yaml_round_c.specs.Numbers.{encoding_meant, error_number}
+use Rattle.yaml_round_records.specs.declared.yaml_c_mark.{yaml_c_mark}
+use Rattle.yaml_round_records.specs.declared.yaml_c_settings.{yaml_c_settings}
+use Rattle.yaml_round_records.specs.Numbers.{encoding_meant, error_number}
+use Rattle.yaml_round_records.specs.Records.{mark_told}
 use Rattle.yaml_round_c.specs.Settings.{settings_meant}
-
-abbrev pub mark_told : yaml_mark_t → yaml_c_mark
-mark_told m = record { index = m.index; line = m.line; column = m.column }
 
 -- the mark where no place is told
 abbrev pub no_mark : yaml_c_mark

@@ -3,20 +3,11 @@
 ghost use Rattle.std.specs.Prelude.{◌≡◌, ◌⊎◌, [], pos, unwrap_or, option_map};
 ghost use Rattle.yaml_parse.specs.Faults.{fault_of};
 ghost use Rattle.yaml_round.specs.FaultLine.{fault_line};
-ghost use Rattle.yaml_round_c.specs.Told.{mark_told, TellsText, TellsFault, TellsMisuse};
+ghost use Rattle.yaml_round_c.specs.Told.{TellsText, TellsFault, TellsMisuse};
 
-use crate::number::error_number;
 use std::alloc::Global;
-use yaml_round::{yaml_fault_line, yaml_fault_t, yaml_mark_t};
-
-/// A place in a text.
-#[repr(C)]
-#[derive(Clone, Copy, Drop)]
-pub struct yaml_c_mark {
-    pub index: u64,
-    pub line: u64,
-    pub column: u64,
-}
+use yaml_round::{yaml_fault_line, yaml_fault_t};
+use yaml_round_records::{error_number, mark_told, yaml_c_mark};
 
 /// An answer: a text, or a fault. `kind` is 0, the number of the fault's kind, or -1 where an argument means nothing.
 #[repr(C)]
@@ -41,8 +32,6 @@ pub struct yaml_c_answer {
     pub line: &'static [u8],
 }
 
-const _: () = prove!(size_of::<yaml_c_mark>() == 24);
-
 const _: () = prove!(size_of::<yaml_c_answer>() == 136);
 
 const ZERO: yaml_c_mark = yaml_c_mark {
@@ -50,17 +39,6 @@ const ZERO: yaml_c_mark = yaml_c_mark {
     line: 0,
     column: 0,
 };
-
-/// A mark as C reads it.
-pub(crate) fn mark_told(mark: yaml_mark_t) -> yaml_c_mark
-    ensures { result ≡ mark_told mark }
-{
-    yaml_c_mark {
-        index: mark.index,
-        line: mark.line,
-        column: mark.column,
-    }
-}
 
 /// A block that lives on for C. With no byte there is no block.
 pub(crate) fn handed_out(text: Vec<u8>) -> &'static [u8]

@@ -2,16 +2,15 @@
 
 ghost use Rattle.std.specs.Prelude.{◌≡◌, IsSome};
 ghost use Rattle.yaml_round_c.specs.Told.{AnswersMeant, IsExact};
-ghost use Rattle.yaml_round_c.specs.Meaning.{events_meant};
-ghost use Rattle.yaml_round_c.specs.Leading.{asked_for};
+ghost use Rattle.yaml_round_records.specs.Meaning.{events_meant};
+ghost use Rattle.yaml_round_records.specs.Leading.{asked_for};
 ghost use Rattle.yaml_round_c.specs.Emitting.{emit_meant, Emits, EmitsAll};
 
 use crate::answer::{misused, refused, told, yaml_c_answer};
-use crate::emitter::{Asked, asked_of, emitted};
-use crate::meaning::are_meant;
-use crate::record::{yaml_c_directive, yaml_c_event};
-use crate::settings::yaml_c_settings;
 use std::alloc::Global;
+use yaml_round_records::{
+    Asked, are_meant, asked_of, emitted, yaml_c_directive, yaml_c_event, yaml_c_settings,
+};
 
 fn answered(
     alloc: Global,

@@ -1,17 +1,17 @@
 //! The engine's calls.
 
 ghost use Rattle.std.specs.Prelude.{◌≡◌};
-ghost use Rattle.yaml_round_c.specs.Numbers.{encoding_meant};
+ghost use Rattle.yaml_round_records.specs.Numbers.{encoding_meant};
 ghost use Rattle.yaml_round_c.specs.Told.{form_number, same_number, side_number, AnswersMeant, IsExact, both, call_meant, Reformats, Reloads, Compares, Lists};
 
 use crate::answer::{misused, refused, said, told, yaml_c_answer};
-use crate::number::encoding_of;
-use crate::settings::{settings_of, yaml_c_settings};
+use crate::settings::settings_of;
 use std::alloc::Global;
 use yaml_round::{
     yaml_encoding_t, yaml_events, yaml_form_t, yaml_reformat, yaml_reload, yaml_same,
     yaml_settings_t, yaml_side_t,
 };
+use yaml_round_records::{encoding_of, yaml_c_settings};
 
 fn form_number(form: yaml_form_t) -> i32
     ensures { result ≡ form_number form }

@@ -3,21 +3,16 @@
 #![tactic(auto)]
 
 mod answer;
-mod collecting;
-mod emitter;
 mod emitting;
 mod engine;
-mod event;
-mod listing;
-mod meaning;
-mod number;
 mod parsing;
-mod record;
 mod settings;
 
-pub use answer::{yaml_c_answer, yaml_c_mark};
+pub use answer::yaml_c_answer;
 pub use emitting::yaml_c_emit;
 pub use engine::{yaml_c_events, yaml_c_reformat, yaml_c_reload, yaml_c_same};
 pub use parsing::{yaml_c_parse, yaml_c_parsed};
-pub use record::{yaml_c_directive, yaml_c_event, yaml_c_span};
-pub use settings::{yaml_c_defaults, yaml_c_settings};
+pub use settings::yaml_c_defaults;
+pub use yaml_round_records::{
+    yaml_c_directive, yaml_c_event, yaml_c_mark, yaml_c_settings, yaml_c_span,
+};

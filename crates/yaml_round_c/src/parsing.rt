@@ -3,18 +3,15 @@
 ghost use Rattle.std.specs.Prelude.{◌≡◌, ◌⊎◌, pos, IfOk, IfErr};
 ghost use Rattle.yaml_parse.specs.Faults.{fault_of, IsMemoryFault, parse_layers};
 ghost use Rattle.yaml_round.specs.Input.{Reads};
-ghost use Rattle.yaml_round_c.specs.Numbers.{encoding_meant};
+ghost use Rattle.yaml_round_records.specs.Numbers.{encoding_meant};
 ghost use Rattle.yaml_round_c.specs.Told.{AnswersMeant, IsExact};
 ghost use Rattle.yaml_round_c.specs.Parses.{HasNothing, HandsOut, Parses, IsCollected};
 
 use crate::answer::{handed_out, misused, refused, said, yaml_c_answer};
-use crate::collecting::collect;
-use crate::listing::Listing;
-use crate::number::encoding_of;
-use crate::record::{yaml_c_directive, yaml_c_event};
 use std::alloc::Global;
 use yaml_parse::{yaml_parser_delete, yaml_parser_initialize, yaml_parser_t};
 use yaml_round::{yaml_adapter_t, yaml_encoding_t, yaml_fault_t};
+use yaml_round_records::{Listing, collect, encoding_of, yaml_c_directive, yaml_c_event};
 
 /// The events of an input, and the bytes and directives that they speak of. All three are the caller's to free, where they
 /// have any item.

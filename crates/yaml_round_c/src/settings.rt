@@ -2,26 +2,24 @@
 
 ghost use Rattle.std.specs.Prelude.{◌≡◌, Some};
 ghost use Rattle.yaml_round.specs.Settings.{default_settings};
-ghost use Rattle.yaml_round_c.specs.Settings.{settings_meant, default_record};
+ghost use Rattle.yaml_round_c.specs.Settings.{output_meant, settings_meant, default_record};
 
-use crate::number::{break_of, is_set, output_of};
-use yaml_round::yaml_settings_t;
+use yaml_round::{yaml_output_encoding_t, yaml_settings_t};
+use yaml_round_records::{break_of, is_set, yaml_c_settings};
 
-/// How a text is written. The flags are off at 0 and on at every other number; `encoding` and `line_break` have libyaml's
-/// numbers.
-#[repr(C)]
-#[derive(Clone, Copy, Drop)]
-pub struct yaml_c_settings {
-    pub encoding: i32,
-    pub canonical: i32,
-    pub indent: i32,
-    pub width: i32,
-    pub unicode: i32,
-    pub line_break: i32,
-    pub limit: u64,
+// The encoding of an answer that a number means.
+#[tactic(auto, unfolding(crate::specs::Settings::output_meant))]
+fn output_of(number: i32) -> Option<yaml_output_encoding_t>
+    ensures { result ≡ output_meant number }
+{
+    match number {
+        0 => Some(yaml_output_encoding_t::Utf8),
+        1 => Some(yaml_output_encoding_t::Utf8),
+        2 => Some(yaml_output_encoding_t::Utf16Le),
+        3 => Some(yaml_output_encoding_t::Utf16Be),
+        _ => None,
+    }
 }
-
-const _: () = prove!(size_of::<yaml_c_settings>() == 32);
 
 /// The settings that C's record means.
 pub(crate) fn settings_of(given: &yaml_c_settings) -> Option<yaml_settings_t>
@@ -45,7 +43,7 @@ pub(crate) fn settings_of(given: &yaml_c_settings) -> Option<yaml_settings_t>
 }
 
 /// Sets what `yaml_settings_t::new` has.
-#[tactic(auto, unfolding(crate::specs::Numbers::is_set, crate::specs::Numbers::output_meant, crate::specs::Numbers::break_meant))]
+#[tactic(auto, unfolding(yaml_round_records::specs::Numbers::is_set, crate::specs::Settings::output_meant, yaml_round_records::specs::Numbers::break_meant))]
 #[unsafe(no_mangle)]
 pub extern "C" fn yaml_c_defaults(settings: &mut yaml_c_settings)
     ensures engine { settings_meant settings.new ≡ Some default_settings }

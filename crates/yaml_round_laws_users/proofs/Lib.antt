@@ -1,3 +1,6 @@
 mod Rewriting
 mod Comparing
 mod Shaped
+mod Joining
+mod Loads
+mod Limits

@@ -1,1 +1,4 @@
 pub mod Laws
+pub mod Reloads
+pub mod Loads
+pub mod Limits

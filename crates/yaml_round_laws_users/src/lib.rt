@@ -1,10 +1,20 @@
-//! Laws of what `yaml_reformat` and `yaml_same` answer, for users: each follows from the definitions that the calls' contracts name.
-//! No code.
+//! Laws of what `yaml_reformat`, `yaml_reload` and `yaml_same` answer and of the limits that they name, for users: each follows
+//! from the definitions that the calls' contracts name. No code.
 #![tactic(auto)]
 
+mod column;
 mod laws;
+mod reload;
 
+pub use column::{
+    canonical_answers_keep_columns, canonical_form_passes_columns, reformats_name_columns,
+    reloads_keep_columns, reloads_name_columns,
+};
 pub use laws::{
     answers_read_back, canonical_answers_tell_contents, comparisons_agree, json_stays_pretty,
     rewriting_is_still, same_content_is_an_equivalence, settings_do_not_matter,
+};
+pub use reload::{
+    answers_and_reloads_agree, names_leave_reloads, reloads_are_normal_of_loads,
+    reloads_are_of_loads, reloads_tell_documents,
 };

@@ -1,2 +1,0 @@
-mod Joining
-mod Loads

@@ -1,0 +1,78 @@
+-- The laws of reloads, from the clauses of the calls.
+use Rattle.std.proofs.Common.{◌≡◌, ℕ, true, List, Ok, map, sym, ap, subst, ◌∙◌}
+use Rattle.yaml_round.specs.round_laws_documents.round_laws_back.content.round_laws.emit_laws_streams.scan.declared.yaml_encoding_t.{yaml_encoding_t}
+use Rattle.yaml_round.specs.round_laws_documents.round_laws_back.content.round_laws.emit_laws_streams.scan.declared.yaml_encoding_t.TheVariants.{YAML_ANY_ENCODING}
+use Rattle.yaml_round.specs.round_laws_documents.round_laws_back.content.Loads.{loads_of}
+use Rattle.yaml_round.specs.round_laws_documents.round_laws_back.content.Said as content
+use Rattle.yaml_round.specs.round_laws_documents.round_laws_back.content.round_laws.emit_laws_streams.parse.Documents.{Document}
+use Rattle.yaml_round.specs.round_laws_documents.round_laws_reading.PlainLoading.{PlainLoading}
+use Rattle.yaml_round.specs.round_laws_documents.round_laws_loads.Agree.{core_of}
+use Rattle.yaml_round.specs.round_laws_documents.round_laws_dumps.Events.{trees_of_dumps}
+use Rattle.yaml_round.proofs.round_laws_documents.round_laws_reading.Loaded.{faultless_load}
+use Rattle.yaml_round.proofs.round_laws_documents.Whole.{inputs_load_alike, names_do_not_matter}
+use Rattle.yaml_round.proofs.round_laws_documents.round_laws_loads.Walks.{agreeing_said}
+use Rattle.yaml_round.proofs.round_laws_documents.round_laws_reading.Joining.{read_said}
+use Rattle.yaml_round.specs.declared.yaml_settings_t.{yaml_settings_t}
+use Rattle.yaml_round.specs.declared.yaml_form_t.{yaml_form_t}
+use Rattle.yaml_round.specs.declared.yaml_form_t.TheVariants.{Canonical, Pretty}
+use Rattle.yaml_round.specs.Writing.{requested_under}
+use Rattle.yaml_round.specs.Answers.{IsReformatted, ReadsBack, canonical_text}
+use Rattle.yaml_round.specs.Reload.{IsReloaded, IsNormalOfDocuments, LaysOutLoading}
+use Rattle.yaml_round_laws_users.proofs.Loads.{loads_alike, right_loads}
+use Rattle.yaml_round_laws_users.specs.Reloads.{ReloadsTellDocuments, AnswersAndReloadsAgree, NamesLeaveReloads}
+
+normal_of : (from : yaml_encoding_t) (s : yaml_settings_t) (input text : List ℕ) (ds : List Document) → IsReloaded from s input (Ok text) → PlainLoading from input (Ok ds)
+    → IsNormalOfDocuments s ds text
+unfolding IsReloaded
+normal_of from s input text ds h p =
+    subst (λ (es : List Document). IsNormalOfDocuments s es text) (sym (loads_alike from input h.0.documents h.0.loading) ∙ loads_alike from input ds p) h.1
+
+-- what a text loads is one alone
+back_alike : (t u : List ℕ) (ds es : List Document) → PlainLoading YAML_ANY_ENCODING t (Ok ds) → PlainLoading YAML_ANY_ENCODING u (Ok es) → t ≡ u → ds ≡ es
+back_alike t u ds es h k e = sym (loads_alike YAML_ANY_ENCODING t ds h) ∙ ap (λ (x : List ℕ). (loads_of YAML_ANY_ENCODING x).documents) e ∙ loads_alike YAML_ANY_ENCODING u es k
+
+pub tell : ReloadsTellDocuments
+tell s a_from b_from a b t u h k ds es x y =
+    let p = normal_of a_from s a t ds h x in
+    let q = normal_of b_from s b u es k y in (
+      λ e. p.agree ∙ ap (λ (z : List Document). map core_of z) (back_alike t u p.back q.back p.right q.right e) ∙ sym q.agree,
+      λ e. p.is ∙ ap (λ (z : List content.Document). canonical_text s z) (agreeing_said ds es e) ∙ sym q.is,
+    )
+
+-- ---- rewriting and reloading
+
+read_back : (from : yaml_encoding_t) (s : yaml_settings_t) (input text : List ℕ) (form : yaml_form_t) → IsReformatted from s input (Ok (text, form)) → ReadsBack from input text
+unfolding IsReformatted
+read_back from s input text Canonical h = record { content = h.1.1.content; first = h.1.1.of_input; second = h.1.1.of_text }
+read_back from s input text Pretty h = h.1.1
+
+-- the documents of a reload's input
+laid_of : (from : yaml_encoding_t) (s : yaml_settings_t) (input text : List ℕ) → IsReloaded from s input (Ok text) → LaysOutLoading from s input (Ok text)
+unfolding IsReloaded
+laid_of from s input text h = h.0
+
+pub agree : AnswersAndReloadsAgree
+agree from s z input t u form h k =
+    let back = read_back from s input t form h in
+    let laid = laid_of from z input u k in
+    let n = normal_of from z input u laid.documents k laid.loading in
+    let alike = inputs_load_alike back.content from input (read_said from input back.content back.first) YAML_ANY_ENCODING t (read_said YAML_ANY_ENCODING t back.content back.second) in
+    record {
+      documents = (loads_of YAML_ANY_ENCODING t).documents;
+      others = n.back;
+      first = faultless_load YAML_ANY_ENCODING t (alike.both.0 (right_loads from input laid.documents laid.loading));
+      second = n.right;
+      agree = sym alike.agree ∙ ap (λ (x : List Document). map core_of x) (loads_alike from input laid.documents laid.loading) ∙ n.agree;
+    }
+
+-- ---- names
+
+pub names : NamesLeaveReloads
+names s r c one a_from b_from a b t u h g x y =
+    let k = laid_of a_from s a t x in
+    let l = laid_of b_from s b u y in
+    let p = normal_of a_from s a t k.documents x k.loading in
+    let q = normal_of b_from s b u l.documents y l.loading in
+    let said = λ (z : List Document). canonical_text s (trees_of_dumps z) in
+    p.is ∙ ap said (sym (loads_alike a_from a k.documents k.loading)) ∙ names_do_not_matter (requested_under s true) r c one a_from a h b_from b g
+    ∙ ap said (loads_alike b_from b l.documents l.loading) ∙ sym q.is

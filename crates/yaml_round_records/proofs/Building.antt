@@ -1,0 +1,110 @@
+-- Events that are built of records.
+use Rattle.std.proofs.Common.{◌≡◌, ℕ, ◌+◌, ◌<◌, ◌≤◌, length, get_or, drop, Bool, true, false, ◌&&◌, List, [], ◌∷◌, ◌++◌, refl, sym, ap, ◌∙◌, subst, Option, None, Some, is_some, map, append-nil}
+use Rattle.std.specs.Prelude.{IsUtf8}
+use Rattle.std.specs.Str.{is_utf8}
+use Rattle.std.proofs.lemmas.Str.{IsUtf8-from_is_utf8}
+use Rattle.yaml_parse.specs.Constructors.{HasUtf8, AreUtf8, IsUtf8Option}
+use Rattle.yaml_parse.specs.declared.yaml_event_t.{yaml_event_t}
+use Rattle.yaml_parse.specs.declared.yaml_tag_directive_t.{yaml_tag_directive_t}
+use Rattle.yaml_parse.specs.Events.{Event, EventBody, TagDirective, directive_of, event_of, unplaced}
+use Rattle.yaml_parse.specs.Events as event
+use Rattle.yaml_round_records.proofs.Checked.{left_cons}
+use Rattle.std.proofs.lemmas.List.{drop_all}
+use Rattle.yaml_round_records.specs.declared.record.yaml_c_directive.{yaml_c_directive}
+use Rattle.yaml_round_records.specs.declared.record.yaml_c_event.{yaml_c_event}
+use Rattle.yaml_round_records.specs.Records.{directive_at, in_front, all_directives, body_meant}
+use Rattle.yaml_round_records.specs.Meaning.{is_utf8_option, are_utf8, may_give, given_if, given, event_meant}
+
+-- ---- an event that can be given has its texts in UTF-8
+
+and_left : (a b : Bool) → (a && b) ≡ true → a ≡ true
+and_left true b h = refl
+and_left false b h = h
+
+and_right : (a b : Bool) → (a && b) ≡ true → b ≡ true
+and_right true b h = h
+and_right false b h = absurd (cc)
+
+option_utf8 : (t : Option (List ℕ)) → is_utf8_option t ≡ true → IsUtf8Option t
+option_utf8 None h = tt
+option_utf8 (Some t) h = IsUtf8-from_is_utf8 t h
+
+directives_utf8 : (ds : List TagDirective) → are_utf8 ds ≡ true → AreUtf8 ds
+directives_utf8 [] h = tt
+directives_utf8 (d ∷ ds) h =
+    let front = and_left (is_utf8 d.handle && is_utf8 d.prefix) (are_utf8 ds) h in (
+      (IsUtf8-from_is_utf8 d.handle (and_left (is_utf8 d.handle) (is_utf8 d.prefix) front), IsUtf8-from_is_utf8 d.prefix (and_right (is_utf8 d.handle) (is_utf8 d.prefix) front)),
+      directives_utf8 ds (and_right (is_utf8 d.handle && is_utf8 d.prefix) (are_utf8 ds) h),
+    )
+
+properties_utf8 : (a t : Option (List ℕ)) → (is_utf8_option a && is_utf8_option t) ≡ true → IsUtf8Option a × IsUtf8Option t
+properties_utf8 a t h = (option_utf8 a (and_left (is_utf8_option a) (is_utf8_option t) h), option_utf8 t (and_right (is_utf8_option a) (is_utf8_option t) h))
+
+scalar_utf8 : (a t : Option (List ℕ)) (v : List ℕ) → (is_utf8_option a && (is_utf8_option t && is_utf8 v)) ≡ true → IsUtf8Option a × IsUtf8Option t × IsUtf8 v
+scalar_utf8 a t v h =
+    let rest = and_right (is_utf8_option a) (is_utf8_option t && is_utf8 v) h in
+    (option_utf8 a (and_left (is_utf8_option a) (is_utf8_option t && is_utf8 v) h), option_utf8 t (and_left (is_utf8_option t) (is_utf8 v) rest), IsUtf8-from_is_utf8 v (and_right (is_utf8_option t) (is_utf8 v) rest))
+
+pub has_utf8 : (b : EventBody) → may_give b ≡ true → HasUtf8 b
+has_utf8 event.no h = tt
+has_utf8 (event.stream_start encoding) h = tt
+has_utf8 event.stream_end h = tt
+has_utf8 (event.document_start version directives implicit) h = directives_utf8 directives h
+has_utf8 (event.document_end implicit) h = tt
+has_utf8 (event.alias anchor) h = IsUtf8-from_is_utf8 anchor h
+has_utf8 (event.scalar anchor tag value plain quoted style) h = scalar_utf8 anchor tag value h
+has_utf8 (event.sequence_start anchor tag implicit style) h = properties_utf8 anchor tag h
+has_utf8 event.sequence_end h = tt
+has_utf8 (event.mapping_start anchor tag implicit style) h = properties_utf8 anchor tag h
+has_utf8 event.mapping_end h = tt
+
+some_if : (b : Bool) (e : EventBody) → is_some (given_if b e) ≡ true → b ≡ true
+some_if true e h = refl
+some_if false e h = h
+
+given_true : (b : Bool) (e : EventBody) → b ≡ true → given_if b e ≡ Some e
+given_true true e h = refl
+given_true false e h = absurd (cc)
+
+-- a record that means an event means its body
+pub meant_body : (bytes : List ℕ) (list : List yaml_c_directive) (r : yaml_c_event) (b : EventBody) → body_meant bytes list r ≡ Some b → is_some (event_meant bytes list r) ≡ true
+    → (event_meant bytes list r ≡ Some b) × HasUtf8 b
+unfolding event_meant
+meant_body bytes list r b is h =
+    let may : may_give b ≡ true = some_if (may_give b) b (subst (λ (o : Option EventBody). is_some (given o) ≡ true) is h) in
+    (ap given is ∙ given_true (may_give b) b may, has_utf8 b may)
+
+-- ---- directives one behind another
+
+-- What was put, and whatever the rest means, is what all mean.
+abbrev pub PutSome : List ℕ → List yaml_c_directive → List TagDirective → List yaml_c_directive → Type 0
+PutSome bytes list front left = (rest : List TagDirective) → all_directives bytes left ≡ Some rest → all_directives bytes list ≡ Some (front ++ rest)
+
+one_more : (bytes : List ℕ) (d : yaml_c_directive) (ds : List yaml_c_directive) (x : TagDirective) (rest : List TagDirective) → directive_at bytes d ≡ Some x → all_directives bytes ds ≡ Some rest → all_directives bytes (d ∷ ds) ≡ Some (x ∷ rest)
+unfolding all_directives
+one_more bytes d ds x rest is h = ap (λ o. in_front o (all_directives bytes ds)) is ∙ ap (in_front (Some x)) h
+
+snoc_map : (xs : List yaml_tag_directive_t) (x : yaml_tag_directive_t) (rest : List TagDirective) → map directive_of xs ++ (directive_of x ∷ rest) ≡ map directive_of (xs ++ x ∷ []) ++ rest
+snoc_map [] x rest = refl
+snoc_map (y ∷ ys) x rest = ap (λ (ds : List TagDirective). directive_of y ∷ ds) (snoc_map ys x rest)
+
+pub put_more : (bytes : List ℕ) (list : List yaml_c_directive) (i : ℕ) (d : yaml_c_directive) (x : yaml_tag_directive_t) (front new : List yaml_tag_directive_t) → i < length list → PutSome bytes list (map directive_of front) (drop i list)
+    → directive_at bytes (get_or list i d) ≡ Some (directive_of x) → new ≡ front ++ x ∷ [] → PutSome bytes list (map directive_of new) (drop (i + 1) list)
+put_more bytes list i d x front new h inv is added = λ rest left.
+    inv (directive_of x ∷ rest) (ap (all_directives bytes) (left_cons list i d h) ∙ one_more bytes (get_or list i d) (drop (i + 1) list) (directive_of x) rest is left)
+    ∙ ap (λ (ds : List TagDirective). Some ds) (snoc_map front x rest ∙ ap (λ (ys : List yaml_tag_directive_t). map directive_of ys ++ rest) (sym added))
+
+none_directives : (bytes : List ℕ) → all_directives bytes [] ≡ Some []
+unfolding all_directives
+none_directives bytes = refl
+
+pub put_all : (bytes : List ℕ) (list : List yaml_c_directive) (i : ℕ) (front : List TagDirective) → length list ≤ i → PutSome bytes list front (drop i list) → all_directives bytes list ≡ Some front
+put_all bytes list i front h inv = inv [] (ap (all_directives bytes) (drop_all i list h) ∙ none_directives bytes) ∙ ap (λ (ds : List TagDirective). Some ds) (append-nil front)
+
+-- ---- an event with its marks at zero
+
+pub placed_body : (e : yaml_event_t) (b : EventBody) (o : Option EventBody) → event_of e ≡ unplaced b → o ≡ Some b → o ≡ Some (event_of e).body
+placed_body e b o is h = h ∙ ap (λ (x : Event). Some x.body) (sym is)
+
+pub placed_utf8 : (e : yaml_event_t) (b : EventBody) → event_of e ≡ unplaced b → HasUtf8 b → HasUtf8 (event_of e).body
+placed_utf8 e b is h = subst (λ (x : Event). HasUtf8 x.body) (sym is) h

@@ -1,0 +1,93 @@
+-- What numbers mean: those of libyaml's enums. A number beside them means nothing.
+use Rattle.std.specs.Prelude.{ℤ, pos, Bool, true, false, not, if◌then◌else◌, Option, None, Some}
+use Rattle.std.specs.Ordering.{int_eq}
+use Rattle.yaml_parse.specs.declared.yaml_encoding_t.{yaml_encoding_t}
+use Rattle.yaml_parse.specs.declared.yaml_encoding_t.TheVariants as encoding
+use Rattle.yaml_parse.specs.declared.yaml_break_t.{yaml_break_t}
+use Rattle.yaml_parse.specs.declared.yaml_break_t.TheVariants as line_break
+use Rattle.yaml_parse.specs.declared.yaml_error_type_t.{yaml_error_type_t}
+use Rattle.yaml_parse.specs.declared.yaml_error_type_t.TheVariants as error
+use Rattle.yaml_parse.specs.declared.yaml_event_type_t.{yaml_event_type_t}
+use Rattle.yaml_parse.specs.declared.yaml_event_type_t.TheVariants as kind
+use Rattle.yaml_parse.specs.declared.yaml_scalar_style_t.{yaml_scalar_style_t}
+use Rattle.yaml_parse.specs.declared.yaml_scalar_style_t.TheVariants as scalar
+use Rattle.yaml_parse.specs.declared.yaml_sequence_style_t.{yaml_sequence_style_t}
+use Rattle.yaml_parse.specs.declared.yaml_sequence_style_t.TheVariants as sequence
+use Rattle.yaml_parse.specs.declared.yaml_mapping_style_t.{yaml_mapping_style_t}
+use Rattle.yaml_parse.specs.declared.yaml_mapping_style_t.TheVariants as mapping
+
+-- a flag is off at 0 and on at every other number
+unfoldable pub is_set : ℤ → Bool
+is_set n = not (int_eq n (pos 0))
+
+-- the number of a flag, as it is handed out
+abbrev pub flag_told : Bool → ℤ
+flag_told false = pos 0
+flag_told true = pos 1
+
+unfoldable pub encoding_meant : ℤ → Option yaml_encoding_t
+encoding_meant n =
+    if int_eq n (pos 0) then Some encoding.YAML_ANY_ENCODING
+    else if int_eq n (pos 1) then Some encoding.YAML_UTF8_ENCODING
+    else if int_eq n (pos 2) then Some encoding.YAML_UTF16LE_ENCODING
+    else if int_eq n (pos 3) then Some encoding.YAML_UTF16BE_ENCODING
+    else None
+
+unfoldable pub break_meant : ℤ → Option yaml_break_t
+break_meant n =
+    if int_eq n (pos 0) then Some line_break.YAML_ANY_BREAK
+    else if int_eq n (pos 1) then Some line_break.YAML_CR_BREAK
+    else if int_eq n (pos 2) then Some line_break.YAML_LN_BREAK
+    else if int_eq n (pos 3) then Some line_break.YAML_CRLN_BREAK
+    else None
+
+-- the kind of an event
+unfoldable pub kind_meant : ℤ → Option yaml_event_type_t
+kind_meant n =
+    if int_eq n (pos 0) then Some kind.YAML_NO_EVENT
+    else if int_eq n (pos 1) then Some kind.YAML_STREAM_START_EVENT
+    else if int_eq n (pos 2) then Some kind.YAML_STREAM_END_EVENT
+    else if int_eq n (pos 3) then Some kind.YAML_DOCUMENT_START_EVENT
+    else if int_eq n (pos 4) then Some kind.YAML_DOCUMENT_END_EVENT
+    else if int_eq n (pos 5) then Some kind.YAML_ALIAS_EVENT
+    else if int_eq n (pos 6) then Some kind.YAML_SCALAR_EVENT
+    else if int_eq n (pos 7) then Some kind.YAML_SEQUENCE_START_EVENT
+    else if int_eq n (pos 8) then Some kind.YAML_SEQUENCE_END_EVENT
+    else if int_eq n (pos 9) then Some kind.YAML_MAPPING_START_EVENT
+    else if int_eq n (pos 10) then Some kind.YAML_MAPPING_END_EVENT
+    else None
+
+unfoldable pub scalar_style_meant : ℤ → Option yaml_scalar_style_t
+scalar_style_meant n =
+    if int_eq n (pos 0) then Some scalar.YAML_ANY_SCALAR_STYLE
+    else if int_eq n (pos 1) then Some scalar.YAML_PLAIN_SCALAR_STYLE
+    else if int_eq n (pos 2) then Some scalar.YAML_SINGLE_QUOTED_SCALAR_STYLE
+    else if int_eq n (pos 3) then Some scalar.YAML_DOUBLE_QUOTED_SCALAR_STYLE
+    else if int_eq n (pos 4) then Some scalar.YAML_LITERAL_SCALAR_STYLE
+    else if int_eq n (pos 5) then Some scalar.YAML_FOLDED_SCALAR_STYLE
+    else None
+
+unfoldable pub sequence_style_meant : ℤ → Option yaml_sequence_style_t
+sequence_style_meant n =
+    if int_eq n (pos 0) then Some sequence.YAML_ANY_SEQUENCE_STYLE
+    else if int_eq n (pos 1) then Some sequence.YAML_BLOCK_SEQUENCE_STYLE
+    else if int_eq n (pos 2) then Some sequence.YAML_FLOW_SEQUENCE_STYLE
+    else None
+
+unfoldable pub mapping_style_meant : ℤ → Option yaml_mapping_style_t
+mapping_style_meant n =
+    if int_eq n (pos 0) then Some mapping.YAML_ANY_MAPPING_STYLE
+    else if int_eq n (pos 1) then Some mapping.YAML_BLOCK_MAPPING_STYLE
+    else if int_eq n (pos 2) then Some mapping.YAML_FLOW_MAPPING_STYLE
+    else None
+
+-- the number of a fault's kind
+abbrev pub error_number : yaml_error_type_t → ℤ
+error_number error.YAML_NO_ERROR = pos 0
+error_number error.YAML_MEMORY_ERROR = pos 1
+error_number error.YAML_READER_ERROR = pos 2
+error_number error.YAML_SCANNER_ERROR = pos 3
+error_number error.YAML_PARSER_ERROR = pos 4
+error_number error.YAML_COMPOSER_ERROR = pos 5
+error_number error.YAML_WRITER_ERROR = pos 6
+error_number error.YAML_EMITTER_ERROR = pos 7

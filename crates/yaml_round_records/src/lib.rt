@@ -1,0 +1,19 @@
+//! What C's records of events mean to an emitter, and what a parser's events are as such records.
+#![tactic(auto)]
+
+mod collecting;
+mod emitter;
+mod event;
+mod listing;
+mod meaning;
+mod number;
+mod record;
+
+pub use collecting::collect;
+pub use emitter::{Asked, asked_of, emitted};
+pub use listing::Listing;
+pub use meaning::are_meant;
+pub use number::{break_of, encoding_of, error_number, is_set};
+pub use record::{
+    mark_told, yaml_c_directive, yaml_c_event, yaml_c_mark, yaml_c_settings, yaml_c_span,
+};

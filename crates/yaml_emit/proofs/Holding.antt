@@ -4,18 +4,13 @@ use Rattle.std.specs.Prelude.{nat_le, ◌||◌, ◌&&◌, ◌≤◌}
 use Rattle.std.proofs.lemmas.Bool.Decides.{nat_tests}
 use Rattle.yaml_emit_layout.specs.Content.{Event, no_event, stream_start, stream_end, document_start, document_end, alias, scalar, sequence_start, sequence_end, mapping_start, mapping_end}
 use Rattle.yaml_emit_layout.specs.State.{opens_empty}
-use Rattle.yaml_emit_state.specs.declared.Core.{Core}
-use Rattle.yaml_emit_state.specs.Steps.{state_of, settings_of, LaysOut}
-use Rattle.yaml_emit_state.specs.Finish.{Finishes, Leads}
-use Rattle.yaml_emit_state.proofs.Finishing.{finishes_on}
 use Rattle.yaml_parse_model.specs.declared.yaml_event_body_t.{yaml_event_body_t}
 use Rattle.yaml_emit.specs.declared.held.Held.{Held}
 use Rattle.yaml_emit.specs.declared.held.Count.{Count}
 use Rattle.yaml_emit.specs.declared.held.Count.TheVariants.{Nothing}
 use Rattle.yaml_emit.specs.declared.held.Seat.{Seat}
 use Rattle.yaml_emit.specs.declared.held.Seat.TheVariants.{First, Second, Third, Fourth}
-use Rattle.yaml_emit.specs.Held.{is_ready, needs, closes, passes, ends_level, next, less, stands, seated, held_events, oldest_event}
-use Rattle.yaml_emit.proofs.Opening.{opens_none}
+use Rattle.yaml_emit.specs.Held.{is_ready, needs, closes, ends_level, next, less, stands, seated, held_events, oldest_event}
 
 pub ready_empty : (e : Event) (es more : List Event) → is_ready (e ∷ es) ≡ true → opens_empty e (es ++ more) ≡ opens_empty e es
 unfolding is_ready opens_empty
@@ -24,27 +19,6 @@ ready_empty (mapping_start p) [] more h = absurd (cc)
 ready_empty (sequence_start p) (f ∷ es) more h = refl
 ready_empty (mapping_start p) (f ∷ es) more h = refl
 ready_empty _ es more h = refl
-
-pub leads_same : (a : Core) (h : List Event) → Leads a h a h
-leads_same a h = record { finishes = λ es whole f. f; encoding = refl; limit = refl; settings = refl }
-
-pub leads_more : (a b c : Core) (h x y : List Event) (e : Event) (empty : Bool) → Leads a h b x → x ≡ e ∷ y → is_ready x ≡ true → empty ≡ opens_empty e y → LaysOut b c e empty → Leads a h c y
-leads_more a b c h x y e empty p same r is l = record {
-  finishes = λ es whole f.
-      let P : List Event → Type 0 = λ z. Finishes (settings_of b) (state_of b) b.sink (z ++ es) whole in
-      let Q : List Event → Type 0 = λ z. is_ready z ≡ true in
-      let look : opens_empty e (y ++ es) ≡ opens_empty e y = ready_empty e y es (subst Q same r) in
-      let R : Bool → Type 0 = λ v. LaysOut b c e v in
-      finishes_on b c e (y ++ es) whole (subst R (is ∙ sym look) l) (subst P same (p.finishes es whole f));
-  encoding = l.text.encoding ∙ p.encoding;
-  limit = l.text.limit ∙ p.limit;
-  settings = l.settings ∙ p.settings;
-}
-
--- an event that isn't held
-pub leads_past : (a c : Core) (h : List Event) (e : Event) → passes h e ≡ true → LaysOut a c e false → Leads a (h ++ e ∷ []) c h
-leads_past a c [] e p l = leads_more a a c (e ∷ []) (e ∷ []) [] e false (leads_same a (e ∷ [])) refl p (sym (opens_none e)) l
-leads_past a c (f ∷ fs) e p l = absurd (cc)
 
 -- of one event alone, closing is ending a level
 pub closes_last : (e : Event) → ends_level e ≡ closes (e ∷ [])

@@ -23,10 +23,12 @@ use Rattle.yaml_emit_layout.specs.Nodes.{Context, context_of}
 use Rattle.yaml_emit_layout.specs.State.{State, piece, next, next_at, problem_at, opens_empty, begins_by, is_sequence_end, is_mapping_end, top_of, outer_of, place_at, among, levels_behind, phase_behind}
 use Rattle.yaml_emit_state.specs.declared.Core.{Core}
 use Rattle.yaml_emit_state.specs.Steps.{state_of, settings_of, next_state, next_piece, LaysOut, takes_memory, may_note, goes_on}
+use Rattle.yaml_emit_state.specs.Finish.{Finishes}
+use Rattle.yaml_emit_state.proofs.Finishing.{finishes_on}
 use Rattle.yaml_emit_state.proofs.Noting.{neither, notes_both, notes_within}
 use Rattle.yaml_emit.specs.Held.{is_ready, needs, closes, passes, opens_level, ends_level}
 use Rattle.yaml_emit.specs.Judged.{Due, item_due, key_due, Progress, progress_after, inside, behind_node, outer_due, phase_due, level_due, problem_in, let_out, first_refusal, unless, laid, refused_at, due_in, due_of, shape_of, refusal_from, text_from, refusal_behind, LetsOut, take_memory}
-use Rattle.yaml_emit.specs.Laying.{Judges}
+use Rattle.yaml_emit.specs.Laying.{LaysEvents}
 use Rattle.yaml_emit.proofs.Opening.{opens_none}
 use Rattle.yaml_emit.proofs.Holding.{ready_empty}
 use Rattle.yaml_emit.proofs.Ending.{none_needed}
@@ -304,8 +306,17 @@ text_step (Some x) old new e es whole o r l h =
 
 -- ---- one event after another
 
-pub judges_same : (a : Core) (h : List Event) → Judges a h a h
-judges_same a h = record { refuses = λ g es. refl; lets_out = λ es whole f. f; going = λ g. g; memory = λ n. refl; left = λ n. n }
+pub lays_none : (a : Core) (h : List Event) → LaysEvents a h a h
+lays_none a h = record {
+  finishes = λ es whole f. f;
+  refuses = λ g es. refl;
+  lets_out = λ es whole f. f;
+  going = λ g. g;
+  encoding = refl;
+  limit = refl;
+  memory = λ n. refl;
+  left = λ n. n;
+}
 
 refusal_on : (b c : Core) (e : Event) (es : List Event) (empty : Bool) → refused_at b.place ≡ None → is_ready (e ∷ es) ≡ true → LaysOut b c e empty → c.sink.status ≡ Going → refusal_behind (settings_of c) (state_of c) es ≡ refusal_behind (settings_of b) (state_of b) (e ∷ es)
 unfolding refusal_behind
@@ -317,12 +328,16 @@ refusal_on b c e es empty o r l g =
 none_takes : (e : Event) (es : List Event) → take_memory (e ∷ es) ≡ false → (takes_memory e ≡ false) × (take_memory es ≡ false)
 none_takes e es h = neither (takes_memory e) (take_memory es) h
 
-pub judges_more : (a b c : Core) (h x y : List Event) (e : Event) (empty : Bool) → Judges a h b x → x ≡ e ∷ y → goes_on b.sink.status b.place ≡ true → is_ready x ≡ true → empty ≡ opens_empty e y → LaysOut b c e empty → Judges a h c y
-judges_more a b c h x y e empty p same goes r is l =
+pub lays_more : (a b c : Core) (h x y : List Event) (e : Event) (empty : Bool) → LaysEvents a h b x → x ≡ e ∷ y → goes_on b.sink.status b.place ≡ true → is_ready x ≡ true → empty ≡ opens_empty e y → LaysOut b c e empty → LaysEvents a h c y
+lays_more a b c h x y e empty p same goes r is l =
     let Q : List Event → Type 0 = λ z. is_ready z ≡ true in
     let r' : is_ready (e ∷ y) ≡ true = subst Q same r in
     let o : refused_at b.place ≡ None = going_open b.sink.status b.place goes in
     record {
+      finishes = λ es whole f.
+          let P : List Event → Type 0 = λ z. Finishes (settings_of b) (state_of b) b.sink (z ++ es) whole in
+          let R : Bool → Type 0 = λ v. LaysOut b c e v in
+          finishes_on b c e (y ++ es) whole (subst R (is ∙ sym (ready_empty e y es r')) l) (subst P same (p.finishes es whole f));
       refuses = λ g es.
           refusal_on b c e (y ++ es) empty o (ready_more e y es r') l g
           ∙ (ap (λ z. refusal_behind (settings_of b) (state_of b) (z ++ es)) (sym same) ∙ p.refuses (l.text.going g) es);
@@ -332,6 +347,8 @@ judges_more a b c h x y e empty p same goes r is l =
           let l' : LaysOut b c e (opens_empty e (y ++ es)) = subst R (is ∙ sym (ready_empty e y es r')) l in
           text_step (problem_at (settings_of b) (state_of b) e) b c e (y ++ es) whole o (ready_more e y es r') (done b c e _ l') (subst P same (p.lets_out es whole f));
       going = λ g. p.going (l.text.going g);
+      encoding = l.text.encoding ∙ p.encoding;
+      limit = l.text.limit ∙ p.limit;
       memory = λ n.
           let k = notes_both (take_memory h) _ _ _ p.going l.text.going n in
           l.memory (notes_within (take_memory h) (takes_memory e) _ _ (λ z. (none_takes e y (sym (ap take_memory same) ∙ p.left z)).0) k.1) ∙ p.memory k.0;
@@ -339,9 +356,9 @@ judges_more a b c h x y e empty p same goes r is l =
     }
 
 -- an event that isn't held
-pub judges_past : (a c : Core) (h : List Event) (e : Event) → goes_on a.sink.status a.place ≡ true → passes h e ≡ true → LaysOut a c e false → Judges a (h ++ e ∷ []) c h
-judges_past a c [] e g p l = judges_more a a c (e ∷ []) (e ∷ []) [] e false (judges_same a (e ∷ [])) refl g p (sym (opens_none e)) l
-judges_past a c (f ∷ fs) e g p l = absurd (cc)
+pub lays_past : (a c : Core) (h : List Event) (e : Event) → goes_on a.sink.status a.place ≡ true → passes h e ≡ true → LaysOut a c e false → LaysEvents a (h ++ e ∷ []) c h
+lays_past a c [] e g p l = lays_more a a c (e ∷ []) (e ∷ []) [] e false (lays_none a (e ∷ [])) refl g p (sym (opens_none e)) l
+lays_past a c (f ∷ fs) e g p l = absurd (cc)
 
 -- ---- memory
 
@@ -356,5 +373,5 @@ going_notes true Deep b g = refl
 going_notes true Starved b g = refl
 
 -- while the output goes on, none was refused outside it
-pub judges_unnoted : (old new : Core) (before after : List Event) → Judges old before new after → (old.sink.status ≡ Going → old.starved ≡ false) → new.sink.status ≡ Going → new.starved ≡ false
-judges_unnoted old new before after j n g = j.memory (going_notes _ old.sink.status new.sink.status g) ∙ n (j.going g)
+pub lays_unnoted : (old new : Core) (before after : List Event) → LaysEvents old before new after → (old.sink.status ≡ Going → old.starved ≡ false) → new.sink.status ≡ Going → new.starved ≡ false
+lays_unnoted old new before after j n g = j.memory (going_notes _ old.sink.status new.sink.status g) ∙ n (j.going g)

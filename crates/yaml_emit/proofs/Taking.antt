@@ -18,13 +18,12 @@ use Rattle.yaml_emit_layout.specs.Content.{Event}
 use Rattle.yaml_emit_layout.specs.State.{State, placed}
 use Rattle.yaml_emit_state.specs.declared.Core.{Core}
 use Rattle.yaml_emit_state.specs.Steps.{state_of, settings_of, IsFresh, may_note}
-use Rattle.yaml_emit_state.specs.Finish.{Leads}
 use Rattle.yaml_emit_state.proofs.Noting.{notes_both, notes_some}
 use Rattle.yaml_emit.specs.Held.{held_events}
 use Rattle.yaml_emit.specs.declared.held.Held.{Held}
 use Rattle.yaml_emit.specs.declared.emitter.yaml_emitter_t.TheInside.{Inside}
 use Rattle.yaml_emit.specs.Judged.{first_progress, let_out, first_refusal, laid, refused_at, refusal_from, text_from, refusal_behind, LetsOut, take_memory}
-use Rattle.yaml_emit.specs.Laying.{Judges}
+use Rattle.yaml_emit.specs.Laying.{LaysEvents}
 use Rattle.yaml_emit.specs.Emitter.{Emitter, text_of, fault_by, refusal_by, stop_of, stream_encoding, CompletesBy, Completes}
 use Rattle.yaml_emit.specs.Views.{emitter_of, IsEmitter}
 use Rattle.yaml_emit.specs.Verdict.{verdict_by, verdict, IsLetOut, WritesBy, Writes, TellsOutcome}
@@ -110,26 +109,26 @@ lay_writes old new e h x es whole a b same on coded c =
     let move : old.held ++ (e ∷ es) ≡ (h ++ e ∷ []) ++ es = ap (λ z. z ++ (e ∷ es)) (sym same) ∙ sym (append_assoc h (e ∷ []) es) in
     subst Q (sym b) (coded ∙ k.0, on (subst R move k.1))
 
-pub inside_takes : (i : Inside) (core : Core) (h held : Held) (fault : Option Fault) (e : Event) → i.fresh ≡ false → i.core.sink.status ≡ Going → h ≡ i.held → Leads i.core (held_events h ++ e ∷ []) core (held_events held) → Judges i.core (held_events h ++ e ∷ []) core (held_events held)
+pub inside_takes : (i : Inside) (core : Core) (h held : Held) (fault : Option Fault) (e : Event) → i.fresh ≡ false → i.core.sink.status ≡ Going → h ≡ i.held → LaysEvents i.core (held_events h ++ e ∷ []) core (held_events held)
     → TakesEvents (emitter_of i) (e ∷ []) (seen i.requested_settings core (held_events held) i.fresh i.opened i.closed fault) []
-inside_takes i core h held fault e fr on same l j =
+inside_takes i core h held fault e fr on same l =
     let new : Emitter = seen i.requested_settings core (held_events held) i.fresh i.opened i.closed fault in
     record {
       completes = λ x es whole c. lay_completes (emitter_of i) new e (held_events h) x es whole fr fr (ap held_events same) (l.finishes es whole) l.encoding c;
-      refuses = λ g es. lay_refuses (emitter_of i) new e (held_events h) es fr fr (ap held_events same) (j.refuses g es);
-      writes = λ x es whole c. lay_writes (emitter_of i) new e (held_events h) x es whole fr fr (ap held_events same) (j.lets_out es whole) l.encoding c;
+      refuses = λ g es. lay_refuses (emitter_of i) new e (held_events h) es fr fr (ap held_events same) (l.refuses g es);
+      writes = λ x es whole c. lay_writes (emitter_of i) new e (held_events h) x es whole fr fr (ap held_events same) (l.lets_out es whole) l.encoding c;
       going = λ _. on;
       requested_settings = refl;
       limit = l.limit;
       begun = λ f. absurd (cc);
     }
 
-pub inside_notes : (i : Inside) (core : Core) (h held : Held) (fault : Option Fault) (e : Event) → h ≡ i.held → Judges i.core (held_events h ++ e ∷ []) core (held_events held)
+pub inside_notes : (i : Inside) (core : Core) (h held : Held) (fault : Option Fault) (e : Event) → h ≡ i.held → LaysEvents i.core (held_events h ++ e ∷ []) core (held_events held)
     → NotesMemoryOf e (emitter_of i) (seen i.requested_settings core (held_events held) i.fresh i.opened i.closed fault)
-inside_notes i core h held fault e same j =
+inside_notes i core h held fault e same l =
     let new : Emitter = seen i.requested_settings core (held_events held) i.fresh i.opened i.closed fault in
     let P : Held → Type 0 = λ z. NotesMemory (take_memory (held_events z ++ e ∷ [])) (emitter_of i) new in
-    subst P same j.memory
+    subst P same l.memory
 
 -- with no fault the output goes on
 pub inside_going : (i : Inside) → IsEmitter i → option_map fault_of i.fault ≡ None → i.core.sink.status ≡ Going

@@ -5,9 +5,8 @@ ghost use Rattle.yaml_parse_model.specs.Events.{body_of};
 ghost use Rattle.yaml_parse_model.specs.Constructors.{HasUtf8};
 ghost use Rattle.yaml_emit_layout.specs.Content.{emitter_event};
 ghost use Rattle.yaml_emit_state.specs.Steps.{goes_on};
-ghost use Rattle.yaml_emit_state.specs.Finish.{Leads};
 ghost use Rattle.yaml_emit.specs.Held.{held_events, HeldUtf8, is_ready, passes};
-ghost use Rattle.yaml_emit.specs.Laying.{Judges};
+ghost use Rattle.yaml_emit.specs.Laying.{LaysEvents};
 
 use crate::held::Held;
 use yaml_emit_state::Core;
@@ -34,8 +33,7 @@ fn release(core: &mut Core, held: &mut Held)
     requires utf8 { HeldUtf8 held.old }
     requires most { length (held_events held.old) ≤ 4 }
     requires going { goes_on core.old.sink.status core.old.place ≡ true }
-    ensures leads { Leads core.old (held_events held.old) core.new (held_events held.new) }
-    ensures judges { Judges core.old (held_events held.old) core.new (held_events held.new) }
+    ensures lays { LaysEvents core.old (held_events held.old) core.new (held_events held.new) }
     ensures utf8 { HeldUtf8 held.new }
     ensures short { length (held_events held.new) ≤ 3 }
     ensures waits { goes_on core.new.sink.status core.new.place ≡ true
@@ -51,9 +49,7 @@ pub(crate) fn give(core: &mut Core, held: &mut Held, event: &mut yaml_event_body
     requires few { is_ready (held_events held.old) ≡ false }
     requires going { goes_on core.old.sink.status core.old.place ≡ true }
     requires utf8 { HeldUtf8 held.old × HasUtf8 (body_of event.old) }
-    ensures leads { Leads core.old (held_events held.old ++ emitter_event (body_of event.old) ∷ [])
-        core.new (held_events held.new) }
-    ensures judges { Judges core.old (held_events held.old ++ emitter_event (body_of event.old)
+    ensures lays { LaysEvents core.old (held_events held.old ++ emitter_event (body_of event.old)
         ∷ []) core.new (held_events held.new) }
     ensures utf8 { HeldUtf8 held.new }
     ensures short { length (held_events held.new) ≤ 3 }

@@ -1,5 +1,5 @@
 -- What an emitter's output ends as, with the events that follow.
-use Rattle.std.specs.Prelude.{◌≡◌, List, [], ◌++◌, None}
+use Rattle.std.specs.Prelude.{◌≡◌, List, [], None}
 use Rattle.yaml_emit_text.specs.declared.Settings.{Settings}
 use Rattle.yaml_emit_text.specs.declared.Status.{Status}
 use Rattle.yaml_emit_text.specs.declared.Status.TheVariants.{Going, Full, Deep, Starved}
@@ -11,8 +11,6 @@ use Rattle.yaml_emit_layout.specs.Grammar.{own_problems}
 use Rattle.yaml_emit_layout.specs.State.{State}
 use Rattle.yaml_emit_layout.specs.ToCome.{ToCome, events, layout}
 use Rattle.yaml_emit_layout.specs.ToCome as come
-use Rattle.yaml_emit_state.specs.declared.state.Core.{Core}
-use Rattle.yaml_emit_state.specs.Steps.{state_of, settings_of}
 
 -- the events are those of some rest of a stream, nothing is wrong in them, and its text is still to come
 pub record FinishesBy (s : Settings) (st : State) (o : Output) (es : List Event)
@@ -33,12 +31,3 @@ FinishesAt Starved s st o es whole = Ends o [] whole
 -- In these settings, from this state and behind this output, with these events to come, the text is `whole`.
 unfoldable pub Finishes : Settings → State → Output → List Event → List Item → Type 0
 Finishes s st o es whole = FinishesAt o.status s st o es whole
-
--- With these events to be laid out, one state leads to another with those: whatever follows, the output ends the same.
-pub record Leads (old : Core) (before : List Event) (new : Core) (after : List Event) : Type 0 where
-  pub finishes : (es : List Event) (whole : List Item)
-      → Finishes (settings_of old) (state_of old) old.sink (before ++ es) whole
-      → Finishes (settings_of new) (state_of new) new.sink (after ++ es) whole
-  pub encoding : new.sink.encoding ≡ old.sink.encoding
-  pub limit : new.sink.limit ≡ old.sink.limit
-  pub settings : new.settings ≡ old.settings

@@ -37,9 +37,6 @@ open_stands x t s s' (step.refused f) c o h = tt
 open_stands x t s s' step.silent c o h = absurd o
 open_stands x t s s' step.done c o h = tt
 
-pub advance_stands : (old : List State) (x : State) (s s' : List State) (r : Stepped) → old ≡ x ∷ s → (IsStack (x ∷ s) → IsStackStep r s') → IsStack old → IsStackStep r s'
-advance_stands old x s s' r e k h = k (subst IsStack e h)
-
 -- ---- turns
 
 pub cleared_stands : (s : List State) → s ≡ [] → Unit {0} × IsStack s

@@ -1,7 +1,7 @@
 -- What each step over the grammar owes.
-use Rattle.std.proofs.Common.{◌≡◌, ◌⊎◌, ◌<◌, ℕ, inl, inr, List, [], ◌∷◌, ◌++◌, length, reverse, map, Option, Some, None, refl, sym, ap, subst, ◌∙◌, arith, true, false, ◌==◌}
+use Rattle.std.proofs.Common.{◌≡◌, ◌⊎◌, ◌<◌, ℕ, inl, inr, List, [], ◌∷◌, ◌++◌, length, reverse, Option, Some, None, refl, sym, ap, subst, ◌∙◌, arith, true, false, ◌==◌}
 use Rattle.std.proofs.lemmas.Bool.Decides.{nat_tests}
-use Rattle.std.proofs.lemmas.List.{reverse-append, length-map, length-reverse}
+use Rattle.std.proofs.lemmas.List.{length-map, length-reverse}
 use Rattle.yaml_scan_model.specs.declared.yaml_mark_t.{yaml_mark_t}
 use Rattle.yaml_scan_model.specs.Tokens.{Token, no_token, type_of}
 use Rattle.yaml_scan_model.specs.Faults.{Fault}
@@ -17,10 +17,10 @@ use Rattle.yaml_parse_grammar.proofs.Complete.{giving, leaves_at}
 use Rattle.yaml_parse_grammar.proofs.Voice.{Voiced, TakenSpeaks, taken_speaks, left_voiced, takes_a_token}
 use Rattle.yaml_parse_grammar.proofs.Single.{refuses, takes, takes_silently, opens, refuses_stops, takes_stops, leaves_stops, opens_stops}
 use Rattle.yaml_parse_machine.specs.declared.item.State as code
-use Rattle.yaml_parse_machine.specs.Views.{state_of, stack_of}
+use Rattle.yaml_parse_machine.specs.Views.{state_of, stack_of, below}
 use Rattle.yaml_parse.specs.Stepped.{Stepped}
 use Rattle.yaml_parse.specs.Stepped as step
-use Rattle.yaml_parse.specs.Steps.{Raw, raw, outcome, stop_of, budget, IsFront, HasNoFront, IsDirective, GivesItem, GivesNoItem, IsRefused, Steps, OpensAt, IsReal}
+use Rattle.yaml_parse.specs.Steps.{Raw, raw, outcome, stop_of, budget, IsFront, HasNoFront, IsDirective, GivesItem, GivesNoItem, IsRefused, Steps, OpensAt, IsReal, IsRealOn}
 
 -- a directive leaves something open
 directive_stands : (b : RawEventBody) (P : Type 0) → Voiced b P → IsDirective b → P
@@ -139,14 +139,12 @@ bridge old middle new x t (step.refused f) h e q a l = record {
 }
 bridge old middle new x t step.done h e q a l = absurd l
 
--- the state on top
-pub popped : (old new : List code.State) (x : code.State) → old ≡ new ++ x ∷ [] → stack_of old ≡ state_of x ∷ stack_of new
-popped old new x e = ap (λ (z : List code.State). map state_of (reverse z)) e ∙ ap (map state_of) (reverse-append new (x ∷ []))
-
-pub advanced : (peeked : Option Token) (ts : List Token) (f : Option Fault) (old : List State) (x : State) (s : List State) (t : Token) (rest : List Token) (after : Option Fault) (new : Raw) (r : Stepped)
-    → old ≡ x ∷ s → IsFront peeked ts f t rest after → Steps (raw (Some t) rest after (x ∷ s)) r new → IsReal x t r → Steps (raw peeked ts f old) r new
-advanced peeked ts f old x s t rest after new r e h k l =
-    bridge (raw peeked ts f old) (raw (Some t) rest after (x ∷ s)) new x t r k (rw e (h.runs (x ∷ s))) (rw e (h.stops (x ∷ s))) (elim h.asked [ inl a ↦ inl a | inr a ↦ inr a ]) l
+-- the topmost state at the token of the source
+front_at : (peeked : Option Token) (ts : List Token) (f : Option Fault) (s : List State) (t : Token) (rest : List Token) (after : Option Fault) (new : Raw) (r : Stepped)
+    → (length s ≡ 0 → ⊥) → IsFront peeked ts f t rest after → Steps (raw (Some t) rest after s) r new → IsRealOn s t r → Steps (raw peeked ts f s) r new
+front_at peeked ts f [] t rest after new r n h k l = absurd (n refl)
+front_at peeked ts f (x ∷ s) t rest after new r n h k l =
+    bridge (raw peeked ts f (x ∷ s)) (raw (Some t) rest after (x ∷ s)) new x t r k (h.runs (x ∷ s)) (h.stops (x ∷ s)) (elim h.asked [ inl a ↦ inl a | inr a ↦ inr a ]) (l x refl)
 
 ending_outcome : (peeked : Option Token) (ts : List Token) (f : Option Fault) (old : List State) (x : State) (s : List State) (e : Fault)
     → old ≡ x ∷ s → ((z : List State) → outcome (raw peeked ts f z) ≡ ending_at z e) → outcome (raw peeked ts f old) ≡ record { items = []; ending = Some e }
@@ -170,6 +168,11 @@ stack_length s = length-map (reverse s) state_of ∙ length-reverse s
 no_zero : (n : ℕ) → (n == 0) ≡ false → n ≡ 0 → ⊥
 no_zero n h e = grind (arith, nat_tests)
 
+-- the same, of states of which there are some
+pub over_front : (peeked : Option Token) (ts : List Token) (f : Option Fault) (s : List code.State) (n : ℕ) (t : Token) (rest : List Token) (after : Option Fault) (new : Raw) (r : Stepped)
+    → n ≡ length s → (n == 0) ≡ false → IsFront peeked ts f t rest after → Steps (raw (Some t) rest after (stack_of s)) r new → IsRealOn (stack_of s) t r → Steps (raw peeked ts f (stack_of s)) r new
+over_front peeked ts f s n t rest after new r q z h k l = front_at peeked ts f (stack_of s) t rest after new r (λ e. no_zero n z (q ∙ sym (stack_length s) ∙ e)) h k l
+
 -- the states stay where they are, of which there are some
 pub no_front_open : (peeked : Option Token) (ts : List Token) (f : Option Fault) (old : List code.State) (n : ℕ) (e : Fault) (new : Raw)
     → n ≡ length old → (n == 0) ≡ false → HasNoFront peeked ts f e new.tokens → IsRefused e (raw peeked ts f (stack_of old)) new
@@ -177,3 +180,14 @@ no_front_open peeked ts f old n e new q z h = no_front_at peeked ts f (stack_of 
 
 pub leave_real : (x : State) (t : Token) (start : yaml_mark_t) (i : RawEvent) → i ≡ left_at x start → IsReal x t (step.given i)
 leave_real x t start i e = λ d. absurd (left_is_none x start (subst (λ (j : RawEvent). IsDirective j.body) e d))
+
+-- what holds of the topmost state and those below holds of all, where there is one
+pub over : (s : List State) (P : List State → Type 0) → (length s ≡ 0 → ⊥) → ((x : State) → s ≡ x ∷ below s → P (x ∷ below s)) → P s
+over [] P n h = absurd (n refl)
+over (x ∷ s) P n h = h x refl
+
+some_length : (m n : ℕ) → 0 < n → n ≡ m → m ≡ 0 → ⊥
+some_length m n h e z = omega arith
+
+pub are_some : (s : List code.State) (n : ℕ) → n ≡ length s → 0 < n → length (stack_of s) ≡ 0 → ⊥
+are_some s n e h z = some_length (length s) n h e (sym (stack_length s) ∙ z)

@@ -44,11 +44,10 @@ open_utf8 x t start s s' step.silent ds o h = absurd o
 open_utf8 x t start s s' step.done ds o h = tt
 
 -- the state on top, at the token in front
-pub advance_utf8 : (peeked : Option Token) (old : List State) (x : State) (s : List State) (t : Token) (after : Option Token) (s' : List State) (r : Stepped) (ds : Directives)
-    → old ≡ x ∷ s → (IsUtf8Token peeked → source.HasUtf8 t.body) → (IsUtf8Held (Some t) (x ∷ s) ds → IsUtf8Step r after s' ds) → IsUtf8Held peeked old ds → IsUtf8Step r after s' ds
-advance_utf8 peeked old x s t after s' r ds e f k h =
-    let u : IsUtf8Held peeked (x ∷ s) ds = subst (λ (z : List State). IsUtf8Held peeked z ds) e h in
-    k (f u.0, u.1)
+pub advance_utf8 : (peeked : Option Token) (s : List State) (t : Token) (after : Option Token) (s' : List State) (r : Stepped) (ds : Directives)
+    → (IsUtf8Token peeked → source.HasUtf8 t.body) → (IsUtf8Held (Some t) s ds → IsUtf8Step r after s' ds) → IsUtf8Held peeked s ds → IsUtf8Step r after s' ds
+advance_utf8 peeked [] t after s' r ds f k h = k tt
+advance_utf8 peeked (x ∷ s) t after s' r ds f k h = k (f h.0, h.1)
 
 -- ---- turns
 

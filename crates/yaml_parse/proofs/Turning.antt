@@ -1,5 +1,5 @@
 -- What a step with its item resolved owes.
-use Rattle.std.proofs.Common.{◌≡◌, ◌+◌, ◌<◌, ◌≤◌, arith, ℕ, inl, inr, List, [], ◌∷◌, length, Option, Some, None, refl, sym, ap, subst, ◌∙◌}
+use Rattle.std.proofs.Common.{◌≡◌, ◌⊎◌, ◌+◌, ◌<◌, ◌≤◌, arith, ℕ, inl, inr, List, [], ◌∷◌, length, Option, Some, None, refl, sym, ap, subst, ◌∙◌}
 use Rattle.yaml_scan_model.specs.declared.yaml_origin_t.TheVariants.{Parser}
 use Rattle.yaml_scan_model.specs.declared.yaml_mark_t.{yaml_mark_t}
 use Rattle.yaml_scan_model.specs.Tokens.{Token}
@@ -148,7 +148,7 @@ refused_turn old middle new ds ds' answered e h k s = record {
   ];
 }
 
-pub settled_turn : (old middle new : Raw) (ds ds' : Directives) (answered : Fault) (i : RawEvent) (e : Fault) → GivesItem i old middle → settle i ds ≡ refused e → new.tokens ≡ middle.tokens → new.stack ≡ []
+settled_turn : (old middle new : Raw) (ds ds' : Directives) (answered : Fault) (i : RawEvent) (e : Fault) → GivesItem i old middle → settle i ds ≡ refused e → new.tokens ≡ middle.tokens → new.stack ≡ []
     → IsTurnRefused e (of_raw old ds answered) (of_raw new ds' answered)
 settled_turn old middle new ds ds' answered i e h r k s = record {
   finished = finishes new.peeked new.tokens new.fault new.stack ds' answered s;
@@ -157,8 +157,14 @@ settled_turn old middle new ds ds' answered i e h r k s = record {
   unasked = inr (ap length k ∙ sym (item_unasked old middle ds i h ∙ fault_refused (outcome middle).items (stop_of middle) ds i (length middle.tokens) e r));
 }
 
-pub memory_turn : (old : ParserRemaining) (new : Raw) (ds' : Directives) (answered : Fault) (e : Fault) → e ≡ memory_fault Parser → new.stack ≡ [] → IsTurnRefused e old (of_raw new ds' answered)
+memory_turn : (old : ParserRemaining) (new : Raw) (ds' : Directives) (answered : Fault) (e : Fault) → e ≡ memory_fault Parser → new.stack ≡ [] → IsTurnRefused e old (of_raw new ds' answered)
 memory_turn old new ds' answered e m s = record { finished = finishes new.peeked new.tokens new.fault new.stack ds' answered s; reason = inl (inl m); unasked = inl (inl m) }
+
+-- an item that is refused, or for which memory ran out
+pub unsettled_turn : (old middle new : Raw) (ds ds' : Directives) (answered : Fault) (i : RawEvent) (e : Fault) → GivesItem i old middle → (e ≡ memory_fault Parser) ⊎ (settle i ds ≡ refused e) → new.tokens ≡ middle.tokens → new.stack ≡ []
+    → IsTurnRefused e (of_raw old ds answered) (of_raw new ds' answered)
+unsettled_turn old middle new ds ds' answered i e h (inl m) k s = memory_turn (of_raw old ds answered) new ds' answered e m s
+unsettled_turn old middle new ds ds' answered i e h (inr r) k s = settled_turn old middle new ds ds' answered i e h r k s
 
 pub done_turn : (old new : Raw) (ds : Directives) (answered : Fault) → IsDone old new → IsOver (of_raw old ds answered) (of_raw new ds answered)
 done_turn old new ds answered h = record {

@@ -13,7 +13,10 @@ use Rattle.yaml_parse_grammar.specs.Remaining.{ParserRemaining, waiting, held_of
 use Rattle.yaml_parse_grammar.specs.Texts.{IsUtf8Item, AreUtf8States, IsUtf8Token}
 use Rattle.yaml_parse_grammar.specs.Stacks.{IsStack, StandsBehind, parts_documents_behind}
 use Rattle.yaml_parse_model.specs.Constructors.{HasUtf8, AreUtf8}
-use Rattle.yaml_parse_grammar.specs.Resolve.{Directives}
+use Rattle.yaml_parse_grammar.specs.Resolve.{Directives, Settled, gave, noted, placed, refused}
+use Rattle.yaml_parse_model.specs.declared.event.yaml_event_t.{yaml_event_t}
+use Rattle.yaml_parse_model.specs.Events.{event_of, body_of}
+use Rattle.yaml_parse_machine.specs.Views.{below}
 use Rattle.yaml_parse.specs.declared.step.StepBuffers.{StepBuffers}
 use Rattle.yaml_parse.specs.Finds.{GivesNext}
 use Rattle.yaml_parse.specs.Stepped.{Stepped}
@@ -126,6 +129,18 @@ IsReal x t (step.given i) = IsDirective i.body → choice_at x (type_of t.body) 
 IsReal x t step.silent = choice_at x (type_of t.body) ≡ Take
 IsReal x t (step.refused f) = Unit {0}
 IsReal x t step.done = ⊥
+
+-- the same of the topmost state, if there is one
+abbrev pub IsRealOn : List State → Token → Stepped → Type 0
+IsRealOn s t r = (x : State) → s ≡ x ∷ below s → IsReal x t r
+
+-- what an item comes to: an event, nothing, or a fault
+abbrev pub ComesTo : Settled → item.RawEvent → Option Bool → yaml_event_t → Fault → Directives
+    → Type 0
+ComesTo s i (Some true) e f new = (s ≡ gave (body_of e.body) new)
+    × (event_of e ≡ placed (body_of e.body) i)
+ComesTo s i (Some false) e f new = s ≡ noted new
+ComesTo s i None e f new = (f ≡ memory_fault Parser) ⊎ (s ≡ refused f)
 
 -- the texts of what a step gives are UTF-8, and those of what is held then
 abbrev pub IsUtf8Step : Stepped → Option Token → List State → Directives → Type 0

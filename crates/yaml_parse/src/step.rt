@@ -1,6 +1,6 @@
 //! One step of a parser: a token is taken, or a state is left before it.
 
-ghost use Rattle.std.specs.Prelude.{◌≡◌, ◌∷◌, true, List, Option, Some, None};
+ghost use Rattle.std.specs.Prelude.{◌≡◌, ◌<◌, ◌∷◌, true, List, Option, Some, None, vec_len};
 ghost use Rattle.yaml_scan_model.specs.Tokens.{Token, token_of, type_of};
 ghost use Rattle.yaml_scan_model.specs.Faults.{Fault, fault_of, memory_fault};
 ghost use Rattle.yaml_scan_model.specs.declared.yaml_origin_t.TheVariants.{Parser};
@@ -11,11 +11,11 @@ ghost use Rattle.yaml_parse_grammar.specs.declared.name.Choice.TheVariants.{Take
 ghost use Rattle.yaml_parse_machine.specs.Views.{state_of, stack_of, item_of};
 ghost use Rattle.yaml_parse_machine.specs.Settles.{directives_of};
 ghost use Rattle.yaml_parse_grammar.specs.Remaining.{parser_remaining, is_between};
-ghost use Rattle.yaml_parse_grammar.specs.Resolve.{Directives as DirectivesSpec};
+ghost use Rattle.yaml_parse_grammar.specs.Resolve.{Directives as DirectivesSpec, settle as settle_item};
 ghost use Rattle.yaml_parse_grammar.specs.Stacks.{IsStack};
 ghost use Rattle.yaml_parse_grammar.specs.Texts.{IsUtf8Token, IsUtf8Held};
 ghost use Rattle.yaml_parse_model.specs.Source.{HasUtf8};
-ghost use Rattle.yaml_parse.specs.Steps.{HasFront, Steps, Turns, OpensAt, IsReal, IsUtf8Step, IsUtf8Turn, IsStackStep, IsStackTurn, raw, peeked_of};
+ghost use Rattle.yaml_parse.specs.Steps.{HasFront, Steps, Turns, OpensAt, IsReal, IsRealOn, ComesTo, IsUtf8Step, IsUtf8Turn, IsStackStep, IsStackTurn, raw, peeked_of};
 ghost use Rattle.yaml_parse.specs.Stepped.{stepped};
 ghost use Rattle.yaml_parse.specs.Advanced.{advanced, IsSettled};
 ghost use Rattle.yaml_parse.specs.Turned.{turned};
@@ -207,39 +207,59 @@ fn stepping(
     }
 }
 
+// The state on top of the stack at the token, the general way. Where none is left nothing is done.
+// Out of line: the swift ways have no room to make for it.
+#[inline(never)]
+fn stepping_on(stack: &mut Vec<State>, buffers: &mut StepBuffers, fault: &mut yaml_fault_t) -> Step
+    ensures steps { (rest : List Token) (ending : Option Fault)
+        → Steps (raw (Some (token_of buffers.old.token)) rest ending (stack_of stack.old.items))
+        (stepped result (item_of buffers.new.item) (fault_of fault.new))
+        (raw (peeked_of buffers.new) rest ending (stack_of stack.new.items)) }
+    ensures real { IsRealOn (stack_of stack.old.items) (token_of buffers.old.token)
+        (stepped result (item_of buffers.new.item) (fault_of fault.new)) }
+    ensures utf8 { (ds : DirectivesSpec) → IsUtf8Held (Some (token_of buffers.old.token))
+        (stack_of stack.old.items) ds
+        → IsUtf8Step (stepped result (item_of buffers.new.item) (fault_of fault.new))
+        (peeked_of buffers.new) (stack_of stack.new.items) ds }
+    ensures stack { IsStack (stack_of stack.old.items)
+        → IsStackStep (stepped result (item_of buffers.new.item) (fault_of fault.new))
+        (stack_of stack.new.items) }
+{
+    match stack.pop() {
+        Some(state) => stepping(stack, state, buffers, fault),
+        None => {
+            buffers.is_held = true;
+            Step::Done
+        }
+    }
+}
+
 // The state on top of the stack at the token, the swift way where there is one.
 // Inlined into its one caller, the advance.
 #[inline(always)]
 fn moving(
     stack: &mut Vec<State>,
-    state: State,
     buffers: &mut StepBuffers,
     event: &mut yaml_event_t,
     fault: &mut yaml_fault_t,
 ) -> Progress
+    requires { 0 < vec_len stack.old }
     ensures steps { (rest : List Token) (ending : Option Fault)
-        → Steps (raw (Some (token_of buffers.old.token)) rest ending
-        (state_of state ∷ stack_of stack.old.items)) (advanced result (item_of buffers.new.item)
-        (event_of event.new) (fault_of fault.new))
+        → Steps (raw (Some (token_of buffers.old.token)) rest ending (stack_of stack.old.items))
+        (advanced result (item_of buffers.new.item) (event_of event.new) (fault_of fault.new))
         (raw (peeked_of buffers.new) rest ending (stack_of stack.new.items)) }
-    ensures real { IsReal (state_of state) (token_of buffers.old.token)
+    ensures real { IsRealOn (stack_of stack.old.items) (token_of buffers.old.token)
         (advanced result (item_of buffers.new.item) (event_of event.new) (fault_of fault.new)) }
     ensures utf8 { (ds : DirectivesSpec) → IsUtf8Held (Some (token_of buffers.old.token))
-        (state_of state ∷ stack_of stack.old.items) ds
+        (stack_of stack.old.items) ds
         → IsUtf8Step (advanced result (item_of buffers.new.item) (event_of event.new)
         (fault_of fault.new)) (peeked_of buffers.new) (stack_of stack.new.items) ds }
-    ensures stack { IsStack (state_of state ∷ stack_of stack.old.items)
+    ensures stack { IsStack (stack_of stack.old.items)
         → IsStackStep (advanced result (item_of buffers.new.item) (event_of event.new)
         (fault_of fault.new)) (stack_of stack.new.items) }
     ensures ready { IsSettled result (event_of event.new) }
 {
-    match take_swiftly(
-        stack,
-        &state,
-        &mut buffers.token,
-        event,
-        &mut buffers.item.spare,
-    ) {
+    match take_swiftly(stack, &mut buffers.token, event, &mut buffers.item.spare) {
         Swift::Event => {
             buffers.is_held = false;
             Progress::Ready
@@ -252,7 +272,7 @@ fn moving(
             *fault = want_of_memory();
             Progress::By(Step::Refused)
         }
-        Swift::Other => Progress::By(stepping(stack, state, buffers, fault)),
+        Swift::Other => Progress::By(stepping_on(stack, buffers, fault)),
     }
 }
 
@@ -284,13 +304,35 @@ pub fn advance<S: yaml_token_source_t>(
         return Progress::By(Step::Done);
     }
     if front(source, buffers, fault) {
-        // Taken off once the token is there: before that it would be put aside while the source works.
-        match stack.pop() {
-            Some(state) => moving(stack, state, buffers, event, fault),
-            None => Progress::By(Step::Done),
-        }
+        moving(stack, buffers, event, fault)
     } else {
         Progress::By(Step::Refused)
+    }
+}
+
+// What the item comes to: an event in its slot (true), nothing (false), or a fault in its slot (none).
+// Out of line: few items are settled so, and the room of a refusal would be set to zero for each token.
+#[inline(never)]
+fn settled(
+    alloc: Global,
+    directives: &mut Directives,
+    item: &mut RawEvent,
+    event: &mut yaml_event_t,
+    fault: &mut yaml_fault_t,
+) -> Option<bool>
+    ensures { ComesTo (settle_item (item_of item.old) (directives_of directives.old))
+        (item_of item.old) result event.new (fault_of fault.new) (directives_of directives.new) }
+{
+    match settle(alloc, directives, item, event) {
+        Ok(given) => Some(given),
+        Err(Refusal::Memory) => {
+            *fault = want_of_memory();
+            None
+        }
+        Err(Refusal::Fault(refused)) => {
+            *fault = refused.located();
+            None
+        }
     }
 }
 
@@ -329,22 +371,17 @@ pub fn take_turn<S: yaml_token_source_t>(
             stack.clear();
             Step::Refused
         }
-        Progress::By(Step::Given) => match settle(
+        Progress::By(Step::Given) => match settled(
             buffers.alloc,
             directives,
             &mut buffers.item,
             event,
+            fault,
         ) {
-            Ok(true) => Step::Given,
-            Ok(false) => Step::Silent,
-            Err(Refusal::Memory) => {
+            Some(true) => Step::Given,
+            Some(false) => Step::Silent,
+            None => {
                 stack.clear();
-                *fault = want_of_memory();
-                Step::Refused
-            }
-            Err(Refusal::Fault(refused)) => {
-                stack.clear();
-                *fault = refused.located();
                 Step::Refused
             }
         },

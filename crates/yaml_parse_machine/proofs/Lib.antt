@@ -1,3 +1,4 @@
 pub mod Defaults
 pub mod TagSteps
 pub mod HandleTable
+pub mod Tops

@@ -12,6 +12,7 @@ use Rattle.yaml_parse_grammar.specs.States as state
 use Rattle.yaml_parse_grammar.specs.declared.name.Site.{Site}
 use Rattle.yaml_parse_grammar.specs.Machine.{choice_at, taken_at, wants_of}
 use Rattle.yaml_parse_grammar.specs.Resolve.{Directives, settle, gave}
+use Rattle.yaml_parse_machine.specs.Views.{below}
 use Rattle.yaml_parse_machine.specs.declared.swift_ways.Swift.{Swift}
 use Rattle.yaml_parse_machine.specs.declared.swift_ways.Swift.TheVariants.{Event as is_event, Silent, Memory, Other}
 
@@ -34,33 +35,43 @@ abbrev pub IsGiven : Option item.RawEvent → Event → Type 0
 IsGiven (Some i) e = IsReady i e
 IsGiven None e = ⊥
 
--- a flow collection begins, or memory ran out
-abbrev pub Opens : Brackets → Token → List State → Swift → Event → List State → Type 0
-Opens b t below is_event e new = IsReady
-    (item.item_at (item.node None None (flow_shape b)) t.start_mark t.end_mark) e
-    × (new ≡ state.items b t.start_mark ∷ below)
-Opens b t below Memory e new = Unit {0}
-Opens b t below _ e new = ⊥
-
--- a block collection begins, or memory ran out
-abbrev pub OpensBlock : item.Shape → State → Token → List State → Swift → Event → List State
+-- a collection begins, and that state takes the place of the topmost
+abbrev pub Opens : item.Shape → State → Token → List State → Swift → Event → List State
     → Type 0
-OpensBlock shape x t below is_event e new = IsReady
-    (item.item_at (item.node None None shape) t.start_mark t.end_mark) e × (new ≡ x ∷ below)
-OpensBlock shape x t below Memory e new = Unit {0}
-OpensBlock shape x t below _ e new = ⊥
+Opens shape x t old is_event e new = IsReady
+    (item.item_at (item.node None None shape) t.start_mark t.end_mark) e × (new ≡ x ∷ below old)
+Opens shape x t old _ e new = ⊥
 
--- the rest of a node behind those properties is waited for, or memory ran out
+-- the same inside brackets, behind which those states stand; or memory ran out
+abbrev pub OpensIn : Brackets → List State → Token → List State → Swift → Event → List State
+    → Type 0
+OpensIn b behind t old is_event e new = IsReady
+    (item.item_at (item.node None None (flow_shape b)) t.start_mark t.end_mark) e
+    × (new ≡ state.items b t.start_mark ∷ behind ++ below old)
+OpensIn b behind t old Memory e new = Unit {0}
+OpensIn b behind t old _ e new = ⊥
+
+-- those states come on top, or memory ran out
+abbrev pub Adds : List State → List State → Swift → List State → Type 0
+Adds xs old Silent new = new ≡ xs ++ old
+Adds xs old Memory new = Unit {0}
+Adds xs old _ new = ⊥
+
+-- the rest of a node behind those properties is waited for in the place of the topmost, or memory ran out
 abbrev pub Awaits : Site → item.Properties → List State → Swift → List State → Type 0
-Awaits place p below Silent new = new ≡ state.with_properties (wants_of place) p ∷ below
-Awaits place p below Memory new = Unit {0}
-Awaits place p below _ new = ⊥
+Awaits place p old Silent new = new ≡ state.with_properties (wants_of place) p ∷ below old
+Awaits place p old Memory new = Unit {0}
+Awaits place p old _ new = ⊥
 
--- the token is taken, as the state says, by a state that stood on those; the event stands in its slot, or nothing is given
+-- The token is taken, as the state says, which is the topmost of those; the event stands in its slot, or nothing is given.
 abbrev pub Swiftly : State → Token → List State → Swift → Event → Token → List State → Type 0
-Swiftly x t below is_event e after new = (choice_at x (type_of t.body) ≡ Take)
-    × IsGiven (taken_at x t).item e × (new ≡ (taken_at x t).above ++ below)
-Swiftly x t below Silent e after new = (choice_at x (type_of t.body) ≡ Take)
-    × (None ≡ (taken_at x t).item) × (new ≡ (taken_at x t).above ++ below)
-Swiftly x t below Memory e after new = Unit {0}
-Swiftly x t below Other e after new = (after ≡ t) × (new ≡ below)
+Swiftly x t old is_event e after new = (choice_at x (type_of t.body) ≡ Take)
+    × IsGiven (taken_at x t).item e × (new ≡ (taken_at x t).above ++ below old)
+Swiftly x t old Silent e after new = (choice_at x (type_of t.body) ≡ Take)
+    × (None ≡ (taken_at x t).item) × (new ≡ (taken_at x t).above ++ below old)
+Swiftly x t old Memory e after new = Unit {0}
+Swiftly x t old Other e after new = (after ≡ t) × (new ≡ old)
+
+-- the same, whatever the topmost is
+abbrev pub SwiftlyOn : Token → List State → Swift → Event → Token → List State → Type 0
+SwiftlyOn t old r e after new = (x : State) → old ≡ x ∷ below old → Swiftly x t old r e after new

@@ -1,5 +1,5 @@
 -- States and items, without where their texts lie in memory.
-use Rattle.std.specs.Prelude.{Bool, true, false, List, map, reverse, Option, Some, None}
+use Rattle.std.specs.Prelude.{Bool, true, false, List, [], ◌∷◌, map, reverse, Option, Some, None}
 use Rattle.std.specs.Global.{Box}
 use Rattle.yaml_parse_model.specs.Events.{text_of}
 use Rattle.yaml_parse_model.specs.Events as event
@@ -89,3 +89,8 @@ state_of code.Lone = state.lone
 -- the states, the topmost first, of a list whose last is the topmost
 abbrev pub stack_of : List State → List state.State
 stack_of items = map state_of (reverse items)
+
+-- those that the topmost stands on
+abbrev pub below : List state.State → List state.State
+below [] = []
+below (x ∷ xs) = xs

@@ -10,6 +10,7 @@ mod pushing;
 mod resolving;
 mod swift_ways;
 mod taking;
+mod telling;
 
 pub use choosing::choose;
 pub use handles::TagDirectives;

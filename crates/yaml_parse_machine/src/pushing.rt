@@ -1,12 +1,12 @@
 //! States that are put on top of the stack, whose last state is the topmost.
 
-ghost use Rattle.std.specs.Prelude.{◌≡◌, ◌<◌, ◌+◌, ◌++◌, [], ◌∷◌, vec_len, vec_capacity, OnOk};
+ghost use Rattle.std.specs.Prelude.{◌≡◌, ◌<◌, ◌≤◌, ◌+◌, ◌++◌, [], ◌∷◌, vec_len, vec_capacity, OnOk, IfSome};
 ghost use Rattle.yaml_parse_grammar.specs.declared.name.Site.TheVariants.{Entry, IndentlessEntry, BlockPair, FlowPair};
 ghost use Rattle.yaml_parse_grammar.specs.declared.name.Brackets.TheVariants as brackets;
 ghost use Rattle.yaml_parse_grammar.specs.declared.name.Side.TheVariants.{Key, Value};
 ghost use Rattle.yaml_parse_grammar.specs.States as state;
 ghost use Rattle.yaml_parse_grammar.specs.Machine.{lone_below, opened};
-ghost use Rattle.yaml_parse_machine.specs.Views.{state_of, stack_of};
+ghost use Rattle.yaml_parse_machine.specs.Views.{state_of, stack_of, below};
 
 use crate::item::State;
 use std::alloc::AllocError;
@@ -39,6 +39,20 @@ fn make_room(stack: &mut Vec<State>) -> Result<(), AllocError>
     }
 }
 
+// Room for so many states.
+// Inlined: mostly one comparison, where `reserve` is a call.
+#[inline(always)]
+fn make_room_for(stack: &mut Vec<State>, count: usize) -> Result<(), AllocError>
+    ensures items { stack.new.items ≡ stack.old.items }
+    ensures room { OnOk result (vec_len stack.new + count ≤ vec_capacity stack.new) }
+{
+    if count <= stack.capacity() - stack.len() {
+        Ok(())
+    } else {
+        stack.reserve(count)
+    }
+}
+
 // A state, for which room is made.
 // Inlined: its state is known, so that it is built in its place.
 #[inline(always)]
@@ -48,6 +62,40 @@ pub(crate) fn push(stack: &mut Vec<State>, state: State) -> Result<(), AllocErro
     make_room(stack)?;
     put(stack, state);
     Ok(())
+}
+
+// The state on top, if there is one.
+// Inlined: a comparison and an address.
+#[inline(always)]
+pub(crate) fn topmost(stack: &Vec<State>) -> Option<&State>
+    ensures top { IfSome result (λ s. stack_of stack.now.items ≡ state_of s.now
+        ∷ below (stack_of stack.now.items)) }
+    ensures some { IfSome result (λ s. 0 < vec_len stack.now) }
+{
+    stack.as_slice().last()
+}
+
+// The state on top goes.
+// Inlined: its kind is known.
+#[inline(always)]
+pub(crate) fn drop_top(stack: &mut Vec<State>)
+    requires { 0 < vec_len stack.old }
+    ensures stack { stack_of stack.new.items ≡ below (stack_of stack.old.items) }
+    ensures room { vec_len stack.new < vec_capacity stack.new }
+{
+    // Read for its end: it dies here, in line, where `drop` would be a call.
+    let _top = stack.pop();
+}
+
+// Another state in the place of that on top.
+// Inlined: both kinds are known.
+#[inline(always)]
+pub(crate) fn swap_top(stack: &mut Vec<State>, state: State)
+    requires { 0 < vec_len stack.old }
+    ensures stack { stack_of stack.new.items ≡ state_of state ∷ below (stack_of stack.old.items) }
+{
+    drop_top(stack);
+    put(stack, state);
 }
 
 /// The states of a document, whose `---` ends there.
@@ -104,6 +152,24 @@ pub(crate) fn push_block_pair(
     put(stack, State::Pairs(opener));
     put(stack, State::Colon(Site::BlockPair(Side::Value)));
     put(stack, State::Optional(Site::BlockPair(Side::Key), end));
+    Ok(())
+}
+
+// A key and its value, behind a key's indicator that ends there, on top of what follows them.
+// Inlined: both places are known.
+#[inline(always)]
+pub(crate) fn push_key(
+    stack: &mut Vec<State>,
+    key: Site,
+    value: Site,
+    end: yaml_mark_t,
+) -> Result<(), AllocError>
+    ensures { OnOk result (stack_of stack.new.items ≡ state.optional key end ∷ state.colon value
+        ∷ stack_of stack.old.items) }
+{
+    make_room_for(stack, 2)?;
+    put(stack, State::Colon(value));
+    put(stack, State::Optional(key, end));
     Ok(())
 }
 

@@ -3,26 +3,24 @@
 //! Each gives what `choosing.rt`, `taking.rt` and `resolving.rt` give together, and its clause says so. What has none goes the
 //! general way.
 
-ghost use Rattle.std.specs.Prelude.{Some, None};
+ghost use Rattle.std.specs.Prelude.{◌≡◌, ◌<◌, ◌∷◌, [], Some, None, vec_len};
 ghost use Rattle.yaml_parse_grammar.specs.declared.name.Brackets.TheVariants as brackets;
 ghost use Rattle.yaml_parse_model.specs.Events.{Event, event_of};
 ghost use Rattle.yaml_parse_model.specs.Tokens.{token_of};
-ghost use Rattle.yaml_parse_grammar.specs.Items.{item_at};
 ghost use Rattle.yaml_parse_grammar.specs.Items as item;
-ghost use Rattle.yaml_parse_grammar.specs.Trees.{flow_shape, end_event, event_at};
+ghost use Rattle.yaml_parse_grammar.specs.Trees.{flow_shape};
 ghost use Rattle.yaml_parse_grammar.specs.States as state;
-ghost use Rattle.yaml_parse_machine.specs.Views.{properties_of, tag_of, state_of, stack_of};
-ghost use Rattle.yaml_parse_model.specs.Events as told;
+ghost use Rattle.yaml_parse_machine.specs.Views.{properties_of, tag_of, state_of, stack_of, below};
 ghost use Rattle.yaml_parse_model.specs.declared.yaml_mapping_style_t.TheVariants.{YAML_BLOCK_MAPPING_STYLE};
 ghost use Rattle.yaml_parse_model.specs.declared.yaml_sequence_style_t.TheVariants.{YAML_BLOCK_SEQUENCE_STYLE};
-ghost use Rattle.yaml_parse_machine.specs.Swiftly.{IsReady, Opens, OpensBlock, Awaits, Swiftly};
+ghost use Rattle.yaml_parse_machine.specs.Swiftly.{Adds, Opens, OpensIn, Awaits, Swiftly, SwiftlyOn};
 
 use crate::choosing::wants;
 use crate::item::{Properties, State, Tag};
-use crate::pushing::{push, push_block_pair, push_entry, push_mapping_pair};
-use crate::resolving::bare_scalar;
+use crate::pushing::{drop_top, push, push_key, swap_top, topmost};
 use crate::taking::{moved, room};
-use yaml_parse_grammar::{Brackets, Site};
+use crate::telling::{tell_alias, tell_end, tell_scalar, tell_start};
+use yaml_parse_grammar::{Brackets, Side, Site};
 use yaml_parse_model::{
     yaml_event_body_t, yaml_event_t, yaml_mapping_style_t, yaml_mark_t, yaml_scalar_style_t,
     yaml_sequence_style_t, yaml_token_body_t, yaml_token_t,
@@ -41,145 +39,85 @@ pub enum Swift {
     Other,
 }
 
-// The token's scalar as an event without properties.
-// Inlined: it is written where it is wanted.
+// A pair behind a key's indicator that ends there, on top of what follows it.
+// Inlined: its places are known.
 #[inline(always)]
-fn tell_scalar(
-    value: &mut Vec<u8>,
-    style: yaml_scalar_style_t,
-    from: yaml_mark_t,
-    to: yaml_mark_t,
-    event: &mut yaml_event_t,
-)
-    ensures { IsReady (item_at (item.node None None (item.scalar value.old.items style)) from to)
-        (event_of event.new) }
+fn push_pair(stack: &mut Vec<State>, key: Site, value: Site, end: yaml_mark_t) -> Swift
+    ensures { Adds (state.optional key end ∷ state.colon value ∷ []) (stack_of stack.old.items)
+        result (stack_of stack.new.items) }
 {
-    let alloc = *value.allocator();
-    bare_scalar(alloc, value, style, &mut event.body);
-    event.start_mark = from;
-    event.end_mark = to;
-}
-
-// A flow collection without properties begins.
-// Inlined: mostly its brackets are known.
-#[inline(always)]
-fn tell_start(brackets: Brackets, token: &yaml_token_t, event: &mut yaml_event_t)
-    ensures { IsReady (item_at (item.node None None (flow_shape brackets)) token.now.start_mark
-        token.now.end_mark) (event_of event.new) }
-{
-    event.start_mark = token.start_mark;
-    event.end_mark = token.end_mark;
-    match brackets {
-        Brackets::Sequence => {
-            event.body = yaml_event_body_t::SequenceStart {
-                anchor: None,
-                tag: None,
-                implicit: true,
-                style: yaml_sequence_style_t::YAML_FLOW_SEQUENCE_STYLE,
-            };
-        }
-        Brackets::Mapping => {
-            event.body = yaml_event_body_t::MappingStart {
-                anchor: None,
-                tag: None,
-                implicit: true,
-                style: yaml_mapping_style_t::YAML_FLOW_MAPPING_STYLE,
-            };
-        }
+    match push_key(stack, key, value, end) {
+        Ok(()) => Swift::Silent,
+        Err(_) => Swift::Memory,
     }
 }
 
-// A collection ends.
-// Inlined: its brackets are known.
+// A state on top of what follows it.
+// Inlined: it is known.
 #[inline(always)]
-fn tell_end(brackets: Brackets, token: &yaml_token_t, event: &mut yaml_event_t)
-    ensures { IsReady (event_at (end_event brackets) token.now.start_mark token.now.end_mark)
-        (event_of event.new) }
+fn push_or(stack: &mut Vec<State>, state: State) -> Swift
+    ensures { Adds (state_of state ∷ []) (stack_of stack.old.items) result
+        (stack_of stack.new.items) }
 {
-    event.start_mark = token.start_mark;
-    event.end_mark = token.end_mark;
-    match brackets {
-        Brackets::Sequence => {
-            event.body = yaml_event_body_t::SequenceEnd;
-        }
-        Brackets::Mapping => {
-            event.body = yaml_event_body_t::MappingEnd;
-        }
+    match push(stack, state) {
+        Ok(()) => Swift::Silent,
+        Err(_) => Swift::Memory,
     }
 }
 
-// A flow collection begins at a place of its own.
+// A flow collection begins, in the place of the node that was awaited.
 fn open_brackets(
     stack: &mut Vec<State>,
     brackets: Brackets,
     token: &yaml_token_t,
     event: &mut yaml_event_t,
 ) -> Swift
-    ensures { Opens brackets (token_of token.now) (stack_of stack.old.items) result
-        (event_of event.new) (stack_of stack.new.items) }
+    requires { 0 < vec_len stack.old }
+    ensures { Opens (flow_shape brackets) (state.items brackets token.now.start_mark)
+        (token_of token.now) (stack_of stack.old.items) result (event_of event.new)
+        (stack_of stack.new.items) }
 {
-    match push(stack, State::Items(brackets, token.start_mark)) {
-        Ok(()) => {
-            tell_start(brackets, token, event);
-            Swift::Event
-        }
-        Err(_) => Swift::Memory,
-    }
-}
-
-// An alias stands whole.
-fn tell_alias(name: &mut Vec<u8>, from: yaml_mark_t, to: yaml_mark_t, event: &mut yaml_event_t)
-    ensures { IsReady (event_at (told.alias name.old.items) from to) (event_of event.new) }
-{
-    event.start_mark = from;
-    event.end_mark = to;
-    event.body = yaml_event_body_t::Alias {
-        anchor: moved(name),
-    };
+    swap_top(stack, State::Items(brackets, token.start_mark));
+    tell_start(brackets, token, event);
+    Swift::Event
 }
 
 // A block sequence begins.
 fn open_entries(stack: &mut Vec<State>, token: &yaml_token_t, event: &mut yaml_event_t) -> Swift
-    ensures { OpensBlock (item.sequence YAML_BLOCK_SEQUENCE_STYLE)
-        (state.entries token.now.start_mark) (token_of token.now) (stack_of stack.old.items) result
-        (event_of event.new) (stack_of stack.new.items) }
+    requires { 0 < vec_len stack.old }
+    ensures { Opens (item.sequence YAML_BLOCK_SEQUENCE_STYLE) (state.entries token.now.start_mark)
+        (token_of token.now) (stack_of stack.old.items) result (event_of event.new)
+        (stack_of stack.new.items) }
 {
-    match push(stack, State::Entries(token.start_mark)) {
-        Ok(()) => {
-            event.start_mark = token.start_mark;
-            event.end_mark = token.end_mark;
-            event.body = yaml_event_body_t::SequenceStart {
-                anchor: None,
-                tag: None,
-                implicit: true,
-                style: yaml_sequence_style_t::YAML_BLOCK_SEQUENCE_STYLE,
-            };
-            Swift::Event
-        }
-        Err(_) => Swift::Memory,
-    }
+    swap_top(stack, State::Entries(token.start_mark));
+    event.start_mark = token.start_mark;
+    event.end_mark = token.end_mark;
+    event.body = yaml_event_body_t::SequenceStart {
+        anchor: None,
+        tag: None,
+        implicit: true,
+        style: yaml_sequence_style_t::YAML_BLOCK_SEQUENCE_STYLE,
+    };
+    Swift::Event
 }
 
 // A block mapping begins.
 fn open_pairs(stack: &mut Vec<State>, token: &yaml_token_t, event: &mut yaml_event_t) -> Swift
-    ensures { OpensBlock (item.mapping YAML_BLOCK_MAPPING_STYLE)
-        (state.pairs token.now.start_mark) (token_of token.now) (stack_of stack.old.items) result
-        (event_of event.new) (stack_of stack.new.items) }
+    requires { 0 < vec_len stack.old }
+    ensures { Opens (item.mapping YAML_BLOCK_MAPPING_STYLE) (state.pairs token.now.start_mark)
+        (token_of token.now) (stack_of stack.old.items) result (event_of event.new)
+        (stack_of stack.new.items) }
 {
-    match push(stack, State::Pairs(token.start_mark)) {
-        Ok(()) => {
-            event.start_mark = token.start_mark;
-            event.end_mark = token.end_mark;
-            event.body = yaml_event_body_t::MappingStart {
-                anchor: None,
-                tag: None,
-                implicit: true,
-                style: yaml_mapping_style_t::YAML_BLOCK_MAPPING_STYLE,
-            };
-            Swift::Event
-        }
-        Err(_) => Swift::Memory,
-    }
+    swap_top(stack, State::Pairs(token.start_mark));
+    event.start_mark = token.start_mark;
+    event.end_mark = token.end_mark;
+    event.body = yaml_event_body_t::MappingStart {
+        anchor: None,
+        tag: None,
+        implicit: true,
+        style: yaml_mapping_style_t::YAML_BLOCK_MAPPING_STYLE,
+    };
+    Swift::Event
 }
 
 // A block collection begins, where one may stand.
@@ -189,6 +127,7 @@ fn at_block(
     token: &yaml_token_t,
     event: &mut yaml_event_t,
 ) -> Swift
+    requires { 0 < vec_len stack.old }
     ensures { (before : yaml_mark_t) → Swiftly (state.optional place before) (token_of token.now)
         (stack_of stack.old.items) result (event_of event.new) (token_of token.now)
         (stack_of stack.new.items) }
@@ -208,13 +147,12 @@ fn at_block(
 
 // The rest of a node behind its first property.
 fn await_node(stack: &mut Vec<State>, place: Site, properties: Box<Properties>) -> Swift
+    requires { 0 < vec_len stack.old }
     ensures { Awaits place (properties_of properties.value) (stack_of stack.old.items) result
         (stack_of stack.new.items) }
 {
-    match push(stack, State::WithProperties(wants(place), properties)) {
-        Ok(()) => Swift::Silent,
-        Err(_) => Swift::Memory,
-    }
+    swap_top(stack, State::WithProperties(wants(place), properties));
+    Swift::Silent
 }
 
 // A node's anchor, before all else of it.
@@ -226,6 +164,7 @@ fn keep_anchor(
     to: yaml_mark_t,
     spare: &mut Option<Box<Properties>>,
 ) -> Swift
+    requires { 0 < vec_len stack.old }
     ensures { Awaits place
         (record { anchor = Some name.old.items; tag = None; from = from; to = to })
         (stack_of stack.old.items) result (stack_of stack.new.items) }
@@ -248,6 +187,7 @@ fn keep_tag(
     to: yaml_mark_t,
     spare: &mut Option<Box<Properties>>,
 ) -> Swift
+    requires { 0 < vec_len stack.old }
     ensures { Awaits place
         (record { anchor = None; tag = Some (tag_of tag); from = tag.mark; to = to })
         (stack_of stack.old.items) result (stack_of stack.new.items) }
@@ -272,12 +212,14 @@ fn at_rare(
     event: &mut yaml_event_t,
     spare: &mut Option<Box<Properties>>,
 ) -> Swift
+    requires { 0 < vec_len stack.old }
     ensures { (before : yaml_mark_t) → Swiftly (state.optional place before) (token_of token.old)
         (stack_of stack.old.items) result (event_of event.new) (token_of token.new)
         (stack_of stack.new.items) }
 {
     match &mut token.body {
         yaml_token_body_t::Alias { value } => {
+            drop_top(stack);
             tell_alias(value, token.start_mark, token.end_mark, event);
             Swift::Event
         }
@@ -311,12 +253,14 @@ fn at_optional(
     event: &mut yaml_event_t,
     spare: &mut Option<Box<Properties>>,
 ) -> Swift
+    requires { 0 < vec_len stack.old }
     ensures { (before : yaml_mark_t) → Swiftly (state.optional place before) (token_of token.old)
         (stack_of stack.old.items) result (event_of event.new) (token_of token.new)
         (stack_of stack.new.items) }
 {
     match &mut token.body {
         yaml_token_body_t::Scalar { value, style } => {
+            drop_top(stack);
             tell_scalar(value, *style, token.start_mark, token.end_mark, event);
             Swift::Event
         }
@@ -340,14 +284,15 @@ fn at_optional(
 // Inlined into the arm of its state.
 #[inline(always)]
 fn at_colon(stack: &mut Vec<State>, place: Site, token: &yaml_token_t) -> Swift
+    requires { 0 < vec_len stack.old }
     ensures { (e : Event) → Swiftly (state.colon place) (token_of token.now)
         (stack_of stack.old.items) result e (token_of token.now) (stack_of stack.new.items) }
 {
     match token.body {
-        yaml_token_body_t::Value => match push(stack, State::Optional(place, token.end_mark)) {
-            Ok(()) => Swift::Silent,
-            Err(_) => Swift::Memory,
-        },
+        yaml_token_body_t::Value => {
+            swap_top(stack, State::Optional(place, token.end_mark));
+            Swift::Silent
+        }
         _ => Swift::Other,
     }
 }
@@ -361,16 +306,22 @@ fn at_pairs(
     token: &yaml_token_t,
     event: &mut yaml_event_t,
 ) -> Swift
+    requires some { 0 < vec_len stack.old }
+    requires top { stack_of stack.old.items ≡ state.pairs opener
+        ∷ below (stack_of stack.old.items) }
     ensures { Swiftly (state.pairs opener) (token_of token.now)
         (stack_of stack.old.items) result (event_of event.new) (token_of token.now)
         (stack_of stack.new.items) }
 {
     match token.body {
-        yaml_token_body_t::Key => match push_block_pair(stack, opener, token.end_mark) {
-            Ok(()) => Swift::Silent,
-            Err(_) => Swift::Memory,
-        },
+        yaml_token_body_t::Key => push_pair(
+            stack,
+            Site::BlockPair(Side::Key),
+            Site::BlockPair(Side::Value),
+            token.end_mark,
+        ),
         yaml_token_body_t::BlockEnd => {
+            drop_top(stack);
             tell_end(Brackets::Mapping, token, event);
             Swift::Event
         }
@@ -387,16 +338,20 @@ fn at_entries(
     token: &yaml_token_t,
     event: &mut yaml_event_t,
 ) -> Swift
+    requires some { 0 < vec_len stack.old }
+    requires top { stack_of stack.old.items ≡ state.entries opener
+        ∷ below (stack_of stack.old.items) }
     ensures { Swiftly (state.entries opener) (token_of token.now)
         (stack_of stack.old.items) result (event_of event.new) (token_of token.now)
         (stack_of stack.new.items) }
 {
     match token.body {
-        yaml_token_body_t::BlockEntry => match push_entry(stack, opener, token.end_mark) {
-            Ok(()) => Swift::Silent,
-            Err(_) => Swift::Memory,
-        },
+        yaml_token_body_t::BlockEntry => push_or(
+            stack,
+            State::Optional(Site::Entry, token.end_mark),
+        ),
         yaml_token_body_t::BlockEnd => {
+            drop_top(stack);
             tell_end(Brackets::Sequence, token, event);
             Swift::Event
         }
@@ -404,7 +359,29 @@ fn at_entries(
     }
 }
 
-// Behind an opening bracket or a comma of a sequence: a part that is no pair.
+// A flow collection begins inside the brackets of a sequence.
+fn open_inside(
+    stack: &mut Vec<State>,
+    opener: yaml_mark_t,
+    inner: Brackets,
+    token: &yaml_token_t,
+    event: &mut yaml_event_t,
+) -> Swift
+    requires { 0 < vec_len stack.old }
+    ensures { OpensIn inner (state.more brackets.Sequence opener ∷ []) (token_of token.now)
+        (stack_of stack.old.items) result (event_of event.new) (stack_of stack.new.items) }
+{
+    swap_top(stack, State::More(Brackets::Sequence, opener));
+    match push(stack, State::Items(inner, token.start_mark)) {
+        Ok(()) => {
+            tell_start(inner, token, event);
+            Swift::Event
+        }
+        Err(_) => Swift::Memory,
+    }
+}
+
+// Behind an opening bracket or a comma of a sequence: its end, or a part that is no pair and has no properties.
 // Inlined into the arm of its state.
 #[inline(always)]
 fn in_sequence(
@@ -413,36 +390,69 @@ fn in_sequence(
     token: &mut yaml_token_t,
     event: &mut yaml_event_t,
 ) -> Swift
+    requires { 0 < vec_len stack.old }
     ensures { Swiftly (state.items brackets.Sequence opener) (token_of token.old)
         (stack_of stack.old.items) result (event_of event.new) (token_of token.new)
         (stack_of stack.new.items) }
 {
     match &mut token.body {
         yaml_token_body_t::Scalar { value, style } => {
-            match push(stack, State::More(Brackets::Sequence, opener)) {
-                Ok(()) => {
-                    tell_scalar(value, *style, token.start_mark, token.end_mark, event);
-                    Swift::Event
-                }
-                Err(_) => Swift::Memory,
-            }
+            swap_top(stack, State::More(Brackets::Sequence, opener));
+            tell_scalar(value, *style, token.start_mark, token.end_mark, event);
+            Swift::Event
+        }
+        yaml_token_body_t::FlowSequenceStart => open_inside(
+            stack,
+            opener,
+            Brackets::Sequence,
+            token,
+            event,
+        ),
+        yaml_token_body_t::FlowMappingStart => open_inside(
+            stack,
+            opener,
+            Brackets::Mapping,
+            token,
+            event,
+        ),
+        yaml_token_body_t::FlowSequenceEnd => {
+            drop_top(stack);
+            tell_end(Brackets::Sequence, token, event);
+            Swift::Event
         }
         _ => Swift::Other,
     }
 }
 
-// Behind an opening bracket or a comma of a mapping: a pair.
+// Behind an opening bracket or a comma of a mapping: its end, or a pair.
 // Inlined into the arm of its state.
 #[inline(always)]
-fn in_mapping(stack: &mut Vec<State>, opener: yaml_mark_t, token: &yaml_token_t) -> Swift
-    ensures { (e : Event) → Swiftly (state.items brackets.Mapping opener) (token_of token.now)
-        (stack_of stack.old.items) result e (token_of token.now) (stack_of stack.new.items) }
+fn in_mapping(
+    stack: &mut Vec<State>,
+    opener: yaml_mark_t,
+    token: &yaml_token_t,
+    event: &mut yaml_event_t,
+) -> Swift
+    requires { 0 < vec_len stack.old }
+    ensures { Swiftly (state.items brackets.Mapping opener) (token_of token.now)
+        (stack_of stack.old.items) result (event_of event.new) (token_of token.now)
+        (stack_of stack.new.items) }
 {
     match token.body {
-        yaml_token_body_t::Key => match push_mapping_pair(stack, opener, token.end_mark) {
-            Ok(()) => Swift::Silent,
-            Err(_) => Swift::Memory,
-        },
+        yaml_token_body_t::Key => {
+            swap_top(stack, State::More(Brackets::Mapping, opener));
+            push_pair(
+                stack,
+                Site::FlowPair(Brackets::Mapping, Side::Key),
+                Site::FlowPair(Brackets::Mapping, Side::Value),
+                token.end_mark,
+            )
+        }
+        yaml_token_body_t::FlowMappingEnd => {
+            drop_top(stack);
+            tell_end(Brackets::Mapping, token, event);
+            Swift::Event
+        }
         _ => Swift::Other,
     }
 }
@@ -456,18 +466,18 @@ fn behind_part(
     token: &yaml_token_t,
     event: &mut yaml_event_t,
 ) -> Swift
+    requires { 0 < vec_len stack.old }
     ensures { Swiftly (state.more brackets.Sequence opener) (token_of token.now)
         (stack_of stack.old.items) result (event_of event.new) (token_of token.now)
         (stack_of stack.new.items) }
 {
     match token.body {
         yaml_token_body_t::FlowEntry => {
-            match push(stack, State::Items(Brackets::Sequence, opener)) {
-                Ok(()) => Swift::Silent,
-                Err(_) => Swift::Memory,
-            }
+            swap_top(stack, State::Items(Brackets::Sequence, opener));
+            Swift::Silent
         }
         yaml_token_body_t::FlowSequenceEnd => {
+            drop_top(stack);
             tell_end(Brackets::Sequence, token, event);
             Swift::Event
         }
@@ -484,18 +494,18 @@ fn behind_pair(
     token: &yaml_token_t,
     event: &mut yaml_event_t,
 ) -> Swift
+    requires { 0 < vec_len stack.old }
     ensures { Swiftly (state.more brackets.Mapping opener) (token_of token.now)
         (stack_of stack.old.items) result (event_of event.new) (token_of token.now)
         (stack_of stack.new.items) }
 {
     match token.body {
         yaml_token_body_t::FlowEntry => {
-            match push(stack, State::Items(Brackets::Mapping, opener)) {
-                Ok(()) => Swift::Silent,
-                Err(_) => Swift::Memory,
-            }
+            swap_top(stack, State::Items(Brackets::Mapping, opener));
+            Swift::Silent
         }
         yaml_token_body_t::FlowMappingEnd => {
+            drop_top(stack);
             tell_end(Brackets::Mapping, token, event);
             Swift::Event
         }
@@ -503,29 +513,30 @@ fn behind_pair(
     }
 }
 
-/// Takes the token the swift way, if there is one for it and the state, which stood on top of the stack.
+/// Takes the token the swift way, if there is one for it and the state on top of the stack.
 ///
 /// The box that is to spare, if any, may be taken for the properties of a node, as the general way takes it.
 // Inlined into its one caller, the parser's step.
 #[inline(always)]
 pub fn take_swiftly(
     stack: &mut Vec<State>,
-    state: &State,
     token: &mut yaml_token_t,
     event: &mut yaml_event_t,
     spare: &mut Option<Box<Properties>>,
 ) -> Swift
-    ensures { Swiftly (state_of state.now) (token_of token.old)
-        (stack_of stack.old.items) result (event_of event.new) (token_of token.new)
-        (stack_of stack.new.items) }
+    ensures { SwiftlyOn (token_of token.old) (stack_of stack.old.items) result (event_of event.new)
+        (token_of token.new) (stack_of stack.new.items) }
 {
+    let Some(state) = topmost(stack) else {
+        return Swift::Other;
+    };
     match *state {
         State::Optional(place, _) => at_optional(stack, place, token, event, spare),
         State::Colon(place) => at_colon(stack, place, token),
         State::Pairs(opener) => at_pairs(stack, opener, token, event),
         State::Entries(opener) => at_entries(stack, opener, token, event),
         State::Items(Brackets::Sequence, opener) => in_sequence(stack, opener, token, event),
-        State::Items(Brackets::Mapping, opener) => in_mapping(stack, opener, token),
+        State::Items(Brackets::Mapping, opener) => in_mapping(stack, opener, token, event),
         State::More(Brackets::Sequence, opener) => behind_part(stack, opener, token, event),
         State::More(Brackets::Mapping, opener) => behind_pair(stack, opener, token, event),
         _ => Swift::Other,

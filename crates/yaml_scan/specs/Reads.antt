@@ -134,13 +134,13 @@ MarksOwn None l opens old new = new ≡ old
 MarksOwn (Some i) l opens old new = (w : Waiting)
     → new ≡ slice_set old i (marked l opens (slice_index_or old i w))
 
--- what a lexeme opens at a column, where it may and the column passes the indent
+-- what a lexeme opens with a margin, where it may and the margin passes the indent
 abbrev pub opens_for : Kind → ℕ → ℕ → List ℕ → Opens
 opens_for k depth column levels = if is_start k && not (nat_lt 0 depth)
     then (if nat_lt (indent levels) column then level_of k else opening.Nothing)
     else opening.Nothing
 
--- the column where a level may open: that of the key, or the lexeme's own
+-- the margin of the level that may open: one more than the column of the key, or than the lexeme's own
 abbrev pub IsColumnAt : List Waiting → ℕ → Option ℕ → ℕ → Type 0
 IsColumnAt ws own None column = column ≡ own + 1
 IsColumnAt ws own (Some i) column = (w : Waiting)

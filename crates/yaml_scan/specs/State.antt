@@ -16,7 +16,7 @@ pub record IsPlace (text : List ℕ) (m : yaml_mark_t) : Type 0 where
   pub mark : m ≡ mark_at text m.index
   pub whole : splits_break text m.index ≡ false
 
--- no level is further right than the text is long
+-- no level has a greater margin
 abbrev pub IsNarrow : ℕ → List ℕ → Type 0
 IsNarrow n levels = (k : ℕ) → slice_index levels k ≤ n
 

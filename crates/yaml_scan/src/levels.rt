@@ -6,7 +6,8 @@ ghost use Rattle.yaml_scan_history.specs.History.{indent, opened};
 use std::alloc::{AllocError, Global};
 use std::marker::Model;
 
-/// The columns of the open block levels, counted from 1, the outermost first (YAML 1.1, 4.2.1).
+/// The open block levels, the outermost first, each by its margin, the first column right of its own: the columns here
+/// are margins (YAML 1.1, 4.2.1).
 #[derive(Drop)]
 pub(crate) struct Levels {
     columns: Vec<u64>,

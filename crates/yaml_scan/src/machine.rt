@@ -359,7 +359,7 @@ impl<'a> Machine<'a> {
         self.levels.close(keeps(lexeme.kind, lexeme.start.column))
     }
 
-    /// The column where a level may open, counted from 1: that of the key of a `:`, or the lexeme's own.
+    /// The margin of the level that may open: one more than the column of the key of a `:`, or than the lexeme's own.
     // The lexeme's own column is a number: of a lexeme here and one in the list LLVM would take the place and keep
     // both in memory.
     // Inlined: the kind is known where it is called.

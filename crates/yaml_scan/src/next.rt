@@ -413,7 +413,7 @@ fn stream_start(place: yaml_mark_t, encoding: yaml_encoding_t) -> Read
     }
 }
 
-/// The innermost column that a lexeme outside all brackets leaves open, counted from 1.
+/// The greatest margin that a lexeme outside all brackets leaves open.
 pub(crate) fn keeps(kind: Kind, column: u64) -> u64
     requires { column < 2 ^ 63 }
     ensures value { result ≡ keeps kind column }

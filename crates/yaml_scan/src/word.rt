@@ -141,8 +141,7 @@ fn indicator_body(kind: Kind) -> Option<yaml_token_body_t>
     }
 }
 
-/// Reads a lexeme that is no indicator of one byte. What carries a text is read in a call of its own, which writes its answer
-/// where it is wanted: read in one function, the answers of all kinds would be taken apart and joined again.
+/// Reads a lexeme that is no indicator of one byte.
 #[tactic(auto, unfolding(yaml_scan_model::specs::Marks::break_of, yaml_scan_history::specs::Words::word_at))]
 // Inlined: the kind is known where it is called.
 #[inline(always)]
@@ -232,7 +231,7 @@ fn document_mark(reader: &mut Reader, body: yaml_token_body_t) -> Word
     carrier(reader, body)
 }
 
-// Out of line: it writes its answer where it is wanted; in line all answers are taken apart.
+// Out of line: it is rare.
 #[inline(never)]
 fn directive_word(alloc: Global, reader: &mut Reader) -> Result<Word, ScanError>
     requires { byte reader.old.text reader.old.at ≡ 37 }
@@ -258,8 +257,8 @@ fn directive_body(directive: Directive) -> yaml_token_body_t
     }
 }
 
-// Out of line: it writes its answer where it is wanted; in line all answers are taken apart.
-#[inline(never)]
+// Inlined: in the way of its kind its answer isn't put together.
+#[inline(always)]
 fn alias_word(alloc: Global, reader: &mut Reader) -> Result<Word, ScanError>
     requires { byte reader.old.text reader.old.at ≡ 42 }
     ensures { ReadsWord reader.old.text reader.old.at reader.new result
@@ -274,8 +273,8 @@ fn alias_word(alloc: Global, reader: &mut Reader) -> Result<Word, ScanError>
     })
 }
 
-// Out of line: it writes its answer where it is wanted; in line all answers are taken apart.
-#[inline(never)]
+// Inlined: in the way of its kind its answer isn't put together.
+#[inline(always)]
 fn anchor_word(alloc: Global, reader: &mut Reader) -> Result<Word, ScanError>
     requires { byte reader.old.text reader.old.at ≡ 38 }
     ensures { ReadsWord reader.old.text reader.old.at reader.new result
@@ -290,8 +289,8 @@ fn anchor_word(alloc: Global, reader: &mut Reader) -> Result<Word, ScanError>
     })
 }
 
-// Out of line: it writes its answer where it is wanted; in line all answers are taken apart.
-#[inline(never)]
+// Inlined: in the way of its kind its answer isn't put together.
+#[inline(always)]
 fn tag_word(alloc: Global, reader: &mut Reader, flow: bool) -> Result<Word, ScanError>
     requires { byte reader.old.text reader.old.at ≡ 33 }
     ensures { ReadsWord reader.old.text reader.old.at reader.new result
@@ -308,7 +307,7 @@ fn tag_word(alloc: Global, reader: &mut Reader, flow: bool) -> Result<Word, Scan
     })
 }
 
-// Out of line: it writes its answer where it is wanted; in line all answers are taken apart.
+// Out of line: it is rare.
 #[inline(never)]
 fn block_word(alloc: Global, reader: &mut Reader, level: u64) -> Result<Word, ScanError>
     requires level { level ≤ length reader.old.text + 1 }
@@ -329,8 +328,8 @@ fn block_word(alloc: Global, reader: &mut Reader, level: u64) -> Result<Word, Sc
     })
 }
 
-// Out of line: it writes its answer where it is wanted; in line all answers are taken apart.
-#[inline(never)]
+// Inlined: in the way of its kind its answer isn't put together.
+#[inline(always)]
 fn single_word(alloc: Global, reader: &mut Reader) -> Result<Word, ScanError>
     requires { byte reader.old.text reader.old.at ≡ 39 }
     ensures { ReadsWord reader.old.text reader.old.at reader.new result
@@ -348,8 +347,8 @@ fn single_word(alloc: Global, reader: &mut Reader) -> Result<Word, ScanError>
     })
 }
 
-// Out of line: it writes its answer where it is wanted; in line all answers are taken apart.
-#[inline(never)]
+// Inlined: in the way of its kind its answer isn't put together.
+#[inline(always)]
 fn double_word(alloc: Global, reader: &mut Reader) -> Result<Word, ScanError>
     requires { byte reader.old.text reader.old.at ≡ 34 }
     ensures { ReadsWord reader.old.text reader.old.at reader.new result
@@ -367,8 +366,8 @@ fn double_word(alloc: Global, reader: &mut Reader) -> Result<Word, ScanError>
     })
 }
 
-// Out of line: it writes its answer where it is wanted; in line all answers are taken apart.
-#[inline(never)]
+// Inlined: in the way of its kind its answer isn't put together.
+#[inline(always)]
 fn plain_word(alloc: Global, reader: &mut Reader, flow: bool, level: u64) -> Result<Word, ScanError>
     requires { plains.starts_plain flow reader.old.text reader.old.at ≡ true }
     ensures { ReadsWord reader.old.text reader.old.at reader.new result

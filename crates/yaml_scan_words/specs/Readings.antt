@@ -17,8 +17,8 @@ ReadsAs Is behind text start place (Ok x) (Err w) = ⊥
 ReadsAs Is behind text start place (Err e) (Ok y) = IsMemory e
 ReadsAs Is behind text start place (Err e) (Err w) = Refuses text start e w
 
--- a word is that value, from one place to another
-pub record IsWord (text : List ℕ) (start : ℕ) (word : Word) (x : List ℕ × ℕ) : Type 0 where
+-- a name's word is that value, from one place to another
+pub record IsNameWord (text : List ℕ) (start : ℕ) (word : Word) (x : List ℕ × ℕ) : Type 0 where
   pub value : word.value.items ≡ x.0
   pub start_mark : word.start_mark ≡ mark_at text start
   pub end_mark : word.end_mark ≡ mark_at text x.1

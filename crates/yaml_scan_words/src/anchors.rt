@@ -3,7 +3,7 @@
 ghost use Rattle.std.specs.Prelude.{◌≡◌, ◌⊎◌};
 ghost use Rattle.yaml_scan_model.specs.Marks.{byte, mark_at, is_blank_or_end};
 ghost use Rattle.yaml_scan_words.specs.Anchors as spec;
-ghost use Rattle.yaml_scan_words.specs.Readings.{ReadsAs, IsWord, behind_bytes};
+ghost use Rattle.yaml_scan_words.specs.Readings.{ReadsAs, IsNameWord, behind_bytes};
 
 use crate::run::{copied, leap, name_end};
 use crate::word::{Word, refusal};
@@ -19,7 +19,7 @@ use yaml_scan_model::{Context, Problem, Reader, ScanError};
 pub fn anchor(alloc: Global, reader: &mut Reader, context: Context) -> Result<Word, ScanError>
     requires { (byte reader.old.text reader.old.at ≡ 38)
         ⊎ (byte reader.old.text reader.old.at ≡ 42) }
-    ensures { ReadsAs (IsWord reader.old.text reader.old.at) behind_bytes reader.old.text
+    ensures { ReadsAs (IsNameWord reader.old.text reader.old.at) behind_bytes reader.old.text
         (mark_at reader.old.text reader.old.at) reader.new result
         (spec.anchor_at context reader.old.text reader.old.at) }
 {

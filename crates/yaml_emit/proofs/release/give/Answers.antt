@@ -1,15 +1,12 @@
 use Rattle.std.proofs.Common.{sym, ◌∙◌}
-use Rattle.yaml_emit.proofs.Holding.{waits_few, few_short, pushed_most, both_left, both_right, leads_past}
-use Rattle.yaml_emit.proofs.Judging.{judges_past}
+use Rattle.yaml_emit.proofs.Holding.{waits_few, few_short, pushed_most, both_left, both_right}
+use Rattle.yaml_emit.proofs.Judging.{lays_past}
 use Rattle.yaml_emit.proofs.release.give.Goals as goal
 
-pub returns-then-passes-clause-leads : goal.returns-then-passes-clause-leads
-returns-then-passes-clause-leads c = leads_past _ _ _ _ (both_right _ _ (sym c.passes.ensures ∙ c.if-passes.true)) c.lay_out.ensures
-
-pub returns-then-passes-clause-judges : goal.returns-then-passes-clause-judges
-returns-then-passes-clause-judges c =
+pub returns-then-passes-clause-lays : goal.returns-then-passes-clause-lays
+returns-then-passes-clause-lays c =
     let e = sym c.passes.ensures ∙ c.if-passes.true in
-    judges_past _ _ _ _ (both_left _ _ e) (both_right _ _ e) c.lay_out.ensures
+    lays_past _ _ _ _ (both_left _ _ e) (both_right _ _ e) c.lay_out.ensures
 
 pub push-requires-clause-few : goal.push-requires-clause-few
 push-requires-clause-few c = waits_few _ c.requires.few

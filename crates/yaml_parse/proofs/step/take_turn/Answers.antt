@@ -1,13 +1,11 @@
-use Rattle.std.proofs.Common.{◌∙◌, ap, sym, refl}
+use Rattle.std.proofs.Common.{ap, refl}
 use Rattle.yaml_scan_model.specs.Faults.{fault_of}
 use Rattle.yaml_parse_model.specs.Events.{event_of, body_of}
-use Rattle.yaml_parse_grammar.specs.Resolve.{refused}
-use Rattle.yaml_parse_grammar.specs.Remaining.{parser_remaining}
 use Rattle.yaml_parse_machine.specs.Views.{stack_of, item_of}
 use Rattle.yaml_parse_machine.specs.Settles.{directives_of}
 use Rattle.yaml_parse_machine.specs.Swiftly.{raw_of}
 use Rattle.yaml_parse.specs.Steps.{raw, peeked_of}
-use Rattle.yaml_parse.proofs.Turning.{event_turn, silent_turn, noted_turn, refused_turn, settled_turn, memory_turn, done_turn}
+use Rattle.yaml_parse.proofs.Turning.{event_turn, silent_turn, noted_turn, refused_turn, unsettled_turn, done_turn}
 use Rattle.yaml_parse.proofs.Texts.{done_utf8, silent_utf8, event_utf8, noted_utf8, cleared_utf8}
 use Rattle.yaml_parse.proofs.Heights.{done_stands, silent_stands, event_stands, noted_stands, cleared_stands}
 use Rattle.yaml_parse.proofs.step.take_turn.Goals as goal
@@ -26,34 +24,26 @@ returns-in-By-Refused-clause-turns g c = λ answered.
     refused_turn _ _ (raw (peeked_of c.advance.new.buffers) (g.S.yaml_token_source_t.to_come c.advance.new.source) (g.S.yaml_token_source_t.fault_to_come c.advance.new.source) (stack_of c.clear.new.self.items))
     (directives_of c.args.directives.now) (directives_of c.args.directives.now) answered (fault_of c.advance.new.fault) k.steps refl (ap stack_of c.clear.ensures.items)
 
-pub returns-in-Ok-true-clause-turns : goal.returns-in-Ok-true-clause-turns
-returns-in-Ok-true-clause-turns g c = λ answered.
+pub returns-in-Some-true-clause-turns : goal.returns-in-Some-true-clause-turns
+returns-in-Some-true-clause-turns g c = λ answered.
     let k = rw c.in-By-Given.field-0-is at c.in-By-Given.ensures in
-    let q = rw c.in-Ok-true.field-0-test at c.in-Ok-true.ensures in
-    event_turn _ _ (directives_of c.args.directives.now) (directives_of c.settle.new.directives) answered (item_of c.advance.new.buffers.item) (body_of c.settle.new.event.body) (event_of c.settle.new.event)
+    let q = rw c.in-Some-true.field-0-test at c.in-Some-true.ensures in
+    event_turn _ _ (directives_of c.args.directives.now) (directives_of c.settled.new.directives) answered (item_of c.advance.new.buffers.item) (body_of c.settled.new.event.body) (event_of c.settled.new.event)
     k.steps q.0 q.1
 
-pub returns-in-Ok-false-clause-turns : goal.returns-in-Ok-false-clause-turns
-returns-in-Ok-false-clause-turns g c = λ answered.
+pub returns-in-Some-false-clause-turns : goal.returns-in-Some-false-clause-turns
+returns-in-Some-false-clause-turns g c = λ answered.
     let k = rw c.in-By-Given.field-0-is at c.in-By-Given.ensures in
-    let q = rw c.in-Ok-false.field-0-test at c.in-Ok-false.ensures in
-    noted_turn _ _ (directives_of c.args.directives.now) (directives_of c.settle.new.directives) answered (item_of c.advance.new.buffers.item) k.steps q
+    let q = rw c.in-Some-false.field-0-test at c.in-Some-false.ensures in
+    noted_turn _ _ (directives_of c.args.directives.now) (directives_of c.settled.new.directives) answered (item_of c.advance.new.buffers.item) k.steps q
 
-pub returns-in-Err-Memory-clause-turns : goal.returns-in-Err-Memory-clause-turns
-returns-in-Err-Memory-clause-turns g c = λ answered.
-    memory_turn
-    (parser_remaining (peeked_of c.args.buffers.now) (g.S.yaml_token_source_t.to_come c.args.source.now) (g.S.yaml_token_source_t.fault_to_come c.args.source.now) (stack_of c.args.stack.now.items) (directives_of c.args.directives.now) answered)
-    (raw (peeked_of c.advance.new.buffers) (g.S.yaml_token_source_t.to_come c.advance.new.source) (g.S.yaml_token_source_t.fault_to_come c.advance.new.source) (stack_of c.clear-in-Err-Memory.new.self.items))
-    (directives_of c.settle.new.directives) answered (fault_of c.want_of_memory.result) c.want_of_memory.ensures (ap stack_of c.clear-in-Err-Memory.ensures.items)
-
-pub returns-in-Err-Fault-clause-turns : goal.returns-in-Err-Fault-clause-turns
-returns-in-Err-Fault-clause-turns g c = λ answered.
+pub returns-in-None-clause-turns : goal.returns-in-None-clause-turns
+returns-in-None-clause-turns g c = λ answered.
     let k = rw c.in-By-Given.field-0-is at c.in-By-Given.ensures in
-    let q = rw c.in-Err-Fault.field-0-is at c.in-Err-Fault.ensures in
-    settled_turn _ _
-    (raw (peeked_of c.advance.new.buffers) (g.S.yaml_token_source_t.to_come c.advance.new.source) (g.S.yaml_token_source_t.fault_to_come c.advance.new.source) (stack_of c.clear-in-Err-Fault.new.self.items))
-    (directives_of c.args.directives.now) (directives_of c.settle.new.directives) answered (item_of c.advance.new.buffers.item) (fault_of c.located.result)
-    k.steps (q ∙ ap refused (sym c.located.ensures)) refl (ap stack_of c.clear-in-Err-Fault.ensures.items)
+    unsettled_turn _ _
+    (raw (peeked_of c.advance.new.buffers) (g.S.yaml_token_source_t.to_come c.advance.new.source) (g.S.yaml_token_source_t.fault_to_come c.advance.new.source) (stack_of c.clear-in-None.new.self.items))
+    (directives_of c.args.directives.now) (directives_of c.settled.new.directives) answered (item_of c.advance.new.buffers.item) (fault_of c.settled.new.fault)
+    k.steps c.in-None.ensures refl (ap stack_of c.clear-in-None.ensures.items)
 
 pub returns-in-By-Done-clause-utf8 : goal.returns-in-By-Done-clause-utf8
 returns-in-By-Done-clause-utf8 g c = λ h.
@@ -67,27 +57,23 @@ returns-in-By-Silent-clause-utf8 g c = λ h.
 pub returns-in-By-Refused-clause-utf8 : goal.returns-in-By-Refused-clause-utf8
 returns-in-By-Refused-clause-utf8 g c = λ h. cleared_utf8 (peeked_of c.advance.new.buffers) (stack_of c.clear.new.self.items) (directives_of c.args.directives.now) (ap stack_of c.clear.ensures.items)
 
-pub returns-in-Ok-true-clause-utf8 : goal.returns-in-Ok-true-clause-utf8
-returns-in-Ok-true-clause-utf8 g c = λ h.
+pub returns-in-Some-true-clause-utf8 : goal.returns-in-Some-true-clause-utf8
+returns-in-Some-true-clause-utf8 g c = λ h.
     let k = rw c.in-By-Given.field-0-is at c.in-By-Given.ensures in
-    let q = rw c.in-Ok-true.field-0-test at c.in-Ok-true.ensures in
-    event_utf8 (peeked_of c.advance.new.buffers) (stack_of c.advance.new.stack.items) (directives_of c.args.directives.now) (directives_of c.settle.new.directives) (item_of c.advance.new.buffers.item)
-    (body_of c.settle.new.event.body) q.0 (k.utf8 (directives_of c.args.directives.now) h)
+    let q = rw c.in-Some-true.field-0-test at c.in-Some-true.ensures in
+    event_utf8 (peeked_of c.advance.new.buffers) (stack_of c.advance.new.stack.items) (directives_of c.args.directives.now) (directives_of c.settled.new.directives) (item_of c.advance.new.buffers.item)
+    (body_of c.settled.new.event.body) q.0 (k.utf8 (directives_of c.args.directives.now) h)
 
-pub returns-in-Ok-false-clause-utf8 : goal.returns-in-Ok-false-clause-utf8
-returns-in-Ok-false-clause-utf8 g c = λ h.
+pub returns-in-Some-false-clause-utf8 : goal.returns-in-Some-false-clause-utf8
+returns-in-Some-false-clause-utf8 g c = λ h.
     let k = rw c.in-By-Given.field-0-is at c.in-By-Given.ensures in
-    let q = rw c.in-Ok-false.field-0-test at c.in-Ok-false.ensures in
-    noted_utf8 (peeked_of c.advance.new.buffers) (stack_of c.advance.new.stack.items) (directives_of c.args.directives.now) (directives_of c.settle.new.directives) (item_of c.advance.new.buffers.item)
+    let q = rw c.in-Some-false.field-0-test at c.in-Some-false.ensures in
+    noted_utf8 (peeked_of c.advance.new.buffers) (stack_of c.advance.new.stack.items) (directives_of c.args.directives.now) (directives_of c.settled.new.directives) (item_of c.advance.new.buffers.item)
     q (k.utf8 (directives_of c.args.directives.now) h)
 
-pub returns-in-Err-Memory-clause-utf8 : goal.returns-in-Err-Memory-clause-utf8
-returns-in-Err-Memory-clause-utf8 g c = λ h.
-    cleared_utf8 (peeked_of c.advance.new.buffers) (stack_of c.clear-in-Err-Memory.new.self.items) (directives_of c.settle.new.directives) (ap stack_of c.clear-in-Err-Memory.ensures.items)
-
-pub returns-in-Err-Fault-clause-utf8 : goal.returns-in-Err-Fault-clause-utf8
-returns-in-Err-Fault-clause-utf8 g c = λ h.
-    cleared_utf8 (peeked_of c.advance.new.buffers) (stack_of c.clear-in-Err-Fault.new.self.items) (directives_of c.settle.new.directives) (ap stack_of c.clear-in-Err-Fault.ensures.items)
+pub returns-in-None-clause-utf8 : goal.returns-in-None-clause-utf8
+returns-in-None-clause-utf8 g c = λ h.
+    cleared_utf8 (peeked_of c.advance.new.buffers) (stack_of c.clear-in-None.new.self.items) (directives_of c.settled.new.directives) (ap stack_of c.clear-in-None.ensures.items)
 
 pub returns-in-By-Done-clause-stack : goal.returns-in-By-Done-clause-stack
 returns-in-By-Done-clause-stack g c = λ h.
@@ -100,22 +86,19 @@ returns-in-By-Silent-clause-stack g c = λ h.
 pub returns-in-By-Refused-clause-stack : goal.returns-in-By-Refused-clause-stack
 returns-in-By-Refused-clause-stack g c = λ h. cleared_stands (stack_of c.clear.new.self.items) (ap stack_of c.clear.ensures.items)
 
-pub returns-in-Ok-true-clause-stack : goal.returns-in-Ok-true-clause-stack
-returns-in-Ok-true-clause-stack g c = λ h.
+pub returns-in-Some-true-clause-stack : goal.returns-in-Some-true-clause-stack
+returns-in-Some-true-clause-stack g c = λ h.
     let k = rw c.in-By-Given.field-0-is at c.in-By-Given.ensures in
-    let q = rw c.in-Ok-true.field-0-test at c.in-Ok-true.ensures in
-    event_stands (stack_of c.advance.new.stack.items) (directives_of c.args.directives.now) (directives_of c.settle.new.directives) (item_of c.advance.new.buffers.item)
-    (body_of c.settle.new.event.body) q.0 (k.stack h)
+    let q = rw c.in-Some-true.field-0-test at c.in-Some-true.ensures in
+    event_stands (stack_of c.advance.new.stack.items) (directives_of c.args.directives.now) (directives_of c.settled.new.directives) (item_of c.advance.new.buffers.item)
+    (body_of c.settled.new.event.body) q.0 (k.stack h)
 
-pub returns-in-Ok-false-clause-stack : goal.returns-in-Ok-false-clause-stack
-returns-in-Ok-false-clause-stack g c = λ h.
+pub returns-in-Some-false-clause-stack : goal.returns-in-Some-false-clause-stack
+returns-in-Some-false-clause-stack g c = λ h.
     let k = rw c.in-By-Given.field-0-is at c.in-By-Given.ensures in noted_stands (stack_of c.advance.new.stack.items) (item_of c.advance.new.buffers.item) (k.stack h)
 
-pub returns-in-Err-Memory-clause-stack : goal.returns-in-Err-Memory-clause-stack
-returns-in-Err-Memory-clause-stack g c = λ h. cleared_stands (stack_of c.clear-in-Err-Memory.new.self.items) (ap stack_of c.clear-in-Err-Memory.ensures.items)
-
-pub returns-in-Err-Fault-clause-stack : goal.returns-in-Err-Fault-clause-stack
-returns-in-Err-Fault-clause-stack g c = λ h. cleared_stands (stack_of c.clear-in-Err-Fault.new.self.items) (ap stack_of c.clear-in-Err-Fault.ensures.items)
+pub returns-in-None-clause-stack : goal.returns-in-None-clause-stack
+returns-in-None-clause-stack g c = λ h. cleared_stands (stack_of c.clear-in-None.new.self.items) (ap stack_of c.clear-in-None.ensures.items)
 
 pub returns-in-Ready-clause-turns : goal.returns-in-Ready-clause-turns
 returns-in-Ready-clause-turns g c = λ answered.

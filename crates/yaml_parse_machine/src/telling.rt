@@ -1,0 +1,100 @@
+//! Events that the swift ways write where they are wanted.
+
+ghost use Rattle.std.specs.Prelude.{None};
+ghost use Rattle.yaml_parse_model.specs.Events.{event_of};
+ghost use Rattle.yaml_parse_model.specs.Events as told;
+ghost use Rattle.yaml_parse_grammar.specs.Items.{item_at};
+ghost use Rattle.yaml_parse_grammar.specs.Items as item;
+ghost use Rattle.yaml_parse_grammar.specs.Trees.{flow_shape, end_event, event_at};
+ghost use Rattle.yaml_parse_machine.specs.Swiftly.{IsReady};
+
+use crate::resolving::bare_scalar;
+use crate::taking::moved;
+use yaml_parse_grammar::Brackets;
+use yaml_parse_model::{
+    yaml_event_body_t, yaml_event_t, yaml_mapping_style_t, yaml_mark_t, yaml_scalar_style_t,
+    yaml_sequence_style_t, yaml_token_t,
+};
+
+// The token's scalar as an event without properties.
+// Inlined: it is written where it is wanted.
+#[inline(always)]
+pub(crate) fn tell_scalar(
+    value: &mut Vec<u8>,
+    style: yaml_scalar_style_t,
+    from: yaml_mark_t,
+    to: yaml_mark_t,
+    event: &mut yaml_event_t,
+)
+    ensures { IsReady (item_at (item.node None None (item.scalar value.old.items style)) from to)
+        (event_of event.new) }
+{
+    event.start_mark = from;
+    event.end_mark = to;
+    let alloc = *value.allocator();
+    bare_scalar(alloc, value, style, &mut event.body);
+}
+
+// A flow collection without properties begins.
+// Inlined: mostly its brackets are known.
+#[inline(always)]
+pub(crate) fn tell_start(brackets: Brackets, token: &yaml_token_t, event: &mut yaml_event_t)
+    ensures { IsReady (item_at (item.node None None (flow_shape brackets)) token.now.start_mark
+        token.now.end_mark) (event_of event.new) }
+{
+    event.start_mark = token.start_mark;
+    event.end_mark = token.end_mark;
+    match brackets {
+        Brackets::Sequence => {
+            event.body = yaml_event_body_t::SequenceStart {
+                anchor: None,
+                tag: None,
+                implicit: true,
+                style: yaml_sequence_style_t::YAML_FLOW_SEQUENCE_STYLE,
+            };
+        }
+        Brackets::Mapping => {
+            event.body = yaml_event_body_t::MappingStart {
+                anchor: None,
+                tag: None,
+                implicit: true,
+                style: yaml_mapping_style_t::YAML_FLOW_MAPPING_STYLE,
+            };
+        }
+    }
+}
+
+// A collection ends.
+// Inlined: its brackets are known.
+#[inline(always)]
+pub(crate) fn tell_end(brackets: Brackets, token: &yaml_token_t, event: &mut yaml_event_t)
+    ensures { IsReady (event_at (end_event brackets) token.now.start_mark token.now.end_mark)
+        (event_of event.new) }
+{
+    event.start_mark = token.start_mark;
+    event.end_mark = token.end_mark;
+    match brackets {
+        Brackets::Sequence => {
+            event.body = yaml_event_body_t::SequenceEnd;
+        }
+        Brackets::Mapping => {
+            event.body = yaml_event_body_t::MappingEnd;
+        }
+    }
+}
+
+// An alias stands whole.
+pub(crate) fn tell_alias(
+    name: &mut Vec<u8>,
+    from: yaml_mark_t,
+    to: yaml_mark_t,
+    event: &mut yaml_event_t,
+)
+    ensures { IsReady (event_at (told.alias name.old.items) from to) (event_of event.new) }
+{
+    event.start_mark = from;
+    event.end_mark = to;
+    event.body = yaml_event_body_t::Alias {
+        anchor: moved(name),
+    };
+}

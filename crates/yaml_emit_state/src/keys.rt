@@ -1,5 +1,6 @@
 //! Simple keys.
-ghost use Rattle.std.specs.Prelude.{◌≡◌, ◌∷◌, [], None, Some, true, false, not, ◌&&◌, ◌||◌, map, length, nat_le, ◌+◌, ◌≤◌};
+ghost use Rattle.std.specs.Prelude.{◌≡◌, ◌∷◌, [], None, Some, true, false, not, ◌&&◌, ◌||◌, map, length, nat_le, ◌+◌, ◌≤◌, ◌<◌};
+ghost use Rattle.yaml_scan_model.specs.Classes.{is_break};
 ghost use Rattle.yaml_parse_model.specs.Events.{text_of, body_of};
 ghost use Rattle.yaml_emit_layout.specs.Content.{emitter_event, is_flow_sequence, is_flow_mapping};
 ghost use Rattle.yaml_emit_layout.specs.Grammar.{kept_tag};
@@ -12,11 +13,27 @@ use yaml_emit_text::tag_size;
 use yaml_parse_model::yaml_event_body_t;
 use yaml_scan_model::{IS_BREAK, yaml_mapping_style_t, yaml_sequence_style_t};
 
+// Whether a break begins there. Most bytes tell by themselves that none does.
+// Inlined: two comparisons a byte.
+#[inline(always)]
+#[tactic(auto, unfolding(yaml_scan_model::specs::Marks::break_of))]
+fn begins_break(value: &[u8], place: usize) -> bool
+    requires { place < length value.now }
+    ensures { result ≡ is_break value.now place }
+{
+    let byte = value[place];
+    if b'\r' < byte && byte < 0xC2 {
+        false
+    } else {
+        IS_BREAK(value, place)
+    }
+}
+
 fn has_break(value: &[u8]) -> bool
     ensures { result ≡ has_break value.now }
 {
     for i in 0..value.len() {
-        if IS_BREAK(value, i) {
+        if begins_break(value, i) {
             return true;
         }
     }

@@ -1,17 +1,17 @@
 -- Bytes in front that pass a test, and runs that are written as they are.
 use Rattle.std.proofs.Common.{◌≡◌, ℕ, zero, suc, ◌+◌, ◌-◌, ◌<◌, ◌≤◌, List, [], ◌∷◌, ◌++◌, length, take, drop, get_or, Bool, true, false, cond, IsUtf8, refl, sym, subst, ◌∙◌, ap, arith}
-use Rattle.std.specs.Prelude.{not, nat_le, ◌==◌, ◌||◌, ◌&&◌}
+use Rattle.std.specs.Prelude.{if◌then◌else◌, not, nat_le, ◌==◌, ◌||◌, ◌&&◌}
 use Rattle.std.specs.Str.{chars, IsAscii}
 use Rattle.std.specs.List.{All}
 use Rattle.std.proofs.lemmas.Bool.Decides.{nat_tests}
 use Rattle.std.proofs.lemmas.List.{take-append-drop, drop_more, drop_all, length-take-le}
-use Rattle.std.proofs.lemmas.Str.{chars-append, chars-IsAscii, IsUtf8-from_ascii, IsUtf8-past_char, IsAscii-drop, chars_past_char, encode_ascii}
+use Rattle.std.proofs.lemmas.Str.{chars-append, chars-IsAscii, IsUtf8-from_ascii, IsUtf8-past_char, IsAscii-drop, chars_past_char, chars-nil, encode_ascii}
 use Rattle.std.proofs.lemmas.Str.Ascii.{IsAscii-from_all}
 use Rattle.std.proofs.lemmas.List.Elements.{All-from_get_or}
 use Rattle.yaml_emit_text.specs.declared.run.Bounds.{Bounds}
 use Rattle.yaml_emit_text.specs.Quoted.{first, is_empty}
 use Rattle.yaml_emit_text.specs.Style.{last_or}
-use Rattle.yaml_emit_text.specs.Runs.{front, all_pass, runs_on, is_calm, calm}
+use Rattle.yaml_emit_text.specs.Runs.{front, all_pass, runs_on, is_calm, calm, may_follow, passed}
 
 bool_cases : {P : Type 0} (b : Bool) → (b ≡ true → P) → (b ≡ false → P) → P
 bool_cases true p q = p refl
@@ -183,27 +183,55 @@ last_none before (x ∷ xs) h = absurd (grind (arith, nat_tests, h))
 pub run_most : (e : Bounds) (k n : ℕ) (xs bs : List ℕ) → xs ≡ bs → n ≡ front (runs_on e) k xs → n ≡ front (runs_on e) k bs
 run_most e k n xs bs same p = p ∙ ap (front (runs_on e) k) same
 
-pub calm_most : (m n : ℕ) (xs bs : List ℕ) → xs ≡ bs → n ≡ front calm 0 xs → m ≡ n - 1 → m ≡ front calm 0 bs - 1
-calm_most m n xs bs same p q = q ∙ ap (λ k. k - 1) (p ∙ ap (front calm 0) same)
+pub calm_most : (m : ℕ) (xs bs : List ℕ) → xs ≡ bs → m ≡ passed xs → m ≡ passed bs
+calm_most m xs bs same p = p ∙ ap passed same
+
+under : (v : Bool) (n : ℕ) → (if v then n else n - 1) ≤ n
+under true n = omega arith
+under false n = omega arith
+
+passed_under : (m : ℕ) (bs : List ℕ) → m ≡ passed bs → m ≤ front calm 0 bs
+passed_under m bs p = let h = under (front calm 0 bs == length bs) (front calm 0 bs) in omega (arith, p, h)
 
 pub run_inside : (e : Bounds) (k n : ℕ) (bs : List ℕ) → n ≡ front (runs_on e) k bs → n ≤ length bs
 run_inside e k n bs p = let h = front_inside (runs_on e) k bs in omega (arith, p, h)
 
-pub calm_inside : (m : ℕ) (bs : List ℕ) → m ≡ front calm 0 bs - 1 → m ≤ length bs
-calm_inside m bs p = let h = front_inside calm 0 bs in omega (arith, p, h)
+pub calm_inside : (m : ℕ) (bs : List ℕ) → m ≡ passed bs → m ≤ length bs
+calm_inside m bs p = let h = front_inside calm 0 bs in let k = passed_under m bs p in omega (arith, k, h)
 
 pub run_passes : (e : Bounds) (k n : ℕ) (bs run : List ℕ) → n ≡ front (runs_on e) k bs → run ≡ take n bs → all_pass (runs_on e) k run ≡ true
 run_passes e k n bs run p r = ap (all_pass (runs_on e) k) r ∙ front_pass (runs_on e) k n bs (omega (arith, p))
 
-pub calm_passes : (m : ℕ) (bs run : List ℕ) → m ≡ front calm 0 bs - 1 → run ≡ take m bs → all_pass calm 0 run ≡ true
-calm_passes m bs run p r = ap (all_pass calm 0) r ∙ front_pass calm 0 m bs (omega (arith, p))
+pub calm_passes : (m : ℕ) (bs run : List ℕ) → m ≡ passed bs → run ≡ take m bs → all_pass calm 0 run ≡ true
+calm_passes m bs run p r = ap (all_pass calm 0) r ∙ front_pass calm 0 m bs (passed_under m bs p)
 
 pub run_length_is : (n : ℕ) (bs run : List ℕ) → n ≤ length bs → run ≡ take n bs → length run ≡ n
 run_length_is n bs run h r = ap length r ∙ length-take-le n bs h
 
-pub calm_behind : (m : ℕ) (bs run rest : List ℕ) → m ≡ front calm 0 bs - 1 → run ≡ take m bs → rest ≡ drop m bs → IsUtf8 rest → (is_empty run || is_calm (first (chars rest))) ≡ true
-calm_behind zero bs run rest p r e u = ap (λ t. is_empty t || is_calm (first (chars rest))) r
-calm_behind (suc m) bs run rest p r e u =
+follows : (v : Bool) (x : ℕ) → (v || is_calm x) ≡ true → (v || may_follow x) ≡ true
+follows true x h = refl
+follows false x h = ap (λ w. w || x == 0) h
+
+ends : (v : Bool) → (v || may_follow (first (chars []))) ≡ true
+unfolding is_calm
+ends true = refl
+ends false = ap (λ t. may_follow (first t)) chars-nil
+
+calm_most_behind : (m : ℕ) (bs run rest : List ℕ) → m ≡ front calm 0 bs - 1 → run ≡ take m bs → rest ≡ drop m bs → IsUtf8 rest → (is_empty run || is_calm (first (chars rest))) ≡ true
+calm_most_behind zero bs run rest p r e u = ap (λ t. is_empty t || is_calm (first (chars rest))) r
+calm_most_behind (suc m) bs run rest p r e u =
     let P : List ℕ → Type 0 = λ t. IsUtf8 t in
     let c = ap (λ t. is_calm (first (chars t))) e ∙ calm_next (suc m) bs (omega (arith, p)) (subst P e u) in
     bool_cases (is_empty run) (λ t. ap (λ v. v || is_calm (first (chars rest))) t) (λ f. ap (λ v. v || is_calm (first (chars rest))) f ∙ c)
+
+all_of : (n m l : ℕ) → m ≡ n → (n == l) ≡ true → l ≤ m
+all_of n m l p t = grind (arith, nat_tests, p, t)
+
+pub calm_behind : (m : ℕ) (bs run rest : List ℕ) → m ≡ passed bs → run ≡ take m bs → rest ≡ drop m bs → IsUtf8 rest → (is_empty run || may_follow (first (chars rest))) ≡ true
+calm_behind m bs run rest p r e u =
+    let n : ℕ = front calm 0 bs in
+    bool_cases (n == length bs)
+    (λ t. let q : m ≡ n = p ∙ ap (λ v. if v then n else n - 1) t in
+    ap (λ z. is_empty run || may_follow (first (chars z))) (e ∙ drop_all _ _ (all_of n m (length bs) q t)) ∙ ends (is_empty run))
+    (λ f. let q : m ≡ n - 1 = p ∙ ap (λ v. if v then n else n - 1) f in
+    follows (is_empty run) (first (chars rest)) (calm_most_behind m bs run rest q r e u))

@@ -11,7 +11,7 @@ use Rattle.yaml_emit_text.specs.declared.run.Bounds.{Bounds}
 use Rattle.yaml_emit_text.specs.Quoted.{needs_escape, escape_text, first, is_empty, may_fold, fold, escaped, quoted_char, quoted_body}
 use Rattle.yaml_emit_text.specs.Scalars.{value_break, cuts_at, text_char, flow_char, flow_body, adds_break, cuts_block, line_blank, block_text, block_char, block_body}
 use Rattle.yaml_emit_text.specs.Style.{last_or, seen, looked, joined, is_special, is_break_space, is_not_plain, is_not_flow}
-use Rattle.yaml_emit_text.specs.Runs.{all_pass, runs_on, is_calm, calm, quoted_bounds, flow_bounds, block_bounds}
+use Rattle.yaml_emit_text.specs.Runs.{all_pass, runs_on, is_calm, calm, may_follow, quoted_bounds, flow_bounds, block_bounds}
 use Rattle.yaml_emit_text.proofs.RunLemmas.{and_left, and_right, run_byte, last_append}
 use Rattle.yaml_emit_text.proofs.Looks.{looked_at}
 
@@ -180,7 +180,7 @@ block_run page folded blank e at a b before last bs xs text g p q h t l w =
 
 -- what says nothing against a style
 
-calm_special : (unicode : Bool) (before b next : ℕ) → is_calm b ≡ true → is_calm next ≡ true → is_special unicode before b next ≡ false
+calm_special : (unicode : Bool) (before b next : ℕ) → is_calm b ≡ true → may_follow next ≡ true → is_special unicode before b next ≡ false
 unfolding is_calm
 calm_special true before b next h n = grind (arith, nat_tests, h, n)
 calm_special false before b next h n = grind (arith, nat_tests, h, n)
@@ -197,19 +197,19 @@ calm_flow : (before b next : ℕ) → is_calm b ≡ true → is_not_flow before 
 unfolding is_calm
 calm_flow before b next h = grind (arith, nat_tests, h)
 
-calm_seen : (unicode : Bool) (before b next : ℕ) → is_calm b ≡ true → is_calm next ≡ true → seen unicode before b next ≡ record { special = false; broken = false; not_plain = false; not_flow = false }
+calm_seen : (unicode : Bool) (before b next : ℕ) → is_calm b ≡ true → may_follow next ≡ true → seen unicode before b next ≡ record { special = false; broken = false; not_plain = false; not_flow = false }
 calm_seen unicode before b next h n = rw (calm_special unicode before b next h n, calm_broken before b next h, calm_plain before b next h, calm_flow before b next h) refl
 
-next_calm : (b : ℕ) (bs xs : List ℕ) (k : ℕ) → all_pass calm k bs ≡ true → (is_empty (b ∷ bs) || is_calm (first xs)) ≡ true → is_calm (first (bs ++ xs)) ≡ true
+next_calm : (b : ℕ) (bs xs : List ℕ) (k : ℕ) → all_pass calm k bs ≡ true → (is_empty (b ∷ bs) || may_follow (first xs)) ≡ true → may_follow (first (bs ++ xs)) ≡ true
 unfolding all_pass
 next_calm b [] xs k h n = n
-next_calm b (y ∷ ys) xs k h n = and_left (calm k y) (all_pass calm (k + 1) ys) h
+next_calm b (y ∷ ys) xs k h n = ap (λ v. v || y == 0) (and_left (calm k y) (all_pass calm (k + 1) ys) h)
 
-calm_still : (bs xs : List ℕ) → is_calm (first xs) ≡ true → (is_empty bs || is_calm (first xs)) ≡ true
+calm_still : (bs xs : List ℕ) → may_follow (first xs) ≡ true → (is_empty bs || may_follow (first xs)) ≡ true
 calm_still [] xs n = refl
 calm_still (y ∷ ys) xs n = n
 
-calm_looked : (unicode : Bool) (before k : ℕ) (bs xs : List ℕ) → all_pass calm k bs ≡ true → (is_empty bs || is_calm (first xs)) ≡ true → looked unicode before (bs ++ xs) ≡ looked unicode (last_or before bs) xs
+calm_looked : (unicode : Bool) (before k : ℕ) (bs xs : List ℕ) → all_pass calm k bs ≡ true → (is_empty bs || may_follow (first xs)) ≡ true → looked unicode before (bs ++ xs) ≡ looked unicode (last_or before bs) xs
 unfolding all_pass last_or
 calm_looked unicode before k [] xs h n = refl
 calm_looked unicode before k (b ∷ bs) xs h n =
@@ -218,7 +218,7 @@ calm_looked unicode before k (b ∷ bs) xs h n =
     let e = calm_seen unicode before b (first (bs ++ xs)) c (next_calm b bs xs (k + 1) d n) in
     looked_at unicode before b (bs ++ xs) ∙ ap (λ z. joined z (looked unicode b (bs ++ xs))) e ∙ calm_looked unicode b (k + 1) bs xs d (calm_still bs xs n)
 
-pub look_calm : (unicode : Bool) (before last : ℕ) (bs xs text : List ℕ) → all_pass calm 0 bs ≡ true → (is_empty bs || is_calm (first xs)) ≡ true → text ≡ bs ++ xs → last ≡ last_or before bs → looked unicode before text ≡ looked unicode last xs
+pub look_calm : (unicode : Bool) (before last : ℕ) (bs xs text : List ℕ) → all_pass calm 0 bs ≡ true → (is_empty bs || may_follow (first xs)) ≡ true → text ≡ bs ++ xs → last ≡ last_or before bs → looked unicode before text ≡ looked unicode last xs
 look_calm unicode before last bs xs text h n t l = ap (looked unicode before) t ∙ calm_looked unicode before 0 bs xs h n ∙ ap (λ z. looked unicode z xs) (sym l)
 
 pub last_calm : (before last : ℕ) (bs xs text : List ℕ) → text ≡ bs ++ xs → last ≡ last_or before bs → last_or before text ≡ last_or last xs

@@ -1,5 +1,5 @@
 -- Runs of ASCII that are written as they are, and runs that allow every style.
-use Rattle.std.specs.Prelude.{ℕ, suc, ◌+◌, Bool, true, not, ◌&&◌, ◌||◌, ◌==◌, nat_le, if◌then◌else◌, List, [], ◌∷◌}
+use Rattle.std.specs.Prelude.{ℕ, suc, ◌+◌, ◌-◌, Bool, true, not, ◌&&◌, ◌||◌, ◌==◌, nat_le, if◌then◌else◌, List, [], ◌∷◌, length}
 use Rattle.yaml_emit_text.specs.declared.page.Page.{Page}
 use Rattle.yaml_emit_text.specs.declared.run.Bounds.{Bounds}
 
@@ -44,3 +44,12 @@ is_calm b = nat_le 32 b && (nat_le b 126 && not (b == 35 || b == 44 || b == 58 |
 -- at any column
 abbrev pub calm : ℕ → ℕ → Bool
 calm column b = is_calm b
+
+-- behind a calm byte it says nothing against a style: another such one, or the end
+abbrev pub may_follow : ℕ → Bool
+may_follow c = is_calm c || c == 0
+
+-- How many calm bytes in front are passed at once: what stands behind the last of them may say something of it, unless the
+-- text ends there.
+abbrev pub passed : List ℕ → ℕ
+passed bs = if front calm 0 bs == length bs then front calm 0 bs else front calm 0 bs - 1

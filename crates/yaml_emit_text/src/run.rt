@@ -1,6 +1,6 @@
 //! Runs of ASCII, which are taken at once.
 
-ghost use Rattle.std.specs.Prelude.{◌≡◌, ◌<◌, ◌≤◌, ◌-◌, ◌++◌, ◌^◌, ◌||◌, true, length, take, drop, IsUtf8};
+ghost use Rattle.std.specs.Prelude.{◌≡◌, ◌<◌, ◌≤◌, ◌++◌, ◌^◌, ◌||◌, true, length, take, drop, IsUtf8};
 ghost use Rattle.std.specs.Str.{chars, IsAscii};
 ghost use Rattle.yaml_emit_text.specs.Quoted.{first, is_empty};
 ghost use Rattle.yaml_emit_text.specs.Style.{last_or};
@@ -53,10 +53,14 @@ fn run_length(bounds: Bounds, column: u64, bytes: &[u8]) -> usize
     count
 }
 
+// Small letters are asked for first: they are more than all else.
 #[tactic(auto, unfolding(crate::specs::Runs::is_calm))]
 fn is_calm(byte: u8) -> bool
     ensures { result ≡ spec.is_calm byte }
 {
+    if b'a' <= byte && byte <= b'z' {
+        return true;
+    }
     match byte {
         b' '..=b'"' | b'$'..=b'+' | b'-'..=b'9' | b';'..=b'>' | b'@'..=b'Z' => true,
         b'\\' | b'^'..=b'z' | b'|' | b'~' => true,
@@ -109,17 +113,30 @@ pub(crate) fn split_run<'a>(bounds: Bounds, column: u64, left: &'a str) -> (&'a 
     cut(left, run_length(bounds, column, left.as_bytes()))
 }
 
-/// A text, cut in front of the last of the calm bytes in front.
+// How many of the calm bytes in front are passed: all but the last, and that too where the text ends behind it.
+fn calm_passed(bytes: &[u8]) -> usize
+    ensures { result ≡ spec.passed bytes.now }
+{
+    let count = calm_length(bytes);
+    if count == bytes.len() {
+        count
+    } else {
+        count.saturating_sub(1)
+    }
+}
+
+/// A text, cut in front of the last of the calm bytes in front, or behind them where it ends there.
 pub(crate) fn split_calm(left: &str) -> (&[u8], &str)
     ensures calm { spec.all_pass spec.calm 0 result.0.now ≡ true }
-    ensures next { (is_empty result.0.now || spec.is_calm (first (chars result.1.now))) ≡ true }
-    ensures whole { length result.0.now ≡ spec.front spec.calm 0 left.now - 1 }
+    ensures next { (is_empty result.0.now || spec.may_follow (first (chars result.1.now)))
+        ≡ true }
+    ensures whole { length result.0.now ≡ spec.passed left.now }
     ensures ascii { IsAscii result.0.now }
     ensures letters { chars left.now ≡ result.0.now ++ chars result.1.now }
     ensures utf8 { IsUtf8 result.1.now }
     ensures shorter { length result.1.now ≤ length left.now }
 {
-    cut(left, calm_length(left.as_bytes()).saturating_sub(1))
+    cut(left, calm_passed(left.as_bytes()))
 }
 
 /// The last character of a run, or another one.

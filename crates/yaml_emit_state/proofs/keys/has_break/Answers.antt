@@ -7,8 +7,8 @@ pub loop-i-init : goal.loop-i-init
 unfolding any_below
 loop-i-init c = refl
 
-pub returns-then-IS_BREAK : goal.returns-then-IS_BREAK
-returns-then-IS_BREAK c = sym (below_found _ _ _ c.loop-i-test.true (sym c.IS_BREAK.ensures ∙ c.if-IS_BREAK.true))
+pub returns-then-begins_break : goal.returns-then-begins_break
+returns-then-begins_break c = sym (below_found _ _ _ c.loop-i-test.true (sym c.begins_break.ensures ∙ c.if-begins_break.true))
 
 pub loop-i-preserved : goal.loop-i-preserved
-loop-i-preserved c = below_more _ _ c.loop-i.invariant (sym c.IS_BREAK.ensures ∙ c.if-IS_BREAK.false)
+loop-i-preserved c = below_more _ _ c.loop-i.invariant (sym c.begins_break.ensures ∙ c.if-begins_break.false)

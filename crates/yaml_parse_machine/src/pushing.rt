@@ -94,8 +94,8 @@ pub(crate) fn swap_top(stack: &mut Vec<State>, state: State)
     requires { 0 < vec_len stack.old }
     ensures stack { stack_of stack.new.items ≡ state_of state ∷ below (stack_of stack.old.items) }
 {
-    drop_top(stack);
-    put(stack, state);
+    let last = stack.len() - 1;
+    stack[last] = state;
 }
 
 /// The states of a document, whose `---` ends there.

@@ -1,0 +1,4 @@
+use Rattle.yaml_parse_model.proofs.constructor.yaml_stream_start_event_initialize.Goals as goal
+
+pub returns : goal.returns
+returns c = c.unplaced.ensures

@@ -1,16 +1,7 @@
-pub mod Front
-pub mod Moves
-pub mod Turning
-pub mod Texts
-pub mod ByStep
-pub mod Loading
-pub mod NextLoads
-pub mod ByContent
-pub mod ToGive
-pub mod AllGiven
-pub mod Heights
-pub mod Swiftness
-pub mod Sentences
+-- what loads come to, and what a parser begins with, for crates that name the member alone
+pub use Rattle.yaml_parse_step.proofs.ByStep
+pub use Rattle.yaml_parse_step.proofs.NextLoads
+pub use Rattle.yaml_parse_step.proofs.Sentences
 -- its grammar, for crates of laws that name the member alone
 pub use Rattle.yaml_parse_grammar.proofs as parse_grammar
 -- the laws of its faults, for the same

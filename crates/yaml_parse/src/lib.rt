@@ -3,12 +3,11 @@
 
 mod load;
 mod parser;
-mod step;
 
 pub use load::{loads_are_by_content, yaml_parser_load};
 pub use parser::{
-    yaml_found_t, yaml_parser_between, yaml_parser_delete, yaml_parser_initialize,
-    yaml_parser_parse, yaml_parser_parse_into, yaml_parser_prefix, yaml_parser_t,
+    yaml_parser_between, yaml_parser_delete, yaml_parser_initialize, yaml_parser_parse,
+    yaml_parser_parse_into, yaml_parser_prefix, yaml_parser_t,
 };
 pub use yaml_parse_document::{
     document_is_sound, yaml_document_add_mapping, yaml_document_add_scalar,
@@ -26,6 +25,7 @@ pub use yaml_parse_model::{
     yaml_sequence_start_event_initialize, yaml_stream_end_event_initialize,
     yaml_stream_start_event_initialize, yaml_text_fault_t, yaml_token_source_t,
 };
+pub use yaml_parse_step::yaml_found_t;
 pub use yaml_scan_model::{
     yaml_break_t, yaml_encoding_t, yaml_error_type_t, yaml_event_type_t, yaml_fault_t,
     yaml_mapping_style_t, yaml_mark_t, yaml_memory_fault, yaml_node_type_t, yaml_origin_t,

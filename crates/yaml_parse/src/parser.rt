@@ -17,20 +17,20 @@ ghost use Rattle.yaml_parse_laws_given.specs.laws_faults.laws_sound.Laws.{Begins
 ghost use Rattle.yaml_parse_laws_given.specs.laws_faults.laws_counts.Laws.{AtMostFourSoFar};
 ghost use Rattle.yaml_parse_laws_given.specs.laws_faults.Places.{FaultOfTokens, IsToldWith};
 ghost use Rattle.yaml_parse_laws_given.specs.Given.{EventsOfTokens, GivesLeast};
-ghost use Rattle.yaml_parse.specs.Fronts.{BeginsTree};
-ghost use Rattle.yaml_parse.specs.Finds.{NextOf, Finds, IsUtf8Found, IsStackFound};
-ghost use Rattle.yaml_parse.specs.Steps.{Turns, IsUtf8Turn, IsStackTurn};
-ghost use Rattle.yaml_parse.specs.Turned.{turned};
-ghost use Rattle.yaml_parse.specs.NextLoad.{AreLoadsByContent};
+ghost use Rattle.yaml_parse_step.specs.Fronts.{BeginsTree};
+ghost use Rattle.yaml_parse_step.specs.Finds.{NextOf, Finds, IsUtf8Found, IsStackFound};
+ghost use Rattle.yaml_parse_step.specs.Steps.{Turns, IsUtf8Turn, IsStackTurn};
+ghost use Rattle.yaml_parse_step.specs.Turned.{turned};
+ghost use Rattle.yaml_parse_step.specs.NextLoad.{AreLoadsByContent};
 ghost use Rattle.yaml_parse_grammar.specs.Stacks.{parts_documents_behind};
 
-use crate::step::{Step, StepBuffers, take_turn};
 use std::alloc::Global;
 use std::marker::Model;
 use yaml_parse_machine::{Directives, RawEvent, RawEventBody, Resolved, State, TagDirectives};
 use yaml_parse_model::{
     yaml_event_body_t, yaml_event_t, yaml_parser_t_prefix, yaml_token_source_t,
 };
+use yaml_parse_step::{Step, StepBuffers, take_turn, yaml_found_t};
 use yaml_scan_model::{yaml_fault_t, yaml_mark_t, yaml_memory_fault, yaml_origin_t, yaml_token_t};
 
 /// A parser of the tokens of a source.
@@ -52,7 +52,7 @@ impl<S: yaml_token_source_t> Model for yaml_parser_t<S> {
     ghost use Rattle.yaml_parse_grammar.specs.Remaining.{ParserRemaining, parser_remaining};
     ghost use Rattle.yaml_parse_machine.specs.Views.{stack_of};
     ghost use Rattle.yaml_parse_machine.specs.Settles.{directives_of};
-    ghost use Rattle.yaml_parse.specs.Steps.{peeked_of};
+    ghost use Rattle.yaml_parse_step.specs.Steps.{peeked_of};
 
     ghost Value = { ParserRemaining };
 
@@ -181,14 +181,6 @@ pub fn yaml_parser_initialize<S: yaml_token_source_t>(
         }),
         Err(_) => Err(yaml_memory_fault(yaml_origin_t::Parser)),
     }
-}
-
-/// What a call finds: an event or a fault, which stands in its slot, or the end.
-#[derive(Clone, Copy, PartialEq, Eq, Debug)]
-pub enum yaml_found_t {
-    Event,
-    Refused,
-    End,
 }
 
 /// The next event in a slot that is lent, or a fault in another, or neither behind the last event and after a fault: what

@@ -1,5 +1,5 @@
 use Rattle.std.proofs.Common.{◌+◌}
-use Rattle.yaml_parse.specs.Steps.{Kept}
+use Rattle.yaml_parse_step.specs.Steps.{Kept}
 use Rattle.yaml_parse.proofs.parser.yaml_parser_parse_into.Given as goal
 
 abbrev pub invariant-turns : goal.invariant-turns

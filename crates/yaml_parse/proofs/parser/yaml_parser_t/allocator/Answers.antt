@@ -2,8 +2,8 @@
 use Rattle.yaml_parse_grammar.specs.Remaining.{waiting}
 use Rattle.yaml_parse_machine.specs.Views.{stack_of}
 use Rattle.yaml_parse_machine.specs.Settles.{directives_of}
-use Rattle.yaml_parse.specs.Steps.{peeked_of}
-use Rattle.yaml_parse.proofs.AllGiven.{run_loads}
+use Rattle.yaml_parse_step.specs.Steps.{peeked_of}
+use Rattle.yaml_parse_step.proofs.AllGiven.{run_loads}
 use Rattle.yaml_parse.proofs.parser.yaml_parser_t.allocator.Goals as goal
 
 pub returns : goal.returns

@@ -3,8 +3,8 @@ use Rattle.std.proofs.Common.{ap}
 use Rattle.yaml_parse_model.specs.Prefix.{prefix_of}
 use Rattle.yaml_parse_machine.specs.Views.{stack_of}
 use Rattle.yaml_parse_machine.specs.Settles.{directives_of}
-use Rattle.yaml_parse.specs.Steps.{peeked_of}
-use Rattle.yaml_parse.proofs.Turning.{finishes, one_held}
+use Rattle.yaml_parse_step.specs.Steps.{peeked_of}
+use Rattle.yaml_parse_step.proofs.Turning.{finishes, one_held}
 use Rattle.yaml_parse.proofs.parser.yaml_parser_t.refuse.Goals as goal
 
 pub returns-clause-finished : goal.returns-clause-finished

@@ -1,0 +1,13 @@
+pub mod Front
+pub mod Moves
+pub mod Turning
+pub mod Texts
+pub mod ByStep
+pub mod Loading
+pub mod NextLoads
+pub mod ByContent
+pub mod ToGive
+pub mod AllGiven
+pub mod Heights
+pub mod Swiftness
+pub mod Sentences

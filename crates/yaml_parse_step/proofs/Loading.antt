@@ -1,0 +1,124 @@
+-- What feeding a loader with a parser's events comes to.
+use Rattle.std.proofs.Common.{◌≡◌, ◌⊎◌, ◌<◌, ℕ, ℤ, inl, inr, List, [], ◌∷◌, length, Option, Some, None, Bool, true, refl, sym, ap, subst, ◌∙◌, arith}
+use Rattle.yaml_scan_model.specs.declared.yaml_origin_t.TheVariants.{Loader}
+use Rattle.yaml_scan_model.specs.Faults.{Fault, memory_fault}
+use Rattle.yaml_scan_model.specs.declared.yaml_mark_t.{yaml_mark_t}
+use Rattle.std.specs.FinMap as map
+use Rattle.yaml_parse_model.specs.Events.{Event, EventBody}
+use Rattle.yaml_parse_model.specs.Events as event
+use Rattle.yaml_parse_grammar.specs.Stacks.{parts_documents_behind}
+use Rattle.yaml_parse_document.specs.Documents.{Document, no_document}
+use Rattle.yaml_parse_grammar.specs.Resolve.{Told}
+use Rattle.yaml_parse_grammar.specs.Remaining.{ParserRemaining, IsFinished, FaultOf}
+use Rattle.yaml_parse_loader.specs.Loading.{Loading, LoadStep, goes_on, loaded, refused, nothing_loaded, step, step_body, aliased, load, turn}
+use Rattle.yaml_parse_step.specs.Finds.{GivesNext, GivesEnd}
+use Rattle.yaml_parse_step.specs.NextLoad.{told_events, left_behind}
+use Rattle.yaml_parse_step.proofs.ByStep.{Loads, load_on, behind_all, loads, loads_of, unasked_on, unasked_at_refusal, unasked_of, LoadGives, LoadRefuses, KeepsLoading, LoadsSame}
+
+pub keeps_first : (c : ParserRemaining) (l : Loading) → l ≡ nothing_loaded → KeepsLoading c c l
+keeps_first c l e = record { same = ap (λ (x : Loading). loads c.events c.ending x) e; unasked = ap (λ (x : Loading). unasked_at_refusal c.events c.ending_unasked x) e; left = refl; ending = refl; ending_unasked = refl; answered = refl }
+
+-- the next event is fed
+fed : (i o n : ParserRemaining) (l : Loading) (e : Event) (c : LoadStep) → KeepsLoading i o l → GivesNext e o n → step e l ≡ c → loads_of i ≡ load_on c (loads n.events o.ending) n.events n.unasked
+unfolding loads
+fed i o n l e c k h s =
+    sym k.same ∙ ap (λ (gs : List Told). loads gs o.ending l) h.events ∙ ap (λ (x : LoadStep). load_on x (loads n.events o.ending) n.events n.unasked) s
+
+fed_unasked : (i o n : ParserRemaining) (l : Loading) (e : Event) (c : LoadStep) → KeepsLoading i o l → GivesNext e o n → step e l ≡ c → unasked_of i ≡ unasked_on c n.unasked (unasked_at_refusal n.events o.ending_unasked)
+unfolding unasked_at_refusal
+fed_unasked i o n l e c k h s =
+    sym k.unasked ∙ ap (λ (gs : List Told). unasked_at_refusal gs o.ending_unasked l) h.events ∙ ap (λ (x : LoadStep). unasked_on x n.unasked (unasked_at_refusal n.events o.ending_unasked)) s
+
+fed_left : (i o n : ParserRemaining) (l : Loading) (e : Event) → KeepsLoading i o l → GivesNext e o n → left_behind n.events n.unasked ≡ left_behind i.events i.unasked
+unfolding left_behind
+fed_left i o n l e k h = sym (ap (λ (gs : List Told). left_behind gs o.unasked) h.events) ∙ k.left
+
+pub keeps_on : (i o n : ParserRemaining) (l m : Loading) (e : Event) → KeepsLoading i o l → GivesNext e o n → step e l ≡ goes_on m → KeepsLoading i n m
+keeps_on i o n l m e k h s = record {
+  same = ap (λ (f : Option Fault). loads n.events f m) h.ending ∙ sym (fed i o n l e (goes_on m) k h s);
+  unasked = ap (λ (u : ℕ). unasked_at_refusal n.events u m) h.ending_unasked ∙ sym (fed_unasked i o n l e (goes_on m) k h s);
+  left = fed_left i o n l e k h;
+  ending = h.ending ∙ k.ending;
+  ending_unasked = h.ending_unasked ∙ k.ending_unasked;
+  answered = h.answered ∙ k.answered;
+}
+
+shorter : (es : List Told) (t : Told) (rest : List Told) → es ≡ t ∷ rest → length rest < length es
+shorter es t rest e = rw e (omega arith)
+
+pub keeps_less : (o n : ParserRemaining) (e : Event) → GivesNext e o n → length n.events < length o.events
+keeps_less o n e h = shorter o.events (e, n.unasked) n.events h.events
+
+pub loads_document : (i o n : ParserRemaining) (l : Loading) (e : Event) (d : Document) → KeepsLoading i o l → GivesNext e o n → step e l ≡ loaded d → LoadGives (loads_of i) d i n
+loads_document i o n l e d k h s =
+    subst (λ (r : Loads). LoadGives r d i n) (sym (fed i o n l e (loaded d) k h s))
+    (refl, record { events = refl; ending = h.ending ∙ k.ending; ending_unasked = h.ending_unasked ∙ k.ending_unasked; unasked = refl; answered = h.answered ∙ k.answered })
+
+all_fed : (i o : ParserRemaining) (l : Loading) (f : Option Fault) → KeepsLoading i o l → o.events ≡ [] → o.ending ≡ f → loads_of i ≡ behind_all f
+unfolding loads
+all_fed i o l f k p q = sym k.same ∙ ap (λ (gs : List Told). loads gs o.ending l) p ∙ ap behind_all q
+
+all_unasked : (i o : ParserRemaining) (l : Loading) → KeepsLoading i o l → o.events ≡ [] → unasked_of i ≡ o.ending_unasked
+unfolding unasked_at_refusal
+all_unasked i o l k p = sym k.unasked ∙ ap (λ (gs : List Told). unasked_at_refusal gs o.ending_unasked l) p
+
+all_left : (i o : ParserRemaining) (l : Loading) → KeepsLoading i o l → o.events ≡ [] → o.unasked ≡ left_behind i.events i.unasked
+unfolding left_behind
+all_left i o l k p = sym (ap (λ (gs : List Told). left_behind gs o.unasked) p) ∙ k.left
+
+pub loads_nothing : (i o n : ParserRemaining) (l : Loading) (d : Document) → KeepsLoading i o l → GivesEnd o n → d ≡ no_document → LoadGives (loads_of i) d i n
+loads_nothing i o n l d k h e =
+    subst (λ (r : Loads). LoadGives r d i n) (sym (all_fed i o l None k h.events h.ending))
+    (e, record { finished = h.nothing.finished; unasked = h.nothing.unasked ∙ all_left i o l k h.events; answered = h.nothing.answered ∙ k.answered })
+
+pub load_faulty : (i o n : ParserRemaining) (l : Loading) (f : Fault) → KeepsLoading i o l → FaultOf o f n → LoadRefuses f i n
+load_faulty i o n l f k h = record {
+  finished = h.finished;
+  answered = h.answered;
+  reason = elim h.reason [ inl m ↦ inl (inr m) | inr q ↦ inr (all_fed i o l (Some f) k q.0 q.1) ];
+  unasked = elim h.reason [ inl m ↦ inl (inr m) | inr q ↦ elim h.unasked [ inl m ↦ inl (inr m) | inr u ↦ inr (u ∙ sym (all_unasked i o l k q.0)) ] ];
+}
+
+pub load_refused : (i o n n' : ParserRemaining) (l : Loading) (e : Event) (f : Fault) → KeepsLoading i o l → GivesNext e o n
+    → (f ≡ memory_fault Loader) ⊎ (step e l ≡ refused f) → IsFinished n' → n'.answered ≡ f → n'.unasked ≡ n.unasked → LoadRefuses f i n'
+load_refused i o n n' l e f k h r p q u = record {
+  finished = p;
+  answered = q;
+  reason = elim r [ inl m ↦ inl (inl m) | inr s ↦ inr (fed i o n l e (refused f) k h s) ];
+  unasked = elim r [ inl m ↦ inl (inl m) | inr s ↦ inr (u ∙ sym (fed_unasked i o n l e (refused f) k h s)) ];
+}
+
+-- ---- behind a document
+
+aliased_on : (o : Option ℤ) (at : yaml_mark_t) (l : Loading) (d : Document) → aliased o at l ≡ loaded d → ⊥
+aliased_on None at l d e = cc
+aliased_on (Some n) at l d e = cc
+
+parted : (b : EventBody) (from to : yaml_mark_t) (l : Loading) (d : Document) → step_body b from to l ≡ loaded d → parts_documents_behind b ≡ true
+parted event.no from to l d e = refl
+parted (event.stream_start encoding) from to l d e = refl
+parted event.stream_end from to l d e = refl
+parted (event.document_end implicit) from to l d e = refl
+parted (event.document_start version directives implicit) from to l d e = cc
+parted (event.alias name) from to l d e = absurd (aliased_on (map.get l.anchors name) from l d e)
+parted (event.scalar anchor tag value plain quoted style) from to l d e = cc
+parted (event.sequence_start anchor tag implicit style) from to l d e = cc
+parted (event.mapping_start anchor tag implicit style) from to l d e = cc
+parted event.sequence_end from to l d e = cc
+parted event.mapping_end from to l d e = cc
+
+pub between_documents : (e : Event) (l : Loading) (d : Document) (between : Bool) → step e l ≡ loaded d → between ≡ parts_documents_behind e.body → between ≡ true
+between_documents e l d between s h = h ∙ parted e.body e.start_mark e.end_mark l d s
+
+-- ---- events alone
+
+same_on : (c : LoadStep) (gs : List Told) (left : ℕ) (f : Option Fault) → ((l : Loading) → LoadsSame f (load (told_events gs) l) (loads gs f l))
+    → LoadsSame f (turn c (load (told_events gs)) (told_events gs)) (load_on c (loads gs f) gs left)
+same_on (goes_on l) gs left f h = h l
+same_on (loaded d) gs left f h = (refl, refl)
+same_on (refused g) gs left f h = refl
+
+pub loads_same : (gs : List Told) (f : Option Fault) (l : Loading) → LoadsSame f (load (told_events gs) l) (loads gs f l)
+unfolding load loads
+loads_same [] f l = refl
+loads_same (g ∷ gs) f l = same_on (step g.0 l) gs g.1 f (λ m. loads_same gs f m)

@@ -1,0 +1,193 @@
+-- What each step over the grammar owes.
+use Rattle.std.proofs.Common.{◌≡◌, ◌⊎◌, ◌<◌, ℕ, inl, inr, List, [], ◌∷◌, ◌++◌, length, reverse, Option, Some, None, refl, sym, ap, subst, ◌∙◌, arith, true, false, ◌==◌}
+use Rattle.std.proofs.lemmas.Bool.Decides.{nat_tests}
+use Rattle.std.proofs.lemmas.List.{length-map, length-reverse}
+use Rattle.yaml_scan_model.specs.declared.yaml_mark_t.{yaml_mark_t}
+use Rattle.yaml_scan_model.specs.Tokens.{Token, no_token, type_of}
+use Rattle.yaml_scan_model.specs.Faults.{Fault}
+use Rattle.yaml_parse_grammar.specs.declared.name.Choice.TheVariants.{Refuse, Take, Leave, Open}
+use Rattle.yaml_parse_grammar.specs.declared.problem.ParseProblem.{ParseProblem}
+use Rattle.yaml_parse_grammar.specs.Problems.{parser_fault}
+use Rattle.yaml_parse_grammar.specs.Items.{RawEvent, RawEventBody, item_at}
+use Rattle.yaml_parse_grammar.specs.Items as item
+use Rattle.yaml_parse_grammar.specs.States.{State, Taken}
+use Rattle.yaml_parse_grammar.specs.Trees.{Given}
+use Rattle.yaml_parse_grammar.specs.Machine.{choice_at, taken_at, left_at, context_of, opened, run, ending_at, unasked_at_stop, Stands}
+use Rattle.yaml_parse_grammar.proofs.Complete.{giving, leaves_at}
+use Rattle.yaml_parse_grammar.proofs.Voice.{Voiced, TakenSpeaks, taken_speaks, left_voiced, takes_a_token}
+use Rattle.yaml_parse_grammar.proofs.Single.{refuses, takes, takes_silently, opens, refuses_stops, takes_stops, leaves_stops, opens_stops}
+use Rattle.yaml_parse_machine.specs.declared.item.State as code
+use Rattle.yaml_parse_machine.specs.Views.{state_of, stack_of, below}
+use Rattle.yaml_parse_step.specs.Stepped.{Stepped}
+use Rattle.yaml_parse_step.specs.Stepped as step
+use Rattle.yaml_parse_step.specs.Steps.{Raw, raw, outcome, stop_of, budget, IsFront, HasNoFront, IsDirective, GivesItem, GivesNoItem, IsRefused, Steps, OpensAt, IsReal, IsRealOn}
+
+-- a directive leaves something open
+directive_stands : (b : RawEventBody) (P : Type 0) → Voiced b P → IsDirective b → P
+directive_stands (item.version_directive x y) P h d = h
+directive_stands (item.tag_directive x y) P h d = h
+directive_stands (item.event e) P h d = absurd d
+directive_stands (item.document i) P h d = absurd d
+directive_stands (item.node a t s) P h d = absurd d
+
+left_is_none : (x : State) (start : yaml_mark_t) → IsDirective (left_at x start).body → ⊥
+left_is_none x start d = directive_stands (left_at x start).body ⊥ (left_voiced x start ⊥) d
+
+stands_over : (xs ys : List State) → Stands xs → Stands (xs ++ ys)
+stands_over [] ys h = absurd h
+stands_over (x ∷ xs) ys h = tt
+
+-- the item and the states of a taken token
+pub taken_is : (x : State) (t : Token) (o : Option RawEvent) → o ≡ (taken_at x t).item → record { item = o; above = (taken_at x t).above } ≡ taken_at x t
+taken_is x t o e = ap (λ (p : Option RawEvent). let y : Taken = record { item = p; above = (taken_at x t).above } in y) e
+
+pub take_item : (x : State) (t : Token) (rest : List Token) (f : Option Fault) (s s' : List State) (i : RawEvent) (above : List State)
+    → choice_at x (type_of t.body) ≡ Take → record { item = Some i; above = above } ≡ taken_at x t → s' ≡ above ++ s
+    → GivesItem i (raw (Some t) rest f (x ∷ s)) (raw None rest f s')
+take_item x t rest f s s' i above h k e = record {
+  same = takes x i above t rest s f h (sym k) ∙ ap (λ (z : List State). giving (λ (more : List Given). (i, length rest) ∷ more) (run rest z f)) (sym e);
+  stop = takes_stops x (Some i) above t rest s h (sym k) ∙ ap (unasked_at_stop rest) (sym e);
+  less = λ d. omega arith;
+  stands = λ d. subst Stands (sym e) (stands_over above s (directive_stands i.body (Stands above) (subst (λ (y : Taken). TakenSpeaks y.item y.above) (sym k) (taken_speaks x t)) d));
+}
+
+pub take_silent : (x : State) (t : Token) (rest : List Token) (f : Option Fault) (s s' : List State) (above : List State)
+    → choice_at x (type_of t.body) ≡ Take → record { item = None; above = above } ≡ taken_at x t → s' ≡ above ++ s
+    → GivesNoItem (raw (Some t) rest f (x ∷ s)) (raw None rest f s')
+take_silent x t rest f s s' above h k e = record {
+  same = takes_silently x above t rest s f h (sym k) ∙ ap (λ (z : List State). run rest z f) (sym e);
+  stop = takes_stops x None above t rest s h (sym k) ∙ ap (unasked_at_stop rest) (sym e);
+  less = omega arith;
+  stands = subst Stands (sym e) (stands_over above s (subst (λ (y : Taken). TakenSpeaks y.item y.above) (sym k) (taken_speaks x t)));
+}
+
+pub leave_item : (x : State) (t : Token) (rest : List Token) (f : Option Fault) (s : List State) (i : RawEvent) → choice_at x (type_of t.body) ≡ Leave → i ≡ left_at x t.start_mark
+    → GivesItem i (raw (Some t) rest f (x ∷ s)) (raw (Some t) rest f s)
+leave_item x t rest f s i h e = record {
+  same = leaves_at x t rest s f h ∙ ap (λ (j : RawEvent). giving (λ (more : List Given). (j, length rest) ∷ more) (run (t ∷ rest) s f)) (sym e);
+  stop = leaves_stops x t rest s h;
+  less = λ d. absurd (left_is_none x t.start_mark (subst (λ (j : RawEvent). IsDirective j.body) e d));
+  stands = λ d. absurd (left_is_none x t.start_mark (subst (λ (j : RawEvent). IsDirective j.body) e d));
+}
+
+pub refuse_step : (x : State) (t : Token) (rest : List Token) (f : Option Fault) (s s' : List State) (held : Option Token) (p : ParseProblem) (o : Option yaml_mark_t) (e : Fault) → choice_at x (type_of t.body) ≡ Refuse p o
+    → e ≡ parser_fault p t.start_mark (context_of o t.start_mark) → IsRefused e (raw (Some t) rest f (x ∷ s)) (raw held rest f s')
+refuse_step x t rest f s s' held p o e h q = record {
+  reason = inr (refuses x p o t rest s f h ∙ ap (λ (g : Fault). record { items = []; ending = Some g }) (sym q));
+  unasked = inr (sym (refuses_stops x p o t rest s h));
+}
+
+open_item : (x : State) (t : Token) (rest : List Token) (f : Option Fault) (s s' : List State) (i : RawEvent) → choice_at x (type_of t.body) ≡ Open
+    → i ≡ item_at (item.document true) t.start_mark t.start_mark → s' ≡ opened t.start_mark ++ s → GivesItem i (raw (Some t) rest f (x ∷ s)) (raw (Some t) rest f s')
+open_item x t rest f s s' i h e q = record {
+  same = opens x t rest s f h
+      ∙ ap (λ (j : RawEvent). giving (λ (more : List Given). (j, length rest) ∷ more) (run (t ∷ rest) (opened t.start_mark ++ s) f)) (sym e)
+      ∙ ap (λ (z : List State). giving (λ (more : List Given). (i, length rest) ∷ more) (run (t ∷ rest) z f)) (sym q);
+  stop = opens_stops x t rest s h ∙ ap (unasked_at_stop (t ∷ rest)) (sym q);
+  less = λ d. absurd (subst (λ (j : RawEvent). IsDirective j.body) e d);
+  stands = λ d. absurd (subst (λ (j : RawEvent). IsDirective j.body) e d);
+}
+
+pub open_step : (x : State) (t : Token) (rest : List Token) (f : Option Fault) (s s' : List State) (r : Stepped) → choice_at x (type_of t.body) ≡ Open
+    → OpensAt t.start_mark s r s' → Steps (raw (Some t) rest f (x ∷ s)) r (raw (Some t) rest f s')
+open_step x t rest f s s' (step.given i) h o = open_item x t rest f s s' i h o.0 o.1
+open_step x t rest f s s' (step.refused e) h o = record { reason = inl (inl o); unasked = inl (inl o) }
+open_step x t rest f s s' step.silent h o = absurd o
+open_step x t rest f s s' step.done h o = absurd o
+
+pub open_real : (x : State) (t : Token) (start : yaml_mark_t) (s s' : List State) (r : Stepped) → OpensAt start s r s' → IsReal x t r
+open_real x t start s s' (step.given i) o = λ d. absurd (subst (λ (j : RawEvent). IsDirective j.body) o.0 d)
+open_real x t start s s' (step.refused e) o = tt
+open_real x t start s s' step.silent o = absurd o
+open_real x t start s s' step.done o = absurd o
+
+-- what takes a token is real
+pub take_real : (x : State) (t : Token) (s : List State) (new : Raw) (r : Stepped) → choice_at x (type_of t.body) ≡ Take → Steps (raw (Some t) [] None (x ∷ s)) r new → IsReal x t r
+take_real x t s new (step.given i) h o = λ d. h
+take_real x t s new (step.refused f) h o = tt
+take_real x t s new step.silent h o = h
+take_real x t s new step.done h o = nothing_empty x s o.empty
+  where
+    nothing_empty : (x : State) (s : List State) → x ∷ s ≡ [] → ⊥
+    nothing_empty x s e = cc
+
+-- ---- the token of the source
+
+takes_real_token : (x : State) (t : Token) → choice_at x (type_of t.body) ≡ Take → t ≡ no_token → ⊥
+takes_real_token x t h e = takes_a_token x (sym (ap (λ (u : Token). choice_at x (type_of u.body)) e) ∙ h)
+
+less_of : (old middle new : ℕ) (x : State) (t : Token) → new < middle → (middle ≡ old) ⊎ (t ≡ no_token) → choice_at x (type_of t.body) ≡ Take → new < old
+less_of old middle new x t l a h = elim a [ inl e ↦ omega arith | inr e ↦ absurd (takes_real_token x t h e) ]
+
+pub bridge : (old middle new : Raw) (x : State) (t : Token) (r : Stepped) → Steps middle r new → outcome middle ≡ outcome old → stop_of middle ≡ stop_of old → (budget middle ≡ budget old) ⊎ (t ≡ no_token)
+    → IsReal x t r → Steps old r new
+bridge old middle new x t (step.given i) h e q a l = record {
+  same = sym e ∙ h.same;
+  stop = sym q ∙ h.stop;
+  less = λ d. less_of (budget old) (budget middle) (budget new) x t (h.less d) a (l d);
+  stands = h.stands;
+}
+bridge old middle new x t step.silent h e q a l = record {
+  same = sym e ∙ h.same;
+  stop = sym q ∙ h.stop;
+  less = less_of (budget old) (budget middle) (budget new) x t h.less a l;
+  stands = h.stands;
+}
+bridge old middle new x t (step.refused f) h e q a l = record {
+  reason = elim h.reason [ inl m ↦ inl m | inr o ↦ inr (sym e ∙ o) ];
+  unasked = elim h.unasked [ inl m ↦ inl m | inr n ↦ inr (n ∙ q) ];
+}
+bridge old middle new x t step.done h e q a l = absurd l
+
+-- the topmost state at the token of the source
+front_at : (peeked : Option Token) (ts : List Token) (f : Option Fault) (s : List State) (t : Token) (rest : List Token) (after : Option Fault) (new : Raw) (r : Stepped)
+    → (length s ≡ 0 → ⊥) → IsFront peeked ts f t rest after → Steps (raw (Some t) rest after s) r new → IsRealOn s t r → Steps (raw peeked ts f s) r new
+front_at peeked ts f [] t rest after new r n h k l = absurd (n refl)
+front_at peeked ts f (x ∷ s) t rest after new r n h k l =
+    bridge (raw peeked ts f (x ∷ s)) (raw (Some t) rest after (x ∷ s)) new x t r k (h.runs (x ∷ s)) (h.stops (x ∷ s)) (elim h.asked [ inl a ↦ inl a | inr a ↦ inr a ]) (l x refl)
+
+ending_outcome : (peeked : Option Token) (ts : List Token) (f : Option Fault) (old : List State) (x : State) (s : List State) (e : Fault)
+    → old ≡ x ∷ s → ((z : List State) → outcome (raw peeked ts f z) ≡ ending_at z e) → outcome (raw peeked ts f old) ≡ record { items = []; ending = Some e }
+ending_outcome peeked ts f old x s e p r = r old ∙ ap (λ (z : List State). ending_at z e) p
+
+no_front_step : (peeked : Option Token) (ts : List Token) (f : Option Fault) (old : List State) (x : State) (s : List State) (e : Fault) (new : Raw)
+    → old ≡ x ∷ s → HasNoFront peeked ts f e new.tokens → IsRefused e (raw peeked ts f old) new
+no_front_step peeked ts f old x s e new p h = record {
+  reason = elim h.reason [ inl m ↦ inl m | inr r ↦ inr (ending_outcome peeked ts f old x s e p r) ];
+  unasked = elim h.unasked [ inl m ↦ inl m | inr n ↦ inr (n old) ];
+}
+
+no_front_at : (peeked : Option Token) (ts : List Token) (f : Option Fault) (s : List State) (e : Fault) (new : Raw)
+    → (length s ≡ 0 → ⊥) → HasNoFront peeked ts f e new.tokens → IsRefused e (raw peeked ts f s) new
+no_front_at peeked ts f [] e new k h = absurd (k refl)
+no_front_at peeked ts f (x ∷ s) e new k h = no_front_step peeked ts f (x ∷ s) x s e new refl h
+
+stack_length : (s : List code.State) → length (stack_of s) ≡ length s
+stack_length s = length-map (reverse s) state_of ∙ length-reverse s
+
+no_zero : (n : ℕ) → (n == 0) ≡ false → n ≡ 0 → ⊥
+no_zero n h e = grind (arith, nat_tests)
+
+-- the same, of states of which there are some
+pub over_front : (peeked : Option Token) (ts : List Token) (f : Option Fault) (s : List code.State) (n : ℕ) (t : Token) (rest : List Token) (after : Option Fault) (new : Raw) (r : Stepped)
+    → n ≡ length s → (n == 0) ≡ false → IsFront peeked ts f t rest after → Steps (raw (Some t) rest after (stack_of s)) r new → IsRealOn (stack_of s) t r → Steps (raw peeked ts f (stack_of s)) r new
+over_front peeked ts f s n t rest after new r q z h k l = front_at peeked ts f (stack_of s) t rest after new r (λ e. no_zero n z (q ∙ sym (stack_length s) ∙ e)) h k l
+
+-- the states stay where they are, of which there are some
+pub no_front_open : (peeked : Option Token) (ts : List Token) (f : Option Fault) (old : List code.State) (n : ℕ) (e : Fault) (new : Raw)
+    → n ≡ length old → (n == 0) ≡ false → HasNoFront peeked ts f e new.tokens → IsRefused e (raw peeked ts f (stack_of old)) new
+no_front_open peeked ts f old n e new q z h = no_front_at peeked ts f (stack_of old) e new (λ l. no_zero n z (q ∙ sym (stack_length old) ∙ l)) h
+
+pub leave_real : (x : State) (t : Token) (start : yaml_mark_t) (i : RawEvent) → i ≡ left_at x start → IsReal x t (step.given i)
+leave_real x t start i e = λ d. absurd (left_is_none x start (subst (λ (j : RawEvent). IsDirective j.body) e d))
+
+-- what holds of the topmost state and those below holds of all, where there is one
+pub over : (s : List State) (P : List State → Type 0) → (length s ≡ 0 → ⊥) → ((x : State) → s ≡ x ∷ below s → P (x ∷ below s)) → P s
+over [] P n h = absurd (n refl)
+over (x ∷ s) P n h = h x refl
+
+some_length : (m n : ℕ) → 0 < n → n ≡ m → m ≡ 0 → ⊥
+some_length m n h e z = omega arith
+
+pub are_some : (s : List code.State) (n : ℕ) → n ≡ length s → 0 < n → length (stack_of s) ≡ 0 → ⊥
+are_some s n e h z = some_length (length s) n h e (sym (stack_length s) ∙ z)

@@ -1,0 +1,262 @@
+-- What a step with its item resolved owes.
+use Rattle.std.proofs.Common.{◌≡◌, ◌⊎◌, ◌+◌, ◌<◌, ◌≤◌, arith, ℕ, inl, inr, List, [], ◌∷◌, length, Option, Some, None, refl, sym, ap, subst, ◌∙◌}
+use Rattle.yaml_scan_model.specs.declared.yaml_origin_t.TheVariants.{Parser}
+use Rattle.yaml_scan_model.specs.declared.yaml_mark_t.{yaml_mark_t}
+use Rattle.yaml_scan_model.specs.Tokens.{Token}
+use Rattle.yaml_scan_model.specs.Faults.{Fault, memory_fault}
+use Rattle.yaml_parse_model.specs.Events.{Event, EventBody, no_event}
+use Rattle.yaml_parse_grammar.specs.Items.{RawEvent, RawEventBody}
+use Rattle.yaml_parse_grammar.specs.Items as item
+use Rattle.yaml_parse_grammar.specs.States.{State}
+use Rattle.yaml_parse_grammar.specs.Trees.{Given, Stream, spell}
+use Rattle.yaml_parse_grammar.specs.TreeEvents.{given_of}
+use Rattle.yaml_parse_grammar.specs.Machine.{Outcome, run, initial, Stands}
+use Rattle.yaml_parse_grammar.specs.Resolve.{Directives, no_directives, Settled, refused, gave, noted, settle, settle_body, resolved, placed, read_on, reading, Reading, Told, unasked_on, unasked_at_fault}
+use Rattle.yaml_parse_grammar.specs.Remaining.{ParserRemaining, parser_remaining, reading_of, unasked_of, waiting, held_of, IsFinished, GivesNothing, GivesEvent, EventOf, FaultOf}
+use Rattle.yaml_parse_grammar.proofs.CompleteStream.{nothing_runs, stream_runs}
+use Rattle.yaml_parse_grammar.proofs.Voice.{speaks, reading_speaks, not_noted}
+use Rattle.yaml_parse_laws_given.proofs.laws_faults.laws_counts.Turns.{items_given}
+use Rattle.yaml_parse_step.specs.Steps.{Raw, outcome, stop_of, IsDirective, GivesItem, GivesNoItem, IsRefused, IsDone, IsSilent, IsTurnRefused, IsOver, Kept}
+use Rattle.yaml_parse_step.specs.Finds.{GivesNext, GivesEnd}
+
+-- what is to come of it
+abbrev pub of_raw : Raw → Directives → Fault → ParserRemaining
+of_raw r ds answered = parser_remaining r.peeked r.tokens r.fault r.stack ds answered
+
+-- ---- reading
+
+reading_gave : (gs : List Given) (f : Option Fault) (ds ds' : Directives) (i : RawEvent) (left : ℕ) (body : EventBody) → settle i ds ≡ gave body ds'
+    → reading ((i, left) ∷ gs) f ds ≡ record { events = (placed body i, left) ∷ (reading gs f ds').events; ending = (reading gs f ds').ending }
+unfolding reading
+reading_gave gs f ds ds' i left body h = ap (λ (c : Settled). read_on c i left (λ d. reading gs f d)) h
+
+reading_noted : (gs : List Given) (f : Option Fault) (ds ds' : Directives) (i : RawEvent) (left : ℕ) → settle i ds ≡ noted ds' → reading ((i, left) ∷ gs) f ds ≡ reading gs f ds'
+unfolding reading
+reading_noted gs f ds ds' i left h = ap (λ (c : Settled). read_on c i left (λ d. reading gs f d)) h
+
+reading_refused : (gs : List Given) (f : Option Fault) (ds : Directives) (i : RawEvent) (left : ℕ) (e : Fault) → settle i ds ≡ refused e
+    → reading ((i, left) ∷ gs) f ds ≡ record { events = []; ending = Some e }
+unfolding reading
+reading_refused gs f ds i left e h = ap (λ (c : Settled). read_on c i left (λ d. reading gs f d)) h
+
+reading_nothing : (f : Option Fault) (ds : Directives) → reading [] f ds ≡ record { events = []; ending = f }
+unfolding reading
+reading_nothing f ds = refl
+
+-- ---- how many tokens are not asked for at the fault
+
+fault_gave : (gs : List Given) (n : ℕ) (ds ds' : Directives) (i : RawEvent) (left : ℕ) (body : EventBody) → settle i ds ≡ gave body ds' → unasked_at_fault ((i, left) ∷ gs) n ds ≡ unasked_at_fault gs n ds'
+unfolding unasked_at_fault
+fault_gave gs n ds ds' i left body h = ap (λ (c : Settled). unasked_on c left (λ d. unasked_at_fault gs n d)) h
+
+fault_noted : (gs : List Given) (n : ℕ) (ds ds' : Directives) (i : RawEvent) (left : ℕ) → settle i ds ≡ noted ds' → unasked_at_fault ((i, left) ∷ gs) n ds ≡ unasked_at_fault gs n ds'
+unfolding unasked_at_fault
+fault_noted gs n ds ds' i left h = ap (λ (c : Settled). unasked_on c left (λ d. unasked_at_fault gs n d)) h
+
+fault_refused : (gs : List Given) (n : ℕ) (ds : Directives) (i : RawEvent) (left : ℕ) (e : Fault) → settle i ds ≡ refused e → unasked_at_fault ((i, left) ∷ gs) n ds ≡ left
+unfolding unasked_at_fault
+fault_refused gs n ds i left e h = ap (λ (c : Settled). unasked_on c left (λ d. unasked_at_fault gs n d)) h
+
+fault_nothing : (n : ℕ) (ds : Directives) → unasked_at_fault [] n ds ≡ n
+unfolding unasked_at_fault
+fault_nothing n ds = refl
+
+abbrev fault_of_raw : Raw → Directives → ℕ
+fault_of_raw r ds = unasked_at_fault (outcome r).items (stop_of r) ds
+
+item_unasked : (old new : Raw) (ds : Directives) (i : RawEvent) → GivesItem i old new → fault_of_raw old ds ≡ unasked_at_fault ((i, length new.tokens) ∷ (outcome new).items) (stop_of new) ds
+item_unasked old new ds i h = ap (λ (o : Outcome). unasked_at_fault o.items (stop_of old) ds) h.same ∙ ap (λ (n : ℕ). unasked_at_fault ((i, length new.tokens) ∷ (outcome new).items) n ds) h.stop
+
+silent_unasked : (old new : Raw) (ds : Directives) → GivesNoItem old new → fault_of_raw old ds ≡ fault_of_raw new ds
+silent_unasked old new ds h = ap (λ (o : Outcome). unasked_at_fault o.items (stop_of old) ds) h.same ∙ ap (λ (n : ℕ). unasked_at_fault (outcome new).items n ds) h.stop
+
+refused_unasked : (old : Raw) (ds : Directives) (e : Fault) → outcome old ≡ record { items = []; ending = Some e } → fault_of_raw old ds ≡ stop_of old
+refused_unasked old ds e q = ap (λ (o : Outcome). unasked_at_fault o.items (stop_of old) ds) q ∙ fault_nothing (stop_of old) ds
+
+noted_directive : (b : RawEventBody) (from : yaml_mark_t) (ds ds' : Directives) → settle_body b from ds ≡ noted ds' → IsDirective b
+noted_directive (item.version_directive x y) from ds ds' e = tt
+noted_directive (item.tag_directive x y) from ds ds' e = tt
+noted_directive (item.event b) from ds ds' e = cc
+noted_directive (item.document i) from ds ds' e = cc
+noted_directive (item.node a None shape) from ds ds' e = cc
+noted_directive (item.node a (Some t) shape) from ds ds' e = not_noted (resolved ds.tags t.handle t.suffix) a shape from t.mark ds ds' e
+
+-- ---- nothing to come
+
+empty_reading : (ts : List Token) (f : Option Fault) (s : List State) (ds : Directives) → s ≡ [] → reading_of (run ts s f) ds ≡ record { events = []; ending = None }
+empty_reading ts f s ds e = ap (λ (z : List State). reading_of (run ts z f) ds) e ∙ ap (λ (o : Outcome). reading_of o ds) (nothing_runs ts f) ∙ reading_nothing None ds
+
+pub finishes : (peeked : Option Token) (ts : List Token) (f : Option Fault) (s : List State) (ds : Directives) (answered : Fault) → s ≡ [] → IsFinished (parser_remaining peeked ts f s ds answered)
+finishes peeked ts f s ds answered e = record {
+  events = ap (λ (r : Reading). r.events) (empty_reading (waiting peeked ts) f s ds e);
+  ending = ap (λ (r : Reading). r.ending) (empty_reading (waiting peeked ts) f s ds e);
+  between = rw e refl;
+}
+
+-- ---- turns
+
+pub event_turn : (old new : Raw) (ds ds' : Directives) (answered : Fault) (i : RawEvent) (body : EventBody) (e : Event) → GivesItem i old new → settle i ds ≡ gave body ds' → e ≡ placed body i
+    → GivesNext e (of_raw old ds answered) (of_raw new ds' answered)
+event_turn old new ds ds' answered i body e h s p =
+    let r : reading_of (outcome old) ds ≡ record { events = (placed body i, length new.tokens) ∷ (reading_of (outcome new) ds').events; ending = (reading_of (outcome new) ds').ending } =
+    ap (λ (o : Outcome). reading_of o ds) h.same ∙ reading_gave (outcome new).items (outcome new).ending ds ds' i (length new.tokens) body s in
+    record {
+      events = ap (λ (x : Reading). x.events) r ∙ ap (λ (y : Event). (y, length new.tokens) ∷ (reading_of (outcome new) ds').events) (sym p);
+      ending = ap (λ (x : Reading). x.ending) (sym r);
+      ending_unasked = sym (item_unasked old new ds i h ∙ fault_gave (outcome new).items (stop_of new) ds ds' i (length new.tokens) body s);
+      answered = refl;
+    }
+
+silent_of : (old new : ParserRemaining) (same : Reading) (more : Reading) → same ≡ more → old.events ≡ same.events → old.ending ≡ same.ending → new.events ≡ more.events → new.ending ≡ more.ending
+    → new.ending_unasked ≡ old.ending_unasked → new.answered ≡ old.answered → new.unasked + new.held < old.unasked + old.held → (more.events ≡ [] → more.ending ≡ None → ⊥) → IsSilent old new
+silent_of old new same more e a b c d u w l s = record {
+  ending_unasked = u;
+  answered = w;
+  events = c ∙ ap (λ (r : Reading). r.events) (sym e) ∙ sym a;
+  ending = d ∙ ap (λ (r : Reading). r.ending) (sym e) ∙ sym b;
+  less = l;
+  speaks = λ p q. s (ap (λ (r : Reading). r.events) (sym e) ∙ sym a ∙ p) (ap (λ (r : Reading). r.ending) (sym e) ∙ sym b ∙ q);
+}
+
+still_speaks : (r : Raw) (ds : Directives) → Stands r.stack → (reading_of (outcome r) ds).events ≡ [] → (reading_of (outcome r) ds).ending ≡ None → ⊥
+still_speaks r ds h = reading_speaks (outcome r).items (outcome r).ending ds (speaks (waiting r.peeked r.tokens) r.fault r.stack h)
+
+pub silent_turn : (old new : Raw) (ds : Directives) (answered : Fault) → GivesNoItem old new → IsSilent (of_raw old ds answered) (of_raw new ds answered)
+silent_turn old new ds answered h =
+    silent_of (of_raw old ds answered) (of_raw new ds answered) (reading_of (outcome old) ds) (reading_of (outcome new) ds) (ap (λ (o : Outcome). reading_of o ds) h.same)
+    refl refl refl refl (sym (silent_unasked old new ds h)) refl h.less (still_speaks new ds h.stands)
+
+pub noted_turn : (old new : Raw) (ds ds' : Directives) (answered : Fault) (i : RawEvent) → GivesItem i old new → settle i ds ≡ noted ds' → IsSilent (of_raw old ds answered) (of_raw new ds' answered)
+noted_turn old new ds ds' answered i h s =
+    silent_of (of_raw old ds answered) (of_raw new ds' answered) (reading_of (outcome old) ds) (reading_of (outcome new) ds')
+    (ap (λ (o : Outcome). reading_of o ds) h.same ∙ reading_noted (outcome new).items (outcome new).ending ds ds' i (length new.tokens) s)
+    refl refl refl refl (sym (item_unasked old new ds i h ∙ fault_noted (outcome new).items (stop_of new) ds ds' i (length new.tokens) s)) refl (h.less (noted_directive i.body i.from ds ds' s)) (still_speaks new ds' (h.stands (noted_directive i.body i.from ds ds' s)))
+
+refused_of : (old : ParserRemaining) (r : Reading) (e : Fault) → r ≡ record { events = []; ending = Some e } → old.events ≡ r.events → old.ending ≡ r.ending → (old.events ≡ []) × (old.ending ≡ Some e)
+refused_of old r e p a b = (a ∙ ap (λ (x : Reading). x.events) p, b ∙ ap (λ (x : Reading). x.ending) p)
+
+pub refused_turn : (old middle new : Raw) (ds ds' : Directives) (answered : Fault) (e : Fault) → IsRefused e old middle → new.tokens ≡ middle.tokens → new.stack ≡ [] → IsTurnRefused e (of_raw old ds answered) (of_raw new ds' answered)
+refused_turn old middle new ds ds' answered e h k s = record {
+  finished = finishes new.peeked new.tokens new.fault new.stack ds' answered s;
+  reason = elim h.reason [
+    | inl m ↦ inl m
+    | inr q ↦ inr (refused_of (of_raw old ds answered) (reading_of (outcome old) ds) e (ap (λ (o : Outcome). reading_of o ds) q ∙ reading_nothing (Some e) ds) refl refl)
+  ];
+  unasked = elim h.reason [
+    | inl m ↦ inl m
+    | inr q ↦ elim h.unasked [ inl m ↦ inl m | inr n ↦ inr (ap length k ∙ n ∙ sym (refused_unasked old ds e q)) ]
+  ];
+}
+
+settled_turn : (old middle new : Raw) (ds ds' : Directives) (answered : Fault) (i : RawEvent) (e : Fault) → GivesItem i old middle → settle i ds ≡ refused e → new.tokens ≡ middle.tokens → new.stack ≡ []
+    → IsTurnRefused e (of_raw old ds answered) (of_raw new ds' answered)
+settled_turn old middle new ds ds' answered i e h r k s = record {
+  finished = finishes new.peeked new.tokens new.fault new.stack ds' answered s;
+  reason = inr (refused_of (of_raw old ds answered) (reading_of (outcome old) ds) e
+      (ap (λ (o : Outcome). reading_of o ds) h.same ∙ reading_refused (outcome middle).items (outcome middle).ending ds i (length middle.tokens) e r) refl refl);
+  unasked = inr (ap length k ∙ sym (item_unasked old middle ds i h ∙ fault_refused (outcome middle).items (stop_of middle) ds i (length middle.tokens) e r));
+}
+
+memory_turn : (old : ParserRemaining) (new : Raw) (ds' : Directives) (answered : Fault) (e : Fault) → e ≡ memory_fault Parser → new.stack ≡ [] → IsTurnRefused e old (of_raw new ds' answered)
+memory_turn old new ds' answered e m s = record { finished = finishes new.peeked new.tokens new.fault new.stack ds' answered s; reason = inl (inl m); unasked = inl (inl m) }
+
+-- an item that is refused, or for which memory ran out
+pub unsettled_turn : (old middle new : Raw) (ds ds' : Directives) (answered : Fault) (i : RawEvent) (e : Fault) → GivesItem i old middle → (e ≡ memory_fault Parser) ⊎ (settle i ds ≡ refused e) → new.tokens ≡ middle.tokens → new.stack ≡ []
+    → IsTurnRefused e (of_raw old ds answered) (of_raw new ds' answered)
+unsettled_turn old middle new ds ds' answered i e h (inl m) k s = memory_turn (of_raw old ds answered) new ds' answered e m s
+unsettled_turn old middle new ds ds' answered i e h (inr r) k s = settled_turn old middle new ds ds' answered i e h r k s
+
+pub done_turn : (old new : Raw) (ds : Directives) (answered : Fault) → IsDone old new → IsOver (of_raw old ds answered) (of_raw new ds answered)
+done_turn old new ds answered h = record {
+  finished = finishes old.peeked old.tokens old.fault old.stack ds answered h.empty;
+  same = ap (λ (r : Raw). of_raw r ds answered) h.same;
+}
+
+-- ---- the beginning
+
+pub starts : (ts : List Token) (f : Option Fault) (s : List State) (ds : Directives) (t : Stream) (rest : List Token) → s ≡ initial → ds ≡ no_directives → ts ≡ spell t rest
+    → ((reading_of (run ts s f) ds).events ≡ (reading (given_of t (length rest)) None no_directives).events)
+    × ((reading_of (run ts s f) ds).ending ≡ (reading (given_of t (length rest)) None no_directives).ending)
+starts ts f s ds t rest e d h =
+    let o : run ts s f ≡ record { items = given_of t (length rest); ending = None } =
+    ap (λ (z : List State). run ts z f) e
+    ∙ ap (λ (us : List Token). run us initial f) h
+    ∙ stream_runs t rest f
+    ∙ ap (λ (gs : List Given). let o : Outcome = record { items = gs; ending = None } in o) (items_given t rest) in
+    let r : reading_of (run ts s f) ds ≡ reading (given_of t (length rest)) None no_directives = ap (reading_of (run ts s f)) d ∙ ap (λ (o : Outcome). reading_of o no_directives) o
+    in (ap (λ (x : Reading). x.events) r, ap (λ (x : Reading). x.ending) r)
+
+pub starts_anywhere : (ts : List Token) (f : Option Fault) (s : List State) (ds : Directives) → s ≡ initial → ds ≡ no_directives
+    → ((reading_of (run ts s f) ds).events ≡ (reading_of (run ts initial f) no_directives).events)
+    × ((reading_of (run ts s f) ds).ending ≡ (reading_of (run ts initial f) no_directives).ending)
+starts_anywhere ts f s ds e d =
+    let r : reading_of (run ts s f) ds ≡ reading_of (run ts initial f) no_directives =
+    ap (λ (z : List State). reading_of (run ts z f) ds) e ∙ ap (reading_of (run ts initial f)) d
+    in (ap (λ (x : Reading). x.events) r, ap (λ (x : Reading). x.ending) r)
+
+pub starts_unasked : (ts : List Token) (f : Option Fault) (s : List State) (ds : Directives) → s ≡ initial → ds ≡ no_directives → unasked_of ts f s ds ≡ unasked_of ts f initial no_directives
+starts_unasked ts f s ds e d = ap (λ (z : List State). unasked_of ts f z ds) e ∙ ap (unasked_of ts f initial) d
+
+-- ---- the token that is held
+
+pub one_held : (o : Option Token) → held_of o ≤ 1
+one_held None = omega arith
+one_held (Some t) = omega arith
+
+-- ---- the turns of a call
+
+pub kept_first : (c : ParserRemaining) → Kept c c
+kept_first c = record { events = refl; ending = refl; ending_unasked = refl; answered = refl; unasked = inl (refl, refl) }
+
+pub kept_silent : (i o n : ParserRemaining) → Kept i o → IsSilent o n → Kept i n
+kept_silent i o n k s = record {
+  events = s.events ∙ k.events;
+  ending = s.ending ∙ k.ending;
+  ending_unasked = s.ending_unasked ∙ k.ending_unasked;
+  answered = s.answered ∙ k.answered;
+  unasked = inr (λ p q. s.speaks (k.events ∙ p) (k.ending ∙ q));
+}
+
+same_unasked : (i o : ParserRemaining) → Kept i o → i.events ≡ [] → i.ending ≡ None → (o.unasked ≡ i.unasked) × (o.held ≡ i.held)
+same_unasked i o k p q = elim k.unasked [ inl a ↦ a | inr s ↦ absurd (s p q) ]
+
+-- the next event
+pub kept_event : (i o n : ParserRemaining) (e : Event) → Kept i o → GivesNext e o n → GivesNext e i n
+kept_event i o n e k h = record { events = sym k.events ∙ h.events; ending = h.ending ∙ k.ending; ending_unasked = h.ending_unasked ∙ k.ending_unasked; answered = h.answered ∙ k.answered }
+
+pub kept_end : (i o n : ParserRemaining) → Kept i o → IsOver o n → GivesEnd i n
+kept_end i o n k h =
+    let p : i.events ≡ [] = sym k.events ∙ h.finished.events in
+    let q : i.ending ≡ None = sym k.ending ∙ h.finished.ending in
+    record {
+      events = p;
+      ending = q;
+      nothing = record {
+        given = refl;
+        finished = subst IsFinished (sym h.same) h.finished;
+        unasked = ap (λ (c : ParserRemaining). c.unasked) h.same ∙ (same_unasked i o k p q).0;
+        held = ap (λ (c : ParserRemaining). c.held) h.same ∙ (same_unasked i o k p q).1;
+        answered = ap (λ (c : ParserRemaining). c.answered) h.same ∙ k.answered;
+      };
+    }
+
+-- what a call gives
+given_front : (es : List Told) (f : Option Fault) (e : Event) (i n : ParserRemaining) → es ≡ (e, n.unasked) ∷ n.events → n.ending ≡ f → n.ending_unasked ≡ i.ending_unasked → n.answered ≡ i.answered → GivesEvent es f e i n
+given_front es f e i n p q u a = rw p (record { given = refl; events = refl; ending = q; ending_unasked = u; unasked = refl; answered = a })
+
+pub parsed_event : (i n : ParserRemaining) (e : Event) → GivesNext e i n → EventOf i e n
+parsed_event i n e h = given_front i.events i.ending e i n h.events h.ending h.ending_unasked h.answered
+
+given_end : (es : List Told) (f : Option Fault) (e : Event) (i n : ParserRemaining) → es ≡ [] → f ≡ None → e ≡ no_event → GivesNothing no_event i n → GivesEvent es f e i n
+given_end es f e i n p q r h = rw (p, q, r) h
+
+pub parsed_end : (i n : ParserRemaining) (e : Event) → GivesEnd i n → e ≡ no_event → EventOf i e n
+parsed_end i n e h p = given_end i.events i.ending e i n h.events h.ending p h.nothing
+
+pub parsed_fault : (i o n n' : ParserRemaining) (f : Fault) → Kept i o → IsTurnRefused f o n → n'.events ≡ n.events → n'.ending ≡ n.ending → n'.between ≡ n.between → n'.unasked ≡ n.unasked → n'.answered ≡ f → FaultOf i f n'
+parsed_fault i o n n' f k h a b c u d = record {
+  finished = record { events = a ∙ h.finished.events; ending = b ∙ h.finished.ending; between = c ∙ h.finished.between };
+  answered = d;
+  reason = elim h.reason [ inl m ↦ inl m | inr q ↦ inr (sym k.events ∙ q.0, sym k.ending ∙ q.1) ];
+  unasked = elim h.unasked [ inl m ↦ inl m | inr n ↦ inr (u ∙ n ∙ k.ending_unasked) ];
+}

@@ -1,0 +1,199 @@
+-- What the private steps of a parser owe.
+use Rattle.std.specs.Prelude.{◌≡◌, ◌⊎◌, ◌+◌, ◌<◌, ◌++◌, ℕ, List, [], ◌∷◌, length, Option, Some, None, Bool, true, false}
+use Rattle.yaml_scan_model.specs.declared.yaml_origin_t.TheVariants.{Parser}
+use Rattle.yaml_scan_model.specs.declared.yaml_mark_t.{yaml_mark_t}
+use Rattle.yaml_scan_model.specs.Tokens.{Token, no_token, token_of, type_of}
+use Rattle.yaml_scan_model.specs.Faults.{Fault, memory_fault, IsMemoryFault, parse_layers}
+use Rattle.yaml_parse_grammar.specs.declared.name.Choice.TheVariants.{Take}
+use Rattle.yaml_parse_grammar.specs.States.{State}
+use Rattle.yaml_parse_grammar.specs.Items.{item_at}
+use Rattle.yaml_parse_grammar.specs.Items as item
+use Rattle.yaml_parse_grammar.specs.Machine.{Outcome, run, unasked_at_stop, ending_at, choice_at, opened, Stands}
+use Rattle.yaml_parse_grammar.specs.Remaining.{ParserRemaining, waiting, held_of, IsFinished, is_between}
+use Rattle.yaml_parse_grammar.specs.Texts.{IsUtf8Item, AreUtf8States, IsUtf8Token}
+use Rattle.yaml_parse_grammar.specs.Stacks.{IsStack, StandsBehind, parts_documents_behind}
+use Rattle.yaml_parse_model.specs.Constructors.{HasUtf8, AreUtf8}
+use Rattle.yaml_parse_grammar.specs.Resolve.{Directives, Settled, gave, noted, placed, refused}
+use Rattle.yaml_parse_model.specs.declared.event.yaml_event_t.{yaml_event_t}
+use Rattle.yaml_parse_model.specs.Events.{event_of, body_of}
+use Rattle.yaml_parse_machine.specs.Views.{below}
+use Rattle.yaml_parse_step.specs.declared.step.StepBuffers.{StepBuffers}
+use Rattle.yaml_parse_step.specs.Finds.{GivesNext}
+use Rattle.yaml_parse_step.specs.Stepped.{Stepped}
+use Rattle.yaml_parse_step.specs.Stepped as step
+use Rattle.yaml_parse_step.specs.Turned.{Turned}
+use Rattle.yaml_parse_step.specs.Turned as turn
+
+abbrev pub held_if : Bool → Token → Option Token
+held_if false t = None
+held_if true t = Some t
+
+-- the token that is still to be taken
+abbrev pub peeked_of : StepBuffers → Option Token
+peeked_of d = held_if d.is_held (token_of d.token)
+
+-- The token stands at the front: every stack goes on as before, and if it isn't the empty one it was asked for.
+pub record IsFront (peeked : Option Token) (ts : List Token) (fault : Option Fault) (t : Token)
+    (rest : List Token) (after : Option Fault) : Type 0 where
+  pub runs : (s : List State) → run (t ∷ rest) s after ≡ run (waiting peeked ts) s fault
+  pub asked : (length rest + 1 ≡ length ts + held_of peeked) ⊎ (t ≡ no_token)
+  pub stops : (s : List State)
+      → unasked_at_stop (t ∷ rest) s ≡ unasked_at_stop (waiting peeked ts) s
+
+-- No token stands there: memory ran out, or the fault ends the list.
+pub record HasNoFront (peeked : Option Token) (ts : List Token) (fault : Option Fault)
+    (f : Fault) (rest : List Token) : Type 0 where
+  pub reason : IsMemoryFault parse_layers f
+      ⊎ ((s : List State) → run (waiting peeked ts) s fault ≡ ending_at s f)
+  pub unasked : IsMemoryFault parse_layers f
+      ⊎ ((s : List State) → length rest ≡ unasked_at_stop (waiting peeked ts) s)
+
+-- whether a token stands at the front
+abbrev pub HasFront : Bool → Option Token → List Token → Option Fault → Token → List Token
+    → Option Fault → Fault → Type 0
+HasFront true peeked ts fault t rest after f = IsFront peeked ts fault t rest after
+HasFront false peeked ts fault t rest after f = HasNoFront peeked ts fault f rest
+
+-- what stands between the source and resolving
+pub record Raw : Type 0 where
+  pub peeked : Option Token
+  pub tokens : List Token
+  pub fault : Option Fault
+  pub stack : List State
+
+abbrev pub raw : Option Token → List Token → Option Fault → List State → Raw
+raw peeked tokens fault stack = record {
+  peeked = peeked;
+  tokens = tokens;
+  fault = fault;
+  stack = stack;
+}
+
+abbrev pub outcome : Raw → Outcome
+outcome r = run (waiting r.peeked r.tokens) r.stack r.fault
+
+-- how many tokens are not asked for at the first that is refused
+abbrev pub stop_of : Raw → ℕ
+stop_of r = unasked_at_stop (waiting r.peeked r.tokens) r.stack
+
+abbrev pub budget : Raw → ℕ
+budget r = length r.tokens + held_of r.peeked
+
+abbrev pub IsDirective : item.RawEventBody → Type 0
+IsDirective (item.version_directive major minor) = Unit {0}
+IsDirective (item.tag_directive handle prefix) = Unit {0}
+IsDirective _ = ⊥
+
+-- the item comes first, and the rest follows; a directive takes its token and leaves something open
+pub record GivesItem (i : item.RawEvent) (old new : Raw) : Type 0 where
+  pub same : outcome old ≡ record {
+    items = (i, length new.tokens) ∷ (outcome new).items;
+    ending = (outcome new).ending;
+  }
+  pub stop : stop_of old ≡ stop_of new
+  pub less : IsDirective i.body → budget new < budget old
+  pub stands : IsDirective i.body → Stands new.stack
+
+-- a token is taken, and something is open
+pub record GivesNoItem (old new : Raw) : Type 0 where
+  pub same : outcome old ≡ outcome new
+  pub stop : stop_of old ≡ stop_of new
+  pub less : budget new < budget old
+  pub stands : Stands new.stack
+
+pub record IsRefused (f : Fault) (old new : Raw) : Type 0 where
+  pub reason : IsMemoryFault parse_layers f ⊎ (outcome old ≡ record { items = []; ending = Some f })
+  pub unasked : IsMemoryFault parse_layers f ⊎ (length new.tokens ≡ stop_of old)
+
+pub record IsDone (old new : Raw) : Type 0 where
+  pub empty : old.stack ≡ []
+  pub same : new ≡ old
+
+abbrev pub Steps : Raw → Stepped → Raw → Type 0
+Steps old (step.given i) new = GivesItem i old new
+Steps old step.silent new = GivesNoItem old new
+Steps old (step.refused f) new = IsRefused f old new
+Steps old step.done new = IsDone old new
+
+-- an implicit document begins there
+abbrev pub OpensAt : yaml_mark_t → List State → Stepped → List State → Type 0
+OpensAt start old (step.given i) new = (i ≡ item_at (item.document true) start start)
+    × (new ≡ opened start ++ old)
+OpensAt start old (step.refused f) new = f ≡ memory_fault Parser
+OpensAt start old step.silent new = ⊥
+OpensAt start old step.done new = ⊥
+
+-- what takes no item, or a directive, takes a token
+abbrev pub IsReal : State → Token → Stepped → Type 0
+IsReal x t (step.given i) = IsDirective i.body → choice_at x (type_of t.body) ≡ Take
+IsReal x t step.silent = choice_at x (type_of t.body) ≡ Take
+IsReal x t (step.refused f) = Unit {0}
+IsReal x t step.done = ⊥
+
+-- the same of the topmost state, if there is one
+abbrev pub IsRealOn : List State → Token → Stepped → Type 0
+IsRealOn s t r = (x : State) → s ≡ x ∷ below s → IsReal x t r
+
+-- what an item comes to: an event, nothing, or a fault
+abbrev pub ComesTo : Settled → item.RawEvent → Option Bool → yaml_event_t → Fault → Directives
+    → Type 0
+ComesTo s i (Some true) e f new = (s ≡ gave (body_of e.body) new)
+    × (event_of e ≡ placed (body_of e.body) i)
+ComesTo s i (Some false) e f new = s ≡ noted new
+ComesTo s i None e f new = (f ≡ memory_fault Parser) ⊎ (s ≡ refused f)
+
+-- the texts of what a step gives are UTF-8, and those of what is held then
+abbrev pub IsUtf8Step : Stepped → Option Token → List State → Directives → Type 0
+IsUtf8Step (step.given i) peeked s ds = IsUtf8Item i.body
+    × (IsUtf8Token peeked × (AreUtf8States s × AreUtf8 ds.tags))
+IsUtf8Step step.silent peeked s ds = IsUtf8Token peeked × (AreUtf8States s × AreUtf8 ds.tags)
+IsUtf8Step (step.refused f) peeked s ds = Unit {0}
+IsUtf8Step step.done peeked s ds = Unit {0}
+
+-- a step keeps how the states stand above one another, and what it gives tells whether a document is half taken then
+abbrev pub IsStackStep : Stepped → List State → Type 0
+IsStackStep (step.given i) s = IsStack s × StandsBehind i.body (is_between s)
+IsStackStep step.silent s = IsStack s
+IsStackStep (step.refused f) s = Unit {0}
+IsStackStep step.done s = Unit {0}
+
+abbrev pub IsStackTurn : Turned → Bool → Type 0
+IsStackTurn (turn.event e) between = between ≡ parts_documents_behind e.body
+IsStackTurn _ between = Unit {0}
+
+abbrev pub IsUtf8Turn : Turned → Type 0
+IsUtf8Turn (turn.event e) = HasUtf8 e.body
+IsUtf8Turn _ = Unit {0}
+
+-- nothing is given, a token is taken, and something is to come
+pub record IsSilent (old new : ParserRemaining) : Type 0 where
+  pub events : new.events ≡ old.events
+  pub ending : new.ending ≡ old.ending
+  pub ending_unasked : new.ending_unasked ≡ old.ending_unasked
+  pub answered : new.answered ≡ old.answered
+  pub less : new.unasked + new.held < old.unasked + old.held
+  pub speaks : old.events ≡ [] → old.ending ≡ None → ⊥
+
+pub record IsTurnRefused (f : Fault) (old new : ParserRemaining) : Type 0 where
+  pub finished : IsFinished new
+  pub reason : IsMemoryFault parse_layers f ⊎ ((old.events ≡ []) × (old.ending ≡ Some f))
+  pub unasked : IsMemoryFault parse_layers f ⊎ (new.unasked ≡ old.ending_unasked)
+
+pub record IsOver (old new : ParserRemaining) : Type 0 where
+  pub finished : IsFinished old
+  pub same : new ≡ old
+
+abbrev pub Turns : ParserRemaining → Turned → ParserRemaining → Type 0
+Turns old (turn.event e) new = GivesNext e old new
+Turns old turn.silent new = IsSilent old new
+Turns old (turn.refused f) new = IsTurnRefused f old new
+Turns old turn.done new = IsOver old new
+
+-- What lasts over the turns of a call. No token is taken unless something is to come.
+pub record Kept (initial now : ParserRemaining) : Type 0 where
+  pub events : now.events ≡ initial.events
+  pub ending : now.ending ≡ initial.ending
+  pub ending_unasked : now.ending_unasked ≡ initial.ending_unasked
+  pub answered : now.answered ≡ initial.answered
+  pub unasked : ((now.unasked ≡ initial.unasked) × (now.held ≡ initial.held))
+      ⊎ (initial.events ≡ [] → initial.ending ≡ None → ⊥)

@@ -1,0 +1,9 @@
+//! What a call that fills lent slots answers.
+
+/// What a call finds: an event or a fault, which stands in its slot, or the end.
+#[derive(Clone, Copy, PartialEq, Eq, Debug)]
+pub enum yaml_found_t {
+    Event,
+    Refused,
+    End,
+}

@@ -1,0 +1,8 @@
+//! One step of a parser over its source of tokens, and what the steps come to: events, faults and loads.
+#![tactic(auto)]
+
+mod found;
+mod step;
+
+pub use found::yaml_found_t;
+pub use step::{Step, StepBuffers, take_turn};

@@ -1,14 +1,2 @@
-pub mod Opening
-pub mod Holding
-pub mod Judging
-pub mod Grammatical
-pub mod Ending
-pub mod Viewing
-pub mod Emitting
-pub mod Within
-pub mod Taking
-pub mod Verdicts
-pub mod Dumped
-pub mod Opened
 -- what it stands on, for crates that name the member alone
 pub use Rattle.yaml_emit_graph.proofs as emit_graph

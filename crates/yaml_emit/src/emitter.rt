@@ -1,66 +1,24 @@
 //! The emitter.
 
-ghost use Rattle.std.specs.Prelude.{◌≡◌, ◌≤◌, ◌∷◌, [], length, Some, None, true, false, option_map, IfOk, IfErr, OnErr};
+ghost use Rattle.std.specs.Prelude.{◌≡◌, ◌≤◌, ◌∷◌, [], length, Some, true, false, option_map, IfOk, IfErr};
 ghost use Rattle.yaml_scan_model.specs.Faults.{Fault, fault_of, memory_fault};
 ghost use Rattle.yaml_scan_model.specs.declared.yaml_origin_t.TheVariants as from;
-ghost use Rattle.yaml_parse_model.specs.Events.{event_of, body_of};
+ghost use Rattle.yaml_parse_model.specs.Events.{event_of};
 ghost use Rattle.yaml_parse_model.specs.Constructors.{HasUtf8};
 ghost use Rattle.yaml_emit_layout.specs.Content.{emitter_event};
-ghost use Rattle.yaml_emit.specs.Emitter.{stream_encoding, stop_of, IsNew, IsLimited, ShowsFront, IsWhole, Answers, Stays};
-ghost use Rattle.yaml_emit.specs.Within.{IsWithin};
-ghost use Rattle.yaml_emit.specs.Verdict.{TellsOutcome};
-ghost use Rattle.yaml_emit.specs.Taking.{TakesEvents, Stuck, NotesMemoryOf, ComesIntoForce};
+ghost use Rattle.yaml_emit_machine.specs.Emitter.{stop_of, IsNew, IsLimited, ShowsFront, IsWhole, Answers, Stays};
+ghost use Rattle.yaml_emit_machine.specs.Within.{IsWithin};
+ghost use Rattle.yaml_emit_machine.specs.Verdict.{TellsOutcome};
+ghost use Rattle.yaml_emit_machine.specs.Taking.{TakesEvents, NotesMemoryOf};
 
-mod dump;
-
-use crate::fault::note;
-use crate::held::Held;
-use crate::release::give;
-pub use dump::{yaml_emitter_close, yaml_emitter_dump, yaml_emitter_open};
 use std::alloc::Global;
-use std::marker::Model;
-use yaml_emit_state::Core;
-use yaml_emit_text::{RequestedSettings, settled};
-use yaml_parse_model::{yaml_event_body_t, yaml_event_t};
+use yaml_emit_machine::{
+    answer, first_fault, give, give_over, into_output, is_fresh, is_opened, let_go, new_emitter,
+    output, requested_settings, set_requested_settings, yaml_emitter_t,
+};
+use yaml_emit_text::RequestedSettings;
+use yaml_parse_model::yaml_event_t;
 use yaml_scan_model::{yaml_break_t, yaml_encoding_t, yaml_fault_t};
-
-/// An emitter: events to text.
-#[derive(Drop)]
-pub struct yaml_emitter_t {
-    requested_settings: RequestedSettings,
-    limit: u64,
-    alloc: Global,
-    core: Core,
-    held: Held,
-    /// No event was given.
-    fresh: bool,
-    opened: bool,
-    closed: bool,
-    /// The first fault.
-    fault: Option<yaml_fault_t>,
-}
-
-impl Model for yaml_emitter_t {
-    ghost use Rattle.yaml_emit.specs.Emitter.{Emitter};
-
-    ghost Value = { Emitter };
-
-    ghost use Rattle.yaml_emit.specs.Views.{emitter_of, IsEmitter};
-
-    ghost view = { emitter_of };
-
-    ghost invariant = { IsEmitter };
-}
-
-// The encoding of a stream that starts with an event.
-fn stream_encoding(event: &yaml_event_body_t) -> yaml_encoding_t
-    ensures { result ≡ stream_encoding (emitter_event (body_of event.now)) }
-{
-    match event {
-        yaml_event_body_t::StreamStart { encoding } => *encoding,
-        _ => yaml_encoding_t::YAML_ANY_ENCODING,
-    }
-}
 
 /// An emitter whose text has at most `limit` bytes. It is fresh, with any encoding, canonical and unicode off, indent 2,
 /// width 80 and any break. Refused only for want of memory; today it takes none.
@@ -68,22 +26,7 @@ pub fn yaml_emitter_initialize(alloc: Global, limit: u64) -> Result<yaml_emitter
     ensures is { IfOk result (λ e. IsNew e limit) }
     ensures memory { IfErr result (λ f. fault_of f ≡ memory_fault from.Emitter) }
 {
-    let requested_settings = RequestedSettings::new();
-    Ok(yaml_emitter_t {
-        requested_settings,
-        limit,
-        alloc,
-        core: Core::new(
-            alloc,
-            settled(requested_settings, yaml_encoding_t::YAML_ANY_ENCODING),
-            limit,
-        ),
-        held: Held::nothing(),
-        fresh: true,
-        opened: false,
-        closed: false,
-        fault: None,
-    })
+    Ok(new_emitter(alloc, limit))
 }
 
 /// The encoding of the text. Any encoding means the one that the stream's start names, or UTF-8. This and every other
@@ -94,7 +37,13 @@ pub fn yaml_emitter_set_encoding(emitter: &mut yaml_emitter_t, encoding: yaml_en
       requested_settings = record emitter.old.requested_settings { encoding = encoding };
     } }
 {
-    emitter.requested_settings.encoding = encoding;
+    set_requested_settings(
+        emitter,
+        RequestedSettings {
+            encoding,
+            ..requested_settings(emitter)
+        },
+    );
 }
 
 /// Canonical form, or pretty.
@@ -104,7 +53,13 @@ pub fn yaml_emitter_set_canonical(emitter: &mut yaml_emitter_t, canonical: bool)
       requested_settings = record emitter.old.requested_settings { canonical = canonical };
     } }
 {
-    emitter.requested_settings.canonical = canonical;
+    set_requested_settings(
+        emitter,
+        RequestedSettings {
+            canonical,
+            ..requested_settings(emitter)
+        },
+    );
 }
 
 /// The columns of one level: 2 to 9; any other number means 2.
@@ -114,7 +69,13 @@ pub fn yaml_emitter_set_indent(emitter: &mut yaml_emitter_t, indent: i32)
       requested_settings = record emitter.old.requested_settings { indent = indent };
     } }
 {
-    emitter.requested_settings.indent = indent;
+    set_requested_settings(
+        emitter,
+        RequestedSettings {
+            indent,
+            ..requested_settings(emitter)
+        },
+    );
 }
 
 /// The column past which lines are cut. A negative one means 2,147,483,647; 0 to twice the indent means 80.
@@ -124,7 +85,13 @@ pub fn yaml_emitter_set_width(emitter: &mut yaml_emitter_t, width: i32)
       requested_settings = record emitter.old.requested_settings { width = width };
     } }
 {
-    emitter.requested_settings.width = width;
+    set_requested_settings(
+        emitter,
+        RequestedSettings {
+            width,
+            ..requested_settings(emitter)
+        },
+    );
 }
 
 /// Whether characters above U+007F stand as they are.
@@ -134,7 +101,13 @@ pub fn yaml_emitter_set_unicode(emitter: &mut yaml_emitter_t, unicode: bool)
       requested_settings = record emitter.old.requested_settings { unicode = unicode };
     } }
 {
-    emitter.requested_settings.unicode = unicode;
+    set_requested_settings(
+        emitter,
+        RequestedSettings {
+            unicode,
+            ..requested_settings(emitter)
+        },
+    );
 }
 
 /// What ends a line. Any break means LF.
@@ -144,21 +117,27 @@ pub fn yaml_emitter_set_break(emitter: &mut yaml_emitter_t, line_break: yaml_bre
       requested_settings = record emitter.old.requested_settings { line_break = line_break };
     } }
 {
-    emitter.requested_settings.line_break = line_break;
+    set_requested_settings(
+        emitter,
+        RequestedSettings {
+            line_break,
+            ..requested_settings(emitter)
+        },
+    );
 }
 
 /// Whether no event was given.
 pub fn yaml_emitter_fresh(emitter: &yaml_emitter_t) -> bool
     ensures { result ≡ emitter.now.fresh }
 {
-    emitter.fresh
+    is_fresh(emitter)
 }
 
 /// Whether an open, a dump's too, was Ok.
 pub fn yaml_emitter_opened(emitter: &yaml_emitter_t) -> bool
     ensures { result ≡ emitter.now.opened }
 {
-    emitter.opened
+    is_opened(emitter)
 }
 
 /// The first fault: that of the first refused event among those that were let out, or, where the text passed a limit or memory
@@ -169,10 +148,7 @@ pub fn yaml_emitter_fault(emitter: &yaml_emitter_t) -> Option<&yaml_fault_t>
     ensures tells { TellsOutcome emitter.now }
     ensures limited { (f : Fault) → emitter.now.fault ≡ Some f → IsLimited emitter.now f }
 {
-    match &emitter.fault {
-        None => None,
-        Some(fault) => Some(fault),
-    }
+    first_fault(emitter)
 }
 
 /// The text so far: the front of each text that the emitter completes.
@@ -180,7 +156,7 @@ pub fn yaml_emitter_output(emitter: &yaml_emitter_t) -> &[u8]
     ensures bytes { result.now ≡ emitter.now.output }
     ensures front { ShowsFront emitter.now result.now }
 {
-    emitter.core.sink().output()
+    output(emitter)
 }
 
 /// The text: all of it, where no fault has come and no event is to come; it then passes no limit.
@@ -190,129 +166,23 @@ pub fn yaml_emitter_into_output(emitter: yaml_emitter_t) -> Vec<u8>
     ensures whole { IsWhole emitter result.items }
     ensures within { IsWithin emitter }
 {
-    let yaml_emitter_t { core, held, .. } = emitter;
-    drop(held);
-    core.into_output()
+    into_output(emitter)
 }
 
 /// Spends the emitter.
 pub fn yaml_emitter_delete(emitter: yaml_emitter_t) {
-    drop(emitter);
+    let_go(emitter);
 }
 
-impl yaml_emitter_t {
-    // The settings come into force with the first event.
-    // Out of line: it runs once a stream.
-    #[inline(never)]
-    fn begin(&mut self, event: &yaml_event_body_t)
-        requires { self.old.fresh ≡ true }
-        ensures begins { ComesIntoForce self.old (emitter_event (body_of event.now)) self.new }
-    {
-        let settings = settled(self.requested_settings, stream_encoding(event));
-        self.core = Core::new(self.alloc, settings, self.limit);
-        self.fresh = false;
-    }
-
-    // An event is given behind those that are held.
-    fn lay(&mut self, event: &mut yaml_event_body_t)
-        requires utf8 { HasUtf8 (body_of event.old) }
-        requires right { self.old.fault ≡ None }
-        requires begun { self.old.fresh ≡ false }
-        ensures takes { TakesEvents self.old (emitter_event (body_of event.old) ∷ []) self.new [] }
-        ensures memory { NotesMemoryOf (emitter_event (body_of event.old)) self.old self.new }
-        ensures few { length self.new.held ≤ 3 }
-        ensures opened { (self.new.opened ≡ self.old.opened) × (self.new.closed ≡ self.old.closed) }
-    {
-        give(&mut self.core, &mut self.held, event);
-        note(&self.core, &mut self.fault);
-    }
-
-    // An emitter without a fault takes an event.
-    #[tactic(auto, using(crate::proofs::Taking::begins_takes, crate::proofs::Taking::begins_notes))]
-    fn take(&mut self, event: &mut yaml_event_body_t)
-        requires utf8 { HasUtf8 (body_of event.old) }
-        requires right { self.old.fault ≡ None }
-        ensures takes { TakesEvents self.old (emitter_event (body_of event.old) ∷ []) self.new [] }
-        ensures memory { NotesMemoryOf (emitter_event (body_of event.old)) self.old self.new }
-        ensures few { length self.new.held ≤ 3 }
-        ensures opened { (self.new.opened ≡ self.old.opened) × (self.new.closed ≡ self.old.closed) }
-    {
-        if self.fresh {
-            self.begin(event);
-            self.lay(event);
-        } else {
-            self.lay(event);
-        }
-    }
-
-    // Inlined: one look at the fault.
-    #[inline(always)]
-    fn answer(&self) -> Result<(), yaml_fault_t>
-        ensures answer { Answers self.now.fault result }
-        ensures tells { TellsOutcome self.now }
-        ensures stuck { OnErr result (Stuck self.now) }
-        ensures few { length self.now.held ≤ 3 }
-        ensures begun { OnErr result (self.now.fresh ≡ false) }
-        ensures running { self.now.opened ≡ true → self.now.fresh ≡ false }
-    {
-        match self.fault {
-            None => Ok(()),
-            Some(fault) => Err(fault),
-        }
-    }
-
-    // Takes an event, unless a fault has come. What is left of the event counts for nothing.
-    // Out of line: the whole work on an event stands once, not in each of its callers.
-    #[inline(never)]
-    fn give(&mut self, event: &mut yaml_event_body_t)
-        requires { HasUtf8 (body_of event.old) }
-        ensures takes { TakesEvents self.old (emitter_event (body_of event.old) ∷ []) self.new [] }
-        ensures memory { NotesMemoryOf (emitter_event (body_of event.old)) self.old self.new }
-        ensures stays { Stays self.old self.new }
-        ensures few { length self.new.held ≤ 3 }
-        ensures opened { (self.new.opened ≡ self.old.opened) × (self.new.closed ≡ self.old.closed) }
-    {
-        match self.fault {
-            Some(_) => (),
-            None => {
-                self.take(event);
-            }
-        }
-    }
-
-    // The same, and the answer, which isn't built where nobody looks at it.
-    // Inlined: two calls in a row.
-    #[inline(always)]
-    fn emit_from(&mut self, event: &mut yaml_event_body_t) -> Result<(), yaml_fault_t>
-        requires { HasUtf8 (body_of event.old) }
-        ensures takes { TakesEvents self.old (emitter_event (body_of event.old) ∷ []) self.new [] }
-        ensures memory { NotesMemoryOf (emitter_event (body_of event.old)) self.old self.new }
-        ensures answer { Answers self.new.fault result }
-        ensures tells { TellsOutcome self.new }
-        ensures stays { Stays self.old self.new }
-        ensures few { length self.new.held ≤ 3 }
-        ensures opened { (self.new.opened ≡ self.old.opened) × (self.new.closed ≡ self.old.closed) }
-        ensures stuck { OnErr result (Stuck self.new) }
-    {
-        self.give(event);
-        self.answer()
-    }
-
-    fn emit(&mut self, event: yaml_event_body_t) -> Result<(), yaml_fault_t>
-        requires { HasUtf8 (body_of event) }
-        ensures takes { TakesEvents self.old (emitter_event (body_of event) ∷ []) self.new [] }
-        ensures memory { NotesMemoryOf (emitter_event (body_of event)) self.old self.new }
-        ensures answer { Answers self.new.fault result }
-        ensures tells { TellsOutcome self.new }
-        ensures stays { Stays self.old self.new }
-        ensures few { length self.new.held ≤ 3 }
-        ensures opened { (self.new.opened ≡ self.old.opened) × (self.new.closed ≡ self.old.closed) }
-        ensures stuck { OnErr result (Stuck self.new) }
-    {
-        let mut event = event;
-        let answer = self.emit_from(&mut event);
-        drop(event);
-        answer
+// The answer of a call behind which there is that fault, or none.
+// Inlined: one look at it.
+#[inline(always)]
+fn told(fault: Option<&yaml_fault_t>) -> Result<(), yaml_fault_t>
+    ensures { Answers (option_map (λ f. fault_of f.now) fault.entry) result }
+{
+    match fault {
+        None => Ok(()),
+        Some(fault) => Err(*fault),
     }
 }
 
@@ -334,10 +204,9 @@ pub fn yaml_emitter_emit(
     ensures opened { (emitter.new.opened ≡ emitter.old.opened)
         × (emitter.new.closed ≡ emitter.old.closed) }
 {
-    let mut event = event;
-    let answer = emitter.emit_from(&mut event.body);
-    drop(event);
-    answer
+    let yaml_event_t { body, .. } = event;
+    give_over(emitter, body);
+    told(first_fault(emitter))
 }
 
 /// `yaml_emitter_emit` of an event that stays where it stands; what is left of it counts for nothing. The fault, if there
@@ -353,7 +222,7 @@ pub fn yaml_emitter_emit_from(emitter: &mut yaml_emitter_t, event: &mut yaml_eve
     ensures opened { (emitter.new.opened ≡ emitter.old.opened)
         × (emitter.new.closed ≡ emitter.old.closed) }
 {
-    emitter.give(&mut event.body);
+    give(emitter, &mut event.body);
 }
 
 /// What was laid out is in the output. The first fault, if there is one, is answered. Asks that an event was given.
@@ -362,5 +231,5 @@ pub fn yaml_emitter_flush(emitter: &mut yaml_emitter_t) -> Result<(), yaml_fault
     ensures same { emitter.new ≡ emitter.old }
     ensures answer { Answers emitter.old.fault result }
 {
-    emitter.answer()
+    answer(emitter)
 }

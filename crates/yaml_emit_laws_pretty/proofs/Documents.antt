@@ -51,8 +51,8 @@ use Rattle.yaml_emit_laws_text.proofs.Places.{has_front, left_rest}
 use Rattle.yaml_emit_laws_text.specs.Walk.{Has, Starts, first}
 use Rattle.yaml_emit_laws_json.specs.Json.{IsQuotedScalar, IsPlainScalar, IsJsonNode, IsJsonDocument}
 use Rattle.yaml_emit_laws_json.proofs.Layouts.{plain_laid_out}
-use Rattle.yaml_emit_laws_keys.specs.emit_laws_quoted.Laws.{QuotedIsReadBack}
-use Rattle.yaml_emit_laws_keys.specs.Laws.{QuotedKeysAreNear}
+use Rattle.yaml_emit_laws_quoted.specs.Laws.{QuotedIsReadBack}
+use Rattle.yaml_emit_laws_pretty.specs.Keys.{QuotedKeysAreNear}
 use Rattle.yaml_emit_laws_pretty.specs.Walk.{put_key, keyed_bodies, WordsStand, WordsGoOn}
 use Rattle.yaml_emit_laws_json.specs.Bodies.{json_bodies, start_bodies, stop_bodies, document_bodies}
 use Rattle.yaml_emit_laws_pretty.specs.Laws.{JsonTextIsRead}

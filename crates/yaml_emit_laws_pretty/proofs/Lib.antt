@@ -1,3 +1,5 @@
+mod Lines
+pub mod Sizes
 mod Steps
 mod Words
 mod Plain

@@ -17,7 +17,7 @@ use Rattle.yaml_emit_laws_json.specs.emit_layout.emit_text.declared.Settings.{Se
 use Rattle.yaml_emit_laws_json.specs.emit_layout.emit_text.Layout.{Layout, Rest, ◌▹◌, gap, blank, char, letters, word, when, opener, wrap, after_text}
 use Rattle.yaml_emit_laws_json.specs.emit_layout.emit_text.Text.{letter}
 use Rattle.yaml_emit_laws_json.specs.emit_layout.emit_text.Quoted.{double_quoted}
-use Rattle.yaml_emit_laws_keys.specs.emit_laws_quoted.ReadBack.{between_quotes}
+use Rattle.yaml_emit_laws_quoted.specs.ReadBack.{between_quotes}
 use Rattle.yaml_emit_laws_json.specs.emit_layout.declared.level.Spot.{Spot}
 use Rattle.yaml_emit_laws_json.specs.emit_layout.declared.level.Part.TheVariants as part
 use Rattle.yaml_emit_laws_json.specs.emit_layout.Content.{Scalar, Start, Node, alias_node, scalar_node, sequence_node, mapping_node, Nodes, no_nodes, node, Pairs, no_pairs, pair}
@@ -25,8 +25,8 @@ use Rattle.yaml_emit_laws_json.specs.emit_layout.Grammar.{scalar_tag}
 use Rattle.yaml_emit_laws_json.specs.emit_layout.Nodes.{Context, context_of, spot, key_part, deeper, checked, MOST, page_at, scalar_layout, properties_size, has_break, is_simple, is_simple_scalar, turned, before_item, before_key, before_value, closer, node_layout, items_layout, pairs_layout}
 use Rattle.yaml_emit_laws_json.specs.Json.{IsQuotedScalar, IsPlainScalar, IsJsonScalar, IsJsonStart, IsJsonKey, IsJsonNode, AreJsonNodes, AreJsonPairs}
 use Rattle.yaml_emit_laws_json.proofs.Layouts.{quoted_laid_out, plain_laid_out, collections_flow}
-use Rattle.yaml_emit_laws_keys.specs.emit_laws_quoted.Laws.{QuotedIsReadBack}
-use Rattle.yaml_emit_laws_keys.specs.Laws.{QuotedKeysAreNear}
+use Rattle.yaml_emit_laws_quoted.specs.Laws.{QuotedIsReadBack}
+use Rattle.yaml_emit_laws_pretty.specs.Keys.{QuotedKeysAreNear}
 use Rattle.yaml_emit_laws_text.specs.Walk.{bytes, first}
 use Rattle.yaml_emit_laws_text.specs.Writable.{IsWritable, AreItemsWritable, ArePairsWritable}
 use Rattle.yaml_emit_laws_text.proofs.Steps.{letter_low, deep_bytes}

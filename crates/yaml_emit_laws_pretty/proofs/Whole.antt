@@ -1,6 +1,6 @@
 -- The law of pretty text, joined from the laws beneath.
-use Rattle.yaml_emit_laws_keys.proofs.emit_laws_quoted.Whole.{quoted_is_back}
-use Rattle.yaml_emit_laws_keys.proofs.Sizes.{keys_near}
+use Rattle.yaml_emit_laws_quoted.proofs.Whole.{quoted_is_back}
+use Rattle.yaml_emit_laws_pretty.proofs.Sizes.{keys_near}
 use Rattle.yaml_emit_laws_pretty.specs.Laws.{JsonTextIsRead}
 use Rattle.yaml_emit_laws_pretty.proofs.Documents.{text_read}
 

@@ -33,9 +33,9 @@ use Rattle.yaml_emit_laws_json.specs.emit_layout.emit_text.declared.LineBreak.Th
 use Rattle.yaml_emit_laws_json.specs.emit_layout.emit_text.Text.{Item, letter}
 use Rattle.yaml_emit_laws_json.specs.emit_layout.emit_text.Layout.{Layout, Rest, ◌▹◌, stay, choose, char, letters, word, opener, blank, blanks, break, new_line, gap, line, wrap, is_past, must_break, indent_to, after_text}
 use Rattle.yaml_emit_laws_json.specs.emit_layout.emit_text.Quoted.{double_quoted}
-use Rattle.yaml_emit_laws_keys.specs.emit_laws_quoted.ReadBack.{between_quotes, ValueIsReadBack}
-use Rattle.yaml_emit_laws_keys.specs.emit_laws_quoted.Laws.{QuotedIsReadBack}
-use Rattle.yaml_emit_laws_keys.specs.Laws.{QuotedKeysAreNear}
+use Rattle.yaml_emit_laws_quoted.specs.ReadBack.{between_quotes, ValueIsReadBack}
+use Rattle.yaml_emit_laws_quoted.specs.Laws.{QuotedIsReadBack}
+use Rattle.yaml_emit_laws_pretty.specs.Keys.{QuotedKeysAreNear}
 use Rattle.yaml_emit_laws_text.specs.Walk.{Has, Left, bytes, first}
 use Rattle.yaml_emit_laws_text.proofs.Places.{has_front, has_rest, has_both, has_at, left_first, left_more, left_rest}
 use Rattle.yaml_emit_laws_text.proofs.Steps.{Sign, sign_begins, sign_kind, word_of, left_letter, letter_low}

@@ -1,0 +1,13 @@
+use Rattle.std.proofs.Common.{true, [], ◌∷◌}
+use Rattle.yaml_emit_layout.specs.Content.{stream_end}
+use Rattle.yaml_emit_machine.proofs.Taking.{takes_marked, notes_marked, tells_marked}
+use Rattle.yaml_emit.proofs.dump.yaml_emitter_close.Goals as goal
+
+pub returns-in_ok-emit-clause-takes : goal.returns-in_ok-emit-clause-takes
+returns-in_ok-emit-clause-takes c = λ open_still. takes_marked _ c.emit.new.emitter _ (stream_end ∷ []) [] c.emit.new.emitter.opened true c.set_closed.ensures c.emit.ensures.takes
+
+pub returns-in_ok-emit-clause-memory : goal.returns-in_ok-emit-clause-memory
+returns-in_ok-emit-clause-memory c = λ open_still. notes_marked stream_end c.args.emitter.now c.emit.new.emitter _ c.emit.new.emitter.opened true c.set_closed.ensures c.emit.ensures.memory
+
+pub returns-in_ok-emit-clause-tells : goal.returns-in_ok-emit-clause-tells
+returns-in_ok-emit-clause-tells c = tells_marked c.emit.new.emitter _ c.emit.new.emitter.opened true c.set_closed.ensures c.emit.ensures.tells

@@ -1,4 +1,0 @@
-use Rattle.yaml_emit.proofs.emitter.yaml_emitter_t.dump_document.Goals as goal
-
-pub returns-in-Err-clause-takes : goal.returns-in-Err-clause-takes
-returns-in-Err-clause-takes c = c.starve.ensures.takes _

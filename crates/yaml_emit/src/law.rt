@@ -1,8 +1,0 @@
-//! What the emitter's grammar takes.
-
-ghost use Rattle.yaml_emit.specs.Judged.{PassesStreams};
-
-/// A law: in a front of a stream's events, with nothing wrong in them, no event is refused.
-pub fn streams_pass()
-    ensures { PassesStreams }
-{}

@@ -1,0 +1,124 @@
+-- What is held, and when it is laid out.
+use Rattle.std.proofs.Common.{◌≡◌, ℕ, ◌+◌, ◌<◌, List, [], ◌∷◌, ◌++◌, length, Bool, true, false, refl, sym, subst, ◌∙◌, ap, arith, length-append}
+use Rattle.std.specs.Prelude.{nat_le, ◌||◌, ◌&&◌, ◌≤◌}
+use Rattle.std.proofs.lemmas.Bool.Decides.{nat_tests}
+use Rattle.yaml_emit_layout.specs.Content.{Event, no_event, stream_start, stream_end, document_start, document_end, alias, scalar, sequence_start, sequence_end, mapping_start, mapping_end}
+use Rattle.yaml_emit_layout.specs.State.{opens_empty}
+use Rattle.yaml_parse_model.specs.declared.yaml_event_body_t.{yaml_event_body_t}
+use Rattle.yaml_emit_held.specs.declared.held.Held.{Held}
+use Rattle.yaml_emit_held.specs.declared.held.Count.{Count}
+use Rattle.yaml_emit_held.specs.declared.held.Count.TheVariants.{Nothing}
+use Rattle.yaml_emit_held.specs.declared.held.Seat.{Seat}
+use Rattle.yaml_emit_held.specs.declared.held.Seat.TheVariants.{First, Second, Third, Fourth}
+use Rattle.yaml_emit_held.specs.Held.{is_ready, needs, closes, ends_level, next, less, stands, seated, held_events, oldest_event}
+
+pub ready_empty : (e : Event) (es more : List Event) → is_ready (e ∷ es) ≡ true → opens_empty e (es ++ more) ≡ opens_empty e es
+unfolding is_ready opens_empty
+ready_empty (sequence_start p) [] more h = absurd (cc)
+ready_empty (mapping_start p) [] more h = absurd (cc)
+ready_empty (sequence_start p) (f ∷ es) more h = refl
+ready_empty (mapping_start p) (f ∷ es) more h = refl
+ready_empty _ es more h = refl
+
+-- of one event alone, closing is ending a level
+pub closes_last : (e : Event) → ends_level e ≡ closes (e ∷ [])
+closes_last no_event = refl
+closes_last (stream_start x) = refl
+closes_last stream_end = refl
+closes_last (document_start i) = refl
+closes_last (document_end i) = refl
+closes_last (alias name) = refl
+closes_last (scalar x) = refl
+closes_last (sequence_start p) = refl
+closes_last sequence_end = refl
+closes_last (mapping_start p) = refl
+closes_last mapping_end = refl
+
+pub few_needs : (e : Event) → nat_le (needs e) 3 ≡ true
+few_needs no_event = refl
+few_needs (stream_start x) = refl
+few_needs stream_end = refl
+few_needs (document_start i) = refl
+few_needs (document_end i) = refl
+few_needs (alias name) = refl
+few_needs (scalar x) = refl
+few_needs (sequence_start p) = refl
+few_needs sequence_end = refl
+few_needs (mapping_start p) = refl
+few_needs mapping_end = refl
+
+pub le_more : (n m k : ℕ) → nat_le n 3 ≡ true → 3 ≤ m → nat_le n m ≡ true
+le_more n m k h l = grind (arith, nat_tests)
+
+four_ready : (a b c d : Event) (xs : List Event) → is_ready (a ∷ b ∷ c ∷ d ∷ xs) ≡ true
+unfolding is_ready
+four_ready a b c d xs = ap (λ v. v || closes (b ∷ c ∷ d ∷ xs)) (le_more (needs a) (length (b ∷ c ∷ d ∷ xs)) 0 (few_needs a) (omega arith))
+
+pub waits_few : (xs : List Event) → is_ready xs ≡ false → length xs < 4
+waits_few [] h = omega arith
+waits_few (a ∷ []) h = omega arith
+waits_few (a ∷ b ∷ []) h = omega arith
+waits_few (a ∷ b ∷ c ∷ []) h = omega arith
+waits_few (a ∷ b ∷ c ∷ d ∷ xs) h = let k = four_ready a b c d xs in absurd (cc)
+
+-- what needs nothing behind it is ready
+pub none_needed : (e : Event) (es : List Event) → needs e ≡ 0 → is_ready (e ∷ es) ≡ true
+unfolding is_ready
+none_needed e es h = let k : nat_le (needs e) (length es) ≡ true = rw h (grind (arith, nat_tests)) in ap (λ v. v || closes es) k
+
+pub both_left : (a b : Bool) → (a && b) ≡ true → a ≡ true
+both_left true b h = refl
+both_left false b h = absurd (cc)
+
+pub both_right : (a b : Bool) → (a && b) ≡ true → b ≡ true
+both_right true b h = h
+both_right false b h = absurd (cc)
+
+pub both_false : (a b : Bool) → a ≡ true → (a && b) ≡ false → b ≡ false
+both_false true b g h = h
+both_false false b g h = absurd (cc)
+
+-- three wait at most
+pub few_short : (xs : List Event) → is_ready xs ≡ false → length xs ≤ 3
+few_short xs h = let few = waits_few xs h in omega (arith, few)
+
+pub pushed_most : (xs ys : List Event) (e : Event) → ys ≡ xs ++ e ∷ [] → length xs < 4 → length ys ≤ 4
+pushed_most xs ys e same few =
+    let more : length ys ≡ length xs + 1 = ap (λ (zs : List Event). length zs) same ∙ length-append xs (e ∷ []) in
+    omega (arith, more, few)
+
+pub one_less : (xs ys : List Event) (e : Event) → xs ≡ e ∷ ys → length xs ≤ 4 → length ys ≤ 3
+one_less xs ys e same most =
+    let less : length xs ≡ length ys + 1 = ap (λ (zs : List Event). length zs) same ∙ omega arith in
+    omega (arith, less, most)
+
+pub less_most : (xs ys : List Event) (e : Event) → xs ≡ e ∷ ys → length xs ≤ 4 → length ys ≤ 4
+less_most xs ys e same most = let few = one_less xs ys e same most in omega (arith, few)
+
+-- behind the last that is laid out three are left: they wait, or the output has stopped
+pub short_held : (b : Bool) (xs : List Event) → (b && is_ready xs) ≡ false → (b ≡ false → length xs ≤ 3) → length xs ≤ 3
+short_held true xs h s = few_short xs h
+short_held false xs h s = s refl
+
+in_seats : Count → Seat → yaml_event_body_t → yaml_event_body_t → yaml_event_body_t → yaml_event_body_t → Held
+in_seats k s a b c d = record { count = k; oldest = s; first = a; second = b; third = c; fourth = d }
+
+front_left : (k : Count) (s : Seat) (a b c d x : yaml_event_body_t) → is_ready (held_events (in_seats k s a b c d)) ≡ true
+    → let m = seated s x (in_seats k s a b c d) in
+    held_events (in_seats k s a b c d) ≡ oldest_event (in_seats k s a b c d) ∷ held_events (record m { oldest = next m.oldest; count = less m.count })
+unfolding is_ready in_seats
+front_left Nothing s a b c d x r = absurd (cc)
+front_left k First a b c d x r = refl
+front_left k Second a b c d x r = refl
+front_left k Third a b c d x r = refl
+front_left k Fourth a b c d x r = refl
+
+-- the oldest is gone, whatever stands in its seat
+pub left_behind : (old mid : Held) (k : Count) (s : Seat) → mid ≡ seated old.oldest (stands old.oldest mid) old → s ≡ next mid.oldest → k ≡ less mid.count
+    → is_ready (held_events old) ≡ true → held_events old ≡ oldest_event old ∷ held_events (record mid { oldest = s; count = k })
+unfolding in_seats
+left_behind old mid k s m e n r =
+    let P : Held → Type 0 = λ z. held_events old ≡ oldest_event old ∷ held_events (record z { oldest = next z.oldest; count = less z.count }) in
+    let Q : Seat → Type 0 = λ z. held_events old ≡ oldest_event old ∷ held_events (record mid { oldest = z; count = less mid.count }) in
+    let R : Count → Type 0 = λ z. held_events old ≡ oldest_event old ∷ held_events (record mid { oldest = s; count = z }) in
+    subst R (sym n) (subst Q (sym e) (subst P (sym m) (front_left old.count old.oldest old.first old.second old.third old.fourth (stands old.oldest mid) r)))

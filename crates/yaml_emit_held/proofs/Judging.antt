@@ -1,0 +1,376 @@
+-- An event that is laid out is judged, and what follows is judged and written as before.
+use Rattle.std.proofs.Common.{◌≡◌, ℕ, ◌+◌, List, [], ◌∷◌, ◌++◌, length, Bool, true, false, refl, sym, subst, ◌∙◌, ap, arith, Option, Some, None, length-append}
+use Rattle.std.specs.Prelude.{not, nat_le, ◌||◌, ◌&&◌}
+use Rattle.std.proofs.lemmas.Bool.Decides.{nat_tests}
+use Rattle.yaml_parse_model.specs.Events.{TagDirective}
+use Rattle.yaml_emit_text.specs.declared.Cursor.{Cursor}
+use Rattle.yaml_emit_text.specs.declared.Settings.{Settings}
+use Rattle.yaml_emit_text.specs.declared.Status.{Status}
+use Rattle.yaml_emit_text.specs.declared.Status.TheVariants.{Going, Full, Deep, Starved}
+use Rattle.yaml_emit_text.specs.Text.{Item}
+use Rattle.yaml_emit_text.specs.Layout.{Layout, Rest, nothing_more}
+use Rattle.yaml_emit_text.specs.Sink.{Ends, Puts}
+use Rattle.yaml_emit_text.proofs.Sinks.{ends_other, status_cases}
+use Rattle.yaml_emit_layout.specs.declared.Problem.{Problem}
+use Rattle.yaml_emit_layout.specs.declared.Level.{Level}
+use Rattle.yaml_emit_layout.specs.declared.Phase.{Phase}
+use Rattle.yaml_emit_layout.specs.declared.Phase.TheVariants.{Items, Keys, Value}
+use Rattle.yaml_emit_layout.specs.declared.Expected.{Expected}
+use Rattle.yaml_emit_layout.specs.declared.Expected.TheVariants as at
+use Rattle.yaml_emit_layout.specs.Content.{Event, no_event, stream_start, stream_end, document_start, document_end, alias, scalar, sequence_start, sequence_end, mapping_start, mapping_end}
+use Rattle.yaml_emit_layout.specs.Grammar.{or_else, ends_phase, begins_node, may_come, node_problem, place_problem, problem_by, event_problem, last_problem}
+use Rattle.yaml_emit_layout.specs.Nodes.{Context, context_of}
+use Rattle.yaml_emit_layout.specs.State.{State, piece, next, next_at, problem_at, opens_empty, begins_by, is_sequence_end, is_mapping_end, top_of, outer_of, place_at, among, levels_behind, phase_behind}
+use Rattle.yaml_emit_state.specs.declared.Core.{Core}
+use Rattle.yaml_emit_state.specs.Steps.{state_of, settings_of, next_state, next_piece, LaysOut, takes_memory, may_note, goes_on}
+use Rattle.yaml_emit_state.specs.Finish.{Finishes}
+use Rattle.yaml_emit_state.proofs.Finishing.{finishes_on}
+use Rattle.yaml_emit_state.proofs.Noting.{neither, notes_both, notes_within}
+use Rattle.yaml_emit_held.specs.Held.{is_ready, needs, closes, passes, opens_level, ends_level}
+use Rattle.yaml_emit_held.specs.Judged.{Due, item_due, key_due, Progress, progress_after, inside, behind_node, outer_due, phase_due, level_due, problem_in, let_out, first_refusal, unless, laid, refused_at, due_in, due_of, shape_of, refusal_from, text_from, refusal_behind, LetsOut, take_memory}
+use Rattle.yaml_emit_held.specs.Laying.{LaysEvents}
+use Rattle.yaml_emit_held.proofs.Opening.{opens_none}
+use Rattle.yaml_emit_held.proofs.Holding.{ready_empty, none_needed}
+
+-- ---- what is ready stays so
+
+or_right : (a b : Bool) → b ≡ true → (a || b) ≡ true
+or_right true b h = refl
+or_right false b h = h
+
+or_more : (a c b d : Bool) → (a ≡ true → c ≡ true) → (b ≡ true → d ≡ true) → (a || b) ≡ true → (c || d) ≡ true
+or_more true c b d f g h = ap (λ z. z || d) (f refl)
+or_more false c b d f g h = or_right c d (g h)
+
+and_more : (a b d : Bool) → (b ≡ true → d ≡ true) → (a && b) ≡ true → (a && d) ≡ true
+and_more true b d f h = f h
+and_more false b d f h = h
+
+closes_more : (es more : List Event) → closes es ≡ true → closes (es ++ more) ≡ true
+closes_more [] more h = absurd (cc)
+closes_more (e ∷ es) more h = or_more (ends_level e) (ends_level e) (not (opens_level e) && closes es) (not (opens_level e) && closes (es ++ more)) (λ k. k) (and_more (not (opens_level e)) (closes es) (closes (es ++ more)) (closes_more es more)) h
+
+le_longer : (n a b : ℕ) → nat_le n a ≡ true → nat_le n (a + b) ≡ true
+le_longer n a b h = grind (arith, nat_tests)
+
+longer : (n : ℕ) (es more : List Event) → nat_le n (length es) ≡ true → nat_le n (length (es ++ more)) ≡ true
+longer n es more h = ap (nat_le n) (length-append es more) ∙ le_longer n (length es) (length more) h
+
+pub ready_more : (e : Event) (es more : List Event) → is_ready (e ∷ es) ≡ true → is_ready (e ∷ (es ++ more)) ≡ true
+unfolding is_ready
+ready_more e es more h = or_more (nat_le (needs e) (length es)) (nat_le (needs e) (length (es ++ more))) (closes es) (closes (es ++ more)) (longer (needs e) es more) (closes_more es more) h
+
+-- ---- the grammar looks at the shape alone
+
+same_ends : (p : Phase) (e : Event) → ends_phase p e ≡ ends_phase (phase_due (due_in p)) e
+same_ends (Items fresh) e = refl
+same_ends (Keys fresh) e = refl
+same_ends (Value simple) e = refl
+
+same_may : (ls : List Level) (e : Event) → may_come (top_of ls) e ≡ may_come (level_due (due_of ls)) e
+same_may [] e = refl
+same_may (l ∷ ls) e = ap (λ z. begins_node e || z) (same_ends l.phase e)
+
+same_node : (ls : List Level) (e : Event) → node_problem (top_of ls) e ≡ node_problem (level_due (due_of ls)) e
+same_node ls e = rw (same_may ls e) refl
+
+same_place : (p : Expected) (ls : List Level) (e : Event) → place_problem p (top_of ls) e ≡ place_problem p (level_due (due_of ls)) e
+unfolding place_problem
+same_place at.StreamStart ls e = refl
+same_place (at.Documents first unended) ls e = refl
+same_place at.Node ls e = same_node ls e
+same_place at.DocumentEnd ls e = refl
+same_place at.End ls e = refl
+same_place (at.Refused p) ls e = refl
+
+pub same_problem : (s : Settings) (st : State) (e : Event) → problem_at s st e ≡ problem_in s.canonical (shape_of st) e
+unfolding problem_by
+same_problem s st e = ap (λ z. or_else (event_problem s.canonical e) (or_else z (last_problem e))) (same_place st.place st.levels e)
+
+among_shape : (g : List TagDirective) (ls : List Level) → shape_of (among g ls) ≡ inside (due_of ls)
+among_shape g [] = refl
+among_shape g (l ∷ ls) = refl
+
+due_behind : (p : Phase) (simple : Bool) (ds : List Due) → due_in (phase_behind p simple) ∷ ds ≡ behind_node (due_in p ∷ ds)
+unfolding phase_behind
+due_behind (Items fresh) simple ds = refl
+due_behind (Keys fresh) simple ds = refl
+due_behind (Value was) simple ds = refl
+
+dues_behind : (ls : List Level) (simple : Bool) → due_of (levels_behind ls simple) ≡ behind_node (due_of ls)
+dues_behind [] simple = refl
+dues_behind (l ∷ ls) simple = due_behind l.phase simple (due_of ls)
+
+dues_outer : (ls : List Level) → due_of (outer_of ls) ≡ outer_due (due_of ls)
+dues_outer [] = refl
+dues_outer (l ∷ ls) = refl
+
+shape_at : (p : Context) (place : Expected) (ls : List Level) (e : Event) (empty : Bool) (d : Cursor) → shape_of (next_at p place ls e empty d) ≡ progress_after (record { place = place; due = due_of ls }) e
+unfolding next_at progress_after
+shape_at p place ls no_event empty d = refl
+shape_at p place ls (stream_start x) empty d = refl
+shape_at p place ls stream_end empty d = refl
+shape_at p place ls (document_start o) empty d = refl
+shape_at p place ls (document_end implicit) empty d = refl
+shape_at p place ls (alias name) empty d = among_shape p.directives (levels_behind ls _) ∙ ap inside (dues_behind ls _)
+shape_at p place ls (scalar v) empty d = among_shape p.directives (levels_behind ls _) ∙ ap inside (dues_behind ls _)
+shape_at p place ls (sequence_start q) empty d = ap (λ z. inside (item_due ∷ z)) (dues_behind ls _)
+shape_at p place ls (mapping_start q) empty d = ap (λ z. inside (key_due ∷ z)) (dues_behind ls _)
+shape_at p place ls sequence_end empty d = among_shape p.directives (outer_of ls) ∙ ap inside (dues_outer ls)
+shape_at p place ls mapping_end empty d = among_shape p.directives (outer_of ls) ∙ ap inside (dues_outer ls)
+
+pub shape_next : (s : Settings) (st : State) (e : Event) (empty : Bool) (d : Cursor) → shape_of (next s st e empty d) ≡ progress_after (shape_of st) e
+shape_next s st e empty d = shape_at (context_of s st.directives) st.place st.levels e empty d
+
+-- ---- behind an event in its right place nothing is refused
+
+place_open : (l : Option Level) → refused_at (place_at l) ≡ None
+place_open None = refl
+place_open (Some l) = refl
+
+open_at : (p : Context) (place : Expected) (ls : List Level) (e : Event) (empty : Bool) (d : Cursor) → refused_at place ≡ None → refused_at (next_at p place ls e empty d).place ≡ None
+unfolding next_at
+open_at p place ls no_event empty d h = h
+open_at p place ls (stream_start x) empty d h = refl
+open_at p place ls stream_end empty d h = refl
+open_at p place ls (document_start o) empty d h = refl
+open_at p place ls (document_end implicit) empty d h = refl
+open_at p place ls (alias name) empty d h = place_open (top_of (levels_behind ls _))
+open_at p place ls (scalar v) empty d h = place_open (top_of (levels_behind ls _))
+open_at p place ls (sequence_start q) empty d h = refl
+open_at p place ls (mapping_start q) empty d h = refl
+open_at p place ls sequence_end empty d h = place_open (top_of (outer_of ls))
+open_at p place ls mapping_end empty d h = place_open (top_of (outer_of ls))
+
+open_next : (s : Settings) (st : State) (e : Event) (empty : Bool) (d : Cursor) → refused_at st.place ≡ None → refused_at (next s st e empty d).place ≡ None
+open_next s st e empty d h = open_at (context_of s st.directives) st.place st.levels e empty d h
+
+pub going_open : (s : Status) (p : Expected) → goes_on s p ≡ true → refused_at p ≡ None
+going_open s at.StreamStart h = refl
+going_open s (at.Documents first unended) h = refl
+going_open s at.Node h = refl
+going_open s at.DocumentEnd h = refl
+going_open s at.End h = refl
+going_open s (at.Refused p) h = absurd (cc)
+
+-- ---- the first refusal
+
+pub or_none : (p q : Option Problem) → p ≡ None → or_else p q ≡ q
+or_none None q e = refl
+or_none (Some x) q e = absurd (cc)
+
+pub or_some : (p q : Option Problem) (x : Problem) → p ≡ Some x → or_else p q ≡ Some x
+or_some None q x e = absurd (cc)
+or_some (Some y) q x e = e
+
+first_out : (e : Event) (es : List Event) → is_ready (e ∷ es) ≡ true → let_out (e ∷ es) ≡ e ∷ let_out es
+unfolding let_out
+first_out e es r = rw r refl
+
+first_step : (canonical : Bool) (h : Progress) (e : Event) (es : List Event) → is_ready (e ∷ es) ≡ true → first_refusal canonical h (let_out (e ∷ es)) ≡ or_else (problem_in canonical h e) (first_refusal canonical (progress_after h e) (let_out es))
+unfolding first_refusal
+first_step canonical h e es r = ap (first_refusal canonical h) (first_out e es r)
+
+refusal_step : (s : Settings) (st new : State) (e : Event) (empty : Bool) (d : Cursor) (es : List Event) (p : Option Problem) → p ≡ problem_at s st e → refused_at st.place ≡ None → is_ready (e ∷ es) ≡ true
+    → new ≡ next_state p st (next s st e empty d) → refusal_from s.canonical new es ≡ refusal_from s.canonical st (e ∷ es)
+refusal_step s st new e empty d es None pe o r same =
+    let right : problem_in s.canonical (shape_of st) e ≡ None = sym (same_problem s st e) ∙ sym pe in
+    let front : refusal_from s.canonical st (e ∷ es) ≡ first_refusal s.canonical (progress_after (shape_of st) e) (let_out es) =
+    or_none (refused_at st.place) _ o ∙ (first_step s.canonical (shape_of st) e es r ∙ or_none _ _ right) in
+    let back : refusal_from s.canonical (next s st e empty d) es ≡ first_refusal s.canonical (progress_after (shape_of st) e) (let_out es) =
+    or_none _ _ (open_next s st e empty d o) ∙ ap (λ z. first_refusal s.canonical z (let_out es)) (shape_next s st e empty d) in
+    ap (λ z. refusal_from s.canonical z es) same ∙ (back ∙ sym front)
+refusal_step s st new e empty d es (Some x) pe o r same =
+    let wrong : problem_in s.canonical (shape_of st) e ≡ Some x = sym (same_problem s st e) ∙ sym pe in
+    let front : refusal_from s.canonical st (e ∷ es) ≡ Some x =
+    or_none (refused_at st.place) _ o ∙ (first_step s.canonical (shape_of st) e es r ∙ or_some _ _ x wrong) in
+    ap (λ z. refusal_from s.canonical z es) same ∙ sym front
+
+-- ---- what is written
+
+pub unless_none : (p : Option Problem) (a : Layout) (c : Cursor) (rest : Rest) → p ≡ None → unless p a c rest ≡ a c rest
+unless_none None a c rest e = refl
+unless_none (Some x) a c rest e = absurd (cc)
+
+pub unless_some : (p : Option Problem) (x : Problem) (a : Layout) (c : Cursor) (rest : Rest) → p ≡ Some x → unless p a c rest ≡ rest c
+unless_some None x a c rest e = absurd (cc)
+unless_some (Some y) x a c rest e = refl
+
+held_none : (f : Event) (es : List Event) → is_ready (f ∷ es) ≡ false → let_out (f ∷ es) ≡ []
+unfolding let_out
+held_none f es r = rw r refl
+
+out_begins : (p : Event → Bool) (b : Bool) (f : Event) (es : List Event) → is_ready (f ∷ es) ≡ b → (b ≡ false → p f ≡ false) → begins_by p (let_out (f ∷ es)) ≡ p f
+out_begins p true f es r n = ap (begins_by p) (first_out f es r)
+out_begins p false f es r n = ap (begins_by p) (held_none f es r) ∙ sym (n refl)
+
+-- an end is never held
+end_sequence : (f : Event) (es : List Event) → is_ready (f ∷ es) ≡ false → is_sequence_end f ≡ false
+end_sequence sequence_end es r = let k = none_needed sequence_end es refl in absurd (cc)
+end_sequence f es r = refl
+
+end_mapping : (f : Event) (es : List Event) → is_ready (f ∷ es) ≡ false → is_mapping_end f ≡ false
+end_mapping mapping_end es r = let k = none_needed mapping_end es refl in absurd (cc)
+end_mapping f es r = refl
+
+sequence_begins : (es : List Event) → begins_by is_sequence_end (let_out es) ≡ begins_by is_sequence_end es
+unfolding let_out
+sequence_begins [] = refl
+sequence_begins (f ∷ es) = out_begins is_sequence_end (is_ready (f ∷ es)) f es refl (end_sequence f es)
+
+mapping_begins : (es : List Event) → begins_by is_mapping_end (let_out es) ≡ begins_by is_mapping_end es
+unfolding let_out
+mapping_begins [] = refl
+mapping_begins (f ∷ es) = out_begins is_mapping_end (is_ready (f ∷ es)) f es refl (end_mapping f es)
+
+empty_out : (e : Event) (es : List Event) → opens_empty e (let_out es) ≡ opens_empty e es
+unfolding opens_empty
+empty_out (sequence_start p) es = sequence_begins es
+empty_out (mapping_start p) es = mapping_begins es
+empty_out no_event es = refl
+empty_out (stream_start x) es = refl
+empty_out stream_end es = refl
+empty_out (document_start o) es = refl
+empty_out (document_end implicit) es = refl
+empty_out (alias name) es = refl
+empty_out (scalar x) es = refl
+empty_out sequence_end es = refl
+empty_out mapping_end es = refl
+
+-- what comes of a list behind its first event
+behind : Settings → State → Event → Bool → List Event → Rest → Rest
+behind s st e empty es rest d = laid s (next s st e empty d) es d rest
+
+laid_right : (s : Settings) (st : State) (e : Event) (es : List Event) (c : Cursor) (rest : Rest) → problem_at s st e ≡ None → laid s st (e ∷ es) c rest ≡ piece s st e (opens_empty e es) c (behind s st e (opens_empty e es) es rest)
+unfolding laid behind
+laid_right s st e es c rest p = unless_none (problem_at s st e) _ c rest p
+
+text_right : (s : Settings) (st : State) (e : Event) (es : List Event) (c : Cursor) (rest : Rest) → refused_at st.place ≡ None → is_ready (e ∷ es) ≡ true → problem_at s st e ≡ None
+    → text_from s st (e ∷ es) c rest ≡ piece s st e (opens_empty e es) c (behind s st e (opens_empty e es) (let_out es) rest)
+text_right s st e es c rest o r p =
+    unless_none (refused_at st.place) _ c rest o
+    ∙ (ap (λ z. laid s st z c rest) (first_out e es r)
+    ∙ (laid_right s st e (let_out es) c rest p ∙ ap (λ b. piece s st e b c (behind s st e b (let_out es) rest)) (empty_out e es)))
+
+laid_wrong : (s : Settings) (st : State) (e : Event) (es : List Event) (c : Cursor) (rest : Rest) (x : Problem) → problem_at s st e ≡ Some x → laid s st (e ∷ es) c rest ≡ rest c
+unfolding laid
+laid_wrong s st e es c rest x p = unless_some (problem_at s st e) x _ c rest p
+
+text_wrong : (s : Settings) (st : State) (e : Event) (es : List Event) (c : Cursor) (rest : Rest) (x : Problem) → refused_at st.place ≡ None → is_ready (e ∷ es) ≡ true → problem_at s st e ≡ Some x
+    → text_from s st (e ∷ es) c rest ≡ rest c
+text_wrong s st e es c rest x o r p =
+    unless_none (refused_at st.place) _ c rest o ∙ (ap (λ z. laid s st z c rest) (first_out e es r) ∙ laid_wrong s st e (let_out es) c rest x p)
+
+same_settings : (old new : Core) → new.settings ≡ old.settings → new.sink.encoding ≡ old.sink.encoding → settings_of new ≡ settings_of old
+same_settings old new e x = rw (e, x) refl
+
+-- what an event that was laid out has done, by what was wrong with it
+record Done (old new : Core) (e : Event) (empty : Bool) (p : Option Problem) : Type 0 where
+  problem : problem_at (settings_of old) (state_of old) e ≡ p
+  settings : settings_of new ≡ settings_of old
+  state : new.sink.status ≡ Going → state_of new ≡ next_state p (state_of old) (next (settings_of old) (state_of old) e empty new.sink.cursor)
+  text : Puts old.sink new.sink (next_piece p (piece (settings_of old) (state_of old) e empty))
+
+done : (old new : Core) (e : Event) (empty : Bool) → LaysOut old new e empty → Done old new e empty (problem_at (settings_of old) (state_of old) e)
+done old new e empty l = record { problem = refl; settings = same_settings old new l.settings l.text.encoding; state = l.state; text = l.text }
+
+text_step : (p : Option Problem) (old new : Core) (e : Event) (es : List Event) (whole : List Item) → refused_at old.place ≡ None → is_ready (e ∷ es) ≡ true → Done old new e (opens_empty e es) p → LetsOut (settings_of old) (state_of old) old.sink (e ∷ es) whole → LetsOut (settings_of new) (state_of new) new.sink es whole
+unfolding LetsOut behind
+text_step None old new e es whole o r l h =
+    let s : Settings = settings_of old in
+    let st : State = state_of old in
+    let P : List Item → Type 0 = λ t. Ends old.sink t whole in
+    let front = subst P (text_right s st e es old.sink.cursor nothing_more o r l.problem) h in
+    let back : Ends new.sink (behind s st e (opens_empty e es) (let_out es) nothing_more new.sink.cursor) whole = l.text.ends (behind s st e (opens_empty e es) (let_out es) nothing_more) whole front in
+    status_cases new.sink.status
+    (λ g.
+    let at : State = next s st e (opens_empty e es) new.sink.cursor in
+    let same : text_from s at es new.sink.cursor nothing_more ≡ behind s st e (opens_empty e es) (let_out es) nothing_more new.sink.cursor = unless_none _ _ _ _ (open_next s st e (opens_empty e es) new.sink.cursor o) in
+    let Q : List Item → Type 0 = λ t. Ends new.sink t whole in
+    let R : State → Type 0 = λ z. Ends new.sink (text_from s z es new.sink.cursor nothing_more) whole in
+    let S : Settings → Type 0 = λ z. Ends new.sink (text_from z (state_of new) es new.sink.cursor nothing_more) whole in
+    subst S (sym l.settings) (subst R (sym (l.state g)) (subst Q (sym same) back)))
+    (λ n. ends_other new.sink _ _ whole n back)
+text_step (Some x) old new e es whole o r l h =
+    let s : Settings = settings_of old in
+    let st : State = state_of old in
+    let P : List Item → Type 0 = λ t. Ends old.sink t whole in
+    let front = subst P (text_wrong s st e es old.sink.cursor nothing_more x o r l.problem) h in
+    let back : Ends new.sink [] whole = l.text.ends nothing_more whole front in
+    status_cases new.sink.status
+    (λ g.
+    let R : State → Type 0 = λ z. Ends new.sink (text_from (settings_of new) z es new.sink.cursor nothing_more) whole in
+    subst R (sym (l.state g)) back)
+    (λ n. ends_other new.sink _ _ whole n back)
+
+-- ---- one event after another
+
+pub lays_none : (a : Core) (h : List Event) → LaysEvents a h a h
+lays_none a h = record {
+  finishes = λ es whole f. f;
+  refuses = λ g es. refl;
+  lets_out = λ es whole f. f;
+  going = λ g. g;
+  encoding = refl;
+  limit = refl;
+  memory = λ n. refl;
+  left = λ n. n;
+}
+
+refusal_on : (b c : Core) (e : Event) (es : List Event) (empty : Bool) → refused_at b.place ≡ None → is_ready (e ∷ es) ≡ true → LaysOut b c e empty → c.sink.status ≡ Going → refusal_behind (settings_of c) (state_of c) es ≡ refusal_behind (settings_of b) (state_of b) (e ∷ es)
+unfolding refusal_behind
+refusal_on b c e es empty o r l g =
+    ap (λ (z : Settings). refusal_from z.canonical (state_of c) es) (same_settings b c l.settings l.text.encoding)
+    ∙ refusal_step (settings_of b) (state_of b) (state_of c) e empty c.sink.cursor es (problem_at (settings_of b) (state_of b) e) refl o r (l.state g)
+
+-- no event of a list takes memory outside the output
+none_takes : (e : Event) (es : List Event) → take_memory (e ∷ es) ≡ false → (takes_memory e ≡ false) × (take_memory es ≡ false)
+none_takes e es h = neither (takes_memory e) (take_memory es) h
+
+pub lays_more : (a b c : Core) (h x y : List Event) (e : Event) (empty : Bool) → LaysEvents a h b x → x ≡ e ∷ y → goes_on b.sink.status b.place ≡ true → is_ready x ≡ true → empty ≡ opens_empty e y → LaysOut b c e empty → LaysEvents a h c y
+lays_more a b c h x y e empty p same goes r is l =
+    let Q : List Event → Type 0 = λ z. is_ready z ≡ true in
+    let r' : is_ready (e ∷ y) ≡ true = subst Q same r in
+    let o : refused_at b.place ≡ None = going_open b.sink.status b.place goes in
+    record {
+      finishes = λ es whole f.
+          let P : List Event → Type 0 = λ z. Finishes (settings_of b) (state_of b) b.sink (z ++ es) whole in
+          let R : Bool → Type 0 = λ v. LaysOut b c e v in
+          finishes_on b c e (y ++ es) whole (subst R (is ∙ sym (ready_empty e y es r')) l) (subst P same (p.finishes es whole f));
+      refuses = λ g es.
+          refusal_on b c e (y ++ es) empty o (ready_more e y es r') l g
+          ∙ (ap (λ z. refusal_behind (settings_of b) (state_of b) (z ++ es)) (sym same) ∙ p.refuses (l.text.going g) es);
+      lets_out = λ es whole f.
+          let P : List Event → Type 0 = λ z. LetsOut (settings_of b) (state_of b) b.sink (z ++ es) whole in
+          let R : Bool → Type 0 = λ v. LaysOut b c e v in
+          let l' : LaysOut b c e (opens_empty e (y ++ es)) = subst R (is ∙ sym (ready_empty e y es r')) l in
+          text_step (problem_at (settings_of b) (state_of b) e) b c e (y ++ es) whole o (ready_more e y es r') (done b c e _ l') (subst P same (p.lets_out es whole f));
+      going = λ g. p.going (l.text.going g);
+      encoding = l.text.encoding ∙ p.encoding;
+      limit = l.text.limit ∙ p.limit;
+      memory = λ n.
+          let k = notes_both (take_memory h) _ _ _ p.going l.text.going n in
+          l.memory (notes_within (take_memory h) (takes_memory e) _ _ (λ z. (none_takes e y (sym (ap take_memory same) ∙ p.left z)).0) k.1) ∙ p.memory k.0;
+      left = λ z. (none_takes e y (sym (ap take_memory same) ∙ p.left z)).1;
+    }
+
+-- an event that isn't held
+pub lays_past : (a c : Core) (h : List Event) (e : Event) → goes_on a.sink.status a.place ≡ true → passes h e ≡ true → LaysOut a c e false → LaysEvents a (h ++ e ∷ []) c h
+lays_past a c [] e g p l = lays_more a a c (e ∷ []) (e ∷ []) [] e false (lays_none a (e ∷ [])) refl g p (sym (opens_none e)) l
+lays_past a c (f ∷ fs) e g p l = absurd (cc)
+
+-- ---- memory
+
+going_notes : (takes : Bool) (a b : Status) → b ≡ Going → may_note takes a b ≡ false
+going_notes false a b g = refl
+going_notes true Going Going g = refl
+going_notes true Going Full g = absurd (cc)
+going_notes true Going Deep g = absurd (cc)
+going_notes true Going Starved g = absurd (cc)
+going_notes true Full b g = refl
+going_notes true Deep b g = refl
+going_notes true Starved b g = refl
+
+-- while the output goes on, none was refused outside it
+pub lays_unnoted : (old new : Core) (before after : List Event) → LaysEvents old before new after → (old.sink.status ≡ Going → old.starved ≡ false) → new.sink.status ≡ Going → new.starved ≡ false
+lays_unnoted old new before after j n g = j.memory (going_notes _ old.sink.status new.sink.status g) ∙ n (j.going g)

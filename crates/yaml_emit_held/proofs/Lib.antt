@@ -1,0 +1,3 @@
+pub mod Opening
+pub mod Holding
+pub mod Judging

@@ -1,0 +1,138 @@
+-- The events that are held.
+use Rattle.std.specs.Prelude.{ℕ, Bool, true, false, not, ◌&&◌, ◌||◌, nat_le, List, [], ◌∷◌, length, map, All}
+use Rattle.yaml_parse_model.specs.declared.yaml_event_body_t.{yaml_event_body_t}
+use Rattle.yaml_parse_model.specs.Events.{EventBody, body_of}
+use Rattle.yaml_parse_model.specs.Constructors.{HasUtf8}
+use Rattle.yaml_emit_layout.specs.Content.{Event, no_event, stream_start, stream_end, document_start, document_end, alias, scalar, sequence_start, sequence_end, mapping_start, mapping_end, emitter_event}
+use Rattle.yaml_emit_held.specs.declared.held.Held.{Held}
+use Rattle.yaml_emit_held.specs.declared.held.Count.{Count}
+use Rattle.yaml_emit_held.specs.declared.held.Count.TheVariants.{Nothing, One, Two, Three, Four}
+use Rattle.yaml_emit_held.specs.declared.held.Seat.{Seat}
+use Rattle.yaml_emit_held.specs.declared.held.Seat.TheVariants.{First, Second, Third, Fourth}
+
+-- the seat behind it, in a circle
+abbrev pub next : Seat → Seat
+next First = Second
+next Second = Third
+next Third = Fourth
+next Fourth = First
+
+-- the seat so many behind it
+abbrev pub behind : Seat → Count → Seat
+behind s Nothing = s
+behind s One = next s
+behind s Two = next (next s)
+behind s Three = next (next (next s))
+behind s Four = s
+
+-- what stands in a seat
+abbrev pub stands : Seat → Held → yaml_event_body_t
+stands First h = h.first
+stands Second h = h.second
+stands Third h = h.third
+stands Fourth h = h.fourth
+
+-- the same, with that event in that seat
+abbrev pub seated : Seat → yaml_event_body_t → Held → Held
+seated First e h = record h { first = e }
+seated Second e h = record h { second = e }
+seated Third e h = record h { third = e }
+seated Fourth e h = record h { fourth = e }
+
+-- the front of four
+abbrev pub front : Count → EventBody → EventBody → EventBody → EventBody → List EventBody
+front Nothing a b c d = []
+front One a b c d = a ∷ []
+front Two a b c d = a ∷ b ∷ []
+front Three a b c d = a ∷ b ∷ c ∷ []
+front Four a b c d = a ∷ b ∷ c ∷ d ∷ []
+
+-- that event as contracts see it
+abbrev pub body_in : Seat → Held → EventBody
+body_in s h = body_of (stands s h)
+
+-- the oldest first
+abbrev pub held_bodies : Held → List EventBody
+held_bodies h = front h.count (body_in h.oldest h) (body_in (next h.oldest) h)
+    (body_in (next (next h.oldest)) h) (body_in (next (next (next h.oldest))) h)
+
+abbrev pub held_events : Held → List Event
+held_events h = map emitter_event (held_bodies h)
+
+-- the event in the oldest's seat
+abbrev pub oldest_event : Held → Event
+oldest_event h = emitter_event (body_in h.oldest h)
+
+abbrev pub later : List Event → List Event
+later [] = []
+later (e ∷ es) = es
+
+-- those behind the oldest
+abbrev pub later_events : Held → List Event
+later_events h = later (held_events h)
+
+-- their texts are UTF-8
+abbrev pub HeldUtf8 : Held → Type 0
+HeldUtf8 h = All HasUtf8 (held_bodies h)
+
+abbrev pub more : Count → Count
+more Nothing = One
+more One = Two
+more Two = Three
+more Three = Four
+more Four = Four
+
+abbrev pub less : Count → Count
+less Nothing = Nothing
+less One = Nothing
+less Two = One
+less Three = Two
+less Four = Three
+
+-- it opens a level
+abbrev pub opens_level : Event → Bool
+opens_level (stream_start x) = true
+opens_level (document_start o) = true
+opens_level (sequence_start p) = true
+opens_level (mapping_start p) = true
+opens_level e = false
+
+-- it ends one
+abbrev pub ends_level : Event → Bool
+ends_level stream_end = true
+ends_level (document_end implicit) = true
+ends_level sequence_end = true
+ends_level mapping_end = true
+ends_level e = false
+
+-- a level is ended before another is opened
+abbrev pub closes : List Event → Bool
+closes [] = false
+closes (e ∷ es) = ends_level e || (not (opens_level e) && closes es)
+
+-- how many events an event needs behind it
+abbrev pub needs : Event → ℕ
+needs (document_start o) = 1
+needs (sequence_start p) = 2
+needs (mapping_start p) = 3
+needs no_event = 0
+needs (stream_start x) = 0
+needs stream_end = 0
+needs (document_end implicit) = 0
+needs (alias name) = 0
+needs (scalar x) = 0
+needs sequence_end = 0
+needs mapping_end = 0
+
+abbrev pub has_enough : Event → List Event → Bool
+has_enough e es = nat_le (needs e) (length es) || closes es
+
+-- An event is held until 1 follows what opens a document, 2 what opens a sequence, 3 what opens a mapping, or its level is ended.
+unfoldable pub is_ready : List Event → Bool
+is_ready [] = false
+is_ready (e ∷ es) = has_enough e es
+
+-- nothing is held, and the event needs nothing behind it
+abbrev pub passes : List Event → Event → Bool
+passes [] e = is_ready (e ∷ [])
+passes (f ∷ fs) e = false

@@ -1,0 +1,30 @@
+-- What laying out what is held does to the state that lays it out: the clauses of private calls alone cite it.
+use Rattle.std.specs.Prelude.{◌≡◌, false, List, ◌++◌}
+use Rattle.yaml_emit_text.specs.declared.Status.TheVariants.{Going}
+use Rattle.yaml_emit_text.specs.Text.{Item}
+use Rattle.yaml_emit_layout.specs.Content.{Event}
+use Rattle.yaml_emit_state.specs.declared.Core.{Core}
+use Rattle.yaml_emit_state.specs.Steps.{state_of, settings_of, Notes}
+use Rattle.yaml_emit_state.specs.Finish.{Finishes}
+use Rattle.yaml_emit_held.specs.Judged.{refusal_behind, LetsOut, take_memory}
+
+-- Of the events `before` those of `after` are left, and the others were laid out. Whatever follows: the whole text is the same,
+-- the same event is refused, unless the output has stopped, and the same is written.
+pub record LaysEvents (old : Core) (before : List Event) (new : Core)
+    (after : List Event) : Type 0 where
+  pub finishes : (es : List Event) (whole : List Item)
+      → Finishes (settings_of old) (state_of old) old.sink (before ++ es) whole
+      → Finishes (settings_of new) (state_of new) new.sink (after ++ es) whole
+  pub refuses : new.sink.status ≡ Going → (es : List Event)
+      → refusal_behind (settings_of new) (state_of new) (after ++ es)
+      ≡ refusal_behind (settings_of old) (state_of old) (before ++ es)
+  pub lets_out : (es : List Event) (whole : List Item)
+      → LetsOut (settings_of old) (state_of old) old.sink (before ++ es) whole
+      → LetsOut (settings_of new) (state_of new) new.sink (after ++ es) whole
+  -- an output that has stopped stays stopped
+  pub going : new.sink.status ≡ Going → old.sink.status ≡ Going
+  pub encoding : new.sink.encoding ≡ old.sink.encoding
+  pub limit : new.sink.limit ≡ old.sink.limit
+  -- that memory was refused outside the output is noted where this stops it, by an event that takes such memory
+  pub memory : Notes (take_memory before) old new
+  pub left : take_memory before ≡ false → take_memory after ≡ false

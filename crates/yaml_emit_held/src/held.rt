@@ -1,0 +1,298 @@
+//! The events that are held.
+
+ghost use Rattle.std.specs.Prelude.{◌≡◌, ◌<◌, ◌≤◌, ◌++◌, ◌∷◌, [], true, false, length};
+ghost use Rattle.yaml_parse_model.specs.Events.{body_of};
+ghost use Rattle.yaml_parse_model.specs.Constructors.{HasUtf8};
+ghost use Rattle.yaml_emit_layout.specs.Content.{emitter_event};
+ghost use Rattle.yaml_emit_layout.specs.State.{opens_empty, closes_by};
+ghost use Rattle.yaml_emit_state.specs.Steps.{LaysOut};
+
+use std::mem;
+use yaml_emit_state::Core;
+use yaml_parse_model::yaml_event_body_t;
+
+/// How many events are held.
+#[derive(Clone, Copy)]
+pub enum Count {
+    Nothing,
+    One,
+    Two,
+    Three,
+    Four,
+}
+
+/// A seat for an event. The four follow one another in a circle.
+#[derive(Clone, Copy)]
+pub enum Seat {
+    First,
+    Second,
+    Third,
+    Fourth,
+}
+
+/// Events in their seats, from the oldest one's on; what stands in the seats behind doesn't count. Four are held only while one
+/// is given.
+#[derive(Drop)]
+pub struct Held {
+    count: Count,
+    oldest: Seat,
+    first: yaml_event_body_t,
+    second: yaml_event_body_t,
+    third: yaml_event_body_t,
+    fourth: yaml_event_body_t,
+}
+
+impl Count {
+    ghost use Rattle.yaml_emit_held.specs.Held.{more, less};
+
+    // One more, of four at most.
+    fn more(self) -> Count
+        ensures { result ≡ more self }
+    {
+        match self {
+            Count::Nothing => Count::One,
+            Count::One => Count::Two,
+            Count::Two => Count::Three,
+            Count::Three => Count::Four,
+            Count::Four => Count::Four,
+        }
+    }
+
+    // One less, if there is one.
+    fn less(self) -> Count
+        ensures { result ≡ less self }
+    {
+        match self {
+            Count::Nothing => Count::Nothing,
+            Count::One => Count::Nothing,
+            Count::Two => Count::One,
+            Count::Three => Count::Two,
+            Count::Four => Count::Three,
+        }
+    }
+}
+
+impl Seat {
+    ghost use Rattle.yaml_emit_held.specs.Held.{next, behind};
+
+    // The seat behind it.
+    fn next(self) -> Seat
+        ensures { result ≡ next self }
+    {
+        match self {
+            Seat::First => Seat::Second,
+            Seat::Second => Seat::Third,
+            Seat::Third => Seat::Fourth,
+            Seat::Fourth => Seat::First,
+        }
+    }
+
+    // The seat so many behind it.
+    fn behind(self, count: Count) -> Seat
+        ensures { result ≡ behind self count }
+    {
+        match count {
+            Count::Nothing => self,
+            Count::One => self.next(),
+            Count::Two => self.next().next(),
+            Count::Three => self.next().next().next(),
+            Count::Four => self,
+        }
+    }
+}
+
+impl Held {
+    ghost use Rattle.yaml_emit_held.specs.Held.{held_bodies, held_events, oldest_event, later_events, HeldUtf8, stands, seated, is_ready, closes, needs, passes, opens_level, ends_level};
+
+    /// No event.
+    pub fn nothing() -> Held
+        ensures events { held_events result ≡ [] }
+        ensures utf8 { HeldUtf8 result }
+    {
+        Held {
+            count: Count::Nothing,
+            oldest: Seat::First,
+            first: yaml_event_body_t::No,
+            second: yaml_event_body_t::No,
+            third: yaml_event_body_t::No,
+            fourth: yaml_event_body_t::No,
+        }
+    }
+
+    fn opens_level(event: &yaml_event_body_t) -> bool
+        ensures { result ≡ opens_level (emitter_event (body_of event.now)) }
+    {
+        match event {
+            yaml_event_body_t::StreamStart { .. }
+            | yaml_event_body_t::DocumentStart { .. }
+            | yaml_event_body_t::SequenceStart { .. }
+            | yaml_event_body_t::MappingStart { .. } => true,
+            _ => false,
+        }
+    }
+
+    fn ends_level(event: &yaml_event_body_t) -> bool
+        ensures { result ≡ ends_level (emitter_event (body_of event.now)) }
+    {
+        match event {
+            yaml_event_body_t::StreamEnd
+            | yaml_event_body_t::DocumentEnd { .. }
+            | yaml_event_body_t::SequenceEnd
+            | yaml_event_body_t::MappingEnd => true,
+            _ => false,
+        }
+    }
+
+    // How many events an event needs behind it.
+    fn needs(event: &yaml_event_body_t) -> u64
+        ensures { result ≡ needs (emitter_event (body_of event.now)) }
+    {
+        match event {
+            yaml_event_body_t::DocumentStart { .. } => 1,
+            yaml_event_body_t::SequenceStart { .. } => 2,
+            yaml_event_body_t::MappingStart { .. } => 3,
+            _ => 0,
+        }
+    }
+
+    fn closes_by(first: &yaml_event_body_t, second: &yaml_event_body_t) -> bool
+        ensures { result ≡ closes_by (emitter_event (body_of first.now))
+            (emitter_event (body_of second.now)) }
+    {
+        match first {
+            yaml_event_body_t::SequenceStart { .. } => match second {
+                yaml_event_body_t::SequenceEnd => true,
+                _ => false,
+            },
+            yaml_event_body_t::MappingStart { .. } => match second {
+                yaml_event_body_t::MappingEnd => true,
+                _ => false,
+            },
+            _ => false,
+        }
+    }
+
+    // One event ends a level.
+    #[tactic(auto, using(crate::proofs::Holding::closes_last))]
+    fn closes_one(second: &yaml_event_body_t) -> bool
+        ensures { result ≡ closes (emitter_event (body_of second.now) ∷ []) }
+    {
+        Held::ends_level(second)
+    }
+
+    // One of two events ends a level before another is opened.
+    fn closes_two(second: &yaml_event_body_t, third: &yaml_event_body_t) -> bool
+        ensures { result ≡ closes (emitter_event (body_of second.now) ∷ emitter_event
+            (body_of third.now) ∷ []) }
+    {
+        Held::ends_level(second) || (!Held::opens_level(second) && Held::closes_one(third))
+    }
+
+    /// Whether an event that comes needn't be held: nothing is, and it needs nothing behind it.
+    #[tactic(auto, unfolding(crate::specs::Held::is_ready))]
+    pub fn passes(&self, event: &yaml_event_body_t) -> bool
+        ensures { result ≡ passes (held_events self.now) (emitter_event (body_of event.now)) }
+    {
+        match self.count {
+            Count::Nothing => Held::needs(event) == 0,
+            _ => false,
+        }
+    }
+
+    // What stands in that seat.
+    fn at(&self, seat: Seat) -> &yaml_event_body_t
+        ensures { result.now ≡ stands seat self.now }
+    {
+        match seat {
+            Seat::First => &self.first,
+            Seat::Second => &self.second,
+            Seat::Third => &self.third,
+            Seat::Fourth => &self.fourth,
+        }
+    }
+
+    // The event takes that seat.
+    fn sit(&mut self, seat: Seat, event: &mut yaml_event_body_t)
+        ensures { self.new ≡ seated seat event.old self.old }
+    {
+        match seat {
+            Seat::First => mem::swap(&mut self.first, event),
+            Seat::Second => mem::swap(&mut self.second, event),
+            Seat::Third => mem::swap(&mut self.third, event),
+            Seat::Fourth => mem::swap(&mut self.fourth, event),
+        }
+    }
+
+    // The event in that seat is laid out where it stands.
+    fn lay_out(&mut self, seat: Seat, core: &mut Core, empty: bool)
+        requires { HasUtf8 (body_of (stands seat self.old)) }
+        ensures laid { LaysOut core.old core.new (emitter_event (body_of (stands seat self.old)))
+            empty }
+        ensures others { self.new ≡ seated seat (stands seat self.new) self.old }
+    {
+        match seat {
+            Seat::First => core.lay_out(&mut self.first, empty),
+            Seat::Second => core.lay_out(&mut self.second, empty),
+            Seat::Third => core.lay_out(&mut self.third, empty),
+            Seat::Fourth => core.lay_out(&mut self.fourth, empty),
+        }
+    }
+
+    /// One more. What is left of the event counts for nothing.
+    pub fn push(&mut self, event: &mut yaml_event_body_t)
+        requires few { length (held_events self.old) < 4 }
+        requires utf8 { HeldUtf8 self.old × HasUtf8 (body_of event.old) }
+        ensures events { held_events self.new ≡ held_events self.old ++ emitter_event
+            (body_of event.old) ∷ [] }
+        ensures utf8 { HeldUtf8 self.new }
+    {
+        self.sit(self.oldest.behind(self.count), event);
+        self.count = self.count.more();
+    }
+
+    /// The oldest has what it needs.
+    #[tactic(auto, unfolding(crate::specs::Held::is_ready))]
+    pub fn is_ready(&self) -> bool
+        ensures { result ≡ is_ready (held_events self.now) }
+    {
+        let first = self.oldest;
+        let second = first.next();
+        match self.count {
+            Count::Nothing => false,
+            Count::One => Held::needs(self.at(first)) == 0,
+            Count::Two => Held::needs(self.at(first)) <= 1 || Held::closes_one(self.at(second)),
+            Count::Three => {
+                Held::needs(self.at(first)) <= 2
+                    || Held::closes_two(self.at(second), self.at(second.next()))
+            }
+            Count::Four => true,
+        }
+    }
+
+    // The oldest opens a collection that the next one closes.
+    #[tactic(auto, using(crate::proofs::Opening::opens_none, crate::proofs::Opening::opens_first))]
+    fn opens_empty(&self) -> bool
+        ensures { result ≡ opens_empty (oldest_event self.now) (later_events self.now) }
+    {
+        match self.count {
+            Count::Nothing | Count::One => false,
+            _ => Held::closes_by(self.at(self.oldest), self.at(self.oldest.next())),
+        }
+    }
+
+    /// Lays out the oldest, which isn't held then.
+    #[tactic(auto, unfolding(crate::specs::Held::is_ready))]
+    pub fn lay_oldest(&mut self, core: &mut Core)
+        requires ready { is_ready (held_events self.old) ≡ true }
+        requires utf8 { HeldUtf8 self.old }
+        ensures events { held_events self.old ≡ oldest_event self.old ∷ held_events self.new }
+        ensures utf8 { HeldUtf8 self.new }
+        ensures laid { LaysOut core.old core.new (oldest_event self.old)
+            (opens_empty (oldest_event self.old) (held_events self.new)) }
+    {
+        let empty = self.opens_empty();
+        self.lay_out(self.oldest, core, empty);
+        self.oldest = self.oldest.next();
+        self.count = self.count.less();
+    }
+}

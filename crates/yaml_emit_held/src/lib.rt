@@ -1,0 +1,8 @@
+//! Events that an emitter holds, since what follows decides how they are laid out.
+#![tactic(auto)]
+
+mod held;
+mod release;
+
+pub use held::Held;
+pub use release::give;

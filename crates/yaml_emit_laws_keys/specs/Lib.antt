@@ -1,3 +1,0 @@
-pub mod Laws
--- what it stands on, for crates of laws that name this one alone
-pub use Rattle.yaml_emit_laws_quoted.specs as emit_laws_quoted

@@ -1,0 +1,9 @@
+pub mod Grammatical
+pub mod Ending
+pub mod Viewing
+pub mod Emitting
+pub mod Within
+pub mod Taking
+pub mod Verdicts
+pub mod Dumped
+pub mod Opened

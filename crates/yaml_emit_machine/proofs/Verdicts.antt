@@ -1,0 +1,132 @@
+-- What an emitter tells.
+use Rattle.std.proofs.Common.{◌≡◌, ℕ, List, [], ◌∷◌, ◌++◌, Bool, true, false, refl, sym, subst, ◌∙◌, ap, arith, Option, Some, None, append-nil, option_map}
+use Rattle.yaml_emit_text.specs.declared.Cursor.{Cursor}
+use Rattle.yaml_emit_text.specs.declared.Encoding.{Encoding}
+use Rattle.yaml_emit_text.specs.declared.Settings.{Settings}
+use Rattle.yaml_emit_text.specs.declared.Status.{Status}
+use Rattle.yaml_emit_text.specs.declared.Status.TheVariants.{Going, Full, Deep, Starved}
+use Rattle.yaml_emit_text.specs.Text.{Item, encode, is_deep}
+use Rattle.yaml_emit_text.specs.Layout.{Rest, nothing_more}
+use Rattle.yaml_emit_text.specs.Sink.{Output, Ends, EndsBy}
+use Rattle.yaml_emit_layout.specs.declared.Problem.{Problem}
+use Rattle.yaml_emit_layout.specs.declared.Expected.{Expected}
+use Rattle.yaml_emit_layout.specs.declared.Expected.TheVariants as at
+use Rattle.yaml_emit_layout.specs.Content.{Event}
+use Rattle.yaml_emit_layout.specs.Grammar.{or_else}
+use Rattle.yaml_emit_layout.specs.State.{State}
+use Rattle.yaml_emit_state.specs.Steps.{goes_on}
+use Rattle.yaml_emit_held.specs.Held.{held_events, is_ready}
+use Rattle.yaml_emit_machine.specs.declared.emitter.yaml_emitter_t.TheInside.{Inside}
+use Rattle.yaml_emit_held.specs.Judged.{Progress, let_out, first_refusal, unless, laid, refused_at, refusal_behind, LetsOut}
+use Rattle.yaml_emit_machine.specs.Emitter.{Emitter, fault_by, problem_fault}
+use Rattle.yaml_emit_machine.specs.Views.{emitter_of, IsEmitter}
+use Rattle.yaml_emit_machine.specs.Verdict.{verdict_by, verdict, IsLetOut, WritesBy, Writes, HasLetOut, TellsOutcome}
+
+let_out_by : (s : Status) (limit : ℕ) (x : Encoding) (bytes : List ℕ) (text whole : List Item) → (s ≡ Going → text ≡ []) → EndsBy s limit x bytes text whole → HasLetOut s limit bytes (encode x whole) (is_deep whole)
+unfolding encode is_deep
+let_out_by Going limit x bytes text whole n h =
+    let P : List Item → Type 0 = λ t. EndsBy Going limit x bytes t whole in
+    let k : EndsBy Going limit x bytes [] whole = subst P (n refl) h in
+    (sym (k.0 ∙ append-nil bytes), (k.1.0, k.1.1))
+let_out_by Full limit x bytes text whole n h = h
+let_out_by Deep limit x bytes text whole n h = h
+let_out_by Starved limit x bytes text whole n h = h
+
+ends_let_out : (o : Output) (text whole : List Item) → (o.status ≡ Going → text ≡ []) → Ends o text whole → HasLetOut o.status o.limit o.bytes (encode o.encoding whole) (is_deep whole)
+unfolding Ends
+ends_let_out o text whole n h = let_out_by o.status o.limit o.encoding o.bytes text whole n h
+
+held_stays : (es : List Event) → is_ready es ≡ false → let_out es ≡ []
+unfolding let_out
+held_stays [] r = refl
+held_stays (e ∷ es) r = rw r refl
+
+held_unjudged : (canonical : Bool) (h : Progress) (es : List Event) → is_ready es ≡ false → first_refusal canonical h (let_out es) ≡ None
+unfolding first_refusal
+held_unjudged canonical h es r = ap (first_refusal canonical h) (held_stays es r)
+
+held_unwritten : (s : Settings) (st : State) (es : List Event) (c : Cursor) (rest : Rest) → is_ready es ≡ false → laid s st (let_out es) c rest ≡ rest c
+unfolding laid
+held_unwritten s st es c rest r = ap (λ z. laid s st z c rest) (held_stays es r)
+
+-- nothing is to come behind a refusal, and what is held isn't let out
+refusal_now : (p : Option Problem) (canonical : Bool) (h : Progress) (es : List Event) → (p ≡ None → is_ready es ≡ false) → p ≡ or_else p (first_refusal canonical h (let_out es))
+refusal_now None canonical h es w = sym (held_unjudged canonical h es (w refl))
+refusal_now (Some x) canonical h es w = refl
+
+text_now : (p : Option Problem) (s : Settings) (st : State) (es : List Event) (c : Cursor) → (p ≡ None → is_ready es ≡ false) → unless p (laid s st (let_out es)) c nothing_more ≡ []
+text_now None s st es c w = held_unwritten s st es c nothing_more (w refl)
+text_now (Some x) s st es c w = refl
+
+open_goes : (s : Status) (p : Expected) → s ≡ Going → refused_at p ≡ None → goes_on s p ≡ true
+open_goes Going at.StreamStart g h = refl
+open_goes Going (at.Documents first unended) g h = refl
+open_goes Going at.Node g h = refl
+open_goes Going at.DocumentEnd g h = refl
+open_goes Going at.End g h = refl
+open_goes Going (at.Refused p) g h = absurd (cc)
+open_goes Full p g h = absurd (cc)
+open_goes Deep p g h = absurd (cc)
+open_goes Starved p g h = absurd (cc)
+
+fault_now : (s : Status) (b : Bool) (p q : Option Problem) → (s ≡ Going → p ≡ q) → fault_by s b p ≡ fault_by s b q
+fault_now Going b p q h = ap (option_map problem_fault) (h refl)
+fault_now Full b p q h = refl
+fault_now Deep b p q h = refl
+fault_now Starved b p q h = refl
+
+waits_now : (i : Inside) → IsEmitter i → i.core.sink.status ≡ Going → refused_at i.core.place ≡ None → is_ready (held_events i.held ++ []) ≡ false
+waits_now i inv g o = ap is_ready (append-nil (held_events i.held)) ∙ inv.few (open_goes i.core.sink.status i.core.place g o)
+
+verdict_now : (i : Inside) → IsEmitter i → i.fresh ≡ false → i.core.sink.status ≡ Going → refused_at i.core.place ≡ verdict (emitter_of i) []
+unfolding verdict refusal_behind
+verdict_now i inv fr g =
+    refusal_now (refused_at i.core.place) _ _ (held_events i.held ++ []) (waits_now i inv g) ∙ sym (ap (λ z. verdict_by z (emitter_of i) []) fr)
+
+output_now : (i : Inside) (x : Encoding) (whole : List Item) → IsEmitter i → i.fresh ≡ false → Writes (emitter_of i) x [] whole → HasLetOut i.core.sink.status i.core.sink.limit i.core.sink.bytes (encode x whole) (is_deep whole)
+unfolding Writes LetsOut
+output_now i x whole inv fr h =
+    let P : Bool → Type 0 = λ z. WritesBy z (emitter_of i) x [] whole in
+    let k = subst P fr h in
+    let R : Encoding → Type 0 = λ z. HasLetOut i.core.sink.status i.core.sink.limit i.core.sink.bytes (encode z whole) (is_deep whole) in
+    subst R k.0 (ends_let_out i.core.sink _ whole (λ g. text_now (refused_at i.core.place) _ _ (held_events i.held ++ []) _ (waits_now i inv g)) k.1)
+
+first_verdict : (e : Emitter) → e.fresh ≡ true → None ≡ verdict e []
+unfolding verdict first_refusal let_out
+first_verdict e fr = sym (ap (λ z. verdict_by z e []) fr)
+
+first_output : (e : Emitter) (x : Encoding) (whole : List Item) → e.fresh ≡ true → e.output ≡ [] → e.status ≡ Going → Writes e x [] whole → HasLetOut e.status e.limit e.output (encode x whole) (is_deep whole)
+unfolding Writes laid let_out encode is_deep
+first_output e x whole fr b g h =
+    let P : Bool → Type 0 = λ z. WritesBy z e x [] whole in
+    let k : IsLetOut e.requested_settings x [] whole = subst P fr h in
+    let S : Status → Type 0 = λ z. HasLetOut z e.limit e.output (encode x whole) (is_deep whole) in
+    let W : List Item → Type 0 = λ t. HasLetOut Going e.limit e.output (encode x t) (is_deep t) in
+    subst S (sym g) (subst W (sym k.is) (b, (rw b (omega arith), refl)))
+
+none_refused : (s : Status) (b : Bool) (p : Option Problem) → s ≡ Going → None ≡ fault_by s b p → p ≡ None
+none_refused Going b None g h = refl
+none_refused Going b (Some x) g h = absurd (cc)
+none_refused Full b p g h = absurd (cc)
+none_refused Deep b p g h = absurd (cc)
+none_refused Starved b p g h = absurd (cc)
+
+fresh_refused : (i : Inside) → IsEmitter i → i.fresh ≡ true → refused_at i.core.place ≡ None
+fresh_refused i inv fr = let k = inv.begun fr in none_refused i.core.sink.status i.core.starved (refused_at i.core.place) k.1.1.1 (sym k.1.0 ∙ inv.faulty)
+
+tells_by : (b : Bool) (i : Inside) → b ≡ i.fresh → IsEmitter i → TellsOutcome (emitter_of i)
+tells_by true i fr inv =
+    let begun = inv.begun (sym fr) in
+    record {
+      fault = inv.faulty ∙ fault_now i.core.sink.status i.core.starved _ _ (λ g. fresh_refused i inv (sym fr) ∙ first_verdict (emitter_of i) (sym fr));
+      output = λ x whole h. first_output (emitter_of i) x whole (sym fr) begun.1.1.0 begun.1.1.1 h;
+      memory = inv.memory;
+    }
+tells_by false i fr inv = record {
+  fault = inv.faulty ∙ fault_now i.core.sink.status i.core.starved _ _ (verdict_now i inv (sym fr));
+  output = λ x whole h. output_now i x whole inv (sym fr) h;
+  memory = inv.memory;
+}
+
+pub inside_tells : (i : Inside) → IsEmitter i → TellsOutcome (emitter_of i)
+inside_tells i inv = tells_by i.fresh i refl inv

@@ -1,0 +1,21 @@
+use Rattle.std.proofs.Common.{Option, subst}
+use Rattle.std.specs.Prelude.{Ok}
+use Rattle.yaml_parse_model.specs.declared.yaml_event_body_t.{yaml_event_body_t}
+use Rattle.yaml_emit_graph.specs.Events.{GivesGraphEvent}
+use Rattle.yaml_emit_machine.proofs.Dumped.{takes_next, one_less_left}
+use Rattle.yaml_emit_machine.proofs.emitter.yaml_emitter_t.dump_next.Goals as goal
+
+pub returns-in-Ok-Some : goal.returns-in-Ok-Some
+returns-in-Ok-Some c =
+    let P : Option yaml_event_body_t → Type 0 = λ z. GivesGraphEvent c.args.document.now c.args.events.now (Ok z) c.next.new.self in
+    let g = subst P c.in-Ok-Some.field-0-is c.in-Ok-Some.ensures in
+    record {
+      takes = takes_next _ _ _ _ _ _ g.0 c.dump_event.ensures.takes;
+      memory = c.dump_event.ensures.memory;
+      keeps = c.dump_event.ensures.keeps;
+      walk = λ going. g.2;
+      less = λ going. one_less_left _ _ _ g.0;
+    }
+
+pub returns-in-Err-clause-takes : goal.returns-in-Err-clause-takes
+returns-in-Err-clause-takes c = c.starve.ensures.takes _

@@ -1,0 +1,29 @@
+use Rattle.std.proofs.Common.{None, refl, ◌∙◌}
+use Rattle.yaml_parse_model.specs.Events.{body_of}
+use Rattle.yaml_emit_layout.specs.Content.{emitter_event}
+use Rattle.yaml_emit_held.proofs.Judging.{lays_unnoted}
+use Rattle.yaml_emit_machine.proofs.Taking.{inside_takes, inside_notes, inside_going}
+use Rattle.yaml_emit_machine.proofs.emitter.yaml_emitter_t.lay.Goals as goal
+
+pub invariant_of-self : goal.invariant_of-self
+invariant_of-self c =
+    let fr = rw (← c.self.view_is) at c.requires.begun in
+    record {
+      faulty = c.note.ensures;
+      few = c.give.ensures.waits;
+      short = c.give.ensures.short;
+      texts = c.give.ensures.utf8;
+      begun = λ f. absurd (cc);
+      limited = c.give.ensures.lays.limit ∙ c.self.invariant.limited;
+      running = c.self.invariant.running;
+      memory = lays_unnoted _ _ _ _ c.give.ensures.lays c.self.invariant.memory;
+    }
+
+pub returns-clause-takes : goal.returns-clause-takes
+returns-clause-takes c =
+    let fr = rw (← c.self.view_is) at c.requires.begun in
+    let none = rw (← c.self.view_is) at c.requires.right in
+    rw (← c.self.view_is) (inside_takes c.self.inside c.give.new.core c.self.inside.held c.give.new.held _ _ fr (inside_going c.self.inside c.self.invariant none) refl c.give.ensures.lays)
+
+pub returns-clause-memory : goal.returns-clause-memory
+returns-clause-memory c = rw (← c.self.view_is) (inside_notes c.self.inside c.give.new.core c.self.inside.held c.give.new.held None (emitter_event (body_of c.args.event.now)) refl c.give.ensures.lays)

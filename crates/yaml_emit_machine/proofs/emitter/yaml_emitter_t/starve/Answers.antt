@@ -1,0 +1,27 @@
+use Rattle.std.proofs.Common.{◌∙◌, None}
+use Rattle.yaml_emit_text.specs.Layout.{stay}
+use Rattle.yaml_emit_machine.proofs.Emitting.{goes_going}
+use Rattle.yaml_emit_machine.proofs.Dumped.{inside_starves, inside_starves_notes}
+use Rattle.yaml_emit_machine.proofs.emitter.yaml_emitter_t.starve.Goals as goal
+
+pub invariant_of-self : goal.invariant_of-self
+invariant_of-self c =
+    let fr = rw (← c.self.view_is) at c.requires.begun in
+    record {
+      faulty = c.refusal-self-inside.ensures;
+      few = λ g. absurd (c.starve.ensures.stopped (goes_going _ _ g));
+      short = c.self.invariant.short;
+      texts = c.self.invariant.texts;
+      begun = λ f. absurd (cc);
+      limited = (c.starve.ensures.text stay).limit ∙ c.self.invariant.limited;
+      running = c.self.invariant.running;
+      memory = λ g. absurd (c.starve.ensures.stopped g);
+    }
+
+pub returns-clause-takes : goal.returns-clause-takes
+returns-clause-takes c = λ es.
+    let fr = rw (← c.self.view_is) at c.requires.begun in
+    rw (← c.self.view_is) (inside_starves c.self.inside c.starve.new.self _ es fr c.starve.ensures)
+
+pub returns-clause-memory : goal.returns-clause-memory
+returns-clause-memory c = rw (← c.self.view_is) (inside_starves_notes c.self.inside c.starve.new.self None c.starve.ensures)

@@ -1,0 +1,28 @@
+-- How far a dump has opened the stream.
+use Rattle.std.specs.Prelude.{◌≡◌, true, false, List, [], ◌∷◌, None}
+use Rattle.yaml_scan_model.specs.declared.yaml_encoding_t.TheVariants.{YAML_ANY_ENCODING}
+use Rattle.yaml_emit_text.specs.declared.Encoding.{Encoding}
+use Rattle.yaml_emit_text.specs.Text.{Item}
+use Rattle.yaml_emit_layout.specs.Content.{Event, stream_start}
+use Rattle.yaml_emit_machine.specs.Emitter.{Emitter}
+use Rattle.yaml_emit_machine.specs.Within.{Fits}
+use Rattle.yaml_emit_machine.specs.Verdict.{verdict, Writes}
+use Rattle.yaml_emit_machine.specs.Taking.{TakesEvents, NotesMemoryOf}
+
+-- An event is right behind what was given: no event is refused that is let out with it, and what is written then passes no limit.
+pub record IsRightNext (e : Emitter) (event : Event) : Type 0 where
+  pub refused : verdict e (event ∷ []) ≡ None
+  pub within : (x : Encoding) (whole : List Item) → Writes e x (event ∷ []) whole
+      → Fits e.limit x whole
+
+-- the start of a stream that a dump opens
+abbrev pub opening_event : Event
+opening_event = stream_start YAML_ANY_ENCODING
+
+-- How far a dump has opened the stream, a refused one too. One that was open stays so; one that wasn't is open exactly where its
+-- start was right: where it isn't, the start was taken, and nothing else.
+pub record OpensStream (old new : Emitter) : Type 0 where
+  pub kept : old.opened ≡ true → new.opened ≡ true
+  pub right : old.opened ≡ false → new.opened ≡ true → IsRightNext old opening_event
+  pub alone : old.fault ≡ None → new.opened ≡ false → TakesEvents old (opening_event ∷ []) new []
+  pub memory : old.fault ≡ None → new.opened ≡ false → NotesMemoryOf opening_event old new

@@ -1,0 +1,51 @@
+-- What becomes of the events that an emitter is given.
+use Rattle.std.specs.Prelude.{◌≡◌, Bool, true, false, List, [], ◌∷◌, ◌++◌, None}
+use Rattle.yaml_emit_text.specs.declared.Encoding.{Encoding}
+use Rattle.yaml_emit_text.specs.declared.Status.TheVariants.{Going}
+use Rattle.yaml_emit_text.specs.Text.{Item}
+use Rattle.yaml_emit_layout.specs.Content.{Event}
+use Rattle.yaml_emit_state.specs.Steps.{may_note}
+use Rattle.yaml_emit_held.specs.Judged.{take_memory}
+use Rattle.yaml_emit_machine.specs.Emitter.{Emitter, Completes, Keeps}
+use Rattle.yaml_emit_machine.specs.Verdict.{verdict, Writes}
+
+-- Of the events `es` that were to come those of `left` are still to come, and the others were taken. Whatever follows, they count:
+-- the whole text is the same, the same event is refused, unless the output has stopped, and the same is written.
+pub record TakesEvents (old : Emitter) (es : List Event) (new : Emitter)
+    (left : List Event) : Type 0 where
+  pub completes : (x : Encoding) (more : List Event) (whole : List Item)
+      → Completes old x (es ++ more) whole → Completes new x (left ++ more) whole
+  pub refuses : new.status ≡ Going → (more : List Event)
+      → verdict new (left ++ more) ≡ verdict old (es ++ more)
+  pub writes : (x : Encoding) (more : List Event) (whole : List Item)
+      → Writes old x (es ++ more) whole → Writes new x (left ++ more) whole
+  -- an output that has stopped stays stopped
+  pub going : new.status ≡ Going → old.status ≡ Going
+  pub requested_settings : new.requested_settings ≡ old.requested_settings
+  pub limit : new.limit ≡ old.limit
+  -- one that is still fresh has taken nothing
+  pub begun : new.fresh ≡ true → (old.fresh ≡ true) × (left ≡ es)
+
+-- What is given behind a refusal counts for nothing: with any events to come it is the same as with any others.
+abbrev pub Stuck : Emitter → Type 0
+Stuck e = (es left : List Event) → TakesEvents e es e left
+
+-- Between these two, that memory was refused outside the output is noted where this stops the output, and nowhere else; by
+-- whether what was laid out may take such memory.
+abbrev pub NotesMemory : Bool → Emitter → Emitter → Type 0
+NotesMemory takes old new = may_note takes old.status new.status ≡ false
+    → new.starved ≡ old.starved
+
+-- the same of an event that was given: those that were held, or it, may take such memory
+abbrev pub NotesMemoryOf : Event → Emitter → Emitter → Type 0
+NotesMemoryOf e old new = NotesMemory (take_memory (old.held ++ e ∷ [])) old new
+
+-- The settings came into force in front of the first event, which is still to come.
+pub record ComesIntoForce (old : Emitter) (e : Event) (new : Emitter) : Type 0 where
+  pub takes : TakesEvents old (e ∷ []) new (e ∷ [])
+  pub begun : new.fresh ≡ false
+  pub fault : new.fault ≡ None
+  pub status : new.status ≡ old.status
+  pub held : new.held ≡ old.held
+  pub starved : new.starved ≡ old.starved
+  pub keeps : Keeps old new

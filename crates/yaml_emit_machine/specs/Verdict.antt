@@ -1,0 +1,63 @@
+-- What an emitter refuses and has written, with the events that follow.
+use Rattle.std.specs.Prelude.{◌≡◌, ℕ, ◌≤◌, Bool, true, false, List, [], ◌∷◌, ◌++◌, length, Option}
+use Rattle.yaml_scan_model.specs.declared.yaml_encoding_t.TheVariants.{YAML_ANY_ENCODING}
+use Rattle.yaml_emit_text.specs.declared.Encoding.{Encoding}
+use Rattle.yaml_emit_text.specs.declared.Settings.{Settings}
+use Rattle.yaml_emit_text.specs.declared.Status.{Status}
+use Rattle.yaml_emit_text.specs.declared.Status.TheVariants.{Going, Full, Deep, Starved}
+use Rattle.yaml_emit_text.specs.declared.RequestedSettings.{RequestedSettings}
+use Rattle.yaml_emit_text.specs.Text.{Item, encode, is_deep}
+use Rattle.yaml_emit_text.specs.Layout.{written}
+use Rattle.yaml_emit_text.specs.Settings.{settled}
+use Rattle.yaml_emit_layout.specs.declared.Problem.{Problem}
+use Rattle.yaml_emit_layout.specs.declared.Expected.TheVariants as at
+use Rattle.yaml_emit_layout.specs.Content.{Event}
+use Rattle.yaml_emit_layout.specs.State.{placed}
+use Rattle.yaml_emit_held.specs.Judged.{first_progress, let_out, first_refusal, laid, refusal_behind, LetsOut}
+use Rattle.yaml_emit_machine.specs.Emitter.{Emitter, text_of, stream_encoding, fault_by, HasWritten}
+
+abbrev pub verdict_by : Bool → Emitter → List Event → Option Problem
+verdict_by true e es = first_refusal e.requested_settings.canonical first_progress (let_out es)
+verdict_by false e es = refusal_behind e.settings e.state (e.held ++ es)
+
+-- The problem of the first event that is refused, among those that are let out once these are given too.
+unfoldable pub verdict : Emitter → List Event → Option Problem
+verdict e es = verdict_by e.fresh e es
+
+-- the settings in force from the first event on
+abbrev pub first_settings : RequestedSettings → List Event → Settings
+first_settings w [] = settled w YAML_ANY_ENCODING
+first_settings w (e ∷ es) = settled w (stream_encoding e)
+
+-- a fresh emitter's text, and its encoding
+pub record IsLetOut (w : RequestedSettings) (x : Encoding) (es : List Event)
+    (whole : List Item) : Type 0 where
+  pub coded : x ≡ (first_settings w es).encoding
+  pub is : whole ≡ written (laid (first_settings w es) (placed at.StreamStart) (let_out es))
+
+abbrev pub WritesBy : Bool → Emitter → Encoding → List Event → List Item → Type 0
+WritesBy true e x es whole = IsLetOut e.requested_settings x es whole
+WritesBy false e x es whole = (e.settings.encoding ≡ x)
+    × LetsOut e.settings e.state (text_of e) (e.held ++ es) whole
+
+-- Once these events are given too, `whole` is what is written, in that encoding: all events that are let out, up to the first
+-- one that is refused.
+unfoldable pub Writes : Emitter → Encoding → List Event → List Item → Type 0
+Writes e x es whole = WritesBy e.fresh e x es whole
+
+-- All of it is in the output, which passes no limit; or the output has stopped there.
+abbrev pub HasLetOut : Status → ℕ → List ℕ → List ℕ → Bool → Type 0
+HasLetOut Going limit output bytes deep = (output ≡ bytes)
+    × ((length output ≤ limit) × (deep ≡ false))
+HasLetOut Full limit output bytes deep = HasWritten Full limit output bytes deep
+HasLetOut Deep limit output bytes deep = HasWritten Deep limit output bytes deep
+HasLetOut Starved limit output bytes deep = HasWritten Starved limit output bytes deep
+
+-- The fault is that of the first refused event among those that were let out, or, once the output has stopped, that of what
+-- stopped it; the output has all that was let out, or stopped at a limit that this passes or for want of memory. While it goes
+-- on, no memory was refused outside it.
+pub record TellsOutcome (e : Emitter) : Type 0 where
+  pub fault : e.fault ≡ fault_by e.status e.starved (verdict e [])
+  pub output : (x : Encoding) (whole : List Item) → Writes e x [] whole
+      → HasLetOut e.status e.limit e.output (encode x whole) (is_deep whole)
+  pub memory : e.status ≡ Going → e.starved ≡ false

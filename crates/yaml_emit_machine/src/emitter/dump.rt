@@ -1,0 +1,92 @@
+//! The events of a document.
+
+ghost use Rattle.std.specs.Prelude.{◌≡◌, ◌<◌, ◌∷◌, [], List, length, true, false};
+ghost use Rattle.yaml_parse_model.specs.Events.{body_of};
+ghost use Rattle.yaml_parse_model.specs.Constructors.{HasUtf8};
+ghost use Rattle.yaml_emit_layout.specs.Content.{emitter_event, Event};
+ghost use Rattle.yaml_emit_graph.specs.Graph.{dumped};
+ghost use Rattle.yaml_emit_graph.specs.Events.{IsEvents, remaining_events};
+ghost use Rattle.yaml_emit_machine.specs.Emitter.{Keeps, left_if};
+ghost use Rattle.yaml_emit_machine.specs.Taking.{TakesEvents, NotesMemory};
+
+use super::{emit, yaml_emitter_t};
+use crate::fault::refusal;
+use std::alloc::AllocError;
+use yaml_emit_graph::Events;
+use yaml_parse_document::yaml_document_t;
+use yaml_parse_model::yaml_event_body_t;
+
+impl yaml_emitter_t {
+    // Memory was refused for the dump: what follows counts for nothing.
+    fn starve(&mut self, refused: AllocError)
+        requires begun { self.old.fresh ≡ false }
+        ensures takes { (es : List Event) → TakesEvents self.old es self.new [] }
+        ensures memory { NotesMemory true self.old self.new }
+        ensures keeps { Keeps self.old self.new }
+    {
+        self.core.starve(refused);
+        self.fault = refusal(&self.core);
+    }
+
+    // An event of the dump.
+    fn dump_event(&mut self, event: yaml_event_body_t) -> bool
+        requires utf8 { HasUtf8 (body_of event) }
+        requires begun { self.old.fresh ≡ false }
+        ensures takes { (es : List Event)
+            → TakesEvents self.old (emitter_event (body_of event) ∷ es) self.new
+            (left_if result es) }
+        ensures memory { NotesMemory true self.old self.new }
+        ensures keeps { Keeps self.old self.new }
+    {
+        match emit(self, event) {
+            Ok(()) => true,
+            Err(_) => false,
+        }
+    }
+
+    // Whether an event was written, and no fault has come.
+    fn dump_next(&mut self, events: &mut Events, document: &yaml_document_t) -> bool
+        requires walk { IsEvents document.now events.old }
+        requires begun { self.old.fresh ≡ false }
+        ensures takes { TakesEvents self.old (remaining_events document.now events.old) self.new
+            (left_if result (remaining_events document.now events.new)) }
+        ensures memory { NotesMemory true self.old self.new }
+        ensures keeps { Keeps self.old self.new }
+        ensures walk { result ≡ true → IsEvents document.now events.new }
+        ensures less { result ≡ true → length (remaining_events document.now events.new)
+            < length (remaining_events document.now events.old) }
+    {
+        match events.next(document) {
+            Ok(None) => false,
+            Ok(Some(event)) => self.dump_event(event),
+            Err(refused) => {
+                self.starve(refused);
+                false
+            }
+        }
+    }
+
+    fn dump_events(&mut self, events: Events, document: &yaml_document_t)
+        requires walk { IsEvents document.now events }
+        requires begun { self.old.fresh ≡ false }
+        ensures takes { TakesEvents self.old (remaining_events document.now events) self.new [] }
+        ensures memory { NotesMemory true self.old self.new }
+        ensures keeps { Keeps self.old self.new }
+    {
+        let mut events = events;
+        while self.dump_next(&mut events, document) {}
+    }
+}
+
+/// Takes the events of a document with a root.
+pub fn dump_document(emitter: &mut yaml_emitter_t, document: &yaml_document_t)
+    requires { emitter.old.opened ≡ true }
+    ensures takes { TakesEvents emitter.old (dumped document.now) emitter.new [] }
+    ensures memory { NotesMemory true emitter.old emitter.new }
+    ensures keeps { Keeps emitter.old emitter.new }
+{
+    match Events::of(emitter.alloc, document) {
+        Ok(events) => emitter.dump_events(events, document),
+        Err(refused) => emitter.starve(refused),
+    }
+}

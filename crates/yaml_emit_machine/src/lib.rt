@@ -1,0 +1,15 @@
+//! An emitter over what it holds: what a call takes, which fault it has, the events of a dump.
+#![tactic(auto)]
+
+mod emitter;
+mod fault;
+mod law;
+mod name;
+
+pub use emitter::{
+    answer, dump_document, emit, first_fault, give, give_over, into_output, is_closed, is_fresh,
+    is_opened, let_go, new_emitter, output, requested_settings, set_closed, set_opened,
+    set_requested_settings, yaml_emitter_t,
+};
+pub use law::streams_pass;
+pub use name::yaml_emitter_state_t;

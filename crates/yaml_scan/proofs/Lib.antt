@@ -1,28 +1,9 @@
-pub mod StandsLemmas
-pub mod QueueLemmas
-pub mod LevelsLemmas
-pub mod WordLemmas
-pub mod SafeLemmas
-pub mod ReadLemmas
-pub mod StepLemmas
-pub mod PassLemmas
-pub mod MarkLemmas
-pub mod NextLemmas
-pub mod KindLemmas
-pub mod PushLemmas
-pub mod SpellLemmas
-pub mod FrontLemmas
-pub mod GivenLemmas
-pub mod ComesLemmas
-pub mod TakeLemmas
-pub mod AheadLemmas
-pub mod LetterLemmas
-pub mod BoundLemmas
-pub mod IndicatorLemmas
+pub mod FoundLemmas
+pub mod SessionLemmas
 -- its helpers, for crates of laws that name the member alone
 pub use Rattle.yaml_scan_model.proofs as scan_model
-pub use Rattle.yaml_scan_words.proofs as scan_words
-pub use Rattle.yaml_scan_scalars.proofs as scan_scalars
-pub use Rattle.yaml_scan_block.proofs as scan_block
+pub use Rattle.yaml_scan_machine.proofs.scan_words as scan_words
+pub use Rattle.yaml_scan_machine.proofs.scan_scalars as scan_scalars
+pub use Rattle.yaml_scan_machine.proofs.scan_block as scan_block
 pub use Rattle.yaml_scan_decode.proofs as scan_decode
 pub use Rattle.yaml_scan_history.proofs as scan_history

@@ -2,22 +2,10 @@ pub use Rattle.yaml_scan_model.specs.Tokens
 pub use Rattle.yaml_scan_model.specs.Faults
 pub use Rattle.yaml_scan_model.specs.Classes
 pub use Rattle.yaml_scan_model.specs.Marks
-pub mod Line
-pub mod Queue
-pub mod Stands
-pub mod Rising
-pub mod Given
-pub mod Shows
-pub mod Front
-pub mod Fronted
-pub mod Reads
-pub mod Comes
-pub mod Answered
-pub mod Scanned
-pub mod State
-pub mod Stood
+pub mod Found
 pub mod Session
 pub mod SessionView
+pub use Rattle.yaml_scan_machine.specs.Scanned
 pub use Rattle.yaml_scan_history.specs.Remaining
 pub use Rattle.yaml_scan_decode.specs.Encodings
 pub use Rattle.yaml_scan_decode.specs.Offences
@@ -27,8 +15,8 @@ pub use Rattle.yaml_scan_decode.specs.Spelling
 pub use Rattle.yaml_scan_decode.specs.DecodedText
 -- its helpers, for crates of laws that name the member alone
 pub use Rattle.yaml_scan_model.specs as scan_model
-pub use Rattle.yaml_scan_words.specs as scan_words
-pub use Rattle.yaml_scan_scalars.specs as scan_scalars
-pub use Rattle.yaml_scan_block.specs as scan_block
+pub use Rattle.yaml_scan_machine.specs.scan_words as scan_words
+pub use Rattle.yaml_scan_machine.specs.scan_scalars as scan_scalars
+pub use Rattle.yaml_scan_machine.specs.scan_block as scan_block
 pub use Rattle.yaml_scan_decode.specs as scan_decode
 pub use Rattle.yaml_scan_history.specs as scan_history

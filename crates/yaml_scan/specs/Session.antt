@@ -6,7 +6,7 @@ use Rattle.yaml_scan_model.specs.declared.fault.yaml_fault_t.{yaml_fault_t}
 use Rattle.yaml_scan_model.specs.Tokens.{Token, token_of, no_token}
 use Rattle.yaml_scan_model.specs.Faults.{Fault, fault_of}
 use Rattle.yaml_scan_history.specs.Remaining.{Remaining, nothing}
-use Rattle.yaml_scan.specs.Scanned.{IsTold}
+use Rattle.yaml_scan_machine.specs.Scanned.{IsTold}
 
 -- the tokens that are still to come and the fault that ends them, whether the next token is known, the fault that was
 -- answered, and how many lexemes wait: they were read, and not all their tokens are taken
@@ -47,10 +47,6 @@ EndsAnswered v = (f : Fault) → v.answered ≡ Some f → v.remaining ≡ nothi
 abbrev pub FewWait : View → Type 0
 FewWait v = v.waiting ≤ 1025
 
--- all stays but the number of lexemes that wait
-abbrev pub IsSame : View → View → Type 0
-IsSame old new = new ≡ record old { waiting = new.waiting }
-
 -- the next token is known, or there is none
 abbrev pub IsKnown : View → Type 0
 IsKnown v = (v.ready ≡ true) ⊎ (v.remaining ≡ nothing)
@@ -81,16 +77,6 @@ pub record Lends (old : View) (t : Token) (new : View) : Type 0 where
   pub same : new.answered ≡ old.answered
   pub known : IsKnown new
   pub over : EndsAnswered old
-
--- what is to come stays, and the next token is known, or there is none
-pub record Stays (old new : View) : Type 0 where
-  pub all : new.remaining ≡ old.remaining
-  pub same : new.answered ≡ old.answered
-  pub known : IsKnown new
-
-abbrev pub Fills : View → View → Result Bool yaml_fault_t → Type 0
-Fills old new (Ok own) = Stays old new
-Fills old new (Err f) = Refuses old (fault_of f) new
 
 abbrev pub Scans : View → View → Result yaml_token_t yaml_fault_t → Type 0
 Scans old new (Ok token) = Takes old (token_of token) new

@@ -1,13 +1,14 @@
 -- What a clause sees of a session.
-use Rattle.std.specs.Prelude.{◌≡◌, ◌≤◌, length, Bool, true, false, ◌||◌, ◌∷◌, Option, Some, None, option_map}
+use Rattle.std.specs.Prelude.{ℕ, ◌≡◌, ◌≤◌, length, Bool, true, false, ◌||◌, ◌∷◌, Option, Some, None, option_map}
 use Rattle.yaml_scan_model.specs.declared.fault.yaml_fault_t.{yaml_fault_t}
+use Rattle.yaml_scan_model.specs.declared.token.yaml_token_t.{yaml_token_t}
+use Rattle.yaml_scan_machine.specs.declared.machine.Machine.{Machine}
 use Rattle.yaml_scan_model.specs.Tokens.{Token, token_of, no_token}
 use Rattle.yaml_scan_model.specs.Faults.{fault_of}
 use Rattle.yaml_scan_history.specs.Remaining.{Remaining, nothing}
-use Rattle.yaml_scan.specs.declared.ahead.Ahead.{Ahead}
 use Rattle.yaml_scan.specs.declared.session.yaml_parser_t.TheInside.{Inside}
-use Rattle.yaml_scan.specs.State.{IsMachine, is_ready}
-use Rattle.yaml_scan.specs.Scanned.{left_in}
+use Rattle.yaml_scan_machine.specs.State.{IsMachine, is_ready}
+use Rattle.yaml_scan_machine.specs.Scanned.{left_in}
 use Rattle.yaml_scan.specs.Session.{View}
 
 -- the token that was put aside, and then the others
@@ -24,31 +25,30 @@ abbrev pub ready_by : Option yaml_fault_t → Bool → Bool → Bool
 ready_by (Some f) holds ready = false
 ready_by None holds ready = holds || ready
 
-abbrev pub view_of : Ahead → View
-view_of s = record {
-  remaining = remaining_by s.fault s.holds (token_of s.shown) (left_in s.machine);
-  ready = ready_by s.fault s.holds (is_ready s.machine);
-  answered = option_map (λ f. fault_of f) s.fault;
-  waiting = length s.machine.waiting.items;
+-- a session's view, by the fault that was answered, whether a token was put aside, that token, what is still to come of
+-- the reader, whether it knows the next token, and how many lexemes wait
+abbrev pub view_by : Option yaml_fault_t → Bool → Token → Remaining → Bool → ℕ → View
+view_by fault holds t c ready n = record {
+  remaining = remaining_by fault holds t c;
+  ready = ready_by fault holds ready;
+  answered = option_map (λ f. fault_of f) fault;
+  waiting = n;
 }
 
-pub record IsAhead (s : Ahead) : Type 0 where
-  pub machine : s.fault ≡ None → IsMachine s.machine
-  pub over : (f : yaml_fault_t) → s.fault ≡ Some f → s.holds ≡ false
-  pub idle : s.holds ≡ false → token_of s.shown ≡ no_token
-  pub short : length s.machine.waiting.items ≤ 1025
+-- the same, by a session's parts
+abbrev pub view_of : Machine → Option yaml_fault_t → yaml_token_t → Bool → View
+view_of m fault shown holds = view_by fault holds (token_of shown) (left_in m) (is_ready m)
+    (length m.waiting.items)
 
--- the reader is to give the next token
-abbrev pub own_by : Option yaml_fault_t → Bool → Bool → Bool
-own_by (Some f) holds ready = false
-own_by None true ready = false
-own_by None false ready = ready
-
-abbrev pub is_own : Ahead → Bool
-is_own s = own_by s.fault s.holds (is_ready s.machine)
+pub record IsWhole (m : Machine) (fault : Option yaml_fault_t) (shown : yaml_token_t)
+    (holds : Bool) : Type 0 where
+  pub machine : fault ≡ None → IsMachine m
+  pub over : (f : yaml_fault_t) → fault ≡ Some f → holds ≡ false
+  pub idle : holds ≡ false → token_of shown ≡ no_token
+  pub short : length m.waiting.items ≤ 1025
 
 abbrev pub session_view : Inside → View
-session_view s = view_of s.ahead
+session_view s = view_of s.machine s.fault s.shown s.holds
 
 abbrev pub IsSession : Inside → Type 0
-IsSession s = IsAhead s.ahead
+IsSession s = IsWhole s.machine s.fault s.shown s.holds

@@ -1,15 +1,9 @@
 //! Decoding, tokens and their faults: libyaml's reader and scanner.
 #![tactic(auto)]
 
-mod ahead;
-mod levels;
-mod machine;
-mod next;
-mod queue;
+mod reading;
 mod session;
 mod step;
-mod waiting;
-mod word;
 
 pub use session::{
     yaml_parser_fault, yaml_parser_has_token, yaml_parser_peek, yaml_parser_scan,

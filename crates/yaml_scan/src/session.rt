@@ -1,24 +1,35 @@
 //! Tokens, one after another.
 
-ghost use Rattle.std.specs.Prelude.{◌≡◌, ⊤, option_map, [], true, false, None};
+ghost use Rattle.std.specs.Prelude.{◌≡◌, ⊤, option_map, [], true, false, Some, None};
 ghost use Rattle.std.specs.Borrow.{sem, follows_so};
 ghost use mir.Syntax.{named};
 ghost use mathlib.Core.Option.{none};
 ghost use Rattle.yaml_scan_model.specs.Tokens.{token_of};
 ghost use Rattle.yaml_scan_model.specs.Faults.{fault_of};
 ghost use Rattle.yaml_scan.specs.contracts.session.yaml_parser_t.{the_row};
-ghost use Rattle.yaml_scan.specs.Session.{HasFirst, Scans, ScansInto, Peeks, FewWait, behind_first};
-ghost use Rattle.yaml_scan.specs.Scanned.{scanned};
+ghost use Rattle.yaml_scan.specs.Session.{HasFirst, Scans, ScansInto, Looks, Peeks, FewWait, behind_first};
+ghost use Rattle.yaml_scan.specs.SessionView.{IsWhole, view_of};
+ghost use Rattle.yaml_scan_machine.specs.Scanned.{scanned};
 
-use crate::ahead::Ahead;
+use crate::reading::{Sought, next_into, put};
 use std::alloc::Global;
 use std::marker::Model;
-use yaml_scan_model::{yaml_encoding_t, yaml_fault_t, yaml_token_t};
+use std::mem;
+use yaml_scan_machine::Machine;
+use yaml_scan_model::{
+    yaml_encoding_t, yaml_fault_t, yaml_memory_fault, yaml_origin_t, yaml_token_t,
+};
 
 /// The tokens of an input that are still to come, and the fault that ends them. At most 1,025 lexemes that were read wait.
 #[derive(Drop)]
 pub struct yaml_parser_t<'a> {
-    ahead: Ahead<'a>,
+    /// What reads the input.
+    machine: Machine<'a>,
+    /// The fault that was answered: nothing comes behind it.
+    fault: Option<yaml_fault_t>,
+    /// What a peek lends: the next token where `holds`, else the empty one.
+    shown: yaml_token_t,
+    holds: bool,
 }
 
 impl<'a> Model for yaml_parser_t<'a> {
@@ -45,7 +56,10 @@ impl<'a> yaml_parser_t<'a> {
         } }
     {
         yaml_parser_t {
-            ahead: Ahead::new(alloc, input, encoding),
+            machine: Machine::new(alloc, input, encoding),
+            fault: None,
+            shown: yaml_token_t::empty(),
+            holds: false,
         }
     }
 }
@@ -59,7 +73,13 @@ pub fn yaml_parser_scan(parser: &mut yaml_parser_t) -> Result<yaml_token_t, yaml
     ensures scans { Scans parser.old parser.new result }
     ensures few { FewWait parser.new }
 {
-    parser.ahead.scan()
+    let mut token = yaml_token_t::empty();
+    let mut fault = yaml_memory_fault(yaml_origin_t::Scanner);
+    if yaml_parser_scan_into(parser, &mut token, &mut fault) {
+        return Ok(token);
+    }
+    drop(token);
+    Err(fault)
 }
 
 /// The next token in a slot that is lent (true), or the fault in the other one (false): what `yaml_parser_scan` answers,
@@ -73,7 +93,24 @@ pub fn yaml_parser_scan_into(
         (fault_of fault.new) }
     ensures few { FewWait parser.new }
 {
-    parser.ahead.scan_into(token, fault)
+    if parser.fault.is_some() {
+        put(token, yaml_token_t::empty());
+        return true;
+    }
+    if parser.holds {
+        parser.holds = false;
+        let shown = mem::replace(&mut parser.shown, yaml_token_t::empty());
+        put(token, shown);
+        return true;
+    }
+    match next_into(&mut parser.machine, token, fault) {
+        Sought::Known => true,
+        Sought::Nothing => true,
+        Sought::Refused => {
+            keep(&mut parser.fault, fault);
+            false
+        }
+    }
 }
 
 /// Lends the token that the next scan gives, and takes nothing. Refused as a scan is.
@@ -82,8 +119,45 @@ pub fn yaml_parser_peek<'p>(parser: &'p mut yaml_parser_t) -> Result<&'p yaml_to
         (the_row (record { mir = named 1; lft = [] })) parser.entry.ghost_name none (λ _ _. ⊤)
         (λ new. Peeks parser.old new result × FewWait new)) }
 {
-    parser.ahead.look()?;
-    Ok(&parser.ahead.shown)
+    put_aside(
+        &mut parser.machine,
+        &mut parser.fault,
+        &mut parser.shown,
+        &mut parser.holds,
+    )?;
+    Ok(&parser.shown)
+}
+
+/// Puts the next token aside, where there is one and none was.
+fn put_aside(
+    machine: &mut Machine,
+    kept: &mut Option<yaml_fault_t>,
+    shown: &mut yaml_token_t,
+    holds: &mut bool,
+) -> Result<(), yaml_fault_t>
+    requires { IsWhole machine.old kept.old shown.old holds.old }
+    ensures stands { IsWhole machine.new kept.new shown.new holds.new }
+    ensures looks { Looks (view_of machine.old kept.old shown.old holds.old)
+        (view_of machine.new kept.new shown.new holds.new) (token_of shown.new) result }
+{
+    if kept.is_some() {
+        return Ok(());
+    }
+    if *holds {
+        return Ok(());
+    }
+    let mut fault = yaml_memory_fault(yaml_origin_t::Scanner);
+    match next_into(machine, shown, &mut fault) {
+        Sought::Known => {
+            *holds = true;
+            Ok(())
+        }
+        Sought::Nothing => Ok(()),
+        Sought::Refused => {
+            keep(kept, &fault);
+            Err(fault)
+        }
+    }
 }
 
 /// Whether the next token is known: the next scan gives it, and a skip may drop it.
@@ -91,7 +165,13 @@ pub fn yaml_parser_has_token(parser: &yaml_parser_t) -> bool
     ensures ready { result ≡ parser.now.ready }
     ensures first { result ≡ true → HasFirst parser.now.remaining.tokens }
 {
-    parser.ahead.has_token()
+    if parser.fault.is_some() {
+        return false;
+    }
+    if parser.holds {
+        return true;
+    }
+    parser.machine.has_token()
 }
 
 /// Drops the next token, which `yaml_parser_has_token` has to know.
@@ -101,12 +181,26 @@ pub fn yaml_parser_skip(parser: &mut yaml_parser_t)
     ensures same { parser.new.answered ≡ parser.old.answered }
     ensures few { FewWait parser.new }
 {
-    parser.ahead.take();
+    if parser.holds {
+        parser.holds = false;
+        put(&mut parser.shown, yaml_token_t::empty());
+        return;
+    }
+    drop(parser.machine.take_token());
 }
 
 /// The fault that was answered, if one was.
 pub fn yaml_parser_fault<'p>(parser: &'p yaml_parser_t) -> Option<&'p yaml_fault_t>
     ensures { option_map (λ f. fault_of f.now) result ≡ parser.now.answered }
 {
-    parser.ahead.fault.as_ref()
+    parser.fault.as_ref()
+}
+
+/// Keeps a fault.
+// Out of line: in line the room of its copy would be set to zero for each token.
+#[inline(never)]
+fn keep(slot: &mut Option<yaml_fault_t>, fault: &yaml_fault_t)
+    ensures { slot.new ≡ Some fault.now }
+{
+    *slot = Some(*fault);
 }

@@ -1,0 +1,15 @@
+use Rattle.yaml_scan_model.specs.Faults.{fault_of}
+use Rattle.yaml_scan.proofs.FoundLemmas.{reads_behind}
+use Rattle.yaml_scan.proofs.reading.begin.Goals as goal
+
+pub fill-requires-clause-stands : goal.fill-requires-clause-stands
+fill-requires-clause-stands c = c.in-Ok.ensures.stands
+
+pub fill-requires-clause-started : goal.fill-requires-clause-started
+fill-requires-clause-started c = c.in-Ok.ensures.started
+
+pub returns-in-Ok : goal.returns-in-Ok
+returns-in-Ok c = reads_behind c.args.machine.now c.start.new.self c.fill.new.machine (fault_of c.fill.new.fault) c.fill.result c.in-Ok.ensures.left c.in-Ok.ensures.ready c.fill.ensures
+
+pub returns-in-Err : goal.returns-in-Err
+returns-in-Err c = record { sought = c.in-Err.ensures.sought; told = c.in-Err.ensures.told; few = c.in-Err.ensures.few }

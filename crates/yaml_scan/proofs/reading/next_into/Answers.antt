@@ -1,0 +1,25 @@
+use Rattle.std.proofs.Common.{subst, refl, ap, ◌∙◌}
+use Rattle.yaml_scan_history.specs.Remaining.{Remaining}
+use Rattle.yaml_scan_model.specs.declared.token.yaml_token_t.{yaml_token_t}
+use Rattle.yaml_scan_model.specs.Tokens.{token_of}
+use Rattle.yaml_scan_machine.specs.scan_laws_order.Fronts.{GivesFirst}
+use Rattle.yaml_scan_machine.specs.Scanned.{left_in}
+use Rattle.yaml_scan.proofs.reading.next_into.Goals as goal
+
+pub take_token_into-requires-clause-stands : goal.take_token_into-requires-clause-stands
+take_token_into-requires-clause-stands c = c.in-Known.ensures.stands
+
+pub take_token_into-requires-clause-ready : goal.take_token_into-requires-clause-ready
+take_token_into-requires-clause-ready c = c.in-Known.ensures.ready
+
+pub returns-in-Known : goal.returns-in-Known
+returns-in-Known c = record {
+  stands = c.take_token_into.ensures.stands;
+  first = subst (λ (r : Remaining). GivesFirst r (token_of c.take_token_into.new.slot) (left_in c.take_token_into.new.self)) c.in-Known.ensures.left c.take_token_into.ensures.gives;
+}
+
+pub returns-in-Nothing : goal.returns-in-Nothing
+returns-in-Nothing c = record { finishes = c.in-Nothing.ensures; empty = ap (λ (t : yaml_token_t). token_of t) c.put.ensures ∙ c.empty.ensures }
+
+pub returns-in-Refused : goal.returns-in-Refused
+returns-in-Refused c = record { denies = c.in-Refused.ensures; same = refl }

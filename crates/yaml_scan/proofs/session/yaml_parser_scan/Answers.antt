@@ -1,0 +1,12 @@
+use Rattle.yaml_scan_model.specs.Tokens.{token_of}
+use Rattle.yaml_scan_model.specs.Faults.{fault_of}
+use Rattle.yaml_scan.proofs.SessionLemmas.{scan_refuses}
+use Rattle.yaml_scan.proofs.session.yaml_parser_scan.Goals as goal
+
+pub returns-clause-scans : goal.returns-clause-scans
+returns-clause-scans c =
+    let into = c.yaml_parser_scan_into in
+    scan_refuses c.args.parser.now into.new.parser into.result (token_of into.new.token) (fault_of into.new.fault) c.if-yaml_parser_scan_into.false into.ensures.scans
+
+pub returns-clause-few : goal.returns-clause-few
+returns-clause-few c = c.yaml_parser_scan_into.ensures.few

@@ -1,0 +1,34 @@
+use Rattle.yaml_scan.proofs.step.step.Goals as goal
+
+pub is_new-requires : goal.is_new-requires
+is_new-requires c = c.requires.stands
+
+pub begin-requires-clause-stands : goal.begin-requires-clause-stands
+begin-requires-clause-stands c = c.requires.stands
+
+pub begin-requires-clause-started : goal.begin-requires-clause-started
+begin-requires-clause-started c = c.requires.started
+
+pub begin-requires-clause-sought : goal.begin-requires-clause-sought
+begin-requires-clause-sought c = c.requires.sought
+
+pub begin-requires-clause-more : goal.begin-requires-clause-more
+begin-requires-clause-more c = c.requires.more
+
+pub begin-requires-clause-none : goal.begin-requires-clause-none
+begin-requires-clause-none c = c.is_new.ensures.none c.if-is_new.true
+
+pub stand-requires-clause-stands : goal.stand-requires-clause-stands
+stand-requires-clause-stands c = c.requires.stands
+
+pub stand-requires-clause-more : goal.stand-requires-clause-more
+stand-requires-clause-more c = c.requires.more
+
+pub stand-requires-clause-some : goal.stand-requires-clause-some
+stand-requires-clause-some c = c.is_new.ensures.some c.if-is_new.false
+
+pub by_kind-requires : goal.by_kind-requires
+by_kind-requires c = record { may = c.requires; stand = c.in-Ok.ensures.ok }
+
+pub returns-in-Err : goal.returns-in-Err
+returns-in-Err c = ((c.in-Err.error, c.in-Err.ensures.refused, c.put_fault.ensures), c.requires.stands.short)

@@ -1,0 +1,200 @@
+-- Where a machine stops.
+use Rattle.std.proofs.Common.{◌≡◌, ℕ, ◌+◌, ◌<◌, ◌≤◌, Bool, true, false, ltb, List, [], ◌∷◌, length, get_or, Result, Ok, Err, refl, sym, ap, subst, ◌∙◌, inl, inr, ◌⊎◌, arith, Some}
+use Rattle.std.proofs.lemmas.Bool.{cases_Bool, cases_lt}
+use Rattle.std.proofs.lemmas.Bool.Decides.{nat_tests}
+use Rattle.std.proofs.lemmas.List.{length-map, get_or-drop}
+use Rattle.std.specs.Prelude.{map, IfErr, option_map}
+use Rattle.yaml_scan_model.specs.declared.name.yaml_encoding_t.{yaml_encoding_t}
+use Rattle.yaml_scan_model.specs.declared.problem.ScanFault.{ScanFault}
+use Rattle.yaml_scan_model.specs.declared.problem.ScanError.{ScanError}
+use Rattle.yaml_scan_model.specs.declared.problem.ScanError.TheVariants as errors
+use Rattle.yaml_scan_model.specs.Problems.{scanner_fault}
+use Rattle.yaml_scan_decode.specs.DecodedText.{text_bytes, decoding_fault}
+use Rattle.yaml_scan_decode.specs.Decoding.{decoded_characters, in_utf8}
+use Rattle.yaml_scan_decode.specs.declared.offence.Offence.{Offence}
+use Rattle.yaml_scan_decode.specs.Offences.{reader_fault}
+use Rattle.yaml_scan_model.specs.declared.fault.yaml_origin_t.TheVariants.{Reader}
+use Rattle.yaml_scan_model.specs.Faults.{Fault, memory_fault}
+use Rattle.std.specs.Result.{result_err}
+use Rattle.yaml_scan_decode.specs.Encodings.{encoding_of}
+use Rattle.yaml_scan_model.specs.Tokens.{Token}
+use Rattle.yaml_scan_laws_order.specs.Fronts.{GivesFirst}
+use Rattle.yaml_scan_machine.specs.Scanned.{scanned, scanned_in, left_in, left_from, IsTold, IsLocated}
+use Rattle.yaml_scan_history.specs.declared.lexeme.Entry.{Entry}
+use Rattle.yaml_scan_history.specs.declared.lexeme.Lexeme.{Lexeme}
+use Rattle.yaml_scan_history.specs.History.{entries, first_open}
+use Rattle.yaml_scan_history.specs.Next.{Next, Read, Fails, Ends, next}
+use Rattle.yaml_scan_history.specs.Remaining.{Remaining, remaining, nothing}
+use Rattle.yaml_scan_history.proofs.HistoryLemmas.{length-entries, first_open-le}
+use Rattle.yaml_scan_laws_order.proofs.HeldForward.{few_wait}
+use Rattle.yaml_scan_laws_order.proofs.RemainingForward.{fault_comes, end_comes, front_count, front_none}
+use Rattle.yaml_scan_machine.specs.declared.machine.Machine.{Machine}
+use Rattle.yaml_scan_queue.specs.declared.waiting.Waiting.{Waiting}
+use Rattle.yaml_scan_machine.specs.declared.next.Read.{Read as Answer}
+use Rattle.yaml_scan_machine.specs.State.{IsMachine, GoesOn, ready_in, is_ready}
+use Rattle.yaml_scan_machine.specs.Shows.{Fields, fields_of, IsShown, read, settled_in, history_of, stream_of}
+use Rattle.yaml_scan_machine.specs.Reads.{GivesNext}
+use Rattle.yaml_scan_machine.specs.Stood.{Steps, IsRefused}
+use Rattle.yaml_scan_machine.specs.Comes.{to_come, Refused, Faults}
+use Rattle.yaml_scan_machine.proofs.MarkLemmas.{next_ended}
+use Rattle.yaml_scan_machine.proofs.NextLemmas.{settled_first}
+
+refused_at : (m : Machine) (f : ScanFault) (x : Next) → next (text_bytes m.text) (history_of m) ≡ x → GivesNext m (Err (errors.Fault f)) x → next (text_bytes m.text) (history_of m) ≡ Fails f
+refused_at m f (Read l) e g = absurd g
+refused_at m f (Fails p) e g = e ∙ ap Fails (sym g)
+refused_at m f Ends e g = absurd g
+
+-- a refusal is the next fault
+pub refused_by : (m : Machine) (e : ScanError) → GivesNext m (Err e) (next (text_bytes m.text) (history_of m)) → Refused m e
+refused_by m errors.Memory g = tt
+refused_by m (errors.Fault f) g = refused_at m f (next (text_bytes m.text) (history_of m)) refl g
+
+pub refused_any : (m : Machine) (r : Result Answer ScanError) → GivesNext m r (next (text_bytes m.text) (history_of m)) → IfErr r (λ e. Refused m e)
+refused_any m (Ok r) g = tt
+refused_any m (Err e) g = refused_by m e g
+
+-- what is to come stays
+pub goes_same : (old new : Machine) → GoesOn old new → to_come new ≡ to_come old
+goes_same old new g =
+    ap (λ (x : yaml_encoding_t). remaining record { encoding = x; text = text_bytes new.text } new.dropped new.given) g.encoding
+    ∙ ap (λ (t : List ℕ). remaining record { encoding = old.encoding; text = t } new.dropped new.given) (ap text_bytes g.text)
+    ∙ ap (λ d. remaining (stream_of old) d new.given) g.dropped ∙ ap (λ n. remaining (stream_of old) old.dropped n) g.given
+
+not_ready : (d s g : ℕ) (ws : List Waiting) → ready_in d s g ws ≡ false → (ws ≡ []) ⊎ ((w : Waiting) × (rest : List Waiting) × (ws ≡ w ∷ rest) × (s ≤ d) × (w.entry.ends ≤ g))
+not_ready d s g [] e = inl refl
+not_ready d s g (w ∷ ws) e =
+    elim (cases_lt d s) [
+      | inl low ↦ let a : ltb d s ≡ true = grind (arith, nat_tests) in let bad = rw a at e in cc
+      | inr high ↦ elim (cases_lt g w.entry.ends) [
+        | inl more ↦
+            let a : ltb d s ≡ false = grind (arith, nat_tests) in
+            let b : ltb g w.entry.ends ≡ true = grind (arith, nat_tests) in
+            let bad = rw (a, b) at e in cc
+        | inr past ↦ inr (w, ws, refl, high, past)
+      ]
+    ]
+
+-- the first lexeme that waits is the one of that number
+front_entry : (m : Fields) (ws : List Waiting) (w : Waiting) (rest : List Waiting) → IsShown m → m.waiting ≡ map (λ (x : Waiting). x.entry) ws → ws ≡ w ∷ rest
+    → let h = read m.text m.dropped m.waiting in (get_or (entries h) m.dropped w.entry ≡ w.entry) × (m.dropped < length h)
+front_entry m ws w rest s wait is =
+    let h = read m.text m.dropped m.waiting in
+    let all : m.waiting ≡ w.entry ∷ map (λ (x : Waiting). x.entry) rest = wait ∙ ap (λ xs. map (λ (x : Waiting). x.entry) xs) is in
+    let len : length m.waiting ≡ length (map (λ (x : Waiting). x.entry) rest) + 1 = ap length all ∙ omega arith in
+    let z : m.dropped + 0 ≡ m.dropped = omega arith in
+    let here : get_or (entries h) (m.dropped + 0) w.entry ≡ w.entry = sym (get_or-drop m.dropped (entries h) 0 w.entry) ∙ ap (λ xs. get_or xs 0 w.entry) (sym s.waiting ∙ all) in
+    (ap (λ k. get_or (entries h) k w.entry) (sym z) ∙ here, omega (arith, s.count, len))
+
+pub settled_end : (m : Fields) → IsShown m → m.ended ≡ true → m.settled ≡ length (read m.text m.dropped m.waiting)
+unfolding settled_in
+settled_end m s over = let e = sym s.ended ∙ over in s.settled ∙ rw e refl
+
+-- at the end nothing is left
+pub end_machine : (m : Machine) → IsMachine m → is_ready m ≡ false → m.ended ≡ true → to_come m ≡ nothing
+unfolding read
+end_machine m i stuck over =
+    let f = fields_of m in
+    let s = i.shown in
+    let h = history_of m in
+    let len = length-map m.waiting.items (λ (x : Waiting). x.entry) in
+    let none : next (text_bytes m.text) h ≡ Ends = next_ended (text_bytes m.text) h (sym s.ended ∙ over) in
+    let all = settled_end f s over in
+    let past : length h ≤ m.dropped = elim (not_ready m.dropped m.settled m.given m.waiting.items stuck) [
+      | inl empty ↦ let zero_left : length m.waiting.items ≡ 0 = ap length empty in omega (arith, s.count, len)
+      | inr (w, rest, is, low, few) ↦ omega arith
+    ] in
+    end_comes (stream_of m) (m.dropped + length f.waiting) m.dropped m.given none past
+
+-- where one more is read, 1,024 wait at most
+pub waits_short : (m : Machine) (l : Lexeme) → IsMachine m → is_ready m ≡ false → m.ended ≡ false → next (text_bytes m.text) (history_of m) ≡ Read l → length m.waiting.items ≤ 1024
+unfolding read
+waits_short m l i stuck more is =
+    let f = fields_of m in
+    let s = i.shown in
+    let len = length-map m.waiting.items (λ (x : Waiting). x.entry) in
+    let first = settled_first f s more in
+    let few = few_wait (text_bytes m.text) (m.dropped + length f.waiting) l is in
+    elim (not_ready m.dropped m.settled m.given m.waiting.items stuck) [
+      | inl empty ↦ let none : length m.waiting.items ≡ 0 = ap length empty in omega (arith, none)
+      | inr (w, rest, all, low, past) ↦ omega (arith, few, first, low, s.count, len)
+    ]
+
+-- at a fault nothing is left but the fault
+pub fault_machine : (m : Machine) (e : ScanError) → IsMachine m → is_ready m ≡ false → m.ended ≡ false → Refused m e → Faults e (to_come m)
+unfolding read
+fault_machine m errors.Memory i stuck more r = tt
+fault_machine m (errors.Fault p) i stuck more r =
+    let f = fields_of m in
+    let s = i.shown in
+    let h = history_of m in
+    let n : ℕ = m.dropped + length f.waiting in
+    let len = length-map m.waiting.items (λ (x : Waiting). x.entry) in
+    let first = settled_first f s more in
+    let most = first_open-le h h in
+    let same_length = length-entries h in
+    elim (not_ready m.dropped m.settled m.given m.waiting.items stuck) [
+      | inl empty ↦
+          let zero_left : length m.waiting.items ≡ 0 = ap length empty in
+          let at : first_open h h ≡ m.dropped = omega (arith, s.count, s.taken, len) in
+          let gone = front_none (entries h) (first_open h h) (omega (arith, s.count, s.taken, len)) in
+          ap (λ k. remaining (stream_of m) k m.given) (sym at) ∙ fault_comes (stream_of m) n p m.given r (omega (arith, gone))
+      | inr (w, rest, is, low, few) ↦
+          let at : first_open h h ≡ m.dropped = omega (arith, s.taken) in
+          let (here, inside) = front_entry f m.waiting.items w rest s refl is in
+          let count = front_count (entries h) (first_open h h) w.entry (omega arith) in
+          let ends : (get_or (entries h) (first_open h h) w.entry).ends ≡ w.entry.ends = ap (λ k. (get_or (entries h) k w.entry).ends) at ∙ ap (λ (x : Entry). x.ends) here in
+          ap (λ k. remaining (stream_of m) k m.given) (sym at) ∙ fault_comes (stream_of m) n p m.given r (omega (arith, count, ends, few))
+    ]
+
+-- behind the first look all that is left is to come
+pub left_is : (m : Machine) → m.started ≡ true → left_in m ≡ to_come m
+left_is m on = ap (λ b. left_from b (to_come m) (scanned m.setting m.input.now)) on
+
+pub left_whole : (m : Machine) → m.started ≡ false → left_in m ≡ scanned m.setting m.input.now
+left_whole m off = ap (λ b. left_from b (to_come m) (scanned m.setting m.input.now)) off
+
+pub left_gives : (old new : Machine) (t : Token) → old.started ≡ true → new.started ≡ true → GivesFirst (to_come old) t (to_come new) → GivesFirst (left_in old) t (left_in new)
+left_gives old new t on still (tokens, fault) =
+    let a = left_is old on in
+    let b = left_is new still in (
+      ap (λ (c : Remaining). c.tokens) a ∙ tokens ∙ ap (λ (c : Remaining). t ∷ c.tokens) (sym b),
+      ap (λ (c : Remaining). c.fault) a ∙ fault ∙ ap (λ (c : Remaining). c.fault) (sym b),
+    )
+
+-- before the input is decoded no token is known
+pub ready_started : (m : Machine) → IsMachine m → is_ready m ≡ true → m.started ≡ true
+ready_started m i ready =
+    elim (cases_Bool m.started) [
+      | inl on ↦ on
+      | inr off ↦ let bad : false ≡ true = ap (λ (ws : List Waiting). ready_in m.dropped m.settled m.given ws) (sym (i.begun off)) ∙ ready in cc
+    ]
+
+-- the fault that a machine tells
+pub told_error : (m : Machine) (e : ScanError) (f : Fault) → m.started ≡ true → Faults e (to_come m) → IsLocated e f → IsTold (left_in m) f
+told_error m errors.Memory f on c is = inl (inl is)
+told_error m (errors.Fault p) f on c is =
+    let all : left_in m ≡ record { tokens = []; fault = Some (scanner_fault p) } = left_is m on ∙ c in
+    inr (ap (λ (x : Remaining). x.tokens) all, ap (λ (x : Remaining). x.fault) all ∙ ap Some (sym is))
+
+offence_told : (encoding : yaml_encoding_t) (r : Result (List ℕ) Offence) (f : Fault) → option_map reader_fault (result_err r) ≡ Some f → IsTold (scanned_in encoding (in_utf8 r)) f
+offence_told encoding (Ok cs) f e = cc
+offence_told encoding (Err o) f e = inr (refl, e)
+
+-- the fault that decoding tells
+pub told_decoding : (m : Machine) (f : Fault) → m.started ≡ false → (f ≡ memory_fault Reader) ⊎ (decoding_fault m.setting m.input.now ≡ Some f) → IsTold (left_in m) f
+told_decoding m f off (inl memory) = inl (inr memory)
+told_decoding m f off (inr fault) =
+    subst (λ (c : Remaining). IsTold c f) (sym (left_whole m off)) (offence_told (encoding_of m.setting m.input.now) (decoded_characters m.setting m.input.now) f fault)
+
+-- what a step answers
+pub steps_on : (old new : Machine) (f : Fault) (b : Bool) → b ≡ true → Steps old new f b → IsMachine new × GoesOn old new
+steps_on old new f true e s = s
+steps_on old new f false e s = cc
+
+pub steps_off : (old new : Machine) (f : Fault) (b : Bool) → b ≡ false → Steps old new f b → IsRefused old f × (length new.waiting.items ≤ 1025)
+steps_off old new f true e s = cc
+steps_off old new f false e s = s
+
+-- a step's fault is the one that a machine tells, where the same is to come
+pub told_refused : (first m : Machine) (f : Fault) → first.started ≡ true → to_come m ≡ to_come first → IsMachine m → is_ready m ≡ false → m.ended ≡ false → IsRefused m f → IsTold (left_in first) f
+told_refused first m f on same i stuck more (e, refused, is) = told_error first e f on (subst (λ (c : Remaining). Faults e c) same (fault_machine m e i stuck more refused)) is

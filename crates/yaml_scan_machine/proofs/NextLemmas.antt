@@ -1,0 +1,351 @@
+-- What comes next, by the fields of a machine.
+use Rattle.std.proofs.Common.{◌≡◌, ℕ, zero, suc, ◌+◌, ◌-◌, ◌<◌, ◌≤◌, Bool, true, false, cond, ltb, eqb, ◌&&◌, ◌||◌, List, [], ◌∷◌, length, get_or, Option, Some, None, refl, sym, ap, subst, ◌∙◌, inl, inr, arith}
+use Rattle.std.proofs.lemmas.Bool.{cases_Bool, cases_lt, and_parts}
+use Rattle.std.proofs.lemmas.Bool.Decides.{nat_tests}
+use Rattle.std.proofs.lemmas.List.{get_or-map, get_or-drop, length-map}
+use Rattle.std.specs.Prelude.{map}
+use Rattle.yaml_scan_model.specs.declared.record.yaml_mark_t.{yaml_mark_t}
+use Rattle.yaml_scan_model.specs.Marks.{mark_at, line_at}
+use Rattle.yaml_scan_words.proofs.PlacesLemmas.{gap_place}
+use Rattle.yaml_scan_history.specs.declared.kind.Kind.{Kind}
+use Rattle.yaml_scan_history.specs.declared.kind.Kind.TheVariants as kinds
+use Rattle.yaml_scan_history.specs.declared.lexeme.Lexeme.{Lexeme}
+use Rattle.yaml_scan_history.specs.declared.lexeme.Entry.{Entry}
+use Rattle.yaml_scan_history.specs.Kinds.{is_value, cancels, may_be_key}
+use Rattle.yaml_scan_history.specs.History.{Candidate, candidate, fresh, is_fresh, first_open, opens_in, entries, reached, depth, key_allowed, ended}
+use Rattle.yaml_scan_history.specs.Next.{Next, Read, Fails, Ends, next, history, extended, first_lexeme, allowed_behind, missed, lost_by}
+use Rattle.yaml_scan_history.specs.Stepwise.{behind}
+use Rattle.yaml_scan_history.specs.Laws.{Upto}
+use Rattle.yaml_scan_history.proofs.StepwiseLemmas.{stepwise}
+use Rattle.yaml_scan_history.proofs.HistoryLemmas.{candidate_below, first_open-is, first_open-least, fresh_is, fresh_before, IsOpen}
+use Rattle.yaml_scan_queue.specs.declared.waiting.Waiting.{Waiting}
+use Rattle.yaml_scan_machine.specs.Shows.{Fields, IsShown, read, settled_in}
+use Rattle.yaml_scan_machine.specs.Reads.{required_in, late, lost, required_behind}
+use Rattle.yaml_scan_machine.proofs.ReadLemmas.{next_is, first_is, cases_Option, begun_at, gap_of, finished_required, finished_depth, finished_saved}
+use Rattle.yaml_scan_machine.proofs.StepLemmas.{candidate_top, one_depth, start_is, open_is, open_set}
+
+pub next_first : (text : List ℕ) (h : List Lexeme) → length h ≡ 0 → next text h ≡ Read first_lexeme
+unfolding next
+next_first text [] none = refl
+next_first text (l ∷ h) none = absurd (omega arith)
+
+pub next_at : (text : List ℕ) (h : List Lexeme) → 0 < length h → ended h ≡ false → next text h ≡ behind text (gap_of text h) h
+unfolding next
+next_at text [] some more = absurd (omega arith)
+next_at text (l ∷ h) some more = rw more (stepwise text (l ∷ h))
+
+line_on : (text : List ℕ) (p k : ℕ) → line_at text p ≤ line_at text (k + p)
+unfolding line_at
+line_on text p zero = let z : 0 + p ≡ p = omega arith in rw z (omega arith)
+line_on text p (suc k) =
+    let z : suc k + p ≡ suc (k + p) = omega arith in
+    let before = line_on text p k in
+    rw z (omega (arith, before))
+
+-- a later place is on a later line, or on the same
+pub upto_later : (text : List ℕ) (p q : ℕ) → p ≤ q → Upto (mark_at text p) (mark_at text q)
+upto_later text p q le =
+    let k : q - p + p ≡ q = omega arith in
+    (le, subst (λ x. line_at text p ≤ line_at text x) k (line_on text p (q - p)))
+
+pub upto_gap : (text : List ℕ) (h : List Lexeme) → reached h ≡ mark_at text (reached h).index → (reached h).index ≤ length text → Upto (reached h) (mark_at text (gap_of text h).place)
+upto_gap text h is le =
+    let from = gap_place (ltb 0 (depth h)) (key_allowed h) text (reached h).index le in
+    subst (λ (m : yaml_mark_t). Upto m (mark_at text (gap_of text h).place)) (sym is) (upto_later text (reached h).index (gap_of text h).place from.forward)
+
+pub late_same : (o : Option Candidate) (p : yaml_mark_t) → late (required_in o) p ≡ missed o p
+late_same None p = refl
+late_same (Some c) p =
+    elim (cases_Bool c.lexeme.required) [
+      | inr other ↦ rw other refl
+      | inl must ↦ elim (cases_Bool (is_fresh c.lexeme.start p)) [
+        | inl near ↦ rw (must, near) refl
+        | inr far ↦ rw (must, far) refl
+      ]
+    ]
+
+candidate_bound : (d : ℕ) (l : Lexeme) (h : List Lexeme) → l.depth < d → candidate d (l ∷ h) ≡ None
+unfolding candidate
+candidate_bound d l h low =
+    let t : eqb l.depth d ≡ false = grind (arith, nat_tests) in
+    let u : ltb l.depth d ≡ true = grind (arith, nat_tests) in
+    rw (t, u) refl
+
+-- a candidate outside all brackets is older than any other one
+pub outer_older : (h : List Lexeme) (d : ℕ) (c x : Candidate) → candidate 0 h ≡ Some c → candidate d h ≡ Some x → 0 < d → c.number < x.number
+unfolding candidate
+outer_older [] d c x is ix deep = cc
+outer_older (l ∷ h) d c x is ix deep =
+    elim (candidate_top d l h x ix) [
+      | inl (a, top, s) ↦ elim (candidate_top 0 l h c is) [
+        | inl (z, up, t) ↦ absurd (omega arith)
+        | inr before ↦ let low = candidate_below 0 h c before in omega arith
+      ]
+      | inr was ↦ elim (candidate_top 0 l h c is) [
+        | inl (z, up, t) ↦ let none = candidate_bound d l h (omega arith) in let bad : Some x ≡ None = sym ix ∙ none in cc
+        | inr before ↦ outer_older h d c x before was deep
+      ]
+    ]
+
+-- a candidate stands at its depth
+pub candidate_depth : (d : ℕ) (h : List Lexeme) (c : Candidate) → candidate d h ≡ Some c → c.lexeme.depth ≡ d
+unfolding candidate
+candidate_depth d [] c is = cc
+candidate_depth d (l ∷ h) c is =
+    elim (candidate_top d l h c is) [
+      | inl (a, top, s) ↦ ap (λ (x : Lexeme). x.depth) s ∙ a
+      | inr before ↦ candidate_depth d h c before
+    ]
+
+-- The open candidate outside all brackets is the earliest open one.
+outer_first : (h : List Lexeme) (c : Candidate) → fresh (candidate 0 h) (reached h) ≡ Some c → c.number ≡ first_open h h
+outer_first h c f =
+    let is = fresh_is (candidate 0 h) (reached h) c f in
+    let low = candidate_below 0 h c is in
+    let least = first_open-least h 0 c.number (c, f, refl) low in
+    let (d, (x, g, n)) = first_open-is h h (omega arith) in
+    let ix = fresh_is (candidate d h) (reached h) x g in
+    elim (cases_lt 0 d) [
+      | inl deep ↦ let older = outer_older h d c x is ix deep in absurd (omega arith)
+      | inr flat ↦
+          let z : d ≡ 0 = omega arith in
+          let same : Some x ≡ Some c = sym g ∙ ap (λ k. fresh (candidate k h) (reached h)) z ∙ f in
+          let eq : x ≡ c = cc in
+          ap (λ (y : Candidate). y.number) (sym eq) ∙ n
+    ]
+
+-- what waits first behind what is settled
+pub first_waits : (m : Fields) (ws : List Waiting) (w : Waiting) → IsShown m → m.waiting ≡ map (λ (x : Waiting). x.entry) ws → m.opens ≡ map (λ (x : Waiting). x.current) ws
+    → w ≡ get_or ws (m.settled - m.dropped) w → m.settled - m.dropped < length ws → let h = read m.text m.dropped m.waiting in
+    (get_or (opens_in h h) m.settled false ≡ w.current) × ((get_or (entries h) m.settled w.entry).lexeme ≡ w.entry.lexeme) × (m.settled < length h)
+first_waits m ws w s wait bits is lt =
+    let h = read m.text m.dropped m.waiting in
+    let i : ℕ = m.settled - m.dropped in
+    let n : m.dropped + i ≡ m.settled = omega (arith, s.taken) in
+    let len : length m.waiting ≡ length ws = ap length wait ∙ length-map ws (λ (x : Waiting). x.entry) in
+    let bit : get_or (opens_in h h) (m.dropped + i) false ≡ w.current = sym (s.opens i (omega arith) (omega arith)) ∙ ap (λ xs. get_or xs i false) bits ∙ get_or-map (λ (x : Waiting). x.current) ws i w false lt ∙ ap (λ (x : Waiting). x.current) (sym is) in
+    let e : get_or (entries h) (m.dropped + i) w.entry ≡ w.entry = sym (get_or-drop m.dropped (entries h) i w.entry) ∙ ap (λ xs. get_or xs i w.entry) (sym s.waiting ∙ wait) ∙ get_or-map (λ (x : Waiting). x.entry) ws i w w.entry lt ∙ ap (λ (x : Waiting). x.entry) (sym is) in
+    (ap (λ k. get_or (opens_in h h) k false) (sym n) ∙ bit, ap (λ k. (get_or (entries h) k w.entry).lexeme) (sym n) ∙ ap (λ (x : Entry). x.lexeme) e, omega (arith, s.count, len))
+
+pub settled_first : (m : Fields) → IsShown m → m.ended ≡ false → m.settled ≡ first_open (read m.text m.dropped m.waiting) (read m.text m.dropped m.waiting)
+unfolding settled_in
+settled_first m s more = let e = sym s.ended ∙ more in s.settled ∙ rw e refl
+
+-- nothing waits behind what is settled
+pub required_none : (m : Fields) (n : ℕ) → IsShown m → m.ended ≡ false → n ≡ length m.waiting → n ≤ m.settled - m.dropped → let h = read m.text m.dropped m.waiting in None ≡ required_in (fresh (candidate 0 h) (reached h))
+required_none m n s more same past =
+    let h = read m.text m.dropped m.waiting in
+    elim (cases_Option (fresh (candidate 0 h) (reached h))) [
+      | inl none ↦ rw none refl
+      | inr (c, f) ↦
+          let first = outer_first h c f in
+          let low = candidate_below 0 h c (fresh_is (candidate 0 h) (reached h) c f) in
+          let now = settled_first m s more in
+          absurd (omega (arith, s.count, s.taken))
+    ]
+
+-- the required candidate is what waits first behind what is settled, where that is one
+pub required_some : (m : Fields) (ws : List Waiting) (w : Waiting) → IsShown m → m.ended ≡ false → m.waiting ≡ map (λ (x : Waiting). x.entry) ws → m.opens ≡ map (λ (x : Waiting). x.current) ws
+    → w ≡ get_or ws (m.settled - m.dropped) w → m.settled - m.dropped < length ws → let h = read m.text m.dropped m.waiting in
+    cond ((w.current && w.entry.lexeme.required) && eqb w.entry.lexeme.depth 0) (Some w.entry.lexeme.start) None ≡ required_in (fresh (candidate 0 h) (reached h))
+required_some m ws w s more wait bits is lt =
+    let h = read m.text m.dropped m.waiting in
+    let (bit, e, inside) = first_waits m ws w s wait bits is lt in
+    let now = settled_first m s more in
+    elim (cases_Bool ((w.current && w.entry.lexeme.required) && eqb w.entry.lexeme.depth 0)) [
+      | inl all ↦
+          let (a, flat) = and_parts _ _ all in
+          let (current, must) = and_parts _ _ a in
+          let (d, c, ic, n) = open_is h h m.settled inside (bit ∙ current) in
+          let same : c.lexeme ≡ w.entry.lexeme = sym (start_is d h c w.entry ic) ∙ ap (λ k. (get_or (entries h) k w.entry).lexeme) n ∙ e in
+          let (b, (x, f, k)) = first_open-is h h (omega arith) in
+          let ix = fresh_is (candidate b h) (reached h) x f in
+          let one = one_depth h d b c x ic ix (n ∙ now ∙ sym k) in
+          let z : w.entry.lexeme.depth ≡ 0 = grind (arith, nat_tests) in
+          let at : d ≡ 0 = sym (candidate_depth d h c ic) ∙ ap (λ (y : Lexeme). y.depth) same ∙ z in
+          let g : fresh (candidate 0 h) (reached h) ≡ Some x = ap (λ i. fresh (candidate i h) (reached h)) (sym (sym one ∙ at)) ∙ f in
+          let both : Some x ≡ Some c = sym ix ∙ ap (λ i. candidate i h) (sym one) ∙ ic in
+          let xc : x ≡ c = cc in
+          let so : x.lexeme ≡ w.entry.lexeme = ap (λ (y : Candidate). y.lexeme) xc ∙ same in
+          rw (all, g, so, must) refl
+      | inr never ↦
+          elim (cases_Option (fresh (candidate 0 h) (reached h))) [
+            | inl none ↦ rw (never, none) refl
+            | inr (c, f) ↦
+                let first = outer_first h c f in
+                let ic = fresh_is (candidate 0 h) (reached h) c f in
+                let n : c.number ≡ m.settled = first ∙ sym now in
+                let same : c.lexeme ≡ w.entry.lexeme = sym (start_is 0 h c w.entry ic) ∙ ap (λ k. (get_or (entries h) k w.entry).lexeme) n ∙ e in
+                let current : w.current ≡ true = sym bit ∙ ap (λ k. get_or (opens_in h h) k false) (sym n) ∙ open_set h 0 c ic in
+                let flat : w.entry.lexeme.depth ≡ 0 = ap (λ (y : Lexeme). y.depth) (sym same) ∙ candidate_depth 0 h c ic in
+                let off : w.entry.lexeme.required ≡ false = elim (cases_Bool w.entry.lexeme.required) [
+                  | inr no_one ↦ no_one
+                  | inl must ↦ let bad = rw (current, must, flat) at never in cc
+                ] in
+                rw (never, f, same, off) refl
+          ]
+    ]
+
+value_cancels : (k : Kind) → is_value k ≡ true → cancels k ≡ true
+value_cancels kinds.ValueMark e = refl
+value_cancels _ e = cc
+
+pub asked_value : (k : Kind) (b : Bool) → is_value k ≡ true → (b || cancels k) ≡ true
+asked_value k true e = refl
+asked_value k false e = value_cancels k e
+
+-- A lexeme that is required stands outside all brackets, and may be a key.
+required_parts : (a b c : Bool) (d : ℕ) → ((a && b) && (eqb d 0 && c)) ≡ true → (d ≡ 0) × ((a && b) ≡ true)
+required_parts a b c d e =
+    let (p, q) = and_parts (a && b) (eqb d 0 && c) e in
+    let (r, s) = and_parts (eqb d 0) c q in
+    (grind (arith, nat_tests), p)
+
+pub required_is : (text : List ℕ) (h : List Lexeme) (l : Lexeme) → next text h ≡ Read l → l.required ≡ true → (l.depth ≡ 0) × (l.saved ≡ true)
+required_is text [] l e must = let bad = ap (λ (x : Lexeme). x.required) (first_is text l e) in cc
+required_is text (y ∷ h) l e must =
+    let r = next_is text y h l e in
+    let b = begun_at text (y ∷ h) l.kind in
+    let at = ap (λ (x : Lexeme). x.required) r.is ∙ finished_required text b r.word in
+    let depth_at = ap (λ (x : Lexeme). x.depth) r.is ∙ finished_depth text b r.word in
+    let saved_at = ap (λ (x : Lexeme). x.saved) r.is ∙ finished_saved text b r.word in
+    let (z, so) = required_parts (allowed_behind (y ∷ h) (gap_of text (y ∷ h))) (may_be_key l.kind) _ (depth (y ∷ h)) (sym at ∙ must) in
+    (depth_at ∙ z, saved_at ∙ so)
+
+shallow_after : (text : List ℕ) (h : List Lexeme) (x : Next) (d : ℕ) (c : Candidate) → next text h ≡ x → (candidate d h ≡ Some c → c.lexeme.required ≡ true → d ≡ 0) → candidate d (extended x h) ≡ Some c → c.lexeme.required ≡ true → d ≡ 0
+shallow_after text h (Read l) d c e before is must =
+    elim (candidate_top d l h c is) [
+      | inl (a, top, s) ↦ let (z, so) = required_is text h l e (sym (ap (λ (x : Lexeme). x.required) s) ∙ must) in sym a ∙ z
+      | inr was ↦ before was must
+    ]
+shallow_after text h (Fails p) d c e before is must = before is must
+shallow_after text h Ends d c e before is must = before is must
+
+-- a required candidate stands outside all brackets
+pub shallow : (text : List ℕ) (n d : ℕ) (c : Candidate) → candidate d (history text n) ≡ Some c → c.lexeme.required ≡ true → d ≡ 0
+unfolding history candidate
+shallow text zero d c is must = cc
+shallow text (suc n) d c is must = shallow_after text (history text n) (next text (history text n)) d c refl (λ was so. shallow text n d c was so) is must
+
+first_unmissed : missed (candidate 0 (first_lexeme ∷ [])) first_lexeme.reached ≡ None
+unfolding candidate
+first_unmissed = refl
+
+unmissed_next : (text : List ℕ) (h : List Lexeme) (l : Lexeme) → next text h ≡ Read l → missed (candidate 0 (l ∷ h)) l.reached ≡ None
+unmissed_next text [] l e = subst (λ (x : Lexeme). missed (candidate 0 (x ∷ [])) x.reached ≡ None) (sym (first_is text l e)) first_unmissed
+unmissed_next text (y ∷ h) l e = let r = next_is text y h l e in r.tested
+
+unmissed_after : (text : List ℕ) (h : List Lexeme) (x : Next) → next text h ≡ x → missed (candidate 0 h) (reached h) ≡ None → missed (candidate 0 (extended x h)) (reached (extended x h)) ≡ None
+unmissed_after text h (Read l) e before = unmissed_next text h l e
+unmissed_after text h (Fails p) e before = before
+unmissed_after text h Ends e before = before
+
+-- no required candidate is stale where the last lexeme ended
+pub unmissed : (text : List ℕ) (n : ℕ) → missed (candidate 0 (history text n)) (reached (history text n)) ≡ None
+unfolding history candidate
+unmissed text zero = refl
+unmissed text (suc n) = unmissed_after text (history text n) (next text (history text n)) refl (unmissed text n)
+
+missed_fresh : (o : Option Candidate) (q p : yaml_mark_t) → missed o q ≡ None → missed (fresh o q) p ≡ missed o p
+missed_fresh None q p e = refl
+missed_fresh (Some c) q p e =
+    elim (cases_Bool (is_fresh c.lexeme.start q)) [
+      | inl near ↦ rw near refl
+      | inr far ↦ elim (cases_Bool c.lexeme.required) [
+        | inr other ↦ rw (far, other) refl
+        | inl must ↦ let bad = rw (far, must) at e in cc
+      ]
+    ]
+
+stale_later : (o : Option Candidate) (p q : yaml_mark_t) → Upto p q → fresh o p ≡ None → fresh o q ≡ None
+stale_later o p q u e =
+    elim (cases_Option (fresh o q)) [
+      | inl none ↦ none
+      | inr (c, f) ↦ let bad : None ≡ Some c = sym e ∙ fresh_before o p q c f u in cc
+    ]
+
+-- A candidate that is settled is stale at each later place.
+pub stale_settled : (m : Fields) (d : ℕ) (p : yaml_mark_t) → IsShown m → m.ended ≡ false → let h = read m.text m.dropped m.waiting in Upto (reached h) p
+    → ((c : Candidate) → candidate d h ≡ Some c → c.number < m.settled) → None ≡ fresh (candidate d h) p
+stale_settled m d p s more u low =
+    let h = read m.text m.dropped m.waiting in
+    elim (cases_Option (fresh (candidate d h) p)) [
+      | inl none ↦ sym none
+      | inr (c, f) ↦
+          let is = fresh_is (candidate d h) p c f in
+          let here : IsOpen h d c.number = (c, fresh_before (candidate d h) (reached h) p c f u, refl) in
+          let least = first_open-least h d c.number here (candidate_below d h c is) in
+          let now = settled_first m s more in
+          let below = low c is in
+          absurd (omega arith)
+    ]
+
+pub lost_same : (text : List ℕ) (n : ℕ) (p : yaml_mark_t) (b : Lexeme) → let h = history text n in b.depth ≡ depth h → Upto (reached h) p
+    → late (required_in (fresh (candidate 0 h) (reached h))) p ≡ None → lost (required_in (fresh (candidate 0 h) (reached h))) b ≡ lost_by b (fresh (candidate (depth h) h) p)
+lost_same text n p b at u early =
+    let h = history text n in
+    elim (cases_lt 0 (depth h)) [
+      | inl deep ↦
+          let t : eqb b.depth 0 ≡ false = grind (arith, nat_tests) in
+          let nothing_lost : (o : Option yaml_mark_t) → lost o b ≡ None = λ o. elim o as (λ o. lost o b ≡ None) [ None ↦ refl | Some s ↦ rw t refl ] in
+          nothing_lost (required_in (fresh (candidate 0 h) (reached h))) ∙ elim (cases_Option (fresh (candidate (depth h) h) p)) [
+            | inl none ↦ rw none refl
+            | inr (c, f) ↦
+                let is = fresh_is (candidate (depth h) h) p c f in
+                let off : c.lexeme.required ≡ false = elim (cases_Bool c.lexeme.required) [ inr no_one ↦ no_one | inl must ↦ let z = shallow text n (depth h) c is must in absurd (omega arith) ] in
+                rw (f, off) refl
+          ]
+      | inr flat ↦
+          let z : depth h ≡ 0 = omega arith in
+          let t : eqb b.depth 0 ≡ true = grind (arith, nat_tests) in
+          elim (cases_Option (fresh (candidate 0 h) (reached h))) [
+            | inl none ↦ rw (z, none, stale_later (candidate 0 h) (reached h) p u none) refl
+            | inr (c, f) ↦
+                let is = fresh_is (candidate 0 h) (reached h) c f in
+                elim (cases_Bool c.lexeme.required) [
+                  | inl must ↦
+                      elim (cases_Bool (is_fresh c.lexeme.start p)) [
+                        | inl near ↦ rw (z, f, must, is, near, must, t) refl
+                        | inr far ↦ let bad = rw (f, must, far) at early in cc
+                      ]
+                  | inr off ↦
+                      elim (cases_Bool (is_fresh c.lexeme.start p)) [
+                        | inl near ↦ rw (z, f, off, is, near, off) refl
+                        | inr far ↦ rw (z, f, off, is, far) refl
+                      ]
+                ]
+          ]
+    ]
+
+-- the test behind a lexeme
+pub tested_same : (text : List ℕ) (n : ℕ) (l : Lexeme) (p : yaml_mark_t) → let h = history text n in (l.required ≡ true → l.saved ≡ true)
+    → late (required_behind (required_in (fresh (candidate 0 h) (reached h))) l) p ≡ missed (candidate 0 (l ∷ h)) p
+unfolding candidate
+tested_same text n l p must =
+    let h = history text n in
+    let still : late (required_in (fresh (candidate 0 h) (reached h))) p ≡ missed (candidate 0 h) p = late_same (fresh (candidate 0 h) (reached h)) p ∙ missed_fresh (candidate 0 h) (reached h) p (unmissed text n) in
+    elim (cases_lt 0 l.depth) [
+      | inl deep ↦
+          let t : eqb l.depth 0 ≡ false = grind (arith, nat_tests) in
+          let u : ltb 0 l.depth ≡ true = grind (arith, nat_tests) in
+          let v : ltb l.depth 0 ≡ false = grind (arith, nat_tests) in
+          rw (t, u, v) still
+      | inr flat ↦
+          let t : eqb l.depth 0 ≡ true = grind (arith, nat_tests) in
+          let u : ltb 0 l.depth ≡ false = grind (arith, nat_tests) in
+          elim (cases_Bool l.saved) [
+            | inl y ↦ elim (cases_Bool l.required) [
+              | inl r ↦ elim (cases_Bool (is_fresh l.start p)) [
+                | inl near ↦ rw (t, u, y, r, near) refl
+                | inr far ↦ rw (t, u, y, r, far) refl
+              ]
+              | inr off ↦ rw (t, u, y, off) refl
+            ]
+            | inr no_one ↦
+                let off : l.required ≡ false = elim (cases_Bool l.required) [ inr k ↦ k | inl r ↦ let bad = must r in cc ] in
+                elim (cases_Bool (cancels l.kind)) [
+                  | inl y ↦ rw (t, u, no_one, y, off) refl
+                  | inr k ↦ rw (t, u, no_one, k) still
+                ]
+          ]
+    ]

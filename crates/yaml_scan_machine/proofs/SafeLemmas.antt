@@ -1,0 +1,143 @@
+-- Places, levels and waiting lexemes stay inside the text.
+use Rattle.std.proofs.Common.{◌≡◌, ℕ, zero, suc, ◌+◌, ◌<◌, ◌≤◌, Bool, true, false, cond, leb, ltb, List, [], ◌∷◌, ◌++◌, length, refl, sym, subst, ap, inl, inr, arith}
+use Rattle.std.proofs.lemmas.Bool.{cases_Bool, cases_lt}
+use Rattle.std.proofs.lemmas.Bool.Decides.{nat_tests}
+use Rattle.std.specs.Prelude.{slice_set, Option, Some, None}
+use Rattle.yaml_scan_model.specs.declared.record.yaml_mark_t.{yaml_mark_t}
+use Rattle.yaml_scan_model.specs.Marks.{line_at, column_at, splits_break, splits_of, ends_break, starts, byte}
+use Rattle.yaml_scan_history.specs.declared.kind.Kind.{Kind}
+use Rattle.yaml_scan_history.specs.declared.kind.Kind.TheVariants as kinds
+use Rattle.yaml_scan_history.specs.Kinds.{is_end, depth_after}
+use Rattle.yaml_scan_history.specs.History.{indent, opened, placed}
+use Rattle.yaml_scan_queue.specs.declared.waiting.Waiting.{Waiting}
+use Rattle.yaml_scan_machine.specs.Rising.{left_of}
+use Rattle.yaml_scan_machine.specs.State.{IsPlace, IsNarrow, AreInside, ready_in}
+use Rattle.yaml_scan_machine.proofs.LevelsLemmas.{indent_last}
+
+more-le : (b : Bool) (n m : ℕ) → n ≤ m → n + cond b 1 0 ≤ suc m
+more-le true n m h = omega (arith, h)
+more-le false n m h = omega (arith, h)
+
+less-le : (b : Bool) (n m : ℕ) → n ≤ m → cond b 0 n ≤ m
+less-le true n m h = omega (arith, h)
+less-le false n m h = h
+
+pub line-le : (text : List ℕ) (p : ℕ) → line_at text p ≤ p
+unfolding line_at
+line-le text zero = omega arith
+line-le text (suc p) = more-le (ends_break text p) (line_at text p) p (line-le text p)
+
+pub column-le : (text : List ℕ) (p : ℕ) → column_at text p ≤ p
+unfolding column_at
+column-le text zero = omega arith
+column-le text (suc p) = less-le (ends_break text p) (column_at text p + cond (starts (byte text p)) 1 0) (suc p) (more-le (starts (byte text p)) (column_at text p) p (column-le text p))
+
+pub mark_line : (text : List ℕ) (m : yaml_mark_t) → IsPlace text m → m.line ≤ length text
+mark_line text m h =
+    let low = line-le text m.index in
+    let is : m.line ≡ line_at text m.index = ap (λ (x : yaml_mark_t). x.line) h.mark in
+    omega (arith, low, is, h.inside)
+
+pub mark_column : (text : List ℕ) (m : yaml_mark_t) → IsPlace text m → m.column ≤ length text
+mark_column text m h =
+    let low = column-le text m.index in
+    let is : m.column ≡ column_at text m.index = ap (λ (x : yaml_mark_t). x.column) h.mark in
+    omega (arith, low, is, h.inside)
+
+pub placed_column : (k : Kind) (m : yaml_mark_t) → (placed k m).column ≤ m.column
+placed_column k m =
+    let t : Bool = is_end k in
+    elim (cases_Bool (is_end k)) [
+      | inr more ↦ rw more (omega arith)
+      | inl over ↦
+          elim (cases_Bool (ltb 0 m.column)) [
+            | inl right ↦ rw (over, right) (omega arith)
+            | inr left ↦ rw (over, left) (omega arith)
+          ]
+    ]
+
+pub start_whole : (text : List ℕ) → splits_break text 0 ≡ false
+unfolding splits_of
+start_whole text = grind (arith, nat_tests)
+
+pub start_place : (text : List ℕ) → IsPlace text record { index = 0; line = 0; column = 0 }
+unfolding line_at column_at
+start_place text = record { inside = omega arith; mark = refl; whole = start_whole text }
+
+pub narrow_indent : (n : ℕ) (xs : List ℕ) → IsNarrow n xs → indent xs ≤ n
+unfolding indent
+narrow_indent n [] h = omega arith
+narrow_indent n (x ∷ xs) h = let last = indent_last x xs in let low = h (length xs) in omega (arith, last, low)
+
+narrow_cons : (n x : ℕ) (xs : List ℕ) → x ≤ n → IsNarrow n xs → IsNarrow n (x ∷ xs)
+narrow_cons n x xs low h zero = low
+narrow_cons n x xs low h (suc k) = h k
+
+pub narrow_none : (n : ℕ) → IsNarrow n []
+narrow_none n k = omega arith
+
+pub narrow_left : (n c : ℕ) (xs : List ℕ) → IsNarrow n xs → IsNarrow n (left_of c xs)
+narrow_left n c [] h = h
+narrow_left n c (x ∷ xs) h =
+    let rest = narrow_left n c xs (λ k. h (suc k)) in
+    elim (cases_Bool (leb x c)) [
+      | inl near ↦ rw near (narrow_cons n x (left_of c xs) (h 0) rest)
+      | inr far ↦ rw far rest
+    ]
+
+narrow_snoc : (n c : ℕ) (xs : List ℕ) → c ≤ n → IsNarrow n xs → IsNarrow n (xs ++ c ∷ [])
+narrow_snoc n c [] low h = narrow_cons n c [] low h
+narrow_snoc n c (x ∷ xs) low h = narrow_cons n x (xs ++ c ∷ []) (h 0) (narrow_snoc n c xs low (λ k. h (suc k)))
+
+pub narrow_opened : (n c : ℕ) (xs : List ℕ) → c ≤ n → IsNarrow n xs → IsNarrow n (opened true c xs)
+narrow_opened n c xs low h =
+    elim (cases_Bool (ltb (indent xs) c)) [
+      | inl near ↦ rw near (narrow_snoc n c xs low h)
+      | inr far ↦ rw far h
+    ]
+
+pub inside_rest : (n : ℕ) (w : Waiting) (ws : List Waiting) → AreInside n (w ∷ ws) → AreInside n ws
+inside_rest n w ws h k d lt = h (suc k) d (omega arith)
+
+inside_cons : (n : ℕ) (w : Waiting) (ws : List Waiting) → w.entry.lexeme.start.column ≤ n → AreInside n ws → AreInside n (w ∷ ws)
+inside_cons n w ws low h zero d lt = low
+inside_cons n w ws low h (suc k) d lt = h k d (omega arith)
+
+pub inside_push : (n : ℕ) (w : Waiting) (ws : List Waiting) → w.entry.lexeme.start.column ≤ n → AreInside n ws → AreInside n (ws ++ w ∷ [])
+inside_push n w [] low h = inside_cons n w [] low h
+inside_push n w (x ∷ xs) low h = inside_cons n x (xs ++ w ∷ []) (h 0 x (omega arith)) (inside_push n w xs low (inside_rest n x xs h))
+
+pub inside_set : (n : ℕ) (w : Waiting) (ws : List Waiting) (i : ℕ) → w.entry.lexeme.start.column ≤ n → AreInside n ws → AreInside n (slice_set ws i w)
+inside_set n w [] i low h = h
+inside_set n w (x ∷ xs) zero low h = inside_cons n w xs low (inside_rest n x xs h)
+inside_set n w (x ∷ xs) (suc i) low h = inside_cons n x (slice_set xs i w) (h 0 x (omega arith)) (inside_set n w xs i low (inside_rest n x xs h))
+
+pub none_left : {A : Type 0} (o : Option A) → ((x : A) → o ≡ Some x → ⊥) → o ≡ None
+none_left None not_some = refl
+none_left (Some x) not_some = absurd (not_some x refl)
+
+-- what is known and no BLOCK-END is settled
+pub known_settled : (d s g : ℕ) (w : Waiting) (ws : List Waiting) → ready_in d s g (w ∷ ws) ≡ true → (g < w.entry.ends → ⊥) → d < s
+known_settled d s g w ws ready past =
+    elim (cases_lt d s) [
+      | inl low ↦ low
+      | inr high ↦
+          elim (cases_lt g w.entry.ends) [
+            | inl more ↦ absurd (past more)
+            | inr over ↦
+                let a : ltb d s ≡ false = grind (arith, nat_tests) in
+                let b : ltb g w.entry.ends ≡ false = grind (arith, nat_tests) in
+                let bad : false ≡ true = rw (a, b) at ready in cc
+          ]
+    ]
+
+pub depth_after-le : (k : Kind) (d : ℕ) → depth_after k d ≤ d + 1
+depth_after-le kinds.FlowSequenceStart d = omega arith
+depth_after-le kinds.FlowMappingStart d = omega arith
+depth_after-le kinds.FlowSequenceEnd d = omega arith
+depth_after-le kinds.FlowMappingEnd d = omega arith
+depth_after-le _ d = omega arith
+
+pub narrow_by : (n c : ℕ) (may : Bool) (xs new : List ℕ) → c ≤ n → IsNarrow n xs → new ≡ opened may c xs → IsNarrow n new
+narrow_by n c true xs new low h is = subst (λ (ys : List ℕ). IsNarrow n ys) (sym is) (narrow_opened n c xs low h)
+narrow_by n c false xs new low h is = subst (λ (ys : List ℕ). IsNarrow n ys) (sym is) h

@@ -1,0 +1,12 @@
+use Rattle.std.proofs.Common.{◌≡◌, ◌≤◌, take, length}
+use Rattle.yaml_scan_machine.specs.Rising.{left_of}
+use Rattle.yaml_scan_machine.proofs.levels.count_left.Given as goal
+
+abbrev pub invariant-up : goal.invariant-up
+invariant-up l = record {
+  inside : l.n ≤ length l.columns;
+  left : left_of l.column (take l.n l.columns) ≡ left_of l.column l.columns;
+}
+
+abbrev pub decreases-up : goal.decreases-up
+decreases-up l = l.n

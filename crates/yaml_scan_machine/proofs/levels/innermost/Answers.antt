@@ -1,0 +1,11 @@
+use Rattle.std.proofs.Common.{◌≡◌, ◌-◌, suc, sym, arith}
+use Rattle.yaml_scan_machine.proofs.LevelsLemmas.{indent_take, indent_none}
+use Rattle.yaml_scan_machine.proofs.levels.innermost.Goals as goal
+
+pub returns-then-n-eq0 : goal.returns-then-n-eq0
+returns-then-n-eq0 c = rw c.if-n-eq0.true (sym (indent_none c.args.columns.now))
+
+pub returns : goal.returns
+returns c =
+    let is : suc (c.args.n - 1) ≡ c.args.n = omega arith in
+    rw is at (indent_take c.args.columns.now (c.args.n - 1) (omega arith))

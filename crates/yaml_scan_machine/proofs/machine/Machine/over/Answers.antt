@@ -1,0 +1,36 @@
+use Rattle.std.proofs.Common.{◌≡◌, ℕ, List, sym, ap, subst, arith, ◌+◌, length}
+use Rattle.std.specs.Prelude.{map}
+use Rattle.yaml_scan_decode.specs.DecodedText.{text_bytes}
+use Rattle.yaml_scan_model.specs.declared.name.yaml_encoding_t.{yaml_encoding_t}
+use Rattle.yaml_scan_history.specs.Remaining.{remaining}
+use Rattle.yaml_scan_machine.specs.Scanned.{scanned, left_from}
+use Rattle.yaml_scan_machine.specs.State.{IsNarrow}
+use Rattle.yaml_scan_machine.proofs.SafeLemmas.{start_place, narrow_none}
+use Rattle.yaml_scan_machine.proofs.FrontLemmas.{shown_start}
+use Rattle.yaml_scan_machine.proofs.GivenLemmas.{given_none}
+use Rattle.yaml_scan_queue.specs.declared.waiting.Waiting.{Waiting}
+use Rattle.yaml_scan_machine.proofs.machine.Machine.over.Goals as goal
+
+pub returns-clause-stands : goal.returns-clause-stands
+returns-clause-stands c =
+    let P : List ℕ → Type 0 = λ xs. IsNarrow (length (text_bytes c.args.text) + 1) xs in
+    record {
+      long = (let same : length c.as_slice-length.result.now ≡ length (text_bytes c.args.text) = ap (λ (t : List ℕ). length t) c.as_slice-length.ensures in omega (arith, same));
+      few = rw c.new.ensures.items (omega arith);
+      short = rw c.new.ensures.items (omega arith);
+      taken = omega arith;
+      settled = omega arith;
+      last = omega arith;
+      candidate_bound = λ k w lt le. absurd (let bad = rw c.new.ensures.items at lt in omega (arith, bad));
+      depth = omega arith;
+      levels = subst P (sym c.new-2.ensures) (narrow_none (length (text_bytes c.args.text) + 1));
+      inside = λ k w lt. absurd (let bad = rw c.new.ensures.items at lt in omega (arith, bad));
+      place = λ _. start_place (text_bytes c.args.text);
+      begun = λ off. c.new.ensures.items;
+      given = given_none 0 0 (map (λ (x : Waiting). x.entry) c.new.result.items);
+      shown = shown_start (text_bytes c.args.text) c.new.result.items c.new-2.result c.new.ensures.items c.new-2.ensures;
+      spoken = λ k w lt. absurd (let bad = rw c.new.ensures.items at lt in omega (arith, bad));
+    }
+
+pub returns-clause-left : goal.returns-clause-left
+returns-clause-left c = ap (λ (e : yaml_encoding_t). left_from c.args.started (remaining record { encoding = e; text = text_bytes c.args.text } 0 0) (scanned c.args.setting c.args.input.now)) c.stream_encoding.ensures

@@ -1,0 +1,22 @@
+use Rattle.std.proofs.Common.{subst, ℕ, sym, ◌∙◌, ◌≡◌, true}
+use Rattle.yaml_scan_model.specs.Marks.{byte}
+use Rattle.yaml_scan_machine.specs.Stands.{is_letter}
+use Rattle.yaml_scan_machine.proofs.LetterLemmas.{letter_kind, letter_starts}
+use Rattle.yaml_scan_machine.specs.Stands.{Told}
+use Rattle.yaml_scan_machine.proofs.StandsLemmas.{told_stands}
+use Rattle.yaml_scan_machine.proofs.word.kind_at.Goals as goal
+
+pub returns-in-Some-clause-stands : goal.returns-in-Some-clause-stands
+returns-in-Some-clause-stands c =
+    let P : ℕ → Type 0 = λ b. Told c.in-Some.kind b in
+    told_stands c.in-Some.kind c.args.flow c.args.reader.now.text c.args.reader.now.at (subst P c.here-byte.ensures c.in-Some.ensures.told)
+
+pub returns-then-is_letter-clause-value : goal.returns-then-is_letter-clause-value
+returns-then-is_letter-clause-value c =
+    let h : is_letter (byte c.args.reader.now.text c.args.reader.now.at) ≡ true = rw c.here-byte.ensures at (sym c.is_letter.ensures ∙ c.if-is_letter.true) in
+    sym (letter_kind c.args.flow c.args.reader.now.text c.args.reader.now.at h)
+
+pub returns-then-is_letter-clause-stands : goal.returns-then-is_letter-clause-stands
+returns-then-is_letter-clause-stands c =
+    let h : is_letter (byte c.args.reader.now.text c.args.reader.now.at) ≡ true = rw c.here-byte.ensures at (sym c.is_letter.ensures ∙ c.if-is_letter.true) in
+    letter_starts c.args.flow c.args.reader.now.text c.args.reader.now.at h

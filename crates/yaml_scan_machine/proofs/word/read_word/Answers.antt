@@ -1,0 +1,25 @@
+use Rattle.std.proofs.Common.{◌≡◌, Some, Ok, sym, ap, subst, ◌∙◌, arith}
+use Rattle.std.specs.Prelude.{option_map}
+use Rattle.yaml_scan_model.specs.Tokens.{body_of}
+use Rattle.yaml_scan_machine.specs.Given.{indicator_at, ReadsWord}
+use Rattle.yaml_scan_machine.proofs.IndicatorLemmas.{indicator_stands, no_break, indicator_word}
+use Rattle.yaml_scan_machine.proofs.word.read_word.Goals as goal
+
+pub read_indicator-requires-clause-some : goal.read_indicator-requires-clause-some
+read_indicator-requires-clause-some c =
+    let is : indicator_at c.args.kind ≡ Some (body_of c.in-Some.body) = sym c.indicator_body.ensures ∙ ap (option_map body_of) c.in-Some.is in
+    let s = indicator_stands c.args.kind (body_of c.in-Some.body) c.args.flow c.args.reader.now.text c.args.reader.now.at is c.requires.stands in
+    omega (arith, s.low)
+
+pub read_indicator-requires-clause-no_break : goal.read_indicator-requires-clause-no_break
+read_indicator-requires-clause-no_break c =
+    let is : indicator_at c.args.kind ≡ Some (body_of c.in-Some.body) = sym c.indicator_body.ensures ∙ ap (option_map body_of) c.in-Some.is in
+    no_break c.args.kind c.args.reader.now.text c.args.reader.now.at (indicator_stands c.args.kind (body_of c.in-Some.body) c.args.flow c.args.reader.now.text c.args.reader.now.at is c.requires.stands)
+
+pub returns-in-Some : goal.returns-in-Some
+returns-in-Some c =
+    let text = c.args.reader.now.text in
+    let p = c.args.reader.now.at in
+    let is : indicator_at c.args.kind ≡ Some (body_of c.in-Some.body) = sym c.indicator_body.ensures ∙ ap (option_map body_of) c.in-Some.is in
+    let word = indicator_word c.args.kind (body_of c.in-Some.body) c.args.flow c.args.level text p is in
+    subst (λ x. ReadsWord text p c.read_indicator.new.reader (Ok c.read_indicator.result) x) (sym word) (c.read_indicator.ensures.word, c.read_indicator.ensures.place)

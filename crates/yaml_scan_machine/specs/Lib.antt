@@ -1,0 +1,15 @@
+pub mod Stands
+pub mod Rising
+pub mod Given
+pub mod Shows
+pub mod Taken
+pub mod Reads
+pub mod Comes
+pub mod Scanned
+pub mod State
+pub mod Stood
+-- what it stands on, for crates that name this one alone
+pub use Rattle.yaml_scan_words.specs as scan_words
+pub use Rattle.yaml_scan_scalars.specs as scan_scalars
+pub use Rattle.yaml_scan_block.specs as scan_block
+pub use Rattle.yaml_scan_laws_order.specs as scan_laws_order

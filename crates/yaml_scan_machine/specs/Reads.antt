@@ -1,0 +1,161 @@
+-- What reading the next lexeme answers.
+use Rattle.std.specs.Prelude.{ℕ, ◌+◌, ◌≡◌, ◌&&◌, ◌||◌, not, Bool, true, false, nat_lt, ◌==◌, if◌then◌else◌, Option, Some, None, Result, Ok, Err, List, slice_index_or, slice_set}
+use Rattle.yaml_scan_model.specs.declared.record.yaml_mark_t.{yaml_mark_t}
+use Rattle.yaml_scan_model.specs.declared.problem.ScanFault.{ScanFault}
+use Rattle.yaml_scan_model.specs.declared.problem.Problem.TheVariants as problems
+use Rattle.yaml_scan_model.specs.declared.problem.Context.TheVariants as contexts
+use Rattle.yaml_scan_model.specs.declared.problem.ScanError.{ScanError}
+use Rattle.yaml_scan_model.specs.declared.problem.ScanError.TheVariants as errors
+use Rattle.yaml_scan_model.specs.Tokens.{body_of}
+use Rattle.yaml_scan_model.specs.Wrong.{IsMemory}
+use Rattle.yaml_scan_history.specs.declared.kind.Kind.{Kind}
+use Rattle.yaml_scan_history.specs.declared.lexeme.Lexeme.{Lexeme}
+use Rattle.yaml_scan_history.specs.declared.lexeme.Opens.{Opens}
+use Rattle.yaml_scan_history.specs.declared.lexeme.Opens.TheVariants as opening
+use Rattle.yaml_scan_history.specs.Kinds.{cancels, is_value, is_start, is_end, may_be_key}
+use Rattle.yaml_scan_history.specs.History.{Candidate, is_fresh, found_by, indent, left_by, level_of}
+use Rattle.yaml_scan_history.specs.Next.{Next, Read, Fails, Ends}
+use Rattle.yaml_scan_history.specs.Remaining.{SpelledText, body_in}
+use Rattle.yaml_scan_machine.specs.declared.machine.Machine.{Machine}
+use Rattle.yaml_scan_machine.specs.declared.next.Read.{Read as Answer}
+use Rattle.yaml_scan_machine.specs.declared.word.Word.{Word}
+use Rattle.yaml_scan_model.specs.declared.token.yaml_token_body_t.{yaml_token_body_t}
+use Rattle.yaml_scan_machine.specs.State.{IsPlace}
+use Rattle.yaml_scan_queue.specs.declared.waiting.Waiting.{Waiting}
+use Rattle.yaml_scan_machine.specs.Shows.{Finds, Picks, history_of, stream_of}
+use Rattle.yaml_scan_queue.specs.Waits.{marked}
+
+-- the start of a candidate whose `:` must come
+abbrev pub required_in : Option Candidate → Option yaml_mark_t
+required_in None = None
+required_in (Some c) = if c.lexeme.required then Some c.lexeme.start else None
+
+-- the start, where it is stale at a place
+abbrev pub late : Option yaml_mark_t → yaml_mark_t → Option yaml_mark_t
+late None place = None
+late (Some start) place = if is_fresh start place then None else Some start
+
+-- the start, where a lexeme cancels or replaces what starts there
+abbrev pub lost : Option yaml_mark_t → Lexeme → Option yaml_mark_t
+lost None l = None
+lost (Some start) l = if l.depth == 0 && (l.saved || (cancels l.kind && not (is_value l.kind)))
+    then Some start else None
+
+-- the start of the required candidate that is open behind a lexeme
+abbrev pub required_behind : Option yaml_mark_t → Lexeme → Option yaml_mark_t
+required_behind o l = if nat_lt 0 l.depth || (not l.saved && not (cancels l.kind)) then o
+    else if l.required then Some l.start else None
+
+abbrev pub colon_fault : yaml_mark_t → yaml_mark_t → ScanFault
+colon_fault start place = record {
+  problem = problems.NoColon;
+  context = contexts.SimpleKey;
+  context_mark = start;
+  problem_mark = place;
+}
+
+-- Where the candidate of a depth waits, if it is asked for.
+abbrev pub Owns : Machine → ℕ → Bool → Option ℕ → Type 0
+Owns m d false own = own ≡ None
+Owns m d true own = Finds m d own
+
+-- the candidate of which a `:` makes a key
+abbrev pub keyed_by : Kind → Option Candidate → Option Candidate
+keyed_by k o = if is_value k then o else None
+
+-- the lexeme that starts there, its end aside, by the depth and the levels
+abbrev pub begun_in : Kind → yaml_mark_t → Bool → ℕ → List ℕ → Lexeme
+begun_in k start allowed depth levels = record {
+  kind = k;
+  start = start;
+  end = start;
+  reached = start;
+  depth = depth;
+  level = indent (left_by k depth start.column levels);
+  saved = allowed && may_be_key k;
+  required = (allowed && may_be_key k)
+      && (depth == 0 && indent (left_by k depth start.column levels) == start.column + 1);
+  broke = false;
+}
+
+pub record IsRead (m : Machine) (r : Answer) (l : Lexeme) : Type 0 where
+  pub lexeme : r.lexeme ≡ l
+  pub spoken : body_of r.body ≡ body_in (stream_of m) l
+  pub own : Owns m l.depth (l.saved || cancels l.kind) r.own
+  pub key : Picks m (keyed_by l.kind (found_by l (history_of m))) r.key
+
+-- the refusal tells that fault, unless memory ran out
+abbrev pub Tells : ScanError → ScanFault → Type 0
+Tells errors.Memory p = Unit {0}
+Tells (errors.Fault f) p = f ≡ p
+
+-- a lexeme is one that starts so, with its end
+pub record EndsAt (text : List ℕ) (b l : Lexeme) : Type 0 where
+  pub kind : l.kind ≡ b.kind
+  pub start : l.start ≡ b.start
+  pub depth : l.depth ≡ b.depth
+  pub saved : l.saved ≡ b.saved
+  pub place : is_end b.kind ≡ false → IsPlace text l.reached
+
+-- the lexeme with the end that its word tells
+abbrev pub ended_by : Lexeme → Word → yaml_mark_t → Lexeme
+ended_by l word reached = if is_end l.kind then l
+    else record l { end = word.end; reached = reached; broke = word.broke }
+
+-- The start of a required candidate that is stale behind it is refused.
+abbrev pub Finishes : Lexeme → Word → yaml_mark_t → Option yaml_mark_t
+    → Result (Lexeme × yaml_token_body_t) ScanError → Type 0
+Finishes l word reached required (Ok r) = (r.0 ≡ ended_by l word reached) × (r.1 ≡ word.body)
+    × (late (required_behind required (ended_by l word reached)) (ended_by l word reached).reached
+    ≡ None)
+Finishes l word reached required (Err e) = (start : yaml_mark_t)
+    × (late (required_behind required (ended_by l word reached)) (ended_by l word reached).reached
+    ≡ Some start) × (e ≡ errors.Fault (colon_fault start (ended_by l word reached).reached))
+
+-- what reading the lexeme answers
+abbrev pub GivesLexeme : SpelledText → Result (Lexeme × yaml_token_body_t) ScanError → Next → Type 0
+GivesLexeme s (Ok r) (Read l) = (r.0 ≡ l) × (body_of r.1 ≡ body_in s l)
+GivesLexeme s (Ok r) (Fails p) = ⊥
+GivesLexeme s (Ok r) Ends = ⊥
+GivesLexeme s (Err e) (Read l) = IsMemory e
+GivesLexeme s (Err e) (Fails p) = Tells e p
+GivesLexeme s (Err e) Ends = ⊥
+
+abbrev pub GivesNext : Machine → Result Answer ScanError → Next → Type 0
+GivesNext m (Ok r) (Read l) = IsRead m r l
+GivesNext m (Ok r) (Fails p) = ⊥
+GivesNext m (Ok r) Ends = ⊥
+GivesNext m (Err e) (Read l) = IsMemory e
+GivesNext m (Err e) (Fails p) = Tells e p
+GivesNext m (Err e) Ends = ⊥
+
+-- what a lexeme makes of its own depth's candidate, where that waits
+abbrev pub MarksOwn : Option ℕ → Lexeme → Opens → List Waiting → List Waiting → Type 0
+MarksOwn None l opens old new = new ≡ old
+MarksOwn (Some i) l opens old new = (w : Waiting)
+    → new ≡ slice_set old i (marked l opens (slice_index_or old i w))
+
+-- what a lexeme opens with a margin, where it may and the margin passes the indent
+abbrev pub opens_for : Kind → ℕ → ℕ → List ℕ → Opens
+opens_for k depth column levels = if is_start k && not (nat_lt 0 depth)
+    then (if nat_lt (indent levels) column then level_of k else opening.Nothing)
+    else opening.Nothing
+
+-- the margin of the level that may open: one more than the column of the key, or than the lexeme's own
+abbrev pub IsColumnAt : List Waiting → ℕ → Option ℕ → ℕ → Type 0
+IsColumnAt ws own None column = column ≡ own + 1
+IsColumnAt ws own (Some i) column = (w : Waiting)
+    → column ≡ (slice_index_or ws i w).entry.lexeme.start.column + 1
+
+abbrev pub IsColumn : List Waiting → Lexeme → Option ℕ → ℕ → Type 0
+IsColumn ws l key column = IsColumnAt ws l.start.column key column
+
+-- the place where a candidate waits, or where it is known that none does
+abbrev pub bound_or : ℕ → ℕ → Option ℕ → ℕ
+bound_or dropped candidate_bound None = candidate_bound
+bound_or dropped candidate_bound (Some i) = dropped + i
+
+-- the number from which on no lexeme is its depth's candidate, behind one that takes, cancels or replaces its own
+abbrev pub bound_behind : ℕ → ℕ → ℕ → Lexeme → Option ℕ → ℕ
+bound_behind dropped candidate_bound count l own = if l.saved then dropped + count
+    else bound_or dropped candidate_bound own

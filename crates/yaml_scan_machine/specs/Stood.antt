@@ -1,0 +1,60 @@
+-- What stands behind the gap, where a further lexeme is to be read.
+use Rattle.std.specs.Prelude.{◌≡◌, ◌≤◌, Bool, true, false, nat_lt, Some, None, Ok, length}
+use Rattle.yaml_scan_model.specs.declared.problem.ScanError.{ScanError}
+use Rattle.yaml_scan_model.specs.Faults.{Fault}
+use Rattle.yaml_scan_decode.specs.DecodedText.{text_bytes}
+use Rattle.yaml_scan_words.specs.Between.{Gap}
+use Rattle.yaml_scan_history.specs.History.{candidate, fresh, reached}
+use Rattle.yaml_scan_history.specs.Next.{next, allowed_behind}
+use Rattle.yaml_scan_history.specs.Stepwise.{of_kind}
+use Rattle.yaml_scan_history.specs.Laws.{Upto}
+use Rattle.yaml_scan_machine.specs.declared.machine.Machine.{Machine}
+use Rattle.yaml_scan_history.specs.declared.kind.Kind.{Kind}
+use Rattle.yaml_scan_machine.specs.declared.next.Spot.{Spot}
+use Rattle.yaml_scan_machine.specs.declared.next.Read.{Read}
+use Rattle.yaml_scan_machine.specs.Stands.{Stands}
+use Rattle.yaml_scan_machine.specs.Shows.{history_of}
+use Rattle.yaml_scan_machine.specs.Reads.{required_in, late, GivesNext}
+use Rattle.yaml_scan_machine.specs.Comes.{Refused}
+use Rattle.yaml_scan_machine.specs.Scanned.{IsLocated}
+use Rattle.yaml_scan_machine.specs.State.{IsPlace, IsMachine, IsNext, GoesOn, is_ready}
+
+-- a lexeme of a kind stands there, and comes next
+pub record IsStand (m : Machine) (k : Kind) (s : Spot) : Type 0 where
+  pub place : IsPlace (text_bytes m.text) s.mark
+  pub kind : Stands k (nat_lt 0 m.depth) (text_bytes m.text) s.mark.index
+  pub forward : Upto (reached (history_of m)) s.mark
+  pub required : s.required
+      ≡ required_in (fresh (candidate 0 (history_of m)) (reached (history_of m)))
+  pub early : late s.required s.mark ≡ None
+  pub gap : Gap
+  pub behind : gap.place ≡ s.mark.index
+  pub allowed : allowed_behind (history_of m) gap ≡ s.allowed
+  pub next : next (text_bytes m.text) (history_of m)
+      ≡ of_kind (Some k) (text_bytes m.text) gap (history_of m)
+
+-- what was read comes next
+pub record ComesNext (m : Machine) (r : Read) : Type 0 where
+  pub safe : IsNext m r
+  pub exact : GivesNext m (Ok r) (next (text_bytes m.text) (history_of m))
+
+-- a further lexeme is to be read
+pub record MayRead (m : Machine) : Type 0 where
+  pub stands : IsMachine m
+  pub started : m.started ≡ true
+  pub sought : is_ready m ≡ false
+  pub more : m.ended ≡ false
+
+-- a lexeme of a kind is to be read, which stands there
+pub record MayReadAt (m : Machine) (k : Kind) (s : Spot) : Type 0 where
+  pub may : MayRead m
+  pub stand : IsStand m k s
+
+-- the fault of a refusal of the next lexeme
+abbrev pub IsRefused : Machine → Fault → Type 0
+IsRefused m f = (e : ScanError) × (Refused m e) × (IsLocated e f)
+
+-- one lexeme more waits (true), or that fault is answered
+abbrev pub Steps : Machine → Machine → Fault → Bool → Type 0
+Steps old new f true = IsMachine new × GoesOn old new
+Steps old new f false = IsRefused old f × (length new.waiting.items ≤ 1025)

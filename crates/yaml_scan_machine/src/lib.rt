@@ -1,0 +1,13 @@
+//! The scanner's state, which stands for the lexemes of a text that were read, and how it reads one more.
+#![tactic(auto)]
+
+mod levels;
+mod machine;
+mod next;
+mod step;
+mod ways;
+mod word;
+
+pub use levels::Levels;
+pub use machine::{Machine, put_fault};
+pub use next::{Read, Spot};

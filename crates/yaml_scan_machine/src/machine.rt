@@ -1,0 +1,440 @@
+//! The state between two lexemes.
+
+ghost use Rattle.std.specs.Prelude.{◌≡◌, ◌+◌, ◌-◌, ◌<◌, ◌≤◌, ◌^◌, ◌&&◌, ◌||◌, ◌==◌, not, nat_lt, if◌then◌else◌, ◌⊎◌, OnOk, IfOk, IfErr, OnErr, IsTrue, IfSome, true, false, length, ℕ};
+ghost use Rattle.yaml_scan_decode.specs.DecodedText.{text_bytes};
+ghost use Rattle.yaml_scan_history.specs.Kinds as kinds;
+ghost use Rattle.yaml_scan_model.specs.Faults.{fault_of};
+ghost use Rattle.yaml_scan_machine.specs.Scanned.{IsLocated};
+ghost use Rattle.yaml_scan_history.specs.History as history;
+
+use crate::levels::Levels;
+use crate::next::keeps;
+use std::alloc::{AllocError, Global};
+use yaml_scan_decode::{stream_encoding, yaml_decode, yaml_text_t};
+use yaml_scan_history::{Entry, Kind, Lexeme, Opens};
+use yaml_scan_model::{
+    ScanError, yaml_encoding_t, yaml_fault_t, yaml_mark_t, yaml_memory_fault, yaml_origin_t,
+    yaml_token_body_t, yaml_token_t,
+};
+use yaml_scan_queue::Queue;
+
+/// The state between two lexemes.
+#[derive(Drop)]
+pub struct Machine<'a> {
+    pub alloc: Global,
+    /// The stream's bytes, and how they are to be read.
+    pub input: &'a [u8],
+    pub setting: yaml_encoding_t,
+    /// The input is decoded.
+    pub started: bool,
+    pub text: yaml_text_t<'a>,
+    pub encoding: yaml_encoding_t,
+    /// The lexemes that were read and are not all taken. It grows at its back alone.
+    pub waiting: Queue,
+    /// How many lexemes were taken, and how many tokens of the next one.
+    pub dropped: usize,
+    pub given: usize,
+    /// How many lexemes no later one changes.
+    pub settled: usize,
+    /// No lexeme with this number or a later one is its depth's candidate.
+    pub candidate_bound: usize,
+    /// The place that is reached.
+    pub place: yaml_mark_t,
+    /// How many brackets are open.
+    pub depth: usize,
+    pub levels: Levels,
+    /// A key may begin here.
+    pub allowed: bool,
+    /// The end was read.
+    pub ended: bool,
+}
+
+impl<'a> Machine<'a> {
+    ghost use Rattle.yaml_scan_machine.specs.State.{IsMachine, IsNarrow, AreInside, AreBounded, GoesOn, is_ready};
+    ghost use Rattle.yaml_scan_machine.specs.Scanned.{scanned, left_in, left_from, IsTold};
+    ghost use Rattle.yaml_scan_decode.specs.Encodings.{encoding_of};
+    ghost use Rattle.yaml_scan_machine.specs.Shows.{IsPending, fields_of, history_of};
+    ghost use Rattle.yaml_scan_machine.specs.Reads.{MarksOwn, IsColumnAt, opens_for, bound_behind};
+    ghost use Rattle.yaml_scan_machine.specs.Comes.{Refused};
+    ghost use Rattle.yaml_scan_history.specs.Remaining.{nothing, offline};
+    ghost use Rattle.yaml_scan_laws_order.specs.Fronts.{GivesFirst};
+    ghost use Rattle.yaml_scan_model.specs.Tokens.{token_of};
+
+    /// The state before the first lexeme of an input.
+    pub fn new(alloc: Global, input: &'a [u8], setting: yaml_encoding_t) -> Machine<'a>
+        ensures stands { IsMachine result }
+        ensures ready { is_ready result ≡ false }
+        ensures waiting { length result.waiting.items ≡ 0 }
+        ensures left { left_in result ≡ scanned setting input.now }
+    {
+        Machine::over(alloc, input, setting, false, yaml_text_t::Borrowed(input))
+    }
+
+    /// The state before the first lexeme of a text.
+    fn over(
+        alloc: Global,
+        input: &'a [u8],
+        setting: yaml_encoding_t,
+        started: bool,
+        text: yaml_text_t<'a>,
+    ) -> Machine<'a>
+        ensures stands { IsMachine result }
+        ensures ready { is_ready result ≡ false }
+        ensures waiting { length result.waiting.items ≡ 0 }
+        ensures started { result.started ≡ started }
+        ensures left { left_in result ≡ left_from started
+            (offline record {
+              encoding = encoding_of setting input.now;
+              text = text_bytes
+                  text.entry;
+            }) (scanned setting input.now) }
+    {
+        // Read for the clauses: a length that is read has a number within its type.
+        let _length = text.as_slice().len();
+        Machine {
+            alloc,
+            input,
+            setting,
+            started,
+            text,
+            encoding: stream_encoding(input, setting),
+            waiting: Queue::new(alloc),
+            dropped: 0,
+            given: 0,
+            settled: 0,
+            candidate_bound: 0,
+            place: yaml_mark_t {
+                index: 0,
+                line: 0,
+                column: 0,
+            },
+            depth: 0,
+            levels: Levels::new(alloc),
+            allowed: false,
+            ended: false,
+        }
+    }
+
+    /// Decodes the input, once.
+    pub fn start(&mut self) -> Result<(), yaml_fault_t>
+        requires { IsMachine self.old }
+        ensures stands { OnOk result (IsMachine self.new) }
+        ensures started { OnOk result (self.new.started ≡ true) }
+        ensures left { OnOk result (left_in self.new ≡ left_in self.old) }
+        ensures ready { OnOk result (is_ready self.new ≡ is_ready self.old) }
+        ensures told { IfErr result (λ f. IsTold (left_in self.old) (fault_of f)) }
+        ensures few { OnErr result (length self.new.waiting.items ≤ 1025) }
+        ensures sought { IfErr result (λ f. is_ready self.old ≡ false) }
+    {
+        if self.started {
+            return Ok(());
+        }
+        match yaml_decode(self.alloc, self.input, self.setting) {
+            Ok(text) => {
+                *self = Machine::over(self.alloc, self.input, self.setting, true, text);
+                Ok(())
+            }
+            Err(fault) => Err(fault),
+        }
+    }
+
+    /// Whether no lexeme was read yet.
+    // Inlined: an addition and a comparison, asked for each lexeme.
+    #[inline(always)]
+    pub fn is_new(&self) -> bool
+        requires { IsMachine self.now }
+        ensures none { result ≡ true → self.now.dropped + length self.now.waiting.items ≡ 0 }
+        ensures some { result ≡ false → 0 < self.now.dropped + length self.now.waiting.items }
+    {
+        self.dropped + self.waiting.len() == 0
+    }
+
+    /// Whether the next token is known, whatever follows.
+    // Inlined: two comparisons, asked for each token.
+    #[inline(always)]
+    pub fn has_token(&self) -> bool
+        ensures { result ≡ is_ready self.now }
+    {
+        match self.waiting.front() {
+            None => false,
+            Some(front) => self.dropped < self.settled || self.given < front.entry.ends,
+        }
+    }
+
+    /// Takes the next token: it is the first one that was to come, and the rest is left.
+    pub fn take_token(&mut self) -> yaml_token_t
+        requires stands { IsMachine self.old }
+        requires ready { is_ready self.old ≡ true }
+        ensures stands { IsMachine self.new }
+        ensures gives { GivesFirst (left_in self.old) (token_of result) (left_in self.new) }
+    {
+        let mut token = yaml_token_t::empty();
+        self.take_token_into(&mut token);
+        token
+    }
+
+    /// Takes the next token, in a slot that is lent.
+    pub fn take_token_into(&mut self, slot: &mut yaml_token_t)
+        requires stands { IsMachine self.old }
+        requires ready { is_ready self.old ≡ true }
+        ensures stands { IsMachine self.new }
+        ensures gives { GivesFirst (left_in self.old) (token_of slot.new) (left_in self.new) }
+    {
+        let Some(first) = self.waiting.front() else {
+            *slot = yaml_token_t::empty();
+            return;
+        };
+        // The marks are read where they lie: of a lexeme that was taken out they would be copied with all that it has.
+        slot.start_mark = first.entry.lexeme.start;
+        if let Some(before) = first.before(self.given) {
+            slot.end_mark = first.entry.lexeme.start;
+            self.given += 1;
+            slot.body = before.body();
+            return;
+        }
+        slot.end_mark = first.entry.lexeme.end;
+        self.dropped += 1;
+        self.given = 0;
+        slot.body = self.waiting.pop_body();
+    }
+
+    /// Tells the candidate of a lexeme's depth what the lexeme makes of it.
+    // Inlined: the kind is known where it is called.
+    #[inline(always)]
+    pub(crate) fn mark_own(&mut self, own: Option<usize>, lexeme: Lexeme, opens: Opens)
+        requires { IfSome own (λ i. i < length self.old.waiting.items) }
+        ensures same { self.new ≡ record self.old { waiting = self.new.waiting } }
+        ensures length { length self.new.waiting.items ≡ length self.old.waiting.items }
+        ensures inside { (n : ℕ) → AreInside n self.old.waiting.items
+            → AreInside n self.new.waiting.items }
+        ensures marks { MarksOwn own lexeme opens self.old.waiting.items self.new.waiting.items }
+    {
+        if let Some(i) = own {
+            self.waiting.mark(i, lexeme, opens);
+        }
+    }
+
+    /// The number from which on no lexeme is its depth's candidate, where `lexeme` is the last one and takes, cancels or
+    /// replaces the one at `own`.
+    // Inlined: the kind is known where it is called.
+    #[inline(always)]
+    pub(crate) fn bound_behind(&self, own: Option<usize>, lexeme: Lexeme) -> usize
+        requires own { IfSome own (λ i. i < length self.now.waiting.items) }
+        requires few { self.now.dropped + length self.now.waiting.items < 2 ^ 64 - 1 }
+        ensures { result ≡ bound_behind self.now.dropped self.now.candidate_bound
+            (length self.now.waiting.items) lexeme own }
+    {
+        if lexeme.saved {
+            return self.dropped + self.waiting.len();
+        }
+        match own {
+            Some(i) => self.dropped + i,
+            None => self.candidate_bound,
+        }
+    }
+
+    /// How many lexemes no later one changes: those before the earliest open candidate, or all behind the end.
+    // Inlined: the kind is known where it is called.
+    #[inline(always)]
+    pub(crate) fn settle(&self) -> usize
+        requires shown { IsPending (fields_of self.now) }
+        requires settled { self.now.settled ≤ self.now.dropped + length self.now.waiting.items }
+        requires few { self.now.dropped + length self.now.waiting.items < 2 ^ 64 - 1 }
+        requires last { self.now.candidate_bound ≤ self.now.dropped + length
+            self.now.waiting.items }
+        requires candidate_bound { AreBounded self.now.candidate_bound self.now.dropped
+            self.now.waiting.items }
+        ensures value { result ≡ (if self.now.ended then length (history_of self.now)
+            else history.first_open (history_of self.now) (history_of self.now)) }
+        ensures low { self.now.settled ≤ result }
+        ensures high { result ≤ self.now.dropped + length self.now.waiting.items }
+    {
+        if self.ended {
+            return self.dropped + self.waiting.len();
+        }
+        self.earliest_open()
+    }
+
+    /// Closes the levels right of a lexeme outside all brackets, and answers how many they are.
+    // Inlined: the kind is known where it is called.
+    #[inline(always)]
+    pub(crate) fn close_levels(&mut self, lexeme: Lexeme) -> usize
+        requires { lexeme.start.column < 2 ^ 63 }
+        ensures same { self.new ≡ record self.old { levels = self.new.levels } }
+        ensures levels { self.new.levels ≡ history.left_by lexeme.kind lexeme.depth
+            lexeme.start.column self.old.levels }
+        ensures count { result ≡ length self.old.levels - length self.new.levels }
+        ensures narrow { (n : ℕ) → IsNarrow n self.old.levels → IsNarrow n self.new.levels }
+    {
+        if 0 < lexeme.depth {
+            return 0;
+        }
+        self.levels.close(keeps(lexeme.kind, lexeme.start.column))
+    }
+
+    /// The margin of the level that may open: one more than the column of the key of a `:`, or than the lexeme's own.
+    // The lexeme's own column is a number: of a lexeme here and one in the list LLVM would take the place and keep
+    // both in memory.
+    // Inlined: the kind is known where it is called.
+    #[inline(always)]
+    pub(crate) fn level_column(&self, own: u64, key: Option<usize>) -> u64
+        requires column { own ≤ length (text_bytes self.now.text) }
+        requires key { IfSome key (λ i. i < length self.now.waiting.items) }
+        requires inside { AreInside (length (text_bytes self.now.text)) self.now.waiting.items }
+        requires long { length (text_bytes self.now.text) < 2 ^ 63 }
+        ensures column { IsColumnAt self.now.waiting.items own key result }
+        ensures narrow { result ≤ length (text_bytes self.now.text) + 1 }
+    {
+        match key {
+            Some(i) => self.waiting.index(i).entry.lexeme.start.column + 1,
+            None => own + 1,
+        }
+    }
+
+    /// Opens the level of a `-`, `?` or `:` at that column, where it passes the indent.
+    // Inlined: the kind is known where it is called.
+    #[inline(always)]
+    pub(crate) fn open_level(&mut self, lexeme: Lexeme, column: u64) -> Result<Opens, AllocError>
+        ensures same { OnOk result (self.new ≡ record self.old { levels = self.new.levels }) }
+        ensures waiting { self.new.waiting ≡ self.old.waiting }
+        ensures levels { OnOk result (self.new.levels ≡ history.opened (kinds.is_start lexeme.kind
+            && not (nat_lt 0 lexeme.depth)) column self.old.levels) }
+        ensures opens { IfOk result (λ o. o ≡ opens_for lexeme.kind lexeme.depth column
+            self.old.levels) }
+    {
+        if 0 < lexeme.depth || !lexeme.kind.is_start() {
+            return Ok(Opens::Nothing);
+        }
+        if !self.levels.open(column)? {
+            return Ok(Opens::Nothing);
+        }
+        Ok(level_of(lexeme.kind))
+    }
+
+    /// The number of the earliest open candidate, or how many lexemes were read. Mostly it is the one where the last
+    /// look ended: that is asked before the loop, in front of which LLVM would compute its places.
+    // Inlined: the kind is known where it is called.
+    #[inline(always)]
+    fn earliest_open(&self) -> usize
+        requires shown { IsPending (fields_of self.now) }
+        requires settled { self.now.settled ≤ self.now.dropped + length self.now.waiting.items }
+        requires few { self.now.dropped + length self.now.waiting.items < 2 ^ 64 - 1 }
+        requires last { self.now.candidate_bound ≤ self.now.dropped + length
+            self.now.waiting.items }
+        requires candidate_bound { AreBounded self.now.candidate_bound self.now.dropped
+            self.now.waiting.items }
+        ensures value { result ≡ history.first_open (history_of self.now) (history_of self.now) }
+        ensures low { self.now.settled ≤ result }
+        ensures high { result ≤ self.now.dropped + length self.now.waiting.items }
+    {
+        if self.stays_open() {
+            return self.settled;
+        }
+        self.later_open()
+    }
+
+    /// Whether the first lexeme that isn't settled is an open candidate.
+    // Inlined: the kind is known where it is called.
+    #[inline(always)]
+    fn stays_open(&self) -> bool
+        requires shown { IsPending (fields_of self.now) }
+        requires settled { self.now.settled ≤ self.now.dropped + length self.now.waiting.items }
+        ensures { result ≡ true
+            → self.now.settled ≡ history.first_open (history_of self.now) (history_of self.now) }
+    {
+        let first = self.settled - self.dropped;
+        if first < self.waiting.len() {
+            return self.waiting.index(first).is_open(self.place);
+        }
+        false
+    }
+
+    /// The number of the earliest open candidate, or how many lexemes were read, by a look at each. What is settled
+    /// stays so, so the look goes on where the last one ended; behind the last candidate bound there is none.
+    // Out of line: it is seldom asked.
+    #[inline(never)]
+    fn later_open(&self) -> usize
+        requires shown { IsPending (fields_of self.now) }
+        requires settled { self.now.settled ≤ self.now.dropped + length self.now.waiting.items }
+        requires few { self.now.dropped + length self.now.waiting.items < 2 ^ 64 - 1 }
+        requires last { self.now.candidate_bound ≤ self.now.dropped + length
+            self.now.waiting.items }
+        requires candidate_bound { AreBounded self.now.candidate_bound self.now.dropped
+            self.now.waiting.items }
+        ensures value { result ≡ history.first_open (history_of self.now) (history_of self.now) }
+        ensures low { self.now.settled ≤ result }
+        ensures high { result ≤ self.now.dropped + length self.now.waiting.items }
+    {
+        let mut i = self.settled - self.dropped;
+        let candidate_bound = self.candidate_bound.saturating_sub(self.dropped);
+        'pass: while i < candidate_bound {
+            if self.waiting.index(i).is_open(self.place) {
+                return self.dropped + i;
+            }
+            i += 1;
+        }
+        self.count()
+    }
+
+    /// How many lexemes were read.
+    fn count(&self) -> usize
+        requires few { self.now.dropped + length self.now.waiting.items < 2 ^ 64 - 1 }
+        ensures { result ≡ self.now.dropped + length self.now.waiting.items }
+    {
+        self.dropped + self.waiting.len()
+    }
+}
+
+/// Puts the fault that a refusal is answered as into a slot.
+// Out of line: in line the room of its copy would be set to zero for each token.
+#[inline(never)]
+pub fn put_fault(slot: &mut yaml_fault_t, error: ScanError)
+    ensures { IsLocated error (fault_of slot.new) }
+{
+    *slot = located(error);
+}
+
+/// The fault that a refusal is answered as.
+fn located(error: ScanError) -> yaml_fault_t
+    ensures { IsLocated error (fault_of result) }
+{
+    match error {
+        ScanError::Memory => yaml_memory_fault(yaml_origin_t::Scanner),
+        ScanError::Fault(fault) => fault.located(),
+    }
+}
+
+/// The level that a `-`, a `?` or a `:` opens.
+fn level_of(kind: Kind) -> Opens
+    ensures { result ≡ history.level_of kind }
+{
+    match kind {
+        Kind::BlockEntry => Opens::Sequence,
+        _ => Opens::Mapping,
+    }
+}
+
+/// How a lexeme is spelled out, where it is read. What a `:` opens for its key stands before that key.
+pub(crate) fn entry(lexeme: Lexeme, ends: usize, opens: Opens, found: bool) -> Entry
+    ensures { result ≡ record {
+      lexeme = lexeme;
+      ends = ends;
+      opens = if found then Opens.Nothing
+          else opens;
+      key = false;
+    } }
+{
+    Entry {
+        lexeme,
+        ends,
+        opens: if found { Opens::Nothing } else { opens },
+        key: false,
+    }
+}
+
+/// Whether a key may begin behind a lexeme.
+pub(crate) fn allows(lexeme: Lexeme, found: bool) -> bool
+    ensures { result ≡ (kinds.allows_key lexeme.kind (lexeme.depth == 0) found || lexeme.broke) }
+{
+    lexeme.kind.allows_key(lexeme.depth == 0, found) || lexeme.broke
+}

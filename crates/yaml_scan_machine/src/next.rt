@@ -1,0 +1,547 @@
+//! The lexeme that comes next, and why there may be none.
+
+ghost use Rattle.std.specs.Prelude.{◌≡◌, ◌+◌, ◌≤◌, ◌<◌, ◌^◌, ◌&&◌, ◌||◌, ◌==◌, not, nat_lt, if◌then◌else◌, Ok, IfOk, IfErr, IfSome, is_some, Some, None, true, false, length};
+ghost use Rattle.yaml_scan_decode.specs.DecodedText.{text_bytes};
+ghost use Rattle.yaml_scan_model.specs.Marks.{mark_at};
+ghost use Rattle.yaml_scan_model.specs.Tokens as tokens;
+ghost use Rattle.yaml_scan_model.specs.Tokens.{body_of};
+ghost use Rattle.yaml_scan_words.specs.Between.{Gap};
+ghost use Rattle.yaml_scan_history.specs.Kinds as kinds;
+ghost use Rattle.yaml_scan_history.specs.Next as spec;
+ghost use Rattle.yaml_scan_history.specs.Stepwise as steps;
+ghost use Rattle.yaml_scan_history.specs.Laws.{Upto};
+ghost use Rattle.yaml_scan_history.specs.History.{candidate, fresh, reached, indent, left_by, placed, keeps};
+ghost use Rattle.yaml_scan_machine.specs.Stands.{Stands};
+ghost use Rattle.yaml_scan_machine.specs.State.{IsPlace};
+ghost use Rattle.yaml_scan_history.specs.Words.{word_at};
+ghost use Rattle.yaml_scan_machine.specs.Reads.{late, lost, required_behind, colon_fault, begun_in, Finishes};
+
+use crate::machine::Machine;
+use crate::word::{Word, kind_at, read_word};
+use yaml_scan_history::{Kind, Lexeme, is_fresh, moved_end};
+use yaml_scan_model::{
+    Context, Problem, Reader, ScanError, ScanFault, yaml_encoding_t, yaml_mark_t, yaml_token_body_t,
+};
+use yaml_scan_queue::Seen;
+use yaml_scan_words::skip_gap;
+
+/// A lexeme that was read, and what its own token carries.
+#[derive(Drop)]
+pub struct Read {
+    pub lexeme: Lexeme,
+    pub body: yaml_token_body_t,
+    /// Where its depth's candidate waits, which it takes, cancels or replaces.
+    pub own: Option<usize>,
+    /// It is a `:`, and makes a key of that candidate where it is given.
+    pub key: Option<usize>,
+}
+
+/// The place where a lexeme stands, behind the gap, and what is known there before its kind is.
+#[derive(Clone, Copy)]
+pub struct Spot {
+    pub mark: yaml_mark_t,
+    /// A key may begin there.
+    pub allowed: bool,
+    /// The start of the required candidate that is open.
+    pub required: Option<yaml_mark_t>,
+}
+
+/// The place where a lexeme stands, behind the gap.
+#[derive(Clone, Copy)]
+struct Stand {
+    mark: yaml_mark_t,
+    kind: Kind,
+    /// A key may begin there.
+    allowed: bool,
+}
+
+impl<'a> Machine<'a> {
+    ghost use Rattle.yaml_scan_machine.specs.State.{IsMachine, IsNext, AreBounded};
+    ghost use Rattle.yaml_scan_machine.specs.Shows.{IsShown, fields_of, history_of, stream_of, Finds, IsHidden, Picks};
+    ghost use Rattle.yaml_scan_machine.specs.Comes.{Refused};
+    ghost use Rattle.yaml_scan_machine.specs.Stood.{IsStand};
+    ghost use Rattle.yaml_scan_machine.specs.Reads.{GivesNext, GivesLexeme, EndsAt, Owns, keyed_by, required_in};
+
+    /// What stands behind the gap, where a lexeme was read before.
+    // Inlined: it is called at one place.
+    #[inline(always)]
+    pub fn stand(&self) -> Result<(Kind, Spot), ScanError>
+        requires stands { IsMachine self.now }
+        requires more { self.now.ended ≡ false }
+        requires some { 0 < self.now.dropped + length self.now.waiting.items }
+        ensures ok { IfOk result (λ r. IsStand self.now r.0 r.1) }
+        ensures refused { IfErr result (Refused self.now) }
+    {
+        let mut reader = Reader::resume(self.text.as_slice(), self.place);
+        let flow = 0 < self.depth;
+        let broke = skip_gap(&mut reader, flow, self.allowed);
+        let mark = reader.stop();
+        let required = self.required();
+        if let Some(start) = late(required, mark) {
+            return Err(no_colon(start, mark));
+        }
+        let Some(kind) = kind_at(&reader, flow) else {
+            return Err(ScanError::refusal(Problem::NoTokenStart, Context::NextToken, mark, mark));
+        };
+        let allowed = allowed_behind(self.allowed, broke, flow);
+        let spot = Spot {
+            mark,
+            allowed,
+            required,
+        };
+        Ok((kind, spot))
+    }
+
+    /// The lexeme that comes first.
+    pub(crate) fn first(&self) -> Read
+        requires stands { IsMachine self.now }
+        requires more { self.now.ended ≡ false }
+        requires none { self.now.dropped + length self.now.waiting.items ≡ 0 }
+        ensures safe { IsNext self.now result }
+        ensures exact { GivesNext self.now (Ok result)
+            (spec.next (text_bytes self.now.text) (history_of self.now)) }
+    {
+        stream_start(self.place, self.encoding)
+    }
+
+    /// The lexeme that comes next, which stands there.
+    // Inlined: its kind is known where it is called.
+    #[inline(always)]
+    pub(crate) fn next(&self, kind: Kind, spot: Spot) -> Result<Read, ScanError>
+        requires stands { IsMachine self.now }
+        requires more { self.now.ended ≡ false }
+        requires stand { IsStand self.now kind spot }
+        ensures safe { IfOk result (λ r. IsNext self.now r) }
+        ensures exact { GivesNext self.now result
+            (spec.next (text_bytes self.now.text) (history_of self.now)) }
+        ensures refused { IfErr result (Refused self.now) }
+    {
+        let mut reader = Reader::resume(self.text.as_slice(), spot.mark);
+        let stand = Stand {
+            mark: spot.mark,
+            kind,
+            allowed: spot.allowed,
+        };
+        self.of_kind(&mut reader, stand, spot.required)
+    }
+
+    /// The lexeme of that kind, which stands there.
+    // Inlined: the kind is known where it is called.
+    #[inline(always)]
+    fn of_kind(
+        &self,
+        reader: &mut Reader,
+        stand: Stand,
+        required: Option<yaml_mark_t>,
+    ) -> Result<Read, ScanError>
+        requires stands { IsMachine self.now }
+        requires more { self.now.ended ≡ false }
+        requires text { reader.old.text ≡ text_bytes self.now.text }
+        requires mark { stand.mark ≡ mark_at reader.old.text reader.old.at }
+        requires place { IsPlace (text_bytes self.now.text) stand.mark }
+        requires kind { Stands stand.kind (nat_lt 0 self.now.depth) reader.old.text reader.old.at }
+        requires forward { Upto (reached (history_of self.now)) stand.mark }
+        requires required { required ≡ required_in (fresh (candidate 0 (history_of self.now))
+            (reached (history_of self.now))) }
+        requires early { late required stand.mark ≡ None }
+        ensures safe { IfOk result (λ r. IsNext self.now r) }
+        ensures exact { (gap : Gap) → gap.place ≡ reader.old.at
+            → spec.allowed_behind (history_of self.now) gap ≡ stand.allowed
+            → GivesNext self.now result (steps.of_kind (Some stand.kind) (text_bytes self.now.text)
+            gap (history_of self.now)) }
+    {
+        let own = self.own(stand);
+        let key = self.key(stand, own);
+        if self.is_misplaced(stand, key) {
+            return Err(misplaced(stand.kind, stand.mark));
+        }
+        let lexeme = self.lexeme_at(stand);
+        if let Some(start) = lost(required, lexeme) {
+            return Err(no_colon(start, lexeme.start));
+        }
+        match self.read(reader, lexeme, required) {
+            Ok((lexeme, body)) => Ok(Read {
+                lexeme,
+                body,
+                own,
+                key,
+            }),
+            Err(error) => Err(error),
+        }
+    }
+
+    /// The lexeme with its end, and what its token carries.
+    // Inlined: the kind is known where it is called.
+    #[inline(always)]
+    fn read(
+        &self,
+        reader: &mut Reader,
+        lexeme: Lexeme,
+        required: Option<yaml_mark_t>,
+    ) -> Result<(Lexeme, yaml_token_body_t), ScanError>
+        requires text { reader.old.text ≡ text_bytes self.now.text }
+        requires index { lexeme.start.index ≡ reader.old.at }
+        requires start { kinds.is_end lexeme.kind ≡ false → lexeme.start ≡ mark_at reader.old.text
+            reader.old.at }
+        requires kind { Stands lexeme.kind (nat_lt 0 lexeme.depth) reader.old.text reader.old.at }
+        requires level { lexeme.level ≤ length (text_bytes self.now.text) + 1 }
+        requires saved { lexeme.required ≡ true → lexeme.saved ≡ true }
+        requires required { required ≡ required_in (fresh (candidate 0 (history_of self.now))
+            (reached (history_of self.now))) }
+        ensures safe { IfOk result (λ r. EndsAt (text_bytes self.now.text) lexeme r.0) }
+        ensures exact { GivesLexeme (stream_of self.now) result
+            (steps.unless_wrong (word_at lexeme.kind (nat_lt 0 lexeme.depth) lexeme.level
+            (text_bytes self.now.text) lexeme.start.index) (text_bytes self.now.text) lexeme
+            (history_of self.now)) }
+    {
+        let flow = 0 < lexeme.depth;
+        match read_word(self.alloc, reader, lexeme.kind, flow, lexeme.level) {
+            Ok(word) => finish(lexeme, word, reader.stop(), required),
+            Err(error) => Err(error),
+        }
+    }
+
+    /// Whether a `-`, a `?`, or a `:` without a key stands where no key may begin.
+    // Inlined: the kind is known where it is called.
+    #[inline(always)]
+    fn is_misplaced(&self, stand: Stand, key: Option<usize>) -> bool
+        ensures { result ≡ ((not (nat_lt 0 self.now.depth) && not stand.allowed)
+            && (kinds.is_start stand.kind && not (is_some key))) }
+    {
+        self.depth == 0 && !stand.allowed && (stand.kind.is_start() && key.is_none())
+    }
+
+    /// The lexeme that stands there, without its end.
+    // Inlined: the kind is known where it is called.
+    #[inline(always)]
+    fn lexeme_at(&self, stand: Stand) -> Lexeme
+        requires stands { IsMachine self.now }
+        requires place { IsPlace (text_bytes self.now.text) stand.mark }
+        ensures value { result ≡ begun_in stand.kind (placed stand.kind stand.mark) stand.allowed
+            self.now.depth self.now.levels }
+        ensures level { result.level ≤ length (text_bytes self.now.text) + 1 }
+        ensures column { result.start.column ≤ length (text_bytes self.now.text) }
+    {
+        let start = moved_end(stand.kind, stand.mark);
+        let saved = stand.allowed && stand.kind.may_be_key();
+        let level = self.level_at(stand.kind, start.column);
+        Lexeme {
+            kind: stand.kind,
+            start,
+            end: start,
+            reached: start,
+            depth: self.depth,
+            level,
+            saved,
+            required: saved && (self.depth == 0 && level == start.column + 1),
+            broke: false,
+        }
+    }
+
+    /// The innermost level that a lexeme at a column stands in, or 0.
+    // Inlined: the kind is known where it is called.
+    #[inline(always)]
+    fn level_at(&self, kind: Kind, column: u64) -> u64
+        requires stands { IsMachine self.now }
+        requires column { column ≤ length (text_bytes self.now.text) }
+        ensures value { result ≡ indent (left_by kind self.now.depth column self.now.levels) }
+        ensures narrow { result ≤ length (text_bytes self.now.text) + 1 }
+    {
+        if 0 < self.depth {
+            return self.levels.indent();
+        }
+        self.levels.indent_at(keeps(kind, column))
+    }
+
+    /// Where the candidate waits that a lexeme takes, cancels or replaces.
+    // Inlined: the kind is known where it is called.
+    #[inline(always)]
+    fn own(&self, stand: Stand) -> Option<usize>
+        requires stands { IsMachine self.now }
+        ensures owns { Owns self.now self.now.depth ((stand.allowed && kinds.may_be_key stand.kind)
+            || kinds.cancels stand.kind) result }
+        ensures inside { IfSome result (λ i. i < length self.now.waiting.items) }
+        ensures last { IfSome result (λ i. AreBounded (self.now.dropped + i + 1) self.now.dropped
+            self.now.waiting.items) }
+    {
+        if stand.asks() {
+            return self.find();
+        }
+        None
+    }
+
+    /// Where the candidate waits of which a `:` makes a key.
+    // Inlined: the kind is known where it is called.
+    #[inline(always)]
+    fn key(&self, stand: Stand, own: Option<usize>) -> Option<usize>
+        requires stands { IsMachine self.now }
+        requires more { self.now.ended ≡ false }
+        requires own { Owns self.now self.now.depth ((stand.allowed && kinds.may_be_key stand.kind)
+            || kinds.cancels stand.kind) own }
+        requires inside { IfSome own (λ i. i < length self.now.waiting.items) }
+        requires forward { Upto (reached (history_of self.now)) stand.mark }
+        ensures picks { Picks self.now
+            (keyed_by stand.kind (fresh (candidate self.now.depth (history_of self.now))
+            stand.mark)) result }
+        ensures inside { IfSome result (λ i. i < length self.now.waiting.items) }
+    {
+        if !stand.kind.is_value() {
+            return None;
+        }
+        let Some(i) = own else {
+            return None;
+        };
+        if is_fresh(self.waiting.index(i).entry.lexeme.start, stand.mark) {
+            return Some(i);
+        }
+        None
+    }
+
+    /// The start of the required candidate that is open. It stands outside all brackets, so it is the earliest open one.
+    fn required(&self) -> Option<yaml_mark_t>
+        requires stands { IsMachine self.now }
+        requires more { self.now.ended ≡ false }
+        ensures { result ≡ required_in (fresh (candidate 0 (history_of self.now))
+            (reached (history_of self.now))) }
+    {
+        let first = self.settled - self.dropped;
+        if first < self.waiting.len() {
+            return self.waiting.index(first).must_come();
+        }
+        None
+    }
+
+    /// Where the candidate of the open depth waits, by a look back from the last lexeme that may be one. One that is not
+    /// found is stale. The first look mostly decides: it stands before the loop, in front of which LLVM would compute
+    /// its places.
+    // Inlined: the kind is known where it is called.
+    #[inline(always)]
+    fn find(&self) -> Option<usize>
+        requires shown { IsShown (fields_of self.now) }
+        requires settled { self.now.settled ≤ self.now.dropped + length self.now.waiting.items }
+        requires last { self.now.candidate_bound ≤ self.now.dropped + length
+            self.now.waiting.items }
+        requires candidate_bound { AreBounded self.now.candidate_bound self.now.dropped
+            self.now.waiting.items }
+        ensures finds { Finds self.now self.now.depth result }
+        ensures last { IfSome result (λ i. AreBounded (self.now.dropped + i + 1) self.now.dropped
+            self.now.waiting.items) }
+    {
+        let first = self.settled - self.dropped;
+        let i = self.candidate_bound.saturating_sub(self.dropped);
+        if i <= first {
+            return None;
+        }
+        match self.waiting.index(i - 1).seen(self.depth) {
+            Seen::Here => Some(i - 1),
+            Seen::Nowhere => None,
+            Seen::Further => self.look_back(i - 1),
+        }
+    }
+
+    /// Where the candidate of the open depth waits, by a look back over the lexemes before the one at `from`.
+    // Out of line: it is seldom asked.
+    #[inline(never)]
+    fn look_back(&self, from: usize) -> Option<usize>
+        requires shown { IsShown (fields_of self.now) }
+        requires settled { self.now.settled ≤ self.now.dropped + length self.now.waiting.items }
+        requires inside { from ≤ length self.now.waiting.items }
+        requires passed { AreBounded (self.now.dropped + from) self.now.dropped
+            self.now.waiting.items }
+        requires hidden { IsHidden self.now from }
+        ensures finds { Finds self.now self.now.depth result }
+        ensures last { IfSome result (λ i. AreBounded (self.now.dropped + i + 1) self.now.dropped
+            self.now.waiting.items) }
+    {
+        let first = self.settled - self.dropped;
+        let mut i = from;
+        'back: while first < i {
+            match self.waiting.index(i - 1).seen(self.depth) {
+                Seen::Here => return Some(i - 1),
+                Seen::Nowhere => return None,
+                Seen::Further => {}
+            }
+            i -= 1;
+        }
+        None
+    }
+}
+
+impl Stand {
+    /// Whether its lexeme takes, cancels or replaces a candidate.
+    fn asks(self) -> bool
+        ensures { result ≡ ((self.allowed && kinds.may_be_key self.kind) || kinds.cancels
+            self.kind) }
+    {
+        self.allowed && self.kind.may_be_key() || self.kind.cancels()
+    }
+}
+
+/// Whether a key may begin behind a gap: in block context a break allows one.
+fn allowed_behind(allowed: bool, broke: bool, flow: bool) -> bool
+    ensures { result ≡ (allowed || (broke && not flow)) }
+{
+    allowed || broke && !flow
+}
+
+/// The start of the stream.
+fn stream_start(place: yaml_mark_t, encoding: yaml_encoding_t) -> Read
+    ensures lexeme { result.lexeme ≡ record spec.first_lexeme {
+      start = place;
+      end = place;
+      reached = place;
+    } }
+    ensures body { body_of result.body ≡ tokens.stream_start encoding }
+    ensures own { result.own ≡ None }
+    ensures key { result.key ≡ None }
+{
+    Read {
+        lexeme: Lexeme {
+            kind: Kind::StreamStart,
+            start: place,
+            end: place,
+            reached: place,
+            depth: 0,
+            level: 0,
+            saved: false,
+            required: false,
+            broke: false,
+        },
+        body: yaml_token_body_t::StreamStart { encoding },
+        own: None,
+        key: None,
+    }
+}
+
+/// The greatest margin that a lexeme outside all brackets leaves open.
+pub(crate) fn keeps(kind: Kind, column: u64) -> u64
+    requires { column < 2 ^ 63 }
+    ensures value { result ≡ keeps kind column }
+    ensures narrow { result ≤ column + 1 }
+{
+    if kind.is_outside() {
+        return 0;
+    }
+    column + 1
+}
+
+/// The lexeme with its end, where the place behind it is reached. The stream's end stays where it starts.
+// Inlined: the kind is known where it is called.
+#[inline(always)]
+fn ended_at(lexeme: Lexeme, read: &Word, reached: yaml_mark_t) -> Lexeme
+    ensures { result ≡ (if kinds.is_end lexeme.kind then lexeme
+        else record lexeme { end = read.now.end; reached = reached; broke = read.now.broke }) }
+{
+    if lexeme.kind.is_end() {
+        return lexeme;
+    }
+    Lexeme {
+        end: read.end,
+        reached,
+        broke: read.broke,
+        ..lexeme
+    }
+}
+
+/// The required candidate that is open behind a lexeme.
+// Inlined: the kind is known where it is called.
+#[inline(always)]
+fn still_required(required: Option<yaml_mark_t>, lexeme: Lexeme) -> Option<yaml_mark_t>
+    ensures { result ≡ required_behind required lexeme }
+{
+    if 0 < lexeme.depth || !lexeme.saved && !lexeme.kind.cancels() {
+        return required;
+    }
+    if lexeme.required {
+        return Some(lexeme.start);
+    }
+    None
+}
+
+/// The lexeme with its end, unless a required candidate is stale there.
+// Inlined: the kind is known where it is called.
+#[inline(always)]
+fn finish(
+    lexeme: Lexeme,
+    word: Word,
+    reached: yaml_mark_t,
+    required: Option<yaml_mark_t>,
+) -> Result<(Lexeme, yaml_token_body_t), ScanError>
+    ensures { Finishes lexeme word reached required result }
+{
+    let lexeme = ended_at(lexeme, &word, reached);
+    if let Some(start) = late(still_required(required, lexeme), lexeme.reached) {
+        return Err(no_colon(start, lexeme.reached));
+    }
+    Ok((lexeme, word.body))
+}
+
+/// The start of a required candidate, where it is stale at a place.
+// Inlined: the kind is known where it is called.
+#[inline(always)]
+fn late(required: Option<yaml_mark_t>, place: yaml_mark_t) -> Option<yaml_mark_t>
+    ensures { result ≡ late required place }
+{
+    let Some(start) = required else {
+        return None;
+    };
+    if is_fresh(start, place) {
+        return None;
+    }
+    Some(start)
+}
+
+/// The start of a required candidate, where a lexeme cancels or replaces it.
+// Inlined: the kind is known where it is called.
+#[inline(always)]
+fn lost(required: Option<yaml_mark_t>, lexeme: Lexeme) -> Option<yaml_mark_t>
+    ensures { result ≡ lost required lexeme }
+{
+    let Some(start) = required else {
+        return None;
+    };
+    if loses(lexeme) {
+        return Some(start);
+    }
+    None
+}
+
+/// Whether a lexeme outside all brackets cancels or replaces its candidate; a `:` takes it.
+// Inlined: the kind is known where it is called.
+#[inline(always)]
+fn loses(lexeme: Lexeme) -> bool
+    ensures { result ≡ (lexeme.depth == 0
+        && (lexeme.saved || (kinds.cancels lexeme.kind && not (kinds.is_value lexeme.kind)))) }
+{
+    lexeme.depth == 0 && (lexeme.saved || lexeme.kind.cancels() && !lexeme.kind.is_value())
+}
+
+/// A simple key's `:` doesn't come.
+fn no_colon(start: yaml_mark_t, place: yaml_mark_t) -> ScanError
+    ensures { result ≡ ScanError.Fault (colon_fault start place) }
+{
+    ScanError::refusal(Problem::NoColon, Context::SimpleKey, start, place)
+}
+
+/// A `-`, `?` or `:` where no key may begin.
+fn misplaced(kind: Kind, mark: yaml_mark_t) -> ScanError
+    ensures { result ≡ ScanError.Fault
+        (record {
+          problem = spec.not_allowed_by kind;
+          context = Context.Nothing;
+          context_mark = mark;
+          problem_mark = mark;
+        }) }
+{
+    ScanError::refusal(not_allowed_by(kind), Context::Nothing, mark, mark)
+}
+
+fn not_allowed_by(kind: Kind) -> Problem
+    ensures { result ≡ spec.not_allowed_by kind }
+{
+    match kind {
+        Kind::BlockEntry => Problem::SequenceEntryNotAllowed,
+        Kind::KeyMark => Problem::KeyNotAllowed,
+        _ => Problem::ValueNotAllowed,
+    }
+}

@@ -1,0 +1,155 @@
+//! Ways for the kinds of lexemes. The kinds that are met most have a way of their own, which is the general one with its
+//! kind known: so the compiler leaves out of it what the kind doesn't ask for. Each way is out of line, or all would be
+//! kept in one frame whose parts are set to zero for each lexeme.
+
+ghost use Rattle.yaml_scan_model.specs.Faults.{fault_of};
+ghost use Rattle.yaml_scan_history.specs.declared.kind.Kind.TheVariants as kinds;
+
+use crate::machine::Machine;
+use crate::next::Spot;
+use yaml_scan_history::Kind;
+use yaml_scan_model::yaml_fault_t;
+
+impl<'a> Machine<'a> {
+    ghost use Rattle.yaml_scan_machine.specs.Stood.{MayReadAt, Steps};
+
+    /// Reads a `,`.
+    // Out of line, as is each way.
+    #[inline(never)]
+    pub fn flow_entry(&mut self, spot: Spot, fault: &mut yaml_fault_t) -> bool
+        requires { MayReadAt self.old kinds.FlowEntry spot }
+        ensures { Steps self.old self.new (fault_of fault.new) result }
+    {
+        self.step_at(Kind::FlowEntry, spot, fault)
+    }
+
+    /// Reads a `:`.
+    // Out of line, as is each way.
+    #[inline(never)]
+    pub fn value_mark(&mut self, spot: Spot, fault: &mut yaml_fault_t) -> bool
+        requires { MayReadAt self.old kinds.ValueMark spot }
+        ensures { Steps self.old self.new (fault_of fault.new) result }
+    {
+        self.step_at(Kind::ValueMark, spot, fault)
+    }
+
+    /// Reads a plain scalar.
+    // Out of line, as is each way.
+    #[inline(never)]
+    pub fn plain(&mut self, spot: Spot, fault: &mut yaml_fault_t) -> bool
+        requires { MayReadAt self.old kinds.Plain spot }
+        ensures { Steps self.old self.new (fault_of fault.new) result }
+    {
+        self.step_at(Kind::Plain, spot, fault)
+    }
+
+    /// Reads a double quoted scalar.
+    // Out of line, as is each way.
+    #[inline(never)]
+    pub fn double_quoted(&mut self, spot: Spot, fault: &mut yaml_fault_t) -> bool
+        requires { MayReadAt self.old kinds.DoubleQuoted spot }
+        ensures { Steps self.old self.new (fault_of fault.new) result }
+    {
+        self.step_at(Kind::DoubleQuoted, spot, fault)
+    }
+
+    /// Reads a `]`.
+    // Out of line, as is each way.
+    #[inline(never)]
+    pub fn sequence_end(&mut self, spot: Spot, fault: &mut yaml_fault_t) -> bool
+        requires { MayReadAt self.old kinds.FlowSequenceEnd spot }
+        ensures { Steps self.old self.new (fault_of fault.new) result }
+    {
+        self.step_at(Kind::FlowSequenceEnd, spot, fault)
+    }
+
+    /// Reads a `}`.
+    // Out of line, as is each way.
+    #[inline(never)]
+    pub fn mapping_end(&mut self, spot: Spot, fault: &mut yaml_fault_t) -> bool
+        requires { MayReadAt self.old kinds.FlowMappingEnd spot }
+        ensures { Steps self.old self.new (fault_of fault.new) result }
+    {
+        self.step_at(Kind::FlowMappingEnd, spot, fault)
+    }
+
+    /// Reads a `[`.
+    // Out of line, as is each way.
+    #[inline(never)]
+    pub fn sequence_start(&mut self, spot: Spot, fault: &mut yaml_fault_t) -> bool
+        requires { MayReadAt self.old kinds.FlowSequenceStart spot }
+        ensures { Steps self.old self.new (fault_of fault.new) result }
+    {
+        self.step_at(Kind::FlowSequenceStart, spot, fault)
+    }
+
+    /// Reads a `{`.
+    // Out of line, as is each way.
+    #[inline(never)]
+    pub fn mapping_start(&mut self, spot: Spot, fault: &mut yaml_fault_t) -> bool
+        requires { MayReadAt self.old kinds.FlowMappingStart spot }
+        ensures { Steps self.old self.new (fault_of fault.new) result }
+    {
+        self.step_at(Kind::FlowMappingStart, spot, fault)
+    }
+
+    /// Reads a `-`.
+    // Out of line, as is each way.
+    #[inline(never)]
+    pub fn block_entry(&mut self, spot: Spot, fault: &mut yaml_fault_t) -> bool
+        requires { MayReadAt self.old kinds.BlockEntry spot }
+        ensures { Steps self.old self.new (fault_of fault.new) result }
+    {
+        self.step_at(Kind::BlockEntry, spot, fault)
+    }
+
+    /// Reads a single quoted scalar.
+    // Out of line, as is each way.
+    #[inline(never)]
+    pub fn single_quoted(&mut self, spot: Spot, fault: &mut yaml_fault_t) -> bool
+        requires { MayReadAt self.old kinds.SingleQuoted spot }
+        ensures { Steps self.old self.new (fault_of fault.new) result }
+    {
+        self.step_at(Kind::SingleQuoted, spot, fault)
+    }
+
+    /// Reads an anchor.
+    // Out of line, as is each way.
+    #[inline(never)]
+    pub fn anchor(&mut self, spot: Spot, fault: &mut yaml_fault_t) -> bool
+        requires { MayReadAt self.old kinds.Anchor spot }
+        ensures { Steps self.old self.new (fault_of fault.new) result }
+    {
+        self.step_at(Kind::Anchor, spot, fault)
+    }
+
+    /// Reads an alias.
+    // Out of line, as is each way.
+    #[inline(never)]
+    pub fn alias(&mut self, spot: Spot, fault: &mut yaml_fault_t) -> bool
+        requires { MayReadAt self.old kinds.Alias spot }
+        ensures { Steps self.old self.new (fault_of fault.new) result }
+    {
+        self.step_at(Kind::Alias, spot, fault)
+    }
+
+    /// Reads a tag.
+    // Out of line, as is each way.
+    #[inline(never)]
+    pub fn tag(&mut self, spot: Spot, fault: &mut yaml_fault_t) -> bool
+        requires { MayReadAt self.old kinds.Tag spot }
+        ensures { Steps self.old self.new (fault_of fault.new) result }
+    {
+        self.step_at(Kind::Tag, spot, fault)
+    }
+
+    /// Reads a lexeme of any other kind.
+    // Out of line, as is each way.
+    #[inline(never)]
+    pub fn of_rare(&mut self, kind: Kind, spot: Spot, fault: &mut yaml_fault_t) -> bool
+        requires { MayReadAt self.old kind spot }
+        ensures { Steps self.old self.new (fault_of fault.new) result }
+    {
+        self.step_at(kind, spot, fault)
+    }
+}

@@ -1,0 +1,385 @@
+//! Which lexeme stands at a place, and what it carries.
+
+ghost use Rattle.std.specs.Prelude.{◌≡◌, ◌+◌, ◌<◌, ◌≤◌, ◌⊎◌, IfSome, None, option_map, true, false, length};
+ghost use Rattle.yaml_scan_model.specs.Marks.{byte, break_width, is_blank_or_end};
+ghost use Rattle.yaml_scan_scalars.specs.Plain as plains;
+ghost use Rattle.yaml_scan_model.specs.Tokens as tokens;
+ghost use Rattle.yaml_scan_model.specs.Tokens.{body_of};
+ghost use Rattle.yaml_scan_words.specs.Anchors.{anchor_at};
+ghost use Rattle.yaml_scan_words.specs.Tags.{tag_at};
+ghost use Rattle.yaml_scan_words.specs.Directives.{directive_at};
+ghost use Rattle.yaml_scan_scalars.specs.Quoted.{double_quoted_at, single_quoted_at};
+ghost use Rattle.yaml_scan_block.specs.Block.{block_at, style_at};
+ghost use Rattle.yaml_scan_history.specs.Words as spec;
+ghost use Rattle.yaml_scan_machine.specs.Stands.{Stands, IsThrice, Told, is_letter};
+ghost use Rattle.yaml_scan_machine.specs.Given.{IsWord, ReadsWord, IsSaid, indicator_at};
+
+use std::alloc::Global;
+use yaml_scan_block::block_scalar;
+use yaml_scan_history::Kind;
+use yaml_scan_model::{
+    Context, Reader, ScanError, yaml_mark_t, yaml_scalar_style_t, yaml_token_body_t,
+};
+use yaml_scan_scalars::{double_quoted, plain_scalar, single_quoted, starts_plain};
+use yaml_scan_words::{Directive, anchor, directive, is_document_end, is_document_start, tag};
+
+/// A lexeme's own token, and what its end says.
+#[derive(Drop)]
+pub(crate) struct Word {
+    pub body: yaml_token_body_t,
+    pub end: yaml_mark_t,
+    /// The blanks behind a plain scalar hold a break.
+    pub broke: bool,
+}
+
+/// The kind of the lexeme that stands here (YAML 1.1, 5.3).
+#[tactic(auto, unfolding(yaml_scan_history::specs::Words::kind_at, yaml_scan_words::specs::Indicators::is_document_start, yaml_scan_words::specs::Indicators::is_document_end))]
+pub(crate) fn kind_at(reader: &Reader, flow: bool) -> Option<Kind>
+    ensures value { result ≡ spec.kind_at flow reader.now.text reader.now.at }
+    ensures stands { IfSome result (λ k. Stands k flow reader.now.text reader.now.at) }
+{
+    let byte = reader.here();
+    if is_letter(byte) {
+        return Some(Kind::Plain);
+    }
+    if byte == 0 {
+        return Some(Kind::StreamEnd);
+    }
+    if byte == b'%' && reader.mark().column == 0 {
+        return Some(Kind::Directive);
+    }
+    if is_document_start(reader) {
+        return Some(Kind::DocumentStart);
+    }
+    if is_document_end(reader) {
+        return Some(Kind::DocumentEnd);
+    }
+    if let Some(kind) = indicator(byte, flow, reader) {
+        return Some(kind);
+    }
+    if starts_plain(reader, flow) {
+        return Some(Kind::Plain);
+    }
+    None
+}
+
+/// Whether the byte is a letter or digit of ASCII: such a byte starts a plain scalar, wherever it stands.
+#[tactic(auto, unfolding(crate::specs::Stands::is_letter))]
+fn is_letter(byte: u8) -> bool
+    ensures { result ≡ is_letter byte }
+{
+    match byte {
+        b'0'..=b'9' | b'A'..=b'Z' | b'a'..=b'z' => true,
+        _ => false,
+    }
+}
+
+/// The kind that the byte here tells; `-`, `?` and `:` where a blank, a break or the end follows.
+#[tactic(auto, unfolding(yaml_scan_history::specs::Words::indicator_of))]
+fn indicator(byte: u8, flow: bool, reader: &Reader) -> Option<Kind>
+    ensures value { result ≡ spec.indicator_of flow
+        (is_blank_or_end reader.now.text (reader.now.at + 1)) byte }
+    ensures told { IfSome result (λ k. Told k byte) }
+{
+    match byte {
+        b'[' => Some(Kind::FlowSequenceStart),
+        b'{' => Some(Kind::FlowMappingStart),
+        b']' => Some(Kind::FlowSequenceEnd),
+        b'}' => Some(Kind::FlowMappingEnd),
+        b',' => Some(Kind::FlowEntry),
+        b'-' if reader.is_blank_or_end(1) => Some(Kind::BlockEntry),
+        b'?' if flow || reader.is_blank_or_end(1) => Some(Kind::KeyMark),
+        b':' if flow || reader.is_blank_or_end(1) => Some(Kind::ValueMark),
+        b'*' => Some(Kind::Alias),
+        b'&' => Some(Kind::Anchor),
+        b'!' => Some(Kind::Tag),
+        b'|' if !flow => Some(Kind::Literal),
+        b'>' if !flow => Some(Kind::Folded),
+        b'\'' => Some(Kind::SingleQuoted),
+        b'"' => Some(Kind::DoubleQuoted),
+        _ => None,
+    }
+}
+
+/// Reads the lexeme of that kind, which stands here.
+// Inlined: the kind is known where it is called.
+#[inline(always)]
+pub(crate) fn read_word(
+    alloc: Global,
+    reader: &mut Reader,
+    kind: Kind,
+    flow: bool,
+    level: u64,
+) -> Result<Word, ScanError>
+    requires stands { Stands kind flow reader.old.text reader.old.at }
+    requires level { level ≤ length reader.old.text + 1 }
+    ensures { ReadsWord reader.old.text reader.old.at reader.new result
+        (spec.word_at kind flow level reader.old.text reader.old.at) }
+{
+    match indicator_body(kind) {
+        Some(body) => Ok(read_indicator(reader, body)),
+        None => text_word(alloc, reader, kind, flow, level),
+    }
+}
+
+/// What the token of an indicator of one byte is.
+// Inlined: the kind is known where it is called.
+#[inline(always)]
+fn indicator_body(kind: Kind) -> Option<yaml_token_body_t>
+    ensures { option_map body_of result ≡ indicator_at kind }
+{
+    match kind {
+        Kind::FlowSequenceStart => Some(yaml_token_body_t::FlowSequenceStart),
+        Kind::FlowMappingStart => Some(yaml_token_body_t::FlowMappingStart),
+        Kind::FlowSequenceEnd => Some(yaml_token_body_t::FlowSequenceEnd),
+        Kind::FlowMappingEnd => Some(yaml_token_body_t::FlowMappingEnd),
+        Kind::FlowEntry => Some(yaml_token_body_t::FlowEntry),
+        Kind::BlockEntry => Some(yaml_token_body_t::BlockEntry),
+        Kind::KeyMark => Some(yaml_token_body_t::Key),
+        Kind::ValueMark => Some(yaml_token_body_t::Value),
+        _ => None,
+    }
+}
+
+/// Reads a lexeme that is no indicator of one byte.
+#[tactic(auto, unfolding(yaml_scan_model::specs::Marks::break_of, yaml_scan_history::specs::Words::word_at))]
+// Inlined: the kind is known where it is called.
+#[inline(always)]
+fn text_word(
+    alloc: Global,
+    reader: &mut Reader,
+    kind: Kind,
+    flow: bool,
+    level: u64,
+) -> Result<Word, ScanError>
+    requires stands { Stands kind flow reader.old.text reader.old.at }
+    requires level { level ≤ length reader.old.text + 1 }
+    requires no_indicator { indicator_at kind ≡ None }
+    ensures { ReadsWord reader.old.text reader.old.at reader.new result
+        (spec.word_at kind flow level reader.old.text reader.old.at) }
+{
+    match kind {
+        Kind::DocumentStart => Ok(document_mark(reader, yaml_token_body_t::DocumentStart)),
+        Kind::DocumentEnd => Ok(document_mark(reader, yaml_token_body_t::DocumentEnd)),
+        Kind::Directive => directive_word(alloc, reader),
+        Kind::Alias => alias_word(alloc, reader),
+        Kind::Anchor => anchor_word(alloc, reader),
+        Kind::Tag => tag_word(alloc, reader, flow),
+        Kind::Literal | Kind::Folded => block_word(alloc, reader, level),
+        Kind::SingleQuoted => single_word(alloc, reader),
+        Kind::DoubleQuoted => double_word(alloc, reader),
+        Kind::Plain => plain_word(alloc, reader, flow, level),
+        _ => Ok(carrier(reader, yaml_token_body_t::StreamEnd)),
+    }
+}
+
+/// The word that ends where the reader stands.
+// Inlined: the kind is known where it is called.
+#[inline(always)]
+fn carrier(reader: &Reader, body: yaml_token_body_t) -> Word
+    ensures { IsWord reader.now.text result
+        (record {
+          body = body_of body;
+          end = reader.now.at;
+          reached = reader.now.at;
+          broke = false;
+        }) }
+{
+    Word {
+        body,
+        end: reader.mark(),
+        broke: false,
+    }
+}
+
+/// A word of one byte that carries nothing.
+// Inlined: the kind is known where it is called.
+#[inline(always)]
+fn read_indicator(reader: &mut Reader, body: yaml_token_body_t) -> Word
+    requires some { 0 < byte reader.old.text reader.old.at }
+    requires no_break { break_width reader.old.text reader.old.at ≡ 0 }
+    ensures word { IsWord reader.old.text result
+        (record {
+          body = body_of body;
+          end = reader.old.at + 1;
+          reached = reader.old.at + 1;
+          broke = false;
+        }) }
+    ensures place { reader.new ≡ record { text = reader.old.text; at = reader.old.at + 1 } }
+{
+    reader.skip();
+    carrier(reader, body)
+}
+
+/// `---` or `...`.
+#[tactic(auto, unfolding(yaml_scan_model::specs::Marks::break_of))]
+fn document_mark(reader: &mut Reader, body: yaml_token_body_t) -> Word
+    requires { IsThrice 45 reader.old.text reader.old.at
+        ⊎ IsThrice 46 reader.old.text reader.old.at }
+    ensures word { IsWord reader.old.text result
+        (record {
+          body = body_of body;
+          end = reader.old.at + 3;
+          reached = reader.old.at + 3;
+          broke = false;
+        }) }
+    ensures place { reader.new ≡ record { text = reader.old.text; at = reader.old.at + 3 } }
+{
+    reader.skip();
+    reader.skip();
+    reader.skip();
+    carrier(reader, body)
+}
+
+// Out of line: it is rare.
+#[inline(never)]
+fn directive_word(alloc: Global, reader: &mut Reader) -> Result<Word, ScanError>
+    requires { byte reader.old.text reader.old.at ≡ 37 }
+    ensures { ReadsWord reader.old.text reader.old.at reader.new result
+        (spec.directed (directive_at reader.old.text reader.old.at)) }
+{
+    match directive(alloc, reader) {
+        Ok(read) => Ok(Word {
+            body: directive_body(read.directive),
+            end: read.end_mark,
+            broke: false,
+        }),
+        Err(error) => Err(error),
+    }
+}
+
+fn directive_body(directive: Directive) -> yaml_token_body_t
+    ensures { IsSaid directive result }
+{
+    match directive {
+        Directive::Version { major, minor } => yaml_token_body_t::VersionDirective { major, minor },
+        Directive::Tag { handle, prefix } => yaml_token_body_t::TagDirective { handle, prefix },
+    }
+}
+
+// Inlined: in the way of its kind its answer isn't put together.
+#[inline(always)]
+fn alias_word(alloc: Global, reader: &mut Reader) -> Result<Word, ScanError>
+    requires { byte reader.old.text reader.old.at ≡ 42 }
+    ensures { ReadsWord reader.old.text reader.old.at reader.new result
+        (spec.valued (λ v. tokens.alias v)
+        (anchor_at Context.Alias reader.old.text reader.old.at)) }
+{
+    let read = anchor(alloc, reader, Context::Alias)?;
+    Ok(Word {
+        body: yaml_token_body_t::Alias { value: read.value },
+        end: read.end_mark,
+        broke: false,
+    })
+}
+
+// Inlined: in the way of its kind its answer isn't put together.
+#[inline(always)]
+fn anchor_word(alloc: Global, reader: &mut Reader) -> Result<Word, ScanError>
+    requires { byte reader.old.text reader.old.at ≡ 38 }
+    ensures { ReadsWord reader.old.text reader.old.at reader.new result
+        (spec.valued (λ v. tokens.anchor v)
+        (anchor_at Context.Anchor reader.old.text reader.old.at)) }
+{
+    let read = anchor(alloc, reader, Context::Anchor)?;
+    Ok(Word {
+        body: yaml_token_body_t::Anchor { value: read.value },
+        end: read.end_mark,
+        broke: false,
+    })
+}
+
+// Inlined: in the way of its kind its answer isn't put together.
+#[inline(always)]
+fn tag_word(alloc: Global, reader: &mut Reader, flow: bool) -> Result<Word, ScanError>
+    requires { byte reader.old.text reader.old.at ≡ 33 }
+    ensures { ReadsWord reader.old.text reader.old.at reader.new result
+        (spec.tagged (tag_at flow reader.old.text reader.old.at)) }
+{
+    let read = tag(alloc, reader, flow)?;
+    Ok(Word {
+        body: yaml_token_body_t::Tag {
+            handle: read.handle,
+            suffix: read.suffix,
+        },
+        end: read.end_mark,
+        broke: false,
+    })
+}
+
+// Out of line: it is rare.
+#[inline(never)]
+fn block_word(alloc: Global, reader: &mut Reader, level: u64) -> Result<Word, ScanError>
+    requires level { level ≤ length reader.old.text + 1 }
+    requires indicator { (byte reader.old.text reader.old.at ≡ 124)
+        ⊎ (byte reader.old.text reader.old.at ≡ 62) }
+    ensures { ReadsWord reader.old.text reader.old.at reader.new result
+        (spec.blocked (style_at reader.old.text reader.old.at)
+        (block_at level reader.old.text reader.old.at)) }
+{
+    let read = block_scalar(alloc, reader, level)?;
+    Ok(Word {
+        body: yaml_token_body_t::Scalar {
+            value: read.value,
+            style: read.style,
+        },
+        end: read.end_mark,
+        broke: false,
+    })
+}
+
+// Inlined: in the way of its kind its answer isn't put together.
+#[inline(always)]
+fn single_word(alloc: Global, reader: &mut Reader) -> Result<Word, ScanError>
+    requires { byte reader.old.text reader.old.at ≡ 39 }
+    ensures { ReadsWord reader.old.text reader.old.at reader.new result
+        (spec.valued (λ v. tokens.scalar v yaml_scalar_style_t.YAML_SINGLE_QUOTED_SCALAR_STYLE)
+        (single_quoted_at reader.old.text reader.old.at)) }
+{
+    let read = single_quoted(alloc, reader)?;
+    Ok(Word {
+        body: yaml_token_body_t::Scalar {
+            value: read.value,
+            style: yaml_scalar_style_t::YAML_SINGLE_QUOTED_SCALAR_STYLE,
+        },
+        end: read.end_mark,
+        broke: false,
+    })
+}
+
+// Inlined: in the way of its kind its answer isn't put together.
+#[inline(always)]
+fn double_word(alloc: Global, reader: &mut Reader) -> Result<Word, ScanError>
+    requires { byte reader.old.text reader.old.at ≡ 34 }
+    ensures { ReadsWord reader.old.text reader.old.at reader.new result
+        (spec.valued (λ v. tokens.scalar v yaml_scalar_style_t.YAML_DOUBLE_QUOTED_SCALAR_STYLE)
+        (double_quoted_at reader.old.text reader.old.at)) }
+{
+    let read = double_quoted(alloc, reader)?;
+    Ok(Word {
+        body: yaml_token_body_t::Scalar {
+            value: read.value,
+            style: yaml_scalar_style_t::YAML_DOUBLE_QUOTED_SCALAR_STYLE,
+        },
+        end: read.end_mark,
+        broke: false,
+    })
+}
+
+// Inlined: in the way of its kind its answer isn't put together.
+#[inline(always)]
+fn plain_word(alloc: Global, reader: &mut Reader, flow: bool, level: u64) -> Result<Word, ScanError>
+    requires { plains.starts_plain flow reader.old.text reader.old.at ≡ true }
+    ensures { ReadsWord reader.old.text reader.old.at reader.new result
+        (spec.plainly (plains.plain_at flow level reader.old.text reader.old.at)) }
+{
+    let read = plain_scalar(alloc, reader, flow, level)?;
+    Ok(Word {
+        body: yaml_token_body_t::Scalar {
+            value: read.value,
+            style: yaml_scalar_style_t::YAML_PLAIN_SCALAR_STYLE,
+        },
+        end: read.end_mark,
+        broke: read.broke,
+    })
+}

@@ -1,0 +1,8 @@
+//! The list of the lexemes that were read and are not yet taken.
+#![tactic(auto)]
+
+mod queue;
+mod waiting;
+
+pub use queue::Queue;
+pub use waiting::{Before, Seen, Waiting};

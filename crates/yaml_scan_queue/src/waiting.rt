@@ -1,0 +1,180 @@
+//! The lexemes that wait, and the tokens that they are spelled out in.
+
+ghost use Rattle.std.specs.Prelude.{◌≡◌, ◌&&◌, ◌==◌, if◌then◌else◌, Some, None, option_map};
+ghost use Rattle.yaml_scan_model.specs.Tokens.{body_of};
+ghost use Rattle.yaml_scan_model.specs.declared.token.yaml_token_body_t.TheVariants as bodies;
+ghost use Rattle.yaml_scan_queue.specs.Front.{front_at, start_at, key_at};
+ghost use Rattle.yaml_scan_queue.specs.Fronted.{token_before};
+ghost use Rattle.yaml_scan_history.specs.History as history;
+ghost use Rattle.yaml_scan_queue.specs.Waits as waits;
+
+use yaml_scan_history::{Entry, Kind, Lexeme, Opens, is_fresh};
+use yaml_scan_model::{yaml_mark_t, yaml_token_body_t};
+
+/// A lexeme that was read and not yet taken.
+#[derive(Drop)]
+pub struct Waiting {
+    pub entry: Entry,
+    /// What its own token carries.
+    pub body: yaml_token_body_t,
+    /// It is its depth's candidate; whether it is stale is asked apart.
+    pub current: bool,
+}
+
+impl Waiting {
+    /// What a free slot of the list holds.
+    pub fn blank() -> Waiting
+        ensures { result.body ≡ bodies.No }
+    {
+        let zero = yaml_mark_t {
+            index: 0,
+            line: 0,
+            column: 0,
+        };
+        Waiting {
+            entry: Entry {
+                lexeme: Lexeme {
+                    kind: Kind::StreamStart,
+                    start: zero,
+                    end: zero,
+                    reached: zero,
+                    depth: 0,
+                    level: 0,
+                    saved: false,
+                    required: false,
+                    broke: false,
+                },
+                ends: 0,
+                opens: Opens::Nothing,
+                key: false,
+            },
+            body: yaml_token_body_t::No,
+            current: false,
+        }
+    }
+
+    /// Whether it is an open candidate where this place is reached.
+    pub fn is_open(&self, place: yaml_mark_t) -> bool
+        ensures { result ≡ (self.now.current && history.is_fresh self.now.entry.lexeme.start
+            place) }
+    {
+        self.current && is_fresh(self.entry.lexeme.start, place)
+    }
+
+    /// Its start, where it is the candidate outside all brackets and its `:` must come.
+    pub fn must_come(&self) -> Option<yaml_mark_t>
+        ensures { result ≡ (if (self.now.current && self.now.entry.lexeme.required)
+            && self.now.entry.lexeme.depth == 0 then Some self.now.entry.lexeme.start else None) }
+    {
+        let lexeme = self.entry.lexeme;
+        if self.current && lexeme.required && lexeme.depth == 0 {
+            return Some(lexeme.start);
+        }
+        None
+    }
+
+    /// Takes what a later lexeme of its depth says of it: `opens` is what it opens where it becomes a key.
+    pub fn mark(&mut self, lexeme: Lexeme, opens: Opens)
+        ensures marked { self.new ≡ waits.marked lexeme opens self.old }
+        ensures lexeme { self.new.entry.lexeme ≡ self.old.entry.lexeme }
+    {
+        if lexeme.kind.is_value() && is_fresh(self.entry.lexeme.start, lexeme.start) {
+            self.entry.key = true;
+            self.entry.opens = opens;
+        }
+        self.current = self.current && !(lexeme.saved || lexeme.kind.cancels());
+    }
+
+    /// What it says to one that looks back for the candidate of a depth.
+    pub fn seen(&self, depth: usize) -> Seen
+        ensures { result ≡ waits.seen self.now depth }
+    {
+        if self.current && self.entry.lexeme.depth == depth {
+            return Seen::Here;
+        }
+        if self.current || !is_passed(self.entry.lexeme, depth) {
+            return Seen::Nowhere;
+        }
+        Seen::Further
+    }
+
+    /// The token in front of its own one, where `given` tokens were taken: BLOCK-END tokens, a block start, KEY.
+    pub fn before(&self, given: usize) -> Option<Before>
+        ensures { option_map token_before result ≡ front_at self.now.entry given }
+    {
+        if given < self.entry.ends {
+            return Some(Before::BlockEnd);
+        }
+        start_before(self.entry.opens, self.entry.key, given - self.entry.ends)
+    }
+}
+
+/// A token in front of a lexeme's own.
+// A name, and no token: a token that is moved is copied whole.
+#[derive(Clone, Copy)]
+pub enum Before {
+    BlockEnd,
+    BlockSequenceStart,
+    BlockMappingStart,
+    Key,
+}
+
+impl Before {
+    /// That token.
+    pub fn body(self) -> yaml_token_body_t
+        ensures { body_of result ≡ token_before self }
+    {
+        match self {
+            Before::BlockEnd => yaml_token_body_t::BlockEnd,
+            Before::BlockSequenceStart => yaml_token_body_t::BlockSequenceStart,
+            Before::BlockMappingStart => yaml_token_body_t::BlockMappingStart,
+            Before::Key => yaml_token_body_t::Key,
+        }
+    }
+}
+
+/// Behind so many tokens the block start, then KEY.
+fn start_before(opens: Opens, is_key: bool, taken: usize) -> Option<Before>
+    ensures { option_map token_before result ≡ start_at opens is_key taken }
+{
+    match opens {
+        Opens::Nothing => key_before(is_key, taken),
+        Opens::Sequence => {
+            if taken == 0 {
+                return Some(Before::BlockSequenceStart);
+            }
+            key_before(is_key, taken - 1)
+        }
+        Opens::Mapping => {
+            if taken == 0 {
+                return Some(Before::BlockMappingStart);
+            }
+            key_before(is_key, taken - 1)
+        }
+    }
+}
+
+/// KEY in front of a key, where none was taken.
+fn key_before(is_key: bool, taken: usize) -> Option<Before>
+    ensures { option_map token_before result ≡ key_at is_key taken }
+{
+    if is_key && taken == 0 {
+        return Some(Before::Key);
+    }
+    None
+}
+
+/// What a lexeme that waits says to one that looks back for the candidate of a depth.
+#[derive(Drop)]
+pub enum Seen {
+    Here,
+    Nowhere,
+    Further,
+}
+
+/// Whether a lexeme leaves the candidate of a depth as it was before it.
+fn is_passed(lexeme: Lexeme, depth: usize) -> bool
+    ensures { result ≡ waits.is_passed lexeme depth }
+{
+    depth < lexeme.depth || lexeme.depth == depth && !(lexeme.saved || lexeme.kind.cancels())
+}

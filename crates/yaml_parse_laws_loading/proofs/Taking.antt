@@ -20,6 +20,7 @@ use Rattle.yaml_parse_laws_faults.specs.grammar.declared.name.Brackets.{Brackets
 use Rattle.yaml_parse_laws_faults.specs.grammar.declared.name.Brackets.TheVariants as brackets
 use Rattle.yaml_parse_laws_faults.specs.grammar.declared.name.Site.{Site}
 use Rattle.yaml_parse_laws_faults.specs.grammar.declared.name.Site.TheVariants.{Root, Entry, IndentlessEntry, BlockPair, FlowPair}
+use Rattle.yaml_parse_laws_faults.specs.grammar.declared.name.Choice.{Choice}
 use Rattle.yaml_parse_laws_faults.specs.grammar.declared.name.Choice.TheVariants.{Refuse, Take, Leave}
 use Rattle.yaml_parse_laws_faults.specs.grammar.declared.problem.ParseProblem.{ParseProblem}
 use Rattle.yaml_parse_laws_faults.specs.grammar.declared.problem.ParseProblem.TheVariants as problem
@@ -39,6 +40,19 @@ use Rattle.yaml_parse_laws_loading.proofs.Fitting.{known, Rooted, is_named, Owes
 
 abbrev tok : TokenBody → yaml_mark_t → yaml_mark_t → Token
 tok b start end = record { body = b; start_mark = start; end_mark = end }
+
+-- ---- what can't be
+
+never : false ≡ true → ⊥
+never e = cc
+
+abbrev IsTake : Choice → Type 0
+IsTake Take = Unit {0}
+IsTake _ = ⊥
+
+-- each arm for a token that the state doesn't take is answered by computing
+was_take : (x : Choice) → x ≡ Take → IsTake x
+was_take x e = subst IsTake (sym e) tt
 
 -- ---- nodes
 
@@ -65,9 +79,9 @@ content_loads w p start end token.block_mapping_start s past ds l c pl o =
     content_given past (tok token.block_mapping_start start end) ds l p (item.mapping YAML_BLOCK_MAPPING_STYLE) (state.pairs start ∷ []) s refl o (λ m n r. (n, r))
 content_loads (Block (Some side)) p start end token.block_entry s past ds l c pl o =
     content_given past (tok token.block_entry start end) ds l p (item.sequence YAML_BLOCK_SEQUENCE_STYLE) (state.optional (IndentlessEntry side) end ∷ state.others side ∷ []) s refl o (λ m n r. (n, held m r))
-content_loads (Block None) p start end token.block_entry s past ds l c pl o = cc
-content_loads Flow p start end token.block_entry s past ds l c pl o = cc
-content_loads w p start end _ s past ds l c pl o = cc
+content_loads (Block None) p start end token.block_entry s past ds l c pl o = absurd (never c)
+content_loads Flow p start end token.block_entry s past ds l c pl o = absurd (never c)
+content_loads w p start end _ s past ds l c pl o = absurd (never c)
 
 -- an alias names a node, or none
 alias_at : (name : List ℕ) (start end : yaml_mark_t) (s : List State) (past : List Token) (ds : Directives) (l : Loading) (o : Option ℤ) (b : Bool) → map.get l.anchors name ≡ o → is_some o ≡ b → has_anchor name past ≡ b
@@ -76,13 +90,13 @@ alias_at : (name : List ℕ) (start end : yaml_mark_t) (s : List State) (past : 
 alias_at name start end s past ds l None b e f g pl n r = rw (e, g) (none b f)
   where
     none : (b : Bool) → false ≡ b → AtAlias (undefined b start) ds (then_fed (aliased None start l) (λ m. onward ds m)) s (tok (token.alias name) start end ∷ past)
-    none true f = cc
+    none true f = absurd (never f)
     none false f = refl
 alias_at name start end s past ds l (Some k) b e f g pl n r = rw (e, g) (some b f)
   where
     some : (b : Bool) → true ≡ b → AtAlias (undefined b start) ds (then_fed (aliased (Some k) start l) (λ m. onward ds m)) s (tok (token.alias name) start end ∷ past)
     some true f = (_, refl, fits_below s (tok (token.alias name) start end ∷ past) _ pl n (r refl))
-    some false f = cc
+    some false f = absurd (never (sym f))
 
 pub node_loads : (w : Wants) (start end : yaml_mark_t) (b : TokenBody) (s : List State) (past : List Token) (ds : Directives) (l : Loading) → starts_node w (type_of b) ≡ true → Plain s → Names past l → Held l
     → FedLoads past (tok b start end) ds l (given_by (node_taken w start end b) s)
@@ -108,10 +122,10 @@ properties_loads : (w : Wants) (anchor : Option (List ℕ)) (tag : Option Tag) (
 properties_loads w None tag from to start end (token.anchor name) s past ds l c pl o h =
     loads_on past (tok (token.anchor name) start end) ds l (state.with_properties w (record { anchor = Some name; tag = tag; from = from; to = end }) ∷ []) s refl
     (λ q. ap (λ (z : Bool). is_named q (Some name) || z) (o q), h)
-properties_loads w (Some x) tag from to start end (token.anchor name) s past ds l c pl o h = cc
+properties_loads w (Some x) tag from to start end (token.anchor name) s past ds l c pl o h = absurd (was_take _ c)
 properties_loads w anchor None from to start end (token.tag handle suffix) s past ds l c pl o h =
     loads_on past (tok (token.tag handle suffix) start end) ds l (state.with_properties w (record { anchor = anchor; tag = Some (tag_at handle suffix start); from = from; to = end }) ∷ []) s refl (o, h)
-properties_loads w anchor (Some x) from to start end (token.tag handle suffix) s past ds l c pl o h = cc
+properties_loads w anchor (Some x) from to start end (token.tag handle suffix) s past ds l c pl o h = absurd (was_take _ c)
 properties_loads w anchor tag from to start end b s past ds l c pl o h =
     content_loads w (Some (record { anchor = anchor; tag = tag; from = from; to = to })) start end b s past ds l (not_first false (starts_content w (type_of b)) refl c) pl o
 
@@ -121,7 +135,7 @@ stream_loads : (start end : yaml_mark_t) (b : TokenBody) (s : List State) (past 
     → FedLoads past (tok b start end) ds l (given_by (stream_taken start end b) s)
 stream_loads start end (token.stream_start encoding) s past ds l c n =
     loads_given past (tok (token.stream_start encoding) start end) ds l (event_at (event.stream_start encoding) start end) (state.first ∷ []) s (λ m. Unit {0}) refl (l, λ k. refl, tt) (λ m q. n)
-stream_loads start end _ s past ds l c n = cc
+stream_loads start end _ s past ds l c n = absurd (was_take _ c)
 
 noted_if : (b : Bool) (d : Directives) (f : Fault) (i : RawEvent) (l : Loading) → Passes (if b then noted d else resolve.refused f) i l (λ m. Unit {0})
 noted_if true d f i l = tt
@@ -139,7 +153,7 @@ nothing_known : (name : List ℕ) → known name nothing_loaded ≡ false
 nothing_known name = ap (λ (o : Option ℤ). is_some o) (map.get-empty (slice_cmp nat_cmp) name)
 
 none_held : (b : Bool) (A : Type 0) → b ≡ false → b ≡ true → A
-none_held true A e h = cc
+none_held true A e h = absurd (never (sym e))
 none_held false A e h = cc
 
 -- a document that starts
@@ -190,7 +204,7 @@ end_loads : (start end : yaml_mark_t) (b : TokenBody) (s : List State) (past : L
 end_loads start end token.document_end s past ds l c e r =
     loads_given past (tok token.document_end start end) ds l (event_at (event.document_end false) start end) [] s (λ m. Unit {0}) refl (nothing_loaded, λ k. whole l.document.nodes (k nothing_loaded) r, tt)
     (λ m q. subst (λ (z : List State). Fits z (tok token.document_end start end ∷ past) m) (sym e) tt)
-end_loads start end _ s past ds l c e r = cc
+end_loads start end _ s past ds l c e r = absurd (was_take _ c)
 
 -- ---- inside a document
 
@@ -212,24 +226,24 @@ entries_loads : (o start end : yaml_mark_t) (b : TokenBody) (s : List State) (pa
     → FedLoads past (tok b start end) ds l (given_by (entries_taken o start end b) s)
 entries_loads o start end token.block_entry s past ds l c pl h = loads_on past (tok token.block_entry start end) ds l (state.optional Entry end ∷ state.entries o ∷ []) s refl (h.0, held l h.1)
 entries_loads o start end token.block_end s past ds l c pl h = sequence_closes start end (tok token.block_end start end) s past ds l refl (λ name. refl) pl h
-entries_loads o start end _ s past ds l c pl h = cc
+entries_loads o start end _ s past ds l c pl h = absurd (was_take _ c)
 
 pairs_loads : (o start end : yaml_mark_t) (b : TokenBody) (s : List State) (past : List Token) (ds : Directives) (l : Loading) → choice_at (state.pairs o) (type_of b) ≡ Take → Plain s → Inner past l
     → FedLoads past (tok b start end) ds l (given_by (pairs_taken o start end b) s)
 pairs_loads o start end token.key s past ds l c pl h =
     loads_on past (tok token.key start end) ds l (state.optional (BlockPair Key) end ∷ state.colon (BlockPair Value) ∷ state.pairs o ∷ []) s refl (h.0, held l h.1)
 pairs_loads o start end token.block_end s past ds l c pl h = mapping_closes start end (tok token.block_end start end) s past ds l refl (λ name. refl) pl h
-pairs_loads o start end _ s past ds l c pl h = cc
+pairs_loads o start end _ s past ds l c pl h = absurd (was_take _ c)
 
 others_loads : (start end : yaml_mark_t) (b : TokenBody) (side : Side) (s : List State) (past : List Token) (ds : Directives) (l : Loading) → choice_at (state.others side) (type_of b) ≡ Take → Inner past l
     → FedLoads past (tok b start end) ds l (given_by (taken_at (state.others side) (tok b start end)) s)
 others_loads start end token.block_entry side s past ds l c h = loads_on past (tok token.block_entry start end) ds l (state.optional (IndentlessEntry side) end ∷ state.others side ∷ []) s refl (h.0, held l h.1)
-others_loads start end _ side s past ds l c h = cc
+others_loads start end _ side s past ds l c h = absurd (was_take _ c)
 
 colon_loads : (start end : yaml_mark_t) (b : TokenBody) (place : Site) (s : List State) (past : List Token) (ds : Directives) (l : Loading) → choice_at (state.colon place) (type_of b) ≡ Take → Inner past l
     → FedLoads past (tok b start end) ds l (given_by (taken_at (state.colon place) (tok b start end)) s)
 colon_loads start end token.value place s past ds l c h = loads_on past (tok token.value start end) ds l (state.optional place end ∷ []) s refl (h.0, held l h.1)
-colon_loads start end _ place s past ds l c h = cc
+colon_loads start end _ place s past ds l c h = absurd (was_take _ c)
 
 -- ---- in brackets
 
@@ -260,8 +274,8 @@ items_loads brackets.Sequence o start end token.key s past ds l c pl h =
 items_loads brackets.Mapping o start end token.key s past ds l c pl h =
     loads_on past (tok token.key start end) ds l (state.optional (FlowPair brackets.Mapping Key) end ∷ state.colon (FlowPair brackets.Mapping Value) ∷ state.more brackets.Mapping o ∷ []) s refl (h.0, held l h.1)
 items_loads brackets.Sequence o start end token.flow_sequence_end s past ds l c pl h = sequence_closes start end (tok token.flow_sequence_end start end) s past ds l refl (λ name. refl) pl h
-items_loads brackets.Mapping o start end token.flow_sequence_end s past ds l c pl h = cc
-items_loads brackets.Sequence o start end token.flow_mapping_end s past ds l c pl h = cc
+items_loads brackets.Mapping o start end token.flow_sequence_end s past ds l c pl h = absurd (was_take _ c)
+items_loads brackets.Sequence o start end token.flow_mapping_end s past ds l c pl h = absurd (was_take _ c)
 items_loads brackets.Mapping o start end token.flow_mapping_end s past ds l c pl h = mapping_closes start end (tok token.flow_mapping_end start end) s past ds l refl (λ name. refl) pl h
 items_loads brackets.Sequence o start end b s past ds l c pl h = part_loads brackets.Sequence o start end b s past ds l (starts_part (starts_node Flow (type_of b)) problem.NoFlowNode c) pl h
 items_loads brackets.Mapping o start end b s past ds l c pl h = part_loads brackets.Mapping o start end b s past ds l (starts_part (starts_node Flow (type_of b)) problem.NoFlowNode c) pl h
@@ -271,8 +285,8 @@ more_loads : (bs : Brackets) (o start end : yaml_mark_t) (b : TokenBody) (s : Li
 more_loads bs o start end token.flow_entry s past ds l c pl h = loads_on past (tok token.flow_entry start end) ds l (state.items bs o ∷ []) s refl h
 more_loads brackets.Sequence o start end token.flow_sequence_end s past ds l c pl h = sequence_closes start end (tok token.flow_sequence_end start end) s past ds l refl (λ name. refl) pl h
 more_loads brackets.Mapping o start end token.flow_mapping_end s past ds l c pl h = mapping_closes start end (tok token.flow_mapping_end start end) s past ds l refl (λ name. refl) pl h
-more_loads brackets.Sequence o start end _ s past ds l c pl h = cc
-more_loads brackets.Mapping o start end _ s past ds l c pl h = cc
+more_loads brackets.Sequence o start end _ s past ds l c pl h = absurd (was_take _ c)
+more_loads brackets.Mapping o start end _ s past ds l c pl h = absurd (was_take _ c)
 
 -- ---- each state
 
@@ -306,5 +320,5 @@ taken_loads (state.colon place) t s past ds l A c pl i h = colon_loads t.start_m
 taken_loads (state.with_properties w p) t s past ds l A c pl i h = properties_loads w p.anchor p.tag p.from p.to t.start_mark t.end_mark t.body s past ds l c pl h.0 h.1
 taken_loads (state.items bs o) t s past ds l A c pl i h = items_loads bs o t.start_mark t.end_mark t.body s past ds l c pl h
 taken_loads (state.more bs o) t s past ds l A c pl i h = more_loads bs o t.start_mark t.end_mark t.body s past ds l c pl h
-taken_loads state.pair_end t s past ds l A c pl i h = cc
-taken_loads state.lone t s past ds l A c pl i h = cc
+taken_loads state.pair_end t s past ds l A c pl i h = absurd (was_take _ c)
+taken_loads state.lone t s past ds l A c pl i h = absurd (was_take _ c)

@@ -12,6 +12,7 @@ use Rattle.yaml_parse_laws_counts.specs.grammar.declared.name.Brackets.{Brackets
 use Rattle.yaml_parse_laws_counts.specs.grammar.declared.name.Brackets.TheVariants as brackets
 use Rattle.yaml_parse_laws_counts.specs.grammar.declared.name.Site.{Site}
 use Rattle.yaml_parse_laws_counts.specs.grammar.declared.name.Site.TheVariants.{Root, IndentlessEntry}
+use Rattle.yaml_parse_laws_counts.specs.grammar.declared.name.Choice.{Choice}
 use Rattle.yaml_parse_laws_counts.specs.grammar.declared.name.Choice.TheVariants.{Refuse, Take, Leave, Open}
 use Rattle.yaml_parse_laws_counts.specs.grammar.declared.problem.ParseProblem.{ParseProblem}
 use Rattle.yaml_parse_laws_counts.specs.grammar.declared.problem.ParseProblem.TheVariants as problem
@@ -80,6 +81,32 @@ pub over_both : (xs ys : List State) (P : List Token → Type 0) → Over (xs ++
 over_both [] ys P = refl
 over_both (x ∷ xs) ys P = ap (Left x) (over_both xs ys P)
 
+-- ---- what can't be: each arm for a token of another kind is answered by computing
+
+pub never : false ≡ true → ⊥
+never e = cc
+
+abbrev pub IsTake : Choice → Type 0
+IsTake Take = Unit {0}
+IsTake _ = ⊥
+
+pub was_take : (x : Choice) → x ≡ Take → IsTake x
+was_take x e = subst IsTake (sym e) tt
+
+abbrev pub IsLeave : Choice → Type 0
+IsLeave Leave = Unit {0}
+IsLeave _ = ⊥
+
+pub was_leave : (x : Choice) → x ≡ Leave → IsLeave x
+was_leave x e = subst IsLeave (sym e) tt
+
+abbrev pub IsOpen : Choice → Type 0
+IsOpen Open = Unit {0}
+IsOpen _ = ⊥
+
+pub was_open : (x : Choice) → x ≡ Open → IsOpen x
+was_open x e = subst IsOpen (sym e) tt
+
 -- ---- a state that leaves waits for nothing
 
 pub not_left : (a : Bool) (p : ParseProblem) (o : Option yaml_mark_t) → (if a then Take else Refuse p o) ≡ Leave → ⊥
@@ -98,22 +125,22 @@ properties_alone w (Some a) (Some t) P ts h = λ d. record { tree = tree.only_pr
 properties_alone w None None P ts h = tt
 
 pub leaving : (x : State) (k : yaml_token_type_t) → choice_at x k ≡ Leave → (P : List Token → Type 0) (ts : List Token) → P ts → Left x P ts
-leaving state.stream kind.YAML_STREAM_START_TOKEN c P ts h = cc
-leaving state.stream _ c P ts h = cc
+leaving state.stream kind.YAML_STREAM_START_TOKEN c P ts h = absurd (was_leave _ c)
+leaving state.stream _ c P ts h = absurd (was_leave _ c)
 leaving state.first k c P ts h = absurd (not_left_first (parts_documents k) (starts_node (Block None) k) problem.NoBlockNode c)
-leaving state.documents kind.YAML_DOCUMENT_END_TOKEN c P ts h = cc
+leaving state.documents kind.YAML_DOCUMENT_END_TOKEN c P ts h = absurd (was_leave _ c)
 leaving state.documents k c P ts h = absurd (not_left (parts_documents k) problem.NoDocumentStart None c)
-leaving (state.directives from) kind.YAML_STREAM_END_TOKEN c P ts h = cc
+leaving (state.directives from) kind.YAML_STREAM_END_TOKEN c P ts h = absurd (was_leave _ c)
 leaving (state.directives from) k c P ts h = absurd (not_left (parts_documents k) problem.NoDocumentStart None c)
-leaving (state.entries o) kind.YAML_BLOCK_ENTRY_TOKEN c P ts h = cc
-leaving (state.entries o) kind.YAML_BLOCK_END_TOKEN c P ts h = cc
-leaving (state.entries o) _ c P ts h = cc
-leaving (state.pairs o) kind.YAML_KEY_TOKEN c P ts h = cc
-leaving (state.pairs o) kind.YAML_BLOCK_END_TOKEN c P ts h = cc
-leaving (state.pairs o) _ c P ts h = cc
-leaving (state.items b o) kind.YAML_KEY_TOKEN c P ts h = cc
+leaving (state.entries o) kind.YAML_BLOCK_ENTRY_TOKEN c P ts h = absurd (was_leave _ c)
+leaving (state.entries o) kind.YAML_BLOCK_END_TOKEN c P ts h = absurd (was_leave _ c)
+leaving (state.entries o) _ c P ts h = absurd (was_leave _ c)
+leaving (state.pairs o) kind.YAML_KEY_TOKEN c P ts h = absurd (was_leave _ c)
+leaving (state.pairs o) kind.YAML_BLOCK_END_TOKEN c P ts h = absurd (was_leave _ c)
+leaving (state.pairs o) _ c P ts h = absurd (was_leave _ c)
+leaving (state.items b o) kind.YAML_KEY_TOKEN c P ts h = absurd (was_leave _ c)
 leaving (state.items b o) k c P ts h = absurd (not_left (closes b k || starts_node Flow k) problem.NoFlowNode None c)
-leaving (state.more b o) kind.YAML_FLOW_ENTRY_TOKEN c P ts h = cc
+leaving (state.more b o) kind.YAML_FLOW_ENTRY_TOKEN c P ts h = absurd (was_leave _ c)
 leaving (state.more b o) k c P ts h = absurd (not_left (closes b k) (no_end b) (Some o) c)
 leaving (state.optional place before) k c P ts h = record { tree = tree.left_out; rest = ts; same = refl; goes = h }
 leaving state.document_end k c P ts h = record { tree = None; rest = ts; same = refl; goes = h }
@@ -145,11 +172,11 @@ content_left (Block (Some side)) p start end token.block_entry c P ts h = record
   same = ap (λ us. token_at token.block_entry (span start end) ∷ us) (h.same ∙ ap (spell_maybe h.tree) h.goes.same);
   goes = h.goes.goes;
 }
-content_left Flow p start end token.block_sequence_start c P ts h = cc
-content_left Flow p start end token.block_mapping_start c P ts h = cc
-content_left Flow p start end token.block_entry c P ts h = cc
-content_left (Block None) p start end token.block_entry c P ts h = cc
-content_left w p start end _ c P ts h = cc
+content_left Flow p start end token.block_sequence_start c P ts h = absurd (never c)
+content_left Flow p start end token.block_mapping_start c P ts h = absurd (never c)
+content_left Flow p start end token.block_entry c P ts h = absurd (never c)
+content_left (Block None) p start end token.block_entry c P ts h = absurd (never c)
+content_left w p start end _ c P ts h = absurd (never c)
 
 bare_left : (w : Wants) (P : List Token → Type 0) (ts : List Token) → Spelled (Content w) spell_content P ts → Spelled (Node w) spell_node P ts
 bare_left w P ts h = record { tree = tree.bare h.tree; rest = h.rest; same = h.same; goes = h.goes }
@@ -177,11 +204,11 @@ with_properties_left : (w : Wants) (anchor : Option (List ℕ)) (tag : Option Ta
     → WithPropertiesLeft w anchor tag P (token_at b (span start end) ∷ ts)
 with_properties_left w None None from to start end (token.anchor name) c P ts h = tt
 with_properties_left w None (Some t) from to start end (token.anchor name) c P ts h = λ x. h (tree.tag_anchor x (record { name = name; span = span start end }))
-with_properties_left w (Some a) tag from to start end (token.anchor name) c P ts h = cc
+with_properties_left w (Some a) tag from to start end (token.anchor name) c P ts h = absurd (never c)
 with_properties_left w None None from to start end (token.tag handle suffix) c P ts h = tt
 with_properties_left w (Some a) None from to start end (token.tag handle suffix) c P ts h =
     λ x. h (tree.anchor_tag x (record { handle = handle; suffix = suffix; span = span start end }))
-with_properties_left w anchor (Some t) from to start end (token.tag handle suffix) c P ts h = cc
+with_properties_left w anchor (Some t) from to start end (token.tag handle suffix) c P ts h = absurd (never c)
 with_properties_left w anchor tag from to start end b c P ts h =
     content_with_properties w anchor tag P _ (content_left w (Some (record { anchor = anchor; tag = tag; from = from; to = to })) start end b c P ts h)
 
@@ -228,7 +255,7 @@ opening_left from start end (token.tag_directive name prefix) c P ts h = record 
   goes = h.goes;
 }
 opening_left from start end token.document_start c P ts h = begun_left start end end P ts h
-opening_left from start end _ c P ts h = cc
+opening_left from start end _ c P ts h = absurd (was_take _ c)
 
 opened_document : (P : List Token → Type 0) (ts : List Token) → Spelled Opening spell_opening P ts → Spelled Documents spell_documents P ts
 opened_document P ts h =
@@ -240,7 +267,7 @@ parting_left start end token.stream_end c P ts h = record { tree = tree.end_stre
 parting_left start end (token.version_directive major minor) c P ts h = opened_document P _ (opening_left start start end (token.version_directive major minor) refl P ts h)
 parting_left start end (token.tag_directive name prefix) c P ts h = opened_document P _ (opening_left start start end (token.tag_directive name prefix) refl P ts h)
 parting_left start end token.document_start c P ts h = opened_document P _ (opening_left start start end token.document_start refl P ts h)
-parting_left start end _ c P ts h = cc
+parting_left start end _ c P ts h = absurd (never c)
 
 documents_left : (start end : yaml_mark_t) (b : TokenBody) → choice_at state.documents (type_of b) ≡ Take
     → (P : List Token → Type 0) (ts : List Token) → Over (documents_taken start start end b).above P ts → Left state.documents P (token_at b (span start end) ∷ ts)
@@ -252,7 +279,7 @@ documents_left start end (token.version_directive major minor) c P ts h =
 documents_left start end (token.tag_directive name prefix) c P ts h =
     record { tree = []; rest = token_at (token.tag_directive name prefix) (span start end) ∷ ts; same = refl; goes = parting_left start end (token.tag_directive name prefix) refl P ts h }
 documents_left start end token.document_start c P ts h = record { tree = []; rest = token_at token.document_start (span start end) ∷ ts; same = refl; goes = parting_left start end token.document_start refl P ts h }
-documents_left start end _ c P ts h = cc
+documents_left start end _ c P ts h = absurd (was_take _ c)
 
 taken_first : (a b : Bool) (p : ParseProblem) → (if a then Take else if b then Open else Refuse p None) ≡ Take → a ≡ true
 taken_first true b p h = refl
@@ -288,7 +315,7 @@ stream_left start end (token.stream_start e) c P ts h = record {
   same = ap (λ us. token_at (token.stream_start e) (span start end) ∷ us) (h.same ∙ ap (spell_first h.tree) h.goes.same);
   goes = h.goes.goes;
 }
-stream_left start end _ c P ts h = cc
+stream_left start end _ c P ts h = absurd (was_take _ c)
 
 -- ---- taking a token inside a document
 
@@ -313,7 +340,7 @@ entries_left o start end token.block_entry c P ts h = record {
   goes = h.goes.goes;
 }
 entries_left o start end token.block_end c P ts h = record { tree = tree.end_entries (span start end); rest = ts; same = refl; goes = h }
-entries_left o start end _ c P ts h = cc
+entries_left o start end _ c P ts h = absurd (was_take _ c)
 
 pairs_left : (o start end : yaml_mark_t) (b : TokenBody) → choice_at (state.pairs o) (type_of b) ≡ Take
     → (P : List Token → Type 0) (ts : List Token) → Over (pairs_taken o start end b).above P ts → Spelled Pairs spell_pairs P (token_at b (span start end) ∷ ts)
@@ -324,7 +351,7 @@ pairs_left o start end token.key c P ts h = record {
   goes = h.goes.goes.goes;
 }
 pairs_left o start end token.block_end c P ts h = record { tree = tree.end_pairs (span start end); rest = ts; same = refl; goes = h }
-pairs_left o start end _ c P ts h = cc
+pairs_left o start end _ c P ts h = absurd (was_take _ c)
 
 others_left : (side : Side) (start end : yaml_mark_t) (b : TokenBody) → choice_at (state.others side) (type_of b) ≡ Take
     → (P : List Token → Type 0) (ts : List Token) → Over (state.optional (IndentlessEntry side) end ∷ state.others side ∷ []) P ts → Spelled Others spell_others P (token_at b (span start end) ∷ ts)
@@ -334,18 +361,18 @@ others_left side start end token.block_entry c P ts h = record {
   same = ap (λ us. token_at token.block_entry (span start end) ∷ us) (h.same ∙ ap (spell_maybe h.tree) h.goes.same);
   goes = h.goes.goes;
 }
-others_left side start end _ c P ts h = cc
+others_left side start end _ c P ts h = absurd (was_take _ c)
 
 colon_left : (place : Site) (start end : yaml_mark_t) (b : TokenBody) → choice_at (state.colon place) (type_of b) ≡ Take
     → (P : List Token → Type 0) (ts : List Token) → Over (state.optional place end ∷ []) P ts → Spelled (Colon (wants_of place)) spell_colon P (token_at b (span start end) ∷ ts)
 colon_left place start end token.value c P ts h =
     record { tree = tree.colon (span start end) h.tree; rest = h.rest; same = ap (λ us. token_at token.value (span start end) ∷ us) h.same; goes = h.goes }
-colon_left place start end _ c P ts h = cc
+colon_left place start end _ c P ts h = absurd (was_take _ c)
 
 end_left : (start end : yaml_mark_t) (b : TokenBody) → choice_at state.document_end (type_of b) ≡ Take
     → (P : List Token → Type 0) (ts : List Token) → P ts → Spelled (Option Span) spell_end P (token_at b (span start end) ∷ ts)
 end_left start end token.document_end c P ts h = record { tree = Some (span start end); rest = ts; same = refl; goes = h }
-end_left start end _ c P ts h = cc
+end_left start end _ c P ts h = absurd (was_take _ c)
 
 more_left : (bs : Brackets) (o start end : yaml_mark_t) (b : TokenBody) → choice_at (state.more bs o) (type_of b) ≡ Take
     → (P : List Token → Type 0) (ts : List Token) → Over (more_taken bs o start end b).above P ts → Spelled More (spell_more bs) P (token_at b (span start end) ∷ ts)
@@ -353,8 +380,8 @@ more_left bs o start end token.flow_entry c P ts h =
     record { tree = tree.comma (span start end) h.tree; rest = h.rest; same = ap (λ us. token_at token.flow_entry (span start end) ∷ us) h.same; goes = h.goes }
 more_left brackets.Sequence o start end token.flow_sequence_end c P ts h = record { tree = tree.end_more (span start end); rest = ts; same = refl; goes = h }
 more_left brackets.Mapping o start end token.flow_mapping_end c P ts h = record { tree = tree.end_more (span start end); rest = ts; same = refl; goes = h }
-more_left brackets.Sequence o start end _ c P ts h = cc
-more_left brackets.Mapping o start end _ c P ts h = cc
+more_left brackets.Sequence o start end _ c P ts h = absurd (was_take _ c)
+more_left brackets.Mapping o start end _ c P ts h = absurd (was_take _ c)
 
 -- a lone node inside brackets
 single_left : (bs : Brackets) (o : yaml_mark_t) (P : List Token → Type 0) (ts : List Token)
@@ -391,16 +418,16 @@ items_left : (bs : Brackets) (o start end : yaml_mark_t) (b : TokenBody) → cho
 items_left bs o start end token.key c P ts h = pair_left bs o start end P ts h
 items_left brackets.Sequence o start end token.flow_sequence_end c P ts h = record { tree = tree.end_items (span start end); rest = ts; same = refl; goes = h }
 items_left brackets.Mapping o start end token.flow_mapping_end c P ts h = record { tree = tree.end_items (span start end); rest = ts; same = refl; goes = h }
-items_left brackets.Sequence o start end token.flow_mapping_end c P ts h = cc
-items_left brackets.Mapping o start end token.flow_sequence_end c P ts h = cc
+items_left brackets.Sequence o start end token.flow_mapping_end c P ts h = absurd (was_take _ c)
+items_left brackets.Mapping o start end token.flow_sequence_end c P ts h = absurd (was_take _ c)
 items_left bs o start end (token.alias name) c P ts h = node_over bs o start end (token.alias name) refl P ts h
 items_left bs o start end (token.anchor name) c P ts h = node_over bs o start end (token.anchor name) refl P ts h
 items_left bs o start end (token.tag handle suffix) c P ts h = node_over bs o start end (token.tag handle suffix) refl P ts h
 items_left bs o start end (token.scalar value style) c P ts h = node_over bs o start end (token.scalar value style) refl P ts h
 items_left bs o start end token.flow_sequence_start c P ts h = node_over bs o start end token.flow_sequence_start refl P ts h
 items_left bs o start end token.flow_mapping_start c P ts h = node_over bs o start end token.flow_mapping_start refl P ts h
-items_left brackets.Sequence o start end _ c P ts h = cc
-items_left brackets.Mapping o start end _ c P ts h = cc
+items_left brackets.Sequence o start end _ c P ts h = absurd (was_take _ c)
+items_left brackets.Mapping o start end _ c P ts h = absurd (was_take _ c)
 
 -- A state that takes a token waits for the token, if the states that it puts in its place wait for what follows.
 pub taking : (x : State) (t : Token) → choice_at x (type_of t.body) ≡ Take → (P : List Token → Type 0) (ts : List Token) → Over (taken_at x t).above P ts → Left x P (t ∷ ts)
@@ -421,8 +448,8 @@ taking (state.with_properties w p) t c P ts h =
     with_properties_left w p.anchor p.tag p.from p.to t.start_mark t.end_mark t.body (taken_with_properties (joins p (type_of t.body) || starts_content w (type_of t.body)) c) P ts h
 taking (state.items b o) t c P ts h = items_left b o t.start_mark t.end_mark t.body c P ts h
 taking (state.more b o) t c P ts h = more_left b o t.start_mark t.end_mark t.body c P ts h
-taking state.pair_end t c P ts h = cc
-taking state.lone t c P ts h = cc
+taking state.pair_end t c P ts h = absurd (was_take _ c)
+taking state.lone t c P ts h = absurd (was_take _ c)
 
 -- ---- a document opens at the first state alone
 
@@ -440,33 +467,33 @@ leave_or false true p h = cc
 leave_or false false p h = cc
 
 opens_first : (x : State) (k : yaml_token_type_t) → choice_at x k ≡ Open → x ≡ state.first
-opens_first state.stream kind.YAML_STREAM_START_TOKEN h = cc
-opens_first state.stream _ h = cc
+opens_first state.stream kind.YAML_STREAM_START_TOKEN h = absurd (was_open _ h)
+opens_first state.stream _ h = absurd (was_open _ h)
 opens_first state.first k h = refl
-opens_first state.documents kind.YAML_DOCUMENT_END_TOKEN h = cc
+opens_first state.documents kind.YAML_DOCUMENT_END_TOKEN h = absurd (was_open _ h)
 opens_first state.documents k h = absurd (take_or_refuse (parts_documents k) problem.NoDocumentStart None h)
-opens_first (state.directives from) kind.YAML_STREAM_END_TOKEN h = cc
+opens_first (state.directives from) kind.YAML_STREAM_END_TOKEN h = absurd (was_open _ h)
 opens_first (state.directives from) k h = absurd (take_or_refuse (parts_documents k) problem.NoDocumentStart None h)
 opens_first (state.optional place before) k h = absurd (leave_or (follows place k) (starts_node (wants_of place) k) (no_node (wants_of place)) h)
-opens_first state.document_end kind.YAML_DOCUMENT_END_TOKEN h = cc
-opens_first state.document_end _ h = cc
-opens_first (state.entries o) kind.YAML_BLOCK_ENTRY_TOKEN h = cc
-opens_first (state.entries o) kind.YAML_BLOCK_END_TOKEN h = cc
-opens_first (state.entries o) _ h = cc
-opens_first (state.others side) kind.YAML_BLOCK_ENTRY_TOKEN h = cc
-opens_first (state.others side) _ h = cc
-opens_first (state.pairs o) kind.YAML_KEY_TOKEN h = cc
-opens_first (state.pairs o) kind.YAML_BLOCK_END_TOKEN h = cc
-opens_first (state.pairs o) _ h = cc
-opens_first (state.colon place) kind.YAML_VALUE_TOKEN h = cc
-opens_first (state.colon place) _ h = cc
+opens_first state.document_end kind.YAML_DOCUMENT_END_TOKEN h = absurd (was_open _ h)
+opens_first state.document_end _ h = absurd (was_open _ h)
+opens_first (state.entries o) kind.YAML_BLOCK_ENTRY_TOKEN h = absurd (was_open _ h)
+opens_first (state.entries o) kind.YAML_BLOCK_END_TOKEN h = absurd (was_open _ h)
+opens_first (state.entries o) _ h = absurd (was_open _ h)
+opens_first (state.others side) kind.YAML_BLOCK_ENTRY_TOKEN h = absurd (was_open _ h)
+opens_first (state.others side) _ h = absurd (was_open _ h)
+opens_first (state.pairs o) kind.YAML_KEY_TOKEN h = absurd (was_open _ h)
+opens_first (state.pairs o) kind.YAML_BLOCK_END_TOKEN h = absurd (was_open _ h)
+opens_first (state.pairs o) _ h = absurd (was_open _ h)
+opens_first (state.colon place) kind.YAML_VALUE_TOKEN h = absurd (was_open _ h)
+opens_first (state.colon place) _ h = absurd (was_open _ h)
 opens_first (state.with_properties w p) k h = absurd (take_or_leave (joins p k || starts_content w k) h)
-opens_first (state.items b o) kind.YAML_KEY_TOKEN h = cc
+opens_first (state.items b o) kind.YAML_KEY_TOKEN h = absurd (was_open _ h)
 opens_first (state.items b o) k h = absurd (take_or_refuse (closes b k || starts_node Flow k) problem.NoFlowNode None h)
-opens_first (state.more b o) kind.YAML_FLOW_ENTRY_TOKEN h = cc
+opens_first (state.more b o) kind.YAML_FLOW_ENTRY_TOKEN h = absurd (was_open _ h)
 opens_first (state.more b o) k h = absurd (take_or_refuse (closes b k) (no_end b) (Some o) h)
-opens_first state.pair_end k h = cc
-opens_first state.lone k h = cc
+opens_first state.pair_end k h = absurd (was_open _ h)
+opens_first state.lone k h = absurd (was_open _ h)
 
 -- The same of a state at which a document opens.
 pub opening : (x : State) (t : Token) → choice_at x (type_of t.body) ≡ Open → (P : List Token → Type 0) (ts : List Token)

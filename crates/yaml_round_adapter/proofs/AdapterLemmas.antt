@@ -1,5 +1,5 @@
 -- The token that an adapter gives, and the texts of what is left.
-use Rattle.std.proofs.Common.{◌≡◌, ℕ, Bool, true, false, true≢false, List, [], ◌∷◌, Option, Result, Ok, Err, refl, All, ap, ◌∙◌}
+use Rattle.std.proofs.Common.{◌≡◌, ℕ, Bool, true, false, true≢false, List, [], ◌∷◌, Option, None, Result, Ok, Err, refl, inl, inr, All, ap, ◌∙◌}
 use Rattle.std.proofs.lemmas.List.Elements.{All-nil, All-head, All-tail}
 use Rattle.yaml_scan.specs.declared.yaml_encoding_t.{yaml_encoding_t}
 use Rattle.yaml_scan.specs.Tokens.{Token}
@@ -16,11 +16,11 @@ use Rattle.yaml_scan.specs.scan_history.Remaining.{Remaining}
 use Rattle.yaml_scan.specs.Scanned.{scanned_in, scanned}
 use Rattle.yaml_scan.specs.Session as session
 use Rattle.yaml_scan.specs.Session.{View, first_of, others_of, behind_first}
-use Rattle.yaml_parse.specs.Source.{front_of, rest_of, MayAnswer, GivesToken}
+use Rattle.yaml_parse.specs.Source.{front_of, rest_of, MayAnswer, GivesToken, GivesFault}
 use Rattle.yaml_round_adapter.specs.Adapted.{adapted}
-use Rattle.yaml_round_adapter.specs.Adapter.{TakesText}
+use Rattle.yaml_round_adapter.specs.Adapter.{TakesText, Stops}
 use Rattle.yaml_round_adapter.specs.AdapterView.{remaining_by}
-use Rattle.yaml_round_adapter.proofs.AdaptedLemmas.{taken}
+use Rattle.yaml_round_adapter.proofs.AdaptedLemmas.{taken, refused, failed}
 
 abbrev pub HaveTexts : Remaining → Type 0
 HaveTexts c = All (λ t. HasTexts t.body) c.tokens
@@ -73,3 +73,12 @@ pub gives_token : (over : Bool) (old new : View) (was : Remaining) (t : Token) �
     → GivesToken was.tokens was.fault t (remaining_by over new.remaining).tokens (remaining_by over new.remaining).fault
 gives_token true old new was t o e texts g = absurd (true≢false o)
 gives_token false old new was t o e texts g = rw (← e) (gives_text old new t texts g)
+
+-- the session's own fault is given, or that of the next token's tag
+gives_stop : (c : Remaining) (f : Fault) → Stops c f → GivesFault (adapted c).tokens (adapted c).fault f [] None
+gives_stop c f (inl told) = failed c f told
+gives_stop c f (inr (s, e)) = rw e (refused c (first_of c.tokens) (first_front c.tokens) s)
+
+pub gives_fault : (over : Bool) (old was : Remaining) (f : Fault) → over ≡ false → remaining_by over old ≡ was → Stops old f → GivesFault was.tokens was.fault f [] None
+gives_fault true old was f o e s = absurd (true≢false o)
+gives_fault false old was f o e s = rw (← e) (gives_stop old f s)

@@ -1,0 +1,16 @@
+use Rattle.yaml_emit.proofs.emitter.yaml_emitter_emit_from.Goals as goal
+
+pub returns-clause-takes : goal.returns-clause-takes
+returns-clause-takes c = c.give.ensures.takes
+
+pub returns-clause-memory : goal.returns-clause-memory
+returns-clause-memory c = c.give.ensures.memory
+
+pub returns-clause-stays : goal.returns-clause-stays
+returns-clause-stays c = c.give.ensures.stays
+
+pub returns-clause-few : goal.returns-clause-few
+returns-clause-few c = c.give.ensures.few
+
+pub returns-clause-opened : goal.returns-clause-opened
+returns-clause-opened c = c.give.ensures.opened

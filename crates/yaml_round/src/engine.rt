@@ -1,115 +1,17 @@
 //! The calls that read a text whole and answer another.
 
-ghost use Rattle.std.specs.Prelude.{◌≡◌, ℕ, List, [], IfOk};
-ghost use Rattle.yaml_scan.specs.Faults.{Answers, parse_layers};
-ghost use Rattle.yaml_round.specs.Layers.{list_layers, reformat_layers};
-ghost use Rattle.yaml_round_laws_documents.specs.round_laws_back.content.Input.{Reads, ending_of, events_of};
-ghost use Rattle.yaml_round_shape.specs.Seen.{seen_all};
-ghost use Rattle.yaml_round_compare.specs.Reading.{AreReal, emitter_events};
-ghost use Rattle.yaml_round.specs.Lines.{AddsLines};
-ghost use Rattle.yaml_round.specs.Answers.{IsReformatted, IsInCanonicalForm, IsInPrettyForm, IsJudged, IsWritten, IsListed, text_and_form, text_and_known, bytes_of};
-ghost use Rattle.yaml_round.specs.Writing.{WritesAll};
-ghost use Rattle.yaml_round.specs.Kept.{KeptOn};
-ghost use Rattle.yaml_parse.specs.Events.{text_of};
+ghost use Rattle.yaml_scan_model.specs.Faults.{Answers};
+ghost use Rattle.yaml_round_writing.specs.Layers.{list_layers, reformat_layers};
+ghost use Rattle.yaml_round_writing.specs.Answers.{IsReformatted, IsInCanonicalForm, IsListed, text_and_form, bytes_of};
 
-use crate::kept::{Known, stays};
-use crate::writing::{Watch, emitter_under, finished, write_rest, write_up_to};
 use std::alloc::Global;
-use yaml_emit::yaml_emitter_t;
-use yaml_parse::yaml_found_t;
-use yaml_round_compare::{Reading, let_go, read_out, reading_of, yaml_form_t, yaml_settings_t};
-use yaml_round_lines::yaml_push_event_line;
-use yaml_round_shape::{Shape, is_json};
-use yaml_scan::{yaml_encoding_t, yaml_fault_t, yaml_memory_fault, yaml_origin_t};
-
-// A text that has more than this many bytes for each byte of its input has outgrown it.
-const OUTGROWN: usize = 32;
-
-// Reads the input to its end and writes nothing. Its fault is the answer.
-fn judge(alloc: Global, input: &[u8], from: yaml_encoding_t) -> Result<(), yaml_fault_t>
-    ensures { Answers parse_layers (λ done. done) (IsJudged from input.now) result }
-{
-    let mut reading = reading_of(alloc, input, from)?;
-    let answer = read_out(&mut reading);
-    let_go(reading);
-    answer
-}
-
-// Writes the events to their end. The layout of deep nesting grows with the square of its input: where the text has
-// outgrown the input, the rest is judged before more is written, so that a fault costs no more than the input's size.
-#[tactic(auto, using(crate::proofs::Judging::then_rest, crate::proofs::Judging::met_again))]
-fn write_events(
-    alloc: Global,
-    input: &[u8],
-    from: yaml_encoding_t,
-    reading: &mut Reading<'_>,
-    emitter: &mut yaml_emitter_t,
-    watch: &mut Watch,
-) -> Result<(), yaml_fault_t>
-    requires real { AreReal reading.old.parser.events }
-    requires ending { reading.old.parser.ending ≡ ending_of from input.now }
-    ensures { WritesAll watch.old reading.old.parser emitter.old result watch.new emitter.new }
-{
-    let most = input.len().saturating_mul(OUTGROWN);
-    if write_up_to(reading, emitter, watch, most)? {
-        return Ok(());
-    }
-    judge(alloc, input, from)?;
-    write_rest(reading, emitter, watch)
-}
-
-// The text of the events of the input's reading in canonical or pretty form, or their fault.
-#[tactic(auto, using(crate::proofs::Judging::not_written))]
-fn written_from(
-    alloc: Global,
-    input: &[u8],
-    from: yaml_encoding_t,
-    reading: &mut Reading<'_>,
-    settings: &yaml_settings_t,
-    watch: &mut Watch,
-) -> Result<Vec<u8>, yaml_fault_t>
-    requires reads { Reads from input.now reading.old.parser }
-    requires real { AreReal reading.old.parser.events }
-    ensures text { Answers reformat_layers bytes_of (IsWritten from input.now settings.now
-        watch.old.canonical) result }
-    ensures shape { IfOk result (λ _. watch.new.shape ≡ seen_all watch.old.shape
-        (emitter_events watch.old.canonical (events_of from input.now))) }
-    ensures kept { IfOk result (λ _. KeptOn (text_of watch.old.kept) (events_of from input.now)
-        (text_of watch.new.kept) []) }
-{
-    let mut emitter = emitter_under(alloc, settings, watch.canonical)?;
-    let written = write_events(alloc, input, from, reading, &mut emitter, watch);
-    let text = finished(emitter);
-    match written {
-        Err(fault) => Err(fault),
-        Ok(()) => text,
-    }
-}
-
-// The text of the input's events in canonical or pretty form. The input is read to its end, also where the text passes its
-// limit before, so that a fault of the input comes first.
-fn written(
-    alloc: Global,
-    input: &[u8],
-    from: yaml_encoding_t,
-    settings: &yaml_settings_t,
-    watch: &mut Watch,
-) -> Result<Vec<u8>, yaml_fault_t>
-    ensures text { Answers reformat_layers bytes_of (IsWritten from input.now settings.now
-        watch.old.canonical) result }
-    ensures shape { IfOk result (λ _. watch.new.shape ≡ seen_all watch.old.shape
-        (emitter_events watch.old.canonical (events_of from input.now))) }
-    ensures kept { IfOk result (λ _. KeptOn (text_of watch.old.kept) (events_of from input.now)
-        (text_of watch.new.kept) []) }
-{
-    let mut reading = reading_of(alloc, input, from)?;
-    let answer = written_from(alloc, input, from, &mut reading, settings, watch);
-    let_go(reading);
-    answer
-}
+use yaml_round_device::{yaml_form_t, yaml_settings_t};
+use yaml_round_writing::{
+    Shape, Watch, in_pretty_form, let_go, lines_of, reading_of, stays, written,
+};
+use yaml_scan_model::{yaml_encoding_t, yaml_fault_t};
 
 // The text in canonical form.
-#[tactic(auto, using(crate::proofs::Normal::in_normal_form))]
 fn in_canonical_form(
     alloc: Global,
     input: &[u8],
@@ -129,45 +31,12 @@ fn in_canonical_form(
     Ok((text, yaml_form_t::Canonical))
 }
 
-// The text in pretty form, and what is known of it: that of an input shaped as JSON reads back.
-#[tactic(auto, using(crate::proofs::Staying::known_back))]
-fn in_pretty_form(
-    alloc: Global,
-    input: &[u8],
-    from: yaml_encoding_t,
-    settings: &yaml_settings_t,
-) -> Result<(Vec<u8>, Known), yaml_fault_t>
-    ensures { Answers reformat_layers text_and_known
-        (IsInPrettyForm from settings.now input.now) result }
-{
-    let mut watch = Watch {
-        canonical: false,
-        shape: Shape::Json {
-            begun: false,
-            key: false,
-            mappings: 0,
-        },
-        kept: Some(Vec::new(alloc)),
-        most_kept: input.len().saturating_mul(2),
-    };
-    let text = written(alloc, input, from, settings, &mut watch)?;
-    let back = is_json(watch.shape);
-    Ok((
-        text,
-        Known {
-            back,
-            kept: watch.kept,
-        },
-    ))
-}
-
 /// The text rewritten, and its form. With `settings.canonical` on the answer is in canonical form. With it off the events
 /// are laid out in pretty form, with their styles; where that text, read back, hasn't the input's content, the answer is in
 /// canonical form all the same.
 ///
 /// Refusals: a fault of the input (kinds 2, 3 and 4), which comes before a limit; `write error` (kind 6) where the text
 /// has more than `settings.limit` bytes; `indentation is too deep` (kind 7); want of memory (kind 1).
-#[tactic(auto, using(crate::proofs::Judging::asked_for, crate::proofs::Judging::fallen_back, crate::proofs::Judging::pretty_refused, crate::proofs::Judging::memory_alone), unfolding(crate::specs::Answers::IsReformatted))]
 pub fn yaml_reformat(
     alloc: Global,
     input: &[u8],
@@ -186,36 +55,6 @@ pub fn yaml_reformat(
         Ok(true) => Ok((text, yaml_form_t::Pretty)),
         Ok(false) => in_canonical_form(alloc, input, from, settings),
     }
-}
-
-// Adds the lines of the events to their end.
-fn push_lines(reading: &mut Reading<'_>, lines: &mut Vec<u8>) -> Result<(), yaml_fault_t>
-    requires { AreReal reading.old.parser.events }
-    ensures { AddsLines reading.old.parser lines.old.items result lines.new.items }
-{
-    'events: loop {
-        match reading.next() {
-            yaml_found_t::Refused => return Err(reading.fault),
-            yaml_found_t::End => return Ok(()),
-            yaml_found_t::Event => {
-                if yaml_push_event_line(lines, &reading.event).is_err() {
-                    return Err(yaml_memory_fault(yaml_origin_t::Emitter));
-                }
-            }
-        }
-    }
-}
-
-// The lines of a reading's events.
-#[tactic(auto, using(crate::proofs::Judging::listed, crate::proofs::Judging::not_listed))]
-fn lines_of(alloc: Global, reading: &mut Reading<'_>) -> Result<Vec<u8>, yaml_fault_t>
-    requires { AreReal reading.old.parser.events }
-    ensures { (from : yaml_encoding_t) (input : List ℕ) → Reads from input reading.old.parser
-        → Answers list_layers bytes_of (IsListed from input) result }
-{
-    let mut lines = Vec::new(alloc);
-    push_lines(reading, &mut lines)?;
-    Ok(lines)
 }
 
 /// A line for each event of the input, as the parser gives it. Refused by a fault of the input (kinds 2, 3 and 4) or for

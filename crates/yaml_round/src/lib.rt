@@ -2,23 +2,20 @@
 #![tactic(auto)]
 
 mod engine;
-mod kept;
 mod reload;
 mod run;
-mod writing;
+mod same;
 
 pub use engine::{yaml_events, yaml_reformat};
 pub use reload::yaml_reload;
 pub use run::yaml_run;
-pub use yaml_round_adapter::yaml_adapter_t;
-pub use yaml_round_compare::{
-    yaml_command_t, yaml_form_t, yaml_output_encoding_t, yaml_same, yaml_settings_t, yaml_side_t,
-};
+pub use same::yaml_same;
 pub use yaml_round_device::{
-    yaml_device_fault_t, yaml_input_t, yaml_output_t, yaml_read_all, yaml_run_fault_t,
+    yaml_command_t, yaml_device_fault_t, yaml_fault_line, yaml_form_t, yaml_input_t,
+    yaml_output_encoding_t, yaml_output_t, yaml_read_all, yaml_run_fault_t, yaml_settings_t,
     yaml_std_input_t, yaml_std_output_t, yaml_write_all,
 };
-pub use yaml_round_lines::yaml_fault_line;
-pub use yaml_scan::{
+pub use yaml_round_writing::{yaml_adapter_t, yaml_side_t};
+pub use yaml_scan_model::{
     yaml_break_t, yaml_encoding_t, yaml_error_type_t, yaml_fault_t, yaml_mark_t, yaml_origin_t,
 };

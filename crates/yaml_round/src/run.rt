@@ -2,18 +2,18 @@
 
 ghost use Rattle.std.specs.Prelude.{◌≡◌, true, IfErr, OnOk};
 ghost use Rattle.yaml_round_device.specs.Run.{Runs, FailsBy, IsBeforeWriting};
-ghost use Rattle.yaml_scan.specs.Faults.{Answers};
-ghost use Rattle.yaml_round.specs.Answers.{text_and_maybe_form};
+ghost use Rattle.yaml_scan_model.specs.Faults.{Answers};
+ghost use Rattle.yaml_round_writing.specs.Answers.{text_and_maybe_form};
 ghost use Rattle.yaml_round.specs.Commands.{IsRunAnswer, run_layers};
 
 use crate::engine::{yaml_events, yaml_reformat};
 use crate::reload::yaml_reload;
 use std::alloc::Global;
-use yaml_round_compare::{yaml_command_t, yaml_form_t, yaml_settings_t};
 use yaml_round_device::{
-    yaml_input_t, yaml_output_t, yaml_read_all, yaml_run_fault_t, yaml_write_all,
+    yaml_command_t, yaml_form_t, yaml_input_t, yaml_output_t, yaml_read_all, yaml_run_fault_t,
+    yaml_settings_t, yaml_write_all,
 };
-use yaml_scan::{yaml_encoding_t, yaml_fault_t};
+use yaml_scan_model::{yaml_encoding_t, yaml_fault_t};
 
 // The text that the command gives for the input, and its form where it has one.
 fn answer_of(

@@ -7,8 +7,8 @@ use Rattle.yaml_scan.specs.declared.yaml_origin_t.TheVariants.{Parser}
 use Rattle.yaml_scan.specs.Faults.{fault_of, memory_fault, parse_layers, Answers}
 use Rattle.yaml_parse.specs.Remaining.{ParserRemaining}
 use Rattle.yaml_round_laws_reading.specs.round_content.Input.{Reads}
-use Rattle.yaml_round_compare.specs.declared.settings.yaml_side_t.{yaml_side_t}
-use Rattle.yaml_round_compare.specs.declared.settings.yaml_side_t.TheVariants.{First, Second}
+use Rattle.yaml_round_compare.specs.declared.side.yaml_side_t.{yaml_side_t}
+use Rattle.yaml_round_compare.specs.declared.side.yaml_side_t.TheVariants.{First, Second}
 use Rattle.yaml_round_compare.specs.Reading.{contents}
 use Rattle.yaml_round_compare.specs.Compare.{ComparesReadings, ReadsAlike, IsSideFault, IsBehindFirst}
 use Rattle.yaml_round_compare.specs.Answers.{IsRight, IsReadBack, IsSame, IsSideStarved, IsSideFaulty}

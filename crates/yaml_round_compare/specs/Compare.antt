@@ -4,8 +4,8 @@ use Rattle.yaml_scan.specs.declared.yaml_fault_t.{yaml_fault_t}
 use Rattle.yaml_scan.specs.Faults.{Fault, fault_of, IsMemoryFault, parse_layers}
 use Rattle.yaml_parse.specs.Events.{EventBody}
 use Rattle.yaml_parse.specs.Remaining.{ParserRemaining}
-use Rattle.yaml_round_compare.specs.declared.settings.yaml_side_t.{yaml_side_t}
-use Rattle.yaml_round_compare.specs.declared.settings.yaml_side_t.TheVariants.{First, Second}
+use Rattle.yaml_round_compare.specs.declared.side.yaml_side_t.{yaml_side_t}
+use Rattle.yaml_round_compare.specs.declared.side.yaml_side_t.TheVariants.{First, Second}
 use Rattle.yaml_round_compare.specs.declared.reading.Reading.{Reading}
 use Rattle.yaml_round_compare.specs.declared.compare.Next.{Next}
 use Rattle.yaml_round_compare.specs.declared.compare.Next.TheVariants.{Same, End, Different, Refused}

@@ -1,4 +1,3 @@
-pub mod Settings
 pub mod Reading
 pub mod Compare
 pub mod Answers

@@ -11,7 +11,7 @@ ghost use Rattle.yaml_scan.specs.Faults.{Answers, IsMemoryFault, fault_of, parse
 use crate::content::agree;
 use crate::normalize::normalize_event;
 use crate::reading::{Reading, let_go, read_out, reading_of};
-use crate::settings::yaml_side_t;
+use crate::side::yaml_side_t;
 use std::alloc::Global;
 use yaml_parse::{yaml_event_t, yaml_found_t};
 use yaml_scan::{
@@ -198,13 +198,13 @@ pub fn reads_back(
     answer
 }
 
-// Whether the second input has the content of the first one's reading.
-fn same_as(
+/// Whether the second input has the content of the first one's reading.
+pub fn same_as(
     alloc: Global,
     first: &mut Reading<'_>,
     b: &[u8],
     b_encoding: yaml_encoding_t,
-) -> Result<bool, SideFault>
+) -> Result<bool, (yaml_side_t, yaml_fault_t)>
     requires { AreReal first.old.parser.events }
     ensures { (from : yaml_encoding_t) (input : List ℕ) → Reads from input first.old.parser
         → IsSame from input b_encoding b.now result }
@@ -214,28 +214,6 @@ fn same_as(
         Ok(mut second) => {
             let answer = compared(first, &mut second);
             let_go(second);
-            answer
-        }
-    }
-}
-
-/// Whether two inputs have the same content: their documents' versions, directives, nodes, anchors, tags and values, and of
-/// untagged scalars whether they are plain; styles, marks and comments aside. A refused first input is answered first, by
-/// its side and its fault (kinds 1 to 4); the second is told of only where the first is accepted.
-pub fn yaml_same(
-    alloc: Global,
-    a: &[u8],
-    a_encoding: yaml_encoding_t,
-    b: &[u8],
-    b_encoding: yaml_encoding_t,
-) -> Result<bool, (yaml_side_t, yaml_fault_t)>
-    ensures { IsSame a_encoding a.now b_encoding b.now result }
-{
-    match reading_of(alloc, a, a_encoding) {
-        Err(fault) => Err((yaml_side_t::First, fault)),
-        Ok(mut first) => {
-            let answer = same_as(alloc, &mut first, b, b_encoding);
-            let_go(first);
             answer
         }
     }

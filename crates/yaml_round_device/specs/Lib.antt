@@ -1,2 +1,4 @@
 pub mod StdDevices
 pub mod Run
+pub mod FaultLine
+pub mod Settings

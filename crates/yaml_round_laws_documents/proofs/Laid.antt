@@ -1,30 +1,30 @@
 -- For the dumps of loaded documents the canonical text of what they say is laid out.
 use Rattle.std.proofs.Common.{◌≡◌, ℕ, zero, suc, ℤ, pos, Bool, true, false, if◌then◌else◌, List, [], ◌∷◌, length, map, Option, Some, None, refl, sym, ap, subst, ◌∙◌}
-use Rattle.yaml_round_laws_back.specs.content.round_laws.emit_laws_streams.scan.declared.yaml_encoding_t.{yaml_encoding_t}
-use Rattle.yaml_round_laws_back.specs.content.round_laws.emit_laws_streams.scan.declared.yaml_encoding_t.TheVariants.{YAML_ANY_ENCODING}
-use Rattle.yaml_round_laws_back.specs.content.round_laws.emit_laws_streams.scan.declared.yaml_scalar_style_t.{yaml_scalar_style_t}
-use Rattle.yaml_round_laws_back.specs.content.round_laws.emit_laws_streams.scan.declared.yaml_scalar_style_t.TheVariants.{YAML_ANY_SCALAR_STYLE}
-use Rattle.yaml_round_laws_back.specs.content.round_laws.emit_laws_streams.scan.Faults.{Fault}
-use Rattle.yaml_round_laws_back.specs.content.round_laws.emit_laws_streams.parse.declared.yaml_node_pair_t.{yaml_node_pair_t}
-use Rattle.yaml_round_laws_back.specs.content.round_laws.emit_laws_streams.parse.Nodes as model
-use Rattle.yaml_round_laws_back.specs.content.round_laws.emit_laws_streams.parse.Documents as documents
-use Rattle.yaml_round_laws_back.specs.content.round_laws.emit_laws_streams.parse.Documents.{Document, seq_tag, map_tag}
-use Rattle.yaml_round_laws_back.specs.content.round_laws.emit_laws_streams.emit.emit_text.declared.RequestedSettings.{RequestedSettings}
-use Rattle.yaml_round_laws_back.specs.content.round_laws.emit_laws_streams.emit.Layout.{Layout, written}
-use Rattle.yaml_round_laws_back.specs.content.round_laws.emit_laws_streams.emit.Content as emit
-use Rattle.yaml_round_laws_back.specs.content.round_laws.emit_laws_streams.emit.Content.{is_flow_sequence, is_flow_mapping}
-use Rattle.yaml_round_laws_back.specs.content.round_laws.emit_laws_streams.emit.emit_layout.Grammar.{own_problems}
-use Rattle.yaml_round_laws_back.specs.content.round_laws.emit_laws_streams.emit.emit_graph.Graph.{Met, is_met, meet, body_of_id, tag_of_id, number_at, numbers, name_of, anchor_of, graph_scalar, graph_start, none_met, graph_root, graph_content}
-use Rattle.yaml_round_laws_back.specs.content.round_laws.emit_laws_streams.emit.emit_graph.Onward.{items_by, pairs_by, node_by, content_by, itself, root_onward}
-use Rattle.yaml_round_laws_back.proofs.content.round_laws.emit_laws_streams.emit.emit_graph.Joining.{root_joined}
-use Rattle.yaml_round_laws_back.specs.content.round_laws.emit_laws_streams.Laws.{AreRight}
-use Rattle.yaml_round_laws_back.specs.content.Said as content
-use Rattle.yaml_round_laws_back.specs.content.Trees.{document_tree}
-use Rattle.yaml_round_laws_back.specs.content.Canon.{canon_items}
-use Rattle.yaml_round_laws_back.specs.content.Loads.{loads_of}
-use Rattle.yaml_round_laws_back.specs.round_laws_dumps.Events.{trees_of_dumps}
-use Rattle.yaml_round_laws_back.proofs.content.Layouts.{NodeFlagged, NodesFlagged, PairsFlagged, Normalize, normal_layout}
-use Rattle.yaml_round_laws_back.proofs.content.round_laws.emit_laws_streams.Contents.{dumped_streams}
+use Rattle.yaml_round_laws_dumps.specs.round_laws_writable.content.round_laws.emit_laws_streams.scan.declared.yaml_encoding_t.{yaml_encoding_t}
+use Rattle.yaml_round_laws_dumps.specs.round_laws_writable.content.round_laws.emit_laws_streams.scan.declared.yaml_encoding_t.TheVariants.{YAML_ANY_ENCODING}
+use Rattle.yaml_round_laws_dumps.specs.round_laws_writable.content.round_laws.emit_laws_streams.scan.declared.yaml_scalar_style_t.{yaml_scalar_style_t}
+use Rattle.yaml_round_laws_dumps.specs.round_laws_writable.content.round_laws.emit_laws_streams.scan.declared.yaml_scalar_style_t.TheVariants.{YAML_ANY_SCALAR_STYLE}
+use Rattle.yaml_round_laws_dumps.specs.round_laws_writable.content.round_laws.emit_laws_streams.scan.Faults.{Fault}
+use Rattle.yaml_round_laws_dumps.specs.round_laws_writable.content.round_laws.emit_laws_streams.parse.declared.yaml_node_pair_t.{yaml_node_pair_t}
+use Rattle.yaml_round_laws_dumps.specs.round_laws_writable.content.round_laws.emit_laws_streams.parse.Nodes as model
+use Rattle.yaml_round_laws_dumps.specs.round_laws_writable.content.round_laws.emit_laws_streams.parse.Documents as documents
+use Rattle.yaml_round_laws_dumps.specs.round_laws_writable.content.round_laws.emit_laws_streams.parse.Documents.{Document, seq_tag, map_tag}
+use Rattle.yaml_round_laws_dumps.specs.round_laws_writable.content.round_laws.emit_laws_streams.emit.emit_text.declared.RequestedSettings.{RequestedSettings}
+use Rattle.yaml_round_laws_dumps.specs.round_laws_writable.content.round_laws.emit_laws_streams.emit.Layout.{Layout, written}
+use Rattle.yaml_round_laws_dumps.specs.round_laws_writable.content.round_laws.emit_laws_streams.emit.Content as emit
+use Rattle.yaml_round_laws_dumps.specs.round_laws_writable.content.round_laws.emit_laws_streams.emit.Content.{is_flow_sequence, is_flow_mapping}
+use Rattle.yaml_round_laws_dumps.specs.round_laws_writable.content.round_laws.emit_laws_streams.emit.emit_layout.Grammar.{own_problems}
+use Rattle.yaml_round_laws_dumps.specs.round_laws_writable.content.round_laws.emit_laws_streams.emit.emit_graph.Graph.{Met, is_met, meet, body_of_id, tag_of_id, number_at, numbers, name_of, anchor_of, graph_scalar, graph_start, none_met, graph_root, graph_content}
+use Rattle.yaml_round_laws_dumps.specs.round_laws_writable.content.round_laws.emit_laws_streams.emit.emit_graph.Onward.{items_by, pairs_by, node_by, content_by, itself, root_onward}
+use Rattle.yaml_round_laws_dumps.proofs.round_laws_writable.content.round_laws.emit_laws_streams.emit.emit_graph.Joining.{root_joined}
+use Rattle.yaml_round_laws_dumps.specs.round_laws_writable.content.round_laws.emit_laws_streams.Laws.{AreRight}
+use Rattle.yaml_round_laws_dumps.specs.round_laws_writable.content.Said as content
+use Rattle.yaml_round_laws_dumps.specs.round_laws_writable.content.Trees.{document_tree}
+use Rattle.yaml_round_laws_dumps.specs.round_laws_writable.content.Canon.{canon_items}
+use Rattle.yaml_round_laws_dumps.specs.round_laws_writable.content.Loads.{loads_of}
+use Rattle.yaml_round_laws_dumps.specs.Events.{trees_of_dumps}
+use Rattle.yaml_round_laws_dumps.proofs.round_laws_writable.content.Layouts.{NodeFlagged, NodesFlagged, PairsFlagged, Normalize, normal_layout}
+use Rattle.yaml_round_laws_dumps.proofs.round_laws_writable.content.round_laws.emit_laws_streams.Contents.{dumped_streams}
 use Rattle.yaml_round_laws_documents.specs.Normal.{ended, dump_events, DumpsAreLaidOut}
 use Rattle.yaml_round_laws_documents.proofs.Sound.{documents_right}
 

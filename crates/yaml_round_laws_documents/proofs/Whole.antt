@@ -1,40 +1,40 @@
 -- The laws of loaded documents and of their texts, joined from the laws beneath.
 use Rattle.std.proofs.Common.{◌≡◌, ℕ, true, List, map, Option, Some, None, Ok, refl, sym, ap, subst, ◌∙◌}
-use Rattle.yaml_round_laws_back.specs.content.round_laws.emit_laws_streams.scan.declared.yaml_encoding_t.{yaml_encoding_t}
-use Rattle.yaml_round_laws_back.specs.content.round_laws.emit_laws_streams.scan.declared.yaml_encoding_t.TheVariants.{YAML_ANY_ENCODING}
-use Rattle.yaml_round_laws_back.specs.content.round_laws.emit_laws_streams.scan.Faults.{Fault}
-use Rattle.yaml_round_laws_back.specs.content.round_laws.emit_laws_streams.parse.Documents.{Document}
-use Rattle.yaml_round_laws_back.specs.content.round_laws.emit_laws_streams.parse.Loading.{nothing_loaded}
-use Rattle.yaml_round_laws_back.specs.content.round_laws.emit_laws_streams.emit.emit_text.declared.RequestedSettings.{RequestedSettings}
+use Rattle.yaml_round_laws_dumps.specs.round_laws_writable.content.round_laws.emit_laws_streams.scan.declared.yaml_encoding_t.{yaml_encoding_t}
+use Rattle.yaml_round_laws_dumps.specs.round_laws_writable.content.round_laws.emit_laws_streams.scan.declared.yaml_encoding_t.TheVariants.{YAML_ANY_ENCODING}
+use Rattle.yaml_round_laws_dumps.specs.round_laws_writable.content.round_laws.emit_laws_streams.scan.Faults.{Fault}
+use Rattle.yaml_round_laws_dumps.specs.round_laws_writable.content.round_laws.emit_laws_streams.parse.Documents.{Document}
+use Rattle.yaml_round_laws_dumps.specs.round_laws_writable.content.round_laws.emit_laws_streams.parse.Loading.{nothing_loaded}
+use Rattle.yaml_round_laws_dumps.specs.round_laws_writable.content.round_laws.emit_laws_streams.emit.emit_text.declared.RequestedSettings.{RequestedSettings}
 use Rattle.yaml_parse_loader.proofs.Loads.{loads_document}
 use Rattle.yaml_parse_loader.proofs.Visited.{numbered_in_order}
-use Rattle.yaml_round_laws_back.specs.round_laws_dumps.emit_laws_dumps.Laws.{DumpsNumberBack}
-use Rattle.yaml_round_laws_back.proofs.round_laws_dumps.emit_laws_dumps.Apart.{apart_all, again_all}
-use Rattle.yaml_round_laws_back.proofs.round_laws_dumps.emit_laws_dumps.Again.{again_turns}
-use Rattle.yaml_round_laws_back.proofs.round_laws_dumps.emit_laws_dumps.Back.{numbered_back}
-use Rattle.yaml_round_laws_back.proofs.round_laws_dumps.emit_laws_dumps.Loaded.{loaded}
-use Rattle.yaml_round_laws_back.proofs.round_laws_dumps.emit_laws_dumps.Whole.{numbers_found, number_back}
-use Rattle.yaml_round_laws_back.specs.content.Said as content
-use Rattle.yaml_round_laws_back.specs.content.Said.{HasContent}
-use Rattle.yaml_round_laws_back.specs.content.Input.{events_of, ending_of}
-use Rattle.yaml_round_laws_back.specs.content.Loads.{Loads, load_all, loads_of}
-use Rattle.yaml_round_laws_back.specs.content.Canon.{canon}
-use Rattle.yaml_round_laws_back.proofs.content.Inputs.{say_fronts}
-use Rattle.yaml_round_laws_back.proofs.round_laws_writable.Utf8.{input_utf8}
-use Rattle.yaml_round_laws_back.proofs.Whole.{reads_back}
-use Rattle.yaml_round_laws_back.specs.round_laws_dumps.round_laws_loads.Agree.{Core, core_of, AreAgreeing}
-use Rattle.yaml_round_laws_back.proofs.round_laws_dumps.round_laws_loads.Contents.{loads_of_contents}
-use Rattle.yaml_round_laws_back.proofs.round_laws_dumps.round_laws_loads.Names.{loads_of_renamings}
-use Rattle.yaml_round_laws_back.proofs.round_laws_dumps.round_laws_loads.Walks.{agreeing_said}
-use Rattle.yaml_round_laws_back.specs.round_laws_dumps.Events.{trees_of_dumps, AreNumerable}
-use Rattle.yaml_round_laws_back.specs.round_laws_dumps.Laws.{ContentIsLoaded, ContentLoadsDocuments, DumpsAreNumberedBack, DumpsLoadBack}
-use Rattle.yaml_round_laws_back.proofs.round_laws_dumps.Saying.{content_said}
-use Rattle.yaml_round_laws_back.proofs.round_laws_dumps.Loading.{content_loaded, documents_loaded}
-use Rattle.yaml_round_laws_back.proofs.round_laws_dumps.Trees as trees
-use Rattle.yaml_round_laws_back.proofs.round_laws_dumps.Agreeing.{dumps_loaded}
+use Rattle.yaml_round_laws_dumps.specs.emit_laws_dumps.Laws.{DumpsNumberBack}
+use Rattle.yaml_round_laws_dumps.proofs.emit_laws_dumps.Apart.{apart_all, again_all}
+use Rattle.yaml_round_laws_dumps.proofs.emit_laws_dumps.Again.{again_turns}
+use Rattle.yaml_round_laws_dumps.proofs.emit_laws_dumps.Back.{numbered_back}
+use Rattle.yaml_round_laws_dumps.proofs.emit_laws_dumps.Loaded.{loaded}
+use Rattle.yaml_round_laws_dumps.proofs.emit_laws_dumps.Whole.{numbers_found, number_back}
+use Rattle.yaml_round_laws_dumps.specs.round_laws_writable.content.Said as content
+use Rattle.yaml_round_laws_dumps.specs.round_laws_writable.content.Said.{HasContent}
+use Rattle.yaml_round_laws_dumps.specs.round_laws_writable.content.Input.{events_of, ending_of}
+use Rattle.yaml_round_laws_dumps.specs.round_laws_writable.content.Loads.{Loads, load_all, loads_of}
+use Rattle.yaml_round_laws_dumps.specs.round_laws_writable.content.Canon.{canon}
+use Rattle.yaml_round_laws_dumps.proofs.round_laws_writable.content.Inputs.{say_fronts}
+use Rattle.yaml_round_laws_dumps.proofs.round_laws_writable.Utf8.{input_utf8}
+use Rattle.yaml_round_laws_documents.proofs.ReadBack.{reads_back}
+use Rattle.yaml_round_laws_dumps.specs.Agree.{Core, core_of, AreAgreeing}
+use Rattle.yaml_round_laws_dumps.proofs.Contents.{loads_of_contents}
+use Rattle.yaml_round_laws_dumps.proofs.Names.{loads_of_renamings}
+use Rattle.yaml_round_laws_dumps.proofs.Walks.{agreeing_said}
+use Rattle.yaml_round_laws_dumps.specs.Events.{trees_of_dumps, AreNumerable}
+use Rattle.yaml_round_laws_dumps.specs.Laws.{ContentIsLoaded, ContentLoadsDocuments, DumpsAreNumberedBack, DumpsLoadBack}
+use Rattle.yaml_round_laws_dumps.proofs.Saying.{content_said}
+use Rattle.yaml_round_laws_dumps.proofs.Loading.{content_loaded, documents_loaded}
+use Rattle.yaml_round_laws_dumps.proofs.Trees as trees
+use Rattle.yaml_round_laws_dumps.proofs.Agreeing.{dumps_loaded}
 use Rattle.yaml_round_laws_documents.specs.Laws.{AllLoadDocuments, LoadedAreSound, LoadedAreWritable}
-use Rattle.yaml_round_laws_back.specs.round_laws_writable.round_laws_reading.PlainLoading.{unless_faulty}
-use Rattle.yaml_round_laws_back.proofs.round_laws_writable.round_laws_reading.Loaded.{loading_loads}
+use Rattle.yaml_round_laws_dumps.specs.round_laws_writable.round_laws_reading.PlainLoading.{unless_faulty}
+use Rattle.yaml_round_laws_dumps.proofs.round_laws_writable.round_laws_reading.Loaded.{loading_loads}
 use Rattle.yaml_round_laws_documents.specs.Normal.{
   AreWritableDocuments,
   DocumentTextsLoadAgain,

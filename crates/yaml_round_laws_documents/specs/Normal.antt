@@ -1,22 +1,22 @@
 -- The canonical text of what documents say: it is laid out for their dumps, and loads documents that agree with them.
 use Rattle.std.specs.Prelude.{◌≡◌, ◌↔◌, ℕ, true, List, map, None, Ok}
-use Rattle.yaml_round_laws_back.specs.content.round_laws.emit_laws_streams.scan.declared.yaml_encoding_t.{yaml_encoding_t}
-use Rattle.yaml_round_laws_back.specs.content.round_laws.emit_laws_streams.scan.declared.yaml_encoding_t.TheVariants.{YAML_ANY_ENCODING}
-use Rattle.yaml_round_laws_back.specs.content.round_laws.emit_laws_streams.parse.Documents.{Document}
-use Rattle.yaml_round_laws_back.specs.content.round_laws.emit_laws_streams.emit.emit_text.declared.RequestedSettings.{RequestedSettings}
-use Rattle.yaml_round_laws_back.specs.content.round_laws.emit_laws_streams.emit.emit_graph.Graph.{graph_content}
-use Rattle.yaml_round_laws_back.specs.content.round_laws.emit_laws_streams.emit.Content.{Event, stream_events}
-use Rattle.yaml_round_laws_back.specs.content.round_laws.emit_laws_streams.emit.Emitter.{IsStream}
-use Rattle.yaml_round_laws_back.specs.content.Said as content
-use Rattle.yaml_round_laws_back.specs.content.Said.{HasContent}
-use Rattle.yaml_round_laws_back.specs.content.Loads.{with_implicit_end, loads_of}
-use Rattle.yaml_round_laws_back.specs.content.Canon.{canon, canon_encoding, canon_items}
-use Rattle.yaml_round_laws_back.specs.content.Laws.{AreCanonical}
-use Rattle.yaml_round_laws_back.specs.round_laws_dumps.round_laws_loads.Agree.{AreAgreeing, LoadAlike}
-use Rattle.yaml_round_laws_back.specs.round_laws_dumps.round_laws_loads.Renamed.{Renaming, renamed, AreOneToOne}
-use Rattle.yaml_round_laws_back.specs.round_laws_writable.Writable.{AreWritable}
-use Rattle.yaml_round_laws_back.specs.round_laws_writable.round_laws_reading.PlainLoading.{PlainLoading}
-use Rattle.yaml_round_laws_back.specs.round_laws_dumps.Events.{trees_of_dumps, AreLoadedDocuments, AreNumerable}
+use Rattle.yaml_round_laws_dumps.specs.round_laws_writable.content.round_laws.emit_laws_streams.scan.declared.yaml_encoding_t.{yaml_encoding_t}
+use Rattle.yaml_round_laws_dumps.specs.round_laws_writable.content.round_laws.emit_laws_streams.scan.declared.yaml_encoding_t.TheVariants.{YAML_ANY_ENCODING}
+use Rattle.yaml_round_laws_dumps.specs.round_laws_writable.content.round_laws.emit_laws_streams.parse.Documents.{Document}
+use Rattle.yaml_round_laws_dumps.specs.round_laws_writable.content.round_laws.emit_laws_streams.emit.emit_text.declared.RequestedSettings.{RequestedSettings}
+use Rattle.yaml_round_laws_dumps.specs.round_laws_writable.content.round_laws.emit_laws_streams.emit.emit_graph.Graph.{graph_content}
+use Rattle.yaml_round_laws_dumps.specs.round_laws_writable.content.round_laws.emit_laws_streams.emit.Content.{Event, stream_events}
+use Rattle.yaml_round_laws_dumps.specs.round_laws_writable.content.round_laws.emit_laws_streams.emit.Emitter.{IsStream}
+use Rattle.yaml_round_laws_dumps.specs.round_laws_writable.content.Said as content
+use Rattle.yaml_round_laws_dumps.specs.round_laws_writable.content.Said.{HasContent}
+use Rattle.yaml_round_laws_dumps.specs.round_laws_writable.content.Loads.{with_implicit_end, loads_of}
+use Rattle.yaml_round_laws_dumps.specs.round_laws_writable.content.Canon.{canon, canon_encoding, canon_items}
+use Rattle.yaml_round_laws_dumps.specs.round_laws_writable.content.Laws.{AreCanonical}
+use Rattle.yaml_round_laws_dumps.specs.Agree.{AreAgreeing, LoadAlike}
+use Rattle.yaml_round_laws_dumps.specs.Renamed.{Renaming, renamed, AreOneToOne}
+use Rattle.yaml_round_laws_dumps.specs.round_laws_writable.Writable.{AreWritable}
+use Rattle.yaml_round_laws_dumps.specs.round_laws_writable.round_laws_reading.PlainLoading.{PlainLoading}
+use Rattle.yaml_round_laws_dumps.specs.Events.{trees_of_dumps, AreLoadedDocuments, AreNumerable}
 
 -- the documents as they are written
 abbrev pub ended : List Document → List Document

@@ -1,16 +1,16 @@
 -- Documents that agree with loaded ones are as loading makes them.
 use Rattle.std.proofs.Common.{◌≡◌, ℕ, zero, suc, ℤ, List, [], ◌∷◌, length, map, Some, None, refl, sym, ap, subst, ◌∙◌}
 use Rattle.std.specs.Prelude.{false, slice_get, pos}
-use Rattle.yaml_round_laws_loads.specs.round_laws_writable.content.round_laws.emit_laws_streams.parse.Nodes as model
-use Rattle.yaml_round_laws_loads.specs.round_laws_writable.content.round_laws.emit_laws_streams.parse.Documents as documents
-use Rattle.yaml_round_laws_loads.specs.round_laws_writable.content.round_laws.emit_laws_streams.parse.Numbering.{is_bang}
-use Rattle.yaml_round_laws_loads.specs.round_laws_writable.content.round_laws.emit_laws_streams.parse.Order.{VisitsInPreorder, done, again, first, children}
-use Rattle.yaml_round_laws_loads.specs.round_laws_writable.content.Input.{events_of, ending_of}
-use Rattle.yaml_round_laws_loads.specs.round_laws_writable.content.Said.{Document}
-use Rattle.yaml_round_laws_loads.specs.round_laws_writable.content.Loads.{Loads, loads_of}
-use Rattle.yaml_round_laws_loads.specs.round_laws_writable.Laws.{InputsAreWritable}
-use Rattle.yaml_round_laws_loads.specs.Agree.{CoreNode, Core, core_body, core_node, core_of, AreAgreeing}
-use Rattle.yaml_round_laws_loads.specs.Laws.{LoadsOfContent}
+use Rattle.yaml_round_laws_writable.specs.content.round_laws.emit_laws_streams.parse.Nodes as model
+use Rattle.yaml_round_laws_writable.specs.content.round_laws.emit_laws_streams.parse.Documents as documents
+use Rattle.yaml_round_laws_writable.specs.content.round_laws.emit_laws_streams.parse.Numbering.{is_bang}
+use Rattle.yaml_round_laws_writable.specs.content.round_laws.emit_laws_streams.parse.Order.{VisitsInPreorder, done, again, first, children}
+use Rattle.yaml_round_laws_writable.specs.content.Input.{events_of, ending_of}
+use Rattle.yaml_round_laws_writable.specs.content.Said.{Document}
+use Rattle.yaml_round_laws_writable.specs.content.Loads.{Loads, loads_of}
+use Rattle.yaml_round_laws_writable.specs.Laws.{InputsAreWritable}
+use Rattle.yaml_round_laws_dumps.specs.Agree.{CoreNode, Core, core_body, core_node, core_of, AreAgreeing}
+use Rattle.yaml_round_laws_dumps.specs.Loads.{LoadsOfContent}
 use Rattle.yaml_emit_laws_dumps.specs.Dumps as dumps
 use Rattle.yaml_emit_laws_dumps.specs.Dumps.{HasKind, IsLoadedNode, AreLoadedNodes, IsLoadedDocument}
 use Rattle.yaml_round_laws_dumps.specs.Events.{events_saying, load_each, trees_of_dumps, loaded_again, AreLoadedDocuments}

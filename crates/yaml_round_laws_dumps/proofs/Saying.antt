@@ -3,19 +3,19 @@ use Rattle.std.proofs.Common.{◌≡◌, ◌==◌, ℕ, suc, Bool, true, false, 
 use Rattle.std.proofs.lemmas.Bool.{cases_Bool}
 use Rattle.std.proofs.lemmas.Bool.Decides.{nat_tests}
 use Rattle.std.specs.Prelude.{slice_index}
-use Rattle.yaml_round_laws_loads.specs.round_laws_writable.content.round_laws.emit_laws_streams.scan.declared.yaml_scalar_style_t.TheVariants.{YAML_ANY_SCALAR_STYLE}
-use Rattle.yaml_round_laws_loads.specs.round_laws_writable.content.round_laws.emit_laws_streams.scan.declared.yaml_sequence_style_t.TheVariants.{YAML_ANY_SEQUENCE_STYLE}
-use Rattle.yaml_round_laws_loads.specs.round_laws_writable.content.round_laws.emit_laws_streams.scan.declared.yaml_mapping_style_t.TheVariants.{YAML_ANY_MAPPING_STYLE}
-use Rattle.yaml_round_laws_loads.specs.round_laws_writable.content.round_laws.emit_laws_streams.scan.declared.yaml_encoding_t.TheVariants.{YAML_ANY_ENCODING}
-use Rattle.yaml_round_laws_loads.specs.round_laws_writable.content.round_laws.emit_laws_streams.parse.Events.{Event, EventBody}
-use Rattle.yaml_round_laws_loads.specs.round_laws_writable.content.round_laws.emit_laws_streams.parse.Events as event
-use Rattle.yaml_round_laws_loads.specs.round_laws_writable.content.round_laws.emit_laws_streams.parse.Numbering.{events, item_events, pair_events}
-use Rattle.yaml_round_laws_loads.specs.round_laws_writable.content.Normalize.{is_lone_mark, normalize_scalar}
-use Rattle.yaml_round_laws_loads.specs.round_laws_writable.content.Content.{content_of}
-use Rattle.yaml_round_laws_loads.specs.round_laws_writable.content.Events.{contents}
-use Rattle.yaml_round_laws_loads.specs.round_laws_writable.content.Said.{Mark, untagged, tagged, Node, alias, scalar, sequence, mapping, Nodes, no_nodes, node, Pairs, no_pairs, pair, Document, scalar_says, node_says, items_say, pairs_say, documents_say}
-use Rattle.yaml_round_laws_loads.specs.round_laws_writable.content.Canon.{written_node, written_nodes, written_pairs}
-use Rattle.yaml_round_laws_loads.specs.round_laws_writable.Writable.{IsMark, IsWritable, AreItemsWritable, ArePairsWritable, AreWritable}
+use Rattle.yaml_round_laws_writable.specs.content.round_laws.emit_laws_streams.scan.declared.yaml_scalar_style_t.TheVariants.{YAML_ANY_SCALAR_STYLE}
+use Rattle.yaml_round_laws_writable.specs.content.round_laws.emit_laws_streams.scan.declared.yaml_sequence_style_t.TheVariants.{YAML_ANY_SEQUENCE_STYLE}
+use Rattle.yaml_round_laws_writable.specs.content.round_laws.emit_laws_streams.scan.declared.yaml_mapping_style_t.TheVariants.{YAML_ANY_MAPPING_STYLE}
+use Rattle.yaml_round_laws_writable.specs.content.round_laws.emit_laws_streams.scan.declared.yaml_encoding_t.TheVariants.{YAML_ANY_ENCODING}
+use Rattle.yaml_round_laws_writable.specs.content.round_laws.emit_laws_streams.parse.Events.{Event, EventBody}
+use Rattle.yaml_round_laws_writable.specs.content.round_laws.emit_laws_streams.parse.Events as event
+use Rattle.yaml_round_laws_writable.specs.content.round_laws.emit_laws_streams.parse.Numbering.{events, item_events, pair_events}
+use Rattle.yaml_round_laws_writable.specs.content.Normalize.{is_lone_mark, normalize_scalar}
+use Rattle.yaml_round_laws_writable.specs.content.Content.{content_of}
+use Rattle.yaml_round_laws_writable.specs.content.Events.{contents}
+use Rattle.yaml_round_laws_writable.specs.content.Said.{Mark, untagged, tagged, Node, alias, scalar, sequence, mapping, Nodes, no_nodes, node, Pairs, no_pairs, pair, Document, scalar_says, node_says, items_say, pairs_say, documents_say}
+use Rattle.yaml_round_laws_writable.specs.content.Canon.{written_node, written_nodes, written_pairs}
+use Rattle.yaml_round_laws_writable.specs.Writable.{IsMark, IsWritable, AreItemsWritable, ArePairsWritable, AreWritable}
 use Rattle.yaml_emit_laws_dumps.specs.Dumps.{as_content, as_contents, as_pairs}
 use Rattle.yaml_round_laws_dumps.specs.Events.{unplaced, content_events, told_by}
 use Rattle.yaml_round_laws_dumps.specs.Laws.{ContentIsSaid}

@@ -1,14 +1,14 @@
 -- What dumps say loads the documents again.
 use Rattle.std.specs.Prelude.{◌≡◌, ℕ, List, map, None}
-use Rattle.yaml_round_laws_loads.specs.round_laws_writable.content.round_laws.emit_laws_streams.scan.declared.yaml_encoding_t.{yaml_encoding_t}
-use Rattle.yaml_round_laws_loads.specs.round_laws_writable.content.round_laws.emit_laws_streams.parse.Documents as documents
-use Rattle.yaml_round_laws_loads.specs.round_laws_writable.content.round_laws.emit_laws_streams.parse.Loading.{nothing_loaded}
-use Rattle.yaml_round_laws_loads.specs.round_laws_writable.content.round_laws.emit_laws_streams.parse.Resolve.{Told}
-use Rattle.yaml_round_laws_loads.specs.round_laws_writable.content.Events.{contents}
-use Rattle.yaml_round_laws_loads.specs.round_laws_writable.content.Said.{Document, stream_says, HasContent}
-use Rattle.yaml_round_laws_loads.specs.round_laws_writable.content.Loads.{load_all, loads_of}
-use Rattle.yaml_round_laws_loads.specs.round_laws_writable.Writable.{AreWritable}
-use Rattle.yaml_round_laws_loads.specs.Agree.{AreAgreeing}
+use Rattle.yaml_round_laws_writable.specs.content.round_laws.emit_laws_streams.scan.declared.yaml_encoding_t.{yaml_encoding_t}
+use Rattle.yaml_round_laws_writable.specs.content.round_laws.emit_laws_streams.parse.Documents as documents
+use Rattle.yaml_round_laws_writable.specs.content.round_laws.emit_laws_streams.parse.Loading.{nothing_loaded}
+use Rattle.yaml_round_laws_writable.specs.content.round_laws.emit_laws_streams.parse.Resolve.{Told}
+use Rattle.yaml_round_laws_writable.specs.content.Events.{contents}
+use Rattle.yaml_round_laws_writable.specs.content.Said.{Document, stream_says, HasContent}
+use Rattle.yaml_round_laws_writable.specs.content.Loads.{load_all, loads_of}
+use Rattle.yaml_round_laws_writable.specs.Writable.{AreWritable}
+use Rattle.yaml_round_laws_dumps.specs.Agree.{AreAgreeing}
 use Rattle.yaml_round_laws_dumps.specs.Events.{events_saying, load_each, trees_of_dumps, loaded_again, AreLoadedDocuments, AreNumerable}
 
 -- ---- the events of a content

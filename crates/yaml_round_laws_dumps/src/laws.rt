@@ -2,9 +2,10 @@
 
 ghost use Rattle.yaml_round_laws_dumps.specs.Laws.{ContentIsLoaded, ContentIsSaid, ContentLoadsDocuments, DumpsAreNumberedBack, DumpsLoadBack, InputsLoadDocuments};
 
+use crate::loads::loads_of_content;
 use yaml_emit_laws_dumps::{documents_are_loaded, dumps_number_back};
 use yaml_parse_loader::loads_documents;
-use yaml_round_laws_loads::{inputs_are_writable, loads_of_content};
+use yaml_round_laws_writable::inputs_are_writable;
 
 /// The events of a content that may be written say it.
 pub fn content_is_said()

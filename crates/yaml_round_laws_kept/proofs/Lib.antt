@@ -1,4 +1,11 @@
+mod Growing
+mod Documents
+mod Passing
+mod Nodes
+mod Bytes
+mod Texts
+mod Contents
+mod ReadBack
+pub mod Whole
 mod Injective
 pub mod Joining
--- the laws beneath, for crates that name this one alone
-pub use Rattle.yaml_round_laws_stays.proofs as round_laws_stays

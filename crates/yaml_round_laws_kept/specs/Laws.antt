@@ -1,17 +1,17 @@
 -- Inputs shaped as JSON, and what is laid out for them in pretty form.
 use Rattle.std.specs.Prelude.{◌≡◌, ℕ, false, List, [], ◌∷◌}
-use Rattle.yaml_round_laws_stays.specs.round_laws_writable.content.round_laws.emit_laws_streams.scan.declared.yaml_encoding_t.{yaml_encoding_t}
-use Rattle.yaml_round_laws_stays.specs.round_laws_writable.content.round_laws.emit_laws_streams.emit.Emitter.{IsStream}
-use Rattle.yaml_round_laws_stays.specs.round_laws_writable.content.round_laws.emit_laws_streams.emit.Text.{Item, encode}
-use Rattle.yaml_round_laws_stays.specs.round_laws_writable.content.round_laws.emit_laws_streams.emit.emit_text.declared.Encoding.{Encoding}
-use Rattle.yaml_round_laws_stays.specs.round_laws_writable.content.round_laws.emit_laws_streams.emit.emit_text.declared.RequestedSettings.{RequestedSettings}
-use Rattle.yaml_round_laws_stays.specs.round_laws_writable.content.Events.{emitter_events}
-use Rattle.yaml_round_laws_stays.specs.round_laws_writable.content.Input.{events_of}
-use Rattle.yaml_round_laws_stays.specs.round_laws_writable.content.round_laws.emit_laws_streams.parse.Resolve.{Told}
-use Rattle.yaml_round_laws_stays.specs.round_laws_writable.round_laws_reading.Reading.{HasEvents}
-use Rattle.yaml_round_laws_stays.specs.emit_laws_json.emit_layout.Content.{Document, stream_events}
-use Rattle.yaml_round_laws_stays.specs.emit_laws_json.Json.{IsJsonDocument, IsJsonShaped}
-use Rattle.yaml_round_laws_stays.specs.Laws.{SaysInput}
+use Rattle.yaml_round_laws_writable.specs.content.round_laws.emit_laws_streams.scan.declared.yaml_encoding_t.{yaml_encoding_t}
+use Rattle.yaml_round_laws_writable.specs.content.round_laws.emit_laws_streams.emit.Emitter.{IsStream}
+use Rattle.yaml_round_laws_writable.specs.content.round_laws.emit_laws_streams.emit.Text.{Item, encode}
+use Rattle.yaml_round_laws_writable.specs.content.round_laws.emit_laws_streams.emit.emit_text.declared.Encoding.{Encoding}
+use Rattle.yaml_round_laws_writable.specs.content.round_laws.emit_laws_streams.emit.emit_text.declared.RequestedSettings.{RequestedSettings}
+use Rattle.yaml_round_laws_writable.specs.content.Events.{emitter_events}
+use Rattle.yaml_round_laws_writable.specs.content.Input.{events_of}
+use Rattle.yaml_round_laws_writable.specs.content.round_laws.emit_laws_streams.parse.Resolve.{Told}
+use Rattle.yaml_round_laws_writable.specs.round_laws_reading.Reading.{HasEvents}
+use Rattle.yaml_emit_laws_json.specs.emit_layout.Content.{Document, stream_events}
+use Rattle.yaml_emit_laws_json.specs.Json.{IsJsonDocument, IsJsonShaped}
+use Rattle.yaml_round_laws_kept.specs.Stays.{SaysInput}
 
 -- What the input says, styles and all, is one document shaped as JSON is: without directives; each
 -- collection in brackets, each key a scalar; no anchors, aliases and tags; each scalar double quoted,

@@ -1,22 +1,22 @@
 -- From the columns that a layout passes to the answers of two calls.
 use Rattle.std.proofs.Common.{◌≡◌, inl, inr, ℕ, Bool, true, false, true≢false, List, [], ◌∷◌, Option, Some, None, Result, Ok, Err, map, refl, sym, ap, subst, ◌∙◌}
-use Rattle.yaml_round.specs.round_laws_back.content.round_laws.emit_laws_streams.scan.declared.yaml_encoding_t.{yaml_encoding_t}
-use Rattle.yaml_round.specs.round_laws_back.content.round_laws.emit_laws_streams.scan.declared.yaml_encoding_t.TheVariants.{YAML_ANY_ENCODING}
-use Rattle.yaml_round.specs.round_laws_back.content.round_laws.emit_laws_streams.scan.Faults.{Fault}
-use Rattle.yaml_round.specs.round_laws_back.content.round_laws.emit_laws_streams.parse.Documents as documents
-use Rattle.yaml_round.specs.round_laws_back.content.round_laws.emit_laws_streams.parse.Resolve.{Told}
-use Rattle.yaml_round.specs.round_laws_back.content.round_laws.emit_laws_streams.emit.Text.{Item, encode, is_deep}
-use Rattle.yaml_round.specs.round_laws_back.content.round_laws.emit_laws_streams.emit.Settings.{settled, settled_indent}
-use Rattle.yaml_round.specs.round_laws_back.content.round_laws.emit_laws_streams.emit.Content.{stream_events}
-use Rattle.yaml_round.specs.round_laws_back.content.round_laws.emit_laws_streams.emit.Content as emit
-use Rattle.yaml_round.specs.round_laws_back.content.round_laws.emit_laws_streams.emit.Emitter.{IsStream, Passes, write_error, too_deep}
-use Rattle.yaml_round.specs.round_laws_back.content.round_laws.emit_laws_streams.emit.emit_graph.Graph.{graph_content}
-use Rattle.yaml_round.specs.round_laws_back.content.round_laws.emit_laws_streams.emit.emit_text.declared.Encoding.{Encoding}
-use Rattle.yaml_round.specs.round_laws_back.content.round_laws.emit_laws_streams.emit.emit_text.declared.RequestedSettings.{RequestedSettings}
-use Rattle.yaml_round.specs.round_laws_back.content.Input.{events_of}
-use Rattle.yaml_round.specs.round_laws_back.content.Loads.{loads_of}
-use Rattle.yaml_round.specs.round_laws_back.content.Said.{Document}
-use Rattle.yaml_round.specs.round_laws_back.content.Canon.{written_documents, canon_items, canon_encoding}
+use Rattle.yaml_round.specs.round_laws_documents.content.round_laws.emit_laws_streams.scan.declared.yaml_encoding_t.{yaml_encoding_t}
+use Rattle.yaml_round.specs.round_laws_documents.content.round_laws.emit_laws_streams.scan.declared.yaml_encoding_t.TheVariants.{YAML_ANY_ENCODING}
+use Rattle.yaml_round.specs.round_laws_documents.content.round_laws.emit_laws_streams.scan.Faults.{Fault}
+use Rattle.yaml_round.specs.round_laws_documents.content.round_laws.emit_laws_streams.parse.Documents as documents
+use Rattle.yaml_round.specs.round_laws_documents.content.round_laws.emit_laws_streams.parse.Resolve.{Told}
+use Rattle.yaml_round.specs.round_laws_documents.content.round_laws.emit_laws_streams.emit.Text.{Item, encode, is_deep}
+use Rattle.yaml_round.specs.round_laws_documents.content.round_laws.emit_laws_streams.emit.Settings.{settled, settled_indent}
+use Rattle.yaml_round.specs.round_laws_documents.content.round_laws.emit_laws_streams.emit.Content.{stream_events}
+use Rattle.yaml_round.specs.round_laws_documents.content.round_laws.emit_laws_streams.emit.Content as emit
+use Rattle.yaml_round.specs.round_laws_documents.content.round_laws.emit_laws_streams.emit.Emitter.{IsStream, Passes, write_error, too_deep}
+use Rattle.yaml_round.specs.round_laws_documents.content.round_laws.emit_laws_streams.emit.emit_graph.Graph.{graph_content}
+use Rattle.yaml_round.specs.round_laws_documents.content.round_laws.emit_laws_streams.emit.emit_text.declared.Encoding.{Encoding}
+use Rattle.yaml_round.specs.round_laws_documents.content.round_laws.emit_laws_streams.emit.emit_text.declared.RequestedSettings.{RequestedSettings}
+use Rattle.yaml_round.specs.round_laws_documents.content.Input.{events_of}
+use Rattle.yaml_round.specs.round_laws_documents.content.Loads.{loads_of}
+use Rattle.yaml_round.specs.round_laws_documents.content.Said.{Document}
+use Rattle.yaml_round.specs.round_laws_documents.content.Canon.{written_documents, canon_items, canon_encoding}
 use Rattle.yaml_round.specs.round_laws_reading.Reading.{PlainReading}
 use Rattle.yaml_round.specs.round_laws_reading.PlainLoading.{PlainLoading, unless_faulty}
 use Rattle.yaml_round.specs.round_laws_documents.round_laws_dumps.Events.{trees_of_dumps}
@@ -30,9 +30,9 @@ use Rattle.yaml_round.proofs.Normal.{canonical_under, laid_of, text_fits}
 use Rattle.yaml_round.proofs.Plain.{events_are, has_events}
 use Rattle.yaml_round.proofs.round_laws_reading.Joining.{read_said, one_reading}
 use Rattle.yaml_round.proofs.round_laws_reading.Loaded.{one_loading, loading_loads}
-use Rattle.yaml_round.proofs.round_laws_back.Whole.{layout_is_of_input}
-use Rattle.yaml_round.proofs.round_laws_back.round_laws_writable.Flags.{input_laid_out}
-use Rattle.yaml_round.proofs.round_laws_back.content.Layouts.{content_laid_out}
+use Rattle.yaml_round.proofs.round_laws_documents.ReadBack.{layout_is_of_input}
+use Rattle.yaml_round.proofs.round_laws_documents.round_laws_writable.Flags.{input_laid_out}
+use Rattle.yaml_round.proofs.round_laws_documents.content.Layouts.{content_laid_out}
 use Rattle.yaml_round.proofs.round_laws_documents.Laid.{laid_out}
 use Rattle.yaml_emit_laws_columns.specs.Depths.{RootStandsAt, IsTooDeep}
 use Rattle.yaml_emit_laws_columns.proofs.Depths.{by_depth}

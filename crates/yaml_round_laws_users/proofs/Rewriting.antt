@@ -1,18 +1,18 @@
 -- From normal forms, and pretty texts that read back, to answers of two calls.
 use Rattle.std.proofs.Common.{◌≡◌, inl, inr, ℕ, true, List, Some, None, Result, Ok, Err, sym, ap, subst, ◌∙◌, arith}
 use Rattle.std.proofs.lemmas.Bool.{true≢false}
-use Rattle.yaml_round.specs.round_laws_back.content.round_laws.emit_laws_streams.scan.declared.yaml_encoding_t.{yaml_encoding_t}
-use Rattle.yaml_round.specs.round_laws_back.content.round_laws.emit_laws_streams.scan.declared.yaml_encoding_t.TheVariants.{YAML_ANY_ENCODING}
-use Rattle.yaml_round.specs.round_laws_back.content.round_laws.emit_laws_streams.scan.Faults.{Fault}
-use Rattle.yaml_round.specs.round_laws_back.content.round_laws.emit_laws_streams.emit.Text.{Item, encode, is_deep}
-use Rattle.yaml_round.specs.round_laws_back.content.round_laws.emit_laws_streams.emit.Within.{Fits}
-use Rattle.yaml_round.specs.round_laws_back.content.round_laws.emit_laws_streams.emit.Emitter.{Passes}
-use Rattle.yaml_round.specs.round_laws_back.content.round_laws.emit_laws_streams.emit.emit_text.declared.Encoding.{Encoding}
-use Rattle.yaml_round.specs.round_laws_back.content.Input.{ending_of, events_of}
-use Rattle.yaml_round.specs.round_laws_back.content.Said.{Document, HasContent}
-use Rattle.yaml_round.specs.round_laws_back.content.round_laws.emit_laws_streams.parse.Resolve.{Told}
+use Rattle.yaml_round.specs.round_laws_documents.content.round_laws.emit_laws_streams.scan.declared.yaml_encoding_t.{yaml_encoding_t}
+use Rattle.yaml_round.specs.round_laws_documents.content.round_laws.emit_laws_streams.scan.declared.yaml_encoding_t.TheVariants.{YAML_ANY_ENCODING}
+use Rattle.yaml_round.specs.round_laws_documents.content.round_laws.emit_laws_streams.scan.Faults.{Fault}
+use Rattle.yaml_round.specs.round_laws_documents.content.round_laws.emit_laws_streams.emit.Text.{Item, encode, is_deep}
+use Rattle.yaml_round.specs.round_laws_documents.content.round_laws.emit_laws_streams.emit.Within.{Fits}
+use Rattle.yaml_round.specs.round_laws_documents.content.round_laws.emit_laws_streams.emit.Emitter.{Passes}
+use Rattle.yaml_round.specs.round_laws_documents.content.round_laws.emit_laws_streams.emit.emit_text.declared.Encoding.{Encoding}
+use Rattle.yaml_round.specs.round_laws_documents.content.Input.{ending_of, events_of}
+use Rattle.yaml_round.specs.round_laws_documents.content.Said.{Document, HasContent}
+use Rattle.yaml_round.specs.round_laws_documents.content.round_laws.emit_laws_streams.parse.Resolve.{Told}
 use Rattle.yaml_round.specs.round_laws_reading.Reading.{PlainReading}
-use Rattle.yaml_round.specs.round_laws_back.content.Canon.{canon_items, canon_encoding}
+use Rattle.yaml_round.specs.round_laws_documents.content.Canon.{canon_items, canon_encoding}
 use Rattle.yaml_round.specs.declared.yaml_settings_t.{yaml_settings_t}
 use Rattle.yaml_round.specs.declared.yaml_form_t.{yaml_form_t}
 use Rattle.yaml_round.specs.declared.yaml_form_t.TheVariants.{Canonical, Pretty}
@@ -22,7 +22,7 @@ use Rattle.yaml_round.specs.Answers.{IsReformatted, IsNormalForm, IsFaulty, IsTo
 use Rattle.yaml_round.proofs.Normal.{canonical_under, text_is, text_fits, laid_of}
 use Rattle.yaml_round.proofs.Plain.{faulty_ending, events_are}
 use Rattle.yaml_round.proofs.round_laws_reading.Joining.{read_said}
-use Rattle.yaml_round.proofs.round_laws_back.Whole.{layout_is_of_input}
+use Rattle.yaml_round.proofs.round_laws_documents.ReadBack.{layout_is_of_input}
 use Rattle.yaml_round_laws_users.proofs.Comparing.{one_content, turned, equivalence}
 use Rattle.yaml_round_laws_users.specs.Laws.{AnswersReadBack, SettingsDoNotMatter, CanonicalAnswersTellContents, RewritingIsStill, asking}
 

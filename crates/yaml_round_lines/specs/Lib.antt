@@ -1,3 +1,2 @@
-pub mod FaultLine
 pub mod EventLine
 pub mod Runs

@@ -1,9 +1,9 @@
 -- What is laid out is of an input that is accepted.
 use Rattle.std.proofs.Common.{ℕ, List, true, false, Ok, subst}
 use Rattle.std.proofs.lemmas.Result.{err_from_is_err_and}
-use Rattle.yaml_round_compare.specs.Answers.{IsReadBack}
-use Rattle.yaml_round.proofs.Judging.{asked_for, fallen_back, pretty_answered, pretty_refused, memory_alone}
-use Rattle.yaml_round.proofs.Laying.{laid_right}
+use Rattle.yaml_round_writing.specs.Answers.{IsReadBack}
+use Rattle.yaml_round_writing.proofs.Forms.{asked_for, fallen_back, pretty_answered, pretty_refused, memory_alone}
+use Rattle.yaml_round_writing.proofs.Laying.{laid_right}
 use Rattle.yaml_round.proofs.engine.yaml_reformat.Goals as goal
 
 pub stays-requires-clause-right : goal.stays-requires-clause-right

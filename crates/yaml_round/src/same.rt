@@ -1,0 +1,29 @@
+//! The comparison of two inputs.
+
+ghost use Rattle.yaml_round_writing.specs.Answers.{IsSame};
+
+use std::alloc::Global;
+use yaml_round_writing::{let_go, reading_of, same_as, yaml_side_t};
+use yaml_scan_model::{yaml_encoding_t, yaml_fault_t};
+
+/// Whether two inputs have the same content: their documents' versions, directives, nodes, anchors, tags and values, and of
+/// untagged scalars whether they are plain; styles, marks and comments aside. A refused first input is answered first, by
+/// its side and its fault (kinds 1 to 4); the second is told of only where the first is accepted.
+pub fn yaml_same(
+    alloc: Global,
+    a: &[u8],
+    a_encoding: yaml_encoding_t,
+    b: &[u8],
+    b_encoding: yaml_encoding_t,
+) -> Result<bool, (yaml_side_t, yaml_fault_t)>
+    ensures { IsSame a_encoding a.now b_encoding b.now result }
+{
+    match reading_of(alloc, a, a_encoding) {
+        Err(fault) => Err((yaml_side_t::First, fault)),
+        Ok(mut first) => {
+            let answer = same_as(alloc, &mut first, b, b_encoding);
+            let_go(first);
+            answer
+        }
+    }
+}

@@ -1,6 +1,0 @@
-pub use Rattle.yaml_round_laws_canonical.specs.round_laws_dumps.round_laws_loads.round_laws_writable.Writable
-pub mod Laws
--- what it speaks of, for crates that name this one alone
-pub use Rattle.yaml_round_laws_canonical.specs.round_laws_dumps.round_laws_loads.round_laws_writable.content
-pub use Rattle.yaml_round_laws_canonical.specs.round_laws_dumps.round_laws_loads.round_laws_writable as round_laws_writable
-pub use Rattle.yaml_round_laws_canonical.specs.round_laws_dumps

@@ -1,0 +1,75 @@
+-- Canonical bytes decode to a text of words, whose tokens pass the adapter and are parsed as the content.
+use Rattle.std.proofs.Common.{◌≡◌, ℕ, ◌<◌, ◌&&◌, nat_le, if◌then◌else◌, List, Ok, refl, sym, ap, ◌∙◌, ℤ, pos, negsuc, arith}
+use Rattle.std.proofs.lemmas.Bool.Decides.{nat_tests}
+use Rattle.yaml_round_laws_dumps.specs.round_laws_writable.content.round_laws.emit_laws_streams.scan.declared.yaml_encoding_t.{yaml_encoding_t}
+use Rattle.yaml_round_laws_dumps.specs.round_laws_writable.content.round_laws.emit_laws_streams.scan.declared.yaml_encoding_t.TheVariants.{YAML_ANY_ENCODING}
+use Rattle.yaml_round_laws_dumps.specs.round_laws_writable.content.round_laws.emit_laws_streams.scan.Decoding.{decoded_text}
+use Rattle.yaml_round_laws_dumps.specs.round_laws_writable.content.round_laws.emit_laws_streams.scan.scan_history.Remaining.{Remaining}
+use Rattle.yaml_round_laws_dumps.specs.round_laws_writable.content.round_laws.emit_laws_streams.scan.Scanned.{scanned, scanned_in}
+use Rattle.yaml_round_laws_dumps.specs.round_laws_writable.content.round_laws.emit_laws_streams.emit.Settings.{settled, settled_indent}
+use Rattle.yaml_round_laws_dumps.specs.round_laws_writable.content.round_laws.round_adapter.Adapted.{adapted}
+use Rattle.yaml_round_laws_dumps.specs.round_laws_writable.content.Events.{contents}
+use Rattle.yaml_round_laws_dumps.specs.round_laws_writable.content.Input.{events_of, ending_of, read, parsed, tokens_of}
+use Rattle.yaml_round_laws_dumps.specs.round_laws_writable.content.Said.{stream_says}
+use Rattle.yaml_round_laws_dumps.specs.round_laws_writable.content.Canon.{written_documents, canon, canon_encoding}
+use Rattle.yaml_round_laws_dumps.specs.round_laws_writable.content.Laws.{SaysIsInjective}
+use Rattle.yaml_emit_laws_text.specs.emit_laws_tags.Laws.{WrittenTagsAreReadable}
+use Rattle.yaml_emit_laws_text.specs.Laws.{CanonicalTextIsRead}
+use Rattle.yaml_round_laws_bytes.specs.Laws.{CanonicalBytesDecode, encoding_named, canonical_text}
+use Rattle.yaml_round_laws_tree.specs.Adapting.{CanonicalTokensPass, without_fault}
+use Rattle.yaml_round_laws_documents.specs.CanonicalTokens.{CanonicalTokensSayContent}
+use Rattle.yaml_round_laws_documents.specs.Back.{CanonIsScanned, CanonReadsBack, CanonTellsContents}
+use Rattle.yaml_round_laws_documents.proofs.Premises.{are_writable, are_spellable, have_texts, are_parsable}
+
+-- ---- scanned
+
+two_at_least : (n : ℕ) → 0 < (if nat_le 2 n && nat_le n 9 then n else 2)
+two_at_least n = grind (arith, nat_tests)
+
+indented : (n : ℤ) → 0 < settled_indent n
+indented (pos n) = two_at_least n
+indented (negsuc n) = two_at_least 0
+
+pub canon_scanned : CanonicalBytesDecode → CanonicalTextIsRead → CanonIsScanned
+canon_scanned decode law w e c h =
+    let s = settled w YAML_ANY_ENCODING in
+    let ds = written_documents c in
+    let x = encoding_named (canon_encoding w) in
+    let (text, told) = decode s e ds (are_spellable c h) in
+    let r = law s e (indented w.indent) x ds (are_writable c h) in
+    let detected : scanned YAML_ANY_ENCODING (canon w c) ≡ scanned_in x (decoded_text YAML_ANY_ENCODING (canon w c)) =
+    ap (λ (y : yaml_encoding_t). scanned_in y (decoded_text YAML_ANY_ENCODING (canon w c))) told in
+    let decoded : scanned_in x (decoded_text YAML_ANY_ENCODING (canon w c)) ≡ scanned_in x (Ok (canonical_text s ds)) =
+    ap (λ (t : _). scanned_in x t) text in
+    record { tokens = r.tokens; read = detected ∙ decoded ∙ r.read; same = r.same }
+
+-- ---- read back
+
+ending_is : (from : yaml_encoding_t) (input : List ℕ) → ending_of from input ≡ (parsed (tokens_of from input)).ending
+unfolding read
+ending_is from input = refl
+
+contents_are : (from : yaml_encoding_t) (input : List ℕ) → contents (events_of from input) ≡ contents (parsed (tokens_of from input)).events
+unfolding read
+contents_are from input = refl
+
+pub canon_read_back : CanonIsScanned → WrittenTagsAreReadable → CanonicalTokensPass → CanonicalTokensSayContent → CanonReadsBack
+canon_read_back scan readable pass say w e c h =
+    let x = encoding_named (canon_encoding w) in
+    let ds = written_documents c in
+    let r = scan w e c h in
+    let passed : tokens_of YAML_ANY_ENCODING (canon w c) ≡ without_fault r.tokens =
+    ap (λ (t : Remaining). adapted t) r.read ∙ pass x ds (have_texts readable c h) r.tokens r.same in
+    let (says, ending) = say x c (are_parsable c h) r.tokens r.same in
+    record {
+      right = ending_is YAML_ANY_ENCODING (canon w c) ∙ ap (λ (t : Remaining). (parsed t).ending) passed ∙ ending;
+      says = contents_are YAML_ANY_ENCODING (canon w c) ∙ ap (λ (t : Remaining). contents (parsed t).events) passed ∙ says;
+    }
+
+-- ---- told apart
+
+pub canon_tells : CanonReadsBack → SaysIsInjective → CanonTellsContents
+canon_tells law injective w canonical c e hc he same =
+    let says : stream_says c ≡ contents (events_of YAML_ANY_ENCODING (canon w c)) = sym (law w canonical c hc).says in
+    let turned = ap (λ (t : List ℕ). contents (events_of YAML_ANY_ENCODING t)) same in
+    injective c e (says ∙ turned ∙ (law w canonical e he).says)

@@ -1,3 +1,0 @@
-mod Growing
-pub mod Documents
-pub mod Passing

@@ -1,5 +1,0 @@
-pub mod Agree
-pub mod Renamed
-pub mod Laws
--- what it stands on, for crates that name this one alone
-pub use Rattle.yaml_round_laws_writable.specs as round_laws_writable

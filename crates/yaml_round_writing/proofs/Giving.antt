@@ -1,0 +1,42 @@
+-- An event that is given: the text is the same.
+use Rattle.std.proofs.Common.{◌≡◌, ◌∙◌, ap, sym, subst, refl, List, [], ◌∷◌, Bool}
+use Rattle.yaml_parse.specs.Remaining.{ParserRemaining}
+use Rattle.yaml_parse.specs.Resolve.{Told}
+use Rattle.yaml_parse.specs.Events.{Event, text_of}
+use Rattle.yaml_emit.specs.Content.{emitter_event}
+use Rattle.yaml_emit.specs.Emitter.{Emitter, Completes}
+use Rattle.yaml_emit.specs.Taking.{TakesEvents}
+use Rattle.yaml_round_laws_documents.specs.content.Normalize.{normalize_body}
+use Rattle.yaml_round_compare.specs.Reading.{GivesNextEvent, emitter_events}
+use Rattle.yaml_round_shape.specs.Seen.{seen, seen_all}
+use Rattle.yaml_round_writing.specs.declared.writing.Watch.{Watch}
+use Rattle.yaml_round_shape.specs.declared.seen.Shape.{Shape}
+use Rattle.yaml_round_writing.specs.Writing.{LeadsWatched, Sees}
+use Rattle.yaml_round_writing.proofs.Keeping.{kept_on}
+
+-- what is given to an emitter whose watch is at hand
+gives_by : (ends : Bool) (w : Watch) (first old new : Emitter) (all : List Told) (before after : ParserRemaining) (v : Event) (watch shape : Watch)
+    → LeadsWatched w first all watch old before.events → GivesNextEvent v before after → watch.canonical ≡ ends → w.canonical ≡ ends
+    → TakesEvents old (emitter_event (normalize_body ends v.body) ∷ []) new []
+    → Sees watch (normalize_body ends v.body) shape
+    → LeadsWatched w first all shape new after.events
+unfolding seen_all
+gives_by ends w first old new all before after v watch shape l f c d g e = record {
+  completes = λ x whole done.
+      let P : List Told → Type 0 = λ es. Completes old x (emitter_events w.canonical es) whole in
+      let Q : Bool → Type 0 = λ b. Completes old x (emitter_event (normalize_body b v.body) ∷ emitter_events w.canonical after.events) whole in
+      g.completes x (emitter_events w.canonical after.events) whole (subst Q d (subst P f.events (l.completes x whole done)));
+  limit = g.limit ∙ l.limit;
+  canonical = e.canonical ∙ l.canonical;
+  shape = l.shape ∙ ap (λ (es : List Told). seen_all watch.shape (emitter_events w.canonical es)) f.events
+      ∙ ap (λ (b : Bool). seen_all (seen watch.shape (emitter_event (normalize_body b v.body))) (emitter_events w.canonical after.events)) d
+      ∙ ap (λ (z : Shape). seen_all z (emitter_events w.canonical after.events)) (sym e.shape);
+  kept = kept_on ends (text_of w.kept) (text_of watch.kept) (text_of shape.kept) all before after v l.kept f e.kept;
+}
+
+pub gives : (w : Watch) (first old new : Emitter) (all : List Told) (before after : ParserRemaining) (v : Event) (watch shape : Watch)
+    → LeadsWatched w first all watch old before.events → GivesNextEvent v before after
+    → TakesEvents old (emitter_event (normalize_body watch.canonical v.body) ∷ []) new []
+    → Sees watch (normalize_body watch.canonical v.body) shape
+    → LeadsWatched w first all shape new after.events
+gives w first old new all before after v watch shape l f g e = gives_by watch.canonical w first old new all before after v watch shape l f refl (sym l.canonical) g e

@@ -1,0 +1,80 @@
+-- From what readings say to what is said of their inputs.
+use Rattle.std.proofs.Common.{◌≡◌, ◌⊎◌, ◌∙◌, ◌++◌, inl, inr, ap, sym, subst, ℕ, List, [], Bool, Option, None, Some, Result, Ok, Err}
+use Rattle.std.proofs.lemmas.List.{append_assoc}
+use Rattle.yaml_scan.specs.declared.yaml_encoding_t.{yaml_encoding_t}
+use Rattle.yaml_scan.specs.declared.yaml_fault_t.{yaml_fault_t}
+use Rattle.yaml_scan.specs.Faults.{Fault, fault_of, IsMemoryFault, parse_layers, Answers}
+use Rattle.yaml_parse.specs.Remaining.{ParserRemaining}
+use Rattle.yaml_parse.specs.Resolve.{Told}
+use Rattle.yaml_parse.specs.Events.{Event, text_of}
+use Rattle.yaml_emit.specs.Emitter.{Emitter, Completes}
+use Rattle.yaml_round_lines.specs.EventLine.{event_line}
+use Rattle.yaml_round_device.specs.declared.yaml_settings_t.{yaml_settings_t}
+use Rattle.yaml_round_writing.specs.Layers.{reformat_layers, list_layers}
+use Rattle.yaml_round_compare.specs.Reading.{emitter_events, GivesNextEvent, IsFaultOf, EndsWith}
+use Rattle.yaml_round_writing.specs.Lines.{event_lines}
+use Rattle.yaml_round_shape.specs.Seen.{seen_all}
+use Rattle.yaml_round_writing.specs.declared.writing.Watch.{Watch}
+use Rattle.yaml_round_writing.specs.Writing.{LeadsWatched, WritesAll}
+use Rattle.yaml_round_laws_documents.specs.content.Input.{Reads, ending_of}
+use Rattle.yaml_round_writing.proofs.Keeping.{kept_then}
+use Rattle.yaml_round_compare.proofs.Plain.{faulty, faulty_ending, fault_met, right, has_events}
+use Rattle.yaml_round_compare.specs.Answers.{IsFaulty}
+use Rattle.yaml_round_writing.specs.Answers.{IsJudged, IsTooLong, HasLines}
+
+-- ---- one input
+
+pub judged : (from : yaml_encoding_t) (input : List ℕ) (r : ParserRemaining) (result : Result (Unit {0}) yaml_fault_t) → Reads from input r → EndsWith r.ending result
+    → Answers parse_layers (λ (done : Unit {0}). done) (IsJudged from input) result
+judged from input r (Ok done) h e = right from input (sym h.ending ∙ e)
+judged from input r (Err f) h e = fault_met from input r f h e
+
+pub listed : (from : yaml_encoding_t) (input : List ℕ) (r : ParserRemaining) (lines : List ℕ) (old : List ℕ) → Reads from input r → old ≡ [] → r.ending ≡ None → lines ≡ old ++ event_lines r.events
+    → HasLines from input lines
+listed from input r lines old h none e l = record {
+  events = r.events;
+  of_input = has_events from input r.events (sym h.ending ∙ e) h.events;
+  are = l ∙ ap (λ (z : List ℕ). z ++ event_lines r.events) none;
+}
+
+-- a line more
+pub told_on : (all lines new : List ℕ) (before after : ParserRemaining) (v : Event) → lines ++ event_lines before.events ≡ all → GivesNextEvent v before after → new ≡ lines ++ event_line v.body
+    → new ++ event_lines after.events ≡ all
+told_on all lines new before after v h f n =
+    ap (λ (z : List ℕ). z ++ event_lines after.events) n
+    ∙ append_assoc lines (event_line v.body) (event_lines after.events)
+    ∙ ap (λ (es : List Told). lines ++ event_lines es) (sym f.events)
+    ∙ h
+
+-- a fault of the input ends them
+pub not_listed : (from : yaml_encoding_t) (input : List ℕ) (r : ParserRemaining) (f : yaml_fault_t) → Reads from input r → IsMemoryFault list_layers (fault_of f) ⊎ (r.ending ≡ Some (fault_of f))
+    → IsMemoryFault list_layers (fault_of f) ⊎ IsFaulty from input (fault_of f)
+not_listed from input r f h e = elim e [ inl m ↦ inl m | inr k ↦ inr (faulty from input (fault_of f) (sym h.ending ∙ k)) ]
+
+-- ---- writing
+
+-- The rest was written behind a front.
+rest_led : (a b c : Watch) (e e' e'' : Emitter) (es fs : List Told) → LeadsWatched a e es b e' fs → LeadsWatched b e' fs c e'' [] → LeadsWatched a e es c e'' []
+rest_led a b c e e' e'' es fs l k = record {
+  completes = λ x whole done.
+      let P : Bool → Type 0 = λ z. Completes e' x (emitter_events z fs) whole in
+      let Q : Bool → Type 0 = λ z. Completes e'' x (emitter_events z []) whole in
+      subst Q l.canonical (k.completes x whole (subst P (sym l.canonical) (l.completes x whole done)));
+  limit = k.limit ∙ l.limit;
+  canonical = k.canonical ∙ l.canonical;
+  shape = l.shape ∙ ap (λ (z : Bool). seen_all b.shape (emitter_events z fs)) (sym l.canonical) ∙ k.shape;
+  kept = kept_then (text_of a.kept) (text_of b.kept) (text_of c.kept) es fs [] l.kept k.kept;
+}
+
+pub then_rest : (a b c : Watch) (r r' : ParserRemaining) (e e' e'' : Emitter) (result : Result (Unit {0}) yaml_fault_t)
+    → r'.ending ≡ r.ending → LeadsWatched a e r.events b e' r'.events → WritesAll b r' e' result c e'' → WritesAll a r e result c e''
+then_rest a b c r r' e e' e'' (Ok done) h l w = (sym h ∙ w.0, rest_led a b c e e' e'' r.events r'.events l w.1)
+then_rest a b c r r' e e' e'' (Err f) h l w = elim w [ inl m ↦ inl m | inr k ↦ inr (sym h ∙ k) ]
+
+-- the fault that another reading met is this one's
+pub met_again : (from : yaml_encoding_t) (input : List ℕ) (ending : Option Fault) (f : yaml_fault_t) → ending ≡ ending_of from input → IsMemoryFault parse_layers (fault_of f) ⊎ IsFaulty from input (fault_of f) → IsFaultOf ending f
+met_again from input ending f e h = elim h [ inl m ↦ inl m | inr k ↦ inr (e ∙ faulty_ending from input (fault_of f) k) ]
+
+pub not_written : (from : yaml_encoding_t) (input : List ℕ) (settings : yaml_settings_t) (canonical : Bool) (r : ParserRemaining) (f : yaml_fault_t) → Reads from input r → IsFaultOf r.ending f
+    → IsMemoryFault reformat_layers (fault_of f) ⊎ (IsFaulty from input (fault_of f) ⊎ IsTooLong from input settings canonical (fault_of f))
+not_written from input settings canonical r f h e = elim (fault_met from input r f h e) [ inl m ↦ inl (inr (inr m)) | inr q ↦ inr (inl q) ]

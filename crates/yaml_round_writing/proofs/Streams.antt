@@ -1,0 +1,61 @@
+-- What an input says, and what it loads, is a stream in which nothing is wrong, and so has a text.
+use Rattle.std.proofs.Common.{None, ◌≡◌, ℕ, List, [], ◌∷◌, map, Bool, true, Option, refl, sym, subst}
+use Rattle.yaml_scan.specs.declared.yaml_encoding_t.{yaml_encoding_t}
+use Rattle.yaml_scan.specs.declared.yaml_encoding_t.TheVariants.{YAML_ANY_ENCODING}
+use Rattle.yaml_scan.specs.Faults.{Fault}
+use Rattle.yaml_parse.specs.Nodes.{Node}
+use Rattle.yaml_parse.specs.Documents.{Document}
+use Rattle.yaml_parse.specs.Resolve.{Told}
+use Rattle.yaml_parse.specs.Loading.{Loading, LoadStep, goes_on, loaded, refused, nothing_loaded, step}
+use Rattle.yaml_emit.specs.emit_graph.Graph.{graph_content}
+use Rattle.yaml_emit.specs.emit_text.declared.RequestedSettings.{RequestedSettings}
+use Rattle.yaml_round_laws_documents.specs.content.round_laws.emit_laws_streams.Laws.{RightStream, HasText, RightDocument, AreRight, AreRightTold, RightFed}
+use Rattle.yaml_round_laws_documents.proofs.content.round_laws.emit_laws_streams.Passing.{texts}
+use Rattle.yaml_round_laws_documents.proofs.content.round_laws.emit_laws_streams.Contents.{dumped_streams}
+use Rattle.yaml_round_laws_documents.proofs.content.round_laws.emit_laws_streams.Loading.{empty_right, steps}
+use Rattle.yaml_round_laws_documents.proofs.content.Inputs.{input_stream}
+use Rattle.yaml_round_laws_documents.proofs.content.round_laws.Inputs.{inputs_load_right}
+use Rattle.yaml_round_compare.specs.Reading.{emitter_events}
+use Rattle.yaml_round_laws_documents.specs.content.Input.{events_of, ending_of, read}
+use Rattle.yaml_round_laws_documents.specs.content.Loads.{Loads, in_front, load_on, load_all, loads_of}
+use Rattle.yaml_round_laws_documents.specs.Normal.{ended}
+use Rattle.yaml_round_laws_documents.proofs.Laid.{ended_right}
+use Rattle.yaml_round_writing.specs.Reload.{written_events}
+
+-- ---- events
+
+pub input_text : (from : yaml_encoding_t) (input : List ℕ) (w : RequestedSettings) → ending_of from input ≡ None → HasText w (emitter_events w.canonical (events_of from input))
+input_text from input w r = texts w (emitter_events w.canonical (events_of from input)) (input_stream from input w.canonical r)
+
+-- ---- documents
+
+front_right : (ns : List Node) (d : Document) (rest : Loads) → RightDocument d → AreRight rest.documents → AreRight (in_front ns d rest).documents
+front_right [] d rest r k = tt
+front_right (n ∷ ns) d rest r k = (r, k)
+
+on_right : (fed : LoadStep) (go : Loading → Loads) → RightFed fed → ((l : Loading) → RightDocument l.document → AreRight (go l).documents) → AreRight (load_on fed go).documents
+on_right (goes_on l) go h k = k l h
+on_right (loaded d) go h k = front_right d.nodes d (go nothing_loaded) h (k nothing_loaded empty_right)
+on_right (refused f) go h k = tt
+
+all_right : (gs : List Told) (f : Option Fault) (l : Loading) → AreRightTold gs → RightDocument l.document → AreRight (load_all gs f l).documents
+unfolding load_all
+all_right [] f l h r = tt
+all_right (g ∷ gs) f l h r = on_right (step g.0 l) (load_all gs f) (steps g.0 l h.0 r) (λ m s. all_right gs f m h.1 s)
+
+input_told : (from : yaml_encoding_t) (input : List ℕ) → AreRightTold (events_of from input)
+unfolding read
+input_told from input = inputs_load_right from input
+
+loaded_stream : (from : yaml_encoding_t) (input : List ℕ) → RightStream true (written_events (loads_of from input).documents)
+loaded_stream from input =
+    let ds : List Document = (loads_of from input).documents in
+    record {
+      encoding = YAML_ANY_ENCODING;
+      documents = map graph_content (ended ds);
+      same = refl;
+      right = dumped_streams true YAML_ANY_ENCODING (ended ds) (ended_right ds (all_right (events_of from input) (ending_of from input) nothing_loaded (input_told from input) empty_right));
+    }
+
+pub loaded_text : (from : yaml_encoding_t) (input : List ℕ) (w : RequestedSettings) → w.canonical ≡ true → HasText w (written_events (loads_of from input).documents)
+loaded_text from input w c = texts w (written_events (loads_of from input).documents) (subst (λ (b : Bool). RightStream b (written_events (loads_of from input).documents)) (sym c) (loaded_stream from input))

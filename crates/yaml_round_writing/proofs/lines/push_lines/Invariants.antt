@@ -1,0 +1,15 @@
+-- The lines of the events that were given stand there, and those of the others follow.
+use Rattle.std.proofs.Common.{◌≡◌, ◌++◌, length}
+use Rattle.yaml_round_compare.specs.Reading.{AreReal}
+use Rattle.yaml_round_writing.specs.Lines.{event_lines}
+use Rattle.yaml_round_writing.proofs.lines.push_lines.Given as goal
+
+abbrev pub invariant-events : goal.invariant-events
+invariant-events l = record {
+  real : AreReal l.reading.parser.events;
+  ending : l.reading.parser.ending ≡ l.fn.reading.parser.ending;
+  lines : l.lines.items ++ event_lines l.reading.parser.events ≡ l.fn.lines.items ++ event_lines l.fn.reading.parser.events;
+}
+
+abbrev pub decreases-events : goal.decreases-events
+decreases-events l = length l.reading.parser.events

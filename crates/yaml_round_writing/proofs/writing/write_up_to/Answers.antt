@@ -1,0 +1,15 @@
+-- The front is given, and the rest is left.
+use Rattle.std.proofs.Common.{◌∙◌}
+use Rattle.yaml_parse.specs.Events.{event_of}
+use Rattle.yaml_round_writing.proofs.Giving.{gives}
+use Rattle.yaml_round_writing.proofs.writing.write_up_to.Goals as goal
+
+pub events-preserved : goal.events-preserved
+events-preserved c =
+    let front = c.in-Event.ensures in
+    record {
+      ending = front.ending ∙ c.events.invariant.ending;
+      real = front.real;
+      leads = gives c.args.watch.now c.args.emitter.now c.events.emitter c.give_normalized.new.emitter c.args.reading.now.parser.events c.events.reading.parser c.next.new.self.parser
+          (event_of c.next.new.self.event) c.events.watch c.give_normalized.new.watch c.events.invariant.leads front c.give_normalized.ensures.takes c.give_normalized.ensures.seen;
+    }

@@ -1,0 +1,173 @@
+-- What the engine answers to an input, texts in place of vectors and references.
+use Rattle.std.specs.Prelude.{◌≡◌, ◌⊎◌, true, false, ℕ, Bool, List, Option, Result, Ok, Err, Vec}
+use Rattle.yaml_scan.specs.declared.yaml_encoding_t.{yaml_encoding_t}
+use Rattle.yaml_scan.specs.declared.yaml_encoding_t.TheVariants.{YAML_ANY_ENCODING}
+use Rattle.yaml_scan.specs.Faults.{Fault}
+use Rattle.yaml_emit.specs.Content.{Event}
+use Rattle.yaml_emit.specs.Text.{Item, encode, is_deep}
+use Rattle.yaml_emit.specs.Emitter.{IsStream, Passes}
+use Rattle.yaml_emit.specs.Within.{Fits}
+use Rattle.yaml_emit.specs.emit_text.declared.Encoding.{Encoding}
+use Rattle.yaml_emit.specs.emit_text.declared.RequestedSettings.{RequestedSettings}
+use Rattle.yaml_round_device.specs.declared.yaml_settings_t.{yaml_settings_t}
+use Rattle.yaml_round_device.specs.declared.yaml_form_t.{yaml_form_t}
+use Rattle.yaml_round_device.specs.declared.yaml_form_t.TheVariants.{Canonical, Pretty}
+use Rattle.yaml_round_writing.specs.declared.kept.Known.{Known}
+use Rattle.yaml_round_compare.specs.Reading.{emitter_events}
+use Rattle.yaml_round_writing.specs.Lines.{event_lines}
+use Rattle.yaml_round_writing.specs.Kept.{KeepsAll}
+use Rattle.yaml_round_writing.specs.Writing.{requested_under}
+use Rattle.yaml_parse.specs.Resolve.{Told}
+use Rattle.yaml_parse.specs.Events.{text_of}
+use Rattle.yaml_round_laws_documents.specs.content.Said.{Document}
+use Rattle.yaml_round_laws_documents.specs.round_laws_reading.Reading.{PlainReading, HasEvents}
+use Rattle.yaml_round_laws_documents.specs.content.Canon.{canon}
+use Rattle.yaml_round_laws_kept.specs.Laws.{IsJsonInput}
+unfoldable pub use Rattle.yaml_round_compare.specs.Answers.{IsRight, IsFaulty}
+pub use Rattle.yaml_round_compare.specs.Answers.{SameContent, IsCompared, IsSideFaulty, IsSideStarved, IsSame, ReadsBack, IsReadBack}
+
+abbrev pub text_and_form : {A : Type 0} → Vec ℕ A × yaml_form_t → List ℕ × yaml_form_t
+text_and_form answer = (answer.0.items, answer.1)
+
+abbrev pub text_and_known : {A : Type 0} → Vec ℕ A × Known → List ℕ × Known
+text_and_known answer = (answer.0.items, answer.1)
+
+abbrev pub text_and_maybe_form : {A : Type 0} → Vec ℕ A × Option yaml_form_t → List ℕ
+    × Option yaml_form_t
+text_and_maybe_form answer = (answer.0.items, answer.1)
+
+abbrev pub bytes_of : {A : Type 0} → Vec ℕ A → List ℕ
+bytes_of text = text.items
+
+-- ---- what is said of one input
+
+-- the input is read to its end, and its fault is the answer
+abbrev pub IsJudged : yaml_encoding_t → List ℕ → Result (Unit {0}) Fault → Type 0
+IsJudged from input (Ok done) = IsRight from input
+IsJudged from input (Err fault) = IsFaulty from input fault
+
+-- the input is accepted, and there is a line for each of its events
+pub record HasLines (from : yaml_encoding_t) (input lines : List ℕ) : Type 0 where
+  pub events : List Told
+  pub of_input : HasEvents from input events
+  pub are : lines ≡ event_lines events
+
+abbrev pub IsListed : yaml_encoding_t → List ℕ → Result (List ℕ) Fault → Type 0
+IsListed from input (Ok lines) = HasLines from input lines
+IsListed from input (Err fault) = IsFaulty from input fault
+
+-- ---- layouts
+
+-- These events are those of a stream in which nothing is wrong, and the text is its layout, which passes no limit.
+pub record IsLayout (requested_settings : RequestedSettings) (limit : ℕ) (events : List Event)
+    (text : List ℕ) : Type 0 where
+  pub encoding : Encoding
+  pub whole : List Item
+  pub stream : IsStream requested_settings encoding events whole
+  pub is : text ≡ encode encoding whole
+  pub fits : Fits limit encoding whole
+
+-- They are, and its layout passes the limit that the fault names.
+pub record IsPast (requested_settings : RequestedSettings) (limit : ℕ) (events : List Event)
+    (fault : Fault) : Type 0 where
+  pub encoding : Encoding
+  pub whole : List Item
+  pub stream : IsStream requested_settings encoding events whole
+  pub passes : Passes limit (encode encoding whole) (is_deep whole) fault
+
+-- The input is accepted, and the text is the layout of its events, normalized, in canonical form or in pretty form.
+pub record IsLaidOut (from : yaml_encoding_t) (input : List ℕ) (settings : yaml_settings_t)
+    (canonical : Bool) (text : List ℕ) : Type 0 where
+  pub events : List Told
+  pub of_input : HasEvents from input events
+  pub layout : IsLayout (requested_under settings canonical) settings.limit
+      (emitter_events canonical events) text
+
+-- The input is accepted, and that layout passes the limit that the fault names.
+pub record IsTooLong (from : yaml_encoding_t) (input : List ℕ) (settings : yaml_settings_t)
+    (canonical : Bool) (fault : Fault) : Type 0 where
+  pub events : List Told
+  pub of_input : HasEvents from input events
+  pub past : IsPast (requested_under settings canonical) settings.limit
+      (emitter_events canonical events) fault
+
+-- the layout, the input's fault, or a limit
+abbrev pub IsWritten : yaml_encoding_t → List ℕ → yaml_settings_t → Bool → Result (List ℕ) Fault
+    → Type 0
+IsWritten from input settings canonical (Ok text) = IsLaidOut from input settings canonical text
+IsWritten from input settings canonical (Err fault) = IsFaulty from input fault
+    ⊎ IsTooLong from input settings canonical fault
+
+-- ---- normal forms
+
+-- the canonical text of a content under the settings of a call
+abbrev pub canonical_text : yaml_settings_t → List Document → List ℕ
+canonical_text settings c = canon (requested_under settings true) c
+
+-- The text is the normal form of what the input says: it reads back as exactly that, no other content
+-- has it, and it is laid out again as itself.
+pub record IsNormalForm (from : yaml_encoding_t) (settings : yaml_settings_t) (input text : List ℕ)
+    : Type 0 where
+  -- what the input says
+  pub content : List Document
+  pub of_input : PlainReading from input (Ok content)
+  -- the text, read as its byte order mark tells, is accepted and says the same
+  pub of_text : PlainReading YAML_ANY_ENCODING text (Ok content)
+  -- it is that content's canonical text
+  pub is : text ≡ canonical_text settings content
+  -- what any input says whose canonical text it is, is that content
+  pub only : (other : yaml_encoding_t) (source : List ℕ) (c : List Document)
+      → PlainReading other source (Ok c) → canonical_text settings c ≡ text → c ≡ content
+  -- rewritten under the same settings it is the same text
+  pub again : IsLaidOut YAML_ANY_ENCODING text settings true text
+
+-- ---- rewriting
+
+-- the input's pretty form doesn't read back; so the input isn't shaped as JSON is
+pub record IsNotReadBack (from : yaml_encoding_t) (settings : yaml_settings_t)
+    (input : List ℕ) : Type 0 where
+  pub pretty : List ℕ
+  pub laid : IsLaidOut from input settings false pretty
+  pub differs : ¬ ReadsBack from input pretty
+  pub shape : ¬ IsJsonInput from input
+
+-- What is known is so: the text reads back; what is kept is what the input says.
+pub record KnownHolds (from : yaml_encoding_t) (input text : List ℕ) (known : Known) : Type 0 where
+  pub back : known.back ≡ true → ReadsBack from input text
+  pub kept : KeepsAll from input (text_of known.kept)
+
+-- the answer of the engine in pretty form, and what is known of it
+abbrev pub IsInPrettyForm : yaml_encoding_t → yaml_settings_t → List ℕ
+    → Result (List ℕ × Known) Fault → Type 0
+IsInPrettyForm from settings input (Ok (text, known)) = IsLaidOut from input settings false text
+    × KnownHolds from input text known
+IsInPrettyForm from settings input (Err fault) = IsWritten from input settings false (Err fault)
+
+-- the answer of the engine in canonical form
+abbrev pub IsInCanonicalForm : yaml_encoding_t → yaml_settings_t → List ℕ
+    → Result (List ℕ × yaml_form_t) Fault → Type 0
+IsInCanonicalForm from settings input (Ok (text, Canonical)) = IsLaidOut from input settings true
+    text × IsNormalForm from settings input text
+IsInCanonicalForm from settings input (Ok (text, Pretty)) = ⊥
+IsInCanonicalForm from settings input (Err fault) = IsFaulty from input fault
+    ⊎ IsTooLong from input settings true fault
+
+-- Canonical form is due: it is asked for, or the pretty form doesn't read back.
+abbrev pub IsCanonicalDue : Bool → yaml_encoding_t → yaml_settings_t → List ℕ → Type 0
+IsCanonicalDue true from settings input = Unit {0}
+IsCanonicalDue false from settings input = IsNotReadBack from settings input
+
+-- The engine may answer this to the input under the settings: the form that is due, where canonical form is a normal form and
+-- pretty form reads back; the input's fault; or the limit that a form that is due passes.
+unfoldable pub IsReformatted : yaml_encoding_t → yaml_settings_t → List ℕ
+    → Result (List ℕ × yaml_form_t) Fault → Type 0
+IsReformatted from settings input (Ok (text, Canonical)) = IsCanonicalDue settings.canonical from
+    settings input × (IsLaidOut from input settings true text
+    × IsNormalForm from settings input text)
+IsReformatted from settings input (Ok (text, Pretty)) = (settings.canonical ≡ false)
+    × (IsLaidOut from input settings false text × ReadsBack from input text)
+IsReformatted from settings input (Err fault) =
+    IsFaulty from input fault
+    ⊎ (((settings.canonical ≡ false) × IsTooLong from input settings false fault)
+    ⊎ (IsCanonicalDue settings.canonical from settings input
+    × IsTooLong from input settings true fault))

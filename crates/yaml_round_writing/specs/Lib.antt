@@ -1,0 +1,12 @@
+pub mod Layers
+pub mod Lines
+pub mod Kept
+pub mod Writing
+pub mod Answers
+pub mod Reload
+-- what it speaks of, and the laws beneath, for crates that name this one alone
+pub use Rattle.yaml_round_laws_documents.specs as round_laws_documents
+pub use Rattle.yaml_round_laws_kept.specs as round_laws_kept
+pub use Rattle.yaml_round_lines.specs.EventLine
+pub use Rattle.yaml_round_compare.specs.Reading
+pub use Rattle.yaml_round_compare.specs.Compare

@@ -1,0 +1,168 @@
+//! An emitter under the engine's settings, and the writing of a reading's events.
+
+ghost use Rattle.std.specs.Prelude.{◌≡◌, ◌∷◌, [], Some, IfOk, IfErr, option_map};
+ghost use Rattle.yaml_scan.specs.Faults.{Fault, fault_of, memory_fault};
+ghost use Rattle.yaml_parse.specs.Events.{event_of};
+ghost use Rattle.yaml_parse.specs.Constructors.{HasUtf8};
+ghost use Rattle.yaml_emit.specs.Content.{emitter_event};
+ghost use Rattle.yaml_emit.specs.Emitter.{IsLimited};
+ghost use Rattle.yaml_emit.specs.Taking.{TakesEvents};
+ghost use Rattle.yaml_round_laws_documents.specs.content.Normalize.{normalize_body};
+ghost use Rattle.yaml_round_compare.specs.Reading.{AreReal};
+ghost use Rattle.yaml_round_writing.specs.Writing.{IsUnder, requested_under, encoding_under, Sees, WritesReading, WritesAll, FinishesText};
+
+use std::alloc::Global;
+use yaml_emit::{
+    yaml_emitter_emit_from, yaml_emitter_fault, yaml_emitter_initialize, yaml_emitter_into_output,
+    yaml_emitter_output, yaml_emitter_set_break, yaml_emitter_set_canonical,
+    yaml_emitter_set_encoding, yaml_emitter_set_indent, yaml_emitter_set_unicode,
+    yaml_emitter_set_width, yaml_emitter_t,
+};
+use yaml_parse::{yaml_event_t, yaml_found_t};
+use yaml_round_compare::{Reading, normalize_event};
+use yaml_round_device::{yaml_output_encoding_t, yaml_settings_t};
+use yaml_round_kept::keep;
+use yaml_round_shape::{Shape, seen_with};
+use yaml_scan::{yaml_encoding_t, yaml_fault_t, yaml_memory_fault, yaml_origin_t};
+
+// While the events are still JSON's, whose text isn't read back, no more is kept than this.
+const KEPT_OF_JSON: usize = 4096;
+
+/// The form in which events are written, what those that were given tell of their shape, and what they say, where it is kept.
+#[derive(Drop)]
+pub struct Watch {
+    pub canonical: bool,
+    pub shape: Shape,
+    pub kept: Option<Vec<u8>>,
+    /// The most bytes that are kept.
+    pub most_kept: usize,
+}
+
+fn encoding_of(encoding: yaml_output_encoding_t) -> yaml_encoding_t
+    ensures { result ≡ encoding_under encoding }
+{
+    match encoding {
+        yaml_output_encoding_t::Utf8 => yaml_encoding_t::YAML_UTF8_ENCODING,
+        yaml_output_encoding_t::Utf16Le => yaml_encoding_t::YAML_UTF16LE_ENCODING,
+        yaml_output_encoding_t::Utf16Be => yaml_encoding_t::YAML_UTF16BE_ENCODING,
+    }
+}
+
+/// An emitter under these settings that was given nothing yet.
+pub(crate) fn emitter_under(
+    alloc: Global,
+    settings: &yaml_settings_t,
+    canonical: bool,
+) -> Result<yaml_emitter_t, yaml_fault_t>
+    ensures under { IfOk result (λ e. IsUnder e (requested_under settings.now canonical)
+        settings.now.limit) }
+    ensures memory { IfErr result (λ f. fault_of f ≡ memory_fault yaml_origin_t.Emitter) }
+{
+    let Ok(mut emitter) = yaml_emitter_initialize(alloc, settings.limit) else {
+        return Err(yaml_memory_fault(yaml_origin_t::Emitter));
+    };
+    yaml_emitter_set_encoding(&mut emitter, encoding_of(settings.encoding));
+    yaml_emitter_set_canonical(&mut emitter, canonical);
+    yaml_emitter_set_indent(&mut emitter, settings.indent);
+    yaml_emitter_set_width(&mut emitter, settings.width);
+    yaml_emitter_set_unicode(&mut emitter, settings.unicode);
+    yaml_emitter_set_break(&mut emitter, settings.line_break);
+    Ok(emitter)
+}
+
+// Gives the event in the slot; what is left there counts for nothing. The emitter keeps its first fault.
+fn give(emitter: &mut yaml_emitter_t, event: &mut yaml_event_t)
+    requires { HasUtf8 (event_of event.old).body }
+    ensures { TakesEvents emitter.old (emitter_event (event_of event.old).body ∷ []) emitter.new
+        [] }
+{
+    yaml_emitter_emit_from(emitter, event);
+}
+
+// The most bytes that are kept, as far as the shape is known.
+fn most_kept(watch: &Watch) -> usize {
+    match watch.shape {
+        Shape::Other => watch.most_kept,
+        Shape::Json { .. } => KEPT_OF_JSON,
+    }
+}
+
+// Gives the event in the slot, normalized, sees what it tells of the shape, and keeps what it says.
+fn give_normalized(emitter: &mut yaml_emitter_t, watch: &mut Watch, event: &mut yaml_event_t)
+    requires { HasUtf8 (event_of event.old).body }
+    ensures takes { TakesEvents emitter.old (emitter_event
+        (normalize_body watch.old.canonical (event_of event.old).body) ∷ []) emitter.new [] }
+    ensures seen { Sees watch.old (normalize_body watch.old.canonical (event_of event.old).body)
+        watch.new }
+{
+    normalize_event(event, watch.canonical);
+    watch.shape = seen_with(watch.shape, event);
+    let most = most_kept(watch);
+    keep(&mut watch.kept, event, most);
+    give(emitter, event);
+}
+
+/// Writes the events while the text has at most so many bytes. True at the end of the events. A fault of theirs is the
+/// answer; the emitter keeps its own.
+pub(crate) fn write_up_to(
+    reading: &mut Reading<'_>,
+    emitter: &mut yaml_emitter_t,
+    watch: &mut Watch,
+    most: usize,
+) -> Result<bool, yaml_fault_t>
+    requires { AreReal reading.old.parser.events }
+    ensures { WritesReading watch.old reading.old.parser emitter.old result watch.new
+        reading.new.parser emitter.new }
+{
+    'events: loop {
+        if yaml_emitter_output(emitter).len() > most {
+            return Ok(false);
+        }
+        match reading.next() {
+            yaml_found_t::Refused => return Err(reading.fault),
+            yaml_found_t::End => return Ok(true),
+            yaml_found_t::Event => give_normalized(emitter, watch, &mut reading.event),
+        }
+    }
+}
+
+/// Writes the events to their end. A fault of theirs is the answer; the emitter keeps its own.
+pub(crate) fn write_rest(
+    reading: &mut Reading<'_>,
+    emitter: &mut yaml_emitter_t,
+    watch: &mut Watch,
+) -> Result<(), yaml_fault_t>
+    requires { AreReal reading.old.parser.events }
+    ensures { WritesAll watch.old reading.old.parser emitter.old result watch.new emitter.new }
+{
+    'events: loop {
+        match reading.next() {
+            yaml_found_t::Refused => return Err(reading.fault),
+            yaml_found_t::End => return Ok(()),
+            yaml_found_t::Event => give_normalized(emitter, watch, &mut reading.event),
+        }
+    }
+}
+
+fn fault_in(emitter: &yaml_emitter_t) -> Option<yaml_fault_t>
+    ensures is { option_map fault_of result ≡ emitter.now.fault }
+    ensures limited { (f : Fault) → emitter.now.fault ≡ Some f → IsLimited emitter.now f }
+{
+    match yaml_emitter_fault(emitter) {
+        Some(fault) => Some(*fault),
+        None => None,
+    }
+}
+
+/// The text, which passes no limit, or the emitter's fault, which names a limit or tells that memory ran out.
+#[tactic(auto, using(crate::proofs::Laying::whole_text))]
+pub(crate) fn finished(emitter: yaml_emitter_t) -> Result<Vec<u8>, yaml_fault_t>
+    ensures { FinishesText emitter result }
+{
+    let fault = fault_in(&emitter);
+    let text = yaml_emitter_into_output(emitter);
+    match fault {
+        Some(fault) => Err(fault),
+        None => Ok(text),
+    }
+}

@@ -1,5 +1,5 @@
-//! Command lines over scripted streams, values looked up by their keys, and what the engine's tests have that is no line of
-//! vectors: devices that fail or are interrupted, and faults of every kind.
+//! What is no line of vectors: command lines over scripted streams, values looked up by their keys, devices that fail or are
+//! interrupted, faults of every kind, and the members' calls one after another on a session, a parser, an emitter or a document.
 #![tactic(auto)]
 
 #[cfg(test)]
@@ -7,11 +7,15 @@ mod answers;
 #[cfg(test)]
 mod check;
 #[cfg(test)]
+mod emit;
+#[cfg(test)]
 mod files;
 #[cfg(test)]
 mod lines;
 #[cfg(test)]
 mod lookups;
+#[cfg(test)]
+mod parse;
 #[cfg(test)]
 mod reads;
 #[cfg(test)]

@@ -34,14 +34,6 @@ const VALUES: [Row; 8] = [
     (FIRST, "3", Some(b"5")),
 ];
 
-#[test]
-fn values(rt: HostRuntime) -> Result<(), Fail> {
-    for (text, key, value) in &VALUES {
-        assert!(rt; finds(rt.alloc(), *text, *key, *value), "{key}");
-    }
-    Ok(())
-}
-
 fn is_not_a_mapping(alloc: Global, text: &str) -> bool {
     let refused = load_mapping(alloc, text.as_bytes(), UTF8);
     matches!(&refused, Err(LookupError::NotAMapping))
@@ -52,15 +44,6 @@ fn has_no_value(alloc: Global, text: &str) -> bool {
         Ok(document) => value_of(&document, b"").is_none(),
         Err(_) => false,
     }
-}
-
-#[test]
-fn another_root_is_refused(rt: HostRuntime) -> Result<(), Fail> {
-    for text in ["", "a", "[a, b]"] {
-        assert!(rt; is_not_a_mapping(rt.alloc(), text));
-    }
-    assert!(rt; has_no_value(rt.alloc(), "{}"));
-    Ok(())
 }
 
 fn is_undefined(fault: &yaml_fault_t) -> bool {
@@ -76,8 +59,16 @@ fn tells_undefined(alloc: Global, text: &str) -> bool {
     }
 }
 
+// Another root than a mapping is refused, and a fault is told.
 #[test]
-fn a_fault_is_told(rt: HostRuntime) -> Result<(), Fail> {
+fn lookups(rt: HostRuntime) -> Result<(), Fail> {
+    for (text, key, value) in &VALUES {
+        assert!(rt; finds(rt.alloc(), *text, *key, *value), "{key}");
+    }
+    for text in ["", "a", "[a, b]"] {
+        assert!(rt; is_not_a_mapping(rt.alloc(), text));
+    }
+    assert!(rt; has_no_value(rt.alloc(), "{}"));
     assert!(rt; tells_undefined(rt.alloc(), "a: 1\nb: *c\n"));
     Ok(())
 }

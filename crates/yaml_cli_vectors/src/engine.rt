@@ -1,51 +1,63 @@
 //! The calls of the engine: events, reformat, reload, same, and the line that tells a fault.
 
 use crate::given::{Given, given_of, input_of};
-use crate::text::shown_text;
+use crate::text::put_answer;
+use crate::vector::Reply;
 use serde_json::Value;
-use std::alloc::Global;
-use yaml_cli_vectors_json::{Fields, Reader, VectorError, shown};
 use yaml_round::{
     yaml_events, yaml_fault_line, yaml_fault_t, yaml_reformat, yaml_reload, yaml_same,
     yaml_settings_t, yaml_side_t,
 };
 use yaml_scan::yaml_encoding_t;
 
-fn event_lines(alloc: Global, input: &[u8], from: yaml_encoding_t) -> Result<Value, VectorError> {
-    let text = yaml_events(alloc, input, from)?;
-    shown::text_answer(alloc, text.as_slice())
+fn put_events(reply: &mut Reply, input: &[u8], from: yaml_encoding_t) {
+    match yaml_events(reply.alloc(), input, from) {
+        Ok(text) => reply.answer(text.as_slice()),
+        Err(fault) => reply.fault(fault),
+    }
 }
 
 /// The event lines of the line's input.
-pub fn events(alloc: Global, line: &Value) -> Result<Value, VectorError> {
-    let mut reader = Reader::new(alloc);
-    let from = reader.encoding(line, "from");
-    let input = input_of(alloc, &mut reader, line, "input");
-    reader.finish(event_lines(alloc, input.as_slice(), from))
+pub fn events(reply: &mut Reply, line: &Value) {
+    let from = reply.encoding(line, "from");
+    let input = input_of(reply, line, "input");
+    put_events(reply, input.as_slice(), from);
 }
 
-fn reformatted(alloc: Global, line: &Value, given: &Given) -> Result<Value, VectorError> {
-    let (text, form) = yaml_reformat(alloc, given.input.as_slice(), given.from, &given.settings)?;
-    shown_text(alloc, line, text.as_slice(), Some(form))
+fn put_reformatted(reply: &mut Reply, line: &Value, given: &Given) {
+    match yaml_reformat(
+        reply.alloc(),
+        given.input.as_slice(),
+        given.from,
+        &given.settings,
+    ) {
+        Ok((text, form)) => put_answer(reply, line, text.as_slice(), Some(form)),
+        Err(fault) => reply.fault(fault),
+    }
 }
 
 /// The text of the line's input under its settings, and the form that it has.
-pub fn reformat(alloc: Global, line: &Value) -> Result<Value, VectorError> {
-    let mut reader = Reader::new(alloc);
-    let given = given_of(alloc, &mut reader, line);
-    reader.finish(reformatted(alloc, line, &given))
+pub fn reformat(reply: &mut Reply, line: &Value) {
+    let given = given_of(reply, line);
+    put_reformatted(reply, line, &given);
 }
 
-fn reloaded(alloc: Global, line: &Value, given: &Given) -> Result<Value, VectorError> {
-    let text = yaml_reload(alloc, given.input.as_slice(), given.from, &given.settings)?;
-    shown_text(alloc, line, text.as_slice(), None)
+fn put_reloaded(reply: &mut Reply, line: &Value, given: &Given) {
+    match yaml_reload(
+        reply.alloc(),
+        given.input.as_slice(),
+        given.from,
+        &given.settings,
+    ) {
+        Ok(text) => put_answer(reply, line, text.as_slice(), None),
+        Err(fault) => reply.fault(fault),
+    }
 }
 
 /// The text of the documents of the line's input, under its settings.
-pub fn reload(alloc: Global, line: &Value) -> Result<Value, VectorError> {
-    let mut reader = Reader::new(alloc);
-    let given = given_of(alloc, &mut reader, line);
-    reader.finish(reloaded(alloc, line, &given))
+pub fn reload(reply: &mut Reply, line: &Value) {
+    let given = given_of(reply, line);
+    put_reloaded(reply, line, &given);
 }
 
 fn side_word(side: yaml_side_t) -> &'static str {
@@ -55,56 +67,70 @@ fn side_word(side: yaml_side_t) -> &'static str {
     }
 }
 
-fn shown_side(
-    alloc: Global,
-    side: yaml_side_t,
-    fault: &yaml_fault_t,
-) -> Result<Value, VectorError> {
-    let mut fields = Fields::new(alloc);
-    fields.add_word("side", side_word(side));
-    fields.add("fault", shown::fault(alloc, fault));
-    fields.end()
+fn put_side(reply: &mut Reply, line: &Value, side: yaml_side_t, fault: &yaml_fault_t) {
+    reply.begin();
+    reply.name("side");
+    reply.put_word(side_word(side));
+    reply.name_fault(line, fault);
+    reply.end();
 }
 
-fn compared(
-    alloc: Global,
+fn put_same(reply: &mut Reply, same: bool) {
+    reply.begin();
+    reply.name("answer");
+    reply.put_flag(same);
+    reply.end();
+}
+
+// Compares the inputs, which have those encodings.
+fn put_compared(
+    reply: &mut Reply,
+    line: &Value,
     first: &[u8],
-    from: yaml_encoding_t,
     second: &[u8],
-    from2: yaml_encoding_t,
-) -> Result<Value, VectorError> {
-    match yaml_same(alloc, first, from, second, from2) {
-        Ok(same) => shown::answer(alloc, Ok(Value::Bool(same))),
-        Err((side, fault)) => shown_side(alloc, side, &fault),
+    encodings: (yaml_encoding_t, yaml_encoding_t),
+) {
+    match yaml_same(reply.alloc(), first, encodings.0, second, encodings.1) {
+        Ok(same) => put_same(reply, same),
+        Err((side, fault)) => put_side(reply, line, side, &fault),
     }
 }
 
+fn put_compared_with(reply: &mut Reply, line: &Value, first: &[u8]) {
+    let from = reply.encoding(line, "from");
+    let from2 = reply.encoding(line, "from2");
+    let second = input_of(reply, line, "input2");
+    put_compared(reply, line, first, second.as_slice(), (from, from2));
+}
+
 /// Whether the line's inputs have the same content, or the side that is refused and its fault.
-pub fn same(alloc: Global, line: &Value) -> Result<Value, VectorError> {
-    let mut reader = Reader::new(alloc);
-    let from = reader.encoding(line, "from");
-    let from2 = reader.encoding(line, "from2");
-    let first = input_of(alloc, &mut reader, line, "input");
-    let second = input_of(alloc, &mut reader, line, "input2");
-    reader.finish(compared(alloc, first.as_slice(), from, second.as_slice(), from2))
+pub fn same(reply: &mut Reply, line: &Value) {
+    let first = input_of(reply, line, "input");
+    put_compared_with(reply, line, first.as_slice());
 }
 
-fn shown_line(alloc: Global, fault: &yaml_fault_t) -> Result<Value, VectorError> {
-    let text = yaml_fault_line(alloc, fault)?;
-    shown::text_answer(alloc, text.as_slice())
+/// The line that tells the fault.
+pub fn put_line(reply: &mut Reply, fault: &yaml_fault_t) {
+    match yaml_fault_line(reply.alloc(), fault) {
+        Ok(text) => reply.put_bytes(text.as_slice()),
+        Err(fault) => reply.fault(fault),
+    }
 }
 
-fn line_of(alloc: Global, input: &[u8], from: yaml_encoding_t) -> Result<Value, VectorError> {
-    match yaml_reformat(alloc, input, from, &yaml_settings_t::new()) {
-        Ok(_) => shown::answer(alloc, Ok(Value::Null)),
-        Err(fault) => shown_line(alloc, &fault),
+// The line of the fault that the input has, or null.
+fn put_line_of(reply: &mut Reply, input: &[u8], from: yaml_encoding_t) {
+    match yaml_reformat(reply.alloc(), input, from, &yaml_settings_t::new()) {
+        Ok(_) => reply.put_null(),
+        Err(fault) => put_line(reply, &fault),
     }
 }
 
 /// The line that tells the fault of the line's input; null where there is none.
-pub fn fault_line(alloc: Global, line: &Value) -> Result<Value, VectorError> {
-    let mut reader = Reader::new(alloc);
-    let from = reader.encoding(line, "from");
-    let input = input_of(alloc, &mut reader, line, "input");
-    reader.finish(line_of(alloc, input.as_slice(), from))
+pub fn fault_line(reply: &mut Reply, line: &Value) {
+    let from = reply.encoding(line, "from");
+    let input = input_of(reply, line, "input");
+    reply.begin();
+    reply.name("answer");
+    put_line_of(reply, input.as_slice(), from);
+    reply.end();
 }

@@ -1,8 +1,7 @@
 //! What a line gives a call of the engine.
 
+use crate::vector::{Reply, VectorError, settings_of};
 use serde_json::Value;
-use std::alloc::Global;
-use yaml_cli_vectors_json::{Reader, VectorError, settings_of};
 use yaml_round::{yaml_output_encoding_t, yaml_settings_t};
 use yaml_scan::yaml_encoding_t;
 
@@ -15,32 +14,32 @@ pub struct Given {
 }
 
 // Adds a piece of an input: its bytes, and how often they stand there.
-fn push_piece(reader: &mut Reader, piece: &Value, bytes: &mut Vec<u8>) {
-    let repeated = reader.bytes(piece, 0);
-    for _ in 0..reader.count(piece, 1) {
+fn push_piece(reply: &mut Reply, piece: &Value, bytes: &mut Vec<u8>) {
+    let repeated = reply.bytes(piece, 0);
+    for _ in 0..reply.count(piece, 1) {
         if bytes.extend_from_slice(repeated.as_slice()).is_err() {
-            reader.refuse(VectorError::Memory);
+            reply.refuse(VectorError::Memory);
             break;
         }
     }
 }
 
-fn joined(alloc: Global, reader: &mut Reader, pieces: &[Value]) -> Vec<u8> {
-    let mut bytes = Vec::new(alloc);
+fn joined(reply: &mut Reply, pieces: &[Value]) -> Vec<u8> {
+    let mut bytes = Vec::new(reply.alloc());
     for piece in pieces {
-        push_piece(reader, piece, &mut bytes);
+        push_piece(reply, piece, &mut bytes);
     }
     bytes
 }
 
 /// The input in that field: bytes in hexadecimal digits, or a list of pieces, each with how often it is repeated.
-pub fn input_of(alloc: Global, reader: &mut Reader, line: &Value, name: &'static str) -> Vec<u8> {
-    let input = reader.value(line, name);
+pub fn input_of(reply: &mut Reply, line: &Value, name: &'static str) -> Vec<u8> {
+    let input = reply.value(line, name);
     if input.is_array() {
-        let pieces = reader.list(line, name);
-        joined(alloc, reader, pieces)
+        let pieces = reply.list(line, name);
+        joined(reply, pieces)
     } else {
-        reader.bytes(line, name)
+        reply.bytes(line, name)
     }
 }
 
@@ -54,11 +53,11 @@ fn output_encoding(encoding: yaml_encoding_t) -> Option<yaml_output_encoding_t> 
 }
 
 // The engine's settings that the line says.
-fn settings(reader: &mut Reader, line: &Value) -> yaml_settings_t {
-    let settings = settings_of(reader, line);
+fn settings(reply: &mut Reply, line: &Value) -> yaml_settings_t {
+    let settings = settings_of(reply, line);
     let encoding = output_encoding(settings.encoding);
     yaml_settings_t {
-        encoding: reader.take(encoding, "encoding", yaml_output_encoding_t::Utf8),
+        encoding: reply.take(encoding, "encoding", yaml_output_encoding_t::Utf8),
         canonical: settings.canonical,
         indent: settings.indent,
         width: settings.width,
@@ -69,10 +68,10 @@ fn settings(reader: &mut Reader, line: &Value) -> yaml_settings_t {
 }
 
 /// What the line gives: its input, encoding and settings.
-pub fn given_of(alloc: Global, reader: &mut Reader, line: &Value) -> Given {
-    let from = reader.encoding(line, "from");
-    let settings = settings(reader, line);
-    let input = input_of(alloc, reader, line, "input");
+pub fn given_of(reply: &mut Reply, line: &Value) -> Given {
+    let from = reply.encoding(line, "from");
+    let settings = settings(reply, line);
+    let input = input_of(reply, line, "input");
     Given {
         input,
         from,

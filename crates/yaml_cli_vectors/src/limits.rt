@@ -1,9 +1,9 @@
 //! The call `least_limit`.
 
 use crate::given::{Given, given_of};
+use crate::vector::Reply;
 use serde_json::Value;
 use std::alloc::Global;
-use yaml_cli_vectors_json::{Reader, VectorError, shown};
 use yaml_round::{yaml_error_type_t, yaml_fault_t, yaml_reformat, yaml_reload, yaml_settings_t};
 
 // Makes the call under the settings, and lets its text go.
@@ -24,38 +24,42 @@ fn is_past_limit(fault: &yaml_fault_t) -> bool {
     fault.kind == yaml_error_type_t::YAML_WRITER_ERROR && fault.problem == "write error"
 }
 
-// Whether the call answers a text under that limit. Any other refusal than by the limit is an `Err`.
-fn is_answered(alloc: Global, of: &str, given: &Given, limit: u64) -> Result<bool, VectorError> {
+// Whether that refusal is one by the limit. Any other is kept.
+fn is_limit(reply: &mut Reply, fault: yaml_fault_t) -> bool {
+    let is_past = is_past_limit(&fault);
+    if !is_past {
+        reply.fault(fault);
+    }
+    is_past
+}
+
+// Whether the call refuses that limit.
+fn is_refused(reply: &mut Reply, of: &str, given: &Given, limit: u64) -> bool {
     let settings = yaml_settings_t {
         limit,
         ..given.settings
     };
-    match call(alloc, of, given, &settings) {
-        Ok(()) => Ok(true),
-        Err(fault) if is_past_limit(&fault) => Ok(false),
-        Err(fault) => Err(VectorError::Fault(fault)),
+    match call(reply.alloc(), of, given, &settings) {
+        Ok(()) => false,
+        Err(fault) => is_limit(reply, fault),
     }
 }
 
-// The least limit, up to that of the settings, under which a text is answered.
-fn least(alloc: Global, of: &str, given: &Given) -> Result<u64, VectorError> {
+// The least limit, below that of the settings, that isn't refused.
+fn least(reply: &mut Reply, of: &str, given: &Given) -> u64 {
     for limit in 0..given.settings.limit {
-        if is_answered(alloc, of, given, limit)? {
-            return Ok(limit);
+        if !is_refused(reply, of, given, limit) {
+            return limit;
         }
     }
-    Err(VectorError::Field("limit"))
-}
-
-fn answer(alloc: Global, of: &str, given: &Given) -> Result<Value, VectorError> {
-    let limit = least(alloc, of, given)?;
-    shown::answer(alloc, Ok(Value::from(limit)))
+    reply.miss("limit");
+    0
 }
 
 /// The least limit under which the call that the line names in `of` answers a text. Every smaller one refuses it.
-pub fn least_limit(alloc: Global, line: &Value) -> Result<Value, VectorError> {
-    let mut reader = Reader::new(alloc);
-    let of = reader.text(line, "of");
-    let given = given_of(alloc, &mut reader, line);
-    reader.finish(answer(alloc, of, &given))
+pub fn least_limit(reply: &mut Reply, line: &Value) {
+    let of = reply.text(line, "of");
+    let given = given_of(reply, line);
+    let limit = least(reply, of, &given);
+    reply.answer_count(limit);
 }

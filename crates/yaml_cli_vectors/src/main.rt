@@ -6,11 +6,14 @@ mod compare;
 mod engine;
 mod given;
 mod limits;
+mod reading;
 mod replay;
 mod run;
 mod tally;
 mod text;
 mod tokens;
+mod vector;
+mod writing;
 
 use std::io::{self, BufRead, BufReader};
 use tally::Tally;
@@ -21,7 +24,7 @@ fn main(rt: HostRuntime) -> io::Result<()> {
     for line in BufReader::new(rt.alloc(), rt.reader())?.lines(rt.alloc()) {
         number = number.wrapping_add(1);
         let outcome = replay::replay(rt.alloc(), line?.as_str());
-        tally.take(&rt, number, outcome)?;
+        tally.take(&rt, number, &outcome)?;
     }
     tally.finish(&rt)
 }

@@ -1,78 +1,101 @@
 //! A line, replayed by the call that it names.
 
 use crate::compare::{Outcome, compare};
+use crate::engine::put_line;
+use crate::reading::{Asked, Source, decode, next_tokens, parse_line, scan};
+use crate::vector::{Reply, VectorError};
+use crate::writing::{Given, emit_limits, emit_line};
 use crate::{engine, limits, run, tokens};
 use serde_json::Value;
 use std::alloc::Global;
-use yaml_cli_vectors_json::{Fields, Reader, VectorError, shown};
-use yaml_cli_vectors_reading::{Asked, Source, decode, next_tokens, parsed, scan, shown_fault};
-use yaml_cli_vectors_writing::{Given, emit_limits, emitted};
-use yaml_round::yaml_fault_line;
 use yaml_scan::yaml_fault_t;
 
-// What the call answers on the line; an `Err` where it only refuses.
-fn answer(alloc: Global, call: &str, line: &Value) -> Result<Value, VectorError> {
+// What the calls of a parser answer, or of an emitter.
+fn answer_member(reply: &mut Reply, call: &str, line: &Value) {
     match call {
-        "decode" => decode::answer(alloc, line),
-        "scan" => scan::answer(alloc, line),
-        "next_tokens" => next_tokens::answer(alloc, line),
-        "parse" => parsed(alloc, line, Source::Input, Asked::Events),
-        "parse_tokens" => parsed(alloc, line, Source::Tokens, Asked::Events),
-        "load" => parsed(alloc, line, Source::Input, Asked::Documents),
-        "load_tokens" => parsed(alloc, line, Source::Tokens, Asked::Documents),
-        "emit" => emitted(alloc, line, Given::Input),
-        "emit_events" => emitted(alloc, line, Given::Events),
-        "emit_limits" => emit_limits::answer(alloc, line),
-        "dump" => emitted(alloc, line, Given::Document),
-        "events" => engine::events(alloc, line),
-        "reformat" => engine::reformat(alloc, line),
-        "reload" => engine::reload(alloc, line),
-        "same" => engine::same(alloc, line),
-        "line" => engine::fault_line(alloc, line),
-        "least_limit" => limits::least_limit(alloc, line),
-        "run" => run::run(alloc, line),
-        "tokens" => tokens::tokens(alloc, line),
-        _ => Err(VectorError::Field("call")),
+        "parse" => parse_line(reply, line, Source::Input, Asked::Events),
+        "parse_tokens" => parse_line(reply, line, Source::Tokens, Asked::Events),
+        "load" => parse_line(reply, line, Source::Input, Asked::Documents),
+        "load_tokens" => parse_line(reply, line, Source::Tokens, Asked::Documents),
+        "emit" => emit_line(reply, line, Given::Input),
+        "emit_events" => emit_line(reply, line, Given::Events),
+        "dump" => emit_line(reply, line, Given::Document),
+        "emit_limits" => emit_limits::answer(reply, line),
+        "decode" => decode::answer(reply, line),
+        "scan" => scan::answer(reply, line),
+        "next_tokens" => next_tokens::answer(reply, line),
+        "tokens" => tokens::tokens(reply, line),
+        _ => reply.miss("call"),
     }
 }
 
-// The line that tells the fault.
-fn told(alloc: Global, fault: &yaml_fault_t) -> Result<Value, VectorError> {
-    let text = yaml_fault_line(alloc, fault)?;
-    shown::bytes(alloc, text.as_slice())
+// What the call answers on the line; the reply keeps the fault where it only refuses.
+fn answer(reply: &mut Reply, call: &str, line: &Value) {
+    match call {
+        "events" => engine::events(reply, line),
+        "reformat" => engine::reformat(reply, line),
+        "reload" => engine::reload(reply, line),
+        "same" => engine::same(reply, line),
+        "line" => engine::fault_line(reply, line),
+        "least_limit" => limits::least_limit(reply, line),
+        "run" => run::run(reply, line),
+        _ => answer_member(reply, call, line),
+    }
 }
 
-// The same, where the vector wants it.
-fn add_line(alloc: Global, line: &Value, fault: &yaml_fault_t, fields: &mut Fields) {
+// The line that tells the fault, where the vector wants it.
+fn put_told(reply: &mut Reply, line: &Value, fault: &yaml_fault_t) {
     if line.get("fault_line").is_some() {
-        fields.add("fault_line", told(alloc, fault));
+        reply.name("fault_line");
+        put_line(reply, fault);
     }
 }
 
-fn refusal(alloc: Global, line: &Value, fault: &yaml_fault_t) -> Result<Value, VectorError> {
-    let mut fields = Fields::new(alloc);
-    fields.add("fault", shown_fault(alloc, line, fault));
-    add_line(alloc, line, fault, &mut fields);
-    fields.end()
+fn put_refusal(reply: &mut Reply, line: &Value, fault: &yaml_fault_t) {
+    reply.begin();
+    reply.name_fault(line, fault);
+    put_told(reply, line, fault);
+    reply.end();
+}
+
+fn refusal(alloc: Global, line: &Value, fault: &yaml_fault_t) -> Result<Vec<u8>, VectorError> {
+    let mut reply = Reply::new(alloc);
+    put_refusal(&mut reply, line, fault);
+    reply.finish()
+}
+
+fn answered(alloc: Global, call: &str, line: &Value) -> Result<Vec<u8>, VectorError> {
+    let mut reply = Reply::new(alloc);
+    answer(&mut reply, call, line);
+    reply.finish()
 }
 
 // What the call answers on the line, its refusal too.
-fn answered(alloc: Global, call: &str, line: &Value) -> Result<Value, VectorError> {
-    match answer(alloc, call, line) {
+fn whole_answer(alloc: Global, call: &str, line: &Value) -> Result<Vec<u8>, VectorError> {
+    match answered(alloc, call, line) {
         Err(VectorError::Fault(fault)) => refusal(alloc, line, &fault),
         answer => answer,
     }
 }
 
 fn compared(alloc: Global, call: &str, line: &Value) -> Result<Outcome, VectorError> {
-    let got = answered(alloc, call, line)?;
-    compare(alloc, call, line, &got)
+    match whole_answer(alloc, call, line) {
+        Ok(text) => compare(alloc, call, line, text.as_slice()),
+        Err(error) => Err(error),
+    }
+}
+
+fn replay_line(alloc: Global, line: &Value) -> Result<Outcome, VectorError> {
+    match line.get("call").and_then(Value::as_str) {
+        Some(call) => compared(alloc, call, line),
+        None => Err(VectorError::Field("call")),
+    }
 }
 
 /// Makes the call that the line names, and compares.
 pub fn replay(alloc: Global, line: &str) -> Result<Outcome, VectorError> {
-    let line = Value::from_str(alloc, line)?;
-    let mut reader = Reader::new(alloc);
-    let call = reader.text(&line, "call");
-    reader.finish(compared(alloc, call, &line))
+    match Value::from_str(alloc, line) {
+        Ok(line) => replay_line(alloc, &line),
+        Err(error) => Err(VectorError::from(error)),
+    }
 }

@@ -1,10 +1,9 @@
 //! The call `run`: a run of a command over memory.
 
 use crate::given::{Given, given_of};
-use crate::text::shown_text;
+use crate::text::put_answer;
+use crate::vector::Reply;
 use serde_json::Value;
-use std::alloc::Global;
-use yaml_cli_vectors_json::{Fields, Reader, VectorError};
 use yaml_round::{
     yaml_command_t, yaml_form_t, yaml_run, yaml_run_fault_t, yaml_std_input_t, yaml_std_output_t,
 };
@@ -28,54 +27,68 @@ fn refusal_word(fault: &yaml_run_fault_t) -> &'static str {
     }
 }
 
-fn shown_refusal(alloc: Global, fault: &yaml_run_fault_t) -> Result<Value, VectorError> {
-    let mut fields = Fields::new(alloc);
-    fields.add_word("refused", refusal_word(fault));
-    fields.end()
+fn put_refusal(reply: &mut Reply, fault: &yaml_run_fault_t) {
+    reply.begin();
+    reply.name("refused");
+    reply.put_word(refusal_word(fault));
+    reply.end();
 }
 
-// The text that the command makes of the input, and its form.
-fn text_of(
-    alloc: Global,
+// A fault of the input, or another refusal.
+fn put_fault(reply: &mut Reply, fault: &yaml_run_fault_t) {
+    match fault {
+        yaml_run_fault_t::Yaml(fault) => reply.fault(*fault),
+        fault => put_refusal(reply, fault),
+    }
+}
+
+type Ended = Result<Option<yaml_form_t>, yaml_run_fault_t>;
+
+// The text that the command makes of the input, behind which stands its form.
+fn run_over(
+    output: &mut yaml_std_output_t<&mut Vec<u8>>,
+    reply: &mut Reply,
     given: &Given,
     command: yaml_command_t,
     limit: u64,
-) -> Result<(Vec<u8>, Option<yaml_form_t>), yaml_run_fault_t> {
+) -> Ended {
     let mut input = yaml_std_input_t::new(given.input.as_slice());
-    let mut output = yaml_std_output_t::new(Vec::new(alloc));
-    let form = yaml_run(
-        alloc,
+    yaml_run(
+        reply.alloc(),
         &mut input,
-        &mut output,
+        output,
         command,
         given.from,
         &given.settings,
         limit,
-    )?;
-    Ok((output.into_inner(), form))
+    )
 }
 
-fn answer(
-    alloc: Global,
-    line: &Value,
-    given: &Given,
-    command: yaml_command_t,
-    limit: u64,
-) -> Result<Value, VectorError> {
-    match text_of(alloc, given, command, limit) {
-        Ok((text, form)) => shown_text(alloc, line, text.as_slice(), form),
-        Err(yaml_run_fault_t::Yaml(fault)) => Err(VectorError::Fault(fault)),
-        Err(fault) => shown_refusal(alloc, &fault),
+fn put_ended(reply: &mut Reply, line: &Value, text: &[u8], ended: &Ended) {
+    match ended {
+        Ok(form) => put_answer(reply, line, text, *form),
+        Err(fault) => put_fault(reply, fault),
     }
+}
+
+fn put_run(reply: &mut Reply, line: &Value, given: &Given, command: yaml_command_t, limit: u64) {
+    let mut text = Vec::new(reply.alloc());
+    let ended = run_over(
+        &mut yaml_std_output_t::new(&mut text),
+        reply,
+        given,
+        command,
+        limit,
+    );
+    put_ended(reply, line, text.as_slice(), &ended);
 }
 
 /// The text that the line's command makes of its input, and the form that it has; `TooLong` where the input has more bytes
 /// than `input_limit`.
-pub fn run(alloc: Global, line: &Value) -> Result<Value, VectorError> {
-    let mut reader = Reader::new(alloc);
-    let command = command(reader.text(line, "command"));
-    let command = reader.take(command, "command", yaml_command_t::Fmt);
-    let limit = reader.count(line, "input_limit");
-    let given = given_of(alloc, &mut reader, line);
-    reader.finish(answer(alloc, line, &given, command, limit))
+pub fn run(reply: &mut Reply, line: &Value) {
+    let command = command(reply.text(line, "command"));
+    let command = reply.take(command, "command", yaml_command_t::Fmt);
+    let limit = reply.count(line, "input_limit");
+    let given = given_of(reply, line);
+    put_run(reply, line, &given, command, limit);
 }

@@ -1,16 +1,17 @@
 //! A text that a call answers, as the line wants it.
 
+use crate::vector::Reply;
 use serde_json::Value;
-use std::alloc::Global;
-use yaml_cli_vectors_json::{Fields, VectorError};
 use yaml_round::yaml_form_t;
 
 // The text, or how many bytes it has where the line wants that.
-fn add_text(line: &Value, text: &[u8], fields: &mut Fields) {
+fn put_text(reply: &mut Reply, line: &Value, text: &[u8]) {
     if line.get("length").is_some() {
-        fields.put("length", Value::from(text.len() as u64));
+        reply.name("length");
+        reply.put_count(text.len() as u64);
     } else {
-        fields.add_bytes("answer", text);
+        reply.name("answer");
+        reply.put_bytes(text);
     }
 }
 
@@ -22,22 +23,20 @@ fn form_word(form: yaml_form_t) -> &'static str {
 }
 
 // The form, where the answer has one.
-fn add_form(form: Option<yaml_form_t>, fields: &mut Fields) {
+fn put_form(reply: &mut Reply, form: Option<yaml_form_t>) {
     match form {
-        Some(form) => fields.add_word("form", form_word(form)),
+        Some(form) => {
+            reply.name("form");
+            reply.put_word(form_word(form));
+        }
         None => {}
     }
 }
 
 /// The text, and the form that it has.
-pub fn shown_text(
-    alloc: Global,
-    line: &Value,
-    text: &[u8],
-    form: Option<yaml_form_t>,
-) -> Result<Value, VectorError> {
-    let mut fields = Fields::new(alloc);
-    add_text(line, text, &mut fields);
-    add_form(form, &mut fields);
-    fields.end()
+pub fn put_answer(reply: &mut Reply, line: &Value, text: &[u8], form: Option<yaml_form_t>) {
+    reply.begin();
+    put_text(reply, line, text);
+    put_form(reply, form);
+    reply.end();
 }

@@ -1,20 +1,25 @@
 //! The call `tokens`: tokens are written as they are read.
 
+use crate::vector::{Reply, read_token, show_token};
 use serde_json::Value;
-use std::alloc::Global;
-use yaml_cli_vectors_json::{Items, Reader, VectorError, read_token, shown, shown_token};
 
-fn written(alloc: Global, reader: &mut Reader, token: &Value) -> Result<Value, VectorError> {
-    let token = read_token(reader, token);
-    shown_token(alloc, &token)
+fn put_token(reply: &mut Reply, token: &Value) {
+    let token = read_token(reply, token);
+    show_token(reply, &token);
+}
+
+fn put_tokens(reply: &mut Reply, line: &Value) {
+    reply.begin_list();
+    for token in reply.list(line, "tokens") {
+        put_token(reply, token);
+    }
+    reply.end_list();
 }
 
 /// The line's tokens, read and written again.
-pub fn tokens(alloc: Global, line: &Value) -> Result<Value, VectorError> {
-    let mut reader = Reader::new(alloc);
-    let mut tokens = Items::new(alloc);
-    for token in reader.list(line, "tokens") {
-        tokens.add(written(alloc, &mut reader, token));
-    }
-    reader.finish(shown::answer(alloc, tokens.end()))
+pub fn tokens(reply: &mut Reply, line: &Value) {
+    reply.begin();
+    reply.name("answer");
+    put_tokens(reply, line);
+    reply.end();
 }

@@ -1,0 +1,148 @@
+//! Documents that are made by hand, and what a document refuses. One function owns them: it lends each to be filled, and
+//! gives it away.
+
+ghost use Rattle.std.specs.Prelude.{IsTrue, IsSome};
+ghost use Rattle.yaml_parse.specs.Documents.{node_at, IsSequenceAt};
+
+use super::calls::unmade;
+use super::owner::{Asked, is_right};
+use std::alloc::Global;
+use std::test::Fail;
+use yaml_emit::{yaml_emitter_dump, yaml_emitter_output, yaml_emitter_t};
+use yaml_parse::{
+    yaml_document_add_scalar, yaml_document_add_sequence, yaml_document_append_sequence_item,
+    yaml_document_get_node, yaml_document_initialize, yaml_document_t, yaml_node_body_t,
+    yaml_text_fault_t,
+};
+use yaml_scan::{yaml_fault_t, yaml_scalar_style_t, yaml_sequence_style_t};
+
+const ANY: yaml_scalar_style_t = yaml_scalar_style_t::YAML_ANY_SCALAR_STYLE;
+
+const SEQUENCE: yaml_sequence_style_t = yaml_sequence_style_t::YAML_ANY_SEQUENCE_STYLE;
+
+/// What a document holds, whose start and end are implicit.
+#[derive(Clone, Copy)]
+pub(crate) enum Holds {
+    Nothing,
+    /// The scalar `foo`.
+    Foo,
+    /// The same, where a scalar was refused behind it.
+    FooAlone,
+    /// Sequences in one another, so many of them.
+    Sequences(usize),
+}
+
+/// The text of `foo` in canonical form: 16 bytes.
+pub(crate) const TEXT: &[u8] = b"---\n!!str \"foo\"\n";
+
+fn is_sequence(document: &yaml_document_t, id: i32) -> bool
+    ensures { IsTrue result → IsSequenceAt document.now id }
+{
+    match yaml_document_get_node(document, id) {
+        Some(node) => matches!(&node.body, yaml_node_body_t::Sequence { .. }),
+        None => false,
+    }
+}
+
+fn is_node(document: &yaml_document_t, id: i32) -> bool
+    ensures { IsTrue result → IsSome (node_at document.now.nodes id) }
+{
+    yaml_document_get_node(document, id).is_some()
+}
+
+// Puts a node behind what a sequence holds. False where one of them isn't there, or no memory is.
+fn hold(document: &mut yaml_document_t, sequence: i32, item: i32) -> bool {
+    if !is_sequence(document, sequence) {
+        return false;
+    }
+    if !is_node(document, item) {
+        return false;
+    }
+    yaml_document_append_sequence_item(document, sequence, item).is_ok()
+}
+
+fn add_sequence(document: &mut yaml_document_t) -> Option<i32> {
+    yaml_document_add_sequence(document, None, SEQUENCE).ok()
+}
+
+fn held(document: &mut yaml_document_t, outer: i32, inner: i32) -> Option<i32> {
+    if hold(document, outer, inner) {
+        Some(inner)
+    } else {
+        None
+    }
+}
+
+// A sequence in that sequence.
+fn nest_once(document: &mut yaml_document_t, outer: i32) -> Option<i32> {
+    match add_sequence(document) {
+        Some(inner) => held(document, outer, inner),
+        None => None,
+    }
+}
+
+fn nest_in(document: &mut yaml_document_t, outermost: i32, levels: usize) -> bool {
+    let mut outer = outermost;
+    for _ in 1..levels {
+        match nest_once(document, outer) {
+            Some(inner) => outer = inner,
+            None => return false,
+        }
+    }
+    true
+}
+
+fn nest(document: &mut yaml_document_t, levels: usize) -> bool {
+    match add_sequence(document) {
+        Some(outermost) => nest_in(document, outermost, levels),
+        None => false,
+    }
+}
+
+fn add_foo(document: &mut yaml_document_t) -> bool {
+    yaml_document_add_scalar(document, None, b"foo", ANY).is_ok()
+}
+
+// Whether a text that isn't UTF-8 is refused, and no node is added.
+fn refuses_a_scalar(document: &mut yaml_document_t) -> bool {
+    let refused = yaml_document_add_scalar(document, None, b"\xFF", ANY);
+    refused == Err(yaml_text_fault_t::NotUtf8) && yaml_document_get_node(document, 2).is_none()
+}
+
+// Fills the document, which is empty. False where that fails.
+fn fill(document: &mut yaml_document_t, holds: Holds) -> bool {
+    match holds {
+        Holds::Nothing => true,
+        Holds::Foo => add_foo(document),
+        Holds::FooAlone => add_foo(document) && refuses_a_scalar(document),
+        Holds::Sequences(levels) => nest(document, levels),
+    }
+}
+
+/// Dumps a document that holds this, and tells the fault that is answered.
+pub(crate) fn dump(
+    alloc: Global,
+    emitter: &mut yaml_emitter_t,
+    holds: Holds,
+) -> Option<yaml_fault_t> {
+    match yaml_document_initialize(alloc, None, &[], true, true) {
+        Ok(mut document) => {
+            let is_filled = fill(&mut document, holds);
+            let fault = yaml_emitter_dump(emitter, document).err();
+            if is_filled { fault } else { unmade() }
+        }
+        Err(_) => unmade(),
+    }
+}
+
+/// A document that refused a scalar stays as it was.
+pub(crate) fn is_dumped(alloc: Global, emitter: &mut yaml_emitter_t) -> bool {
+    let fault = dump(alloc, emitter, Holds::FooAlone);
+    fault.is_none() && yaml_emitter_output(emitter) == TEXT
+}
+
+#[test]
+fn a_refused_scalar(rt: HostRuntime) -> Result<(), Fail> {
+    assert!(rt; is_right(rt.alloc(), 1000, true, Asked::RefusedScalar));
+    Ok(())
+}

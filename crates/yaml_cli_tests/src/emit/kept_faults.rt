@@ -1,0 +1,158 @@
+//! Behind a fault each call answers it again, and writes nothing more.
+
+use super::calls::{flush, give_all, give_sign, turn};
+use super::document::{Holds, TEXT, dump};
+use super::event::Sign;
+use super::owner::{Asked, is_right};
+use std::alloc::Global;
+use std::test::Fail;
+use yaml_emit::{yaml_emitter_opened, yaml_emitter_output, yaml_emitter_t};
+use yaml_scan::{yaml_error_type_t, yaml_fault_t, yaml_mark_t, yaml_origin_t};
+
+const ZERO: yaml_mark_t = yaml_mark_t {
+    index: 0,
+    line: 0,
+    column: 0,
+};
+
+const FULL: yaml_fault_t = yaml_fault_t {
+    kind: yaml_error_type_t::YAML_WRITER_ERROR,
+    problem: "write error",
+    offset: 0,
+    value: 0,
+    problem_mark: ZERO,
+    context: None,
+    context_mark: ZERO,
+    origin: yaml_origin_t::Writer,
+};
+
+fn misplaced(problem: &'static str) -> yaml_fault_t {
+    yaml_fault_t {
+        kind: yaml_error_type_t::YAML_EMITTER_ERROR,
+        problem,
+        origin: yaml_origin_t::Emitter,
+        ..FULL
+    }
+}
+
+fn dump_foo(alloc: Global, emitter: &mut yaml_emitter_t) -> Option<yaml_fault_t> {
+    dump(alloc, emitter, Holds::Foo)
+}
+
+const GIVEN: [Sign; 4] = [Sign::Stream, Sign::Scalar, Sign::Bare, Sign::EndStream];
+
+// Whether every event is answered by that fault.
+fn gives(alloc: Global, emitter: &mut yaml_emitter_t, fault: yaml_fault_t) -> bool {
+    for sign in &GIVEN {
+        if give_sign(alloc, emitter, *sign) != Some(fault) {
+            return false;
+        }
+    }
+    true
+}
+
+// Whether every call answers that fault, and the output stays.
+fn stays(alloc: Global, emitter: &mut yaml_emitter_t, fault: yaml_fault_t, text: &[u8]) -> bool {
+    let gives = gives(alloc, emitter, fault);
+    let dumps = dump_foo(alloc, emitter) == Some(fault);
+    let turns = turn(emitter) == Some(fault);
+    let flushes = flush(emitter) == Some(fault);
+    gives && dumps && turns && flushes && yaml_emitter_output(emitter) == text
+}
+
+/// Whether a dump passes the limit, of which the output is the front of the text.
+pub(crate) fn has_front(alloc: Global, emitter: &mut yaml_emitter_t, limit: usize) -> bool {
+    let front = TEXT.get(..limit).unwrap_or(&[]);
+    let fails = dump_foo(alloc, emitter) == Some(FULL);
+    fails && stays(alloc, emitter, FULL, front)
+}
+
+/// Whether a second dump passes the limit.
+pub(crate) fn has_whole(alloc: Global, emitter: &mut yaml_emitter_t) -> bool {
+    let first = dump_foo(alloc, emitter);
+    first.is_none() && has_front(alloc, emitter, 16)
+}
+
+fn dumps_nothing(alloc: Global, emitter: &mut yaml_emitter_t) -> bool {
+    let fails = dump_foo(alloc, emitter) == Some(FULL);
+    let shows = yaml_emitter_output(emitter) == b"---".as_slice();
+    fails && shows && yaml_emitter_opened(emitter)
+}
+
+/// Whether, in a stream that was opened by hand, a dump behind one that passed the limit answers the same and writes nothing.
+pub(crate) fn is_full(alloc: Global, emitter: &mut yaml_emitter_t) -> bool {
+    let opening = turn(emitter);
+    let first = dumps_nothing(alloc, emitter);
+    let second = dumps_nothing(alloc, emitter);
+    let stays = stays(alloc, emitter, FULL, b"---");
+    opening.is_none() && first && second && stays
+}
+
+fn dump_empty(alloc: Global, emitter: &mut yaml_emitter_t) -> Option<yaml_fault_t> {
+    dump(alloc, emitter, Holds::Nothing)
+}
+
+// A document without root closes the stream, and may come again.
+fn closes(alloc: Global, emitter: &mut yaml_emitter_t) -> bool {
+    let dumped = dump_foo(alloc, emitter);
+    let first = dump_empty(alloc, emitter);
+    let second = dump_empty(alloc, emitter);
+    dumped.is_none() && first.is_none() && second.is_none()
+}
+
+/// Whether what is dumped behind that is refused.
+pub(crate) fn is_closed(alloc: Global, emitter: &mut yaml_emitter_t) -> bool {
+    let refused = misplaced("expected nothing after STREAM-END");
+    let closes = closes(alloc, emitter);
+    let refuses = dump_foo(alloc, emitter) == Some(refused);
+    let stays = stays(alloc, emitter, refused, TEXT);
+    closes && refuses && stays
+}
+
+/// A refused list of events, its fault, and the text that the events before the refused one have so far.
+pub(crate) type Row<'a> = (&'a [Sign<'a>], &'static str, &'a [u8]);
+
+const REFUSED: [Row; 4] = [
+    (&[Sign::Scalar], "expected STREAM-START", b""),
+    (
+        &[Sign::Stream, Sign::Scalar],
+        "expected DOCUMENT-START or STREAM-END",
+        b"",
+    ),
+    (
+        &[Sign::Stream, Sign::Document, Sign::Anchored(b"a.b")],
+        "anchor value must contain alphanumerical characters only",
+        b"---\n",
+    ),
+    (
+        &[Sign::Stream, Sign::Document, Sign::Scalar, Sign::Scalar],
+        "expected DOCUMENT-END",
+        b"---\n\"a\"\n",
+    ),
+];
+
+/// Gives the events, the last of which is refused, and asks what stays: a front of the text. How much of it has been
+/// written by then is open.
+pub(crate) fn keeps(alloc: Global, emitter: &mut yaml_emitter_t, row: &Row) -> bool {
+    give_all(alloc, emitter, row.0);
+    let size = yaml_emitter_output(emitter).len();
+    let front = row.2.get(..size).unwrap_or(&[]);
+    let shows = yaml_emitter_output(emitter) == front;
+    shows && stays(alloc, emitter, misplaced(row.1), front)
+}
+
+// A dump past the limit; a second one; one in a stream that was opened by hand; one behind the end; and calls behind a refused
+// event.
+#[test]
+fn behind_a_fault(rt: HostRuntime) -> Result<(), Fail> {
+    for limit in &[0usize, 3, 10, 15] {
+        assert!(rt; is_right(rt.alloc(), *limit as u64, true, Asked::Front(*limit)));
+    }
+    assert!(rt; is_right(rt.alloc(), 16, true, Asked::Whole));
+    assert!(rt; is_right(rt.alloc(), 3, true, Asked::Full));
+    assert!(rt; is_right(rt.alloc(), 1000, true, Asked::Closed));
+    for row in &REFUSED {
+        assert!(rt; is_right(rt.alloc(), 1000, true, Asked::Refused(row)));
+    }
+    Ok(())
+}

@@ -1,0 +1,128 @@
+//! A tag for each of many directives.
+
+use super::calls::{give, give_sign};
+use super::event::Sign;
+use super::owner::{Asked, is_right};
+use std::alloc::{AllocError, Global};
+use std::test::Fail;
+use yaml_emit::{yaml_emitter_output, yaml_emitter_t};
+use yaml_parse::{
+    yaml_document_end_event_initialize, yaml_document_start_event_initialize, yaml_event_t,
+    yaml_sequence_end_event_initialize, yaml_sequence_start_event_initialize, yaml_text_fault_t,
+};
+use yaml_scan::{yaml_sequence_style_t, yaml_tag_directive_t};
+
+const COUNT: usize = 3000;
+
+// The directive of a number.
+fn numbered(alloc: Global, number: usize) -> Result<yaml_tag_directive_t, AllocError> {
+    let handle = format!(in alloc; "!h{number}!")?;
+    let prefix = format!(in alloc; "tag:x,{number}:")?;
+    Ok(yaml_tag_directive_t {
+        handle: handle.into_bytes(),
+        prefix: prefix.into_bytes(),
+    })
+}
+
+fn push_numbered(
+    alloc: Global,
+    directives: &mut Vec<yaml_tag_directive_t>,
+    number: usize,
+) -> Result<(), AllocError> {
+    let directive = numbered(alloc, number)?;
+    directives.push(directive)?;
+    Ok(())
+}
+
+fn push_directives(
+    alloc: Global,
+    directives: &mut Vec<yaml_tag_directive_t>,
+) -> Result<(), AllocError> {
+    for number in 0..COUNT {
+        push_numbered(alloc, directives, number)?;
+    }
+    Ok(())
+}
+
+// The start of a document with a directive for each number.
+fn start(alloc: Global) -> Result<yaml_event_t, yaml_text_fault_t> {
+    let mut directives = Vec::new(alloc);
+    let pushed = push_directives(alloc, &mut directives);
+    let start = yaml_document_start_event_initialize(alloc, None, directives.as_slice(), true);
+    match pushed {
+        Ok(()) => start,
+        Err(_) => Err(yaml_text_fault_t::Memory),
+    }
+}
+
+fn begin_sequence(alloc: Global, emitter: &mut yaml_emitter_t) -> bool {
+    let style = yaml_sequence_style_t::YAML_BLOCK_SEQUENCE_STYLE;
+    let start = yaml_sequence_start_event_initialize(alloc, None, None, true, style);
+    give(emitter, start).is_none()
+}
+
+fn begin(alloc: Global, emitter: &mut yaml_emitter_t) -> bool {
+    give_sign(alloc, emitter, Sign::Stream).is_none()
+        && give(emitter, start(alloc)).is_none()
+        && begin_sequence(alloc, emitter)
+}
+
+// A scalar with the tag of a number.
+fn give_numbered(
+    alloc: Global,
+    emitter: &mut yaml_emitter_t,
+    number: usize,
+) -> Result<bool, AllocError> {
+    let tag = format!(in alloc; "tag:x,{number}:t")?;
+    Ok(give_sign(alloc, emitter, Sign::Tagged(tag.as_bytes())).is_none())
+}
+
+fn give_scalars(alloc: Global, emitter: &mut yaml_emitter_t) -> bool {
+    for number in 0..COUNT {
+        if give_numbered(alloc, emitter, number) != Ok(true) {
+            return false;
+        }
+    }
+    true
+}
+
+fn end(alloc: Global, emitter: &mut yaml_emitter_t) -> bool {
+    give(emitter, Ok(yaml_sequence_end_event_initialize())).is_none()
+        && give(emitter, Ok(yaml_document_end_event_initialize(true))).is_none()
+        && give_sign(alloc, emitter, Sign::EndStream).is_none()
+}
+
+fn give_many(alloc: Global, emitter: &mut yaml_emitter_t) -> bool {
+    begin(alloc, emitter) && give_scalars(alloc, emitter) && end(alloc, emitter)
+}
+
+// Adds the line of a number.
+fn add_line(alloc: Global, lines: &mut String, number: usize) -> Result<(), AllocError> {
+    let line = format!(in alloc; "- !h{number}!t a\n")?;
+    lines.push_str(&line)
+}
+
+fn add_lines(alloc: Global, lines: &mut String) -> Result<(), AllocError> {
+    for number in 0..COUNT {
+        add_line(alloc, lines, number)?;
+    }
+    Ok(())
+}
+
+// Whether the text ends with a line for each number.
+fn has_lines(alloc: Global, text: &[u8]) -> bool {
+    let mut lines = String::new(alloc);
+    let added = add_lines(alloc, &mut lines);
+    added.is_ok() && text.ends_with(lines.as_bytes())
+}
+
+/// Whether the scalars are written, each with its own directive's handle.
+pub(crate) fn are_written(alloc: Global, emitter: &mut yaml_emitter_t) -> bool {
+    give_many(alloc, emitter) && has_lines(alloc, yaml_emitter_output(emitter))
+}
+
+#[test]
+fn many_tags_under_many_directives(rt: HostRuntime) -> Result<(), Fail> {
+    assert!(rt; is_right(rt.alloc(), 10_000_000, false, Asked::ManyTags));
+    Ok(())
+}

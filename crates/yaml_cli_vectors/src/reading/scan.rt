@@ -1,0 +1,76 @@
+//! The call `scan`.
+
+use crate::vector::{Reply, show_token};
+use serde_json::Value;
+use yaml_scan::{
+    yaml_encoding_t, yaml_fault_t, yaml_parser_scan, yaml_parser_t, yaml_token_t, yaml_token_type_t,
+};
+
+// Puts the token, as the lines write it. False for the empty one.
+fn put_unless_empty(reply: &mut Reply, token: &yaml_token_t) -> bool {
+    if token.type_() == yaml_token_type_t::YAML_NO_TOKEN {
+        false
+    } else {
+        show_token(reply, token);
+        true
+    }
+}
+
+// Puts the next token. False behind the last, and at a fault, which is kept.
+fn put_next(
+    reply: &mut Reply,
+    session: &mut yaml_parser_t<'_>,
+    end: &mut Option<yaml_fault_t>,
+) -> bool {
+    match yaml_parser_scan(session) {
+        Ok(token) => {
+            let is_some = put_unless_empty(reply, &token);
+            drop(token);
+            is_some
+        }
+        Err(fault) => {
+            *end = Some(fault);
+            false
+        }
+    }
+}
+
+// Puts the tokens that the session hands out, and answers the fault that ends them.
+fn put_tokens(reply: &mut Reply, session: &mut yaml_parser_t<'_>) -> Option<yaml_fault_t> {
+    let mut end = None;
+    for _ in 0..u64::MAX {
+        if !put_next(reply, session, &mut end) {
+            break;
+        }
+    }
+    end
+}
+
+// The list of tokens, and the fault that ends them.
+fn put_list(reply: &mut Reply, session: &mut yaml_parser_t<'_>) -> Option<yaml_fault_t> {
+    reply.name("answer");
+    reply.begin_list();
+    let end = put_tokens(reply, session);
+    reply.end_list();
+    end
+}
+
+fn tokens(reply: &mut Reply, line: &Value, session: &mut yaml_parser_t<'_>) {
+    reply.begin();
+    let end = put_list(reply, session);
+    reply.put_end(line, end);
+    reply.end();
+}
+
+fn scan(reply: &mut Reply, line: &Value, input: &[u8], from: yaml_encoding_t) {
+    let mut session = yaml_parser_t::new(reply.alloc(), input, from);
+    tokens(reply, line, &mut session);
+    drop(session);
+}
+
+/// The tokens of the line's input, and the fault behind them where there is one.
+pub fn answer(reply: &mut Reply, line: &Value) {
+    let from = reply.encoding(line, "from");
+    let input = reply.bytes(line, "input");
+    scan(reply, line, input.as_slice(), from);
+}

@@ -1,0 +1,171 @@
+//! Tokens, as the lines write them: kind, start mark, end mark, and what the token carries.
+
+use super::{Reply, style};
+use serde_json::Value;
+use yaml_scan::{yaml_token_body_t, yaml_token_t};
+
+fn word(body: &yaml_token_body_t) -> &'static str {
+    match body {
+        yaml_token_body_t::No => "NO",
+        yaml_token_body_t::StreamStart { .. } => "STREAM-START",
+        yaml_token_body_t::StreamEnd => "STREAM-END",
+        yaml_token_body_t::VersionDirective { .. } => "VERSION-DIRECTIVE",
+        yaml_token_body_t::TagDirective { .. } => "TAG-DIRECTIVE",
+        yaml_token_body_t::DocumentStart => "DOCUMENT-START",
+        yaml_token_body_t::DocumentEnd => "DOCUMENT-END",
+        yaml_token_body_t::BlockSequenceStart => "BLOCK-SEQUENCE-START",
+        yaml_token_body_t::BlockMappingStart => "BLOCK-MAPPING-START",
+        yaml_token_body_t::BlockEnd => "BLOCK-END",
+        yaml_token_body_t::FlowSequenceStart => "FLOW-SEQUENCE-START",
+        yaml_token_body_t::FlowSequenceEnd => "FLOW-SEQUENCE-END",
+        yaml_token_body_t::FlowMappingStart => "FLOW-MAPPING-START",
+        yaml_token_body_t::FlowMappingEnd => "FLOW-MAPPING-END",
+        yaml_token_body_t::BlockEntry => "BLOCK-ENTRY",
+        yaml_token_body_t::FlowEntry => "FLOW-ENTRY",
+        yaml_token_body_t::Key => "KEY",
+        yaml_token_body_t::Value => "VALUE",
+        yaml_token_body_t::Alias { .. } => "ALIAS",
+        yaml_token_body_t::Anchor { .. } => "ANCHOR",
+        yaml_token_body_t::Tag { .. } => "TAG",
+        yaml_token_body_t::Scalar { .. } => "SCALAR",
+    }
+}
+
+// A version's numbers.
+fn put_numbers(reply: &mut Reply, major: i32, minor: i32) {
+    reply.put_number(major);
+    reply.put_number(minor);
+}
+
+fn put_texts(reply: &mut Reply, first: &[u8], second: &[u8]) {
+    reply.put_bytes(first);
+    reply.put_bytes(second);
+}
+
+fn put_scalar(reply: &mut Reply, value: &[u8], style: &'static str) {
+    reply.put_bytes(value);
+    reply.put_word(style);
+}
+
+// What the token carries.
+fn put_carried(reply: &mut Reply, body: &yaml_token_body_t) {
+    match body {
+        yaml_token_body_t::StreamStart { encoding } => reply.put_encoding(*encoding),
+        yaml_token_body_t::VersionDirective { major, minor } => put_numbers(reply, *major, *minor),
+        yaml_token_body_t::TagDirective {
+            handle: first,
+            prefix: second,
+        }
+        | yaml_token_body_t::Tag {
+            handle: first,
+            suffix: second,
+        } => put_texts(reply, first.as_slice(), second.as_slice()),
+        yaml_token_body_t::Alias { value } | yaml_token_body_t::Anchor { value } => {
+            reply.put_bytes(value.as_slice())
+        }
+        yaml_token_body_t::Scalar { value, style } => {
+            put_scalar(reply, value.as_slice(), style::scalar_word(*style))
+        }
+        _ => {}
+    }
+}
+
+/// Puts the token as the lines write it.
+pub fn show_token(reply: &mut Reply, token: &yaml_token_t) {
+    reply.begin_list();
+    reply.put_word(word(&token.body));
+    reply.put_marks(token.start_mark, token.end_mark);
+    put_carried(reply, &token.body);
+    reply.end_list();
+}
+
+fn block_body(reply: &mut Reply, word: &str) -> yaml_token_body_t {
+    match word {
+        "BLOCK-SEQUENCE-START" => yaml_token_body_t::BlockSequenceStart,
+        "BLOCK-MAPPING-START" => yaml_token_body_t::BlockMappingStart,
+        "BLOCK-END" => yaml_token_body_t::BlockEnd,
+        "BLOCK-ENTRY" => yaml_token_body_t::BlockEntry,
+        _ => {
+            reply.miss("token");
+            yaml_token_body_t::No
+        }
+    }
+}
+
+fn flow_body(reply: &mut Reply, word: &str) -> yaml_token_body_t {
+    match word {
+        "FLOW-SEQUENCE-START" => yaml_token_body_t::FlowSequenceStart,
+        "FLOW-SEQUENCE-END" => yaml_token_body_t::FlowSequenceEnd,
+        "FLOW-MAPPING-START" => yaml_token_body_t::FlowMappingStart,
+        "FLOW-MAPPING-END" => yaml_token_body_t::FlowMappingEnd,
+        "FLOW-ENTRY" => yaml_token_body_t::FlowEntry,
+        _ => block_body(reply, word),
+    }
+}
+
+// The body of a token that carries nothing.
+fn plain_body(reply: &mut Reply, word: &str) -> yaml_token_body_t {
+    match word {
+        "STREAM-END" => yaml_token_body_t::StreamEnd,
+        "DOCUMENT-START" => yaml_token_body_t::DocumentStart,
+        "DOCUMENT-END" => yaml_token_body_t::DocumentEnd,
+        "KEY" => yaml_token_body_t::Key,
+        "VALUE" => yaml_token_body_t::Value,
+        _ => flow_body(reply, word),
+    }
+}
+
+fn version(reply: &mut Reply, token: &Value) -> yaml_token_body_t {
+    let major = reply.number(token, 3);
+    let minor = reply.number(token, 4);
+    yaml_token_body_t::VersionDirective { major, minor }
+}
+
+fn tag_directive(reply: &mut Reply, token: &Value) -> yaml_token_body_t {
+    let handle = reply.bytes(token, 3);
+    let prefix = reply.bytes(token, 4);
+    yaml_token_body_t::TagDirective { handle, prefix }
+}
+
+fn tag(reply: &mut Reply, token: &Value) -> yaml_token_body_t {
+    let handle = reply.bytes(token, 3);
+    let suffix = reply.bytes(token, 4);
+    yaml_token_body_t::Tag { handle, suffix }
+}
+
+fn scalar(reply: &mut Reply, token: &Value) -> yaml_token_body_t {
+    let value = reply.bytes(token, 3);
+    let style = style::scalar(reply, token, 4);
+    yaml_token_body_t::Scalar { value, style }
+}
+
+fn body(reply: &mut Reply, word: &str, token: &Value) -> yaml_token_body_t {
+    match word {
+        "STREAM-START" => yaml_token_body_t::StreamStart {
+            encoding: reply.encoding(token, 3),
+        },
+        "VERSION-DIRECTIVE" => version(reply, token),
+        "TAG-DIRECTIVE" => tag_directive(reply, token),
+        "ALIAS" => yaml_token_body_t::Alias {
+            value: reply.bytes(token, 3),
+        },
+        "ANCHOR" => yaml_token_body_t::Anchor {
+            value: reply.bytes(token, 3),
+        },
+        "TAG" => tag(reply, token),
+        "SCALAR" => scalar(reply, token),
+        _ => plain_body(reply, word),
+    }
+}
+
+/// The token that the lines write so.
+pub fn read_token(reply: &mut Reply, token: &Value) -> yaml_token_t {
+    let word = reply.text(token, 0);
+    let start_mark = reply.mark(token, 1);
+    let end_mark = reply.mark(token, 2);
+    yaml_token_t {
+        body: body(reply, word, token),
+        start_mark,
+        end_mark,
+    }
+}

@@ -3,22 +3,22 @@ use Rattle.std.proofs.Common.{◌≡◌, ℕ, suc, ◌+◌, ◌<◌, ◌==◌, �
 use Rattle.std.specs.Prelude.{if◌then◌else◌}
 use Rattle.std.specs.List.{list_all}
 use Rattle.std.proofs.lemmas.Bool.{cases_Bool}
-use Rattle.yaml_scan_laws_simple.specs.scan_history.scan_model.Marks.{byte, column_at, is_blank_or_end}
-use Rattle.yaml_scan_laws_simple.specs.scan_history.scan_model.Breaks.{is_document_indicator}
-use Rattle.yaml_scan_laws_simple.specs.scan_history.scan_model.Tokens.{Token}
-use Rattle.yaml_scan_laws_simple.specs.scan_history.scan_words.Between.{Gap}
-use Rattle.yaml_scan_laws_simple.specs.scan_history.scan_words.Written.{are_gap, begins_lexeme}
-use Rattle.yaml_scan_laws_simple.specs.scan_history.scan_words.Laws.{GapReads}
-use Rattle.yaml_scan_laws_simple.specs.scan_history.declared.kind.Kind.{Kind}
-use Rattle.yaml_scan_laws_simple.specs.scan_history.declared.kind.Kind.TheVariants as kinds
-use Rattle.yaml_scan_laws_simple.specs.scan_history.Kinds.{is_end}
-use Rattle.yaml_scan_laws_simple.specs.scan_history.History.{reached, depth, key_allowed}
-use Rattle.yaml_scan_laws_simple.specs.scan_history.Words.{WordText, kind_at, word_at}
-use Rattle.yaml_scan_laws_simple.specs.scan_history.Remaining.{SpelledText}
-use Rattle.yaml_scan_laws_simple.specs.scan_laws_keys.Texts.{Word, lexemes, Stand, word_kinds, token_of, first_token, ReachEnd}
-use Rattle.yaml_scan_laws_simple.specs.Brackets.{Last, last_after, lasts, takes_key, fits_keyed, is_keyed}
-use Rattle.yaml_scan_laws_simple.specs.Laws.{AreNear, word_tokens, keyed_tokens}
-use Rattle.yaml_scan_laws_simple.proofs.Words.{words_keyed}
+use Rattle.yaml_scan_laws_keys.specs.scan_history.scan_model.Marks.{byte, column_at, is_blank_or_end}
+use Rattle.yaml_scan_laws_keys.specs.scan_history.scan_model.Breaks.{is_document_indicator}
+use Rattle.yaml_scan_laws_keys.specs.scan_history.scan_model.Tokens.{Token}
+use Rattle.yaml_scan_laws_keys.specs.scan_history.scan_words.Between.{Gap}
+use Rattle.yaml_scan_laws_keys.specs.scan_history.scan_words.Written.{are_gap, begins_lexeme}
+use Rattle.yaml_scan_laws_keys.specs.scan_history.scan_words.Laws.{GapReads}
+use Rattle.yaml_scan_laws_keys.specs.scan_history.declared.kind.Kind.{Kind}
+use Rattle.yaml_scan_laws_keys.specs.scan_history.declared.kind.Kind.TheVariants as kinds
+use Rattle.yaml_scan_laws_keys.specs.scan_history.Kinds.{is_end}
+use Rattle.yaml_scan_laws_keys.specs.scan_history.History.{reached, depth, key_allowed}
+use Rattle.yaml_scan_laws_keys.specs.scan_history.Words.{WordText, kind_at, word_at}
+use Rattle.yaml_scan_laws_keys.specs.scan_history.Remaining.{SpelledText}
+use Rattle.yaml_scan_laws_keys.specs.Texts.{Word, lexemes, Stand, word_kinds, token_of, first_token, ReachEnd}
+use Rattle.yaml_scan_laws_keys.specs.Brackets.{Last, last_after, lasts, takes_key, fits_keyed, is_keyed}
+use Rattle.yaml_scan_laws_keys.specs.KeyedLaws.{AreNear, word_tokens, keyed_tokens}
+use Rattle.yaml_scan_laws_keys.proofs.Words.{words_keyed}
 use Rattle.yaml_emit_laws_json.proofs.scan_laws_plain.scan_history.scan_words.GapsRead.{gap_is_read}
 use Rattle.yaml_emit_laws_json.specs.emit_layout.scan.declared.yaml_encoding_t.{yaml_encoding_t}
 use Rattle.yaml_emit_laws_json.specs.emit_layout.scan.Tokens as tokens

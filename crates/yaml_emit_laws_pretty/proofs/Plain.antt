@@ -4,16 +4,16 @@ use Rattle.std.specs.Prelude.{if◌then◌else◌}
 use Rattle.std.specs.List.{list_all}
 use Rattle.std.proofs.lemmas.Bool.{cases_Bool}
 use Rattle.std.proofs.lemmas.Bool.Decides.{nat_tests}
-use Rattle.yaml_scan_laws_simple.specs.scan_history.scan_model.Marks.{byte, mark_at, is_blank_or_end}
-use Rattle.yaml_scan_laws_simple.specs.scan_history.scan_model.Breaks.{is_document_indicator}
-use Rattle.yaml_scan_laws_simple.specs.scan_history.scan_model.Wrong.{Wrong}
-use Rattle.yaml_scan_laws_simple.specs.scan_history.scan_words.Written.{are_gap, has_break}
-use Rattle.yaml_scan_laws_simple.specs.scan_history.scan_words.Laws.{GapReads}
-use Rattle.yaml_scan_laws_simple.specs.scan_history.scan_scalars.Plain.{is_bracket, PlainText, plain_at}
-use Rattle.yaml_scan_laws_simple.specs.scan_history.declared.kind.Kind.TheVariants as kinds
-use Rattle.yaml_scan_laws_simple.specs.scan_history.Words.{WordText, plainly, word_at}
-use Rattle.yaml_scan_laws_simple.specs.scan_laws_keys.Texts.{Word}
-use Rattle.yaml_scan_laws_simple.specs.Brackets.{Last, Fresh, Held, Asked, Answered, Other, plain_after, changed}
+use Rattle.yaml_scan_laws_keys.specs.scan_history.scan_model.Marks.{byte, mark_at, is_blank_or_end}
+use Rattle.yaml_scan_laws_keys.specs.scan_history.scan_model.Breaks.{is_document_indicator}
+use Rattle.yaml_scan_laws_keys.specs.scan_history.scan_model.Wrong.{Wrong}
+use Rattle.yaml_scan_laws_keys.specs.scan_history.scan_words.Written.{are_gap, has_break}
+use Rattle.yaml_scan_laws_keys.specs.scan_history.scan_words.Laws.{GapReads}
+use Rattle.yaml_scan_laws_keys.specs.scan_history.scan_scalars.Plain.{is_bracket, PlainText, plain_at}
+use Rattle.yaml_scan_laws_keys.specs.scan_history.declared.kind.Kind.TheVariants as kinds
+use Rattle.yaml_scan_laws_keys.specs.scan_history.Words.{WordText, plainly, word_at}
+use Rattle.yaml_scan_laws_keys.specs.Texts.{Word}
+use Rattle.yaml_scan_laws_keys.specs.Brackets.{Last, Fresh, Held, Asked, Answered, Other, plain_after, changed}
 use Rattle.yaml_emit_laws_json.specs.scan_laws_plain.Values.{is_letter_or_digit, is_value_byte, begins_value, is_plain_value}
 use Rattle.yaml_emit_laws_json.specs.scan_laws_plain.Laws.{ends_plain}
 use Rattle.yaml_emit_laws_json.proofs.scan_laws_plain.PlainRead.{value_begins, value_ends, value_read}

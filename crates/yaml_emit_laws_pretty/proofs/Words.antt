@@ -5,20 +5,20 @@ use Rattle.std.specs.List.{list_all}
 use Rattle.std.specs.Str.{chars}
 use Rattle.std.proofs.lemmas.Bool.{cases_Bool}
 use Rattle.std.proofs.lemmas.Bool.Decides.{nat_tests}
-use Rattle.yaml_scan_laws_simple.specs.scan_history.scan_model.Marks.{byte, mark_at, is_blank_or_end}
-use Rattle.yaml_scan_laws_simple.specs.scan_history.scan_model.Breaks.{is_document_indicator}
-use Rattle.yaml_scan_laws_simple.specs.scan_history.scan_model.Wrong.{Wrong}
-use Rattle.yaml_scan_laws_simple.specs.scan_history.scan_words.Written.{HasAt, are_gap, has_break, begins_lexeme}
-use Rattle.yaml_scan_laws_simple.specs.scan_history.scan_words.Laws.{GapReads}
-use Rattle.yaml_scan_laws_simple.specs.scan_history.scan_scalars.Quoted.{double_quoted_at}
-use Rattle.yaml_scan_laws_simple.specs.scan_history.scan_scalars.Plain.{is_bracket, PlainText, plain_at}
-use Rattle.yaml_scan_laws_simple.specs.scan_history.declared.kind.Kind.{Kind}
-use Rattle.yaml_scan_laws_simple.specs.scan_history.declared.kind.Kind.TheVariants as kinds
-use Rattle.yaml_scan_laws_simple.specs.scan_history.Kinds.{is_end}
-use Rattle.yaml_scan_laws_simple.specs.scan_history.History.{is_fresh}
-use Rattle.yaml_scan_laws_simple.specs.scan_history.Words.{WordText, valued, plainly, indicator_of, kind_at, word_at}
-use Rattle.yaml_scan_laws_simple.specs.scan_laws_keys.Texts.{Word, word_kinds}
-use Rattle.yaml_scan_laws_simple.specs.Brackets.{Last, Fresh, Held, Asked, Answered, Other, node_after, quoted_after, plain_after, changed, last_after, lasts, is_held, takes_key, may_have_value, fits_keyed}
+use Rattle.yaml_scan_laws_keys.specs.scan_history.scan_model.Marks.{byte, mark_at, is_blank_or_end}
+use Rattle.yaml_scan_laws_keys.specs.scan_history.scan_model.Breaks.{is_document_indicator}
+use Rattle.yaml_scan_laws_keys.specs.scan_history.scan_model.Wrong.{Wrong}
+use Rattle.yaml_scan_laws_keys.specs.scan_history.scan_words.Written.{HasAt, are_gap, has_break, begins_lexeme}
+use Rattle.yaml_scan_laws_keys.specs.scan_history.scan_words.Laws.{GapReads}
+use Rattle.yaml_scan_laws_keys.specs.scan_history.scan_scalars.Quoted.{double_quoted_at}
+use Rattle.yaml_scan_laws_keys.specs.scan_history.scan_scalars.Plain.{is_bracket, PlainText, plain_at}
+use Rattle.yaml_scan_laws_keys.specs.scan_history.declared.kind.Kind.{Kind}
+use Rattle.yaml_scan_laws_keys.specs.scan_history.declared.kind.Kind.TheVariants as kinds
+use Rattle.yaml_scan_laws_keys.specs.scan_history.Kinds.{is_end}
+use Rattle.yaml_scan_laws_keys.specs.scan_history.History.{is_fresh}
+use Rattle.yaml_scan_laws_keys.specs.scan_history.Words.{WordText, valued, plainly, indicator_of, kind_at, word_at}
+use Rattle.yaml_scan_laws_keys.specs.Texts.{Word, word_kinds}
+use Rattle.yaml_scan_laws_keys.specs.Brackets.{Last, Fresh, Held, Asked, Answered, Other, node_after, quoted_after, plain_after, changed, last_after, lasts, is_held, takes_key, may_have_value, fits_keyed}
 use Rattle.yaml_emit_laws_json.specs.scan_laws_plain.Values.{is_value_byte, begins_value, is_plain_value}
 use Rattle.yaml_emit_laws_json.specs.scan_laws_plain.Laws.{ends_plain, stops_plain}
 use Rattle.yaml_emit_laws_json.proofs.scan_laws_plain.PlainRead.{value_begins, value_ends, value_read}

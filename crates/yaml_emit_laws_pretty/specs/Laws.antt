@@ -8,7 +8,7 @@ use Rattle.yaml_emit_laws_json.specs.emit_layout.declared.level.Spot.{Spot}
 use Rattle.yaml_emit_laws_json.specs.emit_layout.Content.{Node, Document}
 use Rattle.yaml_emit_laws_json.specs.emit_layout.Nodes.{context_of, node_layout}
 use Rattle.yaml_emit_laws_json.specs.Json.{IsJsonNode, IsJsonDocument}
-use Rattle.yaml_scan_laws_simple.specs.Brackets.{Last}
+use Rattle.yaml_scan_laws_keys.specs.Brackets.{Last}
 use Rattle.yaml_emit_laws_json.specs.emit_layout.scan.declared.yaml_encoding_t.{yaml_encoding_t}
 use Rattle.yaml_emit_laws_json.specs.emit_layout.scan.Tokens.{stream_start}
 use Rattle.yaml_emit_laws_text.specs.Writable.{IsWritable}

@@ -1,7 +1,7 @@
 //! Each function's contract is a law.
 
-ghost use Rattle.yaml_scan_laws_simple.specs.Keyed.{EntriesAreKeyed};
-ghost use Rattle.yaml_scan_laws_simple.specs.Laws.{KeyedWordsAreRead};
+ghost use Rattle.yaml_scan_laws_keys.specs.Keyed.{EntriesAreKeyed};
+ghost use Rattle.yaml_scan_laws_keys.specs.KeyedLaws.{KeyedWordsAreRead};
 
 /// Where each `:` meets no candidate or stands directly behind one, lexemes stand for themselves, and
 /// those candidates are keys.

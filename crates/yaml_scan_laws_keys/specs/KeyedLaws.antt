@@ -6,7 +6,7 @@ use Rattle.yaml_scan_laws_keys.specs.scan_history.scan_model.Tokens.{Token}
 use Rattle.yaml_scan_laws_keys.specs.scan_history.History.{is_fresh, placed}
 use Rattle.yaml_scan_laws_keys.specs.scan_history.Remaining.{SpelledText, offline}
 use Rattle.yaml_scan_laws_keys.specs.Texts.{Word, Stand, word_kinds, token_of, first_token, ReachEnd}
-use Rattle.yaml_scan_laws_simple.specs.Brackets.{lasts, takes_key, is_keyed}
+use Rattle.yaml_scan_laws_keys.specs.Brackets.{lasts, takes_key, is_keyed}
 
 -- a `:` that takes its key stands on the key's line, at most 1,024 bytes behind the key's start
 abbrev pub IsNear : List ℕ → Word → List Word → Type 0

@@ -10,11 +10,11 @@ use Rattle.yaml_scan_laws_keys.specs.scan_history.History.{Candidate, candidate,
 use Rattle.yaml_scan_laws_keys.specs.KeyFree.{is_inside, asked_after, asked, keeps_level, is_level_free, kinds_of}
 use Rattle.yaml_scan_laws_keys.proofs.MadeLemmas.{is_plain}
 use Rattle.yaml_scan_laws_keys.proofs.FreeLemmas.{candidate_lower, candidate_own, depth_after_is}
-use Rattle.yaml_scan_laws_simple.specs.Keyed.{IsKeyedBy, Keyed}
-use Rattle.yaml_scan_laws_simple.specs.Brackets as brackets
-use Rattle.yaml_scan_laws_simple.specs.Brackets.{Last, Fresh, Held, Answered, Other, node_after, quoted_after, plain_after, last_in, around, changed, last_after, lasts, is_held, is_asked, takes_key, may_have_value, is_open, fits_keyed, is_keyed, key_marks}
-use Rattle.yaml_scan_laws_simple.proofs.Marking.{left_none}
-use Rattle.yaml_scan_laws_simple.proofs.Held.{SavedBehind, AllSaved, keyed_head, keyed_rest, last_depth, head_depth, head_saved, tail_saved, held_so}
+use Rattle.yaml_scan_laws_keys.specs.Keyed.{IsKeyedBy, Keyed}
+use Rattle.yaml_scan_laws_keys.specs.Brackets as brackets
+use Rattle.yaml_scan_laws_keys.specs.Brackets.{Last, Fresh, Held, Answered, Other, node_after, quoted_after, plain_after, last_in, around, changed, last_after, lasts, is_held, is_asked, takes_key, may_have_value, is_open, fits_keyed, is_keyed, key_marks}
+use Rattle.yaml_scan_laws_keys.proofs.Marking.{left_none}
+use Rattle.yaml_scan_laws_keys.proofs.Held.{SavedBehind, AllSaved, keyed_head, keyed_rest, last_depth, head_depth, head_saved, tail_saved, held_so}
 
 -- a `?` came, and behind it only nodes, of which none is a plain scalar
 abbrev is_asking : Last → Bool

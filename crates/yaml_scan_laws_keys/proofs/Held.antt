@@ -9,7 +9,7 @@ use Rattle.yaml_scan_laws_keys.specs.scan_history.History.{depth, found_by, has,
 use Rattle.yaml_scan_laws_keys.specs.KeyFree.{kinds_of}
 use Rattle.yaml_scan_laws_keys.proofs.MadeLemmas.{is_plain}
 use Rattle.yaml_scan_laws_keys.proofs.FreeLemmas.{and_left, and_right}
-use Rattle.yaml_scan_laws_simple.specs.Brackets.{Last, Fresh, Held, Asked, Answered, Other, node_after, quoted_after, plain_after, last_in, around, changed, last_after, lasts, is_held, is_open, fits_keyed, is_keyed}
+use Rattle.yaml_scan_laws_keys.specs.Brackets.{Last, Fresh, Held, Asked, Answered, Other, node_after, quoted_after, plain_after, last_in, around, changed, last_after, lasts, is_held, is_open, fits_keyed, is_keyed}
 
 -- a lexeme by those before it
 pub record SavedBehind (h : List Lexeme) (l : Lexeme) : Type 0 where

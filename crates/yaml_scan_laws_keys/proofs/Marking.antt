@@ -10,7 +10,7 @@ use Rattle.yaml_scan_laws_keys.specs.scan_history.declared.lexeme.Opens.{Opens}
 use Rattle.yaml_scan_laws_keys.specs.scan_history.declared.lexeme.Opens.TheVariants as opening
 use Rattle.yaml_scan_laws_keys.specs.scan_history.Kinds.{is_value, is_start}
 use Rattle.yaml_scan_laws_keys.specs.scan_history.History.{Candidate, candidate, fresh, found_by, has, levels, inside, left_by, entry_of, start_of, level_of, as_key, mark_key, marked, keyed as keyed_by, entries}
-use Rattle.yaml_scan_laws_simple.specs.Keyed.{Direct, IsKeyedBy, Keyed, bare, marked_entries, EntriesAreKeyed}
+use Rattle.yaml_scan_laws_keys.specs.Keyed.{Direct, IsKeyedBy, Keyed, bare, marked_entries, EntriesAreKeyed}
 
 -- the lexeme directly before is the candidate
 direct_found : (l k : Lexeme) (h : List Lexeme) → Direct l k → found_by l (k ∷ h) ≡ Some (record { number = length h; lexeme = k })

@@ -22,12 +22,12 @@ use Rattle.yaml_scan_laws_keys.specs.Texts.{Word, lexemes, StandsBehind, Stand, 
 use Rattle.yaml_scan_laws_keys.proofs.MadeLemmas.{whole_word}
 use Rattle.yaml_scan_laws_keys.proofs.StepLemmas.{whole_of}
 use Rattle.yaml_scan_laws_keys.proofs.TextLemmas.{token_is, words_lexemes}
-use Rattle.yaml_scan_laws_simple.specs.Keyed.{bare, marked_entries}
-use Rattle.yaml_scan_laws_simple.specs.Brackets.{Last, last_in, last_after, lasts, is_held, takes_key, fits_keyed, is_keyed, key_marks}
-use Rattle.yaml_scan_laws_simple.specs.Laws.{IsNear, AreNear, word_tokens, keyed_tokens, KeyedWordsAreRead}
-use Rattle.yaml_scan_laws_simple.proofs.Marking.{keyed}
-use Rattle.yaml_scan_laws_simple.proofs.Held.{SavedBehind, AllSaved, held}
-use Rattle.yaml_scan_laws_simple.proofs.Asked.{IsNearBehind, AllNear, keyed_level_free, keyed_all}
+use Rattle.yaml_scan_laws_keys.specs.Keyed.{bare, marked_entries}
+use Rattle.yaml_scan_laws_keys.specs.Brackets.{Last, last_in, last_after, lasts, is_held, takes_key, fits_keyed, is_keyed, key_marks}
+use Rattle.yaml_scan_laws_keys.specs.KeyedLaws.{IsNear, AreNear, word_tokens, keyed_tokens, KeyedWordsAreRead}
+use Rattle.yaml_scan_laws_keys.proofs.Marking.{keyed}
+use Rattle.yaml_scan_laws_keys.proofs.Held.{SavedBehind, AllSaved, held}
+use Rattle.yaml_scan_laws_keys.proofs.Asked.{IsNearBehind, AllNear, keyed_level_free, keyed_all}
 
 -- ---- the stream's start changes nothing
 

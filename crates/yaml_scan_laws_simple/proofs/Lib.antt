@@ -1,4 +1,0 @@
-mod Marking
-pub mod Held
-mod Asked
-pub mod Words

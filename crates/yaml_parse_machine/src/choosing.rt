@@ -2,7 +2,7 @@
 //!
 //! A table of its own, beside that of `taking.rt`: it looks at a state and a token that are still whole, since a token that isn't
 //! taken is the next state's or the fault's. A step takes where this table says so and nowhere else (the premise of `taking` in
-//! `yaml_parse/src/step.rt`). A `Take` that the other table has no rule for, or another's, is refused by
+//! `yaml_parse_step/src/step.rt`). A `Take` that the other table has no rule for, or another's, is refused by
 //! `accepted_lists_begin_with_trees`, and a missing one by `sentences_are_accepted`, both of `yaml_parse_laws_sound`.
 
 ghost use Rattle.std.specs.Prelude.{◌≡◌};

@@ -3,15 +3,18 @@
 ghost use Rattle.std.specs.Prelude.{◌≡◌, ◌++◌, None, codes, map, option_map, IfOk, IfErr};
 ghost use Rattle.std.specs.Str.{bytes_eq};
 ghost use Rattle.yaml_parse_model.specs.Events.{directive_of, text_of, body_of, event_of};
+ghost use Rattle.yaml_parse_model.specs.Events as told;
 ghost use Rattle.yaml_parse_grammar.specs.Items as item;
 ghost use Rattle.yaml_parse_grammar.specs.Resolve.{directive_for, default_prefix, or_default, resolved, node_event, settle as settle_item, settle_body as settle_item_body, scalar_event, is_plain as is_plain_style, is_known_version, with_version, with_tag, behind_event};
-ghost use Rattle.yaml_parse_machine.specs.Views.{plain_of, item_of, item_body_of, shape_of, tag_option_of};
+ghost use Rattle.yaml_parse_machine.specs.Views.{plain_of, item_of, item_body_of, node_of, shape_of, tag_option_of};
 ghost use Rattle.yaml_parse_grammar.specs.Resolve.{Directives as DirectivesSpec};
 ghost use Rattle.yaml_parse_machine.specs.declared.resolving.Refusal.TheVariants.{Fault};
 ghost use Rattle.yaml_parse_machine.specs.Settles.{directives_of, Settles, SettlesBody, SettlesNode, Resolves, Notes, IsMemory};
 
 use crate::handles::TagDirectives;
 use crate::item::{Properties, RawEvent, RawEventBody, Resolved, Shape, Tag};
+use crate::slots::{put, start_mapping, start_sequence};
+use crate::taking::moved;
 use std::alloc::{AllocError, AllocFailed, Global};
 use std::mem;
 use yaml_parse_grammar::{ParseFault, ParseProblem};
@@ -88,6 +91,17 @@ fn joined(alloc: Global, prefix: &[u8], suffix: &[u8]) -> Result<Vec<u8>, AllocE
     Ok(full)
 }
 
+// What a handle stands for.
+fn prefix_for<'a>(tags: &'a TagDirectives, handle: &[u8]) -> Option<&'a [u8]>
+    ensures { option_map (λ t. t.now) result ≡ or_default (directive_for handle.now tags.now)
+        handle.now }
+{
+    match tags.prefix_of(handle) {
+        Some(prefix) => Some(prefix),
+        None => find_default(handle),
+    }
+}
+
 // The tag in full, of a node that begins there. What its own texts are afterwards isn't told.
 fn resolve(
     alloc: Global,
@@ -101,14 +115,9 @@ fn resolve(
     if tag.handle.is_empty() {
         return Ok(mem::replace(&mut tag.suffix, Vec::new(alloc)));
     }
-    let handle = tag.handle.as_slice();
-    let suffix = tag.suffix.as_slice();
-    match tags.prefix_of(handle) {
-        Some(prefix) => Ok(joined(alloc, prefix, suffix)?),
-        None => match find_default(handle) {
-            Some(prefix) => Ok(joined(alloc, prefix, suffix)?),
-            None => Err(fault_at(ParseProblem::UndefinedHandle, tag.mark, from)),
-        },
+    match prefix_for(tags, tag.handle.as_slice()) {
+        Some(prefix) => Ok(joined(alloc, prefix, tag.suffix.as_slice())?),
+        None => Err(fault_at(ParseProblem::UndefinedHandle, tag.mark, from)),
     }
 }
 
@@ -139,7 +148,7 @@ fn new_bare(
     ensures { body_of event.new ≡ node_event None None (item.scalar value.old.items style) }
 {
     let is_plain = is_plain(style);
-    *event = yaml_event_body_t::Scalar {
+    let scalar = yaml_event_body_t::Scalar {
         anchor: None,
         tag: None,
         value: mem::replace(value, Vec::new(alloc)),
@@ -147,6 +156,7 @@ fn new_bare(
         quoted_implicit: !is_plain,
         style,
     };
+    put(event, scalar);
 }
 
 // A scalar without properties. Where the slot holds such a one already, it is changed in place: to put a new one there, the
@@ -183,7 +193,7 @@ pub(crate) fn bare_scalar(
 fn bare_empty(alloc: Global, event: &mut yaml_event_body_t)
     ensures { body_of event.new ≡ node_event None None item.empty }
 {
-    *event = yaml_event_body_t::Scalar {
+    let scalar = yaml_event_body_t::Scalar {
         anchor: None,
         tag: None,
         value: Vec::new(alloc),
@@ -191,6 +201,7 @@ fn bare_empty(alloc: Global, event: &mut yaml_event_body_t)
         quoted_implicit: false,
         style: yaml_scalar_style_t::YAML_PLAIN_SCALAR_STYLE,
     };
+    put(event, scalar);
 }
 
 // A node without properties.
@@ -200,22 +211,8 @@ fn bare(alloc: Global, shape: &mut Shape, event: &mut yaml_event_body_t)
     match shape {
         Shape::Empty => bare_empty(alloc, event),
         Shape::Scalar { value, style } => bare_scalar(alloc, value, *style, event),
-        Shape::Sequence(style) => {
-            *event = yaml_event_body_t::SequenceStart {
-                anchor: None,
-                tag: None,
-                implicit: true,
-                style: *style,
-            };
-        }
-        Shape::Mapping(style) => {
-            *event = yaml_event_body_t::MappingStart {
-                anchor: None,
-                tag: None,
-                implicit: true,
-                style: *style,
-            };
-        }
+        Shape::Sequence(style) => start_sequence(event, *style),
+        Shape::Mapping(style) => start_mapping(event, *style),
     }
 }
 
@@ -355,21 +352,21 @@ fn note_version(
     }
 }
 
-// A `%TAG` directive.
+// A `%TAG` directive, whose texts are moved.
 fn note_tag(
     alloc: Global,
     directives: &mut Directives,
-    handle: Vec<u8>,
-    prefix: Vec<u8>,
+    handle: &mut Vec<u8>,
+    prefix: &mut Vec<u8>,
     at: yaml_mark_t,
 ) -> Result<(), Refusal>
-    ensures { Notes (with_tag (directive_for handle.items (directives_of directives.old).tags)
-        (directives_of directives.old) handle.items prefix.items at) result
+    ensures { Notes (with_tag (directive_for handle.old.items (directives_of directives.old).tags)
+        (directives_of directives.old) handle.old.items prefix.old.items at) result
         (directives_of directives.new) }
 {
     match directives.tags.prefix_of(handle.as_slice()) {
         Some(_) => Err(fault_at(ParseProblem::DuplicateHandle, at, at)),
-        None => directives.tags.push(alloc, handle, prefix),
+        None => directives.tags.push(alloc, moved(handle), moved(prefix)),
     }
 }
 
@@ -406,6 +403,42 @@ fn plain_event(event: &mut Resolved, alloc: Global) -> yaml_event_body_t
     }
 }
 
+// An event that has nothing to resolve.
+fn settle_event(
+    alloc: Global,
+    directives: &mut Directives,
+    plain: &mut Resolved,
+    event: &mut yaml_event_body_t,
+)
+    ensures body { body_of event.new ≡ plain_of plain.old }
+    ensures directives { directives_of directives.new ≡ behind_event (plain_of plain.old)
+        (directives_of directives.old) }
+{
+    end_directives(directives, plain);
+    put(event, plain_event(plain, alloc));
+}
+
+// A document starts, with the directives before it.
+fn settle_document(
+    alloc: Global,
+    directives: &Directives,
+    implicit: bool,
+    event: &mut yaml_event_body_t,
+) -> Result<(), Refusal>
+    ensures ok { IfOk result (λ u. body_of event.new ≡ told.document_start
+        (directives_of directives.now).version (directives_of directives.now).tags implicit) }
+    ensures err { IfErr result IsMemory }
+{
+    let tag_directives = copy_directives(alloc, directives.tags.as_slice())?;
+    let start = yaml_event_body_t::DocumentStart {
+        version_directive: directives.version,
+        tag_directives,
+        implicit,
+    };
+    put(event, start);
+    Ok(())
+}
+
 // The event of a node that has properties, and begins there. The anchor is moved.
 fn with_properties(
     alloc: Global,
@@ -418,14 +451,43 @@ fn with_properties(
         → SettlesNode (settle_item_body (item.node (text_of properties.old.anchor)
         (tag_option_of properties.old.tag) (shape_of shape.old)) from ds) result ds }
 {
-    let full = match &mut properties.tag {
-        None => None,
-        Some(tag) => Some(resolve(alloc, tags, tag, from)?),
-    };
-    Ok(node(alloc, properties.anchor.take(), full, shape))
+    match &mut properties.tag {
+        None => Ok(node(alloc, properties.anchor.take(), None, shape)),
+        Some(tag) => {
+            let full = resolve(alloc, tags, tag, from)?;
+            Ok(node(alloc, properties.anchor.take(), Some(full), shape))
+        }
+    }
 }
 
-// The event of an item, whose place is told besides. It is long because it has an arm for each kind of item.
+// The event of a node, which begins there. Its properties stay where they are, with what isn't moved of them.
+fn settle_node(
+    alloc: Global,
+    tags: &TagDirectives,
+    properties: &mut Option<Box<Properties>>,
+    shape: &mut Shape,
+    from: yaml_mark_t,
+    event: &mut yaml_event_body_t,
+) -> Result<bool, Refusal>
+    ensures { (ds : DirectivesSpec) → ds.tags ≡ tags.now
+        → SettlesBody (settle_item_body (node_of properties.old (shape_of shape.old)) from ds)
+        result event.new ds }
+{
+    match properties {
+        None => bare(alloc, shape, event),
+        Some(there) => put(event, with_properties(alloc, tags, there, shape, from)?),
+    }
+    Ok(true)
+}
+
+// A box that is done with, if there is one, may be used again.
+fn spare_box(properties: &mut Option<Box<Properties>>, spare: &mut Option<Box<Properties>>) {
+    if properties.is_some() {
+        *spare = properties.take();
+    }
+}
+
+// The event of an item, whose place is told besides.
 fn settle_body(
     alloc: Global,
     directives: &mut Directives,
@@ -439,8 +501,7 @@ fn settle_body(
 {
     match *body {
         RawEventBody::Event(ref mut plain) => {
-            end_directives(directives, plain);
-            *event = plain_event(plain, alloc);
+            settle_event(alloc, directives, plain, event);
             Ok(true)
         }
         RawEventBody::VersionDirective { major, minor } => {
@@ -451,36 +512,21 @@ fn settle_body(
             ref mut handle,
             ref mut prefix,
         } => {
-            let handle = mem::replace(handle, Vec::new(alloc));
-            let prefix = mem::replace(prefix, Vec::new(alloc));
             note_tag(alloc, directives, handle, prefix, from)?;
             Ok(false)
         }
         RawEventBody::Document { implicit } => {
-            let tag_directives = copy_directives(alloc, directives.tags.as_slice())?;
-            *event = yaml_event_body_t::DocumentStart {
-                version_directive: directives.version,
-                tag_directives,
-                implicit,
-            };
+            settle_document(alloc, directives, implicit, event)?;
             Ok(true)
         }
         RawEventBody::Node {
             ref mut properties,
             ref mut shape,
-        } => match properties.take() {
-            None => {
-                bare(alloc, shape, event);
-                Ok(true)
-            }
-            Some(boxed) => {
-                let mut properties = boxed;
-                let tags = &directives.tags;
-                *event = with_properties(alloc, tags, &mut properties, shape, from)?;
-                *spare = Some(properties);
-                Ok(true)
-            }
-        },
+        } => {
+            let given = settle_node(alloc, &directives.tags, properties, shape, from, event)?;
+            spare_box(properties, spare);
+            Ok(given)
+        }
     }
 }
 

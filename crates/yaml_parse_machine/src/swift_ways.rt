@@ -17,13 +17,15 @@ ghost use Rattle.yaml_parse_machine.specs.Swiftly.{Adds, Opens, OpensIn, Awaits,
 
 use crate::choosing::wants;
 use crate::item::{Properties, State, Tag};
+use crate::keeping::room;
 use crate::pushing::{drop_top, push, push_key, swap_top, topmost};
-use crate::taking::{moved, room};
+use crate::slots::{start_mapping, start_sequence};
+use crate::taking::moved;
 use crate::telling::{tell_alias, tell_end, tell_scalar, tell_start};
 use yaml_parse_grammar::{Brackets, Side, Site};
 use yaml_parse_model::{
-    yaml_event_body_t, yaml_event_t, yaml_mapping_style_t, yaml_mark_t, yaml_scalar_style_t,
-    yaml_sequence_style_t, yaml_token_body_t, yaml_token_t,
+    yaml_event_t, yaml_mapping_style_t, yaml_mark_t, yaml_scalar_style_t, yaml_sequence_style_t,
+    yaml_token_body_t, yaml_token_t,
 };
 
 /// What a swift way gives.
@@ -92,12 +94,10 @@ fn open_entries(stack: &mut Vec<State>, token: &yaml_token_t, event: &mut yaml_e
     swap_top(stack, State::Entries(token.start_mark));
     event.start_mark = token.start_mark;
     event.end_mark = token.end_mark;
-    event.body = yaml_event_body_t::SequenceStart {
-        anchor: None,
-        tag: None,
-        implicit: true,
-        style: yaml_sequence_style_t::YAML_BLOCK_SEQUENCE_STYLE,
-    };
+    start_sequence(
+        &mut event.body,
+        yaml_sequence_style_t::YAML_BLOCK_SEQUENCE_STYLE,
+    );
     Swift::Event
 }
 
@@ -111,12 +111,10 @@ fn open_pairs(stack: &mut Vec<State>, token: &yaml_token_t, event: &mut yaml_eve
     swap_top(stack, State::Pairs(token.start_mark));
     event.start_mark = token.start_mark;
     event.end_mark = token.end_mark;
-    event.body = yaml_event_body_t::MappingStart {
-        anchor: None,
-        tag: None,
-        implicit: true,
-        style: yaml_mapping_style_t::YAML_BLOCK_MAPPING_STYLE,
-    };
+    start_mapping(
+        &mut event.body,
+        yaml_mapping_style_t::YAML_BLOCK_MAPPING_STYLE,
+    );
     Swift::Event
 }
 

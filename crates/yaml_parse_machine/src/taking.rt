@@ -21,59 +21,17 @@ ghost use Rattle.yaml_parse_machine.specs.Views.{properties_of, properties_optio
 use crate::building::{give, node, tell};
 use crate::choosing::wants;
 use crate::item::{Properties, RawEvent, RawEventBody, Resolved, Shape, State, Tag};
+use crate::keeping::{await_rest, keep_anchor, keep_tag};
 use crate::pushing::{
     open, push, push_behind_part, push_block_pair, push_entry, push_indentless, push_mapping_pair,
     push_sequence_pair,
 };
-use std::alloc::{AllocError, Global};
+use std::alloc::AllocError;
 use std::mem;
 use yaml_parse_grammar::{Brackets, Side, Site, Wants};
 use yaml_parse_model::{
     yaml_mapping_style_t, yaml_mark_t, yaml_sequence_style_t, yaml_token_body_t, yaml_token_t,
 };
-
-// A new box for the properties of a node.
-fn new_room(
-    alloc: Global,
-    from: yaml_mark_t,
-    to: yaml_mark_t,
-) -> Result<Box<Properties>, AllocError>
-    ensures { IfOk result (λ b. properties_of b.value
-        ≡ record { anchor = None; tag = None; from = from; to = to }) }
-{
-    let properties = Properties {
-        anchor: None,
-        tag: None,
-        from,
-        to,
-    };
-    Ok(Box::new(alloc, properties)?)
-}
-
-// A box for the properties of a node, that stand there: the one that is to spare, or else a new one.
-pub(crate) fn room(
-    spare: &mut Option<Box<Properties>>,
-    alloc: Global,
-    from: yaml_mark_t,
-    to: yaml_mark_t,
-) -> Result<Box<Properties>, AllocError>
-    ensures { IfOk result (λ b. properties_of b.value
-        ≡ record { anchor = None; tag = None; from = from; to = to }) }
-{
-    match spare.take() {
-        None => new_room(alloc, from, to),
-        Some(emptied) => {
-            let mut properties = emptied;
-            properties.anchor = None;
-            properties.tag = None;
-            properties.from = from;
-            properties.to = to;
-            Ok(properties)
-        }
-    }
-}
-
-// ---- tokens
 
 // For tokens that the state doesn't take.
 fn nothing(stack: &mut Vec<State>, slot: &mut RawEvent) -> Result<bool, AllocError>
@@ -330,23 +288,21 @@ fn at_node(
             },
             token,
         ),
-        yaml_token_body_t::Anchor { value } => {
-            let alloc = *value.allocator();
-            let mut properties = room(&mut slot.spare, alloc, token.start_mark, token.end_mark)?;
-            properties.anchor = Some(moved(value));
-            push(stack, State::WithProperties(wants, properties))?;
-            Ok(false)
-        }
+        yaml_token_body_t::Anchor { value } => keep_anchor(
+            stack,
+            wants,
+            value,
+            token.start_mark,
+            token.end_mark,
+            &mut slot.spare,
+        ),
         yaml_token_body_t::Tag { handle, suffix } => {
-            let alloc = *handle.allocator();
-            let mut properties = room(&mut slot.spare, alloc, token.start_mark, token.end_mark)?;
-            properties.tag = Some(Tag {
+            let tag = Tag {
                 handle: moved(handle),
                 suffix: moved(suffix),
                 mark: token.start_mark,
-            });
-            push(stack, State::WithProperties(wants, properties))?;
-            Ok(false)
+            };
+            keep_tag(stack, wants, tag, token.end_mark, &mut slot.spare)
         }
         _ => at_content(stack, wants, None, token, slot),
     }
@@ -371,8 +327,7 @@ fn at_with_properties(
             let mut both = properties;
             both.anchor = Some(moved(value));
             both.to = token.end_mark;
-            push(stack, State::WithProperties(wants, both))?;
-            Ok(false)
+            await_rest(stack, wants, both)
         }
         yaml_token_body_t::Tag { handle, suffix } => {
             let tag = Tag {
@@ -383,8 +338,7 @@ fn at_with_properties(
             let mut both = properties;
             both.tag = Some(tag);
             both.to = token.end_mark;
-            push(stack, State::WithProperties(wants, both))?;
-            Ok(false)
+            await_rest(stack, wants, both)
         }
         _ => at_content(stack, wants, Some(properties), token, slot),
     }

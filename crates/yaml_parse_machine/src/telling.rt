@@ -9,6 +9,7 @@ ghost use Rattle.yaml_parse_grammar.specs.Trees.{flow_shape, end_event, event_at
 ghost use Rattle.yaml_parse_machine.specs.Swiftly.{IsReady};
 
 use crate::resolving::bare_scalar;
+use crate::slots::{start_mapping, start_sequence};
 use crate::taking::moved;
 use yaml_parse_grammar::Brackets;
 use yaml_parse_model::{
@@ -46,20 +47,16 @@ pub(crate) fn tell_start(brackets: Brackets, token: &yaml_token_t, event: &mut y
     event.end_mark = token.end_mark;
     match brackets {
         Brackets::Sequence => {
-            event.body = yaml_event_body_t::SequenceStart {
-                anchor: None,
-                tag: None,
-                implicit: true,
-                style: yaml_sequence_style_t::YAML_FLOW_SEQUENCE_STYLE,
-            };
+            start_sequence(
+                &mut event.body,
+                yaml_sequence_style_t::YAML_FLOW_SEQUENCE_STYLE,
+            );
         }
         Brackets::Mapping => {
-            event.body = yaml_event_body_t::MappingStart {
-                anchor: None,
-                tag: None,
-                implicit: true,
-                style: yaml_mapping_style_t::YAML_FLOW_MAPPING_STYLE,
-            };
+            start_mapping(
+                &mut event.body,
+                yaml_mapping_style_t::YAML_FLOW_MAPPING_STYLE,
+            );
         }
     }
 }

@@ -1,0 +1,109 @@
+//! The properties of a node, kept until its content comes.
+
+ghost use Rattle.std.specs.Prelude.{◌≡◌, ◌∷◌, OnOk, IfOk, false, Some, None};
+ghost use Rattle.yaml_parse_grammar.specs.States as state;
+ghost use Rattle.yaml_parse_machine.specs.Views.{properties_of, tag_of, stack_of};
+
+use crate::item::{Properties, State, Tag};
+use crate::pushing::push;
+use crate::taking::moved;
+use std::alloc::{AllocError, Global};
+use yaml_parse_grammar::Wants;
+use yaml_parse_model::yaml_mark_t;
+
+// A new box for the properties of a node.
+fn new_room(
+    alloc: Global,
+    from: yaml_mark_t,
+    to: yaml_mark_t,
+) -> Result<Box<Properties>, AllocError>
+    ensures { IfOk result (λ b. properties_of b.value
+        ≡ record { anchor = None; tag = None; from = from; to = to }) }
+{
+    let properties = Properties {
+        anchor: None,
+        tag: None,
+        from,
+        to,
+    };
+    Ok(Box::new(alloc, properties)?)
+}
+
+// A box for the properties of a node, that stand there: the one that is to spare, or else a new one.
+pub(crate) fn room(
+    spare: &mut Option<Box<Properties>>,
+    alloc: Global,
+    from: yaml_mark_t,
+    to: yaml_mark_t,
+) -> Result<Box<Properties>, AllocError>
+    ensures { IfOk result (λ b. properties_of b.value
+        ≡ record { anchor = None; tag = None; from = from; to = to }) }
+{
+    match spare.take() {
+        None => new_room(alloc, from, to),
+        Some(emptied) => {
+            let mut properties = emptied;
+            properties.anchor = None;
+            properties.tag = None;
+            properties.from = from;
+            properties.to = to;
+            Ok(properties)
+        }
+    }
+}
+
+// The rest of a node behind a property comes.
+pub(crate) fn await_rest(
+    stack: &mut Vec<State>,
+    wants: Wants,
+    properties: Box<Properties>,
+) -> Result<bool, AllocError>
+    ensures item { IfOk result (λ b. b ≡ false) }
+    ensures stack { OnOk result (stack_of stack.new.items ≡ state.with_properties wants
+        (properties_of properties.value) ∷ stack_of stack.old.items) }
+{
+    push(stack, State::WithProperties(wants, properties))?;
+    Ok(false)
+}
+
+// A node's anchor, before all else of it.
+pub(crate) fn keep_anchor(
+    stack: &mut Vec<State>,
+    wants: Wants,
+    name: &mut Vec<u8>,
+    from: yaml_mark_t,
+    to: yaml_mark_t,
+    spare: &mut Option<Box<Properties>>,
+) -> Result<bool, AllocError>
+    ensures item { IfOk result (λ b. b ≡ false) }
+    ensures stack { OnOk result (stack_of stack.new.items ≡ state.with_properties wants
+        (record { anchor = Some name.old.items; tag = None; from = from; to = to })
+        ∷ stack_of stack.old.items) }
+{
+    let mut properties = room(spare, *name.allocator(), from, to)?;
+    properties.anchor = Some(moved(name));
+    await_rest(stack, wants, properties)
+}
+
+// A node's tag, before all else of it.
+pub(crate) fn keep_tag(
+    stack: &mut Vec<State>,
+    wants: Wants,
+    tag: Tag,
+    to: yaml_mark_t,
+    spare: &mut Option<Box<Properties>>,
+) -> Result<bool, AllocError>
+    ensures item { IfOk result (λ b. b ≡ false) }
+    ensures stack { OnOk result (stack_of stack.new.items ≡ state.with_properties wants
+        (record { anchor = None; tag = Some (tag_of tag); from = tag.mark; to = to })
+        ∷ stack_of stack.old.items) }
+{
+    match room(spare, *tag.handle.allocator(), tag.mark, to) {
+        Ok(empty) => {
+            let mut properties = empty;
+            properties.tag = Some(tag);
+            await_rest(stack, wants, properties)
+        }
+        Err(e) => Err(e),
+    }
+}

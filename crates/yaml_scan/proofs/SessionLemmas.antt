@@ -1,5 +1,5 @@
 -- What is to come of a session.
-use Rattle.std.proofs.Common.{ℕ, ◌≡◌, ◌≤◌, length, subst, Bool, true, false, ◌∷◌, Option, Some, None, refl, sym, ◌∙◌, inl, inr}
+use Rattle.std.proofs.Common.{ℕ, ◌≡◌, ◌≤◌, length, Bool, true, false, ◌∷◌, Option, Some, None, refl, sym, ◌∙◌, inl, inr}
 use Rattle.std.specs.Prelude.{is_some}
 use Rattle.yaml_scan_model.specs.declared.fault.yaml_fault_t.{yaml_fault_t}
 use Rattle.yaml_scan_model.specs.declared.token.yaml_token_t.{yaml_token_t}
@@ -169,7 +169,12 @@ left_own None false s t c d none off gives = taken_rest c d t gives
 left_own None true s t c d none off gives = cc
 left_own (Some f) holds s t c d none off gives = cc
 
--- what a scan into a slot answers, where it is a fault
+-- what a scan into a slot answers, where it is a token
+pub scan_takes : (old new : View) (b : Bool) (t : Token) (f : Fault) → b ≡ true → ScansInto old new b t f → Takes old t new
+scan_takes old new true t f e s = s
+scan_takes old new false t f e s = cc
+
+-- what it answers, where it is a fault
 pub scan_refuses : (old new : View) (b : Bool) (t : Token) (f : Fault) → b ≡ false → ScansInto old new b t f → Refuses old f new
 scan_refuses old new true t f e s = cc
 scan_refuses old new false t f e s = s

@@ -3,7 +3,6 @@
 
 mod reading;
 mod session;
-mod step;
 
 pub use session::{
     yaml_parser_fault, yaml_parser_has_token, yaml_parser_peek, yaml_parser_scan,

@@ -4,10 +4,10 @@ ghost use Rattle.std.specs.Prelude.{◌≡◌, true};
 ghost use Rattle.yaml_scan_model.specs.Tokens.{token_of};
 ghost use Rattle.yaml_scan_model.specs.Faults.{fault_of};
 ghost use Rattle.yaml_scan_machine.specs.State.{IsMachine};
+ghost use Rattle.yaml_scan_machine.specs.Stood.{MayRead, Steps};
 ghost use Rattle.yaml_scan.specs.Found.{Comes, ReadsOn};
 
-use crate::step::step;
-use yaml_scan_machine::Machine;
+use yaml_scan_machine::{Machine, put_fault};
 use yaml_scan_model::{yaml_fault_t, yaml_token_t};
 
 /// What reading on came to: the next token is known, or there is none, or a fault stands in the slot that was lent.
@@ -101,6 +101,25 @@ fn fill(machine: &mut Machine, fault: &mut yaml_fault_t) -> Sought
         }
         if !step(machine, fault) {
             return Sought::Refused;
+        }
+    }
+}
+
+/// Reads one lexeme, or puts the fault into the slot that was lent.
+// Inlined: it is called at one place.
+#[inline(always)]
+fn step(machine: &mut Machine, fault: &mut yaml_fault_t) -> bool
+    requires { MayRead machine.old }
+    ensures { Steps machine.old machine.new (fault_of fault.new) result }
+{
+    if machine.is_new() {
+        return machine.begin(fault);
+    }
+    match machine.stand() {
+        Ok((kind, spot)) => machine.by_kind(kind, spot, fault),
+        Err(error) => {
+            put_fault(fault, error);
+            false
         }
     }
 }

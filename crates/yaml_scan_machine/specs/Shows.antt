@@ -1,13 +1,11 @@
 -- What the fields of a machine say of the lexemes that were read.
-use Rattle.std.specs.Prelude.{ℕ, ◌+◌, ◌-◌, ◌≡◌, ◌<◌, ◌≤◌, ◌&&◌, ◌||◌, ◌==◌, not, Bool, true, false, nat_lt, if◌then◌else◌, map, Option, Some, None, List, ◌∷◌, length, drop, slice_index_or}
+use Rattle.std.specs.Prelude.{ℕ, ◌+◌, ◌-◌, ◌≡◌, ◌<◌, ◌≤◌, Bool, false, if◌then◌else◌, map, Option, Some, None, List, ◌∷◌, length, drop, slice_index_or}
 use Rattle.yaml_scan_model.specs.declared.record.yaml_mark_t.{yaml_mark_t}
 use Rattle.yaml_scan_model.specs.Tokens.{body_of}
 use Rattle.yaml_scan_decode.specs.DecodedText.{text_bytes}
 use Rattle.yaml_scan_history.specs.declared.lexeme.Lexeme.{Lexeme}
 use Rattle.yaml_scan_history.specs.declared.lexeme.Entry.{Entry}
-use Rattle.yaml_scan_history.specs.declared.lexeme.Opens.{Opens}
-use Rattle.yaml_scan_history.specs.Kinds.{cancels, is_value}
-use Rattle.yaml_scan_history.specs.History.{Candidate, candidate, is_fresh, first_open, opens_in, entries, reached, depth, levels, key_allowed, ended}
+use Rattle.yaml_scan_history.specs.History.{Candidate, candidate, first_open, opens_in, entries, reached, depth, levels, key_allowed, ended}
 use Rattle.yaml_scan_history.specs.Next.{history}
 use Rattle.yaml_scan_history.specs.Remaining.{SpelledText, body_in}
 use Rattle.yaml_scan_machine.specs.declared.machine.Machine.{Machine}

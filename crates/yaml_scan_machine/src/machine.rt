@@ -1,6 +1,6 @@
 //! The state between two lexemes.
 
-ghost use Rattle.std.specs.Prelude.{◌≡◌, ◌+◌, ◌-◌, ◌<◌, ◌≤◌, ◌^◌, ◌&&◌, ◌||◌, ◌==◌, not, nat_lt, if◌then◌else◌, ◌⊎◌, OnOk, IfOk, IfErr, OnErr, IsTrue, IfSome, true, false, length, ℕ};
+ghost use Rattle.std.specs.Prelude.{◌≡◌, ◌+◌, ◌-◌, ◌<◌, ◌≤◌, ◌^◌, ◌&&◌, ◌||◌, ◌==◌, not, nat_lt, if◌then◌else◌, OnOk, IfOk, IfErr, OnErr, IfSome, true, false, length, ℕ};
 ghost use Rattle.yaml_scan_decode.specs.DecodedText.{text_bytes};
 ghost use Rattle.yaml_scan_history.specs.Kinds as kinds;
 ghost use Rattle.yaml_scan_model.specs.Faults.{fault_of};

@@ -13,10 +13,35 @@ use yaml_scan_model::yaml_fault_t;
 impl<'a> Machine<'a> {
     ghost use Rattle.yaml_scan_machine.specs.Stood.{MayReadAt, Steps};
 
+    /// Reads the lexeme that stands there, in the way of its kind; or puts the fault into the slot that was lent.
+    // Inlined: it is called at one place.
+    #[inline(always)]
+    pub fn by_kind(&mut self, kind: Kind, spot: Spot, fault: &mut yaml_fault_t) -> bool
+        requires { MayReadAt self.old kind spot }
+        ensures { Steps self.old self.new (fault_of fault.new) result }
+    {
+        match kind {
+            Kind::FlowEntry => self.flow_entry(spot, fault),
+            Kind::ValueMark => self.value_mark(spot, fault),
+            Kind::Plain => self.plain(spot, fault),
+            Kind::DoubleQuoted => self.double_quoted(spot, fault),
+            Kind::FlowSequenceEnd => self.sequence_end(spot, fault),
+            Kind::FlowMappingEnd => self.mapping_end(spot, fault),
+            Kind::FlowSequenceStart => self.sequence_start(spot, fault),
+            Kind::FlowMappingStart => self.mapping_start(spot, fault),
+            Kind::BlockEntry => self.block_entry(spot, fault),
+            Kind::SingleQuoted => self.single_quoted(spot, fault),
+            Kind::Anchor => self.anchor(spot, fault),
+            Kind::Alias => self.alias(spot, fault),
+            Kind::Tag => self.tag(spot, fault),
+            _ => self.of_rare(kind, spot, fault),
+        }
+    }
+
     /// Reads a `,`.
     // Out of line, as is each way.
     #[inline(never)]
-    pub fn flow_entry(&mut self, spot: Spot, fault: &mut yaml_fault_t) -> bool
+    fn flow_entry(&mut self, spot: Spot, fault: &mut yaml_fault_t) -> bool
         requires { MayReadAt self.old kinds.FlowEntry spot }
         ensures { Steps self.old self.new (fault_of fault.new) result }
     {
@@ -26,7 +51,7 @@ impl<'a> Machine<'a> {
     /// Reads a `:`.
     // Out of line, as is each way.
     #[inline(never)]
-    pub fn value_mark(&mut self, spot: Spot, fault: &mut yaml_fault_t) -> bool
+    fn value_mark(&mut self, spot: Spot, fault: &mut yaml_fault_t) -> bool
         requires { MayReadAt self.old kinds.ValueMark spot }
         ensures { Steps self.old self.new (fault_of fault.new) result }
     {
@@ -36,7 +61,7 @@ impl<'a> Machine<'a> {
     /// Reads a plain scalar.
     // Out of line, as is each way.
     #[inline(never)]
-    pub fn plain(&mut self, spot: Spot, fault: &mut yaml_fault_t) -> bool
+    fn plain(&mut self, spot: Spot, fault: &mut yaml_fault_t) -> bool
         requires { MayReadAt self.old kinds.Plain spot }
         ensures { Steps self.old self.new (fault_of fault.new) result }
     {
@@ -46,7 +71,7 @@ impl<'a> Machine<'a> {
     /// Reads a double quoted scalar.
     // Out of line, as is each way.
     #[inline(never)]
-    pub fn double_quoted(&mut self, spot: Spot, fault: &mut yaml_fault_t) -> bool
+    fn double_quoted(&mut self, spot: Spot, fault: &mut yaml_fault_t) -> bool
         requires { MayReadAt self.old kinds.DoubleQuoted spot }
         ensures { Steps self.old self.new (fault_of fault.new) result }
     {
@@ -56,7 +81,7 @@ impl<'a> Machine<'a> {
     /// Reads a `]`.
     // Out of line, as is each way.
     #[inline(never)]
-    pub fn sequence_end(&mut self, spot: Spot, fault: &mut yaml_fault_t) -> bool
+    fn sequence_end(&mut self, spot: Spot, fault: &mut yaml_fault_t) -> bool
         requires { MayReadAt self.old kinds.FlowSequenceEnd spot }
         ensures { Steps self.old self.new (fault_of fault.new) result }
     {
@@ -66,7 +91,7 @@ impl<'a> Machine<'a> {
     /// Reads a `}`.
     // Out of line, as is each way.
     #[inline(never)]
-    pub fn mapping_end(&mut self, spot: Spot, fault: &mut yaml_fault_t) -> bool
+    fn mapping_end(&mut self, spot: Spot, fault: &mut yaml_fault_t) -> bool
         requires { MayReadAt self.old kinds.FlowMappingEnd spot }
         ensures { Steps self.old self.new (fault_of fault.new) result }
     {
@@ -76,7 +101,7 @@ impl<'a> Machine<'a> {
     /// Reads a `[`.
     // Out of line, as is each way.
     #[inline(never)]
-    pub fn sequence_start(&mut self, spot: Spot, fault: &mut yaml_fault_t) -> bool
+    fn sequence_start(&mut self, spot: Spot, fault: &mut yaml_fault_t) -> bool
         requires { MayReadAt self.old kinds.FlowSequenceStart spot }
         ensures { Steps self.old self.new (fault_of fault.new) result }
     {
@@ -86,7 +111,7 @@ impl<'a> Machine<'a> {
     /// Reads a `{`.
     // Out of line, as is each way.
     #[inline(never)]
-    pub fn mapping_start(&mut self, spot: Spot, fault: &mut yaml_fault_t) -> bool
+    fn mapping_start(&mut self, spot: Spot, fault: &mut yaml_fault_t) -> bool
         requires { MayReadAt self.old kinds.FlowMappingStart spot }
         ensures { Steps self.old self.new (fault_of fault.new) result }
     {
@@ -96,7 +121,7 @@ impl<'a> Machine<'a> {
     /// Reads a `-`.
     // Out of line, as is each way.
     #[inline(never)]
-    pub fn block_entry(&mut self, spot: Spot, fault: &mut yaml_fault_t) -> bool
+    fn block_entry(&mut self, spot: Spot, fault: &mut yaml_fault_t) -> bool
         requires { MayReadAt self.old kinds.BlockEntry spot }
         ensures { Steps self.old self.new (fault_of fault.new) result }
     {
@@ -106,7 +131,7 @@ impl<'a> Machine<'a> {
     /// Reads a single quoted scalar.
     // Out of line, as is each way.
     #[inline(never)]
-    pub fn single_quoted(&mut self, spot: Spot, fault: &mut yaml_fault_t) -> bool
+    fn single_quoted(&mut self, spot: Spot, fault: &mut yaml_fault_t) -> bool
         requires { MayReadAt self.old kinds.SingleQuoted spot }
         ensures { Steps self.old self.new (fault_of fault.new) result }
     {
@@ -116,7 +141,7 @@ impl<'a> Machine<'a> {
     /// Reads an anchor.
     // Out of line, as is each way.
     #[inline(never)]
-    pub fn anchor(&mut self, spot: Spot, fault: &mut yaml_fault_t) -> bool
+    fn anchor(&mut self, spot: Spot, fault: &mut yaml_fault_t) -> bool
         requires { MayReadAt self.old kinds.Anchor spot }
         ensures { Steps self.old self.new (fault_of fault.new) result }
     {
@@ -126,7 +151,7 @@ impl<'a> Machine<'a> {
     /// Reads an alias.
     // Out of line, as is each way.
     #[inline(never)]
-    pub fn alias(&mut self, spot: Spot, fault: &mut yaml_fault_t) -> bool
+    fn alias(&mut self, spot: Spot, fault: &mut yaml_fault_t) -> bool
         requires { MayReadAt self.old kinds.Alias spot }
         ensures { Steps self.old self.new (fault_of fault.new) result }
     {
@@ -136,7 +161,7 @@ impl<'a> Machine<'a> {
     /// Reads a tag.
     // Out of line, as is each way.
     #[inline(never)]
-    pub fn tag(&mut self, spot: Spot, fault: &mut yaml_fault_t) -> bool
+    fn tag(&mut self, spot: Spot, fault: &mut yaml_fault_t) -> bool
         requires { MayReadAt self.old kinds.Tag spot }
         ensures { Steps self.old self.new (fault_of fault.new) result }
     {
@@ -146,7 +171,7 @@ impl<'a> Machine<'a> {
     /// Reads a lexeme of any other kind.
     // Out of line, as is each way.
     #[inline(never)]
-    pub fn of_rare(&mut self, kind: Kind, spot: Spot, fault: &mut yaml_fault_t) -> bool
+    fn of_rare(&mut self, kind: Kind, spot: Spot, fault: &mut yaml_fault_t) -> bool
         requires { MayReadAt self.old kind spot }
         ensures { Steps self.old self.new (fault_of fault.new) result }
     {

@@ -1,4 +1,4 @@
-use Rattle.std.proofs.Common.{sym, ◌∙◌, refl, length}
+use Rattle.std.proofs.Common.{sym, ◌∙◌, length}
 use Rattle.yaml_scan_model.specs.Tokens.{token_of}
 use Rattle.yaml_scan_machine.specs.State.{is_ready}
 use Rattle.yaml_scan_machine.specs.Scanned.{left_in}

@@ -1,7 +1,7 @@
 use Rattle.std.proofs.Common.{sym, ◌∙◌}
 use Rattle.yaml_scan_model.specs.Tokens.{token_of}
 use Rattle.yaml_scan_machine.specs.State.{is_ready}
-use Rattle.yaml_scan.proofs.SessionLemmas.{no_fault, ready_over, ready_held, ready_known, first_comes}
+use Rattle.yaml_scan.proofs.SessionLemmas.{ready_over, ready_held, ready_known, first_comes}
 use Rattle.yaml_scan.proofs.session.yaml_parser_has_token.Goals as goal
 
 pub returns-then-is_some-clause-ready : goal.returns-then-is_some-clause-ready

@@ -1,4 +1,4 @@
-use Rattle.yaml_scan.proofs.step.step.Goals as goal
+use Rattle.yaml_scan.proofs.reading.step.Goals as goal
 
 pub is_new-requires : goal.is_new-requires
 is_new-requires c = c.requires.stands
@@ -32,3 +32,9 @@ by_kind-requires c = record { may = c.requires; stand = c.in-Ok.ensures.ok }
 
 pub returns-in-Err : goal.returns-in-Err
 returns-in-Err c = ((c.in-Err.error, c.in-Err.ensures.refused, c.put_fault.ensures), c.requires.stands.short)
+
+pub returns-then-is_new : goal.returns-then-is_new
+returns-then-is_new c = c.begin.ensures
+
+pub returns-in-Ok : goal.returns-in-Ok
+returns-in-Ok c = c.by_kind.ensures

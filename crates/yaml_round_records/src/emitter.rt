@@ -17,9 +17,10 @@ use crate::number::{break_of, encoding_of, is_set};
 use crate::record::{yaml_c_directive, yaml_c_event, yaml_c_settings};
 use std::alloc::Global;
 use yaml_emit::{
-    yaml_emitter_emit_from, yaml_emitter_fault, yaml_emitter_initialize, yaml_emitter_into_output,
-    yaml_emitter_set_break, yaml_emitter_set_canonical, yaml_emitter_set_encoding,
-    yaml_emitter_set_indent, yaml_emitter_set_unicode, yaml_emitter_set_width, yaml_emitter_t,
+    yaml_emitter_delete, yaml_emitter_emit_from, yaml_emitter_fault, yaml_emitter_initialize,
+    yaml_emitter_into_output, yaml_emitter_set_break, yaml_emitter_set_canonical,
+    yaml_emitter_set_encoding, yaml_emitter_set_indent, yaml_emitter_set_unicode,
+    yaml_emitter_set_width, yaml_emitter_t,
 };
 use yaml_parse::{
     yaml_break_t, yaml_encoding_t, yaml_event_t, yaml_fault_t, yaml_memory_fault, yaml_origin_t,
@@ -144,6 +145,11 @@ pub fn emitted(
         (all_events (events_meant bytes.now list.now records.now))) result }
 {
     let mut emitter = emitter_under(alloc, asked)?;
-    give_all(alloc, bytes, list, records, &mut emitter)?;
-    finished(emitter)
+    match give_all(alloc, bytes, list, records, &mut emitter) {
+        Ok(()) => finished(emitter),
+        Err(fault) => {
+            yaml_emitter_delete(emitter);
+            Err(fault)
+        }
+    }
 }

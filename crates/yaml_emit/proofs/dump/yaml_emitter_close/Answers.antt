@@ -11,3 +11,9 @@ returns-in_ok-emit-clause-memory c = λ open_still. notes_marked stream_end c.ar
 
 pub returns-in_ok-emit-clause-tells : goal.returns-in_ok-emit-clause-tells
 returns-in_ok-emit-clause-tells c = tells_marked c.emit.new.emitter _ c.emit.new.emitter.opened true c.set_closed.ensures c.emit.ensures.tells
+
+pub returns-in_err-emit-clause-takes : goal.returns-in_err-emit-clause-takes
+returns-in_err-emit-clause-takes c = λ open_still. c.emit.ensures.takes
+
+pub returns-in_err-emit-clause-memory : goal.returns-in_err-emit-clause-memory
+returns-in_err-emit-clause-memory c = λ open_still. c.emit.ensures.memory

@@ -1,4 +1,5 @@
-use Rattle.std.proofs.Common.{true, [], ◌∷◌}
+use Rattle.std.proofs.Common.{true, [], ◌∷◌, ap}
+use Rattle.yaml_emit_machine.specs.Emitter.{Emitter}
 use Rattle.yaml_emit_machine.specs.Dumping.{opening_event}
 use Rattle.yaml_emit_machine.proofs.Taking.{takes_marked, notes_marked, tells_marked}
 use Rattle.yaml_emit.proofs.dump.yaml_emitter_open.Goals as goal
@@ -11,3 +12,6 @@ returns-clause-memory c = notes_marked opening_event c.args.emitter.now c.emit.n
 
 pub returns-clause-tells : goal.returns-clause-tells
 returns-clause-tells c = tells_marked c.emit.new.emitter _ true c.emit.new.emitter.closed c.set_opened.ensures c.emit.ensures.tells
+
+pub returns-clause-opened : goal.returns-clause-opened
+returns-clause-opened c = ap (λ (e : Emitter). e.opened) c.set_opened.ensures

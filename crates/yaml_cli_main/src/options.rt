@@ -8,9 +8,15 @@ const MOST_COLUMNS: i64 = 2_147_483_647;
 
 const MOST_BYTES: i64 = 1_099_511_627_776;
 
+// Arguments and commands are made two steps at a time, since each step is proved with all that was made before it.
+
+fn named_arg<'a>(alloc: Global, name: &'a str, help: &'a str) -> Arg<'a> {
+    Arg::new(alloc, name).help(help)
+}
+
 // A word that stands by itself.
 fn place_arg<'a>(alloc: Global, name: &'a str, value: &'a str, help: &'a str) -> Arg<'a> {
-    Arg::new(alloc, name).value_name(value).help(help)
+    named_arg(alloc, name, help).value_name(value)
 }
 
 // The same, and it has to be there.
@@ -30,10 +36,8 @@ fn columns_arg<'a>(alloc: Global, name: &'a str, help: &'a str) -> Arg<'a> {
 
 // An option without a value.
 fn flag_arg<'a>(alloc: Global, name: &'a str, help: &'a str) -> Arg<'a> {
-    Arg::new(alloc, name)
-        .long(name)
-        .action(ArgAction::SetTrue)
-        .help(help)
+    let arg = named_arg(alloc, name, help).long(name);
+    arg.action(ArgAction::SetTrue)
 }
 
 fn file_arg<'a>(alloc: Global) -> Arg<'a> {
@@ -118,54 +122,66 @@ fn with_arg<'a>(made: Made<'a>, arg: Arg<'a>) -> Made<'a> {
     }
 }
 
-fn with_lines<'a>(alloc: Global, made: Made<'a>) -> Made<'a> {
+fn with_columns<'a>(alloc: Global, made: Made<'a>) -> Made<'a> {
     let made = with_arg(made, indent_arg(alloc));
-    let made = with_arg(made, width_arg(alloc));
+    with_arg(made, width_arg(alloc))
+}
+
+fn with_lines<'a>(alloc: Global, made: Made<'a>) -> Made<'a> {
+    let made = with_columns(alloc, made);
     with_arg(made, ascii_arg(alloc))
+}
+
+fn with_bytes<'a>(alloc: Global, made: Made<'a>) -> Made<'a> {
+    let made = with_arg(made, break_arg(alloc));
+    with_arg(made, encoding_arg(alloc))
+}
+
+fn with_limit<'a>(alloc: Global, made: Made<'a>) -> Made<'a> {
+    let made = with_bytes(alloc, made);
+    with_arg(made, limit_arg(alloc))
 }
 
 // What `fmt` and `docs` have.
 fn with_layout<'a>(alloc: Global, made: Made<'a>) -> Made<'a> {
     let made = with_lines(alloc, made);
-    let made = with_arg(made, break_arg(alloc));
-    let made = with_arg(made, encoding_arg(alloc));
-    with_arg(made, limit_arg(alloc))
+    with_limit(alloc, made)
 }
 
 fn command_of<'a>(alloc: Global, name: &'a str, about: &'a str) -> Made<'a> {
     Ok(Command::new(alloc, name).about(about))
 }
 
-// A command that reads one file.
 fn with_file<'a>(alloc: Global, made: Made<'a>) -> Made<'a> {
     let made = with_arg(made, file_arg(alloc));
     with_arg(made, from_arg(alloc))
 }
 
-fn fmt_command<'a>(alloc: Global) -> Made<'a> {
-    let made = command_of(
-        alloc,
-        "fmt",
-        "Writes the text again in canonical or pretty form",
-    );
-    let made = with_file(alloc, made);
+// A command that reads one file.
+fn file_command<'a>(alloc: Global, name: &'a str, about: &'a str) -> Made<'a> {
+    let made = command_of(alloc, name, about);
+    with_file(alloc, made)
+}
+
+fn with_styles<'a>(alloc: Global, made: Made<'a>) -> Made<'a> {
     let made = with_arg(made, pretty_arg(alloc));
     with_layout(alloc, made)
 }
 
+fn fmt_command<'a>(alloc: Global) -> Made<'a> {
+    let about = "Writes the text again in canonical or pretty form";
+    let made = file_command(alloc, "fmt", about);
+    with_styles(alloc, made)
+}
+
 fn docs_command<'a>(alloc: Global) -> Made<'a> {
-    let made = command_of(
-        alloc,
-        "docs",
-        "Writes the loaded documents in canonical form",
-    );
-    let made = with_file(alloc, made);
+    let about = "Writes the loaded documents in canonical form";
+    let made = file_command(alloc, "docs", about);
     with_layout(alloc, made)
 }
 
 fn events_command<'a>(alloc: Global) -> Made<'a> {
-    let made = command_of(alloc, "events", "Writes a line for each event");
-    with_file(alloc, made)
+    file_command(alloc, "events", "Writes a line for each event")
 }
 
 fn first_arg<'a>(alloc: Global) -> Arg<'a> {
@@ -176,15 +192,20 @@ fn second_arg<'a>(alloc: Global) -> Arg<'a> {
     needed_arg(alloc, "second", "B", "The file that it is compared with")
 }
 
-fn same_command<'a>(alloc: Global) -> Made<'a> {
-    let made = command_of(
-        alloc,
-        "same",
-        "Tells whether two files have the same content",
-    );
+fn with_files<'a>(alloc: Global, made: Made<'a>) -> Made<'a> {
     let made = with_arg(made, first_arg(alloc));
-    let made = with_arg(made, second_arg(alloc));
+    with_arg(made, second_arg(alloc))
+}
+
+fn with_same<'a>(alloc: Global, made: Made<'a>) -> Made<'a> {
+    let made = with_files(alloc, made);
     with_arg(made, from_arg(alloc))
+}
+
+fn same_command<'a>(alloc: Global) -> Made<'a> {
+    let about = "Tells whether two files have the same content";
+    let made = command_of(alloc, "same", about);
+    with_same(alloc, made)
 }
 
 fn with_made<'a>(command: Command<'a>, other: Made<'a>) -> Made<'a> {
@@ -207,15 +228,17 @@ fn with_command<'a>(made: Made<'a>, other: Made<'a>) -> Made<'a> {
     }
 }
 
-fn named_command<'a>(alloc: Global) -> Made<'a> {
-    Command::new(alloc, "yaml_cli")
-        .about("Rewrites YAML in canonical or pretty form")
-        .subcommand_required(true)
-        .bin_name("yaml_cli")
+fn top_command<'a>(alloc: Global) -> Command<'a> {
+    let command = Command::new(alloc, "yaml_cli");
+    command.about("Rewrites YAML in canonical or pretty form")
 }
 
-// The commands that write a text. These and the others are added two by two, since each call is proved with all that was made
-// before it.
+fn named_command<'a>(alloc: Global) -> Made<'a> {
+    let command = top_command(alloc).subcommand_required(true);
+    command.bin_name("yaml_cli")
+}
+
+// The commands that write a text.
 fn with_texts<'a>(alloc: Global, made: Made<'a>) -> Made<'a> {
     let made = with_command(made, fmt_command(alloc));
     with_command(made, docs_command(alloc))

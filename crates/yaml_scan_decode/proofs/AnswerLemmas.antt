@@ -9,7 +9,7 @@ use Rattle.yaml_scan_decode.specs.declared.offence.Offence.{Offence}
 use Rattle.yaml_scan_decode.specs.declared.decode.yaml_text_t.{yaml_text_t}
 use Rattle.yaml_scan_decode.specs.Offences.{reader_fault}
 use Rattle.yaml_scan_decode.specs.Encodings.{encoding_of, mark_length}
-use Rattle.yaml_scan_decode.specs.Decoding.{characters, in_utf8, first_offence}
+use Rattle.yaml_scan_decode.specs.Decoding.{characters, in_utf8, decoded_text, first_offence}
 use Rattle.yaml_scan_decode.specs.Spelling.{Spells, SpellsNothing}
 use Rattle.yaml_scan_decode.specs.DecodedText.{text_bytes, fault_in, decoding_fault}
 use Rattle.yaml_scan_decode.proofs.DecodeLemmas.{AreBytes}
@@ -37,3 +37,15 @@ pub units_unspelled : (s e : yaml_encoding_t) (bytes : List ℕ) (p : ℕ) (r : 
     → IfErr r (λ f. (fault_of f ≡ memory_fault Reader) ⊎ SpellsNothing s bytes)
 units_unspelled s e bytes p (Ok t) is mark h = h
 units_unspelled s e bytes p (Err f) is mark h = either s bytes f (rw (is, mark) h)
+
+-- what the units give is what the bytes are decoded to
+pub units_text : (s e : yaml_encoding_t) (bytes : List ℕ) (p : ℕ) (r : Result yaml_text_t yaml_fault_t) → encoding_of s bytes ≡ e → mark_length s bytes ≡ p
+    → IfOk r (λ t. in_utf8 (characters (length bytes) e bytes p) ≡ Ok (text_bytes t)) → IfOk r (λ t. decoded_text s bytes ≡ Ok (text_bytes t))
+units_text s e bytes p (Ok t) is mark h = rw (is, mark) h
+units_text s e bytes p (Err f) is mark h = h
+
+pub units_fault : (s e : yaml_encoding_t) (bytes : List ℕ) (p : ℕ) (r : Result yaml_text_t yaml_fault_t) → encoding_of s bytes ≡ e → mark_length s bytes ≡ p
+    → IfErr r (λ f. (fault_of f ≡ memory_fault Reader) ⊎ (fault_in (characters (length bytes) e bytes p) ≡ Some (fault_of f)))
+    → IfErr r (λ f. (fault_of f ≡ memory_fault Reader) ⊎ (decoding_fault s bytes ≡ Some (fault_of f)))
+units_fault s e bytes p (Ok t) is mark h = h
+units_fault s e bytes p (Err f) is mark h = rw (is, mark) h

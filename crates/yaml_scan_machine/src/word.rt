@@ -142,7 +142,7 @@ fn indicator_body(kind: Kind) -> Option<yaml_token_body_t>
 }
 
 /// Reads a lexeme that is no indicator of one byte.
-#[tactic(auto, unfolding(yaml_scan_model::specs::Marks::break_of, yaml_scan_history::specs::Words::word_at))]
+#[tactic(auto, unfolding(yaml_scan_types::specs::Marks::break_of, yaml_scan_history::specs::Words::word_at))]
 // Inlined: the kind is known where it is called.
 #[inline(always)]
 fn text_word(
@@ -212,7 +212,7 @@ fn read_indicator(reader: &mut Reader, body: yaml_token_body_t) -> Word
 }
 
 /// `---` or `...`.
-#[tactic(auto, unfolding(yaml_scan_model::specs::Marks::break_of))]
+#[tactic(auto, unfolding(yaml_scan_types::specs::Marks::break_of))]
 fn document_mark(reader: &mut Reader, body: yaml_token_body_t) -> Word
     requires { IsThrice 45 reader.old.text reader.old.at
         ⊎ IsThrice 46 reader.old.text reader.old.at }

@@ -1,9 +1,9 @@
-pub mod Tokens
-pub mod Faults
+pub use Rattle.yaml_scan_types.specs.Marks
+pub use Rattle.yaml_scan_tokens.specs.Classes
+pub use Rattle.yaml_scan_tokens.specs.Tokens
+pub use Rattle.yaml_scan_tokens.specs.Faults
 pub mod Problems
-pub mod Marks
 pub mod Breaks
 pub mod Runs
 pub mod Views
-pub mod Classes
 pub mod Wrong

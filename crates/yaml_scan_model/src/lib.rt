@@ -1,20 +1,15 @@
 //! What the whole port stands on: marks, tokens, faults, the byte classes, and the cursor over a text.
 #![tactic(auto)]
 
-mod class;
-mod fault;
-mod name;
+pub mod fault;
+pub mod name;
 mod problem;
 mod reader;
-mod record;
+pub mod record;
 mod run;
-mod token;
+pub mod token;
 
-pub use class::{
-    AS_DIGIT, AS_HEX_AT, IS_ALPHA, IS_ASCII, IS_BLANK, IS_BLANKZ, IS_BOM, IS_BREAK, IS_BREAKZ,
-    IS_CRLF, IS_DIGIT, IS_HEX_AT, IS_PRINTABLE, IS_SPACE, IS_TAB, IS_Z, WIDTH,
-};
-pub use fault::{yaml_fault_t, yaml_memory_fault, yaml_origin_t};
+pub use fault::{yaml_fault_t, yaml_origin_t};
 pub use name::{
     yaml_break_t, yaml_encoding_t, yaml_error_type_t, yaml_event_type_t, yaml_mapping_style_t,
     yaml_node_type_t, yaml_scalar_style_t, yaml_sequence_style_t, yaml_token_type_t,
@@ -23,4 +18,9 @@ pub use problem::{Context, Problem, ScanError, ScanFault};
 pub use reader::{Reader, is_blank as is_blank_byte};
 pub use record::{yaml_mark_t, yaml_simple_key_t, yaml_tag_directive_t, yaml_version_directive_t};
 pub use run::{is_text, skip_blanks, skip_spaces, skip_text};
-pub use token::{yaml_token_body_t, yaml_token_delete, yaml_token_t};
+pub use token::{yaml_token_body_t, yaml_token_t};
+pub use yaml_scan_tokens::{
+    AS_DIGIT, AS_HEX_AT, IS_ALPHA, IS_ASCII, IS_BLANK, IS_BLANKZ, IS_BOM, IS_BREAK, IS_BREAKZ,
+    IS_CRLF, IS_DIGIT, IS_HEX_AT, IS_PRINTABLE, IS_SPACE, IS_TAB, IS_Z, WIDTH, yaml_memory_fault,
+    yaml_token_delete,
+};

@@ -131,11 +131,7 @@ impl<'a> Reader<'a> {
     pub fn mark(&self) -> yaml_mark_t
         ensures { result ≡ mark_at self.now.text self.now.at }
     {
-        yaml_mark_t {
-            index: self.index as u64,
-            line: self.line,
-            column: self.column,
-        }
+        self.stop()
     }
 
     /// Where the reader stands, for one that resumes there.
@@ -152,7 +148,7 @@ impl<'a> Reader<'a> {
     }
 
     /// How many bytes the break has that stands that many places ahead, or 0.
-    #[tactic(auto, unfolding(crate::specs::Marks::break_of))]
+    #[tactic(auto, unfolding(yaml_scan_types::specs::Marks::break_of))]
     pub fn break_width_at(&self, ahead: usize) -> usize
         requires { ahead < 14 }
         ensures { result ≡ break_width self.now.text (self.now.at + ahead) }

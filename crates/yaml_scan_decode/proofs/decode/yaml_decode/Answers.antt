@@ -3,9 +3,25 @@ use Rattle.yaml_scan_model.specs.Faults.{fault_of}
 use Rattle.yaml_scan_model.specs.declared.name.yaml_encoding_t.TheVariants.{YAML_UTF8_ENCODING}
 use Rattle.yaml_scan_decode.specs.Encodings.{encoding_of}
 use Rattle.yaml_scan_decode.proofs.CompleteLemmas.{encoding_utf8, checked_text, checked_offence, take_rest, decoded_spells}
-use Rattle.yaml_scan_decode.proofs.AnswerLemmas.{units_spelled, units_unspelled, fault_unspelled}
+use Rattle.yaml_scan_decode.proofs.AnswerLemmas.{units_text, units_fault, units_spelled, units_unspelled, fault_unspelled}
 use Rattle.yaml_scan_decode.proofs.decode.yaml_decode.Goals as goal
 use Rattle.yaml_scan_decode.proofs.decode.yaml_decode.Goals.{In_default}
+
+pub returns-in-YAML_UTF16LE_ENCODING-clause-text : goal.returns-in-YAML_UTF16LE_ENCODING-clause-text
+returns-in-YAML_UTF16LE_ENCODING-clause-text c =
+    units_text _ _ _ _ _ (sym c.stream_encoding.ensures ∙ c.in-YAML_UTF16LE_ENCODING.is) (sym c.removed_mark_length-start.ensures.value) c.decode_units.ensures.text
+
+pub returns-in-YAML_UTF16LE_ENCODING-clause-fault : goal.returns-in-YAML_UTF16LE_ENCODING-clause-fault
+returns-in-YAML_UTF16LE_ENCODING-clause-fault c =
+    units_fault _ _ _ _ _ (sym c.stream_encoding.ensures ∙ c.in-YAML_UTF16LE_ENCODING.is) (sym c.removed_mark_length-start.ensures.value) c.decode_units.ensures.fault
+
+pub returns-in-YAML_UTF16BE_ENCODING-clause-text : goal.returns-in-YAML_UTF16BE_ENCODING-clause-text
+returns-in-YAML_UTF16BE_ENCODING-clause-text c =
+    units_text _ _ _ _ _ (sym c.stream_encoding.ensures ∙ c.in-YAML_UTF16BE_ENCODING.is) (sym c.removed_mark_length-start.ensures.value) c.decode_units-in-YAML_UTF16BE_ENCODING.ensures.text
+
+pub returns-in-YAML_UTF16BE_ENCODING-clause-fault : goal.returns-in-YAML_UTF16BE_ENCODING-clause-fault
+returns-in-YAML_UTF16BE_ENCODING-clause-fault c =
+    units_fault _ _ _ _ _ (sym c.stream_encoding.ensures ∙ c.in-YAML_UTF16BE_ENCODING.is) (sym c.removed_mark_length-start.ensures.value) c.decode_units-in-YAML_UTF16BE_ENCODING.ensures.fault
 
 pub returns-in-YAML_UTF16LE_ENCODING-clause-spelled : goal.returns-in-YAML_UTF16LE_ENCODING-clause-spelled
 returns-in-YAML_UTF16LE_ENCODING-clause-spelled c =
@@ -41,6 +57,11 @@ pub returns-in-Err-clause-fault : goal.returns-in-Err-clause-fault
 returns-in-Err-clause-fault c =
     let o = checked_offence c.args.encoding c.args.input.now _ (is_utf8 (goal.at.returns-in-Err-clause-fault c).In_default) (rw c.removed_mark_length-start.ensures.value at (sym c.in-Err.ensures)) in
     inr (rw (o, c.located.ensures) refl)
+
+pub returns-in-Err-clause-no_memory : goal.returns-in-Err-clause-no_memory
+returns-in-Err-clause-no_memory c = λ same.
+    let o = checked_offence c.args.encoding c.args.input.now _ same (rw c.removed_mark_length-start.ensures.value at (sym c.in-Err.ensures)) in
+    rw (o, c.located.ensures) refl
 
 pub returns-in-Err-clause-unspelled : goal.returns-in-Err-clause-unspelled
 returns-in-Err-clause-unspelled c =

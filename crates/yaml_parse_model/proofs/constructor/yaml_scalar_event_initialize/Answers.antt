@@ -1,0 +1,12 @@
+use Rattle.std.proofs.Common.{◌≡◌, option_map, IsUtf8, rules, refl}
+use Rattle.yaml_parse_model.specs.Events.{event_of, unplaced, scalar}
+use Rattle.yaml_parse_model.specs.Constructors.{IsUtf8Option}
+use Rattle.yaml_parse_model.proofs.constructor.yaml_scalar_event_initialize.Goals as goal
+
+pub returns : goal.returns
+returns c =
+    let anchor : IsUtf8Option (option_map (λ t. t.now) c.args.anchor) = search rules in
+    let tag : IsUtf8Option (option_map (λ t. t.now) c.args.tag) = search rules in
+    let value : IsUtf8 c.args.value.now = search rules in
+    let same : event_of c.unplaced.result ≡ unplaced (scalar (option_map (λ t. t.now) c.args.anchor) (option_map (λ t. t.now) c.args.tag) c.args.value.now c.args.plain_implicit c.args.quoted_implicit c.args.style) = rw (c.unplaced.ensures, c.in_ok-anchor.ensures, c.in_ok-tag.ensures, c.in_ok-value.ensures) refl in
+    (same, (anchor, tag, value))

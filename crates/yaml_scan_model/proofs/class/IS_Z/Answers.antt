@@ -1,8 +1,0 @@
-use Rattle.std.proofs.Common.{◌≡◌, ◌∙◌, ap, ◌+◌, ◌==◌, arith}
-use Rattle.yaml_scan_model.specs.Marks.{byte}
-use Rattle.yaml_scan_model.proofs.class.IS_Z.Goals as goal
-
-pub returns : goal.returns
-returns c =
-    let y : c.args.place + 0 ≡ c.args.place = omega arith in
-    ap (λ b. b == 0) (c.byte_at.ensures ∙ ap (byte c.args.string.now) y)

@@ -1,0 +1,3 @@
+pub mod Classes
+pub mod Tokens
+pub mod Faults

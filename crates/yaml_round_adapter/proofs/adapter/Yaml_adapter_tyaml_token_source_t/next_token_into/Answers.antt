@@ -15,4 +15,4 @@ returns-then-take c =
 
 pub returns : goal.returns
 returns c =
-    record { gives = gives_fault c.self.inside.over c.self.inside.session.remaining c.args.self.now (fault_of c.take.new.fault) c.if-self.false c.self.view_is c.if-take.ensures; }
+    record { gives = gives_fault c.self.inside.over c.self.inside.session.remaining c.args.self.now (fault_of c.take.new.fault) c.if-self.false c.self.view_is c.if-take.ensures }

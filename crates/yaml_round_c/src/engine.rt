@@ -1,72 +1,13 @@
 //! The engine's calls.
 
 ghost use Rattle.std.specs.Prelude.{◌≡◌};
-ghost use Rattle.yaml_round_records.specs.Numbers.{encoding_meant};
-ghost use Rattle.yaml_round_c.specs.Told.{form_number, same_number, side_number, AnswersMeant, IsExact, both, call_meant, Reformats, Reloads, Compares, Lists};
+ghost use Rattle.yaml_round_answers.specs.Numbers.{encoding_meant};
+ghost use Rattle.yaml_round_answers.specs.Told.{AnswersMeant, IsExact, both, call_meant, Reformats, Reloads, Compares, Lists};
 
-use crate::answer::{misused, refused, said, told, yaml_c_answer};
-use crate::settings::settings_of;
 use std::alloc::Global;
-use yaml_round::{
-    yaml_encoding_t, yaml_events, yaml_form_t, yaml_reformat, yaml_reload, yaml_same,
-    yaml_settings_t, yaml_side_t,
+use yaml_round_answers::{
+    compared_by, listed_by, reformatted_by, reloaded_by, yaml_c_answer, yaml_c_settings,
 };
-use yaml_round_records::{encoding_of, yaml_c_settings};
-
-fn form_number(form: yaml_form_t) -> i32
-    ensures { result ≡ form_number form }
-{
-    match form {
-        yaml_form_t::Canonical => 0,
-        yaml_form_t::Pretty => 1,
-    }
-}
-
-fn same_number(same: bool) -> i32
-    ensures { result ≡ same_number same }
-{
-    if same { 1 } else { 0 }
-}
-
-fn side_number(side: yaml_side_t) -> i32
-    ensures { result ≡ side_number side }
-{
-    match side {
-        yaml_side_t::First => 0,
-        yaml_side_t::Second => 1,
-    }
-}
-
-fn reformatted(
-    alloc: Global,
-    input: &[u8],
-    from: yaml_encoding_t,
-    settings: &yaml_settings_t,
-) -> yaml_c_answer
-    ensures { Reformats input.now (from, settings.now) result }
-{
-    match yaml_reformat(alloc, input, from, settings) {
-        Ok((text, form)) => told(text, form_number(form)),
-        Err(fault) => refused(alloc, &fault, 0),
-    }
-}
-
-fn reformatted_by(
-    alloc: Global,
-    input: &[u8],
-    from: i32,
-    settings: &yaml_c_settings,
-) -> yaml_c_answer
-    ensures { AnswersMeant (call_meant from settings.now) (Reformats input.now) result }
-{
-    let Some(from) = encoding_of(from) else {
-        return misused();
-    };
-    let Some(settings) = settings_of(settings) else {
-        return misused();
-    };
-    reformatted(alloc, input, from, &settings)
-}
 
 /// The text again, in canonical or pretty form: what `yaml_reformat` answers.
 #[unsafe(no_mangle)]
@@ -83,32 +24,6 @@ pub extern "C" fn yaml_c_reformat(
 {
     *answer = reformatted_by(alloc, input, from, settings);
     answer.kind
-}
-
-fn reloaded(
-    alloc: Global,
-    input: &[u8],
-    from: yaml_encoding_t,
-    settings: &yaml_settings_t,
-) -> yaml_c_answer
-    ensures { Reloads input.now (from, settings.now) result }
-{
-    match yaml_reload(alloc, input, from, settings) {
-        Ok(text) => told(text, 0),
-        Err(fault) => refused(alloc, &fault, 0),
-    }
-}
-
-fn reloaded_by(alloc: Global, input: &[u8], from: i32, settings: &yaml_c_settings) -> yaml_c_answer
-    ensures { AnswersMeant (call_meant from settings.now) (Reloads input.now) result }
-{
-    let Some(from) = encoding_of(from) else {
-        return misused();
-    };
-    let Some(settings) = settings_of(settings) else {
-        return misused();
-    };
-    reloaded(alloc, input, from, &settings)
 }
 
 /// The loaded documents, in canonical form: what `yaml_reload` answers.
@@ -128,40 +43,6 @@ pub extern "C" fn yaml_c_reload(
     answer.kind
 }
 
-fn compared(
-    alloc: Global,
-    first: &[u8],
-    first_from: yaml_encoding_t,
-    second: &[u8],
-    second_from: yaml_encoding_t,
-) -> yaml_c_answer
-    ensures { Compares first.now second.now (first_from, second_from) result }
-{
-    match yaml_same(alloc, first, first_from, second, second_from) {
-        Ok(same) => said(same_number(same)),
-        Err((side, fault)) => refused(alloc, &fault, side_number(side)),
-    }
-}
-
-fn compared_by(
-    alloc: Global,
-    first: &[u8],
-    first_from: i32,
-    second: &[u8],
-    second_from: i32,
-) -> yaml_c_answer
-    ensures { AnswersMeant (both (encoding_meant first_from) (encoding_meant second_from))
-        (Compares first.now second.now) result }
-{
-    let Some(first_from) = encoding_of(first_from) else {
-        return misused();
-    };
-    let Some(second_from) = encoding_of(second_from) else {
-        return misused();
-    };
-    compared(alloc, first, first_from, second, second_from)
-}
-
 /// Whether two texts have the same content: what `yaml_same` answers.
 #[unsafe(no_mangle)]
 pub extern "C" fn yaml_c_same(
@@ -179,24 +60,6 @@ pub extern "C" fn yaml_c_same(
 {
     *answer = compared_by(alloc, first, first_from, second, second_from);
     answer.kind
-}
-
-fn listed(alloc: Global, input: &[u8], from: yaml_encoding_t) -> yaml_c_answer
-    ensures { Lists input.now from result }
-{
-    match yaml_events(alloc, input, from) {
-        Ok(lines) => told(lines, 0),
-        Err(fault) => refused(alloc, &fault, 0),
-    }
-}
-
-fn listed_by(alloc: Global, input: &[u8], from: i32) -> yaml_c_answer
-    ensures { AnswersMeant (encoding_meant from) (Lists input.now) result }
-{
-    match encoding_of(from) {
-        Some(from) => listed(alloc, input, from),
-        None => misused(),
-    }
 }
 
 /// A line for each event: what `yaml_events` answers.

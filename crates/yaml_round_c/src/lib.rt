@@ -2,17 +2,16 @@
 //! names blocks that the caller frees. `bindings/c/yaml_c.h` tells C what stands here.
 #![tactic(auto)]
 
-mod answer;
 mod emitting;
 mod engine;
 mod parsing;
 mod settings;
 
-pub use answer::yaml_c_answer;
 pub use emitting::yaml_c_emit;
 pub use engine::{yaml_c_events, yaml_c_reformat, yaml_c_reload, yaml_c_same};
-pub use parsing::{yaml_c_parse, yaml_c_parsed};
+pub use parsing::yaml_c_parse;
 pub use settings::yaml_c_defaults;
-pub use yaml_round_records::{
-    yaml_c_directive, yaml_c_event, yaml_c_mark, yaml_c_settings, yaml_c_span,
+pub use yaml_round_answers::{
+    yaml_c_answer, yaml_c_directive, yaml_c_event, yaml_c_mark, yaml_c_parsed, yaml_c_settings,
+    yaml_c_span,
 };

@@ -1,7 +1,7 @@
 -- The numbers as they stand there, and what they mean.
 use Rattle.std.proofs.Common.{refl}
-use Rattle.yaml_round_records.specs.Numbers.{is_set, break_meant}
-use Rattle.yaml_round_c.specs.Settings.{output_meant}
+use Rattle.yaml_round_answers.specs.Numbers.{is_set, break_meant}
+use Rattle.yaml_round_answers.specs.Settings.{output_meant}
 use Rattle.yaml_round_c.proofs.settings.yaml_c_defaults.Goals as goal
 
 pub returns-clause-engine : goal.returns-clause-engine

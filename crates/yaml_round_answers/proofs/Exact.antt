@@ -1,0 +1,70 @@
+-- The kind that is told is -1 only where a number means nothing.
+use Rattle.std.proofs.Common.{◌≡◌, sym, subst, ℕ, ℤ, pos, negsuc, Bool, List, [], Option, None, Some, Result, Ok, Err}
+use Rattle.yaml_parse.specs.declared.yaml_error_type_t.{yaml_error_type_t}
+use Rattle.yaml_parse.specs.declared.yaml_error_type_t.TheVariants as error
+use Rattle.yaml_parse.specs.declared.yaml_fault_t.{yaml_fault_t}
+use Rattle.yaml_parse.specs.Faults.{Fault, fault_of}
+use Rattle.yaml_round.specs.declared.yaml_side_t.{yaml_side_t}
+use Rattle.yaml_round_answers.specs.declared.answer.yaml_c_answer.{yaml_c_answer}
+use Rattle.yaml_round_records.specs.Numbers.{encoding_meant, error_number}
+use Rattle.yaml_round_answers.specs.Told.{TellsText, TellsFault, TellsResult, TellsSame, AnswersMeant, IsExact, both, same_number, side_number, Lists, Compares}
+
+-- no number of a fault's kind is -1
+no_minus : (m : ℕ) (n : ℤ) → n ≡ pos m → ¬ (n ≡ negsuc 0)
+no_minus m n e f = absurd (cc)
+
+fault_number : (k : yaml_error_type_t) (n : ℤ) → n ≡ error_number k → ¬ (n ≡ negsuc 0)
+fault_number error.YAML_NO_ERROR n e = no_minus 0 n e
+fault_number error.YAML_MEMORY_ERROR n e = no_minus 1 n e
+fault_number error.YAML_READER_ERROR n e = no_minus 2 n e
+fault_number error.YAML_SCANNER_ERROR n e = no_minus 3 n e
+fault_number error.YAML_PARSER_ERROR n e = no_minus 4 n e
+fault_number error.YAML_COMPOSER_ERROR n e = no_minus 5 n e
+fault_number error.YAML_WRITER_ERROR n e = no_minus 6 n e
+fault_number error.YAML_EMITTER_ERROR n e = no_minus 7 n e
+
+text_kind : (bytes : List ℕ) (number : ℤ) (a : yaml_c_answer) → TellsText bytes number a → ¬ (a.kind ≡ negsuc 0)
+text_kind bytes number a h = no_minus 0 a.kind h.kind
+
+fault_kind : (f : Fault) (whose : ℤ) (a : yaml_c_answer) → TellsFault f whose a → ¬ (a.kind ≡ negsuc 0)
+fault_kind f whose a h = fault_number f.kind a.kind h.kind
+
+tells_kind : (r : Result (List ℕ) Fault) (a : yaml_c_answer) → TellsResult r a → ¬ (a.kind ≡ negsuc 0)
+tells_kind (Ok text) a h = text_kind text (pos 0) a h
+tells_kind (Err f) a h = fault_kind f (pos 0) a h
+
+same_kind : (r : Result Bool (yaml_side_t × yaml_fault_t)) (a : yaml_c_answer) → TellsSame r a → ¬ (a.kind ≡ negsuc 0)
+same_kind (Ok same) a h = text_kind [] (same_number same) a h
+same_kind (Err (side, f)) a h = fault_kind (fault_of f) (side_number side) a h
+
+-- a call whose answers tell no -1
+exact : {M : Type 0} (o : Option M) (Is : M → yaml_c_answer → Type 0) (a : yaml_c_answer) → ((m : M) → Is m a → ¬ (a.kind ≡ negsuc 0))
+    → AnswersMeant o Is a → IsExact o a.kind
+exact None Is a f h = h.kind
+exact (Some m) Is a f h = f m h
+
+-- the same, of numbers and a kind that are known by other names
+pub listed_told : (n from : ℤ) (input : List ℕ) (a : yaml_c_answer) → n ≡ from → AnswersMeant (encoding_meant n) (Lists input) a
+    → AnswersMeant (encoding_meant from) (Lists input) a
+listed_told n from input a p h = subst (λ z. AnswersMeant (encoding_meant z) (Lists input) a) p h
+
+pub listed_exact : (n from k : ℤ) (input : List ℕ) (a : yaml_c_answer) → n ≡ from → k ≡ a.kind → AnswersMeant (encoding_meant n) (Lists input) a
+    → IsExact (encoding_meant from) k
+listed_exact n from k input a p q h =
+    subst (λ z. IsExact (encoding_meant from) z) (sym q)
+    (exact (encoding_meant from) (Lists input) a (λ m l. tells_kind l.result a l.told) (listed_told n from input a p h))
+
+pub compared_told : (m n first_from second_from : ℤ) (first second : List ℕ) (a : yaml_c_answer) → m ≡ first_from → n ≡ second_from
+    → AnswersMeant (both (encoding_meant m) (encoding_meant n)) (Compares first second) a
+    → AnswersMeant (both (encoding_meant first_from) (encoding_meant second_from)) (Compares first second) a
+compared_told m n first_from second_from first second a p q h =
+    subst (λ z. AnswersMeant (both (encoding_meant first_from) (encoding_meant z)) (Compares first second) a) q
+    (subst (λ z. AnswersMeant (both (encoding_meant z) (encoding_meant n)) (Compares first second) a) p h)
+
+pub compared_exact : (m n first_from second_from k : ℤ) (first second : List ℕ) (a : yaml_c_answer) → m ≡ first_from → n ≡ second_from
+    → k ≡ a.kind → AnswersMeant (both (encoding_meant m) (encoding_meant n)) (Compares first second) a
+    → IsExact (both (encoding_meant first_from) (encoding_meant second_from)) k
+compared_exact m n first_from second_from k first second a p q r h =
+    subst (λ z. IsExact (both (encoding_meant first_from) (encoding_meant second_from)) z) (sym r)
+    (exact (both (encoding_meant first_from) (encoding_meant second_from)) (Compares first second) a (λ x l. same_kind l.result a l.told)
+    (compared_told m n first_from second_from first second a p q h))

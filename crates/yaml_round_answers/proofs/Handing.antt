@@ -1,0 +1,55 @@
+-- What was collected is handed out, and C is told of it.
+use Rattle.std.proofs.Common.{◌≡◌, ◌∙◌, ◌⊎◌, inl, inr, ap, sym, subst, ℕ, List, [], ◌++◌, Some, None}
+use Rattle.std.proofs.lemmas.List.{append-nil}
+use Rattle.yaml_parse.specs.declared.yaml_encoding_t.{yaml_encoding_t}
+use Rattle.yaml_parse.specs.declared.yaml_fault_t.{yaml_fault_t}
+use Rattle.yaml_parse.specs.Events.{TagDirective}
+use Rattle.yaml_parse.specs.Resolve.{Told}
+use Rattle.yaml_parse.specs.Faults.{fault_of, IsMemoryFault, parse_layers}
+use Rattle.yaml_parse.specs.Remaining.{ParserRemaining}
+use Rattle.yaml_round.specs.Answers.{IsFaulty}
+use Rattle.yaml_round.specs.Input.{Reads, events_of, ending_of}
+use Rattle.yaml_round.proofs.Plain.{faulty}
+use Rattle.yaml_round_records.specs.declared.Listing.{Listing}
+use Rattle.yaml_round_records.specs.declared.yaml_c_directive.{yaml_c_directive}
+use Rattle.yaml_round_answers.specs.declared.parsing.yaml_c_parsed.{yaml_c_parsed}
+use Rattle.yaml_round_records.specs.Records.{all_directives}
+use Rattle.yaml_round_records.specs.Blocks.{listed_directives}
+use Rattle.yaml_round_records.specs.Listing.{Collected, AreSaid, HoldsAll, events_alone}
+use Rattle.yaml_round_answers.specs.Parses.{HandsOut, SayEvents}
+use Rattle.yaml_round_records.proofs.Saying.{say_at}
+
+-- the events of a reading that has no fault are the input's
+pub all_taken : (from : yaml_encoding_t) (input : List ℕ) (p : ParserRemaining) (l : Listing) → Reads from input p → p.ending ≡ None
+    → Collected p.events [] l
+    → (ending_of from input ≡ None) × AreSaid l (events_alone (events_of from input)) × HoldsAll l (events_alone (events_of from input))
+all_taken from input p l r e c =
+    let all : events_alone (events_of from input) ≡ c.given = sym (ap events_alone r.events) ∙ c.split ∙ append-nil c.given in
+    (sym r.ending ∙ e, subst (λ z. AreSaid l z) (sym all) c.said, subst (λ z. HoldsAll l z) (sym all) c.holds)
+
+-- its fault is the input's
+pub fault_taken : (from : yaml_encoding_t) (input : List ℕ) (p : ParserRemaining) (f : yaml_fault_t) → Reads from input p
+    → IsMemoryFault parse_layers (fault_of f) ⊎ (p.ending ≡ Some (fault_of f)) → IsMemoryFault parse_layers (fault_of f) ⊎ (ending_of from input ≡ Some (fault_of f))
+fault_taken from input p f r (inl m) = inl m
+fault_taken from input p f r (inr e) = inr (sym r.ending ∙ e)
+
+-- it is that of the input's plain reading
+pub fault_plain : (from : yaml_encoding_t) (input : List ℕ) (f : yaml_fault_t) → IsMemoryFault parse_layers (fault_of f) ⊎ (ending_of from input ≡ Some (fault_of f))
+    → IsMemoryFault parse_layers (fault_of f) ⊎ IsFaulty from input (fault_of f)
+fault_plain from input f (inl m) = inl m
+fault_plain from input f (inr e) = inr (faulty from input (fault_of f) e)
+
+list_at : (b c : List ℕ) (d f : List yaml_c_directive) (ts : List TagDirective) → c ≡ b → f ≡ d → all_directives b d ≡ Some ts
+    → all_directives c f ≡ Some ts
+list_at b c d f ts p q h = subst (λ z. all_directives z f ≡ Some ts) (sym p) (subst (λ z. all_directives b z ≡ Some ts) (sym q) h)
+
+-- the blocks say what the listing does, and hold what it holds
+pub handed_says : (l : Listing) (p : yaml_c_parsed) (es : List Told) → HandsOut l p → AreSaid l (events_alone es)
+    → HoldsAll l (events_alone es) → SayEvents p es
+handed_says l p es h s a =
+    let bytes : p.bytes.now ≡ l.bytes.items ++ [] = h.bytes ∙ sym (append-nil l.bytes.items) in record {
+      events = say_at _ p.bytes.now _ p.directives.now _ p.events.now (events_alone es) bytes
+          (h.directives ∙ sym (append-nil l.directives.items)) h.events (s [] []);
+      bytes = h.bytes ∙ a.bytes;
+      directives = list_at _ p.bytes.now _ p.directives.now (listed_directives (events_alone es)) bytes h.directives (a.directives []);
+    }

@@ -1,0 +1,3 @@
+mod Telling
+mod Handing
+pub mod Exact

@@ -1,0 +1,23 @@
+-- What the call answers is what C is told.
+use mir.Syntax.{w32}
+use mir.Val.{SFits, to_z, of_z}
+use Rattle.std.proofs.Common.{◌≡◌, ◌∙◌, subst, rules}
+use Rattle.std.proofs.lemmas.Int.{to_z-of_z}
+use Rattle.std.specs.Prelude.{Ok, Err}
+use Rattle.yaml_parse.specs.Faults.{fault_of}
+use Rattle.yaml_round_answers.specs.Told.{TellsText, form_number}
+use Rattle.yaml_round_answers.proofs.engine.reformatted.Goals as goal
+
+pub returns-in-Ok : goal.returns-in-Ok
+returns-in-Ok c =
+    let fits : SFits w32 c.form_number.result = search rules in
+    let n : to_z w32 (of_z w32 c.form_number.result) ≡ form_number c.in-Ok.form =
+    to_z-of_z w32 c.form_number.result fits ∙ c.form_number.ensures in
+    record {
+      result = Ok (c.in-Ok.text.items, c.in-Ok.form);
+      is = c.in-Ok.ensures;
+      told = subst (λ m. TellsText c.in-Ok.text.items m c.told.result) n c.told.ensures;
+    }
+
+pub returns-in-Err : goal.returns-in-Err
+returns-in-Err c = record { result = Err (fault_of c.in-Err.fault); is = c.in-Err.ensures; told = c.refused.ensures }

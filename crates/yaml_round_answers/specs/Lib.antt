@@ -1,0 +1,6 @@
+pub mod Settings
+pub mod Told
+pub mod Emitting
+pub mod Parses
+-- what it speaks of, for the crate that exports its calls
+pub use Rattle.yaml_round_records.specs.Numbers

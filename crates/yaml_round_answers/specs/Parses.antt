@@ -1,0 +1,58 @@
+-- What C is told of a parse.
+use Rattle.std.specs.Prelude.{◌≡◌, ◌⊎◌, pos, ℕ, List, [], None, Some, Result, Ok, Err}
+use Rattle.yaml_parse.specs.declared.yaml_encoding_t.{yaml_encoding_t}
+use Rattle.yaml_parse.specs.declared.yaml_fault_t.{yaml_fault_t}
+use Rattle.yaml_parse.specs.Faults.{Fault, fault_of, IsMemoryFault, parse_layers}
+use Rattle.yaml_parse.specs.Resolve.{Told}
+use Rattle.yaml_round.specs.Answers.{IsFaulty}
+use Rattle.yaml_round.specs.Input.{events_of, ending_of}
+use Rattle.yaml_round.specs.round_laws_reading.Reading.{HasEvents}
+use Rattle.yaml_round_answers.specs.declared.answer.yaml_c_answer.{yaml_c_answer}
+use Rattle.yaml_round_records.specs.declared.Listing.{Listing}
+use Rattle.yaml_round_answers.specs.declared.parsing.yaml_c_parsed.{yaml_c_parsed}
+use Rattle.yaml_round_records.specs.Records.{AllSay, all_directives}
+use Rattle.yaml_round_records.specs.Blocks.{all_texts, listed_directives}
+use Rattle.yaml_round_records.specs.Listing.{AreSaid, HoldsAll, events_alone}
+use Rattle.yaml_round_answers.specs.Told.{TellsText, TellsFault, IsAnswered, OrMemory}
+
+-- the events of an input, where it is accepted: those of the tree that its tokens are
+abbrev pub IsParsed : yaml_encoding_t → List ℕ → Result (List Told) Fault → Type 0
+IsParsed from input (Ok events) = HasEvents from input events
+IsParsed from input (Err fault) = IsFaulty from input fault
+
+-- no block
+pub record HasNothing (p : yaml_c_parsed) : Type 0 where
+  pub events : p.events.now ≡ []
+  pub directives : p.directives.now ≡ []
+  pub bytes : p.bytes.now ≡ []
+
+-- The records say the events, one by one. The bytes are the texts of these, one behind another, and the list of directives
+-- is of theirs; neither holds anything beside.
+pub record SayEvents (p : yaml_c_parsed) (es : List Told) : Type 0 where
+  pub events : AllSay p.bytes.now p.directives.now p.events.now (events_alone es)
+  pub bytes : p.bytes.now ≡ all_texts (events_alone es)
+  pub directives : all_directives p.bytes.now p.directives.now
+      ≡ Some (listed_directives (events_alone es))
+
+abbrev pub TellsEvents : yaml_c_parsed → Result (List Told) Fault → yaml_c_answer → Type 0
+TellsEvents p (Ok es) a = TellsText [] (pos 0) a × SayEvents p es
+TellsEvents p (Err fault) a = TellsFault fault (pos 0) a × HasNothing p
+
+abbrev pub Parses : List ℕ → yaml_c_parsed → yaml_encoding_t → yaml_c_answer → Type 0
+Parses input p from = IsAnswered (OrMemory parse_layers (IsParsed from input)) (TellsEvents p)
+
+-- ---- what the code hands on
+
+-- the listing says the input's events, and nothing beside; or its fault, or want of memory
+abbrev pub IsCollected : yaml_encoding_t → List ℕ → Result Listing yaml_fault_t → Type 0
+IsCollected from input (Ok l) = (ending_of from input ≡ None)
+    × AreSaid l (events_alone (events_of from input))
+    × HoldsAll l (events_alone (events_of from input))
+IsCollected from input (Err f) = IsMemoryFault parse_layers (fault_of f)
+    ⊎ (ending_of from input ≡ Some (fault_of f))
+
+-- the blocks are the listing's
+pub record HandsOut (l : Listing) (p : yaml_c_parsed) : Type 0 where
+  pub events : p.events.now ≡ l.events.items
+  pub directives : p.directives.now ≡ l.directives.items
+  pub bytes : p.bytes.now ≡ l.bytes.items

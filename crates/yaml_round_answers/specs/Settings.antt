@@ -1,0 +1,52 @@
+-- The settings that C's record means.
+use Rattle.std.specs.Prelude.{ℤ, pos, if◌then◌else◌, Option, None, Some}
+use Rattle.std.specs.Ordering.{int_eq}
+use Rattle.yaml_parse.specs.declared.yaml_break_t.{yaml_break_t}
+use Rattle.yaml_round.specs.declared.yaml_settings_t.{yaml_settings_t}
+use Rattle.yaml_round.specs.declared.yaml_output_encoding_t.{yaml_output_encoding_t}
+use Rattle.yaml_round.specs.declared.yaml_output_encoding_t.TheVariants as output
+use Rattle.yaml_round_records.specs.declared.yaml_c_settings.{yaml_c_settings}
+use Rattle.yaml_round_records.specs.Numbers.{is_set, break_meant}
+-- the engine's own, which those of C are compared with
+pub use Rattle.yaml_round.specs.Settings.{default_settings}
+
+-- the encoding of an answer: any means UTF-8
+unfoldable pub output_meant : ℤ → Option yaml_output_encoding_t
+output_meant n =
+    if int_eq n (pos 0) then Some output.Utf8
+    else if int_eq n (pos 1) then Some output.Utf8
+    else if int_eq n (pos 2) then Some output.Utf16Le
+    else if int_eq n (pos 3) then Some output.Utf16Be
+    else None
+
+abbrev pub settings_by : Option yaml_output_encoding_t → Option yaml_break_t → yaml_c_settings
+    → Option yaml_settings_t
+settings_by None b given = None
+settings_by (Some x) None given = None
+settings_by (Some x) (Some b) given = Some
+    (record {
+      encoding = x;
+      canonical = is_set given.canonical;
+      indent = given.indent;
+      width = given.width;
+      unicode = is_set given.unicode;
+      line_break = b;
+      limit = given.limit;
+    })
+
+-- The numbers stand for themselves; where `encoding` or `line_break` means nothing, there are none.
+abbrev pub settings_meant : yaml_c_settings → Option yaml_settings_t
+settings_meant given = settings_by (output_meant given.encoding) (break_meant given.line_break)
+    given
+
+-- What the header names: UTF-8, canonical form, indent 2, width 80, unicode on, LF, and 2^40 bytes.
+abbrev pub default_record : yaml_c_settings
+default_record = record {
+  encoding = pos 1;
+  canonical = pos 1;
+  indent = pos 2;
+  width = pos 80;
+  unicode = pos 1;
+  line_break = pos 2;
+  limit = 1099511627776;
+}

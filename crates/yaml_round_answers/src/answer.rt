@@ -1,0 +1,140 @@
+//! What C is told.
+
+ghost use Rattle.std.specs.Prelude.{◌≡◌, ◌⊎◌, [], pos, unwrap_or, option_map};
+ghost use Rattle.yaml_parse.specs.Faults.{fault_of};
+ghost use Rattle.yaml_round.specs.FaultLine.{fault_line};
+ghost use Rattle.yaml_round_answers.specs.Told.{TellsText, TellsFault, TellsMisuse};
+
+use std::alloc::Global;
+use yaml_round::{yaml_fault_line, yaml_fault_t};
+use yaml_round_records::{error_number, mark_told, yaml_c_mark};
+
+/// An answer: a text, or a fault. `kind` is 0, the number of the fault's kind, or -1 where an argument means nothing.
+#[repr(C)]
+#[derive(Drop)]
+pub struct yaml_c_answer {
+    pub kind: i32,
+    /// 1 where the text is in pretty form, or where two inputs are the same.
+    pub is: i32,
+    /// 1 where the fault is the second input's.
+    pub second: i32,
+    pub value: i32,
+    pub offset: u64,
+    pub problem_mark: yaml_c_mark,
+    pub context_mark: yaml_c_mark,
+    /// Of the program's constants, and never freed.
+    pub problem: &'static [u8],
+    /// Likewise; empty where there is none.
+    pub context: &'static [u8],
+    /// A block that the caller frees, where it has any byte.
+    pub text: &'static [u8],
+    /// The fault as a line. A block that the caller frees, where it has any byte.
+    pub line: &'static [u8],
+}
+
+const _: () = prove!(size_of::<yaml_c_answer>() == 136);
+
+const ZERO: yaml_c_mark = yaml_c_mark {
+    index: 0,
+    line: 0,
+    column: 0,
+};
+
+/// A block that lives on for C. With no byte there is no block.
+pub(crate) fn handed_out(text: Vec<u8>) -> &'static [u8]
+    ensures { result.now ≡ text.items }
+{
+    if text.is_empty() {
+        return b"";
+    }
+    text.leak()
+}
+
+fn text_told(text: &'static [u8], is: i32) -> yaml_c_answer
+    ensures { TellsText text.now is result }
+{
+    yaml_c_answer {
+        kind: 0,
+        is,
+        second: 0,
+        value: 0,
+        offset: 0,
+        problem_mark: ZERO,
+        context_mark: ZERO,
+        problem: b"",
+        context: b"",
+        text,
+        line: b"",
+    }
+}
+
+/// An answer with a text, and a number beside it.
+pub fn told(text: Vec<u8>, is: i32) -> yaml_c_answer
+    ensures { TellsText text.items is result }
+{
+    text_told(handed_out(text), is)
+}
+
+/// An answer that is a number alone.
+pub(crate) fn said(is: i32) -> yaml_c_answer
+    ensures { TellsText [] is result }
+{
+    text_told(b"", is)
+}
+
+fn context_of(context: Option<&'static str>) -> &'static [u8]
+    ensures { result.now ≡ unwrap_or (option_map (λ t. t.now) context.entry) [] }
+{
+    match context {
+        Some(context) => context.as_bytes(),
+        None => b"",
+    }
+}
+
+// The fault in words, where memory for that is there.
+fn line_of(alloc: Global, fault: &yaml_fault_t) -> &'static [u8]
+    ensures { (result.now ≡ fault_line (fault_of fault.now)) ⊎ (result.now ≡ []) }
+{
+    match yaml_fault_line(alloc, fault) {
+        Ok(line) => handed_out(line),
+        Err(_) => b"",
+    }
+}
+
+/// An answer that is a fault; `second` tells whose.
+pub(crate) fn refused(alloc: Global, fault: &yaml_fault_t, second: i32) -> yaml_c_answer
+    ensures { TellsFault (fault_of fault.now) second result }
+{
+    yaml_c_answer {
+        kind: error_number(fault.kind),
+        is: 0,
+        second,
+        value: fault.value,
+        offset: fault.offset,
+        problem_mark: mark_told(fault.problem_mark),
+        context_mark: mark_told(fault.context_mark),
+        problem: fault.problem.as_bytes(),
+        context: context_of(fault.context),
+        text: b"",
+        line: line_of(alloc, fault),
+    }
+}
+
+/// The answer where an argument means nothing.
+pub(crate) fn misused() -> yaml_c_answer
+    ensures { TellsMisuse result }
+{
+    yaml_c_answer {
+        kind: -1,
+        is: 0,
+        second: 0,
+        value: 0,
+        offset: 0,
+        problem_mark: ZERO,
+        context_mark: ZERO,
+        problem: b"an argument means nothing",
+        context: b"",
+        text: b"",
+        line: b"",
+    }
+}

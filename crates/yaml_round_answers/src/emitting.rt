@@ -1,0 +1,51 @@
+//! The text of events that are given as records.
+
+ghost use Rattle.std.specs.Prelude.{IsSome};
+ghost use Rattle.yaml_round_answers.specs.Told.{AnswersMeant};
+ghost use Rattle.yaml_round_records.specs.Meaning.{events_meant};
+ghost use Rattle.yaml_round_records.specs.Leading.{asked_for};
+ghost use Rattle.yaml_round_answers.specs.Emitting.{emit_meant, Emits, EmitsAll};
+
+use crate::answer::{misused, refused, told, yaml_c_answer};
+use std::alloc::Global;
+use yaml_round_records::{
+    Asked, are_meant, asked_of, emitted, yaml_c_directive, yaml_c_event, yaml_c_settings,
+};
+
+fn answered(
+    alloc: Global,
+    events: &[yaml_c_event],
+    directives: &[yaml_c_directive],
+    bytes: &[u8],
+    asked: &Asked,
+) -> yaml_c_answer
+    requires { IsSome (events_meant bytes.now directives.now events.now) }
+    ensures { EmitsAll (events_meant bytes.now directives.now events.now) (asked_for asked.now)
+        result }
+{
+    match emitted(alloc, bytes, directives, events, asked) {
+        Ok(text) => told(text, 0),
+        Err(fault) => refused(alloc, &fault, 0),
+    }
+}
+
+/// What an emitter under the settings makes of the events, where all that is given means something.
+pub fn answered_by(
+    alloc: Global,
+    events: &[yaml_c_event],
+    directives: &[yaml_c_directive],
+    bytes: &[u8],
+    settings: &yaml_c_settings,
+) -> yaml_c_answer
+    ensures { AnswersMeant (emit_meant bytes.now directives.now events.now settings.now) Emits
+        result }
+{
+    let Some(asked) = asked_of(settings) else {
+        return misused();
+    };
+    if are_meant(bytes, directives, events) {
+        answered(alloc, events, directives, bytes, &asked)
+    } else {
+        misused()
+    }
+}

@@ -1,0 +1,16 @@
+//! What C is told of each call: the engine's answers, and those of a parse and of an emitter, as records.
+#![tactic(auto)]
+
+mod answer;
+mod emitting;
+mod engine;
+mod parsing;
+mod settings;
+
+pub use answer::{told, yaml_c_answer};
+pub use emitting::answered_by;
+pub use engine::{compared_by, listed_by, reformatted_by, reloaded_by};
+pub use parsing::{parsed_by, yaml_c_parsed};
+pub use yaml_round_records::{
+    yaml_c_directive, yaml_c_event, yaml_c_mark, yaml_c_settings, yaml_c_span,
+};

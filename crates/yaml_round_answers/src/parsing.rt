@@ -1,0 +1,138 @@
+//! The events of an input, as records.
+
+ghost use Rattle.std.specs.Prelude.{◌≡◌, ◌⊎◌, pos, IfOk, IfErr};
+ghost use Rattle.yaml_parse.specs.Faults.{fault_of, IsMemoryFault, parse_layers};
+ghost use Rattle.yaml_round.specs.Input.{Reads};
+ghost use Rattle.yaml_round_records.specs.Numbers.{encoding_meant};
+ghost use Rattle.yaml_round_answers.specs.Told.{AnswersMeant};
+ghost use Rattle.yaml_round_answers.specs.Parses.{HasNothing, HandsOut, Parses, IsCollected};
+
+use crate::answer::{handed_out, misused, refused, said, yaml_c_answer};
+use std::alloc::Global;
+use yaml_parse::{yaml_parser_delete, yaml_parser_initialize, yaml_parser_t};
+use yaml_round::{yaml_adapter_t, yaml_encoding_t, yaml_fault_t};
+use yaml_round_records::{Listing, collect, encoding_of, yaml_c_directive, yaml_c_event};
+
+/// The events of an input, and the bytes and directives that they speak of. All three are the caller's to free, where they
+/// have any item.
+#[repr(C)]
+#[derive(Drop)]
+pub struct yaml_c_parsed {
+    pub events: &'static [yaml_c_event],
+    pub directives: &'static [yaml_c_directive],
+    pub bytes: &'static [u8],
+}
+
+const _: () = prove!(size_of::<yaml_c_parsed>() == 48);
+
+// A parser of the input that has given nothing yet.
+fn reading_of<'a>(
+    alloc: Global,
+    input: &'a [u8],
+    from: yaml_encoding_t,
+) -> Result<yaml_parser_t<yaml_adapter_t<'a>>, yaml_fault_t>
+    ensures reads { IfOk result (Reads from input.now) }
+    ensures memory { IfErr result (λ f. IsMemoryFault parse_layers (fault_of f)) }
+{
+    match yaml_parser_initialize(alloc, yaml_adapter_t::new(alloc, input, from)) {
+        Ok(reading) => Ok(reading),
+        Err(fault) => Err(fault),
+    }
+}
+
+fn collected(alloc: Global, input: &[u8], from: yaml_encoding_t) -> Result<Listing, yaml_fault_t>
+    ensures { IsCollected from input.now result }
+{
+    let mut reading = reading_of(alloc, input, from)?;
+    let mut listing = Listing::new(alloc);
+    let end = collect(&mut reading, &mut listing);
+    yaml_parser_delete(reading);
+    match end {
+        Ok(()) => Ok(listing),
+        Err(fault) => Err(fault),
+    }
+}
+
+fn nothing() -> yaml_c_parsed
+    ensures { HasNothing result }
+{
+    yaml_c_parsed {
+        events: &[],
+        directives: &[],
+        bytes: b"",
+    }
+}
+
+fn events_out(events: Vec<yaml_c_event>) -> &'static [yaml_c_event]
+    ensures { result.now ≡ events.items }
+{
+    if events.is_empty() {
+        return &[];
+    }
+    events.leak()
+}
+
+fn directives_out(directives: Vec<yaml_c_directive>) -> &'static [yaml_c_directive]
+    ensures { result.now ≡ directives.items }
+{
+    if directives.is_empty() {
+        return &[];
+    }
+    directives.leak()
+}
+
+// Blocks that live on for C.
+fn blocks_of(listing: Listing) -> yaml_c_parsed
+    ensures { HandsOut listing result }
+{
+    let Listing {
+        events,
+        directives,
+        bytes,
+    } = listing;
+    yaml_c_parsed {
+        events: events_out(events),
+        directives: directives_out(directives),
+        bytes: handed_out(bytes),
+    }
+}
+
+fn parsed(
+    alloc: Global,
+    input: &[u8],
+    from: yaml_encoding_t,
+    blocks: &mut yaml_c_parsed,
+) -> yaml_c_answer
+    ensures told { Parses input.now blocks.new from result }
+    ensures none { (result.kind ≡ pos 0) ⊎ HasNothing blocks.new }
+{
+    match collected(alloc, input, from) {
+        Ok(listing) => {
+            *blocks = blocks_of(listing);
+            said(0)
+        }
+        Err(fault) => {
+            *blocks = nothing();
+            refused(alloc, &fault, 0)
+        }
+    }
+}
+
+/// What a parse answers, where its number means something, and what it hands out.
+pub fn parsed_by(
+    alloc: Global,
+    input: &[u8],
+    from: i32,
+    blocks: &mut yaml_c_parsed,
+) -> yaml_c_answer
+    ensures told { AnswersMeant (encoding_meant from) (Parses input.now blocks.new) result }
+    ensures none { (result.kind ≡ pos 0) ⊎ HasNothing blocks.new }
+{
+    match encoding_of(from) {
+        Some(from) => parsed(alloc, input, from, blocks),
+        None => {
+            *blocks = nothing();
+            misused()
+        }
+    }
+}

@@ -1,3 +1,0 @@
-pub mod Telling
-pub mod Handing
-pub mod Exact

@@ -1,4 +1,0 @@
-pub mod Settings
-pub mod Told
-pub mod Emitting
-pub mod Parses

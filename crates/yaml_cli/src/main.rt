@@ -4,19 +4,27 @@
 use std::process::ExitCode;
 use yaml_cli_main::yaml_main;
 
-fn main(rt: HostRuntime) -> ExitCode {
-    let Ok(args) = std::env::args(&rt) else {
-        return ExitCode::from(2);
-    };
-    let Ok(words) = args.collect::<Vec<String>>(rt.alloc()) else {
-        return ExitCode::from(2);
-    };
-    let status = yaml_main(
-        &rt,
-        words.as_slice(),
+// The words of the program. None where one isn't UTF-8, or there is no room for them.
+fn words_of(rt: &HostRuntime) -> Option<Vec<String>> {
+    match std::env::args(rt) {
+        Ok(args) => args.collect::<Vec<String>>(rt.alloc()).ok(),
+        Err(_) => None,
+    }
+}
+
+fn status_of(rt: &HostRuntime, words: &[String]) -> u8 {
+    yaml_main(
+        rt,
+        words,
         &mut rt.stdin(),
         &mut rt.stdout(),
         &mut rt.stderr(),
-    );
-    ExitCode::from(status)
+    )
+}
+
+fn main(rt: HostRuntime) -> ExitCode {
+    match words_of(&rt) {
+        Some(words) => ExitCode::from(status_of(&rt, words.as_slice())),
+        None => ExitCode::from(2),
+    }
 }

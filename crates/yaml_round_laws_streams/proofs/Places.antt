@@ -41,10 +41,14 @@ opens_items s = ap (λ ds. inside (item_due ∷ ds)) (twice (dues s))
 opens_pairs : (s : List State) → inside (key_due ∷ behind_node (behind_node (dues s))) ≡ inside (key_due ∷ dues s)
 opens_pairs s = ap (λ ds. inside (key_due ∷ ds)) (twice (dues s))
 
+-- what is refused isn't taken
+refused_untaken : (p : ParseProblem) (o : Option yaml_mark_t) → Refuse p o ≡ Take → ⊥
+refused_untaken p o h = cc
+
 stream_leads : (start end : yaml_mark_t) (b : TokenBody) (s : List State) → choice_at state.stream (type_of b) ≡ Take → AreRight (state.stream ∷ s)
     → Leads (shape_of (state.stream ∷ s)) (stream_taken start end b).item ((stream_taken start end b).above ++ s)
 stream_leads start end (token.stream_start e) s c h = (refl, (refl, h))
-stream_leads start end _ s c h = cc
+stream_leads start end _ s c h = absurd (refused_untaken problem.NoStreamStart None c)
 
 documents_lead : (from start end : yaml_mark_t) (b : TokenBody) (s : List State) → AreRight (state.documents ∷ s)
     → Leads (at_place between) (documents_taken from start end b).item ((documents_taken from start end b).above ++ s)

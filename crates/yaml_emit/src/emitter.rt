@@ -166,7 +166,8 @@ pub fn yaml_emitter_into_output(emitter: yaml_emitter_t) -> Vec<u8>
     ensures whole { IsWhole emitter result.items }
     ensures within { IsWithin emitter }
 {
-    into_output(emitter)
+    let text = into_output(emitter);
+    text
 }
 
 /// Spends the emitter.

@@ -59,15 +59,22 @@ fn tells_undefined(alloc: Global, text: &str) -> bool {
     }
 }
 
+fn finds_values(alloc: Global) -> bool {
+    for (text, key, value) in &VALUES {
+        if !finds(alloc, *text, *key, *value) {
+            return false;
+        }
+    }
+    true
+}
+
 // Another root than a mapping is refused, and a fault is told.
 #[test]
 fn lookups(rt: HostRuntime) -> Result<(), Fail> {
-    for (text, key, value) in &VALUES {
-        assert!(rt; finds(rt.alloc(), *text, *key, *value), "{key}");
-    }
-    for text in ["", "a", "[a, b]"] {
-        assert!(rt; is_not_a_mapping(rt.alloc(), text));
-    }
+    assert!(rt; finds_values(rt.alloc()));
+    assert!(rt; is_not_a_mapping(rt.alloc(), ""));
+    assert!(rt; is_not_a_mapping(rt.alloc(), "a"));
+    assert!(rt; is_not_a_mapping(rt.alloc(), "[a, b]"));
     assert!(rt; has_no_value(rt.alloc(), "{}"));
     assert!(rt; tells_undefined(rt.alloc(), "a: 1\nb: *c\n"));
     Ok(())

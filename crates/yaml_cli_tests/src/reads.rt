@@ -121,14 +121,28 @@ fn asks(alloc: Global, row: &Sizes) -> bool {
     got == *want && found.as_slice() == *sizes
 }
 
+fn are_read(alloc: Global) -> bool {
+    for row in &READINGS {
+        if !is_read(alloc, row) {
+            return false;
+        }
+    }
+    true
+}
+
 // An input is asked for 4,096 bytes, and for one more than may come where that is less.
+fn asks_right(alloc: Global) -> bool {
+    for row in &SIZES {
+        if !asks(alloc, row) {
+            return false;
+        }
+    }
+    true
+}
+
 #[test]
 fn reads(rt: HostRuntime) -> Result<(), Fail> {
-    for row in &READINGS {
-        assert!(rt; is_read(rt.alloc(), row));
-    }
-    for row in &SIZES {
-        assert!(rt; asks(rt.alloc(), row));
-    }
+    assert!(rt; are_read(rt.alloc()));
+    assert!(rt; asks_right(rt.alloc()));
     Ok(())
 }

@@ -1,14 +1,15 @@
 //! Commands over streams that come and go in pieces, or fail.
 
 use crate::check::{Case, Want, are_right};
+use std::process::Abort;
+use std::rt::Files;
 use std::test::Fail;
 use yaml_round_scripted::{step_t, write_step_t};
 
 const FAILS: &[write_step_t] = &[write_step_t::Failure];
 
-// A write fails, behind three bytes; a read does; and what can't be told leaves the status: a line, help, and a command's
-// answer.
-const CASES: [Case; 6] = [
+// A write fails, behind three bytes; a read does.
+const CASES: [Case; 2] = [
     Case {
         words: &["x", "fmt"],
         reads: &[step_t::Piece(b"[]")],
@@ -27,6 +28,10 @@ const CASES: [Case; 6] = [
         status: 1,
         want: Want::Exactly(b"", "yaml_cli: cannot read the input\n"),
     },
+];
+
+// What can't be told leaves the status: a line, help, and a command's answer.
+const UNTOLD: [Case; 4] = [
     Case {
         words: &["x", "fmt"],
         reads: &[step_t::Piece(b"[")],
@@ -69,8 +74,8 @@ const FMT: &[&str] = &["x", "fmt"];
 
 const PIECES: &[step_t] = &[step_t::Piece(b"[\"a\""), step_t::Piece(b", \"b\"]")];
 
-// What is received of the text of `["a", "b"]` is what is told. The last one took the whole text, and didn't pass it on.
-const WRITES: [Case; 7] = [
+// What is received of the text of `["a", "b"]` is what is told.
+const WRITES: [Case; 4] = [
     Case {
         words: FMT,
         reads: PIECES,
@@ -115,6 +120,10 @@ const WRITES: [Case; 7] = [
         status: 0,
         want: Want::Exactly(b"---\n[\n  \"a\",\n  \"b\",\n]\n", ""),
     },
+];
+
+// The same where a write is interrupted too often. The last one took the whole text, and didn't pass it on.
+const CUT: [Case; 3] = [
     Case {
         words: FMT,
         reads: PIECES,
@@ -151,8 +160,8 @@ const WRITES: [Case; 7] = [
     },
 ];
 
-// Nothing is written before the whole input was read and accepted; the text of `foo`, whole and cut.
-const READS: [Case; 5] = [
+// Nothing is written before the whole input was read and accepted.
+const READS: [Case; 2] = [
     Case {
         words: FMT,
         reads: &[step_t::Piece(b"[\"a\"]"), step_t::Failure],
@@ -174,6 +183,10 @@ const READS: [Case; 5] = [
             "yaml_cli: parser error: while parsing a flow sequence (line 2, column 5): did not find expected ',' or ']' (line 3, column 1)\n",
         ),
     },
+];
+
+// The text of `foo`, whole and cut, and none where its reading fails.
+const TAKEN: [Case; 3] = [
     Case {
         words: FMT,
         reads: &[step_t::Piece(b"f"), step_t::Piece(b"oo")],
@@ -203,10 +216,39 @@ const READS: [Case; 5] = [
     },
 ];
 
+// A function is proved with all rows of its tables, one beside another, so each of these has one small table.
+
+fn are_cases<H: Files + AllocGlobal + Abort>(rt: &H) {
+    are_right(rt, &CASES);
+}
+
+fn are_untold<H: Files + AllocGlobal + Abort>(rt: &H) {
+    are_right(rt, &UNTOLD);
+}
+
+fn are_written<H: Files + AllocGlobal + Abort>(rt: &H) {
+    are_right(rt, &WRITES);
+}
+
+fn are_cut<H: Files + AllocGlobal + Abort>(rt: &H) {
+    are_right(rt, &CUT);
+}
+
+fn are_read<H: Files + AllocGlobal + Abort>(rt: &H) {
+    are_right(rt, &READS);
+}
+
+fn are_taken<H: Files + AllocGlobal + Abort>(rt: &H) {
+    are_right(rt, &TAKEN);
+}
+
 #[test]
 fn streams(rt: HostRuntime) -> Result<(), Fail> {
-    are_right(&rt, &CASES);
-    are_right(&rt, &WRITES);
-    are_right(&rt, &READS);
+    are_cases(&rt);
+    are_untold(&rt);
+    are_written(&rt);
+    are_cut(&rt);
+    are_read(&rt);
+    are_taken(&rt);
     Ok(())
 }

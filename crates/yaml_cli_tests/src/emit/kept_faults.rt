@@ -141,18 +141,32 @@ pub(crate) fn keeps(alloc: Global, emitter: &mut yaml_emitter_t, row: &Row) -> b
     shows && stays(alloc, emitter, misplaced(row.1), front)
 }
 
+fn are_fronts(alloc: Global) -> bool {
+    for limit in &[0usize, 3, 10, 15] {
+        if !is_right(alloc, *limit as u64, true, Asked::Front(*limit)) {
+            return false;
+        }
+    }
+    true
+}
+
+fn are_refused(alloc: Global) -> bool {
+    for row in &REFUSED {
+        if !is_right(alloc, 1000, true, Asked::Refused(row)) {
+            return false;
+        }
+    }
+    true
+}
+
 // A dump past the limit; a second one; one in a stream that was opened by hand; one behind the end; and calls behind a refused
 // event.
 #[test]
 fn behind_a_fault(rt: HostRuntime) -> Result<(), Fail> {
-    for limit in &[0usize, 3, 10, 15] {
-        assert!(rt; is_right(rt.alloc(), *limit as u64, true, Asked::Front(*limit)));
-    }
+    assert!(rt; are_fronts(rt.alloc()));
     assert!(rt; is_right(rt.alloc(), 16, true, Asked::Whole));
     assert!(rt; is_right(rt.alloc(), 3, true, Asked::Full));
     assert!(rt; is_right(rt.alloc(), 1000, true, Asked::Closed));
-    for row in &REFUSED {
-        assert!(rt; is_right(rt.alloc(), 1000, true, Asked::Refused(row)));
-    }
+    assert!(rt; are_refused(rt.alloc()));
     Ok(())
 }

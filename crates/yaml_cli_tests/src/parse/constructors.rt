@@ -15,7 +15,7 @@ type Made = Result<yaml_event_t, yaml_text_fault_t>;
 
 // Whether a text that isn't UTF-8 was refused.
 fn is_refused(made: Made) -> bool {
-    matches!(&made, Err(yaml_text_fault_t::NotUtf8))
+    made.err() == Some(yaml_text_fault_t::NotUtf8)
 }
 
 fn refuses_alias(alloc: Global) -> bool {
@@ -28,6 +28,12 @@ fn refuses_scalar(alloc: Global, anchor: Option<&[u8]>, tag: Option<&[u8]>, valu
     is_refused(yaml_scalar_event_initialize(alloc, anchor, tag, value, true, true, PLAIN))
 }
 
+fn refuses_scalars(alloc: Global) -> bool {
+    refuses_scalar(alloc, Some(b"\xFF"), None, b"k")
+        && refuses_scalar(alloc, None, Some(b"\xFF"), b"k")
+        && refuses_scalar(alloc, None, None, b"\xFF")
+}
+
 fn refuses_sequence(alloc: Global) -> bool {
     let flow = yaml_sequence_style_t::YAML_FLOW_SEQUENCE_STYLE;
     is_refused(yaml_sequence_start_event_initialize(alloc, Some(b"\xC0\x80"), None, false, flow))
@@ -36,6 +42,10 @@ fn refuses_sequence(alloc: Global) -> bool {
 fn refuses_mapping(alloc: Global) -> bool {
     let block = yaml_mapping_style_t::YAML_BLOCK_MAPPING_STYLE;
     is_refused(yaml_mapping_start_event_initialize(alloc, None, Some(b"\xED\xA0\x80"), true, block))
+}
+
+fn refuses_collections(alloc: Global) -> bool {
+    refuses_sequence(alloc) && refuses_mapping(alloc)
 }
 
 /// Adds a directive.
@@ -51,21 +61,21 @@ pub(crate) fn push(
     Ok(())
 }
 
+fn refuses_start(alloc: Global, directives: &[yaml_tag_directive_t]) -> bool {
+    is_refused(yaml_document_start_event_initialize(alloc, None, directives, false))
+}
+
 fn refuses_directives(alloc: Global) -> bool {
     let mut directives = Vec::new(alloc);
     let pushed = push(alloc, &mut directives, b"!", b"\xFF");
-    let made = yaml_document_start_event_initialize(alloc, None, directives.as_slice(), false);
-    pushed.is_ok() && is_refused(made)
+    pushed.is_ok() && refuses_start(alloc, directives.as_slice())
 }
 
 #[test]
 fn refuses_texts(rt: HostRuntime) -> Result<(), Fail> {
     assert!(rt; refuses_directives(rt.alloc()));
     assert!(rt; refuses_alias(rt.alloc()));
-    assert!(rt; refuses_scalar(rt.alloc(), Some(b"\xFF"), None, b"k"));
-    assert!(rt; refuses_scalar(rt.alloc(), None, Some(b"\xFF"), b"k"));
-    assert!(rt; refuses_scalar(rt.alloc(), None, None, b"\xFF"));
-    assert!(rt; refuses_sequence(rt.alloc()));
-    assert!(rt; refuses_mapping(rt.alloc()));
+    assert!(rt; refuses_scalars(rt.alloc()));
+    assert!(rt; refuses_collections(rt.alloc()));
     Ok(())
 }

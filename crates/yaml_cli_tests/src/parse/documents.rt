@@ -67,7 +67,7 @@ fn makes(alloc: Global, directives: &[yaml_tag_directive_t]) -> bool {
 
 fn is_refused(alloc: Global, directives: &[yaml_tag_directive_t]) -> bool {
     let refused = yaml_document_initialize(alloc, None, directives, true, true);
-    matches!(&refused, Err(yaml_text_fault_t::NotUtf8))
+    refused.err() == Some(yaml_text_fault_t::NotUtf8)
 }
 
 // A directive that is made, or one that is refused.

@@ -20,9 +20,14 @@ pub(crate) const ZERO: yaml_mark_t = yaml_mark_t {
     column: 0,
 };
 
+// One function lets events go, since each one that does is dear to prove.
+fn type_of(event: yaml_event_t) -> yaml_event_type_t {
+    event.type_()
+}
+
 fn next_type<S: yaml_token_source_t>(parser: &mut yaml_parser_t<S>) -> Option<yaml_event_type_t> {
     match yaml_parser_parse(parser) {
-        Ok(event) => Some(event.type_()),
+        Ok(event) => Some(type_of(event)),
         Err(_) => None,
     }
 }
@@ -40,7 +45,7 @@ fn gives<S: yaml_token_source_t>(
     true
 }
 
-fn is_empty(event: &yaml_event_t) -> bool {
+fn is_empty(event: yaml_event_t) -> bool {
     event.type_() == yaml_event_type_t::YAML_NO_EVENT
         && event.start_mark == ZERO
         && event.end_mark == ZERO
@@ -49,7 +54,7 @@ fn is_empty(event: &yaml_event_t) -> bool {
 // Whether the next event is the empty one.
 fn is_over<S: yaml_token_source_t>(parser: &mut yaml_parser_t<S>) -> bool {
     match yaml_parser_parse(parser) {
-        Ok(event) => is_empty(&event),
+        Ok(event) => is_empty(event),
         Err(_) => false,
     }
 }

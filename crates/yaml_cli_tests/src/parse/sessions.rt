@@ -4,8 +4,9 @@
 use std::alloc::Global;
 use std::test::Fail;
 use yaml_scan::{
-    yaml_encoding_t, yaml_mark_t, yaml_parser_fault, yaml_parser_has_token, yaml_parser_peek,
-    yaml_parser_scan, yaml_parser_skip, yaml_parser_t, yaml_token_t, yaml_token_type_t,
+    yaml_encoding_t, yaml_fault_t, yaml_mark_t, yaml_parser_fault, yaml_parser_has_token,
+    yaml_parser_peek, yaml_parser_scan, yaml_parser_skip, yaml_parser_t, yaml_token_t,
+    yaml_token_type_t,
 };
 
 fn session_of(alloc: Global, text: &[u8]) -> yaml_parser_t<'_> {
@@ -134,14 +135,17 @@ fn gives(session: &mut yaml_parser_t, count: u64) -> bool {
     true
 }
 
+// Nothing comes behind the fault, which is kept.
+fn keeps(session: &mut yaml_parser_t, fault: &yaml_fault_t, problem: &str) -> bool {
+    let over = is_over(session);
+    fault.problem == problem && over && yaml_parser_fault(session) == Some(fault)
+}
+
 // The fault comes, is kept, and nothing comes behind it.
 fn refuses(session: &mut yaml_parser_t, problem: &str) -> bool {
-    match yaml_parser_scan(session) {
-        Ok(_) => false,
-        Err(fault) => {
-            let over = is_over(session);
-            fault.problem == problem && over && yaml_parser_fault(session) == Some(&fault)
-        }
+    match yaml_parser_scan(session).err() {
+        Some(fault) => keeps(session, &fault, problem),
+        None => false,
     }
 }
 

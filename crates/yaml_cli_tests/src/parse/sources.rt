@@ -41,16 +41,20 @@ fn is_without_start(fault: &yaml_fault_t) -> bool {
 
 // Whether the next event is refused by that fault.
 fn is_refused(parser: &mut yaml_parser_t<Nothing>) -> bool {
-    match yaml_parser_parse(parser) {
-        Ok(_) => false,
-        Err(fault) => is_without_start(&fault),
+    match yaml_parser_parse(parser).err() {
+        Some(fault) => is_without_start(&fault),
+        None => false,
     }
+}
+
+fn is_empty(event: yaml_event_t) -> bool {
+    event.type_() == yaml_event_type_t::YAML_NO_EVENT
 }
 
 // Whether the next event is the empty one.
 fn is_over(parser: &mut yaml_parser_t<Nothing>) -> bool {
     match yaml_parser_parse(parser) {
-        Ok(event) => event.type_() == yaml_event_type_t::YAML_NO_EVENT,
+        Ok(event) => is_empty(event),
         Err(_) => false,
     }
 }

@@ -3,7 +3,7 @@
 #
 #     tools/library.sh
 #
-# What it stands on is taken from what checks and `make program` have kept, and is else proved one crate after another. The
+# What it stands on is proved side by side, or taken from what the gate and `make program` have kept (tools/program.py). The
 # archive and the shared object have the calls of bindings/c/yaml_c.h and no other symbol, and what they need beside them
 # is the C library's malloc, realloc, free and memory functions. It needs the kit, a C compiler, binutils.
 set -eu
@@ -20,7 +20,7 @@ if "$top/tools/is_built.sh" "$out/libyaml_c.so"; then
 fi
 since=$(date +%s)
 say "proving yaml_round_c and what it stands on"
-(cd "$crate" && rt lib) || { say "not proved, so not built"; exit 1; }
+"$top/tools/program.py" yaml_round_c || { say "not proved, so not built"; exit 1; }
 
 work=$(mktemp -d)
 trap 'rm -rf "$work"' EXIT

@@ -1,184 +1,136 @@
 #!/usr/bin/env python3
-"""Proves and builds the program, and says how far it is: `make program`.
+"""Proves and builds the program, or the archive of the library for C, and says how far it is: `make program`.
 
-    tools/program.py
+    tools/program.py [yaml_round_c]
 
-The crates that the program stands on are proved side by side, those with the longest chain of others behind them first,
-and a crate that nothing can run beside gets the processors that are idle (PROCESSORS sets how many there are to use).
-What earlier checks proved is kept in each crate's out/ and taken from there. The program is then
-crates/yaml_cli/out/yaml_cli.
+The crates that it stands on are proved as the gate proves them, from nothing and side by side, those with the longest chain
+of others behind them first; a crate that nothing can run beside gets the processors that are idle (PROCESSORS sets how many
+there are to use). What was proved is kept where the gate keeps it, so each takes from the other what it has proved of the
+same files. Neither must-fail edits are tried nor tests run, and one compiler builds what was proved, LLVM. The program is
+then crates/yaml_cli/out/yaml_cli, the archive crates/yaml_round_c/out/libyaml_round_c.a.
 
-`rt lib` locks a crate's whole base, so that two of them wait for each other. So the crates are built here by what `rt lib`
-calls, the kit's own library beside `rt`; where a kit has another one, `rt run` proves them one after another.
+It works on a copy, as `rt ci NAME` does, and by the functions that `rt ci` is made of, since the libraries of other commands
+are loaded with their proofs: above the engine that costs as much again as to prove. Where a kit has other functions, `rt run`
+or `rt lib` proves one crate after another.
 """
 import os
-import re
 import shutil
 import subprocess
 import sys
+import tempfile
 import time
-from concurrent.futures import FIRST_COMPLETED, ThreadPoolExecutor, wait
+
+sys.path.insert(0, os.path.dirname(os.path.abspath(__file__)))
+import lanes
 
 TOP = os.path.dirname(os.path.dirname(os.path.abspath(__file__)))
-CRATE = f"{TOP}/crates/yaml_cli"
-PROGRAM = f"{CRATE}/out/yaml_cli"
-LOGS = f"{CRATE}/out/program"
-FROM_NOTHING = "some 35 minutes from nothing on 4 processors, less where checks have kept their work"
-# What a check with one job is to find free, in bytes; each further job takes less.
-MEMORY = 3_000_000_000
-# More jobs than these don't make the check of one crate shorter.
-MOST_JOBS = 4
-# A crate that took fewer seconds was taken from what a check kept, and says nothing of how fast crates are proved.
-PROVED_SECONDS = 5
-BEGAN = time.monotonic()
+FROM_NOTHING = "some 20 minutes from nothing on 4 processors, less where the gate has kept its proofs"
+
+
+class Goal:
+    """What is to be built."""
+
+    def __init__(self, crate, made, rt_words):
+        self.crate, self.made, self.rt_words = crate, made, rt_words
+        self.folder = f"{TOP}/crates/{crate}"
+        self.file = f"{self.folder}/out/{made}"
+        self.logs = f"{self.folder}/out/program"
+
+
+PROGRAM = Goal("yaml_cli", "yaml_cli", ["rt", "run", "--", "fmt"])
+ARCHIVE = Goal("yaml_round_c", "libyaml_round_c.a", ["rt", "lib"])
 
 
 def say(text):
-    spent = int(time.monotonic() - BEGAN)
-    print(f"make program: {spent // 60}:{spent % 60:02} {text}", file=sys.stderr, flush=True)
+    lanes.say("make program", text)
 
 
-def processors():
-    """How many processors there are to use, as far as memory holds."""
-    asked = os.environ.get("PROCESSORS", "")
-    if asked.isdigit() and int(asked):
-        return int(asked)
-    with open("/proc/meminfo", encoding="utf-8") as file:
-        found = re.search(r"MemAvailable:\s+(\d+)", file.read())
-    lanes = len(os.sched_getaffinity(0))
-    return max(1, min(lanes, 1024 * int(found[1]) // MEMORY)) if found else lanes
+def compiled(rt, crate, jobs):
+    """Proves a program, or an archive, and compiles what was proved."""
+    words = crate.words(["--jobs", str(jobs)], keeps=False)
+    words = ["build", *words, "--toolchain", f"{rt.KIT}/toolchain", "--backend", "llvm"]
+    if crate.is_static:
+        return crate.prove([*words, "-o", f"out/lib{crate.name}.a"])
+    made = f"out/{crate.name}"
+    return crate.prove([*words, "-o", f"{made}.o"]) or crate.link(f"{made}.o", made)
 
 
-def kit_library():
-    sys.path.insert(0, os.path.dirname(os.path.realpath(shutil.which("rt"))))
-    import rtlib
-
-    return rtlib
-
-
-def lines_of(crate):
-    """A measure of a crate's work."""
-    found = 0
-    for part in ("src", "specs", "proofs"):
-        for folder, _, names in os.walk(f"{crate.folder}/{part}"):
-            for name in names:
-                with open(f"{folder}/{name}", "rb") as file:
-                    found += file.read().count(b"\n")
-    return found
+def proved(rt, kept, crate, jobs):
+    """Proves a library, or takes what an earlier run made of the same."""
+    key = kept.key(crate)
+    status = 0 if kept.give(crate, False, key) else crate.ci(["--jobs", str(jobs)], False)
+    if not status:
+        kept.is_built(crate)
+        kept.keep(crate, False, key)
+    return status
 
 
-def longest_behind(crates, lines):
-    """For each crate its lines and those of the longest chain of crates above it."""
-    behind = dict(lines)
-    for crate in reversed(crates):
-        for it in crate.deps:
-            behind[it] = max(behind[it], lines[it] + behind[crate])
-    return behind
-
-
-def built(crate, is_top, jobs):
-    """Proves a crate and keeps its library, and says whether that went well and how long it took."""
-    began, flags = time.monotonic(), ["--jobs", str(jobs)]
-    with open(f"{LOGS}/{crate.name}.log", "w", encoding="utf-8") as crate.out:
+def built(rt, kept, logs, crate, jobs):
+    """Makes a crate's library, or compiles it."""
+    with open(f"{logs}/{crate.name}.log", "w", encoding="utf-8") as crate.out:
         os.makedirs(f"{crate.folder}/out", exist_ok=True)
-        status = crate.check(flags) if is_top else crate.build_rlib(flags, anew=False)
-    return status, time.monotonic() - began
+        return proved(rt, kept, crate, jobs) if crate.makes_rlib() else compiled(rt, crate, jobs)
 
 
-class Lanes:
-    """The crates that are still to be built, and those that are under way."""
-
-    def __init__(self, crates, lanes):
-        self.lines = {it: lines_of(it) for it in crates}
-        behind = longest_behind(crates, self.lines)
-        self.left = sorted(crates, key=lambda it: -behind[it])
-        self.top, self.lanes = crates[-1], lanes
-        self.total, self.done, self.running, self.failed = len(crates), set(), {}, []
-        self.proved_lines = 0
-
-    def begin(self, pool):
-        """Begins what can begin, each with its share of the idle processors."""
-        ready = [it for it in self.left if all(dep in self.done for dep in it.below())]
-        for at, it in enumerate(ready):
-            idle = self.lanes - sum(jobs for _, jobs in self.running.values())
-            if idle < 1:
-                return
-            jobs = max(1, min(MOST_JOBS, idle // (len(ready) - at)))
-            self.left.remove(it)
-            self.running[pool.submit(built, it, it is self.top, jobs)] = it, jobs
-
-    def time_left(self):
-        """How long the rest takes if it is proved as fast as what was proved so far."""
-        rest = sum(self.lines.values()) - sum(self.lines[it] for it in self.done)
-        if not (rest and self.proved_lines):
-            return ""
-        return f"; some {1 + int((time.monotonic() - BEGAN) * rest / self.proved_lines) // 60} min left"
-
-    def end(self):
-        """Waits until one has ended, and tells it."""
-        for future in wait(self.running, return_when=FIRST_COMPLETED).done:
-            crate, jobs = self.running.pop(future)
-            status, spent = future.result()
-            self.done.add(crate)
-            self.proved_lines += self.lines[crate] if spent > PROVED_SECONDS else 0
-            if status:
-                self.failed.append(crate.name)
-            part = 100 * sum(self.lines[it] for it in self.done) // sum(self.lines.values())
-            word = f"NOT PROVED, by {os.path.relpath(LOGS)}/{crate.name}.log" if status else "proved"
-            line = f"{len(self.done)} of {self.total}, {part} in 100: {crate.name} {word}, {spent:.0f} s, jobs {jobs}"
-            say(line + self.time_left())
-
-    def run(self):
-        with ThreadPoolExecutor(self.lanes) as pool:
-            while self.running or (self.left and not self.failed):
-                if not self.failed:
-                    self.begin(pool)
-                self.end()
-        return not self.failed
-
-
-def prove(rtlib):
-    """Proves the program and all that it stands on."""
-    top = rtlib.Crate(CRATE, TOP, {})
-    crates, lanes = [*sorted(top.below(), key=lambda it: len(it.below())), top], processors()
+def set_up(rt):
+    """Has the kit's functions work as they do under `rt ci`."""
+    rt.Crate.cuts_libraries = True
+    for it in (rt.rtlib.ALLOW_C, rt.rtlib.BACKEND, "RT_SECONDS"):
+        os.environ.pop(it, None)
     # its first call sets a signal's handler, which only the main thread may
-    rtlib.guarded()
-    held = rtlib.lock(crates)
-    say(f"proving {len(crates)} crates, jobs {lanes}: {FROM_NOTHING}")
-    try:
-        return Lanes(crates, lanes).run()
-    finally:
-        for it in held:
-            os.close(it)
+    rt.rtlib.guarded()
+    rt.Crate.allowed = rt.handles_of(TOP)
 
 
-def build():
-    """Compiles and links what was proved. `rt run` also runs the program once, here on a text of one byte."""
-    say("compiling and linking")
-    with open(f"{LOGS}/run.log", "w", encoding="utf-8") as log:
+def prove(rt, goal):
+    """Proves and builds it in a copy, and puts what was built where it belongs."""
+    with tempfile.TemporaryDirectory(prefix=f"rt-copy-{os.getpid()}-") as room:
+        copy = f"{room}/repo"
+        rt.copy_crates(TOP, copy)
+        # it is the top of a repository
+        os.mkdir(f"{copy}/.git")
+        top = next(it for it in rt.crates_of(copy) if it.name == goal.crate)
+        crates = [*sorted(top.below(), key=lambda it: len(it.below())), top]
+        say(f"proving {len(crates)} crates, jobs {lanes.processors()}: {FROM_NOTHING}")
+        kept = rt.Kept(crates)
+        build = lambda it, jobs: built(rt, kept, goal.logs, it, jobs)
+        if not lanes.Lanes("make program", crates, build).run():
+            return False
+        kept.shrink()
+        shutil.copy2(f"{top.folder}/out/{goal.made}", f"{goal.file}.new")
+        os.replace(f"{goal.file}.new", goal.file)
+    return True
+
+
+def one_after_another(goal):
+    """By the kit's own command. `rt run` also runs the program once, here on a text of one byte."""
+    with open(f"{goal.logs}/rt.log", "w", encoding="utf-8") as log:
         how = {"stdout": log, "stderr": subprocess.STDOUT, "input": b"a"}
-        return subprocess.run(["rt", "run", "--", "fmt"], cwd=CRATE, **how).returncode == 0
+        return subprocess.run(goal.rt_words, cwd=goal.folder, **how).returncode == 0
 
 
-def main():
-    if subprocess.run([f"{TOP}/tools/is_built.sh"]).returncode == 0:
-        say("crates/yaml_cli/out/yaml_cli is newer than all sources")
+def main(words):
+    goal = ARCHIVE if words == [ARCHIVE.crate] else PROGRAM
+    if subprocess.run([f"{TOP}/tools/is_built.sh", goal.file]).returncode == 0:
+        say(f"{os.path.relpath(goal.file)} is newer than all sources")
         return 0
     since = time.time()
-    os.makedirs(LOGS, exist_ok=True)
+    os.makedirs(goal.logs, exist_ok=True)
     try:
-        is_well = prove(kit_library())
-    except (ImportError, AttributeError, TypeError) as error:
-        say(f"this kit's library is another one ({error}): rt run proves one crate after another, which takes longer")
-        is_well = True
-    if not (is_well and build()):
-        say(f"not built; what was said stands in {os.path.relpath(LOGS)}")
+        rt = lanes.kit()
+        set_up(rt)
+        is_well = prove(rt, goal)
+    except (ImportError, AttributeError, TypeError, KeyError) as error:
+        say(f"this kit is another one ({error}): {' '.join(goal.rt_words[:2])} proves one crate after another, which takes longer")
+        is_well = one_after_another(goal)
+    if not is_well:
+        say(f"not built; what was said stands in {os.path.relpath(goal.logs)}")
         return 1
-    # a source that was edited meanwhile is newer than the program
-    os.utime(PROGRAM, (since, since))
-    say("built crates/yaml_cli/out/yaml_cli")
+    # a source that was edited meanwhile is newer than what was built
+    os.utime(goal.file, (since, since))
+    say(f"built {os.path.relpath(goal.file)}")
     return 0
 
 
 if __name__ == "__main__":
-    sys.exit(main())
+    sys.exit(main(sys.argv[1:]))

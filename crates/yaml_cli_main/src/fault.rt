@@ -3,6 +3,7 @@
 
 use std::alloc::Global;
 use std::io::Write;
+use yaml_cli_words::WRONG_WORDS;
 use yaml_round::{yaml_fault_line, yaml_fault_t, yaml_run_fault_t};
 
 /// How many bytes an input may have.
@@ -10,9 +11,6 @@ pub(crate) const INPUT_LIMIT: u64 = 1_073_741_824;
 
 /// The status where a command was refused or failed.
 pub(crate) const FAILED: u8 = 1;
-
-/// The status where the words are wrong.
-pub(crate) const WRONG_WORDS: u8 = 2;
 
 // Where a line can't be told, the status still tells, so nothing is asked of the writing.
 

@@ -1,17 +1,12 @@
 //! The program over any reader and writers.
 
-use crate::fault::{
-    FAILED, INPUT_LIMIT, WRONG_WORDS, refused, run_failed, unknown_word, write_failed,
-};
-use crate::options::matches_of;
-use crate::settings::{Order, Task, order_in};
-use clap::Error as WordFault;
-use clap::error::ErrorKind;
+use crate::fault::{FAILED, INPUT_LIMIT, refused, run_failed, unknown_word, write_failed};
 use std::alloc::Global;
 use std::convert::AsStr;
 use std::fs;
 use std::io::{BufReader, Read, Write};
 use std::rt::Files;
+use yaml_cli_words::{Order, Task, order_of, tell};
 use yaml_round::{
     yaml_encoding_t, yaml_form_t, yaml_input_t, yaml_output_t, yaml_read_all, yaml_run,
     yaml_run_fault_t, yaml_same, yaml_side_t, yaml_std_input_t, yaml_std_output_t, yaml_write_all,
@@ -211,31 +206,6 @@ fn follow<H: Files + AllocGlobal, R: Read, W: Write, E: Write>(
     }
 }
 
-// Tells what is wrong with the words, or the help that they ask for. Of want of memory only the status tells. It is that of the
-// words, whether or not the text could be written.
-fn tell<W: Write, E: Write>(error: &WordFault, output: &mut W, errors: &mut E) -> u8 {
-    if error.kind() == ErrorKind::OutOfMemory {
-        WRONG_WORDS
-    } else if error.use_stderr() {
-        let _ = write!(errors, "{error}");
-        WRONG_WORDS
-    } else {
-        let _ = write!(output, "{error}");
-        0
-    }
-}
-
-fn order_of<'a, S: AsStr>(alloc: Global, words: &'a [S]) -> Result<Order<'a>, WordFault> {
-    match matches_of(alloc, words) {
-        Ok(matches) => {
-            let order = order_in(&matches);
-            drop(matches);
-            Ok(order)
-        }
-        Err(error) => Err(error),
-    }
-}
-
 /// Does what the words say, the program's name first, over `input`, `output` and `errors`; files are opened through
 /// `rt`. Answers the status: 0, 1 where a command was refused or failed, 2 where the words are wrong. A refusal is a
 /// line on `errors`; nothing is written to `output` then, but for a front of the text where writing itself fails.
@@ -248,10 +218,6 @@ pub fn yaml_main<H: Files + AllocGlobal, S: AsStr, R: Read, W: Write, E: Write>(
 ) -> u8 {
     match order_of(rt.alloc(), words) {
         Ok(order) => follow(rt, &order, input, output, errors),
-        Err(error) => {
-            let status = tell(&error, output, errors);
-            drop(error);
-            status
-        }
+        Err(error) => tell(error, output, errors),
     }
 }

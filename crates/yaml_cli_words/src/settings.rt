@@ -2,13 +2,12 @@
 //! what judges them doesn't see the matches.
 
 use clap::ArgMatches;
-use yaml_round::{
-    yaml_break_t, yaml_command_t, yaml_encoding_t, yaml_output_encoding_t, yaml_settings_t,
-};
+use yaml_round_device::{yaml_command_t, yaml_output_encoding_t, yaml_settings_t};
+use yaml_scan_model::{yaml_break_t, yaml_encoding_t};
 
 /// What a run is told to do.
 #[derive(Clone, Copy)]
-pub(crate) struct Task {
+pub struct Task {
     pub command: yaml_command_t,
     pub from: yaml_encoding_t,
     pub settings: yaml_settings_t,
@@ -16,7 +15,7 @@ pub(crate) struct Task {
 
 /// What the program is told to do.
 #[derive(Clone, Copy)]
-pub(crate) enum Order<'a> {
+pub enum Order<'a> {
     /// A run over the file, or over standard input.
     Run {
         task: Task,

@@ -255,6 +255,9 @@ fn whole_command<'a>(alloc: Global) -> Made<'a> {
 }
 
 /// What the words say, the program's name first.
-pub fn matches_of<'a, S: AsStr>(alloc: Global, words: &'a [S]) -> Result<ArgMatches<'a>, Error> {
+pub(crate) fn matches_of<'a, S: AsStr>(
+    alloc: Global,
+    words: &'a [S],
+) -> Result<ArgMatches<'a>, Error> {
     whole_command(alloc)?.try_get_matches_from(words)
 }

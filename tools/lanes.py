@@ -1,0 +1,120 @@
+"""Proves crates side by side, those with the longest chain of others behind them first; used by `program.py` and `base.py`."""
+import importlib.machinery
+import importlib.util
+import os
+import re
+import shutil
+import sys
+import time
+from concurrent.futures import FIRST_COMPLETED, ThreadPoolExecutor, wait
+
+# What a check with one job is to find free, in bytes; each further job takes less.
+MEMORY = 3_000_000_000
+# More jobs than these don't make the check of one crate shorter.
+MOST_JOBS = 4
+# The part of the lines, in 100, behind which the time that is left is told.
+TELLING_PART = 5
+# A crate that took fewer seconds was taken from what an earlier run kept, and says nothing of how fast crates are proved.
+PROVED_SECONDS = 5
+BEGAN = time.monotonic()
+
+
+def say(what, text):
+    spent = int(time.monotonic() - BEGAN)
+    print(f"{what}: {spent // 60}:{spent % 60:02} {text}", file=sys.stderr, flush=True)
+
+
+def processors():
+    """How many processors there are to use, as far as memory holds."""
+    asked = os.environ.get("PROCESSORS", "")
+    if asked.isdigit() and int(asked):
+        return int(asked)
+    with open("/proc/meminfo", encoding="utf-8") as file:
+        found = re.search(r"MemAvailable:\s+(\d+)", file.read())
+    lanes = len(os.sched_getaffinity(0))
+    return max(1, min(lanes, 1024 * int(found[1]) // MEMORY)) if found else lanes
+
+
+def kit():
+    """The kit's `rt` as a module."""
+    loader = importlib.machinery.SourceFileLoader("rt", os.path.realpath(shutil.which("rt")))
+    made = importlib.util.module_from_spec(importlib.util.spec_from_loader("rt", loader))
+    sys.modules["rt"] = made
+    loader.exec_module(made)
+    return made
+
+
+def lines_of(crate):
+    """A measure of a crate's work."""
+    found = 0
+    for part in ("src", "specs", "proofs"):
+        for folder, _, names in os.walk(f"{crate.folder}/{part}"):
+            for name in names:
+                with open(f"{folder}/{name}", "rb") as file:
+                    found += file.read().count(b"\n")
+    return found
+
+
+def longest_behind(crates, lines):
+    """For each crate its lines and those of the longest chain of crates above it."""
+    behind = dict(lines)
+    for crate in reversed(crates):
+        for it in crate.deps:
+            behind[it] = max(behind[it], lines[it] + behind[crate])
+    return behind
+
+
+class Lanes:
+    """The crates that are still to be built, and those that are under way. `build` makes one of them with so many jobs, and answers its status."""
+
+    def __init__(self, what, crates, build):
+        self.lines = {it: lines_of(it) for it in crates}
+        behind = longest_behind(crates, self.lines)
+        self.left = sorted(crates, key=lambda it: -behind[it])
+        self.what, self.lanes, self.build = what, processors(), build
+        self.total, self.done, self.running, self.failed = len(crates), set(), {}, []
+        self.proved_lines = 0
+
+    def begin(self, pool):
+        """Begins what can begin, each with its share of the idle processors."""
+        ready = [it for it in self.left if all(dep in self.done for dep in it.below())]
+        for at, it in enumerate(ready):
+            idle = self.lanes - sum(jobs for _, jobs in self.running.values())
+            if idle < 1:
+                return
+            jobs = max(1, min(MOST_JOBS, idle // (len(ready) - at)))
+            self.left.remove(it)
+            self.running[pool.submit(self.timed, it, jobs)] = it, jobs
+
+    def timed(self, crate, jobs):
+        began = time.monotonic()
+        return self.build(crate, jobs), time.monotonic() - began
+
+    def time_left(self):
+        """How long the rest takes if it is proved as fast as what was proved so far."""
+        rest = sum(self.lines.values()) - sum(self.lines[it] for it in self.done)
+        if not rest or 100 * self.proved_lines < TELLING_PART * sum(self.lines.values()):
+            return ""
+        return f"; some {1 + int((time.monotonic() - BEGAN) * rest / self.proved_lines) // 60} min left"
+
+    def end(self):
+        """Waits until one has ended, and tells it."""
+        for future in wait(self.running, return_when=FIRST_COMPLETED).done:
+            crate, jobs = self.running.pop(future)
+            status, spent = future.result()
+            self.done.add(crate)
+            self.proved_lines += self.lines[crate] if spent > PROVED_SECONDS else 0
+            if status:
+                self.failed.append(crate.name)
+            part = 100 * sum(self.lines[it] for it in self.done) // sum(self.lines.values())
+            word = f"NOT PROVED, by its log {crate.name}.log" if status else "proved"
+            line = f"{len(self.done)} of {self.total}, {part} in 100: {crate.name} {word}, {spent:.0f} s, jobs {jobs}"
+            say(self.what, line + self.time_left())
+
+    def run(self):
+        with ThreadPoolExecutor(self.lanes) as pool:
+            while self.running or (self.left and not self.failed):
+                if not self.failed:
+                    self.begin(pool)
+                self.end()
+        return not self.failed

@@ -1,3 +1,4 @@
+mod Running
 pub use Rattle.yaml_round_writing.proofs.Normal
 pub use Rattle.yaml_round_writing.proofs.Plain
 -- the laws beneath, for crates of laws that name this one alone

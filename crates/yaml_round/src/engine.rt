@@ -66,8 +66,12 @@ pub fn yaml_events(
 ) -> Result<Vec<u8>, yaml_fault_t>
     ensures { Answers list_layers bytes_of (IsListed from input.now) result }
 {
-    let mut reading = reading_of(alloc, input, from)?;
-    let answer = lines_of(alloc, &mut reading);
-    let_go(reading);
-    answer
+    match reading_of(alloc, input, from) {
+        Err(refusal) => Err(refusal),
+        Ok(mut reading) => {
+            let answer = lines_of(alloc, &mut reading);
+            let_go(reading);
+            answer
+        }
+    }
 }

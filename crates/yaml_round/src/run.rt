@@ -72,7 +72,10 @@ pub fn yaml_run<I: yaml_input_t, O: yaml_output_t>(
     // Before the writing the output isn't touched, whether or not it tells its bytes.
     ensures untouched { IfErr result (λ fault. IsBeforeWriting fault → output.new ≡ output.old) }
 {
-    let bytes = yaml_read_all(alloc, input, input_limit)?;
+    let bytes = match yaml_read_all(alloc, input, input_limit) {
+        Ok(bytes) => bytes,
+        Err(fault) => return Err(fault),
+    };
     let (text, form) = match answer_of(alloc, bytes.as_slice(), command, from, settings) {
         Ok(answer) => answer,
         Err(fault) => return Err(yaml_run_fault_t::Yaml(fault)),

@@ -4,10 +4,18 @@ use Rattle.yaml_parse.specs.declared.yaml_error_type_t.{yaml_error_type_t}
 use Rattle.yaml_parse.specs.declared.yaml_error_type_t.TheVariants as error
 use Rattle.yaml_parse.specs.declared.yaml_fault_t.{yaml_fault_t}
 use Rattle.yaml_parse.specs.Faults.{Fault, fault_of}
+use Rattle.yaml_parse.specs.Events.{EventBody}
+use Rattle.yaml_parse.specs.Resolve.{Told}
+use Rattle.yaml_emit.specs.emit_text.declared.RequestedSettings.{RequestedSettings}
 use Rattle.yaml_round.specs.declared.yaml_side_t.{yaml_side_t}
+use Rattle.yaml_round.specs.declared.yaml_form_t.{yaml_form_t}
+use Rattle.yaml_round_records.specs.declared.yaml_c_settings.{yaml_c_settings}
+use Rattle.yaml_round_answers.specs.declared.parsing.yaml_c_parsed.{yaml_c_parsed}
 use Rattle.yaml_round_answers.specs.declared.answer.yaml_c_answer.{yaml_c_answer}
 use Rattle.yaml_round_records.specs.Numbers.{encoding_meant, error_number}
-use Rattle.yaml_round_answers.specs.Told.{TellsText, TellsFault, TellsResult, TellsSame, AnswersMeant, IsExact, both, same_number, side_number, Lists, Compares}
+use Rattle.yaml_round_answers.specs.Told.{TellsText, TellsFault, TellsResult, TellsForm, TellsSame, AnswersMeant, IsExact, both, call_meant, form_number, same_number, side_number, Reformats, Reloads, Lists, Compares}
+use Rattle.yaml_round_answers.specs.Parses.{TellsEvents, Parses}
+use Rattle.yaml_round_answers.specs.Emitting.{Emits}
 
 -- no number of a fault's kind is -1
 no_minus : (m : ℕ) (n : ℤ) → n ≡ pos m → ¬ (n ≡ negsuc 0)
@@ -36,6 +44,14 @@ tells_kind (Err f) a h = fault_kind f (pos 0) a h
 same_kind : (r : Result Bool (yaml_side_t × yaml_fault_t)) (a : yaml_c_answer) → TellsSame r a → ¬ (a.kind ≡ negsuc 0)
 same_kind (Ok same) a h = text_kind [] (same_number same) a h
 same_kind (Err (side, f)) a h = fault_kind (fault_of f) (side_number side) a h
+
+form_kind : (r : Result (List ℕ × yaml_form_t) Fault) (a : yaml_c_answer) → TellsForm r a → ¬ (a.kind ≡ negsuc 0)
+form_kind (Ok (text, form)) a h = text_kind text (form_number form) a h
+form_kind (Err f) a h = fault_kind f (pos 0) a h
+
+events_kind : (blocks : yaml_c_parsed) (r : Result (List Told) Fault) (a : yaml_c_answer) → TellsEvents blocks r a → ¬ (a.kind ≡ negsuc 0)
+events_kind blocks (Ok es) a h = text_kind [] (pos 0) a h.0
+events_kind blocks (Err f) a h = fault_kind f (pos 0) a h.0
 
 -- a call whose answers tell no -1
 exact : {M : Type 0} (o : Option M) (Is : M → yaml_c_answer → Type 0) (a : yaml_c_answer) → ((m : M) → Is m a → ¬ (a.kind ≡ negsuc 0))
@@ -68,3 +84,39 @@ compared_exact m n first_from second_from k first second a p q r h =
     subst (λ z. IsExact (both (encoding_meant first_from) (encoding_meant second_from)) z) (sym r)
     (exact (both (encoding_meant first_from) (encoding_meant second_from)) (Compares first second) a (λ x l. same_kind l.result a l.told)
     (compared_told m n first_from second_from first second a p q h))
+
+pub reformatted_told : (n from : ℤ) (given : yaml_c_settings) (input : List ℕ) (a : yaml_c_answer) → n ≡ from
+    → AnswersMeant (call_meant n given) (Reformats input) a → AnswersMeant (call_meant from given) (Reformats input) a
+reformatted_told n from given input a p h = subst (λ z. AnswersMeant (call_meant z given) (Reformats input) a) p h
+
+pub reformatted_exact : (n from k : ℤ) (given : yaml_c_settings) (input : List ℕ) (a : yaml_c_answer) → n ≡ from → k ≡ a.kind
+    → AnswersMeant (call_meant n given) (Reformats input) a → IsExact (call_meant from given) k
+reformatted_exact n from k given input a p q h =
+    subst (λ z. IsExact (call_meant from given) z) (sym q)
+    (exact (call_meant from given) (Reformats input) a (λ m l. form_kind l.result a l.told) (reformatted_told n from given input a p h))
+
+pub reloaded_told : (n from : ℤ) (given : yaml_c_settings) (input : List ℕ) (a : yaml_c_answer) → n ≡ from
+    → AnswersMeant (call_meant n given) (Reloads input) a → AnswersMeant (call_meant from given) (Reloads input) a
+reloaded_told n from given input a p h = subst (λ z. AnswersMeant (call_meant z given) (Reloads input) a) p h
+
+pub reloaded_exact : (n from k : ℤ) (given : yaml_c_settings) (input : List ℕ) (a : yaml_c_answer) → n ≡ from → k ≡ a.kind
+    → AnswersMeant (call_meant n given) (Reloads input) a → IsExact (call_meant from given) k
+reloaded_exact n from k given input a p q h =
+    subst (λ z. IsExact (call_meant from given) z) (sym q)
+    (exact (call_meant from given) (Reloads input) a (λ m l. tells_kind l.result a l.told) (reloaded_told n from given input a p h))
+
+pub parsed_told : (n from : ℤ) (input : List ℕ) (blocks : yaml_c_parsed) (a : yaml_c_answer) → n ≡ from
+    → AnswersMeant (encoding_meant n) (Parses input blocks) a → AnswersMeant (encoding_meant from) (Parses input blocks) a
+parsed_told n from input blocks a p h = subst (λ z. AnswersMeant (encoding_meant z) (Parses input blocks) a) p h
+
+pub parsed_exact : (n from k : ℤ) (input : List ℕ) (blocks : yaml_c_parsed) (a : yaml_c_answer) → n ≡ from → k ≡ a.kind
+    → AnswersMeant (encoding_meant n) (Parses input blocks) a → IsExact (encoding_meant from) k
+parsed_exact n from k input blocks a p q h =
+    subst (λ z. IsExact (encoding_meant from) z) (sym q)
+    (exact (encoding_meant from) (Parses input blocks) a (λ m l. events_kind blocks l.result a l.told) (parsed_told n from input blocks a p h))
+
+pub emitted_exact : (meant : Option (List EventBody × (RequestedSettings × ℕ))) (k : ℤ) (a : yaml_c_answer) → k ≡ a.kind
+    → AnswersMeant meant Emits a → IsExact meant k
+emitted_exact meant k a q h =
+    subst (λ z. IsExact meant z) (sym q)
+    (exact meant Emits a (λ m l. tells_kind l.result a l.told) h)

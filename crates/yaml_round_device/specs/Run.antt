@@ -3,6 +3,8 @@ use Rattle.std.specs.Prelude.{◌≡◌, ◌⊎◌, ℕ, ◌<◌, ◌≤◌, Boo
 use Rattle.std.specs.Io.KnownBytes.{Keeps, Appends, Consumes, IsAtEnd}
 use Rattle.yaml_scan_model.specs.declared.yaml_origin_t.{yaml_origin_t}
 use Rattle.yaml_scan_model.specs.declared.yaml_origin_t.TheVariants.{Reader}
+use Rattle.yaml_round_device.specs.declared.read_all.Cause.{Cause}
+use Rattle.yaml_round_device.specs.declared.read_all.Cause.TheVariants as cause
 use Rattle.yaml_round_device.specs.declared.run_fault.yaml_run_fault_t.{yaml_run_fault_t}
 use Rattle.yaml_round_device.specs.declared.run_fault.yaml_run_fault_t.TheVariants.{Read, TooLong, Yaml, Write}
 use Rattle.yaml_scan_model.specs.Faults.{Fault, fault_of, memory_fault, IsMemoryFault}
@@ -12,6 +14,13 @@ pub record GivesAll (to_come rest : Option (List ℕ)) (limit : ℕ) (bytes : Li
   pub taken : Consumes to_come rest bytes
   pub ended : IsAtEnd rest
   pub within : length bytes ≤ limit
+
+-- why the bytes of an input were not read to the end, before it is told as a fault
+abbrev pub IsCause : Option (List ℕ) → (failed_before failed_after : Bool) → ℕ → Cause → Type 0
+IsCause to_come before after limit cause.Failed = after ≡ true
+IsCause to_come before after limit cause.TooLong = (after ≡ before)
+    × IfSome to_come (λ bytes. limit < length bytes)
+IsCause to_come before after limit cause.NoMemory = after ≡ before
 
 -- why the bytes of an input were not read to the end; unless it is told, the input has not failed by it
 abbrev pub IsReadFault : Option (List ℕ) → (failed_before failed_after : Bool) → ℕ

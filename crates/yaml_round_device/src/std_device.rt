@@ -44,11 +44,9 @@ impl<R: Read> yaml_input_t for yaml_std_input_t<R> {
     ghost has_failed = { input_failed };
 
     fn get(&mut self, buf: &mut [u8]) -> Result<usize, yaml_device_fault_t> {
-        let result = read_tried_again(&mut self.inner, buf);
-        if result.is_err() {
-            self.has_failed = true;
-        }
-        result
+        let got = read_tried_again(&mut self.inner, buf);
+        self.has_failed |= got.is_err();
+        got
     }
 }
 
@@ -113,21 +111,17 @@ impl<W: Write> yaml_output_t for yaml_std_output_t<W> {
     ghost is_finished = { output_finished };
 
     fn put(&mut self, piece: &[u8]) -> Result<usize, yaml_device_fault_t> {
-        let result = write_tried_again(&mut self.inner, piece);
+        let taken = write_tried_again(&mut self.inner, piece);
         self.is_finished = false;
-        if result.is_err() {
-            self.has_failed = true;
-        }
-        result
+        self.has_failed |= taken.is_err();
+        taken
     }
 
     fn finish(&mut self) -> Result<(), yaml_device_fault_t> {
-        let result = flush_tried_again(&mut self.inner);
-        self.is_finished = result.is_ok();
-        if result.is_err() {
-            self.has_failed = true;
-        }
-        result
+        let flushed = flush_tried_again(&mut self.inner);
+        self.is_finished = flushed.is_ok();
+        self.has_failed |= flushed.is_err();
+        flushed
     }
 }
 

@@ -1,17 +1,17 @@
--- The front and the piece that the output took next are a longer front.
-use Rattle.std.proofs.Common.{arith, rules, ◌-◌, length, drop, length-drop}
-use Rattle.std.proofs.lemmas.List.{take_all}
-use Rattle.std.proofs.Math.Seq.{take-add}
-use Rattle.std.proofs.KnownBytes.{Appends-trans}
+-- What the output received, and whether it is finished. Not searched for, so that a wrong answer fails by its type, at once.
 use Rattle.yaml_round_device.proofs.write_all.yaml_write_all.Goals as goal
 
-pub loop-written-preserved : goal.loop-written-preserved
-loop-written-preserved g c =
-    let text = c.args.text.now in
-    let at = c.loop-written.written in
-    let whole = take_all (length text - at) (drop at text) (omega (arith, length-drop at text)) in
-    record {
-      within = omega (arith, c.in-Ok.ensures.bound, length-drop at text);
-      front = rw take-add (Appends-trans _ _ _ _ _ c.loop-written.invariant.front (rw whole at c.in-Ok.ensures.bytes));
-      sound = search rules;
-    }
+pub returns-in-Err-clause-unfinished : goal.returns-in-Err-clause-unfinished
+returns-in-Err-clause-unfinished g c = c.in-Err.ensures.unfinished
+
+pub returns-in-Err-clause-failed : goal.returns-in-Err-clause-failed
+returns-in-Err-clause-failed g c = c.in-Err.ensures.failed
+
+pub returns-in-Err-clause-front : goal.returns-in-Err-clause-front
+returns-in-Err-clause-front g c = c.in-Err.ensures.front
+
+pub returns-in-Err-finished-clause-sound : goal.returns-in-Err-finished-clause-sound
+returns-in-Err-finished-clause-sound g c = tt
+
+pub returns-in-Err-finished-clause-finished : goal.returns-in-Err-finished-clause-finished
+returns-in-Err-finished-clause-finished g c = tt

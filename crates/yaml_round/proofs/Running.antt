@@ -1,0 +1,59 @@
+-- What a run has done, told by its answer.
+use Rattle.std.proofs.Common.{◌≡◌, ◌⊎◌, ◌≤◌, ℕ, Bool, List, length, take, Option, Result, Ok, Err, refl, inl, inr, rules}
+use Rattle.std.specs.Io.KnownBytes.{Appends}
+use Rattle.std.proofs.KnownBytes.{Keeps-refl}
+use Rattle.yaml_scan_model.specs.declared.yaml_encoding_t.{yaml_encoding_t}
+use Rattle.yaml_scan_model.specs.declared.yaml_fault_t.{yaml_fault_t}
+use Rattle.yaml_scan_model.specs.declared.yaml_origin_t.TheVariants.{Reader}
+use Rattle.yaml_scan_model.specs.Faults.{Fault, fault_of, memory_fault, IsMemoryFault}
+use Rattle.yaml_round_device.specs.declared.yaml_settings_t.{yaml_settings_t}
+use Rattle.yaml_round_device.specs.declared.yaml_form_t.{yaml_form_t}
+use Rattle.yaml_round_device.specs.declared.yaml_command_t.{yaml_command_t}
+use Rattle.yaml_round_device.specs.declared.yaml_command_t.TheVariants.{Fmt, Docs, Events}
+use Rattle.yaml_round_device.specs.declared.yaml_run_fault_t.{yaml_run_fault_t}
+use Rattle.yaml_round_device.specs.declared.yaml_run_fault_t.TheVariants as fault
+use Rattle.yaml_round_device.specs.Run.{GivesAll, IsReadFault, Work, Runs, FailsBy}
+use Rattle.yaml_round.specs.Commands.{IsRunAnswer, run_layers}
+
+abbrev pub work_of : yaml_command_t → yaml_encoding_t → yaml_settings_t → ℕ → Work (Option yaml_form_t)
+work_of command from settings limit = record { limit = limit; layers = run_layers command; IsAnswer = IsRunAnswer command from settings }
+
+of_reader : (command : yaml_command_t) (f : Fault) → f ≡ memory_fault Reader → IsMemoryFault (run_layers command) f
+of_reader Fmt f e = search rules
+of_reader Docs f e = search rules
+of_reader Events f e = search rules
+
+-- the input wasn't read to its end
+pub unread : (command : yaml_command_t) (from : yaml_encoding_t) (settings : yaml_settings_t) (limit : ℕ) (to_come left received : Option (List ℕ)) (before after : Bool) (why : yaml_run_fault_t)
+    → IsReadFault to_come before after limit why
+    → Runs (work_of command from settings limit) (record { to_come = to_come; received = received }) (record { to_come = left; received = received }) (Err why)
+unread command from settings limit to_come left received before after fault.Read h = Keeps-refl received
+unread command from settings limit to_come left received before after fault.TooLong h = (Keeps-refl received, h.1)
+unread command from settings limit to_come left received before after (fault.Yaml f) h = (Keeps-refl received, inl (of_reader command (fault_of f) h.1))
+unread command from settings limit to_come left received before after (fault.Write written) h = absurd h
+
+pub unread_failures : (to_come : Option (List ℕ)) (limit : ℕ) (before after output : Bool) (why : yaml_run_fault_t) → IsReadFault to_come before after limit why
+    → FailsBy {F = Option yaml_form_t} (record { input = before; output = output }) (record { input = after; output = output }) (Err why)
+unread_failures to_come limit before after output fault.Read h = (h, refl)
+unread_failures to_come limit before after output fault.TooLong h = (h.0, refl)
+unread_failures to_come limit before after output (fault.Yaml f) h = (h.0, refl)
+unread_failures to_come limit before after output (fault.Write written) h = absurd h
+
+-- the input was refused
+pub refused : (command : yaml_command_t) (from : yaml_encoding_t) (settings : yaml_settings_t) (limit : ℕ) (to_come left received : Option (List ℕ)) (input : List ℕ) (f : yaml_fault_t)
+    → GivesAll to_come left limit input → IsMemoryFault (run_layers command) (fault_of f) ⊎ IsRunAnswer command from settings input (Err (fault_of f))
+    → Runs (work_of command from settings limit) (record { to_come = to_come; received = received }) (record { to_come = left; received = received }) (Err (fault.Yaml f))
+refused command from settings limit to_come left received input f all said =
+    (Keeps-refl received, elim said [ inl m ↦ inl m | inr k ↦ inr record { input = input; all = all; answered = k } ])
+
+-- the answer was written
+pub told : (command : yaml_command_t) (from : yaml_encoding_t) (settings : yaml_settings_t) (limit : ℕ) (to_come left old new : Option (List ℕ)) (input text : List ℕ) (form : Option yaml_form_t)
+    → GivesAll to_come left limit input → IsRunAnswer command from settings input (Ok (text, form)) → Appends old new text
+    → Runs (work_of command from settings limit) (record { to_come = to_come; received = old }) (record { to_come = left; received = new }) (Ok form)
+told command from settings limit to_come left old new input text form all said appends = (text, record { input = input; all = all; answered = said }, appends)
+
+-- a front of it was
+pub told_in_part : (command : yaml_command_t) (from : yaml_encoding_t) (settings : yaml_settings_t) (limit : ℕ) (to_come left old new : Option (List ℕ)) (input text : List ℕ) (form : Option yaml_form_t) (written : ℕ)
+    → GivesAll to_come left limit input → IsRunAnswer command from settings input (Ok (text, form)) → written ≤ length text → Appends old new (take written text)
+    → Runs (work_of command from settings limit) (record { to_come = to_come; received = old }) (record { to_come = left; received = new }) (Err (fault.Write written))
+told_in_part command from settings limit to_come left old new input text form written all said within front = (text, form, record { input = input; all = all; answered = said }, within, front)

@@ -52,6 +52,24 @@ pub(crate) fn room(
     }
 }
 
+// A node's anchor.
+// Inlined: mostly there was none, which is known.
+#[inline(always)]
+pub(crate) fn put_anchor(properties: &mut Properties, name: Vec<u8>)
+    ensures { properties.new ≡ record properties.old { anchor = Some name } }
+{
+    properties.anchor = Some(name);
+}
+
+// A node's tag.
+// Inlined: mostly there was none, which is known.
+#[inline(always)]
+pub(crate) fn put_tag(properties: &mut Properties, tag: Tag)
+    ensures { properties.new ≡ record properties.old { tag = Some tag } }
+{
+    properties.tag = Some(tag);
+}
+
 // The rest of a node behind a property comes.
 pub(crate) fn await_rest(
     stack: &mut Vec<State>,
@@ -80,7 +98,7 @@ pub(crate) fn keep_anchor(
         ∷ stack_of stack.old.items) }
 {
     let mut properties = room(spare, *name.allocator(), from, to)?;
-    properties.anchor = Some(moved(name));
+    put_anchor(&mut properties, moved(name));
     await_rest(stack, wants, properties)
 }
 
@@ -100,7 +118,7 @@ pub(crate) fn keep_tag(
     match room(spare, *tag.handle.allocator(), tag.mark, to) {
         Ok(empty) => {
             let mut properties = empty;
-            properties.tag = Some(tag);
+            put_tag(&mut properties, tag);
             await_rest(stack, wants, properties)
         }
         Err(e) => Err(e),

@@ -21,7 +21,7 @@ ghost use Rattle.yaml_parse_machine.specs.Views.{properties_of, properties_optio
 use crate::building::{give, node, tell};
 use crate::choosing::wants;
 use crate::item::{Properties, RawEvent, RawEventBody, Resolved, Shape, State, Tag};
-use crate::keeping::{await_rest, keep_anchor, keep_tag};
+use crate::keeping::{await_rest, keep_anchor, keep_tag, put_anchor, put_tag};
 use crate::pushing::{
     open, push, push_behind_part, push_block_pair, push_entry, push_indentless, push_mapping_pair,
     push_sequence_pair, push_silently,
@@ -90,8 +90,9 @@ fn note_directive(
     ensures stack { OnOk result (stack_of stack.new.items ≡ state.directives from
         ∷ stack_of stack.old.items) }
 {
+    let given = give(slot, directive, token.start_mark, token.end_mark);
     push(stack, State::Directives(from))?;
-    give(slot, directive, token.start_mark, token.end_mark)
+    given
 }
 
 // A document that a `---` begins, which ends there.
@@ -183,8 +184,9 @@ fn open_brackets(
     ensures stack { OnOk result (stack_of stack.new.items ≡ state.items brackets
         token.now.start_mark ∷ stack_of stack.old.items) }
 {
+    let given = node(slot, properties, flow_collection(brackets), token);
     push(stack, State::Items(brackets, token.start_mark))?;
-    node(slot, properties, flow_collection(brackets), token)
+    given
 }
 
 // A block sequence begins.
@@ -200,8 +202,9 @@ fn open_entries(
     ensures stack { OnOk result (stack_of stack.new.items ≡ state.entries token.now.start_mark
         ∷ stack_of stack.old.items) }
 {
+    let given = node(slot, properties, block_sequence(), token);
     push(stack, State::Entries(token.start_mark))?;
-    node(slot, properties, block_sequence(), token)
+    given
 }
 
 // A block mapping begins.
@@ -217,9 +220,10 @@ fn open_pairs(
     ensures stack { OnOk result (stack_of stack.new.items ≡ state.pairs token.now.start_mark
         ∷ stack_of stack.old.items) }
 {
-    push(stack, State::Pairs(token.start_mark))?;
     let shape = Shape::Mapping(yaml_mapping_style_t::YAML_BLOCK_MAPPING_STYLE);
-    node(slot, properties, shape, token)
+    let given = node(slot, properties, shape, token);
+    push(stack, State::Pairs(token.start_mark))?;
+    given
 }
 
 // A sequence that isn't indented begins, with its first `-`.
@@ -236,8 +240,9 @@ fn open_others(
     ensures stack { OnOk result (stack_of stack.new.items ≡ state.optional (IndentlessEntry side)
         token.now.end_mark ∷ state.others side ∷ stack_of stack.old.items) }
 {
+    let given = node(slot, properties, block_sequence(), token);
     push_indentless(stack, side, token.end_mark)?;
-    node(slot, properties, block_sequence(), token)
+    given
 }
 
 // Inlined into its callers' arms, which know whether there are properties.
@@ -340,7 +345,7 @@ fn at_with_properties(
     match &mut token.body {
         yaml_token_body_t::Anchor { value } => {
             let mut both = properties;
-            both.anchor = Some(moved(value));
+            put_anchor(&mut both, moved(value));
             both.to = token.end_mark;
             await_rest(stack, wants, both)
         }
@@ -351,7 +356,7 @@ fn at_with_properties(
                 mark: token.start_mark,
             };
             let mut both = properties;
-            both.tag = Some(tag);
+            put_tag(&mut both, tag);
             both.to = token.end_mark;
             await_rest(stack, wants, both)
         }

@@ -52,24 +52,6 @@ pub(crate) fn room(
     }
 }
 
-// A node's anchor.
-// Inlined: mostly there was none, which is known.
-#[inline(always)]
-pub(crate) fn put_anchor(properties: &mut Properties, name: Vec<u8>)
-    ensures { properties.new ≡ record properties.old { anchor = Some name } }
-{
-    properties.anchor = Some(name);
-}
-
-// A node's tag.
-// Inlined: mostly there was none, which is known.
-#[inline(always)]
-pub(crate) fn put_tag(properties: &mut Properties, tag: Tag)
-    ensures { properties.new ≡ record properties.old { tag = Some tag } }
-{
-    properties.tag = Some(tag);
-}
-
 // The rest of a node behind a property comes.
 pub(crate) fn await_rest(
     stack: &mut Vec<State>,
@@ -98,7 +80,7 @@ pub(crate) fn keep_anchor(
         ∷ stack_of stack.old.items) }
 {
     let mut properties = room(spare, *name.allocator(), from, to)?;
-    put_anchor(&mut properties, moved(name));
+    properties.anchor = Some(moved(name));
     await_rest(stack, wants, properties)
 }
 
@@ -118,7 +100,7 @@ pub(crate) fn keep_tag(
     match room(spare, *tag.handle.allocator(), tag.mark, to) {
         Ok(empty) => {
             let mut properties = empty;
-            put_tag(&mut properties, tag);
+            properties.tag = Some(tag);
             await_rest(stack, wants, properties)
         }
         Err(e) => Err(e),

@@ -17,7 +17,7 @@ ghost use Rattle.yaml_parse_machine.specs.Swiftly.{Adds, Opens, OpensIn, Awaits,
 
 use crate::choosing::wants;
 use crate::item::{Properties, State, Tag};
-use crate::keeping::{put_anchor, put_tag, room};
+use crate::keeping::room;
 use crate::pushing::{drop_top, push, push_key, swap_top, topmost};
 use crate::slots::{start_mapping, start_sequence};
 use crate::taking::moved;
@@ -170,7 +170,7 @@ fn keep_anchor(
     match room(spare, *name.allocator(), from, to) {
         Ok(empty) => {
             let mut properties = empty;
-            put_anchor(&mut properties, moved(name));
+            properties.anchor = Some(moved(name));
             await_node(stack, place, properties)
         }
         Err(_) => Swift::Memory,
@@ -193,7 +193,7 @@ fn keep_tag(
     match room(spare, *tag.handle.allocator(), tag.mark, to) {
         Ok(empty) => {
             let mut properties = empty;
-            put_tag(&mut properties, tag);
+            properties.tag = Some(tag);
             await_node(stack, place, properties)
         }
         Err(_) => Swift::Memory,

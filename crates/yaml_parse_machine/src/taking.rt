@@ -21,7 +21,7 @@ ghost use Rattle.yaml_parse_machine.specs.Views.{properties_of, properties_optio
 use crate::building::{give, node, tell};
 use crate::choosing::wants;
 use crate::item::{Properties, RawEvent, RawEventBody, Resolved, Shape, State, Tag};
-use crate::keeping::{await_rest, keep_anchor, keep_tag, put_anchor, put_tag};
+use crate::keeping::{await_rest, keep_anchor, keep_tag};
 use crate::pushing::{
     open, push, push_behind_part, push_block_pair, push_entry, push_indentless, push_mapping_pair,
     push_sequence_pair, push_silently,
@@ -155,12 +155,6 @@ fn flow_collection(brackets: Brackets) -> Shape
     }
 }
 
-fn block_sequence() -> Shape
-    ensures { shape_of result ≡ item.sequence YAML_BLOCK_SEQUENCE_STYLE }
-{
-    Shape::Sequence(yaml_sequence_style_t::YAML_BLOCK_SEQUENCE_STYLE)
-}
-
 fn end_of(brackets: Brackets) -> Resolved
     ensures { plain_of result ≡ end_event brackets }
 {
@@ -202,7 +196,8 @@ fn open_entries(
     ensures stack { OnOk result (stack_of stack.new.items ≡ state.entries token.now.start_mark
         ∷ stack_of stack.old.items) }
 {
-    let given = node(slot, properties, block_sequence(), token);
+    let shape = Shape::Sequence(yaml_sequence_style_t::YAML_BLOCK_SEQUENCE_STYLE);
+    let given = node(slot, properties, shape, token);
     push(stack, State::Entries(token.start_mark))?;
     given
 }
@@ -240,7 +235,8 @@ fn open_others(
     ensures stack { OnOk result (stack_of stack.new.items ≡ state.optional (IndentlessEntry side)
         token.now.end_mark ∷ state.others side ∷ stack_of stack.old.items) }
 {
-    let given = node(slot, properties, block_sequence(), token);
+    let shape = Shape::Sequence(yaml_sequence_style_t::YAML_BLOCK_SEQUENCE_STYLE);
+    let given = node(slot, properties, shape, token);
     push_indentless(stack, side, token.end_mark)?;
     given
 }
@@ -345,7 +341,7 @@ fn at_with_properties(
     match &mut token.body {
         yaml_token_body_t::Anchor { value } => {
             let mut both = properties;
-            put_anchor(&mut both, moved(value));
+            both.anchor = Some(moved(value));
             both.to = token.end_mark;
             await_rest(stack, wants, both)
         }
@@ -356,7 +352,7 @@ fn at_with_properties(
                 mark: token.start_mark,
             };
             let mut both = properties;
-            put_tag(&mut both, tag);
+            both.tag = Some(tag);
             both.to = token.end_mark;
             await_rest(stack, wants, both)
         }

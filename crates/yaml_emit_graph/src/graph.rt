@@ -13,7 +13,7 @@ use crate::numbers::{number_of, numbers_of};
 use crate::walk::{Turn, Walk};
 use std::alloc::{AllocError, Global};
 use yaml_parse_document::{yaml_document_get_node, yaml_document_t};
-use yaml_parse_model::{yaml_event_body_t, yaml_node_body_t, yaml_node_t};
+use yaml_parse_model::{copy_directives, yaml_event_body_t, yaml_node_body_t, yaml_node_t};
 use yaml_scan_model::{
     yaml_mapping_style_t, yaml_scalar_style_t, yaml_sequence_style_t, yaml_tag_directive_t,
 };
@@ -70,17 +70,6 @@ fn anchor_of(alloc: Global, number: u64) -> Result<Option<Vec<u8>>, AllocError>
     }
 }
 
-fn copy_of(
-    alloc: Global,
-    directive: &yaml_tag_directive_t,
-) -> Result<yaml_tag_directive_t, AllocError>
-    ensures { IfOk result (λ copy. directive_of copy ≡ directive_of directive.now) }
-{
-    let handle = Vec::from_slice(alloc, &directive.handle)?;
-    let prefix = Vec::from_slice(alloc, &directive.prefix)?;
-    Ok(yaml_tag_directive_t { handle, prefix })
-}
-
 fn copies(
     alloc: Global,
     directives: &[yaml_tag_directive_t],
@@ -88,11 +77,10 @@ fn copies(
     ensures { IfOk result (λ copies. map directive_of copies.items ≡ map directive_of
         directives.now) }
 {
-    let mut copies = Vec::new(alloc);
-    for directive in directives {
-        copies.push(copy_of(alloc, directive)?)?;
+    match copy_directives(alloc, directives) {
+        Ok(copies) => Ok(copies),
+        Err(_) => Err(AllocError),
     }
-    Ok(copies)
 }
 
 fn is_text(text: &[u8], other: &[u8]) -> bool

@@ -52,23 +52,25 @@ fn is_not_flow(c: char) -> bool
 fn is_indicator(c: char) -> bool
     ensures { result ≡ is_indicator c }
 {
-    c == ' '
-        || c == '#'
-        || c == ','
-        || c == '['
-        || c == ']'
-        || c == '{'
-        || c == '}'
-        || c == '&'
-        || c == '*'
-        || c == '!'
-        || c == '|'
-        || c == '>'
-        || c == '\''
-        || c == '"'
-        || c == '%'
-        || c == '@'
-        || c == '`'
+    matches!(
+        c,
+        ' ' | '#'
+            | ','
+            | '['
+            | ']'
+            | '{'
+            | '}'
+            | '&'
+            | '*'
+            | '!'
+            | '|'
+            | '>'
+            | '\''
+            | '"'
+            | '%'
+            | '@'
+            | '`'
+    )
 }
 
 fn is_badly_begun(a: char, b: char, c: char) -> bool

@@ -20,23 +20,25 @@ fn suffix_keeps(byte: u8) -> bool
     (b'0' <= byte && byte <= b'9')
         || (b'A' <= byte && byte <= b'Z')
         || (b'a' <= byte && byte <= b'z')
-        || byte == b'_'
-        || byte == b'-'
-        || byte == b';'
-        || byte == b'/'
-        || byte == b'?'
-        || byte == b':'
-        || byte == b'@'
-        || byte == b'&'
-        || byte == b'='
-        || byte == b'+'
-        || byte == b'$'
-        || byte == b'.'
-        || byte == b'~'
-        || byte == b'*'
-        || byte == b'\''
-        || byte == b'('
-        || byte == b')'
+        || matches!(
+            byte,
+            b'_' | b'-'
+                | b';'
+                | b'/'
+                | b'?'
+                | b':'
+                | b'@'
+                | b'&'
+                | b'='
+                | b'+'
+                | b'$'
+                | b'.'
+                | b'~'
+                | b'*'
+                | b'\''
+                | b'('
+                | b')'
+        )
 }
 
 #[tactic(auto, unfolding(crate::specs::Tags::prefix_keeps))]

@@ -1,4 +1,3 @@
 pub mod Defaults
-pub mod TagSteps
 pub mod HandleTable
 pub mod Tops

@@ -6,7 +6,7 @@ ghost use Rattle.yaml_parse_grammar.specs.Resolve.{directive_for};
 ghost use Rattle.yaml_parse_machine.specs.Settles.{IsMemory};
 
 use crate::resolving::Refusal;
-use std::alloc::Global;
+use std::alloc::{AllocError, Global};
 use std::collections::BTreeMap;
 use std::marker::Model;
 use yaml_parse_model::yaml_tag_directive_t;
@@ -30,6 +30,19 @@ impl Model for TagDirectives {
     ghost view = { tags_view };
 
     ghost invariant = { IsIndexed };
+}
+
+// A copy for the index, which keeps texts of its own.
+fn copy_directive(
+    alloc: Global,
+    directive: &yaml_tag_directive_t,
+) -> Result<yaml_tag_directive_t, AllocError>
+    ensures { IfOk result (λ d. directive_of d ≡ directive_of directive.now) }
+{
+    Ok(yaml_tag_directive_t {
+        handle: Vec::from_slice(alloc, directive.handle.as_slice())?,
+        prefix: Vec::from_slice(alloc, directive.prefix.as_slice())?,
+    })
 }
 
 impl TagDirectives {
@@ -72,10 +85,10 @@ impl TagDirectives {
             ++ record { handle = handle.items; prefix = prefix.items } ∷ []) }
         ensures err { IfErr result IsMemory }
     {
-        let name = Vec::from_slice(alloc, handle.as_slice())?;
-        let text = Vec::from_slice(alloc, prefix.as_slice())?;
-        self.list.push(yaml_tag_directive_t { handle, prefix })?;
-        match self.prefixes.insert(name, text) {
+        let directive = yaml_tag_directive_t { handle, prefix };
+        let copy = copy_directive(alloc, &directive)?;
+        self.list.push(directive)?;
+        match self.prefixes.insert(copy.handle, copy.prefix) {
             Ok(_) => Ok(()),
             Err(_) => {
                 self.list.pop();

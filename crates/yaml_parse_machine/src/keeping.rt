@@ -5,7 +5,7 @@ ghost use Rattle.yaml_parse_grammar.specs.States as state;
 ghost use Rattle.yaml_parse_machine.specs.Views.{properties_of, tag_of, stack_of};
 
 use crate::item::{Properties, State, Tag};
-use crate::pushing::push;
+use crate::pushing::push_silently;
 use crate::taking::moved;
 use std::alloc::{AllocError, Global};
 use yaml_parse_grammar::Wants;
@@ -62,8 +62,7 @@ pub(crate) fn await_rest(
     ensures stack { OnOk result (stack_of stack.new.items ≡ state.with_properties wants
         (properties_of properties.value) ∷ stack_of stack.old.items) }
 {
-    push(stack, State::WithProperties(wants, properties))?;
-    Ok(false)
+    push_silently(stack, State::WithProperties(wants, properties))
 }
 
 // A node's anchor, before all else of it.

@@ -1,6 +1,6 @@
 //! States that are put on top of the stack, whose last state is the topmost.
 
-ghost use Rattle.std.specs.Prelude.{◌≡◌, ◌<◌, ◌≤◌, ◌+◌, ◌++◌, [], ◌∷◌, vec_len, vec_capacity, OnOk, IfSome};
+ghost use Rattle.std.specs.Prelude.{◌≡◌, ◌<◌, ◌≤◌, ◌+◌, ◌++◌, [], ◌∷◌, vec_len, vec_capacity, OnOk, IfOk, IfSome, false};
 ghost use Rattle.yaml_parse_grammar.specs.declared.name.Site.TheVariants.{Entry, IndentlessEntry, BlockPair, FlowPair};
 ghost use Rattle.yaml_parse_grammar.specs.declared.name.Brackets.TheVariants as brackets;
 ghost use Rattle.yaml_parse_grammar.specs.declared.name.Side.TheVariants.{Key, Value};
@@ -64,6 +64,18 @@ pub(crate) fn push(stack: &mut Vec<State>, state: State) -> Result<(), AllocErro
     Ok(())
 }
 
+// A state, behind a token that gives nothing.
+// Inlined: its state is known, so that it is built in its place.
+#[inline(always)]
+pub(crate) fn push_silently(stack: &mut Vec<State>, state: State) -> Result<bool, AllocError>
+    ensures item { IfOk result (λ b. b ≡ false) }
+    ensures stack { OnOk result (stack_of stack.new.items ≡ state_of state
+        ∷ stack_of stack.old.items) }
+{
+    push(stack, state)?;
+    Ok(false)
+}
+
 // The state on top, if there is one.
 // Inlined: a comparison and an address.
 #[inline(always)]
@@ -124,35 +136,37 @@ pub(crate) fn push_indentless(
     Ok(())
 }
 
-// A part behind a `-` that ends there, and the further parts.
+// A part behind a `-` that ends there, and the further parts. The `-` gives nothing.
 pub(crate) fn push_entry(
     stack: &mut Vec<State>,
     opener: yaml_mark_t,
     end: yaml_mark_t,
-) -> Result<(), AllocError>
-    ensures { OnOk result (stack_of stack.new.items ≡ state.optional Entry end ∷ state.entries
+) -> Result<bool, AllocError>
+    ensures item { IfOk result (λ b. b ≡ false) }
+    ensures stack { OnOk result (stack_of stack.new.items ≡ state.optional Entry end ∷ state.entries
         opener ∷ stack_of stack.old.items) }
 {
     stack.reserve(2)?;
     put(stack, State::Entries(opener));
     put(stack, State::Optional(Site::Entry, end));
-    Ok(())
+    Ok(false)
 }
 
-// A pair of a block mapping behind a key's indicator that ends there, and the further pairs.
+// A pair of a block mapping behind a key's indicator that ends there and gives nothing, and the further pairs.
 pub(crate) fn push_block_pair(
     stack: &mut Vec<State>,
     opener: yaml_mark_t,
     end: yaml_mark_t,
-) -> Result<(), AllocError>
-    ensures { OnOk result (stack_of stack.new.items ≡ state.optional (BlockPair Key) end
+) -> Result<bool, AllocError>
+    ensures item { IfOk result (λ b. b ≡ false) }
+    ensures stack { OnOk result (stack_of stack.new.items ≡ state.optional (BlockPair Key) end
         ∷ state.colon (BlockPair Value) ∷ state.pairs opener ∷ stack_of stack.old.items) }
 {
     stack.reserve(3)?;
     put(stack, State::Pairs(opener));
     put(stack, State::Colon(Site::BlockPair(Side::Value)));
     put(stack, State::Optional(Site::BlockPair(Side::Key), end));
-    Ok(())
+    Ok(false)
 }
 
 // A key and its value, behind a key's indicator that ends there, on top of what follows them.
@@ -196,15 +210,17 @@ pub(crate) fn push_sequence_pair(
     Ok(())
 }
 
-// A pair inside the brackets of a mapping behind a key's indicator that ends there, and what follows it in them.
+// A pair inside the brackets of a mapping behind a key's indicator that ends there, and what follows it in them. The
+// indicator gives nothing.
 pub(crate) fn push_mapping_pair(
     stack: &mut Vec<State>,
     opener: yaml_mark_t,
     end: yaml_mark_t,
-) -> Result<(), AllocError>
-    ensures { OnOk result (stack_of stack.new.items ≡ state.optional (FlowPair brackets.Mapping Key)
-        end ∷ state.colon (FlowPair brackets.Mapping Value) ∷ state.more brackets.Mapping opener
-        ∷ stack_of stack.old.items) }
+) -> Result<bool, AllocError>
+    ensures item { IfOk result (λ b. b ≡ false) }
+    ensures stack { OnOk result (stack_of stack.new.items ≡ state.optional
+        (FlowPair brackets.Mapping Key) end ∷ state.colon (FlowPair brackets.Mapping Value)
+        ∷ state.more brackets.Mapping opener ∷ stack_of stack.old.items) }
 {
     let brackets = Brackets::Mapping;
     stack.reserve(3)?;
@@ -214,7 +230,7 @@ pub(crate) fn push_mapping_pair(
         stack,
         State::Optional(Site::FlowPair(brackets, Side::Key), end),
     );
-    Ok(())
+    Ok(false)
 }
 
 // What comes behind a part that stands inside brackets.

@@ -296,18 +296,6 @@ fn node(
     }
 }
 
-fn copy_directive(
-    alloc: Global,
-    directive: &yaml_tag_directive_t,
-) -> Result<yaml_tag_directive_t, AllocError>
-    ensures { IfOk result (λ d. directive_of d ≡ directive_of directive.now) }
-{
-    Ok(yaml_tag_directive_t {
-        handle: Vec::from_slice(alloc, directive.handle.as_slice())?,
-        prefix: Vec::from_slice(alloc, directive.prefix.as_slice())?,
-    })
-}
-
 fn copy_directives(
     alloc: Global,
     tags: &[yaml_tag_directive_t],
@@ -315,11 +303,10 @@ fn copy_directives(
     ensures ok { IfOk result (λ v. map directive_of v.items ≡ map directive_of tags.now) }
     ensures err { IfErr result IsMemory }
 {
-    let mut copies = Vec::new(alloc);
-    for tag in tags {
-        copies.push(copy_directive(alloc, tag)?)?;
+    match yaml_parse_model::copy_directives(alloc, tags) {
+        Ok(copies) => Ok(copies),
+        Err(_) => Err(Refusal::Memory),
     }
-    Ok(copies)
 }
 
 // Version 1.1 or 1.2.
@@ -523,9 +510,9 @@ fn settle_body(
             ref mut properties,
             ref mut shape,
         } => {
-            let given = settle_node(alloc, &directives.tags, properties, shape, from, event)?;
+            let given = settle_node(alloc, &directives.tags, properties, shape, from, event);
             spare_box(properties, spare);
-            Ok(given)
+            given
         }
     }
 }

@@ -9,14 +9,14 @@ ghost use Rattle.yaml_parse_grammar.specs.declared.name.Site.TheVariants.{Indent
 ghost use Rattle.yaml_parse_grammar.specs.declared.name.Brackets.TheVariants as brackets;
 ghost use Rattle.yaml_parse_grammar.specs.declared.name.Side.TheVariants.{Key};
 ghost use Rattle.yaml_parse_model.specs.Tokens.{token_of, body_of as token_body_of};
-ghost use Rattle.yaml_parse_grammar.specs.Items.{node_at};
+ghost use Rattle.yaml_parse_grammar.specs.Items.{node_at, item_at};
 ghost use Rattle.yaml_parse_grammar.specs.Items as item;
 ghost use Rattle.yaml_parse_model.specs.declared.yaml_sequence_style_t.TheVariants.{YAML_BLOCK_SEQUENCE_STYLE};
 ghost use Rattle.yaml_parse_model.specs.declared.yaml_mapping_style_t.TheVariants.{YAML_BLOCK_MAPPING_STYLE};
 ghost use Rattle.yaml_parse_grammar.specs.Trees.{flow_shape, end_event};
 ghost use Rattle.yaml_parse_grammar.specs.States as state;
-ghost use Rattle.yaml_parse_grammar.specs.Machine.{not_taken, taken_at, documents_taken, content_taken, node_taken, with_properties_taken, items_taken, more_taken, stream_taken, entries_taken, pairs_taken, pair_taken};
-ghost use Rattle.yaml_parse_machine.specs.Views.{properties_of, properties_option_of, shape_of, plain_of, given_of, state_of, stack_of};
+ghost use Rattle.yaml_parse_grammar.specs.Machine.{not_taken, taken_at, documents_taken, content_taken, node_taken, with_properties_taken, items_taken, more_taken, stream_taken, entries_taken, pairs_taken, pair_taken, opened};
+ghost use Rattle.yaml_parse_machine.specs.Views.{properties_of, properties_option_of, shape_of, plain_of, item_body_of, given_of, state_of, stack_of};
 
 use crate::building::{give, node, tell};
 use crate::choosing::wants;
@@ -24,7 +24,7 @@ use crate::item::{Properties, RawEvent, RawEventBody, Resolved, Shape, State, Ta
 use crate::keeping::{await_rest, keep_anchor, keep_tag};
 use crate::pushing::{
     open, push, push_behind_part, push_block_pair, push_entry, push_indentless, push_mapping_pair,
-    push_sequence_pair,
+    push_sequence_pair, push_silently,
 };
 use std::alloc::AllocError;
 use std::mem;
@@ -39,8 +39,7 @@ fn nothing(stack: &mut Vec<State>, slot: &mut RawEvent) -> Result<bool, AllocErr
     ensures stack { OnOk result (stack_of stack.new.items ≡ not_taken.above ++ stack_of
         stack.old.items) }
 {
-    push(stack, State::Lone)?;
-    Ok(false)
+    push_silently(stack, State::Lone)
 }
 
 // The text, of which an empty one is left.
@@ -78,6 +77,40 @@ fn at_stream(
     }
 }
 
+// A directive, behind which directives may follow.
+fn note_directive(
+    stack: &mut Vec<State>,
+    from: yaml_mark_t,
+    directive: RawEventBody,
+    token: &yaml_token_t,
+    slot: &mut RawEvent,
+) -> Result<bool, AllocError>
+    ensures item { IfOk result (λ b. given_of b slot.new
+        ≡ Some (item_at (item_body_of directive) token.now.start_mark token.now.end_mark)) }
+    ensures stack { OnOk result (stack_of stack.new.items ≡ state.directives from
+        ∷ stack_of stack.old.items) }
+{
+    let given = give(slot, directive, token.start_mark, token.end_mark);
+    push(stack, State::Directives(from))?;
+    given
+}
+
+// A document that a `---` begins, which ends there.
+fn open_document(
+    stack: &mut Vec<State>,
+    from: yaml_mark_t,
+    to: yaml_mark_t,
+    slot: &mut RawEvent,
+) -> Result<bool, AllocError>
+    ensures item { IfOk result (λ b. given_of b slot.new
+        ≡ Some (item_at (item.document false) from to)) }
+    ensures stack { OnOk result (stack_of stack.new.items ≡ opened to
+        ++ stack_of stack.old.items) }
+{
+    open(stack, to)?;
+    give(slot, RawEventBody::Document { implicit: false }, from, to)
+}
+
 fn at_documents(
     stack: &mut Vec<State>,
     from: yaml_mark_t,
@@ -94,39 +127,22 @@ fn at_documents(
     let body = &mut token.body;
     match *body {
         yaml_token_body_t::VersionDirective { major, minor } => {
-            push(stack, State::Directives(from))?;
-            give(
-                slot,
-                RawEventBody::VersionDirective { major, minor },
-                token.start_mark,
-                token.end_mark,
-            )
+            let directive = RawEventBody::VersionDirective { major, minor };
+            note_directive(stack, from, directive, token, slot)
         }
         yaml_token_body_t::TagDirective {
             ref mut handle,
             ref mut prefix,
         } => {
-            push(stack, State::Directives(from))?;
             let directive = RawEventBody::TagDirective {
                 handle: moved(handle),
                 prefix: moved(prefix),
             };
-            give(slot, directive, token.start_mark, token.end_mark)
+            note_directive(stack, from, directive, token, slot)
         }
-        yaml_token_body_t::DocumentStart => {
-            open(stack, token.end_mark)?;
-            give(
-                slot,
-                RawEventBody::Document { implicit: false },
-                from,
-                token.end_mark,
-            )
-        }
+        yaml_token_body_t::DocumentStart => { open_document(stack, from, token.end_mark, slot) }
         yaml_token_body_t::StreamEnd => tell(slot, Resolved::StreamEnd, token),
-        _ => {
-            push(stack, State::Documents)?;
-            Ok(false)
-        }
+        _ => push_silently(stack, State::Documents),
     }
 }
 
@@ -137,12 +153,6 @@ fn flow_collection(brackets: Brackets) -> Shape
         Brackets::Sequence => Shape::Sequence(yaml_sequence_style_t::YAML_FLOW_SEQUENCE_STYLE),
         Brackets::Mapping => Shape::Mapping(yaml_mapping_style_t::YAML_FLOW_MAPPING_STYLE),
     }
-}
-
-fn block_sequence() -> Shape
-    ensures { shape_of result ≡ item.sequence YAML_BLOCK_SEQUENCE_STYLE }
-{
-    Shape::Sequence(yaml_sequence_style_t::YAML_BLOCK_SEQUENCE_STYLE)
 }
 
 fn end_of(brackets: Brackets) -> Resolved
@@ -168,8 +178,9 @@ fn open_brackets(
     ensures stack { OnOk result (stack_of stack.new.items ≡ state.items brackets
         token.now.start_mark ∷ stack_of stack.old.items) }
 {
+    let given = node(slot, properties, flow_collection(brackets), token);
     push(stack, State::Items(brackets, token.start_mark))?;
-    node(slot, properties, flow_collection(brackets), token)
+    given
 }
 
 // A block sequence begins.
@@ -185,8 +196,10 @@ fn open_entries(
     ensures stack { OnOk result (stack_of stack.new.items ≡ state.entries token.now.start_mark
         ∷ stack_of stack.old.items) }
 {
+    let shape = Shape::Sequence(yaml_sequence_style_t::YAML_BLOCK_SEQUENCE_STYLE);
+    let given = node(slot, properties, shape, token);
     push(stack, State::Entries(token.start_mark))?;
-    node(slot, properties, block_sequence(), token)
+    given
 }
 
 // A block mapping begins.
@@ -202,9 +215,10 @@ fn open_pairs(
     ensures stack { OnOk result (stack_of stack.new.items ≡ state.pairs token.now.start_mark
         ∷ stack_of stack.old.items) }
 {
-    push(stack, State::Pairs(token.start_mark))?;
     let shape = Shape::Mapping(yaml_mapping_style_t::YAML_BLOCK_MAPPING_STYLE);
-    node(slot, properties, shape, token)
+    let given = node(slot, properties, shape, token);
+    push(stack, State::Pairs(token.start_mark))?;
+    given
 }
 
 // A sequence that isn't indented begins, with its first `-`.
@@ -221,8 +235,10 @@ fn open_others(
     ensures stack { OnOk result (stack_of stack.new.items ≡ state.optional (IndentlessEntry side)
         token.now.end_mark ∷ state.others side ∷ stack_of stack.old.items) }
 {
+    let shape = Shape::Sequence(yaml_sequence_style_t::YAML_BLOCK_SEQUENCE_STYLE);
+    let given = node(slot, properties, shape, token);
     push_indentless(stack, side, token.end_mark)?;
-    node(slot, properties, block_sequence(), token)
+    given
 }
 
 // Inlined into its callers' arms, which know whether there are properties.
@@ -363,10 +379,7 @@ fn at_pair(
             push_sequence_pair(stack, opener, token.end_mark)?;
             node(slot, None, flow_collection(Brackets::Mapping), token)
         }
-        Brackets::Mapping => {
-            push_mapping_pair(stack, opener, token.end_mark)?;
-            Ok(false)
-        }
+        Brackets::Mapping => { push_mapping_pair(stack, opener, token.end_mark) }
     }
 }
 
@@ -410,10 +423,7 @@ fn at_more(
         (token_body_of token.old.body)).above ++ stack_of stack.old.items) }
 {
     match &mut token.body {
-        yaml_token_body_t::FlowEntry => {
-            push(stack, State::Items(brackets, opener))?;
-            Ok(false)
-        }
+        yaml_token_body_t::FlowEntry => { push_silently(stack, State::Items(brackets, opener)) }
         _ => tell(slot, end_of(brackets), token),
     }
 }
@@ -432,10 +442,7 @@ fn at_entries(
         (token_body_of token.old.body)).above ++ stack_of stack.old.items) }
 {
     match &mut token.body {
-        yaml_token_body_t::BlockEntry => {
-            push_entry(stack, opener, token.end_mark)?;
-            Ok(false)
-        }
+        yaml_token_body_t::BlockEntry => { push_entry(stack, opener, token.end_mark) }
         _ => tell(slot, Resolved::SequenceEnd, token),
     }
 }
@@ -454,10 +461,7 @@ fn at_pairs(
         (token_body_of token.old.body)).above ++ stack_of stack.old.items) }
 {
     match &mut token.body {
-        yaml_token_body_t::Key => {
-            push_block_pair(stack, opener, token.end_mark)?;
-            Ok(false)
-        }
+        yaml_token_body_t::Key => { push_block_pair(stack, opener, token.end_mark) }
         _ => tell(slot, Resolved::MappingEnd, token),
     }
 }
@@ -476,8 +480,7 @@ fn at_colon(stack: &mut Vec<State>, place: Site, end: yaml_mark_t) -> Result<boo
     ensures stack { OnOk result (stack_of stack.new.items ≡ state.optional place end ∷ stack_of
         stack.old.items) }
 {
-    push(stack, State::Optional(place, end))?;
-    Ok(false)
+    push_silently(stack, State::Optional(place, end))
 }
 
 /// What the state gives as it takes the token stands in the slot, if anything, and what may come from then on on top of

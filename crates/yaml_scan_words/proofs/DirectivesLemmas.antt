@@ -1,5 +1,5 @@
 -- Directives, a part at a time.
-use Rattle.std.proofs.Common.{◌≡◌, ℕ, zero, suc, ◌+◌, ◌-◌, ◌*◌, ◌<◌, ◌≤◌, ◌==◌, nat_lt, true, false, List, length, Result, Ok, Err, refl, ◌∙◌, arith, add-one}
+use Rattle.std.proofs.Common.{◌≡◌, ℕ, zero, suc, ◌+◌, ◌-◌, ◌*◌, ◌<◌, ◌≤◌, ◌==◌, nat_lt, true, false, ℤ, pos, List, length, Result, Ok, Err, refl, ◌∙◌, arith, add-one}
 use Rattle.std.proofs.lemmas.Bool.Decides.{nat_tests}
 use Rattle.std.specs.Global.{Vec}
 use Rattle.yaml_scan_model.specs.declared.record.yaml_mark_t.{yaml_mark_t}
@@ -16,8 +16,9 @@ use Rattle.yaml_scan_words.specs.declared.word.DirectiveWord.{DirectiveWord}
 use Rattle.yaml_scan_words.specs.declared.directives.DirectiveName.{DirectiveName}
 use Rattle.yaml_scan_words.specs.Runs.{belongs, run_within, run_end}
 use Rattle.yaml_scan_words.specs.Readings.{ReadsAs, IsBytes, behind_bytes}
-use Rattle.yaml_scan_words.specs.Directives.{ValueText, value_end, directive_place, name_behind, line_place, decimal, number_at, prefix_at, with_prefix, then_at, named_value_at, line_end_at, with_line, finished}
-use Rattle.yaml_scan_words.specs.DirectivesGiven.{IsSaid, IsName, IsEnd, IsDirective, Says}
+use Rattle.yaml_scan_words.specs.Directives.{ValueText, value_end, directive_place, name_behind, number_behind, line_place, decimal, number_at, minor_at, prefix_at, with_prefix, then_at, named_value_at, line_end_at, with_line, finished}
+use Rattle.yaml_scan_words.specs.declared.word.Directive.TheVariants as said
+use Rattle.yaml_scan_words.specs.DirectivesGiven.{IsSaid, IsName, IsNumber, IsEnd, IsDirective, Says}
 use Rattle.yaml_scan_words.proofs.RunsLemmas.{run_more, run_stop, run_within-ge}
 
 -- what k digits spell at most, and one more
@@ -103,6 +104,38 @@ pub tag_refused : (text : List ℕ) (start : yaml_mark_t) (v : Vec ℕ) (between
 tag_refused text start v between place e (Ok x) (given, same) h =
     prefix_refused text start x.0 place e (prefix_at text x.1) (rw same at h)
 tag_refused text start v between place e (Err w) given h = absurd given
+
+-- a handle that is refused
+pub handle_refused : (text : List ℕ) (start : yaml_mark_t) (place : Place) (e : ScanError) (r : Result (List ℕ × ℕ) Wrong)
+    → ReadsAs IsBytes behind_bytes text start place (Err e) r → ReadsAs IsSaid value_end text start place (Err e) (then_at (λ handle q. with_prefix handle (prefix_at text q)) r)
+handle_refused text start place e (Ok x) h = memory_given IsSaid value_end text start place e (with_prefix x.0 (prefix_at text x.1)) h
+handle_refused text start place e (Err w) h = h
+
+prefix_given : (text : List ℕ) (start : yaml_mark_t) (v : Vec ℕ) (handle : List ℕ) (p : Vec ℕ) (place : Place) (r : Result (List ℕ × ℕ) Wrong)
+    → v.items ≡ handle → ReadsAs IsBytes behind_bytes text start place (Ok p) r → ReadsAs IsSaid value_end text start place (Ok (said.Tag v p)) (with_prefix handle r)
+prefix_given text start v handle p place (Ok y) g (is, at) = ((g, is), at)
+prefix_given text start v handle p place (Err w) g h = absurd h
+
+-- a prefix behind a handle
+pub tag_given : (text : List ℕ) (start : yaml_mark_t) (v p : Vec ℕ) (between place : Place) (r : Result (List ℕ × ℕ) Wrong)
+    → ReadsAs IsBytes behind_bytes text start between (Ok v) r → ReadsAs IsBytes behind_bytes between.text start place (Ok p) (prefix_at between.text between.at)
+    → ReadsAs IsSaid value_end text start place (Ok (said.Tag v p)) (then_at (λ handle q. with_prefix handle (prefix_at text q)) r)
+tag_given text start v p between place (Ok x) (given, same) h = prefix_given text start v x.0 p place (prefix_at text x.1) given (rw same at h)
+tag_given text start v p between place (Err w) given h = absurd given
+
+-- a major number that is refused
+pub major_refused : (text : List ℕ) (start : yaml_mark_t) (place : Place) (e : ScanError) (r : Result (ℕ × ℕ) Wrong)
+    → ReadsAs IsNumber number_behind text start place (Err e) r → ReadsAs IsSaid value_end text start place (Err e) (then_at (minor_at text) r)
+major_refused text start place e (Ok x) h = memory_given IsSaid value_end text start place e (minor_at text x.0 x.1) h
+major_refused text start place e (Err w) h = h
+
+-- what follows a major number
+pub major_given : (text : List ℕ) (start : yaml_mark_t) (major lent : ℤ) (between place : Place) (answer : Result Directive ScanError) (r : Result (ℕ × ℕ) Wrong) → lent ≡ major
+    → ReadsAs IsNumber number_behind text start between (Ok major) r
+    → ((m : ℕ) → lent ≡ pos m → ReadsAs IsSaid value_end between.text start place answer (minor_at between.text m between.at))
+    → ReadsAs IsSaid value_end text start place answer (then_at (minor_at text) r)
+major_given text start major lent between place answer (Ok x) l (given, same) h = rw same at (h x.0 (l ∙ given))
+major_given text start major lent between place answer (Err w) l given h = absurd given
 
 -- a name that is refused
 pub name_refused : (text : List ℕ) (start : yaml_mark_t) (place : Place) (e : ScanError) (r : Result (DirectiveName × ℕ) Wrong)

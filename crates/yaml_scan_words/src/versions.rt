@@ -18,6 +18,14 @@ pub(crate) fn version(reader: &mut Reader, start: yaml_mark_t) -> Result<Directi
 {
     skip_run(Run::Blanks, reader);
     let major = number(reader, start)?;
+    minor(reader, major, start)
+}
+
+/// The rest of a version behind its major number, which follows here: `.` and a number.
+fn minor(reader: &mut Reader, major: i32, start: yaml_mark_t) -> Result<Directive, ScanError>
+    ensures { (m : ℕ) → major ≡ pos m → ReadsAs IsSaid spec.value_end reader.old.text start
+        reader.new result (spec.minor_at reader.old.text m reader.old.at) }
+{
     if reader.here() != b'.' {
         return Err(refusal(
             reader,

@@ -9,7 +9,7 @@ ghost use Rattle.yaml_scan_scalars.specs.Ordinary.{IsRun, bytes_at};
 use crate::joining::Joining;
 use crate::run::{copied, ordinary_run};
 use crate::scalar::PlainScalar;
-use std::alloc::{AllocError, Global};
+use std::alloc::AllocError;
 use yaml_scan_model::{
     Context, Problem, Reader, ScanError, is_blank_byte, skip_spaces, yaml_mark_t,
 };
@@ -40,7 +40,7 @@ pub fn plain_scalar(
             return one_line(spares, reader, &ahead, bytes, start);
         }
     }
-    many_runs(*spares.allocator(), reader, bytes, start, flow, level)
+    many_runs(spares, reader, bytes, start, flow, level)
 }
 
 /// Past the scalar's first character and the ordinary bytes behind it, and those bytes.
@@ -153,7 +153,7 @@ fn one_line<'a>(
 // Out of line: most scalars have one run.
 #[inline(never)]
 fn many_runs(
-    alloc: Global,
+    spares: &mut Vec<Vec<u8>>,
     reader: &mut Reader,
     bytes: &[u8],
     start: yaml_mark_t,
@@ -170,7 +170,7 @@ fn many_runs(
     ensures { ReadsPlain reader.old.text start.index reader.new result
         (spec.plain_at flow level reader.old.text start.index) }
 {
-    let mut joining = Joining::new(alloc, bytes, reader.mark())?;
+    let mut joining = Joining::new(spares, bytes, reader.mark())?;
     'pieces: loop {
         let more = piece(reader, &mut joining, start, flow, level)?;
         if !more {

@@ -11,9 +11,9 @@ ghost use Rattle.yaml_scan_scalars.specs.Resume.{resume};
 
 use crate::escape::escape;
 use crate::folding::Folding;
-use crate::run::{copied, ordinary_run};
+use crate::run::{copied, ordinary_run, room};
 use crate::scalar::Scalar;
-use std::alloc::{AllocError, Global};
+use std::alloc::AllocError;
 use yaml_scan_model::{Context, Problem, Reader, ScanError, is_blank_byte, yaml_mark_t};
 
 /// The double quoted scalar whose opening quote stands here. The reader is left after the closing one. The value may take
@@ -49,7 +49,7 @@ fn quoted(spares: &mut Vec<Vec<u8>>, reader: &mut Reader, quote: u8) -> Result<S
     if closes(reader, quote) {
         return one_run(spares, reader, bytes, start);
     }
-    many_runs(*spares.allocator(), reader, bytes, start, quote)
+    many_runs(spares, reader, bytes, start, quote)
 }
 
 /// Whether the quote stands here and closes its scalar.
@@ -86,7 +86,7 @@ fn one_run(
 // Out of line: most scalars have one run.
 #[inline(never)]
 fn many_runs(
-    alloc: Global,
+    spares: &mut Vec<Vec<u8>>,
     reader: &mut Reader,
     bytes: &[u8],
     start: yaml_mark_t,
@@ -101,7 +101,8 @@ fn many_runs(
     ensures { Reads reader.old.text start.index reader.new result
         (spec.quoted_at quote reader.old.text start.index) }
 {
-    let mut folding = Folding::new(alloc);
+    let done = room(spares, bytes.len())?;
+    let mut folding = Folding::new(done);
     keep_some(&mut folding, bytes)?;
     'pieces: loop {
         let more = piece(reader, &mut folding, quote, start)?;

@@ -69,7 +69,7 @@ pub(crate) fn ordinary_run<'a>(reader: &mut Reader<'a>) -> &'a [u8]
     reader.since(from)
 }
 
-/// The least room that is made: less takes no less of the heap, and may be too little for the next text.
+/// The least room that is made: what the smallest block of common allocators holds.
 const LEAST_ROOM: usize = 24;
 
 /// A copy of a run's bytes, in the room of a spare text where they fit.
@@ -86,7 +86,7 @@ pub(crate) fn copied(spares: &mut Vec<Vec<u8>>, bytes: &[u8]) -> Result<Vec<u8>,
 /// An empty text with room for so many bytes: a spare one, where it has that.
 // Inlined: mostly it has it.
 #[inline(always)]
-fn room(spares: &mut Vec<Vec<u8>>, count: usize) -> Result<Vec<u8>, AllocError>
+pub(crate) fn room(spares: &mut Vec<Vec<u8>>, count: usize) -> Result<Vec<u8>, AllocError>
     ensures { IfOk result (λ v. v.items ≡ []) }
 {
     let alloc = *spares.allocator();

@@ -11,7 +11,7 @@ ghost use Rattle.yaml_scan.specs.Session.{HasFirst, Scans, ScansInto, Looks, Pee
 ghost use Rattle.yaml_scan.specs.SessionView.{IsWhole, view_of};
 ghost use Rattle.yaml_scan_machine.specs.Scanned.{scanned};
 
-use crate::reading::{Sought, next_into, put};
+use crate::reading::{Sought, next_into, put, take_back};
 use std::alloc::Global;
 use std::marker::Model;
 use std::mem;
@@ -30,6 +30,8 @@ pub struct yaml_parser_t<'a> {
     /// What a peek lends: the next token where `holds`, else the empty one.
     shown: yaml_token_t,
     holds: bool,
+    /// Texts that were let go, whose room the next ones take.
+    spares: Vec<Vec<u8>>,
 }
 
 impl<'a> Model for yaml_parser_t<'a> {
@@ -60,6 +62,7 @@ impl<'a> yaml_parser_t<'a> {
             fault: None,
             shown: yaml_token_t::empty(),
             holds: false,
+            spares: Vec::new(alloc),
         }
     }
 }
@@ -103,7 +106,8 @@ pub fn yaml_parser_scan_into(
         put(token, shown);
         return true;
     }
-    match next_into(&mut parser.machine, token, fault) {
+    take_back(&mut token.body, &mut parser.spares);
+    match next_into(&mut parser.machine, &mut parser.spares, token, fault) {
         Sought::Known => true,
         Sought::Nothing => true,
         Sought::Refused => {
@@ -124,6 +128,7 @@ pub fn yaml_parser_peek<'p>(parser: &'p mut yaml_parser_t) -> Result<&'p yaml_to
         &mut parser.fault,
         &mut parser.shown,
         &mut parser.holds,
+        &mut parser.spares,
     )?;
     Ok(&parser.shown)
 }
@@ -134,6 +139,7 @@ fn put_aside(
     kept: &mut Option<yaml_fault_t>,
     shown: &mut yaml_token_t,
     holds: &mut bool,
+    spares: &mut Vec<Vec<u8>>,
 ) -> Result<(), yaml_fault_t>
     requires { IsWhole machine.old kept.old shown.old holds.old }
     ensures stands { IsWhole machine.new kept.new shown.new holds.new }
@@ -147,7 +153,7 @@ fn put_aside(
         return Ok(());
     }
     let mut fault = yaml_memory_fault(yaml_origin_t::Scanner);
-    match next_into(machine, shown, &mut fault) {
+    match next_into(machine, spares, shown, &mut fault) {
         Sought::Known => {
             *holds = true;
             Ok(())

@@ -107,7 +107,12 @@ impl<'a> Machine<'a> {
     /// The lexeme that comes next, which stands there.
     // Inlined: its kind is known where it is called.
     #[inline(always)]
-    pub(crate) fn next(&self, kind: Kind, spot: Spot) -> Result<Read, ScanError>
+    pub(crate) fn next(
+        &self,
+        kind: Kind,
+        spot: Spot,
+        spares: &mut Vec<Vec<u8>>,
+    ) -> Result<Read, ScanError>
         requires stands { IsMachine self.now }
         requires more { self.now.ended ≡ false }
         requires stand { IsStand self.now kind spot }
@@ -122,7 +127,7 @@ impl<'a> Machine<'a> {
             kind,
             allowed: spot.allowed,
         };
-        self.of_kind(&mut reader, stand, spot.required)
+        self.of_kind(&mut reader, stand, spot.required, spares)
     }
 
     /// The lexeme of that kind, which stands there.
@@ -133,6 +138,7 @@ impl<'a> Machine<'a> {
         reader: &mut Reader,
         stand: Stand,
         required: Option<yaml_mark_t>,
+        spares: &mut Vec<Vec<u8>>,
     ) -> Result<Read, ScanError>
         requires stands { IsMachine self.now }
         requires more { self.now.ended ≡ false }
@@ -159,7 +165,7 @@ impl<'a> Machine<'a> {
         if let Some(start) = lost(required, lexeme) {
             return Err(no_colon(start, lexeme.start));
         }
-        match self.read(reader, lexeme, required) {
+        match self.read(reader, lexeme, required, spares) {
             Ok((lexeme, body)) => Ok(Read {
                 lexeme,
                 body,
@@ -178,6 +184,7 @@ impl<'a> Machine<'a> {
         reader: &mut Reader,
         lexeme: Lexeme,
         required: Option<yaml_mark_t>,
+        spares: &mut Vec<Vec<u8>>,
     ) -> Result<(Lexeme, yaml_token_body_t), ScanError>
         requires text { reader.old.text ≡ text_bytes self.now.text }
         requires index { lexeme.start.index ≡ reader.old.at }
@@ -195,7 +202,7 @@ impl<'a> Machine<'a> {
             (history_of self.now)) }
     {
         let flow = 0 < lexeme.depth;
-        match read_word(self.alloc, reader, lexeme.kind, flow, lexeme.level) {
+        match read_word(spares, reader, lexeme.kind, flow, lexeme.level) {
             Ok(word) => finish(lexeme, word, reader.stop(), required),
             Err(error) => Err(error),
         }

@@ -32,11 +32,17 @@ impl<'a> Machine<'a> {
     /// Reads the lexeme of that kind, which stands there; or puts the fault into the slot that was lent.
     // Inlined: each of its calls knows the kind.
     #[inline(always)]
-    pub(crate) fn step_at(&mut self, kind: Kind, spot: Spot, fault: &mut yaml_fault_t) -> bool
+    pub(crate) fn step_at(
+        &mut self,
+        kind: Kind,
+        spot: Spot,
+        spares: &mut Vec<Vec<u8>>,
+        fault: &mut yaml_fault_t,
+    ) -> bool
         requires { MayReadAt self.old kind spot }
         ensures { Steps self.old self.new (fault_of fault.new) result }
     {
-        match self.next(kind, spot) {
+        match self.next(kind, spot, spares) {
             Ok(read) => self.take(read, fault),
             Err(error) => {
                 put_fault(fault, error);

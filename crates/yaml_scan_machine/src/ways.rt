@@ -13,168 +13,226 @@ use yaml_scan_model::yaml_fault_t;
 impl<'a> Machine<'a> {
     ghost use Rattle.yaml_scan_machine.specs.Stood.{MayReadAt, Steps};
 
-    /// Reads the lexeme that stands there, in the way of its kind; or puts the fault into the slot that was lent.
+    /// Reads the lexeme that stands there, in the way of its kind; or puts the fault into the slot that was lent. A text may
+    /// take a spare one's room.
     // Inlined: it is called at one place.
     #[inline(always)]
-    pub fn by_kind(&mut self, kind: Kind, spot: Spot, fault: &mut yaml_fault_t) -> bool
+    pub fn by_kind(
+        &mut self,
+        kind: Kind,
+        spot: Spot,
+        spares: &mut Vec<Vec<u8>>,
+        fault: &mut yaml_fault_t,
+    ) -> bool
         requires { MayReadAt self.old kind spot }
         ensures { Steps self.old self.new (fault_of fault.new) result }
     {
         match kind {
-            Kind::FlowEntry => self.flow_entry(spot, fault),
-            Kind::ValueMark => self.value_mark(spot, fault),
-            Kind::Plain => self.plain(spot, fault),
-            Kind::DoubleQuoted => self.double_quoted(spot, fault),
-            Kind::FlowSequenceEnd => self.sequence_end(spot, fault),
-            Kind::FlowMappingEnd => self.mapping_end(spot, fault),
-            Kind::FlowSequenceStart => self.sequence_start(spot, fault),
-            Kind::FlowMappingStart => self.mapping_start(spot, fault),
-            Kind::BlockEntry => self.block_entry(spot, fault),
-            Kind::SingleQuoted => self.single_quoted(spot, fault),
-            Kind::Anchor => self.anchor(spot, fault),
-            Kind::Alias => self.alias(spot, fault),
-            Kind::Tag => self.tag(spot, fault),
-            _ => self.of_rare(kind, spot, fault),
+            Kind::FlowEntry => self.flow_entry(spot, spares, fault),
+            Kind::ValueMark => self.value_mark(spot, spares, fault),
+            Kind::Plain => self.plain(spot, spares, fault),
+            Kind::DoubleQuoted => self.double_quoted(spot, spares, fault),
+            Kind::FlowSequenceEnd => self.sequence_end(spot, spares, fault),
+            Kind::FlowMappingEnd => self.mapping_end(spot, spares, fault),
+            Kind::FlowSequenceStart => self.sequence_start(spot, spares, fault),
+            Kind::FlowMappingStart => self.mapping_start(spot, spares, fault),
+            Kind::BlockEntry => self.block_entry(spot, spares, fault),
+            Kind::SingleQuoted => self.single_quoted(spot, spares, fault),
+            Kind::Anchor => self.anchor(spot, spares, fault),
+            Kind::Alias => self.alias(spot, spares, fault),
+            Kind::Tag => self.tag(spot, spares, fault),
+            _ => self.of_rare(kind, spot, spares, fault),
         }
     }
 
     /// Reads a `,`.
     // Out of line, as is each way.
     #[inline(never)]
-    fn flow_entry(&mut self, spot: Spot, fault: &mut yaml_fault_t) -> bool
+    fn flow_entry(
+        &mut self,
+        spot: Spot,
+        spares: &mut Vec<Vec<u8>>,
+        fault: &mut yaml_fault_t,
+    ) -> bool
         requires { MayReadAt self.old kinds.FlowEntry spot }
         ensures { Steps self.old self.new (fault_of fault.new) result }
     {
-        self.step_at(Kind::FlowEntry, spot, fault)
+        self.step_at(Kind::FlowEntry, spot, spares, fault)
     }
 
     /// Reads a `:`.
     // Out of line, as is each way.
     #[inline(never)]
-    fn value_mark(&mut self, spot: Spot, fault: &mut yaml_fault_t) -> bool
+    fn value_mark(
+        &mut self,
+        spot: Spot,
+        spares: &mut Vec<Vec<u8>>,
+        fault: &mut yaml_fault_t,
+    ) -> bool
         requires { MayReadAt self.old kinds.ValueMark spot }
         ensures { Steps self.old self.new (fault_of fault.new) result }
     {
-        self.step_at(Kind::ValueMark, spot, fault)
+        self.step_at(Kind::ValueMark, spot, spares, fault)
     }
 
     /// Reads a plain scalar.
     // Out of line, as is each way.
     #[inline(never)]
-    fn plain(&mut self, spot: Spot, fault: &mut yaml_fault_t) -> bool
+    fn plain(&mut self, spot: Spot, spares: &mut Vec<Vec<u8>>, fault: &mut yaml_fault_t) -> bool
         requires { MayReadAt self.old kinds.Plain spot }
         ensures { Steps self.old self.new (fault_of fault.new) result }
     {
-        self.step_at(Kind::Plain, spot, fault)
+        self.step_at(Kind::Plain, spot, spares, fault)
     }
 
     /// Reads a double quoted scalar.
     // Out of line, as is each way.
     #[inline(never)]
-    fn double_quoted(&mut self, spot: Spot, fault: &mut yaml_fault_t) -> bool
+    fn double_quoted(
+        &mut self,
+        spot: Spot,
+        spares: &mut Vec<Vec<u8>>,
+        fault: &mut yaml_fault_t,
+    ) -> bool
         requires { MayReadAt self.old kinds.DoubleQuoted spot }
         ensures { Steps self.old self.new (fault_of fault.new) result }
     {
-        self.step_at(Kind::DoubleQuoted, spot, fault)
+        self.step_at(Kind::DoubleQuoted, spot, spares, fault)
     }
 
     /// Reads a `]`.
     // Out of line, as is each way.
     #[inline(never)]
-    fn sequence_end(&mut self, spot: Spot, fault: &mut yaml_fault_t) -> bool
+    fn sequence_end(
+        &mut self,
+        spot: Spot,
+        spares: &mut Vec<Vec<u8>>,
+        fault: &mut yaml_fault_t,
+    ) -> bool
         requires { MayReadAt self.old kinds.FlowSequenceEnd spot }
         ensures { Steps self.old self.new (fault_of fault.new) result }
     {
-        self.step_at(Kind::FlowSequenceEnd, spot, fault)
+        self.step_at(Kind::FlowSequenceEnd, spot, spares, fault)
     }
 
     /// Reads a `}`.
     // Out of line, as is each way.
     #[inline(never)]
-    fn mapping_end(&mut self, spot: Spot, fault: &mut yaml_fault_t) -> bool
+    fn mapping_end(
+        &mut self,
+        spot: Spot,
+        spares: &mut Vec<Vec<u8>>,
+        fault: &mut yaml_fault_t,
+    ) -> bool
         requires { MayReadAt self.old kinds.FlowMappingEnd spot }
         ensures { Steps self.old self.new (fault_of fault.new) result }
     {
-        self.step_at(Kind::FlowMappingEnd, spot, fault)
+        self.step_at(Kind::FlowMappingEnd, spot, spares, fault)
     }
 
     /// Reads a `[`.
     // Out of line, as is each way.
     #[inline(never)]
-    fn sequence_start(&mut self, spot: Spot, fault: &mut yaml_fault_t) -> bool
+    fn sequence_start(
+        &mut self,
+        spot: Spot,
+        spares: &mut Vec<Vec<u8>>,
+        fault: &mut yaml_fault_t,
+    ) -> bool
         requires { MayReadAt self.old kinds.FlowSequenceStart spot }
         ensures { Steps self.old self.new (fault_of fault.new) result }
     {
-        self.step_at(Kind::FlowSequenceStart, spot, fault)
+        self.step_at(Kind::FlowSequenceStart, spot, spares, fault)
     }
 
     /// Reads a `{`.
     // Out of line, as is each way.
     #[inline(never)]
-    fn mapping_start(&mut self, spot: Spot, fault: &mut yaml_fault_t) -> bool
+    fn mapping_start(
+        &mut self,
+        spot: Spot,
+        spares: &mut Vec<Vec<u8>>,
+        fault: &mut yaml_fault_t,
+    ) -> bool
         requires { MayReadAt self.old kinds.FlowMappingStart spot }
         ensures { Steps self.old self.new (fault_of fault.new) result }
     {
-        self.step_at(Kind::FlowMappingStart, spot, fault)
+        self.step_at(Kind::FlowMappingStart, spot, spares, fault)
     }
 
     /// Reads a `-`.
     // Out of line, as is each way.
     #[inline(never)]
-    fn block_entry(&mut self, spot: Spot, fault: &mut yaml_fault_t) -> bool
+    fn block_entry(
+        &mut self,
+        spot: Spot,
+        spares: &mut Vec<Vec<u8>>,
+        fault: &mut yaml_fault_t,
+    ) -> bool
         requires { MayReadAt self.old kinds.BlockEntry spot }
         ensures { Steps self.old self.new (fault_of fault.new) result }
     {
-        self.step_at(Kind::BlockEntry, spot, fault)
+        self.step_at(Kind::BlockEntry, spot, spares, fault)
     }
 
     /// Reads a single quoted scalar.
     // Out of line, as is each way.
     #[inline(never)]
-    fn single_quoted(&mut self, spot: Spot, fault: &mut yaml_fault_t) -> bool
+    fn single_quoted(
+        &mut self,
+        spot: Spot,
+        spares: &mut Vec<Vec<u8>>,
+        fault: &mut yaml_fault_t,
+    ) -> bool
         requires { MayReadAt self.old kinds.SingleQuoted spot }
         ensures { Steps self.old self.new (fault_of fault.new) result }
     {
-        self.step_at(Kind::SingleQuoted, spot, fault)
+        self.step_at(Kind::SingleQuoted, spot, spares, fault)
     }
 
     /// Reads an anchor.
     // Out of line, as is each way.
     #[inline(never)]
-    fn anchor(&mut self, spot: Spot, fault: &mut yaml_fault_t) -> bool
+    fn anchor(&mut self, spot: Spot, spares: &mut Vec<Vec<u8>>, fault: &mut yaml_fault_t) -> bool
         requires { MayReadAt self.old kinds.Anchor spot }
         ensures { Steps self.old self.new (fault_of fault.new) result }
     {
-        self.step_at(Kind::Anchor, spot, fault)
+        self.step_at(Kind::Anchor, spot, spares, fault)
     }
 
     /// Reads an alias.
     // Out of line, as is each way.
     #[inline(never)]
-    fn alias(&mut self, spot: Spot, fault: &mut yaml_fault_t) -> bool
+    fn alias(&mut self, spot: Spot, spares: &mut Vec<Vec<u8>>, fault: &mut yaml_fault_t) -> bool
         requires { MayReadAt self.old kinds.Alias spot }
         ensures { Steps self.old self.new (fault_of fault.new) result }
     {
-        self.step_at(Kind::Alias, spot, fault)
+        self.step_at(Kind::Alias, spot, spares, fault)
     }
 
     /// Reads a tag.
     // Out of line, as is each way.
     #[inline(never)]
-    fn tag(&mut self, spot: Spot, fault: &mut yaml_fault_t) -> bool
+    fn tag(&mut self, spot: Spot, spares: &mut Vec<Vec<u8>>, fault: &mut yaml_fault_t) -> bool
         requires { MayReadAt self.old kinds.Tag spot }
         ensures { Steps self.old self.new (fault_of fault.new) result }
     {
-        self.step_at(Kind::Tag, spot, fault)
+        self.step_at(Kind::Tag, spot, spares, fault)
     }
 
     /// Reads a lexeme of any other kind.
     // Out of line, as is each way.
     #[inline(never)]
-    fn of_rare(&mut self, kind: Kind, spot: Spot, fault: &mut yaml_fault_t) -> bool
+    fn of_rare(
+        &mut self,
+        kind: Kind,
+        spot: Spot,
+        spares: &mut Vec<Vec<u8>>,
+        fault: &mut yaml_fault_t,
+    ) -> bool
         requires { MayReadAt self.old kind spot }
         ensures { Steps self.old self.new (fault_of fault.new) result }
     {
-        self.step_at(kind, spot, fault)
+        self.step_at(kind, spot, spares, fault)
     }
 }

@@ -101,11 +101,11 @@ fn indicator(byte: u8, flow: bool, reader: &Reader) -> Option<Kind>
     }
 }
 
-/// Reads the lexeme of that kind, which stands here.
+/// Reads the lexeme of that kind, which stands here. Its text may take a spare one's room.
 // Inlined: the kind is known where it is called.
 #[inline(always)]
 pub(crate) fn read_word(
-    alloc: Global,
+    spares: &mut Vec<Vec<u8>>,
     reader: &mut Reader,
     kind: Kind,
     flow: bool,
@@ -118,7 +118,7 @@ pub(crate) fn read_word(
 {
     match indicator_body(kind) {
         Some(body) => Ok(read_indicator(reader, body)),
-        None => text_word(alloc, reader, kind, flow, level),
+        None => text_word(spares, reader, kind, flow, level),
     }
 }
 
@@ -146,7 +146,7 @@ fn indicator_body(kind: Kind) -> Option<yaml_token_body_t>
 // Inlined: the kind is known where it is called.
 #[inline(always)]
 fn text_word(
-    alloc: Global,
+    spares: &mut Vec<Vec<u8>>,
     reader: &mut Reader,
     kind: Kind,
     flow: bool,
@@ -158,6 +158,7 @@ fn text_word(
     ensures { ReadsWord reader.old.text reader.old.at reader.new result
         (spec.word_at kind flow level reader.old.text reader.old.at) }
 {
+    let alloc = *spares.allocator();
     match kind {
         Kind::DocumentStart => Ok(document_mark(reader, yaml_token_body_t::DocumentStart)),
         Kind::DocumentEnd => Ok(document_mark(reader, yaml_token_body_t::DocumentEnd)),
@@ -166,9 +167,9 @@ fn text_word(
         Kind::Anchor => anchor_word(alloc, reader),
         Kind::Tag => tag_word(alloc, reader, flow),
         Kind::Literal | Kind::Folded => block_word(alloc, reader, level),
-        Kind::SingleQuoted => single_word(alloc, reader),
-        Kind::DoubleQuoted => double_word(alloc, reader),
-        Kind::Plain => plain_word(alloc, reader, flow, level),
+        Kind::SingleQuoted => single_word(spares, reader),
+        Kind::DoubleQuoted => double_word(spares, reader),
+        Kind::Plain => plain_word(spares, reader, flow, level),
         _ => Ok(carrier(reader, yaml_token_body_t::StreamEnd)),
     }
 }
@@ -330,13 +331,13 @@ fn block_word(alloc: Global, reader: &mut Reader, level: u64) -> Result<Word, Sc
 
 // Inlined: in the way of its kind its answer isn't put together.
 #[inline(always)]
-fn single_word(alloc: Global, reader: &mut Reader) -> Result<Word, ScanError>
+fn single_word(spares: &mut Vec<Vec<u8>>, reader: &mut Reader) -> Result<Word, ScanError>
     requires { byte reader.old.text reader.old.at ≡ 39 }
     ensures { ReadsWord reader.old.text reader.old.at reader.new result
         (spec.valued (λ v. tokens.scalar v yaml_scalar_style_t.YAML_SINGLE_QUOTED_SCALAR_STYLE)
         (single_quoted_at reader.old.text reader.old.at)) }
 {
-    let read = single_quoted(alloc, reader)?;
+    let read = single_quoted(spares, reader)?;
     Ok(Word {
         body: yaml_token_body_t::Scalar {
             value: read.value,
@@ -349,13 +350,13 @@ fn single_word(alloc: Global, reader: &mut Reader) -> Result<Word, ScanError>
 
 // Inlined: in the way of its kind its answer isn't put together.
 #[inline(always)]
-fn double_word(alloc: Global, reader: &mut Reader) -> Result<Word, ScanError>
+fn double_word(spares: &mut Vec<Vec<u8>>, reader: &mut Reader) -> Result<Word, ScanError>
     requires { byte reader.old.text reader.old.at ≡ 34 }
     ensures { ReadsWord reader.old.text reader.old.at reader.new result
         (spec.valued (λ v. tokens.scalar v yaml_scalar_style_t.YAML_DOUBLE_QUOTED_SCALAR_STYLE)
         (double_quoted_at reader.old.text reader.old.at)) }
 {
-    let read = double_quoted(alloc, reader)?;
+    let read = double_quoted(spares, reader)?;
     Ok(Word {
         body: yaml_token_body_t::Scalar {
             value: read.value,
@@ -368,12 +369,17 @@ fn double_word(alloc: Global, reader: &mut Reader) -> Result<Word, ScanError>
 
 // Inlined: in the way of its kind its answer isn't put together.
 #[inline(always)]
-fn plain_word(alloc: Global, reader: &mut Reader, flow: bool, level: u64) -> Result<Word, ScanError>
+fn plain_word(
+    spares: &mut Vec<Vec<u8>>,
+    reader: &mut Reader,
+    flow: bool,
+    level: u64,
+) -> Result<Word, ScanError>
     requires { plains.starts_plain flow reader.old.text reader.old.at ≡ true }
     ensures { ReadsWord reader.old.text reader.old.at reader.new result
         (spec.plainly (plains.plain_at flow level reader.old.text reader.old.at)) }
 {
-    let read = plain_scalar(alloc, reader, flow, level)?;
+    let read = plain_scalar(spares, reader, flow, level)?;
     Ok(Word {
         body: yaml_token_body_t::Scalar {
             value: read.value,

@@ -3,10 +3,8 @@
 ghost use Rattle.std.specs.Prelude.{◌≡◌, List, [], ◌∷◌, ◌++◌, ◌<◌, ◌≤◌, ℕ, length, take, OnOk, IfOk};
 ghost use Rattle.yaml_scan_scalars.specs.Pieces.{Piece, Kept, Blank, Break, value};
 
-use std::alloc::{AllocError, Global};
-
-/// The bytes that a plain scalar's value has room for at first: what the smallest block of common allocators holds.
-const FIRST_CAPACITY: usize = 24;
+use crate::run::copied;
+use std::alloc::AllocError;
 
 /// What stands before the next piece.
 #[derive(Clone, Copy)]
@@ -32,25 +30,28 @@ pub(crate) struct Folding {
 impl Folding {
     ghost use Rattle.yaml_scan_scalars.specs.Resume.{resume};
 
-    /// With no pieces.
-    pub(crate) fn new(alloc: Global) -> Folding
+    /// With no pieces, in the room of a text.
+    pub(crate) fn new(text: Vec<u8>) -> Folding
         ensures { (ps : List Piece) → resume result ps ≡ value ps }
     {
+        let alloc = *text.allocator();
+        let mut done = text;
+        done.clear();
         Folding {
-            done: Vec::new(alloc),
+            done,
             blanks: Vec::new(alloc),
             gap: Gap::Line,
         }
     }
 
-    /// With one piece, bytes that stay.
-    pub(crate) fn of_bytes(alloc: Global, bytes: &[u8]) -> Result<Folding, AllocError>
+    /// With one piece, bytes that stay. The value may take the room of a spare text.
+    pub(crate) fn of_bytes(spares: &mut Vec<Vec<u8>>, bytes: &[u8]) -> Result<Folding, AllocError>
         ensures value { IfOk result (λ f. (ps : List Piece)
             → resume f ps ≡ value (Kept bytes.now ∷ ps)) }
         ensures line { IfOk result (λ f. (f.gap ≡ Gap.Line) × (f.blanks.items ≡ [])) }
     {
-        let mut done = Vec::with_capacity(alloc, bytes.len().max(FIRST_CAPACITY))?;
-        done.extend_from_slice(bytes)?;
+        let alloc = *spares.allocator();
+        let done = copied(spares, bytes)?;
         Ok(Folding {
             done,
             blanks: Vec::new(alloc),

@@ -6,7 +6,7 @@ ghost use Rattle.yaml_scan_scalars.specs.Plain.{Words, plain_text, with_piece};
 ghost use Rattle.yaml_scan_scalars.specs.Joined.{joined};
 
 use crate::folding::Folding;
-use std::alloc::{AllocError, Global};
+use std::alloc::AllocError;
 use yaml_scan_model::yaml_mark_t;
 
 /// What is read of a plain scalar so far.
@@ -26,13 +26,17 @@ pub(crate) struct Joining {
 
 impl Joining {
     /// With bytes of characters, and the place after them.
-    pub(crate) fn new(alloc: Global, bytes: &[u8], end: yaml_mark_t) -> Result<Joining, AllocError>
+    pub(crate) fn new(
+        spares: &mut Vec<Vec<u8>>,
+        bytes: &[u8],
+        end: yaml_mark_t,
+    ) -> Result<Joining, AllocError>
         ensures value { IfOk result (λ j. (w : Words)
             → joined j w ≡ plain_text (with_piece (Kept bytes.now) end.index w)) }
         ensures kept { IfOk result (λ j. j.kept ≤ length j.folding.done.items) }
         ensures seat { IfOk result (λ j. (j.end ≡ end) × (j.broke ≡ false) × (j.white ≡ false)) }
     {
-        let folding = Folding::of_bytes(alloc, bytes)?;
+        let folding = Folding::of_bytes(spares, bytes)?;
         let kept = folding.done.len();
         Ok(Joining {
             folding,

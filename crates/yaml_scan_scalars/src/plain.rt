@@ -9,15 +9,16 @@ ghost use Rattle.yaml_scan_scalars.specs.Ordinary.{IsRun, bytes_at};
 use crate::joining::Joining;
 use crate::run::{copied, ordinary_run};
 use crate::scalar::PlainScalar;
-use std::alloc::{AllocError, Global};
+use std::alloc::AllocError;
 use yaml_scan_model::{
     Context, Problem, Reader, ScanError, is_blank_byte, skip_spaces, yaml_mark_t,
 };
 
 /// The plain scalar that starts here, in flow context or not. The level is the column of the innermost open block
-/// level and one, or 0 where none is open. The reader is left behind the blanks and breaks that follow the scalar.
+/// level and one, or 0 where none is open. The reader is left behind the blanks and breaks that follow the scalar. The
+/// value may take the room of a spare text.
 pub fn plain_scalar(
-    alloc: Global,
+    spares: &mut Vec<Vec<u8>>,
     reader: &mut Reader,
     flow: bool,
     level: u64,
@@ -31,15 +32,15 @@ pub fn plain_scalar(
     let _width = reader.break_here();
     let bytes = first_run(reader);
     if is_followed(reader, flow) {
-        return one_run(alloc, reader, bytes, start);
+        return one_run(spares, reader, bytes, start);
     }
     if !flow {
         let mut ahead = reader.ahead();
         if passes_line(&mut ahead, level) {
-            return one_line(alloc, reader, &ahead, bytes, start);
+            return one_line(spares, reader, &ahead, bytes, start);
         }
     }
-    many_runs(alloc, reader, bytes, start, flow, level)
+    many_runs(spares, reader, bytes, start, flow, level)
 }
 
 /// Past the scalar's first character and the ordinary bytes behind it, and those bytes.
@@ -71,7 +72,7 @@ fn is_followed(reader: &Reader, flow: bool) -> bool
 
 /// The scalar that starts at the mark and has those bytes, where the reader stands behind them and no white follows.
 fn one_run(
-    alloc: Global,
+    spares: &mut Vec<Vec<u8>>,
     reader: &Reader,
     bytes: &[u8],
     start: yaml_mark_t,
@@ -85,7 +86,7 @@ fn one_run(
           broke = false;
         })) }
 {
-    let value = copied(alloc, bytes)?;
+    let value = copied(spares, bytes)?;
     Ok(PlainScalar {
         value,
         start_mark: start,
@@ -121,7 +122,7 @@ fn begins_word(byte: u8) -> bool
 /// The scalar that starts at the mark and has those bytes, where the reader stands behind them, and is left at the word behind
 /// the white that follows.
 fn one_line<'a>(
-    alloc: Global,
+    spares: &mut Vec<Vec<u8>>,
     reader: &mut Reader<'a>,
     ahead: &Reader<'a>,
     bytes: &[u8],
@@ -137,7 +138,7 @@ fn one_line<'a>(
           broke = true;
         })) }
 {
-    let value = copied(alloc, bytes)?;
+    let value = copied(spares, bytes)?;
     let end_mark = reader.mark();
     *reader = ahead.ahead();
     Ok(PlainScalar {
@@ -152,7 +153,7 @@ fn one_line<'a>(
 // Out of line: most scalars have one run.
 #[inline(never)]
 fn many_runs(
-    alloc: Global,
+    spares: &mut Vec<Vec<u8>>,
     reader: &mut Reader,
     bytes: &[u8],
     start: yaml_mark_t,
@@ -169,7 +170,7 @@ fn many_runs(
     ensures { ReadsPlain reader.old.text start.index reader.new result
         (spec.plain_at flow level reader.old.text start.index) }
 {
-    let mut joining = Joining::new(alloc, bytes, reader.mark())?;
+    let mut joining = Joining::new(spares, bytes, reader.mark())?;
     'pieces: loop {
         let more = piece(reader, &mut joining, start, flow, level)?;
         if !more {

@@ -11,31 +11,33 @@ ghost use Rattle.yaml_scan_scalars.specs.Resume.{resume};
 
 use crate::escape::escape;
 use crate::folding::Folding;
-use crate::run::{copied, ordinary_run};
+use crate::run::{copied, ordinary_run, room};
 use crate::scalar::Scalar;
-use std::alloc::{AllocError, Global};
+use std::alloc::AllocError;
 use yaml_scan_model::{Context, Problem, Reader, ScanError, is_blank_byte, yaml_mark_t};
 
-/// The double quoted scalar whose opening quote stands here. The reader is left after the closing one.
-pub fn double_quoted(alloc: Global, reader: &mut Reader) -> Result<Scalar, ScanError>
+/// The double quoted scalar whose opening quote stands here. The reader is left after the closing one. The value may take
+/// the room of a spare text.
+pub fn double_quoted(spares: &mut Vec<Vec<u8>>, reader: &mut Reader) -> Result<Scalar, ScanError>
     requires { byte reader.old.text reader.old.at ≡ 34 }
     ensures { Reads reader.old.text reader.old.at reader.new result
         (spec.double_quoted_at reader.old.text reader.old.at) }
 {
-    quoted(alloc, reader, b'"')
+    quoted(spares, reader, b'"')
 }
 
-/// The single quoted scalar whose opening quote stands here. The reader is left after the closing one.
-pub fn single_quoted(alloc: Global, reader: &mut Reader) -> Result<Scalar, ScanError>
+/// The single quoted scalar whose opening quote stands here. The reader is left after the closing one. The value may take
+/// the room of a spare text.
+pub fn single_quoted(spares: &mut Vec<Vec<u8>>, reader: &mut Reader) -> Result<Scalar, ScanError>
     requires { byte reader.old.text reader.old.at ≡ 39 }
     ensures { Reads reader.old.text reader.old.at reader.new result
         (spec.single_quoted_at reader.old.text reader.old.at) }
 {
-    quoted(alloc, reader, b'\'')
+    quoted(spares, reader, b'\'')
 }
 
 /// The scalar whose opening quote stands here, of that byte.
-fn quoted(alloc: Global, reader: &mut Reader, quote: u8) -> Result<Scalar, ScanError>
+fn quoted(spares: &mut Vec<Vec<u8>>, reader: &mut Reader, quote: u8) -> Result<Scalar, ScanError>
     requires opened { byte reader.old.text reader.old.at ≡ quote }
     requires quote { (quote ≡ 34) ⊎ (quote ≡ 39) }
     ensures { Reads reader.old.text reader.old.at reader.new result
@@ -45,9 +47,9 @@ fn quoted(alloc: Global, reader: &mut Reader, quote: u8) -> Result<Scalar, ScanE
     reader.skip();
     let bytes = ordinary_run(reader);
     if closes(reader, quote) {
-        return one_run(alloc, reader, bytes, start);
+        return one_run(spares, reader, bytes, start);
     }
-    many_runs(alloc, reader, bytes, start, quote)
+    many_runs(spares, reader, bytes, start, quote)
 }
 
 /// Whether the quote stands here and closes its scalar.
@@ -60,7 +62,7 @@ fn closes(reader: &Reader, quote: u8) -> bool
 
 /// The scalar that starts at the mark and has those bytes, where the reader stands before its closing quote.
 fn one_run(
-    alloc: Global,
+    spares: &mut Vec<Vec<u8>>,
     reader: &mut Reader,
     bytes: &[u8],
     start: yaml_mark_t,
@@ -71,7 +73,7 @@ fn one_run(
     ensures { Reads reader.old.text start.index reader.new result
         (Ok (bytes.now, reader.old.at + 1)) }
 {
-    let value = copied(alloc, bytes)?;
+    let value = copied(spares, bytes)?;
     reader.skip();
     Ok(Scalar {
         value,
@@ -84,7 +86,7 @@ fn one_run(
 // Out of line: most scalars have one run.
 #[inline(never)]
 fn many_runs(
-    alloc: Global,
+    spares: &mut Vec<Vec<u8>>,
     reader: &mut Reader,
     bytes: &[u8],
     start: yaml_mark_t,
@@ -99,7 +101,8 @@ fn many_runs(
     ensures { Reads reader.old.text start.index reader.new result
         (spec.quoted_at quote reader.old.text start.index) }
 {
-    let mut folding = Folding::new(alloc);
+    let done = room(spares, bytes.len())?;
+    let mut folding = Folding::new(done);
     keep_some(&mut folding, bytes)?;
     'pieces: loop {
         let more = piece(reader, &mut folding, quote, start)?;

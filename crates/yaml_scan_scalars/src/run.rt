@@ -1,6 +1,6 @@
 //! Runs of bytes that stand for themselves, which are taken at once.
 
-ghost use Rattle.std.specs.Prelude.{◌≡◌, ◌-◌, if◌then◌else◌, IfOk};
+ghost use Rattle.std.specs.Prelude.{◌≡◌, ◌-◌, [], if◌then◌else◌, IfOk};
 ghost use Rattle.yaml_scan_model.specs.Marks.{byte, starts};
 ghost use Rattle.yaml_scan_scalars.specs.Ordinary as spec;
 
@@ -69,13 +69,43 @@ pub(crate) fn ordinary_run<'a>(reader: &mut Reader<'a>) -> &'a [u8]
     reader.since(from)
 }
 
-/// A copy of a run's bytes.
-// Inlined: one allocation and one copy.
+/// The least room that is made: what the smallest block of common allocators holds.
+const LEAST_ROOM: usize = 24;
+
+/// A copy of a run's bytes, in the room of a spare text where they fit.
+// Inlined: mostly one copy.
 #[inline(always)]
-pub(crate) fn copied(alloc: Global, bytes: &[u8]) -> Result<Vec<u8>, AllocError>
+pub(crate) fn copied(spares: &mut Vec<Vec<u8>>, bytes: &[u8]) -> Result<Vec<u8>, AllocError>
     ensures { IfOk result (λ v. v.items ≡ bytes.now) }
 {
-    let mut copy = Vec::with_capacity(alloc, bytes.len())?;
+    let mut copy = room(spares, bytes.len())?;
     copy.extend_from_slice(bytes)?;
     Ok(copy)
+}
+
+/// An empty text with room for so many bytes: a spare one, where it has that.
+// Inlined: mostly it has it.
+#[inline(always)]
+pub(crate) fn room(spares: &mut Vec<Vec<u8>>, count: usize) -> Result<Vec<u8>, AllocError>
+    ensures { IfOk result (λ v. v.items ≡ []) }
+{
+    let alloc = *spares.allocator();
+    match spares.pop() {
+        Some(text) => cleared(alloc, text, count),
+        None => Vec::with_capacity(alloc, count.max(LEAST_ROOM)),
+    }
+}
+
+/// A text without its bytes, where it has room for so many, or else another one.
+// Inlined into its one caller.
+#[inline(always)]
+fn cleared(alloc: Global, text: Vec<u8>, count: usize) -> Result<Vec<u8>, AllocError>
+    ensures { IfOk result (λ v. v.items ≡ []) }
+{
+    if text.capacity() < count {
+        return Vec::with_capacity(alloc, count.max(LEAST_ROOM));
+    }
+    let mut text = text;
+    text.clear();
+    Ok(text)
 }

@@ -2,4 +2,4 @@ use Rattle.yaml_scan_scalars.proofs.FoldingLemmas.{resume_start}
 use Rattle.yaml_scan_scalars.proofs.folding.Folding.new.Goals as goal
 
 pub returns : goal.returns
-returns c = λ ps. rw (c.new.ensures.items, c.new-2.ensures.items) (resume_start ps)
+returns c = λ ps. rw (c.clear.ensures.items, c.new.ensures.items) (resume_start ps)

@@ -5,4 +5,4 @@ use Rattle.yaml_scan_scalars.proofs.folding.Folding.of_bytes.Goals as goal
 
 pub returns-clause-value : goal.returns-clause-value
 returns-clause-value c = λ ps.
-    rw (c.in_ok-extend_from_slice.ensures.items, c.in_ok-done.ensures.items, c.new.ensures.items) (keep_line [] [] c.args.bytes.now ps ∙ resume_start (Kept c.args.bytes.now ∷ ps))
+    rw (c.in_ok-done.ensures, c.new.ensures.items) (keep_line [] [] c.args.bytes.now ps ∙ resume_start (Kept c.args.bytes.now ∷ ps))

@@ -1,21 +1,25 @@
 //! What a line wants beside what its call answered.
 
-use crate::vector::VectorError;
-use serde_json::{Map, Value, put};
-use std::alloc::{AllocError, Global};
+use crate::vector::{VectorError, json_error};
+use serde_json::Value;
+use std::alloc::Global;
 
-// The fields that calls answer. A line that has one wants it.
-const ANSWERS: [&str; 11] = [
+// The fields that calls answer. A line that has one wants it. No line wants `kept`.
+const ANSWERS: [&str; 15] = [
     "answer",
     "call_number",
+    "errors",
     "fault",
     "fault_line",
     "flushed",
     "form",
+    "kept",
     "length",
     "output",
     "refused",
     "side",
+    "sizes",
+    "status",
     "whole",
 ];
 
@@ -28,59 +32,43 @@ pub enum Outcome {
     Failed(String),
 }
 
-fn put_copy(
-    alloc: Global,
-    fields: &mut Map<String, Value>,
-    name: &str,
-    value: &Value,
-) -> Result<(), AllocError> {
-    let copy = value.clone()?;
-    put(fields, alloc, name, copy)
+fn is(want: &Value, got: Option<&Value>) -> bool {
+    match got {
+        Some(got) => *want == *got,
+        None => false,
+    }
 }
 
-// Puts the fields that the line wants. False where there was no room.
-fn put_wanted(alloc: Global, fields: &mut Map<String, Value>, line: &Value) -> bool {
-    let mut is_whole = true;
+// Whether both have the same there, or neither has anything.
+fn has(line: &Value, got: &Value, name: &'static str) -> bool {
+    match line.get(name) {
+        Some(want) => is(want, got.get(name)),
+        None => got.get(name).is_none(),
+    }
+}
+
+// The first field that one of them lacks, or of which they have different values.
+fn first_wrong(line: &Value, got: &Value) -> Option<&'static str> {
     for name in ANSWERS {
-        if let Some(value) = line.get(name) {
-            is_whole = put_copy(alloc, fields, name, value).is_ok() && is_whole;
+        if !has(line, got, name) {
+            return Some(name);
         }
     }
-    is_whole
+    None
 }
 
-// The fields that the line wants.
-fn wanted(alloc: Global, line: &Value) -> Result<Value, VectorError> {
-    let mut fields = Map::new(alloc);
-    if put_wanted(alloc, &mut fields, line) {
-        Ok(Value::Object(fields))
-    } else {
-        Err(VectorError::Memory)
+// Tells the field, and all that was answered; what the line wants stands in the line.
+fn failed(alloc: Global, call: &str, name: &str, got: &Value) -> Result<Outcome, VectorError> {
+    match format!(in alloc; "{call}: `{name}` is another in {got}") {
+        Ok(told) => Ok(Outcome::Failed(told)),
+        Err(_) => Err(VectorError::Memory),
     }
 }
 
-fn failed(alloc: Global, call: &str, want: &Value, got: &Value) -> Result<Outcome, VectorError> {
-    let told = format!(in alloc; "{call}: want {want} got {got}")?;
-    Ok(Outcome::Failed(told))
-}
-
-fn judged(alloc: Global, call: &str, want: &Value, got: &Value) -> Result<Outcome, VectorError> {
-    if *want == *got {
-        Ok(Outcome::Passed)
-    } else {
-        failed(alloc, call, want, got)
-    }
-}
-
-fn compare_with(
-    alloc: Global,
-    call: &str,
-    line: &Value,
-    got: &Value,
-) -> Result<Outcome, VectorError> {
-    match wanted(alloc, line) {
-        Ok(want) => judged(alloc, call, &want, got),
-        Err(error) => Err(error),
+fn judged(alloc: Global, call: &str, line: &Value, got: &Value) -> Result<Outcome, VectorError> {
+    match first_wrong(line, got) {
+        None => Ok(Outcome::Passed),
+        Some(name) => failed(alloc, call, name, got),
     }
 }
 
@@ -92,7 +80,7 @@ pub fn compare(
     text: &[u8],
 ) -> Result<Outcome, VectorError> {
     match Value::from_slice(alloc, text) {
-        Ok(got) => compare_with(alloc, call, line, &got),
-        Err(error) => Err(VectorError::from(error)),
+        Ok(got) => judged(alloc, call, line, &got),
+        Err(error) => Err(json_error(&error)),
     }
 }

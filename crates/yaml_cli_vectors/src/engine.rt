@@ -1,6 +1,7 @@
 //! The calls of the engine: events, reformat, reload, same, and the line that tells a fault.
 
 use crate::given::{Given, given_of, input_of};
+use crate::reading::own_fault;
 use crate::text::put_answer;
 use crate::vector::Reply;
 use serde_json::Value;
@@ -132,5 +133,34 @@ pub fn fault_line(reply: &mut Reply, line: &Value) {
     reply.begin();
     reply.name("answer");
     put_line_of(reply, input.as_slice(), from);
+    reply.end();
+}
+
+// What was being read, where the line says that something was.
+fn context_of(reply: &mut Reply, fields: &Value) -> Option<&'static str> {
+    if reply.flag(fields, "context") {
+        Some("y")
+    } else {
+        None
+    }
+}
+
+// The line of the fault that has those fields. Its texts are the program's own.
+fn put_told(reply: &mut Reply, fields: &Value) {
+    let context = context_of(reply, fields);
+    let fault = yaml_fault_t {
+        problem: "x",
+        context,
+        ..own_fault(reply, fields)
+    };
+    put_line(reply, &fault);
+}
+
+/// The line that tells a fault with the line's fields, whose problem is `x`, met while `y` was being read, or nothing.
+pub fn told(reply: &mut Reply, line: &Value) {
+    let fields = reply.value(line, "own");
+    reply.begin();
+    reply.name("answer");
+    put_told(reply, fields);
     reply.end();
 }

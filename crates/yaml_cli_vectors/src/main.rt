@@ -2,13 +2,18 @@
 //! what it is a row of, and isn't looked at.
 #![tactic(auto)]
 
+mod checks;
 mod compare;
 mod engine;
 mod given;
 mod limits;
+mod lookup;
+mod program;
+mod read_all;
 mod reading;
 mod replay;
 mod run;
+mod scripted;
 mod tally;
 mod text;
 mod tokens;
@@ -23,7 +28,7 @@ fn main(rt: HostRuntime) -> io::Result<()> {
     let mut number = 0u64;
     for line in BufReader::new(rt.alloc(), rt.reader())?.lines(rt.alloc()) {
         number = number.wrapping_add(1);
-        let outcome = replay::replay(rt.alloc(), line?.as_str());
+        let outcome = replay::replay(&rt, line?.as_str());
         tally.take(&rt, number, &outcome)?;
     }
     tally.finish(&rt)

@@ -9,4 +9,4 @@ mod parser;
 pub mod scan;
 
 pub use asked::{Asked, parse_line};
-pub use parser::{Reading, Source, reading_of};
+pub use parser::{Reading, Source, own_fault, reading_of};

@@ -3,9 +3,9 @@
 use crate::compare::{Outcome, compare};
 use crate::engine::put_line;
 use crate::reading::{Asked, Source, decode, next_tokens, parse_line, scan};
-use crate::vector::{Reply, VectorError};
+use crate::vector::{Reply, VectorError, json_error};
 use crate::writing::{Given, emit_limits, emit_line};
-use crate::{engine, limits, run, tokens};
+use crate::{checks, engine, limits, lookup, program, read_all, run, tokens};
 use serde_json::Value;
 use std::alloc::Global;
 use yaml_scan::yaml_fault_t;
@@ -30,7 +30,7 @@ fn answer_member(reply: &mut Reply, call: &str, line: &Value) {
 }
 
 // What the call answers on the line; the reply keeps the fault where it only refuses.
-fn answer(reply: &mut Reply, call: &str, line: &Value) {
+fn answer(rt: &HostRuntime, reply: &mut Reply, call: &str, line: &Value) {
     match call {
         "events" => engine::events(reply, line),
         "reformat" => engine::reformat(reply, line),
@@ -39,6 +39,11 @@ fn answer(reply: &mut Reply, call: &str, line: &Value) {
         "line" => engine::fault_line(reply, line),
         "least_limit" => limits::least_limit(reply, line),
         "run" => run::run(reply, line),
+        "main" => program::run(rt, reply, line),
+        "read_all" => read_all::answer(reply, line),
+        "check" => checks::answer(reply, line),
+        "told" => engine::told(reply, line),
+        "lookup" => lookup::answer(reply, line),
         _ => answer_member(reply, call, line),
     }
 }
@@ -64,38 +69,38 @@ fn refusal(alloc: Global, line: &Value, fault: &yaml_fault_t) -> Result<Vec<u8>,
     reply.finish()
 }
 
-fn answered(alloc: Global, call: &str, line: &Value) -> Result<Vec<u8>, VectorError> {
-    let mut reply = Reply::new(alloc);
-    answer(&mut reply, call, line);
+fn answered(rt: &HostRuntime, call: &str, line: &Value) -> Result<Vec<u8>, VectorError> {
+    let mut reply = Reply::new(rt.alloc());
+    answer(rt, &mut reply, call, line);
     reply.finish()
 }
 
 // What the call answers on the line, its refusal too.
-fn whole_answer(alloc: Global, call: &str, line: &Value) -> Result<Vec<u8>, VectorError> {
-    match answered(alloc, call, line) {
-        Err(VectorError::Fault(fault)) => refusal(alloc, line, &fault),
+fn whole_answer(rt: &HostRuntime, call: &str, line: &Value) -> Result<Vec<u8>, VectorError> {
+    match answered(rt, call, line) {
+        Err(VectorError::Fault(fault)) => refusal(rt.alloc(), line, &fault),
         answer => answer,
     }
 }
 
-fn compared(alloc: Global, call: &str, line: &Value) -> Result<Outcome, VectorError> {
-    match whole_answer(alloc, call, line) {
-        Ok(text) => compare(alloc, call, line, text.as_slice()),
+fn compared(rt: &HostRuntime, call: &str, line: &Value) -> Result<Outcome, VectorError> {
+    match whole_answer(rt, call, line) {
+        Ok(text) => compare(rt.alloc(), call, line, text.as_slice()),
         Err(error) => Err(error),
     }
 }
 
-fn replay_line(alloc: Global, line: &Value) -> Result<Outcome, VectorError> {
+fn replay_line(rt: &HostRuntime, line: &Value) -> Result<Outcome, VectorError> {
     match line.get("call").and_then(Value::as_str) {
-        Some(call) => compared(alloc, call, line),
+        Some(call) => compared(rt, call, line),
         None => Err(VectorError::Field("call")),
     }
 }
 
 /// Makes the call that the line names, and compares.
-pub fn replay(alloc: Global, line: &str) -> Result<Outcome, VectorError> {
-    match Value::from_str(alloc, line) {
-        Ok(line) => replay_line(alloc, &line),
-        Err(error) => Err(VectorError::from(error)),
+pub fn replay(rt: &HostRuntime, line: &str) -> Result<Outcome, VectorError> {
+    match Value::from_str(rt.alloc(), line) {
+        Ok(line) => replay_line(rt, &line),
+        Err(error) => Err(json_error(&error)),
     }
 }

@@ -17,8 +17,8 @@ fn command(word: &str) -> Option<yaml_command_t> {
     }
 }
 
-// Why a run was refused, where it wasn't by a fault of the input.
-fn refusal_word(fault: &yaml_run_fault_t) -> &'static str {
+/// Why a run was refused, where it wasn't by a fault of the input.
+pub fn refusal_word(fault: &yaml_run_fault_t) -> &'static str {
     match fault {
         yaml_run_fault_t::Read => "Read",
         yaml_run_fault_t::TooLong => "TooLong",
@@ -27,18 +27,11 @@ fn refusal_word(fault: &yaml_run_fault_t) -> &'static str {
     }
 }
 
-fn put_refusal(reply: &mut Reply, fault: &yaml_run_fault_t) {
-    reply.begin();
-    reply.name("refused");
-    reply.put_word(refusal_word(fault));
-    reply.end();
-}
-
 // A fault of the input, or another refusal.
 fn put_fault(reply: &mut Reply, fault: &yaml_run_fault_t) {
     match fault {
         yaml_run_fault_t::Yaml(fault) => reply.fault(*fault),
-        fault => put_refusal(reply, fault),
+        fault => reply.refusal(refusal_word(fault)),
     }
 }
 

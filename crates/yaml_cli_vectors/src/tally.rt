@@ -2,8 +2,7 @@
 
 use crate::compare::Outcome;
 use crate::vector::VectorError;
-use std::fmt::Display;
-use std::io::{self, Print};
+use std::io;
 
 // How many lines that fail are shown.
 const SHOWN: u64 = 20;
@@ -15,8 +14,8 @@ pub struct Tally {
     failed: u64,
 }
 
-fn show<D: Display>(rt: &impl Print, number: u64, told: &D) -> io::Result<()> {
-    println!(rt; "line {number}: {told}")
+fn show(rt: &HostRuntime, number: u64, what: &str, of: &str) -> io::Result<()> {
+    println!(rt; "line {number}: {what}{of}")
 }
 
 impl Tally {
@@ -39,39 +38,45 @@ impl Tally {
     }
 
     // Counts a line that failed, and shows it where it is one of the first.
-    fn tell<D: Display>(&mut self, rt: &impl Print, number: u64, told: &D) -> io::Result<()> {
+    fn tell(&mut self, rt: &HostRuntime, number: u64, what: &str, of: &str) -> io::Result<()> {
         if self.fail() {
-            show(rt, number, told)
+            show(rt, number, what, of)
         } else {
             Ok(())
         }
     }
 
-    fn take_outcome(&mut self, rt: &impl Print, number: u64, outcome: &Outcome) -> io::Result<()> {
+    fn take_outcome(&mut self, rt: &HostRuntime, number: u64, outcome: &Outcome) -> io::Result<()> {
         match outcome {
             Outcome::Passed => {
                 self.pass();
                 Ok(())
             }
-            Outcome::Failed(told) => self.tell(rt, number, told),
+            Outcome::Failed(told) => self.tell(rt, number, told.as_str(), ""),
         }
+    }
+
+    // Counts a line that can't be replayed.
+    fn take_error(&mut self, rt: &HostRuntime, number: u64, error: &VectorError) -> io::Result<()> {
+        let (what, of) = error.told();
+        self.tell(rt, number, what, of)
     }
 
     /// Counts a line, and shows it where it is one of the first that fail.
     pub fn take(
         &mut self,
-        rt: &impl Print,
+        rt: &HostRuntime,
         number: u64,
         outcome: &Result<Outcome, VectorError>,
     ) -> io::Result<()> {
         match outcome {
             Ok(outcome) => self.take_outcome(rt, number, outcome),
-            Err(error) => self.tell(rt, number, error),
+            Err(error) => self.take_error(rt, number, error),
         }
     }
 
     /// The last line.
-    pub fn finish(self, rt: &impl Print) -> io::Result<()> {
+    pub fn finish(self, rt: &HostRuntime) -> io::Result<()> {
         println!(rt; "{} passed, {} failed", self.passed, self.failed)
     }
 }

@@ -4,8 +4,8 @@ use crate::vector::Reply;
 use serde_json::Value;
 use yaml_round::yaml_form_t;
 
-// The text, or how many bytes it has where the line wants that.
-fn put_text(reply: &mut Reply, line: &Value, text: &[u8]) {
+/// The text, or how many bytes it has where the line wants that.
+pub fn put_text(reply: &mut Reply, line: &Value, text: &[u8]) {
     if line.get("length").is_some() {
         reply.name("length");
         reply.put_count(text.len() as u64);

@@ -10,3 +10,4 @@ mod emitter;
 mod flushed;
 
 pub use asked::{Given, emit_line};
+pub use emitter::flush;

@@ -114,8 +114,8 @@ fn origin(word: &str) -> Option<yaml_origin_t> {
     }
 }
 
-// The fault with those fields; `OWN` stands for its texts.
-fn own_fault(reply: &mut Reply, fields: &Value) -> yaml_fault_t {
+/// The fault with those fields; `OWN` stands for its texts.
+pub fn own_fault(reply: &mut Reply, fields: &Value) -> yaml_fault_t {
     let number = reply.count(fields, "kind");
     let kind = reply.take(kind(number), "kind", yaml_error_type_t::YAML_NO_ERROR);
     let offset = reply.count(fields, "offset");

@@ -1,7 +1,5 @@
 //! Why a line has no answer.
 
-use std::alloc::{AllocError, AllocFailed};
-use std::fmt;
 use yaml_parse::yaml_text_fault_t;
 use yaml_scan::yaml_fault_t;
 
@@ -17,50 +15,31 @@ pub enum VectorError {
     Fault(yaml_fault_t),
 }
 
-impl fmt::Display for VectorError {
-    fn fmt<W: fmt::Write>(&self, f: &mut fmt::Formatter<W>) -> fmt::Result {
+impl VectorError {
+    /// What is wrong, and of what.
+    pub fn told(&self) -> (&'static str, &'static str) {
         match self {
-            VectorError::Memory => write!(f, "out of memory"),
-            VectorError::NotJson => write!(f, "not a line of JSON"),
-            VectorError::Field(name) => write!(f, "no field `{name}` of its form"),
-            VectorError::Fault(fault) => write!(f, "refused: {}", fault.problem),
+            VectorError::Memory => ("out of memory", ""),
+            VectorError::NotJson => ("not a line of JSON", ""),
+            VectorError::Field(name) => ("no such field, or not of its form: ", *name),
+            VectorError::Fault(fault) => ("refused: ", fault.problem),
         }
     }
 }
 
-impl From<AllocError> for VectorError {
-    fn from(_e: AllocError) -> VectorError {
+/// Why a text isn't JSON.
+pub fn json_error(error: &serde_json::Error) -> VectorError {
+    if error.is_memory() {
         VectorError::Memory
+    } else {
+        VectorError::NotJson
     }
 }
 
-impl<T: Drop> From<AllocFailed<T>> for VectorError {
-    fn from(_e: AllocFailed<T>) -> VectorError {
-        VectorError::Memory
-    }
-}
-
-impl From<serde_json::Error> for VectorError {
-    fn from(e: serde_json::Error) -> VectorError {
-        if e.is_memory() {
-            VectorError::Memory
-        } else {
-            VectorError::NotJson
-        }
-    }
-}
-
-impl From<yaml_text_fault_t> for VectorError {
-    fn from(fault: yaml_text_fault_t) -> VectorError {
-        match fault {
-            yaml_text_fault_t::Memory => VectorError::Memory,
-            yaml_text_fault_t::NotUtf8 => VectorError::Field("text"),
-        }
-    }
-}
-
-impl From<yaml_fault_t> for VectorError {
-    fn from(fault: yaml_fault_t) -> VectorError {
-        VectorError::Fault(fault)
+/// Why an event or a document isn't made.
+pub fn text_error(fault: yaml_text_fault_t) -> VectorError {
+    match fault {
+        yaml_text_fault_t::Memory => VectorError::Memory,
+        yaml_text_fault_t::NotUtf8 => VectorError::Field("text"),
     }
 }

@@ -33,7 +33,10 @@ fn decoded(alloc: Global, text: &str, name: &'static str) -> Result<Vec<u8>, Vec
 }
 
 fn copy_of(alloc: Global, text: &str) -> Result<Vec<u8>, VectorError> {
-    Ok(Vec::from_slice(alloc, text.as_bytes())?)
+    match Vec::from_slice(alloc, text.as_bytes()) {
+        Ok(copy) => Ok(copy),
+        Err(_) => Err(VectorError::Memory),
+    }
 }
 
 fn encoding_of(word: &str) -> Option<yaml_encoding_t> {

@@ -3,7 +3,7 @@
 ghost use Rattle.std.specs.Prelude.{IsTrue, IsSome};
 ghost use Rattle.yaml_parse.specs.Documents.{node_at, IsSequenceAt, IsMappingAt};
 
-use super::{Reply, VectorError, given, style};
+use super::{Reply, VectorError, given, style, text_error};
 use serde_json::Value;
 use std::alloc::Global;
 use yaml_parse::{
@@ -55,7 +55,7 @@ fn add_scalar(document: &mut yaml_document_t, reply: &mut Reply, tag: Option<&[u
     let value = reply.bytes(node, 2);
     match yaml_document_add_scalar(document, tag, value.as_slice(), style) {
         Ok(_) => {}
-        Err(fault) => reply.refuse(VectorError::from(fault)),
+        Err(fault) => reply.refuse(text_error(fault)),
     }
 }
 
@@ -68,7 +68,7 @@ fn add_sequence(
     let style = style::sequence(reply, node, 3);
     match yaml_document_add_sequence(document, tag, style) {
         Ok(_) => {}
-        Err(fault) => reply.refuse(VectorError::from(fault)),
+        Err(fault) => reply.refuse(text_error(fault)),
     }
 }
 
@@ -81,7 +81,7 @@ fn add_mapping(
     let style = style::mapping(reply, node, 3);
     match yaml_document_add_mapping(document, tag, style) {
         Ok(_) => {}
-        Err(fault) => reply.refuse(VectorError::from(fault)),
+        Err(fault) => reply.refuse(text_error(fault)),
     }
 }
 
@@ -101,7 +101,8 @@ fn add_node(document: &mut yaml_document_t, reply: &mut Reply, node: &Value) {
     add(document, reply, tag.as_deref(), node);
 }
 
-fn is_sequence(document: &yaml_document_t, id: i32) -> bool
+/// Whether that node is a sequence.
+pub fn is_sequence(document: &yaml_document_t, id: i32) -> bool
     ensures { IsTrue result → IsSequenceAt document.now id }
 {
     match yaml_document_get_node(document, id) {
@@ -119,7 +120,8 @@ fn is_mapping(document: &yaml_document_t, id: i32) -> bool
     }
 }
 
-fn is_node(document: &yaml_document_t, id: i32) -> bool
+/// Whether there is that node.
+pub fn is_node(document: &yaml_document_t, id: i32) -> bool
     ensures { IsTrue result → IsSome (node_at document.now.nodes id) }
 {
     yaml_document_get_node(document, id).is_some()

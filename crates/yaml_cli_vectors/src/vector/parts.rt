@@ -59,6 +59,12 @@ impl Reply {
         self.room(done);
     }
 
+    /// The field of that name, which tells whether something is right.
+    pub fn check(&mut self, name: &str, right: bool) {
+        self.name(name);
+        self.put_flag(right);
+    }
+
     /// Null.
     pub fn put_null(&mut self) {
         let done = self.writer().null();

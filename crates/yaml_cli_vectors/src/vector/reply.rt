@@ -35,11 +35,6 @@ impl Reply {
         &mut self.writer
     }
 
-    /// Whether there is no error so far.
-    pub fn is_right(&self) -> bool {
-        self.wrong.is_none()
-    }
-
     /// Keeps the error, unless there is one.
     pub fn refuse(&mut self, error: VectorError) {
         if self.wrong.is_none() {

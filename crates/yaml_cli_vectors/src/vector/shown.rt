@@ -120,6 +120,22 @@ impl Reply {
         self.end();
     }
 
+    /// An answer that is null.
+    pub fn answer_nothing(&mut self) {
+        self.begin();
+        self.name("answer");
+        self.put_null();
+        self.end();
+    }
+
+    /// An answer that is a refusal, by that word.
+    pub fn refusal(&mut self, word: &str) {
+        self.begin();
+        self.name("refused");
+        self.put_word(word);
+        self.end();
+    }
+
     /// An answer that is a number.
     pub fn answer_count(&mut self, number: u64) {
         self.begin();

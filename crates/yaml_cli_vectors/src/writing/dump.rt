@@ -1,6 +1,6 @@
 //! The call `dump`.
 
-use crate::vector::{Reply, VectorError, document_of};
+use crate::vector::{Reply, document_of, text_error};
 use serde_json::Value;
 use yaml_emit::{
     yaml_emitter_close, yaml_emitter_dump, yaml_emitter_open, yaml_emitter_opened,
@@ -29,7 +29,7 @@ fn dump(reply: &mut Reply, line: &Value, emitter: &mut yaml_emitter_t) {
             let done = yaml_emitter_dump(emitter, document);
             reply.done(done);
         }
-        Err(fault) => reply.refuse(VectorError::from(fault)),
+        Err(fault) => reply.refuse(text_error(fault)),
     }
 }
 

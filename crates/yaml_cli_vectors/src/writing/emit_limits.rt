@@ -39,14 +39,27 @@ fn write(
     }
 }
 
+// Whether that is the fault of a full output.
+fn is_full(fault: Option<yaml_fault_t>) -> bool {
+    match fault {
+        Some(fault) => fault.kind == yaml_error_type_t::YAML_WRITER_ERROR,
+        None => false,
+    }
+}
+
+fn is_cut(whole: &[u8], limit: usize, text: &[u8]) -> bool {
+    match whole.get(..limit) {
+        Some(front) => text == front,
+        None => false,
+    }
+}
+
 // Whether that is the front of the text that fits the limit, with the fault of a full output where that isn't all.
 fn is_front(whole: &[u8], limit: usize, text: &[u8], fault: Option<yaml_fault_t>) -> bool {
-    let kind = fault.map(|fault| fault.kind);
-    match whole.get(..limit) {
-        Some(front) if limit < whole.len() => {
-            kind == Some(yaml_error_type_t::YAML_WRITER_ERROR) && text == front
-        }
-        _ => kind.is_none() && text == whole,
+    if limit < whole.len() {
+        is_full(fault) && is_cut(whole, limit, text)
+    } else {
+        fault.is_none() && text == whole
     }
 }
 

@@ -3,7 +3,7 @@
 ghost use Rattle.std.specs.Prelude.{◌≡◌, true};
 
 use super::course::Course;
-use crate::vector::{Reply, Settings, VectorError, event_of};
+use crate::vector::{Reply, Settings, event_of, text_error};
 use serde_json::Value;
 use std::alloc::Global;
 use yaml_emit::{
@@ -57,7 +57,7 @@ pub fn give_listed(
 ) {
     match event_of(reply.alloc(), reply, listed) {
         Ok(event) => give(reply, event, emitter, course),
-        Err(fault) => reply.refuse(VectorError::from(fault)),
+        Err(fault) => reply.refuse(text_error(fault)),
     }
 }
 

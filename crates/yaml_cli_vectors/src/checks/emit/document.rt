@@ -1,18 +1,14 @@
 //! Documents that are made by hand, and what a document refuses. One function owns them: it lends each to be filled, and
 //! gives it away.
 
-ghost use Rattle.std.specs.Prelude.{IsTrue, IsSome};
-ghost use Rattle.yaml_parse.specs.Documents.{node_at, IsSequenceAt};
-
 use super::calls::unmade;
 use super::owner::{Asked, is_right};
+use crate::vector::{Reply, is_node, is_sequence};
 use std::alloc::Global;
-use std::test::Fail;
 use yaml_emit::{yaml_emitter_dump, yaml_emitter_output, yaml_emitter_t};
 use yaml_parse::{
     yaml_document_add_scalar, yaml_document_add_sequence, yaml_document_append_sequence_item,
-    yaml_document_get_node, yaml_document_initialize, yaml_document_t, yaml_node_body_t,
-    yaml_text_fault_t,
+    yaml_document_get_node, yaml_document_initialize, yaml_document_t, yaml_text_fault_t,
 };
 use yaml_scan::{yaml_fault_t, yaml_scalar_style_t, yaml_sequence_style_t};
 
@@ -34,21 +30,6 @@ pub(crate) enum Holds {
 
 /// The text of `foo` in canonical form: 16 bytes.
 pub(crate) const TEXT: &[u8] = b"---\n!!str \"foo\"\n";
-
-fn is_sequence(document: &yaml_document_t, id: i32) -> bool
-    ensures { IsTrue result → IsSequenceAt document.now id }
-{
-    match yaml_document_get_node(document, id) {
-        Some(node) => matches!(&node.body, yaml_node_body_t::Sequence { .. }),
-        None => false,
-    }
-}
-
-fn is_node(document: &yaml_document_t, id: i32) -> bool
-    ensures { IsTrue result → IsSome (node_at document.now.nodes id) }
-{
-    yaml_document_get_node(document, id).is_some()
-}
 
 // Puts a node behind what a sequence holds. False where one of them isn't there, or no memory is.
 fn hold(document: &mut yaml_document_t, sequence: i32, item: i32) -> bool {
@@ -141,8 +122,10 @@ pub(crate) fn is_dumped(alloc: Global, emitter: &mut yaml_emitter_t) -> bool {
     fault.is_none() && yaml_emitter_output(emitter) == TEXT
 }
 
-#[test]
-fn a_refused_scalar(rt: HostRuntime) -> Result<(), Fail> {
-    assert!(rt; is_right(rt.alloc(), 1000, true, Asked::RefusedScalar));
-    Ok(())
+/// A document of a scalar, which refused another.
+pub(crate) fn a_refused_scalar(reply: &mut Reply) {
+    reply.check(
+        "dumped as it was",
+        is_right(reply.alloc(), 1000, true, Asked::RefusedScalar),
+    );
 }

@@ -2,8 +2,8 @@
 
 use super::loads::{Wanted, loads_next};
 use super::owner::{Asked, is_right};
+use crate::vector::Reply;
 use std::alloc::{AllocError, Global};
-use std::test::Fail;
 use yaml_parse::{
     yaml_encoding_t, yaml_error_type_t, yaml_event_t, yaml_event_type_t, yaml_fault_t, yaml_mark_t,
     yaml_origin_t, yaml_parser_between, yaml_parser_delete, yaml_parser_initialize,
@@ -179,17 +179,16 @@ fn ends_before_fault(alloc: Global) -> bool {
     pushed.is_ok() && ends
 }
 
-// Behind the end of the stream no token is asked for.
-#[test]
-fn endings(rt: HostRuntime) -> Result<(), Fail> {
-    assert!(rt; is_right(rt.alloc(), b"a: 1", Asked::Events(&MAPPING)));
-    assert!(rt; ends_before_fault(rt.alloc()));
-    assert!(rt;
-        is_right(
-            rt.alloc(),
-            b"--- [&a x, *a]\n--- [*a]\n",
-            Asked::Refused(1, UNDEFINED)
-        )
+/// Behind the end of the stream no token is asked for; behind a refused document there is nothing.
+pub(crate) fn endings(reply: &mut Reply) {
+    let refused = b"--- [&a x, *a]\n--- [*a]\n";
+    reply.check(
+        "events",
+        is_right(reply.alloc(), b"a: 1", Asked::Events(&MAPPING)),
     );
-    Ok(())
+    reply.check("a fault behind the end", ends_before_fault(reply.alloc()));
+    reply.check(
+        "a refused document",
+        is_right(reply.alloc(), refused, Asked::Refused(1, UNDEFINED)),
+    );
 }

@@ -1,11 +1,12 @@
 //! Behind a fault each call answers it again, and writes nothing more.
 
-use super::calls::{flush, give_all, give_sign, turn};
+use super::calls::{give_all, give_sign, turn};
 use super::document::{Holds, TEXT, dump};
 use super::event::Sign;
 use super::owner::{Asked, is_right};
+use crate::vector::Reply;
+use crate::writing::flush;
 use std::alloc::Global;
-use std::test::Fail;
 use yaml_emit::{yaml_emitter_opened, yaml_emitter_output, yaml_emitter_t};
 use yaml_scan::{yaml_error_type_t, yaml_fault_t, yaml_mark_t, yaml_origin_t};
 
@@ -159,14 +160,12 @@ fn are_refused(alloc: Global) -> bool {
     true
 }
 
-// A dump past the limit; a second one; one in a stream that was opened by hand; one behind the end; and calls behind a refused
-// event.
-#[test]
-fn behind_a_fault(rt: HostRuntime) -> Result<(), Fail> {
-    assert!(rt; are_fronts(rt.alloc()));
-    assert!(rt; is_right(rt.alloc(), 16, true, Asked::Whole));
-    assert!(rt; is_right(rt.alloc(), 3, true, Asked::Full));
-    assert!(rt; is_right(rt.alloc(), 1000, true, Asked::Closed));
-    assert!(rt; are_refused(rt.alloc()));
-    Ok(())
+/// A dump past the limit; a second one; one in a stream that was opened by hand; one behind the end; and calls behind a refused
+/// event.
+pub(crate) fn behind_a_fault(reply: &mut Reply) {
+    reply.check("fronts", are_fronts(reply.alloc()));
+    reply.check("whole", is_right(reply.alloc(), 16, true, Asked::Whole));
+    reply.check("full", is_right(reply.alloc(), 3, true, Asked::Full));
+    reply.check("closed", is_right(reply.alloc(), 1000, true, Asked::Closed));
+    reply.check("refused", are_refused(reply.alloc()));
 }

@@ -2,8 +2,8 @@
 //! an emitter. Each event is given at once to a function that asks it, since an owner that may still end in several ways is dear
 //! to prove.
 
+use crate::vector::Reply;
 use std::alloc::{AllocError, Global};
-use std::test::Fail;
 use yaml_parse::{
     yaml_alias_event_initialize, yaml_document_start_event_initialize, yaml_event_t,
     yaml_mapping_start_event_initialize, yaml_mapping_style_t, yaml_scalar_event_initialize,
@@ -71,11 +71,10 @@ fn refuses_directives(alloc: Global) -> bool {
     pushed.is_ok() && refuses_start(alloc, directives.as_slice())
 }
 
-#[test]
-fn refuses_texts(rt: HostRuntime) -> Result<(), Fail> {
-    assert!(rt; refuses_directives(rt.alloc()));
-    assert!(rt; refuses_alias(rt.alloc()));
-    assert!(rt; refuses_scalars(rt.alloc()));
-    assert!(rt; refuses_collections(rt.alloc()));
-    Ok(())
+/// Texts that aren't UTF-8, in events of each kind.
+pub(crate) fn refuses_texts(reply: &mut Reply) {
+    reply.check("directives", refuses_directives(reply.alloc()));
+    reply.check("alias", refuses_alias(reply.alloc()));
+    reply.check("scalars", refuses_scalars(reply.alloc()));
+    reply.check("collections", refuses_collections(reply.alloc()));
 }

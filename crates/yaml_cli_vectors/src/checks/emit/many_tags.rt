@@ -3,8 +3,8 @@
 use super::calls::{give, give_sign};
 use super::event::Sign;
 use super::owner::{Asked, is_right};
+use crate::vector::Reply;
 use std::alloc::{AllocError, Global};
-use std::test::Fail;
 use yaml_emit::{yaml_emitter_output, yaml_emitter_t};
 use yaml_parse::{
     yaml_document_end_event_initialize, yaml_document_start_event_initialize, yaml_event_t,
@@ -121,8 +121,10 @@ pub(crate) fn are_written(alloc: Global, emitter: &mut yaml_emitter_t) -> bool {
     give_many(alloc, emitter) && has_lines(alloc, yaml_emitter_output(emitter))
 }
 
-#[test]
-fn many_tags_under_many_directives(rt: HostRuntime) -> Result<(), Fail> {
-    assert!(rt; is_right(rt.alloc(), 10_000_000, false, Asked::ManyTags));
-    Ok(())
+/// As many tags as directives.
+pub(crate) fn many_tags_under_many_directives(reply: &mut Reply) {
+    reply.check(
+        "written",
+        is_right(reply.alloc(), 10_000_000, false, Asked::ManyTags),
+    );
 }

@@ -1,7 +1,7 @@
 //! That an output stops for its own reason: a stopped one meets every clause.
 
+use crate::vector::Reply;
 use std::alloc::Global;
-use std::test::Fail;
 use yaml_emit_text::{Sink, Status};
 
 // Puts one byte past the limit of three.
@@ -31,9 +31,8 @@ fn is_deep(alloc: Global) -> bool {
     stops_deep(&mut sink)
 }
 
-#[test]
-fn an_output_stops(rt: HostRuntime) -> Result<(), Fail> {
-    assert!(rt; is_full(rt.alloc()));
-    assert!(rt; is_deep(rt.alloc()));
-    Ok(())
+/// An output that is full, and one that is too deep.
+pub(crate) fn an_output_stops(reply: &mut Reply) {
+    reply.check("full", is_full(reply.alloc()));
+    reply.check("deep", is_deep(reply.alloc()));
 }

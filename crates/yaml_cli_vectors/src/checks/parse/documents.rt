@@ -1,8 +1,8 @@
 //! Documents by their calls. What their nodes are is in the lines of `yaml_cli_vectors`, which dump such documents.
 
 use super::constructors::push;
+use crate::vector::Reply;
 use std::alloc::Global;
-use std::test::Fail;
 use yaml_parse::{
     yaml_document_delete, yaml_document_get_node, yaml_document_get_root_node,
     yaml_document_initialize, yaml_document_set_end_implicit, yaml_document_t, yaml_mark_t,
@@ -82,9 +82,8 @@ fn is_right(alloc: Global, prefix: &[u8], is_good: bool) -> bool {
     pushed.is_ok() && right
 }
 
-#[test]
-fn documents(rt: HostRuntime) -> Result<(), Fail> {
-    assert!(rt; is_right(rt.alloc(), b"tag:x,2000:", true));
-    assert!(rt; is_right(rt.alloc(), b"\xFF", false));
-    Ok(())
+/// A document that is made, and one that is refused.
+pub(crate) fn documents(reply: &mut Reply) {
+    reply.check("made", is_right(reply.alloc(), b"tag:x,2000:", true));
+    reply.check("refused", is_right(reply.alloc(), b"\xFF", false));
 }

@@ -2,8 +2,8 @@
 
 use super::document::{Holds, dump};
 use super::owner::{Asked, is_right};
+use crate::vector::Reply;
 use std::alloc::Global;
-use std::test::Fail;
 use yaml_emit::{yaml_emitter_fault, yaml_emitter_output, yaml_emitter_t};
 use yaml_scan::yaml_error_type_t;
 
@@ -38,9 +38,8 @@ pub(crate) fn has_front(alloc: Global, emitter: &mut yaml_emitter_t) -> bool {
         && yaml_emitter_output(emitter) == FRONT
 }
 
-#[test]
-fn deep_documents(rt: HostRuntime) -> Result<(), Fail> {
-    assert!(rt; is_right(rt.alloc(), 20_000, false, Asked::Deep));
-    assert!(rt; is_right(rt.alloc(), 42, true, Asked::DeepFront));
-    Ok(())
+/// A deep document, whole and cut.
+pub(crate) fn deep_documents(reply: &mut Reply) {
+    reply.check("whole", is_right(reply.alloc(), 20_000, false, Asked::Deep));
+    reply.check("front", is_right(reply.alloc(), 42, true, Asked::DeepFront));
 }

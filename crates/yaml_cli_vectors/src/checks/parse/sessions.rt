@@ -1,8 +1,8 @@
 //! The scanner's sessions: what is lent and dropped, and what is answered behind the end and behind a fault. Each session is lent as soon as
 //! it is made, and what it answers is kept as plain values: an owner that may still end in several ways is dear to prove.
 
+use crate::vector::Reply;
 use std::alloc::Global;
-use std::test::Fail;
 use yaml_scan::{
     yaml_encoding_t, yaml_fault_t, yaml_mark_t, yaml_parser_fault, yaml_parser_has_token,
     yaml_parser_peek, yaml_parser_scan, yaml_parser_skip, yaml_parser_t, yaml_token_t,
@@ -123,9 +123,6 @@ fn has_tokens(alloc: Global, text: &[u8], count: u64, way: Way) -> bool {
     has_given(alloc, text, count, way, &mut giving)
 }
 
-// Texts, and how many tokens they have.
-const TEXTS: [(&[u8], u64); 2] = [(b"a: 1", 8), (b"- a\n- b\n", 8)];
-
 fn gives(session: &mut yaml_parser_t, count: u64) -> bool {
     for _ in 0..count {
         if given(session).is_none() {
@@ -161,13 +158,23 @@ fn is_refused(alloc: Global, text: &[u8], count: u64, problem: &str) -> bool {
 
 const PROBLEM: &str = "mapping values are not allowed in this context";
 
-// Tokens are lent and dropped as they are given; behind a fault nothing comes.
-#[test]
-fn sessions(rt: HostRuntime) -> Result<(), Fail> {
-    for (text, count) in &TEXTS {
-        assert!(rt; has_tokens(rt.alloc(), *text, *count, Way::Lent));
-        assert!(rt; has_tokens(rt.alloc(), *text, *count, Way::Skipped));
-    }
-    assert!(rt; is_refused(rt.alloc(), b"a: b: c", 6, PROBLEM));
-    Ok(())
+/// Tokens are lent and dropped as they are given; behind a fault nothing comes.
+pub(crate) fn sessions(reply: &mut Reply) {
+    reply.check(
+        "lent, of a mapping",
+        has_tokens(reply.alloc(), b"a: 1", 8, Way::Lent),
+    );
+    reply.check(
+        "skipped, of a mapping",
+        has_tokens(reply.alloc(), b"a: 1", 8, Way::Skipped),
+    );
+    reply.check(
+        "lent, of a sequence",
+        has_tokens(reply.alloc(), b"- a\n- b\n", 8, Way::Lent),
+    );
+    reply.check(
+        "skipped, of a sequence",
+        has_tokens(reply.alloc(), b"- a\n- b\n", 8, Way::Skipped),
+    );
+    reply.check("refused", is_refused(reply.alloc(), b"a: b: c", 6, PROBLEM));
 }

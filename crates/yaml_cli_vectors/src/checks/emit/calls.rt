@@ -1,12 +1,9 @@
 //! Calls of an emitter, and the faults that they answer.
 
-ghost use Rattle.std.specs.Prelude.{◌≡◌, true};
-
 use super::event::{Sign, event_of};
 use std::alloc::Global;
 use yaml_emit::{
-    yaml_emitter_close, yaml_emitter_emit, yaml_emitter_flush, yaml_emitter_fresh,
-    yaml_emitter_open, yaml_emitter_opened, yaml_emitter_t,
+    yaml_emitter_close, yaml_emitter_emit, yaml_emitter_open, yaml_emitter_opened, yaml_emitter_t,
 };
 use yaml_parse::{yaml_event_t, yaml_event_utf8, yaml_text_fault_t};
 use yaml_scan::{yaml_fault_t, yaml_memory_fault, yaml_origin_t};
@@ -50,15 +47,6 @@ pub(crate) fn give_sign(
 pub(crate) fn give_all(alloc: Global, emitter: &mut yaml_emitter_t, signs: &[Sign]) {
     for sign in signs {
         let _ = give_sign(alloc, emitter, *sign);
-    }
-}
-
-/// The fault that a flush answers, where an event was given.
-pub(crate) fn flush(emitter: &mut yaml_emitter_t) -> Option<yaml_fault_t> {
-    if yaml_emitter_fresh(emitter) {
-        None
-    } else {
-        yaml_emitter_flush(emitter).err()
     }
 }
 

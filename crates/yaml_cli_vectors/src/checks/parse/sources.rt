@@ -1,7 +1,7 @@
 //! Sources of a caller's own.
 
+use crate::vector::Reply;
 use std::alloc::Global;
-use std::test::Fail;
 use yaml_parse::{
     yaml_error_type_t, yaml_event_body_t, yaml_event_t, yaml_event_type_t, yaml_fault_t,
     yaml_found_t, yaml_memory_fault, yaml_origin_t, yaml_parser_between, yaml_parser_delete,
@@ -107,10 +107,8 @@ fn is_right(alloc: Global, in_slots: bool) -> bool {
     }
 }
 
-// A stream has a start; a fault stands in its slot.
-#[test]
-fn sources(rt: HostRuntime) -> Result<(), Fail> {
-    assert!(rt; is_right(rt.alloc(), false));
-    assert!(rt; is_right(rt.alloc(), true));
-    Ok(())
+/// A stream has a start; a fault stands in its slot.
+pub(crate) fn sources(reply: &mut Reply) {
+    reply.check("by values", is_right(reply.alloc(), false));
+    reply.check("in slots", is_right(reply.alloc(), true));
 }

@@ -2,8 +2,8 @@
 
 use super::endings::ZERO;
 use super::owner::{Asked, is_right};
+use crate::vector::Reply;
 use std::alloc::{AllocError, Global};
-use std::test::Fail;
 use yaml_parse::{
     yaml_document_delete, yaml_document_get_node, yaml_document_get_root_node, yaml_document_t,
     yaml_node_body_t, yaml_parser_between, yaml_parser_load, yaml_parser_t,
@@ -136,11 +136,13 @@ fn loads_anchors(alloc: Global) -> bool {
     added.is_ok() && loads_sequence(alloc, text.as_slice())
 }
 
-#[test]
-fn loads(rt: HostRuntime) -> Result<(), Fail> {
+/// One document, and what is behind it; and a sequence of many aliases.
+pub(crate) fn loads(reply: &mut Reply) {
     let directives = b"%YAML 1.1\n%TAG !e! tag:x,2000:\n--- !e!y a\n...\n";
-    assert!(rt; is_right(rt.alloc(), b"&a [*a]", Asked::One));
-    assert!(rt; is_right(rt.alloc(), directives, Asked::One));
-    assert!(rt; loads_anchors(rt.alloc()));
-    Ok(())
+    reply.check("an alias", is_right(reply.alloc(), b"&a [*a]", Asked::One));
+    reply.check(
+        "directives",
+        is_right(reply.alloc(), directives, Asked::One),
+    );
+    reply.check("many anchors", loads_anchors(reply.alloc()));
 }

@@ -1,0 +1,86 @@
+//! The call `main`: a run of the whole program, over streams that do what the line says.
+
+use crate::given::input_of;
+use crate::scripted::{ScriptedReader, ScriptedWriter, Step, steps_of};
+use crate::vector::Reply;
+use serde_json::Value;
+use yaml_cli_main::yaml_main;
+
+// The input, and what the streams do.
+#[derive(Drop)]
+struct Streams {
+    input: Vec<u8>,
+    reads: Vec<Step>,
+    writes: Vec<Step>,
+    // Whether the output's writer fails to pass on what it took.
+    unflushed: bool,
+    tells: Vec<Step>,
+}
+
+fn streams_of(reply: &mut Reply, line: &Value) -> Streams {
+    let unflushed = reply.flag(line, "unflushed");
+    let input = input_of(reply, line, "input");
+    let reads = steps_of(reply, line, "reads");
+    let writes = steps_of(reply, line, "writes");
+    let tells = steps_of(reply, line, "tells");
+    Streams {
+        input,
+        reads,
+        writes,
+        unflushed,
+        tells,
+    }
+}
+
+fn words_of<'a>(reply: &mut Reply, line: &'a Value) -> Vec<&'a str> {
+    let mut words = Vec::new(reply.alloc());
+    for listed in reply.list(line, "words") {
+        let word = reply.take(listed.as_str(), "words", "");
+        reply.push(&mut words, word);
+    }
+    words
+}
+
+// What was written, or whether something was where the line wants that.
+fn put_output(reply: &mut Reply, line: &Value, output: &[u8]) {
+    reply.name("output");
+    match line.get("output") {
+        Some(Value::Bool(_)) => reply.put_flag(!output.is_empty()),
+        _ => reply.put_bytes(output),
+    }
+}
+
+// What was told, or whether something was where the line wants that.
+fn put_errors(reply: &mut Reply, line: &Value, errors: &[u8]) {
+    reply.name("errors");
+    match line.get("errors") {
+        Some(Value::Bool(_)) => reply.put_flag(!errors.is_empty()),
+        _ => reply.put_utf8(errors),
+    }
+}
+
+fn put_answer(reply: &mut Reply, line: &Value, status: u8, output: &[u8], errors: &[u8]) {
+    reply.begin();
+    reply.name("status");
+    reply.put_count(u64::from(status));
+    put_output(reply, line, output);
+    put_errors(reply, line, errors);
+    reply.end();
+}
+
+// One function owns the streams, and asks all there is to ask behind the run.
+fn put_run(rt: &HostRuntime, reply: &mut Reply, line: &Value, words: &[&str], streams: &Streams) {
+    let reads = streams.reads.as_slice();
+    let mut input = ScriptedReader::new(rt.alloc(), streams.input.as_slice(), reads);
+    let mut output = ScriptedWriter::new(rt.alloc(), streams.writes.as_slice(), streams.unflushed);
+    let mut errors = ScriptedWriter::new(rt.alloc(), streams.tells.as_slice(), false);
+    let status = yaml_main(rt, words, &mut input, &mut output, &mut errors);
+    put_answer(reply, line, status, output.received(), errors.received());
+}
+
+/// The status that the program ends with on the line's words, what it writes, and what it tells.
+pub fn run(rt: &HostRuntime, reply: &mut Reply, line: &Value) {
+    let words = words_of(reply, line);
+    let streams = streams_of(reply, line);
+    put_run(rt, reply, line, words.as_slice(), &streams);
+}

@@ -1,7 +1,7 @@
 //! The names of a parser's states.
 
 /// What a parser expects next, in libyaml's names and, by `as i32`, its numbers.
-#[derive(Clone, Copy, PartialEq, Eq)]
+#[derive(Clone, Copy, PartialEq, Eq, PartialOrd, Ord, Hash, Debug)]
 pub enum yaml_parser_state_t {
     YAML_PARSE_STREAM_START_STATE,
     YAML_PARSE_IMPLICIT_DOCUMENT_START_STATE,

@@ -9,7 +9,7 @@ use std::alloc::AllocError;
 use yaml_parse_model::{yaml_event_body_t, yaml_event_t};
 use yaml_scan_model::yaml_scalar_style_t;
 
-// So many bytes are looked at together; a shorter text is added byte by byte.
+// So many bytes are looked at together; the kept bytes of a shorter text are added byte by byte.
 const CHUNK: usize = 16;
 
 // Adds a backslash and a letter.
@@ -98,16 +98,6 @@ fn kept_length(text: &[u8]) -> usize
     count
 }
 
-// Adds the text of a tag or a value, byte by byte.
-fn push_bytes(line: &mut Vec<u8>, text: &[u8]) -> Result<(), AllocError>
-    ensures { OnOk result (line.new.items ≡ line.old.items ++ escaped text.now) }
-{
-    for byte in text {
-        push_byte(line, *byte)?;
-    }
-    Ok(())
-}
-
 // Adds the kept bytes in front, and the byte behind them; the answer is the rest.
 fn push_run<'a>(line: &mut Vec<u8>, left: &'a [u8]) -> Result<&'a [u8], AllocError>
     requires { 0 < length left.now }
@@ -125,7 +115,7 @@ fn push_run<'a>(line: &mut Vec<u8>, left: &'a [u8]) -> Result<&'a [u8], AllocErr
 }
 
 // Adds the text of a tag or a value, by runs of kept bytes.
-// Out of line: for texts of 16 bytes and more.
+// Out of line: for texts of 16 bytes and more, and where a byte is escaped.
 #[inline(never)]
 fn push_runs(line: &mut Vec<u8>, text: &[u8]) -> Result<(), AllocError>
     ensures { OnOk result (line.new.items ≡ line.old.items ++ escaped text.now) }
@@ -204,13 +194,13 @@ fn push_front<'a>(line: &mut Vec<u8>, text: &'a [u8]) -> &'a [u8]
     &text[count..]
 }
 
-// Adds the text of a tag or a value from a byte on that is escaped, and the byte that ends it.
-// Out of line: most texts have no such byte.
+// Adds a text of 16 bytes and more, or one from a byte on that is escaped, and the byte that ends it.
+// Out of line: most texts are short, and have no such byte.
 #[inline(never)]
-fn push_escaped_end(line: &mut Vec<u8>, text: &[u8], end: u8) -> Result<(), AllocError>
+fn push_long(line: &mut Vec<u8>, text: &[u8], end: u8) -> Result<(), AllocError>
     ensures { OnOk result (line.new.items ≡ line.old.items ++ (escaped text.now ++ end ∷ [])) }
 {
-    push_bytes(line, text)?;
+    push_runs(line, text)?;
     line.push(end)?;
     Ok(())
 }
@@ -227,18 +217,7 @@ fn push_short(line: &mut Vec<u8>, text: &[u8], end: u8) -> Result<(), AllocError
         line.push_reserved(end);
         return Ok(());
     }
-    push_escaped_end(line, rest, end)
-}
-
-// Adds a text of 16 bytes and more, and the byte that ends it.
-// Out of line: most texts are short.
-#[inline(never)]
-fn push_long(line: &mut Vec<u8>, text: &[u8], end: u8) -> Result<(), AllocError>
-    ensures { OnOk result (line.new.items ≡ line.old.items ++ (escaped text.now ++ end ∷ [])) }
-{
-    push_runs(line, text)?;
-    line.push(end)?;
-    Ok(())
+    push_long(line, rest, end)
 }
 
 // Adds a space, an indicator, a text and the byte that ends it: room for a short text is made at once.

@@ -1,12 +1,15 @@
 -- A text that was put stays where it is, whatever follows.
-use Rattle.std.proofs.Common.{◌≡◌, ◌∙◌, ◌+◌, pos, None, ap, sym, subst, refl, ℕ, ℤ, List, [], ◌++◌, length, true, Option, Some, append_assoc, arith}
+use mir.Syntax.{w32}
+use mir.Val.{to_z, of_z}
+use Rattle.std.proofs.Common.{◌≡◌, ◌∙◌, ◌+◌, pos, None, ap, sym, subst, refl, ℕ, ℤ, List, [], ◌++◌, length, Bool, true, false, Option, Some, append_assoc, arith}
 use Rattle.std.specs.Prelude.{slice_range, nat_le}
 use Rattle.std.proofs.lemmas.Grind.{common_steps}
 use Rattle.std.proofs.lemmas.List.{append-nil}
 use Rattle.yaml_round_records.specs.declared.record.yaml_c_span.{yaml_c_span}
 use Rattle.yaml_round_records.specs.Records.{part_at, optional_at}
-use Rattle.yaml_round_records.specs.Numbers.{is_set}
-use Rattle.yaml_round_records.specs.Listing.{Grows, PutsText, PutsOptional, HoldsText, HoldsOptional}
+use Rattle.yaml_round_records.specs.declared.record.yaml_c_event.{yaml_c_event}
+use Rattle.yaml_round_records.specs.Numbers.{is_set, flag_told}
+use Rattle.yaml_round_records.specs.Listing.{Grows, PutsText, PutsOptional, PutsProperties, HoldsText, HoldsOptional}
 
 -- a text behind another
 pub put_on : (old mid new a b : List ℕ) → mid ≡ old ++ a → new ≡ mid ++ b → new ≡ old ++ (a ++ b)
@@ -64,3 +67,22 @@ put_some old text new s p = record { grows = puts_grows old text new s p; put = 
 
 pub put_none : (old : List ℕ) (s : yaml_c_span) → PutsOptional old None old (pos 0) s
 put_none old s = record { grows = grows_itself old; put = sym (append-nil old); flag = refl; holds = absent old s }
+
+-- a flag as the machine keeps it
+pub told_back : (b : Bool) (z : ℤ) → z ≡ flag_told b → to_z w32 (of_z w32 z) ≡ z
+told_back true z e = rw e refl
+told_back false z e = rw e refl
+
+-- an anchor and a tag behind it
+pub put_properties : (old mid new : List ℕ) (base : yaml_c_event) (a t : Option (List ℕ)) (m n x y : ℤ) (s u : yaml_c_span) → x ≡ m → y ≡ n
+    → PutsOptional old a mid m s → PutsOptional mid t new n u
+    → PutsProperties old base a t new (record base { has_anchor = x; anchor = s; has_tag = y; tag = u })
+put_properties old mid new base a t m n x y s u e f p q = record {
+  grows = grows_on old mid new p.grows q.grows;
+  put = put_on old mid new _ _ p.put q.put;
+  anchor = subst (λ z. HoldsOptional new z s a) (sym e) (holds_optional_on mid new m s a q.grows p.holds);
+  tag = subst (λ z. HoldsOptional new z u t) (sym f) q.holds;
+  has_anchor = e ∙ p.flag;
+  has_tag = f ∙ q.flag;
+  same = refl;
+}

@@ -92,13 +92,13 @@ fn with_properties(
     ensures { IfOk result (PutsProperties bytes.old.items base (text_of anchor.now)
         (text_of tag.now) bytes.new.items) }
 {
-    let (has_anchor, anchor) = put_optional(bytes, anchor)?;
-    let (has_tag, tag) = put_optional(bytes, tag)?;
+    let first = put_optional(bytes, anchor)?;
+    let second = put_optional(bytes, tag)?;
     let mut record = base;
-    record.has_anchor = has_anchor;
-    record.anchor = anchor;
-    record.has_tag = has_tag;
-    record.tag = tag;
+    record.has_anchor = first.0;
+    record.anchor = first.1;
+    record.has_tag = second.0;
+    record.tag = second.1;
     Ok(record)
 }
 

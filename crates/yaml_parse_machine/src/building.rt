@@ -10,15 +10,6 @@ use crate::item::{Properties, RawEvent, RawEventBody, Resolved, Shape};
 use std::alloc::AllocError;
 use yaml_parse_model::{yaml_mark_t, yaml_token_t};
 
-// Another body of an item in the slot.
-// Inlined: the new one's kind is known, so that it is built in the slot.
-#[inline(always)]
-fn put_body(slot: &mut RawEventBody, body: RawEventBody)
-    ensures { slot.new ≡ body }
-{
-    *slot = body;
-}
-
 // An item in the slot.
 pub(crate) fn give(
     slot: &mut RawEvent,
@@ -29,7 +20,7 @@ pub(crate) fn give(
     ensures { IsOkAnd result (λ b. given_of b slot.new
         ≡ Some (item_at (item_body_of body) from to)) }
 {
-    put_body(&mut slot.body, body);
+    slot.body = body;
     slot.from = from;
     slot.to = to;
     Ok(true)
@@ -46,7 +37,7 @@ pub(crate) fn tell(
     ensures { IsOkAnd result (λ b. given_of b slot.new
         ≡ Some (event_at (plain_of event) token.now.start_mark token.now.end_mark)) }
 {
-    put_body(&mut slot.body, RawEventBody::Event(event));
+    slot.body = RawEventBody::Event(event);
     slot.from = token.start_mark;
     slot.to = token.end_mark;
     Ok(true)
@@ -77,6 +68,6 @@ pub(crate) fn node(
 {
     slot.from = beginning(&properties, token.start_mark);
     slot.to = token.end_mark;
-    put_body(&mut slot.body, RawEventBody::Node { properties, shape });
+    slot.body = RawEventBody::Node { properties, shape };
     Ok(true)
 }

@@ -21,13 +21,12 @@ pub(crate) fn put(slot: &mut yaml_event_body_t, event: yaml_event_body_t)
 pub(crate) fn start_sequence(slot: &mut yaml_event_body_t, style: yaml_sequence_style_t)
     ensures { body_of slot.new ≡ told.sequence_start None None true style }
 {
-    let start = yaml_event_body_t::SequenceStart {
+    *slot = yaml_event_body_t::SequenceStart {
         anchor: None,
         tag: None,
         implicit: true,
         style,
     };
-    put(slot, start);
 }
 
 // A mapping without properties begins.
@@ -36,11 +35,10 @@ pub(crate) fn start_sequence(slot: &mut yaml_event_body_t, style: yaml_sequence_
 pub(crate) fn start_mapping(slot: &mut yaml_event_body_t, style: yaml_mapping_style_t)
     ensures { body_of slot.new ≡ told.mapping_start None None true style }
 {
-    let start = yaml_event_body_t::MappingStart {
+    *slot = yaml_event_body_t::MappingStart {
         anchor: None,
         tag: None,
         implicit: true,
         style,
     };
-    put(slot, start);
 }

@@ -9,7 +9,7 @@ ghost use Rattle.yaml_parse_grammar.specs.Trees.{flow_shape, end_event, event_at
 ghost use Rattle.yaml_parse_machine.specs.Swiftly.{IsReady};
 
 use crate::resolving::bare_scalar;
-use crate::slots::{put, start_mapping, start_sequence};
+use crate::slots::{start_mapping, start_sequence};
 use crate::taking::moved;
 use yaml_parse_grammar::Brackets;
 use yaml_parse_model::{
@@ -71,8 +71,12 @@ pub(crate) fn tell_end(brackets: Brackets, token: &yaml_token_t, event: &mut yam
     event.start_mark = token.start_mark;
     event.end_mark = token.end_mark;
     match brackets {
-        Brackets::Sequence => put(&mut event.body, yaml_event_body_t::SequenceEnd),
-        Brackets::Mapping => put(&mut event.body, yaml_event_body_t::MappingEnd),
+        Brackets::Sequence => {
+            event.body = yaml_event_body_t::SequenceEnd;
+        }
+        Brackets::Mapping => {
+            event.body = yaml_event_body_t::MappingEnd;
+        }
     }
 }
 
@@ -87,8 +91,7 @@ pub(crate) fn tell_alias(
 {
     event.start_mark = from;
     event.end_mark = to;
-    let alias = yaml_event_body_t::Alias {
+    event.body = yaml_event_body_t::Alias {
         anchor: moved(name),
     };
-    put(&mut event.body, alias);
 }

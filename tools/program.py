@@ -30,19 +30,15 @@ FROM_NOTHING = "some 25 minutes from nothing on 4 processors, less where the gat
 class Goal:
     """What is to be built."""
 
-    def __init__(self, crate, made, rt_words):
-        self.crate, self.made, self.rt_words = crate, made, rt_words
+    def __init__(self, what, crate, made, rt_words):
+        self.what, self.crate, self.made, self.rt_words = what, crate, made, rt_words
         self.folder = f"{TOP}/crates/{crate}"
         self.file = f"{self.folder}/out/{made}"
         self.logs = f"{self.folder}/out/program"
 
 
-PROGRAM = Goal("yaml_cli", "yaml_cli", ["rt", "run", "--", "fmt"])
-ARCHIVE = Goal("yaml_round_c", "libyaml_round_c.a", ["rt", "lib"])
-
-
-def say(text):
-    lanes.say("make program", text)
+PROGRAM = Goal("make program", "yaml_cli", "yaml_cli", ["rt", "run", "--", "fmt"])
+ARCHIVE = Goal("make library", "yaml_round_c", "libyaml_round_c.a", ["rt", "lib"])
 
 
 def compiled(rt, crate, jobs):
@@ -91,10 +87,10 @@ def prove(rt, goal):
         os.mkdir(f"{copy}/.git")
         top = next(it for it in rt.crates_of(copy) if it.name == goal.crate)
         crates = [*sorted(top.below(), key=lambda it: len(it.below())), top]
-        say(f"proving {len(crates)} crates, jobs {lanes.processors()}: {FROM_NOTHING}")
+        lanes.say(goal.what, f"proving {len(crates)} crates, jobs {lanes.processors()}: {FROM_NOTHING}")
         kept = rt.Kept(crates)
         build = lambda it, jobs: built(rt, kept, goal.logs, it, jobs)
-        if not lanes.Lanes("make program", crates, build).run():
+        if not lanes.Lanes(goal.what, crates, build).run():
             return False
         kept.shrink()
         shutil.copy2(f"{top.folder}/out/{goal.made}", f"{goal.file}.new")
@@ -111,6 +107,7 @@ def one_after_another(goal):
 
 def main(words):
     goal = ARCHIVE if words == [ARCHIVE.crate] else PROGRAM
+    say = lambda text: lanes.say(goal.what, text)
     if subprocess.run([f"{TOP}/tools/is_built.sh", goal.file]).returncode == 0:
         say(f"{os.path.relpath(goal.file)} is newer than all sources")
         return 0

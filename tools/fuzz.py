@@ -179,6 +179,9 @@ def wrong_unless(is_right, text):
 EMPTY_KEY = re.compile(r"\?(?:[ \t\r\n\x85\u2028\u2029]|#[^\r\n\x85\u2028\u2029]*)*[:,\]]")
 
 
+BREAKS = re.compile("[\r\n\x85\u2028\u2029]")
+
+
 ESCAPES = re.compile(r"(?:%[0-9A-Fa-f]{2})+")
 
 
@@ -201,10 +204,12 @@ def decoded(text):
 def not_compared(text):
     """Why libyaml's answer for the text isn't compared, or an empty text."""
     characters = decoded(text)
-    if re.search("[\r\n\x85\u2028\u2029]\ufeff", characters):
+    if re.search(f"{BREAKS.pattern}\ufeff", characters):
         return "U+FEFF at the front of a line"
     if "[" in characters and EMPTY_KEY.search(characters):
         return "the token behind an empty key of a flow pair"
+    if any(1024 < len(line.encode()) and not line.isascii() for line in BREAKS.split(characters)):
+        return "a simple key has 1,024 bytes at most, and for libyaml 1,024 characters"
     if "!" in characters and any(map(spells_none, ESCAPES.findall(characters))):
         return "escapes in a tag that spell no character, or a byte 0"
     return ""

@@ -9,6 +9,7 @@ mod keeping;
 mod leaving;
 mod pushing;
 mod resolving;
+mod room;
 mod slots;
 mod swift_ways;
 mod taking;

@@ -19,6 +19,7 @@ use crate::choosing::wants;
 use crate::item::{Properties, State, Tag};
 use crate::keeping::room;
 use crate::pushing::{drop_top, push, push_key, swap_top, topmost};
+use crate::room::hand_back;
 use crate::slots::{start_mapping, start_sequence};
 use crate::taking::moved;
 use crate::telling::{tell_alias, tell_end, tell_scalar, tell_start};
@@ -71,12 +72,12 @@ fn push_or(stack: &mut Vec<State>, state: State) -> Swift
 fn open_brackets(
     stack: &mut Vec<State>,
     brackets: Brackets,
-    token: &yaml_token_t,
+    token: &mut yaml_token_t,
     event: &mut yaml_event_t,
 ) -> Swift
     requires { 0 < vec_len stack.old }
-    ensures { Opens (flow_shape brackets) (state.items brackets token.now.start_mark)
-        (token_of token.now) (stack_of stack.old.items) result (event_of event.new)
+    ensures { Opens (flow_shape brackets) (state.items brackets token.old.start_mark)
+        (token_of token.old) (stack_of stack.old.items) result (event_of event.new)
         (stack_of stack.new.items) }
 {
     swap_top(stack, State::Items(brackets, token.start_mark));
@@ -85,15 +86,20 @@ fn open_brackets(
 }
 
 // A block sequence begins.
-fn open_entries(stack: &mut Vec<State>, token: &yaml_token_t, event: &mut yaml_event_t) -> Swift
+fn open_entries(
+    stack: &mut Vec<State>,
+    token: &mut yaml_token_t,
+    event: &mut yaml_event_t,
+) -> Swift
     requires { 0 < vec_len stack.old }
-    ensures { Opens (item.sequence YAML_BLOCK_SEQUENCE_STYLE) (state.entries token.now.start_mark)
-        (token_of token.now) (stack_of stack.old.items) result (event_of event.new)
+    ensures { Opens (item.sequence YAML_BLOCK_SEQUENCE_STYLE) (state.entries token.old.start_mark)
+        (token_of token.old) (stack_of stack.old.items) result (event_of event.new)
         (stack_of stack.new.items) }
 {
     swap_top(stack, State::Entries(token.start_mark));
     event.start_mark = token.start_mark;
     event.end_mark = token.end_mark;
+    hand_back(&mut event.body, &mut token.body);
     start_sequence(
         &mut event.body,
         yaml_sequence_style_t::YAML_BLOCK_SEQUENCE_STYLE,
@@ -102,15 +108,20 @@ fn open_entries(stack: &mut Vec<State>, token: &yaml_token_t, event: &mut yaml_e
 }
 
 // A block mapping begins.
-fn open_pairs(stack: &mut Vec<State>, token: &yaml_token_t, event: &mut yaml_event_t) -> Swift
+fn open_pairs(
+    stack: &mut Vec<State>,
+    token: &mut yaml_token_t,
+    event: &mut yaml_event_t,
+) -> Swift
     requires { 0 < vec_len stack.old }
-    ensures { Opens (item.mapping YAML_BLOCK_MAPPING_STYLE) (state.pairs token.now.start_mark)
-        (token_of token.now) (stack_of stack.old.items) result (event_of event.new)
+    ensures { Opens (item.mapping YAML_BLOCK_MAPPING_STYLE) (state.pairs token.old.start_mark)
+        (token_of token.old) (stack_of stack.old.items) result (event_of event.new)
         (stack_of stack.new.items) }
 {
     swap_top(stack, State::Pairs(token.start_mark));
     event.start_mark = token.start_mark;
     event.end_mark = token.end_mark;
+    hand_back(&mut event.body, &mut token.body);
     start_mapping(
         &mut event.body,
         yaml_mapping_style_t::YAML_BLOCK_MAPPING_STYLE,
@@ -122,12 +133,12 @@ fn open_pairs(stack: &mut Vec<State>, token: &yaml_token_t, event: &mut yaml_eve
 fn at_block(
     stack: &mut Vec<State>,
     place: Site,
-    token: &yaml_token_t,
+    token: &mut yaml_token_t,
     event: &mut yaml_event_t,
 ) -> Swift
     requires { 0 < vec_len stack.old }
-    ensures { (before : yaml_mark_t) → Swiftly (state.optional place before) (token_of token.now)
-        (stack_of stack.old.items) result (event_of event.new) (token_of token.now)
+    ensures { (before : yaml_mark_t) → Swiftly (state.optional place before) (token_of token.old)
+        (stack_of stack.old.items) result (event_of event.new) (token_of token.new)
         (stack_of stack.new.items) }
 {
     match token.body {
@@ -301,14 +312,14 @@ fn at_colon(stack: &mut Vec<State>, place: Site, token: &yaml_token_t) -> Swift
 fn at_pairs(
     stack: &mut Vec<State>,
     opener: yaml_mark_t,
-    token: &yaml_token_t,
+    token: &mut yaml_token_t,
     event: &mut yaml_event_t,
 ) -> Swift
     requires some { 0 < vec_len stack.old }
     requires top { stack_of stack.old.items ≡ state.pairs opener
         ∷ below (stack_of stack.old.items) }
-    ensures { Swiftly (state.pairs opener) (token_of token.now)
-        (stack_of stack.old.items) result (event_of event.new) (token_of token.now)
+    ensures { Swiftly (state.pairs opener) (token_of token.old)
+        (stack_of stack.old.items) result (event_of event.new) (token_of token.new)
         (stack_of stack.new.items) }
 {
     match token.body {
@@ -333,14 +344,14 @@ fn at_pairs(
 fn at_entries(
     stack: &mut Vec<State>,
     opener: yaml_mark_t,
-    token: &yaml_token_t,
+    token: &mut yaml_token_t,
     event: &mut yaml_event_t,
 ) -> Swift
     requires some { 0 < vec_len stack.old }
     requires top { stack_of stack.old.items ≡ state.entries opener
         ∷ below (stack_of stack.old.items) }
-    ensures { Swiftly (state.entries opener) (token_of token.now)
-        (stack_of stack.old.items) result (event_of event.new) (token_of token.now)
+    ensures { Swiftly (state.entries opener) (token_of token.old)
+        (stack_of stack.old.items) result (event_of event.new) (token_of token.new)
         (stack_of stack.new.items) }
 {
     match token.body {
@@ -362,11 +373,11 @@ fn open_inside(
     stack: &mut Vec<State>,
     opener: yaml_mark_t,
     inner: Brackets,
-    token: &yaml_token_t,
+    token: &mut yaml_token_t,
     event: &mut yaml_event_t,
 ) -> Swift
     requires { 0 < vec_len stack.old }
-    ensures { OpensIn inner (state.more brackets.Sequence opener ∷ []) (token_of token.now)
+    ensures { OpensIn inner (state.more brackets.Sequence opener ∷ []) (token_of token.old)
         (stack_of stack.old.items) result (event_of event.new) (stack_of stack.new.items) }
 {
     swap_top(stack, State::More(Brackets::Sequence, opener));
@@ -428,12 +439,12 @@ fn in_sequence(
 fn in_mapping(
     stack: &mut Vec<State>,
     opener: yaml_mark_t,
-    token: &yaml_token_t,
+    token: &mut yaml_token_t,
     event: &mut yaml_event_t,
 ) -> Swift
     requires { 0 < vec_len stack.old }
-    ensures { Swiftly (state.items brackets.Mapping opener) (token_of token.now)
-        (stack_of stack.old.items) result (event_of event.new) (token_of token.now)
+    ensures { Swiftly (state.items brackets.Mapping opener) (token_of token.old)
+        (stack_of stack.old.items) result (event_of event.new) (token_of token.new)
         (stack_of stack.new.items) }
 {
     match token.body {
@@ -461,12 +472,12 @@ fn in_mapping(
 fn behind_part(
     stack: &mut Vec<State>,
     opener: yaml_mark_t,
-    token: &yaml_token_t,
+    token: &mut yaml_token_t,
     event: &mut yaml_event_t,
 ) -> Swift
     requires { 0 < vec_len stack.old }
-    ensures { Swiftly (state.more brackets.Sequence opener) (token_of token.now)
-        (stack_of stack.old.items) result (event_of event.new) (token_of token.now)
+    ensures { Swiftly (state.more brackets.Sequence opener) (token_of token.old)
+        (stack_of stack.old.items) result (event_of event.new) (token_of token.new)
         (stack_of stack.new.items) }
 {
     match token.body {
@@ -489,12 +500,12 @@ fn behind_part(
 fn behind_pair(
     stack: &mut Vec<State>,
     opener: yaml_mark_t,
-    token: &yaml_token_t,
+    token: &mut yaml_token_t,
     event: &mut yaml_event_t,
 ) -> Swift
     requires { 0 < vec_len stack.old }
-    ensures { Swiftly (state.more brackets.Mapping opener) (token_of token.now)
-        (stack_of stack.old.items) result (event_of event.new) (token_of token.now)
+    ensures { Swiftly (state.more brackets.Mapping opener) (token_of token.old)
+        (stack_of stack.old.items) result (event_of event.new) (token_of token.new)
         (stack_of stack.new.items) }
 {
     match token.body {

@@ -9,6 +9,7 @@ ghost use Rattle.yaml_parse_grammar.specs.Trees.{flow_shape, end_event, event_at
 ghost use Rattle.yaml_parse_machine.specs.Swiftly.{IsReady};
 
 use crate::resolving::bare_scalar;
+use crate::room::hand_back;
 use crate::slots::{start_mapping, start_sequence};
 use crate::taking::moved;
 use yaml_parse_grammar::Brackets;
@@ -39,12 +40,13 @@ pub(crate) fn tell_scalar(
 // A flow collection without properties begins.
 // Inlined: mostly its brackets are known.
 #[inline(always)]
-pub(crate) fn tell_start(brackets: Brackets, token: &yaml_token_t, event: &mut yaml_event_t)
-    ensures { IsReady (item_at (item.node None None (flow_shape brackets)) token.now.start_mark
-        token.now.end_mark) (event_of event.new) }
+pub(crate) fn tell_start(brackets: Brackets, token: &mut yaml_token_t, event: &mut yaml_event_t)
+    ensures { IsReady (item_at (item.node None None (flow_shape brackets)) token.old.start_mark
+        token.old.end_mark) (event_of event.new) }
 {
     event.start_mark = token.start_mark;
     event.end_mark = token.end_mark;
+    hand_back(&mut event.body, &mut token.body);
     match brackets {
         Brackets::Sequence => {
             start_sequence(
@@ -64,12 +66,13 @@ pub(crate) fn tell_start(brackets: Brackets, token: &yaml_token_t, event: &mut y
 // A collection ends.
 // Inlined: its brackets are known.
 #[inline(always)]
-pub(crate) fn tell_end(brackets: Brackets, token: &yaml_token_t, event: &mut yaml_event_t)
-    ensures { IsReady (event_at (end_event brackets) token.now.start_mark token.now.end_mark)
+pub(crate) fn tell_end(brackets: Brackets, token: &mut yaml_token_t, event: &mut yaml_event_t)
+    ensures { IsReady (event_at (end_event brackets) token.old.start_mark token.old.end_mark)
         (event_of event.new) }
 {
     event.start_mark = token.start_mark;
     event.end_mark = token.end_mark;
+    hand_back(&mut event.body, &mut token.body);
     match brackets {
         Brackets::Sequence => {
             event.body = yaml_event_body_t::SequenceEnd;

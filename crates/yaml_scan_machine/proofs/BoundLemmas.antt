@@ -1,5 +1,5 @@
 -- Looking back for a candidate.
-use Rattle.std.proofs.Common.{◌≡◌, ◌≢◌, ℕ, zero, suc, ◌+◌, ◌-◌, ◌<◌, ◌≤◌, Bool, true, false, cond, ◌&&◌, ◌||◌, not, List, [], ◌∷◌, ◌++◌, length, drop, get_or, Option, Some, None, refl, sym, ap, subst, ◌∙◌, inl, inr, ◌⊎◌, arith, length-append, length-drop, get_or-set_other, get_or-set_same}
+use Rattle.std.proofs.Common.{◌≡◌, ◌≢◌, ℕ, zero, suc, ◌+◌, ◌-◌, ◌<◌, ◌≤◌, Bool, true, false, cond, eqb, ltb, ◌&&◌, ◌||◌, not, List, [], ◌∷◌, ◌++◌, length, drop, get_or, Option, Some, None, refl, sym, ap, subst, ◌∙◌, inl, inr, ◌⊎◌, arith, length-append, length-drop, get_or-set_other, get_or-set_same}
 use Rattle.std.proofs.lemmas.Bool.{cases_Bool, cases_lt, cases_order}
 use Rattle.std.proofs.lemmas.Bool.Decides.{nat_tests}
 use Rattle.std.proofs.lemmas.List.{get_or-map, length-map, get_or_append_left, get_or-append_right}
@@ -8,7 +8,7 @@ use Rattle.std.specs.Prelude.{map, IfSome}
 use Rattle.yaml_scan_history.specs.Kinds.{cancels}
 use Rattle.yaml_scan_history.specs.declared.lexeme.Lexeme.{Lexeme}
 use Rattle.yaml_scan_history.specs.declared.lexeme.Opens.{Opens}
-use Rattle.yaml_scan_history.specs.History.{Candidate, candidate, opens_in, first_open, is_fresh}
+use Rattle.yaml_scan_history.specs.History.{Candidate, candidate, opens_in, first_open, is_fresh, fresh, reached}
 use Rattle.yaml_scan_history.proofs.HistoryLemmas.{candidate_below}
 use Rattle.yaml_scan_queue.specs.declared.waiting.Waiting.{Waiting}
 use Rattle.yaml_scan_queue.specs.declared.waiting.Seen.TheVariants as looks
@@ -16,9 +16,10 @@ use Rattle.yaml_scan_machine.specs.declared.machine.Machine.{Machine}
 use Rattle.yaml_scan_machine.specs.Shows.{Fields, IsShown, IsPending, read}
 use Rattle.yaml_scan_queue.specs.Waits.{is_passed, seen, marked}
 use Rattle.yaml_scan_machine.specs.State.{AreBounded}
-use Rattle.yaml_scan_machine.specs.Reads.{Owns, MarksOwn, bound_behind}
+use Rattle.yaml_scan_machine.specs.Reads.{Owns, MarksOwn, bound_behind, required_in}
 use Rattle.yaml_scan_machine.proofs.StepLemmas.{candidate_top, open_is, open_set, none_deeper, pass_on}
 use Rattle.yaml_scan_machine.proofs.PassLemmas.{look_back, any_default, test_is}
+use Rattle.yaml_scan_machine.proofs.NextLemmas.{required_none, required_some}
 use Rattle.yaml_scan_machine.proofs.KindLemmas.{first_of}
 
 -- a candidate among the earlier lexemes is theirs
@@ -49,6 +50,9 @@ seen_here w d e = grind (arith, nat_tests)
 
 pub seen_further : (w : Waiting) (d : ℕ) → seen w d ≡ looks.Further → (w.current ≡ false) × (is_passed w.entry.lexeme d ≡ true)
 seen_further w d e = grind (arith, nat_tests)
+
+pub inside_parts : (w : Waiting) (d : ℕ) → (not w.current && ltb d w.entry.lexeme.depth) ≡ true → (w.current ≡ false) × (is_passed w.entry.lexeme d ≡ true)
+inside_parts w d e = grind (arith, nat_tests)
 
 seen_nowhere : (w : Waiting) (d : ℕ) → seen w d ≡ looks.Nowhere → ((w.current ≡ true) × (w.entry.lexeme.depth ≢ d)) ⊎ ((w.current ≡ false) × (is_passed w.entry.lexeme d ≡ false))
 seen_nowhere w d e = grind (arith, nat_tests)
@@ -231,3 +235,18 @@ pass_bound m ws n i (suc j) s wait bits candidate_bound past all high low =
     let none : (x.current && is_fresh x.entry.lexeme.start m.place) ≡ false = rw off refl in
     let more = pass_on h (m.dropped + i) x.entry low (omega (arith, len, s.count)) (test ∙ none) in
     pass_bound m ws n (i + 1) j s wait bits candidate_bound (omega arith) (omega (arith, all)) (omega arith) (omega (arith, more))
+
+-- where no candidate waits behind what is settled, none is required
+pub required_bound : (m : Fields) (ws : List Waiting) (n : ℕ) → IsShown m → m.ended ≡ false → m.waiting ≡ map (λ (x : Waiting). x.entry) ws → m.opens ≡ map (λ (x : Waiting). x.current) ws → AreBounded n m.dropped ws → n ≤ m.settled → let h = read m.text m.dropped m.waiting in None ≡ required_in (fresh (candidate 0 h) (reached h))
+required_bound m ws n s more wait bits candidate_bound past =
+    let i : ℕ = m.settled - m.dropped in
+    let len : length m.waiting ≡ length ws = ap length wait ∙ length-map ws (λ (x : Waiting). x.entry) in
+    elim (cases_lt i (length ws)) [
+      | inl lt ↦
+          let w = first_of ws i lt in
+          let x = get_or ws i w in
+          let off : x.current ≡ false = candidate_bound i w lt (omega (arith, s.taken)) in
+          let none : cond ((x.current && x.entry.lexeme.required) && eqb x.entry.lexeme.depth 0) (Some x.entry.lexeme.start) None ≡ None = rw off refl in
+          sym none ∙ required_some m ws x s more wait bits (any_default ws i w x lt) lt
+      | inr high ↦ required_none m (length ws) s more (sym len) (omega arith)
+    ]

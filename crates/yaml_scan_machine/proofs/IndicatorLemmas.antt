@@ -1,10 +1,11 @@
 -- What reading an indicator answers.
-use Rattle.std.proofs.Common.{◌≡◌, ℕ, ◌+◌, ◌<◌, Bool, List, Option, Some, None, Result, Ok, false, ap, arith}
+use Rattle.std.proofs.Common.{◌≡◌, ℕ, ◌+◌, ◌<◌, Bool, List, Option, Some, None, Result, Ok, true, false, refl, ap, arith}
 use Rattle.std.proofs.lemmas.Bool.Decides.{nat_tests}
 use Rattle.yaml_scan_model.specs.Tokens as tokens
 use Rattle.yaml_scan_model.specs.Tokens.{TokenBody}
 use Rattle.yaml_scan_model.specs.Wrong.{Wrong}
-use Rattle.yaml_scan_model.specs.Marks.{byte, break_of, break_width}
+use Rattle.yaml_scan_model.specs.Marks.{byte, break_of, break_width, splits_break, starts, line_at, column_at, mark_at}
+use Rattle.yaml_scan_model.proofs.MarksLemmas.{end_next, line_more, column_more}
 use Rattle.yaml_scan_history.specs.declared.kind.Kind.{Kind}
 use Rattle.yaml_scan_history.specs.declared.kind.Kind.TheVariants as kinds
 use Rattle.yaml_scan_history.specs.Words.{WordText, carrying, word_at}
@@ -75,3 +76,10 @@ indicator_word kinds.Folded b flow level text p e = cc
 indicator_word kinds.SingleQuoted b flow level text p e = cc
 indicator_word kinds.DoubleQuoted b flow level text p e = cc
 indicator_word kinds.Plain b flow level text p e = cc
+
+-- the mark behind a byte of ASCII that is no break
+pub mark_past : (text : List ℕ) (p : ℕ) → splits_break text p ≡ false → break_width text p ≡ 0 → byte text p < 128 → record { index = p + 1; line = line_at text p; column = column_at text p + 1 } ≡ mark_at text (p + 1)
+mark_past text p whole none low =
+    let e = end_next text p whole none in
+    let s : starts (byte text p) ≡ true = grind (arith, nat_tests) in
+    rw (line_more text p e, column_more text p e s) refl

@@ -27,7 +27,7 @@ use Rattle.yaml_scan_machine.specs.declared.machine.Machine.{Machine}
 use Rattle.yaml_scan_queue.specs.declared.waiting.Waiting.{Waiting}
 use Rattle.yaml_scan_machine.specs.declared.next.Read.{Read as Answer}
 use Rattle.yaml_scan_machine.specs.declared.word.Word.{Word}
-use Rattle.yaml_scan_machine.specs.State.{IsPlace}
+use Rattle.yaml_scan_machine.specs.State.{IsPlace, Leaves}
 use Rattle.yaml_scan_machine.specs.Given.{IsWord, ReadsWord}
 use Rattle.yaml_scan_machine.specs.Shows.{Fields, fields_of, IsShown, read, Picks, history_of, stream_of}
 use Rattle.yaml_scan_machine.specs.Reads.{required_in, late, lost, required_behind, colon_fault, begun_in, keyed_by, ended_by, EndsAt, Finishes, GivesLexeme, GivesNext, IsRead, Owns}
@@ -236,6 +236,22 @@ ok_gives mc (Read l) r b k m a ls is (same, spoken) e own key =
 reached_none : (h : List Lexeme) → length h ≡ 0 → reached h ≡ zero_mark
 reached_none [] e = refl
 reached_none (l ∷ h) e = absurd (omega arith)
+
+levels_none : (h : List Lexeme) → length h ≡ 0 → levels h ≡ []
+unfolding levels
+levels_none [] e = refl
+levels_none (l ∷ h) e = absurd (omega arith)
+
+-- where nothing was read, no level is open
+pub leaves_none : (m : Machine) (k : Kind) (d column left : ℕ) → IsShown (fields_of m) → length (history_of m) ≡ 0 → left ≡ 0 → d ≡ 0 → Leaves k d column m.levels left
+leaves_none m k d column left s none z flat =
+    let empty : m.levels ≡ [] = s.levels ∙ levels_none (history_of m) none in
+    rw (empty, z, flat) (omega arith, refl)
+
+-- a lexeme with its end leaves open what it leaves without
+pub leaves_ends : (k : Kind) (mark : yaml_mark_t) (allowed : Bool) (d : ℕ) (xs : List ℕ) (left : ℕ) (text : List ℕ) (b l : Lexeme) → b ≡ begun_in k (placed k mark) allowed d xs → EndsAt text b l → Leaves k d (placed k mark).column xs left
+    → Leaves l.kind l.depth l.start.column xs left
+leaves_ends k mark allowed d xs left text b l value e h = rw (e.kind, e.depth, e.start, value) h
 
 first_read : (m : Machine) (r : Answer) → r.lexeme ≡ first_lexeme → body_of r.body ≡ stream_start m.encoding → r.own ≡ None → r.key ≡ None → IsRead m r first_lexeme
 first_read m r is body own key =

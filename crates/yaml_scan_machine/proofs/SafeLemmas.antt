@@ -8,7 +8,7 @@ use Rattle.yaml_scan_model.specs.Marks.{line_at, column_at, splits_break, splits
 use Rattle.yaml_scan_history.specs.declared.kind.Kind.{Kind}
 use Rattle.yaml_scan_history.specs.declared.kind.Kind.TheVariants as kinds
 use Rattle.yaml_scan_history.specs.Kinds.{is_end, depth_after}
-use Rattle.yaml_scan_history.specs.History.{indent, opened, placed}
+use Rattle.yaml_scan_history.specs.History.{indent, opened, placed, keeps, left_by}
 use Rattle.yaml_scan_queue.specs.declared.waiting.Waiting.{Waiting}
 use Rattle.yaml_scan_machine.specs.Rising.{left_of}
 use Rattle.yaml_scan_machine.specs.State.{IsPlace, IsNarrow, AreInside, ready_in}
@@ -83,6 +83,13 @@ narrow_left n c (x ∷ xs) h =
     elim (cases_Bool (leb x c)) [
       | inl near ↦ rw near (narrow_cons n x (left_of c xs) (h 0) rest)
       | inr far ↦ rw far rest
+    ]
+
+pub narrow_left_by : (n : ℕ) (k : Kind) (d column : ℕ) (xs : List ℕ) → IsNarrow n xs → IsNarrow n (left_by k d column xs)
+narrow_left_by n k d column xs h =
+    elim (cases_Bool (ltb 0 d)) [
+      | inl deep ↦ rw deep h
+      | inr flat ↦ rw flat (narrow_left n (keeps k column) xs h)
     ]
 
 narrow_snoc : (n c : ℕ) (xs : List ℕ) → c ≤ n → IsNarrow n xs → IsNarrow n (xs ++ c ∷ [])

@@ -1,12 +1,14 @@
 -- What the fields of a machine say.
-use Rattle.std.specs.Prelude.{ℕ, ◌+◌, ◌^◌, ◌≡◌, ◌<◌, ◌≤◌, Bool, false, ◌||◌, nat_lt, List, [], ◌∷◌, length, slice_index, slice_index_or, IfSome}
+use Rattle.std.specs.Prelude.{ℕ, ◌+◌, ◌^◌, ◌≡◌, ◌<◌, ◌≤◌, Bool, false, ◌||◌, nat_lt, List, [], ◌∷◌, length, take, slice_index, slice_index_or, IfSome}
 use Rattle.yaml_scan_model.specs.declared.record.yaml_mark_t.{yaml_mark_t}
 use Rattle.yaml_scan_model.specs.Marks.{mark_at, splits_break}
 use Rattle.yaml_scan_decode.specs.DecodedText.{text_bytes}
 use Rattle.yaml_scan_machine.specs.declared.machine.Machine.{Machine}
 use Rattle.yaml_scan_queue.specs.declared.waiting.Waiting.{Waiting}
 use Rattle.yaml_scan_machine.specs.declared.next.Read.{Read}
+use Rattle.yaml_scan_history.specs.declared.kind.Kind.{Kind}
 use Rattle.yaml_scan_history.specs.Kinds.{is_end}
+use Rattle.yaml_scan_history.specs.History.{left_by}
 use Rattle.yaml_scan_machine.specs.Shows.{IsShown, fields_of, AreSpoken, stream_of}
 use Rattle.yaml_scan_machine.specs.Taken.{IsGiven}
 
@@ -55,6 +57,11 @@ ready_in dropped settled given (w ∷ ws) = nat_lt dropped settled || nat_lt giv
 abbrev pub is_ready : Machine → Bool
 is_ready m = ready_in m.dropped m.settled m.given m.waiting.items
 
+-- So many levels a lexeme leaves open that stands at a depth and a column.
+abbrev pub Leaves : Kind → ℕ → ℕ → List ℕ → ℕ → Type 0
+Leaves k depth column levels left = (left ≤ length levels)
+    × (take left levels ≡ left_by k depth column levels)
+
 -- what is read behind a machine's place
 pub record IsNext (m : Machine) (r : Read) : Type 0 where
   pub column : r.lexeme.start.column ≤ length (text_bytes m.text)
@@ -62,6 +69,7 @@ pub record IsNext (m : Machine) (r : Read) : Type 0 where
   pub own : IfSome r.own (λ i. i < length m.waiting.items)
   pub last : IfSome r.own (λ i. AreBounded (m.dropped + i + 1) m.dropped m.waiting.items)
   pub key : IfSome r.key (λ i. i < length m.waiting.items)
+  pub left : Leaves r.lexeme.kind r.lexeme.depth r.lexeme.start.column m.levels r.left
   pub place : is_end r.lexeme.kind ≡ false → IsPlace (text_bytes m.text) r.lexeme.reached
 
 -- one lexeme more waits

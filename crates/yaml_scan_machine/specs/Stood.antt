@@ -24,9 +24,8 @@ pub record IsStand (m : Machine) (k : Kind) (s : Spot) : Type 0 where
   pub place : IsPlace (text_bytes m.text) s.mark
   pub kind : Stands k (nat_lt 0 m.depth) (text_bytes m.text) s.mark.index
   pub forward : Upto (reached (history_of m)) s.mark
-  pub required : s.required
-      ≡ required_in (fresh (candidate 0 (history_of m)) (reached (history_of m)))
-  pub early : late s.required s.mark ≡ None
+  pub early : late (required_in (fresh (candidate 0 (history_of m)) (reached (history_of m))))
+      s.mark ≡ None
   pub gap : Gap
   pub behind : gap.place ≡ s.mark.index
   pub allowed : allowed_behind (history_of m) gap ≡ s.allowed

@@ -1,10 +1,11 @@
 //! The open block levels.
 
-ghost use Rattle.std.specs.Prelude.{◌≡◌, ◌-◌, [], OnOk, IfOk, true, nat_lt, length};
-ghost use Rattle.yaml_scan_history.specs.History.{indent, opened};
+ghost use Rattle.std.specs.Prelude.{◌≡◌, ◌+◌, ◌-◌, ◌≤◌, ◌<◌, ◌^◌, [], OnOk, IfOk, true, nat_lt, length, take};
+ghost use Rattle.yaml_scan_history.specs.History.{indent, keeps, opened};
 
 use std::alloc::{AllocError, Global};
 use std::marker::Model;
+use yaml_scan_history::Kind;
 
 /// The open block levels, the outermost first, each by its margin, the first column right of its own: the columns here
 /// are margins (YAML 1.1, 4.2.1).
@@ -43,22 +44,38 @@ impl Levels {
         innermost(&self.columns, self.columns.len())
     }
 
-    /// The innermost level that is not right of a column, or 0.
-    pub(crate) fn indent_at(&self, column: u64) -> u64
-        ensures { result ≡ indent (left_of column self.now) }
+    /// How many levels are open.
+    pub(crate) fn len(&self) -> usize
+        ensures { result ≡ length self.now }
     {
-        innermost(&self.columns, count_left(&self.columns, column))
+        self.columns.len()
     }
 
-    /// Closes the levels right of a column, and answers how many they are.
-    pub(crate) fn close(&mut self, column: u64) -> usize
-        ensures left { self.new ≡ left_of column self.old }
+    /// How many levels are not right of a column.
+    pub(crate) fn count_at(&self, column: u64) -> usize
+        ensures inside { result ≤ length self.now }
+        ensures left { take result self.now ≡ left_of column self.now }
+    {
+        count_left(&self.columns, column)
+    }
+
+    /// The innermost of the first n levels, or 0.
+    pub(crate) fn indent_of(&self, n: usize) -> u64
+        requires { n ≤ length self.now }
+        ensures { result ≡ indent (take n self.now) }
+    {
+        innermost(&self.columns, n)
+    }
+
+    /// Closes all but the first n levels, and answers how many they are.
+    pub(crate) fn close(&mut self, n: usize) -> usize
+        requires { n ≤ length self.old }
+        ensures left { self.new ≡ take n self.old }
         ensures count { result ≡ length self.old - length self.new }
     {
         let open = self.columns.len();
-        let left = count_left(&self.columns, column);
-        self.columns.truncate(left);
-        open - left
+        self.columns.truncate(n);
+        open - n
     }
 
     /// Opens a level where the column passes the indent, and answers whether it does.
@@ -74,7 +91,6 @@ impl Levels {
     }
 }
 
-ghost use Rattle.std.specs.Prelude.{◌≤◌, take};
 ghost use Rattle.yaml_scan_machine.specs.Rising as rising;
 
 /// The last of the first n columns, or 0.
@@ -99,4 +115,16 @@ fn count_left(columns: &[u64], column: u64) -> usize
         n -= 1;
     }
     n
+}
+
+/// The greatest margin that a lexeme outside all brackets leaves open.
+pub(crate) fn keeps(kind: Kind, column: u64) -> u64
+    requires { column < 2 ^ 63 }
+    ensures value { result ≡ keeps kind column }
+    ensures narrow { result ≤ column + 1 }
+{
+    if kind.is_outside() {
+        return 0;
+    }
+    column + 1
 }

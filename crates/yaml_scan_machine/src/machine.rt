@@ -8,7 +8,6 @@ ghost use Rattle.yaml_scan_machine.specs.Scanned.{IsLocated};
 ghost use Rattle.yaml_scan_history.specs.History as history;
 
 use crate::levels::Levels;
-use crate::next::keeps;
 use std::alloc::{AllocError, Global};
 use yaml_scan_decode::{stream_encoding, yaml_decode, yaml_text_t};
 use yaml_scan_history::{Entry, Kind, Lexeme, Opens};
@@ -50,7 +49,7 @@ pub struct Machine<'a> {
 }
 
 impl<'a> Machine<'a> {
-    ghost use Rattle.yaml_scan_machine.specs.State.{IsMachine, IsNarrow, AreInside, AreBounded, GoesOn, is_ready};
+    ghost use Rattle.yaml_scan_machine.specs.State.{IsMachine, IsNarrow, AreInside, AreBounded, GoesOn, Leaves, is_ready};
     ghost use Rattle.yaml_scan_machine.specs.Scanned.{scanned, left_in, left_from, IsTold};
     ghost use Rattle.yaml_scan_decode.specs.Encodings.{encoding_of};
     ghost use Rattle.yaml_scan_machine.specs.Shows.{IsPending, fields_of, history_of};
@@ -255,11 +254,11 @@ impl<'a> Machine<'a> {
         self.earliest_open()
     }
 
-    /// Closes the levels right of a lexeme outside all brackets, and answers how many they are.
+    /// Closes all but the first `left` levels, those right of a lexeme outside all brackets, and answers how many they are.
     // Inlined: the kind is known where it is called.
     #[inline(always)]
-    pub(crate) fn close_levels(&mut self, lexeme: Lexeme) -> usize
-        requires { lexeme.start.column < 2 ^ 63 }
+    pub(crate) fn close_levels(&mut self, lexeme: Lexeme, left: usize) -> usize
+        requires { Leaves lexeme.kind lexeme.depth lexeme.start.column self.old.levels left }
         ensures same { self.new ≡ record self.old { levels = self.new.levels } }
         ensures levels { self.new.levels ≡ history.left_by lexeme.kind lexeme.depth
             lexeme.start.column self.old.levels }
@@ -269,7 +268,7 @@ impl<'a> Machine<'a> {
         if 0 < lexeme.depth {
             return 0;
         }
-        self.levels.close(keeps(lexeme.kind, lexeme.start.column))
+        self.levels.close(left)
     }
 
     /// The margin of the level that may open: one more than the column of the key of a `:`, or than the lexeme's own.
@@ -327,26 +326,17 @@ impl<'a> Machine<'a> {
         ensures low { self.now.settled ≤ result }
         ensures high { result ≤ self.now.dropped + length self.now.waiting.items }
     {
-        if self.stays_open() {
+        if self.candidate_bound <= self.settled {
+            return self.count();
+        }
+        if self
+            .waiting
+            .index(self.settled - self.dropped)
+            .is_open(self.place)
+        {
             return self.settled;
         }
         self.later_open()
-    }
-
-    /// Whether the first lexeme that isn't settled is an open candidate.
-    // Inlined: the kind is known where it is called.
-    #[inline(always)]
-    fn stays_open(&self) -> bool
-        requires shown { IsPending (fields_of self.now) }
-        requires settled { self.now.settled ≤ self.now.dropped + length self.now.waiting.items }
-        ensures { result ≡ true
-            → self.now.settled ≡ history.first_open (history_of self.now) (history_of self.now) }
-    {
-        let first = self.settled - self.dropped;
-        if first < self.waiting.len() {
-            return self.waiting.index(first).is_open(self.place);
-        }
-        false
     }
 
     /// The number of the earliest open candidate, or how many lexemes were read, by a look at each. What is settled

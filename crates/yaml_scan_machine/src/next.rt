@@ -1,6 +1,6 @@
 //! The lexeme that comes next, and why there may be none.
 
-ghost use Rattle.std.specs.Prelude.{◌≡◌, ◌+◌, ◌≤◌, ◌<◌, ◌^◌, ◌&&◌, ◌||◌, ◌==◌, not, nat_lt, if◌then◌else◌, Ok, IfOk, IfErr, IfSome, is_some, Some, None, true, false, length};
+ghost use Rattle.std.specs.Prelude.{◌≡◌, ◌+◌, ◌≤◌, ◌<◌, ◌&&◌, ◌||◌, ◌==◌, not, nat_lt, if◌then◌else◌, Ok, IfOk, IfErr, IfSome, is_some, Some, None, true, false, length};
 ghost use Rattle.yaml_scan_decode.specs.DecodedText.{text_bytes};
 ghost use Rattle.yaml_scan_model.specs.Marks.{mark_at};
 ghost use Rattle.yaml_scan_model.specs.Tokens as tokens;
@@ -10,19 +10,20 @@ ghost use Rattle.yaml_scan_history.specs.Kinds as kinds;
 ghost use Rattle.yaml_scan_history.specs.Next as spec;
 ghost use Rattle.yaml_scan_history.specs.Stepwise as steps;
 ghost use Rattle.yaml_scan_history.specs.Laws.{Upto};
-ghost use Rattle.yaml_scan_history.specs.History.{candidate, fresh, reached, indent, left_by, placed, keeps};
+ghost use Rattle.yaml_scan_history.specs.History.{candidate, fresh, reached, indent, left_by, placed};
 ghost use Rattle.yaml_scan_machine.specs.Stands.{Stands};
-ghost use Rattle.yaml_scan_machine.specs.State.{IsPlace};
+ghost use Rattle.yaml_scan_machine.specs.State.{IsPlace, Leaves};
 ghost use Rattle.yaml_scan_history.specs.Words.{word_at};
 ghost use Rattle.yaml_scan_machine.specs.Reads.{late, lost, required_behind, colon_fault, begun_in, Finishes};
 
+use crate::levels::keeps;
 use crate::machine::Machine;
 use crate::word::{Word, kind_at, read_word};
 use yaml_scan_history::{Kind, Lexeme, is_fresh, moved_end};
 use yaml_scan_model::{
     Context, Problem, Reader, ScanError, ScanFault, yaml_encoding_t, yaml_mark_t, yaml_token_body_t,
 };
-use yaml_scan_queue::Seen;
+use yaml_scan_queue::{Seen, Waiting};
 use yaml_scan_words::skip_gap;
 
 /// A lexeme that was read, and what its own token carries.
@@ -34,6 +35,8 @@ pub struct Read {
     pub own: Option<usize>,
     /// It is a `:`, and makes a key of that candidate where it is given.
     pub key: Option<usize>,
+    /// How many block levels it leaves open.
+    pub left: usize,
 }
 
 /// The place where a lexeme stands, behind the gap, and what is known there before its kind is.
@@ -42,8 +45,6 @@ pub struct Spot {
     pub mark: yaml_mark_t,
     /// A key may begin there.
     pub allowed: bool,
-    /// The start of the required candidate that is open.
-    pub required: Option<yaml_mark_t>,
 }
 
 /// The place where a lexeme stands, behind the gap.
@@ -80,14 +81,12 @@ impl<'a> Machine<'a> {
         if let Some(start) = late(required, mark) {
             return Err(no_colon(start, mark));
         }
-        let Some(kind) = kind_at(&reader, flow) else {
-            return Err(ScanError::refusal(Problem::NoTokenStart, Context::NextToken, mark, mark));
-        };
-        let allowed = allowed_behind(self.allowed, broke, flow);
         let spot = Spot {
             mark,
-            allowed,
-            required,
+            allowed: allowed_behind(self.allowed, broke, flow),
+        };
+        let Some(kind) = kind_at(&reader, flow) else {
+            return Err(ScanError::refusal(Problem::NoTokenStart, Context::NextToken, mark, mark));
         };
         Ok((kind, spot))
     }
@@ -111,11 +110,14 @@ impl<'a> Machine<'a> {
         &self,
         kind: Kind,
         spot: Spot,
+        required: Option<yaml_mark_t>,
         spares: &mut Vec<Vec<u8>>,
     ) -> Result<Read, ScanError>
         requires stands { IsMachine self.now }
         requires more { self.now.ended ≡ false }
         requires stand { IsStand self.now kind spot }
+        requires required { required ≡ required_in (fresh (candidate 0 (history_of self.now))
+            (reached (history_of self.now))) }
         ensures safe { IfOk result (λ r. IsNext self.now r) }
         ensures exact { GivesNext self.now result
             (spec.next (text_bytes self.now.text) (history_of self.now)) }
@@ -127,7 +129,7 @@ impl<'a> Machine<'a> {
             kind,
             allowed: spot.allowed,
         };
-        self.of_kind(&mut reader, stand, spot.required, spares)
+        self.of_kind(&mut reader, stand, required, spares)
     }
 
     /// The lexeme of that kind, which stands there.
@@ -161,7 +163,8 @@ impl<'a> Machine<'a> {
         if self.is_misplaced(stand, key) {
             return Err(misplaced(stand.kind, stand.mark));
         }
-        let lexeme = self.lexeme_at(stand);
+        let left = self.left_at(stand);
+        let lexeme = self.lexeme_at(stand, left);
         if let Some(start) = lost(required, lexeme) {
             return Err(no_colon(start, lexeme.start));
         }
@@ -171,6 +174,7 @@ impl<'a> Machine<'a> {
                 body,
                 own,
                 key,
+                left,
             }),
             Err(error) => Err(error),
         }
@@ -221,9 +225,11 @@ impl<'a> Machine<'a> {
     /// The lexeme that stands there, without its end.
     // Inlined: the kind is known where it is called.
     #[inline(always)]
-    fn lexeme_at(&self, stand: Stand) -> Lexeme
+    fn lexeme_at(&self, stand: Stand, left: usize) -> Lexeme
         requires stands { IsMachine self.now }
         requires place { IsPlace (text_bytes self.now.text) stand.mark }
+        requires left { Leaves stand.kind self.now.depth (placed stand.kind stand.mark).column
+            self.now.levels left }
         ensures value { result ≡ begun_in stand.kind (placed stand.kind stand.mark) stand.allowed
             self.now.depth self.now.levels }
         ensures level { result.level ≤ length (text_bytes self.now.text) + 1 }
@@ -231,7 +237,7 @@ impl<'a> Machine<'a> {
     {
         let start = moved_end(stand.kind, stand.mark);
         let saved = stand.allowed && stand.kind.may_be_key();
-        let level = self.level_at(stand.kind, start.column);
+        let level = self.level_at(stand.kind, start.column, left);
         Lexeme {
             kind: stand.kind,
             start,
@@ -245,19 +251,32 @@ impl<'a> Machine<'a> {
         }
     }
 
+    /// How many block levels a lexeme that stands there leaves open; inside brackets it leaves all.
+    // Inlined: the kind is known where it is called.
+    #[inline(always)]
+    fn left_at(&self, stand: Stand) -> usize
+        requires stands { IsMachine self.now }
+        requires place { IsPlace (text_bytes self.now.text) stand.mark }
+        ensures { Leaves stand.kind self.now.depth (placed stand.kind stand.mark).column
+            self.now.levels result }
+    {
+        if 0 < self.depth {
+            return self.levels.len();
+        }
+        let start = moved_end(stand.kind, stand.mark);
+        self.levels.count_at(keeps(stand.kind, start.column))
+    }
+
     /// The innermost level that a lexeme at a column stands in, or 0.
     // Inlined: the kind is known where it is called.
     #[inline(always)]
-    fn level_at(&self, kind: Kind, column: u64) -> u64
+    fn level_at(&self, kind: Kind, column: u64, left: usize) -> u64
         requires stands { IsMachine self.now }
-        requires column { column ≤ length (text_bytes self.now.text) }
+        requires left { Leaves kind self.now.depth column self.now.levels left }
         ensures value { result ≡ indent (left_by kind self.now.depth column self.now.levels) }
         ensures narrow { result ≤ length (text_bytes self.now.text) + 1 }
     {
-        if 0 < self.depth {
-            return self.levels.indent();
-        }
-        self.levels.indent_at(keeps(kind, column))
+        self.levels.indent_of(left)
     }
 
     /// Where the candidate waits that a lexeme takes, cancels or replaces.
@@ -305,15 +324,16 @@ impl<'a> Machine<'a> {
     }
 
     /// The start of the required candidate that is open. It stands outside all brackets, so it is the earliest open one.
-    fn required(&self) -> Option<yaml_mark_t>
+    // Inlined: mostly a comparison, asked twice for each lexeme.
+    #[inline(always)]
+    pub(crate) fn required(&self) -> Option<yaml_mark_t>
         requires stands { IsMachine self.now }
         requires more { self.now.ended ≡ false }
         ensures { result ≡ required_in (fresh (candidate 0 (history_of self.now))
             (reached (history_of self.now))) }
     {
-        let first = self.settled - self.dropped;
-        if first < self.waiting.len() {
-            return self.waiting.index(first).must_come();
+        if self.settled < self.candidate_bound {
+            return self.waiting.index(self.settled - self.dropped).must_come();
         }
         None
     }
@@ -334,11 +354,10 @@ impl<'a> Machine<'a> {
         ensures last { IfSome result (λ i. AreBounded (self.now.dropped + i + 1) self.now.dropped
             self.now.waiting.items) }
     {
-        let first = self.settled - self.dropped;
-        let i = self.candidate_bound.saturating_sub(self.dropped);
-        if i <= first {
+        if self.candidate_bound <= self.settled {
             return None;
         }
+        let i = self.candidate_bound - self.dropped;
         match self.waiting.index(i - 1).seen(self.depth) {
             Seen::Here => Some(i - 1),
             Seen::Nowhere => None,
@@ -361,7 +380,7 @@ impl<'a> Machine<'a> {
             self.now.waiting.items) }
     {
         let first = self.settled - self.dropped;
-        let mut i = from;
+        let mut i = self.pass_inside(from);
         'back: while first < i {
             match self.waiting.index(i - 1).seen(self.depth) {
                 Seen::Here => return Some(i - 1),
@@ -371,6 +390,34 @@ impl<'a> Machine<'a> {
             i -= 1;
         }
         None
+    }
+
+    /// Past the lexemes before the one at `from` that stand in a bracket which was closed: mostly these are all that lie
+    /// between a closer and what it closes.
+    // Inlined: it is called at one place.
+    #[inline(always)]
+    fn pass_inside(&self, from: usize) -> usize
+        requires shown { IsShown (fields_of self.now) }
+        requires settled { self.now.settled ≤ self.now.dropped + length self.now.waiting.items }
+        requires inside { from ≤ length self.now.waiting.items }
+        requires passed { AreBounded (self.now.dropped + from) self.now.dropped
+            self.now.waiting.items }
+        requires hidden { IsHidden self.now from }
+        ensures inside { result ≤ length self.now.waiting.items }
+        ensures passed { AreBounded (self.now.dropped + result) self.now.dropped
+            self.now.waiting.items }
+        ensures hidden { IsHidden self.now result }
+    {
+        let first = self.settled - self.dropped;
+        let depth = self.depth;
+        let mut i = from;
+        'back: while first < i {
+            if !is_inside(self.waiting.index(i - 1), depth) {
+                return i;
+            }
+            i -= 1;
+        }
+        i
     }
 }
 
@@ -382,6 +429,15 @@ impl Stand {
     {
         self.allowed && self.kind.may_be_key() || self.kind.cancels()
     }
+}
+
+/// Whether a lexeme that waits is no candidate and stands deeper.
+// Inlined: two comparisons.
+#[inline(always)]
+fn is_inside(waiting: &Waiting, depth: usize) -> bool
+    ensures { result ≡ (not waiting.now.current && nat_lt depth waiting.now.entry.lexeme.depth) }
+{
+    !waiting.current && depth < waiting.entry.lexeme.depth
 }
 
 /// Whether a key may begin behind a gap: in block context a break allows one.
@@ -401,6 +457,7 @@ fn stream_start(place: yaml_mark_t, encoding: yaml_encoding_t) -> Read
     ensures body { body_of result.body ≡ tokens.stream_start encoding }
     ensures own { result.own ≡ None }
     ensures key { result.key ≡ None }
+    ensures left { result.left ≡ 0 }
 {
     Read {
         lexeme: Lexeme {
@@ -417,19 +474,8 @@ fn stream_start(place: yaml_mark_t, encoding: yaml_encoding_t) -> Read
         body: yaml_token_body_t::StreamStart { encoding },
         own: None,
         key: None,
+        left: 0,
     }
-}
-
-/// The greatest margin that a lexeme outside all brackets leaves open.
-pub(crate) fn keeps(kind: Kind, column: u64) -> u64
-    requires { column < 2 ^ 63 }
-    ensures value { result ≡ keeps kind column }
-    ensures narrow { result ≤ column + 1 }
-{
-    if kind.is_outside() {
-        return 0;
-    }
-    column + 1
 }
 
 /// The lexeme with its end, where the place behind it is reached. The stream's end stays where it starts.

@@ -2,17 +2,21 @@
 
 ghost use Rattle.std.specs.Prelude.{◌≡◌, ◌+◌, ◌≤◌, true, false, length, OnOk, OnErr};
 ghost use Rattle.yaml_scan_model.specs.Faults.{fault_of};
+ghost use Rattle.yaml_scan_machine.specs.Scanned.{IsLocated};
 
 use crate::machine::{Machine, allows, entry, put_fault};
 use crate::next::{Read, Spot};
 use std::alloc::AllocError;
 use yaml_scan_history::Kind;
-use yaml_scan_model::{ScanError, yaml_fault_t};
+use yaml_scan_model::{ScanError, yaml_fault_t, yaml_mark_t};
 use yaml_scan_queue::Waiting;
 
 impl<'a> Machine<'a> {
     ghost use Rattle.yaml_scan_machine.specs.State.{IsMachine, GoesOn, is_ready};
     ghost use Rattle.yaml_scan_machine.specs.Stood.{ComesNext, MayReadAt, Steps};
+    ghost use Rattle.yaml_scan_machine.specs.Shows.{history_of};
+    ghost use Rattle.yaml_scan_machine.specs.Reads.{required_in};
+    ghost use Rattle.yaml_scan_history.specs.History.{candidate, fresh, reached};
 
     /// Reads the first lexeme, the start of the stream; or puts the fault into the slot that was lent.
     // Out of line: it is called once.
@@ -29,20 +33,52 @@ impl<'a> Machine<'a> {
         self.take(read, fault)
     }
 
-    /// Reads the lexeme of that kind, which stands there; or puts the fault into the slot that was lent.
+    /// Reads the lexeme of that kind, which stands there; or puts the fault into the slot that was lent. Where it may be
+    /// refused for what stands before it, that is left to the general way: so there is no such fault in the way of a kind,
+    /// whose room would be set to zero for each lexeme.
     // Inlined: each of its calls knows the kind.
     #[inline(always)]
     pub(crate) fn step_at(
         &mut self,
         kind: Kind,
-        spot: Spot,
+        spot: &Spot,
         spares: &mut Vec<Vec<u8>>,
         fault: &mut yaml_fault_t,
     ) -> bool
-        requires { MayReadAt self.old kind spot }
+        requires { MayReadAt self.old kind spot.now }
         ensures { Steps self.old self.new (fault_of fault.new) result }
     {
-        match self.next(kind, spot, spares) {
+        let required = self.required();
+        if !kind.is_value() && self.may_refuse(kind, *spot, required) {
+            return self.of_rare(kind, spot, spares, fault);
+        }
+        self.step_by(kind, *spot, required, spares, fault)
+    }
+
+    /// Whether a lexeme of that kind may be refused for what stands before it.
+    // Inlined: the kind is known where it is called.
+    #[inline(always)]
+    fn may_refuse(&self, kind: Kind, spot: Spot, required: Option<yaml_mark_t>) -> bool {
+        required.is_some() || kind.is_start() && self.depth == 0 && !spot.allowed
+    }
+
+    /// Reads the lexeme of that kind, which stands there, where the start of the required candidate is known.
+    // Inlined: each of its calls knows the kind.
+    #[inline(always)]
+    pub(crate) fn step_by(
+        &mut self,
+        kind: Kind,
+        spot: Spot,
+        required: Option<yaml_mark_t>,
+        spares: &mut Vec<Vec<u8>>,
+        fault: &mut yaml_fault_t,
+    ) -> bool
+        requires may { MayReadAt self.old kind spot }
+        requires required { required ≡ required_in (fresh (candidate 0 (history_of self.old))
+            (reached (history_of self.old))) }
+        ensures { Steps self.old self.new (fault_of fault.new) result }
+    {
+        match self.next(kind, spot, required, spares) {
             Ok(read) => self.take(read, fault),
             Err(error) => {
                 put_fault(fault, error);
@@ -65,7 +101,7 @@ impl<'a> Machine<'a> {
         match self.push(read) {
             Ok(()) => true,
             Err(_) => {
-                put_fault(fault, ScanError::Memory);
+                put_memory(fault);
                 false
             }
         }
@@ -88,10 +124,11 @@ impl<'a> Machine<'a> {
             body,
             own,
             key,
+            left,
         } = read;
         let found = key.is_some();
         let column = self.level_column(lexeme.start.column, key);
-        let ends = self.close_levels(lexeme);
+        let ends = self.close_levels(lexeme, left);
         let opens = self.open_level(lexeme, column)?;
         self.mark_own(own, lexeme, opens);
         self.waiting.reserve()?;
@@ -108,4 +145,13 @@ impl<'a> Machine<'a> {
         self.settled = self.settle();
         Ok(())
     }
+}
+
+/// Puts the fault that memory ran out into a slot.
+// Out of line: in line the room of its copy would be set to zero for each token.
+#[inline(never)]
+fn put_memory(slot: &mut yaml_fault_t)
+    ensures { IsLocated ScanError.Memory (fault_of slot.new) }
+{
+    put_fault(slot, ScanError::Memory);
 }

@@ -28,20 +28,20 @@ impl<'a> Machine<'a> {
         ensures { Steps self.old self.new (fault_of fault.new) result }
     {
         match kind {
-            Kind::FlowEntry => self.flow_entry(spot, spares, fault),
-            Kind::ValueMark => self.value_mark(spot, spares, fault),
-            Kind::Plain => self.plain(spot, spares, fault),
-            Kind::DoubleQuoted => self.double_quoted(spot, spares, fault),
-            Kind::FlowSequenceEnd => self.sequence_end(spot, spares, fault),
-            Kind::FlowMappingEnd => self.mapping_end(spot, spares, fault),
-            Kind::FlowSequenceStart => self.sequence_start(spot, spares, fault),
-            Kind::FlowMappingStart => self.mapping_start(spot, spares, fault),
-            Kind::BlockEntry => self.block_entry(spot, spares, fault),
-            Kind::SingleQuoted => self.single_quoted(spot, spares, fault),
-            Kind::Anchor => self.anchor(spot, spares, fault),
-            Kind::Alias => self.alias(spot, spares, fault),
-            Kind::Tag => self.tag(spot, spares, fault),
-            _ => self.of_rare(kind, spot, spares, fault),
+            Kind::FlowEntry => self.flow_entry(&spot, spares, fault),
+            Kind::ValueMark => self.value_mark(&spot, spares, fault),
+            Kind::Plain => self.plain(&spot, spares, fault),
+            Kind::DoubleQuoted => self.double_quoted(&spot, spares, fault),
+            Kind::FlowSequenceEnd => self.sequence_end(&spot, spares, fault),
+            Kind::FlowMappingEnd => self.mapping_end(&spot, spares, fault),
+            Kind::FlowSequenceStart => self.sequence_start(&spot, spares, fault),
+            Kind::FlowMappingStart => self.mapping_start(&spot, spares, fault),
+            Kind::BlockEntry => self.block_entry(&spot, spares, fault),
+            Kind::SingleQuoted => self.single_quoted(&spot, spares, fault),
+            Kind::Anchor => self.anchor(&spot, spares, fault),
+            Kind::Alias => self.alias(&spot, spares, fault),
+            Kind::Tag => self.tag(&spot, spares, fault),
+            _ => self.of_rare(kind, &spot, spares, fault),
         }
     }
 
@@ -50,11 +50,11 @@ impl<'a> Machine<'a> {
     #[inline(never)]
     fn flow_entry(
         &mut self,
-        spot: Spot,
+        spot: &Spot,
         spares: &mut Vec<Vec<u8>>,
         fault: &mut yaml_fault_t,
     ) -> bool
-        requires { MayReadAt self.old kinds.FlowEntry spot }
+        requires { MayReadAt self.old kinds.FlowEntry spot.now }
         ensures { Steps self.old self.new (fault_of fault.new) result }
     {
         self.step_at(Kind::FlowEntry, spot, spares, fault)
@@ -65,11 +65,11 @@ impl<'a> Machine<'a> {
     #[inline(never)]
     fn value_mark(
         &mut self,
-        spot: Spot,
+        spot: &Spot,
         spares: &mut Vec<Vec<u8>>,
         fault: &mut yaml_fault_t,
     ) -> bool
-        requires { MayReadAt self.old kinds.ValueMark spot }
+        requires { MayReadAt self.old kinds.ValueMark spot.now }
         ensures { Steps self.old self.new (fault_of fault.new) result }
     {
         self.step_at(Kind::ValueMark, spot, spares, fault)
@@ -78,8 +78,8 @@ impl<'a> Machine<'a> {
     /// Reads a plain scalar.
     // Out of line, as is each way.
     #[inline(never)]
-    fn plain(&mut self, spot: Spot, spares: &mut Vec<Vec<u8>>, fault: &mut yaml_fault_t) -> bool
-        requires { MayReadAt self.old kinds.Plain spot }
+    fn plain(&mut self, spot: &Spot, spares: &mut Vec<Vec<u8>>, fault: &mut yaml_fault_t) -> bool
+        requires { MayReadAt self.old kinds.Plain spot.now }
         ensures { Steps self.old self.new (fault_of fault.new) result }
     {
         self.step_at(Kind::Plain, spot, spares, fault)
@@ -90,11 +90,11 @@ impl<'a> Machine<'a> {
     #[inline(never)]
     fn double_quoted(
         &mut self,
-        spot: Spot,
+        spot: &Spot,
         spares: &mut Vec<Vec<u8>>,
         fault: &mut yaml_fault_t,
     ) -> bool
-        requires { MayReadAt self.old kinds.DoubleQuoted spot }
+        requires { MayReadAt self.old kinds.DoubleQuoted spot.now }
         ensures { Steps self.old self.new (fault_of fault.new) result }
     {
         self.step_at(Kind::DoubleQuoted, spot, spares, fault)
@@ -105,11 +105,11 @@ impl<'a> Machine<'a> {
     #[inline(never)]
     fn sequence_end(
         &mut self,
-        spot: Spot,
+        spot: &Spot,
         spares: &mut Vec<Vec<u8>>,
         fault: &mut yaml_fault_t,
     ) -> bool
-        requires { MayReadAt self.old kinds.FlowSequenceEnd spot }
+        requires { MayReadAt self.old kinds.FlowSequenceEnd spot.now }
         ensures { Steps self.old self.new (fault_of fault.new) result }
     {
         self.step_at(Kind::FlowSequenceEnd, spot, spares, fault)
@@ -120,11 +120,11 @@ impl<'a> Machine<'a> {
     #[inline(never)]
     fn mapping_end(
         &mut self,
-        spot: Spot,
+        spot: &Spot,
         spares: &mut Vec<Vec<u8>>,
         fault: &mut yaml_fault_t,
     ) -> bool
-        requires { MayReadAt self.old kinds.FlowMappingEnd spot }
+        requires { MayReadAt self.old kinds.FlowMappingEnd spot.now }
         ensures { Steps self.old self.new (fault_of fault.new) result }
     {
         self.step_at(Kind::FlowMappingEnd, spot, spares, fault)
@@ -135,11 +135,11 @@ impl<'a> Machine<'a> {
     #[inline(never)]
     fn sequence_start(
         &mut self,
-        spot: Spot,
+        spot: &Spot,
         spares: &mut Vec<Vec<u8>>,
         fault: &mut yaml_fault_t,
     ) -> bool
-        requires { MayReadAt self.old kinds.FlowSequenceStart spot }
+        requires { MayReadAt self.old kinds.FlowSequenceStart spot.now }
         ensures { Steps self.old self.new (fault_of fault.new) result }
     {
         self.step_at(Kind::FlowSequenceStart, spot, spares, fault)
@@ -150,11 +150,11 @@ impl<'a> Machine<'a> {
     #[inline(never)]
     fn mapping_start(
         &mut self,
-        spot: Spot,
+        spot: &Spot,
         spares: &mut Vec<Vec<u8>>,
         fault: &mut yaml_fault_t,
     ) -> bool
-        requires { MayReadAt self.old kinds.FlowMappingStart spot }
+        requires { MayReadAt self.old kinds.FlowMappingStart spot.now }
         ensures { Steps self.old self.new (fault_of fault.new) result }
     {
         self.step_at(Kind::FlowMappingStart, spot, spares, fault)
@@ -165,11 +165,11 @@ impl<'a> Machine<'a> {
     #[inline(never)]
     fn block_entry(
         &mut self,
-        spot: Spot,
+        spot: &Spot,
         spares: &mut Vec<Vec<u8>>,
         fault: &mut yaml_fault_t,
     ) -> bool
-        requires { MayReadAt self.old kinds.BlockEntry spot }
+        requires { MayReadAt self.old kinds.BlockEntry spot.now }
         ensures { Steps self.old self.new (fault_of fault.new) result }
     {
         self.step_at(Kind::BlockEntry, spot, spares, fault)
@@ -180,11 +180,11 @@ impl<'a> Machine<'a> {
     #[inline(never)]
     fn single_quoted(
         &mut self,
-        spot: Spot,
+        spot: &Spot,
         spares: &mut Vec<Vec<u8>>,
         fault: &mut yaml_fault_t,
     ) -> bool
-        requires { MayReadAt self.old kinds.SingleQuoted spot }
+        requires { MayReadAt self.old kinds.SingleQuoted spot.now }
         ensures { Steps self.old self.new (fault_of fault.new) result }
     {
         self.step_at(Kind::SingleQuoted, spot, spares, fault)
@@ -193,8 +193,8 @@ impl<'a> Machine<'a> {
     /// Reads an anchor.
     // Out of line, as is each way.
     #[inline(never)]
-    fn anchor(&mut self, spot: Spot, spares: &mut Vec<Vec<u8>>, fault: &mut yaml_fault_t) -> bool
-        requires { MayReadAt self.old kinds.Anchor spot }
+    fn anchor(&mut self, spot: &Spot, spares: &mut Vec<Vec<u8>>, fault: &mut yaml_fault_t) -> bool
+        requires { MayReadAt self.old kinds.Anchor spot.now }
         ensures { Steps self.old self.new (fault_of fault.new) result }
     {
         self.step_at(Kind::Anchor, spot, spares, fault)
@@ -203,8 +203,8 @@ impl<'a> Machine<'a> {
     /// Reads an alias.
     // Out of line, as is each way.
     #[inline(never)]
-    fn alias(&mut self, spot: Spot, spares: &mut Vec<Vec<u8>>, fault: &mut yaml_fault_t) -> bool
-        requires { MayReadAt self.old kinds.Alias spot }
+    fn alias(&mut self, spot: &Spot, spares: &mut Vec<Vec<u8>>, fault: &mut yaml_fault_t) -> bool
+        requires { MayReadAt self.old kinds.Alias spot.now }
         ensures { Steps self.old self.new (fault_of fault.new) result }
     {
         self.step_at(Kind::Alias, spot, spares, fault)
@@ -213,26 +213,27 @@ impl<'a> Machine<'a> {
     /// Reads a tag.
     // Out of line, as is each way.
     #[inline(never)]
-    fn tag(&mut self, spot: Spot, spares: &mut Vec<Vec<u8>>, fault: &mut yaml_fault_t) -> bool
-        requires { MayReadAt self.old kinds.Tag spot }
+    fn tag(&mut self, spot: &Spot, spares: &mut Vec<Vec<u8>>, fault: &mut yaml_fault_t) -> bool
+        requires { MayReadAt self.old kinds.Tag spot.now }
         ensures { Steps self.old self.new (fault_of fault.new) result }
     {
         self.step_at(Kind::Tag, spot, spares, fault)
     }
 
-    /// Reads a lexeme of any other kind.
+    /// Reads a lexeme of any kind, in the general way.
     // Out of line, as is each way.
     #[inline(never)]
-    fn of_rare(
+    pub(crate) fn of_rare(
         &mut self,
         kind: Kind,
-        spot: Spot,
+        spot: &Spot,
         spares: &mut Vec<Vec<u8>>,
         fault: &mut yaml_fault_t,
     ) -> bool
-        requires { MayReadAt self.old kind spot }
+        requires { MayReadAt self.old kind spot.now }
         ensures { Steps self.old self.new (fault_of fault.new) result }
     {
-        self.step_at(kind, spot, spares, fault)
+        let required = self.required();
+        self.step_by(kind, *spot, required, spares, fault)
     }
 }

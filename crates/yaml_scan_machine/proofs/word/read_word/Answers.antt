@@ -16,6 +16,12 @@ read_indicator-requires-clause-no_break c =
     let is : indicator_at c.args.kind ≡ Some (body_of c.in-Some.body) = sym c.indicator_body.ensures ∙ ap (option_map body_of) c.in-Some.is in
     no_break c.args.kind c.args.reader.now.text c.args.reader.now.at (indicator_stands c.args.kind (body_of c.in-Some.body) c.args.flow c.args.reader.now.text c.args.reader.now.at is c.requires.stands)
 
+pub read_indicator-requires-clause-ascii : goal.read_indicator-requires-clause-ascii
+read_indicator-requires-clause-ascii c =
+    let is : indicator_at c.args.kind ≡ Some (body_of c.in-Some.body) = sym c.indicator_body.ensures ∙ ap (option_map body_of) c.in-Some.is in
+    let s = indicator_stands c.args.kind (body_of c.in-Some.body) c.args.flow c.args.reader.now.text c.args.reader.now.at is c.requires.stands in
+    s.high
+
 pub returns-in-Some : goal.returns-in-Some
 returns-in-Some c =
     let text = c.args.reader.now.text in

@@ -1,16 +1,15 @@
-use Rattle.std.proofs.Common.{ℕ, ◌+◌, length}
+use Rattle.std.proofs.Common.{ℕ, ◌+◌, ◌≤◌, length, ap, sym, subst, ◌∙◌}
 use Rattle.yaml_scan_decode.specs.DecodedText.{text_bytes}
-use Rattle.yaml_scan_machine.specs.Rising.{left_of}
-use Rattle.yaml_scan_machine.proofs.SafeLemmas.{narrow_left, narrow_indent}
+use Rattle.yaml_scan_history.specs.History.{indent, left_by}
+use Rattle.yaml_scan_machine.proofs.SafeLemmas.{narrow_left_by, narrow_indent}
 use Rattle.yaml_scan_machine.proofs.machine.Machine.level_at.Goals as goal
 
-pub returns-then-self-gt0-clause-narrow : goal.returns-then-self-gt0-clause-narrow
-returns-then-self-gt0-clause-narrow c =
-    let low = narrow_indent (length (text_bytes c.args.self.now.text) + 1) c.args.self.now.levels c.requires.stands.levels in
-    rw c.indent.ensures low
+pub returns-clause-value : goal.returns-clause-value
+returns-clause-value c = c.indent_of.ensures ∙ ap indent c.requires.left.1
 
 pub returns-clause-narrow : goal.returns-clause-narrow
 returns-clause-narrow c =
-    let n : ℕ = length (text_bytes c.args.self.now.text) + 1 in
-    let low = narrow_indent n (left_of c.keeps.result c.args.self.now.levels) (narrow_left n c.keeps.result c.args.self.now.levels c.requires.stands.levels) in
-    rw c.indent_at.ensures low
+    let m = c.args.self.now in
+    let n : ℕ = length (text_bytes m.text) + 1 in
+    let low = narrow_indent n (left_by c.args.kind m.depth c.args.column m.levels) (narrow_left_by n c.args.kind m.depth c.args.column m.levels c.requires.stands.levels) in
+    subst (λ k. k ≤ n) (sym (c.indent_of.ensures ∙ ap indent c.requires.left.1)) low

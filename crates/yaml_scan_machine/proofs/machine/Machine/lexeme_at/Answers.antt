@@ -8,11 +8,8 @@ moved_end-start-requires c =
     let low = mark_line (text_bytes c.args.self.now.text) c.args.stand.mark c.requires.place in
     omega (arith, low, c.requires.stands.long)
 
-pub level_at-level-requires-clause-column : goal.level_at-level-requires-clause-column
-level_at-level-requires-clause-column c =
-    let low = mark_column (text_bytes c.args.self.now.text) c.args.stand.mark c.requires.place in
-    let less = placed_column c.args.stand.kind c.args.stand.mark in
-    rw c.moved_end-start.ensures (omega (arith, low, less))
+pub level_at-level-requires-clause-left : goal.level_at-level-requires-clause-left
+level_at-level-requires-clause-left c = rw c.moved_end-start.ensures c.requires.left
 
 pub overflow_add-result : goal.overflow_add-result
 overflow_add-result c =

@@ -3,7 +3,7 @@ use Rattle.yaml_scan_model.specs.Marks.{Place, mark_at}
 use Rattle.yaml_scan_decode.specs.DecodedText.{text_bytes}
 use Rattle.yaml_scan_history.specs.Next.{Next}
 use Rattle.yaml_scan_machine.specs.Stands.{Stands}
-use Rattle.yaml_scan_machine.specs.Reads.{GivesNext}
+use Rattle.yaml_scan_machine.specs.Reads.{GivesNext, late}
 use Rattle.yaml_scan_machine.proofs.ComesLemmas.{refused_any}
 use Rattle.yaml_scan_machine.proofs.machine.Machine.next.Goals as goal
 
@@ -26,6 +26,9 @@ of_kind-requires-clause-kind c =
     let AtText : List ℕ → Type 0 = λ t. Stands c.args.kind (nat_lt 0 m.depth) t c.args.spot.mark.index in
     let AtPlace : ℕ → Type 0 = λ p. Stands c.args.kind (nat_lt 0 m.depth) r.text p in
     subst AtPlace (sym at) (subst AtText (sym text) c.requires.stand.kind)
+
+pub of_kind-requires-clause-early : goal.of_kind-requires-clause-early
+of_kind-requires-clause-early c = ap (λ o. late o c.args.spot.mark) c.requires.required ∙ c.requires.stand.early
 
 pub returns-clause-exact : goal.returns-clause-exact
 returns-clause-exact c =

@@ -1,4 +1,4 @@
-use Rattle.std.proofs.Common.{◌≡◌, ℕ, nat_lt, Some, None, Ok, Err, sym, ap, subst, ◌∙◌}
+use Rattle.std.proofs.Common.{◌≡◌, ◌≤◌, ℕ, length, nat_lt, Some, None, Ok, Err, sym, ap, subst, ◌∙◌}
 use Rattle.yaml_scan_model.specs.declared.record.yaml_mark_t.{yaml_mark_t}
 use Rattle.yaml_scan_decode.specs.DecodedText.{text_bytes}
 use Rattle.yaml_scan_history.specs.declared.kind.Kind.{Kind}
@@ -10,7 +10,7 @@ use Rattle.yaml_scan_history.specs.Stepwise.{unless_lost}
 use Rattle.yaml_scan_machine.specs.Stands.{Stands}
 use Rattle.yaml_scan_machine.specs.Shows.{stream_of, history_of}
 use Rattle.yaml_scan_machine.specs.Reads.{GivesNext, lost}
-use Rattle.yaml_scan_machine.proofs.KindLemmas.{kind_machine, wrong_machine, misplaced_gives, lost_gives, err_gives, ok_gives, required_saved, placed_index, placed_start}
+use Rattle.yaml_scan_machine.proofs.KindLemmas.{kind_machine, wrong_machine, misplaced_gives, lost_gives, err_gives, ok_gives, required_saved, placed_index, placed_start, leaves_ends}
 use Rattle.yaml_scan_machine.proofs.machine.Machine.of_kind.Goals as goal
 
 pub returns-then-is_misplaced-clause-exact : goal.returns-then-is_misplaced-clause-exact
@@ -48,6 +48,25 @@ read-requires-clause-kind c =
 pub read-requires-clause-saved : goal.read-requires-clause-saved
 read-requires-clause-saved c = required_saved c.args.stand.kind (placed c.args.stand.kind c.args.stand.mark) c.args.stand.allowed c.args.self.now.depth c.args.self.now.levels c.lexeme_at-lexeme.result c.lexeme_at-lexeme.ensures.value
 
+pub returns-in-Ok-clause-safe : goal.returns-in-Ok-clause-safe
+returns-in-Ok-clause-safe c =
+    let m = c.args.self.now in
+    let k = c.args.stand.kind in
+    let value = c.lexeme_at-lexeme.ensures.value in
+    let e = c.in-Ok.ensures.safe in
+    let n : ℕ = length (text_bytes m.text) in
+    let low : c.lexeme_at-lexeme.result.start.column ≤ n = c.lexeme_at-lexeme.ensures.column in
+    let At : yaml_mark_t → Type 0 = λ y. y.column ≤ n in
+    record {
+      column = subst At (sym e.start) low;
+      depth = e.depth ∙ ap (λ (x : Lexeme). x.depth) value;
+      own = c.own-own.ensures.inside;
+      last = c.own-own.ensures.last;
+      key = c.key-key.ensures.inside;
+      left = leaves_ends k c.args.stand.mark c.args.stand.allowed m.depth m.levels c.left_at-left.result (text_bytes m.text) c.lexeme_at-lexeme.result c.in-Ok.lexeme value e c.left_at-left.ensures;
+      place = λ f. e.place (sym (ap is_end e.kind) ∙ f);
+    }
+
 pub returns-in-Ok-clause-exact : goal.returns-in-Ok-clause-exact
 returns-in-Ok-clause-exact c = λ gap here allow.
     let m = c.args.self.now in
@@ -57,8 +76,8 @@ returns-in-Ok-clause-exact c = λ gap here allow.
     let eq = kind_machine m gap k c.args.stand.mark c.args.reader.now.text c.args.reader.now.at c.args.stand.allowed c.args.required l c.key-key.result c.is_misplaced.result c.requires.stands.shown c.requires.text here c.requires.mark allow c.key-key.ensures.picks c.is_misplaced.ensures c.if-is_misplaced.false c.requires.forward c.requires.required c.requires.early value in
     let none : lost c.args.required l ≡ None = sym c.lost.ensures ∙ c.in_default.is in
     let all = eq ∙ ap (λ o. unless_lost o (text_bytes m.text) l.start.index l (history_of m)) none in
-    subst (λ (x : Next). GivesNext m (Ok record { lexeme = c.in-Ok.lexeme; body = c.in-Ok.body; own = c.own-own.result; key = c.key-key.result }) x) (sym all)
-    (ok_gives m _ record { lexeme = c.in-Ok.lexeme; body = c.in-Ok.body; own = c.own-own.result; key = c.key-key.result } l k c.args.stand.mark c.args.stand.allowed m.levels value c.in-Ok.ensures.exact c.in-Ok.ensures.safe c.own-own.ensures.owns c.key-key.ensures.picks)
+    subst (λ (x : Next). GivesNext m (Ok record { lexeme = c.in-Ok.lexeme; body = c.in-Ok.body; own = c.own-own.result; key = c.key-key.result; left = c.left_at-left.result }) x) (sym all)
+    (ok_gives m _ record { lexeme = c.in-Ok.lexeme; body = c.in-Ok.body; own = c.own-own.result; key = c.key-key.result; left = c.left_at-left.result } l k c.args.stand.mark c.args.stand.allowed m.levels value c.in-Ok.ensures.exact c.in-Ok.ensures.safe c.own-own.ensures.owns c.key-key.ensures.picks)
 
 pub returns-in-Err-clause-exact : goal.returns-in-Err-clause-exact
 returns-in-Err-clause-exact c = λ gap here allow.

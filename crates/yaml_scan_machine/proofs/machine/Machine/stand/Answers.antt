@@ -46,10 +46,9 @@ returns-clause-ok c =
       place = stop_place (text_bytes m.text) q.text q.at c.stop-mark.result kept c.stop-mark.ensures.mark c.stop-mark.ensures.inside c.stop-mark.ensures.whole;
       kind = subst AtPlace (sym index) (subst AtText kept c.in-Some-kind_at.ensures.stands);
       forward = forward_machine m g c.stop-mark.result c.requires.stands.shown (c.requires.stands.place c.requires.more) between spot;
-      required = c.required-required.ensures;
-      early = none;
+      early = ap (λ o. late o c.stop-mark.result) (sym c.required-required.ensures) ∙ none;
       gap = g;
       behind = sym index;
-      allowed = allow_by (fields_of m) g c.allowed_behind-allowed.result c.requires.stands.shown c.allowed_behind-allowed.ensures;
+      allowed = allow_by (fields_of m) g c.allowed_behind.result c.requires.stands.shown c.allowed_behind.ensures;
       next = eq ∙ ap (λ o. unless_missed o (text_bytes m.text) g (history_of m)) none ∙ kind_found (fields_of m) g (Some k) c.requires.stands.shown kind;
     }

@@ -1,28 +1,7 @@
 use Rattle.yaml_scan_machine.proofs.machine.Machine.step_at.Goals as goal
 
-pub next-requires-clause-stands : goal.next-requires-clause-stands
-next-requires-clause-stands c = c.requires.may.stands
+pub required-required-requires-clause-stands : goal.required-required-requires-clause-stands
+required-required-requires-clause-stands c = c.requires.may.stands
 
-pub next-requires-clause-more : goal.next-requires-clause-more
-next-requires-clause-more c = c.requires.may.more
-
-pub next-requires-clause-stand : goal.next-requires-clause-stand
-next-requires-clause-stand c = c.requires.stand
-
-pub take-requires-clause-stands : goal.take-requires-clause-stands
-take-requires-clause-stands c = c.requires.may.stands
-
-pub take-requires-clause-started : goal.take-requires-clause-started
-take-requires-clause-started c = c.requires.may.started
-
-pub take-requires-clause-sought : goal.take-requires-clause-sought
-take-requires-clause-sought c = c.requires.may.sought
-
-pub take-requires-clause-more : goal.take-requires-clause-more
-take-requires-clause-more c = c.requires.may.more
-
-pub take-requires-clause-next : goal.take-requires-clause-next
-take-requires-clause-next c = record { safe = c.in-Ok.ensures.safe; exact = c.in-Ok.ensures.exact }
-
-pub returns-in-Err : goal.returns-in-Err
-returns-in-Err c = ((c.in-Err.error, c.in-Err.ensures.refused, c.put_fault.ensures), c.requires.may.stands.short)
+pub required-required-requires-clause-more : goal.required-required-requires-clause-more
+required-required-requires-clause-more c = c.requires.may.more

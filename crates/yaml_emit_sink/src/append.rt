@@ -34,8 +34,10 @@ fn are_few(output: &Vec<u8>, bytes: &[u8]) -> bool
     bytes.len() <= FEW && bytes.len() <= output.capacity().saturating_sub(output.len())
 }
 
-// These bytes, for which the limit has room, as far as the memory allows, and what becomes of the output.
-pub(crate) fn append_within(output: &mut Vec<u8>, limit: u64, bytes: &[u8]) -> Status
+// These bytes, which may be many, for which the limit has room.
+// Out of line: what it grows the output by would take registers from the few bytes beside it.
+#[inline(never)]
+fn append_many(output: &mut Vec<u8>, limit: u64, bytes: &[u8]) -> Status
     requires { length output.old.items + length bytes.now ≤ limit }
     ensures bytes { AppendsBy result limit output.old.items output.new.items bytes.now }
     ensures within { length output.new.items ≤ limit }
@@ -45,14 +47,26 @@ pub(crate) fn append_within(output: &mut Vec<u8>, limit: u64, bytes: &[u8]) -> S
 {
     // Named in the clauses alone: the caller has asked it.
     let _ = limit;
-    if are_few(output, bytes) {
-        push_each(output, bytes);
-        return Status::Going;
-    }
     match output.extend_from_slice(bytes) {
         Ok(_) => Status::Going,
         Err(_) => Status::Starved,
     }
+}
+
+// These bytes, for which the limit has room, as far as the memory allows, and what becomes of the output.
+pub(crate) fn append_within(output: &mut Vec<u8>, limit: u64, bytes: &[u8]) -> Status
+    requires { length output.old.items + length bytes.now ≤ limit }
+    ensures bytes { AppendsBy result limit output.old.items output.new.items bytes.now }
+    ensures within { length output.new.items ≤ limit }
+    ensures longer { length output.old.items ≤ length output.new.items }
+    ensures going { result ≡ Status.Going → length output.new.items ≡ length output.old.items
+        + length bytes.now }
+{
+    if are_few(output, bytes) {
+        push_each(output, bytes);
+        return Status::Going;
+    }
+    append_many(output, limit, bytes)
 }
 
 // These bytes, as far as the limit and the memory allow, and what becomes of the output.

@@ -146,6 +146,8 @@ impl Sink {
     }
 
     // The same: mostly the output has room, and then no call is needed.
+    // Inlined: a byte and two tests.
+    #[inline(always)]
     fn write(&mut self, c: char, ends: bool, white: bool, bare: bool)
         ensures { Puts self.old self.new (stroke c ends white bare) }
     {
@@ -158,6 +160,8 @@ impl Sink {
     }
 
     /// A character.
+    // Inlined: a byte and two tests.
+    #[inline(always)]
     pub fn put(&mut self, c: char)
         ensures { Puts self.old self.new (char c) }
     {
@@ -281,6 +285,8 @@ impl Sink {
         }
     }
 
+    // Inlined: a byte and two tests.
+    #[inline(always)]
     fn put_blank(&mut self)
         ensures { Puts self.old self.new blank }
     {
@@ -326,6 +332,8 @@ impl Sink {
     }
 
     /// A space, unless white space or what opens a flow collection was written last.
+    // Inlined: mostly none is due.
+    #[inline(always)]
     pub fn put_gap(&mut self)
         ensures { Puts self.old self.new gap }
     {

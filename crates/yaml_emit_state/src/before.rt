@@ -17,6 +17,8 @@ pub fn put_blank_if(sink: &mut Sink, due: bool)
     }
 }
 
+// Inlined: it is a byte, or a test in front of one.
+#[inline(always)]
 fn put_comma(sink: &mut Sink, fresh: bool)
     ensures { Puts sink.old sink.new (comma fresh) }
 {
@@ -26,6 +28,8 @@ fn put_comma(sink: &mut Sink, fresh: bool)
 }
 
 // In flow a line comes past the width alone; in canonical form always.
+// Inlined: it is a byte, or a test in front of one.
+#[inline(always)]
 #[tactic(auto, unfolding(yaml_emit_layout::specs::Nodes::turned))]
 fn put_turn(sink: &mut Sink, settings: &Settings, indent: u64)
     ensures { Puts sink.old sink.new (turned settings.now indent) }
@@ -37,6 +41,8 @@ fn put_turn(sink: &mut Sink, settings: &Settings, indent: u64)
     }
 }
 
+// Inlined: where the form is known it is short.
+#[inline(always)]
 #[tactic(auto, unfolding(yaml_emit_layout::specs::Nodes::before_item))]
 fn put_before_item(sink: &mut Sink, settings: &Settings, flow: bool, indent: u64, fresh: bool)
     ensures { Puts sink.old sink.new (before_item settings.now flow indent fresh) }
@@ -50,6 +56,8 @@ fn put_before_item(sink: &mut Sink, settings: &Settings, flow: bool, indent: u64
     }
 }
 
+// Inlined: it is a byte, or a test in front of one.
+#[inline(always)]
 fn put_question(sink: &mut Sink, flow: bool)
     ensures { Puts sink.old sink.new (question flow) }
 {
@@ -60,6 +68,8 @@ fn put_question(sink: &mut Sink, flow: bool)
     }
 }
 
+// Inlined: it is a byte, or a test in front of one.
+#[inline(always)]
 fn put_question_unless(sink: &mut Sink, flow: bool, simple: bool)
     ensures { Puts sink.old sink.new (when (not simple) (question flow)) }
 {
@@ -68,6 +78,8 @@ fn put_question_unless(sink: &mut Sink, flow: bool, simple: bool)
     }
 }
 
+// Inlined: where the form is known it is short.
+#[inline(always)]
 #[tactic(auto, unfolding(yaml_emit_layout::specs::Nodes::before_key))]
 fn put_before_key(
     sink: &mut Sink,
@@ -88,6 +100,8 @@ fn put_before_key(
     put_question_unless(sink, flow, simple);
 }
 
+// Inlined: where the form is known it is short.
+#[inline(always)]
 #[tactic(auto, unfolding(yaml_emit_layout::specs::Nodes::before_value))]
 fn put_before_value(sink: &mut Sink, settings: &Settings, flow: bool, indent: u64, simple: bool)
     ensures { Puts sink.old sink.new (before_value settings.now flow indent simple) }
@@ -103,6 +117,8 @@ fn put_before_value(sink: &mut Sink, settings: &Settings, flow: bool, indent: u6
     }
 }
 
+// Inlined into its one caller.
+#[inline(always)]
 fn put_before_in(sink: &mut Sink, settings: &Settings, level: Level, simple: bool)
     ensures { Puts sink.old sink.new (before_at settings.now level.phase level.flow level.indent
         simple) }
@@ -128,6 +144,8 @@ fn put_before_in(sink: &mut Sink, settings: &Settings, level: Level, simple: boo
 }
 
 /// What comes before a node in the innermost collection, by whether the node is a simple key.
+// Inlined: where the form is known it is a few bytes and a line.
+#[inline(always)]
 pub fn put_before(sink: &mut Sink, settings: &Settings, top: &Option<Level>, simple: bool)
     ensures { Puts sink.old sink.new (before_node settings.now top.now simple) }
 {

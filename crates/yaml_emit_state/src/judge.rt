@@ -64,6 +64,8 @@ fn tag_problem(canonical: bool, left_out: bool, tag: &Option<Vec<u8>>) -> Option
     }
 }
 
+// Inlined: where the kind is known one arm is left.
+#[inline(always)]
 fn properties_problem(
     canonical: bool,
     anchor: &Option<Vec<u8>>,
@@ -79,6 +81,8 @@ fn properties_problem(
     }
 }
 
+// Inlined: where the kind is known one arm is left.
+#[inline(always)]
 #[tactic(auto, unfolding(yaml_emit_layout::specs::Grammar::event_problem))]
 fn event_problem(canonical: bool, event: &yaml_event_body_t) -> Option<Problem>
     ensures { result ≡ event_problem canonical (emitter_event (body_of event.now)) }
@@ -271,6 +275,8 @@ fn flags_problem(tag: &Option<Vec<u8>>, plain: bool, quoted: bool) -> Option<Pro
     }
 }
 
+// Inlined: where the kind is known one arm is left.
+#[inline(always)]
 #[tactic(auto, unfolding(yaml_emit_layout::specs::Grammar::last_problem))]
 fn last_problem(alloc: Global, event: &yaml_event_body_t) -> Result<Option<Problem>, AllocError>
     ensures problem { IfOk result (λ p. p ≡ last_problem (emitter_event (body_of event.now))) }
@@ -320,6 +326,8 @@ fn ends_phase(phase: Phase, event: &yaml_event_body_t) -> bool
     }
 }
 
+// Inlined: where the kind is known one arm is left.
+#[inline(always)]
 fn may_come(top: Option<Level>, event: &yaml_event_body_t) -> bool
     ensures { result ≡ may_come top (emitter_event (body_of event.now)) }
 {
@@ -329,6 +337,8 @@ fn may_come(top: Option<Level>, event: &yaml_event_body_t) -> bool
     }
 }
 
+// Inlined: where the kind is known one arm is left.
+#[inline(always)]
 fn node_problem(top: Option<Level>, event: &yaml_event_body_t) -> Option<Problem>
     ensures { result ≡ node_problem top (emitter_event (body_of event.now)) }
 {
@@ -339,6 +349,8 @@ fn node_problem(top: Option<Level>, event: &yaml_event_body_t) -> Option<Problem
     }
 }
 
+// Inlined: where the kind is known one arm is left.
+#[inline(always)]
 #[tactic(auto, unfolding(yaml_emit_layout::specs::Grammar::place_problem))]
 fn place_problem(place: Expected, top: Option<Level>, event: &yaml_event_body_t) -> Option<Problem>
     ensures { result ≡ place_problem place top (emitter_event (body_of event.now)) }
@@ -362,6 +374,8 @@ fn place_problem(place: Expected, top: Option<Level>, event: &yaml_event_body_t)
     }
 }
 
+// Inlined: where the kind is known one arm is left.
+#[inline(always)]
 fn late_problem(
     alloc: Global,
     place: Expected,
@@ -381,6 +395,8 @@ fn late_problem(
 
 /// What is wrong with an event, if anything: in canonical form or in pretty form, at a place, in the innermost collection.
 /// Refused only for want of memory, where it opens a document with directives.
+// Inlined: where the kind is known it is a few tests.
+#[inline(always)]
 #[tactic(auto, unfolding(yaml_emit_layout::specs::Grammar::problem_by))]
 pub fn problem_of(
     alloc: Global,

@@ -29,6 +29,8 @@ fn begins_break(value: &[u8], place: usize) -> bool
     }
 }
 
+// Inlined into its one caller.
+#[inline(always)]
 fn has_break(value: &[u8]) -> bool
     ensures { result ≡ has_break value.now }
 {
@@ -77,6 +79,8 @@ fn are_short(a: usize, b: usize, c: usize) -> bool
     a <= 128 && b <= 128 && c <= 128 && a + b + c <= 128
 }
 
+// Inlined into its one caller.
+#[inline(always)]
 #[tactic(auto, unfolding(yaml_emit_layout::specs::Nodes::is_simple_alias))]
 fn is_simple_alias(context: &Context, name: &[u8]) -> bool
     ensures { result ≡ is_simple_alias (lent_context context.now) name.now }
@@ -84,6 +88,8 @@ fn is_simple_alias(context: &Context, name: &[u8]) -> bool
     !context.settings.canonical && name.len() <= 128
 }
 
+// Inlined into its one caller.
+#[inline(always)]
 #[tactic(auto, unfolding(yaml_emit_layout::specs::Nodes::is_simple_scalar))]
 fn is_simple_scalar(context: &Context, scalar: &Scalar) -> bool
     ensures { result ≡ is_simple_scalar (lent_context context.now) (lent_scalar scalar.now) }
@@ -97,6 +103,8 @@ fn is_simple_scalar(context: &Context, scalar: &Scalar) -> bool
         )
 }
 
+// Inlined into its one caller.
+#[inline(always)]
 #[tactic(auto, unfolding(yaml_emit_layout::specs::Nodes::is_simple_start))]
 fn is_simple_start(context: &Context, start: &Start) -> bool
     ensures { result ≡ is_simple_start (lent_context context.now) (lent_start start.now)
@@ -112,6 +120,8 @@ fn is_simple_start(context: &Context, start: &Start) -> bool
 }
 
 // Whether an event may be a simple key. It is long because it has an arm for each kind of event.
+// Inlined: where the kind is known one arm is left.
+#[inline(always)]
 #[tactic(auto, unfolding(yaml_emit_layout::specs::State::is_simple_event))]
 fn is_simple_by(context: &Context, event: &yaml_event_body_t, empty: bool) -> bool
     ensures { result ≡ is_simple_event (lent_context context.now)
@@ -173,6 +183,8 @@ fn is_simple_by(context: &Context, event: &yaml_event_body_t, empty: bool) -> bo
 
 /// Whether a node that begins so is a simple key: an alias, a scalar without breaks or an empty collection, with at most
 /// 128 bytes of anchor, tag and value. Canonical form has none.
+// Inlined: canonical form has none.
+#[inline(always)]
 #[tactic(auto, using(crate::proofs::Canonical::no_keys))]
 pub fn is_simple(context: &Context, event: &yaml_event_body_t, empty: bool) -> bool
     ensures { result ≡ is_simple_event (lent_context context.now)

@@ -139,6 +139,8 @@ fn style_of(context: &Context, spot: Spot, scalar: &Scalar) -> Style
     }
 }
 
+// Inlined: a byte or two, for which there is room.
+#[inline(always)]
 fn put_exclamation_if(sink: &mut Sink, due: bool)
     ensures { Puts sink.old sink.new (when due (word (33 ∷ []))) }
 {
@@ -187,6 +189,8 @@ fn put_lines(sink: &mut Sink, settings: &Settings, spot: Spot, style: Style, val
 }
 
 // A tag, or `!` where it is due in canonical form.
+// Inlined: mostly no tag is there.
+#[inline(always)]
 fn put_tag_or(sink: &mut Sink, context: &Context, tag: &Option<Vec<u8>>, quoted: bool)
     ensures { Puts sink.old sink.new (tag_text (lent_context context.now)
         (text_of tag.now) ▹ when (not (has (text_of tag.now)) && (not quoted && true))
@@ -199,6 +203,8 @@ fn put_tag_or(sink: &mut Sink, context: &Context, tag: &Option<Vec<u8>>, quoted:
 }
 
 // A scalar in canonical form: it is double quoted, and each tag is written.
+// Inlined: mostly it has no property, and is a few bytes round its value.
+#[inline(always)]
 fn put_canonical_scalar(sink: &mut Sink, context: &Context, spot: Spot, scalar: &Scalar)
     requires utf8 { IsUtf8 scalar.now.value.now }
     requires canonical { context.now.settings.now.canonical ≡ true }
@@ -237,6 +243,8 @@ fn put_any_scalar(sink: &mut Sink, context: &Context, spot: Spot, scalar: &Scala
 }
 
 /// A scalar, with its anchor and tag.
+// Inlined: where the form is known one call is left.
+#[inline(always)]
 pub fn put_scalar(sink: &mut Sink, context: &Context, spot: Spot, scalar: &Scalar)
     requires { IsUtf8 scalar.now.value.now }
     ensures { Puts sink.old sink.new (scalar_layout (lent_context context.now) spot

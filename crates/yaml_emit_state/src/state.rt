@@ -5,11 +5,11 @@ ghost use Rattle.yaml_parse_model.specs.Constructors.{HasUtf8};
 mod event;
 mod moves;
 
-use crate::given::{Context, Where};
+use crate::given::{Context, Scalar, Where};
 use crate::judge::problem_of;
 use crate::keys::is_simple;
 use crate::levels::Levels;
-use event::put_event;
+use event::{put_event, put_scalar_node};
 use std::alloc::{AllocError, Global};
 use yaml_emit_layout::Expected;
 use yaml_emit_text::{DirectiveTable, Settings, Sink, Status};
@@ -121,6 +121,7 @@ impl Core {
     // An event in its right place.
     // Inlined into its one caller: no call stands between an event's judgement and its text.
     #[inline(always)]
+    #[tactic(auto, unfolding(yaml_emit_layout::specs::State::text_at, yaml_emit_layout::specs::State::next_at, yaml_emit_layout::specs::State::depth_at))]
     fn take(&mut self, event: &mut yaml_event_body_t, empty: bool)
         requires { HasUtf8 (body_of event.old) }
         ensures { LaysOutRight self.old self.new (emitter_event (body_of event.old)) empty }
@@ -131,18 +132,43 @@ impl Core {
             directives: &self.directives,
         };
         let simple = is_simple(&context, event, empty);
-        let at = Where {
-            place: self.place,
-            top: self.levels.innermost(),
-            simple,
-        };
-        put_event(&mut self.sink, &context, &at, event, empty);
-        self.move_on(&settings, event, empty, simple);
+        let top = self.levels.innermost();
+        match event {
+            yaml_event_body_t::Scalar {
+                anchor,
+                tag,
+                value,
+                plain_implicit,
+                quoted_implicit,
+                style,
+            } => {
+                let scalar = Scalar {
+                    anchor,
+                    tag,
+                    value,
+                    plain: *plain_implicit,
+                    quoted: *quoted_implicit,
+                    style: *style,
+                };
+                put_scalar_node(&mut self.sink, &context, top, simple, &scalar);
+                self.step(simple);
+            }
+            _ => {
+                let at = Where {
+                    place: self.place,
+                    top,
+                    simple,
+                };
+                put_event(&mut self.sink, &context, &at, event, empty);
+                self.move_on(&settings, event, empty, simple);
+            }
+        }
     }
 
-    /// Lays out an event that is no longer held, by whether it opens a collection that the next event closes; or refuses it.
-    /// For want of memory the output stops. What is left of the event counts for nothing.
-    pub fn lay_out(&mut self, event: &mut yaml_event_body_t, empty: bool)
+    // An event is laid out or refused.
+    // Inlined: for scalars in canonical form, of which most is known, and for all else.
+    #[inline(always)]
+    fn lay_by(&mut self, event: &mut yaml_event_body_t, empty: bool)
         requires { HasUtf8 (body_of event.old) }
         ensures { LaysOut self.old self.new (emitter_event (body_of event.old)) empty }
     {
@@ -158,6 +184,40 @@ impl Core {
             }
             Ok(None) => self.take(event, empty),
             Err(refused) => self.starve(refused),
+        }
+    }
+
+    // Out of line: it holds all kinds of events.
+    #[inline(never)]
+    fn lay_any(&mut self, event: &mut yaml_event_body_t, empty: bool)
+        requires { HasUtf8 (body_of event.old) }
+        ensures { LaysOut self.old self.new (emitter_event (body_of event.old)) empty }
+    {
+        self.lay_by(event, empty);
+    }
+
+    // A scalar in canonical form is short where that is known.
+    #[inline(always)]
+    fn lay_scalar(&mut self, event: &mut yaml_event_body_t, empty: bool)
+        requires { HasUtf8 (body_of event.old) }
+        ensures { LaysOut self.old self.new (emitter_event (body_of event.old)) empty }
+    {
+        if self.settings.canonical {
+            self.lay_by(event, empty);
+        } else {
+            self.lay_any(event, empty);
+        }
+    }
+
+    /// Lays out an event that is no longer held, by whether it opens a collection that the next event closes; or refuses it.
+    /// For want of memory the output stops. What is left of the event counts for nothing.
+    pub fn lay_out(&mut self, event: &mut yaml_event_body_t, empty: bool)
+        requires { HasUtf8 (body_of event.old) }
+        ensures { LaysOut self.old self.new (emitter_event (body_of event.old)) empty }
+    {
+        match event {
+            yaml_event_body_t::Scalar { .. } => self.lay_scalar(event, empty),
+            _ => self.lay_any(event, empty),
         }
     }
 }

@@ -87,7 +87,41 @@ fn most_kept(watch: &Watch) -> usize {
     }
 }
 
-// Gives the event in the slot, normalized, sees what it tells of the shape, and keeps what it says.
+// Gives the event in the slot, sees what it tells of the shape, and keeps what it says.
+// Out of line: it holds what the shape and each kind say, beside the short way.
+#[inline(never)]
+fn give_seen(emitter: &mut yaml_emitter_t, watch: &mut Watch, event: &mut yaml_event_t)
+    requires { HasUtf8 (event_of event.old).body }
+    ensures takes { TakesEvents emitter.old (emitter_event (event_of event.old).body ∷ [])
+        emitter.new [] }
+    ensures seen { Sees watch.old (event_of event.old).body watch.new }
+{
+    watch.shape = seen_with(watch.shape, event);
+    let most = most_kept(watch);
+    keep(&mut watch.kept, event, most);
+    give(emitter, event);
+}
+
+// The same. Where nothing is kept and the shape is known, there is nothing to see.
+// Inlined: two tests an event.
+#[inline(always)]
+#[tactic(auto, unfolding(yaml_round_shape::specs::Seen::seen))]
+fn give_on(emitter: &mut yaml_emitter_t, watch: &mut Watch, event: &mut yaml_event_t)
+    requires { HasUtf8 (event_of event.old).body }
+    ensures takes { TakesEvents emitter.old (emitter_event (event_of event.old).body ∷ [])
+        emitter.new [] }
+    ensures seen { Sees watch.old (event_of event.old).body watch.new }
+{
+    match watch.kept {
+        None => match watch.shape {
+            Shape::Other => give(emitter, event),
+            Shape::Json { .. } => give_seen(emitter, watch, event),
+        },
+        Some(_) => give_seen(emitter, watch, event),
+    }
+}
+
+// The same of the event, normalized.
 fn give_normalized(emitter: &mut yaml_emitter_t, watch: &mut Watch, event: &mut yaml_event_t)
     requires { HasUtf8 (event_of event.old).body }
     ensures takes { TakesEvents emitter.old (emitter_event
@@ -96,10 +130,7 @@ fn give_normalized(emitter: &mut yaml_emitter_t, watch: &mut Watch, event: &mut 
         watch.new }
 {
     normalize_event(event, watch.canonical);
-    watch.shape = seen_with(watch.shape, event);
-    let most = most_kept(watch);
-    keep(&mut watch.kept, event, most);
-    give(emitter, event);
+    give_on(emitter, watch, event);
 }
 
 /// Writes the events while the text has at most so many bytes. True at the end of the events. A fault of theirs is the

@@ -35,7 +35,9 @@ fn put_alias_node(
 }
 
 // A scalar in the innermost collection, with what comes before it.
-fn put_scalar_node(
+// Inlined: most events are scalars.
+#[inline(always)]
+pub(super) fn put_scalar_node(
     sink: &mut Sink,
     context: &Context,
     top: &Option<Level>,
@@ -70,6 +72,8 @@ fn put_start_node(
 
 /// What is written for an event in its right place, but for the depth, by whether it opens a collection that the next event closes,
 /// and by whether it is a simple key. It is long because it has an arm for each kind of event.
+// Inlined: where the kind is known one arm is left.
+#[inline(always)]
 #[tactic(auto, unfolding(yaml_emit_layout::specs::State::text_at))]
 pub fn put_event(
     sink: &mut Sink,

@@ -39,7 +39,9 @@ fn first_phase(sequence: bool) -> Phase
 
 impl Core {
     // Behind a node.
-    fn step(&mut self, simple: bool)
+    // Inlined: a phase and a place.
+    #[inline(always)]
+    pub(super) fn step(&mut self, simple: bool)
         ensures state { state_of self.new ≡ among (state_of self.old).directives
             (levels_behind (state_of self.old).levels simple) }
         ensures same { StaysBut self.old self.new }
@@ -48,6 +50,8 @@ impl Core {
         self.place = place_behind(self.levels.top());
     }
 
+    // Inlined into its one caller.
+    #[inline(always)]
     fn close(&mut self)
         ensures state { state_of self.new ≡ among (state_of self.old).directives
             (outer_of (state_of self.old).levels) }
@@ -170,6 +174,8 @@ impl Core {
     }
 
     // The state behind an event other than a document's start.
+    // Inlined into its one caller.
+    #[inline(always)]
     #[tactic(auto, unfolding(yaml_emit_layout::specs::State::next_at, yaml_emit_layout::specs::State::depth_at))]
     fn move_by(&mut self, settings: &Settings, event: &yaml_event_body_t, empty: bool, simple: bool)
         requires other { is_document_start (emitter_event (body_of event.now)) ≡ false }
@@ -206,6 +212,8 @@ impl Core {
 
     /// The state behind an event that was written, by the settings in force, by whether the event opens a collection that the next
     /// one closes, and by whether it is a simple key. What is left of the event counts for nothing.
+    // Inlined: where the kind is known one arm is left.
+    #[inline(always)]
     #[tactic(auto, unfolding(yaml_emit_layout::specs::State::next_at, yaml_emit_layout::specs::State::depth_at))]
     pub(super) fn move_on(
         &mut self,

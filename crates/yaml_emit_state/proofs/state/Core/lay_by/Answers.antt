@@ -1,5 +1,5 @@
 use Rattle.yaml_emit_state.proofs.Noting.{notes_starved, notes_any}
-use Rattle.yaml_emit_state.proofs.state.Core.lay_out.Goals as goal
+use Rattle.yaml_emit_state.proofs.state.Core.lay_by.Goals as goal
 
 pub returns-in-Err : goal.returns-in-Err
 returns-in-Err c = record {

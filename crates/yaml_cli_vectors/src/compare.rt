@@ -32,18 +32,11 @@ pub enum Outcome {
     Failed(String),
 }
 
-fn is(want: &Value, got: Option<&Value>) -> bool {
-    match got {
-        Some(got) => *want == *got,
-        None => false,
-    }
-}
-
 // Whether both have the same there, or neither has anything.
 fn has(line: &Value, got: &Value, name: &'static str) -> bool {
-    match line.get(name) {
-        Some(want) => is(want, got.get(name)),
-        None => got.get(name).is_none(),
+    match (line.get(name), got.get(name)) {
+        (Some(want), Some(got)) => *want == *got,
+        (want, got) => want.is_none() && got.is_none(),
     }
 }
 
@@ -57,18 +50,14 @@ fn first_wrong(line: &Value, got: &Value) -> Option<&'static str> {
     None
 }
 
-// Tells the field, and all that was answered; what the line wants stands in the line.
-fn failed(alloc: Global, call: &str, name: &str, got: &Value) -> Result<Outcome, VectorError> {
-    match format!(in alloc; "{call}: `{name}` is another in {got}") {
-        Ok(told) => Ok(Outcome::Failed(told)),
-        Err(_) => Err(VectorError::Memory),
-    }
-}
-
+// Of a field that is another all that was answered is told; what the line wants stands in the line.
 fn judged(alloc: Global, call: &str, line: &Value, got: &Value) -> Result<Outcome, VectorError> {
     match first_wrong(line, got) {
         None => Ok(Outcome::Passed),
-        Some(name) => failed(alloc, call, name, got),
+        Some(name) => match format!(in alloc; "{call}: `{name}` is another in {got}") {
+            Ok(told) => Ok(Outcome::Failed(told)),
+            Err(_) => Err(VectorError::Memory),
+        },
     }
 }
 

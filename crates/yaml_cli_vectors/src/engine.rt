@@ -9,30 +9,13 @@ use yaml_round::{
     yaml_events, yaml_fault_line, yaml_fault_t, yaml_reformat, yaml_reload, yaml_same,
     yaml_settings_t, yaml_side_t,
 };
-use yaml_scan::yaml_encoding_t;
-
-fn put_events(reply: &mut Reply, input: &[u8], from: yaml_encoding_t) {
-    match yaml_events(reply.alloc(), input, from) {
-        Ok(text) => reply.answer(text.as_slice()),
-        Err(fault) => reply.fault(fault),
-    }
-}
 
 /// The event lines of the line's input.
 pub fn events(reply: &mut Reply, line: &Value) {
     let from = reply.encoding(line, "from");
     let input = input_of(reply, line, "input");
-    put_events(reply, input.as_slice(), from);
-}
-
-fn put_reformatted(reply: &mut Reply, line: &Value, given: &Given) {
-    match yaml_reformat(
-        reply.alloc(),
-        given.input.as_slice(),
-        given.from,
-        &given.settings,
-    ) {
-        Ok((text, form)) => put_answer(reply, line, text.as_slice(), Some(form)),
+    match yaml_events(reply.alloc(), input.as_slice(), from) {
+        Ok(text) => reply.answer(text.as_slice()),
         Err(fault) => reply.fault(fault),
     }
 }
@@ -40,17 +23,9 @@ fn put_reformatted(reply: &mut Reply, line: &Value, given: &Given) {
 /// The text of the line's input under its settings, and the form that it has.
 pub fn reformat(reply: &mut Reply, line: &Value) {
     let given = given_of(reply, line);
-    put_reformatted(reply, line, &given);
-}
-
-fn put_reloaded(reply: &mut Reply, line: &Value, given: &Given) {
-    match yaml_reload(
-        reply.alloc(),
-        given.input.as_slice(),
-        given.from,
-        &given.settings,
-    ) {
-        Ok(text) => put_answer(reply, line, text.as_slice(), None),
+    let input = given.input.as_slice();
+    match yaml_reformat(reply.alloc(), input, given.from, &given.settings) {
+        Ok((text, form)) => put_answer(reply, line, text.as_slice(), Some(form)),
         Err(fault) => reply.fault(fault),
     }
 }
@@ -58,7 +33,11 @@ fn put_reloaded(reply: &mut Reply, line: &Value, given: &Given) {
 /// The text of the documents of the line's input, under its settings.
 pub fn reload(reply: &mut Reply, line: &Value) {
     let given = given_of(reply, line);
-    put_reloaded(reply, line, &given);
+    let input = given.input.as_slice();
+    match yaml_reload(reply.alloc(), input, given.from, &given.settings) {
+        Ok(text) => put_answer(reply, line, text.as_slice(), None),
+        Err(fault) => reply.fault(fault),
+    }
 }
 
 fn side_word(side: yaml_side_t) -> &'static str {
@@ -68,46 +47,34 @@ fn side_word(side: yaml_side_t) -> &'static str {
     }
 }
 
-fn put_side(reply: &mut Reply, line: &Value, side: yaml_side_t, fault: &yaml_fault_t) {
+// Puts what comparing answered.
+fn put_same(reply: &mut Reply, line: &Value, same: Result<bool, (yaml_side_t, yaml_fault_t)>) {
     reply.begin();
-    reply.name("side");
-    reply.put_word(side_word(side));
-    reply.name_fault(line, fault);
-    reply.end();
-}
-
-fn put_same(reply: &mut Reply, same: bool) {
-    reply.begin();
-    reply.name("answer");
-    reply.put_flag(same);
-    reply.end();
-}
-
-// Compares the inputs, which have those encodings.
-fn put_compared(
-    reply: &mut Reply,
-    line: &Value,
-    first: &[u8],
-    second: &[u8],
-    encodings: (yaml_encoding_t, yaml_encoding_t),
-) {
-    match yaml_same(reply.alloc(), first, encodings.0, second, encodings.1) {
-        Ok(same) => put_same(reply, same),
-        Err((side, fault)) => put_side(reply, line, side, &fault),
+    match same {
+        Ok(same) => reply.check("answer", same),
+        Err((side, fault)) => {
+            reply.name("side");
+            reply.put_word(side_word(side));
+            reply.name_fault(line, &fault);
+        }
     }
-}
-
-fn put_compared_with(reply: &mut Reply, line: &Value, first: &[u8]) {
-    let from = reply.encoding(line, "from");
-    let from2 = reply.encoding(line, "from2");
-    let second = input_of(reply, line, "input2");
-    put_compared(reply, line, first, second.as_slice(), (from, from2));
+    reply.end();
 }
 
 /// Whether the line's inputs have the same content, or the side that is refused and its fault.
 pub fn same(reply: &mut Reply, line: &Value) {
+    let from = reply.encoding(line, "from");
+    let from2 = reply.encoding(line, "from2");
     let first = input_of(reply, line, "input");
-    put_compared_with(reply, line, first.as_slice());
+    let second = input_of(reply, line, "input2");
+    let same = yaml_same(
+        reply.alloc(),
+        first.as_slice(),
+        from,
+        second.as_slice(),
+        from2,
+    );
+    put_same(reply, line, same);
 }
 
 /// The line that tells the fault.
@@ -118,49 +85,39 @@ pub fn put_line(reply: &mut Reply, fault: &yaml_fault_t) {
     }
 }
 
-// The line of the fault that the input has, or null.
-fn put_line_of(reply: &mut Reply, input: &[u8], from: yaml_encoding_t) {
-    match yaml_reformat(reply.alloc(), input, from, &yaml_settings_t::new()) {
-        Ok(_) => reply.put_null(),
-        Err(fault) => put_line(reply, &fault),
-    }
-}
-
 /// The line that tells the fault of the line's input; null where there is none.
 pub fn fault_line(reply: &mut Reply, line: &Value) {
     let from = reply.encoding(line, "from");
     let input = input_of(reply, line, "input");
     reply.begin();
     reply.name("answer");
-    put_line_of(reply, input.as_slice(), from);
-    reply.end();
-}
-
-// What was being read, where the line says that something was.
-fn context_of(reply: &mut Reply, fields: &Value) -> Option<&'static str> {
-    if reply.flag(fields, "context") {
-        Some("y")
-    } else {
-        None
+    match yaml_reformat(
+        reply.alloc(),
+        input.as_slice(),
+        from,
+        &yaml_settings_t::new(),
+    ) {
+        Ok(_) => reply.put_null(),
+        Err(fault) => put_line(reply, &fault),
     }
-}
-
-// The line of the fault that has those fields. Its texts are the program's own.
-fn put_told(reply: &mut Reply, fields: &Value) {
-    let context = context_of(reply, fields);
-    let fault = yaml_fault_t {
-        problem: "x",
-        context,
-        ..own_fault(reply, fields)
-    };
-    put_line(reply, &fault);
+    reply.end();
 }
 
 /// The line that tells a fault with the line's fields, whose problem is `x`, met while `y` was being read, or nothing.
 pub fn told(reply: &mut Reply, line: &Value) {
     let fields = reply.value(line, "own");
+    let context = if reply.flag(fields, "context") {
+        Some("y")
+    } else {
+        None
+    };
+    let fault = yaml_fault_t {
+        problem: "x",
+        context,
+        ..own_fault(reply, fields)
+    };
     reply.begin();
     reply.name("answer");
-    put_told(reply, fields);
+    put_line(reply, &fault);
     reply.end();
 }

@@ -24,20 +24,15 @@ fn push_piece(reply: &mut Reply, piece: &Value, bytes: &mut Vec<u8>) {
     }
 }
 
-fn joined(reply: &mut Reply, pieces: &[Value]) -> Vec<u8> {
-    let mut bytes = Vec::new(reply.alloc());
-    for piece in pieces {
-        push_piece(reply, piece, &mut bytes);
-    }
-    bytes
-}
-
 /// The input in that field: bytes in hexadecimal digits, or a list of pieces, each with how often it is repeated.
 pub fn input_of(reply: &mut Reply, line: &Value, name: &'static str) -> Vec<u8> {
     let input = reply.value(line, name);
     if input.is_array() {
-        let pieces = reply.list(line, name);
-        joined(reply, pieces)
+        let mut bytes = Vec::new(reply.alloc());
+        for piece in reply.list(line, name) {
+            push_piece(reply, piece, &mut bytes);
+        }
+        bytes
     } else {
         reply.bytes(line, name)
     }

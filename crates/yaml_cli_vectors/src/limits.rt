@@ -6,27 +6,23 @@ use serde_json::Value;
 use std::alloc::Global;
 use yaml_round::{yaml_error_type_t, yaml_fault_t, yaml_reformat, yaml_reload, yaml_settings_t};
 
-// Makes the call under the settings, and lets its text go.
+// The fault that the call answers under the settings.
 fn call(
     alloc: Global,
     of: &str,
     given: &Given,
     settings: &yaml_settings_t,
-) -> Result<(), yaml_fault_t> {
+) -> Option<yaml_fault_t> {
     match of {
-        "reload" => yaml_reload(alloc, given.input.as_slice(), given.from, settings).map(drop),
-        _ => yaml_reformat(alloc, given.input.as_slice(), given.from, settings).map(drop),
+        "reload" => yaml_reload(alloc, given.input.as_slice(), given.from, settings).err(),
+        _ => yaml_reformat(alloc, given.input.as_slice(), given.from, settings).err(),
     }
 }
 
-// Whether the text has more bytes than its limit.
-fn is_past_limit(fault: &yaml_fault_t) -> bool {
-    fault.kind == yaml_error_type_t::YAML_WRITER_ERROR && fault.problem == "write error"
-}
-
-// Whether that refusal is one by the limit. Any other is kept.
+// Whether that refusal is one by the limit: that the text has more bytes. Any other is kept.
 fn is_limit(reply: &mut Reply, fault: yaml_fault_t) -> bool {
-    let is_past = is_past_limit(&fault);
+    let is_past = fault.kind == yaml_error_type_t::YAML_WRITER_ERROR
+        && fault.problem == "write error";
     if !is_past {
         reply.fault(fault);
     }
@@ -40,8 +36,8 @@ fn is_refused(reply: &mut Reply, of: &str, given: &Given, limit: u64) -> bool {
         ..given.settings
     };
     match call(reply.alloc(), of, given, &settings) {
-        Ok(()) => false,
-        Err(fault) => is_limit(reply, fault),
+        None => false,
+        Some(fault) => is_limit(reply, fault),
     }
 }
 

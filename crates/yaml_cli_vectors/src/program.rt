@@ -41,30 +41,23 @@ fn words_of<'a>(reply: &mut Reply, line: &'a Value) -> Vec<&'a str> {
     words
 }
 
-// What was written, or whether something was where the line wants that.
-fn put_output(reply: &mut Reply, line: &Value, output: &[u8]) {
-    reply.name("output");
-    match line.get("output") {
-        Some(Value::Bool(_)) => reply.put_flag(!output.is_empty()),
-        _ => reply.put_bytes(output),
+// What stands there, or whether something does where the line wants that.
+fn put_text(reply: &mut Reply, line: &Value, name: &'static str, text: &[u8], is_utf8: bool) {
+    reply.name(name);
+    match line.get(name) {
+        Some(Value::Bool(_)) => reply.put_flag(!text.is_empty()),
+        _ if is_utf8 => reply.put_utf8(text),
+        _ => reply.put_bytes(text),
     }
 }
 
-// What was told, or whether something was where the line wants that.
-fn put_errors(reply: &mut Reply, line: &Value, errors: &[u8]) {
-    reply.name("errors");
-    match line.get("errors") {
-        Some(Value::Bool(_)) => reply.put_flag(!errors.is_empty()),
-        _ => reply.put_utf8(errors),
-    }
-}
-
+// The status, what was written, and what was told.
 fn put_answer(reply: &mut Reply, line: &Value, status: u8, output: &[u8], errors: &[u8]) {
     reply.begin();
     reply.name("status");
     reply.put_count(u64::from(status));
-    put_output(reply, line, output);
-    put_errors(reply, line, errors);
+    put_text(reply, line, "output", output, false);
+    put_text(reply, line, "errors", errors, true);
     reply.end();
 }
 
@@ -75,7 +68,13 @@ fn put_run(rt: &HostRuntime, reply: &mut Reply, line: &Value, words: &[&str], st
     let mut output = ScriptedWriter::new(rt.alloc(), streams.writes.as_slice(), streams.unflushed);
     let mut errors = ScriptedWriter::new(rt.alloc(), streams.tells.as_slice(), false);
     let status = yaml_main(rt, words, &mut input, &mut output, &mut errors);
-    put_answer(reply, line, status, output.received(), errors.received());
+    put_answer(
+        reply,
+        line,
+        status,
+        output.received.as_slice(),
+        errors.received.as_slice(),
+    );
 }
 
 /// The status that the program ends with on the line's words, what it writes, and what it tells.

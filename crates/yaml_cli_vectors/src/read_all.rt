@@ -28,19 +28,15 @@ fn put_read(reply: &mut Reply, line: &Value, read: &Answered) {
     }
 }
 
-fn put_list(reply: &mut Reply, sizes: &[usize]) {
-    reply.begin_list();
-    for size in sizes {
-        reply.put_count(*size as u64);
-    }
-    reply.end_list();
-}
-
 // How many bytes the reader was asked for, where the line wants that.
 fn put_sizes(reply: &mut Reply, line: &Value, sizes: &[usize]) {
     if line.get("sizes").is_some() {
         reply.name("sizes");
-        put_list(reply, sizes);
+        reply.begin_list();
+        for size in sizes {
+            reply.put_count(*size as u64);
+        }
+        reply.end_list();
     }
 }
 
@@ -49,7 +45,7 @@ fn put_all(reply: &mut Reply, line: &Value, bytes: &[u8], steps: &[Step], limit:
     let read = read_to_end(reply.alloc(), &mut reader, limit);
     reply.begin();
     put_read(reply, line, &read);
-    put_sizes(reply, line, reader.sizes());
+    put_sizes(reply, line, reader.sizes.as_slice());
     reply.end();
 }
 

@@ -48,18 +48,14 @@ fn answer(rt: &HostRuntime, reply: &mut Reply, call: &str, line: &Value) {
     }
 }
 
-// The line that tells the fault, where the vector wants it.
-fn put_told(reply: &mut Reply, line: &Value, fault: &yaml_fault_t) {
+// The fault, and the line that tells it where the vector wants that.
+fn put_refusal(reply: &mut Reply, line: &Value, fault: &yaml_fault_t) {
+    reply.begin();
+    reply.name_fault(line, fault);
     if line.get("fault_line").is_some() {
         reply.name("fault_line");
         put_line(reply, fault);
     }
-}
-
-fn put_refusal(reply: &mut Reply, line: &Value, fault: &yaml_fault_t) {
-    reply.begin();
-    reply.name_fault(line, fault);
-    put_told(reply, line, fault);
     reply.end();
 }
 
@@ -83,17 +79,13 @@ fn whole_answer(rt: &HostRuntime, call: &str, line: &Value) -> Result<Vec<u8>, V
     }
 }
 
-fn compared(rt: &HostRuntime, call: &str, line: &Value) -> Result<Outcome, VectorError> {
-    match whole_answer(rt, call, line) {
-        Ok(text) => compare(rt.alloc(), call, line, text.as_slice()),
-        Err(error) => Err(error),
-    }
-}
-
 fn replay_line(rt: &HostRuntime, line: &Value) -> Result<Outcome, VectorError> {
-    match line.get("call").and_then(Value::as_str) {
-        Some(call) => compared(rt, call, line),
-        None => Err(VectorError::Field("call")),
+    match line.get("call") {
+        Some(Value::String(call)) => match whole_answer(rt, call.as_str(), line) {
+            Ok(text) => compare(rt.alloc(), call.as_str(), line, text.as_slice()),
+            Err(error) => Err(error),
+        },
+        _ => Err(VectorError::Field("call")),
     }
 }
 

@@ -27,14 +27,6 @@ pub fn refusal_word(fault: &yaml_run_fault_t) -> &'static str {
     }
 }
 
-// A fault of the input, or another refusal.
-fn put_fault(reply: &mut Reply, fault: &yaml_run_fault_t) {
-    match fault {
-        yaml_run_fault_t::Yaml(fault) => reply.fault(*fault),
-        fault => reply.refusal(refusal_word(fault)),
-    }
-}
-
 type Ended = Result<Option<yaml_form_t>, yaml_run_fault_t>;
 
 // The text that the command makes of the input, behind which stands its form.
@@ -60,7 +52,8 @@ fn run_over(
 fn put_ended(reply: &mut Reply, line: &Value, text: &[u8], ended: &Ended) {
     match ended {
         Ok(form) => put_answer(reply, line, text, *form),
-        Err(fault) => put_fault(reply, fault),
+        Err(yaml_run_fault_t::Yaml(fault)) => reply.fault(*fault),
+        Err(fault) => reply.refusal(refusal_word(fault)),
     }
 }
 

@@ -19,26 +19,13 @@ pub enum Step {
     Failure,
 }
 
-fn step_of(word: &str) -> Option<Step> {
-    match word {
-        "zero" => Some(Step::Zero),
-        "failure" => Some(Step::Failure),
-        _ => None,
-    }
-}
-
-fn named_step(reply: &mut Reply, listed: &Value) -> Step {
-    match listed.as_str().and_then(step_of) {
-        Some(step) => step,
-        None => Step::Interrupted(reply.count(listed, "interrupted") as usize),
-    }
-}
-
 // A number of bytes, a word, or how often a call is interrupted.
 fn listed_step(reply: &mut Reply, listed: &Value) -> Step {
-    match listed.as_u64() {
-        Some(count) => Step::Bytes(count as usize),
-        None => named_step(reply, listed),
+    match (listed.as_u64(), listed.as_str()) {
+        (Some(count), _) => Step::Bytes(count as usize),
+        (_, Some("zero")) => Step::Zero,
+        (_, Some("failure")) => Step::Failure,
+        _ => Step::Interrupted(reply.count(listed, "interrupted") as usize),
     }
 }
 
@@ -128,7 +115,8 @@ fn behind(bytes: &[u8], count: usize) -> &[u8] {
 pub struct ScriptedReader<'a> {
     rest: &'a [u8],
     script: Script<'a>,
-    sizes: Vec<usize>,
+    /// How many bytes it was asked for, call by call.
+    pub sizes: Vec<usize>,
 }
 
 impl<'a> ScriptedReader<'a> {
@@ -139,11 +127,6 @@ impl<'a> ScriptedReader<'a> {
             script: Script::new(steps),
             sizes: Vec::new(alloc),
         }
-    }
-
-    /// How many bytes it was asked for, call by call.
-    pub fn sizes(&self) -> &[usize] {
-        self.sizes.as_slice()
     }
 }
 
@@ -175,7 +158,8 @@ impl Read for ScriptedReader<'_> {
 pub struct ScriptedWriter<'a> {
     script: Script<'a>,
     flush_fails: bool,
-    received: Vec<u8>,
+    /// The bytes that were taken.
+    pub received: Vec<u8>,
 }
 
 impl<'a> ScriptedWriter<'a> {
@@ -186,11 +170,6 @@ impl<'a> ScriptedWriter<'a> {
             flush_fails,
             received: Vec::new(alloc),
         }
-    }
-
-    /// The bytes that were taken.
-    pub fn received(&self) -> &[u8] {
-        self.received.as_slice()
     }
 }
 

@@ -15,28 +15,20 @@ pub fn put_text(reply: &mut Reply, line: &Value, text: &[u8]) {
     }
 }
 
-fn form_word(form: yaml_form_t) -> &'static str {
-    match form {
-        yaml_form_t::Canonical => "Canonical",
-        yaml_form_t::Pretty => "Pretty",
-    }
-}
-
-// The form, where the answer has one.
-fn put_form(reply: &mut Reply, form: Option<yaml_form_t>) {
-    match form {
-        Some(form) => {
-            reply.name("form");
-            reply.put_word(form_word(form));
-        }
-        None => {}
-    }
-}
-
-/// The text, and the form that it has.
+/// The text, and the form that it has, where it has one.
 pub fn put_answer(reply: &mut Reply, line: &Value, text: &[u8], form: Option<yaml_form_t>) {
     reply.begin();
     put_text(reply, line, text);
-    put_form(reply, form);
+    match form {
+        Some(yaml_form_t::Canonical) => {
+            reply.name("form");
+            reply.put_word("Canonical");
+        }
+        Some(yaml_form_t::Pretty) => {
+            reply.name("form");
+            reply.put_word("Pretty");
+        }
+        None => {}
+    }
     reply.end();
 }

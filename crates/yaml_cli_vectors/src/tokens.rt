@@ -6,20 +6,17 @@ use serde_json::Value;
 fn put_token(reply: &mut Reply, token: &Value) {
     let token = read_token(reply, token);
     show_token(reply, &token);
-}
-
-fn put_tokens(reply: &mut Reply, line: &Value) {
-    reply.begin_list();
-    for token in reply.list(line, "tokens") {
-        put_token(reply, token);
-    }
-    reply.end_list();
+    drop(token);
 }
 
 /// The line's tokens, read and written again.
 pub fn tokens(reply: &mut Reply, line: &Value) {
     reply.begin();
     reply.name("answer");
-    put_tokens(reply, line);
+    reply.begin_list();
+    for token in reply.list(line, "tokens") {
+        put_token(reply, token);
+    }
+    reply.end_list();
     reply.end();
 }

@@ -8,250 +8,203 @@ const MOST_COLUMNS: i64 = 2_147_483_647;
 
 const MOST_BYTES: i64 = 1_099_511_627_776;
 
-// Arguments and commands are made two steps at a time, since each step is proved with all that was made before it.
-
-fn named_arg<'a>(alloc: Global, name: &'a str, help: &'a str) -> Arg<'a> {
-    Arg::new(alloc, name).help(help)
+// What a command is told behind its name.
+#[derive(Clone, Copy)]
+enum Takes {
+    // A file, and how its text is written in canonical or pretty form.
+    Styles,
+    // A file, and how its documents are written.
+    Layout,
+    // A file.
+    File,
+    // Two files.
+    Files,
 }
 
-// A word that stands by itself.
-fn place_arg<'a>(alloc: Global, name: &'a str, value: &'a str, help: &'a str) -> Arg<'a> {
-    named_arg(alloc, name, help).value_name(value)
+// The arguments of a command. They are lent to what adds one after another, and want of memory is kept, so that none of that
+// owns anything or has an exit: each function that owns a command or may end before it is done is dear to prove.
+#[derive(Drop)]
+struct Args<'a> {
+    alloc: Global,
+    list: Vec<Arg<'a>>,
+    wrong: Option<AllocError>,
 }
 
-// The same, and it has to be there.
-fn needed_arg<'a>(alloc: Global, name: &'a str, value: &'a str, help: &'a str) -> Arg<'a> {
-    place_arg(alloc, name, value, help).required(true)
+impl<'a> Args<'a> {
+    fn put(&mut self, arg: Arg<'a>) {
+        match self.list.push(arg) {
+            Ok(()) => {}
+            Err(failed) => self.wrong = Some(AllocError::from(failed)),
+        }
+    }
+
+    // A word that stands by itself.
+    fn put_place(&mut self, name: &'a str, value: &'a str, help: &'a str, is_needed: bool) {
+        let arg = Arg::new(self.alloc, name).help(help).value_name(value);
+        self.put(arg.required(is_needed));
+    }
+
+    // An option with a value.
+    fn put_word(&mut self, name: &'a str, value: &'a str, help: &'a str, usual: &'a str) {
+        let arg = Arg::new(self.alloc, name).help(help).value_name(value);
+        self.put(arg.long(name).default_value(usual));
+    }
+
+    // The same, which is a number of columns.
+    fn put_columns(&mut self, name: &'a str, help: &'a str, usual: &'a str) {
+        let arg = Arg::new(self.alloc, name).help(help).value_name("COLUMNS");
+        let arg = arg.long(name).default_value(usual);
+        self.put(arg.value_parser(value_parser!(i32).range(0..=MOST_COLUMNS)));
+    }
+
+    fn put_limit(&mut self) {
+        let arg = Arg::new(self.alloc, "limit").help("How many bytes the output may have");
+        let arg = arg
+            .value_name("BYTES")
+            .long("limit")
+            .default_value("1099511627776");
+        self.put(arg.value_parser(value_parser!(u64).range(0..=MOST_BYTES)));
+    }
+
+    // An option without a value.
+    fn put_flag(&mut self, name: &'a str, help: &'a str) {
+        let arg = Arg::new(self.alloc, name).help(help).long(name);
+        self.put(arg.action(ArgAction::SetTrue));
+    }
+
+    fn put_from(&mut self) {
+        let help = "How the input is encoded: auto, utf8, utf16le or utf16be";
+        self.put_word("from", "ENCODING", help, "auto");
+    }
+
+    fn put_file(&mut self) {
+        let help = "The file to read, in place of standard input";
+        self.put_place("file", "FILE", help, false);
+        self.put_from();
+    }
+
+    fn put_files(&mut self) {
+        self.put_place("first", "A", "The file to compare", true);
+        self.put_place("second", "B", "The file that it is compared with", true);
+        self.put_from();
+    }
+
+    fn put_layout(&mut self) {
+        let folds = "The column behind which lines are folded";
+        let encodes = "How the output is encoded: utf8, utf16le or utf16be";
+        self.put_columns("indent", "Columns of a level, 2 to 9", "2");
+        self.put_columns("width", folds, "80");
+        self.put_flag("ascii", "Escape all characters that aren't ASCII");
+        self.put_word("break", "BREAK", "How lines end: lf, cr or crlf", "lf");
+        self.put_word("encoding", "ENCODING", encodes, "utf8");
+        self.put_limit();
+    }
+
+    fn put_styles(&mut self) {
+        self.put_flag(
+            "pretty",
+            "Keep the styles, where the text then reads the same",
+        );
+        self.put_layout();
+    }
+
+    fn put_all(&mut self, takes: Takes) {
+        match takes {
+            Takes::Styles => {
+                self.put_file();
+                self.put_styles();
+            }
+            Takes::Layout => {
+                self.put_file();
+                self.put_layout();
+            }
+            Takes::File => self.put_file(),
+            Takes::Files => self.put_files(),
+        }
+    }
+
+    fn finish(self) -> Result<Vec<Arg<'a>>, AllocError> {
+        match self.wrong {
+            Some(error) => Err(error),
+            None => Ok(self.list),
+        }
+    }
 }
 
-// An option with a value.
-fn value_arg<'a>(alloc: Global, name: &'a str, value: &'a str, help: &'a str) -> Arg<'a> {
-    place_arg(alloc, name, value, help).long(name)
-}
-
-// The same, which is a number of columns.
-fn columns_arg<'a>(alloc: Global, name: &'a str, help: &'a str) -> Arg<'a> {
-    value_arg(alloc, name, "COLUMNS", help).value_parser(value_parser!(i32).range(0..=MOST_COLUMNS))
-}
-
-// An option without a value.
-fn flag_arg<'a>(alloc: Global, name: &'a str, help: &'a str) -> Arg<'a> {
-    let arg = named_arg(alloc, name, help).long(name);
-    arg.action(ArgAction::SetTrue)
-}
-
-fn file_arg<'a>(alloc: Global) -> Arg<'a> {
-    place_arg(
+fn args_of<'a>(alloc: Global, takes: Takes) -> Result<Vec<Arg<'a>>, AllocError> {
+    let mut args = Args {
         alloc,
-        "file",
-        "FILE",
-        "The file to read, in place of standard input",
-    )
-}
-
-fn from_arg<'a>(alloc: Global) -> Arg<'a> {
-    value_arg(
-        alloc,
-        "from",
-        "ENCODING",
-        "How the input is encoded: auto, utf8, utf16le or utf16be",
-    )
-    .default_value("auto")
-}
-
-fn indent_arg<'a>(alloc: Global) -> Arg<'a> {
-    columns_arg(alloc, "indent", "Columns of a level, 2 to 9").default_value("2")
-}
-
-fn width_arg<'a>(alloc: Global) -> Arg<'a> {
-    columns_arg(alloc, "width", "The column behind which lines are folded").default_value("80")
-}
-
-fn ascii_arg<'a>(alloc: Global) -> Arg<'a> {
-    flag_arg(alloc, "ascii", "Escape all characters that aren't ASCII")
-}
-
-fn break_arg<'a>(alloc: Global) -> Arg<'a> {
-    value_arg(alloc, "break", "BREAK", "How lines end: lf, cr or crlf").default_value("lf")
-}
-
-fn encoding_arg<'a>(alloc: Global) -> Arg<'a> {
-    value_arg(
-        alloc,
-        "encoding",
-        "ENCODING",
-        "How the output is encoded: utf8, utf16le or utf16be",
-    )
-    .default_value("utf8")
-}
-
-fn any_limit_arg<'a>(alloc: Global) -> Arg<'a> {
-    value_arg(
-        alloc,
-        "limit",
-        "BYTES",
-        "How many bytes the output may have",
-    )
-    .value_parser(value_parser!(u64).range(0..=MOST_BYTES))
-}
-
-fn limit_arg<'a>(alloc: Global) -> Arg<'a> {
-    any_limit_arg(alloc).default_value("1099511627776")
-}
-
-fn pretty_arg<'a>(alloc: Global) -> Arg<'a> {
-    flag_arg(
-        alloc,
-        "pretty",
-        "Keep the styles, where the text then reads the same",
-    )
+        list: Vec::new(alloc),
+        wrong: None,
+    };
+    args.put_all(takes);
+    args.finish()
 }
 
 // A command, or that there was no room for it.
-type Made<'a> = Result<Command<'a>, AllocError>;
-
-// Adds the argument. These functions take and give what was made so far, so that none but this one has an exit; what would
-// die there is dropped by a call: at a `?` the drop is written out field by field, which is dear to prove.
-fn with_arg<'a>(made: Made<'a>, arg: Arg<'a>) -> Made<'a> {
-    match made {
-        Ok(command) => command.arg(arg),
-        Err(error) => {
-            drop(arg);
-            Err(error)
-        }
+fn command_of<'a>(
+    alloc: Global,
+    name: &'a str,
+    about: &'a str,
+    takes: Takes,
+) -> Result<Command<'a>, AllocError> {
+    match args_of(alloc, takes) {
+        Ok(args) => Command::new(alloc, name).about(about).args(args),
+        Err(error) => Err(error),
     }
 }
 
-fn with_columns<'a>(alloc: Global, made: Made<'a>) -> Made<'a> {
-    let made = with_arg(made, indent_arg(alloc));
-    with_arg(made, width_arg(alloc))
+fn put_command<'a>(
+    alloc: Global,
+    commands: &mut Vec<Command<'a>>,
+    told: (&'a str, &'a str),
+    takes: Takes,
+) -> Result<(), AllocError> {
+    let command = command_of(alloc, told.0, told.1, takes)?;
+    commands.push(command)?;
+    Ok(())
 }
 
-fn with_lines<'a>(alloc: Global, made: Made<'a>) -> Made<'a> {
-    let made = with_columns(alloc, made);
-    with_arg(made, ascii_arg(alloc))
+// Each command's name, and what it does.
+const FMT: (&str, &str) = ("fmt", "Writes the text again in canonical or pretty form");
+
+const DOCS: (&str, &str) = ("docs", "Writes the loaded documents in canonical form");
+
+const EVENTS: (&str, &str) = ("events", "Writes a line for each event");
+
+const SAME: (&str, &str) = ("same", "Tells whether two files have the same content");
+
+fn put_commands<'a>(alloc: Global, commands: &mut Vec<Command<'a>>) -> Result<(), AllocError> {
+    put_command(alloc, commands, FMT, Takes::Styles)?;
+    put_command(alloc, commands, DOCS, Takes::Layout)?;
+    put_command(alloc, commands, EVENTS, Takes::File)?;
+    put_command(alloc, commands, SAME, Takes::Files)
 }
 
-fn with_bytes<'a>(alloc: Global, made: Made<'a>) -> Made<'a> {
-    let made = with_arg(made, break_arg(alloc));
-    with_arg(made, encoding_arg(alloc))
-}
-
-fn with_limit<'a>(alloc: Global, made: Made<'a>) -> Made<'a> {
-    let made = with_bytes(alloc, made);
-    with_arg(made, limit_arg(alloc))
-}
-
-// What `fmt` and `docs` have.
-fn with_layout<'a>(alloc: Global, made: Made<'a>) -> Made<'a> {
-    let made = with_lines(alloc, made);
-    with_limit(alloc, made)
-}
-
-fn command_of<'a>(alloc: Global, name: &'a str, about: &'a str) -> Made<'a> {
-    Ok(Command::new(alloc, name).about(about))
-}
-
-fn with_file<'a>(alloc: Global, made: Made<'a>) -> Made<'a> {
-    let made = with_arg(made, file_arg(alloc));
-    with_arg(made, from_arg(alloc))
-}
-
-// A command that reads one file.
-fn file_command<'a>(alloc: Global, name: &'a str, about: &'a str) -> Made<'a> {
-    let made = command_of(alloc, name, about);
-    with_file(alloc, made)
-}
-
-fn with_styles<'a>(alloc: Global, made: Made<'a>) -> Made<'a> {
-    let made = with_arg(made, pretty_arg(alloc));
-    with_layout(alloc, made)
-}
-
-fn fmt_command<'a>(alloc: Global) -> Made<'a> {
-    let about = "Writes the text again in canonical or pretty form";
-    let made = file_command(alloc, "fmt", about);
-    with_styles(alloc, made)
-}
-
-fn docs_command<'a>(alloc: Global) -> Made<'a> {
-    let about = "Writes the loaded documents in canonical form";
-    let made = file_command(alloc, "docs", about);
-    with_layout(alloc, made)
-}
-
-fn events_command<'a>(alloc: Global) -> Made<'a> {
-    file_command(alloc, "events", "Writes a line for each event")
-}
-
-fn first_arg<'a>(alloc: Global) -> Arg<'a> {
-    needed_arg(alloc, "first", "A", "The file to compare")
-}
-
-fn second_arg<'a>(alloc: Global) -> Arg<'a> {
-    needed_arg(alloc, "second", "B", "The file that it is compared with")
-}
-
-fn with_files<'a>(alloc: Global, made: Made<'a>) -> Made<'a> {
-    let made = with_arg(made, first_arg(alloc));
-    with_arg(made, second_arg(alloc))
-}
-
-fn with_same<'a>(alloc: Global, made: Made<'a>) -> Made<'a> {
-    let made = with_files(alloc, made);
-    with_arg(made, from_arg(alloc))
-}
-
-fn same_command<'a>(alloc: Global) -> Made<'a> {
-    let about = "Tells whether two files have the same content";
-    let made = command_of(alloc, "same", about);
-    with_same(alloc, made)
-}
-
-fn with_made<'a>(command: Command<'a>, other: Made<'a>) -> Made<'a> {
-    match other {
-        Ok(other) => command.subcommand(other),
-        Err(error) => {
-            drop(command);
-            Err(error)
-        }
+fn commands_of<'a>(alloc: Global) -> Result<Vec<Command<'a>>, AllocError> {
+    let mut commands = Vec::new(alloc);
+    match put_commands(alloc, &mut commands) {
+        Ok(()) => Ok(commands),
+        Err(error) => Err(error),
     }
 }
 
-fn with_command<'a>(made: Made<'a>, other: Made<'a>) -> Made<'a> {
-    match made {
-        Ok(command) => with_made(command, other),
+fn named_command<'a>(alloc: Global) -> Result<Command<'a>, AllocError> {
+    let command = Command::new(alloc, "yaml_cli").about(
+        "Rewrites YAML in canonical or pretty form",
+    );
+    command.subcommand_required(true).bin_name("yaml_cli")
+}
+
+fn whole_command<'a>(alloc: Global) -> Result<Command<'a>, AllocError> {
+    let commands = commands_of(alloc)?;
+    match named_command(alloc) {
+        Ok(command) => command.subcommands(commands),
         Err(error) => {
-            drop(other);
+            drop(commands);
             Err(error)
         }
     }
-}
-
-fn top_command<'a>(alloc: Global) -> Command<'a> {
-    let command = Command::new(alloc, "yaml_cli");
-    command.about("Rewrites YAML in canonical or pretty form")
-}
-
-fn named_command<'a>(alloc: Global) -> Made<'a> {
-    let command = top_command(alloc).subcommand_required(true);
-    command.bin_name("yaml_cli")
-}
-
-// The commands that write a text.
-fn with_texts<'a>(alloc: Global, made: Made<'a>) -> Made<'a> {
-    let made = with_command(made, fmt_command(alloc));
-    with_command(made, docs_command(alloc))
-}
-
-fn with_answers<'a>(alloc: Global, made: Made<'a>) -> Made<'a> {
-    let made = with_command(made, events_command(alloc));
-    with_command(made, same_command(alloc))
-}
-
-fn whole_command<'a>(alloc: Global) -> Made<'a> {
-    let made = with_texts(alloc, named_command(alloc));
-    with_answers(alloc, made)
 }
 
 /// What the words say, the program's name first.

@@ -36,25 +36,13 @@ pub enum Order<'a> {
     Nothing,
 }
 
-// Where a run's input is, and how it is encoded. A word that the command doesn't have is as where it is left out.
-#[derive(Clone, Copy)]
-struct Source<'a> {
-    file: Option<&'a str>,
-    from: &'a str,
-}
-
-// How the text's bytes are.
-#[derive(Clone, Copy)]
-struct Bytes<'a> {
-    line_break: &'a str,
-    encoding: &'a str,
-}
-
-// The words of a run.
+// The words of a run. A word that the command doesn't have is as where it is left out.
 #[derive(Clone, Copy)]
 struct Words<'a> {
-    source: Source<'a>,
-    bytes: Bytes<'a>,
+    file: Option<&'a str>,
+    from: &'a str,
+    line_break: &'a str,
+    encoding: &'a str,
     settings: yaml_settings_t,
 }
 
@@ -95,152 +83,81 @@ fn command_named(word: &str) -> Option<yaml_command_t> {
     }
 }
 
-fn columns_of(matches: &ArgMatches<'_>, name: &str, usual: i32) -> i32 {
-    matches.get_one::<i32>(name).unwrap_or(usual)
-}
-
-fn limit_of(matches: &ArgMatches<'_>, usual: u64) -> u64 {
-    matches.get_one::<u64>("limit").unwrap_or(usual)
-}
-
-fn with_columns(matches: &ArgMatches<'_>, usual: yaml_settings_t) -> yaml_settings_t {
-    yaml_settings_t {
-        indent: columns_of(matches, "indent", usual.indent),
-        width: columns_of(matches, "width", usual.width),
-        ..usual
-    }
-}
-
-fn with_flags(matches: &ArgMatches<'_>, usual: yaml_settings_t) -> yaml_settings_t {
-    yaml_settings_t {
-        canonical: !matches.get_flag("pretty"),
-        unicode: !matches.get_flag("ascii"),
-        ..usual
-    }
-}
-
-fn with_limit(matches: &ArgMatches<'_>, usual: yaml_settings_t) -> yaml_settings_t {
-    yaml_settings_t {
-        limit: limit_of(matches, usual.limit),
-        ..usual
-    }
-}
-
 // The settings but for those that are words.
 fn numbers_of(matches: &ArgMatches<'_>) -> yaml_settings_t {
-    let settings = with_columns(matches, yaml_settings_t::new());
-    let settings = with_flags(matches, settings);
-    with_limit(matches, settings)
+    let usual = yaml_settings_t::new();
+    yaml_settings_t {
+        indent: matches.get_one::<i32>("indent").unwrap_or(usual.indent),
+        width: matches.get_one::<i32>("width").unwrap_or(usual.width),
+        canonical: !matches.get_flag("pretty"),
+        unicode: !matches.get_flag("ascii"),
+        limit: matches.get_one::<u64>("limit").unwrap_or(usual.limit),
+        ..usual
+    }
 }
 
 fn word_of<'a>(matches: &ArgMatches<'a>, name: &str, usual: &'a str) -> &'a str {
     matches.get_str(name).unwrap_or(usual)
 }
 
-fn from_word<'a>(matches: &ArgMatches<'a>) -> &'a str {
-    word_of(matches, "from", "auto")
-}
-
-fn source_of<'a>(matches: &ArgMatches<'a>) -> Source<'a> {
-    Source {
-        file: matches.get_str("file"),
-        from: from_word(matches),
-    }
-}
-
-fn bytes_of<'a>(matches: &ArgMatches<'a>) -> Bytes<'a> {
-    Bytes {
-        line_break: word_of(matches, "break", "lf"),
-        encoding: word_of(matches, "encoding", "utf8"),
-    }
-}
-
 fn words_of<'a>(matches: &ArgMatches<'a>) -> Words<'a> {
     Words {
-        source: source_of(matches),
-        bytes: bytes_of(matches),
+        file: matches.get_str("file"),
+        from: word_of(matches, "from", "auto"),
+        line_break: word_of(matches, "break", "lf"),
+        encoding: word_of(matches, "encoding", "utf8"),
         settings: numbers_of(matches),
-    }
-}
-
-// The run, once its settings are known.
-fn run_with<'a>(
-    command: yaml_command_t,
-    words: &Words<'a>,
-    settings: yaml_settings_t,
-) -> Order<'a> {
-    match input_encoding_named(words.source.from) {
-        Some(from) => Order::Run {
-            task: Task {
-                command,
-                from,
-                settings,
-            },
-            file: words.source.file,
-        },
-        None => Order::Unknown {
-            what: "input encoding",
-            word: words.source.from,
-        },
-    }
-}
-
-fn run_broken<'a>(
-    command: yaml_command_t,
-    words: &Words<'a>,
-    line_break: yaml_break_t,
-) -> Order<'a> {
-    match encoding_named(words.bytes.encoding) {
-        Some(encoding) => {
-            let settings = yaml_settings_t {
-                encoding,
-                line_break,
-                ..words.settings
-            };
-            run_with(command, words, settings)
-        }
-        None => Order::Unknown {
-            what: "encoding",
-            word: words.bytes.encoding,
-        },
     }
 }
 
 // The break is judged first, then the encoding, then how the input is encoded.
 fn run_of<'a>(command: yaml_command_t, words: &Words<'a>) -> Order<'a> {
-    match break_named(words.bytes.line_break) {
-        Some(line_break) => run_broken(command, words, line_break),
-        None => Order::Unknown {
+    let Some(line_break) = break_named(words.line_break) else {
+        return Order::Unknown {
             what: "break",
-            word: words.bytes.line_break,
-        },
-    }
-}
-
-fn same_of<'a>(from: &'a str, first: &'a str, second: &'a str) -> Order<'a> {
-    match input_encoding_named(from) {
-        Some(from) => Order::Same {
-            from,
-            first,
-            second,
-        },
-        None => Order::Unknown {
+            word: words.line_break,
+        };
+    };
+    let Some(encoding) = encoding_named(words.encoding) else {
+        return Order::Unknown {
+            what: "encoding",
+            word: words.encoding,
+        };
+    };
+    let Some(from) = input_encoding_named(words.from) else {
+        return Order::Unknown {
             what: "input encoding",
-            word: from,
+            word: words.from,
+        };
+    };
+    let settings = yaml_settings_t {
+        encoding,
+        line_break,
+        ..words.settings
+    };
+    Order::Run {
+        task: Task {
+            command,
+            from,
+            settings,
         },
+        file: words.file,
     }
-}
-
-fn same_from<'a>(matches: &ArgMatches<'a>, from: &'a str) -> Order<'a> {
-    same_of(
-        from,
-        word_of(matches, "first", ""),
-        word_of(matches, "second", ""),
-    )
 }
 
 fn same_in<'a>(matches: &ArgMatches<'a>) -> Order<'a> {
-    same_from(matches, from_word(matches))
+    let word = word_of(matches, "from", "auto");
+    match input_encoding_named(word) {
+        Some(from) => Order::Same {
+            from,
+            first: word_of(matches, "first", ""),
+            second: word_of(matches, "second", ""),
+        },
+        None => Order::Unknown {
+            what: "input encoding",
+            word,
+        },
+    }
 }
 
 fn order_named<'a>(name: &str, matches: &ArgMatches<'a>) -> Order<'a> {

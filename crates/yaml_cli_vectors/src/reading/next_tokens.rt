@@ -17,18 +17,14 @@ fn put_next(reply: &mut Reply, line: &Value, adapter: &mut yaml_adapter_t<'_>) {
     }
 }
 
-fn put_answers(reply: &mut Reply, line: &Value, calls: u64, adapter: &mut yaml_adapter_t<'_>) {
+fn put_all(reply: &mut Reply, line: &Value, calls: u64, adapter: &mut yaml_adapter_t<'_>) {
+    reply.begin();
+    reply.name("answer");
     reply.begin_list();
     for _ in 0..calls {
         put_next(reply, line, adapter);
     }
     reply.end_list();
-}
-
-fn put_all(reply: &mut Reply, line: &Value, calls: u64, adapter: &mut yaml_adapter_t<'_>) {
-    reply.begin();
-    reply.name("answer");
-    put_answers(reply, line, calls, adapter);
     reply.end();
 }
 

@@ -2,23 +2,16 @@
 
 use super::parser::Reading;
 use crate::vector::{Reply, show_event};
-use yaml_parse::{yaml_event_t, yaml_event_type_t, yaml_parser_parse};
+use yaml_parse::{yaml_event_type_t, yaml_parser_parse};
 
-// Puts the event, as the lines write it. False for the empty one.
-fn put_unless_empty(reply: &mut Reply, event: &yaml_event_t) -> bool {
-    if event.type_() == yaml_event_type_t::YAML_NO_EVENT {
-        false
-    } else {
-        show_event(reply, event);
-        true
-    }
-}
-
-// Puts the next event. False behind the last, and where it is refused.
+// Puts the next event. False behind the last, for which the empty one stands, and where it is refused.
 fn put_next(reply: &mut Reply, reading: &mut Reading) -> bool {
     match yaml_parser_parse(reading) {
         Ok(event) => {
-            let is_some = put_unless_empty(reply, &event);
+            let is_some = event.type_() != yaml_event_type_t::YAML_NO_EVENT;
+            if is_some {
+                show_event(reply, &event);
+            }
             drop(event);
             is_some
         }
@@ -29,7 +22,10 @@ fn put_next(reply: &mut Reply, reading: &mut Reading) -> bool {
     }
 }
 
-fn put_events(reply: &mut Reply, reading: &mut Reading) {
+/// The events that the parser gives.
+pub fn events(reply: &mut Reply, reading: &mut Reading) {
+    reply.begin();
+    reply.name("answer");
     reply.begin_list();
     for _ in 0..u64::MAX {
         if !put_next(reply, reading) {
@@ -37,12 +33,5 @@ fn put_events(reply: &mut Reply, reading: &mut Reading) {
         }
     }
     reply.end_list();
-}
-
-/// The events that the parser gives.
-pub fn events(reply: &mut Reply, reading: &mut Reading) {
-    reply.begin();
-    reply.name("answer");
-    put_events(reply, reading);
     reply.end();
 }

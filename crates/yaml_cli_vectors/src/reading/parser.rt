@@ -5,10 +5,7 @@ use serde_json::Value;
 use yaml_parse::{yaml_parser_initialize, yaml_parser_t, yaml_token_source_t};
 use yaml_parse_list::{yaml_token_list_t, yaml_token_utf8};
 use yaml_round_adapter::yaml_adapter_t;
-use yaml_scan::{
-    yaml_encoding_t, yaml_error_type_t, yaml_fault_t, yaml_origin_t, yaml_token_t,
-    yaml_token_type_t,
-};
+use yaml_scan::{yaml_error_type_t, yaml_fault_t, yaml_origin_t, yaml_token_t, yaml_token_type_t};
 
 /// A parser of a list of tokens.
 pub type Reading = yaml_parser_t<yaml_token_list_t>;
@@ -33,25 +30,21 @@ fn end(list: &mut yaml_token_list_t, reply: &mut Reply, fault: yaml_fault_t) {
     }
 }
 
-// Adds a token that isn't the empty one.
-fn add_some(list: &mut yaml_token_list_t, reply: &mut Reply, token: yaml_token_t) -> bool {
-    if token.type_() == yaml_token_type_t::YAML_NO_TOKEN {
-        drop(token);
-        false
-    } else {
-        add(list, reply, token);
-        true
-    }
-}
-
-// Adds the input's next token. False where there is none, or a fault ends the list.
+// Adds the input's next token. False where there is none, for which the empty one stands, or a fault ends the list.
 fn add_next(
     adapter: &mut yaml_adapter_t<'_>,
     reply: &mut Reply,
     list: &mut yaml_token_list_t,
 ) -> bool {
     match adapter.next_token() {
-        Ok(token) => add_some(list, reply, token),
+        Ok(token) if token.type_() == yaml_token_type_t::YAML_NO_TOKEN => {
+            drop(token);
+            false
+        }
+        Ok(token) => {
+            add(list, reply, token);
+            true
+        }
         Err(fault) => {
             end(list, reply, fault);
             false
@@ -68,24 +61,13 @@ fn add_all(adapter: &mut yaml_adapter_t<'_>, reply: &mut Reply, list: &mut yaml_
     }
 }
 
-// Adds the tokens of the input.
-fn adapt(reply: &mut Reply, input: &[u8], from: yaml_encoding_t, list: &mut yaml_token_list_t) {
-    let mut adapter = yaml_adapter_t::new(reply.alloc(), input, from);
-    add_all(&mut adapter, reply, list);
-    drop(adapter);
-}
-
-fn adapt_input(reply: &mut Reply, line: &Value, list: &mut yaml_token_list_t) {
+// Adds the tokens of the line's input.
+fn add_input(reply: &mut Reply, line: &Value, list: &mut yaml_token_list_t) {
     let from = reply.encoding(line, "from");
     let input = reply.bytes(line, "input");
-    adapt(reply, input.as_slice(), from, list);
-}
-
-// The tokens of the line's input.
-fn adapted_input(reply: &mut Reply, line: &Value) -> yaml_token_list_t {
-    let mut list = yaml_token_list_t::new(reply.alloc());
-    adapt_input(reply, line, &mut list);
-    list
+    let mut adapter = yaml_adapter_t::new(reply.alloc(), input.as_slice(), from);
+    add_all(&mut adapter, reply, list);
+    drop(adapter);
 }
 
 fn kind(number: u64) -> Option<yaml_error_type_t> {
@@ -135,28 +117,16 @@ pub fn own_fault(reply: &mut Reply, fields: &Value) -> yaml_fault_t {
     }
 }
 
-// Adds the tokens that the line lists.
+// Adds the tokens that the line lists, and ends the list with the line's own fault where it has one.
 fn add_listed(reply: &mut Reply, line: &Value, list: &mut yaml_token_list_t) {
     for listed in reply.list(line, "tokens") {
         let token = read_token(reply, listed);
         add(list, reply, token);
     }
-}
-
-// Ends the list with the line's own fault where it has one.
-fn add_own(reply: &mut Reply, line: &Value, list: &mut yaml_token_list_t) {
     match line.get("own") {
         Some(own) if own.is_object() => list.end(own_fault(reply, own)),
         _ => {}
     }
-}
-
-// The tokens that the line lists, with the line's own fault behind them where it has one.
-fn listed(reply: &mut Reply, line: &Value) -> yaml_token_list_t {
-    let mut list = yaml_token_list_t::new(reply.alloc());
-    add_listed(reply, line, &mut list);
-    add_own(reply, line, &mut list);
-    list
 }
 
 /// Where a parser's tokens come from.
@@ -168,19 +138,16 @@ pub enum Source {
     Tokens,
 }
 
-fn list_of(reply: &mut Reply, line: &Value, source: Source) -> yaml_token_list_t {
-    match source {
-        Source::Input => adapted_input(reply, line),
-        Source::Tokens => listed(reply, line),
-    }
-}
-
 /// A parser of those tokens.
 pub fn reading_of(
     reply: &mut Reply,
     line: &Value,
     source: Source,
 ) -> Result<Reading, yaml_fault_t> {
-    let list = list_of(reply, line, source);
+    let mut list = yaml_token_list_t::new(reply.alloc());
+    match source {
+        Source::Input => add_input(reply, line, &mut list),
+        Source::Tokens => add_listed(reply, line, &mut list),
+    }
     yaml_parser_initialize(reply.alloc(), list)
 }

@@ -3,20 +3,10 @@
 use crate::vector::{Reply, show_token};
 use serde_json::Value;
 use yaml_scan::{
-    yaml_encoding_t, yaml_fault_t, yaml_parser_scan, yaml_parser_t, yaml_token_t, yaml_token_type_t,
+    yaml_encoding_t, yaml_fault_t, yaml_parser_scan, yaml_parser_t, yaml_token_type_t,
 };
 
-// Puts the token, as the lines write it. False for the empty one.
-fn put_unless_empty(reply: &mut Reply, token: &yaml_token_t) -> bool {
-    if token.type_() == yaml_token_type_t::YAML_NO_TOKEN {
-        false
-    } else {
-        show_token(reply, token);
-        true
-    }
-}
-
-// Puts the next token. False behind the last, and at a fault, which is kept.
+// Puts the next token. False behind the last, for which the empty one stands, and at a fault, which is kept.
 fn put_next(
     reply: &mut Reply,
     session: &mut yaml_parser_t<'_>,
@@ -24,7 +14,10 @@ fn put_next(
 ) -> bool {
     match yaml_parser_scan(session) {
         Ok(token) => {
-            let is_some = put_unless_empty(reply, &token);
+            let is_some = token.type_() != yaml_token_type_t::YAML_NO_TOKEN;
+            if is_some {
+                show_token(reply, &token);
+            }
             drop(token);
             is_some
         }
@@ -35,29 +28,18 @@ fn put_next(
     }
 }
 
-// Puts the tokens that the session hands out, and answers the fault that ends them.
-fn put_tokens(reply: &mut Reply, session: &mut yaml_parser_t<'_>) -> Option<yaml_fault_t> {
+// Puts the tokens that the session hands out, and the fault that ends them.
+fn tokens(reply: &mut Reply, line: &Value, session: &mut yaml_parser_t<'_>) {
     let mut end = None;
+    reply.begin();
+    reply.name("answer");
+    reply.begin_list();
     for _ in 0..u64::MAX {
         if !put_next(reply, session, &mut end) {
             break;
         }
     }
-    end
-}
-
-// The list of tokens, and the fault that ends them.
-fn put_list(reply: &mut Reply, session: &mut yaml_parser_t<'_>) -> Option<yaml_fault_t> {
-    reply.name("answer");
-    reply.begin_list();
-    let end = put_tokens(reply, session);
     reply.end_list();
-    end
-}
-
-fn tokens(reply: &mut Reply, line: &Value, session: &mut yaml_parser_t<'_>) {
-    reply.begin();
-    let end = put_list(reply, session);
     reply.put_end(line, end);
     reply.end();
 }

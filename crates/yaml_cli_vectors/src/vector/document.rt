@@ -23,21 +23,13 @@ fn put_pairs(reply: &mut Reply, pairs: &[yaml_node_pair_t]) {
     reply.end_list();
 }
 
-fn kind(node: &yaml_node_t) -> &'static str {
+// The words of the node's kind and style.
+fn words(node: &yaml_node_t) -> (&'static str, &'static str) {
     match &node.body {
-        yaml_node_body_t::No => "no",
-        yaml_node_body_t::Scalar { .. } => "scalar",
-        yaml_node_body_t::Sequence { .. } => "sequence",
-        yaml_node_body_t::Mapping { .. } => "mapping",
-    }
-}
-
-fn style(node: &yaml_node_t) -> &'static str {
-    match &node.body {
-        yaml_node_body_t::No => "any",
-        yaml_node_body_t::Scalar { style, .. } => style::scalar_word(*style),
-        yaml_node_body_t::Sequence { style, .. } => style::sequence_word(*style),
-        yaml_node_body_t::Mapping { style, .. } => style::mapping_word(*style),
+        yaml_node_body_t::No => ("no", "any"),
+        yaml_node_body_t::Scalar { style, .. } => ("scalar", style::scalar_word(*style)),
+        yaml_node_body_t::Sequence { style, .. } => ("sequence", style::sequence_word(*style)),
+        yaml_node_body_t::Mapping { style, .. } => ("mapping", style::mapping_word(*style)),
     }
 }
 
@@ -53,11 +45,12 @@ fn put_held(reply: &mut Reply, node: &yaml_node_t) {
 
 // A node: kind, tag, value or items or pairs, style, start mark, end mark.
 fn put_node(reply: &mut Reply, node: &yaml_node_t) {
+    let (kind, style) = words(node);
     reply.begin_list();
-    reply.put_word(kind(node));
+    reply.put_word(kind);
     reply.put_bytes(node.tag.as_slice());
     put_held(reply, node);
-    reply.put_word(style(node));
+    reply.put_word(style);
     reply.put_marks(node.start_mark, node.end_mark);
     reply.end_list();
 }
@@ -73,36 +66,24 @@ fn put_nodes(reply: &mut Reply, document: &yaml_document_t) {
     reply.end_list();
 }
 
-// Whether the document starts and ends by marks of its own.
-fn put_implicit(reply: &mut Reply, document: &yaml_document_t) {
-    reply.name("start_implicit");
-    reply.put_flag(document.start_implicit());
-    reply.name("end_implicit");
-    reply.put_flag(document.end_implicit());
-}
-
-// Where the document starts and ends.
-fn put_bounds(reply: &mut Reply, document: &yaml_document_t) {
-    reply.name("start_mark");
-    reply.put_mark(document.start_mark());
-    reply.name("end_mark");
-    reply.put_mark(document.end_mark());
-}
-
-// The directives of the document.
-fn put_directives(reply: &mut Reply, document: &yaml_document_t) {
+// The directives of the document, and whether it starts and ends by marks of its own.
+fn put_head(reply: &mut Reply, document: &yaml_document_t) {
     reply.name("version");
     show_version(reply, document.version_directive());
     reply.name("directives");
     show_directives(reply, document.tag_directives());
+    reply.check("start_implicit", document.start_implicit());
+    reply.check("end_implicit", document.end_implicit());
 }
 
 /// Puts the document as the lines write it.
 pub fn show_document(reply: &mut Reply, document: &yaml_document_t) {
     reply.begin();
-    put_directives(reply, document);
-    put_implicit(reply, document);
-    put_bounds(reply, document);
+    put_head(reply, document);
+    reply.name("start_mark");
+    reply.put_mark(document.start_mark());
+    reply.name("end_mark");
+    reply.put_mark(document.end_mark());
     reply.name("nodes");
     put_nodes(reply, document);
     reply.end();

@@ -1,24 +1,16 @@
 //! Events, as the lines write them: the event's line, start mark, end mark, and what the event carries besides.
 
 use super::{Reply, style};
-use std::alloc::AllocError;
 use yaml_parse::{yaml_event_body_t, yaml_event_t, yaml_tag_directive_t, yaml_version_directive_t};
 use yaml_round_lines::yaml_push_event_line;
 
-// The line without its end.
-fn put_line(reply: &mut Reply, pushed: Result<(), AllocError>, line: &[u8]) {
-    reply.room(pushed);
-    match line.strip_suffix(b"\n".as_slice()) {
-        Some(text) => reply.put_utf8(text),
-        None => reply.put_utf8(line),
-    }
-}
-
-// The line that tells the event.
+// The line that tells the event, without its end.
 fn put_event_line(reply: &mut Reply, event: &yaml_event_t) {
     let mut line = Vec::new(reply.alloc());
     let pushed = yaml_push_event_line(&mut line, event);
-    put_line(reply, pushed, line.as_slice());
+    let told = line.as_slice();
+    reply.put_utf8(told.strip_suffix(b"\n".as_slice()).unwrap_or(told));
+    reply.room(pushed);
 }
 
 /// A version: major and minor, or null.
@@ -45,29 +37,8 @@ pub fn show_directives(reply: &mut Reply, directives: &[yaml_tag_directive_t]) {
     reply.end_list();
 }
 
-// What a document's start carries.
-fn put_directives(
-    reply: &mut Reply,
-    version: Option<yaml_version_directive_t>,
-    directives: &[yaml_tag_directive_t],
-) {
-    show_version(reply, version);
-    show_directives(reply, directives);
-}
-
-// What a scalar carries: whether its tag may be left out in plain style, and in every other.
-fn put_flags(reply: &mut Reply, plain: bool, quoted: bool) {
-    reply.put_flag(plain);
-    reply.put_flag(quoted);
-}
-
-// What the start of a collection carries.
-fn put_collection(reply: &mut Reply, implicit: bool, style: &'static str) {
-    reply.put_flag(implicit);
-    reply.put_word(style);
-}
-
-// What the event carries that its line doesn't tell.
+// What the event carries that its line doesn't tell: of a scalar whether its tag may be left out in plain style, and in
+// every other.
 fn put_carried(reply: &mut Reply, body: &yaml_event_body_t) {
     match body {
         yaml_event_body_t::StreamStart { encoding } => reply.put_encoding(*encoding),
@@ -75,22 +46,34 @@ fn put_carried(reply: &mut Reply, body: &yaml_event_body_t) {
             version_directive,
             tag_directives,
             ..
-        } => put_directives(reply, *version_directive, tag_directives.as_slice()),
+        } => {
+            show_version(reply, *version_directive);
+            show_directives(reply, tag_directives.as_slice());
+        }
         yaml_event_body_t::Scalar {
             plain_implicit,
             quoted_implicit,
             ..
-        } => put_flags(reply, *plain_implicit, *quoted_implicit),
+        } => {
+            reply.put_flag(*plain_implicit);
+            reply.put_flag(*quoted_implicit);
+        }
         yaml_event_body_t::SequenceStart {
             implicit,
             style,
             ..
-        } => put_collection(reply, *implicit, style::sequence_word(*style)),
+        } => {
+            reply.put_flag(*implicit);
+            reply.put_word(style::sequence_word(*style));
+        }
         yaml_event_body_t::MappingStart {
             implicit,
             style,
             ..
-        } => put_collection(reply, *implicit, style::mapping_word(*style)),
+        } => {
+            reply.put_flag(*implicit);
+            reply.put_word(style::mapping_word(*style));
+        }
         _ => {}
     }
 }

@@ -2,7 +2,6 @@
 
 use super::{Reply, VectorError};
 use serde_json::{Index, Value};
-use std::alloc::Global;
 use yaml_scan::{yaml_encoding_t, yaml_mark_t};
 
 /// Where a value stands in another: the name of a field, or the index of an item.
@@ -23,34 +22,12 @@ impl FieldPlace for usize {
     }
 }
 
-// The bytes that those hexadecimal digits spell.
-fn decoded(alloc: Global, text: &str, name: &'static str) -> Result<Vec<u8>, VectorError> {
-    match hex::decode(alloc, text) {
-        Ok(bytes) => Ok(bytes),
-        Err(hex::FromHexError::OutOfMemory) => Err(VectorError::Memory),
-        Err(_) => Err(VectorError::Field(name)),
+// Why digits spell no bytes.
+fn hex_error(error: hex::FromHexError, name: &'static str) -> VectorError {
+    match error {
+        hex::FromHexError::OutOfMemory => VectorError::Memory,
+        _ => VectorError::Field(name),
     }
-}
-
-fn copy_of(alloc: Global, text: &str) -> Result<Vec<u8>, VectorError> {
-    match Vec::from_slice(alloc, text.as_bytes()) {
-        Ok(copy) => Ok(copy),
-        Err(_) => Err(VectorError::Memory),
-    }
-}
-
-fn encoding_of(word: &str) -> Option<yaml_encoding_t> {
-    match word {
-        "any" => Some(yaml_encoding_t::YAML_ANY_ENCODING),
-        "utf8" => Some(yaml_encoding_t::YAML_UTF8_ENCODING),
-        "utf16le" => Some(yaml_encoding_t::YAML_UTF16LE_ENCODING),
-        "utf16be" => Some(yaml_encoding_t::YAML_UTF16BE_ENCODING),
-        _ => None,
-    }
-}
-
-fn small(number: i64) -> Option<i32> {
-    i32::try_from(number).ok()
 }
 
 impl Reply {
@@ -61,22 +38,30 @@ impl Reply {
 
     /// The text there.
     pub fn text<'a, P: FieldPlace>(&mut self, line: &'a Value, place: P) -> &'a str {
-        self.take(line.get(place).and_then(Value::as_str), place.name(), "")
+        let text = self.value(line, place).as_str();
+        self.take(text, place.name(), "")
     }
 
-    /// The bytes of the text.
-    pub fn copied(&mut self, text: &str) -> Vec<u8> {
-        let copied = copy_of(self.alloc(), text);
-        self.keep(copied, Vec::new(self.alloc()))
+    /// The bytes of the text there.
+    pub fn copied<P: FieldPlace>(&mut self, line: &Value, place: P) -> Vec<u8> {
+        match Vec::from_slice(self.alloc(), self.text(line, place).as_bytes()) {
+            Ok(copied) => copied,
+            Err(_) => {
+                self.refuse(VectorError::Memory);
+                Vec::new(self.alloc())
+            }
+        }
     }
 
     /// The bytes there, in hexadecimal digits.
     pub fn bytes<P: FieldPlace>(&mut self, line: &Value, place: P) -> Vec<u8> {
-        let text = self.text(line, place);
-        self.keep(
-            decoded(self.alloc(), text, place.name()),
-            Vec::new(self.alloc()),
-        )
+        match hex::decode(self.alloc(), self.text(line, place)) {
+            Ok(bytes) => bytes,
+            Err(error) => {
+                self.refuse(hex_error(error, place.name()));
+                Vec::new(self.alloc())
+            }
+        }
     }
 
     /// The bytes there, in hexadecimal digits, or null.
@@ -89,32 +74,34 @@ impl Reply {
 
     /// True or false there.
     pub fn flag<P: FieldPlace>(&mut self, line: &Value, place: P) -> bool {
-        self.take(
-            line.get(place).and_then(Value::as_bool),
-            place.name(),
-            false,
-        )
+        let flag = self.value(line, place).as_bool();
+        self.take(flag, place.name(), false)
     }
 
     /// The number that isn't negative there.
     pub fn count<P: FieldPlace>(&mut self, line: &Value, place: P) -> u64 {
-        self.take(line.get(place).and_then(Value::as_u64), place.name(), 0)
+        let count = self.value(line, place).as_u64();
+        self.take(count, place.name(), 0)
     }
 
     /// That number of 32 bits.
-    pub fn whole(&mut self, value: &Value) -> i32 {
-        self.take(value.as_i64().and_then(small), "nodes", 0)
+    pub fn whole(&mut self, value: &Value, name: &'static str) -> i32 {
+        let number = match value.as_i64() {
+            Some(number) => i32::try_from(number).ok(),
+            None => None,
+        };
+        self.take(number, name, 0)
     }
 
     /// The number of 32 bits there.
     pub fn number<P: FieldPlace>(&mut self, line: &Value, place: P) -> i32 {
-        let number = line.get(place).and_then(Value::as_i64).and_then(small);
-        self.take(number, place.name(), 0)
+        let number = self.value(line, place);
+        self.whole(number, place.name())
     }
 
     /// The list there.
     pub fn list<'a, P: FieldPlace>(&mut self, line: &'a Value, place: P) -> &'a [Value] {
-        match line.get(place).and_then(Value::as_array) {
+        match self.value(line, place).as_array() {
             Some(list) => list.as_slice(),
             None => {
                 self.miss(place.name());
@@ -138,7 +125,15 @@ impl Reply {
 
     /// The encoding there: any, utf8, utf16le or utf16be.
     pub fn encoding<P: FieldPlace>(&mut self, line: &Value, place: P) -> yaml_encoding_t {
-        let encoding = encoding_of(self.text(line, place));
-        self.take(encoding, "encoding", yaml_encoding_t::YAML_ANY_ENCODING)
+        match self.text(line, place) {
+            "any" => yaml_encoding_t::YAML_ANY_ENCODING,
+            "utf8" => yaml_encoding_t::YAML_UTF8_ENCODING,
+            "utf16le" => yaml_encoding_t::YAML_UTF16LE_ENCODING,
+            "utf16be" => yaml_encoding_t::YAML_UTF16BE_ENCODING,
+            _ => {
+                self.miss("encoding");
+                yaml_encoding_t::YAML_ANY_ENCODING
+            }
+        }
     }
 }

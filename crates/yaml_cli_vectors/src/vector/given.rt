@@ -13,30 +13,32 @@ use yaml_parse::{
     yaml_text_fault_t, yaml_version_directive_t,
 };
 
-fn version_of(reply: &mut Reply, version: &Value) -> yaml_version_directive_t {
-    let major = reply.number(version, 0);
-    let minor = reply.number(version, 1);
-    yaml_version_directive_t { major, minor }
-}
-
 /// A version, or null.
 pub fn version(reply: &mut Reply, value: Option<&Value>) -> Option<yaml_version_directive_t> {
     match value {
-        Some(version) if version.is_array() => Some(version_of(reply, version)),
+        Some(version) if version.is_array() => Some(yaml_version_directive_t {
+            major: reply.number(version, 0),
+            minor: reply.number(version, 1),
+        }),
         _ => None,
     }
 }
 
-fn directive(reply: &mut Reply, directive: &Value) -> yaml_tag_directive_t {
-    let handle = reply.bytes(directive, 0);
+fn directive(reply: &mut Reply, directive: &Value, is_hex: bool) -> yaml_tag_directive_t {
+    let handle = if is_hex {
+        reply.bytes(directive, 0)
+    } else {
+        reply.copied(directive, 0)
+    };
     let prefix = reply.bytes(directive, 1);
     yaml_tag_directive_t { handle, prefix }
 }
 
-fn directives(alloc: Global, reply: &mut Reply, event: &Value) -> Vec<yaml_tag_directive_t> {
-    let mut directives = Vec::new(alloc);
-    for listed in reply.list(event, 3) {
-        let directive = directive(reply, listed);
+/// Directives: of each the handle, in hexadecimal digits or as it is, and the prefix in hexadecimal digits.
+pub fn directives(reply: &mut Reply, listed: &[Value], is_hex: bool) -> Vec<yaml_tag_directive_t> {
+    let mut directives = Vec::new(reply.alloc());
+    for listed in listed {
+        let directive = directive(reply, listed, is_hex);
         reply.push(&mut directives, directive);
     }
     directives
@@ -48,7 +50,8 @@ pub type Made = Result<yaml_event_t, yaml_text_fault_t>;
 fn document_start(alloc: Global, reply: &mut Reply, event: &Value) -> Made {
     let version = version(reply, event.get(2));
     let implicit = reply.flag(event, 4);
-    let directives = directives(alloc, reply, event);
+    let listed = reply.list(event, 3);
+    let directives = directives(reply, listed, true);
     yaml_document_start_event_initialize(alloc, version, directives.as_slice(), implicit)
 }
 
@@ -74,20 +77,19 @@ fn scalar(alloc: Global, reply: &mut Reply, event: &Value) -> Made {
     )
 }
 
-fn sequence_start(alloc: Global, reply: &mut Reply, event: &Value) -> Made {
+// The start of a sequence or a mapping.
+fn collection_start(alloc: Global, reply: &mut Reply, event: &Value, is_sequence: bool) -> Made {
     let implicit = reply.flag(event, 4);
     let anchor = reply.optional_bytes(event, 5);
     let tag = reply.optional_bytes(event, 6);
-    let style = style::sequence(reply, event, 10);
-    yaml_sequence_start_event_initialize(alloc, anchor.as_deref(), tag.as_deref(), implicit, style)
-}
-
-fn mapping_start(alloc: Global, reply: &mut Reply, event: &Value) -> Made {
-    let implicit = reply.flag(event, 4);
-    let anchor = reply.optional_bytes(event, 5);
-    let tag = reply.optional_bytes(event, 6);
-    let style = style::mapping(reply, event, 10);
-    yaml_mapping_start_event_initialize(alloc, anchor.as_deref(), tag.as_deref(), implicit, style)
+    let (anchor, tag) = (anchor.as_deref(), tag.as_deref());
+    if is_sequence {
+        let style = style::sequence(reply, event, 10);
+        yaml_sequence_start_event_initialize(alloc, anchor, tag, implicit, style)
+    } else {
+        let style = style::mapping(reply, event, 10);
+        yaml_mapping_start_event_initialize(alloc, anchor, tag, implicit, style)
+    }
 }
 
 // An event without texts, of that kind.
@@ -111,8 +113,8 @@ pub fn event_of(alloc: Global, reply: &mut Reply, event: &Value) -> Made {
         "DOCUMENT-START" => document_start(alloc, reply, event),
         "ALIAS" => alias(alloc, reply, event),
         "SCALAR" => scalar(alloc, reply, event),
-        "SEQUENCE-START" => sequence_start(alloc, reply, event),
-        "MAPPING-START" => mapping_start(alloc, reply, event),
+        "SEQUENCE-START" => collection_start(alloc, reply, event, true),
+        "MAPPING-START" => collection_start(alloc, reply, event, false),
         kind => Ok(plain(reply, kind, event)),
     }
 }

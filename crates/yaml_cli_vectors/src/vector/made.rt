@@ -9,26 +9,8 @@ use std::alloc::Global;
 use yaml_parse::{
     yaml_document_add_mapping, yaml_document_add_scalar, yaml_document_add_sequence,
     yaml_document_append_mapping_pair, yaml_document_append_sequence_item, yaml_document_get_node,
-    yaml_document_initialize, yaml_document_t, yaml_node_body_t, yaml_tag_directive_t,
-    yaml_text_fault_t,
+    yaml_document_initialize, yaml_document_t, yaml_node_body_t, yaml_text_fault_t,
 };
-
-// A directive: the handle as it is, the prefix in hexadecimal digits.
-fn directive(reply: &mut Reply, directive: &Value) -> yaml_tag_directive_t {
-    let text = reply.text(directive, 0);
-    let handle = reply.copied(text);
-    let prefix = reply.bytes(directive, 1);
-    yaml_tag_directive_t { handle, prefix }
-}
-
-fn directives(alloc: Global, reply: &mut Reply, line: &Value) -> Vec<yaml_tag_directive_t> {
-    let mut directives = Vec::new(alloc);
-    for listed in reply.list(line, "directives") {
-        let directive = directive(reply, listed);
-        reply.push(&mut directives, directive);
-    }
-    directives
-}
 
 // A document without nodes.
 fn empty_document(
@@ -39,7 +21,8 @@ fn empty_document(
     let version = given::version(reply, line.get("version"));
     let start_implicit = reply.flag(line, "start_implicit");
     let end_implicit = reply.flag(line, "end_implicit");
-    let directives = directives(alloc, reply, line);
+    let listed = reply.list(line, "directives");
+    let directives = given::directives(reply, listed, false);
     yaml_document_initialize(
         alloc,
         version,
@@ -49,56 +32,51 @@ fn empty_document(
     )
 }
 
-// Adds a scalar.
-fn add_scalar(document: &mut yaml_document_t, reply: &mut Reply, tag: Option<&[u8]>, node: &Value) {
+// What adding a node answers: its number, or that a text was refused.
+type Added = Result<i32, yaml_text_fault_t>;
+
+fn add_scalar(
+    document: &mut yaml_document_t,
+    reply: &mut Reply,
+    tag: Option<&[u8]>,
+    node: &Value,
+) -> Added {
     let style = style::scalar(reply, node, 3);
     let value = reply.bytes(node, 2);
-    match yaml_document_add_scalar(document, tag, value.as_slice(), style) {
-        Ok(_) => {}
-        Err(fault) => reply.refuse(text_error(fault)),
-    }
-}
-
-fn add_sequence(
-    document: &mut yaml_document_t,
-    reply: &mut Reply,
-    tag: Option<&[u8]>,
-    node: &Value,
-) {
-    let style = style::sequence(reply, node, 3);
-    match yaml_document_add_sequence(document, tag, style) {
-        Ok(_) => {}
-        Err(fault) => reply.refuse(text_error(fault)),
-    }
-}
-
-fn add_mapping(
-    document: &mut yaml_document_t,
-    reply: &mut Reply,
-    tag: Option<&[u8]>,
-    node: &Value,
-) {
-    let style = style::mapping(reply, node, 3);
-    match yaml_document_add_mapping(document, tag, style) {
-        Ok(_) => {}
-        Err(fault) => reply.refuse(text_error(fault)),
-    }
+    yaml_document_add_scalar(document, tag, value.as_slice(), style)
 }
 
 // Adds a node with that tag, if any; a collection without what it holds.
-fn add(document: &mut yaml_document_t, reply: &mut Reply, tag: Option<&[u8]>, node: &Value) {
+fn add(
+    document: &mut yaml_document_t,
+    reply: &mut Reply,
+    tag: Option<&[u8]>,
+    node: &Value,
+) -> Added {
     match reply.text(node, 0) {
         "scalar" => add_scalar(document, reply, tag, node),
-        "sequence" => add_sequence(document, reply, tag, node),
-        "mapping" => add_mapping(document, reply, tag, node),
-        _ => reply.miss("nodes"),
+        "sequence" => {
+            let style = style::sequence(reply, node, 3);
+            yaml_document_add_sequence(document, tag, style)
+        }
+        "mapping" => {
+            let style = style::mapping(reply, node, 3);
+            yaml_document_add_mapping(document, tag, style)
+        }
+        _ => {
+            reply.miss("nodes");
+            Ok(0)
+        }
     }
 }
 
 // The same with the tag that the node has, which may be null.
 fn add_node(document: &mut yaml_document_t, reply: &mut Reply, node: &Value) {
     let tag = reply.optional_bytes(node, 1);
-    add(document, reply, tag.as_deref(), node);
+    match add(document, reply, tag.as_deref(), node) {
+        Ok(_) => {}
+        Err(fault) => reply.refuse(text_error(fault)),
+    }
 }
 
 /// Whether that node is a sequence.
@@ -156,36 +134,26 @@ fn append_pair(document: &mut yaml_document_t, reply: &mut Reply, id: i32, key: 
     }
 }
 
-fn append_items(document: &mut yaml_document_t, reply: &mut Reply, id: i32, items: &[Value]) {
-    for item in items {
-        let item = reply.whole(item);
+fn append_items(document: &mut yaml_document_t, reply: &mut Reply, id: i32, node: &Value) {
+    for item in reply.list(node, 2) {
+        let item = reply.whole(item, "nodes");
         append_item(document, reply, id, item);
     }
 }
 
-fn append_pairs(document: &mut yaml_document_t, reply: &mut Reply, id: i32, pairs: &[Value]) {
-    for pair in pairs {
+fn append_pairs(document: &mut yaml_document_t, reply: &mut Reply, id: i32, node: &Value) {
+    for pair in reply.list(node, 2) {
         let key = reply.number(pair, 0);
         let value = reply.number(pair, 1);
         append_pair(document, reply, id, key, value);
     }
 }
 
-fn fill_sequence(document: &mut yaml_document_t, reply: &mut Reply, id: i32, node: &Value) {
-    let items = reply.list(node, 2);
-    append_items(document, reply, id, items);
-}
-
-fn fill_mapping(document: &mut yaml_document_t, reply: &mut Reply, id: i32, node: &Value) {
-    let pairs = reply.list(node, 2);
-    append_pairs(document, reply, id, pairs);
-}
-
 // Adds what the node of that number holds.
 fn fill(document: &mut yaml_document_t, reply: &mut Reply, id: i32, node: &Value) {
     match reply.text(node, 0) {
-        "sequence" => fill_sequence(document, reply, id, node),
-        "mapping" => fill_mapping(document, reply, id, node),
+        "sequence" => append_items(document, reply, id, node),
+        "mapping" => append_pairs(document, reply, id, node),
         _ => {}
     }
 }

@@ -7,59 +7,59 @@ use yaml_scan::yaml_mark_t;
 impl Reply {
     /// Begins a list.
     pub fn begin_list(&mut self) {
-        let done = self.writer().begin_array();
+        let done = self.writer.begin_array();
         self.room(done);
     }
 
     /// Ends it.
     pub fn end_list(&mut self) {
-        let done = self.writer().end_array();
+        let done = self.writer.end_array();
         self.room(done);
     }
 
     /// Begins an object.
     pub fn begin(&mut self) {
-        let done = self.writer().begin_object();
+        let done = self.writer.begin_object();
         self.room(done);
     }
 
     /// Ends it.
     pub fn end(&mut self) {
-        let done = self.writer().end_object();
+        let done = self.writer.end_object();
         self.room(done);
     }
 
     /// The name of the field that comes next.
     pub fn name(&mut self, name: &str) {
-        let done = self.writer().key(name);
+        let done = self.writer.key(name);
         self.room(done);
     }
 
     /// A word.
     pub fn put_word(&mut self, word: &str) {
-        let done = self.writer().string(word);
+        let done = self.writer.string(word);
         self.room(done);
     }
 
     /// A number that isn't negative.
     pub fn put_count(&mut self, number: u64) {
-        let done = self.writer().u64(number);
+        let done = self.writer.u64(number);
         self.room(done);
     }
 
     /// A number of 32 bits.
     pub fn put_number(&mut self, number: i32) {
-        let done = self.writer().i64(i64::from(number));
+        let done = self.writer.i64(i64::from(number));
         self.room(done);
     }
 
     /// True or false.
     pub fn put_flag(&mut self, flag: bool) {
-        let done = self.writer().boolean(flag);
+        let done = self.writer.boolean(flag);
         self.room(done);
     }
 
-    /// The field of that name, which tells whether something is right.
+    /// The field of that name, true or false: in a check, whether something is right.
     pub fn check(&mut self, name: &str, right: bool) {
         self.name(name);
         self.put_flag(right);
@@ -67,7 +67,7 @@ impl Reply {
 
     /// Null.
     pub fn put_null(&mut self) {
-        let done = self.writer().null();
+        let done = self.writer.null();
         self.room(done);
     }
 

@@ -11,7 +11,8 @@ use yaml_scan::yaml_fault_t;
 #[derive(Drop)]
 pub struct Reply {
     alloc: Global,
-    writer: Writer,
+    /// What the answer is written by.
+    pub(super) writer: Writer,
     wrong: Option<VectorError>,
 }
 
@@ -28,11 +29,6 @@ impl Reply {
     /// Where memory comes from.
     pub fn alloc(&self) -> Global {
         self.alloc
-    }
-
-    /// What the answer is written by.
-    pub fn writer(&mut self) -> &mut Writer {
-        &mut self.writer
     }
 
     /// Keeps the error, unless there is one.
@@ -73,17 +69,6 @@ impl Reply {
             Some(value) => value,
             None => {
                 self.miss(name);
-                otherwise
-            }
-        }
-    }
-
-    /// What was made, else `otherwise`.
-    pub fn keep<T: Drop>(&mut self, made: Result<T, VectorError>, otherwise: T) -> T {
-        match made {
-            Ok(value) => value,
-            Err(error) => {
-                self.refuse(error);
                 otherwise
             }
         }

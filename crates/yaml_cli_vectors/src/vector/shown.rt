@@ -8,15 +8,6 @@ use yaml_scan::{yaml_encoding_t, yaml_fault_t, yaml_origin_t};
 /// of the line.
 pub const OWN: &str = "the source's own fault";
 
-fn encoding_word(encoding: yaml_encoding_t) -> &'static str {
-    match encoding {
-        yaml_encoding_t::YAML_ANY_ENCODING => "any",
-        yaml_encoding_t::YAML_UTF8_ENCODING => "utf8",
-        yaml_encoding_t::YAML_UTF16LE_ENCODING => "utf16le",
-        yaml_encoding_t::YAML_UTF16BE_ENCODING => "utf16be",
-    }
-}
-
 fn origin_word(origin: yaml_origin_t) -> &'static str {
     match origin {
         yaml_origin_t::Reader => "Reader",
@@ -32,7 +23,10 @@ fn origin_word(origin: yaml_origin_t) -> &'static str {
 // The text that the line gives its source's fault.
 fn own_text<'a>(line: &'a Value, name: &'static str) -> Option<&'a str> {
     match line.get("own") {
-        Some(own) => own.get(name).and_then(Value::as_str),
+        Some(own) => match own.get(name) {
+            Some(Value::String(text)) => Some(text.as_str()),
+            _ => None,
+        },
         None => None,
     }
 }
@@ -49,7 +43,12 @@ fn texts<'a>(line: &'a Value, fault: &yaml_fault_t) -> (Option<&'a str>, Option<
 impl Reply {
     /// An encoding: any, utf8, utf16le or utf16be.
     pub fn put_encoding(&mut self, encoding: yaml_encoding_t) {
-        self.put_word(encoding_word(encoding));
+        self.put_word(match encoding {
+            yaml_encoding_t::YAML_ANY_ENCODING => "any",
+            yaml_encoding_t::YAML_UTF8_ENCODING => "utf8",
+            yaml_encoding_t::YAML_UTF16LE_ENCODING => "utf16le",
+            yaml_encoding_t::YAML_UTF16BE_ENCODING => "utf16be",
+        });
     }
 
     // A text, or null.
@@ -117,14 +116,6 @@ impl Reply {
         self.begin();
         self.name("answer");
         self.put_bytes(text);
-        self.end();
-    }
-
-    /// An answer that is null.
-    pub fn answer_nothing(&mut self) {
-        self.begin();
-        self.name("answer");
-        self.put_null();
         self.end();
     }
 

@@ -31,27 +31,14 @@ fn word(body: &yaml_token_body_t) -> &'static str {
     }
 }
 
-// A version's numbers.
-fn put_numbers(reply: &mut Reply, major: i32, minor: i32) {
-    reply.put_number(major);
-    reply.put_number(minor);
-}
-
-fn put_texts(reply: &mut Reply, first: &[u8], second: &[u8]) {
-    reply.put_bytes(first);
-    reply.put_bytes(second);
-}
-
-fn put_scalar(reply: &mut Reply, value: &[u8], style: &'static str) {
-    reply.put_bytes(value);
-    reply.put_word(style);
-}
-
 // What the token carries.
 fn put_carried(reply: &mut Reply, body: &yaml_token_body_t) {
     match body {
         yaml_token_body_t::StreamStart { encoding } => reply.put_encoding(*encoding),
-        yaml_token_body_t::VersionDirective { major, minor } => put_numbers(reply, *major, *minor),
+        yaml_token_body_t::VersionDirective { major, minor } => {
+            reply.put_number(*major);
+            reply.put_number(*minor);
+        }
         yaml_token_body_t::TagDirective {
             handle: first,
             prefix: second,
@@ -59,12 +46,16 @@ fn put_carried(reply: &mut Reply, body: &yaml_token_body_t) {
         | yaml_token_body_t::Tag {
             handle: first,
             suffix: second,
-        } => put_texts(reply, first.as_slice(), second.as_slice()),
+        } => {
+            reply.put_bytes(first.as_slice());
+            reply.put_bytes(second.as_slice());
+        }
         yaml_token_body_t::Alias { value } | yaml_token_body_t::Anchor { value } => {
             reply.put_bytes(value.as_slice())
         }
         yaml_token_body_t::Scalar { value, style } => {
-            put_scalar(reply, value.as_slice(), style::scalar_word(*style))
+            reply.put_bytes(value.as_slice());
+            reply.put_word(style::scalar_word(*style));
         }
         _ => {}
     }
@@ -115,45 +106,33 @@ fn plain_body(reply: &mut Reply, word: &str) -> yaml_token_body_t {
     }
 }
 
-fn version(reply: &mut Reply, token: &Value) -> yaml_token_body_t {
-    let major = reply.number(token, 3);
-    let minor = reply.number(token, 4);
-    yaml_token_body_t::VersionDirective { major, minor }
-}
-
-fn tag_directive(reply: &mut Reply, token: &Value) -> yaml_token_body_t {
-    let handle = reply.bytes(token, 3);
-    let prefix = reply.bytes(token, 4);
-    yaml_token_body_t::TagDirective { handle, prefix }
-}
-
-fn tag(reply: &mut Reply, token: &Value) -> yaml_token_body_t {
-    let handle = reply.bytes(token, 3);
-    let suffix = reply.bytes(token, 4);
-    yaml_token_body_t::Tag { handle, suffix }
-}
-
-fn scalar(reply: &mut Reply, token: &Value) -> yaml_token_body_t {
-    let value = reply.bytes(token, 3);
-    let style = style::scalar(reply, token, 4);
-    yaml_token_body_t::Scalar { value, style }
-}
-
 fn body(reply: &mut Reply, word: &str, token: &Value) -> yaml_token_body_t {
     match word {
         "STREAM-START" => yaml_token_body_t::StreamStart {
             encoding: reply.encoding(token, 3),
         },
-        "VERSION-DIRECTIVE" => version(reply, token),
-        "TAG-DIRECTIVE" => tag_directive(reply, token),
+        "VERSION-DIRECTIVE" => yaml_token_body_t::VersionDirective {
+            major: reply.number(token, 3),
+            minor: reply.number(token, 4),
+        },
+        "TAG-DIRECTIVE" => yaml_token_body_t::TagDirective {
+            handle: reply.bytes(token, 3),
+            prefix: reply.bytes(token, 4),
+        },
         "ALIAS" => yaml_token_body_t::Alias {
             value: reply.bytes(token, 3),
         },
         "ANCHOR" => yaml_token_body_t::Anchor {
             value: reply.bytes(token, 3),
         },
-        "TAG" => tag(reply, token),
-        "SCALAR" => scalar(reply, token),
+        "TAG" => yaml_token_body_t::Tag {
+            handle: reply.bytes(token, 3),
+            suffix: reply.bytes(token, 4),
+        },
+        "SCALAR" => yaml_token_body_t::Scalar {
+            value: reply.bytes(token, 3),
+            style: style::scalar(reply, token, 4),
+        },
         _ => plain_body(reply, word),
     }
 }

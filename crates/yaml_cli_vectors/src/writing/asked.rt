@@ -40,14 +40,6 @@ fn is_read(reply: &mut Reply, line: &Value) -> bool {
     }
 }
 
-// An input is read before the line's settings are, which a line needn't have where its input is refused.
-fn is_given(reply: &mut Reply, line: &Value, given: Given) -> bool {
-    match given {
-        Given::Input => is_read(reply, line),
-        _ => true,
-    }
-}
-
 fn emit_given(reply: &mut Reply, line: &Value, given: Given) {
     let settings = settings_of(reply, line);
     match emitter_under(reply.alloc(), &settings, settings.limit) {
@@ -59,9 +51,11 @@ fn emit_given(reply: &mut Reply, line: &Value, given: Given) {
     }
 }
 
-/// What an emitter under the line's settings answers on what it is given.
+/// What an emitter under the line's settings answers on what it is given. An input is read before the settings are, which a line
+/// needn't have where its input is refused.
 pub fn emit_line(reply: &mut Reply, line: &Value, given: Given) {
-    if is_given(reply, line, given) {
-        emit_given(reply, line, given);
+    match given {
+        Given::Input if !is_read(reply, line) => {}
+        _ => emit_given(reply, line, given),
     }
 }

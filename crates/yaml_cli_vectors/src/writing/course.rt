@@ -25,26 +25,16 @@ impl Course {
         }
     }
 
-    // The call is the first that is refused, or it is right.
-    fn begin(&mut self, answer: Option<yaml_fault_t>, size: usize) {
+    /// Takes what a call answered, and how many bytes the text has then.
+    pub fn take(&mut self, answer: Option<yaml_fault_t>, size: usize) {
+        if self.fault.is_some() {
+            self.kept = self.kept && answer == self.fault && size == self.size;
+            return;
+        }
         self.fault = answer;
         self.size = size;
         if answer.is_none() {
             self.number = self.number.wrapping_add(1);
-        }
-    }
-
-    // The call comes behind a fault.
-    fn keep(&mut self, answer: Option<yaml_fault_t>, size: usize) {
-        self.kept = self.kept && answer == self.fault && size == self.size;
-    }
-
-    /// Takes what a call answered, and how many bytes the text has then.
-    pub fn take(&mut self, answer: Option<yaml_fault_t>, size: usize) {
-        if self.fault.is_none() {
-            self.begin(answer, size);
-        } else {
-            self.keep(answer, size);
         }
     }
 }

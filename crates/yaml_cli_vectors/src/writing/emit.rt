@@ -9,30 +9,24 @@ use yaml_parse::{
     yaml_event_t, yaml_event_type_t, yaml_event_utf8, yaml_parser_delete, yaml_parser_parse,
 };
 
-// Gives the event, whose texts are to be UTF-8, from where it stands.
-fn give(reply: &mut Reply, event: &mut yaml_event_t, emitter: &mut yaml_emitter_t) {
+// Gives the event, whose texts are to be UTF-8, from where it stands. False for the empty one.
+fn give(reply: &mut Reply, event: &mut yaml_event_t, emitter: &mut yaml_emitter_t) -> bool {
+    if event.type_() == yaml_event_type_t::YAML_NO_EVENT {
+        return false;
+    }
     if yaml_event_utf8(event) {
         yaml_emitter_emit_from(emitter, event);
     } else {
         reply.miss("input");
     }
-}
-
-// The same of an event that isn't the empty one.
-fn give_some(reply: &mut Reply, event: &mut yaml_event_t, emitter: &mut yaml_emitter_t) -> bool {
-    if event.type_() == yaml_event_type_t::YAML_NO_EVENT {
-        false
-    } else {
-        give(reply, event, emitter);
-        true
-    }
+    true
 }
 
 // Gives the parser's next event. False behind the last.
 fn give_next(reply: &mut Reply, reading: &mut Reading, emitter: &mut yaml_emitter_t) -> bool {
     match yaml_parser_parse(reading) {
         Ok(mut event) => {
-            let is_some = give_some(reply, &mut event, emitter);
+            let is_some = give(reply, &mut event, emitter);
             drop(event);
             is_some
         }
@@ -62,15 +56,11 @@ fn give_input(reply: &mut Reply, line: &Value, emitter: &mut yaml_emitter_t) {
     }
 }
 
-fn put_text(reply: &mut Reply, emitter: &mut yaml_emitter_t) {
+/// What the emitter writes of the events of the line's input, as they are.
+pub fn answer(reply: &mut Reply, line: &Value, emitter: &mut yaml_emitter_t) {
+    give_input(reply, line, emitter);
     match flush(emitter) {
         None => reply.answer(yaml_emitter_output(emitter)),
         Some(fault) => reply.fault(fault),
     }
-}
-
-/// What the emitter writes of the events of the line's input, as they are.
-pub fn answer(reply: &mut Reply, line: &Value, emitter: &mut yaml_emitter_t) {
-    give_input(reply, line, emitter);
-    put_text(reply, emitter);
 }

@@ -8,28 +8,14 @@ use serde_json::Value;
 use yaml_emit::{yaml_emitter_output, yaml_emitter_t};
 use yaml_scan::{yaml_error_type_t, yaml_fault_t};
 
-// Flushes in mid-stream where the line has one and no fault has come.
-fn flush_right(reply: &mut Reply, line: &Value, emitter: &mut yaml_emitter_t, course: &Course) {
-    if course.fault.is_none() {
-        put_flushes(reply, line, course.number, emitter);
-    }
-}
-
-// Gives the events, with the flushes in mid-stream, and puts what each of these showed.
+// Gives the events, with the flushes in mid-stream that the line has, until a fault comes, and puts what each of these showed.
 fn give_all(reply: &mut Reply, line: &Value, emitter: &mut yaml_emitter_t, course: &mut Course) {
     for listed in reply.list(line, "events") {
         give_listed(reply, listed, emitter, course);
-        flush_right(reply, line, emitter, course);
+        if course.fault.is_none() {
+            put_flushes(reply, line, course.number, emitter);
+        }
     }
-}
-
-fn put_flushed(reply: &mut Reply, line: &Value, emitter: &mut yaml_emitter_t) -> Course {
-    let mut course = Course::new();
-    reply.name("flushed");
-    reply.begin_list();
-    give_all(reply, line, emitter, &mut course);
-    reply.end_list();
-    course
 }
 
 // Whether the last event that the line lists is the stream's end.
@@ -38,15 +24,6 @@ fn is_whole(reply: &mut Reply, line: &Value) -> bool {
         Some(event) => reply.text(event, 0) == "STREAM-END",
         None => false,
     }
-}
-
-// The text, and whether the events end the stream.
-fn put_right(reply: &mut Reply, line: &Value, text: &[u8]) {
-    reply.name("answer");
-    reply.put_bytes(text);
-    let whole = is_whole(reply, line);
-    reply.name("whole");
-    reply.put_flag(whole);
 }
 
 // The number of the refused call where the event is refused, else the output.
@@ -60,9 +37,15 @@ fn put_where(reply: &mut Reply, fault: &yaml_fault_t, number: u64, text: &[u8]) 
     }
 }
 
+// The text, and whether the events end the stream; or the fault, and where it came.
 fn put_end(reply: &mut Reply, line: &Value, course: &Course, text: &[u8]) {
     match &course.fault {
-        None => put_right(reply, line, text),
+        None => {
+            reply.name("answer");
+            reply.put_bytes(text);
+            let whole = is_whole(reply, line);
+            reply.check("whole", whole);
+        }
         Some(fault) => {
             reply.name_fault(line, fault);
             put_where(reply, fault, course.number, text);
@@ -70,20 +53,15 @@ fn put_end(reply: &mut Reply, line: &Value, course: &Course, text: &[u8]) {
     }
 }
 
-// What no line wants: a call behind the fault answered something else, or wrote.
-fn put_unkept(reply: &mut Reply, is_kept: bool) {
-    if !is_kept {
-        reply.name("kept");
-        reply.put_flag(false);
-    }
-}
-
-// What became of the events, behind a last flush.
+// What became of the events, behind a last flush. No line wants `kept`: a call behind the fault answered something else, or
+// wrote.
 fn put_course(reply: &mut Reply, line: &Value, emitter: &mut yaml_emitter_t, course: &mut Course) {
     let fault = flush(emitter);
     let text = yaml_emitter_output(emitter);
     course.take(fault, text.len());
-    put_unkept(reply, course.kept);
+    if !course.kept {
+        reply.check("kept", false);
+    }
     put_end(reply, line, course, text);
 }
 
@@ -91,8 +69,12 @@ fn put_course(reply: &mut Reply, line: &Value, emitter: &mut yaml_emitter_t, cou
 /// refused call's number or the output; and what flushes in mid-stream show. A call behind a fault is to answer it again
 /// and to write nothing.
 pub fn answer(reply: &mut Reply, line: &Value, emitter: &mut yaml_emitter_t) {
+    let mut course = Course::new();
     reply.begin();
-    let mut course = put_flushed(reply, line, emitter);
+    reply.name("flushed");
+    reply.begin_list();
+    give_all(reply, line, emitter, &mut course);
+    reply.end_list();
     put_course(reply, line, emitter, &mut course);
     reply.end();
 }

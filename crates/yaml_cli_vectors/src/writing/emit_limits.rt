@@ -7,17 +7,12 @@ use serde_json::Value;
 use yaml_emit::{yaml_emitter_into_output, yaml_emitter_t};
 use yaml_scan::{yaml_error_type_t, yaml_fault_t};
 
-// Gives all events, whatever is answered.
-fn give_all(reply: &mut Reply, line: &Value, emitter: &mut yaml_emitter_t) {
+// Gives all events, whatever is answered, and tells the fault that a flush answers behind them.
+fn told(reply: &mut Reply, line: &Value, emitter: &mut yaml_emitter_t) -> Option<yaml_fault_t> {
     let mut course = Course::new();
     for listed in reply.list(line, "events") {
         give_listed(reply, listed, emitter, &mut course);
     }
-}
-
-// The same, and the fault that a flush answers behind them.
-fn told(reply: &mut Reply, line: &Value, emitter: &mut yaml_emitter_t) -> Option<yaml_fault_t> {
-    give_all(reply, line, emitter);
     flush(emitter)
 }
 
@@ -39,25 +34,20 @@ fn write(
     }
 }
 
-// Whether that is the fault of a full output.
-fn is_full(fault: Option<yaml_fault_t>) -> bool {
-    match fault {
-        Some(fault) => fault.kind == yaml_error_type_t::YAML_WRITER_ERROR,
-        None => false,
-    }
-}
-
-fn is_cut(whole: &[u8], limit: usize, text: &[u8]) -> bool {
-    match whole.get(..limit) {
-        Some(front) => text == front,
-        None => false,
+// Whether that is the text up to the limit, with the fault of a full output.
+fn is_cut(whole: &[u8], limit: usize, text: &[u8], fault: Option<yaml_fault_t>) -> bool {
+    match (whole.get(..limit), fault) {
+        (Some(front), Some(fault)) => {
+            fault.kind == yaml_error_type_t::YAML_WRITER_ERROR && text == front
+        }
+        _ => false,
     }
 }
 
 // Whether that is the front of the text that fits the limit, with the fault of a full output where that isn't all.
 fn is_front(whole: &[u8], limit: usize, text: &[u8], fault: Option<yaml_fault_t>) -> bool {
     if limit < whole.len() {
-        is_full(fault) && is_cut(whole, limit, text)
+        is_cut(whole, limit, text, fault)
     } else {
         fault.is_none() && text == whole
     }
@@ -85,32 +75,18 @@ fn wrong_limit(reply: &mut Reply, line: &Value, settings: &Settings, whole: &[u8
     None
 }
 
-fn put_answer(reply: &mut Reply, line: &Value, settings: &Settings, whole: &[u8]) {
-    match wrong_limit(reply, line, settings, whole) {
-        None => reply.answer(whole),
-        Some(limit) => reply.answer_count(limit),
-    }
-}
-
-// The answer where the text fits the line's own limit, which is not to be passed.
-fn put_whole(
-    reply: &mut Reply,
-    line: &Value,
-    settings: &Settings,
-    whole: &[u8],
-    fault: Option<yaml_fault_t>,
-) {
-    match fault {
-        None => put_answer(reply, line, settings, whole),
-        Some(fault) => reply.fault(fault),
-    }
-}
-
 /// The text of the line's events, of which an emitter under any lesser limit writes the front that fits, and answers
-/// that its output is full; else the first limit under which it doesn't.
+/// that its output is full; else the first limit under which it doesn't. The line's own limit isn't to be passed.
 pub fn answer(reply: &mut Reply, line: &Value) {
     let settings = settings_of(reply, line);
     let mut whole = Vec::new(reply.alloc());
     let fault = write(reply, line, &settings, settings.limit, &mut whole);
-    put_whole(reply, line, &settings, whole.as_slice(), fault);
+    let whole = whole.as_slice();
+    match fault {
+        None => match wrong_limit(reply, line, &settings, whole) {
+            None => reply.answer(whole),
+            Some(limit) => reply.answer_count(limit),
+        },
+        Some(fault) => reply.fault(fault),
+    }
 }

@@ -8,29 +8,22 @@ use yaml_emit::{
 use yaml_parse::{yaml_event_t, yaml_event_utf8, yaml_text_fault_t};
 use yaml_scan::{yaml_fault_t, yaml_memory_fault, yaml_origin_t};
 
-/// What stands for a call that wasn't made, since what it is given couldn't be: no test wants it.
+/// What stands for a call that wasn't made, since what it is given couldn't be: no check takes it for right.
 pub(crate) fn unmade() -> Option<yaml_fault_t> {
     Some(yaml_memory_fault(yaml_origin_t::Reader))
 }
 
-// Gives the event, whose texts are to be UTF-8, and tells the fault that is answered.
-fn give_event(emitter: &mut yaml_emitter_t, event: yaml_event_t) -> Option<yaml_fault_t> {
-    if yaml_event_utf8(&event) {
-        yaml_emitter_emit(emitter, event).err()
-    } else {
-        drop(event);
-        unmade()
-    }
-}
-
-/// Gives the event that was made, and tells the fault that is answered.
+/// Gives the event that was made, whose texts are to be UTF-8, and tells the fault that is answered.
 pub(crate) fn give(
     emitter: &mut yaml_emitter_t,
     made: Result<yaml_event_t, yaml_text_fault_t>,
 ) -> Option<yaml_fault_t> {
     match made {
-        Ok(event) => give_event(emitter, event),
-        Err(_) => unmade(),
+        Ok(event) if yaml_event_utf8(&event) => yaml_emitter_emit(emitter, event).err(),
+        made => {
+            drop(made);
+            unmade()
+        }
     }
 }
 

@@ -7,7 +7,7 @@ use std::alloc::Global;
 use yaml_emit::{yaml_emitter_fault, yaml_emitter_output, yaml_emitter_t};
 use yaml_scan::yaml_error_type_t;
 
-const LEVELS: usize = 5_000;
+const LEVELS: i32 = 5_000;
 
 // In block form each level but the last is `- `.
 fn is_blocks(text: &[u8]) -> bool {
@@ -32,10 +32,14 @@ const FRONT: &[u8] = b"---\n!!seq [\n  !!seq [\n    !!seq [\n      !!";
 
 /// The front of a deep document's text, and the fault of a full output.
 pub(crate) fn has_front(alloc: Global, emitter: &mut yaml_emitter_t) -> bool {
-    let kind = dump(alloc, emitter, Holds::Sequences(LEVELS)).map(|fault| fault.kind);
-    kind == Some(yaml_error_type_t::YAML_WRITER_ERROR)
-        && yaml_emitter_fault(emitter).is_some()
-        && yaml_emitter_output(emitter) == FRONT
+    match dump(alloc, emitter, Holds::Sequences(LEVELS)) {
+        Some(fault) => {
+            fault.kind == yaml_error_type_t::YAML_WRITER_ERROR
+                && yaml_emitter_fault(emitter).is_some()
+                && yaml_emitter_output(emitter) == FRONT
+        }
+        None => false,
+    }
 }
 
 /// A deep document, whole and cut.

@@ -25,7 +25,7 @@ pub(crate) enum Holds {
     /// The same, where a scalar was refused behind it.
     FooAlone,
     /// Sequences in one another, so many of them.
-    Sequences(usize),
+    Sequences(i32),
 }
 
 /// The text of `foo` in canonical form: 16 bytes.
@@ -42,42 +42,17 @@ fn hold(document: &mut yaml_document_t, sequence: i32, item: i32) -> bool {
     yaml_document_append_sequence_item(document, sequence, item).is_ok()
 }
 
-fn add_sequence(document: &mut yaml_document_t) -> Option<i32> {
-    yaml_document_add_sequence(document, None, SEQUENCE).ok()
-}
-
-fn held(document: &mut yaml_document_t, outer: i32, inner: i32) -> Option<i32> {
-    if hold(document, outer, inner) {
-        Some(inner)
-    } else {
-        None
-    }
-}
-
-// A sequence in that sequence.
-fn nest_once(document: &mut yaml_document_t, outer: i32) -> Option<i32> {
-    match add_sequence(document) {
-        Some(inner) => held(document, outer, inner),
-        None => None,
-    }
-}
-
-fn nest_in(document: &mut yaml_document_t, outermost: i32, levels: usize) -> bool {
-    let mut outer = outermost;
-    for _ in 1..levels {
-        match nest_once(document, outer) {
-            Some(inner) => outer = inner,
-            None => return false,
+// Sequences in one another, from the outermost on. False where one of them isn't made.
+fn nest(document: &mut yaml_document_t, levels: i32) -> bool {
+    for outer in 0..levels {
+        if yaml_document_add_sequence(document, None, SEQUENCE).is_err() {
+            return false;
+        }
+        if outer > 0 && !hold(document, outer, outer.saturating_add(1)) {
+            return false;
         }
     }
     true
-}
-
-fn nest(document: &mut yaml_document_t, levels: usize) -> bool {
-    match add_sequence(document) {
-        Some(outermost) => nest_in(document, outermost, levels),
-        None => false,
-    }
 }
 
 fn add_foo(document: &mut yaml_document_t) -> bool {

@@ -36,46 +36,59 @@ fn misplaced(problem: &'static str) -> yaml_fault_t {
     }
 }
 
-fn dump_foo(alloc: Global, emitter: &mut yaml_emitter_t) -> Option<yaml_fault_t> {
-    dump(alloc, emitter, Holds::Foo)
+// A call behind a fault.
+#[derive(Clone, Copy)]
+enum Call<'a> {
+    Give(Sign<'a>),
+    Dump,
+    Turn,
+    Flush,
 }
 
-const GIVEN: [Sign; 4] = [Sign::Stream, Sign::Scalar, Sign::Bare, Sign::EndStream];
+const CALLS: [Call; 7] = [
+    Call::Give(Sign::Stream),
+    Call::Give(Sign::Scalar),
+    Call::Give(Sign::Bare),
+    Call::Give(Sign::EndStream),
+    Call::Dump,
+    Call::Turn,
+    Call::Flush,
+];
 
-// Whether every event is answered by that fault.
-fn gives(alloc: Global, emitter: &mut yaml_emitter_t, fault: yaml_fault_t) -> bool {
-    for sign in &GIVEN {
-        if give_sign(alloc, emitter, *sign) != Some(fault) {
-            return false;
-        }
+fn called(alloc: Global, emitter: &mut yaml_emitter_t, call: Call) -> Option<yaml_fault_t> {
+    match call {
+        Call::Give(sign) => give_sign(alloc, emitter, sign),
+        Call::Dump => dump(alloc, emitter, Holds::Foo),
+        Call::Turn => turn(emitter),
+        Call::Flush => flush(emitter),
     }
-    true
 }
 
 // Whether every call answers that fault, and the output stays.
 fn stays(alloc: Global, emitter: &mut yaml_emitter_t, fault: yaml_fault_t, text: &[u8]) -> bool {
-    let gives = gives(alloc, emitter, fault);
-    let dumps = dump_foo(alloc, emitter) == Some(fault);
-    let turns = turn(emitter) == Some(fault);
-    let flushes = flush(emitter) == Some(fault);
-    gives && dumps && turns && flushes && yaml_emitter_output(emitter) == text
+    for call in &CALLS {
+        if called(alloc, emitter, *call) != Some(fault) {
+            return false;
+        }
+    }
+    yaml_emitter_output(emitter) == text
 }
 
 /// Whether a dump passes the limit, of which the output is the front of the text.
 pub(crate) fn has_front(alloc: Global, emitter: &mut yaml_emitter_t, limit: usize) -> bool {
     let front = TEXT.get(..limit).unwrap_or(&[]);
-    let fails = dump_foo(alloc, emitter) == Some(FULL);
+    let fails = dump(alloc, emitter, Holds::Foo) == Some(FULL);
     fails && stays(alloc, emitter, FULL, front)
 }
 
 /// Whether a second dump passes the limit.
 pub(crate) fn has_whole(alloc: Global, emitter: &mut yaml_emitter_t) -> bool {
-    let first = dump_foo(alloc, emitter);
+    let first = dump(alloc, emitter, Holds::Foo);
     first.is_none() && has_front(alloc, emitter, 16)
 }
 
 fn dumps_nothing(alloc: Global, emitter: &mut yaml_emitter_t) -> bool {
-    let fails = dump_foo(alloc, emitter) == Some(FULL);
+    let fails = dump(alloc, emitter, Holds::Foo) == Some(FULL);
     let shows = yaml_emitter_output(emitter) == b"---".as_slice();
     fails && shows && yaml_emitter_opened(emitter)
 }
@@ -89,23 +102,14 @@ pub(crate) fn is_full(alloc: Global, emitter: &mut yaml_emitter_t) -> bool {
     opening.is_none() && first && second && stays
 }
 
-fn dump_empty(alloc: Global, emitter: &mut yaml_emitter_t) -> Option<yaml_fault_t> {
-    dump(alloc, emitter, Holds::Nothing)
-}
-
-// A document without root closes the stream, and may come again.
-fn closes(alloc: Global, emitter: &mut yaml_emitter_t) -> bool {
-    let dumped = dump_foo(alloc, emitter);
-    let first = dump_empty(alloc, emitter);
-    let second = dump_empty(alloc, emitter);
-    dumped.is_none() && first.is_none() && second.is_none()
-}
-
-/// Whether what is dumped behind that is refused.
+/// Whether a document without root closes the stream, and may come again, and what is dumped behind that is refused.
 pub(crate) fn is_closed(alloc: Global, emitter: &mut yaml_emitter_t) -> bool {
     let refused = misplaced("expected nothing after STREAM-END");
-    let closes = closes(alloc, emitter);
-    let refuses = dump_foo(alloc, emitter) == Some(refused);
+    let dumped = dump(alloc, emitter, Holds::Foo);
+    let first = dump(alloc, emitter, Holds::Nothing);
+    let second = dump(alloc, emitter, Holds::Nothing);
+    let closes = dumped.is_none() && first.is_none() && second.is_none();
+    let refuses = dump(alloc, emitter, Holds::Foo) == Some(refused);
     let stays = stays(alloc, emitter, refused, TEXT);
     closes && refuses && stays
 }

@@ -5,6 +5,7 @@ use super::event::Sign;
 use super::owner::{Asked, is_right};
 use crate::vector::Reply;
 use std::alloc::{AllocError, Global};
+use std::fmt::{self, Write};
 use yaml_emit::{yaml_emitter_output, yaml_emitter_t};
 use yaml_parse::{
     yaml_document_end_event_initialize, yaml_document_start_event_initialize, yaml_event_t,
@@ -14,23 +15,15 @@ use yaml_scan::{yaml_sequence_style_t, yaml_tag_directive_t};
 
 const COUNT: usize = 3000;
 
-// The directive of a number.
-fn numbered(alloc: Global, number: usize) -> Result<yaml_tag_directive_t, AllocError> {
-    let handle = format!(in alloc; "!h{number}!")?;
-    let prefix = format!(in alloc; "tag:x,{number}:")?;
-    Ok(yaml_tag_directive_t {
-        handle: handle.into_bytes(),
-        prefix: prefix.into_bytes(),
-    })
-}
-
+// Adds the directive of a number.
 fn push_numbered(
     alloc: Global,
     directives: &mut Vec<yaml_tag_directive_t>,
     number: usize,
 ) -> Result<(), AllocError> {
-    let directive = numbered(alloc, number)?;
-    directives.push(directive)?;
+    let handle = format!(in alloc; "!h{number}!")?.into_bytes();
+    let prefix = format!(in alloc; "tag:x,{number}:")?.into_bytes();
+    directives.push(yaml_tag_directive_t { handle, prefix })?;
     Ok(())
 }
 
@@ -55,31 +48,28 @@ fn start(alloc: Global) -> Result<yaml_event_t, yaml_text_fault_t> {
     }
 }
 
-fn begin_sequence(alloc: Global, emitter: &mut yaml_emitter_t) -> bool {
-    let style = yaml_sequence_style_t::YAML_BLOCK_SEQUENCE_STYLE;
-    let start = yaml_sequence_start_event_initialize(alloc, None, None, true, style);
-    give(emitter, start).is_none()
-}
-
 fn begin(alloc: Global, emitter: &mut yaml_emitter_t) -> bool {
+    let block = yaml_sequence_style_t::YAML_BLOCK_SEQUENCE_STYLE;
     give_sign(alloc, emitter, Sign::Stream).is_none()
         && give(emitter, start(alloc)).is_none()
-        && begin_sequence(alloc, emitter)
+        && give(
+            emitter,
+            yaml_sequence_start_event_initialize(alloc, None, None, true, block),
+        )
+        .is_none()
 }
 
 // A scalar with the tag of a number.
-fn give_numbered(
-    alloc: Global,
-    emitter: &mut yaml_emitter_t,
-    number: usize,
-) -> Result<bool, AllocError> {
-    let tag = format!(in alloc; "tag:x,{number}:t")?;
-    Ok(give_sign(alloc, emitter, Sign::Tagged(tag.as_bytes())).is_none())
+fn give_numbered(alloc: Global, emitter: &mut yaml_emitter_t, number: usize) -> bool {
+    match format!(in alloc; "tag:x,{number}:t") {
+        Ok(tag) => give_sign(alloc, emitter, Sign::Tagged(tag.as_bytes())).is_none(),
+        Err(_) => false,
+    }
 }
 
 fn give_scalars(alloc: Global, emitter: &mut yaml_emitter_t) -> bool {
     for number in 0..COUNT {
-        if give_numbered(alloc, emitter, number) != Ok(true) {
+        if !give_numbered(alloc, emitter, number) {
             return false;
         }
     }
@@ -92,19 +82,10 @@ fn end(alloc: Global, emitter: &mut yaml_emitter_t) -> bool {
         && give_sign(alloc, emitter, Sign::EndStream).is_none()
 }
 
-fn give_many(alloc: Global, emitter: &mut yaml_emitter_t) -> bool {
-    begin(alloc, emitter) && give_scalars(alloc, emitter) && end(alloc, emitter)
-}
-
-// Adds the line of a number.
-fn add_line(alloc: Global, lines: &mut String, number: usize) -> Result<(), AllocError> {
-    let line = format!(in alloc; "- !h{number}!t a\n")?;
-    lines.push_str(&line)
-}
-
-fn add_lines(alloc: Global, lines: &mut String) -> Result<(), AllocError> {
+// Adds a line for each number.
+fn add_lines(lines: &mut String) -> fmt::Result {
     for number in 0..COUNT {
-        add_line(alloc, lines, number)?;
+        write!(lines, "- !h{number}!t a\n")?;
     }
     Ok(())
 }
@@ -112,13 +93,16 @@ fn add_lines(alloc: Global, lines: &mut String) -> Result<(), AllocError> {
 // Whether the text ends with a line for each number.
 fn has_lines(alloc: Global, text: &[u8]) -> bool {
     let mut lines = String::new(alloc);
-    let added = add_lines(alloc, &mut lines);
+    let added = add_lines(&mut lines);
     added.is_ok() && text.ends_with(lines.as_bytes())
 }
 
 /// Whether the scalars are written, each with its own directive's handle.
 pub(crate) fn are_written(alloc: Global, emitter: &mut yaml_emitter_t) -> bool {
-    give_many(alloc, emitter) && has_lines(alloc, yaml_emitter_output(emitter))
+    begin(alloc, emitter)
+        && give_scalars(alloc, emitter)
+        && end(alloc, emitter)
+        && has_lines(alloc, yaml_emitter_output(emitter))
 }
 
 /// As many tags as directives.

@@ -21,18 +21,17 @@ fn stops_deep(sink: &mut Sink) -> bool {
     sink.status() == Status::Deep && sink.output() == b"a".as_slice()
 }
 
-fn is_full(alloc: Global) -> bool {
+fn stops(alloc: Global, is_deep: bool) -> bool {
     let mut sink = Sink::new(alloc, 3);
-    stops_full(&mut sink)
-}
-
-fn is_deep(alloc: Global) -> bool {
-    let mut sink = Sink::new(alloc, 3);
-    stops_deep(&mut sink)
+    if is_deep {
+        stops_deep(&mut sink)
+    } else {
+        stops_full(&mut sink)
+    }
 }
 
 /// An output that is full, and one that is too deep.
 pub(crate) fn an_output_stops(reply: &mut Reply) {
-    reply.check("full", is_full(reply.alloc()));
-    reply.check("deep", is_deep(reply.alloc()));
+    reply.check("full", stops(reply.alloc(), false));
+    reply.check("deep", stops(reply.alloc(), true));
 }

@@ -1,5 +1,5 @@
-//! The emitters of these tests. One function owns them, and lends each at once: an owner that may still end in several ways is dear
-//! to prove.
+//! The emitters of these checks. One function owns them, and lends each at once: an owner that may still end in several ways is
+//! dear to prove.
 
 use super::kept_faults::{Row, has_front, has_whole, is_closed, is_full, keeps};
 use super::{deep, document, many_tags};

@@ -18,10 +18,6 @@ fn is_refused(made: Made) -> bool {
     made.err() == Some(yaml_text_fault_t::NotUtf8)
 }
 
-fn refuses_alias(alloc: Global) -> bool {
-    is_refused(yaml_alias_event_initialize(alloc, b"\xFF"))
-}
-
 const PLAIN: yaml_scalar_style_t = yaml_scalar_style_t::YAML_PLAIN_SCALAR_STYLE;
 
 fn refuses_scalar(alloc: Global, anchor: Option<&[u8]>, tag: Option<&[u8]>, value: &[u8]) -> bool {
@@ -34,18 +30,17 @@ fn refuses_scalars(alloc: Global) -> bool {
         && refuses_scalar(alloc, None, None, b"\xFF")
 }
 
-fn refuses_sequence(alloc: Global) -> bool {
-    let flow = yaml_sequence_style_t::YAML_FLOW_SEQUENCE_STYLE;
-    is_refused(yaml_sequence_start_event_initialize(alloc, Some(b"\xC0\x80"), None, false, flow))
-}
-
-fn refuses_mapping(alloc: Global) -> bool {
-    let block = yaml_mapping_style_t::YAML_BLOCK_MAPPING_STYLE;
-    is_refused(yaml_mapping_start_event_initialize(alloc, None, Some(b"\xED\xA0\x80"), true, block))
-}
-
 fn refuses_collections(alloc: Global) -> bool {
-    refuses_sequence(alloc) && refuses_mapping(alloc)
+    let flow = yaml_sequence_style_t::YAML_FLOW_SEQUENCE_STYLE;
+    let block = yaml_mapping_style_t::YAML_BLOCK_MAPPING_STYLE;
+    is_refused(yaml_sequence_start_event_initialize(alloc, Some(b"\xC0\x80"), None, false, flow))
+        && is_refused(yaml_mapping_start_event_initialize(
+            alloc,
+            None,
+            Some(b"\xED\xA0\x80"),
+            true,
+            block,
+        ))
 }
 
 /// Adds a directive.
@@ -61,20 +56,18 @@ pub(crate) fn push(
     Ok(())
 }
 
-fn refuses_start(alloc: Global, directives: &[yaml_tag_directive_t]) -> bool {
-    is_refused(yaml_document_start_event_initialize(alloc, None, directives, false))
-}
-
 fn refuses_directives(alloc: Global) -> bool {
     let mut directives = Vec::new(alloc);
     let pushed = push(alloc, &mut directives, b"!", b"\xFF");
-    pushed.is_ok() && refuses_start(alloc, directives.as_slice())
+    let made = yaml_document_start_event_initialize(alloc, None, directives.as_slice(), false);
+    is_refused(made) && pushed.is_ok()
 }
 
 /// Texts that aren't UTF-8, in events of each kind.
 pub(crate) fn refuses_texts(reply: &mut Reply) {
     reply.check("directives", refuses_directives(reply.alloc()));
-    reply.check("alias", refuses_alias(reply.alloc()));
+    let alias = yaml_alias_event_initialize(reply.alloc(), b"\xFF");
+    reply.check("alias", is_refused(alias));
     reply.check("scalars", refuses_scalars(reply.alloc()));
     reply.check("collections", refuses_collections(reply.alloc()));
 }

@@ -20,14 +20,6 @@ const VERSION: Option<yaml_version_directive_t> = Some(yaml_version_directive_t 
     minor: 2,
 });
 
-fn has_directives(document: &yaml_document_t) -> bool {
-    document.version_directive() == VERSION && document.tag_directives().len() == 1
-}
-
-fn stands_nowhere(document: &yaml_document_t) -> bool {
-    document.start_mark() == ZERO && document.end_mark() == ZERO
-}
-
 fn has_no_node(document: &yaml_document_t) -> bool {
     yaml_document_get_root_node(document).is_none()
         && yaml_document_get_node(document, 0).is_none()
@@ -35,22 +27,20 @@ fn has_no_node(document: &yaml_document_t) -> bool {
 }
 
 fn is_new(document: &yaml_document_t) -> bool {
-    let has_directives = has_directives(document);
-    let stands_nowhere = stands_nowhere(document);
-    let has_no_node = has_no_node(document);
-    has_directives && stands_nowhere && has_no_node && document.start_implicit()
+    document.version_directive() == VERSION
+        && document.tag_directives().len() == 1
+        && document.start_mark() == ZERO
+        && document.end_mark() == ZERO
+        && has_no_node(document)
+        && document.start_implicit()
 }
 
 // Whether the end is explicit, and implicit once that is set.
-fn ends(document: &mut yaml_document_t) -> bool {
-    let before = document.end_implicit();
-    yaml_document_set_end_implicit(document, true);
-    !before && document.end_implicit()
-}
-
 fn is_made(document: &mut yaml_document_t) -> bool {
     let is_new = is_new(document);
-    ends(document) && is_new
+    let before = document.end_implicit();
+    yaml_document_set_end_implicit(document, true);
+    is_new && !before && document.end_implicit()
 }
 
 // Whether a document with those directives is made.
@@ -65,11 +55,6 @@ fn makes(alloc: Global, directives: &[yaml_tag_directive_t]) -> bool {
     }
 }
 
-fn is_refused(alloc: Global, directives: &[yaml_tag_directive_t]) -> bool {
-    let refused = yaml_document_initialize(alloc, None, directives, true, true);
-    refused.err() == Some(yaml_text_fault_t::NotUtf8)
-}
-
 // A directive that is made, or one that is refused.
 fn is_right(alloc: Global, prefix: &[u8], is_good: bool) -> bool {
     let mut directives = Vec::new(alloc);
@@ -77,7 +62,8 @@ fn is_right(alloc: Global, prefix: &[u8], is_good: bool) -> bool {
     let right = if is_good {
         makes(alloc, directives.as_slice())
     } else {
-        is_refused(alloc, directives.as_slice())
+        let refused = yaml_document_initialize(alloc, None, directives.as_slice(), true, true);
+        refused.err() == Some(yaml_text_fault_t::NotUtf8)
     };
     pushed.is_ok() && right
 }

@@ -5,8 +5,8 @@ use super::owner::{Asked, is_right};
 use crate::vector::Reply;
 use std::alloc::{AllocError, Global};
 use yaml_parse::{
-    yaml_encoding_t, yaml_error_type_t, yaml_event_t, yaml_event_type_t, yaml_fault_t, yaml_mark_t,
-    yaml_origin_t, yaml_parser_between, yaml_parser_delete, yaml_parser_initialize,
+    yaml_document_delete, yaml_encoding_t, yaml_error_type_t, yaml_event_type_t, yaml_fault_t,
+    yaml_mark_t, yaml_origin_t, yaml_parser_between, yaml_parser_delete, yaml_parser_initialize,
     yaml_parser_load, yaml_parser_parse, yaml_parser_prefix, yaml_parser_t, yaml_token_body_t,
     yaml_token_source_t, yaml_token_t,
 };
@@ -20,14 +20,19 @@ pub(crate) const ZERO: yaml_mark_t = yaml_mark_t {
     column: 0,
 };
 
-// One function lets events go, since each one that does is dear to prove.
-fn type_of(event: yaml_event_t) -> yaml_event_type_t {
-    event.type_()
-}
+// An event's type and both of its places; none where it was refused.
+type Shown = Option<(yaml_event_type_t, yaml_mark_t, yaml_mark_t)>;
 
-fn next_type<S: yaml_token_source_t>(parser: &mut yaml_parser_t<S>) -> Option<yaml_event_type_t> {
+const NOTHING: Shown = Some((yaml_event_type_t::YAML_NO_EVENT, ZERO, ZERO));
+
+// The next event. One function lets events go, since each one that does is dear to prove.
+fn next<S: yaml_token_source_t>(parser: &mut yaml_parser_t<S>) -> Shown {
     match yaml_parser_parse(parser) {
-        Ok(event) => Some(type_of(event)),
+        Ok(event) => {
+            let shown = (event.type_(), event.start_mark, event.end_mark);
+            drop(event);
+            Some(shown)
+        }
         Err(_) => None,
     }
 }
@@ -38,25 +43,17 @@ fn gives<S: yaml_token_source_t>(
     types: &[yaml_event_type_t],
 ) -> bool {
     for want in types {
-        if next_type(parser) != Some(*want) {
-            return false;
+        match next(parser) {
+            Some((given, _, _)) if given == *want => {}
+            _ => return false,
         }
     }
     true
 }
 
-fn is_empty(event: yaml_event_t) -> bool {
-    event.type_() == yaml_event_type_t::YAML_NO_EVENT
-        && event.start_mark == ZERO
-        && event.end_mark == ZERO
-}
-
-// Whether the next event is the empty one.
-fn is_over<S: yaml_token_source_t>(parser: &mut yaml_parser_t<S>) -> bool {
-    match yaml_parser_parse(parser) {
-        Ok(event) => is_empty(event),
-        Err(_) => false,
-    }
+/// Whether the next event is the empty one.
+pub(crate) fn is_over<S: yaml_token_source_t>(parser: &mut yaml_parser_t<S>) -> bool {
+    next(parser) == NOTHING
 }
 
 /// Whether the parser gives these events, and behind them nothing, as often as it is asked.
@@ -98,7 +95,10 @@ fn next_problem(parser: &mut yaml_parser_t<yaml_adapter_t>) -> (Option<&'static 
         return (None, false);
     }
     match yaml_parser_load(parser) {
-        Ok(_) => (None, false),
+        Ok(document) => {
+            yaml_document_delete(document);
+            (None, false)
+        }
         Err(fault) => (
             Some(fault.problem),
             yaml_parser_prefix(parser).problem_mark == fault.problem_mark,
@@ -139,18 +139,16 @@ const EMPTY: [yaml_event_type_t; 2] = [
 ];
 
 // A fault that stands behind the end of the stream.
-fn never() -> yaml_fault_t {
-    yaml_fault_t {
-        kind: yaml_error_type_t::YAML_SCANNER_ERROR,
-        problem: "asked past the end",
-        offset: 0,
-        value: 0,
-        problem_mark: ZERO,
-        context: None,
-        context_mark: ZERO,
-        origin: yaml_origin_t::Scanner,
-    }
-}
+const NEVER: yaml_fault_t = yaml_fault_t {
+    kind: yaml_error_type_t::YAML_SCANNER_ERROR,
+    problem: "asked past the end",
+    offset: 0,
+    value: 0,
+    problem_mark: ZERO,
+    context: None,
+    context_mark: ZERO,
+    origin: yaml_origin_t::Scanner,
+};
 
 fn push_stream(list: &mut yaml_token_list_t) -> Result<(), AllocError> {
     let encoding = yaml_encoding_t::YAML_UTF8_ENCODING;
@@ -174,7 +172,7 @@ fn ends_stream(alloc: Global, list: yaml_token_list_t) -> bool {
 fn ends_before_fault(alloc: Global) -> bool {
     let mut list = yaml_token_list_t::new(alloc);
     let pushed = push_stream(&mut list);
-    list.end(never());
+    list.end(NEVER);
     let ends = ends_stream(alloc, list);
     pushed.is_ok() && ends
 }

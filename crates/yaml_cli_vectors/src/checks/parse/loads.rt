@@ -4,6 +4,7 @@ use super::endings::ZERO;
 use super::owner::{Asked, is_right};
 use crate::vector::Reply;
 use std::alloc::{AllocError, Global};
+use std::fmt::{self, Write};
 use yaml_parse::{
     yaml_document_delete, yaml_document_get_node, yaml_document_get_root_node, yaml_document_t,
     yaml_node_body_t, yaml_parser_between, yaml_parser_load, yaml_parser_t,
@@ -23,13 +24,9 @@ pub(crate) enum Wanted<'a> {
     Sequence(&'a [i32]),
 }
 
-fn has_root(document: &yaml_document_t) -> bool {
-    yaml_document_get_root_node(document).is_some()
-}
-
 // Whether the document has nothing.
 fn is_empty(document: &yaml_document_t) -> bool {
-    !has_root(document)
+    yaml_document_get_root_node(document).is_none()
         && document.version_directive().is_none()
         && document.tag_directives().is_empty()
         && !document.start_implicit()
@@ -62,7 +59,7 @@ fn holds(document: &yaml_document_t, want: &[i32]) -> bool {
 fn is_wanted(document: &yaml_document_t, wanted: Wanted) -> bool {
     match wanted {
         Wanted::Document => true,
-        Wanted::Root => has_root(document),
+        Wanted::Root => yaml_document_get_root_node(document).is_some(),
         Wanted::Nothing => is_empty(document),
         Wanted::Sequence(want) => holds(document, want),
     }
@@ -90,26 +87,16 @@ pub(crate) fn has_one(parser: &mut yaml_parser_t<yaml_adapter_t>) -> bool {
         && loads_next(parser, Wanted::Nothing)
 }
 
-// A sign, the number in three letters, and a comma.
-fn name(text: &mut Vec<u8>, sign: u8, number: u16) -> Result<(), AllocError> {
-    text.push(sign)?;
-    for place in [number / 676, number / 26, number] {
-        text.push(b'a' + (place % 26) as u8)?;
-    }
-    text.push(b',')?;
-    Ok(())
-}
-
 // Empty nodes with anchors of their own, and then an alias of each, the last anchor first.
-fn add_anchored(text: &mut Vec<u8>) -> Result<(), AllocError> {
-    text.push(b'[')?;
+fn add_anchored(text: &mut String) -> fmt::Result {
+    text.push('[')?;
     for number in 0..ANCHORS {
-        name(text, b'&', number)?;
+        write!(text, "&a{number},")?;
     }
     for number in 0..ANCHORS {
-        name(text, b'*', ANCHORS - 1 - number)?;
+        write!(text, "*a{},", ANCHORS - 1 - number)?;
     }
-    text.push(b']')?;
+    text.push(']')?;
     Ok(())
 }
 
@@ -124,16 +111,12 @@ fn add_numbers(numbers: &mut Vec<i32>) -> Result<(), AllocError> {
     Ok(())
 }
 
-fn loads_sequence(alloc: Global, text: &[u8]) -> bool {
-    let mut numbers = Vec::new(alloc);
-    let added = add_numbers(&mut numbers);
-    added.is_ok() && is_right(alloc, text, Asked::Sequence(numbers.as_slice()))
-}
-
 fn loads_anchors(alloc: Global) -> bool {
-    let mut text = Vec::new(alloc);
-    let added = add_anchored(&mut text);
-    added.is_ok() && loads_sequence(alloc, text.as_slice())
+    let mut text = String::new(alloc);
+    let mut numbers = Vec::new(alloc);
+    let named = add_anchored(&mut text).is_ok();
+    let numbered = add_numbers(&mut numbers).is_ok();
+    named && numbered && is_right(alloc, text.as_bytes(), Asked::Sequence(numbers.as_slice()))
 }
 
 /// One document, and what is behind it; and a sequence of many aliases.

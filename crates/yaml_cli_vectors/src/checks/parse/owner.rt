@@ -1,4 +1,4 @@
-//! The parsers of these tests. One function owns them, and lends each at once: an owner that may still end in several ways is
+//! The parsers of these checks. One function owns them, and lends each at once: an owner that may still end in several ways is
 //! dear to prove.
 
 use super::endings::{ends_behind, refuses};

@@ -1,17 +1,14 @@
-//! The scanner's sessions: what is lent and dropped, and what is answered behind the end and behind a fault. Each session is lent as soon as
-//! it is made, and what it answers is kept as plain values: an owner that may still end in several ways is dear to prove.
+//! The scanner's sessions: what is lent and dropped, and what is answered behind the end and behind a fault. Each session is lent
+//! as soon as it is made, and what it answers is kept as plain values: an owner that may still end in several ways is dear to prove.
 
 use crate::vector::Reply;
 use std::alloc::Global;
 use yaml_scan::{
-    yaml_encoding_t, yaml_fault_t, yaml_mark_t, yaml_parser_fault, yaml_parser_has_token,
-    yaml_parser_peek, yaml_parser_scan, yaml_parser_skip, yaml_parser_t, yaml_token_t,
-    yaml_token_type_t,
+    yaml_encoding_t, yaml_mark_t, yaml_parser_fault, yaml_parser_has_token, yaml_parser_peek,
+    yaml_parser_scan, yaml_parser_skip, yaml_parser_t, yaml_token_t, yaml_token_type_t,
 };
 
-fn session_of(alloc: Global, text: &[u8]) -> yaml_parser_t<'_> {
-    yaml_parser_t::new(alloc, text, yaml_encoding_t::YAML_ANY_ENCODING)
-}
+const ANY: yaml_encoding_t = yaml_encoding_t::YAML_ANY_ENCODING;
 
 // A token's type and both of its places; none where the token was refused.
 type Shown = Option<(yaml_token_type_t, yaml_mark_t, yaml_mark_t)>;
@@ -31,7 +28,11 @@ fn shown(token: &yaml_token_t) -> Shown {
 // The token that is given.
 fn given(session: &mut yaml_parser_t) -> Shown {
     match yaml_parser_scan(session) {
-        Ok(token) => shown(&token),
+        Ok(token) => {
+            let shown = shown(&token);
+            drop(token);
+            shown
+        }
         Err(_) => None,
     }
 }
@@ -65,19 +66,13 @@ fn lends(session: &mut yaml_parser_t, want: Shown) -> bool {
     is_token(want) && first == want && second == want && third == want
 }
 
-// Drops the token that is known, if one is.
-fn skip(session: &mut yaml_parser_t) -> bool {
+// A skip drops the token that was lent.
+fn skips(session: &mut yaml_parser_t, want: Shown) -> bool {
+    let first = lent(session);
     let known = yaml_parser_has_token(session);
     if known {
         yaml_parser_skip(session);
     }
-    known
-}
-
-// A skip drops the token that was lent.
-fn skips(session: &mut yaml_parser_t, want: Shown) -> bool {
-    let first = lent(session);
-    let known = skip(session);
     is_token(want) && first == want && known
 }
 
@@ -111,49 +106,42 @@ fn have_same(
     is_over(giving) && is_over(session)
 }
 
-// Whether a session of the text has so many tokens in that way, the same ones as one that gives them.
-fn has_given(alloc: Global, text: &[u8], count: u64, way: Way, giving: &mut yaml_parser_t) -> bool {
-    let mut session = session_of(alloc, text);
-    have_same(&mut session, way, giving, count)
-}
-
 // Whether sessions of the text have so many tokens, the same ones where they are asked in that way as where they are given.
 fn has_tokens(alloc: Global, text: &[u8], count: u64, way: Way) -> bool {
-    let mut giving = session_of(alloc, text);
-    has_given(alloc, text, count, way, &mut giving)
-}
-
-fn gives(session: &mut yaml_parser_t, count: u64) -> bool {
-    for _ in 0..count {
-        if given(session).is_none() {
-            return false;
-        }
-    }
-    true
-}
-
-// Nothing comes behind the fault, which is kept.
-fn keeps(session: &mut yaml_parser_t, fault: &yaml_fault_t, problem: &str) -> bool {
-    let over = is_over(session);
-    fault.problem == problem && over && yaml_parser_fault(session) == Some(fault)
+    let mut giving = yaml_parser_t::new(alloc, text, ANY);
+    let mut session = yaml_parser_t::new(alloc, text, ANY);
+    let same = have_same(&mut session, way, &mut giving, count);
+    drop(session);
+    drop(giving);
+    same
 }
 
 // The fault comes, is kept, and nothing comes behind it.
 fn refuses(session: &mut yaml_parser_t, problem: &str) -> bool {
     match yaml_parser_scan(session).err() {
-        Some(fault) => keeps(session, &fault, problem),
+        Some(fault) => {
+            let over = is_over(session);
+            fault.problem == problem && over && yaml_parser_fault(session) == Some(&fault)
+        }
         None => false,
     }
 }
 
 // The tokens are so many, and then the fault comes.
 fn refuses_behind(session: &mut yaml_parser_t, count: u64, problem: &str) -> bool {
-    gives(session, count) && yaml_parser_fault(session).is_none() && refuses(session, problem)
+    for _ in 0..count {
+        if given(session).is_none() {
+            return false;
+        }
+    }
+    yaml_parser_fault(session).is_none() && refuses(session, problem)
 }
 
 fn is_refused(alloc: Global, text: &[u8], count: u64, problem: &str) -> bool {
-    let mut session = session_of(alloc, text);
-    refuses_behind(&mut session, count, problem)
+    let mut session = yaml_parser_t::new(alloc, text, ANY);
+    let refused = refuses_behind(&mut session, count, problem);
+    drop(session);
+    refused
 }
 
 const PROBLEM: &str = "mapping values are not allowed in this context";

@@ -1,10 +1,11 @@
 //! Sources of a caller's own.
 
+use super::endings::is_over;
 use crate::vector::Reply;
 use std::alloc::Global;
 use yaml_parse::{
-    yaml_error_type_t, yaml_event_body_t, yaml_event_t, yaml_event_type_t, yaml_fault_t,
-    yaml_found_t, yaml_memory_fault, yaml_origin_t, yaml_parser_between, yaml_parser_delete,
+    yaml_error_type_t, yaml_event_body_t, yaml_event_t, yaml_fault_t, yaml_found_t,
+    yaml_memory_fault, yaml_origin_t, yaml_parser_between, yaml_parser_delete,
     yaml_parser_initialize, yaml_parser_parse, yaml_parser_parse_into, yaml_parser_prefix,
     yaml_parser_t, yaml_token_source_t, yaml_token_t,
 };
@@ -28,41 +29,22 @@ impl yaml_token_source_t for Nothing {
     }
 }
 
-fn kind(parser: &yaml_parser_t<Nothing>) -> yaml_error_type_t {
-    yaml_parser_prefix(parser).kind
-}
-
-// Whether that is the fault of a stream without a start.
-fn is_without_start(fault: &yaml_fault_t) -> bool {
-    fault.problem == "did not find expected <stream-start>"
-        && fault.kind == yaml_error_type_t::YAML_PARSER_ERROR
-        && fault.context.is_none()
-}
-
-// Whether the next event is refused by that fault.
+// Whether the next event is refused by the fault of a stream without a start.
 fn is_refused(parser: &mut yaml_parser_t<Nothing>) -> bool {
     match yaml_parser_parse(parser).err() {
-        Some(fault) => is_without_start(&fault),
+        Some(fault) => {
+            fault.problem == "did not find expected <stream-start>"
+                && fault.kind == yaml_error_type_t::YAML_PARSER_ERROR
+                && fault.context.is_none()
+        }
         None => false,
     }
 }
 
-fn is_empty(event: yaml_event_t) -> bool {
-    event.type_() == yaml_event_type_t::YAML_NO_EVENT
-}
-
-// Whether the next event is the empty one.
-fn is_over(parser: &mut yaml_parser_t<Nothing>) -> bool {
-    match yaml_parser_parse(parser) {
-        Ok(event) => is_empty(event),
-        Err(_) => false,
-    }
-}
-
 fn has_a_start(parser: &mut yaml_parser_t<Nothing>) -> bool {
-    let before = kind(parser);
+    let before = yaml_parser_prefix(parser).kind;
     let first = yaml_parser_between(parser) && is_refused(parser);
-    let behind = kind(parser);
+    let behind = yaml_parser_prefix(parser).kind;
     first
         && before == yaml_error_type_t::YAML_NO_ERROR
         && behind == yaml_error_type_t::YAML_PARSER_ERROR

@@ -1,10 +1,10 @@
 //! The adapter.
 
-ghost use Rattle.std.specs.Prelude.{◌≡◌};
-ghost use Rattle.yaml_scan.specs.Tokens.{token_of};
+ghost use Rattle.std.specs.Prelude.{◌≡◌, true, false};
+ghost use Rattle.yaml_scan.specs.Tokens.{token_of, no_token};
 ghost use Rattle.yaml_scan.specs.Faults.{fault_of};
 ghost use Rattle.yaml_scan.specs.Scanned.{scanned};
-ghost use Rattle.yaml_round_adapter.specs.Adapted.{adapted};
+ghost use Rattle.yaml_round_adapter.specs.Adapted.{adapted, spells_text};
 ghost use Rattle.yaml_round_adapter.specs.Adapter.{Checks, Adapts};
 
 use crate::refusal::{yaml_tag_fault, yaml_token_spells_text};
@@ -13,7 +13,7 @@ use std::marker::Model;
 use yaml_parse::yaml_token_source_t;
 use yaml_scan::{
     yaml_encoding_t, yaml_fault_t, yaml_memory_fault, yaml_origin_t, yaml_parser_scan_into,
-    yaml_parser_t, yaml_token_t,
+    yaml_parser_t, yaml_token_body_t, yaml_token_t,
 };
 
 /// An input's tokens as a parser takes them: those of its session, up to the first tag that isn't UTF-8.
@@ -49,8 +49,35 @@ impl<'a> yaml_adapter_t<'a> {
     }
 }
 
-// Whether the token's tag is UTF-8; where it isn't, its fault is put into the slot.
+// Whether the token's tag, if it has one, is UTF-8; where it isn't, its fault is put into the slot.
+// Inlined: mostly a look at the kind.
+#[inline(always)]
 fn checked(token: &yaml_token_t, fault: &mut yaml_fault_t) -> bool
+    ensures { Checks (token_of token.now) result (fault_of fault.new) }
+{
+    if has_tag(token) {
+        return checked_tag(token, fault);
+    }
+    true
+}
+
+// Whether a token has a tag's suffix, or a directive's prefix.
+// Inlined: a look at the kind.
+#[inline(always)]
+fn has_tag(token: &yaml_token_t) -> bool
+    ensures { result ≡ false → spells_text (token_of token.now).body ≡ true }
+{
+    match token.body {
+        yaml_token_body_t::TagDirective { .. } => true,
+        yaml_token_body_t::Tag { .. } => true,
+        _ => false,
+    }
+}
+
+// The same of a token that has a tag.
+// Out of line: few have one, and in line the room of its fault would be set to zero for each token.
+#[inline(never)]
+fn checked_tag(token: &yaml_token_t, fault: &mut yaml_fault_t) -> bool
     ensures { Checks (token_of token.now) result (fault_of fault.new) }
 {
     if yaml_token_spells_text(token) {
@@ -71,6 +98,15 @@ fn take(session: &mut yaml_parser_t, token: &mut yaml_token_t, fault: &mut yaml_
     }
 }
 
+// Puts the empty token into a slot.
+// Out of line: it is put there behind a fault alone.
+#[inline(never)]
+fn put_empty(token: &mut yaml_token_t)
+    ensures { token_of token.new ≡ no_token }
+{
+    *token = yaml_token_t::empty();
+}
+
 impl<'a> yaml_token_source_t for yaml_adapter_t<'a> {
     ghost to_come = { λ c. c.tokens };
 
@@ -88,7 +124,7 @@ impl<'a> yaml_token_source_t for yaml_adapter_t<'a> {
 
     fn next_token_into(&mut self, token: &mut yaml_token_t, fault: &mut yaml_fault_t) -> bool {
         if self.over {
-            *token = yaml_token_t::empty();
+            put_empty(token);
             return true;
         }
         if take(&mut self.session, token, fault) {

@@ -1,7 +1,8 @@
 //! Reading on until the next token is known, or there is none.
 
-ghost use Rattle.std.specs.Prelude.{◌≡◌, true};
-ghost use Rattle.yaml_scan_model.specs.Tokens.{token_of};
+ghost use Rattle.std.specs.Prelude.{◌≡◌, true, false};
+ghost use Rattle.yaml_scan_model.specs.Tokens.{token_of, body_of, no_token};
+ghost use Rattle.yaml_scan_machine.specs.scan_queue.Bare.{is_bare};
 ghost use Rattle.yaml_scan_model.specs.Faults.{fault_of};
 ghost use Rattle.yaml_scan_machine.specs.State.{IsMachine};
 ghost use Rattle.yaml_scan_machine.specs.Stood.{MayRead, Steps};
@@ -19,7 +20,7 @@ pub(crate) enum Sought {
     Refused,
 }
 
-/// Takes the next token into a slot, the empty one where none is to come; or puts the fault into the other slot.
+/// Takes the next token into a slot that holds no text, the empty one where none is to come; or puts the fault into the other slot.
 // Inlined: mostly the next token is known.
 #[inline(always)]
 pub(crate) fn next_into(
@@ -28,7 +29,8 @@ pub(crate) fn next_into(
     token: &mut yaml_token_t,
     fault: &mut yaml_fault_t,
 ) -> Sought
-    requires { IsMachine machine.old }
+    requires stands { IsMachine machine.old }
+    requires bare { is_bare (token_of token.old).body ≡ true }
     ensures { Comes machine.old machine.new (token_of token.old) (token_of token.new)
         (fault_of fault.new) result }
 {
@@ -38,7 +40,7 @@ pub(crate) fn next_into(
             Sought::Known
         }
         Sought::Nothing => {
-            put(token, yaml_token_t::empty());
+            put_empty(token);
             Sought::Nothing
         }
         Sought::Refused => Sought::Refused,
@@ -51,38 +53,109 @@ const TEXTS_KEPT: usize = 64;
 /// With how much room each at most.
 const ROOM_KEPT: usize = 256;
 
-/// Keeps the room of the scalar's text that a slot holds.
-// Inlined: mostly a comparison of the kind.
+/// Lets go of the texts that a slot holds, and keeps the room of one.
+// Inlined: mostly a look at the kind.
 #[inline(always)]
-pub(crate) fn take_back(slot: &mut yaml_token_body_t, spares: &mut Vec<Vec<u8>>) {
-    match slot {
-        yaml_token_body_t::Scalar { value, .. } => keep_room(value, spares),
-        _ => {}
+pub(crate) fn take_back(slot: &mut yaml_token_body_t, spares: &mut Vec<Vec<u8>>)
+    ensures { is_bare (body_of slot.new) ≡ true }
+{
+    if has_text(slot) {
+        empty(slot, spares);
     }
+}
+
+/// Whether a slot holds a text.
+// Inlined: a look at the kind.
+#[inline(always)]
+fn has_text(slot: &yaml_token_body_t) -> bool
+    ensures { result ≡ false → is_bare (body_of slot.now) ≡ true }
+{
+    match slot {
+        yaml_token_body_t::Scalar { .. } => true,
+        yaml_token_body_t::Alias { .. } => true,
+        yaml_token_body_t::Anchor { .. } => true,
+        yaml_token_body_t::Tag { .. } => true,
+        yaml_token_body_t::TagDirective { .. } => true,
+        _ => false,
+    }
+}
+
+/// Lets go of the texts that a slot holds, and keeps the room of one.
+// Inlined: some moves.
+#[inline(always)]
+fn empty(slot: &mut yaml_token_body_t, spares: &mut Vec<Vec<u8>>)
+    ensures { is_bare (body_of slot.new) ≡ true }
+{
+    match slot {
+        yaml_token_body_t::Scalar { value, .. } => {
+            let text = taken(value);
+            *slot = yaml_token_body_t::No;
+            keep_room(text, spares);
+        }
+        yaml_token_body_t::Alias { value } => {
+            let text = taken(value);
+            *slot = yaml_token_body_t::No;
+            keep_room(text, spares);
+        }
+        yaml_token_body_t::Anchor { value } => {
+            let text = taken(value);
+            *slot = yaml_token_body_t::No;
+            keep_room(text, spares);
+        }
+        _ => let_go(slot),
+    }
+}
+
+/// The text, of which an empty one is left.
+// Inlined: some moves.
+#[inline(always)]
+fn taken(text: &mut Vec<u8>) -> Vec<u8> {
+    let alloc = *text.allocator();
+    mem::replace(text, Vec::new(alloc))
+}
+
+/// Lets go of what a slot holds.
+// Out of line: mostly a slot holds a scalar, or no text.
+#[inline(never)]
+fn let_go(slot: &mut yaml_token_body_t)
+    ensures { is_bare (body_of slot.new) ≡ true }
+{
+    *slot = yaml_token_body_t::No;
 }
 
 /// Keeps the room of a text, where it has some and not too much, and not enough are kept.
 // Inlined: some moves.
 #[inline(always)]
-fn keep_room(value: &mut Vec<u8>, spares: &mut Vec<Vec<u8>>) {
-    if value.capacity() == 0 || ROOM_KEPT < value.capacity() {
+fn keep_room(text: Vec<u8>, spares: &mut Vec<Vec<u8>>) {
+    if text.capacity() == 0 {
+        return;
+    }
+    if ROOM_KEPT < text.capacity() {
+        drop_text(text);
         return;
     }
     if spares.len() < spares.capacity() {
-        let alloc = *value.allocator();
-        spares.push_reserved(mem::replace(value, Vec::new(alloc)));
+        spares.push_reserved(text);
         return;
     }
-    make_place(spares);
+    make_place(text, spares);
 }
 
-/// Makes the places of the texts that are kept, once. Where that is refused none is kept.
-// Out of line: it is called once.
+/// Lets go of a text.
+// Out of line: mostly a text is kept.
 #[inline(never)]
-fn make_place(spares: &mut Vec<Vec<u8>>) {
+fn drop_text(text: Vec<u8>) {
+    drop(text);
+}
+
+/// Makes the places of the texts that are kept, once, and lets go of a text. Where they are refused none is kept.
+// Out of line: they are made once.
+#[inline(never)]
+fn make_place(text: Vec<u8>, spares: &mut Vec<Vec<u8>>) {
     if spares.capacity() == 0 {
         drop(spares.reserve(TEXTS_KEPT));
     }
+    drop(text);
 }
 
 /// Puts a token into a slot.
@@ -92,6 +165,25 @@ pub(crate) fn put(slot: &mut yaml_token_t, token: yaml_token_t)
     ensures { slot.new ≡ token }
 {
     *slot = token;
+}
+
+/// Puts the empty token into a slot.
+// Out of line: in line the room of an empty token would be set to zero for each token.
+#[inline(never)]
+pub(crate) fn put_empty(slot: &mut yaml_token_t)
+    ensures { token_of slot.new ≡ no_token }
+{
+    *slot = yaml_token_t::empty();
+}
+
+/// Puts a token that was put aside into a slot, and leaves the empty one.
+// Out of line: as above.
+#[inline(never)]
+pub(crate) fn put_shown(slot: &mut yaml_token_t, shown: &mut yaml_token_t)
+    ensures given { token_of slot.new ≡ token_of shown.old }
+    ensures left { token_of shown.new ≡ no_token }
+{
+    *slot = mem::replace(shown, yaml_token_t::empty());
 }
 
 /// Reads on until the next token is known, or there is none. What is to come stays.

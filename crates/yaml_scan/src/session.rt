@@ -11,10 +11,9 @@ ghost use Rattle.yaml_scan.specs.Session.{HasFirst, Scans, ScansInto, Looks, Pee
 ghost use Rattle.yaml_scan.specs.SessionView.{IsWhole, view_of};
 ghost use Rattle.yaml_scan_machine.specs.Scanned.{scanned};
 
-use crate::reading::{Sought, next_into, put, take_back};
+use crate::reading::{Sought, next_into, put, put_empty, put_shown, take_back};
 use std::alloc::Global;
 use std::marker::Model;
-use std::mem;
 use yaml_scan_machine::Machine;
 use yaml_scan_model::{
     yaml_encoding_t, yaml_fault_t, yaml_memory_fault, yaml_origin_t, yaml_token_t,
@@ -97,13 +96,12 @@ pub fn yaml_parser_scan_into(
     ensures few { FewWait parser.new }
 {
     if parser.fault.is_some() {
-        put(token, yaml_token_t::empty());
+        put_empty(token);
         return true;
     }
     if parser.holds {
         parser.holds = false;
-        let shown = mem::replace(&mut parser.shown, yaml_token_t::empty());
-        put(token, shown);
+        put_shown(token, &mut parser.shown);
         return true;
     }
     take_back(&mut token.body, &mut parser.spares);

@@ -13,3 +13,4 @@ pub use Rattle.yaml_scan_words.specs as scan_words
 pub use Rattle.yaml_scan_scalars.specs as scan_scalars
 pub use Rattle.yaml_scan_block.specs as scan_block
 pub use Rattle.yaml_scan_laws_order.specs as scan_laws_order
+pub use Rattle.yaml_scan_queue.specs as scan_queue

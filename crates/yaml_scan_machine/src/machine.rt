@@ -15,7 +15,7 @@ use yaml_scan_model::{
     ScanError, yaml_encoding_t, yaml_fault_t, yaml_mark_t, yaml_memory_fault, yaml_origin_t,
     yaml_token_body_t, yaml_token_t,
 };
-use yaml_scan_queue::Queue;
+use yaml_scan_queue::{Queue, put_body};
 
 /// The state between two lexemes.
 #[derive(Drop)]
@@ -58,6 +58,7 @@ impl<'a> Machine<'a> {
     ghost use Rattle.yaml_scan_history.specs.Remaining.{nothing, offline};
     ghost use Rattle.yaml_scan_laws_order.specs.Fronts.{GivesFirst};
     ghost use Rattle.yaml_scan_model.specs.Tokens.{token_of};
+    ghost use Rattle.yaml_scan_queue.specs.Bare.{is_bare};
 
     /// The state before the first lexeme of an input.
     pub fn new(alloc: Global, input: &'a [u8], setting: yaml_encoding_t) -> Machine<'a>
@@ -172,15 +173,15 @@ impl<'a> Machine<'a> {
         token
     }
 
-    /// Takes the next token, in a slot that is lent.
+    /// Takes the next token, in a slot that is lent and holds no text.
     pub fn take_token_into(&mut self, slot: &mut yaml_token_t)
         requires stands { IsMachine self.old }
         requires ready { is_ready self.old ≡ true }
+        requires bare { is_bare (token_of slot.old).body ≡ true }
         ensures stands { IsMachine self.new }
         ensures gives { GivesFirst (left_in self.old) (token_of slot.new) (left_in self.new) }
     {
         let Some(first) = self.waiting.front() else {
-            *slot = yaml_token_t::empty();
             return;
         };
         // The marks are read where they lie: of a lexeme that was taken out they would be copied with all that it has.
@@ -188,13 +189,13 @@ impl<'a> Machine<'a> {
         if let Some(before) = first.before(self.given) {
             slot.end_mark = first.entry.lexeme.start;
             self.given += 1;
-            slot.body = before.body();
+            put_body(&mut slot.body, before.body());
             return;
         }
         slot.end_mark = first.entry.lexeme.end;
         self.dropped += 1;
         self.given = 0;
-        slot.body = self.waiting.pop_body();
+        self.waiting.pop_body(&mut slot.body);
     }
 
     /// Tells the candidate of a lexeme's depth what the lexeme makes of it.

@@ -1,7 +1,8 @@
 //! The list of the lexemes that wait. It grows at its back alone.
 
 ghost use Rattle.std.specs.Prelude.{◌≡◌, ◌++◌, ◌∷◌, [], ◌<◌, ◌↔◌, OnOk, IfSome, IsSome, true, false, length, drop, slice_index_or, slice_set};
-ghost use Rattle.yaml_scan_model.specs.declared.token.yaml_token_body_t.TheVariants as bodies;
+ghost use Rattle.yaml_scan_model.specs.Tokens.{body_of};
+ghost use Rattle.yaml_scan_queue.specs.Bare.{is_bare, is_kind};
 ghost use Rattle.yaml_scan_queue.specs.Waits as waits;
 
 use crate::waiting::Waiting;
@@ -11,8 +12,8 @@ use std::mem;
 use yaml_scan_history::{Lexeme, Opens};
 use yaml_scan_model::yaml_token_body_t;
 
-/// A row of slots, of which those from `first` to `last` hold the lexemes that wait. The others are used again: none of
-/// them has a body, so that nothing is to be let go where one is filled.
+/// A row of slots, of which those from `first` to `last` hold the lexemes that wait. The others are used again: the body
+/// of none of them has a text, so that nothing is to be let go where one is filled.
 #[derive(Drop)]
 pub struct Queue {
     slots: Vec<Waiting>,
@@ -121,7 +122,7 @@ impl Queue {
         let slot = &mut self.slots[self.last];
         slot.entry = entry;
         slot.current = current;
-        forget_none(mem::replace(&mut slot.body, body));
+        put_body(&mut slot.body, body);
         self.last += 1;
     }
 
@@ -138,30 +139,107 @@ impl Queue {
         None
     }
 
-    /// Takes the first lexeme, and answers what its own token carries.
+    /// Takes the first lexeme, and puts what its own token carries into a slot that is lent and holds no text.
     // Inlined: it is called at one place, for each token.
     #[inline(always)]
-    pub fn pop_body(&mut self) -> yaml_token_body_t
-        requires { 0 < length self.old.items }
+    pub fn pop_body(&mut self, to: &mut yaml_token_body_t)
+        requires some { 0 < length self.old.items }
+        requires bare { is_bare (body_of to.old) ≡ true }
         ensures rest { self.new.items ≡ drop 1 self.old.items }
-        ensures body { (w : Waiting) → result ≡ (slice_index_or self.old.items 0 w).body }
+        ensures body { (w : Waiting) → to.new ≡ (slice_index_or self.old.items 0 w).body }
     {
         let slot = &mut self.slots[self.first];
-        let body = mem::replace(&mut slot.body, yaml_token_body_t::No);
+        hand_out(&mut slot.body, to);
         self.first += 1;
         if self.first == self.last {
             self.first = 0;
             self.last = 0;
         }
-        body
     }
 }
 
-/// Lets go of what a free slot holds in place of a body. It owns nothing: its drop would look at each kind of body.
+/// Moves a body to a place that holds no text, and leaves none there.
+// Of a bare kind the kind alone is written. Others are exchanged: a body that is read before its place is emptied would go
+// by way of the stack.
+// Inlined: it is called at one place, for each token.
+#[inline(always)]
+fn hand_out(from: &mut yaml_token_body_t, to: &mut yaml_token_body_t)
+    requires { is_bare (body_of to.old) ≡ true }
+    ensures to { to.new ≡ from.old }
+    ensures from { is_bare (body_of from.new) ≡ true }
+{
+    if is_kind(from) {
+        put_body(to, kind(from));
+        return;
+    }
+    mem::swap(to, from);
+    put_body(from, yaml_token_body_t::No);
+}
+
+/// Whether a body is a kind and nothing else.
+// Inlined: a comparison.
+#[inline(always)]
+fn is_kind(body: &yaml_token_body_t) -> bool
+    ensures { result ≡ is_kind (body_of body.now) }
+{
+    match body {
+        yaml_token_body_t::DocumentStart => true,
+        yaml_token_body_t::DocumentEnd => true,
+        yaml_token_body_t::BlockSequenceStart => true,
+        yaml_token_body_t::BlockMappingStart => true,
+        yaml_token_body_t::BlockEnd => true,
+        yaml_token_body_t::FlowSequenceStart => true,
+        yaml_token_body_t::FlowSequenceEnd => true,
+        yaml_token_body_t::FlowMappingStart => true,
+        yaml_token_body_t::FlowMappingEnd => true,
+        yaml_token_body_t::BlockEntry => true,
+        yaml_token_body_t::FlowEntry => true,
+        yaml_token_body_t::Key => true,
+        yaml_token_body_t::Value => true,
+        _ => false,
+    }
+}
+
+/// A body that is a kind and nothing else, once more.
+// Inlined: it is the number of the kind.
+#[inline(always)]
+fn kind(body: &yaml_token_body_t) -> yaml_token_body_t
+    requires { is_kind (body_of body.now) ≡ true }
+    ensures { result ≡ body.now }
+{
+    match body {
+        yaml_token_body_t::DocumentStart => yaml_token_body_t::DocumentStart,
+        yaml_token_body_t::DocumentEnd => yaml_token_body_t::DocumentEnd,
+        yaml_token_body_t::BlockSequenceStart => yaml_token_body_t::BlockSequenceStart,
+        yaml_token_body_t::BlockMappingStart => yaml_token_body_t::BlockMappingStart,
+        yaml_token_body_t::BlockEnd => yaml_token_body_t::BlockEnd,
+        yaml_token_body_t::FlowSequenceStart => yaml_token_body_t::FlowSequenceStart,
+        yaml_token_body_t::FlowSequenceEnd => yaml_token_body_t::FlowSequenceEnd,
+        yaml_token_body_t::FlowMappingStart => yaml_token_body_t::FlowMappingStart,
+        yaml_token_body_t::FlowMappingEnd => yaml_token_body_t::FlowMappingEnd,
+        yaml_token_body_t::BlockEntry => yaml_token_body_t::BlockEntry,
+        yaml_token_body_t::FlowEntry => yaml_token_body_t::FlowEntry,
+        yaml_token_body_t::Key => yaml_token_body_t::Key,
+        yaml_token_body_t::Value => yaml_token_body_t::Value,
+        _ => yaml_token_body_t::No,
+    }
+}
+
+/// Puts a body to a place that holds no text.
+// Inlined: the body is built in its place.
+#[inline(always)]
+pub fn put_body(to: &mut yaml_token_body_t, body: yaml_token_body_t)
+    requires { is_bare (body_of to.old) ≡ true }
+    ensures { to.new ≡ body }
+{
+    forget_bare(mem::replace(to, body));
+}
+
+/// Lets go of a body without a text. It owns nothing: its drop would look at each kind of body.
 // Inlined: it does nothing.
 #[inline(always)]
-fn forget_none(body: yaml_token_body_t)
-    requires { body ≡ bodies.No }
+fn forget_bare(body: yaml_token_body_t)
+    requires { is_bare (body_of body) ≡ true }
 {
     mem::forget(body);
 }

@@ -1,8 +1,8 @@
 //! The lexemes that wait, and the tokens that they are spelled out in.
 
-ghost use Rattle.std.specs.Prelude.{◌≡◌, ◌&&◌, ◌==◌, if◌then◌else◌, Some, None, option_map};
+ghost use Rattle.std.specs.Prelude.{◌≡◌, ◌&&◌, ◌==◌, if◌then◌else◌, true, Some, None, option_map};
 ghost use Rattle.yaml_scan_model.specs.Tokens.{body_of};
-ghost use Rattle.yaml_scan_model.specs.declared.token.yaml_token_body_t.TheVariants as bodies;
+ghost use Rattle.yaml_scan_queue.specs.Bare.{is_bare};
 ghost use Rattle.yaml_scan_queue.specs.Front.{front_at, start_at, key_at};
 ghost use Rattle.yaml_scan_queue.specs.Fronted.{token_before};
 ghost use Rattle.yaml_scan_history.specs.History as history;
@@ -24,7 +24,7 @@ pub struct Waiting {
 impl Waiting {
     /// What a free slot of the list holds.
     pub fn blank() -> Waiting
-        ensures { result.body ≡ bodies.No }
+        ensures { is_bare (body_of result.body) ≡ true }
     {
         let zero = yaml_mark_t {
             index: 0,

@@ -1,6 +1,5 @@
-use Rattle.std.proofs.Common.{subst, refl, ap, ◌∙◌}
+use Rattle.std.proofs.Common.{subst, refl}
 use Rattle.yaml_scan_history.specs.Remaining.{Remaining}
-use Rattle.yaml_scan_model.specs.declared.token.yaml_token_t.{yaml_token_t}
 use Rattle.yaml_scan_model.specs.Tokens.{token_of}
 use Rattle.yaml_scan_machine.specs.scan_laws_order.Fronts.{GivesFirst}
 use Rattle.yaml_scan_machine.specs.Scanned.{left_in}
@@ -19,7 +18,7 @@ returns-in-Known c = record {
 }
 
 pub returns-in-Nothing : goal.returns-in-Nothing
-returns-in-Nothing c = record { finishes = c.in-Nothing.ensures; empty = ap (λ (t : yaml_token_t). token_of t) c.put.ensures ∙ c.empty.ensures }
+returns-in-Nothing c = record { finishes = c.in-Nothing.ensures; empty = c.put_empty.ensures }
 
 pub returns-in-Refused : goal.returns-in-Refused
 returns-in-Refused c = record { denies = c.in-Refused.ensures; same = refl }

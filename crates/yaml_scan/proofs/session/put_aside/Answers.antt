@@ -1,5 +1,6 @@
-use Rattle.std.proofs.Common.{sym, ◌∙◌, length}
-use Rattle.yaml_scan_model.specs.Tokens.{token_of}
+use Rattle.std.proofs.Common.{sym, ap, ◌∙◌, length}
+use Rattle.yaml_scan_model.specs.Tokens.{Token, token_of}
+use Rattle.yaml_scan_machine.specs.scan_queue.Bare.{is_bare}
 use Rattle.yaml_scan_machine.specs.State.{is_ready}
 use Rattle.yaml_scan_machine.specs.Scanned.{left_in}
 use Rattle.yaml_scan.proofs.SessionLemmas.{no_fault, lends_over, lends_held, lends_own, lends_none, refuses, whole_held, whole_none, whole_refused}
@@ -15,8 +16,11 @@ returns-then-holds-clause-looks c =
     let m = c.args.machine.now in
     lends_held c.args.kept.now c.args.holds.now (is_ready m) (token_of c.args.shown.now) (left_in m) (length m.waiting.items) (sym c.is_some.ensures ∙ c.if-is_some.false) c.if-holds.true
 
-pub next_into-requires : goal.next_into-requires
-next_into-requires c = c.requires.machine (no_fault c.args.kept.now (sym c.is_some.ensures ∙ c.if-is_some.false))
+pub next_into-requires-clause-bare : goal.next_into-requires-clause-bare
+next_into-requires-clause-bare c = ap (λ (t : Token). is_bare t.body) (c.requires.idle c.if-holds.false)
+
+pub next_into-requires-clause-stands : goal.next_into-requires-clause-stands
+next_into-requires-clause-stands c = c.requires.machine (no_fault c.args.kept.now (sym c.is_some.ensures ∙ c.if-is_some.false))
 
 pub returns-in-Known-clause-stands : goal.returns-in-Known-clause-stands
 returns-in-Known-clause-stands c = whole_held c.args.kept.now c.next_into.new.machine c.next_into.new.token (sym c.is_some.ensures ∙ c.if-is_some.false) c.in-Known.ensures.stands

@@ -1,5 +1,4 @@
-use Rattle.std.proofs.Common.{sym, ap, refl, ◌∙◌, length}
-use Rattle.yaml_scan_model.specs.declared.token.yaml_token_t.{yaml_token_t}
+use Rattle.std.proofs.Common.{sym, refl, ◌∙◌, length}
 use Rattle.yaml_scan_model.specs.Tokens.{token_of}
 use Rattle.yaml_scan_machine.specs.State.{is_ready}
 use Rattle.yaml_scan_machine.specs.Scanned.{left_in}
@@ -9,20 +8,20 @@ use Rattle.yaml_scan.proofs.session.yaml_parser_scan_into.Goals as goal
 pub returns-then-is_some-clause-scans : goal.returns-then-is_some-clause-scans
 returns-then-is_some-clause-scans c =
     let s = c.parser.inside in
-    rw (← c.parser.view_is) (takes_over s.fault s.holds (is_ready s.machine) (token_of s.shown) (token_of c.put.new.slot) (left_in s.machine) (length s.machine.waiting.items) (sym c.is_some.ensures ∙ c.if-is_some.true) (ap (λ (t : yaml_token_t). token_of t) c.put.ensures ∙ c.empty.ensures))
+    rw (← c.parser.view_is) (takes_over s.fault s.holds (is_ready s.machine) (token_of s.shown) (token_of c.put_empty.new.slot) (left_in s.machine) (length s.machine.waiting.items) (sym c.is_some.ensures ∙ c.if-is_some.true) c.put_empty.ensures)
 
 pub invariant_of-parser : goal.invariant_of-parser
 invariant_of-parser c =
     let s = c.parser.inside in
-    whole_idle s.fault s.holds s.machine s.shown c.replace-shown.new.dest c.parser.invariant (ap (λ (t : yaml_token_t). token_of t) c.replace-shown.ensures.after ∙ c.empty-then-parser.ensures)
+    whole_idle s.fault s.holds s.machine s.shown c.put_shown.new.shown c.parser.invariant c.put_shown.ensures.left
 
 pub returns-then-parser-clause-scans : goal.returns-then-parser-clause-scans
 returns-then-parser-clause-scans c =
     let s = c.parser.inside in
-    rw (← c.parser.view_is, c.put-then-parser.ensures, c.replace-shown.ensures.value) (takes_held s.fault s.holds (is_ready s.machine) (token_of s.shown) (token_of c.replace-shown.new.dest) (left_in s.machine) (length s.machine.waiting.items) (sym c.is_some.ensures ∙ c.if-is_some.false) c.if-parser.true)
+    rw (← c.parser.view_is, c.put_shown.ensures.given) (takes_held s.fault s.holds (is_ready s.machine) (token_of s.shown) (token_of c.put_shown.new.shown) (left_in s.machine) (length s.machine.waiting.items) (sym c.is_some.ensures ∙ c.if-is_some.false) c.if-parser.true)
 
-pub next_into-requires : goal.next_into-requires
-next_into-requires c = c.parser.invariant.machine (no_fault c.parser.inside.fault (sym c.is_some.ensures ∙ c.if-is_some.false))
+pub next_into-requires-clause-stands : goal.next_into-requires-clause-stands
+next_into-requires-clause-stands c = c.parser.invariant.machine (no_fault c.parser.inside.fault (sym c.is_some.ensures ∙ c.if-is_some.false))
 
 pub invariant_of-parser-in-Known : goal.invariant_of-parser-in-Known
 invariant_of-parser-in-Known c =

@@ -38,9 +38,9 @@ pub returns-in-Some-before-clause-gives : goal.returns-in-Some-before-clause-giv
 returns-in-Some-before-clause-gives c =
     let m = c.args.self.now in
     let w = c.in-Some.first.now in
-    let b = body_of c.body.result in
+    let b = body_of c.put_body.new.to in
     let (rest, items) = front_waits m w c.requires.ready c.in-Some.ensures.lookup in
-    let some : front_at w.entry m.given ≡ Some b = sym c.before-2.ensures ∙ ap (option_map token_before) c.in-Some-before.is ∙ ap Some (sym c.body.ensures) in
+    let some : front_at w.entry m.given ≡ Some b = sym c.before-2.ensures ∙ ap (option_map token_before) c.in-Some-before.is ∙ ap Some (sym (ap body_of c.put_body.ensures ∙ c.body.ensures)) in
     let (tokens, fault) = gives_front m w rest b c.requires.stands items c.requires.ready some in
     let on = ready_started m c.requires.stands c.requires.ready in
     left_gives m record m { given = m.given + 1 } (before b w.entry.lexeme) on on (tokens, fault)
@@ -84,9 +84,9 @@ returns-clause-gives c =
     let ready : ready_in m.dropped m.settled m.given (front ∷ rest) ≡ true = ap (λ (ws : List Waiting). ready_in m.dropped m.settled m.given ws) (sym items) ∙ c.requires.ready in
     let low = own_settled m.dropped m.settled m.given front rest ready none in
     let spoken : body_of front.body ≡ body_in (stream_of m) front.entry.lexeme = subst (λ (ws : List Waiting). AreSpoken (stream_of m) ws) items c.requires.stands.spoken 0 front (omega arith) in
-    let body : c.pop_body.result ≡ front.body = c.pop_body.ensures.body front ∙ ap (λ (ws : List Waiting). (get_or ws 0 front).body) items in
+    let body : c.pop_body.new.to ≡ front.body = c.pop_body.ensures.body front ∙ ap (λ (ws : List Waiting). (get_or ws 0 front).body) items in
     let given : TokenBody → Token = λ b. record { body = b; start_mark = front.entry.lexeme.start; end_mark = front.entry.lexeme.end } in
-    let own : token_in (stream_of m) front.entry.lexeme ≡ given (body_of c.pop_body.result) = ap given (sym spoken ∙ ap body_of (sym body)) in
+    let own : token_in (stream_of m) front.entry.lexeme ≡ given (body_of c.pop_body.new.to) = ap given (sym spoken ∙ ap body_of (sym body)) in
     let (tokens, fault) = gives_own m front rest c.requires.stands items low none in
     let on = ready_started m c.requires.stands c.requires.ready in
-    left_gives m record m { waiting = c.pop_body.new.self; dropped = m.dropped + 1; given = 0 } (given (body_of c.pop_body.result)) on on (tokens ∙ ap (λ (t : Token). t ∷ (remaining (stream_of m) (m.dropped + 1) 0).tokens) own, fault)
+    left_gives m record m { waiting = c.pop_body.new.self; dropped = m.dropped + 1; given = 0 } (given (body_of c.pop_body.new.to)) on on (tokens ∙ ap (λ (t : Token). t ∷ (remaining (stream_of m) (m.dropped + 1) 0).tokens) own, fault)

@@ -1,0 +1,25 @@
+-- Bodies that own nothing.
+use Rattle.std.specs.Prelude.{Bool, true, false}
+use Rattle.yaml_scan_model.specs.Tokens.{TokenBody, no, stream_start, stream_end, version_directive, tag_directive, alias, anchor, tag, scalar}
+
+-- the body has no text
+abbrev pub is_bare : TokenBody → Bool
+is_bare (tag_directive _ _) = false
+is_bare (alias _) = false
+is_bare (anchor _) = false
+is_bare (tag _ _) = false
+is_bare (scalar _ _) = false
+is_bare _ = true
+
+-- the body is that of an indicator, or of where a collection or a document begins or ends: its kind says all
+abbrev pub is_kind : TokenBody → Bool
+is_kind no = false
+is_kind (stream_start _) = false
+is_kind stream_end = false
+is_kind (version_directive _ _) = false
+is_kind (tag_directive _ _) = false
+is_kind (alias _) = false
+is_kind (anchor _) = false
+is_kind (tag _ _) = false
+is_kind (scalar _ _) = false
+is_kind _ = true

@@ -1,5 +1,5 @@
 -- Looking back for a candidate.
-use Rattle.std.proofs.Common.{◌≡◌, ◌≢◌, ℕ, zero, suc, ◌+◌, ◌-◌, ◌<◌, ◌≤◌, Bool, true, false, cond, eqb, ltb, ◌&&◌, ◌||◌, not, List, [], ◌∷◌, ◌++◌, length, drop, get_or, Option, Some, None, refl, sym, ap, subst, ◌∙◌, inl, inr, ◌⊎◌, arith, length-append, length-drop, get_or-set_other, get_or-set_same}
+use Rattle.std.proofs.Common.{◌≡◌, ◌≢◌, ℕ, zero, suc, ◌+◌, ◌-◌, ◌<◌, ◌≤◌, Bool, true, false, cond, eqb, ◌&&◌, ◌||◌, not, List, [], ◌∷◌, ◌++◌, length, drop, get_or, Option, Some, None, refl, sym, ap, subst, ◌∙◌, inl, inr, ◌⊎◌, arith, length-append, length-drop, get_or-set_other, get_or-set_same}
 use Rattle.std.proofs.lemmas.Bool.{cases_Bool, cases_lt, cases_order}
 use Rattle.std.proofs.lemmas.Bool.Decides.{nat_tests}
 use Rattle.std.proofs.lemmas.List.{get_or-map, length-map, get_or_append_left, get_or-append_right}
@@ -50,9 +50,6 @@ seen_here w d e = grind (arith, nat_tests)
 
 pub seen_further : (w : Waiting) (d : ℕ) → seen w d ≡ looks.Further → (w.current ≡ false) × (is_passed w.entry.lexeme d ≡ true)
 seen_further w d e = grind (arith, nat_tests)
-
-pub inside_parts : (w : Waiting) (d : ℕ) → (not w.current && ltb d w.entry.lexeme.depth) ≡ true → (w.current ≡ false) × (is_passed w.entry.lexeme d ≡ true)
-inside_parts w d e = grind (arith, nat_tests)
 
 seen_nowhere : (w : Waiting) (d : ℕ) → seen w d ≡ looks.Nowhere → ((w.current ≡ true) × (w.entry.lexeme.depth ≢ d)) ⊎ ((w.current ≡ false) × (is_passed w.entry.lexeme d ≡ false))
 seen_nowhere w d e = grind (arith, nat_tests)

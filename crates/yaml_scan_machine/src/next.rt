@@ -23,7 +23,7 @@ use yaml_scan_history::{Kind, Lexeme, is_fresh, moved_end};
 use yaml_scan_model::{
     Context, Problem, Reader, ScanError, ScanFault, yaml_encoding_t, yaml_mark_t, yaml_token_body_t,
 };
-use yaml_scan_queue::{Seen, Waiting};
+use yaml_scan_queue::Seen;
 use yaml_scan_words::skip_gap;
 
 /// A lexeme that was read, and what its own token carries.
@@ -380,7 +380,7 @@ impl<'a> Machine<'a> {
             self.now.waiting.items) }
     {
         let first = self.settled - self.dropped;
-        let mut i = self.pass_inside(from);
+        let mut i = from;
         'back: while first < i {
             match self.waiting.index(i - 1).seen(self.depth) {
                 Seen::Here => return Some(i - 1),
@@ -390,34 +390,6 @@ impl<'a> Machine<'a> {
             i -= 1;
         }
         None
-    }
-
-    /// Past the lexemes before the one at `from` that stand in a bracket which was closed: mostly these are all that lie
-    /// between a closer and what it closes.
-    // Inlined: it is called at one place.
-    #[inline(always)]
-    fn pass_inside(&self, from: usize) -> usize
-        requires shown { IsShown (fields_of self.now) }
-        requires settled { self.now.settled ≤ self.now.dropped + length self.now.waiting.items }
-        requires inside { from ≤ length self.now.waiting.items }
-        requires passed { AreBounded (self.now.dropped + from) self.now.dropped
-            self.now.waiting.items }
-        requires hidden { IsHidden self.now from }
-        ensures inside { result ≤ length self.now.waiting.items }
-        ensures passed { AreBounded (self.now.dropped + result) self.now.dropped
-            self.now.waiting.items }
-        ensures hidden { IsHidden self.now result }
-    {
-        let first = self.settled - self.dropped;
-        let depth = self.depth;
-        let mut i = from;
-        'back: while first < i {
-            if !is_inside(self.waiting.index(i - 1), depth) {
-                return i;
-            }
-            i -= 1;
-        }
-        i
     }
 }
 
@@ -429,15 +401,6 @@ impl Stand {
     {
         self.allowed && self.kind.may_be_key() || self.kind.cancels()
     }
-}
-
-/// Whether a lexeme that waits is no candidate and stands deeper.
-// Inlined: two comparisons.
-#[inline(always)]
-fn is_inside(waiting: &Waiting, depth: usize) -> bool
-    ensures { result ≡ (not waiting.now.current && nat_lt depth waiting.now.entry.lexeme.depth) }
-{
-    !waiting.current && depth < waiting.entry.lexeme.depth
 }
 
 /// Whether a key may begin behind a gap: in block context a break allows one.

@@ -28,7 +28,7 @@ returns-in-Nowhere-clause-finds c = λ (x : Candidate) e.
     (λ high. ap (λ (k : ℕ). candidate m.depth (drop k (history_of m))) (sym next) ∙ c.back.invariant.same x e high)
 
 pub back-init : goal.back-init
-back-init c = record { same = c.pass_inside-i.ensures.hidden; last = c.pass_inside-i.ensures.passed; inside = c.pass_inside-i.ensures.inside }
+back-init c = record { same = c.requires.hidden; last = c.requires.passed; inside = c.requires.inside }
 
 pub back-preserved : goal.back-preserved
 back-preserved c =

@@ -10,6 +10,13 @@ use Rattle.yaml_parse_document.proofs.Sound.{tag_utf8, str_utf8, added}
 use Rattle.yaml_parse_document.proofs.document.adding.yaml_document_add_scalar.Goals.{then-not-is_utf8_option-via-then-not-is_utf8_option, then-not-is_utf8_option-via-else-not-is_utf8_option+then-not-is_utf8}
 use Rattle.yaml_parse_document.proofs.document.adding.yaml_document_add_scalar.Goals as goal
 
+pub returns-in_err-tag : goal.returns-in_err-tag
+returns-in_err-tag c =
+    let tag : IsUtf8Option (option_map (λ t. t.now) c.args.tag) = c.if-not-is_utf8_option.ensures.0 refl in
+    let value : IsUtf8 c.args.value.now = c.if-not-is_utf8.ensures.0 refl in
+    let e = err_from_is_err_and c.from_residual.result c.from_residual.ensures.1 in
+    rw (e.1, e.2 ∙ c.in_err-tag.ensures) (refl, (tag, value))
+
 pub add_node-requires-clause-sound : goal.add_node-requires-clause-sound
 add_node-requires-clause-sound c =
     let tag : IsUtf8Option (option_map (λ t. t.now) c.args.tag) = c.if-not-is_utf8_option.ensures.0 refl in
@@ -26,13 +33,6 @@ returns-then-not-is_utf8_option c =
       | then-not-is_utf8_option-via-then-not-is_utf8_option w ↦ (refl, λ h. false≢true (w.if-not-is_utf8_option.ensures.1 h.0))
       | then-not-is_utf8_option-via-else-not-is_utf8_option+then-not-is_utf8 w ↦ (refl, λ h. false≢true (w.if-not-is_utf8.ensures.1 h.1))
     ]
-
-pub returns-in_err-tag : goal.returns-in_err-tag
-returns-in_err-tag c =
-    let tag : IsUtf8Option (option_map (λ t. t.now) c.args.tag) = c.if-not-is_utf8_option.ensures.0 refl in
-    let value : IsUtf8 c.args.value.now = c.if-not-is_utf8.ensures.0 refl in
-    let e = err_from_is_err_and c.from_residual.result c.from_residual.ensures.1 in
-    rw (e.1, e.2 ∙ c.in_err-tag.ensures) (refl, (tag, value))
 
 pub returns-in_err-value : goal.returns-in_err-value
 returns-in_err-value c =

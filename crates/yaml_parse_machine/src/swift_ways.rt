@@ -86,11 +86,7 @@ fn open_brackets(
 }
 
 // A block sequence begins.
-fn open_entries(
-    stack: &mut Vec<State>,
-    token: &mut yaml_token_t,
-    event: &mut yaml_event_t,
-) -> Swift
+fn open_entries(stack: &mut Vec<State>, token: &mut yaml_token_t, event: &mut yaml_event_t) -> Swift
     requires { 0 < vec_len stack.old }
     ensures { Opens (item.sequence YAML_BLOCK_SEQUENCE_STYLE) (state.entries token.old.start_mark)
         (token_of token.old) (stack_of stack.old.items) result (event_of event.new)
@@ -108,11 +104,7 @@ fn open_entries(
 }
 
 // A block mapping begins.
-fn open_pairs(
-    stack: &mut Vec<State>,
-    token: &mut yaml_token_t,
-    event: &mut yaml_event_t,
-) -> Swift
+fn open_pairs(stack: &mut Vec<State>, token: &mut yaml_token_t, event: &mut yaml_event_t) -> Swift
     requires { 0 < vec_len stack.old }
     ensures { Opens (item.mapping YAML_BLOCK_MAPPING_STYLE) (state.pairs token.old.start_mark)
         (token_of token.old) (stack_of stack.old.items) result (event_of event.new)

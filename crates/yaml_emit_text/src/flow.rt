@@ -103,6 +103,8 @@ fn flow_bounds(page: Page, quote: bool) -> Bounds
 }
 
 // What stands in front as it is, behind a character that is no break.
+// Inlined: whether it is quoted is known for the first run.
+#[inline(always)]
 fn put_flow_run<'a>(
     sink: &mut Sink,
     page: Page,
@@ -141,17 +143,33 @@ fn put_flow_run_or<'a>(
     }
 }
 
+// What stands behind the first run.
+// Out of line: most values are one run.
+#[inline(never)]
+fn put_flow_rest(sink: &mut Sink, page: Page, quote: bool, before: char, value: &str)
+    ensures { Puts sink.old sink.new (flow_body page quote before (chars value.now)) }
+{
+    let mut last = before;
+    let mut left = value;
+    while let Some((c, rest)) = split_first(left) {
+        put_flow_char(sink, page, quote, last, c, rest);
+        let (latest, behind) = put_flow_run_or(sink, page, quote, c, rest);
+        last = latest;
+        left = behind;
+    }
+    put_line_if(sink, is_break(last), page);
+}
+
+// Inlined: whether it is quoted is known.
+#[inline(always)]
 fn put_flow_body(sink: &mut Sink, page: Page, quote: bool, value: &str)
     ensures { Puts sink.old sink.new (flow_body page quote 32 (chars value.now)) }
 {
-    let (mut before, mut left) = put_flow_run(sink, page, quote, ' ', value);
-    while let Some((c, rest)) = split_first(left) {
-        put_flow_char(sink, page, quote, before, c, rest);
-        let (last, behind) = put_flow_run_or(sink, page, quote, c, rest);
-        before = last;
-        left = behind;
+    let (before, left) = put_flow_run(sink, page, quote, ' ', value);
+    match split_first(left) {
+        None => put_line_if(sink, is_break(before), page),
+        Some(_) => put_flow_rest(sink, page, quote, before, left),
     }
-    put_line_if(sink, is_break(before), page);
 }
 
 fn put_gap_if(sink: &mut Sink, due: bool)
@@ -165,6 +183,8 @@ fn put_gap_if(sink: &mut Sink, due: bool)
 /// A plain scalar, with a space in front where one is due. Behind the width a space becomes a line of the page's indentation,
 /// unless the scalar is a simple key, a space is beside it, or it is first or last. Outside flow collections an empty one is
 /// nothing, not even a space.
+// Out of line: mostly it is one run, for which few registers are needed.
+#[inline(never)]
 pub fn put_plain(sink: &mut Sink, page: Page, flow: bool, value: &str)
     ensures { Puts sink.old sink.new (plain page flow (chars value.now)) }
 {

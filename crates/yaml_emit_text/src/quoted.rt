@@ -195,17 +195,31 @@ fn put_quoted_run<'a>(sink: &mut Sink, page: Page, before: char, left: &'a str) 
     (last_of(before, run), rest)
 }
 
-// Out of line: a loop of its own keeps the addresses of fields that it uses.
+// What stands behind the first run, one character at least.
+// Out of line: a loop of its own keeps the addresses of fields that it uses, and most values are one run.
 #[inline(never)]
+fn put_quoted_rest(sink: &mut Sink, page: Page, before: char, value: &str)
+    ensures { Puts sink.old sink.new (quoted_body page before (chars value.now)) }
+{
+    let mut last = before;
+    let mut left = value;
+    while let Some((c, rest)) = split_first(left) {
+        put_quoted_char(sink, page, last, c, rest);
+        let (latest, behind) = put_quoted_run(sink, page, c, rest);
+        last = latest;
+        left = behind;
+    }
+}
+
+// Inlined into its one caller.
+#[inline(always)]
 fn put_quoted_body(sink: &mut Sink, page: Page, value: &str)
     ensures { Puts sink.old sink.new (quoted_body page 32 (chars value.now)) }
 {
-    let (mut before, mut left) = put_quoted_run(sink, page, ' ', value);
-    while let Some((c, rest)) = split_first(left) {
-        put_quoted_char(sink, page, before, c, rest);
-        let (last, behind) = put_quoted_run(sink, page, c, rest);
-        before = last;
-        left = behind;
+    let (before, left) = put_quoted_run(sink, page, ' ', value);
+    match split_first(left) {
+        None => (),
+        Some(_) => put_quoted_rest(sink, page, before, left),
     }
 }
 

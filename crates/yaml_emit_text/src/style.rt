@@ -208,11 +208,24 @@ fn behind(text: &str) -> &str
     }
 }
 
+// Whether a value that begins so begins well, whatever follows: most begin with a letter or a digit.
+// Inlined: a few comparisons.
+#[inline(always)]
+fn begins_well(c: char) -> bool
+    ensures { result ≡ true → (b d : ℕ) → is_badly_begun c b d ≡ false }
+{
+    ('a' <= c && c <= 'z') || ('A' <= c && c <= 'Z') || ('0' <= c && c <= '9')
+}
+
 fn starts_badly(value: &str) -> bool
     ensures { result ≡ starts_badly (chars value.now) }
 {
+    let first_one = first(value);
+    if begins_well(first_one) {
+        return false;
+    }
     let second = behind(value);
-    is_badly_begun(first(value), first(second), first(behind(second)))
+    is_badly_begun(first_one, first(second), first(behind(second)))
 }
 
 fn allowed_by(all: Seen, spaced: bool, badly: bool) -> Allowed

@@ -1,17 +1,10 @@
 use Rattle.yaml_emit_text.proofs.RunWalks.{owes_then}
-use Rattle.yaml_emit_text.proofs.Walks.{walk_more, walk_all, flow_law, flow_end}
-use Rattle.yaml_emit_text.specs.Scalars.{flow_body, flow_char}
+use Rattle.yaml_emit_text.proofs.Walks.{walk_all, flow_end}
+use Rattle.yaml_emit_text.specs.Scalars.{flow_body}
 use Rattle.yaml_emit_text.proofs.flow.put_flow_body.Goals as goal
 
-pub split_first-requires-text-text : goal.split_first-requires-text-text
-split_first-requires-text-text c = λ _. c.loop-c.invariant.0
+pub returns-in-None : goal.returns-in-None
+returns-in-None c = walk_all (flow_body c.args.page c.args.quote) _ _ _ _ _ _ _ c.in-None.ensures.letters (flow_end c.args.page c.args.quote _) c.put_flow_run-before.ensures.text (rw c.is_break.ensures at c.put_line_if.ensures)
 
-pub loop-c-init : goal.loop-c-init
-loop-c-init c = (c.put_flow_run-before.ensures.utf8, c.put_flow_run-before.ensures.text)
-
-pub loop-c-preserved : goal.loop-c-preserved
-loop-c-preserved c =
-    (c.put_flow_run_or-last.ensures.utf8, owes_then _ _ _ _ _ _ (walk_more (flow_body c.args.page c.args.quote) (flow_char c.args.page c.args.quote) (flow_law c.args.page c.args.quote) _ _ _ _ _ _ _ _ c.in-Some.ensures.letters c.loop-c.invariant.1 c.put_flow_char.ensures) c.put_flow_run_or-last.ensures.text)
-
-pub returns : goal.returns
-returns c = walk_all (flow_body c.args.page c.args.quote) _ _ _ _ _ _ _ c.in_default.ensures.letters (flow_end c.args.page c.args.quote _) c.loop-c.invariant.1 (rw c.is_break.ensures at c.put_line_if.ensures)
+pub returns-in-Some : goal.returns-in-Some
+returns-in-Some c = owes_then _ _ _ _ _ _ c.put_flow_run-before.ensures.text c.put_flow_rest.ensures

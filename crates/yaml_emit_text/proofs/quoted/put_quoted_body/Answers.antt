@@ -1,18 +1,11 @@
 use Rattle.yaml_emit_text.proofs.RunWalks.{owes_then}
-use Rattle.yaml_emit_text.proofs.Walks.{walk_more, walk_end}
-use Rattle.yaml_emit_text.proofs.Escapes.{quoted_law, quoted_end}
-use Rattle.yaml_emit_text.specs.Quoted.{quoted_body, quoted_char}
+use Rattle.yaml_emit_text.proofs.Walks.{walk_end}
+use Rattle.yaml_emit_text.proofs.Escapes.{quoted_end}
+use Rattle.yaml_emit_text.specs.Quoted.{quoted_body}
 use Rattle.yaml_emit_text.proofs.quoted.put_quoted_body.Goals as goal
 
-pub split_first-requires-text-text : goal.split_first-requires-text-text
-split_first-requires-text-text c = λ _. c.loop-c.invariant.0
+pub returns-in-None : goal.returns-in-None
+returns-in-None c = walk_end (quoted_body c.args.page) _ _ _ _ _ c.in-None.ensures.letters (quoted_end c.args.page _) c.put_quoted_run-before.ensures.text
 
-pub loop-c-init : goal.loop-c-init
-loop-c-init c = (c.put_quoted_run-before.ensures.utf8, c.put_quoted_run-before.ensures.text)
-
-pub loop-c-preserved : goal.loop-c-preserved
-loop-c-preserved c =
-    (c.put_quoted_run-last.ensures.utf8, owes_then _ _ _ _ _ _ (walk_more (quoted_body c.args.page) (quoted_char c.args.page) (quoted_law c.args.page) _ _ _ _ _ _ _ _ c.in-Some.ensures.letters c.loop-c.invariant.1 c.put_quoted_char.ensures) c.put_quoted_run-last.ensures.text)
-
-pub returns : goal.returns
-returns c = walk_end (quoted_body c.args.page) _ _ _ _ _ c.in_default.ensures.letters (quoted_end c.args.page _) c.loop-c.invariant.1
+pub returns-in-Some : goal.returns-in-Some
+returns-in-Some c = owes_then _ _ _ _ _ _ c.put_quoted_run-before.ensures.text c.put_quoted_rest.ensures

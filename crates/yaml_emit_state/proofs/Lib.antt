@@ -3,3 +3,4 @@ pub mod Canonical
 pub mod Seeing
 pub mod Finishing
 pub mod Noting
+pub mod Keyed

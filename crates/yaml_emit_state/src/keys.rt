@@ -6,9 +6,11 @@ ghost use Rattle.yaml_emit_layout.specs.Content.{emitter_event, is_flow_sequence
 ghost use Rattle.yaml_emit_layout.specs.Grammar.{kept_tag};
 ghost use Rattle.yaml_emit_layout.specs.Nodes.{has_break, properties_size, text_size, written_size, is_simple_scalar, is_simple_alias, is_simple_start};
 ghost use Rattle.yaml_emit_layout.specs.State.{is_simple_event};
+ghost use Rattle.yaml_emit_state.specs.Due.{is_key_in, is_key};
 ghost use Rattle.yaml_emit_state.specs.Given.{lent_context, lent_scalar, lent_start};
 
 use crate::given::{Context, Scalar, Start};
+use yaml_emit_layout::{Level, Phase};
 use yaml_emit_text::tag_size;
 use yaml_parse_model::yaml_event_body_t;
 use yaml_scan_model::{IS_BREAK, yaml_mapping_style_t, yaml_sequence_style_t};
@@ -101,6 +103,35 @@ fn is_simple_scalar(context: &Context, scalar: &Scalar) -> bool
             written_size(context, scalar.plain || scalar.quoted, scalar.tag),
             scalar.value.len(),
         )
+}
+
+fn is_key_in(phase: Phase) -> bool
+    ensures { result ≡ is_key_in phase }
+{
+    match phase {
+        Phase::Keys(_) => true,
+        _ => false,
+    }
+}
+
+// Whether a key is due in the innermost collection.
+fn is_key(top: &Option<Level>) -> bool
+    ensures { result ≡ is_key top.now }
+{
+    match top {
+        None => false,
+        Some(level) => is_key_in(level.phase),
+    }
+}
+
+/// Whether a scalar is a simple key. It is looked at where a key is due, and nowhere else.
+// Inlined: canonical form has none, and pretty form mostly tells by the place.
+#[inline(always)]
+pub fn is_simple_key(context: &Context, top: &Option<Level>, scalar: &Scalar) -> bool
+    ensures { result ≡ (is_key top.now && is_simple_scalar (lent_context context.now)
+        (lent_scalar scalar.now)) }
+{
+    is_key(top) && is_simple_scalar(context, scalar)
 }
 
 // Inlined into its one caller.

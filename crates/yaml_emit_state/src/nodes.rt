@@ -217,8 +217,8 @@ fn put_canonical_scalar(sink: &mut Sink, context: &Context, spot: Spot, scalar: 
 }
 
 // A scalar in pretty form, or in either.
-// Out of line: it holds all styles, and canonical scalars go by it.
-#[inline(never)]
+// Inlined: where the form is known, and most of what it is given.
+#[inline(always)]
 #[tactic(auto, unfolding(yaml_emit_layout::specs::Nodes::scalar_layout))]
 fn put_any_scalar(sink: &mut Sink, context: &Context, spot: Spot, scalar: &Scalar)
     requires { IsUtf8 scalar.now.value.now }
@@ -245,12 +245,13 @@ fn put_any_scalar(sink: &mut Sink, context: &Context, spot: Spot, scalar: &Scala
 /// A scalar, with its anchor and tag.
 // Inlined: where the form is known one call is left.
 #[inline(always)]
-pub fn put_scalar(sink: &mut Sink, context: &Context, spot: Spot, scalar: &Scalar)
-    requires { IsUtf8 scalar.now.value.now }
+pub fn put_scalar(sink: &mut Sink, context: &Context, spot: Spot, scalar: &Scalar, canonical: bool)
+    requires utf8 { IsUtf8 scalar.now.value.now }
+    requires form { canonical ≡ context.now.settings.now.canonical }
     ensures { Puts sink.old sink.new (scalar_layout (lent_context context.now) spot
         (lent_scalar scalar.now)) }
 {
-    if context.settings.canonical {
+    if canonical {
         put_canonical_scalar(sink, context, spot, scalar);
     } else {
         put_any_scalar(sink, context, spot, scalar);

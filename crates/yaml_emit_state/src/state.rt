@@ -1,5 +1,5 @@
 //! One event after another is laid out.
-ghost use Rattle.std.specs.Prelude.{◌≡◌, ◌≢◌, ◌∷◌, [], None, Some, true, false, not, ◌&&◌, ◌||◌, IfSome, if◌then◌else◌, map, IsUtf8};
+ghost use Rattle.std.specs.Prelude.{◌≡◌, ◌≢◌, ◌∷◌, [], None, Some, Bool, true, false, not, ◌&&◌, ◌||◌, IfSome, if◌then◌else◌, map, IsUtf8};
 ghost use Rattle.yaml_parse_model.specs.Constructors.{HasUtf8};
 
 mod event;
@@ -7,7 +7,7 @@ mod moves;
 
 use crate::given::{Context, Scalar, Where};
 use crate::judge::problem_of;
-use crate::keys::is_simple;
+use crate::keys::{is_simple, is_simple_key};
 use crate::levels::Levels;
 use event::{put_event, put_scalar_node};
 use std::alloc::{AllocError, Global};
@@ -30,8 +30,9 @@ pub struct Core {
 
 impl Core {
     ghost use Rattle.yaml_parse_model.specs.Events.{body_of};
-    ghost use Rattle.yaml_emit_layout.specs.Content.{emitter_event};
+    ghost use Rattle.yaml_emit_layout.specs.Content.{emitter_event, scalar};
     ghost use Rattle.yaml_emit_layout.specs.State.{problem_at};
+    ghost use Rattle.yaml_emit_state.specs.Given.{lent_scalar};
     ghost use Rattle.yaml_emit_state.specs.Steps.{state_of, settings_of, LaysOut, IsFresh, LaysOutRight, Starves, is_going, goes_on};
 
     /// Nothing was laid out.
@@ -104,13 +105,16 @@ impl Core {
         self.sink.status().is_going()
     }
 
-    // The settings in force: the encoding is the output's.
-    fn settings(&self) -> Settings
+    // The settings in force, of which the form is known: the encoding is the output's.
+    // Inlined: then what isn't looked at isn't copied.
+    #[inline(always)]
+    fn settings(&self, canonical: bool) -> Settings
+        requires { canonical ≡ self.now.settings.canonical }
         ensures { result ≡ settings_of self.now }
     {
         Settings {
             encoding: self.sink.encoding(),
-            canonical: self.settings.canonical,
+            canonical,
             indent: self.settings.indent,
             width: self.settings.width,
             unicode: self.settings.unicode,
@@ -119,20 +123,46 @@ impl Core {
     }
 
     // An event in its right place.
-    // Inlined into its one caller: no call stands between an event's judgement and its text.
+    // Inlined into its callers: no call stands between an event's judgement and its text.
     #[inline(always)]
     #[tactic(auto, unfolding(yaml_emit_layout::specs::State::text_at, yaml_emit_layout::specs::State::next_at, yaml_emit_layout::specs::State::depth_at))]
     fn take(&mut self, event: &mut yaml_event_body_t, empty: bool)
         requires { HasUtf8 (body_of event.old) }
         ensures { LaysOutRight self.old self.new (emitter_event (body_of event.old)) empty }
     {
-        let settings = self.settings();
+        let settings = self.settings(self.settings.canonical);
         let context = Context {
             settings: &settings,
             directives: &self.directives,
         };
         let simple = is_simple(&context, event, empty);
-        let top = self.levels.innermost();
+        let at = Where {
+            place: self.place,
+            top: self.levels.innermost(),
+            simple,
+        };
+        put_event(&mut self.sink, &context, &at, event, empty);
+        self.move_on(&settings, event, empty, simple);
+    }
+
+    // The same.
+    // Out of line: the rare way beside the short one for scalars.
+    #[inline(never)]
+    fn take_rare(&mut self, event: &mut yaml_event_body_t, empty: bool)
+        requires { HasUtf8 (body_of event.old) }
+        ensures { LaysOutRight self.old self.new (emitter_event (body_of event.old)) empty }
+    {
+        self.take(event, empty);
+    }
+
+    // The same, where it is known to be a scalar, and in which form.
+    // Inlined: then what the form decides is left out.
+    #[inline(always)]
+    fn take_scalar(&mut self, event: &mut yaml_event_body_t, empty: bool, canonical: bool)
+        requires utf8 { HasUtf8 (body_of event.old) }
+        requires form { canonical ≡ self.old.settings.canonical }
+        ensures { LaysOutRight self.old self.new (emitter_event (body_of event.old)) empty }
+    {
         match event {
             yaml_event_body_t::Scalar {
                 anchor,
@@ -150,31 +180,58 @@ impl Core {
                     quoted: *quoted_implicit,
                     style: *style,
                 };
-                put_scalar_node(&mut self.sink, &context, top, simple, &scalar);
-                self.step(simple);
+                self.put_known_scalar(&scalar, canonical);
             }
-            _ => {
-                let at = Where {
-                    place: self.place,
-                    top,
-                    simple,
-                };
-                put_event(&mut self.sink, &context, &at, event, empty);
-                self.move_on(&settings, event, empty, simple);
-            }
+            _ => self.take_rare(event, empty),
         }
     }
 
-    // An event is laid out or refused.
-    // Inlined: for scalars in canonical form, of which most is known, and for all else.
+    // A scalar in its right place, in a form that is known. Whether it is a simple key is asked where a key is due.
+    // Inlined: then what the form decides is left out.
     #[inline(always)]
-    fn lay_by(&mut self, event: &mut yaml_event_body_t, empty: bool)
-        requires { HasUtf8 (body_of event.old) }
+    fn put_known_scalar(&mut self, given: &Scalar, canonical: bool)
+        requires utf8 { IsUtf8 given.now.value.now }
+        requires form { canonical ≡ self.old.settings.canonical }
+        ensures { (empty : Bool) → LaysOutRight self.old self.new (scalar (lent_scalar given.now))
+            empty }
+    {
+        let settings = self.settings(canonical);
+        let context = Context {
+            settings: &settings,
+            directives: &self.directives,
+        };
+        let top = self.levels.innermost();
+        let simple = is_simple_key(&context, top, given);
+        put_scalar_node(&mut self.sink, &context, top, simple, given, canonical);
+        self.step(simple);
+    }
+
+    // The same, by whether it is known to be a scalar.
+    // Inlined: it is known.
+    #[inline(always)]
+    fn take_by(&mut self, event: &mut yaml_event_body_t, empty: bool, canonical: bool, known: bool)
+        requires utf8 { HasUtf8 (body_of event.old) }
+        requires form { canonical ≡ self.old.settings.canonical }
+        ensures { LaysOutRight self.old self.new (emitter_event (body_of event.old)) empty }
+    {
+        if known {
+            self.take_scalar(event, empty, canonical);
+        } else {
+            self.take(event, empty);
+        }
+    }
+
+    // An event is laid out or refused, by whether it is known to be a scalar.
+    // Inlined: for scalars in each form, of which most is known, and for all else.
+    #[inline(always)]
+    fn lay_by(&mut self, event: &mut yaml_event_body_t, empty: bool, canonical: bool, known: bool)
+        requires utf8 { HasUtf8 (body_of event.old) }
+        requires form { canonical ≡ self.old.settings.canonical }
         ensures { LaysOut self.old self.new (emitter_event (body_of event.old)) empty }
     {
         match problem_of(
             self.directives.allocator(),
-            self.settings.canonical,
+            canonical,
             self.place,
             self.levels.top(),
             event,
@@ -182,7 +239,7 @@ impl Core {
             Ok(Some(problem)) => {
                 self.place = Expected::Refused(problem);
             }
-            Ok(None) => self.take(event, empty),
+            Ok(None) => self.take_by(event, empty, canonical, known),
             Err(refused) => self.starve(refused),
         }
     }
@@ -193,19 +250,34 @@ impl Core {
         requires { HasUtf8 (body_of event.old) }
         ensures { LaysOut self.old self.new (emitter_event (body_of event.old)) empty }
     {
-        self.lay_by(event, empty);
+        self.lay_by(event, empty, self.settings.canonical, false);
     }
 
-    // A scalar in canonical form is short where that is known.
-    #[inline(always)]
-    fn lay_scalar(&mut self, event: &mut yaml_event_body_t, empty: bool)
-        requires { HasUtf8 (body_of event.old) }
+    // In canonical form. A scalar is short where kind and form are known.
+    // Out of line: what other kinds and the other form need takes no room here.
+    #[inline(never)]
+    fn lay_canonical(&mut self, event: &mut yaml_event_body_t, empty: bool)
+        requires utf8 { HasUtf8 (body_of event.old) }
+        requires form { self.old.settings.canonical ≡ true }
         ensures { LaysOut self.old self.new (emitter_event (body_of event.old)) empty }
     {
-        if self.settings.canonical {
-            self.lay_by(event, empty);
-        } else {
-            self.lay_any(event, empty);
+        match event {
+            yaml_event_body_t::Scalar { .. } => self.lay_by(event, empty, true, true),
+            _ => self.lay_any(event, empty),
+        }
+    }
+
+    // In pretty form. The same.
+    // Out of line: what other kinds and the other form need takes no room here.
+    #[inline(never)]
+    fn lay_pretty(&mut self, event: &mut yaml_event_body_t, empty: bool)
+        requires utf8 { HasUtf8 (body_of event.old) }
+        requires form { self.old.settings.canonical ≡ false }
+        ensures { LaysOut self.old self.new (emitter_event (body_of event.old)) empty }
+    {
+        match event {
+            yaml_event_body_t::Scalar { .. } => self.lay_by(event, empty, false, true),
+            _ => self.lay_any(event, empty),
         }
     }
 
@@ -215,9 +287,10 @@ impl Core {
         requires { HasUtf8 (body_of event.old) }
         ensures { LaysOut self.old self.new (emitter_event (body_of event.old)) empty }
     {
-        match event {
-            yaml_event_body_t::Scalar { .. } => self.lay_scalar(event, empty),
-            _ => self.lay_any(event, empty),
+        if self.settings.canonical {
+            self.lay_canonical(event, empty);
+        } else {
+            self.lay_pretty(event, empty);
         }
     }
 }

@@ -34,10 +34,31 @@ fn put_alias_node(
     put_alias(sink, spot_of(*top, simple), name);
 }
 
-// A scalar in the innermost collection, with what comes before it.
+// A scalar in the innermost collection, with what comes before it, in a form that is known.
 // Inlined: most events are scalars.
 #[inline(always)]
 pub(super) fn put_scalar_node(
+    sink: &mut Sink,
+    context: &Context,
+    top: &Option<Level>,
+    simple: bool,
+    scalar: &Scalar,
+    canonical: bool,
+)
+    requires utf8 { IsUtf8 scalar.now.value.now }
+    requires form { canonical ≡ context.now.settings.now.canonical }
+    ensures { Puts sink.old sink.new (before_node context.now.settings.now top.now simple
+        ▹ scalar_layout (lent_context context.now) (spot_of top.now simple)
+        (lent_scalar scalar.now)) }
+{
+    put_before(sink, context.settings, top, simple);
+    put_scalar(sink, context, spot_of(*top, simple), scalar, canonical);
+}
+
+// The same in either form.
+// Out of line: the way beside the short ones.
+#[inline(never)]
+fn put_any_node(
     sink: &mut Sink,
     context: &Context,
     top: &Option<Level>,
@@ -49,8 +70,14 @@ pub(super) fn put_scalar_node(
         ▹ scalar_layout (lent_context context.now) (spot_of top.now simple)
         (lent_scalar scalar.now)) }
 {
-    put_before(sink, context.settings, top, simple);
-    put_scalar(sink, context, spot_of(*top, simple), scalar);
+    put_scalar_node(
+        sink,
+        context,
+        top,
+        simple,
+        scalar,
+        context.settings.canonical,
+    );
 }
 
 // What opens a collection in the innermost one, with what comes before it.
@@ -128,7 +155,7 @@ pub fn put_event(
                 quoted: *quoted_implicit,
                 style: *style,
             };
-            put_scalar_node(sink, context, top, simple, &scalar)
+            put_any_node(sink, context, top, simple, &scalar)
         }
         yaml_event_body_t::SequenceStart {
             anchor,

@@ -1,0 +1,62 @@
+-- Whether a scalar is a simple key counts where a key is due, and nowhere else.
+use Rattle.std.proofs.Common.{◌≡◌, ℕ, Bool, refl, ◌∙◌, ap, List, [], ◌∷◌, Option, Some, None}
+use Rattle.std.specs.Prelude.{◌&&◌}
+use Rattle.yaml_emit_text.specs.declared.Settings.{Settings}
+use Rattle.yaml_emit_text.specs.Sink.{Output, Puts}
+use Rattle.yaml_emit_text.specs.Layout.{◌▹◌}
+use Rattle.yaml_emit_layout.specs.declared.Level.{Level}
+use Rattle.yaml_emit_layout.specs.declared.Phase.{Phase}
+use Rattle.yaml_emit_layout.specs.declared.Phase.TheVariants.{Items, Keys, Value}
+use Rattle.yaml_emit_layout.specs.Content.{Scalar, scalar}
+use Rattle.yaml_emit_layout.specs.State.{among, before_at, before_node, spot_of, part_at, levels_behind, phase_behind, top_of, text_at, next_at, depth_at, is_simple_event}
+use Rattle.yaml_emit_layout.specs.Nodes.{context_of, is_simple_scalar, scalar_layout}
+use Rattle.yaml_emit_state.specs.declared.state.Core.{Core}
+use Rattle.yaml_emit_state.specs.Stack.{stack_of}
+use Rattle.yaml_emit_state.specs.Due.{is_key_in, is_key}
+use Rattle.yaml_emit_state.specs.Steps.{state_of, settings_of, StaysBut, LaysOutRight}
+
+before_in : (s : Settings) (p : Phase) (flow : Bool) (n : ℕ) (b : Bool) → before_at s p flow n (is_key_in p && b) ≡ before_at s p flow n b
+before_in s (Items fresh) flow n b = refl
+before_in s (Keys fresh) flow n b = refl
+before_in s (Value was_simple) flow n b = refl
+
+before_keyed : (s : Settings) (top : Option Level) (b : Bool) → before_node s top (is_key top && b) ≡ before_node s top b
+before_keyed s None b = refl
+before_keyed s (Some l) b = before_in s l.phase l.flow l.indent b
+
+part_in : (p : Phase) (b : Bool) → part_at p (is_key_in p && b) ≡ part_at p b
+part_in (Items fresh) b = refl
+part_in (Keys fresh) b = refl
+part_in (Value was_simple) b = refl
+
+spot_keyed : (top : Option Level) (b : Bool) → spot_of top (is_key top && b) ≡ spot_of top b
+spot_keyed None b = refl
+spot_keyed (Some l) b = rw (part_in l.phase b) refl
+
+phase_in : (p : Phase) (b : Bool) → phase_behind p (is_key_in p && b) ≡ phase_behind p b
+unfolding phase_behind
+phase_in (Items fresh) b = refl
+phase_in (Keys fresh) b = refl
+phase_in (Value was_simple) b = refl
+
+levels_keyed : (ls : List Level) (b : Bool) → levels_behind ls (is_key (top_of ls) && b) ≡ levels_behind ls b
+levels_keyed [] b = refl
+levels_keyed (l ∷ ls) b = rw (phase_in l.phase b) refl
+
+-- a scalar was laid out, where only a key was asked whether it is simple
+pub lays_scalar : (old new : Core) (o : Output) (s : Settings) (top : Option Level) (v : Scalar) (simple empty : Bool)
+    → s ≡ settings_of old → top ≡ top_of (stack_of old.levels) → simple ≡ (is_key top && is_simple_scalar (context_of s old.directives) v)
+    → Puts old.sink o (before_node s top simple ▹ scalar_layout (context_of s old.directives) (spot_of top simple) v)
+    → state_of new ≡ among old.directives (levels_behind (stack_of old.levels) simple) → StaysBut (record old { sink = o }) new
+    → LaysOutRight old new (scalar v) empty
+unfolding text_at next_at depth_at is_simple_event
+lays_scalar old new o s top v simple empty settings upper asked put moved kept =
+    let b = is_simple_scalar (context_of (settings_of old) old.directives) v in
+    let is : simple ≡ (is_key (top_of (stack_of old.levels)) && b) = rw (settings, upper) at asked in
+    let text = rw (settings, upper, is, before_keyed (settings_of old) (top_of (stack_of old.levels)) b, spot_keyed (top_of (stack_of old.levels)) b) at put in
+    record {
+      settings = kept.0;
+      state = λ g. moved ∙ ap (λ ls. among old.directives ls) (ap (levels_behind (stack_of old.levels)) is ∙ levels_keyed (stack_of old.levels) b);
+      text = rw kept.1 text;
+      memory = λ _. kept.2;
+    }

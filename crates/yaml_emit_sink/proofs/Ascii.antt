@@ -1,6 +1,6 @@
 -- ASCII at the end of the output.
 use Rattle.std.proofs.Common.{◌≡◌, ℕ, ◌+◌, ◌<◌, List, [], ◌∷◌, ◌++◌, length, length-append, true, false, refl, sym, subst, ◌∙◌, ap, arith}
-use Rattle.std.specs.Prelude.{◌==◌}
+use Rattle.std.specs.Prelude.{◌==◌, ◌≤◌}
 use Rattle.std.specs.Str.{IsAscii}
 use Rattle.std.proofs.lemmas.Bool.Decides.{nat_tests}
 use Rattle.std.proofs.lemmas.Str.{IsAscii-drop}
@@ -60,6 +60,13 @@ puts_ascii a b (y ∷ ys) s p g x e l h k =
     puts_run a b (letters (y ∷ ys)) (y ∷ ys) (behind (y ∷ ys)) g e l (λ rest. rw x (letters_encode (y ∷ ys) a.cursor rest s)) (λ rest. letters_deep (y ∷ ys) a.cursor rest) h
     (λ going. k going ∙ sym (behind_is y ys a.cursor))
 
+-- the same, all of them for certain
+pub puts_near : (a b : Output) (xs : List ℕ) → IsAscii xs → 0 < length xs → a.status ≡ Going → a.encoding ≡ Utf8 → b.status ≡ a.status → b.encoding ≡ a.encoding → b.limit ≡ a.limit
+    → b.bytes ≡ a.bytes ++ xs → length a.bytes + length xs ≤ a.limit → b.cursor ≡ lettered (length xs) a.cursor → Puts a b (letters xs)
+puts_near a b xs s p g x t e l o r k =
+    let P : Status → Type 0 = λ z. AppendsBy z a.limit a.bytes b.bytes xs in
+    puts_ascii a b xs s p g x e l (subst P (sym (t ∙ g)) (o, rw o (omega (arith, r, length-append a.bytes xs)))) (λ _. k)
+
 -- a character of one byte was appended
 pub puts_byte : (a b : Output) (x : ℕ) (n : Cursor → Cursor) → a.status ≡ Going → a.encoding ≡ Utf8 → x < 0x80 → length a.bytes < a.limit → b.bytes ≡ a.bytes ++ x ∷ []
     → b.status ≡ a.status → b.encoding ≡ a.encoding → b.limit ≡ a.limit → b.cursor ≡ n a.cursor → Puts a b (λ c rest. letter x ∷ rest (n c))
@@ -72,6 +79,10 @@ pub no_letters : (a : Output) (xs : List ℕ) → (length xs == 0) ≡ true → 
 unfolding letters
 no_letters a [] e = puts_nothing a
 no_letters a (x ∷ xs) e = absurd (grind (arith, nat_tests, e))
+
+pub some_letters : (xs : List ℕ) → (length xs == 0) ≡ false → 0 < length xs
+some_letters [] e = absurd (cc)
+some_letters (x ∷ xs) e = omega arith
 
 small : (b : ℕ) → is_ascii b ≡ true → b < 128
 small b h = grind (arith, nat_tests)

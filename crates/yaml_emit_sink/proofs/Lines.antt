@@ -1,8 +1,9 @@
 -- A break and the spaces behind it.
-use Rattle.std.proofs.Common.{◌≡◌, ℕ, ◌+◌, ◌-◌, ◌≤◌, List, ◌∷◌, ◌++◌, take, true, false, cond, refl, sym, ◌∙◌, ap, arith}
+use Rattle.std.proofs.Common.{◌≡◌, ℕ, ◌+◌, ◌-◌, ◌≤◌, List, ◌∷◌, ◌++◌, take, length, length-append, true, false, cond, refl, sym, subst, ◌∙◌, ap, arith}
 use Rattle.std.specs.Prelude.{if◌then◌else◌, zero, suc, replicate}
-use Rattle.std.proofs.lemmas.List.{take-replicate}
+use Rattle.std.proofs.lemmas.List.{take-replicate, length-replicate}
 use Rattle.yaml_emit_sink.specs.declared.cursor.Cursor.{Cursor}
+use Rattle.yaml_emit_sink.specs.declared.cursor.Status.{Status}
 use Rattle.yaml_emit_sink.specs.declared.cursor.Status.TheVariants.{Going}
 use Rattle.yaml_emit_sink.specs.declared.settings.Encoding.TheVariants.{Utf8}
 use Rattle.yaml_emit_sink.specs.declared.settings.LineBreak.{LineBreak}
@@ -37,6 +38,14 @@ pub puts_fresh : (a b : Output) (n : ℕ) → a.status ≡ Going → a.encoding 
     → Puts a b (fresh Lf n)
 puts_fresh a b n g x e l h k =
     puts_run a b (fresh Lf n) (10 ∷ replicate n 32) (λ c. stepped n (home c)) g e l (λ rest. rw x (fresh_encode n a.cursor rest)) (λ rest. fresh_deep n a.cursor rest) h (λ going. k going ∙ sym (stepped_home n a.cursor))
+
+-- the same, all of them for certain
+pub puts_brief : (a b : Output) (n : ℕ) → a.status ≡ Going → a.encoding ≡ Utf8 → b.status ≡ a.status → b.encoding ≡ a.encoding → b.limit ≡ a.limit
+    → b.bytes ≡ a.bytes ++ 10 ∷ replicate n 32 → length a.bytes + (1 + n) ≤ a.limit → b.cursor ≡ indented n a.cursor → Puts a b (fresh Lf n)
+puts_brief a b n g x t e l o r k =
+    let P : Status → Type 0 = λ z. AppendsBy z a.limit a.bytes b.bytes (10 ∷ replicate n 32) in
+    let many : length (replicate {A = ℕ} n 32) ≡ n = length-replicate n 32 in
+    puts_fresh a b n g x e l (subst P (sym (t ∙ g)) (o, rw o (omega (arith, r, many, length-append a.bytes (10 ∷ replicate n 32))))) (λ _. k)
 
 no_less : (n : ℕ) → n - 0 ≡ n
 no_less n = omega arith

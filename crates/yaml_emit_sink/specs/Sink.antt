@@ -1,5 +1,6 @@
 -- What an output has of a text, and what is still to come of it.
 use Rattle.std.specs.Prelude.{◌≡◌, ◌≢◌, ℕ, ◌<◌, ◌≤◌, Bool, true, List, ◌∷◌, ◌++◌, length, take}
+use Rattle.std.specs.Vec.{vec_capacity}
 use Rattle.yaml_emit_sink.specs.declared.cursor.Cursor.{Cursor}
 use Rattle.yaml_emit_sink.specs.declared.sink.Sink.TheInside.{Inside}
 use Rattle.yaml_emit_sink.specs.declared.cursor.Status.{Status}
@@ -27,12 +28,14 @@ output_of s = record {
   cursor = s.cursor;
 }
 
--- no more bytes than the limit, and no more columns than bytes; up to its fast limit an output goes on, and a character in ASCII is a byte
+-- no more bytes than the limit, and no more columns than bytes; up to its fast limit an output goes on, a character in ASCII is a byte, and
+-- nothing has to grow
 pub record IsSink (s : Inside) : Type 0 where
   pub within : length s.output.items ≤ s.limit
   pub narrow : s.cursor.column ≤ length s.output.items
   pub fast_limit : 0 < s.fast_limit → (s.fast_limit ≤ s.limit)
       × ((s.status ≡ Going) × (s.encoding ≡ Utf8))
+  pub room : s.fast_limit ≤ vec_capacity s.output
 
 -- With `text` to come, the whole is `whole`: all in front of it is written, and none of that is too deep; or the first bytes up
 -- to the limit are; or some first bytes, since the whole is too deep somewhere, or since memory was refused.

@@ -18,55 +18,37 @@ const FEW: usize = 8;
 #[inline(always)]
 fn push_each(output: &mut Vec<u8>, bytes: &[u8])
     requires { vec_len output.old + length bytes.now ≤ vec_capacity output.old }
-    ensures { output.new.items ≡ output.old.items ++ bytes.now }
+    ensures items { output.new.items ≡ output.old.items ++ bytes.now }
+    ensures room { vec_capacity output.new ≡ vec_capacity output.old }
 {
     for byte in bytes {
         output.push_reserved(*byte);
     }
 }
 
-// Whether these bytes are few, and nothing has to grow for them.
-// Inlined: two comparisons, asked at each append.
-#[inline(always)]
-fn are_few(output: &Vec<u8>, bytes: &[u8]) -> bool
-    ensures { result ≡ true → vec_len output.now + length bytes.now ≤ vec_capacity output.now }
-{
-    bytes.len() <= FEW && bytes.len() <= output.capacity().saturating_sub(output.len())
-}
-
-// These bytes, which may be many, for which the limit has room.
-// Out of line: what it grows the output by would take registers from the few bytes beside it.
+// These bytes, which may be many, for which there is room.
+// Out of line: what a copy needs would take registers from the few bytes beside it.
 #[inline(never)]
-fn append_many(output: &mut Vec<u8>, limit: u64, bytes: &[u8]) -> Status
-    requires { length output.old.items + length bytes.now ≤ limit }
-    ensures bytes { AppendsBy result limit output.old.items output.new.items bytes.now }
-    ensures within { length output.new.items ≤ limit }
-    ensures longer { length output.old.items ≤ length output.new.items }
-    ensures going { result ≡ Status.Going → length output.new.items ≡ length output.old.items
-        + length bytes.now }
+fn append_many(output: &mut Vec<u8>, bytes: &[u8])
+    requires { vec_len output.old + length bytes.now ≤ vec_capacity output.old }
+    ensures items { output.new.items ≡ output.old.items ++ bytes.now }
+    ensures room { vec_capacity output.old ≤ vec_capacity output.new }
 {
-    // Named in the clauses alone: the caller has asked it.
-    let _ = limit;
-    match output.extend_from_slice(bytes) {
-        Ok(_) => Status::Going,
-        Err(_) => Status::Starved,
-    }
+    // There is room, so that it isn't refused.
+    let _ = output.extend_from_slice(bytes);
 }
 
-// These bytes, for which the limit has room, as far as the memory allows, and what becomes of the output.
-pub(crate) fn append_within(output: &mut Vec<u8>, limit: u64, bytes: &[u8]) -> Status
-    requires { length output.old.items + length bytes.now ≤ limit }
-    ensures bytes { AppendsBy result limit output.old.items output.new.items bytes.now }
-    ensures within { length output.new.items ≤ limit }
-    ensures longer { length output.old.items ≤ length output.new.items }
-    ensures going { result ≡ Status.Going → length output.new.items ≡ length output.old.items
-        + length bytes.now }
+// These bytes, for which there is room.
+pub(crate) fn append_near(output: &mut Vec<u8>, bytes: &[u8])
+    requires { vec_len output.old + length bytes.now ≤ vec_capacity output.old }
+    ensures items { output.new.items ≡ output.old.items ++ bytes.now }
+    ensures room { vec_capacity output.old ≤ vec_capacity output.new }
 {
-    if are_few(output, bytes) {
+    if bytes.len() <= FEW {
         push_each(output, bytes);
-        return Status::Going;
+    } else {
+        append_many(output, bytes);
     }
-    append_many(output, limit, bytes)
 }
 
 // These bytes, as far as the limit and the memory allow, and what becomes of the output.
@@ -74,13 +56,17 @@ pub(crate) fn append(output: &mut Vec<u8>, limit: u64, bytes: &[u8]) -> Status
     requires { length output.old.items ≤ limit }
     ensures bytes { AppendsBy result limit output.old.items output.new.items bytes.now }
     ensures within { length output.new.items ≤ limit }
+    ensures room { vec_capacity output.old ≤ vec_capacity output.new }
     ensures longer { length output.old.items ≤ length output.new.items }
     ensures going { result ≡ Status.Going → length output.new.items ≡ length output.old.items
         + length bytes.now }
 {
     let room = limit - output.len() as u64;
     if bytes.len() as u64 <= room {
-        append_within(output, limit, bytes)
+        match output.extend_from_slice(bytes) {
+            Ok(_) => Status::Going,
+            Err(_) => Status::Starved,
+        }
     } else {
         match output.extend_from_slice(&bytes[..room as usize]) {
             Ok(_) => Status::Full,
@@ -96,6 +82,7 @@ fn append_byte(output: &mut Vec<u8>, limit: u64, byte: u8) -> Status
     requires { length output.old.items ≤ limit }
     ensures bytes { AppendsBy result limit output.old.items output.new.items (byte ∷ []) }
     ensures within { length output.new.items ≤ limit }
+    ensures room { vec_capacity output.old ≤ vec_capacity output.new }
     ensures longer { length output.old.items ≤ length output.new.items }
     ensures going { result ≡ Status.Going → length output.new.items ≡ length output.old.items + 1 }
 {
@@ -111,6 +98,7 @@ fn append_byte(output: &mut Vec<u8>, limit: u64, byte: u8) -> Status
 // So many spaces more.
 fn extend_blanks(output: &mut Vec<u8>, count: usize) -> Result<(), AllocError>
     requires { length output.old.items + count < 2 ^ 64 }
+    ensures room { vec_capacity output.old ≤ vec_capacity output.new }
     ensures ok { OnOk result (output.new.items ≡ output.old.items ++ replicate count 32) }
     ensures err { OnErr result (output.new.items ≡ output.old.items) }
 {
@@ -123,6 +111,7 @@ pub(crate) fn append_blanks(output: &mut Vec<u8>, limit: u64, count: u64) -> Sta
     requires { length output.old.items ≤ limit }
     ensures bytes { AppendsBy result limit output.old.items output.new.items (replicate count 32) }
     ensures within { length output.new.items ≤ limit }
+    ensures room { vec_capacity output.old ≤ vec_capacity output.new }
     ensures longer { length output.old.items ≤ length output.new.items }
     ensures going { result ≡ Status.Going → length output.new.items ≡ length output.old.items
         + count }
@@ -144,18 +133,14 @@ pub(crate) fn append_blanks(output: &mut Vec<u8>, limit: u64, count: u64) -> Sta
 // A line feed and the most spaces that are appended at once behind it.
 const LINE: [u8; 33] = *b"\n                                ";
 
-// A line feed and so many spaces, for which the limit has room, as far as the memory allows.
-pub(crate) fn append_line(output: &mut Vec<u8>, limit: u64, count: u64) -> Status
-    requires inside { length output.old.items + (1 + count) ≤ limit }
+// A line feed and so many spaces, for which there is room.
+pub(crate) fn append_line(output: &mut Vec<u8>, count: u64)
+    requires inside { vec_len output.old + (1 + count) ≤ vec_capacity output.old }
     requires few { count ≤ 32 }
-    ensures bytes { AppendsBy result limit output.old.items output.new.items
-        (10 ∷ replicate count 32) }
-    ensures within { length output.new.items ≤ limit }
-    ensures longer { length output.old.items ≤ length output.new.items }
-    ensures going { result ≡ Status.Going → length output.new.items ≡ length output.old.items
-        + (1 + count) }
+    ensures items { output.new.items ≡ output.old.items ++ 10 ∷ replicate count 32 }
+    ensures room { vec_capacity output.old ≤ vec_capacity output.new }
 {
-    append_within(output, limit, &LINE[..count as usize + 1])
+    append_near(output, &LINE[..count as usize + 1]);
 }
 
 // The cursor comes behind a line feed and so many spaces.
@@ -210,6 +195,7 @@ pub(crate) fn append_char(output: &mut Vec<u8>, limit: u64, encoding: Encoding, 
     ensures bytes { AppendsBy result limit output.old.items output.new.items
         (char_bytes encoding c) }
     ensures within { length output.new.items ≤ limit }
+    ensures room { vec_capacity output.old ≤ vec_capacity output.new }
     ensures longer { length output.old.items ≤ length output.new.items }
     ensures going { result ≡ Status.Going → length output.old.items < length output.new.items }
 {
@@ -246,9 +232,8 @@ pub(crate) fn moved(at: &mut Cursor, ends: bool, white: bool, bare: bool)
 pub(crate) fn is_roomy(output: &Vec<u8>, fast_limit: u64, c: char) -> bool
     ensures ascii { result ≡ true → c < 0x80 }
     ensures near { result ≡ true → length output.now.items < fast_limit }
-    ensures room { result ≡ true → vec_len output.now < vec_capacity output.now }
 {
-    (c as u32) < 0x80 && (output.len() as u64) < fast_limit && output.len() < output.capacity()
+    (c as u32) < 0x80 && (output.len() as u64) < fast_limit
 }
 
 // The byte of a character in ASCII.

@@ -1,9 +1,10 @@
 //! The output, up to its limit.
 
 ghost use Rattle.std.specs.Prelude.{◌≡◌, ◌≢◌, ◌<◌, ◌≤◌, ℕ, ◌∷◌, [], ◌++◌, ◌+◌, ◌-◌, length, ◌^◌, false, true};
+ghost use Rattle.std.specs.Vec.{vec_capacity};
 
 use crate::append::{
-    append, append_blanks, append_char, append_line, append_within, blanked, byte_of, indented,
+    append, append_blanks, append_char, append_line, append_near, blanked, byte_of, indented,
     is_roomy, lettered, moved,
 };
 use crate::cursor::{Cursor, Status};
@@ -21,7 +22,8 @@ pub struct Sink {
     encoding: Encoding,
     status: Status,
     cursor: Cursor,
-    /// While the output has fewer bytes than these, it goes on, and a character in ASCII is one byte more.
+    /// While the output has fewer bytes than these, it goes on, a character in ASCII is one byte more, and nothing has to grow
+    /// for it.
     fast_limit: u64,
 }
 
@@ -33,6 +35,36 @@ fn fast_limit_in(encoding: Encoding, fast_limit: u64) -> u64
     match encoding {
         Encoding::Utf8 => fast_limit,
         _ => 0,
+    }
+}
+
+// How far an output that goes on is written to at once: up to the limit, and up to where it has to grow.
+fn fast_limit_of(output: &Vec<u8>, limit: u64, encoding: Encoding) -> u64
+    ensures most { result ≤ limit }
+    ensures room { result ≤ vec_capacity output.now }
+    ensures bytes { 0 < result → encoding ≡ Encoding.Utf8 }
+{
+    let room = output.capacity() as u64;
+    fast_limit_in(encoding, if room < limit { room } else { limit })
+}
+
+// Whether there is room for so many bytes more, one at least.
+// Inlined: a difference and a comparison.
+#[inline(always)]
+fn has_room(output: &Vec<u8>, fast_limit: u64, count: u64) -> bool
+    ensures { result ≡ true → 0 < count → length output.now.items + count ≤ fast_limit }
+{
+    count <= fast_limit.saturating_sub(output.len() as u64)
+}
+
+// Whether a line feed and so many spaces are few bytes, and there is room for them.
+fn is_brief(output: &Vec<u8>, fast_limit: u64, line_break: LineBreak, indent: u64) -> bool
+    ensures line { result ≡ true → (line_break ≡ LineBreak.Lf) × (indent ≤ 32) }
+    ensures near { result ≡ true → length output.now.items + (1 + indent) ≤ fast_limit }
+{
+    match line_break {
+        LineBreak::Lf => indent <= 32 && has_room(output, fast_limit, 1 + indent),
+        _ => false,
     }
 }
 
@@ -73,7 +105,7 @@ impl Sink {
                 bare: true,
                 kept: false,
             },
-            fast_limit: limit,
+            fast_limit: 0,
         }
     }
 
@@ -139,6 +171,7 @@ impl Sink {
             self.status = append_char(&mut self.output, self.limit, self.encoding, c);
             if self.status.is_going() {
                 moved(&mut self.cursor, ends, white, bare);
+                self.fast_limit = fast_limit_of(&self.output, self.limit, self.encoding);
             } else {
                 self.fast_limit = 0;
             }
@@ -213,32 +246,6 @@ impl Sink {
         }
     }
 
-    // Whether so many characters in ASCII, one at least, are as many bytes, and the output goes on behind them.
-    fn is_near(&self, count: u64) -> bool
-        ensures { result ≡ true → 0 < count → (self.now.status ≡ Status.Going)
-            × ((self.now.encoding ≡ Encoding.Utf8)
-            × (length self.now.bytes + count ≤ self.now.limit)) }
-    {
-        count <= self.fast_limit.saturating_sub(self.output.len() as u64)
-    }
-
-    // Characters of one byte, one at least, for which there is room, at once.
-    fn put_near(&mut self, text: &[u8])
-        requires some { 0 < length text.now }
-        requires ascii { IsAscii text.now }
-        requires near { (self.old.status ≡ Status.Going)
-            × ((self.old.encoding ≡ Encoding.Utf8)
-            × (length self.old.bytes + length text.now ≤ self.old.limit)) }
-        ensures { Puts self.old self.new (letters text.now) }
-    {
-        self.status = append_within(&mut self.output, self.limit, text);
-        if self.status.is_going() {
-            lettered(&mut self.cursor, text.len() as u64);
-        } else {
-            self.fast_limit = 0;
-        }
-    }
-
     // Characters of one byte, one at least, at once.
     fn put_bytes(&mut self, text: &[u8])
         requires some { 0 < length text.now }
@@ -250,6 +257,7 @@ impl Sink {
             self.status = append(&mut self.output, self.limit, text);
             if self.status.is_going() {
                 lettered(&mut self.cursor, text.len() as u64);
+                self.fast_limit = fast_limit_of(&self.output, self.limit, self.encoding);
             } else {
                 self.fast_limit = 0;
             }
@@ -278,8 +286,9 @@ impl Sink {
         if text.is_empty() {
             return;
         }
-        if self.is_near(text.len() as u64) {
-            self.put_near(text);
+        if has_room(&self.output, self.fast_limit, text.len() as u64) {
+            append_near(&mut self.output, text);
+            lettered(&mut self.cursor, text.len() as u64);
         } else {
             self.put_far(text);
         }
@@ -312,6 +321,7 @@ impl Sink {
             self.status = append_blanks(&mut self.output, self.limit, count);
             if self.status.is_going() {
                 blanked(&mut self.cursor, count);
+                self.fast_limit = fast_limit_of(&self.output, self.limit, self.encoding);
             } else {
                 self.fast_limit = 0;
             }
@@ -384,35 +394,6 @@ impl Sink {
         !at.bare || indent < at.column || (at.column == indent && !at.white)
     }
 
-    // Whether a line feed and so many spaces are few bytes, and the output goes on behind them.
-    fn is_brief(&self, line_break: LineBreak, indent: u64) -> bool
-        ensures line { result ≡ true → (line_break ≡ LineBreak.Lf) × (indent ≤ 32) }
-        ensures near { result ≡ true → (self.now.status ≡ Status.Going)
-            × ((self.now.encoding ≡ Encoding.Utf8)
-            × (length self.now.bytes + (1 + indent) ≤ self.now.limit)) }
-    {
-        match line_break {
-            LineBreak::Lf => indent <= 32 && self.is_near(1 + indent),
-            _ => false,
-        }
-    }
-
-    // A line feed of one byte and a few spaces, for which there is room, at once.
-    fn put_brief_line(&mut self, indent: u64)
-        requires few { indent ≤ 32 }
-        requires near { (self.old.status ≡ Status.Going)
-            × ((self.old.encoding ≡ Encoding.Utf8)
-            × (length self.old.bytes + (1 + indent) ≤ self.old.limit)) }
-        ensures { Puts self.old self.new (fresh LineBreak.Lf indent) }
-    {
-        self.status = append_line(&mut self.output, self.limit, indent);
-        if self.status.is_going() {
-            indented(&mut self.cursor, indent);
-        } else {
-            self.fast_limit = 0;
-        }
-    }
-
     // Out of line: the rare way of a line, beside the short one.
     #[inline(never)]
     fn put_long_line(&mut self, line_break: LineBreak, indent: u64)
@@ -426,8 +407,9 @@ impl Sink {
     fn put_fresh(&mut self, line_break: LineBreak, indent: u64)
         ensures { Puts self.old self.new (fresh line_break indent) }
     {
-        if self.is_brief(line_break, indent) {
-            self.put_brief_line(indent);
+        if is_brief(&self.output, self.fast_limit, line_break, indent) {
+            append_line(&mut self.output, indent);
+            indented(&mut self.cursor, indent);
         } else {
             self.put_long_line(line_break, indent);
         }

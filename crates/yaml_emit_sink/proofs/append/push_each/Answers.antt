@@ -11,5 +11,8 @@ loop-byte-preserved c = (
   (omega (arith, c.push_reserved.ensures.len, c.loop-byte.invariant.1.0), c.push_reserved.ensures.capacity ∙ c.loop-byte.invariant.1.1),
 )
 
-pub returns : goal.returns
-returns c = all_pushed _ _ _ _ c.loop-byte-test.false c.loop-byte.invariant.0
+pub returns-clause-items : goal.returns-clause-items
+returns-clause-items c = all_pushed _ _ _ _ c.loop-byte-test.false c.loop-byte.invariant.0
+
+pub returns-clause-room : goal.returns-clause-room
+returns-clause-room c = c.loop-byte.invariant.1.1

@@ -10,11 +10,8 @@ use crate::cursor::{Cursor, Status};
 use crate::settings::Encoding;
 use std::alloc::AllocError;
 
-// The most bytes that are pushed one by one: a call would take longer.
-const FEW: usize = 8;
-
 // These bytes, where nothing has to grow.
-// Inlined: up to eight bytes take less time than a call.
+// Inlined: where their number is known, they are stored with no test between.
 #[inline(always)]
 fn push_each(output: &mut Vec<u8>, bytes: &[u8])
     requires { vec_len output.old + length bytes.now ≤ vec_capacity output.old }
@@ -38,16 +35,22 @@ fn append_many(output: &mut Vec<u8>, bytes: &[u8])
     let _ = output.extend_from_slice(bytes);
 }
 
-// These bytes, for which there is room.
+// These bytes, for which there is room: up to eight take less time than a copy, one by one with their number known.
 pub(crate) fn append_near(output: &mut Vec<u8>, bytes: &[u8])
     requires { vec_len output.old + length bytes.now ≤ vec_capacity output.old }
     ensures items { output.new.items ≡ output.old.items ++ bytes.now }
     ensures room { vec_capacity output.old ≤ vec_capacity output.new }
 {
-    if bytes.len() <= FEW {
-        push_each(output, bytes);
-    } else {
-        append_many(output, bytes);
+    match bytes.len() {
+        1 => push_each(output, &bytes[..1]),
+        2 => push_each(output, &bytes[..2]),
+        3 => push_each(output, &bytes[..3]),
+        4 => push_each(output, &bytes[..4]),
+        5 => push_each(output, &bytes[..5]),
+        6 => push_each(output, &bytes[..6]),
+        7 => push_each(output, &bytes[..7]),
+        8 => push_each(output, &bytes[..8]),
+        _ => append_many(output, bytes),
     }
 }
 
@@ -133,14 +136,21 @@ pub(crate) fn append_blanks(output: &mut Vec<u8>, limit: u64, count: u64) -> Sta
 // A line feed and the most spaces that are appended at once behind it.
 const LINE: [u8; 33] = *b"\n                                ";
 
-// A line feed and so many spaces, for which there is room.
+// A line feed and so many spaces, for which there is room: the numbers that are met most are known one by one.
 pub(crate) fn append_line(output: &mut Vec<u8>, count: u64)
     requires inside { vec_len output.old + (1 + count) ≤ vec_capacity output.old }
     requires few { count ≤ 32 }
     ensures items { output.new.items ≡ output.old.items ++ 10 ∷ replicate count 32 }
     ensures room { vec_capacity output.old ≤ vec_capacity output.new }
 {
-    append_near(output, &LINE[..count as usize + 1]);
+    match count {
+        0 => push_each(output, &LINE[..1]),
+        2 => push_each(output, &LINE[..3]),
+        4 => push_each(output, &LINE[..5]),
+        6 => push_each(output, &LINE[..7]),
+        8 => push_each(output, &LINE[..9]),
+        _ => append_near(output, &LINE[..count as usize + 1]),
+    }
 }
 
 // The cursor comes behind a line feed and so many spaces.

@@ -12,3 +12,4 @@ mod Looks
 mod Rows
 mod RunLemmas
 mod RunWalks
+mod Tame

@@ -6,7 +6,7 @@ ghost use Rattle.yaml_emit_sink.specs.Text.{is_break};
 ghost use Rattle.yaml_emit_text.specs.Quoted.{is_printable, first, is_empty};
 ghost use Rattle.yaml_emit_text.specs.Style.{is_blank, ends_word, somewhere, is_special, is_break_space, is_not_plain, is_not_flow, last_or, ends_in_space, is_indicator, is_badly_begun, behind, starts_badly, allowed_text, allowed, plain_fits, single_or, block_or, plain_or, taken, looked, seen, joined};
 
-use crate::letters::{first, is_break, split_first};
+use crate::letters::{first, is_break, is_empty, split_first};
 use crate::page::{Allowed, Seen, Style};
 use crate::quoted::is_printable;
 use crate::run::{last_of, split_calm};
@@ -178,25 +178,30 @@ fn past_calm(before: char, left: &str) -> (char, &str)
     (last_of(before, run), rest)
 }
 
-// One look at a value: what was seen, and its last character.
-fn look(unicode: bool, value: &str) -> (Seen, char)
+// One look at a value: what was seen, and its last character. What stands in front of the rest of it says nothing.
+fn look(unicode: bool, value: &str, before: char, rest: &str) -> (Seen, char)
+    requires seen { looked unicode 32 (chars value.now) ≡ looked unicode before (chars rest.now) }
+    requires last { last_or 32 (chars value.now) ≡ last_or before (chars rest.now) }
     ensures seen { result.0 ≡ looked unicode 32 (chars value.now) }
     ensures last { result.1 ≡ last_or 32 (chars value.now) }
 {
+    // Named in the clauses alone.
+    let _ = value;
     let mut all = Seen {
         special: false,
         broken: false,
         not_plain: false,
         not_flow: false,
     };
-    let (mut before, mut left) = past_calm(' ', value);
-    while let Some((c, rest)) = split_first(left) {
-        all = joined(all, seen(unicode, before, c, first(rest)));
-        let (last, behind) = past_calm(c, rest);
-        before = last;
+    let mut last = before;
+    let mut left = rest;
+    while let Some((c, more)) = split_first(left) {
+        all = joined(all, seen(unicode, last, c, first(more)));
+        let (latest, behind) = past_calm(c, more);
+        last = latest;
         left = behind;
     }
-    (all, before)
+    (all, last)
 }
 
 fn behind(text: &str) -> &str
@@ -246,11 +251,43 @@ fn allowed_by(all: Seen, spaced: bool, badly: bool) -> Allowed
     }
 }
 
+// Whether a value allows all styles, of which what stands in front of the rest says nothing: no rest is there, no space ends
+// it, and it begins with a letter or a digit.
+// Inlined: three tests, and mostly no more is asked.
+#[inline(always)]
+fn is_tame(value: &str, before: char, rest: &str) -> bool
+    ensures none { result ≡ true → is_empty (chars rest.now) ≡ true }
+    ensures space { result ≡ true → (before == 32) ≡ false }
+    ensures badly { result ≡ true → starts_badly (chars value.now) ≡ false }
+{
+    is_empty(rest) && before != ' ' && begins_well(first(value))
+}
+
+// Out of line: the rare way beside the short one.
+#[inline(never)]
+fn allowed_looked(unicode: bool, value: &str, before: char, rest: &str) -> Allowed
+    requires seen { looked unicode 32 (chars value.now) ≡ looked unicode before (chars rest.now) }
+    requires last { last_or 32 (chars value.now) ≡ last_or before (chars rest.now) }
+    ensures { result ≡ allowed_text unicode (chars value.now) }
+{
+    let (all, last) = look(unicode, value, before, rest);
+    allowed_by(all, last == ' ', starts_badly(value))
+}
+
 fn allowed_text(unicode: bool, value: &str) -> Allowed
     ensures { result ≡ allowed_text unicode (chars value.now) }
 {
-    let (all, last) = look(unicode, value);
-    allowed_by(all, last == ' ', starts_badly(value))
+    let (before, rest) = past_calm(' ', value);
+    if is_tame(value, before, rest) {
+        Allowed {
+            plain: true,
+            flow_plain: true,
+            single: true,
+            block: true,
+        }
+    } else {
+        allowed_looked(unicode, value, before, rest)
+    }
 }
 
 /// The styles that a value allows. Characters that are not printable, with unicode off those that are not ASCII, and a space

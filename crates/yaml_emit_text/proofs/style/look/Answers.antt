@@ -7,11 +7,11 @@ pub split_first-requires-text-text : goal.split_first-requires-text-text
 split_first-requires-text-text c = λ _. c.loop-c.invariant.0
 
 pub loop-c-init : goal.loop-c-init
-loop-c-init c = (c.past_calm-before.ensures.utf8, c.past_calm-before.ensures.seen c.args.unicode, c.past_calm-before.ensures.last)
+loop-c-init c = (c.utf8.rest, c.requires.seen, c.requires.last)
 
 pub loop-c-preserved : goal.loop-c-preserved
 loop-c-preserved c =
-    (c.past_calm-last.ensures.utf8, look_more _ _ _ _ _ _ _ _ c.in-Some.ensures.letters c.loop-c.invariant.1 (c.joined-all.ensures ∙ ap (joined c.loop-c.all) (rw c.first.ensures at c.seen.ensures)) ∙ ap (joined c.joined-all.result) (c.past_calm-last.ensures.seen c.args.unicode), last_more _ _ _ _ _ c.in-Some.ensures.letters c.loop-c.invariant.2 ∙ c.past_calm-last.ensures.last)
+    (c.past_calm-latest.ensures.utf8, look_more _ _ _ _ _ _ _ _ c.in-Some.ensures.letters c.loop-c.invariant.1 (c.joined-all.ensures ∙ ap (joined c.loop-c.all) (rw c.first.ensures at c.seen.ensures)) ∙ ap (joined c.joined-all.result) (c.past_calm-latest.ensures.seen c.args.unicode), last_more _ _ _ _ _ c.in-Some.ensures.letters c.loop-c.invariant.2 ∙ c.past_calm-latest.ensures.last)
 
 pub returns-clause-seen : goal.returns-clause-seen
 returns-clause-seen c = look_end _ _ _ _ _ c.in_default.ensures.letters c.loop-c.invariant.1

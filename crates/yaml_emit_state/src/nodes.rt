@@ -120,6 +120,8 @@ fn is_plain(style: Style) -> bool
     }
 }
 
+// Inlined: then what it is given needn't stand in memory.
+#[inline(always)]
 #[tactic(auto, unfolding(yaml_emit_layout::specs::Nodes::style_of))]
 fn style_of(context: &Context, spot: Spot, scalar: &Scalar) -> Style
     requires { IsUtf8 scalar.now.value.now }

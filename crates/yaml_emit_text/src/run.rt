@@ -21,12 +21,15 @@ pub struct Bounds {
     pub width: u64,
 }
 
-// Whether a run goes on with that byte at that column.
+// Whether a run goes on with that byte at that column. Between two bounds that are known, small letters are asked for first: then
+// nothing else is asked of them.
 #[tactic(auto, unfolding(crate::specs::Runs::runs_on))]
 fn runs_on(bounds: Bounds, column: u64, byte: u8) -> bool
     ensures { result ≡ spec.runs_on bounds column byte }
 {
-    if b' ' < byte && byte <= 126 {
+    if bounds.slash != 0 && b'a' <= byte && byte <= b'z' {
+        byte != bounds.quote && byte != bounds.slash
+    } else if b' ' < byte && byte <= 126 {
         byte != bounds.quote && byte != bounds.slash
     } else {
         byte == b' '

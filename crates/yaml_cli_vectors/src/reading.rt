@@ -1,12 +1,15 @@
-//! What the calls that read answer on a line: decode, scan, next_tokens, parse and load; and parsers of a line's tokens.
+//! What the calls that read answer on a line: decode, scan, scan_calls, next_tokens, parse, parse_calls and
+//! load; and parsers of a line's tokens.
 
 mod asked;
 pub mod decode;
 mod load;
 pub mod next_tokens;
 mod parse;
+pub mod parse_calls;
 mod parser;
 pub mod scan;
+pub mod scan_calls;
 
 pub use asked::{Asked, parse_line};
 pub use parser::{Reading, Source, own_fault, reading_of};

@@ -2,7 +2,9 @@
 
 use crate::compare::{Outcome, compare};
 use crate::engine::put_line;
-use crate::reading::{Asked, Source, decode, next_tokens, parse_line, scan};
+use crate::reading::{
+    Asked, Source, decode, next_tokens, parse_calls, parse_line, scan, scan_calls,
+};
 use crate::vector::{Reply, VectorError, json_error};
 use crate::writing::{Given, emit_limits, emit_line};
 use crate::{checks, engine, limits, lookup, program, read_all, run, tokens};
@@ -19,10 +21,16 @@ fn answer_member(reply: &mut Reply, call: &str, line: &Value) {
         "load_tokens" => parse_line(reply, line, Source::Tokens, Asked::Documents),
         "emit" => emit_line(reply, line, Given::Input),
         "emit_events" => emit_line(reply, line, Given::Events),
+        "emit_calls" => emit_line(reply, line, Given::Calls),
         "dump" => emit_line(reply, line, Given::Document),
         "emit_limits" => emit_limits::answer(reply, line),
         "decode" => decode::answer(reply, line),
         "scan" => scan::answer(reply, line),
+        "scan_calls" => scan_calls::answer(reply, line),
+        "parse_calls" if line.get("tokens").is_some() => {
+            parse_line(reply, line, Source::Tokens, Asked::Calls)
+        }
+        "parse_calls" => parse_calls::answer(reply, line),
         "next_tokens" => next_tokens::answer(reply, line),
         "tokens" => tokens::tokens(reply, line),
         _ => reply.miss("call"),

@@ -18,7 +18,7 @@ pub use document::show_document;
 pub use error::{VectorError, json_error, text_error};
 pub use event::show_event;
 pub use given::event_of;
-pub use made::{document_of, is_node, is_sequence};
+pub use made::document_of;
 pub use reply::Reply;
 pub use setting::{Settings, settings_of};
 pub use shown::OWN;

@@ -1,8 +1,8 @@
-//! The calls `parse`, `parse_tokens`, `load` and `load_tokens`. One function owns the parser of all four, since an owner of a
-//! parser is dear to prove.
+//! The calls `parse`, `parse_tokens`, `load`, `load_tokens` and `parse_calls` of tokens. One function owns the parser of all
+//! five, since an owner of a parser is dear to prove.
 
 use super::parser::{Reading, Source, reading_of};
-use super::{load, parse};
+use super::{load, parse, parse_calls};
 use crate::vector::Reply;
 use serde_json::Value;
 use yaml_parse::yaml_parser_delete;
@@ -12,12 +12,15 @@ use yaml_parse::yaml_parser_delete;
 pub enum Asked {
     Events,
     Documents,
+    /// What the line's calls ask for.
+    Calls,
 }
 
 fn answer(reply: &mut Reply, line: &Value, asked: Asked, reading: &mut Reading) {
     match asked {
         Asked::Events => parse::events(reply, reading),
         Asked::Documents => load::documents(reply, line, reading),
+        Asked::Calls => parse_calls::put_calls(reply, line, reading),
     }
 }
 

@@ -11,6 +11,7 @@ use yaml_parse::{
     yaml_document_append_mapping_pair, yaml_document_append_sequence_item, yaml_document_get_node,
     yaml_document_initialize, yaml_document_t, yaml_node_body_t, yaml_text_fault_t,
 };
+use yaml_scan::yaml_scalar_style_t;
 
 // A document without nodes.
 fn empty_document(
@@ -79,8 +80,7 @@ fn add_node(document: &mut yaml_document_t, reply: &mut Reply, node: &Value) {
     }
 }
 
-/// Whether that node is a sequence.
-pub fn is_sequence(document: &yaml_document_t, id: i32) -> bool
+fn is_sequence(document: &yaml_document_t, id: i32) -> bool
     ensures { IsTrue result → IsSequenceAt document.now id }
 {
     match yaml_document_get_node(document, id) {
@@ -98,8 +98,7 @@ fn is_mapping(document: &yaml_document_t, id: i32) -> bool
     }
 }
 
-/// Whether there is that node.
-pub fn is_node(document: &yaml_document_t, id: i32) -> bool
+fn is_node(document: &yaml_document_t, id: i32) -> bool
     ensures { IsTrue result → IsSome (node_at document.now.nodes id) }
 {
     yaml_document_get_node(document, id).is_some()
@@ -158,7 +157,17 @@ fn fill(document: &mut yaml_document_t, reply: &mut Reply, id: i32, node: &Value
     }
 }
 
-// Adds all nodes, and then what they hold.
+// Adds a scalar of bytes that are to be refused, by which no node is added.
+fn add_refused(document: &mut yaml_document_t, reply: &mut Reply, fields: &Value, id: i32) {
+    let value = reply.bytes(fields, "refused");
+    let style = yaml_scalar_style_t::YAML_ANY_SCALAR_STYLE;
+    let added = yaml_document_add_scalar(document, None, value.as_slice(), style);
+    if added != Err(yaml_text_fault_t::NotUtf8) || is_node(document, id) {
+        reply.miss("refused");
+    }
+}
+
+// Adds all nodes, then what they hold, and then a scalar that is refused where the line has one.
 fn fill_all(document: &mut yaml_document_t, reply: &mut Reply, fields: &Value) {
     let nodes = reply.list(fields, "nodes");
     for node in nodes {
@@ -168,6 +177,9 @@ fn fill_all(document: &mut yaml_document_t, reply: &mut Reply, fields: &Value) {
     for node in nodes {
         fill(document, reply, id, node);
         id = id.saturating_add(1);
+    }
+    if fields.get("refused").is_some() {
+        add_refused(document, reply, fields, id);
     }
 }
 

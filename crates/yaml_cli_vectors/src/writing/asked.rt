@@ -1,8 +1,8 @@
-//! The calls `dump`, `emit` and `emit_events`. One function owns the emitter of all three, since an owner of an emitter is dear
-//! to prove.
+//! The calls `dump`, `emit`, `emit_events` and `emit_calls`. One function owns the emitter of all four, since an owner of an
+//! emitter is dear to prove.
 
 use super::emitter::emitter_under;
-use super::{dump, emit, emit_events};
+use super::{dump, emit, emit_calls, emit_events};
 use crate::reading::{Asked, Source, parse_line};
 use crate::vector::{Reply, settings_of};
 use serde_json::Value;
@@ -17,6 +17,8 @@ pub enum Given {
     Input,
     /// The events that the line lists.
     Events,
+    /// The calls that the line lists.
+    Calls,
 }
 
 fn answer(reply: &mut Reply, line: &Value, given: Given, emitter: &mut yaml_emitter_t) {
@@ -24,6 +26,7 @@ fn answer(reply: &mut Reply, line: &Value, given: Given, emitter: &mut yaml_emit
         Given::Document => dump::answer(reply, line, emitter),
         Given::Input => emit::answer(reply, line, emitter),
         Given::Events => emit_events::answer(reply, line, emitter),
+        Given::Calls => emit_calls::answer(reply, line, emitter),
     }
 }
 

@@ -6,6 +6,7 @@ use yaml_emit::{
     yaml_emitter_close, yaml_emitter_dump, yaml_emitter_open, yaml_emitter_opened,
     yaml_emitter_output, yaml_emitter_t,
 };
+use yaml_scan::yaml_fault_t;
 
 fn open(reply: &mut Reply, emitter: &mut yaml_emitter_t) {
     if !yaml_emitter_opened(emitter) {
@@ -21,15 +22,27 @@ fn close(reply: &mut Reply, emitter: &mut yaml_emitter_t) {
     }
 }
 
+/// Dumps the document that the fields describe, and tells the fault that is answered.
+pub fn dumped(
+    reply: &mut Reply,
+    fields: &Value,
+    emitter: &mut yaml_emitter_t,
+) -> Option<yaml_fault_t> {
+    match document_of(reply.alloc(), reply, fields) {
+        Ok(document) => yaml_emitter_dump(emitter, document).err(),
+        Err(fault) => {
+            reply.refuse(text_error(fault));
+            None
+        }
+    }
+}
+
 // Dumps the document that the line describes.
 fn dump(reply: &mut Reply, line: &Value, emitter: &mut yaml_emitter_t) {
     let fields = reply.value(line, "document");
-    match document_of(reply.alloc(), reply, fields) {
-        Ok(document) => {
-            let done = yaml_emitter_dump(emitter, document);
-            reply.done(done);
-        }
-        Err(fault) => reply.refuse(text_error(fault)),
+    match dumped(reply, fields, emitter) {
+        Some(fault) => reply.fault(fault),
+        None => {}
     }
 }
 

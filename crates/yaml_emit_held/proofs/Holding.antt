@@ -9,8 +9,8 @@ use Rattle.yaml_emit_held.specs.declared.held.Held.{Held}
 use Rattle.yaml_emit_held.specs.declared.held.Count.{Count}
 use Rattle.yaml_emit_held.specs.declared.held.Count.TheVariants.{Nothing}
 use Rattle.yaml_emit_held.specs.declared.held.Seat.{Seat}
-use Rattle.yaml_emit_held.specs.declared.held.Seat.TheVariants.{First, Second, Third, Fourth}
-use Rattle.yaml_emit_held.specs.Held.{is_ready, needs, closes, ends_level, next, less, stands, seated, held_events, oldest_event}
+use Rattle.yaml_emit_held.specs.declared.held.Seat.TheVariants.{First, Second, Third}
+use Rattle.yaml_emit_held.specs.Held.{is_ready, needs, closes, ends_level, releases, passes, next, less, stands, seated, held_events, oldest_event}
 
 pub ready_empty : (e : Event) (es more : List Event) → is_ready (e ∷ es) ≡ true → opens_empty e (es ++ more) ≡ opens_empty e es
 unfolding is_ready opens_empty
@@ -74,51 +74,81 @@ pub both_right : (a b : Bool) → (a && b) ≡ true → b ≡ true
 both_right true b h = h
 both_right false b h = absurd (cc)
 
-pub both_false : (a b : Bool) → a ≡ true → (a && b) ≡ false → b ≡ false
-both_false true b g h = h
-both_false false b g h = absurd (cc)
+pub both_false : (a b : Bool) → b ≡ true → (a && b) ≡ false → a ≡ false
+both_false false b g h = refl
+both_false true true g h = absurd (cc)
+both_false true false g h = absurd (cc)
 
 -- three wait at most
 pub few_short : (xs : List Event) → is_ready xs ≡ false → length xs ≤ 3
 few_short xs h = let few = waits_few xs h in omega (arith, few)
 
-pub pushed_most : (xs ys : List Event) (e : Event) → ys ≡ xs ++ e ∷ [] → length xs < 4 → length ys ≤ 4
+pub pushed_most : (xs ys : List Event) (e : Event) → ys ≡ xs ++ e ∷ [] → length xs ≤ 2 → length ys ≤ 3
 pushed_most xs ys e same few =
     let more : length ys ≡ length xs + 1 = ap (λ (zs : List Event). length zs) same ∙ length-append xs (e ∷ []) in
     omega (arith, more, few)
 
-pub one_less : (xs ys : List Event) (e : Event) → xs ≡ e ∷ ys → length xs ≤ 4 → length ys ≤ 3
+pub one_less : (xs ys : List Event) (e : Event) → xs ≡ e ∷ ys → length xs ≤ 3 → length ys ≤ 2
 one_less xs ys e same most =
     let less : length xs ≡ length ys + 1 = ap (λ (zs : List Event). length zs) same ∙ omega arith in
     omega (arith, less, most)
 
-pub less_most : (xs ys : List Event) (e : Event) → xs ≡ e ∷ ys → length xs ≤ 4 → length ys ≤ 4
+pub less_most : (xs ys : List Event) (e : Event) → xs ≡ e ∷ ys → length xs ≤ 3 → length ys ≤ 3
 less_most xs ys e same most = let few = one_less xs ys e same most in omega (arith, few)
 
--- behind the last that is laid out three are left: they wait, or the output has stopped
-pub short_held : (b : Bool) (xs : List Event) → (b && is_ready xs) ≡ false → (b ≡ false → length xs ≤ 3) → length xs ≤ 3
-short_held true xs h s = few_short xs h
-short_held false xs h s = s refl
+-- the same, with an event behind them
+pub one_gone : (xs ys : List Event) (e f : Event) → xs ≡ e ∷ ys → xs ++ f ∷ [] ≡ e ∷ ys ++ f ∷ []
+one_gone xs ys e f same = ap (λ (zs : List Event). zs ++ f ∷ []) same
 
-in_seats : Count → Seat → yaml_event_body_t → yaml_event_body_t → yaml_event_body_t → yaml_event_body_t → Held
-in_seats k s a b c d = record { count = k; oldest = s; first = a; second = b; third = c; fourth = d }
+pub released_ready : (xs : List Event) (f : Event) → releases xs f ≡ true → is_ready (xs ++ f ∷ []) ≡ true
+released_ready [] f h = absurd (cc)
+released_ready (e ∷ es) f h = h
 
-front_left : (k : Count) (s : Seat) (a b c d x : yaml_event_body_t) → is_ready (held_events (in_seats k s a b c d)) ≡ true
-    → let m = seated s x (in_seats k s a b c d) in
-    held_events (in_seats k s a b c d) ≡ oldest_event (in_seats k s a b c d) ∷ held_events (record m { oldest = next m.oldest; count = less m.count })
-unfolding is_ready in_seats
-front_left Nothing s a b c d x r = absurd (cc)
-front_left k First a b c d x r = refl
-front_left k Second a b c d x r = refl
-front_left k Third a b c d x r = refl
-front_left k Fourth a b c d x r = refl
+-- an event that comes behind three finds the oldest ready
+few_room : (xs : List Event) (f : Event) → releases xs f ≡ false → length xs ≤ 3 → length xs ≤ 2
+few_room [] f h m = omega arith
+few_room (a ∷ []) f h m = omega arith
+few_room (a ∷ b ∷ []) f h m = omega arith
+few_room (a ∷ b ∷ c ∷ []) f h m = let k = four_ready a b c f [] in absurd (cc)
+few_room (a ∷ b ∷ c ∷ d ∷ xs) f h m = absurd (omega (arith, m))
+
+-- behind the last that is laid out two are left: they wait, or the output has stopped
+pub room_held : (b : Bool) (xs : List Event) (f : Event) → (releases xs f && b) ≡ false → (b ≡ false → length xs ≤ 2) → length xs ≤ 3 → length xs ≤ 2
+room_held true xs f h s m = few_room xs f (both_false _ true refl h) m
+room_held false xs f h s m = s refl
+
+-- an event that neither releases others nor passes is held behind them
+pub pushed_waits : (xs ys : List Event) (f : Event) → ys ≡ xs ++ f ∷ [] → releases xs f ≡ false → passes xs f ≡ false → is_ready ys ≡ false
+pushed_waits [] ys f same r p = ap is_ready same ∙ p
+pushed_waits (e ∷ es) ys f same r p = ap is_ready same ∙ r
+
+none_waits : is_ready [] ≡ false
+unfolding is_ready
+none_waits = refl
+
+-- one that passes leaves none
+pub passed_waits : (xs : List Event) (f : Event) → passes xs f ≡ true → is_ready xs ≡ false
+passed_waits [] f h = none_waits
+passed_waits (e ∷ es) f h = absurd (cc)
+
+in_seats : Count → Seat → yaml_event_body_t → yaml_event_body_t → yaml_event_body_t → Held
+in_seats k s a b c = record { count = k; oldest = s; first = a; second = b; third = c }
+
+front_left : (k : Count) (s : Seat) (a b c x : yaml_event_body_t) (f : Event) → releases (held_events (in_seats k s a b c)) f ≡ true
+    → let m = seated s x (in_seats k s a b c) in
+    held_events (in_seats k s a b c) ≡ oldest_event (in_seats k s a b c) ∷ held_events (record m { oldest = next m.oldest; count = less m.count })
+unfolding in_seats
+front_left Nothing s a b c x f r = absurd (cc)
+front_left k First a b c x f r = refl
+front_left k Second a b c x f r = refl
+front_left k Third a b c x f r = refl
 
 -- the oldest is gone, whatever stands in its seat
-pub left_behind : (old mid : Held) (k : Count) (s : Seat) → mid ≡ seated old.oldest (stands old.oldest mid) old → s ≡ next mid.oldest → k ≡ less mid.count
-    → is_ready (held_events old) ≡ true → held_events old ≡ oldest_event old ∷ held_events (record mid { oldest = s; count = k })
+pub left_behind : (old mid : Held) (k : Count) (s : Seat) (f : Event) → mid ≡ seated old.oldest (stands old.oldest mid) old → s ≡ next mid.oldest → k ≡ less mid.count
+    → releases (held_events old) f ≡ true → held_events old ≡ oldest_event old ∷ held_events (record mid { oldest = s; count = k })
 unfolding in_seats
-left_behind old mid k s m e n r =
+left_behind old mid k s f m e n r =
     let P : Held → Type 0 = λ z. held_events old ≡ oldest_event old ∷ held_events (record z { oldest = next z.oldest; count = less z.count }) in
     let Q : Seat → Type 0 = λ z. held_events old ≡ oldest_event old ∷ held_events (record mid { oldest = z; count = less mid.count }) in
     let R : Count → Type 0 = λ z. held_events old ≡ oldest_event old ∷ held_events (record mid { oldest = s; count = z }) in
-    subst R (sym n) (subst Q (sym e) (subst P (sym m) (front_left old.count old.oldest old.first old.second old.third old.fourth (stands old.oldest mid) r)))
+    subst R (sym n) (subst Q (sym e) (subst P (sym m) (front_left old.count old.oldest old.first old.second old.third (stands old.oldest mid) f r)))

@@ -355,9 +355,13 @@ lays_more a b c h x y e empty p same goes r is l =
     }
 
 -- an event that isn't held
-pub lays_past : (a c : Core) (h : List Event) (e : Event) → goes_on a.sink.status a.place ≡ true → passes h e ≡ true → LaysOut a c e false → LaysEvents a (h ++ e ∷ []) c h
-lays_past a c [] e g p l = lays_more a a c (e ∷ []) (e ∷ []) [] e false (lays_none a (e ∷ [])) refl g p (sym (opens_none e)) l
-lays_past a c (f ∷ fs) e g p l = absurd (cc)
+pub lays_past : (a b c : Core) (x h : List Event) (e : Event) → LaysEvents a x b (h ++ e ∷ []) → goes_on b.sink.status b.place ≡ true → passes h e ≡ true → LaysOut b c e false → LaysEvents a x c h
+lays_past a b c x [] e j g p l = lays_more a b c x (e ∷ []) [] e false j refl g p (sym (opens_none e)) l
+lays_past a b c x (f ∷ fs) e j g p l = absurd (cc)
+
+-- one that is
+pub lays_held : (a b : Core) (x y z : List Event) → z ≡ y → LaysEvents a x b y → LaysEvents a x b z
+lays_held a b x y z same j = let P : List Event → Type 0 = λ t. LaysEvents a x b t in subst P (sym same) j
 
 -- ---- memory
 

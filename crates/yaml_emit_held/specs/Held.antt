@@ -1,51 +1,46 @@
 -- The events that are held.
-use Rattle.std.specs.Prelude.{ℕ, Bool, true, false, not, ◌&&◌, ◌||◌, nat_le, List, [], ◌∷◌, length, map, All}
+use Rattle.std.specs.Prelude.{ℕ, Bool, true, false, not, ◌&&◌, ◌||◌, nat_le, List, [], ◌∷◌, ◌++◌, length, map, All}
 use Rattle.yaml_parse_model.specs.declared.yaml_event_body_t.{yaml_event_body_t}
 use Rattle.yaml_parse_model.specs.Events.{EventBody, body_of}
 use Rattle.yaml_parse_model.specs.Constructors.{HasUtf8}
 use Rattle.yaml_emit_layout.specs.Content.{Event, no_event, stream_start, stream_end, document_start, document_end, alias, scalar, sequence_start, sequence_end, mapping_start, mapping_end, emitter_event}
 use Rattle.yaml_emit_held.specs.declared.held.Held.{Held}
 use Rattle.yaml_emit_held.specs.declared.held.Count.{Count}
-use Rattle.yaml_emit_held.specs.declared.held.Count.TheVariants.{Nothing, One, Two, Three, Four}
+use Rattle.yaml_emit_held.specs.declared.held.Count.TheVariants.{Nothing, One, Two, Three}
 use Rattle.yaml_emit_held.specs.declared.held.Seat.{Seat}
-use Rattle.yaml_emit_held.specs.declared.held.Seat.TheVariants.{First, Second, Third, Fourth}
+use Rattle.yaml_emit_held.specs.declared.held.Seat.TheVariants.{First, Second, Third}
 
 -- the seat behind it, in a circle
 abbrev pub next : Seat → Seat
 next First = Second
 next Second = Third
-next Third = Fourth
-next Fourth = First
+next Third = First
 
 -- the seat so many behind it
 abbrev pub behind : Seat → Count → Seat
 behind s Nothing = s
 behind s One = next s
 behind s Two = next (next s)
-behind s Three = next (next (next s))
-behind s Four = s
+behind s Three = s
 
 -- what stands in a seat
 abbrev pub stands : Seat → Held → yaml_event_body_t
 stands First h = h.first
 stands Second h = h.second
 stands Third h = h.third
-stands Fourth h = h.fourth
 
 -- the same, with that event in that seat
 abbrev pub seated : Seat → yaml_event_body_t → Held → Held
 seated First e h = record h { first = e }
 seated Second e h = record h { second = e }
 seated Third e h = record h { third = e }
-seated Fourth e h = record h { fourth = e }
 
--- the front of four
-abbrev pub front : Count → EventBody → EventBody → EventBody → EventBody → List EventBody
-front Nothing a b c d = []
-front One a b c d = a ∷ []
-front Two a b c d = a ∷ b ∷ []
-front Three a b c d = a ∷ b ∷ c ∷ []
-front Four a b c d = a ∷ b ∷ c ∷ d ∷ []
+-- the front of three
+abbrev pub front : Count → EventBody → EventBody → EventBody → List EventBody
+front Nothing a b c = []
+front One a b c = a ∷ []
+front Two a b c = a ∷ b ∷ []
+front Three a b c = a ∷ b ∷ c ∷ []
 
 -- that event as contracts see it
 abbrev pub body_in : Seat → Held → EventBody
@@ -54,7 +49,7 @@ body_in s h = body_of (stands s h)
 -- the oldest first
 abbrev pub held_bodies : Held → List EventBody
 held_bodies h = front h.count (body_in h.oldest h) (body_in (next h.oldest) h)
-    (body_in (next (next h.oldest)) h) (body_in (next (next (next h.oldest))) h)
+    (body_in (next (next h.oldest)) h)
 
 abbrev pub held_events : Held → List Event
 held_events h = map emitter_event (held_bodies h)
@@ -79,15 +74,13 @@ abbrev pub more : Count → Count
 more Nothing = One
 more One = Two
 more Two = Three
-more Three = Four
-more Four = Four
+more Three = Three
 
 abbrev pub less : Count → Count
 less Nothing = Nothing
 less One = Nothing
 less Two = One
 less Three = Two
-less Four = Three
 
 -- it opens a level
 abbrev pub opens_level : Event → Bool
@@ -136,3 +129,8 @@ is_ready (e ∷ es) = has_enough e es
 abbrev pub passes : List Event → Event → Bool
 passes [] e = is_ready (e ∷ [])
 passes (f ∷ fs) e = false
+
+-- some are held, and the oldest has what it needs, with this event behind them
+abbrev pub releases : List Event → Event → Bool
+releases [] e = false
+releases (f ∷ fs) e = is_ready (f ∷ fs ++ e ∷ [])

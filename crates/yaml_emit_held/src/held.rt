@@ -18,20 +18,17 @@ pub enum Count {
     One,
     Two,
     Three,
-    Four,
 }
 
-/// A seat for an event. The four follow one another in a circle.
+/// A seat for an event. The three follow one another in a circle.
 #[derive(Clone, Copy)]
 pub enum Seat {
     First,
     Second,
     Third,
-    Fourth,
 }
 
-/// Events in their seats, from the oldest one's on; what stands in the seats behind doesn't count. Four are held only while one
-/// is given.
+/// Events in their seats, from the oldest one's on; what stands in the seats behind doesn't count.
 #[derive(Drop)]
 pub struct Held {
     count: Count,
@@ -39,13 +36,12 @@ pub struct Held {
     first: yaml_event_body_t,
     second: yaml_event_body_t,
     third: yaml_event_body_t,
-    fourth: yaml_event_body_t,
 }
 
 impl Count {
     ghost use Rattle.yaml_emit_held.specs.Held.{more, less};
 
-    // One more, of four at most.
+    // One more, of three at most.
     fn more(self) -> Count
         ensures { result ≡ more self }
     {
@@ -53,8 +49,7 @@ impl Count {
             Count::Nothing => Count::One,
             Count::One => Count::Two,
             Count::Two => Count::Three,
-            Count::Three => Count::Four,
-            Count::Four => Count::Four,
+            Count::Three => Count::Three,
         }
     }
 
@@ -67,7 +62,6 @@ impl Count {
             Count::One => Count::Nothing,
             Count::Two => Count::One,
             Count::Three => Count::Two,
-            Count::Four => Count::Three,
         }
     }
 }
@@ -82,8 +76,7 @@ impl Seat {
         match self {
             Seat::First => Seat::Second,
             Seat::Second => Seat::Third,
-            Seat::Third => Seat::Fourth,
-            Seat::Fourth => Seat::First,
+            Seat::Third => Seat::First,
         }
     }
 
@@ -95,14 +88,13 @@ impl Seat {
             Count::Nothing => self,
             Count::One => self.next(),
             Count::Two => self.next().next(),
-            Count::Three => self.next().next().next(),
-            Count::Four => self,
+            Count::Three => self,
         }
     }
 }
 
 impl Held {
-    ghost use Rattle.yaml_emit_held.specs.Held.{held_bodies, held_events, oldest_event, later_events, HeldUtf8, stands, seated, is_ready, closes, needs, passes, opens_level, ends_level};
+    ghost use Rattle.yaml_emit_held.specs.Held.{held_bodies, held_events, oldest_event, later_events, HeldUtf8, stands, seated, releases, closes, needs, passes, opens_level, ends_level};
 
     /// No event.
     pub fn nothing() -> Held
@@ -115,7 +107,6 @@ impl Held {
             first: yaml_event_body_t::No,
             second: yaml_event_body_t::No,
             third: yaml_event_body_t::No,
-            fourth: yaml_event_body_t::No,
         }
     }
 
@@ -207,7 +198,6 @@ impl Held {
             Seat::First => &self.first,
             Seat::Second => &self.second,
             Seat::Third => &self.third,
-            Seat::Fourth => &self.fourth,
         }
     }
 
@@ -219,7 +209,6 @@ impl Held {
             Seat::First => mem::swap(&mut self.first, event),
             Seat::Second => mem::swap(&mut self.second, event),
             Seat::Third => mem::swap(&mut self.third, event),
-            Seat::Fourth => mem::swap(&mut self.fourth, event),
         }
     }
 
@@ -234,13 +223,12 @@ impl Held {
             Seat::First => core.lay_out(&mut self.first, empty),
             Seat::Second => core.lay_out(&mut self.second, empty),
             Seat::Third => core.lay_out(&mut self.third, empty),
-            Seat::Fourth => core.lay_out(&mut self.fourth, empty),
         }
     }
 
     /// One more. What is left of the event counts for nothing.
     pub fn push(&mut self, event: &mut yaml_event_body_t)
-        requires few { length (held_events self.old) < 4 }
+        requires few { length (held_events self.old) < 3 }
         requires utf8 { HeldUtf8 self.old × HasUtf8 (body_of event.old) }
         ensures events { held_events self.new ≡ held_events self.old ++ emitter_event
             (body_of event.old) ∷ [] }
@@ -250,47 +238,46 @@ impl Held {
         self.count = self.count.more();
     }
 
-    /// The oldest has what it needs.
+    /// Some are held, and the oldest has what it needs, with this event behind them.
     #[tactic(auto, unfolding(crate::specs::Held::is_ready))]
-    pub fn is_ready(&self) -> bool
-        ensures { result ≡ is_ready (held_events self.now) }
+    pub fn releases(&self, event: &yaml_event_body_t) -> bool
+        ensures { result ≡ releases (held_events self.now) (emitter_event (body_of event.now)) }
     {
         let first = self.oldest;
-        let second = first.next();
         match self.count {
             Count::Nothing => false,
-            Count::One => Held::needs(self.at(first)) == 0,
-            Count::Two => Held::needs(self.at(first)) <= 1 || Held::closes_one(self.at(second)),
-            Count::Three => {
-                Held::needs(self.at(first)) <= 2
-                    || Held::closes_two(self.at(second), self.at(second.next()))
+            Count::One => Held::needs(self.at(first)) <= 1 || Held::closes_one(event),
+            Count::Two => {
+                Held::needs(self.at(first)) <= 2 || Held::closes_two(self.at(first.next()), event)
             }
-            Count::Four => true,
+            Count::Three => true,
         }
     }
 
-    // The oldest opens a collection that the next one closes.
-    #[tactic(auto, using(crate::proofs::Opening::opens_none, crate::proofs::Opening::opens_first))]
-    fn opens_empty(&self) -> bool
-        ensures { result ≡ opens_empty (oldest_event self.now) (later_events self.now) }
+    // The oldest opens a collection that the next one closes, with this event behind those that are held.
+    #[tactic(auto, using(crate::proofs::Opening::opens_first))]
+    fn opens_empty(&self, event: &yaml_event_body_t) -> bool
+        ensures { result ≡ opens_empty (oldest_event self.now) (later_events self.now
+            ++ emitter_event (body_of event.now) ∷ []) }
     {
         match self.count {
-            Count::Nothing | Count::One => false,
+            Count::Nothing | Count::One => Held::closes_by(self.at(self.oldest), event),
             _ => Held::closes_by(self.at(self.oldest), self.at(self.oldest.next())),
         }
     }
 
-    /// Lays out the oldest, which isn't held then.
-    #[tactic(auto, unfolding(crate::specs::Held::is_ready))]
-    pub fn lay_oldest(&mut self, core: &mut Core)
-        requires ready { is_ready (held_events self.old) ≡ true }
+    /// Lays out the oldest, which isn't held then, with this event behind those that are held.
+    pub fn lay_oldest(&mut self, core: &mut Core, event: &yaml_event_body_t)
+        requires ready { releases (held_events self.old) (emitter_event (body_of event.now))
+            ≡ true }
         requires utf8 { HeldUtf8 self.old }
         ensures events { held_events self.old ≡ oldest_event self.old ∷ held_events self.new }
         ensures utf8 { HeldUtf8 self.new }
-        ensures laid { LaysOut core.old core.new (oldest_event self.old)
-            (opens_empty (oldest_event self.old) (held_events self.new)) }
+        ensures laid { LaysOut core.old core.new (oldest_event self.old) (opens_empty
+            (oldest_event self.old) (held_events self.new
+            ++ emitter_event (body_of event.now) ∷ [])) }
     {
-        let empty = self.opens_empty();
+        let empty = self.opens_empty(event);
         self.lay_out(self.oldest, core, empty);
         self.oldest = self.oldest.next();
         self.count = self.count.less();

@@ -5,47 +5,48 @@ ghost use Rattle.yaml_parse_model.specs.Events.{body_of};
 ghost use Rattle.yaml_parse_model.specs.Constructors.{HasUtf8};
 ghost use Rattle.yaml_emit_layout.specs.Content.{emitter_event};
 ghost use Rattle.yaml_emit_state.specs.Steps.{goes_on};
-ghost use Rattle.yaml_emit_held.specs.Held.{held_events, HeldUtf8, is_ready, passes};
+ghost use Rattle.yaml_emit_held.specs.Held.{held_events, HeldUtf8, is_ready, passes, releases};
 ghost use Rattle.yaml_emit_held.specs.Laying.{LaysEvents};
 
 use crate::held::Held;
 use yaml_emit_state::Core;
 use yaml_parse_model::yaml_event_body_t;
 
-// Whether the oldest event is to be laid out.
-fn is_due(core: &Core, held: &Held) -> bool
-    ensures { result ≡ (goes_on core.now.sink.status core.now.place
-        && is_ready (held_events held.now)) }
+// Whether the oldest event is to be laid out, with this one behind those that are held.
+fn is_due(core: &Core, held: &Held, event: &yaml_event_body_t) -> bool
+    ensures { result ≡ (releases (held_events held.now) (emitter_event (body_of event.now))
+        && goes_on core.now.sink.status core.now.place) }
 {
-    core.is_going() && held.is_ready()
+    held.releases(event) && core.is_going()
 }
 
 // Whether an event is to be laid out as it comes, and isn't held.
 fn passes(core: &Core, held: &Held, event: &yaml_event_body_t) -> bool
-    ensures { result ≡ (goes_on core.now.sink.status core.now.place && passes (held_events held.now)
-        (emitter_event (body_of event.now))) }
+    ensures { result ≡ (passes (held_events held.now) (emitter_event (body_of event.now))
+        && goes_on core.now.sink.status core.now.place) }
 {
-    core.is_going() && held.passes(event)
+    held.passes(event) && core.is_going()
 }
 
-// What lies ready is laid out, up to the first event that is refused.
-fn release(core: &mut Core, held: &mut Held)
+// What lies ready with an event behind it is laid out, up to the first event that is refused. That event isn't held yet.
+fn release(core: &mut Core, held: &mut Held, event: &yaml_event_body_t)
     requires utf8 { HeldUtf8 held.old }
-    requires most { length (held_events held.old) ≤ 4 }
+    requires most { length (held_events held.old) ≤ 3 }
     requires going { goes_on core.old.sink.status core.old.place ≡ true }
-    ensures lays { LaysEvents core.old (held_events held.old) core.new (held_events held.new) }
+    ensures lays { LaysEvents core.old (held_events held.old ++ emitter_event (body_of event.now)
+        ∷ []) core.new (held_events held.new ++ emitter_event (body_of event.now) ∷ []) }
     ensures utf8 { HeldUtf8 held.new }
-    ensures short { length (held_events held.new) ≤ 3 }
+    ensures room { length (held_events held.new) ≤ 2 }
     ensures waits { goes_on core.new.sink.status core.new.place ≡ true
-        → is_ready (held_events held.new) ≡ false }
+        → releases (held_events held.new) (emitter_event (body_of event.now)) ≡ false }
 {
-    while is_due(core, held) {
-        held.lay_oldest(core);
+    while is_due(core, held, event) {
+        held.lay_oldest(core, event);
     }
 }
 
-/// An event is given behind the held ones, and what no longer has to be held is laid out. What is left of the event counts
-/// for nothing.
+/// An event is given behind the held ones, and what no longer has to be held is laid out, the event itself where it lies. What
+/// is left of the event counts for nothing.
 pub fn give(core: &mut Core, held: &mut Held, event: &mut yaml_event_body_t)
     requires few { is_ready (held_events held.old) ≡ false }
     requires going { goes_on core.old.sink.status core.old.place ≡ true }
@@ -57,10 +58,10 @@ pub fn give(core: &mut Core, held: &mut Held, event: &mut yaml_event_body_t)
     ensures waits { goes_on core.new.sink.status core.new.place ≡ true
         → is_ready (held_events held.new) ≡ false }
 {
+    release(core, held, event);
     if passes(core, held, event) {
         core.lay_out(event, false);
     } else {
         held.push(event);
-        release(core, held);
     }
 }

@@ -1,5 +1,5 @@
 -- A break and the spaces behind it.
-use Rattle.std.proofs.Common.{◌≡◌, ℕ, ◌+◌, ◌-◌, ◌≤◌, List, ◌∷◌, ◌++◌, take, length, length-append, true, false, cond, refl, sym, subst, ◌∙◌, ap, arith}
+use Rattle.std.proofs.Common.{◌≡◌, ℕ, ◌+◌, ◌-◌, ◌≤◌, List, [], ◌∷◌, ◌++◌, take, length, length-append, true, false, cond, refl, sym, subst, ◌∙◌, ap, append_assoc, arith}
 use Rattle.std.specs.Prelude.{if◌then◌else◌, zero, suc, replicate}
 use Rattle.std.proofs.lemmas.List.{take-replicate, length-replicate}
 use Rattle.yaml_emit_sink.specs.declared.cursor.Cursor.{Cursor}
@@ -67,8 +67,7 @@ line_broken a b k n m p = puts_as a b (fresh k n) (line k n) (λ rest. line_fres
 pub line_joined : (a b : Output) (k : LineBreak) (n : ℕ) → must_break n a.cursor ≡ false → Puts a b (indent_to n) → Puts a b (line k n)
 line_joined a b k n m p = puts_as a b (indent_to n) (line k n) (λ rest. line_stays k n a.cursor rest m) p
 
--- the front of a line feed and many spaces
-pub line_front : (n : ℕ) → n ≤ 32 → take {A = ℕ} (n + 1) (10 ∷ replicate 32 32) ≡ 10 ∷ replicate n 32
-line_front n h =
-    let e : n + 1 ≡ suc n = omega arith in
-    ap (λ k. take {A = ℕ} k (10 ∷ replicate 32 32)) e ∙ ap (λ (t : List ℕ). 10 ∷ t) (take-replicate n 32 32 h)
+-- a line feed and some of many spaces behind it
+pub line_behind : (old middle new : List ℕ) (n : ℕ) → n ≤ 128 → middle ≡ old ++ 10 ∷ [] → new ≡ middle ++ take {A = ℕ} n (replicate 128 32) → new ≡ old ++ 10 ∷ replicate n 32
+line_behind old middle new n h m e =
+    e ∙ ap (λ (t : List ℕ). middle ++ t) (take-replicate n 128 32 h) ∙ ap (λ (t : List ℕ). t ++ replicate n 32) m ∙ append_assoc old (10 ∷ []) (replicate n 32)

@@ -133,13 +133,27 @@ pub(crate) fn append_blanks(output: &mut Vec<u8>, limit: u64, count: u64) -> Sta
     }
 }
 
-// A line feed and the most spaces that are appended at once behind it.
-const LINE: [u8; 33] = *b"\n                                ";
+// A line feed and few spaces.
+const LINE: [u8; 9] = *b"\n        ";
+
+// The most spaces that are appended at once behind a line feed.
+const BLANKS: [u8; 128] = [b' '; 128];
+
+// A line feed and many spaces, for which there is room.
+fn append_deep(output: &mut Vec<u8>, count: u64)
+    requires inside { vec_len output.old + (1 + count) ≤ vec_capacity output.old }
+    requires few { count ≤ 128 }
+    ensures items { output.new.items ≡ output.old.items ++ 10 ∷ replicate count 32 }
+    ensures room { vec_capacity output.old ≤ vec_capacity output.new }
+{
+    output.push_reserved(b'\n');
+    append_near(output, &BLANKS[..count as usize]);
+}
 
 // A line feed and so many spaces, for which there is room: the numbers that are met most are known one by one.
 pub(crate) fn append_line(output: &mut Vec<u8>, count: u64)
     requires inside { vec_len output.old + (1 + count) ≤ vec_capacity output.old }
-    requires few { count ≤ 32 }
+    requires few { count ≤ 128 }
     ensures items { output.new.items ≡ output.old.items ++ 10 ∷ replicate count 32 }
     ensures room { vec_capacity output.old ≤ vec_capacity output.new }
 {
@@ -149,7 +163,7 @@ pub(crate) fn append_line(output: &mut Vec<u8>, count: u64)
         4 => push_each(output, &LINE[..5]),
         6 => push_each(output, &LINE[..7]),
         8 => push_each(output, &LINE[..9]),
-        _ => append_near(output, &LINE[..count as usize + 1]),
+        _ => append_deep(output, count),
     }
 }
 

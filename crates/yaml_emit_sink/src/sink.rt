@@ -59,11 +59,11 @@ fn has_room(output: &Vec<u8>, fast_limit: u64, count: u64) -> bool
 
 // Whether a line feed and so many spaces are few bytes, and there is room for them.
 fn is_brief(output: &Vec<u8>, fast_limit: u64, line_break: LineBreak, indent: u64) -> bool
-    ensures line { result ≡ true → (line_break ≡ LineBreak.Lf) × (indent ≤ 32) }
+    ensures line { result ≡ true → (line_break ≡ LineBreak.Lf) × (indent ≤ 128) }
     ensures near { result ≡ true → length output.now.items + (1 + indent) ≤ fast_limit }
 {
     match line_break {
-        LineBreak::Lf => indent <= 32 && has_room(output, fast_limit, 1 + indent),
+        LineBreak::Lf => indent <= 128 && has_room(output, fast_limit, 1 + indent),
         _ => false,
     }
 }

@@ -8,6 +8,7 @@ pub mod Narrowing
 pub mod Numbering
 pub mod Directing
 mod Escapes
+mod Kept
 mod Looks
 mod Rows
 mod RunLemmas

@@ -1,5 +1,6 @@
 //! Tags (YAML 1.1, 7.1.2 and 3.2.1.2), anchors and aliases (3.2.2.2).
 
+ghost use Rattle.std.specs.List.{list_all};
 ghost use Rattle.std.specs.Prelude.{◌≡◌, ◌<◌, ◌≤◌, ℕ, ◌+◌, ◌∷◌, [], ◌++◌, map, length, drop, true, false, not, ◌&&◌, ◌||◌, ◌==◌, if◌then◌else◌, Option, Some, None, codes};
 ghost use Rattle.yaml_emit_sink.specs.Sink.{Puts};
 ghost use Rattle.yaml_emit_sink.specs.Layout.{◌▹◌, char, letters, gap, word};
@@ -70,11 +71,36 @@ fn put_uri_byte(sink: &mut Sink, flow: bool, byte: u8)
     }
 }
 
-fn put_uri(sink: &mut Sink, flow: bool, text: &[u8])
+// Byte by byte.
+// Out of line: the rare way, where a byte is escaped, beside the short one.
+#[inline(never)]
+fn put_each_uri_byte(sink: &mut Sink, flow: bool, text: &[u8])
     ensures { Puts sink.old sink.new (letters (uri_text flow text.now)) }
 {
     for byte in text {
         put_uri_byte(sink, flow, *byte);
+    }
+}
+
+// Whether the bytes are all kept, as those of most tags are.
+fn are_kept(flow: bool, text: &[u8]) -> bool
+    ensures { result ≡ list_all (keeps_byte flow) text.now }
+{
+    for i in 0..text.len() {
+        if !keeps_byte(flow, text[i]) {
+            return false;
+        }
+    }
+    true
+}
+
+fn put_uri(sink: &mut Sink, flow: bool, text: &[u8])
+    ensures { Puts sink.old sink.new (letters (uri_text flow text.now)) }
+{
+    if are_kept(flow, text) {
+        sink.put_ascii(text);
+    } else {
+        put_each_uri_byte(sink, flow, text);
     }
 }
 

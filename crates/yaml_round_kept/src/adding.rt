@@ -1,11 +1,14 @@
 //! What an event says, added behind what is kept.
 
-ghost use Rattle.std.specs.Prelude.{◌≡◌, ◌++◌, ◌∷◌, [], true, Some, OnOk};
+ghost use Rattle.std.specs.Prelude.{◌≡◌, ◌<◌, ◌≤◌, ◌+◌, ◌++◌, ◌∷◌, [], length, true, Some, OnOk};
+ghost use Rattle.std.specs.Vec.{vec_len, vec_capacity};
 ghost use Rattle.yaml_parse_model.specs.Events.{event_of, text_of};
 ghost use Rattle.yaml_round_kept.specs.Kept.{Keeps};
 ghost use Rattle.yaml_round_kept.specs.Spelled.{length_bytes, long_bytes, text_bytes, given_bytes, start_bytes, spelled};
 
-use crate::spelling::{LONG, document_head, is_told, mapping_head, scalar_head, sequence_head};
+use crate::spelling::{
+    LONG, bare_head, document_head, is_told, mapping_head, scalar_head, sequence_head,
+};
 use std::alloc::AllocError;
 use yaml_parse_model::{yaml_event_body_t, yaml_event_t};
 
@@ -66,15 +69,66 @@ fn add_head(bytes: &mut Vec<u8>, head: u8) -> Result<(), AllocError>
     Ok(())
 }
 
+// Adds these bytes, for which there is room.
+// Inlined: where their number is known, they are stored with no test between.
+#[inline(always)]
+fn push_each(bytes: &mut Vec<u8>, text: &[u8])
+    requires { vec_len bytes.old + length text.now ≤ vec_capacity bytes.old }
+    ensures items { bytes.new.items ≡ bytes.old.items ++ text.now }
+{
+    for byte in text {
+        bytes.push_reserved(*byte);
+    }
+}
+
+// Adds these bytes, for which there is room: up to eight take less time than a copy, one by one with their number known.
+fn push_near(bytes: &mut Vec<u8>, text: &[u8])
+    requires { vec_len bytes.old + length text.now ≤ vec_capacity bytes.old }
+    ensures items { bytes.new.items ≡ bytes.old.items ++ text.now }
+{
+    match text.len() {
+        1 => push_each(bytes, &text[..1]),
+        2 => push_each(bytes, &text[..2]),
+        3 => push_each(bytes, &text[..3]),
+        4 => push_each(bytes, &text[..4]),
+        5 => push_each(bytes, &text[..5]),
+        6 => push_each(bytes, &text[..6]),
+        7 => push_each(bytes, &text[..7]),
+        8 => push_each(bytes, &text[..8]),
+        _ => {
+            // There is room, so that it isn't refused.
+            let _ = bytes.extend_from_slice(text);
+        }
+    }
+}
+
+// Adds a head and a text whose length one byte tells: room for all is made at once.
+#[tactic(auto, unfolding(crate::specs::Spelled::length_bytes))]
+fn add_short(bytes: &mut Vec<u8>, head: u8, text: &[u8]) -> Result<(), AllocError>
+    requires { length text.now < 255 }
+    ensures { OnOk result (bytes.new.items ≡ bytes.old.items ++ head ∷ text_bytes text.now) }
+{
+    bytes.reserve(text.len() + 2)?;
+    bytes.push_reserved(head);
+    bytes.push_reserved(text.len() as u8);
+    push_near(bytes, text);
+    Ok(())
+}
+
 // Adds a head and a text.
 fn add_name(bytes: &mut Vec<u8>, head: u8, name: &[u8]) -> Result<(), AllocError>
     ensures { OnOk result (bytes.new.items ≡ bytes.old.items ++ head ∷ text_bytes name.now) }
 {
+    if name.len() < 255 {
+        return add_short(bytes, head, name);
+    }
     add_head(bytes, head)?;
     add_text(bytes, name)
 }
 
 // Adds a head, and the anchor and the tag that there are.
+// Out of line: most starts have neither.
+#[inline(never)]
 fn add_start(
     bytes: &mut Vec<u8>,
     head: u8,
@@ -90,6 +144,8 @@ fn add_start(
 }
 
 // Adds a head, the anchor and the tag that there are, and a text.
+// Out of line: most scalars have neither.
+#[inline(never)]
 fn add_scalar(
     bytes: &mut Vec<u8>,
     head: u8,
@@ -122,6 +178,13 @@ fn add_event(bytes: &mut Vec<u8>, event: &yaml_event_t) -> Result<(), AllocError
         yaml_event_body_t::DocumentEnd { .. } => add_head(bytes, 4),
         yaml_event_body_t::Alias { anchor } => add_name(bytes, 5, anchor),
         yaml_event_body_t::Scalar {
+            anchor: None,
+            tag: None,
+            value,
+            plain_implicit,
+            ..
+        } => add_name(bytes, bare_head(*plain_implicit), value),
+        yaml_event_body_t::Scalar {
             anchor,
             tag,
             value,
@@ -134,6 +197,11 @@ fn add_event(bytes: &mut Vec<u8>, event: &yaml_event_t) -> Result<(), AllocError
             tag,
             value,
         ),
+        yaml_event_body_t::SequenceStart {
+            anchor: None,
+            tag: None,
+            ..
+        } => add_head(bytes, 14),
         yaml_event_body_t::SequenceStart { anchor, tag, .. } => add_start(
             bytes,
             sequence_head(anchor, tag),
@@ -141,6 +209,11 @@ fn add_event(bytes: &mut Vec<u8>, event: &yaml_event_t) -> Result<(), AllocError
             tag,
         ),
         yaml_event_body_t::SequenceEnd => add_head(bytes, 6),
+        yaml_event_body_t::MappingStart {
+            anchor: None,
+            tag: None,
+            ..
+        } => add_head(bytes, 18),
         yaml_event_body_t::MappingStart { anchor, tag, .. } => add_start(
             bytes,
             mapping_head(anchor, tag),

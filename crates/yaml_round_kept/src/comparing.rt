@@ -5,7 +5,7 @@ ghost use Rattle.yaml_parse_model.specs.Events.{event_of, text_of};
 ghost use Rattle.yaml_round_kept.specs.Kept.{Leaves};
 ghost use Rattle.yaml_round_kept.specs.Spelled.{length_bytes, long_bytes, text_bytes, given_bytes, start_bytes, spelled};
 
-use crate::spelling::{LONG, document_head, mapping_head, scalar_head, sequence_head};
+use crate::spelling::{LONG, bare_head, document_head, mapping_head, scalar_head, sequence_head};
 use yaml_parse_model::{yaml_event_body_t, yaml_event_t};
 
 // What stands behind a byte, where it stands in front.
@@ -56,12 +56,16 @@ fn after_length<'a>(left: &'a [u8], length: usize) -> Option<&'a [u8]>
 }
 
 // What stands behind these bytes, where they stand in front.
+// Inlined: see `after_text`.
+#[inline(always)]
 fn after_bytes<'a>(left: &'a [u8], text: &[u8]) -> Option<&'a [u8]>
     ensures { Leaves text.now left.now result }
 {
     left.strip_prefix(text)
 }
 
+// Inlined: most are short, and the answer then needn't stand in memory.
+#[inline(always)]
 fn after_text<'a>(left: &'a [u8], text: &[u8]) -> Option<&'a [u8]>
     ensures { Leaves (text_bytes text.now) left.now result }
 {
@@ -78,6 +82,8 @@ fn after_given<'a>(left: &'a [u8], text: &Option<Vec<u8>>) -> Option<&'a [u8]>
     }
 }
 
+// Inlined: see `after_text`.
+#[inline(always)]
 fn after_name<'a>(left: &'a [u8], head: u8, name: &[u8]) -> Option<&'a [u8]>
     ensures { Leaves (head ∷ text_bytes name.now) left.now result }
 {
@@ -85,6 +91,8 @@ fn after_name<'a>(left: &'a [u8], head: u8, name: &[u8]) -> Option<&'a [u8]>
     after_text(left, name)
 }
 
+// Out of line: what a property needs takes no room beside texts alone.
+#[inline(never)]
 fn after_start<'a>(
     left: &'a [u8],
     head: u8,
@@ -98,6 +106,8 @@ fn after_start<'a>(
     after_given(left, tag)
 }
 
+// Out of line: most scalars have no property.
+#[inline(never)]
 #[tactic(auto, using(crate::proofs::Fronts::not_behind))]
 fn after_scalar<'a>(
     left: &'a [u8],
@@ -131,6 +141,13 @@ pub fn after_event<'a>(left: &'a [u8], event: &yaml_event_t) -> Option<&'a [u8]>
         yaml_event_body_t::DocumentEnd { .. } => after_byte(left, 4),
         yaml_event_body_t::Alias { anchor } => after_name(left, 5, anchor),
         yaml_event_body_t::Scalar {
+            anchor: None,
+            tag: None,
+            value,
+            plain_implicit,
+            ..
+        } => after_name(left, bare_head(*plain_implicit), value),
+        yaml_event_body_t::Scalar {
             anchor,
             tag,
             value,
@@ -143,6 +160,11 @@ pub fn after_event<'a>(left: &'a [u8], event: &yaml_event_t) -> Option<&'a [u8]>
             tag,
             value,
         ),
+        yaml_event_body_t::SequenceStart {
+            anchor: None,
+            tag: None,
+            ..
+        } => after_byte(left, 14),
         yaml_event_body_t::SequenceStart { anchor, tag, .. } => after_start(
             left,
             sequence_head(anchor, tag),
@@ -150,6 +172,11 @@ pub fn after_event<'a>(left: &'a [u8], event: &yaml_event_t) -> Option<&'a [u8]>
             tag,
         ),
         yaml_event_body_t::SequenceEnd => after_byte(left, 6),
+        yaml_event_body_t::MappingStart {
+            anchor: None,
+            tag: None,
+            ..
+        } => after_byte(left, 18),
         yaml_event_body_t::MappingStart { anchor, tag, .. } => after_start(
             left,
             mapping_head(anchor, tag),

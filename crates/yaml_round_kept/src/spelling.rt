@@ -1,6 +1,6 @@
 //! The heads of what is kept of events, by which all their texts but their lengths are told.
 
-ghost use Rattle.std.specs.Prelude.{◌≡◌, map};
+ghost use Rattle.std.specs.Prelude.{◌≡◌, None, map};
 ghost use Rattle.yaml_parse_model.specs.Events.{event_of, text_of, directive_of};
 ghost use Rattle.yaml_round_kept.specs.Kept.{has_none, is_told};
 ghost use Rattle.yaml_round_kept.specs.Spelled as head;
@@ -44,6 +44,13 @@ pub(crate) fn document_head(
         None => if directives.is_empty() { 3 } else { 7 },
         Some(_) => 7,
     }
+}
+
+/// That of a scalar without properties.
+pub(crate) fn bare_head(plain: bool) -> u8
+    ensures { result ≡ head.scalar_head None None plain }
+{
+    if plain { 8 } else { 9 }
 }
 
 pub(crate) fn scalar_head(anchor: &Option<Vec<u8>>, tag: &Option<Vec<u8>>, plain: bool) -> u8

@@ -1,18 +1,30 @@
-use Rattle.std.proofs.Common.{sym, ◌∙◌}
-use Rattle.yaml_emit_held.proofs.Holding.{waits_few, few_short, pushed_most, both_left, both_right}
-use Rattle.yaml_emit_held.proofs.Judging.{lays_past}
+use Rattle.std.proofs.Common.{sym, ◌∙◌, arith}
+use Rattle.yaml_emit_held.proofs.Holding.{few_short, pushed_most, both_left, both_right, both_false, passed_waits, pushed_waits}
+use Rattle.yaml_emit_held.proofs.Judging.{lays_past, lays_held}
 use Rattle.yaml_emit_held.proofs.release.give.Goals as goal
+
+pub release-requires-clause-most : goal.release-requires-clause-most
+release-requires-clause-most c = few_short _ c.requires.few
+
+pub push-requires-clause-few : goal.push-requires-clause-few
+push-requires-clause-few c = let room = c.release.ensures.room in omega (arith, room)
 
 pub returns-then-passes-clause-lays : goal.returns-then-passes-clause-lays
 returns-then-passes-clause-lays c =
     let e = sym c.passes.ensures ∙ c.if-passes.true in
-    lays_past _ _ _ _ (both_left _ _ e) (both_right _ _ e) c.lay_out.ensures
-
-pub push-requires-clause-few : goal.push-requires-clause-few
-push-requires-clause-few c = waits_few _ c.requires.few
+    lays_past _ _ _ _ _ _ c.release.ensures.lays (both_right _ _ e) (both_left _ _ e) c.lay_out.ensures
 
 pub returns-then-passes-clause-short : goal.returns-then-passes-clause-short
-returns-then-passes-clause-short c = few_short _ c.requires.few
+returns-then-passes-clause-short c = let room = c.release.ensures.room in omega (arith, room)
 
-pub release-requires-clause-most : goal.release-requires-clause-most
-release-requires-clause-most c = pushed_most _ _ _ c.push.ensures.events (waits_few _ c.requires.few)
+pub returns-then-passes-clause-waits : goal.returns-then-passes-clause-waits
+returns-then-passes-clause-waits c = λ g. passed_waits _ _ (both_left _ _ (sym c.passes.ensures ∙ c.if-passes.true))
+
+pub returns-else-passes-clause-lays : goal.returns-else-passes-clause-lays
+returns-else-passes-clause-lays c = lays_held _ _ _ _ _ c.push.ensures.events c.release.ensures.lays
+
+pub returns-else-passes-clause-short : goal.returns-else-passes-clause-short
+returns-else-passes-clause-short c = pushed_most _ _ _ c.push.ensures.events c.release.ensures.room
+
+pub returns-else-passes-clause-waits : goal.returns-else-passes-clause-waits
+returns-else-passes-clause-waits c = λ g. pushed_waits _ _ _ c.push.ensures.events (c.release.ensures.waits g) (both_false _ _ g (sym c.passes.ensures ∙ c.if-passes.false))

@@ -1,4 +1,6 @@
-use Rattle.std.proofs.Common.{◌≡◌, ◌≤◌, false, length}
+use Rattle.std.proofs.Common.{◌≡◌, ◌≤◌, [], ◌∷◌, ◌++◌, false, length}
+use Rattle.yaml_parse_model.specs.Events.{body_of}
+use Rattle.yaml_emit_layout.specs.Content.{emitter_event}
 use Rattle.yaml_emit_state.specs.Steps.{goes_on}
 use Rattle.yaml_emit_held.specs.Held.{held_events, HeldUtf8}
 use Rattle.yaml_emit_held.specs.Laying.{LaysEvents}
@@ -6,10 +8,10 @@ use Rattle.yaml_emit_held.proofs.release.release.Given as goal
 
 abbrev pub invariant-loop-held : goal.invariant-loop-held
 invariant-loop-held l = record {
-  lays : LaysEvents l.initial.core (held_events l.initial.held) l.core (held_events l.held);
+  lays : LaysEvents l.initial.core (held_events l.initial.held ++ emitter_event (body_of l.event) ∷ []) l.core (held_events l.held ++ emitter_event (body_of l.event) ∷ []);
   utf8 : HeldUtf8 l.held;
-  most : length (held_events l.held) ≤ 4;
-  short : goes_on l.core.sink.status l.core.place ≡ false → length (held_events l.held) ≤ 3;
+  most : length (held_events l.held) ≤ 3;
+  short : goes_on l.core.sink.status l.core.place ≡ false → length (held_events l.held) ≤ 2;
 }
 
 abbrev pub decreases-loop-held : goal.decreases-loop-held

@@ -1,7 +1,7 @@
 -- Runs of ordinary bytes.
 use Rattle.std.proofs.Common.{◌≡◌, ◌≢◌, ℕ, zero, suc, ◌+◌, ◌-◌, ◌<◌, ◌≤◌, ◌==◌, ◌&&◌, ◌||◌, Bool, true, false, List, [], ◌∷◌, ◌++◌, length, take, drop, Result, Ok, Err, refl, sym, ap, ◌∙◌, inl, inr, ◌⊎◌, append_assoc, arith}
 use Rattle.std.proofs.lemmas.Bool.Decides.{nat_tests}
-use Rattle.std.proofs.lemmas.List.{drop_more}
+use Rattle.std.proofs.lemmas.List.{drop_more, length-drop, length-take-le}
 use Rattle.yaml_scan_model.specs.Marks.{Place, byte, break_of, ends_of, is_blank}
 use Rattle.yaml_scan_model.specs.Breaks.{is_document_indicator}
 use Rattle.yaml_scan_model.specs.Wrong.{Wrong}
@@ -11,7 +11,7 @@ use Rattle.yaml_scan_scalars.specs.declared.folding.Gap.{Gap}
 use Rattle.yaml_scan_scalars.specs.declared.folding.Gap.TheVariants as gaps
 use Rattle.yaml_scan_scalars.specs.Pieces.{Piece, Kept, value}
 use Rattle.yaml_scan_scalars.specs.Resume.{resume, resumed}
-use Rattle.yaml_scan_scalars.specs.Ordinary.{is_ordinary, bytes_at, kept_run, IsRun, TookRun}
+use Rattle.yaml_scan_scalars.specs.Ordinary.{is_ordinary, bytes_at, kept_run, IsRun, StandsAt, TookRun}
 use Rattle.yaml_scan_scalars.specs.Quoted.{Pieces, with_front, pieces, valued, standing_at}
 use Rattle.yaml_scan_scalars.proofs.FoldingLemmas.{value-kept, keep_line, keep_feed, keep_kept}
 use Rattle.yaml_scan_scalars.proofs.QuotedLemmas.{standing_kept}
@@ -106,6 +106,23 @@ run_more text p place r h =
     let after = r.after in
     record { same = r.same; after = omega arith; ordinary = λ k a b. further text p place r h k a b }
 
+less_or : (k n : ℕ) → (k < n) ⊎ (n ≤ k)
+less_or k n = grind arith
+
+-- a run and the run behind it
+pub run_join : (text : List ℕ) (p : ℕ) (place last : Place) → IsRun text p place → IsRun place.text place.at last → IsRun text p last
+run_join text p place last r s =
+    let after = r.after in
+    let more = s.after in
+    record {
+      same = s.same ∙ r.same;
+      after = omega arith;
+      ordinary = λ k a b. elim (less_or k place.at) [
+        | inl l ↦ r.ordinary k a l
+        | inr g ↦ rw r.same at (s.ordinary k g b)
+      ];
+    }
+
 pub same_or : (p q : ℕ) → p ≤ q → (q ≡ p) ⊎ (p < q)
 same_or p q h = grind arith
 
@@ -137,6 +154,14 @@ first_slice text p place r h =
       | inl e ↦ slice_bytes text p (place.at - p) (omega arith)
       | inr l ↦ slice_bytes text p (place.at - p) (omega arith)
     ]
+
+-- what was cut out of a text stands in it
+pub stands_slice : (text : List ℕ) (p q : ℕ) (bytes : List ℕ) → p ≤ q → q ≤ length text → bytes ≡ take (q - p) (drop p text) → StandsAt text p bytes
+stands_slice text p q bytes h inside e =
+    let d = length-drop p text in
+    let l : length (take (q - p) (drop p text)) ≡ q - p = length-take-le (q - p) (drop p text) (omega (arith, d)) in
+    let n : length bytes ≡ q - p = ap length e ∙ l in
+    record { inside = omega (arith, n); same = rw n e }
 
 pub run_none : (text : List ℕ) (p : ℕ) (place : Place) → IsRun text p place → length (bytes_at text p (place.at - p)) ≡ 0 → place.at ≡ p
 run_none text p place r h =

@@ -2,10 +2,10 @@
 use Rattle.std.proofs.Common.{◌≡◌, ℕ, zero, suc, ◌+◌, ◌<◌, ◌≤◌, if◌then◌else◌, Bool, true, false, ◌&&◌, ◌∙◌, List, length, nat_lt, refl, inl, inr, arith}
 use Rattle.std.proofs.lemmas.Bool.Decides.{nat_tests}
 use Rattle.std.specs.Bool.{beq}
-use Rattle.std.proofs.lemmas.Bool.{cases_Bool, cases_eq, cases_lt}
+use Rattle.std.proofs.lemmas.Bool.{cases_Bool, cases_eq, cases_lt, and_parts}
 use Rattle.yaml_scan_model.specs.Marks.{byte, ends_break, splits_break, starts, line_at, column_at}
 use Rattle.yaml_scan_model.proofs.MarksLemmas.{within, end_next, split_next, line_more, column_more, column_same}
-use Rattle.yaml_scan_scalars.specs.Ordinary.{is_ordinary}
+use Rattle.yaml_scan_scalars.specs.Ordinary.{is_ordinary, is_narrow}
 use Rattle.yaml_scan_scalars.proofs.RunLemmas.{ordinary_no_break}
 
 -- the two tests agree below n
@@ -58,6 +58,29 @@ past_ordinary text p h =
     elim (cases_lt 0 (byte text p)) [
       | inl some ↦ let inside = within text p some in absurd (omega arith)
       | inr none ↦ let z : byte text p ≡ 0 = omega arith in rw z ordinary_end
+    ]
+
+-- an ordinary byte of ASCII
+
+pub record IsNarrow (b : ℕ) : Type 0 where
+  pub ordinary : is_ordinary b ≡ true
+  pub low : nat_lt b 128 ≡ true
+
+pub narrow_is : (b : ℕ) → is_narrow b ≡ true → IsNarrow b
+unfolding is_narrow
+narrow_is b h =
+    let (low, ordinary) = and_parts (nat_lt b 128) (is_ordinary b) h in
+    record { ordinary = ordinary; low = low }
+
+narrow_end : is_narrow 0 ≡ false
+unfolding is_narrow is_ordinary
+narrow_end = refl
+
+pub past_narrow : (text : List ℕ) (p : ℕ) → length text ≤ p → is_narrow (byte text p) ≡ false
+past_narrow text p h =
+    elim (cases_lt 0 (byte text p)) [
+      | inl some ↦ let inside = within text p some in absurd (omega arith)
+      | inr none ↦ let z : byte text p ≡ 0 = omega arith in rw z narrow_end
     ]
 
 pub one_at_most : (b : Bool) → (if b then 1 else 0) ≤ 1

@@ -1,5 +1,5 @@
 -- Runs of bytes that stand for themselves.
-use Rattle.std.specs.Prelude.{ℕ, zero, suc, ◌+◌, ◌-◌, ◌<◌, ◌≤◌, ◌≡◌, Bool, true, ◌&&◌, ◌||◌, nat_le, List, [], ◌∷◌, ◌++◌}
+use Rattle.std.specs.Prelude.{ℕ, zero, suc, ◌+◌, ◌-◌, ◌<◌, ◌≤◌, ◌≡◌, Bool, true, ◌&&◌, ◌||◌, nat_le, nat_lt, List, [], ◌∷◌, ◌++◌, length, take, drop}
 use Rattle.yaml_scan_model.specs.Marks.{Place, byte}
 use Rattle.yaml_scan_scalars.specs.Pieces.{Piece, Kept}
 
@@ -15,10 +15,19 @@ is_ordinary b =
     || ((nat_le 0xAA b && nat_le b 0xC1)
     || ((nat_le 0xC3 b && nat_le b 0xE1) || nat_le 0xE3 b))))
 
+-- one of them in ASCII
+unfoldable pub is_narrow : ℕ → Bool
+is_narrow b = nat_lt b 128 && is_ordinary b
+
 -- d bytes from there on
 unfoldable pub bytes_at : List ℕ → ℕ → ℕ → List ℕ
 bytes_at text p zero = []
 bytes_at text p (suc d) = byte text p ∷ bytes_at text (p + 1) d
+
+-- the bytes stand in the text from the place on
+pub record StandsAt (text : List ℕ) (p : ℕ) (bytes : List ℕ) : Type 0 where
+  pub inside : p + length bytes ≤ length text
+  pub same : bytes ≡ take (length bytes) (drop p text)
 
 -- the bytes from p up to the place are ordinary
 pub record IsRun (text : List ℕ) (p : ℕ) (place : Place) : Type 0 where

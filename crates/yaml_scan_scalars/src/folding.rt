@@ -3,7 +3,7 @@
 ghost use Rattle.std.specs.Prelude.{◌≡◌, List, [], ◌∷◌, ◌++◌, ◌<◌, ◌≤◌, ℕ, length, take, OnOk, IfOk};
 ghost use Rattle.yaml_scan_scalars.specs.Pieces.{Piece, Kept, Blank, Break, value};
 
-use crate::run::copied;
+use crate::run::copied_whole;
 use std::alloc::AllocError;
 
 /// What stands before the next piece.
@@ -51,7 +51,7 @@ impl Folding {
         ensures line { IfOk result (λ f. (f.gap ≡ Gap.Line) × (f.blanks.items ≡ [])) }
     {
         let alloc = *spares.allocator();
-        let done = copied(spares, bytes)?;
+        let done = copied_whole(spares, bytes)?;
         Ok(Folding {
             done,
             blanks: Vec::new(alloc),

@@ -4,7 +4,7 @@ ghost use Rattle.std.specs.Prelude.{◌≡◌, ◌+◌, ◌-◌, ◌||◌, ◌&&
 ghost use Rattle.yaml_scan_model.specs.Marks.{byte, break_width, ends_break, is_blank, mark_at};
 ghost use Rattle.yaml_scan_scalars.specs.Plain as spec;
 ghost use Rattle.yaml_scan_scalars.specs.Joined.{IsJoining, Steps, ReadsPlain, TookWords};
-ghost use Rattle.yaml_scan_scalars.specs.Ordinary.{IsRun, bytes_at};
+ghost use Rattle.yaml_scan_scalars.specs.Ordinary.{IsRun, StandsAt, bytes_at};
 
 use crate::joining::Joining;
 use crate::run::{copied, ordinary_run};
@@ -50,6 +50,7 @@ fn first_run<'a>(reader: &mut Reader<'a>) -> &'a [u8]
     ensures run { IsRun reader.old.text (reader.old.at + 1) reader.new }
     ensures bytes { result.now ≡ bytes_at reader.old.text reader.old.at
         (reader.new.at - reader.old.at) }
+    ensures stands { StandsAt reader.old.text reader.old.at result.now }
 {
     let from = reader.place();
     reader.skip();
@@ -78,6 +79,7 @@ fn one_run(
     start: yaml_mark_t,
 ) -> Result<PlainScalar, ScanError>
     requires start { start ≡ mark_at reader.now.text start.index }
+    requires stands { StandsAt reader.now.text start.index bytes.now }
     ensures { ReadsPlain reader.now.text start.index reader.now result
         (Ok (record {
           value = bytes.now;
@@ -86,7 +88,7 @@ fn one_run(
           broke = false;
         })) }
 {
-    let value = copied(spares, bytes)?;
+    let value = copied(spares, reader.text(), start.index as usize, bytes)?;
     Ok(PlainScalar {
         value,
         start_mark: start,
@@ -130,6 +132,7 @@ fn one_line<'a>(
 ) -> Result<PlainScalar, ScanError>
     requires start { start ≡ mark_at reader.old.text start.index }
     requires same { ahead.now.text ≡ reader.old.text }
+    requires stands { StandsAt reader.old.text start.index bytes.now }
     ensures { ReadsPlain reader.old.text start.index reader.new result
         (Ok (record {
           value = bytes.now;
@@ -138,7 +141,7 @@ fn one_line<'a>(
           broke = true;
         })) }
 {
-    let value = copied(spares, bytes)?;
+    let value = copied(spares, reader.text(), start.index as usize, bytes)?;
     let end_mark = reader.mark();
     *reader = ahead.ahead();
     Ok(PlainScalar {

@@ -5,7 +5,7 @@ ghost use Rattle.yaml_scan_model.specs.Marks.{byte, mark_at};
 ghost use Rattle.yaml_scan_model.specs.declared.record.yaml_mark_t.{yaml_mark_t};
 ghost use Rattle.yaml_scan_scalars.specs.Quoted as spec;
 ghost use Rattle.yaml_scan_scalars.specs.Readings.{Took, Reads};
-ghost use Rattle.yaml_scan_scalars.specs.Ordinary.{IsRun, bytes_at, kept_run};
+ghost use Rattle.yaml_scan_scalars.specs.Ordinary.{IsRun, StandsAt, bytes_at, kept_run};
 ghost use Rattle.yaml_scan_scalars.specs.Pieces.{Piece};
 ghost use Rattle.yaml_scan_scalars.specs.Resume.{resume};
 
@@ -45,9 +45,10 @@ fn quoted(spares: &mut Vec<Vec<u8>>, reader: &mut Reader, quote: u8) -> Result<S
 {
     let start = reader.mark();
     reader.skip();
+    let from = reader.place();
     let bytes = ordinary_run(reader);
     if closes(reader, quote) {
-        return one_run(spares, reader, bytes, start);
+        return one_run(spares, reader, from, bytes, start);
     }
     many_runs(spares, reader, bytes, start, quote)
 }
@@ -60,20 +61,23 @@ fn closes(reader: &Reader, quote: u8) -> bool
     reader.here() == quote && !is_doubled(quote, reader.byte(1))
 }
 
-/// The scalar that starts at the mark and has those bytes, where the reader stands before its closing quote.
+/// The scalar that starts at the mark and has those bytes, which stand from that place on, where the reader stands before its
+/// closing quote.
 fn one_run(
     spares: &mut Vec<Vec<u8>>,
     reader: &mut Reader,
+    from: usize,
     bytes: &[u8],
     start: yaml_mark_t,
 ) -> Result<Scalar, ScanError>
     requires closing { (byte reader.old.text reader.old.at ≡ 34)
         ⊎ (byte reader.old.text reader.old.at ≡ 39) }
     requires start { start ≡ mark_at reader.old.text start.index }
+    requires stands { StandsAt reader.old.text from bytes.now }
     ensures { Reads reader.old.text start.index reader.new result
         (Ok (bytes.now, reader.old.at + 1)) }
 {
-    let value = copied(spares, bytes)?;
+    let value = copied(spares, reader.text(), from, bytes)?;
     reader.skip();
     Ok(Scalar {
         value,

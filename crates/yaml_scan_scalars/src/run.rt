@@ -1,18 +1,19 @@
 //! Runs of bytes that stand for themselves, which are taken at once.
 
-ghost use Rattle.std.specs.Prelude.{◌≡◌, ◌-◌, [], if◌then◌else◌, IfOk};
+ghost use Rattle.std.specs.Prelude.{◌≡◌, ◌-◌, ◌+◌, ◌≤◌, length, [], if◌then◌else◌, IfOk};
 ghost use Rattle.yaml_scan_model.specs.Marks.{byte, starts};
 ghost use Rattle.yaml_scan_scalars.specs.Ordinary as spec;
 
 use std::alloc::{AllocError, Global};
 use yaml_scan_model::{Reader, yaml_mark_t};
 
-/// `1` for each byte that stands for itself between quotes and inside a line of a plain scalar, whatever stands beside it.
+/// For each byte that stands for itself between quotes and inside a line of a plain scalar, whatever stands beside it, `2` if it is
+/// one of ASCII, or else `1`.
 static ORDINARY: [u8; 256] = *b"\
     00000000000000000000000000000000\
-    00000000111100011111111111011110\
-    11111111111111111111111111100011\
-    11111111111111111111111111100000\
+    00000000222200022222222222022220\
+    22222222222222222222222222200022\
+    22222222222222222222222222200000\
     11111011111111111111111111111111\
     11111111001111111111111111111111\
     11011111111111111111111111111111\
@@ -24,7 +25,16 @@ static ORDINARY: [u8; 256] = *b"\
 fn is_ordinary(byte: u8) -> bool
     ensures { result ≡ spec.is_ordinary byte }
 {
-    ORDINARY[byte as usize] == b'1'
+    ORDINARY[byte as usize] >= b'1'
+}
+
+/// Whether the byte is an ordinary one of ASCII.
+// Inlined into the loop over bytes.
+#[inline(always)]
+fn is_narrow(byte: u8) -> bool
+    ensures { result ≡ spec.is_narrow byte }
+{
+    ORDINARY[byte as usize] == b'2'
 }
 
 /// Whether an ordinary byte stands there.
@@ -34,6 +44,15 @@ fn ordinary_at(text: &[u8], place: usize) -> bool
     ensures { result ≡ spec.is_ordinary (byte text.now place) }
 {
     place < text.len() && is_ordinary(text[place])
+}
+
+/// Whether an ordinary byte of ASCII stands there.
+// Inlined into the loop over bytes.
+#[inline(always)]
+fn narrow_at(text: &[u8], place: usize) -> bool
+    ensures { result ≡ spec.is_narrow (byte text.now place) }
+{
+    place < text.len() && is_narrow(text[place])
 }
 
 /// How many characters begin with the byte.
@@ -46,15 +65,65 @@ fn begun(byte: u8) -> u64
 }
 
 /// Past the ordinary bytes that stand here, and those bytes.
+// Inlined: a loop of a load and a comparison a byte.
+#[inline(always)]
 pub(crate) fn ordinary_run<'a>(reader: &mut Reader<'a>) -> &'a [u8]
     ensures place { spec.IsRun reader.old.text reader.old.at reader.new }
     ensures bytes { result.now ≡ spec.bytes_at reader.old.text reader.old.at
         (reader.new.at - reader.old.at) }
+    ensures stands { spec.StandsAt reader.old.text reader.old.at result.now }
+    ensures inside { reader.new.at ≤ length reader.old.text }
+{
+    let from = reader.place();
+    pass_run(reader);
+    reader.since(from)
+}
+
+/// Past the ordinary bytes that stand here.
+// Inlined: a loop of a load and a comparison a byte.
+#[inline(always)]
+fn pass_run(reader: &mut Reader)
+    ensures run { spec.IsRun reader.old.text reader.old.at reader.new }
+    ensures inside { reader.new.at ≤ length reader.old.text }
+{
+    narrow_run(reader);
+    if ordinary_at(reader.text(), reader.place()) {
+        wide_run(reader);
+    }
+}
+
+/// Past the ordinary bytes of ASCII that stand here: each is a column.
+// Inlined: a loop of a load and a comparison a byte.
+#[inline(always)]
+fn narrow_run(reader: &mut Reader)
+    ensures run { spec.IsRun reader.old.text reader.old.at reader.new }
+    ensures inside { reader.new.at ≤ length reader.old.text }
 {
     let here = reader.stop();
     let text = reader.text();
     let from = reader.place();
     let mut end = from;
+    'bytes: while narrow_at(text, end) {
+        end += 1;
+    }
+    let mark = yaml_mark_t {
+        index: end as u64,
+        line: here.line,
+        column: here.column + (end - from) as u64,
+    };
+    *reader = Reader::resume(text, mark);
+}
+
+/// Past the ordinary bytes that stand here.
+// Out of line: most runs are of ASCII.
+#[inline(never)]
+fn wide_run(reader: &mut Reader)
+    ensures run { spec.IsRun reader.old.text reader.old.at reader.new }
+    ensures inside { reader.new.at ≤ length reader.old.text }
+{
+    let here = reader.stop();
+    let text = reader.text();
+    let mut end = reader.place();
     let mut column = here.column;
     'bytes: while ordinary_at(text, end) {
         column += begun(text[end]);
@@ -66,16 +135,40 @@ pub(crate) fn ordinary_run<'a>(reader: &mut Reader<'a>) -> &'a [u8]
         column,
     };
     *reader = Reader::resume(text, mark);
-    reader.since(from)
 }
 
 /// The least room that is made: what the smallest block of common allocators holds.
 const LEAST_ROOM: usize = 24;
 
-/// A copy of a run's bytes, in the room of a spare text where they fit.
-// Inlined: mostly one copy.
+/// How many bytes one move copies.
+const CHUNK: usize = 16;
+
+/// A copy of bytes that stand in the text from that place on, in the room of a spare text where they fit.
+// Inlined: mostly one move.
 #[inline(always)]
-pub(crate) fn copied(spares: &mut Vec<Vec<u8>>, bytes: &[u8]) -> Result<Vec<u8>, AllocError>
+pub(crate) fn copied(
+    spares: &mut Vec<Vec<u8>>,
+    text: &[u8],
+    from: usize,
+    bytes: &[u8],
+) -> Result<Vec<u8>, AllocError>
+    requires { spec.StandsAt text.now from bytes.now }
+    ensures { IfOk result (λ v. v.items ≡ bytes.now) }
+{
+    let count = bytes.len();
+    if CHUNK < count || text.len() - from < CHUNK {
+        return copied_whole(spares, bytes);
+    }
+    let mut copy = room(spares, CHUNK)?;
+    copy.extend_from_slice(&text[from..from + CHUNK])?;
+    copy.truncate(count);
+    Ok(copy)
+}
+
+/// A copy of bytes, in the room of a spare text where they fit.
+// Out of line: most runs are short.
+#[inline(never)]
+pub(crate) fn copied_whole(spares: &mut Vec<Vec<u8>>, bytes: &[u8]) -> Result<Vec<u8>, AllocError>
     ensures { IfOk result (λ v. v.items ≡ bytes.now) }
 {
     let mut copy = room(spares, bytes.len())?;

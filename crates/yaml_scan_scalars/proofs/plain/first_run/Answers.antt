@@ -1,7 +1,7 @@
-use Rattle.std.proofs.Common.{◌≡◌, ◌∙◌, ◌+◌}
+use Rattle.std.proofs.Common.{◌∙◌, ◌+◌, arith}
 use Rattle.yaml_scan_model.proofs.MarksLemmas.{within}
 use Rattle.yaml_scan_scalars.specs.Ordinary.{IsRun}
-use Rattle.yaml_scan_scalars.proofs.RunLemmas.{first_slice}
+use Rattle.yaml_scan_scalars.proofs.RunLemmas.{first_slice, stands_slice}
 use Rattle.yaml_scan_scalars.proofs.plain.first_run.Goals as goal
 
 pub returns-clause-run : goal.returns-clause-run
@@ -14,3 +14,12 @@ returns-clause-bytes c =
     let run : IsRun text (p + 1) c.ordinary_run-run.new.reader = rw c.skip.ensures at c.ordinary_run-run.ensures.place in
     let slice = rw (c.place-from.ensures, run.same) at c.since.ensures in
     slice ∙ first_slice text p c.ordinary_run-run.new.reader run (within text p c.requires.some)
+
+pub returns-clause-stands : goal.returns-clause-stands
+returns-clause-stands c =
+    let text = c.args.reader.now.text in
+    let p = c.args.reader.now.at in
+    let run : IsRun text (p + 1) c.ordinary_run-run.new.reader = rw c.skip.ensures at c.ordinary_run-run.ensures.place in
+    let after = run.after in
+    let slice = rw (c.place-from.ensures, run.same) at c.since.ensures in
+    stands_slice text p c.ordinary_run-run.new.reader.at _ (omega arith) (rw c.skip.ensures at c.ordinary_run-run.ensures.inside) slice

@@ -1,4 +1,4 @@
-use Rattle.std.proofs.Common.{◌≡◌, ◌+◌, ◌-◌, ◌∙◌, ap, sym, true, false, refl, arith}
+use Rattle.std.proofs.Common.{◌∙◌, ap, sym, true, false}
 use Rattle.yaml_scan_model.specs.Marks.{Place}
 use Rattle.yaml_scan_model.proofs.MarksLemmas.{within}
 use Rattle.yaml_scan_scalars.proofs.PlainLemmas.{plain_start, seat_text}
@@ -11,8 +11,11 @@ first_run-bytes-requires-clause-some c = (plain_start c.args.flow c.args.reader.
 pub first_run-bytes-requires-clause-no_break : goal.first_run-bytes-requires-clause-no_break
 first_run-bytes-requires-clause-no_break c = (plain_start c.args.flow c.args.reader.now.text c.args.reader.now.at c.requires).2
 
-pub one_run-requires : goal.one_run-requires
-one_run-requires c = record { start = rw c.first_run-bytes.ensures.run.same (own_mark c.args.reader.now.text _ _ c.mark-start.ensures).0 }
+pub one_run-requires-clause-start : goal.one_run-requires-clause-start
+one_run-requires-clause-start c = rw c.first_run-bytes.ensures.run.same (own_mark c.args.reader.now.text _ _ c.mark-start.ensures).0
+
+pub one_run-requires-clause-stands : goal.one_run-requires-clause-stands
+one_run-requires-clause-stands c = rw (c.first_run-bytes.ensures.run.same, c.mark-start.ensures) c.first_run-bytes.ensures.stands
 
 pub returns-then-is_followed : goal.returns-then-is_followed
 returns-then-is_followed c =
@@ -28,6 +31,9 @@ returns-then-is_followed c =
 
 pub one_line-requires-clause-start : goal.one_line-requires-clause-start
 one_line-requires-clause-start c = rw c.first_run-bytes.ensures.run.same (own_mark c.args.reader.now.text _ _ c.mark-start.ensures).0
+
+pub one_line-requires-clause-stands : goal.one_line-requires-clause-stands
+one_line-requires-clause-stands c = rw (c.first_run-bytes.ensures.run.same, c.mark-start.ensures) c.first_run-bytes.ensures.stands
 
 pub one_line-requires-clause-same : goal.one_line-requires-clause-same
 one_line-requires-clause-same c = c.passes_line.ensures.same ∙ ap (λ (x : Place). x.text) c.ahead-ahead.ensures

@@ -1,4 +1,4 @@
-use Rattle.std.proofs.Common.{◌≡◌, ◌+◌, ◌-◌, ◌∙◌, ap, sym, refl, arith}
+use Rattle.std.proofs.Common.{◌+◌, ◌∙◌, sym}
 use Rattle.yaml_scan_model.proofs.MarksLemmas.{within}
 use Rattle.yaml_scan_scalars.specs.Ordinary.{IsRun}
 use Rattle.yaml_scan_scalars.proofs.QuotedLemmas.{quote_no_break, quote_some}
@@ -17,6 +17,11 @@ pub one_run-requires-clause-start : goal.one_run-requires-clause-start
 one_run-requires-clause-start c =
     let run : IsRun c.args.reader.now.text (c.args.reader.now.at + 1) c.ordinary_run-bytes.new.reader = rw c.skip.ensures at c.ordinary_run-bytes.ensures.place in
     rw run.same (own_mark c.args.reader.now.text _ _ c.mark-start.ensures).0
+
+pub one_run-requires-clause-stands : goal.one_run-requires-clause-stands
+one_run-requires-clause-stands c =
+    let run : IsRun c.args.reader.now.text (c.args.reader.now.at + 1) c.ordinary_run-bytes.new.reader = rw c.skip.ensures at c.ordinary_run-bytes.ensures.place in
+    rw (run.same, c.place-from.ensures, c.skip.ensures) (rw c.skip.ensures at c.ordinary_run-bytes.ensures.stands)
 
 pub returns-then-closes : goal.returns-then-closes
 returns-then-closes c =

@@ -1,49 +1,15 @@
-use Rattle.std.proofs.Common.{◌≡◌, ◌+◌, ◌≤◌, ◌<◌, length, ◌∙◌, sym, ap, true, ℕ, List, if◌then◌else◌, arith}
-use Rattle.yaml_scan_model.specs.Marks.{byte, starts, column_at}
-use Rattle.yaml_scan_model.proofs.MarksLemmas.{within, column_at-le}
-use Rattle.yaml_scan_scalars.specs.Ordinary.{is_ordinary}
-use Rattle.yaml_scan_scalars.proofs.RunLemmas.{run_more, run_slice, ordinary_is}
-use Rattle.yaml_scan_scalars.proofs.TableLemmas.{behind, one_at_most}
+use Rattle.std.proofs.Common.{◌∙◌}
+use Rattle.yaml_scan_scalars.proofs.RunLemmas.{run_slice, stands_slice}
 use Rattle.yaml_scan_scalars.proofs.run.ordinary_run.Goals as goal
-
-pub bounds-text-end : goal.bounds-text-end
-bounds-text-end c =
-    let o : is_ordinary (byte c.args.reader.now.text c.bytes.end) ≡ true = rw c.text-text.ensures at (sym c.ordinary_at.ensures ∙ c.bytes-test.true) in
-    rw c.text-text.ensures (within c.args.reader.now.text c.bytes.end (ordinary_is _ o).some)
-
-pub overflow_add-column : goal.overflow_add-column
-overflow_add-column c =
-    let text = c.args.reader.now.text in
-    let o : is_ordinary (byte text c.bytes.end) ≡ true = rw c.text-text.ensures at (sym c.ordinary_at.ensures ∙ c.bytes-test.true) in
-    let inside = within text c.bytes.end (ordinary_is _ o).some in
-    let le = column_at-le text c.bytes.end in
-    let now : length c.text-text.result.now ≡ length text = ap (λ (xs : List ℕ). length xs) c.text-text.ensures in
-    let some : c.begun-column.result ≤ 1 = rw c.begun-column.ensures (one_at_most _) in
-    omega (arith, le, some, inside, now, c.bytes.invariant.column)
-
-pub bytes-smaller : goal.bytes-smaller
-bytes-smaller c =
-    let o : is_ordinary (byte c.args.reader.now.text c.bytes.end) ≡ true = rw c.text-text.ensures at (sym c.ordinary_at.ensures ∙ c.bytes-test.true) in
-    let inside = within c.args.reader.now.text c.bytes.end (ordinary_is _ o).some in
-    omega (arith, inside)
-
-pub bytes-preserved : goal.bytes-preserved
-bytes-preserved c =
-    let text = c.args.reader.now.text in
-    let o : is_ordinary (byte text c.bytes.end) ≡ true = rw c.text-text.ensures at (sym c.ordinary_at.ensures ∙ c.bytes-test.true) in
-    let inside = within text c.bytes.end (ordinary_is _ o).some in
-    let b = behind text c.bytes.end o c.bytes.invariant.whole in
-    let begun : c.begun-column.result ≡ (if starts (byte text c.bytes.end) then 1 else 0) = rw c.text-text.ensures at c.begun-column.ensures in
-    record {
-      run = run_more text c.args.reader.now.at (record { text = text; at = c.bytes.end }) c.bytes.invariant.run o;
-      inside = omega (arith, inside);
-      line = c.bytes.invariant.line ∙ sym b.line;
-      column = ap (λ (k : ℕ). k + c.begun-column.result) c.bytes.invariant.column ∙ ap (λ (k : ℕ). column_at text c.bytes.end + k) begun ∙ sym b.column;
-      whole = b.whole;
-    }
 
 pub returns-clause-bytes : goal.returns-clause-bytes
 returns-clause-bytes c =
-    let text = c.args.reader.now.text in
-    let b = rw (c.place-from.ensures, c.resume.ensures, c.text-text.ensures) at c.since.ensures in
-    rw c.resume.ensures (b ∙ run_slice text c.args.reader.now.at (record { text = text; at = c.bytes.end }) c.bytes.invariant.run)
+    let run = c.pass_run.ensures.run in
+    let b = rw (c.place-from.ensures, run.same) at c.since.ensures in
+    b ∙ run_slice _ _ _ run
+
+pub returns-clause-stands : goal.returns-clause-stands
+returns-clause-stands c =
+    let run = c.pass_run.ensures.run in
+    let b = rw (c.place-from.ensures, run.same) at c.since.ensures in
+    stands_slice _ _ _ _ run.after c.pass_run.ensures.inside b

@@ -1,14 +1,14 @@
-use Rattle.std.proofs.Common.{◌≡◌, ◌-◌, ◌≤◌, length, false}
+use Rattle.std.proofs.Common.{◌≡◌, ◌+◌, ◌-◌, ◌≤◌, length, false}
 use Rattle.yaml_scan_model.specs.Marks.{line_at, column_at, splits_break}
 use Rattle.yaml_scan_scalars.specs.Ordinary.{IsRun}
-use Rattle.yaml_scan_scalars.proofs.run.ordinary_run.Given as goal
+use Rattle.yaml_scan_scalars.proofs.run.narrow_run.Given as goal
 
 abbrev pub invariant-bytes : goal.invariant-bytes
 invariant-bytes l = record {
   run : IsRun l.fn.reader.text l.fn.reader.at (record { text = l.fn.reader.text; at = l.end });
   inside : l.end ≤ length l.fn.reader.text;
   line : l.here.line ≡ line_at l.fn.reader.text l.end;
-  column : l.column ≡ column_at l.fn.reader.text l.end;
+  column : l.here.column + (l.end - l.fn.reader.at) ≡ column_at l.fn.reader.text l.end;
   whole : splits_break l.fn.reader.text l.end ≡ false;
 }
 

@@ -9,8 +9,8 @@ use Rattle.yaml_scan_history.specs.declared.lexeme.Entry.{Entry}
 use Rattle.yaml_scan_history.specs.declared.lexeme.Opens.{Opens}
 use Rattle.yaml_scan_history.specs.declared.lexeme.Opens.TheVariants as opening
 use Rattle.yaml_scan_history.specs.Remaining.{SpelledText, before, token_in, start_tokens, end_tokens, own_tokens, spell}
-use Rattle.yaml_scan_queue.specs.Front.{key_at, start_at, front_at}
-use Rattle.yaml_scan_machine.specs.Taken.{start_count, key_count, front_count, fronted}
+use Rattle.yaml_scan_queue.specs.Front.{key_at, start_at, front_at, start_count, key_count}
+use Rattle.yaml_scan_machine.specs.Taken.{front_count, fronted}
 
 -- a token is in front where fewer are taken than stand in front
 abbrev pub Counts : ℕ → ℕ → Option TokenBody → Type 0

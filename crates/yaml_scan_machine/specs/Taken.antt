@@ -1,21 +1,11 @@
 -- How many tokens stand in front of a lexeme's own one, and how many of them are taken.
-use Rattle.std.specs.Prelude.{ℕ, ◌+◌, ◌≡◌, ◌<◌, ◌≤◌, ◌⊎◌, Bool, true, false, List, [], ◌∷◌, Option, Some, None}
+use Rattle.std.specs.Prelude.{ℕ, ◌+◌, ◌≡◌, ◌<◌, ◌≤◌, ◌⊎◌, List, [], ◌∷◌, Option, Some, None}
 use Rattle.yaml_scan_model.specs.Tokens.{Token, TokenBody}
 use Rattle.yaml_scan_history.specs.declared.lexeme.Lexeme.{Lexeme}
 use Rattle.yaml_scan_history.specs.declared.lexeme.Entry.{Entry}
-use Rattle.yaml_scan_history.specs.declared.lexeme.Opens.{Opens}
-use Rattle.yaml_scan_history.specs.declared.lexeme.Opens.TheVariants as opening
+use Rattle.yaml_scan_queue.specs.Front.{start_count, key_count}
 use Rattle.yaml_scan_history.specs.Remaining.{SpelledText, before, token_in}
 use Rattle.yaml_scan_machine.specs.Shows.{Fields}
-
-abbrev pub start_count : Opens → ℕ
-start_count opening.Nothing = 0
-start_count opening.Sequence = 1
-start_count opening.Mapping = 1
-
-abbrev pub key_count : Bool → ℕ
-key_count true = 1
-key_count false = 0
 
 -- how many tokens stand in front of a lexeme's own one
 abbrev pub front_count : Entry → ℕ

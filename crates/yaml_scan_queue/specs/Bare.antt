@@ -1,14 +1,19 @@
 -- Bodies that own nothing.
-use Rattle.std.specs.Prelude.{Bool, true, false}
+use Rattle.std.specs.Prelude.{ℕ, Bool, true, false, List, [], ◌∷◌}
 use Rattle.yaml_scan_model.specs.Tokens.{TokenBody, no, stream_start, stream_end, version_directive, tag_directive, alias, anchor, tag, scalar}
 
--- the body has no text
+-- no byte
+abbrev pub is_empty : List ℕ → Bool
+is_empty [] = true
+is_empty (b ∷ bs) = false
+
+-- the body has no text, or that of a scalar or a name is empty
 abbrev pub is_bare : TokenBody → Bool
 is_bare (tag_directive _ _) = false
-is_bare (alias _) = false
-is_bare (anchor _) = false
+is_bare (alias text) = is_empty text
+is_bare (anchor text) = is_empty text
 is_bare (tag _ _) = false
-is_bare (scalar _ _) = false
+is_bare (scalar text _) = is_empty text
 is_bare _ = true
 
 -- the body is that of an indicator, or of where a collection or a document begins or ends: its kind says all

@@ -1,5 +1,5 @@
 -- The tokens that stand in front of a lexeme's own one: BLOCK-END, a block start, KEY.
-use Rattle.std.specs.Prelude.{ℕ, ◌-◌, ◌==◌, ◌&&◌, nat_lt, if◌then◌else◌, Bool, Option, Some, None}
+use Rattle.std.specs.Prelude.{ℕ, ◌-◌, ◌==◌, ◌&&◌, nat_lt, if◌then◌else◌, Bool, true, false, Option, Some, None}
 use Rattle.yaml_scan_model.specs.Tokens.{TokenBody, block_end, block_sequence_start, block_mapping_start, key}
 use Rattle.yaml_scan_history.specs.declared.lexeme.Entry.{Entry}
 use Rattle.yaml_scan_history.specs.declared.lexeme.Opens.{Opens}
@@ -20,3 +20,23 @@ start_at opening.Mapping is_key n = if n == 0 then Some block_mapping_start
 abbrev pub front_at : Entry → ℕ → Option TokenBody
 front_at e given = if nat_lt given e.ends then Some block_end else start_at e.opens e.key
     (given - e.ends)
+
+-- how many of block start and KEY stand in front of a lexeme's own token
+abbrev pub start_count : Opens → ℕ
+start_count opening.Nothing = 0
+start_count opening.Sequence = 1
+start_count opening.Mapping = 1
+
+abbrev pub key_count : Bool → ℕ
+key_count true = 1
+key_count false = 0
+
+-- the block start, or KEY where none is opened
+abbrev pub start_or_key : Opens → TokenBody
+start_or_key opening.Nothing = key
+start_or_key opening.Sequence = block_sequence_start
+start_or_key opening.Mapping = block_mapping_start
+
+-- that of them behind which so many are taken
+abbrev pub part_at : Opens → ℕ → TokenBody
+part_at o n = if nat_lt 0 n then key else start_or_key o

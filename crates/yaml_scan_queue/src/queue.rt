@@ -13,7 +13,7 @@ use yaml_scan_history::{Lexeme, Opens};
 use yaml_scan_model::yaml_token_body_t;
 
 /// A row of slots, of which those from `first` to `last` hold the lexemes that wait. The others are used again: the body
-/// of none of them has a text, so that nothing is to be let go where one is filled.
+/// of none of them has a text, but for an empty one without room, so that nothing is to be let go where one is filled.
 #[derive(Drop)]
 pub struct Queue {
     slots: Vec<Waiting>,
@@ -158,9 +158,9 @@ impl Queue {
     }
 }
 
-/// Moves a body to a place that holds no text, and leaves none there.
-// Of a bare kind the kind alone is written. Others are exchanged: a body that is read before its place is emptied would go
-// by way of the stack.
+/// Moves a body to a place that holds no text, and leaves none there, or an empty one.
+// Of a bare kind the kind alone is written, and of a scalar its text is moved: a body that is read whole before its place
+// is emptied would go by way of the stack.
 // Inlined: it is called at one place, for each token.
 #[inline(always)]
 fn hand_out(from: &mut yaml_token_body_t, to: &mut yaml_token_body_t)
@@ -172,6 +172,40 @@ fn hand_out(from: &mut yaml_token_body_t, to: &mut yaml_token_body_t)
         put_body(to, kind(from));
         return;
     }
+    match from {
+        yaml_token_body_t::Scalar { value, style } => {
+            let text = taken(value);
+            put_body(
+                to,
+                yaml_token_body_t::Scalar {
+                    value: text,
+                    style: *style,
+                },
+            );
+        }
+        _ => exchange(from, to),
+    }
+}
+
+/// The text, of which an empty one is left.
+// Inlined: some moves.
+#[inline(always)]
+fn taken(text: &mut Vec<u8>) -> Vec<u8>
+    ensures result { result ≡ text.old }
+    ensures left { text.new.items ≡ [] }
+{
+    let alloc = *text.allocator();
+    mem::replace(text, Vec::new(alloc))
+}
+
+/// Moves a body to a place that holds no text, and leaves none there.
+// Out of line: mostly it is a kind or a scalar.
+#[inline(never)]
+fn exchange(from: &mut yaml_token_body_t, to: &mut yaml_token_body_t)
+    requires { is_bare (body_of to.old) ≡ true }
+    ensures to { to.new ≡ from.old }
+    ensures from { is_bare (body_of from.new) ≡ true }
+{
     mem::swap(to, from);
     put_body(from, yaml_token_body_t::No);
 }
@@ -235,7 +269,8 @@ pub fn put_body(to: &mut yaml_token_body_t, body: yaml_token_body_t)
     forget_bare(mem::replace(to, body));
 }
 
-/// Lets go of a body without a text. It owns nothing: its drop would look at each kind of body.
+/// Lets go of a body without a text, or with an empty one that was left without room. It owns nothing: its drop would look
+/// at each kind of body.
 // Inlined: it does nothing.
 #[inline(always)]
 fn forget_bare(body: yaml_token_body_t)

@@ -1,9 +1,9 @@
 //! The lexemes that wait, and the tokens that they are spelled out in.
 
-ghost use Rattle.std.specs.Prelude.{◌≡◌, ◌&&◌, ◌==◌, if◌then◌else◌, true, Some, None, option_map};
+ghost use Rattle.std.specs.Prelude.{◌≡◌, ◌+◌, ◌≤◌, ◌&&◌, ◌==◌, if◌then◌else◌, true, Some, None, option_map};
 ghost use Rattle.yaml_scan_model.specs.Tokens.{body_of};
 ghost use Rattle.yaml_scan_queue.specs.Bare.{is_bare};
-ghost use Rattle.yaml_scan_queue.specs.Front.{front_at, start_at, key_at};
+ghost use Rattle.yaml_scan_queue.specs.Front.{front_at, start_count, key_count, part_at};
 ghost use Rattle.yaml_scan_queue.specs.Fronted.{token_before};
 ghost use Rattle.yaml_scan_history.specs.History as history;
 ghost use Rattle.yaml_scan_queue.specs.Waits as waits;
@@ -105,7 +105,11 @@ impl Waiting {
         if given < self.entry.ends {
             return Some(Before::BlockEnd);
         }
-        start_before(self.entry.opens, self.entry.key, given - self.entry.ends)
+        let taken = given - self.entry.ends;
+        if count(self.entry.opens, self.entry.key) <= taken {
+            return None;
+        }
+        Some(start_or_key(self.entry.opens, taken))
     }
 }
 
@@ -133,35 +137,43 @@ impl Before {
     }
 }
 
-/// Behind so many tokens the block start, then KEY.
-fn start_before(opens: Opens, is_key: bool, taken: usize) -> Option<Before>
-    ensures { option_map token_before result ≡ start_at opens is_key taken }
+/// How many of block start and KEY stand in front of a lexeme's own token.
+// Inlined: a sum, asked for each token.
+#[inline(always)]
+fn count(opens: Opens, is_key: bool) -> usize
+    ensures { result ≡ start_count opens + key_count is_key }
+{
+    let start = starts(opens);
+    if is_key { start + 1 } else { start }
+}
+
+/// How many block starts.
+// Inlined: a comparison.
+#[inline(always)]
+fn starts(opens: Opens) -> usize
+    ensures count { result ≡ start_count opens }
+    ensures few { result ≤ 1 }
 {
     match opens {
-        Opens::Nothing => key_before(is_key, taken),
-        Opens::Sequence => {
-            if taken == 0 {
-                return Some(Before::BlockSequenceStart);
-            }
-            key_before(is_key, taken - 1)
-        }
-        Opens::Mapping => {
-            if taken == 0 {
-                return Some(Before::BlockMappingStart);
-            }
-            key_before(is_key, taken - 1)
-        }
+        Opens::Nothing => 0,
+        _ => 1,
     }
 }
 
-/// KEY in front of a key, where none was taken.
-fn key_before(is_key: bool, taken: usize) -> Option<Before>
-    ensures { option_map token_before result ≡ key_at is_key taken }
+/// The block start, where it is the first, or else KEY.
+// Inlined: it is called at one place.
+#[inline(always)]
+fn start_or_key(opens: Opens, taken: usize) -> Before
+    ensures { token_before result ≡ part_at opens taken }
 {
-    if is_key && taken == 0 {
-        return Some(Before::Key);
+    if 0 < taken {
+        return Before::Key;
     }
-    None
+    match opens {
+        Opens::Nothing => Before::Key,
+        Opens::Sequence => Before::BlockSequenceStart,
+        Opens::Mapping => Before::BlockMappingStart,
+    }
 }
 
 /// What a lexeme that waits says to one that looks back for the candidate of a depth.

@@ -1,3 +1,4 @@
 pub mod Defaults
 pub mod HandleTable
+pub mod Named
 pub mod Tops

@@ -1,11 +1,15 @@
 -- The topmost state: what holds of it, whatever it is called, and another one in its place.
-use Rattle.std.proofs.Common.{◌≡◌, ◌∙◌, ℕ, ◌+◌, ◌-◌, ◌<◌, List, [], ◌∷◌, ◌++◌, length, take, get_or, reverse, map, sym, subst, ap, arith}
+use Rattle.std.proofs.Common.{◌≡◌, ◌∙◌, ℕ, ◌+◌, ◌-◌, ◌<◌, List, [], ◌∷◌, ◌++◌, length, take, get_or, reverse, map, sym, subst, ap, refl, arith}
 use Rattle.std.specs.Prelude.{slice_set}
 use Rattle.std.proofs.lemmas.List.{reverse-append, take-append-drop, take_all, drop_all, drop_more, length-set}
 use Rattle.std.proofs.lemmas.Grind.{take-set_at}
+use Rattle.yaml_parse_model.specs.Tokens.{Token}
+use Rattle.yaml_parse_model.specs.Events.{Event}
 use Rattle.yaml_parse_grammar.specs.States.{State}
 use Rattle.yaml_parse_machine.specs.declared.item.State as code
 use Rattle.yaml_parse_machine.specs.Views.{state_of, stack_of, below}
+use Rattle.yaml_parse_machine.specs.Swiftly.{Swiftly, SwiftlyOn}
+use Rattle.yaml_parse_machine.specs.declared.swift_ways.Swift.{Swift}
 
 same_top : (x y : State) (s : List State) → x ∷ s ≡ y ∷ s → x ≡ y
 same_top x y s e = cc
@@ -14,7 +18,7 @@ pub by_top : (y : State) (s : List State) (P : State → Type 0) → s ≡ y ∷
 by_top y s P e h x f = subst P (same_top y x (below s) (sym e ∙ f)) h
 
 -- a list whose last is the topmost
-topped : (front xs : List code.State) (x : code.State) → xs ≡ front ++ x ∷ [] → stack_of xs ≡ state_of x ∷ stack_of front
+pub topped : (front xs : List code.State) (x : code.State) → xs ≡ front ++ x ∷ [] → stack_of xs ≡ state_of x ∷ stack_of front
 topped front xs x e = ap (λ (z : List code.State). map state_of (reverse z)) e ∙ ap (map state_of) (reverse-append front (x ∷ []))
 
 pub swapped : (xs new : List code.State) (n i : ℕ) (x : code.State) → n ≡ length xs → 0 < n → i ≡ n - 1 → new ≡ slice_set xs i x → stack_of new ≡ state_of x ∷ below (stack_of xs)
@@ -26,3 +30,7 @@ swapped xs new n i x e s at is =
     let split : xs ≡ take i xs ++ get_or xs i x ∷ [] =
     sym (take-append-drop i xs) ∙ ap (λ t. take i xs ++ t) (drop_more xs i x within ∙ ap (λ t. get_or xs i x ∷ t) (drop_all (i + 1) xs (omega (arith, e, whole)))) in
     topped (take i xs) new x front ∙ ap (λ t. state_of x ∷ t) (sym (ap below (topped (take i xs) xs (get_or xs i x) split)))
+
+-- what is told of a state that was taken off is told of the stack
+pub popped : (y : State) (rest s : List State) (t : Token) (r : Swift) (e : Event) (after : Token) (new : List State) → s ≡ y ∷ rest → Swiftly y t (y ∷ rest) r e after new → SwiftlyOn t s r e after new
+popped y rest s t r e after new is h = subst (λ z. SwiftlyOn t z r e after new) (sym is) (by_top y (y ∷ rest) (λ z. Swiftly z t (y ∷ rest) r e after new) refl h)

@@ -2,3 +2,4 @@ pub mod Views
 pub mod Settles
 pub mod TagView
 pub mod Swiftly
+pub mod Bare

@@ -16,12 +16,14 @@ use Rattle.yaml_parse_machine.specs.Views.{below}
 use Rattle.yaml_parse_machine.specs.declared.swift_ways.Swift.{Swift}
 use Rattle.yaml_parse_machine.specs.declared.swift_ways.Swift.TheVariants.{Event as is_event, Silent, Memory, Other}
 
--- what a state gave of which that event is made, without properties
+-- what a state gave of which that event is made, without a tag
 abbrev pub raw_body : EventBody → item.RawEventBody
-raw_body (event.scalar None None value plain quoted style) = item.node None None
+raw_body (event.scalar anchor None value plain quoted style) = item.node anchor None
     (item.scalar value style)
-raw_body (event.sequence_start None None implicit style) = item.node None None (item.sequence style)
-raw_body (event.mapping_start None None implicit style) = item.node None None (item.mapping style)
+raw_body (event.sequence_start anchor None implicit style) = item.node anchor None
+    (item.sequence style)
+raw_body (event.mapping_start anchor None implicit style) = item.node anchor None
+    (item.mapping style)
 raw_body body = item.event body
 
 abbrev pub raw_of : Event → item.RawEvent

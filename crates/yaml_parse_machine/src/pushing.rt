@@ -16,7 +16,7 @@ use yaml_parse_model::yaml_mark_t;
 // A state, for which there is room.
 // Inlined: one move, where room is known.
 #[inline(always)]
-fn put(stack: &mut Vec<State>, state: State)
+pub(crate) fn put(stack: &mut Vec<State>, state: State)
     requires { vec_len stack.old < vec_capacity stack.old }
     ensures stack { stack_of stack.new.items ≡ state_of state ∷ stack_of stack.old.items }
     ensures len { vec_len stack.new ≡ vec_len stack.old + 1 }

@@ -1,11 +1,10 @@
 //! Directives and tags.
 
-ghost use Rattle.std.specs.Prelude.{◌≡◌, ◌++◌, None, codes, map, option_map, IfOk, IfErr};
-ghost use Rattle.std.specs.Str.{bytes_eq};
+ghost use Rattle.std.specs.Prelude.{◌≡◌, ◌++◌, None, Some, map, option_map, IfOk, IfErr};
 ghost use Rattle.yaml_parse_model.specs.Events.{directive_of, text_of, body_of, event_of};
 ghost use Rattle.yaml_parse_model.specs.Events as told;
 ghost use Rattle.yaml_parse_grammar.specs.Items as item;
-ghost use Rattle.yaml_parse_grammar.specs.Resolve.{directive_for, default_prefix, or_default, resolved, node_event, settle as settle_item, settle_body as settle_item_body, scalar_event, is_plain as is_plain_style, is_known_version, with_version, with_tag, behind_event};
+ghost use Rattle.yaml_parse_grammar.specs.Resolve.{directive_for, default_prefix, or_default, resolved, node_event, settle as settle_item, settle_body as settle_item_body, scalar_event, is_known_version, with_version, with_tag, behind_event};
 ghost use Rattle.yaml_parse_machine.specs.Views.{plain_of, item_of, item_body_of, node_of, shape_of, tag_option_of};
 ghost use Rattle.yaml_parse_grammar.specs.Resolve.{Directives as DirectivesSpec};
 ghost use Rattle.yaml_parse_machine.specs.declared.resolving.Refusal.TheVariants.{Fault};
@@ -13,7 +12,8 @@ ghost use Rattle.yaml_parse_machine.specs.Settles.{directives_of, Settles, Settl
 
 use crate::handles::TagDirectives;
 use crate::item::{Properties, RawEvent, RawEventBody, Resolved, Shape, Tag};
-use crate::slots::{put, start_mapping, start_sequence};
+use crate::scalars::{bare_scalar, is_mark, is_plain, named_scalar, scalar_by_tag};
+use crate::slots::{clear, put, start_mapping, start_sequence};
 use crate::taking::moved;
 use std::alloc::{AllocError, AllocFailed, Global};
 use std::mem;
@@ -121,74 +121,6 @@ fn resolve(
     }
 }
 
-fn is_mark(tag: &[u8]) -> bool
-    ensures { result ≡ bytes_eq tag.now (codes "!") }
-{
-    tag == b"!".as_slice()
-}
-
-fn is_plain(style: yaml_scalar_style_t) -> bool
-    ensures { result ≡ is_plain_style style }
-{
-    match style {
-        yaml_scalar_style_t::YAML_PLAIN_SCALAR_STYLE => true,
-        _ => false,
-    }
-}
-
-// A new scalar without properties.
-// Out of line: mostly the slot holds such a one already, which is changed in place.
-#[inline(never)]
-fn new_bare(
-    alloc: Global,
-    value: &mut Vec<u8>,
-    style: yaml_scalar_style_t,
-    event: &mut yaml_event_body_t,
-)
-    ensures { body_of event.new ≡ node_event None None (item.scalar value.old.items style) }
-{
-    let is_plain = is_plain(style);
-    let scalar = yaml_event_body_t::Scalar {
-        anchor: None,
-        tag: None,
-        value: mem::replace(value, Vec::new(alloc)),
-        plain_implicit: is_plain,
-        quoted_implicit: !is_plain,
-        style,
-    };
-    put(event, scalar);
-}
-
-// A scalar without properties. Where the slot holds such a one already, it is changed in place: to put a new one there, the
-// old one is taken apart, asked what it owns, and set to zero. The old value stands in the token then, which drops it.
-// Inlined: some loads and stores.
-#[inline(always)]
-pub(crate) fn bare_scalar(
-    alloc: Global,
-    value: &mut Vec<u8>,
-    style: yaml_scalar_style_t,
-    event: &mut yaml_event_body_t,
-)
-    ensures { body_of event.new ≡ node_event None None (item.scalar value.old.items style) }
-{
-    match *event {
-        yaml_event_body_t::Scalar {
-            anchor: None,
-            tag: None,
-            value: ref mut last,
-            plain_implicit: ref mut plain,
-            quoted_implicit: ref mut quoted,
-            style: ref mut last_style,
-        } => {
-            mem::swap(last, value);
-            *plain = is_plain(style);
-            *quoted = !is_plain(style);
-            *last_style = style;
-        }
-        _ => new_bare(alloc, value, style, event),
-    }
-}
-
 // An empty scalar without properties.
 fn bare_empty(alloc: Global, event: &mut yaml_event_body_t)
     ensures { body_of event.new ≡ node_event None None item.empty }
@@ -210,9 +142,15 @@ fn bare(alloc: Global, shape: &mut Shape, event: &mut yaml_event_body_t)
 {
     match shape {
         Shape::Empty => bare_empty(alloc, event),
-        Shape::Scalar { value, style } => bare_scalar(alloc, value, *style, event),
-        Shape::Sequence(style) => start_sequence(event, *style),
-        Shape::Mapping(style) => start_mapping(event, *style),
+        Shape::Scalar { value, style } => bare_scalar(value, *style, event),
+        Shape::Sequence(style) => {
+            clear(event);
+            start_sequence(event, *style);
+        }
+        Shape::Mapping(style) => {
+            clear(event);
+            start_mapping(event, *style);
+        }
     }
 }
 
@@ -426,6 +364,38 @@ fn settle_document(
     Ok(())
 }
 
+// The event of a node behind an anchor alone.
+fn anchored(
+    alloc: Global,
+    anchor: &mut Option<Vec<u8>>,
+    shape: &mut Shape,
+    event: &mut yaml_event_body_t,
+)
+    ensures { body_of event.new ≡ node_event (text_of anchor.old) None (shape_of shape.old) }
+{
+    match shape {
+        Shape::Scalar { value, style } => named_scalar(anchor, value, *style, event),
+        _ => put(event, node(alloc, anchor.take(), None, shape)),
+    }
+}
+
+// The event of a node that has a tag.
+fn tagged(
+    alloc: Global,
+    anchor: &mut Option<Vec<u8>>,
+    tag: Vec<u8>,
+    shape: &mut Shape,
+    event: &mut yaml_event_body_t,
+)
+    ensures { body_of event.new ≡ node_event (text_of anchor.old) (Some tag.items)
+        (shape_of shape.old) }
+{
+    match shape {
+        Shape::Scalar { value, style } => scalar_by_tag(anchor, tag, value, *style, event),
+        _ => put(event, node(alloc, anchor.take(), Some(tag), shape)),
+    }
+}
+
 // The event of a node that has properties, and begins there. The anchor is moved.
 fn with_properties(
     alloc: Global,
@@ -433,16 +403,21 @@ fn with_properties(
     properties: &mut Properties,
     shape: &mut Shape,
     from: yaml_mark_t,
-) -> Result<yaml_event_body_t, Refusal>
+    event: &mut yaml_event_body_t,
+) -> Result<bool, Refusal>
     ensures { (ds : DirectivesSpec) → ds.tags ≡ tags.now
-        → SettlesNode (settle_item_body (item.node (text_of properties.old.anchor)
-        (tag_option_of properties.old.tag) (shape_of shape.old)) from ds) result ds }
+        → SettlesBody (settle_item_body (item.node (text_of properties.old.anchor)
+        (tag_option_of properties.old.tag) (shape_of shape.old)) from ds) result event.new ds }
 {
     match &mut properties.tag {
-        None => Ok(node(alloc, properties.anchor.take(), None, shape)),
+        None => {
+            anchored(alloc, &mut properties.anchor, shape, event);
+            Ok(true)
+        }
         Some(tag) => {
             let full = resolve(alloc, tags, tag, from)?;
-            Ok(node(alloc, properties.anchor.take(), Some(full), shape))
+            tagged(alloc, &mut properties.anchor, full, shape, event);
+            Ok(true)
         }
     }
 }
@@ -461,10 +436,12 @@ fn settle_node(
         result event.new ds }
 {
     match properties {
-        None => bare(alloc, shape, event),
-        Some(there) => put(event, with_properties(alloc, tags, there, shape, from)?),
+        None => {
+            bare(alloc, shape, event);
+            Ok(true)
+        }
+        Some(there) => with_properties(alloc, tags, there, shape, from, event),
     }
-    Ok(true)
 }
 
 // A box that is done with, if there is one, may be used again.

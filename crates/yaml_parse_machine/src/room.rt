@@ -1,29 +1,167 @@
 //! The room of texts that are done with.
 
+ghost use Rattle.std.specs.Prelude.{◌≡◌, true, vec_capacity};
+ghost use Rattle.yaml_parse_machine.specs.Bare.{OwnsNothing};
+
+use crate::taking::moved;
 use std::mem;
 use yaml_parse_model::{yaml_event_body_t, yaml_scalar_style_t, yaml_token_body_t};
 
-/// Has the slot of a token that is taken hold the text that a slot of events has from an earlier one, before that is written anew:
-/// the reader may read a later text into its room.
-// Inlined: mostly a comparison of the kind.
+/// Whether a slot of events holds no text.
+// Inlined: a look at the kind.
 #[inline(always)]
-pub(crate) fn hand_back(earlier: &mut yaml_event_body_t, slot: &mut yaml_token_body_t) {
-    match earlier {
-        yaml_event_body_t::Scalar { value, .. } => hand_over(value, slot),
-        _ => {}
+pub(crate) fn is_bare(event: &yaml_event_body_t) -> bool
+    ensures { result ≡ true → OwnsNothing event.now }
+{
+    match *event {
+        yaml_event_body_t::DocumentStart { .. } => false,
+        yaml_event_body_t::Alias { .. } => false,
+        yaml_event_body_t::Scalar { .. } => false,
+        yaml_event_body_t::SequenceStart {
+            anchor: None,
+            tag: None,
+            ..
+        } => true,
+        yaml_event_body_t::SequenceStart { .. } => false,
+        yaml_event_body_t::MappingStart {
+            anchor: None,
+            tag: None,
+            ..
+        } => true,
+        yaml_event_body_t::MappingStart { .. } => false,
+        _ => true,
     }
 }
 
-// A text that has room.
+/// Puts an event into a slot that holds no text.
+// Inlined: it is built in its place.
+#[inline(always)]
+pub(crate) fn put_bare(slot: &mut yaml_event_body_t, event: yaml_event_body_t)
+    requires { OwnsNothing slot.old }
+    ensures { slot.new ≡ event }
+{
+    forget_bare(mem::replace(slot, event));
+}
+
+// Lets go of an event that owns nothing: its drop would look at each kind of event.
+// Inlined: it does nothing.
+#[inline(always)]
+fn forget_bare(event: yaml_event_body_t)
+    requires { OwnsNothing event }
+{
+    mem::forget(event);
+}
+
+/// Takes the texts out of a slot of events, and has the slot of a token that is taken hold one of them: the reader may read a later
+/// text into its room.
+// Inlined: mostly a comparison of the kind, or some moves.
+#[inline(always)]
+pub(crate) fn vacate(earlier: &mut yaml_event_body_t, slot: &mut yaml_token_body_t)
+    ensures { OwnsNothing earlier.new }
+{
+    match *earlier {
+        yaml_event_body_t::Scalar {
+            anchor: None,
+            tag: None,
+            ref mut value,
+            ..
+        } => hand_over(emptied(value), slot),
+        _ => vacate_other(earlier, slot),
+    }
+}
+
+// The same, of another event than a scalar without properties.
+// Inlined: mostly a comparison of the kind.
+#[inline(always)]
+fn vacate_other(earlier: &mut yaml_event_body_t, slot: &mut yaml_token_body_t)
+    ensures { OwnsNothing earlier.new }
+{
+    if is_bare(earlier) {
+        return;
+    }
+    vacate_rare(earlier, slot);
+}
+
+// The same, of an event with a text.
+// Out of line: mostly it is a scalar without properties.
+#[inline(never)]
+fn vacate_rare(earlier: &mut yaml_event_body_t, slot: &mut yaml_token_body_t)
+    ensures { OwnsNothing earlier.new }
+{
+    match earlier {
+        yaml_event_body_t::Scalar { value, .. } => hand_over(moved(value), slot),
+        yaml_event_body_t::Alias { anchor } => hand_over(moved(anchor), slot),
+        _ => {}
+    }
+    *earlier = yaml_event_body_t::No;
+}
+
+// The text, of which one without room is left.
 // Inlined: some moves.
 #[inline(always)]
-fn hand_over(text: &mut Vec<u8>, slot: &mut yaml_token_body_t) {
+fn emptied(text: &mut Vec<u8>) -> Vec<u8>
+    ensures { vec_capacity text.new ≡ 0 }
+{
+    let alloc = *text.allocator();
+    mem::replace(text, Vec::new(alloc))
+}
+
+// Has the slot of a token that is taken hold the text, if that has room. Where the slot has one, that is let go.
+// Inlined: some moves.
+#[inline(always)]
+fn hand_over(text: Vec<u8>, slot: &mut yaml_token_body_t) {
     if text.capacity() == 0 {
         return;
     }
-    let alloc = *text.allocator();
-    *slot = yaml_token_body_t::Scalar {
-        value: mem::replace(text, Vec::new(alloc)),
+    match *slot {
+        yaml_token_body_t::TagDirective { .. } => put_text(text, slot),
+        yaml_token_body_t::Alias { .. } => put_text(text, slot),
+        yaml_token_body_t::Anchor { .. } => put_text(text, slot),
+        yaml_token_body_t::Tag { .. } => put_text(text, slot),
+        yaml_token_body_t::Scalar { .. } => put_text(text, slot),
+        _ => *slot = kept(text),
+    }
+}
+
+// A text in the slot of a token, in the place of others.
+// Out of line: the slot of an indicator has none.
+#[inline(never)]
+fn put_text(text: Vec<u8>, slot: &mut yaml_token_body_t) {
+    *slot = kept(text);
+}
+
+// A token that keeps a text.
+// Inlined: it is built in its slot.
+#[inline(always)]
+fn kept(text: Vec<u8>) -> yaml_token_body_t {
+    yaml_token_body_t::Scalar {
+        value: text,
         style: yaml_scalar_style_t::YAML_PLAIN_SCALAR_STYLE,
-    };
+    }
+}
+
+/// The text of a token that is taken, which keeps the room of a text that a slot of events has from an earlier one.
+pub(crate) fn exchanged(earlier: &mut yaml_event_body_t, text: &mut Vec<u8>) -> Vec<u8>
+    ensures { result.items ≡ text.old.items }
+{
+    match earlier {
+        yaml_event_body_t::Scalar { value, .. } => replaced(text, value),
+        yaml_event_body_t::Alias { anchor } => replaced(text, anchor),
+        yaml_event_body_t::SequenceStart {
+            anchor: Some(name),
+            ..
+        } => replaced(text, name),
+        yaml_event_body_t::MappingStart {
+            anchor: Some(name),
+            ..
+        } => replaced(text, name),
+        _ => moved(text),
+    }
+}
+
+// The text, in whose place another one is left, which leaves an empty one.
+fn replaced(text: &mut Vec<u8>, other: &mut Vec<u8>) -> Vec<u8>
+    ensures { result.items ≡ text.old.items }
+{
+    mem::replace(text, moved(other))
 }

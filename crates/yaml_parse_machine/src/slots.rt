@@ -3,7 +3,9 @@
 ghost use Rattle.std.specs.Prelude.{◌≡◌, None, true};
 ghost use Rattle.yaml_parse_model.specs.Events.{body_of};
 ghost use Rattle.yaml_parse_model.specs.Events as told;
+ghost use Rattle.yaml_parse_machine.specs.Bare.{OwnsNothing};
 
+use crate::room::put_bare;
 use yaml_parse_model::{yaml_event_body_t, yaml_mapping_style_t, yaml_sequence_style_t};
 
 // Another event in the slot.
@@ -19,26 +21,39 @@ pub(crate) fn put(slot: &mut yaml_event_body_t, event: yaml_event_body_t)
 // Inlined: it is built in the slot.
 #[inline(always)]
 pub(crate) fn start_sequence(slot: &mut yaml_event_body_t, style: yaml_sequence_style_t)
+    requires { OwnsNothing slot.old }
     ensures { body_of slot.new ≡ told.sequence_start None None true style }
 {
-    *slot = yaml_event_body_t::SequenceStart {
+    let start = yaml_event_body_t::SequenceStart {
         anchor: None,
         tag: None,
         implicit: true,
         style,
     };
+    put_bare(slot, start);
 }
 
 // A mapping without properties begins.
 // Inlined: it is built in the slot.
 #[inline(always)]
 pub(crate) fn start_mapping(slot: &mut yaml_event_body_t, style: yaml_mapping_style_t)
+    requires { OwnsNothing slot.old }
     ensures { body_of slot.new ≡ told.mapping_start None None true style }
 {
-    *slot = yaml_event_body_t::MappingStart {
+    let start = yaml_event_body_t::MappingStart {
         anchor: None,
         tag: None,
         implicit: true,
         style,
     };
+    put_bare(slot, start);
+}
+
+// No event in the slot.
+// Out of line: what the old one had is let go by a look at each kind.
+#[inline(never)]
+pub(crate) fn clear(slot: &mut yaml_event_body_t)
+    ensures { OwnsNothing slot.new }
+{
+    *slot = yaml_event_body_t::No;
 }

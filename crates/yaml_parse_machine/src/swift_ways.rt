@@ -18,8 +18,9 @@ ghost use Rattle.yaml_parse_machine.specs.Swiftly.{Adds, Opens, OpensIn, Awaits,
 use crate::choosing::wants;
 use crate::item::{Properties, State, Tag};
 use crate::keeping::room;
+use crate::named_ways::behind_properties;
 use crate::pushing::{drop_top, push, push_key, swap_top, topmost};
-use crate::room::hand_back;
+use crate::room::{exchanged, vacate};
 use crate::slots::{start_mapping, start_sequence};
 use crate::taking::moved;
 use crate::telling::{tell_alias, tell_end, tell_scalar, tell_start};
@@ -93,9 +94,9 @@ fn open_entries(stack: &mut Vec<State>, token: &mut yaml_token_t, event: &mut ya
         (stack_of stack.new.items) }
 {
     swap_top(stack, State::Entries(token.start_mark));
+    vacate(&mut event.body, &mut token.body);
     event.start_mark = token.start_mark;
     event.end_mark = token.end_mark;
-    hand_back(&mut event.body, &mut token.body);
     start_sequence(
         &mut event.body,
         yaml_sequence_style_t::YAML_BLOCK_SEQUENCE_STYLE,
@@ -111,9 +112,9 @@ fn open_pairs(stack: &mut Vec<State>, token: &mut yaml_token_t, event: &mut yaml
         (stack_of stack.new.items) }
 {
     swap_top(stack, State::Pairs(token.start_mark));
+    vacate(&mut event.body, &mut token.body);
     event.start_mark = token.start_mark;
     event.end_mark = token.end_mark;
-    hand_back(&mut event.body, &mut token.body);
     start_mapping(
         &mut event.body,
         yaml_mapping_style_t::YAML_BLOCK_MAPPING_STYLE,
@@ -160,20 +161,20 @@ fn await_node(stack: &mut Vec<State>, place: Site, properties: Box<Properties>) 
 fn keep_anchor(
     stack: &mut Vec<State>,
     place: Site,
-    name: &mut Vec<u8>,
+    name: Vec<u8>,
     from: yaml_mark_t,
     to: yaml_mark_t,
     spare: &mut Option<Box<Properties>>,
 ) -> Swift
     requires { 0 < vec_len stack.old }
     ensures { Awaits place
-        (record { anchor = Some name.old.items; tag = None; from = from; to = to })
+        (record { anchor = Some name.items; tag = None; from = from; to = to })
         (stack_of stack.old.items) result (stack_of stack.new.items) }
 {
     match room(spare, *name.allocator(), from, to) {
         Ok(empty) => {
             let mut properties = empty;
-            properties.anchor = Some(moved(name));
+            properties.anchor = Some(name);
             await_node(stack, place, properties)
         }
         Err(_) => Swift::Memory,
@@ -224,14 +225,10 @@ fn at_rare(
             tell_alias(value, token.start_mark, token.end_mark, event);
             Swift::Event
         }
-        yaml_token_body_t::Anchor { value } => keep_anchor(
-            stack,
-            place,
-            value,
-            token.start_mark,
-            token.end_mark,
-            spare,
-        ),
+        yaml_token_body_t::Anchor { value } => {
+            let name = exchanged(&mut event.body, value);
+            keep_anchor(stack, place, name, token.start_mark, token.end_mark, spare)
+        }
         yaml_token_body_t::Tag { handle, suffix } => {
             let tag = Tag {
                 handle: moved(handle),
@@ -534,6 +531,7 @@ pub fn take_swiftly(
     match *state {
         State::Optional(place, _) => at_optional(stack, place, token, event, spare),
         State::Colon(place) => at_colon(stack, place, token),
+        State::WithProperties(_, _) => behind_properties(stack, token, event, spare),
         State::Pairs(opener) => at_pairs(stack, opener, token, event),
         State::Entries(opener) => at_entries(stack, opener, token, event),
         State::Items(Brackets::Sequence, opener) => in_sequence(stack, opener, token, event),

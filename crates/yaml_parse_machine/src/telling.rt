@@ -1,17 +1,17 @@
 //! Events that the swift ways write where they are wanted.
 
 ghost use Rattle.std.specs.Prelude.{None};
-ghost use Rattle.yaml_parse_model.specs.Events.{event_of};
+ghost use Rattle.yaml_parse_model.specs.Events.{event_of, text_of};
 ghost use Rattle.yaml_parse_model.specs.Events as told;
 ghost use Rattle.yaml_parse_grammar.specs.Items.{item_at};
 ghost use Rattle.yaml_parse_grammar.specs.Items as item;
 ghost use Rattle.yaml_parse_grammar.specs.Trees.{flow_shape, end_event, event_at};
 ghost use Rattle.yaml_parse_machine.specs.Swiftly.{IsReady};
 
-use crate::resolving::bare_scalar;
-use crate::room::hand_back;
+use crate::item::Properties;
+use crate::room::{exchanged, put_bare, vacate};
+use crate::scalars::{bare_scalar, named_scalar};
 use crate::slots::{start_mapping, start_sequence};
-use crate::taking::moved;
 use yaml_parse_grammar::Brackets;
 use yaml_parse_model::{
     yaml_event_body_t, yaml_event_t, yaml_mapping_style_t, yaml_mark_t, yaml_scalar_style_t,
@@ -33,8 +33,59 @@ pub(crate) fn tell_scalar(
 {
     event.start_mark = from;
     event.end_mark = to;
-    let alloc = *value.allocator();
-    bare_scalar(alloc, value, style, &mut event.body);
+    bare_scalar(value, style, &mut event.body);
+}
+
+// The token's scalar as an event with that anchor, in whose place the last one of the slot may be left.
+pub(crate) fn tell_named_scalar(
+    properties: &mut Properties,
+    value: &mut Vec<u8>,
+    style: yaml_scalar_style_t,
+    to: yaml_mark_t,
+    event: &mut yaml_event_t,
+)
+    ensures { IsReady (item_at (item.node (text_of properties.old.anchor) None
+        (item.scalar value.old.items style)) properties.old.from to) (event_of event.new) }
+{
+    event.start_mark = properties.from;
+    event.end_mark = to;
+    named_scalar(&mut properties.anchor, value, style, &mut event.body);
+}
+
+// A flow collection with that anchor begins.
+pub(crate) fn tell_named_start(
+    brackets: Brackets,
+    properties: &mut Properties,
+    token: &mut yaml_token_t,
+    event: &mut yaml_event_t,
+)
+    ensures { IsReady (item_at (item.node (text_of properties.old.anchor) None
+        (flow_shape brackets)) properties.old.from token.old.end_mark) (event_of event.new) }
+{
+    event.start_mark = properties.from;
+    event.end_mark = token.end_mark;
+    vacate(&mut event.body, &mut token.body);
+    let anchor = properties.anchor.take();
+    match brackets {
+        Brackets::Sequence => {
+            let start = yaml_event_body_t::SequenceStart {
+                anchor,
+                tag: None,
+                implicit: true,
+                style: yaml_sequence_style_t::YAML_FLOW_SEQUENCE_STYLE,
+            };
+            put_bare(&mut event.body, start);
+        }
+        Brackets::Mapping => {
+            let start = yaml_event_body_t::MappingStart {
+                anchor,
+                tag: None,
+                implicit: true,
+                style: yaml_mapping_style_t::YAML_FLOW_MAPPING_STYLE,
+            };
+            put_bare(&mut event.body, start);
+        }
+    }
 }
 
 // A flow collection without properties begins.
@@ -44,9 +95,9 @@ pub(crate) fn tell_start(brackets: Brackets, token: &mut yaml_token_t, event: &m
     ensures { IsReady (item_at (item.node None None (flow_shape brackets)) token.old.start_mark
         token.old.end_mark) (event_of event.new) }
 {
+    vacate(&mut event.body, &mut token.body);
     event.start_mark = token.start_mark;
     event.end_mark = token.end_mark;
-    hand_back(&mut event.body, &mut token.body);
     match brackets {
         Brackets::Sequence => {
             start_sequence(
@@ -70,15 +121,15 @@ pub(crate) fn tell_end(brackets: Brackets, token: &mut yaml_token_t, event: &mut
     ensures { IsReady (event_at (end_event brackets) token.old.start_mark token.old.end_mark)
         (event_of event.new) }
 {
+    vacate(&mut event.body, &mut token.body);
     event.start_mark = token.start_mark;
     event.end_mark = token.end_mark;
-    hand_back(&mut event.body, &mut token.body);
     match brackets {
         Brackets::Sequence => {
-            event.body = yaml_event_body_t::SequenceEnd;
+            put_bare(&mut event.body, yaml_event_body_t::SequenceEnd);
         }
         Brackets::Mapping => {
-            event.body = yaml_event_body_t::MappingEnd;
+            put_bare(&mut event.body, yaml_event_body_t::MappingEnd);
         }
     }
 }
@@ -94,7 +145,6 @@ pub(crate) fn tell_alias(
 {
     event.start_mark = from;
     event.end_mark = to;
-    event.body = yaml_event_body_t::Alias {
-        anchor: moved(name),
-    };
+    let anchor = exchanged(&mut event.body, name);
+    event.body = yaml_event_body_t::Alias { anchor };
 }

@@ -23,6 +23,12 @@ returns-then-parser-clause-scans c =
 pub next_into-requires-clause-stands : goal.next_into-requires-clause-stands
 next_into-requires-clause-stands c = c.parser.invariant.machine (no_fault c.parser.inside.fault (sym c.is_some.ensures ∙ c.if-is_some.false))
 
+pub returns-in-Known-clause-scans : goal.returns-in-Known-clause-scans
+returns-in-Known-clause-scans c =
+    let s = c.parser.inside in
+    let n = c.next_into.new.machine in
+    rw (← c.parser.view_is) (takes_own s.fault s.holds (is_ready s.machine) (is_ready n) (token_of s.shown) (token_of c.next_into.new.token) (left_in s.machine) (left_in n) (length s.machine.waiting.items) (length n.waiting.items) (sym c.is_some.ensures ∙ c.if-is_some.false) c.if-parser.false c.in-Known.ensures.first)
+
 pub invariant_of-parser-in-Known : goal.invariant_of-parser-in-Known
 invariant_of-parser-in-Known c =
     let s = c.parser.inside in
@@ -37,12 +43,6 @@ pub invariant_of-parser-in-Refused : goal.invariant_of-parser-in-Refused
 invariant_of-parser-in-Refused c =
     let s = c.parser.inside in
     whole_refused c.keep.new.slot s.holds c.next_into.new.machine s.shown s.shown c.next_into.new.fault c.keep.ensures c.if-parser.false refl (c.parser.invariant.idle c.if-parser.false) c.in-Refused.ensures.denies.few
-
-pub returns-in-Known-clause-scans : goal.returns-in-Known-clause-scans
-returns-in-Known-clause-scans c =
-    let s = c.parser.inside in
-    let n = c.next_into.new.machine in
-    rw (← c.parser.view_is) (takes_own s.fault s.holds (is_ready s.machine) (is_ready n) (token_of s.shown) (token_of c.next_into.new.token) (left_in s.machine) (left_in n) (length s.machine.waiting.items) (length n.waiting.items) (sym c.is_some.ensures ∙ c.if-is_some.false) c.if-parser.false c.in-Known.ensures.first)
 
 pub returns-in-Nothing-clause-scans : goal.returns-in-Nothing-clause-scans
 returns-in-Nothing-clause-scans c =

@@ -18,37 +18,38 @@ with_shown false t c = c
 
 -- nothing comes behind a fault that was answered
 abbrev pub remaining_by : Option yaml_fault_t → Bool → Token → Remaining → Remaining
-remaining_by (Some f) holds t c = nothing
-remaining_by None holds t c = with_shown holds t c
+remaining_by (Some f) aside t c = nothing
+remaining_by None aside t c = with_shown aside t c
 
 abbrev pub ready_by : Option yaml_fault_t → Bool → Bool → Bool
-ready_by (Some f) holds ready = false
-ready_by None holds ready = holds || ready
+ready_by (Some f) aside ready = false
+ready_by None aside ready = aside || ready
 
 -- a session's view, by the fault that was answered, whether a token was put aside, that token, what is still to come of
 -- the reader, whether it knows the next token, and how many lexemes wait
 abbrev pub view_by : Option yaml_fault_t → Bool → Token → Remaining → Bool → ℕ → View
-view_by fault holds t c ready n = record {
-  remaining = remaining_by fault holds t c;
-  ready = ready_by fault holds ready;
+view_by fault aside t c ready n = record {
+  remaining = remaining_by fault aside t c;
+  ready = ready_by fault aside ready;
   answered = option_map (λ f. fault_of f) fault;
   waiting = n;
 }
 
 -- the same, by a session's parts
 abbrev pub view_of : Machine → Option yaml_fault_t → yaml_token_t → Bool → View
-view_of m fault shown holds = view_by fault holds (token_of shown) (left_in m) (is_ready m)
+view_of m fault shown aside = view_by fault aside (token_of shown) (left_in m) (is_ready m)
     (length m.waiting.items)
 
 pub record IsWhole (m : Machine) (fault : Option yaml_fault_t) (shown : yaml_token_t)
-    (holds : Bool) : Type 0 where
+    (aside : Bool) : Type 0 where
   pub machine : fault ≡ None → IsMachine m
-  pub over : (f : yaml_fault_t) → fault ≡ Some f → holds ≡ false
-  pub idle : holds ≡ false → token_of shown ≡ no_token
+  pub free : aside ≡ false → fault ≡ None
+  pub over : (f : yaml_fault_t) → fault ≡ Some f → token_of shown ≡ no_token
+  pub idle : aside ≡ false → token_of shown ≡ no_token
   pub short : length m.waiting.items ≤ 1025
 
 abbrev pub session_view : Inside → View
-session_view s = view_of s.machine s.fault s.shown s.holds
+session_view s = view_of s.machine s.fault s.shown s.aside
 
 abbrev pub IsSession : Inside → Type 0
-IsSession s = IsWhole s.machine s.fault s.shown s.holds
+IsSession s = IsWhole s.machine s.fault s.shown s.aside

@@ -1,6 +1,6 @@
 //! Reading on until the next token is known, or there is none.
 
-ghost use Rattle.std.specs.Prelude.{◌≡◌, true, false};
+ghost use Rattle.std.specs.Prelude.{◌≡◌, [], true, false};
 ghost use Rattle.yaml_scan_model.specs.Tokens.{token_of, body_of, no_token};
 ghost use Rattle.yaml_scan_machine.specs.scan_queue.Bare.{is_bare};
 ghost use Rattle.yaml_scan_model.specs.Faults.{fault_of};
@@ -53,21 +53,26 @@ const TEXTS_KEPT: usize = 64;
 /// With how much room each at most.
 const ROOM_KEPT: usize = 256;
 
-/// Lets go of the texts that a slot holds, and keeps the room of one.
+/// Lets go of the texts that a slot holds, and keeps the room of one. An empty text without room may be left.
 // Inlined: mostly a look at the kind.
 #[inline(always)]
 pub(crate) fn take_back(slot: &mut yaml_token_body_t, spares: &mut Vec<Vec<u8>>)
     ensures { is_bare (body_of slot.new) ≡ true }
 {
-    if has_text(slot) {
-        empty(slot, spares);
+    match slot {
+        yaml_token_body_t::Scalar { value, .. } => keep_room(taken(value), spares),
+        _ => {
+            if has_name(slot) {
+                let_go(slot, spares);
+            }
+        }
     }
 }
 
-/// Whether a slot holds a text.
+/// Whether a slot holds a text that is no scalar's.
 // Inlined: a look at the kind.
 #[inline(always)]
-fn has_text(slot: &yaml_token_body_t) -> bool
+fn has_name(slot: &yaml_token_body_t) -> bool
     ensures { result ≡ false → is_bare (body_of slot.now) ≡ true }
 {
     match slot {
@@ -80,50 +85,33 @@ fn has_text(slot: &yaml_token_body_t) -> bool
     }
 }
 
-/// Lets go of the texts that a slot holds, and keeps the room of one.
-// Inlined: some moves.
-#[inline(always)]
-fn empty(slot: &mut yaml_token_body_t, spares: &mut Vec<Vec<u8>>)
+/// Lets go of what a slot holds, and keeps the room of a name.
+// Out of line: mostly a slot holds a scalar, or no text.
+#[inline(never)]
+fn let_go(slot: &mut yaml_token_body_t, spares: &mut Vec<Vec<u8>>)
     ensures { is_bare (body_of slot.new) ≡ true }
 {
     match slot {
-        yaml_token_body_t::Scalar { value, .. } => {
-            let text = taken(value);
+        yaml_token_body_t::Alias { value } => keep_room(taken(value), spares),
+        yaml_token_body_t::Anchor { value } => keep_room(taken(value), spares),
+        _ => {
             *slot = yaml_token_body_t::No;
-            keep_room(text, spares);
         }
-        yaml_token_body_t::Alias { value } => {
-            let text = taken(value);
-            *slot = yaml_token_body_t::No;
-            keep_room(text, spares);
-        }
-        yaml_token_body_t::Anchor { value } => {
-            let text = taken(value);
-            *slot = yaml_token_body_t::No;
-            keep_room(text, spares);
-        }
-        _ => let_go(slot),
     }
 }
 
 /// The text, of which an empty one is left.
 // Inlined: some moves.
 #[inline(always)]
-fn taken(text: &mut Vec<u8>) -> Vec<u8> {
+fn taken(text: &mut Vec<u8>) -> Vec<u8>
+    ensures { text.new.items ≡ [] }
+{
     let alloc = *text.allocator();
     mem::replace(text, Vec::new(alloc))
 }
 
-/// Lets go of what a slot holds.
-// Out of line: mostly a slot holds a scalar, or no text.
-#[inline(never)]
-fn let_go(slot: &mut yaml_token_body_t)
-    ensures { is_bare (body_of slot.new) ≡ true }
-{
-    *slot = yaml_token_body_t::No;
-}
-
 /// Keeps the room of a text, where it has some and not too much, and not enough are kept.
+// The text is taken first: one whose capacity is asked where it lies would be moved by way of the stack.
 // Inlined: some moves.
 #[inline(always)]
 fn keep_room(text: Vec<u8>, spares: &mut Vec<Vec<u8>>) {
@@ -168,7 +156,9 @@ pub(crate) fn put(slot: &mut yaml_token_t, token: yaml_token_t)
 }
 
 /// Puts the empty token into a slot.
-// Out of line: in line the room of an empty token would be set to zero for each token.
+// Out of line: in line the room of an empty token would be set to zero for each token. Cold: it is put there behind the last
+// token, so a token that is known is asked for first.
+#[cold]
 #[inline(never)]
 pub(crate) fn put_empty(slot: &mut yaml_token_t)
     ensures { token_of slot.new ≡ no_token }

@@ -26,9 +26,10 @@ pub struct yaml_parser_t<'a> {
     machine: Machine<'a>,
     /// The fault that was answered: nothing comes behind it.
     fault: Option<yaml_fault_t>,
-    /// What a peek lends: the next token where `holds`, else the empty one.
+    /// What a peek lends: the token that was put aside, else the empty one.
     shown: yaml_token_t,
-    holds: bool,
+    /// The next token isn't the reader's: a peek put it aside, or a fault was answered.
+    aside: bool,
     /// Texts that were let go, whose room the next ones take.
     spares: Vec<Vec<u8>>,
 }
@@ -60,7 +61,7 @@ impl<'a> yaml_parser_t<'a> {
             machine: Machine::new(alloc, input, encoding),
             fault: None,
             shown: yaml_token_t::empty(),
-            holds: false,
+            aside: false,
             spares: Vec::new(alloc),
         }
     }
@@ -95,12 +96,12 @@ pub fn yaml_parser_scan_into(
         (fault_of fault.new) }
     ensures few { FewWait parser.new }
 {
-    if parser.fault.is_some() {
-        put_empty(token);
-        return true;
-    }
-    if parser.holds {
-        parser.holds = false;
+    if parser.aside {
+        if parser.fault.is_some() {
+            put_empty(token);
+            return true;
+        }
+        parser.aside = false;
         put_shown(token, &mut parser.shown);
         return true;
     }
@@ -110,6 +111,7 @@ pub fn yaml_parser_scan_into(
         Sought::Nothing => true,
         Sought::Refused => {
             keep(&mut parser.fault, fault);
+            parser.aside = true;
             false
         }
     }
@@ -125,7 +127,7 @@ pub fn yaml_parser_peek<'p>(parser: &'p mut yaml_parser_t) -> Result<&'p yaml_to
         &mut parser.machine,
         &mut parser.fault,
         &mut parser.shown,
-        &mut parser.holds,
+        &mut parser.aside,
         &mut parser.spares,
     )?;
     Ok(&parser.shown)
@@ -136,29 +138,27 @@ fn put_aside(
     machine: &mut Machine,
     kept: &mut Option<yaml_fault_t>,
     shown: &mut yaml_token_t,
-    holds: &mut bool,
+    aside: &mut bool,
     spares: &mut Vec<Vec<u8>>,
 ) -> Result<(), yaml_fault_t>
-    requires { IsWhole machine.old kept.old shown.old holds.old }
-    ensures stands { IsWhole machine.new kept.new shown.new holds.new }
-    ensures looks { Looks (view_of machine.old kept.old shown.old holds.old)
-        (view_of machine.new kept.new shown.new holds.new) (token_of shown.new) result }
+    requires { IsWhole machine.old kept.old shown.old aside.old }
+    ensures stands { IsWhole machine.new kept.new shown.new aside.new }
+    ensures looks { Looks (view_of machine.old kept.old shown.old aside.old)
+        (view_of machine.new kept.new shown.new aside.new) (token_of shown.new) result }
 {
-    if kept.is_some() {
-        return Ok(());
-    }
-    if *holds {
+    if *aside {
         return Ok(());
     }
     let mut fault = yaml_memory_fault(yaml_origin_t::Scanner);
     match next_into(machine, spares, shown, &mut fault) {
         Sought::Known => {
-            *holds = true;
+            *aside = true;
             Ok(())
         }
         Sought::Nothing => Ok(()),
         Sought::Refused => {
             keep(kept, &fault);
+            *aside = true;
             Err(fault)
         }
     }
@@ -169,10 +169,10 @@ pub fn yaml_parser_has_token(parser: &yaml_parser_t) -> bool
     ensures ready { result ≡ parser.now.ready }
     ensures first { result ≡ true → HasFirst parser.now.remaining.tokens }
 {
-    if parser.fault.is_some() {
-        return false;
-    }
-    if parser.holds {
+    if parser.aside {
+        if parser.fault.is_some() {
+            return false;
+        }
         return true;
     }
     parser.machine.has_token()
@@ -185,8 +185,8 @@ pub fn yaml_parser_skip(parser: &mut yaml_parser_t)
     ensures same { parser.new.answered ≡ parser.old.answered }
     ensures few { FewWait parser.new }
 {
-    if parser.holds {
-        parser.holds = false;
+    if parser.aside {
+        parser.aside = false;
         put(&mut parser.shown, yaml_token_t::empty());
         return;
     }
@@ -201,7 +201,9 @@ pub fn yaml_parser_fault<'p>(parser: &'p yaml_parser_t) -> Option<&'p yaml_fault
 }
 
 /// Keeps a fault.
-// Out of line: in line the room of its copy would be set to zero for each token.
+// Out of line: in line the room of its copy would be set to zero for each token. Cold: it is called once, so a token that
+// is known is asked for first.
+#[cold]
 #[inline(never)]
 fn keep(slot: &mut Option<yaml_fault_t>, fault: &yaml_fault_t)
     ensures { slot.new ≡ Some fault.now }

@@ -4,42 +4,43 @@ use Rattle.yaml_scan_model.specs.Tokens.{token_of}
 use Rattle.yaml_scan_machine.specs.State.{is_ready}
 use Rattle.yaml_scan_machine.specs.Scanned.{left_in}
 use Rattle.yaml_scan.specs.Session.{View}
-use Rattle.yaml_scan.proofs.SessionLemmas.{ready_fault, ready_own, left_held, left_own, whole_idle, whole_taken}
+use Rattle.yaml_scan.proofs.SessionLemmas.{none_some, ready_fault, ready_own, left_held, left_own, whole_idle, whole_taken}
 use Rattle.yaml_scan.proofs.session.yaml_parser_skip.Goals as goal
 
 pub returns-then-parser-clause-rest : goal.returns-then-parser-clause-rest
 returns-then-parser-clause-rest c =
     let s = c.parser.inside in
     let ready = ap (λ (v : View). v.ready) c.parser.view_is ∙ c.requires in
-    rw (← c.parser.view_is) (left_held s.fault s.holds (token_of s.shown) (token_of c.put.new.slot) (left_in s.machine) (ready_fault s.fault s.holds (is_ready s.machine) ready) c.if-parser.true)
+    rw (← c.parser.view_is) (left_held s.fault s.aside (token_of s.shown) (token_of c.put.new.slot) (left_in s.machine) (ready_fault s.fault s.aside (is_ready s.machine) ready) c.if-parser.true)
 
 pub take_token-requires-clause-stands : goal.take_token-requires-clause-stands
 take_token-requires-clause-stands c =
     let s = c.parser.inside in
     let ready = ap (λ (v : View). v.ready) c.parser.view_is ∙ c.requires in
-    c.parser.invariant.machine (ready_fault s.fault s.holds (is_ready s.machine) ready)
+    c.parser.invariant.machine (ready_fault s.fault s.aside (is_ready s.machine) ready)
 
 pub take_token-requires-clause-ready : goal.take_token-requires-clause-ready
 take_token-requires-clause-ready c =
     let s = c.parser.inside in
     let ready = ap (λ (v : View). v.ready) c.parser.view_is ∙ c.requires in
-    ready_own s.fault s.holds (is_ready s.machine) ready c.if-parser.false
+    ready_own s.fault s.aside (is_ready s.machine) ready c.if-parser.false
 
 pub returns-clause-rest : goal.returns-clause-rest
 returns-clause-rest c =
     let s = c.parser.inside in
     let ready = ap (λ (v : View). v.ready) c.parser.view_is ∙ c.requires in
-    rw (← c.parser.view_is) (left_own s.fault s.holds (token_of s.shown) (token_of c.take_token.result) (left_in s.machine) (left_in c.take_token.new.self) (ready_fault s.fault s.holds (is_ready s.machine) ready) c.if-parser.false c.take_token.ensures.gives)
+    rw (← c.parser.view_is) (left_own s.fault s.aside (token_of s.shown) (token_of c.take_token.result) (left_in s.machine) (left_in c.take_token.new.self) (ready_fault s.fault s.aside (is_ready s.machine) ready) c.if-parser.false c.take_token.ensures.gives)
 
 pub invariant_of-parser : goal.invariant_of-parser
 invariant_of-parser c =
     let s = c.parser.inside in
-    whole_idle s.fault s.holds s.machine s.shown c.put.new.slot c.parser.invariant (ap (λ (t : yaml_token_t). token_of t) c.put.ensures ∙ c.empty.ensures)
+    let ready = ap (λ (v : View). v.ready) c.parser.view_is ∙ c.requires in
+    whole_idle s.fault s.aside s.machine s.shown c.put.new.slot (none_some s.fault (ready_fault s.fault s.aside (is_ready s.machine) ready)) c.parser.invariant (ap (λ (t : yaml_token_t). token_of t) c.put.ensures ∙ c.empty.ensures)
 
 pub invariant_of-parser-2 : goal.invariant_of-parser-2
 invariant_of-parser-2 c =
     let s = c.parser.inside in
-    whole_taken s.fault s.holds s.machine c.take_token.new.self s.shown c.parser.invariant c.take_token.ensures.stands
+    whole_taken s.fault s.aside s.machine c.take_token.new.self s.shown c.parser.invariant c.take_token.ensures.stands
 
 pub returns-then-parser-clause-same : goal.returns-then-parser-clause-same
 returns-then-parser-clause-same c = ap (λ (v : View). v.answered) c.parser.view_is

@@ -9,8 +9,7 @@ use Rattle.yaml_scan_history.proofs.scan_model.MarksLemmas.{within}
 use Rattle.yaml_scan_history.specs.scan_words.Written.{are_gap, has_break, begins_lexeme}
 use Rattle.yaml_scan_history.specs.scan_words.Indicators.{is_document_start, is_document_end}
 use Rattle.yaml_scan_history.proofs.scan_words.HasLemmas.{Has, has}
-use Rattle.yaml_scan_history.specs.scan_scalars.Pieces.{Kept, Lines, lines, split_one, text as line_text, folded, value as value_of}
-use Rattle.yaml_scan_history.specs.scan_scalars.Ordinary.{kept_run}
+use Rattle.yaml_scan_history.specs.scan_scalars.Pieces.{Piece, Kept, Lines, lines, split_one, text as line_text, folded, value as value_of}
 use Rattle.yaml_scan_history.specs.scan_scalars.Plain.{is_bracket, is_indicator_byte, starts_plain, after_white, ends_at, Words, with_piece, words_from, follows, words, PlainText, plain_with, plain_text, plain_at}
 use Rattle.yaml_scan_history.specs.declared.kind.Kind.TheVariants as kinds
 use Rattle.yaml_scan_history.specs.Words.{indicator_of, kind_at}
@@ -20,6 +19,11 @@ use Rattle.yaml_scan_laws_plain.proofs.ValueBytes.{IsCalm, calm, kept_next}
 use Rattle.yaml_scan_laws_plain.proofs.GapWords.{none_to, pair, Stops, stops, gap_words}
 
 -- ---- the value of its bytes
+
+-- each of the bytes as a piece
+abbrev kept_run : List ℕ → List Piece
+kept_run [] = []
+kept_run (b ∷ bs) = Kept (b ∷ []) ∷ kept_run bs
 
 run_lines : (bs : List ℕ) → lines (kept_run bs) ≡ record { first = kept_run bs; others = [] }
 run_lines [] = refl

@@ -1,5 +1,5 @@
 -- Scalars of one run.
-use Rattle.std.proofs.Common.{◌≡◌, ◌≢◌, ℕ, zero, suc, nat_lt, ◌+◌, ◌-◌, ◌<◌, ◌≤◌, ◌==◌, ◌&&◌, ◌||◌, not, Bool, true, false, List, [], ◌∷◌, ◌++◌, length, Result, Ok, Err, refl, sym, ap, subst, ◌∙◌, ◌⊎◌, inl, inr, arith}
+use Rattle.std.proofs.Common.{◌≡◌, ◌≢◌, ℕ, zero, suc, nat_lt, ◌+◌, ◌-◌, ◌<◌, ◌≤◌, ◌==◌, ◌&&◌, ◌||◌, not, Bool, true, false, List, [], ◌∷◌, ◌++◌, length, Result, Ok, refl, sym, ap, subst, ◌∙◌, ◌⊎◌, inl, inr, arith}
 use Rattle.std.proofs.lemmas.List.{append-nil}
 use Rattle.std.proofs.lemmas.Bool.{cases_Bool}
 use Rattle.std.proofs.lemmas.Bool.Decides.{nat_tests}
@@ -14,13 +14,13 @@ use Rattle.yaml_scan_model.proofs.RunsLemmas.{past_more, past_stop, space_parts}
 use Rattle.yaml_scan_model.specs.Breaks.{is_document_indicator}
 use Rattle.yaml_scan_model.proofs.MarksLemmas.{no_break, within}
 use Rattle.yaml_scan_scalars.specs.Pieces.{Piece, Kept, value}
-use Rattle.yaml_scan_scalars.specs.Ordinary.{bytes_at, kept_run, IsRun}
-use Rattle.yaml_scan_scalars.specs.Quoted.{Closing, followed, pieces, with_front, quote_at, quoted_at, standing_at, valued}
+use Rattle.yaml_scan_scalars.specs.Ordinary.{bytes_at, run_pieces, ends_kept, IsRun}
+use Rattle.yaml_scan_scalars.specs.Quoted.{Closing, pieces, quote_at, quoted_at, standing_at, valued}
 use Rattle.yaml_scan_scalars.specs.Plain.{Ends, Words, PlainText, is_bracket, with_run, words_from, words, plain_with, plain_text, plain_at, spot_at, ends_at, leads, after_white}
 use Rattle.yaml_scan_scalars.proofs.PlainLemmas.{spot_ends, spot_blank, spot_break, seat_break, leads-blank}
 use Rattle.yaml_scan_scalars.proofs.PlainRunLemmas.{with_run_is, words_run}
 use Rattle.yaml_scan_scalars.proofs.QuotedLemmas.{standing_quote, quote_some}
-use Rattle.yaml_scan_scalars.proofs.RunLemmas.{pieces_run, value_run, few, no_mark, quoted_run}
+use Rattle.yaml_scan_scalars.proofs.RunLemmas.{pieces_run, value_run, run_ends, ends_bytes, first_last, few, no_mark, quoted_run}
 
 -- a quote that closes
 
@@ -41,8 +41,8 @@ pieces_close n quote text p e q d =
     let here : standing_at quote text p ≡ Closing = standing_quote quote text p (quote_no_mark quote text p e q) (omega arith) e ∙ quote_closes quote text p d in
     rw here refl
 
-run_value : (bs : List ℕ) → value (kept_run bs ++ []) ≡ bs
-run_value bs = value_run bs [] ∙ append-nil bs
+run_value : (bs : List ℕ) → ends_kept bs ≡ true → value (run_pieces bs ++ []) ≡ bs
+run_value bs h = value_run bs [] h ∙ append-nil bs
 
 -- a quoted scalar whose first run is followed by its closing quote
 pub quoted_one : (quote : ℕ) (text : List ℕ) (p : ℕ) (place : Place) → (quote ≡ 34) ⊎ (quote ≡ 39) → p < length text → IsRun text (p + 1) place
@@ -53,10 +53,10 @@ quoted_one quote text p place q inside run e d =
     let n : suc (length text - 1) ≡ length text = omega arith in
     let room : place.at - (p + 1) ≤ length text - 1 = few text (p + 1) (length text - 1) place run (omega arith) in
     let at : p + 1 + (place.at - (p + 1)) ≡ place.at = omega arith in
-    let all = pieces_run (place.at - (p + 1)) (length text - 1) quote text (p + 1) q room (λ k a b. run.ordinary k a (omega arith)) in
+    let all = pieces_run (place.at - (p + 1)) (length text - 1) quote text (p + 1) q room (λ k a b. run.each k a (omega arith)) in
     let close = pieces_close (length text - 1 - (place.at - (p + 1))) quote text place.at e q d in
     let bs = bytes_at text (p + 1) (place.at - (p + 1)) in
-    rw (n, at, close) at (ap (λ r. valued value r) all) ∙ ap (λ v. Ok (v, place.at + 1)) (run_value bs)
+    rw (n, at, close) at (ap (λ r. valued value r) all) ∙ ap (λ v. Ok (v, place.at + 1)) (run_value bs (run_ends text (p + 1) place run))
 
 pub closes_both : (quote b next : ℕ) → (b == quote && not (quote == 39 && next == 39)) ≡ true → (b ≡ quote) × ((quote == 39 && next == 39) ≡ false)
 closes_both quote b next h = (grind (arith, nat_tests), grind (arith, nat_tests))
@@ -67,32 +67,32 @@ words_end : (n : ℕ) (flow : Bool) (level : ℕ) (text : List ℕ) (p : ℕ) �
 unfolding words
 words_end n flow level text p h = rw h refl
 
-one_text : (text : List ℕ) (p d e q : ℕ) (broke : Bool)
+one_text : (text : List ℕ) (p d e q : ℕ) (broke : Bool) → (byte text (p + d) == 32) ≡ false
     → plain_text (with_run text p (suc d) (record { pieces = []; end = e; place = q; broke = broke })) ≡ record { value = bytes_at text p (suc d); end = p + suc d; place = q; broke = broke }
-one_text text p d e q broke = ap (λ w. plain_text w) (with_run_is text p d (record { pieces = []; end = e; place = q; broke = broke })) ∙ rw (run_value (bytes_at text p (suc d))) refl
+one_text text p d e q broke last = ap (λ w. plain_text w) (with_run_is text p d (record { pieces = []; end = e; place = q; broke = broke }) last) ∙ rw (run_value (bytes_at text p (suc d)) (ends_bytes text p d last)) refl
 
 -- a plain scalar whose first run is followed by white alone
-pub plain_then : (flow : Bool) (level : ℕ) (text : List ℕ) (p e q : ℕ) (broke : Bool) (place : Place) → p < length text → leads text (p + 1) ≡ false → IsRun text (p + 1) place
+pub plain_then : (flow : Bool) (level : ℕ) (text : List ℕ) (p e q : ℕ) (broke : Bool) (place : Place) → p < length text → leads text (p + 1) ≡ false → (byte text p == 32) ≡ false → IsRun text (p + 1) place
     → ((n : ℕ) → length text ≤ place.at + n → words (suc n) flow level text place.at ≡ Ok (record { pieces = []; end = e; place = q; broke = broke }))
     → plain_at flow level text p ≡ Ok (record { value = bytes_at text p (place.at - p); end = place.at; place = q; broke = broke })
-plain_then flow level text p e q broke place inside calm run follow =
+plain_then flow level text p e q broke place inside calm first run follow =
     let after = run.after in
     let n : suc (length text - 1) ≡ length text = omega arith in
     let d : place.at - (p + 1) ≤ length text - 1 = few text (p + 1) (length text - 1) place run (omega arith) in
     let at : p + 1 + (place.at - (p + 1)) ≡ place.at = omega arith in
     let long : place.at - p ≡ suc (place.at - (p + 1)) = omega arith in
     let here : p + suc (place.at - (p + 1)) ≡ place.at = omega arith in
-    let all = words_run (place.at - (p + 1)) (length text - 1) flow level text (p + 1) d (λ s. calm) (λ k a b. run.ordinary k a (omega arith)) in
+    let all = words_run (place.at - (p + 1)) (length text - 1) flow level text (p + 1) d (λ s. calm) (λ k a b. run.each k a (omega arith)) in
     let rest = follow (length text - 1 - (place.at - (p + 1))) (omega arith) in
-    let value = rw here at (one_text text p (place.at - (p + 1)) e q broke) in
+    let value = rw (here, first) at (one_text text p (place.at - (p + 1)) e q broke (first_last text p place run first)) in
     rw (n, at, rest) at (ap (λ r. plain_with plain_text (words_from (Kept (byte text p ∷ [])) (p + 1) r)) all)
     ∙ rw long (ap (λ (t : PlainText). Ok t) value)
 
-pub plain_one : (flow : Bool) (level : ℕ) (text : List ℕ) (p : ℕ) (place : Place) → p < length text → leads text (p + 1) ≡ false → IsRun text (p + 1) place
+pub plain_one : (flow : Bool) (level : ℕ) (text : List ℕ) (p : ℕ) (place : Place) → p < length text → leads text (p + 1) ≡ false → (byte text p == 32) ≡ false → IsRun text (p + 1) place
     → spot_at flow level text place.at ≡ Ends
     → plain_at flow level text p ≡ Ok (record { value = bytes_at text p (place.at - p); end = place.at; place = place.at; broke = false })
-plain_one flow level text p place inside calm run ends =
-    plain_then flow level text p place.at place.at false place inside calm run (λ n room. words_end n flow level text place.at ends)
+plain_one flow level text p place inside calm first run ends =
+    plain_then flow level text p place.at place.at false place inside calm first run (λ n room. words_end n flow level text place.at ends)
 
 colon_test : (b : ℕ) (mark white blank rest : Bool) → b ≡ 58 → blank ≡ true → ((b == 0 || mark) || ((b == 35 && white) || ((b == 58 && blank) || rest))) ≡ true
 colon_test b mark white blank rest e h = grind (arith, nat_tests)
@@ -144,11 +144,11 @@ pub some_quote : (quote b : ℕ) → b ≡ quote → (quote ≡ 34) ⊎ (quote �
 some_quote quote b e q = rw e q
 
 pub run_whole : (text : List ℕ) (p : ℕ) (place : Place) → IsRun text p place → IsRun text p (record { text = text; at = place.at })
-run_whole text p place run = record { same = refl; after = run.after; ordinary = run.ordinary }
+run_whole text p place run = record { same = refl; after = run.after; each = run.each; last = run.last }
 
 -- a quoted scalar whose first run was taken
 pub quoted_first : (quote : ℕ) (text : List ℕ) (p : ℕ) (new : List Piece → List ℕ) (place : Place) → (quote ≡ 34) ⊎ (quote ≡ 39) → p < length text → IsRun text (p + 1) place
-    → ((ps : List Piece) → new ps ≡ value (kept_run (bytes_at text (p + 1) (place.at - (p + 1))) ++ ps))
+    → ((ps : List Piece) → new ps ≡ value (run_pieces (bytes_at text (p + 1) (place.at - (p + 1))) ++ ps))
     → (m : ℕ) × (length text ≤ place.at + m) × (quoted_at quote text p ≡ valued new (pieces (suc m) quote text place.at))
 quoted_first quote text p new place q inside run same =
     let n : suc (length text - 1) ≡ length text = omega arith in
@@ -259,3 +259,6 @@ feed_breaks b c d h = rw (feed_width b c d h) (omega arith)
 
 pub less_of : (a b : ℕ) → nat_lt a b ≡ true → a < b
 less_of a b h = grind (arith, nat_tests)
+
+pub no_space : (b : ℕ) → is_blank b ≡ false → (b == 32) ≡ false
+no_space b h = grind (arith, nat_tests)

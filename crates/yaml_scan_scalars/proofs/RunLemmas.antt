@@ -1,5 +1,6 @@
 -- Runs of ordinary bytes.
-use Rattle.std.proofs.Common.{◌≡◌, ◌≢◌, ℕ, zero, suc, ◌+◌, ◌-◌, ◌<◌, ◌≤◌, ◌==◌, ◌&&◌, ◌||◌, Bool, true, false, List, [], ◌∷◌, ◌++◌, length, take, drop, Result, Ok, Err, refl, sym, ap, ◌∙◌, inl, inr, ◌⊎◌, append_assoc, arith}
+use Rattle.std.proofs.Common.{◌≡◌, ◌≢◌, ℕ, zero, suc, ◌+◌, ◌-◌, ◌<◌, ◌≤◌, ◌==◌, ◌&&◌, ◌||◌, Bool, true, false, List, [], ◌∷◌, ◌++◌, length, take, drop, Result, Ok, Err, refl, sym, ap, ◌∙◌, inl, inr, ◌⊎◌, not, append_assoc, arith}
+use Rattle.std.proofs.lemmas.Bool.{cases_Bool}
 use Rattle.std.proofs.lemmas.Bool.Decides.{nat_tests}
 use Rattle.std.proofs.lemmas.List.{drop_more, length-drop, length-take-le}
 use Rattle.yaml_scan_model.specs.Marks.{Place, byte, break_of, ends_of, is_blank}
@@ -9,12 +10,12 @@ use Rattle.yaml_scan_model.proofs.MarksLemmas.{no_break, within}
 use Rattle.yaml_scan_scalars.specs.declared.folding.Folding.{Folding}
 use Rattle.yaml_scan_scalars.specs.declared.folding.Gap.{Gap}
 use Rattle.yaml_scan_scalars.specs.declared.folding.Gap.TheVariants as gaps
-use Rattle.yaml_scan_scalars.specs.Pieces.{Piece, Kept, value}
+use Rattle.yaml_scan_scalars.specs.Pieces.{Piece, Kept, Blank, Line, lines, is_empty, folded, value}
 use Rattle.yaml_scan_scalars.specs.Resume.{resume, resumed}
-use Rattle.yaml_scan_scalars.specs.Ordinary.{is_ordinary, bytes_at, kept_run, IsRun, StandsAt, TookRun}
+use Rattle.yaml_scan_scalars.specs.Ordinary.{is_ordinary, is_narrow, is_spaced, in_run, bytes_at, piece_of, run_pieces, starts_kept, ends_kept, IsRun, StandsAt, TookRun}
 use Rattle.yaml_scan_scalars.specs.Quoted.{Pieces, with_front, pieces, valued, standing_at}
-use Rattle.yaml_scan_scalars.proofs.FoldingLemmas.{value-kept, keep_line, keep_feed, keep_kept}
-use Rattle.yaml_scan_scalars.proofs.QuotedLemmas.{standing_kept}
+use Rattle.yaml_scan_scalars.proofs.FoldingLemmas.{value-kept, blanks_of, keep_line, keep_feed, keep_kept}
+use Rattle.yaml_scan_scalars.proofs.QuotedLemmas.{standing_kept, standing_blank}
 
 -- what an ordinary byte is not
 
@@ -32,6 +33,7 @@ pub record IsOrdinary (b : ℕ) : Type 0 where
   pub no_dot : b ≢ 46
   pub no_hash : b ≢ 35
   pub no_colon : b ≢ 58
+  pub no_space : (b == 32) ≡ false
 
 pub ordinary_is : (b : ℕ) → is_ordinary b ≡ true → IsOrdinary b
 unfolding is_ordinary
@@ -49,6 +51,7 @@ ordinary_is b h = record {
   no_dot = grind (arith, nat_tests);
   no_hash = grind (arith, nat_tests);
   no_colon = grind (arith, nat_tests);
+  no_space = grind (arith, nat_tests);
 }
 
 pub ordinary_no_break : (b c d : ℕ) → is_ordinary b ≡ true → break_of b c d ≡ 0
@@ -64,6 +67,28 @@ no_mark b c d first last h k = grind (arith, nat_tests)
 pub ordinary_no_mark : (text : List ℕ) (p : ℕ) → is_ordinary (byte text p) ≡ true → is_document_indicator text p ≡ false
 unfolding is_document_indicator
 ordinary_no_mark text p h = let o = ordinary_is (byte text p) h in no_mark (byte text p) _ _ _ _ o.no_dash o.no_dot
+
+-- what stands in a run
+
+spaced_or : (o n : Bool) (b : ℕ) → (o || (b == 32 && n)) ≡ true → (o ≡ true) ⊎ ((b ≡ 32) × (n ≡ true))
+spaced_or true n b h = inl refl
+spaced_or false n b h = inr (grind (arith, nat_tests), grind (arith, nat_tests))
+
+pub run_parts : (text : List ℕ) (p : ℕ) → in_run text p ≡ true → (is_ordinary (byte text p) ≡ true) ⊎ ((byte text p ≡ 32) × (is_narrow (byte text (p + 1)) ≡ true))
+unfolding in_run
+run_parts text p h = spaced_or (is_ordinary (byte text p)) (is_narrow (byte text (p + 1))) (byte text p) h
+
+pub ordinary_in : (text : List ℕ) (p : ℕ) → is_ordinary (byte text p) ≡ true → in_run text p ≡ true
+unfolding in_run
+ordinary_in text p h = rw h refl
+
+or_more : (a b : Bool) → b ≡ true → (a || b) ≡ true
+or_more true b h = refl
+or_more false b h = h
+
+pub spaced_in : (text : List ℕ) (p : ℕ) → is_spaced text p ≡ true → in_run text p ≡ true
+unfolding in_run
+spaced_in text p h = or_more (is_ordinary (byte text p)) (is_spaced text p) h
 
 -- bytes of the text
 
@@ -89,25 +114,29 @@ bytes_long text p zero = refl
 bytes_long text p (suc d) = let more = bytes_long text (p + 1) d in omega arith
 
 pub run_start : (text : List ℕ) (p : ℕ) → IsRun text p (record { text = text; at = p })
-run_start text p = record { same = refl; after = omega arith; ordinary = λ k h l. absurd (omega arith) }
+run_start text p = record { same = refl; after = omega arith; each = λ k h l. absurd (omega arith); last = λ l. absurd (omega arith) }
 
 last_or : (k n : ℕ) → k < n + 1 → (k < n) ⊎ (k ≡ n)
 last_or k n h = grind arith
 
-further : (text : List ℕ) (p : ℕ) (place : Place) → IsRun text p place → is_ordinary (byte text place.at) ≡ true → (k : ℕ) → p ≤ k → k < place.at + 1 → is_ordinary (byte text k) ≡ true
-further text p place r h k a b =
-    elim (last_or k place.at b) [
-      | inl l ↦ r.ordinary k a l
+pub each_more : (text : List ℕ) (p q : ℕ) → ((k : ℕ) → p ≤ k → k < q → in_run text k ≡ true) → in_run text q ≡ true → (k : ℕ) → p ≤ k → k < q + 1 → in_run text k ≡ true
+each_more text p q r h k a b =
+    elim (last_or k q b) [
+      | inl l ↦ r k a l
       | inr e ↦ rw e h
     ]
 
 pub run_more : (text : List ℕ) (p : ℕ) (place : Place) → IsRun text p place → is_ordinary (byte text place.at) ≡ true → IsRun text p (record { text = place.text; at = place.at + 1 })
 run_more text p place r h =
     let after = r.after in
-    record { same = r.same; after = omega arith; ordinary = λ k a b. further text p place r h k a b }
+    let e : place.at + 1 - 1 ≡ place.at = omega arith in
+    record { same = r.same; after = omega arith; each = each_more text p place.at r.each (ordinary_in text place.at h); last = λ l. rw e h }
 
 less_or : (k n : ℕ) → (k < n) ⊎ (n ≤ k)
 less_or k n = grind arith
+
+pub same_or : (p q : ℕ) → p ≤ q → (q ≡ p) ⊎ (p < q)
+same_or p q h = grind arith
 
 -- a run and the run behind it
 pub run_join : (text : List ℕ) (p : ℕ) (place last : Place) → IsRun text p place → IsRun place.text place.at last → IsRun text p last
@@ -117,14 +146,15 @@ run_join text p place last r s =
     record {
       same = s.same ∙ r.same;
       after = omega arith;
-      ordinary = λ k a b. elim (less_or k place.at) [
-        | inl l ↦ r.ordinary k a l
-        | inr g ↦ rw r.same at (s.ordinary k g b)
+      each = λ k a b. elim (less_or k place.at) [
+        | inl l ↦ r.each k a l
+        | inr g ↦ rw r.same at (s.each k g b)
+      ];
+      last = λ b. elim (same_or place.at last.at more) [
+        | inl e ↦ rw e (r.last (omega arith))
+        | inr l ↦ rw r.same at (s.last l)
       ];
     }
-
-pub same_or : (p q : ℕ) → p ≤ q → (q ≡ p) ⊎ (p < q)
-same_or p q h = grind arith
 
 -- a run is inside the text
 pub run_inside : (text : List ℕ) (p : ℕ) (place : Place) → IsRun text p place → (place.at ≡ p) ⊎ (place.at ≤ length text)
@@ -133,7 +163,7 @@ run_inside text p place r =
     elim (same_or p place.at after) [
       | inl e ↦ inl e
       | inr l ↦
-          let last = ordinary_is (byte text (place.at - 1)) (r.ordinary (place.at - 1) (omega arith) (omega arith)) in
+          let last = ordinary_is (byte text (place.at - 1)) (r.last l) in
           let here = within text (place.at - 1) last.some in
           inr (omega arith)
     ]
@@ -175,11 +205,92 @@ run_some text p place r h =
     let l = bytes_long text p (place.at - p) in
     omega (arith, h)
 
+-- the last byte of a run is no space
+
+pub ends_bytes : (text : List ℕ) (p d : ℕ) → (byte text (p + d) == 32) ≡ false → ends_kept (bytes_at text p (suc d)) ≡ true
+unfolding bytes_at
+ends_bytes text p zero h =
+    let e : p + 0 ≡ p = omega arith in
+    rw (rw e at h) refl
+ends_bytes text p (suc d) h =
+    let e : p + suc d ≡ p + 1 + d = omega arith in
+    ends_bytes text (p + 1) d (rw e at h)
+
+pub run_ends : (text : List ℕ) (p : ℕ) (place : Place) → IsRun text p place → ends_kept (bytes_at text p (place.at - p)) ≡ true
+run_ends text p place run =
+    let after = run.after in
+    elim (same_or p place.at after) [
+      | inl e ↦ let z : place.at - p ≡ 0 = omega arith in rw (z, bytes_none text p) refl
+      | inr l ↦
+          let d : place.at - p ≡ suc (place.at - 1 - p) = omega arith in
+          let e : p + (place.at - 1 - p) ≡ place.at - 1 = omega arith in
+          rw d (ends_bytes text p (place.at - 1 - p) (rw e (ordinary_is _ (run.last l)).no_space))
+    ]
+
+-- nor that of a run with the byte before it
+pub first_last : (text : List ℕ) (p : ℕ) (place : Place) → IsRun text (p + 1) place → (byte text p == 32) ≡ false → (byte text (p + (place.at - (p + 1))) == 32) ≡ false
+first_last text p place run h =
+    let after = run.after in
+    elim (same_or (p + 1) place.at after) [
+      | inl s ↦ let e : p + (place.at - (p + 1)) ≡ p = omega arith in rw e h
+      | inr l ↦
+          let e : p + (place.at - (p + 1)) ≡ place.at - 1 = omega arith in
+          rw e (ordinary_is _ (run.last l)).no_space
+    ]
+
+starts_first : (b : ℕ) (bs : List ℕ) → (b == 32) ≡ false → starts_kept (b ∷ bs) ≡ true
+starts_first b bs h = rw h refl
+
+pub starts_bytes : (text : List ℕ) (p d : ℕ) → (byte text p == 32) ≡ false → starts_kept (bytes_at text p d) ≡ true
+starts_bytes text p zero h = rw (bytes_none text p) refl
+starts_bytes text p (suc d) h = rw (bytes_more text p d) (starts_first (byte text p) (bytes_at text (p + 1) d) h)
+
 -- a run as one piece
 
-pub value_run : (bs : List ℕ) (ps : List Piece) → value (kept_run bs ++ ps) ≡ bs ++ value ps
-value_run [] ps = refl
-value_run (b ∷ bs) ps = value-kept [] (b ∷ []) (kept_run bs ++ ps) ∙ ap (λ x. b ∷ x) (value_run bs ps)
+is_kept : (b : ℕ) → (b == 32) ≡ false → piece_of b ≡ Kept (b ∷ [])
+is_kept b h = rw h refl
+
+not_true : (b : Bool) → not b ≡ true → b ≡ false
+not_true true h = cc
+not_true false h = refl
+
+kept_some : (b : ℕ) (bs : List ℕ) (ps : List Piece) → ends_kept (b ∷ bs) ≡ true → is_empty (lines (run_pieces (b ∷ bs) ++ ps)).first ≡ false
+kept_some b [] ps h = rw (not_true (b == 32) h) refl
+kept_some b (c ∷ bs) ps h = elim (cases_Bool (b == 32)) [
+  | inl s ↦ let more = kept_some c bs ps h in rw s more
+  | inr n ↦ rw n refl
+]
+
+folded_blank : (b : ℕ) (l : Line) (ls : List (List ℕ × Line)) → is_empty l ≡ false → folded (Blank b ∷ l) ls ≡ b ∷ folded l ls
+folded_blank b l [] h = refl
+folded_blank b l (next ∷ ls) h = rw h refl
+
+value_blank : (b : ℕ) (ps : List Piece) → is_empty (lines ps).first ≡ false → value (Blank b ∷ ps) ≡ b ∷ value ps
+value_blank b ps h = folded_blank b (lines ps).first (lines ps).others h
+
+blanks_some : (bl : List ℕ) (ps : List Piece) → is_empty (lines ps).first ≡ false → is_empty (lines (blanks_of bl ++ ps)).first ≡ false
+blanks_some [] ps h = h
+blanks_some (b ∷ bl) ps h = blanks_some bl ps h
+
+value_blanks : (bl : List ℕ) (ps : List Piece) → is_empty (lines ps).first ≡ false → value (blanks_of bl ++ ps) ≡ bl ++ value ps
+value_blanks [] ps h = refl
+value_blanks (b ∷ bl) ps h = value_blank b (blanks_of bl ++ ps) (blanks_some bl ps h) ∙ ap (λ x. b ∷ x) (value_blanks bl ps h)
+
+pub value_run : (bs : List ℕ) (ps : List Piece) → ends_kept bs ≡ true → value (run_pieces bs ++ ps) ≡ bs ++ value ps
+value_run [] ps h = refl
+value_run (b ∷ []) ps h =
+    let n = not_true (b == 32) h in
+    rw n (value-kept [] (b ∷ []) ps)
+value_run (b ∷ c ∷ bs) ps h =
+    let more = value_run (c ∷ bs) ps h in
+    elim (cases_Bool (b == 32)) [
+      | inl s ↦ rw s (value_blank b (run_pieces (c ∷ bs) ++ ps) (kept_some c bs ps h) ∙ ap (λ x. b ∷ x) more)
+      | inr n ↦ rw n (value-kept [] (b ∷ []) (run_pieces (c ∷ bs) ++ ps) ∙ ap (λ x. b ∷ x) more)
+    ]
+
+ends_tail : (b : ℕ) (bs : List ℕ) → ends_kept (b ∷ bs) ≡ true → ends_kept bs ≡ true
+ends_tail b [] h = refl
+ends_tail b (c ∷ bs) h = h
 
 abbrev stem : List ℕ → List ℕ → Gap → List ℕ
 stem done blanks gaps.Line = done ++ blanks
@@ -195,20 +306,39 @@ line_value : (done : List ℕ) (ps : List Piece) → resumed done [] gaps.Line p
 unfolding resumed
 line_value done ps = refl
 
-pub resume_run : (f : Folding) (b : ℕ) (bs : List ℕ) (ps : List Piece) → resume f (Kept (b ∷ bs) ∷ ps) ≡ resume f (kept_run (b ∷ bs) ++ ps)
-resume_run f b bs ps =
+-- behind a break no space comes first
+resume_kept : (f : Folding) (b : ℕ) (bs : List ℕ) (ps : List Piece) → (b == 32) ≡ false → ends_kept bs ≡ true → resume f (Kept (b ∷ bs) ∷ ps) ≡ resume f (run_pieces (b ∷ bs) ++ ps)
+resume_kept f b bs ps n h =
     let s = stem f.done.items f.blanks.items f.gap in
     let left : resume f (Kept (b ∷ bs) ∷ ps) ≡ s ++ (b ∷ (bs ++ value ps)) =
     kept_stem f.done.items f.blanks.items (b ∷ bs) f.gap ps ∙ line_value (s ++ (b ∷ bs)) ps ∙ append_assoc s (b ∷ bs) (value ps) in
-    let right : resume f (kept_run (b ∷ bs) ++ ps) ≡ s ++ (b ∷ value (kept_run bs ++ ps)) =
-    kept_stem f.done.items f.blanks.items (b ∷ []) f.gap (kept_run bs ++ ps) ∙ line_value (s ++ (b ∷ [])) (kept_run bs ++ ps) ∙ append_assoc s (b ∷ []) (value (kept_run bs ++ ps)) in
-    left ∙ sym (right ∙ ap (λ x. s ++ (b ∷ x)) (value_run bs ps))
+    let right : resume f (Kept (b ∷ []) ∷ (run_pieces bs ++ ps)) ≡ s ++ (b ∷ value (run_pieces bs ++ ps)) =
+    kept_stem f.done.items f.blanks.items (b ∷ []) f.gap (run_pieces bs ++ ps) ∙ line_value (s ++ (b ∷ [])) (run_pieces bs ++ ps) ∙ append_assoc s (b ∷ []) (value (run_pieces bs ++ ps)) in
+    rw n (left ∙ sym (right ∙ ap (λ x. s ++ (b ∷ x)) (value_run bs ps h)))
 
-pub resume_bytes : (f : Folding) (bs : List ℕ) (ps : List Piece) → 0 < length bs → resume f (Kept bs ∷ ps) ≡ resume f (kept_run bs ++ ps)
-resume_bytes f [] ps h = absurd (omega arith)
-resume_bytes f (b ∷ bs) ps h = resume_run f b bs ps
+resumed_line : (done blanks : List ℕ) (ps : List Piece) → is_empty (lines ps).first ≡ false → resumed done blanks gaps.Line ps ≡ done ++ (blanks ++ value ps)
+unfolding resumed
+resumed_line done blanks ps h = ap (λ x. done ++ x) (value_blanks blanks ps h)
 
-pub resume_none : (f : Folding) (bs : List ℕ) (ps : List Piece) → length bs ≡ 0 → resume f ps ≡ resume f (kept_run bs ++ ps)
+resume_line : (f : Folding) (b : ℕ) (bs : List ℕ) (ps : List Piece) → f.gap ≡ gaps.Line → ends_kept (b ∷ bs) ≡ true → resume f (Kept (b ∷ bs) ∷ ps) ≡ resume f (run_pieces (b ∷ bs) ++ ps)
+resume_line f b bs ps g h =
+    let left = resumed_line f.done.items f.blanks.items (Kept (b ∷ bs) ∷ ps) refl in
+    let right = resumed_line f.done.items f.blanks.items (run_pieces (b ∷ bs) ++ ps) (kept_some b bs ps h) in
+    let one = value-kept [] (b ∷ bs) ps in
+    let all = value_run (b ∷ bs) ps h in
+    rw g (left ∙ ap (λ x. f.done.items ++ (f.blanks.items ++ x)) (one ∙ sym all) ∙ sym right)
+
+pub resume_run : (f : Folding) (b : ℕ) (bs : List ℕ) (ps : List Piece) → (f.gap ≡ gaps.Line) ⊎ (starts_kept (b ∷ bs) ≡ true) → ends_kept (b ∷ bs) ≡ true
+    → resume f (Kept (b ∷ bs) ∷ ps) ≡ resume f (run_pieces (b ∷ bs) ++ ps)
+resume_run f b bs ps (inl g) h = resume_line f b bs ps g h
+resume_run f b bs ps (inr s) h = resume_kept f b bs ps (not_true (b == 32) s) (ends_tail b bs h)
+
+pub resume_bytes : (f : Folding) (bs : List ℕ) (ps : List Piece) → (f.gap ≡ gaps.Line) ⊎ (starts_kept bs ≡ true) → ends_kept bs ≡ true → 0 < length bs
+    → resume f (Kept bs ∷ ps) ≡ resume f (run_pieces bs ++ ps)
+resume_bytes f [] ps s e h = absurd (omega arith)
+resume_bytes f (b ∷ bs) ps s e h = resume_run f b bs ps s e
+
+pub resume_none : (f : Folding) (bs : List ℕ) (ps : List Piece) → length bs ≡ 0 → resume f ps ≡ resume f (run_pieces bs ++ ps)
 resume_none f [] ps h = refl
 resume_none f (b ∷ bs) ps h = absurd (omega (arith, h))
 
@@ -221,16 +351,42 @@ not_quote : (quote b : ℕ) → b ≢ 34 → b ≢ 39 → (quote ≡ 34) ⊎ (qu
 not_quote quote b h k (inl e) = omega arith
 not_quote quote b h k (inr e) = omega arith
 
-standing_ordinary : (quote : ℕ) (text : List ℕ) (p : ℕ) → (quote ≡ 34) ⊎ (quote ≡ 39) → is_ordinary (byte text p) ≡ true → standing_at quote text p ≡ Pieces (Kept (byte text p ∷ []) ∷ []) (p + 1)
+standing_ordinary : (quote : ℕ) (text : List ℕ) (p : ℕ) → (quote ≡ 34) ⊎ (quote ≡ 39) → is_ordinary (byte text p) ≡ true → standing_at quote text p ≡ Pieces (piece_of (byte text p) ∷ []) (p + 1)
 standing_ordinary quote text p q h =
     let o = ordinary_is (byte text p) h in
     let some = o.some in
-    standing_kept quote text p (ordinary_no_mark text p h) (omega arith) (not_quote quote (byte text p) o.no_double o.no_single q) (ordinary_no_break _ _ _ h) o.no_blank (no_escape quote (byte text p) o.no_backslash)
+    rw o.no_space (standing_kept quote text p (ordinary_no_mark text p h) (omega arith) (not_quote quote (byte text p) o.no_double o.no_single q) (ordinary_no_break _ _ _ h) o.no_blank (no_escape quote (byte text p) o.no_backslash))
 
-pieces_kept : (n quote : ℕ) (text : List ℕ) (p : ℕ) → standing_at quote text p ≡ Pieces (Kept (byte text p ∷ []) ∷ []) (p + 1)
-    → pieces (suc n) quote text p ≡ with_front (Kept (byte text p ∷ []) ∷ []) (pieces n quote text (p + 1))
+pub record IsSpace (b : ℕ) : Type 0 where
+  pub same : (b == 32) ≡ true
+  pub blank : is_blank b ≡ true
+  pub no_tab : (b == 9) ≡ false
+
+pub space_is : (b : ℕ) → b ≡ 32 → IsSpace b
+space_is b h = record { same = grind (arith, nat_tests); blank = grind (arith, nat_tests); no_tab = grind (arith, nat_tests) }
+
+space_no_mark : (text : List ℕ) (p : ℕ) → byte text p ≡ 32 → is_document_indicator text p ≡ false
+unfolding is_document_indicator
+space_no_mark text p h = no_mark (byte text p) _ _ _ _ (omega arith) (omega arith)
+
+pub space_no_break : (b c d : ℕ) → b ≡ 32 → break_of b c d ≡ 0
+space_no_break b c d h = no_break b c d (omega arith) (omega arith) (omega arith) (omega arith)
+
+standing_space : (quote : ℕ) (text : List ℕ) (p : ℕ) → (quote ≡ 34) ⊎ (quote ≡ 39) → byte text p ≡ 32 → standing_at quote text p ≡ Pieces (piece_of (byte text p) ∷ []) (p + 1)
+standing_space quote text p q h =
+    let s = space_is (byte text p) h in
+    rw s.same (standing_blank quote text p (space_no_mark text p h) (omega arith) (not_quote quote (byte text p) (omega arith) (omega arith) q) (space_no_break _ _ _ h) s.blank)
+
+standing_run : (quote : ℕ) (text : List ℕ) (p : ℕ) → (quote ≡ 34) ⊎ (quote ≡ 39) → in_run text p ≡ true → standing_at quote text p ≡ Pieces (piece_of (byte text p) ∷ []) (p + 1)
+standing_run quote text p q h = elim (run_parts text p h) [
+  | inl o ↦ standing_ordinary quote text p q o
+  | inr s ↦ standing_space quote text p q s.0
+]
+
+pieces_one : (n quote : ℕ) (text : List ℕ) (p : ℕ) (x : Piece) → standing_at quote text p ≡ Pieces (x ∷ []) (p + 1)
+    → pieces (suc n) quote text p ≡ with_front (x ∷ []) (pieces n quote text (p + 1))
 unfolding pieces
-pieces_kept n quote text p h = rw h refl
+pieces_one n quote text p x h = rw h refl
 
 front_none : (r : Result (List Piece × ℕ) Wrong) → r ≡ with_front [] r
 front_none (Ok x) = refl
@@ -240,8 +396,8 @@ front_more : (x : Piece) (qs : List Piece) (r : Result (List Piece × ℕ) Wrong
 front_more x qs (Ok y) = refl
 front_more x qs (Err w) = refl
 
-pub pieces_run : (d n quote : ℕ) (text : List ℕ) (p : ℕ) → (quote ≡ 34) ⊎ (quote ≡ 39) → d ≤ n → ((k : ℕ) → p ≤ k → k < p + d → is_ordinary (byte text k) ≡ true)
-    → pieces (suc n) quote text p ≡ with_front (kept_run (bytes_at text p d)) (pieces (suc (n - d)) quote text (p + d))
+pub pieces_run : (d n quote : ℕ) (text : List ℕ) (p : ℕ) → (quote ≡ 34) ⊎ (quote ≡ 39) → d ≤ n → ((k : ℕ) → p ≤ k → k < p + d → in_run text k ≡ true)
+    → pieces (suc n) quote text p ≡ with_front (run_pieces (bytes_at text p d)) (pieces (suc (n - d)) quote text (p + d))
 pieces_run zero n quote text p q h o =
     let e : n - 0 ≡ n = omega arith in
     let f : p + 0 ≡ p = omega arith in
@@ -250,10 +406,10 @@ pieces_run (suc d) zero quote text p q h o = absurd (omega arith)
 pieces_run (suc d) (suc n) quote text p q h o =
     let e : suc n - suc d ≡ n - d = omega arith in
     let f : p + suc d ≡ p + 1 + d = omega arith in
-    let here = standing_ordinary quote text p q (o p (omega arith) (omega arith)) in
+    let here = standing_run quote text p q (o p (omega arith) (omega arith)) in
     let more = pieces_run d n quote text (p + 1) q (omega arith) (λ k a b. o k (omega arith) (omega arith)) in
-    rw (e, f, bytes_more text p d) (pieces_kept (suc n) quote text p here ∙ ap (λ r. with_front (Kept (byte text p ∷ []) ∷ []) r) more
-    ∙ front_more (Kept (byte text p ∷ [])) (kept_run (bytes_at text (p + 1) d)) (pieces (suc (n - d)) quote text (p + 1 + d)))
+    rw (e, f, bytes_more text p d) (pieces_one (suc n) quote text p (piece_of (byte text p)) here ∙ ap (λ r. with_front (piece_of (byte text p) ∷ []) r) more
+    ∙ front_more (piece_of (byte text p)) (run_pieces (bytes_at text (p + 1) d)) (pieces (suc (n - d)) quote text (p + 1 + d)))
 
 front : (old new : List Piece → List ℕ) (qs : List Piece) (r : Result (List Piece × ℕ) Wrong) → ((ps : List Piece) → new ps ≡ old (qs ++ ps)) → valued old (with_front qs r) ≡ valued new r
 front old new qs (Ok x) h = rw (h x.0) refl
@@ -273,5 +429,5 @@ quoted_run n quote text p old new place q (run, same) room =
     let after = run.after in
     let d : place.at - p ≤ n = few text p n place run room in
     let at : p + (place.at - p) ≡ place.at = omega arith in
-    let all = pieces_run (place.at - p) n quote text p q d (λ k a b. run.ordinary k a (omega arith)) in
-    (n - (place.at - p), omega arith, rw at at (ap (λ r. valued old r) all ∙ front old new (kept_run (bytes_at text p (place.at - p))) (pieces (suc (n - (place.at - p))) quote text (p + (place.at - p))) same))
+    let all = pieces_run (place.at - p) n quote text p q d (λ k a b. run.each k a (omega arith)) in
+    (n - (place.at - p), omega arith, rw at at (ap (λ r. valued old r) all ∙ front old new (run_pieces (bytes_at text p (place.at - p))) (pieces (suc (n - (place.at - p))) quote text (p + (place.at - p))) same))

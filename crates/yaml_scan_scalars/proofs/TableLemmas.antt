@@ -1,12 +1,12 @@
 -- The table of ordinary bytes, and the marks behind a run of them.
-use Rattle.std.proofs.Common.{◌≡◌, ℕ, zero, suc, ◌+◌, ◌<◌, ◌≤◌, if◌then◌else◌, Bool, true, false, ◌&&◌, ◌∙◌, List, length, nat_lt, refl, inl, inr, arith}
+use Rattle.std.proofs.Common.{◌≡◌, ℕ, zero, suc, ◌+◌, ◌<◌, ◌≤◌, if◌then◌else◌, Bool, true, false, ◌&&◌, ◌||◌, ◌==◌, ◌-◌, ◌∙◌, List, length, nat_lt, refl, sym, inl, inr, ◌⊎◌, arith}
 use Rattle.std.proofs.lemmas.Bool.Decides.{nat_tests}
 use Rattle.std.specs.Bool.{beq}
-use Rattle.std.proofs.lemmas.Bool.{cases_Bool, cases_eq, cases_lt, and_parts}
-use Rattle.yaml_scan_model.specs.Marks.{byte, ends_break, splits_break, starts, line_at, column_at}
+use Rattle.std.proofs.lemmas.Bool.{cases_Bool, cases_eq, cases_lt, and_parts, true≢false}
+use Rattle.yaml_scan_model.specs.Marks.{byte, break_of, ends_break, splits_break, starts, line_at, column_at}
 use Rattle.yaml_scan_model.proofs.MarksLemmas.{within, end_next, split_next, line_more, column_more, column_same}
-use Rattle.yaml_scan_scalars.specs.Ordinary.{is_ordinary, is_narrow}
-use Rattle.yaml_scan_scalars.proofs.RunLemmas.{ordinary_no_break}
+use Rattle.yaml_scan_scalars.specs.Ordinary.{is_ordinary, is_narrow, is_spaced, in_run, IsRun}
+use Rattle.yaml_scan_scalars.proofs.RunLemmas.{ordinary_is, ordinary_no_break, space_no_break, ordinary_in, spaced_in, run_parts}
 
 -- the two tests agree below n
 unfoldable pub agree_below : (ℕ → Bool) → (ℕ → Bool) → ℕ → Bool
@@ -39,11 +39,13 @@ pub record Behind (text : List ℕ) (p : ℕ) : Type 0 where
   pub column : column_at text (p + 1) ≡ column_at text p + (if starts (byte text p) then 1 else 0)
   pub whole : splits_break text (p + 1) ≡ false
 
-pub behind : (text : List ℕ) (p : ℕ) → is_ordinary (byte text p) ≡ true → splits_break text p ≡ false → Behind text p
-behind text p o whole =
-    let none = ordinary_no_break (byte text p) (byte text (p + 1)) (byte text (p + 2)) o in
+pub behind_none : (text : List ℕ) (p : ℕ) → break_of (byte text p) (byte text (p + 1)) (byte text (p + 2)) ≡ 0 → splits_break text p ≡ false → Behind text p
+behind_none text p none whole =
     let e = end_next text p whole none in
     record { line = line_more text p e; column = column_behind text p e; whole = split_next text p whole none }
+
+pub behind : (text : List ℕ) (p : ℕ) → is_ordinary (byte text p) ≡ true → splits_break text p ≡ false → Behind text p
+behind text p o whole = behind_none text p (ordinary_no_break (byte text p) (byte text (p + 1)) (byte text (p + 2)) o) whole
 
 pub ordinary_end : is_ordinary 0 ≡ false
 unfolding is_ordinary
@@ -86,3 +88,62 @@ past_narrow text p h =
 pub one_at_most : (b : Bool) → (if b then 1 else 0) ≤ 1
 one_at_most true = omega arith
 one_at_most false = omega arith
+
+-- behind the end no space stands
+pub past_spaced : (text : List ℕ) (p : ℕ) → length text ≤ p → is_spaced text p ≡ false
+past_spaced text p h =
+    elim (cases_lt 0 (byte text p)) [
+      | inl some ↦ let inside = within text p some in absurd (omega arith)
+      | inr none ↦ let z : byte text p ≡ 0 = omega arith in rw z refl
+    ]
+
+or_cases : (a b : Bool) → (a || b) ≡ true → (a ≡ true) ⊎ (b ≡ true)
+or_cases true b h = inl refl
+or_cases false b h = inr h
+
+first_false : (a b : Bool) → (a || b) ≡ false → a ≡ false
+first_false true b h = cc
+first_false false b h = refl
+
+-- a byte of ASCII in a run
+pub record Passes (text : List ℕ) (p : ℕ) : Type 0 where
+  pub each : in_run text p ≡ true
+  pub some : 0 < byte text p
+  pub low : nat_lt (byte text p) 128 ≡ true
+  pub none : break_of (byte text p) (byte text (p + 1)) (byte text (p + 2)) ≡ 0
+
+passes_narrow : (text : List ℕ) (p : ℕ) → is_narrow (byte text p) ≡ true → Passes text p
+passes_narrow text p h =
+    let n = narrow_is (byte text p) h in
+    record { each = ordinary_in text p n.ordinary; some = (ordinary_is (byte text p) n.ordinary).some; low = n.low; none = ordinary_no_break _ _ _ n.ordinary }
+
+is_space : (b : ℕ) (x : Bool) → (b == 32 && x) ≡ true → b ≡ 32
+is_space b x h = grind (arith, nat_tests)
+
+passes_space : (text : List ℕ) (p : ℕ) → is_spaced text p ≡ true → Passes text p
+passes_space text p h =
+    let e = is_space (byte text p) _ h in
+    record { each = spaced_in text p h; some = omega arith; low = rw e refl; none = space_no_break _ _ _ e }
+
+pub passes : (text : List ℕ) (p : ℕ) → (is_narrow (byte text p) || is_spaced text p) ≡ true → Passes text p
+passes text p h = elim (or_cases (is_narrow (byte text p)) (is_spaced text p) h) [
+  | inl n ↦ passes_narrow text p n
+  | inr s ↦ passes_space text p s
+]
+
+-- before a byte that isn't ordinary, or behind the end, the run's last byte is no space
+last_ordinary : (text : List ℕ) (q : ℕ) → 0 < q → in_run text (q - 1) ≡ true → is_narrow (byte text q) ≡ false → is_ordinary (byte text (q - 1)) ≡ true
+last_ordinary text q l h n =
+    let e : q - 1 + 1 ≡ q = omega arith in
+    elim (run_parts text (q - 1) h) [
+      | inl o ↦ o
+      | inr s ↦ absurd (true≢false (sym (rw e at s.1) ∙ n))
+    ]
+
+pub run_of : (text : List ℕ) (p q : ℕ) → p ≤ q → ((k : ℕ) → p ≤ k → k < q → in_run text k ≡ true) → (is_narrow (byte text q) || is_spaced text q) ≡ false → IsRun text p (record { text = text; at = q })
+run_of text p q after each stops = record {
+  same = refl;
+  after = after;
+  each = each;
+  last = λ l. last_ordinary text q (omega arith) (each (q - 1) (omega arith) (omega arith)) (first_false _ _ stops);
+}

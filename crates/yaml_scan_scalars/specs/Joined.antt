@@ -1,5 +1,6 @@
 -- What a plain scalar comes to, where so much of it is joined and the rest follows.
 use Rattle.std.specs.Prelude.{ℕ, ◌+◌, ◌-◌, ◌<◌, ◌≤◌, ◌≡◌, Bool, ◌||◌, true, false, if◌then◌else◌, List, take, length, Result, Ok, Err}
+use Rattle.yaml_scan_scalars.specs.declared.folding.Gap.TheVariants as gaps
 use Rattle.yaml_scan_scalars.specs.declared.joining.Joining.{Joining}
 use Rattle.yaml_scan_scalars.specs.declared.scalar.PlainScalar.{PlainScalar}
 use Rattle.yaml_scan_model.specs.declared.record.yaml_mark_t.{yaml_mark_t}
@@ -26,6 +27,7 @@ pub record IsJoining (text : List ℕ) (p : ℕ) (j : Joining) : Type 0 where
   pub end : j.end ≡ mark_at text j.end.index
   pub broke : j.broke ≡ leads text p
   pub white : j.white ≡ after_white text p
+  pub line : j.broke ≡ false → j.folding.gap ≡ gaps.Line
 
 -- a step, by what stands there
 abbrev pub Steps : List ℕ → yaml_mark_t → ℕ → Joining → Joining → Place → Result Bool ScanError
@@ -44,14 +46,14 @@ Steps text start p old new place (Err e) (Faulty w) = Refuses text start e w
 Steps text start p old new place (Err e) (Takes x q) = IsMemory e
 Steps text start p old new place (Err e) Ends = ⊥
 
--- the ordinary bytes up to the place are taken, if no line starts there
+-- the bytes of a run up to the place are taken, if no line starts there
 pub record TookWords (text : List ℕ) (p : ℕ) (old new : Joining) (place : Place) : Type 0 where
   pub run : IsRun text p place
   pub calm : p < place.at → leads text p ≡ false
   pub value : (w : Words) → joined new w ≡ joined old (with_run text p (place.at - p) w)
   pub seat : IsJoining text place.at new
 
--- a scalar's first character and the ordinary bytes behind it are taken
+-- a scalar's first character and the run behind it are taken
 pub record TookFirst (text : List ℕ) (p : ℕ) (new : Joining) (place : Place) : Type 0 where
   pub run : IsRun text (p + 1) place
   pub value : (w : Words) → joined new w ≡ plain_text (with_run text p (place.at - p) w)

@@ -1,7 +1,7 @@
 -- Runs of bytes that stand for themselves.
-use Rattle.std.specs.Prelude.{ℕ, zero, suc, ◌+◌, ◌-◌, ◌<◌, ◌≤◌, ◌≡◌, Bool, true, ◌&&◌, ◌||◌, nat_le, nat_lt, List, [], ◌∷◌, ◌++◌, length, take, drop}
+use Rattle.std.specs.Prelude.{ℕ, zero, suc, ◌+◌, ◌-◌, ◌<◌, ◌≤◌, ◌≡◌, ◌==◌, Bool, true, not, ◌&&◌, ◌||◌, if◌then◌else◌, nat_le, nat_lt, List, [], ◌∷◌, ◌++◌, length, take, drop}
 use Rattle.yaml_scan_model.specs.Marks.{Place, byte}
-use Rattle.yaml_scan_scalars.specs.Pieces.{Piece, Kept}
+use Rattle.yaml_scan_scalars.specs.Pieces.{Piece, Kept, Blank}
 
 -- Between quotes and inside a line of a plain scalar the byte stands for itself, whatever stands beside it. Some others
 -- do as well, as a dash that is not at a line's start.
@@ -19,6 +19,14 @@ is_ordinary b =
 unfoldable pub is_narrow : ℕ → Bool
 is_narrow b = nat_lt b 128 && is_ordinary b
 
+-- a space stands there, before an ordinary byte of ASCII
+abbrev pub is_spaced : List ℕ → ℕ → Bool
+is_spaced text p = byte text p == 32 && is_narrow (byte text (p + 1))
+
+-- the byte there stands for itself: an ordinary one, or a space before such a one
+unfoldable pub in_run : List ℕ → ℕ → Bool
+in_run text p = is_ordinary (byte text p) || is_spaced text p
+
 -- d bytes from there on
 unfoldable pub bytes_at : List ℕ → ℕ → ℕ → List ℕ
 bytes_at text p zero = []
@@ -29,18 +37,34 @@ pub record StandsAt (text : List ℕ) (p : ℕ) (bytes : List ℕ) : Type 0 wher
   pub inside : p + length bytes ≤ length text
   pub same : bytes ≡ take (length bytes) (drop p text)
 
--- the bytes from p up to the place are ordinary
+-- the bytes from p up to the place stand for themselves, and the last one is no space
 pub record IsRun (text : List ℕ) (p : ℕ) (place : Place) : Type 0 where
   pub same : place.text ≡ text
   pub after : p ≤ place.at
-  pub ordinary : (k : ℕ) → p ≤ k → k < place.at → is_ordinary (byte text k) ≡ true
+  pub each : (k : ℕ) → p ≤ k → k < place.at → in_run text k ≡ true
+  pub last : p < place.at → is_ordinary (byte text (place.at - 1)) ≡ true
+
+-- a byte of a run as a piece
+abbrev pub piece_of : ℕ → Piece
+piece_of b = if b == 32 then Blank b else Kept (b ∷ [])
 
 -- each of the bytes as a piece
-abbrev pub kept_run : List ℕ → List Piece
-kept_run [] = []
-kept_run (b ∷ bs) = Kept (b ∷ []) ∷ kept_run bs
+abbrev pub run_pieces : List ℕ → List Piece
+run_pieces [] = []
+run_pieces (b ∷ bs) = piece_of b ∷ run_pieces bs
 
--- the ordinary bytes up to the place are taken; `old` and `new` give the value when pieces follow
+-- the first byte is no space
+abbrev pub starts_kept : List ℕ → Bool
+starts_kept [] = true
+starts_kept (b ∷ bs) = not (b == 32)
+
+-- the last byte is no space
+abbrev pub ends_kept : List ℕ → Bool
+ends_kept [] = true
+ends_kept (b ∷ []) = not (b == 32)
+ends_kept (b ∷ c ∷ bs) = ends_kept (c ∷ bs)
+
+-- the bytes of a run up to the place are taken; `old` and `new` give the value when pieces follow
 abbrev pub TookRun : List ℕ → ℕ → (List Piece → List ℕ) → (List Piece → List ℕ) → Place → Type 0
 TookRun text p old new place = IsRun text p place
-    × ((ps : List Piece) → new ps ≡ old (kept_run (bytes_at text p (place.at - p)) ++ ps))
+    × ((ps : List Piece) → new ps ≡ old (run_pieces (bytes_at text p (place.at - p)) ++ ps))

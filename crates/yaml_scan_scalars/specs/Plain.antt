@@ -7,6 +7,7 @@ use Rattle.yaml_scan_model.specs.Marks.{byte, break_width, ends_break, column_at
 use Rattle.yaml_scan_model.specs.Breaks.{break_value, is_document_indicator}
 use Rattle.yaml_scan_model.specs.Wrong.{Wrong}
 use Rattle.yaml_scan_scalars.specs.Pieces.{Piece, Kept, Blank, Break, value}
+use Rattle.yaml_scan_scalars.specs.Ordinary.{piece_of}
 
 -- one of `, [ ] { }`
 unfoldable pub is_bracket : ℕ → Bool
@@ -100,7 +101,7 @@ with_piece (Break b) q w =
 -- d bytes from p on, each a piece
 abbrev pub with_run : List ℕ → ℕ → ℕ → Words → Words
 with_run text p zero w = w
-with_run text p (suc d) w = with_piece (Kept (byte text p ∷ [])) (p + 1) (with_run text (p + 1) d w)
+with_run text p (suc d) w = with_piece (piece_of (byte text p)) (p + 1) (with_run text (p + 1) d w)
 
 abbrev pub words_from : Piece → ℕ → Result Words Wrong → Result Words Wrong
 words_from x q (Ok w) = Ok (with_piece x q w)

@@ -1,6 +1,6 @@
 //! The value of a scalar's pieces, made from the front.
 
-ghost use Rattle.std.specs.Prelude.{◌≡◌, List, [], ◌∷◌, ◌++◌, ◌<◌, ◌≤◌, ℕ, length, take, OnOk, IfOk};
+ghost use Rattle.std.specs.Prelude.{◌≡◌, List, [], ◌∷◌, ◌++◌, ◌<◌, ◌≤◌, ℕ, length, take, true, OnOk, IfOk};
 ghost use Rattle.yaml_scan_scalars.specs.Pieces.{Piece, Kept, Blank, Break, value};
 
 use crate::run::copied_whole;
@@ -32,7 +32,8 @@ impl Folding {
 
     /// With no pieces, in the room of a text.
     pub(crate) fn new(text: Vec<u8>) -> Folding
-        ensures { (ps : List Piece) → resume result ps ≡ value ps }
+        ensures value { (ps : List Piece) → resume result ps ≡ value ps }
+        ensures line { result.gap ≡ Gap.Line }
     {
         let alloc = *text.allocator();
         let mut done = text;
@@ -59,6 +60,16 @@ impl Folding {
         })
     }
 
+    /// Whether a blank that comes next is kept: none is at a line's start.
+    pub(crate) fn keeps_blanks(&self) -> bool
+        ensures { result ≡ true → self.now.gap ≡ Gap.Line }
+    {
+        match self.gap {
+            Gap::Line => true,
+            Gap::Feed | Gap::Kept => false,
+        }
+    }
+
     /// A blank.
     pub(crate) fn blank(&mut self, byte: u8) -> Result<(), AllocError>
         ensures value { OnOk result ((ps : List Piece) → resume self.new ps ≡ resume self.old
@@ -66,6 +77,7 @@ impl Folding {
         ensures done { OnOk result ((n : ℕ) → n ≤ length self.old.done.items
             → take n self.new.done.items ≡ take n self.old.done.items) }
         ensures longer { OnOk result (length self.old.done.items ≤ length self.new.done.items) }
+        ensures gap { OnOk result (self.new.gap ≡ self.old.gap) }
     {
         match self.gap {
             Gap::Line => {

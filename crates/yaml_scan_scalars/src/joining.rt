@@ -4,6 +4,7 @@ ghost use Rattle.std.specs.Prelude.{◌≡◌, ◌≤◌, List, [], ◌∷◌, �
 ghost use Rattle.yaml_scan_scalars.specs.Pieces.{Piece, Kept, Blank, Break, value};
 ghost use Rattle.yaml_scan_scalars.specs.Plain.{Words, plain_text, with_piece};
 ghost use Rattle.yaml_scan_scalars.specs.Joined.{joined};
+ghost use Rattle.yaml_scan_scalars.specs.declared.folding.Gap.TheVariants as gaps;
 
 use crate::folding::Folding;
 use std::alloc::AllocError;
@@ -35,6 +36,7 @@ impl Joining {
             → joined j w ≡ plain_text (with_piece (Kept bytes.now) end.index w)) }
         ensures kept { IfOk result (λ j. j.kept ≤ length j.folding.done.items) }
         ensures seat { IfOk result (λ j. (j.end ≡ end) × (j.broke ≡ false) × (j.white ≡ false)) }
+        ensures line { IfOk result (λ j. j.folding.gap ≡ gaps.Line) }
     {
         let folding = Folding::of_bytes(spares, bytes)?;
         let kept = folding.done.len();
@@ -54,6 +56,7 @@ impl Joining {
         ensures kept { OnOk result (self.new.kept ≤ length self.new.folding.done.items) }
         ensures seat { OnOk result ((self.new.end ≡ end) × (self.new.broke ≡ false)
             × (self.new.white ≡ false)) }
+        ensures line { OnOk result (self.new.folding.gap ≡ gaps.Line) }
     {
         self.folding.keep(bytes)?;
         self.kept = self.folding.done.len();
@@ -71,6 +74,7 @@ impl Joining {
         ensures kept { OnOk result (self.new.kept ≤ length self.new.folding.done.items) }
         ensures seat { OnOk result ((self.new.end ≡ self.old.end)
             × (self.new.broke ≡ self.old.broke) × (self.new.white ≡ true)) }
+        ensures gap { OnOk result (self.new.folding.gap ≡ self.old.folding.gap) }
     {
         self.folding.blank(byte)?;
         self.white = true;

@@ -43,7 +43,7 @@ pub fn plain_scalar(
     many_runs(spares, reader, bytes, start, flow, level)
 }
 
-/// Past the scalar's first character and the ordinary bytes behind it, and those bytes.
+/// Past the scalar's first character and the run behind it, and those bytes.
 fn first_run<'a>(reader: &mut Reader<'a>) -> &'a [u8]
     requires some { 0 < byte reader.old.text reader.old.at }
     requires no_break { break_width reader.old.text reader.old.at ≡ 0 }
@@ -190,7 +190,7 @@ fn many_runs(
     }
 }
 
-/// Takes the ordinary bytes that stand here, but none at a line's start.
+/// Takes the run that stands here, but none at a line's start.
 fn keep_run(reader: &mut Reader, joining: &mut Joining) -> Result<(), AllocError>
     requires { IsJoining reader.old.text reader.old.at joining.old }
     ensures { OnOk result (TookWords reader.old.text reader.old.at joining.old joining.new

@@ -1,11 +1,12 @@
 //! Double and single quoted scalars (YAML 1.1, sections 9.1.1 and 9.1.2).
 
-ghost use Rattle.std.specs.Prelude.{◌≡◌, ◌+◌, ◌-◌, ◌<◌, ◌&&◌, ◌==◌, ◌⊎◌, not, List, ◌++◌, length, OnOk, Ok};
+ghost use Rattle.std.specs.Prelude.{◌≡◌, ◌+◌, ◌-◌, ◌<◌, ◌&&◌, ◌==◌, ◌⊎◌, true, false, not, List, ◌++◌, length, OnOk, Ok};
 ghost use Rattle.yaml_scan_model.specs.Marks.{byte, mark_at};
 ghost use Rattle.yaml_scan_model.specs.declared.record.yaml_mark_t.{yaml_mark_t};
 ghost use Rattle.yaml_scan_scalars.specs.Quoted as spec;
+ghost use Rattle.yaml_scan_scalars.specs.declared.folding.Gap.TheVariants as gaps;
 ghost use Rattle.yaml_scan_scalars.specs.Readings.{Took, Reads};
-ghost use Rattle.yaml_scan_scalars.specs.Ordinary.{IsRun, StandsAt, bytes_at, kept_run};
+ghost use Rattle.yaml_scan_scalars.specs.Ordinary.{IsRun, StandsAt, TookRun, bytes_at, ends_kept, run_pieces, starts_kept};
 ghost use Rattle.yaml_scan_scalars.specs.Pieces.{Piece};
 ghost use Rattle.yaml_scan_scalars.specs.Resume.{resume};
 
@@ -118,14 +119,35 @@ fn many_runs(
                 end_mark: reader.mark(),
             });
         }
-        keep_some(&mut folding, ordinary_run(reader))?;
+        keep_run(reader, &mut folding)?;
     }
+}
+
+/// Takes the run that stands here, but none that begins with a space at a line's start.
+fn keep_run(reader: &mut Reader, folding: &mut Folding) -> Result<(), AllocError>
+    ensures { OnOk result (TookRun reader.old.text reader.old.at (resume folding.old)
+        (resume folding.new) reader.new) }
+{
+    if !is_kept(reader, folding) {
+        return Ok(());
+    }
+    keep_some(folding, ordinary_run(reader))
+}
+
+/// Whether a space that stands here is kept, or none stands here.
+fn is_kept(reader: &Reader, folding: &Folding) -> bool
+    ensures { result ≡ true → (folding.now.gap ≡ gaps.Line)
+        ⊎ ((byte reader.now.text reader.now.at == 32) ≡ false) }
+{
+    folding.keeps_blanks() || reader.here() != b' '
 }
 
 /// Takes the bytes of a run. There may be none.
 fn keep_some(folding: &mut Folding, bytes: &[u8]) -> Result<(), AllocError>
+    requires first { (folding.old.gap ≡ gaps.Line) ⊎ (starts_kept bytes.now ≡ true) }
+    requires last { ends_kept bytes.now ≡ true }
     ensures { OnOk result ((ps : List Piece) → resume folding.new ps ≡ resume folding.old
-        (kept_run bytes.now ++ ps)) }
+        (run_pieces bytes.now ++ ps)) }
 {
     if bytes.is_empty() {
         return Ok(());

@@ -1,6 +1,6 @@
-//! Runs of bytes that stand for themselves, which are taken at once.
+//! Runs of bytes that stand for themselves, which are taken at once. Single spaces between them are part of a run.
 
-ghost use Rattle.std.specs.Prelude.{◌≡◌, ◌-◌, ◌+◌, ◌≤◌, length, [], if◌then◌else◌, IfOk};
+ghost use Rattle.std.specs.Prelude.{◌≡◌, ◌-◌, ◌+◌, ◌≤◌, ◌||◌, length, [], if◌then◌else◌, IfOk};
 ghost use Rattle.yaml_scan_model.specs.Marks.{byte, starts};
 ghost use Rattle.yaml_scan_scalars.specs.Ordinary as spec;
 
@@ -55,6 +55,24 @@ fn narrow_at(text: &[u8], place: usize) -> bool
     place < text.len() && is_narrow(text[place])
 }
 
+/// Whether a space stands there before an ordinary byte of ASCII.
+// Inlined into the loop over bytes.
+#[inline(always)]
+fn spaced_at(text: &[u8], place: usize) -> bool
+    ensures { result ≡ spec.is_spaced text.now place }
+{
+    place < text.len() && (text[place] == b' ' && narrow_at(text, place + 1))
+}
+
+/// Whether a byte of ASCII stands there that a run goes over.
+// Inlined into the loop over bytes.
+#[inline(always)]
+fn passes_at(text: &[u8], place: usize) -> bool
+    ensures { result ≡ (spec.is_narrow (byte text.now place) || spec.is_spaced text.now place) }
+{
+    narrow_at(text, place) || spaced_at(text, place)
+}
+
 /// How many characters begin with the byte.
 // Inlined into the loop over bytes.
 #[inline(always)]
@@ -64,7 +82,7 @@ fn begun(byte: u8) -> u64
     if byte < 128 || byte >= 192 { 1 } else { 0 }
 }
 
-/// Past the ordinary bytes that stand here, and those bytes.
+/// Past the run that stands here, and its bytes: ordinary ones, and single spaces between them or before the first.
 // Inlined: a loop of a load and a comparison a byte.
 #[inline(always)]
 pub(crate) fn ordinary_run<'a>(reader: &mut Reader<'a>) -> &'a [u8]
@@ -79,7 +97,7 @@ pub(crate) fn ordinary_run<'a>(reader: &mut Reader<'a>) -> &'a [u8]
     reader.since(from)
 }
 
-/// Past the ordinary bytes that stand here.
+/// Past the run that stands here.
 // Inlined: a loop of a load and a comparison a byte.
 #[inline(always)]
 fn pass_run(reader: &mut Reader)
@@ -92,7 +110,7 @@ fn pass_run(reader: &mut Reader)
     }
 }
 
-/// Past the ordinary bytes of ASCII that stand here: each is a column.
+/// Past the ordinary bytes of ASCII that stand here and single spaces before such: each is a column.
 // Inlined: a loop of a load and a comparison a byte.
 #[inline(always)]
 fn narrow_run(reader: &mut Reader)
@@ -103,7 +121,7 @@ fn narrow_run(reader: &mut Reader)
     let text = reader.text();
     let from = reader.place();
     let mut end = from;
-    'bytes: while narrow_at(text, end) {
+    'bytes: while passes_at(text, end) {
         end += 1;
     }
     let mark = yaml_mark_t {

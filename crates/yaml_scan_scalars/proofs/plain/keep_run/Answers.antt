@@ -1,7 +1,7 @@
 use Rattle.std.proofs.Common.{◌≡◌, ◌∙◌, ◌+◌, ◌-◌, ◌<◌, sym, refl, length, arith}
 use Rattle.std.proofs.lemmas.Bool.Decides.{nat_tests}
 use Rattle.yaml_scan_scalars.specs.Ordinary.{bytes_at}
-use Rattle.yaml_scan_scalars.proofs.RunLemmas.{run_start, run_none, run_some}
+use Rattle.yaml_scan_scalars.proofs.RunLemmas.{run_start, run_none, run_some, ordinary_is}
 use Rattle.yaml_scan_scalars.proofs.PlainRunLemmas.{joined_run, calm_behind}
 use Rattle.yaml_scan_scalars.proofs.plain.keep_run.Goals as goal
 
@@ -41,11 +41,12 @@ returns c =
     record {
       run = run;
       calm = λ l. sym c.requires.broke ∙ c.if-joining.false;
-      value = λ w. kept w ∙ joined_run text p (place.at - p) place.at c.args.joining.now w q some;
+      value = λ w. kept w ∙ joined_run text p (place.at - p) place.at c.args.joining.now w q some (c.requires.line c.if-joining.false) (ordinary_is _ (run.last more)).no_space;
       seat = record {
         kept = c.in_ok-keep.ensures.kept;
         end = rw seat.0 refl;
         broke = seat.1 ∙ behind.0;
         white = seat.2 ∙ behind.1;
+        line = λ e. c.in_ok-keep.ensures.line;
       };
     }

@@ -1,10 +1,11 @@
 use Rattle.std.proofs.Common.{◌≡◌, ◌+◌, ◌-◌, suc, arith, ◌∙◌, ap, sym, true, false, refl, ℕ, Ok}
 use Rattle.std.proofs.lemmas.Result.{err_from_is_err_and}
-use Rattle.yaml_scan_model.specs.declared.record.yaml_mark_t.{yaml_mark_t}
 use Rattle.yaml_scan_scalars.specs.Plain.{spot_at}
 use Rattle.yaml_scan_scalars.specs.Joined.{Steps, TookFirst, TookWords}
 use Rattle.yaml_scan_scalars.proofs.PlainLemmas.{seat_text, turn_more, turn_done, turn_refused}
 use Rattle.yaml_scan_scalars.proofs.PlainRunLemmas.{plain_run, plain_first_run, first_text, behind_first}
+use Rattle.yaml_scan_scalars.proofs.RunLemmas.{first_last}
+use Rattle.yaml_scan_scalars.proofs.OneRunLemmas.{no_space}
 use Rattle.yaml_scan_scalars.proofs.plain.many_runs.Goals as goal
 
 pub pieces-init : goal.pieces-init
@@ -18,22 +19,24 @@ pieces-init c =
     let q : place.at ≡ p + suc (place.at - (p + 1)) = omega arith in
     let value = rw (c.requires.bytes, d, c.mark.ensures) at c.in_ok-joining.ensures.value in
     let seat = rw c.mark.ensures at c.in_ok-joining.ensures.seat in
+    let first = no_space _ c.requires.no_blank in
     let behind = behind_first text p place c.requires.no_blank c.requires.no_end run in
     let took : TookFirst text p c.in_ok-joining.joining place = record {
       run = run;
-      value = λ w. rw d (value w ∙ first_text text p (place.at - (p + 1)) place.at w q);
+      value = λ w. rw d (value w ∙ first_text text p (place.at - (p + 1)) place.at w q (first_last text p place run first));
       seat = record {
         kept = c.in_ok-joining.ensures.kept;
         end = rw seat.0 refl;
         broke = seat.1 ∙ behind.0;
         white = seat.2 ∙ behind.1;
+        line = λ e. c.in_ok-joining.ensures.line;
       };
     } in
     let calm = sym (seat_text text p c.requires.no_blank c.requires.no_end).0 in
     record {
       text = refl;
       seat = took.seat;
-      rest = plain_first_run c.args.flow c.args.level text p c.in_ok-joining.joining place took c.requires.inside calm;
+      rest = plain_first_run c.args.flow c.args.level text p c.in_ok-joining.joining place took c.requires.inside calm first;
     }
 
 pub returns-in_err-more : goal.returns-in_err-more

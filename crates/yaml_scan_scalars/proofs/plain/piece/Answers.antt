@@ -1,4 +1,5 @@
 use Rattle.std.proofs.Common.{refl, arith, ◌∙◌, sym, ◌≡◌, ◌+◌, ◌<◌, ◌==◌, ◌&&◌, true, false, nat_lt, ◌||◌}
+use Rattle.std.proofs.lemmas.Bool.{true≢false}
 use Rattle.std.proofs.lemmas.Result.{err_from_is_err_and}
 use Rattle.yaml_scan_model.specs.Marks.{byte, break_width, is_blank, column_at}
 use Rattle.yaml_scan_model.proofs.BreaksLemmas.{feed_some, value_long}
@@ -38,6 +39,7 @@ returns-then-break_here-gt0 c =
         end = rw c.in_ok-break_line.ensures.seat.0 c.requires.end;
         broke = c.in_ok-break_line.ensures.seat.1 ∙ seat.leading;
         white = c.in_ok-break_line.ensures.seat.2 ∙ seat.white;
+        line = λ e. absurd (true≢false (sym c.in_ok-break_line.ensures.seat.1 ∙ e));
       },
       seat.further,
       seat.inside,
@@ -82,6 +84,7 @@ returns-then-is_blank c =
         end = rw c.in_ok-blank.ensures.seat.0 c.requires.end;
         broke = c.in_ok-blank.ensures.seat.1 ∙ c.requires.broke ∙ sym (leads-blank text p k);
         white = c.in_ok-blank.ensures.seat.2 ∙ sym (white-blank text p k);
+        line = λ e. c.in_ok-blank.ensures.gap ∙ c.requires.line (sym c.in_ok-blank.ensures.seat.1 ∙ e);
       },
       omega arith,
       blank_inside text p k,
@@ -147,6 +150,7 @@ returns c =
         end = rw seat.0 refl;
         broke = seat.1 ∙ none.0;
         white = seat.2 ∙ none.1;
+        line = λ e. c.in_ok-keep.ensures.line;
       },
       omega arith,
       within text p (not_ended c.args.flow c.args.level text p n),

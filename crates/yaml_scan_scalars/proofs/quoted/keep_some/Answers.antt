@@ -11,4 +11,4 @@ returns-then-is_empty c =
 pub returns : goal.returns
 returns c =
     let some : 0 < length c.args.bytes.now = grind (arith, nat_tests, c.is_empty.ensures, c.if-is_empty.false) in
-    λ ps. c.in_ok-keep.ensures.value ps ∙ resume_bytes c.args.folding.now c.args.bytes.now ps some
+    λ ps. c.in_ok-keep.ensures.value ps ∙ resume_bytes c.args.folding.now c.args.bytes.now ps c.requires.first c.requires.last some

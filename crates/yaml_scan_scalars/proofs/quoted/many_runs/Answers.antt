@@ -1,12 +1,12 @@
-use Rattle.std.proofs.Common.{refl, arith, ◌∙◌, ◌≡◌, ◌+◌, ◌-◌, ◌++◌, ap, true, false, suc, length, ℕ, List, Ok}
+use Rattle.std.proofs.Common.{refl, arith, ◌∙◌, ◌≡◌, ◌+◌, ◌-◌, inl, ◌++◌, ap, true, false, ℕ, List, Ok}
 use Rattle.std.proofs.lemmas.Result.{err_from_is_err_and}
 use Rattle.yaml_scan_scalars.specs.Pieces.{Piece, value}
 use Rattle.yaml_scan_scalars.specs.Resume.{resume}
 use Rattle.yaml_scan_scalars.specs.Quoted.{standing_at}
 use Rattle.yaml_scan_scalars.specs.Readings.{Took}
-use Rattle.yaml_scan_scalars.specs.Ordinary.{TookRun, IsRun, bytes_at, kept_run}
+use Rattle.yaml_scan_scalars.specs.Ordinary.{TookRun, bytes_at, run_pieces}
 use Rattle.yaml_scan_scalars.proofs.QuotedLemmas.{turn_more, turn_done, turn_refused}
-use Rattle.yaml_scan_scalars.proofs.RunLemmas.{quoted_run}
+use Rattle.yaml_scan_scalars.proofs.RunLemmas.{quoted_run, run_ends}
 use Rattle.yaml_scan_scalars.proofs.OneRunLemmas.{quoted_first}
 use Rattle.yaml_scan_scalars.proofs.quoted.many_runs.Goals as goal
 
@@ -15,9 +15,15 @@ pieces-init c =
     let text = c.args.reader.now.text in
     let p : ℕ = c.args.start.index in
     let place = c.args.reader.now in
-    let same : (ps : List Piece) → resume c.keep_some.new.folding ps ≡ value (kept_run (bytes_at text (p + 1) (place.at - (p + 1))) ++ ps) =
-    λ ps. c.in_ok-keep_some.ensures ps ∙ c.new-folding.ensures (kept_run c.args.bytes.now ++ ps) ∙ ap (λ (bs : List ℕ). value (kept_run bs ++ ps)) c.requires.bytes in
+    let same : (ps : List Piece) → resume c.keep_some.new.folding ps ≡ value (run_pieces (bytes_at text (p + 1) (place.at - (p + 1))) ++ ps) =
+    λ ps. c.in_ok-keep_some.ensures ps ∙ c.new-folding.ensures.value (run_pieces c.args.bytes.now ++ ps) ∙ ap (λ (bs : List ℕ). value (run_pieces bs ++ ps)) c.requires.bytes in
     record { text = refl; rest = quoted_first c.args.quote text p (resume c.keep_some.new.folding) place c.requires.quote c.requires.inside c.requires.run same }
+
+pub keep_some-requires-clause-first : goal.keep_some-requires-clause-first
+keep_some-requires-clause-first c = inl c.new-folding.ensures.line
+
+pub keep_some-requires-clause-last : goal.keep_some-requires-clause-last
+keep_some-requires-clause-last c = rw c.requires.bytes (run_ends _ _ _ c.requires.run)
 
 pub returns-in_err-more : goal.returns-in_err-more
 returns-in_err-more c =
@@ -42,12 +48,9 @@ pieces-preserved c =
     let took : Took c.args.reader.now.text c.args.start c.pieces.reader.at (resume c.pieces.folding) (resume c.piece.new.folding) c.piece.new.reader (Ok true) (standing_at c.args.quote c.args.reader.now.text c.pieces.reader.at) = rw (← c.pieces.invariant.text) here in
     let next = turn_more c.args.reader.now.text c.args.start c.args.quote c.pieces.reader.at n (resume c.pieces.folding) (resume c.piece.new.folding) c.piece.new.reader took room in
     let (k, more, rest2) = next.rest in
-    let run : IsRun c.args.reader.now.text c.piece.new.reader.at c.ordinary_run.new.reader = rw next.same at c.ordinary_run.ensures.place in
-    let bytes = rw next.same at c.ordinary_run.ensures.bytes in
-    let kept : (ps : List Piece) → resume c.keep_some-in-pieces.new.folding ps ≡ resume c.piece.new.folding (kept_run (bytes_at c.args.reader.now.text c.piece.new.reader.at (c.ordinary_run.new.reader.at - c.piece.new.reader.at)) ++ ps) =
-    λ ps. c.in_ok-keep_some-2.ensures ps ∙ ap (λ (bs : List ℕ). resume c.piece.new.folding (kept_run bs ++ ps)) bytes in
-    let (m, room3, rest3) = quoted_run k c.args.quote c.args.reader.now.text c.piece.new.reader.at (resume c.piece.new.folding) (resume c.keep_some-in-pieces.new.folding) c.ordinary_run.new.reader c.requires.quote (run, kept) more in
-    record { text = run.same; rest = (m, room3, same ∙ rest2 ∙ rest3) }
+    let ran : TookRun c.args.reader.now.text c.piece.new.reader.at (resume c.piece.new.folding) (resume c.keep_run.new.folding) c.keep_run.new.reader = rw next.same at c.in_ok-keep_run.ensures in
+    let (m, room3, rest3) = quoted_run k c.args.quote c.args.reader.now.text c.piece.new.reader.at (resume c.piece.new.folding) (resume c.keep_run.new.folding) c.keep_run.new.reader c.requires.quote ran more in
+    record { text = ran.0.same; rest = (m, room3, same ∙ rest2 ∙ rest3) }
 
 pub pieces-smaller : goal.pieces-smaller
 pieces-smaller c =
@@ -57,5 +60,5 @@ pieces-smaller c =
     let next = turn_more c.args.reader.now.text c.args.start c.args.quote c.pieces.reader.at n (resume c.pieces.folding) (resume c.piece.new.folding) c.piece.new.reader took room in
     let further = next.further in
     let inside = next.inside in
-    let after = c.ordinary_run.ensures.place.after in
+    let after = c.in_ok-keep_run.ensures.0.after in
     omega arith

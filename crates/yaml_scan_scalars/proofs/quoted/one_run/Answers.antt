@@ -1,4 +1,4 @@
-use Rattle.std.proofs.Common.{◌≡◌, ◌∙◌, ◌+◌, refl}
+use Rattle.std.proofs.Common.{refl}
 use Rattle.yaml_scan_scalars.proofs.QuotedLemmas.{quote_some, quote_no_break}
 use Rattle.yaml_scan_scalars.proofs.quoted.one_run.Goals as goal
 

@@ -1,9 +1,8 @@
-use Rattle.std.proofs.Common.{◌≡◌, ◌+◌, length, ◌∙◌, sym, ap, true, ℕ, List, arith}
-use Rattle.yaml_scan_model.specs.Marks.{byte, column_at}
+use Rattle.std.proofs.Common.{◌≡◌, ◌+◌, length, ◌∙◌, sym, ap, ℕ, List, arith}
+use Rattle.yaml_scan_model.specs.Marks.{column_at}
 use Rattle.yaml_scan_model.proofs.MarksLemmas.{within, column_at-le}
-use Rattle.yaml_scan_scalars.specs.Ordinary.{is_narrow}
-use Rattle.yaml_scan_scalars.proofs.RunLemmas.{run_more, ordinary_is}
-use Rattle.yaml_scan_scalars.proofs.TableLemmas.{behind, narrow_is}
+use Rattle.yaml_scan_scalars.proofs.RunLemmas.{each_more}
+use Rattle.yaml_scan_scalars.proofs.TableLemmas.{behind_none, passes, run_of}
 use Rattle.yaml_scan_scalars.proofs.run.narrow_run.Goals as goal
 
 pub overflow_add-mark : goal.overflow_add-mark
@@ -17,24 +16,31 @@ overflow_add-mark c =
 
 pub bytes-smaller : goal.bytes-smaller
 bytes-smaller c =
-    let n : is_narrow (byte c.args.reader.now.text c.bytes.end) ≡ true = rw c.text-text.ensures at (sym c.narrow_at.ensures ∙ c.bytes-test.true) in
-    let inside = within c.args.reader.now.text c.bytes.end (ordinary_is _ (narrow_is _ n).ordinary).some in
+    let text = c.args.reader.now.text in
+    let here = passes text c.bytes.end (rw c.text-text.ensures at (sym c.passes_at.ensures ∙ c.bytes-test.true)) in
+    let inside = within text c.bytes.end here.some in
     omega (arith, inside)
 
 pub bytes-preserved : goal.bytes-preserved
 bytes-preserved c =
     let text = c.args.reader.now.text in
-    let n : is_narrow (byte text c.bytes.end) ≡ true = rw c.text-text.ensures at (sym c.narrow_at.ensures ∙ c.bytes-test.true) in
-    let narrow = narrow_is _ n in
-    let inside = within text c.bytes.end (ordinary_is _ narrow.ordinary).some in
-    let b = behind text c.bytes.end narrow.ordinary c.bytes.invariant.whole in
+    let here = passes text c.bytes.end (rw c.text-text.ensures at (sym c.passes_at.ensures ∙ c.bytes-test.true)) in
+    let inside = within text c.bytes.end here.some in
+    let b = behind_none text c.bytes.end here.none c.bytes.invariant.whole in
     let column = c.bytes.invariant.column in
-    let next : column_at text (c.bytes.end + 1) ≡ column_at text c.bytes.end + 1 = rw narrow.low at b.column in
-    let after = c.bytes.invariant.run.after in
+    let next : column_at text (c.bytes.end + 1) ≡ column_at text c.bytes.end + 1 = rw here.low at b.column in
+    let after = c.bytes.invariant.after in
     record {
-      run = run_more text c.args.reader.now.at (record { text = text; at = c.bytes.end }) c.bytes.invariant.run narrow.ordinary;
+      after = omega arith;
+      each = each_more text c.args.reader.now.at c.bytes.end c.bytes.invariant.each here.each;
       inside = omega (arith, inside);
       line = c.bytes.invariant.line ∙ sym b.line;
       column = omega (arith, column, next, after);
       whole = b.whole;
     }
+
+pub returns-clause-run : goal.returns-clause-run
+returns-clause-run c =
+    let text = c.args.reader.now.text in
+    let stops = rw c.text-text.ensures at (sym c.passes_at.ensures ∙ c.bytes-test.false) in
+    rw (c.resume.ensures, c.text-text.ensures) (run_of text c.args.reader.now.at c.bytes.end c.bytes.invariant.after c.bytes.invariant.each stops)

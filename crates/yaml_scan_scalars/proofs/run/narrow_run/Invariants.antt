@@ -1,11 +1,12 @@
-use Rattle.std.proofs.Common.{◌≡◌, ◌+◌, ◌-◌, ◌≤◌, length, false}
+use Rattle.std.proofs.Common.{◌≡◌, ◌+◌, ◌-◌, ◌≤◌, ◌<◌, ℕ, length, true, false}
 use Rattle.yaml_scan_model.specs.Marks.{line_at, column_at, splits_break}
-use Rattle.yaml_scan_scalars.specs.Ordinary.{IsRun}
+use Rattle.yaml_scan_scalars.specs.Ordinary.{in_run}
 use Rattle.yaml_scan_scalars.proofs.run.narrow_run.Given as goal
 
 abbrev pub invariant-bytes : goal.invariant-bytes
 invariant-bytes l = record {
-  run : IsRun l.fn.reader.text l.fn.reader.at (record { text = l.fn.reader.text; at = l.end });
+  after : l.fn.reader.at ≤ l.end;
+  each : (k : ℕ) → l.fn.reader.at ≤ k → k < l.end → in_run l.fn.reader.text k ≡ true;
   inside : l.end ≤ length l.fn.reader.text;
   line : l.here.line ≡ line_at l.fn.reader.text l.end;
   column : l.here.column + (l.end - l.fn.reader.at) ≡ column_at l.fn.reader.text l.end;

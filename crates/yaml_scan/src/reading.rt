@@ -94,9 +94,22 @@ fn let_go(slot: &mut yaml_token_body_t, spares: &mut Vec<Vec<u8>>)
     match slot {
         yaml_token_body_t::Alias { value } => keep_room(taken(value), spares),
         yaml_token_body_t::Anchor { value } => keep_room(taken(value), spares),
-        _ => {
-            *slot = yaml_token_body_t::No;
+        _ => let_go_parts(slot, spares),
+    }
+}
+
+/// Lets go of what a slot holds, and keeps the room of both texts of a tag.
+// Out of line: in line its parts would be set to zero for each name.
+#[inline(never)]
+fn let_go_parts(slot: &mut yaml_token_body_t, spares: &mut Vec<Vec<u8>>)
+    ensures { is_bare (body_of slot.new) ≡ true }
+{
+    match mem::replace(slot, yaml_token_body_t::No) {
+        yaml_token_body_t::Tag { handle, suffix } => {
+            keep_room(handle, spares);
+            keep_room(suffix, spares);
         }
+        other => drop(other),
     }
 }
 

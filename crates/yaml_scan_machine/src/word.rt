@@ -158,15 +158,14 @@ fn text_word(
     ensures { ReadsWord reader.old.text reader.old.at reader.new result
         (spec.word_at kind flow level reader.old.text reader.old.at) }
 {
-    let alloc = *spares.allocator();
     match kind {
         Kind::DocumentStart => Ok(document_mark(reader, yaml_token_body_t::DocumentStart)),
         Kind::DocumentEnd => Ok(document_mark(reader, yaml_token_body_t::DocumentEnd)),
-        Kind::Directive => directive_word(alloc, reader),
-        Kind::Alias => alias_word(alloc, reader),
-        Kind::Anchor => anchor_word(alloc, reader),
-        Kind::Tag => tag_word(alloc, reader, flow),
-        Kind::Literal | Kind::Folded => block_word(alloc, reader, level),
+        Kind::Directive => directive_word(spares, reader),
+        Kind::Alias => alias_word(spares, reader),
+        Kind::Anchor => anchor_word(spares, reader),
+        Kind::Tag => tag_word(spares, reader, flow),
+        Kind::Literal | Kind::Folded => block_word(*spares.allocator(), reader, level),
         Kind::SingleQuoted => single_word(spares, reader),
         Kind::DoubleQuoted => double_word(spares, reader),
         Kind::Plain => plain_word(spares, reader, flow, level),
@@ -256,12 +255,12 @@ fn document_mark(reader: &mut Reader, body: yaml_token_body_t) -> Word
 
 // Out of line: it is rare.
 #[inline(never)]
-fn directive_word(alloc: Global, reader: &mut Reader) -> Result<Word, ScanError>
+fn directive_word(spares: &mut Vec<Vec<u8>>, reader: &mut Reader) -> Result<Word, ScanError>
     requires { byte reader.old.text reader.old.at ≡ 37 }
     ensures { ReadsWord reader.old.text reader.old.at reader.new result
         (spec.directed (directive_at reader.old.text reader.old.at)) }
 {
-    match directive(alloc, reader) {
+    match directive(spares, reader) {
         Ok(read) => Ok(Word {
             body: directive_body(read.directive),
             end: read.end_mark,
@@ -282,13 +281,13 @@ fn directive_body(directive: Directive) -> yaml_token_body_t
 
 // Inlined: in the way of its kind its answer isn't put together.
 #[inline(always)]
-fn alias_word(alloc: Global, reader: &mut Reader) -> Result<Word, ScanError>
+fn alias_word(spares: &mut Vec<Vec<u8>>, reader: &mut Reader) -> Result<Word, ScanError>
     requires { byte reader.old.text reader.old.at ≡ 42 }
     ensures { ReadsWord reader.old.text reader.old.at reader.new result
         (spec.valued (λ v. tokens.alias v)
         (anchor_at Context.Alias reader.old.text reader.old.at)) }
 {
-    let read = anchor(alloc, reader, Context::Alias)?;
+    let read = anchor(spares, reader, Context::Alias)?;
     Ok(Word {
         body: yaml_token_body_t::Alias { value: read.value },
         end: read.end_mark,
@@ -298,13 +297,13 @@ fn alias_word(alloc: Global, reader: &mut Reader) -> Result<Word, ScanError>
 
 // Inlined: in the way of its kind its answer isn't put together.
 #[inline(always)]
-fn anchor_word(alloc: Global, reader: &mut Reader) -> Result<Word, ScanError>
+fn anchor_word(spares: &mut Vec<Vec<u8>>, reader: &mut Reader) -> Result<Word, ScanError>
     requires { byte reader.old.text reader.old.at ≡ 38 }
     ensures { ReadsWord reader.old.text reader.old.at reader.new result
         (spec.valued (λ v. tokens.anchor v)
         (anchor_at Context.Anchor reader.old.text reader.old.at)) }
 {
-    let read = anchor(alloc, reader, Context::Anchor)?;
+    let read = anchor(spares, reader, Context::Anchor)?;
     Ok(Word {
         body: yaml_token_body_t::Anchor { value: read.value },
         end: read.end_mark,
@@ -314,12 +313,12 @@ fn anchor_word(alloc: Global, reader: &mut Reader) -> Result<Word, ScanError>
 
 // Inlined: in the way of its kind its answer isn't put together.
 #[inline(always)]
-fn tag_word(alloc: Global, reader: &mut Reader, flow: bool) -> Result<Word, ScanError>
+fn tag_word(spares: &mut Vec<Vec<u8>>, reader: &mut Reader, flow: bool) -> Result<Word, ScanError>
     requires { byte reader.old.text reader.old.at ≡ 33 }
     ensures { ReadsWord reader.old.text reader.old.at reader.new result
         (spec.tagged (tag_at flow reader.old.text reader.old.at)) }
 {
-    let read = tag(alloc, reader, flow)?;
+    let read = tag(spares, reader, flow)?;
     Ok(Word {
         body: yaml_token_body_t::Tag {
             handle: read.handle,

@@ -183,7 +183,7 @@ fn hand_out(from: &mut yaml_token_body_t, to: &mut yaml_token_body_t)
                 },
             );
         }
-        _ => exchange(from, to),
+        _ => hand_out_name(from, to),
     }
 }
 
@@ -198,8 +198,29 @@ fn taken(text: &mut Vec<u8>) -> Vec<u8>
     mem::replace(text, Vec::new(alloc))
 }
 
-/// Moves a body to a place that holds no text, and leaves none there.
+/// Moves a body that is neither a kind nor a scalar to a place that holds no text, and leaves none there, or an empty one.
 // Out of line: mostly it is a kind or a scalar.
+#[inline(never)]
+fn hand_out_name(from: &mut yaml_token_body_t, to: &mut yaml_token_body_t)
+    requires { is_bare (body_of to.old) ≡ true }
+    ensures to { to.new ≡ from.old }
+    ensures from { is_bare (body_of from.new) ≡ true }
+{
+    match from {
+        yaml_token_body_t::Alias { value } => {
+            let text = taken(value);
+            put_body(to, yaml_token_body_t::Alias { value: text });
+        }
+        yaml_token_body_t::Anchor { value } => {
+            let text = taken(value);
+            put_body(to, yaml_token_body_t::Anchor { value: text });
+        }
+        _ => exchange(from, to),
+    }
+}
+
+/// Moves a body to a place that holds no text, and leaves none there.
+// Out of line: mostly it is a name, or less.
 #[inline(never)]
 fn exchange(from: &mut yaml_token_body_t, to: &mut yaml_token_body_t)
     requires { is_bare (body_of to.old) ≡ true }

@@ -11,4 +11,5 @@ mod scalar;
 
 pub use plain::{plain_scalar, starts_plain};
 pub use quoted::{double_quoted, single_quoted};
+pub use run::{copied, room};
 pub use scalar::{PlainScalar, Scalar};

@@ -164,7 +164,7 @@ const CHUNK: usize = 16;
 /// A copy of bytes that stand in the text from that place on, in the room of a spare text where they fit.
 // Inlined: mostly one move.
 #[inline(always)]
-pub(crate) fn copied(
+pub fn copied(
     spares: &mut Vec<Vec<u8>>,
     text: &[u8],
     from: usize,
@@ -197,7 +197,7 @@ pub(crate) fn copied_whole(spares: &mut Vec<Vec<u8>>, bytes: &[u8]) -> Result<Ve
 /// An empty text with room for so many bytes: a spare one, where it has that.
 // Inlined: mostly it has it.
 #[inline(always)]
-pub(crate) fn room(spares: &mut Vec<Vec<u8>>, count: usize) -> Result<Vec<u8>, AllocError>
+pub fn room(spares: &mut Vec<Vec<u8>>, count: usize) -> Result<Vec<u8>, AllocError>
     ensures { IfOk result (λ v. v.items ≡ []) }
 {
     let alloc = *spares.allocator();

@@ -5,18 +5,21 @@ ghost use Rattle.yaml_scan_model.specs.Marks.{byte, mark_at, is_blank_or_end};
 ghost use Rattle.yaml_scan_words.specs.Anchors as spec;
 ghost use Rattle.yaml_scan_words.specs.Readings.{ReadsAs, IsNameWord, behind_bytes};
 
-use crate::run::{copied, leap, name_end};
+use crate::run::{copied_since, leap, name_end};
 use crate::word::{Word, refusal};
-use std::alloc::Global;
 use yaml_scan_model::{Context, Problem, Reader, ScanError};
 
 /// The anchor or alias whose `&` or `*` stands here (YAML 1.1, 3.2.2.2): its name is one or more alphas.
 ///
 /// The context is `Anchor` or `Alias`; it stands in the fault. A name that is empty, or goes on with what may not follow it, is
-/// refused at its end.
+/// refused at its end. The name may take the room of a spare text.
 // Inlined into its two callers, each a call of its own.
 #[inline(always)]
-pub fn anchor(alloc: Global, reader: &mut Reader, context: Context) -> Result<Word, ScanError>
+pub fn anchor(
+    spares: &mut Vec<Vec<u8>>,
+    reader: &mut Reader,
+    context: Context,
+) -> Result<Word, ScanError>
     requires { (byte reader.old.text reader.old.at ≡ 38)
         ⊎ (byte reader.old.text reader.old.at ≡ 42) }
     ensures { ReadsAs (IsNameWord reader.old.text reader.old.at) behind_bytes reader.old.text
@@ -28,9 +31,9 @@ pub fn anchor(alloc: Global, reader: &mut Reader, context: Context) -> Result<Wo
     let from = reader.place() + 1;
     leap(reader, to);
     if from == to || !may_end_name(reader) {
-        return Err(refusal(reader, Problem::NoAlphanumeric, context, start));
+        return Err(refusal(&reader.ahead(), Problem::NoAlphanumeric, context, start));
     }
-    let value = copied(alloc, reader.text(), from, to)?;
+    let value = copied_since(spares, reader, from)?;
     Ok(Word {
         value,
         start_mark: start,
@@ -45,9 +48,18 @@ pub fn anchor(alloc: Global, reader: &mut Reader, context: Context) -> Result<Wo
 fn may_end_name(reader: &Reader) -> bool
     ensures { result ≡ spec.may_end_name reader.now.text reader.now.at }
 {
-    reader.is_blank_or_end(0)
+    is_blank_or_end(reader)
         || matches!(
             reader.here(),
             b'?' | b':' | b',' | b']' | b'}' | b'%' | b'@' | b'`'
         )
+}
+
+/// Whether a blank, a break or the end stands here.
+// Inlined: mostly a space does. All else asks a reader of its own: one that is lent to a call out of line lies in memory.
+#[inline(always)]
+fn is_blank_or_end(reader: &Reader) -> bool
+    ensures { result ≡ is_blank_or_end reader.now.text reader.now.at }
+{
+    reader.here() == b' ' || reader.ahead().is_blank_or_end(0)
 }

@@ -10,7 +10,6 @@ use crate::prefixes::tag_directive;
 use crate::run::{Run, skip_indicator, skip_run};
 use crate::versions::version;
 use crate::word::{Directive, DirectiveWord, refusal};
-use std::alloc::Global;
 use yaml_scan_model::{Context, Problem, Reader, ScanError, yaml_mark_t};
 
 /// Which directive a name tells.
@@ -23,14 +22,14 @@ pub(crate) enum DirectiveName {
 /// The directive whose `%` stands here (YAML 1.1, 7.1): `%YAML` with a version, or `%TAG` with a handle and a prefix.
 ///
 /// Behind it blanks, a comment and the break are passed. The directive's end mark stands behind its value.
-pub fn directive(alloc: Global, reader: &mut Reader) -> Result<DirectiveWord, ScanError>
+pub fn directive(spares: &mut Vec<Vec<u8>>, reader: &mut Reader) -> Result<DirectiveWord, ScanError>
     requires { byte reader.old.text reader.old.at ≡ 37 }
     ensures { ReadsAs (IsDirective reader.old.text reader.old.at) spec.directive_place
         reader.old.text (mark_at reader.old.text reader.old.at) reader.new result
         (spec.directive_at reader.old.text reader.old.at) }
 {
     let start = reader.mark();
-    let directive = directive_value(alloc, reader, start)?;
+    let directive = directive_value(spares, reader, start)?;
     let end_mark = reader.mark();
     finish_line(reader, start)?;
     Ok(DirectiveWord {
@@ -42,7 +41,7 @@ pub fn directive(alloc: Global, reader: &mut Reader) -> Result<DirectiveWord, Sc
 
 /// The directive that stands here, up to the end of its value.
 fn directive_value(
-    alloc: Global,
+    spares: &mut Vec<Vec<u8>>,
     reader: &mut Reader,
     start: yaml_mark_t,
 ) -> Result<Directive, ScanError>
@@ -52,7 +51,7 @@ fn directive_value(
 {
     match directive_name(reader, start)? {
         DirectiveName::Yaml => version(reader, start),
-        DirectiveName::Tag => tag_directive(alloc, reader, start),
+        DirectiveName::Tag => tag_directive(spares, reader, start),
     }
 }
 

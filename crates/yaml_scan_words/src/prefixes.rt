@@ -6,15 +6,14 @@ ghost use Rattle.yaml_scan_words.specs.Directives as spec;
 ghost use Rattle.yaml_scan_words.specs.Readings.{ReadsAs, IsBytes, behind_bytes};
 ghost use Rattle.yaml_scan_words.specs.DirectivesGiven.{IsSaid};
 
-use crate::run::{Run, belongs, copied, skip_indicator, skip_run};
+use crate::run::{Run, belongs, copied_since, skip_indicator, skip_run};
 use crate::uris::some_uri;
 use crate::word::{Directive, refusal};
-use std::alloc::Global;
 use yaml_scan_model::{Context, Problem, Reader, ScanError, yaml_mark_t};
 
 /// What follows here: blanks, a handle, blanks and a prefix (YAML 1.1, 7.1.2).
 pub(crate) fn tag_directive(
-    alloc: Global,
+    spares: &mut Vec<Vec<u8>>,
     reader: &mut Reader,
     start: yaml_mark_t,
 ) -> Result<Directive, ScanError>
@@ -22,13 +21,17 @@ pub(crate) fn tag_directive(
         (spec.tag_directive_at reader.old.text reader.old.at) }
 {
     skip_run(Run::Blanks, reader);
-    let handle = tag_handle(alloc, reader, start)?;
-    let prefix = tag_prefix(alloc, reader, start)?;
+    let handle = tag_handle(spares, reader, start)?;
+    let prefix = tag_prefix(spares, reader, start)?;
     Ok(Directive::Tag { handle, prefix })
 }
 
 /// The handle that stands here: `!` or `!alphas!`.
-fn tag_handle(alloc: Global, reader: &mut Reader, start: yaml_mark_t) -> Result<Vec<u8>, ScanError>
+fn tag_handle(
+    spares: &mut Vec<Vec<u8>>,
+    reader: &mut Reader,
+    start: yaml_mark_t,
+) -> Result<Vec<u8>, ScanError>
     ensures { ReadsAs IsBytes behind_bytes reader.old.text start reader.new result
         (spec.handle_at reader.old.text reader.old.at) }
 {
@@ -46,7 +49,7 @@ fn tag_handle(alloc: Global, reader: &mut Reader, start: yaml_mark_t) -> Result<
     skip_run(Run::Alphas, reader);
     if reader.here() == b'!' {
         skip_indicator(reader);
-        return Ok(copied(alloc, reader.text(), from, reader.place())?);
+        return Ok(copied_since(spares, reader, from)?);
     }
     if reader.place() != name {
         return Err(refusal(
@@ -56,11 +59,15 @@ fn tag_handle(alloc: Global, reader: &mut Reader, start: yaml_mark_t) -> Result<
             start,
         ));
     }
-    Ok(copied(alloc, reader.text(), from, reader.place())?)
+    Ok(copied_since(spares, reader, from)?)
 }
 
 /// The prefix that follows here behind blanks, which end the handle.
-fn tag_prefix(alloc: Global, reader: &mut Reader, start: yaml_mark_t) -> Result<Vec<u8>, ScanError>
+fn tag_prefix(
+    spares: &mut Vec<Vec<u8>>,
+    reader: &mut Reader,
+    start: yaml_mark_t,
+) -> Result<Vec<u8>, ScanError>
     ensures { ReadsAs IsBytes behind_bytes reader.old.text start reader.new result
         (spec.prefix_at reader.old.text reader.old.at) }
 {
@@ -68,7 +75,7 @@ fn tag_prefix(alloc: Global, reader: &mut Reader, start: yaml_mark_t) -> Result<
         return Err(refusal(reader, Problem::NoWhitespace, Context::TagDirective, start));
     }
     skip_run(Run::Blanks, reader);
-    let prefix = some_uri(alloc, reader, Context::TagDirectiveUri, true, start)?;
+    let prefix = some_uri(spares, reader, Context::TagDirectiveUri, true, start)?;
     if !reader.is_blank_or_end(0) {
         return Err(refusal(
             reader,

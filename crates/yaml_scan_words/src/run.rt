@@ -7,8 +7,9 @@ ghost use Rattle.yaml_scan_words.specs.declared.run.Run.TheVariants as runs;
 ghost use Rattle.yaml_scan_words.specs.Runs as spec;
 ghost use Rattle.yaml_scan_words.specs.Written.{is_kept};
 
-use std::alloc::{AllocError, Global};
+use std::alloc::AllocError;
 use yaml_scan_model::{IS_ALPHA, IS_BLANK, IS_BREAKZ, IS_DIGIT, Reader, yaml_mark_t};
+use yaml_scan_scalars::copied as copied_bytes;
 
 /// Which bytes go together.
 #[derive(Clone, Copy)]
@@ -145,9 +146,27 @@ pub(crate) fn skip_indicator(reader: &mut Reader)
     reader.skip();
 }
 
-/// A copy of the bytes from one place to another.
-pub(crate) fn copied(
-    alloc: Global,
+/// A copy of the bytes from that place up to here, in the room of a spare text where they fit.
+// Inlined: a reader that is lent to a call out of line lies in memory.
+#[inline(always)]
+pub(crate) fn copied_since(
+    spares: &mut Vec<Vec<u8>>,
+    reader: &Reader,
+    from: usize,
+) -> Result<Vec<u8>, AllocError>
+    requires { from ≤ reader.now.at }
+    ensures { IfOk result (λ v. v.items ≡ slice_range reader.now.text from reader.now.at) }
+{
+    // Read for the clauses: the place that is reached stands inside the text.
+    let _here = reader.stop();
+    copied(spares, reader.text(), from, reader.place())
+}
+
+/// A copy of the bytes from one place to another, in the room of a spare text where they fit.
+// Out of line: names and the parts of tags have it once, with the copy's move in line.
+#[inline(never)]
+fn copied(
+    spares: &mut Vec<Vec<u8>>,
     text: &[u8],
     from: usize,
     to: usize,
@@ -156,5 +175,5 @@ pub(crate) fn copied(
     requires inside { to ≤ length text.now }
     ensures { IfOk result (λ v. v.items ≡ slice_range text.now from to) }
 {
-    Vec::from_slice(alloc, &text[from..to])
+    copied_bytes(spares, text, from, &text[from..to])
 }

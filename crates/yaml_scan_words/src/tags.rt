@@ -6,11 +6,11 @@ ghost use Rattle.yaml_scan_words.specs.Tags as spec;
 ghost use Rattle.yaml_scan_words.specs.Readings.{ReadsAs};
 ghost use Rattle.yaml_scan_words.specs.TagsGiven.{IsTag, IsParts};
 
-use crate::run::{leap, name_end, skip_indicator};
+use crate::run::{copied_since, leap, name_end, skip_indicator};
 use crate::uris::{some_uri, uri};
 use crate::word::{TagWord, refusal};
-use std::alloc::Global;
 use yaml_scan_model::{Context, Problem, Reader, ScanError, yaml_mark_t};
+use yaml_scan_scalars::room;
 
 /// A tag's handle and suffix.
 #[derive(Drop)]
@@ -23,14 +23,14 @@ pub(crate) struct TagParts {
 ///
 /// A verbatim tag has no handle, and the tag `!` has none and the suffix `!`. Escapes are spelled out in the suffix. A tag ends before
 /// a blank, a break or the end, in flow context also before `,`.
-pub fn tag(alloc: Global, reader: &mut Reader, flow: bool) -> Result<TagWord, ScanError>
+pub fn tag(spares: &mut Vec<Vec<u8>>, reader: &mut Reader, flow: bool) -> Result<TagWord, ScanError>
     requires { byte reader.old.text reader.old.at ≡ 33 }
     ensures { ReadsAs (IsTag reader.old.text reader.old.at) spec.tag_end reader.old.text
         (mark_at reader.old.text reader.old.at) reader.new result
         (spec.tag_at flow reader.old.text reader.old.at) }
 {
     let start = reader.mark();
-    let parts = tag_parts(alloc, reader, start)?;
+    let parts = tag_parts(spares, reader, start)?;
     if !may_end_tag(reader, flow) {
         return Err(refusal(reader, Problem::NoWhitespaceOrBreak, Context::Tag, start));
     }
@@ -51,23 +51,31 @@ fn may_end_tag(reader: &Reader, flow: bool) -> bool
 
 /// The tag that stands here, whatever follows it.
 #[tactic(auto, unfolding(crate::specs::Tags::parts_at))]
-fn tag_parts(alloc: Global, reader: &mut Reader, start: yaml_mark_t) -> Result<TagParts, ScanError>
+fn tag_parts(
+    spares: &mut Vec<Vec<u8>>,
+    reader: &mut Reader,
+    start: yaml_mark_t,
+) -> Result<TagParts, ScanError>
     requires { byte reader.old.text reader.old.at ≡ 33 }
     ensures { ReadsAs IsParts spec.tag_end reader.old.text start reader.new result
         (spec.parts_at reader.old.text reader.old.at) }
 {
     if reader.byte(1) == b'<' {
-        return verbatim(alloc, reader, start);
+        return verbatim(spares, reader, start);
     }
     let end = name_end(reader);
     if reader.text().get(end).copied().unwrap_or(0) == b'!' {
-        return named(alloc, reader, end, start);
+        return named(spares, reader, end, start);
     }
-    bare(alloc, reader, start)
+    bare(spares, reader, start)
 }
 
 /// The tag `!<uri>` that stands here.
-fn verbatim(alloc: Global, reader: &mut Reader, start: yaml_mark_t) -> Result<TagParts, ScanError>
+fn verbatim(
+    spares: &mut Vec<Vec<u8>>,
+    reader: &mut Reader,
+    start: yaml_mark_t,
+) -> Result<TagParts, ScanError>
     requires mark { byte reader.old.text reader.old.at ≡ 33 }
     requires bracket { byte reader.old.text (reader.old.at + 1) ≡ 60 }
     ensures { ReadsAs IsParts spec.tag_end reader.old.text start reader.new result
@@ -75,20 +83,20 @@ fn verbatim(alloc: Global, reader: &mut Reader, start: yaml_mark_t) -> Result<Ta
 {
     skip_indicator(reader);
     skip_indicator(reader);
-    let suffix = some_uri(alloc, reader, Context::TagUri, true, start)?;
+    let suffix = some_uri(spares, reader, Context::TagUri, true, start)?;
     if reader.here() != b'>' {
         return Err(refusal(reader, Problem::NoClosingBracket, Context::Tag, start));
     }
     skip_indicator(reader);
     Ok(TagParts {
-        handle: Vec::new(alloc),
+        handle: Vec::new(*spares.allocator()),
         suffix,
     })
 }
 
 /// The tag with a handle `!alphas!` that stands here; the alphas end at that place.
 fn named(
-    alloc: Global,
+    spares: &mut Vec<Vec<u8>>,
     reader: &mut Reader,
     end: usize,
     start: yaml_mark_t,
@@ -102,20 +110,25 @@ fn named(
     let from = reader.place();
     leap(reader, end);
     skip_indicator(reader);
-    let handle = Vec::from_slice(alloc, reader.since(from))?;
-    let suffix = some_uri(alloc, reader, Context::TagUri, false, start)?;
+    let handle = copied_since(spares, reader, from)?;
+    let suffix = some_uri(spares, reader, Context::TagUri, false, start)?;
     Ok(TagParts { handle, suffix })
 }
 
 /// The tag `!uri` or `!` that stands here.
-fn bare(alloc: Global, reader: &mut Reader, start: yaml_mark_t) -> Result<TagParts, ScanError>
+fn bare(
+    spares: &mut Vec<Vec<u8>>,
+    reader: &mut Reader,
+    start: yaml_mark_t,
+) -> Result<TagParts, ScanError>
     requires { byte reader.old.text reader.old.at ≡ 33 }
     ensures { ReadsAs IsParts spec.tag_end reader.old.text start reader.new result
         (spec.bare_at reader.old.text reader.old.at) }
 {
     skip_indicator(reader);
-    let suffix = uri(alloc, reader, Context::TagUri, false, start)?;
-    let mark = Vec::from_slice(alloc, b"!")?;
+    let suffix = uri(spares, reader, Context::TagUri, false, start)?;
+    let mut mark = room(spares, 1)?;
+    mark.push(b'!')?;
     if suffix.is_empty() {
         return Ok(TagParts {
             handle: suffix,

@@ -7,9 +7,8 @@ ghost use Rattle.yaml_scan_words.specs.Readings.{ReadsAs, IsBytes, behind_bytes}
 ghost use Rattle.yaml_scan_words.specs.Spelt.{spot_of};
 ghost use Rattle.yaml_scan_words.specs.Written.{is_kept};
 
-use crate::run::{is_kept, leap, skip_indicator};
+use crate::run::{copied_since, is_kept, leap, skip_indicator};
 use crate::word::refusal;
-use std::alloc::Global;
 use yaml_scan_model::{Context, Problem, Reader, ScanError, yaml_mark_t};
 
 /// A byte of a URI, and how many escapes have to follow it to spell the rest of its character.
@@ -23,7 +22,7 @@ pub(crate) struct Spelling {
 // Inlined into its callers, which are calls of their own.
 #[inline(always)]
 pub(crate) fn some_uri(
-    alloc: Global,
+    spares: &mut Vec<Vec<u8>>,
     reader: &mut Reader,
     context: Context,
     wide: bool,
@@ -32,7 +31,7 @@ pub(crate) fn some_uri(
     ensures { ReadsAs IsBytes behind_bytes reader.old.text start reader.new result
         (spec.some_uri_at context wide reader.old.text reader.old.at) }
 {
-    let bytes = uri(alloc, reader, context, wide, start)?;
+    let bytes = uri(spares, reader, context, wide, start)?;
     if bytes.is_empty() {
         return Err(refusal(reader, Problem::NoTagUri, context, start));
     }
@@ -43,7 +42,7 @@ pub(crate) fn some_uri(
 // Inlined into its callers, which are calls of their own.
 #[inline(always)]
 pub(crate) fn uri(
-    alloc: Global,
+    spares: &mut Vec<Vec<u8>>,
     reader: &mut Reader,
     context: Context,
     wide: bool,
@@ -54,7 +53,7 @@ pub(crate) fn uri(
 {
     let from = reader.place();
     leap(reader, kept_end(reader.text(), from, wide));
-    let bytes = Vec::from_slice(alloc, reader.since(from))?;
+    let bytes = copied_since(spares, reader, from)?;
     if reader.here() != b'%' {
         return Ok(bytes);
     }

@@ -42,6 +42,9 @@ pub struct DirectiveWord {
 }
 
 /// The refusal of a lexeme that starts at that mark, and doesn't fit from the reader's place on.
+// Out of line: in line its parts would be put together with those of what is read. Cold: most lexemes fit.
+#[cold]
+#[inline(never)]
 pub(crate) fn refusal(
     reader: &Reader,
     problem: Problem,

@@ -1,8 +1,7 @@
 use Rattle.std.proofs.Common.{◌≤◌, ◌<◌, length, ◌+◌, arith, inl, inr}
 use Rattle.yaml_scan_model.specs.Marks.{byte}
-use Rattle.yaml_scan_model.proofs.MarksLemmas.{within}
 use Rattle.yaml_scan_words.specs.declared.run.Run.TheVariants as runs
-use Rattle.yaml_scan_words.proofs.RunsLemmas.{run_within-ge, run_within-le}
+use Rattle.yaml_scan_words.proofs.RunsLemmas.{run_within-ge}
 use Rattle.yaml_scan_words.proofs.PrintedLemmas.{name_printed}
 use Rattle.yaml_scan_words.proofs.anchors.anchor.Goals as goal
 
@@ -27,14 +26,7 @@ leap-requires-clause-high c =
     let first_printed : (32 < byte c.args.reader.now.text c.args.reader.now.at) × (byte c.args.reader.now.text c.args.reader.now.at < 127) = elim c.requires [ inl e ↦ (omega arith, omega arith) | inr e ↦ (omega arith, omega arith) ] in
     rw c.name_end-to.ensures (λ k after before. (name_printed c.args.reader.now.text c.args.reader.now.at k first_printed after before).1)
 
-pub copied-requires-clause-forward : goal.copied-requires-clause-forward
-copied-requires-clause-forward c =
+pub copied_since-requires : goal.copied_since-requires
+copied_since-requires c =
     let ge = run_within-ge (length c.args.reader.now.text) runs.Alphas c.args.reader.now.text (c.args.reader.now.at + 1) in
-    rw (c.place-from.ensures, c.name_end-to.ensures) ge
-
-pub copied-requires-clause-inside : goal.copied-requires-clause-inside
-copied-requires-clause-inside c =
-    let some : 0 < byte c.args.reader.now.text c.args.reader.now.at = elim c.requires [ inl e ↦ omega arith | inr e ↦ omega arith ] in
-    let inside = within c.args.reader.now.text c.args.reader.now.at some in
-    let le = run_within-le (length c.args.reader.now.text) runs.Alphas c.args.reader.now.text (c.args.reader.now.at + 1) (omega arith) in
-    rw (c.name_end-to.ensures, c.text.ensures, c.leap.ensures) le
+    rw (c.place-from.ensures, c.leap.ensures, c.name_end-to.ensures) ge

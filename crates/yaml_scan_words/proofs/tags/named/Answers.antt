@@ -20,8 +20,8 @@ leap-requires-clause-high c =
     let first_printed : (32 < byte c.args.reader.now.text c.args.reader.now.at) × (byte c.args.reader.now.text c.args.reader.now.at < 127) = (omega (arith, c.requires.mark), omega (arith, c.requires.mark)) in
     rw c.requires.name (λ k after before. (name_printed c.args.reader.now.text c.args.reader.now.at k first_printed after before).1)
 
-pub since-requires : goal.since-requires
-since-requires c =
+pub copied_since-requires : goal.copied_since-requires
+copied_since-requires c =
     let ge = run_within-ge (length c.args.reader.now.text) runs.Alphas c.args.reader.now.text (c.args.reader.now.at + 1) in
     let to : c.args.reader.now.at + 1 ≤ c.args.end = rw c.requires.name ge in
     rw (c.place-from.ensures, c.skip_indicator.ensures, c.leap.ensures) (omega arith)

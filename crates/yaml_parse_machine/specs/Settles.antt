@@ -1,6 +1,5 @@
 -- What resolving gives.
-use Rattle.std.specs.Prelude.{ℕ, ◌≡◌, Bool, true, false, List, Option, Some, None, Result, Ok, Err, Vec}
-use Rattle.std.specs.Global.{Global}
+use Rattle.std.specs.Prelude.{ℕ, ◌≡◌, Bool, true, false, List, Option, Some, None, Result, Ok, Err}
 use Rattle.yaml_parse_model.specs.declared.yaml_mark_t.{yaml_mark_t}
 use Rattle.yaml_parse_model.specs.Events.{event_of, body_of}
 use Rattle.yaml_parse_model.specs.declared.event.yaml_event_t.{yaml_event_t}
@@ -26,11 +25,12 @@ abbrev pub Refused : Refusal → Settled → Type 0
 Refused Memory s = Unit {0}
 Refused (Fault f) s = s ≡ refused (parser_fault f.problem f.problem_mark f.context_mark)
 
-abbrev pub Resolves : Option (List ℕ) → yaml_mark_t → yaml_mark_t → Result (Vec ℕ Global) Refusal
-    → Type 0
-Resolves o at from (Ok v) = o ≡ Some v.items
-Resolves o at from (Err Memory) = Unit {0}
-Resolves o at from (Err (Fault f)) = (o ≡ None)
+-- the tag in full is that text, or its handle is undefined
+abbrev pub Resolves : Option (List ℕ) → yaml_mark_t → yaml_mark_t → Result (Unit {0}) Refusal
+    → List ℕ → Type 0
+Resolves o at from (Ok u) full = o ≡ Some full
+Resolves o at from (Err Memory) full = Unit {0}
+Resolves o at from (Err (Fault f)) full = (o ≡ None)
     × (f ≡ record { problem = UndefinedHandle; problem_mark = at; context_mark = from })
 
 abbrev pub Notes : Settled → Result (Unit {0}) Refusal → spec.Directives → Type 0

@@ -6,7 +6,7 @@ ghost use Rattle.yaml_parse_machine.specs.Views.{properties_of, tag_of, stack_of
 
 use crate::item::{Properties, State, Tag};
 use crate::pushing::push_silently;
-use crate::taking::moved;
+use crate::room::{moved, replaced};
 use std::alloc::{AllocError, Global};
 use yaml_parse_grammar::Wants;
 use yaml_parse_model::yaml_mark_t;
@@ -29,7 +29,60 @@ fn new_room(
     Ok(Box::new(alloc, properties)?)
 }
 
+// The text of a token that is taken, in whose place the room of the last anchor is left that the box to spare has.
+// Inlined: some moves.
+#[inline(always)]
+pub(crate) fn name_of(name: &mut Vec<u8>, spare: &mut Option<Box<Properties>>) -> Vec<u8>
+    ensures { result.items ≡ name.old.items }
+{
+    match spare {
+        None => moved(name),
+        Some(last) => match &mut last.anchor {
+            None => moved(name),
+            Some(text) => replaced(name, text),
+        },
+    }
+}
+
+// The tag of a token that is taken, in whose place the room of the last tag is left that the box to spare has.
+// Inlined: some moves.
+#[inline(always)]
+pub(crate) fn tag_from(
+    handle: &mut Vec<u8>,
+    suffix: &mut Vec<u8>,
+    mark: yaml_mark_t,
+    spare: &mut Option<Box<Properties>>,
+) -> Tag
+    ensures { tag_of result ≡ record {
+      handle = handle.old.items;
+      suffix = suffix.old.items;
+      mark = mark;
+    } }
+{
+    match spare {
+        None => Tag {
+            handle: moved(handle),
+            suffix: moved(suffix),
+            mark,
+        },
+        Some(last) => match &mut last.tag {
+            None => Tag {
+                handle: moved(handle),
+                suffix: moved(suffix),
+                mark,
+            },
+            Some(tag) => Tag {
+                handle: replaced(handle, &mut tag.handle),
+                suffix: replaced(suffix, &mut tag.suffix),
+                mark,
+            },
+        },
+    }
+}
+
 // A box for the properties of a node, that stand there: the one that is to spare, or else a new one.
+// Inlined: some stores.
+#[inline(always)]
 pub(crate) fn room(
     spare: &mut Option<Box<Properties>>,
     alloc: Global,

@@ -14,9 +14,8 @@ ghost use Rattle.yaml_parse_machine.specs.Swiftly.{IsReady, Swiftly, SwiftlyOn};
 
 use crate::item::{Properties, State, Tag};
 use crate::pushing::put;
-use crate::room::exchanged;
+use crate::room::{exchanged, moved};
 use crate::swift_ways::Swift;
-use crate::taking::moved;
 use crate::telling::{tell_named_scalar, tell_named_start};
 use yaml_parse_grammar::{Brackets, Wants};
 use yaml_parse_model::{yaml_event_t, yaml_token_body_t, yaml_token_t};

@@ -1,6 +1,6 @@
 //! Directives and tags.
 
-ghost use Rattle.std.specs.Prelude.{◌≡◌, ◌++◌, None, Some, map, option_map, IfOk, IfErr};
+ghost use Rattle.std.specs.Prelude.{◌≡◌, ◌++◌, None, Some, map, option_map, OnOk, IfOk, IfErr};
 ghost use Rattle.yaml_parse_model.specs.Events.{directive_of, text_of, body_of, event_of};
 ghost use Rattle.yaml_parse_model.specs.Events as told;
 ghost use Rattle.yaml_parse_grammar.specs.Items as item;
@@ -12,15 +12,15 @@ ghost use Rattle.yaml_parse_machine.specs.Settles.{directives_of, Settles, Settl
 
 use crate::handles::TagDirectives;
 use crate::item::{Properties, RawEvent, RawEventBody, Resolved, Shape, Tag};
-use crate::scalars::{bare_scalar, is_mark, is_plain, named_scalar, scalar_by_tag};
-use crate::slots::{clear, put, start_mapping, start_sequence};
-use crate::taking::moved;
+use crate::room::moved;
+use crate::scalars::scalar;
+use crate::slots::put;
 use std::alloc::{AllocError, AllocFailed, Global};
 use std::mem;
 use yaml_parse_grammar::{ParseFault, ParseProblem};
 use yaml_parse_model::{
-    yaml_event_body_t, yaml_event_t, yaml_mark_t, yaml_scalar_style_t, yaml_tag_directive_t,
-    yaml_version_directive_t,
+    yaml_event_body_t, yaml_event_t, yaml_mapping_style_t, yaml_mark_t, yaml_scalar_style_t,
+    yaml_sequence_style_t, yaml_tag_directive_t, yaml_version_directive_t,
 };
 
 /// The directives of a document.
@@ -81,14 +81,14 @@ fn find_default(handle: &[u8]) -> Option<&'static [u8]>
     }
 }
 
-// The prefix and then the suffix.
-fn joined(alloc: Global, prefix: &[u8], suffix: &[u8]) -> Result<Vec<u8>, AllocError>
-    ensures { IfOk result (λ v. v.items ≡ prefix.now ++ suffix.now) }
+// The prefix and then the suffix, in the room of a text that is done with.
+fn join(room: &mut Vec<u8>, prefix: &[u8], suffix: &[u8]) -> Result<(), AllocError>
+    ensures { OnOk result (room.new.items ≡ prefix.now ++ suffix.now) }
 {
-    let mut full = Vec::with_capacity(alloc, prefix.len() + suffix.len())?;
-    full.extend_from_slice(prefix)?;
-    full.extend_from_slice(suffix)?;
-    Ok(full)
+    room.clear();
+    room.reserve(prefix.len() + suffix.len())?;
+    room.extend_from_slice(prefix)?;
+    room.extend_from_slice(suffix)
 }
 
 // What a handle stands for.
@@ -102,135 +102,109 @@ fn prefix_for<'a>(tags: &'a TagDirectives, handle: &[u8]) -> Option<&'a [u8]>
     }
 }
 
-// The tag in full, of a node that begins there. What its own texts are afterwards isn't told.
-fn resolve(
-    alloc: Global,
-    tags: &TagDirectives,
-    tag: &mut Tag,
-    from: yaml_mark_t,
-) -> Result<Vec<u8>, Refusal>
+// Puts the tag in full in the place of its suffix, of a node that begins there. What its handle is afterwards isn't told.
+fn resolve(tags: &TagDirectives, tag: &mut Tag, from: yaml_mark_t) -> Result<(), Refusal>
     ensures { Resolves (resolved tags.now tag.old.handle.items tag.old.suffix.items) tag.old.mark
-        from result }
+        from result tag.new.suffix.items }
 {
     if tag.handle.is_empty() {
-        return Ok(mem::replace(&mut tag.suffix, Vec::new(alloc)));
+        return Ok(());
     }
     match prefix_for(tags, tag.handle.as_slice()) {
-        Some(prefix) => Ok(joined(alloc, prefix, tag.suffix.as_slice())?),
+        Some(prefix) => {
+            join(&mut tag.handle, prefix, tag.suffix.as_slice())?;
+            mem::swap(&mut tag.handle, &mut tag.suffix);
+            Ok(())
+        }
         None => Err(fault_at(ParseProblem::UndefinedHandle, tag.mark, from)),
     }
 }
 
-// An empty scalar without properties.
-fn bare_empty(alloc: Global, event: &mut yaml_event_body_t)
-    ensures { body_of event.new ≡ node_event None None item.empty }
+// An empty scalar with these properties.
+// Out of line: other nodes are more, and in line its room would be set to zero for each.
+#[inline(never)]
+fn put_empty(
+    alloc: Global,
+    anchor: &mut Option<Vec<u8>>,
+    tag: &mut Option<Vec<u8>>,
+    event: &mut yaml_event_body_t,
+)
+    ensures { body_of event.new ≡ node_event (text_of anchor.old) (text_of tag.old) item.empty }
 {
+    let plain_implicit = tag.is_none();
     let scalar = yaml_event_body_t::Scalar {
-        anchor: None,
-        tag: None,
+        anchor: anchor.take(),
+        tag: tag.take(),
         value: Vec::new(alloc),
-        plain_implicit: true,
+        plain_implicit,
         quoted_implicit: false,
         style: yaml_scalar_style_t::YAML_PLAIN_SCALAR_STYLE,
     };
     put(event, scalar);
 }
 
-// A node without properties.
-fn bare(alloc: Global, shape: &mut Shape, event: &mut yaml_event_body_t)
-    ensures { body_of event.new ≡ node_event None None (shape_of shape.old) }
+// A sequence with these properties begins.
+// Out of line: most nodes are scalars, and in line its room would be set to zero for each.
+#[inline(never)]
+fn put_sequence(
+    anchor: &mut Option<Vec<u8>>,
+    tag: &mut Option<Vec<u8>>,
+    style: yaml_sequence_style_t,
+    event: &mut yaml_event_body_t,
+)
+    ensures { body_of event.new ≡ node_event (text_of anchor.old) (text_of tag.old)
+        (item.sequence style) }
 {
-    match shape {
-        Shape::Empty => bare_empty(alloc, event),
-        Shape::Scalar { value, style } => bare_scalar(value, *style, event),
-        Shape::Sequence(style) => {
-            clear(event);
-            start_sequence(event, *style);
-        }
-        Shape::Mapping(style) => {
-            clear(event);
-            start_mapping(event, *style);
-        }
-    }
+    let implicit = tag.is_none();
+    let start = yaml_event_body_t::SequenceStart {
+        anchor: anchor.take(),
+        tag: tag.take(),
+        implicit,
+        style,
+    };
+    put(event, start);
 }
 
-// A scalar, whose tag `!` says that it has none.
-fn scalar(
-    anchor: Option<Vec<u8>>,
-    tag: Option<Vec<u8>>,
-    value: Vec<u8>,
-    style: yaml_scalar_style_t,
-) -> yaml_event_body_t
-    ensures { body_of result ≡ scalar_event (text_of anchor) (text_of tag) value.items style }
+// A mapping with these properties begins.
+// Out of line: most nodes are scalars, and in line its room would be set to zero for each.
+#[inline(never)]
+fn put_mapping(
+    anchor: &mut Option<Vec<u8>>,
+    tag: &mut Option<Vec<u8>>,
+    style: yaml_mapping_style_t,
+    event: &mut yaml_event_body_t,
+)
+    ensures { body_of event.new ≡ node_event (text_of anchor.old) (text_of tag.old)
+        (item.mapping style) }
 {
-    match tag {
-        None => {
-            let is_plain = is_plain(style);
-            yaml_event_body_t::Scalar {
-                anchor,
-                tag: None,
-                value,
-                plain_implicit: is_plain,
-                quoted_implicit: !is_plain,
-                style,
-            }
-        }
-        Some(tag) => {
-            let is_untagged = is_mark(tag.as_slice());
-            yaml_event_body_t::Scalar {
-                anchor,
-                tag: if is_untagged { None } else { Some(tag) },
-                value,
-                plain_implicit: is_untagged,
-                quoted_implicit: false,
-                style,
-            }
-        }
-    }
+    let implicit = tag.is_none();
+    let start = yaml_event_body_t::MappingStart {
+        anchor: anchor.take(),
+        tag: tag.take(),
+        implicit,
+        style,
+    };
+    put(event, start);
 }
 
-// The event of a node whose tag is resolved.
+// The event of a node whose tag is resolved. Its texts are moved.
+// Inlined: where it is called it is known whether there is a tag.
+#[inline(always)]
 fn node(
     alloc: Global,
-    anchor: Option<Vec<u8>>,
-    tag: Option<Vec<u8>>,
+    anchor: &mut Option<Vec<u8>>,
+    tag: &mut Option<Vec<u8>>,
     shape: &mut Shape,
-) -> yaml_event_body_t
-    ensures { body_of result ≡ node_event (text_of anchor) (text_of tag) (shape_of shape.old) }
+    event: &mut yaml_event_body_t,
+)
+    ensures { body_of event.new ≡ node_event (text_of anchor.old) (text_of tag.old)
+        (shape_of shape.old) }
 {
     match shape {
-        Shape::Empty => {
-            let untagged = tag.is_none();
-            yaml_event_body_t::Scalar {
-                anchor,
-                tag,
-                value: Vec::new(alloc),
-                plain_implicit: untagged,
-                quoted_implicit: false,
-                style: yaml_scalar_style_t::YAML_PLAIN_SCALAR_STYLE,
-            }
-        }
-        Shape::Scalar { value, style } => {
-            scalar(anchor, tag, mem::replace(value, Vec::new(alloc)), *style)
-        }
-        Shape::Sequence(style) => {
-            let implicit = tag.is_none();
-            yaml_event_body_t::SequenceStart {
-                anchor,
-                tag,
-                implicit,
-                style: *style,
-            }
-        }
-        Shape::Mapping(style) => {
-            let implicit = tag.is_none();
-            yaml_event_body_t::MappingStart {
-                anchor,
-                tag,
-                implicit,
-                style: *style,
-            }
-        }
+        Shape::Empty => put_empty(alloc, anchor, tag, event),
+        Shape::Scalar { value, style } => scalar(anchor, tag, value, *style, event),
+        Shape::Sequence(style) => put_sequence(anchor, tag, *style, event),
+        Shape::Mapping(style) => put_mapping(anchor, tag, *style, event),
     }
 }
 
@@ -321,7 +295,7 @@ fn plain_event(event: &mut Resolved, alloc: Global) -> yaml_event_body_t
             implicit: *implicit,
         },
         Resolved::Alias { anchor } => yaml_event_body_t::Alias {
-            anchor: mem::replace(anchor, Vec::new(alloc)),
+            anchor: moved(anchor),
         },
         Resolved::SequenceEnd => yaml_event_body_t::SequenceEnd,
         Resolved::MappingEnd => yaml_event_body_t::MappingEnd,
@@ -364,35 +338,13 @@ fn settle_document(
     Ok(())
 }
 
-// The event of a node behind an anchor alone.
-fn anchored(
-    alloc: Global,
-    anchor: &mut Option<Vec<u8>>,
-    shape: &mut Shape,
-    event: &mut yaml_event_body_t,
-)
-    ensures { body_of event.new ≡ node_event (text_of anchor.old) None (shape_of shape.old) }
-{
-    match shape {
-        Shape::Scalar { value, style } => named_scalar(anchor, value, *style, event),
-        _ => put(event, node(alloc, anchor.take(), None, shape)),
-    }
-}
-
-// The event of a node that has a tag.
-fn tagged(
-    alloc: Global,
-    anchor: &mut Option<Vec<u8>>,
-    tag: Vec<u8>,
-    shape: &mut Shape,
-    event: &mut yaml_event_body_t,
-)
-    ensures { body_of event.new ≡ node_event (text_of anchor.old) (Some tag.items)
-        (shape_of shape.old) }
-{
-    match shape {
-        Shape::Scalar { value, style } => scalar_by_tag(anchor, tag, value, *style, event),
-        _ => put(event, node(alloc, anchor.take(), Some(tag), shape)),
+// The room of the tag that an earlier event had, if it had one, is kept in the place of the suffix.
+fn keep_room(tag: &mut Tag, earlier: Option<Vec<u8>>) {
+    match earlier {
+        None => {}
+        Some(text) => {
+            tag.suffix = text;
+        }
     }
 }
 
@@ -411,12 +363,15 @@ fn with_properties(
 {
     match &mut properties.tag {
         None => {
-            anchored(alloc, &mut properties.anchor, shape, event);
+            let mut no_tag = None;
+            node(alloc, &mut properties.anchor, &mut no_tag, shape, event);
             Ok(true)
         }
         Some(tag) => {
-            let full = resolve(alloc, tags, tag, from)?;
-            tagged(alloc, &mut properties.anchor, full, shape, event);
+            resolve(tags, tag, from)?;
+            let mut full = Some(moved(&mut tag.suffix));
+            node(alloc, &mut properties.anchor, &mut full, shape, event);
+            keep_room(tag, full);
             Ok(true)
         }
     }
@@ -437,7 +392,9 @@ fn settle_node(
 {
     match properties {
         None => {
-            bare(alloc, shape, event);
+            let mut no_anchor = None;
+            let mut no_tag = None;
+            node(alloc, &mut no_anchor, &mut no_tag, shape, event);
             Ok(true)
         }
         Some(there) => with_properties(alloc, tags, there, shape, from, event),

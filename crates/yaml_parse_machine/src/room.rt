@@ -3,7 +3,6 @@
 ghost use Rattle.std.specs.Prelude.{◌≡◌, true, vec_capacity};
 ghost use Rattle.yaml_parse_machine.specs.Bare.{OwnsNothing};
 
-use crate::taking::moved;
 use std::mem;
 use yaml_parse_model::{yaml_event_body_t, yaml_scalar_style_t, yaml_token_body_t};
 
@@ -65,7 +64,7 @@ pub(crate) fn vacate(earlier: &mut yaml_event_body_t, slot: &mut yaml_token_body
             tag: None,
             ref mut value,
             ..
-        } => hand_over(emptied(value), slot),
+        } => hand_over(moved(value), slot),
         _ => vacate_other(earlier, slot),
     }
 }
@@ -96,11 +95,12 @@ fn vacate_rare(earlier: &mut yaml_event_body_t, slot: &mut yaml_token_body_t)
     *earlier = yaml_event_body_t::No;
 }
 
-// The text, of which one without room is left.
+// The text, of which an empty one without room is left.
 // Inlined: some moves.
 #[inline(always)]
-fn emptied(text: &mut Vec<u8>) -> Vec<u8>
-    ensures { vec_capacity text.new ≡ 0 }
+pub(crate) fn moved(text: &mut Vec<u8>) -> Vec<u8>
+    ensures text { result.items ≡ text.old.items }
+    ensures left { vec_capacity text.new ≡ 0 }
 {
     let alloc = *text.allocator();
     mem::replace(text, Vec::new(alloc))
@@ -115,10 +115,10 @@ fn hand_over(text: Vec<u8>, slot: &mut yaml_token_body_t) {
     }
     match *slot {
         yaml_token_body_t::TagDirective { .. } => put_text(text, slot),
-        yaml_token_body_t::Alias { .. } => put_text(text, slot),
-        yaml_token_body_t::Anchor { .. } => put_text(text, slot),
+        yaml_token_body_t::Alias { ref mut value } => *value = text,
+        yaml_token_body_t::Anchor { ref mut value } => *value = text,
         yaml_token_body_t::Tag { .. } => put_text(text, slot),
-        yaml_token_body_t::Scalar { .. } => put_text(text, slot),
+        yaml_token_body_t::Scalar { ref mut value, .. } => *value = text,
         _ => *slot = kept(text),
     }
 }
@@ -160,7 +160,9 @@ pub(crate) fn exchanged(earlier: &mut yaml_event_body_t, text: &mut Vec<u8>) -> 
 }
 
 // The text, in whose place another one is left, which leaves an empty one.
-fn replaced(text: &mut Vec<u8>, other: &mut Vec<u8>) -> Vec<u8>
+// Inlined: some moves.
+#[inline(always)]
+pub(crate) fn replaced(text: &mut Vec<u8>, other: &mut Vec<u8>) -> Vec<u8>
     ensures { result.items ≡ text.old.items }
 {
     mem::replace(text, moved(other))

@@ -1,26 +1,25 @@
 //! Scalars in a slot of events. Where it holds one already, that is changed in place: to put a new one there, the old one is taken
 //! apart, asked what it owns, and set to zero.
 
-ghost use Rattle.std.specs.Prelude.{◌≡◌, None, Some, false, codes};
+ghost use Rattle.std.specs.Prelude.{◌≡◌, ℕ, List, Option, None, codes};
 ghost use Rattle.std.specs.Str.{bytes_eq};
 ghost use Rattle.yaml_parse_model.specs.Events.{text_of, body_of};
 ghost use Rattle.yaml_parse_model.specs.Events as told;
 ghost use Rattle.yaml_parse_grammar.specs.Items as item;
 ghost use Rattle.yaml_parse_grammar.specs.Resolve.{node_event, scalar_event, is_plain as is_plain_style};
 
-use crate::room::{exchanged, is_bare, put_bare};
+use crate::room::{exchanged, is_bare, moved, put_bare};
 use crate::slots::put;
-use crate::taking::moved;
 use std::mem;
 use yaml_parse_model::{yaml_event_body_t, yaml_scalar_style_t};
 
-pub(crate) fn is_mark(tag: &[u8]) -> bool
+fn is_mark(tag: &[u8]) -> bool
     ensures { result ≡ bytes_eq tag.now (codes "!") }
 {
     tag == b"!".as_slice()
 }
 
-pub(crate) fn is_plain(style: yaml_scalar_style_t) -> bool
+fn is_plain(style: yaml_scalar_style_t) -> bool
     ensures { result ≡ is_plain_style style }
 {
     match style {
@@ -98,100 +97,87 @@ pub(crate) fn bare_scalar(
     }
 }
 
-// A new scalar without a tag.
-// Out of line: mostly the slot holds a scalar already, which is changed in place.
-#[inline(never)]
-fn new_named(
-    anchor: &mut Option<Vec<u8>>,
-    value: &mut Vec<u8>,
+// How a scalar may be written with its tag left out, in plain style and in every other one, and its own style.
+#[derive(Clone, Copy)]
+struct Form {
+    plain: bool,
+    quoted: bool,
     style: yaml_scalar_style_t,
-    event: &mut yaml_event_body_t,
-)
-    ensures { body_of event.new ≡ node_event (text_of anchor.old) None
-        (item.scalar value.old.items style) }
-{
-    let text = exchanged(event, value);
-    let is_plain = is_plain(style);
-    let scalar = yaml_event_body_t::Scalar {
-        anchor: anchor.take(),
-        tag: None,
-        value: text,
-        plain_implicit: is_plain,
-        quoted_implicit: !is_plain,
-        style,
-    };
-    put(event, scalar);
 }
 
-// A scalar without a tag. Where the slot holds a scalar, it is changed in place, and its anchor and value are left in place of the
-// new ones.
-pub(crate) fn named_scalar(
-    anchor: &mut Option<Vec<u8>>,
-    value: &mut Vec<u8>,
-    style: yaml_scalar_style_t,
-    event: &mut yaml_event_body_t,
-)
-    ensures { body_of event.new ≡ node_event (text_of anchor.old) None
-        (item.scalar value.old.items style) }
+// The form of a scalar that has that tag, or none. The tag `!` says that it has none, and is let go.
+// Inlined: mostly it is known whether there is a tag.
+#[inline(always)]
+fn form_of(tag: &mut Option<Vec<u8>>, style: yaml_scalar_style_t) -> Form
+    ensures { (anchor : Option (List ℕ)) (value : List ℕ)
+        → told.scalar anchor (text_of tag.new) value result.plain result.quoted result.style
+        ≡ scalar_event anchor (text_of tag.old) value style }
 {
-    match *event {
-        yaml_event_body_t::Scalar {
-            anchor: ref mut last_anchor,
-            ref mut tag,
-            value: ref mut last,
-            plain_implicit: ref mut plain,
-            quoted_implicit: ref mut quoted,
-            style: ref mut last_style,
-        } => {
-            mem::swap(last_anchor, anchor);
-            mem::swap(last, value);
-            *tag = None;
-            *plain = is_plain(style);
-            *quoted = !is_plain(style);
-            *last_style = style;
+    match tag {
+        None => {
+            let plain = is_plain(style);
+            Form {
+                plain,
+                quoted: !plain,
+                style,
+            }
         }
-        _ => new_named(anchor, value, style, event),
+        Some(full) => {
+            if is_mark(full.as_slice()) {
+                *tag = None;
+                Form {
+                    plain: true,
+                    quoted: false,
+                    style,
+                }
+            } else {
+                Form {
+                    plain: false,
+                    quoted: false,
+                    style,
+                }
+            }
+        }
     }
 }
 
-// A new scalar with that tag, or none.
+// A new scalar.
 // Out of line: mostly the slot holds a scalar already, which is changed in place.
 #[inline(never)]
-fn new_tagged(
+fn new_scalar(
     anchor: &mut Option<Vec<u8>>,
-    tag: Option<Vec<u8>>,
+    tag: &mut Option<Vec<u8>>,
     value: &mut Vec<u8>,
-    style: yaml_scalar_style_t,
-    is_plain: bool,
+    form: Form,
     event: &mut yaml_event_body_t,
 )
-    ensures { body_of event.new ≡ told.scalar (text_of anchor.old) (text_of tag) value.old.items
-        is_plain false style }
+    ensures { body_of event.new ≡ told.scalar (text_of anchor.old) (text_of tag.old) value.old.items
+        form.plain form.quoted form.style }
 {
     let text = exchanged(event, value);
     let scalar = yaml_event_body_t::Scalar {
         anchor: anchor.take(),
-        tag,
+        tag: tag.take(),
         value: text,
-        plain_implicit: is_plain,
-        quoted_implicit: false,
-        style,
+        plain_implicit: form.plain,
+        quoted_implicit: form.quoted,
+        style: form.style,
     };
     put(event, scalar);
 }
 
-// A scalar with that tag, or none. Where the slot holds a scalar, it is changed in place, and its anchor and value are left in place
-// of the new ones.
-fn tagged_scalar(
+// A scalar of that form. Where the slot holds one, that is changed in place, and its texts are left in place of the new ones.
+// Inlined: some loads and stores.
+#[inline(always)]
+fn put_scalar(
     anchor: &mut Option<Vec<u8>>,
-    tag: Option<Vec<u8>>,
+    tag: &mut Option<Vec<u8>>,
     value: &mut Vec<u8>,
-    style: yaml_scalar_style_t,
-    is_plain: bool,
+    form: Form,
     event: &mut yaml_event_body_t,
 )
-    ensures { body_of event.new ≡ told.scalar (text_of anchor.old) (text_of tag) value.old.items
-        is_plain false style }
+    ensures { body_of event.new ≡ told.scalar (text_of anchor.old) (text_of tag.old) value.old.items
+        form.plain form.quoted form.style }
 {
     match *event {
         yaml_event_body_t::Scalar {
@@ -203,30 +189,30 @@ fn tagged_scalar(
             style: ref mut last_style,
         } => {
             mem::swap(last_anchor, anchor);
+            mem::swap(last_tag, tag);
             mem::swap(last, value);
-            *last_tag = tag;
-            *plain = is_plain;
-            *quoted = false;
-            *last_style = style;
+            *plain = form.plain;
+            *quoted = form.quoted;
+            *last_style = form.style;
         }
-        _ => new_tagged(anchor, tag, value, style, is_plain, event),
+        _ => new_scalar(anchor, tag, value, form, event),
     }
 }
 
-// A scalar that has a tag, of which `!` says that it has none.
-pub(crate) fn scalar_by_tag(
+// A scalar with that tag, or none, of which `!` says that it has none. Texts of an earlier one may be left in place of the new
+// ones.
+// Inlined: mostly it is known whether there is a tag.
+#[inline(always)]
+pub(crate) fn scalar(
     anchor: &mut Option<Vec<u8>>,
-    tag: Vec<u8>,
+    tag: &mut Option<Vec<u8>>,
     value: &mut Vec<u8>,
     style: yaml_scalar_style_t,
     event: &mut yaml_event_body_t,
 )
-    ensures { body_of event.new ≡ scalar_event (text_of anchor.old) (Some tag.items) value.old.items
-        style }
+    ensures { body_of event.new ≡ scalar_event (text_of anchor.old) (text_of tag.old)
+        value.old.items style }
 {
-    if is_mark(tag.as_slice()) {
-        tagged_scalar(anchor, None, value, style, true, event)
-    } else {
-        tagged_scalar(anchor, Some(tag), value, style, false, event)
-    }
+    let form = form_of(tag, style);
+    put_scalar(anchor, tag, value, form, event);
 }

@@ -49,11 +49,22 @@ pub(crate) fn start_mapping(slot: &mut yaml_event_body_t, style: yaml_mapping_st
     put_bare(slot, start);
 }
 
-// No event in the slot.
-// Out of line: what the old one had is let go by a look at each kind.
-#[inline(never)]
-pub(crate) fn clear(slot: &mut yaml_event_body_t)
-    ensures { OwnsNothing slot.new }
+// A sequence ends.
+// Inlined: it is built in the slot.
+#[inline(always)]
+pub(crate) fn end_sequence(slot: &mut yaml_event_body_t)
+    requires { OwnsNothing slot.old }
+    ensures { body_of slot.new ≡ told.sequence_end }
 {
-    *slot = yaml_event_body_t::No;
+    put_bare(slot, yaml_event_body_t::SequenceEnd);
+}
+
+// A mapping ends.
+// Inlined: it is built in the slot.
+#[inline(always)]
+pub(crate) fn end_mapping(slot: &mut yaml_event_body_t)
+    requires { OwnsNothing slot.old }
+    ensures { body_of slot.new ≡ told.mapping_end }
+{
+    put_bare(slot, yaml_event_body_t::MappingEnd);
 }

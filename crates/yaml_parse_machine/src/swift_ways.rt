@@ -17,12 +17,11 @@ ghost use Rattle.yaml_parse_machine.specs.Swiftly.{Adds, Opens, OpensIn, Awaits,
 
 use crate::choosing::wants;
 use crate::item::{Properties, State, Tag};
-use crate::keeping::room;
+use crate::keeping::{name_of, room, tag_from};
 use crate::named_ways::behind_properties;
 use crate::pushing::{drop_top, push, push_key, swap_top, topmost};
-use crate::room::{exchanged, vacate};
+use crate::room::{moved, vacate};
 use crate::slots::{start_mapping, start_sequence};
-use crate::taking::moved;
 use crate::telling::{tell_alias, tell_end, tell_scalar, tell_start};
 use yaml_parse_grammar::{Brackets, Side, Site};
 use yaml_parse_model::{
@@ -148,6 +147,8 @@ fn at_block(
 }
 
 // The rest of a node behind its first property.
+// Inlined: its state is built in its place.
+#[inline(always)]
 fn await_node(stack: &mut Vec<State>, place: Site, properties: Box<Properties>) -> Swift
     requires { 0 < vec_len stack.old }
     ensures { Awaits place (properties_of properties.value) (stack_of stack.old.items) result
@@ -222,19 +223,16 @@ fn at_rare(
     match &mut token.body {
         yaml_token_body_t::Alias { value } => {
             drop_top(stack);
-            tell_alias(value, token.start_mark, token.end_mark, event);
+            let name = moved(value);
+            tell_alias(name, token, event);
             Swift::Event
         }
         yaml_token_body_t::Anchor { value } => {
-            let name = exchanged(&mut event.body, value);
+            let name = name_of(value, spare);
             keep_anchor(stack, place, name, token.start_mark, token.end_mark, spare)
         }
         yaml_token_body_t::Tag { handle, suffix } => {
-            let tag = Tag {
-                handle: moved(handle),
-                suffix: moved(suffix),
-                mark: token.start_mark,
-            };
+            let tag = tag_from(handle, suffix, token.start_mark, spare);
             keep_tag(stack, place, tag, token.end_mark, spare)
         }
         _ => at_block(stack, place, token, event),
@@ -259,7 +257,7 @@ fn at_optional(
     match &mut token.body {
         yaml_token_body_t::Scalar { value, style } => {
             drop_top(stack);
-            tell_scalar(value, *style, token.start_mark, token.end_mark, event);
+            tell_scalar(value, *style, &token.start_mark, &token.end_mark, event);
             Swift::Event
         }
         yaml_token_body_t::FlowSequenceStart => open_brackets(
@@ -396,7 +394,7 @@ fn in_sequence(
     match &mut token.body {
         yaml_token_body_t::Scalar { value, style } => {
             swap_top(stack, State::More(Brackets::Sequence, opener));
-            tell_scalar(value, *style, token.start_mark, token.end_mark, event);
+            tell_scalar(value, *style, &token.start_mark, &token.end_mark, event);
             Swift::Event
         }
         yaml_token_body_t::FlowSequenceStart => open_inside(

@@ -26,8 +26,8 @@ use crate::pushing::{
     open, push, push_behind_part, push_block_pair, push_entry, push_indentless, push_mapping_pair,
     push_sequence_pair, push_silently,
 };
+use crate::room::{moved, replaced};
 use std::alloc::AllocError;
-use std::mem;
 use yaml_parse_grammar::{Brackets, Side, Site, Wants};
 use yaml_parse_model::{
     yaml_mapping_style_t, yaml_mark_t, yaml_sequence_style_t, yaml_token_body_t, yaml_token_t,
@@ -40,14 +40,6 @@ fn nothing(stack: &mut Vec<State>, slot: &mut RawEvent) -> Result<bool, AllocErr
         stack.old.items) }
 {
     push_silently(stack, State::Lone)
-}
-
-// The text, of which an empty one is left.
-pub(crate) fn moved(text: &mut Vec<u8>) -> Vec<u8>
-    ensures { result.items ≡ text.old.items }
-{
-    let alloc = *text.allocator();
-    mem::replace(text, Vec::new(alloc))
 }
 
 fn at_stream(
@@ -241,6 +233,19 @@ fn open_others(
     given
 }
 
+// The text of a token that is taken, in whose place the text is left that an earlier item still has.
+fn text_for(value: &mut Vec<u8>, earlier: &mut RawEvent) -> Vec<u8>
+    ensures { result.items ≡ value.old.items }
+{
+    match &mut earlier.body {
+        RawEventBody::Node {
+            shape: Shape::Scalar { value: last, .. },
+            ..
+        } => replaced(value, last),
+        _ => moved(value),
+    }
+}
+
 // Inlined into its callers' arms, which know whether there are properties.
 #[inline(always)]
 fn at_content(
@@ -260,7 +265,7 @@ fn at_content(
     match &mut token.body {
         yaml_token_body_t::Scalar { value, style } => {
             let shape = Shape::Scalar {
-                value: moved(value),
+                value: text_for(value, slot),
                 style: *style,
             };
             node(slot, properties, shape, token)

@@ -9,9 +9,9 @@ ghost use Rattle.yaml_parse_grammar.specs.Trees.{flow_shape, end_event, event_at
 ghost use Rattle.yaml_parse_machine.specs.Swiftly.{IsReady};
 
 use crate::item::Properties;
-use crate::room::{exchanged, put_bare, vacate};
-use crate::scalars::{bare_scalar, named_scalar};
-use crate::slots::{start_mapping, start_sequence};
+use crate::room::{put_bare, vacate};
+use crate::scalars::{bare_scalar, scalar};
+use crate::slots::{end_mapping, end_sequence, start_mapping, start_sequence};
 use yaml_parse_grammar::Brackets;
 use yaml_parse_model::{
     yaml_event_body_t, yaml_event_t, yaml_mapping_style_t, yaml_mark_t, yaml_scalar_style_t,
@@ -24,15 +24,15 @@ use yaml_parse_model::{
 pub(crate) fn tell_scalar(
     value: &mut Vec<u8>,
     style: yaml_scalar_style_t,
-    from: yaml_mark_t,
-    to: yaml_mark_t,
+    from: &yaml_mark_t,
+    to: &yaml_mark_t,
     event: &mut yaml_event_t,
 )
-    ensures { IsReady (item_at (item.node None None (item.scalar value.old.items style)) from to)
-        (event_of event.new) }
+    ensures { IsReady (item_at (item.node None None (item.scalar value.old.items style)) from.now
+        to.now) (event_of event.new) }
 {
-    event.start_mark = from;
-    event.end_mark = to;
+    event.start_mark = *from;
+    event.end_mark = *to;
     bare_scalar(value, style, &mut event.body);
 }
 
@@ -49,7 +49,14 @@ pub(crate) fn tell_named_scalar(
 {
     event.start_mark = properties.from;
     event.end_mark = to;
-    named_scalar(&mut properties.anchor, value, style, &mut event.body);
+    let mut no_tag = None;
+    scalar(
+        &mut properties.anchor,
+        &mut no_tag,
+        value,
+        style,
+        &mut event.body,
+    );
 }
 
 // A flow collection with that anchor begins.
@@ -126,25 +133,21 @@ pub(crate) fn tell_end(brackets: Brackets, token: &mut yaml_token_t, event: &mut
     event.end_mark = token.end_mark;
     match brackets {
         Brackets::Sequence => {
-            put_bare(&mut event.body, yaml_event_body_t::SequenceEnd);
+            end_sequence(&mut event.body);
         }
         Brackets::Mapping => {
-            put_bare(&mut event.body, yaml_event_body_t::MappingEnd);
+            end_mapping(&mut event.body);
         }
     }
 }
 
 // An alias stands whole.
-pub(crate) fn tell_alias(
-    name: &mut Vec<u8>,
-    from: yaml_mark_t,
-    to: yaml_mark_t,
-    event: &mut yaml_event_t,
-)
-    ensures { IsReady (event_at (told.alias name.old.items) from to) (event_of event.new) }
+pub(crate) fn tell_alias(anchor: Vec<u8>, token: &mut yaml_token_t, event: &mut yaml_event_t)
+    ensures { IsReady (event_at (told.alias anchor.items) token.old.start_mark token.old.end_mark)
+        (event_of event.new) }
 {
-    event.start_mark = from;
-    event.end_mark = to;
-    let anchor = exchanged(&mut event.body, name);
-    event.body = yaml_event_body_t::Alias { anchor };
+    vacate(&mut event.body, &mut token.body);
+    event.start_mark = token.start_mark;
+    event.end_mark = token.end_mark;
+    put_bare(&mut event.body, yaml_event_body_t::Alias { anchor });
 }

@@ -2,29 +2,29 @@
 use Rattle.std.proofs.Common.{◌≡◌, ℕ, Bool, true, false, if◌then◌else◌, List, [], ◌∷◌, ◌++◌, map, length, Option, Some, None, refl, ap, subst, ◌∙◌}
 use Rattle.std.specs.Str.{bytes_eq}
 use Rattle.std.specs.Prelude.{codes, ℤ}
-use Rattle.yaml_scan_model.specs.declared.yaml_mark_t.{yaml_mark_t}
-use Rattle.yaml_scan_model.specs.declared.yaml_scalar_style_t.{yaml_scalar_style_t}
-use Rattle.yaml_scan_model.specs.declared.yaml_version_directive_t.{yaml_version_directive_t}
-use Rattle.yaml_scan_model.specs.Tokens.{Token, type_of, no_token, zero_mark}
-use Rattle.yaml_scan_model.specs.Faults.{Fault}
-use Rattle.yaml_parse_model.specs.Events.{Event, EventBody, TagDirective}
-use Rattle.yaml_parse_model.specs.Events as event
-use Rattle.yaml_parse_grammar.specs.declared.name.Site.TheVariants.{Root}
-use Rattle.yaml_parse_grammar.specs.declared.name.Choice.{Choice}
-use Rattle.yaml_parse_grammar.specs.declared.name.Choice.TheVariants.{Refuse, Take, Leave, Open}
-use Rattle.yaml_parse_grammar.specs.Items.{RawEvent, RawEventBody, Shape, item_at}
-use Rattle.yaml_parse_grammar.specs.Items as item
-use Rattle.yaml_parse_grammar.specs.States.{State, Taken}
-use Rattle.yaml_parse_grammar.specs.States as state
-use Rattle.yaml_parse_grammar.specs.Trees.{Given}
-use Rattle.yaml_parse_grammar.specs.Machine.{choice_at, taken_at, left_at, Fed, stop, go, with_item, given_by, turn, feed, Outcome, finished, carry, ending_at, run, wants_of}
-use Rattle.yaml_parse_grammar.specs.Resolve.{Directives, Settled, refused, gave, noted, settle, settle_body, with_version, with_tag, with_resolved, is_known_version, directive_for, resolved, node_event, Reading, Told, placed, read_on, reading}
-use Rattle.yaml_parse_grammar.specs.Remaining.{reading_of, is_between}
-use Rattle.yaml_parse_grammar.specs.Stacks.{IsStack}
+use Rattle.yaml_parse_laws_faults.specs.grammar.parse_model.declared.yaml_mark_t.{yaml_mark_t}
+use Rattle.yaml_parse_laws_faults.specs.grammar.parse_model.declared.yaml_scalar_style_t.{yaml_scalar_style_t}
+use Rattle.yaml_parse_laws_faults.specs.grammar.parse_model.declared.yaml_version_directive_t.{yaml_version_directive_t}
+use Rattle.yaml_parse_laws_faults.specs.grammar.parse_model.Tokens.{Token, type_of, no_token, zero_mark}
+use Rattle.yaml_parse_laws_faults.specs.grammar.parse_model.Faults.{Fault}
+use Rattle.yaml_parse_laws_faults.specs.grammar.parse_model.Events.{Event, EventBody, TagDirective}
+use Rattle.yaml_parse_laws_faults.specs.grammar.parse_model.Events as event
+use Rattle.yaml_parse_laws_faults.specs.grammar.declared.Site.TheVariants.{Root}
+use Rattle.yaml_parse_laws_faults.specs.grammar.declared.Choice.{Choice}
+use Rattle.yaml_parse_laws_faults.specs.grammar.declared.Choice.TheVariants.{Refuse, Take, Leave, Open}
+use Rattle.yaml_parse_laws_faults.specs.grammar.Items.{RawEvent, RawEventBody, Shape, item_at}
+use Rattle.yaml_parse_laws_faults.specs.grammar.Items as item
+use Rattle.yaml_parse_laws_faults.specs.grammar.States.{State, Taken}
+use Rattle.yaml_parse_laws_faults.specs.grammar.States as state
+use Rattle.yaml_parse_laws_faults.specs.grammar.Trees.{Given}
+use Rattle.yaml_parse_laws_faults.specs.grammar.Machine.{choice_at, taken_at, left_at, Fed, stop, go, with_item, given_by, turn, feed, Outcome, finished, carry, ending_at, run, wants_of}
+use Rattle.yaml_parse_laws_faults.specs.grammar.Resolve.{Directives, Settled, refused, gave, noted, settle, settle_body, with_version, with_tag, with_resolved, is_known_version, directive_for, resolved, node_event, Reading, Told, placed, read_on, reading}
+use Rattle.yaml_parse_laws_faults.specs.grammar.Remaining.{reading_of, is_between}
+use Rattle.yaml_parse_laws_faults.specs.grammar.Stacks.{IsStack}
 use Rattle.yaml_parse_loader.specs.Numbering.{spanning, DocumentContent, document_events}
-use Rattle.yaml_parse_step.specs.NextLoad.{told_events, IsOutside, AreOutside, LoadsByContent, contents_events}
-use Rattle.yaml_parse_step.proofs.ByContent.{by_content}
-use Rattle.yaml_parse_step.proofs.ToGive.{at_span, documents_before, Node, Documents, Stream, ToGive, Over, over_both, IsScalar, IsOf, FitsBody, Fits, FitsIf, document_more, node_fits, taking_fits, leaving_fits, opening_fits, Has, state_has, stack_has}
+use Rattle.yaml_parse_laws_loading.specs.NextLoad.{told_events, IsOutside, AreOutside, LoadsByContent, contents_events}
+use Rattle.yaml_parse_laws_loading.proofs.ByContent.{by_content}
+use Rattle.yaml_parse_laws_loading.proofs.ToGive.{at_span, documents_before, Node, Documents, Stream, ToGive, Over, over_both, IsScalar, IsOf, FitsBody, Fits, FitsIf, document_more, node_fits, taking_fits, leaving_fits, opening_fits, Has, state_has, stack_has}
 
 -- ---- settled items
 

@@ -4,14 +4,14 @@ use Rattle.std.specs.Str.{is_utf8}
 use Rattle.std.proofs.lemmas.Str.{IsUtf8-from_is_utf8, is_utf8-from_IsUtf8}
 use Rattle.std.proofs.lemmas.Bool.{cases_Bool}
 use Rattle.std.proofs.lemmas.List.Elements.{All-nil, All-cons, All-head, All-tail}
-use Rattle.yaml_scan.specs.Tokens as token
-use Rattle.yaml_scan.specs.Tokens.{Token, TokenBody}
-use Rattle.yaml_scan.specs.Faults.{Fault, IsMemoryFault, scan_layers}
-use Rattle.yaml_scan.specs.scan_history.Remaining.{SpelledText, Remaining, remaining}
+use Rattle.yaml_parse_model.specs.Tokens as token
+use Rattle.yaml_parse_model.specs.Tokens.{Token, TokenBody}
+use Rattle.yaml_parse_model.specs.Faults.{Fault, IsMemoryFault, scan_layers}
+use Rattle.yaml_scan_laws_utf8.specs.scan_history.Remaining.{SpelledText, Remaining, remaining}
 use Rattle.yaml_scan_laws_utf8.specs.Texts.{HasTexts}
 use Rattle.yaml_scan_laws_utf8.proofs.TokensUtf8.{remaining_sound}
-use Rattle.yaml_parse.specs.Source.{front_of, rest_of, MayAnswer, HasUtf8, GivesToken, GivesFault}
-use Rattle.yaml_round_adapter.specs.Adapted.{spells_text, tag_fault, cut, adapted}
+use Rattle.yaml_parse_model.specs.Source.{front_of, rest_of, MayAnswer, HasUtf8, GivesToken, GivesFault}
+use Rattle.yaml_round_laws_adapted.specs.Adapted.{spells_text, tag_fault, cut, adapted}
 
 -- what escapes spell, and all other texts
 body_utf8 : (b : TokenBody) → HasTexts b → spells_text b ≡ true → HasUtf8 b

@@ -1,27 +1,14 @@
--- The tokens of an input, and the fault that ends them.
-use Rattle.std.specs.Prelude.{ℕ, ◌≡◌, ◌⊎◌, Bool, true, false, List, [], Some, Result, Ok, Err}
-use Rattle.yaml_scan_model.specs.declared.name.yaml_encoding_t.{yaml_encoding_t}
+-- What is still to come of a machine, and which fault a refusal tells.
+use Rattle.std.specs.Prelude.{◌≡◌, ◌⊎◌, Bool, true, false, [], Some}
 use Rattle.yaml_scan_model.specs.declared.fault.yaml_origin_t.TheVariants.{Scanner}
 use Rattle.yaml_scan_model.specs.declared.problem.ScanError.{ScanError}
 use Rattle.yaml_scan_model.specs.declared.problem.ScanError.TheVariants as errors
 use Rattle.yaml_scan_model.specs.Problems.{scanner_fault}
 use Rattle.yaml_scan_model.specs.Faults.{Fault, memory_fault, IsMemoryFault, scan_layers}
-use Rattle.yaml_scan_decode.specs.declared.offence.Offence.{Offence}
-use Rattle.yaml_scan_decode.specs.Encodings.{encoding_of}
-use Rattle.yaml_scan_decode.specs.Offences.{reader_fault}
-use Rattle.yaml_scan_decode.specs.Decoding.{decoded_text}
-use Rattle.yaml_scan_history.specs.Remaining.{Remaining, offline}
+use Rattle.yaml_scan_history.specs.Remaining.{Remaining}
+use Rattle.yaml_scan_history.specs.Scanned.{scanned}
 use Rattle.yaml_scan_machine.specs.declared.machine.Machine.{Machine}
 use Rattle.yaml_scan_machine.specs.Comes.{to_come}
-
--- the tokens of a decoded text, or the fault of its decoding alone
-abbrev pub scanned_in : yaml_encoding_t → Result (List ℕ) Offence → Remaining
-scanned_in encoding (Ok text) = offline record { encoding = encoding; text = text }
-scanned_in encoding (Err o) = record { tokens = []; fault = Some (reader_fault o) }
-
--- the tokens of bytes in that encoding
-abbrev pub scanned : yaml_encoding_t → List ℕ → Remaining
-scanned setting bytes = scanned_in (encoding_of setting bytes) (decoded_text setting bytes)
 
 abbrev pub left_from : Bool → Remaining → Remaining → Remaining
 left_from true behind whole = behind

@@ -3,23 +3,23 @@ use Rattle.std.proofs.Common.{◌≡◌, ◌<◌, ◌+◌, ℕ, suc, ℤ, inl, i
 use Rattle.std.specs.FinMap as map
 use Rattle.std.specs.Ordering.{nat_cmp}
 use Rattle.std.specs.Cmp.Lexicographic.{slice_cmp, nat_list_cmp_total}
-use Rattle.yaml_scan_model.specs.declared.yaml_mark_t.{yaml_mark_t}
-use Rattle.yaml_scan_model.specs.Faults.{Fault}
-use Rattle.yaml_parse_model.specs.Events.{Event, EventBody}
-use Rattle.yaml_parse_model.specs.Events as event
-use Rattle.yaml_parse_model.specs.Prefix.{no_fault}
+use Rattle.yaml_parse_laws_faults.specs.grammar.parse_model.declared.yaml_mark_t.{yaml_mark_t}
+use Rattle.yaml_parse_laws_faults.specs.grammar.parse_model.Faults.{Fault}
+use Rattle.yaml_parse_laws_faults.specs.grammar.parse_model.Events.{Event, EventBody}
+use Rattle.yaml_parse_laws_faults.specs.grammar.parse_model.Events as event
+use Rattle.yaml_parse_laws_faults.specs.grammar.parse_model.Prefix.{no_fault}
 use Rattle.yaml_parse_document.specs.Documents.{Document}
-use Rattle.yaml_parse_grammar.specs.Resolve.{Told}
-use Rattle.yaml_parse_grammar.specs.Remaining.{ParserRemaining}
+use Rattle.yaml_parse_laws_faults.specs.grammar.Resolve.{Told}
+use Rattle.yaml_parse_laws_faults.specs.grammar.Remaining.{ParserRemaining}
 use Rattle.yaml_parse_loader.specs.Anchors.{Anchors}
 use Rattle.yaml_parse_loader.specs.Numbering.{is_same, spanning, Content, Contents, Pairs, alias, scalar, sequence, mapping, no_items, item, no_pairs, pair, events, item_events, pair_events, DocumentContent, document_events, document_of}
 use Rattle.yaml_parse_loader.specs.Loading.{Open, Loading, LoadStep, goes_on, loaded, refused, nothing_loaded, named, closed, aliased, step, step_body, load, turn, behind}
 use Rattle.yaml_parse_loader.specs.Loading as loading
 use Rattle.yaml_parse_loader.proofs.Loads as numbering
-use Rattle.yaml_parse_step.specs.NextLoad.{told_events, left_behind, is_among, and_anchor, names_behind, unless_known, wrong_alias, or_later, first_wrong, IsOutside, AreOutside, NextLoad, next_document, next_fault, next_none, NoneNext, IsLoadOf, IsNextLoad, GivesLoad, IsRefusalOf, RefusesNext, LoadIsNext, RefusalIsNext, LoadsByContent, one_more, ended, AreLoadsByContent}
-use Rattle.yaml_parse_step.specs.NextLoad as next
-use Rattle.yaml_parse_step.proofs.ByStep as told
-use Rattle.yaml_parse_step.proofs.ByStep.{Loads, load_on, behind_all, loads, loads_of, unasked_on, unasked_at_refusal, unasked_of, LoadGives, LoadRefuses}
+use Rattle.yaml_parse_laws_loading.specs.NextLoad.{told_events, left_behind, is_among, and_anchor, names_behind, unless_known, wrong_alias, or_later, first_wrong, IsOutside, AreOutside, NextLoad, next_document, next_fault, next_none, NoneNext, IsLoadOf, IsNextLoad, GivesLoad, IsRefusalOf, RefusesNext, LoadIsNext, RefusalIsNext, LoadsByContent, one_more, ended, AreLoadsByContent}
+use Rattle.yaml_parse_laws_loading.specs.NextLoad as next
+use Rattle.yaml_parse_laws_loading.proofs.ByStep as told
+use Rattle.yaml_parse_laws_loading.proofs.ByStep.{Loads, load_on, behind_all, loads, loads_of, unasked_on, unasked_at_refusal, unasked_of, LoadGives, LoadRefuses}
 
 -- ---- inside of a document
 

@@ -12,8 +12,8 @@ use Rattle.yaml_round_laws_tree.specs.parse_grammar.parse_model.Nodes as model
 use Rattle.yaml_round_laws_dumps.specs.round_laws_writable.content.parse_laws_loading.parse_document.Documents.{IsSoundBody, AreSound, str_tag, seq_tag, map_tag}
 use Rattle.yaml_round_laws_dumps.specs.round_laws_writable.content.parse_laws_loading.parse_document.Documents as documents
 use Rattle.yaml_round_laws_dumps.specs.round_laws_writable.content.parse_laws_loading.parse_loader.Numbering.{is_bang}
-use Rattle.yaml_round_laws_tree.specs.back_canon.scan.declared.Problem.{Problem}
-use Rattle.yaml_round_laws_tree.specs.back_canon.scan.declared.Problem.TheVariants as problem
+use Rattle.yaml_round_laws_tree.specs.back_canon.emit_layout.declared.Problem.{Problem}
+use Rattle.yaml_round_laws_tree.specs.back_canon.emit_layout.declared.Problem.TheVariants as problem
 use Rattle.yaml_round_laws_tree.specs.back_canon.emit_layout.Content as emit
 use Rattle.yaml_round_laws_tree.specs.back_canon.emit_layout.Content.{is_flow_sequence, is_flow_mapping}
 use Rattle.yaml_round_laws_dumps.specs.round_laws_writable.content.round_laws.emit_laws_streams.emit_graph.Graph.{Met, is_met, meet, body_at, tag_at, body_of_id, tag_of_id, number_at, numbers, name_of, anchor_of, graph_start, none_met, graph_root, graph_content}

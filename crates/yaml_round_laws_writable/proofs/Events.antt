@@ -10,8 +10,8 @@ use Rattle.yaml_round_laws_reading.specs.round_content.parse_model.Constructors.
 use Rattle.yaml_round_laws_reading.specs.round_content.parse_model.Events.{EventBody, TagDirective}
 use Rattle.yaml_round_laws_reading.specs.round_content.parse_model.Events as event
 use Rattle.yaml_round_laws_reading.specs.round_content.parse_grammar.Resolve.{Told}
-use Rattle.yaml_round_laws_reading.specs.round_content.scan_model.declared.Problem.{Problem}
-use Rattle.yaml_round_laws_reading.specs.round_content.scan_model.declared.Problem.TheVariants as problem
+use Rattle.yaml_round_laws_reading.specs.round_content.emit_layout.declared.Problem.{Problem}
+use Rattle.yaml_round_laws_reading.specs.round_content.emit_layout.declared.Problem.TheVariants as problem
 use Rattle.yaml_round_laws_reading.specs.round_content.emit_layout.Content.{Opening, emitter_event}
 use Rattle.yaml_round_laws_reading.specs.round_content.emit_layout.Grammar.{opening_problem, or_else, name_problem, anchor_problem, tag_problem, event_problem, last_problem, own_problem, own_problems}
 use Rattle.yaml_round_laws_reading.specs.round_content.Normalize.{is_lone_mark, normalize_scalar, normalize_body}

@@ -1,15 +1,15 @@
 //! The program over any reader and writers.
 
-use crate::fault::{FAILED, INPUT_LIMIT, refused, run_failed, unknown_word, write_failed};
 use std::alloc::Global;
 use std::convert::AsStr;
 use std::fs;
 use std::io::{BufReader, Read, Write};
 use std::rt::Files;
-use yaml_cli_words::{Order, Task, order_of, tell};
+use yaml_cli_told::{FAILED, INPUT_LIMIT, bytes_of, refused, run_failed, write_answer};
+use yaml_cli_words::{Order, Task, WRONG_WORDS, order_of, tell};
 use yaml_round::{
-    yaml_encoding_t, yaml_form_t, yaml_input_t, yaml_output_t, yaml_read_all, yaml_run,
-    yaml_run_fault_t, yaml_same, yaml_side_t, yaml_std_input_t, yaml_std_output_t, yaml_write_all,
+    yaml_encoding_t, yaml_form_t, yaml_input_t, yaml_output_t, yaml_run, yaml_run_fault_t,
+    yaml_same, yaml_side_t, yaml_std_input_t, yaml_std_output_t,
 };
 
 // How many bytes of a file are read at once: each call of the system costs some microseconds.
@@ -115,26 +115,6 @@ fn run_task<H: Files + AllocGlobal, R: Read, W: Write, E: Write>(
     ended(rt.alloc(), task, &answer, errors)
 }
 
-fn all_of<R: Read>(alloc: Global, file: &mut R) -> Result<Vec<u8>, yaml_run_fault_t> {
-    let mut input = yaml_std_input_t::new(file);
-    yaml_read_all(alloc, &mut input, INPUT_LIMIT)
-}
-
-fn bytes_of<H: Files + AllocGlobal>(rt: &H, path: &str) -> Result<Vec<u8>, yaml_run_fault_t> {
-    match fs::open(rt, path) {
-        Ok(mut file) => all_of(rt.alloc(), &mut file),
-        Err(_) => Err(yaml_run_fault_t::Read),
-    }
-}
-
-fn write_answer<W: Write, E: Write>(answer: &[u8], writer: &mut W, errors: &mut E) -> u8 {
-    let mut output = yaml_std_output_t::new(writer);
-    match yaml_write_all(&mut output, answer) {
-        Ok(()) => 0,
-        Err(written) => write_failed(errors, written),
-    }
-}
-
 // How a line calls an input of two.
 fn input_name(side: yaml_side_t) -> &'static str {
     match side {
@@ -185,6 +165,12 @@ fn run_same<H: Files + AllocGlobal, W: Write, E: Write>(
         Ok(first) => compare_with(rt, from, first.as_slice(), second, writer, errors),
         Err(fault) => run_failed(rt.alloc(), errors, input_name(yaml_side_t::First), &fault),
     }
+}
+
+// Tells that `what` can't be the word: the status tells it where the line can't.
+fn unknown_word<E: Write>(errors: &mut E, what: &str, word: &str) -> u8 {
+    let _ = writeln!(errors, "yaml_cli: unknown {what}: {word}");
+    WRONG_WORDS
 }
 
 fn follow<H: Files + AllocGlobal, R: Read, W: Write, E: Write>(

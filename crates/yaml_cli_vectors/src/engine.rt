@@ -1,10 +1,10 @@
 //! The calls of the engine: events, reformat, reload, same, and the line that tells a fault.
 
 use crate::given::{Given, given_of, input_of};
-use crate::reading::own_fault;
 use crate::text::put_answer;
-use crate::vector::Reply;
 use serde_json::Value;
+use yaml_cli_vector_calls::own_fault;
+use yaml_cli_vector_lines::Reply;
 use yaml_round::{
     yaml_events, yaml_fault_line, yaml_fault_t, yaml_reformat, yaml_reload, yaml_same,
     yaml_settings_t, yaml_side_t,

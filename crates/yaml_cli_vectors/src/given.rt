@@ -1,7 +1,7 @@
 //! What a line gives a call of the engine.
 
-use crate::vector::{Reply, VectorError, settings_of};
 use serde_json::Value;
+use yaml_cli_vector_lines::{Reply, VectorError, settings_of};
 use yaml_round::{yaml_output_encoding_t, yaml_settings_t};
 use yaml_scan::yaml_encoding_t;
 

@@ -1,9 +1,9 @@
 //! The call `least_limit`.
 
 use crate::given::{Given, given_of};
-use crate::vector::Reply;
 use serde_json::Value;
 use std::alloc::Global;
+use yaml_cli_vector_lines::Reply;
 use yaml_round::{yaml_error_type_t, yaml_fault_t, yaml_reformat, yaml_reload, yaml_settings_t};
 
 // The fault that the call answers under the settings.

@@ -1,8 +1,8 @@
 //! The call `lookup`: a value by its key.
 
-use crate::vector::{Reply, VectorError};
 use serde_json::Value;
 use yaml_cli_lookup::{LookupError, lookup};
+use yaml_cli_vector_lines::{Reply, VectorError};
 
 fn put_error(reply: &mut Reply, error: LookupError) {
     match error {

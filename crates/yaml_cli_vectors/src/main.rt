@@ -2,23 +2,17 @@
 //! what it is a row of, and isn't looked at.
 #![tactic(auto)]
 
-mod checks;
-mod compare;
 mod engine;
 mod given;
 mod limits;
 mod lookup;
 mod program;
 mod read_all;
-mod reading;
 mod replay;
 mod run;
 mod scripted;
 mod tally;
 mod text;
-mod tokens;
-mod vector;
-mod writing;
 
 use std::io::{self, BufRead, BufReader};
 use tally::Tally;

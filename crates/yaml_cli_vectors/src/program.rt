@@ -2,9 +2,9 @@
 
 use crate::given::input_of;
 use crate::scripted::{ScriptedReader, ScriptedWriter, Step, steps_of};
-use crate::vector::Reply;
 use serde_json::Value;
 use yaml_cli_main::yaml_main;
+use yaml_cli_vector_lines::Reply;
 
 // The input, and what the streams do.
 #[derive(Drop)]

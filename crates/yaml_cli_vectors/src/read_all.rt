@@ -4,10 +4,10 @@ use crate::given::input_of;
 use crate::run::refusal_word;
 use crate::scripted::{ScriptedReader, Step, steps_of};
 use crate::text::put_text;
-use crate::vector::Reply;
 use serde_json::Value;
 use std::alloc::Global;
 use std::io::Read;
+use yaml_cli_vector_lines::Reply;
 use yaml_round::{yaml_read_all, yaml_run_fault_t, yaml_std_input_t};
 
 type Answered = Result<Vec<u8>, yaml_run_fault_t>;

@@ -1,41 +1,12 @@
 //! A line, replayed by the call that it names.
 
-use crate::compare::{Outcome, compare};
 use crate::engine::put_line;
-use crate::reading::{
-    Asked, Source, decode, next_tokens, parse_calls, parse_line, scan, scan_calls,
-};
-use crate::vector::{Reply, VectorError, json_error};
-use crate::writing::{Given, emit_limits, emit_line};
-use crate::{checks, engine, limits, lookup, program, read_all, run, tokens};
+use crate::{engine, limits, lookup, program, read_all, run};
 use serde_json::Value;
 use std::alloc::Global;
+use yaml_cli_vector_calls::answer_member;
+use yaml_cli_vector_lines::{Outcome, Reply, VectorError, compare, json_error};
 use yaml_scan::yaml_fault_t;
-
-// What the calls of a parser answer, or of an emitter.
-fn answer_member(reply: &mut Reply, call: &str, line: &Value) {
-    match call {
-        "parse" => parse_line(reply, line, Source::Input, Asked::Events),
-        "parse_tokens" => parse_line(reply, line, Source::Tokens, Asked::Events),
-        "load" => parse_line(reply, line, Source::Input, Asked::Documents),
-        "load_tokens" => parse_line(reply, line, Source::Tokens, Asked::Documents),
-        "emit" => emit_line(reply, line, Given::Input),
-        "emit_events" => emit_line(reply, line, Given::Events),
-        "emit_calls" => emit_line(reply, line, Given::Calls),
-        "dump" => emit_line(reply, line, Given::Document),
-        "emit_limits" => emit_limits::answer(reply, line),
-        "decode" => decode::answer(reply, line),
-        "scan" => scan::answer(reply, line),
-        "scan_calls" => scan_calls::answer(reply, line),
-        "parse_calls" if line.get("tokens").is_some() => {
-            parse_line(reply, line, Source::Tokens, Asked::Calls)
-        }
-        "parse_calls" => parse_calls::answer(reply, line),
-        "next_tokens" => next_tokens::answer(reply, line),
-        "tokens" => tokens::tokens(reply, line),
-        _ => reply.miss("call"),
-    }
-}
 
 // What the call answers on the line; the reply keeps the fault where it only refuses.
 fn answer(rt: &HostRuntime, reply: &mut Reply, call: &str, line: &Value) {
@@ -49,7 +20,6 @@ fn answer(rt: &HostRuntime, reply: &mut Reply, call: &str, line: &Value) {
         "run" => run::run(reply, line),
         "main" => program::run(rt, reply, line),
         "read_all" => read_all::answer(reply, line),
-        "check" => checks::answer(reply, line),
         "told" => engine::told(reply, line),
         "lookup" => lookup::answer(reply, line),
         _ => answer_member(reply, call, line),

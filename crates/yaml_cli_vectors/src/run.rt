@@ -2,8 +2,8 @@
 
 use crate::given::{Given, given_of};
 use crate::text::put_answer;
-use crate::vector::Reply;
 use serde_json::Value;
+use yaml_cli_vector_lines::Reply;
 use yaml_round::{
     yaml_command_t, yaml_form_t, yaml_run, yaml_run_fault_t, yaml_std_input_t, yaml_std_output_t,
 };

@@ -1,8 +1,7 @@
 //! How many lines passed, and what is told of those that failed.
 
-use crate::compare::Outcome;
-use crate::vector::VectorError;
 use std::io;
+use yaml_cli_vector_lines::{Outcome, VectorError};
 
 // How many lines that fail are shown.
 const SHOWN: u64 = 20;

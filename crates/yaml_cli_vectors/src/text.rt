@@ -1,7 +1,7 @@
 //! A text that a call answers, as the line wants it.
 
-use crate::vector::Reply;
 use serde_json::Value;
+use yaml_cli_vector_lines::Reply;
 use yaml_round::yaml_form_t;
 
 /// The text, or how many bytes it has where the line wants that.

@@ -1,7 +1,7 @@
 //! Documents to text.
 
 ghost use Rattle.std.specs.Prelude.{◌≡◌, ◌≢◌, ◌<◌, ◌≤◌, ◌++◌, ◌∷◌, [], List, length, None, true, false, OnOk, OnErr};
-ghost use Rattle.yaml_emit_layout.specs.Content.{stream_end, Event};
+ghost use Rattle.yaml_emit_machine.specs.emit_layout.Content.{stream_end, Event};
 ghost use Rattle.yaml_emit_machine.specs.Emitter.{Answers, Stays, left_if, opening_events, document_events, dump_events};
 ghost use Rattle.yaml_emit_machine.specs.Verdict.{TellsOutcome};
 ghost use Rattle.yaml_emit_machine.specs.Taking.{TakesEvents, Stuck, NotesMemory, NotesMemoryOf};

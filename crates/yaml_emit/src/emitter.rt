@@ -5,7 +5,7 @@ ghost use Rattle.yaml_scan_model.specs.Faults.{Fault, fault_of, memory_fault};
 ghost use Rattle.yaml_scan_model.specs.declared.yaml_origin_t.TheVariants as from;
 ghost use Rattle.yaml_parse_model.specs.Events.{event_of};
 ghost use Rattle.yaml_parse_model.specs.Constructors.{HasUtf8};
-ghost use Rattle.yaml_emit_layout.specs.Content.{emitter_event};
+ghost use Rattle.yaml_emit_machine.specs.emit_layout.Content.{emitter_event};
 ghost use Rattle.yaml_emit_machine.specs.Emitter.{stop_of, IsNew, IsLimited, ShowsFront, IsWhole, Answers, Stays};
 ghost use Rattle.yaml_emit_machine.specs.Within.{IsWithin};
 ghost use Rattle.yaml_emit_machine.specs.Verdict.{TellsOutcome};

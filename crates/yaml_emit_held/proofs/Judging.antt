@@ -27,7 +27,8 @@ use Rattle.yaml_emit_state.specs.Finish.{Finishes}
 use Rattle.yaml_emit_state.proofs.Finishing.{finishes_on}
 use Rattle.yaml_emit_state.proofs.Noting.{neither, notes_both, notes_within}
 use Rattle.yaml_emit_held.specs.Held.{is_ready, needs, closes, passes, opens_level, ends_level}
-use Rattle.yaml_emit_held.specs.Judged.{Due, item_due, key_due, Progress, progress_after, inside, behind_node, outer_due, phase_due, level_due, problem_in, let_out, first_refusal, unless, laid, refused_at, due_in, due_of, shape_of, refusal_from, text_from, refusal_behind, LetsOut, take_memory}
+use Rattle.yaml_emit_layout.specs.Progress.{Due, item_due, key_due, Progress, progress_after, inside, behind_node, outer_due, phase_due, level_due, problem_in, first_refusal}
+use Rattle.yaml_emit_held.specs.Judged.{let_out, unless, laid, refused_at, due_in, due_of, shape_of, refusal_from, text_from, refusal_behind, LetsOut, take_memory}
 use Rattle.yaml_emit_held.specs.Laying.{LaysEvents}
 use Rattle.yaml_emit_held.proofs.Opening.{opens_none}
 use Rattle.yaml_emit_held.proofs.Holding.{ready_empty, none_needed}

@@ -2,18 +2,18 @@
 use Rattle.std.proofs.Common.{subst, ◌≡◌, ◌<◌, ℕ, zero, suc, ℤ, pos, negsuc, Bool, true, false, List, [], ◌∷◌, length, map, Option, Some, None, refl, inl, inr, arith}
 use Rattle.std.specs.Prelude.{slice_get}
 use Rattle.std.proofs.lemmas.Bool.{cases_Bool}
-use Rattle.yaml_scan.specs.declared.yaml_scalar_style_t.{yaml_scalar_style_t}
-use Rattle.yaml_scan.specs.declared.yaml_scalar_style_t.TheVariants.{YAML_ANY_SCALAR_STYLE}
-use Rattle.yaml_parse.specs.declared.yaml_node_pair_t.{yaml_node_pair_t}
-use Rattle.yaml_parse.specs.Nodes as model
-use Rattle.yaml_parse.specs.Documents.{seq_tag, map_tag}
-use Rattle.yaml_parse.specs.Documents as documents
-use Rattle.yaml_emit.specs.emit_layout.declared.Problem.TheVariants as problem
-use Rattle.yaml_emit.specs.emit_layout.Content.{Node, alias_node, scalar_node, sequence_node, mapping_node, Nodes, no_nodes, node, Pairs, no_pairs, pair, Event, document_start, document_end, sequence_end, mapping_end, is_flow_sequence, is_flow_mapping, node_events, items_events, pairs_events, documents_events}
-use Rattle.yaml_emit.specs.emit_layout.Grammar.{kept_if, anchor_problem, tag_problem, event_problem, last_problem, own_problems}
-use Rattle.yaml_emit.specs.emit_graph.Graph.{Met, is_met, meet, body_of_id, tag_at, tag_of_id, number_at, numbers, name_of, anchor_of, graph_scalar, graph_start, graph_root, graph_content, none_met, dumped}
-use Rattle.yaml_emit.specs.emit_graph.Onward.{items_by, pairs_by, node_by, content_by, itself, root_onward}
-use Rattle.yaml_emit.proofs.emit_graph.Joining.{root_joined}
+use Rattle.yaml_emit_graph.specs.emit_layout.scan.declared.yaml_scalar_style_t.{yaml_scalar_style_t}
+use Rattle.yaml_emit_graph.specs.emit_layout.scan.declared.yaml_scalar_style_t.TheVariants.{YAML_ANY_SCALAR_STYLE}
+use Rattle.yaml_emit_graph.specs.emit_layout.parse.declared.yaml_node_pair_t.{yaml_node_pair_t}
+use Rattle.yaml_emit_graph.specs.emit_layout.parse.Nodes as model
+use Rattle.yaml_parse_laws_loading.specs.parse_document.Documents.{seq_tag, map_tag}
+use Rattle.yaml_parse_laws_loading.specs.parse_document.Documents as documents
+use Rattle.yaml_emit_graph.specs.emit_layout.declared.Problem.TheVariants as problem
+use Rattle.yaml_emit_graph.specs.emit_layout.Content.{Node, alias_node, scalar_node, sequence_node, mapping_node, Nodes, no_nodes, node, Pairs, no_pairs, pair, Event, document_start, document_end, sequence_end, mapping_end, is_flow_sequence, is_flow_mapping, node_events, items_events, pairs_events, documents_events}
+use Rattle.yaml_emit_graph.specs.emit_layout.Grammar.{kept_if, anchor_problem, tag_problem, event_problem, last_problem, own_problems}
+use Rattle.yaml_emit_graph.specs.Graph.{Met, is_met, meet, body_of_id, tag_at, tag_of_id, number_at, numbers, name_of, anchor_of, graph_scalar, graph_start, graph_root, graph_content, none_met, dumped}
+use Rattle.yaml_emit_graph.specs.Onward.{items_by, pairs_by, node_by, content_by, itself, root_onward}
+use Rattle.yaml_emit_graph.proofs.Joining.{root_joined}
 use Rattle.yaml_emit_laws_streams.specs.Laws.{AreTagged, RightDocument, AreRight, DumpsAreRight, DumpedStreamsAreRight}
 use Rattle.yaml_emit_laws_streams.proofs.Passing.{or_none}
 use Rattle.yaml_emit_laws_streams.proofs.Naming.{not_zero, name_right, anchor_right}

@@ -2,22 +2,22 @@
 use Rattle.std.proofs.Common.{◌≡◌, ◌<◌, ℕ, zero, suc, subst, Bool, true, false, List, [], ◌∷◌, ◌++◌, length, Option, Some, None, refl, arith}
 use Rattle.std.specs.Prelude.{◌==◌, cond, if◌then◌else◌}
 use Rattle.std.proofs.lemmas.Bool.Decides.{nat_tests}
-use Rattle.yaml_scan.specs.declared.yaml_mark_t.{yaml_mark_t}
-use Rattle.yaml_scan.specs.Faults.{Fault}
-use Rattle.yaml_parse.specs.Events as event
-use Rattle.yaml_parse.specs.Nodes as model
-use Rattle.yaml_parse.specs.Documents.{Document, with_node, change_place, str_tag, seq_tag, map_tag, no_document}
-use Rattle.yaml_parse.specs.Resolve.{Told}
-use Rattle.yaml_parse.specs.Numbering.{loaded_tag, is_bang}
-use Rattle.yaml_parse.specs.Loading.{Open, Loading, LoadStep, goes_on, loaded, refused, nothing_loaded, step, step_body, aliased, closed, filled}
-use Rattle.yaml_parse.specs.NextLoad.{NextLoad, next_document, next_fault, next_none}
-use Rattle.yaml_parse.proofs.ByStep.{Loads, load_on, behind_all, loads}
-use Rattle.yaml_parse.proofs.ByStep as load
-use Rattle.yaml_parse.proofs.NextLoads.{IsOf, load_is}
+use Rattle.yaml_emit_graph.specs.emit_layout.scan.declared.yaml_mark_t.{yaml_mark_t}
+use Rattle.yaml_emit_graph.specs.emit_layout.scan.Faults.{Fault}
+use Rattle.yaml_emit_graph.specs.emit_layout.parse.Events as event
+use Rattle.yaml_emit_graph.specs.emit_layout.parse.Nodes as model
+use Rattle.yaml_parse_laws_loading.specs.parse_document.Documents.{Document, with_node, change_place, str_tag, seq_tag, map_tag, no_document}
+use Rattle.yaml_parse_laws_loading.specs.parse_laws_faults.grammar.Resolve.{Told}
+use Rattle.yaml_parse_laws_loading.specs.parse_loader.Numbering.{loaded_tag, is_bang}
+use Rattle.yaml_parse_laws_loading.specs.parse_loader.Loading.{Open, Loading, LoadStep, goes_on, loaded, refused, nothing_loaded, step, step_body, aliased, closed, filled}
+use Rattle.yaml_parse_laws_loading.specs.NextLoad.{NextLoad, next_document, next_fault, next_none}
+use Rattle.yaml_parse_laws_loading.proofs.ByStep.{Loads, load_on, behind_all, loads}
+use Rattle.yaml_parse_laws_loading.proofs.ByStep as load
+use Rattle.yaml_parse_laws_loading.proofs.NextLoads.{IsOf, load_is}
 use Rattle.std.specs.FinMap as map
-use Rattle.yaml_emit.specs.emit_layout.declared.Problem.{Problem}
-use Rattle.yaml_emit.specs.emit_layout.declared.Problem.TheVariants as problem
-use Rattle.yaml_emit.specs.emit_layout.Grammar.{or_else, anchor_problem, tag_problem, directives_problem, event_problem, last_problem}
+use Rattle.yaml_emit_graph.specs.emit_layout.declared.Problem.{Problem}
+use Rattle.yaml_emit_graph.specs.emit_layout.declared.Problem.TheVariants as problem
+use Rattle.yaml_emit_graph.specs.emit_layout.Grammar.{or_else, anchor_problem, tag_problem, directives_problem, event_problem, last_problem}
 use Rattle.yaml_emit_laws_streams.specs.Laws.{AreTagged, RightDocument, MayTag, RightBody, AreRightTold, RightFed, RightLoad, TakenAreRight, StepsKeepRight, LoadsAreRight}
 use Rattle.yaml_emit_laws_streams.proofs.Passing.{or_both}
 

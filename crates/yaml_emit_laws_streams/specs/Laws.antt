@@ -1,22 +1,22 @@
 -- Which lists of events are a stream's, and that what a document says is right.
 use Rattle.std.specs.Prelude.{◌≡◌, ◌<◌, ℕ, Bool, true, List, [], ◌∷◌, ◌++◌, length, map, Option, Some, None}
-use Rattle.yaml_scan.specs.declared.yaml_encoding_t.{yaml_encoding_t}
-use Rattle.yaml_scan.specs.Faults.{Fault}
-use Rattle.yaml_parse.specs.Events as event
-use Rattle.yaml_parse.specs.Nodes as model
-use Rattle.yaml_parse.specs.Documents as documents
-use Rattle.yaml_parse.specs.Resolve.{Told}
-use Rattle.yaml_parse.specs.Loading.{Loading, LoadStep, goes_on, loaded, refused, step}
-use Rattle.yaml_parse.specs.NextLoad.{NextLoad, next_document, next_fault, next_none, IsLoadOf}
-use Rattle.yaml_emit.specs.emit_text.declared.Encoding.{Encoding}
-use Rattle.yaml_emit.specs.emit_text.declared.RequestedSettings.{RequestedSettings}
-use Rattle.yaml_emit.specs.emit_text.Text.{Item}
-use Rattle.yaml_emit.specs.emit_layout.declared.Expected.TheVariants as at
-use Rattle.yaml_emit.specs.emit_layout.Content.{Opening, Document, Event, emitter_event, stream_events}
-use Rattle.yaml_emit.specs.emit_layout.Grammar.{opening_problem, own_problem, own_problems}
-use Rattle.yaml_emit.specs.Judged.{Progress, first_progress, progress_after, first_refusal}
-use Rattle.yaml_emit.specs.Emitter.{IsStream}
-use Rattle.yaml_emit.specs.emit_graph.Graph.{graph_opening, graph_content, dumped}
+use Rattle.yaml_emit_graph.specs.emit_layout.scan.declared.yaml_encoding_t.{yaml_encoding_t}
+use Rattle.yaml_emit_graph.specs.emit_layout.scan.Faults.{Fault}
+use Rattle.yaml_emit_graph.specs.emit_layout.parse.Events as event
+use Rattle.yaml_emit_graph.specs.emit_layout.parse.Nodes as model
+use Rattle.yaml_parse_laws_loading.specs.parse_document.Documents as documents
+use Rattle.yaml_parse_laws_loading.specs.parse_laws_faults.grammar.Resolve.{Told}
+use Rattle.yaml_parse_laws_loading.specs.parse_loader.Loading.{Loading, LoadStep, goes_on, loaded, refused, step}
+use Rattle.yaml_parse_laws_loading.specs.NextLoad.{NextLoad, next_document, next_fault, next_none, IsLoadOf}
+use Rattle.yaml_emit_graph.specs.emit_layout.emit_text.declared.Encoding.{Encoding}
+use Rattle.yaml_emit_graph.specs.emit_layout.emit_text.declared.RequestedSettings.{RequestedSettings}
+use Rattle.yaml_emit_graph.specs.emit_layout.emit_text.Text.{Item}
+use Rattle.yaml_emit_graph.specs.emit_layout.declared.Expected.TheVariants as at
+use Rattle.yaml_emit_graph.specs.emit_layout.Content.{Opening, Document, Event, emitter_event, stream_events}
+use Rattle.yaml_emit_graph.specs.emit_layout.Grammar.{opening_problem, own_problem, own_problems}
+use Rattle.yaml_emit_graph.specs.emit_layout.Progress.{Progress, first_progress, progress_after, first_refusal}
+use Rattle.yaml_emit_graph.specs.emit_layout.Streams.{IsStream}
+use Rattle.yaml_emit_graph.specs.Graph.{graph_opening, graph_content, dumped}
 
 -- what a list of events has come to behind others
 unfoldable pub progress_behind : Progress → List Event → Progress

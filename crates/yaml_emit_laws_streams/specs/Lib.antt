@@ -1,6 +1,7 @@
 pub mod Laws
 -- what it speaks of, for laws that name this crate alone
-pub use Rattle.yaml_emit.specs as emit
-pub use Rattle.yaml_scan.specs as scan
-pub use Rattle.yaml_parse.specs as parse
-pub use Rattle.yaml_emit.specs.emit_layout
+pub use Rattle.yaml_emit_graph.specs as emit_graph
+pub use Rattle.yaml_emit_graph.specs.emit_layout
+pub use Rattle.yaml_parse_laws_loading.specs as parse_laws_loading
+pub use Rattle.yaml_parse_laws_loading.specs.parse_laws_faults.grammar as parse_grammar
+pub use Rattle.yaml_parse_laws_loading.specs.parse_laws_faults.grammar.parse_model

@@ -1,6 +1,8 @@
 pub mod Content
 pub mod Grammar
+pub mod Progress
 pub mod Nodes
+pub mod Streams
 pub mod State
 pub mod ToCome
 -- what it stands on, for crates of laws that name this one alone

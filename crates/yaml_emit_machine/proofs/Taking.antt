@@ -22,7 +22,8 @@ use Rattle.yaml_emit_state.proofs.Noting.{notes_both, notes_some}
 use Rattle.yaml_emit_held.specs.Held.{held_events}
 use Rattle.yaml_emit_held.specs.declared.Held.{Held}
 use Rattle.yaml_emit_machine.specs.declared.emitter.yaml_emitter_t.TheInside.{Inside}
-use Rattle.yaml_emit_held.specs.Judged.{first_progress, let_out, first_refusal, laid, refused_at, refusal_from, text_from, refusal_behind, LetsOut, take_memory}
+use Rattle.yaml_emit_layout.specs.Progress.{first_progress, first_refusal}
+use Rattle.yaml_emit_held.specs.Judged.{let_out, laid, refused_at, refusal_from, text_from, refusal_behind, LetsOut, take_memory}
 use Rattle.yaml_emit_held.specs.Laying.{LaysEvents}
 use Rattle.yaml_emit_machine.specs.Emitter.{Emitter, text_of, fault_by, refusal_by, stop_of, stream_encoding, CompletesBy, Completes}
 use Rattle.yaml_emit_machine.specs.Views.{emitter_of, IsEmitter}

@@ -14,7 +14,8 @@ use Rattle.yaml_emit_state.specs.Steps.{goes_on}
 use Rattle.yaml_emit_state.specs.Finish.{Finishes, FinishesAt}
 use Rattle.yaml_emit_machine.specs.declared.emitter.yaml_emitter_t.TheInside.{Inside}
 use Rattle.yaml_emit_held.specs.Held.{is_ready}
-use Rattle.yaml_emit_machine.specs.Emitter.{Emitter, text_of, Completes, CompletesBy, IsStream}
+use Rattle.yaml_emit_layout.specs.Streams.{IsStream}
+use Rattle.yaml_emit_machine.specs.Emitter.{Emitter, text_of, Completes, CompletesBy}
 use Rattle.yaml_emit_machine.specs.Views.{emitter_of, IsEmitter}
 use Rattle.yaml_emit_machine.specs.Within.{Fits, IsWithin}
 use Rattle.yaml_emit_machine.proofs.Ending.{nothing_held, no_event_left}

@@ -24,16 +24,14 @@ use Rattle.yaml_emit_text.specs.declared.Status.{Status}
 use Rattle.yaml_emit_text.specs.declared.Status.TheVariants.{Going, Full, Deep, Starved}
 use Rattle.yaml_emit_text.specs.declared.RequestedSettings.{RequestedSettings}
 use Rattle.yaml_emit_text.specs.Text.{Item, encode, is_deep}
-use Rattle.yaml_emit_text.specs.Layout.{written}
-use Rattle.yaml_emit_text.specs.Settings.{settled}
 use Rattle.yaml_emit_text.specs.Sink.{Output}
 use Rattle.yaml_emit_layout.specs.declared.Expected.{Expected}
 use Rattle.yaml_emit_layout.specs.declared.Problem.{Problem}
 use Rattle.yaml_parse_model.specs.Nodes as model
 use Rattle.yaml_parse_document.specs.Documents as documents
-use Rattle.yaml_emit_layout.specs.Content.{Event, stream_start, stream_end, Document, stream_events}
-use Rattle.yaml_emit_layout.specs.Grammar.{own_problems, problem_bytes}
-use Rattle.yaml_emit_layout.specs.Nodes.{stream_layout}
+use Rattle.yaml_emit_layout.specs.Content.{Event, stream_start, stream_end}
+use Rattle.yaml_emit_layout.specs.Grammar.{problem_bytes}
+use Rattle.yaml_emit_layout.specs.Streams.{IsStream}
 use Rattle.yaml_emit_layout.specs.State.{State}
 use Rattle.yaml_emit_state.specs.Finish.{Finishes}
 use Rattle.yaml_emit_held.specs.Judged.{refused_at}
@@ -132,16 +130,6 @@ stop_of e = refusal_by e.state.place e.status e.starved
 abbrev pub stream_encoding : Event → yaml_encoding_t
 stream_encoding (stream_start x) = x
 stream_encoding e = YAML_ANY_ENCODING
-
--- A fresh emitter's text: these events are a stream's in which nothing is wrong, and the text is its layout.
-pub record IsStream (w : RequestedSettings) (x : Encoding) (es : List Event)
-    (whole : List Item) : Type 0 where
-  pub encoding : yaml_encoding_t
-  pub documents : List Document
-  pub coded : x ≡ (settled w encoding).encoding
-  pub same : es ≡ stream_events encoding documents
-  pub right : own_problems w.canonical es ≡ None
-  pub is : whole ≡ written (stream_layout (settled w encoding) documents)
 
 abbrev pub CompletesBy : Bool → Emitter → Encoding → List Event → List Item → Type 0
 CompletesBy true e x es whole = IsStream e.requested_settings x es whole

@@ -4,3 +4,7 @@ pub mod Within
 pub mod Verdict
 pub mod Taking
 pub mod Dumping
+-- what it stands on, for crates that name this one alone
+pub use Rattle.yaml_emit_held.specs as emit_held
+pub use Rattle.yaml_emit_layout.specs as emit_layout
+pub use Rattle.yaml_emit_graph.specs as emit_graph

@@ -2,8 +2,8 @@
 use Rattle.std.proofs.Common.{◌≡◌, List, [], Option, sym, subst, ◌∙◌}
 use Rattle.yaml_scan_model.specs.Faults.{Fault}
 use Rattle.yaml_parse_model.specs.Events.{Event, no_event}
-use Rattle.yaml_parse_grammar.specs.Resolve.{Told}
-use Rattle.yaml_parse_grammar.specs.Remaining.{ParserRemaining, GivesEvent, EventOf}
+use Rattle.yaml_parse_step.specs.parse_grammar.Resolve.{Told}
+use Rattle.yaml_parse_step.specs.parse_grammar.Remaining.{ParserRemaining, GivesEvent, EventOf}
 use Rattle.yaml_parse_step.specs.Finds.{GivesNext, GivesEnd}
 use Rattle.yaml_parse_step.specs.Steps.{Kept}
 

@@ -1,12 +1,12 @@
 mod Found
 -- what loads come to, and what a parser begins with, for crates that name the member alone
-pub use Rattle.yaml_parse_step.proofs.AllGiven
-pub use Rattle.yaml_parse_step.proofs.ByStep
-pub use Rattle.yaml_parse_step.proofs.NextLoads
+pub use Rattle.yaml_parse_step.proofs.parse_laws_loading.AllGiven
+pub use Rattle.yaml_parse_step.proofs.parse_laws_loading.ByStep
+pub use Rattle.yaml_parse_step.proofs.parse_laws_loading.NextLoads
 pub use Rattle.yaml_parse_step.proofs.Sentences
 -- its grammar, for crates of laws that name the member alone
-pub use Rattle.yaml_parse_grammar.proofs as parse_grammar
+pub use Rattle.yaml_parse_step.proofs.parse_grammar as parse_grammar
 -- the laws of its faults, for the same
-pub use Rattle.yaml_parse_laws_given.proofs.laws_faults as parse_laws_faults
+pub use Rattle.yaml_parse_step.proofs.parse_laws_given.laws_faults as parse_laws_faults
 -- the laws of its events, for the same
-pub use Rattle.yaml_parse_laws_given.proofs as parse_laws_given
+pub use Rattle.yaml_parse_step.proofs.parse_laws_given as parse_laws_given

@@ -5,24 +5,24 @@ ghost use Rattle.yaml_scan_model.specs.Tokens.{Token};
 ghost use Rattle.yaml_scan_model.specs.Faults.{Fault, fault_of, memory_fault};
 ghost use Rattle.yaml_scan_model.specs.declared.yaml_origin_t.TheVariants.{Parser};
 ghost use Rattle.yaml_parse_model.specs.Events.{event_of, stream_end};
-ghost use Rattle.yaml_parse_grammar.specs.Items as item;
+ghost use Rattle.yaml_parse_step.specs.parse_grammar.Items as item;
 ghost use Rattle.yaml_parse_machine.specs.Views.{item_of};
 ghost use Rattle.yaml_parse_model.specs.Prefix.{prefix_of, no_fault};
-ghost use Rattle.yaml_parse_grammar.specs.Trees.{Stream, spell};
-ghost use Rattle.yaml_parse_grammar.specs.TreeEvents.{given_of};
-ghost use Rattle.yaml_parse_grammar.specs.Resolve.{reading, no_directives};
-ghost use Rattle.yaml_parse_grammar.specs.Remaining.{EventOf, FaultOf, IsFinished};
+ghost use Rattle.yaml_parse_step.specs.parse_grammar.Trees.{Stream, spell};
+ghost use Rattle.yaml_parse_step.specs.parse_grammar.TreeEvents.{given_of};
+ghost use Rattle.yaml_parse_step.specs.parse_grammar.Resolve.{reading, no_directives};
+ghost use Rattle.yaml_parse_step.specs.parse_grammar.Remaining.{EventOf, FaultOf, IsFinished};
 ghost use Rattle.yaml_parse_model.specs.Constructors.{HasUtf8};
-ghost use Rattle.yaml_parse_laws_given.specs.laws_faults.laws_sound.Laws.{BeginsWithTree};
-ghost use Rattle.yaml_parse_laws_given.specs.laws_faults.laws_counts.Laws.{AtMostFourSoFar};
-ghost use Rattle.yaml_parse_laws_given.specs.laws_faults.Places.{FaultOfTokens, IsToldWith};
-ghost use Rattle.yaml_parse_laws_given.specs.Given.{EventsOfTokens, GivesLeast};
+ghost use Rattle.yaml_parse_step.specs.parse_laws_given.laws_faults.laws_sound.Laws.{BeginsWithTree};
+ghost use Rattle.yaml_parse_step.specs.parse_laws_given.laws_faults.laws_counts.Laws.{AtMostFourSoFar};
+ghost use Rattle.yaml_parse_step.specs.parse_laws_given.laws_faults.Places.{FaultOfTokens, IsToldWith};
+ghost use Rattle.yaml_parse_step.specs.parse_laws_given.Given.{EventsOfTokens, GivesLeast};
 ghost use Rattle.yaml_parse_step.specs.Fronts.{BeginsTree};
 ghost use Rattle.yaml_parse_step.specs.Finds.{NextOf, Finds, IsUtf8Found, IsStackFound};
 ghost use Rattle.yaml_parse_step.specs.Steps.{Turns, IsUtf8Turn, IsStackTurn};
 ghost use Rattle.yaml_parse_step.specs.Turned.{turned};
-ghost use Rattle.yaml_parse_step.specs.NextLoad.{AreLoadsByContent};
-ghost use Rattle.yaml_parse_grammar.specs.Stacks.{parts_documents_behind};
+ghost use Rattle.yaml_parse_step.specs.parse_laws_loading.NextLoad.{AreLoadsByContent};
+ghost use Rattle.yaml_parse_step.specs.parse_grammar.Stacks.{parts_documents_behind};
 
 use std::alloc::Global;
 use std::marker::Model;
@@ -49,7 +49,7 @@ pub struct yaml_parser_t<S: yaml_token_source_t> {
 
 impl<S: yaml_token_source_t> Model for yaml_parser_t<S> {
     ghost use Rattle.yaml_parse_model.specs.Prefix.{prefix_of};
-    ghost use Rattle.yaml_parse_grammar.specs.Remaining.{ParserRemaining, parser_remaining};
+    ghost use Rattle.yaml_parse_step.specs.parse_grammar.Remaining.{ParserRemaining, parser_remaining};
     ghost use Rattle.yaml_parse_machine.specs.Views.{stack_of};
     ghost use Rattle.yaml_parse_machine.specs.Settles.{directives_of};
     ghost use Rattle.yaml_parse_step.specs.Steps.{peeked_of};
@@ -60,8 +60,8 @@ impl<S: yaml_token_source_t> Model for yaml_parser_t<S> {
         (S.fault_to_come p.source) (stack_of p.stack.items) (directives_of p.directives)
         (prefix_of p.prefix) };
 
-    ghost use Rattle.yaml_parse_grammar.specs.Texts.{IsUtf8Held};
-    ghost use Rattle.yaml_parse_grammar.specs.Stacks.{IsStack};
+    ghost use Rattle.yaml_parse_step.specs.parse_grammar.Texts.{IsUtf8Held};
+    ghost use Rattle.yaml_parse_step.specs.parse_grammar.Stacks.{IsStack};
 
     ghost invariant = { λ p. IsUtf8Held (peeked_of p.buffers) (stack_of p.stack.items)
         (directives_of p.directives) × IsStack (stack_of p.stack.items) };

@@ -7,5 +7,12 @@ mod Taking
 mod Feeding
 pub mod Ending
 mod Rows
+pub mod ByStep
+pub mod NextLoads
+pub mod ByContent
+mod ToGive
+pub mod AllGiven
 -- the laws beneath, for crates that name this one alone
+pub use Rattle.yaml_parse_document.proofs as parse_document
+pub use Rattle.yaml_parse_loader.proofs as parse_loader
 pub use Rattle.yaml_parse_laws_faults.proofs as parse_laws_faults

@@ -9,9 +9,9 @@ use Rattle.yaml_scan.specs.scan_decode.Encodings.{encoding_of}
 use Rattle.yaml_scan.specs.scan_decode.Decoding.{decoded_text}
 use Rattle.yaml_scan.proofs.scan_decode.DecodeLemmas.{AreBytes}
 use Rattle.yaml_scan.proofs.scan_decode.CompleteLemmas.{decoded_spells}
-use Rattle.yaml_scan_laws_utf8.specs.Texts.{HasTexts}
-use Rattle.yaml_scan_laws_utf8.proofs.Decoded.{spelled_utf8}
-use Rattle.yaml_scan_laws_utf8.proofs.TokensUtf8.{remaining_sound}
+use Rattle.yaml_round_laws_adapted.specs.scan_laws_utf8.Texts.{HasTexts}
+use Rattle.yaml_round_laws_adapted.proofs.scan_laws_utf8.Decoded.{spelled_utf8}
+use Rattle.yaml_round_laws_adapted.proofs.scan_laws_utf8.TokensUtf8.{remaining_sound}
 use Rattle.yaml_scan.specs.scan_history.Remaining.{Remaining}
 use Rattle.yaml_scan.specs.Scanned.{scanned_in, scanned}
 use Rattle.yaml_scan.specs.Session as session
@@ -20,7 +20,7 @@ use Rattle.yaml_parse.specs.Source.{front_of, rest_of, MayAnswer, GivesToken, Gi
 use Rattle.yaml_round_adapter.specs.Adapted.{adapted}
 use Rattle.yaml_round_adapter.specs.Adapter.{TakesText, Stops}
 use Rattle.yaml_round_adapter.specs.AdapterView.{remaining_by}
-use Rattle.yaml_round_adapter.proofs.AdaptedLemmas.{taken, refused, failed}
+use Rattle.yaml_round_laws_adapted.proofs.AdaptedLemmas.{taken, refused, failed}
 
 abbrev pub HaveTexts : Remaining → Type 0
 HaveTexts c = All (λ t. HasTexts t.body) c.tokens

@@ -1,2 +1,1 @@
-pub mod AdaptedLemmas
 pub mod AdapterLemmas

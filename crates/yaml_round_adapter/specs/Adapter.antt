@@ -3,7 +3,7 @@ use Rattle.std.specs.Prelude.{◌≡◌, ◌⊎◌, Bool, true, false}
 use Rattle.yaml_scan.specs.Tokens.{Token}
 use Rattle.yaml_scan.specs.Faults.{Fault}
 use Rattle.yaml_scan.specs.scan_history.Remaining.{Remaining}
-use Rattle.yaml_scan.specs.Scanned.{IsTold}
+use Rattle.yaml_scan.specs.Left.{IsTold}
 use Rattle.yaml_scan.specs.Session.{View, Takes, first_of}
 use Rattle.yaml_round_adapter.specs.Adapted.{spells_text, tag_fault}
 

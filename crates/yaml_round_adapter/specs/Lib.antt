@@ -1,4 +1,3 @@
-pub mod Adapted
 pub mod Adapter
 pub mod AdapterView
-pub mod Laws
+pub use Rattle.yaml_round_laws_adapted.specs.Adapted

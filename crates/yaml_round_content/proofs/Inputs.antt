@@ -1,8 +1,8 @@
 -- What an input says is a stream in which nothing is wrong.
 use Rattle.std.proofs.Common.{◌≡◌, ◌||◌, ℕ, List, map, Bool, true, false, Option, None, refl, inl, inr}
-use Rattle.yaml_round_laws_streams.specs.emit_laws_streams.scan.declared.yaml_encoding_t.{yaml_encoding_t}
-use Rattle.yaml_round_laws_streams.specs.emit_laws_streams.scan.declared.yaml_scalar_style_t.{yaml_scalar_style_t}
-use Rattle.yaml_round_laws_streams.specs.emit_laws_streams.parse.Events as event
+use Rattle.yaml_round_laws_streams.specs.scan_model.declared.yaml_encoding_t.{yaml_encoding_t}
+use Rattle.yaml_round_laws_streams.specs.scan_model.declared.yaml_scalar_style_t.{yaml_scalar_style_t}
+use Rattle.yaml_round_laws_streams.specs.parse_model.Events as event
 use Rattle.yaml_round_laws_streams.specs.emit_laws_streams.Laws.{RightStream}
 use Rattle.yaml_round_laws_streams.specs.Normalized.{IsNormalized, IsNormalizing}
 use Rattle.yaml_round_laws_streams.proofs.Inputs.{inputs_are_streams, inputs_are_fronts}

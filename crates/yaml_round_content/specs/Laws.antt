@@ -1,14 +1,14 @@
 -- An input has one content, and what is laid out for it in canonical form is the content's text.
 use Rattle.std.specs.Prelude.{◌≡◌, ℕ, true, not, List, [], ◌∷◌, ◌++◌, None}
-use Rattle.yaml_round_laws_streams.specs.emit_laws_streams.scan.declared.yaml_encoding_t.{yaml_encoding_t}
-use Rattle.yaml_round_laws_streams.specs.emit_laws_streams.scan.declared.yaml_encoding_t.TheVariants.{YAML_ANY_ENCODING, YAML_UTF8_ENCODING, YAML_UTF16LE_ENCODING, YAML_UTF16BE_ENCODING}
-use Rattle.yaml_round_laws_streams.specs.emit_laws_streams.parse.Events.{EventBody}
-use Rattle.yaml_round_laws_streams.specs.emit_laws_streams.parse.Resolve.{Told}
-use Rattle.yaml_round_laws_streams.specs.emit_laws_streams.emit.Content as emit
-use Rattle.yaml_round_laws_streams.specs.emit_laws_streams.emit.Emitter.{IsStream}
-use Rattle.yaml_round_laws_streams.specs.emit_laws_streams.emit.Text.{Item}
-use Rattle.yaml_round_laws_streams.specs.emit_laws_streams.emit.emit_text.declared.Encoding.{Encoding}
-use Rattle.yaml_round_laws_streams.specs.emit_laws_streams.emit.emit_text.declared.RequestedSettings.{RequestedSettings}
+use Rattle.yaml_round_laws_streams.specs.scan_model.declared.yaml_encoding_t.{yaml_encoding_t}
+use Rattle.yaml_round_laws_streams.specs.scan_model.declared.yaml_encoding_t.TheVariants.{YAML_ANY_ENCODING, YAML_UTF8_ENCODING, YAML_UTF16LE_ENCODING, YAML_UTF16BE_ENCODING}
+use Rattle.yaml_round_laws_streams.specs.parse_model.Events.{EventBody}
+use Rattle.yaml_round_laws_streams.specs.parse_grammar.Resolve.{Told}
+use Rattle.yaml_round_laws_streams.specs.emit_layout.Content as emit
+use Rattle.yaml_round_laws_streams.specs.emit_layout.Streams.{IsStream}
+use Rattle.yaml_round_laws_streams.specs.emit_text.Text.{Item}
+use Rattle.yaml_round_laws_streams.specs.emit_text.declared.Encoding.{Encoding}
+use Rattle.yaml_round_laws_streams.specs.emit_text.declared.RequestedSettings.{RequestedSettings}
 use Rattle.yaml_round_content.specs.Events.{emitter_events, contents}
 use Rattle.yaml_round_content.specs.Input.{events_of, ending_of}
 use Rattle.yaml_round_content.specs.Said.{Document, stream_says, HasContent}

@@ -1,13 +1,13 @@
 -- The documents of any input are as loading makes them: they are those of a content, as far as the input goes.
 use Rattle.std.proofs.Common.{◌≡◌, ◌++◌, ℕ, Bool, true, false, List, [], ◌∷◌, map, Option, None, refl, sym, ap, ◌∙◌}
-use Rattle.yaml_round_laws_dumps.specs.round_laws_writable.content.round_laws.emit_laws_streams.scan.declared.yaml_encoding_t.TheVariants.{YAML_ANY_ENCODING}
-use Rattle.yaml_round_laws_dumps.specs.round_laws_writable.content.round_laws.emit_laws_streams.scan.declared.yaml_sequence_style_t.TheVariants.{YAML_ANY_SEQUENCE_STYLE}
-use Rattle.yaml_round_laws_dumps.specs.round_laws_writable.content.round_laws.emit_laws_streams.scan.declared.yaml_mapping_style_t.TheVariants.{YAML_ANY_MAPPING_STYLE}
-use Rattle.yaml_round_laws_dumps.specs.round_laws_writable.content.round_laws.emit_laws_streams.parse.Events.{Event, EventBody}
-use Rattle.yaml_round_laws_dumps.specs.round_laws_writable.content.round_laws.emit_laws_streams.parse.Events as event
-use Rattle.yaml_round_laws_dumps.specs.round_laws_writable.content.round_laws.emit_laws_streams.parse.Documents as documents
-use Rattle.yaml_round_laws_dumps.specs.round_laws_writable.content.round_laws.emit_laws_streams.parse.Loading.{nothing_loaded}
-use Rattle.yaml_round_laws_dumps.specs.round_laws_writable.content.round_laws.emit_laws_streams.parse.Numbering.{events, item_events, pair_events}
+use Rattle.yaml_round_laws_tree.specs.back_canon.scan.declared.yaml_encoding_t.TheVariants.{YAML_ANY_ENCODING}
+use Rattle.yaml_round_laws_tree.specs.back_canon.scan.declared.yaml_sequence_style_t.TheVariants.{YAML_ANY_SEQUENCE_STYLE}
+use Rattle.yaml_round_laws_tree.specs.back_canon.scan.declared.yaml_mapping_style_t.TheVariants.{YAML_ANY_MAPPING_STYLE}
+use Rattle.yaml_round_laws_tree.specs.parse_grammar.parse_model.Events.{Event, EventBody}
+use Rattle.yaml_round_laws_tree.specs.parse_grammar.parse_model.Events as event
+use Rattle.yaml_round_laws_dumps.specs.round_laws_writable.content.parse_laws_loading.parse_document.Documents as documents
+use Rattle.yaml_round_laws_dumps.specs.round_laws_writable.content.parse_laws_loading.parse_loader.Loading.{nothing_loaded}
+use Rattle.yaml_round_laws_dumps.specs.round_laws_writable.content.parse_laws_loading.parse_loader.Numbering.{events, item_events, pair_events}
 use Rattle.yaml_round_laws_dumps.specs.round_laws_writable.content.Input.{events_of, ending_of}
 use Rattle.yaml_round_laws_dumps.specs.round_laws_writable.content.Events.{contents}
 use Rattle.yaml_round_laws_dumps.specs.round_laws_writable.content.Said.{Mark, untagged, tagged, Node, alias, scalar, sequence, mapping, Nodes, no_nodes, node, Pairs, no_pairs, pair, Document, scalar_says, node_says, items_say, pairs_say, documents_say, stream_says}

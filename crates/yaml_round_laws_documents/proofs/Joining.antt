@@ -1,13 +1,13 @@
 -- Canonical bytes decode to a text of words, whose tokens pass the adapter and are parsed as the content.
 use Rattle.std.proofs.Common.{◌≡◌, ℕ, ◌<◌, ◌&&◌, nat_le, if◌then◌else◌, List, Ok, refl, sym, ap, ◌∙◌, ℤ, pos, negsuc, arith}
 use Rattle.std.proofs.lemmas.Bool.Decides.{nat_tests}
-use Rattle.yaml_round_laws_dumps.specs.round_laws_writable.content.round_laws.emit_laws_streams.scan.declared.yaml_encoding_t.{yaml_encoding_t}
-use Rattle.yaml_round_laws_dumps.specs.round_laws_writable.content.round_laws.emit_laws_streams.scan.declared.yaml_encoding_t.TheVariants.{YAML_ANY_ENCODING}
-use Rattle.yaml_round_laws_dumps.specs.round_laws_writable.content.round_laws.emit_laws_streams.scan.Decoding.{decoded_text}
-use Rattle.yaml_round_laws_dumps.specs.round_laws_writable.content.round_laws.emit_laws_streams.scan.scan_history.Remaining.{Remaining}
-use Rattle.yaml_round_laws_dumps.specs.round_laws_writable.content.round_laws.emit_laws_streams.scan.Scanned.{scanned, scanned_in}
-use Rattle.yaml_round_laws_dumps.specs.round_laws_writable.content.round_laws.emit_laws_streams.emit.Settings.{settled, settled_indent}
-use Rattle.yaml_round_laws_dumps.specs.round_laws_writable.content.round_laws.round_adapter.Adapted.{adapted}
+use Rattle.yaml_round_laws_tree.specs.back_canon.scan.declared.yaml_encoding_t.{yaml_encoding_t}
+use Rattle.yaml_round_laws_tree.specs.back_canon.scan.declared.yaml_encoding_t.TheVariants.{YAML_ANY_ENCODING}
+use Rattle.yaml_round_laws_bytes.specs.scan_decode.Decoding.{decoded_text}
+use Rattle.yaml_round_laws_tree.specs.back_canon.scan_history.Remaining.{Remaining}
+use Rattle.yaml_round_laws_tree.specs.back_canon.scan_history.Scanned.{scanned, scanned_in}
+use Rattle.yaml_round_laws_tree.specs.back_canon.emit_layout.emit_text.Settings.{settled, settled_indent}
+use Rattle.yaml_round_laws_tree.specs.round_laws_adapted.Adapted.{adapted}
 use Rattle.yaml_round_laws_dumps.specs.round_laws_writable.content.Events.{contents}
 use Rattle.yaml_round_laws_dumps.specs.round_laws_writable.content.Input.{events_of, ending_of, read, parsed, tokens_of}
 use Rattle.yaml_round_laws_dumps.specs.round_laws_writable.content.Said.{stream_says}

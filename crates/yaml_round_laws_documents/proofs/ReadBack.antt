@@ -1,5 +1,5 @@
 -- The laws of canonical text, joined from the laws beneath.
-use Rattle.yaml_round_laws_dumps.specs.round_laws_writable.content.round_laws.emit_laws_streams.scan.declared.yaml_encoding_t.TheVariants.{YAML_ANY_ENCODING}
+use Rattle.yaml_round_laws_tree.specs.back_canon.scan.declared.yaml_encoding_t.TheVariants.{YAML_ANY_ENCODING}
 use Rattle.yaml_round_laws_dumps.specs.round_laws_writable.content.Canon.{canon}
 use Rattle.yaml_round_laws_dumps.specs.round_laws_writable.Laws.{LayoutIsOfInputsContent, InputsContentIsLaidOut}
 use Rattle.yaml_round_laws_dumps.proofs.round_laws_writable.content.Injective.{says_injective}

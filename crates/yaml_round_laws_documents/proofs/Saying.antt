@@ -4,13 +4,13 @@ use Rattle.std.specs.Str.{bytes_eq}
 use Rattle.std.proofs.lemmas.Bool.{cases_Bool}
 use Rattle.std.proofs.lemmas.Bool.Decides.{nat_tests}
 use Rattle.std.proofs.lemmas.Slice.Eq.{bytes_eq-Decides}
-use Rattle.yaml_round_laws_dumps.specs.round_laws_writable.content.round_laws.emit_laws_streams.scan.declared.yaml_scalar_style_t.TheVariants.{YAML_DOUBLE_QUOTED_SCALAR_STYLE}
-use Rattle.yaml_round_laws_dumps.specs.round_laws_writable.content.round_laws.emit_laws_streams.scan.declared.yaml_sequence_style_t.TheVariants.{YAML_ANY_SEQUENCE_STYLE}
-use Rattle.yaml_round_laws_dumps.specs.round_laws_writable.content.round_laws.emit_laws_streams.scan.declared.yaml_mapping_style_t.TheVariants.{YAML_ANY_MAPPING_STYLE}
-use Rattle.yaml_round_laws_dumps.specs.round_laws_writable.content.round_laws.emit_laws_streams.scan.declared.yaml_encoding_t.TheVariants.{YAML_ANY_ENCODING}
-use Rattle.yaml_round_laws_dumps.specs.round_laws_writable.content.round_laws.emit_laws_streams.parse.Events.{EventBody}
-use Rattle.yaml_round_laws_dumps.specs.round_laws_writable.content.round_laws.emit_laws_streams.parse.Events as event
-use Rattle.yaml_round_laws_dumps.specs.round_laws_writable.content.round_laws.emit_laws_streams.parse.Resolve.{Told}
+use Rattle.yaml_round_laws_tree.specs.back_canon.scan.declared.yaml_scalar_style_t.TheVariants.{YAML_DOUBLE_QUOTED_SCALAR_STYLE}
+use Rattle.yaml_round_laws_tree.specs.back_canon.scan.declared.yaml_sequence_style_t.TheVariants.{YAML_ANY_SEQUENCE_STYLE}
+use Rattle.yaml_round_laws_tree.specs.back_canon.scan.declared.yaml_mapping_style_t.TheVariants.{YAML_ANY_MAPPING_STYLE}
+use Rattle.yaml_round_laws_tree.specs.back_canon.scan.declared.yaml_encoding_t.TheVariants.{YAML_ANY_ENCODING}
+use Rattle.yaml_round_laws_tree.specs.parse_grammar.parse_model.Events.{EventBody}
+use Rattle.yaml_round_laws_tree.specs.parse_grammar.parse_model.Events as event
+use Rattle.yaml_round_laws_tree.specs.parse_grammar.Resolve.{Told}
 use Rattle.yaml_round_laws_dumps.specs.round_laws_writable.content.Normalize.{is_lone_mark, normalize_scalar, normalize_body}
 use Rattle.yaml_round_laws_dumps.specs.round_laws_writable.content.Content.{content_of}
 use Rattle.yaml_round_laws_dumps.specs.round_laws_writable.content.Events.{contents}

@@ -1,13 +1,13 @@
 -- The laws of loaded documents and of their texts, joined from the laws beneath.
 use Rattle.std.proofs.Common.{◌≡◌, ℕ, true, List, map, Option, Some, None, Ok, refl, sym, ap, subst, ◌∙◌}
-use Rattle.yaml_round_laws_dumps.specs.round_laws_writable.content.round_laws.emit_laws_streams.scan.declared.yaml_encoding_t.{yaml_encoding_t}
-use Rattle.yaml_round_laws_dumps.specs.round_laws_writable.content.round_laws.emit_laws_streams.scan.declared.yaml_encoding_t.TheVariants.{YAML_ANY_ENCODING}
-use Rattle.yaml_round_laws_dumps.specs.round_laws_writable.content.round_laws.emit_laws_streams.scan.Faults.{Fault}
-use Rattle.yaml_round_laws_dumps.specs.round_laws_writable.content.round_laws.emit_laws_streams.parse.Documents.{Document}
-use Rattle.yaml_round_laws_dumps.specs.round_laws_writable.content.round_laws.emit_laws_streams.parse.Loading.{nothing_loaded}
-use Rattle.yaml_round_laws_dumps.specs.round_laws_writable.content.round_laws.emit_laws_streams.emit.emit_text.declared.RequestedSettings.{RequestedSettings}
-use Rattle.yaml_parse_loader.proofs.Loads.{loads_document}
-use Rattle.yaml_parse_loader.proofs.Visited.{numbered_in_order}
+use Rattle.yaml_round_laws_tree.specs.back_canon.scan.declared.yaml_encoding_t.{yaml_encoding_t}
+use Rattle.yaml_round_laws_tree.specs.back_canon.scan.declared.yaml_encoding_t.TheVariants.{YAML_ANY_ENCODING}
+use Rattle.yaml_round_laws_tree.specs.back_canon.scan.Faults.{Fault}
+use Rattle.yaml_round_laws_dumps.specs.round_laws_writable.content.parse_laws_loading.parse_document.Documents.{Document}
+use Rattle.yaml_round_laws_dumps.specs.round_laws_writable.content.parse_laws_loading.parse_loader.Loading.{nothing_loaded}
+use Rattle.yaml_round_laws_tree.specs.back_canon.emit_layout.emit_text.declared.RequestedSettings.{RequestedSettings}
+use Rattle.yaml_round_laws_dumps.proofs.round_laws_writable.content.parse_laws_loading.parse_loader.Loads.{loads_document}
+use Rattle.yaml_round_laws_dumps.proofs.round_laws_writable.content.parse_laws_loading.parse_loader.Visited.{numbered_in_order}
 use Rattle.yaml_round_laws_dumps.specs.emit_laws_dumps.Laws.{DumpsNumberBack}
 use Rattle.yaml_round_laws_dumps.proofs.emit_laws_dumps.Apart.{apart_all, again_all}
 use Rattle.yaml_round_laws_dumps.proofs.emit_laws_dumps.Again.{again_turns}

@@ -1,12 +1,12 @@
 -- Canonical text reads back, and is a normal form of what inputs say.
 use Rattle.std.specs.Prelude.{◌≡◌, ℕ, true, false, List, ◌∷◌}
-use Rattle.yaml_round_laws_dumps.specs.round_laws_writable.content.round_laws.emit_laws_streams.scan.declared.yaml_encoding_t.{yaml_encoding_t}
-use Rattle.yaml_round_laws_dumps.specs.round_laws_writable.content.round_laws.emit_laws_streams.scan.declared.yaml_encoding_t.TheVariants.{YAML_ANY_ENCODING}
-use Rattle.yaml_round_laws_dumps.specs.round_laws_writable.content.round_laws.emit_laws_streams.scan.Tokens.{Token, TokenBody}
-use Rattle.yaml_round_laws_dumps.specs.round_laws_writable.content.round_laws.emit_laws_streams.scan.Tokens as token
-use Rattle.yaml_round_laws_dumps.specs.round_laws_writable.content.round_laws.emit_laws_streams.scan.Scanned.{scanned}
-use Rattle.yaml_round_laws_dumps.specs.round_laws_writable.content.round_laws.emit_laws_streams.emit.emit_text.declared.RequestedSettings.{RequestedSettings}
-use Rattle.yaml_round_laws_dumps.specs.round_laws_writable.content.round_laws.emit_laws_streams.emit.Emitter.{IsStream}
+use Rattle.yaml_round_laws_tree.specs.back_canon.scan.declared.yaml_encoding_t.{yaml_encoding_t}
+use Rattle.yaml_round_laws_tree.specs.back_canon.scan.declared.yaml_encoding_t.TheVariants.{YAML_ANY_ENCODING}
+use Rattle.yaml_round_laws_tree.specs.back_canon.scan.Tokens.{Token, TokenBody}
+use Rattle.yaml_round_laws_tree.specs.back_canon.scan.Tokens as token
+use Rattle.yaml_round_laws_tree.specs.back_canon.scan_history.Scanned.{scanned}
+use Rattle.yaml_round_laws_tree.specs.back_canon.emit_layout.emit_text.declared.RequestedSettings.{RequestedSettings}
+use Rattle.yaml_round_laws_tree.specs.back_canon.emit_layout.Streams.{IsStream}
 use Rattle.yaml_round_laws_dumps.specs.round_laws_writable.content.Said.{Document, HasContent}
 use Rattle.yaml_round_laws_dumps.specs.round_laws_writable.content.Events.{emitter_events}
 use Rattle.yaml_round_laws_dumps.specs.round_laws_writable.content.Input.{events_of}

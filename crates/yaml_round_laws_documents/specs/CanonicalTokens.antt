@@ -1,8 +1,8 @@
 -- What the tokens of a content's canonical documents say.
 use Rattle.std.specs.Prelude.{◌≡◌, false, List, ◌∷◌, None}
-use Rattle.yaml_round_laws_dumps.specs.round_laws_writable.content.round_laws.emit_laws_streams.scan.declared.yaml_encoding_t.{yaml_encoding_t}
-use Rattle.yaml_round_laws_dumps.specs.round_laws_writable.content.round_laws.emit_laws_streams.scan.Tokens.{Token}
-use Rattle.yaml_round_laws_dumps.specs.round_laws_writable.content.round_laws.emit_laws_streams.scan.Tokens as token
+use Rattle.yaml_round_laws_tree.specs.back_canon.scan.declared.yaml_encoding_t.{yaml_encoding_t}
+use Rattle.yaml_round_laws_tree.specs.back_canon.scan.Tokens.{Token}
+use Rattle.yaml_round_laws_tree.specs.back_canon.scan.Tokens as token
 use Rattle.yaml_round_laws_dumps.specs.round_laws_writable.content.Events.{contents}
 use Rattle.yaml_round_laws_dumps.specs.round_laws_writable.content.Said.{Document, stream_says}
 use Rattle.yaml_round_laws_dumps.specs.round_laws_writable.content.Canon.{written_documents}

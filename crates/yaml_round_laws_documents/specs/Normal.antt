@@ -1,12 +1,12 @@
 -- The canonical text of what documents say: it is laid out for their dumps, and loads documents that agree with them.
 use Rattle.std.specs.Prelude.{◌≡◌, ◌↔◌, ℕ, true, List, map, None, Ok}
-use Rattle.yaml_round_laws_dumps.specs.round_laws_writable.content.round_laws.emit_laws_streams.scan.declared.yaml_encoding_t.{yaml_encoding_t}
-use Rattle.yaml_round_laws_dumps.specs.round_laws_writable.content.round_laws.emit_laws_streams.scan.declared.yaml_encoding_t.TheVariants.{YAML_ANY_ENCODING}
-use Rattle.yaml_round_laws_dumps.specs.round_laws_writable.content.round_laws.emit_laws_streams.parse.Documents.{Document}
-use Rattle.yaml_round_laws_dumps.specs.round_laws_writable.content.round_laws.emit_laws_streams.emit.emit_text.declared.RequestedSettings.{RequestedSettings}
-use Rattle.yaml_round_laws_dumps.specs.round_laws_writable.content.round_laws.emit_laws_streams.emit.emit_graph.Graph.{graph_content}
-use Rattle.yaml_round_laws_dumps.specs.round_laws_writable.content.round_laws.emit_laws_streams.emit.Content.{Event, stream_events}
-use Rattle.yaml_round_laws_dumps.specs.round_laws_writable.content.round_laws.emit_laws_streams.emit.Emitter.{IsStream}
+use Rattle.yaml_round_laws_tree.specs.back_canon.scan.declared.yaml_encoding_t.{yaml_encoding_t}
+use Rattle.yaml_round_laws_tree.specs.back_canon.scan.declared.yaml_encoding_t.TheVariants.{YAML_ANY_ENCODING}
+use Rattle.yaml_round_laws_dumps.specs.round_laws_writable.content.parse_laws_loading.parse_document.Documents.{Document}
+use Rattle.yaml_round_laws_tree.specs.back_canon.emit_layout.emit_text.declared.RequestedSettings.{RequestedSettings}
+use Rattle.yaml_round_laws_dumps.specs.round_laws_writable.content.round_laws.emit_laws_streams.emit_graph.Graph.{graph_content}
+use Rattle.yaml_round_laws_tree.specs.back_canon.emit_layout.Content.{Event, stream_events}
+use Rattle.yaml_round_laws_tree.specs.back_canon.emit_layout.Streams.{IsStream}
 use Rattle.yaml_round_laws_dumps.specs.round_laws_writable.content.Said as content
 use Rattle.yaml_round_laws_dumps.specs.round_laws_writable.content.Said.{HasContent}
 use Rattle.yaml_round_laws_dumps.specs.round_laws_writable.content.Loads.{with_implicit_end, loads_of}

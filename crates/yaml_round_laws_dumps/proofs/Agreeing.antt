@@ -1,10 +1,10 @@
 -- Documents that agree with loaded ones are as loading makes them.
 use Rattle.std.proofs.Common.{◌≡◌, ℕ, zero, suc, ℤ, List, [], ◌∷◌, length, map, Some, None, refl, sym, ap, subst, ◌∙◌}
 use Rattle.std.specs.Prelude.{false, slice_get, pos}
-use Rattle.yaml_round_laws_writable.specs.content.round_laws.emit_laws_streams.parse.Nodes as model
-use Rattle.yaml_round_laws_writable.specs.content.round_laws.emit_laws_streams.parse.Documents as documents
-use Rattle.yaml_round_laws_writable.specs.content.round_laws.emit_laws_streams.parse.Numbering.{is_bang}
-use Rattle.yaml_round_laws_writable.specs.content.round_laws.emit_laws_streams.parse.Order.{VisitsInPreorder, done, again, first, children}
+use Rattle.yaml_round_laws_writable.specs.content.parse_model.Nodes as model
+use Rattle.yaml_round_laws_writable.specs.content.parse_laws_loading.parse_document.Documents as documents
+use Rattle.yaml_parse_loader.specs.Numbering.{is_bang}
+use Rattle.yaml_parse_loader.specs.Order.{VisitsInPreorder, done, again, first, children}
 use Rattle.yaml_round_laws_writable.specs.content.Input.{events_of, ending_of}
 use Rattle.yaml_round_laws_writable.specs.content.Said.{Document}
 use Rattle.yaml_round_laws_writable.specs.content.Loads.{Loads, loads_of}

@@ -2,14 +2,14 @@
 use Rattle.std.proofs.Common.{◌≡◌, ◌↔◌, ℕ, Bool, true, false, ◌==◌, ◌&&◌, cond, List, [], ◌∷◌, length, Option, Some, None, refl, sym, ap, ◌∙◌, arith}
 use Rattle.std.specs.Prelude.{slice_index}
 use Rattle.std.proofs.lemmas.Bool.Decides.{nat_tests}
-use Rattle.yaml_round_laws_writable.specs.content.round_laws.emit_laws_streams.scan.declared.yaml_scalar_style_t.{yaml_scalar_style_t}
-use Rattle.yaml_round_laws_writable.specs.content.round_laws.emit_laws_streams.scan.Faults.{Fault}
-use Rattle.yaml_round_laws_writable.specs.content.round_laws.emit_laws_streams.parse.Events.{EventBody}
-use Rattle.yaml_round_laws_writable.specs.content.round_laws.emit_laws_streams.parse.Events as event
-use Rattle.yaml_round_laws_writable.specs.content.round_laws.emit_laws_streams.parse.Documents.{str_tag}
-use Rattle.yaml_round_laws_writable.specs.content.round_laws.emit_laws_streams.parse.Resolve.{Told}
-use Rattle.yaml_round_laws_writable.specs.content.round_laws.emit_laws_streams.parse.Numbering.{is_bang, loaded_tag}
-use Rattle.yaml_round_laws_writable.specs.content.round_laws.emit_laws_streams.parse.Loading.{nothing_loaded}
+use Rattle.yaml_round_laws_writable.specs.content.scan_model.declared.yaml_scalar_style_t.{yaml_scalar_style_t}
+use Rattle.yaml_round_laws_writable.specs.content.scan_model.Faults.{Fault}
+use Rattle.yaml_round_laws_writable.specs.content.parse_model.Events.{EventBody}
+use Rattle.yaml_round_laws_writable.specs.content.parse_model.Events as event
+use Rattle.yaml_round_laws_writable.specs.content.parse_laws_loading.parse_document.Documents.{str_tag}
+use Rattle.yaml_round_laws_writable.specs.content.parse_grammar.Resolve.{Told}
+use Rattle.yaml_parse_loader.specs.Numbering.{is_bang, loaded_tag}
+use Rattle.yaml_parse_loader.specs.Loading.{nothing_loaded}
 use Rattle.yaml_round_laws_writable.specs.content.Normalize.{is_lone_mark, normalize_scalar, normalize_body}
 use Rattle.yaml_round_laws_writable.specs.content.Content.{content_of}
 use Rattle.yaml_round_laws_writable.specs.content.Events.{contents}

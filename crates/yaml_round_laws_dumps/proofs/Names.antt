@@ -6,11 +6,11 @@ use Rattle.std.specs.Str.{bytes_eq}
 use Rattle.std.specs.Ordering.{nat_cmp, eq_by_cmp}
 use Rattle.std.specs.Cmp.Lexicographic.{slice_cmp, nat_list_cmp_total}
 use Rattle.std.specs.FinMap as map
-use Rattle.yaml_round_laws_writable.specs.content.round_laws.emit_laws_streams.scan.declared.yaml_sequence_style_t.TheVariants.{YAML_ANY_SEQUENCE_STYLE}
-use Rattle.yaml_round_laws_writable.specs.content.round_laws.emit_laws_streams.scan.declared.yaml_mapping_style_t.TheVariants.{YAML_ANY_MAPPING_STYLE}
-use Rattle.yaml_round_laws_writable.specs.content.round_laws.emit_laws_streams.parse.Events.{EventBody}
-use Rattle.yaml_round_laws_writable.specs.content.round_laws.emit_laws_streams.parse.Events as event
-use Rattle.yaml_round_laws_writable.specs.content.round_laws.emit_laws_streams.parse.Loading.{Open, open_sequence, open_mapping, attach, named, nothing_loaded}
+use Rattle.yaml_round_laws_writable.specs.content.scan_model.declared.yaml_sequence_style_t.TheVariants.{YAML_ANY_SEQUENCE_STYLE}
+use Rattle.yaml_round_laws_writable.specs.content.scan_model.declared.yaml_mapping_style_t.TheVariants.{YAML_ANY_MAPPING_STYLE}
+use Rattle.yaml_round_laws_writable.specs.content.parse_model.Events.{EventBody}
+use Rattle.yaml_round_laws_writable.specs.content.parse_model.Events as event
+use Rattle.yaml_parse_loader.specs.Loading.{Open, open_sequence, open_mapping, attach, named, nothing_loaded}
 use Rattle.yaml_round_laws_writable.specs.content.Events.{contents}
 use Rattle.yaml_round_laws_writable.specs.content.Loads.{load_all}
 use Rattle.yaml_round_laws_writable.specs.content.Said.{Mark, untagged, tagged, Node, alias, scalar, sequence, mapping, Nodes, no_nodes, node, Pairs, no_pairs, pair, Document, scalar_says, node_says, items_say, pairs_say, documents_say}

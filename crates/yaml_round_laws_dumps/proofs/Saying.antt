@@ -3,13 +3,13 @@ use Rattle.std.proofs.Common.{◌≡◌, ◌==◌, ℕ, suc, Bool, true, false, 
 use Rattle.std.proofs.lemmas.Bool.{cases_Bool}
 use Rattle.std.proofs.lemmas.Bool.Decides.{nat_tests}
 use Rattle.std.specs.Prelude.{slice_index}
-use Rattle.yaml_round_laws_writable.specs.content.round_laws.emit_laws_streams.scan.declared.yaml_scalar_style_t.TheVariants.{YAML_ANY_SCALAR_STYLE}
-use Rattle.yaml_round_laws_writable.specs.content.round_laws.emit_laws_streams.scan.declared.yaml_sequence_style_t.TheVariants.{YAML_ANY_SEQUENCE_STYLE}
-use Rattle.yaml_round_laws_writable.specs.content.round_laws.emit_laws_streams.scan.declared.yaml_mapping_style_t.TheVariants.{YAML_ANY_MAPPING_STYLE}
-use Rattle.yaml_round_laws_writable.specs.content.round_laws.emit_laws_streams.scan.declared.yaml_encoding_t.TheVariants.{YAML_ANY_ENCODING}
-use Rattle.yaml_round_laws_writable.specs.content.round_laws.emit_laws_streams.parse.Events.{Event, EventBody}
-use Rattle.yaml_round_laws_writable.specs.content.round_laws.emit_laws_streams.parse.Events as event
-use Rattle.yaml_round_laws_writable.specs.content.round_laws.emit_laws_streams.parse.Numbering.{events, item_events, pair_events}
+use Rattle.yaml_round_laws_writable.specs.content.scan_model.declared.yaml_scalar_style_t.TheVariants.{YAML_ANY_SCALAR_STYLE}
+use Rattle.yaml_round_laws_writable.specs.content.scan_model.declared.yaml_sequence_style_t.TheVariants.{YAML_ANY_SEQUENCE_STYLE}
+use Rattle.yaml_round_laws_writable.specs.content.scan_model.declared.yaml_mapping_style_t.TheVariants.{YAML_ANY_MAPPING_STYLE}
+use Rattle.yaml_round_laws_writable.specs.content.scan_model.declared.yaml_encoding_t.TheVariants.{YAML_ANY_ENCODING}
+use Rattle.yaml_round_laws_writable.specs.content.parse_model.Events.{Event, EventBody}
+use Rattle.yaml_round_laws_writable.specs.content.parse_model.Events as event
+use Rattle.yaml_parse_loader.specs.Numbering.{events, item_events, pair_events}
 use Rattle.yaml_round_laws_writable.specs.content.Normalize.{is_lone_mark, normalize_scalar}
 use Rattle.yaml_round_laws_writable.specs.content.Content.{content_of}
 use Rattle.yaml_round_laws_writable.specs.content.Events.{contents}

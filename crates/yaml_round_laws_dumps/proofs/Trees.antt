@@ -1,17 +1,17 @@
 -- What the tree of a node says is numbered as what the node says.
 use Rattle.std.proofs.Common.{◌≡◌, ◌<◌, ◌^◌, ℕ, suc, ℤ, pos, List, [], ◌∷◌, length, map, Option, Some, None, Result, Ok, Err, refl, ap, ◌∙◌, arith}
 use Rattle.std.specs.Prelude.{◌+◌, ◌++◌, slice_get}
-use Rattle.yaml_round_laws_writable.specs.content.round_laws.emit_laws_streams.scan.declared.yaml_sequence_style_t.TheVariants.{YAML_ANY_SEQUENCE_STYLE}
-use Rattle.yaml_round_laws_writable.specs.content.round_laws.emit_laws_streams.scan.declared.yaml_mapping_style_t.TheVariants.{YAML_ANY_MAPPING_STYLE}
-use Rattle.yaml_round_laws_writable.specs.content.round_laws.emit_laws_streams.parse.declared.yaml_node_pair_t.{yaml_node_pair_t}
-use Rattle.yaml_round_laws_writable.specs.content.round_laws.emit_laws_streams.scan.Tokens.{zero_mark}
-use Rattle.yaml_round_laws_writable.specs.content.round_laws.emit_laws_streams.scan.Faults.{Fault}
-use Rattle.yaml_round_laws_writable.specs.content.round_laws.emit_laws_streams.parse.Nodes as model
-use Rattle.yaml_round_laws_writable.specs.content.round_laws.emit_laws_streams.parse.Documents as documents
-use Rattle.yaml_round_laws_writable.specs.content.round_laws.emit_laws_streams.parse.Numbering.{Anchored, Numbered, ◌>>=◌, and_node, number, number_items, number_pairs, sequence_node, mapping_node, document_of}
-use Rattle.yaml_round_laws_writable.specs.content.round_laws.emit_laws_streams.parse.Order.{VisitsInPreorder, again, first}
-use Rattle.yaml_round_laws_writable.specs.content.round_laws.emit_laws_streams.emit.Content as emit
-use Rattle.yaml_round_laws_writable.specs.content.round_laws.emit_laws_streams.emit.emit_graph.Graph.{graph_content}
+use Rattle.yaml_round_laws_writable.specs.content.scan_model.declared.yaml_sequence_style_t.TheVariants.{YAML_ANY_SEQUENCE_STYLE}
+use Rattle.yaml_round_laws_writable.specs.content.scan_model.declared.yaml_mapping_style_t.TheVariants.{YAML_ANY_MAPPING_STYLE}
+use Rattle.yaml_round_laws_writable.specs.content.parse_model.declared.yaml_node_pair_t.{yaml_node_pair_t}
+use Rattle.yaml_round_laws_writable.specs.content.scan_model.Tokens.{zero_mark}
+use Rattle.yaml_round_laws_writable.specs.content.scan_model.Faults.{Fault}
+use Rattle.yaml_round_laws_writable.specs.content.parse_model.Nodes as model
+use Rattle.yaml_round_laws_writable.specs.content.parse_laws_loading.parse_document.Documents as documents
+use Rattle.yaml_parse_loader.specs.Numbering.{Anchored, Numbered, ◌>>=◌, and_node, number, number_items, number_pairs, sequence_node, mapping_node, document_of}
+use Rattle.yaml_parse_loader.specs.Order.{VisitsInPreorder, again, first}
+use Rattle.yaml_round_laws_writable.specs.content.emit_layout.Content as emit
+use Rattle.yaml_round_laws_writable.specs.content.round_laws.emit_laws_streams.emit_graph.Graph.{graph_content}
 use Rattle.yaml_round_laws_writable.specs.content.Trees.{tree_of, trees_of, pair_trees_of, document_tree}
 use Rattle.yaml_round_laws_writable.specs.content.Canon.{written_node, written_nodes, written_pairs}
 use Rattle.yaml_round_laws_writable.specs.content.Loads.{Loads, in_front}

@@ -1,9 +1,9 @@
 -- What dumps say loads the documents again.
 use Rattle.std.specs.Prelude.{◌≡◌, ℕ, List, map, None}
-use Rattle.yaml_round_laws_writable.specs.content.round_laws.emit_laws_streams.scan.declared.yaml_encoding_t.{yaml_encoding_t}
-use Rattle.yaml_round_laws_writable.specs.content.round_laws.emit_laws_streams.parse.Documents as documents
-use Rattle.yaml_round_laws_writable.specs.content.round_laws.emit_laws_streams.parse.Loading.{nothing_loaded}
-use Rattle.yaml_round_laws_writable.specs.content.round_laws.emit_laws_streams.parse.Resolve.{Told}
+use Rattle.yaml_round_laws_writable.specs.content.scan_model.declared.yaml_encoding_t.{yaml_encoding_t}
+use Rattle.yaml_round_laws_writable.specs.content.parse_laws_loading.parse_document.Documents as documents
+use Rattle.yaml_parse_loader.specs.Loading.{nothing_loaded}
+use Rattle.yaml_round_laws_writable.specs.content.parse_grammar.Resolve.{Told}
 use Rattle.yaml_round_laws_writable.specs.content.Events.{contents}
 use Rattle.yaml_round_laws_writable.specs.content.Said.{Document, stream_says, HasContent}
 use Rattle.yaml_round_laws_writable.specs.content.Loads.{load_all, loads_of}

@@ -1,23 +1,23 @@
 -- Tokens that are alike make events that say the same.
 use Rattle.std.proofs.Common.{◌≡◌, ◌⊎◌, inl, inr, ℕ, true, List, [], ◌∷◌, ◌++◌, length, map, Option, Some, None, refl, sym, ap, subst}
-use Rattle.yaml_scan.specs.declared.yaml_encoding_t.{yaml_encoding_t}
-use Rattle.yaml_scan.specs.declared.yaml_encoding_t.TheVariants.{YAML_ANY_ENCODING}
-use Rattle.yaml_scan.specs.declared.yaml_mark_t.{yaml_mark_t}
-use Rattle.yaml_scan.specs.Tokens.{Token, type_of}
-use Rattle.yaml_scan.specs.Faults.{Fault}
-use Rattle.yaml_round_content.specs.round_laws.emit_laws_streams.parse.Events.{EventBody}
-use Rattle.yaml_round_content.specs.round_laws.emit_laws_streams.parse.Events as event
-use Rattle.yaml_round_content.specs.round_laws.emit_laws_streams.parse.parse_grammar.Items.{RawEvent}
-use Rattle.yaml_round_content.specs.round_laws.emit_laws_streams.parse.parse_grammar.States.{State, Taken}
-use Rattle.yaml_round_content.specs.round_laws.emit_laws_streams.parse.parse_grammar.States as state
-use Rattle.yaml_round_content.specs.round_laws.emit_laws_streams.parse.parse_grammar.declared.name.Choice.{Choice}
-use Rattle.yaml_round_content.specs.round_laws.emit_laws_streams.parse.parse_grammar.declared.name.Choice.TheVariants.{Refuse, Take, Leave, Open}
-use Rattle.yaml_round_content.specs.round_laws.emit_laws_streams.parse.Trees.{Given, event_at}
-use Rattle.yaml_round_content.specs.round_laws.emit_laws_streams.parse.parse_grammar.Items.{item_at}
-use Rattle.yaml_round_content.specs.round_laws.emit_laws_streams.parse.parse_grammar.Items as item
-use Rattle.yaml_round_content.specs.round_laws.emit_laws_streams.parse.parse_grammar.declared.name.Site.TheVariants.{Root}
-use Rattle.yaml_round_content.specs.round_laws.emit_laws_streams.parse.Machine.{Fed, stop, go, choice_at, taken, taken_at, left_at, with_item, given_by, turn, feed, Outcome, carry, at_end, run}
-use Rattle.yaml_round_content.specs.round_laws.emit_laws_streams.parse.Resolve.{Directives, Settled, refused, gave, noted, settle, Reading, read_on, reading}
+use Rattle.yaml_round_content.specs.scan_model.declared.yaml_encoding_t.{yaml_encoding_t}
+use Rattle.yaml_round_content.specs.scan_model.declared.yaml_encoding_t.TheVariants.{YAML_ANY_ENCODING}
+use Rattle.yaml_round_content.specs.scan_model.declared.yaml_mark_t.{yaml_mark_t}
+use Rattle.yaml_round_content.specs.scan_model.Tokens.{Token, type_of}
+use Rattle.yaml_round_content.specs.scan_model.Faults.{Fault}
+use Rattle.yaml_round_content.specs.parse_model.Events.{EventBody}
+use Rattle.yaml_round_content.specs.parse_model.Events as event
+use Rattle.yaml_round_content.specs.parse_grammar.Items.{RawEvent}
+use Rattle.yaml_round_content.specs.parse_grammar.States.{State, Taken}
+use Rattle.yaml_round_content.specs.parse_grammar.States as state
+use Rattle.yaml_round_content.specs.parse_grammar.declared.Choice.{Choice}
+use Rattle.yaml_round_content.specs.parse_grammar.declared.Choice.TheVariants.{Refuse, Take, Leave, Open}
+use Rattle.yaml_round_content.specs.parse_grammar.Trees.{Given, event_at}
+use Rattle.yaml_round_content.specs.parse_grammar.Items.{item_at}
+use Rattle.yaml_round_content.specs.parse_grammar.Items as item
+use Rattle.yaml_round_content.specs.parse_grammar.declared.Site.TheVariants.{Root}
+use Rattle.yaml_round_content.specs.parse_grammar.Machine.{Fed, stop, go, choice_at, taken, taken_at, left_at, with_item, given_by, turn, feed, Outcome, carry, at_end, run}
+use Rattle.yaml_round_content.specs.parse_grammar.Resolve.{Directives, Settled, refused, gave, noted, settle, Reading, read_on, reading}
 use Rattle.yaml_round_content.specs.Events.{contents}
 use Rattle.yaml_round_content.specs.Normalize.{normalize_body}
 use Rattle.yaml_round_content.specs.Content.{content_of}

@@ -1,16 +1,16 @@
 -- Two spellings of one text are read alike.
 use Rattle.std.proofs.Common.{◌≡◌, ℕ, List, Option, Result, sym, ap, subst}
-use Rattle.yaml_scan.specs.declared.yaml_encoding_t.{yaml_encoding_t}
-use Rattle.yaml_scan.specs.scan_decode.declared.offence.Offence.{Offence}
-use Rattle.yaml_scan.specs.Encodings.{encoding_of}
-use Rattle.yaml_scan.specs.Faults.{Fault}
-use Rattle.yaml_scan.specs.Spelling.{Spells}
-use Rattle.yaml_scan.specs.Scanned.{scanned_in}
-use Rattle.yaml_scan.specs.scan_history.Remaining.{Remaining, offline}
-use Rattle.yaml_scan.proofs.scan_decode.CompleteLemmas.{spells_decoded}
-use Rattle.yaml_round_content.specs.round_laws.round_adapter.Adapted.{adapted}
-use Rattle.yaml_round_content.specs.round_laws.emit_laws_streams.parse.Machine.{run, initial}
-use Rattle.yaml_round_content.specs.round_laws.emit_laws_streams.parse.Resolve.{Reading, reading, no_directives}
+use Rattle.yaml_round_content.specs.scan_model.declared.yaml_encoding_t.{yaml_encoding_t}
+use Rattle.yaml_round_content.specs.scan_history.scan_decode.declared.offence.Offence.{Offence}
+use Rattle.yaml_round_content.specs.scan_history.scan_decode.Encodings.{encoding_of}
+use Rattle.yaml_round_content.specs.scan_model.Faults.{Fault}
+use Rattle.yaml_round_content.specs.scan_history.scan_decode.Spelling.{Spells}
+use Rattle.yaml_round_content.specs.scan_history.Scanned.{scanned_in}
+use Rattle.yaml_round_content.specs.scan_history.Remaining.{Remaining, offline}
+use Rattle.yaml_round_content.proofs.scan_history.scan_decode.CompleteLemmas.{spells_decoded}
+use Rattle.yaml_round_content.specs.round_laws.round_laws_adapted.Adapted.{adapted}
+use Rattle.yaml_round_content.specs.parse_grammar.Machine.{run, initial}
+use Rattle.yaml_round_content.specs.parse_grammar.Resolve.{Reading, reading, no_directives}
 use Rattle.yaml_round_content.specs.Input.{read, parsed}
 use Rattle.yaml_round_laws_encodings.specs.Laws.{EncodingsDoNotMatter}
 use Rattle.yaml_round_laws_encodings.proofs.Tokens.{spelled, Resembles, adapted_alike}

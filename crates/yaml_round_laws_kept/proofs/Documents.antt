@@ -13,8 +13,8 @@ use Rattle.yaml_round_laws_tree.specs.parse_grammar.Machine.{Outcome}
 use Rattle.yaml_round_laws_tree.specs.parse_grammar.Resolve.{no_directives, gave, settle, Reading, reading}
 use Rattle.yaml_round_laws_tree.specs.parse_grammar.Remaining.{reading_of}
 use Rattle.yaml_round_laws_tree.proofs.parse_grammar.CompleteStream.{stream_runs}
-use Rattle.yaml_emit_laws_json.specs.emit_layout.Content.{Document}
-use Rattle.yaml_emit_laws_json.specs.Bodies.{json_bodies, start_bodies, stop_bodies}
+use Rattle.yaml_emit_laws_pretty.specs.emit_laws_json.emit_layout.Content.{Document}
+use Rattle.yaml_emit_laws_pretty.specs.emit_laws_json.Bodies.{json_bodies, start_bodies, stop_bodies}
 use Rattle.yaml_round_laws_tree.specs.Laws.{token_bodies, event_bodies, Says, parsed_of}
 use Rattle.yaml_round_laws_tree.proofs.Growing.{take}
 use Rattle.yaml_round_laws_tree.proofs.Documents.{item_says, no_spans, ends_say}

@@ -17,8 +17,8 @@ use Rattle.yaml_round_laws_tree.specs.parse_grammar.Trees.{token_at, Given, spel
 use Rattle.yaml_round_laws_tree.specs.parse_grammar.TreeSteps.{items_node, items_items, items_more}
 use Rattle.yaml_round_laws_tree.specs.parse_grammar.Trees as trees
 use Rattle.yaml_round_laws_tree.specs.parse_grammar.Resolve.{Directives, reading, scalar_event}
-use Rattle.yaml_emit_laws_json.specs.emit_layout.Content.{Scalar, Start, Node, alias_node, scalar_node, sequence_node, mapping_node, Nodes, no_nodes, node, Pairs, no_pairs, pair}
-use Rattle.yaml_emit_laws_json.specs.Bodies.{json_bodies, json_items, json_pairs}
+use Rattle.yaml_emit_laws_pretty.specs.emit_laws_json.emit_layout.Content.{Scalar, Start, Node, alias_node, scalar_node, sequence_node, mapping_node, Nodes, no_nodes, node, Pairs, no_pairs, pair}
+use Rattle.yaml_emit_laws_pretty.specs.emit_laws_json.Bodies.{json_bodies, json_items, json_pairs}
 use Rattle.yaml_round_laws_tree.specs.Laws.{token_bodies, Says, Grown}
 use Rattle.yaml_round_laws_tree.proofs.Growing.{take, both_say, step_says}
 use Rattle.yaml_round_laws_kept.specs.Reads.{json_reads, json_items_reads, json_pairs_reads}

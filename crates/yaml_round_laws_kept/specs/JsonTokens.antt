@@ -5,10 +5,10 @@ use Rattle.yaml_round_laws_tree.specs.parse_grammar.parse_model.Tokens as token
 use Rattle.yaml_round_laws_tree.specs.parse_grammar.parse_model.Events as event
 use Rattle.yaml_round_laws_tree.specs.parse_grammar.parse_model.declared.yaml_encoding_t.{yaml_encoding_t}
 use Rattle.yaml_round_laws_tree.specs.parse_grammar.declared.name.Wants.{Wants}
-use Rattle.yaml_emit_laws_json.specs.emit_layout.Content.{Document, Node}
-use Rattle.yaml_emit_laws_json.specs.Bodies.{json_bodies, document_bodies}
+use Rattle.yaml_emit_laws_pretty.specs.emit_laws_json.emit_layout.Content.{Document, Node}
+use Rattle.yaml_emit_laws_pretty.specs.emit_laws_json.Bodies.{json_bodies, document_bodies}
 use Rattle.yaml_round_laws_tree.specs.Laws.{token_bodies, event_bodies, Grown, parsed_of}
-use Rattle.yaml_round_laws_tree.specs.round_adapter.Adapted.{adapted}
+use Rattle.yaml_round_laws_tree.specs.round_laws_adapted.Adapted.{adapted}
 use Rattle.yaml_round_laws_tree.specs.Adapting.{without_fault}
 use Rattle.yaml_round_laws_kept.specs.Reads.{json_reads, document_reads}
 

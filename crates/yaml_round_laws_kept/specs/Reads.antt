@@ -5,7 +5,7 @@ use Rattle.yaml_round_laws_tree.specs.parse_grammar.parse_model.declared.yaml_ma
 use Rattle.yaml_round_laws_tree.specs.parse_grammar.parse_model.Events.{EventBody}
 use Rattle.yaml_round_laws_tree.specs.parse_grammar.parse_model.Events as event
 use Rattle.yaml_round_laws_tree.specs.parse_grammar.Resolve.{scalar_event}
-use Rattle.yaml_emit_laws_json.specs.emit_layout.Content.{Document, Node, alias_node, scalar_node, sequence_node, mapping_node, Nodes, no_nodes, node, Pairs, no_pairs, pair}
+use Rattle.yaml_emit_laws_pretty.specs.emit_laws_json.emit_layout.Content.{Document, Node, alias_node, scalar_node, sequence_node, mapping_node, Nodes, no_nodes, node, Pairs, no_pairs, pair}
 
 -- without anchors and tags
 unfoldable mutual

@@ -1,8 +1,8 @@
 -- Each load of a source's events is one that content says.
 use Rattle.std.proofs.Common.{refl}
-use Rattle.yaml_round_content.specs.round_laws.emit_laws_streams.parse.parse_laws_faults.grammar.Machine.{initial}
-use Rattle.yaml_round_content.specs.round_laws.emit_laws_streams.parse.parse_laws_faults.grammar.Resolve.{no_directives}
-use Rattle.yaml_round_content.proofs.round_laws.emit_laws_streams.parse.AllGiven.{run_loads}
+use Rattle.yaml_round_content.specs.parse_grammar.Machine.{initial}
+use Rattle.yaml_round_content.specs.parse_grammar.Resolve.{no_directives}
+use Rattle.yaml_round_content.proofs.parse_laws_loading.AllGiven.{run_loads}
 use Rattle.yaml_round_laws_reading.specs.Loading.{read_of}
 use Rattle.yaml_round_laws_reading.specs.NextLoads.{SourcesLoadByContent}
 

@@ -1,23 +1,23 @@
 -- The events that are read of a tree say its content.
 use Rattle.std.proofs.Common.{◌≡◌, ℕ, ℤ, Bool, true, false, if◌then◌else◌, List, [], ◌∷◌, ◌++◌, Option, Some, None, refl, ap, sym, ◌∙◌}
 use Rattle.std.proofs.lemmas.List.{append_assoc, append-nil}
-use Rattle.yaml_round_content.specs.round_laws.emit_laws_streams.parse.parse_laws_faults.grammar.parse_model.declared.yaml_mark_t.{yaml_mark_t}
-use Rattle.yaml_round_content.specs.round_laws.emit_laws_streams.parse.parse_laws_faults.grammar.parse_model.declared.yaml_version_directive_t.{yaml_version_directive_t}
-use Rattle.yaml_round_content.specs.round_laws.emit_laws_streams.parse.parse_laws_faults.grammar.parse_model.declared.yaml_encoding_t.TheVariants.{YAML_ANY_ENCODING}
-use Rattle.yaml_round_content.specs.round_laws.emit_laws_streams.parse.parse_laws_faults.grammar.parse_model.Tokens.{Token}
-use Rattle.yaml_round_content.specs.round_laws.emit_laws_streams.parse.parse_laws_faults.grammar.parse_model.Faults.{Fault}
-use Rattle.yaml_round_content.specs.round_laws.emit_laws_streams.parse.parse_laws_faults.grammar.parse_model.Events.{EventBody, TagDirective}
-use Rattle.yaml_round_content.specs.round_laws.emit_laws_streams.parse.parse_laws_faults.grammar.parse_model.Events as event
-use Rattle.yaml_round_content.specs.round_laws.emit_laws_streams.parse.parse_laws_faults.grammar.declared.name.Site.TheVariants.{Root}
-use Rattle.yaml_round_content.specs.round_laws.emit_laws_streams.parse.parse_laws_faults.grammar.declared.problem.ParseProblem.TheVariants as problem
-use Rattle.yaml_round_content.specs.round_laws.emit_laws_streams.parse.parse_laws_faults.grammar.Problems.{parser_fault}
-use Rattle.yaml_round_content.specs.round_laws.emit_laws_streams.parse.parse_laws_faults.grammar.Items.{RawEvent, item_at}
-use Rattle.yaml_round_content.specs.round_laws.emit_laws_streams.parse.parse_laws_faults.grammar.Items as item
-use Rattle.yaml_round_content.specs.round_laws.emit_laws_streams.parse.parse_laws_faults.grammar.Trees.{Span, Given, Directive, Documents, First, Stream, token_at, spell_directives, spell_maybe, spell_node, spell_ends, spell_documents}
-use Rattle.yaml_round_content.specs.round_laws.emit_laws_streams.parse.parse_laws_faults.grammar.TreeSteps.{items_node, items_maybe, items_directives, items_ends, items_documents, items_first, items}
-use Rattle.yaml_round_content.specs.round_laws.emit_laws_streams.parse.parse_laws_faults.grammar.Trees as tree
-use Rattle.yaml_round_content.specs.round_laws.emit_laws_streams.parse.parse_laws_faults.grammar.Resolve.{Directives, no_directives, Reading, read_on, reading, directive_for, with_version, with_tag, is_known_version}
-use Rattle.yaml_round_content.specs.round_laws.emit_laws_streams.parse.parse_laws_faults.grammar.Resolve as resolve
+use Rattle.yaml_round_content.specs.scan_model.declared.yaml_mark_t.{yaml_mark_t}
+use Rattle.yaml_round_content.specs.scan_model.declared.yaml_version_directive_t.{yaml_version_directive_t}
+use Rattle.yaml_round_content.specs.scan_model.declared.yaml_encoding_t.TheVariants.{YAML_ANY_ENCODING}
+use Rattle.yaml_round_content.specs.scan_model.Tokens.{Token}
+use Rattle.yaml_round_content.specs.scan_model.Faults.{Fault}
+use Rattle.yaml_round_content.specs.parse_model.Events.{EventBody, TagDirective}
+use Rattle.yaml_round_content.specs.parse_model.Events as event
+use Rattle.yaml_round_content.specs.parse_grammar.declared.Site.TheVariants.{Root}
+use Rattle.yaml_round_content.specs.parse_grammar.declared.ParseProblem.TheVariants as problem
+use Rattle.yaml_round_content.specs.parse_grammar.Problems.{parser_fault}
+use Rattle.yaml_round_content.specs.parse_grammar.Items.{RawEvent, item_at}
+use Rattle.yaml_round_content.specs.parse_grammar.Items as item
+use Rattle.yaml_round_content.specs.parse_grammar.Trees.{Span, Given, Directive, Documents, First, Stream, token_at, spell_directives, spell_maybe, spell_node, spell_ends, spell_documents}
+use Rattle.yaml_round_content.specs.parse_grammar.TreeSteps.{items_node, items_maybe, items_directives, items_ends, items_documents, items_first, items}
+use Rattle.yaml_round_content.specs.parse_grammar.Trees as tree
+use Rattle.yaml_round_content.specs.parse_grammar.Resolve.{Directives, no_directives, Reading, read_on, reading, directive_for, with_version, with_tag, is_known_version}
+use Rattle.yaml_round_content.specs.parse_grammar.Resolve as resolve
 use Rattle.yaml_round_content.specs.Events.{contents}
 use Rattle.yaml_round_content.specs.Said.{node_says, documents_say, stream_says}
 use Rattle.yaml_round_laws_reading.specs.TreeContent.{node_of, maybe_of, tags_in, version_in, documents_of, behind_first, tree_content}

@@ -1,24 +1,24 @@
 -- The plain reading of an input is what the machine reads.
 use Rattle.std.proofs.Common.{◌≡◌, ℕ, List, Option, Some, None, Result, Ok, Err, refl, ap, sym, subst, ◌∙◌}
-use Rattle.yaml_round_content.specs.round_laws.emit_laws_streams.parse.parse_laws_faults.grammar.parse_model.declared.yaml_encoding_t.{yaml_encoding_t}
-use Rattle.yaml_round_content.specs.round_laws.emit_laws_streams.parse.parse_laws_faults.grammar.parse_model.Tokens.{Token}
-use Rattle.yaml_round_content.specs.round_laws.emit_laws_streams.parse.parse_laws_faults.grammar.parse_model.Faults.{Fault}
-use Rattle.yaml_round_content.specs.round_laws.emit_laws_streams.parse.parse_laws_faults.grammar.Trees.{Given}
-use Rattle.yaml_round_content.specs.round_laws.emit_laws_streams.parse.parse_laws_faults.grammar.TreeSteps.{items}
-use Rattle.yaml_round_content.specs.round_laws.emit_laws_streams.parse.parse_laws_faults.grammar.Machine.{Outcome, run, initial}
-use Rattle.yaml_round_content.specs.round_laws.emit_laws_streams.parse.parse_laws_faults.grammar.Resolve.{Reading, reading, no_directives}
-use Rattle.yaml_round_content.specs.round_laws.emit_laws_streams.parse.parse_laws_faults.grammar.Remaining.{reading_of}
-use Rattle.yaml_round_content.proofs.round_laws.emit_laws_streams.parse.parse_laws_faults.grammar.CompleteStream.{stream_runs}
-use Rattle.yaml_round_content.specs.round_laws.emit_laws_streams.parse.parse_laws_faults.Places.{BeginsWithSentence, FaultOfTokens}
-use Rattle.yaml_round_content.proofs.round_laws.emit_laws_streams.parse.parse_laws_faults.Ending.{ends_in_fault, fault_ends}
-use Rattle.yaml_round_content.proofs.round_laws.emit_laws_streams.parse.parse_laws_faults.laws_counts.Turns.{items_given}
+use Rattle.yaml_round_content.specs.scan_model.declared.yaml_encoding_t.{yaml_encoding_t}
+use Rattle.yaml_round_content.specs.scan_model.Tokens.{Token}
+use Rattle.yaml_round_content.specs.scan_model.Faults.{Fault}
+use Rattle.yaml_round_content.specs.parse_grammar.Trees.{Given}
+use Rattle.yaml_round_content.specs.parse_grammar.TreeSteps.{items}
+use Rattle.yaml_round_content.specs.parse_grammar.Machine.{Outcome, run, initial}
+use Rattle.yaml_round_content.specs.parse_grammar.Resolve.{Reading, reading, no_directives}
+use Rattle.yaml_round_content.specs.parse_grammar.Remaining.{reading_of}
+use Rattle.yaml_round_content.proofs.parse_grammar.CompleteStream.{stream_runs}
+use Rattle.yaml_round_content.specs.parse_laws_loading.parse_laws_faults.Places.{BeginsWithSentence, FaultOfTokens}
+use Rattle.yaml_round_content.proofs.parse_laws_loading.parse_laws_faults.Ending.{ends_in_fault, fault_ends}
+use Rattle.yaml_round_content.proofs.parse_laws_loading.parse_laws_faults.laws_counts.Turns.{items_given}
 use Rattle.yaml_round_content.specs.Events.{contents}
 use Rattle.yaml_round_content.specs.Input.{tokens_of, read, events_of, ending_of}
 use Rattle.yaml_round_content.specs.Said.{Document, HasContent, stream_says}
 use Rattle.yaml_round_content.proofs.Injective.{says_injective}
 use Rattle.yaml_round_laws_reading.specs.TreeContent.{tree_content}
 use Rattle.yaml_round_laws_reading.specs.Reading.{TokensRead, InputsRead, ReadingIsOne, RefusedIsRead, ReadIsRefused, SaidIsRead, ReadIsSaid, EventsAreOfTree}
-use Rattle.yaml_round_content.proofs.round_laws.emit_laws_streams.parse.parse_laws_faults.Spelling.{spelled_before}
+use Rattle.yaml_round_content.proofs.parse_laws_loading.parse_laws_faults.Spelling.{spelled_before}
 use Rattle.yaml_round_laws_reading.proofs.Documents.{tree_says}
 
 -- ---- tokens

@@ -1,15 +1,15 @@
 -- What an input loads is its plain loading.
 use Rattle.std.proofs.Common.{◌≡◌, ℕ, List, Option, Some, None, Ok, Err, ap, sym, subst, ◌∙◌}
-use Rattle.yaml_round_content.specs.round_laws.emit_laws_streams.parse.parse_laws_faults.grammar.parse_model.declared.yaml_encoding_t.{yaml_encoding_t}
-use Rattle.yaml_round_content.specs.round_laws.emit_laws_streams.parse.parse_laws_faults.grammar.parse_model.Tokens.{Token}
-use Rattle.yaml_round_content.specs.round_laws.emit_laws_streams.parse.parse_laws_faults.grammar.parse_model.Faults.{Fault}
-use Rattle.yaml_round_content.specs.round_laws.emit_laws_streams.parse.parse_laws_faults.grammar.Resolve.{Reading}
-use Rattle.yaml_round_content.specs.round_laws.emit_laws_streams.parse.parse_laws_faults.Places.{BeginsWithSentence}
-use Rattle.yaml_round_content.specs.round_laws.emit_laws_streams.parse.Documents.{Document}
-use Rattle.yaml_round_content.specs.round_laws.emit_laws_streams.parse.Loading.{nothing_loaded}
-use Rattle.yaml_parse_laws_loading.specs.Faults.{LoadsSentence, FaultOfLoading}
-use Rattle.yaml_parse_laws_loading.proofs.Unique.{one_load_fault}
-use Rattle.yaml_parse_laws_loading.proofs.Ending.{loads_end_in_fault}
+use Rattle.yaml_round_content.specs.scan_model.declared.yaml_encoding_t.{yaml_encoding_t}
+use Rattle.yaml_round_content.specs.scan_model.Tokens.{Token}
+use Rattle.yaml_round_content.specs.scan_model.Faults.{Fault}
+use Rattle.yaml_round_content.specs.parse_grammar.Resolve.{Reading}
+use Rattle.yaml_round_content.specs.parse_laws_loading.parse_laws_faults.Places.{BeginsWithSentence}
+use Rattle.yaml_round_content.specs.parse_laws_loading.parse_document.Documents.{Document}
+use Rattle.yaml_parse_loader.specs.Loading.{nothing_loaded}
+use Rattle.yaml_round_content.specs.parse_laws_loading.Faults.{LoadsSentence, FaultOfLoading}
+use Rattle.yaml_round_content.proofs.parse_laws_loading.Unique.{one_load_fault}
+use Rattle.yaml_round_content.proofs.parse_laws_loading.Ending.{loads_end_in_fault}
 use Rattle.yaml_round_content.specs.Input.{tokens_of}
 use Rattle.yaml_round_content.specs.Loads.{Loads, load_all, loads_of}
 use Rattle.yaml_round_laws_reading.specs.TreeDocuments.{tree_documents, numbered}

@@ -1,20 +1,20 @@
 -- What is loaded of events that are documents' is their numbering.
 use Rattle.std.proofs.Common.{◌≡◌, ℕ, List, [], ◌∷◌, map, Option, Some, None, Result, Ok, Err, refl, ap, sym, ◌∙◌}
-use Rattle.yaml_round_content.specs.round_laws.emit_laws_streams.parse.parse_laws_faults.grammar.parse_model.Tokens.{Token}
-use Rattle.yaml_round_content.specs.round_laws.emit_laws_streams.parse.parse_laws_faults.grammar.parse_model.Faults.{Fault}
-use Rattle.yaml_round_content.specs.round_laws.emit_laws_streams.parse.parse_laws_faults.grammar.parse_model.Events.{Event}
-use Rattle.yaml_round_content.specs.round_laws.emit_laws_streams.parse.parse_laws_faults.grammar.Trees.{Span, Stream}
-use Rattle.yaml_round_content.specs.round_laws.emit_laws_streams.parse.parse_laws_faults.grammar.TreeSteps.{items}
-use Rattle.yaml_round_content.specs.round_laws.emit_laws_streams.parse.parse_laws_faults.grammar.Resolve.{Reading, Told, reading, no_directives}
-use Rattle.yaml_round_content.specs.round_laws.emit_laws_streams.parse.parse_laws_faults.Places.{BeginsWithSentence}
-use Rattle.yaml_round_content.proofs.round_laws.emit_laws_streams.parse.parse_laws_faults.Ending.{fault_ends}
-use Rattle.yaml_round_content.specs.round_laws.emit_laws_streams.parse.Documents as documents
-use Rattle.yaml_round_content.specs.round_laws.emit_laws_streams.parse.Numbering.{DocumentContent, document_events, document_of}
-use Rattle.yaml_round_content.specs.round_laws.emit_laws_streams.parse.Loading.{Loading, LoadStep, goes_on, loaded, refused, nothing_loaded, step, turn, load, behind}
-use Rattle.yaml_round_content.specs.round_laws.emit_laws_streams.parse.Loading as loading
-use Rattle.yaml_round_content.specs.round_laws.emit_laws_streams.parse.NextLoad.{NextLoad, next_document, next_fault, next_none}
-use Rattle.yaml_round_content.proofs.round_laws.emit_laws_streams.parse.ByStep as parse
-use Rattle.yaml_round_content.proofs.round_laws.emit_laws_streams.parse.NextLoads.{IsOf, load_is}
+use Rattle.yaml_round_content.specs.scan_model.Tokens.{Token}
+use Rattle.yaml_round_content.specs.scan_model.Faults.{Fault}
+use Rattle.yaml_round_content.specs.parse_model.Events.{Event}
+use Rattle.yaml_round_content.specs.parse_grammar.Trees.{Span, Stream}
+use Rattle.yaml_round_content.specs.parse_grammar.TreeSteps.{items}
+use Rattle.yaml_round_content.specs.parse_grammar.Resolve.{Reading, Told, reading, no_directives}
+use Rattle.yaml_round_content.specs.parse_laws_loading.parse_laws_faults.Places.{BeginsWithSentence}
+use Rattle.yaml_round_content.proofs.parse_laws_loading.parse_laws_faults.Ending.{fault_ends}
+use Rattle.yaml_round_content.specs.parse_laws_loading.parse_document.Documents as documents
+use Rattle.yaml_parse_loader.specs.Numbering.{DocumentContent, document_events, document_of}
+use Rattle.yaml_parse_loader.specs.Loading.{Loading, LoadStep, goes_on, loaded, refused, nothing_loaded, step, turn, load, behind}
+use Rattle.yaml_parse_loader.specs.Loading as loading
+use Rattle.yaml_round_content.specs.parse_laws_loading.NextLoad.{NextLoad, next_document, next_fault, next_none}
+use Rattle.yaml_round_content.proofs.parse_laws_loading.ByStep as parse
+use Rattle.yaml_round_content.proofs.parse_laws_loading.NextLoads.{IsOf, load_is}
 use Rattle.yaml_round_content.specs.Input.{tokens_of}
 use Rattle.yaml_round_content.specs.Loads.{Loads, no_more, in_front, load_on, load_all}
 use Rattle.yaml_round_laws_reading.specs.TreeDocuments.{tree_documents, numbered_one, numbered}

@@ -1,18 +1,18 @@
 -- The events that are read of a tree: the stream's start, its documents' events, its end.
 use Rattle.std.proofs.Common.{◌≡◌, ℕ, Bool, true, false, List, [], ◌∷◌, Option, None, refl, ap, ◌∙◌}
-use Rattle.yaml_round_content.specs.round_laws.emit_laws_streams.parse.parse_laws_faults.grammar.parse_model.declared.yaml_mark_t.{yaml_mark_t}
-use Rattle.yaml_round_content.specs.round_laws.emit_laws_streams.parse.parse_laws_faults.grammar.parse_model.Tokens.{Token}
-use Rattle.yaml_round_content.specs.round_laws.emit_laws_streams.parse.parse_laws_faults.grammar.parse_model.Faults.{Fault}
-use Rattle.yaml_round_content.specs.round_laws.emit_laws_streams.parse.parse_laws_faults.grammar.parse_model.Events.{Event}
-use Rattle.yaml_round_content.specs.round_laws.emit_laws_streams.parse.parse_laws_faults.grammar.parse_model.Events as event
-use Rattle.yaml_round_content.specs.round_laws.emit_laws_streams.parse.parse_laws_faults.grammar.declared.name.Site.TheVariants.{Root}
-use Rattle.yaml_round_content.specs.round_laws.emit_laws_streams.parse.parse_laws_faults.grammar.Items.{item_at}
-use Rattle.yaml_round_content.specs.round_laws.emit_laws_streams.parse.parse_laws_faults.grammar.Items as item
-use Rattle.yaml_round_content.specs.round_laws.emit_laws_streams.parse.parse_laws_faults.grammar.Trees.{Span, Given, Documents, First, Stream, next, spell_node, spell_ends, spell_documents}
-use Rattle.yaml_round_content.specs.round_laws.emit_laws_streams.parse.parse_laws_faults.grammar.TreeSteps.{items_maybe, items_ends, items_documents, items_first, items}
-use Rattle.yaml_round_content.specs.round_laws.emit_laws_streams.parse.parse_laws_faults.grammar.Trees as tree
-use Rattle.yaml_round_content.specs.round_laws.emit_laws_streams.parse.parse_laws_faults.grammar.Resolve.{Directives, no_directives, Reading, reading}
-use Rattle.yaml_round_content.specs.round_laws.emit_laws_streams.parse.Numbering.{spanning, events}
+use Rattle.yaml_round_content.specs.scan_model.declared.yaml_mark_t.{yaml_mark_t}
+use Rattle.yaml_round_content.specs.scan_model.Tokens.{Token}
+use Rattle.yaml_round_content.specs.scan_model.Faults.{Fault}
+use Rattle.yaml_round_content.specs.parse_model.Events.{Event}
+use Rattle.yaml_round_content.specs.parse_model.Events as event
+use Rattle.yaml_round_content.specs.parse_grammar.declared.Site.TheVariants.{Root}
+use Rattle.yaml_round_content.specs.parse_grammar.Items.{item_at}
+use Rattle.yaml_round_content.specs.parse_grammar.Items as item
+use Rattle.yaml_round_content.specs.parse_grammar.Trees.{Span, Given, Documents, First, Stream, next, spell_node, spell_ends, spell_documents}
+use Rattle.yaml_round_content.specs.parse_grammar.TreeSteps.{items_maybe, items_ends, items_documents, items_first, items}
+use Rattle.yaml_round_content.specs.parse_grammar.Trees as tree
+use Rattle.yaml_round_content.specs.parse_grammar.Resolve.{Directives, no_directives, Reading, reading}
+use Rattle.yaml_parse_loader.specs.Numbering.{spanning, events}
 use Rattle.yaml_round_laws_reading.specs.TreeContent.{tags_in, version_in}
 use Rattle.yaml_round_laws_reading.specs.TreeDocuments.{placed_node, placed_maybe, ends_at, ends_implicitly, placed_documents, placed_first}
 use Rattle.yaml_round_laws_reading.specs.Loading.{end_of, placed_events, tree_events, events_told}

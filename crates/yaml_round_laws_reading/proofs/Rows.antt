@@ -1,11 +1,11 @@
 -- The rows, by running the machine.
 use Rattle.std.proofs.Common.{◌≡◌, List, [], ◌∷◌, Option, None, refl, sym, subst, ◌∙◌}
-use Rattle.yaml_round_content.specs.round_laws.emit_laws_streams.parse.parse_laws_faults.grammar.parse_model.Tokens.{Token}
-use Rattle.yaml_round_content.specs.round_laws.emit_laws_streams.parse.parse_laws_faults.grammar.parse_model.Faults.{Fault}
-use Rattle.yaml_round_content.specs.round_laws.emit_laws_streams.parse.parse_laws_faults.grammar.Machine.{feed, run}
-use Rattle.yaml_round_content.specs.round_laws.emit_laws_streams.parse.parse_laws_faults.grammar.Resolve.{reading, directive_for}
-use Rattle.yaml_round_content.specs.round_laws.emit_laws_streams.parse.parse_laws_faults.Places.{BeginsWithSentence, FaultOfTokens}
-use Rattle.yaml_round_content.proofs.round_laws.emit_laws_streams.parse.parse_laws_faults.Ending.{ends_in_fault}
+use Rattle.yaml_round_content.specs.scan_model.Tokens.{Token}
+use Rattle.yaml_round_content.specs.scan_model.Faults.{Fault}
+use Rattle.yaml_round_content.specs.parse_grammar.Machine.{feed, run}
+use Rattle.yaml_round_content.specs.parse_grammar.Resolve.{reading, directive_for}
+use Rattle.yaml_round_content.specs.parse_laws_loading.parse_laws_faults.Places.{BeginsWithSentence, FaultOfTokens}
+use Rattle.yaml_round_content.proofs.parse_laws_loading.parse_laws_faults.Ending.{ends_in_fault}
 use Rattle.yaml_round_content.specs.Events.{contents}
 use Rattle.yaml_round_content.specs.Said.{Document, node_says, items_say, pairs_say, documents_say, stream_says}
 use Rattle.yaml_round_content.proofs.Injective.{says_injective}

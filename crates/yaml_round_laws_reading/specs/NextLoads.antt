@@ -1,8 +1,8 @@
 -- Each load of a source's tokens is one that content says.
 use Rattle.std.specs.Prelude.{ℕ, List, Option}
-use Rattle.yaml_round_content.specs.round_laws.emit_laws_streams.parse.parse_laws_faults.grammar.parse_model.Tokens.{Token}
-use Rattle.yaml_round_content.specs.round_laws.emit_laws_streams.parse.parse_laws_faults.grammar.parse_model.Faults.{Fault}
-use Rattle.yaml_round_content.specs.round_laws.emit_laws_streams.parse.NextLoad.{LoadsByContent}
+use Rattle.yaml_round_content.specs.scan_model.Tokens.{Token}
+use Rattle.yaml_round_content.specs.scan_model.Faults.{Fault}
+use Rattle.yaml_round_content.specs.parse_laws_loading.NextLoad.{LoadsByContent}
 use Rattle.yaml_round_laws_reading.specs.Loading.{read_of}
 
 -- Of each source, whether or not its tokens begin with a sentence, each load of its events, one after another, is one that

@@ -1,14 +1,14 @@
 -- The plain loading of an input: its tree's documents, numbered, or the fault of loading its tokens.
 use Rattle.std.specs.Prelude.{◌≡◌, ℕ, List, [], Option, Some, None, Result, Ok, Err}
-use Rattle.yaml_round_content.specs.round_laws.emit_laws_streams.parse.parse_laws_faults.grammar.parse_model.declared.yaml_encoding_t.{yaml_encoding_t}
-use Rattle.yaml_round_content.specs.round_laws.emit_laws_streams.parse.parse_laws_faults.grammar.parse_model.Tokens.{Token}
-use Rattle.yaml_round_content.specs.round_laws.emit_laws_streams.parse.parse_laws_faults.grammar.parse_model.Faults.{Fault}
-use Rattle.yaml_round_content.specs.round_laws.emit_laws_streams.parse.parse_laws_faults.grammar.Trees.{spell}
-use Rattle.yaml_round_content.specs.round_laws.emit_laws_streams.parse.parse_laws_faults.Places.{BeginsWithSentence}
-use Rattle.yaml_round_content.specs.round_laws.emit_laws_streams.parse.Documents.{Document}
-use Rattle.yaml_parse_laws_loading.specs.Faults.{IsLoadable, FaultOfLoading}
+use Rattle.yaml_round_content.specs.scan_model.declared.yaml_encoding_t.{yaml_encoding_t}
+use Rattle.yaml_round_content.specs.scan_model.Tokens.{Token}
+use Rattle.yaml_round_content.specs.scan_model.Faults.{Fault}
+use Rattle.yaml_round_content.specs.parse_grammar.Trees.{spell}
+use Rattle.yaml_round_content.specs.parse_laws_loading.parse_laws_faults.Places.{BeginsWithSentence}
+use Rattle.yaml_round_content.specs.parse_laws_loading.parse_document.Documents.{Document}
+use Rattle.yaml_round_content.specs.parse_laws_loading.Faults.{IsLoadable, FaultOfLoading}
 use Rattle.yaml_round_content.specs.Input.{tokens_of}
-use Rattle.yaml_round_content.specs.round_laws.emit_laws_streams.parse.Loading.{nothing_loaded}
+use Rattle.yaml_parse_loader.specs.Loading.{nothing_loaded}
 use Rattle.yaml_round_content.specs.Loads.{Loads, load_all, loads_of}
 use Rattle.yaml_round_laws_reading.specs.TreeDocuments.{tree_documents, numbered}
 use Rattle.yaml_round_laws_reading.specs.Loading.{read_of}

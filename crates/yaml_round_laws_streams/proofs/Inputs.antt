@@ -1,21 +1,21 @@
 -- The events of an input.
 use Rattle.std.proofs.Common.{◌≡◌, ℕ, Bool, true, List, [], ◌∷◌, Option, None, inl, inr}
 use Rattle.std.proofs.lemmas.Bool.{cases_Bool}
-use Rattle.yaml_emit_laws_streams.specs.scan.declared.yaml_encoding_t.{yaml_encoding_t}
-use Rattle.yaml_emit_laws_streams.specs.scan.Tokens.{Token}
-use Rattle.yaml_emit_laws_streams.specs.scan.Faults.{Fault}
-use Rattle.yaml_emit_laws_streams.specs.scan.Scanned.{scanned}
+use Rattle.yaml_emit_laws_streams.specs.parse_model.declared.yaml_encoding_t.{yaml_encoding_t}
+use Rattle.yaml_emit_laws_streams.specs.parse_model.Tokens.{Token}
+use Rattle.yaml_emit_laws_streams.specs.parse_model.Faults.{Fault}
+use Rattle.yaml_scan_laws_names.specs.scan_history.Scanned.{scanned}
 use Rattle.yaml_scan_laws_names.specs.Spelled.{AreSpelled}
 use Rattle.yaml_scan_laws_names.proofs.Inputs.{scanned_spelled}
-use Rattle.yaml_emit_laws_streams.specs.parse.Events.{EventBody}
-use Rattle.yaml_emit_laws_streams.specs.parse.parse_grammar.Resolve.{Told}
+use Rattle.yaml_emit_laws_streams.specs.parse_model.Events.{EventBody}
+use Rattle.yaml_emit_laws_streams.specs.parse_grammar.Resolve.{Told}
 use Rattle.yaml_emit_laws_streams.specs.emit_layout.Content.{emitter_event}
 use Rattle.yaml_emit_laws_streams.specs.emit_layout.Grammar.{own_problem, own_problems}
-use Rattle.yaml_emit_laws_streams.specs.emit.Judged.{first_progress}
+use Rattle.yaml_emit_laws_streams.specs.emit_layout.Progress.{first_progress}
 use Rattle.yaml_emit_laws_streams.specs.Laws.{AreRightTold}
 use Rattle.yaml_emit_laws_streams.proofs.Passing.{streams, fronts, own_right}
 use Rattle.yaml_emit_laws_streams.proofs.Loading.{taken}
-use Rattle.yaml_round_adapter.specs.Adapted.{spells_text, cut, adapted}
+use Rattle.yaml_round_laws_adapted.specs.Adapted.{spells_text, cut, adapted}
 use Rattle.yaml_round_laws_streams.specs.Normalized.{IsNormalizing}
 use Rattle.yaml_round_laws_streams.specs.Laws.{emitter_events_by, IsRightReading, parsed_input, InputsAreStreams, InputsAreFronts, InputsLoadRight}
 use Rattle.yaml_round_laws_streams.proofs.Emitted.{or_both, unchanged}

@@ -1,26 +1,26 @@
 -- A step of the machine gives items in their right places, and leaves a stack that stands for what has come.
 use Rattle.std.proofs.Common.{◌≡◌, Bool, true, false, if◌then◌else◌, ◌||◌, List, [], ◌∷◌, ◌++◌, Option, Some, None, refl, sym, ap, subst, ◌∙◌, append_assoc}
-use Rattle.yaml_emit_laws_streams.specs.scan.declared.yaml_mark_t.{yaml_mark_t}
-use Rattle.yaml_emit_laws_streams.specs.scan.declared.yaml_token_type_t.{yaml_token_type_t}
-use Rattle.yaml_emit_laws_streams.specs.scan.declared.yaml_token_type_t.TheVariants as kind
-use Rattle.yaml_emit_laws_streams.specs.scan.Tokens.{Token, TokenBody, type_of}
-use Rattle.yaml_emit_laws_streams.specs.scan.Tokens as token
-use Rattle.yaml_emit_laws_streams.specs.parse.parse_grammar.declared.name.Wants.{Wants}
-use Rattle.yaml_emit_laws_streams.specs.parse.parse_grammar.declared.name.Wants.TheVariants.{Flow, Block}
-use Rattle.yaml_emit_laws_streams.specs.parse.parse_grammar.declared.name.Brackets.{Brackets}
-use Rattle.yaml_emit_laws_streams.specs.parse.parse_grammar.declared.name.Brackets.TheVariants as brackets
-use Rattle.yaml_emit_laws_streams.specs.parse.parse_grammar.declared.name.Site.TheVariants.{Root}
-use Rattle.yaml_emit_laws_streams.specs.parse.parse_grammar.declared.name.Choice.{Choice}
-use Rattle.yaml_emit_laws_streams.specs.parse.parse_grammar.declared.name.Choice.TheVariants.{Refuse, Take, Leave, Open}
-use Rattle.yaml_emit_laws_streams.specs.parse.parse_grammar.declared.problem.ParseProblem.{ParseProblem}
-use Rattle.yaml_emit_laws_streams.specs.parse.parse_grammar.declared.problem.ParseProblem.TheVariants as problem
-use Rattle.yaml_emit_laws_streams.specs.parse.parse_grammar.Items.{RawEvent, Properties, item_at}
-use Rattle.yaml_emit_laws_streams.specs.parse.parse_grammar.Items as item
-use Rattle.yaml_emit_laws_streams.specs.parse.parse_grammar.States.{State, Taken}
-use Rattle.yaml_emit_laws_streams.specs.parse.parse_grammar.States as state
-use Rattle.yaml_emit_laws_streams.specs.parse.parse_grammar.Machine.{choice_at, taken_at, documents_taken, content_taken, node_taken, with_properties_taken, items_taken, more_taken, stream_taken, entries_taken, pairs_taken, left_at, parts_documents, starts_node, starts_content, follows, wants_of, no_node, joins, closes, no_end, Fed, stop, go, with_item, given_by, turn, feed}
+use Rattle.yaml_emit_laws_streams.specs.parse_model.declared.yaml_mark_t.{yaml_mark_t}
+use Rattle.yaml_emit_laws_streams.specs.parse_model.declared.yaml_token_type_t.{yaml_token_type_t}
+use Rattle.yaml_emit_laws_streams.specs.parse_model.declared.yaml_token_type_t.TheVariants as kind
+use Rattle.yaml_emit_laws_streams.specs.parse_model.Tokens.{Token, TokenBody, type_of}
+use Rattle.yaml_emit_laws_streams.specs.parse_model.Tokens as token
+use Rattle.yaml_emit_laws_streams.specs.parse_grammar.declared.Wants.{Wants}
+use Rattle.yaml_emit_laws_streams.specs.parse_grammar.declared.Wants.TheVariants.{Flow, Block}
+use Rattle.yaml_emit_laws_streams.specs.parse_grammar.declared.Brackets.{Brackets}
+use Rattle.yaml_emit_laws_streams.specs.parse_grammar.declared.Brackets.TheVariants as brackets
+use Rattle.yaml_emit_laws_streams.specs.parse_grammar.declared.Site.TheVariants.{Root}
+use Rattle.yaml_emit_laws_streams.specs.parse_grammar.declared.Choice.{Choice}
+use Rattle.yaml_emit_laws_streams.specs.parse_grammar.declared.Choice.TheVariants.{Refuse, Take, Leave, Open}
+use Rattle.yaml_emit_laws_streams.specs.parse_grammar.declared.ParseProblem.{ParseProblem}
+use Rattle.yaml_emit_laws_streams.specs.parse_grammar.declared.ParseProblem.TheVariants as problem
+use Rattle.yaml_emit_laws_streams.specs.parse_grammar.Items.{RawEvent, Properties, item_at}
+use Rattle.yaml_emit_laws_streams.specs.parse_grammar.Items as item
+use Rattle.yaml_emit_laws_streams.specs.parse_grammar.States.{State, Taken}
+use Rattle.yaml_emit_laws_streams.specs.parse_grammar.States as state
+use Rattle.yaml_emit_laws_streams.specs.parse_grammar.Machine.{choice_at, taken_at, documents_taken, content_taken, node_taken, with_properties_taken, items_taken, more_taken, stream_taken, entries_taken, pairs_taken, left_at, parts_documents, starts_node, starts_content, follows, wants_of, no_node, joins, closes, no_end, Fed, stop, go, with_item, given_by, turn, feed}
 use Rattle.yaml_emit_laws_streams.specs.emit_layout.declared.Expected.TheVariants as at
-use Rattle.yaml_emit_laws_streams.specs.emit.Judged.{Due, item_due, key_due, value_due, Progress, at_place, inside, behind_node}
+use Rattle.yaml_emit_laws_streams.specs.emit_layout.Progress.{Due, item_due, key_due, value_due, Progress, at_place, inside, behind_node}
 use Rattle.yaml_round_laws_streams.proofs.Stacks.{between, dues, shape_of, node_shape, AreRight, IsPlaced, moved, Leads}
 
 -- ---- taking a token

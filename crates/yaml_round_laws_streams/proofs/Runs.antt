@@ -1,18 +1,18 @@
 -- Over a list of tokens: the items come in their right places and are well spelled, and behind the last the stream has ended.
 use Rattle.std.proofs.Common.{◌≡◌, ℕ, true, false, List, [], ◌∷◌, ◌++◌, length, map, Option, Some, None, refl, sym, ap, subst, ◌∙◌}
-use Rattle.yaml_emit_laws_streams.specs.scan.declared.yaml_token_type_t.TheVariants as kind
-use Rattle.yaml_emit_laws_streams.specs.scan.Tokens.{Token, no_token}
-use Rattle.yaml_emit_laws_streams.specs.scan.Faults.{Fault}
-use Rattle.yaml_emit_laws_streams.specs.parse.parse_grammar.declared.name.Choice.{Choice}
-use Rattle.yaml_emit_laws_streams.specs.parse.parse_grammar.declared.name.Choice.TheVariants.{Refuse, Take, Leave, Open}
-use Rattle.yaml_emit_laws_streams.specs.parse.parse_grammar.Items.{RawEvent}
-use Rattle.yaml_emit_laws_streams.specs.parse.parse_grammar.States.{State}
-use Rattle.yaml_emit_laws_streams.specs.parse.parse_grammar.Trees.{Given}
-use Rattle.yaml_emit_laws_streams.specs.parse.parse_grammar.Machine.{choice_at, left_at, Fed, stop, go, with_item, turn, feed, Outcome, finished, carry, run, initial}
-use Rattle.yaml_emit_laws_streams.proofs.parse.parse_grammar.Voice.{takes_a_token}
-use Rattle.yaml_emit_laws_streams.proofs.parse.parse_grammar.Single.{opens_node}
+use Rattle.yaml_emit_laws_streams.specs.parse_model.declared.yaml_token_type_t.TheVariants as kind
+use Rattle.yaml_emit_laws_streams.specs.parse_model.Tokens.{Token, no_token}
+use Rattle.yaml_emit_laws_streams.specs.parse_model.Faults.{Fault}
+use Rattle.yaml_emit_laws_streams.specs.parse_grammar.declared.Choice.{Choice}
+use Rattle.yaml_emit_laws_streams.specs.parse_grammar.declared.Choice.TheVariants.{Refuse, Take, Leave, Open}
+use Rattle.yaml_emit_laws_streams.specs.parse_grammar.Items.{RawEvent}
+use Rattle.yaml_emit_laws_streams.specs.parse_grammar.States.{State}
+use Rattle.yaml_emit_laws_streams.specs.parse_grammar.Trees.{Given}
+use Rattle.yaml_emit_laws_streams.specs.parse_grammar.Machine.{choice_at, left_at, Fed, stop, go, with_item, turn, feed, Outcome, finished, carry, run, initial}
+use Rattle.yaml_emit_laws_streams.proofs.parse_grammar.Voice.{takes_a_token}
+use Rattle.yaml_emit_laws_streams.proofs.parse_grammar.Single.{opens_node}
 use Rattle.yaml_emit_laws_streams.specs.emit_layout.declared.Expected.TheVariants as at
-use Rattle.yaml_emit_laws_streams.specs.emit.Judged.{Progress, at_place, first_progress}
+use Rattle.yaml_emit_laws_streams.specs.emit_layout.Progress.{Progress, at_place, first_progress}
 use Rattle.yaml_scan_laws_names.specs.Spelled.{AreSpelled}
 use Rattle.yaml_round_laws_streams.proofs.Stacks.{shape_of, AreRight, IsPlaced, moved}
 use Rattle.yaml_round_laws_streams.proofs.Places.{AllPlaced, moved_all, FedLeads, feed_leads}

@@ -2,21 +2,21 @@
 use Rattle.std.proofs.Common.{◌≡◌, ℕ, ◌+◌, ℤ, Bool, true, false, not, ◌||◌, ◌==◌, if◌then◌else◌, List, [], ◌∷◌, ◌++◌, length, Option, Some, None, option_map, codes, refl, ap, ◌∙◌, arith, length-append}
 use Rattle.std.proofs.lemmas.Bool.Decides.{nat_tests}
 use Rattle.std.specs.Str.{bytes_eq}
-use Rattle.yaml_emit_laws_streams.specs.scan.declared.yaml_mark_t.{yaml_mark_t}
-use Rattle.yaml_emit_laws_streams.specs.scan.declared.yaml_scalar_style_t.{yaml_scalar_style_t}
-use Rattle.yaml_emit_laws_streams.specs.scan.declared.yaml_version_directive_t.{yaml_version_directive_t}
+use Rattle.yaml_emit_laws_streams.specs.parse_model.declared.yaml_mark_t.{yaml_mark_t}
+use Rattle.yaml_emit_laws_streams.specs.parse_model.declared.yaml_scalar_style_t.{yaml_scalar_style_t}
+use Rattle.yaml_emit_laws_streams.specs.parse_model.declared.yaml_version_directive_t.{yaml_version_directive_t}
 use Rattle.yaml_scan_laws_names.specs.Spelled.{IsSome, IsName, IsHandle}
-use Rattle.yaml_emit_laws_streams.specs.parse.Events.{EventBody, TagDirective}
-use Rattle.yaml_emit_laws_streams.specs.parse.Events as event
-use Rattle.yaml_emit_laws_streams.specs.parse.parse_grammar.Items.{RawEventBody, Shape as Kind}
-use Rattle.yaml_emit_laws_streams.specs.parse.parse_grammar.Items as item
-use Rattle.yaml_emit_laws_streams.specs.parse.parse_grammar.Resolve.{Directives, no_directives, Settled, refused, gave, noted, settle_body, resolved, directive_for, or_default, with_resolved, with_tag, with_version, is_known_version, behind_event, is_plain, node_event}
+use Rattle.yaml_emit_laws_streams.specs.parse_model.Events.{EventBody, TagDirective}
+use Rattle.yaml_emit_laws_streams.specs.parse_model.Events as event
+use Rattle.yaml_emit_laws_streams.specs.parse_grammar.Items.{RawEventBody, Shape as Kind}
+use Rattle.yaml_emit_laws_streams.specs.parse_grammar.Items as item
+use Rattle.yaml_emit_laws_streams.specs.parse_grammar.Resolve.{Directives, no_directives, Settled, refused, gave, noted, settle_body, resolved, directive_for, or_default, with_resolved, with_tag, with_version, is_known_version, behind_event, is_plain, node_event}
 use Rattle.yaml_emit_laws_streams.specs.emit_layout.declared.Problem.{Problem}
 use Rattle.yaml_emit_laws_streams.specs.emit_layout.declared.Problem.TheVariants as problem
 use Rattle.yaml_emit_laws_streams.specs.emit_layout.declared.Expected.TheVariants as at
 use Rattle.yaml_emit_laws_streams.specs.emit_layout.Content.{emitter_event}
 use Rattle.yaml_emit_laws_streams.specs.emit_layout.Grammar.{or_else, name_problem, anchor_problem, tag_problem, kept_if, event_problem, version_problem, directives_problem, last_problem}
-use Rattle.yaml_emit_laws_streams.specs.emit.Judged.{Progress, progress_after}
+use Rattle.yaml_emit_laws_streams.specs.emit_layout.Progress.{Progress, progress_after}
 use Rattle.yaml_round_laws_streams.specs.Normalized.{IsNormalizing}
 use Rattle.yaml_round_laws_streams.proofs.Stacks.{Expects, moved_by, moved_kind, IsPlaced, moved}
 use Rattle.yaml_round_laws_streams.proofs.Spellings.{IsNamed, IsWhole, IsSpelledItem}

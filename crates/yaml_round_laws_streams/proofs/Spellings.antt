@@ -1,23 +1,23 @@
 -- Names and tags of well spelled tokens, in the items and states that a machine makes of them.
 use Rattle.std.proofs.Common.{ℕ, true, List, [], ◌∷◌, ◌++◌, Option, Some, None}
-use Rattle.yaml_emit_laws_streams.specs.scan.declared.yaml_mark_t.{yaml_mark_t}
-use Rattle.yaml_emit_laws_streams.specs.scan.Tokens.{Token, TokenBody, type_of}
-use Rattle.yaml_emit_laws_streams.specs.scan.Tokens as token
+use Rattle.yaml_emit_laws_streams.specs.parse_model.declared.yaml_mark_t.{yaml_mark_t}
+use Rattle.yaml_emit_laws_streams.specs.parse_model.Tokens.{Token, TokenBody, type_of}
+use Rattle.yaml_emit_laws_streams.specs.parse_model.Tokens as token
 use Rattle.yaml_scan_laws_names.specs.Spelled.{IsSome, IsName, IsHandle, IsSpelled}
-use Rattle.yaml_emit_laws_streams.specs.parse.Events.{EventBody}
-use Rattle.yaml_emit_laws_streams.specs.parse.Events as event
-use Rattle.yaml_emit_laws_streams.specs.parse.parse_grammar.declared.name.Wants.{Wants}
-use Rattle.yaml_emit_laws_streams.specs.parse.parse_grammar.declared.name.Wants.TheVariants.{Flow, Block}
-use Rattle.yaml_emit_laws_streams.specs.parse.parse_grammar.declared.name.Brackets.{Brackets}
-use Rattle.yaml_emit_laws_streams.specs.parse.parse_grammar.declared.name.Brackets.TheVariants as brackets
-use Rattle.yaml_emit_laws_streams.specs.parse.parse_grammar.declared.name.Site.TheVariants.{Root}
-use Rattle.yaml_emit_laws_streams.specs.parse.parse_grammar.declared.name.Choice.{Choice}
-use Rattle.yaml_emit_laws_streams.specs.parse.parse_grammar.declared.name.Choice.TheVariants.{Refuse, Take, Leave, Open}
-use Rattle.yaml_emit_laws_streams.specs.parse.parse_grammar.Items.{RawEvent, RawEventBody, Properties, Tag, item_at}
-use Rattle.yaml_emit_laws_streams.specs.parse.parse_grammar.Items as item
-use Rattle.yaml_emit_laws_streams.specs.parse.parse_grammar.States.{State, Taken}
-use Rattle.yaml_emit_laws_streams.specs.parse.parse_grammar.States as state
-use Rattle.yaml_emit_laws_streams.specs.parse.parse_grammar.Machine.{choice_at, taken_at, documents_taken, content_taken, node_taken, with_properties_taken, items_taken, more_taken, stream_taken, entries_taken, pairs_taken, lone_below, left_at, Fed, stop, go, with_item, given_by, turn, feed}
+use Rattle.yaml_emit_laws_streams.specs.parse_model.Events.{EventBody}
+use Rattle.yaml_emit_laws_streams.specs.parse_model.Events as event
+use Rattle.yaml_emit_laws_streams.specs.parse_grammar.declared.Wants.{Wants}
+use Rattle.yaml_emit_laws_streams.specs.parse_grammar.declared.Wants.TheVariants.{Flow, Block}
+use Rattle.yaml_emit_laws_streams.specs.parse_grammar.declared.Brackets.{Brackets}
+use Rattle.yaml_emit_laws_streams.specs.parse_grammar.declared.Brackets.TheVariants as brackets
+use Rattle.yaml_emit_laws_streams.specs.parse_grammar.declared.Site.TheVariants.{Root}
+use Rattle.yaml_emit_laws_streams.specs.parse_grammar.declared.Choice.{Choice}
+use Rattle.yaml_emit_laws_streams.specs.parse_grammar.declared.Choice.TheVariants.{Refuse, Take, Leave, Open}
+use Rattle.yaml_emit_laws_streams.specs.parse_grammar.Items.{RawEvent, RawEventBody, Properties, Tag, item_at}
+use Rattle.yaml_emit_laws_streams.specs.parse_grammar.Items as item
+use Rattle.yaml_emit_laws_streams.specs.parse_grammar.States.{State, Taken}
+use Rattle.yaml_emit_laws_streams.specs.parse_grammar.States as state
+use Rattle.yaml_emit_laws_streams.specs.parse_grammar.Machine.{choice_at, taken_at, documents_taken, content_taken, node_taken, with_properties_taken, items_taken, more_taken, stream_taken, entries_taken, pairs_taken, lone_below, left_at, Fed, stop, go, with_item, given_by, turn, feed}
 
 -- ---- items and states
 

@@ -1,15 +1,15 @@
 -- What a stack of states stands for in an emitter's eyes, and how an item moves it.
 use Rattle.std.proofs.Common.{◌≡◌, true, false, List, [], ◌∷◌, Option, Some, None}
-use Rattle.yaml_emit_laws_streams.specs.parse.Events.{EventBody}
-use Rattle.yaml_emit_laws_streams.specs.parse.Events as event
-use Rattle.yaml_emit_laws_streams.specs.parse.parse_grammar.declared.name.Brackets.TheVariants as brackets
-use Rattle.yaml_emit_laws_streams.specs.parse.parse_grammar.Items.{RawEvent, RawEventBody, Shape as Kind}
-use Rattle.yaml_emit_laws_streams.specs.parse.parse_grammar.Items as item
-use Rattle.yaml_emit_laws_streams.specs.parse.parse_grammar.States.{State}
-use Rattle.yaml_emit_laws_streams.specs.parse.parse_grammar.States as state
+use Rattle.yaml_emit_laws_streams.specs.parse_model.Events.{EventBody}
+use Rattle.yaml_emit_laws_streams.specs.parse_model.Events as event
+use Rattle.yaml_emit_laws_streams.specs.parse_grammar.declared.Brackets.TheVariants as brackets
+use Rattle.yaml_emit_laws_streams.specs.parse_grammar.Items.{RawEvent, RawEventBody, Shape as Kind}
+use Rattle.yaml_emit_laws_streams.specs.parse_grammar.Items as item
+use Rattle.yaml_emit_laws_streams.specs.parse_grammar.States.{State}
+use Rattle.yaml_emit_laws_streams.specs.parse_grammar.States as state
 use Rattle.yaml_emit_laws_streams.specs.emit_layout.declared.Expected.{Expected}
 use Rattle.yaml_emit_laws_streams.specs.emit_layout.declared.Expected.TheVariants as at
-use Rattle.yaml_emit_laws_streams.specs.emit.Judged.{Due, item_due, key_due, Progress, at_place, inside, behind_node, outer_due}
+use Rattle.yaml_emit_laws_streams.specs.emit_layout.Progress.{Due, item_due, key_due, Progress, at_place, inside, behind_node, outer_due}
 
 -- ---- a stack
 

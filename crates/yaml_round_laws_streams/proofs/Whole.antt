@@ -1,13 +1,13 @@
 -- The events of a list of well spelled tokens, from the first to the last.
 use Rattle.std.proofs.Common.{◌≡◌, Bool, List, [], ◌∷◌, Option, Some, None, refl, sym, ap, subst, ◌∙◌}
-use Rattle.yaml_emit_laws_streams.specs.scan.Faults.{Fault}
-use Rattle.yaml_emit_laws_streams.specs.parse.Events.{EventBody}
-use Rattle.yaml_emit_laws_streams.specs.parse.parse_grammar.Trees.{Given}
-use Rattle.yaml_emit_laws_streams.specs.parse.parse_grammar.Machine.{run, initial}
-use Rattle.yaml_emit_laws_streams.specs.parse.parse_grammar.Resolve.{Directives, no_directives, Settled, refused, gave, noted, settle, Reading, read_on, reading}
+use Rattle.yaml_emit_laws_streams.specs.parse_model.Faults.{Fault}
+use Rattle.yaml_emit_laws_streams.specs.parse_model.Events.{EventBody}
+use Rattle.yaml_emit_laws_streams.specs.parse_grammar.Trees.{Given}
+use Rattle.yaml_emit_laws_streams.specs.parse_grammar.Machine.{run, initial}
+use Rattle.yaml_emit_laws_streams.specs.parse_grammar.Resolve.{Directives, no_directives, Settled, refused, gave, noted, settle, Reading, read_on, reading}
 use Rattle.yaml_emit_laws_streams.specs.emit_layout.declared.Expected.TheVariants as at
 use Rattle.yaml_emit_laws_streams.specs.emit_layout.Content.{emitter_event}
-use Rattle.yaml_emit_laws_streams.specs.emit.Judged.{Progress, first_progress, progress_after, problem_in, first_refusal}
+use Rattle.yaml_emit_laws_streams.specs.emit_layout.Progress.{Progress, first_progress, progress_after, problem_in, first_refusal}
 use Rattle.yaml_emit_laws_streams.specs.Laws.{progress_behind}
 use Rattle.yaml_round_laws_streams.specs.Normalized.{IsNormalizing}
 use Rattle.yaml_round_laws_streams.specs.Laws.{emitter_events_by, ParsedIsRight}

@@ -1,19 +1,19 @@
 -- What a parser gives is what an emitter takes.
 use Rattle.std.specs.Prelude.{◌≡◌, ℕ, Bool, List, map, Option, None}
-use Rattle.yaml_emit_laws_streams.specs.scan.declared.yaml_encoding_t.{yaml_encoding_t}
-use Rattle.yaml_emit_laws_streams.specs.scan.Tokens.{Token}
-use Rattle.yaml_emit_laws_streams.specs.scan.Faults.{Fault}
-use Rattle.yaml_emit_laws_streams.specs.scan.Scanned.{scanned}
+use Rattle.yaml_emit_laws_streams.specs.parse_model.declared.yaml_encoding_t.{yaml_encoding_t}
+use Rattle.yaml_emit_laws_streams.specs.parse_model.Tokens.{Token}
+use Rattle.yaml_emit_laws_streams.specs.parse_model.Faults.{Fault}
+use Rattle.yaml_scan_laws_names.specs.scan_history.Scanned.{scanned}
 use Rattle.yaml_scan_laws_names.specs.Spelled.{AreSpelled}
-use Rattle.yaml_emit_laws_streams.specs.parse.Events.{EventBody}
-use Rattle.yaml_emit_laws_streams.specs.parse.Machine.{run, initial}
-use Rattle.yaml_emit_laws_streams.specs.parse.Resolve.{Told, Reading, no_directives}
-use Rattle.yaml_emit_laws_streams.specs.parse.Remaining.{reading_of}
+use Rattle.yaml_emit_laws_streams.specs.parse_model.Events.{EventBody}
+use Rattle.yaml_emit_laws_streams.specs.parse_grammar.Machine.{run, initial}
+use Rattle.yaml_emit_laws_streams.specs.parse_grammar.Resolve.{Told, Reading, no_directives}
+use Rattle.yaml_emit_laws_streams.specs.parse_grammar.Remaining.{reading_of}
 use Rattle.yaml_emit_laws_streams.specs.emit_layout.declared.Expected.TheVariants as at
-use Rattle.yaml_emit_laws_streams.specs.emit.Content.{Event, emitter_event}
-use Rattle.yaml_emit_laws_streams.specs.emit.Judged.{first_progress, first_refusal}
+use Rattle.yaml_emit_laws_streams.specs.emit_layout.Content.{Event, emitter_event}
+use Rattle.yaml_emit_laws_streams.specs.emit_layout.Progress.{first_progress, first_refusal}
 use Rattle.yaml_emit_laws_streams.specs.Laws.{progress_behind, RightStream, RightFront, AreRightTold}
-use Rattle.yaml_round_adapter.specs.Adapted.{adapted}
+use Rattle.yaml_round_laws_adapted.specs.Adapted.{adapted}
 use Rattle.yaml_round_laws_streams.specs.Normalized.{IsNormalizing}
 
 -- the events, each changed so, as an emitter sees them

@@ -8,7 +8,7 @@ use Rattle.yaml_emit_laws_canonical.specs.emit_layout.parse.Events.{TagDirective
 use Rattle.yaml_emit_laws_canonical.specs.emit_layout.emit_text.Tags.{split_tag}
 use Rattle.yaml_emit_laws_canonical.specs.emit_layout.Content.{Document, Node, alias_node, scalar_node, sequence_node, mapping_node, Nodes, no_nodes, node, Pairs, no_pairs, pair}
 use Rattle.yaml_emit_laws_tags.specs.Laws.{IsReadable, HaveUtf8}
-use Rattle.yaml_round_adapter.specs.Adapted.{adapted}
+use Rattle.yaml_round_laws_adapted.specs.Adapted.{adapted}
 use Rattle.yaml_emit_laws_canonical.specs.Bodies.{documents_bodies}
 use Rattle.yaml_round_laws_tree.specs.Laws.{token_bodies}
 

@@ -1,8 +1,8 @@
 -- Comparing is an equivalence, since contents are compared by an equation.
 use Rattle.std.proofs.Common.{◌≡◌, ℕ, List, Result, Ok, Bool, true, false, IsTrue, refl, sym, subst}
 use Rattle.std.proofs.lemmas.Bool.{true≢false}
-use Rattle.yaml_round.specs.round_laws_documents.content.round_laws.emit_laws_streams.scan.declared.yaml_encoding_t.{yaml_encoding_t}
-use Rattle.yaml_round.specs.round_laws_documents.content.round_laws.emit_laws_streams.scan.Faults.{Fault}
+use Rattle.yaml_round.specs.declared.yaml_encoding_t.{yaml_encoding_t}
+use Rattle.yaml_emit_laws_columns.specs.emit_layout.scan.Faults.{Fault}
 use Rattle.yaml_round.specs.round_laws_documents.content.Said.{Document}
 use Rattle.yaml_round.specs.round_laws_reading.Reading.{PlainReading}
 use Rattle.yaml_round.proofs.round_laws_reading.Joining.{one_reading}

@@ -1,10 +1,10 @@
 -- The laws of reloads, from the clauses of the calls.
 use Rattle.std.proofs.Common.{◌≡◌, ℕ, true, List, Ok, map, sym, ap, subst, ◌∙◌}
-use Rattle.yaml_round.specs.round_laws_documents.content.round_laws.emit_laws_streams.scan.declared.yaml_encoding_t.{yaml_encoding_t}
-use Rattle.yaml_round.specs.round_laws_documents.content.round_laws.emit_laws_streams.scan.declared.yaml_encoding_t.TheVariants.{YAML_ANY_ENCODING}
+use Rattle.yaml_round.specs.declared.yaml_encoding_t.{yaml_encoding_t}
+use Rattle.yaml_round.specs.declared.yaml_encoding_t.TheVariants.{YAML_ANY_ENCODING}
 use Rattle.yaml_round.specs.round_laws_documents.content.Loads.{loads_of}
 use Rattle.yaml_round.specs.round_laws_documents.content.Said as content
-use Rattle.yaml_round.specs.round_laws_documents.content.round_laws.emit_laws_streams.parse.Documents.{Document}
+use Rattle.yaml_round.specs.round_laws_documents.content.parse_laws_loading.parse_document.Documents.{Document}
 use Rattle.yaml_round.specs.round_laws_documents.round_laws_reading.PlainLoading.{PlainLoading}
 use Rattle.yaml_round.specs.round_laws_documents.round_laws_dumps.Agree.{core_of}
 use Rattle.yaml_round.specs.round_laws_documents.round_laws_dumps.Events.{trees_of_dumps}

@@ -1,18 +1,19 @@
 -- From the columns that a layout passes to the answers of two calls.
 use Rattle.std.proofs.Common.{◌≡◌, inl, inr, ℕ, Bool, true, false, true≢false, List, [], ◌∷◌, Option, Some, None, Result, Ok, Err, map, refl, sym, ap, subst, ◌∙◌}
-use Rattle.yaml_round.specs.round_laws_documents.content.round_laws.emit_laws_streams.scan.declared.yaml_encoding_t.{yaml_encoding_t}
-use Rattle.yaml_round.specs.round_laws_documents.content.round_laws.emit_laws_streams.scan.declared.yaml_encoding_t.TheVariants.{YAML_ANY_ENCODING}
-use Rattle.yaml_round.specs.round_laws_documents.content.round_laws.emit_laws_streams.scan.Faults.{Fault}
-use Rattle.yaml_round.specs.round_laws_documents.content.round_laws.emit_laws_streams.parse.Documents as documents
-use Rattle.yaml_round.specs.round_laws_documents.content.round_laws.emit_laws_streams.parse.Resolve.{Told}
-use Rattle.yaml_round.specs.round_laws_documents.content.round_laws.emit_laws_streams.emit.Text.{Item, encode, is_deep}
-use Rattle.yaml_round.specs.round_laws_documents.content.round_laws.emit_laws_streams.emit.Settings.{settled, settled_indent}
-use Rattle.yaml_round.specs.round_laws_documents.content.round_laws.emit_laws_streams.emit.Content.{stream_events}
-use Rattle.yaml_round.specs.round_laws_documents.content.round_laws.emit_laws_streams.emit.Content as emit
-use Rattle.yaml_round.specs.round_laws_documents.content.round_laws.emit_laws_streams.emit.Emitter.{IsStream, Passes, write_error, too_deep}
-use Rattle.yaml_round.specs.round_laws_documents.content.round_laws.emit_laws_streams.emit.emit_graph.Graph.{graph_content}
-use Rattle.yaml_round.specs.round_laws_documents.content.round_laws.emit_laws_streams.emit.emit_text.declared.Encoding.{Encoding}
-use Rattle.yaml_round.specs.round_laws_documents.content.round_laws.emit_laws_streams.emit.emit_text.declared.RequestedSettings.{RequestedSettings}
+use Rattle.yaml_round.specs.declared.yaml_encoding_t.{yaml_encoding_t}
+use Rattle.yaml_round.specs.declared.yaml_encoding_t.TheVariants.{YAML_ANY_ENCODING}
+use Rattle.yaml_emit_laws_columns.specs.emit_layout.scan.Faults.{Fault}
+use Rattle.yaml_round.specs.round_laws_documents.content.parse_laws_loading.parse_document.Documents as documents
+use Rattle.yaml_round.specs.round_laws_documents.content.parse_grammar.Resolve.{Told}
+use Rattle.yaml_round.specs.emit.Text.{Item, encode, is_deep}
+use Rattle.yaml_round.specs.emit.Settings.{settled, settled_indent}
+use Rattle.yaml_round.specs.emit.Content.{stream_events}
+use Rattle.yaml_round.specs.emit.Content as emit
+use Rattle.yaml_round.specs.emit.Streams.{IsStream}
+use Rattle.yaml_round.specs.emit.Emitter.{Passes, write_error, too_deep}
+use Rattle.yaml_round.specs.emit.emit_graph.Graph.{graph_content}
+use Rattle.yaml_emit_laws_columns.specs.emit_layout.emit_text.declared.Encoding.{Encoding}
+use Rattle.yaml_emit_laws_columns.specs.emit_layout.emit_text.declared.RequestedSettings.{RequestedSettings}
 use Rattle.yaml_round.specs.round_laws_documents.content.Input.{events_of}
 use Rattle.yaml_round.specs.round_laws_documents.content.Loads.{loads_of}
 use Rattle.yaml_round.specs.round_laws_documents.content.Said.{Document}

@@ -1,9 +1,9 @@
 -- What is answered is said of what is loaded.
 use Rattle.std.proofs.Common.{◌≡◌, inl, inr, ℕ, List, Option, Some, None, Result, Ok, Err, refl, sym, subst}
-use Rattle.yaml_round.specs.round_laws_documents.content.round_laws.emit_laws_streams.scan.declared.yaml_encoding_t.{yaml_encoding_t}
-use Rattle.yaml_round.specs.round_laws_documents.content.round_laws.emit_laws_streams.scan.declared.yaml_encoding_t.TheVariants.{YAML_ANY_ENCODING}
-use Rattle.yaml_round.specs.round_laws_documents.content.round_laws.emit_laws_streams.scan.Faults.{Fault}
-use Rattle.yaml_round.specs.round_laws_documents.content.round_laws.emit_laws_streams.parse.Documents.{Document}
+use Rattle.yaml_round.specs.declared.yaml_encoding_t.{yaml_encoding_t}
+use Rattle.yaml_round.specs.declared.yaml_encoding_t.TheVariants.{YAML_ANY_ENCODING}
+use Rattle.yaml_emit_laws_columns.specs.emit_layout.scan.Faults.{Fault}
+use Rattle.yaml_round.specs.round_laws_documents.content.parse_laws_loading.parse_document.Documents.{Document}
 use Rattle.yaml_round.specs.round_laws_documents.content.Loads.{loads_of}
 use Rattle.yaml_round.specs.round_laws_documents.round_laws_reading.PlainLoading.{PlainLoading, unless_faulty}
 use Rattle.yaml_round.specs.round_laws_documents.round_laws_dumps.Agree.{AreAgreeing}

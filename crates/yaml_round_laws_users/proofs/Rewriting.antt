@@ -1,16 +1,16 @@
 -- From normal forms, and pretty texts that read back, to answers of two calls.
 use Rattle.std.proofs.Common.{◌≡◌, inl, inr, ℕ, true, List, Some, None, Result, Ok, Err, sym, ap, subst, ◌∙◌, arith}
 use Rattle.std.proofs.lemmas.Bool.{true≢false}
-use Rattle.yaml_round.specs.round_laws_documents.content.round_laws.emit_laws_streams.scan.declared.yaml_encoding_t.{yaml_encoding_t}
-use Rattle.yaml_round.specs.round_laws_documents.content.round_laws.emit_laws_streams.scan.declared.yaml_encoding_t.TheVariants.{YAML_ANY_ENCODING}
-use Rattle.yaml_round.specs.round_laws_documents.content.round_laws.emit_laws_streams.scan.Faults.{Fault}
-use Rattle.yaml_round.specs.round_laws_documents.content.round_laws.emit_laws_streams.emit.Text.{Item, encode, is_deep}
-use Rattle.yaml_round.specs.round_laws_documents.content.round_laws.emit_laws_streams.emit.Within.{Fits}
-use Rattle.yaml_round.specs.round_laws_documents.content.round_laws.emit_laws_streams.emit.Emitter.{Passes}
-use Rattle.yaml_round.specs.round_laws_documents.content.round_laws.emit_laws_streams.emit.emit_text.declared.Encoding.{Encoding}
+use Rattle.yaml_round.specs.declared.yaml_encoding_t.{yaml_encoding_t}
+use Rattle.yaml_round.specs.declared.yaml_encoding_t.TheVariants.{YAML_ANY_ENCODING}
+use Rattle.yaml_emit_laws_columns.specs.emit_layout.scan.Faults.{Fault}
+use Rattle.yaml_round.specs.emit.Text.{Item, encode, is_deep}
+use Rattle.yaml_round.specs.emit.Within.{Fits}
+use Rattle.yaml_round.specs.emit.Emitter.{Passes}
+use Rattle.yaml_emit_laws_columns.specs.emit_layout.emit_text.declared.Encoding.{Encoding}
 use Rattle.yaml_round.specs.round_laws_documents.content.Input.{ending_of, events_of}
 use Rattle.yaml_round.specs.round_laws_documents.content.Said.{Document, HasContent}
-use Rattle.yaml_round.specs.round_laws_documents.content.round_laws.emit_laws_streams.parse.Resolve.{Told}
+use Rattle.yaml_round.specs.round_laws_documents.content.parse_grammar.Resolve.{Told}
 use Rattle.yaml_round.specs.round_laws_reading.Reading.{PlainReading}
 use Rattle.yaml_round.specs.round_laws_documents.content.Canon.{canon_items, canon_encoding}
 use Rattle.yaml_round.specs.declared.yaml_settings_t.{yaml_settings_t}

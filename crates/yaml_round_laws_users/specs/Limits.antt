@@ -1,10 +1,10 @@
 -- Which inputs are refused for columns in canonical form.
 use Rattle.std.specs.Prelude.{◌≡◌, ◌↔◌, ℕ, true, List, map, Ok, Err}
-use Rattle.yaml_round.specs.round_laws_documents.content.round_laws.emit_laws_streams.scan.declared.yaml_encoding_t.{yaml_encoding_t}
-use Rattle.yaml_round.specs.round_laws_documents.content.round_laws.emit_laws_streams.parse.Documents as documents
-use Rattle.yaml_round.specs.round_laws_documents.content.round_laws.emit_laws_streams.emit.Settings.{settled_indent}
-use Rattle.yaml_round.specs.round_laws_documents.content.round_laws.emit_laws_streams.emit.Emitter.{too_deep}
-use Rattle.yaml_round.specs.round_laws_documents.content.round_laws.emit_laws_streams.emit.emit_graph.Graph.{graph_content}
+use Rattle.yaml_round.specs.declared.yaml_encoding_t.{yaml_encoding_t}
+use Rattle.yaml_round.specs.round_laws_documents.content.parse_laws_loading.parse_document.Documents as documents
+use Rattle.yaml_round.specs.emit.Settings.{settled_indent}
+use Rattle.yaml_round.specs.emit.Emitter.{too_deep}
+use Rattle.yaml_round.specs.emit.emit_graph.Graph.{graph_content}
 use Rattle.yaml_round.specs.round_laws_documents.content.Said.{Document}
 use Rattle.yaml_round.specs.round_laws_documents.content.Canon.{written_documents}
 use Rattle.yaml_round.specs.round_laws_reading.Reading.{PlainReading}

@@ -1,8 +1,8 @@
 -- What `yaml_reload` answers, said of what its input loads.
 use Rattle.std.specs.Prelude.{◌≡◌, ◌↔◌, ◌⊎◌, ℕ, List, Some, None, Result, Ok, Err}
-use Rattle.yaml_round.specs.round_laws_documents.content.round_laws.emit_laws_streams.scan.declared.yaml_encoding_t.{yaml_encoding_t}
-use Rattle.yaml_round.specs.round_laws_documents.content.round_laws.emit_laws_streams.scan.declared.yaml_encoding_t.TheVariants.{YAML_ANY_ENCODING}
-use Rattle.yaml_round.specs.round_laws_documents.content.round_laws.emit_laws_streams.scan.Faults.{Fault}
+use Rattle.yaml_round.specs.declared.yaml_encoding_t.{yaml_encoding_t}
+use Rattle.yaml_round.specs.declared.yaml_encoding_t.TheVariants.{YAML_ANY_ENCODING}
+use Rattle.yaml_emit_laws_columns.specs.emit_layout.scan.Faults.{Fault}
 use Rattle.yaml_round.specs.round_laws_documents.content.Loads.{loads_of}
 use Rattle.yaml_round.specs.round_laws_documents.round_laws_dumps.Agree.{AreAgreeing}
 use Rattle.yaml_round.specs.round_laws_documents.round_laws_dumps.Events.{trees_of_dumps, AreNumerable}

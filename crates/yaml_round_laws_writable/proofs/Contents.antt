@@ -1,7 +1,7 @@
 -- The content of an input may be written.
 use Rattle.std.proofs.Common.{ℕ, true, List, [], ◌∷◌, Option, subst}
-use Rattle.yaml_round_laws_reading.specs.round_content.round_laws.emit_laws_streams.parse.Events.{EventBody}
-use Rattle.yaml_round_laws_reading.specs.round_content.round_laws.emit_laws_streams.parse.Events as event
+use Rattle.yaml_round_laws_reading.specs.round_content.parse_model.Events.{EventBody}
+use Rattle.yaml_round_laws_reading.specs.round_content.parse_model.Events as event
 use Rattle.yaml_round_laws_reading.specs.round_content.Input.{events_of}
 use Rattle.yaml_round_laws_reading.specs.round_content.Said.{Mark, untagged, tagged, Node, alias, scalar, sequence, mapping, Nodes, no_nodes, node, Pairs, no_pairs, pair, Document, scalar_says, node_says, items_say, pairs_say, documents_say}
 use Rattle.yaml_round_laws_reading.proofs.round_content.Inputs.{input_stream}

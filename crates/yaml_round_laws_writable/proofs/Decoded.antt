@@ -3,21 +3,21 @@ use Rattle.std.proofs.Common.{◌≡◌, ℕ, zero, suc, ◌+◌, ◌-◌, ◌*�
 use Rattle.std.specs.Char.{IsScalar}
 use Rattle.std.specs.Str.{all_scalars}
 use Rattle.std.proofs.lemmas.List.Elements.{All-nil}
-use Rattle.yaml_round_laws_reading.specs.round_content.round_laws.emit_laws_streams.scan.declared.yaml_encoding_t.{yaml_encoding_t}
-use Rattle.yaml_round_laws_reading.specs.round_content.round_laws.emit_laws_streams.scan.declared.yaml_encoding_t.TheVariants.{YAML_ANY_ENCODING, YAML_UTF8_ENCODING, YAML_UTF16LE_ENCODING, YAML_UTF16BE_ENCODING}
-use Rattle.yaml_round_laws_reading.specs.round_content.round_laws.emit_laws_streams.scan.Classes.{width_of}
-use Rattle.yaml_round_laws_reading.specs.round_content.round_laws.emit_laws_streams.scan.Tokens.{Token}
-use Rattle.yaml_round_laws_reading.specs.round_content.round_laws.emit_laws_streams.scan.Scanned.{scanned_in}
-use Rattle.yaml_round_laws_reading.specs.round_content.round_laws.emit_laws_streams.parse.Source as source
+use Rattle.yaml_round_laws_reading.specs.round_content.scan_model.declared.yaml_encoding_t.{yaml_encoding_t}
+use Rattle.yaml_round_laws_reading.specs.round_content.scan_model.declared.yaml_encoding_t.TheVariants.{YAML_ANY_ENCODING, YAML_UTF8_ENCODING, YAML_UTF16LE_ENCODING, YAML_UTF16BE_ENCODING}
+use Rattle.yaml_round_laws_reading.specs.round_content.scan_model.Classes.{width_of}
+use Rattle.yaml_round_laws_reading.specs.round_content.scan_model.Tokens.{Token}
+use Rattle.yaml_round_laws_reading.specs.round_content.scan_history.Scanned.{scanned_in}
+use Rattle.yaml_round_laws_reading.specs.round_content.parse_model.Source as source
 use Rattle.yaml_round_laws_reading.specs.round_content.Input.{tokens_of}
-use Rattle.yaml_round_adapter.specs.Adapted.{adapted}
-use Rattle.yaml_round_adapter.proofs.AdaptedLemmas.{adapted_utf8}
-use Rattle.yaml_scan_decode.specs.declared.offence.Offence.{Offence}
-use Rattle.yaml_scan_decode.specs.declared.offence.Character.{Character}
-use Rattle.yaml_scan_decode.specs.Encodings.{encoding_of, mark_length}
-use Rattle.yaml_scan_decode.specs.Characters.{between, is_allowed, is_low_surrogate, is_high_surrogate, is_trailing, allowed_at, valued_at, least_code, sequence_of, utf8_code, utf8_of, utf16_of, character_at}
-use Rattle.yaml_scan_decode.specs.Decoding.{before, led_by, characters, in_utf8, decoded_characters, decoded_text}
-use Rattle.yaml_scan_decode.proofs.SpellingLemmas.{allowed_scalar}
+use Rattle.yaml_round_laws_reading.specs.round_content.round_laws.round_laws_adapted.Adapted.{adapted}
+use Rattle.yaml_round_laws_reading.proofs.round_content.round_laws.round_laws_adapted.AdaptedLemmas.{adapted_utf8}
+use Rattle.yaml_round_laws_reading.specs.round_content.scan_history.scan_decode.declared.offence.Offence.{Offence}
+use Rattle.yaml_round_laws_reading.specs.round_content.scan_history.scan_decode.declared.offence.Character.{Character}
+use Rattle.yaml_round_laws_reading.specs.round_content.scan_history.scan_decode.Encodings.{encoding_of, mark_length}
+use Rattle.yaml_round_laws_reading.specs.round_content.scan_history.scan_decode.Characters.{between, is_allowed, is_low_surrogate, is_high_surrogate, is_trailing, allowed_at, valued_at, least_code, sequence_of, utf8_code, utf8_of, utf16_of, character_at}
+use Rattle.yaml_round_laws_reading.specs.round_content.scan_history.scan_decode.Decoding.{before, led_by, characters, in_utf8, decoded_characters, decoded_text}
+use Rattle.yaml_round_laws_reading.proofs.round_content.scan_history.scan_decode.SpellingLemmas.{allowed_scalar}
 
 -- ---- a character
 

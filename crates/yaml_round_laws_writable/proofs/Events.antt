@@ -4,16 +4,16 @@ use Rattle.std.proofs.lemmas.Bool.Decides.{nat_tests}
 use Rattle.std.proofs.lemmas.Slice.Eq.{bytes_eq-Decides}
 use Rattle.std.specs.List.{list_all}
 use Rattle.std.specs.Str.{bytes_eq}
-use Rattle.yaml_round_laws_reading.specs.round_content.round_laws.emit_laws_streams.scan.declared.yaml_scalar_style_t.{yaml_scalar_style_t}
-use Rattle.yaml_round_laws_reading.specs.round_content.round_laws.emit_laws_streams.scan.Classes.{is_alpha_byte}
-use Rattle.yaml_round_laws_reading.specs.round_content.round_laws.emit_laws_streams.parse.Constructors.{HasUtf8, IsUtf8Option, AreUtf8}
-use Rattle.yaml_round_laws_reading.specs.round_content.round_laws.emit_laws_streams.parse.Events.{EventBody, TagDirective}
-use Rattle.yaml_round_laws_reading.specs.round_content.round_laws.emit_laws_streams.parse.Events as event
-use Rattle.yaml_round_laws_reading.specs.round_content.round_laws.emit_laws_streams.parse.Resolve.{Told}
-use Rattle.yaml_round_laws_reading.specs.round_content.round_laws.emit_laws_streams.emit.emit_layout.declared.Problem.{Problem}
-use Rattle.yaml_round_laws_reading.specs.round_content.round_laws.emit_laws_streams.emit.emit_layout.declared.Problem.TheVariants as problem
-use Rattle.yaml_round_laws_reading.specs.round_content.round_laws.emit_laws_streams.emit.Content.{Opening, emitter_event}
-use Rattle.yaml_round_laws_reading.specs.round_content.round_laws.emit_laws_streams.emit.Grammar.{opening_problem, or_else, name_problem, anchor_problem, tag_problem, event_problem, last_problem, own_problem, own_problems}
+use Rattle.yaml_round_laws_reading.specs.round_content.scan_model.declared.yaml_scalar_style_t.{yaml_scalar_style_t}
+use Rattle.yaml_round_laws_reading.specs.round_content.scan_model.Classes.{is_alpha_byte}
+use Rattle.yaml_round_laws_reading.specs.round_content.parse_model.Constructors.{HasUtf8, IsUtf8Option, AreUtf8}
+use Rattle.yaml_round_laws_reading.specs.round_content.parse_model.Events.{EventBody, TagDirective}
+use Rattle.yaml_round_laws_reading.specs.round_content.parse_model.Events as event
+use Rattle.yaml_round_laws_reading.specs.round_content.parse_grammar.Resolve.{Told}
+use Rattle.yaml_round_laws_reading.specs.round_content.emit_layout.declared.Problem.{Problem}
+use Rattle.yaml_round_laws_reading.specs.round_content.emit_layout.declared.Problem.TheVariants as problem
+use Rattle.yaml_round_laws_reading.specs.round_content.emit_layout.Content.{Opening, emitter_event}
+use Rattle.yaml_round_laws_reading.specs.round_content.emit_layout.Grammar.{opening_problem, or_else, name_problem, anchor_problem, tag_problem, event_problem, last_problem, own_problem, own_problems}
 use Rattle.yaml_round_laws_reading.specs.round_content.Normalize.{is_lone_mark, normalize_scalar, normalize_body}
 use Rattle.yaml_round_laws_reading.specs.round_content.Content.{content_of}
 use Rattle.yaml_round_laws_reading.specs.round_content.Events.{emitter_events, contents}

@@ -1,10 +1,10 @@
 -- The flags of an input's normalized events, and layouts without a premise on them.
 use Rattle.std.proofs.Common.{◌≡◌, ℕ, Bool, true, false, List, [], ◌∷◌, Option, Some, None, refl}
-use Rattle.yaml_round_laws_reading.specs.round_content.round_laws.emit_laws_streams.scan.declared.yaml_scalar_style_t.{yaml_scalar_style_t}
-use Rattle.yaml_round_laws_reading.specs.round_content.round_laws.emit_laws_streams.parse.Events.{EventBody}
-use Rattle.yaml_round_laws_reading.specs.round_content.round_laws.emit_laws_streams.parse.Events as event
-use Rattle.yaml_round_laws_reading.specs.round_content.round_laws.emit_laws_streams.parse.Resolve.{Told}
-use Rattle.yaml_round_laws_reading.specs.round_content.round_laws.emit_laws_streams.emit.Content.{emitter_event}
+use Rattle.yaml_round_laws_reading.specs.round_content.scan_model.declared.yaml_scalar_style_t.{yaml_scalar_style_t}
+use Rattle.yaml_round_laws_reading.specs.round_content.parse_model.Events.{EventBody}
+use Rattle.yaml_round_laws_reading.specs.round_content.parse_model.Events as event
+use Rattle.yaml_round_laws_reading.specs.round_content.parse_grammar.Resolve.{Told}
+use Rattle.yaml_round_laws_reading.specs.round_content.emit_layout.Content.{emitter_event}
 use Rattle.yaml_round_laws_reading.specs.round_content.Normalize.{is_lone_mark, normalize_scalar, normalize_body}
 use Rattle.yaml_round_laws_reading.specs.round_content.Events.{emitter_events}
 use Rattle.yaml_round_laws_reading.specs.round_content.Input.{events_of}

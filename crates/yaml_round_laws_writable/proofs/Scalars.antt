@@ -3,18 +3,18 @@ use Rattle.std.proofs.Common.{◌≡◌, ℕ, ℤ, Bool, true, false, not, if◌
 use Rattle.std.specs.Str.{bytes_eq}
 use Rattle.std.proofs.lemmas.Bool.{cases_Bool}
 use Rattle.std.proofs.lemmas.Slice.Eq.{bytes_eq-Decides}
-use Rattle.yaml_round_laws_reading.specs.round_content.round_laws.emit_laws_streams.scan.declared.yaml_encoding_t.{yaml_encoding_t}
-use Rattle.yaml_round_laws_reading.specs.round_content.round_laws.emit_laws_streams.scan.declared.yaml_mark_t.{yaml_mark_t}
-use Rattle.yaml_round_laws_reading.specs.round_content.round_laws.emit_laws_streams.scan.declared.yaml_scalar_style_t.{yaml_scalar_style_t}
-use Rattle.yaml_round_laws_reading.specs.round_content.round_laws.emit_laws_streams.scan.declared.yaml_version_directive_t.{yaml_version_directive_t}
-use Rattle.yaml_round_laws_reading.specs.round_content.round_laws.emit_laws_streams.scan.Faults.{Fault}
-use Rattle.yaml_round_laws_reading.specs.round_content.round_laws.emit_laws_streams.parse.Events.{EventBody, TagDirective}
-use Rattle.yaml_round_laws_reading.specs.round_content.round_laws.emit_laws_streams.parse.Events as event
-use Rattle.yaml_round_laws_reading.specs.round_content.round_laws.emit_laws_streams.parse.parse_grammar.Items.{RawEventBody, Shape}
-use Rattle.yaml_round_laws_reading.specs.round_content.round_laws.emit_laws_streams.parse.parse_grammar.Items as item
-use Rattle.yaml_round_laws_reading.specs.round_content.round_laws.emit_laws_streams.parse.parse_grammar.Trees.{Given}
-use Rattle.yaml_round_laws_reading.specs.round_content.round_laws.emit_laws_streams.parse.parse_grammar.Machine.{run, initial}
-use Rattle.yaml_round_laws_reading.specs.round_content.round_laws.emit_laws_streams.parse.parse_grammar.Resolve.{Directives, no_directives, Settled, refused, gave, noted, settle, settle_body, resolved, directive_for, with_resolved, with_tag, with_version, is_known_version, is_plain, node_event, Told, Reading, read_on, reading}
+use Rattle.yaml_round_laws_reading.specs.round_content.scan_model.declared.yaml_encoding_t.{yaml_encoding_t}
+use Rattle.yaml_round_laws_reading.specs.round_content.scan_model.declared.yaml_mark_t.{yaml_mark_t}
+use Rattle.yaml_round_laws_reading.specs.round_content.scan_model.declared.yaml_scalar_style_t.{yaml_scalar_style_t}
+use Rattle.yaml_round_laws_reading.specs.round_content.scan_model.declared.yaml_version_directive_t.{yaml_version_directive_t}
+use Rattle.yaml_round_laws_reading.specs.round_content.scan_model.Faults.{Fault}
+use Rattle.yaml_round_laws_reading.specs.round_content.parse_model.Events.{EventBody, TagDirective}
+use Rattle.yaml_round_laws_reading.specs.round_content.parse_model.Events as event
+use Rattle.yaml_round_laws_reading.specs.round_content.parse_grammar.Items.{RawEventBody, Shape}
+use Rattle.yaml_round_laws_reading.specs.round_content.parse_grammar.Items as item
+use Rattle.yaml_round_laws_reading.specs.round_content.parse_grammar.Trees.{Given}
+use Rattle.yaml_round_laws_reading.specs.round_content.parse_grammar.Machine.{run, initial}
+use Rattle.yaml_round_laws_reading.specs.round_content.parse_grammar.Resolve.{Directives, no_directives, Settled, refused, gave, noted, settle, settle_body, resolved, directive_for, with_resolved, with_tag, with_version, is_known_version, is_plain, node_event, Told, Reading, read_on, reading}
 use Rattle.yaml_round_laws_reading.specs.round_content.Normalize.{is_lone_mark}
 use Rattle.yaml_round_laws_reading.specs.round_content.Input.{tokens_of, events_of, read}
 use Rattle.yaml_round_laws_reading.proofs.round_content.round_laws.Spellings.{IsWhole, IsSpelledItem}

@@ -1,14 +1,14 @@
 -- The tokens of an input that a parser takes: they are well spelled.
 use Rattle.std.proofs.Common.{ℕ, List, [], ◌∷◌, Option, inl, inr}
 use Rattle.std.proofs.lemmas.Bool.{cases_Bool}
-use Rattle.yaml_round_laws_reading.specs.round_content.round_laws.emit_laws_streams.scan.declared.yaml_encoding_t.{yaml_encoding_t}
-use Rattle.yaml_round_laws_reading.specs.round_content.round_laws.emit_laws_streams.scan.Tokens.{Token}
-use Rattle.yaml_round_laws_reading.specs.round_content.round_laws.emit_laws_streams.scan.Faults.{Fault}
-use Rattle.yaml_round_laws_reading.specs.round_content.round_laws.emit_laws_streams.scan.Scanned.{scanned}
+use Rattle.yaml_round_laws_reading.specs.round_content.scan_model.declared.yaml_encoding_t.{yaml_encoding_t}
+use Rattle.yaml_round_laws_reading.specs.round_content.scan_model.Tokens.{Token}
+use Rattle.yaml_round_laws_reading.specs.round_content.scan_model.Faults.{Fault}
+use Rattle.yaml_round_laws_reading.specs.round_content.scan_history.Scanned.{scanned}
 use Rattle.yaml_round_laws_reading.specs.round_content.Input.{tokens_of}
-use Rattle.yaml_round_adapter.specs.Adapted.{spells_text, cut}
-use Rattle.yaml_scan_laws_names.specs.Spelled.{AreSpelled}
-use Rattle.yaml_scan_laws_names.proofs.Inputs.{scanned_spelled}
+use Rattle.yaml_round_laws_reading.specs.round_content.round_laws.round_laws_adapted.Adapted.{spells_text, cut}
+use Rattle.yaml_round_laws_reading.specs.round_content.round_laws.scan_laws_names.Spelled.{AreSpelled}
+use Rattle.yaml_round_laws_reading.proofs.round_content.round_laws.scan_laws_names.Inputs.{scanned_spelled}
 
 cut_spelled : (fault : Option Fault) (ts : List Token) → AreSpelled ts → AreSpelled (cut fault ts).tokens
 cut_spelled fault [] h = tt

@@ -1,23 +1,23 @@
 -- The texts of an input's events are UTF-8, as those of its tokens are.
 use Rattle.std.proofs.Common.{ℕ, true, List, [], ◌∷◌, ◌++◌, length, map, Option, Some, None, All}
 use Rattle.std.proofs.lemmas.List.Elements.{All-head, All-tail}
-use Rattle.yaml_round_laws_reading.specs.round_content.round_laws.emit_laws_streams.scan.Tokens.{Token, no_token, type_of}
-use Rattle.yaml_round_laws_reading.specs.round_content.round_laws.emit_laws_streams.scan.Faults.{Fault}
-use Rattle.yaml_round_laws_reading.specs.round_content.round_laws.emit_laws_streams.parse.Source as source
-use Rattle.yaml_round_laws_reading.specs.round_content.round_laws.emit_laws_streams.parse.Constructors.{AreUtf8}
-use Rattle.yaml_round_laws_reading.specs.round_content.round_laws.emit_laws_streams.parse.parse_grammar.declared.name.Choice.{Choice}
-use Rattle.yaml_round_laws_reading.specs.round_content.round_laws.emit_laws_streams.parse.parse_grammar.declared.name.Choice.TheVariants.{Refuse, Take, Leave, Open}
-use Rattle.yaml_round_laws_reading.specs.round_content.round_laws.emit_laws_streams.parse.parse_grammar.declared.name.Site.TheVariants.{Root}
-use Rattle.yaml_round_laws_reading.specs.round_content.round_laws.emit_laws_streams.parse.parse_grammar.Items.{RawEvent, item_at}
-use Rattle.yaml_round_laws_reading.specs.round_content.round_laws.emit_laws_streams.parse.parse_grammar.Items as item
-use Rattle.yaml_round_laws_reading.specs.round_content.round_laws.emit_laws_streams.parse.parse_grammar.States.{State}
-use Rattle.yaml_round_laws_reading.specs.round_content.round_laws.emit_laws_streams.parse.parse_grammar.States as state
-use Rattle.yaml_round_laws_reading.specs.round_content.round_laws.emit_laws_streams.parse.parse_grammar.Trees.{Given}
-use Rattle.yaml_round_laws_reading.specs.round_content.round_laws.emit_laws_streams.parse.parse_grammar.Machine.{choice_at, taken_at, left_at, Fed, stop, go, with_item, given_by, turn, feed, Outcome, finished, carry, run, initial}
-use Rattle.yaml_round_laws_reading.specs.round_content.round_laws.emit_laws_streams.parse.parse_grammar.Resolve.{Directives, no_directives, Settled, refused, gave, noted, settle, Reading, read_on, reading}
-use Rattle.yaml_round_laws_reading.specs.round_content.round_laws.emit_laws_streams.parse.parse_grammar.Texts.{IsUtf8Item, AreUtf8States}
+use Rattle.yaml_round_laws_reading.specs.round_content.scan_model.Tokens.{Token, no_token, type_of}
+use Rattle.yaml_round_laws_reading.specs.round_content.scan_model.Faults.{Fault}
+use Rattle.yaml_round_laws_reading.specs.round_content.parse_model.Source as source
+use Rattle.yaml_round_laws_reading.specs.round_content.parse_model.Constructors.{AreUtf8}
+use Rattle.yaml_round_laws_reading.specs.round_content.parse_grammar.declared.Choice.{Choice}
+use Rattle.yaml_round_laws_reading.specs.round_content.parse_grammar.declared.Choice.TheVariants.{Refuse, Take, Leave, Open}
+use Rattle.yaml_round_laws_reading.specs.round_content.parse_grammar.declared.Site.TheVariants.{Root}
+use Rattle.yaml_round_laws_reading.specs.round_content.parse_grammar.Items.{RawEvent, item_at}
+use Rattle.yaml_round_laws_reading.specs.round_content.parse_grammar.Items as item
+use Rattle.yaml_round_laws_reading.specs.round_content.parse_grammar.States.{State}
+use Rattle.yaml_round_laws_reading.specs.round_content.parse_grammar.States as state
+use Rattle.yaml_round_laws_reading.specs.round_content.parse_grammar.Trees.{Given}
+use Rattle.yaml_round_laws_reading.specs.round_content.parse_grammar.Machine.{choice_at, taken_at, left_at, Fed, stop, go, with_item, given_by, turn, feed, Outcome, finished, carry, run, initial}
+use Rattle.yaml_round_laws_reading.specs.round_content.parse_grammar.Resolve.{Directives, no_directives, Settled, refused, gave, noted, settle, Reading, read_on, reading}
+use Rattle.yaml_round_laws_reading.specs.round_content.parse_grammar.Texts.{IsUtf8Item, AreUtf8States}
 use Rattle.yaml_round_laws_reading.specs.round_content.Input.{tokens_of, read}
-use Rattle.yaml_round_laws_reading.proofs.round_content.round_laws.emit_laws_streams.parse.parse_grammar.Utf8.{IsUtf8Taken, states_over, taken_utf8, left_utf8, IsUtf8Settled, settled_utf8}
+use Rattle.yaml_round_laws_reading.proofs.round_content.parse_grammar.Utf8.{IsUtf8Taken, states_over, taken_utf8, left_utf8, IsUtf8Settled, settled_utf8}
 use Rattle.yaml_round_laws_writable.specs.Laws.{HaveUtf8Texts, InputsHaveUtf8}
 use Rattle.yaml_round_laws_writable.proofs.Decoded.{tokens_utf8}
 

@@ -1,12 +1,12 @@
 -- What an input says may be written, and how its events are flagged.
 use Rattle.std.specs.Prelude.{◌≡◌, ℕ, true, List, [], ◌∷◌}
-use Rattle.yaml_round_laws_reading.specs.round_content.round_laws.emit_laws_streams.scan.declared.yaml_encoding_t.{yaml_encoding_t}
-use Rattle.yaml_round_laws_reading.specs.round_content.round_laws.emit_laws_streams.parse.Constructors.{HasUtf8}
-use Rattle.yaml_round_laws_reading.specs.round_content.round_laws.emit_laws_streams.parse.Resolve.{Told}
-use Rattle.yaml_round_laws_reading.specs.round_content.round_laws.emit_laws_streams.emit.Emitter.{IsStream}
-use Rattle.yaml_round_laws_reading.specs.round_content.round_laws.emit_laws_streams.emit.Text.{Item}
-use Rattle.yaml_round_laws_reading.specs.round_content.round_laws.emit_laws_streams.emit.emit_text.declared.Encoding.{Encoding}
-use Rattle.yaml_round_laws_reading.specs.round_content.round_laws.emit_laws_streams.emit.emit_text.declared.RequestedSettings.{RequestedSettings}
+use Rattle.yaml_round_laws_reading.specs.round_content.scan_model.declared.yaml_encoding_t.{yaml_encoding_t}
+use Rattle.yaml_round_laws_reading.specs.round_content.parse_model.Constructors.{HasUtf8}
+use Rattle.yaml_round_laws_reading.specs.round_content.parse_grammar.Resolve.{Told}
+use Rattle.yaml_round_laws_reading.specs.round_content.emit_layout.Streams.{IsStream}
+use Rattle.yaml_round_laws_reading.specs.round_content.emit_text.Text.{Item}
+use Rattle.yaml_round_laws_reading.specs.round_content.emit_text.declared.Encoding.{Encoding}
+use Rattle.yaml_round_laws_reading.specs.round_content.emit_text.declared.RequestedSettings.{RequestedSettings}
 use Rattle.yaml_round_laws_reading.specs.round_content.Events.{emitter_events}
 use Rattle.yaml_round_laws_reading.specs.round_content.Input.{events_of}
 use Rattle.yaml_round_laws_reading.specs.round_content.Said.{Document, HasContent}

@@ -4,9 +4,9 @@
 use Rattle.std.specs.Prelude.{◌≡◌, ℕ, ◌<◌, true, List, [], ◌∷◌, length, codes, Option, Some, None}
 use Rattle.std.specs.List.{list_all}
 use Rattle.std.specs.Str.{IsUtf8}
-use Rattle.yaml_round_laws_reading.specs.round_content.round_laws.emit_laws_streams.scan.Classes.{is_alpha_byte}
-use Rattle.yaml_round_laws_reading.specs.round_content.round_laws.emit_laws_streams.parse.Events.{TagDirective}
-use Rattle.yaml_round_laws_reading.specs.round_content.round_laws.emit_laws_streams.emit.Grammar.{opening_problem}
+use Rattle.yaml_round_laws_reading.specs.round_content.scan_model.Classes.{is_alpha_byte}
+use Rattle.yaml_round_laws_reading.specs.round_content.parse_model.Events.{TagDirective}
+use Rattle.yaml_round_laws_reading.specs.round_content.emit_layout.Grammar.{opening_problem}
 use Rattle.yaml_round_laws_reading.specs.round_content.Said.{Mark, untagged, tagged, Node, alias, scalar, sequence, mapping, Nodes, no_nodes, node, Pairs, no_pairs, pair, Document}
 use Rattle.yaml_round_laws_reading.specs.round_content.Canon.{written_document}
 

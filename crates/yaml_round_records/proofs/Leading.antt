@@ -6,11 +6,13 @@ use Rattle.yaml_parse.specs.Faults.{Fault, fault_of, memory_fault, IsMemoryFault
 use Rattle.yaml_parse.specs.Events.{EventBody}
 use Rattle.yaml_emit.specs.Content.{Event, emitter_event}
 use Rattle.yaml_emit.specs.Text.{Item, encode, is_deep}
-use Rattle.yaml_emit.specs.Judged.{first_progress, first_refusal, let_out}
+use Rattle.yaml_emit.specs.Progress.{first_progress, first_refusal}
+use Rattle.yaml_emit.specs.Judged.{let_out}
 use Rattle.yaml_emit.specs.Verdict.{verdict, verdict_by, Writes, WritesBy, IsLetOut, HasLetOut, TellsOutcome}
 use Rattle.yaml_emit.specs.Taking.{TakesEvents}
 use Rattle.yaml_emit.specs.Within.{Fits}
-use Rattle.yaml_emit.specs.Emitter.{Emitter, Completes, CompletesBy, IsStream, IsLimited, IsWhole, Passes, problem_fault, fault_by, write_error, too_deep, memory_origin}
+use Rattle.yaml_emit.specs.Streams.{IsStream}
+use Rattle.yaml_emit.specs.Emitter.{Emitter, Completes, CompletesBy, IsLimited, IsWhole, Passes, problem_fault, fault_by, write_error, too_deep, memory_origin}
 use Rattle.yaml_emit.specs.emit_layout.declared.Problem.{Problem}
 use Rattle.yaml_emit.specs.emit_text.declared.Encoding.{Encoding}
 use Rattle.yaml_emit.specs.emit_text.declared.Status.{Status}

@@ -5,10 +5,12 @@ use Rattle.yaml_parse.specs.Events.{EventBody}
 use Rattle.yaml_emit.specs.Content.{Event, emitter_event}
 use Rattle.yaml_emit.specs.Text.{Item, encode, is_deep}
 use Rattle.yaml_emit.specs.Layout.{written}
-use Rattle.yaml_emit.specs.Judged.{first_progress, first_refusal, laid, let_out}
+use Rattle.yaml_emit.specs.Progress.{first_progress, first_refusal}
+use Rattle.yaml_emit.specs.Judged.{laid, let_out}
 use Rattle.yaml_emit.specs.Verdict.{first_settings}
 use Rattle.yaml_emit.specs.Within.{Fits}
-use Rattle.yaml_emit.specs.Emitter.{IsStream, Passes, problem_fault}
+use Rattle.yaml_emit.specs.Streams.{IsStream}
+use Rattle.yaml_emit.specs.Emitter.{Passes, problem_fault}
 use Rattle.yaml_emit.specs.emit_layout.State.{placed}
 use Rattle.yaml_emit.specs.emit_layout.declared.Expected.TheVariants as at
 use Rattle.yaml_emit.specs.emit_layout.declared.Problem.{Problem}

@@ -1,14 +1,14 @@
 //! What the events of a stream tell of its shape, one after another.
 
 ghost use Rattle.std.specs.Prelude.{◌≡◌, ℕ, ◌+◌, ◌*◌, Bool, true, false, not, ◌&&◌, map};
-ghost use Rattle.yaml_parse.specs.Events.{event_of, text_of, directive_of};
+ghost use Rattle.yaml_parse_model.specs.Events.{event_of, text_of, directive_of};
 ghost use Rattle.yaml_emit_laws_json.specs.emit_layout.Content.{emitter_event};
 ghost use Rattle.yaml_emit_laws_json.specs.emit_layout.Content as content;
 ghost use Rattle.yaml_round_shape.specs.Seen as seen;
 
 use crate::values::is_json_value;
-use yaml_parse::{yaml_event_body_t, yaml_event_t};
-use yaml_scan::{
+use yaml_parse_model::{yaml_event_body_t, yaml_event_t};
+use yaml_scan_model::{
     yaml_mapping_style_t, yaml_sequence_style_t, yaml_tag_directive_t, yaml_version_directive_t,
 };
 

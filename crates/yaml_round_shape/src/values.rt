@@ -5,7 +5,7 @@ ghost use Rattle.std.specs.List.{list_all};
 ghost use Rattle.yaml_scan_laws_plain.specs.Values.{begins_value, first, is_letter_or_digit, is_plain_value, is_value_byte};
 ghost use Rattle.yaml_round_shape.specs.Seen.{is_json_value};
 
-use yaml_scan::yaml_scalar_style_t;
+use yaml_scan_model::yaml_scalar_style_t;
 
 #[tactic(auto, unfolding(yaml_scan_laws_plain::specs::Values::is_letter_or_digit))]
 fn is_letter_or_digit(byte: u8) -> bool

@@ -10,7 +10,8 @@ use Rattle.yaml_parse.specs.Resolve.{Told}
 use Rattle.yaml_parse.specs.Events.{text_of}
 use Rattle.yaml_round_writing.specs.Kept.{KeptOn}
 use Rattle.yaml_emit.specs.Content.{Event}
-use Rattle.yaml_emit.specs.Emitter.{Emitter, Completes, CompletesBy, IsStream, IsLimited, IsWhole, Passes}
+use Rattle.yaml_emit.specs.Streams.{IsStream}
+use Rattle.yaml_emit.specs.Emitter.{Emitter, Completes, CompletesBy, IsLimited, IsWhole, Passes}
 use Rattle.yaml_emit.specs.Within.{IsWithin}
 use Rattle.yaml_emit.specs.Text.{Item, encode, is_deep}
 use Rattle.yaml_emit.specs.emit_text.declared.Encoding.{Encoding}

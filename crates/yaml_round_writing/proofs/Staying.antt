@@ -4,7 +4,7 @@ use Rattle.yaml_scan.specs.declared.yaml_encoding_t.{yaml_encoding_t}
 use Rattle.yaml_scan.specs.declared.yaml_encoding_t.TheVariants.{YAML_ANY_ENCODING}
 use Rattle.yaml_parse.specs.Resolve.{Told}
 use Rattle.yaml_emit.specs.Content.{Event}
-use Rattle.yaml_emit.specs.Emitter.{IsStream}
+use Rattle.yaml_emit.specs.Streams.{IsStream}
 use Rattle.yaml_emit.specs.Text.{encode}
 use Rattle.yaml_round_shape.specs.declared.seen.Shape.{Shape}
 use Rattle.yaml_round_shape.specs.Seen.{seen_all, unseen, is_json}

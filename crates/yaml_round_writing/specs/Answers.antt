@@ -5,7 +5,8 @@ use Rattle.yaml_scan.specs.declared.yaml_encoding_t.TheVariants.{YAML_ANY_ENCODI
 use Rattle.yaml_scan.specs.Faults.{Fault}
 use Rattle.yaml_emit.specs.Content.{Event}
 use Rattle.yaml_emit.specs.Text.{Item, encode, is_deep}
-use Rattle.yaml_emit.specs.Emitter.{IsStream, Passes}
+use Rattle.yaml_emit.specs.Streams.{IsStream}
+use Rattle.yaml_emit.specs.Emitter.{Passes}
 use Rattle.yaml_emit.specs.Within.{Fits}
 use Rattle.yaml_emit.specs.emit_text.declared.Encoding.{Encoding}
 use Rattle.yaml_emit.specs.emit_text.declared.RequestedSettings.{RequestedSettings}

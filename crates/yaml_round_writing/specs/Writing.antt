@@ -9,7 +9,8 @@ use Rattle.yaml_parse.specs.Remaining.{ParserRemaining}
 use Rattle.yaml_parse.specs.Resolve.{Told}
 use Rattle.yaml_parse.specs.Events.{EventBody, text_of}
 use Rattle.yaml_emit.specs.Content.{Event, emitter_event}
-use Rattle.yaml_emit.specs.Emitter.{Emitter, Completes, IsLimited, IsStream, Passes}
+use Rattle.yaml_emit.specs.Streams.{IsStream}
+use Rattle.yaml_emit.specs.Emitter.{Emitter, Completes, IsLimited, Passes}
 use Rattle.yaml_emit.specs.Within.{Fits}
 use Rattle.yaml_emit.specs.Text.{Item, encode, is_deep}
 use Rattle.yaml_emit.specs.emit_text.declared.Encoding.{Encoding}

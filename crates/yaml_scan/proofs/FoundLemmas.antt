@@ -3,7 +3,7 @@ use Rattle.std.proofs.Common.{◌≡◌, sym, subst, ◌∙◌}
 use Rattle.yaml_scan_model.specs.Faults.{Fault}
 use Rattle.yaml_scan_history.specs.Remaining.{Remaining}
 use Rattle.yaml_scan_machine.specs.declared.machine.Machine.{Machine}
-use Rattle.yaml_scan_machine.specs.Scanned.{left_in, IsTold}
+use Rattle.yaml_scan_machine.specs.Left.{left_in, IsTold}
 use Rattle.yaml_scan_machine.specs.State.{is_ready}
 use Rattle.yaml_scan.specs.declared.reading.Sought.{Sought}
 use Rattle.yaml_scan.specs.declared.reading.Sought.TheVariants as found

@@ -9,7 +9,7 @@ use Rattle.yaml_scan_history.specs.Remaining.{Remaining, nothing}
 use Rattle.yaml_scan_machine.specs.scan_laws_order.Fronts.{GivesFirst}
 use Rattle.yaml_scan_machine.specs.declared.machine.Machine.{Machine}
 use Rattle.yaml_scan_machine.specs.State.{IsMachine, is_ready}
-use Rattle.yaml_scan_machine.specs.Scanned.{left_in, IsTold}
+use Rattle.yaml_scan_machine.specs.Left.{left_in, IsTold}
 use Rattle.yaml_scan_machine.proofs.TakeLemmas.{ready_gives}
 use Rattle.yaml_scan.specs.Session.{View, HasFirst, Takes, Lends, Refuses, ScansInto, MayAnswer, behind_first}
 use Rattle.yaml_scan.specs.SessionView.{remaining_by, ready_by, view_by, IsWhole}

@@ -5,7 +5,7 @@ use Rattle.yaml_scan_model.specs.Faults.{Fault}
 use Rattle.yaml_scan_history.specs.Remaining.{nothing}
 use Rattle.yaml_scan_machine.specs.scan_laws_order.Fronts.{GivesFirst}
 use Rattle.yaml_scan_machine.specs.declared.machine.Machine.{Machine}
-use Rattle.yaml_scan_machine.specs.Scanned.{left_in, IsTold}
+use Rattle.yaml_scan_machine.specs.Left.{left_in, IsTold}
 use Rattle.yaml_scan_machine.specs.State.{IsMachine, is_ready}
 use Rattle.yaml_scan.specs.declared.reading.Sought.{Sought}
 use Rattle.yaml_scan.specs.declared.reading.Sought.TheVariants as found

@@ -5,7 +5,8 @@ pub use Rattle.yaml_scan_model.specs.Marks
 pub mod Found
 pub mod Session
 pub mod SessionView
-pub use Rattle.yaml_scan_machine.specs.Scanned
+pub use Rattle.yaml_scan_machine.specs.Left
+pub use Rattle.yaml_scan_history.specs.Scanned
 pub use Rattle.yaml_scan_history.specs.Remaining
 pub use Rattle.yaml_scan_decode.specs.Encodings
 pub use Rattle.yaml_scan_decode.specs.Offences

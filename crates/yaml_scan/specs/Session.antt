@@ -6,7 +6,7 @@ use Rattle.yaml_scan_model.specs.declared.fault.yaml_fault_t.{yaml_fault_t}
 use Rattle.yaml_scan_model.specs.Tokens.{Token, token_of, no_token}
 use Rattle.yaml_scan_model.specs.Faults.{Fault, fault_of}
 use Rattle.yaml_scan_history.specs.Remaining.{Remaining, nothing}
-use Rattle.yaml_scan_machine.specs.Scanned.{IsTold}
+use Rattle.yaml_scan_machine.specs.Left.{IsTold}
 
 -- the tokens that are still to come and the fault that ends them, whether the next token is known, the fault that was
 -- answered, and how many lexemes wait: they were read, and not all their tokens are taken

@@ -8,7 +8,7 @@ use Rattle.yaml_scan_model.specs.Faults.{fault_of}
 use Rattle.yaml_scan_history.specs.Remaining.{Remaining, nothing}
 use Rattle.yaml_scan.specs.declared.session.yaml_parser_t.TheInside.{Inside}
 use Rattle.yaml_scan_machine.specs.State.{IsMachine, is_ready}
-use Rattle.yaml_scan_machine.specs.Scanned.{left_in}
+use Rattle.yaml_scan_machine.specs.Left.{left_in}
 use Rattle.yaml_scan.specs.Session.{View}
 
 -- the token that was put aside, and then the others

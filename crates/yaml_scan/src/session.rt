@@ -9,7 +9,7 @@ ghost use Rattle.yaml_scan_model.specs.Faults.{fault_of};
 ghost use Rattle.yaml_scan.specs.contracts.session.yaml_parser_t.{the_row};
 ghost use Rattle.yaml_scan.specs.Session.{HasFirst, Scans, ScansInto, Looks, Peeks, FewWait, behind_first};
 ghost use Rattle.yaml_scan.specs.SessionView.{IsWhole, view_of};
-ghost use Rattle.yaml_scan_machine.specs.Scanned.{scanned};
+ghost use Rattle.yaml_scan_history.specs.Scanned.{scanned};
 
 use crate::reading::{Sought, next_into, put, put_empty, put_shown, take_back};
 use std::alloc::Global;

@@ -2,17 +2,17 @@
 use Rattle.std.proofs.Common.{◌≡◌, ℕ, zero, suc, ◌+◌, ◌≤◌, ◌<◌, ◌==◌, ◌||◌, ◌&&◌, not, Bool, true, false, List, [], ◌∷◌, ◌++◌, length, slice_range, Result, Ok, Err, refl, sym, ◌∙◌, true≢false, inl, inr, arith, add-zero, length-append, subst}
 use Rattle.std.proofs.lemmas.Bool.{cases_Bool}
 use Rattle.std.proofs.lemmas.Bool.Decides.{nat_tests}
-use Rattle.yaml_scan.specs.scan_model.declared.problem.Context.{Context}
-use Rattle.yaml_scan.specs.scan_model.Marks.{byte}
-use Rattle.yaml_scan.specs.scan_model.Classes.{is_digit_byte, is_alpha_byte}
-use Rattle.yaml_scan.specs.scan_model.Wrong.{Wrong}
-use Rattle.yaml_scan.proofs.scan_model.MarksLemmas.{within}
-use Rattle.yaml_scan.specs.scan_words.Runs.{belongs, run_within}
-use Rattle.yaml_scan.specs.scan_words.Anchors.{may_end_name, name_between, anchor_at}
-use Rattle.yaml_scan.specs.scan_words.Tags.{name_end}
-use Rattle.yaml_scan.specs.scan_words.Directives.{handle_between, handle_at}
-use Rattle.yaml_scan.proofs.scan_words.RunsLemmas.{run_within-le}
-use Rattle.yaml_scan.proofs.scan_words.HasLemmas.{Has, range_reads}
+use Rattle.yaml_scan_history.specs.scan_model.declared.Context.{Context}
+use Rattle.yaml_scan_history.specs.scan_model.Marks.{byte}
+use Rattle.yaml_scan_history.specs.scan_model.Classes.{is_digit_byte, is_alpha_byte}
+use Rattle.yaml_scan_history.specs.scan_model.Wrong.{Wrong}
+use Rattle.yaml_scan_history.proofs.scan_model.MarksLemmas.{within}
+use Rattle.yaml_scan_history.specs.scan_words.Runs.{belongs, run_within}
+use Rattle.yaml_scan_history.specs.scan_words.Anchors.{may_end_name, name_between, anchor_at}
+use Rattle.yaml_scan_history.specs.scan_words.Tags.{name_end}
+use Rattle.yaml_scan_history.specs.scan_words.Directives.{handle_between, handle_at}
+use Rattle.yaml_scan_history.proofs.scan_words.RunsLemmas.{run_within-le}
+use Rattle.yaml_scan_history.proofs.scan_words.HasLemmas.{Has, range_reads}
 use Rattle.yaml_scan_laws_names.specs.Spelled.{AreAlphas, IsName, IsHandle}
 
 pair : (a b : Bool) → (a && b) ≡ true → (a ≡ true) × (b ≡ true)

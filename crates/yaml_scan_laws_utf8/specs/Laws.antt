@@ -1,7 +1,7 @@
 -- What the tokens of a text in UTF-8 carry.
 use Rattle.std.specs.Prelude.{ℕ, List, IsUtf8, All}
 use Rattle.yaml_scan_history.specs.scan_model.declared.name.yaml_encoding_t.{yaml_encoding_t}
-use Rattle.yaml_scan_decode.specs.Spelling.{Spells}
+use Rattle.yaml_scan_history.specs.scan_decode.Spelling.{Spells}
 use Rattle.yaml_scan_history.specs.Remaining.{SpelledText, remaining}
 use Rattle.yaml_scan_laws_utf8.specs.Texts.{HasTexts}
 

@@ -19,7 +19,8 @@ use Rattle.std.specs.Result.{result_err}
 use Rattle.yaml_scan_decode.specs.Encodings.{encoding_of}
 use Rattle.yaml_scan_model.specs.Tokens.{Token}
 use Rattle.yaml_scan_laws_order.specs.Fronts.{GivesFirst}
-use Rattle.yaml_scan_machine.specs.Scanned.{scanned, scanned_in, left_in, left_from, IsTold, IsLocated}
+use Rattle.yaml_scan_history.specs.Scanned.{scanned, scanned_in}
+use Rattle.yaml_scan_machine.specs.Left.{left_in, left_from, IsTold, IsLocated}
 use Rattle.yaml_scan_history.specs.declared.lexeme.Entry.{Entry}
 use Rattle.yaml_scan_history.specs.declared.lexeme.Lexeme.{Lexeme}
 use Rattle.yaml_scan_history.specs.History.{entries, first_open}

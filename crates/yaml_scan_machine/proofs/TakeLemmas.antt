@@ -21,7 +21,7 @@ use Rattle.yaml_scan_machine.specs.Taken.{front_count, fronted, given_in}
 use Rattle.yaml_scan_machine.specs.Comes.{to_come}
 use Rattle.yaml_scan_machine.proofs.MarkLemmas.{next_ended}
 use Rattle.yaml_scan_machine.proofs.NextLemmas.{settled_first}
-use Rattle.yaml_scan_machine.specs.Scanned.{left_in}
+use Rattle.yaml_scan_machine.specs.Left.{left_in}
 use Rattle.yaml_scan_machine.proofs.ReadLemmas.{cases_Option}
 use Rattle.yaml_scan_machine.proofs.ComesLemmas.{settled_end, left_is, ready_started}
 use Rattle.yaml_scan_machine.proofs.SafeLemmas.{known_settled}

@@ -5,7 +5,7 @@ pub mod Shows
 pub mod Taken
 pub mod Reads
 pub mod Comes
-pub mod Scanned
+pub mod Left
 pub mod State
 pub mod Stood
 -- what it stands on, for crates that name this one alone

@@ -16,7 +16,7 @@ use Rattle.yaml_scan_machine.specs.Stands.{Stands}
 use Rattle.yaml_scan_machine.specs.Shows.{history_of}
 use Rattle.yaml_scan_machine.specs.Reads.{required_in, late, GivesNext}
 use Rattle.yaml_scan_machine.specs.Comes.{Refused}
-use Rattle.yaml_scan_machine.specs.Scanned.{IsLocated}
+use Rattle.yaml_scan_machine.specs.Left.{IsLocated}
 use Rattle.yaml_scan_machine.specs.State.{IsPlace, IsMachine, IsNext, GoesOn, is_ready}
 
 -- a lexeme of a kind stands there, and comes next

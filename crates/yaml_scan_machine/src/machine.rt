@@ -4,7 +4,7 @@ ghost use Rattle.std.specs.Prelude.{◌≡◌, ◌+◌, ◌-◌, ◌<◌, ◌≤
 ghost use Rattle.yaml_scan_decode.specs.DecodedText.{text_bytes};
 ghost use Rattle.yaml_scan_history.specs.Kinds as kinds;
 ghost use Rattle.yaml_scan_model.specs.Faults.{fault_of};
-ghost use Rattle.yaml_scan_machine.specs.Scanned.{IsLocated};
+ghost use Rattle.yaml_scan_machine.specs.Left.{IsLocated};
 ghost use Rattle.yaml_scan_history.specs.History as history;
 
 use crate::levels::Levels;
@@ -50,7 +50,8 @@ pub struct Machine<'a> {
 
 impl<'a> Machine<'a> {
     ghost use Rattle.yaml_scan_machine.specs.State.{IsMachine, IsNarrow, AreInside, AreBounded, GoesOn, Leaves, is_ready};
-    ghost use Rattle.yaml_scan_machine.specs.Scanned.{scanned, left_in, left_from, IsTold};
+    ghost use Rattle.yaml_scan_history.specs.Scanned.{scanned};
+    ghost use Rattle.yaml_scan_machine.specs.Left.{left_in, left_from, IsTold};
     ghost use Rattle.yaml_scan_decode.specs.Encodings.{encoding_of};
     ghost use Rattle.yaml_scan_machine.specs.Shows.{IsPending, fields_of, history_of};
     ghost use Rattle.yaml_scan_machine.specs.Reads.{MarksOwn, IsColumnAt, opens_for, bound_behind};

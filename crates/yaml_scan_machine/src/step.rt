@@ -2,7 +2,7 @@
 
 ghost use Rattle.std.specs.Prelude.{◌≡◌, ◌+◌, ◌≤◌, true, false, length, OnOk, OnErr};
 ghost use Rattle.yaml_scan_model.specs.Faults.{fault_of};
-ghost use Rattle.yaml_scan_machine.specs.Scanned.{IsLocated};
+ghost use Rattle.yaml_scan_machine.specs.Left.{IsLocated};
 
 use crate::machine::{Machine, allows, entry, put_fault};
 use crate::next::{Read, Spot};

@@ -1,5 +1,5 @@
 use Rattle.std.proofs.Common.{true, [], ◌∷◌}
-use Rattle.yaml_emit_layout.specs.Content.{stream_end}
+use Rattle.yaml_emit_machine.specs.emit_layout.Content.{stream_end}
 use Rattle.yaml_emit_machine.proofs.Taking.{takes_marked, notes_marked, tells_marked}
 use Rattle.yaml_emit.proofs.dump.yaml_emitter_close.Goals as goal
 

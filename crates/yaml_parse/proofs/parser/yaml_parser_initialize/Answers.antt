@@ -1,6 +1,6 @@
 use Rattle.std.proofs.Common.{ap, ◌∙◌, [], ◌∷◌, ◌++◌, List, None}
 use Rattle.yaml_parse_model.specs.Events.{TagDirective}
-use Rattle.yaml_parse_grammar.specs.Resolve.{Directives}
+use Rattle.yaml_parse_step.specs.parse_grammar.Resolve.{Directives}
 use Rattle.yaml_parse_machine.specs.declared.item.State as code
 use Rattle.yaml_parse_machine.specs.declared.item.State.TheVariants.{Stream}
 use Rattle.yaml_parse_machine.specs.Views.{stack_of}

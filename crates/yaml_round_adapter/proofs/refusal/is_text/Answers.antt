@@ -1,7 +1,7 @@
 use Rattle.std.proofs.Common.{◌∙◌, sym, length, arith}
 use Rattle.std.proofs.lemmas.Str.{IsUtf8-from_ascii, is_utf8-from_IsUtf8}
 use Rattle.std.proofs.lemmas.Str.Ascii.{IsAscii-from_reads}
-use Rattle.yaml_round_adapter.proofs.AdaptedLemmas.{same_test}
+use Rattle.yaml_round_laws_adapted.proofs.AdaptedLemmas.{same_test}
 use Rattle.yaml_round_adapter.proofs.refusal.is_text.Goals as goal
 
 pub returns-then-is_ascii : goal.returns-then-is_ascii

@@ -2,7 +2,7 @@ use Rattle.std.proofs.Common.{subst, refl}
 use Rattle.yaml_scan_history.specs.Remaining.{Remaining}
 use Rattle.yaml_scan_model.specs.Tokens.{token_of}
 use Rattle.yaml_scan_machine.specs.scan_laws_order.Fronts.{GivesFirst}
-use Rattle.yaml_scan_machine.specs.Scanned.{left_in}
+use Rattle.yaml_scan_machine.specs.Left.{left_in}
 use Rattle.yaml_scan.proofs.reading.next_into.Goals as goal
 
 pub take_token_into-requires-clause-stands : goal.take_token_into-requires-clause-stands

@@ -2,7 +2,7 @@ use Rattle.std.proofs.Common.{ap, length, true}
 use Rattle.yaml_scan_model.specs.Tokens.{Token, token_of}
 use Rattle.yaml_scan_machine.specs.scan_queue.Bare.{is_bare}
 use Rattle.yaml_scan_machine.specs.State.{is_ready}
-use Rattle.yaml_scan_machine.specs.Scanned.{left_in}
+use Rattle.yaml_scan_machine.specs.Left.{left_in}
 use Rattle.yaml_scan.proofs.SessionLemmas.{none_some, lends_aside, lends_own, lends_none, refuses, whole_held, whole_none, whole_refused}
 use Rattle.yaml_scan.proofs.session.put_aside.Goals as goal
 

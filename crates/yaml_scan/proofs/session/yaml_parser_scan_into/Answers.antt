@@ -1,7 +1,7 @@
 use Rattle.std.proofs.Common.{sym, refl, ◌∙◌, length, true}
 use Rattle.yaml_scan_model.specs.Tokens.{token_of}
 use Rattle.yaml_scan_machine.specs.State.{is_ready}
-use Rattle.yaml_scan_machine.specs.Scanned.{left_in}
+use Rattle.yaml_scan_machine.specs.Left.{left_in}
 use Rattle.yaml_scan.proofs.SessionLemmas.{none_some, takes_over, takes_held, takes_own, takes_none, refuses, whole_taken, whole_idle, whole_refused}
 use Rattle.yaml_scan.proofs.session.yaml_parser_scan_into.Goals as goal
 

@@ -2,7 +2,7 @@ use Rattle.std.proofs.Common.{ap, ◌∙◌}
 use Rattle.yaml_scan_model.specs.declared.token.yaml_token_t.{yaml_token_t}
 use Rattle.yaml_scan_model.specs.Tokens.{token_of}
 use Rattle.yaml_scan_machine.specs.State.{is_ready}
-use Rattle.yaml_scan_machine.specs.Scanned.{left_in}
+use Rattle.yaml_scan_machine.specs.Left.{left_in}
 use Rattle.yaml_scan.specs.Session.{View}
 use Rattle.yaml_scan.proofs.SessionLemmas.{none_some, ready_fault, ready_own, left_held, left_own, whole_idle, whole_taken}
 use Rattle.yaml_scan.proofs.session.yaml_parser_skip.Goals as goal

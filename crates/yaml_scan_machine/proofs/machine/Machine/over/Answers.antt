@@ -3,7 +3,8 @@ use Rattle.std.specs.Prelude.{map}
 use Rattle.yaml_scan_decode.specs.DecodedText.{text_bytes}
 use Rattle.yaml_scan_model.specs.declared.name.yaml_encoding_t.{yaml_encoding_t}
 use Rattle.yaml_scan_history.specs.Remaining.{remaining}
-use Rattle.yaml_scan_machine.specs.Scanned.{scanned, left_from}
+use Rattle.yaml_scan_history.specs.Scanned.{scanned}
+use Rattle.yaml_scan_machine.specs.Left.{left_from}
 use Rattle.yaml_scan_machine.specs.State.{IsNarrow}
 use Rattle.yaml_scan_machine.proofs.SafeLemmas.{start_place, narrow_none}
 use Rattle.yaml_scan_machine.proofs.FrontLemmas.{shown_start}

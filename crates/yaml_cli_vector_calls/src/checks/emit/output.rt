@@ -1,0 +1,37 @@
+//! That an output stops for its own reason: a stopped one meets every clause.
+
+use std::alloc::Global;
+use yaml_cli_vector_lines::Reply;
+use yaml_emit_text::{Sink, Status};
+
+// Puts one byte past the limit of three.
+fn stops_full(sink: &mut Sink) -> bool {
+    sink.put_all(b"abc");
+    let exact = sink.status();
+    sink.put('d');
+    let past = sink.status();
+    sink.put('e');
+    exact == Status::Going && past == Status::Full && sink.output() == b"abc".as_slice()
+}
+
+fn stops_deep(sink: &mut Sink) -> bool {
+    sink.put('a');
+    sink.put_too_deep();
+    sink.put('b');
+    sink.status() == Status::Deep && sink.output() == b"a".as_slice()
+}
+
+fn stops(alloc: Global, is_deep: bool) -> bool {
+    let mut sink = Sink::new(alloc, 3);
+    if is_deep {
+        stops_deep(&mut sink)
+    } else {
+        stops_full(&mut sink)
+    }
+}
+
+/// An output that is full, and one that is too deep.
+pub(crate) fn an_output_stops(reply: &mut Reply) {
+    reply.check("full", stops(reply.alloc(), false));
+    reply.check("deep", stops(reply.alloc(), true));
+}

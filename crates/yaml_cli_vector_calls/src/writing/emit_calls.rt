@@ -1,0 +1,92 @@
+//! The call `emit_calls`: calls of an emitter, one after another.
+
+use super::course::Course;
+use super::dump::dumped;
+use super::emitter::{flush, give_listed};
+use serde_json::Value;
+use yaml_cli_vector_lines::Reply;
+use yaml_emit::{
+    yaml_emitter_close, yaml_emitter_open, yaml_emitter_opened, yaml_emitter_output, yaml_emitter_t,
+};
+use yaml_scan::yaml_fault_t;
+
+// Opens the stream, or closes it where it was opened.
+fn turn(emitter: &mut yaml_emitter_t) -> Option<yaml_fault_t> {
+    if yaml_emitter_opened(emitter) {
+        yaml_emitter_close(emitter).err()
+    } else {
+        yaml_emitter_open(emitter).err()
+    }
+}
+
+fn give(reply: &mut Reply, call: &Value, emitter: &mut yaml_emitter_t) -> Option<yaml_fault_t> {
+    let mut course = Course::new();
+    let event = reply.value(call, 1);
+    give_listed(reply, event, emitter, &mut course);
+    course.fault
+}
+
+fn dump(reply: &mut Reply, call: &Value, emitter: &mut yaml_emitter_t) -> Option<yaml_fault_t> {
+    let fields = reply.value(call, 1);
+    dumped(reply, fields, emitter)
+}
+
+// The fault that a call which writes answers.
+fn done(
+    reply: &mut Reply,
+    word: &str,
+    call: &Value,
+    emitter: &mut yaml_emitter_t,
+) -> Option<yaml_fault_t> {
+    match word {
+        "emit" => give(reply, call, emitter),
+        "dump" => dump(reply, call, emitter),
+        "turn" => turn(emitter),
+        "flush" => flush(emitter),
+        _ => {
+            reply.miss("calls");
+            None
+        }
+    }
+}
+
+fn put_done(
+    reply: &mut Reply,
+    line: &Value,
+    word: &str,
+    call: &Value,
+    emitter: &mut yaml_emitter_t,
+) {
+    match done(reply, word, call, emitter) {
+        Some(fault) => reply.put_fault(line, &fault),
+        None => reply.put_null(),
+    }
+}
+
+// Whether the output is a front of those bytes. How much of a text has been written at a refusal is open.
+fn put_front(reply: &mut Reply, call: &Value, text: &[u8]) {
+    let whole = reply.bytes(call, 1);
+    reply.put_flag(whole.as_slice().starts_with(text));
+}
+
+fn put_call(reply: &mut Reply, line: &Value, call: &Value, emitter: &mut yaml_emitter_t) {
+    match reply.text(call, 0) {
+        "opened" => reply.put_flag(yaml_emitter_opened(emitter)),
+        "output" => reply.put_bytes(yaml_emitter_output(emitter)),
+        "front" => put_front(reply, call, yaml_emitter_output(emitter)),
+        word => put_done(reply, line, word, call, emitter),
+    }
+}
+
+/// What the line's calls answer: null or the fault where an event or a document is given, the stream is turned (opened, or
+/// closed where it was opened) or flushed; whether it is opened; the output, or whether it is a front of a text.
+pub fn answer(reply: &mut Reply, line: &Value, emitter: &mut yaml_emitter_t) {
+    reply.begin();
+    reply.name("answer");
+    reply.begin_list();
+    for call in reply.list(line, "calls") {
+        put_call(reply, line, call, emitter);
+    }
+    reply.end_list();
+    reply.end();
+}

@@ -1,0 +1,80 @@
+//! The call `emit_events`.
+
+use super::course::Course;
+use super::emitter::{flush, give_listed};
+use super::flushed::put_flushes;
+use serde_json::Value;
+use yaml_cli_vector_lines::Reply;
+use yaml_emit::{yaml_emitter_output, yaml_emitter_t};
+use yaml_scan::{yaml_error_type_t, yaml_fault_t};
+
+// Gives the events, with the flushes in mid-stream that the line has, until a fault comes, and puts what each of these showed.
+fn give_all(reply: &mut Reply, line: &Value, emitter: &mut yaml_emitter_t, course: &mut Course) {
+    for listed in reply.list(line, "events") {
+        give_listed(reply, listed, emitter, course);
+        if course.fault.is_none() {
+            put_flushes(reply, line, course.number, emitter);
+        }
+    }
+}
+
+// Whether the last event that the line lists is the stream's end.
+fn is_whole(reply: &mut Reply, line: &Value) -> bool {
+    match reply.list(line, "events").last() {
+        Some(event) => reply.text(event, 0) == "STREAM-END",
+        None => false,
+    }
+}
+
+// The number of the refused call where the event is refused, else the output.
+fn put_where(reply: &mut Reply, fault: &yaml_fault_t, number: u64, text: &[u8]) {
+    if fault.kind == yaml_error_type_t::YAML_EMITTER_ERROR {
+        reply.name("call_number");
+        reply.put_count(number);
+    } else {
+        reply.name("output");
+        reply.put_bytes(text);
+    }
+}
+
+// The text, and whether the events end the stream; or the fault, and where it came.
+fn put_end(reply: &mut Reply, line: &Value, course: &Course, text: &[u8]) {
+    match &course.fault {
+        None => {
+            reply.name("answer");
+            reply.put_bytes(text);
+            let whole = is_whole(reply, line);
+            reply.check("whole", whole);
+        }
+        Some(fault) => {
+            reply.name_fault(line, fault);
+            put_where(reply, fault, course.number, text);
+        }
+    }
+}
+
+// What became of the events, behind a last flush. No line wants `kept`: a call behind the fault answered something else, or
+// wrote.
+fn put_course(reply: &mut Reply, line: &Value, emitter: &mut yaml_emitter_t, course: &mut Course) {
+    let fault = flush(emitter);
+    let text = yaml_emitter_output(emitter);
+    course.take(fault, text.len());
+    if !course.kept {
+        reply.check("kept", false);
+    }
+    put_end(reply, line, course, text);
+}
+
+/// What the emitter answers on the line's events: the text, and whether the events end the stream; or the fault, with the
+/// refused call's number or the output; and what flushes in mid-stream show. A call behind a fault is to answer it again
+/// and to write nothing.
+pub fn answer(reply: &mut Reply, line: &Value, emitter: &mut yaml_emitter_t) {
+    let mut course = Course::new();
+    reply.begin();
+    reply.name("flushed");
+    reply.begin_list();
+    give_all(reply, line, emitter, &mut course);
+    reply.end_list();
+    put_course(reply, line, emitter, &mut course);
+    reply.end();
+}

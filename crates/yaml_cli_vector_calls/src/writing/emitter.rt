@@ -1,0 +1,71 @@
+//! Emitters under a line's settings.
+
+ghost use Rattle.std.specs.Prelude.{◌≡◌, true};
+
+use super::course::Course;
+use serde_json::Value;
+use std::alloc::Global;
+use yaml_cli_vector_lines::{Reply, Settings, event_of, text_error};
+use yaml_emit::{
+    yaml_emitter_emit, yaml_emitter_flush, yaml_emitter_fresh, yaml_emitter_initialize,
+    yaml_emitter_output, yaml_emitter_set_break, yaml_emitter_set_canonical,
+    yaml_emitter_set_encoding, yaml_emitter_set_indent, yaml_emitter_set_unicode,
+    yaml_emitter_set_width, yaml_emitter_t,
+};
+use yaml_parse::{yaml_event_t, yaml_event_utf8};
+use yaml_scan::yaml_fault_t;
+
+fn set(emitter: &mut yaml_emitter_t, settings: &Settings)
+    requires { emitter.old.fresh ≡ true }
+{
+    yaml_emitter_set_encoding(emitter, settings.encoding);
+    yaml_emitter_set_canonical(emitter, settings.canonical);
+    yaml_emitter_set_indent(emitter, settings.indent);
+    yaml_emitter_set_width(emitter, settings.width);
+    yaml_emitter_set_unicode(emitter, settings.unicode);
+    yaml_emitter_set_break(emitter, settings.line_break);
+}
+
+/// An emitter under these settings but for the limit, that was given nothing yet.
+pub fn emitter_under(
+    alloc: Global,
+    settings: &Settings,
+    limit: u64,
+) -> Result<yaml_emitter_t, yaml_fault_t> {
+    let mut emitter = yaml_emitter_initialize(alloc, limit)?;
+    set(&mut emitter, settings);
+    Ok(emitter)
+}
+
+// Gives the event, whose texts are to be UTF-8.
+fn give(reply: &mut Reply, event: yaml_event_t, emitter: &mut yaml_emitter_t, course: &mut Course) {
+    if yaml_event_utf8(&event) {
+        let fault = yaml_emitter_emit(emitter, event).err();
+        course.take(fault, yaml_emitter_output(emitter).len());
+    } else {
+        drop(event);
+        reply.miss("events");
+    }
+}
+
+/// Gives the event that the line writes so, whose texts are to be UTF-8, and takes what is answered.
+pub fn give_listed(
+    reply: &mut Reply,
+    listed: &Value,
+    emitter: &mut yaml_emitter_t,
+    course: &mut Course,
+) {
+    match event_of(reply.alloc(), reply, listed) {
+        Ok(event) => give(reply, event, emitter, course),
+        Err(fault) => reply.refuse(text_error(fault)),
+    }
+}
+
+/// The fault that a flush answers; none where nothing was given yet.
+pub fn flush(emitter: &mut yaml_emitter_t) -> Option<yaml_fault_t> {
+    if yaml_emitter_fresh(emitter) {
+        None
+    } else {
+        yaml_emitter_flush(emitter).err()
+    }
+}

@@ -1,0 +1,71 @@
+//! What flushes in mid-stream show.
+
+use super::emitter::flush;
+use serde_json::Value;
+use yaml_cli_vector_lines::Reply;
+use yaml_emit::{yaml_emitter_output, yaml_emitter_t};
+
+// Whether the text is the front and, behind it, only what stands between nodes: blanks, breaks, and the indicators that part
+// nodes or open a collection; in UTF-16 their other byte.
+fn is_close(text: &[u8], front: &[u8]) -> bool {
+    let Some(rest) = text.strip_prefix(front) else {
+        return false;
+    };
+    for byte in rest {
+        if !matches!(
+            *byte,
+            0 | b' ' | b'\r' | b'\n' | b',' | b':' | b'?' | b'-' | b'[' | b'{'
+        ) {
+            return false;
+        }
+    }
+    true
+}
+
+// Whether the text is what the line wants of a flush: those bytes at least and a front of the line's answer, where it says so,
+// else those bytes but for what stands between nodes. How much of that a flush shows is open: in canonical form what parts two
+// nodes is written with the second, and a collection's opener with the collection.
+fn is_wanted(reply: &mut Reply, line: &Value, wanted: &Value, text: &[u8]) -> bool {
+    let want = reply.bytes(wanted, 1);
+    if wanted.get(2).is_some() {
+        let whole = reply.bytes(line, "answer");
+        text.starts_with(want.as_slice()) && whole.starts_with(text)
+    } else {
+        is_close(text, want.as_slice()) || is_close(want.as_slice(), text)
+    }
+}
+
+// What the line wants of a flush.
+fn put_wanted(reply: &mut Reply, wanted: &Value) {
+    let text = reply.text(wanted, 1);
+    reply.put_word(text);
+    if wanted.get(2).is_some() {
+        let least = reply.text(wanted, 2);
+        reply.put_word(least);
+    }
+}
+
+// Flushes, and puts that as the line wants it, or as it is, behind the number of events.
+fn put_flush(reply: &mut Reply, line: &Value, wanted: &Value, emitter: &mut yaml_emitter_t) {
+    let fault = flush(emitter);
+    let text = yaml_emitter_output(emitter);
+    let is_right = is_wanted(reply, line, wanted, text) && fault.is_none();
+    let count = reply.count(wanted, 0);
+    reply.begin_list();
+    reply.put_count(count);
+    if is_right {
+        put_wanted(reply, wanted);
+    } else {
+        reply.put_bytes(text);
+    }
+    reply.end_list();
+}
+
+/// Flushes behind that many events where the line has a flush there.
+pub fn put_flushes(reply: &mut Reply, line: &Value, count: u64, emitter: &mut yaml_emitter_t) {
+    for wanted in reply.list(line, "flushed") {
+        if reply.count(wanted, 0) == count {
+            put_flush(reply, line, wanted, emitter);
+        }
+    }
+}

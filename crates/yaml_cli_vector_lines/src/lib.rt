@@ -1,0 +1,30 @@
+//! Lines of test vectors: what a line says, read to settings, tokens, events and documents, and what a call answered, written
+//! as a line has it and compared with what the line wants. A line is an object of JSON; bytes stand in it as hexadecimal digits.
+#![tactic(auto)]
+
+mod document;
+mod error;
+mod event;
+mod field;
+mod given;
+mod made;
+mod parts;
+mod reply;
+mod rewritten;
+mod setting;
+mod shown;
+mod style;
+mod token;
+mod wanted;
+
+pub use document::show_document;
+pub use error::{VectorError, json_error, text_error};
+pub use event::show_event;
+pub use given::event_of;
+pub use made::document_of;
+pub use reply::Reply;
+pub use rewritten::tokens;
+pub use setting::{Settings, settings_of};
+pub use shown::OWN;
+pub use token::{read_token, show_token};
+pub use wanted::{Outcome, compare};

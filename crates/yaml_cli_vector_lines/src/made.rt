@@ -1,0 +1,200 @@
+//! The document that a line describes, made by the document's calls.
+
+ghost use Rattle.std.specs.Prelude.{IsTrue, IsSome};
+ghost use Rattle.yaml_parse_document.specs.Documents.{node_at, IsSequenceAt, IsMappingAt};
+
+use crate::{Reply, VectorError, given, style, text_error};
+use serde_json::Value;
+use std::alloc::Global;
+use yaml_parse_document::{
+    yaml_document_add_mapping, yaml_document_add_scalar, yaml_document_add_sequence,
+    yaml_document_append_mapping_pair, yaml_document_append_sequence_item, yaml_document_get_node,
+    yaml_document_initialize, yaml_document_t,
+};
+use yaml_parse_model::{yaml_node_body_t, yaml_text_fault_t};
+use yaml_scan_model::yaml_scalar_style_t;
+
+// A document without nodes.
+fn empty_document(
+    alloc: Global,
+    reply: &mut Reply,
+    line: &Value,
+) -> Result<yaml_document_t, yaml_text_fault_t> {
+    let version = given::version(reply, line.get("version"));
+    let start_implicit = reply.flag(line, "start_implicit");
+    let end_implicit = reply.flag(line, "end_implicit");
+    let listed = reply.list(line, "directives");
+    let directives = given::directives(reply, listed, false);
+    yaml_document_initialize(
+        alloc,
+        version,
+        directives.as_slice(),
+        start_implicit,
+        end_implicit,
+    )
+}
+
+// What adding a node answers: its number, or that a text was refused.
+type Added = Result<i32, yaml_text_fault_t>;
+
+fn add_scalar(
+    document: &mut yaml_document_t,
+    reply: &mut Reply,
+    tag: Option<&[u8]>,
+    node: &Value,
+) -> Added {
+    let style = style::scalar(reply, node, 3);
+    let value = reply.bytes(node, 2);
+    yaml_document_add_scalar(document, tag, value.as_slice(), style)
+}
+
+// Adds a node with that tag, if any; a collection without what it holds.
+fn add(
+    document: &mut yaml_document_t,
+    reply: &mut Reply,
+    tag: Option<&[u8]>,
+    node: &Value,
+) -> Added {
+    match reply.text(node, 0) {
+        "scalar" => add_scalar(document, reply, tag, node),
+        "sequence" => {
+            let style = style::sequence(reply, node, 3);
+            yaml_document_add_sequence(document, tag, style)
+        }
+        "mapping" => {
+            let style = style::mapping(reply, node, 3);
+            yaml_document_add_mapping(document, tag, style)
+        }
+        _ => {
+            reply.miss("nodes");
+            Ok(0)
+        }
+    }
+}
+
+// The same with the tag that the node has, which may be null.
+fn add_node(document: &mut yaml_document_t, reply: &mut Reply, node: &Value) {
+    let tag = reply.optional_bytes(node, 1);
+    match add(document, reply, tag.as_deref(), node) {
+        Ok(_) => {}
+        Err(fault) => reply.refuse(text_error(fault)),
+    }
+}
+
+fn is_sequence(document: &yaml_document_t, id: i32) -> bool
+    ensures { IsTrue result → IsSequenceAt document.now id }
+{
+    match yaml_document_get_node(document, id) {
+        Some(node) => matches!(&node.body, yaml_node_body_t::Sequence { .. }),
+        None => false,
+    }
+}
+
+fn is_mapping(document: &yaml_document_t, id: i32) -> bool
+    ensures { IsTrue result → IsMappingAt document.now id }
+{
+    match yaml_document_get_node(document, id) {
+        Some(node) => matches!(&node.body, yaml_node_body_t::Mapping { .. }),
+        None => false,
+    }
+}
+
+fn is_node(document: &yaml_document_t, id: i32) -> bool
+    ensures { IsTrue result → IsSome (node_at document.now.nodes id) }
+{
+    yaml_document_get_node(document, id).is_some()
+}
+
+// Appends an item to a sequence.
+fn append_item(document: &mut yaml_document_t, reply: &mut Reply, id: i32, item: i32) {
+    if is_sequence(document, id) && is_node(document, item) {
+        if yaml_document_append_sequence_item(document, id, item).is_err() {
+            reply.refuse(VectorError::Memory);
+        }
+    } else {
+        reply.miss("nodes");
+    }
+}
+
+fn are_nodes(document: &yaml_document_t, key: i32, value: i32) -> bool
+    ensures { IsTrue result → IsSome (node_at document.now.nodes key)
+        × IsSome (node_at document.now.nodes value) }
+{
+    is_node(document, key) && is_node(document, value)
+}
+
+// Appends a pair to a mapping.
+fn append_pair(document: &mut yaml_document_t, reply: &mut Reply, id: i32, key: i32, value: i32) {
+    if is_mapping(document, id) && are_nodes(document, key, value) {
+        if yaml_document_append_mapping_pair(document, id, key, value).is_err() {
+            reply.refuse(VectorError::Memory);
+        }
+    } else {
+        reply.miss("nodes");
+    }
+}
+
+fn append_items(document: &mut yaml_document_t, reply: &mut Reply, id: i32, node: &Value) {
+    for item in reply.list(node, 2) {
+        let item = reply.whole(item, "nodes");
+        append_item(document, reply, id, item);
+    }
+}
+
+fn append_pairs(document: &mut yaml_document_t, reply: &mut Reply, id: i32, node: &Value) {
+    for pair in reply.list(node, 2) {
+        let key = reply.number(pair, 0);
+        let value = reply.number(pair, 1);
+        append_pair(document, reply, id, key, value);
+    }
+}
+
+// Adds what the node of that number holds.
+fn fill(document: &mut yaml_document_t, reply: &mut Reply, id: i32, node: &Value) {
+    match reply.text(node, 0) {
+        "sequence" => append_items(document, reply, id, node),
+        "mapping" => append_pairs(document, reply, id, node),
+        _ => {}
+    }
+}
+
+// Adds a scalar of bytes that are to be refused, by which no node is added.
+fn add_refused(document: &mut yaml_document_t, reply: &mut Reply, fields: &Value, id: i32) {
+    let value = reply.bytes(fields, "refused");
+    let style = yaml_scalar_style_t::YAML_ANY_SCALAR_STYLE;
+    let added = yaml_document_add_scalar(document, None, value.as_slice(), style);
+    if added != Err(yaml_text_fault_t::NotUtf8) || is_node(document, id) {
+        reply.miss("refused");
+    }
+}
+
+// Adds all nodes, then what they hold, and then a scalar that is refused where the line has one.
+fn fill_all(document: &mut yaml_document_t, reply: &mut Reply, fields: &Value) {
+    let nodes = reply.list(fields, "nodes");
+    for node in nodes {
+        add_node(document, reply, node);
+    }
+    let mut id = 1i32;
+    for node in nodes {
+        fill(document, reply, id, node);
+        id = id.saturating_add(1);
+    }
+    if fields.get("refused").is_some() {
+        add_refused(document, reply, fields, id);
+    }
+}
+
+/// The document that the fields describe, unless it is refused.
+pub fn document_of(
+    alloc: Global,
+    reply: &mut Reply,
+    fields: &Value,
+) -> Result<yaml_document_t, yaml_text_fault_t> {
+    match empty_document(alloc, reply, fields) {
+        Ok(mut document) => {
+            fill_all(&mut document, reply, fields);
+            Ok(document)
+        }
+        Err(fault) => Err(fault),
+    }
+}

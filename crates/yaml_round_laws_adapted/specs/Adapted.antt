@@ -1,0 +1,41 @@
+-- The tokens of a session as a parser takes them: up to the first tag that isn't UTF-8.
+use Rattle.std.specs.Prelude.{Bool, true, if◌then◌else◌, pos, codes, List, [], ◌∷◌, Option, Some, None}
+use Rattle.std.specs.Str.{is_utf8}
+use Rattle.yaml_parse_model.specs.declared.yaml_mark_t.{yaml_mark_t}
+use Rattle.yaml_parse_model.specs.declared.yaml_error_type_t.TheVariants.{YAML_SCANNER_ERROR}
+use Rattle.yaml_parse_model.specs.declared.yaml_origin_t.TheVariants.{Adapter}
+use Rattle.yaml_parse_model.specs.Tokens as token
+use Rattle.yaml_parse_model.specs.Tokens.{Token, TokenBody}
+use Rattle.yaml_parse_model.specs.Faults.{Fault}
+use Rattle.yaml_scan_laws_utf8.specs.scan_history.Remaining.{Remaining}
+
+-- What escapes spell byte by byte is UTF-8: a tag's suffix, and a directive's prefix.
+abbrev pub spells_text : TokenBody → Bool
+spells_text (token.tag_directive handle prefix) = is_utf8 prefix
+spells_text (token.tag handle suffix) = is_utf8 suffix
+spells_text _ = true
+
+-- the fault of a token whose tag isn't UTF-8, at its start
+abbrev pub tag_fault : yaml_mark_t → Fault
+tag_fault mark = record {
+  kind = YAML_SCANNER_ERROR;
+  problem = codes "found a tag that is not UTF-8";
+  offset = 0;
+  number = pos 0;
+  problem_mark = mark;
+  context = None;
+  context_mark = mark;
+  origin = Adapter;
+}
+
+abbrev pub with_token : Token → Remaining → Remaining
+with_token t c = record { tokens = t ∷ c.tokens; fault = c.fault }
+
+-- the tokens up to the first tag that isn't UTF-8, which its fault takes the place of
+abbrev pub cut : Option Fault → List Token → Remaining
+cut fault [] = record { tokens = []; fault = fault }
+cut fault (t ∷ ts) = if spells_text t.body then with_token t (cut fault ts)
+    else record { tokens = []; fault = Some (tag_fault t.start_mark) }
+
+abbrev pub adapted : Remaining → Remaining
+adapted c = cut c.fault c.tokens

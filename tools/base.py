@@ -26,8 +26,9 @@ def main(names):
     rt = lanes.kit()
     # its first call sets a signal's handler, which only the main thread may
     rt.rtlib.guarded()
-    rt.share_work(False)
-    every = [it for it in rt.crates_of(TOP) if it.makes_rlib()]
+    if hasattr(rt, "share_work"):
+        rt.share_work(False)
+    every = [it for it in lanes.crates_of(rt, TOP) if it.makes_rlib()]
     wanted = {it for top in every if not names or top.name in names for it in [top, *top.below()]}
     return 0 if lanes.Lanes("base", [it for it in every if it in wanted], built).run() else 1
 

@@ -19,13 +19,13 @@ import program
 def below(rt, crate, logs):
     """Has the libraries below in their place, each after those that it stands on; answers the first that isn't proved."""
     crates = sorted(crate.below(), key=lambda it: len(it.below()))
-    kept = rt.Kept([*crates, crate])
+    kept = lanes.kept_by(rt, program.TOP, [*crates, crate])
     return next((it for it in crates if program.built(rt, kept, logs, it, lanes.processors())), None)
 
 
 def main(words):
     rt = lanes.kit()
-    crate = next((it for it in rt.crates_of(program.TOP) if words and it.name == words[0]), None)
+    crate = next((it for it in lanes.crates_of(rt, program.TOP) if words and it.name == words[0]), None)
     if not crate:
         print(__doc__, file=sys.stderr)
         return 2

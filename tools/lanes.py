@@ -8,6 +8,8 @@ import sys
 import time
 from concurrent.futures import FIRST_COMPLETED, ThreadPoolExecutor, wait
 
+import store
+
 # What a check with one job is to find free, in bytes; each further job takes less.
 MEMORY = 3_000_000_000
 # More jobs than these don't make the check of one crate shorter.
@@ -42,6 +44,22 @@ def kit():
     sys.modules["rt"] = made
     loader.exec_module(made)
     return made
+
+
+def crates_of(rt, top):
+    """The crates of a checkout, lowest first."""
+    if hasattr(rt, "Kept"):
+        return rt.crates_of(top)
+    rt.rtlib.Crate = rt.Crate
+    return sorted(rt.rtlib.crates_below(top), key=lambda it: len(it.below()))
+
+
+def kept_by(rt, top, crates):
+    """What earlier runs proved: what the kit's gate keeps, or the checkout's own store where it keeps nothing."""
+    if hasattr(rt, "Kept"):
+        return rt.Kept(crates)
+    with open(f"{rt.KIT}/KIT-ID", encoding="utf-8") as line:
+        return store.Kept(f"{top}/out/proved", line.read())
 
 
 def lines_of(crate):

@@ -5,9 +5,10 @@
 
 The crates that it stands on are proved as the gate proves them, from nothing and side by side, those with the longest chain
 of others behind them first; a crate that nothing can run beside gets the processors that are idle (PROCESSORS sets how many
-there are to use). What was proved is kept where the gate keeps it, so each takes from the other what it has proved of the
-same files. Neither must-fail edits are tried nor tests run, and one compiler builds what was proved, LLVM. The program is
-then crates/yaml_cli/out/yaml_cli, the archive crates/yaml_round_c/out/libyaml_round_c.a.
+there are to use). What was proved is kept where the kit's gate keeps it, so that each takes from the other what it has
+proved of the same files; where the gate keeps nothing, in the checkout's out/proved (tools/store.py). Neither must-fail edits
+are tried nor tests run, and one compiler builds what was proved, LLVM. The program is then crates/yaml_cli/out/yaml_cli, the
+archive crates/yaml_round_c/out/libyaml_round_c.a.
 
 It works on a copy, as `rt ci NAME` does, and by the functions that `rt ci` is made of, since the libraries of other commands
 are loaded with their proofs: above the engine that costs as much again as to prove. Where a kit has other functions, `rt run`
@@ -78,17 +79,28 @@ def set_up(rt):
     rt.Crate.allowed = rt.handles_of(TOP)
 
 
+def copy_crates(rt, to):
+    """Copies what a proof reads."""
+    if hasattr(rt, "copy_crates"):
+        rt.copy_crates(TOP, to)
+        return
+    for name in ("crates.txt", "HANDLES"):
+        os.makedirs(to, exist_ok=True)
+        shutil.copy2(f"{TOP}/{name}", f"{to}/{name}")
+    shutil.copytree(f"{TOP}/crates", f"{to}/crates", ignore=shutil.ignore_patterns("out"))
+
+
 def prove(rt, goal):
     """Proves and builds it in a copy, and puts what was built where it belongs."""
     with tempfile.TemporaryDirectory(prefix=f"rt-copy-{os.getpid()}-") as room:
         copy = f"{room}/repo"
-        rt.copy_crates(TOP, copy)
+        copy_crates(rt, copy)
         # it is the top of a repository
         os.mkdir(f"{copy}/.git")
-        top = next(it for it in rt.crates_of(copy) if it.name == goal.crate)
+        top = next(it for it in lanes.crates_of(rt, copy) if it.name == goal.crate)
         crates = [*sorted(top.below(), key=lambda it: len(it.below())), top]
         lanes.say(goal.what, f"proving {len(crates)} crates, jobs {lanes.processors()}: {FROM_NOTHING}")
-        kept = rt.Kept(crates)
+        kept = lanes.kept_by(rt, TOP, crates)
         build = lambda it, jobs: built(rt, kept, goal.logs, it, jobs)
         if not lanes.Lanes(goal.what, crates, build).run():
             return False

@@ -68,8 +68,8 @@ impl<S: yaml_token_source_t> Model for yaml_parser_t<S> {
 }
 
 impl<S: yaml_token_source_t> yaml_parser_t<S> {
-    // Out of line: in a loop LLVM would put the addresses of all fields aside at each entry.
-    #[inline(never)]
+    // Inlined into the loop over turns: many tokens give nothing, and behind each a call would be left and made again.
+    #[inline(always)]
     fn turn(&mut self, event: &mut yaml_event_t, fault: &mut yaml_fault_t) -> Step
         ensures turns { Turns self.old (turned result (event_of event.new) (fault_of fault.new))
             self.new }
@@ -183,8 +183,19 @@ pub fn yaml_parser_initialize<S: yaml_token_source_t>(
     }
 }
 
+// The fault that is answered is kept.
+// Out of line: in line its room would be set to zero for each event.
+#[inline(never)]
+fn keep_fault(prefix: &mut yaml_parser_t_prefix, fault: &yaml_fault_t)
+    ensures { prefix_of prefix.new ≡ fault_of fault.now }
+{
+    *prefix = yaml_parser_t_prefix::of(fault);
+}
+
 /// The next event in a slot that is lent, or a fault in another, or neither behind the last event and after a fault: what
 /// `yaml_parser_parse` answers, with nothing moved. A slot that isn't filled may hold anything afterwards.
+// Out of line: all that a turn does is inlined into it, and its callers have no room to make for that.
+#[inline(never)]
 pub fn yaml_parser_parse_into<S: yaml_token_source_t>(
     parser: &mut yaml_parser_t<S>,
     event: &mut yaml_event_t,
@@ -201,7 +212,7 @@ pub fn yaml_parser_parse_into<S: yaml_token_source_t>(
             Step::Given => return yaml_found_t::Event,
             Step::Silent => {}
             Step::Refused => {
-                parser.prefix = yaml_parser_t_prefix::of(fault);
+                keep_fault(&mut parser.prefix, fault);
                 return yaml_found_t::Refused;
             }
             Step::Done => return yaml_found_t::End,

@@ -6,7 +6,7 @@ use Rattle.yaml_parse_model.specs.declared.event.yaml_event_body_t.TheVariants a
 -- the event has no text that has room
 abbrev pub OwnsNothing : yaml_event_body_t → Type 0
 OwnsNothing (body.DocumentStart _ _ _) = ⊥
-OwnsNothing (body.Alias _) = ⊥
+OwnsNothing (body.Alias name) = vec_capacity name ≡ 0
 OwnsNothing (body.Scalar None None value _ _ _) = vec_capacity value ≡ 0
 OwnsNothing (body.Scalar _ _ _ _ _ _) = ⊥
 OwnsNothing (body.SequenceStart None None _ _) = Unit {0}

@@ -88,11 +88,21 @@ fn vacate_rare(earlier: &mut yaml_event_body_t, slot: &mut yaml_token_body_t)
     ensures { OwnsNothing earlier.new }
 {
     match earlier {
-        yaml_event_body_t::Scalar { value, .. } => hand_over(moved(value), slot),
+        yaml_event_body_t::Scalar {
+            anchor,
+            tag,
+            value,
+            ..
+        } => {
+            hand_over(moved(value), slot);
+            *anchor = None;
+            *tag = None;
+        }
         yaml_event_body_t::Alias { anchor } => hand_over(moved(anchor), slot),
-        _ => {}
+        _ => {
+            *earlier = yaml_event_body_t::No;
+        }
     }
-    *earlier = yaml_event_body_t::No;
 }
 
 // The text, of which an empty one without room is left.

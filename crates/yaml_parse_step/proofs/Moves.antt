@@ -1,5 +1,5 @@
 -- What each step over the grammar owes.
-use Rattle.std.proofs.Common.{◌≡◌, ◌⊎◌, ◌<◌, ℕ, inl, inr, List, [], ◌∷◌, ◌++◌, length, reverse, Option, Some, None, refl, sym, ap, subst, ◌∙◌, arith, true, false, ◌==◌}
+use Rattle.std.proofs.Common.{◌≡◌, ◌⊎◌, ◌<◌, ℕ, inl, inr, List, [], ◌∷◌, ◌++◌, length, reverse, Option, Some, None, refl, sym, ap, subst, ◌∙◌, arith, Bool, true, false, ◌==◌}
 use Rattle.std.proofs.lemmas.Bool.Decides.{nat_tests}
 use Rattle.std.proofs.lemmas.List.{length-map, length-reverse}
 use Rattle.yaml_scan_model.specs.declared.yaml_mark_t.{yaml_mark_t}
@@ -20,7 +20,7 @@ use Rattle.yaml_parse_machine.specs.declared.item.State as code
 use Rattle.yaml_parse_machine.specs.Views.{state_of, stack_of, below}
 use Rattle.yaml_parse_step.specs.Stepped.{Stepped}
 use Rattle.yaml_parse_step.specs.Stepped as step
-use Rattle.yaml_parse_step.specs.Steps.{Raw, raw, outcome, stop_of, budget, IsFront, HasNoFront, IsDirective, GivesItem, GivesNoItem, IsRefused, Steps, OpensAt, IsReal, IsRealOn}
+use Rattle.yaml_parse_step.specs.Steps.{held_if, Raw, raw, outcome, stop_of, budget, IsFront, HasNoFront, IsDirective, GivesItem, GivesNoItem, IsRefused, Steps, OpensAt, IsReal, IsRealOn}
 
 -- a directive leaves something open
 directive_stands : (b : RawEventBody) (P : Type 0) → Voiced b P → IsDirective b → P
@@ -180,6 +180,10 @@ no_front_open peeked ts f old n e new q z h = no_front_at peeked ts f (stack_of 
 
 pub leave_real : (x : State) (t : Token) (start : yaml_mark_t) (i : RawEvent) → i ≡ left_at x start → IsReal x t (step.given i)
 leave_real x t start i e = λ d. absurd (left_is_none x start (subst (λ (j : RawEvent). IsDirective j.body) e d))
+
+-- no token is held
+pub unheld : (held : Bool) (t : Token) (P : Option Token → Type 0) → held ≡ false → P None → P (held_if held t)
+unheld held t P e h = subst (λ (x : Bool). P (held_if x t)) (sym e) h
 
 -- what holds of the topmost state and those below holds of all, where there is one
 pub over : (s : List State) (P : List State → Type 0) → (length s ≡ 0 → ⊥) → ((x : State) → s ≡ x ∷ below s → P (x ∷ below s)) → P s

@@ -1,6 +1,6 @@
 //! One step of a parser: a token is taken, or a state is left before it.
 
-ghost use Rattle.std.specs.Prelude.{◌≡◌, ◌<◌, ◌∷◌, true, List, Option, Some, None, vec_len};
+ghost use Rattle.std.specs.Prelude.{◌≡◌, ◌<◌, ◌∷◌, true, false, List, Option, Some, None, vec_len};
 ghost use Rattle.yaml_scan_model.specs.Tokens.{Token, token_of, type_of};
 ghost use Rattle.yaml_scan_model.specs.Faults.{Fault, fault_of, memory_fault};
 ghost use Rattle.yaml_scan_model.specs.declared.yaml_origin_t.TheVariants.{Parser};
@@ -78,7 +78,7 @@ fn ask<S: yaml_token_source_t>(
     source.next_token_into(token, fault)
 }
 
-// The token at the front: the one that is held, or else the source's next.
+// The token at the front: the one that is held, or else the source's next. It is held no more.
 fn front<S: yaml_token_source_t>(
     source: &mut S,
     buffers: &mut StepBuffers,
@@ -89,8 +89,10 @@ fn front<S: yaml_token_source_t>(
         (S.fault_to_come source.new) (fault_of fault.new) }
     ensures utf8 { IsUtf8Token (peeked_of buffers.old) → result ≡ true
         → HasUtf8 (token_of buffers.new.token).body }
+    ensures unheld { buffers.new.is_held ≡ false }
 {
     if buffers.is_held {
+        buffers.is_held = false;
         true
     } else {
         ask(source, &mut buffers.token, fault)
@@ -243,7 +245,8 @@ fn moving(
     event: &mut yaml_event_t,
     fault: &mut yaml_fault_t,
 ) -> Progress
-    requires { 0 < vec_len stack.old }
+    requires some { 0 < vec_len stack.old }
+    requires unheld { buffers.old.is_held ≡ false }
     ensures steps { (rest : List Token) (ending : Option Fault)
         → Steps (raw (Some (token_of buffers.old.token)) rest ending (stack_of stack.old.items))
         (advanced result (item_of buffers.new.item) (event_of event.new) (fault_of fault.new))
@@ -260,14 +263,8 @@ fn moving(
     ensures ready { IsSettled result (event_of event.new) }
 {
     match take_swiftly(stack, &mut buffers.token, event, &mut buffers.item.spare) {
-        Swift::Event => {
-            buffers.is_held = false;
-            Progress::Ready
-        }
-        Swift::Silent => {
-            buffers.is_held = false;
-            Progress::By(Step::Silent)
-        }
+        Swift::Event => Progress::Ready,
+        Swift::Silent => Progress::By(Step::Silent),
         Swift::Memory => {
             *fault = want_of_memory();
             Progress::By(Step::Refused)

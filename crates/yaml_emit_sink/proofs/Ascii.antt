@@ -13,10 +13,10 @@ use Rattle.yaml_emit_sink.specs.declared.cursor.Status.{Status}
 use Rattle.yaml_emit_sink.specs.declared.cursor.Status.TheVariants.{Going}
 use Rattle.yaml_emit_sink.specs.declared.settings.Encoding.TheVariants.{Utf8}
 use Rattle.yaml_emit_sink.specs.Text.{letter, encode, char_bytes, is_deep}
-use Rattle.yaml_emit_sink.specs.Layout.{Rest, letters}
+use Rattle.yaml_emit_sink.specs.Layout.{Rest, letters, word}
 use Rattle.yaml_emit_sink.specs.Appends.{AppendsBy, lettered}
 use Rattle.yaml_emit_sink.specs.Sink.{Output, Puts}
-use Rattle.yaml_emit_sink.proofs.Sinks.{puts_run, puts_stroke, puts_nothing}
+use Rattle.yaml_emit_sink.proofs.Sinks.{puts_run, puts_stroke, puts_nothing, puts_as, cond_false}
 
 -- the cursor behind characters
 behind : List ℕ → Cursor → Cursor
@@ -89,3 +89,12 @@ small b h = grind (arith, nat_tests)
 
 pub all_ascii : (xs : List ℕ) → list_all is_ascii xs ≡ true → IsAscii xs
 all_ascii xs h = IsAscii-from_all xs (λ k d l. small _ (AllPass-from_list_all is_ascii xs h k d l))
+
+parted : (t : List ℕ) (c : Cursor) (rest : Rest) → 0 < length t → c.white ≡ false → word t c rest ≡ letters (32 ∷ t) c rest
+unfolding letters
+parted [] c rest p w = absurd (omega (arith, p))
+parted (x ∷ xs) c rest p w = cond_false c.white _ _ w
+
+-- a word with a space in front, where one is due
+pub puts_parted : (a b : Output) (t : List ℕ) → 0 < length t → a.cursor.white ≡ false → Puts a b (letters (32 ∷ t)) → Puts a b (word t)
+puts_parted a b t s w p = puts_as a b (letters (32 ∷ t)) (word t) (λ rest. parted t a.cursor rest s w) p

@@ -13,7 +13,7 @@ use std::alloc::AllocError;
 // These bytes, where nothing has to grow.
 // Inlined: where their number is known, they are stored with no test between.
 #[inline(always)]
-fn push_each(output: &mut Vec<u8>, bytes: &[u8])
+pub(crate) fn push_each(output: &mut Vec<u8>, bytes: &[u8])
     requires { vec_len output.old + length bytes.now ≤ vec_capacity output.old }
     ensures items { output.new.items ≡ output.old.items ++ bytes.now }
     ensures room { vec_capacity output.new ≡ vec_capacity output.old }

@@ -5,7 +5,7 @@ ghost use Rattle.std.specs.Vec.{vec_capacity};
 
 use crate::append::{
     append, append_blanks, append_char, append_line, append_near, blanked, byte_of, indented,
-    is_roomy, lettered, moved,
+    is_roomy, lettered, moved, push_each,
 };
 use crate::cursor::{Cursor, Status};
 use crate::narrow::is_long_ascii;
@@ -279,6 +279,8 @@ impl Sink {
     }
 
     /// A text in ASCII, at once where each character is a byte.
+    // Inlined: two tests round a call.
+    #[inline(always)]
     pub fn put_ascii(&mut self, text: &[u8])
         requires { IsAscii text.now }
         ensures { Puts self.old self.new (letters text.now) }
@@ -358,6 +360,38 @@ impl Sink {
     {
         self.put_gap();
         self.put_all(text);
+    }
+
+    // Few characters of a known number, one at least, in ASCII.
+    // Inlined: mostly there is room, and they are some stores.
+    #[inline(always)]
+    fn put_known(&mut self, text: &[u8])
+        requires some { 0 < length text.now }
+        requires ascii { IsAscii text.now }
+        ensures { Puts self.old self.new (letters text.now) }
+    {
+        if has_room(&self.output, self.fast_limit, text.len() as u64) {
+            push_each(&mut self.output, text);
+            lettered(&mut self.cursor, text.len() as u64);
+        } else {
+            self.put_far(text);
+        }
+    }
+
+    /// Few characters in ASCII, with a space in front where one is due: they are given without and with it.
+    // Inlined: their numbers are known.
+    #[inline(always)]
+    pub fn put_known_word(&mut self, text: &[u8], parted: &[u8])
+        requires some { 0 < length text.now }
+        requires ascii { IsAscii text.now }
+        requires parted { parted.now ≡ 32 ∷ text.now }
+        ensures { Puts self.old self.new (word text.now) }
+    {
+        if self.cursor().white {
+            self.put_known(text);
+        } else {
+            self.put_known(parted);
+        }
     }
 
     /// A character with a space in front where one is due.

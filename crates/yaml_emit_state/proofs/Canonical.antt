@@ -1,19 +1,21 @@
 -- A scalar in canonical form.
-use Rattle.std.proofs.Common.{◌≡◌, Bool, true, false, refl, List, [], ◌∷◌}
-use Rattle.std.specs.Prelude.{not, ◌&&◌}
+use Rattle.std.proofs.Common.{◌≡◌, ℕ, Bool, true, false, refl, sym, subst, arith, List, [], ◌∷◌}
+use Rattle.std.specs.Prelude.{not, ◌&&◌, Some, None, nat_le, nat_lt, if◌then◌else◌}
+use Rattle.std.proofs.lemmas.Bool.Decides.{nat_tests}
 use Rattle.std.specs.Str.{chars}
 use Rattle.yaml_emit_text.specs.parse.Events.{TagDirective}
 use Rattle.yaml_emit_text.specs.declared.Settings.{Settings}
 use Rattle.yaml_emit_text.specs.declared.Style.TheVariants as style
 use Rattle.yaml_emit_text.specs.Sink.{Output, Puts}
-use Rattle.yaml_emit_text.specs.Layout.{Layout, ◌▹◌, stay, when, word}
+use Rattle.yaml_emit_text.specs.Layout.{Layout, ◌▹◌, when, char, gap, word}
+use Rattle.yaml_emit_text.specs.Quoted.{double_quoted}
 use Rattle.yaml_emit_text.specs.Scalars.{scalar_text}
 use Rattle.yaml_emit_text.proofs.Sinks.{puts_both}
 use Rattle.yaml_emit_layout.specs.Content.{Scalar, Event, no_event, stream_start, stream_end, document_start, document_end, alias, scalar, sequence_start, sequence_end, mapping_start, mapping_end}
 use Rattle.yaml_emit_layout.specs.State.{is_simple_event}
-use Rattle.yaml_emit_layout.specs.Grammar.{has}
-use Rattle.yaml_emit_layout.specs.Nodes.{Context, context_of, is_simple_scalar, is_simple_alias, is_simple_start, anchor_text, tag_text, checked, deeper, page_at, scalar_layout, style_of}
+use Rattle.yaml_emit_layout.specs.Nodes.{Context, context_of, is_simple_scalar, is_simple_alias, is_simple_start, anchor_text, tag_text, MOST, deep_if, checked, deeper, page_at, scalar_layout, style_of}
 use Rattle.yaml_emit_layout.specs.declared.Spot.{Spot}
+use Rattle.yaml_emit_state.specs.Stack.{within}
 
 -- canonical form has no simple keys
 pub no_keys : (p : Context) (e : Event) (empty : Bool) → p.settings.canonical ≡ true → false ≡ is_simple_event p e empty
@@ -30,18 +32,35 @@ no_keys p (document_end i) empty h = refl
 no_keys p sequence_end empty h = refl
 no_keys p mapping_end empty h = refl
 
--- a tagged scalar isn't marked
-pub unmarked : (a b : Output) (w : Layout) → Puts a b w → Puts a b (w ▹ stay)
-unmarked a b w p = p
+pub puts_tagged : (s : Settings) (ds : List TagDirective) (at : Spot) (x : Scalar) (tag : List ℕ) (a b c : Output) → s.canonical ≡ true → x.tag ≡ Some tag → Puts a b (anchor_text x.anchor)
+    → Puts b c (tag_text (context_of s ds) (Some tag) ▹ (checked (deeper s at.around) ▹ scalar_text (page_at s at) s.indent at.flow style.Double (chars x.value)))
+    → Puts a c (scalar_layout (context_of s ds) at x)
+unfolding scalar_layout style_of
+puts_tagged s ds at x tag a b c e t p q = rw (e, t) (puts_both a b c _ _ p q)
 
 -- an untagged scalar that may not be quoted is marked
-pub marked : (a b : Output) (quoted : Bool) → Puts a b (when (not quoted) (word (33 ∷ []))) → Puts a b (stay ▹ when (not quoted && true) (word (33 ∷ [])))
-marked a b true p = p
-marked a b false p = p
+marked : (b c : Output) (quoted : Bool) (y : Layout) → Puts b c (when (not quoted) (word (33 ∷ [])) ▹ y) → Puts b c (when (not quoted && true) (word (33 ∷ [])) ▹ y)
+marked b c true y p = p
+marked b c false y p = p
 
-pub puts_canonical : (s : Settings) (ds : List TagDirective) (at : Spot) (x : Scalar) (a b c d : Output) → s.canonical ≡ true → Puts a b (anchor_text x.anchor)
-    → Puts b c (tag_text (context_of s ds) x.tag ▹ when (not (has x.tag) && (not x.quoted && true)) (word (33 ∷ [])))
-    → Puts c d (checked (deeper s at.around) ▹ scalar_text (page_at s at) s.indent at.flow style.Double (chars x.value))
-    → Puts a d (scalar_layout (context_of s ds) at x)
-unfolding scalar_layout style_of
-puts_canonical s ds at x a b c d e p q r = rw e (puts_both a b d _ _ p (puts_both b c d _ _ q r))
+pub puts_untagged : (s : Settings) (ds : List TagDirective) (at : Spot) (x : Scalar) (a b c : Output) → s.canonical ≡ true → x.tag ≡ None → Puts a b (anchor_text x.anchor)
+    → Puts b c (when (not x.quoted) (word (33 ∷ [])) ▹ (checked (deeper s at.around) ▹ double_quoted (page_at s at) (chars x.value)))
+    → Puts a c (scalar_layout (context_of s ds) at x)
+unfolding scalar_layout style_of scalar_text
+puts_untagged s ds at x a b c e t p q = rw (e, t) (puts_both a b c _ _ p (marked b c x.quoted _ q))
+
+shallow : (t : Bool) (n i : ℕ) → Some i ≡ (if t then Some n else None) → (t ≡ true) × (i ≡ n)
+shallow true n i h = (refl, cc)
+shallow false n i h = absurd (cc)
+
+not_deep : (n : ℕ) → nat_le n MOST ≡ true → nat_lt MOST n ≡ false
+not_deep n h = grind (arith, nat_tests)
+
+-- the quotes of a scalar that isn't too deep
+pub puts_within : (n i : ℕ) (a b c : Output) (w : Layout) (inside : ℕ → Layout) → Some i ≡ within n → Puts a b (w ▹ (gap ▹ char 34)) → Puts b c (inside i)
+    → Puts a c (w ▹ (checked n ▹ (gap ▹ (char 34 ▹ inside n))))
+puts_within n i a b c w inside h p q =
+    let found = shallow (nat_le n MOST) n i h in
+    let P : Bool → Type 0 = λ t. Puts a c (w ▹ ((λ k rest. deep_if t (rest k)) ▹ (gap ▹ (char 34 ▹ inside n)))) in
+    let Q : ℕ → Type 0 = λ k. Puts b c (inside k) in
+    subst P (sym (not_deep n found.0)) (puts_both a b c _ _ p (subst Q found.1 q))

@@ -155,6 +155,8 @@ pub fn put_before(sink: &mut Sink, settings: &Settings, top: &Option<Level>, sim
     }
 }
 
+// Inlined: a byte in front of a line.
+#[inline(always)]
 fn put_last_line(sink: &mut Sink, settings: &Settings, indent: u64)
     ensures { Puts sink.old sink.new (char 44 ▹ line_at settings.now indent) }
 {
@@ -162,6 +164,8 @@ fn put_last_line(sink: &mut Sink, settings: &Settings, indent: u64)
     sink.put_line(settings.line_break, indent);
 }
 
+// Inlined: it is two bytes and a line, or a test in front of them.
+#[inline(always)]
 fn put_last_line_if(sink: &mut Sink, due: bool, settings: &Settings, indent: u64)
     ensures { Puts sink.old sink.new (when due (char 44 ▹ line_at settings.now indent)) }
 {
@@ -170,6 +174,8 @@ fn put_last_line_if(sink: &mut Sink, due: bool, settings: &Settings, indent: u64
     }
 }
 
+// Inlined: where the form is known it is short.
+#[inline(always)]
 #[tactic(auto, unfolding(yaml_emit_layout::specs::Nodes::closer))]
 fn put_closer(sink: &mut Sink, settings: &Settings, flow: bool, indent: u64, fresh: bool, c: char)
     ensures { Puts sink.old sink.new (closer settings.now flow indent fresh c) }
@@ -196,6 +202,8 @@ fn is_fresh(phase: Phase) -> bool
 }
 
 /// What ends the innermost collection.
+// Inlined: where the form is known it is short.
+#[inline(always)]
 pub fn put_closer_at(sink: &mut Sink, settings: &Settings, top: &Option<Level>, c: char)
     ensures { Puts sink.old sink.new (closer_at settings.now top.now c) }
 {
@@ -213,6 +221,8 @@ pub fn put_closer_at(sink: &mut Sink, settings: &Settings, top: &Option<Level>, 
 }
 
 /// What opens a flow collection.
+// Inlined: it is a byte or two, for which there is room.
+#[inline(always)]
 pub fn put_opener_if(sink: &mut Sink, flow: bool, c: char)
     ensures { Puts sink.old sink.new (when flow (opener c)) }
 {

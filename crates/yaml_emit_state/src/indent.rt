@@ -95,6 +95,8 @@ fn block_indent(settings: &Settings, around: Option<u64>, keeps: bool) -> Option
 }
 
 /// The indentation of a collection at the cursor behind its properties, or none past 2,147,483,647 columns.
+// Inlined: where the form is known it is a sum.
+#[inline(always)]
 pub fn indent_of(
     settings: &Settings,
     spot: Spot,

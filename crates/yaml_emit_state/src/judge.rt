@@ -39,6 +39,8 @@ fn name_problem(empty: Problem, characters: Problem, name: &[u8]) -> Option<Prob
     }
 }
 
+// Inlined: mostly no anchor is there.
+#[inline(always)]
 fn anchor_problem(anchor: &Option<Vec<u8>>) -> Option<Problem>
     ensures { result ≡ anchor_problem (text_of anchor.now) }
 {

@@ -92,6 +92,8 @@ impl Levels {
     }
 
     /// Closes the innermost collection.
+    // Inlined: it is one copy.
+    #[inline(always)]
     pub fn pop(&mut self)
         ensures { stack_of self.new ≡ outer_of (stack_of self.old) }
     {

@@ -4,6 +4,7 @@ ghost use Rattle.std.specs.Str.{chars};
 ghost use Rattle.yaml_parse_model.specs.Events.{text_of};
 ghost use Rattle.yaml_emit_text.specs.Sink.{Puts};
 ghost use Rattle.yaml_emit_text.specs.Layout.{◌▹◌, stay, when, char, word, opener};
+ghost use Rattle.yaml_emit_text.specs.Quoted.{double_quoted};
 ghost use Rattle.yaml_emit_text.specs.Scalars.{scalar_text};
 ghost use Rattle.yaml_emit_layout.specs.Grammar.{kept_if, kept_tag, has};
 ghost use Rattle.yaml_emit_layout.specs.Nodes.{alias_layout, anchor_text, tag_text, properties_text, mark_text, scalar_layout, style_of, is_plain, checked, deeper, page_at, is_flow};
@@ -14,7 +15,10 @@ use crate::before::{put_blank_if, put_opener_if};
 use crate::given::{Context, Scalar, Start};
 use crate::indent::{deeper, is_flow, is_simple_part, put_checked};
 use yaml_emit_layout::Spot;
-use yaml_emit_text::{Page, Settings, Sink, Style, allowed_for, put_styled, put_tag, taken, text};
+use yaml_emit_text::{
+    Page, Settings, Sink, Style, allowed_for, put_opening_quote, put_quoted_inside, put_styled,
+    put_tag, taken, text,
+};
 
 fn put_name(sink: &mut Sink, indicator: char, name: &[u8])
     ensures { Puts sink.old sink.new (word (indicator ∷ name.now)) }
@@ -190,18 +194,47 @@ fn put_lines(sink: &mut Sink, settings: &Settings, spot: Spot, style: Style, val
     }
 }
 
-// A tag, or `!` where it is due in canonical form.
-// Inlined: mostly no tag is there.
+// A scalar without a tag in canonical form, behind its anchor: `!` where it is due, and the value in quotes.
+// Inlined: mostly it is a few bytes round the value.
 #[inline(always)]
-fn put_tag_or(sink: &mut Sink, context: &Context, tag: &Option<Vec<u8>>, quoted: bool)
-    ensures { Puts sink.old sink.new (tag_text (lent_context context.now)
-        (text_of tag.now) ▹ when (not (has (text_of tag.now)) && (not quoted && true))
-        (word (33 ∷ []))) }
+fn put_untagged(sink: &mut Sink, settings: &Settings, spot: Spot, quoted: bool, value: &[u8])
+    requires { IsUtf8 value.now }
+    ensures { Puts sink.old sink.new (when (not quoted) (word (33 ∷ []))
+        ▹ (checked (deeper settings.now spot.around)
+        ▹ double_quoted (page_at settings.now spot) (chars value.now))) }
 {
-    match tag {
-        None => put_exclamation_if(sink, !quoted),
-        Some(tag) => put_tag(sink, context.directives, tag),
+    let depth = deeper(settings, spot.around);
+    match depth {
+        None => {
+            put_exclamation_if(sink, !quoted);
+            put_checked(sink, depth);
+        }
+        Some(indentation) => {
+            let page = Page {
+                width: settings.width,
+                indentation,
+                unicode: settings.unicode,
+                cuts: !is_simple_part(spot.part),
+                line_break: settings.line_break,
+            };
+            put_opening_quote(sink, !quoted);
+            put_quoted_inside(sink, page, text(value));
+        }
     }
+}
+
+// A scalar with a tag in canonical form, behind its anchor.
+// Inlined: then what it is given needn't stand in memory.
+#[inline(always)]
+fn put_tagged(sink: &mut Sink, context: &Context, spot: Spot, tag: &[u8], value: &[u8])
+    requires { IsUtf8 value.now }
+    ensures { Puts sink.old sink.new (tag_text (lent_context context.now) (Some tag.now)
+        ▹ (checked (deeper context.now.settings.now spot.around)
+        ▹ scalar_text (page_at context.now.settings.now spot) context.now.settings.now.indent
+        spot.flow Style.Double (chars value.now))) }
+{
+    put_tag(sink, context.directives, tag);
+    put_lines(sink, context.settings, spot, Style::Double, value);
 }
 
 // A scalar in canonical form: it is double quoted, and each tag is written.
@@ -214,8 +247,10 @@ fn put_canonical_scalar(sink: &mut Sink, context: &Context, spot: Spot, scalar: 
         (lent_scalar scalar.now)) }
 {
     put_anchor(sink, scalar.anchor);
-    put_tag_or(sink, context, scalar.tag, scalar.quoted);
-    put_lines(sink, context.settings, spot, Style::Double, scalar.value);
+    match scalar.tag {
+        None => put_untagged(sink, context.settings, spot, scalar.quoted, scalar.value),
+        Some(tag) => put_tagged(sink, context, spot, tag, scalar.value),
+    }
 }
 
 // A scalar in pretty form, or in either.
@@ -261,6 +296,8 @@ pub fn put_scalar(sink: &mut Sink, context: &Context, spot: Spot, scalar: &Scala
 }
 
 /// What opens a collection, with its anchor and tag.
+// Inlined: where the form is known it is short.
+#[inline(always)]
 pub fn put_collection(sink: &mut Sink, context: &Context, spot: Spot, c: char, start: &Start)
     ensures { Puts sink.old sink.new (start_text (lent_context context.now) spot c
         (lent_start start.now) start.now.empty) }

@@ -122,15 +122,16 @@ impl Core {
         }
     }
 
-    // An event in its right place.
+    // An event in its right place, in a form that is known.
     // Inlined into its callers: no call stands between an event's judgement and its text.
     #[inline(always)]
     #[tactic(auto, unfolding(yaml_emit_layout::specs::State::text_at, yaml_emit_layout::specs::State::next_at, yaml_emit_layout::specs::State::depth_at))]
-    fn take(&mut self, event: &mut yaml_event_body_t, empty: bool)
-        requires { HasUtf8 (body_of event.old) }
+    fn take(&mut self, event: &mut yaml_event_body_t, empty: bool, canonical: bool)
+        requires utf8 { HasUtf8 (body_of event.old) }
+        requires form { canonical ≡ self.old.settings.canonical }
         ensures { LaysOutRight self.old self.new (emitter_event (body_of event.old)) empty }
     {
-        let settings = self.settings(self.settings.canonical);
+        let settings = self.settings(canonical);
         let context = Context {
             settings: &settings,
             directives: &self.directives,
@@ -152,7 +153,7 @@ impl Core {
         requires { HasUtf8 (body_of event.old) }
         ensures { LaysOutRight self.old self.new (emitter_event (body_of event.old)) empty }
     {
-        self.take(event, empty);
+        self.take(event, empty, self.settings.canonical);
     }
 
     // The same, where it is known to be a scalar, and in which form.
@@ -217,7 +218,7 @@ impl Core {
         if known {
             self.take_scalar(event, empty, canonical);
         } else {
-            self.take(event, empty);
+            self.take(event, empty, canonical);
         }
     }
 
@@ -253,6 +254,38 @@ impl Core {
         self.lay_by(event, empty, self.settings.canonical, false);
     }
 
+    // What opens a collection, in canonical form.
+    // Out of line: kind and form are known, and what other kinds need takes no room here.
+    #[inline(never)]
+    fn lay_start(&mut self, event: &mut yaml_event_body_t, empty: bool)
+        requires utf8 { HasUtf8 (body_of event.old) }
+        requires form { self.old.settings.canonical ≡ true }
+        ensures { LaysOut self.old self.new (emitter_event (body_of event.old)) empty }
+    {
+        match event {
+            yaml_event_body_t::SequenceStart { .. } | yaml_event_body_t::MappingStart { .. } => {
+                self.lay_by(event, empty, true, false)
+            }
+            _ => self.lay_any(event, empty),
+        }
+    }
+
+    // What ends a collection, in canonical form.
+    // Out of line: kind and form are known, and what other kinds need takes no room here.
+    #[inline(never)]
+    fn lay_end(&mut self, event: &mut yaml_event_body_t, empty: bool)
+        requires utf8 { HasUtf8 (body_of event.old) }
+        requires form { self.old.settings.canonical ≡ true }
+        ensures { LaysOut self.old self.new (emitter_event (body_of event.old)) empty }
+    {
+        match event {
+            yaml_event_body_t::SequenceEnd | yaml_event_body_t::MappingEnd => {
+                self.lay_by(event, empty, true, false)
+            }
+            _ => self.lay_any(event, empty),
+        }
+    }
+
     // In canonical form. A scalar is short where kind and form are known.
     // Out of line: what other kinds and the other form need takes no room here.
     #[inline(never)]
@@ -263,6 +296,12 @@ impl Core {
     {
         match event {
             yaml_event_body_t::Scalar { .. } => self.lay_by(event, empty, true, true),
+            yaml_event_body_t::SequenceStart { .. } | yaml_event_body_t::MappingStart { .. } => {
+                self.lay_start(event, empty)
+            }
+            yaml_event_body_t::SequenceEnd | yaml_event_body_t::MappingEnd => {
+                self.lay_end(event, empty)
+            }
             _ => self.lay_any(event, empty),
         }
     }

@@ -20,7 +20,7 @@ pub use flow::{put_plain, put_single_quoted};
 pub use laws::quoted_spells;
 pub use letters::text;
 pub use page::{Allowed, Chomp, Page, Seen, Style};
-pub use quoted::put_double_quoted;
+pub use quoted::{put_double_quoted, put_opening_quote, put_quoted_inside};
 pub use scalar::put_styled;
 pub use style::{allowed_for, taken};
 pub use table::DirectiveTable;

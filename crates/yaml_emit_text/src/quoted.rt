@@ -4,7 +4,7 @@ ghost use Rattle.std.specs.Prelude.{◌≡◌, ◌<◌, ◌≤◌, ◌∷◌, []
 ghost use Rattle.std.specs.Str.{chars};
 ghost use Rattle.yaml_emit_sink.specs.Sink.{Puts, Owes};
 ghost use Rattle.yaml_emit_sink.specs.Text.{is_break};
-ghost use Rattle.yaml_emit_sink.specs.Layout.{◌▹◌, stay, choose, when, char, letters, blanks, new_line, gap, is_past};
+ghost use Rattle.yaml_emit_sink.specs.Layout.{◌▹◌, stay, choose, when, char, letters, blanks, new_line, gap, word, is_past};
 ghost use Rattle.yaml_emit_text.specs.Runs.{quoted_bounds};
 ghost use Rattle.yaml_emit_text.specs.Quoted.{is_printable, needs_escape, escape_letter, hex_digit, hex_2, hex_4, hex_8, escape_text, first, is_empty, may_fold, fold, escaped, quoted_char, quoted_body, double_quoted};
 
@@ -223,14 +223,35 @@ fn put_quoted_body(sink: &mut Sink, page: Page, value: &str)
     }
 }
 
+/// The quote that opens a double quoted scalar, behind `!` where that is due, with spaces in front where they are due.
+// Inlined: mostly there is room, and it is a store or two.
+#[inline(always)]
+pub fn put_opening_quote(sink: &mut Sink, marked: bool)
+    ensures { Puts sink.old sink.new (when marked (word (33 ∷ [])) ▹ (gap ▹ char 34)) }
+{
+    if marked {
+        sink.put_known_word(b"! \"", b" ! \"");
+    } else {
+        sink.put_known_word(b"\"", b" \"");
+    }
+}
+
+/// What stands behind the quote that opens a double quoted scalar, and the quote that closes it.
+// Inlined: then what it is given needn't stand in memory.
+#[inline(always)]
+pub fn put_quoted_inside(sink: &mut Sink, page: Page, value: &str)
+    ensures { Puts sink.old sink.new (quoted_body page 32 (chars value.now) ▹ char 34) }
+{
+    put_quoted_body(sink, page, value);
+    sink.put('"');
+}
+
 /// A double quoted scalar, with a space in front where one is due. Characters that are not printable, breaks, `"`, `\` and,
 /// with unicode off, what is not ASCII are escaped. Behind the width a space becomes a break and the indentation, unless the
 /// scalar is a simple key, a space goes before, or the space is first or last.
 pub fn put_double_quoted(sink: &mut Sink, page: Page, value: &str)
     ensures { Puts sink.old sink.new (double_quoted page (chars value.now)) }
 {
-    sink.put_gap();
-    sink.put('"');
-    put_quoted_body(sink, page, value);
-    sink.put('"');
+    put_opening_quote(sink, false);
+    put_quoted_inside(sink, page, value);
 }

@@ -81,6 +81,8 @@ fn put_any_node(
 }
 
 // What opens a collection in the innermost one, with what comes before it.
+// Inlined: where the form is known it is short.
+#[inline(always)]
 fn put_start_node(
     sink: &mut Sink,
     context: &Context,

@@ -140,6 +140,8 @@ impl Core {
     }
 
     // A collection is opened, unless it would stand too deep or memory is wanting.
+    // Inlined: a test in front of a call.
+    #[inline(always)]
     fn open_at(&mut self, simple: bool, phase: Phase, flow: bool, indent: Option<u64>)
         ensures state { self.new.sink.status ≡ Status.Going → (n : ℕ) → indent ≡ within n
             → state_of self.new ≡ opened (state_of self.old).directives (state_of self.old).levels
@@ -156,6 +158,9 @@ impl Core {
         }
     }
 
+    // A collection is opened as settings and style have it.
+    // Inlined: where the form is known it is short.
+    #[inline(always)]
     fn open_by(
         &mut self,
         settings: &Settings,

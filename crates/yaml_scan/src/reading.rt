@@ -4,12 +4,12 @@ ghost use Rattle.std.specs.Prelude.{◌≡◌, [], true, false};
 ghost use Rattle.yaml_scan_model.specs.Tokens.{token_of, body_of, no_token};
 ghost use Rattle.yaml_scan_machine.specs.scan_queue.Bare.{is_bare};
 ghost use Rattle.yaml_scan_model.specs.Faults.{fault_of};
-ghost use Rattle.yaml_scan_machine.specs.State.{IsMachine};
+ghost use Rattle.yaml_scan_machine.specs.State.{IsMachine, is_ready};
 ghost use Rattle.yaml_scan_machine.specs.Stood.{MayRead, Steps};
 ghost use Rattle.yaml_scan.specs.Found.{Comes, ReadsOn};
 
 use std::mem;
-use yaml_scan_machine::{Machine, put_fault};
+use yaml_scan_machine::{Machine, Spot};
 use yaml_scan_model::{yaml_fault_t, yaml_token_body_t, yaml_token_t};
 
 /// What reading on came to: the next token is known, or there is none, or a fault stands in the slot that was lent.
@@ -209,7 +209,8 @@ fn read_on(machine: &mut Machine, spares: &mut Vec<Vec<u8>>, fault: &mut yaml_fa
 // Out of line: it is called once, and in line the room of its fault would be set to zero for each token.
 #[inline(never)]
 fn begin(machine: &mut Machine, spares: &mut Vec<Vec<u8>>, fault: &mut yaml_fault_t) -> Sought
-    requires { IsMachine machine.old }
+    requires stands { IsMachine machine.old }
+    requires sought { is_ready machine.old ≡ false }
     ensures { ReadsOn machine.old machine.new (fault_of fault.new) result }
 {
     match machine.start() {
@@ -221,42 +222,46 @@ fn begin(machine: &mut Machine, spares: &mut Vec<Vec<u8>>, fault: &mut yaml_faul
     }
 }
 
-/// Reads on in the decoded text until the next token is known, or there is none.
+/// Reads on in the decoded text until the next token is known, or there is none. It isn't known yet.
 // Out of line: mostly the next token is known.
 #[inline(never)]
 fn fill(machine: &mut Machine, spares: &mut Vec<Vec<u8>>, fault: &mut yaml_fault_t) -> Sought
     requires stands { IsMachine machine.old }
     requires started { machine.old.started ≡ true }
+    requires sought { is_ready machine.old ≡ false }
     ensures { ReadsOn machine.old machine.new (fault_of fault.new) result }
 {
+    let mut spot = Spot::blank();
     'steps: loop {
-        if machine.has_token() {
-            return Sought::Known;
-        }
         if machine.ended {
             return Sought::Nothing;
         }
-        if !step(machine, spares, fault) {
+        if !step(machine, &mut spot, spares, fault) {
             return Sought::Refused;
+        }
+        if machine.has_token() {
+            return Sought::Known;
         }
     }
 }
 
-/// Reads one lexeme, or puts the fault into the slot that was lent.
+/// Reads one lexeme, or puts the fault into the slot that was lent. The place where the lexeme stands gets a slot too.
 // Inlined: it is called at one place.
 #[inline(always)]
-fn step(machine: &mut Machine, spares: &mut Vec<Vec<u8>>, fault: &mut yaml_fault_t) -> bool
+fn step(
+    machine: &mut Machine,
+    spot: &mut Spot,
+    spares: &mut Vec<Vec<u8>>,
+    fault: &mut yaml_fault_t,
+) -> bool
     requires { MayRead machine.old }
     ensures { Steps machine.old machine.new (fault_of fault.new) result }
 {
     if machine.is_new() {
         return machine.begin(fault);
     }
-    match machine.stand() {
-        Ok((kind, spot)) => machine.by_kind(kind, spot, spares, fault),
-        Err(error) => {
-            put_fault(fault, error);
-            false
-        }
+    match machine.stand(spot, fault) {
+        Some(kind) => machine.by_kind(kind, spot, spares, fault),
+        None => false,
     }
 }

@@ -87,6 +87,8 @@ pub fn yaml_parser_scan(parser: &mut yaml_parser_t) -> Result<yaml_token_t, yaml
 
 /// The next token in a slot that is lent (true), or the fault in the other one (false): what `yaml_parser_scan` answers,
 /// with nothing moved. A slot that isn't filled may hold anything afterwards.
+// Inlined: mostly the next token is known.
+#[inline(always)]
 pub fn yaml_parser_scan_into(
     parser: &mut yaml_parser_t,
     token: &mut yaml_token_t,

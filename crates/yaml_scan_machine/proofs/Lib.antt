@@ -12,6 +12,7 @@ pub mod PushLemmas
 pub mod SpellLemmas
 pub mod FrontLemmas
 pub mod GivenLemmas
+pub mod GapLemmas
 pub mod ComesLemmas
 pub mod TakeLemmas
 pub mod LetterLemmas

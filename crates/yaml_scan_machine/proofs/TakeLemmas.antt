@@ -138,7 +138,7 @@ given_room m w rest b i items some =
     let two = front_count-le w.entry in
     omega (arith, few, ends, long, room, two, i.shown.count, i.few, i.long)
 
-first_waits : (d s g : ℕ) (ws : List Waiting) → ready_in d s g ws ≡ true → (w : Waiting) × (rest : List Waiting) × (ws ≡ w ∷ rest)
+pub first_waits : (d s g : ℕ) (ws : List Waiting) → ready_in d s g ws ≡ true → (w : Waiting) × (rest : List Waiting) × (ws ≡ w ∷ rest)
 first_waits d s g [] e = cc
 first_waits d s g (w ∷ ws) e = (w, ws, refl)
 

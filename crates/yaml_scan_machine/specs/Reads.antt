@@ -54,6 +54,14 @@ colon_fault start place = record {
   problem_mark = place;
 }
 
+abbrev pub no_token_fault : yaml_mark_t → ScanFault
+no_token_fault mark = record {
+  problem = problems.NoTokenStart;
+  context = contexts.NextToken;
+  context_mark = mark;
+  problem_mark = mark;
+}
+
 -- Where the candidate of a depth waits, if it is asked for.
 abbrev pub Owns : Machine → ℕ → Bool → Option ℕ → Type 0
 Owns m d false own = own ≡ None

@@ -4,10 +4,11 @@
 mod levels;
 mod machine;
 mod next;
+mod stand;
 mod step;
 mod ways;
 mod word;
 
 pub use levels::Levels;
-pub use machine::{Machine, put_fault};
+pub use machine::Machine;
 pub use next::{Read, Spot};

@@ -13,9 +13,9 @@ use yaml_scan_decode::{stream_encoding, yaml_decode, yaml_text_t};
 use yaml_scan_history::{Entry, Kind, Lexeme, Opens};
 use yaml_scan_model::{
     ScanError, yaml_encoding_t, yaml_fault_t, yaml_mark_t, yaml_memory_fault, yaml_origin_t,
-    yaml_token_body_t, yaml_token_t,
+    yaml_token_t,
 };
-use yaml_scan_queue::{Queue, put_body};
+use yaml_scan_queue::Queue;
 
 /// The state between two lexemes.
 #[derive(Drop)]
@@ -175,6 +175,8 @@ impl<'a> Machine<'a> {
     }
 
     /// Takes the next token, in a slot that is lent and holds no text.
+    // Inlined: it is a part of the way of each token.
+    #[inline(always)]
     pub fn take_token_into(&mut self, slot: &mut yaml_token_t)
         requires stands { IsMachine self.old }
         requires ready { is_ready self.old ≡ true }
@@ -182,21 +184,12 @@ impl<'a> Machine<'a> {
         ensures stands { IsMachine self.new }
         ensures gives { GivesFirst (left_in self.old) (token_of slot.new) (left_in self.new) }
     {
-        let Some(first) = self.waiting.front() else {
-            return;
-        };
-        // The marks are read where they lie: of a lexeme that was taken out they would be copied with all that it has.
-        slot.start_mark = first.entry.lexeme.start;
-        if let Some(before) = first.before(self.given) {
-            slot.end_mark = first.entry.lexeme.start;
+        if self.waiting.give(self.given, slot) {
+            self.dropped += 1;
+            self.given = 0;
+        } else {
             self.given += 1;
-            put_body(&mut slot.body, before.body());
-            return;
         }
-        slot.end_mark = first.entry.lexeme.end;
-        self.dropped += 1;
-        self.given = 0;
-        self.waiting.pop_body(&mut slot.body);
     }
 
     /// Tells the candidate of a lexeme's depth what the lexeme makes of it.
@@ -380,7 +373,7 @@ impl<'a> Machine<'a> {
 /// Puts the fault that a refusal is answered as into a slot.
 // Out of line: in line the room of its copy would be set to zero for each token.
 #[inline(never)]
-pub fn put_fault(slot: &mut yaml_fault_t, error: ScanError)
+pub(crate) fn put_fault(slot: &mut yaml_fault_t, error: ScanError)
     ensures { IsLocated error (fault_of slot.new) }
 {
     *slot = located(error);

@@ -18,13 +18,12 @@ ghost use Rattle.yaml_scan_machine.specs.Reads.{late, lost, required_behind, col
 
 use crate::levels::keeps;
 use crate::machine::Machine;
-use crate::word::{Word, kind_at, read_word};
+use crate::word::{Word, read_word};
 use yaml_scan_history::{Kind, Lexeme, is_fresh, moved_end};
 use yaml_scan_model::{
     Context, Problem, Reader, ScanError, ScanFault, yaml_encoding_t, yaml_mark_t, yaml_token_body_t,
 };
 use yaml_scan_queue::Seen;
-use yaml_scan_words::skip_gap;
 
 /// A lexeme that was read, and what its own token carries.
 #[derive(Drop)]
@@ -62,34 +61,6 @@ impl<'a> Machine<'a> {
     ghost use Rattle.yaml_scan_machine.specs.Comes.{Refused};
     ghost use Rattle.yaml_scan_machine.specs.Stood.{IsStand};
     ghost use Rattle.yaml_scan_machine.specs.Reads.{GivesNext, GivesLexeme, EndsAt, Owns, keyed_by, required_in};
-
-    /// What stands behind the gap, where a lexeme was read before.
-    // Inlined: it is called at one place.
-    #[inline(always)]
-    pub fn stand(&self) -> Result<(Kind, Spot), ScanError>
-        requires stands { IsMachine self.now }
-        requires more { self.now.ended ≡ false }
-        requires some { 0 < self.now.dropped + length self.now.waiting.items }
-        ensures ok { IfOk result (λ r. IsStand self.now r.0 r.1) }
-        ensures refused { IfErr result (Refused self.now) }
-    {
-        let mut reader = Reader::resume(self.text.as_slice(), self.place);
-        let flow = 0 < self.depth;
-        let broke = skip_gap(&mut reader, flow, self.allowed);
-        let mark = reader.stop();
-        let required = self.required();
-        if let Some(start) = late(required, mark) {
-            return Err(no_colon(start, mark));
-        }
-        let spot = Spot {
-            mark,
-            allowed: allowed_behind(self.allowed, broke, flow),
-        };
-        let Some(kind) = kind_at(&reader, flow) else {
-            return Err(ScanError::refusal(Problem::NoTokenStart, Context::NextToken, mark, mark));
-        };
-        Ok((kind, spot))
-    }
 
     /// The lexeme that comes first.
     pub(crate) fn first(&self) -> Read
@@ -403,13 +374,6 @@ impl Stand {
     }
 }
 
-/// Whether a key may begin behind a gap: in block context a break allows one.
-fn allowed_behind(allowed: bool, broke: bool, flow: bool) -> bool
-    ensures { result ≡ (allowed || (broke && not flow)) }
-{
-    allowed || broke && !flow
-}
-
 /// The start of the stream.
 fn stream_start(place: yaml_mark_t, encoding: yaml_encoding_t) -> Read
     ensures lexeme { result.lexeme ≡ record spec.first_lexeme {
@@ -495,7 +459,7 @@ fn finish(
 /// The start of a required candidate, where it is stale at a place.
 // Inlined: the kind is known where it is called.
 #[inline(always)]
-fn late(required: Option<yaml_mark_t>, place: yaml_mark_t) -> Option<yaml_mark_t>
+pub(crate) fn late(required: Option<yaml_mark_t>, place: yaml_mark_t) -> Option<yaml_mark_t>
     ensures { result ≡ late required place }
 {
     let Some(start) = required else {
@@ -533,7 +497,7 @@ fn loses(lexeme: Lexeme) -> bool
 }
 
 /// A simple key's `:` doesn't come.
-fn no_colon(start: yaml_mark_t, place: yaml_mark_t) -> ScanError
+pub(crate) fn no_colon(start: yaml_mark_t, place: yaml_mark_t) -> ScanError
     ensures { result ≡ ScanError.Fault (colon_fault start place) }
 {
     ScanError::refusal(Problem::NoColon, Context::SimpleKey, start, place)

@@ -20,28 +20,28 @@ impl<'a> Machine<'a> {
     pub fn by_kind(
         &mut self,
         kind: Kind,
-        spot: Spot,
+        spot: &Spot,
         spares: &mut Vec<Vec<u8>>,
         fault: &mut yaml_fault_t,
     ) -> bool
-        requires { MayReadAt self.old kind spot }
+        requires { MayReadAt self.old kind spot.now }
         ensures { Steps self.old self.new (fault_of fault.new) result }
     {
         match kind {
-            Kind::FlowEntry => self.flow_entry(&spot, spares, fault),
-            Kind::ValueMark => self.value_mark(&spot, spares, fault),
-            Kind::Plain => self.plain(&spot, spares, fault),
-            Kind::DoubleQuoted => self.double_quoted(&spot, spares, fault),
-            Kind::FlowSequenceEnd => self.sequence_end(&spot, spares, fault),
-            Kind::FlowMappingEnd => self.mapping_end(&spot, spares, fault),
-            Kind::FlowSequenceStart => self.sequence_start(&spot, spares, fault),
-            Kind::FlowMappingStart => self.mapping_start(&spot, spares, fault),
-            Kind::BlockEntry => self.block_entry(&spot, spares, fault),
-            Kind::SingleQuoted => self.single_quoted(&spot, spares, fault),
-            Kind::Anchor => self.anchor(&spot, spares, fault),
-            Kind::Alias => self.alias(&spot, spares, fault),
-            Kind::Tag => self.tag(&spot, spares, fault),
-            _ => self.of_rare(kind, &spot, spares, fault),
+            Kind::FlowEntry => self.flow_entry(spot, spares, fault),
+            Kind::ValueMark => self.value_mark(spot, spares, fault),
+            Kind::Plain => self.plain(spot, spares, fault),
+            Kind::DoubleQuoted => self.double_quoted(spot, spares, fault),
+            Kind::FlowSequenceEnd => self.sequence_end(spot, spares, fault),
+            Kind::FlowMappingEnd => self.mapping_end(spot, spares, fault),
+            Kind::FlowSequenceStart => self.sequence_start(spot, spares, fault),
+            Kind::FlowMappingStart => self.mapping_start(spot, spares, fault),
+            Kind::BlockEntry => self.block_entry(spot, spares, fault),
+            Kind::SingleQuoted => self.single_quoted(spot, spares, fault),
+            Kind::Anchor => self.anchor(spot, spares, fault),
+            Kind::Alias => self.alias(spot, spares, fault),
+            Kind::Tag => self.tag(spot, spares, fault),
+            _ => self.of_rare(kind, spot, spares, fault),
         }
     }
 

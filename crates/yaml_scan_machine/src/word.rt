@@ -39,6 +39,12 @@ pub(crate) fn kind_at(reader: &Reader, flow: bool) -> Option<Kind>
     ensures stands { IfSome result (λ k. Stands k flow reader.now.text reader.now.at) }
 {
     let byte = reader.here();
+    if is_small(byte) {
+        return Some(Kind::Plain);
+    }
+    if let Some(kind) = indicator(byte, flow, reader) {
+        return Some(kind);
+    }
     if is_letter(byte) {
         return Some(Kind::Plain);
     }
@@ -54,13 +60,18 @@ pub(crate) fn kind_at(reader: &Reader, flow: bool) -> Option<Kind>
     if is_document_end(reader) {
         return Some(Kind::DocumentEnd);
     }
-    if let Some(kind) = indicator(byte, flow, reader) {
-        return Some(kind);
-    }
     if starts_plain(reader, flow) {
         return Some(Kind::Plain);
     }
     None
+}
+
+/// Whether the byte is a small letter of ASCII, as most first bytes of plain scalars are.
+#[tactic(auto, unfolding(crate::specs::Stands::is_letter))]
+fn is_small(byte: u8) -> bool
+    ensures { result ≡ true → is_letter byte ≡ true }
+{
+    byte >= b'a' && byte <= b'z'
 }
 
 /// Whether the byte is a letter or digit of ASCII: such a byte starts a plain scalar, wherever it stands.

@@ -1,16 +1,13 @@
 -- The part of a row of slots that holds what waits, and the slots beside it.
-use Rattle.std.proofs.Common.{◌≡◌, ◌≢◌, ℕ, ◌+◌, ◌-◌, ◌<◌, ◌≤◌, List, [], ◌∷◌, ◌++◌, length, take, drop, get_or, get_or-set_other, get_or-set_same, ap, sym, subst, ◌∙◌, inl, inr, arith, true}
+use Rattle.std.proofs.Common.{◌≡◌, ◌≢◌, ℕ, ◌+◌, ◌-◌, ◌<◌, ◌≤◌, List, [], ◌∷◌, ◌++◌, length, take, drop, get_or, get_or-set_other, get_or-set_same, Option, Some, None, refl, ap, sym, subst, ◌∙◌, inl, inr, arith, true}
 use Rattle.std.proofs.Math.ListN.{set}
 use Rattle.std.proofs.Math.Seq.{take-set-lt}
 use Rattle.std.proofs.lemmas.Bool.{cases_lt}
 use Rattle.std.proofs.lemmas.List.{get_or-drop, get_or-take, get_or_default, get_or_append_left, get_or_push, take-append-le, drop-take, drop-set-add, drop-set-lt, drop-drop, drop_all, length-take-le, length-drop, length-set, length_push}
-use Rattle.yaml_scan_history.specs.declared.lexeme.Lexeme.{Lexeme}
-use Rattle.yaml_scan_history.specs.declared.lexeme.Opens.{Opens}
 use Rattle.yaml_scan_queue.specs.declared.waiting.Waiting.{Waiting}
 use Rattle.yaml_scan_model.specs.Tokens.{body_of}
 use Rattle.yaml_scan_queue.specs.Bare.{is_bare}
 use Rattle.yaml_scan_queue.specs.Queue.{AreEmpty}
-use Rattle.yaml_scan_queue.specs.Waits.{marked}
 
 pub part_length : {X : Type 0} → (xs : List X) (f l : ℕ) → l ≤ length xs → length (drop f (take l xs)) ≡ l - f
 part_length xs f l le = length-drop f (take l xs) ∙ ap (λ (n : ℕ). n - f) (length-take-le l xs le)
@@ -93,3 +90,8 @@ empty_all ws f l last e = (
     | inr past ↦ e.1 k w past short
   ]),
 )
+
+-- what is no value is none
+pub none_left : {A : Type 0} (o : Option A) → ((x : A) → o ≡ Some x → ⊥) → o ≡ None
+none_left None not_some = refl
+none_left (Some x) not_some = absurd (not_some x refl)

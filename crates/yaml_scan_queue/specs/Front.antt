@@ -30,13 +30,3 @@ start_count opening.Mapping = 1
 abbrev pub key_count : Bool → ℕ
 key_count true = 1
 key_count false = 0
-
--- the block start, or KEY where none is opened
-abbrev pub start_or_key : Opens → TokenBody
-start_or_key opening.Nothing = key
-start_or_key opening.Sequence = block_sequence_start
-start_or_key opening.Mapping = block_mapping_start
-
--- that of them behind which so many are taken
-abbrev pub part_at : Opens → ℕ → TokenBody
-part_at o n = if nat_lt 0 n then key else start_or_key o

@@ -4,5 +4,5 @@
 mod queue;
 mod waiting;
 
-pub use queue::{Queue, put_body};
+pub use queue::Queue;
 pub use waiting::{Before, Seen, Waiting};

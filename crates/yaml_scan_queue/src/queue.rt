@@ -3,6 +3,7 @@
 ghost use Rattle.std.specs.Prelude.{◌≡◌, ◌++◌, ◌∷◌, [], ◌<◌, ◌↔◌, OnOk, IfSome, IsSome, true, false, length, drop, slice_index_or, slice_set};
 ghost use Rattle.yaml_scan_model.specs.Tokens.{body_of};
 ghost use Rattle.yaml_scan_queue.specs.Bare.{is_bare, is_kind};
+ghost use Rattle.yaml_scan_queue.specs.Hands.{Hands};
 ghost use Rattle.yaml_scan_queue.specs.Waits as waits;
 
 use crate::waiting::Waiting;
@@ -10,7 +11,7 @@ use std::alloc::{AllocError, Global};
 use std::marker::Model;
 use std::mem;
 use yaml_scan_history::{Lexeme, Opens};
-use yaml_scan_model::yaml_token_body_t;
+use yaml_scan_model::{yaml_token_body_t, yaml_token_t};
 
 /// A row of slots, of which those from `first` to `last` hold the lexemes that wait. The others are used again: the body
 /// of none of them has a text, but for an empty one without room, so that nothing is to be let go where one is filled.
@@ -139,22 +140,35 @@ impl Queue {
         None
     }
 
-    /// Takes the first lexeme, and puts what its own token carries into a slot that is lent and holds no text.
+    /// Hands out the next token of the first lexeme, of whose tokens so many were given, into a slot that holds no text:
+    /// whether it is the lexeme's own, with which the lexeme is taken.
+    // The lexeme is looked up once, and its marks are read where they lie: of one that was taken out they would be copied
+    // with all that it has.
     // Inlined: it is called at one place, for each token.
     #[inline(always)]
-    pub fn pop_body(&mut self, to: &mut yaml_token_body_t)
+    pub fn give(&mut self, given: usize, slot: &mut yaml_token_t) -> bool
         requires some { 0 < length self.old.items }
-        requires bare { is_bare (body_of to.old) ≡ true }
-        ensures rest { self.new.items ≡ drop 1 self.old.items }
-        ensures body { (w : Waiting) → to.new ≡ (slice_index_or self.old.items 0 w).body }
+        requires bare { is_bare (body_of slot.old.body) ≡ true }
+        ensures { (w : Waiting) → Hands given (slice_index_or self.old.items 0 w) self.old self.new
+            slot.new result }
     {
-        let slot = &mut self.slots[self.first];
-        hand_out(&mut slot.body, to);
-        self.first += 1;
-        if self.first == self.last {
+        let at = self.first;
+        let first = &self.slots[at];
+        slot.start_mark = first.entry.lexeme.start;
+        if let Some(before) = first.before(given) {
+            slot.end_mark = first.entry.lexeme.start;
+            put_body(&mut slot.body, before.body());
+            return false;
+        }
+        slot.end_mark = first.entry.lexeme.end;
+        hand_out(&mut self.slots[at].body, &mut slot.body);
+        if at + 1 == self.last {
             self.first = 0;
             self.last = 0;
+        } else {
+            self.first = at + 1;
         }
+        true
     }
 }
 
@@ -281,9 +295,9 @@ fn kind(body: &yaml_token_body_t) -> yaml_token_body_t
 }
 
 /// Puts a body to a place that holds no text.
-// Inlined: the body is built in its place.
-#[inline(always)]
-pub fn put_body(to: &mut yaml_token_body_t, body: yaml_token_body_t)
+// No hint: what it calls is inlined into it first, and then it is small enough to be inlined anywhere. With one it would be
+// copied before that, and `replace` would stay a call.
+fn put_body(to: &mut yaml_token_body_t, body: yaml_token_body_t)
     requires { is_bare (body_of to.old) ≡ true }
     ensures { to.new ≡ body }
 {

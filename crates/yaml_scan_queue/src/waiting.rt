@@ -1,9 +1,10 @@
 //! The lexemes that wait, and the tokens that they are spelled out in.
 
-ghost use Rattle.std.specs.Prelude.{◌≡◌, ◌+◌, ◌≤◌, ◌&&◌, ◌==◌, if◌then◌else◌, true, Some, None, option_map};
+ghost use Rattle.std.specs.Prelude.{◌≡◌, ◌&&◌, ◌==◌, if◌then◌else◌, true, Some, None, option_map, ℕ};
 ghost use Rattle.yaml_scan_model.specs.Tokens.{body_of};
 ghost use Rattle.yaml_scan_queue.specs.Bare.{is_bare};
-ghost use Rattle.yaml_scan_queue.specs.Front.{front_at, start_count, key_count, part_at};
+ghost use Rattle.yaml_scan_queue.specs.Front.{front_at, start_at};
+ghost use Rattle.yaml_scan_model.specs.Tokens.{key};
 ghost use Rattle.yaml_scan_queue.specs.Fronted.{token_before};
 ghost use Rattle.yaml_scan_history.specs.History as history;
 ghost use Rattle.yaml_scan_queue.specs.Waits as waits;
@@ -105,11 +106,10 @@ impl Waiting {
         if given < self.entry.ends {
             return Some(Before::BlockEnd);
         }
-        let taken = given - self.entry.ends;
-        if count(self.entry.opens, self.entry.key) <= taken {
+        if stands_alone(self.entry.opens, self.entry.key) {
             return None;
         }
-        Some(start_or_key(self.entry.opens, taken))
+        start(self.entry.opens, self.entry.key, given - self.entry.ends)
     }
 }
 
@@ -137,43 +137,51 @@ impl Before {
     }
 }
 
-/// How many of block start and KEY stand in front of a lexeme's own token.
-// Inlined: a sum, asked for each token.
+/// Whether neither block start nor KEY stands in front of a lexeme's own token, as mostly.
+// Inlined: two bytes are looked at as one.
 #[inline(always)]
-fn count(opens: Opens, is_key: bool) -> usize
-    ensures { result ≡ start_count opens + key_count is_key }
-{
-    let start = starts(opens);
-    if is_key { start + 1 } else { start }
-}
-
-/// How many block starts.
-// Inlined: a comparison.
-#[inline(always)]
-fn starts(opens: Opens) -> usize
-    ensures count { result ≡ start_count opens }
-    ensures few { result ≤ 1 }
+fn stands_alone(opens: Opens, is_key: bool) -> bool
+    ensures { result ≡ true → (taken : ℕ) → start_at opens is_key taken ≡ None }
 {
     match opens {
-        Opens::Nothing => 0,
-        _ => 1,
+        Opens::Nothing => !is_key,
+        _ => false,
     }
 }
 
-/// The block start, where it is the first, or else KEY.
+/// The block start, and then KEY, behind so many of them.
 // Inlined: it is called at one place.
 #[inline(always)]
-fn start_or_key(opens: Opens, taken: usize) -> Before
-    ensures { token_before result ≡ part_at opens taken }
+fn start(opens: Opens, is_key: bool, taken: usize) -> Option<Before>
+    ensures { option_map token_before result ≡ start_at opens is_key taken }
 {
-    if 0 < taken {
-        return Before::Key;
-    }
     match opens {
-        Opens::Nothing => Before::Key,
-        Opens::Sequence => Before::BlockSequenceStart,
-        Opens::Mapping => Before::BlockMappingStart,
+        Opens::Nothing => key(is_key, taken == 0),
+        Opens::Sequence => {
+            if taken == 0 {
+                return Some(Before::BlockSequenceStart);
+            }
+            key(is_key, taken - 1 == 0)
+        }
+        Opens::Mapping => {
+            if taken == 0 {
+                return Some(Before::BlockMappingStart);
+            }
+            key(is_key, taken - 1 == 0)
+        }
     }
+}
+
+/// KEY, where it is its turn.
+// Inlined: a comparison.
+#[inline(always)]
+fn key(is_key: bool, here: bool) -> Option<Before>
+    ensures { option_map token_before result ≡ (if is_key && here then Some key else None) }
+{
+    if is_key && here {
+        return Some(Before::Key);
+    }
+    None
 }
 
 /// What a lexeme that waits says to one that looks back for the candidate of a depth.

@@ -1,3 +1,4 @@
+use Rattle.std.proofs.Common.{◌∙◌}
 use Rattle.yaml_scan_model.specs.Faults.{fault_of}
 use Rattle.yaml_scan.proofs.FoundLemmas.{reads_behind}
 use Rattle.yaml_scan.proofs.reading.begin.Goals as goal
@@ -7,6 +8,9 @@ fill-requires-clause-stands c = c.in-Ok.ensures.stands
 
 pub fill-requires-clause-started : goal.fill-requires-clause-started
 fill-requires-clause-started c = c.in-Ok.ensures.started
+
+pub fill-requires-clause-sought : goal.fill-requires-clause-sought
+fill-requires-clause-sought c = c.in-Ok.ensures.ready ∙ c.requires.sought
 
 pub returns-in-Ok : goal.returns-in-Ok
 returns-in-Ok c = reads_behind c.args.machine.now c.start.new.self c.fill.new.machine (fault_of c.fill.new.fault) c.fill.result c.in-Ok.ensures.left c.in-Ok.ensures.ready c.fill.ensures

@@ -5,7 +5,7 @@ use Rattle.yaml_scan_machine.specs.Comes.{to_come}
 use Rattle.yaml_scan.proofs.reading.fill.Given as goal
 
 abbrev pub invariant-steps : goal.invariant-steps
-invariant-steps l = record { stands : IsMachine l.machine; same : to_come l.machine ≡ to_come l.fn.machine; started : l.machine.started ≡ true; sought : is_ready l.machine ≡ false → is_ready l.fn.machine ≡ false }
+invariant-steps l = record { stands : IsMachine l.machine; same : to_come l.machine ≡ to_come l.fn.machine; started : l.machine.started ≡ true; sought : is_ready l.machine ≡ false }
 
 abbrev pub decreases-steps : goal.decreases-steps
 decreases-steps l = length (text_bytes l.machine.text) + 2 - (l.machine.dropped + length l.machine.waiting.items)

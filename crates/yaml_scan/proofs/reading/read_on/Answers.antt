@@ -3,3 +3,9 @@ use Rattle.yaml_scan.proofs.reading.read_on.Goals as goal
 
 pub returns-then-has_token : goal.returns-then-has_token
 returns-then-has_token c = record { stands = c.requires; left = refl; ready = sym c.has_token.ensures ∙ c.if-has_token.true }
+
+pub fill-requires-clause-sought : goal.fill-requires-clause-sought
+fill-requires-clause-sought c = sym c.has_token.ensures ∙ c.if-has_token.false
+
+pub begin-requires-clause-sought : goal.begin-requires-clause-sought
+begin-requires-clause-sought c = sym c.has_token.ensures ∙ c.if-has_token.false

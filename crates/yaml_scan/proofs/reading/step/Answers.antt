@@ -1,3 +1,4 @@
+use Rattle.std.proofs.Common.{refl}
 use Rattle.yaml_scan.proofs.reading.step.Goals as goal
 
 pub is_new-requires : goal.is_new-requires
@@ -28,13 +29,13 @@ pub stand-requires-clause-some : goal.stand-requires-clause-some
 stand-requires-clause-some c = c.is_new.ensures.some c.if-is_new.false
 
 pub by_kind-requires : goal.by_kind-requires
-by_kind-requires c = record { may = c.requires; stand = c.in-Ok.ensures.ok }
+by_kind-requires c = record { may = c.requires; stand = c.in-Some.ensures.some }
 
-pub returns-in-Err : goal.returns-in-Err
-returns-in-Err c = ((c.in-Err.error, c.in-Err.ensures.refused, c.put_fault.ensures), c.requires.stands.short)
+pub returns-in-None : goal.returns-in-None
+returns-in-None c = (c.in-None.ensures.none refl, c.requires.stands.short)
 
 pub returns-then-is_new : goal.returns-then-is_new
 returns-then-is_new c = c.begin.ensures
 
-pub returns-in-Ok : goal.returns-in-Ok
-returns-in-Ok c = c.by_kind.ensures
+pub returns-in-Some : goal.returns-in-Some
+returns-in-Some c = c.by_kind.ensures

@@ -1,9 +1,11 @@
-use Rattle.std.proofs.Common.{subst, ℕ, sym, ◌∙◌, ◌≡◌, true}
-use Rattle.yaml_scan_model.specs.Marks.{byte}
+use Rattle.std.proofs.Common.{subst, ℕ, ◌+◌, sym, ◌∙◌, ◌≡◌, true, Some}
+use Rattle.yaml_scan_model.specs.Marks.{byte, is_blank_or_end}
+use Rattle.yaml_scan_history.specs.Words.{indicator_of}
 use Rattle.yaml_scan_machine.specs.Stands.{is_letter}
 use Rattle.yaml_scan_machine.proofs.LetterLemmas.{letter_kind, letter_starts}
 use Rattle.yaml_scan_machine.specs.Stands.{Told}
 use Rattle.yaml_scan_machine.proofs.StandsLemmas.{told_stands}
+use Rattle.yaml_scan_machine.proofs.GapLemmas.{told_kind}
 use Rattle.yaml_scan_machine.proofs.word.kind_at.Goals as goal
 
 pub returns-in-Some-clause-stands : goal.returns-in-Some-clause-stands
@@ -20,3 +22,18 @@ pub returns-then-is_letter-clause-stands : goal.returns-then-is_letter-clause-st
 returns-then-is_letter-clause-stands c =
     let h : is_letter (byte c.args.reader.now.text c.args.reader.now.at) ≡ true = rw c.here-byte.ensures at (sym c.is_letter.ensures ∙ c.if-is_letter.true) in
     letter_starts c.args.flow c.args.reader.now.text c.args.reader.now.at h
+
+pub returns-then-is_small-clause-value : goal.returns-then-is_small-clause-value
+returns-then-is_small-clause-value c =
+    let h : is_letter (byte c.args.reader.now.text c.args.reader.now.at) ≡ true = rw c.here-byte.ensures at c.is_small.ensures c.if-is_small.true in
+    sym (letter_kind c.args.flow c.args.reader.now.text c.args.reader.now.at h)
+
+pub returns-then-is_small-clause-stands : goal.returns-then-is_small-clause-stands
+returns-then-is_small-clause-stands c =
+    let h : is_letter (byte c.args.reader.now.text c.args.reader.now.at) ≡ true = rw c.here-byte.ensures at c.is_small.ensures c.if-is_small.true in
+    letter_starts c.args.flow c.args.reader.now.text c.args.reader.now.at h
+
+pub returns-in-Some-clause-value : goal.returns-in-Some-clause-value
+returns-in-Some-clause-value c =
+    let some : indicator_of c.args.flow (is_blank_or_end c.args.reader.now.text (c.args.reader.now.at + 1)) (byte c.args.reader.now.text c.args.reader.now.at) ≡ Some c.in-Some.kind = rw c.here-byte.ensures at (sym c.in-Some.ensures.value) in
+    sym (told_kind c.args.flow c.args.reader.now.text c.args.reader.now.at c.in-Some.kind some)

@@ -1,57 +1,74 @@
-use Rattle.std.proofs.Common.{◌≡◌, List, [], ◌∷◌, sym, ap, subst, ◌∙◌, arith, ◌+◌, length, get_or, true, refl, Some, None}
-use Rattle.std.specs.Prelude.{map, option_map}
+use Rattle.std.proofs.Common.{◌≡◌, Bool, List, [], ◌∷◌, sym, ap, subst, ◌∙◌, arith, ◌+◌, length, get_or, true, refl}
+use Rattle.std.specs.Prelude.{map}
 use Rattle.yaml_scan_decode.specs.DecodedText.{text_bytes}
-use Rattle.yaml_scan_model.specs.Tokens.{Token, TokenBody, body_of}
+use Rattle.yaml_scan_model.specs.Tokens.{Token, TokenBody, body_of, token_of}
 use Rattle.yaml_scan_history.specs.Remaining.{remaining, before, body_in, token_in}
+use Rattle.yaml_scan_laws_order.specs.Fronts.{GivesFirst}
+use Rattle.yaml_scan_machine.specs.Scanned.{left_in}
 use Rattle.yaml_scan_queue.specs.declared.waiting.Waiting.{Waiting}
-use Rattle.yaml_scan_machine.specs.State.{ready_in, AreInside, AreBounded}
-use Rattle.yaml_scan_machine.proofs.SafeLemmas.{inside_rest, none_left}
+use Rattle.yaml_scan_machine.specs.State.{IsMachine, ready_in, AreInside, AreBounded}
+use Rattle.yaml_scan_machine.proofs.SafeLemmas.{inside_rest}
 use Rattle.yaml_scan_machine.specs.Shows.{fields_of, stream_of, AreSpoken}
-use Rattle.yaml_scan_queue.specs.Front.{front_at}
-use Rattle.yaml_scan_queue.specs.Fronted.{token_before}
+use Rattle.yaml_scan_queue.specs.Line.{Line}
+use Rattle.yaml_scan_queue.specs.Hands.{Hands, IsInFront, IsItsOwn}
 use Rattle.yaml_scan_machine.proofs.BoundLemmas.{bound_rest}
 use Rattle.yaml_scan_machine.proofs.FrontLemmas.{shown_popped}
 use Rattle.yaml_scan_machine.proofs.PushLemmas.{spoken_rest}
 use Rattle.yaml_scan_machine.proofs.GivenLemmas.{given_none, own_settled}
-use Rattle.yaml_scan_machine.proofs.TakeLemmas.{front_waits, popped_waits, gives_front, gives_own, given_room, stands_more}
+use Rattle.yaml_scan_machine.proofs.TakeLemmas.{first_waits, popped_waits, gives_front, gives_own, given_room, stands_more}
 use Rattle.yaml_scan_machine.proofs.ComesLemmas.{left_gives, ready_started}
 use Rattle.yaml_scan_machine.proofs.machine.Machine.take_token_into.Goals as goal
 
-pub overflow_add-self : goal.overflow_add-self
-overflow_add-self c =
+pub give-requires-clause-some : goal.give-requires-clause-some
+give-requires-clause-some c =
     let m = c.args.self.now in
-    let w = c.in-Some.first.now in
-    let (rest, items) = front_waits m w c.requires.ready c.in-Some.ensures.lookup in
-    let some : front_at w.entry m.given ≡ Some (token_before c.in-Some-before.before) = sym c.before-2.ensures ∙ ap (option_map token_before) c.in-Some-before.is in
-    let room = given_room m w rest (token_before c.in-Some-before.before) c.requires.stands items some in
+    let (front, rest, items) = first_waits m.dropped m.settled m.given m.waiting.items c.requires.ready in
+    let len : length m.waiting.items ≡ length rest + 1 = ap (λ (ws : List Waiting). length ws) items ∙ omega arith in
+    omega (arith, len)
+
+pub overflow_add-self-else-give : goal.overflow_add-self-else-give
+overflow_add-self-else-give c =
+    let m = c.args.self.now in
+    let (front, rest, items) = first_waits m.dropped m.settled m.given m.waiting.items c.requires.ready in
+    let here : get_or m.waiting.items 0 front ≡ front = ap (λ (ws : List Waiting). get_or ws 0 front) items in
+    let first : Hands m.given front m.waiting c.give.new.self c.give.new.slot c.give.result = subst (λ (w : Waiting). Hands m.given w m.waiting c.give.new.self c.give.new.slot c.give.result) here (c.give.ensures front) in
+    let hands : IsInFront m.given front m.waiting c.give.new.self c.give.new.slot = subst (λ (b : Bool). Hands m.given front m.waiting c.give.new.self c.give.new.slot b) c.if-give.false first in
+    let room = given_room m front rest (body_of c.give.new.slot.body) c.requires.stands items hands.some in
     omega (arith, room)
 
-pub returns-in-Some-before-clause-stands : goal.returns-in-Some-before-clause-stands
-returns-in-Some-before-clause-stands c =
+pub returns-else-give-clause-stands : goal.returns-else-give-clause-stands
+returns-else-give-clause-stands c =
     let m = c.args.self.now in
-    let w = c.in-Some.first.now in
-    let (rest, items) = front_waits m w c.requires.ready c.in-Some.ensures.lookup in
-    let some : front_at w.entry m.given ≡ Some (token_before c.in-Some-before.before) = sym c.before-2.ensures ∙ ap (option_map token_before) c.in-Some-before.is in
-    stands_more m w rest (token_before c.in-Some-before.before) c.requires.stands items c.requires.ready some
+    let (front, rest, items) = first_waits m.dropped m.settled m.given m.waiting.items c.requires.ready in
+    let here : get_or m.waiting.items 0 front ≡ front = ap (λ (ws : List Waiting). get_or ws 0 front) items in
+    let first : Hands m.given front m.waiting c.give.new.self c.give.new.slot c.give.result = subst (λ (w : Waiting). Hands m.given w m.waiting c.give.new.self c.give.new.slot c.give.result) here (c.give.ensures front) in
+    let hands : IsInFront m.given front m.waiting c.give.new.self c.give.new.slot = subst (λ (b : Bool). Hands m.given front m.waiting c.give.new.self c.give.new.slot b) c.if-give.false first in
+    subst (λ (q : Line). IsMachine record m { waiting = q; given = m.given + 1 }) (sym hands.same) (stands_more m front rest (body_of c.give.new.slot.body) c.requires.stands items c.requires.ready hands.some)
 
-pub returns-in-Some-before-clause-gives : goal.returns-in-Some-before-clause-gives
-returns-in-Some-before-clause-gives c =
+pub returns-else-give-clause-gives : goal.returns-else-give-clause-gives
+returns-else-give-clause-gives c =
     let m = c.args.self.now in
-    let w = c.in-Some.first.now in
-    let b = body_of c.put_body.new.to in
-    let (rest, items) = front_waits m w c.requires.ready c.in-Some.ensures.lookup in
-    let some : front_at w.entry m.given ≡ Some b = sym c.before-2.ensures ∙ ap (option_map token_before) c.in-Some-before.is ∙ ap Some (sym (ap body_of c.put_body.ensures ∙ c.body.ensures)) in
-    let (tokens, fault) = gives_front m w rest b c.requires.stands items c.requires.ready some in
+    let (front, rest, items) = first_waits m.dropped m.settled m.given m.waiting.items c.requires.ready in
+    let here : get_or m.waiting.items 0 front ≡ front = ap (λ (ws : List Waiting). get_or ws 0 front) items in
+    let first : Hands m.given front m.waiting c.give.new.self c.give.new.slot c.give.result = subst (λ (w : Waiting). Hands m.given w m.waiting c.give.new.self c.give.new.slot c.give.result) here (c.give.ensures front) in
+    let hands : IsInFront m.given front m.waiting c.give.new.self c.give.new.slot = subst (λ (b : Bool). Hands m.given front m.waiting c.give.new.self c.give.new.slot b) c.if-give.false first in
+    let b = body_of c.give.new.slot.body in
+    let (tokens, fault) = gives_front m front rest b c.requires.stands items c.requires.ready hands.some in
     let on = ready_started m c.requires.stands c.requires.ready in
-    left_gives m record m { given = m.given + 1 } (before b w.entry.lexeme) on on (tokens, fault)
+    let is : token_of c.give.new.slot ≡ before b front.entry.lexeme = rw (hands.start, hands.end) refl in
+    let gives : GivesFirst (left_in m) (before b front.entry.lexeme) (left_in record m { given = m.given + 1 }) = left_gives m record m { given = m.given + 1 } (before b front.entry.lexeme) on on (tokens, fault) in
+    subst (λ (q : Line). GivesFirst (left_in m) (token_of c.give.new.slot) (left_in record m { waiting = q; given = m.given + 1 })) (sym hands.same) (subst (λ (t : Token). GivesFirst (left_in m) t (left_in record m { given = m.given + 1 })) (sym is) gives)
 
-pub returns-clause-stands : goal.returns-clause-stands
-returns-clause-stands c =
+pub returns-then-give-clause-stands : goal.returns-then-give-clause-stands
+returns-then-give-clause-stands c =
     let m = c.args.self.now in
-    let front = c.in-Some.first.now in
-    let rest = c.pop_body.new.self.items in
-    let items = popped_waits m front rest c.requires.ready c.in-Some.ensures.lookup c.pop_body.ensures.rest in
-    let none : front_at front.entry m.given ≡ None = sym c.before-2.ensures ∙ ap (option_map token_before) (none_left c.before-2.result c.in_default-before.not-Some) in
+    let (front, after, start) = first_waits m.dropped m.settled m.given m.waiting.items c.requires.ready in
+    let here : get_or m.waiting.items 0 front ≡ front = ap (λ (ws : List Waiting). get_or ws 0 front) start in
+    let first : Hands m.given front m.waiting c.give.new.self c.give.new.slot c.give.result = subst (λ (w : Waiting). Hands m.given w m.waiting c.give.new.self c.give.new.slot c.give.result) here (c.give.ensures front) in
+    let hands : IsItsOwn m.given front m.waiting c.give.new.self c.give.new.slot = subst (λ (b : Bool). Hands m.given front m.waiting c.give.new.self c.give.new.slot b) c.if-give.true first in
+    let rest = c.give.new.self.items in
+    let items = popped_waits m front rest c.requires.ready (sym here) hands.rest in
+    let none = hands.none in
     let ready : ready_in m.dropped m.settled m.given (front ∷ rest) ≡ true = ap (λ (ws : List Waiting). ready_in m.dropped m.settled m.given ws) (sym items) ∙ c.requires.ready in
     let low = own_settled m.dropped m.settled m.given front rest ready none in
     let len : length m.waiting.items ≡ length rest + 1 = ap (λ (ws : List Waiting). length ws) items ∙ omega arith in
@@ -74,19 +91,22 @@ returns-clause-stands c =
       spoken = spoken_rest (stream_of m) front rest (subst (λ (ws : List Waiting). AreSpoken (stream_of m) ws) items c.requires.stands.spoken);
     }
 
-pub returns-clause-gives : goal.returns-clause-gives
-returns-clause-gives c =
+pub returns-then-give-clause-gives : goal.returns-then-give-clause-gives
+returns-then-give-clause-gives c =
     let m = c.args.self.now in
-    let front = c.in-Some.first.now in
-    let rest = c.pop_body.new.self.items in
-    let items = popped_waits m front rest c.requires.ready c.in-Some.ensures.lookup c.pop_body.ensures.rest in
-    let none : front_at front.entry m.given ≡ None = sym c.before-2.ensures ∙ ap (option_map token_before) (none_left c.before-2.result c.in_default-before.not-Some) in
+    let (front, after, start) = first_waits m.dropped m.settled m.given m.waiting.items c.requires.ready in
+    let here : get_or m.waiting.items 0 front ≡ front = ap (λ (ws : List Waiting). get_or ws 0 front) start in
+    let first : Hands m.given front m.waiting c.give.new.self c.give.new.slot c.give.result = subst (λ (w : Waiting). Hands m.given w m.waiting c.give.new.self c.give.new.slot c.give.result) here (c.give.ensures front) in
+    let hands : IsItsOwn m.given front m.waiting c.give.new.self c.give.new.slot = subst (λ (b : Bool). Hands m.given front m.waiting c.give.new.self c.give.new.slot b) c.if-give.true first in
+    let rest = c.give.new.self.items in
+    let items = popped_waits m front rest c.requires.ready (sym here) hands.rest in
+    let none = hands.none in
     let ready : ready_in m.dropped m.settled m.given (front ∷ rest) ≡ true = ap (λ (ws : List Waiting). ready_in m.dropped m.settled m.given ws) (sym items) ∙ c.requires.ready in
     let low = own_settled m.dropped m.settled m.given front rest ready none in
     let spoken : body_of front.body ≡ body_in (stream_of m) front.entry.lexeme = subst (λ (ws : List Waiting). AreSpoken (stream_of m) ws) items c.requires.stands.spoken 0 front (omega arith) in
-    let body : c.pop_body.new.to ≡ front.body = c.pop_body.ensures.body front ∙ ap (λ (ws : List Waiting). (get_or ws 0 front).body) items in
     let given : TokenBody → Token = λ b. record { body = b; start_mark = front.entry.lexeme.start; end_mark = front.entry.lexeme.end } in
-    let own : token_in (stream_of m) front.entry.lexeme ≡ given (body_of c.pop_body.new.to) = ap given (sym spoken ∙ ap body_of (sym body)) in
+    let own : token_in (stream_of m) front.entry.lexeme ≡ given (body_of c.give.new.slot.body) = ap given (sym spoken ∙ ap body_of (sym hands.body)) in
+    let is : token_of c.give.new.slot ≡ given (body_of c.give.new.slot.body) = rw (hands.start, hands.end) refl in
     let (tokens, fault) = gives_own m front rest c.requires.stands items low none in
     let on = ready_started m c.requires.stands c.requires.ready in
-    left_gives m record m { waiting = c.pop_body.new.self; dropped = m.dropped + 1; given = 0 } (given (body_of c.pop_body.new.to)) on on (tokens ∙ ap (λ (t : Token). t ∷ (remaining (stream_of m) (m.dropped + 1) 0).tokens) own, fault)
+    left_gives m record m { waiting = c.give.new.self; dropped = m.dropped + 1; given = 0 } (token_of c.give.new.slot) on on (tokens ∙ ap (λ (t : Token). t ∷ (remaining (stream_of m) (m.dropped + 1) 0).tokens) (own ∙ sym is), fault)

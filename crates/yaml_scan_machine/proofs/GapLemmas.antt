@@ -1,0 +1,94 @@
+-- A gap that is nothing or one space, and a kind that the first byte tells.
+use Rattle.std.proofs.Common.{◌≡◌, ◌≢◌, ℕ, ◌+◌, ◌==◌, ◌&&◌, ◌||◌, ltb, not, Bool, true, false, List, length, Some, None, refl, ◌∙◌, arith}
+use Rattle.std.proofs.lemmas.Bool.Decides.{nat_tests}
+use Rattle.yaml_scan_model.specs.Marks.{byte, break_width, column_at, is_blank_or_end}
+use Rattle.yaml_scan_model.proofs.MarksLemmas.{no_break}
+use Rattle.yaml_scan_words.specs.Between.{gap_at}
+use Rattle.yaml_scan_words.specs.Indicators.{is_document_start, is_document_end}
+use Rattle.yaml_scan_words.proofs.BetweenLemmas.{lexeme_here, space_here, gap_blank, gap_stop}
+use Rattle.yaml_scan_history.specs.declared.kind.Kind.{Kind}
+use Rattle.yaml_scan_history.specs.Words.{kind_at, indicator_of}
+
+-- the byte begins no blank, comment or break
+abbrev pub goes_on : ℕ → Bool
+goes_on b = ltb 32 b && (ltb b 128 && not (b == 35))
+
+-- so does a `"`
+pub quote_goes_on : (b : ℕ) → b ≡ 34 → goes_on b ≡ true
+quote_goes_on b h = rw h refl
+
+-- nothing stands between
+pub no_gap : (flow allowed : Bool) (text : List ℕ) (p : ℕ) → goes_on (byte text p) ≡ true → gap_at flow allowed text p ≡ record { place = p; broke = false }
+no_gap flow allowed text p h = gap_stop (length text) flow allowed text p p (lexeme_here (flow || not allowed) text p h) (omega arith)
+
+-- a space stands between
+pub one_space : (flow allowed : Bool) (text : List ℕ) (p : ℕ) → byte text p ≡ 32 → goes_on (byte text (p + 1)) ≡ true → gap_at flow allowed text p ≡ record { place = p + 1; broke = false }
+one_space flow allowed text p space h =
+    let (m, room, far, inside, same) = gap_blank (length text) flow allowed text p (p + 1) (space_here (flow || not allowed) text p space) (omega arith) in
+    same ∙ gap_stop m flow allowed text (p + 1) (p + 1) (lexeme_here (flow || not allowed) text (p + 1) h) room
+
+none_by : (flow alone : Bool) (b n : ℕ) (k : Kind) → indicator_of flow alone b ≡ Some k → indicator_of flow alone n ≡ None → b ≢ n
+none_by flow alone b n k some none = λ same. let bad : indicator_of flow alone b ≡ None = rw same none in cc
+
+tells_no_end : (flow alone : Bool) → indicator_of flow alone 0 ≡ None
+unfolding indicator_of
+tells_no_end flow alone = refl
+
+tells_no_percent : (flow alone : Bool) → indicator_of flow alone 37 ≡ None
+unfolding indicator_of
+tells_no_percent flow alone = refl
+
+tells_no_dot : (flow alone : Bool) → indicator_of flow alone 46 ≡ None
+unfolding indicator_of
+tells_no_dot flow alone = refl
+
+tells_no_dash : (flow : Bool) → indicator_of flow false 45 ≡ None
+unfolding indicator_of
+tells_no_dash flow = refl
+
+differs : (b n : ℕ) → b ≢ n → (b == n) ≡ false
+differs b n h = grind (arith, nat_tests)
+
+equal_of : (a b : ℕ) → (a == b) ≡ true → a ≡ b
+equal_of a b h = grind (arith, nat_tests)
+
+dash_follows : (text : List ℕ) (p : ℕ) → byte text p ≡ 45 → is_blank_or_end text p ≡ false
+dash_follows text p h =
+    let none : break_width text p ≡ 0 = no_break _ _ _ (omega arith) (omega arith) (omega arith) (omega arith) in
+    rw (none, h) refl
+
+no_thrice : (first a b c last : Bool) → (a && b) ≡ false → ((first && (a && (b && c))) && last) ≡ false
+no_thrice true true true c last h = cc
+no_thrice true true false c last h = refl
+no_thrice true false b c last h = refl
+no_thrice false a b c last h = refl
+
+not_both : (a b : Bool) → (b ≡ true → a ≡ false) → (a && b) ≡ false
+not_both true true h = h refl
+not_both true false h = refl
+not_both false b h = refl
+
+no_start : (flow : Bool) (text : List ℕ) (p : ℕ) (k : Kind) → indicator_of flow (is_blank_or_end text (p + 1)) (byte text p) ≡ Some k → is_document_start text p ≡ false
+unfolding is_document_start
+no_start flow text p k some =
+    no_thrice (column_at text p == 0) (byte text p == 45) (byte text (p + 1) == 45) (byte text (p + 2) == 45) (is_blank_or_end text (p + 3)) (not_both _ _ (λ second.
+    let alone : is_blank_or_end text (p + 1) ≡ false = dash_follows text (p + 1) (equal_of _ _ second) in
+    differs _ _ (none_by flow false (byte text p) 45 k (rw alone at some) (tells_no_dash flow))))
+
+no_end : (text : List ℕ) (p : ℕ) → byte text p ≢ 46 → is_document_end text p ≡ false
+unfolding is_document_end
+no_end text p h = no_thrice (column_at text p == 0) (byte text p == 46) (byte text (p + 1) == 46) (byte text (p + 2) == 46) (is_blank_or_end text (p + 3)) (rw (differs _ _ h) refl)
+
+-- what an indicator tells is the kind
+pub told_kind : (flow : Bool) (text : List ℕ) (p : ℕ) (k : Kind) → indicator_of flow (is_blank_or_end text (p + 1)) (byte text p) ≡ Some k → kind_at flow text p ≡ Some k
+unfolding kind_at
+told_kind flow text p k some =
+    let alone = is_blank_or_end text (p + 1) in
+    let b = byte text p in
+    rw (
+      differs b 0 (none_by flow alone b 0 k some (tells_no_end flow alone)),
+      differs b 37 (none_by flow alone b 37 k some (tells_no_percent flow alone)),
+      no_start flow text p k some,
+      no_end text p (none_by flow alone b 46 k some (tells_no_dot flow alone)),
+      some,
+    ) refl

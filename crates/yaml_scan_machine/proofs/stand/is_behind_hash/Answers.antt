@@ -1,0 +1,13 @@
+use Rattle.std.proofs.Common.{arith}
+use Rattle.std.proofs.lemmas.Bool.Decides.{nat_tests}
+use Rattle.yaml_scan_machine.proofs.stand.is_behind_hash.Goals as goal
+
+pub returns-then-byte-gt35 : goal.returns-then-byte-gt35
+returns-then-byte-gt35 c =
+    let past = c.if-byte-gt35.true in
+    λ h. grind (arith, nat_tests)
+
+pub returns-else-byte-gt35 : goal.returns-else-byte-gt35
+returns-else-byte-gt35 c =
+    let past = c.if-byte-gt35.false in
+    λ h. grind (arith, nat_tests)

@@ -1,0 +1,127 @@
+//! Where the next lexeme stands, and of which kind it is.
+
+ghost use Rattle.std.specs.Prelude.{◌≡◌, ◌+◌, ◌<◌, ◌&&◌, ◌||◌, ◌==◌, not, nat_lt, IfSome, None, true, false, length};
+ghost use Rattle.yaml_scan_model.specs.Faults.{fault_of};
+ghost use Rattle.yaml_scan_words.specs.Between.{gap_at};
+ghost use Rattle.yaml_scan_machine.specs.Reads.{colon_fault, no_token_fault};
+ghost use Rattle.yaml_scan_machine.specs.Scanned.{IsLocated};
+
+use crate::machine::{Machine, put_fault};
+use crate::next::{Spot, late, no_colon};
+use crate::word::kind_at;
+use yaml_scan_history::Kind;
+use yaml_scan_model::{Context, Problem, Reader, ScanError, yaml_fault_t, yaml_mark_t};
+use yaml_scan_words::skip_gap;
+
+impl<'a> Machine<'a> {
+    ghost use Rattle.yaml_scan_machine.specs.State.{IsMachine};
+    ghost use Rattle.yaml_scan_machine.specs.Stood.{IsStand, IsRefused};
+
+    /// The kind of what stands behind the gap, where a lexeme was read before, with its place in a slot; or nothing, and the
+    /// fault is put into the other slot.
+    // The place is written where it is lent on: one that is answered goes by way of the stack.
+    // Inlined: it is called at one place.
+    #[inline(always)]
+    pub fn stand(&self, spot: &mut Spot, fault: &mut yaml_fault_t) -> Option<Kind>
+        requires stands { IsMachine self.now }
+        requires more { self.now.ended ≡ false }
+        requires some { 0 < self.now.dropped + length self.now.waiting.items }
+        ensures some { IfSome result (λ k. IsStand self.now k spot.new) }
+        ensures none { result ≡ None → IsRefused self.now (fault_of fault.new) }
+    {
+        let mut reader = Reader::resume(self.text.as_slice(), self.place);
+        let flow = 0 < self.depth;
+        let broke = pass_gap(&mut reader, flow, self.allowed);
+        spot.mark = reader.stop();
+        let required = self.required();
+        if let Some(start) = late(required, spot.mark) {
+            put_late(fault, start, spot.mark);
+            return None;
+        }
+        spot.allowed = allowed_behind(self.allowed, broke, flow);
+        let Some(kind) = kind_at(&reader, flow) else {
+            put_no_token(fault, spot.mark);
+            return None;
+        };
+        Some(kind)
+    }
+}
+
+impl Spot {
+    /// A place that nothing is said of yet.
+    pub fn blank() -> Spot {
+        let mark = yaml_mark_t {
+            index: 0,
+            line: 0,
+            column: 0,
+        };
+        Spot {
+            mark,
+            allowed: false,
+        }
+    }
+}
+
+/// Past what stands between lexemes, and whether a break was among it. Mostly it is nothing or one space, which is asked
+/// before the loop over all that may stand there.
+// Inlined: a reader that is lent to a call lives in memory.
+#[inline(always)]
+fn pass_gap(reader: &mut Reader, flow: bool, allowed: bool) -> bool
+    ensures gap { gap_at flow allowed reader.old.text reader.old.at
+        ≡ record { place = reader.new.at; broke = result } }
+    ensures text { reader.new.text ≡ reader.old.text }
+{
+    let byte = reader.here();
+    if is_behind_hash(byte) {
+        return false;
+    }
+    if byte == b' ' {
+        if begins(reader.byte(1)) {
+            reader.skip();
+            return false;
+        }
+    } else if byte == b'"' {
+        return false;
+    }
+    skip_gap(reader, flow, allowed)
+}
+
+/// Whether the byte is behind `#` in ASCII: it begins a lexeme.
+fn is_behind_hash(byte: u8) -> bool
+    ensures { result ≡ true → (nat_lt 32 byte && (nat_lt byte 128 && not (byte == 35))) ≡ true }
+{
+    byte > b'#' && byte < 128
+}
+
+/// Whether the byte is one of these, or `"`.
+fn begins(byte: u8) -> bool
+    ensures { result ≡ true → (nat_lt 32 byte && (nat_lt byte 128 && not (byte == 35))) ≡ true }
+{
+    byte == b'"' || is_behind_hash(byte)
+}
+
+/// Whether a key may begin behind a gap: in block context a break allows one.
+fn allowed_behind(allowed: bool, broke: bool, flow: bool) -> bool
+    ensures { result ≡ (allowed || (broke && not flow)) }
+{
+    allowed || broke && !flow
+}
+
+/// Puts the fault of a simple key whose `:` doesn't come into a slot.
+// Out of line: in line the room of a refusal would be set to zero for each lexeme.
+#[inline(never)]
+fn put_late(fault: &mut yaml_fault_t, start: yaml_mark_t, place: yaml_mark_t)
+    ensures { IsLocated (ScanError.Fault (colon_fault start place)) (fault_of fault.new) }
+{
+    put_fault(fault, no_colon(start, place));
+}
+
+/// Puts the fault of a place where no token starts into a slot.
+// Out of line, as above.
+#[inline(never)]
+fn put_no_token(fault: &mut yaml_fault_t, mark: yaml_mark_t)
+    ensures { IsLocated (ScanError.Fault (no_token_fault mark)) (fault_of fault.new) }
+{
+    let refused = ScanError::refusal(Problem::NoTokenStart, Context::NextToken, mark, mark);
+    put_fault(fault, refused);
+}

@@ -49,16 +49,20 @@ impl<'a> Machine<'a> {
         ensures { Steps self.old self.new (fault_of fault.new) result }
     {
         let required = self.required();
-        if !kind.is_value() && self.may_refuse(kind, *spot, required) {
+        if self.may_refuse(kind, *spot, required) {
             return self.of_rare(kind, spot, spares, fault);
         }
         self.step_by(kind, *spot, required, spares, fault)
     }
 
-    /// Whether a lexeme of that kind may be refused for what stands before it.
+    /// Whether a lexeme of that kind may be refused for what stands before it. Outside all brackets a `:` takes or cancels the
+    /// required candidate, so that it is asked for inside them alone; whether a `:` stands where it may is left to its own way.
     // Inlined: the kind is known where it is called.
     #[inline(always)]
     fn may_refuse(&self, kind: Kind, spot: Spot, required: Option<yaml_mark_t>) -> bool {
+        if kind.is_value() {
+            return required.is_some() && 0 < self.depth;
+        }
         required.is_some() || kind.is_start() && self.depth == 0 && !spot.allowed
     }
 
@@ -81,7 +85,7 @@ impl<'a> Machine<'a> {
         match self.next(kind, spot, required, spares) {
             Ok(read) => self.take(read, fault),
             Err(error) => {
-                put_fault(fault, error);
+                put_refusal(fault, error);
                 false
             }
         }
@@ -154,4 +158,14 @@ fn put_memory(slot: &mut yaml_fault_t)
     ensures { IsLocated ScanError.Memory (fault_of slot.new) }
 {
     put_fault(slot, ScanError::Memory);
+}
+
+/// Puts the fault that a refusal is answered as into a slot.
+// Inlined: so the refusal that is lent to the call has a place of its own, and the answer of reading none in memory.
+#[inline(always)]
+fn put_refusal(slot: &mut yaml_fault_t, error: ScanError)
+    ensures { IsLocated error (fault_of slot.new) }
+{
+    let refusal = error;
+    put_fault(slot, refusal);
 }

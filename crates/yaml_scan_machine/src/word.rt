@@ -1,7 +1,8 @@
 //! Which lexeme stands at a place, and what it carries.
 
-ghost use Rattle.std.specs.Prelude.{◌≡◌, ◌+◌, ◌<◌, ◌≤◌, ◌⊎◌, IfSome, None, option_map, true, false, length};
+ghost use Rattle.std.specs.Prelude.{Bool, ◌≡◌, ◌+◌, ◌<◌, ◌≤◌, ◌⊎◌, IfSome, None, option_map, true, false, length};
 ghost use Rattle.yaml_scan_model.specs.Marks.{byte, break_width, is_blank_or_end};
+ghost use Rattle.yaml_scan_scalars.specs.Joined.{told};
 ghost use Rattle.yaml_scan_scalars.specs.Plain as plains;
 ghost use Rattle.yaml_scan_model.specs.Tokens as tokens;
 ghost use Rattle.yaml_scan_model.specs.Tokens.{body_of};
@@ -369,13 +370,13 @@ fn single_word(spares: &mut Vec<Vec<u8>>, reader: &mut Reader) -> Result<Word, S
         (spec.valued (λ v. tokens.scalar v yaml_scalar_style_t.YAML_SINGLE_QUOTED_SCALAR_STYLE)
         (single_quoted_at reader.old.text reader.old.at)) }
 {
-    let read = single_quoted(spares, reader)?;
+    let value = single_quoted(spares, reader)?;
     Ok(Word {
         body: yaml_token_body_t::Scalar {
-            value: read.value,
+            value,
             style: yaml_scalar_style_t::YAML_SINGLE_QUOTED_SCALAR_STYLE,
         },
-        end: read.end_mark,
+        end: reader.mark(),
         broke: false,
     })
 }
@@ -388,13 +389,13 @@ fn double_word(spares: &mut Vec<Vec<u8>>, reader: &mut Reader) -> Result<Word, S
         (spec.valued (λ v. tokens.scalar v yaml_scalar_style_t.YAML_DOUBLE_QUOTED_SCALAR_STYLE)
         (double_quoted_at reader.old.text reader.old.at)) }
 {
-    let read = double_quoted(spares, reader)?;
+    let value = double_quoted(spares, reader)?;
     Ok(Word {
         body: yaml_token_body_t::Scalar {
-            value: read.value,
+            value,
             style: yaml_scalar_style_t::YAML_DOUBLE_QUOTED_SCALAR_STYLE,
         },
-        end: read.end_mark,
+        end: reader.mark(),
         broke: false,
     })
 }
@@ -418,6 +419,15 @@ fn plain_word(
             style: yaml_scalar_style_t::YAML_PLAIN_SCALAR_STYLE,
         },
         end: read.end_mark,
-        broke: read.broke,
+        broke: is_one(read.breaks),
     })
+}
+
+/// Whether it is 1, which tells a break.
+// Inlined: a comparison.
+#[inline(always)]
+fn is_one(n: u64) -> bool
+    ensures { (b : Bool) → n ≡ told b → result ≡ b }
+{
+    n == 1
 }

@@ -1,10 +1,10 @@
 -- What reading a quoted scalar answers.
+use Rattle.std.specs.Global.{Vec}
 use Rattle.std.specs.Prelude.{ℕ, ◌+◌, ◌<◌, ◌≡◌, Bool, true, false, List, ◌++◌, length, Result, Ok, Err}
 use Rattle.yaml_scan_model.specs.declared.record.yaml_mark_t.{yaml_mark_t}
 use Rattle.yaml_scan_model.specs.declared.problem.ScanError.{ScanError}
 use Rattle.yaml_scan_model.specs.Marks.{Place, mark_at}
 use Rattle.yaml_scan_model.specs.Wrong.{Wrong, Refuses, IsMemory}
-use Rattle.yaml_scan_scalars.specs.declared.scalar.Scalar.{Scalar}
 use Rattle.yaml_scan_scalars.specs.Pieces.{Piece}
 use Rattle.yaml_scan_scalars.specs.Quoted.{Standing, Closing, Pieces, Bad}
 
@@ -23,17 +23,11 @@ Took text start p old new place (Err e) (Bad w) = Refuses text start e w
 Took text start p old new place (Err e) (Pieces qs q) = IsMemory e
 Took text start p old new place (Err e) Closing = ⊥
 
--- a scalar is that value, and ends at that place
-pub record IsScalar (text : List ℕ) (start : ℕ) (s : Scalar) (x : List ℕ × ℕ) : Type 0 where
-  pub value : s.value.items ≡ x.0
-  pub start_mark : s.start_mark ≡ mark_at text start
-  pub end_mark : s.end_mark ≡ mark_at text x.1
-
 -- What reading a scalar answers, and where it leaves the reader: the value and the place after it, what is wrong, or
 -- that memory ran out.
-abbrev pub Reads : List ℕ → ℕ → Place → Result Scalar ScanError → Result (List ℕ × ℕ) Wrong → Type 0
-Reads text start place (Ok s) (Ok x) = IsScalar text start s x
+abbrev pub Reads : List ℕ → ℕ → Place → Result (Vec ℕ) ScanError → Result (List ℕ × ℕ) Wrong → Type 0
+Reads text start place (Ok v) (Ok x) = (v.items ≡ x.0)
     × (place ≡ record { text = text; at = x.1 })
-Reads text start place (Ok s) (Err w) = ⊥
+Reads text start place (Ok v) (Err w) = ⊥
 Reads text start place (Err e) (Ok x) = IsMemory e
 Reads text start place (Err e) (Err w) = Refuses text (mark_at text start) e w

@@ -11,5 +11,4 @@ mod scalar;
 
 pub use plain::{plain_scalar, starts_plain};
 pub use quoted::{double_quoted, single_quoted};
-pub use run::{copied, room};
-pub use scalar::{PlainScalar, Scalar};
+pub use scalar::PlainScalar;

@@ -3,7 +3,7 @@
 ghost use Rattle.std.specs.Prelude.{◌≡◌, ◌+◌, ◌-◌, ◌||◌, ◌&&◌, ◌==◌, nat_lt, ◌<◌, ◌≤◌, ℕ, suc, true, false, [], length, OnOk, Ok};
 ghost use Rattle.yaml_scan_model.specs.Marks.{byte, break_width, ends_break, is_blank, mark_at};
 ghost use Rattle.yaml_scan_scalars.specs.Plain as spec;
-ghost use Rattle.yaml_scan_scalars.specs.Joined.{IsJoining, Steps, ReadsPlain, TookWords};
+ghost use Rattle.yaml_scan_scalars.specs.Joined.{IsJoining, Steps, ReadsPlain, TookWords, told};
 ghost use Rattle.yaml_scan_scalars.specs.Ordinary.{IsRun, StandsAt, bytes_at};
 
 use crate::joining::Joining;
@@ -93,7 +93,7 @@ fn one_run(
         value,
         start_mark: start,
         end_mark: reader.mark(),
-        broke: false,
+        breaks: 0,
     })
 }
 
@@ -148,14 +148,45 @@ fn one_line<'a>(
         value,
         start_mark: start,
         end_mark,
-        broke: true,
+        breaks: 1,
     })
 }
 
 /// The scalar that starts at the mark, where the reader stands behind its first run, of those bytes.
+// Inlined: so the answer of the call out of line, and the mark that is lent to it, have a place of their own. In one place
+// with the answers above, these would be put together in memory and copied.
+#[inline(always)]
+fn many_runs(
+    spares: &mut Vec<Vec<u8>>,
+    reader: &mut Reader,
+    bytes: &[u8],
+    start: yaml_mark_t,
+    flow: bool,
+    level: u64,
+) -> Result<PlainScalar, ScanError>
+    requires inside { start.index < length reader.old.text }
+    requires start { start ≡ mark_at reader.old.text start.index }
+    requires no_blank { is_blank (byte reader.old.text start.index) ≡ false }
+    requires no_end { ends_break reader.old.text start.index ≡ false }
+    requires run { IsRun reader.old.text (start.index + 1) reader.old }
+    requires bytes { bytes.now ≡ bytes_at reader.old.text start.index
+        (reader.old.at - start.index) }
+    ensures { ReadsPlain reader.old.text start.index reader.new result
+        (spec.plain_at flow level reader.old.text start.index) }
+{
+    let start = yaml_mark_t {
+        index: start.index,
+        line: start.line,
+        column: start.column,
+    };
+    let read = join_runs(spares, reader, bytes, start, flow, level)?;
+    Ok(read)
+}
+
+/// Joins the runs of the scalar that starts at the mark, where the reader stands behind the first one, of those bytes.
 // Out of line: most scalars have one run.
 #[inline(never)]
-fn many_runs(
+fn join_runs(
     spares: &mut Vec<Vec<u8>>,
     reader: &mut Reader,
     bytes: &[u8],
@@ -178,16 +209,23 @@ fn many_runs(
         let more = piece(reader, &mut joining, start, flow, level)?;
         if !more {
             let end_mark = joining.end;
-            let broke = joining.broke;
+            let breaks = told(joining.broke);
             return Ok(PlainScalar {
                 value: joining.finish(),
                 start_mark: start,
                 end_mark,
-                broke,
+                breaks,
             });
         }
         keep_run(reader, &mut joining)?;
     }
+}
+
+/// 1 where a break stands behind the scalar, or else 0.
+fn told(broke: bool) -> u64
+    ensures { result ≡ told broke }
+{
+    if broke { 1 } else { 0 }
 }
 
 /// Takes the run that stands here, but none at a line's start.

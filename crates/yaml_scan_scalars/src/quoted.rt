@@ -1,6 +1,6 @@
 //! Double and single quoted scalars (YAML 1.1, sections 9.1.1 and 9.1.2).
 
-ghost use Rattle.std.specs.Prelude.{◌≡◌, ◌+◌, ◌-◌, ◌<◌, ◌&&◌, ◌==◌, ◌⊎◌, true, false, not, List, ◌++◌, length, OnOk, Ok};
+ghost use Rattle.std.specs.Prelude.{◌≡◌, ◌+◌, ◌-◌, ◌<◌, ◌&&◌, ◌==◌, ◌⊎◌, ℕ, true, false, not, List, ◌++◌, length, OnOk, Ok};
 ghost use Rattle.yaml_scan_model.specs.Marks.{byte, mark_at};
 ghost use Rattle.yaml_scan_model.specs.declared.record.yaml_mark_t.{yaml_mark_t};
 ghost use Rattle.yaml_scan_scalars.specs.Quoted as spec;
@@ -13,13 +13,12 @@ ghost use Rattle.yaml_scan_scalars.specs.Resume.{resume};
 use crate::escape::escape;
 use crate::folding::Folding;
 use crate::run::{copied, ordinary_run, room};
-use crate::scalar::Scalar;
 use std::alloc::AllocError;
 use yaml_scan_model::{Context, Problem, Reader, ScanError, is_blank_byte, yaml_mark_t};
 
-/// The double quoted scalar whose opening quote stands here. The reader is left after the closing one. The value may take
-/// the room of a spare text.
-pub fn double_quoted(spares: &mut Vec<Vec<u8>>, reader: &mut Reader) -> Result<Scalar, ScanError>
+/// The value of the double quoted scalar whose opening quote stands here. The reader is left after the closing one. The value
+/// may take the room of a spare text.
+pub fn double_quoted(spares: &mut Vec<Vec<u8>>, reader: &mut Reader) -> Result<Vec<u8>, ScanError>
     requires { byte reader.old.text reader.old.at ≡ 34 }
     ensures { Reads reader.old.text reader.old.at reader.new result
         (spec.double_quoted_at reader.old.text reader.old.at) }
@@ -27,9 +26,9 @@ pub fn double_quoted(spares: &mut Vec<Vec<u8>>, reader: &mut Reader) -> Result<S
     quoted(spares, reader, b'"')
 }
 
-/// The single quoted scalar whose opening quote stands here. The reader is left after the closing one. The value may take
-/// the room of a spare text.
-pub fn single_quoted(spares: &mut Vec<Vec<u8>>, reader: &mut Reader) -> Result<Scalar, ScanError>
+/// The value of the single quoted scalar whose opening quote stands here. The reader is left after the closing one. The value
+/// may take the room of a spare text.
+pub fn single_quoted(spares: &mut Vec<Vec<u8>>, reader: &mut Reader) -> Result<Vec<u8>, ScanError>
     requires { byte reader.old.text reader.old.at ≡ 39 }
     ensures { Reads reader.old.text reader.old.at reader.new result
         (spec.single_quoted_at reader.old.text reader.old.at) }
@@ -37,8 +36,8 @@ pub fn single_quoted(spares: &mut Vec<Vec<u8>>, reader: &mut Reader) -> Result<S
     quoted(spares, reader, b'\'')
 }
 
-/// The scalar whose opening quote stands here, of that byte.
-fn quoted(spares: &mut Vec<Vec<u8>>, reader: &mut Reader, quote: u8) -> Result<Scalar, ScanError>
+/// The value of the scalar whose opening quote stands here, of that byte.
+fn quoted(spares: &mut Vec<Vec<u8>>, reader: &mut Reader, quote: u8) -> Result<Vec<u8>, ScanError>
     requires opened { byte reader.old.text reader.old.at ≡ quote }
     requires quote { (quote ≡ 34) ⊎ (quote ≡ 39) }
     ensures { Reads reader.old.text reader.old.at reader.new result
@@ -49,7 +48,7 @@ fn quoted(spares: &mut Vec<Vec<u8>>, reader: &mut Reader, quote: u8) -> Result<S
     let from = reader.place();
     let bytes = ordinary_run(reader);
     if closes(reader, quote) {
-        return one_run(spares, reader, from, bytes, start);
+        return one_run(spares, reader, from, bytes);
     }
     many_runs(spares, reader, bytes, start, quote)
 }
@@ -62,41 +61,64 @@ fn closes(reader: &Reader, quote: u8) -> bool
     reader.here() == quote && !is_doubled(quote, reader.byte(1))
 }
 
-/// The scalar that starts at the mark and has those bytes, which stand from that place on, where the reader stands before its
-/// closing quote.
+/// The value of the scalar that has those bytes, which stand from that place on, where the reader stands before its closing
+/// quote.
 fn one_run(
     spares: &mut Vec<Vec<u8>>,
     reader: &mut Reader,
     from: usize,
     bytes: &[u8],
-    start: yaml_mark_t,
-) -> Result<Scalar, ScanError>
+) -> Result<Vec<u8>, ScanError>
     requires closing { (byte reader.old.text reader.old.at ≡ 34)
         ⊎ (byte reader.old.text reader.old.at ≡ 39) }
-    requires start { start ≡ mark_at reader.old.text start.index }
     requires stands { StandsAt reader.old.text from bytes.now }
-    ensures { Reads reader.old.text start.index reader.new result
+    ensures { (start : ℕ) → Reads reader.old.text start reader.new result
         (Ok (bytes.now, reader.old.at + 1)) }
 {
     let value = copied(spares, reader.text(), from, bytes)?;
     reader.skip();
-    Ok(Scalar {
-        value,
-        start_mark: start,
-        end_mark: reader.mark(),
-    })
+    Ok(value)
 }
 
-/// The scalar that starts at the mark, where the reader stands behind its first run, of those bytes.
-// Out of line: most scalars have one run.
-#[inline(never)]
+/// The value of the scalar that starts at the mark, where the reader stands behind its first run, of those bytes.
+// Inlined: so the answer of the call out of line, and the mark that is lent to it, have a place of their own. In one place
+// with the answer above, this one would be put together in memory and copied.
+#[inline(always)]
 fn many_runs(
     spares: &mut Vec<Vec<u8>>,
     reader: &mut Reader,
     bytes: &[u8],
     start: yaml_mark_t,
     quote: u8,
-) -> Result<Scalar, ScanError>
+) -> Result<Vec<u8>, ScanError>
+    requires quote { (quote ≡ 34) ⊎ (quote ≡ 39) }
+    requires inside { start.index < length reader.old.text }
+    requires start { start ≡ mark_at reader.old.text start.index }
+    requires run { IsRun reader.old.text (start.index + 1) reader.old }
+    requires bytes { bytes.now ≡ bytes_at reader.old.text (start.index + 1)
+        (reader.old.at - (start.index + 1)) }
+    ensures { Reads reader.old.text start.index reader.new result
+        (spec.quoted_at quote reader.old.text start.index) }
+{
+    let start = yaml_mark_t {
+        index: start.index,
+        line: start.line,
+        column: start.column,
+    };
+    let value = fold_runs(spares, reader, bytes, start, quote)?;
+    Ok(value)
+}
+
+/// Folds the runs of the scalar that starts at the mark, where the reader stands behind the first one, of those bytes.
+// Out of line: most scalars have one run.
+#[inline(never)]
+fn fold_runs(
+    spares: &mut Vec<Vec<u8>>,
+    reader: &mut Reader,
+    bytes: &[u8],
+    start: yaml_mark_t,
+    quote: u8,
+) -> Result<Vec<u8>, ScanError>
     requires quote { (quote ≡ 34) ⊎ (quote ≡ 39) }
     requires inside { start.index < length reader.old.text }
     requires start { start ≡ mark_at reader.old.text start.index }
@@ -113,11 +135,7 @@ fn many_runs(
         let more = piece(reader, &mut folding, quote, start)?;
         if !more {
             let value = folding.finish()?;
-            return Ok(Scalar {
-                value,
-                start_mark: start,
-                end_mark: reader.mark(),
-            });
+            return Ok(value);
         }
         keep_run(reader, &mut folding)?;
     }

@@ -175,11 +175,21 @@ pub fn copied(
 {
     let count = bytes.len();
     if CHUNK < count || text.len() - from < CHUNK {
-        return copied_whole(spares, bytes);
+        return copied_apart(spares, bytes);
     }
     let mut copy = room(spares, CHUNK)?;
     copy.extend_from_slice(&text[from..from + CHUNK])?;
     copy.truncate(count);
+    Ok(copy)
+}
+
+/// A copy of bytes, in the room of a spare text where they fit.
+// Inlined: so the answer of the call out of line has a place of its own, and the other one none in memory.
+#[inline(always)]
+fn copied_apart(spares: &mut Vec<Vec<u8>>, bytes: &[u8]) -> Result<Vec<u8>, AllocError>
+    ensures { IfOk result (λ v. v.items ≡ bytes.now) }
+{
+    let copy = copied_whole(spares, bytes)?;
     Ok(copy)
 }
 

@@ -2,20 +2,13 @@
 
 use yaml_scan_model::yaml_mark_t;
 
-/// A quoted scalar: its value, the place of its opening quote, and the place after its closing one.
-#[derive(Drop)]
-pub struct Scalar {
-    pub value: Vec<u8>,
-    pub start_mark: yaml_mark_t,
-    pub end_mark: yaml_mark_t,
-}
-
 /// A plain scalar: its value, the place of its first character, and the place after its last one.
 #[derive(Drop)]
 pub struct PlainScalar {
     pub value: Vec<u8>,
     pub start_mark: yaml_mark_t,
     pub end_mark: yaml_mark_t,
-    /// Whether a break is among the blanks and breaks behind it, so that a key is allowed there.
-    pub broke: bool,
+    /// 1 where a break is among the blanks and breaks behind it, so that a key is allowed there, or else 0.
+    // A number: the gap behind a bool would be copied by itself.
+    pub breaks: u64,
 }

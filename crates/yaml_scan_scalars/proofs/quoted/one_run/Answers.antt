@@ -9,6 +9,4 @@ pub skip-requires-clause-no_break : goal.skip-requires-clause-no_break
 skip-requires-clause-no_break c = quote_no_break _ _ _ _ refl c.requires.closing
 
 pub returns : goal.returns
-returns c =
-    let mark = rw c.skip.ensures at c.mark.ensures in
-    (record { value = c.in_ok-value.ensures; start_mark = c.requires.start; end_mark = mark }, c.skip.ensures)
+returns c = λ start. (c.in_ok-value.ensures, c.skip.ensures)

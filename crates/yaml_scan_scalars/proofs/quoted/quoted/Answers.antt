@@ -13,11 +13,6 @@ one_run-requires-clause-closing c =
     let both = closes_both _ _ _ (sym c.closes.ensures ∙ c.if-closes.true) in
     some_quote _ _ both.0 c.requires.quote
 
-pub one_run-requires-clause-start : goal.one_run-requires-clause-start
-one_run-requires-clause-start c =
-    let run : IsRun c.args.reader.now.text (c.args.reader.now.at + 1) c.ordinary_run-bytes.new.reader = rw c.skip.ensures at c.ordinary_run-bytes.ensures.place in
-    rw run.same (own_mark c.args.reader.now.text _ _ c.mark-start.ensures).0
-
 pub one_run-requires-clause-stands : goal.one_run-requires-clause-stands
 one_run-requires-clause-stands c =
     let run : IsRun c.args.reader.now.text (c.args.reader.now.at + 1) c.ordinary_run-bytes.new.reader = rw c.skip.ensures at c.ordinary_run-bytes.ensures.place in
@@ -32,8 +27,7 @@ returns-then-closes c =
     let inside = within text p (quote_some c.args.quote _ c.requires.opened c.requires.quote) in
     let both = closes_both _ _ _ (rw run.same at (sym c.closes.ensures ∙ c.if-closes.true)) in
     let one = quoted_one c.args.quote text p c.ordinary_run-bytes.new.reader c.requires.quote inside run both.0 both.1 in
-    let at = (own_mark text p _ c.mark-start.ensures).1 in
-    rw (one, ← bytes) (rw (run.same, at) at c.one_run.ensures)
+    rw (one, ← bytes) (rw run.same at (c.one_run.ensures p))
 
 pub many_runs-requires-clause-inside : goal.many_runs-requires-clause-inside
 many_runs-requires-clause-inside c =

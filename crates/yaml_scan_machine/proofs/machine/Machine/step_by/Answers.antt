@@ -25,4 +25,4 @@ pub take-requires-clause-next : goal.take-requires-clause-next
 take-requires-clause-next c = record { safe = c.in-Ok.ensures.safe; exact = c.in-Ok.ensures.exact }
 
 pub returns-in-Err : goal.returns-in-Err
-returns-in-Err c = ((c.in-Err.error, c.in-Err.ensures.refused, c.put_fault.ensures), c.requires.may.may.stands.short)
+returns-in-Err c = ((c.in-Err.error, c.in-Err.ensures.refused, c.put_refusal.ensures), c.requires.may.may.stands.short)

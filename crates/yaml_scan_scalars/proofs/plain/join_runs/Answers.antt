@@ -6,7 +6,7 @@ use Rattle.yaml_scan_scalars.proofs.PlainLemmas.{seat_text, turn_more, turn_done
 use Rattle.yaml_scan_scalars.proofs.PlainRunLemmas.{plain_run, plain_first_run, first_text, behind_first}
 use Rattle.yaml_scan_scalars.proofs.RunLemmas.{first_last}
 use Rattle.yaml_scan_scalars.proofs.OneRunLemmas.{no_space}
-use Rattle.yaml_scan_scalars.proofs.plain.many_runs.Goals as goal
+use Rattle.yaml_scan_scalars.proofs.plain.join_runs.Goals as goal
 
 pub pieces-init : goal.pieces-init
 pieces-init c =
@@ -54,7 +54,7 @@ returns-then-not-more c =
     let (place, kept, value) = turn_done c.args.flow c.args.level c.args.reader.now.text c.args.start c.pieces.reader.at n c.pieces.joining c.piece.new.joining c.piece.new.reader took in
     let seat = rw c.pieces.invariant.text at c.pieces.invariant.seat.end in
     let all = rw kept at c.finish.ensures in
-    rw (same, value) (record { value = all; start_mark = c.requires.start; end_mark = rw kept seat; broke = ap (λ j. j.broke) kept }, place)
+    rw (same, value) (record { value = all; start_mark = c.requires.start; end_mark = rw kept seat; broke = rw kept at c.told-breaks.ensures }, place)
 
 pub pieces-preserved : goal.pieces-preserved
 pieces-preserved c =

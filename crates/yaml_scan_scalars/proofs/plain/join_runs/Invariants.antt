@@ -1,7 +1,7 @@
 use Rattle.std.proofs.Common.{◌≡◌, ◌+◌, ◌-◌, ◌≤◌, ℕ, suc, length}
 use Rattle.yaml_scan_scalars.specs.Plain.{words, plain_with, plain_at}
 use Rattle.yaml_scan_scalars.specs.Joined.{joined, IsJoining}
-use Rattle.yaml_scan_scalars.proofs.plain.many_runs.Given as goal
+use Rattle.yaml_scan_scalars.proofs.plain.join_runs.Given as goal
 
 abbrev pub invariant-pieces : goal.invariant-pieces
 invariant-pieces l = record {

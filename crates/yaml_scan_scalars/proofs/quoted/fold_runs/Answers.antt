@@ -8,7 +8,7 @@ use Rattle.yaml_scan_scalars.specs.Ordinary.{TookRun, bytes_at, run_pieces}
 use Rattle.yaml_scan_scalars.proofs.QuotedLemmas.{turn_more, turn_done, turn_refused}
 use Rattle.yaml_scan_scalars.proofs.RunLemmas.{quoted_run, run_ends}
 use Rattle.yaml_scan_scalars.proofs.OneRunLemmas.{quoted_first}
-use Rattle.yaml_scan_scalars.proofs.quoted.many_runs.Goals as goal
+use Rattle.yaml_scan_scalars.proofs.quoted.fold_runs.Goals as goal
 
 pub pieces-init : goal.pieces-init
 pieces-init c =
@@ -38,8 +38,7 @@ returns-then-not-more c =
     let here = rw c.if-not-more.true at c.in_ok-more.ensures in
     let took : Took c.args.reader.now.text c.args.start c.pieces.reader.at (resume c.pieces.folding) (resume c.piece.new.folding) c.piece.new.reader (Ok false) (standing_at c.args.quote c.args.reader.now.text c.pieces.reader.at) = rw (← c.pieces.invariant.text) here in
     let (place, value) = turn_done c.args.reader.now.text c.args.start c.args.quote c.pieces.reader.at n (resume c.pieces.folding) (resume c.piece.new.folding) c.piece.new.reader took in
-    let mark = c.mark.ensures in
-    rw (same, value) (record { value = c.in_ok-value.ensures; start_mark = c.requires.start; end_mark = rw place at mark }, place)
+    rw (same, value) (c.in_ok-value.ensures, place)
 
 pub pieces-preserved : goal.pieces-preserved
 pieces-preserved c =

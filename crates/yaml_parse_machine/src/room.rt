@@ -4,6 +4,7 @@ ghost use Rattle.std.specs.Prelude.{◌≡◌, true, vec_capacity};
 ghost use Rattle.yaml_parse_machine.specs.Bare.{OwnsNothing};
 
 use std::mem;
+pub(crate) use yaml_parse_model::moved;
 use yaml_parse_model::{yaml_event_body_t, yaml_scalar_style_t, yaml_token_body_t};
 
 /// Whether a slot of events holds no text.
@@ -103,17 +104,6 @@ fn vacate_rare(earlier: &mut yaml_event_body_t, slot: &mut yaml_token_body_t)
             *earlier = yaml_event_body_t::No;
         }
     }
-}
-
-// The text, of which an empty one without room is left.
-// Inlined: some moves.
-#[inline(always)]
-pub(crate) fn moved(text: &mut Vec<u8>) -> Vec<u8>
-    ensures text { result.items ≡ text.old.items }
-    ensures left { vec_capacity text.new ≡ 0 }
-{
-    let alloc = *text.allocator();
-    mem::replace(text, Vec::new(alloc))
 }
 
 // Has the slot of a token that is taken hold the text, if that has room. Where the slot has one, that is let go.

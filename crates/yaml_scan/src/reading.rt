@@ -10,7 +10,7 @@ ghost use Rattle.yaml_scan.specs.Found.{Comes, ReadsOn};
 
 use std::mem;
 use yaml_scan_machine::{Machine, Spot};
-use yaml_scan_model::{yaml_fault_t, yaml_token_body_t, yaml_token_t};
+use yaml_scan_model::{moved, yaml_fault_t, yaml_token_body_t, yaml_token_t};
 
 /// What reading on came to: the next token is known, or there is none, or a fault stands in the slot that was lent.
 #[derive(Clone, Copy)]
@@ -60,7 +60,7 @@ pub(crate) fn take_back(slot: &mut yaml_token_body_t, spares: &mut Vec<Vec<u8>>)
     ensures { is_bare (body_of slot.new) ≡ true }
 {
     match slot {
-        yaml_token_body_t::Scalar { value, .. } => keep_room(taken(value), spares),
+        yaml_token_body_t::Scalar { value, .. } => keep_room(moved(value), spares),
         _ => {
             if has_name(slot) {
                 let_go(slot, spares);
@@ -92,8 +92,8 @@ fn let_go(slot: &mut yaml_token_body_t, spares: &mut Vec<Vec<u8>>)
     ensures { is_bare (body_of slot.new) ≡ true }
 {
     match slot {
-        yaml_token_body_t::Alias { value } => keep_room(taken(value), spares),
-        yaml_token_body_t::Anchor { value } => keep_room(taken(value), spares),
+        yaml_token_body_t::Alias { value } => keep_room(moved(value), spares),
+        yaml_token_body_t::Anchor { value } => keep_room(moved(value), spares),
         _ => let_go_parts(slot, spares),
     }
 }
@@ -111,16 +111,6 @@ fn let_go_parts(slot: &mut yaml_token_body_t, spares: &mut Vec<Vec<u8>>)
         }
         other => drop(other),
     }
-}
-
-/// The text, of which an empty one is left.
-// Inlined: some moves.
-#[inline(always)]
-fn taken(text: &mut Vec<u8>) -> Vec<u8>
-    ensures { text.new.items ≡ [] }
-{
-    let alloc = *text.allocator();
-    mem::replace(text, Vec::new(alloc))
 }
 
 /// Keeps the room of a text, where it has some and not too much, and not enough are kept.

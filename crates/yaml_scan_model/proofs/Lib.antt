@@ -1,3 +1,4 @@
 pub mod MarksLemmas
 pub mod BreaksLemmas
 pub mod RunsLemmas
+pub mod SparesLemmas

@@ -5,5 +5,6 @@ pub use Rattle.yaml_scan_tokens.specs.Faults
 pub mod Problems
 pub mod Breaks
 pub mod Runs
+pub mod Spares
 pub mod Views
 pub mod Wrong

@@ -7,6 +7,7 @@ mod problem;
 mod reader;
 pub mod record;
 mod run;
+mod spares;
 pub mod token;
 
 pub use fault::{yaml_fault_t, yaml_origin_t};
@@ -18,6 +19,7 @@ pub use problem::{Context, Problem, ScanError, ScanFault};
 pub use reader::{Reader, is_blank as is_blank_byte};
 pub use record::{yaml_mark_t, yaml_simple_key_t, yaml_tag_directive_t, yaml_version_directive_t};
 pub use run::{is_text, skip_blanks, skip_spaces, skip_text};
+pub use spares::{copied, copied_whole, moved, room};
 pub use token::{yaml_token_body_t, yaml_token_t};
 pub use yaml_scan_tokens::{
     AS_DIGIT, AS_HEX_AT, IS_ALPHA, IS_ASCII, IS_BLANK, IS_BLANKZ, IS_BOM, IS_BREAK, IS_BREAKZ,

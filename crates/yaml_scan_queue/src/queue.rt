@@ -11,7 +11,7 @@ use std::alloc::{AllocError, Global};
 use std::marker::Model;
 use std::mem;
 use yaml_scan_history::{Lexeme, Opens};
-use yaml_scan_model::{yaml_token_body_t, yaml_token_t};
+use yaml_scan_model::{moved, yaml_token_body_t, yaml_token_t};
 
 /// A row of slots, of which those from `first` to `last` hold the lexemes that wait. The others are used again: the body
 /// of none of them has a text, but for an empty one without room, so that nothing is to be let go where one is filled.
@@ -188,7 +188,7 @@ fn hand_out(from: &mut yaml_token_body_t, to: &mut yaml_token_body_t)
     }
     match from {
         yaml_token_body_t::Scalar { value, style } => {
-            let text = taken(value);
+            let text = moved(value);
             put_body(
                 to,
                 yaml_token_body_t::Scalar {
@@ -201,17 +201,6 @@ fn hand_out(from: &mut yaml_token_body_t, to: &mut yaml_token_body_t)
     }
 }
 
-/// The text, of which an empty one is left.
-// Inlined: some moves.
-#[inline(always)]
-fn taken(text: &mut Vec<u8>) -> Vec<u8>
-    ensures result { result ≡ text.old }
-    ensures left { text.new.items ≡ [] }
-{
-    let alloc = *text.allocator();
-    mem::replace(text, Vec::new(alloc))
-}
-
 /// Moves a body that is neither a kind nor a scalar to a place that holds no text, and leaves none there, or an empty one.
 // Out of line: mostly it is a kind or a scalar.
 #[inline(never)]
@@ -222,11 +211,11 @@ fn hand_out_name(from: &mut yaml_token_body_t, to: &mut yaml_token_body_t)
 {
     match from {
         yaml_token_body_t::Alias { value } => {
-            let text = taken(value);
+            let text = moved(value);
             put_body(to, yaml_token_body_t::Alias { value: text });
         }
         yaml_token_body_t::Anchor { value } => {
-            let text = taken(value);
+            let text = moved(value);
             put_body(to, yaml_token_body_t::Anchor { value: text });
         }
         _ => exchange(from, to),

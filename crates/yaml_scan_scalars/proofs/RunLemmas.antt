@@ -12,7 +12,7 @@ use Rattle.yaml_scan_scalars.specs.declared.folding.Gap.{Gap}
 use Rattle.yaml_scan_scalars.specs.declared.folding.Gap.TheVariants as gaps
 use Rattle.yaml_scan_scalars.specs.Pieces.{Piece, Kept, Blank, Line, lines, is_empty, folded, value}
 use Rattle.yaml_scan_scalars.specs.Resume.{resume, resumed}
-use Rattle.yaml_scan_scalars.specs.Ordinary.{is_ordinary, is_narrow, is_spaced, in_run, bytes_at, piece_of, run_pieces, starts_kept, ends_kept, IsRun, StandsAt, TookRun}
+use Rattle.yaml_scan_scalars.specs.Ordinary.{is_ordinary, is_narrow, is_spaced, in_run, bytes_at, piece_of, run_pieces, starts_kept, ends_kept, IsRun, TookRun}
 use Rattle.yaml_scan_scalars.specs.Quoted.{Pieces, with_front, pieces, valued, standing_at}
 use Rattle.yaml_scan_scalars.proofs.FoldingLemmas.{value-kept, blanks_of, keep_line, keep_feed, keep_kept}
 use Rattle.yaml_scan_scalars.proofs.QuotedLemmas.{standing_kept, standing_blank}
@@ -184,14 +184,6 @@ first_slice text p place r h =
       | inl e ↦ slice_bytes text p (place.at - p) (omega arith)
       | inr l ↦ slice_bytes text p (place.at - p) (omega arith)
     ]
-
--- what was cut out of a text stands in it
-pub stands_slice : (text : List ℕ) (p q : ℕ) (bytes : List ℕ) → p ≤ q → q ≤ length text → bytes ≡ take (q - p) (drop p text) → StandsAt text p bytes
-stands_slice text p q bytes h inside e =
-    let d = length-drop p text in
-    let l : length (take (q - p) (drop p text)) ≡ q - p = length-take-le (q - p) (drop p text) (omega (arith, d)) in
-    let n : length bytes ≡ q - p = ap length e ∙ l in
-    record { inside = omega (arith, n); same = rw n e }
 
 pub run_none : (text : List ℕ) (p : ℕ) (place : Place) → IsRun text p place → length (bytes_at text p (place.at - p)) ≡ 0 → place.at ≡ p
 run_none text p place r h =

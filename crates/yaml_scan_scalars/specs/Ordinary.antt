@@ -32,11 +32,6 @@ unfoldable pub bytes_at : List ℕ → ℕ → ℕ → List ℕ
 bytes_at text p zero = []
 bytes_at text p (suc d) = byte text p ∷ bytes_at text (p + 1) d
 
--- the bytes stand in the text from the place on
-pub record StandsAt (text : List ℕ) (p : ℕ) (bytes : List ℕ) : Type 0 where
-  pub inside : p + length bytes ≤ length text
-  pub same : bytes ≡ take (length bytes) (drop p text)
-
 -- the bytes from p up to the place stand for themselves, and the last one is no space
 pub record IsRun (text : List ℕ) (p : ℕ) (place : Place) : Type 0 where
   pub same : place.text ≡ text

@@ -3,8 +3,8 @@
 ghost use Rattle.std.specs.Prelude.{◌≡◌, List, [], ◌∷◌, ◌++◌, ◌<◌, ◌≤◌, ℕ, length, take, true, OnOk, IfOk};
 ghost use Rattle.yaml_scan_scalars.specs.Pieces.{Piece, Kept, Blank, Break, value};
 
-use crate::run::copied_whole;
 use std::alloc::AllocError;
+use yaml_scan_model::copied_whole;
 
 /// What stands before the next piece.
 #[derive(Clone, Copy)]

@@ -1,17 +1,18 @@
 //! Plain scalars (YAML 1.1, section 9.1.3).
 
 ghost use Rattle.std.specs.Prelude.{◌≡◌, ◌+◌, ◌-◌, ◌||◌, ◌&&◌, ◌==◌, nat_lt, ◌<◌, ◌≤◌, ℕ, suc, true, false, [], length, OnOk, Ok};
+ghost use Rattle.yaml_scan_model.specs.Spares.{HoldsAt};
 ghost use Rattle.yaml_scan_model.specs.Marks.{byte, break_width, ends_break, is_blank, mark_at};
 ghost use Rattle.yaml_scan_scalars.specs.Plain as spec;
 ghost use Rattle.yaml_scan_scalars.specs.Joined.{IsJoining, Steps, ReadsPlain, TookWords, told};
-ghost use Rattle.yaml_scan_scalars.specs.Ordinary.{IsRun, StandsAt, bytes_at};
+ghost use Rattle.yaml_scan_scalars.specs.Ordinary.{IsRun, bytes_at};
 
 use crate::joining::Joining;
-use crate::run::{copied, ordinary_run};
+use crate::run::ordinary_run;
 use crate::scalar::PlainScalar;
 use std::alloc::AllocError;
 use yaml_scan_model::{
-    Context, Problem, Reader, ScanError, is_blank_byte, skip_spaces, yaml_mark_t,
+    Context, Problem, Reader, ScanError, copied, is_blank_byte, skip_spaces, yaml_mark_t,
 };
 
 /// The plain scalar that starts here, in flow context or not. The level is the column of the innermost open block
@@ -50,7 +51,7 @@ fn first_run<'a>(reader: &mut Reader<'a>) -> &'a [u8]
     ensures run { IsRun reader.old.text (reader.old.at + 1) reader.new }
     ensures bytes { result.now ≡ bytes_at reader.old.text reader.old.at
         (reader.new.at - reader.old.at) }
-    ensures stands { StandsAt reader.old.text reader.old.at result.now }
+    ensures stands { HoldsAt reader.old.text reader.old.at result.now }
 {
     let from = reader.place();
     reader.skip();
@@ -79,7 +80,7 @@ fn one_run(
     start: yaml_mark_t,
 ) -> Result<PlainScalar, ScanError>
     requires start { start ≡ mark_at reader.now.text start.index }
-    requires stands { StandsAt reader.now.text start.index bytes.now }
+    requires stands { HoldsAt reader.now.text start.index bytes.now }
     ensures { ReadsPlain reader.now.text start.index reader.now result
         (Ok (record {
           value = bytes.now;
@@ -132,7 +133,7 @@ fn one_line<'a>(
 ) -> Result<PlainScalar, ScanError>
     requires start { start ≡ mark_at reader.old.text start.index }
     requires same { ahead.now.text ≡ reader.old.text }
-    requires stands { StandsAt reader.old.text start.index bytes.now }
+    requires stands { HoldsAt reader.old.text start.index bytes.now }
     ensures { ReadsPlain reader.old.text start.index reader.new result
         (Ok (record {
           value = bytes.now;

@@ -1,20 +1,23 @@
 //! Double and single quoted scalars (YAML 1.1, sections 9.1.1 and 9.1.2).
 
 ghost use Rattle.std.specs.Prelude.{◌≡◌, ◌+◌, ◌-◌, ◌<◌, ◌&&◌, ◌==◌, ◌⊎◌, ℕ, true, false, not, List, ◌++◌, length, OnOk, Ok};
+ghost use Rattle.yaml_scan_model.specs.Spares.{HoldsAt};
 ghost use Rattle.yaml_scan_model.specs.Marks.{byte, mark_at};
 ghost use Rattle.yaml_scan_model.specs.declared.record.yaml_mark_t.{yaml_mark_t};
 ghost use Rattle.yaml_scan_scalars.specs.Quoted as spec;
 ghost use Rattle.yaml_scan_scalars.specs.declared.folding.Gap.TheVariants as gaps;
 ghost use Rattle.yaml_scan_scalars.specs.Readings.{Took, Reads};
-ghost use Rattle.yaml_scan_scalars.specs.Ordinary.{IsRun, StandsAt, TookRun, bytes_at, ends_kept, run_pieces, starts_kept};
+ghost use Rattle.yaml_scan_scalars.specs.Ordinary.{IsRun, TookRun, bytes_at, ends_kept, run_pieces, starts_kept};
 ghost use Rattle.yaml_scan_scalars.specs.Pieces.{Piece};
 ghost use Rattle.yaml_scan_scalars.specs.Resume.{resume};
 
 use crate::escape::escape;
 use crate::folding::Folding;
-use crate::run::{copied, ordinary_run, room};
+use crate::run::ordinary_run;
 use std::alloc::AllocError;
-use yaml_scan_model::{Context, Problem, Reader, ScanError, is_blank_byte, yaml_mark_t};
+use yaml_scan_model::{
+    Context, Problem, Reader, ScanError, copied, is_blank_byte, room, yaml_mark_t,
+};
 
 /// The value of the double quoted scalar whose opening quote stands here. The reader is left after the closing one. The value
 /// may take the room of a spare text.
@@ -71,7 +74,7 @@ fn one_run(
 ) -> Result<Vec<u8>, ScanError>
     requires closing { (byte reader.old.text reader.old.at ≡ 34)
         ⊎ (byte reader.old.text reader.old.at ≡ 39) }
-    requires stands { StandsAt reader.old.text from bytes.now }
+    requires stands { HoldsAt reader.old.text from bytes.now }
     ensures { (start : ℕ) → Reads reader.old.text start reader.new result
         (Ok (bytes.now, reader.old.at + 1)) }
 {

@@ -1,10 +1,10 @@
 //! Runs of bytes that stand for themselves, which are taken at once. Single spaces between them are part of a run.
 
-ghost use Rattle.std.specs.Prelude.{◌≡◌, ◌-◌, ◌+◌, ◌≤◌, ◌||◌, length, [], if◌then◌else◌, IfOk};
+ghost use Rattle.std.specs.Prelude.{◌≡◌, ◌-◌, ◌+◌, ◌≤◌, ◌||◌, length, if◌then◌else◌};
 ghost use Rattle.yaml_scan_model.specs.Marks.{byte, starts};
+ghost use Rattle.yaml_scan_model.specs.Spares.{HoldsAt};
 ghost use Rattle.yaml_scan_scalars.specs.Ordinary as spec;
 
-use std::alloc::{AllocError, Global};
 use yaml_scan_model::{Reader, yaml_mark_t};
 
 /// For each byte that stands for itself between quotes and inside a line of a plain scalar, whatever stands beside it, `2` if it is
@@ -89,7 +89,7 @@ pub(crate) fn ordinary_run<'a>(reader: &mut Reader<'a>) -> &'a [u8]
     ensures place { spec.IsRun reader.old.text reader.old.at reader.new }
     ensures bytes { result.now ≡ spec.bytes_at reader.old.text reader.old.at
         (reader.new.at - reader.old.at) }
-    ensures stands { spec.StandsAt reader.old.text reader.old.at result.now }
+    ensures stands { HoldsAt reader.old.text reader.old.at result.now }
     ensures inside { reader.new.at ≤ length reader.old.text }
 {
     let from = reader.place();
@@ -153,80 +153,4 @@ fn wide_run(reader: &mut Reader)
         column,
     };
     *reader = Reader::resume(text, mark);
-}
-
-/// The least room that is made: what the smallest block of common allocators holds.
-const LEAST_ROOM: usize = 24;
-
-/// How many bytes one move copies.
-const CHUNK: usize = 16;
-
-/// A copy of bytes that stand in the text from that place on, in the room of a spare text where they fit.
-// Inlined: mostly one move.
-#[inline(always)]
-pub fn copied(
-    spares: &mut Vec<Vec<u8>>,
-    text: &[u8],
-    from: usize,
-    bytes: &[u8],
-) -> Result<Vec<u8>, AllocError>
-    requires { spec.StandsAt text.now from bytes.now }
-    ensures { IfOk result (λ v. v.items ≡ bytes.now) }
-{
-    let count = bytes.len();
-    if CHUNK < count || text.len() - from < CHUNK {
-        return copied_apart(spares, bytes);
-    }
-    let mut copy = room(spares, CHUNK)?;
-    copy.extend_from_slice(&text[from..from + CHUNK])?;
-    copy.truncate(count);
-    Ok(copy)
-}
-
-/// A copy of bytes, in the room of a spare text where they fit.
-// Inlined: so the answer of the call out of line has a place of its own, and the other one none in memory.
-#[inline(always)]
-fn copied_apart(spares: &mut Vec<Vec<u8>>, bytes: &[u8]) -> Result<Vec<u8>, AllocError>
-    ensures { IfOk result (λ v. v.items ≡ bytes.now) }
-{
-    let copy = copied_whole(spares, bytes)?;
-    Ok(copy)
-}
-
-/// A copy of bytes, in the room of a spare text where they fit.
-// Out of line: most runs are short.
-#[inline(never)]
-pub(crate) fn copied_whole(spares: &mut Vec<Vec<u8>>, bytes: &[u8]) -> Result<Vec<u8>, AllocError>
-    ensures { IfOk result (λ v. v.items ≡ bytes.now) }
-{
-    let mut copy = room(spares, bytes.len())?;
-    copy.extend_from_slice(bytes)?;
-    Ok(copy)
-}
-
-/// An empty text with room for so many bytes: a spare one, where it has that.
-// Inlined: mostly it has it.
-#[inline(always)]
-pub fn room(spares: &mut Vec<Vec<u8>>, count: usize) -> Result<Vec<u8>, AllocError>
-    ensures { IfOk result (λ v. v.items ≡ []) }
-{
-    let alloc = *spares.allocator();
-    match spares.pop() {
-        Some(text) => cleared(alloc, text, count),
-        None => Vec::with_capacity(alloc, count.max(LEAST_ROOM)),
-    }
-}
-
-/// A text without its bytes, where it has room for so many, or else another one.
-// Inlined into its one caller.
-#[inline(always)]
-fn cleared(alloc: Global, text: Vec<u8>, count: usize) -> Result<Vec<u8>, AllocError>
-    ensures { IfOk result (λ v. v.items ≡ []) }
-{
-    if text.capacity() < count {
-        return Vec::with_capacity(alloc, count.max(LEAST_ROOM));
-    }
-    let mut text = text;
-    text.clear();
-    Ok(text)
 }

@@ -9,8 +9,7 @@ ghost use Rattle.yaml_scan_words.specs.TagsGiven.{IsTag, IsParts};
 use crate::run::{copied_since, leap, name_end, skip_indicator};
 use crate::uris::{some_uri, uri};
 use crate::word::{TagWord, refusal};
-use yaml_scan_model::{Context, Problem, Reader, ScanError, yaml_mark_t};
-use yaml_scan_scalars::room;
+use yaml_scan_model::{Context, Problem, Reader, ScanError, room, yaml_mark_t};
 
 /// A tag's handle and suffix.
 #[derive(Drop)]

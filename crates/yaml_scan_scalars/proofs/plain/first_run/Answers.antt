@@ -1,7 +1,8 @@
 use Rattle.std.proofs.Common.{◌∙◌, ◌+◌, arith}
 use Rattle.yaml_scan_model.proofs.MarksLemmas.{within}
 use Rattle.yaml_scan_scalars.specs.Ordinary.{IsRun}
-use Rattle.yaml_scan_scalars.proofs.RunLemmas.{first_slice, stands_slice}
+use Rattle.yaml_scan_model.proofs.SparesLemmas.{holds_slice}
+use Rattle.yaml_scan_scalars.proofs.RunLemmas.{first_slice}
 use Rattle.yaml_scan_scalars.proofs.plain.first_run.Goals as goal
 
 pub returns-clause-run : goal.returns-clause-run
@@ -22,4 +23,4 @@ returns-clause-stands c =
     let run : IsRun text (p + 1) c.ordinary_run-run.new.reader = rw c.skip.ensures at c.ordinary_run-run.ensures.place in
     let after = run.after in
     let slice = rw (c.place-from.ensures, run.same) at c.since.ensures in
-    stands_slice text p c.ordinary_run-run.new.reader.at _ (omega arith) (rw c.skip.ensures at c.ordinary_run-run.ensures.inside) slice
+    holds_slice text p c.ordinary_run-run.new.reader.at _ (omega arith) (rw c.skip.ensures at c.ordinary_run-run.ensures.inside) slice

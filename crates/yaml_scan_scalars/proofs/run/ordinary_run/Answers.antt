@@ -1,5 +1,6 @@
 use Rattle.std.proofs.Common.{◌∙◌}
-use Rattle.yaml_scan_scalars.proofs.RunLemmas.{run_slice, stands_slice}
+use Rattle.yaml_scan_model.proofs.SparesLemmas.{holds_slice}
+use Rattle.yaml_scan_scalars.proofs.RunLemmas.{run_slice}
 use Rattle.yaml_scan_scalars.proofs.run.ordinary_run.Goals as goal
 
 pub returns-clause-bytes : goal.returns-clause-bytes
@@ -12,4 +13,4 @@ pub returns-clause-stands : goal.returns-clause-stands
 returns-clause-stands c =
     let run = c.pass_run.ensures.run in
     let b = rw (c.place-from.ensures, run.same) at c.since.ensures in
-    stands_slice _ _ _ _ run.after c.pass_run.ensures.inside b
+    holds_slice _ _ _ _ run.after c.pass_run.ensures.inside b

@@ -1,0 +1,95 @@
+//! Texts that were let go, in whose room later ones are made.
+
+ghost use Rattle.std.specs.Prelude.{◌≡◌, [], IfOk, vec_capacity};
+ghost use Rattle.yaml_scan_model.specs.Spares.{HoldsAt};
+
+use std::alloc::{AllocError, Global};
+use std::mem;
+
+/// The least room that is made: what the smallest block of common allocators holds.
+const LEAST_ROOM: usize = 24;
+
+/// How many bytes one move copies.
+const CHUNK: usize = 16;
+
+/// A copy of bytes that stand in the text from that place on, in the room of a spare text where they fit.
+// Inlined: mostly one move.
+#[inline(always)]
+pub fn copied(
+    spares: &mut Vec<Vec<u8>>,
+    text: &[u8],
+    from: usize,
+    bytes: &[u8],
+) -> Result<Vec<u8>, AllocError>
+    requires { HoldsAt text.now from bytes.now }
+    ensures { IfOk result (λ v. v.items ≡ bytes.now) }
+{
+    let count = bytes.len();
+    if CHUNK < count || text.len() - from < CHUNK {
+        return copied_apart(spares, bytes);
+    }
+    let mut copy = room(spares, CHUNK)?;
+    copy.extend_from_slice(&text[from..from + CHUNK])?;
+    copy.truncate(count);
+    Ok(copy)
+}
+
+/// A copy of bytes, in the room of a spare text where they fit.
+// Inlined: so the answer of the call out of line has a place of its own, and the other one none in memory.
+#[inline(always)]
+fn copied_apart(spares: &mut Vec<Vec<u8>>, bytes: &[u8]) -> Result<Vec<u8>, AllocError>
+    ensures { IfOk result (λ v. v.items ≡ bytes.now) }
+{
+    let copy = copied_whole(spares, bytes)?;
+    Ok(copy)
+}
+
+/// A copy of bytes, in the room of a spare text where they fit.
+// Out of line: most runs are short.
+#[inline(never)]
+pub fn copied_whole(spares: &mut Vec<Vec<u8>>, bytes: &[u8]) -> Result<Vec<u8>, AllocError>
+    ensures { IfOk result (λ v. v.items ≡ bytes.now) }
+{
+    let mut copy = room(spares, bytes.len())?;
+    copy.extend_from_slice(bytes)?;
+    Ok(copy)
+}
+
+/// An empty text with room for so many bytes: a spare one, where it has that.
+// Inlined: mostly it has it.
+#[inline(always)]
+pub fn room(spares: &mut Vec<Vec<u8>>, count: usize) -> Result<Vec<u8>, AllocError>
+    ensures { IfOk result (λ v. v.items ≡ []) }
+{
+    let alloc = *spares.allocator();
+    match spares.pop() {
+        Some(text) => cleared(alloc, text, count),
+        None => Vec::with_capacity(alloc, count.max(LEAST_ROOM)),
+    }
+}
+
+/// A text without its bytes, where it has room for so many, or else another one.
+// Inlined into its one caller.
+#[inline(always)]
+fn cleared(alloc: Global, text: Vec<u8>, count: usize) -> Result<Vec<u8>, AllocError>
+    ensures { IfOk result (λ v. v.items ≡ []) }
+{
+    if text.capacity() < count {
+        return Vec::with_capacity(alloc, count.max(LEAST_ROOM));
+    }
+    let mut text = text;
+    text.clear();
+    Ok(text)
+}
+
+/// The text, of which an empty one without room is left.
+// Inlined: some moves.
+#[inline(always)]
+pub fn moved(text: &mut Vec<u8>) -> Vec<u8>
+    ensures text { result ≡ text.old }
+    ensures none { text.new.items ≡ [] }
+    ensures left { vec_capacity text.new ≡ 0 }
+{
+    let alloc = *text.allocator();
+    mem::replace(text, Vec::new(alloc))
+}

@@ -88,6 +88,8 @@ fn checked_tag(token: &yaml_token_t, fault: &mut yaml_fault_t) -> bool
 }
 
 // The session's next token, or its fault, or that of its tag.
+// Inlined, as its callers are.
+#[inline(always)]
 fn take(session: &mut yaml_parser_t, token: &mut yaml_token_t, fault: &mut yaml_fault_t) -> bool
     ensures { Adapts session.old session.new result (token_of token.new) (fault_of fault.new) }
 {
@@ -122,6 +124,8 @@ impl<'a> yaml_token_source_t for yaml_adapter_t<'a> {
         Err(fault)
     }
 
+    // Inlined: the parser calls it at one place, for each token. So is what it calls, or that would stay a call.
+    #[inline(always)]
     fn next_token_into(&mut self, token: &mut yaml_token_t, fault: &mut yaml_fault_t) -> bool {
         if self.over {
             put_empty(token);

@@ -27,6 +27,11 @@ one_space flow allowed text p space h =
     let (m, room, far, inside, same) = gap_blank (length text) flow allowed text p (p + 1) (space_here (flow || not allowed) text p space) (omega arith) in
     same ∙ gap_stop m flow allowed text (p + 1) (p + 1) (lexeme_here (flow || not allowed) text (p + 1) h) room
 
+-- where no break is passed, a key may begin as before
+pub allowed_still : (allowed flow broke : Bool) → broke ≡ false → allowed ≡ (allowed || (broke && not flow))
+allowed_still true flow broke h = refl
+allowed_still false flow broke h = rw h refl
+
 none_by : (flow alone : Bool) (b n : ℕ) (k : Kind) → indicator_of flow alone b ≡ Some k → indicator_of flow alone n ≡ None → b ≢ n
 none_by flow alone b n k some none = λ same. let bad : indicator_of flow alone b ≡ None = rw same none in cc
 

@@ -31,14 +31,14 @@ impl<'a> Machine<'a> {
     {
         let mut reader = Reader::resume(self.text.as_slice(), self.place);
         let flow = 0 < self.depth;
-        let broke = pass_gap(&mut reader, flow, self.allowed);
+        let allowed = pass_gap(&mut reader, flow, self.allowed);
         spot.mark = reader.stop();
+        spot.allowed = allowed;
         let required = self.required();
         if let Some(start) = late(required, spot.mark) {
             put_late(fault, start, spot.mark);
             return None;
         }
-        spot.allowed = allowed_behind(self.allowed, broke, flow);
         let Some(kind) = kind_at(&reader, flow) else {
             put_no_token(fault, spot.mark);
             return None;
@@ -62,28 +62,30 @@ impl Spot {
     }
 }
 
-/// Past what stands between lexemes, and whether a break was among it. Mostly it is nothing or one space, which is asked
-/// before the loop over all that may stand there.
+/// Past what stands between lexemes, and whether a key may begin behind it. Mostly it is nothing or one space, which is
+/// asked before the loop over all that may stand there.
 // Inlined: a reader that is lent to a call lives in memory.
 #[inline(always)]
 fn pass_gap(reader: &mut Reader, flow: bool, allowed: bool) -> bool
-    ensures gap { gap_at flow allowed reader.old.text reader.old.at
-        ≡ record { place = reader.new.at; broke = result } }
+    ensures place { (gap_at flow allowed reader.old.text reader.old.at).place ≡ reader.new.at }
+    ensures allowed { result ≡ (allowed || ((gap_at flow allowed reader.old.text
+        reader.old.at).broke && not flow)) }
     ensures text { reader.new.text ≡ reader.old.text }
 {
     let byte = reader.here();
     if is_behind_hash(byte) {
-        return false;
+        return allowed;
     }
     if byte == b' ' {
         if begins(reader.byte(1)) {
             reader.skip();
-            return false;
+            return allowed;
         }
     } else if byte == b'"' {
-        return false;
+        return allowed;
     }
-    skip_gap(reader, flow, allowed)
+    let broke = skip_gap(reader, flow, allowed);
+    allowed_behind(allowed, broke, flow)
 }
 
 /// Whether the byte is behind `#` in ASCII: it begins a lexeme.

@@ -49,20 +49,16 @@ impl<'a> Machine<'a> {
         ensures { Steps self.old self.new (fault_of fault.new) result }
     {
         let required = self.required();
-        if self.may_refuse(kind, *spot, required) {
+        if !kind.is_value() && self.may_refuse(kind, *spot, required) {
             return self.of_rare(kind, spot, spares, fault);
         }
         self.step_by(kind, *spot, required, spares, fault)
     }
 
-    /// Whether a lexeme of that kind may be refused for what stands before it. Outside all brackets a `:` takes or cancels the
-    /// required candidate, so that it is asked for inside them alone; whether a `:` stands where it may is left to its own way.
+    /// Whether a lexeme of that kind may be refused for what stands before it.
     // Inlined: the kind is known where it is called.
     #[inline(always)]
     fn may_refuse(&self, kind: Kind, spot: Spot, required: Option<yaml_mark_t>) -> bool {
-        if kind.is_value() {
-            return required.is_some() && 0 < self.depth;
-        }
         required.is_some() || kind.is_start() && self.depth == 0 && !spot.allowed
     }
 

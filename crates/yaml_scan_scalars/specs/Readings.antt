@@ -25,7 +25,8 @@ Took text start p old new place (Err e) Closing = ⊥
 
 -- What reading a scalar answers, and where it leaves the reader: the value and the place after it, what is wrong, or
 -- that memory ran out.
-abbrev pub Reads : List ℕ → ℕ → Place → Result (Vec ℕ) ScanError → Result (List ℕ × ℕ) Wrong → Type 0
+abbrev pub Reads : List ℕ → ℕ → Place → Result (Vec ℕ) ScanError → Result (List ℕ × ℕ) Wrong
+    → Type 0
 Reads text start place (Ok v) (Ok x) = (v.items ≡ x.0)
     × (place ≡ record { text = text; at = x.1 })
 Reads text start place (Ok v) (Err w) = ⊥

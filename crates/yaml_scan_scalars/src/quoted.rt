@@ -1,6 +1,6 @@
 //! Double and single quoted scalars (YAML 1.1, sections 9.1.1 and 9.1.2).
 
-ghost use Rattle.std.specs.Prelude.{◌≡◌, ◌+◌, ◌-◌, ◌<◌, ◌&&◌, ◌==◌, ◌⊎◌, ℕ, true, false, not, List, ◌++◌, length, OnOk, Ok};
+ghost use Rattle.std.specs.Prelude.{◌≡◌, ◌+◌, ◌-◌, ◌<◌, ◌&&◌, ◌==◌, ◌⊎◌, true, false, not, List, ◌++◌, length, OnOk, IfOk};
 ghost use Rattle.yaml_scan_model.specs.Spares.{HoldsAt};
 ghost use Rattle.yaml_scan_model.specs.Marks.{byte, mark_at};
 ghost use Rattle.yaml_scan_model.specs.declared.record.yaml_mark_t.{yaml_mark_t};
@@ -51,7 +51,8 @@ fn quoted(spares: &mut Vec<Vec<u8>>, reader: &mut Reader, quote: u8) -> Result<V
     let from = reader.place();
     let bytes = ordinary_run(reader);
     if closes(reader, quote) {
-        return one_run(spares, reader, from, bytes);
+        let value = one_run(spares, reader, from, bytes)?;
+        return Ok(value);
     }
     many_runs(spares, reader, bytes, start, quote)
 }
@@ -71,12 +72,15 @@ fn one_run(
     reader: &mut Reader,
     from: usize,
     bytes: &[u8],
-) -> Result<Vec<u8>, ScanError>
+) -> Result<Vec<u8>, AllocError>
     requires closing { (byte reader.old.text reader.old.at ≡ 34)
         ⊎ (byte reader.old.text reader.old.at ≡ 39) }
     requires stands { HoldsAt reader.old.text from bytes.now }
-    ensures { (start : ℕ) → Reads reader.old.text start reader.new result
-        (Ok (bytes.now, reader.old.at + 1)) }
+    ensures value { IfOk result (λ v. v.items ≡ bytes.now) }
+    ensures place { OnOk result (reader.new ≡ record {
+      text = reader.old.text;
+      at = reader.old.at + 1;
+    }) }
 {
     let value = copied(spares, reader.text(), from, bytes)?;
     reader.skip();

@@ -1,4 +1,4 @@
-use Rattle.std.proofs.Common.{◌≡◌, ◌+◌, ◌-◌, suc, arith, ◌∙◌, ap, sym, true, false, refl, ℕ, Ok}
+use Rattle.std.proofs.Common.{◌≡◌, ◌+◌, ◌-◌, suc, arith, ◌∙◌, sym, true, false, refl, ℕ, Ok}
 use Rattle.std.proofs.lemmas.Result.{err_from_is_err_and}
 use Rattle.yaml_scan_scalars.specs.Plain.{spot_at}
 use Rattle.yaml_scan_scalars.specs.Joined.{Steps, TookFirst, TookWords}

@@ -7,6 +7,3 @@ skip-requires-clause-inside c = quote_some _ _ refl c.requires.closing
 
 pub skip-requires-clause-no_break : goal.skip-requires-clause-no_break
 skip-requires-clause-no_break c = quote_no_break _ _ _ _ refl c.requires.closing
-
-pub returns : goal.returns
-returns c = λ start. (c.in_ok-value.ensures, c.skip.ensures)

@@ -27,7 +27,7 @@ returns-then-closes c =
     let inside = within text p (quote_some c.args.quote _ c.requires.opened c.requires.quote) in
     let both = closes_both _ _ _ (rw run.same at (sym c.closes.ensures ∙ c.if-closes.true)) in
     let one = quoted_one c.args.quote text p c.ordinary_run-bytes.new.reader c.requires.quote inside run both.0 both.1 in
-    rw (one, ← bytes) (rw run.same at (c.one_run.ensures p))
+    rw (one, ← bytes) (c.in_ok-value.ensures.value, rw run.same at c.in_ok-value.ensures.place)
 
 pub many_runs-requires-clause-inside : goal.many_runs-requires-clause-inside
 many_runs-requires-clause-inside c =

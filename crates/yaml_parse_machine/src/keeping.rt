@@ -86,20 +86,20 @@ pub(crate) fn tag_from(
 pub(crate) fn room(
     spare: &mut Option<Box<Properties>>,
     alloc: Global,
-    from: yaml_mark_t,
-    to: yaml_mark_t,
+    from: &yaml_mark_t,
+    to: &yaml_mark_t,
 ) -> Result<Box<Properties>, AllocError>
     ensures { IfOk result (λ b. properties_of b.value
-        ≡ record { anchor = None; tag = None; from = from; to = to }) }
+        ≡ record { anchor = None; tag = None; from = from.now; to = to.now }) }
 {
     match spare.take() {
-        None => new_room(alloc, from, to),
+        None => new_room(alloc, *from, *to),
         Some(emptied) => {
             let mut properties = emptied;
             properties.anchor = None;
             properties.tag = None;
-            properties.from = from;
-            properties.to = to;
+            properties.from = *from;
+            properties.to = *to;
             Ok(properties)
         }
     }
@@ -132,7 +132,7 @@ pub(crate) fn keep_anchor(
         (record { anchor = Some name.old.items; tag = None; from = from; to = to })
         ∷ stack_of stack.old.items) }
 {
-    let mut properties = room(spare, *name.allocator(), from, to)?;
+    let mut properties = room(spare, *name.allocator(), &from, &to)?;
     properties.anchor = Some(moved(name));
     await_rest(stack, wants, properties)
 }
@@ -150,7 +150,7 @@ pub(crate) fn keep_tag(
         (record { anchor = None; tag = Some (tag_of tag); from = tag.mark; to = to })
         ∷ stack_of stack.old.items) }
 {
-    match room(spare, *tag.handle.allocator(), tag.mark, to) {
+    match room(spare, *tag.handle.allocator(), &tag.mark, &to) {
         Ok(empty) => {
             let mut properties = empty;
             properties.tag = Some(tag);

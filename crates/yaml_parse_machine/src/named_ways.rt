@@ -3,7 +3,7 @@
 //! A tag is resolved by the directives, which no swift way looks at: a node that has one goes the general way.
 
 ghost use Rattle.std.specs.Prelude.{◌≡◌, ◌<◌, ◌∷◌, None, Some, vec_len, vec_capacity};
-ghost use Rattle.yaml_parse_model.specs.Events.{event_of, text_of};
+ghost use Rattle.yaml_parse_model.specs.Events.{Event, event_of, text_of};
 ghost use Rattle.yaml_parse_model.specs.Tokens.{token_of};
 ghost use Rattle.yaml_parse_grammar.specs.Items.{item_at};
 ghost use Rattle.yaml_parse_grammar.specs.Items as item;
@@ -14,7 +14,7 @@ ghost use Rattle.yaml_parse_machine.specs.Swiftly.{IsReady, Swiftly, SwiftlyOn};
 
 use crate::item::{Properties, State, Tag};
 use crate::pushing::put;
-use crate::room::{exchanged, moved};
+use crate::room::moved;
 use crate::swift_ways::Swift;
 use crate::telling::{tell_named_scalar, tell_named_start};
 use yaml_parse_grammar::{Brackets, Wants};
@@ -106,19 +106,17 @@ fn at_tagged(
     wants: Wants,
     properties: Box<Properties>,
     token: &mut yaml_token_t,
-    event: &mut yaml_event_t,
 ) -> Swift
     requires room { vec_len stack.old < vec_capacity stack.old }
     requires anchor { properties.value.anchor ≡ None }
-    ensures { Swiftly (state.with_properties wants (properties_of properties.value))
+    ensures { (e : Event) → Swiftly (state.with_properties wants (properties_of properties.value))
         (token_of token.old) (state.with_properties wants (properties_of properties.value)
-        ∷ stack_of stack.old.items) result (event_of event.new) (token_of token.new)
-        (stack_of stack.new.items) }
+        ∷ stack_of stack.old.items) result e (token_of token.new) (stack_of stack.new.items) }
 {
     match &mut token.body {
         yaml_token_body_t::Anchor { value } => {
             let mut both = properties;
-            both.anchor = Some(exchanged(&mut event.body, value));
+            both.anchor = Some(moved(value));
             both.to = token.end_mark;
             put_back(stack, wants, both);
             Swift::Silent
@@ -148,7 +146,7 @@ fn behind(
     match properties.tag {
         None => at_anchored(stack, wants, properties, token, event, spare),
         Some(_) => match properties.anchor {
-            None => at_tagged(stack, wants, properties, token, event),
+            None => at_tagged(stack, wants, properties, token),
             Some(_) => {
                 put_back(stack, wants, properties);
                 Swift::Other

@@ -163,13 +163,13 @@ fn keep_anchor(
     stack: &mut Vec<State>,
     place: Site,
     name: Vec<u8>,
-    from: yaml_mark_t,
-    to: yaml_mark_t,
+    from: &yaml_mark_t,
+    to: &yaml_mark_t,
     spare: &mut Option<Box<Properties>>,
 ) -> Swift
     requires { 0 < vec_len stack.old }
     ensures { Awaits place
-        (record { anchor = Some name.items; tag = None; from = from; to = to })
+        (record { anchor = Some name.items; tag = None; from = from.now; to = to.now })
         (stack_of stack.old.items) result (stack_of stack.new.items) }
 {
     match room(spare, *name.allocator(), from, to) {
@@ -187,15 +187,15 @@ fn keep_tag(
     stack: &mut Vec<State>,
     place: Site,
     tag: Tag,
-    to: yaml_mark_t,
+    to: &yaml_mark_t,
     spare: &mut Option<Box<Properties>>,
 ) -> Swift
     requires { 0 < vec_len stack.old }
     ensures { Awaits place
-        (record { anchor = None; tag = Some (tag_of tag); from = tag.mark; to = to })
+        (record { anchor = None; tag = Some (tag_of tag); from = tag.mark; to = to.now })
         (stack_of stack.old.items) result (stack_of stack.new.items) }
 {
-    match room(spare, *tag.handle.allocator(), tag.mark, to) {
+    match room(spare, *tag.handle.allocator(), &tag.mark, to) {
         Ok(empty) => {
             let mut properties = empty;
             properties.tag = Some(tag);
@@ -229,11 +229,18 @@ fn at_rare(
         }
         yaml_token_body_t::Anchor { value } => {
             let name = name_of(value, spare);
-            keep_anchor(stack, place, name, token.start_mark, token.end_mark, spare)
+            keep_anchor(
+                stack,
+                place,
+                name,
+                &token.start_mark,
+                &token.end_mark,
+                spare,
+            )
         }
         yaml_token_body_t::Tag { handle, suffix } => {
             let tag = tag_from(handle, suffix, token.start_mark, spare);
-            keep_tag(stack, place, tag, token.end_mark, spare)
+            keep_tag(stack, place, tag, &token.end_mark, spare)
         }
         _ => at_block(stack, place, token, event),
     }

@@ -1,11 +1,20 @@
 -- Walks over the characters of a value.
-use Rattle.std.proofs.Common.{◌≡◌, ℕ, List, [], ◌∷◌, Bool, refl, sym, ◌∙◌, ap, subst}
+use Rattle.std.proofs.Common.{◌≡◌, ℕ, List, [], ◌∷◌, length, Bool, true, refl, sym, ◌∙◌, ap, subst, arith}
+use Rattle.std.specs.Prelude.{◌==◌}
+use Rattle.std.specs.Str.{chars}
+use Rattle.std.proofs.lemmas.Bool.Decides.{nat_tests}
+use Rattle.std.proofs.lemmas.Str.{chars-nil}
 use Rattle.yaml_emit_text.specs.declared.page.Page.{Page}
 use Rattle.yaml_emit_sink.specs.Text.{is_break}
 use Rattle.yaml_emit_sink.specs.Layout.{Layout, ◌▹◌, stay, when, line}
 use Rattle.yaml_emit_text.specs.Scalars.{flow_body, flow_char, block_body, block_char, line_blank}
 use Rattle.yaml_emit_sink.specs.Sink.{Output, Owes, Puts}
 use Rattle.yaml_emit_sink.proofs.Sinks.{owes_more}
+
+-- no byte, no character
+pub no_chars : (text : List ℕ) → (length text == 0) ≡ true → chars text ≡ []
+no_chars [] e = chars-nil
+no_chars (b ∷ bs) e = absurd (grind (arith, nat_tests, e))
 
 -- Any walk, with the character before: a character more.
 pub walk_more : (body : ℕ → List ℕ → Layout) (step : ℕ → ℕ → List ℕ → Layout) → ((before x : ℕ) (xs : List ℕ) → body before (x ∷ xs) ≡ (step before x xs ▹ body x xs))

@@ -166,9 +166,10 @@ fn put_flow_body(sink: &mut Sink, page: Page, quote: bool, value: &str)
     ensures { Puts sink.old sink.new (flow_body page quote 32 (chars value.now)) }
 {
     let (before, left) = put_flow_run(sink, page, quote, ' ', value);
-    match split_first(left) {
-        None => put_line_if(sink, is_break(before), page),
-        Some(_) => put_flow_rest(sink, page, quote, before, left),
+    if left.is_empty() {
+        put_line_if(sink, is_break(before), page);
+    } else {
+        put_flow_rest(sink, page, quote, before, left);
     }
 }
 

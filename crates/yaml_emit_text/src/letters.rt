@@ -15,8 +15,6 @@ pub fn text(bytes: &[u8]) -> &str
 }
 
 /// The first character and what follows it.
-// Inlined: mostly it is asked whether there is one.
-#[inline(always)]
 pub(crate) fn split_first(text: &str) -> Option<(char, &str)>
     ensures letters { MatchOption result (chars text.now ≡ [])
         (λ p. chars text.now ≡ p.0 ∷ chars p.1.now) }

@@ -217,10 +217,10 @@ fn put_quoted_body(sink: &mut Sink, page: Page, value: &str)
     ensures { Puts sink.old sink.new (quoted_body page 32 (chars value.now)) }
 {
     let (before, left) = put_quoted_run(sink, page, ' ', value);
-    match split_first(left) {
-        None => (),
-        Some(_) => put_quoted_rest(sink, page, before, left),
+    if left.is_empty() {
+        return;
     }
+    put_quoted_rest(sink, page, before, left);
 }
 
 /// The quote that opens a double quoted scalar, behind `!` where that is due, with spaces in front where they are due.

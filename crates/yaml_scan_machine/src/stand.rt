@@ -4,7 +4,7 @@ ghost use Rattle.std.specs.Prelude.{◌≡◌, ◌+◌, ◌<◌, ◌&&◌, ◌||
 ghost use Rattle.yaml_scan_model.specs.Faults.{fault_of};
 ghost use Rattle.yaml_scan_words.specs.Between.{gap_at};
 ghost use Rattle.yaml_scan_machine.specs.Reads.{colon_fault, no_token_fault};
-ghost use Rattle.yaml_scan_machine.specs.Scanned.{IsLocated};
+ghost use Rattle.yaml_scan_machine.specs.Left.{IsLocated};
 
 use crate::machine::{Machine, put_fault};
 use crate::next::{Spot, late, no_colon};

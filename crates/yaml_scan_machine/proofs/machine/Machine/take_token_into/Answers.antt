@@ -4,7 +4,7 @@ use Rattle.yaml_scan_decode.specs.DecodedText.{text_bytes}
 use Rattle.yaml_scan_model.specs.Tokens.{Token, TokenBody, body_of, token_of}
 use Rattle.yaml_scan_history.specs.Remaining.{remaining, before, body_in, token_in}
 use Rattle.yaml_scan_laws_order.specs.Fronts.{GivesFirst}
-use Rattle.yaml_scan_machine.specs.Scanned.{left_in}
+use Rattle.yaml_scan_machine.specs.Left.{left_in}
 use Rattle.yaml_scan_queue.specs.declared.waiting.Waiting.{Waiting}
 use Rattle.yaml_scan_machine.specs.State.{IsMachine, ready_in, AreInside, AreBounded}
 use Rattle.yaml_scan_machine.proofs.SafeLemmas.{inside_rest}

@@ -89,7 +89,8 @@ def wrong(crate, words, names):
 def main():
     found = 0
     for crate in repo.crates():
-        paths = glob.glob(f"{repo.TOP}/crates/{crate}/**/*", recursive=True)
+        folder = f"{repo.TOP}/crates/{crate}"
+        paths = [it for part in ("src", "specs", "proofs") for it in glob.glob(f"{folder}/{part}/**/*", recursive=True)]
         for path in sorted(os.path.relpath(it, repo.TOP) for it in paths if it.endswith((".rt", ".antt"))):
             if path.endswith("/Lib.antt"):
                 continue

@@ -14,7 +14,7 @@ import store
 MEMORY = 3_000_000_000
 # More jobs than these don't make the check of one crate shorter.
 MOST_JOBS = 4
-# The part of the lines, in 100, behind which the time that is left is told.
+# The part of the work, in 100, behind which the time that is left is told.
 TELLING_PART = 5
 # A crate that took fewer seconds was taken from what an earlier run kept, and says nothing of how fast crates are proved.
 PROVED_SECONDS = 5
@@ -62,23 +62,29 @@ def kept_by(rt, top, crates):
         return store.Kept(f"{top}/out/proved", line.read())
 
 
-def lines_of(crate):
+# What a line of code weighs, of which each function is proved step by step, beside one of a definition or a proof; and what
+# loading costs each crate.
+CODE_WEIGHS = 35
+LOADING_WEIGHS = 4000
+
+
+def work_of(crate):
     """A measure of a crate's work."""
-    found = 0
-    for part in ("src", "specs", "proofs"):
+    found = LOADING_WEIGHS
+    for part, weighs in (("src", CODE_WEIGHS), ("specs", 1), ("proofs", 1)):
         for folder, _, names in os.walk(f"{crate.folder}/{part}"):
             for name in names:
                 with open(f"{folder}/{name}", "rb") as file:
-                    found += file.read().count(b"\n")
+                    found += weighs * file.read().count(b"\n")
     return found
 
 
-def longest_behind(crates, lines):
-    """For each crate its lines and those of the longest chain of crates above it."""
-    behind = dict(lines)
+def longest_behind(crates, work):
+    """For each crate its work and that of the longest chain of crates above it."""
+    behind = dict(work)
     for crate in reversed(crates):
         for it in crate.deps:
-            behind[it] = max(behind[it], lines[it] + behind[crate])
+            behind[it] = max(behind[it], work[it] + behind[crate])
     return behind
 
 
@@ -86,12 +92,12 @@ class Lanes:
     """The crates that are still to be built, and those that are under way. `build` makes one of them with so many jobs, and answers its status."""
 
     def __init__(self, what, crates, build):
-        self.lines = {it: lines_of(it) for it in crates}
-        behind = longest_behind(crates, self.lines)
+        self.work = {it: work_of(it) for it in crates}
+        behind = longest_behind(crates, self.work)
         self.left = sorted(crates, key=lambda it: -behind[it])
         self.what, self.lanes, self.build = what, processors(), build
         self.total, self.done, self.running, self.failed = len(crates), set(), {}, []
-        self.proved_lines = 0
+        self.proved_work = 0
 
     def begin(self, pool):
         """Begins what can begin, each with its share of the idle processors."""
@@ -110,10 +116,10 @@ class Lanes:
 
     def time_left(self):
         """How long the rest takes if it is proved as fast as what was proved so far."""
-        rest = sum(self.lines.values()) - sum(self.lines[it] for it in self.done)
-        if not rest or 100 * self.proved_lines < TELLING_PART * sum(self.lines.values()):
+        rest = sum(self.work.values()) - sum(self.work[it] for it in self.done)
+        if not rest or 100 * self.proved_work < TELLING_PART * sum(self.work.values()):
             return ""
-        return f"; some {1 + int((time.monotonic() - BEGAN) * rest / self.proved_lines) // 60} min left"
+        return f"; some {1 + int((time.monotonic() - BEGAN) * rest / self.proved_work) // 60} min left"
 
     def end(self):
         """Waits until one has ended, and tells it."""
@@ -121,10 +127,10 @@ class Lanes:
             crate, jobs = self.running.pop(future)
             status, spent = future.result()
             self.done.add(crate)
-            self.proved_lines += self.lines[crate] if spent > PROVED_SECONDS else 0
+            self.proved_work += self.work[crate] if spent > PROVED_SECONDS else 0
             if status:
                 self.failed.append(crate.name)
-            part = 100 * sum(self.lines[it] for it in self.done) // sum(self.lines.values())
+            part = 100 * sum(self.work[it] for it in self.done) // sum(self.work.values())
             word = f"NOT PROVED, by its log {crate.name}.log" if status else "proved"
             line = f"{len(self.done)} of {self.total}, {part} in 100: {crate.name} {word}, {spent:.0f} s, jobs {jobs}"
             say(self.what, line + self.time_left())

@@ -1,4 +1,3 @@
-pub mod Pushes
 pub mod Sinks
 mod Encodes
 mod Ascii

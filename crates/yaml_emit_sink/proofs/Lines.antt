@@ -1,6 +1,6 @@
 -- A break and the spaces behind it.
-use Rattle.std.proofs.Common.{◌≡◌, ℕ, ◌+◌, ◌-◌, ◌≤◌, List, [], ◌∷◌, ◌++◌, take, length, length-append, true, false, cond, refl, sym, subst, ◌∙◌, ap, append_assoc, arith}
-use Rattle.std.specs.Prelude.{if◌then◌else◌, zero, suc, replicate}
+use Rattle.std.proofs.Common.{◌≡◌, ℕ, ◌+◌, ◌-◌, ◌≤◌, List, [], ◌∷◌, ◌++◌, take, length, length-append, true, false, sym, subst, ◌∙◌, ap, append_assoc, arith}
+use Rattle.std.specs.Prelude.{zero, suc, replicate}
 use Rattle.std.proofs.lemmas.List.{take-replicate, length-replicate}
 use Rattle.yaml_emit_sink.specs.declared.cursor.Cursor.{Cursor}
 use Rattle.yaml_emit_sink.specs.declared.cursor.Status.{Status}
@@ -8,9 +8,9 @@ use Rattle.yaml_emit_sink.specs.declared.cursor.Status.TheVariants.{Going}
 use Rattle.yaml_emit_sink.specs.declared.settings.Encoding.TheVariants.{Utf8}
 use Rattle.yaml_emit_sink.specs.declared.settings.LineBreak.{LineBreak}
 use Rattle.yaml_emit_sink.specs.declared.settings.LineBreak.TheVariants.{Lf, Cr, CrLf}
-use Rattle.yaml_emit_sink.specs.Text.{Item, letter, encode, char_bytes, is_deep}
-use Rattle.yaml_emit_sink.specs.Layout.{Layout, Rest, blanks, new_line, fresh, line, must_break, indent_to}
-use Rattle.yaml_emit_sink.specs.Appends.{AppendsBy, blanked, indented}
+use Rattle.yaml_emit_sink.specs.Text.{letter, encode, char_bytes, is_deep}
+use Rattle.yaml_emit_sink.specs.Layout.{Rest, blanks, fresh, line, must_break, indent_to}
+use Rattle.yaml_emit_sink.specs.Appends.{AppendsBy, indented}
 use Rattle.yaml_emit_sink.specs.Sink.{Output, Puts}
 use Rattle.yaml_emit_sink.proofs.Sinks.{puts_as, puts_run, cond_true, cond_false, stepped, stepped_none, stepped_is, blanks_encode, blanks_deep}
 

@@ -9,50 +9,7 @@ use crate::bytes::bytes_of;
 use crate::cursor::{Cursor, Status};
 use crate::settings::Encoding;
 use std::alloc::AllocError;
-
-// These bytes, where nothing has to grow.
-// Inlined: where their number is known, they are stored with no test between.
-#[inline(always)]
-pub(crate) fn push_each(output: &mut Vec<u8>, bytes: &[u8])
-    requires { vec_len output.old + length bytes.now ≤ vec_capacity output.old }
-    ensures items { output.new.items ≡ output.old.items ++ bytes.now }
-    ensures room { vec_capacity output.new ≡ vec_capacity output.old }
-{
-    for byte in bytes {
-        output.push_reserved(*byte);
-    }
-}
-
-// These bytes, which may be many, for which there is room.
-// Out of line: what a copy needs would take registers from the few bytes beside it.
-#[inline(never)]
-fn append_many(output: &mut Vec<u8>, bytes: &[u8])
-    requires { vec_len output.old + length bytes.now ≤ vec_capacity output.old }
-    ensures items { output.new.items ≡ output.old.items ++ bytes.now }
-    ensures room { vec_capacity output.old ≤ vec_capacity output.new }
-{
-    // There is room, so that it isn't refused.
-    let _ = output.extend_from_slice(bytes);
-}
-
-// These bytes, for which there is room: up to eight take less time than a copy, one by one with their number known.
-pub(crate) fn append_near(output: &mut Vec<u8>, bytes: &[u8])
-    requires { vec_len output.old + length bytes.now ≤ vec_capacity output.old }
-    ensures items { output.new.items ≡ output.old.items ++ bytes.now }
-    ensures room { vec_capacity output.old ≤ vec_capacity output.new }
-{
-    match bytes.len() {
-        1 => push_each(output, &bytes[..1]),
-        2 => push_each(output, &bytes[..2]),
-        3 => push_each(output, &bytes[..3]),
-        4 => push_each(output, &bytes[..4]),
-        5 => push_each(output, &bytes[..5]),
-        6 => push_each(output, &bytes[..6]),
-        7 => push_each(output, &bytes[..7]),
-        8 => push_each(output, &bytes[..8]),
-        _ => append_many(output, bytes),
-    }
-}
+use yaml_scan_model::{push_each, push_near};
 
 // These bytes, as far as the limit and the memory allow, and what becomes of the output.
 pub(crate) fn append(output: &mut Vec<u8>, limit: u64, bytes: &[u8]) -> Status
@@ -147,7 +104,7 @@ fn append_deep(output: &mut Vec<u8>, count: u64)
     ensures room { vec_capacity output.old ≤ vec_capacity output.new }
 {
     output.push_reserved(b'\n');
-    append_near(output, &BLANKS[..count as usize]);
+    push_near(output, &BLANKS[..count as usize]);
 }
 
 // A line feed and so many spaces, for which there is room: the numbers that are met most are known one by one.

@@ -4,14 +4,15 @@ ghost use Rattle.std.specs.Prelude.{◌≡◌, ◌≢◌, ◌<◌, ◌≤◌, �
 ghost use Rattle.std.specs.Vec.{vec_capacity};
 
 use crate::append::{
-    append, append_blanks, append_char, append_line, append_near, blanked, byte_of, indented,
-    is_roomy, lettered, moved, push_each,
+    append, append_blanks, append_char, append_line, blanked, byte_of, indented, is_roomy,
+    lettered, moved,
 };
 use crate::cursor::{Cursor, Status};
 use crate::narrow::is_long_ascii;
 use crate::settings::{Encoding, LineBreak};
 use std::alloc::{AllocError, Global};
 use std::marker::Model;
+use yaml_scan_model::{push_each, push_near};
 
 /// An output: bytes up to a limit, the cursor, and whether it goes on. Once it has stopped, nothing more is written, and it
 /// stays stopped.
@@ -289,7 +290,7 @@ impl Sink {
             return;
         }
         if has_room(&self.output, self.fast_limit, text.len() as u64) {
-            append_near(&mut self.output, text);
+            push_near(&mut self.output, text);
             lettered(&mut self.cursor, text.len() as u64);
         } else {
             self.put_far(text);

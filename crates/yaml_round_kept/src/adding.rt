@@ -11,6 +11,7 @@ use crate::spelling::{
 };
 use std::alloc::AllocError;
 use yaml_parse_model::{yaml_event_body_t, yaml_event_t};
+use yaml_scan_model::push_near;
 
 // Longer texts than four bytes can tell aren't kept.
 const LONGEST: usize = 0xFFFF_FFFF;
@@ -67,39 +68,6 @@ fn add_head(bytes: &mut Vec<u8>, head: u8) -> Result<(), AllocError>
 {
     bytes.push(head)?;
     Ok(())
-}
-
-// Adds these bytes, for which there is room.
-// Inlined: where their number is known, they are stored with no test between.
-#[inline(always)]
-fn push_each(bytes: &mut Vec<u8>, text: &[u8])
-    requires { vec_len bytes.old + length text.now ≤ vec_capacity bytes.old }
-    ensures items { bytes.new.items ≡ bytes.old.items ++ text.now }
-{
-    for byte in text {
-        bytes.push_reserved(*byte);
-    }
-}
-
-// Adds these bytes, for which there is room: up to eight take less time than a copy, one by one with their number known.
-fn push_near(bytes: &mut Vec<u8>, text: &[u8])
-    requires { vec_len bytes.old + length text.now ≤ vec_capacity bytes.old }
-    ensures items { bytes.new.items ≡ bytes.old.items ++ text.now }
-{
-    match text.len() {
-        1 => push_each(bytes, &text[..1]),
-        2 => push_each(bytes, &text[..2]),
-        3 => push_each(bytes, &text[..3]),
-        4 => push_each(bytes, &text[..4]),
-        5 => push_each(bytes, &text[..5]),
-        6 => push_each(bytes, &text[..6]),
-        7 => push_each(bytes, &text[..7]),
-        8 => push_each(bytes, &text[..8]),
-        _ => {
-            // There is room, so that it isn't refused.
-            let _ = bytes.extend_from_slice(text);
-        }
-    }
 }
 
 // Adds a head and a text whose length one byte tells: room for all is made at once.

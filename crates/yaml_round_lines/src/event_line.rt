@@ -7,7 +7,7 @@ ghost use Rattle.yaml_round_lines.specs.EventLine.{escaped_byte, escaped, anchor
 
 use std::alloc::AllocError;
 use yaml_parse_model::{yaml_event_body_t, yaml_event_t};
-use yaml_scan_model::yaml_scalar_style_t;
+use yaml_scan_model::{push_each, yaml_scalar_style_t};
 
 // So many bytes are looked at together; the kept bytes of a shorter text are added byte by byte.
 const CHUNK: usize = 16;
@@ -146,20 +146,6 @@ fn push_end(line: &mut Vec<u8>) -> Result<(), AllocError>
 {
     line.push(b'\n')?;
     Ok(())
-}
-
-// Adds these bytes, for which there is room.
-// Inlined: some stores, for words of a fixed length.
-#[inline(always)]
-fn push_each(line: &mut Vec<u8>, bytes: &[u8])
-    requires { vec_len line.old + length bytes.now ≤ vec_capacity line.old }
-    ensures items { line.new.items ≡ line.old.items ++ bytes.now }
-    ensures len { vec_len line.new ≡ vec_len line.old + length bytes.now }
-    ensures capacity { vec_capacity line.new ≡ vec_capacity line.old }
-{
-    for byte in bytes {
-        line.push_reserved(*byte);
-    }
 }
 
 // Adds the line of an event that its word alone tells: its room is made at once.

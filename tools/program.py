@@ -14,6 +14,7 @@ It works on a copy, as `rt ci NAME` does, and by the functions that `rt ci` is m
 are loaded with their proofs: above the engine that costs as much again as to prove. Where a kit has other functions, `rt run`
 or `rt lib` proves one crate after another.
 """
+import contextlib
 import os
 import shutil
 import subprocess
@@ -54,12 +55,21 @@ def compiled(rt, crate, jobs):
 
 def proved(rt, kept, crate, jobs):
     """Proves a library, or takes what an earlier run made of the same."""
+    # where the library's files stand already, the kit's store can't link its own there, takes them for damaged and drops them
+    shutil.rmtree(os.path.dirname(crate.rlib), ignore_errors=True)
     key = kept.key(crate)
-    status = 0 if kept.give(crate, False, key) else crate.ci(["--jobs", str(jobs)], False)
-    if not status:
-        kept.is_built(crate)
-        kept.keep(crate, False, key)
+    with kept.in_turn(crate, False, key) if hasattr(kept, "in_turn") else contextlib.nullcontext():
+        status = 0 if kept.give(crate, False, key) else proved_anew(crate, jobs)
+        if not status:
+            kept.is_built(crate)
+            kept.keep(crate, False, key)
     return status
+
+
+def proved_anew(crate, jobs):
+    """Proves a library. One that was taken from what is kept has its files there too, so it isn't written over."""
+    shutil.rmtree(crate.rlib, ignore_errors=True)
+    return crate.ci(["--jobs", str(jobs)], False)
 
 
 def built(rt, kept, logs, crate, jobs):

@@ -4,7 +4,7 @@
 use std::alloc::Global;
 use std::io::Write;
 use yaml_round_device::{yaml_fault_line, yaml_run_fault_t};
-use yaml_scan_model::yaml_fault_t;
+use yaml_scan_types::yaml_fault_t;
 
 /// How many bytes an input may have.
 pub const INPUT_LIMIT: u64 = 1_073_741_824;

@@ -2,8 +2,9 @@
 //! what judges them doesn't see the matches.
 
 use clap::ArgMatches;
-use yaml_round_device::{yaml_command_t, yaml_output_encoding_t, yaml_settings_t};
-use yaml_scan_model::{yaml_break_t, yaml_encoding_t};
+use yaml_parse_types::yaml_break_t;
+use yaml_round_settings::{yaml_command_t, yaml_output_encoding_t, yaml_settings_t};
+use yaml_scan_types::yaml_encoding_t;
 
 /// What a run is told to do.
 #[derive(Clone, Copy)]

@@ -13,7 +13,8 @@ use std::alloc::{AllocError, Global};
 use std::collections::BTreeSet;
 use yaml_emit_layout::{Expected, Level, Phase, Problem};
 use yaml_parse_model::yaml_event_body_t;
-use yaml_scan_model::{IS_ALPHA, yaml_tag_directive_t, yaml_version_directive_t};
+use yaml_scan_classes::IS_ALPHA;
+use yaml_scan_model::{yaml_tag_directive_t, yaml_version_directive_t};
 
 fn are_alphas(name: &[u8]) -> bool
     ensures { result ≡ list_all is_alpha_byte name.now }

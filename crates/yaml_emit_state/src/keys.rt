@@ -13,7 +13,8 @@ use crate::given::{Context, Scalar, Start};
 use yaml_emit_layout::{Level, Phase};
 use yaml_emit_text::tag_size;
 use yaml_parse_model::yaml_event_body_t;
-use yaml_scan_model::{IS_BREAK, yaml_mapping_style_t, yaml_sequence_style_t};
+use yaml_scan_classes::IS_BREAK;
+use yaml_scan_model::{yaml_mapping_style_t, yaml_sequence_style_t};
 
 // Whether a break begins there. Most bytes tell by themselves that none does.
 // Inlined: two comparisons a byte.

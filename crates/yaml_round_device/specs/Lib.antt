@@ -1,4 +1,4 @@
 pub mod StdDevices
 pub mod Run
 pub mod FaultLine
-pub mod Settings
+pub use Rattle.yaml_round_settings.specs.Settings

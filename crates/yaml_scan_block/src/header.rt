@@ -76,7 +76,7 @@ fn is_chomping(byte: u8) -> bool
 }
 
 /// One of `0-9`.
-#[tactic(auto, unfolding(yaml_scan_tokens::specs::Classes::is_digit_byte))]
+#[tactic(auto, unfolding(yaml_scan_types::specs::Classes::is_digit_byte))]
 fn is_digit(byte: u8) -> bool
     ensures { result ≡ is_digit_byte byte }
 {
@@ -109,7 +109,7 @@ fn chomp_of(chomping: u8) -> Chomp
 }
 
 /// The digit's value, or 0.
-#[tactic(auto, unfolding(crate::specs::Header::digit_of, yaml_scan_tokens::specs::Classes::is_digit_byte))]
+#[tactic(auto, unfolding(crate::specs::Header::digit_of, yaml_scan_types::specs::Classes::is_digit_byte))]
 fn digit_of(byte: u8) -> u64
     ensures value { result ≡ spec.digit_of byte }
     ensures small { result < 10 }

@@ -23,8 +23,4 @@ pub use record::{yaml_mark_t, yaml_simple_key_t, yaml_tag_directive_t, yaml_vers
 pub use run::{is_text, skip_blanks, skip_spaces, skip_text};
 pub use spares::{copied, copied_whole, moved, room};
 pub use token::{yaml_token_body_t, yaml_token_t};
-pub use yaml_scan_tokens::{
-    AS_DIGIT, AS_HEX_AT, IS_ALPHA, IS_ASCII, IS_BLANK, IS_BLANKZ, IS_BOM, IS_BREAK, IS_BREAKZ,
-    IS_CRLF, IS_DIGIT, IS_HEX_AT, IS_PRINTABLE, IS_SPACE, IS_TAB, IS_Z, WIDTH, yaml_memory_fault,
-    yaml_token_delete,
-};
+pub use yaml_scan_types::{yaml_memory_fault, yaml_token_delete};

@@ -1,1 +1,4 @@
 pub mod Marks
+pub mod Classes
+pub mod Tokens
+pub mod Faults

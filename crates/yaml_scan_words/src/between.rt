@@ -5,7 +5,8 @@ ghost use Rattle.yaml_scan_model.specs.Classes.{is_bom};
 ghost use Rattle.yaml_scan_words.specs.Between as spec;
 
 use crate::run::{Run, skip_run};
-use yaml_scan_model::{IS_BOM, Reader};
+use yaml_scan_classes::IS_BOM;
+use yaml_scan_model::Reader;
 
 /// What stands at a place between lexemes.
 #[derive(Clone, Copy)]

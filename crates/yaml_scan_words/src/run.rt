@@ -8,9 +8,8 @@ ghost use Rattle.yaml_scan_words.specs.Runs as spec;
 ghost use Rattle.yaml_scan_words.specs.Written.{is_kept};
 
 use std::alloc::AllocError;
-use yaml_scan_model::{
-    IS_ALPHA, IS_BLANK, IS_BREAKZ, IS_DIGIT, Reader, copied as copied_bytes, yaml_mark_t,
-};
+use yaml_scan_classes::{IS_ALPHA, IS_BLANK, IS_BREAKZ, IS_DIGIT};
+use yaml_scan_model::{Reader, copied as copied_bytes, yaml_mark_t};
 
 /// Which bytes go together.
 #[derive(Clone, Copy)]

@@ -1,0 +1,69 @@
+//! What a caller of the engine sets, and what it is told besides a text.
+
+ghost use Rattle.std.specs.Prelude.{◌≡◌};
+
+use yaml_parse_types::yaml_break_t;
+
+/// How the bytes of the answer spell its characters. A UTF-16 text begins with U+FEFF.
+#[derive(Clone, Copy, PartialEq, Eq, Debug)]
+pub enum yaml_output_encoding_t {
+    Utf8,
+    Utf16Le,
+    Utf16Be,
+}
+
+/// How a text is written.
+#[derive(Clone, Copy, PartialEq, Eq, Debug)]
+pub struct yaml_settings_t {
+    pub encoding: yaml_output_encoding_t,
+    /// Canonical form; pretty form where it is off.
+    pub canonical: bool,
+    /// Columns of a level's indentation, 2 to 9; any other number means 2.
+    pub indent: i32,
+    /// The column behind which a line is folded. A negative one means 2,147,483,647, and one from 0 to twice the indent
+    /// means 80.
+    pub width: i32,
+    /// Printable characters that aren't ASCII are written as they are; escaped where it is off.
+    pub unicode: bool,
+    /// How lines end; `YAML_ANY_BREAK` means a line feed.
+    pub line_break: yaml_break_t,
+    /// How many bytes the answer may have.
+    pub limit: u64,
+}
+
+impl yaml_settings_t {
+    ghost use Rattle.yaml_round_settings.specs.Settings.{default_settings};
+
+    /// UTF-8, canonical, indent 2, width 80, unicode on, line feeds, 1,099,511,627,776 bytes.
+    pub fn new() -> yaml_settings_t
+        ensures { result ≡ default_settings }
+    {
+        yaml_settings_t {
+            encoding: yaml_output_encoding_t::Utf8,
+            canonical: true,
+            indent: 2,
+            width: 80,
+            unicode: true,
+            line_break: yaml_break_t::YAML_LN_BREAK,
+            limit: 1_099_511_627_776,
+        }
+    }
+}
+
+/// The form that an answer has.
+#[derive(Clone, Copy, PartialEq, Eq, Debug)]
+pub enum yaml_form_t {
+    Canonical,
+    Pretty,
+}
+
+/// What a run does with its input.
+#[derive(Clone, Copy, PartialEq, Eq, Debug)]
+pub enum yaml_command_t {
+    /// Writes the events again.
+    Fmt,
+    /// Writes the loaded documents again.
+    Docs,
+    /// Writes a line for each event.
+    Events,
+}

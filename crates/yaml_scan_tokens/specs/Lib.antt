@@ -1,3 +1,0 @@
-pub mod Classes
-pub mod Tokens
-pub mod Faults

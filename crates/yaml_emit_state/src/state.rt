@@ -207,28 +207,16 @@ impl Core {
         self.step(simple);
     }
 
-    // The same, by whether it is known to be a scalar.
-    // Inlined: it is known.
+    // Whether an event comes right. One that doesn't is refused, or the memory to judge it is, and nothing of it is laid out.
+    // Inlined: where the kind is known it is a few tests.
     #[inline(always)]
-    fn take_by(&mut self, event: &mut yaml_event_body_t, empty: bool, canonical: bool, known: bool)
-        requires utf8 { HasUtf8 (body_of event.old) }
-        requires form { canonical ≡ self.old.settings.canonical }
-        ensures { LaysOutRight self.old self.new (emitter_event (body_of event.old)) empty }
-    {
-        if known {
-            self.take_scalar(event, empty, canonical);
-        } else {
-            self.take(event, empty, canonical);
-        }
-    }
-
-    // An event is laid out or refused, by whether it is known to be a scalar.
-    // Inlined: for scalars in each form, of which most is known, and for all else.
-    #[inline(always)]
-    fn lay_by(&mut self, event: &mut yaml_event_body_t, empty: bool, canonical: bool, known: bool)
-        requires utf8 { HasUtf8 (body_of event.old) }
-        requires form { canonical ≡ self.old.settings.canonical }
-        ensures { LaysOut self.old self.new (emitter_event (body_of event.old)) empty }
+    fn admits(&mut self, event: &yaml_event_body_t, canonical: bool) -> bool
+        requires { canonical ≡ self.old.settings.canonical }
+        ensures same { result ≡ true → self.new ≡ self.old }
+        ensures right { result ≡ true → problem_at (settings_of self.old) (state_of self.old)
+            (emitter_event (body_of event.now)) ≡ None }
+        ensures wrong { result ≡ false → (empty : Bool) → LaysOut self.old self.new
+            (emitter_event (body_of event.now)) empty }
     {
         match problem_of(
             self.directives.allocator(),
@@ -239,9 +227,39 @@ impl Core {
         ) {
             Ok(Some(problem)) => {
                 self.place = Expected::Refused(problem);
+                false
             }
-            Ok(None) => self.take_by(event, empty, canonical, known),
-            Err(refused) => self.starve(refused),
+            Ok(None) => true,
+            Err(refused) => {
+                self.starve(refused);
+                false
+            }
+        }
+    }
+
+    // What is known to be a scalar is laid out or refused.
+    // Inlined: for each form, of which most is known.
+    #[inline(always)]
+    fn lay_scalar(&mut self, event: &mut yaml_event_body_t, empty: bool, canonical: bool)
+        requires utf8 { HasUtf8 (body_of event.old) }
+        requires form { canonical ≡ self.old.settings.canonical }
+        ensures { LaysOut self.old self.new (emitter_event (body_of event.old)) empty }
+    {
+        if self.admits(event, canonical) {
+            self.take_scalar(event, empty, canonical);
+        }
+    }
+
+    // An event is laid out or refused.
+    // Inlined: where kind and form are known, most is left out.
+    #[inline(always)]
+    fn lay_by(&mut self, event: &mut yaml_event_body_t, empty: bool, canonical: bool)
+        requires utf8 { HasUtf8 (body_of event.old) }
+        requires form { canonical ≡ self.old.settings.canonical }
+        ensures { LaysOut self.old self.new (emitter_event (body_of event.old)) empty }
+    {
+        if self.admits(event, canonical) {
+            self.take(event, empty, canonical);
         }
     }
 
@@ -251,7 +269,7 @@ impl Core {
         requires { HasUtf8 (body_of event.old) }
         ensures { LaysOut self.old self.new (emitter_event (body_of event.old)) empty }
     {
-        self.lay_by(event, empty, self.settings.canonical, false);
+        self.lay_by(event, empty, self.settings.canonical);
     }
 
     // What opens a collection, in canonical form.
@@ -264,7 +282,7 @@ impl Core {
     {
         match event {
             yaml_event_body_t::SequenceStart { .. } | yaml_event_body_t::MappingStart { .. } => {
-                self.lay_by(event, empty, true, false)
+                self.lay_by(event, empty, true)
             }
             _ => self.lay_any(event, empty),
         }
@@ -280,7 +298,7 @@ impl Core {
     {
         match event {
             yaml_event_body_t::SequenceEnd | yaml_event_body_t::MappingEnd => {
-                self.lay_by(event, empty, true, false)
+                self.lay_by(event, empty, true)
             }
             _ => self.lay_any(event, empty),
         }
@@ -295,7 +313,7 @@ impl Core {
         ensures { LaysOut self.old self.new (emitter_event (body_of event.old)) empty }
     {
         match event {
-            yaml_event_body_t::Scalar { .. } => self.lay_by(event, empty, true, true),
+            yaml_event_body_t::Scalar { .. } => self.lay_scalar(event, empty, true),
             yaml_event_body_t::SequenceStart { .. } | yaml_event_body_t::MappingStart { .. } => {
                 self.lay_start(event, empty)
             }
@@ -315,7 +333,7 @@ impl Core {
         ensures { LaysOut self.old self.new (emitter_event (body_of event.old)) empty }
     {
         match event {
-            yaml_event_body_t::Scalar { .. } => self.lay_by(event, empty, false, true),
+            yaml_event_body_t::Scalar { .. } => self.lay_scalar(event, empty, false),
             _ => self.lay_any(event, empty),
         }
     }

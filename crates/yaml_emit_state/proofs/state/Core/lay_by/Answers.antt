@@ -1,10 +1,4 @@
-use Rattle.yaml_emit_state.proofs.Noting.{notes_starved, notes_any}
 use Rattle.yaml_emit_state.proofs.state.Core.lay_by.Goals as goal
 
-pub returns-in-Err : goal.returns-in-Err
-returns-in-Err c = record {
-  settings = c.starve.ensures.settings;
-  state = λ g. absurd (c.starve.ensures.stopped g);
-  text = c.starve.ensures.text _;
-  memory = notes_any _ c.args.self.now c.starve.new.self c.in-Err.ensures.refused (notes_starved c.args.self.now c.starve.new.self c.starve.ensures);
-}
+pub returns-else-admits : goal.returns-else-admits
+returns-else-admits c = c.admits.ensures.wrong c.if-admits.false c.args.empty

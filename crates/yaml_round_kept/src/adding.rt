@@ -1,8 +1,9 @@
 //! What an event says, added behind what is kept.
 
-ghost use Rattle.std.specs.Prelude.{◌≡◌, ◌<◌, ◌≤◌, ◌+◌, ◌++◌, ◌∷◌, [], length, true, Some, OnOk};
+ghost use Rattle.std.specs.Prelude.{◌≡◌, ◌≤◌, ◌+◌, ◌*◌, ◌++◌, ◌∷◌, [], length, true, Some, OnOk};
 ghost use Rattle.std.specs.Vec.{vec_len, vec_capacity};
 ghost use Rattle.yaml_parse_model.specs.Events.{event_of, text_of};
+ghost use Rattle.yaml_round_bytes.specs.Ends.{IsShort};
 ghost use Rattle.yaml_round_kept.specs.Kept.{Keeps};
 ghost use Rattle.yaml_round_kept.specs.Spelled.{length_bytes, long_bytes, text_bytes, given_bytes, start_bytes, spelled};
 
@@ -11,10 +12,14 @@ use crate::spelling::{
 };
 use std::alloc::AllocError;
 use yaml_parse_model::{yaml_event_body_t, yaml_event_t};
-use yaml_scan_model::push_near;
+use yaml_round_bytes::{SHORT, is_short, put_short};
+use yaml_scan_model::moved;
 
 // Longer texts than four bytes can tell aren't kept.
 const LONGEST: usize = 0xFFFF_FFFF;
+
+// What an event takes at most whose texts are short: a head, and three texts behind a length of one byte each.
+const ROOM: usize = 1 + 3 * (1 + SHORT);
 
 // Adds a length that one byte can't tell.
 // Out of line: most texts are short.
@@ -62,6 +67,54 @@ fn add_given(bytes: &mut Vec<u8>, text: &Option<Vec<u8>>) -> Result<(), AllocErr
     }
 }
 
+// Puts a short text behind its length.
+// Inlined: some stores.
+#[inline(always)]
+#[tactic(auto, unfolding(crate::specs::Spelled::length_bytes))]
+fn put_text(bytes: &mut Vec<u8>, text: &[u8])
+    requires short { length text.now ≤ SHORT }
+    requires room { vec_len bytes.old + (SHORT + 1) ≤ vec_capacity bytes.old }
+    ensures items { bytes.new.items ≡ bytes.old.items ++ text_bytes text.now }
+    ensures len { vec_len bytes.new ≤ vec_len bytes.old + (SHORT + 1) }
+    ensures room { vec_capacity bytes.new ≡ vec_capacity bytes.old }
+{
+    bytes.push_reserved(text.len() as u8);
+    put_short(bytes, text);
+}
+
+// Puts a short text that may be left out.
+// Inlined: see `put_text`.
+#[inline(always)]
+fn put_given(bytes: &mut Vec<u8>, text: &Option<Vec<u8>>)
+    requires short { IsShort (text_of text.now) }
+    requires room { vec_len bytes.old + (SHORT + 1) ≤ vec_capacity bytes.old }
+    ensures items { bytes.new.items ≡ bytes.old.items ++ given_bytes (text_of text.now) }
+    ensures len { vec_len bytes.new ≤ vec_len bytes.old + (SHORT + 1) }
+    ensures room { vec_capacity bytes.new ≡ vec_capacity bytes.old }
+{
+    match text {
+        None => {}
+        Some(text) => put_text(bytes, text),
+    }
+}
+
+// Puts a head, and the anchor and the tag that there are, all of them short.
+// Inlined: see `put_text`.
+#[inline(always)]
+fn put_start(bytes: &mut Vec<u8>, head: u8, anchor: &Option<Vec<u8>>, tag: &Option<Vec<u8>>)
+    requires anchor { IsShort (text_of anchor.now) }
+    requires tag { IsShort (text_of tag.now) }
+    requires room { vec_len bytes.old + (2 * (SHORT + 1) + 1) ≤ vec_capacity bytes.old }
+    ensures items { bytes.new.items ≡ bytes.old.items
+        ++ start_bytes head (text_of anchor.now) (text_of tag.now) }
+    ensures len { vec_len bytes.new ≤ vec_len bytes.old + (2 * (SHORT + 1) + 1) }
+    ensures room { vec_capacity bytes.new ≡ vec_capacity bytes.old }
+{
+    bytes.push_reserved(head);
+    put_given(bytes, anchor);
+    put_given(bytes, tag);
+}
+
 // Adds a head that no text follows.
 fn add_head(bytes: &mut Vec<u8>, head: u8) -> Result<(), AllocError>
     ensures { OnOk result (bytes.new.items ≡ bytes.old.items ++ head ∷ []) }
@@ -70,28 +123,80 @@ fn add_head(bytes: &mut Vec<u8>, head: u8) -> Result<(), AllocError>
     Ok(())
 }
 
-// Adds a head and a text whose length one byte tells: room for all is made at once.
-#[tactic(auto, unfolding(crate::specs::Spelled::length_bytes))]
+// Adds a head and a short text.
+// Inlined: some stores.
+#[inline(always)]
 fn add_short(bytes: &mut Vec<u8>, head: u8, text: &[u8]) -> Result<(), AllocError>
-    requires { length text.now < 255 }
+    requires { length text.now ≤ SHORT }
     ensures { OnOk result (bytes.new.items ≡ bytes.old.items ++ head ∷ text_bytes text.now) }
 {
-    bytes.reserve(text.len() + 2)?;
-    bytes.push_reserved(head);
-    bytes.push_reserved(text.len() as u8);
-    push_near(bytes, text);
+    bytes.reserve(ROOM)?;
+    let mut own = moved(bytes);
+    own.push_reserved(head);
+    put_text(&mut own, text);
+    *bytes = own;
     Ok(())
 }
 
 // Adds a head and a text.
+// Out of line: it is called for two kinds of events.
+#[inline(never)]
 fn add_name(bytes: &mut Vec<u8>, head: u8, name: &[u8]) -> Result<(), AllocError>
     ensures { OnOk result (bytes.new.items ≡ bytes.old.items ++ head ∷ text_bytes name.now) }
 {
-    if name.len() < 255 {
+    if name.len() <= SHORT {
         return add_short(bytes, head, name);
     }
     add_head(bytes, head)?;
     add_text(bytes, name)
+}
+
+// Adds a head, and the anchor and the tag that there are, of any length.
+// Out of line: most are short.
+#[inline(never)]
+fn add_long_start(
+    bytes: &mut Vec<u8>,
+    head: u8,
+    anchor: &Option<Vec<u8>>,
+    tag: &Option<Vec<u8>>,
+) -> Result<(), AllocError>
+    ensures { OnOk result (bytes.new.items ≡ bytes.old.items
+        ++ start_bytes head (text_of anchor.now) (text_of tag.now)) }
+{
+    add_head(bytes, head)?;
+    add_given(bytes, anchor)?;
+    add_given(bytes, tag)
+}
+
+// Adds a head, and the anchor and the tag that there are, both short: room for all is made at once.
+// Inlined into its one caller.
+#[inline(always)]
+fn add_short_start(
+    bytes: &mut Vec<u8>,
+    head: u8,
+    anchor: &Option<Vec<u8>>,
+    tag: &Option<Vec<u8>>,
+) -> Result<(), AllocError>
+    requires anchor { IsShort (text_of anchor.now) }
+    requires tag { IsShort (text_of tag.now) }
+    ensures { OnOk result (bytes.new.items ≡ bytes.old.items
+        ++ start_bytes head (text_of anchor.now) (text_of tag.now)) }
+{
+    bytes.reserve(ROOM)?;
+    let mut own = moved(bytes);
+    put_start(&mut own, head, anchor, tag);
+    *bytes = own;
+    Ok(())
+}
+
+// Whether all of them are short.
+// Inlined: three comparisons.
+#[inline(always)]
+fn are_short(anchor: &Option<Vec<u8>>, tag: &Option<Vec<u8>>, count: usize) -> bool
+    ensures { result ≡ true → IsShort (text_of anchor.now) × (IsShort (text_of tag.now)
+        × (count ≤ SHORT)) }
+{
+    is_short(anchor) && is_short(tag) && count <= SHORT
 }
 
 // Adds a head, and the anchor and the tag that there are.
@@ -106,9 +211,51 @@ fn add_start(
     ensures { OnOk result (bytes.new.items ≡ bytes.old.items
         ++ start_bytes head (text_of anchor.now) (text_of tag.now)) }
 {
-    add_head(bytes, head)?;
-    add_given(bytes, anchor)?;
-    add_given(bytes, tag)
+    if are_short(anchor, tag, 0) {
+        return add_short_start(bytes, head, anchor, tag);
+    }
+    add_long_start(bytes, head, anchor, tag)
+}
+
+// Adds a head, the anchor and the tag that there are, and a text, of any length.
+// Out of line: most are short.
+#[inline(never)]
+fn add_long_scalar(
+    bytes: &mut Vec<u8>,
+    head: u8,
+    anchor: &Option<Vec<u8>>,
+    tag: &Option<Vec<u8>>,
+    value: &[u8],
+) -> Result<(), AllocError>
+    ensures { OnOk result (bytes.new.items ≡ bytes.old.items
+        ++ (start_bytes head (text_of anchor.now) (text_of tag.now) ++ text_bytes value.now)) }
+{
+    add_long_start(bytes, head, anchor, tag)?;
+    add_text(bytes, value)
+}
+
+// Adds a head, the anchor and the tag that there are, and a text, all short: room for all is made at once.
+// Inlined into its one caller.
+#[inline(always)]
+fn add_short_scalar(
+    bytes: &mut Vec<u8>,
+    head: u8,
+    anchor: &Option<Vec<u8>>,
+    tag: &Option<Vec<u8>>,
+    value: &[u8],
+) -> Result<(), AllocError>
+    requires anchor { IsShort (text_of anchor.now) }
+    requires tag { IsShort (text_of tag.now) }
+    requires value { length value.now ≤ SHORT }
+    ensures { OnOk result (bytes.new.items ≡ bytes.old.items
+        ++ (start_bytes head (text_of anchor.now) (text_of tag.now) ++ text_bytes value.now)) }
+{
+    bytes.reserve(ROOM)?;
+    let mut own = moved(bytes);
+    put_start(&mut own, head, anchor, tag);
+    put_text(&mut own, value);
+    *bytes = own;
+    Ok(())
 }
 
 // Adds a head, the anchor and the tag that there are, and a text.
@@ -124,8 +271,10 @@ fn add_scalar(
     ensures { OnOk result (bytes.new.items ≡ bytes.old.items
         ++ (start_bytes head (text_of anchor.now) (text_of tag.now) ++ text_bytes value.now)) }
 {
-    add_start(bytes, head, anchor, tag)?;
-    add_text(bytes, value)
+    if are_short(anchor, tag, value.len()) {
+        return add_short_scalar(bytes, head, anchor, tag, value);
+    }
+    add_long_scalar(bytes, head, anchor, tag, value)
 }
 
 // Adds what a normalized event says. It is long because it has an arm for each kind of event.

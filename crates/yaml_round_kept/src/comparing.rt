@@ -1,12 +1,13 @@
 //! What was kept, compared with what an event says.
 
-ghost use Rattle.std.specs.Prelude.{◌++◌, ◌∷◌, []};
+ghost use Rattle.std.specs.Prelude.{◌≤◌, ◌++◌, ◌∷◌, [], length};
 ghost use Rattle.yaml_parse_model.specs.Events.{event_of, text_of};
 ghost use Rattle.yaml_round_kept.specs.Kept.{Leaves};
 ghost use Rattle.yaml_round_kept.specs.Spelled.{length_bytes, long_bytes, text_bytes, given_bytes, start_bytes, spelled};
 
 use crate::spelling::{LONG, bare_head, document_head, mapping_head, scalar_head, sequence_head};
 use yaml_parse_model::{yaml_event_body_t, yaml_event_t};
+use yaml_round_bytes::{SHORT, stands_in_front};
 
 // What stands behind a byte, where it stands in front.
 fn after_byte<'a>(left: &'a [u8], byte: u8) -> Option<&'a [u8]>
@@ -56,12 +57,46 @@ fn after_length<'a>(left: &'a [u8], length: usize) -> Option<&'a [u8]>
 }
 
 // What stands behind these bytes, where they stand in front.
-// Inlined: see `after_text`.
-#[inline(always)]
 fn after_bytes<'a>(left: &'a [u8], text: &[u8]) -> Option<&'a [u8]>
     ensures { Leaves text.now left.now result }
 {
     left.strip_prefix(text)
+}
+
+// What stands behind a short text.
+// Inlined: see `after_text`.
+#[inline(always)]
+fn after_short<'a>(left: &'a [u8], text: &[u8]) -> Option<&'a [u8]>
+    requires { length text.now ≤ SHORT }
+    ensures { Leaves text.now left.now result }
+{
+    if stands_in_front(left, text) {
+        Some(&left[text.len()..])
+    } else {
+        None
+    }
+}
+
+// What stands behind a text and its length, of any number of bytes.
+// Out of line: most are short.
+#[inline(never)]
+fn after_any<'a>(left: &'a [u8], text: &[u8]) -> Option<&'a [u8]>
+    ensures { Leaves (text_bytes text.now) left.now result }
+{
+    let left = after_length(left, text.len())?;
+    after_bytes(left, text)
+}
+
+// What stands behind a short text and its length.
+// Inlined: see `after_text`.
+#[inline(always)]
+#[tactic(auto, unfolding(crate::specs::Spelled::length_bytes))]
+fn after_short_text<'a>(left: &'a [u8], text: &[u8]) -> Option<&'a [u8]>
+    requires { length text.now ≤ SHORT }
+    ensures { Leaves (text_bytes text.now) left.now result }
+{
+    let left = after_byte(left, text.len() as u8)?;
+    after_short(left, text)
 }
 
 // Inlined: most are short, and the answer then needn't stand in memory.
@@ -69,10 +104,14 @@ fn after_bytes<'a>(left: &'a [u8], text: &[u8]) -> Option<&'a [u8]>
 fn after_text<'a>(left: &'a [u8], text: &[u8]) -> Option<&'a [u8]>
     ensures { Leaves (text_bytes text.now) left.now result }
 {
-    let left = after_length(left, text.len())?;
-    after_bytes(left, text)
+    if text.len() <= SHORT {
+        return after_short_text(left, text);
+    }
+    after_any(left, text)
 }
 
+// Inlined: see `after_text`.
+#[inline(always)]
 fn after_given<'a>(left: &'a [u8], text: &Option<Vec<u8>>) -> Option<&'a [u8]>
     ensures { Leaves (given_bytes (text_of text.now)) left.now result }
 {
@@ -91,9 +130,9 @@ fn after_name<'a>(left: &'a [u8], head: u8, name: &[u8]) -> Option<&'a [u8]>
     after_text(left, name)
 }
 
-// Out of line: what a property needs takes no room beside texts alone.
-#[inline(never)]
-fn after_start<'a>(
+// Inlined: see `after_text`.
+#[inline(always)]
+fn after_properties<'a>(
     left: &'a [u8],
     head: u8,
     anchor: &Option<Vec<u8>>,
@@ -104,6 +143,19 @@ fn after_start<'a>(
     let left = after_byte(left, head)?;
     let left = after_given(left, anchor)?;
     after_given(left, tag)
+}
+
+// Out of line: what a property needs takes no room beside texts alone.
+#[inline(never)]
+fn after_start<'a>(
+    left: &'a [u8],
+    head: u8,
+    anchor: &Option<Vec<u8>>,
+    tag: &Option<Vec<u8>>,
+) -> Option<&'a [u8]>
+    ensures { Leaves (start_bytes head (text_of anchor.now) (text_of tag.now)) left.now result }
+{
+    after_properties(left, head, anchor, tag)
 }
 
 // Out of line: most scalars have no property.
@@ -119,7 +171,7 @@ fn after_scalar<'a>(
     ensures { Leaves (start_bytes head (text_of anchor.now) (text_of tag.now)
         ++ text_bytes value.now) left.now result }
 {
-    let left = after_start(left, head, anchor, tag)?;
+    let left = after_properties(left, head, anchor, tag)?;
     after_text(left, value)
 }
 

@@ -1,5 +1,5 @@
 -- Runs of bytes that are added as they are.
-use Rattle.std.proofs.Common.{◌≡◌, ℕ, zero, suc, ◌+◌, ◌-◌, ◌<◌, ◌≤◌, Bool, true, false, ◌&&◌, List, [], ◌∷◌, ◌++◌, take, drop, length, slice_index, refl, sym, ap, ◌∙◌, arith, add-zero, add-one, append_assoc, length-drop}
+use Rattle.std.proofs.Common.{◌≡◌, ℕ, zero, suc, ◌+◌, ◌-◌, ◌<◌, ◌≤◌, Bool, true, false, ◌&&◌, List, [], ◌∷◌, ◌++◌, take, drop, length, slice_index, refl, sym, ap, subst, ◌∙◌, arith, add-zero, add-one, append_assoc, length-drop}
 use Rattle.std.proofs.lemmas.Bool.Decides.{nat_tests}
 use Rattle.std.proofs.lemmas.List.{take_more, take_all, drop_more, take-append-drop}
 use Rattle.std.proofs.lemmas.Grind.{flat_map-append}
@@ -53,14 +53,24 @@ run_and_byte line middle grown text n k inside h g =
     let behind = ap escaped (drop_more text n 0 inside) in
     rw (whole, g, h, kept_front text n k, behind) (append_assoc (line ++ take n text) own rest ∙ append_assoc line (take n text) (own ++ rest))
 
--- the kept bytes in front, and the rest, are the text
-pub front_and_rest : (line grown text : List ℕ) (n : ℕ) → Kept text n → grown ≡ line ++ take n text
-    → grown ++ escaped (take (length text - n) (drop n text)) ≡ line ++ escaped text
-front_and_rest line grown text n k g =
-    let whole = take_all (length text - n) (drop n text) (omega (arith, length-drop n text)) in
-    rw (whole, g, kept_front text n k) (append_assoc line (take n text) (escaped (drop n text)))
+-- the bytes in front of a run are one
+run_less : (m k : ℕ) (text : List ℕ) (p : ℕ) → kept_run (m + k) text p ≡ true → kept_run m text p ≡ true
+unfolding kept_run
+run_less m zero text p h = subst (λ (z : ℕ). kept_run z text p ≡ true) (add-zero m) h
+run_less m (suc k) text p h =
+    let next : m + suc k ≡ suc (m + k) = omega arith in
+    let longer : kept_run (suc (m + k)) text p ≡ true = subst (λ (z : ℕ). kept_run z text p ≡ true) next h in
+    run_less m k text p (both (kept_run (m + k) text p) (is_kept (slice_index text (p + (m + k)))) longer).0
 
--- one byte more of the front was added
-pub front_more : (line grown new text : List ℕ) (n : ℕ) → n < length text → grown ≡ line ++ take n text → new ≡ grown ++ slice_index text n ∷ [] → new ≡ line ++ take (n + 1) text
-front_more line grown new text n inside g h =
-    h ∙ ap (λ (t : List ℕ). t ++ slice_index text n ∷ []) g ∙ append_assoc line (take n text) (slice_index text n ∷ []) ∙ ap (λ (t : List ℕ). line ++ t) (sym (take_more text n 0 inside))
+-- a text whose front and end are kept, which may have bytes in common
+pub ends_kept : (k : ℕ) (text : List ℕ) → k ≤ length text → length text ≤ k + k → (kept_run k text 0 && kept_run k text (length text - k)) ≡ true → escaped text ≡ text
+ends_kept k text least most h =
+    let n : ℕ = length text in
+    let m : ℕ = n - k in
+    let s = both (kept_run k text 0) (kept_run k text m) h in
+    let parts : m + (k - m) ≡ k = omega arith in
+    let whole : m + k ≡ n = omega arith in
+    let front : Kept text (0 + m) = kept_leap m text 0 (kept_none text) (omega arith) (run_less m (k - m) text 0 (ap (λ (z : ℕ). kept_run z text 0) parts ∙ s.0)) in
+    let first : Kept text m = subst (λ (z : ℕ). Kept text z) (omega arith) front in
+    let all : Kept text n = subst (λ (z : ℕ). Kept text z) whole (kept_leap k text m first (omega arith) s.1) in
+    subst (λ (z : List ℕ). escaped z ≡ z) (take_all n text (omega arith)) all.0

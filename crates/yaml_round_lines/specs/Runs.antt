@@ -1,5 +1,6 @@
 -- Bytes of a tag or a value that are added as they are.
-use Rattle.std.specs.Prelude.{ℕ, zero, suc, ◌+◌, Bool, true, not, ◌&&◌, ◌==◌, nat_lt, List, slice_index}
+use Rattle.std.specs.Prelude.{◌≡◌, ◌≤◌, ℕ, zero, suc, ◌+◌, Bool, true, not, ◌&&◌, ◌==◌, nat_lt, List, length, slice_index, Option, None, Some}
+use Rattle.yaml_round_lines.specs.EventLine.{escaped}
 
 -- it stands behind the control characters that are escaped, and is no backslash
 unfoldable pub is_kept : ℕ → Bool
@@ -9,3 +10,12 @@ is_kept b = nat_lt 13 b && not (b == 92)
 unfoldable pub kept_run : ℕ → List ℕ → ℕ → Bool
 kept_run zero text p = true
 kept_run (suc n) text p = kept_run n text p && is_kept (slice_index text (p + n))
+
+-- it is short, and added as it is
+abbrev pub IsPlain : List ℕ → Type 0
+IsPlain text = (length text ≤ 32) × (escaped text ≡ text)
+
+-- there is none, or it is such
+abbrev pub IsPlainGiven : Option (List ℕ) → Type 0
+IsPlainGiven None = Unit {0}
+IsPlainGiven (Some text) = IsPlain text

@@ -1,131 +1,19 @@
 //! The line that tells an event.
 
-ghost use Rattle.std.specs.Prelude.{◌≡◌, ◌+◌, ◌<◌, ◌≤◌, ◌++◌, [], ◌∷◌, length, take, codes, vec_len, vec_capacity, OnOk, IfOk};
+ghost use Rattle.std.specs.Prelude.{◌≡◌, ◌+◌, ◌*◌, ◌<◌, ◌≤◌, ◌++◌, [], ◌∷◌, true, length, codes, vec_len, vec_capacity, OnOk};
 ghost use Rattle.yaml_parse_model.specs.Events.{event_of, text_of};
-ghost use Rattle.yaml_round_lines.specs.Runs.{is_kept, kept_run};
-ghost use Rattle.yaml_round_lines.specs.EventLine.{escaped_byte, escaped, anchor_part, tag_part, indicator_of, mark_part, event_line};
+ghost use Rattle.yaml_round_bytes.specs.Ends.{IsShort};
+ghost use Rattle.yaml_round_lines.specs.Runs.{IsPlain, IsPlainGiven};
+ghost use Rattle.yaml_round_lines.specs.EventLine.{escaped, anchor_part, tag_part, indicator_of, mark_part, event_line};
 
+use crate::runs::{is_plain, push_runs};
 use std::alloc::AllocError;
 use yaml_parse_model::{yaml_event_body_t, yaml_event_t};
-use yaml_scan_model::{push_each, yaml_scalar_style_t};
+use yaml_round_bytes::{SHORT, is_short, put_short};
+use yaml_scan_model::{moved, push_each, yaml_scalar_style_t};
 
-// So many bytes are looked at together; the kept bytes of a shorter text are added byte by byte.
-const CHUNK: usize = 16;
-
-// Adds a backslash and a letter.
-fn push_escape(line: &mut Vec<u8>, indicator: u8) -> Result<(), AllocError>
-    ensures { OnOk result (line.new.items ≡ line.old.items ++ (92 ∷ indicator ∷ [])) }
-{
-    line.push(b'\\')?;
-    line.push(indicator)?;
-    Ok(())
-}
-
-// Adds a byte of a tag or a value.
-// Inlined: one byte, mostly with room.
-#[inline(always)]
-#[tactic(auto, unfolding(crate::specs::EventLine::escaped_byte))]
-fn push_byte(line: &mut Vec<u8>, byte: u8) -> Result<(), AllocError>
-    ensures { OnOk result (line.new.items ≡ line.old.items ++ escaped_byte byte) }
-{
-    if byte == b'\\' {
-        push_escape(line, b'\\')
-    } else if byte == 0 {
-        push_escape(line, b'0')
-    } else if byte == 8 {
-        push_escape(line, b'b')
-    } else if byte == b'\t' {
-        push_escape(line, b't')
-    } else if byte == b'\n' {
-        push_escape(line, b'n')
-    } else if byte == b'\r' {
-        push_escape(line, b'r')
-    } else {
-        line.push(byte)?;
-        Ok(())
-    }
-}
-
-// Whether the byte is surely added as it is.
-#[tactic(auto, unfolding(crate::specs::Runs::is_kept))]
-fn is_kept(byte: u8) -> bool
-    ensures { result ≡ is_kept byte }
-{
-    byte > b'\r' && byte != b'\\'
-}
-
-// Whether the bytes of a chunk that begins there are all kept.
-fn is_kept_chunk(text: &[u8], at: usize) -> bool
-    requires { at + CHUNK ≤ length text.now }
-    ensures { result ≡ kept_run CHUNK text.now at }
-{
-    let mut kept = true;
-    let mut count = 0;
-    'bytes: while count < CHUNK {
-        kept = kept & is_kept(text[at + count]);
-        count += 1;
-    }
-    kept
-}
-
-// How many bytes the chunks in front have that are kept.
-fn kept_chunks(text: &[u8]) -> usize
-    ensures kept { escaped (take result text.now) ≡ take result text.now }
-    ensures inside { result ≤ length text.now }
-{
-    let mut count = 0;
-    'chunks: while text.len() - count >= CHUNK {
-        if !is_kept_chunk(text, count) {
-            return count;
-        }
-        count += CHUNK;
-    }
-    count
-}
-
-// How many bytes in front are kept.
-fn kept_length(text: &[u8]) -> usize
-    ensures kept { escaped (take result text.now) ≡ take result text.now }
-    ensures inside { result ≤ length text.now }
-{
-    let mut count = kept_chunks(text);
-    'bytes: while count < text.len() {
-        if !is_kept(text[count]) {
-            return count;
-        }
-        count += 1;
-    }
-    count
-}
-
-// Adds the kept bytes in front, and the byte behind them; the answer is the rest.
-fn push_run<'a>(line: &mut Vec<u8>, left: &'a [u8]) -> Result<&'a [u8], AllocError>
-    requires { 0 < length left.now }
-    ensures text { IfOk result (λ rest. line.new.items ++ escaped rest.now ≡ line.old.items
-        ++ escaped left.now) }
-    ensures shorter { IfOk result (λ rest. length rest.now < length left.now) }
-{
-    let count = kept_length(left);
-    line.extend_from_slice(&left[..count])?;
-    if count == left.len() {
-        return Ok(&left[count..]);
-    }
-    push_byte(line, left[count])?;
-    Ok(&left[count + 1..])
-}
-
-// Adds the text of a tag or a value, by runs of kept bytes.
-// Out of line: for texts of 16 bytes and more, and where a byte is escaped.
-#[inline(never)]
-fn push_runs(line: &mut Vec<u8>, text: &[u8]) -> Result<(), AllocError>
-    ensures { OnOk result (line.new.items ≡ line.old.items ++ escaped text.now) }
-{
-    let mut left = text;
-    'runs: while !left.is_empty() {
-        left = push_run(line, left)?;
-    }
-    Ok(())
-}
+// What the line of a node takes at most whose texts are short.
+const ROOM: usize = 13 + 3 * SHORT;
 
 fn style_indicator(style: yaml_scalar_style_t) -> u8
     ensures { result ≡ indicator_of style }
@@ -161,27 +49,8 @@ fn push_word(line: &mut Vec<u8>, word: &[u8]) -> Result<(), AllocError>
     Ok(())
 }
 
-// Adds the kept bytes in front of a text, for all of which there is room, and answers the rest.
-// Inlined: some stores, for a short text.
-#[inline(always)]
-fn push_front<'a>(line: &mut Vec<u8>, text: &'a [u8]) -> &'a [u8]
-    requires { vec_len line.old + length text.now < vec_capacity line.old }
-    ensures text { line.new.items ++ escaped result.now ≡ line.old.items ++ escaped text.now }
-    ensures room { vec_len line.new + length result.now < vec_capacity line.new }
-{
-    let mut count = 0;
-    'bytes: while count < text.len() {
-        if !is_kept(text[count]) {
-            return &text[count..];
-        }
-        line.push_reserved(text[count]);
-        count += 1;
-    }
-    &text[count..]
-}
-
-// Adds a text of 16 bytes and more, or one from a byte on that is escaped, and the byte that ends it.
-// Out of line: most texts are short, and have no such byte.
+// Adds a text of any length, and the byte that ends it.
+// Out of line: most texts are short, and have no byte that is escaped.
 #[inline(never)]
 fn push_long(line: &mut Vec<u8>, text: &[u8], end: u8) -> Result<(), AllocError>
     ensures { OnOk result (line.new.items ≡ line.old.items ++ (escaped text.now ++ end ∷ [])) }
@@ -191,34 +60,11 @@ fn push_long(line: &mut Vec<u8>, text: &[u8], end: u8) -> Result<(), AllocError>
     Ok(())
 }
 
-// Adds a short text and the byte that ends it, for which there is room where nothing is escaped.
-// Inlined: some stores, for a short text.
-#[inline(always)]
-fn push_short(line: &mut Vec<u8>, text: &[u8], end: u8) -> Result<(), AllocError>
-    requires { vec_len line.old + length text.now < vec_capacity line.old }
-    ensures { OnOk result (line.new.items ≡ line.old.items ++ (escaped text.now ++ end ∷ [])) }
-{
-    let rest = push_front(line, text);
-    if rest.is_empty() {
-        line.push_reserved(end);
-        return Ok(());
-    }
-    push_long(line, rest, end)
-}
-
-// Adds a space, an indicator, a text and the byte that ends it: room for a short text is made at once.
-// Inlined: some stores, for a short text.
-#[inline(always)]
+// Adds a space, an indicator, a text and the byte that ends it.
 fn push_text(line: &mut Vec<u8>, indicator: u8, text: &[u8], end: u8) -> Result<(), AllocError>
     ensures { OnOk result (line.new.items ≡ line.old.items
         ++ (32 ∷ indicator ∷ (escaped text.now ++ end ∷ []))) }
 {
-    if text.len() < CHUNK {
-        line.reserve(text.len() + 3)?;
-        line.push_reserved(b' ');
-        line.push_reserved(indicator);
-        return push_short(line, text, end);
-    }
     line.reserve(2)?;
     line.push_reserved(b' ');
     line.push_reserved(indicator);
@@ -262,6 +108,87 @@ fn push_tag(line: &mut Vec<u8>, tag: &Option<Vec<u8>>) -> Result<(), AllocError>
     }
 }
 
+// Whether a tag that may be left out is plain.
+// Inlined: see `is_kept_run`.
+#[inline(always)]
+fn is_plain_tag(tag: &Option<Vec<u8>>) -> bool
+    ensures { result ≡ true → IsPlainGiven (text_of tag.now) }
+{
+    match tag {
+        None => true,
+        Some(tag) => is_plain(tag),
+    }
+}
+
+// Puts a short anchor, if there is one.
+// Inlined: some stores.
+#[inline(always)]
+fn put_anchor(line: &mut Vec<u8>, anchor: &Option<Vec<u8>>)
+    requires short { IsShort (text_of anchor.now) }
+    requires room { vec_len line.old + (SHORT + 2) ≤ vec_capacity line.old }
+    ensures items { line.new.items ≡ line.old.items ++ anchor_part (text_of anchor.now) }
+    ensures len { vec_len line.new ≤ vec_len line.old + (SHORT + 2) }
+    ensures room { vec_capacity line.new ≡ vec_capacity line.old }
+{
+    match anchor {
+        None => {}
+        Some(anchor) => {
+            push_each(line, b" &");
+            put_short(line, anchor);
+        }
+    }
+}
+
+// Puts a plain text behind a space and an indicator, and a byte that ends it.
+// Inlined: some stores.
+#[inline(always)]
+fn put_plain(line: &mut Vec<u8>, indicator: u8, text: &[u8], end: u8)
+    requires plain { IsPlain text.now }
+    requires room { vec_len line.old + (SHORT + 3) ≤ vec_capacity line.old }
+    ensures items { line.new.items ≡ line.old.items
+        ++ (32 ∷ indicator ∷ (escaped text.now ++ end ∷ [])) }
+    ensures len { vec_len line.new ≤ vec_len line.old + (SHORT + 3) }
+    ensures room { vec_capacity line.new ≡ vec_capacity line.old }
+{
+    line.push_reserved(b' ');
+    line.push_reserved(indicator);
+    put_short(line, text);
+    line.push_reserved(end);
+}
+
+// Puts a plain tag, if there is one.
+// Inlined: some stores.
+#[inline(always)]
+fn put_tag(line: &mut Vec<u8>, tag: &Option<Vec<u8>>)
+    requires plain { IsPlainGiven (text_of tag.now) }
+    requires room { vec_len line.old + (SHORT + 3) ≤ vec_capacity line.old }
+    ensures items { line.new.items ≡ line.old.items ++ tag_part (text_of tag.now) }
+    ensures len { vec_len line.new ≤ vec_len line.old + (SHORT + 3) }
+    ensures room { vec_capacity line.new ≡ vec_capacity line.old }
+{
+    match tag {
+        None => {}
+        Some(tag) => put_plain(line, b'<', tag, b'>'),
+    }
+}
+
+// Puts a node's word, and its anchor and its tag, which are short and plain.
+// Inlined: some stores.
+#[inline(always)]
+fn put_node(line: &mut Vec<u8>, word: &[u8; 4], anchor: &Option<Vec<u8>>, tag: &Option<Vec<u8>>)
+    requires anchor { IsShort (text_of anchor.now) }
+    requires tag { IsPlainGiven (text_of tag.now) }
+    requires room { vec_len line.old + (2 * SHORT + 9) ≤ vec_capacity line.old }
+    ensures items { line.new.items ≡ line.old.items
+        ++ (word.now ++ (anchor_part (text_of anchor.now) ++ tag_part (text_of tag.now))) }
+    ensures len { vec_len line.new ≤ vec_len line.old + (2 * SHORT + 9) }
+    ensures room { vec_capacity line.new ≡ vec_capacity line.old }
+{
+    push_each(line, word);
+    put_anchor(line, anchor);
+    put_tag(line, tag);
+}
+
 // Adds a node's word, its anchor and its tag.
 // Out of line: it is called for three kinds of nodes.
 #[inline(never)]
@@ -280,6 +207,58 @@ fn push_node(
     push_tag(line, tag)
 }
 
+// Adds the line of a scalar of any length.
+// Out of line: most are short, and have no byte that is escaped.
+#[inline(never)]
+fn push_long_scalar(
+    line: &mut Vec<u8>,
+    anchor: &Option<Vec<u8>>,
+    tag: &Option<Vec<u8>>,
+    value: &[u8],
+    style: yaml_scalar_style_t,
+) -> Result<(), AllocError>
+    ensures { OnOk result (line.new.items ≡ line.old.items
+        ++ (codes "=VAL" ++ (anchor_part (text_of anchor.now) ++ tag_part (text_of tag.now))
+        ++ 32 ∷ indicator_of style ∷ (escaped value.now ++ 10 ∷ []))) }
+{
+    push_node(line, b"=VAL", anchor, tag)?;
+    push_text(line, style_indicator(style), value, b'\n')
+}
+
+// Adds the line of a scalar whose texts are plain: its room is made at once.
+// Inlined into its one caller.
+#[inline(always)]
+fn push_plain_scalar(
+    line: &mut Vec<u8>,
+    anchor: &Option<Vec<u8>>,
+    tag: &Option<Vec<u8>>,
+    value: &[u8],
+    style: yaml_scalar_style_t,
+) -> Result<(), AllocError>
+    requires anchor { IsShort (text_of anchor.now) }
+    requires tag { IsPlainGiven (text_of tag.now) }
+    requires value { IsPlain value.now }
+    ensures { OnOk result (line.new.items ≡ line.old.items
+        ++ (codes "=VAL" ++ (anchor_part (text_of anchor.now) ++ tag_part (text_of tag.now))
+        ++ 32 ∷ indicator_of style ∷ (escaped value.now ++ 10 ∷ []))) }
+{
+    line.reserve(ROOM)?;
+    let mut own = moved(line);
+    put_node(&mut own, b"=VAL", anchor, tag);
+    put_plain(&mut own, style_indicator(style), value, b'\n');
+    *line = own;
+    Ok(())
+}
+
+// Whether a node's texts are plain, and its anchor is short.
+// Inlined: see `is_kept_run`.
+#[inline(always)]
+fn are_plain(anchor: &Option<Vec<u8>>, tag: &Option<Vec<u8>>) -> bool
+    ensures { result ≡ true → IsShort (text_of anchor.now) × IsPlainGiven (text_of tag.now) }
+{
+    is_short(anchor) && is_plain_tag(tag)
+}
+
 // Adds the line of a scalar.
 // Out of line: see `push_alias`.
 #[inline(never)]
@@ -294,8 +273,52 @@ fn push_scalar(
         ++ (codes "=VAL" ++ (anchor_part (text_of anchor.now) ++ tag_part (text_of tag.now))
         ++ 32 ∷ indicator_of style ∷ (escaped value.now ++ 10 ∷ []))) }
 {
-    push_node(line, b"=VAL", anchor, tag)?;
-    push_text(line, style_indicator(style), value, b'\n')
+    if are_plain(anchor, tag) {
+        if is_plain(value) {
+            return push_plain_scalar(line, anchor, tag, value, style);
+        }
+    }
+    push_long_scalar(line, anchor, tag, value, style)
+}
+
+// Adds the line of a collection's start, of any length.
+// Out of line: most are short, and have no byte that is escaped.
+#[inline(never)]
+fn push_long_start(
+    line: &mut Vec<u8>,
+    word: &[u8; 4],
+    anchor: &Option<Vec<u8>>,
+    tag: &Option<Vec<u8>>,
+) -> Result<(), AllocError>
+    ensures { OnOk result (line.new.items ≡ line.old.items
+        ++ (word.now ++ (anchor_part (text_of anchor.now) ++ tag_part (text_of tag.now))
+        ++ 10 ∷ [])) }
+{
+    push_node(line, word, anchor, tag)?;
+    push_end(line)
+}
+
+// Adds the line of a collection's start whose texts are plain: its room is made at once.
+// Inlined into its one caller.
+#[inline(always)]
+fn push_plain_start(
+    line: &mut Vec<u8>,
+    word: &[u8; 4],
+    anchor: &Option<Vec<u8>>,
+    tag: &Option<Vec<u8>>,
+) -> Result<(), AllocError>
+    requires anchor { IsShort (text_of anchor.now) }
+    requires tag { IsPlainGiven (text_of tag.now) }
+    ensures { OnOk result (line.new.items ≡ line.old.items
+        ++ (word.now ++ (anchor_part (text_of anchor.now) ++ tag_part (text_of tag.now))
+        ++ 10 ∷ [])) }
+{
+    line.reserve(ROOM)?;
+    let mut own = moved(line);
+    put_node(&mut own, word, anchor, tag);
+    own.push_reserved(b'\n');
+    *line = own;
+    Ok(())
 }
 
 // Adds the line of a collection's start.
@@ -311,8 +334,36 @@ fn push_start(
         ++ (word.now ++ (anchor_part (text_of anchor.now) ++ tag_part (text_of tag.now))
         ++ 10 ∷ [])) }
 {
-    push_node(line, word, anchor, tag)?;
+    if are_plain(anchor, tag) {
+        return push_plain_start(line, word, anchor, tag);
+    }
+    push_long_start(line, word, anchor, tag)
+}
+
+// Adds the line of an alias of any length.
+// Out of line: most are short.
+#[inline(never)]
+fn push_long_alias(line: &mut Vec<u8>, name: &[u8]) -> Result<(), AllocError>
+    ensures { OnOk result (line.new.items ≡ line.old.items ++ (codes "=ALI *" ++ name.now ++ 10 ∷ [])) }
+{
+    push_name(line, b"=ALI *", name)?;
     push_end(line)
+}
+
+// Adds the line of an alias that is short: its room is made at once.
+// Inlined into its one caller.
+#[inline(always)]
+fn push_short_alias(line: &mut Vec<u8>, name: &[u8]) -> Result<(), AllocError>
+    requires { length name.now ≤ SHORT }
+    ensures { OnOk result (line.new.items ≡ line.old.items ++ (codes "=ALI *" ++ name.now ++ 10 ∷ [])) }
+{
+    line.reserve(ROOM)?;
+    let mut own = moved(line);
+    push_each(&mut own, b"=ALI *");
+    put_short(&mut own, name);
+    own.push_reserved(b'\n');
+    *line = own;
+    Ok(())
 }
 
 // Adds the line of an alias.
@@ -322,8 +373,10 @@ fn push_start(
 fn push_alias(line: &mut Vec<u8>, name: &[u8]) -> Result<(), AllocError>
     ensures { OnOk result (line.new.items ≡ line.old.items ++ (codes "=ALI *" ++ name.now ++ 10 ∷ [])) }
 {
-    push_name(line, b"=ALI *", name)?;
-    push_end(line)
+    if name.len() <= SHORT {
+        return push_short_alias(line, name);
+    }
+    push_long_alias(line, name)
 }
 
 // Adds the line of a document's start or end: a word, and a mark where it isn't left out.
@@ -345,23 +398,54 @@ fn push_document(
     push_end(line)
 }
 
-// Adds the line of a scalar without properties: its room is made at once.
+// Adds the line of a scalar without properties that isn't plain.
+// Out of line: most are short, and have no byte that is escaped.
+#[inline(never)]
+fn push_long_bare(
+    line: &mut Vec<u8>,
+    value: &[u8],
+    style: yaml_scalar_style_t,
+) -> Result<(), AllocError>
+    ensures { OnOk result (line.new.items ≡ line.old.items
+        ++ (codes "=VAL " ++ indicator_of style ∷ (escaped value.now ++ 10 ∷ []))) }
+{
+    line.reserve(6)?;
+    push_each(line, b"=VAL ");
+    line.push_reserved(style_indicator(style));
+    push_long(line, value, b'\n')
+}
+
+// Adds the line of a plain scalar without properties: its room is made at once.
+// Inlined: most scalars are such.
+#[inline(always)]
+fn push_plain_bare(
+    line: &mut Vec<u8>,
+    value: &[u8],
+    style: yaml_scalar_style_t,
+) -> Result<(), AllocError>
+    requires { IsPlain value.now }
+    ensures { OnOk result (line.new.items ≡ line.old.items
+        ++ (codes "=VAL " ++ indicator_of style ∷ (escaped value.now ++ 10 ∷ []))) }
+{
+    line.reserve(SHORT + 7)?;
+    let mut own = moved(line);
+    push_each(&mut own, b"=VAL");
+    put_plain(&mut own, style_indicator(style), value, b'\n');
+    *line = own;
+    Ok(())
+}
+
+// Adds the line of a scalar without properties.
 // Inlined: most scalars are such.
 #[inline(always)]
 fn push_bare(line: &mut Vec<u8>, value: &[u8], style: yaml_scalar_style_t) -> Result<(), AllocError>
     ensures { OnOk result (line.new.items ≡ line.old.items
         ++ (codes "=VAL " ++ indicator_of style ∷ (escaped value.now ++ 10 ∷ []))) }
 {
-    if value.len() < CHUNK {
-        line.reserve(value.len() + 7)?;
-        push_each(line, b"=VAL ");
-        line.push_reserved(style_indicator(style));
-        return push_short(line, value, b'\n');
+    if is_plain(value) {
+        return push_plain_bare(line, value, style);
     }
-    line.reserve(6)?;
-    push_each(line, b"=VAL ");
-    line.push_reserved(style_indicator(style));
-    push_long(line, value, b'\n')
+    push_long_bare(line, value, style)
 }
 
 // Adds the line of an event that its word alone tells, and that is rare.

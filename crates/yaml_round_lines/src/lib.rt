@@ -2,5 +2,6 @@
 #![tactic(auto)]
 
 mod event_line;
+mod runs;
 
 pub use event_line::yaml_push_event_line;

@@ -1,6 +1,6 @@
 use Rattle.std.proofs.Common.{arith}
 use Rattle.yaml_round_lines.proofs.KeptLemmas.{run_and_byte}
-use Rattle.yaml_round_lines.proofs.event_line.push_run.Goals as goal
+use Rattle.yaml_round_lines.proofs.runs.push_run.Goals as goal
 
 pub returns-clause-text : goal.returns-clause-text
 returns-clause-text c =

@@ -1,6 +1,6 @@
 use Rattle.std.proofs.Common.{◌-◌, length}
 use Rattle.yaml_round_lines.proofs.KeptLemmas.{Kept}
-use Rattle.yaml_round_lines.proofs.event_line.kept_chunks.Given as goal
+use Rattle.yaml_round_lines.proofs.runs.kept_chunks.Given as goal
 
 abbrev pub invariant-chunks : goal.invariant-chunks
 invariant-chunks l = Kept l.text l.count

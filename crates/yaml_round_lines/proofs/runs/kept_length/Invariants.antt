@@ -1,6 +1,6 @@
 use Rattle.std.proofs.Common.{◌-◌, length}
 use Rattle.yaml_round_lines.proofs.KeptLemmas.{Kept}
-use Rattle.yaml_round_lines.proofs.event_line.kept_length.Given as goal
+use Rattle.yaml_round_lines.proofs.runs.kept_length.Given as goal
 
 abbrev pub invariant-bytes : goal.invariant-bytes
 invariant-bytes l = Kept l.text l.count

@@ -1,6 +1,6 @@
 use Rattle.std.proofs.Common.{arith, sym, ◌∙◌}
 use Rattle.yaml_round_lines.proofs.KeptLemmas.{kept_none, kept_leap}
-use Rattle.yaml_round_lines.proofs.event_line.kept_chunks.Goals as goal
+use Rattle.yaml_round_lines.proofs.runs.kept_chunks.Goals as goal
 
 pub chunks-init : goal.chunks-init
 chunks-init c = kept_none _

@@ -2,7 +2,7 @@ use Rattle.std.proofs.Common.{◌∷◌, [], ◌++◌}
 use Rattle.yaml_parse_model.specs.Events.{text_of}
 use Rattle.yaml_round_kept.specs.Spelled.{given_bytes}
 use Rattle.yaml_round_kept.proofs.Fronts.{behind}
-use Rattle.yaml_round_kept.proofs.comparing.after_start.Goals as goal
+use Rattle.yaml_round_kept.proofs.comparing.after_properties.Goals as goal
 
 pub returns : goal.returns
 returns c =

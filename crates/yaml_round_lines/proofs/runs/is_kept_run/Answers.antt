@@ -1,7 +1,7 @@
 use Rattle.std.proofs.Common.{refl, arith}
 use Rattle.yaml_round_lines.specs.Runs.{kept_run}
 use Rattle.yaml_round_lines.proofs.KeptLemmas.{run_more}
-use Rattle.yaml_round_lines.proofs.event_line.is_kept_chunk.Goals as goal
+use Rattle.yaml_round_lines.proofs.runs.is_kept_run.Goals as goal
 
 pub bytes-init : goal.bytes-init
 unfolding kept_run

@@ -1,7 +1,7 @@
 -- What was added before what is left tells the text.
 use Rattle.std.proofs.Common.{◌≡◌, ◌++◌, length}
 use Rattle.yaml_round_lines.specs.EventLine.{escaped}
-use Rattle.yaml_round_lines.proofs.event_line.push_runs.Given as goal
+use Rattle.yaml_round_lines.proofs.runs.push_runs.Given as goal
 
 abbrev pub invariant-runs : goal.invariant-runs
 invariant-runs l = l.line.items ++ escaped l.left ≡ l.initial.line.items ++ escaped l.text

@@ -43,14 +43,26 @@ PROGRAM = Goal("make program", "yaml_cli", "yaml_cli", ["rt", "run", "--", "fmt"
 ARCHIVE = Goal("make library", "yaml_round_c", "libyaml_round_c.a", ["rt", "lib"])
 
 
+@contextlib.contextmanager
+def no_search(rt):
+    """Has no crate searched for contracts that no call can meet, which loads once more all that it stands on."""
+    told = rt.rtlib.help_of
+    rt.rtlib.help_of = lambda verb: told(verb).replace("--empty-contracts", "")
+    try:
+        yield
+    finally:
+        rt.rtlib.help_of = told
+
+
 def compiled(rt, crate, jobs):
-    """Proves a program, or an archive, and compiles what was proved."""
+    """Proves a program, or an archive, and compiles what was proved. It is the last crate, and nothing of it is kept: the gate
+    proves it itself, and searches it for contracts that no call can meet."""
     words = crate.words(["--jobs", str(jobs)], keeps=False)
     words = ["build", *words, "--toolchain", f"{rt.KIT}/toolchain", "--backend", "llvm"]
-    if crate.is_static:
-        return crate.prove([*words, "-o", f"out/lib{crate.name}.a"])
-    made = f"out/{crate.name}"
-    return crate.prove([*words, "-o", f"{made}.o"]) or crate.link(f"{made}.o", made)
+    made = f"out/lib{crate.name}.a" if crate.is_static else f"out/{crate.name}.o"
+    with no_search(rt):
+        status = crate.prove([*words, "-o", made])
+    return status or (0 if crate.is_static else crate.link(made, f"out/{crate.name}"))
 
 
 def proved(rt, kept, crate, jobs):

@@ -30,6 +30,42 @@ struct Args<'a> {
     wrong: Option<AllocError>,
 }
 
+// An argument is made in small steps of two calls or so: what a function costs to prove grows with the square of its calls.
+
+fn named<'a>(alloc: Global, name: &'a str, help: &'a str) -> Arg<'a> {
+    Arg::new(alloc, name).help(help)
+}
+
+fn valued<'a>(alloc: Global, name: &'a str, value: &'a str, help: &'a str) -> Arg<'a> {
+    named(alloc, name, help).value_name(value)
+}
+
+fn usually<'a>(arg: Arg<'a>, name: &'a str, usual: &'a str) -> Arg<'a> {
+    arg.long(name).default_value(usual)
+}
+
+fn in_columns<'a>(arg: Arg<'a>) -> Arg<'a> {
+    arg.value_parser(value_parser!(i32).range(0..=MOST_COLUMNS))
+}
+
+fn in_bytes<'a>(arg: Arg<'a>) -> Arg<'a> {
+    arg.value_parser(value_parser!(u64).range(0..=MOST_BYTES))
+}
+
+fn flagged<'a>(arg: Arg<'a>, name: &'a str) -> Arg<'a> {
+    arg.long(name).action(ArgAction::SetTrue)
+}
+
+fn limit_of<'a>(alloc: Global) -> Arg<'a> {
+    let arg = valued(
+        alloc,
+        "limit",
+        "BYTES",
+        "How many bytes the output may have",
+    );
+    in_bytes(usually(arg, "limit", "1099511627776"))
+}
+
 impl<'a> Args<'a> {
     fn put(&mut self, arg: Arg<'a>) {
         match self.list.push(arg) {
@@ -40,36 +76,23 @@ impl<'a> Args<'a> {
 
     // A word that stands by itself.
     fn put_place(&mut self, name: &'a str, value: &'a str, help: &'a str, is_needed: bool) {
-        let arg = Arg::new(self.alloc, name).help(help).value_name(value);
-        self.put(arg.required(is_needed));
+        self.put(valued(self.alloc, name, value, help).required(is_needed));
     }
 
     // An option with a value.
     fn put_word(&mut self, name: &'a str, value: &'a str, help: &'a str, usual: &'a str) {
-        let arg = Arg::new(self.alloc, name).help(help).value_name(value);
-        self.put(arg.long(name).default_value(usual));
+        self.put(usually(valued(self.alloc, name, value, help), name, usual));
     }
 
     // The same, which is a number of columns.
     fn put_columns(&mut self, name: &'a str, help: &'a str, usual: &'a str) {
-        let arg = Arg::new(self.alloc, name).help(help).value_name("COLUMNS");
-        let arg = arg.long(name).default_value(usual);
-        self.put(arg.value_parser(value_parser!(i32).range(0..=MOST_COLUMNS)));
-    }
-
-    fn put_limit(&mut self) {
-        let arg = Arg::new(self.alloc, "limit").help("How many bytes the output may have");
-        let arg = arg
-            .value_name("BYTES")
-            .long("limit")
-            .default_value("1099511627776");
-        self.put(arg.value_parser(value_parser!(u64).range(0..=MOST_BYTES)));
+        let arg = usually(valued(self.alloc, name, "COLUMNS", help), name, usual);
+        self.put(in_columns(arg));
     }
 
     // An option without a value.
     fn put_flag(&mut self, name: &'a str, help: &'a str) {
-        let arg = Arg::new(self.alloc, name).help(help).long(name);
-        self.put(arg.action(ArgAction::SetTrue));
+        self.put(flagged(named(self.alloc, name, help), name));
     }
 
     fn put_from(&mut self) {
@@ -89,15 +112,23 @@ impl<'a> Args<'a> {
         self.put_from();
     }
 
-    fn put_layout(&mut self) {
+    fn put_lines(&mut self) {
         let folds = "The column behind which lines are folded";
-        let encodes = "How the output is encoded: utf8, utf16le or utf16be";
         self.put_columns("indent", "Columns of a level, 2 to 9", "2");
         self.put_columns("width", folds, "80");
         self.put_flag("ascii", "Escape all characters that aren't ASCII");
+    }
+
+    fn put_output(&mut self) {
+        let encodes = "How the output is encoded: utf8, utf16le or utf16be";
         self.put_word("break", "BREAK", "How lines end: lf, cr or crlf", "lf");
         self.put_word("encoding", "ENCODING", encodes, "utf8");
-        self.put_limit();
+        self.put(limit_of(self.alloc));
+    }
+
+    fn put_layout(&mut self) {
+        self.put_lines();
+        self.put_output();
     }
 
     fn put_styles(&mut self) {

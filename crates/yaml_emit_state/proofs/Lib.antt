@@ -4,3 +4,4 @@ pub mod Seeing
 pub mod Finishing
 pub mod Noting
 pub mod Keyed
+pub mod Names

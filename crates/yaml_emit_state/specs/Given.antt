@@ -1,5 +1,6 @@
 -- What the lent parts of an event say.
-use Rattle.std.specs.Prelude.{map}
+use Rattle.std.specs.Prelude.{◌≡◌, ℕ, List, Option, Some, None, map}
+use Rattle.std.specs.Str.{IsAscii}
 use Rattle.yaml_parse_model.specs.Events.{text_of, directive_of}
 use Rattle.yaml_emit_layout.specs.Content as said
 use Rattle.yaml_emit_layout.specs.Nodes as nodes
@@ -35,3 +36,15 @@ lent_opening o = record {
   directives = map directive_of o.directives.now;
   implicit = o.implicit;
 }
+
+-- the name of an event: an alias's, or the anchor of a node
+abbrev pub name_of : said.Event → Option (List ℕ)
+name_of (said.alias name) = Some name
+name_of (said.scalar x) = x.anchor
+name_of (said.sequence_start p) = p.anchor
+name_of (said.mapping_start p) = p.anchor
+name_of e = None
+
+-- it is in ASCII, if there is one
+abbrev pub IsNamed : Option (List ℕ) → Type 0
+IsNamed name = (n : List ℕ) → name ≡ Some n → IsAscii n

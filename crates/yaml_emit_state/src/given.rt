@@ -28,6 +28,8 @@ pub struct Scalar<'a> {
     pub plain: bool,
     pub quoted: bool,
     pub style: yaml_scalar_style_t,
+    /// The value is known to be tame.
+    pub tame: bool,
 }
 
 /// What opens a collection, and whether the next event closes it.

@@ -13,20 +13,40 @@ use std::alloc::{AllocError, Global};
 use std::collections::BTreeSet;
 use yaml_emit_layout::{Expected, Level, Phase, Problem};
 use yaml_parse_model::yaml_event_body_t;
-use yaml_scan_classes::IS_ALPHA;
 use yaml_scan_model::{yaml_tag_directive_t, yaml_version_directive_t};
+
+// Whether each byte is one of `0-9 A-Z a-z _ -`, `1`.
+static ALPHAS: [u8; 256] = *b"\
+    00000000000000000000000000000000\
+    00000000000001001111111111000000\
+    01111111111111111111111111100001\
+    01111111111111111111111111100000\
+    00000000000000000000000000000000\
+    00000000000000000000000000000000\
+    00000000000000000000000000000000\
+    00000000000000000000000000000000";
+
+// Inlined into the loop over bytes.
+#[inline(always)]
+fn is_alpha(byte: u8) -> bool
+    ensures { result ≡ is_alpha_byte byte }
+{
+    ALPHAS[byte as usize] == b'1'
+}
 
 fn are_alphas(name: &[u8]) -> bool
     ensures { result ≡ list_all is_alpha_byte name.now }
 {
     for i in 0..name.len() {
-        if !IS_ALPHA(name, i) {
+        if !is_alpha(name[i]) {
             return false;
         }
     }
     true
 }
 
+// Out of line: with its loop in them, the ways that know an event's kind get so long that they ask for it again.
+#[inline(never)]
 fn name_problem(empty: Problem, characters: Problem, name: &[u8]) -> Option<Problem>
     ensures { result ≡ name_problem empty characters name.now }
 {

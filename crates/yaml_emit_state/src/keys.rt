@@ -176,6 +176,7 @@ fn is_simple_by(context: &Context, event: &yaml_event_body_t, empty: bool) -> bo
                 plain: *plain_implicit,
                 quoted: *quoted_implicit,
                 style: *style,
+                tame: false,
             };
             is_simple_scalar(context, &scalar)
         }

@@ -1,36 +1,39 @@
 //! Nodes: aliases, properties, scalars, and what opens collections.
 ghost use Rattle.std.specs.Prelude.{◌≡◌, ◌≢◌, ◌∷◌, [], None, Some, true, false, not, ◌&&◌, ◌||◌, ◌==◌, ℕ, map, length, IsUtf8};
-ghost use Rattle.std.specs.Str.{chars};
+ghost use Rattle.std.specs.Str.{chars, IsAscii};
 ghost use Rattle.yaml_parse_model.specs.Events.{text_of};
 ghost use Rattle.yaml_emit_text.specs.Sink.{Puts};
+ghost use Rattle.yaml_emit_text.specs.Tame.{IsTame};
 ghost use Rattle.yaml_emit_text.specs.Layout.{◌▹◌, stay, when, char, word, opener};
 ghost use Rattle.yaml_emit_text.specs.Quoted.{double_quoted};
 ghost use Rattle.yaml_emit_text.specs.Scalars.{scalar_text};
 ghost use Rattle.yaml_emit_layout.specs.Grammar.{kept_if, kept_tag, has};
 ghost use Rattle.yaml_emit_layout.specs.Nodes.{alias_layout, anchor_text, tag_text, properties_text, mark_text, scalar_layout, style_of, is_plain, checked, deeper, page_at, is_flow};
 ghost use Rattle.yaml_emit_layout.specs.State.{start_text};
-ghost use Rattle.yaml_emit_state.specs.Given.{lent_context, lent_scalar, lent_start};
+ghost use Rattle.yaml_emit_state.specs.Given.{lent_context, lent_scalar, lent_start, IsNamed};
 
 use crate::before::{put_blank_if, put_opener_if};
 use crate::given::{Context, Scalar, Start};
 use crate::indent::{deeper, is_flow, is_simple_part, put_checked};
 use yaml_emit_layout::Spot;
 use yaml_emit_text::{
-    Page, Settings, Sink, Style, allowed_for, put_opening_quote, put_quoted_inside, put_styled,
-    put_tag, taken, text,
+    Page, Settings, Sink, Style, allowed_by, put_opening_quote, put_quoted_inside, put_styled,
+    put_tag, put_tame, taken, text,
 };
 
 fn put_name(sink: &mut Sink, indicator: char, name: &[u8])
+    requires { IsAscii name.now }
     ensures { Puts sink.old sink.new (word (indicator ∷ name.now)) }
 {
     sink.put_gap();
     sink.put(indicator);
-    sink.put_all(name);
+    sink.put_ascii(name);
 }
 
 /// An alias.
 #[tactic(auto, unfolding(yaml_emit_layout::specs::Nodes::alias_layout))]
 pub fn put_alias(sink: &mut Sink, spot: Spot, name: &[u8])
+    requires { IsAscii name.now }
     ensures { Puts sink.old sink.new (alias_layout spot name.now) }
 {
     put_name(sink, '*', name);
@@ -38,6 +41,7 @@ pub fn put_alias(sink: &mut Sink, spot: Spot, name: &[u8])
 }
 
 fn put_anchor(sink: &mut Sink, anchor: &Option<Vec<u8>>)
+    requires { IsNamed (text_of anchor.now) }
     ensures { Puts sink.old sink.new (anchor_text (text_of anchor.now)) }
 {
     match anchor {
@@ -80,6 +84,7 @@ fn put_properties(
     left_out: bool,
     tag: &Option<Vec<u8>>,
 )
+    requires { IsNamed (text_of anchor.now) }
     ensures { Puts sink.old sink.new (properties_text (lent_context context.now)
         (text_of anchor.now)
         (kept_tag context.now.settings.now.canonical left_out (text_of tag.now))) }
@@ -128,14 +133,15 @@ fn is_plain(style: Style) -> bool
 #[inline(always)]
 #[tactic(auto, unfolding(yaml_emit_layout::specs::Nodes::style_of))]
 fn style_of(context: &Context, spot: Spot, scalar: &Scalar) -> Style
-    requires { IsUtf8 scalar.now.value.now }
+    requires utf8 { IsUtf8 scalar.now.value.now }
+    requires tame { scalar.now.tame ≡ true → IsTame scalar.now.value.now }
     ensures { result ≡ style_of (lent_context context.now) spot (lent_scalar scalar.now) }
 {
     if context.settings.canonical {
         Style::Double
     } else {
         taken(
-            allowed_for(context.settings.unicode, text(scalar.value)),
+            allowed_by(context.settings.unicode, scalar.value, scalar.tame),
             scalar.style,
             is_written(false, scalar.plain || scalar.quoted, scalar.tag) || scalar.plain,
             spot.flow,
@@ -171,8 +177,16 @@ fn is_marked(
 
 // Inlined: canonical form knows the style, so that one arm is left there.
 #[inline(always)]
-fn put_lines(sink: &mut Sink, settings: &Settings, spot: Spot, style: Style, value: &[u8])
-    requires { IsUtf8 value.now }
+fn put_lines(
+    sink: &mut Sink,
+    settings: &Settings,
+    spot: Spot,
+    style: Style,
+    value: &[u8],
+    tame: bool,
+)
+    requires utf8 { IsUtf8 value.now }
+    requires tame { tame ≡ true → IsTame value.now }
     ensures { Puts sink.old sink.new (checked (deeper settings.now spot.around)
         ▹ scalar_text (page_at settings.now spot) settings.now.indent spot.flow style
         (chars value.now)) }
@@ -189,7 +203,11 @@ fn put_lines(sink: &mut Sink, settings: &Settings, spot: Spot, style: Style, val
                 cuts: !is_simple_part(spot.part),
                 line_break: settings.line_break,
             };
-            put_styled(sink, page, settings.indent, spot.flow, style, text(value));
+            if tame {
+                put_tame(sink, page, settings.indent, spot.flow, style, text(value));
+            } else {
+                put_styled(sink, page, settings.indent, spot.flow, style, text(value));
+            }
         }
     }
 }
@@ -234,7 +252,7 @@ fn put_tagged(sink: &mut Sink, context: &Context, spot: Spot, tag: &[u8], value:
         spot.flow Style.Double (chars value.now))) }
 {
     put_tag(sink, context.directives, tag);
-    put_lines(sink, context.settings, spot, Style::Double, value);
+    put_lines(sink, context.settings, spot, Style::Double, value, false);
 }
 
 // A scalar in canonical form: it is double quoted, and each tag is written.
@@ -242,6 +260,7 @@ fn put_tagged(sink: &mut Sink, context: &Context, spot: Spot, tag: &[u8], value:
 #[inline(always)]
 fn put_canonical_scalar(sink: &mut Sink, context: &Context, spot: Spot, scalar: &Scalar)
     requires utf8 { IsUtf8 scalar.now.value.now }
+    requires named { IsNamed (text_of scalar.now.anchor.now) }
     requires canonical { context.now.settings.now.canonical ≡ true }
     ensures { Puts sink.old sink.new (scalar_layout (lent_context context.now) spot
         (lent_scalar scalar.now)) }
@@ -258,7 +277,9 @@ fn put_canonical_scalar(sink: &mut Sink, context: &Context, spot: Spot, scalar: 
 #[inline(always)]
 #[tactic(auto, unfolding(yaml_emit_layout::specs::Nodes::scalar_layout))]
 fn put_any_scalar(sink: &mut Sink, context: &Context, spot: Spot, scalar: &Scalar)
-    requires { IsUtf8 scalar.now.value.now }
+    requires utf8 { IsUtf8 scalar.now.value.now }
+    requires named { IsNamed (text_of scalar.now.anchor.now) }
+    requires tame { scalar.now.tame ≡ true → IsTame scalar.now.value.now }
     ensures { Puts sink.old sink.new (scalar_layout (lent_context context.now) spot
         (lent_scalar scalar.now)) }
 {
@@ -276,7 +297,7 @@ fn put_any_scalar(sink: &mut Sink, context: &Context, spot: Spot, scalar: &Scala
         sink,
         is_marked(context.settings.canonical, tag, plain, quoted, chosen),
     );
-    put_lines(sink, context.settings, spot, chosen, value);
+    put_lines(sink, context.settings, spot, chosen, value, scalar.tame);
 }
 
 /// A scalar, with its anchor and tag.
@@ -284,6 +305,8 @@ fn put_any_scalar(sink: &mut Sink, context: &Context, spot: Spot, scalar: &Scala
 #[inline(always)]
 pub fn put_scalar(sink: &mut Sink, context: &Context, spot: Spot, scalar: &Scalar, canonical: bool)
     requires utf8 { IsUtf8 scalar.now.value.now }
+    requires named { IsNamed (text_of scalar.now.anchor.now) }
+    requires tame { scalar.now.tame ≡ true → IsTame scalar.now.value.now }
     requires form { canonical ≡ context.now.settings.now.canonical }
     ensures { Puts sink.old sink.new (scalar_layout (lent_context context.now) spot
         (lent_scalar scalar.now)) }
@@ -299,6 +322,7 @@ pub fn put_scalar(sink: &mut Sink, context: &Context, spot: Spot, scalar: &Scala
 // Inlined: where the form is known it is short.
 #[inline(always)]
 pub fn put_collection(sink: &mut Sink, context: &Context, spot: Spot, c: char, start: &Start)
+    requires { IsNamed (text_of start.now.anchor.now) }
     ensures { Puts sink.old sink.new (start_text (lent_context context.now) spot c
         (lent_start start.now) start.now.empty) }
 {

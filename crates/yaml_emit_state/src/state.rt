@@ -1,6 +1,7 @@
 //! One event after another is laid out.
 ghost use Rattle.std.specs.Prelude.{◌≡◌, ◌≢◌, ◌∷◌, [], None, Some, Bool, true, false, not, ◌&&◌, ◌||◌, IfSome, if◌then◌else◌, map, IsUtf8};
 ghost use Rattle.yaml_parse_model.specs.Constructors.{HasUtf8};
+ghost use Rattle.yaml_emit_text.specs.Tame.{IsTame};
 
 mod event;
 mod moves;
@@ -12,7 +13,7 @@ use crate::levels::Levels;
 use event::{put_event, put_scalar_node};
 use std::alloc::{AllocError, Global};
 use yaml_emit_layout::Expected;
-use yaml_emit_text::{DirectiveTable, Settings, Sink, Status};
+use yaml_emit_text::{DirectiveTable, Settings, Sink, Status, is_tame};
 use yaml_parse_model::yaml_event_body_t;
 
 /// Where an emitter stands: the settings in force, the output, what is expected, the open collections, and the directives of
@@ -28,11 +29,20 @@ pub struct Core {
     starved: bool,
 }
 
+// Whether a value is looked at, and is tame: canonical form doesn't ask.
+// Inlined: the form is known.
+#[inline(always)]
+fn is_tame_in(canonical: bool, value: &[u8]) -> bool
+    ensures { result ≡ true → IsTame value.now }
+{
+    if canonical { false } else { is_tame(value) }
+}
+
 impl Core {
-    ghost use Rattle.yaml_parse_model.specs.Events.{body_of};
+    ghost use Rattle.yaml_parse_model.specs.Events.{body_of, text_of};
     ghost use Rattle.yaml_emit_layout.specs.Content.{emitter_event, scalar};
     ghost use Rattle.yaml_emit_layout.specs.State.{problem_at};
-    ghost use Rattle.yaml_emit_state.specs.Given.{lent_scalar};
+    ghost use Rattle.yaml_emit_state.specs.Given.{lent_scalar, IsNamed};
     ghost use Rattle.yaml_emit_state.specs.Steps.{state_of, settings_of, LaysOut, IsFresh, LaysOutRight, Starves, is_going, goes_on};
 
     /// Nothing was laid out.
@@ -128,6 +138,8 @@ impl Core {
     #[tactic(auto, unfolding(yaml_emit_layout::specs::State::text_at, yaml_emit_layout::specs::State::next_at, yaml_emit_layout::specs::State::depth_at))]
     fn take(&mut self, event: &mut yaml_event_body_t, empty: bool, canonical: bool)
         requires utf8 { HasUtf8 (body_of event.old) }
+        requires right { problem_at (settings_of self.old) (state_of self.old)
+            (emitter_event (body_of event.old)) ≡ None }
         requires form { canonical ≡ self.old.settings.canonical }
         ensures { LaysOutRight self.old self.new (emitter_event (body_of event.old)) empty }
     {
@@ -150,7 +162,9 @@ impl Core {
     // Out of line: the rare way beside the short one for scalars.
     #[inline(never)]
     fn take_rare(&mut self, event: &mut yaml_event_body_t, empty: bool)
-        requires { HasUtf8 (body_of event.old) }
+        requires utf8 { HasUtf8 (body_of event.old) }
+        requires right { problem_at (settings_of self.old) (state_of self.old)
+            (emitter_event (body_of event.old)) ≡ None }
         ensures { LaysOutRight self.old self.new (emitter_event (body_of event.old)) empty }
     {
         self.take(event, empty, self.settings.canonical);
@@ -161,6 +175,8 @@ impl Core {
     #[inline(always)]
     fn take_scalar(&mut self, event: &mut yaml_event_body_t, empty: bool, canonical: bool)
         requires utf8 { HasUtf8 (body_of event.old) }
+        requires right { problem_at (settings_of self.old) (state_of self.old)
+            (emitter_event (body_of event.old)) ≡ None }
         requires form { canonical ≡ self.old.settings.canonical }
         ensures { LaysOutRight self.old self.new (emitter_event (body_of event.old)) empty }
     {
@@ -173,6 +189,7 @@ impl Core {
                 quoted_implicit,
                 style,
             } => {
+                let tame = is_tame_in(canonical, value);
                 let scalar = Scalar {
                     anchor,
                     tag,
@@ -180,6 +197,7 @@ impl Core {
                     plain: *plain_implicit,
                     quoted: *quoted_implicit,
                     style: *style,
+                    tame,
                 };
                 self.put_known_scalar(&scalar, canonical);
             }
@@ -192,6 +210,8 @@ impl Core {
     #[inline(always)]
     fn put_known_scalar(&mut self, given: &Scalar, canonical: bool)
         requires utf8 { IsUtf8 given.now.value.now }
+        requires named { IsNamed (text_of given.now.anchor.now) }
+        requires tame { given.now.tame ≡ true → IsTame given.now.value.now }
         requires form { canonical ≡ self.old.settings.canonical }
         ensures { (empty : Bool) → LaysOutRight self.old self.new (scalar (lent_scalar given.now))
             empty }

@@ -13,4 +13,5 @@ mod Looks
 mod Rows
 mod RunLemmas
 mod RunWalks
+pub mod Ranks
 mod Tame

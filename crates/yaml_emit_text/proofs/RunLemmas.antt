@@ -4,7 +4,7 @@ use Rattle.std.specs.Prelude.{if◌then◌else◌, not, nat_le, ◌==◌, ◌||�
 use Rattle.std.specs.Str.{chars, IsAscii}
 use Rattle.std.specs.List.{All}
 use Rattle.std.proofs.lemmas.Bool.Decides.{nat_tests}
-use Rattle.std.proofs.lemmas.List.{take-append-drop, drop_more, drop_all, length-take-le}
+use Rattle.std.proofs.lemmas.List.{take-append-drop, take_all, drop_more, drop_all, length-take-le}
 use Rattle.std.proofs.lemmas.Str.{chars-append, chars-IsAscii, IsUtf8-from_ascii, IsUtf8-past_char, IsAscii-drop, chars_past_char, chars-nil, encode_ascii}
 use Rattle.std.proofs.lemmas.Str.Ascii.{IsAscii-from_all}
 use Rattle.std.proofs.lemmas.List.Elements.{All-from_get_or}
@@ -25,7 +25,7 @@ pub and_right : (a b : Bool) → (a && b) ≡ true → b ≡ true
 and_right true b e = e
 and_right false b e = absurd (cc)
 
-both : (a b : Bool) → a ≡ true → b ≡ true → (a && b) ≡ true
+pub both : (a b : Bool) → a ≡ true → b ≡ true → (a && b) ≡ true
 both true b p q = q
 both false b p q = absurd (cc)
 
@@ -235,3 +235,18 @@ calm_behind m bs run rest p r e u =
     ap (λ z. is_empty run || may_follow (first (chars z))) (e ∙ drop_all _ _ (all_of n m (length bs) q t)) ∙ ends (is_empty run))
     (λ f. let q : m ≡ n - 1 = p ∙ ap (λ v. if v then n else n - 1) f in
     follows (is_empty run) (first (chars rest)) (calm_most_behind m bs run rest q r e u))
+
+-- all bytes are calm
+pub all_calm : (n : ℕ) (bs : List ℕ) → n ≡ front calm 0 bs → (n == length bs) ≡ true → all_pass calm 0 bs ≡ true
+all_calm n bs p e =
+    let m : n ≡ length bs = grind (arith, nat_tests, e) in
+    ap (all_pass calm 0) (sym (take_all (length bs) bs (omega arith))) ∙ front_pass calm 0 (length bs) bs (omega (arith, p, m))
+
+-- what a calm byte is
+pub calm_least : (b : ℕ) → is_calm b ≡ true → nat_le 32 b ≡ true
+unfolding is_calm
+calm_least b h = and_left (nat_le 32 b) _ h
+
+pub calm_largest : (b : ℕ) → is_calm b ≡ true → nat_le b 126 ≡ true
+unfolding is_calm
+calm_largest b h = and_left (nat_le b 126) _ (and_right (nat_le 32 b) _ h)

@@ -1,10 +1,13 @@
 -- Runs of a value, which are written as they are.
-use Rattle.std.proofs.Common.{◌≡◌, ℕ, ◌+◌, ◌≤◌, List, [], ◌∷◌, ◌++◌, Bool, true, false, cond, refl, sym, subst, ◌∙◌, ap, arith}
+use Rattle.std.proofs.Common.{◌≡◌, ℕ, ◌+◌, ◌≤◌, List, [], ◌∷◌, ◌++◌, Bool, true, false, cond, length, refl, sym, subst, ◌∙◌, ap, arith}
 use Rattle.std.specs.Prelude.{if◌then◌else◌, not, nat_lt, nat_le, ◌==◌, ◌||◌, ◌&&◌}
 use Rattle.std.proofs.lemmas.Bool.Decides.{nat_tests}
+use Rattle.std.proofs.lemmas.List.{append-nil}
+use Rattle.std.proofs.lemmas.Str.{chars-IsAscii}
+use Rattle.std.specs.Str.{chars}
 use Rattle.yaml_emit_sink.specs.declared.Cursor.{Cursor}
 use Rattle.yaml_emit_sink.specs.Text.{Item, letter, is_break}
-use Rattle.yaml_emit_sink.specs.Layout.{Layout, Rest, ◌▹◌, choose, when, char, letters, new_line, line, is_past}
+use Rattle.yaml_emit_sink.specs.Layout.{Layout, Rest, ◌▹◌, stay, choose, when, char, letters, new_line, line, is_past}
 use Rattle.yaml_emit_sink.specs.Sink.{Output, Ends, Owes, Puts}
 use Rattle.yaml_emit_text.specs.declared.page.Page.{Page}
 use Rattle.yaml_emit_text.specs.declared.run.Bounds.{Bounds}
@@ -12,7 +15,9 @@ use Rattle.yaml_emit_text.specs.Quoted.{needs_escape, escape_text, first, is_emp
 use Rattle.yaml_emit_text.specs.Scalars.{value_break, cuts_at, text_char, flow_char, flow_body, adds_break, cuts_block, line_blank, block_text, block_char, block_body}
 use Rattle.yaml_emit_text.specs.Style.{last_or, seen, looked, joined, is_special, is_break_space, is_not_plain, is_not_flow}
 use Rattle.yaml_emit_text.specs.Runs.{all_pass, runs_on, is_calm, calm, may_follow, quoted_bounds, flow_bounds, block_bounds}
-use Rattle.yaml_emit_text.proofs.RunLemmas.{and_left, and_right, run_byte, last_append}
+use Rattle.yaml_emit_text.proofs.RunLemmas.{and_left, and_right, both, calm_ascii, calm_least, calm_largest, run_byte, last_append}
+use Rattle.yaml_emit_text.proofs.Walks.{walk_end, flow_end}
+use Rattle.yaml_emit_text.specs.Tame.{IsTame}
 use Rattle.yaml_emit_text.proofs.Looks.{looked_at}
 
 bool_cases : {P : Type 0} (b : Bool) → (b ≡ true → P) → (b ≡ false → P) → P
@@ -223,3 +228,49 @@ look_calm unicode before last bs xs text h n t l = ap (looked unicode before) t 
 
 pub last_calm : (before last : ℕ) (bs xs text : List ℕ) → text ≡ bs ++ xs → last ≡ last_or before bs → last_or before text ≡ last_or last xs
 last_calm before last bs xs text t l = ap (last_or before) t ∙ last_append before bs xs ∙ ap (λ z. last_or z xs) (sym l)
+
+-- a text of calm bytes that fits its line
+
+free : (x y : Bool) → (not x || (not y || true)) ≡ true
+free true true = refl
+free true false = refl
+free false y = refl
+
+calm_run : (page : Page) (k b : ℕ) → k ≤ page.width → is_calm b ≡ true → runs_on (flow_bounds page false) k b ≡ true
+unfolding runs_on
+calm_run page k b h c =
+    let low = calm_least b c in
+    let high = calm_largest b c in
+    let other : (b == 0) ≡ false = grind (arith, nat_tests, low) in
+    let within : nat_le k page.width ≡ true = grind (arith, nat_tests, h) in
+    rw (low, high, other, within) (free (b == 32) page.cuts)
+
+calm_runs : (page : Page) (j k : ℕ) (bs : List ℕ) → k + length bs ≤ page.width → all_pass calm j bs ≡ true → all_pass (runs_on (flow_bounds page false)) k bs ≡ true
+unfolding all_pass
+calm_runs page j k [] w h = refl
+calm_runs page j k (b ∷ bs) w h =
+    both (runs_on (flow_bounds page false) k b) (all_pass (runs_on (flow_bounds page false)) (k + 1) bs)
+    (calm_run page k b (omega (arith, w)) (and_left (calm j b) (all_pass calm (j + 1) bs) h))
+    (calm_runs page (j + 1) (k + 1) bs (omega (arith, w)) (and_right (calm j b) (all_pass calm (j + 1) bs) h))
+
+calm_ends : (before j : ℕ) (bs : List ℕ) → is_break before ≡ false → all_pass calm j bs ≡ true → is_break (last_or before bs) ≡ false
+unfolding all_pass last_or
+calm_ends before j [] g h = g
+calm_ends before j (b ∷ bs) g h =
+    let c = and_left (calm j b) (all_pass calm (j + 1) bs) h in
+    let low = calm_least b c in
+    let high = calm_largest b c in
+    calm_ends b (j + 1) bs (no_break b (grind (arith, nat_tests, low)) (grind (arith, nat_tests, high))) (and_right (calm j b) (all_pass calm (j + 1) bs) h)
+
+-- its characters are its bytes
+pub tame_letters : (v : List ℕ) → IsTame v → chars v ≡ v
+tame_letters v t = chars-IsAscii v (calm_ascii 0 v t.calm)
+
+ends_there : (page : Page) (before : ℕ) → is_break before ≡ false → flow_body page false before [] ≡ stay
+ends_there page before h = flow_end page false before ∙ ap (λ v. when v (line page.line_break page.indentation)) h
+
+-- and it is written as it is
+pub tame_written : (page : Page) (at : Cursor) (a b : Output) (v : List ℕ) → IsTame v → at ≡ a.cursor → at.column + length v ≤ page.width → Puts a b (letters v) → Puts a b (flow_body page false 32 (chars v))
+tame_written page at a b v t q w p =
+    walk_end (flow_body page false) a b (flow_body page false 32 (chars v)) (last_or 32 v) [] refl (ends_there page (last_or 32 v) (calm_ends 32 0 v refl t.calm))
+    (flow_run page false (flow_bounds page false) at a b 32 (last_or 32 v) v [] (chars v) refl refl q (calm_runs page 0 at.column v w t.calm) (tame_letters v t ∙ sym (append-nil v)) refl p)

@@ -1,5 +1,6 @@
 pub mod Quoted
 pub mod Style
+pub mod Tame
 pub mod Scalars
 pub mod Runs
 pub mod Tags

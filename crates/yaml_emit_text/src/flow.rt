@@ -162,7 +162,7 @@ fn put_flow_rest(sink: &mut Sink, page: Page, quote: bool, before: char, value: 
 
 // Inlined: whether it is quoted is known.
 #[inline(always)]
-fn put_flow_body(sink: &mut Sink, page: Page, quote: bool, value: &str)
+pub(crate) fn put_flow_body(sink: &mut Sink, page: Page, quote: bool, value: &str)
     ensures { Puts sink.old sink.new (flow_body page quote 32 (chars value.now)) }
 {
     let (before, left) = put_flow_run(sink, page, quote, ' ', value);

@@ -14,6 +14,7 @@ mod split;
 mod style;
 mod table;
 mod tag;
+mod tamed;
 
 pub use block::{put_folded, put_literal};
 pub use flow::{put_plain, put_single_quoted};
@@ -25,6 +26,7 @@ pub use scalar::put_styled;
 pub use style::{allowed_for, taken};
 pub use table::DirectiveTable;
 pub use tag::{put_alias, put_anchor, put_prefix, put_tag, tag_size};
+pub use tamed::{allowed_by, is_tame, put_tame};
 pub use yaml_emit_sink::{
     Cursor, Encoding, LineBreak, RequestedSettings, Settings, Sink, Status, settled, utf8_encodes,
 };

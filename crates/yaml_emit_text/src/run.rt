@@ -56,22 +56,28 @@ fn run_length(bounds: Bounds, column: u64, bytes: &[u8]) -> usize
     count
 }
 
-// Small letters are asked for first: they are more than all else.
-#[tactic(auto, unfolding(crate::specs::Runs::is_calm))]
+// Whether each byte is calm, `1`: from space to `~`, but for # , : ? [ ] { }.
+static CALM: [u8; 256] = *b"\
+    00000000000000000000000000000000\
+    11101111111101111111111111011110\
+    11111111111111111111111111101011\
+    11111111111111111111111111101010\
+    00000000000000000000000000000000\
+    00000000000000000000000000000000\
+    00000000000000000000000000000000\
+    00000000000000000000000000000000";
+
+// Inlined into the loop over bytes.
+#[inline(always)]
 fn is_calm(byte: u8) -> bool
     ensures { result ≡ spec.is_calm byte }
 {
-    if b'a' <= byte && byte <= b'z' {
-        return true;
-    }
-    match byte {
-        b' '..=b'"' | b'$'..=b'+' | b'-'..=b'9' | b';'..=b'>' | b'@'..=b'Z' => true,
-        b'\\' | b'^'..=b'z' | b'|' | b'~' => true,
-        _ => false,
-    }
+    CALM[byte as usize] == b'1'
 }
 
 // The calm bytes in front.
+// Inlined: a loop of a load and a comparison a byte.
+#[inline(always)]
 fn calm_length(bytes: &[u8]) -> usize
     ensures { result ≡ spec.front spec.calm 0 bytes.now }
 {
@@ -83,6 +89,16 @@ fn calm_length(bytes: &[u8]) -> usize
         count += 1;
     }
     count
+}
+
+// Whether all bytes are calm.
+// Inlined: a loop of a load and a comparison a byte.
+#[inline(always)]
+#[tactic(auto, using(crate::proofs::RunLemmas::all_calm))]
+pub(crate) fn are_calm(bytes: &[u8]) -> bool
+    ensures { result ≡ true → spec.all_pass spec.calm 0 bytes.now ≡ true }
+{
+    calm_length(bytes) == bytes.len()
 }
 
 // A text, cut behind some bytes in ASCII.

@@ -216,7 +216,7 @@ fn behind(text: &str) -> &str
 // Whether a value that begins so begins well, whatever follows: most begin with a letter or a digit.
 // Inlined: a few comparisons.
 #[inline(always)]
-fn begins_well(c: char) -> bool
+pub(crate) fn begins_well(c: char) -> bool
     ensures { result ≡ true → (b d : ℕ) → is_badly_begun c b d ≡ false }
 {
     ('a' <= c && c <= 'z') || ('A' <= c && c <= 'Z') || ('0' <= c && c <= '9')

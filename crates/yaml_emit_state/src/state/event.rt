@@ -1,13 +1,15 @@
 //! What is written for an event.
-ghost use Rattle.std.specs.Prelude.{◌≡◌, map, IsUtf8};
+ghost use Rattle.std.specs.Prelude.{◌≡◌, true, map, IsUtf8};
+ghost use Rattle.std.specs.Str.{IsAscii};
 ghost use Rattle.yaml_parse_model.specs.Events.{body_of, text_of};
 ghost use Rattle.yaml_parse_model.specs.Constructors.{HasUtf8};
 ghost use Rattle.yaml_emit_text.specs.Sink.{Puts};
+ghost use Rattle.yaml_emit_text.specs.Tame.{IsTame};
 ghost use Rattle.yaml_emit_layout.specs.Content.{emitter_event};
 ghost use Rattle.yaml_emit_text.specs.Layout.{◌▹◌};
 ghost use Rattle.yaml_emit_layout.specs.Nodes.{alias_layout, scalar_layout};
 ghost use Rattle.yaml_emit_layout.specs.State.{text_at, is_simple_event, before_node, spot_of, start_text};
-ghost use Rattle.yaml_emit_state.specs.Given.{lent_context, lent_scalar, lent_start};
+ghost use Rattle.yaml_emit_state.specs.Given.{lent_context, lent_scalar, lent_start, name_of, IsNamed};
 
 use crate::before::{put_before, put_closer_at};
 use crate::documents::{put_end, put_start_at, put_stop_at};
@@ -27,6 +29,7 @@ fn put_alias_node(
     simple: bool,
     name: &[u8],
 )
+    requires { IsAscii name.now }
     ensures { Puts sink.old sink.new (before_node settings.now top.now simple
         ▹ alias_layout (spot_of top.now simple) name.now) }
 {
@@ -46,6 +49,8 @@ pub(super) fn put_scalar_node(
     canonical: bool,
 )
     requires utf8 { IsUtf8 scalar.now.value.now }
+    requires named { IsNamed (text_of scalar.now.anchor.now) }
+    requires tame { scalar.now.tame ≡ true → IsTame scalar.now.value.now }
     requires form { canonical ≡ context.now.settings.now.canonical }
     ensures { Puts sink.old sink.new (before_node context.now.settings.now top.now simple
         ▹ scalar_layout (lent_context context.now) (spot_of top.now simple)
@@ -65,7 +70,9 @@ fn put_any_node(
     simple: bool,
     scalar: &Scalar,
 )
-    requires { IsUtf8 scalar.now.value.now }
+    requires utf8 { IsUtf8 scalar.now.value.now }
+    requires named { IsNamed (text_of scalar.now.anchor.now) }
+    requires tame { scalar.now.tame ≡ true → IsTame scalar.now.value.now }
     ensures { Puts sink.old sink.new (before_node context.now.settings.now top.now simple
         ▹ scalar_layout (lent_context context.now) (spot_of top.now simple)
         (lent_scalar scalar.now)) }
@@ -91,6 +98,7 @@ fn put_start_node(
     c: char,
     start: &Start,
 )
+    requires { IsNamed (text_of start.now.anchor.now) }
     ensures { Puts sink.old sink.new (before_node context.now.settings.now top.now simple
         ▹ start_text (lent_context context.now) (spot_of top.now simple) c (lent_start start.now)
         start.now.empty) }
@@ -112,6 +120,7 @@ pub fn put_event(
     empty: bool,
 )
     requires utf8 { HasUtf8 (body_of event.now) }
+    requires named { IsNamed (name_of (emitter_event (body_of event.now))) }
     requires encoding { context.now.settings.now.encoding ≡ sink.old.encoding }
     requires simple { at.now.simple ≡ is_simple_event (lent_context context.now)
         (emitter_event (body_of event.now)) empty }
@@ -156,6 +165,7 @@ pub fn put_event(
                 plain: *plain_implicit,
                 quoted: *quoted_implicit,
                 style: *style,
+                tame: false,
             };
             put_any_node(sink, context, top, simple, &scalar)
         }

@@ -4,4 +4,4 @@ use Rattle.yaml_emit_state.proofs.nodes.put_name.Goals as goal
 
 pub returns : goal.returns
 unfolding letters
-returns c = puts_both _ _ _ _ _ c.put_gap.ensures (puts_both _ _ _ _ _ c.put.ensures c.put_all.ensures)
+returns c = puts_both _ _ _ _ _ c.put_gap.ensures (puts_both _ _ _ _ _ c.put.ensures c.put_ascii.ensures)

@@ -1,0 +1,14 @@
+use Rattle.std.proofs.Common.{◌≡◌, ℕ, ◌<◌, true, nat_eq, get_or, List, refl, arith}
+use Rattle.yaml_scan_model.specs.Classes.{is_alpha_byte, is_digit_byte}
+use Rattle.yaml_emit_text.proofs.Ranks.{agree_below, agree_at}
+use Rattle.yaml_emit_state.specs.declared.judge.TheConstants.{ALPHAS}
+use Rattle.yaml_emit_state.proofs.judge.is_alpha.Goals as goal
+
+from_table : (table : List ℕ) (b : ℕ) → b < 256
+    → agree_below (λ k. nat_eq (get_or table k 0) 49) is_alpha_byte 256 ≡ true
+    → nat_eq (get_or table b 0) 49 ≡ is_alpha_byte b
+from_table table b lt h = agree_at _ _ 256 h b lt
+
+pub returns : goal.returns
+unfolding agree_below is_alpha_byte is_digit_byte
+returns c = from_table ALPHAS c.args.byte (omega arith) refl

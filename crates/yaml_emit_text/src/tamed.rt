@@ -1,0 +1,122 @@
+//! Tame texts, which allow every style and are written as they are where they fit their line: most scalars are.
+
+ghost use Rattle.std.specs.Prelude.{◌≡◌, ◌<◌, ◌≤◌, ◌+◌, length, Bool, true, false, IsUtf8};
+ghost use Rattle.std.specs.Str.{chars};
+ghost use Rattle.yaml_emit_sink.specs.Sink.{Puts};
+ghost use Rattle.yaml_emit_text.specs.Runs.{all_pass, calm};
+ghost use Rattle.yaml_emit_text.specs.Scalars.{flow_body, plain, scalar_text};
+ghost use Rattle.yaml_emit_text.specs.Style.{allowed, ends_in_space, starts_badly};
+ghost use Rattle.yaml_emit_text.specs.Tame.{IsTame};
+
+use crate::flow::put_flow_body;
+use crate::letters::text;
+use crate::page::{Allowed, Page, Style};
+use crate::run::are_calm;
+use crate::scalar::put_styled;
+use crate::style::{allowed_for, begins_well};
+use yaml_emit_sink::Sink;
+
+// Whether a text begins with a letter or a digit.
+fn starts_well(value: &[u8]) -> bool
+    requires { 0 < length value.now }
+    ensures { result ≡ true → starts_badly value.now ≡ false }
+{
+    begins_well(value[0] as char)
+}
+
+// Whether no space ends a text.
+#[tactic(auto, using(crate::proofs::Tame::ends))]
+fn ends_well(value: &[u8]) -> bool
+    requires { 0 < length value.now }
+    ensures { result ≡ true → ends_in_space value.now ≡ false }
+{
+    value[value.len() - 1] != b' '
+}
+
+/// Whether a text is tame: it begins with a letter or a digit, no space ends it, and none of its bytes says anything against a
+/// style.
+// Inlined: two tests and a loop.
+#[inline(always)]
+pub fn is_tame(value: &[u8]) -> bool
+    ensures { result ≡ true → IsTame value.now }
+{
+    if value.is_empty() {
+        return false;
+    }
+    starts_well(value) && ends_well(value) && are_calm(value)
+}
+
+/// The styles that a value allows, by whether it is known to be tame: then these are all.
+// Inlined: where it is tame, what they are decides nothing.
+#[inline(always)]
+pub fn allowed_by(unicode: bool, value: &[u8], tame: bool) -> Allowed
+    requires utf8 { IsUtf8 value.now }
+    requires tame { tame ≡ true → IsTame value.now }
+    ensures { result ≡ allowed unicode (chars value.now) }
+{
+    if tame {
+        Allowed {
+            plain: true,
+            flow_plain: true,
+            single: true,
+            block: true,
+        }
+    } else {
+        allowed_for(unicode, text(value))
+    }
+}
+
+// Whether so many characters behind the column end within the width.
+fn is_within(width: u64, column: u64, count: u64) -> bool
+    ensures { result ≡ true → column + count ≤ width }
+{
+    column <= width && count <= width - column
+}
+
+// Out of line: a text that passes the width may be broken.
+#[inline(never)]
+fn put_wide(sink: &mut Sink, page: Page, value: &str)
+    ensures { Puts sink.old sink.new (flow_body page false 32 (chars value.now)) }
+{
+    put_flow_body(sink, page, false, value);
+}
+
+// The value, at once where it fits its line.
+// Inlined into its one caller.
+#[inline(always)]
+fn put_whole(sink: &mut Sink, page: Page, value: &str)
+    requires { IsTame value.now }
+    ensures { Puts sink.old sink.new (flow_body page false 32 (chars value.now)) }
+{
+    if is_within(page.width, sink.cursor().column, value.len() as u64) {
+        sink.put_ascii(value.as_bytes());
+    } else {
+        put_wide(sink, page, value);
+    }
+}
+
+// A plain scalar that is tame, with a space in front where one is due.
+// Out of line: few registers are needed.
+#[inline(never)]
+fn put_bare(sink: &mut Sink, page: Page, value: &str)
+    requires { IsTame value.now }
+    ensures { (flow : Bool) → Puts sink.old sink.new (plain page flow (chars value.now)) }
+{
+    sink.put_gap();
+    put_whole(sink, page, value);
+    sink.set_after_text();
+}
+
+/// A scalar that is tame in that style, as `put_styled` writes it.
+// Inlined: mostly it is plain.
+#[inline(always)]
+#[tactic(auto, unfolding(crate::specs::Scalars::scalar_text))]
+pub fn put_tame(sink: &mut Sink, page: Page, digit: u64, flow: bool, style: Style, value: &str)
+    requires { IsTame value.now }
+    ensures { Puts sink.old sink.new (scalar_text page digit flow style (chars value.now)) }
+{
+    match style {
+        Style::Plain => put_bare(sink, page, value),
+        _ => put_styled(sink, page, digit, flow, style, value),
+    }
+}

@@ -1,6 +1,6 @@
 //! Reading on until the next token is known, or there is none.
 
-ghost use Rattle.std.specs.Prelude.{◌≡◌, [], true, false};
+ghost use Rattle.std.specs.Prelude.{◌≡◌, ◌+◌, ◌<◌, [], true, false, length};
 ghost use Rattle.yaml_scan_model.specs.Tokens.{token_of, body_of, no_token};
 ghost use Rattle.yaml_scan_machine.specs.scan_queue.Bare.{is_bare};
 ghost use Rattle.yaml_scan_model.specs.Faults.{fault_of};
@@ -213,12 +213,55 @@ fn begin(machine: &mut Machine, spares: &mut Vec<Vec<u8>>, fault: &mut yaml_faul
 }
 
 /// Reads on in the decoded text until the next token is known, or there is none. It isn't known yet.
-// Out of line: mostly the next token is known.
-#[inline(never)]
+// Inlined: a look whether a lexeme was read. Asked here, it isn't asked for each lexeme.
+#[inline(always)]
 fn fill(machine: &mut Machine, spares: &mut Vec<Vec<u8>>, fault: &mut yaml_fault_t) -> Sought
     requires stands { IsMachine machine.old }
     requires started { machine.old.started ≡ true }
     requires sought { is_ready machine.old ≡ false }
+    ensures { ReadsOn machine.old machine.new (fault_of fault.new) result }
+{
+    if machine.is_new() {
+        return fill_first(machine, spares, fault);
+    }
+    fill_further(machine, spares, fault)
+}
+
+/// Reads the first lexeme, and on in the decoded text.
+// Out of line: it is called once. Cold: so a lexeme that isn't the first is asked for first.
+#[cold]
+#[inline(never)]
+fn fill_first(machine: &mut Machine, spares: &mut Vec<Vec<u8>>, fault: &mut yaml_fault_t) -> Sought
+    requires stands { IsMachine machine.old }
+    requires started { machine.old.started ≡ true }
+    requires sought { is_ready machine.old ≡ false }
+    requires none { machine.old.dropped + length machine.old.waiting.items ≡ 0 }
+    ensures { ReadsOn machine.old machine.new (fault_of fault.new) result }
+{
+    if machine.ended {
+        return Sought::Nothing;
+    }
+    if !machine.begin(fault) {
+        return Sought::Refused;
+    }
+    if machine.has_token() {
+        return Sought::Known;
+    }
+    fill_further(machine, spares, fault)
+}
+
+/// Reads on behind the lexemes that were read until the next token is known, or there is none. It isn't known yet.
+// Out of line: mostly the next token is known.
+#[inline(never)]
+fn fill_further(
+    machine: &mut Machine,
+    spares: &mut Vec<Vec<u8>>,
+    fault: &mut yaml_fault_t,
+) -> Sought
+    requires stands { IsMachine machine.old }
+    requires started { machine.old.started ≡ true }
+    requires sought { is_ready machine.old ≡ false }
+    requires some { 0 < machine.old.dropped + length machine.old.waiting.items }
     ensures { ReadsOn machine.old machine.new (fault_of fault.new) result }
 {
     let mut spot = Spot::blank();
@@ -229,13 +272,14 @@ fn fill(machine: &mut Machine, spares: &mut Vec<Vec<u8>>, fault: &mut yaml_fault
         if !step(machine, &mut spot, spares, fault) {
             return Sought::Refused;
         }
-        if machine.has_token() {
+        let known = machine.has_token();
+        if known {
             return Sought::Known;
         }
     }
 }
 
-/// Reads one lexeme, or puts the fault into the slot that was lent. The place where the lexeme stands gets a slot too.
+/// Reads one lexeme more, or puts the fault into the slot that was lent. The place where the lexeme stands gets a slot too.
 // Inlined: it is called at one place.
 #[inline(always)]
 fn step(
@@ -244,12 +288,10 @@ fn step(
     spares: &mut Vec<Vec<u8>>,
     fault: &mut yaml_fault_t,
 ) -> bool
-    requires { MayRead machine.old }
+    requires may { MayRead machine.old }
+    requires some { 0 < machine.old.dropped + length machine.old.waiting.items }
     ensures { Steps machine.old machine.new (fault_of fault.new) result }
 {
-    if machine.is_new() {
-        return machine.begin(fault);
-    }
     match machine.stand(spot, fault) {
         Some(kind) => machine.by_kind(kind, spot, spares, fault),
         None => false,

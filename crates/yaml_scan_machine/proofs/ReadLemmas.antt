@@ -1,5 +1,5 @@
 -- What a lexeme that is read next is made of.
-use Rattle.std.proofs.Common.{◌≡◌, ℕ, true, false, cond, ltb, ◌&&◌, List, [], ◌∷◌, Option, Some, None, Result, Ok, Err, refl, sym, ap, subst, ◌∙◌, inl, inr, ◌⊎◌}
+use Rattle.std.proofs.Common.{◌≡◌, ℕ, true, false, cond, ltb, ◌&&◌, List, [], ◌∷◌, Option, Some, None, is_some, Result, Ok, Err, refl, sym, ap, subst, ◌∙◌, inl, inr, ◌⊎◌}
 use Rattle.std.proofs.lemmas.Bool.{cases_Bool}
 use Rattle.yaml_scan_model.specs.declared.record.yaml_mark_t.{yaml_mark_t}
 use Rattle.yaml_scan_model.specs.Marks.{mark_at}
@@ -116,3 +116,8 @@ saved_is text y h x r = ap (λ (z : Lexeme). z.saved) r.is ∙ finished_saved te
 pub first_is : (text : List ℕ) (x : Lexeme) → next text [] ≡ Read x → x ≡ first_lexeme
 unfolding next
 first_is text x e = cc
+
+-- what isn't open is none
+pub none_open : (o : Option yaml_mark_t) → is_some o ≡ false → None ≡ o
+none_open None h = refl
+none_open (Some x) h = cc

@@ -1,5 +1,5 @@
 -- What stands behind the gap, where a further lexeme is to be read.
-use Rattle.std.specs.Prelude.{◌≡◌, ◌≤◌, Bool, true, false, nat_lt, Some, None, Ok, length}
+use Rattle.std.specs.Prelude.{◌≡◌, ◌≤◌, Bool, true, false, nat_lt, Some, None, Ok, is_some, length}
 use Rattle.yaml_scan_model.specs.declared.problem.ScanError.{ScanError}
 use Rattle.yaml_scan_model.specs.Faults.{Fault}
 use Rattle.yaml_scan_decode.specs.DecodedText.{text_bytes}
@@ -26,6 +26,8 @@ pub record IsStand (m : Machine) (k : Kind) (s : Spot) : Type 0 where
   pub forward : Upto (reached (history_of m)) s.mark
   pub early : late (required_in (fresh (candidate 0 (history_of m)) (reached (history_of m))))
       s.mark ≡ None
+  pub required : is_some (required_in (fresh (candidate 0 (history_of m))
+      (reached (history_of m)))) ≡ s.required
   pub gap : Gap
   pub behind : gap.place ≡ s.mark.index
   pub allowed : allowed_behind (history_of m) gap ≡ s.allowed

@@ -44,6 +44,8 @@ pub struct Spot {
     pub mark: yaml_mark_t,
     /// A key may begin there.
     pub allowed: bool,
+    /// A required candidate is open in front of it.
+    pub required: bool,
 }
 
 /// The place where a lexeme stands, behind the gap.
@@ -295,7 +297,7 @@ impl<'a> Machine<'a> {
     }
 
     /// The start of the required candidate that is open. It stands outside all brackets, so it is the earliest open one.
-    // Inlined: mostly a comparison, asked twice for each lexeme.
+    // Inlined: mostly a comparison, asked for each lexeme.
     #[inline(always)]
     pub(crate) fn required(&self) -> Option<yaml_mark_t>
         requires stands { IsMachine self.now }
@@ -305,6 +307,23 @@ impl<'a> Machine<'a> {
     {
         if self.settled < self.candidate_bound {
             return self.waiting.index(self.settled - self.dropped).must_come();
+        }
+        None
+    }
+
+    /// The start of the required candidate that is open, where it is known whether one is.
+    // Inlined: where none is, the way of a kind asks nothing.
+    #[inline(always)]
+    pub(crate) fn required_where(&self, waits: bool) -> Option<yaml_mark_t>
+        requires stands { IsMachine self.now }
+        requires more { self.now.ended ≡ false }
+        requires told { is_some (required_in (fresh (candidate 0 (history_of self.now))
+            (reached (history_of self.now)))) ≡ waits }
+        ensures { result ≡ required_in (fresh (candidate 0 (history_of self.now))
+            (reached (history_of self.now))) }
+    {
+        if waits {
+            return self.required();
         }
         None
     }

@@ -1,6 +1,7 @@
 //! Where the next lexeme stands, and of which kind it is.
 
 ghost use Rattle.std.specs.Prelude.{◌≡◌, ◌+◌, ◌<◌, ◌&&◌, ◌||◌, ◌==◌, not, nat_lt, IfSome, None, true, false, length};
+ghost use Rattle.yaml_scan_model.specs.Marks.{byte};
 ghost use Rattle.yaml_scan_model.specs.Faults.{fault_of};
 ghost use Rattle.yaml_scan_words.specs.Between.{gap_at};
 ghost use Rattle.yaml_scan_machine.specs.Reads.{colon_fault, no_token_fault};
@@ -35,6 +36,7 @@ impl<'a> Machine<'a> {
         spot.mark = reader.stop();
         spot.allowed = allowed;
         let required = self.required();
+        spot.required = required.is_some();
         if let Some(start) = late(required, spot.mark) {
             put_late(fault, start, spot.mark);
             return None;
@@ -58,12 +60,13 @@ impl Spot {
         Spot {
             mark,
             allowed: false,
+            required: false,
         }
     }
 }
 
-/// Past what stands between lexemes, and whether a key may begin behind it. Mostly it is nothing or one space, which is
-/// asked before the loop over all that may stand there.
+/// Past what stands between lexemes, and whether a key may begin behind it. Mostly it is nothing, one space or one line
+/// feed, which is asked before the loop over all that may stand there.
 // Inlined: a reader that is lent to a call lives in memory.
 #[inline(always)]
 fn pass_gap(reader: &mut Reader, flow: bool, allowed: bool) -> bool
@@ -81,8 +84,11 @@ fn pass_gap(reader: &mut Reader, flow: bool, allowed: bool) -> bool
             reader.skip();
             return allowed;
         }
-    } else if byte == b'"' {
+    } else if begins(byte) {
         return allowed;
+    } else if is_lone_feed(reader) {
+        reader.skip_break();
+        return allowed_behind(allowed, true, flow);
     }
     let broke = skip_gap(reader, flow, allowed);
     allowed_behind(allowed, broke, flow)
@@ -95,11 +101,23 @@ fn is_behind_hash(byte: u8) -> bool
     byte > b'#' && byte < 128
 }
 
-/// Whether the byte is one of these, or `"`.
+/// Whether the byte is one of these, or `!` or `"`.
 fn begins(byte: u8) -> bool
     ensures { result ≡ true → (nat_lt 32 byte && (nat_lt byte 128 && not (byte == 35))) ≡ true }
 {
-    byte == b'"' || is_behind_hash(byte)
+    byte == b'"' || (byte == b'!' || is_behind_hash(byte))
+}
+
+/// Whether a line feed stands here, and behind it what begins a lexeme.
+// Inlined: a look at two bytes.
+#[inline(always)]
+fn is_lone_feed(reader: &Reader) -> bool
+    ensures { result ≡ true → (byte reader.now.text reader.now.at ≡ 10)
+        × ((nat_lt 32 (byte reader.now.text (reader.now.at + 1))
+        && (nat_lt (byte reader.now.text (reader.now.at + 1)) 128
+        && not (byte reader.now.text (reader.now.at + 1) == 35))) ≡ true) }
+{
+    reader.here() == b'\n' && begins(reader.byte(1))
 }
 
 /// Whether a key may begin behind a gap: in block context a break allows one.

@@ -48,18 +48,18 @@ impl<'a> Machine<'a> {
         requires { MayReadAt self.old kind spot.now }
         ensures { Steps self.old self.new (fault_of fault.new) result }
     {
-        let required = self.required();
-        if !kind.is_value() && self.may_refuse(kind, *spot, required) {
+        if !kind.is_value() && self.may_refuse(kind, *spot) {
             return self.of_rare(kind, spot, spares, fault);
         }
+        let required = self.required_where(spot.required);
         self.step_by(kind, *spot, required, spares, fault)
     }
 
     /// Whether a lexeme of that kind may be refused for what stands before it.
     // Inlined: the kind is known where it is called.
     #[inline(always)]
-    fn may_refuse(&self, kind: Kind, spot: Spot, required: Option<yaml_mark_t>) -> bool {
-        required.is_some() || kind.is_start() && self.depth == 0 && !spot.allowed
+    fn may_refuse(&self, kind: Kind, spot: Spot) -> bool {
+        spot.required || kind.is_start() && self.depth == 0 && !spot.allowed
     }
 
     /// Reads the lexeme of that kind, which stands there, where the start of the required candidate is known.

@@ -221,7 +221,8 @@ impl<'a> Machine<'a> {
     }
 
     /// Reads a lexeme of any kind, in the general way.
-    // Out of line, as is each way.
+    // Out of line, as is each way. Cold: a way that hands over to it mostly goes on itself.
+    #[cold]
     #[inline(never)]
     pub(crate) fn of_rare(
         &mut self,

@@ -91,7 +91,8 @@ impl Queue {
 
     /// Makes a slot behind the last lexeme. Where more lexemes were taken than wait, these are moved down, so that each
     /// move is paid for by one that was taken.
-    // Out of line: mostly a slot is free.
+    // Out of line and cold: mostly a slot is free.
+    #[cold]
     #[inline(never)]
     fn grow(&mut self) -> Result<(), AllocError>
         ensures items { self.new.items ≡ self.old.items }

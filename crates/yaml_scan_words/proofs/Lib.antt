@@ -10,3 +10,4 @@ pub mod GapsRead
 pub mod NamesRead
 pub mod UrisRead
 pub mod TagsRead
+pub mod ShortLemmas

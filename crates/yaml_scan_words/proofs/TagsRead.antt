@@ -60,7 +60,7 @@ goes_on flow text p low high comma =
     let none : break_width text p ≡ 0 = no_break _ _ _ (omega arith) (omega arith) (omega arith) (omega arith) in
     rw (blank_none (byte text p) low, none, comma_none flow (byte text p) comma) refl
 
-ends_other : (flow : Bool) (text : List ℕ) (p b : ℕ) → may_end_tag flow text p ≡ true → byte text p ≡ b → 32 < b → b < 127 → b ≢ 44 → ⊥
+pub ends_other : (flow : Bool) (text : List ℕ) (p b : ℕ) → may_end_tag flow text p ≡ true → byte text p ≡ b → 32 < b → b < 127 → b ≢ 44 → ⊥
 ends_other flow text p b h e low high comma = true≢false (sym h ∙ goes_on flow text p (omega arith) (omega arith) (omega (arith, e, comma)))
 
 uri_stops : (flow : Bool) (text : List ℕ) (p : ℕ) → may_end_tag flow text p ≡ true → (byte text p == 37 || is_uri false text p) ≡ false

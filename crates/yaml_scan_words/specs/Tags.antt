@@ -32,6 +32,10 @@ verbatim_at text p = bracketed text (some_uri_at contexts.TagUri true text (p + 
 abbrev pub name_end : List ℕ → ℕ → ℕ
 name_end text p = run_end runs.Alphas text (p + 1)
 
+-- the place behind the handle of a tag in a short form: `!alphas!`, or else `!`
+abbrev pub handle_end : List ℕ → ℕ → ℕ
+handle_end text p = if byte text (name_end text p) == 33 then name_end text p + 1 else p + 1
+
 abbrev pub with_handle : List ℕ → Result (List ℕ × ℕ) Wrong → Result TagText Wrong
 with_handle handle (Ok u) = Ok record { handle = handle; suffix = u.0; end = u.1 }
 with_handle handle (Err w) = Err w

@@ -165,7 +165,7 @@ pub(crate) fn copied_since(
 /// A copy of the bytes from one place to another, in the room of a spare text where they fit.
 // Out of line: names and the parts of tags have it once, with the copy's move in line.
 #[inline(never)]
-fn copied(
+pub(crate) fn copied(
     spares: &mut Vec<Vec<u8>>,
     text: &[u8],
     from: usize,

@@ -1,13 +1,13 @@
 //! Tags.
 
-ghost use Rattle.std.specs.Prelude.{◌≡◌, ◌+◌, ◌&&◌, ◌||◌, ◌==◌, true, ℕ, length};
+ghost use Rattle.std.specs.Prelude.{◌≡◌, ◌≤◌, ◌+◌, ◌&&◌, ◌||◌, ◌==◌, ◌⊎◌, not, true, ℕ, length};
 ghost use Rattle.yaml_scan_model.specs.Marks.{byte, mark_at};
 ghost use Rattle.yaml_scan_words.specs.Tags as spec;
 ghost use Rattle.yaml_scan_words.specs.Readings.{ReadsAs};
-ghost use Rattle.yaml_scan_words.specs.TagsGiven.{IsTag, IsParts};
+ghost use Rattle.yaml_scan_words.specs.TagsGiven.{IsTag, IsParts, IsShort};
 
-use crate::run::{copied_since, leap, name_end, skip_indicator};
-use crate::uris::{some_uri, uri};
+use crate::run::{copied, copied_since, leap, name_end, skip_indicator};
+use crate::uris::{kept_end, some_uri, uri};
 use crate::word::{TagWord, refusal};
 use yaml_scan_model::{Context, Problem, Reader, ScanError, room, yaml_mark_t};
 
@@ -21,8 +21,115 @@ pub(crate) struct TagParts {
 /// The tag whose `!` stands here (YAML 1.1, 3.2.1.2): `!<uri>`, `!uri`, `!!uri`, `!name!uri` or `!`.
 ///
 /// A verbatim tag has no handle, and the tag `!` has none and the suffix `!`. Escapes are spelled out in the suffix. A tag ends before
-/// a blank, a break or the end, in flow context also before `,`.
+/// a blank, a break or the end, in flow context also before `,`. Handle and suffix may take the room of spare texts.
+///
+/// A short form without escapes is read here, in which the handle's end is where its suffix begins; all else by `whole_tag`.
+// Inlined into its one caller, which is a call of its own.
+#[inline(always)]
 pub fn tag(spares: &mut Vec<Vec<u8>>, reader: &mut Reader, flow: bool) -> Result<TagWord, ScanError>
+    requires { byte reader.old.text reader.old.at ≡ 33 }
+    ensures { ReadsAs (IsTag reader.old.text reader.old.at) spec.tag_end reader.old.text
+        (mark_at reader.old.text reader.old.at) reader.new result
+        (spec.tag_at flow reader.old.text reader.old.at) }
+{
+    let name = name_end(reader);
+    let middle = handle_end(reader, name);
+    let mut behind = reader.ahead();
+    leap(&mut behind, suffix_end(reader, name, middle));
+    if !is_short(reader.byte(1), middle, &behind, flow) {
+        return tag_apart(spares, reader, flow);
+    }
+    let handle = copied(spares, reader.text(), reader.place(), middle)?;
+    let suffix = copied_since(spares, &behind, middle)?;
+    let word = TagWord {
+        handle,
+        suffix,
+        start_mark: reader.mark(),
+        end_mark: behind.mark(),
+    };
+    *reader = behind;
+    Ok(word)
+}
+
+/// The place behind the handle of a tag in a short form, which stands here: `!alphas!` or `!`. Alphas end at `name`.
+// Inlined: a look at a byte.
+#[inline(always)]
+fn handle_end(reader: &Reader, name: usize) -> usize
+    requires mark { byte reader.now.text reader.now.at ≡ 33 }
+    requires name { name ≡ spec.name_end reader.now.text reader.now.at }
+    ensures { result ≡ spec.handle_end reader.now.text reader.now.at }
+{
+    if reader.text().get(name).copied().unwrap_or(0) == b'!' {
+        return name + 1;
+    }
+    reader.place() + 1
+}
+
+/// The place behind what a URI holds as it is from the handle's end on, which is `middle`. The alphas that end at `name` were
+/// passed already.
+// Inlined: a loop of a load and a comparison a byte.
+#[inline(always)]
+fn suffix_end(reader: &Reader, name: usize, middle: usize) -> usize
+    requires name { name ≡ spec.name_end reader.now.text reader.now.at }
+    requires handle { middle ≡ spec.handle_end reader.now.text reader.now.at }
+    ensures { IsShort reader.now.text reader.now.at result }
+{
+    kept_end(reader.text(), later(name, middle), false)
+}
+
+/// The later of two places.
+// Inlined: a comparison.
+#[inline(always)]
+fn later(a: usize, b: usize) -> usize
+    ensures low { (a ≤ result) × (b ≤ result) }
+    ensures one { (result ≡ a) ⊎ (result ≡ b) }
+{
+    if a < b {
+        return b;
+    }
+    a
+}
+
+/// Whether a short form of a tag stands before that reader, without escapes and with a suffix from `middle` on, behind `!`
+/// and the byte `second`.
+// Inlined: mostly a look at three bytes.
+#[inline(always)]
+fn is_short(second: u8, middle: usize, behind: &Reader, flow: bool) -> bool
+    ensures { result ≡ (not (second == 60) && (not (middle == behind.now.at)
+        && spec.may_end_tag flow behind.now.text behind.now.at)) }
+{
+    second != b'<' && (middle != behind.place() && ends_tag(behind, flow))
+}
+
+/// The tag that stands here, in any form.
+// Inlined: so the answer of the call out of line has a place of its own. It is lent a copy of the reader: one that is lent
+// lies in memory.
+#[inline(always)]
+fn tag_apart(
+    spares: &mut Vec<Vec<u8>>,
+    reader: &mut Reader,
+    flow: bool,
+) -> Result<TagWord, ScanError>
+    requires { byte reader.old.text reader.old.at ≡ 33 }
+    ensures { ReadsAs (IsTag reader.old.text reader.old.at) spec.tag_end reader.old.text
+        (mark_at reader.old.text reader.old.at) reader.new result
+        (spec.tag_at flow reader.old.text reader.old.at) }
+{
+    let mut copy = reader.ahead();
+    let read = whole_tag(spares, &mut copy, flow)?;
+    *reader = copy;
+    Ok(read)
+}
+
+/// The tag that stands here, in any form.
+// Out of line and cold: most tags have a short form without escapes.
+#[cold]
+#[inline(never)]
+fn whole_tag(
+    spares: &mut Vec<Vec<u8>>,
+    reader: &mut Reader,
+    flow: bool,
+) -> Result<TagWord, ScanError>
     requires { byte reader.old.text reader.old.at ≡ 33 }
     ensures { ReadsAs (IsTag reader.old.text reader.old.at) spec.tag_end reader.old.text
         (mark_at reader.old.text reader.old.at) reader.new result
@@ -42,6 +149,17 @@ pub fn tag(spares: &mut Vec<Vec<u8>>, reader: &mut Reader, flow: bool) -> Result
 }
 
 /// Whether a tag may end here.
+// Inlined: mostly a space does. All else asks a reader of its own.
+#[inline(always)]
+fn ends_tag(reader: &Reader, flow: bool) -> bool
+    ensures { result ≡ spec.may_end_tag flow reader.now.text reader.now.at }
+{
+    reader.here() == b' ' || may_end_tag(&reader.ahead(), flow)
+}
+
+/// Whether a tag may end here.
+// Out of line: mostly a space follows.
+#[inline(never)]
 fn may_end_tag(reader: &Reader, flow: bool) -> bool
     ensures { result ≡ spec.may_end_tag flow reader.now.text reader.now.at }
 {

@@ -186,7 +186,7 @@ fn due_behind(octet: u8, due: usize) -> Result<usize, Problem>
 /// The place behind the characters there that a URI holds as they are.
 // Inlined: a loop of a load and a comparison a byte.
 #[inline(always)]
-fn kept_end(text: &[u8], from: usize, wide: bool) -> usize
+pub(crate) fn kept_end(text: &[u8], from: usize, wide: bool) -> usize
     ensures forward { from ≤ result }
     ensures kept { (k : ℕ) → from ≤ k → k < result → spec.is_uri wide text.now k ≡ true }
     ensures stop { spec.is_uri wide text.now result ≡ false }

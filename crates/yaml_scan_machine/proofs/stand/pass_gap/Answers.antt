@@ -1,8 +1,8 @@
-use Rattle.std.proofs.Common.{◌≡◌, ◌+◌, true, sym, ap, ◌∙◌}
+use Rattle.std.proofs.Common.{◌≡◌, ◌+◌, true, sym, ap, ◌∙◌, arith}
 use Rattle.yaml_scan_model.specs.Marks.{byte}
 use Rattle.yaml_scan_words.specs.Between.{Gap}
 use Rattle.yaml_scan_words.proofs.BetweenLemmas.{space_byte}
-use Rattle.yaml_scan_machine.proofs.GapLemmas.{goes_on, no_gap, one_space, quote_goes_on, allowed_still}
+use Rattle.yaml_scan_machine.proofs.GapLemmas.{goes_on, no_gap, one_space, one_feed, feed_width, allowed_still}
 use Rattle.yaml_scan_machine.proofs.stand.pass_gap.Goals as goal
 
 pub returns-then-is_behind_hash-clause-place : goal.returns-then-is_behind_hash-clause-place
@@ -25,13 +25,30 @@ returns-then-begins-clause-allowed c =
     let h : goes_on (byte c.args.reader.now.text (c.args.reader.now.at + 1)) ≡ true = rw c.byte.ensures at c.begins.ensures c.if-begins.true in
     allowed_still c.args.allowed c.args.flow _ (ap (λ (g : Gap). g.broke) (one_space c.args.flow c.args.allowed c.args.reader.now.text c.args.reader.now.at (sym c.here-byte.ensures ∙ c.if-byte-eq32.true) h))
 
-pub returns-then-byte-eq34-clause-place : goal.returns-then-byte-eq34-clause-place
-returns-then-byte-eq34-clause-place c =
-    ap (λ (g : Gap). g.place) (no_gap c.args.flow c.args.allowed c.args.reader.now.text c.args.reader.now.at (quote_goes_on _ (sym c.here-byte.ensures ∙ c.if-byte-eq34.true)))
+pub returns-then-begins-2-clause-place : goal.returns-then-begins-2-clause-place
+returns-then-begins-2-clause-place c =
+    let h : goes_on (byte c.args.reader.now.text c.args.reader.now.at) ≡ true = rw c.here-byte.ensures at c.begins-else-byte-eq32.ensures c.if-begins-2.true in
+    ap (λ (g : Gap). g.place) (no_gap c.args.flow c.args.allowed c.args.reader.now.text c.args.reader.now.at h)
 
-pub returns-then-byte-eq34-clause-allowed : goal.returns-then-byte-eq34-clause-allowed
-returns-then-byte-eq34-clause-allowed c =
-    allowed_still c.args.allowed c.args.flow _ (ap (λ (g : Gap). g.broke) (no_gap c.args.flow c.args.allowed c.args.reader.now.text c.args.reader.now.at (quote_goes_on _ (sym c.here-byte.ensures ∙ c.if-byte-eq34.true))))
+pub returns-then-begins-2-clause-allowed : goal.returns-then-begins-2-clause-allowed
+returns-then-begins-2-clause-allowed c =
+    let h : goes_on (byte c.args.reader.now.text c.args.reader.now.at) ≡ true = rw c.here-byte.ensures at c.begins-else-byte-eq32.ensures c.if-begins-2.true in
+    allowed_still c.args.allowed c.args.flow _ (ap (λ (g : Gap). g.broke) (no_gap c.args.flow c.args.allowed c.args.reader.now.text c.args.reader.now.at h))
+
+pub skip_break-requires : goal.skip_break-requires
+skip_break-requires c =
+    let (feed, h) = c.is_lone_feed.ensures c.if-is_lone_feed.true in
+    rw (feed_width c.args.reader.now.text c.args.reader.now.at feed) (omega arith)
+
+pub returns-then-is_lone_feed-clause-place : goal.returns-then-is_lone_feed-clause-place
+returns-then-is_lone_feed-clause-place c =
+    let (feed, h) = c.is_lone_feed.ensures c.if-is_lone_feed.true in
+    rw (c.skip_break.ensures, feed_width c.args.reader.now.text c.args.reader.now.at feed) (ap (λ (g : Gap). g.place) (one_feed c.args.flow c.args.allowed c.args.reader.now.text c.args.reader.now.at feed h))
+
+pub returns-then-is_lone_feed-clause-allowed : goal.returns-then-is_lone_feed-clause-allowed
+returns-then-is_lone_feed-clause-allowed c =
+    let (feed, h) = c.is_lone_feed.ensures c.if-is_lone_feed.true in
+    rw (one_feed c.args.flow c.args.allowed c.args.reader.now.text c.args.reader.now.at feed h) c.allowed_behind.ensures
 
 pub skip-requires-clause-inside : goal.skip-requires-clause-inside
 skip-requires-clause-inside c = (space_byte c.args.reader.now.text c.args.reader.now.at (sym c.here-byte.ensures ∙ c.if-byte-eq32.true)).0

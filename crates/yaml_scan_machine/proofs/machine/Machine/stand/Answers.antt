@@ -1,4 +1,4 @@
-use Rattle.std.proofs.Common.{◌≡◌, ℕ, List, nat_lt, Some, None, refl, sym, ap, subst, ◌∙◌}
+use Rattle.std.proofs.Common.{◌≡◌, ℕ, List, nat_lt, Some, None, is_some, refl, sym, ap, subst, ◌∙◌}
 use Rattle.yaml_scan_model.specs.declared.record.yaml_mark_t.{yaml_mark_t}
 use Rattle.yaml_scan_model.specs.declared.problem.ScanError.{ScanError}
 use Rattle.yaml_scan_model.specs.declared.problem.ScanError.TheVariants as errors
@@ -62,6 +62,7 @@ returns-clause-some c =
       kind = subst AtPlace (sym index) (subst AtText kept c.in-Some-kind_at.ensures.stands);
       forward = forward_machine m g c.stop-spot.result c.requires.stands.shown (c.requires.stands.place c.requires.more) between spot;
       early = ap (λ o. late o c.stop-spot.result) (sym c.required-required.ensures) ∙ none;
+      required = ap is_some (sym c.required-required.ensures) ∙ sym c.is_some-spot.ensures;
       gap = g;
       behind = sym index;
       allowed = allow_by (fields_of m) g c.pass_gap-allowed.result c.requires.stands.shown c.pass_gap-allowed.ensures.allowed;

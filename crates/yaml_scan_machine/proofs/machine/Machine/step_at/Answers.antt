@@ -1,7 +1,10 @@
 use Rattle.yaml_scan_machine.proofs.machine.Machine.step_at.Goals as goal
 
-pub required-required-requires-clause-stands : goal.required-required-requires-clause-stands
-required-required-requires-clause-stands c = c.requires.may.stands
+pub required_where-required-requires-clause-stands : goal.required_where-required-requires-clause-stands
+required_where-required-requires-clause-stands c = c.requires.may.stands
 
-pub required-required-requires-clause-more : goal.required-required-requires-clause-more
-required-required-requires-clause-more c = c.requires.may.more
+pub required_where-required-requires-clause-more : goal.required_where-required-requires-clause-more
+required_where-required-requires-clause-more c = c.requires.may.more
+
+pub required_where-required-requires-clause-told : goal.required_where-required-requires-clause-told
+required_where-required-requires-clause-told c = c.requires.stand.required

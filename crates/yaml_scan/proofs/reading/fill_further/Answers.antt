@@ -1,0 +1,51 @@
+use Rattle.std.proofs.Common.{sym, ◌∙◌, arith}
+use Rattle.yaml_scan_model.specs.Faults.{fault_of}
+use Rattle.yaml_scan_machine.proofs.ComesLemmas.{end_machine, goes_same, left_is, told_refused, steps_on, steps_off}
+use Rattle.yaml_scan.proofs.reading.fill_further.Goals as goal
+
+pub steps-preserved : goal.steps-preserved
+steps-preserved c =
+    let i = c.steps.invariant in
+    let (stands, on) = steps_on c.steps.machine c.step.new.machine (fault_of c.step.new.fault) c.step.result c.if-not-step.false c.step.ensures in
+    record {
+      stands = stands;
+      same = goes_same c.steps.machine c.step.new.machine on ∙ i.same;
+      started = on.started ∙ i.started;
+      sought = sym c.has_token-known.ensures ∙ c.if-known.false;
+      some = omega (arith, on.dropped, on.further);
+    }
+
+pub returns-then-machine : goal.returns-then-machine
+returns-then-machine c =
+    let i = c.steps.invariant in
+    let none = end_machine c.steps.machine i.stands i.sought c.if-machine.true in
+    record {
+      stands = i.stands;
+      left = left_is c.args.machine.now c.requires.started ∙ sym i.same ∙ none;
+      none = left_is c.steps.machine i.started ∙ none;
+    }
+
+pub step-requires-clause-may : goal.step-requires-clause-may
+step-requires-clause-may c =
+    let i = c.steps.invariant in
+    record { stands = i.stands; started = i.started; sought = i.sought; more = c.if-machine.false }
+
+pub returns-then-not-step : goal.returns-then-not-step
+returns-then-not-step c =
+    let i = c.steps.invariant in
+    let (refused, few) = steps_off c.steps.machine c.step.new.machine (fault_of c.step.new.fault) c.step.result c.if-not-step.true c.step.ensures in
+    record {
+      sought = c.requires.sought;
+      told = told_refused c.args.machine.now c.steps.machine (fault_of c.step.new.fault) c.requires.started i.same i.stands i.sought c.if-machine.false refused;
+      few = few;
+    }
+
+pub returns-then-known : goal.returns-then-known
+returns-then-known c =
+    let i = c.steps.invariant in
+    let (stands, on) = steps_on c.steps.machine c.step.new.machine (fault_of c.step.new.fault) c.step.result c.if-not-step.false c.step.ensures in
+    record {
+      stands = stands;
+      left = left_is c.step.new.machine (on.started ∙ i.started) ∙ goes_same c.steps.machine c.step.new.machine on ∙ i.same ∙ sym (left_is c.args.machine.now c.requires.started);
+      ready = sym c.has_token-known.ensures ∙ c.if-known.true;
+    }

@@ -1,0 +1,17 @@
+use Rattle.std.proofs.Common.{◌≡◌, ◌≤◌, ◌<◌, ◌⊎◌, ℕ, true, false}
+use Rattle.yaml_scan_words.specs.Uris.{is_uri}
+use Rattle.yaml_scan_words.specs.Tags.{name_end, handle_end}
+use Rattle.yaml_scan_words.proofs.ShortLemmas.{short_by}
+use Rattle.yaml_scan_words.proofs.tags.suffix_end.Goals as goal
+
+pub returns : goal.returns
+returns c =
+    let text = c.args.reader.now.text in
+    let p = c.args.reader.now.at in
+    let r = c.later.result in
+    let q = c.kept_end.result in
+    let kept : (k : ℕ) → r ≤ k → k < q → is_uri false text k ≡ true = rw c.text.ensures at c.kept_end.ensures.kept in
+    let stop : is_uri false text q ≡ false = rw c.text.ensures at c.kept_end.ensures.stop in
+    let one : (r ≡ name_end text p) ⊎ (r ≡ handle_end text p) = rw (c.requires.name, c.requires.handle) at c.later.ensures.one in
+    let low : handle_end text p ≤ r = rw c.requires.handle at c.later.ensures.low.1 in
+    short_by text p r q one low c.kept_end.ensures.forward kept stop

@@ -1,0 +1,33 @@
+use Rattle.std.proofs.Common.{◌≡◌, ◌≢◌, ◌+◌, ◌==◌, ◌&&◌, not, true, slice_range, refl, sym, ◌∙◌, arith}
+use Rattle.yaml_scan_model.specs.Marks.{byte}
+use Rattle.yaml_scan_words.specs.Tags.{handle_end, may_end_tag}
+use Rattle.yaml_scan_words.proofs.ShortLemmas.{short_printed, short_tag, handle_forward}
+use Rattle.yaml_scan_words.proofs.tags.tag.Goals as goal
+
+pub leap-requires-clause-forward : goal.leap-requires-clause-forward
+leap-requires-clause-forward c =
+    let low = handle_forward c.args.reader.now.text c.args.reader.now.at in
+    let high = c.suffix_end.ensures.forward in
+    rw c.ahead-behind.ensures (omega arith)
+
+pub leap-requires-clause-low : goal.leap-requires-clause-low
+leap-requires-clause-low c = rw c.ahead-behind.ensures (λ k after before. (short_printed c.args.reader.now.text c.args.reader.now.at c.suffix_end.result k c.requires c.suffix_end.ensures after before).0)
+
+pub leap-requires-clause-high : goal.leap-requires-clause-high
+leap-requires-clause-high c = rw c.ahead-behind.ensures (λ k after before. (short_printed c.args.reader.now.text c.args.reader.now.at c.suffix_end.result k c.requires c.suffix_end.ensures after before).1)
+
+pub copied-requires-clause-forward : goal.copied-requires-clause-forward
+copied-requires-clause-forward c =
+    let low = handle_forward c.args.reader.now.text c.args.reader.now.at in
+    rw (c.place.ensures, c.handle_end-middle.ensures) (omega arith)
+
+pub returns : goal.returns
+returns c =
+    let text = c.args.reader.now.text in
+    let p = c.args.reader.now.at in
+    let q = c.suffix_end.result in
+    let h : (not (byte text (p + 1) == 60) && (not (handle_end text p == q) && may_end_tag c.args.flow text q)) ≡ true = rw (c.byte.ensures, c.handle_end-middle.ensures, c.leap.ensures, c.ahead-behind.ensures) at (sym c.is_short.ensures ∙ c.if-not-is_short.false) in
+    let handle : c.in_ok-handle.handle.items ≡ slice_range text p (handle_end text p) = rw (c.text.ensures, c.place.ensures, c.handle_end-middle.ensures) at c.in_ok-handle.ensures in
+    let suffix : c.in_ok-suffix.suffix.items ≡ slice_range text (handle_end text p) q = rw (c.leap.ensures, c.ahead-behind.ensures, c.handle_end-middle.ensures) at c.in_ok-suffix.ensures in
+    let end = rw (c.leap.ensures, c.ahead-behind.ensures) at c.mark-2.ensures in
+    rw (short_tag c.args.flow text p q c.requires c.suffix_end.ensures h, c.leap.ensures, c.ahead-behind.ensures) (record { handle = handle; suffix = suffix; start_mark = c.mark.ensures; end_mark = end }, refl)

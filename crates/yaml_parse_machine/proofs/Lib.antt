@@ -1,4 +1,5 @@
 pub mod Defaults
 pub mod HandleTable
+pub mod Kept
 pub mod Named
 pub mod Tops

@@ -5,11 +5,13 @@ use Rattle.std.proofs.lemmas.List.{reverse-append, take-append-drop, take_all, d
 use Rattle.std.proofs.lemmas.Grind.{take-set_at}
 use Rattle.yaml_parse_model.specs.Tokens.{Token}
 use Rattle.yaml_parse_model.specs.Events.{Event}
+use Rattle.yaml_parse_grammar.specs.Items.{RawEvent}
 use Rattle.yaml_parse_grammar.specs.States.{State}
 use Rattle.yaml_parse_machine.specs.declared.item.State as code
 use Rattle.yaml_parse_machine.specs.Views.{state_of, stack_of, below}
-use Rattle.yaml_parse_machine.specs.Swiftly.{Swiftly, SwiftlyOn}
+use Rattle.yaml_parse_machine.specs.Swiftly.{Swiftly, SwiftlyOr, SwiftlyOrOn}
 use Rattle.yaml_parse_machine.specs.declared.swift_ways.Swift.{Swift}
+use Rattle.yaml_parse_machine.specs.declared.swift_ways.Swift.TheVariants.{Event as is_event, Item, Silent, Memory, Other}
 
 same_top : (x y : State) (s : List State) → x ∷ s ≡ y ∷ s → x ≡ y
 same_top x y s e = cc
@@ -32,5 +34,13 @@ swapped xs new n i x e s at is =
     topped (take i xs) new x front ∙ ap (λ t. state_of x ∷ t) (sym (ap below (topped (take i xs) xs (get_or xs i x) split)))
 
 -- what is told of a state that was taken off is told of the stack
-pub popped : (y : State) (rest s : List State) (t : Token) (r : Swift) (e : Event) (after : Token) (new : List State) → s ≡ y ∷ rest → Swiftly y t (y ∷ rest) r e after new → SwiftlyOn t s r e after new
-popped y rest s t r e after new is h = subst (λ z. SwiftlyOn t z r e after new) (sym is) (by_top y (y ∷ rest) (λ z. Swiftly z t (y ∷ rest) r e after new) refl h)
+pub popped : (y : State) (rest s : List State) (t : Token) (r : Swift) (e : Event) (i : RawEvent) (after : Token) (new : List State) → s ≡ y ∷ rest → SwiftlyOr y t (y ∷ rest) r e i after new → SwiftlyOrOn t s r e i after new
+popped y rest s t r e i after new is h = subst (λ z. SwiftlyOrOn t z r e i after new) (sym is) (by_top y (y ∷ rest) (λ z. SwiftlyOr z t (y ∷ rest) r e i after new) refl h)
+
+-- no item stands in its slot
+pub no_item : (x : State) (t : Token) (s : List State) (r : Swift) (e : Event) (i : RawEvent) (after : Token) (new : List State) → Swiftly x t s r e after new → SwiftlyOr x t s r e i after new
+no_item x t s is_event e i after new h = h
+no_item x t s Item e i after new h = absurd h
+no_item x t s Silent e i after new h = h
+no_item x t s Memory e i after new h = h
+no_item x t s Other e i after new h = h

@@ -1,14 +1,15 @@
 -- What resolving gives.
 use Rattle.std.specs.Prelude.{ℕ, ◌≡◌, Bool, true, false, List, Option, Some, None, Result, Ok, Err}
 use Rattle.yaml_parse_model.specs.declared.yaml_mark_t.{yaml_mark_t}
-use Rattle.yaml_parse_model.specs.Events.{event_of, body_of}
+use Rattle.std.specs.declared.alloc.AllocError.{AllocError}
+use Rattle.yaml_parse_model.specs.Events.{EventBody, event_of, body_of}
 use Rattle.yaml_parse_model.specs.declared.event.yaml_event_t.{yaml_event_t}
 use Rattle.yaml_parse_model.specs.declared.event.yaml_event_body_t.{yaml_event_body_t}
 use Rattle.yaml_parse_grammar.specs.declared.problem.ParseProblem.TheVariants.{UndefinedHandle}
 use Rattle.yaml_parse_grammar.specs.Problems.{parser_fault}
 use Rattle.yaml_parse_grammar.specs.Items as item
 use Rattle.yaml_parse_grammar.specs.Resolve as spec
-use Rattle.yaml_parse_grammar.specs.Resolve.{Settled, refused, gave, noted, placed}
+use Rattle.yaml_parse_grammar.specs.Resolve.{Settled, refused, gave, noted, placed, settle}
 use Rattle.yaml_parse_machine.specs.declared.resolving.Directives.{Directives}
 use Rattle.yaml_parse_machine.specs.declared.resolving.Refusal.{Refusal}
 use Rattle.yaml_parse_machine.specs.declared.resolving.Refusal.TheVariants.{Memory, Fault}
@@ -55,3 +56,17 @@ Settles s i (Ok true) e new = (s ≡ gave (body_of e.body) new)
     × (event_of e ≡ placed (body_of e.body) i)
 Settles s i (Ok false) e new = s ≡ noted new
 Settles s i (Err x) e new = Refused x s
+
+-- the event of a scalar with a tag, or nothing was done
+abbrev pub SettlesTagged : Settled → Result Bool AllocError → EventBody → spec.Directives → Type 0
+SettlesTagged s (Ok true) b ds = s ≡ gave b ds
+SettlesTagged s (Ok false) b ds = Unit {0}
+SettlesTagged s (Err x) b ds = Unit {0}
+
+-- the same of the item in its slot, which stays there where nothing was done
+abbrev pub SettlesSwiftly : spec.Directives → item.RawEvent → Result Bool AllocError → yaml_event_t
+    → item.RawEvent → Type 0
+SettlesSwiftly ds i (Ok true) e new = (settle i ds ≡ gave (body_of e.body) ds)
+    × (event_of e ≡ placed (body_of e.body) i)
+SettlesSwiftly ds i (Ok false) e new = new ≡ i
+SettlesSwiftly ds i (Err x) e new = Unit {0}

@@ -20,14 +20,15 @@ use Rattle.yaml_parse_machine.specs.declared.item.State.TheVariants as code
 abbrev pub tag_of : tag.Tag → item.Tag
 tag_of t = record { handle = t.handle.items; suffix = t.suffix.items; mark = t.mark }
 
-abbrev pub tag_option_of : Option tag.Tag → Option item.Tag
-tag_option_of None = None
-tag_option_of (Some t) = Some (tag_of t)
+-- what is there, if it is said to be a tag
+abbrev pub tag_if : Bool → tag.Tag → Option item.Tag
+tag_if false t = None
+tag_if true t = Some (tag_of t)
 
 abbrev pub properties_of : properties.Properties → item.Properties
 properties_of p = record {
   anchor = text_of p.anchor;
-  tag = tag_option_of p.tag;
+  tag = tag_if p.is_tagged p.tag;
   from = p.from;
   to = p.to;
 }
@@ -44,7 +45,8 @@ shape_of (Mapping style) = item.mapping style
 
 abbrev pub node_of : Option (Box properties.Properties) → item.Shape → item.RawEventBody
 node_of None shape = item.node None None shape
-node_of (Some p) shape = item.node (text_of p.value.anchor) (tag_option_of p.value.tag) shape
+node_of (Some p) shape = item.node (text_of p.value.anchor)
+    (tag_if p.value.is_tagged p.value.tag) shape
 
 abbrev pub plain_of : Resolved → event.EventBody
 plain_of (StreamStart encoding) = event.stream_start encoding

@@ -146,10 +146,7 @@ fn is_joining(properties: &Properties, kind: yaml_token_type_t) -> bool
             None => true,
             Some(_) => false,
         },
-        yaml_token_type_t::YAML_TAG_TOKEN => match properties.tag {
-            None => true,
-            Some(_) => false,
-        },
+        yaml_token_type_t::YAML_TAG_TOKEN => !properties.is_tagged,
         _ => false,
     }
 }

@@ -17,7 +17,9 @@ pub struct Tag {
 #[derive(Drop)]
 pub struct Properties {
     pub anchor: Option<Vec<u8>>,
-    pub tag: Option<Tag>,
+    /// The tag, if there is one; or else texts that are done with, in whose room those of a tag to come may be read.
+    pub tag: Tag,
+    pub is_tagged: bool,
     pub from: yaml_mark_t,
     pub to: yaml_mark_t,
 }

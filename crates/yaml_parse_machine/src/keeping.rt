@@ -1,13 +1,15 @@
 //! The properties of a node, kept until its content comes.
 
-ghost use Rattle.std.specs.Prelude.{◌≡◌, ◌∷◌, OnOk, IfOk, false, Some, None};
+ghost use Rattle.std.specs.Prelude.{◌≡◌, ◌∷◌, OnOk, IfOk, IsOkAnd, false, Some, None};
+ghost use Rattle.yaml_parse_model.specs.Events.{text_of};
 ghost use Rattle.yaml_parse_grammar.specs.States as state;
-ghost use Rattle.yaml_parse_machine.specs.Views.{properties_of, tag_of, stack_of};
+ghost use Rattle.yaml_parse_machine.specs.Views.{properties_of, stack_of};
 
 use crate::item::{Properties, State, Tag};
 use crate::pushing::push_silently;
-use crate::room::{moved, replaced};
+use crate::room::fill;
 use std::alloc::{AllocError, Global};
+use std::mem;
 use yaml_parse_grammar::Wants;
 use yaml_parse_model::yaml_mark_t;
 
@@ -18,91 +20,120 @@ fn new_room(
     to: yaml_mark_t,
 ) -> Result<Box<Properties>, AllocError>
     ensures { IfOk result (λ b. properties_of b.value
-        ≡ record { anchor = None; tag = None; from = from; to = to }) }
+        ≡ record { anchor = text_of b.value.anchor; tag = None; from = from; to = to }) }
 {
+    let tag = Tag {
+        handle: Vec::new(alloc),
+        suffix: Vec::new(alloc),
+        mark: from,
+    };
     let properties = Properties {
         anchor: None,
-        tag: None,
+        tag,
+        is_tagged: false,
         from,
         to,
     };
     Ok(Box::new(alloc, properties)?)
 }
 
-// The text of a token that is taken, in whose place the room of the last anchor is left that the box to spare has.
-// Inlined: some moves.
-#[inline(always)]
-pub(crate) fn name_of(name: &mut Vec<u8>, spare: &mut Option<Box<Properties>>) -> Vec<u8>
-    ensures { result.items ≡ name.old.items }
-{
-    match spare {
-        None => moved(name),
-        Some(last) => match &mut last.anchor {
-            None => moved(name),
-            Some(text) => replaced(name, text),
-        },
-    }
-}
-
-// The tag of a token that is taken, in whose place the room of the last tag is left that the box to spare has.
-// Inlined: some moves.
-#[inline(always)]
-pub(crate) fn tag_from(
-    handle: &mut Vec<u8>,
-    suffix: &mut Vec<u8>,
-    mark: yaml_mark_t,
-    spare: &mut Option<Box<Properties>>,
-) -> Tag
-    ensures { tag_of result ≡ record {
-      handle = handle.old.items;
-      suffix = suffix.old.items;
-      mark = mark;
-    } }
-{
-    match spare {
-        None => Tag {
-            handle: moved(handle),
-            suffix: moved(suffix),
-            mark,
-        },
-        Some(last) => match &mut last.tag {
-            None => Tag {
-                handle: moved(handle),
-                suffix: moved(suffix),
-                mark,
-            },
-            Some(tag) => Tag {
-                handle: replaced(handle, &mut tag.handle),
-                suffix: replaced(suffix, &mut tag.suffix),
-                mark,
-            },
-        },
-    }
-}
-
-// A box for the properties of a node, that stand there: the one that is to spare, or else a new one.
+// A box for the properties of a node, that stand there: the one that is to spare, or else a new one. The anchor is still that of an
+// earlier node.
 // Inlined: some stores.
 #[inline(always)]
-pub(crate) fn room(
+fn room(
     spare: &mut Option<Box<Properties>>,
     alloc: Global,
     from: &yaml_mark_t,
     to: &yaml_mark_t,
 ) -> Result<Box<Properties>, AllocError>
     ensures { IfOk result (λ b. properties_of b.value
-        ≡ record { anchor = None; tag = None; from = from.now; to = to.now }) }
+        ≡ record { anchor = text_of b.value.anchor; tag = None; from = from.now; to = to.now }) }
 {
     match spare.take() {
         None => new_room(alloc, *from, *to),
         Some(emptied) => {
             let mut properties = emptied;
-            properties.anchor = None;
-            properties.tag = None;
+            properties.is_tagged = false;
             properties.from = *from;
             properties.to = *to;
             Ok(properties)
         }
     }
+}
+
+/// Another tag, in whose place the room of an earlier one is left.
+// Inlined: some moves.
+#[inline(always)]
+pub(crate) fn put_tag(
+    properties: &mut Properties,
+    handle: &mut Vec<u8>,
+    suffix: &mut Vec<u8>,
+    mark: yaml_mark_t,
+)
+    ensures { properties_of properties.new ≡ record {
+      anchor = text_of properties.old.anchor;
+      tag = Some (record {
+        handle = handle.old.items;
+        suffix = suffix.old.items;
+        mark = mark;
+      });
+      from = properties.old.from;
+      to = properties.old.to;
+    } }
+{
+    mem::swap(&mut properties.tag.handle, handle);
+    mem::swap(&mut properties.tag.suffix, suffix);
+    properties.tag.mark = mark;
+    properties.is_tagged = true;
+}
+
+/// The properties of a node that has an anchor so far, in whose place the room of an earlier one is left.
+// Inlined: some moves and stores.
+#[inline(always)]
+pub(crate) fn named(
+    spare: &mut Option<Box<Properties>>,
+    name: &mut Vec<u8>,
+    from: &yaml_mark_t,
+    to: &yaml_mark_t,
+) -> Result<Box<Properties>, AllocError>
+    ensures { IfOk result (λ b. properties_of b.value ≡ record {
+      anchor = Some name.old.items;
+      tag = None;
+      from = from.now;
+      to = to.now;
+    }) }
+{
+    let mut properties = room(spare, *name.allocator(), from, to)?;
+    fill(&mut properties.anchor, name);
+    Ok(properties)
+}
+
+/// The properties of a node that has a tag so far, in whose place the room of an earlier one is left.
+// Inlined: some moves and stores.
+#[inline(always)]
+pub(crate) fn tagged(
+    spare: &mut Option<Box<Properties>>,
+    handle: &mut Vec<u8>,
+    suffix: &mut Vec<u8>,
+    from: &yaml_mark_t,
+    to: &yaml_mark_t,
+) -> Result<Box<Properties>, AllocError>
+    ensures { IfOk result (λ b. properties_of b.value ≡ record {
+      anchor = None;
+      tag = Some (record {
+        handle = handle.old.items;
+        suffix = suffix.old.items;
+        mark = from.now;
+      });
+      from = from.now;
+      to = to.now;
+    }) }
+{
+    let mut properties = room(spare, *handle.allocator(), from, to)?;
+    properties.anchor = None;
+    put_tag(&mut properties, handle, suffix, *from);
+    Ok(properties)
 }
 
 // The rest of a node behind a property comes.
@@ -118,44 +149,18 @@ pub(crate) fn await_rest(
     push_silently(stack, State::WithProperties(wants, properties))
 }
 
-// A node's anchor, before all else of it.
-pub(crate) fn keep_anchor(
+// The rest of a node behind its first property comes, if there was room for that.
+pub(crate) fn await_behind(
     stack: &mut Vec<State>,
     wants: Wants,
-    name: &mut Vec<u8>,
-    from: yaml_mark_t,
-    to: yaml_mark_t,
-    spare: &mut Option<Box<Properties>>,
+    kept: Result<Box<Properties>, AllocError>,
 ) -> Result<bool, AllocError>
     ensures item { IfOk result (λ b. b ≡ false) }
-    ensures stack { OnOk result (stack_of stack.new.items ≡ state.with_properties wants
-        (record { anchor = Some name.old.items; tag = None; from = from; to = to })
-        ∷ stack_of stack.old.items) }
+    ensures stack { OnOk result (IsOkAnd kept (λ p. stack_of stack.new.items
+        ≡ state.with_properties wants (properties_of p.value) ∷ stack_of stack.old.items)) }
 {
-    let mut properties = room(spare, *name.allocator(), &from, &to)?;
-    properties.anchor = Some(moved(name));
-    await_rest(stack, wants, properties)
-}
-
-// A node's tag, before all else of it.
-pub(crate) fn keep_tag(
-    stack: &mut Vec<State>,
-    wants: Wants,
-    tag: Tag,
-    to: yaml_mark_t,
-    spare: &mut Option<Box<Properties>>,
-) -> Result<bool, AllocError>
-    ensures item { IfOk result (λ b. b ≡ false) }
-    ensures stack { OnOk result (stack_of stack.new.items ≡ state.with_properties wants
-        (record { anchor = None; tag = Some (tag_of tag); from = tag.mark; to = to })
-        ∷ stack_of stack.old.items) }
-{
-    match room(spare, *tag.handle.allocator(), &tag.mark, &to) {
-        Ok(empty) => {
-            let mut properties = empty;
-            properties.tag = Some(tag);
-            await_rest(stack, wants, properties)
-        }
+    match kept {
+        Ok(properties) => await_rest(stack, wants, properties),
         Err(e) => Err(e),
     }
 }

@@ -1,24 +1,27 @@
-//! Swift ways behind the properties of a node: its other property, and content behind an anchor alone.
+//! Swift ways behind the properties of a node: its other property, content behind an anchor alone, and a scalar behind a tag.
 //!
-//! A tag is resolved by the directives, which no swift way looks at: a node that has one goes the general way.
+//! A tag is resolved by the directives, which no swift way looks at: the scalar that has one stands in the item's slot, to be settled,
+//! and a collection goes the general way.
 
-ghost use Rattle.std.specs.Prelude.{◌≡◌, ◌<◌, ◌∷◌, None, Some, vec_len, vec_capacity};
+ghost use Rattle.std.specs.Prelude.{◌≡◌, ◌<◌, ◌∷◌, None, Some, false, vec_len, vec_capacity};
 ghost use Rattle.yaml_parse_model.specs.Events.{Event, event_of, text_of};
 ghost use Rattle.yaml_parse_model.specs.Tokens.{token_of};
 ghost use Rattle.yaml_parse_grammar.specs.Items.{item_at};
 ghost use Rattle.yaml_parse_grammar.specs.Items as item;
 ghost use Rattle.yaml_parse_grammar.specs.States as state;
 ghost use Rattle.yaml_parse_grammar.specs.Trees.{flow_shape};
-ghost use Rattle.yaml_parse_machine.specs.Views.{properties_of, state_of, stack_of};
-ghost use Rattle.yaml_parse_machine.specs.Swiftly.{IsReady, Swiftly, SwiftlyOn};
+ghost use Rattle.yaml_parse_machine.specs.Views.{properties_of, tag_if, state_of, stack_of, item_of};
+ghost use Rattle.yaml_parse_machine.specs.Swiftly.{IsReady, Swiftly, SwiftlyOr, SwiftlyOrOn};
 
-use crate::item::{Properties, State, Tag};
+use crate::building::give_scalar;
+use crate::item::{Properties, RawEvent, State};
+use crate::keeping::put_tag;
 use crate::pushing::put;
-use crate::room::moved;
+use crate::room::fill;
 use crate::swift_ways::Swift;
 use crate::telling::{tell_named_scalar, tell_named_start};
 use yaml_parse_grammar::{Brackets, Wants};
-use yaml_parse_model::{yaml_event_t, yaml_token_body_t, yaml_token_t};
+use yaml_parse_model::{yaml_event_t, yaml_mark_t, yaml_token_body_t, yaml_token_t};
 
 // The state on top as it was.
 fn put_back(stack: &mut Vec<State>, wants: Wants, properties: Box<Properties>)
@@ -60,7 +63,7 @@ fn at_anchored(
     spare: &mut Option<Box<Properties>>,
 ) -> Swift
     requires room { vec_len stack.old < vec_capacity stack.old }
-    requires tag { properties.value.tag ≡ None }
+    requires tag { properties.value.is_tagged ≡ false }
     ensures { Swiftly (state.with_properties wants (properties_of properties.value))
         (token_of token.old) (state.with_properties wants (properties_of properties.value)
         ∷ stack_of stack.old.items) result (event_of event.new) (token_of token.new)
@@ -82,13 +85,8 @@ fn at_anchored(
             Swift::Event
         }
         yaml_token_body_t::Tag { handle, suffix } => {
-            let tag = Tag {
-                handle: moved(handle),
-                suffix: moved(suffix),
-                mark: token.start_mark,
-            };
             let mut both = properties;
-            both.tag = Some(tag);
+            put_tag(&mut both, handle, suffix, token.start_mark);
             both.to = token.end_mark;
             put_back(stack, wants, both);
             Swift::Silent
@@ -101,26 +99,56 @@ fn at_anchored(
 }
 
 // An anchor behind a tag alone.
+fn join_anchor(
+    stack: &mut Vec<State>,
+    wants: Wants,
+    properties: Box<Properties>,
+    name: &mut Vec<u8>,
+    to: yaml_mark_t,
+)
+    requires { vec_len stack.old < vec_capacity stack.old }
+    ensures { stack_of stack.new.items ≡ state.with_properties wants (record {
+      anchor = Some name.old.items;
+      tag = tag_if properties.value.is_tagged properties.value.tag;
+      from = properties.value.from;
+      to = to;
+    }) ∷ stack_of stack.old.items }
+{
+    let mut both = properties;
+    fill(&mut both.anchor, name);
+    both.to = to;
+    put_back(stack, wants, both);
+}
+
+// A scalar, or an anchor, behind a tag.
 fn at_tagged(
     stack: &mut Vec<State>,
     wants: Wants,
     properties: Box<Properties>,
     token: &mut yaml_token_t,
+    slot: &mut RawEvent,
 ) -> Swift
-    requires room { vec_len stack.old < vec_capacity stack.old }
-    requires anchor { properties.value.anchor ≡ None }
-    ensures { (e : Event) → Swiftly (state.with_properties wants (properties_of properties.value))
+    requires { vec_len stack.old < vec_capacity stack.old }
+    ensures { (e : Event) → SwiftlyOr (state.with_properties wants (properties_of properties.value))
         (token_of token.old) (state.with_properties wants (properties_of properties.value)
-        ∷ stack_of stack.old.items) result e (token_of token.new) (stack_of stack.new.items) }
+        ∷ stack_of stack.old.items) result e (item_of slot.new) (token_of token.new)
+        (stack_of stack.new.items) }
 {
     match &mut token.body {
-        yaml_token_body_t::Anchor { value } => {
-            let mut both = properties;
-            both.anchor = Some(moved(value));
-            both.to = token.end_mark;
-            put_back(stack, wants, both);
-            Swift::Silent
+        yaml_token_body_t::Scalar { value, style } => {
+            give_scalar(slot, properties, value, *style, token.end_mark);
+            Swift::Item
         }
+        yaml_token_body_t::Anchor { value } => match properties.anchor {
+            None => {
+                join_anchor(stack, wants, properties, value, token.end_mark);
+                Swift::Silent
+            }
+            Some(_) => {
+                put_back(stack, wants, properties);
+                Swift::Other
+            }
+        },
         _ => {
             put_back(stack, wants, properties);
             Swift::Other
@@ -135,23 +163,18 @@ fn behind(
     properties: Box<Properties>,
     token: &mut yaml_token_t,
     event: &mut yaml_event_t,
-    spare: &mut Option<Box<Properties>>,
+    slot: &mut RawEvent,
 ) -> Swift
     requires { vec_len stack.old < vec_capacity stack.old }
-    ensures { Swiftly (state.with_properties wants (properties_of properties.value))
+    ensures { SwiftlyOr (state.with_properties wants (properties_of properties.value))
         (token_of token.old) (state.with_properties wants (properties_of properties.value)
-        ∷ stack_of stack.old.items) result (event_of event.new) (token_of token.new)
-        (stack_of stack.new.items) }
+        ∷ stack_of stack.old.items) result (event_of event.new) (item_of slot.new)
+        (token_of token.new) (stack_of stack.new.items) }
 {
-    match properties.tag {
-        None => at_anchored(stack, wants, properties, token, event, spare),
-        Some(_) => match properties.anchor {
-            None => at_tagged(stack, wants, properties, token),
-            Some(_) => {
-                put_back(stack, wants, properties);
-                Swift::Other
-            }
-        },
+    if properties.is_tagged {
+        at_tagged(stack, wants, properties, token, slot)
+    } else {
+        at_anchored(stack, wants, properties, token, event, &mut slot.spare)
     }
 }
 
@@ -161,15 +184,16 @@ fn at_top(
     top: State,
     token: &mut yaml_token_t,
     event: &mut yaml_event_t,
-    spare: &mut Option<Box<Properties>>,
+    slot: &mut RawEvent,
 ) -> Swift
     requires { vec_len stack.old < vec_capacity stack.old }
-    ensures { Swiftly (state_of top) (token_of token.old) (state_of top ∷ stack_of stack.old.items)
-        result (event_of event.new) (token_of token.new) (stack_of stack.new.items) }
+    ensures { SwiftlyOr (state_of top) (token_of token.old)
+        (state_of top ∷ stack_of stack.old.items) result (event_of event.new) (item_of slot.new)
+        (token_of token.new) (stack_of stack.new.items) }
 {
     match top {
         State::WithProperties(wants, properties) => {
-            behind(stack, wants, properties, token, event, spare)
+            behind(stack, wants, properties, token, event, slot)
         }
         other => {
             put(stack, other);
@@ -185,13 +209,13 @@ pub(crate) fn behind_properties(
     stack: &mut Vec<State>,
     token: &mut yaml_token_t,
     event: &mut yaml_event_t,
-    spare: &mut Option<Box<Properties>>,
+    slot: &mut RawEvent,
 ) -> Swift
-    ensures { SwiftlyOn (token_of token.old) (stack_of stack.old.items) result (event_of event.new)
-        (token_of token.new) (stack_of stack.new.items) }
+    ensures { SwiftlyOrOn (token_of token.old) (stack_of stack.old.items) result
+        (event_of event.new) (item_of slot.new) (token_of token.new) (stack_of stack.new.items) }
 {
     match stack.pop() {
-        Some(top) => at_top(stack, top, token, event, spare),
+        Some(top) => at_top(stack, top, token, event, slot),
         None => Swift::Other,
     }
 }

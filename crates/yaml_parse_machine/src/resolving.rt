@@ -1,11 +1,11 @@
 //! Directives and tags.
 
-ghost use Rattle.std.specs.Prelude.{◌≡◌, ◌++◌, None, Some, map, option_map, OnOk, IfOk, IfErr};
+ghost use Rattle.std.specs.Prelude.{◌≡◌, ◌++◌, ℕ, List, None, Some, map, option_map, OnOk, IfOk, IfErr};
 ghost use Rattle.yaml_parse_model.specs.Events.{directive_of, text_of, body_of, event_of};
 ghost use Rattle.yaml_parse_model.specs.Events as told;
 ghost use Rattle.yaml_parse_grammar.specs.Items as item;
 ghost use Rattle.yaml_parse_grammar.specs.Resolve.{directive_for, default_prefix, or_default, resolved, node_event, settle as settle_item, settle_body as settle_item_body, scalar_event, is_known_version, with_version, with_tag, behind_event};
-ghost use Rattle.yaml_parse_machine.specs.Views.{plain_of, item_of, item_body_of, node_of, shape_of, tag_option_of};
+ghost use Rattle.yaml_parse_machine.specs.Views.{plain_of, item_of, item_body_of, node_of, shape_of, tag_if};
 ghost use Rattle.yaml_parse_grammar.specs.Resolve.{Directives as DirectivesSpec};
 ghost use Rattle.yaml_parse_machine.specs.declared.resolving.Refusal.TheVariants.{Fault};
 ghost use Rattle.yaml_parse_machine.specs.Settles.{directives_of, Settles, SettlesBody, SettlesNode, Resolves, Notes, IsMemory};
@@ -82,7 +82,7 @@ fn find_default(handle: &[u8]) -> Option<&'static [u8]>
 }
 
 // The prefix and then the suffix, in the room of a text that is done with.
-fn join(room: &mut Vec<u8>, prefix: &[u8], suffix: &[u8]) -> Result<(), AllocError>
+pub(crate) fn join(room: &mut Vec<u8>, prefix: &[u8], suffix: &[u8]) -> Result<(), AllocError>
     ensures { OnOk result (room.new.items ≡ prefix.now ++ suffix.now) }
 {
     room.clear();
@@ -102,18 +102,26 @@ fn prefix_for<'a>(tags: &'a TagDirectives, handle: &[u8]) -> Option<&'a [u8]>
     }
 }
 
-// Puts the tag in full in the place of its suffix, of a node that begins there. What its handle is afterwards isn't told.
+// What stands before the suffix of a tag in full: nothing, where it has no handle.
+pub(crate) fn prefix_of_tag<'a>(tags: &'a TagDirectives, handle: &[u8]) -> Option<&'a [u8]>
+    ensures { (suffix : List ℕ) → option_map (λ t. t.now ++ suffix) result ≡ resolved tags.now
+        handle.now suffix }
+{
+    if handle.is_empty() {
+        Some(b"".as_slice())
+    } else {
+        prefix_for(tags, handle)
+    }
+}
+
+// Puts the tag in full in the place of its handle, of a node that begins there.
 fn resolve(tags: &TagDirectives, tag: &mut Tag, from: yaml_mark_t) -> Result<(), Refusal>
     ensures { Resolves (resolved tags.now tag.old.handle.items tag.old.suffix.items) tag.old.mark
-        from result tag.new.suffix.items }
+        from result tag.new.handle.items }
 {
-    if tag.handle.is_empty() {
-        return Ok(());
-    }
-    match prefix_for(tags, tag.handle.as_slice()) {
+    match prefix_of_tag(tags, tag.handle.as_slice()) {
         Some(prefix) => {
             join(&mut tag.handle, prefix, tag.suffix.as_slice())?;
-            mem::swap(&mut tag.handle, &mut tag.suffix);
             Ok(())
         }
         None => Err(fault_at(ParseProblem::UndefinedHandle, tag.mark, from)),
@@ -338,12 +346,12 @@ fn settle_document(
     Ok(())
 }
 
-// The room of the tag that an earlier event had, if it had one, is kept in the place of the suffix.
+// The room of the tag that an earlier event had, if it had one, is kept in the place of the handle.
 fn keep_room(tag: &mut Tag, earlier: Option<Vec<u8>>) {
     match earlier {
         None => {}
         Some(text) => {
-            tag.suffix = text;
+            tag.handle = text;
         }
     }
 }
@@ -359,21 +367,19 @@ fn with_properties(
 ) -> Result<bool, Refusal>
     ensures { (ds : DirectivesSpec) → ds.tags ≡ tags.now
         → SettlesBody (settle_item_body (item.node (text_of properties.old.anchor)
-        (tag_option_of properties.old.tag) (shape_of shape.old)) from ds) result event.new ds }
+        (tag_if properties.old.is_tagged properties.old.tag) (shape_of shape.old)) from ds) result
+        event.new ds }
 {
-    match &mut properties.tag {
-        None => {
-            let mut no_tag = None;
-            node(alloc, &mut properties.anchor, &mut no_tag, shape, event);
-            Ok(true)
-        }
-        Some(tag) => {
-            resolve(tags, tag, from)?;
-            let mut full = Some(moved(&mut tag.suffix));
-            node(alloc, &mut properties.anchor, &mut full, shape, event);
-            keep_room(tag, full);
-            Ok(true)
-        }
+    if properties.is_tagged {
+        resolve(tags, &mut properties.tag, from)?;
+        let mut full = Some(moved(&mut properties.tag.handle));
+        node(alloc, &mut properties.anchor, &mut full, shape, event);
+        keep_room(&mut properties.tag, full);
+        Ok(true)
+    } else {
+        let mut no_tag = None;
+        node(alloc, &mut properties.anchor, &mut no_tag, shape, event);
+        Ok(true)
     }
 }
 
@@ -402,7 +408,10 @@ fn settle_node(
 }
 
 // A box that is done with, if there is one, may be used again.
-fn spare_box(properties: &mut Option<Box<Properties>>, spare: &mut Option<Box<Properties>>) {
+pub(crate) fn spare_box(
+    properties: &mut Option<Box<Properties>>,
+    spare: &mut Option<Box<Properties>>,
+) {
     if properties.is_some() {
         *spare = properties.take();
     }

@@ -1,6 +1,7 @@
 //! The room of texts that are done with.
 
-ghost use Rattle.std.specs.Prelude.{◌≡◌, true, vec_capacity};
+ghost use Rattle.std.specs.Prelude.{◌≡◌, None, Some, true, vec_capacity};
+ghost use Rattle.yaml_parse_model.specs.Events.{text_of};
 ghost use Rattle.yaml_parse_machine.specs.Bare.{OwnsNothing};
 
 use std::mem;
@@ -95,13 +96,41 @@ fn vacate_rare(earlier: &mut yaml_event_body_t, slot: &mut yaml_token_body_t)
             value,
             ..
         } => {
-            hand_over(moved(value), slot);
-            *anchor = None;
-            *tag = None;
+            let other = taken(anchor, tag);
+            hand_over_both(moved(value), other, slot);
         }
         yaml_event_body_t::Alias { anchor } => hand_over(moved(anchor), slot),
         _ => {
             *earlier = yaml_event_body_t::No;
+        }
+    }
+}
+
+/// Takes both of a node's properties, and answers one that is there.
+// Inlined: some moves.
+#[inline(always)]
+pub(crate) fn taken(anchor: &mut Option<Vec<u8>>, tag: &mut Option<Vec<u8>>) -> Option<Vec<u8>>
+    ensures anchor { anchor.new ≡ None }
+    ensures tag { tag.new ≡ None }
+{
+    let name = anchor.take();
+    match tag.take() {
+        None => name,
+        Some(full) => Some(full),
+    }
+}
+
+/// Has the slot of a token that is taken hold both texts, where there are two.
+// Inlined: some moves.
+#[inline(always)]
+pub(crate) fn hand_over_both(text: Vec<u8>, other: Option<Vec<u8>>, slot: &mut yaml_token_body_t) {
+    match other {
+        None => hand_over(text, slot),
+        Some(second) => {
+            *slot = yaml_token_body_t::Tag {
+                handle: text,
+                suffix: second,
+            };
         }
     }
 }
@@ -140,22 +169,88 @@ fn kept(text: Vec<u8>) -> yaml_token_body_t {
     }
 }
 
-/// The text of a token that is taken, which keeps the room of a text that a slot of events has from an earlier one.
+// Lets go of what a slot of events holds.
+// Out of line: mostly that owns nothing.
+#[inline(never)]
+fn clear(earlier: &mut yaml_event_body_t)
+    ensures { OwnsNothing earlier.new }
+{
+    *earlier = yaml_event_body_t::No;
+}
+
+// The text of a token that is taken, which keeps the room of an anchor, if there is one.
+// Inlined: some moves.
+#[inline(always)]
+fn in_place_of(text: &mut Vec<u8>, anchor: &mut Option<Vec<u8>>) -> Vec<u8>
+    ensures text { result.items ≡ text.old.items }
+    ensures anchor { anchor.new ≡ None }
+{
+    match anchor.take() {
+        None => moved(text),
+        Some(name) => mem::replace(text, name),
+    }
+}
+
+/// The text of a token that is taken, which keeps the room of a text that a slot of events has from an earlier one. The slot is
+/// emptied.
 pub(crate) fn exchanged(earlier: &mut yaml_event_body_t, text: &mut Vec<u8>) -> Vec<u8>
-    ensures { result.items ≡ text.old.items }
+    ensures text { result.items ≡ text.old.items }
+    ensures bare { OwnsNothing earlier.new }
 {
     match earlier {
-        yaml_event_body_t::Scalar { value, .. } => replaced(text, value),
+        yaml_event_body_t::Scalar {
+            anchor,
+            tag,
+            value,
+            ..
+        } => {
+            *anchor = None;
+            *tag = None;
+            replaced(text, value)
+        }
         yaml_event_body_t::Alias { anchor } => replaced(text, anchor),
-        yaml_event_body_t::SequenceStart {
-            anchor: Some(name),
-            ..
-        } => replaced(text, name),
-        yaml_event_body_t::MappingStart {
-            anchor: Some(name),
-            ..
-        } => replaced(text, name),
+        yaml_event_body_t::SequenceStart { anchor, tag, .. } => {
+            *tag = None;
+            in_place_of(text, anchor)
+        }
+        yaml_event_body_t::MappingStart { anchor, tag, .. } => {
+            *tag = None;
+            in_place_of(text, anchor)
+        }
+        yaml_event_body_t::DocumentStart { .. } => {
+            clear(earlier);
+            moved(text)
+        }
         _ => moved(text),
+    }
+}
+
+/// Another text in a place for one, in whose place the room of the earlier one is left.
+// Inlined: some moves.
+#[inline(always)]
+pub(crate) fn fill(place: &mut Option<Vec<u8>>, text: &mut Vec<u8>)
+    ensures { text_of place.new ≡ Some text.old.items }
+{
+    match place {
+        None => {
+            *place = Some(moved(text));
+        }
+        Some(last) => mem::swap(last, text),
+    }
+}
+
+/// The anchor of a node, in whose place that of an earlier scalar is left.
+// Inlined: some moves.
+#[inline(always)]
+pub(crate) fn anchor_for(
+    earlier: &mut yaml_event_body_t,
+    anchor: &mut Option<Vec<u8>>,
+) -> Option<Vec<u8>>
+    ensures { text_of result ≡ text_of anchor.old }
+{
+    match earlier {
+        yaml_event_body_t::Scalar { anchor: last, .. } => mem::replace(anchor, last.take()),
+        _ => anchor.take(),
     }
 }
 
@@ -163,7 +258,8 @@ pub(crate) fn exchanged(earlier: &mut yaml_event_body_t, text: &mut Vec<u8>) -> 
 // Inlined: some moves.
 #[inline(always)]
 pub(crate) fn replaced(text: &mut Vec<u8>, other: &mut Vec<u8>) -> Vec<u8>
-    ensures { result.items ≡ text.old.items }
+    ensures text { result.items ≡ text.old.items }
+    ensures other { vec_capacity other.new ≡ 0 }
 {
     mem::replace(text, moved(other))
 }

@@ -1,15 +1,14 @@
 //! Scalars in a slot of events. Where it holds one already, that is changed in place: to put a new one there, the old one is taken
 //! apart, asked what it owns, and set to zero.
 
-ghost use Rattle.std.specs.Prelude.{◌≡◌, ℕ, List, Option, None, codes};
+ghost use Rattle.std.specs.Prelude.{◌≡◌, ℕ, List, Option, None, Some, true, false, codes};
 ghost use Rattle.std.specs.Str.{bytes_eq};
 ghost use Rattle.yaml_parse_model.specs.Events.{text_of, body_of};
 ghost use Rattle.yaml_parse_model.specs.Events as told;
 ghost use Rattle.yaml_parse_grammar.specs.Items as item;
 ghost use Rattle.yaml_parse_grammar.specs.Resolve.{node_event, scalar_event, is_plain as is_plain_style};
 
-use crate::room::{exchanged, is_bare, moved, put_bare};
-use crate::slots::put;
+use crate::room::{exchanged, fill, is_bare, moved, put_bare, taken};
 use std::mem;
 use yaml_parse_model::{yaml_event_body_t, yaml_scalar_style_t};
 
@@ -52,7 +51,40 @@ fn new_bare(value: &mut Vec<u8>, style: yaml_scalar_style_t, event: &mut yaml_ev
     ensures { body_of event.new ≡ node_event None None (item.scalar value.old.items style) }
 {
     let text = exchanged(event, value);
-    put(event, scalar_of(text, style));
+    put_bare(event, scalar_of(text, style));
+}
+
+/// The same, where the slot mostly holds a scalar with properties, of which one that is there is answered. The old value stands in the
+/// token then.
+// Inlined into its one caller.
+#[inline(always)]
+pub(crate) fn bare_over(
+    value: &mut Vec<u8>,
+    style: yaml_scalar_style_t,
+    event: &mut yaml_event_body_t,
+) -> Option<Vec<u8>>
+    ensures { body_of event.new ≡ node_event None None (item.scalar value.old.items style) }
+{
+    match *event {
+        yaml_event_body_t::Scalar {
+            anchor: ref mut last_anchor,
+            tag: ref mut last_tag,
+            value: ref mut last,
+            plain_implicit: ref mut plain,
+            quoted_implicit: ref mut quoted,
+            style: ref mut last_style,
+        } => {
+            mem::swap(last, value);
+            *plain = is_plain(style);
+            *quoted = !is_plain(style);
+            *last_style = style;
+            taken(last_anchor, last_tag)
+        }
+        _ => {
+            new_bare(value, style, event);
+            None
+        }
+    }
 }
 
 // A scalar without properties, where the slot holds no such one.
@@ -163,7 +195,7 @@ fn new_scalar(
         quoted_implicit: form.quoted,
         style: form.style,
     };
-    put(event, scalar);
+    put_bare(event, scalar);
 }
 
 // A scalar of that form. Where the slot holds one, that is changed in place, and its texts are left in place of the new ones.
@@ -215,4 +247,101 @@ pub(crate) fn scalar(
 {
     let form = form_of(tag, style);
     put_scalar(anchor, tag, value, form, event);
+}
+
+// A new scalar with a tag that isn't `!`.
+// Out of line: mostly the slot holds one already, which is changed in place.
+#[inline(never)]
+fn new_tagged(
+    anchor: &mut Option<Vec<u8>>,
+    tag: &mut Vec<u8>,
+    value: &mut Vec<u8>,
+    style: yaml_scalar_style_t,
+    event: &mut yaml_event_body_t,
+)
+    ensures { body_of event.new ≡ told.scalar (text_of anchor.old) (Some tag.old.items)
+        value.old.items false false style }
+{
+    let mut full = Some(moved(tag));
+    let form = Form {
+        plain: false,
+        quoted: false,
+        style,
+    };
+    new_scalar(anchor, &mut full, value, form, event);
+}
+
+// A scalar with a tag that isn't `!`. Where the slot holds one, that is changed in place, and its texts are left in place of the new
+// ones.
+// Inlined: some loads and stores.
+#[inline(always)]
+fn put_tagged(
+    anchor: &mut Option<Vec<u8>>,
+    tag: &mut Vec<u8>,
+    value: &mut Vec<u8>,
+    style: yaml_scalar_style_t,
+    event: &mut yaml_event_body_t,
+)
+    ensures { body_of event.new ≡ told.scalar (text_of anchor.old) (Some tag.old.items)
+        value.old.items false false style }
+{
+    match *event {
+        yaml_event_body_t::Scalar {
+            anchor: ref mut last_anchor,
+            tag: ref mut last_tag,
+            value: ref mut last,
+            plain_implicit: ref mut plain,
+            quoted_implicit: ref mut quoted,
+            style: ref mut last_style,
+        } => {
+            mem::swap(last_anchor, anchor);
+            fill(last_tag, tag);
+            mem::swap(last, value);
+            *plain = false;
+            *quoted = false;
+            *last_style = style;
+        }
+        _ => new_tagged(anchor, tag, value, style, event),
+    }
+}
+
+// A scalar with the tag `!`, which says that it has none.
+// Out of line: few have it.
+#[inline(never)]
+fn put_marked(
+    anchor: &mut Option<Vec<u8>>,
+    value: &mut Vec<u8>,
+    style: yaml_scalar_style_t,
+    event: &mut yaml_event_body_t,
+)
+    ensures { body_of event.new ≡ told.scalar (text_of anchor.old) None value.old.items true false
+        style }
+{
+    let mut no_tag = None;
+    let form = Form {
+        plain: true,
+        quoted: false,
+        style,
+    };
+    put_scalar(anchor, &mut no_tag, value, form, event);
+}
+
+/// A scalar with that tag. Texts of an earlier one may be left in place of the new ones.
+// Inlined: some loads and stores.
+#[inline(always)]
+pub(crate) fn tagged_scalar(
+    anchor: &mut Option<Vec<u8>>,
+    tag: &mut Vec<u8>,
+    value: &mut Vec<u8>,
+    style: yaml_scalar_style_t,
+    event: &mut yaml_event_body_t,
+)
+    ensures { body_of event.new ≡ scalar_event (text_of anchor.old) (Some tag.old.items)
+        value.old.items style }
+{
+    if is_mark(tag.as_slice()) {
+        put_marked(anchor, value, style, event);
+    } else {
+        put_tagged(anchor, tag, value, style, event);
+    }
 }

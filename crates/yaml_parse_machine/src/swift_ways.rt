@@ -10,19 +10,20 @@ ghost use Rattle.yaml_parse_model.specs.Tokens.{token_of};
 ghost use Rattle.yaml_parse_grammar.specs.Items as item;
 ghost use Rattle.yaml_parse_grammar.specs.Trees.{flow_shape};
 ghost use Rattle.yaml_parse_grammar.specs.States as state;
-ghost use Rattle.yaml_parse_machine.specs.Views.{properties_of, tag_of, state_of, stack_of, below};
+ghost use Rattle.yaml_parse_machine.specs.Views.{item_of, state_of, stack_of, below};
 ghost use Rattle.yaml_parse_model.specs.declared.yaml_mapping_style_t.TheVariants.{YAML_BLOCK_MAPPING_STYLE};
 ghost use Rattle.yaml_parse_model.specs.declared.yaml_sequence_style_t.TheVariants.{YAML_BLOCK_SEQUENCE_STYLE};
-ghost use Rattle.yaml_parse_machine.specs.Swiftly.{Adds, Opens, OpensIn, Awaits, Swiftly, SwiftlyOn};
+ghost use Rattle.yaml_parse_machine.specs.Swiftly.{Adds, Opens, OpensIn, AwaitsKept, Swiftly, SwiftlyOn, SwiftlyOrOn};
 
 use crate::choosing::wants;
-use crate::item::{Properties, State, Tag};
-use crate::keeping::{name_of, room, tag_from};
+use crate::item::{Properties, RawEvent, State};
+use crate::keeping::{named, tagged};
 use crate::named_ways::behind_properties;
 use crate::pushing::{drop_top, push, push_key, swap_top, topmost};
 use crate::room::{moved, vacate};
 use crate::slots::{start_mapping, start_sequence};
-use crate::telling::{tell_alias, tell_end, tell_scalar, tell_start};
+use crate::telling::{has_properties, tell_alias, tell_end, tell_over, tell_scalar, tell_start};
+use std::alloc::AllocError;
 use yaml_parse_grammar::{Brackets, Side, Site};
 use yaml_parse_model::{
     yaml_event_t, yaml_mapping_style_t, yaml_mark_t, yaml_scalar_style_t, yaml_sequence_style_t,
@@ -34,6 +35,8 @@ use yaml_parse_model::{
 pub enum Swift {
     /// The token is taken, and the event stands in its slot.
     Event,
+    /// The token is taken, and the item stands in its slot, which is still to be settled.
+    Item,
     /// The token is taken.
     Silent,
     /// A growth was refused.
@@ -146,60 +149,21 @@ fn at_block(
     }
 }
 
-// The rest of a node behind its first property.
+// The rest of a node behind its first property, if there was room for that.
 // Inlined: its state is built in its place.
 #[inline(always)]
-fn await_node(stack: &mut Vec<State>, place: Site, properties: Box<Properties>) -> Swift
-    requires { 0 < vec_len stack.old }
-    ensures { Awaits place (properties_of properties.value) (stack_of stack.old.items) result
-        (stack_of stack.new.items) }
-{
-    swap_top(stack, State::WithProperties(wants(place), properties));
-    Swift::Silent
-}
-
-// A node's anchor, before all else of it.
-fn keep_anchor(
+fn await_node(
     stack: &mut Vec<State>,
     place: Site,
-    name: Vec<u8>,
-    from: &yaml_mark_t,
-    to: &yaml_mark_t,
-    spare: &mut Option<Box<Properties>>,
+    kept: Result<Box<Properties>, AllocError>,
 ) -> Swift
     requires { 0 < vec_len stack.old }
-    ensures { Awaits place
-        (record { anchor = Some name.items; tag = None; from = from.now; to = to.now })
-        (stack_of stack.old.items) result (stack_of stack.new.items) }
+    ensures { AwaitsKept place kept (stack_of stack.old.items) result (stack_of stack.new.items) }
 {
-    match room(spare, *name.allocator(), from, to) {
-        Ok(empty) => {
-            let mut properties = empty;
-            properties.anchor = Some(name);
-            await_node(stack, place, properties)
-        }
-        Err(_) => Swift::Memory,
-    }
-}
-
-// A node's tag, before all else of it.
-fn keep_tag(
-    stack: &mut Vec<State>,
-    place: Site,
-    tag: Tag,
-    to: &yaml_mark_t,
-    spare: &mut Option<Box<Properties>>,
-) -> Swift
-    requires { 0 < vec_len stack.old }
-    ensures { Awaits place
-        (record { anchor = None; tag = Some (tag_of tag); from = tag.mark; to = to.now })
-        (stack_of stack.old.items) result (stack_of stack.new.items) }
-{
-    match room(spare, *tag.handle.allocator(), &tag.mark, to) {
-        Ok(empty) => {
-            let mut properties = empty;
-            properties.tag = Some(tag);
-            await_node(stack, place, properties)
+    match kept {
+        Ok(properties) => {
+            swap_top(stack, State::WithProperties(wants(place), properties));
+            Swift::Silent
         }
         Err(_) => Swift::Memory,
     }
@@ -228,19 +192,12 @@ fn at_rare(
             Swift::Event
         }
         yaml_token_body_t::Anchor { value } => {
-            let name = name_of(value, spare);
-            keep_anchor(
-                stack,
-                place,
-                name,
-                &token.start_mark,
-                &token.end_mark,
-                spare,
-            )
+            let kept = named(spare, value, &token.start_mark, &token.end_mark);
+            await_node(stack, place, kept)
         }
         yaml_token_body_t::Tag { handle, suffix } => {
-            let tag = tag_from(handle, suffix, token.start_mark, spare);
-            keep_tag(stack, place, tag, &token.end_mark, spare)
+            let kept = tagged(spare, handle, suffix, &token.start_mark, &token.end_mark);
+            await_node(stack, place, kept)
         }
         _ => at_block(stack, place, token, event),
     }
@@ -264,7 +221,11 @@ fn at_optional(
     match &mut token.body {
         yaml_token_body_t::Scalar { value, style } => {
             drop_top(stack);
-            tell_scalar(value, *style, &token.start_mark, &token.end_mark, event);
+            if has_properties(&event.body) {
+                tell_over(token, event);
+            } else {
+                tell_scalar(value, *style, &token.start_mark, &token.end_mark, event);
+            }
             Swift::Event
         }
         yaml_token_body_t::FlowSequenceStart => open_brackets(
@@ -516,12 +477,10 @@ fn behind_pair(
     }
 }
 
-/// Takes the token the swift way, if there is one for it and the state on top of the stack.
-///
-/// The box that is to spare, if any, may be taken for the properties of a node, as the general way takes it.
-// Inlined into its one caller, the parser's step.
+// The same, of a state that holds no properties.
+// Inlined into its one caller.
 #[inline(always)]
-pub fn take_swiftly(
+fn take_bare(
     stack: &mut Vec<State>,
     token: &mut yaml_token_t,
     event: &mut yaml_event_t,
@@ -536,7 +495,6 @@ pub fn take_swiftly(
     match *state {
         State::Optional(place, _) => at_optional(stack, place, token, event, spare),
         State::Colon(place) => at_colon(stack, place, token),
-        State::WithProperties(_, _) => behind_properties(stack, token, event, spare),
         State::Pairs(opener) => at_pairs(stack, opener, token, event),
         State::Entries(opener) => at_entries(stack, opener, token, event),
         State::Items(Brackets::Sequence, opener) => in_sequence(stack, opener, token, event),
@@ -544,5 +502,36 @@ pub fn take_swiftly(
         State::More(Brackets::Sequence, opener) => behind_part(stack, opener, token, event),
         State::More(Brackets::Mapping, opener) => behind_pair(stack, opener, token, event),
         _ => Swift::Other,
+    }
+}
+
+// Whether a node is waited for whose properties are there.
+// Inlined: a look at the kind.
+#[inline(always)]
+fn awaits_rest(stack: &Vec<State>) -> bool {
+    match topmost(stack) {
+        Some(State::WithProperties(_, _)) => true,
+        _ => false,
+    }
+}
+
+/// Takes the token the swift way, if there is one for it and the state on top of the stack.
+///
+/// The box that the slot has to spare, if any, may be taken for the properties of a node, as the general way takes it.
+// Inlined into its one caller, the parser's step.
+#[inline(always)]
+pub fn take_swiftly(
+    stack: &mut Vec<State>,
+    token: &mut yaml_token_t,
+    event: &mut yaml_event_t,
+    slot: &mut RawEvent,
+) -> Swift
+    ensures { SwiftlyOrOn (token_of token.old) (stack_of stack.old.items) result
+        (event_of event.new) (item_of slot.new) (token_of token.new) (stack_of stack.new.items) }
+{
+    if awaits_rest(stack) {
+        behind_properties(stack, token, event, slot)
+    } else {
+        take_bare(stack, token, event, &mut slot.spare)
     }
 }

@@ -20,8 +20,8 @@ ghost use Rattle.yaml_parse_machine.specs.Views.{properties_of, properties_optio
 
 use crate::building::{give, node, tell};
 use crate::choosing::wants;
-use crate::item::{Properties, RawEvent, RawEventBody, Resolved, Shape, State, Tag};
-use crate::keeping::{await_rest, keep_anchor, keep_tag};
+use crate::item::{Properties, RawEvent, RawEventBody, Resolved, Shape, State};
+use crate::keeping::{await_behind, await_rest, named, put_tag, tagged};
 use crate::pushing::{
     open, push, push_behind_part, push_block_pair, push_entry, push_indentless, push_mapping_pair,
     push_sequence_pair, push_silently,
@@ -309,21 +309,15 @@ fn at_node(
             },
             token,
         ),
-        yaml_token_body_t::Anchor { value } => keep_anchor(
-            stack,
-            wants,
-            value,
-            token.start_mark,
-            token.end_mark,
-            &mut slot.spare,
-        ),
+        yaml_token_body_t::Anchor { value } => {
+            let spare = &mut slot.spare;
+            let kept = named(spare, value, &token.start_mark, &token.end_mark);
+            await_behind(stack, wants, kept)
+        }
         yaml_token_body_t::Tag { handle, suffix } => {
-            let tag = Tag {
-                handle: moved(handle),
-                suffix: moved(suffix),
-                mark: token.start_mark,
-            };
-            keep_tag(stack, wants, tag, token.end_mark, &mut slot.spare)
+            let spare = &mut slot.spare;
+            let kept = tagged(spare, handle, suffix, &token.start_mark, &token.end_mark);
+            await_behind(stack, wants, kept)
         }
         _ => at_content(stack, wants, None, token, slot),
     }
@@ -351,13 +345,8 @@ fn at_with_properties(
             await_rest(stack, wants, both)
         }
         yaml_token_body_t::Tag { handle, suffix } => {
-            let tag = Tag {
-                handle: moved(handle),
-                suffix: moved(suffix),
-                mark: token.start_mark,
-            };
             let mut both = properties;
-            both.tag = Some(tag);
+            put_tag(&mut both, handle, suffix, token.start_mark);
             both.to = token.end_mark;
             await_rest(stack, wants, both)
         }

@@ -1,6 +1,8 @@
 //! Events that the swift ways write where they are wanted.
 
-ghost use Rattle.std.specs.Prelude.{None};
+ghost use Rattle.std.specs.Prelude.{◌≡◌, ℕ, List, None};
+ghost use Rattle.yaml_parse_model.specs.Tokens.{token_of, scalar};
+ghost use Rattle.yaml_parse_model.specs.declared.yaml_scalar_style_t.{yaml_scalar_style_t};
 ghost use Rattle.yaml_parse_model.specs.Events.{event_of, text_of};
 ghost use Rattle.yaml_parse_model.specs.Events as told;
 ghost use Rattle.yaml_parse_grammar.specs.Items.{item_at};
@@ -9,13 +11,13 @@ ghost use Rattle.yaml_parse_grammar.specs.Trees.{flow_shape, end_event, event_at
 ghost use Rattle.yaml_parse_machine.specs.Swiftly.{IsReady};
 
 use crate::item::Properties;
-use crate::room::{put_bare, vacate};
-use crate::scalars::{bare_scalar, scalar};
+use crate::room::{anchor_for, hand_over_both, moved, put_bare, vacate};
+use crate::scalars::{bare_over, bare_scalar, scalar};
 use crate::slots::{end_mapping, end_sequence, start_mapping, start_sequence};
 use yaml_parse_grammar::Brackets;
 use yaml_parse_model::{
     yaml_event_body_t, yaml_event_t, yaml_mapping_style_t, yaml_mark_t, yaml_scalar_style_t,
-    yaml_sequence_style_t, yaml_token_t,
+    yaml_sequence_style_t, yaml_token_body_t, yaml_token_t,
 };
 
 // The token's scalar as an event without properties.
@@ -31,9 +33,43 @@ pub(crate) fn tell_scalar(
     ensures { IsReady (item_at (item.node None None (item.scalar value.old.items style)) from.now
         to.now) (event_of event.new) }
 {
+    bare_scalar(value, style, &mut event.body);
     event.start_mark = *from;
     event.end_mark = *to;
-    bare_scalar(value, style, &mut event.body);
+}
+
+/// Whether a slot of events holds a scalar with properties.
+// Inlined: a look at the kind.
+#[inline(always)]
+pub(crate) fn has_properties(event: &yaml_event_body_t) -> bool {
+    match *event {
+        yaml_event_body_t::Scalar {
+            anchor: None,
+            tag: None,
+            ..
+        } => false,
+        yaml_event_body_t::Scalar { .. } => true,
+        _ => false,
+    }
+}
+
+/// The token's scalar as an event without properties, where the slot holds one that has some. Its texts are left in the token.
+// Out of line: few scalars have properties.
+#[inline(never)]
+pub(crate) fn tell_over(token: &mut yaml_token_t, event: &mut yaml_event_t)
+    ensures { (value : List ℕ) (style : yaml_scalar_style_t) → (token_of token.old).body ≡ scalar
+        value style → IsReady (item_at (item.node None None (item.scalar value style))
+        token.old.start_mark token.old.end_mark) (event_of event.new) }
+{
+    match &mut token.body {
+        yaml_token_body_t::Scalar { value, style } => {
+            event.start_mark = token.start_mark;
+            event.end_mark = token.end_mark;
+            let name = bare_over(value, *style, &mut event.body);
+            hand_over_both(moved(value), name, &mut token.body);
+        }
+        _ => {}
+    }
 }
 
 // The token's scalar as an event with that anchor, in whose place the last one of the slot may be left.
@@ -71,8 +107,8 @@ pub(crate) fn tell_named_start(
 {
     event.start_mark = properties.from;
     event.end_mark = token.end_mark;
+    let anchor = anchor_for(&mut event.body, &mut properties.anchor);
     vacate(&mut event.body, &mut token.body);
-    let anchor = properties.anchor.take();
     match brackets {
         Brackets::Sequence => {
             let start = yaml_event_body_t::SequenceStart {

@@ -23,8 +23,8 @@ ghost use Rattle.yaml_parse_step.specs.Turned.{turned};
 use std::alloc::Global;
 use yaml_parse_grammar::{Choice, ParseFault, ParseProblem};
 use yaml_parse_machine::{
-    Directives, RawEvent, RawEventBody, Refusal, State, Swift, choose, leave, open, settle, take,
-    take_swiftly,
+    Directives, RawEvent, RawEventBody, Refusal, State, Swift, choose, leave, open, settle,
+    settle_swiftly, take, take_swiftly,
 };
 use yaml_parse_model::{yaml_event_t, yaml_token_source_t};
 use yaml_scan_model::{yaml_fault_t, yaml_mark_t, yaml_memory_fault, yaml_origin_t, yaml_token_t};
@@ -62,6 +62,16 @@ fn want_of_memory() -> yaml_fault_t
     ensures { fault_of result ≡ memory_fault Parser }
 {
     yaml_memory_fault(yaml_origin_t::Parser)
+}
+
+// A fault in its slot: memory ran out.
+// Out of line: its room would be set to zero for each item. Cold: it is met once.
+#[cold]
+#[inline(never)]
+fn lack_memory(fault: &mut yaml_fault_t)
+    ensures { fault_of fault.new ≡ memory_fault Parser }
+{
+    *fault = want_of_memory();
 }
 
 // The source's next token, where none was asked for before, or else its fault.
@@ -262,8 +272,9 @@ fn moving(
         (fault_of fault.new)) (stack_of stack.new.items) }
     ensures ready { IsSettled result (event_of event.new) }
 {
-    match take_swiftly(stack, &mut buffers.token, event, &mut buffers.item.spare) {
+    match take_swiftly(stack, &mut buffers.token, event, &mut buffers.item) {
         Swift::Event => Progress::Ready,
+        Swift::Item => Progress::By(Step::Given),
         Swift::Silent => Progress::By(Step::Silent),
         Swift::Memory => {
             *fault = want_of_memory();
@@ -308,9 +319,9 @@ pub fn advance<S: yaml_token_source_t>(
 }
 
 // What the item comes to: an event in its slot (true), nothing (false), or a fault in its slot (none).
-// Out of line: few items are settled so, and the room of a refusal would be set to zero for each token.
+// Out of line: most items are scalars with a tag, and for each of those the room of a refusal would be set to zero.
 #[inline(never)]
-fn settled(
+fn settled_whole(
     alloc: Global,
     directives: &mut Directives,
     item: &mut RawEvent,
@@ -328,6 +339,29 @@ fn settled(
         }
         Err(Refusal::Fault(refused)) => {
             *fault = refused.located();
+            None
+        }
+    }
+}
+
+// The same, in line for a scalar with a tag.
+// Out of line: few items are settled so.
+#[inline(never)]
+fn settled(
+    alloc: Global,
+    directives: &mut Directives,
+    item: &mut RawEvent,
+    event: &mut yaml_event_t,
+    fault: &mut yaml_fault_t,
+) -> Option<bool>
+    ensures { ComesTo (settle_item (item_of item.old) (directives_of directives.old))
+        (item_of item.old) result event.new (fault_of fault.new) (directives_of directives.new) }
+{
+    match settle_swiftly(directives, item, event) {
+        Ok(true) => Some(true),
+        Ok(false) => settled_whole(alloc, directives, item, event, fault),
+        Err(_) => {
+            lack_memory(fault);
             None
         }
     }

@@ -115,3 +115,37 @@ returns-in-Other-clause-stack c =
     over (stack_of c.args.stack.now.items) (λ s. P (token_of c.args.buffers.now.token) (stack_of c.args.stack.now.items))
     (are_some c.args.stack.now.items (vec_len c.args.stack.now) c.args.stack.now.ok.0 c.requires.some)
     (λ x h. unmoved P (token_of c.args.buffers.now.token) (token_of c.take_swiftly.new.token) (stack_of c.args.stack.now.items) (stack_of c.take_swiftly.new.stack.items) (c.in-Other.ensures x h).0 (c.in-Other.ensures x h).1 c.stepping_on.ensures.stack)
+
+pub returns-in-Item-clause-steps : goal.returns-in-Item-clause-steps
+returns-in-Item-clause-steps c = λ rest fault.
+    let t : Token = token_of c.args.buffers.now.token in
+    let new : List State = stack_of c.take_swiftly.new.stack.items in
+    let i = item_of c.take_swiftly.new.slot in
+    unheld c.args.buffers.now.is_held (token_of c.take_swiftly.new.token)
+    (λ p. Steps (raw (Some t) rest fault (stack_of c.args.stack.now.items)) (given i) (raw p rest fault new)) c.requires.unheld
+    (over (stack_of c.args.stack.now.items) (λ s. Steps (raw (Some t) rest fault s) (given i) (raw None rest fault new))
+    (are_some c.args.stack.now.items (vec_len c.args.stack.now) c.args.stack.now.ok.0 c.requires.some)
+    (λ x h. take_item x t rest fault (below (stack_of c.args.stack.now.items)) new i (taken_at x t).above (c.in-Item.ensures x h).0 (taken_is x t (Some i) (c.in-Item.ensures x h).1) (c.in-Item.ensures x h).2))
+
+pub returns-in-Item-clause-real : goal.returns-in-Item-clause-real
+returns-in-Item-clause-real c = λ x h d. (c.in-Item.ensures x h).0
+
+pub returns-in-Item-clause-utf8 : goal.returns-in-Item-clause-utf8
+returns-in-Item-clause-utf8 c = λ ds.
+    let t : Token = token_of c.args.buffers.now.token in
+    let new : List State = stack_of c.take_swiftly.new.stack.items in
+    let i = item_of c.take_swiftly.new.slot in
+    unheld c.args.buffers.now.is_held (token_of c.take_swiftly.new.token)
+    (λ p. IsUtf8Held (Some t) (stack_of c.args.stack.now.items) ds → IsUtf8Step (given i) p new ds) c.requires.unheld
+    (over (stack_of c.args.stack.now.items) (λ s. IsUtf8Held (Some t) s ds → IsUtf8Step (given i) None new ds)
+    (are_some c.args.stack.now.items (vec_len c.args.stack.now) c.args.stack.now.ok.0 c.requires.some)
+    (λ x h. take_item_utf8 x t (below (stack_of c.args.stack.now.items)) new i (taken_at x t).above ds (taken_is x t (Some i) (c.in-Item.ensures x h).1) (c.in-Item.ensures x h).2))
+
+pub returns-in-Item-clause-stack : goal.returns-in-Item-clause-stack
+returns-in-Item-clause-stack c =
+    let t : Token = token_of c.args.buffers.now.token in
+    let new : List State = stack_of c.take_swiftly.new.stack.items in
+    let i = item_of c.take_swiftly.new.slot in
+    over (stack_of c.args.stack.now.items) (λ s. IsStack s → IsStackStep (given i) new)
+    (are_some c.args.stack.now.items (vec_len c.args.stack.now) c.args.stack.now.ok.0 c.requires.some)
+    (λ x h. take_item_stands x t (below (stack_of c.args.stack.now.items)) new i (taken_at x t).above (c.in-Item.ensures x h).0 (taken_is x t (Some i) (c.in-Item.ensures x h).1) (c.in-Item.ensures x h).2)

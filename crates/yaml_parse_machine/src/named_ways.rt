@@ -99,6 +99,8 @@ fn at_anchored(
 }
 
 // An anchor behind a tag alone.
+// Inlined into its one caller, which LLVM leaves as a call.
+#[inline(always)]
 fn join_anchor(
     stack: &mut Vec<State>,
     wants: Wants,

@@ -18,14 +18,22 @@ fn is_ascii(bytes: &[u8]) -> bool
     bytes.iter().all(|byte| *byte < 0x80)
 }
 
-// Most tags are short and ASCII alone: a look at them costs less than what the decoder of UTF-8 sets up. Inlined, the
-// decoder's aligned buffer would take a register from the whole step of the parser.
-// Out of line: the decoder sets up a buffer, and few tags have a byte beyond ASCII.
-#[inline(never)]
+// Most tags are short and ASCII alone: a look at them costs less than what the decoder of UTF-8 sets up.
+// Inlined: a look at each byte.
+#[inline(always)]
 fn is_text(bytes: &[u8]) -> bool
     ensures { result ≡ is_utf8 bytes.now }
 {
-    is_ascii(bytes) || is_utf8(bytes)
+    is_ascii(bytes) || is_wide_text(bytes)
+}
+
+// Whether the bytes are UTF-8.
+// Out of line: the decoder sets up an aligned buffer, and few tags have a byte beyond ASCII.
+#[inline(never)]
+fn is_wide_text(bytes: &[u8]) -> bool
+    ensures { result ≡ is_utf8 bytes.now }
+{
+    is_utf8(bytes)
 }
 
 /// Whether a tag's suffix, or a directive's prefix, is UTF-8. Their escapes spell bytes; all other texts of a session's

@@ -7,7 +7,7 @@ pub use Rattle.yaml_round_writing.specs.Answers
 pub use Rattle.yaml_round_writing.specs.Reload
 pub use Rattle.yaml_round_writing.specs.EventLine
 pub use Rattle.yaml_round_writing.specs.Reading
-pub use Rattle.yaml_round_writing.specs.Compare
+pub use Rattle.yaml_round_compare.specs.Compare
 pub use Rattle.yaml_round_device.specs.Settings
 pub use Rattle.yaml_round_device.specs.Run
 pub use Rattle.yaml_round_device.specs.StdDevices

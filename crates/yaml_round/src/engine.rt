@@ -5,10 +5,9 @@ ghost use Rattle.yaml_round_writing.specs.Layers.{list_layers, reformat_layers};
 ghost use Rattle.yaml_round_writing.specs.Answers.{IsReformatted, IsInCanonicalForm, IsListed, text_and_form, bytes_of};
 
 use std::alloc::Global;
+use yaml_round_compare::stays;
 use yaml_round_device::{yaml_form_t, yaml_settings_t};
-use yaml_round_writing::{
-    Shape, Watch, in_pretty_form, let_go, lines_of, reading_of, stays, written,
-};
+use yaml_round_writing::{Shape, Watch, in_pretty_form, let_go, lines_of, reading_of, written};
 use yaml_scan_model::{yaml_encoding_t, yaml_fault_t};
 
 // The text in canonical form.

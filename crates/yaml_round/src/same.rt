@@ -3,7 +3,8 @@
 ghost use Rattle.yaml_round_writing.specs.Answers.{IsSame};
 
 use std::alloc::Global;
-use yaml_round_writing::{let_go, reading_of, same_as, yaml_side_t};
+use yaml_round_compare::same_as;
+use yaml_round_writing::{let_go, reading_of, yaml_side_t};
 use yaml_scan_model::{yaml_encoding_t, yaml_fault_t};
 
 /// Whether two inputs have the same content: their documents' versions, directives, nodes, anchors, tags and values, and of

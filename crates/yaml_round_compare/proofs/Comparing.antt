@@ -7,12 +7,12 @@ use Rattle.yaml_scan.specs.declared.yaml_origin_t.TheVariants.{Parser}
 use Rattle.yaml_scan.specs.Faults.{fault_of, memory_fault, parse_layers, Answers}
 use Rattle.yaml_parse.specs.Remaining.{ParserRemaining}
 use Rattle.yaml_round_laws_reading.specs.round_content.Input.{Reads}
-use Rattle.yaml_round_compare.specs.declared.side.yaml_side_t.{yaml_side_t}
-use Rattle.yaml_round_compare.specs.declared.side.yaml_side_t.TheVariants.{First, Second}
-use Rattle.yaml_round_compare.specs.Reading.{contents}
+use Rattle.yaml_round_reading.specs.declared.side.yaml_side_t.{yaml_side_t}
+use Rattle.yaml_round_reading.specs.declared.side.yaml_side_t.TheVariants.{First, Second}
+use Rattle.yaml_round_reading.specs.Reading.{contents}
 use Rattle.yaml_round_compare.specs.Compare.{ComparesReadings, ReadsAlike, IsSideFault, IsBehindFirst}
-use Rattle.yaml_round_compare.specs.Answers.{IsRight, IsReadBack, IsSame, IsSideStarved, IsSideFaulty}
-use Rattle.yaml_round_compare.proofs.Plain.{faulty, fault_met, right, right_ending, same_content, content_same, second_right}
+use Rattle.yaml_round_reading.specs.Answers.{IsRight, IsReadBack, IsSame, IsSideStarved, IsSideFaulty}
+use Rattle.yaml_round_reading.proofs.Plain.{faulty, fault_met, right, right_ending, same_content, content_same, second_right}
 
 pub read_back : (from : yaml_encoding_t) (input text : List ℕ) (p q : ParserRemaining) (result : Result Bool yaml_fault_t) → Reads from input p → Reads YAML_ANY_ENCODING text q → IsRight from input
     → ReadsAlike p q result → Answers parse_layers (λ (same : Bool). same) (IsReadBack from input text) result

@@ -1,5 +1,4 @@
 mod Comparing
+mod KeptContents
 mod Mapped
-mod Normalizing
-pub mod Plain
-mod Real
+mod Telling

@@ -4,14 +4,14 @@ use Rattle.yaml_scan.specs.declared.yaml_fault_t.{yaml_fault_t}
 use Rattle.yaml_scan.specs.Faults.{Fault, fault_of, IsMemoryFault, parse_layers}
 use Rattle.yaml_parse.specs.Events.{EventBody}
 use Rattle.yaml_parse.specs.Remaining.{ParserRemaining}
-use Rattle.yaml_round_compare.specs.declared.side.yaml_side_t.{yaml_side_t}
-use Rattle.yaml_round_compare.specs.declared.side.yaml_side_t.TheVariants.{First, Second}
-use Rattle.yaml_round_compare.specs.declared.reading.Reading.{Reading}
+use Rattle.yaml_round_reading.specs.declared.side.yaml_side_t.{yaml_side_t}
+use Rattle.yaml_round_reading.specs.declared.side.yaml_side_t.TheVariants.{First, Second}
+use Rattle.yaml_round_reading.specs.declared.reading.Reading.{Reading}
 use Rattle.yaml_round_compare.specs.declared.compare.Next.{Next}
 use Rattle.yaml_round_compare.specs.declared.compare.Next.TheVariants.{Same, End, Different, Refused}
 use Rattle.yaml_round_laws_reading.specs.round_content.Normalize.{normalize_body}
 use Rattle.yaml_round_laws_reading.specs.round_content.Content.{content_of}
-use Rattle.yaml_round_compare.specs.Reading.{contents, AreReal, IsFaultOf}
+use Rattle.yaml_round_reading.specs.Reading.{contents, AreReal, IsFaultOf}
 
 -- what an event says, normalized
 abbrev pub saying : EventBody → EventBody

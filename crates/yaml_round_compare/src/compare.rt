@@ -4,16 +4,14 @@ ghost use Rattle.std.specs.Prelude.{ℕ, List};
 ghost use Rattle.yaml_round_laws_reading.specs.round_content.Input.{Reads};
 ghost use Rattle.yaml_round_compare.specs.Compare.{BothReal, JudgesEvents, StepsBeside, StepsAlone, StepsOn, Sided, ReadsOutBoth, IsBehindFirst, ComparesReadings, ReadsAlike};
 ghost use Rattle.yaml_parse.specs.Events.{event_of};
-ghost use Rattle.yaml_round_compare.specs.Reading.{AreReal};
-ghost use Rattle.yaml_round_compare.specs.Answers.{IsRight, IsReadBack, IsSame};
+ghost use Rattle.yaml_round_reading.specs.Reading.{AreReal};
+ghost use Rattle.yaml_round_reading.specs.Answers.{IsRight, IsReadBack, IsSame};
 ghost use Rattle.yaml_scan.specs.Faults.{Answers, IsMemoryFault, fault_of, parse_layers};
 
 use crate::content::agree;
-use crate::normalize::normalize_event;
-use crate::reading::{Reading, let_go, read_out, reading_of};
-use crate::side::yaml_side_t;
 use std::alloc::Global;
 use yaml_parse::{yaml_event_t, yaml_found_t};
+use yaml_round_reading::{Reading, let_go, normalize_event, read_out, reading_of, yaml_side_t};
 use yaml_scan::{
     yaml_encoding_t, yaml_error_type_t, yaml_fault_t, yaml_memory_fault, yaml_origin_t,
 };
@@ -141,7 +139,7 @@ fn compared(first: &mut Reading<'_>, second: &mut Reading<'_>) -> Result<bool, S
 }
 
 /// Want of memory, told again by its layer and nothing else.
-pub fn starved_in(origin: yaml_origin_t) -> yaml_fault_t
+pub(crate) fn starved_in(origin: yaml_origin_t) -> yaml_fault_t
     ensures { IsMemoryFault parse_layers (fault_of result) }
 {
     match origin {
@@ -183,7 +181,7 @@ fn reads_as(alloc: Global, first: &mut Reading<'_>, text: &[u8]) -> Result<bool,
 
 /// Whether the text, read as its byte order mark tells, is accepted and has the content of the input, which is accepted.
 /// Refused only where memory ran out.
-pub fn reads_back(
+pub(crate) fn reads_back(
     alloc: Global,
     input: &[u8],
     from: yaml_encoding_t,

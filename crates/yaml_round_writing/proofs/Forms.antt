@@ -9,7 +9,7 @@ use Rattle.yaml_round_device.specs.declared.yaml_form_t.{yaml_form_t}
 use Rattle.yaml_round_device.specs.declared.yaml_form_t.TheVariants.{Canonical, Pretty}
 use Rattle.yaml_round_writing.specs.Layers.{reformat_layers}
 use Rattle.yaml_round_writing.proofs.Staying.{stays}
-use Rattle.yaml_round_compare.specs.Answers.{IsReadBack, ReadsBack}
+use Rattle.yaml_round_reading.specs.Answers.{IsReadBack, ReadsBack}
 use Rattle.yaml_round_writing.specs.Answers.{IsLaidOut, IsWritten, IsCanonicalDue, IsInCanonicalForm, IsReformatted, text_and_form}
 
 in_form : (from : yaml_encoding_t) (settings : yaml_settings_t) (input text : List ℕ) (form : yaml_form_t) → IsCanonicalDue settings.canonical from settings input

@@ -7,12 +7,12 @@ use Rattle.yaml_emit.specs.Content.{emitter_event}
 use Rattle.yaml_emit.specs.Emitter.{Emitter, Completes}
 use Rattle.yaml_emit.specs.Taking.{TakesEvents}
 use Rattle.yaml_round_laws_documents.specs.content.Normalize.{normalize_body}
-use Rattle.yaml_round_compare.specs.Reading.{GivesNextEvent, emitter_events}
+use Rattle.yaml_round_reading.specs.Reading.{GivesNextEvent, emitter_events}
 use Rattle.yaml_round_shape.specs.Seen.{seen, seen_all}
 use Rattle.yaml_round_writing.specs.declared.writing.Watch.{Watch}
 use Rattle.yaml_round_shape.specs.declared.seen.Shape.{Shape}
 use Rattle.yaml_round_writing.specs.Writing.{LeadsWatched, Sees}
-use Rattle.yaml_round_writing.proofs.Keeping.{kept_on}
+use Rattle.yaml_round_reading.proofs.Keeping.{kept_on}
 
 -- what is given to an emitter whose watch is at hand
 gives_by : (ends : Bool) (w : Watch) (first old new : Emitter) (all : List Told) (before after : ParserRemaining) (v : Event) (watch shape : Watch)

@@ -11,15 +11,15 @@ use Rattle.yaml_emit.specs.Emitter.{Emitter, Completes}
 use Rattle.yaml_round_lines.specs.EventLine.{event_line}
 use Rattle.yaml_round_device.specs.declared.yaml_settings_t.{yaml_settings_t}
 use Rattle.yaml_round_writing.specs.Layers.{reformat_layers, list_layers}
-use Rattle.yaml_round_compare.specs.Reading.{emitter_events, GivesNextEvent, IsFaultOf, EndsWith}
+use Rattle.yaml_round_reading.specs.Reading.{emitter_events, GivesNextEvent, IsFaultOf, EndsWith}
 use Rattle.yaml_round_writing.specs.Lines.{event_lines}
 use Rattle.yaml_round_shape.specs.Seen.{seen_all}
 use Rattle.yaml_round_writing.specs.declared.writing.Watch.{Watch}
 use Rattle.yaml_round_writing.specs.Writing.{LeadsWatched, WritesAll}
 use Rattle.yaml_round_laws_documents.specs.content.Input.{Reads, ending_of}
-use Rattle.yaml_round_writing.proofs.Keeping.{kept_then}
-use Rattle.yaml_round_compare.proofs.Plain.{faulty, faulty_ending, fault_met, right, has_events}
-use Rattle.yaml_round_compare.specs.Answers.{IsFaulty}
+use Rattle.yaml_round_reading.proofs.Keeping.{kept_then}
+use Rattle.yaml_round_reading.proofs.Plain.{faulty, faulty_ending, fault_met, right, has_events}
+use Rattle.yaml_round_reading.specs.Answers.{IsFaulty}
 use Rattle.yaml_round_writing.specs.Answers.{IsJudged, IsTooLong, HasLines}
 
 -- ---- one input

@@ -8,7 +8,7 @@ use Rattle.yaml_scan.specs.Faults.{Fault, fault_of, IsMemoryFault, emit_layers, 
 use Rattle.yaml_parse.specs.Remaining.{ParserRemaining}
 use Rattle.yaml_parse.specs.Resolve.{Told}
 use Rattle.yaml_parse.specs.Events.{text_of}
-use Rattle.yaml_round_writing.specs.Kept.{KeptOn}
+use Rattle.yaml_round_reading.specs.Kept.{KeptOn}
 use Rattle.yaml_emit.specs.Content.{Event}
 use Rattle.yaml_emit.specs.Streams.{IsStream}
 use Rattle.yaml_emit.specs.Emitter.{Emitter, Completes, CompletesBy, IsLimited, IsWhole, Passes}
@@ -18,14 +18,14 @@ use Rattle.yaml_emit.specs.emit_text.declared.Encoding.{Encoding}
 use Rattle.yaml_emit.specs.emit_text.declared.RequestedSettings.{RequestedSettings}
 use Rattle.yaml_round_device.specs.declared.yaml_settings_t.{yaml_settings_t}
 use Rattle.yaml_round_writing.specs.Layers.{reformat_layers}
-use Rattle.yaml_round_compare.specs.Reading.{emitter_events}
+use Rattle.yaml_round_reading.specs.Reading.{emitter_events}
 use Rattle.yaml_round_shape.specs.Seen.{seen_all}
 use Rattle.yaml_round_writing.specs.declared.writing.Watch.{Watch}
 use Rattle.yaml_round_writing.specs.Writing.{IsUnder, LeadsWatched, FinishesText, requested_under, IsText, IsEachLayout, IsPastEach}
 use Rattle.yaml_round_laws_documents.specs.content.Input.{Reads, events_of, ending_of}
 use Rattle.yaml_round_writing.specs.Answers.{IsLayout, IsPast, IsLaidOut, IsWritten, bytes_of}
-use Rattle.yaml_round_compare.proofs.Plain.{has_events, events_right}
-use Rattle.yaml_round_compare.specs.Answers.{IsRight}
+use Rattle.yaml_round_reading.proofs.Plain.{has_events, events_right}
+use Rattle.yaml_round_reading.specs.Answers.{IsRight}
 use Rattle.yaml_round_laws_documents.specs.content.round_laws.emit_laws_streams.Laws.{HasText}
 use Rattle.yaml_round_writing.proofs.Streams.{input_text}
 

@@ -15,10 +15,10 @@ use Rattle.yaml_round_laws_documents.proofs.ReadBack.{inputs_read_back, tells_in
 use Rattle.yaml_round_device.specs.declared.yaml_settings_t.{yaml_settings_t}
 use Rattle.yaml_round_device.specs.declared.yaml_output_encoding_t.{yaml_output_encoding_t}
 use Rattle.yaml_round_device.specs.declared.yaml_output_encoding_t.TheVariants.{Utf8, Utf16Le, Utf16Be}
-use Rattle.yaml_round_compare.specs.Reading.{emitter_events}
+use Rattle.yaml_round_reading.specs.Reading.{emitter_events}
 use Rattle.yaml_round_writing.specs.Writing.{encoding_under, requested_under}
 use Rattle.yaml_round_writing.specs.Answers.{IsLayout, IsLaidOut, IsNormalForm, canonical_text}
-use Rattle.yaml_round_compare.proofs.Plain.{right_ending, has_events, events_are, events_right}
+use Rattle.yaml_round_reading.proofs.Plain.{right_ending, has_events, events_are, events_right}
 use Rattle.yaml_round_laws_documents.proofs.round_laws_reading.Joining.{said_read, read_said}
 
 set_under : (e : yaml_output_encoding_t) → IsSet (encoding_under e)

@@ -15,11 +15,11 @@ use Rattle.yaml_round_laws_kept.proofs.Joining.{stays_pretty}
 use Rattle.yaml_round_laws_kept.proofs.Whole.{layout_reads_back}
 use Rattle.yaml_round_laws_documents.specs.content.Input.{events_of}
 use Rattle.yaml_round_device.specs.declared.yaml_settings_t.{yaml_settings_t}
-use Rattle.yaml_round_compare.specs.Reading.{emitter_events}
+use Rattle.yaml_round_reading.specs.Reading.{emitter_events}
 use Rattle.yaml_round_writing.specs.Writing.{requested_under}
-use Rattle.yaml_round_compare.specs.Answers.{IsRight, ReadsBack}
+use Rattle.yaml_round_reading.specs.Answers.{IsRight, ReadsBack}
 use Rattle.yaml_round_writing.specs.Answers.{IsLaidOut}
-use Rattle.yaml_round_compare.proofs.Plain.{right_ending, events_are, same_content}
+use Rattle.yaml_round_reading.proofs.Plain.{right_ending, events_are, same_content}
 use Rattle.yaml_round_writing.proofs.Laying.{laid_right}
 
 reads : (from : yaml_encoding_t) (input text bytes : List ℕ) → IsRight from input → text ≡ bytes → SaysInput from input bytes → ReadsBack from input text

@@ -15,7 +15,7 @@ use Rattle.yaml_round_laws_documents.proofs.content.round_laws.emit_laws_streams
 use Rattle.yaml_round_laws_documents.proofs.content.round_laws.emit_laws_streams.Loading.{empty_right, steps}
 use Rattle.yaml_round_laws_documents.proofs.content.Inputs.{input_stream}
 use Rattle.yaml_round_laws_documents.proofs.content.round_laws.Inputs.{inputs_load_right}
-use Rattle.yaml_round_compare.specs.Reading.{emitter_events}
+use Rattle.yaml_round_reading.specs.Reading.{emitter_events}
 use Rattle.yaml_round_laws_documents.specs.content.Input.{events_of, ending_of, read}
 use Rattle.yaml_round_laws_documents.specs.content.Loads.{Loads, in_front, load_on, load_all, loads_of}
 use Rattle.yaml_round_laws_documents.specs.Normal.{ended}

@@ -13,19 +13,18 @@ use Rattle.yaml_emit.specs.emit_text.declared.RequestedSettings.{RequestedSettin
 use Rattle.yaml_round_device.specs.declared.yaml_settings_t.{yaml_settings_t}
 use Rattle.yaml_round_device.specs.declared.yaml_form_t.{yaml_form_t}
 use Rattle.yaml_round_device.specs.declared.yaml_form_t.TheVariants.{Canonical, Pretty}
-use Rattle.yaml_round_writing.specs.declared.kept.Known.{Known}
-use Rattle.yaml_round_compare.specs.Reading.{emitter_events}
+use Rattle.yaml_round_reading.specs.declared.known.Known.{Known}
+use Rattle.yaml_round_reading.specs.Reading.{emitter_events}
 use Rattle.yaml_round_writing.specs.Lines.{event_lines}
-use Rattle.yaml_round_writing.specs.Kept.{KeepsAll}
+use Rattle.yaml_round_reading.specs.Kept.{KnownHolds}
 use Rattle.yaml_round_writing.specs.Writing.{requested_under}
 use Rattle.yaml_parse.specs.Resolve.{Told}
-use Rattle.yaml_parse.specs.Events.{text_of}
 use Rattle.yaml_round_laws_documents.specs.content.Said.{Document}
 use Rattle.yaml_round_laws_documents.specs.round_laws_reading.Reading.{PlainReading, HasEvents}
 use Rattle.yaml_round_laws_documents.specs.content.Canon.{canon}
 use Rattle.yaml_round_laws_kept.specs.Laws.{IsJsonInput}
-unfoldable pub use Rattle.yaml_round_compare.specs.Answers.{IsRight, IsFaulty}
-pub use Rattle.yaml_round_compare.specs.Answers.{SameContent, IsCompared, IsSideFaulty, IsSideStarved, IsSame, ReadsBack, IsReadBack}
+unfoldable pub use Rattle.yaml_round_reading.specs.Answers.{IsRight, IsFaulty}
+pub use Rattle.yaml_round_reading.specs.Answers.{SameContent, IsCompared, IsSideFaulty, IsSideStarved, IsSame, ReadsBack, IsReadBack}
 
 abbrev pub text_and_form : {A : Type 0} → Vec ℕ A × yaml_form_t → List ℕ × yaml_form_t
 text_and_form answer = (answer.0.items, answer.1)
@@ -131,11 +130,6 @@ pub record IsNotReadBack (from : yaml_encoding_t) (settings : yaml_settings_t)
   pub laid : IsLaidOut from input settings false pretty
   pub differs : ¬ ReadsBack from input pretty
   pub shape : ¬ IsJsonInput from input
-
--- What is known is so: the text reads back; what is kept is what the input says.
-pub record KnownHolds (from : yaml_encoding_t) (input text : List ℕ) (known : Known) : Type 0 where
-  pub back : known.back ≡ true → ReadsBack from input text
-  pub kept : KeepsAll from input (text_of known.kept)
 
 -- the answer of the engine in pretty form, and what is known of it
 abbrev pub IsInPrettyForm : yaml_encoding_t → yaml_settings_t → List ℕ

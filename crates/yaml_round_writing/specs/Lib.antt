@@ -1,6 +1,5 @@
 pub mod Layers
 pub mod Lines
-pub mod Kept
 pub mod Writing
 pub mod Answers
 pub mod Reload
@@ -9,5 +8,5 @@ pub use Rattle.yaml_round_laws_documents.specs as round_laws_documents
 pub use Rattle.yaml_round_laws_kept.specs as round_laws_kept
 pub use Rattle.yaml_emit.specs as emit
 pub use Rattle.yaml_round_lines.specs.EventLine
-pub use Rattle.yaml_round_compare.specs.Reading
-pub use Rattle.yaml_round_compare.specs.Compare
+pub use Rattle.yaml_round_reading.specs.Reading
+pub use Rattle.yaml_round_reading.specs.Kept

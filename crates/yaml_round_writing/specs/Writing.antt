@@ -21,8 +21,8 @@ use Rattle.yaml_round_device.specs.declared.yaml_settings_t.{yaml_settings_t}
 use Rattle.yaml_round_writing.specs.declared.writing.Watch.{Watch}
 use Rattle.yaml_round_device.specs.declared.yaml_output_encoding_t.{yaml_output_encoding_t}
 use Rattle.yaml_round_device.specs.declared.yaml_output_encoding_t.TheVariants.{Utf8, Utf16Le, Utf16Be}
-use Rattle.yaml_round_writing.specs.Kept.{KeptOn}
-use Rattle.yaml_round_compare.specs.Reading.{emitter_events, AreReal, IsFaultOf}
+use Rattle.yaml_round_reading.specs.Kept.{KeptOn}
+use Rattle.yaml_round_reading.specs.Reading.{emitter_events, AreReal, IsFaultOf}
 
 -- ---- the settings of an emitter
 
@@ -58,6 +58,12 @@ pub record Sees (watch : Watch) (e : EventBody) (seen_new : Watch) : Type 0 wher
   pub canonical : seen_new.canonical ≡ watch.canonical
   pub shape : seen_new.shape ≡ seen watch.shape (emitter_event e)
   pub kept : Keeps (text_of watch.kept) e (text_of seen_new.kept)
+
+-- The same where its shape isn't looked at: only what is kept goes on.
+pub record Tells (watch : Watch) (e : EventBody) (told_new : Watch) : Type 0 where
+  pub canonical : told_new.canonical ≡ watch.canonical
+  pub shape : told_new.shape ≡ watch.shape
+  pub kept : Keeps (text_of watch.kept) e (text_of told_new.kept)
 
 -- With these events to come, normalized, from one emitter and those from the other, the text is the same,
 -- and so is what they tell of their shape; what those between them say is kept.

@@ -3,15 +3,15 @@
 ghost use Rattle.std.specs.Prelude.{ℕ, List};
 ghost use Rattle.yaml_scan.specs.Faults.{Answers};
 ghost use Rattle.yaml_round_laws_documents.specs.content.Input.{Reads};
-ghost use Rattle.yaml_round_compare.specs.Reading.{AreReal};
+ghost use Rattle.yaml_round_reading.specs.Reading.{AreReal};
 ghost use Rattle.yaml_round_writing.specs.Layers.{list_layers};
 ghost use Rattle.yaml_round_writing.specs.Lines.{AddsLines};
 ghost use Rattle.yaml_round_writing.specs.Answers.{IsListed, bytes_of};
 
 use std::alloc::Global;
 use yaml_parse::yaml_found_t;
-use yaml_round_compare::Reading;
 use yaml_round_lines::yaml_push_event_line;
+use yaml_round_reading::Reading;
 use yaml_scan::{yaml_encoding_t, yaml_fault_t, yaml_memory_fault, yaml_origin_t};
 
 // Adds the lines of the events to their end.

@@ -10,9 +10,9 @@ use crate::writing::{emitter_under, finished};
 use std::alloc::Global;
 use std::collections::VecDeque;
 use yaml_emit::{yaml_emitter_close, yaml_emitter_dump, yaml_emitter_open, yaml_emitter_t};
-use yaml_parse::{yaml_document_set_end_implicit, yaml_document_t, yaml_parser_load};
-use yaml_round_compare::{Reading, let_go, reading_of};
+use yaml_parse::{yaml_document_set_end_implicit, yaml_document_t};
 use yaml_round_device::yaml_settings_t;
+use yaml_round_reading::{Reading, let_go, reading_of};
 use yaml_scan::{yaml_encoding_t, yaml_fault_t, yaml_memory_fault, yaml_origin_t};
 
 // The next document, whose end is made implicit; nothing behind the last.
@@ -22,7 +22,7 @@ fn next_document(reading: &mut Reading<'_>) -> Result<Option<yaml_document_t>, y
     ensures next { LoadsNext reading.old.parser result reading.new.parser }
     ensures between { reading.new.parser.between ≡ true }
 {
-    match yaml_parser_load(&mut reading.parser) {
+    match reading.load() {
         Err(fault) => Err(fault),
         Ok(mut document) => {
             if document.node_count() == 0 {

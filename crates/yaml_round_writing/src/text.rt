@@ -5,18 +5,17 @@ ghost use Rattle.yaml_scan.specs.Faults.{Answers, parse_layers};
 ghost use Rattle.yaml_round_writing.specs.Layers.{reformat_layers};
 ghost use Rattle.yaml_round_laws_documents.specs.content.Input.{Reads, ending_of, events_of};
 ghost use Rattle.yaml_round_shape.specs.Seen.{seen_all};
-ghost use Rattle.yaml_round_compare.specs.Reading.{AreReal, emitter_events};
+ghost use Rattle.yaml_round_reading.specs.Reading.{AreReal, emitter_events};
 ghost use Rattle.yaml_round_writing.specs.Answers.{IsInPrettyForm, IsJudged, IsWritten, text_and_known, bytes_of};
 ghost use Rattle.yaml_round_writing.specs.Writing.{WritesAll};
-ghost use Rattle.yaml_round_writing.specs.Kept.{KeptOn};
+ghost use Rattle.yaml_round_reading.specs.Kept.{KeptOn};
 ghost use Rattle.yaml_parse.specs.Events.{text_of};
 
-use crate::kept::Known;
 use crate::writing::{Watch, emitter_under, finished, write_rest, write_up_to};
 use std::alloc::Global;
 use yaml_emit::yaml_emitter_t;
-use yaml_round_compare::{Reading, let_go, read_out, reading_of};
 use yaml_round_device::yaml_settings_t;
+use yaml_round_reading::{Known, Reading, let_go, read_out, reading_of};
 use yaml_round_shape::{Shape, is_json};
 use yaml_scan::{yaml_encoding_t, yaml_fault_t};
 

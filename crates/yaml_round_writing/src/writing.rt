@@ -8,8 +8,8 @@ ghost use Rattle.yaml_emit.specs.Content.{emitter_event};
 ghost use Rattle.yaml_emit.specs.Emitter.{IsLimited};
 ghost use Rattle.yaml_emit.specs.Taking.{TakesEvents};
 ghost use Rattle.yaml_round_laws_documents.specs.content.Normalize.{normalize_body};
-ghost use Rattle.yaml_round_compare.specs.Reading.{AreReal};
-ghost use Rattle.yaml_round_writing.specs.Writing.{IsUnder, requested_under, encoding_under, Sees, WritesReading, WritesAll, FinishesText};
+ghost use Rattle.yaml_round_reading.specs.Reading.{AreReal};
+ghost use Rattle.yaml_round_writing.specs.Writing.{IsUnder, requested_under, encoding_under, Sees, Tells, WritesReading, WritesAll, FinishesText};
 
 use std::alloc::Global;
 use yaml_emit::{
@@ -19,9 +19,9 @@ use yaml_emit::{
     yaml_emitter_set_width, yaml_emitter_t,
 };
 use yaml_parse::{yaml_event_t, yaml_found_t};
-use yaml_round_compare::{Reading, normalize_event};
 use yaml_round_device::{yaml_output_encoding_t, yaml_settings_t};
 use yaml_round_kept::keep;
+use yaml_round_reading::{Reading, normalize_event};
 use yaml_round_shape::{Shape, seen_with};
 use yaml_scan::{yaml_encoding_t, yaml_fault_t, yaml_memory_fault, yaml_origin_t};
 
@@ -87,8 +87,36 @@ fn most_kept(watch: &Watch) -> usize {
     }
 }
 
+// Gives the event in the slot, and keeps what it says, up to so many bytes.
+// Out of line: it holds what each kind says, beside the short way.
+#[inline(never)]
+fn give_told(emitter: &mut yaml_emitter_t, watch: &mut Watch, event: &mut yaml_event_t, most: usize)
+    requires { HasUtf8 (event_of event.old).body }
+    ensures takes { TakesEvents emitter.old (emitter_event (event_of event.old).body ∷ [])
+        emitter.new [] }
+    ensures told { Tells watch.old (event_of event.old).body watch.new }
+{
+    keep(&mut watch.kept, event, most);
+    give(emitter, event);
+}
+
+// The same. Where nothing is kept, it is given alone.
+// Inlined: a test.
+#[inline(always)]
+fn give_kept(emitter: &mut yaml_emitter_t, watch: &mut Watch, event: &mut yaml_event_t, most: usize)
+    requires { HasUtf8 (event_of event.old).body }
+    ensures takes { TakesEvents emitter.old (emitter_event (event_of event.old).body ∷ [])
+        emitter.new [] }
+    ensures told { Tells watch.old (event_of event.old).body watch.new }
+{
+    match watch.kept {
+        None => give(emitter, event),
+        Some(_) => give_told(emitter, watch, event, most),
+    }
+}
+
 // Gives the event in the slot, sees what it tells of the shape, and keeps what it says.
-// Out of line: it holds what the shape and each kind say, beside the short way.
+// Out of line: it holds what the shape says, beside the short way.
 #[inline(never)]
 fn give_seen(emitter: &mut yaml_emitter_t, watch: &mut Watch, event: &mut yaml_event_t)
     requires { HasUtf8 (event_of event.old).body }
@@ -98,11 +126,10 @@ fn give_seen(emitter: &mut yaml_emitter_t, watch: &mut Watch, event: &mut yaml_e
 {
     watch.shape = seen_with(watch.shape, event);
     let most = most_kept(watch);
-    keep(&mut watch.kept, event, most);
-    give(emitter, event);
+    give_kept(emitter, watch, event, most);
 }
 
-// The same. Where nothing is kept and the shape is known, there is nothing to see.
+// The same. Where the shape is known, there is nothing to see.
 // Inlined: two tests an event.
 #[inline(always)]
 #[tactic(auto, unfolding(yaml_round_shape::specs::Seen::seen))]
@@ -112,12 +139,12 @@ fn give_on(emitter: &mut yaml_emitter_t, watch: &mut Watch, event: &mut yaml_eve
         emitter.new [] }
     ensures seen { Sees watch.old (event_of event.old).body watch.new }
 {
-    match watch.kept {
-        None => match watch.shape {
-            Shape::Other => give(emitter, event),
-            Shape::Json { .. } => give_seen(emitter, watch, event),
-        },
-        Some(_) => give_seen(emitter, watch, event),
+    match watch.shape {
+        Shape::Other => {
+            let most = watch.most_kept;
+            give_kept(emitter, watch, event, most);
+        }
+        Shape::Json { .. } => give_seen(emitter, watch, event),
     }
 }
 

@@ -1,6 +1,6 @@
 -- What is left compares as what there was.
 use Rattle.std.proofs.Common.{◌≡◌, ◌↔◌, length}
-use Rattle.yaml_round_compare.specs.Reading.{contents, AreReal}
+use Rattle.yaml_round_reading.specs.Reading.{contents, AreReal}
 use Rattle.yaml_round_compare.proofs.compare.same_events.Given as goal
 
 abbrev pub invariant-events : goal.invariant-events

@@ -1,6 +1,6 @@
 -- The lines of the events that were given stand there, and those of the others follow.
 use Rattle.std.proofs.Common.{◌≡◌, ◌++◌, length}
-use Rattle.yaml_round_compare.specs.Reading.{AreReal}
+use Rattle.yaml_round_reading.specs.Reading.{AreReal}
 use Rattle.yaml_round_writing.specs.Lines.{event_lines}
 use Rattle.yaml_round_writing.proofs.lines.push_lines.Given as goal
 

@@ -2,7 +2,7 @@
 use Rattle.std.proofs.Common.{◌∙◌, sym, subst, ℕ, List, [], Some}
 use Rattle.yaml_parse.specs.Events.{text_of}
 use Rattle.yaml_round_laws_documents.specs.content.Input.{events_of}
-use Rattle.yaml_round_writing.specs.Kept.{KeptOn}
+use Rattle.yaml_round_reading.specs.Kept.{KeptOn}
 use Rattle.yaml_round_writing.proofs.Staying.{known_back}
 use Rattle.yaml_round_writing.proofs.text.in_pretty_form.Goals as goal
 

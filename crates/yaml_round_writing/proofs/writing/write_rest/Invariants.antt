@@ -1,6 +1,6 @@
 -- What was given is a front, and what is left is to come.
 use Rattle.std.proofs.Common.{◌≡◌, length}
-use Rattle.yaml_round_compare.specs.Reading.{AreReal}
+use Rattle.yaml_round_reading.specs.Reading.{AreReal}
 use Rattle.yaml_round_writing.specs.Writing.{LeadsWatched}
 use Rattle.yaml_round_writing.proofs.writing.write_rest.Given as goal
 

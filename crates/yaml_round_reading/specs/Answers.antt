@@ -6,8 +6,8 @@ use Rattle.yaml_scan.specs.declared.yaml_fault_t.{yaml_fault_t}
 use Rattle.yaml_scan.specs.Faults.{Fault, fault_of, IsMemoryFault, parse_layers}
 use Rattle.yaml_round_laws_reading.specs.round_content.Said.{Document}
 use Rattle.yaml_round_laws_reading.specs.Reading.{PlainReading}
-use Rattle.yaml_round_compare.specs.declared.side.yaml_side_t.{yaml_side_t}
-use Rattle.yaml_round_compare.specs.declared.side.yaml_side_t.TheVariants.{First, Second}
+use Rattle.yaml_round_reading.specs.declared.side.yaml_side_t.{yaml_side_t}
+use Rattle.yaml_round_reading.specs.declared.side.yaml_side_t.TheVariants.{First, Second}
 
 -- ---- one input
 

@@ -5,24 +5,17 @@ ghost use Rattle.yaml_scan.specs.Faults.{Answers, parse_layers};
 ghost use Rattle.yaml_parse.specs.Events.{event_of};
 ghost use Rattle.yaml_round_kept.specs.Kept.{Leaves};
 ghost use Rattle.yaml_round_kept.specs.Spelled.{spelled};
-ghost use Rattle.yaml_round_laws_documents.specs.content.Normalize.{normalize_body};
-ghost use Rattle.yaml_round_compare.specs.Reading.{AreReal};
-ghost use Rattle.yaml_round_compare.specs.Answers.{IsRight, IsReadBack};
-ghost use Rattle.yaml_round_writing.specs.Kept.{KeepsAll, TellsKept, SaysKept};
-ghost use Rattle.yaml_round_writing.specs.Answers.{KnownHolds};
+ghost use Rattle.yaml_round_laws_reading.specs.round_content.Normalize.{normalize_body};
+ghost use Rattle.yaml_round_reading.specs.Reading.{AreReal};
+ghost use Rattle.yaml_round_reading.specs.Answers.{IsRight, IsReadBack};
+ghost use Rattle.yaml_round_reading.specs.Kept.{KeepsAll, TellsKept, SaysKept, KnownHolds};
 
+use crate::compare::{reads_back, starved_in};
 use std::alloc::Global;
 use yaml_parse::{yaml_event_t, yaml_found_t};
-use yaml_round_compare::{Reading, let_go, normalize_event, reading_of, reads_back, starved_in};
 use yaml_round_kept::after_event;
+use yaml_round_reading::{Known, Reading, let_go, normalize_event, reading_of};
 use yaml_scan::{yaml_encoding_t, yaml_error_type_t, yaml_fault_t};
-
-/// What is known of a text that was written: whether it reads back, and what the input says, where that was kept.
-#[derive(Drop)]
-pub struct Known {
-    pub back: bool,
-    pub kept: Option<Vec<u8>>,
-}
 
 // What is left of the kept content behind a normalized event of the text.
 fn left_behind<'a>(left: &'a [u8], event: &mut yaml_event_t) -> Option<&'a [u8]>

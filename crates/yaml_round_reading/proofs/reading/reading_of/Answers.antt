@@ -5,10 +5,10 @@ use Rattle.yaml_scan.specs.Remaining as scan
 use Rattle.yaml_parse.specs.Resolve.{Reading, no_directives}
 use Rattle.yaml_parse.specs.Machine.{initial}
 use Rattle.yaml_parse.proofs.Sentences.{as_run}
-use Rattle.yaml_round_compare.specs.Reading.{AreReal}
+use Rattle.yaml_round_reading.specs.Reading.{AreReal}
 use Rattle.yaml_round_laws_reading.specs.round_content.Input.{tokens_of, parsed, read}
-use Rattle.yaml_round_compare.proofs.Real.{read_real}
-use Rattle.yaml_round_compare.proofs.reading.reading_of.Goals as goal
+use Rattle.yaml_round_reading.proofs.Real.{read_real}
+use Rattle.yaml_round_reading.proofs.reading.reading_of.Goals as goal
 
 is_read : (from : yaml_encoding_t) (input : List ℕ) (c : scan.Remaining) → c ≡ tokens_of from input → parsed c ≡ read from input
 unfolding read

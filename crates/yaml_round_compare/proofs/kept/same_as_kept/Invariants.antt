@@ -1,8 +1,8 @@
 -- What is left compares as what there was.
 use Rattle.std.proofs.Common.{◌≡◌, ◌↔◌, length}
-use Rattle.yaml_round_compare.specs.Reading.{AreReal}
-use Rattle.yaml_round_writing.specs.Kept.{told_bytes}
-use Rattle.yaml_round_writing.proofs.kept.same_as_kept.Given as goal
+use Rattle.yaml_round_reading.specs.Reading.{AreReal}
+use Rattle.yaml_round_reading.specs.Kept.{told_bytes}
+use Rattle.yaml_round_compare.proofs.kept.same_as_kept.Given as goal
 
 abbrev pub invariant-events : goal.invariant-events
 invariant-events l = record {

@@ -1,5 +1,5 @@
-use Rattle.yaml_round_writing.proofs.Keeping.{read_kept}
-use Rattle.yaml_round_writing.proofs.kept.reads_as_kept.Goals as goal
+use Rattle.yaml_round_compare.proofs.KeptContents.{read_kept}
+use Rattle.yaml_round_compare.proofs.kept.reads_as_kept.Goals as goal
 
 pub returns : goal.returns
 returns c = λ from input i k.

@@ -1,7 +1,7 @@
 -- The fault that ends the reading stays to come.
 use Rattle.std.proofs.Common.{◌≡◌, length}
-use Rattle.yaml_round_compare.specs.Reading.{AreReal}
-use Rattle.yaml_round_compare.proofs.reading.read_out.Given as goal
+use Rattle.yaml_round_reading.specs.Reading.{AreReal}
+use Rattle.yaml_round_reading.proofs.reading.read_out.Given as goal
 
 abbrev pub invariant-events : goal.invariant-events
 invariant-events l = record {

@@ -3,13 +3,14 @@
 ghost use Rattle.std.specs.Prelude.{◌≡◌, true, IfOk, IfErr};
 ghost use Rattle.yaml_scan.specs.Faults.{fault_of, memory_fault};
 ghost use Rattle.yaml_parse.specs.Events.{event_of};
+ghost use Rattle.yaml_parse.specs.NextLoad.{AreLoadsByContent, LoadIsNext, RefusalIsNext};
 ghost use Rattle.yaml_round_laws_reading.specs.round_content.Input.{Reads};
-ghost use Rattle.yaml_round_compare.specs.Reading.{AreReal, FindsNextEvent, EndsWith};
+ghost use Rattle.yaml_round_reading.specs.Reading.{AreReal, FindsNextEvent, EndsWith};
 
 use std::alloc::Global;
 use yaml_parse::{
-    yaml_event_body_t, yaml_event_t, yaml_found_t, yaml_parser_delete, yaml_parser_initialize,
-    yaml_parser_parse_into, yaml_parser_t,
+    yaml_document_t, yaml_event_body_t, yaml_event_t, yaml_found_t, yaml_parser_delete,
+    yaml_parser_initialize, yaml_parser_load, yaml_parser_parse_into, yaml_parser_t,
 };
 use yaml_round_adapter::yaml_adapter_t;
 use yaml_scan::{yaml_encoding_t, yaml_fault_t, yaml_memory_fault, yaml_origin_t};
@@ -51,6 +52,19 @@ impl Reading<'_> {
             self.new.parser }
     {
         yaml_parser_parse_into(&mut self.parser, &mut self.event, &mut self.fault)
+    }
+
+    /// The next document; behind the last one a document without root. It is a call, so that no proof above writes out the drops
+    /// of all that a parser holds.
+    pub fn load(&mut self) -> Result<yaml_document_t, yaml_fault_t>
+        requires { self.old.parser.between ≡ true }
+        ensures by_content { AreLoadsByContent self.old.parser }
+        ensures next { IfOk result (λ d. LoadIsNext self.old.parser d self.new.parser) }
+        ensures refused { IfErr result (λ f. RefusalIsNext self.old.parser (fault_of f)
+            self.new.parser) }
+        ensures between { self.new.parser.between ≡ true }
+    {
+        yaml_parser_load(&mut self.parser)
     }
 }
 

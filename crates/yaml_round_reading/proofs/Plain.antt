@@ -5,14 +5,14 @@ use Rattle.yaml_scan.specs.declared.yaml_fault_t.{yaml_fault_t}
 use Rattle.yaml_scan.specs.Faults.{Fault, fault_of, IsMemoryFault, parse_layers}
 use Rattle.yaml_parse.specs.Remaining.{ParserRemaining}
 use Rattle.yaml_parse.specs.Resolve.{Told}
-use Rattle.yaml_round_compare.specs.Reading.{contents, IsFaultOf}
+use Rattle.yaml_round_reading.specs.Reading.{contents, IsFaultOf}
 use Rattle.yaml_round_laws_reading.specs.round_content.Input.{Reads, events_of, ending_of}
 use Rattle.yaml_round_laws_reading.specs.round_content.Said.{HasContent}
 use Rattle.yaml_round_laws_reading.specs.TreeContent.{tree_content}
 use Rattle.yaml_round_laws_reading.specs.Reading.{PlainReading, HasEvents}
 use Rattle.yaml_round_laws_reading.proofs.Joining.{refused_read, read_refused, said_read, read_said, events_of_tree}
 use Rattle.yaml_round_laws_reading.proofs.round_content.Inputs.{have_content}
-use Rattle.yaml_round_compare.specs.Answers.{IsRight, IsFaulty, SameContent}
+use Rattle.yaml_round_reading.specs.Answers.{IsRight, IsFaulty, SameContent}
 
 -- ---- one input
 

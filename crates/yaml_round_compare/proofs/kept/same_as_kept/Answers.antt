@@ -1,8 +1,8 @@
 -- The next event stands behind the kept bytes, and what is left compares as before.
 use Rattle.std.proofs.Common.{◌∙◌}
 use Rattle.yaml_parse.specs.Events.{event_of}
-use Rattle.yaml_round_writing.proofs.Keeping.{left_alike}
-use Rattle.yaml_round_writing.proofs.kept.same_as_kept.Goals as goal
+use Rattle.yaml_round_compare.proofs.KeptContents.{left_alike}
+use Rattle.yaml_round_compare.proofs.kept.same_as_kept.Goals as goal
 
 pub events-preserved : goal.events-preserved
 events-preserved c =

@@ -6,11 +6,14 @@ use Rattle.yaml_scan.specs.declared.yaml_fault_t.{yaml_fault_t}
 use Rattle.yaml_scan.specs.Faults.{fault_of, IsMemoryFault, parse_layers}
 use Rattle.yaml_parse.specs.Resolve.{Told}
 use Rattle.yaml_parse.specs.Remaining.{ParserRemaining}
+use Rattle.yaml_parse.specs.Events.{text_of}
 use Rattle.yaml_round_kept.specs.Spelled.{spelled}
 use Rattle.yaml_round_kept.specs.Kept.{is_told}
-use Rattle.yaml_round_laws_documents.specs.content.Normalize.{normalize_body}
-use Rattle.yaml_round_laws_documents.specs.content.Input.{events_of}
-use Rattle.yaml_round_compare.specs.Reading.{IsFaultOf}
+use Rattle.yaml_round_laws_reading.specs.round_content.Normalize.{normalize_body}
+use Rattle.yaml_round_laws_reading.specs.round_content.Input.{events_of}
+use Rattle.yaml_round_reading.specs.declared.known.Known.{Known}
+use Rattle.yaml_round_reading.specs.Reading.{IsFaultOf}
+use Rattle.yaml_round_reading.specs.Answers.{ReadsBack}
 
 -- ---- events
 
@@ -52,3 +55,10 @@ abbrev pub SaysKept : List ℕ → ParserRemaining → Result Bool yaml_fault_t 
 SaysKept kept reading (Ok true) = SaysAll kept reading
 SaysKept kept reading (Ok false) = SaysAll kept reading → ⊥
 SaysKept kept reading (Err f) = IsMemoryFault parse_layers (fault_of f)
+
+-- ---- a text that was written
+
+-- What is known is so: the text reads back; what is kept is what the input says.
+pub record KnownHolds (from : yaml_encoding_t) (input text : List ℕ) (known : Known) : Type 0 where
+  pub back : known.back ≡ true → ReadsBack from input text
+  pub kept : KeepsAll from input (text_of known.kept)

@@ -1,5 +1,5 @@
 -- What is kept of an event tells what it says, and where it ends.
-use Rattle.std.proofs.Common.{◌≡◌, ◌∙◌, ◌<◌, ◌+◌, ◌*◌, ◌/◌, ◌%◌, ◌==◌, ap, sym, refl, ℕ, Bool, true, false, not, nat_lt, if◌then◌else◌, List, [], ◌∷◌, ◌++◌, length, take, drop, Option, Some, None, arith}
+use Rattle.std.proofs.Common.{◌≡◌, ◌∙◌, ◌+◌, ◌*◌, ◌/◌, ◌%◌, ◌==◌, ap, sym, refl, ℕ, Bool, true, false, not, nat_lt, if◌then◌else◌, List, [], ◌∷◌, ◌++◌, length, take, drop, Option, Some, None, arith}
 use Rattle.std.proofs.lemmas.List.{append_assoc, take_at, drop_at}
 use Rattle.yaml_scan.specs.declared.yaml_encoding_t.TheVariants.{YAML_ANY_ENCODING}
 use Rattle.yaml_scan.specs.declared.yaml_scalar_style_t.TheVariants.{YAML_ANY_SCALAR_STYLE}
@@ -10,7 +10,7 @@ use Rattle.yaml_parse.specs.Events.{EventBody, TagDirective}
 use Rattle.yaml_parse.specs.Events as event
 use Rattle.yaml_round_kept.specs.Spelled.{long_bytes, length_bytes, text_bytes, given_bytes, start_bytes, document_head, scalar_head, sequence_head, mapping_head, spelled}
 use Rattle.yaml_round_kept.specs.Kept.{has_none, is_told}
-use Rattle.yaml_round_laws_documents.specs.content.Content.{content_of, counts_as_plain}
+use Rattle.yaml_round_laws_reading.specs.round_content.Content.{content_of, counts_as_plain}
 
 -- ---- texts
 

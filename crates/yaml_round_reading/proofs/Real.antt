@@ -22,7 +22,7 @@ use Rattle.yaml_parse.specs.parse_grammar.States as state
 use Rattle.yaml_parse.specs.Trees.{Given}
 use Rattle.yaml_parse.specs.Machine.{choice_at, taken_at, documents_taken, content_taken, node_taken, with_properties_taken, items_taken, more_taken, stream_taken, entries_taken, pairs_taken, left_at, Fed, stop, go, with_item, given_by, turn, feed, Outcome, finished, carry, run}
 use Rattle.yaml_parse.specs.Resolve.{Directives, Settled, refused, gave, noted, settle, settle_body, reading, read_on, with_resolved, with_version, with_tag, is_known_version, resolved, directive_for, scalar_event, node_event}
-use Rattle.yaml_round_compare.specs.Reading.{AreReal, is_empty}
+use Rattle.yaml_round_reading.specs.Reading.{AreReal, is_empty}
 
 -- the item is no empty event
 abbrev Speaks : RawEventBody → Type 0

@@ -1,0 +1,4 @@
+pub mod Plain
+pub mod Keeping
+mod Normalizing
+mod Real

@@ -1,0 +1,3 @@
+pub mod Reading
+pub mod Answers
+pub mod Kept

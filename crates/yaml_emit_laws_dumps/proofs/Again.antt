@@ -12,7 +12,7 @@ use Rattle.yaml_emit_graph.specs.Graph.{Met, is_met, meet, pair_ids, is_collecti
 use Rattle.yaml_emit_graph.specs.Onward.{Rest, over, inside, visits, nothing_left, turns_onward}
 use Rattle.yaml_emit_graph.proofs.Joining.{turns_joined}
 use Rattle.yaml_emit_laws_dumps.specs.Dumps.{AgainsAre, MeetsAgain, met_so}
-use Rattle.yaml_emit_laws_dumps.specs.Laws.{AgainsAreTurns}
+use Rattle.yaml_emit_laws_dumps.specs.DumpsLaws.{AgainsAreTurns}
 use Rattle.yaml_emit_laws_dumps.proofs.Marks.{met_old, met_new, meets, none_yet}
 
 -- ---- how many nodes are visited

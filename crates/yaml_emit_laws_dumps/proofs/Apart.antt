@@ -8,7 +8,7 @@ use Rattle.yaml_emit_graph.specs.declared.walk.Turn.TheVariants.{First, Again, L
 use Rattle.yaml_emit_graph.specs.Graph.{place_at, Numbering, next_number, again_at, numbered_by, numbered, none_numbered}
 use Rattle.yaml_emit_graph.specs.Numbers.{counted}
 use Rattle.yaml_emit_laws_dumps.specs.Dumps.{AreApart, MeetsAgain}
-use Rattle.yaml_emit_laws_dumps.specs.Laws.{NumbersAreApart, MetAgainAreNumbered}
+use Rattle.yaml_emit_laws_dumps.specs.DumpsLaws.{NumbersAreApart, MetAgainAreNumbered}
 
 -- ---- a list with one number set
 

@@ -23,7 +23,7 @@ use Rattle.yaml_emit_layout.specs.Content.{is_flow_sequence, is_flow_mapping}
 use Rattle.yaml_emit_graph.specs.Graph.{Met, is_met, meet, number_at, name_of, anchor_of, body_at, tag_at, graph_scalar, graph_start}
 use Rattle.yaml_emit_graph.specs.Onward.{node_by, items_by, content_by}
 use Rattle.yaml_emit_laws_dumps.specs.Dumps.{core_body, core_node, nowhere, head_of, as_content, as_contents, as_pairs, met_so, before_at, AgainsAre, IsNumbered, HasKind, AreLoadedNodes, NumbersBack}
-use Rattle.yaml_emit_laws_dumps.specs.Laws.{NamesAreFound, VisitsNumberBack}
+use Rattle.yaml_emit_laws_dumps.specs.DumpsLaws.{NamesAreFound, VisitsNumberBack}
 use Rattle.yaml_emit_laws_dumps.proofs.Marks.{met_old, met_new, meets}
 use Rattle.yaml_emit_laws_dumps.proofs.Pairing.{paired, pairs_written, paired_numbers}
 

@@ -9,7 +9,7 @@ use Rattle.std.proofs.lemmas.Fmt.{decimal_is_IsNumeral}
 use Rattle.yaml_parse_loader.specs.Numbering.{Anchored, is_same, last_with, and_node}
 use Rattle.yaml_emit_graph.specs.Graph.{name_of, anchor_of, number_at}
 use Rattle.yaml_emit_laws_dumps.specs.Dumps.{IsNumbered, before_at}
-use Rattle.yaml_emit_laws_dumps.specs.Laws.{NamesAreApart}
+use Rattle.yaml_emit_laws_dumps.specs.DumpsLaws.{NamesAreApart}
 
 -- ---- names
 

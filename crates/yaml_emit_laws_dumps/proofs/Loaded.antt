@@ -8,7 +8,7 @@ use Rattle.yaml_parse_document.specs.Documents.{Document, str_tag, seq_tag, map_
 use Rattle.yaml_parse_loader.specs.Numbering.{Content, Contents, Pairs, alias, scalar, sequence, mapping, no_items, item, no_pairs, pair, ◌>>=◌, Anchored, Numbered, and_node, last_with, alias_number, number, number_items, number_pairs, is_bang, loaded_tag, DocumentContent, document_of}
 use Rattle.yaml_parse_loader.specs.Order.{IsInPreorder}
 use Rattle.yaml_emit_laws_dumps.specs.Dumps.{IsLoadedNode, AreLoadedNodes, IsLoadedDocument}
-use Rattle.yaml_emit_laws_dumps.specs.Laws.{DocumentsAreLoaded}
+use Rattle.yaml_emit_laws_dumps.specs.DumpsLaws.{DocumentsAreLoaded}
 
 -- what is true of a result, if there is one
 abbrev Good : {A : Type 0} → Result A Fault → (A → Type 0) → Type 0

@@ -13,7 +13,7 @@ use Rattle.yaml_emit_graph.specs.Graph.{Met, Numbering, numbered, none_numbered,
 use Rattle.yaml_emit_graph.specs.Onward.{items_by, content_by, itself, root_onward}
 use Rattle.yaml_emit_graph.proofs.Joining.{root_joined}
 use Rattle.yaml_emit_laws_dumps.specs.Dumps.{core_node, core_document, as_content, as_contents, as_document, AgainsAre, MeetsAgain, IsNumbered, AreAsMany, before_at, met_so, NumbersBack}
-use Rattle.yaml_emit_laws_dumps.specs.Laws.{NumbersAreApart, MetAgainAreNumbered, AgainsAreTurns, VisitsNumberBack, NumbersAreFound, DumpsNumberBack, DumpsLoadBack}
+use Rattle.yaml_emit_laws_dumps.specs.DumpsLaws.{NumbersAreApart, MetAgainAreNumbered, AgainsAreTurns, VisitsNumberBack, NumbersAreFound, DumpsNumberBack, DumpsLoadBack}
 use Rattle.yaml_emit_laws_dumps.proofs.Apart.{given_most}
 use Rattle.yaml_emit_laws_dumps.proofs.Finding.{found}
 use Rattle.yaml_emit_laws_dumps.proofs.Marks.{none_yet}

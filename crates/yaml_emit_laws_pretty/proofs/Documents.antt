@@ -3,59 +3,59 @@ use Rattle.std.proofs.Common.{◌≡◌, ℕ, suc, ◌+◌, ◌<◌, ◌==◌, �
 use Rattle.std.specs.Prelude.{if◌then◌else◌}
 use Rattle.std.specs.List.{list_all}
 use Rattle.std.proofs.lemmas.Bool.{cases_Bool}
-use Rattle.yaml_scan_laws_keys.specs.scan_history.scan_model.Marks.{byte, column_at, is_blank_or_end}
-use Rattle.yaml_scan_laws_keys.specs.scan_history.scan_model.Breaks.{is_document_indicator}
-use Rattle.yaml_scan_laws_keys.specs.scan_history.scan_model.Tokens.{Token}
-use Rattle.yaml_scan_laws_keys.specs.scan_history.scan_words.Between.{Gap}
-use Rattle.yaml_scan_laws_keys.specs.scan_history.scan_words.Written.{are_gap, begins_lexeme}
-use Rattle.yaml_scan_laws_keys.specs.scan_history.scan_words.Laws.{GapReads}
-use Rattle.yaml_scan_laws_keys.specs.scan_history.declared.kind.Kind.{Kind}
-use Rattle.yaml_scan_laws_keys.specs.scan_history.declared.kind.Kind.TheVariants as kinds
-use Rattle.yaml_scan_laws_keys.specs.scan_history.Kinds.{is_end}
-use Rattle.yaml_scan_laws_keys.specs.scan_history.History.{reached, depth, key_allowed}
-use Rattle.yaml_scan_laws_keys.specs.scan_history.Words.{WordText, kind_at, word_at}
-use Rattle.yaml_scan_laws_keys.specs.scan_history.Remaining.{SpelledText}
-use Rattle.yaml_scan_laws_keys.specs.Texts.{Word, lexemes, Stand, word_kinds, token_of, first_token, ReachEnd}
-use Rattle.yaml_scan_laws_keys.specs.Brackets.{Last, last_after, lasts, takes_key, fits_keyed, is_keyed}
-use Rattle.yaml_scan_laws_keys.specs.KeyedLaws.{AreNear, word_tokens, keyed_tokens}
-use Rattle.yaml_scan_laws_keys.proofs.Words.{words_keyed}
-use Rattle.yaml_emit_laws_json.proofs.scan_laws_plain.scan_history.scan_words.GapsRead.{gap_is_read}
-use Rattle.yaml_emit_laws_json.specs.emit_layout.scan.declared.yaml_encoding_t.{yaml_encoding_t}
-use Rattle.yaml_emit_laws_json.specs.emit_layout.scan.Tokens as tokens
-use Rattle.yaml_emit_laws_json.specs.emit_layout.scan.Tokens.{TokenBody}
-use Rattle.yaml_emit_laws_json.specs.emit_layout.emit_text.declared.Cursor.{Cursor}
-use Rattle.yaml_emit_laws_json.specs.emit_layout.emit_text.declared.Settings.{Settings}
-use Rattle.yaml_emit_laws_json.specs.emit_layout.emit_text.declared.LineBreak.{LineBreak}
-use Rattle.yaml_emit_laws_json.specs.emit_layout.emit_text.declared.LineBreak.TheVariants.{Lf, Cr, CrLf}
-use Rattle.yaml_emit_laws_json.specs.emit_layout.emit_text.Text.{Item}
-use Rattle.yaml_emit_laws_json.specs.emit_layout.scan.declared.yaml_scalar_style_t.{yaml_scalar_style_t}
-use Rattle.yaml_emit_laws_json.specs.emit_layout.scan.declared.yaml_scalar_style_t.TheVariants.{YAML_PLAIN_SCALAR_STYLE}
-use Rattle.yaml_emit_laws_json.specs.emit_layout.scan.declared.yaml_version_directive_t.{yaml_version_directive_t}
-use Rattle.yaml_emit_laws_json.specs.emit_layout.parse.Events.{TagDirective}
-use Rattle.yaml_emit_laws_json.specs.scan_laws_plain.Values.{is_plain_value}
-use Rattle.yaml_emit_laws_json.specs.scan_laws_plain.Laws.{ends_plain}
-use Rattle.yaml_emit_laws_json.proofs.scan_laws_plain.PlainRead.{value_ends}
-use Rattle.yaml_emit_laws_json.specs.emit_layout.emit_text.Layout.{Layout, Rest, ◌▹◌, keep, stay, when, letters, word, line, blanks, new_line, must_break, indent_to, after_text, start, nothing_more}
-use Rattle.yaml_emit_laws_json.specs.emit_layout.Content.{Scalar, Node, alias_node, scalar_node, sequence_node, mapping_node, Document, Opening}
-use Rattle.yaml_emit_laws_json.specs.emit_layout.Nodes.{MOST, checked, deeper, root_spot, context_of, node_layout, dots, dashes, directives_text, start_layout, end_layout, stop_layout, documents_layout}
+use Rattle.yaml_scan_laws_texts.specs.scan_history.scan_model.Marks.{byte, column_at, is_blank_or_end}
+use Rattle.yaml_scan_laws_texts.specs.scan_history.scan_model.Breaks.{is_document_indicator}
+use Rattle.yaml_scan_laws_texts.specs.scan_history.scan_model.Tokens.{Token}
+use Rattle.yaml_scan_laws_texts.specs.scan_history.scan_words.Between.{Gap}
+use Rattle.yaml_scan_laws_texts.specs.scan_history.scan_words.Written.{are_gap, begins_lexeme}
+use Rattle.yaml_scan_laws_texts.specs.scan_history.scan_words.Laws.{GapReads}
+use Rattle.yaml_scan_laws_texts.specs.scan_history.declared.kind.Kind.{Kind}
+use Rattle.yaml_scan_laws_texts.specs.scan_history.declared.kind.Kind.TheVariants as kinds
+use Rattle.yaml_scan_laws_texts.specs.scan_history.Kinds.{is_end}
+use Rattle.yaml_scan_laws_texts.specs.scan_history.History.{reached, depth, key_allowed}
+use Rattle.yaml_scan_laws_texts.specs.scan_history.Words.{WordText, kind_at, word_at}
+use Rattle.yaml_scan_laws_texts.specs.scan_history.Remaining.{SpelledText}
+use Rattle.yaml_scan_laws_texts.specs.KeysTexts.{Word, lexemes, Stand, word_kinds, token_of, first_token, ReachEnd}
+use Rattle.yaml_scan_laws_texts.specs.Brackets.{Last, last_after, lasts, takes_key, fits_keyed, is_keyed}
+use Rattle.yaml_scan_laws_texts.specs.KeyedLaws.{AreNear, word_tokens, keyed_tokens}
+use Rattle.yaml_scan_laws_texts.proofs.KeysWords.{words_keyed}
+use Rattle.yaml_emit_laws_pretty.proofs.scan_laws_plain.scan_history.scan_words.GapsRead.{gap_is_read}
+use Rattle.yaml_emit_laws_pretty.specs.emit_layout.scan.declared.yaml_encoding_t.{yaml_encoding_t}
+use Rattle.yaml_emit_laws_pretty.specs.emit_layout.scan.Tokens as tokens
+use Rattle.yaml_emit_laws_pretty.specs.emit_layout.scan.Tokens.{TokenBody}
+use Rattle.yaml_emit_laws_pretty.specs.emit_layout.emit_text.declared.Cursor.{Cursor}
+use Rattle.yaml_emit_laws_pretty.specs.emit_layout.emit_text.declared.Settings.{Settings}
+use Rattle.yaml_emit_laws_pretty.specs.emit_layout.emit_text.declared.LineBreak.{LineBreak}
+use Rattle.yaml_emit_laws_pretty.specs.emit_layout.emit_text.declared.LineBreak.TheVariants.{Lf, Cr, CrLf}
+use Rattle.yaml_emit_laws_pretty.specs.emit_layout.emit_text.Text.{Item}
+use Rattle.yaml_emit_laws_pretty.specs.emit_layout.scan.declared.yaml_scalar_style_t.{yaml_scalar_style_t}
+use Rattle.yaml_emit_laws_pretty.specs.emit_layout.scan.declared.yaml_scalar_style_t.TheVariants.{YAML_PLAIN_SCALAR_STYLE}
+use Rattle.yaml_emit_laws_pretty.specs.emit_layout.scan.declared.yaml_version_directive_t.{yaml_version_directive_t}
+use Rattle.yaml_emit_laws_pretty.specs.emit_layout.parse.Events.{TagDirective}
+use Rattle.yaml_emit_laws_pretty.specs.scan_laws_plain.Values.{is_plain_value}
+use Rattle.yaml_emit_laws_pretty.specs.scan_laws_plain.PlainLaws.{ends_plain}
+use Rattle.yaml_emit_laws_pretty.proofs.scan_laws_plain.PlainRead.{value_ends}
+use Rattle.yaml_emit_laws_pretty.specs.emit_layout.emit_text.Layout.{Layout, Rest, ◌▹◌, keep, stay, when, letters, word, line, blanks, new_line, must_break, indent_to, after_text, start, nothing_more}
+use Rattle.yaml_emit_laws_pretty.specs.emit_layout.Content.{Scalar, Node, alias_node, scalar_node, sequence_node, mapping_node, Document, Opening}
+use Rattle.yaml_emit_laws_pretty.specs.emit_layout.Nodes.{MOST, checked, deeper, root_spot, context_of, node_layout, dots, dashes, directives_text, start_layout, end_layout, stop_layout, documents_layout}
 use Rattle.yaml_emit_laws_text.specs.Walk.{Left, Stage, bytes}
 use Rattle.yaml_emit_laws_text.proofs.Forms.{at_line}
 use Rattle.yaml_emit_laws_text.proofs.Places.{has_at, left_first, left_more}
 use Rattle.yaml_emit_laws_text.proofs.Steps.{push_to, word_of}
 use Rattle.yaml_emit_laws_text.proofs.Documents.{Lined, line_lined, three, behind_three, line_blank, Thrice, thrice_dash, thrice_dot, end_zero, end_kind, end_word, end_begins}
-use Rattle.yaml_emit_laws_text.specs.Laws.{text_of_documents, IsReadAs}
+use Rattle.yaml_emit_laws_text.specs.TextLaws.{text_of_documents, IsReadAs}
 use Rattle.yaml_emit_laws_text.specs.Writable.{IsWritable}
 use Rattle.yaml_emit_laws_text.proofs.Documents.{has_all, first_stage}
 use Rattle.yaml_emit_laws_text.proofs.Steps.{gap_here, deep_bytes, letter_low, behind_feed, behind_return}
 use Rattle.yaml_emit_laws_text.proofs.Places.{has_front, left_rest}
 use Rattle.yaml_emit_laws_text.specs.Walk.{Has, Starts, first}
-use Rattle.yaml_emit_laws_json.specs.Json.{IsQuotedScalar, IsPlainScalar, IsJsonNode, IsJsonDocument}
-use Rattle.yaml_emit_laws_json.proofs.Layouts.{plain_laid_out}
-use Rattle.yaml_emit_laws_quoted.specs.Laws.{QuotedIsReadBack}
+use Rattle.yaml_emit_laws_pretty.specs.Json.{IsQuotedScalar, IsPlainScalar, IsJsonNode, IsJsonDocument}
+use Rattle.yaml_emit_laws_pretty.proofs.Layouts.{plain_laid_out}
+use Rattle.yaml_emit_laws_text.specs.QuotedLaws.{QuotedIsReadBack}
 use Rattle.yaml_emit_laws_pretty.specs.Keys.{QuotedKeysAreNear}
 use Rattle.yaml_emit_laws_pretty.specs.Walk.{put_key, keyed_bodies, WordsStand, WordsGoOn}
-use Rattle.yaml_emit_laws_json.specs.Bodies.{json_bodies, start_bodies, stop_bodies, document_bodies}
-use Rattle.yaml_emit_laws_pretty.specs.Laws.{JsonTextIsRead}
+use Rattle.yaml_emit_laws_pretty.specs.Bodies.{json_bodies, start_bodies, stop_bodies, document_bodies}
+use Rattle.yaml_emit_laws_pretty.specs.PrettyLaws.{JsonTextIsRead}
 use Rattle.yaml_emit_laws_pretty.proofs.Plain.{done, plain_said, plain_here, value_written, or_right, or_left}
 use Rattle.yaml_emit_laws_pretty.proofs.Nodes.{prettily, body_of, quoted_scalar, sequence_walks, mapping_walks, first_walk, first_pairs_walk, node_blanks}
 use Rattle.yaml_emit_laws_pretty.proofs.Steps.{restage, Pushed, push_word, word_bodies}

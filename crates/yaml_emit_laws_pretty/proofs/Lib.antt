@@ -1,3 +1,5 @@
+mod Values
+pub mod Layouts
 mod Lines
 pub mod Sizes
 mod Steps
@@ -6,5 +8,5 @@ mod Plain
 pub mod Nodes
 pub mod Documents
 pub mod Whole
--- what it stands on, for crates of laws that name this one alone
-pub use Rattle.yaml_emit_laws_json.proofs as emit_laws_json
+-- what it stands on, for crates that name this one alone
+pub use Rattle.yaml_scan_laws_texts.proofs as scan_laws_plain

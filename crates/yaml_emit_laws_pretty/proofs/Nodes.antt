@@ -4,35 +4,35 @@ use Rattle.std.specs.Prelude.{if◌then◌else◌, IsUtf8, Option, Some, None}
 use Rattle.std.specs.Str.{chars}
 use Rattle.std.proofs.lemmas.Bool.{cases_Bool}
 use Rattle.std.proofs.lemmas.Bool.Decides.{nat_tests}
-use Rattle.yaml_scan_laws_keys.specs.scan_history.scan_words.Laws.{GapReads}
-use Rattle.yaml_scan_laws_keys.specs.Brackets.{Last, Fresh, Asked, Other, node_after, quoted_after, plain_after, changed}
-use Rattle.yaml_emit_laws_json.proofs.scan_laws_plain.scan_history.scan_words.GapsRead.{gap_is_read}
-use Rattle.yaml_emit_laws_json.specs.emit_layout.scan.declared.yaml_scalar_style_t.{yaml_scalar_style_t}
-use Rattle.yaml_emit_laws_json.specs.emit_layout.scan.declared.yaml_scalar_style_t.TheVariants.{YAML_PLAIN_SCALAR_STYLE, YAML_DOUBLE_QUOTED_SCALAR_STYLE}
-use Rattle.yaml_emit_laws_json.specs.emit_layout.scan.Tokens as tokens
-use Rattle.yaml_emit_laws_json.specs.emit_layout.scan.Tokens.{TokenBody}
-use Rattle.yaml_emit_laws_json.specs.emit_layout.parse.Events.{TagDirective}
-use Rattle.yaml_emit_laws_json.specs.emit_layout.emit_text.declared.Cursor.{Cursor}
-use Rattle.yaml_emit_laws_json.specs.emit_layout.emit_text.declared.Settings.{Settings}
-use Rattle.yaml_emit_laws_json.specs.emit_layout.emit_text.Layout.{Layout, Rest, ◌▹◌, gap, blank, char, letters, word, when, opener, wrap, after_text}
-use Rattle.yaml_emit_laws_json.specs.emit_layout.emit_text.Text.{letter}
-use Rattle.yaml_emit_laws_json.specs.emit_layout.emit_text.Quoted.{double_quoted}
-use Rattle.yaml_emit_laws_quoted.specs.ReadBack.{between_quotes}
-use Rattle.yaml_emit_laws_json.specs.emit_layout.declared.level.Spot.{Spot}
-use Rattle.yaml_emit_laws_json.specs.emit_layout.declared.level.Part.TheVariants as part
-use Rattle.yaml_emit_laws_json.specs.emit_layout.Content.{Scalar, Start, Node, alias_node, scalar_node, sequence_node, mapping_node, Nodes, no_nodes, node, Pairs, no_pairs, pair}
-use Rattle.yaml_emit_laws_json.specs.emit_layout.Grammar.{scalar_tag}
-use Rattle.yaml_emit_laws_json.specs.emit_layout.Nodes.{Context, context_of, spot, key_part, deeper, checked, MOST, page_at, scalar_layout, properties_size, has_break, is_simple, is_simple_scalar, turned, before_item, before_key, before_value, closer, node_layout, items_layout, pairs_layout}
-use Rattle.yaml_emit_laws_json.specs.Json.{IsQuotedScalar, IsPlainScalar, IsJsonScalar, IsJsonStart, IsJsonKey, IsJsonNode, AreJsonNodes, AreJsonPairs}
-use Rattle.yaml_emit_laws_json.proofs.Layouts.{quoted_laid_out, plain_laid_out, collections_flow}
-use Rattle.yaml_emit_laws_quoted.specs.Laws.{QuotedIsReadBack}
+use Rattle.yaml_scan_laws_texts.specs.scan_history.scan_words.Laws.{GapReads}
+use Rattle.yaml_scan_laws_texts.specs.Brackets.{Last, Fresh, Asked, Other, node_after, quoted_after, plain_after, changed}
+use Rattle.yaml_emit_laws_pretty.proofs.scan_laws_plain.scan_history.scan_words.GapsRead.{gap_is_read}
+use Rattle.yaml_emit_laws_pretty.specs.emit_layout.scan.declared.yaml_scalar_style_t.{yaml_scalar_style_t}
+use Rattle.yaml_emit_laws_pretty.specs.emit_layout.scan.declared.yaml_scalar_style_t.TheVariants.{YAML_PLAIN_SCALAR_STYLE, YAML_DOUBLE_QUOTED_SCALAR_STYLE}
+use Rattle.yaml_emit_laws_pretty.specs.emit_layout.scan.Tokens as tokens
+use Rattle.yaml_emit_laws_pretty.specs.emit_layout.scan.Tokens.{TokenBody}
+use Rattle.yaml_emit_laws_pretty.specs.emit_layout.parse.Events.{TagDirective}
+use Rattle.yaml_emit_laws_pretty.specs.emit_layout.emit_text.declared.Cursor.{Cursor}
+use Rattle.yaml_emit_laws_pretty.specs.emit_layout.emit_text.declared.Settings.{Settings}
+use Rattle.yaml_emit_laws_pretty.specs.emit_layout.emit_text.Layout.{Layout, Rest, ◌▹◌, gap, blank, char, letters, word, when, opener, wrap, after_text}
+use Rattle.yaml_emit_laws_pretty.specs.emit_layout.emit_text.Text.{letter}
+use Rattle.yaml_emit_laws_pretty.specs.emit_layout.emit_text.Quoted.{double_quoted}
+use Rattle.yaml_emit_laws_text.specs.ReadBack.{between_quotes}
+use Rattle.yaml_emit_laws_pretty.specs.emit_layout.declared.level.Spot.{Spot}
+use Rattle.yaml_emit_laws_pretty.specs.emit_layout.declared.level.Part.TheVariants as part
+use Rattle.yaml_emit_laws_pretty.specs.emit_layout.Content.{Scalar, Start, Node, alias_node, scalar_node, sequence_node, mapping_node, Nodes, no_nodes, node, Pairs, no_pairs, pair}
+use Rattle.yaml_emit_laws_pretty.specs.emit_layout.Grammar.{scalar_tag}
+use Rattle.yaml_emit_laws_pretty.specs.emit_layout.Nodes.{Context, context_of, spot, key_part, deeper, checked, MOST, page_at, scalar_layout, properties_size, has_break, is_simple, is_simple_scalar, turned, before_item, before_key, before_value, closer, node_layout, items_layout, pairs_layout}
+use Rattle.yaml_emit_laws_pretty.specs.Json.{IsQuotedScalar, IsPlainScalar, IsJsonScalar, IsJsonStart, IsJsonKey, IsJsonNode, AreJsonNodes, AreJsonPairs}
+use Rattle.yaml_emit_laws_pretty.proofs.Layouts.{quoted_laid_out, plain_laid_out, collections_flow}
+use Rattle.yaml_emit_laws_text.specs.QuotedLaws.{QuotedIsReadBack}
 use Rattle.yaml_emit_laws_pretty.specs.Keys.{QuotedKeysAreNear}
 use Rattle.yaml_emit_laws_text.specs.Walk.{bytes, first}
 use Rattle.yaml_emit_laws_text.specs.Writable.{IsWritable, AreItemsWritable, ArePairsWritable}
 use Rattle.yaml_emit_laws_text.proofs.Steps.{letter_low, deep_bytes}
 use Rattle.yaml_emit_laws_pretty.specs.Walk.{WalksTo, WalksIn, closes, Closes}
-use Rattle.yaml_emit_laws_json.specs.Bodies.{json_bodies, json_items, json_pairs}
-use Rattle.yaml_emit_laws_pretty.specs.Laws.{JsonNodesAreWords}
+use Rattle.yaml_emit_laws_pretty.specs.Bodies.{json_bodies, json_items, json_pairs}
+use Rattle.yaml_emit_laws_pretty.specs.PrettyLaws.{JsonNodesAreWords}
 use Rattle.yaml_emit_laws_pretty.proofs.Steps.{walks_wrap, walks_checked, both, in_both, to_in}
 use Rattle.yaml_emit_laws_pretty.proofs.Words.{sequence_opens, mapping_opens, sequence_closes, mapping_closes, comma_walks, question_walks, colon_walks, quoted_walks, quoted_key_walks}
 use Rattle.yaml_emit_laws_pretty.proofs.Plain.{Blanks, plain_walks, plain_key_walks, plain_long_walks}

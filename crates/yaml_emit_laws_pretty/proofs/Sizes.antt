@@ -5,21 +5,21 @@ use Rattle.std.proofs.lemmas.List.{length-append}
 use Rattle.std.proofs.lemmas.Str.{scalars-chars, encodes-append, encodes-chars}
 use Rattle.std.specs.Str.{all_scalars, chars}
 use lib.Utf8.{scalar}
-use Rattle.yaml_emit_laws_json.proofs.scan_laws_plain.scan_history.scan_words.HasLemmas.{has}
-use Rattle.yaml_emit_laws_json.proofs.scan_laws_plain.Near.{near_by}
-use Rattle.yaml_emit_laws_quoted.specs.emit_text.declared.Cursor.{Cursor}
-use Rattle.yaml_emit_laws_quoted.specs.emit_text.Text.{letter, is_break}
-use Rattle.yaml_emit_laws_quoted.specs.emit_text.Layout.{Layout, Rest, ◌▹◌, char, letters, nothing_more}
-use Rattle.yaml_emit_laws_quoted.specs.emit_text.declared.Page.{Page}
-use Rattle.yaml_emit_laws_quoted.specs.emit_text.Quoted.{needs_escape, escape_letter, escape_text, escaped, quoted_char, quoted_body}
-use Rattle.yaml_emit_laws_quoted.specs.emit_text.Spelling.{in_front}
-use Rattle.yaml_emit_laws_quoted.specs.ReadBack.{is_one_line, between_quotes}
-use Rattle.yaml_emit_laws_quoted.proofs.Chars.{encode_1, encode_2, encode_3, encode_4}
-use Rattle.yaml_emit_laws_quoted.proofs.Values.{cond_true, cond_false}
-use Rattle.yaml_emit_laws_quoted.proofs.Bytes.{and_left, and_right, AreCalm}
-use Rattle.yaml_emit_laws_quoted.proofs.Escapes.{escape_by_letter, escape_by_2, escape_by_4, escape_by_8, escape_calm}
-use Rattle.yaml_emit_laws_quoted.proofs.Back.{front_append, char_escaped, moved_by}
-use Rattle.yaml_emit_laws_quoted.proofs.Keys.{both_true, line_append, calm_line, raw_inside}
+use Rattle.yaml_emit_laws_pretty.proofs.scan_laws_plain.scan_history.scan_words.HasLemmas.{has}
+use Rattle.yaml_emit_laws_pretty.proofs.scan_laws_plain.Near.{near_by}
+use Rattle.yaml_emit_laws_text.specs.emit_text.declared.Cursor.{Cursor}
+use Rattle.yaml_emit_laws_text.specs.emit_text.Text.{letter, is_break}
+use Rattle.yaml_emit_laws_text.specs.emit_text.Layout.{Layout, Rest, ◌▹◌, char, letters, nothing_more}
+use Rattle.yaml_emit_laws_text.specs.emit_text.declared.Page.{Page}
+use Rattle.yaml_emit_laws_text.specs.emit_text.Quoted.{needs_escape, escape_letter, escape_text, escaped, quoted_char, quoted_body}
+use Rattle.yaml_emit_laws_text.specs.emit_text.Spelling.{in_front}
+use Rattle.yaml_emit_laws_text.specs.ReadBack.{is_one_line, between_quotes}
+use Rattle.yaml_emit_laws_text.proofs.Chars.{encode_1, encode_2, encode_3, encode_4}
+use Rattle.yaml_emit_laws_text.proofs.Values.{cond_true, cond_false}
+use Rattle.yaml_emit_laws_text.proofs.Bytes.{and_left, and_right, AreCalm}
+use Rattle.yaml_emit_laws_text.proofs.Escapes.{escape_by_letter, escape_by_2, escape_by_4, escape_by_8, escape_calm}
+use Rattle.yaml_emit_laws_text.proofs.Back.{front_append, char_escaped, moved_by}
+use Rattle.yaml_emit_laws_text.proofs.Keys.{both_true, line_append, calm_line, raw_inside}
 use Rattle.yaml_emit_laws_pretty.specs.Keys.{QuotedKeysAreNear}
 use Rattle.yaml_emit_laws_pretty.proofs.Lines.{line_chars}
 

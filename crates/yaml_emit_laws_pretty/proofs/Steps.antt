@@ -3,24 +3,24 @@ use Rattle.std.proofs.Common.{◌≡◌, ℕ, suc, ◌+◌, ◌-◌, ◌==◌, �
 use Rattle.std.specs.Prelude.{if◌then◌else◌}
 use Rattle.std.specs.List.{list_all}
 use Rattle.std.proofs.lemmas.Bool.{cases_Bool}
-use Rattle.yaml_scan_laws_keys.specs.scan_history.scan_model.Marks.{byte, mark_at}
-use Rattle.yaml_scan_laws_keys.specs.scan_history.scan_words.Written.{begins_lexeme}
-use Rattle.yaml_scan_laws_keys.specs.scan_history.scan_words.Laws.{GapReads}
-use Rattle.yaml_scan_laws_keys.specs.scan_history.declared.kind.Kind.{Kind}
-use Rattle.yaml_scan_laws_keys.specs.scan_history.declared.kind.Kind.TheVariants as kinds
-use Rattle.yaml_scan_laws_keys.specs.scan_history.Kinds.{depth_after, is_end}
-use Rattle.yaml_scan_laws_keys.specs.scan_history.History.{is_fresh}
-use Rattle.yaml_scan_laws_keys.specs.scan_history.Words.{WordText, kind_at, word_at}
-use Rattle.yaml_scan_laws_keys.specs.Texts.{Word, word_kinds}
-use Rattle.yaml_scan_laws_keys.specs.Brackets.{Last, Held, Other, last_in, last_after, lasts, is_held, takes_key, fits_keyed, is_keyed}
-use Rattle.yaml_scan_laws_keys.specs.KeyedLaws.{IsNear, AreNear}
-use Rattle.yaml_scan_laws_keys.proofs.Held.{last_depth}
-use Rattle.yaml_emit_laws_json.specs.emit_layout.scan.Tokens as tokens
-use Rattle.yaml_emit_laws_json.specs.emit_layout.scan.Tokens.{TokenBody}
-use Rattle.yaml_emit_laws_json.specs.emit_layout.emit_text.declared.Cursor.{Cursor}
-use Rattle.yaml_emit_laws_json.specs.emit_layout.emit_text.declared.LineBreak.{LineBreak}
-use Rattle.yaml_emit_laws_json.specs.emit_layout.emit_text.Layout.{Layout, Rest, ◌▹◌, gap, line, wrap, is_past}
-use Rattle.yaml_emit_laws_json.specs.emit_layout.Nodes.{checked, deep_if, MOST}
+use Rattle.yaml_scan_laws_texts.specs.scan_history.scan_model.Marks.{byte, mark_at}
+use Rattle.yaml_scan_laws_texts.specs.scan_history.scan_words.Written.{begins_lexeme}
+use Rattle.yaml_scan_laws_texts.specs.scan_history.scan_words.Laws.{GapReads}
+use Rattle.yaml_scan_laws_texts.specs.scan_history.declared.kind.Kind.{Kind}
+use Rattle.yaml_scan_laws_texts.specs.scan_history.declared.kind.Kind.TheVariants as kinds
+use Rattle.yaml_scan_laws_texts.specs.scan_history.Kinds.{depth_after, is_end}
+use Rattle.yaml_scan_laws_texts.specs.scan_history.History.{is_fresh}
+use Rattle.yaml_scan_laws_texts.specs.scan_history.Words.{WordText, kind_at, word_at}
+use Rattle.yaml_scan_laws_texts.specs.KeysTexts.{Word, word_kinds}
+use Rattle.yaml_scan_laws_texts.specs.Brackets.{Last, Held, Other, last_in, last_after, lasts, is_held, takes_key, fits_keyed, is_keyed}
+use Rattle.yaml_scan_laws_texts.specs.KeyedLaws.{IsNear, AreNear}
+use Rattle.yaml_scan_laws_texts.proofs.Held.{last_depth}
+use Rattle.yaml_emit_laws_pretty.specs.emit_layout.scan.Tokens as tokens
+use Rattle.yaml_emit_laws_pretty.specs.emit_layout.scan.Tokens.{TokenBody}
+use Rattle.yaml_emit_laws_pretty.specs.emit_layout.emit_text.declared.Cursor.{Cursor}
+use Rattle.yaml_emit_laws_pretty.specs.emit_layout.emit_text.declared.LineBreak.{LineBreak}
+use Rattle.yaml_emit_laws_pretty.specs.emit_layout.emit_text.Layout.{Layout, Rest, ◌▹◌, gap, line, wrap, is_past}
+use Rattle.yaml_emit_laws_pretty.specs.emit_layout.Nodes.{checked, deep_if, MOST}
 use Rattle.yaml_emit_laws_text.specs.Walk.{Left, Starts, Stage, bytes}
 use Rattle.yaml_emit_laws_text.proofs.Steps.{gap_here, line_here, deep_bytes, push_to, word_of}
 use Rattle.yaml_emit_laws_pretty.specs.Walk.{put_key, keyed_bodies, WordsStand, WordsGoOn, WalksTo, WalksIn}

@@ -1,7 +1,7 @@
 -- The law of pretty text, joined from the laws beneath.
-use Rattle.yaml_emit_laws_quoted.proofs.Whole.{quoted_is_back}
+use Rattle.yaml_emit_laws_text.proofs.QuotedWhole.{quoted_is_back}
 use Rattle.yaml_emit_laws_pretty.proofs.Sizes.{keys_near}
-use Rattle.yaml_emit_laws_pretty.specs.Laws.{JsonTextIsRead}
+use Rattle.yaml_emit_laws_pretty.specs.PrettyLaws.{JsonTextIsRead}
 use Rattle.yaml_emit_laws_pretty.proofs.Documents.{text_read}
 
 pub text_is_read : JsonTextIsRead

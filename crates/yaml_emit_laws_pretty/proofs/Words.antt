@@ -5,36 +5,36 @@ use Rattle.std.specs.List.{list_all}
 use Rattle.std.specs.Str.{chars}
 use Rattle.std.proofs.lemmas.Bool.{cases_Bool}
 use Rattle.std.proofs.lemmas.Bool.Decides.{nat_tests}
-use Rattle.yaml_scan_laws_keys.specs.scan_history.scan_model.Marks.{byte, mark_at, is_blank_or_end}
-use Rattle.yaml_scan_laws_keys.specs.scan_history.scan_model.Breaks.{is_document_indicator}
-use Rattle.yaml_scan_laws_keys.specs.scan_history.scan_model.Wrong.{Wrong}
-use Rattle.yaml_scan_laws_keys.specs.scan_history.scan_words.Written.{HasAt, are_gap, has_break, begins_lexeme}
-use Rattle.yaml_scan_laws_keys.specs.scan_history.scan_words.Laws.{GapReads}
-use Rattle.yaml_scan_laws_keys.specs.scan_history.scan_scalars.Quoted.{double_quoted_at}
-use Rattle.yaml_scan_laws_keys.specs.scan_history.scan_scalars.Plain.{is_bracket, PlainText, plain_at}
-use Rattle.yaml_scan_laws_keys.specs.scan_history.declared.kind.Kind.{Kind}
-use Rattle.yaml_scan_laws_keys.specs.scan_history.declared.kind.Kind.TheVariants as kinds
-use Rattle.yaml_scan_laws_keys.specs.scan_history.Kinds.{is_end}
-use Rattle.yaml_scan_laws_keys.specs.scan_history.History.{is_fresh}
-use Rattle.yaml_scan_laws_keys.specs.scan_history.Words.{WordText, valued, plainly, indicator_of, kind_at, word_at}
-use Rattle.yaml_scan_laws_keys.specs.Texts.{Word, word_kinds}
-use Rattle.yaml_scan_laws_keys.specs.Brackets.{Last, Fresh, Held, Asked, Answered, Other, node_after, quoted_after, plain_after, changed, last_after, lasts, is_held, takes_key, may_have_value, fits_keyed}
-use Rattle.yaml_emit_laws_json.specs.scan_laws_plain.Values.{is_value_byte, begins_value, is_plain_value}
-use Rattle.yaml_emit_laws_json.specs.scan_laws_plain.Laws.{ends_plain, stops_plain}
-use Rattle.yaml_emit_laws_json.proofs.scan_laws_plain.PlainRead.{value_begins, value_ends, value_read}
-use Rattle.yaml_emit_laws_json.proofs.scan_laws_plain.Near.{value_near}
-use Rattle.yaml_emit_laws_json.specs.emit_layout.scan.declared.yaml_scalar_style_t.TheVariants.{YAML_PLAIN_SCALAR_STYLE, YAML_DOUBLE_QUOTED_SCALAR_STYLE}
-use Rattle.yaml_emit_laws_json.specs.emit_layout.scan.Tokens as tokens
-use Rattle.yaml_emit_laws_json.specs.emit_layout.scan.Tokens.{TokenBody}
-use Rattle.yaml_emit_laws_json.specs.emit_layout.emit_text.declared.Cursor.{Cursor}
-use Rattle.yaml_emit_laws_json.specs.emit_layout.emit_text.declared.Page.{Page}
-use Rattle.yaml_emit_laws_json.specs.emit_layout.emit_text.declared.LineBreak.{LineBreak}
-use Rattle.yaml_emit_laws_json.specs.emit_layout.emit_text.declared.LineBreak.TheVariants.{Lf, Cr, CrLf}
-use Rattle.yaml_emit_laws_json.specs.emit_layout.emit_text.Text.{Item, letter}
-use Rattle.yaml_emit_laws_json.specs.emit_layout.emit_text.Layout.{Layout, Rest, ◌▹◌, stay, choose, char, letters, word, opener, blank, blanks, break, new_line, gap, line, wrap, is_past, must_break, indent_to, after_text}
-use Rattle.yaml_emit_laws_json.specs.emit_layout.emit_text.Quoted.{double_quoted}
-use Rattle.yaml_emit_laws_quoted.specs.ReadBack.{between_quotes, ValueIsReadBack}
-use Rattle.yaml_emit_laws_quoted.specs.Laws.{QuotedIsReadBack}
+use Rattle.yaml_scan_laws_texts.specs.scan_history.scan_model.Marks.{byte, mark_at, is_blank_or_end}
+use Rattle.yaml_scan_laws_texts.specs.scan_history.scan_model.Breaks.{is_document_indicator}
+use Rattle.yaml_scan_laws_texts.specs.scan_history.scan_model.Wrong.{Wrong}
+use Rattle.yaml_scan_laws_texts.specs.scan_history.scan_words.Written.{HasAt, are_gap, has_break, begins_lexeme}
+use Rattle.yaml_scan_laws_texts.specs.scan_history.scan_words.Laws.{GapReads}
+use Rattle.yaml_scan_laws_texts.specs.scan_history.scan_scalars.Quoted.{double_quoted_at}
+use Rattle.yaml_scan_laws_texts.specs.scan_history.scan_scalars.Plain.{is_bracket, PlainText, plain_at}
+use Rattle.yaml_scan_laws_texts.specs.scan_history.declared.kind.Kind.{Kind}
+use Rattle.yaml_scan_laws_texts.specs.scan_history.declared.kind.Kind.TheVariants as kinds
+use Rattle.yaml_scan_laws_texts.specs.scan_history.Kinds.{is_end}
+use Rattle.yaml_scan_laws_texts.specs.scan_history.History.{is_fresh}
+use Rattle.yaml_scan_laws_texts.specs.scan_history.Words.{WordText, valued, plainly, indicator_of, kind_at, word_at}
+use Rattle.yaml_scan_laws_texts.specs.KeysTexts.{Word, word_kinds}
+use Rattle.yaml_scan_laws_texts.specs.Brackets.{Last, Fresh, Held, Asked, Answered, Other, node_after, quoted_after, plain_after, changed, last_after, lasts, is_held, takes_key, may_have_value, fits_keyed}
+use Rattle.yaml_emit_laws_pretty.specs.scan_laws_plain.Values.{is_value_byte, begins_value, is_plain_value}
+use Rattle.yaml_emit_laws_pretty.specs.scan_laws_plain.PlainLaws.{ends_plain, stops_plain}
+use Rattle.yaml_emit_laws_pretty.proofs.scan_laws_plain.PlainRead.{value_begins, value_ends, value_read}
+use Rattle.yaml_emit_laws_pretty.proofs.scan_laws_plain.Near.{value_near}
+use Rattle.yaml_emit_laws_pretty.specs.emit_layout.scan.declared.yaml_scalar_style_t.TheVariants.{YAML_PLAIN_SCALAR_STYLE, YAML_DOUBLE_QUOTED_SCALAR_STYLE}
+use Rattle.yaml_emit_laws_pretty.specs.emit_layout.scan.Tokens as tokens
+use Rattle.yaml_emit_laws_pretty.specs.emit_layout.scan.Tokens.{TokenBody}
+use Rattle.yaml_emit_laws_pretty.specs.emit_layout.emit_text.declared.Cursor.{Cursor}
+use Rattle.yaml_emit_laws_pretty.specs.emit_layout.emit_text.declared.Page.{Page}
+use Rattle.yaml_emit_laws_pretty.specs.emit_layout.emit_text.declared.LineBreak.{LineBreak}
+use Rattle.yaml_emit_laws_pretty.specs.emit_layout.emit_text.declared.LineBreak.TheVariants.{Lf, Cr, CrLf}
+use Rattle.yaml_emit_laws_pretty.specs.emit_layout.emit_text.Text.{Item, letter}
+use Rattle.yaml_emit_laws_pretty.specs.emit_layout.emit_text.Layout.{Layout, Rest, ◌▹◌, stay, choose, char, letters, word, opener, blank, blanks, break, new_line, gap, line, wrap, is_past, must_break, indent_to, after_text}
+use Rattle.yaml_emit_laws_pretty.specs.emit_layout.emit_text.Quoted.{double_quoted}
+use Rattle.yaml_emit_laws_text.specs.ReadBack.{between_quotes, ValueIsReadBack}
+use Rattle.yaml_emit_laws_text.specs.QuotedLaws.{QuotedIsReadBack}
 use Rattle.yaml_emit_laws_pretty.specs.Keys.{QuotedKeysAreNear}
 use Rattle.yaml_emit_laws_text.specs.Walk.{Has, Left, bytes, first}
 use Rattle.yaml_emit_laws_text.proofs.Places.{has_front, has_rest, has_both, has_at, left_first, left_more, left_rest}

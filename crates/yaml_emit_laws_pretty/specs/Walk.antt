@@ -1,14 +1,14 @@
 -- A text that goes on as a pretty layout writes it, behind words of which some are simple keys.
 use Rattle.std.specs.Prelude.{◌≡◌, ℕ, not, ◌==◌, ◌||◌, Bool, true, false, List, [], ◌∷◌, length}
 use Rattle.std.specs.List.{list_all}
-use Rattle.yaml_emit_laws_json.specs.emit_layout.scan.Tokens as tokens
-use Rattle.yaml_emit_laws_json.specs.emit_layout.scan.Tokens.{TokenBody}
-use Rattle.yaml_emit_laws_json.specs.emit_layout.emit_text.declared.Cursor.{Cursor}
-use Rattle.yaml_emit_laws_json.specs.emit_layout.emit_text.Layout.{Layout, Rest}
-use Rattle.yaml_scan_laws_keys.specs.scan_history.Kinds.{is_end}
-use Rattle.yaml_scan_laws_keys.specs.Texts.{Word, word_kinds}
-use Rattle.yaml_scan_laws_keys.specs.Brackets.{Last, lasts, takes_key, is_keyed}
-use Rattle.yaml_scan_laws_keys.specs.KeyedLaws.{AreNear}
+use Rattle.yaml_emit_laws_pretty.specs.emit_layout.scan.Tokens as tokens
+use Rattle.yaml_emit_laws_pretty.specs.emit_layout.scan.Tokens.{TokenBody}
+use Rattle.yaml_emit_laws_pretty.specs.emit_layout.emit_text.declared.Cursor.{Cursor}
+use Rattle.yaml_emit_laws_pretty.specs.emit_layout.emit_text.Layout.{Layout, Rest}
+use Rattle.yaml_scan_laws_texts.specs.scan_history.Kinds.{is_end}
+use Rattle.yaml_scan_laws_texts.specs.KeysTexts.{Word, word_kinds}
+use Rattle.yaml_scan_laws_texts.specs.Brackets.{Last, lasts, takes_key, is_keyed}
+use Rattle.yaml_scan_laws_texts.specs.KeyedLaws.{AreNear}
 use Rattle.yaml_emit_laws_text.specs.Walk.{Left, Stage, bytes, first}
 
 abbrev pub put_key : Bool → List TokenBody → List TokenBody

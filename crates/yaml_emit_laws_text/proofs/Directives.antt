@@ -4,33 +4,33 @@ use Rattle.std.specs.Prelude.{ℤ, pos, codes, if◌then◌else◌}
 use Rattle.std.specs.Ordering.{int_eq}
 use Rattle.std.specs.Cmp.{signed_Decides}
 use Rattle.std.proofs.lemmas.Bool.{cases_Bool}
-use Rattle.yaml_emit_laws_canonical.specs.scan_history.scan_model.Marks.{byte, break_of, break_width, column_at}
-use Rattle.yaml_emit_laws_canonical.specs.scan_history.scan_model.Classes.{is_break}
-use Rattle.yaml_emit_laws_canonical.specs.scan_history.scan_model.Wrong.{Wrong}
-use Rattle.yaml_emit_laws_canonical.specs.scan_history.scan_words.Directives as directives
-use Rattle.yaml_emit_laws_canonical.specs.scan_history.scan_words.Directives.{Said, DirectiveText, directive_at}
-use Rattle.yaml_emit_laws_canonical.specs.scan_history.scan_words.Written.{begins_lexeme}
-use Rattle.yaml_emit_laws_canonical.specs.scan_history.scan_words.Laws.{GapReads}
-use Rattle.yaml_emit_laws_canonical.specs.scan_history.declared.kind.Kind.{Kind}
-use Rattle.yaml_emit_laws_canonical.specs.scan_history.declared.kind.Kind.TheVariants as kinds
-use Rattle.yaml_emit_laws_canonical.specs.scan_history.Words.{WordText, kind_at, word_at, body_said, directed}
-use Rattle.yaml_emit_laws_canonical.specs.scan.Tokens as tokens
-use Rattle.yaml_emit_laws_canonical.specs.scan.declared.yaml_version_directive_t.{yaml_version_directive_t}
-use Rattle.yaml_emit_laws_canonical.specs.emit_layout.parse.Events.{TagDirective}
-use Rattle.yaml_emit_laws_canonical.specs.emit_layout.declared.problem.Problem.{Problem}
-use Rattle.yaml_emit_laws_canonical.specs.emit_layout.emit_text.declared.Cursor.{Cursor}
-use Rattle.yaml_emit_laws_canonical.specs.emit_layout.emit_text.declared.Settings.{Settings}
-use Rattle.yaml_emit_laws_canonical.specs.emit_layout.emit_text.declared.LineBreak.{LineBreak}
-use Rattle.yaml_emit_laws_canonical.specs.emit_layout.emit_text.Text.{encode, char_bytes}
-use Rattle.yaml_emit_laws_canonical.specs.emit_layout.emit_text.Layout.{Layout, Rest, ◌▹◌, blank, letters, word, line}
-use Rattle.yaml_emit_laws_canonical.specs.emit_layout.emit_text.Tags.{uri_text}
-use Rattle.yaml_emit_laws_canonical.specs.emit_layout.Content.{Opening}
-use Rattle.yaml_emit_laws_canonical.specs.emit_layout.Grammar.{or_else, is_version, version_problem, directives_problem}
-use Rattle.yaml_emit_laws_canonical.specs.emit_layout.Nodes.{version_word, version_text, directive_text, directives_text}
-use Rattle.yaml_emit_laws_canonical.specs.Canonical.{version_kinds, directives_kinds}
-use Rattle.yaml_emit_laws_canonical.specs.Bodies.{version_bodies, directives_bodies}
-use Rattle.yaml_scan_laws_words.specs.Laws.{VersionReads}
-use Rattle.yaml_emit_laws_tags.specs.Laws.{are_ascii, IsMarked, IsReadableDirective, AreReadable, WrittenDirectivesAreReadable, ReadableDirectivesAreAscii, DirectivesAreRead}
+use Rattle.yaml_emit_laws_text.specs.scan_history.scan_model.Marks.{byte, break_of, break_width, column_at}
+use Rattle.yaml_emit_laws_text.specs.scan_history.scan_model.Classes.{is_break}
+use Rattle.yaml_emit_laws_text.specs.scan_history.scan_model.Wrong.{Wrong}
+use Rattle.yaml_emit_laws_text.specs.scan_history.scan_words.Directives as directives
+use Rattle.yaml_emit_laws_text.specs.scan_history.scan_words.Directives.{Said, DirectiveText, directive_at}
+use Rattle.yaml_emit_laws_text.specs.scan_history.scan_words.Written.{begins_lexeme}
+use Rattle.yaml_emit_laws_text.specs.scan_history.scan_words.Laws.{GapReads}
+use Rattle.yaml_emit_laws_text.specs.scan_history.declared.kind.Kind.{Kind}
+use Rattle.yaml_emit_laws_text.specs.scan_history.declared.kind.Kind.TheVariants as kinds
+use Rattle.yaml_emit_laws_text.specs.scan_history.Words.{WordText, kind_at, word_at, body_said, directed}
+use Rattle.yaml_emit_laws_text.specs.scan.Tokens as tokens
+use Rattle.yaml_emit_laws_text.specs.scan.declared.yaml_version_directive_t.{yaml_version_directive_t}
+use Rattle.yaml_emit_laws_text.specs.emit_layout.parse.Events.{TagDirective}
+use Rattle.yaml_emit_laws_text.specs.emit_layout.declared.problem.Problem.{Problem}
+use Rattle.yaml_emit_laws_text.specs.emit_layout.emit_text.declared.Cursor.{Cursor}
+use Rattle.yaml_emit_laws_text.specs.emit_layout.emit_text.declared.Settings.{Settings}
+use Rattle.yaml_emit_laws_text.specs.emit_layout.emit_text.declared.LineBreak.{LineBreak}
+use Rattle.yaml_emit_laws_text.specs.emit_layout.emit_text.Text.{encode, char_bytes}
+use Rattle.yaml_emit_laws_text.specs.emit_layout.emit_text.Layout.{Layout, Rest, ◌▹◌, blank, letters, word, line}
+use Rattle.yaml_emit_laws_text.specs.emit_layout.emit_text.Tags.{uri_text}
+use Rattle.yaml_emit_laws_text.specs.emit_layout.Content.{Opening}
+use Rattle.yaml_emit_laws_text.specs.emit_layout.Grammar.{or_else, is_version, version_problem, directives_problem}
+use Rattle.yaml_emit_laws_text.specs.emit_layout.Nodes.{version_word, version_text, directive_text, directives_text}
+use Rattle.yaml_emit_laws_text.specs.Canonical.{version_kinds, directives_kinds}
+use Rattle.yaml_emit_laws_text.specs.Bodies.{version_bodies, directives_bodies}
+use Rattle.yaml_scan_laws_texts.specs.WordsLaws.{VersionReads}
+use Rattle.yaml_emit_laws_text.specs.TagsLaws.{are_ascii, IsMarked, IsReadableDirective, AreReadable, WrittenDirectivesAreReadable, ReadableDirectivesAreAscii, DirectivesAreRead}
 use Rattle.yaml_emit_laws_text.specs.Writable.{IsWritableOpening}
 use Rattle.yaml_emit_laws_text.specs.Walk.{Has, Left, bytes, first}
 use Rattle.yaml_emit_laws_text.proofs.Forms.{at_line, LinesWalkTo, NoFeed, DirectivesWalk}
@@ -38,7 +38,7 @@ use Rattle.yaml_emit_laws_text.proofs.Places.{has_front, has_at, left_first, lef
 use Rattle.yaml_emit_laws_text.proofs.Steps.{sign_starts, letter_low, push_to, word_of}
 use Rattle.yaml_emit_laws_text.proofs.Words.{and_left, and_right, lettered_on}
 use Rattle.yaml_emit_laws_text.proofs.Tags.{letters_are}
-use Rattle.yaml_emit_laws_text.proofs.Lines.{line_broken}
+use Rattle.yaml_emit_laws_text.proofs.TextLines.{line_broken}
 
 -- ---- a directive and its line
 

@@ -1,12 +1,29 @@
+pub mod Chars
+pub mod Values
+pub mod Bytes
+mod QuotedReading
+mod Turns
+mod Parts
+pub mod Escapes
+mod Kept
+pub mod Back
+mod Single
+pub mod Keys
+pub mod QuotedWhole
+pub mod Growing
+pub mod Resolving
+mod Pieces
+pub mod TagsReading
+pub mod Joining
+pub mod Ascii
+pub mod TagsLines
 pub mod Forms
 pub mod Places
 pub mod Steps
 pub mod Words
 mod Tags
-mod Lines
+mod TextLines
 mod Directives
 pub mod Nodes
 pub mod Documents
-pub mod Whole
--- the laws of tags beneath, for crates of laws that name this one alone
-pub use Rattle.yaml_emit_laws_tags.proofs as emit_laws_tags
+pub mod TextWhole

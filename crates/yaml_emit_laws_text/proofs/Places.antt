@@ -1,7 +1,7 @@
 -- Bytes that are left of a text.
 use Rattle.std.proofs.Common.{◌≡◌, ℕ, zero, suc, ◌+◌, List, [], ◌∷◌, ◌++◌, length, get_or, subst, arith, add-zero}
-use Rattle.yaml_emit_laws_canonical.specs.scan_history.scan_model.Marks.{byte}
-use Rattle.yaml_emit_laws_canonical.specs.scan_history.scan_words.Written.{HasAt}
+use Rattle.yaml_emit_laws_text.specs.scan_history.scan_model.Marks.{byte}
+use Rattle.yaml_emit_laws_text.specs.scan_history.scan_words.Written.{HasAt}
 use Rattle.yaml_emit_laws_text.specs.Walk.{Has, Left}
 
 pub has_front : (text : List ℕ) (p : ℕ) (xs ys : List ℕ) → Has text p (xs ++ ys) → Has text p xs

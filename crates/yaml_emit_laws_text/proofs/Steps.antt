@@ -3,24 +3,24 @@ use Rattle.std.proofs.Common.{◌≡◌, ◌≢◌, ℕ, zero, suc, ◌+◌, ◌
 use Rattle.std.specs.Prelude.{if◌then◌else◌}
 use Rattle.std.proofs.lemmas.Bool.{cases_Bool}
 use Rattle.std.proofs.lemmas.Bool.Decides.{nat_tests}
-use Rattle.yaml_emit_laws_canonical.specs.scan_history.scan_model.Marks.{byte, break_of, ends_of, ends_break, column_at}
-use Rattle.yaml_emit_laws_canonical.specs.scan_history.scan_words.Between.{Gap}
-use Rattle.yaml_emit_laws_canonical.specs.scan_history.scan_words.Indicators.{is_document_start, is_document_end}
-use Rattle.yaml_emit_laws_canonical.specs.scan_history.scan_words.Written.{are_gap, begins_lexeme}
-use Rattle.yaml_emit_laws_canonical.specs.scan_history.scan_words.Laws.{GapReads}
-use Rattle.yaml_emit_laws_canonical.specs.scan_history.declared.kind.Kind.{Kind}
-use Rattle.yaml_emit_laws_canonical.specs.scan_history.Kinds.{depth_after, is_end}
-use Rattle.yaml_emit_laws_canonical.specs.scan_history.History.{reached, depth, key_allowed}
-use Rattle.yaml_emit_laws_canonical.specs.scan_history.Words.{WordText, indicator_of, kind_at, word_at}
-use Rattle.yaml_emit_laws_canonical.specs.scan_laws_keys.Laws.{gap_in, end_in}
-use Rattle.yaml_emit_laws_canonical.specs.scan_laws_keys.Texts.{Word, lexemes, Stand, word_kinds}
-use Rattle.yaml_emit_laws_canonical.specs.scan.Tokens.{TokenBody}
-use Rattle.yaml_emit_laws_canonical.specs.emit_layout.emit_text.declared.Cursor.{Cursor}
-use Rattle.yaml_emit_laws_canonical.specs.emit_layout.emit_text.declared.LineBreak.{LineBreak}
-use Rattle.yaml_emit_laws_canonical.specs.emit_layout.emit_text.declared.LineBreak.TheVariants.{Lf, Cr, CrLf}
-use Rattle.yaml_emit_laws_canonical.specs.emit_layout.emit_text.Text.{Item, letter, encode, char_bytes}
-use Rattle.yaml_emit_laws_canonical.specs.emit_layout.emit_text.Layout.{Layout, Rest, ◌▹◌, gap, blank, line, blanks, new_line, indent_to, must_break}
-use Rattle.yaml_emit_laws_canonical.specs.emit_layout.Nodes.{checked, deep_if, MOST}
+use Rattle.yaml_emit_laws_text.specs.scan_history.scan_model.Marks.{byte, break_of, ends_of, ends_break, column_at}
+use Rattle.yaml_emit_laws_text.specs.scan_history.scan_words.Between.{Gap}
+use Rattle.yaml_emit_laws_text.specs.scan_history.scan_words.Indicators.{is_document_start, is_document_end}
+use Rattle.yaml_emit_laws_text.specs.scan_history.scan_words.Written.{are_gap, begins_lexeme}
+use Rattle.yaml_emit_laws_text.specs.scan_history.scan_words.Laws.{GapReads}
+use Rattle.yaml_emit_laws_text.specs.scan_history.declared.kind.Kind.{Kind}
+use Rattle.yaml_emit_laws_text.specs.scan_history.Kinds.{depth_after, is_end}
+use Rattle.yaml_emit_laws_text.specs.scan_history.History.{reached, depth, key_allowed}
+use Rattle.yaml_emit_laws_text.specs.scan_history.Words.{WordText, indicator_of, kind_at, word_at}
+use Rattle.yaml_emit_laws_text.specs.scan_laws_keys.KeysLaws.{gap_in, end_in}
+use Rattle.yaml_emit_laws_text.specs.scan_laws_keys.KeysTexts.{Word, lexemes, Stand, word_kinds}
+use Rattle.yaml_emit_laws_text.specs.scan.Tokens.{TokenBody}
+use Rattle.yaml_emit_laws_text.specs.emit_layout.emit_text.declared.Cursor.{Cursor}
+use Rattle.yaml_emit_laws_text.specs.emit_layout.emit_text.declared.LineBreak.{LineBreak}
+use Rattle.yaml_emit_laws_text.specs.emit_layout.emit_text.declared.LineBreak.TheVariants.{Lf, Cr, CrLf}
+use Rattle.yaml_emit_laws_text.specs.emit_layout.emit_text.Text.{Item, letter, encode, char_bytes}
+use Rattle.yaml_emit_laws_text.specs.emit_layout.emit_text.Layout.{Layout, Rest, ◌▹◌, gap, blank, line, blanks, new_line, indent_to, must_break}
+use Rattle.yaml_emit_laws_text.specs.emit_layout.Nodes.{checked, deep_if, MOST}
 use Rattle.yaml_emit_laws_text.specs.Walk.{Left, Starts, Stage, bytes, Goes, Walks}
 use Rattle.yaml_emit_laws_text.proofs.Places.{has_both, has_at, left_first, left_more}
 

@@ -1,21 +1,21 @@
 -- Tags as words.
 use Rattle.std.proofs.Common.{◌≡◌, ℕ, ◌+◌, nat_lt, Bool, true, false, List, [], ◌∷◌, ◌++◌, length, Some, Result, Ok, refl, sym, ap, subst, ◌∙◌}
-use Rattle.yaml_emit_laws_canonical.specs.scan_history.scan_model.Marks.{byte}
-use Rattle.yaml_emit_laws_canonical.specs.scan_history.scan_model.Wrong.{Wrong}
-use Rattle.yaml_emit_laws_canonical.specs.scan_history.scan_words.Tags.{TagText, tag_at, may_end_tag}
-use Rattle.yaml_emit_laws_canonical.specs.scan_history.scan_words.Laws.{GapReads}
-use Rattle.yaml_emit_laws_canonical.specs.scan_history.declared.kind.Kind.{Kind}
-use Rattle.yaml_emit_laws_canonical.specs.scan_history.declared.kind.Kind.TheVariants as kinds
-use Rattle.yaml_emit_laws_canonical.specs.scan_history.Words.{WordText, indicator_of, word_at, tagged}
-use Rattle.yaml_emit_laws_canonical.specs.scan.Tokens as tokens
-use Rattle.yaml_emit_laws_canonical.specs.scan.Tokens.{TokenBody}
-use Rattle.yaml_emit_laws_canonical.specs.emit_layout.emit_text.declared.Cursor.{Cursor}
-use Rattle.yaml_emit_laws_canonical.specs.emit_layout.emit_text.Layout.{Layout, Rest, ◌▹◌, letters, word}
-use Rattle.yaml_emit_laws_canonical.specs.emit_layout.emit_text.Tags.{Split, shorthand, verbatim, spelled, split_tag}
-use Rattle.yaml_emit_laws_canonical.specs.emit_layout.Content.{Opening}
-use Rattle.yaml_scan_laws_words.specs.Laws.{LoneMarkReads}
-use Rattle.yaml_emit_laws_tags.specs.Laws.{SplitTagsAreRead, WrittenTagsAreReadable, ReadableTagsAreAscii, are_ascii, tag_text}
-use Rattle.yaml_emit_laws_canonical.specs.Bodies.{tag_body}
+use Rattle.yaml_emit_laws_text.specs.scan_history.scan_model.Marks.{byte}
+use Rattle.yaml_emit_laws_text.specs.scan_history.scan_model.Wrong.{Wrong}
+use Rattle.yaml_emit_laws_text.specs.scan_history.scan_words.Tags.{TagText, tag_at, may_end_tag}
+use Rattle.yaml_emit_laws_text.specs.scan_history.scan_words.Laws.{GapReads}
+use Rattle.yaml_emit_laws_text.specs.scan_history.declared.kind.Kind.{Kind}
+use Rattle.yaml_emit_laws_text.specs.scan_history.declared.kind.Kind.TheVariants as kinds
+use Rattle.yaml_emit_laws_text.specs.scan_history.Words.{WordText, indicator_of, word_at, tagged}
+use Rattle.yaml_emit_laws_text.specs.scan.Tokens as tokens
+use Rattle.yaml_emit_laws_text.specs.scan.Tokens.{TokenBody}
+use Rattle.yaml_emit_laws_text.specs.emit_layout.emit_text.declared.Cursor.{Cursor}
+use Rattle.yaml_emit_laws_text.specs.emit_layout.emit_text.Layout.{Layout, Rest, ◌▹◌, letters, word}
+use Rattle.yaml_emit_laws_text.specs.emit_layout.emit_text.Tags.{Split, shorthand, verbatim, spelled, split_tag}
+use Rattle.yaml_emit_laws_text.specs.emit_layout.Content.{Opening}
+use Rattle.yaml_scan_laws_texts.specs.WordsLaws.{LoneMarkReads}
+use Rattle.yaml_emit_laws_text.specs.TagsLaws.{SplitTagsAreRead, WrittenTagsAreReadable, ReadableTagsAreAscii, are_ascii, tag_text}
+use Rattle.yaml_emit_laws_text.specs.Bodies.{tag_body}
 use Rattle.yaml_emit_laws_text.specs.Writable.{IsWritableOpening}
 use Rattle.yaml_emit_laws_text.specs.Walk.{Has, Left, bytes, Walks}
 use Rattle.yaml_emit_laws_text.proofs.Forms.{BeginsBlank, TagWalks, MarkWalks}

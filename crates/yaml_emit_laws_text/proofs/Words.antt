@@ -5,29 +5,29 @@ use Rattle.std.proofs.lemmas.Bool.{cases_Bool}
 use Rattle.std.proofs.lemmas.Bool.Decides.{nat_tests}
 use Rattle.std.proofs.lemmas.Str.{encode_ascii}
 use lib.Utf8.{encode as encode_char}
-use Rattle.yaml_emit_laws_canonical.specs.scan_history.scan_model.Marks.{byte, break_of}
-use Rattle.yaml_emit_laws_canonical.specs.scan_history.scan_model.Classes.{is_alpha_byte, is_digit_byte}
-use Rattle.yaml_emit_laws_canonical.specs.scan_history.scan_model.Wrong.{Wrong}
-use Rattle.yaml_emit_laws_canonical.specs.scan_history.scan_model.declared.problem.Context.TheVariants as contexts
-use Rattle.yaml_emit_laws_canonical.specs.scan_history.scan_words.Anchors.{anchor_at, may_end_name}
-use Rattle.yaml_emit_laws_canonical.specs.scan_history.scan_words.Written.{are_alphas}
-use Rattle.yaml_emit_laws_canonical.specs.scan_history.scan_words.Laws.{GapReads, AnchorReads}
-use Rattle.yaml_emit_laws_canonical.specs.scan_history.scan_scalars.Quoted.{double_quoted_at}
-use Rattle.yaml_emit_laws_canonical.specs.scan_history.declared.kind.Kind.{Kind}
-use Rattle.yaml_emit_laws_canonical.specs.scan_history.declared.kind.Kind.TheVariants as kinds
-use Rattle.yaml_emit_laws_canonical.specs.scan_history.Kinds.{depth_after, is_end}
-use Rattle.yaml_emit_laws_canonical.specs.scan_history.Words.{WordText, indicator_of, word_at, valued}
-use Rattle.yaml_emit_laws_canonical.specs.scan.declared.yaml_scalar_style_t.TheVariants.{YAML_DOUBLE_QUOTED_SCALAR_STYLE}
-use Rattle.yaml_emit_laws_canonical.specs.scan.Tokens as tokens
-use Rattle.yaml_emit_laws_canonical.specs.scan.Tokens.{TokenBody}
-use Rattle.yaml_emit_laws_canonical.specs.emit_layout.emit_text.declared.Cursor.{Cursor}
-use Rattle.yaml_emit_laws_canonical.specs.emit_layout.emit_text.declared.Page.{Page}
-use Rattle.yaml_emit_laws_canonical.specs.emit_layout.emit_text.Text.{Item, letter, encode, char_bytes}
-use Rattle.yaml_emit_laws_canonical.specs.emit_layout.emit_text.Layout.{Layout, Rest, ◌▹◌, char, letters, word, opener}
-use Rattle.yaml_emit_laws_canonical.specs.emit_layout.emit_text.Quoted.{double_quoted}
-use Rattle.yaml_emit_laws_canonical.specs.emit_layout.emit_text.Spelling.{in_front}
-use Rattle.yaml_emit_laws_quoted.specs.ReadBack.{between_quotes}
-use Rattle.yaml_emit_laws_quoted.specs.Laws.{QuotedIsReadBack}
+use Rattle.yaml_emit_laws_text.specs.scan_history.scan_model.Marks.{byte, break_of}
+use Rattle.yaml_emit_laws_text.specs.scan_history.scan_model.Classes.{is_alpha_byte, is_digit_byte}
+use Rattle.yaml_emit_laws_text.specs.scan_history.scan_model.Wrong.{Wrong}
+use Rattle.yaml_emit_laws_text.specs.scan_history.scan_model.declared.problem.Context.TheVariants as contexts
+use Rattle.yaml_emit_laws_text.specs.scan_history.scan_words.Anchors.{anchor_at, may_end_name}
+use Rattle.yaml_emit_laws_text.specs.scan_history.scan_words.Written.{are_alphas}
+use Rattle.yaml_emit_laws_text.specs.scan_history.scan_words.Laws.{GapReads, AnchorReads}
+use Rattle.yaml_emit_laws_text.specs.scan_history.scan_scalars.Quoted.{double_quoted_at}
+use Rattle.yaml_emit_laws_text.specs.scan_history.declared.kind.Kind.{Kind}
+use Rattle.yaml_emit_laws_text.specs.scan_history.declared.kind.Kind.TheVariants as kinds
+use Rattle.yaml_emit_laws_text.specs.scan_history.Kinds.{depth_after, is_end}
+use Rattle.yaml_emit_laws_text.specs.scan_history.Words.{WordText, indicator_of, word_at, valued}
+use Rattle.yaml_emit_laws_text.specs.scan.declared.yaml_scalar_style_t.TheVariants.{YAML_DOUBLE_QUOTED_SCALAR_STYLE}
+use Rattle.yaml_emit_laws_text.specs.scan.Tokens as tokens
+use Rattle.yaml_emit_laws_text.specs.scan.Tokens.{TokenBody}
+use Rattle.yaml_emit_laws_text.specs.emit_layout.emit_text.declared.Cursor.{Cursor}
+use Rattle.yaml_emit_laws_text.specs.emit_layout.emit_text.declared.Page.{Page}
+use Rattle.yaml_emit_laws_text.specs.emit_layout.emit_text.Text.{Item, letter, encode, char_bytes}
+use Rattle.yaml_emit_laws_text.specs.emit_layout.emit_text.Layout.{Layout, Rest, ◌▹◌, char, letters, word, opener}
+use Rattle.yaml_emit_laws_text.specs.emit_layout.emit_text.Quoted.{double_quoted}
+use Rattle.yaml_emit_laws_text.specs.emit_layout.emit_text.Spelling.{in_front}
+use Rattle.yaml_emit_laws_text.specs.ReadBack.{between_quotes}
+use Rattle.yaml_emit_laws_text.specs.QuotedLaws.{QuotedIsReadBack}
 use Rattle.yaml_emit_laws_text.specs.Walk.{Left, bytes, Walks, first, parts, Parts}
 use Rattle.yaml_emit_laws_text.proofs.Forms.{BeginsBlank}
 use Rattle.yaml_emit_laws_text.proofs.Places.{has_front, has_at, left_first, left_more, left_rest}

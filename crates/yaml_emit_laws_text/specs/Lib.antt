@@ -1,5 +1,17 @@
+pub mod Stands
+pub mod Spelling
+pub mod ReadBack
+pub mod QuotedLaws
+pub mod Canonical
+pub mod Bodies
+pub mod CanonicalLaws
+pub mod TagsLaws
 pub mod Walk
 pub mod Writable
-pub mod Laws
--- the laws of tags beneath, for crates of laws that name this one alone
-pub use Rattle.yaml_emit_laws_tags.specs as emit_laws_tags
+pub mod TextLaws
+-- what it stands on, for crates that name this one alone
+pub use Rattle.yaml_emit_text.specs as emit_text
+pub use Rattle.yaml_scan_laws_texts.specs as scan_laws_keys
+pub use Rattle.yaml_scan_laws_texts.specs.scan_history
+pub use Rattle.yaml_emit_layout.specs as emit_layout
+pub use Rattle.yaml_emit_layout.specs.scan

@@ -1,25 +1,25 @@
 -- Loads end in the fault of the list.
 use Rattle.std.proofs.Common.{◌≡◌, inl, inr, ℕ, List, [], ◌∷◌, ◌++◌, length, Option, Some, None, refl, ap, sym, subst, ◌∙◌}
-use Rattle.yaml_parse_laws_faults.specs.grammar.parse_model.Tokens.{Token, no_token}
-use Rattle.yaml_parse_laws_faults.specs.grammar.parse_model.Faults.{Fault}
-use Rattle.yaml_parse_laws_faults.specs.grammar.Items.{RawEvent}
-use Rattle.yaml_parse_laws_faults.specs.grammar.States.{State}
-use Rattle.yaml_parse_laws_faults.specs.grammar.States as state
-use Rattle.yaml_parse_laws_faults.specs.grammar.Trees.{Stream, spell}
-use Rattle.yaml_parse_laws_faults.specs.grammar.Machine.{Fed, stop, go, feed, Outcome, finished, carry, run, initial}
-use Rattle.yaml_parse_laws_faults.specs.grammar.Resolve.{Directives, no_directives, Reading, reading}
-use Rattle.yaml_parse_laws_faults.specs.grammar.Remaining.{reading_of}
-use Rattle.yaml_parse_laws_faults.proofs.grammar.CompleteStream.{nothing_runs}
-use Rattle.yaml_parse_laws_faults.specs.LookBack.{followed_by}
-use Rattle.yaml_parse_laws_faults.specs.Wrong.{handle_fault}
-use Rattle.yaml_parse_laws_faults.specs.Places.{directive, StandsIn, with_end, FaultOfTokens}
-use Rattle.yaml_parse_laws_faults.proofs.Cuts.{Reaches, reaches, followed_on}
-use Rattle.yaml_parse_laws_faults.proofs.Settling.{Done, bad, fine, read_all}
-use Rattle.yaml_parse_laws_faults.proofs.Stepping.{StepRead}
-use Rattle.yaml_parse_laws_faults.proofs.Tagging.{Step}
-use Rattle.yaml_parse_laws_faults.proofs.Taking.{stack_solid, Stops, stops_at_none, ending_of}
-use Rattle.yaml_parse_laws_faults.proofs.Clean.{Clean, Unfinished, FirstAt, no_fault, free, no_whole_sentence}
-use Rattle.yaml_parse_laws_faults.proofs.Ending.{At, at_start, step_at, Found, found_handle, found_token, found_first, stopped, taken_goes, taken_on, taken_at, sentence_tree, runs_fed, runs_out, ends_in_fault}
+use Rattle.yaml_parse_laws_trees.specs.grammar.parse_model.Tokens.{Token, no_token}
+use Rattle.yaml_parse_laws_trees.specs.grammar.parse_model.Faults.{Fault}
+use Rattle.yaml_parse_laws_trees.specs.grammar.Items.{RawEvent}
+use Rattle.yaml_parse_laws_trees.specs.grammar.States.{State}
+use Rattle.yaml_parse_laws_trees.specs.grammar.States as state
+use Rattle.yaml_parse_laws_trees.specs.grammar.Trees.{Stream, spell}
+use Rattle.yaml_parse_laws_trees.specs.grammar.Machine.{Fed, stop, go, feed, Outcome, finished, carry, run, initial}
+use Rattle.yaml_parse_laws_trees.specs.grammar.Resolve.{Directives, no_directives, Reading, reading}
+use Rattle.yaml_parse_laws_trees.specs.grammar.Remaining.{reading_of}
+use Rattle.yaml_parse_laws_trees.proofs.grammar.CompleteStream.{nothing_runs}
+use Rattle.yaml_parse_laws_trees.specs.LookBack.{followed_by}
+use Rattle.yaml_parse_laws_trees.specs.Wrong.{handle_fault}
+use Rattle.yaml_parse_laws_trees.specs.Places.{directive, StandsIn, with_end, FaultOfTokens}
+use Rattle.yaml_parse_laws_trees.proofs.Cuts.{Reaches, reaches, followed_on}
+use Rattle.yaml_parse_laws_trees.proofs.Settling.{Done, bad, fine, read_all}
+use Rattle.yaml_parse_laws_trees.proofs.Stepping.{StepRead}
+use Rattle.yaml_parse_laws_trees.proofs.Tagging.{Step}
+use Rattle.yaml_parse_laws_trees.proofs.Taking.{stack_solid, Stops, stops_at_none, ending_of}
+use Rattle.yaml_parse_laws_trees.proofs.Clean.{Clean, Unfinished, FirstAt, no_fault, free, no_whole_sentence}
+use Rattle.yaml_parse_laws_trees.proofs.Ending.{At, at_start, step_at, Found, found_handle, found_token, found_first, stopped, taken_goes, taken_on, taken_at, sentence_tree, runs_fed, runs_out, ends_in_fault}
 use Rattle.yaml_parse_loader.specs.Loading.{Loading, nothing_loaded}
 use Rattle.yaml_parse_laws_loading.specs.Aliases.{alias_fault}
 use Rattle.yaml_parse_laws_loading.specs.Faults.{IsFirstIn, IsLoadable, FaultOfLoading}

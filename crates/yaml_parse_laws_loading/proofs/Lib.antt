@@ -15,4 +15,4 @@ pub mod AllGiven
 -- the laws beneath, for crates that name this one alone
 pub use Rattle.yaml_parse_document.proofs as parse_document
 pub use Rattle.yaml_parse_loader.proofs as parse_loader
-pub use Rattle.yaml_parse_laws_faults.proofs as parse_laws_faults
+pub use Rattle.yaml_parse_laws_trees.proofs as parse_laws_faults

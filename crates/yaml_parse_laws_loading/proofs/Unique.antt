@@ -1,14 +1,14 @@
 -- A list of tokens has one fault of loading at most.
 use Rattle.std.proofs.Common.{◌≡◌, ◌⊎◌, inl, inr, ℕ, ◌<◌, List, [], ◌∷◌, Option, Some, None, refl, ap, sym, subst, ◌∙◌}
 use Rattle.std.proofs.lemmas.Bool.{cases_order}
-use Rattle.yaml_parse_laws_faults.specs.grammar.parse_model.Tokens.{Token}
-use Rattle.yaml_parse_laws_faults.specs.grammar.parse_model.Faults.{Fault}
-use Rattle.yaml_parse_laws_faults.specs.grammar.Trees.{Stream, spell}
-use Rattle.yaml_parse_laws_faults.specs.Places.{of_handle, of_token, BeginsWithSentence, with_end}
-use Rattle.yaml_parse_laws_faults.proofs.laws_counts.Unique.{one_tree}
-use Rattle.yaml_parse_laws_faults.proofs.Cuts.{SameCut, same_cut}
-use Rattle.yaml_parse_laws_faults.proofs.Spelling.{spelled_before}
-use Rattle.yaml_parse_laws_faults.proofs.Unique.{one_at}
+use Rattle.yaml_parse_laws_trees.specs.grammar.parse_model.Tokens.{Token}
+use Rattle.yaml_parse_laws_trees.specs.grammar.parse_model.Faults.{Fault}
+use Rattle.yaml_parse_laws_trees.specs.grammar.Trees.{Stream, spell}
+use Rattle.yaml_parse_laws_trees.specs.Places.{of_handle, of_token, BeginsWithSentence, with_end}
+use Rattle.yaml_parse_laws_trees.proofs.CountsUnique.{one_tree}
+use Rattle.yaml_parse_laws_trees.proofs.Cuts.{SameCut, same_cut}
+use Rattle.yaml_parse_laws_trees.proofs.Spelling.{spelled_before}
+use Rattle.yaml_parse_laws_trees.proofs.FaultsUnique.{one_at}
 use Rattle.yaml_parse_laws_loading.specs.Aliases.{alias_fault}
 use Rattle.yaml_parse_laws_loading.specs.Faults.{LoadRank, of_parser, of_alias, LoadRanksBefore, LoadFaultAt, LoadStandsIn, IsFirstIn, FirstOf, LoadsSentence, IsLoadOwn, LoadsUnfinished}
 use Rattle.yaml_parse_laws_loading.specs.Laws.{LoadFaultIsOne}

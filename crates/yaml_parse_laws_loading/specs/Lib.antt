@@ -7,4 +7,4 @@ pub mod NextLoad
 -- what it stands on, for crates of laws that name this one alone
 pub use Rattle.yaml_parse_document.specs as parse_document
 pub use Rattle.yaml_parse_loader.specs as parse_loader
-pub use Rattle.yaml_parse_laws_faults.specs as parse_laws_faults
+pub use Rattle.yaml_parse_laws_trees.specs as parse_laws_faults

@@ -3,7 +3,7 @@
 //! A table of its own, beside that of `taking.rt`: it looks at a state and a token that are still whole, since a token that isn't
 //! taken is the next state's or the fault's. A step takes where this table says so and nowhere else (the premise of `taking` in
 //! `yaml_parse_step/src/step.rt`). A `Take` that the other table has no rule for, or another's, is refused by
-//! `accepted_lists_begin_with_trees`, and a missing one by `sentences_are_accepted`, both of `yaml_parse_laws_sound`.
+//! `accepted_lists_begin_with_trees`, and a missing one by `sentences_are_accepted`, both of `yaml_parse_laws_trees`.
 
 ghost use Rattle.std.specs.Prelude.{◌≡◌};
 ghost use Rattle.yaml_parse_grammar.specs.Machine.{starts_content, starts_node, wants_of, closes, parts_documents, follows, joins, no_node, no_end, choice_at};

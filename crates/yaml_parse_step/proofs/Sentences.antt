@@ -7,16 +7,16 @@ use Rattle.yaml_parse_grammar.specs.TreeEvents.{given_of}
 use Rattle.yaml_parse_grammar.specs.Machine.{run, initial}
 use Rattle.yaml_parse_grammar.specs.Resolve.{Told, no_directives}
 use Rattle.yaml_parse_grammar.specs.Remaining.{reading_of, unasked_of}
-use Rattle.yaml_parse_laws_given.specs.laws_faults.laws_sound.Laws.{BeginsWithTree, bare, TreeGoesOnGiving, RefusedAt, RunsOut}
-use Rattle.yaml_parse_laws_given.specs.laws_faults.laws_counts.Laws.{AtMostFourSoFar}
-use Rattle.yaml_parse_laws_given.specs.laws_faults.Places.{FaultOfTokens, IsToldWith}
-use Rattle.yaml_parse_laws_given.proofs.laws_faults.laws_counts.SoFar.{few_so_far}
-use Rattle.yaml_parse_laws_given.proofs.laws_faults.laws_sound.Sound.{accepted_trees}
-use Rattle.yaml_parse_laws_given.proofs.laws_faults.laws_sound.Refusal.{faults_stand}
-use Rattle.yaml_parse_laws_given.proofs.laws_faults.laws_sound.Events.{events_begin}
-use Rattle.yaml_parse_laws_given.proofs.laws_faults.Ending.{ends_in_fault, fault_ends, told_at_place}
-use Rattle.yaml_parse_laws_given.specs.Given.{IsLongest, GivesLeast, EventsOfTokens}
-use Rattle.yaml_parse_laws_given.proofs.Giving.{run_gives_events, run_gives_least, events_are_run}
+use Rattle.yaml_parse_laws_trees.specs.SoundLaws.{BeginsWithTree, bare, TreeGoesOnGiving, RefusedAt, RunsOut}
+use Rattle.yaml_parse_laws_trees.specs.CountsLaws.{AtMostFourSoFar}
+use Rattle.yaml_parse_laws_trees.specs.Places.{FaultOfTokens, IsToldWith}
+use Rattle.yaml_parse_laws_trees.proofs.SoFar.{few_so_far}
+use Rattle.yaml_parse_laws_trees.proofs.Sound.{accepted_trees}
+use Rattle.yaml_parse_laws_trees.proofs.Refusal.{faults_stand}
+use Rattle.yaml_parse_laws_trees.proofs.Events.{events_begin}
+use Rattle.yaml_parse_laws_trees.proofs.Ending.{ends_in_fault, fault_ends, told_at_place}
+use Rattle.yaml_parse_laws_trees.specs.Given.{IsLongest, GivesLeast, EventsOfTokens}
+use Rattle.yaml_parse_laws_trees.proofs.Giving.{run_gives_events, run_gives_least, events_are_run}
 use Rattle.yaml_parse_step.specs.Fronts.{BeginsTree}
 
 pub fault_of_tokens : (ts : List Token) (f ending : Option Fault) → ending ≡ (reading_of (run ts initial f) no_directives).ending → FaultOfTokens ts f ending

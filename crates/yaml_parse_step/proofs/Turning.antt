@@ -15,7 +15,7 @@ use Rattle.yaml_parse_grammar.specs.Resolve.{Directives, no_directives, Settled,
 use Rattle.yaml_parse_grammar.specs.Remaining.{ParserRemaining, parser_remaining, reading_of, unasked_of, waiting, held_of, IsFinished, GivesNothing, GivesEvent, EventOf, FaultOf}
 use Rattle.yaml_parse_grammar.proofs.CompleteStream.{nothing_runs, stream_runs}
 use Rattle.yaml_parse_grammar.proofs.Voice.{speaks, reading_speaks, not_noted}
-use Rattle.yaml_parse_laws_given.proofs.laws_faults.laws_counts.Turns.{items_given}
+use Rattle.yaml_parse_laws_trees.proofs.Turns.{items_given}
 use Rattle.yaml_parse_step.specs.Steps.{Raw, outcome, stop_of, IsDirective, GivesItem, GivesNoItem, IsRefused, IsDone, IsSilent, IsTurnRefused, IsOver, Kept}
 use Rattle.yaml_parse_step.specs.Finds.{GivesNext, GivesEnd}
 

@@ -4,8 +4,8 @@ use Rattle.yaml_scan_model.specs.Tokens.{Token}
 use Rattle.yaml_parse_grammar.specs.Trees.{Stream, spell}
 use Rattle.yaml_parse_grammar.specs.TreeEvents.{given_of}
 use Rattle.yaml_parse_grammar.specs.Resolve.{Told, reading, no_directives}
-use Rattle.yaml_parse_laws_given.specs.laws_faults.laws_sound.Laws.{told, BeginsWithEvents}
-use Rattle.yaml_parse_laws_given.specs.Given.{IsLongest}
+use Rattle.yaml_parse_laws_trees.specs.SoundLaws.{told, BeginsWithEvents}
+use Rattle.yaml_parse_laws_trees.specs.Given.{IsLongest}
 
 -- The events begin those of a tree that goes on with the longest front of the tokens with which one does.
 pub record BeginsTree (ts : List Token) (events : List Told) : Type 0 where

@@ -1,31 +1,31 @@
 -- The canonical layout of a stream is that of its content.
 use Rattle.std.proofs.Common.{◌≡◌, ◌||◌, ℕ, Bool, true, false, not, List, [], ◌∷◌, Option, Some, None, refl, sym, ap, subst, ◌∙◌}
-use Rattle.yaml_round_laws_streams.specs.scan_model.declared.yaml_encoding_t.{yaml_encoding_t}
-use Rattle.yaml_round_laws_streams.specs.scan_model.declared.yaml_encoding_t.TheVariants.{YAML_ANY_ENCODING, YAML_UTF8_ENCODING, YAML_UTF16LE_ENCODING, YAML_UTF16BE_ENCODING}
-use Rattle.yaml_round_laws_streams.specs.scan_model.declared.yaml_scalar_style_t.{yaml_scalar_style_t}
-use Rattle.yaml_round_laws_streams.specs.scan_model.declared.yaml_scalar_style_t.TheVariants.{YAML_ANY_SCALAR_STYLE}
-use Rattle.yaml_round_laws_streams.specs.parse_model.Events.{EventBody, TagDirective}
-use Rattle.yaml_round_laws_streams.specs.parse_model.Events as event
-use Rattle.yaml_round_laws_streams.specs.parse_grammar.Resolve.{Told}
-use Rattle.yaml_round_laws_streams.specs.emit_text.declared.Encoding.{Encoding}
-use Rattle.yaml_round_laws_streams.specs.emit_text.declared.RequestedSettings.{RequestedSettings}
-use Rattle.yaml_round_laws_streams.specs.emit_text.declared.Settings.{Settings}
-use Rattle.yaml_round_laws_streams.specs.emit_text.Settings.{settled, settled_encoding}
-use Rattle.yaml_round_laws_streams.specs.emit_text.Text.{Item}
-use Rattle.yaml_round_laws_streams.specs.emit_text.Layout.{Layout, ◌▹◌, order_mark, written}
-use Rattle.yaml_round_laws_streams.specs.emit_layout.Streams.{IsStream}
-use Rattle.yaml_round_laws_streams.specs.emit_layout.Content as emit
-use Rattle.yaml_round_laws_streams.specs.emit_layout.Nodes.{root_spot, node_layout, start_layout, end_layout, documents_layout, stream_layout}
-use Rattle.yaml_round_laws_streams.specs.emit_laws_streams.Laws.{RightStream}
+use Rattle.yaml_round_content.specs.scan_model.declared.yaml_encoding_t.{yaml_encoding_t}
+use Rattle.yaml_round_content.specs.scan_model.declared.yaml_encoding_t.TheVariants.{YAML_ANY_ENCODING, YAML_UTF8_ENCODING, YAML_UTF16LE_ENCODING, YAML_UTF16BE_ENCODING}
+use Rattle.yaml_round_content.specs.scan_model.declared.yaml_scalar_style_t.{yaml_scalar_style_t}
+use Rattle.yaml_round_content.specs.scan_model.declared.yaml_scalar_style_t.TheVariants.{YAML_ANY_SCALAR_STYLE}
+use Rattle.yaml_round_content.specs.parse_model.Events.{EventBody, TagDirective}
+use Rattle.yaml_round_content.specs.parse_model.Events as event
+use Rattle.yaml_round_content.specs.parse_grammar.Resolve.{Told}
+use Rattle.yaml_round_content.specs.emit_text.declared.Encoding.{Encoding}
+use Rattle.yaml_round_content.specs.emit_text.declared.RequestedSettings.{RequestedSettings}
+use Rattle.yaml_round_content.specs.emit_text.declared.Settings.{Settings}
+use Rattle.yaml_round_content.specs.emit_text.Settings.{settled, settled_encoding}
+use Rattle.yaml_round_content.specs.emit_text.Text.{Item}
+use Rattle.yaml_round_content.specs.emit_text.Layout.{Layout, ◌▹◌, order_mark, written}
+use Rattle.yaml_round_content.specs.emit_layout.Streams.{IsStream}
+use Rattle.yaml_round_content.specs.emit_layout.Content as emit
+use Rattle.yaml_round_content.specs.emit_layout.Nodes.{root_spot, node_layout, start_layout, end_layout, documents_layout, stream_layout}
+use Rattle.yaml_round_content.specs.emit_laws_streams.StreamsLaws.{RightStream}
 use Rattle.yaml_round_content.specs.Normalize.{is_lone_mark, normalize_scalar, normalize_body}
 use Rattle.yaml_round_content.specs.Events.{emitter_events}
 use Rattle.yaml_round_content.specs.Input.{events_of}
 use Rattle.yaml_round_content.specs.Said.{Document}
 use Rattle.yaml_round_content.specs.Canon.{written_scalar, written_node, written_nodes, written_pairs, written_documents, canon_items}
-use Rattle.yaml_round_content.specs.Laws.{IsSet, IsFlaggedScalar, AreFlagged, LayoutIsOfContent, ContentIsLaidOut}
+use Rattle.yaml_round_content.specs.ContentLaws.{IsSet, IsFlaggedScalar, AreFlagged, LayoutIsOfContent, ContentIsLaidOut}
 use Rattle.yaml_round_content.proofs.Injective.{says_injective}
 use Rattle.yaml_round_content.proofs.Trees.{mark_of, tree_of, trees_of, pair_trees_of, document_trees, stream_trees}
-use Rattle.yaml_round_content.proofs.Inputs.{input_stream}
+use Rattle.yaml_round_content.proofs.ContentInputs.{input_stream}
 use Rattle.yaml_round_content.proofs.Bare.{canonical_settings, canonically, bare_scalar, bare_node, bare_nodes, bare_pairs, node_same}
 
 -- ---- flags

@@ -1,3 +1,5 @@
+pub mod Normalized
+pub mod StreamsLaws
 pub mod Normalize
 pub mod Content
 pub mod Input
@@ -6,13 +8,15 @@ pub mod Loads
 pub mod Said
 pub mod Trees
 pub mod Canon
-pub mod Laws
--- the laws beneath, for crates that name this one alone
-pub use Rattle.yaml_round_laws_streams.specs as round_laws
-pub use Rattle.yaml_round_laws_streams.specs.scan_model
-pub use Rattle.yaml_round_laws_streams.specs.scan_history
-pub use Rattle.yaml_round_laws_streams.specs.parse_model
-pub use Rattle.yaml_round_laws_streams.specs.parse_grammar
-pub use Rattle.yaml_round_laws_streams.specs.parse_laws_loading
-pub use Rattle.yaml_round_laws_streams.specs.emit_text
-pub use Rattle.yaml_round_laws_streams.specs.emit_layout
+pub mod ContentLaws
+-- what it stands on, for crates that name this one alone
+pub use Rattle.yaml_emit_laws_dumps.specs as emit_laws_streams
+pub use Rattle.yaml_round_laws_adapted.specs as round_laws_adapted
+pub use Rattle.yaml_scan_laws_texts.specs as scan_laws_names
+pub use Rattle.yaml_scan_laws_texts.specs.scan_history
+pub use Rattle.yaml_scan_laws_texts.specs.scan_history.scan_model
+pub use Rattle.yaml_emit_laws_dumps.specs.parse_model
+pub use Rattle.yaml_emit_laws_dumps.specs.parse_grammar
+pub use Rattle.yaml_emit_laws_dumps.specs.parse_laws_loading
+pub use Rattle.yaml_emit_laws_dumps.specs.emit_layout
+pub use Rattle.yaml_emit_laws_dumps.specs.emit_layout.emit_text

@@ -7,9 +7,9 @@ use Rattle.std.proofs.lemmas.List.Elements.{All-nil, All-cons, All-head, All-tai
 use Rattle.yaml_parse_model.specs.Tokens as token
 use Rattle.yaml_parse_model.specs.Tokens.{Token, TokenBody}
 use Rattle.yaml_parse_model.specs.Faults.{Fault, IsMemoryFault, scan_layers}
-use Rattle.yaml_scan_laws_utf8.specs.scan_history.Remaining.{SpelledText, Remaining, remaining}
-use Rattle.yaml_scan_laws_utf8.specs.Texts.{HasTexts}
-use Rattle.yaml_scan_laws_utf8.proofs.TokensUtf8.{remaining_sound}
+use Rattle.yaml_scan_laws_texts.specs.scan_history.Remaining.{SpelledText, Remaining, remaining}
+use Rattle.yaml_scan_laws_texts.specs.Utf8Texts.{HasTexts}
+use Rattle.yaml_scan_laws_texts.proofs.TokensUtf8.{remaining_sound}
 use Rattle.yaml_parse_model.specs.Source.{front_of, rest_of, MayAnswer, HasUtf8, GivesToken, GivesFault}
 use Rattle.yaml_round_laws_adapted.specs.Adapted.{spells_text, tag_fault, cut, adapted}
 

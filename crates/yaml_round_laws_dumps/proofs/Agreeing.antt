@@ -1,20 +1,20 @@
 -- Documents that agree with loaded ones are as loading makes them.
 use Rattle.std.proofs.Common.{◌≡◌, ℕ, zero, suc, ℤ, List, [], ◌∷◌, length, map, Some, None, refl, sym, ap, subst, ◌∙◌}
 use Rattle.std.specs.Prelude.{false, slice_get, pos}
-use Rattle.yaml_round_laws_writable.specs.content.parse_model.Nodes as model
-use Rattle.yaml_round_laws_writable.specs.content.parse_laws_loading.parse_document.Documents as documents
+use Rattle.yaml_round_laws_dumps.specs.content.parse_model.Nodes as model
+use Rattle.yaml_round_laws_dumps.specs.content.parse_laws_loading.parse_document.Documents as documents
 use Rattle.yaml_parse_loader.specs.Numbering.{is_bang}
 use Rattle.yaml_parse_loader.specs.Order.{VisitsInPreorder, done, again, first, children}
-use Rattle.yaml_round_laws_writable.specs.content.Input.{events_of, ending_of}
-use Rattle.yaml_round_laws_writable.specs.content.Said.{Document}
-use Rattle.yaml_round_laws_writable.specs.content.Loads.{Loads, loads_of}
-use Rattle.yaml_round_laws_writable.specs.Laws.{InputsAreWritable}
+use Rattle.yaml_round_laws_dumps.specs.content.Input.{events_of, ending_of}
+use Rattle.yaml_round_laws_dumps.specs.content.Said.{Document}
+use Rattle.yaml_round_laws_dumps.specs.content.Loads.{Loads, loads_of}
+use Rattle.yaml_round_laws_dumps.specs.WritableLaws.{InputsAreWritable}
 use Rattle.yaml_round_laws_dumps.specs.Agree.{CoreNode, Core, core_body, core_node, core_of, AreAgreeing}
 use Rattle.yaml_round_laws_dumps.specs.Loads.{LoadsOfContent}
 use Rattle.yaml_emit_laws_dumps.specs.Dumps as dumps
 use Rattle.yaml_emit_laws_dumps.specs.Dumps.{HasKind, IsLoadedNode, AreLoadedNodes, IsLoadedDocument}
 use Rattle.yaml_round_laws_dumps.specs.Events.{events_saying, load_each, trees_of_dumps, loaded_again, AreLoadedDocuments}
-use Rattle.yaml_round_laws_dumps.specs.Laws.{ContentIsSaid, ContentIsLoaded, ContentLoadsDocuments, DumpsAreNumberedBack, DumpsLoadBack, InputsLoadDocuments}
+use Rattle.yaml_round_laws_dumps.specs.DumpsLaws.{ContentIsSaid, ContentIsLoaded, ContentLoadsDocuments, DumpsAreNumberedBack, DumpsLoadBack, InputsLoadDocuments}
 
 -- ---- one node
 

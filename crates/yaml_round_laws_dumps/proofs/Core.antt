@@ -5,21 +5,21 @@ use Rattle.std.specs.Ordering.{nat_cmp}
 use Rattle.std.specs.Cmp.Lexicographic.{slice_cmp}
 use Rattle.std.specs.FinMap as map
 use Rattle.std.specs.FinMap.{FinMap}
-use Rattle.yaml_round_laws_writable.specs.content.scan_model.declared.yaml_mark_t.{yaml_mark_t}
-use Rattle.yaml_round_laws_writable.specs.content.scan_model.declared.yaml_version_directive_t.{yaml_version_directive_t}
-use Rattle.yaml_round_laws_writable.specs.content.scan_model.declared.yaml_scalar_style_t.TheVariants.{YAML_ANY_SCALAR_STYLE}
-use Rattle.yaml_round_laws_writable.specs.content.scan_model.declared.yaml_sequence_style_t.TheVariants.{YAML_ANY_SEQUENCE_STYLE}
-use Rattle.yaml_round_laws_writable.specs.content.scan_model.declared.yaml_mapping_style_t.TheVariants.{YAML_ANY_MAPPING_STYLE}
-use Rattle.yaml_round_laws_writable.specs.content.scan_model.Faults.{Fault}
-use Rattle.yaml_round_laws_writable.specs.content.parse_model.Events.{EventBody, TagDirective}
-use Rattle.yaml_round_laws_writable.specs.content.parse_model.Events as event
-use Rattle.yaml_round_laws_writable.specs.content.parse_model.Nodes.{Node, NodeBody}
-use Rattle.yaml_round_laws_writable.specs.content.parse_model.Nodes as node
-use Rattle.yaml_round_laws_writable.specs.content.parse_laws_loading.parse_document.Documents.{Document, change_place, str_tag, seq_tag, map_tag}
-use Rattle.yaml_round_laws_writable.specs.content.parse_grammar.Resolve.{Told}
+use Rattle.yaml_round_laws_dumps.specs.content.scan_model.declared.yaml_mark_t.{yaml_mark_t}
+use Rattle.yaml_round_laws_dumps.specs.content.scan_model.declared.yaml_version_directive_t.{yaml_version_directive_t}
+use Rattle.yaml_round_laws_dumps.specs.content.scan_model.declared.yaml_scalar_style_t.TheVariants.{YAML_ANY_SCALAR_STYLE}
+use Rattle.yaml_round_laws_dumps.specs.content.scan_model.declared.yaml_sequence_style_t.TheVariants.{YAML_ANY_SEQUENCE_STYLE}
+use Rattle.yaml_round_laws_dumps.specs.content.scan_model.declared.yaml_mapping_style_t.TheVariants.{YAML_ANY_MAPPING_STYLE}
+use Rattle.yaml_round_laws_dumps.specs.content.scan_model.Faults.{Fault}
+use Rattle.yaml_round_laws_dumps.specs.content.parse_model.Events.{EventBody, TagDirective}
+use Rattle.yaml_round_laws_dumps.specs.content.parse_model.Events as event
+use Rattle.yaml_round_laws_dumps.specs.content.parse_model.Nodes.{Node, NodeBody}
+use Rattle.yaml_round_laws_dumps.specs.content.parse_model.Nodes as node
+use Rattle.yaml_round_laws_dumps.specs.content.parse_laws_loading.parse_document.Documents.{Document, change_place, str_tag, seq_tag, map_tag}
+use Rattle.yaml_round_laws_dumps.specs.content.parse_grammar.Resolve.{Told}
 use Rattle.yaml_parse_loader.specs.Numbering.{loaded_tag}
 use Rattle.yaml_parse_loader.specs.Loading.{Open, open_sequence, open_mapping, Loading, nothing_loaded, attach, named, filled, filled_body, place_of, closed, aliased, enter_leaf, enter_open, LoadStep, goes_on, loaded, refused, step, step_body}
-use Rattle.yaml_round_laws_writable.specs.content.Loads.{Loads, in_front, load_on, load_all}
+use Rattle.yaml_round_laws_dumps.specs.content.Loads.{Loads, in_front, load_on, load_all}
 use Rattle.yaml_round_laws_dumps.specs.Agree.{CoreNode, Core, core_body, core_node, core_of}
 
 -- ---- the machine

@@ -6,19 +6,19 @@ use Rattle.std.specs.Str.{bytes_eq}
 use Rattle.std.specs.Ordering.{nat_cmp, eq_by_cmp}
 use Rattle.std.specs.Cmp.Lexicographic.{slice_cmp, nat_list_cmp_total}
 use Rattle.std.specs.FinMap as map
-use Rattle.yaml_round_laws_writable.specs.content.scan_model.declared.yaml_sequence_style_t.TheVariants.{YAML_ANY_SEQUENCE_STYLE}
-use Rattle.yaml_round_laws_writable.specs.content.scan_model.declared.yaml_mapping_style_t.TheVariants.{YAML_ANY_MAPPING_STYLE}
-use Rattle.yaml_round_laws_writable.specs.content.parse_model.Events.{EventBody}
-use Rattle.yaml_round_laws_writable.specs.content.parse_model.Events as event
+use Rattle.yaml_round_laws_dumps.specs.content.scan_model.declared.yaml_sequence_style_t.TheVariants.{YAML_ANY_SEQUENCE_STYLE}
+use Rattle.yaml_round_laws_dumps.specs.content.scan_model.declared.yaml_mapping_style_t.TheVariants.{YAML_ANY_MAPPING_STYLE}
+use Rattle.yaml_round_laws_dumps.specs.content.parse_model.Events.{EventBody}
+use Rattle.yaml_round_laws_dumps.specs.content.parse_model.Events as event
 use Rattle.yaml_parse_loader.specs.Loading.{Open, open_sequence, open_mapping, attach, named, nothing_loaded}
-use Rattle.yaml_round_laws_writable.specs.content.Events.{contents}
-use Rattle.yaml_round_laws_writable.specs.content.Loads.{load_all}
-use Rattle.yaml_round_laws_writable.specs.content.Said.{Mark, untagged, tagged, Node, alias, scalar, sequence, mapping, Nodes, no_nodes, node, Pairs, no_pairs, pair, Document, scalar_says, node_says, items_say, pairs_say, documents_say}
+use Rattle.yaml_round_laws_dumps.specs.content.Events.{contents}
+use Rattle.yaml_round_laws_dumps.specs.content.Loads.{load_all}
+use Rattle.yaml_round_laws_dumps.specs.content.Said.{Mark, untagged, tagged, Node, alias, scalar, sequence, mapping, Nodes, no_nodes, node, Pairs, no_pairs, pair, Document, scalar_says, node_says, items_say, pairs_say, documents_say}
 use Rattle.yaml_round_laws_dumps.specs.Agree.{Core, CoreNode}
 use Rattle.yaml_round_laws_dumps.specs.Renamed.{Renaming, renamed_anchor, renamed_node, renamed_items, renamed_pairs, renamed, IsAnchorName, HasName, ItemsHaveName, PairsHaveName, AreOneToOne}
 use Rattle.yaml_round_laws_dumps.specs.Loads.{LoadsOfRenamed}
 use Rattle.yaml_round_laws_dumps.proofs.Core.{Anchors, CoreLoading, CoreLoads, core_leaf, core_open, core_closed, core_aliased, core_nothing, core_in_front, core_on, core_loads, is_fault}
-use Rattle.yaml_round_laws_dumps.proofs.Contents.{loads_said, faults_alike, alike}
+use Rattle.yaml_round_laws_dumps.proofs.DumpsContents.{loads_said, faults_alike, alike}
 
 -- ---- names
 

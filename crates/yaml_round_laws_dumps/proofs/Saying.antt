@@ -3,22 +3,22 @@ use Rattle.std.proofs.Common.{◌≡◌, ◌==◌, ℕ, suc, Bool, true, false, 
 use Rattle.std.proofs.lemmas.Bool.{cases_Bool}
 use Rattle.std.proofs.lemmas.Bool.Decides.{nat_tests}
 use Rattle.std.specs.Prelude.{slice_index}
-use Rattle.yaml_round_laws_writable.specs.content.scan_model.declared.yaml_scalar_style_t.TheVariants.{YAML_ANY_SCALAR_STYLE}
-use Rattle.yaml_round_laws_writable.specs.content.scan_model.declared.yaml_sequence_style_t.TheVariants.{YAML_ANY_SEQUENCE_STYLE}
-use Rattle.yaml_round_laws_writable.specs.content.scan_model.declared.yaml_mapping_style_t.TheVariants.{YAML_ANY_MAPPING_STYLE}
-use Rattle.yaml_round_laws_writable.specs.content.scan_model.declared.yaml_encoding_t.TheVariants.{YAML_ANY_ENCODING}
-use Rattle.yaml_round_laws_writable.specs.content.parse_model.Events.{Event, EventBody}
-use Rattle.yaml_round_laws_writable.specs.content.parse_model.Events as event
+use Rattle.yaml_round_laws_dumps.specs.content.scan_model.declared.yaml_scalar_style_t.TheVariants.{YAML_ANY_SCALAR_STYLE}
+use Rattle.yaml_round_laws_dumps.specs.content.scan_model.declared.yaml_sequence_style_t.TheVariants.{YAML_ANY_SEQUENCE_STYLE}
+use Rattle.yaml_round_laws_dumps.specs.content.scan_model.declared.yaml_mapping_style_t.TheVariants.{YAML_ANY_MAPPING_STYLE}
+use Rattle.yaml_round_laws_dumps.specs.content.scan_model.declared.yaml_encoding_t.TheVariants.{YAML_ANY_ENCODING}
+use Rattle.yaml_round_laws_dumps.specs.content.parse_model.Events.{Event, EventBody}
+use Rattle.yaml_round_laws_dumps.specs.content.parse_model.Events as event
 use Rattle.yaml_parse_loader.specs.Numbering.{events, item_events, pair_events}
-use Rattle.yaml_round_laws_writable.specs.content.Normalize.{is_lone_mark, normalize_scalar}
-use Rattle.yaml_round_laws_writable.specs.content.Content.{content_of}
-use Rattle.yaml_round_laws_writable.specs.content.Events.{contents}
-use Rattle.yaml_round_laws_writable.specs.content.Said.{Mark, untagged, tagged, Node, alias, scalar, sequence, mapping, Nodes, no_nodes, node, Pairs, no_pairs, pair, Document, scalar_says, node_says, items_say, pairs_say, documents_say}
-use Rattle.yaml_round_laws_writable.specs.content.Canon.{written_node, written_nodes, written_pairs}
-use Rattle.yaml_round_laws_writable.specs.Writable.{IsMark, IsWritable, AreItemsWritable, ArePairsWritable, AreWritable}
+use Rattle.yaml_round_laws_dumps.specs.content.Normalize.{is_lone_mark, normalize_scalar}
+use Rattle.yaml_round_laws_dumps.specs.content.Content.{content_of}
+use Rattle.yaml_round_laws_dumps.specs.content.Events.{contents}
+use Rattle.yaml_round_laws_dumps.specs.content.Said.{Mark, untagged, tagged, Node, alias, scalar, sequence, mapping, Nodes, no_nodes, node, Pairs, no_pairs, pair, Document, scalar_says, node_says, items_say, pairs_say, documents_say}
+use Rattle.yaml_round_laws_dumps.specs.content.Canon.{written_node, written_nodes, written_pairs}
+use Rattle.yaml_round_laws_dumps.specs.Writable.{IsMark, IsWritable, AreItemsWritable, ArePairsWritable, AreWritable}
 use Rattle.yaml_emit_laws_dumps.specs.Dumps.{as_content, as_contents, as_pairs}
 use Rattle.yaml_round_laws_dumps.specs.Events.{unplaced, content_events, told_by}
-use Rattle.yaml_round_laws_dumps.specs.Laws.{ContentIsSaid}
+use Rattle.yaml_round_laws_dumps.specs.DumpsLaws.{ContentIsSaid}
 
 -- ---- a tag that isn't `!`
 

@@ -1,24 +1,24 @@
 -- What the tree of a node says is numbered as what the node says.
 use Rattle.std.proofs.Common.{◌≡◌, ◌<◌, ◌^◌, ℕ, suc, ℤ, pos, List, [], ◌∷◌, length, map, Option, Some, None, Result, Ok, Err, refl, ap, ◌∙◌, arith}
 use Rattle.std.specs.Prelude.{◌+◌, ◌++◌, slice_get}
-use Rattle.yaml_round_laws_writable.specs.content.scan_model.declared.yaml_sequence_style_t.TheVariants.{YAML_ANY_SEQUENCE_STYLE}
-use Rattle.yaml_round_laws_writable.specs.content.scan_model.declared.yaml_mapping_style_t.TheVariants.{YAML_ANY_MAPPING_STYLE}
-use Rattle.yaml_round_laws_writable.specs.content.parse_model.declared.yaml_node_pair_t.{yaml_node_pair_t}
-use Rattle.yaml_round_laws_writable.specs.content.scan_model.Tokens.{zero_mark}
-use Rattle.yaml_round_laws_writable.specs.content.scan_model.Faults.{Fault}
-use Rattle.yaml_round_laws_writable.specs.content.parse_model.Nodes as model
-use Rattle.yaml_round_laws_writable.specs.content.parse_laws_loading.parse_document.Documents as documents
+use Rattle.yaml_round_laws_dumps.specs.content.scan_model.declared.yaml_sequence_style_t.TheVariants.{YAML_ANY_SEQUENCE_STYLE}
+use Rattle.yaml_round_laws_dumps.specs.content.scan_model.declared.yaml_mapping_style_t.TheVariants.{YAML_ANY_MAPPING_STYLE}
+use Rattle.yaml_round_laws_dumps.specs.content.parse_model.declared.yaml_node_pair_t.{yaml_node_pair_t}
+use Rattle.yaml_round_laws_dumps.specs.content.scan_model.Tokens.{zero_mark}
+use Rattle.yaml_round_laws_dumps.specs.content.scan_model.Faults.{Fault}
+use Rattle.yaml_round_laws_dumps.specs.content.parse_model.Nodes as model
+use Rattle.yaml_round_laws_dumps.specs.content.parse_laws_loading.parse_document.Documents as documents
 use Rattle.yaml_parse_loader.specs.Numbering.{Anchored, Numbered, ◌>>=◌, and_node, number, number_items, number_pairs, sequence_node, mapping_node, document_of}
 use Rattle.yaml_parse_loader.specs.Order.{VisitsInPreorder, again, first}
-use Rattle.yaml_round_laws_writable.specs.content.emit_layout.Content as emit
-use Rattle.yaml_round_laws_writable.specs.content.round_laws.emit_laws_streams.emit_graph.Graph.{graph_content}
-use Rattle.yaml_round_laws_writable.specs.content.Trees.{tree_of, trees_of, pair_trees_of, document_tree}
-use Rattle.yaml_round_laws_writable.specs.content.Canon.{written_node, written_nodes, written_pairs}
-use Rattle.yaml_round_laws_writable.specs.content.Loads.{Loads, in_front}
+use Rattle.yaml_round_laws_dumps.specs.content.emit_layout.Content as emit
+use Rattle.yaml_round_laws_dumps.specs.content.emit_laws_streams.emit_graph.Graph.{graph_content}
+use Rattle.yaml_round_laws_dumps.specs.content.Trees.{tree_of, trees_of, pair_trees_of, document_tree}
+use Rattle.yaml_round_laws_dumps.specs.content.Canon.{written_node, written_nodes, written_pairs}
+use Rattle.yaml_round_laws_dumps.specs.content.Loads.{Loads, in_front}
 use Rattle.yaml_emit_laws_dumps.specs.Dumps.{as_content, as_contents, as_pairs, head_of, core_node, core_document, IsLoadedDocument}
-use Rattle.yaml_emit_laws_dumps.specs.Laws.{DumpsNumberBack}
+use Rattle.yaml_emit_laws_dumps.specs.DumpsLaws.{DumpsNumberBack}
 use Rattle.yaml_round_laws_dumps.specs.Events.{loader_content, load_of, load_each, trees_of_dumps, loaded_again}
-use Rattle.yaml_round_laws_dumps.specs.Laws.{DumpsAreNumberedBack}
+use Rattle.yaml_round_laws_dumps.specs.DumpsLaws.{DumpsAreNumberedBack}
 
 scalar_numbered : (x : emit.Scalar) (count : ℕ) (before : Anchored) (tag : Option (List ℕ)) → x.tag ≡ tag
     → number (as_content (written_node (tree_of (emit.scalar_node x)))) count before ≡ number (as_content (emit.scalar_node x)) count before

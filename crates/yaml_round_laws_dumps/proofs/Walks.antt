@@ -3,18 +3,18 @@ use Rattle.std.proofs.Common.{◌≡◌, ℕ, zero, suc, ℤ, pos, negsuc, Bool,
 use Rattle.std.specs.Prelude.{slice_get, if◌then◌else◌}
 use Rattle.std.proofs.Math.Path.{fun_ext}
 use Rattle.std.proofs.lemmas.List.{length-map}
-use Rattle.yaml_round_laws_writable.specs.content.parse_model.declared.yaml_node_pair_t.{yaml_node_pair_t}
-use Rattle.yaml_round_laws_writable.specs.content.scan_model.Tokens.{zero_mark}
-use Rattle.yaml_round_laws_writable.specs.content.parse_model.Nodes as model
-use Rattle.yaml_round_laws_writable.specs.content.parse_laws_loading.parse_document.Documents as documents
-use Rattle.yaml_round_laws_writable.specs.content.emit_layout.Content as emit
-use Rattle.yaml_round_laws_writable.specs.content.round_laws.emit_laws_streams.emit_graph.declared.walk.Turn.{Turn}
-use Rattle.yaml_round_laws_writable.specs.content.round_laws.emit_laws_streams.emit_graph.declared.walk.Turn.TheVariants.{First, Again}
-use Rattle.yaml_round_laws_writable.specs.content.round_laws.emit_laws_streams.emit_graph.Graph.{Met, is_met, meet, body_at, tag_at, body_of_id, tag_of_id, none_met, turns, none_numbered, numbered, numbers, number_at, anchor_of, graph_root, graph_content}
-use Rattle.yaml_round_laws_writable.specs.content.round_laws.emit_laws_streams.emit_graph.Onward.{Rest, inside, visits, nothing_left, items_by, pairs_by, node_by, content_by, itself, turns_onward, root_onward}
-use Rattle.yaml_round_laws_writable.proofs.content.round_laws.emit_laws_streams.emit_graph.Joining.{turns_joined, root_joined}
-use Rattle.yaml_round_laws_writable.specs.content.Said.{Node, Nodes, Pairs, Document, node, pair, sequence, mapping}
-use Rattle.yaml_round_laws_writable.specs.content.Trees.{tree_of, trees_of, pair_trees_of, document_tree, document_trees}
+use Rattle.yaml_round_laws_dumps.specs.content.parse_model.declared.yaml_node_pair_t.{yaml_node_pair_t}
+use Rattle.yaml_round_laws_dumps.specs.content.scan_model.Tokens.{zero_mark}
+use Rattle.yaml_round_laws_dumps.specs.content.parse_model.Nodes as model
+use Rattle.yaml_round_laws_dumps.specs.content.parse_laws_loading.parse_document.Documents as documents
+use Rattle.yaml_round_laws_dumps.specs.content.emit_layout.Content as emit
+use Rattle.yaml_round_laws_dumps.specs.content.emit_laws_streams.emit_graph.declared.walk.Turn.{Turn}
+use Rattle.yaml_round_laws_dumps.specs.content.emit_laws_streams.emit_graph.declared.walk.Turn.TheVariants.{First, Again}
+use Rattle.yaml_round_laws_dumps.specs.content.emit_laws_streams.emit_graph.Graph.{Met, is_met, meet, body_at, tag_at, body_of_id, tag_of_id, none_met, turns, none_numbered, numbered, numbers, number_at, anchor_of, graph_root, graph_content}
+use Rattle.yaml_round_laws_dumps.specs.content.emit_laws_streams.emit_graph.Onward.{Rest, inside, visits, nothing_left, items_by, pairs_by, node_by, content_by, itself, turns_onward, root_onward}
+use Rattle.yaml_round_laws_dumps.proofs.content.emit_laws_streams.emit_graph.Joining.{turns_joined, root_joined}
+use Rattle.yaml_round_laws_dumps.specs.content.Said.{Node, Nodes, Pairs, Document, node, pair, sequence, mapping}
+use Rattle.yaml_round_laws_dumps.specs.content.Trees.{tree_of, trees_of, pair_trees_of, document_tree, document_trees}
 use Rattle.yaml_round_laws_dumps.specs.Agree.{CoreNode, Core, core_body, core_node, core_of}
 use Rattle.yaml_round_laws_dumps.specs.Loads.{AgreeingSayTheSame}
 

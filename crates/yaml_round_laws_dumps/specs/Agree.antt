@@ -1,14 +1,14 @@
 -- Documents that agree: the data is the same. Styles, marks and flags are no part of it.
 use Rattle.std.specs.Prelude.{◌≡◌, ◌↔◌, ℕ, List, map, Option, None}
-use Rattle.yaml_round_laws_writable.specs.content.scan_model.declared.yaml_version_directive_t.{yaml_version_directive_t}
-use Rattle.yaml_round_laws_writable.specs.content.scan_model.declared.yaml_scalar_style_t.TheVariants.{YAML_ANY_SCALAR_STYLE}
-use Rattle.yaml_round_laws_writable.specs.content.scan_model.declared.yaml_sequence_style_t.TheVariants.{YAML_ANY_SEQUENCE_STYLE}
-use Rattle.yaml_round_laws_writable.specs.content.scan_model.declared.yaml_mapping_style_t.TheVariants.{YAML_ANY_MAPPING_STYLE}
-use Rattle.yaml_round_laws_writable.specs.content.parse_model.Events.{TagDirective}
-use Rattle.yaml_round_laws_writable.specs.content.parse_model.Nodes.{Node, NodeBody}
-use Rattle.yaml_round_laws_writable.specs.content.parse_model.Nodes as node
-use Rattle.yaml_round_laws_writable.specs.content.parse_laws_loading.parse_document.Documents.{Document}
-use Rattle.yaml_round_laws_writable.specs.content.Loads.{Loads}
+use Rattle.yaml_round_laws_dumps.specs.content.scan_model.declared.yaml_version_directive_t.{yaml_version_directive_t}
+use Rattle.yaml_round_laws_dumps.specs.content.scan_model.declared.yaml_scalar_style_t.TheVariants.{YAML_ANY_SCALAR_STYLE}
+use Rattle.yaml_round_laws_dumps.specs.content.scan_model.declared.yaml_sequence_style_t.TheVariants.{YAML_ANY_SEQUENCE_STYLE}
+use Rattle.yaml_round_laws_dumps.specs.content.scan_model.declared.yaml_mapping_style_t.TheVariants.{YAML_ANY_MAPPING_STYLE}
+use Rattle.yaml_round_laws_dumps.specs.content.parse_model.Events.{TagDirective}
+use Rattle.yaml_round_laws_dumps.specs.content.parse_model.Nodes.{Node, NodeBody}
+use Rattle.yaml_round_laws_dumps.specs.content.parse_model.Nodes as node
+use Rattle.yaml_round_laws_dumps.specs.content.parse_laws_loading.parse_document.Documents.{Document}
+use Rattle.yaml_round_laws_dumps.specs.content.Loads.{Loads}
 
 -- a node without style and marks
 pub record CoreNode : Type 0 where

@@ -1,18 +1,18 @@
 -- The events of a content, as a loader is fed them without styles and marks, and what they load.
 use Rattle.std.specs.Prelude.{◌<◌, ◌^◌, true, List, [], ◌∷◌, length, map, Some, None, Result, Ok, Err}
-use Rattle.yaml_round_laws_writable.specs.content.scan_model.declared.yaml_encoding_t.TheVariants.{YAML_ANY_ENCODING}
-use Rattle.yaml_round_laws_writable.specs.content.scan_model.Tokens.{zero_mark}
-use Rattle.yaml_round_laws_writable.specs.content.scan_model.Faults.{Fault}
-use Rattle.yaml_round_laws_writable.specs.content.parse_model.Events.{Event, EventBody}
-use Rattle.yaml_round_laws_writable.specs.content.parse_model.Events as event
-use Rattle.yaml_round_laws_writable.specs.content.parse_laws_loading.parse_document.Documents as documents
-use Rattle.yaml_round_laws_writable.specs.content.parse_grammar.Resolve.{Told}
+use Rattle.yaml_round_laws_dumps.specs.content.scan_model.declared.yaml_encoding_t.TheVariants.{YAML_ANY_ENCODING}
+use Rattle.yaml_round_laws_dumps.specs.content.scan_model.Tokens.{zero_mark}
+use Rattle.yaml_round_laws_dumps.specs.content.scan_model.Faults.{Fault}
+use Rattle.yaml_round_laws_dumps.specs.content.parse_model.Events.{Event, EventBody}
+use Rattle.yaml_round_laws_dumps.specs.content.parse_model.Events as event
+use Rattle.yaml_round_laws_dumps.specs.content.parse_laws_loading.parse_document.Documents as documents
+use Rattle.yaml_round_laws_dumps.specs.content.parse_grammar.Resolve.{Told}
 use Rattle.yaml_parse_loader.specs.Numbering.{DocumentContent, spanning, document_events, document_of}
-use Rattle.yaml_round_laws_writable.specs.content.round_laws.emit_laws_streams.emit_graph.Graph.{graph_content}
-use Rattle.yaml_round_laws_writable.specs.content.Said.{Document}
-use Rattle.yaml_round_laws_writable.specs.content.Canon.{written_document}
-use Rattle.yaml_round_laws_writable.specs.content.Trees.{document_trees}
-use Rattle.yaml_round_laws_writable.specs.content.Loads.{Loads, no_more, in_front}
+use Rattle.yaml_round_laws_dumps.specs.content.emit_laws_streams.emit_graph.Graph.{graph_content}
+use Rattle.yaml_round_laws_dumps.specs.content.Said.{Document}
+use Rattle.yaml_round_laws_dumps.specs.content.Canon.{written_document}
+use Rattle.yaml_round_laws_dumps.specs.content.Trees.{document_trees}
+use Rattle.yaml_round_laws_dumps.specs.content.Loads.{Loads, no_more, in_front}
 use Rattle.yaml_emit_laws_dumps.specs.Dumps.{as_document, core_document, IsLoadedDocument}
 
 -- ---- events

@@ -1,14 +1,14 @@
 -- What is loaded depends on what the events say alone, and not on the names of anchors.
 use Rattle.std.specs.Prelude.{◌≡◌, ◌↔◌, ℕ, List, map, Option, None}
-use Rattle.yaml_round_laws_writable.specs.content.scan_model.Faults.{Fault}
+use Rattle.yaml_round_laws_dumps.specs.content.scan_model.Faults.{Fault}
 use Rattle.yaml_parse_loader.specs.Loading.{nothing_loaded}
-use Rattle.yaml_round_laws_writable.specs.content.parse_laws_loading.parse_document.Documents as documents
-use Rattle.yaml_round_laws_writable.specs.content.parse_grammar.Resolve.{Told}
-use Rattle.yaml_round_laws_writable.specs.content.round_laws.emit_laws_streams.emit_graph.Graph.{graph_content}
-use Rattle.yaml_round_laws_writable.specs.content.Events.{contents}
-use Rattle.yaml_round_laws_writable.specs.content.Said.{Document, stream_says}
-use Rattle.yaml_round_laws_writable.specs.content.Trees.{document_trees}
-use Rattle.yaml_round_laws_writable.specs.content.Loads.{load_all}
+use Rattle.yaml_round_laws_dumps.specs.content.parse_laws_loading.parse_document.Documents as documents
+use Rattle.yaml_round_laws_dumps.specs.content.parse_grammar.Resolve.{Told}
+use Rattle.yaml_round_laws_dumps.specs.content.emit_laws_streams.emit_graph.Graph.{graph_content}
+use Rattle.yaml_round_laws_dumps.specs.content.Events.{contents}
+use Rattle.yaml_round_laws_dumps.specs.content.Said.{Document, stream_says}
+use Rattle.yaml_round_laws_dumps.specs.content.Trees.{document_trees}
+use Rattle.yaml_round_laws_dumps.specs.content.Loads.{load_all}
 use Rattle.yaml_round_laws_dumps.specs.Agree.{AreAgreeing, LoadAlike}
 use Rattle.yaml_round_laws_dumps.specs.Renamed.{Renaming, renamed, AreOneToOne}
 

@@ -1,6 +1,6 @@
 -- Anchors under other names.
 use Rattle.std.specs.Prelude.{◌≡◌, ◌⊎◌, ℕ, suc, List, [], ◌∷◌, Option, Some, None}
-use Rattle.yaml_round_laws_writable.specs.content.Said.{Node, alias, scalar, sequence, mapping, Nodes, no_nodes, node, Pairs, no_pairs, pair, Document}
+use Rattle.yaml_round_laws_dumps.specs.content.Said.{Node, alias, scalar, sequence, mapping, Nodes, no_nodes, node, Pairs, no_pairs, pair, Document}
 
 abbrev pub Renaming : Type 0
 Renaming = List ℕ → List ℕ

@@ -2,23 +2,23 @@
 use Rattle.std.proofs.Common.{◌≡◌, ℕ, ◌<◌, nat_lt, not, Bool, true, false, List, [], ◌∷◌, refl, sym, subst, inl, inr, arith}
 use Rattle.std.specs.Str.{chars}
 use Rattle.std.proofs.lemmas.Bool.Decides.{nat_tests}
-use Rattle.yaml_emit_laws_pretty.specs.emit_laws_json.scan_laws_plain.Values.{is_plain_value}
-use Rattle.yaml_emit_laws_pretty.specs.emit_laws_json.emit_layout.emit_text.declared.Settings.{Settings}
-use Rattle.yaml_emit_laws_pretty.specs.emit_laws_json.emit_layout.emit_text.declared.Encoding.TheVariants.{Utf8}
-use Rattle.yaml_emit_laws_pretty.specs.emit_laws_json.emit_layout.emit_text.Text.{Item, char_bytes, encode}
-use Rattle.yaml_emit_laws_pretty.specs.emit_laws_json.emit_layout.emit_text.Layout.{Layout, Rest, ◌▹◌, keep, stay, choose, when, letters, word, blanks, line, opener, after_text, start, nothing_more}
-use Rattle.yaml_emit_laws_pretty.specs.emit_laws_json.emit_layout.emit_text.Quoted.{double_quoted}
-use Rattle.yaml_emit_laws_pretty.specs.emit_laws_json.emit_layout.Content.{Scalar, Node, alias_node, scalar_node, sequence_node, mapping_node, Document}
-use Rattle.yaml_emit_laws_pretty.specs.emit_laws_json.emit_layout.Nodes.{MOST, is_kept, deep_if, checked, deeper, page_at, root_spot, scalar_layout, node_layout, items_layout, pairs_layout, dots, dashes, line_at, stop_layout, documents_layout, stream_layout}
-use Rattle.yaml_emit_laws_pretty.specs.emit_laws_json.Json.{IsJsonNode, IsJsonDocument}
-use Rattle.yaml_emit_laws_pretty.proofs.emit_laws_json.Layouts.{quoted_laid_out, plain_laid_out, collections_flow}
+use Rattle.yaml_emit_laws_pretty.specs.scan_laws_plain.Values.{is_plain_value}
+use Rattle.yaml_emit_laws_pretty.specs.emit_layout.emit_text.declared.Settings.{Settings}
+use Rattle.yaml_emit_laws_pretty.specs.emit_layout.emit_text.declared.Encoding.TheVariants.{Utf8}
+use Rattle.yaml_emit_laws_pretty.specs.emit_layout.emit_text.Text.{Item, char_bytes, encode}
+use Rattle.yaml_emit_laws_pretty.specs.emit_layout.emit_text.Layout.{Layout, Rest, ◌▹◌, keep, stay, choose, when, letters, word, blanks, line, opener, after_text, start, nothing_more}
+use Rattle.yaml_emit_laws_pretty.specs.emit_layout.emit_text.Quoted.{double_quoted}
+use Rattle.yaml_emit_laws_pretty.specs.emit_layout.Content.{Scalar, Node, alias_node, scalar_node, sequence_node, mapping_node, Document}
+use Rattle.yaml_emit_laws_pretty.specs.emit_layout.Nodes.{MOST, is_kept, deep_if, checked, deeper, page_at, root_spot, scalar_layout, node_layout, items_layout, pairs_layout, dots, dashes, line_at, stop_layout, documents_layout, stream_layout}
+use Rattle.yaml_emit_laws_pretty.specs.Json.{IsJsonNode, IsJsonDocument}
+use Rattle.yaml_emit_laws_pretty.proofs.Layouts.{quoted_laid_out, plain_laid_out, collections_flow}
 use Rattle.yaml_emit_laws_pretty.proofs.Nodes.{prettily}
 use Rattle.yaml_emit_laws_pretty.proofs.Documents.{pretty, behind_root, root_on, document_is, same_settings}
-use Rattle.yaml_round_laws_bytes.specs.Laws.{IsSpellable, encoding_named}
-use Rattle.yaml_round_laws_bytes.proofs.Characters.{Fits, graphic}
-use Rattle.yaml_round_laws_bytes.proofs.Layouts.{Tame, nothing_allowed, both, stay_tame, choose_tame, when_tame, word_tame, line_tame, keep_tame}
-use Rattle.yaml_round_laws_bytes.proofs.Marks.{BeginsLow}
-use Rattle.yaml_round_laws_bytes.proofs.Joining.{Decodes, decodes}
+use Rattle.yaml_round_laws_canonical.specs.BytesLaws.{IsSpellable, encoding_named}
+use Rattle.yaml_round_laws_canonical.proofs.Characters.{Fits, graphic}
+use Rattle.yaml_round_laws_canonical.proofs.Layouts.{Tame, nothing_allowed, both, stay_tame, choose_tame, when_tame, word_tame, line_tame, keep_tame}
+use Rattle.yaml_round_laws_canonical.proofs.Marks.{BeginsLow}
+use Rattle.yaml_round_laws_canonical.proofs.Joining.{Decodes, decodes}
 use Rattle.yaml_round_laws_kept.specs.JsonBytes.{bytes_of_one, text_of_one, JsonBytesDecode}
 use Rattle.yaml_round_laws_kept.proofs.Nodes.{low_first, node_tame}
 

@@ -1,20 +1,20 @@
 -- What the events of a document shaped as JSON say.
 use Rattle.std.proofs.Common.{◌≡◌, ℕ, Bool, true, false, List, [], ◌∷◌, map, Option, None, refl, sym, ap, ◌∙◌, inl, inr}
-use Rattle.yaml_round_laws_tree.specs.back_canon.scan.declared.yaml_encoding_t.{yaml_encoding_t}
-use Rattle.yaml_round_laws_tree.specs.back_canon.scan.declared.yaml_encoding_t.TheVariants.{YAML_ANY_ENCODING}
-use Rattle.yaml_round_laws_tree.specs.back_canon.scan.declared.yaml_scalar_style_t.{yaml_scalar_style_t}
-use Rattle.yaml_round_laws_tree.specs.back_canon.scan.declared.yaml_scalar_style_t.TheVariants.{YAML_ANY_SCALAR_STYLE}
-use Rattle.yaml_round_laws_tree.specs.back_canon.scan.declared.yaml_version_directive_t.{yaml_version_directive_t}
-use Rattle.yaml_round_laws_tree.specs.back_canon.scan.declared.yaml_sequence_style_t.TheVariants.{YAML_ANY_SEQUENCE_STYLE}
-use Rattle.yaml_round_laws_tree.specs.back_canon.scan.declared.yaml_mapping_style_t.TheVariants.{YAML_ANY_MAPPING_STYLE}
-use Rattle.yaml_round_laws_tree.specs.parse_grammar.parse_model.Events.{EventBody, TagDirective}
-use Rattle.yaml_round_laws_tree.specs.parse_grammar.parse_model.Events as event
-use Rattle.yaml_round_laws_tree.specs.parse_grammar.Resolve.{Told, is_plain, scalar_event}
-use Rattle.yaml_round_laws_writable.specs.content.Normalize.{normalize_body, normalize_scalar, is_lone_mark}
-use Rattle.yaml_round_laws_writable.specs.content.Content.{content_of, counts_as_plain}
-use Rattle.yaml_round_laws_writable.specs.content.Events.{emitter_events, contents}
-use Rattle.yaml_emit_laws_pretty.specs.emit_laws_json.emit_layout.Content as emit
-use Rattle.yaml_emit_laws_pretty.specs.emit_laws_json.Json.{IsJsonNode, IsJsonKey, IsJsonScalar, AreJsonNodes, AreJsonPairs, IsJsonDocument}
+use Rattle.yaml_round_laws_canonical.specs.back_canon.scan.declared.yaml_encoding_t.{yaml_encoding_t}
+use Rattle.yaml_round_laws_canonical.specs.back_canon.scan.declared.yaml_encoding_t.TheVariants.{YAML_ANY_ENCODING}
+use Rattle.yaml_round_laws_canonical.specs.back_canon.scan.declared.yaml_scalar_style_t.{yaml_scalar_style_t}
+use Rattle.yaml_round_laws_canonical.specs.back_canon.scan.declared.yaml_scalar_style_t.TheVariants.{YAML_ANY_SCALAR_STYLE}
+use Rattle.yaml_round_laws_canonical.specs.back_canon.scan.declared.yaml_version_directive_t.{yaml_version_directive_t}
+use Rattle.yaml_round_laws_canonical.specs.back_canon.scan.declared.yaml_sequence_style_t.TheVariants.{YAML_ANY_SEQUENCE_STYLE}
+use Rattle.yaml_round_laws_canonical.specs.back_canon.scan.declared.yaml_mapping_style_t.TheVariants.{YAML_ANY_MAPPING_STYLE}
+use Rattle.yaml_round_laws_canonical.specs.parse_grammar.parse_model.Events.{EventBody, TagDirective}
+use Rattle.yaml_round_laws_canonical.specs.parse_grammar.parse_model.Events as event
+use Rattle.yaml_round_laws_canonical.specs.parse_grammar.Resolve.{Told, is_plain, scalar_event}
+use Rattle.yaml_round_laws_dumps.specs.content.Normalize.{normalize_body, normalize_scalar, is_lone_mark}
+use Rattle.yaml_round_laws_dumps.specs.content.Content.{content_of, counts_as_plain}
+use Rattle.yaml_round_laws_dumps.specs.content.Events.{emitter_events, contents}
+use Rattle.yaml_emit_laws_pretty.specs.emit_layout.Content as emit
+use Rattle.yaml_emit_laws_pretty.specs.Json.{IsJsonNode, IsJsonKey, IsJsonScalar, AreJsonNodes, AreJsonPairs, IsJsonDocument}
 use Rattle.yaml_round_laws_kept.specs.Reads.{json_reads, json_items_reads, json_pairs_reads, document_reads}
 
 -- what an emitter's event says

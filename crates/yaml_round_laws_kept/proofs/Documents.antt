@@ -1,23 +1,23 @@
 -- Trees of documents.
 use Rattle.std.proofs.Common.{◌≡◌, Bool, true, false, List, [], ◌∷◌, None, refl, sym, ap, ◌∙◌}
-use Rattle.yaml_round_laws_tree.specs.parse_grammar.parse_model.declared.yaml_encoding_t.{yaml_encoding_t}
-use Rattle.yaml_round_laws_tree.specs.parse_grammar.parse_model.Tokens.{Token}
-use Rattle.yaml_round_laws_tree.specs.parse_grammar.parse_model.Tokens as token
-use Rattle.yaml_round_laws_tree.specs.parse_grammar.parse_model.Events.{EventBody}
-use Rattle.yaml_round_laws_tree.specs.parse_grammar.parse_model.Events as event
-use Rattle.yaml_round_laws_tree.specs.parse_grammar.declared.name.Wants.TheVariants.{Block}
-use Rattle.yaml_round_laws_tree.specs.parse_grammar.Trees.{Span, token_at, Given, spell_node, spell_ends, there, no_first, first}
-use Rattle.yaml_round_laws_tree.specs.parse_grammar.TreeSteps.{items_node, items_ends, items_first, items_documents, items}
-use Rattle.yaml_round_laws_tree.specs.parse_grammar.Trees as trees
-use Rattle.yaml_round_laws_tree.specs.parse_grammar.Machine.{Outcome}
-use Rattle.yaml_round_laws_tree.specs.parse_grammar.Resolve.{no_directives, gave, settle, Reading, reading}
-use Rattle.yaml_round_laws_tree.specs.parse_grammar.Remaining.{reading_of}
-use Rattle.yaml_round_laws_tree.proofs.parse_grammar.CompleteStream.{stream_runs}
-use Rattle.yaml_emit_laws_pretty.specs.emit_laws_json.emit_layout.Content.{Document}
-use Rattle.yaml_emit_laws_pretty.specs.emit_laws_json.Bodies.{json_bodies, start_bodies, stop_bodies}
-use Rattle.yaml_round_laws_tree.specs.Laws.{token_bodies, event_bodies, Says, parsed_of}
-use Rattle.yaml_round_laws_tree.proofs.Growing.{take}
-use Rattle.yaml_round_laws_tree.proofs.Documents.{item_says, no_spans, ends_say}
+use Rattle.yaml_round_laws_canonical.specs.parse_grammar.parse_model.declared.yaml_encoding_t.{yaml_encoding_t}
+use Rattle.yaml_round_laws_canonical.specs.parse_grammar.parse_model.Tokens.{Token}
+use Rattle.yaml_round_laws_canonical.specs.parse_grammar.parse_model.Tokens as token
+use Rattle.yaml_round_laws_canonical.specs.parse_grammar.parse_model.Events.{EventBody}
+use Rattle.yaml_round_laws_canonical.specs.parse_grammar.parse_model.Events as event
+use Rattle.yaml_round_laws_canonical.specs.parse_grammar.declared.name.Wants.TheVariants.{Block}
+use Rattle.yaml_round_laws_canonical.specs.parse_grammar.Trees.{Span, token_at, Given, spell_node, spell_ends, there, no_first, first}
+use Rattle.yaml_round_laws_canonical.specs.parse_grammar.TreeSteps.{items_node, items_ends, items_first, items_documents, items}
+use Rattle.yaml_round_laws_canonical.specs.parse_grammar.Trees as trees
+use Rattle.yaml_round_laws_canonical.specs.parse_grammar.Machine.{Outcome}
+use Rattle.yaml_round_laws_canonical.specs.parse_grammar.Resolve.{no_directives, gave, settle, Reading, reading}
+use Rattle.yaml_round_laws_canonical.specs.parse_grammar.Remaining.{reading_of}
+use Rattle.yaml_round_laws_canonical.proofs.parse_grammar.CompleteStream.{stream_runs}
+use Rattle.yaml_emit_laws_pretty.specs.emit_layout.Content.{Document}
+use Rattle.yaml_emit_laws_pretty.specs.Bodies.{json_bodies, start_bodies, stop_bodies}
+use Rattle.yaml_round_laws_canonical.specs.TreeLaws.{token_bodies, event_bodies, Says, parsed_of}
+use Rattle.yaml_round_laws_canonical.proofs.Growing.{take}
+use Rattle.yaml_round_laws_canonical.proofs.Documents.{item_says, no_spans, ends_say}
 use Rattle.yaml_round_laws_kept.specs.Reads.{json_reads, document_reads}
 use Rattle.yaml_round_laws_kept.specs.JsonTokens.{JsonTokensAreParsed}
 use Rattle.yaml_round_laws_kept.proofs.Growing.{node_grows}

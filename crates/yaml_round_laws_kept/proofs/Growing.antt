@@ -1,26 +1,26 @@
 -- Trees from the bodies of tokens.
 use Rattle.std.proofs.Common.{◌≡◌, ℕ, true, false, List, [], ◌∷◌, length, Option, None, refl, ap, ◌∙◌}
-use Rattle.yaml_round_laws_tree.specs.parse_grammar.parse_model.declared.yaml_sequence_style_t.TheVariants.{YAML_FLOW_SEQUENCE_STYLE}
-use Rattle.yaml_round_laws_tree.specs.parse_grammar.parse_model.declared.yaml_mapping_style_t.TheVariants.{YAML_FLOW_MAPPING_STYLE}
-use Rattle.yaml_round_laws_tree.specs.parse_grammar.parse_model.Tokens.{Token, TokenBody}
-use Rattle.yaml_round_laws_tree.specs.parse_grammar.parse_model.Tokens as token
-use Rattle.yaml_round_laws_tree.specs.parse_grammar.parse_model.Events.{EventBody}
-use Rattle.yaml_round_laws_tree.specs.parse_grammar.parse_model.Events as event
-use Rattle.yaml_round_laws_tree.specs.parse_grammar.parse_model.Faults.{Fault}
-use Rattle.yaml_round_laws_tree.specs.parse_grammar.declared.name.Wants.{Wants}
-use Rattle.yaml_round_laws_tree.specs.parse_grammar.declared.name.Wants.TheVariants.{Flow}
-use Rattle.yaml_round_laws_tree.specs.parse_grammar.declared.name.Brackets.{Brackets}
-use Rattle.yaml_round_laws_tree.specs.parse_grammar.declared.name.Brackets.TheVariants as brackets
-use Rattle.yaml_round_laws_tree.specs.parse_grammar.Items.{node_at}
-use Rattle.yaml_round_laws_tree.specs.parse_grammar.Items as item
-use Rattle.yaml_round_laws_tree.specs.parse_grammar.Trees.{token_at, Given, spell_node, spell_items, spell_more, spell_colon, Items, More, end_items, end_more, single, comma, there, colon}
-use Rattle.yaml_round_laws_tree.specs.parse_grammar.TreeSteps.{items_node, items_items, items_more}
-use Rattle.yaml_round_laws_tree.specs.parse_grammar.Trees as trees
-use Rattle.yaml_round_laws_tree.specs.parse_grammar.Resolve.{Directives, reading, scalar_event}
-use Rattle.yaml_emit_laws_pretty.specs.emit_laws_json.emit_layout.Content.{Scalar, Start, Node, alias_node, scalar_node, sequence_node, mapping_node, Nodes, no_nodes, node, Pairs, no_pairs, pair}
-use Rattle.yaml_emit_laws_pretty.specs.emit_laws_json.Bodies.{json_bodies, json_items, json_pairs}
-use Rattle.yaml_round_laws_tree.specs.Laws.{token_bodies, Says, Grown}
-use Rattle.yaml_round_laws_tree.proofs.Growing.{take, both_say, step_says}
+use Rattle.yaml_round_laws_canonical.specs.parse_grammar.parse_model.declared.yaml_sequence_style_t.TheVariants.{YAML_FLOW_SEQUENCE_STYLE}
+use Rattle.yaml_round_laws_canonical.specs.parse_grammar.parse_model.declared.yaml_mapping_style_t.TheVariants.{YAML_FLOW_MAPPING_STYLE}
+use Rattle.yaml_round_laws_canonical.specs.parse_grammar.parse_model.Tokens.{Token, TokenBody}
+use Rattle.yaml_round_laws_canonical.specs.parse_grammar.parse_model.Tokens as token
+use Rattle.yaml_round_laws_canonical.specs.parse_grammar.parse_model.Events.{EventBody}
+use Rattle.yaml_round_laws_canonical.specs.parse_grammar.parse_model.Events as event
+use Rattle.yaml_round_laws_canonical.specs.parse_grammar.parse_model.Faults.{Fault}
+use Rattle.yaml_round_laws_canonical.specs.parse_grammar.declared.name.Wants.{Wants}
+use Rattle.yaml_round_laws_canonical.specs.parse_grammar.declared.name.Wants.TheVariants.{Flow}
+use Rattle.yaml_round_laws_canonical.specs.parse_grammar.declared.name.Brackets.{Brackets}
+use Rattle.yaml_round_laws_canonical.specs.parse_grammar.declared.name.Brackets.TheVariants as brackets
+use Rattle.yaml_round_laws_canonical.specs.parse_grammar.Items.{node_at}
+use Rattle.yaml_round_laws_canonical.specs.parse_grammar.Items as item
+use Rattle.yaml_round_laws_canonical.specs.parse_grammar.Trees.{token_at, Given, spell_node, spell_items, spell_more, spell_colon, Items, More, end_items, end_more, single, comma, there, colon}
+use Rattle.yaml_round_laws_canonical.specs.parse_grammar.TreeSteps.{items_node, items_items, items_more}
+use Rattle.yaml_round_laws_canonical.specs.parse_grammar.Trees as trees
+use Rattle.yaml_round_laws_canonical.specs.parse_grammar.Resolve.{Directives, reading, scalar_event}
+use Rattle.yaml_emit_laws_pretty.specs.emit_layout.Content.{Scalar, Start, Node, alias_node, scalar_node, sequence_node, mapping_node, Nodes, no_nodes, node, Pairs, no_pairs, pair}
+use Rattle.yaml_emit_laws_pretty.specs.Bodies.{json_bodies, json_items, json_pairs}
+use Rattle.yaml_round_laws_canonical.specs.TreeLaws.{token_bodies, Says, Grown}
+use Rattle.yaml_round_laws_canonical.proofs.Growing.{take, both_say, step_says}
 use Rattle.yaml_round_laws_kept.specs.Reads.{json_reads, json_items_reads, json_pairs_reads}
 
 -- what follows an opening bracket or a comma is grown

@@ -1,7 +1,7 @@
 -- The events of a stream are those of one list of documents.
 use Rattle.std.proofs.Common.{◌≡◌, ℕ, Bool, List, [], ◌∷◌, refl, sym, ap, ◌∙◌}
-use Rattle.yaml_emit_laws_pretty.specs.emit_laws_json.emit_layout.Content as event
-use Rattle.yaml_emit_laws_pretty.specs.emit_laws_json.emit_layout.Content.{Scalar, Start, Opening, Node, alias_node, scalar_node, sequence_node, mapping_node, Nodes, no_nodes, node, Pairs, no_pairs, pair, Document, Event, node_events, items_events, pairs_events, documents_events}
+use Rattle.yaml_emit_laws_pretty.specs.emit_layout.Content as event
+use Rattle.yaml_emit_laws_pretty.specs.emit_layout.Content.{Scalar, Start, Opening, Node, alias_node, scalar_node, sequence_node, mapping_node, Nodes, no_nodes, node, Pairs, no_pairs, pair, Document, Event, node_events, items_events, pairs_events, documents_events}
 use Rattle.yaml_round_laws_kept.specs.Laws.{StreamsAreKnown}
 
 -- ---- first events

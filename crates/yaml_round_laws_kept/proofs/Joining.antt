@@ -1,13 +1,13 @@
 -- What is laid out in pretty form for an input shaped as JSON.
 use Rattle.std.proofs.Common.{◌≡◌, ℕ, false, List, [], ◌∷◌, sym, ap, subst, ◌∙◌}
-use Rattle.yaml_round_laws_tree.specs.back_canon.scan.declared.yaml_encoding_t.{yaml_encoding_t}
-use Rattle.yaml_round_laws_tree.specs.parse_grammar.Resolve.{Told}
-use Rattle.yaml_round_laws_writable.specs.content.Events.{emitter_events}
-use Rattle.yaml_round_laws_writable.specs.content.Input.{events_of}
-use Rattle.yaml_round_laws_writable.specs.round_laws_reading.Reading.{HasEvents}
-use Rattle.yaml_round_laws_writable.proofs.round_laws_reading.Joining.{events_of_tree}
-use Rattle.yaml_emit_laws_pretty.specs.emit_laws_json.emit_layout.Content.{Document, stream_events}
-use Rattle.yaml_emit_laws_pretty.specs.emit_laws_json.Json.{IsJsonShaped}
+use Rattle.yaml_round_laws_canonical.specs.back_canon.scan.declared.yaml_encoding_t.{yaml_encoding_t}
+use Rattle.yaml_round_laws_canonical.specs.parse_grammar.Resolve.{Told}
+use Rattle.yaml_round_laws_dumps.specs.content.Events.{emitter_events}
+use Rattle.yaml_round_laws_dumps.specs.content.Input.{events_of}
+use Rattle.yaml_round_laws_dumps.specs.round_laws_reading.Reading.{HasEvents}
+use Rattle.yaml_round_laws_dumps.proofs.round_laws_reading.Joining.{events_of_tree}
+use Rattle.yaml_emit_laws_pretty.specs.emit_layout.Content.{Document, stream_events}
+use Rattle.yaml_emit_laws_pretty.specs.Json.{IsJsonShaped}
 use Rattle.yaml_round_laws_kept.specs.Laws.{IsJsonInput, JsonInputsAreLaidOut, JsonStaysPretty}
 use Rattle.yaml_round_laws_kept.proofs.Whole.{layout_reads_back}
 use Rattle.yaml_round_laws_kept.proofs.Injective.{streams_known}

@@ -3,22 +3,22 @@ use Rattle.std.proofs.Common.{◌≡◌, ℕ, ◌<◌, ◌≤◌, ◌&&◌, not,
 use Rattle.std.specs.List.{list_all}
 use Rattle.std.specs.Str.{chars}
 use Rattle.std.proofs.lemmas.Bool.Decides.{nat_tests}
-use Rattle.yaml_emit_laws_pretty.specs.emit_laws_json.scan_laws_plain.Values.{is_letter_or_digit, is_value_byte, begins_value, is_plain_value}
-use Rattle.yaml_emit_laws_pretty.specs.emit_laws_json.emit_layout.parse.Events.{TagDirective}
-use Rattle.yaml_emit_laws_pretty.specs.emit_laws_json.emit_layout.emit_text.declared.Settings.{Settings}
-use Rattle.yaml_emit_laws_pretty.specs.emit_laws_json.emit_layout.emit_text.Text.{Item}
-use Rattle.yaml_emit_laws_pretty.specs.emit_laws_json.emit_layout.emit_text.Layout.{Layout, ◌▹◌, stay, when, char, word, opener, wrap, is_past, line, after_text}
-use Rattle.yaml_emit_laws_pretty.specs.emit_laws_json.emit_layout.emit_text.Quoted.{double_quoted}
-use Rattle.yaml_emit_laws_pretty.specs.emit_laws_json.emit_layout.declared.level.Spot.{Spot}
-use Rattle.yaml_emit_laws_pretty.specs.emit_laws_json.emit_layout.declared.level.Part.TheVariants as part
-use Rattle.yaml_emit_laws_pretty.specs.emit_laws_json.emit_layout.Content.{Scalar, Node, alias_node, scalar_node, sequence_node, mapping_node, Nodes, no_nodes, node, Pairs, no_pairs, pair}
-use Rattle.yaml_emit_laws_pretty.specs.emit_laws_json.emit_layout.Nodes.{MOST, is_simple, key_part, spot, deeper, page_at, checked, deep_if, scalar_layout, comma, turned, before_item, question, before_key, before_value, closer, node_layout, items_layout, pairs_layout}
-use Rattle.yaml_emit_laws_pretty.specs.emit_laws_json.Json.{IsJsonScalar, IsJsonKey, IsJsonNode, AreJsonNodes, AreJsonPairs}
-use Rattle.yaml_emit_laws_pretty.proofs.emit_laws_json.Layouts.{quoted_laid_out, plain_laid_out, collections_flow}
-use Rattle.yaml_round_laws_bytes.specs.Laws.{IsSpellable, AreSpellable, PairsAreSpellable}
-use Rattle.yaml_round_laws_bytes.proofs.Characters.{AllFit, graphic}
-use Rattle.yaml_round_laws_bytes.proofs.Layouts.{Allowed, Tame, deep_allowed, both, stay_tame, choose_tame, when_tame, char_tame, word_tame, opener_tame, line_tame}
-use Rattle.yaml_round_laws_bytes.proofs.Leaves.{quoted_tame}
+use Rattle.yaml_emit_laws_pretty.specs.scan_laws_plain.Values.{is_letter_or_digit, is_value_byte, begins_value, is_plain_value}
+use Rattle.yaml_emit_laws_pretty.specs.emit_layout.parse.Events.{TagDirective}
+use Rattle.yaml_emit_laws_pretty.specs.emit_layout.emit_text.declared.Settings.{Settings}
+use Rattle.yaml_emit_laws_pretty.specs.emit_layout.emit_text.Text.{Item}
+use Rattle.yaml_emit_laws_pretty.specs.emit_layout.emit_text.Layout.{Layout, ◌▹◌, stay, when, char, word, opener, wrap, is_past, line, after_text}
+use Rattle.yaml_emit_laws_pretty.specs.emit_layout.emit_text.Quoted.{double_quoted}
+use Rattle.yaml_emit_laws_pretty.specs.emit_layout.declared.level.Spot.{Spot}
+use Rattle.yaml_emit_laws_pretty.specs.emit_layout.declared.level.Part.TheVariants as part
+use Rattle.yaml_emit_laws_pretty.specs.emit_layout.Content.{Scalar, Node, alias_node, scalar_node, sequence_node, mapping_node, Nodes, no_nodes, node, Pairs, no_pairs, pair}
+use Rattle.yaml_emit_laws_pretty.specs.emit_layout.Nodes.{MOST, is_simple, key_part, spot, deeper, page_at, checked, deep_if, scalar_layout, comma, turned, before_item, question, before_key, before_value, closer, node_layout, items_layout, pairs_layout}
+use Rattle.yaml_emit_laws_pretty.specs.Json.{IsJsonScalar, IsJsonKey, IsJsonNode, AreJsonNodes, AreJsonPairs}
+use Rattle.yaml_emit_laws_pretty.proofs.Layouts.{quoted_laid_out, plain_laid_out, collections_flow}
+use Rattle.yaml_round_laws_canonical.specs.BytesLaws.{IsSpellable, AreSpellable, PairsAreSpellable}
+use Rattle.yaml_round_laws_canonical.proofs.Characters.{AllFit, graphic}
+use Rattle.yaml_round_laws_canonical.proofs.Layouts.{Allowed, Tame, deep_allowed, both, stay_tame, choose_tame, when_tame, char_tame, word_tame, opener_tame, line_tame}
+use Rattle.yaml_round_laws_canonical.proofs.Leaves.{quoted_tame}
 use Rattle.yaml_emit_laws_pretty.proofs.Nodes.{prettily}
 
 deep_tame : (b : Bool) (t : List Item) → Allowed t → Allowed (deep_if b t)

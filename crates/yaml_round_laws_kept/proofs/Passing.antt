@@ -1,10 +1,10 @@
 -- The bodies of documents shaped as JSON spell texts.
 use Rattle.std.proofs.Common.{Bool, true, false, List, [], ◌∷◌, refl, sym, subst}
-use Rattle.yaml_round_laws_tree.specs.parse_grammar.parse_model.Tokens.{TokenBody}
-use Rattle.yaml_round_laws_tree.specs.parse_grammar.parse_model.Tokens as token
-use Rattle.yaml_emit_laws_pretty.specs.emit_laws_json.emit_layout.Content.{Document, Node, alias_node, scalar_node, sequence_node, mapping_node, Nodes, no_nodes, node, Pairs, no_pairs, pair}
-use Rattle.yaml_emit_laws_pretty.specs.emit_laws_json.Bodies.{comma_bodies, json_bodies, json_items, json_pairs, start_bodies, stop_bodies, document_bodies}
-use Rattle.yaml_round_laws_tree.proofs.Passing.{Spell, passes}
+use Rattle.yaml_round_laws_canonical.specs.parse_grammar.parse_model.Tokens.{TokenBody}
+use Rattle.yaml_round_laws_canonical.specs.parse_grammar.parse_model.Tokens as token
+use Rattle.yaml_emit_laws_pretty.specs.emit_layout.Content.{Document, Node, alias_node, scalar_node, sequence_node, mapping_node, Nodes, no_nodes, node, Pairs, no_pairs, pair}
+use Rattle.yaml_emit_laws_pretty.specs.Bodies.{comma_bodies, json_bodies, json_items, json_pairs, start_bodies, stop_bodies, document_bodies}
+use Rattle.yaml_round_laws_canonical.proofs.Passing.{Spell, passes}
 use Rattle.yaml_round_laws_kept.specs.JsonTokens.{JsonTokensPass}
 
 comma_spells : (fresh : Bool) (bs : List TokenBody) → Spell bs → Spell (comma_bodies fresh bs)

@@ -2,31 +2,31 @@
 use Rattle.std.proofs.Common.{◌≡◌, ℕ, ◌<◌, ◌&&◌, nat_le, false, List, [], ◌∷◌, map, Option, None, Ok, refl, sym, ap, subst, ◌∙◌, ℤ, pos, negsuc, arith, inl, inr}
 use Rattle.std.specs.Prelude.{if◌then◌else◌}
 use Rattle.std.proofs.lemmas.Bool.Decides.{nat_tests}
-use Rattle.yaml_round_laws_tree.specs.back_canon.scan.declared.yaml_encoding_t.{yaml_encoding_t}
-use Rattle.yaml_round_laws_tree.specs.back_canon.scan.declared.yaml_encoding_t.TheVariants.{YAML_ANY_ENCODING}
-use Rattle.yaml_round_laws_bytes.specs.scan_decode.Decoding.{decoded_text}
-use Rattle.yaml_emit_laws_pretty.specs.emit_laws_json.scan_history.Remaining.{Remaining}
-use Rattle.yaml_emit_laws_pretty.specs.emit_laws_json.scan_history.Scanned.{scanned, scanned_in}
-use Rattle.yaml_round_laws_tree.specs.parse_grammar.parse_model.Events.{EventBody}
-use Rattle.yaml_round_laws_writable.specs.content.emit_text.Settings.{settled, settled_indent}
-use Rattle.yaml_round_laws_writable.specs.content.emit_text.Text.{Item, encode}
-use Rattle.yaml_round_laws_writable.specs.content.emit_text.declared.Encoding.{Encoding}
-use Rattle.yaml_round_laws_writable.specs.content.emit_text.declared.RequestedSettings.{RequestedSettings}
-use Rattle.yaml_round_laws_tree.specs.round_laws_adapted.Adapted.{adapted}
-use Rattle.yaml_round_laws_writable.specs.content.Events.{emitter_events, contents}
-use Rattle.yaml_round_laws_writable.specs.content.Input.{events_of, ending_of, read, parsed, tokens_of}
-use Rattle.yaml_emit_laws_pretty.specs.emit_laws_json.emit_layout.Content as emit
-use Rattle.yaml_emit_laws_pretty.specs.emit_laws_json.emit_layout.Content.{Document, Scalar, Node, alias_node, scalar_node, sequence_node, mapping_node, Nodes, no_nodes, node, Pairs, no_pairs, pair, stream_events}
-use Rattle.yaml_round_laws_writable.specs.content.emit_text.Layout.{written}
-use Rattle.yaml_emit_laws_pretty.specs.emit_laws_json.emit_layout.Nodes.{stream_layout}
-use Rattle.yaml_emit_laws_pretty.specs.emit_laws_json.Json.{IsJsonScalar, IsJsonKey, IsJsonNode, AreJsonNodes, AreJsonPairs, IsJsonShaped}
-use Rattle.yaml_emit_laws_pretty.specs.Laws.{JsonTextIsRead}
+use Rattle.yaml_round_laws_canonical.specs.back_canon.scan.declared.yaml_encoding_t.{yaml_encoding_t}
+use Rattle.yaml_round_laws_canonical.specs.back_canon.scan.declared.yaml_encoding_t.TheVariants.{YAML_ANY_ENCODING}
+use Rattle.yaml_round_laws_canonical.specs.scan_decode.Decoding.{decoded_text}
+use Rattle.yaml_emit_laws_pretty.specs.scan_history.Remaining.{Remaining}
+use Rattle.yaml_emit_laws_pretty.specs.scan_history.Scanned.{scanned, scanned_in}
+use Rattle.yaml_round_laws_canonical.specs.parse_grammar.parse_model.Events.{EventBody}
+use Rattle.yaml_round_laws_dumps.specs.content.emit_text.Settings.{settled, settled_indent}
+use Rattle.yaml_round_laws_dumps.specs.content.emit_text.Text.{Item, encode}
+use Rattle.yaml_round_laws_dumps.specs.content.emit_text.declared.Encoding.{Encoding}
+use Rattle.yaml_round_laws_dumps.specs.content.emit_text.declared.RequestedSettings.{RequestedSettings}
+use Rattle.yaml_round_laws_canonical.specs.round_laws_adapted.Adapted.{adapted}
+use Rattle.yaml_round_laws_dumps.specs.content.Events.{emitter_events, contents}
+use Rattle.yaml_round_laws_dumps.specs.content.Input.{events_of, ending_of, read, parsed, tokens_of}
+use Rattle.yaml_emit_laws_pretty.specs.emit_layout.Content as emit
+use Rattle.yaml_emit_laws_pretty.specs.emit_layout.Content.{Document, Scalar, Node, alias_node, scalar_node, sequence_node, mapping_node, Nodes, no_nodes, node, Pairs, no_pairs, pair, stream_events}
+use Rattle.yaml_round_laws_dumps.specs.content.emit_text.Layout.{written}
+use Rattle.yaml_emit_laws_pretty.specs.emit_layout.Nodes.{stream_layout}
+use Rattle.yaml_emit_laws_pretty.specs.Json.{IsJsonScalar, IsJsonKey, IsJsonNode, AreJsonNodes, AreJsonPairs, IsJsonShaped}
+use Rattle.yaml_emit_laws_pretty.specs.PrettyLaws.{JsonTextIsRead}
 use Rattle.yaml_emit_laws_pretty.specs.emit_laws_text.Writable.{IsWritableAnchor, IsWritableTag, IsWritable, AreItemsWritable, ArePairsWritable}
-use Rattle.yaml_round_laws_bytes.specs.Laws.{IsNameOption, IsTextOption, IsSpellable, AreSpellable, PairsAreSpellable, encoding_named}
+use Rattle.yaml_round_laws_canonical.specs.BytesLaws.{IsNameOption, IsTextOption, IsSpellable, AreSpellable, PairsAreSpellable, encoding_named}
 use Rattle.yaml_round_laws_kept.specs.JsonBytes.{bytes_of_one, text_of_one, JsonBytesDecode}
 use Rattle.yaml_round_laws_kept.specs.JsonTokens.{JsonTokensAreParsed, JsonTokensPass}
-use Rattle.yaml_round_laws_tree.specs.Adapting.{without_fault}
-use Rattle.yaml_round_laws_writable.specs.Laws.{InputsHaveUtf8}
+use Rattle.yaml_round_laws_canonical.specs.Adapting.{without_fault}
+use Rattle.yaml_round_laws_dumps.specs.WritableLaws.{InputsHaveUtf8}
 use Rattle.yaml_round_laws_kept.specs.Stays.{SaysInput, JsonReadsBack, JsonLayoutReadsBack}
 use Rattle.yaml_round_laws_kept.proofs.Texts.{NodeUtf8, NodesUtf8, PairsUtf8, document_utf8}
 use Rattle.yaml_round_laws_kept.proofs.Contents.{says, content, contents_said, contents_by, document_same}

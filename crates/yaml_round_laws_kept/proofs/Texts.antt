@@ -1,15 +1,15 @@
 -- The texts of a document shaped as JSON, where an input's events are its own.
 use Rattle.std.proofs.Common.{◌≡◌, ℕ, Bool, true, false, List, [], ◌∷◌, Option, subst, IsUtf8}
-use Rattle.yaml_round_laws_tree.specs.back_canon.scan.declared.yaml_encoding_t.{yaml_encoding_t}
-use Rattle.yaml_round_laws_tree.specs.back_canon.scan.declared.yaml_scalar_style_t.{yaml_scalar_style_t}
-use Rattle.yaml_round_laws_tree.specs.parse_grammar.parse_model.Constructors.{HasUtf8}
-use Rattle.yaml_round_laws_tree.specs.parse_grammar.parse_model.Events.{EventBody}
-use Rattle.yaml_round_laws_tree.specs.parse_grammar.parse_model.Events as event
-use Rattle.yaml_round_laws_tree.specs.parse_grammar.Resolve.{Told}
-use Rattle.yaml_round_laws_writable.specs.content.Normalize.{normalize_body, normalize_scalar, is_lone_mark}
-use Rattle.yaml_round_laws_writable.specs.content.Events.{emitter_events}
-use Rattle.yaml_round_laws_writable.specs.Laws.{HaveUtf8Texts}
-use Rattle.yaml_emit_laws_pretty.specs.emit_laws_json.emit_layout.Content as emit
+use Rattle.yaml_round_laws_canonical.specs.back_canon.scan.declared.yaml_encoding_t.{yaml_encoding_t}
+use Rattle.yaml_round_laws_canonical.specs.back_canon.scan.declared.yaml_scalar_style_t.{yaml_scalar_style_t}
+use Rattle.yaml_round_laws_canonical.specs.parse_grammar.parse_model.Constructors.{HasUtf8}
+use Rattle.yaml_round_laws_canonical.specs.parse_grammar.parse_model.Events.{EventBody}
+use Rattle.yaml_round_laws_canonical.specs.parse_grammar.parse_model.Events as event
+use Rattle.yaml_round_laws_canonical.specs.parse_grammar.Resolve.{Told}
+use Rattle.yaml_round_laws_dumps.specs.content.Normalize.{normalize_body, normalize_scalar, is_lone_mark}
+use Rattle.yaml_round_laws_dumps.specs.content.Events.{emitter_events}
+use Rattle.yaml_round_laws_dumps.specs.WritableLaws.{HaveUtf8Texts}
+use Rattle.yaml_emit_laws_pretty.specs.emit_layout.Content as emit
 
 -- a scalar's value is UTF-8
 abbrev pub IsValueUtf8 : emit.Event → Type 0

@@ -1,5 +1,5 @@
 -- The laws of pretty text, joined from the laws beneath.
-use Rattle.yaml_round_laws_writable.proofs.Utf8.{input_utf8}
+use Rattle.yaml_round_laws_dumps.proofs.Utf8.{input_utf8}
 use Rattle.yaml_emit_laws_pretty.proofs.Whole.{text_is_read}
 use Rattle.yaml_round_laws_kept.proofs.Bytes.{bytes_decode}
 use Rattle.yaml_round_laws_kept.proofs.Passing.{tokens_pass}

@@ -1,16 +1,16 @@
 -- What the bytes of pretty text decode to.
 use Rattle.std.specs.Prelude.{◌≡◌, ℕ, true, false, List, [], ◌∷◌, Ok}
-use Rattle.yaml_round_laws_bytes.specs.Laws.{IsSpellable, encoding_named}
-use Rattle.yaml_round_laws_bytes.specs.scan_decode.Encodings.{encoding_of}
-use Rattle.yaml_round_laws_bytes.specs.scan_decode.Decoding.{decoded_text}
-use Rattle.yaml_emit_laws_pretty.specs.emit_laws_json.emit_layout.scan.declared.yaml_encoding_t.TheVariants.{YAML_ANY_ENCODING}
-use Rattle.yaml_emit_laws_pretty.specs.emit_laws_json.emit_layout.emit_text.declared.Settings.{Settings}
-use Rattle.yaml_emit_laws_pretty.specs.emit_laws_json.emit_layout.emit_text.declared.Encoding.TheVariants.{Utf8}
-use Rattle.yaml_emit_laws_pretty.specs.emit_laws_json.emit_layout.emit_text.Text.{encode}
-use Rattle.yaml_emit_laws_pretty.specs.emit_laws_json.emit_layout.emit_text.Layout.{written}
-use Rattle.yaml_emit_laws_pretty.specs.emit_laws_json.emit_layout.Content.{Document}
-use Rattle.yaml_emit_laws_pretty.specs.emit_laws_json.emit_layout.Nodes.{documents_layout, stream_layout}
-use Rattle.yaml_emit_laws_pretty.specs.emit_laws_json.Json.{IsJsonDocument}
+use Rattle.yaml_round_laws_canonical.specs.BytesLaws.{IsSpellable, encoding_named}
+use Rattle.yaml_round_laws_canonical.specs.scan_decode.Encodings.{encoding_of}
+use Rattle.yaml_round_laws_canonical.specs.scan_decode.Decoding.{decoded_text}
+use Rattle.yaml_emit_laws_pretty.specs.emit_layout.scan.declared.yaml_encoding_t.TheVariants.{YAML_ANY_ENCODING}
+use Rattle.yaml_emit_laws_pretty.specs.emit_layout.emit_text.declared.Settings.{Settings}
+use Rattle.yaml_emit_laws_pretty.specs.emit_layout.emit_text.declared.Encoding.TheVariants.{Utf8}
+use Rattle.yaml_emit_laws_pretty.specs.emit_layout.emit_text.Text.{encode}
+use Rattle.yaml_emit_laws_pretty.specs.emit_layout.emit_text.Layout.{written}
+use Rattle.yaml_emit_laws_pretty.specs.emit_layout.Content.{Document}
+use Rattle.yaml_emit_laws_pretty.specs.emit_layout.Nodes.{documents_layout, stream_layout}
+use Rattle.yaml_emit_laws_pretty.specs.Json.{IsJsonDocument}
 
 -- the bytes of a stream of that document alone
 abbrev pub bytes_of_one : Settings → Document → List ℕ

@@ -1,15 +1,15 @@
 -- What a parser makes of the tokens of a document shaped as JSON.
 use Rattle.std.specs.Prelude.{◌≡◌, List, [], ◌∷◌, None}
-use Rattle.yaml_round_laws_tree.specs.parse_grammar.parse_model.Tokens.{Token, TokenBody}
-use Rattle.yaml_round_laws_tree.specs.parse_grammar.parse_model.Tokens as token
-use Rattle.yaml_round_laws_tree.specs.parse_grammar.parse_model.Events as event
-use Rattle.yaml_round_laws_tree.specs.parse_grammar.parse_model.declared.yaml_encoding_t.{yaml_encoding_t}
-use Rattle.yaml_round_laws_tree.specs.parse_grammar.declared.name.Wants.{Wants}
-use Rattle.yaml_emit_laws_pretty.specs.emit_laws_json.emit_layout.Content.{Document, Node}
-use Rattle.yaml_emit_laws_pretty.specs.emit_laws_json.Bodies.{json_bodies, document_bodies}
-use Rattle.yaml_round_laws_tree.specs.Laws.{token_bodies, event_bodies, Grown, parsed_of}
-use Rattle.yaml_round_laws_tree.specs.round_laws_adapted.Adapted.{adapted}
-use Rattle.yaml_round_laws_tree.specs.Adapting.{without_fault}
+use Rattle.yaml_round_laws_canonical.specs.parse_grammar.parse_model.Tokens.{Token, TokenBody}
+use Rattle.yaml_round_laws_canonical.specs.parse_grammar.parse_model.Tokens as token
+use Rattle.yaml_round_laws_canonical.specs.parse_grammar.parse_model.Events as event
+use Rattle.yaml_round_laws_canonical.specs.parse_grammar.parse_model.declared.yaml_encoding_t.{yaml_encoding_t}
+use Rattle.yaml_round_laws_canonical.specs.parse_grammar.declared.name.Wants.{Wants}
+use Rattle.yaml_emit_laws_pretty.specs.emit_layout.Content.{Document, Node}
+use Rattle.yaml_emit_laws_pretty.specs.Bodies.{json_bodies, document_bodies}
+use Rattle.yaml_round_laws_canonical.specs.TreeLaws.{token_bodies, event_bodies, Grown, parsed_of}
+use Rattle.yaml_round_laws_canonical.specs.round_laws_adapted.Adapted.{adapted}
+use Rattle.yaml_round_laws_canonical.specs.Adapting.{without_fault}
 use Rattle.yaml_round_laws_kept.specs.Reads.{json_reads, document_reads}
 
 -- Tokens with the bodies of a node begin with a tree of that node, whose events are read.

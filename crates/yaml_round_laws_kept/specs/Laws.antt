@@ -1,16 +1,16 @@
 -- Inputs shaped as JSON, and what is laid out for them in pretty form.
 use Rattle.std.specs.Prelude.{◌≡◌, ℕ, false, List, [], ◌∷◌}
-use Rattle.yaml_round_laws_tree.specs.back_canon.scan.declared.yaml_encoding_t.{yaml_encoding_t}
-use Rattle.yaml_emit_laws_pretty.specs.emit_laws_json.emit_layout.Streams.{IsStream}
-use Rattle.yaml_round_laws_writable.specs.content.emit_text.Text.{Item, encode}
-use Rattle.yaml_round_laws_writable.specs.content.emit_text.declared.Encoding.{Encoding}
-use Rattle.yaml_round_laws_writable.specs.content.emit_text.declared.RequestedSettings.{RequestedSettings}
-use Rattle.yaml_round_laws_writable.specs.content.Events.{emitter_events}
-use Rattle.yaml_round_laws_writable.specs.content.Input.{events_of}
-use Rattle.yaml_round_laws_tree.specs.parse_grammar.Resolve.{Told}
-use Rattle.yaml_round_laws_writable.specs.round_laws_reading.Reading.{HasEvents}
-use Rattle.yaml_emit_laws_pretty.specs.emit_laws_json.emit_layout.Content.{Document, stream_events}
-use Rattle.yaml_emit_laws_pretty.specs.emit_laws_json.Json.{IsJsonDocument, IsJsonShaped}
+use Rattle.yaml_round_laws_canonical.specs.back_canon.scan.declared.yaml_encoding_t.{yaml_encoding_t}
+use Rattle.yaml_emit_laws_pretty.specs.emit_layout.Streams.{IsStream}
+use Rattle.yaml_round_laws_dumps.specs.content.emit_text.Text.{Item, encode}
+use Rattle.yaml_round_laws_dumps.specs.content.emit_text.declared.Encoding.{Encoding}
+use Rattle.yaml_round_laws_dumps.specs.content.emit_text.declared.RequestedSettings.{RequestedSettings}
+use Rattle.yaml_round_laws_dumps.specs.content.Events.{emitter_events}
+use Rattle.yaml_round_laws_dumps.specs.content.Input.{events_of}
+use Rattle.yaml_round_laws_canonical.specs.parse_grammar.Resolve.{Told}
+use Rattle.yaml_round_laws_dumps.specs.round_laws_reading.Reading.{HasEvents}
+use Rattle.yaml_emit_laws_pretty.specs.emit_layout.Content.{Document, stream_events}
+use Rattle.yaml_emit_laws_pretty.specs.Json.{IsJsonDocument, IsJsonShaped}
 use Rattle.yaml_round_laws_kept.specs.Stays.{SaysInput}
 
 -- What the input says, styles and all, is one document shaped as JSON is: without directives; each

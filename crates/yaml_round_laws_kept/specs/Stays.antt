@@ -1,16 +1,16 @@
 -- Pretty text of a document shaped as JSON reads back.
 use Rattle.std.specs.Prelude.{◌≡◌, ℕ, false, List, [], ◌∷◌, None}
-use Rattle.yaml_round_laws_tree.specs.back_canon.scan.declared.yaml_encoding_t.{yaml_encoding_t}
-use Rattle.yaml_round_laws_tree.specs.back_canon.scan.declared.yaml_encoding_t.TheVariants.{YAML_ANY_ENCODING}
-use Rattle.yaml_emit_laws_pretty.specs.emit_laws_json.emit_layout.Streams.{IsStream}
-use Rattle.yaml_round_laws_writable.specs.content.emit_text.Settings.{settled}
-use Rattle.yaml_round_laws_writable.specs.content.emit_text.Text.{Item, encode}
-use Rattle.yaml_round_laws_writable.specs.content.emit_text.declared.Encoding.{Encoding}
-use Rattle.yaml_round_laws_writable.specs.content.emit_text.declared.RequestedSettings.{RequestedSettings}
-use Rattle.yaml_round_laws_writable.specs.content.Events.{emitter_events, contents}
-use Rattle.yaml_round_laws_writable.specs.content.Input.{events_of, ending_of}
-use Rattle.yaml_emit_laws_pretty.specs.emit_laws_json.emit_layout.Content.{Document, stream_events}
-use Rattle.yaml_emit_laws_pretty.specs.emit_laws_json.Json.{IsJsonDocument, IsJsonShaped}
+use Rattle.yaml_round_laws_canonical.specs.back_canon.scan.declared.yaml_encoding_t.{yaml_encoding_t}
+use Rattle.yaml_round_laws_canonical.specs.back_canon.scan.declared.yaml_encoding_t.TheVariants.{YAML_ANY_ENCODING}
+use Rattle.yaml_emit_laws_pretty.specs.emit_layout.Streams.{IsStream}
+use Rattle.yaml_round_laws_dumps.specs.content.emit_text.Settings.{settled}
+use Rattle.yaml_round_laws_dumps.specs.content.emit_text.Text.{Item, encode}
+use Rattle.yaml_round_laws_dumps.specs.content.emit_text.declared.Encoding.{Encoding}
+use Rattle.yaml_round_laws_dumps.specs.content.emit_text.declared.RequestedSettings.{RequestedSettings}
+use Rattle.yaml_round_laws_dumps.specs.content.Events.{emitter_events, contents}
+use Rattle.yaml_round_laws_dumps.specs.content.Input.{events_of, ending_of}
+use Rattle.yaml_emit_laws_pretty.specs.emit_layout.Content.{Document, stream_events}
+use Rattle.yaml_emit_laws_pretty.specs.Json.{IsJsonDocument, IsJsonShaped}
 use Rattle.yaml_round_laws_kept.specs.JsonBytes.{bytes_of_one}
 
 -- Read with its encoding detected, the text is accepted and has the input's content.

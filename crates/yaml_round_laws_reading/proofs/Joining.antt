@@ -11,7 +11,7 @@ use Rattle.yaml_round_content.specs.parse_grammar.Remaining.{reading_of}
 use Rattle.yaml_round_content.proofs.parse_grammar.CompleteStream.{stream_runs}
 use Rattle.yaml_round_content.specs.parse_laws_loading.parse_laws_faults.Places.{BeginsWithSentence, FaultOfTokens}
 use Rattle.yaml_round_content.proofs.parse_laws_loading.parse_laws_faults.Ending.{ends_in_fault, fault_ends}
-use Rattle.yaml_round_content.proofs.parse_laws_loading.parse_laws_faults.laws_counts.Turns.{items_given}
+use Rattle.yaml_round_content.proofs.parse_laws_loading.parse_laws_faults.Turns.{items_given}
 use Rattle.yaml_round_content.specs.Events.{contents}
 use Rattle.yaml_round_content.specs.Input.{tokens_of, read, events_of, ending_of}
 use Rattle.yaml_round_content.specs.Said.{Document, HasContent, stream_says}

@@ -2,12 +2,12 @@
 
 ghost use Rattle.std.specs.Prelude.{◌≡◌};
 ghost use Rattle.std.specs.List.{list_all};
-ghost use Rattle.yaml_scan_laws_plain.specs.Values.{begins_value, first, is_letter_or_digit, is_plain_value, is_value_byte};
+ghost use Rattle.yaml_scan_laws_texts.specs.Values.{begins_value, first, is_letter_or_digit, is_plain_value, is_value_byte};
 ghost use Rattle.yaml_round_shape.specs.Seen.{is_json_value};
 
 use yaml_scan_model::yaml_scalar_style_t;
 
-#[tactic(auto, unfolding(yaml_scan_laws_plain::specs::Values::is_letter_or_digit))]
+#[tactic(auto, unfolding(yaml_scan_laws_texts::specs::Values::is_letter_or_digit))]
 fn is_letter_or_digit(byte: u8) -> bool
     ensures { result ≡ is_letter_or_digit byte }
 {
@@ -15,7 +15,7 @@ fn is_letter_or_digit(byte: u8) -> bool
         || ((b'A' <= byte && byte <= b'Z') || (b'a' <= byte && byte <= b'z'))
 }
 
-#[tactic(auto, unfolding(yaml_scan_laws_plain::specs::Values::is_value_byte))]
+#[tactic(auto, unfolding(yaml_scan_laws_texts::specs::Values::is_value_byte))]
 fn is_value_byte(byte: u8) -> bool
     ensures { result ≡ is_value_byte byte }
 {
@@ -54,7 +54,7 @@ fn begins_value(value: &[u8]) -> bool
     }
 }
 
-#[tactic(auto, unfolding(yaml_scan_laws_plain::specs::Values::is_plain_value))]
+#[tactic(auto, unfolding(yaml_scan_laws_texts::specs::Values::is_plain_value))]
 fn is_plain_value(value: &[u8]) -> bool
     ensures { result ≡ is_plain_value value.now }
 {

@@ -26,7 +26,7 @@ use Rattle.yaml_round_laws_documents.specs.content.Input.{Reads, events_of, endi
 use Rattle.yaml_round_writing.specs.Answers.{IsLayout, IsPast, IsLaidOut, IsWritten, bytes_of}
 use Rattle.yaml_round_reading.proofs.Plain.{has_events, events_right}
 use Rattle.yaml_round_reading.specs.Answers.{IsRight}
-use Rattle.yaml_round_laws_documents.specs.content.round_laws.emit_laws_streams.Laws.{HasText}
+use Rattle.yaml_round_laws_documents.specs.content.emit_laws_streams.StreamsLaws.{HasText}
 use Rattle.yaml_round_writing.proofs.Streams.{input_text}
 
 -- a fresh emitter completes the streams of its settings

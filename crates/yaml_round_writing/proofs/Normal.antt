@@ -9,8 +9,8 @@ use Rattle.yaml_parse.specs.Resolve.{Told}
 use Rattle.yaml_round_laws_documents.specs.content.Input.{events_of}
 use Rattle.yaml_round_laws_documents.specs.content.Said.{Document, HasContent}
 use Rattle.yaml_round_laws_documents.specs.content.Canon.{canon_items, canon_encoding}
-use Rattle.yaml_round_laws_documents.specs.content.Laws.{IsSet, AreCanonical}
-use Rattle.yaml_round_laws_documents.proofs.content.Inputs.{have_content}
+use Rattle.yaml_round_laws_documents.specs.content.ContentLaws.{IsSet, AreCanonical}
+use Rattle.yaml_round_laws_documents.proofs.content.ContentInputs.{have_content}
 use Rattle.yaml_round_laws_documents.proofs.ReadBack.{inputs_read_back, tells_inputs, layout_is_of_input, is_laid_out_again}
 use Rattle.yaml_round_device.specs.declared.yaml_settings_t.{yaml_settings_t}
 use Rattle.yaml_round_device.specs.declared.yaml_output_encoding_t.{yaml_output_encoding_t}

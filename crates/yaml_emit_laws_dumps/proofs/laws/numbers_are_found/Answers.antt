@@ -1,5 +1,0 @@
-use Rattle.yaml_emit_laws_dumps.proofs.Whole.{numbers_found}
-use Rattle.yaml_emit_laws_dumps.proofs.laws.numbers_are_found.Goals as goal
-
-pub returns : goal.returns
-returns c = numbers_found c.numbers_are_apart.ensures

@@ -1,5 +1,0 @@
-use Rattle.yaml_emit_laws_quoted.proofs.Back.{quoted_back}
-use Rattle.yaml_emit_laws_quoted.proofs.laws.quoted_is_read_back.Goals as goal
-
-pub returns : goal.returns
-returns c = quoted_back c.quoted_spells.ensures

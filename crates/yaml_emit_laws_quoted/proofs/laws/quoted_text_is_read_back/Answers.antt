@@ -1,5 +1,0 @@
-use Rattle.yaml_emit_laws_quoted.proofs.Back.{quoted_text_back}
-use Rattle.yaml_emit_laws_quoted.proofs.laws.quoted_text_is_read_back.Goals as goal
-
-pub returns : goal.returns
-returns c = quoted_text_back c.quoted_spells.ensures

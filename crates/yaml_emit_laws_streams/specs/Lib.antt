@@ -1,7 +1,0 @@
-pub mod Laws
--- what it speaks of, for laws that name this crate alone
-pub use Rattle.yaml_emit_graph.specs as emit_graph
-pub use Rattle.yaml_emit_graph.specs.emit_layout
-pub use Rattle.yaml_parse_laws_loading.specs as parse_laws_loading
-pub use Rattle.yaml_parse_laws_loading.specs.parse_laws_faults.grammar as parse_grammar
-pub use Rattle.yaml_parse_laws_loading.specs.parse_laws_faults.grammar.parse_model

@@ -1,6 +1,0 @@
-pub mod Resolving
-mod Pieces
-pub mod Reading
-pub mod Joining
-pub mod Ascii
-pub mod Lines

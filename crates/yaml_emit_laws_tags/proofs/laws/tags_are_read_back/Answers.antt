@@ -1,5 +1,0 @@
-use Rattle.yaml_emit_laws_tags.proofs.Joining.{read_back}
-use Rattle.yaml_emit_laws_tags.proofs.laws.tags_are_read_back.Goals as goal
-
-pub returns : goal.returns
-returns c = read_back

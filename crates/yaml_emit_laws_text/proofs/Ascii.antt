@@ -1,0 +1,78 @@
+-- What is written for tags and directives is ASCII.
+use Rattle.std.proofs.Common.{◌≡◌, inl, inr, ℕ, ◌/◌, ◌%◌, ◌<◌, Bool, true, false, ◌&&◌, nat_lt, List, [], ◌∷◌, ◌++◌, refl, ap, subst, arith}
+use Rattle.std.proofs.lemmas.Bool.Decides.{nat_tests}
+use Rattle.yaml_scan_model.specs.Classes.{is_alpha_byte, is_digit_byte}
+use Rattle.yaml_scan_words.specs.Uris.{is_punctuation, is_wide_punctuation}
+use Rattle.yaml_scan_words.specs.Written as written
+use Rattle.yaml_scan_words.specs.Written.{are_alphas, UriPiece, raw, escape, capital, is_kept, IsUri}
+use Rattle.std.specs.Str.{IsUtf8}
+use Rattle.yaml_emit_layout.specs.parse.Events.{TagDirective}
+use Rattle.yaml_emit_layout.specs.emit_text.Tags.{Split, shorthand, verbatim, spelled, uri_text}
+use Rattle.yaml_emit_laws_text.specs.TagsLaws.{IsShaped, IsReadable, are_ascii, IsMarked, IsReadableDirective}
+use Rattle.yaml_emit_laws_text.proofs.Pieces.{pieces_of, text_is, text_uri}
+
+and_both : (a b : Bool) → a ≡ true → b ≡ true → (a && b) ≡ true
+and_both a b e f = rw (e, f) refl
+
+and_left : (a b : Bool) → (a && b) ≡ true → a ≡ true
+and_left true b e = refl
+and_left false b e = absurd (cc)
+
+and_right : (a b : Bool) → (a && b) ≡ true → b ≡ true
+and_right true b e = e
+and_right false b e = absurd (cc)
+
+append_ascii : (xs ys : List ℕ) → are_ascii xs ≡ true → are_ascii ys ≡ true → are_ascii (xs ++ ys) ≡ true
+append_ascii [] ys e f = f
+append_ascii (x ∷ xs) ys e f = and_both (nat_lt x 128) (are_ascii (xs ++ ys)) (and_left (nat_lt x 128) (are_ascii xs) e) (append_ascii xs ys (and_right (nat_lt x 128) (are_ascii xs) e) f)
+
+kept_ascii : (wide : Bool) (b : ℕ) → is_kept wide b ≡ true → nat_lt b 128 ≡ true
+unfolding is_alpha_byte is_digit_byte is_punctuation is_wide_punctuation
+kept_ascii true b h = grind (arith, nat_tests)
+kept_ascii false b h = grind (arith, nat_tests)
+
+capital_ascii : (d : ℕ) → d < 16 → nat_lt (capital d) 128 ≡ true
+unfolding capital
+capital_ascii d h = grind (arith, nat_tests)
+
+pieces_ascii : (wide : Bool) (due : ℕ) (pieces : List UriPiece) → IsUri wide due pieces → are_ascii (written.uri_text pieces) ≡ true
+pieces_ascii wide due [] is = refl
+pieces_ascii wide due (raw b ∷ pieces) (none, kept, is) = and_both (nat_lt b 128) (are_ascii (written.uri_text pieces)) (kept_ascii wide b kept) (pieces_ascii wide 0 pieces is)
+pieces_ascii wide due (escape b ∷ pieces) (small, (next, due_is, is)) =
+    let high = capital_ascii (b / 16) (omega (arith, small)) in
+    let low = capital_ascii (b % 16) (omega arith) in
+    rw (high, low) (pieces_ascii wide next pieces is)
+
+pub uri_ascii : (wide : Bool) (bs : List ℕ) → IsUtf8 bs → are_ascii (uri_text wide bs) ≡ true
+uri_ascii wide bs u = subst (λ (t : List ℕ). are_ascii t ≡ true) (text_is wide bs) (pieces_ascii wide 0 (pieces_of wide bs) (text_uri wide bs u))
+
+alpha_ascii : (b : ℕ) → is_alpha_byte b ≡ true → nat_lt b 128 ≡ true
+unfolding is_alpha_byte is_digit_byte
+alpha_ascii b h = grind (arith, nat_tests)
+
+alphas_ascii : (name : List ℕ) → are_alphas name ≡ true → are_ascii name ≡ true
+alphas_ascii [] e = refl
+alphas_ascii (b ∷ bs) e =
+    and_both (nat_lt b 128) (are_ascii bs) (alpha_ascii b (and_left (is_alpha_byte b) (are_alphas bs) e)) (alphas_ascii bs (and_right (is_alpha_byte b) (are_alphas bs) e))
+
+pub handle_ascii : (handle : List ℕ) → IsShaped handle → IsMarked handle
+handle_ascii handle (inl e) = record { more = []; begins = e; ascii = refl }
+handle_ascii handle (inr (name, e, are)) = record { more = name ++ (33 ∷ []); begins = e; ascii = append_ascii name (33 ∷ []) (alphas_ascii name are) refl }
+
+pub spelled_ascii : (split : Split) → IsReadable split → IsMarked (spelled split)
+unfolding spelled
+spelled_ascii (shorthand handle suffix) (shaped, utf8, some) =
+    let h = handle_ascii handle shaped in
+    record {
+      more = h.more ++ uri_text false suffix;
+      begins = ap (λ (t : List ℕ). t ++ uri_text false suffix) h.begins;
+      ascii = append_ascii h.more (uri_text false suffix) h.ascii (uri_ascii false suffix utf8);
+    }
+spelled_ascii (verbatim tag) (utf8, some) = record {
+  more = 60 ∷ (uri_text true tag ++ 62 ∷ []);
+  begins = refl;
+  ascii = append_ascii (uri_text true tag) (62 ∷ []) (uri_ascii true tag utf8) refl;
+}
+
+pub directive_ascii : (d : TagDirective) → IsReadableDirective d → IsMarked d.handle × (are_ascii (uri_text true d.prefix) ≡ true)
+directive_ascii d (shaped, utf8, some) = (handle_ascii d.handle shaped, uri_ascii true d.prefix utf8)

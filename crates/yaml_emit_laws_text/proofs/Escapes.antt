@@ -1,0 +1,394 @@
+-- The parts of what an emitter writes between double quotes, as a reader's parts.
+use Rattle.std.proofs.Common.{◌≡◌, ◌≢◌, ℕ, zero, suc, ◌+◌, ◌*◌, ◌/◌, ◌%◌, ◌<◌, ◌≤◌, Bool, true, false, not, ◌&&◌, ◌||◌, ◌==◌, nat_lt, nat_le, List, [], ◌∷◌, ◌++◌, length, replicate, Some, refl, sym, ap, subst, ◌∙◌, inl, inr, arith, append-nil, encode_utf8, encode_utf8_all}
+use Rattle.std.proofs.lemmas.Bool.{cases_lt, cases_eq}
+use Rattle.std.proofs.lemmas.Bool.Decides.{nat_tests}
+use Rattle.std.proofs.lemmas.Str.{encode_ascii, encodes-append}
+use lib.Utf8.{scalar, scalar_cases, encode}
+use Rattle.yaml_scan_scalars.specs.Quoted.{hex_digit, hex_len, simple_escape}
+use Rattle.yaml_emit_text.specs.declared.LineBreak.{LineBreak}
+use Rattle.yaml_emit_text.specs.declared.LineBreak.TheVariants.{Lf, Cr, CrLf}
+use Rattle.yaml_emit_text.specs.Quoted.{escape_letter, escape_text, hex_2, hex_4, hex_8, hex_digit as digit_of}
+use Rattle.yaml_emit_text.specs.Spelling as emitted
+use Rattle.yaml_emit_laws_text.specs.Spelling.{LineEnd, feed, return, return_feed, turn_bytes, turn_means, may_turn, QuotedPart, raw, named, numbered, fold, spelled, meant, spelling, meaning, number_behind, may_be_raw, MayStand, is_raw_blank, is_fold, is_turn, may_follow, may_be_next, IsSpelling}
+use Rattle.yaml_emit_laws_text.proofs.Bytes.{and_left, and_right, not_true, or_left, or_right, differs, AreCalm, calm_from, digit_calm, named_is}
+
+-- ---- digits
+
+digit_back : (d : ℕ) → d < 16 → hex_digit (digit_of d) ≡ Some d
+unfolding hex_digit digit_of
+digit_back d h =
+    elim (cases_lt d 10) [
+      | inl l ↦ let e : nat_lt d 10 ≡ true = grind (arith, nat_tests) in
+          let a : nat_le 48 (48 + d) ≡ true = grind (arith, nat_tests) in
+          let b : nat_le (48 + d) 57 ≡ true = grind (arith, nat_tests) in
+          rw (e, a, b) (ap (λ k. Some k) (omega arith))
+      | inr l ↦ let e : nat_lt d 10 ≡ false = grind (arith, nat_tests) in
+          let a : nat_le (55 + d) 57 ≡ false = grind (arith, nat_tests) in
+          let b : nat_le 65 (55 + d) ≡ true = grind (arith, nat_tests) in
+          let f : nat_le (55 + d) 70 ≡ true = grind (arith, nat_tests) in
+          let g : nat_le 48 (55 + d) ≡ true = grind (arith, nat_tests) in
+          rw (e, a, b, f, g) (ap (λ k. Some k) (omega arith))
+    ]
+
+high_digit : (n : ℕ) → n < 256 → n / 16 < 16
+high_digit n h = omega arith
+
+low_digit : (n : ℕ) → n % 16 < 16
+low_digit n = omega arith
+
+two_digits : (v n : ℕ) → (v * 16 + n / 16) * 16 + n % 16 ≡ v * 256 + n
+two_digits v n = omega arith
+
+number_more : (v d n : ℕ) (rest : List ℕ) → hex_digit d ≡ Some n → number_behind v (d ∷ rest) ≡ number_behind (v * 16 + n) rest
+unfolding number_behind
+number_more v d n rest h = rw h refl
+
+number_end : (v : ℕ) → number_behind v [] ≡ Some v
+unfolding number_behind
+number_end v = refl
+
+number_2 : (v n : ℕ) (rest : List ℕ) → n < 256 → number_behind v (hex_2 n ++ rest) ≡ number_behind (v * 256 + n) rest
+number_2 v n rest h =
+    number_more v (digit_of (n / 16)) (n / 16) (digit_of (n % 16) ∷ rest) (digit_back (n / 16) (high_digit n h))
+    ∙ number_more (v * 16 + n / 16) (digit_of (n % 16)) (n % 16) rest (digit_back (n % 16) (low_digit n))
+    ∙ ap (λ k. number_behind k rest) (two_digits v n)
+
+two_is : (c : ℕ) → c < 256 → number_behind 0 (hex_2 c) ≡ Some c
+two_is c h =
+    let e : 0 * 256 + c ≡ c = omega arith in
+    number_2 0 c [] h ∙ number_end (0 * 256 + c) ∙ ap (λ k. Some k) e
+
+four_is : (c : ℕ) → c < 65536 → number_behind 0 (hex_4 c) ≡ Some c
+four_is c h =
+    let e : (0 * 256 + c / 256) * 256 + c % 256 ≡ c = omega arith in
+    number_2 0 (c / 256) (hex_2 (c % 256)) (omega arith) ∙ number_2 (0 * 256 + c / 256) (c % 256) [] (omega arith) ∙ number_end _ ∙ ap (λ k. Some k) e
+
+eight_digits : (c : ℕ) → c < 1114112 → (((0 * 256 + c / 65536 / 256) * 256 + c / 65536 % 256) * 256 + c % 65536 / 256) * 256 + c % 65536 % 256 ≡ c
+eight_digits c l = omega arith
+
+eight_is : (c : ℕ) → c < 1114112 → number_behind 0 (hex_8 c) ≡ Some c
+eight_is c h =
+    number_2 0 (c / 65536 / 256) (hex_2 (c / 65536 % 256) ++ hex_4 (c % 65536)) (omega arith)
+    ∙ number_2 (0 * 256 + c / 65536 / 256) (c / 65536 % 256) (hex_4 (c % 65536)) (omega arith)
+    ∙ number_2 ((0 * 256 + c / 65536 / 256) * 256 + c / 65536 % 256) (c % 65536 / 256) (hex_2 (c % 65536 % 256)) (omega arith)
+    ∙ number_2 (((0 * 256 + c / 65536 / 256) * 256 + c / 65536 % 256) * 256 + c % 65536 / 256) (c % 65536 % 256) [] (omega arith)
+    ∙ number_end _ ∙ ap (λ k. Some k) (eight_digits c h)
+
+two_calm : (n : ℕ) (xs : List ℕ) → n < 256 → AreCalm xs → AreCalm (hex_2 n ++ xs)
+two_calm n xs h a =
+    (digit_calm (digit_of (n / 16)) (n / 16) (digit_back (n / 16) (high_digit n h)), (digit_calm (digit_of (n % 16)) (n % 16) (digit_back (n % 16) (low_digit n)), a))
+
+-- ---- letters
+
+no_letter : (c : ℕ) → c ≢ 0 → c ≢ 7 → c ≢ 8 → c ≢ 9 → c ≢ 10 → c ≢ 11 → c ≢ 12 → c ≢ 13 → c ≢ 27 → c ≢ 34 → c ≢ 92 → c ≢ 0x85 → c ≢ 0xA0 → c ≢ 0x2028 → c ≢ 0x2029
+    → escape_letter c ≡ 0
+unfolding escape_letter
+no_letter c a b d e f g h i j k l m n o p =
+    rw (differs _ _ a, differs _ _ b, differs _ _ d, differs _ _ e, differs _ _ f, differs _ _ g, differs _ _ h, differs _ _ i, differs _ _ j, differs _ _ k, differs _ _ l, differs _ _ m, differs _ _ n, differs _ _ o, differs _ _ p) refl
+
+abbrev Names : ℕ → Type 0
+Names c = simple_escape (escape_letter c) ≡ Some (encode_utf8 c)
+
+names_at : (c k : ℕ) → Names k → c ≡ k → Names c
+names_at c k h e = subst (λ (x : ℕ). Names x) (sym e) h
+
+letter_names : (c : ℕ) → escape_letter c ≢ 0 → Names c
+unfolding escape_letter simple_escape encode
+letter_names c n =
+    elim (cases_eq c 0) [
+      | inl e ↦ names_at c 0 refl e
+      | inr e0 ↦
+          elim (cases_eq c 7) [
+            | inl e ↦ names_at c 7 refl e
+            | inr e1 ↦
+                elim (cases_eq c 8) [
+                  | inl e ↦ names_at c 8 refl e
+                  | inr e2 ↦
+                      elim (cases_eq c 9) [
+                        | inl e ↦ names_at c 9 refl e
+                        | inr e3 ↦
+                            elim (cases_eq c 10) [
+                              | inl e ↦ names_at c 10 refl e
+                              | inr e4 ↦
+                                  elim (cases_eq c 11) [
+                                    | inl e ↦ names_at c 11 refl e
+                                    | inr e5 ↦
+                                        elim (cases_eq c 12) [
+                                          | inl e ↦ names_at c 12 refl e
+                                          | inr e6 ↦
+                                              elim (cases_eq c 13) [
+                                                | inl e ↦ names_at c 13 refl e
+                                                | inr e7 ↦
+                                                    elim (cases_eq c 27) [
+                                                      | inl e ↦ names_at c 27 refl e
+                                                      | inr e8 ↦
+                                                          elim (cases_eq c 34) [
+                                                            | inl e ↦ names_at c 34 refl e
+                                                            | inr e9 ↦
+                                                                elim (cases_eq c 92) [
+                                                                  | inl e ↦ names_at c 92 refl e
+                                                                  | inr ea ↦
+                                                                      elim (cases_eq c 0x85) [
+                                                                        | inl e ↦ names_at c 0x85 refl e
+                                                                        | inr eb ↦
+                                                                            elim (cases_eq c 0xA0) [
+                                                                              | inl e ↦ names_at c 0xA0 refl e
+                                                                              | inr ec ↦
+                                                                                  elim (cases_eq c 0x2028) [
+                                                                                    | inl e ↦ names_at c 0x2028 refl e
+                                                                                    | inr ed ↦
+                                                                                        elim (cases_eq c 0x2029) [
+                                                                                          | inl e ↦ names_at c 0x2029 refl e
+                                                                                          | inr ee ↦
+                                                                                              absurd (n (no_letter c e0 e1 e2 e3 e4 e5 e6 e7 e8 e9 ea eb ec ed ee))
+                                                                                        ]
+                                                                                  ]
+                                                                            ]
+                                                                      ]
+                                                                ]
+                                                          ]
+                                                    ]
+                                              ]
+                                        ]
+                                  ]
+                            ]
+                      ]
+                ]
+          ]
+    ]
+
+pub escape_by_letter : (c : ℕ) → escape_letter c ≢ 0 → escape_text c ≡ 92 ∷ escape_letter c ∷ []
+unfolding escape_text
+escape_by_letter c n = grind arith
+
+pub escape_by_2 : (c : ℕ) → escape_letter c ≡ 0 → c < 256 → escape_text c ≡ 92 ∷ 120 ∷ hex_2 c
+unfolding escape_text
+escape_by_2 c n h = grind arith
+
+pub escape_by_4 : (c : ℕ) → escape_letter c ≡ 0 → 256 ≤ c → c < 65536 → escape_text c ≡ 92 ∷ 117 ∷ hex_4 c
+unfolding escape_text
+escape_by_4 c n l h = grind arith
+
+pub escape_by_8 : (c : ℕ) → escape_letter c ≡ 0 → 256 ≤ c → 65536 ≤ c → escape_text c ≡ 92 ∷ 85 ∷ hex_8 c
+unfolding escape_text
+escape_by_8 c n l h = grind arith
+
+-- ---- ASCII
+
+abbrev pub AreLow : List ℕ → Type 0
+AreLow [] = Unit {0}
+AreLow (b ∷ bs) = (b < 128) × AreLow bs
+
+pub low_encodes : (xs : List ℕ) → AreLow xs → encode_utf8_all xs ≡ xs
+low_encodes [] h = refl
+low_encodes (x ∷ xs) (a, b) = rw (encode_ascii x a, low_encodes xs b) refl
+
+calm_low : (xs : List ℕ) → AreCalm xs → AreLow xs
+calm_low [] h = tt
+calm_low (x ∷ xs) (a, b) = (a.low, calm_low xs b)
+
+slashed : (b : ℕ) (xs : List ℕ) → b < 128 → AreCalm xs → encode_utf8_all (92 ∷ b ∷ xs) ≡ 92 ∷ b ∷ xs
+slashed b xs h a = low_encodes (92 ∷ b ∷ xs) (omega arith, (h, calm_low xs a))
+
+spaces_low : (n : ℕ) → AreLow (replicate n 32)
+spaces_low zero = tt
+spaces_low (suc n) = (omega arith, spaces_low n)
+
+-- ---- parts
+
+-- a reader's part for one that is written
+record PartOf (x : emitted.SpelledPart) : Type 0 where
+  part : QuotedPart
+  stand : MayStand 34 part
+  bytes : encode_utf8_all (emitted.spelled x) ≡ spelled part
+  means : meant part ≡ encode_utf8 (emitted.meant x)
+  folds : is_fold part ≡ emitted.is_fold x
+  turns : is_turn part ≡ emitted.is_fold x
+  blank : is_raw_blank part ≡ emitted.is_raw_blank x
+
+raw_test : (s a b d e f z q k : Bool) → s ≡ true → a ≡ false → b ≡ false → d ≡ false → e ≡ false → f ≡ false → z ≡ false → q ≡ false → k ≡ false
+    → (s && not ((a || (b || (d || (e || f)))) || (z || (q || k)))) ≡ true
+raw_test s a b d e f z q k g h i j l m n o p = rw (g, h, i, j, l, m, n, o, p) refl
+
+raw_may : (c : ℕ) → emitted.may_stand (emitted.raw c) ≡ true → may_be_raw 34 c ≡ true
+raw_may c h =
+    let s = and_left (scalar c) _ h in
+    let all = not_true _ (and_right (scalar c) _ h) in
+    let z = or_right _ (c == 0) all in
+    let x = or_left _ (c == 0) all in
+    let k = or_right _ (c == 92) x in
+    let y = or_left _ (c == 92) x in
+    let q = or_right _ (c == 34) y in
+    let ends = or_left _ (c == 34) y in
+    let p29 = or_right _ (c == 0x2029) ends in
+    let t29 = or_left _ (c == 0x2029) ends in
+    let p28 = or_right _ (c == 0x2028) t29 in
+    let t28 = or_left _ (c == 0x2028) t29 in
+    let p85 = or_right _ (c == 0x85) t28 in
+    let t85 = or_left _ (c == 0x85) t28 in
+    raw_test (scalar c) (c == 10) (c == 13) (c == 0x85) (c == 0x2028) (c == 0x2029) (c == 0) (c == 34) (c == 92) s (or_left (c == 10) _ t85) (or_right _ (c == 13) t85) p85 p28 p29 z q k
+
+escape_named : (c : ℕ) → escape_letter c ≢ 0 → PartOf (emitted.escape c)
+escape_named c n =
+    let s = letter_names c n in
+    let l = (named_is (escape_letter c) (encode_utf8 c) s).calm.low in
+    record {
+      part = named (escape_letter c) (encode_utf8 c);
+      stand = (refl, s);
+      bytes = ap (λ (t : List ℕ). encode_utf8_all t) (escape_by_letter c n) ∙ slashed (escape_letter c) [] l tt;
+      means = refl;
+      folds = refl;
+      turns = refl;
+      blank = refl;
+    }
+
+escape_numbered : (b c : ℕ) (ds : List ℕ) → scalar c ≡ true → escape_text c ≡ 92 ∷ b ∷ ds → b < 128 → AreCalm ds → 0 < length ds → hex_len b ≡ length ds → number_behind 0 ds ≡ Some c → PartOf (emitted.escape c)
+escape_numbered b c ds s e l a some h n = record {
+  part = numbered b ds c;
+  stand = (refl, some, h, n, s);
+  bytes = ap (λ (t : List ℕ). encode_utf8_all t) e ∙ slashed b ds l a;
+  means = refl;
+  folds = refl;
+  turns = refl;
+  blank = refl;
+}
+
+scalar_top : (c : ℕ) → scalar c ≡ true → c < 1114112
+scalar_top c h = elim (scalar_cases c h) [ inl a ↦ omega arith | inr a ↦ a.1 ]
+
+len_2 : hex_len 120 ≡ 2
+unfolding hex_len
+len_2 = refl
+
+len_4 : hex_len 117 ≡ 4
+unfolding hex_len
+len_4 = refl
+
+len_8 : hex_len 85 ≡ 8
+unfolding hex_len
+len_8 = refl
+
+escape_part : (c : ℕ) → scalar c ≡ true → PartOf (emitted.escape c)
+escape_part c s =
+    elim (cases_eq (escape_letter c) 0) [
+      | inr n ↦ escape_named c n
+      | inl n ↦ elim (cases_lt c 256) [
+        | inl a ↦ escape_numbered 120 c (hex_2 c) s (escape_by_2 c n a) (omega arith) (two_calm c [] a tt) (omega arith) len_2 (two_is c a)
+        | inr a ↦ elim (cases_lt c 65536) [
+          | inl b ↦ escape_numbered 117 c (hex_4 c) s (escape_by_4 c n a b) (omega arith) (two_calm (c / 256) (hex_2 (c % 256)) (omega arith) (two_calm (c % 256) [] (omega arith) tt)) (omega arith) len_4 (four_is c b)
+          | inr b ↦
+              let top = scalar_top c s in
+              escape_numbered 85 c (hex_8 c) s (escape_by_8 c n a b) (omega arith)
+              (two_calm (c / 65536 / 256) (hex_2 (c / 65536 % 256) ++ hex_4 (c % 65536)) (omega arith)
+              (two_calm (c / 65536 % 256) (hex_4 (c % 65536)) (omega arith)
+              (two_calm (c % 65536 / 256) (hex_2 (c % 65536 % 256)) (omega arith) (two_calm (c % 65536 % 256) [] (omega arith) tt)))) (omega arith) len_8 (eight_is c top)
+        ]
+      ]
+    ]
+
+pub escape_calm : (c : ℕ) → scalar c ≡ true → AreCalm (escape_text c)
+escape_calm c s =
+    let P : List ℕ → Type 0 = λ bs. AreCalm bs in
+    let slash = calm_from 92 (omega arith) (omega arith) in
+    elim (cases_eq (escape_letter c) 0) [
+      | inr n ↦ subst P (sym (escape_by_letter c n)) (slash, ((named_is (escape_letter c) (encode_utf8 c) (letter_names c n)).calm, tt))
+      | inl n ↦ elim (cases_lt c 256) [
+        | inl a ↦ subst P (sym (escape_by_2 c n a)) (slash, (calm_from 120 (omega arith) (omega arith), two_calm c [] a tt))
+        | inr a ↦ elim (cases_lt c 65536) [
+          | inl b ↦ subst P (sym (escape_by_4 c n a b)) (slash, (calm_from 117 (omega arith) (omega arith), two_calm (c / 256) (hex_2 (c % 256)) (omega arith) (two_calm (c % 256) [] (omega arith) tt)))
+          | inr b ↦
+              let top = scalar_top c s in
+              subst P (sym (escape_by_8 c n a b)) (
+                slash,
+                (
+                  calm_from 85 (omega arith) (omega arith),
+                  two_calm (c / 65536 / 256) (hex_2 (c / 65536 % 256) ++ hex_4 (c % 65536)) (omega arith)
+                      (two_calm (c / 65536 % 256) (hex_4 (c % 65536)) (omega arith)
+                      (two_calm (c % 65536 / 256) (hex_2 (c % 65536 % 256)) (omega arith) (two_calm (c % 65536 % 256) [] (omega arith) tt))),
+                ),
+              )
+        ]
+      ]
+    ]
+
+space_named : simple_escape 32 ≡ Some (32 ∷ [])
+unfolding simple_escape
+space_named = refl
+
+abbrev pub end_of : LineBreak → LineEnd
+end_of Lf = feed
+end_of Cr = return
+end_of CrLf = return_feed
+
+pub fold_bytes : (b : LineBreak) (n : ℕ) → encode_utf8_all (emitted.break_text b ++ replicate n 32) ≡ turn_bytes (record { end = end_of b; spaces = n } ∷ [])
+unfolding turn_bytes
+fold_bytes Lf n = low_encodes (10 ∷ replicate n 32) (omega arith, spaces_low n) ∙ ap (λ (t : List ℕ). 10 ∷ t) (sym (append-nil (replicate n 32)))
+fold_bytes Cr n = low_encodes (13 ∷ replicate n 32) (omega arith, spaces_low n) ∙ ap (λ (t : List ℕ). 13 ∷ t) (sym (append-nil (replicate n 32)))
+fold_bytes CrLf n = low_encodes (13 ∷ 10 ∷ replicate n 32) (omega arith, (omega arith, spaces_low n)) ∙ ap (λ (t : List ℕ). 13 ∷ 10 ∷ t) (sym (append-nil (replicate n 32)))
+
+pub space_encodes : encode_utf8 32 ≡ 32 ∷ []
+space_encodes = encode_ascii 32 (omega arith)
+
+pub fold_means : (b : LineBreak) (n : ℕ) → meant (fold (record { end = end_of b; spaces = n }) []) ≡ 32 ∷ []
+unfolding turn_means
+fold_means Lf n = refl
+fold_means Cr n = refl
+fold_means CrLf n = refl
+
+fold_may : (b : LineBreak) (n : ℕ) → nat_lt 0 n ≡ true → MayStand 34 (fold (record { end = end_of b; spaces = n }) [])
+unfolding may_turn
+fold_may b n h = h
+
+part_of : (x : emitted.SpelledPart) → emitted.may_stand x ≡ true → PartOf x
+part_of (emitted.raw c) s = record { part = raw c; stand = raw_may c s; bytes = append-nil (encode_utf8 c); means = refl; folds = refl; turns = refl; blank = refl }
+part_of (emitted.escape c) s = escape_part c s
+part_of emitted.escaped_space s = record {
+  part = named 32 (32 ∷ []);
+  stand = (refl, space_named);
+  bytes = low_encodes (92 ∷ 32 ∷ []) (omega arith, (omega arith, tt));
+  means = sym space_encodes;
+  folds = refl;
+  turns = refl;
+  blank = refl;
+}
+part_of (emitted.fold b n) s = record {
+  part = fold (record { end = end_of b; spaces = n }) [];
+  stand = fold_may b n s;
+  bytes = fold_bytes b n;
+  means = fold_means b n ∙ sym space_encodes;
+  folds = refl;
+  turns = refl;
+  blank = refl;
+}
+
+-- all of them, behind one
+pub record PartsOf (before : emitted.SpelledPart) (xs : List emitted.SpelledPart) : Type 0 where
+  pub parts : List QuotedPart
+  pub right : IsSpelling 34 parts
+  pub bytes : encode_utf8_all (emitted.spelling xs) ≡ spelling parts
+  pub means : meaning parts ≡ encode_utf8_all (emitted.meaning xs)
+  pub next : (p : QuotedPart) → is_turn p ≡ emitted.is_fold before → is_raw_blank p ≡ emitted.is_raw_blank before → may_be_next p parts ≡ true
+
+follow_test : (fq bp fp bq : Bool) → (not (fq && (bp || fp)) && not (fp && bq)) ≡ true → (not (fq && (bp || fp)) && not (bq && fp)) ≡ true
+follow_test fq bp true true h = h
+follow_test fq bp true false h = h
+follow_test fq bp false true h = h
+follow_test fq bp false false h = h
+
+follow_is : (x y : emitted.SpelledPart) (p q : QuotedPart) → emitted.may_follow x y ≡ true → is_turn p ≡ emitted.is_fold x → is_raw_blank p ≡ emitted.is_raw_blank x → is_fold q ≡ emitted.is_fold y → is_raw_blank q ≡ emitted.is_raw_blank y
+    → may_follow p q ≡ true
+follow_is x y p q h a b d e = rw (a, b, d, e) (follow_test (emitted.is_fold y) (emitted.is_raw_blank x) (emitted.is_fold x) (emitted.is_raw_blank y) h)
+
+pub parts_of : (before : emitted.SpelledPart) (xs : List emitted.SpelledPart) → emitted.IsSpelling before xs → PartsOf before xs
+unfolding emitted.IsSpelling emitted.spelling emitted.meaning IsSpelling spelling meaning
+parts_of before [] h = record { parts = []; right = tt; bytes = refl; means = refl; next = λ p a b. refl }
+parts_of before (x ∷ xs) (follow, stand, more) =
+    let one = part_of x stand in
+    let rest = parts_of x xs more in
+    record {
+      parts = one.part ∷ rest.parts;
+      right = (one.stand, rest.next one.part one.turns one.blank, rest.right);
+      bytes = encodes-append (emitted.spelled x) (emitted.spelling xs) ∙ ap (λ t. t ++ encode_utf8_all (emitted.spelling xs)) one.bytes ∙ ap (λ t. spelled one.part ++ t) rest.bytes;
+      means = ap (λ t. t ++ meaning rest.parts) one.means ∙ ap (λ t. encode_utf8 (emitted.meant x) ++ t) rest.means;
+      next = λ p a b. follow_is before x p one.part follow a b one.folds one.blank;
+    }

@@ -1,0 +1,62 @@
+-- What is written between quotes is read back.
+use Rattle.std.specs.Prelude.{ℕ, ◌+◌, ◌<◌, ◌≡◌, true, false, List, length, Ok, IsUtf8}
+use Rattle.std.specs.Str.{chars}
+use Rattle.yaml_scan_scalars.specs.scan_model.Marks.{byte}
+use Rattle.yaml_scan_scalars.specs.Quoted.{double_quoted_at, single_quoted_at}
+use Rattle.yaml_emit_text.specs.declared.Cursor.{Cursor}
+use Rattle.yaml_emit_text.specs.declared.Encoding.TheVariants.{Utf8}
+use Rattle.yaml_emit_text.specs.Text.{encode}
+use Rattle.yaml_emit_text.specs.Layout.{nothing_more}
+use Rattle.yaml_emit_text.specs.declared.page.Page.{Page}
+use Rattle.yaml_emit_text.specs.Quoted.{double_quoted}
+use Rattle.yaml_emit_text.specs.Style.{allowed}
+use Rattle.yaml_emit_laws_text.specs.Stands.{HasAt}
+use Rattle.yaml_emit_laws_text.specs.Spelling.{QuotedPart, IsSpelling, meaning, quoted}
+use Rattle.yaml_emit_laws_text.specs.ReadBack.{ValueIsReadBack, ValueIsReadBackBefore, between_quotes, between_single, gap_width, is_one_line, StaysInLine}
+
+-- ---- spellings
+
+-- Where a spelling stands between double quotes, that is one scalar and has the value that it means, whatever stands before and
+-- behind.
+abbrev pub SpellingReads : Type 0
+SpellingReads = (parts : List QuotedPart) (text : List ℕ) (p : ℕ) → IsSpelling 34 parts
+    → HasAt text p (quoted 34 parts)
+    → double_quoted_at text p ≡ Ok (meaning parts, p + length (quoted 34 parts))
+
+-- So it is between single quotes, where no single quote stands behind.
+abbrev pub SingleSpellingReads : Type 0
+SingleSpellingReads = (parts : List QuotedPart) (text : List ℕ) (p : ℕ) → IsSpelling 39 parts
+    → HasAt text p (quoted 39 parts)
+    → (byte text (p + length (quoted 39 parts)) ≡ 39 → ⊥)
+    → single_quoted_at text p ≡ Ok (meaning parts, p + length (quoted 39 parts))
+
+-- ---- what an emitter writes
+
+-- What is written for a value between double quotes is read as the value: on every page, at every column, with every break; with
+-- lines that may be broken, where new lines are indented.
+abbrev pub QuotedIsReadBack : Type 0
+QuotedIsReadBack = (page : Page) (c : Cursor) (value : List ℕ) → IsUtf8 value
+    → (page.cuts ≡ true → 0 < page.indentation)
+    → ValueIsReadBack double_quoted_at (between_quotes page (chars value)) c value
+
+-- Wherever a text has a double quoted scalar's bytes in UTF-8, the value is read behind the space in front.
+abbrev pub QuotedTextIsReadBack : Type 0
+QuotedTextIsReadBack = (page : Page) (c : Cursor) (value text : List ℕ) (p : ℕ) → IsUtf8 value
+    → (page.cuts ≡ true → 0 < page.indentation)
+    → HasAt text p (encode Utf8 (double_quoted page (chars value) c nothing_more))
+    → double_quoted_at text (p + gap_width c)
+    ≡ Ok (value, p + length (encode Utf8 (double_quoted page (chars value) c nothing_more)))
+
+-- As a simple key, which may not be broken, it stays in its line, whatever the value.
+abbrev pub KeysStayInLine : Type 0
+KeysStayInLine = (page : Page) (c : Cursor) (value : List ℕ) → IsUtf8 value → page.cuts ≡ false
+    → StaysInLine (between_quotes page (chars value)) c
+
+-- What is written for a value of one line between single quotes, where they are allowed, is read as the value, unless a single
+-- quote stands behind; with lines that may be broken, where new lines are indented.
+abbrev pub SingleIsReadBack : Type 0
+SingleIsReadBack = (page : Page) (c : Cursor) (value : List ℕ) → IsUtf8 value
+    → (page.cuts ≡ true → 0 < page.indentation)
+    → (allowed page.unicode (chars value)).single ≡ true → is_one_line (chars value) ≡ true
+    → ValueIsReadBackBefore (λ b. b ≡ 39 → ⊥) single_quoted_at (between_single page (chars value)) c
+    value

@@ -1,0 +1,39 @@
+//! Each function's contract is a law. A body cites a law of a lower crate.
+
+ghost use Rattle.yaml_emit_laws_text.specs.QuotedLaws.{KeysStayInLine, QuotedIsReadBack, QuotedTextIsReadBack, SingleIsReadBack, SingleSpellingReads, SpellingReads};
+
+use yaml_emit_text::quoted_spells;
+
+/// A spelling between double quotes is read as what it means, wherever it stands.
+pub fn spelling_reads()
+    ensures { SpellingReads }
+{}
+
+/// So is one between single quotes, where no single quote stands behind.
+pub fn single_spelling_reads()
+    ensures { SingleSpellingReads }
+{}
+
+/// What an emitter writes for a value between double quotes is read as the value.
+pub fn quoted_is_read_back()
+    ensures { QuotedIsReadBack }
+{
+    quoted_spells();
+}
+
+/// So is a double quoted scalar's text, behind the space in front.
+pub fn quoted_text_is_read_back()
+    ensures { QuotedTextIsReadBack }
+{
+    quoted_spells();
+}
+
+/// What an emitter writes for a value of one line between single quotes is read as the value, unless a single quote stands behind.
+pub fn single_is_read_back()
+    ensures { SingleIsReadBack }
+{}
+
+/// As a simple key, double quoted text stays in its line.
+pub fn keys_stay_in_line()
+    ensures { KeysStayInLine }
+{}

@@ -1,3 +1,0 @@
-pub mod Laws
--- what it stands on, for crates of laws that name this one alone
-pub use Rattle.yaml_parse_grammar.specs as grammar

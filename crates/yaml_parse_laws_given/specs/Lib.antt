@@ -1,5 +1,0 @@
-pub mod Given
-pub mod Laws
-pub mod Rows
--- what it stands on, for crates of laws that name this one alone
-pub use Rattle.yaml_parse_laws_faults.specs as laws_faults

@@ -1,0 +1,173 @@
+-- Taking a token inside a document: what is open, which token was last, and how the states stand.
+use Rattle.std.proofs.Common.{◌≡◌, Bool, true, false, if◌then◌else◌, ◌||◌, List, [], ◌∷◌, ◌++◌, Option, Some, None, refl, sym, subst}
+use Rattle.std.proofs.lemmas.List.{append_assoc}
+use Rattle.yaml_parse_laws_trees.specs.grammar.parse_model.declared.yaml_mark_t.{yaml_mark_t}
+use Rattle.yaml_parse_laws_trees.specs.grammar.parse_model.Tokens.{Token, TokenBody, type_of}
+use Rattle.yaml_parse_laws_trees.specs.grammar.parse_model.Tokens as token
+use Rattle.yaml_parse_laws_trees.specs.grammar.declared.name.Wants.{Wants}
+use Rattle.yaml_parse_laws_trees.specs.grammar.declared.name.Wants.TheVariants.{Flow, Block}
+use Rattle.yaml_parse_laws_trees.specs.grammar.declared.name.Side.{Side}
+use Rattle.yaml_parse_laws_trees.specs.grammar.declared.name.Brackets.{Brackets}
+use Rattle.yaml_parse_laws_trees.specs.grammar.declared.name.Brackets.TheVariants as brackets
+use Rattle.yaml_parse_laws_trees.specs.grammar.declared.name.Site.{Site}
+use Rattle.yaml_parse_laws_trees.specs.grammar.declared.name.Site.TheVariants.{IndentlessEntry}
+use Rattle.yaml_parse_laws_trees.specs.grammar.declared.name.Choice.TheVariants.{Refuse, Take, Leave}
+use Rattle.yaml_parse_laws_trees.specs.grammar.declared.problem.ParseProblem.{ParseProblem}
+use Rattle.yaml_parse_laws_trees.specs.grammar.Items.{Properties}
+use Rattle.yaml_parse_laws_trees.specs.grammar.States.{State}
+use Rattle.yaml_parse_laws_trees.specs.grammar.States as state
+use Rattle.yaml_parse_laws_trees.specs.grammar.Stacks.{IsInner, IsInside}
+use Rattle.yaml_parse_laws_trees.specs.grammar.Machine.{starts_content, starts_node, wants_of, follows, no_node, joins, choice_at, content_taken, node_taken, with_properties_taken, items_taken, more_taken, entries_taken, pairs_taken, lone_below, taken_at}
+use Rattle.yaml_parse_laws_trees.specs.LookBack.{is_directive, starts_document}
+use Rattle.yaml_parse_laws_trees.proofs.FaultsStanding.{Sign, signs_behind, open_in, bracketed, last_of, Plain, Topped, plain_topped, is_flow, Nested}
+
+-- the states behind a token, by what was open before it
+pub record Kept (b : TokenBody) (at : yaml_mark_t) (gs : List Sign) (s : List State) : Type 0 where
+  pub opened : open_in s ≡ signs_behind b at gs
+  pub topped : Topped (last_of b) s
+  pub nested : Nested s
+
+-- the same inside a document, which the token neither begins nor ends
+pub record KeptInside (b : TokenBody) (at : yaml_mark_t) (gs : List Sign) (s : List State) : Type 0 where
+  pub kept : Kept b at gs s
+  pub inside : IsInside s
+  pub still : is_directive b ≡ false
+  pub within : starts_document b ≡ false
+
+keep : {b : TokenBody} {at : yaml_mark_t} {gs : List Sign} {s : List State} → open_in s ≡ signs_behind b at gs → Topped (last_of b) s → Nested s → IsInside s → is_directive b ≡ false → starts_document b ≡ false → KeptInside b at gs s
+keep o t n i d w = record { kept = record { opened = o; topped = t; nested = n }; inside = i; still = d; within = w }
+
+-- a stack that a node stands above
+pub record Ground (w : Wants) (s : List State) : Type 0 where
+  pub plain : Plain s
+  pub nested : Nested s
+  pub inside : IsInside s
+  pub flow : bracketed (open_in s) ≡ is_flow w
+
+content_kept : (w : Wants) (p : Option Properties) (start end : yaml_mark_t) (b : TokenBody) (s : List State) → starts_content w (type_of b) ≡ true → Ground w s
+    → KeptInside b start (open_in s) ((content_taken w p start end b).above ++ s)
+content_kept w p start end (token.scalar value style) s c g = keep refl (plain_topped s g.plain) g.nested g.inside refl refl
+content_kept w p start end token.flow_sequence_start s c g = keep refl (refl, g.plain) (tt, g.nested) (tt, g.inside) refl refl
+content_kept w p start end token.flow_mapping_start s c g = keep refl (refl, g.plain) (tt, g.nested) (tt, g.inside) refl refl
+content_kept (Block side) p start end token.block_sequence_start s c g = keep refl (refl, g.plain) (tt, g.nested) (tt, g.inside) refl refl
+content_kept (Block side) p start end token.block_mapping_start s c g = keep refl (refl, g.plain) (tt, g.nested) (tt, g.inside) refl refl
+content_kept (Block (Some side)) p start end token.block_entry s c g = keep refl (refl, (refl, g.plain)) (g.flow, (g.flow, g.nested)) (tt, (tt, g.inside)) refl refl
+content_kept Flow p start end token.block_sequence_start s c g = cc
+content_kept Flow p start end token.block_mapping_start s c g = cc
+content_kept Flow p start end token.block_entry s c g = cc
+content_kept (Block None) p start end token.block_entry s c g = cc
+content_kept w p start end _ s c g = cc
+
+pub node_kept : (w : Wants) (start end : yaml_mark_t) (b : TokenBody) (s : List State) → starts_node w (type_of b) ≡ true → Ground w s
+    → KeptInside b start (open_in s) ((node_taken w start end b).above ++ s)
+node_kept w start end (token.alias name) s c g = keep refl (plain_topped s g.plain) g.nested g.inside refl refl
+node_kept w start end (token.anchor name) s c g = keep refl (refl, g.plain) (g.flow, g.nested) (tt, g.inside) refl refl
+node_kept w start end (token.tag handle suffix) s c g = keep refl (refl, g.plain) (g.flow, g.nested) (tt, g.inside) refl refl
+node_kept w start end b s c g = content_kept w None start end b s c g
+
+with_properties_kept : (w : Wants) (p : Properties) (start end : yaml_mark_t) (b : TokenBody) (s : List State) → (joins p (type_of b) || starts_content w (type_of b)) ≡ true → Ground w s
+    → KeptInside b start (open_in s) ((with_properties_taken w p start end b).above ++ s)
+with_properties_kept w p start end (token.anchor name) s c g = keep refl (refl, g.plain) (g.flow, g.nested) (tt, g.inside) refl refl
+with_properties_kept w p start end (token.tag handle suffix) s c g = keep refl (refl, g.plain) (g.flow, g.nested) (tt, g.inside) refl refl
+with_properties_kept w p start end b s c g = content_kept w (Some p) start end b s c g
+
+-- ---- inside brackets
+
+lone_ground : (bs : Brackets) (o : yaml_mark_t) (s : List State) → Plain s → Nested s → IsInside s → Ground Flow (lone_below bs (state.more bs o ∷ []) ++ s)
+lone_ground brackets.Sequence o s p n i = record { plain = (refl, p); nested = (tt, n); inside = (tt, i); flow = refl }
+lone_ground brackets.Mapping o s p n i = record { plain = (refl, (refl, p)); nested = (tt, (tt, n)); inside = (tt, (tt, i)); flow = refl }
+
+lone_open : (bs : Brackets) (o : yaml_mark_t) (s : List State) → open_in (lone_below bs (state.more bs o ∷ []) ++ s) ≡ open_in (state.items bs o ∷ s)
+lone_open brackets.Sequence o s = refl
+lone_open brackets.Mapping o s = refl
+
+lone_kept : (bs : Brackets) (o start end : yaml_mark_t) (b : TokenBody) (s : List State) → starts_node Flow (type_of b) ≡ true → Plain s → Nested s → IsInside s
+    → KeptInside b start (open_in (state.items bs o ∷ s)) (((node_taken Flow start end b).above ++ lone_below bs (state.more bs o ∷ [])) ++ s)
+lone_kept bs o start end b s c p n i =
+    subst (λ (z : List State). KeptInside b start (open_in (state.items bs o ∷ s)) z) (sym (append_assoc (node_taken Flow start end b).above (lone_below bs (state.more bs o ∷ [])) s))
+    (subst (λ (gs : List Sign). KeptInside b start gs ((node_taken Flow start end b).above ++ (lone_below bs (state.more bs o ∷ []) ++ s))) (lone_open bs o s)
+    (node_kept Flow start end b (lone_below bs (state.more bs o ∷ []) ++ s) c (lone_ground bs o s p n i)))
+
+items_kept : (bs : Brackets) (o start end : yaml_mark_t) (b : TokenBody) (s : List State) → choice_at (state.items bs o) (type_of b) ≡ Take → Plain s → Nested s → IsInside s
+    → KeptInside b start (open_in (state.items bs o ∷ s)) ((items_taken bs o start end b).above ++ s)
+items_kept brackets.Sequence o start end token.key s c p n i = keep refl (refl, (refl, (refl, (refl, p)))) (refl, (refl, (tt, (tt, n)))) (tt, (tt, (tt, (tt, i)))) refl refl
+items_kept brackets.Mapping o start end token.key s c p n i = keep refl (refl, (refl, (refl, p))) (refl, (refl, (tt, n))) (tt, (tt, (tt, i))) refl refl
+items_kept brackets.Sequence o start end token.flow_sequence_end s c p n i = keep refl (plain_topped s p) n i refl refl
+items_kept brackets.Mapping o start end token.flow_mapping_end s c p n i = keep refl (plain_topped s p) n i refl refl
+items_kept brackets.Sequence o start end token.flow_mapping_end s c p n i = cc
+items_kept brackets.Mapping o start end token.flow_sequence_end s c p n i = cc
+items_kept bs o start end (token.alias name) s c p n i = lone_kept bs o start end (token.alias name) s refl p n i
+items_kept bs o start end (token.anchor name) s c p n i = lone_kept bs o start end (token.anchor name) s refl p n i
+items_kept bs o start end (token.tag handle suffix) s c p n i = lone_kept bs o start end (token.tag handle suffix) s refl p n i
+items_kept bs o start end (token.scalar value style) s c p n i = lone_kept bs o start end (token.scalar value style) s refl p n i
+items_kept bs o start end token.flow_sequence_start s c p n i = lone_kept bs o start end token.flow_sequence_start s refl p n i
+items_kept bs o start end token.flow_mapping_start s c p n i = lone_kept bs o start end token.flow_mapping_start s refl p n i
+items_kept brackets.Sequence o start end _ s c p n i = cc
+items_kept brackets.Mapping o start end _ s c p n i = cc
+
+more_kept : (bs : Brackets) (o start end : yaml_mark_t) (b : TokenBody) (s : List State) → choice_at (state.more bs o) (type_of b) ≡ Take → Plain s → Nested s → IsInside s
+    → KeptInside b start (open_in (state.more bs o ∷ s)) ((more_taken bs o start end b).above ++ s)
+more_kept bs o start end token.flow_entry s c p n i = keep refl (refl, p) (tt, n) (tt, i) refl refl
+more_kept brackets.Sequence o start end token.flow_sequence_end s c p n i = keep refl (plain_topped s p) n i refl refl
+more_kept brackets.Mapping o start end token.flow_mapping_end s c p n i = keep refl (plain_topped s p) n i refl refl
+more_kept brackets.Sequence o start end _ s c p n i = cc
+more_kept brackets.Mapping o start end _ s c p n i = cc
+
+-- ---- block collections
+
+entries_kept : (o start end : yaml_mark_t) (b : TokenBody) (s : List State) → choice_at (state.entries o) (type_of b) ≡ Take → Plain s → Nested s → IsInside s
+    → KeptInside b start (open_in (state.entries o ∷ s)) ((entries_taken o start end b).above ++ s)
+entries_kept o start end token.block_entry s c p n i = keep refl (refl, (refl, p)) (refl, (tt, n)) (tt, (tt, i)) refl refl
+entries_kept o start end token.block_end s c p n i = keep refl (plain_topped s p) n i refl refl
+entries_kept o start end _ s c p n i = cc
+
+pairs_kept : (o start end : yaml_mark_t) (b : TokenBody) (s : List State) → choice_at (state.pairs o) (type_of b) ≡ Take → Plain s → Nested s → IsInside s
+    → KeptInside b start (open_in (state.pairs o ∷ s)) ((pairs_taken o start end b).above ++ s)
+pairs_kept o start end token.key s c p n i = keep refl (refl, (refl, (refl, p))) (refl, (refl, (tt, n))) (tt, (tt, (tt, i))) refl refl
+pairs_kept o start end token.block_end s c p n i = keep refl (plain_topped s p) n i refl refl
+pairs_kept o start end _ s c p n i = cc
+
+others_kept : (side : Side) (start end : yaml_mark_t) (b : TokenBody) (s : List State) → choice_at (state.others side) (type_of b) ≡ Take → Ground (Block None) s
+    → KeptInside b start (open_in s) (state.optional (IndentlessEntry side) end ∷ state.others side ∷ s)
+others_kept side start end token.block_entry s c g = keep refl (refl, (refl, g.plain)) (g.flow, (g.flow, g.nested)) (tt, (tt, g.inside)) refl refl
+others_kept side start end _ s c g = cc
+
+colon_kept : (place : Site) (start end : yaml_mark_t) (b : TokenBody) (s : List State) → choice_at (state.colon place) (type_of b) ≡ Take → Ground (wants_of place) s
+    → KeptInside b start (open_in s) (state.optional place end ∷ s)
+colon_kept place start end token.value s c g = keep refl (refl, g.plain) (g.flow, g.nested) (tt, g.inside) refl refl
+colon_kept place start end _ s c g = cc
+
+-- ---- each state
+
+taken_optional : (a b : Bool) (p : ParseProblem) → (if a then Leave else if b then Take else Refuse p None) ≡ Take → b ≡ true
+taken_optional true b p h = cc
+taken_optional false true p h = refl
+taken_optional false false p h = cc
+
+taken_with_properties : (a : Bool) → (if a then Take else Leave) ≡ Take → a ≡ true
+taken_with_properties true h = refl
+taken_with_properties false h = cc
+
+ground : (w : Wants) (s : List State) → Plain s → Nested s → IsInside s → bracketed (open_in s) ≡ is_flow w → Ground w s
+ground w s p n i f = record { plain = p; nested = n; inside = i; flow = f }
+
+pub inside_kept : (x : State) (t : Token) (s : List State) → choice_at x (type_of t.body) ≡ Take → IsInner x → Plain s → Nested (x ∷ s) → IsInside s
+    → KeptInside t.body t.start_mark (open_in (x ∷ s)) ((taken_at x t).above ++ s)
+inside_kept state.stream t s c h p n i = absurd h
+inside_kept state.first t s c h p n i = absurd h
+inside_kept state.documents t s c h p n i = absurd h
+inside_kept (state.directives from) t s c h p n i = absurd h
+inside_kept state.document_end t s c h p n i = absurd h
+inside_kept (state.optional place before) t s c h p n i =
+    node_kept (wants_of place) t.start_mark t.end_mark t.body s
+    (taken_optional (follows place (type_of t.body)) (starts_node (wants_of place) (type_of t.body)) (no_node (wants_of place)) c) (ground (wants_of place) s p n.1 i n.0)
+inside_kept (state.entries o) t s c h p n i = entries_kept o t.start_mark t.end_mark t.body s c p n.1 i
+inside_kept (state.others side) t s c h p n i = others_kept side t.start_mark t.end_mark t.body s c (ground (Block None) s p n.1 i n.0)
+inside_kept (state.pairs o) t s c h p n i = pairs_kept o t.start_mark t.end_mark t.body s c p n.1 i
+inside_kept (state.colon place) t s c h p n i = colon_kept place t.start_mark t.end_mark t.body s c (ground (wants_of place) s p n.1 i n.0)
+inside_kept (state.with_properties w q) t s c h p n i =
+    with_properties_kept w q t.start_mark t.end_mark t.body s (taken_with_properties (joins q (type_of t.body) || starts_content w (type_of t.body)) c) (ground w s p n.1 i n.0)
+inside_kept (state.items bs o) t s c h p n i = items_kept bs o t.start_mark t.end_mark t.body s c p n.1 i
+inside_kept (state.more bs o) t s c h p n i = more_kept bs o t.start_mark t.end_mark t.body s c p n.1 i
+inside_kept state.pair_end t s c h p n i = cc
+inside_kept state.lone t s c h p n i = cc

@@ -1,0 +1,502 @@
+-- What a state still waits for: the tokens of part of a tree, and what follows them.
+use Rattle.std.proofs.Common.{◌≡◌, ℕ, Bool, true, false, if◌then◌else◌, ◌||◌, List, [], ◌∷◌, ◌++◌, Option, Some, None, refl, sym, ap, subst, ◌∙◌}
+use Rattle.yaml_parse_laws_trees.specs.grammar.parse_model.declared.yaml_mark_t.{yaml_mark_t}
+use Rattle.yaml_parse_laws_trees.specs.grammar.parse_model.declared.yaml_token_type_t.{yaml_token_type_t}
+use Rattle.yaml_parse_laws_trees.specs.grammar.parse_model.declared.yaml_token_type_t.TheVariants as kind
+use Rattle.yaml_parse_laws_trees.specs.grammar.parse_model.Tokens.{Token, TokenBody, type_of}
+use Rattle.yaml_parse_laws_trees.specs.grammar.parse_model.Tokens as token
+use Rattle.yaml_parse_laws_trees.specs.grammar.declared.name.Wants.{Wants}
+use Rattle.yaml_parse_laws_trees.specs.grammar.declared.name.Wants.TheVariants.{Flow, Block}
+use Rattle.yaml_parse_laws_trees.specs.grammar.declared.name.Side.{Side}
+use Rattle.yaml_parse_laws_trees.specs.grammar.declared.name.Brackets.{Brackets}
+use Rattle.yaml_parse_laws_trees.specs.grammar.declared.name.Brackets.TheVariants as brackets
+use Rattle.yaml_parse_laws_trees.specs.grammar.declared.name.Site.{Site}
+use Rattle.yaml_parse_laws_trees.specs.grammar.declared.name.Site.TheVariants.{Root, IndentlessEntry}
+use Rattle.yaml_parse_laws_trees.specs.grammar.declared.name.Choice.{Choice}
+use Rattle.yaml_parse_laws_trees.specs.grammar.declared.name.Choice.TheVariants.{Refuse, Take, Leave, Open}
+use Rattle.yaml_parse_laws_trees.specs.grammar.declared.problem.ParseProblem.{ParseProblem}
+use Rattle.yaml_parse_laws_trees.specs.grammar.declared.problem.ParseProblem.TheVariants as problem
+use Rattle.yaml_parse_laws_trees.specs.grammar.Items.{Properties, Tag}
+use Rattle.yaml_parse_laws_trees.specs.grammar.States.{State}
+use Rattle.yaml_parse_laws_trees.specs.grammar.States as state
+use Rattle.yaml_parse_laws_trees.specs.grammar.Trees.{Span, token_at, AnchorToken, TagToken, anchor_token, tag_token, PropertyTokens, spell_properties, Node, Content, Maybe, Colon, Items, More, Entries, Others, Pairs, Directive, Documents, First, Stream, spell_node, spell_content, spell_maybe, spell_colon, spell_items, spell_more, spell_entries, spell_others, spell_pairs, spell_directives, spell_ends, spell_documents, spell_first, spell}
+use Rattle.yaml_parse_laws_trees.specs.grammar.Trees as tree
+use Rattle.yaml_parse_laws_trees.specs.grammar.Machine.{starts_content, starts_node, wants_of, closes, parts_documents, follows, no_node, no_end, joins, choice_at, documents_taken, content_taken, node_taken, with_properties_taken, items_taken, more_taken, entries_taken, pairs_taken, stream_taken, lone_below, taken_at}
+use Rattle.yaml_parse_laws_trees.proofs.grammar.Single.{opens_node}
+
+-- tokens that a tree of a kind spells, in front of others
+pub record Spelled (T : Type 0) (spelling : T → List Token → List Token) (P : List Token → Type 0) (ts : List Token) : Type 0 where
+  pub tree : T
+  pub rest : List Token
+  pub same : ts ≡ spelling tree rest
+  pub goes : P rest
+
+-- a document behind the directives that were read, and the documents behind it
+pub record Opening : Type 0 where
+  pub directives : List Directive
+  pub start : Span
+  pub root : Maybe (Block None)
+  pub ends : List Span
+  pub documents : Documents
+
+abbrev pub spell_opening : Opening → List Token → List Token
+spell_opening o rest =
+    spell_directives o.directives (token_at token.document_start o.start ∷ spell_maybe o.root (spell_ends o.ends (spell_documents o.documents rest)))
+
+-- the end of a document, which may be left out
+abbrev pub spell_end : Option Span → List Token → List Token
+spell_end None rest = rest
+spell_end (Some s) rest = token_at token.document_end s ∷ rest
+
+-- behind some properties: what makes a node of them, whichever tokens they were
+abbrev pub WithPropertiesLeft : Wants → Option (List ℕ) → Option Tag → (List Token → Type 0) → List Token → Type 0
+WithPropertiesLeft w (Some a) None P ts = (x : AnchorToken) → Spelled (Node w) spell_node P (anchor_token x ∷ ts)
+WithPropertiesLeft w None (Some t) P ts = (x : TagToken) → Spelled (Node w) spell_node P (tag_token x ∷ ts)
+WithPropertiesLeft w (Some a) (Some t) P ts = (d : PropertyTokens) → Spelled (Node w) spell_node P (spell_properties d ts)
+WithPropertiesLeft w None None P ts = Unit {0}
+
+abbrev pub Left : State → (List Token → Type 0) → List Token → Type 0
+Left state.stream P ts = Spelled Stream spell P ts
+Left state.first P ts = Spelled First spell_first (Spelled Documents spell_documents P) ts
+Left state.documents P ts = Spelled (List Span) spell_ends (Spelled Documents spell_documents P) ts
+Left (state.directives from) P ts = Spelled Opening spell_opening P ts
+Left (state.optional place before) P ts = Spelled (Maybe (wants_of place)) spell_maybe P ts
+Left state.document_end P ts = Spelled (Option Span) spell_end P ts
+Left (state.entries opener) P ts = Spelled Entries spell_entries P ts
+Left (state.others side) P ts = Spelled Others spell_others P ts
+Left (state.pairs opener) P ts = Spelled Pairs spell_pairs P ts
+Left (state.colon place) P ts = Spelled (Colon (wants_of place)) spell_colon P ts
+Left (state.with_properties w p) P ts = WithPropertiesLeft w p.anchor p.tag P ts
+Left (state.items b opener) P ts = Spelled Items (spell_items b) P ts
+Left (state.more b opener) P ts = Spelled More (spell_more b) P ts
+Left state.pair_end P ts = P ts
+Left state.lone P ts = P ts
+
+-- what the states of a stack wait for, the topmost first
+abbrev pub Over : List State → (List Token → Type 0) → List Token → Type 0
+Over [] P = P
+Over (x ∷ s) P = Left x (Over s P)
+
+pub over_both : (xs ys : List State) (P : List Token → Type 0) → Over (xs ++ ys) P ≡ Over xs (Over ys P)
+over_both [] ys P = refl
+over_both (x ∷ xs) ys P = ap (Left x) (over_both xs ys P)
+
+-- ---- what can't be: each arm for a token of another kind is answered by computing
+
+pub never : false ≡ true → ⊥
+never e = cc
+
+abbrev pub IsTake : Choice → Type 0
+IsTake Take = Unit {0}
+IsTake _ = ⊥
+
+pub was_take : (x : Choice) → x ≡ Take → IsTake x
+was_take x e = subst IsTake (sym e) tt
+
+abbrev pub IsLeave : Choice → Type 0
+IsLeave Leave = Unit {0}
+IsLeave _ = ⊥
+
+pub was_leave : (x : Choice) → x ≡ Leave → IsLeave x
+was_leave x e = subst IsLeave (sym e) tt
+
+abbrev pub IsOpen : Choice → Type 0
+IsOpen Open = Unit {0}
+IsOpen _ = ⊥
+
+pub was_open : (x : Choice) → x ≡ Open → IsOpen x
+was_open x e = subst IsOpen (sym e) tt
+
+-- ---- a state that leaves waits for nothing
+
+pub not_left : (a : Bool) (p : ParseProblem) (o : Option yaml_mark_t) → (if a then Take else Refuse p o) ≡ Leave → ⊥
+not_left true p o h = cc
+not_left false p o h = cc
+
+pub not_left_first : (a b : Bool) (p : ParseProblem) → (if a then Take else if b then Open else Refuse p None) ≡ Leave → ⊥
+not_left_first true b p h = cc
+not_left_first false true p h = cc
+not_left_first false false p h = cc
+
+pub properties_alone : (w : Wants) (anchor : Option (List ℕ)) (tag : Option Tag) (P : List Token → Type 0) (ts : List Token) → P ts → WithPropertiesLeft w anchor tag P ts
+properties_alone w (Some a) None P ts h = λ x. record { tree = tree.only_properties (tree.anchor x); rest = ts; same = refl; goes = h }
+properties_alone w None (Some t) P ts h = λ x. record { tree = tree.only_properties (tree.tag x); rest = ts; same = refl; goes = h }
+properties_alone w (Some a) (Some t) P ts h = λ d. record { tree = tree.only_properties d; rest = ts; same = refl; goes = h }
+properties_alone w None None P ts h = tt
+
+pub leaving : (x : State) (k : yaml_token_type_t) → choice_at x k ≡ Leave → (P : List Token → Type 0) (ts : List Token) → P ts → Left x P ts
+leaving state.stream kind.YAML_STREAM_START_TOKEN c P ts h = absurd (was_leave _ c)
+leaving state.stream _ c P ts h = absurd (was_leave _ c)
+leaving state.first k c P ts h = absurd (not_left_first (parts_documents k) (starts_node (Block None) k) problem.NoBlockNode c)
+leaving state.documents kind.YAML_DOCUMENT_END_TOKEN c P ts h = absurd (was_leave _ c)
+leaving state.documents k c P ts h = absurd (not_left (parts_documents k) problem.NoDocumentStart None c)
+leaving (state.directives from) kind.YAML_STREAM_END_TOKEN c P ts h = absurd (was_leave _ c)
+leaving (state.directives from) k c P ts h = absurd (not_left (parts_documents k) problem.NoDocumentStart None c)
+leaving (state.entries o) kind.YAML_BLOCK_ENTRY_TOKEN c P ts h = absurd (was_leave _ c)
+leaving (state.entries o) kind.YAML_BLOCK_END_TOKEN c P ts h = absurd (was_leave _ c)
+leaving (state.entries o) _ c P ts h = absurd (was_leave _ c)
+leaving (state.pairs o) kind.YAML_KEY_TOKEN c P ts h = absurd (was_leave _ c)
+leaving (state.pairs o) kind.YAML_BLOCK_END_TOKEN c P ts h = absurd (was_leave _ c)
+leaving (state.pairs o) _ c P ts h = absurd (was_leave _ c)
+leaving (state.items b o) kind.YAML_KEY_TOKEN c P ts h = absurd (was_leave _ c)
+leaving (state.items b o) k c P ts h = absurd (not_left (closes b k || starts_node Flow k) problem.NoFlowNode None c)
+leaving (state.more b o) kind.YAML_FLOW_ENTRY_TOKEN c P ts h = absurd (was_leave _ c)
+leaving (state.more b o) k c P ts h = absurd (not_left (closes b k) (no_end b) (Some o) c)
+leaving (state.optional place before) k c P ts h = record { tree = tree.left_out; rest = ts; same = refl; goes = h }
+leaving state.document_end k c P ts h = record { tree = None; rest = ts; same = refl; goes = h }
+leaving (state.others side) k c P ts h = record { tree = tree.no_others; rest = ts; same = refl; goes = h }
+leaving (state.colon place) k c P ts h = record { tree = tree.no_colon; rest = ts; same = refl; goes = h }
+leaving (state.with_properties w p) k c P ts h = properties_alone w p.anchor p.tag P ts h
+leaving state.pair_end k c P ts h = h
+leaving state.lone k c P ts h = h
+
+-- ---- taking a node's first token
+
+abbrev span : yaml_mark_t → yaml_mark_t → Span
+span from to = record { from = from; to = to }
+
+content_left : (w : Wants) (p : Option Properties) (start end : yaml_mark_t) (b : TokenBody) → starts_content w (type_of b) ≡ true
+    → (P : List Token → Type 0) (ts : List Token) → Over (content_taken w p start end b).above P ts → Spelled (Content w) spell_content P (token_at b (span start end) ∷ ts)
+content_left w p start end (token.scalar value style) c P ts h = record { tree = tree.scalar (span start end) value style; rest = ts; same = refl; goes = h }
+content_left w p start end token.flow_sequence_start c P ts h =
+    record { tree = tree.flow brackets.Sequence (span start end) h.tree; rest = h.rest; same = ap (λ us. token_at token.flow_sequence_start (span start end) ∷ us) h.same; goes = h.goes }
+content_left w p start end token.flow_mapping_start c P ts h =
+    record { tree = tree.flow brackets.Mapping (span start end) h.tree; rest = h.rest; same = ap (λ us. token_at token.flow_mapping_start (span start end) ∷ us) h.same; goes = h.goes }
+content_left (Block s) p start end token.block_sequence_start c P ts h =
+    record { tree = tree.block_sequence (span start end) h.tree; rest = h.rest; same = ap (λ us. token_at token.block_sequence_start (span start end) ∷ us) h.same; goes = h.goes }
+content_left (Block s) p start end token.block_mapping_start c P ts h =
+    record { tree = tree.block_mapping (span start end) h.tree; rest = h.rest; same = ap (λ us. token_at token.block_mapping_start (span start end) ∷ us) h.same; goes = h.goes }
+content_left (Block (Some side)) p start end token.block_entry c P ts h = record {
+  tree = tree.indentless (span start end) h.tree h.goes.tree;
+  rest = h.goes.rest;
+  same = ap (λ us. token_at token.block_entry (span start end) ∷ us) (h.same ∙ ap (spell_maybe h.tree) h.goes.same);
+  goes = h.goes.goes;
+}
+content_left Flow p start end token.block_sequence_start c P ts h = absurd (never c)
+content_left Flow p start end token.block_mapping_start c P ts h = absurd (never c)
+content_left Flow p start end token.block_entry c P ts h = absurd (never c)
+content_left (Block None) p start end token.block_entry c P ts h = absurd (never c)
+content_left w p start end _ c P ts h = absurd (never c)
+
+bare_left : (w : Wants) (P : List Token → Type 0) (ts : List Token) → Spelled (Content w) spell_content P ts → Spelled (Node w) spell_node P ts
+bare_left w P ts h = record { tree = tree.bare h.tree; rest = h.rest; same = h.same; goes = h.goes }
+
+node_left : (w : Wants) (start end : yaml_mark_t) (b : TokenBody) → starts_node w (type_of b) ≡ true
+    → (P : List Token → Type 0) (ts : List Token) → Over (node_taken w start end b).above P ts → Spelled (Node w) spell_node P (token_at b (span start end) ∷ ts)
+node_left w start end (token.alias name) c P ts h = record { tree = tree.alias (span start end) name; rest = ts; same = refl; goes = h }
+node_left w start end (token.anchor name) c P ts h = h (record { name = name; span = span start end })
+node_left w start end (token.tag handle suffix) c P ts h = h (record { handle = handle; suffix = suffix; span = span start end })
+node_left w start end b c P ts h = bare_left w P _ (content_left w None start end b c P ts h)
+
+-- ---- taking a token behind properties
+
+content_with_properties : (w : Wants) (anchor : Option (List ℕ)) (tag : Option Tag) (P : List Token → Type 0) (ts : List Token) → Spelled (Content w) spell_content P ts → WithPropertiesLeft w anchor tag P ts
+content_with_properties w (Some a) None P ts h =
+    λ x. record { tree = tree.with_properties (tree.anchor x) h.tree; rest = h.rest; same = ap (λ us. anchor_token x ∷ us) h.same; goes = h.goes }
+content_with_properties w None (Some t) P ts h =
+    λ x. record { tree = tree.with_properties (tree.tag x) h.tree; rest = h.rest; same = ap (λ us. tag_token x ∷ us) h.same; goes = h.goes }
+content_with_properties w (Some a) (Some t) P ts h = λ d. record { tree = tree.with_properties d h.tree; rest = h.rest; same = ap (spell_properties d) h.same; goes = h.goes }
+content_with_properties w None None P ts h = tt
+
+with_properties_left : (w : Wants) (anchor : Option (List ℕ)) (tag : Option Tag) (from to start end : yaml_mark_t) (b : TokenBody)
+    → (joins (record { anchor = anchor; tag = tag; from = from; to = to }) (type_of b) || starts_content w (type_of b)) ≡ true
+    → (P : List Token → Type 0) (ts : List Token) → Over (with_properties_taken w (record { anchor = anchor; tag = tag; from = from; to = to }) start end b).above P ts
+    → WithPropertiesLeft w anchor tag P (token_at b (span start end) ∷ ts)
+with_properties_left w None None from to start end (token.anchor name) c P ts h = tt
+with_properties_left w None (Some t) from to start end (token.anchor name) c P ts h = λ x. h (tree.tag_anchor x (record { name = name; span = span start end }))
+with_properties_left w (Some a) tag from to start end (token.anchor name) c P ts h = absurd (never c)
+with_properties_left w None None from to start end (token.tag handle suffix) c P ts h = tt
+with_properties_left w (Some a) None from to start end (token.tag handle suffix) c P ts h =
+    λ x. h (tree.anchor_tag x (record { handle = handle; suffix = suffix; span = span start end }))
+with_properties_left w anchor (Some t) from to start end (token.tag handle suffix) c P ts h = absurd (never c)
+with_properties_left w anchor tag from to start end b c P ts h =
+    content_with_properties w anchor tag P _ (content_left w (Some (record { anchor = anchor; tag = tag; from = from; to = to })) start end b c P ts h)
+
+-- ---- taking a token between documents
+
+-- the optional end of a document, and the ends behind it
+abbrev all_ends : Option Span → List Span → List Span
+all_ends None ends = ends
+all_ends (Some s) ends = s ∷ ends
+
+spell_all_ends : (o : Option Span) (ends : List Span) (rest : List Token) → spell_end o (spell_ends ends rest) ≡ spell_ends (all_ends o ends) rest
+spell_all_ends None ends rest = refl
+spell_all_ends (Some s) ends rest = refl
+
+-- a document behind its `---`
+begun_left : (start end before : yaml_mark_t) (P : List Token → Type 0) (ts : List Token) → Left (state.optional Root before) (Over (state.document_end ∷ state.documents ∷ []) P) ts
+    → Spelled Opening spell_opening P (token_at token.document_start (span start end) ∷ ts)
+begun_left start end before P ts h = record {
+  tree = record { directives = []; start = span start end; root = h.tree; ends = all_ends h.goes.tree h.goes.goes.tree; documents = h.goes.goes.goes.tree };
+  rest = h.goes.goes.goes.rest;
+  same = ap (λ us. token_at token.document_start (span start end) ∷ us)
+      (h.same ∙ ap (spell_maybe h.tree)
+      (h.goes.same ∙ ap (spell_end h.goes.tree) (h.goes.goes.same ∙ ap (spell_ends h.goes.goes.tree) h.goes.goes.goes.same)
+      ∙ spell_all_ends h.goes.tree h.goes.goes.tree (spell_documents h.goes.goes.goes.tree h.goes.goes.goes.rest)));
+  goes = h.goes.goes.goes.goes;
+}
+
+-- the same behind one directive more
+abbrev directed : Directive → Opening → Opening
+directed d o = record { directives = d ∷ o.directives; start = o.start; root = o.root; ends = o.ends; documents = o.documents }
+
+opening_left : (from start end : yaml_mark_t) (b : TokenBody) → choice_at (state.directives from) (type_of b) ≡ Take
+    → (P : List Token → Type 0) (ts : List Token) → Over (documents_taken from start end b).above P ts → Spelled Opening spell_opening P (token_at b (span start end) ∷ ts)
+opening_left from start end (token.version_directive major minor) c P ts h = record {
+  tree = directed (tree.version (span start end) major minor) h.tree;
+  rest = h.rest;
+  same = ap (λ us. token_at (token.version_directive major minor) (span start end) ∷ us) h.same;
+  goes = h.goes;
+}
+opening_left from start end (token.tag_directive name prefix) c P ts h = record {
+  tree = directed (tree.handle (span start end) name prefix) h.tree;
+  rest = h.rest;
+  same = ap (λ us. token_at (token.tag_directive name prefix) (span start end) ∷ us) h.same;
+  goes = h.goes;
+}
+opening_left from start end token.document_start c P ts h = begun_left start end end P ts h
+opening_left from start end _ c P ts h = absurd (was_take _ c)
+
+opened_document : (P : List Token → Type 0) (ts : List Token) → Spelled Opening spell_opening P ts → Spelled Documents spell_documents P ts
+opened_document P ts h =
+    record { tree = tree.document h.tree.directives h.tree.start h.tree.root h.tree.ends h.tree.documents; rest = h.rest; same = h.same; goes = h.goes }
+
+parting_left : (start end : yaml_mark_t) (b : TokenBody) → parts_documents (type_of b) ≡ true
+    → (P : List Token → Type 0) (ts : List Token) → Over (documents_taken start start end b).above P ts → Spelled Documents spell_documents P (token_at b (span start end) ∷ ts)
+parting_left start end token.stream_end c P ts h = record { tree = tree.end_stream (span start end); rest = ts; same = refl; goes = h }
+parting_left start end (token.version_directive major minor) c P ts h = opened_document P _ (opening_left start start end (token.version_directive major minor) refl P ts h)
+parting_left start end (token.tag_directive name prefix) c P ts h = opened_document P _ (opening_left start start end (token.tag_directive name prefix) refl P ts h)
+parting_left start end token.document_start c P ts h = opened_document P _ (opening_left start start end token.document_start refl P ts h)
+parting_left start end _ c P ts h = absurd (never c)
+
+documents_left : (start end : yaml_mark_t) (b : TokenBody) → choice_at state.documents (type_of b) ≡ Take
+    → (P : List Token → Type 0) (ts : List Token) → Over (documents_taken start start end b).above P ts → Left state.documents P (token_at b (span start end) ∷ ts)
+documents_left start end token.document_end c P ts h =
+    record { tree = span start end ∷ h.tree; rest = h.rest; same = ap (λ us. token_at token.document_end (span start end) ∷ us) h.same; goes = h.goes }
+documents_left start end token.stream_end c P ts h = record { tree = []; rest = token_at token.stream_end (span start end) ∷ ts; same = refl; goes = parting_left start end token.stream_end refl P ts h }
+documents_left start end (token.version_directive major minor) c P ts h =
+    record { tree = []; rest = token_at (token.version_directive major minor) (span start end) ∷ ts; same = refl; goes = parting_left start end (token.version_directive major minor) refl P ts h }
+documents_left start end (token.tag_directive name prefix) c P ts h =
+    record { tree = []; rest = token_at (token.tag_directive name prefix) (span start end) ∷ ts; same = refl; goes = parting_left start end (token.tag_directive name prefix) refl P ts h }
+documents_left start end token.document_start c P ts h = record { tree = []; rest = token_at token.document_start (span start end) ∷ ts; same = refl; goes = parting_left start end token.document_start refl P ts h }
+documents_left start end _ c P ts h = absurd (was_take _ c)
+
+taken_first : (a b : Bool) (p : ParseProblem) → (if a then Take else if b then Open else Refuse p None) ≡ Take → a ≡ true
+taken_first true b p h = refl
+taken_first false true p h = cc
+taken_first false false p h = cc
+
+first_left : (start end : yaml_mark_t) (b : TokenBody) → choice_at state.first (type_of b) ≡ Take
+    → (P : List Token → Type 0) (ts : List Token) → Over (documents_taken start start end b).above P ts → Left state.first P (token_at b (span start end) ∷ ts)
+first_left start end b c P ts h = record {
+  tree = tree.no_first;
+  rest = token_at b (span start end) ∷ ts;
+  same = refl;
+  goes = parting_left start end b (taken_first (parts_documents (type_of b)) (starts_node (Block None) (type_of b)) problem.NoBlockNode c) P ts h;
+}
+
+-- a document that begins with its root
+opened_left : (t : Token) → starts_node (Block None) (type_of t.body) ≡ true → (P : List Token → Type 0) (ts : List Token)
+    → Over (taken_at (state.optional Root t.start_mark) t).above (Over (state.document_end ∷ state.documents ∷ []) P) ts → Left state.first P (t ∷ ts)
+opened_left t c P ts h =
+    let n : Spelled (Node (Block None)) spell_node (Over (state.document_end ∷ state.documents ∷ []) P) (t ∷ ts) = node_left (Block None) t.start_mark t.end_mark t.body c _ ts h in
+    record {
+      tree = tree.first n.tree (all_ends n.goes.tree n.goes.goes.tree);
+      rest = n.goes.goes.rest;
+      same = n.same ∙ ap (spell_node n.tree) (n.goes.same ∙ ap (spell_end n.goes.tree) n.goes.goes.same ∙ spell_all_ends n.goes.tree n.goes.goes.tree n.goes.goes.rest);
+      goes = n.goes.goes.goes;
+    }
+
+stream_left : (start end : yaml_mark_t) (b : TokenBody) → choice_at state.stream (type_of b) ≡ Take
+    → (P : List Token → Type 0) (ts : List Token) → Over (stream_taken start end b).above P ts → Spelled Stream spell P (token_at b (span start end) ∷ ts)
+stream_left start end (token.stream_start e) c P ts h = record {
+  tree = record { encoding = e; start = span start end; first = h.tree; documents = h.goes.tree };
+  rest = h.goes.rest;
+  same = ap (λ us. token_at (token.stream_start e) (span start end) ∷ us) (h.same ∙ ap (spell_first h.tree) h.goes.same);
+  goes = h.goes.goes;
+}
+stream_left start end _ c P ts h = absurd (was_take _ c)
+
+-- ---- taking a token inside a document
+
+taken_optional : (a b : Bool) (p : ParseProblem) → (if a then Leave else if b then Take else Refuse p None) ≡ Take → b ≡ true
+taken_optional true b p h = cc
+taken_optional false true p h = refl
+taken_optional false false p h = cc
+
+maybe_left : (w : Wants) (P : List Token → Type 0) (ts : List Token) → Spelled (Node w) spell_node P ts → Spelled (Maybe w) spell_maybe P ts
+maybe_left w P ts h = record { tree = tree.there h.tree; rest = h.rest; same = h.same; goes = h.goes }
+
+taken_with_properties : (a : Bool) → (if a then Take else Leave) ≡ Take → a ≡ true
+taken_with_properties true h = refl
+taken_with_properties false h = cc
+
+entries_left : (o start end : yaml_mark_t) (b : TokenBody) → choice_at (state.entries o) (type_of b) ≡ Take
+    → (P : List Token → Type 0) (ts : List Token) → Over (entries_taken o start end b).above P ts → Spelled Entries spell_entries P (token_at b (span start end) ∷ ts)
+entries_left o start end token.block_entry c P ts h = record {
+  tree = tree.entry (span start end) h.tree h.goes.tree;
+  rest = h.goes.rest;
+  same = ap (λ us. token_at token.block_entry (span start end) ∷ us) (h.same ∙ ap (spell_maybe h.tree) h.goes.same);
+  goes = h.goes.goes;
+}
+entries_left o start end token.block_end c P ts h = record { tree = tree.end_entries (span start end); rest = ts; same = refl; goes = h }
+entries_left o start end _ c P ts h = absurd (was_take _ c)
+
+pairs_left : (o start end : yaml_mark_t) (b : TokenBody) → choice_at (state.pairs o) (type_of b) ≡ Take
+    → (P : List Token → Type 0) (ts : List Token) → Over (pairs_taken o start end b).above P ts → Spelled Pairs spell_pairs P (token_at b (span start end) ∷ ts)
+pairs_left o start end token.key c P ts h = record {
+  tree = tree.block_pair (span start end) h.tree h.goes.tree h.goes.goes.tree;
+  rest = h.goes.goes.rest;
+  same = ap (λ us. token_at token.key (span start end) ∷ us) (h.same ∙ ap (spell_maybe h.tree) (h.goes.same ∙ ap (spell_colon h.goes.tree) h.goes.goes.same));
+  goes = h.goes.goes.goes;
+}
+pairs_left o start end token.block_end c P ts h = record { tree = tree.end_pairs (span start end); rest = ts; same = refl; goes = h }
+pairs_left o start end _ c P ts h = absurd (was_take _ c)
+
+others_left : (side : Side) (start end : yaml_mark_t) (b : TokenBody) → choice_at (state.others side) (type_of b) ≡ Take
+    → (P : List Token → Type 0) (ts : List Token) → Over (state.optional (IndentlessEntry side) end ∷ state.others side ∷ []) P ts → Spelled Others spell_others P (token_at b (span start end) ∷ ts)
+others_left side start end token.block_entry c P ts h = record {
+  tree = tree.other (span start end) h.tree h.goes.tree;
+  rest = h.goes.rest;
+  same = ap (λ us. token_at token.block_entry (span start end) ∷ us) (h.same ∙ ap (spell_maybe h.tree) h.goes.same);
+  goes = h.goes.goes;
+}
+others_left side start end _ c P ts h = absurd (was_take _ c)
+
+colon_left : (place : Site) (start end : yaml_mark_t) (b : TokenBody) → choice_at (state.colon place) (type_of b) ≡ Take
+    → (P : List Token → Type 0) (ts : List Token) → Over (state.optional place end ∷ []) P ts → Spelled (Colon (wants_of place)) spell_colon P (token_at b (span start end) ∷ ts)
+colon_left place start end token.value c P ts h =
+    record { tree = tree.colon (span start end) h.tree; rest = h.rest; same = ap (λ us. token_at token.value (span start end) ∷ us) h.same; goes = h.goes }
+colon_left place start end _ c P ts h = absurd (was_take _ c)
+
+end_left : (start end : yaml_mark_t) (b : TokenBody) → choice_at state.document_end (type_of b) ≡ Take
+    → (P : List Token → Type 0) (ts : List Token) → P ts → Spelled (Option Span) spell_end P (token_at b (span start end) ∷ ts)
+end_left start end token.document_end c P ts h = record { tree = Some (span start end); rest = ts; same = refl; goes = h }
+end_left start end _ c P ts h = absurd (was_take _ c)
+
+more_left : (bs : Brackets) (o start end : yaml_mark_t) (b : TokenBody) → choice_at (state.more bs o) (type_of b) ≡ Take
+    → (P : List Token → Type 0) (ts : List Token) → Over (more_taken bs o start end b).above P ts → Spelled More (spell_more bs) P (token_at b (span start end) ∷ ts)
+more_left bs o start end token.flow_entry c P ts h =
+    record { tree = tree.comma (span start end) h.tree; rest = h.rest; same = ap (λ us. token_at token.flow_entry (span start end) ∷ us) h.same; goes = h.goes }
+more_left brackets.Sequence o start end token.flow_sequence_end c P ts h = record { tree = tree.end_more (span start end); rest = ts; same = refl; goes = h }
+more_left brackets.Mapping o start end token.flow_mapping_end c P ts h = record { tree = tree.end_more (span start end); rest = ts; same = refl; goes = h }
+more_left brackets.Sequence o start end _ c P ts h = absurd (was_take _ c)
+more_left brackets.Mapping o start end _ c P ts h = absurd (was_take _ c)
+
+-- a lone node inside brackets
+single_left : (bs : Brackets) (o : yaml_mark_t) (P : List Token → Type 0) (ts : List Token)
+    → Spelled (Node Flow) spell_node (Over (lone_below bs (state.more bs o ∷ [])) P) ts → Spelled Items (spell_items bs) P ts
+single_left brackets.Sequence o P ts h =
+    record { tree = tree.single h.tree h.goes.tree; rest = h.goes.rest; same = h.same ∙ ap (spell_node h.tree) h.goes.same; goes = h.goes.goes }
+single_left brackets.Mapping o P ts h =
+    record { tree = tree.single h.tree h.goes.tree; rest = h.goes.rest; same = h.same ∙ ap (spell_node h.tree) h.goes.same; goes = h.goes.goes }
+
+node_over : (bs : Brackets) (o start end : yaml_mark_t) (b : TokenBody) → starts_node Flow (type_of b) ≡ true → (P : List Token → Type 0) (ts : List Token)
+    → Over ((node_taken Flow start end b).above ++ lone_below bs (state.more bs o ∷ [])) P ts → Spelled Items (spell_items bs) P (token_at b (span start end) ∷ ts)
+node_over bs o start end b c P ts h =
+    single_left bs o P _
+    (node_left Flow start end b c (Over (lone_below bs (state.more bs o ∷ [])) P) ts
+    (subst (λ (Q : List Token → Type 0). Q ts) (over_both (node_taken Flow start end b).above (lone_below bs (state.more bs o ∷ [])) P) h))
+
+pair_left : (bs : Brackets) (o start end : yaml_mark_t) (P : List Token → Type 0) (ts : List Token)
+    → Over (items_taken bs o start end token.key).above P ts → Spelled Items (spell_items bs) P (token_at token.key (span start end) ∷ ts)
+pair_left brackets.Sequence o start end P ts h = record {
+  tree = tree.pair (span start end) h.tree h.goes.tree h.goes.goes.tree;
+  rest = h.goes.goes.rest;
+  same = ap (λ us. token_at token.key (span start end) ∷ us) (h.same ∙ ap (spell_maybe h.tree) (h.goes.same ∙ ap (spell_colon h.goes.tree) h.goes.goes.same));
+  goes = h.goes.goes.goes;
+}
+pair_left brackets.Mapping o start end P ts h = record {
+  tree = tree.pair (span start end) h.tree h.goes.tree h.goes.goes.tree;
+  rest = h.goes.goes.rest;
+  same = ap (λ us. token_at token.key (span start end) ∷ us) (h.same ∙ ap (spell_maybe h.tree) (h.goes.same ∙ ap (spell_colon h.goes.tree) h.goes.goes.same));
+  goes = h.goes.goes.goes;
+}
+
+items_left : (bs : Brackets) (o start end : yaml_mark_t) (b : TokenBody) → choice_at (state.items bs o) (type_of b) ≡ Take
+    → (P : List Token → Type 0) (ts : List Token) → Over (items_taken bs o start end b).above P ts → Spelled Items (spell_items bs) P (token_at b (span start end) ∷ ts)
+items_left bs o start end token.key c P ts h = pair_left bs o start end P ts h
+items_left brackets.Sequence o start end token.flow_sequence_end c P ts h = record { tree = tree.end_items (span start end); rest = ts; same = refl; goes = h }
+items_left brackets.Mapping o start end token.flow_mapping_end c P ts h = record { tree = tree.end_items (span start end); rest = ts; same = refl; goes = h }
+items_left brackets.Sequence o start end token.flow_mapping_end c P ts h = absurd (was_take _ c)
+items_left brackets.Mapping o start end token.flow_sequence_end c P ts h = absurd (was_take _ c)
+items_left bs o start end (token.alias name) c P ts h = node_over bs o start end (token.alias name) refl P ts h
+items_left bs o start end (token.anchor name) c P ts h = node_over bs o start end (token.anchor name) refl P ts h
+items_left bs o start end (token.tag handle suffix) c P ts h = node_over bs o start end (token.tag handle suffix) refl P ts h
+items_left bs o start end (token.scalar value style) c P ts h = node_over bs o start end (token.scalar value style) refl P ts h
+items_left bs o start end token.flow_sequence_start c P ts h = node_over bs o start end token.flow_sequence_start refl P ts h
+items_left bs o start end token.flow_mapping_start c P ts h = node_over bs o start end token.flow_mapping_start refl P ts h
+items_left brackets.Sequence o start end _ c P ts h = absurd (was_take _ c)
+items_left brackets.Mapping o start end _ c P ts h = absurd (was_take _ c)
+
+-- A state that takes a token waits for the token, if the states that it puts in its place wait for what follows.
+pub taking : (x : State) (t : Token) → choice_at x (type_of t.body) ≡ Take → (P : List Token → Type 0) (ts : List Token) → Over (taken_at x t).above P ts → Left x P (t ∷ ts)
+taking state.stream t c P ts h = stream_left t.start_mark t.end_mark t.body c P ts h
+taking state.first t c P ts h = first_left t.start_mark t.end_mark t.body c P ts h
+taking state.documents t c P ts h = documents_left t.start_mark t.end_mark t.body c P ts h
+taking (state.directives from) t c P ts h = opening_left from t.start_mark t.end_mark t.body c P ts h
+taking (state.optional place before) t c P ts h =
+    maybe_left (wants_of place) P _
+    (node_left (wants_of place) t.start_mark t.end_mark t.body
+    (taken_optional (follows place (type_of t.body)) (starts_node (wants_of place) (type_of t.body)) (no_node (wants_of place)) c) P ts h)
+taking state.document_end t c P ts h = end_left t.start_mark t.end_mark t.body c P ts h
+taking (state.entries o) t c P ts h = entries_left o t.start_mark t.end_mark t.body c P ts h
+taking (state.others side) t c P ts h = others_left side t.start_mark t.end_mark t.body c P ts h
+taking (state.pairs o) t c P ts h = pairs_left o t.start_mark t.end_mark t.body c P ts h
+taking (state.colon place) t c P ts h = colon_left place t.start_mark t.end_mark t.body c P ts h
+taking (state.with_properties w p) t c P ts h =
+    with_properties_left w p.anchor p.tag p.from p.to t.start_mark t.end_mark t.body (taken_with_properties (joins p (type_of t.body) || starts_content w (type_of t.body)) c) P ts h
+taking (state.items b o) t c P ts h = items_left b o t.start_mark t.end_mark t.body c P ts h
+taking (state.more b o) t c P ts h = more_left b o t.start_mark t.end_mark t.body c P ts h
+taking state.pair_end t c P ts h = absurd (was_take _ c)
+taking state.lone t c P ts h = absurd (was_take _ c)
+
+-- ---- a document opens at the first state alone
+
+take_or_refuse : (b : Bool) (p : ParseProblem) (o : Option yaml_mark_t) → (if b then Take else Refuse p o) ≡ Open → ⊥
+take_or_refuse true p o h = cc
+take_or_refuse false p o h = cc
+
+take_or_leave : (b : Bool) → (if b then Take else Leave) ≡ Open → ⊥
+take_or_leave true h = cc
+take_or_leave false h = cc
+
+leave_or : (a b : Bool) (p : ParseProblem) → (if a then Leave else if b then Take else Refuse p None) ≡ Open → ⊥
+leave_or true b p h = cc
+leave_or false true p h = cc
+leave_or false false p h = cc
+
+opens_first : (x : State) (k : yaml_token_type_t) → choice_at x k ≡ Open → x ≡ state.first
+opens_first state.stream kind.YAML_STREAM_START_TOKEN h = absurd (was_open _ h)
+opens_first state.stream _ h = absurd (was_open _ h)
+opens_first state.first k h = refl
+opens_first state.documents kind.YAML_DOCUMENT_END_TOKEN h = absurd (was_open _ h)
+opens_first state.documents k h = absurd (take_or_refuse (parts_documents k) problem.NoDocumentStart None h)
+opens_first (state.directives from) kind.YAML_STREAM_END_TOKEN h = absurd (was_open _ h)
+opens_first (state.directives from) k h = absurd (take_or_refuse (parts_documents k) problem.NoDocumentStart None h)
+opens_first (state.optional place before) k h = absurd (leave_or (follows place k) (starts_node (wants_of place) k) (no_node (wants_of place)) h)
+opens_first state.document_end kind.YAML_DOCUMENT_END_TOKEN h = absurd (was_open _ h)
+opens_first state.document_end _ h = absurd (was_open _ h)
+opens_first (state.entries o) kind.YAML_BLOCK_ENTRY_TOKEN h = absurd (was_open _ h)
+opens_first (state.entries o) kind.YAML_BLOCK_END_TOKEN h = absurd (was_open _ h)
+opens_first (state.entries o) _ h = absurd (was_open _ h)
+opens_first (state.others side) kind.YAML_BLOCK_ENTRY_TOKEN h = absurd (was_open _ h)
+opens_first (state.others side) _ h = absurd (was_open _ h)
+opens_first (state.pairs o) kind.YAML_KEY_TOKEN h = absurd (was_open _ h)
+opens_first (state.pairs o) kind.YAML_BLOCK_END_TOKEN h = absurd (was_open _ h)
+opens_first (state.pairs o) _ h = absurd (was_open _ h)
+opens_first (state.colon place) kind.YAML_VALUE_TOKEN h = absurd (was_open _ h)
+opens_first (state.colon place) _ h = absurd (was_open _ h)
+opens_first (state.with_properties w p) k h = absurd (take_or_leave (joins p k || starts_content w k) h)
+opens_first (state.items b o) kind.YAML_KEY_TOKEN h = absurd (was_open _ h)
+opens_first (state.items b o) k h = absurd (take_or_refuse (closes b k || starts_node Flow k) problem.NoFlowNode None h)
+opens_first (state.more b o) kind.YAML_FLOW_ENTRY_TOKEN h = absurd (was_open _ h)
+opens_first (state.more b o) k h = absurd (take_or_refuse (closes b k) (no_end b) (Some o) h)
+opens_first state.pair_end k h = absurd (was_open _ h)
+opens_first state.lone k h = absurd (was_open _ h)
+
+-- The same of a state at which a document opens.
+pub opening : (x : State) (t : Token) → choice_at x (type_of t.body) ≡ Open → (P : List Token → Type 0) (ts : List Token)
+    → Over (taken_at (state.optional Root t.start_mark) t).above (Over (state.document_end ∷ state.documents ∷ []) P) ts → Left x P (t ∷ ts)
+opening x t c P ts h =
+    subst (λ (y : State). Left y P (t ∷ ts)) (sym (opens_first x (type_of t.body) c)) (opened_left t (opens_node x (type_of t.body) c) P ts h)

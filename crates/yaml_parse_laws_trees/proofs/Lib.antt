@@ -1,0 +1,32 @@
+pub mod Counts
+pub mod SoFar
+pub mod Turns
+pub mod CountsUnique
+pub mod Left
+pub mod Sound
+pub mod SoundStanding
+pub mod Closing
+pub mod Refusal
+pub mod Events
+pub mod Spelling
+pub mod Cuts
+pub mod FaultsUnique
+pub mod FaultsStanding
+mod Refusing
+mod Keeping
+pub mod Settling
+pub mod Properties
+pub mod Stepping
+pub mod Going
+pub mod Tagging
+pub mod Clean
+pub mod Taking
+pub mod Ending
+mod FaultsRows
+mod Walking
+mod Behind
+mod Counting
+pub mod Giving
+mod GivenRows
+-- what it stands on, for crates that name this one alone
+pub use Rattle.yaml_parse_grammar.proofs as grammar

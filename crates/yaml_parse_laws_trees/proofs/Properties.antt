@@ -1,0 +1,212 @@
+-- The properties that a state holds are the last tokens.
+use Rattle.std.proofs.Common.{◌≡◌, ℕ, Bool, true, false, if◌then◌else◌, ◌||◌, List, [], ◌∷◌, ◌++◌, Option, Some, None, refl, sym, subst, ◌∙◌}
+use Rattle.std.proofs.lemmas.List.{append_assoc}
+use Rattle.yaml_parse_laws_trees.specs.grammar.parse_model.declared.yaml_mark_t.{yaml_mark_t}
+use Rattle.yaml_parse_laws_trees.specs.grammar.parse_model.Tokens.{Token, TokenBody, type_of}
+use Rattle.yaml_parse_laws_trees.specs.grammar.parse_model.Tokens as token
+use Rattle.yaml_parse_laws_trees.specs.grammar.parse_model.Faults.{Fault}
+use Rattle.yaml_parse_laws_trees.specs.grammar.declared.name.Wants.{Wants}
+use Rattle.yaml_parse_laws_trees.specs.grammar.declared.name.Wants.TheVariants.{Flow, Block}
+use Rattle.yaml_parse_laws_trees.specs.grammar.declared.name.Brackets.{Brackets}
+use Rattle.yaml_parse_laws_trees.specs.grammar.declared.name.Brackets.TheVariants as brackets
+use Rattle.yaml_parse_laws_trees.specs.grammar.declared.name.Choice.TheVariants.{Take, Leave}
+use Rattle.yaml_parse_laws_trees.specs.grammar.Items.{RawEvent, Properties, Tag, Shape, item_at}
+use Rattle.yaml_parse_laws_trees.specs.grammar.Items as item
+use Rattle.yaml_parse_laws_trees.specs.grammar.States.{State}
+use Rattle.yaml_parse_laws_trees.specs.grammar.States as state
+use Rattle.yaml_parse_laws_trees.specs.grammar.Machine.{joins, starts_content, choice_at, documents_taken, content_taken, node_taken, with_properties_taken, items_taken, more_taken, stream_taken, entries_taken, pairs_taken, lone_below, taken_at}
+use Rattle.yaml_parse_laws_trees.specs.grammar.Resolve.{Directives, settle, directive_for}
+use Rattle.yaml_parse_laws_trees.specs.LookBack.{NodeTag, ended_tag, tag_behind, tag_before_anchor, unless_joined, has_handle}
+use Rattle.yaml_parse_laws_trees.specs.Wrong.{tag_fault}
+use Rattle.yaml_parse_laws_trees.proofs.FaultsStanding.{asking, property, other, last_of, last_in, told, Plain}
+use Rattle.yaml_parse_laws_trees.proofs.Settling.{Done, then_read, by_fault, tag_in, resolved_done, prefix_known, Agree}
+
+-- ---- the tag among the last tokens
+
+node_tag : List ℕ → yaml_mark_t → yaml_mark_t → NodeTag
+node_tag handle tag node = record { handle = handle; tag = tag; node = node }
+
+-- a tag that an anchor may still join
+abbrev waiting : NodeTag → TokenBody → Option NodeTag
+waiting n (token.anchor name) = None
+waiting n _ = Some n
+
+abbrev tok : TokenBody → yaml_mark_t → yaml_mark_t → Token
+tok b start end = record { body = b; start_mark = start; end_mark = end }
+
+abbrev pub PropsOf : Option (List ℕ) → Option Tag → yaml_mark_t → List Token → Type 0
+PropsOf (Some a) None from past = ((b : TokenBody) → ended_tag past b ≡ None)
+    × ((handle suffix : List ℕ) (start end : yaml_mark_t) (b : TokenBody) → ended_tag (tok (token.tag handle suffix) start end ∷ past) b ≡ Some (record { handle = handle; tag = start; node = from }))
+PropsOf None (Some t) from past = ((b : TokenBody) → ended_tag past b ≡ waiting (record { handle = t.handle; tag = t.mark; node = from }) b)
+    × ((name : List ℕ) (start end : yaml_mark_t) (b : TokenBody) → ended_tag (tok (token.anchor name) start end ∷ past) b ≡ Some (record { handle = t.handle; tag = t.mark; node = from }))
+PropsOf (Some a) (Some t) from past = (b : TokenBody) → ended_tag past b ≡ Some (record { handle = t.handle; tag = t.mark; node = from })
+PropsOf None None from past = ⊥
+
+-- of the state on top
+abbrev pub PropsTop : List State → List Token → Type 0
+PropsTop (state.with_properties w p ∷ s) past = PropsOf p.anchor p.tag p.from past
+PropsTop _ past = Unit {0}
+
+pub ended : (anchor : Option (List ℕ)) (tag : Option Tag) (from to : yaml_mark_t) (past : List Token) (b : TokenBody) → PropsOf anchor tag from past
+    → joins (record { anchor = anchor; tag = tag; from = from; to = to }) (type_of b) ≡ false → ended_tag past b ≡ tag_in (record { anchor = anchor; tag = tag; from = from; to = to })
+ended (Some a) None from to past b h j = h.0 b
+ended None (Some t) from to past (token.anchor name) h j = cc
+ended None (Some t) from to past b h j = h.0 b
+ended (Some a) (Some t) from to past b h j = h b
+ended None None from to past b h j = absurd h
+
+pub joined : (anchor : Option (List ℕ)) (tag : Option Tag) (from to : yaml_mark_t) (past : List Token) (b : TokenBody) → PropsOf anchor tag from past
+    → joins (record { anchor = anchor; tag = tag; from = from; to = to }) (type_of b) ≡ true → ended_tag past b ≡ None
+joined (Some a) None from to past b h j = h.0 b
+joined None (Some t) from to past (token.anchor name) h j = h.0 (token.anchor name)
+joined None (Some t) from to past (token.tag handle suffix) h j = cc
+joined None (Some t) from to past _ h j = cc
+joined (Some a) (Some t) from to past (token.anchor name) h j = cc
+joined (Some a) (Some t) from to past (token.tag handle suffix) h j = cc
+joined (Some a) (Some t) from to past _ h j = cc
+joined None None from to past b h j = absurd h
+
+-- ---- a property is taken
+
+no_tag_before : (past : List Token) → last_in past ≡ asking → tag_before_anchor past ≡ None
+no_tag_before [] e = refl
+no_tag_before (t ∷ past) e = no_tag t.body e
+  where
+    no_tag : (b : TokenBody) → last_of b ≡ asking → tag_before_anchor (tok b t.start_mark t.end_mark ∷ past) ≡ None
+    no_tag (token.tag handle suffix) e = cc
+    no_tag _ e = refl
+
+waits : (handle : List ℕ) (at : yaml_mark_t) (b : TokenBody) → unless_joined handle at b ≡ waiting (record { handle = handle; tag = at; node = at }) b
+waits handle at (token.anchor name) = refl
+waits handle at _ = refl
+
+no_anchor_before : (handle : List ℕ) (at : yaml_mark_t) (past : List Token) (b : TokenBody) → last_in past ≡ asking → tag_behind handle at past b ≡ unless_joined handle at b
+no_anchor_before handle at [] b e = refl
+no_anchor_before handle at (t ∷ past) b e = no_anchor t.body e
+  where
+    no_anchor : (c : TokenBody) → last_of c ≡ asking → tag_behind handle at (tok c t.start_mark t.end_mark ∷ past) b ≡ unless_joined handle at b
+    no_anchor (token.anchor name) e = cc
+    no_anchor _ e = refl
+
+plain_props : (s : List State) (past : List Token) → Plain s → PropsTop s past
+plain_props [] past h = tt
+plain_props (state.with_properties w p ∷ s) past h = unlike h.0
+  where
+    unlike : property ≡ other → PropsOf p.anchor p.tag p.from past
+    unlike e = cc
+plain_props (_ ∷ s) past h = tt
+
+content_props : (w : Wants) (p : Option Properties) (start end : yaml_mark_t) (b : TokenBody) (s : List State) (past : List Token) → Plain s → PropsTop ((content_taken w p start end b).above ++ s) past
+content_props w p start end (token.scalar value style) s past h = plain_props s past h
+content_props (Block (Some side)) p start end token.block_entry s past h = tt
+content_props (Block None) p start end token.block_entry s past h = tt
+content_props Flow p start end token.block_entry s past h = tt
+content_props w p start end _ s past h = tt
+
+pub node_props : (w : Wants) (start end : yaml_mark_t) (b : TokenBody) (s : List State) (past : List Token) → Plain s → last_in past ≡ asking
+    → PropsTop ((node_taken w start end b).above ++ s) (tok b start end ∷ past)
+node_props w start end (token.alias name) s past h e = plain_props s (tok (token.alias name) start end ∷ past) h
+node_props w start end (token.anchor name) s past h e = (λ b. no_tag_before past e, λ handle suffix from to b. refl)
+node_props w start end (token.tag handle suffix) s past h e = (λ b. no_anchor_before handle start past b e ∙ waits handle start b, λ name from to b. refl)
+node_props w start end b s past h e = content_props w None start end b s (tok b start end ∷ past) h
+
+with_properties_props : (w : Wants) (anchor : Option (List ℕ)) (tag : Option Tag) (from to start end : yaml_mark_t) (b : TokenBody) (s : List State) (past : List Token)
+    → (joins (record { anchor = anchor; tag = tag; from = from; to = to }) (type_of b) || starts_content w (type_of b)) ≡ true → Plain s → PropsOf anchor tag from past
+    → PropsTop ((with_properties_taken w (record { anchor = anchor; tag = tag; from = from; to = to }) start end b).above ++ s) (tok b start end ∷ past)
+with_properties_props w None None from to start end b s past c h k = absurd k
+with_properties_props w None (Some t) from to start end (token.anchor name) s past c h k = k.1 name start end
+with_properties_props w (Some a) tag from to start end (token.anchor name) s past c h k = cc
+with_properties_props w (Some a) None from to start end (token.tag handle suffix) s past c h k = k.1 handle suffix start end
+with_properties_props w anchor (Some t) from to start end (token.tag handle suffix) s past c h k = cc
+with_properties_props w anchor tag from to start end b s past c h k =
+    content_props w (Some (record { anchor = anchor; tag = tag; from = from; to = to })) start end b s (tok b start end ∷ past) h
+
+taken_with_properties : (a : Bool) → (if a then Take else Leave) ≡ Take → a ≡ true
+taken_with_properties true h = refl
+taken_with_properties false h = cc
+
+lone_plain : (bs : Brackets) (o : yaml_mark_t) (s : List State) → Plain s → Plain (lone_below bs (state.more bs o ∷ []) ++ s)
+lone_plain brackets.Sequence o s h = (refl, h)
+lone_plain brackets.Mapping o s h = (refl, (refl, h))
+
+items_props : (bs : Brackets) (o start end : yaml_mark_t) (b : TokenBody) (s : List State) (past : List Token) → Plain s → last_in past ≡ asking
+    → PropsTop ((items_taken bs o start end b).above ++ s) (tok b start end ∷ past)
+items_props brackets.Sequence o start end token.key s past h e = tt
+items_props brackets.Mapping o start end token.key s past h e = tt
+items_props bs o start end token.flow_sequence_end s past h e = plain_props s (tok token.flow_sequence_end start end ∷ past) h
+items_props bs o start end token.flow_mapping_end s past h e = plain_props s (tok token.flow_mapping_end start end ∷ past) h
+items_props bs o start end b s past h e =
+    subst (λ (z : List State). PropsTop z (tok b start end ∷ past)) (sym (append_assoc (node_taken Flow start end b).above (lone_below bs (state.more bs o ∷ [])) s))
+    (node_props Flow start end b (lone_below bs (state.more bs o ∷ []) ++ s) past (lone_plain bs o s h) e)
+
+documents_props : (from start end : yaml_mark_t) (b : TokenBody) (s : List State) (past : List Token) → Plain s → PropsTop ((documents_taken from start end b).above ++ s) past
+documents_props from start end token.stream_end s past h = plain_props s past h
+documents_props from start end _ s past h = tt
+
+stream_props : (start end : yaml_mark_t) (b : TokenBody) (s : List State) (past : List Token) → PropsTop ((stream_taken start end b).above ++ s) past
+stream_props start end (token.stream_start e) s past = tt
+stream_props start end _ s past = tt
+
+entries_props : (o start end : yaml_mark_t) (b : TokenBody) (s : List State) (past : List Token) → Plain s → PropsTop ((entries_taken o start end b).above ++ s) past
+entries_props o start end token.block_entry s past h = tt
+entries_props o start end _ s past h = plain_props s past h
+
+pairs_props : (o start end : yaml_mark_t) (b : TokenBody) (s : List State) (past : List Token) → Plain s → PropsTop ((pairs_taken o start end b).above ++ s) past
+pairs_props o start end token.key s past h = tt
+pairs_props o start end _ s past h = plain_props s past h
+
+more_props : (bs : Brackets) (o start end : yaml_mark_t) (b : TokenBody) (s : List State) (past : List Token) → Plain s → PropsTop ((more_taken bs o start end b).above ++ s) past
+more_props bs o start end token.flow_entry s past h = tt
+more_props bs o start end _ s past h = plain_props s past h
+
+pub taken_props : (x : State) (t : Token) (s : List State) (past : List Token) → choice_at x (type_of t.body) ≡ Take → Plain s → (told x ≡ asking → last_in past ≡ asking) → PropsTop (x ∷ s) past
+    → PropsTop ((taken_at x t).above ++ s) (t ∷ past)
+taken_props state.stream t s past c h e k = stream_props t.start_mark t.end_mark t.body s (t ∷ past)
+taken_props state.first t s past c h e k = documents_props t.start_mark t.start_mark t.end_mark t.body s (t ∷ past) h
+taken_props state.documents t s past c h e k = documents_props t.start_mark t.start_mark t.end_mark t.body s (t ∷ past) h
+taken_props (state.directives from) t s past c h e k = documents_props from t.start_mark t.end_mark t.body s (t ∷ past) h
+taken_props (state.optional place before) t s past c h e k = node_props _ t.start_mark t.end_mark t.body s past h (e refl)
+taken_props state.document_end t s past c h e k = plain_props s (t ∷ past) h
+taken_props (state.entries o) t s past c h e k = entries_props o t.start_mark t.end_mark t.body s (t ∷ past) h
+taken_props (state.others side) t s past c h e k = tt
+taken_props (state.pairs o) t s past c h e k = pairs_props o t.start_mark t.end_mark t.body s (t ∷ past) h
+taken_props (state.colon place) t s past c h e k = tt
+taken_props (state.with_properties w p) t s past c h e k =
+    with_properties_props w p.anchor p.tag p.from p.to t.start_mark t.end_mark t.body s past (taken_with_properties (joins p (type_of t.body) || starts_content w (type_of t.body)) c) h k
+taken_props (state.items bs o) t s past c h e k = items_props bs o t.start_mark t.end_mark t.body s past h (e refl)
+taken_props (state.more bs o) t s past c h e k = more_props bs o t.start_mark t.end_mark t.body s (t ∷ past) h
+taken_props state.pair_end t s past c h e k = tt
+taken_props state.lone t s past c h e k = tt
+
+-- ---- reading a node behind them
+
+pub props_read : (anchor : Option (List ℕ)) (tag : Option Tag) (from to : yaml_mark_t) (shape : Shape) (end : yaml_mark_t) (ts : List Token) (ds : Directives) (k : Directives → Done) → Agree ts ds
+    → then_read (settle (item_at (item.node anchor tag shape) from end) ds) k ≡ by_fault (tag_fault (tag_in (record { anchor = anchor; tag = tag; from = from; to = to })) ts) ds k
+props_read anchor None from to shape end ts ds k a = refl
+props_read anchor (Some t) from to shape end ts ds k a = by_handle t.handle
+  where
+    by_handle : (handle : List ℕ)
+        → then_read (settle (item_at (item.node anchor (Some (record { handle = handle; suffix = t.suffix; mark = t.mark })) shape) from end) ds) k
+        ≡ by_fault (tag_fault (Some (record { handle = handle; tag = t.mark; node = from })) ts) ds k
+    by_handle [] = refl
+    by_handle (c ∷ handle) =
+        resolved_done (directive_for (c ∷ handle) ds.tags) (has_handle (c ∷ handle) ts) _ (c ∷ handle) t.suffix anchor shape from t.mark ds k (a.handles (c ∷ handle)) (prefix_known (c ∷ handle))
+
+-- an item has that fault, or none
+abbrev pub HasFault : Option RawEvent → Option Fault → Directives → Type 0
+HasFault None f ds = ⊥
+HasFault (Some i) f ds = (k : Directives → Done) → then_read (settle i ds) k ≡ by_fault f ds k
+
+pub content_read : (w : Wants) (p : Properties) (start end : yaml_mark_t) (b : TokenBody) (ts : List Token) (ds : Directives) → starts_content w (type_of b) ≡ true → Agree ts ds
+    → HasFault (content_taken w (Some p) start end b).item (tag_fault (tag_in p) ts) ds
+content_read w p start end (token.scalar value style) ts ds c a = λ k. props_read p.anchor p.tag p.from p.to (item.scalar value style) end ts ds k a
+content_read w p start end token.flow_sequence_start ts ds c a = λ k. props_read p.anchor p.tag p.from p.to _ end ts ds k a
+content_read w p start end token.flow_mapping_start ts ds c a = λ k. props_read p.anchor p.tag p.from p.to _ end ts ds k a
+content_read (Block side) p start end token.block_sequence_start ts ds c a = λ k. props_read p.anchor p.tag p.from p.to _ end ts ds k a
+content_read (Block side) p start end token.block_mapping_start ts ds c a = λ k. props_read p.anchor p.tag p.from p.to _ end ts ds k a
+content_read (Block (Some side)) p start end token.block_entry ts ds c a = λ k. props_read p.anchor p.tag p.from p.to _ end ts ds k a
+content_read Flow p start end token.block_sequence_start ts ds c a = cc
+content_read Flow p start end token.block_mapping_start ts ds c a = cc
+content_read Flow p start end token.block_entry ts ds c a = cc
+content_read (Block None) p start end token.block_entry ts ds c a = cc
+content_read w p start end _ ts ds c a = cc

@@ -1,0 +1,217 @@
+-- What the items of a step do to the directives, and which faults they have.
+use Rattle.std.proofs.Common.{◌≡◌, ℕ, ℤ, Bool, true, false, if◌then◌else◌, ◌||◌, List, [], ◌∷◌, ◌++◌, Option, Some, None, is_some, option_map, codes, refl, ap, sym, ◌∙◌}
+use Rattle.std.specs.Str.{bytes_eq}
+use Rattle.yaml_parse_laws_trees.specs.grammar.parse_model.declared.yaml_mark_t.{yaml_mark_t}
+use Rattle.yaml_parse_laws_trees.specs.grammar.parse_model.declared.yaml_version_directive_t.{yaml_version_directive_t}
+use Rattle.yaml_parse_laws_trees.specs.grammar.parse_model.Tokens.{Token, TokenBody}
+use Rattle.yaml_parse_laws_trees.specs.grammar.parse_model.Tokens as token
+use Rattle.yaml_parse_laws_trees.specs.grammar.parse_model.Faults.{Fault}
+use Rattle.yaml_parse_laws_trees.specs.grammar.parse_model.Events.{TagDirective}
+use Rattle.yaml_parse_laws_trees.specs.grammar.declared.name.Wants.{Wants}
+use Rattle.yaml_parse_laws_trees.specs.grammar.declared.name.Wants.TheVariants.{Flow, Block}
+use Rattle.yaml_parse_laws_trees.specs.grammar.declared.name.Brackets.{Brackets}
+use Rattle.yaml_parse_laws_trees.specs.grammar.declared.name.Brackets.TheVariants as brackets
+use Rattle.yaml_parse_laws_trees.specs.grammar.Problems.{problem_text_of, context_text_of, context_place}
+use Rattle.yaml_parse_laws_trees.specs.grammar.Items.{RawEvent, RawEventBody, Properties, Tag, Shape, item_at}
+use Rattle.yaml_parse_laws_trees.specs.grammar.Items as item
+use Rattle.yaml_parse_laws_trees.specs.grammar.States.{State}
+use Rattle.yaml_parse_laws_trees.specs.grammar.States as state
+use Rattle.yaml_parse_laws_trees.specs.grammar.Machine.{content_taken, node_taken, items_taken, more_taken, entries_taken, pairs_taken, taken_at, left_at}
+use Rattle.yaml_parse_laws_trees.specs.grammar.Resolve.{Directives, no_directives, Settled, refused, gave, noted, settle, directive_for, or_default, default_prefix, with_resolved, with_tag, with_version, is_known_version}
+use Rattle.yaml_parse_laws_trees.specs.LookBack.{directives_before, has_version, has_handle, NodeTag}
+use Rattle.yaml_parse_laws_trees.specs.Wrong.{version_fault, handle_twice, directive_fault, undefined_handle, is_version_1}
+
+-- ---- items one after another
+
+-- a fault, or the directives from then on
+pub data Done : Type 0 where
+  bad : Fault → Done
+  fine : Directives → Done
+
+abbrev pub then_read : Settled → (Directives → Done) → Done
+then_read (refused f) k = bad f
+then_read (gave body ds) k = k ds
+then_read (noted ds) k = k ds
+
+abbrev pub read_all : List RawEvent → Directives → Done
+read_all [] ds = fine ds
+read_all (i ∷ is) ds = then_read (settle i ds) (λ d. read_all is d)
+
+-- no fault, and the directives as they were
+abbrev pub Quiet : Option RawEvent → Type 0
+Quiet None = Unit {0}
+Quiet (Some i) = (ds : Directives) (k : Directives → Done) → then_read (settle i ds) k ≡ k ds
+
+content_quiet : (w : Wants) (start end : yaml_mark_t) (b : TokenBody) → Quiet (content_taken w None start end b).item
+content_quiet w start end (token.scalar value style) = λ ds k. refl
+content_quiet w start end token.flow_sequence_start = λ ds k. refl
+content_quiet w start end token.flow_mapping_start = λ ds k. refl
+content_quiet w start end token.block_sequence_start = λ ds k. refl
+content_quiet w start end token.block_mapping_start = λ ds k. refl
+content_quiet (Block (Some side)) start end token.block_entry = λ ds k. refl
+content_quiet (Block None) start end token.block_entry = tt
+content_quiet Flow start end token.block_entry = tt
+content_quiet w start end _ = tt
+
+pub node_quiet : (w : Wants) (start end : yaml_mark_t) (b : TokenBody) → Quiet (node_taken w start end b).item
+node_quiet w start end (token.alias name) = λ ds k. refl
+node_quiet w start end (token.anchor name) = tt
+node_quiet w start end (token.tag handle suffix) = tt
+node_quiet w start end b = content_quiet w start end b
+
+items_quiet : (bs : Brackets) (o start end : yaml_mark_t) (b : TokenBody) → Quiet (items_taken bs o start end b).item
+items_quiet brackets.Sequence o start end token.key = λ ds k. refl
+items_quiet brackets.Mapping o start end token.key = tt
+items_quiet brackets.Sequence o start end token.flow_sequence_end = λ ds k. refl
+items_quiet brackets.Mapping o start end token.flow_sequence_end = λ ds k. refl
+items_quiet brackets.Sequence o start end token.flow_mapping_end = λ ds k. refl
+items_quiet brackets.Mapping o start end token.flow_mapping_end = λ ds k. refl
+items_quiet bs o start end b = node_quiet Flow start end b
+
+more_quiet : (bs : Brackets) (o start end : yaml_mark_t) (b : TokenBody) → Quiet (more_taken bs o start end b).item
+more_quiet bs o start end token.flow_entry = tt
+more_quiet brackets.Sequence o start end _ = λ ds k. refl
+more_quiet brackets.Mapping o start end _ = λ ds k. refl
+
+entries_quiet : (o start end : yaml_mark_t) (b : TokenBody) → Quiet (entries_taken o start end b).item
+entries_quiet o start end token.block_entry = tt
+entries_quiet o start end _ = λ ds k. refl
+
+pairs_quiet : (o start end : yaml_mark_t) (b : TokenBody) → Quiet (pairs_taken o start end b).item
+pairs_quiet o start end token.key = tt
+pairs_quiet o start end _ = λ ds k. refl
+
+-- a state inside a document that isn't behind properties
+abbrev pub IsMute : State → Type 0
+IsMute state.stream = ⊥
+IsMute state.first = ⊥
+IsMute state.documents = ⊥
+IsMute (state.directives from) = ⊥
+IsMute state.document_end = ⊥
+IsMute (state.with_properties w p) = ⊥
+IsMute _ = Unit {0}
+
+pub taken_quiet : (x : State) (t : Token) → IsMute x → Quiet (taken_at x t).item
+taken_quiet (state.optional place before) t h = node_quiet _ t.start_mark t.end_mark t.body
+taken_quiet (state.entries o) t h = entries_quiet o t.start_mark t.end_mark t.body
+taken_quiet (state.others side) t h = tt
+taken_quiet (state.pairs o) t h = pairs_quiet o t.start_mark t.end_mark t.body
+taken_quiet (state.colon place) t h = tt
+taken_quiet (state.items bs o) t h = items_quiet bs o t.start_mark t.end_mark t.body
+taken_quiet (state.more bs o) t h = more_quiet bs o t.start_mark t.end_mark t.body
+taken_quiet state.pair_end t h = tt
+taken_quiet state.lone t h = tt
+taken_quiet _ t h = absurd h
+
+pub left_quiet : (x : State) (start : yaml_mark_t) → IsMute x → Quiet (Some (left_at x start))
+left_quiet state.stream start h = absurd h
+left_quiet state.first start h = absurd h
+left_quiet state.documents start h = absurd h
+left_quiet (state.directives from) start h = absurd h
+left_quiet state.document_end start h = absurd h
+left_quiet (state.with_properties w p) start h = absurd h
+left_quiet (state.others side) start h = λ ds k. refl
+left_quiet state.pair_end start h = λ ds k. refl
+left_quiet _ start h = λ ds k. refl
+
+-- ---- directives
+
+-- the directives are those of the tokens
+pub record Agree (ts : List Token) (ds : Directives) : Type 0 where
+  pub version : is_some ds.version ≡ has_version ts
+  pub handles : (h : List ℕ) → is_some (directive_for h ds.tags) ≡ has_handle h ts
+
+pub none_agree : Agree [] no_directives
+unfolding directive_for
+none_agree = record { version = refl; handles = λ h. refl }
+
+-- a directive gives the fault, or the directives agree behind it
+abbrev pub Behind : Option Fault → List Token → Done → Type 0
+Behind fault ts (bad e) = fault ≡ Some e
+Behind fault ts (fine ds) = (fault ≡ None) × Agree ts ds
+
+version_done : (v : Option yaml_version_directive_t) (tags : List TagDirective) (known : Bool) (major minor : ℤ) (start end : yaml_mark_t) (ts : List Token)
+    → is_known_version major minor ≡ known → Agree ts (record { version = v; tags = tags })
+    → Behind (version_fault (has_version ts) known start) (record { body = token.version_directive major minor; start_mark = start; end_mark = end } ∷ ts)
+    (then_read (with_version v tags major minor start) (λ d. fine d))
+unfolding problem_text_of context_text_of context_place
+version_done (Some v) tags known major minor start end ts k a = ap (λ (b : Bool). version_fault b known start) (sym a.version)
+version_done None tags true major minor start end ts k a = rw k (ap (λ (b : Bool). version_fault b true start) (sym a.version), record { version = refl; handles = a.handles })
+version_done None tags false major minor start end ts k a = rw k (ap (λ (b : Bool). version_fault b false start) (sym a.version))
+
+pub version_read : (ds : Directives) (major minor : ℤ) (start end : yaml_mark_t) (past : List Token) → Agree (directives_before past) ds
+    → Behind (directive_fault past (token.version_directive major minor) start) (directives_before (record { body = token.version_directive major minor; start_mark = start; end_mark = end } ∷ past))
+    (read_all (item_at (item.version_directive major minor) start end ∷ []) ds)
+version_read ds major minor start end past a = version_done ds.version ds.tags (is_version_1 major minor) major minor start end (directives_before past) refl a
+
+appended : (h : List ℕ) (tags : List TagDirective) (d : TagDirective) → is_some (directive_for h (tags ++ d ∷ [])) ≡ (bytes_eq d.handle h || is_some (directive_for h tags))
+unfolding directive_for
+appended h [] d = one (bytes_eq d.handle h)
+  where
+    one : (b : Bool) → is_some (if b then Some d.prefix else None) ≡ (b || false)
+    one true = refl
+    one false = refl
+appended h (c ∷ tags) d = two (bytes_eq c.handle h) (bytes_eq d.handle h) (directive_for h (tags ++ d ∷ [])) (directive_for h tags) (appended h tags d)
+  where
+    two : (a b : Bool) (x y : Option (List ℕ)) → is_some x ≡ (b || is_some y) → is_some (if a then Some c.prefix else x) ≡ (b || is_some (if a then Some c.prefix else y))
+    two true true x y e = refl
+    two true false x y e = refl
+    two false b x y e = e
+
+handle_done : (o : Option (List ℕ)) (ds : Directives) (handle prefix : List ℕ) (start end : yaml_mark_t) (ts : List Token) → is_some o ≡ has_handle handle ts → Agree ts ds
+    → Behind (handle_twice (has_handle handle ts) start) (record { body = token.tag_directive handle prefix; start_mark = start; end_mark = end } ∷ ts)
+    (then_read (with_tag o ds handle prefix start) (λ d. fine d))
+unfolding problem_text_of context_text_of context_place
+handle_done (Some x) ds handle prefix start end ts e a = ap (λ (b : Bool). handle_twice b start) (sym e)
+handle_done None ds handle prefix start end ts e a = (
+  ap (λ (b : Bool). handle_twice b start) (sym e),
+  record {
+    version = a.version;
+    handles = λ h. appended h ds.tags (record { handle = handle; prefix = prefix }) ∙ ap (λ (b : Bool). bytes_eq handle h || b) (a.handles h);
+  },
+)
+
+pub handle_read : (ds : Directives) (handle prefix : List ℕ) (start end : yaml_mark_t) (past : List Token) → Agree (directives_before past) ds
+    → Behind (directive_fault past (token.tag_directive handle prefix) start) (directives_before (record { body = token.tag_directive handle prefix; start_mark = start; end_mark = end } ∷ past))
+    (read_all (item_at (item.tag_directive handle prefix) start end ∷ []) ds)
+handle_read ds handle prefix start end past a = handle_done (directive_for handle ds.tags) ds handle prefix start end (directives_before past) (a.handles handle) a
+
+-- ---- tag handles
+
+-- the tag of some properties
+abbrev pub tag_in : Properties → Option NodeTag
+tag_in p = of_tag p.tag
+  where
+    of_tag : Option Tag → Option NodeTag
+    of_tag None = None
+    of_tag (Some t) = Some (record { handle = t.handle; tag = t.mark; node = p.from })
+
+-- what reading a node behind properties gives, by the fault of its handle
+abbrev pub by_fault : Option Fault → Directives → (Directives → Done) → Done
+by_fault None ds k = k ds
+by_fault (Some e) ds k = bad e
+
+pub prefix_known : (handle : List ℕ) → is_some (default_prefix handle) ≡ (bytes_eq handle (codes "!") || bytes_eq handle (codes "!!"))
+prefix_known handle = known (bytes_eq handle (codes "!")) (bytes_eq handle (codes "!!"))
+  where
+    known : (a b : Bool) → is_some (if a then Some (codes "!") else if b then Some (codes "tag:yaml.org,2002:") else None) ≡ (a || b)
+    known true b = refl
+    known false true = refl
+    known false false = refl
+
+pub resolved_done : (o : Option (List ℕ)) (a b : Bool) (handle suffix : List ℕ) (anchor : Option (List ℕ)) (shape : Shape) (from at : yaml_mark_t) (ds : Directives) (k : Directives → Done)
+    → is_some o ≡ a → is_some (default_prefix handle) ≡ b
+    → then_read (with_resolved (option_map (λ (prefix : List ℕ). prefix ++ suffix) (or_default o handle)) anchor shape from at ds) k
+    ≡ by_fault (undefined_handle (a || b) (record { handle = handle; tag = at; node = from })) ds k
+unfolding problem_text_of context_text_of context_place
+resolved_done (Some x) true b handle suffix anchor shape from at ds k p q = refl
+resolved_done (Some x) false b handle suffix anchor shape from at ds k p q = cc
+resolved_done None true b handle suffix anchor shape from at ds k p q = cc
+resolved_done None false b handle suffix anchor shape from at ds k p q = defaulted (default_prefix handle) b q
+  where
+    defaulted : (d : Option (List ℕ)) (b : Bool) → is_some d ≡ b
+        → then_read (with_resolved (option_map (λ (prefix : List ℕ). prefix ++ suffix) d) anchor shape from at ds) k ≡ by_fault (undefined_handle b (record { handle = handle; tag = at; node = from })) ds k
+    defaulted None true e = cc
+    defaulted None false e = refl
+    defaulted (Some x) true e = refl
+    defaulted (Some x) false e = cc

@@ -1,0 +1,282 @@
+-- What stands below a state: after a left-out node nothing is refused, and below a state that leaves something waits to be closed.
+use Rattle.std.proofs.Common.{◌≡◌, ◌⊎◌, inl, inr, true, List, [], ◌∷◌, ◌++◌, Option, Some, None, refl, sym, subst}
+use Rattle.std.proofs.lemmas.List.{append_assoc}
+use Rattle.yaml_parse_laws_trees.specs.grammar.parse_model.declared.yaml_mark_t.{yaml_mark_t}
+use Rattle.yaml_parse_laws_trees.specs.grammar.parse_model.declared.yaml_token_type_t.{yaml_token_type_t}
+use Rattle.yaml_parse_laws_trees.specs.grammar.parse_model.declared.yaml_token_type_t.TheVariants as kind
+use Rattle.yaml_parse_laws_trees.specs.grammar.parse_model.Tokens.{Token, TokenBody, type_of}
+use Rattle.yaml_parse_laws_trees.specs.grammar.parse_model.Tokens as token
+use Rattle.yaml_parse_laws_trees.specs.grammar.declared.name.Wants.{Wants}
+use Rattle.yaml_parse_laws_trees.specs.grammar.declared.name.Wants.TheVariants.{Flow, Block}
+use Rattle.yaml_parse_laws_trees.specs.grammar.declared.name.Side.{Side}
+use Rattle.yaml_parse_laws_trees.specs.grammar.declared.name.Side.TheVariants.{Key, Value}
+use Rattle.yaml_parse_laws_trees.specs.grammar.declared.name.Brackets.{Brackets}
+use Rattle.yaml_parse_laws_trees.specs.grammar.declared.name.Brackets.TheVariants as brackets
+use Rattle.yaml_parse_laws_trees.specs.grammar.declared.name.Site.{Site}
+use Rattle.yaml_parse_laws_trees.specs.grammar.declared.name.Site.TheVariants.{Root, Entry, IndentlessEntry, BlockPair, FlowPair}
+use Rattle.yaml_parse_laws_trees.specs.grammar.declared.name.Choice.{Choice}
+use Rattle.yaml_parse_laws_trees.specs.grammar.declared.name.Choice.TheVariants.{Refuse, Take, Leave, Open}
+use Rattle.yaml_parse_laws_trees.specs.grammar.Items.{RawEvent, Properties, item_at}
+use Rattle.yaml_parse_laws_trees.specs.grammar.Items as item
+use Rattle.yaml_parse_laws_trees.specs.grammar.States.{State}
+use Rattle.yaml_parse_laws_trees.specs.grammar.States as state
+use Rattle.yaml_parse_laws_trees.specs.grammar.Machine.{wants_of, follows, choice_at, documents_taken, content_taken, node_taken, with_properties_taken, items_taken, more_taken, entries_taken, pairs_taken, stream_taken, lone_below, taken_at, left_at, Fed, stop, go, with_item, given_by, turn, feed}
+
+-- ---- nothing is refused
+
+abbrev pub Goes : Fed → Type 0
+Goes (stop is f) = ⊥
+Goes (go is s) = Unit {0}
+
+goes_with : (i : RawEvent) (fed : Fed) → Goes fed → Goes (with_item i fed)
+goes_with i (stop is f) h = h
+goes_with i (go is s) h = tt
+
+takes_goes : (x : State) (s : List State) (t : Token) → choice_at x (type_of t.body) ≡ Take → Goes (feed (x ∷ s) t)
+unfolding feed
+takes_goes x s t h = subst (λ (c : Choice). Goes (turn c x t s (feed s t))) (sym h) tt
+
+leaves_goes : (x : State) (s : List State) (t : Token) → choice_at x (type_of t.body) ≡ Leave → Goes (feed s t) → Goes (feed (x ∷ s) t)
+unfolding feed
+leaves_goes x s t h k = subst (λ (c : Choice). Goes (turn c x t s (feed s t))) (sym h) (goes_with (left_at x t.start_mark) (feed s t) k)
+
+-- what may follow a node that is left out there isn't refused by the states below
+abbrev pub Fits : Site → List State → Type 0
+Fits place s = (t : Token) → follows place (type_of t.body) ≡ true → Goes (feed s t)
+
+abbrev TakesOrLeaves : State → yaml_token_type_t → Type 0
+TakesOrLeaves x k = (choice_at x k ≡ Take) ⊎ (choice_at x k ≡ Leave)
+
+takes_or_leaves : (x : State) (s : List State) (t : Token) → TakesOrLeaves x (type_of t.body) → (choice_at x (type_of t.body) ≡ Leave → Goes (feed s t)) → Goes (feed (x ∷ s) t)
+takes_or_leaves x s t (inl h) k = takes_goes x s t h
+takes_or_leaves x s t (inr h) k = leaves_goes x s t h (k h)
+
+entry_taken : (o : yaml_mark_t) (k : yaml_token_type_t) → follows Entry k ≡ true → choice_at (state.entries o) k ≡ Take
+entry_taken o kind.YAML_BLOCK_ENTRY_TOKEN h = refl
+entry_taken o kind.YAML_BLOCK_END_TOKEN h = refl
+entry_taken o _ h = cc
+
+entries_fit : (o : yaml_mark_t) (s : List State) → Fits Entry (state.entries o ∷ s)
+entries_fit o s t h = takes_goes (state.entries o) s t (entry_taken o (type_of t.body) h)
+
+pair_taken : (o : yaml_mark_t) (k : yaml_token_type_t) → follows (BlockPair Value) k ≡ true → choice_at (state.pairs o) k ≡ Take
+pair_taken o kind.YAML_KEY_TOKEN h = refl
+pair_taken o kind.YAML_BLOCK_END_TOKEN h = refl
+pair_taken o _ h = cc
+
+pairs_fit : (o : yaml_mark_t) (s : List State) → Fits (BlockPair Value) (state.pairs o ∷ s)
+pairs_fit o s t h = takes_goes (state.pairs o) s t (pair_taken o (type_of t.body) h)
+
+colon_choice : (place : Site) (k : yaml_token_type_t) → TakesOrLeaves (state.colon place) k
+colon_choice place kind.YAML_VALUE_TOKEN = inl refl
+colon_choice place _ = inr refl
+
+block_key : (k : yaml_token_type_t) → follows (BlockPair Key) k ≡ true → choice_at (state.colon (BlockPair Value)) k ≡ Leave → follows (BlockPair Value) k ≡ true
+block_key kind.YAML_KEY_TOKEN h c = refl
+block_key kind.YAML_BLOCK_END_TOKEN h c = refl
+block_key kind.YAML_VALUE_TOKEN h c = cc
+block_key _ h c = cc
+
+keys_fit : (o : yaml_mark_t) (s : List State) → Fits (BlockPair Key) (state.colon (BlockPair Value) ∷ state.pairs o ∷ s)
+keys_fit o s t h =
+    takes_or_leaves (state.colon (BlockPair Value)) (state.pairs o ∷ s) t (colon_choice (BlockPair Value) (type_of t.body)) (λ c. pairs_fit o s t (block_key (type_of t.body) h c))
+
+more_taken_at : (b : Brackets) (o : yaml_mark_t) (k : yaml_token_type_t) → follows (FlowPair b Value) k ≡ true → choice_at (state.more b o) k ≡ Take
+more_taken_at b o kind.YAML_FLOW_ENTRY_TOKEN h = refl
+more_taken_at brackets.Sequence o kind.YAML_FLOW_SEQUENCE_END_TOKEN h = refl
+more_taken_at brackets.Mapping o kind.YAML_FLOW_MAPPING_END_TOKEN h = refl
+more_taken_at brackets.Sequence o _ h = cc
+more_taken_at brackets.Mapping o _ h = cc
+
+more_fits : (b : Brackets) (o : yaml_mark_t) (s : List State) → Fits (FlowPair b Value) (state.more b o ∷ s)
+more_fits b o s t h = takes_goes (state.more b o) s t (more_taken_at b o (type_of t.body) h)
+
+end_fits : (b : Brackets) (o : yaml_mark_t) (s : List State) → Fits (FlowPair b Value) (state.pair_end ∷ state.more b o ∷ s)
+end_fits b o s t h = leaves_goes state.pair_end (state.more b o ∷ s) t refl (more_fits b o s t h)
+
+flow_key : (b : Brackets) (k : yaml_token_type_t) → follows (FlowPair b Key) k ≡ true → choice_at (state.colon (FlowPair b Value)) k ≡ Leave → follows (FlowPair b Value) k ≡ true
+flow_key b kind.YAML_FLOW_ENTRY_TOKEN h c = refl
+flow_key b kind.YAML_VALUE_TOKEN h c = cc
+flow_key brackets.Sequence kind.YAML_FLOW_SEQUENCE_END_TOKEN h c = refl
+flow_key brackets.Mapping kind.YAML_FLOW_MAPPING_END_TOKEN h c = refl
+flow_key brackets.Sequence _ h c = cc
+flow_key brackets.Mapping _ h c = cc
+
+flow_keys_fit : (b : Brackets) (s : List State) → Fits (FlowPair b Value) s → Fits (FlowPair b Key) (state.colon (FlowPair b Value) ∷ s)
+flow_keys_fit b s f t h =
+    takes_or_leaves (state.colon (FlowPair b Value)) s t (colon_choice (FlowPair b Value) (type_of t.body)) (λ c. f t (flow_key b (type_of t.body) h c))
+
+end_choice : (k : yaml_token_type_t) → TakesOrLeaves state.document_end k
+end_choice kind.YAML_DOCUMENT_END_TOKEN = inl refl
+end_choice _ = inr refl
+
+root_taken : (k : yaml_token_type_t) → follows Root k ≡ true → choice_at state.document_end k ≡ Leave → choice_at state.documents k ≡ Take
+root_taken kind.YAML_DOCUMENT_END_TOKEN h c = cc
+root_taken kind.YAML_STREAM_END_TOKEN h c = refl
+root_taken kind.YAML_VERSION_DIRECTIVE_TOKEN h c = refl
+root_taken kind.YAML_TAG_DIRECTIVE_TOKEN h c = refl
+root_taken kind.YAML_DOCUMENT_START_TOKEN h c = refl
+root_taken _ h c = cc
+
+root_fits : (s : List State) → Fits Root (state.document_end ∷ state.documents ∷ s)
+root_fits s t h =
+    takes_or_leaves state.document_end (state.documents ∷ s) t (end_choice (type_of t.body)) (λ c. takes_goes state.documents s t (root_taken (type_of t.body) h c))
+
+others_choice : (side : Side) (k : yaml_token_type_t) → TakesOrLeaves (state.others side) k
+others_choice side kind.YAML_BLOCK_ENTRY_TOKEN = inl refl
+others_choice side _ = inr refl
+
+side_follows : (side : Side) (k : yaml_token_type_t) → follows (IndentlessEntry side) k ≡ true → choice_at (state.others side) k ≡ Leave → follows (BlockPair side) k ≡ true
+side_follows side kind.YAML_BLOCK_ENTRY_TOKEN h c = cc
+side_follows side kind.YAML_KEY_TOKEN h c = refl
+side_follows side kind.YAML_BLOCK_END_TOKEN h c = refl
+side_follows Key kind.YAML_VALUE_TOKEN h c = refl
+side_follows Value kind.YAML_VALUE_TOKEN h c = cc
+side_follows side _ h c = cc
+
+others_fit : (side : Side) (s : List State) → Fits (BlockPair side) s → Fits (IndentlessEntry side) (state.others side ∷ s)
+others_fit side s f t h = takes_or_leaves (state.others side) s t (others_choice side (type_of t.body)) (λ c. f t (side_follows side (type_of t.body) h c))
+
+abbrev pub FitsWants : Wants → List State → Type 0
+FitsWants (Block (Some side)) s = Fits (BlockPair side) s
+FitsWants _ s = Unit {0}
+
+fits_wants : (place : Site) (s : List State) → Fits place s → FitsWants (wants_of place) s
+fits_wants (BlockPair side) s f = f
+fits_wants _ s f = tt
+
+-- ---- how states stand
+
+-- a token that closes is waited for, and no state above it takes that token
+abbrev pub ClosedAt : State → Type 0 → Type 0
+ClosedAt state.stream below = ⊥
+ClosedAt (state.directives from) below = ⊥
+ClosedAt state.first below = Unit {0}
+ClosedAt state.documents below = Unit {0}
+ClosedAt (state.entries opener) below = Unit {0}
+ClosedAt (state.pairs opener) below = Unit {0}
+ClosedAt (state.items b opener) below = Unit {0}
+ClosedAt (state.more b opener) below = Unit {0}
+ClosedAt _ below = below
+
+abbrev pub Closed : List State → Type 0
+Closed [] = ⊥
+Closed (x ∷ s) = ClosedAt x (Closed s)
+
+abbrev pub Stood : State → List State → Type 0
+Stood (state.optional place before) s = Fits place s × Closed s
+Stood (state.colon place) s = Fits place s × Closed s
+Stood (state.others side) s = Fits (BlockPair side) s × Closed s
+Stood (state.with_properties w p) s = FitsWants w s × Closed s
+Stood state.document_end s = Closed s
+Stood state.pair_end s = Closed s
+Stood state.lone s = Closed s
+Stood _ s = Unit {0}
+
+abbrev pub AllStood : List State → Type 0
+AllStood [] = Unit {0}
+AllStood (x ∷ s) = Stood x s × AllStood s
+
+-- ---- a step keeps it
+
+content_stood : (w : Wants) (p : Option Properties) (start end : yaml_mark_t) (b : TokenBody) (s : List State) → FitsWants w s → Closed s → AllStood s → AllStood ((content_taken w p start end b).above ++ s)
+content_stood w p start end (token.scalar value style) s f c a = a
+content_stood w p start end token.flow_sequence_start s f c a = (tt, a)
+content_stood w p start end token.flow_mapping_start s f c a = (tt, a)
+content_stood w p start end token.block_sequence_start s f c a = (tt, a)
+content_stood w p start end token.block_mapping_start s f c a = (tt, a)
+content_stood (Block (Some side)) p start end token.block_entry s f c a = ((others_fit side s f, c), ((f, c), a))
+content_stood (Block None) p start end token.block_entry s f c a = (c, a)
+content_stood Flow p start end token.block_entry s f c a = (c, a)
+content_stood w p start end _ s f c a = (c, a)
+
+node_stood : (w : Wants) (start end : yaml_mark_t) (b : TokenBody) (s : List State) → FitsWants w s → Closed s → AllStood s → AllStood ((node_taken w start end b).above ++ s)
+node_stood w start end (token.alias name) s f c a = a
+node_stood w start end (token.anchor name) s f c a = ((f, c), a)
+node_stood w start end (token.tag handle suffix) s f c a = ((f, c), a)
+node_stood w start end b s f c a = content_stood w None start end b s f c a
+
+with_properties_stood : (w : Wants) (p : Properties) (start end : yaml_mark_t) (b : TokenBody) (s : List State) → FitsWants w s → Closed s → AllStood s → AllStood ((with_properties_taken w p start end b).above ++ s)
+with_properties_stood w p start end (token.anchor name) s f c a = ((f, c), a)
+with_properties_stood w p start end (token.tag handle suffix) s f c a = ((f, c), a)
+with_properties_stood w p start end b s f c a = content_stood w (Some p) start end b s f c a
+
+documents_stood : (from start end : yaml_mark_t) (b : TokenBody) (s : List State) → AllStood s → AllStood ((documents_taken from start end b).above ++ s)
+documents_stood from start end (token.version_directive major minor) s a = (tt, a)
+documents_stood from start end (token.tag_directive name prefix) s a = (tt, a)
+documents_stood from start end token.document_start s a = ((root_fits s, tt), (tt, (tt, a)))
+documents_stood from start end token.stream_end s a = a
+documents_stood from start end _ s a = (tt, a)
+
+stream_stood : (start end : yaml_mark_t) (b : TokenBody) (s : List State) → choice_at state.stream (type_of b) ≡ Take → AllStood s → AllStood ((stream_taken start end b).above ++ s)
+stream_stood start end (token.stream_start e) s c a = (tt, a)
+stream_stood start end _ s c a = cc
+
+lone_closed : (b : Brackets) (o : yaml_mark_t) (s : List State) → Closed (lone_below b (state.more b o ∷ []) ++ s)
+lone_closed brackets.Sequence o s = tt
+lone_closed brackets.Mapping o s = tt
+
+lone_stood : (b : Brackets) (o : yaml_mark_t) (s : List State) → AllStood s → AllStood (lone_below b (state.more b o ∷ []) ++ s)
+lone_stood brackets.Sequence o s a = (tt, a)
+lone_stood brackets.Mapping o s a = (tt, (tt, a))
+
+items_stood : (b : Brackets) (o start end : yaml_mark_t) (x : TokenBody) (s : List State) → AllStood s → AllStood ((items_taken b o start end x).above ++ s)
+items_stood brackets.Sequence o start end token.key s a =
+    ((flow_keys_fit brackets.Sequence (state.pair_end ∷ state.more brackets.Sequence o ∷ s) (end_fits brackets.Sequence o s), tt), ((end_fits brackets.Sequence o s, tt), (tt, (tt, a))))
+items_stood brackets.Mapping o start end token.key s a =
+    ((flow_keys_fit brackets.Mapping (state.more brackets.Mapping o ∷ s) (more_fits brackets.Mapping o s), tt), ((more_fits brackets.Mapping o s, tt), (tt, a)))
+items_stood b o start end token.flow_sequence_end s a = a
+items_stood b o start end token.flow_mapping_end s a = a
+items_stood b o start end x s a =
+    subst AllStood (sym (append_assoc (node_taken Flow start end x).above (lone_below b (state.more b o ∷ [])) s))
+    (node_stood Flow start end x (lone_below b (state.more b o ∷ []) ++ s) tt (lone_closed b o s) (lone_stood b o s a))
+
+more_stood : (b : Brackets) (o start end : yaml_mark_t) (x : TokenBody) (s : List State) → AllStood s → AllStood ((more_taken b o start end x).above ++ s)
+more_stood b o start end token.flow_entry s a = (tt, a)
+more_stood b o start end _ s a = a
+
+entries_stood : (o start end : yaml_mark_t) (x : TokenBody) (s : List State) → AllStood s → AllStood ((entries_taken o start end x).above ++ s)
+entries_stood o start end token.block_entry s a = ((entries_fit o s, tt), (tt, a))
+entries_stood o start end _ s a = a
+
+pairs_stood : (o start end : yaml_mark_t) (x : TokenBody) (s : List State) → AllStood s → AllStood ((pairs_taken o start end x).above ++ s)
+pairs_stood o start end token.key s a = ((keys_fit o s, tt), ((pairs_fit o s, tt), (tt, a)))
+pairs_stood o start end _ s a = a
+
+taken_stood : (x : State) (t : Token) (s : List State) → choice_at x (type_of t.body) ≡ Take → Stood x s → AllStood s → AllStood ((taken_at x t).above ++ s)
+taken_stood state.stream t s c h a = stream_stood t.start_mark t.end_mark t.body s c a
+taken_stood state.first t s c h a = documents_stood t.start_mark t.start_mark t.end_mark t.body s a
+taken_stood state.documents t s c h a = documents_stood t.start_mark t.start_mark t.end_mark t.body s a
+taken_stood (state.directives from) t s c h a = documents_stood from t.start_mark t.end_mark t.body s a
+taken_stood (state.optional place before) t s c h a = node_stood (wants_of place) t.start_mark t.end_mark t.body s (fits_wants place s h.0) h.1 a
+taken_stood state.document_end t s c h a = a
+taken_stood (state.entries o) t s c h a = entries_stood o t.start_mark t.end_mark t.body s a
+taken_stood (state.others side) t s c h a = ((others_fit side s h.0, h.1), (h, a))
+taken_stood (state.pairs o) t s c h a = pairs_stood o t.start_mark t.end_mark t.body s a
+taken_stood (state.colon place) t s c h a = (h, a)
+taken_stood (state.with_properties w p) t s c h a = with_properties_stood w p t.start_mark t.end_mark t.body s h.0 h.1 a
+taken_stood (state.items b o) t s c h a = items_stood b o t.start_mark t.end_mark t.body s a
+taken_stood (state.more b o) t s c h a = more_stood b o t.start_mark t.end_mark t.body s a
+taken_stood state.pair_end t s c h a = cc
+taken_stood state.lone t s c h a = cc
+
+abbrev pub FedStood : Fed → Type 0
+FedStood (stop is f) = Unit {0}
+FedStood (go is s) = AllStood s
+
+stood_with : (i : RawEvent) (fed : Fed) → FedStood fed → FedStood (with_item i fed)
+stood_with i (stop is f) h = h
+stood_with i (go is s) h = h
+
+turn_stood : (c : Choice) (x : State) (t : Token) (s : List State) (below : Fed) → choice_at x (type_of t.body) ≡ c → AllStood (x ∷ s) → FedStood below → FedStood (turn c x t s below)
+turn_stood (Refuse p o) x t s below e a h = tt
+turn_stood Take x t s below e a h = taken_stood x t s e a.0 a.1
+turn_stood Leave x t s below e a h = stood_with (left_at x t.start_mark) below h
+turn_stood Open x t s below e a h =
+    stood_with (item_at (item.document true) t.start_mark t.start_mark) (given_by (taken_at (state.optional Root t.start_mark) t) (state.document_end ∷ state.documents ∷ s))
+    (node_stood (Block None) t.start_mark t.end_mark t.body (state.document_end ∷ state.documents ∷ s) tt tt (tt, (tt, a.1)))
+
+pub feed_stood : (s : List State) (t : Token) → AllStood s → FedStood (feed s t)
+unfolding feed
+feed_stood [] t a = tt
+feed_stood (x ∷ s) t a = turn_stood (choice_at x (type_of t.body)) x t s (feed s t) refl a (feed_stood s t a.1)

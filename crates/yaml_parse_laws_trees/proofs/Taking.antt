@@ -1,0 +1,178 @@
+-- What a stack waits for, with a token in front; and the reading of what a step gives.
+use Rattle.std.proofs.Common.{◌≡◌, ℕ, true, false, List, [], ◌∷◌, ◌++◌, map, Option, Some, None, refl, sym, subst}
+use Rattle.yaml_parse_laws_trees.specs.grammar.parse_model.declared.yaml_token_type_t.{yaml_token_type_t}
+use Rattle.yaml_parse_laws_trees.specs.grammar.parse_model.declared.yaml_token_type_t.TheVariants as kind
+use Rattle.yaml_parse_laws_trees.specs.grammar.parse_model.Tokens.{Token, type_of, no_token}
+use Rattle.yaml_parse_laws_trees.specs.grammar.parse_model.Faults.{Fault}
+use Rattle.yaml_parse_laws_trees.specs.grammar.declared.name.Wants.TheVariants.{Block}
+use Rattle.yaml_parse_laws_trees.specs.grammar.declared.name.Site.TheVariants.{Root}
+use Rattle.yaml_parse_laws_trees.specs.grammar.declared.name.Choice.{Choice}
+use Rattle.yaml_parse_laws_trees.specs.grammar.declared.name.Choice.TheVariants.{Refuse, Take, Leave, Open}
+use Rattle.yaml_parse_laws_trees.specs.grammar.declared.problem.ParseProblem.TheVariants as problem
+use Rattle.yaml_parse_laws_trees.specs.grammar.Items.{RawEvent, item_at}
+use Rattle.yaml_parse_laws_trees.specs.grammar.Items as item
+use Rattle.yaml_parse_laws_trees.specs.grammar.States.{State, Taken}
+use Rattle.yaml_parse_laws_trees.specs.grammar.States as state
+use Rattle.yaml_parse_laws_trees.specs.grammar.Stacks.{IsInside, IsStack}
+use Rattle.yaml_parse_laws_trees.specs.grammar.Trees.{Given}
+use Rattle.yaml_parse_laws_trees.specs.grammar.Machine.{starts_node, parts_documents, choice_at, taken_at, left_at, Fed, stop, go, with_item, given_by, turn, feed}
+use Rattle.yaml_parse_laws_trees.specs.grammar.Resolve.{Directives, Settled, refused, gave, noted, settle, Reading, reading, unasked_at_fault}
+use Rattle.yaml_parse_laws_trees.specs.grammar.Resolve as resolve
+use Rattle.yaml_parse_laws_trees.proofs.grammar.Voice.{takes_a_token}
+use Rattle.yaml_parse_laws_trees.proofs.grammar.Single.{opens_node}
+use Rattle.yaml_parse_laws_trees.proofs.Left.{Left, Over, over_both, leaving, taking, opening, not_left, not_left_first}
+use Rattle.yaml_parse_laws_trees.proofs.Settling.{Done, bad, fine, then_read, read_all}
+
+-- ---- a state that never leaves is at the bottom
+
+abbrev pub SolidAt : State → Type 0 → Type 0
+SolidAt state.stream below = Unit {0}
+SolidAt state.first below = Unit {0}
+SolidAt state.documents below = Unit {0}
+SolidAt (state.directives from) below = Unit {0}
+SolidAt _ below = below
+
+abbrev pub Solid : List State → Type 0
+Solid [] = ⊥
+Solid (x ∷ s) = SolidAt x (Solid s)
+
+solid_documents : (s : List State) → s ≡ state.documents ∷ [] → Solid s
+solid_documents s e = subst Solid (sym e) tt
+
+inside_solid : (s : List State) → IsInside s → Solid s
+inside_solid [] h = h
+inside_solid (state.stream ∷ s) h = tt
+inside_solid (state.first ∷ s) h = tt
+inside_solid (state.documents ∷ s) h = tt
+inside_solid (state.directives from ∷ s) h = tt
+inside_solid (state.document_end ∷ s) h = solid_documents s h
+inside_solid (_ ∷ s) h = inside_solid s h.1
+
+pub stack_solid : (x : State) (s : List State) → IsStack (x ∷ s) → Solid (x ∷ s)
+stack_solid state.stream s h = tt
+stack_solid state.first s h = tt
+stack_solid state.documents s h = tt
+stack_solid (state.directives from) s h = tt
+stack_solid x s h = inside_solid (x ∷ s) h
+
+pub solid_left : (x : State) (k : yaml_token_type_t) (A : Type 0) → choice_at x k ≡ Leave → SolidAt x A → A
+solid_left state.stream kind.YAML_STREAM_START_TOKEN A c h = cc
+solid_left state.stream _ A c h = cc
+solid_left state.first k A c h = absurd (not_left_first (parts_documents k) (starts_node (Block None) k) problem.NoBlockNode c)
+solid_left state.documents kind.YAML_DOCUMENT_END_TOKEN A c h = cc
+solid_left state.documents k A c h = absurd (not_left (parts_documents k) problem.NoDocumentStart None c)
+solid_left (state.directives from) kind.YAML_STREAM_END_TOKEN A c h = cc
+solid_left (state.directives from) k A c h = absurd (not_left (parts_documents k) problem.NoDocumentStart None c)
+solid_left _ k A c h = h
+
+-- ---- what the stack behind a token waits for, with the token in front, is what the stack before it waits for
+
+abbrev pub Takes : (List Token → Type 0) → List State → Token → Fed → Type 0
+Takes P s t (stop is e) = Unit {0}
+Takes P s t (go is s') = (ts : List Token) → Over s' P ts → Over s P (t ∷ ts)
+
+takes_with : (P : List Token → Type 0) (s : List State) (t : Token) (i : RawEvent) (fed : Fed) → Takes P s t fed → Takes P s t (with_item i fed)
+takes_with P s t i (stop is e) h = tt
+takes_with P s t i (go is s') h = h
+
+takes_given : (P : List Token → Type 0) (x : State) (i : Option RawEvent) (above s : List State) (t : Token) (below : List State)
+    → ((ts : List Token) → Over above (Over below P) ts → Left x (Over s P) (t ∷ ts)) → Takes P (x ∷ s) t (given_by (record { item = i; above = above }) below)
+takes_given P x None above s t below h = λ ts k. h ts (subst (λ (Q : List Token → Type 0). Q ts) (over_both above below P) k)
+takes_given P x (Some i) above s t below h = λ ts k. h ts (subst (λ (Q : List Token → Type 0). Q ts) (over_both above below P) k)
+
+takes_left : (P : List Token → Type 0) (x : State) (s : List State) (t : Token) (fed : Fed) → choice_at x (type_of t.body) ≡ Leave → Takes P s t fed → Takes P (x ∷ s) t fed
+takes_left P x s t (stop is e) c h = tt
+takes_left P x s t (go is s') c h = λ ts k. leaving x (type_of t.body) c (Over s P) (t ∷ ts) (h ts k)
+
+takes_turn : (P : List Token → Type 0) (c : Choice) (x : State) (t : Token) (s : List State) (fed : Fed) → choice_at x (type_of t.body) ≡ c → (choice_at x (type_of t.body) ≡ Leave → Takes P s t fed)
+    → Takes P (x ∷ s) t (turn c x t s fed)
+takes_turn P (Refuse p o) x t s fed e h = tt
+takes_turn P Take x t s fed e h = takes_given P x (taken_at x t).item (taken_at x t).above s t s (λ ts k. taking x t e (Over s P) ts k)
+takes_turn P Leave x t s fed e h = takes_with P (x ∷ s) t (left_at x t.start_mark) fed (takes_left P x s t fed e (h e))
+takes_turn P Open x t s fed e h =
+    takes_with P (x ∷ s) t (item_at (item.document true) t.start_mark t.start_mark) (given_by (taken_at (state.optional Root t.start_mark) t) (state.document_end ∷ state.documents ∷ s))
+    (takes_given P x (taken_at (state.optional Root t.start_mark) t).item (taken_at (state.optional Root t.start_mark) t).above s t (state.document_end ∷ state.documents ∷ s) (λ ts k. opening x t e (Over s P) ts k))
+
+pub takes : (P : List Token → Type 0) (s : List State) (t : Token) → Solid s → Takes P s t (feed s t)
+unfolding feed
+takes P [] t h = absurd h
+takes P (x ∷ s) t h = takes_turn P (choice_at x (type_of t.body)) x t s (feed s t) refl (λ e. takes P s t (solid_left x (type_of t.body) (Solid s) e h))
+
+-- ---- the empty token is refused
+
+abbrev pub Stops : Fed → Type 0
+Stops (stop is e) = Unit {0}
+Stops (go is s) = ⊥
+
+stops_with : (i : RawEvent) (fed : Fed) → Stops fed → Stops (with_item i fed)
+stops_with i (stop is e) h = tt
+stops_with i (go is s) h = h
+
+none_opens : (x : State) → choice_at x kind.YAML_NO_TOKEN ≡ Open → ⊥
+none_opens x h = unlike (opens_node x kind.YAML_NO_TOKEN h)
+  where
+    unlike : false ≡ true → ⊥
+    unlike e = cc
+
+stops_turn : (c : Choice) (x : State) (s : List State) (fed : Fed) → choice_at x kind.YAML_NO_TOKEN ≡ c → (choice_at x kind.YAML_NO_TOKEN ≡ Leave → Stops fed) → Stops (turn c x no_token s fed)
+stops_turn (Refuse p o) x s fed e h = tt
+stops_turn Take x s fed e h = absurd (takes_a_token x e)
+stops_turn Leave x s fed e h = stops_with (left_at x no_token.start_mark) fed (h e)
+stops_turn Open x s fed e h = absurd (none_opens x e)
+
+pub stops_at_none : (s : List State) → Solid s → Stops (feed s no_token)
+unfolding feed
+stops_at_none [] h = absurd h
+stops_at_none (x ∷ s) h = stops_turn (choice_at x kind.YAML_NO_TOKEN) x s (feed s no_token) refl (λ e. stops_at_none s (solid_left x kind.YAML_NO_TOKEN (Solid s) e h))
+
+-- ---- reading what a step gives
+
+-- how many tokens are not asked for at the fault
+abbrev pub number_of : Done → ℕ → (Directives → ℕ) → ℕ
+number_of (bad e) left k = left
+number_of (fine ds) left k = k ds
+
+one_number : (c : Settled) (left : ℕ) (k : Directives → ℕ) (l : Directives → Done) (m : Directives → ℕ) → ((ds : Directives) → k ds ≡ number_of (l ds) left m)
+    → resolve.unasked_on c left k ≡ number_of (then_read c l) left m
+one_number (refused e) left k l m h = refl
+one_number (gave b ds) left k l m h = h ds
+one_number (noted ds) left k l m h = h ds
+
+pub front_number : (is : List RawEvent) (left : ℕ) (gs : List Given) (n : ℕ) (ds : Directives)
+    → unasked_at_fault (map (λ (i : RawEvent). (i, left)) is ++ gs) n ds ≡ number_of (read_all is ds) left (λ d. unasked_at_fault gs n d)
+unfolding unasked_at_fault
+front_number [] left gs n ds = refl
+front_number (i ∷ is) left gs n ds =
+    one_number (settle i ds) left (λ d. unasked_at_fault (map (λ (i : RawEvent). (i, left)) is ++ gs) n d) (λ d. read_all is d) (λ d. unasked_at_fault gs n d) (λ d. front_number is left gs n d)
+
+one_last : (c : Settled) (left : ℕ) (k : Directives → ℕ) → ((ds : Directives) → k ds ≡ left) → resolve.unasked_on c left k ≡ left
+one_last (refused e) left k h = refl
+one_last (gave b ds) left k h = h ds
+one_last (noted ds) left k h = h ds
+
+pub last_number : (is : List RawEvent) (left : ℕ) (ds : Directives) → unasked_at_fault (map (λ (i : RawEvent). (i, left)) is) left ds ≡ left
+unfolding unasked_at_fault
+last_number [] left ds = refl
+last_number (i ∷ is) left ds = one_last (settle i ds) left (λ d. unasked_at_fault (map (λ (i : RawEvent). (i, left)) is) left d) (λ d. last_number is left d)
+
+abbrev pub ending_of : Done → (Directives → Option Fault) → Option Fault
+ending_of (bad e) k = Some e
+ending_of (fine ds) k = k ds
+
+one_read : (c : Settled) (i : RawEvent) (left : ℕ) (k : Directives → Reading) (l : Directives → Done) (m : Directives → Option Fault) → ((ds : Directives) → (k ds).ending ≡ ending_of (l ds) m)
+    → (resolve.read_on c i left k).ending ≡ ending_of (then_read c l) m
+one_read (refused e) i left k l m h = refl
+one_read (gave b ds) i left k l m h = h ds
+one_read (noted ds) i left k l m h = h ds
+
+pub front_read : (is : List RawEvent) (left : ℕ) (gs : List Given) (f : Option Fault) (ds : Directives)
+    → (reading (map (λ (i : RawEvent). (i, left)) is ++ gs) f ds).ending ≡ ending_of (read_all is ds) (λ d. (reading gs f d).ending)
+unfolding reading
+front_read [] left gs f ds = refl
+front_read (i ∷ is) left gs f ds =
+    one_read (settle i ds) i left (λ d. reading (map (λ (i : RawEvent). (i, left)) is ++ gs) f d) (λ d. read_all is d) (λ d. (reading gs f d).ending) (λ d. front_read is left gs f d)
+
+pub last_read : (is : List RawEvent) (left : ℕ) (f : Option Fault) (ds : Directives) → (reading (map (λ (i : RawEvent). (i, left)) is) f ds).ending ≡ ending_of (read_all is ds) (λ d. f)
+unfolding reading
+last_read [] left f ds = refl
+last_read (i ∷ is) left f ds = one_read (settle i ds) i left (λ d. reading (map (λ (i : RawEvent). (i, left)) is) f d) (λ d. read_all is d) (λ d. f) (λ d. last_read is left f d)

@@ -1,0 +1,221 @@
+-- An event that is expected is one that the emitter's grammar takes, normalized or not.
+use Rattle.std.proofs.Common.{◌≡◌, inl, inr, ℕ, Bool, true, false, not, ◌||◌, List, [], ◌∷◌, Option, Some, None, refl, sym, ap, subst, ◌∙◌}
+use Rattle.yaml_emit_laws_dumps.specs.parse_model.declared.yaml_scalar_style_t.{yaml_scalar_style_t}
+use Rattle.yaml_emit_laws_dumps.specs.parse_model.Events.{EventBody}
+use Rattle.yaml_emit_laws_dumps.specs.parse_model.Events as event
+use Rattle.yaml_emit_laws_dumps.specs.emit_layout.declared.Problem.{Problem}
+use Rattle.yaml_emit_laws_dumps.specs.emit_layout.declared.Expected.{Expected}
+use Rattle.yaml_emit_laws_dumps.specs.emit_layout.declared.Expected.TheVariants as at
+use Rattle.yaml_emit_laws_dumps.specs.emit_layout.Content.{Event, emitter_event}
+use Rattle.yaml_emit_laws_dumps.specs.emit_layout.Grammar.{or_else, anchor_problem, tag_problem, kept_if, event_problem, last_problem, begins_node, node_problem, place_problem, problem_by}
+use Rattle.yaml_emit_laws_dumps.specs.emit_layout.Progress.{Due, item_due, key_due, value_due, Progress, inside, behind_node, outer_due, level_due, progress_after, problem_in}
+use Rattle.yaml_round_content.specs.Normalized.{IsNormalized, IsNormalizing}
+use Rattle.yaml_round_content.proofs.Stacks.{between, Expects, moved_by}
+
+-- ---- without the flags of the place between documents
+
+abbrev pub plain_place : Expected → Expected
+plain_place at.StreamStart = at.StreamStart
+plain_place (at.Documents first unended) = between
+plain_place at.Node = at.Node
+plain_place at.DocumentEnd = at.DocumentEnd
+plain_place at.End = at.End
+plain_place (at.Refused p) = at.Refused p
+
+abbrev pub plain : Progress → Progress
+plain h = record { place = plain_place h.place; due = h.due }
+
+plain_inside : (ds : List Due) → plain (inside ds) ≡ inside ds
+plain_inside [] = refl
+plain_inside (d ∷ ds) = refl
+
+-- elsewhere it is the place itself
+pub plain_same : (p q : Expected) → (between ≡ q → ⊥) → plain_place p ≡ q → p ≡ q
+plain_same at.StreamStart q n e = e
+plain_same (at.Documents first unended) q n e = absurd (n e)
+plain_same at.Node q n e = e
+plain_same at.DocumentEnd q n e = e
+plain_same at.End q n e = e
+plain_same (at.Refused p) q n e = e
+
+not_start : between ≡ at.StreamStart → ⊥
+not_start e = cc
+
+not_node : between ≡ at.Node → ⊥
+not_node e = cc
+
+not_document_end : between ≡ at.DocumentEnd → ⊥
+not_document_end e = cc
+
+pub not_end : between ≡ at.End → ⊥
+not_end e = cc
+
+-- ---- in its place
+
+abbrev pub IsTaken : Expected → List Due → Event → Type 0
+IsTaken p ds e = place_problem p (level_due ds) e ≡ None
+
+node_there : (ds : List Due) (e : Event) → begins_node e ≡ true → node_problem (level_due ds) e ≡ None
+node_there [] e k = rw k refl
+node_there (d ∷ ds) e k = rw k refl
+
+items_end : (ds : List Due) → ds ≡ item_due ∷ outer_due ds → node_problem (level_due ds) (emitter_event event.sequence_end) ≡ None
+items_end [] e = absurd (cc)
+items_end (item_due ∷ ds) e = refl
+items_end (key_due ∷ ds) e = absurd (cc)
+items_end (value_due ∷ ds) e = absurd (cc)
+
+pairs_end : (ds : List Due) → ds ≡ key_due ∷ outer_due ds → node_problem (level_due ds) (emitter_event event.mapping_end) ≡ None
+pairs_end [] e = absurd (cc)
+pairs_end (item_due ∷ ds) e = absurd (cc)
+pairs_end (key_due ∷ ds) e = refl
+pairs_end (value_due ∷ ds) e = absurd (cc)
+
+at_the_place : (p q : Expected) (ds : List Due) (e : Event) → p ≡ q → IsTaken q ds e → IsTaken p ds e
+at_the_place p q ds e h k = subst (λ (z : Expected). IsTaken z ds e) (sym h) k
+
+-- the end of the stream, and the start of a document
+stream_ends : (p : Expected) (ds : List Due) → plain_place p ≡ between → IsTaken p ds (emitter_event event.stream_end)
+unfolding place_problem
+stream_ends (at.Documents first unended) ds h = refl
+stream_ends at.StreamStart ds h = absurd (cc)
+stream_ends at.Node ds h = absurd (cc)
+stream_ends at.DocumentEnd ds h = absurd (cc)
+stream_ends at.End ds h = absurd (cc)
+stream_ends (at.Refused p) ds h = absurd (cc)
+
+document_starts : (p : Expected) (ds : List Due) (version : _) (directives : _) (implicit : Bool) → plain_place p ≡ between → IsTaken p ds (emitter_event (event.document_start version directives implicit))
+unfolding place_problem
+document_starts (at.Documents first unended) ds v d i h = refl
+document_starts at.StreamStart ds v d i h = absurd (cc)
+document_starts at.Node ds v d i h = absurd (cc)
+document_starts at.DocumentEnd ds v d i h = absurd (cc)
+document_starts at.End ds v d i h = absurd (cc)
+document_starts (at.Refused p) ds v d i h = absurd (cc)
+
+node_comes : (p : Expected) (ds : List Due) (e : Event) → begins_node e ≡ true → plain_place p ≡ at.Node → IsTaken p ds e
+unfolding place_problem
+node_comes p ds e k h = at_the_place p at.Node ds e (plain_same p at.Node not_node h) (node_there ds e k)
+
+taken_there : (p : Expected) (ds : List Due) (b : EventBody) → Expects (record { place = plain_place p; due = ds }) b → IsTaken p ds (emitter_event b)
+unfolding place_problem
+taken_there p ds event.no h = absurd h
+taken_there p ds (event.stream_start x) h = at_the_place p at.StreamStart ds (emitter_event (event.stream_start x)) (plain_same p at.StreamStart not_start h) refl
+taken_there p ds event.stream_end h = stream_ends p ds h
+taken_there p ds (event.document_start v d i) h = document_starts p ds v d i h
+taken_there p ds (event.document_end i) h = at_the_place p at.DocumentEnd ds (emitter_event (event.document_end i)) (plain_same p at.DocumentEnd not_document_end h) refl
+taken_there p ds (event.alias n) h = node_comes p ds (emitter_event (event.alias n)) refl h
+taken_there p ds (event.scalar a t v x y z) h = node_comes p ds (emitter_event (event.scalar a t v x y z)) refl h
+taken_there p ds (event.sequence_start a t i x) h = node_comes p ds (emitter_event (event.sequence_start a t i x)) refl h
+taken_there p ds (event.mapping_start a t i x) h = node_comes p ds (emitter_event (event.mapping_start a t i x)) refl h
+taken_there p ds event.sequence_end h = at_the_place p at.Node ds (emitter_event event.sequence_end) (plain_same p at.Node not_node h.0) (items_end ds h.1)
+taken_there p ds event.mapping_end h = at_the_place p at.Node ds (emitter_event event.mapping_end) (plain_same p at.Node not_node h.0) (pairs_end ds h.1)
+
+moved_there : (h : Progress) (b : EventBody) → Expects (plain h) b → plain (progress_after h (emitter_event b)) ≡ moved_by (plain h) b
+unfolding progress_after
+moved_there h event.no e = absurd e
+moved_there h (event.stream_start x) e = refl
+moved_there h event.stream_end e = refl
+moved_there h (event.document_start v d i) e = refl
+moved_there h (event.document_end i) e = refl
+moved_there h (event.alias n) e = plain_inside (behind_node h.due)
+moved_there h (event.scalar a t v x y z) e = plain_inside (behind_node h.due)
+moved_there h (event.sequence_start a t i x) e = refl
+moved_there h (event.mapping_start a t i x) e = refl
+moved_there h event.sequence_end e = plain_inside (outer_due h.due)
+moved_there h event.mapping_end e = plain_inside (outer_due h.due)
+
+-- ---- normalized
+
+normalized_expected : (b c : EventBody) (h : Progress) → IsNormalized b c → Expects h b → Expects h c
+normalized_expected (event.document_end i) c h e x = subst (Expects h) (sym e.1) x
+normalized_expected (event.scalar a t v p q z) c h (inl e) x = subst (Expects h) (sym e) x
+normalized_expected (event.scalar a t v p q z) c h (inr e) x = subst (Expects h) (sym e) x
+normalized_expected event.no c h e x = subst (Expects h) (sym e) x
+normalized_expected (event.stream_start y) c h e x = subst (Expects h) (sym e) x
+normalized_expected event.stream_end c h e x = subst (Expects h) (sym e) x
+normalized_expected (event.document_start v d i) c h e x = subst (Expects h) (sym e) x
+normalized_expected (event.alias n) c h e x = subst (Expects h) (sym e) x
+normalized_expected (event.sequence_start a t i y) c h e x = subst (Expects h) (sym e) x
+normalized_expected (event.mapping_start a t i y) c h e x = subst (Expects h) (sym e) x
+normalized_expected event.sequence_end c h e x = subst (Expects h) (sym e) x
+normalized_expected event.mapping_end c h e x = subst (Expects h) (sym e) x
+
+normalized_moved : (b c : EventBody) (h : Progress) → IsNormalized b c → moved_by h c ≡ moved_by h b
+normalized_moved (event.document_end i) c h e = ap (moved_by h) e.1
+normalized_moved (event.scalar a t v p q z) c h (inl e) = ap (moved_by h) e
+normalized_moved (event.scalar a t v p q z) c h (inr e) = ap (moved_by h) e
+normalized_moved event.no c h e = ap (moved_by h) e
+normalized_moved (event.stream_start y) c h e = ap (moved_by h) e
+normalized_moved event.stream_end c h e = ap (moved_by h) e
+normalized_moved (event.document_start v d i) c h e = ap (moved_by h) e
+normalized_moved (event.alias n) c h e = ap (moved_by h) e
+normalized_moved (event.sequence_start a t i y) c h e = ap (moved_by h) e
+normalized_moved (event.mapping_start a t i y) c h e = ap (moved_by h) e
+normalized_moved event.sequence_end c h e = ap (moved_by h) e
+normalized_moved event.mapping_end c h e = ap (moved_by h) e
+
+pub normalized_taken : (b c : EventBody) (h : Progress) → IsNormalized b c → Expects (plain h) b → IsTaken h.place h.due (emitter_event c)
+normalized_taken b c h e x = taken_there h.place h.due c (normalized_expected b c (plain h) e x)
+
+pub normalized_leads : (b c : EventBody) (h : Progress) → IsNormalized b c → Expects (plain h) b → plain (progress_after h (emitter_event c)) ≡ moved_by (plain h) b
+normalized_leads b c h e x = moved_there h c (normalized_expected b c (plain h) e x) ∙ normalized_moved b c (plain h) e
+
+-- ---- what is wrong with it wherever it stands
+
+pub or_both : (p q : Option Problem) → or_else p q ≡ None → (p ≡ None) × (q ≡ None)
+or_both None q e = (refl, e)
+or_both (Some x) q e = absurd (cc)
+
+pub or_none : (p q : Option Problem) → p ≡ None → q ≡ None → or_else p q ≡ None
+or_none None q e k = k
+or_none (Some x) q e k = absurd (cc)
+
+-- nothing is
+abbrev pub IsOwn : Bool → EventBody → Type 0
+IsOwn canonical b = (event_problem canonical (emitter_event b) ≡ None) × (last_problem (emitter_event b) ≡ None)
+
+untagged : (kept : Bool) → tag_problem (kept_if kept None) ≡ None
+untagged true = refl
+untagged false = refl
+
+-- a scalar that gives up its tag
+bare_own : (canonical : Bool) (anchor tag : Option (List ℕ)) (value : List ℕ) (plain quoted : Bool) (style : yaml_scalar_style_t) → IsOwn canonical (event.scalar anchor tag value plain quoted style)
+    → IsOwn canonical (event.scalar anchor None value true false style)
+unfolding event_problem last_problem
+bare_own canonical anchor tag value plain quoted style h = (or_none (anchor_problem anchor) _ (or_both (anchor_problem anchor) _ h.0).0 (untagged (canonical || not true)), refl)
+
+pub normalized_own : (canonical : Bool) (b c : EventBody) → IsNormalized b c → IsOwn canonical b → IsOwn canonical c
+unfolding event_problem last_problem
+normalized_own canonical (event.document_end i) c e h = subst (IsOwn canonical) (sym e.1) (refl, refl)
+normalized_own canonical (event.scalar a t v p q z) c (inl e) h = subst (IsOwn canonical) (sym e) h
+normalized_own canonical (event.scalar a t v p q z) c (inr e) h = subst (IsOwn canonical) (sym e) (bare_own canonical a t v p q z h)
+normalized_own canonical event.no c e h = subst (IsOwn canonical) (sym e) h
+normalized_own canonical (event.stream_start y) c e h = subst (IsOwn canonical) (sym e) h
+normalized_own canonical event.stream_end c e h = subst (IsOwn canonical) (sym e) h
+normalized_own canonical (event.document_start v d i) c e h = subst (IsOwn canonical) (sym e) h
+normalized_own canonical (event.alias n) c e h = subst (IsOwn canonical) (sym e) h
+normalized_own canonical (event.sequence_start a t i y) c e h = subst (IsOwn canonical) (sym e) h
+normalized_own canonical (event.mapping_start a t i y) c e h = subst (IsOwn canonical) (sym e) h
+normalized_own canonical event.sequence_end c e h = subst (IsOwn canonical) (sym e) h
+normalized_own canonical event.mapping_end c e h = subst (IsOwn canonical) (sym e) h
+
+pub no_problem : (canonical : Bool) (h : Progress) (b : EventBody) → IsTaken h.place h.due (emitter_event b) → IsOwn canonical b → problem_in canonical h (emitter_event b) ≡ None
+unfolding problem_by
+no_problem canonical h b t o =
+    or_none (event_problem canonical (emitter_event b)) _ o.0 (or_none (place_problem h.place (level_due h.due) (emitter_event b)) (last_problem (emitter_event b)) t o.1)
+
+-- ---- nothing changed
+
+pub unchanged : IsNormalizing (λ (b : EventBody). b)
+unchanged (event.document_end i) = (i, refl)
+unchanged (event.scalar a t v p q z) = inl refl
+unchanged event.no = refl
+unchanged (event.stream_start y) = refl
+unchanged event.stream_end = refl
+unchanged (event.document_start v d i) = refl
+unchanged (event.alias n) = refl
+unchanged (event.sequence_start a t i y) = refl
+unchanged (event.mapping_start a t i y) = refl
+unchanged event.sequence_end = refl
+unchanged event.mapping_end = refl

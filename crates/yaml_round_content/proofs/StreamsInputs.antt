@@ -1,0 +1,63 @@
+-- The events of an input.
+use Rattle.std.proofs.Common.{◌≡◌, ℕ, Bool, true, List, [], ◌∷◌, Option, None, inl, inr}
+use Rattle.std.proofs.lemmas.Bool.{cases_Bool}
+use Rattle.yaml_emit_laws_dumps.specs.parse_model.declared.yaml_encoding_t.{yaml_encoding_t}
+use Rattle.yaml_emit_laws_dumps.specs.parse_model.Tokens.{Token}
+use Rattle.yaml_emit_laws_dumps.specs.parse_model.Faults.{Fault}
+use Rattle.yaml_scan_laws_texts.specs.scan_history.Scanned.{scanned}
+use Rattle.yaml_scan_laws_texts.specs.Spelled.{AreSpelled}
+use Rattle.yaml_scan_laws_texts.proofs.Inputs.{scanned_spelled}
+use Rattle.yaml_emit_laws_dumps.specs.parse_model.Events.{EventBody}
+use Rattle.yaml_emit_laws_dumps.specs.parse_grammar.Resolve.{Told}
+use Rattle.yaml_emit_laws_dumps.specs.emit_layout.Content.{emitter_event}
+use Rattle.yaml_emit_laws_dumps.specs.emit_layout.Grammar.{own_problem, own_problems}
+use Rattle.yaml_emit_laws_dumps.specs.emit_layout.Progress.{first_progress}
+use Rattle.yaml_emit_laws_dumps.specs.StreamsLaws.{AreRightTold}
+use Rattle.yaml_emit_laws_dumps.proofs.Passing.{streams, fronts, own_right}
+use Rattle.yaml_emit_laws_dumps.proofs.Loading.{taken}
+use Rattle.yaml_round_laws_adapted.specs.Adapted.{spells_text, cut, adapted}
+use Rattle.yaml_round_content.specs.Normalized.{IsNormalizing}
+use Rattle.yaml_round_content.specs.StreamsLaws.{emitter_events_by, IsRightReading, parsed_input, InputsAreStreams, InputsAreFronts, InputsLoadRight}
+use Rattle.yaml_round_content.proofs.Emitted.{or_both, unchanged}
+use Rattle.yaml_round_content.proofs.Whole.{parsed_is_right}
+
+-- ---- its tokens
+
+cut_spelled : (fault : Option Fault) (ts : List Token) → AreSpelled ts → AreSpelled (cut fault ts).tokens
+cut_spelled fault [] h = tt
+cut_spelled fault (t ∷ ts) h =
+    elim (cases_Bool (spells_text t.body)) [
+      | inl e ↦ rw e (h.0, cut_spelled fault ts h.1)
+      | inr e ↦ rw e tt
+    ]
+
+adapted_spelled : (from : yaml_encoding_t) (input : List ℕ) → AreSpelled (adapted (scanned from input)).tokens
+adapted_spelled from input = cut_spelled (scanned from input).fault (scanned from input).tokens (scanned_spelled from input)
+
+-- ---- its events
+
+input_right : (normalize : EventBody → EventBody) → IsNormalizing normalize → (from : yaml_encoding_t) (input : List ℕ) (canonical : Bool)
+    → IsRightReading canonical (emitter_events_by normalize (parsed_input from input).events) (parsed_input from input).ending
+input_right normalize e from input canonical = parsed_is_right normalize e (adapted (scanned from input)).tokens (adapted_spelled from input) (adapted (scanned from input)).fault canonical
+
+pub inputs_are_streams : InputsAreStreams
+inputs_are_streams normalize e from input canonical n =
+    let r = input_right normalize e from input canonical in
+    streams canonical (emitter_events_by normalize (parsed_input from input).events) r.passes (r.ends n)
+
+pub inputs_are_fronts : InputsAreFronts
+inputs_are_fronts normalize e from input canonical = fronts canonical (emitter_events_by normalize (parsed_input from input).events) (input_right normalize e from input canonical).passes
+
+-- ---- as a loader takes them
+
+told_right : (ts : List Told) → own_problems true (emitter_events_by (λ (b : EventBody). b) ts) ≡ None → AreRightTold ts
+unfolding own_problems
+told_right [] h = tt
+told_right (t ∷ ts) h =
+    let both = or_both (own_problem true (emitter_event t.0.body)) (own_problems true (emitter_events_by (λ (b : EventBody). b) ts)) h in
+    (taken t.0.body both.0, told_right ts both.1)
+
+pub inputs_load_right : InputsLoadRight
+inputs_load_right from input =
+    told_right (parsed_input from input).events
+    (own_right true first_progress (emitter_events_by (λ (b : EventBody). b) (parsed_input from input).events) (input_right (λ (b : EventBody). b) unchanged from input true).passes)

@@ -1,8 +1,0 @@
-pub mod MadeLemmas
-pub mod FreeLemmas
-pub mod StepLemmas
-pub mod TextLemmas
-mod Marking
-pub mod Held
-mod Asked
-pub mod Words

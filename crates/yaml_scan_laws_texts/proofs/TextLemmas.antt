@@ -1,0 +1,162 @@
+-- Texts of key-free words.
+use Rattle.std.proofs.Common.{◌≡◌, ◌≢◌, ℕ, suc, ◌&&◌, not, nat_lt, if◌then◌else◌, Bool, true, false, List, [], ◌∷◌, ◌++◌, length, map, reverse, Option, Some, None, Result, Ok, refl, sym, ap, subst, ◌∙◌, inl, inr}
+use Rattle.std.proofs.lemmas.Bool.{cases_Bool}
+use Rattle.std.proofs.lemmas.List.{reverse-append}
+use Rattle.std.specs.List.{list_all}
+use Rattle.yaml_scan_laws_order.specs.scan_model.declared.record.yaml_mark_t.{yaml_mark_t}
+use Rattle.yaml_scan_laws_order.specs.scan_model.Tokens.{Token, TokenBody}
+use Rattle.yaml_scan_laws_order.specs.scan_model.Marks.{mark_at}
+use Rattle.yaml_scan_laws_order.specs.scan_model.Wrong.{Wrong}
+use Rattle.yaml_scan_laws_order.specs.scan_history.declared.kind.Kind.{Kind}
+use Rattle.yaml_scan_laws_order.specs.scan_history.declared.kind.Kind.TheVariants as kinds
+use Rattle.yaml_scan_laws_order.specs.scan_history.declared.lexeme.Lexeme.{Lexeme}
+use Rattle.yaml_scan_laws_order.specs.scan_history.Kinds.{is_end}
+use Rattle.yaml_scan_laws_order.specs.scan_history.History.{depth, ended, placed}
+use Rattle.yaml_scan_laws_order.specs.scan_history.Words.{WordText, kind_at, word_at}
+use Rattle.yaml_scan_laws_order.specs.scan_history.Next.{Next, Read, Ends, kind_behind, coming, next, extended, history}
+use Rattle.yaml_scan_laws_order.specs.scan_history.Remaining.{SpelledText, body_of_word, body_by, token_in, all, Remaining, offline}
+use Rattle.yaml_scan_laws_order.proofs.HistoryForward.{last_is_all}
+use Rattle.yaml_scan_laws_order.proofs.WordForward.{FitsAny, kind_fits}
+use Rattle.yaml_scan_laws_texts.specs.KeyFree.{asked_after, asked, fits, is_key_free, keeps_level, is_level_free, kinds_of}
+use Rattle.yaml_scan_laws_texts.specs.KeysLaws.{gap_in, end_in, lexeme_of}
+use Rattle.yaml_scan_laws_texts.specs.KeysTexts.{Word, lexemes, StandsBehind, Stand, word_kinds, token_of, first_token, ReachEnd}
+use Rattle.yaml_scan_laws_texts.proofs.MadeLemmas.{AllMade, history_made}
+use Rattle.yaml_scan_laws_texts.proofs.FreeLemmas.{and_left, and_right, level_free, level_rest}
+use Rattle.yaml_scan_laws_texts.proofs.StepLemmas.{remaining_bare, step_reads}
+
+-- the stream's start changes nothing
+
+asked_first : (text : List ℕ) (ws : List Word) → asked (kinds_of (lexemes text ws)) ≡ asked (word_kinds ws)
+unfolding asked lexemes
+asked_first text [] = refl
+asked_first text (w ∷ ws) = ap (λ (qs : List Bool). asked_after w.kind qs) (asked_first text ws)
+
+free_first : (text : List ℕ) (ws : List Word) → is_key_free (kinds_of (lexemes text ws)) ≡ is_key_free (word_kinds ws)
+unfolding is_key_free lexemes
+free_first text [] = refl
+free_first text (w ∷ ws) = ap (λ (qs : List Bool). fits w.kind qs && is_key_free (kinds_of (lexemes text ws))) (asked_first text ws) ∙ ap (λ (b : Bool). fits w.kind (asked (word_kinds ws)) && b) (free_first text ws)
+
+level_first : (text : List ℕ) (ws : List Word) → is_level_free (kinds_of (lexemes text ws)) ≡ is_level_free (word_kinds ws)
+unfolding is_level_free lexemes
+level_first text [] = refl
+level_first text (w ∷ ws) =
+    ap (λ (qs : List Bool). keeps_level w.kind qs && is_level_free (kinds_of (lexemes text ws))) (asked_first text ws) ∙ ap (λ (b : Bool). keeps_level w.kind (asked (word_kinds ws)) && b) (level_first text ws)
+
+level_with : (text : List ℕ) (w : Word) (ws : List Word) → is_level_free (w.kind ∷ word_kinds ws) ≡ true → is_level_free (w.kind ∷ kinds_of (lexemes text ws)) ≡ true
+unfolding lexemes
+level_with text w ws free = level_first text (w ∷ ws) ∙ free
+
+not_true : (a : Bool) → not a ≡ true → a ≡ false
+not_true false e = refl
+not_true true e = absurd (cc)
+
+-- none of the words ends the stream
+abbrev GoOn : List Word → Type 0
+GoOn ws = list_all (λ (x : Word). not (is_end x.kind)) ws ≡ true
+
+goes_on : (text : List ℕ) (ws : List Word) → GoOn ws → ended (lexemes text ws) ≡ false
+unfolding lexemes
+goes_on text [] g = refl
+goes_on text (w ∷ ws) g = not_true (is_end w.kind) (and_left (not (is_end w.kind)) (list_all (λ (x : Word). not (is_end x.kind)) ws) g)
+
+goes_behind : (w : Word) (ws : List Word) → GoOn (w ∷ ws) → GoOn ws
+goes_behind w ws g = and_right (not (is_end w.kind)) (list_all (λ (x : Word). not (is_end x.kind)) ws) g
+
+-- as many steps as there are words, and the first, read them
+words_history : (text : List ℕ) (w : Word) (ws : List Word) → Stand text (w ∷ ws) → is_level_free (w.kind ∷ word_kinds ws) ≡ true → GoOn ws
+    → history text (suc (length ws)) ≡ lexemes text ws → history text (suc (suc (length ws))) ≡ lexemes text (w ∷ ws)
+unfolding history lexemes Stand
+words_history text w ws (stands, more) free on before =
+    let h = lexemes text ws in
+    let P : List Lexeme → Type 0 = λ x. AllMade x in
+    let Q : List Lexeme → Type 0 = λ x. (k : Kind) (t : WordText) → AllMade x → is_level_free (k ∷ kinds_of x) ≡ true → ended x ≡ false
+    → kind_at (nat_lt 0 (depth x)) text (gap_in text x).place ≡ Some k → word_at k (nat_lt 0 (depth x)) 0 text (gap_in text x).place ≡ Ok t
+    → next text x ≡ Read (lexeme_of text x (gap_in text x) k t) in
+    let made = subst P before (history_made text (suc (length ws))) in
+    let reads = subst Q before (step_reads text (length ws)) in
+    let kind = ap (λ p. kind_at (nat_lt 0 (depth h)) text p) stands.place ∙ stands.kind in
+    let said = ap (λ p. word_at w.kind (nat_lt 0 (depth h)) 0 text p) stands.place ∙ stands.said in
+    ap (λ (x : List Lexeme). extended (next text x) x) before
+    ∙ ap (λ (x : Next). extended x h) (reads w.kind w.said made (level_with text w ws free) (goes_on text ws on) kind said)
+
+read_so_far : (text : List ℕ) (ws : List Word) → Stand text ws → is_level_free (word_kinds ws) ≡ true → GoOn ws → history text (suc (length ws)) ≡ lexemes text ws
+unfolding history next lexemes Stand
+read_so_far text [] stand free on = refl
+read_so_far text (w ∷ ws) (stands, more) free on =
+    let rest = goes_behind w ws on in
+    words_history text w ws (stands, more) free rest (read_so_far text ws more (level_rest w.kind (word_kinds ws) free) rest)
+
+-- nothing comes behind the end
+ends_behind : (text : List ℕ) (h : List Lexeme) → ended h ≡ true → next text h ≡ Ends
+unfolding next
+ends_behind text [] e = absurd (cc)
+ends_behind text (l ∷ h) e = ap (λ (b : Bool). if b then Ends else coming (kind_behind text (l ∷ h)) text (l ∷ h)) e
+
+no_read : (x : Next) (l : Lexeme) → x ≡ Ends → x ≢ Read l
+no_read x l e f = cc
+
+-- tokens
+
+not_start : (o : Option Kind) (text : List ℕ) (p : ℕ) (k : Kind) → FitsAny o text p → o ≡ Some k → FitsAny (Some k) text p
+not_start o text p k f e = let P : Option Kind → Type 0 = λ x. FitsAny x text p in subst P e f
+
+placed_index : (k : Kind) (m : yaml_mark_t) → (placed k m).index ≡ m.index
+placed_index k m =
+    elim (cases_Bool (is_end k && nat_lt 0 m.column)) [
+      | inl e ↦ rw e refl
+      | inr e ↦ rw e refl
+    ]
+
+body_is : (k : Kind) (s : SpelledText) (l : Lexeme) (p : ℕ) (w : WordText) → FitsAny (Some k) s.text p → l.level ≡ 0 → l.start.index ≡ p → word_at k (nat_lt 0 l.depth) 0 s.text p ≡ Ok w
+    → body_by k s l ≡ w.body
+body_is kinds.StreamStart s l p w f level at said = absurd f
+body_is k s l p w f level at said =
+    ap (λ n. body_of_word (word_at k (nat_lt 0 l.depth) n s.text l.start.index)) level ∙ ap (λ n. body_of_word (word_at k (nat_lt 0 l.depth) 0 s.text n)) at
+    ∙ ap (λ (r : Result WordText Wrong). body_of_word r) said
+
+pub token_is : (s : SpelledText) (w : Word) (h : List Lexeme) → StandsBehind s.text h w → token_in s (lexeme_of s.text h (gap_in s.text h) w.kind w.said) ≡ token_of s.text w
+token_is s w h stands =
+    let gap = gap_in s.text h in
+    let l = lexeme_of s.text h gap w.kind w.said in
+    let fit = not_start (kind_at (nat_lt 0 (depth h)) s.text w.place) s.text w.place w.kind (kind_fits (nat_lt 0 (depth h)) s.text w.place) stands.kind in
+    let body = body_is w.kind s l w.place w.said fit refl (placed_index w.kind (mark_at s.text gap.place) ∙ stands.place) stands.said in
+    ap (λ (b : TokenBody). record { body = b; start_mark = l.start; end_mark = l.end }) body
+    ∙ ap (λ (p : ℕ). record { body = w.said.body; start_mark = placed w.kind (mark_at s.text p); end_mark = end_in s.text w.kind p w.said.end }) stands.place
+
+own_more : (s : SpelledText) (xs ys : List Lexeme) → map (token_in s) (xs ++ ys) ≡ map (token_in s) xs ++ map (token_in s) ys
+own_more s [] ys = refl
+own_more s (x ∷ xs) ys = rw (own_more s xs ys) refl
+
+of_more : (text : List ℕ) (xs ys : List Word) → map (token_of text) (xs ++ ys) ≡ map (token_of text) xs ++ map (token_of text) ys
+of_more text [] ys = refl
+of_more text (x ∷ xs) ys = rw (of_more text xs ys) refl
+
+tokens_are : (s : SpelledText) (ws : List Word) → Stand s.text ws → map (token_in s) (reverse (lexemes s.text ws)) ≡ first_token s ∷ map (token_of s.text) (reverse ws)
+unfolding lexemes Stand
+tokens_are s [] stand = refl
+tokens_are s (w ∷ ws) (stands, more) =
+    let h = lexemes s.text ws in
+    let l = lexeme_of s.text h (gap_in s.text h) w.kind w.said in
+    ap (λ (xs : List Lexeme). map (token_in s) xs) (reverse-append (l ∷ []) h) ∙ own_more s (reverse h) (l ∷ [])
+    ∙ ap (λ (ts : List Token). ts ++ token_in s l ∷ []) (tokens_are s ws more)
+    ∙ ap (λ (t : Token). (first_token s ∷ map (token_of s.text) (reverse ws)) ++ t ∷ []) (token_is s w h stands)
+    ∙ ap (λ (ts : List Token). first_token s ∷ ts) (sym (ap (λ (xs : List Word). map (token_of s.text) xs) (reverse-append (w ∷ []) ws) ∙ of_more s.text (reverse ws) (w ∷ [])))
+
+pub words_lexemes : (text : List ℕ) (ws : List Word) → Stand text ws → is_level_free (word_kinds ws) ≡ true → ReachEnd ws → (all text ≡ lexemes text ws) × (next text (all text) ≡ Ends)
+unfolding lexemes Stand
+words_lexemes text [] stand free end = absurd end
+words_lexemes text (w ∷ ws) (stands, more) free (end, on) =
+    let rest = level_rest w.kind (word_kinds ws) free in
+    let read = words_history text w ws (stands, more) free on (read_so_far text ws more rest on) in
+    let h = lexemes text (w ∷ ws) in
+    let ends : next text (history text (suc (suc (length ws)))) ≡ Ends = ap (λ (x : List Lexeme). next text x) read ∙ ends_behind text h end in
+    let whole : all text ≡ h = last_is_all text (suc (suc (length ws))) (λ l. no_read _ l ends) ∙ read in
+    (whole, ap (λ (x : List Lexeme). next text x) whole ∙ ends_behind text h end)
+
+pub words_read : (s : SpelledText) (ws : List Word) → Stand s.text ws → is_key_free (word_kinds ws) ≡ true → ReachEnd ws
+    → offline s ≡ record { tokens = first_token s ∷ map (token_of s.text) (reverse ws); fault = None }
+words_read s ws stand free end =
+    let (whole, ends) = words_lexemes s.text ws stand (level_free (word_kinds ws) free) end in
+    let free_all : is_key_free (kinds_of (all s.text)) ≡ true = ap (λ (x : List Lexeme). is_key_free (kinds_of x)) whole ∙ free_first s.text ws ∙ free in
+    let same = ap (λ (x : List Lexeme). map (token_in s) (reverse x)) whole ∙ tokens_are s ws stand in
+    remaining_bare s free_all ends 0 0 ∙ ap (λ (ts : List Token). let one : Remaining = record { tokens = ts; fault = None } in one) same

@@ -1,0 +1,380 @@
+-- What each lexeme carries is UTF-8, but for what escapes spell, and the text may be cut behind it.
+use Rattle.std.proofs.Common.{◌≡◌, ℕ, ◌+◌, ◌-◌, ◌<◌, ◌==◌, ◌&&◌, ◌||◌, not, nat_lt, if◌then◌else◌, Bool, true, false, List, length, slice_range, Option, Some, None, Result, Ok, Err, refl, true≢false, inl, inr, ◌⊎◌, arith, IsUtf8}
+use Rattle.std.proofs.lemmas.Bool.{cases_Bool}
+use Rattle.std.proofs.lemmas.Bool.Decides.{nat_tests}
+use Rattle.std.proofs.lemmas.Str.{IsUtf8-nil}
+use Rattle.yaml_scan_history.specs.scan_model.declared.problem.Context.{Context}
+use Rattle.yaml_scan_history.specs.scan_model.declared.problem.Context.TheVariants as contexts
+use Rattle.yaml_scan_history.specs.scan_model.declared.name.yaml_scalar_style_t.{yaml_scalar_style_t}
+use Rattle.yaml_scan_history.specs.scan_model.declared.name.yaml_scalar_style_t.TheVariants as styles
+use Rattle.yaml_scan_history.specs.scan_model.Tokens as tokens
+use Rattle.yaml_scan_history.specs.scan_model.Tokens.{TokenBody}
+use Rattle.yaml_scan_history.specs.scan_model.Marks.{byte, break_width, column_at, is_blank, is_blank_or_end}
+use Rattle.yaml_scan_history.specs.scan_model.Wrong.{Wrong}
+use Rattle.yaml_scan_history.proofs.scan_model.MarksLemmas.{within}
+use Rattle.yaml_scan_history.specs.scan_words.Indicators.{is_document_start, is_document_end}
+use Rattle.yaml_scan_history.specs.scan_words.Anchors.{is_name_end, may_end_name, name_between, anchor_at}
+use Rattle.yaml_scan_history.specs.scan_words.Uris.{some_uri_at, uri_at}
+use Rattle.yaml_scan_history.specs.scan_words.Tags.{TagText, bracketed, name_end, with_handle, bare, parts_at, may_end_tag, ended}
+use Rattle.yaml_scan_history.specs.scan_words.Directives.{ValueText, then_at, is_yaml, is_tag, name_between as directive_name_between, number_at, with_major, minor_at, handle_between, handle_at, prefix_at, with_prefix, named_value_at, value_at, break_end, line_end_at, with_line, finished}
+use Rattle.yaml_scan_history.specs.scan_scalars.Quoted.{single_quoted_at, double_quoted_at}
+use Rattle.yaml_scan_history.specs.scan_scalars.Plain.{PlainText, plain_at, starts_plain}
+use Rattle.yaml_scan_history.specs.scan_block.Block.{BlockText, block_at, style_at}
+use Rattle.yaml_scan_history.specs.declared.kind.Kind.{Kind}
+use Rattle.yaml_scan_history.specs.declared.kind.Kind.TheVariants as kinds
+use Rattle.yaml_scan_history.specs.Words.{indicator_of, or_plain, kind_at, WordText, carrying, valued, tagged, body_said, directed, blocked, plainly, word_at}
+use Rattle.yaml_scan_laws_texts.specs.Utf8Texts.{HasTexts}
+use Rattle.yaml_scan_laws_texts.proofs.Whole.{IsWhole, whole_ascii, whole_after, whole_before, whole_behind, blank_small, ascii_utf8, slice_utf8}
+use Rattle.yaml_scan_laws_texts.proofs.Quoted.{HasQuoted, quoted_utf8}
+use Rattle.yaml_scan_laws_texts.proofs.Plain.{HasPlain, plain_utf8}
+use Rattle.yaml_scan_laws_texts.proofs.Block.{HasBlock, block_utf8}
+
+less_of : (a b : ℕ) → nat_lt a b ≡ true → a < b
+less_of a b h = grind (arith, nat_tests)
+
+equal_of : (a b : ℕ) → (a == b) ≡ true → a ≡ b
+equal_of a b h = grind (arith, nat_tests)
+
+either_true : (a b : Bool) → (a || b) ≡ true → (a ≡ true) ⊎ (b ≡ true)
+either_true true b h = inl refl
+either_true false b h = inr h
+
+-- a blank, a break or the end
+pub end_whole : (text : List ℕ) (p : ℕ) → IsUtf8 text → is_blank_or_end text p ≡ true → IsWhole text p
+end_whole text p t h =
+    elim (either_true (is_blank (byte text p) || byte text p == 0) (nat_lt 0 (break_width text p)) h) [
+      | inl a ↦ elim (either_true (is_blank (byte text p)) (byte text p == 0) a) [
+        | inl b ↦ whole_ascii text p t (blank_small (byte text p) b)
+        | inr z ↦ let same = equal_of _ _ z in whole_ascii text p t (omega (arith, same))
+      ]
+      | inr b ↦ whole_before text p t (less_of _ _ b)
+    ]
+
+name_end_small : (b : ℕ) → is_name_end b ≡ true → b < 128
+name_end_small b h = grind (arith, nat_tests)
+
+name_whole : (text : List ℕ) (p : ℕ) → IsUtf8 text → may_end_name text p ≡ true → IsWhole text p
+unfolding may_end_name
+name_whole text p t h =
+    elim (either_true (is_blank_or_end text p) (is_name_end (byte text p)) h) [
+      | inl a ↦ end_whole text p t a
+      | inr b ↦ whole_ascii text p t (name_end_small (byte text p) b)
+    ]
+
+comma_small : (flow : Bool) (b : ℕ) → (flow && b == 44) ≡ true → b < 128
+comma_small flow b h = grind (arith, nat_tests)
+
+tag_end_whole : (flow : Bool) (text : List ℕ) (p : ℕ) → IsUtf8 text → may_end_tag flow text p ≡ true → IsWhole text p
+tag_end_whole flow text p t h =
+    elim (either_true (is_blank_or_end text p) (flow && byte text p == 44) h) [
+      | inl a ↦ end_whole text p t a
+      | inr b ↦ whole_ascii text p t (comma_small flow (byte text p) b)
+    ]
+
+-- what a lexeme carries, and the place behind it
+pub record IsWord (text : List ℕ) (w : WordText) : Type 0 where
+  pub texts : HasTexts w.body
+  pub place : IsWhole text w.reached
+
+abbrev pub HasWord : List ℕ → Result WordText Wrong → Type 0
+HasWord text (Ok w) = IsWord text w
+HasWord text (Err e) = Unit {0}
+
+-- a value in UTF-8, and a place where the text may be cut
+abbrev HasName : List ℕ → Result (List ℕ × ℕ) Wrong → Type 0
+HasName text (Ok x) = IsUtf8 x.0 × IsWhole text x.1
+HasName text (Err w) = Unit {0}
+
+not_false : (a : Bool) → not a ≡ false → a ≡ true
+not_false true h = refl
+not_false false h = absurd (true≢false h)
+
+second_false : (a b : Bool) → (a || b) ≡ false → b ≡ false
+second_false true b h = absurd (true≢false h)
+second_false false b h = h
+
+between_good : (context : Context) (text : List ℕ) (p q : ℕ) → IsUtf8 text → IsWhole text p → HasName text (name_between context text p q)
+between_good context text p q t w =
+    elim (cases_Bool (p == q || not (may_end_name text q))) [
+      | inl h ↦ rw h tt
+      | inr h ↦
+          let there = name_whole text q t (not_false (may_end_name text q) (second_false (p == q) (not (may_end_name text q)) h)) in
+          rw h (slice_utf8 text p q t w there, there)
+    ]
+
+alias_word : (text : List ℕ) (r : Result (List ℕ × ℕ) Wrong) → HasName text r → HasWord text (valued tokens.alias r)
+alias_word text (Ok x) (a, b) = record { texts = a; place = b }
+alias_word text (Err w) h = tt
+
+anchor_word : (text : List ℕ) (r : Result (List ℕ × ℕ) Wrong) → HasName text r → HasWord text (valued tokens.anchor r)
+anchor_word text (Ok x) (a, b) = record { texts = a; place = b }
+anchor_word text (Err w) h = tt
+
+quoted_word : (style : yaml_scalar_style_t) (text : List ℕ) (r : Result (List ℕ × ℕ) Wrong) → HasQuoted text r → HasWord text (valued (λ v. tokens.scalar v style) r)
+quoted_word style text (Ok x) h = record { texts = h.value; place = h.place }
+quoted_word style text (Err w) h = tt
+
+plain_word : (text : List ℕ) (r : Result PlainText Wrong) → HasPlain text r → HasWord text (plainly r)
+plain_word text (Ok x) h = record { texts = h.value; place = h.place }
+plain_word text (Err w) h = tt
+
+block_word : (style : yaml_scalar_style_t) (text : List ℕ) (r : Result BlockText Wrong) → HasBlock text r → HasWord text (blocked style r)
+block_word style text (Ok x) h = record { texts = h.value; place = h.place }
+block_word style text (Err w) h = tt
+
+indicator_word : (text : List ℕ) (body : TokenBody) (q : ℕ) → HasTexts body → IsWhole text q → HasWord text (carrying body q)
+indicator_word text body q a b = record { texts = a; place = b }
+
+-- Tags.
+
+abbrev HasHandle : Result TagText Wrong → Type 0
+HasHandle (Ok t) = IsUtf8 t.handle
+HasHandle (Err w) = Unit {0}
+
+bracketed_handle : (text : List ℕ) (r : Result (List ℕ × ℕ) Wrong) → HasHandle (bracketed text r)
+bracketed_handle text (Ok u) =
+    elim (cases_Bool (byte text u.1 == 62)) [
+      | inl e ↦ rw e IsUtf8-nil
+      | inr e ↦ rw e tt
+    ]
+bracketed_handle text (Err w) = tt
+
+with_handle_good : (handle : List ℕ) (r : Result (List ℕ × ℕ) Wrong) → IsUtf8 handle → HasHandle (with_handle handle r)
+with_handle_good handle (Ok u) h = h
+with_handle_good handle (Err w) h = tt
+
+bare_good : (r : Result (List ℕ × ℕ) Wrong) → HasHandle (bare r)
+bare_good (Ok u) =
+    elim (cases_Bool (length u.0 == 0)) [
+      | inl e ↦ rw e IsUtf8-nil
+      | inr e ↦ rw e (ascii_utf8 33 (omega arith))
+    ]
+bare_good (Err w) = tt
+
+parts_good : (text : List ℕ) (p : ℕ) → IsUtf8 text → IsWhole text p → HasHandle (parts_at text p)
+unfolding parts_at
+parts_good text p t w =
+    elim (cases_Bool (byte text (p + 1) == 60)) [
+      | inl h ↦ rw h (bracketed_handle text (some_uri_at contexts.TagUri true text (p + 2)))
+      | inr h ↦ elim (cases_Bool (byte text (name_end text p) == 33)) [
+        | inl i ↦
+            let same = equal_of _ _ i in
+            rw (h, i) (with_handle_good (slice_range text p (name_end text p + 1)) (some_uri_at contexts.TagUri false text (name_end text p + 1))
+            (slice_utf8 text p (name_end text p + 1) t w (whole_after text (name_end text p) t (omega (arith, same)))))
+        | inr i ↦ rw (h, i) (bare_good (uri_at contexts.TagUri false text (p + 1)))
+      ]
+    ]
+
+tag_word : (flow : Bool) (text : List ℕ) (r : Result TagText Wrong) → IsUtf8 text → HasHandle r → HasWord text (tagged (ended flow text r))
+tag_word flow text (Ok x) t h =
+    elim (cases_Bool (may_end_tag flow text x.end)) [
+      | inl e ↦ rw e record { texts = h; place = tag_end_whole flow text x.end t e }
+      | inr e ↦ rw e tt
+    ]
+tag_word flow text (Err w) t h = tt
+
+-- Directives.
+
+abbrev HasSaid : Result ValueText Wrong → Type 0
+HasSaid (Ok v) = HasTexts (body_said v.said)
+HasSaid (Err w) = Unit {0}
+
+abbrev HasText : Result (List ℕ × ℕ) Wrong → Type 0
+HasText (Ok x) = IsUtf8 x.0
+HasText (Err w) = Unit {0}
+
+then_good : {A : Type 0} (more : A → ℕ → Result ValueText Wrong) (r : Result (A × ℕ) Wrong) → ((x : A) (q : ℕ) → HasSaid (more x q)) → HasSaid (then_at more r)
+then_good more (Ok x) h = h x.0 x.1
+then_good more (Err w) h = tt
+
+major_good : (major : ℕ) (r : Result (ℕ × ℕ) Wrong) → HasSaid (with_major major r)
+major_good major (Ok x) = tt
+major_good major (Err w) = tt
+
+minor_good : (text : List ℕ) (major q : ℕ) → HasSaid (minor_at text major q)
+minor_good text major q =
+    elim (cases_Bool (byte text q == 46)) [
+      | inl e ↦ rw e (major_good major (number_at text (q + 1)))
+      | inr e ↦ rw e tt
+    ]
+
+handle_between_good : (text : List ℕ) (p q : ℕ) → IsUtf8 text → byte text p < 128 → HasText (handle_between text p q)
+handle_between_good text p q t s =
+    elim (cases_Bool (byte text q == 33)) [
+      | inl h ↦ let same = equal_of _ _ h in rw h (slice_utf8 text p (q + 1) t (whole_ascii text p t s) (whole_after text q t (omega (arith, same))))
+      | inr h ↦ elim (cases_Bool (q == p + 1)) [
+        | inl i ↦ let e = equal_of _ _ i in rw (h, i) (slice_utf8 text p q t (whole_ascii text p t s) (rw e (whole_after text p t s)))
+        | inr i ↦ rw (h, i) tt
+      ]
+    ]
+
+handle_good : (text : List ℕ) (p : ℕ) → IsUtf8 text → HasText (handle_at text p)
+handle_good text p t =
+    elim (cases_Bool (byte text p == 33)) [
+      | inl h ↦ let same = equal_of _ _ h in rw h (handle_between_good text p (name_end text p) t (omega (arith, same)))
+      | inr h ↦ rw h tt
+    ]
+
+prefix_good : (handle : List ℕ) (r : Result (List ℕ × ℕ) Wrong) → IsUtf8 handle → HasSaid (with_prefix handle r)
+prefix_good handle (Ok x) h = h
+prefix_good handle (Err w) h = tt
+
+then_handle : (text : List ℕ) (r : Result (List ℕ × ℕ) Wrong) → HasText r → HasSaid (then_at (λ handle q. with_prefix handle (prefix_at text q)) r)
+then_handle text (Ok x) h = prefix_good x.0 (prefix_at text x.1) h
+then_handle text (Err w) h = tt
+
+handle_said : (text : List ℕ) (p : ℕ) → IsUtf8 text → HasSaid (then_at (λ handle q. with_prefix handle (prefix_at text q)) (handle_at text p))
+handle_said text p t = then_handle text (handle_at text p) (handle_good text p t)
+
+number_said : (text : List ℕ) (p : ℕ) → HasSaid (then_at (minor_at text) (number_at text p))
+number_said text p = then_good (minor_at text) (number_at text p) (minor_good text)
+
+value_good : (text : List ℕ) (p q : ℕ) → IsUtf8 text → HasSaid (then_at (named_value_at text) (directive_name_between text p q))
+value_good text p q t =
+    elim (cases_Bool (p == q)) [
+      | inl h ↦ rw h tt
+      | inr h ↦ elim (cases_Bool (not (is_blank_or_end text q))) [
+        | inl i ↦ rw (h, i) tt
+        | inr i ↦ elim (cases_Bool (is_yaml text p && q - p == 4)) [
+          | inl j ↦ rw (h, i, j) (number_said text _)
+          | inr j ↦ elim (cases_Bool (is_tag text p && q - p == 3)) [
+            | inl k ↦ rw (h, i, j, k) (handle_said text _ t)
+            | inr k ↦ rw (h, i, j, k) tt
+          ]
+        ]
+      ]
+    ]
+
+abbrev HasPlace : List ℕ → Result ℕ Wrong → Type 0
+HasPlace text (Ok q) = IsWhole text q
+HasPlace text (Err w) = Unit {0}
+
+break_end_good : (text : List ℕ) (p : ℕ) → IsUtf8 text → HasPlace text (break_end text p)
+break_end_good text p t =
+    elim (cases_Bool (nat_lt 0 (break_width text p))) [
+      | inl h ↦ rw h (whole_behind text p t (less_of _ _ h))
+      | inr h ↦ elim (cases_Bool (byte text p == 0)) [
+        | inl i ↦ let same = equal_of _ _ i in rw (h, i) (whole_ascii text p t (omega (arith, same)))
+        | inr i ↦ rw (h, i) tt
+      ]
+    ]
+
+line_word : (text : List ℕ) (v : ValueText) (r : Result ℕ Wrong) → HasTexts (body_said v.said) → HasPlace text r → HasWord text (directed (with_line v r))
+line_word text v (Ok q) a b = record { texts = a; place = b }
+line_word text v (Err w) a b = tt
+
+directive_word : (text : List ℕ) (r : Result ValueText Wrong) → IsUtf8 text → HasSaid r → HasWord text (directed (finished text r))
+directive_word text (Ok v) t h = line_word text v (line_end_at text v.end) h (break_end_good text _ t)
+directive_word text (Err w) t h = tt
+
+-- Kinds.
+
+-- what a kind tells of the text where it stands
+abbrev pub Fits : Kind → List ℕ → ℕ → Type 0
+Fits kinds.StreamStart text p = Unit {0}
+Fits kinds.StreamEnd text p = Unit {0}
+Fits kinds.Directive text p = Unit {0}
+Fits kinds.DocumentStart text p = byte text (p + 2) < 128
+Fits kinds.DocumentEnd text p = byte text (p + 2) < 128
+Fits kinds.Plain text p = p < length text
+Fits _ text p = byte text p < 128
+
+abbrev pub FitsAny : Option Kind → List ℕ → ℕ → Type 0
+FitsAny None text p = Unit {0}
+FitsAny (Some k) text p = Fits k text p
+
+pick : (text : List ℕ) (p : ℕ) (test : Bool) (k : Kind) (rest : Option Kind) → (test ≡ true → Fits k text p) → FitsAny rest text p → FitsAny (if test then Some k else rest) text p
+pick text p true k rest f g = f refl
+pick text p false k rest f g = g
+
+small : (b c : ℕ) → c < 128 → (b == c) ≡ true → b < 128
+small b c l h = grind (arith, nat_tests)
+
+small_with : (b c : ℕ) (other : Bool) → c < 128 → (b == c && other) ≡ true → b < 128
+small_with b c other l h = grind (arith, nat_tests)
+
+indicator_fits : (flow alone : Bool) (text : List ℕ) (p : ℕ) → FitsAny (indicator_of flow alone (byte text p)) text p
+unfolding indicator_of
+indicator_fits flow alone text p =
+    let b = byte text p in
+    pick text p (b == 91) kinds.FlowSequenceStart _ (small b 91 (omega arith))
+    (pick text p (b == 123) kinds.FlowMappingStart _ (small b 123 (omega arith))
+    (pick text p (b == 93) kinds.FlowSequenceEnd _ (small b 93 (omega arith))
+    (pick text p (b == 125) kinds.FlowMappingEnd _ (small b 125 (omega arith))
+    (pick text p (b == 44) kinds.FlowEntry _ (small b 44 (omega arith))
+    (pick text p (b == 45 && alone) kinds.BlockEntry _ (small_with b 45 alone (omega arith))
+    (pick text p (b == 63 && (flow || alone)) kinds.KeyMark _ (small_with b 63 (flow || alone) (omega arith))
+    (pick text p (b == 58 && (flow || alone)) kinds.ValueMark _ (small_with b 58 (flow || alone) (omega arith))
+    (pick text p (b == 42) kinds.Alias _ (small b 42 (omega arith))
+    (pick text p (b == 38) kinds.Anchor _ (small b 38 (omega arith))
+    (pick text p (b == 33) kinds.Tag _ (small b 33 (omega arith))
+    (pick text p (b == 124 && not flow) kinds.Literal _ (small_with b 124 (not flow) (omega arith))
+    (pick text p (b == 62 && not flow) kinds.Folded _ (small_with b 62 (not flow) (omega arith))
+    (pick text p (b == 39) kinds.SingleQuoted _ (small b 39 (omega arith))
+    (pick text p (b == 34) kinds.DoubleQuoted None (small b 34 (omega arith)) tt))))))))))))))
+
+plain_fits : (o : Option Kind) (starts : Bool) (text : List ℕ) (p : ℕ) → p < length text → FitsAny o text p → FitsAny (or_plain o starts) text p
+plain_fits (Some k) starts text p l f = f
+plain_fits None true text p l f = l
+plain_fits None false text p l f = tt
+
+third_small : (a b c d x : ℕ) (last : Bool) → ((a == 0 && (b == x && (c == x && d == x))) && last) ≡ true → x < 128 → d < 128
+third_small a b c d x last h l = grind (arith, nat_tests)
+
+start_fits : (text : List ℕ) (p : ℕ) → is_document_start text p ≡ true → byte text (p + 2) < 128
+unfolding is_document_start
+start_fits text p h = third_small (column_at text p) (byte text p) (byte text (p + 1)) (byte text (p + 2)) 45 (is_blank_or_end text (p + 3)) h (omega arith)
+
+end_fits : (text : List ℕ) (p : ℕ) → is_document_end text p ≡ true → byte text (p + 2) < 128
+unfolding is_document_end
+end_fits text p h = third_small (column_at text p) (byte text p) (byte text (p + 1)) (byte text (p + 2)) 46 (is_blank_or_end text (p + 3)) h (omega arith)
+
+some_of : (b : ℕ) → (b == 0) ≡ false → 0 < b
+some_of b h = grind (arith, nat_tests)
+
+-- the kind of what stands there fits
+pub kind_fits : (flow : Bool) (text : List ℕ) (p : ℕ) → FitsAny (kind_at flow text p) text p
+unfolding kind_at
+kind_fits flow text p =
+    elim (cases_Bool (byte text p == 0)) [
+      | inl h ↦ rw h tt
+      | inr h ↦ elim (cases_Bool (byte text p == 37 && column_at text p == 0)) [
+        | inl i ↦ rw (h, i) tt
+        | inr i ↦ elim (cases_Bool (is_document_start text p)) [
+          | inl j ↦ rw (h, i, j) (start_fits text p j)
+          | inr j ↦ elim (cases_Bool (is_document_end text p)) [
+            | inl k ↦ rw (h, i, j, k) (end_fits text p k)
+            | inr k ↦ rw (h, i, j, k) (plain_fits (indicator_of flow (is_blank_or_end text (p + 1)) (byte text p)) (starts_plain flow text p) text p (within text p (some_of (byte text p) h))
+                (indicator_fits flow (is_blank_or_end text (p + 1)) text p))
+          ]
+        ]
+      ]
+    ]
+
+third_whole : (text : List ℕ) (p : ℕ) → IsUtf8 text → byte text (p + 2) < 128 → IsWhole text (p + 3)
+third_whole text p t s = let e : p + 2 + 1 ≡ p + 3 = omega arith in rw e at (whole_after text (p + 2) t s)
+
+-- what stands where its kind does, and the text may be cut
+pub word_utf8 : (k : Kind) (flow : Bool) (level : ℕ) (text : List ℕ) (p : ℕ) → IsUtf8 text → IsWhole text p → Fits k text p → HasWord text (word_at k flow level text p)
+unfolding word_at
+word_utf8 kinds.StreamStart flow level text p t w f = indicator_word text tokens.stream_end p tt w
+word_utf8 kinds.StreamEnd flow level text p t w f = indicator_word text tokens.stream_end p tt w
+word_utf8 kinds.Directive flow level text p t w f = directive_word text (value_at text p) t (value_good text (p + 1) (name_end text p) t)
+word_utf8 kinds.DocumentStart flow level text p t w f = indicator_word text tokens.document_start (p + 3) tt (third_whole text p t f)
+word_utf8 kinds.DocumentEnd flow level text p t w f = indicator_word text tokens.document_end (p + 3) tt (third_whole text p t f)
+word_utf8 kinds.FlowSequenceStart flow level text p t w f = indicator_word text tokens.flow_sequence_start (p + 1) tt (whole_after text p t f)
+word_utf8 kinds.FlowMappingStart flow level text p t w f = indicator_word text tokens.flow_mapping_start (p + 1) tt (whole_after text p t f)
+word_utf8 kinds.FlowSequenceEnd flow level text p t w f = indicator_word text tokens.flow_sequence_end (p + 1) tt (whole_after text p t f)
+word_utf8 kinds.FlowMappingEnd flow level text p t w f = indicator_word text tokens.flow_mapping_end (p + 1) tt (whole_after text p t f)
+word_utf8 kinds.FlowEntry flow level text p t w f = indicator_word text tokens.flow_entry (p + 1) tt (whole_after text p t f)
+word_utf8 kinds.BlockEntry flow level text p t w f = indicator_word text tokens.block_entry (p + 1) tt (whole_after text p t f)
+word_utf8 kinds.KeyMark flow level text p t w f = indicator_word text tokens.key (p + 1) tt (whole_after text p t f)
+word_utf8 kinds.ValueMark flow level text p t w f = indicator_word text tokens.value (p + 1) tt (whole_after text p t f)
+word_utf8 kinds.Alias flow level text p t w f = alias_word text (anchor_at contexts.Alias text p) (between_good contexts.Alias text (p + 1) (name_end text p) t (whole_after text p t f))
+word_utf8 kinds.Anchor flow level text p t w f = anchor_word text (anchor_at contexts.Anchor text p) (between_good contexts.Anchor text (p + 1) (name_end text p) t (whole_after text p t f))
+word_utf8 kinds.Tag flow level text p t w f = tag_word flow text (parts_at text p) t (parts_good text p t w)
+word_utf8 kinds.Literal flow level text p t w f = block_word (style_at text p) text (block_at level text p) (block_utf8 level text p t)
+word_utf8 kinds.Folded flow level text p t w f = block_word (style_at text p) text (block_at level text p) (block_utf8 level text p t)
+word_utf8 kinds.SingleQuoted flow level text p t w f = quoted_word styles.YAML_SINGLE_QUOTED_SCALAR_STYLE text (single_quoted_at text p) (quoted_utf8 39 text p (omega arith) t f)
+word_utf8 kinds.DoubleQuoted flow level text p t w f = quoted_word styles.YAML_DOUBLE_QUOTED_SCALAR_STYLE text (double_quoted_at text p) (quoted_utf8 34 text p (omega arith) t f)
+word_utf8 kinds.Plain flow level text p t w f = plain_word text (plain_at flow level text p) (plain_utf8 flow level text p t w f)

@@ -14,6 +14,8 @@ import store
 MEMORY = 3_000_000_000
 # More jobs than these don't make the check of one crate shorter.
 MOST_JOBS = 4
+# A crate is on a long chain where that has so many in 100 of the longest one's work.
+LONG_PART = 70
 # The part of the work, in 100, behind which the time that is left is told.
 TELLING_PART = 5
 # A crate that took fewer seconds was taken from what an earlier run kept, and says nothing of how fast crates are proved.
@@ -93,22 +95,28 @@ class Lanes:
 
     def __init__(self, what, crates, build):
         self.work = {it: work_of(it) for it in crates}
-        behind = longest_behind(crates, self.work)
-        self.left = sorted(crates, key=lambda it: -behind[it])
+        self.behind = longest_behind(crates, self.work)
+        self.left = sorted(crates, key=lambda it: -self.behind[it])
         self.what, self.lanes, self.build = what, processors(), build
         self.total, self.done, self.running, self.failed = len(crates), set(), {}, []
         self.proved_work = 0
 
     def begin(self, pool):
-        """Begins what can begin, each with its share of the idle processors."""
+        """Begins what can begin, each with its share of the idle processors; what doesn't fit goes to the longest chains."""
         ready = [it for it in self.left if all(dep in self.done for dep in it.below())]
+        longest = max(self.behind[it] for it in [*self.left, *self.running_crates()]) if self.left else 0
         for at, it in enumerate(ready):
             idle = self.lanes - sum(jobs for _, jobs in self.running.values())
             if idle < 1:
                 return
-            jobs = max(1, min(MOST_JOBS, idle // (len(ready) - at)))
+            is_long = LONG_PART * longest <= 100 * self.behind[it]
+            share = -(-idle // (len(ready) - at)) if is_long else idle // (len(ready) - at)
+            jobs = max(1, min(MOST_JOBS, share))
             self.left.remove(it)
             self.running[pool.submit(self.timed, it, jobs)] = it, jobs
+
+    def running_crates(self):
+        return [it for it, _ in self.running.values()]
 
     def timed(self, crate, jobs):
         began = time.monotonic()

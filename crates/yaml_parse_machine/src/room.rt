@@ -193,6 +193,8 @@ fn in_place_of(text: &mut Vec<u8>, anchor: &mut Option<Vec<u8>>) -> Vec<u8>
 
 /// The text of a token that is taken, which keeps the room of a text that a slot of events has from an earlier one. The slot is
 /// emptied.
+// Inlined into its two callers, which are out of line themselves.
+#[inline(always)]
 pub(crate) fn exchanged(earlier: &mut yaml_event_body_t, text: &mut Vec<u8>) -> Vec<u8>
     ensures text { result.items ≡ text.old.items }
     ensures bare { OwnsNothing earlier.new }

@@ -6,7 +6,7 @@ ghost use Rattle.yaml_scan_model.specs.Faults.{Fault, fault_of, memory_fault};
 ghost use Rattle.yaml_scan_model.specs.declared.yaml_origin_t.TheVariants.{Parser};
 ghost use Rattle.yaml_parse_model.specs.Events.{event_of, stream_end};
 ghost use Rattle.yaml_parse_step.specs.parse_grammar.Items as item;
-ghost use Rattle.yaml_parse_machine.specs.Views.{item_of};
+ghost use Rattle.yaml_parse_states.specs.Views.{item_of};
 ghost use Rattle.yaml_parse_model.specs.Prefix.{prefix_of, no_fault};
 ghost use Rattle.yaml_parse_step.specs.parse_grammar.Trees.{Stream, spell};
 ghost use Rattle.yaml_parse_step.specs.parse_grammar.TreeEvents.{given_of};
@@ -26,7 +26,8 @@ ghost use Rattle.yaml_parse_step.specs.parse_grammar.Stacks.{parts_documents_beh
 
 use std::alloc::Global;
 use std::marker::Model;
-use yaml_parse_machine::{Directives, RawEvent, RawEventBody, Resolved, State, TagDirectives};
+use yaml_parse_resolve::{Directives, TagDirectives};
+use yaml_parse_states::{RawEvent, RawEventBody, Resolved, State};
 use yaml_parse_model::{
     yaml_event_body_t, yaml_event_t, yaml_parser_t_prefix, yaml_token_source_t,
 };
@@ -50,8 +51,8 @@ pub struct yaml_parser_t<S: yaml_token_source_t> {
 impl<S: yaml_token_source_t> Model for yaml_parser_t<S> {
     ghost use Rattle.yaml_parse_model.specs.Prefix.{prefix_of};
     ghost use Rattle.yaml_parse_step.specs.parse_grammar.Remaining.{ParserRemaining, parser_remaining};
-    ghost use Rattle.yaml_parse_machine.specs.Views.{stack_of};
-    ghost use Rattle.yaml_parse_machine.specs.Settles.{directives_of};
+    ghost use Rattle.yaml_parse_states.specs.Views.{stack_of};
+    ghost use Rattle.yaml_parse_resolve.specs.Settles.{directives_of};
     ghost use Rattle.yaml_parse_step.specs.Steps.{peeked_of};
 
     ghost Value = { ParserRemaining };

@@ -1,5 +1,2 @@
 pub mod Defaults
-pub mod HandleTable
-pub mod Kept
-pub mod Named
-pub mod Tops
+pub mod Awaited

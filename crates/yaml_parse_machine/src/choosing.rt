@@ -10,11 +10,11 @@ ghost use Rattle.yaml_parse_grammar.specs.Machine.{starts_content, starts_node, 
 ghost use Rattle.yaml_parse_grammar.specs.States as state;
 ghost use Rattle.yaml_parse_grammar.specs.declared.name.Site.TheVariants.{BlockPair};
 ghost use Rattle.yaml_parse_model.specs.declared.yaml_token_type_t.TheVariants.{YAML_VALUE_TOKEN};
-ghost use Rattle.yaml_parse_machine.specs.Views.{properties_of, state_of};
+ghost use Rattle.yaml_parse_states.specs.Views.{properties_of, state_of};
 
-use crate::item::{Properties, State};
 use yaml_parse_grammar::{Brackets, Choice, ParseProblem, Side, Site, Wants};
 use yaml_parse_model::{yaml_mark_t, yaml_token_type_t};
+use yaml_parse_states::item::{Properties, State, wants};
 
 // A node's content may begin with the token.
 fn is_content(wants: Wants, kind: yaml_token_type_t) -> bool
@@ -50,19 +50,6 @@ fn is_node(wants: Wants, kind: yaml_token_type_t) -> bool
         yaml_token_type_t::YAML_ANCHOR_TOKEN => true,
         yaml_token_type_t::YAML_TAG_TOKEN => true,
         _ => is_content(wants, kind),
-    }
-}
-
-/// Which nodes may stand there.
-pub fn wants(place: Site) -> Wants
-    ensures { result ≡ wants_of place }
-{
-    match place {
-        Site::Root => Wants::Block(None),
-        Site::Entry => Wants::Block(None),
-        Site::IndentlessEntry(_) => Wants::Block(None),
-        Site::BlockPair(side) => Wants::Block(Some(side)),
-        Site::FlowPair(_, _) => Wants::Flow,
     }
 }
 

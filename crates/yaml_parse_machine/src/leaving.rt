@@ -4,11 +4,11 @@ ghost use Rattle.std.specs.Prelude.{◌≡◌, Some, None};
 ghost use Rattle.yaml_parse_grammar.specs.Items.{blank, properties_alone};
 ghost use Rattle.yaml_parse_grammar.specs.Trees.{mark_at, event_at};
 ghost use Rattle.yaml_parse_grammar.specs.Machine.{left_at};
-ghost use Rattle.yaml_parse_machine.specs.Views.{properties_of, plain_of, item_of, state_of};
+ghost use Rattle.yaml_parse_states.specs.Views.{properties_of, plain_of, item_of, state_of};
 
-use crate::item::{Properties, RawEvent, RawEventBody, Resolved, Shape, State};
 use yaml_parse_grammar::Site;
 use yaml_parse_model::yaml_mark_t;
+use yaml_parse_states::item::{Properties, RawEvent, RawEventBody, Resolved, Shape, State};
 
 // Where a left-out node stands, whose indicator ends at one mark, and behind which a token begins at the other.
 fn empty_mark(place: Site, before: yaml_mark_t, next: yaml_mark_t) -> yaml_mark_t

@@ -16,22 +16,21 @@ ghost use Rattle.yaml_parse_model.specs.declared.yaml_mapping_style_t.TheVariant
 ghost use Rattle.yaml_parse_grammar.specs.Trees.{flow_shape, end_event};
 ghost use Rattle.yaml_parse_grammar.specs.States as state;
 ghost use Rattle.yaml_parse_grammar.specs.Machine.{not_taken, taken_at, documents_taken, content_taken, node_taken, with_properties_taken, items_taken, more_taken, stream_taken, entries_taken, pairs_taken, pair_taken, opened};
-ghost use Rattle.yaml_parse_machine.specs.Views.{properties_of, properties_option_of, shape_of, plain_of, item_body_of, given_of, state_of, stack_of};
+ghost use Rattle.yaml_parse_states.specs.Views.{properties_of, properties_option_of, shape_of, plain_of, item_body_of, given_of, state_of, stack_of};
 
-use crate::building::{give, node, tell};
-use crate::choosing::wants;
-use crate::item::{Properties, RawEvent, RawEventBody, Resolved, Shape, State};
-use crate::keeping::{await_behind, await_rest, named, put_tag, tagged};
-use crate::pushing::{
-    open, push, push_behind_part, push_block_pair, push_entry, push_indentless, push_mapping_pair,
-    push_sequence_pair, push_silently,
-};
-use crate::room::{moved, replaced};
 use std::alloc::AllocError;
 use yaml_parse_grammar::{Brackets, Side, Site, Wants};
 use yaml_parse_model::{
     yaml_mapping_style_t, yaml_mark_t, yaml_sequence_style_t, yaml_token_body_t, yaml_token_t,
 };
+use yaml_parse_states::building::{give, node, tell};
+use yaml_parse_states::item::{Properties, RawEvent, RawEventBody, Resolved, Shape, State, wants};
+use yaml_parse_states::keeping::{await_behind, await_rest, named, put_tag, tagged};
+use yaml_parse_states::pushing::{
+    open, push, push_behind_part, push_block_pair, push_entry, push_indentless, push_mapping_pair,
+    push_sequence_pair, push_silently,
+};
+use yaml_parse_states::room::{moved, replaced};
 
 // For tokens that the state doesn't take.
 fn nothing(stack: &mut Vec<State>, slot: &mut RawEvent) -> Result<bool, AllocError>

@@ -16,8 +16,8 @@ use Rattle.yaml_parse_grammar.specs.Machine.{choice_at, taken_at, left_at, conte
 use Rattle.yaml_parse_grammar.proofs.Complete.{giving, leaves_at}
 use Rattle.yaml_parse_grammar.proofs.Voice.{Voiced, TakenSpeaks, taken_speaks, left_voiced, takes_a_token}
 use Rattle.yaml_parse_grammar.proofs.Single.{refuses, takes, takes_silently, opens, refuses_stops, takes_stops, leaves_stops, opens_stops}
-use Rattle.yaml_parse_machine.specs.declared.item.State as code
-use Rattle.yaml_parse_machine.specs.Views.{state_of, stack_of, below}
+use Rattle.yaml_parse_states.specs.declared.item.State as code
+use Rattle.yaml_parse_states.specs.Views.{state_of, stack_of, below}
 use Rattle.yaml_parse_step.specs.Stepped.{Stepped}
 use Rattle.yaml_parse_step.specs.Stepped as step
 use Rattle.yaml_parse_step.specs.Steps.{held_if, Raw, raw, outcome, stop_of, budget, IsFront, HasNoFront, IsDirective, GivesItem, GivesNoItem, IsRefused, Steps, OpensAt, IsReal, IsRealOn}

@@ -6,7 +6,7 @@ use Rattle.yaml_parse_grammar.specs.Items.{RawEvent}
 use Rattle.yaml_parse_grammar.specs.States.{State}
 use Rattle.yaml_parse_grammar.specs.Machine.{taken_at}
 use Rattle.yaml_parse_grammar.specs.Resolve.{Directives, settle, gave}
-use Rattle.yaml_parse_machine.specs.Swiftly.{IsGiven, raw_of}
+use Rattle.yaml_parse_swift.specs.Swiftly.{IsGiven, raw_of}
 use Rattle.yaml_parse_step.proofs.Moves.{taken_is}
 
 item_is : (o : Option RawEvent) (e : Event) → IsGiven o e → Some (raw_of e) ≡ o

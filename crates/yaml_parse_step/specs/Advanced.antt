@@ -4,7 +4,7 @@ use Rattle.yaml_scan_model.specs.Faults.{Fault}
 use Rattle.yaml_parse_model.specs.Events.{Event}
 use Rattle.yaml_parse_grammar.specs.Items.{RawEvent}
 use Rattle.yaml_parse_grammar.specs.Resolve.{Directives, settle, gave}
-use Rattle.yaml_parse_machine.specs.Swiftly.{raw_of}
+use Rattle.yaml_parse_swift.specs.Swiftly.{raw_of}
 use Rattle.yaml_parse_step.specs.Stepped.{Stepped, given, stepped}
 use Rattle.yaml_parse_step.specs.declared.step.Progress.{Progress}
 use Rattle.yaml_parse_step.specs.declared.step.Progress.TheVariants.{Ready, By}

@@ -16,7 +16,7 @@ use Rattle.yaml_parse_model.specs.Constructors.{HasUtf8, AreUtf8}
 use Rattle.yaml_parse_grammar.specs.Resolve.{Directives, Settled, gave, noted, placed, refused}
 use Rattle.yaml_parse_model.specs.declared.event.yaml_event_t.{yaml_event_t}
 use Rattle.yaml_parse_model.specs.Events.{event_of, body_of}
-use Rattle.yaml_parse_machine.specs.Views.{below}
+use Rattle.yaml_parse_states.specs.Views.{below}
 use Rattle.yaml_parse_step.specs.declared.step.StepBuffers.{StepBuffers}
 use Rattle.yaml_parse_step.specs.Finds.{GivesNext}
 use Rattle.yaml_parse_step.specs.Stepped.{Stepped}

@@ -8,8 +8,8 @@ ghost use Rattle.yaml_parse_model.specs.Events.{event_of};
 ghost use Rattle.yaml_parse_grammar.specs.Problems.{parser_fault};
 ghost use Rattle.yaml_parse_grammar.specs.Machine.{choice_at, context_of};
 ghost use Rattle.yaml_parse_grammar.specs.declared.name.Choice.TheVariants.{Take as taking_it};
-ghost use Rattle.yaml_parse_machine.specs.Views.{state_of, stack_of, item_of};
-ghost use Rattle.yaml_parse_machine.specs.Settles.{directives_of};
+ghost use Rattle.yaml_parse_states.specs.Views.{state_of, stack_of, item_of};
+ghost use Rattle.yaml_parse_resolve.specs.Settles.{directives_of};
 ghost use Rattle.yaml_parse_grammar.specs.Remaining.{parser_remaining, is_between};
 ghost use Rattle.yaml_parse_grammar.specs.Resolve.{Directives as DirectivesSpec, settle as settle_item};
 ghost use Rattle.yaml_parse_grammar.specs.Stacks.{IsStack};
@@ -22,10 +22,10 @@ ghost use Rattle.yaml_parse_step.specs.Turned.{turned};
 
 use std::alloc::Global;
 use yaml_parse_grammar::{Choice, ParseFault, ParseProblem};
-use yaml_parse_machine::{
-    Directives, RawEvent, RawEventBody, Refusal, State, Swift, choose, leave, open, settle,
-    settle_swiftly, take, take_swiftly,
-};
+use yaml_parse_machine::{choose, leave, take};
+use yaml_parse_resolve::{Directives, Refusal, settle, settle_swiftly};
+use yaml_parse_states::{RawEvent, RawEventBody, State, open};
+use yaml_parse_swift::{Swift, take_swiftly};
 use yaml_parse_model::{yaml_event_t, yaml_token_source_t};
 use yaml_scan_model::{yaml_fault_t, yaml_mark_t, yaml_memory_fault, yaml_origin_t, yaml_token_t};
 

@@ -1,9 +1,9 @@
 use Rattle.std.proofs.Common.{ap, ◌∙◌, [], ◌∷◌, ◌++◌, List, None}
 use Rattle.yaml_parse_model.specs.Events.{TagDirective}
 use Rattle.yaml_parse_step.specs.parse_grammar.Resolve.{Directives}
-use Rattle.yaml_parse_machine.specs.declared.item.State as code
-use Rattle.yaml_parse_machine.specs.declared.item.State.TheVariants.{Stream}
-use Rattle.yaml_parse_machine.specs.Views.{stack_of}
+use Rattle.yaml_parse_states.specs.declared.item.State as code
+use Rattle.yaml_parse_states.specs.declared.item.State.TheVariants.{Stream}
+use Rattle.yaml_parse_states.specs.Views.{stack_of}
 use Rattle.yaml_parse_step.proofs.Sentences.{fault_of_tokens, told_with, begins_tree, few_events, tokens_events, least_events}
 use Rattle.yaml_parse_step.proofs.Turning.{starts, starts_anywhere, starts_unasked}
 use Rattle.yaml_parse.proofs.parser.yaml_parser_initialize.Goals as goal

@@ -6,7 +6,7 @@ use Rattle.yaml_parse_grammar.specs.States.{State, Taken}
 use Rattle.yaml_parse_grammar.specs.States as state
 use Rattle.yaml_parse_grammar.specs.Machine.{lone_below, node_taken}
 use Rattle.yaml_parse_grammar.specs.declared.name.Wants.TheVariants.{Flow}
-use Rattle.yaml_parse_machine.specs.Views.{given_of, stack_of}
+use Rattle.yaml_parse_states.specs.Views.{given_of, stack_of}
 use Rattle.yaml_parse_machine.proofs.Defaults.{items_default}
 use Rattle.yaml_parse_machine.proofs.taking.at_items.Goals as goal
 

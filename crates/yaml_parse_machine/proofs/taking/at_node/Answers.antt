@@ -1,10 +1,10 @@
 use Rattle.std.proofs.Common.{◌≡◌, ◌++◌, Some, None, subst}
 use Rattle.std.specs.Prelude.{IfOk, OnOk}
 use Rattle.yaml_parse_grammar.specs.States.{Taken}
-use Rattle.yaml_parse_machine.specs.Views.{given_of, stack_of}
+use Rattle.yaml_parse_states.specs.Views.{given_of, stack_of}
 use Rattle.yaml_parse_grammar.specs.Machine.{tag_at}
 use Rattle.yaml_parse_machine.proofs.Defaults.{node_default}
-use Rattle.yaml_parse_machine.proofs.Named.{kept_above}
+use Rattle.yaml_parse_machine.proofs.Awaited.{kept_above}
 use Rattle.yaml_parse_machine.proofs.taking.at_node.Goals as goal
 
 pub returns-in_default-clause-item : goal.returns-in_default-clause-item

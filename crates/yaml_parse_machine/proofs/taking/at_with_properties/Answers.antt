@@ -1,7 +1,7 @@
 use Rattle.std.proofs.Common.{◌≡◌, ◌++◌, subst}
 use Rattle.std.specs.Prelude.{IfOk, OnOk}
 use Rattle.yaml_parse_grammar.specs.States.{Taken}
-use Rattle.yaml_parse_machine.specs.Views.{properties_of, given_of, stack_of}
+use Rattle.yaml_parse_states.specs.Views.{properties_of, given_of, stack_of}
 use Rattle.yaml_parse_machine.proofs.Defaults.{with_properties_default}
 use Rattle.yaml_parse_machine.proofs.taking.at_with_properties.Goals as goal
 

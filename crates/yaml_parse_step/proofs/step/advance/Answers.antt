@@ -2,7 +2,7 @@ use Rattle.std.proofs.Common.{vec_len, sym, ◌∙◌}
 use Rattle.yaml_scan_model.specs.Tokens.{token_of}
 use Rattle.yaml_scan_model.specs.Faults.{fault_of}
 use Rattle.yaml_parse_model.specs.Events.{event_of}
-use Rattle.yaml_parse_machine.specs.Views.{stack_of, item_of}
+use Rattle.yaml_parse_states.specs.Views.{stack_of, item_of}
 use Rattle.yaml_parse_step.specs.Steps.{raw, peeked_of}
 use Rattle.yaml_parse_step.specs.Advanced.{advanced}
 use Rattle.yaml_parse_step.proofs.Moves.{over_front, no_front_open}

@@ -7,8 +7,8 @@ use Rattle.yaml_parse_grammar.specs.Stacks.{IsStack}
 use Rattle.yaml_parse_grammar.specs.Texts.{IsUtf8Held}
 use Rattle.yaml_parse_grammar.specs.Resolve.{settle, gave}
 use Rattle.yaml_parse_grammar.specs.Machine.{taken_at}
-use Rattle.yaml_parse_machine.specs.Views.{stack_of, below, item_of}
-use Rattle.yaml_parse_machine.specs.Swiftly.{raw_of}
+use Rattle.yaml_parse_states.specs.Views.{stack_of, below, item_of}
+use Rattle.yaml_parse_swift.specs.Swiftly.{raw_of}
 use Rattle.yaml_parse_step.specs.Steps.{Steps, IsRealOn, IsUtf8Step, IsStackStep, raw, peeked_of}
 use Rattle.yaml_parse_step.specs.Stepped.{stepped, given, silent}
 use Rattle.yaml_parse_step.proofs.Moves.{taken_is, take_item, take_silent, over, unheld, are_some}

@@ -1,7 +1,7 @@
 use Rattle.std.proofs.Common.{subst}
 use Rattle.yaml_scan_model.specs.Faults.{fault_of}
 use Rattle.yaml_parse_grammar.specs.Resolve.{settle}
-use Rattle.yaml_parse_machine.specs.Settles.{directives_of}
+use Rattle.yaml_parse_resolve.specs.Settles.{directives_of}
 use Rattle.yaml_parse_step.specs.Steps.{ComesTo}
 use Rattle.yaml_parse_step.proofs.step.settled.Goals as goal
 

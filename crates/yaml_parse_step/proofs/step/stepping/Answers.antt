@@ -2,7 +2,7 @@ use Rattle.std.proofs.Common.{◌∙◌, ap, sym, [], None}
 use Rattle.yaml_scan_model.specs.Tokens.{token_of}
 use Rattle.yaml_scan_model.specs.Faults.{fault_of}
 use Rattle.yaml_parse_grammar.specs.Machine.{choice_at}
-use Rattle.yaml_parse_machine.specs.Views.{state_of, stack_of, item_of}
+use Rattle.yaml_parse_states.specs.Views.{state_of, stack_of, item_of}
 use Rattle.yaml_parse_step.specs.Steps.{raw, peeked_of}
 use Rattle.yaml_parse_step.specs.Stepped.{stepped}
 use Rattle.yaml_parse_step.proofs.Moves.{refuse_step, take_real, leave_item, leave_real, open_step, open_real}

@@ -1,9 +1,9 @@
 use Rattle.std.proofs.Common.{ap, refl}
 use Rattle.yaml_scan_model.specs.Faults.{fault_of}
 use Rattle.yaml_parse_model.specs.Events.{event_of, body_of}
-use Rattle.yaml_parse_machine.specs.Views.{stack_of, item_of}
-use Rattle.yaml_parse_machine.specs.Settles.{directives_of}
-use Rattle.yaml_parse_machine.specs.Swiftly.{raw_of}
+use Rattle.yaml_parse_states.specs.Views.{stack_of, item_of}
+use Rattle.yaml_parse_resolve.specs.Settles.{directives_of}
+use Rattle.yaml_parse_swift.specs.Swiftly.{raw_of}
 use Rattle.yaml_parse_step.specs.Steps.{raw, peeked_of}
 use Rattle.yaml_parse_step.proofs.Turning.{event_turn, silent_turn, noted_turn, refused_turn, unsettled_turn, done_turn}
 use Rattle.yaml_parse_step.proofs.Texts.{done_utf8, silent_utf8, event_utf8, noted_utf8, cleared_utf8}

@@ -1,7 +1,7 @@
 use Rattle.std.proofs.Common.{Some, None}
 use Rattle.yaml_scan_model.specs.Tokens.{token_of}
 use Rattle.yaml_parse_grammar.specs.Machine.{taken_at}
-use Rattle.yaml_parse_machine.specs.Views.{state_of, stack_of, item_of}
+use Rattle.yaml_parse_states.specs.Views.{state_of, stack_of, item_of}
 use Rattle.yaml_parse_step.proofs.Moves.{taken_is, take_item, take_silent}
 use Rattle.yaml_parse_step.proofs.Texts.{take_item_utf8, take_silent_utf8}
 use Rattle.yaml_parse_step.proofs.Heights.{take_item_stands, take_silent_stands}

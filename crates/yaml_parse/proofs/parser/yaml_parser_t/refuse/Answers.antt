@@ -1,8 +1,8 @@
 -- Nothing comes from an empty stack.
 use Rattle.std.proofs.Common.{ap}
 use Rattle.yaml_parse_model.specs.Prefix.{prefix_of}
-use Rattle.yaml_parse_machine.specs.Views.{stack_of}
-use Rattle.yaml_parse_machine.specs.Settles.{directives_of}
+use Rattle.yaml_parse_states.specs.Views.{stack_of}
+use Rattle.yaml_parse_resolve.specs.Settles.{directives_of}
 use Rattle.yaml_parse_step.specs.Steps.{peeked_of}
 use Rattle.yaml_parse_step.proofs.Turning.{finishes, one_held}
 use Rattle.yaml_parse.proofs.parser.yaml_parser_t.refuse.Goals as goal

@@ -1,0 +1,2 @@
+pub mod HandleTable
+pub mod Kept

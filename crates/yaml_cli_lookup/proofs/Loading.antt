@@ -11,8 +11,8 @@ use Rattle.yaml_parse.specs.NextLoad.{NextLoad, next_document, next_fault, next_
 use Rattle.yaml_parse.proofs.NextLoads.{next_load}
 use Rattle.yaml_parse.specs.Remaining.{ParserRemaining}
 use Rattle.yaml_parse.specs.Resolve.{Reading}
-use Rattle.yaml_parse.specs.parse_laws_faults.Places.{FaultOfTokens}
-use Rattle.yaml_parse.specs.parse_laws_given.Given.{EventsOfTokens}
+use Rattle.yaml_parse.specs.parse_laws_trees.Places.{FaultOfTokens}
+use Rattle.yaml_parse.specs.parse_laws_trees.Given.{EventsOfTokens}
 use Rattle.yaml_cli_lookup.specs.declared.error.LookupError.{LookupError}
 use Rattle.yaml_cli_lookup.specs.declared.error.LookupError.TheVariants.{Unreadable, NotAMapping, OutOfMemory}
 use Rattle.yaml_cli_lookup.specs.Errors.{IsErrorOf}

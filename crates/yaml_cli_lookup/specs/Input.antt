@@ -7,8 +7,8 @@ use Rattle.yaml_scan.specs.Scanned.{scanned}
 use Rattle.yaml_parse.specs.Documents.{Document, no_document}
 use Rattle.yaml_parse.specs.NextLoad.{NextLoad, next_document, next_fault, next_none, IsLoadOf}
 use Rattle.yaml_parse.specs.Resolve.{Reading}
-use Rattle.yaml_parse.specs.parse_laws_faults.Places.{FaultOfTokens}
-use Rattle.yaml_parse.specs.parse_laws_given.Given.{EventsOfTokens}
+use Rattle.yaml_parse.specs.parse_laws_trees.Places.{FaultOfTokens}
+use Rattle.yaml_parse.specs.parse_laws_trees.Given.{EventsOfTokens}
 use Rattle.yaml_round_adapter.specs.Adapted.{adapted}
 
 -- the scanner's tokens of the input, as a parser takes them

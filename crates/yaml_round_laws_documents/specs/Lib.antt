@@ -4,6 +4,5 @@ pub mod Laws
 pub mod Normal
 -- what they speak of, and the laws beneath, for crates that name this one alone
 pub use Rattle.yaml_round_laws_dumps.specs as round_laws_dumps
-pub use Rattle.yaml_round_laws_dumps.specs as round_laws_writable
 pub use Rattle.yaml_round_laws_dumps.specs.content
 pub use Rattle.yaml_round_laws_dumps.specs.round_laws_reading

@@ -32,7 +32,7 @@ use Rattle.yaml_round.proofs.Plain.{events_are, has_events}
 use Rattle.yaml_round.proofs.round_laws_reading.Joining.{read_said, one_reading}
 use Rattle.yaml_round.proofs.round_laws_reading.Loaded.{one_loading, loading_loads}
 use Rattle.yaml_round.proofs.round_laws_documents.ReadBack.{layout_is_of_input}
-use Rattle.yaml_round.proofs.round_laws_documents.round_laws_writable.Flags.{input_laid_out}
+use Rattle.yaml_round.proofs.round_laws_documents.round_laws_dumps.Flags.{input_laid_out}
 use Rattle.yaml_round.proofs.round_laws_documents.content.Layouts.{content_laid_out}
 use Rattle.yaml_round.proofs.round_laws_documents.Laid.{laid_out}
 use Rattle.yaml_emit_laws_columns.specs.Depths.{RootStandsAt, IsTooDeep}

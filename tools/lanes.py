@@ -56,12 +56,37 @@ def crates_of(rt, top):
     return sorted(rt.rtlib.crates_below(top), key=lambda it: len(it.below()))
 
 
-def kept_by(rt, top, crates):
-    """What earlier runs proved: what the kit's gate keeps, or the checkout's own store where it keeps nothing."""
-    if hasattr(rt, "Kept"):
+class Unsearched:
+    """What is kept of crates in which nothing looked for contracts that no call can meet: it takes what the gate keeps, in which
+    that was done, and keeps in the checkout what the gate is not to take."""
+
+    def __init__(self, gates, own):
+        self.gates, self.own = gates, own
+
+    def key(self, crate):
+        return self.gates.key(crate), self.own.key(crate)
+
+    def give(self, crate, tests, key):
+        return self.gates.give(crate, tests, key[0]) or self.own.give(crate, tests, key[1])
+
+    def is_built(self, crate):
+        self.gates.is_built(crate)
+
+    def keep(self, crate, tests, key):
+        self.own.keep(crate, tests, key[1])
+
+    def shrink(self):
+        self.own.shrink()
+
+
+def kept_by(rt, top, crates, searches=True):
+    """What earlier runs proved: what the kit's gate keeps, or the checkout's own store where it keeps nothing; or both, where
+    nothing looks for contracts that no call can meet."""
+    if searches and hasattr(rt, "Kept"):
         return rt.Kept(crates)
     with open(f"{rt.KIT}/KIT-ID", encoding="utf-8") as line:
-        return store.Kept(f"{top}/out/proved", line.read())
+        own = store.Kept(f"{top}/out/proved", line.read())
+    return Unsearched(rt.Kept(crates), own) if hasattr(rt, "Kept") else own
 
 
 # What a line of code weighs, of which each function is proved step by step, beside one of a definition or a proof; and what

@@ -5,10 +5,12 @@
 
 The crates that it stands on are proved as the gate proves them, from nothing and side by side, those with the longest chain
 of others behind them first; a crate that nothing can run beside gets the processors that are idle (PROCESSORS sets how many
-there are to use). What was proved is kept where the kit's gate keeps it, so that each takes from the other what it has
-proved of the same files; where the gate keeps nothing, in the checkout's out/proved (tools/store.py). Neither must-fail edits
-are tried nor tests run, and one compiler builds what was proved, LLVM. The program is then crates/yaml_cli/out/yaml_cli, the
-archive crates/yaml_round_c/out/libyaml_round_c.a.
+there are to use). Neither must-fail edits are tried nor tests run, and one compiler builds what was proved, LLVM. The program is
+then crates/yaml_cli/out/yaml_cli, the archive crates/yaml_round_c/out/libyaml_round_c.a.
+
+Each function is proved. That each contract can be met by some call is looked for by the gate, and here with SEARCH=1 alone, since
+it loads once more all that a crate stands on. What was proved is kept in the checkout's out/proved (tools/store.py), and what the
+gate keeps is taken; with SEARCH=1 it is kept where the gate keeps it, so that gate and checks of other checkouts take it from there.
 
 It works on a copy, as `rt ci NAME` does, and by the functions that `rt ci` is made of, since the libraries of other commands
 are loaded with their proofs: above the engine that costs as much again as to prove. Where a kit has other functions, `rt run`
@@ -26,6 +28,7 @@ sys.path.insert(0, os.path.dirname(os.path.abspath(__file__)))
 import lanes
 
 TOP = os.path.dirname(os.path.dirname(os.path.abspath(__file__)))
+SEARCHES = bool(os.environ.get("SEARCH"))
 FROM_NOTHING = "14 to 20 minutes from nothing on 4 processors, by the machine, less where an earlier run has kept its proofs"
 
 
@@ -43,26 +46,12 @@ PROGRAM = Goal("make program", "yaml_cli", "yaml_cli", ["rt", "run", "--", "fmt"
 ARCHIVE = Goal("make library", "yaml_round_c", "libyaml_round_c.a", ["rt", "lib"])
 
 
-@contextlib.contextmanager
-def no_search(rt):
-    """Has no crate searched for contracts that no call can meet, which loads once more all that it stands on."""
-    told = rt.rtlib.help_of
-    rt.rtlib.help_of = lambda verb: told(verb).replace("--empty-contracts", "")
-    try:
-        yield
-    finally:
-        rt.rtlib.help_of = told
-
-
 def compiled(rt, crate, jobs):
-    """Proves a program, or an archive, and compiles what was proved. It is the last crate, and nothing of it is kept: the gate
-    proves it itself, and searches it for contracts that no call can meet."""
+    """Proves a program, or an archive, and compiles what was proved."""
     words = crate.words(["--jobs", str(jobs)], keeps=False)
     words = ["build", *words, "--toolchain", f"{rt.KIT}/toolchain", "--backend", "llvm"]
     made = f"out/lib{crate.name}.a" if crate.is_static else f"out/{crate.name}.o"
-    with no_search(rt):
-        status = crate.prove([*words, "-o", made])
-    return status or (0 if crate.is_static else crate.link(made, f"out/{crate.name}"))
+    return crate.prove([*words, "-o", made]) or (0 if crate.is_static else crate.link(made, f"out/{crate.name}"))
 
 
 def proved(rt, kept, crate, jobs):
@@ -101,6 +90,12 @@ def set_up(rt):
     rt.Crate.allowed = rt.handles_of(TOP)
 
 
+def leave_out_search(rt):
+    """Has no crate searched for contracts that no call can meet, which loads once more all that a crate stands on."""
+    told = rt.rtlib.help_of
+    rt.rtlib.help_of = lambda verb: told(verb).replace("--empty-contracts", "")
+
+
 def copy_crates(rt, to):
     """Copies what a proof reads."""
     if hasattr(rt, "copy_crates"):
@@ -122,7 +117,7 @@ def prove(rt, goal):
         top = next(it for it in lanes.crates_of(rt, copy) if it.name == goal.crate)
         crates = [*sorted(top.below(), key=lambda it: len(it.below())), top]
         lanes.say(goal.what, f"proving {len(crates)} crates, jobs {lanes.processors()}: {FROM_NOTHING}")
-        kept = lanes.kept_by(rt, TOP, crates)
+        kept = lanes.kept_by(rt, TOP, crates, SEARCHES)
         build = lambda it, jobs: built(rt, kept, goal.logs, it, jobs)
         if not lanes.Lanes(goal.what, crates, build).run():
             return False
@@ -150,6 +145,8 @@ def main(words):
     try:
         rt = lanes.kit()
         set_up(rt)
+        if not SEARCHES:
+            leave_out_search(rt)
         is_well = prove(rt, goal)
     except (ImportError, AttributeError, TypeError, KeyError) as error:
         say(f"this kit is another one ({error}): {' '.join(goal.rt_words[:2])} proves one crate after another, which takes longer")

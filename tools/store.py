@@ -1,4 +1,4 @@
-"""What was proved, kept in the checkout's `out/proved`, for kits whose gate keeps no proofs beside the kit.
+"""What was proved, kept in the checkout's `out/proved`: by `make program`, and for kits whose gate keeps no proofs beside the kit.
 
 A library is kept under the sum of all that it is made from: its files, those of the libraries below it, and the kit. So one
 that has changed, or stands on one that has, is proved anew. Used by `program.py` and `check.py`.

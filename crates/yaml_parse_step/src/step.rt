@@ -23,10 +23,10 @@ ghost use Rattle.yaml_parse_step.specs.Turned.{turned};
 use std::alloc::Global;
 use yaml_parse_grammar::{Choice, ParseFault, ParseProblem};
 use yaml_parse_machine::{choose, leave, take};
+use yaml_parse_model::{yaml_event_t, yaml_token_source_t};
 use yaml_parse_resolve::{Directives, Refusal, settle, settle_swiftly};
 use yaml_parse_states::{RawEvent, RawEventBody, State, open};
 use yaml_parse_swift::{Swift, take_swiftly};
-use yaml_parse_model::{yaml_event_t, yaml_token_source_t};
 use yaml_scan_model::{yaml_fault_t, yaml_mark_t, yaml_memory_fault, yaml_origin_t, yaml_token_t};
 
 /// What a step gives: an item, or with tags and directives resolved an event, or a fault, each in its slot; nothing; or nothing any

@@ -80,9 +80,23 @@ def built(rt, kept, logs, crate, jobs):
         return proved(rt, kept, crate, jobs) if crate.makes_rlib() else compiled(rt, crate, jobs)
 
 
+def keep_sums(rt):
+    """Has a crate's sum be taken once. The kit takes it before and behind each proof, down every path of edges, to mark a library
+    as built, which it doesn't do with one of statements alone."""
+    found, sum_of = {}, rt.Crate.stamp
+
+    def stamp(crate):
+        if crate.folder not in found:
+            found[crate.folder] = sum_of(crate)
+        return found[crate.folder]
+
+    rt.Crate.stamp = stamp
+
+
 def set_up(rt):
     """Has the kit's functions work as they do under `rt ci`."""
     rt.Crate.cuts_libraries = True
+    keep_sums(rt)
     for it in (rt.rtlib.ALLOW_C, rt.rtlib.BACKEND, "RT_SECONDS"):
         os.environ.pop(it, None)
     # its first call sets a signal's handler, which only the main thread may

@@ -16,6 +16,8 @@ MEMORY = 3_000_000_000
 MOST_JOBS = 4
 # A crate is on a long chain where that has so many in 100 of the longest one's work.
 LONG_PART = 70
+# A crate whose chain has less than so many in 100 of the longest one's work is left for the end, when processors are idle anyway.
+LATE_PART = 16
 # The part of the work, in 100, behind which the time that is left is told.
 TELLING_PART = 5
 # A crate that took fewer seconds was taken from what an earlier run kept, and says nothing of how fast crates are proved.
@@ -128,8 +130,8 @@ class Lanes:
 
     def begin(self, pool):
         """Begins what can begin, each with its share of the idle processors; what doesn't fit goes to the longest chains."""
-        ready = [it for it in self.left if all(dep in self.done for dep in it.below())]
         longest = max(self.behind[it] for it in [*self.left, *self.running_crates()]) if self.left else 0
+        ready = self.ready(longest)
         for at, it in enumerate(ready):
             idle = self.lanes - sum(jobs for _, jobs in self.running.values())
             if idle < 1:
@@ -139,6 +141,12 @@ class Lanes:
             jobs = max(1, min(MOST_JOBS, share))
             self.left.remove(it)
             self.running[pool.submit(self.timed, it, jobs)] = it, jobs
+
+    def ready(self, longest):
+        """The crates that can begin, but for those that the end has room for, as long as others are under way."""
+        found = [it for it in self.left if all(dep in self.done for dep in it.below())]
+        soon = [it for it in found if LATE_PART * longest <= 100 * self.behind[it]]
+        return soon if soon or self.running else found
 
     def running_crates(self):
         return [it for it, _ in self.running.values()]

@@ -16,8 +16,9 @@ MEMORY = 3_000_000_000
 MOST_JOBS = 4
 # A crate is on a long chain where that has so many in 100 of the longest one's work.
 LONG_PART = 70
-# A crate whose chain has less than so many in 100 of the longest one's work is left for the end, when processors are idle anyway.
-LATE_PART = 16
+# What only the last crates name is left for the end, when processors are idle anyway: until its chain has so many in 100 of the
+# longest one's work.
+LATE_PART = 40
 # The part of the work, in 100, behind which the time that is left is told.
 TELLING_PART = 5
 # A crate that took fewer seconds was taken from what an earlier run kept, and says nothing of how fast crates are proved.
@@ -91,15 +92,25 @@ def kept_by(rt, top, crates, searches=True):
     return Unsearched(rt.Kept(crates), own) if hasattr(rt, "Kept") else own
 
 
-# What a line of code weighs, of which each function is proved step by step, beside one of a definition or a proof; and what
-# loading costs each crate.
+def only_at_the_end(crates):
+    """The crates that are named by those alone beside which nothing can run, since all others are below them or above."""
+    below = {it: set(it.below()) for it in crates}
+    reached = {it: len(below[it]) + sum(it in found for found in below.values()) for it in crates}
+    lone = {it for it in crates if reached[it] == len(crates) - 1}
+    named_by = {it: {user for user in crates if it in user.deps} for it in crates}
+    return {it for it in crates if it not in lone and named_by[it] and named_by[it] <= lone}
+
+
+# What a line of code weighs, of which each function is proved step by step, beside one of a definition or a proof; what
+# loading costs each crate; and what linking and compiling cost, which go over all code below.
 CODE_WEIGHS = 35
 LOADING_WEIGHS = 4000
+COMPILING_WEIGHS = 20_000
 
 
 def work_of(crate):
     """A measure of a crate's work."""
-    found = LOADING_WEIGHS
+    found = LOADING_WEIGHS + (0 if crate.makes_rlib() else COMPILING_WEIGHS)
     for part, weighs in (("src", CODE_WEIGHS), ("specs", 1), ("proofs", 1)):
         for folder, _, names in os.walk(f"{crate.folder}/{part}"):
             for name in names:
@@ -124,6 +135,7 @@ class Lanes:
         self.work = {it: work_of(it) for it in crates}
         self.behind = longest_behind(crates, self.work)
         self.left = sorted(crates, key=lambda it: -self.behind[it])
+        self.late = only_at_the_end(crates)
         self.what, self.lanes, self.build = what, processors(), build
         self.total, self.done, self.running, self.failed = len(crates), set(), {}, []
         self.proved_work = 0
@@ -145,7 +157,7 @@ class Lanes:
     def ready(self, longest):
         """The crates that can begin, but for those that the end has room for, as long as others are under way."""
         found = [it for it in self.left if all(dep in self.done for dep in it.below())]
-        soon = [it for it in found if LATE_PART * longest <= 100 * self.behind[it]]
+        soon = [it for it in found if it not in self.late or LATE_PART * longest <= 100 * self.behind[it]]
         return soon if soon or self.running else found
 
     def running_crates(self):

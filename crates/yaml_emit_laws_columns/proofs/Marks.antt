@@ -6,7 +6,7 @@ use Rattle.yaml_emit_layout.specs.parse.Events.{TagDirective}
 use Rattle.yaml_emit_layout.specs.emit_text.declared.Settings.{Settings}
 use Rattle.yaml_emit_layout.specs.emit_text.declared.Style.TheVariants as style
 use Rattle.yaml_emit_layout.specs.emit_text.Scalars.{scalar_text}
-use Rattle.yaml_emit_layout.specs.emit_text.Tags.{tag_spelling, uri_text}
+use Rattle.yaml_emit_layout.specs.emit_tags.Tags.{tag_spelling, uri_text}
 use Rattle.yaml_emit_layout.specs.emit_text.Quoted.{double_quoted}
 use Rattle.yaml_emit_layout.specs.emit_text.Text.{is_deep}
 use Rattle.yaml_emit_layout.specs.emit_text.Layout.{Layout, ◌▹◌, stay, choose, when, char, word, opener, keep, order_mark, nothing_more, start, written}

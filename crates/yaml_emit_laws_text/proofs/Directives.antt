@@ -23,7 +23,7 @@ use Rattle.yaml_emit_laws_text.specs.emit_layout.emit_text.declared.Settings.{Se
 use Rattle.yaml_emit_laws_text.specs.emit_layout.emit_text.declared.LineBreak.{LineBreak}
 use Rattle.yaml_emit_laws_text.specs.emit_layout.emit_text.Text.{encode, char_bytes}
 use Rattle.yaml_emit_laws_text.specs.emit_layout.emit_text.Layout.{Layout, Rest, ◌▹◌, blank, letters, word, line}
-use Rattle.yaml_emit_laws_text.specs.emit_layout.emit_text.Tags.{uri_text}
+use Rattle.yaml_emit_laws_text.specs.emit_layout.emit_tags.Tags.{uri_text}
 use Rattle.yaml_emit_laws_text.specs.emit_layout.Content.{Opening}
 use Rattle.yaml_emit_laws_text.specs.emit_layout.Grammar.{or_else, is_version, version_problem, directives_problem}
 use Rattle.yaml_emit_laws_text.specs.emit_layout.Nodes.{version_word, version_text, directive_text, directives_text}

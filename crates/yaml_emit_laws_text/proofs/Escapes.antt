@@ -7,7 +7,8 @@ use lib.Utf8.{scalar, scalar_cases, encode}
 use Rattle.yaml_scan_scalars.specs.Quoted.{hex_digit, hex_len, simple_escape}
 use Rattle.yaml_emit_text.specs.declared.LineBreak.{LineBreak}
 use Rattle.yaml_emit_text.specs.declared.LineBreak.TheVariants.{Lf, Cr, CrLf}
-use Rattle.yaml_emit_text.specs.Quoted.{escape_letter, escape_text, hex_2, hex_4, hex_8, hex_digit as digit_of}
+use Rattle.yaml_emit_text.specs.Quoted.{escape_letter, escape_text, hex_4, hex_8}
+use Rattle.yaml_emit_text.specs.Hex.{hex_2, hex_digit as digit_of}
 use Rattle.yaml_emit_text.specs.Spelling as emitted
 use Rattle.yaml_emit_laws_text.specs.Spelling.{LineEnd, feed, return, return_feed, turn_bytes, turn_means, may_turn, QuotedPart, raw, named, numbered, fold, spelled, meant, spelling, meaning, number_behind, may_be_raw, MayStand, is_raw_blank, is_fold, is_turn, may_follow, may_be_next, IsSpelling}
 use Rattle.yaml_emit_laws_text.proofs.Bytes.{and_left, and_right, not_true, or_left, or_right, differs, AreCalm, calm_from, digit_calm, named_is}

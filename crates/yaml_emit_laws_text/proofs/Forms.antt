@@ -8,7 +8,7 @@ use Rattle.yaml_emit_laws_text.specs.emit_layout.parse.Events.{TagDirective}
 use Rattle.yaml_emit_laws_text.specs.emit_layout.emit_text.declared.Cursor.{Cursor}
 use Rattle.yaml_emit_laws_text.specs.emit_layout.emit_text.declared.Settings.{Settings}
 use Rattle.yaml_emit_laws_text.specs.emit_layout.emit_text.Layout.{Layout, Rest, word, ◌▹◌}
-use Rattle.yaml_emit_laws_text.specs.emit_layout.emit_text.Tags.{tag_spelling, split_tag}
+use Rattle.yaml_emit_laws_text.specs.emit_layout.emit_tags.Tags.{tag_spelling, split_tag}
 use Rattle.yaml_emit_laws_text.specs.emit_layout.Content.{Opening}
 use Rattle.yaml_emit_laws_text.specs.emit_layout.Nodes.{Context, version_text, directives_text}
 use Rattle.yaml_emit_laws_text.specs.scan_laws_keys.KeysTexts.{Word, word_kinds}

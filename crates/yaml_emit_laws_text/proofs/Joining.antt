@@ -14,7 +14,7 @@ use Rattle.yaml_scan_words.specs.Tags.{may_end_tag}
 use Rattle.yaml_scan_words.specs.Written.{HasAt, are_alphas}
 use Rattle.yaml_emit_layout.specs.parse.Events.{TagDirective}
 use Rattle.yaml_parse_grammar.specs.Resolve.{resolved}
-use Rattle.yaml_emit_layout.specs.emit_text.Tags.{has_shorter_prefix, directive_for, defines, primary, secondary, unless_defined, defaults, in_force, Split, shorthand, verbatim, split_by, split_tag, spelled, tag_spelling}
+use Rattle.yaml_emit_layout.specs.emit_tags.Tags.{has_shorter_prefix, directive_for, defines, primary, secondary, unless_defined, defaults, in_force, Split, shorthand, verbatim, split_by, split_tag, spelled, tag_spelling}
 use Rattle.yaml_emit_layout.specs.declared.problem.Problem.{Problem}
 use Rattle.yaml_emit_layout.specs.Content.{Opening}
 use Rattle.yaml_emit_layout.specs.Grammar.{or_else, between, inner_problem, ends_problem, handle_problem, prefix_problem, twice_problem, directive_problem, directives_problem, version_problem, opening_problem}

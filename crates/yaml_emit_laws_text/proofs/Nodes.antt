@@ -14,7 +14,7 @@ use Rattle.yaml_emit_laws_text.specs.emit_layout.emit_text.declared.Settings.{Se
 use Rattle.yaml_emit_laws_text.specs.emit_layout.emit_text.declared.LineBreak.{LineBreak}
 use Rattle.yaml_emit_laws_text.specs.emit_layout.emit_text.declared.LineBreak.TheVariants.{Lf, Cr, CrLf}
 use Rattle.yaml_emit_laws_text.specs.emit_layout.emit_text.Layout.{Layout, Rest, ◌▹◌, gap, blank, char, letters, word, when, stay, opener, line, new_line, must_break, indent_to}
-use Rattle.yaml_emit_laws_text.specs.emit_layout.emit_text.Tags.{tag_spelling}
+use Rattle.yaml_emit_laws_text.specs.emit_layout.emit_tags.Tags.{tag_spelling}
 use Rattle.yaml_emit_laws_text.specs.emit_layout.emit_text.Quoted.{double_quoted}
 use Rattle.yaml_emit_laws_text.specs.emit_layout.emit_text.Scalars.{scalar_text}
 use Rattle.yaml_emit_laws_text.specs.emit_layout.declared.level.Spot.{Spot}

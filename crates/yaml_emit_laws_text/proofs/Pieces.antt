@@ -10,8 +10,8 @@ use Rattle.yaml_scan_model.specs.Classes.{is_alpha_byte, is_digit_byte}
 use Rattle.yaml_scan_words.specs.Uris.{is_punctuation, is_wide_punctuation, due_behind}
 use Rattle.yaml_scan_words.specs.Written as written
 use Rattle.yaml_scan_words.specs.Written.{UriPiece, raw, escape, capital, piece_text, piece_byte, uri_bytes, is_kept, IsUri, has_no_mark}
-use Rattle.yaml_emit_layout.specs.emit_text.Quoted.{hex_digit, hex_2}
-use Rattle.yaml_emit_layout.specs.emit_text.Tags.{suffix_keeps, prefix_keeps, keeps_byte, uri_byte, uri_text}
+use Rattle.yaml_emit_layout.specs.emit_text.Hex.{hex_digit, hex_2}
+use Rattle.yaml_emit_layout.specs.emit_tags.Tags.{suffix_keeps, prefix_keeps, keeps_byte, uri_byte, uri_text}
 
 -- a byte as an emitter writes it
 abbrev pub piece_by : Bool → ℕ → UriPiece

@@ -9,7 +9,7 @@ use Rattle.std.specs.Str.{bytes_eq}
 use Rattle.yaml_emit_layout.specs.parse.Events.{TagDirective}
 use Rattle.yaml_parse_grammar.specs.Resolve as reader
 use Rattle.yaml_parse_grammar.specs.Resolve.{resolved, or_default, default_prefix}
-use Rattle.yaml_emit_layout.specs.emit_text.Tags.{has_shorter_prefix, directive_for, defines, primary, secondary, unless_defined, defaults, in_force, split_by, split_tag}
+use Rattle.yaml_emit_layout.specs.emit_tags.Tags.{has_shorter_prefix, directive_for, defines, primary, secondary, unless_defined, defaults, in_force, split_by, split_tag}
 use Rattle.yaml_emit_layout.specs.declared.problem.Problem.{Problem}
 use Rattle.yaml_emit_layout.specs.Content.{Opening}
 use Rattle.yaml_emit_layout.specs.Grammar.{or_else, handle_problem, prefix_problem, has_handle, twice_problem, directive_problem, directives_problem, version_problem, opening_problem}

@@ -11,7 +11,7 @@ use Rattle.yaml_emit_laws_text.specs.scan.Tokens as tokens
 use Rattle.yaml_emit_laws_text.specs.scan.Tokens.{TokenBody}
 use Rattle.yaml_emit_laws_text.specs.emit_layout.emit_text.declared.Cursor.{Cursor}
 use Rattle.yaml_emit_laws_text.specs.emit_layout.emit_text.Layout.{Layout, Rest, ◌▹◌, letters, word}
-use Rattle.yaml_emit_laws_text.specs.emit_layout.emit_text.Tags.{Split, shorthand, verbatim, spelled, split_tag}
+use Rattle.yaml_emit_laws_text.specs.emit_layout.emit_tags.Tags.{Split, shorthand, verbatim, spelled, split_tag}
 use Rattle.yaml_emit_laws_text.specs.emit_layout.Content.{Opening}
 use Rattle.yaml_scan_laws_texts.specs.WordsLaws.{LoneMarkReads}
 use Rattle.yaml_emit_laws_text.specs.TagsLaws.{SplitTagsAreRead, WrittenTagsAreReadable, ReadableTagsAreAscii, are_ascii, tag_text}

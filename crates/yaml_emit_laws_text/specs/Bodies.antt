@@ -4,7 +4,7 @@ use Rattle.yaml_emit_layout.specs.scan.declared.yaml_scalar_style_t.TheVariants.
 use Rattle.yaml_emit_layout.specs.scan.Tokens as tokens
 use Rattle.yaml_emit_layout.specs.scan.Tokens.{TokenBody}
 use Rattle.yaml_emit_layout.specs.parse.Events.{TagDirective}
-use Rattle.yaml_emit_layout.specs.emit_text.Tags.{Split, shorthand, verbatim, split_tag}
+use Rattle.yaml_emit_layout.specs.emit_tags.Tags.{Split, shorthand, verbatim, split_tag}
 use Rattle.yaml_emit_layout.specs.scan.declared.yaml_version_directive_t.{yaml_version_directive_t}
 use Rattle.yaml_emit_layout.specs.Nodes.{is_directed}
 use Rattle.yaml_emit_layout.specs.Content.{Opening, Document, Node, alias_node, scalar_node, sequence_node, mapping_node, Nodes, no_nodes, node, Pairs, no_pairs, pair}

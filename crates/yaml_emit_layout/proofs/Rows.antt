@@ -2,19 +2,20 @@
 use Rattle.std.proofs.Common.{◌≡◌, ℕ, List, [], ◌∷◌, refl, true, false, Bool, Option, Some, None, pos}
 use Rattle.std.specs.Prelude.{codes}
 use Rattle.std.specs.Str.{chars}
-use Rattle.yaml_emit_text.specs.scan.declared.yaml_scalar_style_t.{yaml_scalar_style_t}
-use Rattle.yaml_emit_text.specs.scan.declared.yaml_scalar_style_t.TheVariants as asked
-use Rattle.yaml_emit_text.specs.scan.Classes.{is_alpha_byte, is_digit_byte}
-use Rattle.yaml_emit_text.specs.parse.Events.{TagDirective}
+use Rattle.yaml_emit_tags.specs.scan.declared.yaml_scalar_style_t.{yaml_scalar_style_t}
+use Rattle.yaml_emit_tags.specs.scan.declared.yaml_scalar_style_t.TheVariants as asked
+use Rattle.yaml_emit_tags.specs.scan.Classes.{is_alpha_byte, is_digit_byte}
+use Rattle.yaml_emit_tags.specs.parse.Events.{TagDirective}
 use Rattle.yaml_emit_text.specs.declared.Settings.{Settings}
 use Rattle.yaml_emit_text.specs.declared.Encoding.TheVariants.{Utf8, Utf16Le}
 use Rattle.yaml_emit_text.specs.declared.LineBreak.TheVariants.{Lf, CrLf}
 use Rattle.yaml_emit_text.specs.Text.{shown}
 use Rattle.yaml_emit_text.specs.Layout.{letters, blanks, line, text_of}
-use Rattle.yaml_emit_text.specs.Quoted.{needs_escape, escape_letter, hex_digit, escape_text, quoted_char, quoted_body}
+use Rattle.yaml_emit_text.specs.Quoted.{needs_escape, escape_letter, escape_text, quoted_char, quoted_body}
+use Rattle.yaml_emit_text.specs.Hex.{hex_digit}
 use Rattle.yaml_emit_text.specs.Style.{somewhere, last_or, allowed, taken}
 use Rattle.yaml_emit_text.specs.Scalars.{flow_char, flow_body, behind_breaks, block_char, block_body, chomp, scalar_text}
-use Rattle.yaml_emit_text.specs.Tags.{directive_for, defines, suffix_keeps, uri_text, spelled}
+use Rattle.yaml_emit_tags.specs.Tags.{directive_for, defines, suffix_keeps, uri_text, spelled}
 use Rattle.yaml_emit_layout.specs.declared.problem.Problem.TheVariants as problem
 use Rattle.yaml_emit_layout.specs.Content.{Scalar, Start, Node, alias_node, scalar_node, sequence_node, mapping_node, no_nodes, node, no_pairs, pair, Document, Event, document_start, alias, scalar, sequence_start}
 use Rattle.yaml_emit_layout.specs.Grammar.{handle_problem, directives_problem, event_problem, last_problem, own_problems}

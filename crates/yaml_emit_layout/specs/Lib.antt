@@ -7,5 +7,6 @@ pub mod State
 pub mod ToCome
 -- what it stands on, for crates of laws that name this one alone
 pub use Rattle.yaml_emit_text.specs as emit_text
-pub use Rattle.yaml_emit_text.specs.scan
-pub use Rattle.yaml_emit_text.specs.parse
+pub use Rattle.yaml_emit_tags.specs as emit_tags
+pub use Rattle.yaml_emit_tags.specs.scan
+pub use Rattle.yaml_emit_tags.specs.parse

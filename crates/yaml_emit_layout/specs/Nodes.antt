@@ -2,9 +2,9 @@
 use Rattle.std.specs.Prelude.{ℕ, ◌+◌, ◌-◌, Bool, true, false, not, ◌&&◌, ◌||◌, ◌==◌, nat_le, nat_lt, if◌then◌else◌, List, [], ◌∷◌, length, Option, Some, None, pos, codes, zero, suc}
 use Rattle.std.specs.Ordering.{int_eq}
 use Rattle.std.specs.Str.{chars}
-use Rattle.yaml_emit_text.specs.scan.Classes.{is_break}
-use Rattle.yaml_emit_text.specs.scan.declared.yaml_version_directive_t.{yaml_version_directive_t}
-use Rattle.yaml_emit_text.specs.parse.Events.{TagDirective}
+use Rattle.yaml_emit_tags.specs.scan.Classes.{is_break}
+use Rattle.yaml_emit_tags.specs.scan.declared.yaml_version_directive_t.{yaml_version_directive_t}
+use Rattle.yaml_emit_tags.specs.parse.Events.{TagDirective}
 use Rattle.yaml_emit_text.specs.declared.Cursor.{Cursor}
 use Rattle.yaml_emit_text.specs.declared.Settings.{Settings}
 use Rattle.yaml_emit_text.specs.declared.Page.{Page}
@@ -13,7 +13,7 @@ use Rattle.yaml_emit_text.specs.declared.Style.TheVariants as style
 use Rattle.yaml_emit_text.specs.Text.{Item, deep}
 use Rattle.yaml_emit_text.specs.Style.{allowed, taken}
 use Rattle.yaml_emit_text.specs.Scalars.{scalar_text}
-use Rattle.yaml_emit_text.specs.Tags.{tag_spelling, tag_size, uri_text}
+use Rattle.yaml_emit_tags.specs.Tags.{tag_spelling, tag_size, uri_text}
 use Rattle.yaml_emit_text.specs.Layout.{Layout, ◌▹◌, stay, choose, when, char, word, indicator, opener, line, wrap, keep, order_mark}
 use Rattle.yaml_emit_layout.specs.declared.level.Part.{Part}
 use Rattle.yaml_emit_layout.specs.declared.level.Part.TheVariants as part

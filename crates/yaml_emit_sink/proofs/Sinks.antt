@@ -1,5 +1,5 @@
 -- Laws of what an output owes.
-use Rattle.std.proofs.Common.{◌≡◌, ◌≢◌, ℕ, ◌+◌, ◌-◌, ◌<◌, ◌≤◌, List, ◌∷◌, ◌++◌, length, drop, get_or, Bool, true, false, cond, refl, sym, subst, ◌∙◌, ap, append_assoc, arith, length-append}
+use Rattle.std.proofs.Common.{◌≡◌, ◌≢◌, ℕ, ◌+◌, ◌-◌, ◌<◌, ◌≤◌, List, [], ◌∷◌, ◌++◌, length, drop, get_or, Bool, true, false, cond, refl, sym, subst, ◌∙◌, ap, append_assoc, arith, length-append}
 use Rattle.std.specs.Prelude.{if◌then◌else◌, zero, suc, replicate}
 use Rattle.yaml_emit_sink.specs.declared.settings.Encoding.TheVariants.{Utf8}
 use Rattle.std.proofs.lemmas.List.{take-append-drop, take-append-le, drop_more, drop_all}
@@ -257,3 +257,17 @@ puts_deep a b o s g e l = record {
   going = λ x. absurd (cc (sym s ∙ x));
   stays = λ n. absurd (n g);
 }
+
+-- texts of letters
+pub letters_append : (xs ys : List ℕ) → letters (xs ++ ys) ≡ (letters xs ▹ letters ys)
+unfolding letters
+letters_append [] ys = refl
+letters_append (x ∷ xs) ys = ap (λ t. char x ▹ t) (letters_append xs ys)
+
+-- one text behind another
+pub puts_letters : (a b c : Output) (xs ys : List ℕ) → Puts a b (letters xs) → Puts b c (letters ys) → Puts a c (letters (xs ++ ys))
+puts_letters a b c xs ys p q = let P : Layout → Type 0 = λ t. Puts a c t in subst P (sym (letters_append xs ys)) (puts_both a b c (letters xs) (letters ys) p q)
+
+pub puts_one : (a b : Output) (x : ℕ) → Puts a b (char x) → Puts a b (letters (x ∷ []))
+unfolding letters
+puts_one a b x p = p

@@ -3,4 +3,5 @@ pub mod Text
 pub mod Layout
 pub mod Appends
 pub mod Sink
+pub mod Hex
 pub mod Laws

@@ -4,12 +4,14 @@
 mod append;
 mod bytes;
 mod cursor;
+mod hex;
 mod laws;
 mod narrow;
 mod settings;
 mod sink;
 
 pub use cursor::{Cursor, Status};
+pub use hex::put_hex_2;
 pub use laws::utf8_encodes;
 pub use settings::{Encoding, LineBreak, RequestedSettings, Settings, settled};
 pub use sink::Sink;

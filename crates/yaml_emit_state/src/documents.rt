@@ -9,7 +9,8 @@ ghost use Rattle.yaml_emit_state.specs.Given.{lent_opening};
 
 use crate::given::Opening;
 use yaml_emit_layout::Expected;
-use yaml_emit_text::{Settings, Sink, put_prefix};
+use yaml_emit_tags::put_prefix;
+use yaml_emit_text::{Settings, Sink};
 use yaml_scan_model::{yaml_tag_directive_t, yaml_version_directive_t};
 
 fn put_dots(sink: &mut Sink, settings: &Settings)

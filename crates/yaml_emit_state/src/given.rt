@@ -1,7 +1,8 @@
 //! What is written of an event, lent, and what it is written under.
 
 use yaml_emit_layout::{Expected, Level};
-use yaml_emit_text::{DirectiveTable, Settings};
+use yaml_emit_tags::DirectiveTable;
+use yaml_emit_text::Settings;
 use yaml_scan_model::{yaml_scalar_style_t, yaml_tag_directive_t, yaml_version_directive_t};
 
 /// The settings in force, and the document's tag directives.

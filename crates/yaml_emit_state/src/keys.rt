@@ -11,7 +11,7 @@ ghost use Rattle.yaml_emit_state.specs.Given.{lent_context, lent_scalar, lent_st
 
 use crate::given::{Context, Scalar, Start};
 use yaml_emit_layout::{Level, Phase};
-use yaml_emit_text::tag_size;
+use yaml_emit_tags::tag_size;
 use yaml_parse_model::yaml_event_body_t;
 use yaml_scan_classes::IS_BREAK;
 use yaml_scan_model::{yaml_mapping_style_t, yaml_sequence_style_t};

@@ -16,9 +16,10 @@ use crate::before::{put_blank_if, put_opener_if};
 use crate::given::{Context, Scalar, Start};
 use crate::indent::{deeper, is_flow, is_simple_part, put_checked};
 use yaml_emit_layout::Spot;
+use yaml_emit_tags::put_tag;
 use yaml_emit_text::{
     Page, Settings, Sink, Style, allowed_by, put_opening_quote, put_quoted_inside, put_styled,
-    put_tag, put_tame, taken, text,
+    put_tame, taken, text,
 };
 
 fn put_name(sink: &mut Sink, indicator: char, name: &[u8])

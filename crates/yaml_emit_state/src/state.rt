@@ -13,7 +13,8 @@ use crate::levels::Levels;
 use event::{put_event, put_scalar_node};
 use std::alloc::{AllocError, Global};
 use yaml_emit_layout::Expected;
-use yaml_emit_text::{DirectiveTable, Settings, Sink, Status, is_tame};
+use yaml_emit_tags::DirectiveTable;
+use yaml_emit_text::{Settings, Sink, Status, is_tame};
 use yaml_parse_model::yaml_event_body_t;
 
 /// Where an emitter stands: the settings in force, the output, what is expected, the open collections, and the directives of

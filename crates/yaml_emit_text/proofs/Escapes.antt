@@ -2,7 +2,8 @@
 use Rattle.std.proofs.Common.{◌≡◌, ◌≢◌, ℕ, ◌<◌, ◌≤◌, List, [], ◌∷◌, refl, arith}
 use Rattle.yaml_emit_text.specs.declared.page.Page.{Page}
 use Rattle.yaml_emit_sink.specs.Layout.{◌▹◌, stay}
-use Rattle.yaml_emit_text.specs.Quoted.{escape_text, escape_letter, hex_2, hex_4, hex_8, quoted_body, quoted_char}
+use Rattle.yaml_emit_sink.specs.Hex.{hex_2}
+use Rattle.yaml_emit_text.specs.Quoted.{escape_text, escape_letter, hex_4, hex_8, quoted_body, quoted_char}
 
 pub escape_by_letter : (c : ℕ) → escape_letter c ≢ 0 → escape_text c ≡ 92 ∷ escape_letter c ∷ []
 unfolding escape_text

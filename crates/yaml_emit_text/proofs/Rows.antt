@@ -1,18 +1,17 @@
 -- Worked examples, computed by the definitions.
 use Rattle.std.proofs.Common.{◌≡◌, ℕ, List, [], ◌∷◌, refl, true, false}
 use Rattle.std.specs.Prelude.{codes}
-use Rattle.yaml_scan_model.specs.declared.yaml_scalar_style_t.TheVariants as asked
-use Rattle.yaml_parse_model.specs.Events.{TagDirective}
+use Rattle.yaml_scan_types.specs.declared.yaml_scalar_style_t.TheVariants as asked
 use Rattle.yaml_emit_text.specs.declared.page.Page.{Page}
 use Rattle.yaml_emit_text.specs.declared.page.Style.TheVariants as style
 use Rattle.yaml_emit_sink.specs.declared.Encoding.TheVariants.{Utf16Le, Utf16Be}
 use Rattle.yaml_emit_sink.specs.declared.LineBreak.TheVariants.{Lf, CrLf}
 use Rattle.yaml_emit_sink.specs.Text.{letter, shown, encode, char_bytes, is_deep}
 use Rattle.yaml_emit_sink.specs.Layout.{◌▹◌, char, letters, blanks, line, word, order_mark, written, text_of}
-use Rattle.yaml_emit_text.specs.Quoted.{needs_escape, escape_letter, hex_digit, escape_text, quoted_char, quoted_body, double_quoted}
+use Rattle.yaml_emit_sink.specs.Hex.{hex_digit}
+use Rattle.yaml_emit_text.specs.Quoted.{needs_escape, escape_letter, escape_text, quoted_char, quoted_body, double_quoted}
 use Rattle.yaml_emit_text.specs.Style.{somewhere, last_or, allowed, taken}
 use Rattle.yaml_emit_text.specs.Scalars.{flow_char, flow_body, behind_breaks, block_char, block_body, chomp, scalar_text, plain, single_quoted, block}
-use Rattle.yaml_emit_text.specs.Tags.{directive_for, defines, suffix_keeps, uri_text, spelled, tag_spelling}
 
 -- an indentation of 2, and lines of 10 columns
 abbrev narrow : Page
@@ -26,9 +25,6 @@ simple_key = record { width = 10; indentation = 2; unicode = true; cuts = false;
 
 abbrev dos : Page
 dos = record { width = 10; indentation = 2; unicode = true; cuts = true; line_break = CrLf }
-
-abbrev directive : List ℕ → List ℕ → TagDirective
-directive handle prefix = record { handle = handle; prefix = prefix }
 
 double_folds : text_of (double_quoted narrow (codes "aaaa bbbb cccc dddd")) ≡ codes "\"aaaa bbbb cccc\n  dddd\""
 unfolding letters blanks line shown encode char_bytes is_deep needs_escape escape_letter hex_digit escape_text quoted_char quoted_body somewhere last_or allowed taken flow_char flow_body behind_breaks block_char block_body chomp scalar_text
@@ -137,39 +133,3 @@ space_before_break = refl
 literal_in_flow : taken (allowed true (codes "a\nb")) asked.YAML_LITERAL_SCALAR_STYLE true true false false ≡ style.Double
 unfolding letters blanks line shown encode char_bytes is_deep needs_escape escape_letter hex_digit escape_text quoted_char quoted_body somewhere last_or allowed taken flow_char flow_body behind_breaks block_char block_body chomp scalar_text
 literal_in_flow = refl
-
-tag_by_directive : tag_spelling (directive (codes "!!") (codes "tag:x,2000:") ∷ []) (codes "tag:x,2000:a b") ≡ codes "!!a%20b"
-unfolding directive_for defines suffix_keeps uri_text spelled hex_digit
-tag_by_directive = refl
-
-tag_of_redefined : tag_spelling (directive (codes "!!") (codes "tag:x,2000:") ∷ []) (codes "tag:yaml.org,2002:str") ≡ codes "!<tag:yaml.org,2002:str>"
-unfolding directive_for defines suffix_keeps uri_text spelled hex_digit
-tag_of_redefined = refl
-
-tag_by_primary : tag_spelling (directive (codes "!") (codes "!m-") ∷ []) (codes "!m-a") ≡ codes "!a"
-unfolding directive_for defines suffix_keeps uri_text spelled hex_digit
-tag_by_primary = refl
-
-tag_not_shorter : tag_spelling [] (codes "!") ≡ codes "!<%21>"
-unfolding directive_for defines suffix_keeps uri_text spelled hex_digit
-tag_not_shorter = refl
-
-tag_whole_prefix : tag_spelling (directive (codes "!e!") (codes "tag:x,2000:") ∷ []) (codes "tag:x,2000:") ≡ codes "!<tag:x,2000:>"
-unfolding directive_for defines suffix_keeps uri_text spelled hex_digit
-tag_whole_prefix = refl
-
-tag_flow_indicators : tag_spelling [] (codes "tag:yaml.org,2002:a,[b]") ≡ codes "!!a%2C%5Bb%5D"
-unfolding directive_for defines suffix_keeps uri_text spelled hex_digit
-tag_flow_indicators = refl
-
-tag_first : tag_spelling (directive (codes "!e!") (codes "!") ∷ directive (codes "!f!") (codes "!") ∷ []) (codes "!x") ≡ codes "!e!x"
-unfolding directive_for defines suffix_keeps uri_text spelled hex_digit
-tag_first = refl
-
-tag_verbatim : tag_spelling [] (120 ∷ 91 ∷ 44 ∷ 93 ∷ 37 ∷ 0 ∷ []) ≡ codes "!<x[,]%25%00>"
-unfolding directive_for defines suffix_keeps uri_text spelled hex_digit
-tag_verbatim = refl
-
-prefix_escaped : uri_text true (codes "!m-") ≡ codes "%21m-"
-unfolding directive_for defines suffix_keeps uri_text spelled hex_digit
-prefix_escaped = refl

@@ -1,5 +1,5 @@
 -- Bytes in front that pass a test, and runs that are written as they are.
-use Rattle.std.proofs.Common.{◌≡◌, ℕ, zero, suc, ◌+◌, ◌-◌, ◌<◌, ◌≤◌, List, [], ◌∷◌, ◌++◌, length, take, drop, get_or, Bool, true, false, cond, IsUtf8, refl, sym, subst, ◌∙◌, ap, arith}
+use Rattle.std.proofs.Common.{◌≡◌, ℕ, zero, suc, ◌+◌, ◌-◌, ◌<◌, ◌≤◌, List, [], ◌∷◌, ◌++◌, length, take, drop, get_or, Bool, true, false, cond, IsUtf8, refl, sym, subst, ◌∙◌, ap, arith, length-drop}
 use Rattle.std.specs.Prelude.{if◌then◌else◌, not, nat_le, ◌==◌, ◌||◌, ◌&&◌}
 use Rattle.std.specs.Str.{chars, IsAscii}
 use Rattle.std.specs.List.{All}
@@ -140,6 +140,10 @@ run_ascii e k bs h = IsAscii-from_all bs (below_all (runs_on e) (run_low e) k bs
 
 pub calm_ascii : (k : ℕ) (bs : List ℕ) → all_pass calm k bs ≡ true → IsAscii bs
 calm_ascii k bs h = IsAscii-from_all bs (below_all calm calm_low k bs h)
+
+-- what `&s[n..]` is
+pub rest_of_slice : (n : ℕ) (xs : List ℕ) → take (length xs - n) (drop n xs) ≡ drop n xs
+rest_of_slice n xs = take_all (length xs - n) (drop n xs) (omega (arith, length-drop n xs))
 
 -- a text that is cut behind ASCII
 pub cut_letters : (n : ℕ) (bs : List ℕ) → IsAscii (take n bs) → chars bs ≡ take n bs ++ chars (drop n bs)

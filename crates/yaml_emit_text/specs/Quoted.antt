@@ -2,6 +2,7 @@
 use Rattle.std.specs.Prelude.{ℕ, ◌+◌, ◌/◌, ◌%◌, Bool, true, false, not, ◌==◌, ◌&&◌, ◌||◌, nat_lt, nat_le, if◌then◌else◌, List, [], ◌∷◌, ◌++◌}
 use Rattle.yaml_emit_text.specs.declared.page.Page.{Page}
 use Rattle.yaml_emit_sink.specs.Text.{is_break}
+use Rattle.yaml_emit_sink.specs.Hex.{hex_2}
 use Rattle.yaml_emit_sink.specs.Layout.{Layout, ◌▹◌, stay, choose, when, char, letters, blanks, new_line, gap, is_past}
 
 -- 0A, 20 to 7E, A0 to D7FF, E000 to FFFD without FEFF, 10000 to 10FFFF
@@ -35,13 +36,6 @@ escape_letter c =
     else if c == 0x2028 then 76
     else if c == 0x2029 then 80
     else 0
-
--- 0-9 A-F
-unfoldable pub hex_digit : ℕ → ℕ
-hex_digit d = if nat_lt d 10 then 48 + d else 55 + d
-
-abbrev pub hex_2 : ℕ → List ℕ
-hex_2 n = hex_digit (n / 16) ∷ hex_digit (n % 16) ∷ []
 
 abbrev pub hex_4 : ℕ → List ℕ
 hex_4 n = hex_2 (n / 0x100) ++ hex_2 (n % 0x100)

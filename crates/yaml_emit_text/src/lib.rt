@@ -1,4 +1,4 @@
-//! What an emitter writes into its output: scalars in every style, and tags.
+//! What an emitter writes into its output: scalars in every style.
 #![tactic(auto)]
 
 mod block;
@@ -6,14 +6,10 @@ mod flow;
 mod laws;
 mod letters;
 mod page;
-mod prefixes;
 mod quoted;
 mod run;
 mod scalar;
-mod split;
 mod style;
-mod table;
-mod tag;
 mod tamed;
 
 pub use block::{put_folded, put_literal};
@@ -24,8 +20,6 @@ pub use page::{Allowed, Chomp, Page, Seen, Style};
 pub use quoted::{put_double_quoted, put_opening_quote, put_quoted_inside};
 pub use scalar::put_styled;
 pub use style::{allowed_for, taken};
-pub use table::DirectiveTable;
-pub use tag::{put_alias, put_anchor, put_prefix, put_tag, tag_size};
 pub use tamed::{allowed_by, is_tame, put_tame};
 pub use yaml_emit_sink::{
     Cursor, Encoding, LineBreak, RequestedSettings, Settings, Sink, Status, settled, utf8_encodes,

@@ -6,33 +6,12 @@ ghost use Rattle.yaml_emit_sink.specs.Sink.{Puts, Owes};
 ghost use Rattle.yaml_emit_sink.specs.Text.{is_break};
 ghost use Rattle.yaml_emit_sink.specs.Layout.{◌▹◌, stay, choose, when, char, letters, blanks, new_line, gap, word, is_past};
 ghost use Rattle.yaml_emit_text.specs.Runs.{quoted_bounds};
-ghost use Rattle.yaml_emit_text.specs.Quoted.{is_printable, needs_escape, escape_letter, hex_digit, hex_2, hex_4, hex_8, escape_text, first, is_empty, may_fold, fold, escaped, quoted_char, quoted_body, double_quoted};
+ghost use Rattle.yaml_emit_text.specs.Quoted.{is_printable, needs_escape, escape_letter, hex_4, hex_8, escape_text, first, is_empty, may_fold, fold, escaped, quoted_char, quoted_body, double_quoted};
 
 use crate::letters::{first, is_break, is_empty, split_first};
 use crate::page::Page;
 use crate::run::{Bounds, last_of, split_run};
-use yaml_emit_sink::Sink;
-
-// 0-9 A-F
-#[tactic(auto, unfolding(crate::specs::Quoted::hex_digit))]
-fn hex(d: u32) -> char
-    requires { d < 16 }
-    ensures { result ≡ hex_digit d }
-{
-    if d < 10 {
-        (48 + d as u8) as char
-    } else {
-        (55 + d as u8) as char
-    }
-}
-
-pub(crate) fn put_hex_2(sink: &mut Sink, n: u32)
-    requires { n < 0x100 }
-    ensures { Puts sink.old sink.new (letters (hex_2 n)) }
-{
-    sink.put(hex(n / 16));
-    sink.put(hex(n % 16));
-}
+use yaml_emit_sink::{Sink, put_hex_2};
 
 fn put_hex_4(sink: &mut Sink, n: u32)
     requires { n < 0x1_0000 }

@@ -10,7 +10,7 @@ use crate::letters::{first, is_break, is_empty, split_first};
 use crate::page::{Allowed, Seen, Style};
 use crate::quoted::is_printable;
 use crate::run::{last_of, split_calm};
-use yaml_scan_model::yaml_scalar_style_t;
+use yaml_scan_types::yaml_scalar_style_t;
 
 pub(crate) fn is_blank(c: char) -> bool
     ensures { result ≡ is_blank c }

@@ -33,14 +33,20 @@ fn ends_well(value: &[u8]) -> bool
     value[value.len() - 1] != b' '
 }
 
+// A text of more bytes than these seldom fits its line.
+const LINE: usize = 80;
+
 /// Whether a text is tame: it begins with a letter or a digit, no space ends it, and none of its bytes says anything against a
-/// style.
-// Inlined: two tests and a loop.
+/// style. A text that is longer than most lines isn't asked: it is looked at once, for its style.
+// Inlined: three tests and a loop.
 #[inline(always)]
 pub fn is_tame(value: &[u8]) -> bool
     ensures { result ≡ true → IsTame value.now }
 {
     if value.is_empty() {
+        return false;
+    }
+    if LINE < value.len() {
         return false;
     }
     starts_well(value) && ends_well(value) && are_calm(value)

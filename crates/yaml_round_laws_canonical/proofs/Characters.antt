@@ -9,8 +9,9 @@ use lib.Utf8.{scalar, scalars, encode}
 use Rattle.yaml_emit_layout.specs.scan.Classes.{is_alpha_byte, is_digit_byte}
 use Rattle.yaml_scan_decode.specs.Characters.{is_allowed}
 use Rattle.yaml_emit_layout.specs.emit_text.Text.{is_break}
-use Rattle.yaml_emit_layout.specs.emit_text.Quoted.{is_printable, needs_escape, escape_letter, escape_text, hex_digit, hex_2, hex_4, hex_8}
-use Rattle.yaml_emit_layout.specs.emit_text.Tags.{suffix_keeps, prefix_keeps, keeps_byte, uri_byte, uri_text}
+use Rattle.yaml_emit_layout.specs.emit_text.Quoted.{is_printable, needs_escape, escape_letter, escape_text, hex_4, hex_8}
+use Rattle.yaml_emit_layout.specs.emit_text.Hex.{hex_digit, hex_2}
+use Rattle.yaml_emit_layout.specs.emit_tags.Tags.{suffix_keeps, prefix_keeps, keeps_byte, uri_byte, uri_text}
 
 abbrev pub Fits : ℕ → Type 0
 Fits c = is_allowed c ≡ true

@@ -22,7 +22,7 @@ use Rattle.yaml_parse_grammar.specs.Trees.{Span, token_at, PropertyTokens, Given
 use Rattle.yaml_parse_grammar.specs.TreeSteps.{items_node, items_content, items_items}
 use Rattle.yaml_parse_grammar.specs.Trees as trees
 use Rattle.yaml_parse_grammar.specs.Resolve.{Directives, Reading, Settled, gave, settle, read_on, reading, resolved, with_resolved, node_event, is_missing}
-use Rattle.yaml_emit_laws_text.specs.emit_layout.emit_text.Tags.{Split, shorthand, verbatim, split_tag}
+use Rattle.yaml_emit_laws_text.specs.emit_layout.emit_tags.Tags.{Split, shorthand, verbatim, split_tag}
 use Rattle.yaml_emit_laws_text.specs.emit_layout.Content.{Scalar, Start, Node, alias_node, scalar_node, sequence_node, mapping_node, Nodes, no_nodes, node, Pairs, no_pairs, pair}
 use Rattle.yaml_emit_laws_text.specs.emit_layout.Grammar.{has}
 use Rattle.yaml_emit_laws_text.specs.TagsLaws.{resolved_split}

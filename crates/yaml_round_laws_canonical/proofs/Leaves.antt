@@ -11,7 +11,7 @@ use Rattle.yaml_emit_layout.specs.emit_text.declared.Settings.{Settings}
 use Rattle.yaml_emit_layout.specs.emit_text.declared.page.Page.{Page}
 use Rattle.yaml_emit_layout.specs.emit_text.Layout.{Layout, ◌▹◌, choose, when, char, letters, blanks, new_line, gap, word, is_past}
 use Rattle.yaml_emit_layout.specs.emit_text.Quoted.{needs_escape, escape_text, first, is_empty, may_fold, fold, escaped, quoted_char, quoted_body, double_quoted}
-use Rattle.yaml_emit_layout.specs.emit_text.Tags.{has_shorter_prefix, directive_for, defines, primary, secondary, unless_defined, defaults, in_force, split_by, spelled, tag_spelling, uri_text}
+use Rattle.yaml_emit_layout.specs.emit_tags.Tags.{has_shorter_prefix, directive_for, defines, primary, secondary, unless_defined, defaults, in_force, split_by, spelled, tag_spelling, uri_text}
 use Rattle.yaml_emit_layout.specs.declared.problem.Problem.{Problem}
 use Rattle.yaml_emit_layout.specs.Grammar.{or_else, between, inner_problem, ends_problem, handle_problem, prefix_problem, twice_problem, directive_problem, directives_problem}
 use Rattle.yaml_emit_layout.specs.Nodes.{Context, anchor_text, tag_text, version_word, version_text, directive_text, directives_text, line_at}

@@ -5,7 +5,7 @@ use Rattle.std.specs.Str.{bytes_eq}
 use Rattle.yaml_parse_grammar.specs.parse_model.declared.yaml_version_directive_t.{yaml_version_directive_t}
 use Rattle.yaml_parse_grammar.specs.parse_model.Events.{TagDirective}
 use Rattle.yaml_parse_grammar.specs.Resolve.{is_known_version, directive_for}
-use Rattle.yaml_emit_laws_text.specs.emit_layout.emit_text.Tags.{split_tag}
+use Rattle.yaml_emit_laws_text.specs.emit_layout.emit_tags.Tags.{split_tag}
 use Rattle.yaml_emit_laws_text.specs.emit_layout.Content.{Opening}
 use Rattle.yaml_emit_laws_text.specs.emit_layout.declared.problem.Problem.{Problem}
 use Rattle.yaml_emit_laws_text.specs.emit_layout.Grammar.{or_else, is_version, version_problem, handle_problem, prefix_problem, has_handle, twice_problem, directive_problem, directives_problem, opening_problem}

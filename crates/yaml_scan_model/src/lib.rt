@@ -4,7 +4,6 @@
 pub mod fault;
 pub mod name;
 mod problem;
-mod pushing;
 mod reader;
 pub mod record;
 mod run;
@@ -17,10 +16,9 @@ pub use name::{
     yaml_node_type_t, yaml_scalar_style_t, yaml_sequence_style_t, yaml_token_type_t,
 };
 pub use problem::{Context, Problem, ScanError, ScanFault};
-pub use pushing::{push_each, push_near};
 pub use reader::{Reader, is_blank as is_blank_byte};
 pub use record::{yaml_mark_t, yaml_simple_key_t, yaml_tag_directive_t, yaml_version_directive_t};
 pub use run::{is_text, skip_blanks, skip_spaces, skip_text};
 pub use spares::{copied, copied_whole, moved, room};
 pub use token::{yaml_token_body_t, yaml_token_t};
-pub use yaml_scan_types::{yaml_memory_fault, yaml_token_delete};
+pub use yaml_scan_types::{push_each, push_near, yaml_memory_fault, yaml_token_delete};

@@ -14,7 +14,8 @@ use crate::indent::{indent_of, is_flow, spot_of};
 use crate::keys::{is_flow_mapping, is_flow_sequence};
 use std::mem;
 use yaml_emit_layout::{Expected, Level, Phase};
-use yaml_emit_text::{DirectiveTable, Settings, Status};
+use yaml_emit_tags::DirectiveTable;
+use yaml_emit_text::{Settings, Status};
 use yaml_parse_model::yaml_event_body_t;
 use yaml_scan_model::yaml_tag_directive_t;
 

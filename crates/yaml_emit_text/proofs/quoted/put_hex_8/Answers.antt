@@ -1,4 +1,4 @@
-use Rattle.yaml_emit_text.proofs.Spells.{puts_letters}
+use Rattle.yaml_emit_sink.proofs.Sinks.{puts_letters}
 use Rattle.yaml_emit_text.proofs.quoted.put_hex_8.Goals as goal
 
 pub returns : goal.returns

@@ -1,5 +1,5 @@
 use Rattle.yaml_emit_text.proofs.RunLemmas.{cut_letters, cut_utf8}
-use Rattle.yaml_emit_text.proofs.Directives.{rest_of_slice}
+use Rattle.yaml_emit_text.proofs.RunLemmas.{rest_of_slice}
 use Rattle.yaml_emit_text.proofs.run.cut.Goals as goal
 
 pub text-requires : goal.text-requires

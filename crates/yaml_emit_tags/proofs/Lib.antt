@@ -1,0 +1,8 @@
+mod Spells
+mod Directives
+pub mod Sorting
+pub mod Narrowing
+pub mod Numbering
+pub mod Directing
+mod Kept
+mod TagRows

@@ -1,0 +1,108 @@
+-- Sorted prefixes, and the search for those that a tag begins with.
+use Rattle.std.proofs.Common.{◌≡◌, ◌≢◌, ℕ, ◌+◌, ◌-◌, ◌<◌, ◌≤◌, List, [], ◌∷◌, ◌++◌, length, take, drop, get_or, map, Bool, true, false, refl, sym, ◌∙◌, ap, arith, subst, inl, inr, Option, None, Some}
+use Rattle.std.specs.Prelude.{zero, suc, Vec, nat_lt, nat_le, ◌==◌, ◌&&◌, ◌⊎◌, if◌then◌else◌}
+use Rattle.std.specs.Global.{Global}
+use Rattle.std.specs.Str.{bytes_eq}
+use Rattle.std.specs.declared.cmp.Ordering.{Ordering}
+use Rattle.std.specs.declared.cmp.Ordering.TheVariants.{Less, Equal, Greater}
+use Rattle.std.specs.Ordering.{nat_cmp, ordering_then, is_lt, on}
+use Rattle.std.specs.Cmp.Lexicographic.{slice_cmp}
+use Rattle.std.specs.Cmp.{IsTotalOrder, IsStrictWeakOrder}
+use Rattle.std.specs.List.Sorted.{IsPermutation, IsSorted}
+use Rattle.std.proofs.lemmas.Bool.{ltb-true, ltb-false, cases_eq}
+use Rattle.std.proofs.lemmas.Bool.Decides.{nat_tests}
+use Rattle.std.proofs.lemmas.Cmp.{then_total, on_total, nat_list_cmp_total, nat_cmp_total, tied_itself}
+use Rattle.std.proofs.lemmas.List.{length-map, take_more}
+use Rattle.std.proofs.lemmas.List.Sorted.{sorted_far, ranks_by}
+use Rattle.std.proofs.lemmas.Slice.Eq.{bytes_eq-Decides}
+use Rattle.yaml_emit_tags.specs.Tags.{has_shorter_prefix}
+use Rattle.yaml_emit_tags.specs.Prefixes.{Entry, entry_of, at, key}
+
+-- ---- an entry of the code's list
+
+pub at_of : (es : List (Vec ℕ Global × ℕ)) (k : ℕ) (e : Vec ℕ Global × ℕ) → k < length es → e ≡ get_or es k e → at (map entry_of es) k ≡ entry_of e
+at_of [] k e h is = absurd (omega arith)
+at_of (x ∷ es) zero e h is = ap entry_of (sym is)
+at_of (x ∷ es) (suc k) e h is = at_of es k e (omega arith) is
+
+-- ---- keys
+
+pub key_behind : (p : List ℕ) (d : ℕ) → length p ≤ d → key p d ≡ 0
+unfolding key
+key_behind [] d h = refl
+key_behind (b ∷ bs) zero h = absurd (omega arith)
+key_behind (b ∷ bs) (suc d) h = key_behind bs d (omega arith)
+
+pub key_within : (p : List ℕ) (d : ℕ) → d < length p → key p d ≡ get_or p d 0 + 1
+unfolding key
+key_within [] d h = absurd (omega arith)
+key_within (b ∷ bs) zero h = refl
+key_within (b ∷ bs) (suc d) h = key_within bs d (omega arith)
+
+-- ---- what a tag begins with
+
+-- the two agree in the first bytes
+pub record Agree (d : ℕ) (p t : List ℕ) : Type 0 where
+  pub long : d ≤ length p
+  pub same : take d p ≡ take d t
+
+pub record Begins (p t : List ℕ) : Type 0 where
+  pub shorter : length p < length t
+  pub same : take (length p) t ≡ p
+
+both : (a b : Bool) → (a && b) ≡ true → (a ≡ true) × (b ≡ true)
+both true b e = (refl, e)
+both false b e = absurd (cc)
+
+pub begins : (p t : List ℕ) → has_shorter_prefix p t ≡ true → Begins p t
+begins p t e =
+    let s = both (nat_lt (length p) (length t)) (bytes_eq (take (length p) t) p) e in
+    record { shorter = ltb-true (length p) (length t) s.0; same = (bytes_eq-Decides (take (length p) t) p).0 s.1 }
+
+pub begun : (p t : List ℕ) → length p < length t → take (length p) t ≡ p → has_shorter_prefix p t ≡ true
+begun p t h e = let k : bytes_eq (take (length p) t) p ≡ true = (bytes_eq-Decides (take (length p) t) p).1 e in rw k (grind (arith, nat_tests))
+
+take_less : (d n : ℕ) (t : List ℕ) → d ≤ n → take d (take n t) ≡ take d t
+take_less zero n t h = refl
+take_less (suc d) zero t h = absurd (omega arith)
+take_less (suc d) (suc n) [] h = refl
+take_less (suc d) (suc n) (x ∷ t) h = ap (λ z. x ∷ z) (take_less d n t (omega arith))
+
+pub begins_agree : (d : ℕ) (p t : List ℕ) → Begins p t → d ≤ length p → Agree d p t
+begins_agree d p t b h = record { long = h; same = ap (take d) (sym b.same) ∙ take_less d (length p) t h }
+
+get_take : (d n : ℕ) (t : List ℕ) → d < n → get_or (take n t) d 0 ≡ get_or t d 0
+get_take d zero t h = absurd (omega arith)
+get_take d (suc n) [] h = refl
+get_take zero (suc n) (x ∷ t) h = refl
+get_take (suc d) (suc n) (x ∷ t) h = get_take d n t (omega arith)
+
+-- the byte behind is the tag's
+pub begins_key : (d : ℕ) (p t : List ℕ) → Begins p t → d < length p → key p d ≡ get_or t d 0 + 1
+begins_key d p t b h = key_within p d h ∙ ap (λ q. get_or q d 0 + 1) (sym b.same) ∙ ap (λ n. n + 1) (get_take d (length p) t h)
+
+take_next : (d : ℕ) (p : List ℕ) → d < length p → take (d + 1) p ≡ take d p ++ get_or p d 0 ∷ []
+take_next d p h = take_more p d 0 h
+
+pub less_or : (m n : ℕ) → (m < n) ⊎ (n ≤ m)
+less_or m n = less_by m n (nat_lt m n) refl
+  where
+    less_by : (m n : ℕ) (b : Bool) → nat_lt m n ≡ b → (m < n) ⊎ (n ≤ m)
+    less_by m n true e = inl (ltb-true m n e)
+    less_by m n false e = inr (ltb-false m n e)
+
+-- agreeing by one byte more
+pub agree_more : (d b : ℕ) (p t : List ℕ) → Agree d p t → d < length t → b ≡ get_or t d 0 → b + 1 ≤ key p d → key p d < b + 2 → Agree (d + 1) p t
+agree_more d b p t a h is low high =
+    elim (less_or d (length p)) [
+      | inl in_it ↦ (
+          let k : key p d ≡ get_or p d 0 + 1 = key_within p d in_it in
+          let e : get_or p d 0 ≡ get_or t d 0 = omega arith in
+          record { long = omega arith; same = take_next d p in_it ∙ ap (λ z. z ++ get_or p d 0 ∷ []) a.same ∙ ap (λ z. take d t ++ z ∷ []) e ∙ sym (take_next d t h) })
+      | inr out ↦ (let k : key p d ≡ 0 = key_behind p d out in absurd (omega arith))
+    ]
+
+-- ---- the key that the code reads
+
+pub key_read : (es : List (Vec ℕ Global × ℕ)) (k d r : ℕ) (e : Vec ℕ Global × ℕ) (t : List ℕ) → k < length es → e ≡ get_or es k e → t ≡ (get_or es k e).0.items → r ≡ key t d → key (at (map entry_of es) k).0 d ≡ r
+key_read es k d r e t h is te re = ap (λ (x : Entry). key x.0 d) (at_of es k e h is) ∙ ap (λ (x : Vec ℕ Global × ℕ). key x.0.items d) is ∙ ap (λ z. key z d) (sym te) ∙ sym re

@@ -1,0 +1,5 @@
+use Rattle.yaml_emit_sink.proofs.Sinks.{puts_both}
+use Rattle.yaml_emit_tags.proofs.tag.put_tag.Goals as goal
+
+pub returns : goal.returns
+returns c = puts_both _ _ _ _ _ c.put_gap.ensures (rw c.split_tag.ensures at c.put_split.ensures)

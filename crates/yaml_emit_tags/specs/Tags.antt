@@ -1,0 +1,102 @@
+-- The spelling of tags.
+use Rattle.std.specs.Prelude.{ℕ, ◌+◌, Bool, true, false, not, ◌&&◌, ◌||◌, ◌==◌, nat_lt, nat_le, if◌then◌else◌, List, [], ◌∷◌, ◌++◌, length, take, drop, codes, Option, Some, None}
+use Rattle.std.specs.Str.{bytes_eq}
+use Rattle.yaml_parse_model.specs.Events.{TagDirective}
+use Rattle.yaml_emit_tags.specs.declared.split.SplitTag.{SplitTag}
+use Rattle.yaml_emit_tags.specs.declared.split.SplitTag.TheVariants as tagging
+use Rattle.yaml_emit_sink.specs.Hex.{hex_2}
+
+-- whether a text begins with another one, which is shorter
+abbrev pub has_shorter_prefix : List ℕ → List ℕ → Bool
+has_shorter_prefix prefix tag = nat_lt (length prefix) (length tag)
+    && bytes_eq (take (length prefix) tag) prefix
+
+-- the first directive whose prefix is a strictly shorter prefix of the tag
+unfoldable pub directive_for : List TagDirective → List ℕ → Option TagDirective
+directive_for [] tag = None
+directive_for (d ∷ ds) tag = if has_shorter_prefix d.prefix tag then Some d
+    else directive_for ds tag
+
+unfoldable pub defines : List TagDirective → List ℕ → Bool
+defines [] handle = false
+defines (d ∷ ds) handle = bytes_eq d.handle handle || defines ds handle
+
+-- `!` stands for `!`
+abbrev pub primary : TagDirective
+primary = record { handle = 33 ∷ []; prefix = 33 ∷ [] }
+
+-- `!!` stands for `tag:yaml.org,2002:`
+abbrev pub secondary : TagDirective
+secondary = record { handle = 33 ∷ 33 ∷ []; prefix = codes "tag:yaml.org,2002:" }
+
+-- a handle that no directive defines stands for the start of a tag
+abbrev pub stands_for : List TagDirective → TagDirective → List ℕ → Bool
+stands_for ds d tag = has_shorter_prefix d.prefix tag && not (defines ds d.handle)
+
+-- a handle that stands for something without a directive, unless one defines it
+abbrev pub unless_defined : List TagDirective → TagDirective → List TagDirective
+unless_defined ds d = if defines ds d.handle then [] else d ∷ []
+
+-- the two handles that need no directive
+abbrev pub defaults : List TagDirective → List TagDirective
+defaults ds = unless_defined ds primary ++ unless_defined ds secondary
+
+-- a document's directives in order, and then the two handles that need none
+abbrev pub in_force : List TagDirective → List TagDirective
+in_force ds = ds ++ defaults ds
+
+-- 0-9 A-Z a-z _ - ; / ? : @ & = + $ . ~ * ' ( )
+unfoldable pub suffix_keeps : ℕ → Bool
+suffix_keeps b =
+    (nat_le 48 b && nat_le b 57) || (nat_le 65 b && nat_le b 90) || (nat_le 97 b && nat_le b 122)
+    || b == 95 || b == 45 || b == 59 || b == 47 || b == 63 || b == 58 || b == 64 || b == 38
+    || b == 61
+    || b == 43 || b == 36 || b == 46 || b == 126 || b == 42 || b == 39 || b == 40 || b == 41
+
+-- those, and , [ ]
+abbrev pub prefix_keeps : ℕ → Bool
+prefix_keeps b = suffix_keeps b || b == 44 || b == 91 || b == 93
+
+abbrev pub keeps_byte : Bool → ℕ → Bool
+keeps_byte flow b = if flow then prefix_keeps b else suffix_keeps b
+
+-- a byte as it is, or `%` and its number in capitals
+abbrev pub uri_byte : Bool → ℕ → List ℕ
+uri_byte flow b = if keeps_byte flow b then b ∷ [] else 37 ∷ hex_2 b
+
+-- flow: , [ ] may stand
+unfoldable pub uri_text : Bool → List ℕ → List ℕ
+uri_text flow [] = []
+uri_text flow (b ∷ bs) = uri_byte flow b ++ uri_text flow bs
+
+-- a handle and what follows it, or the whole tag
+pub data Split : Type 0 where
+  shorthand : List ℕ → List ℕ → Split
+  verbatim : List ℕ → Split
+
+abbrev pub split_of : SplitTag → Split
+split_of (tagging.Shorthand handle suffix) = shorthand handle.now suffix.now
+split_of (tagging.Verbatim tag) = verbatim tag.now
+
+abbrev pub split_by : Option TagDirective → List ℕ → Split
+split_by None tag = verbatim tag
+split_by (Some d) tag = shorthand d.handle (drop (length d.prefix) tag)
+
+abbrev pub split_tag : List TagDirective → List ℕ → Split
+split_tag ds tag = split_by (directive_for (in_force ds) tag) tag
+
+unfoldable pub spelled : Split → List ℕ
+spelled (shorthand handle suffix) = handle ++ uri_text false suffix
+spelled (verbatim tag) = 33 ∷ 60 ∷ (uri_text true tag ++ 62 ∷ [])
+
+-- a tag under a document's directives
+abbrev pub tag_spelling : List TagDirective → List ℕ → List ℕ
+tag_spelling ds tag = spelled (split_tag ds tag)
+
+-- the bytes of handle and suffix before they are escaped, or of the whole tag
+abbrev pub split_size : Split → ℕ
+split_size (shorthand handle suffix) = length handle + length suffix
+split_size (verbatim tag) = length tag
+
+abbrev pub tag_size : List TagDirective → List ℕ → ℕ
+tag_size ds tag = split_size (split_tag ds tag)

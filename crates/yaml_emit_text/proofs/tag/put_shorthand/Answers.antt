@@ -1,7 +1,0 @@
-use Rattle.yaml_emit_text.proofs.Spells.{puts_letters}
-use Rattle.yaml_emit_text.specs.Tags.{spelled}
-use Rattle.yaml_emit_text.proofs.tag.put_shorthand.Goals as goal
-
-pub returns : goal.returns
-unfolding spelled
-returns c = puts_letters _ _ _ _ _ c.put_all.ensures c.put_uri.ensures

@@ -1,6 +1,7 @@
-//! The program but for its `main` and its words: the runs over files and streams.
+//! The program but for its `main`: the runs by the engine that `yaml_round` has.
 #![tactic(auto)]
 
+mod engine;
 mod program;
 
 pub use program::yaml_main;

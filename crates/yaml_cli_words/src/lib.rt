@@ -5,5 +5,4 @@ mod options;
 mod order;
 mod settings;
 
-pub use order::{WRONG_WORDS, order_of, tell};
-pub use settings::{Order, Task};
+pub use order::{order_of, tell};

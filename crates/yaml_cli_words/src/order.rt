@@ -1,15 +1,13 @@
 //! From words to an order, or to what is wrong with them.
 
 use crate::options::matches_of;
-use crate::settings::{Order, order_in};
+use crate::settings::order_in;
 use clap::Error as WordFault;
 use clap::error::ErrorKind;
 use std::alloc::Global;
 use std::convert::AsStr;
 use std::io::Write;
-
-/// The status where the words are wrong.
-pub const WRONG_WORDS: u8 = 2;
+use yaml_cli_order::{Order, WRONG_WORDS};
 
 /// What the words say, the program's name first.
 pub fn order_of<'a, S: AsStr>(alloc: Global, words: &'a [S]) -> Result<Order<'a>, WordFault> {

@@ -15,7 +15,10 @@ fn all_of<R: Read>(alloc: Global, file: &mut R) -> Result<Vec<u8>, yaml_run_faul
 }
 
 /// The bytes of a file.
-pub fn bytes_of<H: Files + AllocGlobal>(rt: &H, path: &str) -> Result<Vec<u8>, yaml_run_fault_t> {
+pub(crate) fn bytes_of<H: Files + AllocGlobal>(
+    rt: &H,
+    path: &str,
+) -> Result<Vec<u8>, yaml_run_fault_t> {
     match fs::open(rt, path) {
         Ok(mut file) => all_of(rt.alloc(), &mut file),
         Err(_) => Err(yaml_run_fault_t::Read),
@@ -23,7 +26,11 @@ pub fn bytes_of<H: Files + AllocGlobal>(rt: &H, path: &str) -> Result<Vec<u8>, y
 }
 
 /// Writes the answer, or tells how much of it was written; answers the status.
-pub fn write_answer<W: Write, E: Write>(answer: &[u8], writer: &mut W, errors: &mut E) -> u8 {
+pub(crate) fn write_answer<W: Write, E: Write>(
+    answer: &[u8],
+    writer: &mut W,
+    errors: &mut E,
+) -> u8 {
     let mut output = yaml_std_output_t::new(writer);
     match yaml_write_all(&mut output, answer) {
         Ok(()) => 0,

@@ -10,7 +10,7 @@ use yaml_scan_types::yaml_fault_t;
 pub const INPUT_LIMIT: u64 = 1_073_741_824;
 
 /// The status where a command was refused or failed.
-pub const FAILED: u8 = 1;
+pub(crate) const FAILED: u8 = 1;
 
 // Where a line can't be told, the status still tells, so nothing is asked of the writing.
 
@@ -38,7 +38,7 @@ fn line_text(alloc: Global, fault: &yaml_fault_t) -> Option<String> {
 }
 
 /// Tells the fault, behind the words that say of which input it is. Of want of memory only the status tells.
-pub fn refused<E: Write>(alloc: Global, errors: &mut E, input: &str, fault: &yaml_fault_t) -> u8 {
+fn refused<E: Write>(alloc: Global, errors: &mut E, input: &str, fault: &yaml_fault_t) -> u8 {
     if let Some(line) = line_text(alloc, fault) {
         let _ = writeln!(errors, "yaml_cli: {input}{line}");
     }
@@ -46,7 +46,7 @@ pub fn refused<E: Write>(alloc: Global, errors: &mut E, input: &str, fault: &yam
 }
 
 /// Tells why a run, or the reading of that input, was refused.
-pub fn run_failed<E: Write>(
+pub(crate) fn run_failed<E: Write>(
     alloc: Global,
     errors: &mut E,
     input: &str,

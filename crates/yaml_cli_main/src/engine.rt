@@ -1,0 +1,50 @@
+//! The engine that the program runs.
+
+use std::alloc::Global;
+use std::io::{Read, Write};
+use yaml_cli_order::Task;
+use yaml_cli_program::{Compared, Ended, Engine, FIRST, INPUT_LIMIT, SECOND};
+use yaml_round::{
+    yaml_encoding_t, yaml_run, yaml_run_fault_t, yaml_same, yaml_side_t, yaml_std_input_t,
+    yaml_std_output_t,
+};
+
+/// The engine of `yaml_round`, with the program's limit.
+pub struct Rounds;
+
+// How a line calls an input of two.
+fn input_name(side: yaml_side_t) -> &'static str {
+    match side {
+        yaml_side_t::First => FIRST,
+        yaml_side_t::Second => SECOND,
+    }
+}
+
+impl Engine for Rounds {
+    fn run<R: Read, W: Write>(
+        &self,
+        alloc: Global,
+        task: &Task,
+        reader: &mut R,
+        writer: &mut W,
+    ) -> Ended {
+        let mut input = yaml_std_input_t::new(reader);
+        let mut output = yaml_std_output_t::new(writer);
+        yaml_run(
+            alloc,
+            &mut input,
+            &mut output,
+            task.command,
+            task.from,
+            &task.settings,
+            INPUT_LIMIT,
+        )
+    }
+
+    fn same(&self, alloc: Global, from: yaml_encoding_t, first: &[u8], second: &[u8]) -> Compared {
+        match yaml_same(alloc, first, from, second, from) {
+            Ok(same) => Ok(same),
+            Err((side, fault)) => Err((input_name(side), yaml_run_fault_t::Yaml(fault))),
+        }
+    }
+}

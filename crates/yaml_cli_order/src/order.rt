@@ -1,0 +1,138 @@
+//! What the words of a command say that it is to do. They are judged here, as texts: what judges them doesn't see where they
+//! were found.
+
+use yaml_parse_types::yaml_break_t;
+use yaml_round_settings::{yaml_command_t, yaml_output_encoding_t, yaml_settings_t};
+use yaml_scan_types::yaml_encoding_t;
+
+/// The status where the words are wrong.
+pub const WRONG_WORDS: u8 = 2;
+
+/// What a run is told to do.
+#[derive(Clone, Copy)]
+pub struct Task {
+    pub command: yaml_command_t,
+    pub from: yaml_encoding_t,
+    pub settings: yaml_settings_t,
+}
+
+/// What the program is told to do.
+#[derive(Clone, Copy)]
+pub enum Order<'a> {
+    /// A run over the file, or over standard input.
+    Run {
+        task: Task,
+        file: Option<&'a str>,
+    },
+    /// Two files are to be compared.
+    Same {
+        from: yaml_encoding_t,
+        first: &'a str,
+        second: &'a str,
+    },
+    /// That word can't stand there.
+    Unknown {
+        what: &'static str,
+        word: &'a str,
+    },
+    /// No command.
+    Nothing,
+}
+
+/// The words of a run. A word that the command doesn't have is as where it is left out.
+#[derive(Clone, Copy)]
+pub struct Words<'a> {
+    pub file: Option<&'a str>,
+    pub from: &'a str,
+    pub line_break: &'a str,
+    pub encoding: &'a str,
+    pub settings: yaml_settings_t,
+}
+
+fn break_named(word: &str) -> Option<yaml_break_t> {
+    match word {
+        "lf" => Some(yaml_break_t::YAML_LN_BREAK),
+        "cr" => Some(yaml_break_t::YAML_CR_BREAK),
+        "crlf" => Some(yaml_break_t::YAML_CRLN_BREAK),
+        _ => None,
+    }
+}
+
+fn encoding_named(word: &str) -> Option<yaml_output_encoding_t> {
+    match word {
+        "utf8" => Some(yaml_output_encoding_t::Utf8),
+        "utf16le" => Some(yaml_output_encoding_t::Utf16Le),
+        "utf16be" => Some(yaml_output_encoding_t::Utf16Be),
+        _ => None,
+    }
+}
+
+fn input_encoding_named(word: &str) -> Option<yaml_encoding_t> {
+    match word {
+        "auto" => Some(yaml_encoding_t::YAML_ANY_ENCODING),
+        "utf8" => Some(yaml_encoding_t::YAML_UTF8_ENCODING),
+        "utf16le" => Some(yaml_encoding_t::YAML_UTF16LE_ENCODING),
+        "utf16be" => Some(yaml_encoding_t::YAML_UTF16BE_ENCODING),
+        _ => None,
+    }
+}
+
+/// The command of that name, of those that read one input.
+pub fn command_named(word: &str) -> Option<yaml_command_t> {
+    match word {
+        "fmt" => Some(yaml_command_t::Fmt),
+        "docs" => Some(yaml_command_t::Docs),
+        "events" => Some(yaml_command_t::Events),
+        _ => None,
+    }
+}
+
+/// The run that is asked for. The break is judged first, then the encoding, then how the input is encoded.
+pub fn run_of<'a>(command: yaml_command_t, words: &Words<'a>) -> Order<'a> {
+    let Some(line_break) = break_named(words.line_break) else {
+        return Order::Unknown {
+            what: "break",
+            word: words.line_break,
+        };
+    };
+    let Some(encoding) = encoding_named(words.encoding) else {
+        return Order::Unknown {
+            what: "encoding",
+            word: words.encoding,
+        };
+    };
+    let Some(from) = input_encoding_named(words.from) else {
+        return Order::Unknown {
+            what: "input encoding",
+            word: words.from,
+        };
+    };
+    let settings = yaml_settings_t {
+        encoding,
+        line_break,
+        ..words.settings
+    };
+    Order::Run {
+        task: Task {
+            command,
+            from,
+            settings,
+        },
+        file: words.file,
+    }
+}
+
+/// The comparison that is asked for.
+pub fn same_of<'a>(from: &'a str, first: &'a str, second: &'a str) -> Order<'a> {
+    match input_encoding_named(from) {
+        Some(from) => Order::Same {
+            from,
+            first,
+            second,
+        },
+        None => Order::Unknown {
+            what: "input encoding",
+            word: from,
+        },
+    }
+}

@@ -1,0 +1,151 @@
+//! The program over any engine, reader and writers.
+
+use crate::engine::{Compared, Ended, Engine, FIRST, SECOND};
+use crate::fault::{FAILED, run_failed};
+use crate::file::{bytes_of, write_answer};
+use std::alloc::Global;
+use std::fs;
+use std::io::{BufReader, Read, Write};
+use std::rt::Files;
+use yaml_cli_order::{Order, Task, WRONG_WORDS};
+use yaml_round_device::{yaml_form_t, yaml_run_fault_t};
+use yaml_scan_types::yaml_encoding_t;
+
+// How many bytes of a file are read at once: each call of the system costs some microseconds.
+const READ_AHEAD: usize = 65_536;
+
+// Runs a command over a file, of which more is read at once than the engine asks for, where there is room for that.
+fn run_over_file<G: Engine, R: Read, W: Write>(
+    engine: &G,
+    alloc: Global,
+    task: &Task,
+    file: &mut R,
+    writer: &mut W,
+) -> Ended {
+    if let Ok(mut ahead) = BufReader::with_capacity(alloc, READ_AHEAD, &mut *file) {
+        return engine.run(alloc, task, &mut ahead, writer);
+    }
+    engine.run(alloc, task, file, writer)
+}
+
+fn run_path<G: Engine, H: Files + AllocGlobal, W: Write>(
+    engine: &G,
+    rt: &H,
+    task: &Task,
+    path: &str,
+    writer: &mut W,
+) -> Ended {
+    match fs::open(rt, path) {
+        Ok(mut file) => run_over_file(engine, rt.alloc(), task, &mut file, writer),
+        Err(_) => Err(yaml_run_fault_t::Read),
+    }
+}
+
+// Runs a command on its file, or on standard input.
+fn run_file<G: Engine, H: Files + AllocGlobal, R: Read, W: Write>(
+    engine: &G,
+    rt: &H,
+    task: &Task,
+    file: Option<&str>,
+    reader: &mut R,
+    writer: &mut W,
+) -> Ended {
+    match file {
+        Some(path) => run_path(engine, rt, task, path, writer),
+        None => engine.run(rt.alloc(), task, reader, writer),
+    }
+}
+
+// Tells where pretty form was asked for and isn't answered.
+fn note_form<E: Write>(task: &Task, form: Option<yaml_form_t>, errors: &mut E) {
+    if !task.settings.canonical && form == Some(yaml_form_t::Canonical) {
+        // A note: the text is written, whether or not it can be told.
+        let _ = writeln!(errors, "yaml_cli: canonical form was written");
+    }
+}
+
+fn ended<E: Write>(alloc: Global, task: &Task, ended: &Ended, errors: &mut E) -> u8 {
+    match ended {
+        Ok(form) => {
+            note_form(task, *form, errors);
+            0
+        }
+        Err(fault) => run_failed(alloc, errors, "", fault),
+    }
+}
+
+// Compares what was read of the first file with the second one.
+fn compare_with<G: Engine, H: Files + AllocGlobal>(
+    engine: &G,
+    rt: &H,
+    from: yaml_encoding_t,
+    first: &[u8],
+    second: &str,
+) -> Compared {
+    match bytes_of(rt, second) {
+        Ok(second) => engine.same(rt.alloc(), from, first, second.as_slice()),
+        Err(fault) => Err((SECOND, fault)),
+    }
+}
+
+// Whether two files have the same content.
+fn run_same<G: Engine, H: Files + AllocGlobal>(
+    engine: &G,
+    rt: &H,
+    from: yaml_encoding_t,
+    first: &str,
+    second: &str,
+) -> Compared {
+    match bytes_of(rt, first) {
+        Ok(first) => compare_with(engine, rt, from, first.as_slice(), second),
+        Err(fault) => Err((FIRST, fault)),
+    }
+}
+
+fn compared<W: Write, E: Write>(
+    alloc: Global,
+    answer: &Compared,
+    writer: &mut W,
+    errors: &mut E,
+) -> u8 {
+    match answer {
+        Ok(true) => write_answer(b"equal\n", writer, errors),
+        Ok(false) => write_answer(b"different\n", writer, errors),
+        Err((input, fault)) => run_failed(alloc, errors, input, fault),
+    }
+}
+
+// Tells that `what` can't be the word: the status tells it where the line can't.
+fn unknown_word<E: Write>(errors: &mut E, what: &str, word: &str) -> u8 {
+    let _ = writeln!(errors, "yaml_cli: unknown {what}: {word}");
+    WRONG_WORDS
+}
+
+/// Does what it is told over `reader`, `writer` and `errors`; files are opened through `rt`. Answers the status: 0, 1 where a
+/// command was refused or failed, 2 where a word is wrong. A refusal is a line on `errors`; nothing is written to `writer` then,
+/// but for a front of the text where writing itself fails.
+pub fn follow<G: Engine, H: Files + AllocGlobal, R: Read, W: Write, E: Write>(
+    engine: &G,
+    rt: &H,
+    order: &Order<'_>,
+    reader: &mut R,
+    writer: &mut W,
+    errors: &mut E,
+) -> u8 {
+    match order {
+        Order::Run { task, file } => {
+            let answer = run_file(engine, rt, task, *file, reader, writer);
+            ended(rt.alloc(), task, &answer, errors)
+        }
+        Order::Same {
+            from,
+            first,
+            second,
+        } => {
+            let answer = run_same(engine, rt, *from, first, second);
+            compared(rt.alloc(), &answer, writer, errors)
+        }
+        Order::Unknown { what, word } => unknown_word(errors, what, word),
+        Order::Nothing => FAILED,
+    }
+}

@@ -1,8 +1,9 @@
 //! Texts that were let go, in whose room later ones are made.
 
-ghost use Rattle.std.specs.Prelude.{◌≡◌, [], IfOk, vec_capacity};
-ghost use Rattle.yaml_scan_model.specs.Spares.{HoldsAt};
+ghost use Rattle.std.specs.Prelude.{◌≡◌, ◌+◌, ◌≤◌, [], IfOk, length, vec_capacity};
+ghost use Rattle.yaml_scan_model.specs.Spares.{HoldsAt, bytes_at};
 
+use crate::pushing::push_each;
 use std::alloc::{AllocError, Global};
 use std::mem;
 
@@ -29,9 +30,41 @@ pub fn copied(
         return copied_apart(spares, bytes);
     }
     let mut copy = room(spares, CHUNK)?;
-    copy.extend_from_slice(&text[from..from + CHUNK])?;
+    // Never: no clause says how much room there is.
+    if copy.capacity() < CHUNK {
+        return copied_apart(spares, bytes);
+    }
+    push_each(&mut copy, &chunk_at(text, from));
     copy.truncate(count);
     Ok(copy)
+}
+
+/// As many bytes of a text as one move copies.
+// Inlined: one load.
+#[inline(always)]
+#[tactic(auto, unfolding(crate::specs::Spares::bytes_at))]
+fn chunk_at(text: &[u8], at: usize) -> [u8; CHUNK]
+    requires { at + 16 ≤ length text.now }
+    ensures { result ≡ bytes_at 16 text.now at }
+{
+    [
+        text[at],
+        text[at + 1],
+        text[at + 2],
+        text[at + 3],
+        text[at + 4],
+        text[at + 5],
+        text[at + 6],
+        text[at + 7],
+        text[at + 8],
+        text[at + 9],
+        text[at + 10],
+        text[at + 11],
+        text[at + 12],
+        text[at + 13],
+        text[at + 14],
+        text[at + 15],
+    ]
 }
 
 /// A copy of bytes, in the room of a spare text where they fit.

@@ -22,6 +22,7 @@ use yaml_parse_states::item::{Properties, RawEvent, RawEventBody, Resolved, Shap
 use yaml_parse_states::room::moved;
 use yaml_parse_states::scalars::scalar;
 use yaml_parse_states::slots::put;
+use yaml_round_bytes::{SHORT, put_short};
 
 /// The directives of a document.
 #[derive(Drop)]
@@ -89,6 +90,13 @@ pub(crate) fn join(room: &mut Vec<u8>, prefix: &[u8], suffix: &[u8]) -> Result<(
 {
     room.clear();
     room.reserve(prefix.len() + suffix.len())?;
+    if prefix.len() <= SHORT && suffix.len() <= SHORT {
+        let mut own = moved(room);
+        put_short(&mut own, prefix);
+        put_short(&mut own, suffix);
+        *room = own;
+        return Ok(());
+    }
     room.extend_from_slice(prefix)?;
     room.extend_from_slice(suffix)
 }

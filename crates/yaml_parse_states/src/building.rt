@@ -121,13 +121,13 @@ pub fn give_scalar(
     properties: Box<Properties>,
     value: &mut Vec<u8>,
     style: yaml_scalar_style_t,
-    to: yaml_mark_t,
+    to: &yaml_mark_t,
 )
     ensures { item_of slot.new ≡ item_at (node_of (Some properties)
-        (item.scalar value.old.items style)) properties.value.from to }
+        (item.scalar value.old.items style)) properties.value.from to.now }
 {
     slot.from = properties.from;
-    slot.to = to;
+    slot.to = *to;
     match &mut slot.body {
         RawEventBody::Node {
             properties: last,

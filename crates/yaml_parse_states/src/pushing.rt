@@ -76,15 +76,14 @@ pub fn push_silently(stack: &mut Vec<State>, state: State) -> Result<bool, Alloc
     Ok(false)
 }
 
-/// The state on top, if there is one.
-// Inlined: a comparison and an address.
+/// The state on top.
+// Inlined: an address.
 #[inline(always)]
-pub fn topmost(stack: &Vec<State>) -> Option<&State>
-    ensures top { IfSome result (λ s. stack_of stack.now.items ≡ state_of s.now
-        ∷ below (stack_of stack.now.items)) }
-    ensures some { IfSome result (λ s. 0 < vec_len stack.now) }
+pub fn top(stack: &Vec<State>) -> &State
+    requires { 0 < vec_len stack.now }
+    ensures { stack_of stack.now.items ≡ state_of result.now ∷ below (stack_of stack.now.items) }
 {
-    stack.as_slice().last()
+    &stack[stack.len() - 1]
 }
 
 /// The state on top goes.

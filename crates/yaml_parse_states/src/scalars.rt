@@ -245,6 +245,61 @@ pub fn scalar(
     put_scalar(anchor, tag, value, form, event);
 }
 
+// A new scalar with that anchor alone.
+// Out of line: mostly the slot holds a scalar already, which is changed in place.
+#[inline(never)]
+fn new_named(
+    anchor: &mut Option<Vec<u8>>,
+    value: &mut Vec<u8>,
+    style: yaml_scalar_style_t,
+    event: &mut yaml_event_body_t,
+)
+    ensures { body_of event.new ≡ node_event (text_of anchor.old) None
+        (item.scalar value.old.items style) }
+{
+    let mut no_tag = None;
+    let is_plain = is_plain(style);
+    let form = Form {
+        plain: is_plain,
+        quoted: !is_plain,
+        style,
+    };
+    new_scalar(anchor, &mut no_tag, value, form, event);
+}
+
+/// A scalar with that anchor, if there is one, and no tag. Where the slot holds a scalar, that is changed in place, and its anchor
+/// and its text are left in place of the new ones.
+// Inlined into its one caller.
+#[inline(always)]
+pub fn named_scalar(
+    anchor: &mut Option<Vec<u8>>,
+    value: &mut Vec<u8>,
+    style: yaml_scalar_style_t,
+    event: &mut yaml_event_body_t,
+)
+    ensures { body_of event.new ≡ node_event (text_of anchor.old) None
+        (item.scalar value.old.items style) }
+{
+    match *event {
+        yaml_event_body_t::Scalar {
+            anchor: ref mut last_anchor,
+            tag: ref mut last_tag,
+            value: ref mut last,
+            plain_implicit: ref mut plain,
+            quoted_implicit: ref mut quoted,
+            style: ref mut last_style,
+        } => {
+            mem::swap(last_anchor, anchor);
+            *last_tag = None;
+            mem::swap(last, value);
+            *plain = is_plain(style);
+            *quoted = !is_plain(style);
+            *last_style = style;
+        }
+        _ => new_named(anchor, value, style, event),
+    }
+}
+
 // A new scalar with a tag that isn't `!`.
 // Out of line: mostly the slot holds one already, which is changed in place.
 #[inline(never)]

@@ -5,7 +5,7 @@ ghost use Rattle.yaml_parse_model.specs.Events.{body_of};
 ghost use Rattle.yaml_parse_model.specs.Events as told;
 ghost use Rattle.yaml_parse_states.specs.Bare.{OwnsNothing};
 
-use crate::room::put_bare;
+use crate::room::{exchanged, is_bare, moved, put_bare, replaced};
 use yaml_parse_model::{yaml_event_body_t, yaml_mapping_style_t, yaml_sequence_style_t};
 
 /// Another event in the slot.
@@ -67,4 +67,48 @@ pub fn end_mapping(slot: &mut yaml_event_body_t)
     ensures { body_of slot.new ≡ told.mapping_end }
 {
     put_bare(slot, yaml_event_body_t::MappingEnd);
+}
+
+// An alias, where the slot holds other texts than a scalar's value.
+// Out of line: mostly it holds that one alone, or none.
+#[inline(never)]
+fn new_alias(slot: &mut yaml_event_body_t, name: &mut Vec<u8>)
+    ensures { body_of slot.new ≡ told.alias name.old.items }
+{
+    let anchor = exchanged(slot, name);
+    put_bare(slot, yaml_event_body_t::Alias { anchor });
+}
+
+// An alias, where the slot holds no scalar without properties.
+// Inlined: mostly it holds no text, and the alias is built in it.
+#[inline(always)]
+fn other_alias(slot: &mut yaml_event_body_t, name: &mut Vec<u8>)
+    ensures { body_of slot.new ≡ told.alias name.old.items }
+{
+    if is_bare(slot) {
+        let anchor = moved(name);
+        put_bare(slot, yaml_event_body_t::Alias { anchor });
+    } else {
+        new_alias(slot, name);
+    }
+}
+
+/// An alias. The room of a text that the slot has from an earlier event is left in the token of its name.
+// Inlined into its one caller.
+#[inline(always)]
+pub fn put_alias(slot: &mut yaml_event_body_t, name: &mut Vec<u8>)
+    ensures { body_of slot.new ≡ told.alias name.old.items }
+{
+    match *slot {
+        yaml_event_body_t::Scalar {
+            anchor: None,
+            tag: None,
+            value: ref mut last,
+            ..
+        } => {
+            let anchor = replaced(name, last);
+            put_bare(slot, yaml_event_body_t::Alias { anchor });
+        }
+        _ => other_alias(slot, name),
+    }
 }

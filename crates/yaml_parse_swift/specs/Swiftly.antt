@@ -1,5 +1,5 @@
 -- What the swift ways of a step give.
-use Rattle.std.specs.Prelude.{◌≡◌, ◌∷◌, ◌++◌, List, Option, Some, None, Result, Ok, Err}
+use Rattle.std.specs.Prelude.{◌≡◌, ◌∷◌, [], ◌++◌, List, Option, Some, None, Result, Ok, Err}
 use Rattle.std.specs.Global.{Box}
 use Rattle.std.specs.declared.alloc.AllocError.{AllocError}
 use Rattle.yaml_parse_model.specs.Tokens.{Token, type_of}
@@ -68,6 +68,13 @@ abbrev pub AwaitsKept : Site → Result (Box Properties) AllocError → List Sta
 AwaitsKept place (Ok p) old r new = (r ≡ Silent)
     × (new ≡ state.with_properties (wants_of place) (properties_of p.value) ∷ below old)
 AwaitsKept place (Err e) old r new = r ≡ Memory
+
+-- The token is taken, as the state says, and that one takes its place; or nothing was done.
+abbrev pub Joins : State → Token → Swift → Token → State → Type 0
+Joins x t Silent after y = (choice_at x (type_of t.body) ≡ Take) × (None ≡ (taken_at x t).item)
+    × (y ∷ [] ≡ (taken_at x t).above)
+Joins x t Other after y = (after ≡ t) × (y ≡ x)
+Joins x t _ after y = ⊥
 
 -- The token is taken, as the state says, which is the topmost of those; the event stands in its slot, or nothing is given.
 abbrev pub Swiftly : State → Token → List State → Swift → Event → Token → List State → Type 0

@@ -8,10 +8,11 @@ ghost use Rattle.yaml_parse_model.specs.Events.{Event, event_of, text_of};
 ghost use Rattle.yaml_parse_model.specs.Tokens.{token_of};
 ghost use Rattle.yaml_parse_grammar.specs.Items.{item_at};
 ghost use Rattle.yaml_parse_grammar.specs.Items as item;
+ghost use Rattle.yaml_parse_grammar.specs.declared.name.Wants.{Wants};
 ghost use Rattle.yaml_parse_grammar.specs.States as state;
 ghost use Rattle.yaml_parse_grammar.specs.Trees.{flow_shape};
 ghost use Rattle.yaml_parse_states.specs.Views.{properties_of, tag_if, state_of, stack_of, item_of};
-ghost use Rattle.yaml_parse_swift.specs.Swiftly.{IsReady, Swiftly, SwiftlyOr, SwiftlyOrOn};
+ghost use Rattle.yaml_parse_swift.specs.Swiftly.{IsReady, Swiftly, SwiftlyOr, SwiftlyOn, SwiftlyOrOn, Joins};
 
 use crate::swift_ways::Swift;
 use crate::telling::{tell_named_scalar, tell_named_start};
@@ -72,7 +73,7 @@ fn at_anchored(
     match &mut token.body {
         yaml_token_body_t::Scalar { value, style } => {
             let mut named = properties;
-            tell_named_scalar(&mut named, value, *style, token.end_mark, event);
+            tell_named_scalar(&mut named, value, *style, &token.end_mark, event);
             *spare = Some(named);
             Swift::Event
         }
@@ -84,13 +85,6 @@ fn at_anchored(
             open_brackets(stack, Brackets::Mapping, properties, token, event, spare);
             Swift::Event
         }
-        yaml_token_body_t::Tag { handle, suffix } => {
-            let mut both = properties;
-            put_tag(&mut both, handle, suffix, token.start_mark);
-            both.to = token.end_mark;
-            put_back(stack, wants, both);
-            Swift::Silent
-        }
         _ => {
             put_back(stack, wants, properties);
             Swift::Other
@@ -98,31 +92,7 @@ fn at_anchored(
     }
 }
 
-// An anchor behind a tag alone.
-// Inlined into its one caller, which LLVM leaves as a call.
-#[inline(always)]
-fn join_anchor(
-    stack: &mut Vec<State>,
-    wants: Wants,
-    properties: Box<Properties>,
-    name: &mut Vec<u8>,
-    to: yaml_mark_t,
-)
-    requires { vec_len stack.old < vec_capacity stack.old }
-    ensures { stack_of stack.new.items ≡ state.with_properties wants (record {
-      anchor = Some name.old.items;
-      tag = tag_if properties.value.is_tagged properties.value.tag;
-      from = properties.value.from;
-      to = to;
-    }) ∷ stack_of stack.old.items }
-{
-    let mut both = properties;
-    fill(&mut both.anchor, name);
-    both.to = to;
-    put_back(stack, wants, both);
-}
-
-// A scalar, or an anchor, behind a tag.
+// A scalar behind a tag.
 fn at_tagged(
     stack: &mut Vec<State>,
     wants: Wants,
@@ -138,19 +108,9 @@ fn at_tagged(
 {
     match &mut token.body {
         yaml_token_body_t::Scalar { value, style } => {
-            give_scalar(slot, properties, value, *style, token.end_mark);
+            give_scalar(slot, properties, value, *style, &token.end_mark);
             Swift::Item
         }
-        yaml_token_body_t::Anchor { value } => match properties.anchor {
-            None => {
-                join_anchor(stack, wants, properties, value, token.end_mark);
-                Swift::Silent
-            }
-            Some(_) => {
-                put_back(stack, wants, properties);
-                Swift::Other
-            }
-        },
         _ => {
             put_back(stack, wants, properties);
             Swift::Other
@@ -204,10 +164,10 @@ fn at_top(
     }
 }
 
-/// What comes behind the properties of the node on top.
-// Out of line: few nodes have properties.
+// The content of a node behind the properties on top.
+// Out of line: see `at_alias`.
 #[inline(never)]
-pub(crate) fn behind_properties(
+fn content_behind(
     stack: &mut Vec<State>,
     token: &mut yaml_token_t,
     event: &mut yaml_event_t,
@@ -219,5 +179,117 @@ pub(crate) fn behind_properties(
     match stack.pop() {
         Some(top) => at_top(stack, top, token, event, slot),
         None => Swift::Other,
+    }
+}
+
+// An anchor behind a tag alone.
+// Inlined into its one caller.
+#[inline(always)]
+fn join_name(properties: &mut Properties, token: &mut yaml_token_t) -> Swift
+    ensures { (w : Wants) → Joins (state.with_properties w (properties_of properties.old))
+        (token_of token.old) result (token_of token.new)
+        (state.with_properties w (properties_of properties.new)) }
+{
+    match &mut token.body {
+        yaml_token_body_t::Anchor { value } => match properties.anchor {
+            None => {
+                fill(&mut properties.anchor, value);
+                properties.to = token.end_mark;
+                Swift::Silent
+            }
+            Some(_) => Swift::Other,
+        },
+        _ => Swift::Other,
+    }
+}
+
+// A tag behind an anchor alone.
+// Inlined into its one caller.
+#[inline(always)]
+fn join_suffix(properties: &mut Properties, token: &mut yaml_token_t) -> Swift
+    ensures { (w : Wants) → Joins (state.with_properties w (properties_of properties.old))
+        (token_of token.old) result (token_of token.new)
+        (state.with_properties w (properties_of properties.new)) }
+{
+    if properties.is_tagged {
+        return Swift::Other;
+    }
+    match &mut token.body {
+        yaml_token_body_t::Tag { handle, suffix } => {
+            put_tag(properties, handle, suffix, token.start_mark);
+            properties.to = token.end_mark;
+            Swift::Silent
+        }
+        _ => Swift::Other,
+    }
+}
+
+// An anchor behind a tag alone, whose state is changed in place.
+// Inlined into its one caller.
+#[inline(always)]
+fn join_anchor(state: &mut State, token: &mut yaml_token_t) -> Swift
+    ensures { Joins (state_of state.old) (token_of token.old) result (token_of token.new)
+        (state_of state.new) }
+{
+    match state {
+        State::WithProperties(_, properties) => join_name(properties, token),
+        _ => Swift::Other,
+    }
+}
+
+// A tag behind an anchor alone, whose state is changed in place.
+// Inlined into its one caller.
+#[inline(always)]
+fn join_tag(state: &mut State, token: &mut yaml_token_t) -> Swift
+    ensures { Joins (state_of state.old) (token_of token.old) result (token_of token.new)
+        (state_of state.new) }
+{
+    match state {
+        State::WithProperties(_, properties) => join_suffix(properties, token),
+        _ => Swift::Other,
+    }
+}
+
+// An anchor behind the properties on top.
+// Out of line: see `at_alias`.
+#[inline(never)]
+fn anchor_behind(stack: &mut Vec<State>, token: &mut yaml_token_t) -> Swift
+    requires { 0 < vec_len stack.old }
+    ensures { (e : Event) → SwiftlyOn (token_of token.old) (stack_of stack.old.items) result
+        e (token_of token.new) (stack_of stack.new.items) }
+{
+    let last = stack.len() - 1;
+    join_anchor(&mut stack[last], token)
+}
+
+// A tag behind the properties on top.
+// Out of line: see `at_alias`.
+#[inline(never)]
+fn tag_behind(stack: &mut Vec<State>, token: &mut yaml_token_t) -> Swift
+    requires { 0 < vec_len stack.old }
+    ensures { (e : Event) → SwiftlyOn (token_of token.old) (stack_of stack.old.items) result
+        e (token_of token.new) (stack_of stack.new.items) }
+{
+    let last = stack.len() - 1;
+    join_tag(&mut stack[last], token)
+}
+
+/// What comes behind the properties of the node on top.
+// Inlined into the arm of its state: a look at the token's kind.
+#[inline(always)]
+pub(crate) fn behind_properties(
+    stack: &mut Vec<State>,
+    token: &mut yaml_token_t,
+    event: &mut yaml_event_t,
+    slot: &mut RawEvent,
+) -> Swift
+    requires { 0 < vec_len stack.old }
+    ensures { SwiftlyOrOn (token_of token.old) (stack_of stack.old.items) result
+        (event_of event.new) (item_of slot.new) (token_of token.new) (stack_of stack.new.items) }
+{
+    match token.body {
+        yaml_token_body_t::Anchor { .. } => anchor_behind(stack, token),
+        yaml_token_body_t::Tag { .. } => tag_behind(stack, token),
+        _ => content_behind(stack, token, event, slot),
     }
 }

@@ -25,8 +25,8 @@ use yaml_parse_model::{
 };
 use yaml_parse_states::item::{Properties, RawEvent, State, wants};
 use yaml_parse_states::keeping::{named, tagged};
-use yaml_parse_states::pushing::{drop_top, push, push_key, swap_top, topmost};
-use yaml_parse_states::room::{moved, vacate};
+use yaml_parse_states::pushing::{drop_top, push, push_key, swap_top, top};
+use yaml_parse_states::room::vacate;
 use yaml_parse_states::slots::{start_mapping, start_sequence};
 
 /// What a swift way gives.
@@ -124,6 +124,8 @@ fn open_pairs(stack: &mut Vec<State>, token: &mut yaml_token_t, event: &mut yaml
 }
 
 // A block collection begins, where one may stand.
+// Out of line: see `at_alias`.
+#[inline(never)]
 fn at_block(
     stack: &mut Vec<State>,
     place: Site,
@@ -168,15 +170,14 @@ fn await_node(
     }
 }
 
-// An alias, a node's first property or a block collection, at its place.
-// Out of line: nodes of other kinds are more.
+// An alias, at its place.
+// Out of line, as each of these ways: nodes of other kinds are more, and so none has another one's temporaries.
 #[inline(never)]
-fn at_rare(
+fn at_alias(
     stack: &mut Vec<State>,
     place: Site,
     token: &mut yaml_token_t,
     event: &mut yaml_event_t,
-    spare: &mut Option<Box<Properties>>,
 ) -> Swift
     requires { 0 < vec_len stack.old }
     ensures { (before : yaml_mark_t) → Swiftly (state.optional place before) (token_of token.old)
@@ -186,19 +187,56 @@ fn at_rare(
     match &mut token.body {
         yaml_token_body_t::Alias { value } => {
             drop_top(stack);
-            let name = moved(value);
-            tell_alias(name, token, event);
+            tell_alias(value, &token.start_mark, &token.end_mark, event);
             Swift::Event
         }
+        _ => Swift::Other,
+    }
+}
+
+// An anchor, at the place of its node.
+// Out of line: see `at_alias`.
+#[inline(never)]
+fn at_anchor(
+    stack: &mut Vec<State>,
+    place: Site,
+    token: &mut yaml_token_t,
+    spare: &mut Option<Box<Properties>>,
+) -> Swift
+    requires { 0 < vec_len stack.old }
+    ensures { (before : yaml_mark_t) (e : Event) → Swiftly (state.optional place before)
+        (token_of token.old) (stack_of stack.old.items) result e (token_of token.new)
+        (stack_of stack.new.items) }
+{
+    match &mut token.body {
         yaml_token_body_t::Anchor { value } => {
             let kept = named(spare, value, &token.start_mark, &token.end_mark);
             await_node(stack, place, kept)
         }
+        _ => Swift::Other,
+    }
+}
+
+// A tag, at the place of its node.
+// Out of line: see `at_alias`.
+#[inline(never)]
+fn at_tag(
+    stack: &mut Vec<State>,
+    place: Site,
+    token: &mut yaml_token_t,
+    spare: &mut Option<Box<Properties>>,
+) -> Swift
+    requires { 0 < vec_len stack.old }
+    ensures { (before : yaml_mark_t) (e : Event) → Swiftly (state.optional place before)
+        (token_of token.old) (stack_of stack.old.items) result e (token_of token.new)
+        (stack_of stack.new.items) }
+{
+    match &mut token.body {
         yaml_token_body_t::Tag { handle, suffix } => {
             let kept = tagged(spare, handle, suffix, &token.start_mark, &token.end_mark);
             await_node(stack, place, kept)
         }
-        _ => at_block(stack, place, token, event),
+        _ => Swift::Other,
     }
 }
 
@@ -239,7 +277,10 @@ fn at_optional(
             token,
             event,
         ),
-        _ => at_rare(stack, place, token, event, spare),
+        yaml_token_body_t::Alias { .. } => at_alias(stack, place, token, event),
+        yaml_token_body_t::Anchor { .. } => at_anchor(stack, place, token, spare),
+        yaml_token_body_t::Tag { .. } => at_tag(stack, place, token, spare),
+        _ => at_block(stack, place, token, event),
     }
 }
 
@@ -485,13 +526,11 @@ fn take_bare(
     event: &mut yaml_event_t,
     spare: &mut Option<Box<Properties>>,
 ) -> Swift
+    requires { 0 < vec_len stack.old }
     ensures { SwiftlyOn (token_of token.old) (stack_of stack.old.items) result (event_of event.new)
         (token_of token.new) (stack_of stack.new.items) }
 {
-    let Some(state) = topmost(stack) else {
-        return Swift::Other;
-    };
-    match *state {
+    match *top(stack) {
         State::Optional(place, _) => at_optional(stack, place, token, event, spare),
         State::Colon(place) => at_colon(stack, place, token),
         State::Pairs(opener) => at_pairs(stack, opener, token, event),
@@ -507,9 +546,11 @@ fn take_bare(
 // Whether a node is waited for whose properties are there.
 // Inlined: a look at the kind.
 #[inline(always)]
-fn awaits_rest(stack: &Vec<State>) -> bool {
-    match topmost(stack) {
-        Some(State::WithProperties(_, _)) => true,
+fn awaits_rest(stack: &Vec<State>) -> bool
+    requires { 0 < vec_len stack.now }
+{
+    match *top(stack) {
+        State::WithProperties(_, _) => true,
         _ => false,
     }
 }
@@ -525,6 +566,7 @@ pub fn take_swiftly(
     event: &mut yaml_event_t,
     slot: &mut RawEvent,
 ) -> Swift
+    requires { 0 < vec_len stack.old }
     ensures { SwiftlyOrOn (token_of token.old) (stack_of stack.old.items) result
         (event_of event.new) (item_of slot.new) (token_of token.new) (stack_of stack.new.items) }
 {

@@ -17,8 +17,10 @@ use yaml_parse_model::{
 };
 use yaml_parse_states::item::Properties;
 use yaml_parse_states::room::{anchor_for, hand_over_both, moved, put_bare, vacate};
-use yaml_parse_states::scalars::{bare_over, bare_scalar, scalar};
-use yaml_parse_states::slots::{end_mapping, end_sequence, start_mapping, start_sequence};
+use yaml_parse_states::scalars::{bare_over, bare_scalar, named_scalar};
+use yaml_parse_states::slots::{
+    end_mapping, end_sequence, put_alias, start_mapping, start_sequence,
+};
 
 // The token's scalar as an event without properties.
 // Inlined: it is written where it is wanted.
@@ -73,26 +75,21 @@ pub(crate) fn tell_over(token: &mut yaml_token_t, event: &mut yaml_event_t)
 }
 
 // The token's scalar as an event with that anchor, in whose place the last one of the slot may be left.
+// Inlined into its one caller.
+#[inline(always)]
 pub(crate) fn tell_named_scalar(
     properties: &mut Properties,
     value: &mut Vec<u8>,
     style: yaml_scalar_style_t,
-    to: yaml_mark_t,
+    to: &yaml_mark_t,
     event: &mut yaml_event_t,
 )
     ensures { IsReady (item_at (item.node (text_of properties.old.anchor) None
-        (item.scalar value.old.items style)) properties.old.from to) (event_of event.new) }
+        (item.scalar value.old.items style)) properties.old.from to.now) (event_of event.new) }
 {
     event.start_mark = properties.from;
-    event.end_mark = to;
-    let mut no_tag = None;
-    scalar(
-        &mut properties.anchor,
-        &mut no_tag,
-        value,
-        style,
-        &mut event.body,
-    );
+    event.end_mark = *to;
+    named_scalar(&mut properties.anchor, value, style, &mut event.body);
 }
 
 // A flow collection with that anchor begins.
@@ -177,13 +174,18 @@ pub(crate) fn tell_end(brackets: Brackets, token: &mut yaml_token_t, event: &mut
     }
 }
 
-// An alias stands whole.
-pub(crate) fn tell_alias(anchor: Vec<u8>, token: &mut yaml_token_t, event: &mut yaml_event_t)
-    ensures { IsReady (event_at (told.alias anchor.items) token.old.start_mark token.old.end_mark)
-        (event_of event.new) }
+// An alias stands whole. The room of an earlier text of the slot is left in its token.
+// Inlined into its one caller.
+#[inline(always)]
+pub(crate) fn tell_alias(
+    name: &mut Vec<u8>,
+    from: &yaml_mark_t,
+    to: &yaml_mark_t,
+    event: &mut yaml_event_t,
+)
+    ensures { IsReady (event_at (told.alias name.old.items) from.now to.now) (event_of event.new) }
 {
-    vacate(&mut event.body, &mut token.body);
-    event.start_mark = token.start_mark;
-    event.end_mark = token.end_mark;
-    put_bare(&mut event.body, yaml_event_body_t::Alias { anchor });
+    event.start_mark = *from;
+    event.end_mark = *to;
+    put_alias(&mut event.body, name);
 }

@@ -3,9 +3,9 @@
 ghost use Rattle.std.specs.Prelude.{◌≡◌, ◌+◌, ◌≤◌, [], IfOk, length, vec_capacity};
 ghost use Rattle.yaml_scan_model.specs.Spares.{HoldsAt, bytes_at};
 
-use crate::pushing::push_each;
 use std::alloc::{AllocError, Global};
 use std::mem;
+use yaml_scan_types::push_each;
 
 /// The least room that is made: what the smallest block of common allocators holds.
 const LEAST_ROOM: usize = 24;

@@ -221,7 +221,7 @@ over_word level text q low high less lead m room =
     words_end m false level text q (spot_ends false level text q (no_break (byte text q) _ _ (omega arith) (omega arith) (omega arith) (omega arith)) (word_is (byte text q) low high)
     (bracket_test (byte text q == 0 || is_document_indicator text q) (byte text q == 35 && after_white text q) (byte text q == 58 && is_blank_or_end text (q + 1)) _ both))
 
-feed_width : (b c d : ℕ) → b ≡ 10 → break_of b c d ≡ 1
+pub feed_width : (b c d : ℕ) → b ≡ 10 → break_of b c d ≡ 1
 unfolding break_of
 feed_width b c d h = rw h refl
 

@@ -147,3 +147,49 @@ run_of text p q after each stops = record {
   each = each;
   last = λ l. last_ordinary text q (omega arith) (each (q - 1) (omega arith) (omega arith)) (first_false _ _ stops);
 }
+
+-- narrow bytes, one after another
+
+narrow_last : (k n : ℕ) → k < n + 1 → (k < n) ⊎ (k ≡ n)
+narrow_last k n h = grind arith
+
+pub narrow_more : (text : List ℕ) (p q : ℕ) → ((k : ℕ) → p ≤ k → k < q → is_narrow (byte text k) ≡ true) → is_narrow (byte text q) ≡ true
+    → (k : ℕ) → p ≤ k → k < q + 1 → is_narrow (byte text k) ≡ true
+narrow_more text p q r h k a b =
+    elim (narrow_last k q b) [
+      | inl l ↦ r k a l
+      | inr e ↦ rw e h
+    ]
+
+-- what the mark is behind them
+pub record Spanned (text : List ℕ) (p q : ℕ) : Type 0 where
+  pub line : line_at text q ≡ line_at text p
+  pub column : column_at text q ≡ column_at text p + (q - p)
+  pub whole : splits_break text q ≡ false
+
+span_by : (d : ℕ) (text : List ℕ) (p q : ℕ) → q ≡ p + d → ((k : ℕ) → p ≤ k → k < q → is_narrow (byte text k) ≡ true) → splits_break text p ≡ false → Spanned text p q
+span_by zero text p q h each whole =
+    let e : q ≡ p = omega arith in
+    rw e record { line = refl; column = omega arith; whole = whole }
+span_by (suc d) text p q h each whole =
+    let here = passes_narrow text p (each p (omega arith) (omega arith)) in
+    let b = behind_none text p here.none whole in
+    let next : column_at text (p + 1) ≡ column_at text p + 1 = rw here.low at b.column in
+    let s = span_by d text (p + 1) q (omega arith) (λ k a c. each k (omega arith) c) b.whole in
+    let column = s.column in
+    record { line = s.line ∙ b.line; column = omega (arith, column, next, h); whole = s.whole }
+
+pub spanned : (text : List ℕ) (p q : ℕ) → p ≤ q → ((k : ℕ) → p ≤ k → k < q → is_narrow (byte text k) ≡ true) → splits_break text p ≡ false → Spanned text p q
+spanned text p q after each whole = span_by (q - p) text p q (omega arith) each whole
+
+narrow_or : (k n : ℕ) → (k < n) ⊎ (n ≤ k)
+narrow_or k n = grind arith
+
+-- a run, and narrow bytes behind it
+pub each_past : (text : List ℕ) (p q r : ℕ) → ((k : ℕ) → p ≤ k → k < q → in_run text k ≡ true) → ((k : ℕ) → q ≤ k → k < r → is_narrow (byte text k) ≡ true)
+    → (k : ℕ) → p ≤ k → k < r → in_run text k ≡ true
+each_past text p q r h n k a b =
+    elim (narrow_or k q) [
+      | inl l ↦ h k a l
+      | inr m ↦ (passes_narrow text k (n k m b)).each
+    ]

@@ -2,7 +2,7 @@
 
 ghost use Rattle.std.specs.Prelude.{◌≡◌, ◌+◌, ◌-◌, ◌||◌, ◌&&◌, ◌==◌, nat_lt, ◌<◌, ◌≤◌, ℕ, suc, true, false, [], length, OnOk, Ok};
 ghost use Rattle.yaml_scan_model.specs.Spares.{HoldsAt};
-ghost use Rattle.yaml_scan_model.specs.Marks.{byte, break_width, ends_break, is_blank, mark_at};
+ghost use Rattle.yaml_scan_model.specs.Marks.{byte, break_width, ends_break, is_blank, is_blank_or_end, mark_at};
 ghost use Rattle.yaml_scan_scalars.specs.Plain as spec;
 ghost use Rattle.yaml_scan_scalars.specs.Joined.{IsJoining, Steps, ReadsPlain, TookWords, told};
 ghost use Rattle.yaml_scan_scalars.specs.Ordinary.{IsRun, bytes_at};
@@ -18,6 +18,8 @@ use yaml_scan_model::{
 /// The plain scalar that starts here, in flow context or not. The level is the column of the innermost open block
 /// level and one, or 0 where none is open. The reader is left behind the blanks and breaks that follow the scalar. The
 /// value may take the room of a spare text.
+// Inlined: its one caller is the way of plain scalars, a call of its own, where its answer isn't put together in memory.
+#[inline(always)]
 pub fn plain_scalar(
     spares: &mut Vec<Vec<u8>>,
     reader: &mut Reader,
@@ -45,6 +47,8 @@ pub fn plain_scalar(
 }
 
 /// Past the scalar's first character and the run behind it, and those bytes.
+// Inlined: a loop of a load and a comparison a byte.
+#[inline(always)]
 fn first_run<'a>(reader: &mut Reader<'a>) -> &'a [u8]
     requires some { 0 < byte reader.old.text reader.old.at }
     requires no_break { break_width reader.old.text reader.old.at ≡ 0 }
@@ -61,18 +65,31 @@ fn first_run<'a>(reader: &mut Reader<'a>) -> &'a [u8]
 }
 
 /// Whether a sign stands here that ends the scalar before it: a `:` as a mapping has it or, in flow context, a bracket or a comma.
+// Inlined: a look at two bytes.
+#[inline(always)]
 fn is_followed(reader: &Reader, flow: bool) -> bool
     ensures { result ≡ true → (level : ℕ) → spec.spot_at flow level reader.now.text reader.now.at
         ≡ spec.Ends }
 {
     let byte = reader.here();
     if byte == b':' {
-        return reader.is_blank_or_end(1);
+        return is_white_behind(reader);
     }
     flow && is_bracket(byte)
 }
 
+/// Whether a blank, a break or the end stands behind the byte here.
+// Inlined: mostly a space does. All else asks a reader of its own: one that is lent to a call out of line lies in memory.
+#[inline(always)]
+fn is_white_behind(reader: &Reader) -> bool
+    ensures { result ≡ is_blank_or_end reader.now.text (reader.now.at + 1) }
+{
+    reader.byte(1) == b' ' || reader.ahead().is_blank_or_end(1)
+}
+
 /// The scalar that starts at the mark and has those bytes, where the reader stands behind them and no white follows.
+// Inlined: its answer isn't put together in memory.
+#[inline(always)]
 fn one_run(
     spares: &mut Vec<Vec<u8>>,
     reader: &Reader,
@@ -100,6 +117,8 @@ fn one_run(
 
 /// Past the line feed here and the spaces behind it; answers whether a word stands there that ends the scalar before them, in
 /// block context.
+// Inlined: mostly a look at two bytes.
+#[inline(always)]
 fn passes_line(reader: &mut Reader, level: u64) -> bool
     ensures same { reader.new.text ≡ reader.old.text }
     ensures ends { result ≡ true → (n : ℕ) → length reader.old.text ≤ reader.old.at + n
@@ -109,9 +128,31 @@ fn passes_line(reader: &mut Reader, level: u64) -> bool
     if reader.here() != b'\n' {
         return false;
     }
-    reader.skip_break();
+    pass_feed(reader);
     skip_spaces(reader);
     begins_word(reader.here()) && reader.mark().column < level
+}
+
+/// Past the line feed here.
+// Inlined: two additions. A reader that is lent to a call out of line lies in memory.
+#[inline(always)]
+fn pass_feed(reader: &mut Reader)
+    requires { byte reader.old.text reader.old.at ≡ 10 }
+    ensures { reader.new ≡ record {
+      text = reader.old.text;
+      at = reader.old.at + break_width reader.old.text reader.old.at;
+    } }
+{
+    let here = reader.stop();
+    let text = reader.text();
+    // Read for the clauses: a length that is read has a number within its type.
+    let _length = text.len();
+    let behind = yaml_mark_t {
+        index: here.index + 1,
+        line: here.line + 1,
+        column: 0,
+    };
+    *reader = Reader::resume(text, behind);
 }
 
 /// Whether the byte is surely no white, no break and no comment's sign.
@@ -124,6 +165,8 @@ fn begins_word(byte: u8) -> bool
 
 /// The scalar that starts at the mark and has those bytes, where the reader stands behind them, and is left at the word behind
 /// the white that follows.
+// Inlined: its answer isn't put together in memory.
+#[inline(always)]
 fn one_line<'a>(
     spares: &mut Vec<Vec<u8>>,
     reader: &mut Reader<'a>,
@@ -155,7 +198,8 @@ fn one_line<'a>(
 
 /// The scalar that starts at the mark, where the reader stands behind its first run, of those bytes.
 // Inlined: so the answer of the call out of line, and the mark that is lent to it, have a place of their own. In one place
-// with the answers above, these would be put together in memory and copied.
+// with the answers above, these would be put together in memory and copied. It is lent a copy of the reader: one that is
+// lent lies in memory.
 #[inline(always)]
 fn many_runs(
     spares: &mut Vec<Vec<u8>>,
@@ -180,12 +224,15 @@ fn many_runs(
         line: start.line,
         column: start.column,
     };
-    let read = join_runs(spares, reader, bytes, start, flow, level)?;
+    let mut copy = reader.ahead();
+    let read = join_runs(spares, &mut copy, bytes, start, flow, level)?;
+    *reader = copy;
     Ok(read)
 }
 
 /// Joins the runs of the scalar that starts at the mark, where the reader stands behind the first one, of those bytes.
-// Out of line: most scalars have one run.
+// Out of line and cold: most scalars have one run.
+#[cold]
 #[inline(never)]
 fn join_runs(
     spares: &mut Vec<Vec<u8>>,

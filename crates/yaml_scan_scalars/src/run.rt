@@ -1,11 +1,14 @@
 //! Runs of bytes that stand for themselves, which are taken at once. Single spaces between them are part of a run.
 
-ghost use Rattle.std.specs.Prelude.{◌≡◌, ◌-◌, ◌+◌, ◌≤◌, ◌||◌, length, if◌then◌else◌};
+ghost use Rattle.std.specs.Prelude.{◌≡◌, ◌-◌, ◌+◌, ◌≤◌, ◌<◌, ◌||◌, ℕ, true, length, if◌then◌else◌};
 ghost use Rattle.yaml_scan_model.specs.Marks.{byte, starts};
 ghost use Rattle.yaml_scan_model.specs.Spares.{HoldsAt};
 ghost use Rattle.yaml_scan_scalars.specs.Ordinary as spec;
 
 use yaml_scan_model::{Reader, yaml_mark_t};
+
+/// How many bytes are looked at in a row.
+const AHEAD: usize = 8;
 
 /// For each byte that stands for itself between quotes and inside a line of a plain scalar, whatever stands beside it, `2` if it is
 /// one of ASCII, or else `1`.
@@ -52,7 +55,17 @@ fn ordinary_at(text: &[u8], place: usize) -> bool
 fn narrow_at(text: &[u8], place: usize) -> bool
     ensures { result ≡ spec.is_narrow (byte text.now place) }
 {
-    place < text.len() && is_narrow(text[place])
+    place < text.len() && is_narrow_at(text, place)
+}
+
+/// Whether the byte there, which is in the text, is an ordinary one of ASCII.
+// Inlined into the loop over bytes.
+#[inline(always)]
+fn is_narrow_at(text: &[u8], place: usize) -> bool
+    requires { place < length text.now }
+    ensures { result ≡ spec.is_narrow (byte text.now place) }
+{
+    is_narrow(text[place])
 }
 
 /// Whether a space stands there before an ordinary byte of ASCII.
@@ -98,7 +111,7 @@ pub(crate) fn ordinary_run<'a>(reader: &mut Reader<'a>) -> &'a [u8]
 }
 
 /// Past the run that stands here.
-// Inlined: a loop of a load and a comparison a byte.
+// Inlined: mostly eight bytes are looked at in a row.
 #[inline(always)]
 fn pass_run(reader: &mut Reader)
     ensures run { spec.IsRun reader.old.text reader.old.at reader.new }
@@ -106,7 +119,7 @@ fn pass_run(reader: &mut Reader)
 {
     narrow_run(reader);
     if ordinary_at(reader.text(), reader.place()) {
-        wide_run(reader);
+        wide_apart(reader);
     }
 }
 
@@ -120,9 +133,9 @@ fn narrow_run(reader: &mut Reader)
     let here = reader.stop();
     let text = reader.text();
     let from = reader.place();
-    let mut end = from;
+    let mut end = past_narrow(text, from);
     'bytes: while passes_at(text, end) {
-        end += 1;
+        end = past_narrow(text, end + 1);
     }
     let mark = yaml_mark_t {
         index: end as u64,
@@ -130,6 +143,51 @@ fn narrow_run(reader: &mut Reader)
         column: here.column + (end - from) as u64,
     };
     *reader = Reader::resume(text, mark);
+}
+
+/// Whether one of the next eight bytes is meant, and is an ordinary one of ASCII.
+// Inlined into the loop over bytes.
+#[inline(always)]
+fn narrow_ahead(text: &[u8], from: usize, count: usize) -> bool
+    requires { from + 8 ≤ length text.now }
+    ensures few { result ≡ true → count < 8 }
+    ensures here { result ≡ true → spec.is_narrow (byte text.now (from + count)) ≡ true }
+{
+    if AHEAD <= count {
+        return false;
+    }
+    is_narrow_at(text, from + count)
+}
+
+/// A place behind ordinary bytes of ASCII that stand there: of eight bytes, where so many follow, the first that is none.
+// A loop whose turns are counted by a constant is written out: no place is compared with the text's length.
+// Inlined: a load and a comparison a byte.
+#[inline(always)]
+fn past_narrow(text: &[u8], from: usize) -> usize
+    ensures forward { from ≤ result }
+    ensures inside { from ≤ length text.now → result ≤ length text.now }
+    ensures each { (k : ℕ) → from ≤ k → k < result → spec.is_narrow (byte text.now k) ≡ true }
+{
+    if text.len().saturating_sub(from) < AHEAD {
+        return from;
+    }
+    let mut count = 0;
+    'bytes: while narrow_ahead(text, from, count) {
+        count += 1;
+    }
+    from + count
+}
+
+/// Past the ordinary bytes that stand here.
+// Inlined: the call out of line is lent a copy of the reader, since one that is lent lies in memory.
+#[inline(always)]
+fn wide_apart(reader: &mut Reader)
+    ensures run { spec.IsRun reader.old.text reader.old.at reader.new }
+    ensures inside { reader.new.at ≤ length reader.old.text }
+{
+    let mut copy = reader.ahead();
+    wide_run(&mut copy);
+    *reader = copy;
 }
 
 /// Past the ordinary bytes that stand here.

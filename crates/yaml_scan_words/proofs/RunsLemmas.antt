@@ -1,5 +1,5 @@
 -- Runs, a byte at a time.
-use Rattle.std.proofs.Common.{◌≡◌, ℕ, zero, suc, ◌+◌, ◌<◌, ◌≤◌, ◌==◌, nat_lt, ◌||◌, true, false, not, List, length, refl, inl, inr, ◌⊎◌, arith}
+use Rattle.std.proofs.Common.{◌≡◌, ℕ, zero, suc, ◌+◌, ◌-◌, ◌<◌, ◌≤◌, ◌==◌, nat_lt, ◌||◌, true, false, not, List, length, refl, ◌∙◌, inl, inr, ◌⊎◌, arith}
 use Rattle.std.proofs.lemmas.Bool.{cases_Bool}
 use Rattle.std.proofs.lemmas.Bool.Decides.{nat_tests}
 use Rattle.yaml_scan_model.specs.Marks.{byte, break_width, is_blank}
@@ -53,6 +53,32 @@ pub run_stop : (n : ℕ) (run : Run) (text : List ℕ) (p : ℕ) → belongs run
 unfolding run_within
 run_stop zero run text p h = refl
 run_stop (suc n) run text p h = rw h refl
+
+last_or : (k n : ℕ) → k < n + 1 → (k < n) ⊎ (k ≡ n)
+last_or k n h = grind arith
+
+pub each_more : (run : Run) (text : List ℕ) (p q : ℕ) → ((k : ℕ) → p ≤ k → k < q → belongs run text k ≡ true) → belongs run text q ≡ true
+    → (k : ℕ) → p ≤ k → k < q + 1 → belongs run text k ≡ true
+each_more run text p q r h k a b =
+    elim (last_or k q b) [
+      | inl l ↦ r k a l
+      | inr e ↦ rw e h
+    ]
+
+-- what is left of a run behind some bytes of it
+run_span : (d n : ℕ) (run : Run) (text : List ℕ) (p q : ℕ) → q ≡ p + d → ((k : ℕ) → p ≤ k → k < q → belongs run text k ≡ true) → length text ≤ p + n
+    → (m : ℕ) × (length text ≤ q + m) × (run_within n run text p ≡ run_within m run text q)
+run_span zero n run text p q h each room =
+    let e : q ≡ p = omega arith in
+    rw e (n, room, refl)
+run_span (suc d) n run text p q h each room =
+    let (m, more, same) = run_more n run text p (each p (omega arith) (omega arith)) room in
+    let (l, rest, all) = run_span d m run text (p + 1) q (omega arith) (λ k a b. each k (omega arith) b) more in
+    (l, rest, same ∙ all)
+
+pub run_to : (n : ℕ) (run : Run) (text : List ℕ) (p q : ℕ) → p ≤ q → ((k : ℕ) → p ≤ k → k < q → belongs run text k ≡ true) → length text ≤ p + n
+    → (m : ℕ) × (length text ≤ q + m) × (run_within n run text p ≡ run_within m run text q)
+run_to n run text p q after each room = run_span (q - p) n run text p q (omega arith) each room
 
 -- a run goes forward, and stays inside the text
 pub run_within-ge : (n : ℕ) (run : Run) (text : List ℕ) (p : ℕ) → p ≤ run_within n run text p

@@ -1,6 +1,6 @@
 //! Runs of bytes that go together.
 
-ghost use Rattle.std.specs.Prelude.{◌≡◌, ◌+◌, ◌≤◌, ◌<◌, ℕ, length, slice_range, IfOk};
+ghost use Rattle.std.specs.Prelude.{◌≡◌, ◌+◌, ◌≤◌, ◌<◌, ℕ, true, length, slice_range, IfOk};
 ghost use Rattle.yaml_scan_model.specs.Marks.{byte};
 ghost use Rattle.yaml_scan_model.specs.Classes.{is_alpha_byte};
 ghost use Rattle.yaml_scan_words.specs.declared.run.Run.TheVariants as runs;
@@ -52,6 +52,9 @@ pub(crate) fn skip_run(run: Run, reader: &mut Reader)
     }
 }
 
+/// How many bytes are looked at in a row.
+const AHEAD: usize = 8;
+
 /// What each byte is in a name or a URI: `3` one of `0-9 A-Z a-z _ -`, `2` punctuation that any URI holds as it is, `1` one that only
 /// a wide URI does, `0` any other.
 static RANKS: [u8; 256] = *b"\
@@ -93,20 +96,63 @@ pub(crate) fn is_kept(byte: u8, wide: bool) -> bool
 fn alpha_at(text: &[u8], place: usize) -> bool
     ensures { result ≡ spec.belongs runs.Alphas text.now place }
 {
-    place < text.len() && is_alpha(text[place])
+    place < text.len() && is_alpha_at(text, place)
+}
+
+/// Whether the byte there, which is in the text, is one of `0-9 A-Z a-z _ -`.
+#[tactic(auto, unfolding(crate::specs::Runs::belongs))]
+// Inlined into the loop over bytes.
+#[inline(always)]
+fn is_alpha_at(text: &[u8], place: usize) -> bool
+    requires { place < length text.now }
+    ensures { result ≡ spec.belongs runs.Alphas text.now place }
+{
+    is_alpha(text[place])
 }
 
 /// The place behind the alphas that stand there.
-// Inlined: a loop of a load and a comparison a byte.
+// Inlined: mostly eight bytes are looked at in a row.
 #[inline(always)]
 pub(crate) fn alphas_end(text: &[u8], from: usize) -> usize
     ensures { result ≡ spec.run_end runs.Alphas text.now from }
 {
-    let mut end = from;
+    let mut end = past_alphas(text, from);
     'bytes: while alpha_at(text, end) {
-        end += 1;
+        end = past_alphas(text, end + 1);
     }
     end
+}
+
+/// Whether one of the next eight bytes is meant, and is one of `0-9 A-Z a-z _ -`.
+// Inlined into the loop over bytes.
+#[inline(always)]
+fn alpha_ahead(text: &[u8], from: usize, count: usize) -> bool
+    requires { from + 8 ≤ length text.now }
+    ensures few { result ≡ true → count < 8 }
+    ensures here { result ≡ true → spec.belongs runs.Alphas text.now (from + count) ≡ true }
+{
+    if AHEAD <= count {
+        return false;
+    }
+    is_alpha_at(text, from + count)
+}
+
+/// A place behind alphas that stand there: of eight bytes, where so many follow, the first that is none.
+// A loop whose turns are counted by a constant is written out: no place is compared with the text's length.
+// Inlined: a load and a comparison a byte.
+#[inline(always)]
+fn past_alphas(text: &[u8], from: usize) -> usize
+    ensures forward { from ≤ result }
+    ensures each { (k : ℕ) → from ≤ k → k < result → spec.belongs runs.Alphas text.now k ≡ true }
+{
+    if text.len().saturating_sub(from) < AHEAD {
+        return from;
+    }
+    let mut count = 0;
+    'bytes: while alpha_ahead(text, from, count) {
+        count += 1;
+    }
+    from + count
 }
 
 /// The place behind the indicator that stands here and the alphas that follow it.
@@ -163,8 +209,8 @@ pub(crate) fn copied_since(
 }
 
 /// A copy of the bytes from one place to another, in the room of a spare text where they fit.
-// Out of line: names and the parts of tags have it once, with the copy's move in line.
-#[inline(never)]
+// Inlined: mostly one move.
+#[inline(always)]
 pub(crate) fn copied(
     spares: &mut Vec<Vec<u8>>,
     text: &[u8],

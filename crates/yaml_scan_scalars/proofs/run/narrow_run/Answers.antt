@@ -1,8 +1,10 @@
-use Rattle.std.proofs.Common.{◌≡◌, ◌+◌, length, ◌∙◌, sym, ap, ℕ, List, arith}
-use Rattle.yaml_scan_model.specs.Marks.{column_at}
+use Rattle.std.proofs.Common.{◌≡◌, ◌+◌, ◌<◌, ◌≤◌, true, length, ◌∙◌, sym, ap, ℕ, List, arith}
+use Rattle.yaml_scan_model.specs.declared.record.yaml_mark_t.{yaml_mark_t}
+use Rattle.yaml_scan_model.specs.Marks.{byte, line_at, column_at}
+use Rattle.yaml_scan_scalars.specs.Ordinary.{is_narrow}
 use Rattle.yaml_scan_model.proofs.MarksLemmas.{within, column_at-le}
 use Rattle.yaml_scan_scalars.proofs.RunLemmas.{each_more}
-use Rattle.yaml_scan_scalars.proofs.TableLemmas.{behind_none, passes, run_of}
+use Rattle.yaml_scan_scalars.proofs.TableLemmas.{behind_none, passes, run_of, spanned, each_past}
 use Rattle.yaml_scan_scalars.proofs.run.narrow_run.Goals as goal
 
 pub overflow_add-mark : goal.overflow_add-mark
@@ -19,7 +21,29 @@ bytes-smaller c =
     let text = c.args.reader.now.text in
     let here = passes text c.bytes.end (rw c.text-text.ensures at (sym c.passes_at.ensures ∙ c.bytes-test.true)) in
     let inside = within text c.bytes.end here.some in
-    omega (arith, inside)
+    omega (arith, inside, c.past_narrow-end-in-bytes.ensures.forward)
+
+pub bytes-init : goal.bytes-init
+bytes-init c =
+    let text = c.args.reader.now.text in
+    let p = c.args.reader.now.at in
+    let here = c.stop-here.ensures in
+    let past = c.past_narrow-end.ensures in
+    let forward : p ≤ c.past_narrow-end.result = rw c.place-from.ensures at past.forward in
+    let each : (k : ℕ) → p ≤ k → k < c.past_narrow-end.result → is_narrow (byte text k) ≡ true = rw (c.text-text.ensures, c.place-from.ensures) at past.each in
+    let inside : p ≤ length text → c.past_narrow-end.result ≤ length text = rw (c.text-text.ensures, c.place-from.ensures) at past.inside in
+    let s = spanned text p c.past_narrow-end.result forward each here.whole in
+    let column = s.column in
+    let line : c.stop-here.result.line ≡ line_at text p = ap (λ (m : yaml_mark_t). m.line) here.mark in
+    let at : c.stop-here.result.column ≡ column_at text p = ap (λ (m : yaml_mark_t). m.column) here.mark in
+    record {
+      after = forward;
+      each = each_past text p p c.past_narrow-end.result (λ k a b. absurd (omega arith)) each;
+      inside = inside here.inside;
+      line = line ∙ sym s.line;
+      column = omega (arith, column, at, forward);
+      whole = s.whole;
+    }
 
 pub bytes-preserved : goal.bytes-preserved
 bytes-preserved c =
@@ -30,13 +54,19 @@ bytes-preserved c =
     let column = c.bytes.invariant.column in
     let next : column_at text (c.bytes.end + 1) ≡ column_at text c.bytes.end + 1 = rw here.low at b.column in
     let after = c.bytes.invariant.after in
+    let past = c.past_narrow-end-in-bytes.ensures in
+    let forward = past.forward in
+    let each : (k : ℕ) → c.bytes.end + 1 ≤ k → k < c.past_narrow-end-in-bytes.result → is_narrow (byte text k) ≡ true = rw c.text-text.ensures at past.each in
+    let most : c.bytes.end + 1 ≤ length text → c.past_narrow-end-in-bytes.result ≤ length text = rw c.text-text.ensures at past.inside in
+    let s = spanned text (c.bytes.end + 1) c.past_narrow-end-in-bytes.result forward each b.whole in
+    let more = s.column in
     record {
-      after = omega arith;
-      each = each_more text c.args.reader.now.at c.bytes.end c.bytes.invariant.each here.each;
-      inside = omega (arith, inside);
-      line = c.bytes.invariant.line ∙ sym b.line;
-      column = omega (arith, column, next, after);
-      whole = b.whole;
+      after = omega (arith, after, forward);
+      each = each_past text c.args.reader.now.at (c.bytes.end + 1) c.past_narrow-end-in-bytes.result (each_more text c.args.reader.now.at c.bytes.end c.bytes.invariant.each here.each) each;
+      inside = most (omega (arith, inside));
+      line = c.bytes.invariant.line ∙ sym b.line ∙ sym s.line;
+      column = omega (arith, column, next, after, more, forward);
+      whole = s.whole;
     }
 
 pub returns-clause-run : goal.returns-clause-run

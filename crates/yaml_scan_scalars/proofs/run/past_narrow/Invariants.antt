@@ -1,0 +1,13 @@
+use Rattle.std.proofs.Common.{◌≡◌, ◌+◌, ◌-◌, ◌≤◌, ◌<◌, ℕ, true}
+use Rattle.yaml_scan_model.specs.Marks.{byte}
+use Rattle.yaml_scan_scalars.specs.Ordinary.{is_narrow}
+use Rattle.yaml_scan_scalars.proofs.run.past_narrow.Given as goal
+
+abbrev pub invariant-bytes : goal.invariant-bytes
+invariant-bytes l = record {
+  few : l.count ≤ 8;
+  each : (k : ℕ) → l.from ≤ k → k < l.from + l.count → is_narrow (byte l.text k) ≡ true;
+}
+
+abbrev pub decreases-bytes : goal.decreases-bytes
+decreases-bytes l = 8 - l.count

@@ -1,6 +1,6 @@
 //! States that are put on top of the stack, whose last state is the topmost.
 
-ghost use Rattle.std.specs.Prelude.{◌≡◌, ◌<◌, ◌≤◌, ◌+◌, ◌++◌, [], ◌∷◌, vec_len, vec_capacity, OnOk, IfOk, IfSome, false};
+ghost use Rattle.std.specs.Prelude.{◌≡◌, ◌<◌, ◌≤◌, ◌+◌, ◌++◌, [], ◌∷◌, vec_len, vec_capacity, OnOk, IfOk, IfSome, None, false};
 ghost use Rattle.yaml_parse_grammar.specs.declared.name.Site.TheVariants.{Entry, IndentlessEntry, BlockPair, FlowPair};
 ghost use Rattle.yaml_parse_grammar.specs.declared.name.Brackets.TheVariants as brackets;
 ghost use Rattle.yaml_parse_grammar.specs.declared.name.Side.TheVariants.{Key, Value};
@@ -83,6 +83,7 @@ pub fn topmost(stack: &Vec<State>) -> Option<&State>
     ensures top { IfSome result (λ s. stack_of stack.now.items ≡ state_of s.now
         ∷ below (stack_of stack.now.items)) }
     ensures some { IfSome result (λ s. 0 < vec_len stack.now) }
+    ensures none { result ≡ None → vec_len stack.now ≡ 0 }
 {
     stack.as_slice().last()
 }

@@ -165,7 +165,7 @@ fn at_top(
 }
 
 // The content of a node behind the properties on top.
-// Out of line: see `at_alias`.
+// Out of line: few nodes have properties.
 #[inline(never)]
 fn content_behind(
     stack: &mut Vec<State>,
@@ -251,8 +251,8 @@ fn join_tag(state: &mut State, token: &mut yaml_token_t) -> Swift
 }
 
 // An anchor behind the properties on top.
-// Out of line: see `at_alias`.
-#[inline(never)]
+// Inlined: see `at_alias`.
+#[inline(always)]
 fn anchor_behind(stack: &mut Vec<State>, token: &mut yaml_token_t) -> Swift
     requires { 0 < vec_len stack.old }
     ensures { (e : Event) → SwiftlyOn (token_of token.old) (stack_of stack.old.items) result
@@ -263,7 +263,7 @@ fn anchor_behind(stack: &mut Vec<State>, token: &mut yaml_token_t) -> Swift
 }
 
 // A tag behind the properties on top.
-// Out of line: see `at_alias`.
+// Out of line: mostly the tag comes first.
 #[inline(never)]
 fn tag_behind(stack: &mut Vec<State>, token: &mut yaml_token_t) -> Swift
     requires { 0 < vec_len stack.old }

@@ -124,7 +124,7 @@ fn open_pairs(stack: &mut Vec<State>, token: &mut yaml_token_t, event: &mut yaml
 }
 
 // A block collection begins, where one may stand.
-// Out of line: see `at_alias`.
+// Out of line: other nodes are more.
 #[inline(never)]
 fn at_block(
     stack: &mut Vec<State>,
@@ -171,8 +171,8 @@ fn await_node(
 }
 
 // An alias, at its place.
-// Out of line, as each of these ways: nodes of other kinds are more, and so none has another one's temporaries.
-#[inline(never)]
+// Inlined, as the ways of an anchor and of a tag: a call would keep registers for what is rare in it.
+#[inline(always)]
 fn at_alias(
     stack: &mut Vec<State>,
     place: Site,
@@ -195,8 +195,8 @@ fn at_alias(
 }
 
 // An anchor, at the place of its node.
-// Out of line: see `at_alias`.
-#[inline(never)]
+// Inlined: see `at_alias`.
+#[inline(always)]
 fn at_anchor(
     stack: &mut Vec<State>,
     place: Site,
@@ -218,8 +218,8 @@ fn at_anchor(
 }
 
 // A tag, at the place of its node.
-// Out of line: see `at_alias`.
-#[inline(never)]
+// Inlined: see `at_alias`.
+#[inline(always)]
 fn at_tag(
     stack: &mut Vec<State>,
     place: Site,
@@ -364,6 +364,8 @@ fn at_entries(
 }
 
 // A flow collection begins inside the brackets of a sequence.
+// Inlined: its brackets are known.
+#[inline(always)]
 fn open_inside(
     stack: &mut Vec<State>,
     opener: yaml_mark_t,

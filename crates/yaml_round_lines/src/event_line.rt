@@ -459,8 +459,8 @@ fn push_rare(line: &mut Vec<u8>, word: &[u8]) -> Result<(), AllocError>
 }
 
 // Adds the line of any event.
-// Out of line: most events have no property, and none is added to their word or their value.
-#[inline(never)]
+// Inlined into its one caller, so that the kind is looked at once.
+#[inline(always)]
 fn push_any(line: &mut Vec<u8>, event: &yaml_event_t) -> Result<(), AllocError>
     ensures { OnOk result (line.new.items ≡ line.old.items ++ event_line
         (event_of event.now).body) }

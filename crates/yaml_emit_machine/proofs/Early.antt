@@ -3,7 +3,6 @@ use Rattle.std.proofs.Common.{◌≡◌, List, [], ◌∷◌, ◌++◌, Bool, tr
 use Rattle.yaml_scan_model.specs.Faults.{Fault}
 use Rattle.yaml_emit_text.specs.declared.Cursor.{Cursor}
 use Rattle.yaml_emit_text.specs.declared.Settings.{Settings}
-use Rattle.yaml_emit_text.specs.Text.{Item}
 use Rattle.yaml_emit_text.specs.Layout.{Layout}
 use Rattle.yaml_emit_text.specs.Sink.{Puts}
 use Rattle.yaml_emit_layout.specs.Content.{Event, no_event, stream_start, stream_end, document_start, document_end, alias, scalar, sequence_start, sequence_end, mapping_start, mapping_end}
@@ -17,7 +16,7 @@ use Rattle.yaml_emit_held.specs.Held.{held_events}
 use Rattle.yaml_emit_machine.specs.declared.emitter.yaml_emitter_t.TheInside.{Inside}
 use Rattle.yaml_emit_machine.specs.Emitter.{Emitter}
 use Rattle.yaml_emit_machine.specs.Views.{emitter_of}
-use Rattle.yaml_emit_machine.specs.Taking.{TakesEvents, GivesText, LaysAtOnce}
+use Rattle.yaml_emit_machine.specs.Taking.{GivesText, LaysAtOnce}
 use Rattle.yaml_emit_machine.proofs.Viewing.{seen}
 use Rattle.yaml_emit_machine.proofs.Emitting.{lay_completes}
 
@@ -85,11 +84,3 @@ inside_gives i core fault e once l =
       requested_settings = refl;
       limit = l.text.limit;
     }
-
--- what a call takes that holds events is given too
-pub takes_gives : (old new : Emitter) (e : Event) → TakesEvents old (e ∷ []) new [] → GivesText old e new
-takes_gives old new e t = record {
-  completes = λ x more whole h. t.completes x more whole h;
-  requested_settings = t.requested_settings;
-  limit = t.limit;
-}

@@ -1,6 +1,4 @@
-use Rattle.std.proofs.Common.{refl, ap, sym, subst, ◌∙◌, ◌≡◌, None, List, [], false, length}
-use Rattle.std.specs.Prelude.{◌≤◌}
-use Rattle.yaml_emit_layout.specs.Content.{Event}
+use Rattle.std.proofs.Common.{ap, ◌∙◌}
 use Rattle.yaml_emit_held.specs.Held.{is_ready}
 use Rattle.yaml_emit_held.proofs.Judging.{going_notes}
 use Rattle.yaml_emit_machine.proofs.Early.{inside_gives}

@@ -9,12 +9,12 @@ ghost use Rattle.yaml_emit_machine.specs.emit_layout.Content.{emitter_event};
 ghost use Rattle.yaml_emit_machine.specs.Emitter.{stop_of, IsNew, IsLimited, ShowsFront, IsWhole, Answers, Stays};
 ghost use Rattle.yaml_emit_machine.specs.Within.{IsWithin};
 ghost use Rattle.yaml_emit_machine.specs.Verdict.{TellsOutcome};
-ghost use Rattle.yaml_emit_machine.specs.Taking.{TakesEvents, NotesMemoryOf};
+ghost use Rattle.yaml_emit_machine.specs.Taking.{TakesEvents, GivesText, NotesMemoryOf};
 
 use std::alloc::Global;
 use yaml_emit_machine::{
-    answer, first_fault, give, give_over, into_output, is_fresh, is_opened, let_go, new_emitter,
-    output, requested_settings, set_requested_settings, yaml_emitter_t,
+    answer, first_fault, give, give_early, give_over, into_output, is_fresh, is_opened, let_go,
+    new_emitter, output, requested_settings, set_requested_settings, yaml_emitter_t,
 };
 use yaml_emit_text::RequestedSettings;
 use yaml_parse_model::yaml_event_t;
@@ -224,6 +224,21 @@ pub fn yaml_emitter_emit_from(emitter: &mut yaml_emitter_t, event: &mut yaml_eve
         × (emitter.new.closed ≡ emitter.old.closed) }
 {
     give(emitter, &mut event.body);
+}
+
+/// `yaml_emitter_emit_from` for a text that is wanted whole, as a reader's of all events is: in canonical form no event is held,
+/// since none behind it decides what is written for it. What the emitter completes is the same; output and fault may come up
+/// to three events earlier.
+pub fn yaml_emitter_emit_early(emitter: &mut yaml_emitter_t, event: &mut yaml_event_t)
+    requires { HasUtf8 (event_of event.old).body }
+    ensures text { GivesText emitter.old (emitter_event (event_of event.old).body) emitter.new }
+    ensures stays { Stays emitter.old emitter.new }
+    ensures few { length emitter.new.held ≤ 3 }
+    ensures opened { (emitter.new.opened ≡ emitter.old.opened)
+        × (emitter.new.closed ≡ emitter.old.closed) }
+    ensures begun { emitter.new.fresh ≡ false }
+{
+    give_early(emitter, &mut event.body);
 }
 
 /// What was laid out is in the output. The first fault, if there is one, is answered. Asks that an event was given.

@@ -366,7 +366,7 @@ lays_held a b x y z same j = let P : List Event → Type 0 = λ t. LaysEvents a 
 
 -- ---- memory
 
-going_notes : (takes : Bool) (a b : Status) → b ≡ Going → may_note takes a b ≡ false
+pub going_notes : (takes : Bool) (a b : Status) → b ≡ Going → may_note takes a b ≡ false
 going_notes false a b g = refl
 going_notes true Going Going g = refl
 going_notes true Going Full g = absurd (cc)

@@ -110,6 +110,18 @@ impl Held {
         }
     }
 
+    /// Whether none is held.
+    // Inlined: one comparison.
+    #[inline(always)]
+    pub fn is_empty(&self) -> bool
+        ensures { result ≡ true → held_events self.now ≡ [] }
+    {
+        match self.count {
+            Count::Nothing => true,
+            _ => false,
+        }
+    }
+
     fn opens_level(event: &yaml_event_body_t) -> bool
         ensures { result ≡ opens_level (emitter_event (body_of event.now)) }
     {

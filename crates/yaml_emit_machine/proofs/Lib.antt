@@ -4,6 +4,7 @@ pub mod Viewing
 pub mod Emitting
 pub mod Within
 pub mod Taking
+pub mod Early
 pub mod Verdicts
 pub mod Dumped
 pub mod Opened

@@ -26,6 +26,22 @@ pub record TakesEvents (old : Emitter) (es : List Event) (new : Emitter)
   -- one that is still fresh has taken nothing
   pub begun : new.fresh ≡ true → (old.fresh ≡ true) × (left ≡ es)
 
+-- An event was given of a stream whose whole text is wanted: that is the same. Which part of it is written by now, and which
+-- fault is told, may be that of a later call.
+pub record GivesText (old : Emitter) (e : Event) (new : Emitter) : Type 0 where
+  pub completes : (x : Encoding) (more : List Event) (whole : List Item)
+      → Completes old x (e ∷ more) whole → Completes new x more whole
+  pub requested_settings : new.requested_settings ≡ old.requested_settings
+  pub limit : new.limit ≡ old.limit
+
+-- An event that comes is laid out at once: nothing is wrong, the settings are in force, the form is canonical, and no other
+-- event is held.
+pub record LaysAtOnce (e : Emitter) : Type 0 where
+  pub right : e.fault ≡ None
+  pub begun : e.fresh ≡ false
+  pub form : e.settings.canonical ≡ true
+  pub none : e.held ≡ []
+
 -- What is given behind a refusal counts for nothing: with any events to come it is the same as with any others.
 abbrev pub Stuck : Emitter → Type 0
 Stuck e = (es left : List Event) → TakesEvents e es e left

@@ -8,7 +8,7 @@ ghost use Rattle.yaml_emit_layout.specs.Content.{emitter_event};
 ghost use Rattle.yaml_emit_machine.specs.Emitter.{stream_encoding, stop_of, IsNew, IsLimited, ShowsFront, IsWhole, Answers, Stays};
 ghost use Rattle.yaml_emit_machine.specs.Within.{IsWithin};
 ghost use Rattle.yaml_emit_machine.specs.Verdict.{TellsOutcome};
-ghost use Rattle.yaml_emit_machine.specs.Taking.{TakesEvents, Stuck, NotesMemoryOf, ComesIntoForce};
+ghost use Rattle.yaml_emit_machine.specs.Taking.{TakesEvents, GivesText, LaysAtOnce, Stuck, NotesMemoryOf, ComesIntoForce};
 
 mod dump;
 
@@ -211,6 +211,33 @@ impl yaml_emitter_t {
         note(&self.core, &mut self.fault);
     }
 
+    // Whether an event that comes is laid out at once.
+    // Inlined: four reads.
+    #[inline(always)]
+    fn lays_at_once(&self) -> bool
+        ensures { result ≡ true → LaysAtOnce self.now }
+    {
+        match self.fault {
+            Some(_) => false,
+            None => !self.fresh && self.core.is_canonical() && self.held.is_empty(),
+        }
+    }
+
+    // Lays it out at once: in canonical form the same is written whatever comes behind it.
+    // Inlined into its one caller.
+    #[inline(always)]
+    fn lay_at_once(&mut self, event: &mut yaml_event_body_t)
+        requires utf8 { HasUtf8 (body_of event.old) }
+        requires once { LaysAtOnce self.old }
+        ensures text { GivesText self.old (emitter_event (body_of event.old)) self.new }
+        ensures few { self.new.held ≡ [] }
+        ensures begun { self.new.fresh ≡ false }
+        ensures opened { (self.new.opened ≡ self.old.opened) × (self.new.closed ≡ self.old.closed) }
+    {
+        self.core.lay_out(event, false);
+        note(&self.core, &mut self.fault);
+    }
+
     // An emitter without a fault takes an event.
     #[tactic(auto, using(crate::proofs::Taking::begins_takes, crate::proofs::Taking::begins_notes))]
     fn take(&mut self, event: &mut yaml_event_body_t)
@@ -266,6 +293,26 @@ pub fn give(emitter: &mut yaml_emitter_t, event: &mut yaml_event_body_t)
         None => {
             emitter.take(event);
         }
+    }
+}
+
+/// `give` where the whole text is wanted: in canonical form no event is held, since none behind it decides what is written for
+/// it. So output and fault may come some events earlier.
+// Out of line: the short way to the layout, beside the general one, and pretty form has none of it.
+#[inline(never)]
+pub fn give_early(emitter: &mut yaml_emitter_t, event: &mut yaml_event_body_t)
+    requires { HasUtf8 (body_of event.old) }
+    ensures text { GivesText emitter.old (emitter_event (body_of event.old)) emitter.new }
+    ensures stays { Stays emitter.old emitter.new }
+    ensures few { length emitter.new.held ≤ 3 }
+    ensures opened { (emitter.new.opened ≡ emitter.old.opened)
+        × (emitter.new.closed ≡ emitter.old.closed) }
+    ensures begun { emitter.new.fresh ≡ false }
+{
+    if emitter.lays_at_once() {
+        emitter.lay_at_once(event);
+    } else {
+        give(emitter, event);
     }
 }
 

@@ -93,7 +93,19 @@ pub(crate) fn refusal(core: &Core) -> Option<yaml_fault_t>
     }
 }
 
+// Notes the fault of what has stopped the output, or of a refused event.
+// Out of line: it is met once at most, and a fault's room would be set to zero for each event.
+#[inline(never)]
+fn note_refusal(core: &Core, fault: &mut Option<yaml_fault_t>)
+    ensures { option_map fault_of fault.new ≡ refusal_by core.now.place core.now.sink.status
+        core.now.starved }
+{
+    *fault = refusal(core);
+}
+
 // Notes the fault of what was laid out, where there is one and none was noted.
+// Inlined: two reads, mostly.
+#[inline(always)]
 #[tactic(auto, using(crate::proofs::Emitting::unnoted))]
 pub(crate) fn note(core: &Core, fault: &mut Option<yaml_fault_t>)
     requires { option_map fault_of fault.old ≡ None }
@@ -101,6 +113,6 @@ pub(crate) fn note(core: &Core, fault: &mut Option<yaml_fault_t>)
         core.now.starved }
 {
     if !core.is_going() {
-        *fault = refusal(core);
+        note_refusal(core, fault);
     }
 }

@@ -7,8 +7,8 @@ mod law;
 mod name;
 
 pub use emitter::{
-    answer, dump_document, emit, first_fault, give, give_over, into_output, is_closed, is_fresh,
-    is_opened, let_go, new_emitter, output, requested_settings, set_closed, set_opened,
+    answer, dump_document, emit, first_fault, give, give_early, give_over, into_output, is_closed,
+    is_fresh, is_opened, let_go, new_emitter, output, requested_settings, set_closed, set_opened,
     set_requested_settings, yaml_emitter_t,
 };
 pub use law::streams_pass;

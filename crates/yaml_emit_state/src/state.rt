@@ -84,6 +84,15 @@ impl Core {
         self.place
     }
 
+    /// Whether the form is canonical.
+    // Inlined: one read.
+    #[inline(always)]
+    pub fn is_canonical(&self) -> bool
+        ensures { result ≡ (settings_of self.now).canonical }
+    {
+        self.settings.canonical
+    }
+
     /// Whether the output was stopped by memory that was refused for the open collections or the directives.
     pub fn is_starved(&self) -> bool
         ensures { result ≡ self.now.starved }
@@ -325,6 +334,20 @@ impl Core {
         }
     }
 
+    // An alias, in canonical form.
+    // Out of line: kind and form are known, and what other kinds need takes no room here.
+    #[inline(never)]
+    fn lay_alias(&mut self, event: &mut yaml_event_body_t, empty: bool)
+        requires utf8 { HasUtf8 (body_of event.old) }
+        requires form { self.old.settings.canonical ≡ true }
+        ensures { LaysOut self.old self.new (emitter_event (body_of event.old)) empty }
+    {
+        match event {
+            yaml_event_body_t::Alias { .. } => self.lay_by(event, empty, true),
+            _ => self.lay_any(event, empty),
+        }
+    }
+
     // In canonical form. A scalar is short where kind and form are known.
     // Out of line: what other kinds and the other form need takes no room here.
     #[inline(never)]
@@ -341,6 +364,7 @@ impl Core {
             yaml_event_body_t::SequenceEnd | yaml_event_body_t::MappingEnd => {
                 self.lay_end(event, empty)
             }
+            yaml_event_body_t::Alias { .. } => self.lay_alias(event, empty),
             _ => self.lay_any(event, empty),
         }
     }

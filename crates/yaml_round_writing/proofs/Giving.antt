@@ -4,8 +4,9 @@ use Rattle.yaml_parse.specs.Remaining.{ParserRemaining}
 use Rattle.yaml_parse.specs.Resolve.{Told}
 use Rattle.yaml_parse.specs.Events.{Event, text_of}
 use Rattle.yaml_emit.specs.Content.{emitter_event}
+use Rattle.yaml_emit.specs.Content.{Event as Said}
 use Rattle.yaml_emit.specs.Emitter.{Emitter, Completes}
-use Rattle.yaml_emit.specs.Taking.{TakesEvents}
+use Rattle.yaml_emit.specs.Taking.{TakesEvents, GivesText}
 use Rattle.yaml_round_laws_documents.specs.content.Normalize.{normalize_body}
 use Rattle.yaml_round_reading.specs.Reading.{GivesNextEvent, emitter_events}
 use Rattle.yaml_round_shape.specs.Seen.{seen, seen_all}
@@ -14,10 +15,18 @@ use Rattle.yaml_round_shape.specs.declared.seen.Shape.{Shape}
 use Rattle.yaml_round_writing.specs.Writing.{LeadsWatched, Sees}
 use Rattle.yaml_round_reading.proofs.Keeping.{kept_on}
 
+-- what a call takes that may hold events is given too
+pub takes_gives : (old new : Emitter) (e : Said) → TakesEvents old (e ∷ []) new [] → GivesText old e new
+takes_gives old new e t = record {
+  completes = λ x more whole h. t.completes x more whole h;
+  requested_settings = t.requested_settings;
+  limit = t.limit;
+}
+
 -- what is given to an emitter whose watch is at hand
 gives_by : (ends : Bool) (w : Watch) (first old new : Emitter) (all : List Told) (before after : ParserRemaining) (v : Event) (watch shape : Watch)
     → LeadsWatched w first all watch old before.events → GivesNextEvent v before after → watch.canonical ≡ ends → w.canonical ≡ ends
-    → TakesEvents old (emitter_event (normalize_body ends v.body) ∷ []) new []
+    → GivesText old (emitter_event (normalize_body ends v.body)) new
     → Sees watch (normalize_body ends v.body) shape
     → LeadsWatched w first all shape new after.events
 unfolding seen_all
@@ -36,7 +45,7 @@ gives_by ends w first old new all before after v watch shape l f c d g e = recor
 
 pub gives : (w : Watch) (first old new : Emitter) (all : List Told) (before after : ParserRemaining) (v : Event) (watch shape : Watch)
     → LeadsWatched w first all watch old before.events → GivesNextEvent v before after
-    → TakesEvents old (emitter_event (normalize_body watch.canonical v.body) ∷ []) new []
+    → GivesText old (emitter_event (normalize_body watch.canonical v.body)) new
     → Sees watch (normalize_body watch.canonical v.body) shape
     → LeadsWatched w first all shape new after.events
 gives w first old new all before after v watch shape l f g e = gives_by watch.canonical w first old new all before after v watch shape l f refl (sym l.canonical) g e

@@ -6,17 +6,17 @@ ghost use Rattle.yaml_parse.specs.Events.{event_of};
 ghost use Rattle.yaml_parse.specs.Constructors.{HasUtf8};
 ghost use Rattle.yaml_emit.specs.Content.{emitter_event};
 ghost use Rattle.yaml_emit.specs.Emitter.{IsLimited};
-ghost use Rattle.yaml_emit.specs.Taking.{TakesEvents};
+ghost use Rattle.yaml_emit.specs.Taking.{GivesText};
 ghost use Rattle.yaml_round_laws_documents.specs.content.Normalize.{normalize_body};
 ghost use Rattle.yaml_round_reading.specs.Reading.{AreReal};
 ghost use Rattle.yaml_round_writing.specs.Writing.{IsUnder, requested_under, encoding_under, Sees, Tells, WritesReading, WritesAll, FinishesText};
 
 use std::alloc::Global;
 use yaml_emit::{
-    yaml_emitter_emit_from, yaml_emitter_fault, yaml_emitter_initialize, yaml_emitter_into_output,
-    yaml_emitter_output, yaml_emitter_set_break, yaml_emitter_set_canonical,
-    yaml_emitter_set_encoding, yaml_emitter_set_indent, yaml_emitter_set_unicode,
-    yaml_emitter_set_width, yaml_emitter_t,
+    yaml_emitter_emit_early, yaml_emitter_emit_from, yaml_emitter_fault, yaml_emitter_initialize,
+    yaml_emitter_into_output, yaml_emitter_output, yaml_emitter_set_break,
+    yaml_emitter_set_canonical, yaml_emitter_set_encoding, yaml_emitter_set_indent,
+    yaml_emitter_set_unicode, yaml_emitter_set_width, yaml_emitter_t,
 };
 use yaml_parse::{yaml_event_t, yaml_found_t};
 use yaml_round_device::{yaml_output_encoding_t, yaml_settings_t};
@@ -71,12 +71,17 @@ pub(crate) fn emitter_under(
 }
 
 // Gives the event in the slot; what is left there counts for nothing. The emitter keeps its first fault.
-fn give(emitter: &mut yaml_emitter_t, event: &mut yaml_event_t)
+// Inlined: a test in front of a call. Pretty form has to hold events.
+#[inline(always)]
+fn give(emitter: &mut yaml_emitter_t, canonical: bool, event: &mut yaml_event_t)
     requires { HasUtf8 (event_of event.old).body }
-    ensures { TakesEvents emitter.old (emitter_event (event_of event.old).body ∷ []) emitter.new
-        [] }
+    ensures { GivesText emitter.old (emitter_event (event_of event.old).body) emitter.new }
 {
-    yaml_emitter_emit_from(emitter, event);
+    if canonical {
+        yaml_emitter_emit_early(emitter, event);
+    } else {
+        yaml_emitter_emit_from(emitter, event);
+    }
 }
 
 // The most bytes that are kept, as far as the shape is known.
@@ -92,12 +97,11 @@ fn most_kept(watch: &Watch) -> usize {
 #[inline(never)]
 fn give_told(emitter: &mut yaml_emitter_t, watch: &mut Watch, event: &mut yaml_event_t, most: usize)
     requires { HasUtf8 (event_of event.old).body }
-    ensures takes { TakesEvents emitter.old (emitter_event (event_of event.old).body ∷ [])
-        emitter.new [] }
+    ensures gives { GivesText emitter.old (emitter_event (event_of event.old).body) emitter.new }
     ensures told { Tells watch.old (event_of event.old).body watch.new }
 {
     keep(&mut watch.kept, event, most);
-    give(emitter, event);
+    yaml_emitter_emit_from(emitter, event);
 }
 
 // The same. Where nothing is kept, it is given alone.
@@ -105,12 +109,11 @@ fn give_told(emitter: &mut yaml_emitter_t, watch: &mut Watch, event: &mut yaml_e
 #[inline(always)]
 fn give_kept(emitter: &mut yaml_emitter_t, watch: &mut Watch, event: &mut yaml_event_t, most: usize)
     requires { HasUtf8 (event_of event.old).body }
-    ensures takes { TakesEvents emitter.old (emitter_event (event_of event.old).body ∷ [])
-        emitter.new [] }
+    ensures gives { GivesText emitter.old (emitter_event (event_of event.old).body) emitter.new }
     ensures told { Tells watch.old (event_of event.old).body watch.new }
 {
     match watch.kept {
-        None => give(emitter, event),
+        None => give(emitter, watch.canonical, event),
         Some(_) => give_told(emitter, watch, event, most),
     }
 }
@@ -120,8 +123,7 @@ fn give_kept(emitter: &mut yaml_emitter_t, watch: &mut Watch, event: &mut yaml_e
 #[inline(never)]
 fn give_seen(emitter: &mut yaml_emitter_t, watch: &mut Watch, event: &mut yaml_event_t)
     requires { HasUtf8 (event_of event.old).body }
-    ensures takes { TakesEvents emitter.old (emitter_event (event_of event.old).body ∷ [])
-        emitter.new [] }
+    ensures gives { GivesText emitter.old (emitter_event (event_of event.old).body) emitter.new }
     ensures seen { Sees watch.old (event_of event.old).body watch.new }
 {
     watch.shape = seen_with(watch.shape, event);
@@ -135,8 +137,7 @@ fn give_seen(emitter: &mut yaml_emitter_t, watch: &mut Watch, event: &mut yaml_e
 #[tactic(auto, unfolding(yaml_round_shape::specs::Seen::seen))]
 fn give_on(emitter: &mut yaml_emitter_t, watch: &mut Watch, event: &mut yaml_event_t)
     requires { HasUtf8 (event_of event.old).body }
-    ensures takes { TakesEvents emitter.old (emitter_event (event_of event.old).body ∷ [])
-        emitter.new [] }
+    ensures gives { GivesText emitter.old (emitter_event (event_of event.old).body) emitter.new }
     ensures seen { Sees watch.old (event_of event.old).body watch.new }
 {
     match watch.shape {
@@ -151,8 +152,8 @@ fn give_on(emitter: &mut yaml_emitter_t, watch: &mut Watch, event: &mut yaml_eve
 // The same of the event, normalized.
 fn give_normalized(emitter: &mut yaml_emitter_t, watch: &mut Watch, event: &mut yaml_event_t)
     requires { HasUtf8 (event_of event.old).body }
-    ensures takes { TakesEvents emitter.old (emitter_event
-        (normalize_body watch.old.canonical (event_of event.old).body) ∷ []) emitter.new [] }
+    ensures gives { GivesText emitter.old (emitter_event
+        (normalize_body watch.old.canonical (event_of event.old).body)) emitter.new }
     ensures seen { Sees watch.old (normalize_body watch.old.canonical (event_of event.old).body)
         watch.new }
 {

@@ -11,5 +11,5 @@ events-preserved c =
       ending = front.ending ∙ c.events.invariant.ending;
       real = front.real;
       leads = gives c.args.watch.now c.args.emitter.now c.events.emitter c.give_normalized.new.emitter c.args.reading.now.parser.events c.events.reading.parser c.next.new.self.parser
-          (event_of c.next.new.self.event) c.events.watch c.give_normalized.new.watch c.events.invariant.leads front c.give_normalized.ensures.takes c.give_normalized.ensures.seen;
+          (event_of c.next.new.self.event) c.events.watch c.give_normalized.new.watch c.events.invariant.leads front c.give_normalized.ensures.gives c.give_normalized.ensures.seen;
     }

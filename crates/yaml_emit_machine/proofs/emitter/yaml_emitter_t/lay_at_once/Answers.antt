@@ -1,0 +1,26 @@
+use Rattle.std.proofs.Common.{ap, ◌∙◌}
+use Rattle.yaml_emit_held.specs.Held.{is_ready}
+use Rattle.yaml_emit_held.proofs.Judging.{going_notes}
+use Rattle.yaml_emit_machine.proofs.Early.{inside_gives}
+use Rattle.yaml_emit_machine.proofs.emitter.yaml_emitter_t.lay_at_once.Goals as goal
+
+pub invariant_of-self : goal.invariant_of-self
+unfolding is_ready
+invariant_of-self c =
+    let once = rw (← c.self.view_is) at c.requires.once in
+    let begun = once.begun in
+    record {
+      faulty = c.note.ensures;
+      few = λ g. ap is_ready once.none;
+      short = c.self.invariant.short;
+      texts = c.self.invariant.texts;
+      begun = λ f. absurd (cc);
+      limited = c.lay_out.ensures.text.limit ∙ c.self.invariant.limited;
+      running = c.self.invariant.running;
+      memory = λ g. c.lay_out.ensures.memory (going_notes _ _ _ g) ∙ c.self.invariant.memory (c.lay_out.ensures.text.going g);
+    }
+
+pub returns-clause-text : goal.returns-clause-text
+returns-clause-text c =
+    let once = rw (← c.self.view_is) at c.requires.once in
+    rw (← c.self.view_is) (inside_gives c.self.inside c.lay_out.new.self _ _ once c.lay_out.ensures)

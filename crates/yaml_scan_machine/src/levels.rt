@@ -104,8 +104,43 @@ fn innermost(columns: &[u64], n: usize) -> u64
     columns[n - 1]
 }
 
-/// How many columns are not right of a column.
+/// How many columns are not right of a column. Mostly all: that is asked before the loop, in front of which LLVM would
+/// compute its places.
+// Inlined: a comparison, asked for each lexeme.
+#[inline(always)]
 fn count_left(columns: &[u64], column: u64) -> usize
+    requires { rising.IsRising columns.now }
+    ensures inside { result ≤ length columns.now }
+    ensures left { take result columns.now ≡ rising.left_of column columns.now }
+{
+    if are_left(columns, column) {
+        return columns.len();
+    }
+    count_further(columns, column)
+}
+
+/// Whether there are columns, and none is right of a column.
+// Inlined: a comparison.
+#[inline(always)]
+fn are_left(columns: &[u64], column: u64) -> bool
+    requires { rising.IsRising columns.now }
+    ensures { result ≡ true → take (length columns.now) columns.now
+        ≡ rising.left_of column columns.now }
+{
+    let count = columns.len();
+    if count == 0 {
+        return false;
+    }
+    if column < columns[count - 1] {
+        return false;
+    }
+    true
+}
+
+/// How many columns are not right of a column, by a look at each.
+// Out of line: mostly a lexeme closes no level.
+#[inline(never)]
+fn count_further(columns: &[u64], column: u64) -> usize
     requires { rising.IsRising columns.now }
     ensures inside { result ≤ length columns.now }
     ensures left { take result columns.now ≡ rising.left_of column columns.now }

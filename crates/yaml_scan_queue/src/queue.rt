@@ -10,7 +10,7 @@ use crate::waiting::Waiting;
 use std::alloc::{AllocError, Global};
 use std::marker::Model;
 use std::mem;
-use yaml_scan_history::{Lexeme, Opens};
+use yaml_scan_history::{Entry, Lexeme, Opens};
 use yaml_scan_model::{moved, yaml_token_body_t, yaml_token_t};
 
 /// A row of slots, of which those from `first` to `last` hold the lexemes that wait. The others are used again: the body
@@ -122,7 +122,7 @@ impl Queue {
             current,
         } = waiting;
         let slot = &mut self.slots[self.last];
-        slot.entry = entry;
+        put_entry(&mut slot.entry, entry);
         slot.current = current;
         put_body(&mut slot.body, body);
         self.last += 1;
@@ -282,6 +282,26 @@ fn kind(body: &yaml_token_body_t) -> yaml_token_body_t
         yaml_token_body_t::Value => yaml_token_body_t::Value,
         _ => yaml_token_body_t::No,
     }
+}
+
+/// Puts an entry to a place, field by field: of one that is moved whole the gaps between the fields are set too.
+// Inlined: some stores.
+#[inline(always)]
+fn put_entry(to: &mut Entry, entry: Entry)
+    ensures { to.new ≡ entry }
+{
+    to.lexeme.kind = entry.lexeme.kind;
+    to.lexeme.start = entry.lexeme.start;
+    to.lexeme.end = entry.lexeme.end;
+    to.lexeme.reached = entry.lexeme.reached;
+    to.lexeme.depth = entry.lexeme.depth;
+    to.lexeme.level = entry.lexeme.level;
+    to.lexeme.saved = entry.lexeme.saved;
+    to.lexeme.required = entry.lexeme.required;
+    to.lexeme.broke = entry.lexeme.broke;
+    to.ends = entry.ends;
+    to.opens = entry.opens;
+    to.key = entry.key;
 }
 
 /// Puts a body to a place that holds no text.

@@ -2,7 +2,7 @@ use Rattle.std.proofs.Common.{ℕ, ◌-◌, ◌<◌, ◌≤◌, sym, ◌∙◌, 
 use Rattle.std.proofs.lemmas.List.{length-take-le}
 use Rattle.std.specs.Prelude.{slice_index}
 use Rattle.yaml_scan_machine.proofs.LevelsLemmas.{left_all}
-use Rattle.yaml_scan_machine.proofs.levels.count_left.Goals as goal
+use Rattle.yaml_scan_machine.proofs.levels.count_further.Goals as goal
 
 pub returns-else-column-columns-clause-left : goal.returns-else-column-columns-clause-left
 returns-else-column-columns-clause-left c =

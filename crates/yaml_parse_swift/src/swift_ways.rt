@@ -71,6 +71,8 @@ fn push_or(stack: &mut Vec<State>, state: State) -> Swift
 }
 
 // A flow collection begins, in the place of the node that was awaited.
+// Inlined: its brackets are known.
+#[inline(always)]
 fn open_brackets(
     stack: &mut Vec<State>,
     brackets: Brackets,

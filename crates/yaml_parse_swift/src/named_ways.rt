@@ -34,6 +34,8 @@ fn put_back(stack: &mut Vec<State>, wants: Wants, properties: Box<Properties>)
 }
 
 // A flow collection begins behind an anchor alone.
+// Inlined: some moves, in a way that is out of line itself.
+#[inline(always)]
 fn open_brackets(
     stack: &mut Vec<State>,
     brackets: Brackets,

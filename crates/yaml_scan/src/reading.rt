@@ -86,8 +86,8 @@ fn has_name(slot: &yaml_token_body_t) -> bool
 }
 
 /// Lets go of what a slot holds, and keeps the room of a name.
-// Out of line: mostly a slot holds a scalar, or no text.
-#[inline(never)]
+// Inlined: out of line each name paid for registers that a tag alone needs.
+#[inline(always)]
 fn let_go(slot: &mut yaml_token_body_t, spares: &mut Vec<Vec<u8>>)
     ensures { is_bare (body_of slot.new) ≡ true }
 {
@@ -99,8 +99,8 @@ fn let_go(slot: &mut yaml_token_body_t, spares: &mut Vec<Vec<u8>>)
 }
 
 /// Lets go of what a slot holds, and keeps the room of both texts of a tag.
-// Out of line: in line its parts would be set to zero for each name.
-#[inline(never)]
+// Inlined: it is called at one place.
+#[inline(always)]
 fn let_go_parts(slot: &mut yaml_token_body_t, spares: &mut Vec<Vec<u8>>)
     ensures { is_bare (body_of slot.new) ≡ true }
 {

@@ -13,7 +13,7 @@ use crate::offence::{Character, Offence, ReaderProblem, allowed_character};
 use yaml_scan_classes::WIDTH;
 
 // So many bytes are looked at together.
-const CHUNK: usize = 16;
+const CHUNK: usize = 64;
 
 // What the character's byte that many places on adds to its code: 0 where the character has no such byte.
 #[tactic(auto, unfolding(crate::specs::Steps::trailing_bits))]

@@ -3,7 +3,7 @@
 ghost use Rattle.std.specs.Prelude.{◌≡◌, ◌≤◌, ◌+◌, ◌*◌, ◌++◌, ◌∷◌, [], length, true, Some, OnOk};
 ghost use Rattle.std.specs.Vec.{vec_len, vec_capacity};
 ghost use Rattle.yaml_parse_model.specs.Events.{event_of, text_of};
-ghost use Rattle.yaml_round_bytes.specs.Ends.{IsShort};
+ghost use Rattle.yaml_parse_bytes.specs.Ends.{IsShort};
 ghost use Rattle.yaml_round_kept.specs.Kept.{Keeps};
 ghost use Rattle.yaml_round_kept.specs.Spelled.{length_bytes, long_bytes, text_bytes, given_bytes, start_bytes, spelled};
 
@@ -11,8 +11,8 @@ use crate::spelling::{
     LONG, bare_head, document_head, is_told, mapping_head, scalar_head, sequence_head,
 };
 use std::alloc::AllocError;
+use yaml_parse_bytes::{SHORT, is_short, put_short};
 use yaml_parse_model::{yaml_event_body_t, yaml_event_t};
-use yaml_round_bytes::{SHORT, is_short, put_short};
 use yaml_scan_model::moved;
 
 // Longer texts than four bytes can tell aren't kept.

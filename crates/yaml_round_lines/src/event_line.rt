@@ -2,14 +2,14 @@
 
 ghost use Rattle.std.specs.Prelude.{◌≡◌, ◌+◌, ◌*◌, ◌<◌, ◌≤◌, ◌++◌, [], ◌∷◌, true, length, codes, vec_len, vec_capacity, OnOk};
 ghost use Rattle.yaml_parse_model.specs.Events.{event_of, text_of};
-ghost use Rattle.yaml_round_bytes.specs.Ends.{IsShort};
+ghost use Rattle.yaml_parse_bytes.specs.Ends.{IsShort};
 ghost use Rattle.yaml_round_lines.specs.Runs.{IsPlain, IsPlainGiven};
 ghost use Rattle.yaml_round_lines.specs.EventLine.{escaped, anchor_part, tag_part, indicator_of, mark_part, event_line};
 
 use crate::runs::{is_plain, push_runs};
 use std::alloc::AllocError;
+use yaml_parse_bytes::{SHORT, is_short, put_short};
 use yaml_parse_model::{yaml_event_body_t, yaml_event_t};
-use yaml_round_bytes::{SHORT, is_short, put_short};
 use yaml_scan_model::{moved, push_each, yaml_scalar_style_t};
 
 // What the line of a node takes at most whose texts are short.

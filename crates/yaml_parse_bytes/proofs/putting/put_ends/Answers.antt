@@ -1,6 +1,6 @@
 use Rattle.std.proofs.Common.{length, List, ℕ, ◌++◌, ◌∙◌, ap, rules}
-use Rattle.yaml_round_bytes.proofs.Ends.{put_is}
-use Rattle.yaml_round_bytes.proofs.putting.put_ends.Goals as goal
+use Rattle.yaml_parse_bytes.proofs.Ends.{put_is}
+use Rattle.yaml_parse_bytes.proofs.putting.put_ends.Goals as goal
 
 pub returns-clause-items : goal.returns-clause-items
 returns-clause-items c =

@@ -3,7 +3,7 @@ use Rattle.std.proofs.Common.{◌≡◌, ◌≢◌, ℕ, zero, suc, ◌+◌, ◌
 use Rattle.std.proofs.lemmas.Bool.Decides.{nat_tests}
 use Rattle.std.proofs.lemmas.List.{take_more, take_all, take-append-drop, take-append-le, drop-take, get_or-drop, length-take-le, append_assoc, get_or_append_left}
 use Rattle.std.proofs.Math.Seq.{take-append-add}
-use Rattle.yaml_round_bytes.specs.Ends.{bytes_at, same_run}
+use Rattle.yaml_parse_bytes.specs.Ends.{bytes_at, same_run}
 
 both : (a b : Bool) → (a && b) ≡ true → (a ≡ true) × (b ≡ true)
 both true b h = (refl, h)

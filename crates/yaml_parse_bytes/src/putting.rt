@@ -2,7 +2,7 @@
 
 ghost use Rattle.std.specs.Prelude.{◌≡◌, ◌+◌, ◌-◌, ◌≤◌, ◌++◌, true, length, vec_len, vec_capacity};
 ghost use Rattle.yaml_parse_model.specs.Events.{text_of};
-ghost use Rattle.yaml_round_bytes.specs.Ends.{bytes_at, IsShort};
+ghost use Rattle.yaml_parse_bytes.specs.Ends.{bytes_at, IsShort};
 
 use yaml_scan_model::push_each;
 

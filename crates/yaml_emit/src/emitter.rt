@@ -232,6 +232,8 @@ pub fn yaml_emitter_emit_from(emitter: &mut yaml_emitter_t, event: &mut yaml_eve
 pub fn yaml_emitter_emit_early(emitter: &mut yaml_emitter_t, event: &mut yaml_event_t)
     requires { HasUtf8 (event_of event.old).body }
     ensures text { GivesText emitter.old (emitter_event (event_of event.old).body) emitter.new }
+    ensures memory { NotesMemoryOf (emitter_event (event_of event.old).body) emitter.old
+        emitter.new }
     ensures stays { Stays emitter.old emitter.new }
     ensures few { length emitter.new.held ≤ 3 }
     ensures opened { (emitter.new.opened ≡ emitter.old.opened)

@@ -1,22 +1,24 @@
 -- An event that is laid out before those behind it are known: in canonical form the text is the same.
-use Rattle.std.proofs.Common.{◌≡◌, List, [], ◌∷◌, ◌++◌, Bool, true, false, refl, sym, subst, ◌∙◌, ap, Option}
+use Rattle.std.proofs.Common.{◌≡◌, List, [], ◌∷◌, ◌++◌, Bool, true, false, ◌||◌, refl, sym, subst, ◌∙◌, ap, Option}
 use Rattle.yaml_scan_model.specs.Faults.{Fault}
 use Rattle.yaml_emit_text.specs.declared.Cursor.{Cursor}
 use Rattle.yaml_emit_text.specs.declared.Settings.{Settings}
+use Rattle.yaml_emit_text.specs.declared.Status.{Status}
 use Rattle.yaml_emit_text.specs.Layout.{Layout}
 use Rattle.yaml_emit_text.specs.Sink.{Puts}
 use Rattle.yaml_emit_layout.specs.Content.{Event, no_event, stream_start, stream_end, document_start, document_end, alias, scalar, sequence_start, sequence_end, mapping_start, mapping_end}
 use Rattle.yaml_emit_layout.specs.Nodes.{is_simple_scalar, is_simple_alias, is_simple_start}
 use Rattle.yaml_emit_layout.specs.State.{State, piece, next, problem_at, is_simple_event, text_at, depth_at, next_at, opens_empty}
 use Rattle.yaml_emit_state.specs.declared.Core.{Core}
-use Rattle.yaml_emit_state.specs.Steps.{state_of, settings_of, next_state, next_piece, LaysOut}
+use Rattle.yaml_emit_state.specs.Steps.{state_of, settings_of, next_state, next_piece, LaysOut, may_note, takes_memory}
 use Rattle.yaml_emit_state.specs.Finish.{Finishes}
 use Rattle.yaml_emit_state.proofs.Finishing.{finishes_on}
 use Rattle.yaml_emit_held.specs.Held.{held_events}
+use Rattle.yaml_emit_held.specs.Judged.{take_memory}
 use Rattle.yaml_emit_machine.specs.declared.emitter.yaml_emitter_t.TheInside.{Inside}
 use Rattle.yaml_emit_machine.specs.Emitter.{Emitter}
 use Rattle.yaml_emit_machine.specs.Views.{emitter_of}
-use Rattle.yaml_emit_machine.specs.Taking.{GivesText, LaysAtOnce}
+use Rattle.yaml_emit_machine.specs.Taking.{GivesText, LaysAtOnce, NotesMemoryOf}
 use Rattle.yaml_emit_machine.proofs.Viewing.{seen}
 use Rattle.yaml_emit_machine.proofs.Emitting.{lay_completes}
 
@@ -84,3 +86,14 @@ inside_gives i core fault e once l =
       requested_settings = refl;
       limit = l.text.limit;
     }
+
+-- where none is held, an event that takes no memory is among none that do
+alone_notes : (t : Bool) (a b : Status) → may_note (t || false) a b ≡ false → may_note t a b ≡ false
+alone_notes true a b h = h
+alone_notes false a b h = h
+
+pub inside_notes_early : (i : Inside) (core : Core) (fault : Option Fault) (e : Event) → LaysAtOnce (emitter_of i) → LaysOut i.core core e false
+    → NotesMemoryOf e (emitter_of i) (seen i.requested_settings core (held_events i.held) i.fresh i.opened i.closed fault)
+inside_notes_early i core fault e once l =
+    let P : List Event → Type 0 = λ z. may_note (take_memory (z ++ e ∷ [])) i.core.sink.status core.sink.status ≡ false in
+    λ h. l.memory (alone_notes (takes_memory e) i.core.sink.status core.sink.status (subst P once.none h))

@@ -230,6 +230,7 @@ impl yaml_emitter_t {
         requires utf8 { HasUtf8 (body_of event.old) }
         requires once { LaysAtOnce self.old }
         ensures text { GivesText self.old (emitter_event (body_of event.old)) self.new }
+        ensures memory { NotesMemoryOf (emitter_event (body_of event.old)) self.old self.new }
         ensures few { self.new.held ≡ [] }
         ensures begun { self.new.fresh ≡ false }
         ensures opened { (self.new.opened ≡ self.old.opened) × (self.new.closed ≡ self.old.closed) }
@@ -303,6 +304,7 @@ pub fn give(emitter: &mut yaml_emitter_t, event: &mut yaml_event_body_t)
 pub fn give_early(emitter: &mut yaml_emitter_t, event: &mut yaml_event_body_t)
     requires { HasUtf8 (body_of event.old) }
     ensures text { GivesText emitter.old (emitter_event (body_of event.old)) emitter.new }
+    ensures memory { NotesMemoryOf (emitter_event (body_of event.old)) emitter.old emitter.new }
     ensures stays { Stays emitter.old emitter.new }
     ensures few { length emitter.new.held ≤ 3 }
     ensures opened { (emitter.new.opened ≡ emitter.old.opened)

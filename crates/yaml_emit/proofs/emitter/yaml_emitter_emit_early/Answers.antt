@@ -3,6 +3,9 @@ use Rattle.yaml_emit.proofs.emitter.yaml_emitter_emit_early.Goals as goal
 pub returns-clause-text : goal.returns-clause-text
 returns-clause-text c = c.give_early.ensures.text
 
+pub returns-clause-memory : goal.returns-clause-memory
+returns-clause-memory c = c.give_early.ensures.memory
+
 pub returns-clause-stays : goal.returns-clause-stays
 returns-clause-stays c = c.give_early.ensures.stays
 

@@ -18,8 +18,8 @@ use yaml_scan_model::{
 /// The plain scalar that starts here, in flow context or not. The level is the column of the innermost open block
 /// level and one, or 0 where none is open. The reader is left behind the blanks and breaks that follow the scalar. The
 /// value may take the room of a spare text.
-// Inlined: its one caller is the way of plain scalars, a call of its own, where its answer isn't put together in memory.
-#[inline(always)]
+// Out of line: the reading of all words is inlined into the way of each kind, and the kit drops that hint where it grows large.
+#[inline(never)]
 pub fn plain_scalar(
     spares: &mut Vec<Vec<u8>>,
     reader: &mut Reader,

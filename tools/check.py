@@ -6,7 +6,8 @@
 WORDS are those of `rt check`: `--only F`, `--generated DIR --start F`, .. The libraries below are taken from what the gate and
 `make program` keep, or proved now and kept there; what the check itself proves is kept in the crate's out/incremental. `rt check`
 loads libraries with their proofs, which takes up to twice as long above the engine. In one checkout use one of the two: each
-replaces the other's libraries.
+replaces the other's libraries. As `make program` it looks for contracts that no call can meet with SEARCH=1 alone, and PROVED
+names a store that checkouts share.
 """
 import os
 import sys
@@ -19,7 +20,7 @@ import program
 def below(rt, crate, logs):
     """Has the libraries below in their place, each after those that it stands on; answers the first that isn't proved."""
     crates = sorted(crate.below(), key=lambda it: len(it.below()))
-    kept = lanes.kept_by(rt, program.TOP, [*crates, crate])
+    kept = lanes.kept_by(rt, program.TOP, [*crates, crate], program.SEARCHES)
     return next((it for it in crates if program.built(rt, kept, logs, it, lanes.processors())), None)
 
 
@@ -30,6 +31,8 @@ def main(words):
         print(__doc__, file=sys.stderr)
         return 2
     program.set_up(rt)
+    if not program.SEARCHES:
+        program.leave_out_search(rt)
     logs = f"{crate.folder}/out/check"
     os.makedirs(logs, exist_ok=True)
     failed = below(rt, crate, logs)

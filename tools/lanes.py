@@ -84,11 +84,11 @@ class Unsearched:
 
 def kept_by(rt, top, crates, searches=True):
     """What earlier runs proved: what the kit's gate keeps, or the checkout's own store where it keeps nothing; or both, where
-    nothing looks for contracts that no call can meet."""
+    nothing looks for contracts that no call can meet. PROVED names another store, which several checkouts may share."""
     if searches and hasattr(rt, "Kept"):
         return rt.Kept(crates)
     with open(f"{rt.KIT}/KIT-ID", encoding="utf-8") as line:
-        own = store.Kept(f"{top}/out/proved", line.read())
+        own = store.Kept(os.environ.get("PROVED") or f"{top}/out/proved", line.read())
     return Unsearched(rt.Kept(crates), own) if hasattr(rt, "Kept") else own
 
 

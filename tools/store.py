@@ -75,7 +75,11 @@ class Kept:
         shutil.rmtree(to, ignore_errors=True)
         os.makedirs(os.path.dirname(to), exist_ok=True)
         subprocess.run(["cp", "-al", library, part], check=True)
-        os.rename(part, to)
+        try:
+            os.rename(part, to)
+        except OSError:
+            # another checkout that shares this store was first
+            shutil.rmtree(part)
 
     def is_built(self, crate):
         """A kit's own store notes here that a library fits its sources; here the sum says it."""

@@ -4,6 +4,7 @@
 mod levels;
 mod machine;
 mod next;
+mod readings;
 mod stand;
 mod step;
 mod ways;

@@ -11,7 +11,7 @@ use Rattle.yaml_scan_machine.proofs.KindLemmas.{word_gives, wrong_gives, finishe
 use Rattle.yaml_scan_machine.proofs.machine.Machine.read.Goals as goal
 
 pub returns-in-Ok-clause-safe : goal.returns-in-Ok-clause-safe
-returns-in-Ok-clause-safe c =
+returns-in-Ok-clause-safe g c =
     let l = c.args.lexeme in
     let same = read_text c.args.reader.now.text c.args.reader.now.at c.read_word.new.reader c.in-Ok.word _ c.in-Ok.ensures in
     let place = stop_place (text_bytes c.args.self.now.text) c.read_word.new.reader.text c.read_word.new.reader.at c.stop.result (same ∙ c.requires.text) c.stop.ensures.mark c.stop.ensures.inside c.stop.ensures.whole in
@@ -19,7 +19,7 @@ returns-in-Ok-clause-safe c =
 
 pub returns-in-Ok-clause-exact : goal.returns-in-Ok-clause-exact
 unfolding read
-returns-in-Ok-clause-exact c =
+returns-in-Ok-clause-exact g c =
     let m = c.args.self.now in
     let l = c.args.lexeme in
     let s = stream_of m in
@@ -31,7 +31,7 @@ returns-in-Ok-clause-exact c =
     word_gives s n c.read_word.new.reader c.in-Ok.word (word_at l.kind (nat_lt 0 l.depth) l.level s.text l.start.index) l c.stop.result c.args.required c.finish.result refl (λ e. subst K e c.requires.kind) c.requires.saved c.requires.required reads c.stop.ensures.mark c.finish.ensures
 
 pub returns-in-Err-clause-exact : goal.returns-in-Err-clause-exact
-returns-in-Err-clause-exact c =
+returns-in-Err-clause-exact g c =
     let m = c.args.self.now in
     let l = c.args.lexeme in
     let s = stream_of m in

@@ -124,21 +124,6 @@ pub(crate) fn append_line(output: &mut Vec<u8>, count: u64)
     }
 }
 
-// Some bytes, a text and some more, for which there is room.
-// Inlined: the numbers of the first and the last are known.
-#[inline(always)]
-pub(crate) fn append_joined(output: &mut Vec<u8>, front: &[u8], text: &[u8], end: &[u8])
-    requires few { length front.now + length end.now ≤ 8 }
-    requires inside { vec_len output.old + (length front.now + length text.now + length end.now)
-        ≤ vec_capacity output.old }
-    ensures items { output.new.items ≡ output.old.items ++ (front.now ++ (text.now ++ end.now)) }
-    ensures room { vec_capacity output.old ≤ vec_capacity output.new }
-{
-    push_each(output, front);
-    push_near(output, text);
-    push_each(output, end);
-}
-
 // The cursor comes behind a line feed and so many spaces.
 pub(crate) fn indented(at: &mut Cursor, count: u64)
     ensures { at.new ≡ indented count at.old }

@@ -2,7 +2,8 @@
 ghost use Rattle.std.specs.Prelude.{◌≡◌, ◌<◌, ◌≤◌, ◌∷◌, ◌++◌, ◌+◌, length};
 
 use super::{Sink, has_room};
-use crate::append::{append_joined, lettered};
+use crate::append::lettered;
+use crate::joined::append_joined;
 
 impl Sink {
     ghost use Rattle.std.specs.Str.{IsAscii};

@@ -5,3 +5,4 @@ pub mod Appends
 pub mod Sink
 pub mod Hex
 pub mod Laws
+pub mod Ends

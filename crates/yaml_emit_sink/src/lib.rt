@@ -5,6 +5,7 @@ mod append;
 mod bytes;
 mod cursor;
 mod hex;
+mod joined;
 mod laws;
 mod narrow;
 mod settings;

@@ -3,6 +3,8 @@
 ghost use Rattle.std.specs.Prelude.{◌≡◌, ◌≢◌, ◌<◌, ◌≤◌, ℕ, ◌∷◌, [], ◌++◌, ◌+◌, ◌-◌, length, ◌^◌, false, true};
 ghost use Rattle.std.specs.Vec.{vec_capacity};
 
+mod around;
+
 use crate::append::{
     append, append_blanks, append_char, append_line, blanked, byte_of, indented, is_roomy,
     lettered, moved,

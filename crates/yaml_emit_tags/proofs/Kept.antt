@@ -4,12 +4,14 @@ use Rattle.std.specs.Prelude.{◌&&◌}
 use Rattle.std.specs.List.{list_all}
 use Rattle.std.specs.Str.{IsAscii}
 use Rattle.std.proofs.lemmas.Bool.Decides.{nat_tests}
+use Rattle.std.proofs.lemmas.List.{append-nil}
 use Rattle.std.proofs.lemmas.List.Sums.{AllPass-from_list_all}
-use Rattle.std.proofs.lemmas.Str.Ascii.{IsAscii-from_all}
-use Rattle.yaml_emit_sink.specs.Layout.{Layout, letters}
+use Rattle.std.proofs.lemmas.Str.{IsAscii-append}
+use Rattle.std.proofs.lemmas.Str.Ascii.{IsAscii-from_all, IsAscii-cons, IsAscii-nil}
+use Rattle.yaml_emit_sink.specs.Layout.{Layout, letters, word}
 use Rattle.yaml_emit_sink.specs.Sink.{Output, Puts}
 use Rattle.yaml_emit_sink.specs.Hex.{hex_2}
-use Rattle.yaml_emit_tags.specs.Tags.{suffix_keeps, prefix_keeps, keeps_byte, uri_byte, uri_text}
+use Rattle.yaml_emit_tags.specs.Tags.{suffix_keeps, prefix_keeps, keeps_byte, uri_byte, uri_text, shorthand, spelled}
 
 and_left : (a b : Bool) → (a && b) ≡ true → a ≡ true
 and_left true b e = refl
@@ -45,3 +47,20 @@ kept_text flow (x ∷ xs) h =
 
 pub puts_kept : (flow : Bool) (a b : Output) (xs : List ℕ) → list_all (keeps_byte flow) xs ≡ true → Puts a b (letters xs) → Puts a b (letters (uri_text flow xs))
 puts_kept flow a b xs h p = let P : List ℕ → Type 0 = λ t. Puts a b (letters t) in subst P (kept_text flow xs h) p
+
+behind_ascii : (handle xs : List ℕ) → IsAscii handle → list_all (keeps_byte false) xs ≡ true → IsAscii (handle ++ (xs ++ []))
+behind_ascii handle xs s h = IsAscii-append handle (xs ++ []) s (rw (append-nil xs) (kept_ascii false xs h))
+
+mark : IsAscii (33 ∷ [])
+mark = IsAscii-cons 33 [] (omega arith) IsAscii-nil
+
+pub primary_ascii : (xs : List ℕ) → list_all (keeps_byte false) xs ≡ true → IsAscii (33 ∷ (xs ++ []))
+primary_ascii xs h = behind_ascii (33 ∷ []) xs mark h
+
+pub secondary_ascii : (xs : List ℕ) → list_all (keeps_byte false) xs ≡ true → IsAscii (33 ∷ 33 ∷ (xs ++ []))
+secondary_ascii xs h = behind_ascii (33 ∷ 33 ∷ []) xs (IsAscii-cons 33 (33 ∷ []) (omega arith) mark) h
+
+-- a suffix that is kept behind its handle
+pub puts_behind : (a b : Output) (handle xs : List ℕ) → list_all (keeps_byte false) xs ≡ true → Puts a b (word (handle ++ (xs ++ []))) → Puts a b (word (spelled (shorthand handle xs)))
+unfolding spelled
+puts_behind a b handle xs h p = let P : List ℕ → Type 0 = λ t. Puts a b (word (handle ++ t)) in subst P (append-nil xs ∙ kept_text false xs h) p

@@ -149,28 +149,63 @@ fn split_tag<'a>(directives: &'a DirectiveTable, tag: &'a [u8]) -> SplitTag<'a>
     }
 }
 
+// A handle and a suffix, with a space in front where one is due.
+// Out of line: the rare way, by a directive or with an escape, beside the short one.
+#[inline(never)]
 fn put_shorthand(sink: &mut Sink, handle: &[u8], suffix: &[u8])
-    ensures { Puts sink.old sink.new (letters (spelled (shorthand handle.now suffix.now))) }
+    ensures { Puts sink.old sink.new (word (spelled (shorthand handle.now suffix.now))) }
 {
+    sink.put_gap();
     sink.put_all(handle);
     put_uri(sink, false, suffix);
 }
 
+// The whole tag, with a space in front where one is due.
+// Out of line: a rare way.
+#[inline(never)]
 fn put_verbatim(sink: &mut Sink, tag: &[u8])
-    ensures { Puts sink.old sink.new (letters (spelled (verbatim tag.now))) }
+    ensures { Puts sink.old sink.new (word (spelled (verbatim tag.now))) }
 {
+    sink.put_gap();
     sink.put('!');
     sink.put('<');
     put_uri(sink, true, tag);
     sink.put('>');
 }
 
-fn put_split(sink: &mut Sink, tag: SplitTag)
-    ensures { Puts sink.old sink.new (letters (spelled (split_of tag.entry))) }
+// A suffix behind `!`, at once where no byte of it is escaped.
+fn put_primary(sink: &mut Sink, suffix: &[u8])
+    ensures { Puts sink.old sink.new (word (spelled (shorthand (33 ∷ []) suffix.now))) }
 {
-    match tag {
-        SplitTag::Shorthand(handle, suffix) => put_shorthand(sink, handle, suffix),
-        SplitTag::Verbatim(tag) => put_verbatim(sink, tag),
+    if are_kept(false, suffix) {
+        sink.put_around(b"!", b" !", suffix, b"");
+    } else {
+        put_shorthand(sink, b"!", suffix);
+    }
+}
+
+// The same behind `!!`.
+fn put_secondary(sink: &mut Sink, suffix: &[u8])
+    ensures { Puts sink.old sink.new (word (spelled (shorthand (33 ∷ 33 ∷ []) suffix.now))) }
+{
+    if are_kept(false, suffix) {
+        sink.put_around(b"!!", b" !!", suffix, b"");
+    } else {
+        put_shorthand(sink, b"!!", suffix);
+    }
+}
+
+// By the two handles that need no directive, where none defines them.
+fn put_by_default(sink: &mut Sink, directives: &DirectiveTable, tag: &[u8])
+    ensures { Puts sink.old sink.new (word (spelled (split_by (directive_for
+        (defaults directives.now) tag.now) tag.now))) }
+{
+    if stands_for_primary(directives, tag) {
+        put_primary(sink, &tag[1..]);
+    } else if stands_for_secondary(directives, tag) {
+        put_secondary(sink, &tag[18..]);
+    } else {
+        put_verbatim(sink, tag);
     }
 }
 
@@ -180,8 +215,12 @@ fn put_split(sink: &mut Sink, tag: SplitTag)
 pub fn put_tag(sink: &mut Sink, directives: &DirectiveTable, tag: &[u8])
     ensures { Puts sink.old sink.new (word (tag_spelling directives.now tag.now)) }
 {
-    sink.put_gap();
-    put_split(sink, split_tag(directives, tag));
+    match directives.first_for(tag) {
+        Some(directive) => {
+            put_shorthand(sink, &directive.handle, behind(&directive.prefix, tag))
+        }
+        None => put_by_default(sink, directives, tag),
+    }
 }
 
 /// The bytes of a tag's handle and suffix before they are escaped, or of the whole tag where it is written as `!<tag>`.

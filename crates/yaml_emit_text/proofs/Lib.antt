@@ -7,5 +7,6 @@ mod Looks
 mod Rows
 mod RunLemmas
 mod RunWalks
+mod SolidLemmas
 pub mod Ranks
 mod Tame

@@ -95,7 +95,7 @@ run_owes body a b before last bs xs text e t l p =
 pass_by : (e f : Bounds) (c d : Cursor) (bs : List ℕ) → e ≡ f → c ≡ d → all_pass (runs_on e) c.column bs ≡ true → all_pass (runs_on f) d.column bs ≡ true
 pass_by e f c d bs p q h = ap (λ z. all_pass (runs_on z) d.column bs) (sym p) ∙ ap (λ (z : Cursor). all_pass (runs_on e) z.column bs) (sym q) ∙ h
 
-quoted_step : (page : Page) (before b : ℕ) (ys : List ℕ) (c : Cursor) (rest : Rest) → runs_on (quoted_bounds page) c.column b ≡ true → quoted_body page before (b ∷ ys) c rest ≡ char b c (λ d. quoted_body page b ys d rest)
+pub quoted_step : (page : Page) (before b : ℕ) (ys : List ℕ) (c : Cursor) (rest : Rest) → runs_on (quoted_bounds page) c.column b ≡ true → quoted_body page before (b ∷ ys) c rest ≡ char b c (λ d. quoted_body page b ys d rest)
 unfolding quoted_body
 quoted_step page before b ys c rest h = quoted_raw page before b ys c (λ d. quoted_body page b ys d rest) h
 

@@ -19,6 +19,10 @@ runs_on e column b =
     nat_le 32 b && (nat_le b 126 && (not (b == e.quote)
     && (not (b == e.slash) && (not (b == 32) || (not e.cuts || nat_le column e.width)))))
 
+-- it stands as it is between double quotes, at any column: from `!` to `~`, but `"` and `\`
+unfoldable pub is_solid : ℕ → Bool
+is_solid b = nat_le 33 b && (nat_le b 126 && (not (b == 34) && not (b == 92)))
+
 -- in double quotes
 abbrev pub quoted_bounds : Page → Bounds
 quoted_bounds page = record { quote = 34; slash = 92; cuts = page.cuts; width = page.width }

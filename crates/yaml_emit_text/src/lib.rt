@@ -9,6 +9,7 @@ mod page;
 mod quoted;
 mod run;
 mod scalar;
+mod solid;
 mod style;
 mod tamed;
 
@@ -19,6 +20,7 @@ pub use letters::text;
 pub use page::{Allowed, Chomp, Page, Seen, Style};
 pub use quoted::{put_double_quoted, put_opening_quote, put_quoted_inside};
 pub use scalar::put_styled;
+pub use solid::{are_solid, put_solid};
 pub use style::{allowed_for, taken};
 pub use tamed::{allowed_by, is_tame, put_tame};
 pub use yaml_emit_sink::{

@@ -1,5 +1,5 @@
 -- What is kept of events, one after another.
-use Rattle.std.specs.Prelude.{◌≡◌, ◌≢◌, MatchOption, ℕ, Bool, true, false, List, [], ◌∷◌, ◌++◌, Option, Some, None}
+use Rattle.std.specs.Prelude.{◌≡◌, ◌≢◌, ◌≤◌, MatchOption, ℕ, Bool, true, false, List, [], ◌∷◌, ◌++◌, length, Option, Some, None}
 use denote.Ref.{Bor}
 use Rattle.yaml_scan_model.specs.declared.yaml_version_directive_t.{yaml_version_directive_t}
 use Rattle.yaml_parse_model.specs.Events.{TagDirective, EventBody}
@@ -27,3 +27,9 @@ abbrev pub Keeps : Option (List ℕ) → EventBody → Option (List ℕ) → Typ
 Keeps before e None = Unit {0}
 Keeps None e (Some after) = ⊥
 Keeps (Some before) e (Some after) = (is_told e ≡ true) × (after ≡ before ++ spelled e)
+
+-- No event is kept behind more bytes than so many.
+abbrev pub IsWithin : ℕ → Option (List ℕ) → Option (List ℕ) → Type 0
+IsWithin most before None = Unit {0}
+IsWithin most None (Some after) = ⊥
+IsWithin most (Some before) (Some after) = length before ≤ most

@@ -4,7 +4,7 @@ ghost use Rattle.std.specs.Prelude.{◌≡◌, ◌≤◌, ◌+◌, ◌*◌, ◌+
 ghost use Rattle.std.specs.Vec.{vec_len, vec_capacity};
 ghost use Rattle.yaml_parse_model.specs.Events.{event_of, text_of};
 ghost use Rattle.yaml_parse_bytes.specs.Ends.{IsShort};
-ghost use Rattle.yaml_round_kept.specs.Kept.{Keeps};
+ghost use Rattle.yaml_round_kept.specs.Kept.{Keeps, IsWithin};
 ghost use Rattle.yaml_round_kept.specs.Spelled.{length_bytes, long_bytes, text_bytes, given_bytes, start_bytes, spelled};
 
 use crate::spelling::{
@@ -343,8 +343,9 @@ fn add_event(bytes: &mut Vec<u8>, event: &yaml_event_t) -> Result<(), AllocError
 
 // Whether the event's bytes tell all that it says, and were added; no more is added where more than so many bytes are kept.
 fn is_added(bytes: &mut Vec<u8>, event: &yaml_event_t, most: usize) -> bool
-    ensures { result ≡ true → Keeps (Some bytes.old.items) (event_of event.now).body
+    ensures kept { result ≡ true → Keeps (Some bytes.old.items) (event_of event.now).body
         (Some bytes.new.items) }
+    ensures within { result ≡ true → length bytes.old.items ≤ most }
 {
     if bytes.len() > most {
         return false;
@@ -358,7 +359,8 @@ fn is_added(bytes: &mut Vec<u8>, event: &yaml_event_t, most: usize) -> bool
 /// Adds what one more event says, normalized. All that is kept is given up where it has more than so many bytes, where the event
 /// has directives, and where there is no memory for it.
 pub fn keep(kept: &mut Option<Vec<u8>>, event: &yaml_event_t, most: usize)
-    ensures { Keeps (text_of kept.old) (event_of event.now).body (text_of kept.new) }
+    ensures kept { Keeps (text_of kept.old) (event_of event.now).body (text_of kept.new) }
+    ensures within { IsWithin most (text_of kept.old) (text_of kept.new) }
 {
     let added = match kept {
         None => return,

@@ -374,9 +374,10 @@ impl<'a> Machine<'a> {
             self.now.waiting.items) }
     {
         let first = self.settled - self.dropped;
+        let depth = self.depth;
         let mut i = from;
         'back: while first < i {
-            match self.waiting.index(i - 1).seen(self.depth) {
+            match self.waiting.index(i - 1).seen(depth) {
                 Seen::Here => return Some(i - 1),
                 Seen::Nowhere => return None,
                 Seen::Further => {}

@@ -101,11 +101,23 @@ fn is_behind_hash(byte: u8) -> bool
     byte > b'#' && byte < 128
 }
 
-/// Whether the byte is one of these, or `!` or `"`.
+/// What each byte is behind a gap: `1` one of ASCII that begins a lexeme, `0` any other.
+static BEGINNERS: [u8; 256] = *b"\
+    00000000000000000000000000000000\
+    01101111111111111111111111111111\
+    11111111111111111111111111111111\
+    11111111111111111111111111111111\
+    00000000000000000000000000000000\
+    00000000000000000000000000000000\
+    00000000000000000000000000000000\
+    00000000000000000000000000000000";
+
+/// Whether the byte is one of ASCII that begins a lexeme.
+// A load and a comparison: the tests of its range and of `#` would be put together.
 fn begins(byte: u8) -> bool
     ensures { result ≡ true → (nat_lt 32 byte && (nat_lt byte 128 && not (byte == 35))) ≡ true }
 {
-    byte == b'"' || (byte == b'!' || is_behind_hash(byte))
+    BEGINNERS[byte as usize] == b'1'
 }
 
 /// Whether a line feed stands here, and behind it what begins a lexeme.

@@ -7,7 +7,7 @@ use Rattle.yaml_emit_tags.specs.parse.Events.{TagDirective}
 use Rattle.yaml_emit_text.specs.declared.Settings.{Settings}
 use Rattle.yaml_emit_text.specs.declared.Style.TheVariants as style
 use Rattle.yaml_emit_text.specs.Sink.{Output, Puts}
-use Rattle.yaml_emit_text.specs.Layout.{Layout, ◌▹◌, when, char, gap, word}
+use Rattle.yaml_emit_text.specs.Layout.{Layout, ◌▹◌, when, word}
 use Rattle.yaml_emit_text.specs.Quoted.{double_quoted}
 use Rattle.yaml_emit_text.specs.Scalars.{scalar_text}
 use Rattle.yaml_emit_text.proofs.Sinks.{puts_both}
@@ -56,11 +56,10 @@ shallow false n i h = absurd (cc)
 not_deep : (n : ℕ) → nat_le n MOST ≡ true → nat_lt MOST n ≡ false
 not_deep n h = grind (arith, nat_tests)
 
--- the quotes of a scalar that isn't too deep
-pub puts_within : (n i : ℕ) (a b c : Output) (w : Layout) (inside : ℕ → Layout) → Some i ≡ within n → Puts a b (w ▹ (gap ▹ char 34)) → Puts b c (inside i)
-    → Puts a c (w ▹ (checked n ▹ (gap ▹ (char 34 ▹ inside n))))
-puts_within n i a b c w inside h p q =
+-- what stands in a scalar that isn't too deep
+pub puts_shallow : (n i : ℕ) (a b : Output) (w : Layout) (inside : ℕ → Layout) → Some i ≡ within n → Puts a b (w ▹ inside i) → Puts a b (w ▹ (checked n ▹ inside n))
+puts_shallow n i a b w inside h p =
     let found = shallow (nat_le n MOST) n i h in
-    let P : Bool → Type 0 = λ t. Puts a c (w ▹ ((λ k rest. deep_if t (rest k)) ▹ (gap ▹ (char 34 ▹ inside n)))) in
-    let Q : ℕ → Type 0 = λ k. Puts b c (inside k) in
-    subst P (sym (not_deep n found.0)) (puts_both a b c _ _ p (subst Q found.1 q))
+    let P : Bool → Type 0 = λ t. Puts a b (w ▹ ((λ k rest. deep_if t (rest k)) ▹ inside n)) in
+    let Q : ℕ → Type 0 = λ k. Puts a b (w ▹ inside k) in
+    subst P (sym (not_deep n found.0)) (subst Q found.1 p)

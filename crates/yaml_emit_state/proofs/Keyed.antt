@@ -1,4 +1,4 @@
--- Whether a scalar is a simple key counts where a key is due, and nowhere else.
+-- A scalar or an alias was laid out. Whether a scalar is a simple key counts where a key is due, and nowhere else.
 use Rattle.std.proofs.Common.{◌≡◌, ℕ, Bool, refl, ◌∙◌, ap, List, [], ◌∷◌, Option, Some, None}
 use Rattle.std.specs.Prelude.{◌&&◌}
 use Rattle.yaml_emit_text.specs.declared.Settings.{Settings}
@@ -7,9 +7,9 @@ use Rattle.yaml_emit_text.specs.Layout.{◌▹◌}
 use Rattle.yaml_emit_layout.specs.declared.Level.{Level}
 use Rattle.yaml_emit_layout.specs.declared.Phase.{Phase}
 use Rattle.yaml_emit_layout.specs.declared.Phase.TheVariants.{Items, Keys, Value}
-use Rattle.yaml_emit_layout.specs.Content.{Scalar, scalar}
+use Rattle.yaml_emit_layout.specs.Content.{Scalar, alias, scalar}
 use Rattle.yaml_emit_layout.specs.State.{among, before_at, before_node, spot_of, part_at, levels_behind, phase_behind, top_of, text_at, next_at, depth_at, is_simple_event}
-use Rattle.yaml_emit_layout.specs.Nodes.{context_of, is_simple_scalar, scalar_layout}
+use Rattle.yaml_emit_layout.specs.Nodes.{context_of, is_simple_alias, is_simple_scalar, alias_layout, scalar_layout}
 use Rattle.yaml_emit_state.specs.declared.state.Core.{Core}
 use Rattle.yaml_emit_state.specs.Stack.{stack_of}
 use Rattle.yaml_emit_state.specs.Due.{is_key_in, is_key}
@@ -57,6 +57,23 @@ lays_scalar old new o s top v simple empty settings upper asked put moved kept =
     record {
       settings = kept.0;
       state = λ g. moved ∙ ap (λ ls. among old.directives ls) (ap (levels_behind (stack_of old.levels)) is ∙ levels_keyed (stack_of old.levels) b);
+      text = rw kept.1 text;
+      memory = λ _. kept.2;
+    }
+
+-- an alias was laid out
+pub lays_alias : (old new : Core) (o : Output) (s : Settings) (top : Option Level) (name : List ℕ) (simple empty : Bool)
+    → s ≡ settings_of old → top ≡ top_of (stack_of old.levels) → simple ≡ is_simple_alias (context_of s old.directives) name
+    → Puts old.sink o (before_node s top simple ▹ alias_layout (spot_of top simple) name)
+    → state_of new ≡ among old.directives (levels_behind (stack_of old.levels) simple) → StaysBut (record old { sink = o }) new
+    → LaysOutRight old new (alias name) empty
+unfolding text_at next_at depth_at is_simple_event
+lays_alias old new o s top name simple empty settings upper asked put moved kept =
+    let is : simple ≡ is_simple_alias (context_of (settings_of old) old.directives) name = rw settings at asked in
+    let text = rw (settings, upper, is) at put in
+    record {
+      settings = kept.0;
+      state = λ g. moved ∙ ap (λ b. among old.directives (levels_behind (stack_of old.levels) b)) is;
       text = rw kept.1 text;
       memory = λ _. kept.2;
     }

@@ -1,11 +1,14 @@
 -- The names of an event that comes right are in ASCII.
-use Rattle.std.proofs.Common.{◌≡◌, ℕ, ◌<◌, List, length, Bool, true, false, Option, Some, None, refl, subst, arith}
+use Rattle.std.proofs.Common.{◌≡◌, ℕ, ◌<◌, List, [], ◌∷◌, ◌++◌, length, Bool, true, false, Option, Some, None, refl, subst, arith}
 use Rattle.std.specs.Prelude.{if◌then◌else◌, ◌==◌}
 use Rattle.std.specs.Str.{IsAscii}
 use Rattle.std.specs.List.{list_all}
 use Rattle.std.proofs.lemmas.Bool.Decides.{nat_tests}
 use Rattle.std.proofs.lemmas.List.Sums.{AllPass-from_list_all}
-use Rattle.std.proofs.lemmas.Str.Ascii.{IsAscii-from_all}
+use Rattle.std.proofs.lemmas.List.{append-nil}
+use Rattle.std.proofs.lemmas.Str.Ascii.{IsAscii-from_all, IsAscii-cons}
+use Rattle.yaml_emit_text.specs.Sink.{Output, Puts}
+use Rattle.yaml_emit_text.specs.Layout.{word}
 use Rattle.yaml_scan_model.specs.Classes.{is_alpha_byte, is_digit_byte}
 use Rattle.yaml_emit_layout.specs.declared.Problem.{Problem}
 use Rattle.yaml_emit_layout.specs.declared.Expected.{Expected}
@@ -63,3 +66,10 @@ event_named canonical said.mapping_end h = none_named
 pub named_right : (canonical : Bool) (place : Expected) (top : Option Level) (e : said.Event) → problem_by canonical place top e ≡ None → IsNamed (name_of e)
 unfolding problem_by
 named_right canonical place top e h = event_named canonical e (first_none _ _ h)
+
+-- a name behind its indicator, with nothing behind it
+pub behind_ascii : (c : ℕ) (name : List ℕ) → c < 128 → IsAscii name → IsAscii (c ∷ (name ++ []))
+behind_ascii c name low h = IsAscii-cons c (name ++ []) low (rw (append-nil name) h)
+
+pub puts_name : (a b : Output) (c : ℕ) (name : List ℕ) → Puts a b (word (c ∷ (name ++ []))) → Puts a b (word (c ∷ name))
+puts_name a b c name p = let P : List ℕ → Type 0 = λ t. Puts a b (word (c ∷ t)) in subst P (append-nil name) p

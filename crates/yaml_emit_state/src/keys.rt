@@ -82,10 +82,11 @@ fn are_short(a: usize, b: usize, c: usize) -> bool
     a <= 128 && b <= 128 && c <= 128 && a + b + c <= 128
 }
 
-// Inlined into its one caller.
+/// Whether an alias is a simple key: canonical form has none.
+// Inlined: two comparisons.
 #[inline(always)]
 #[tactic(auto, unfolding(yaml_emit_layout::specs::Nodes::is_simple_alias))]
-fn is_simple_alias(context: &Context, name: &[u8]) -> bool
+pub fn is_simple_alias(context: &Context, name: &[u8]) -> bool
     ensures { result ≡ is_simple_alias (lent_context context.now) name.now }
 {
     !context.settings.canonical && name.len() <= 128

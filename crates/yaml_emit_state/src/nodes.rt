@@ -1,5 +1,5 @@
 //! Nodes: aliases, properties, scalars, and what opens collections.
-ghost use Rattle.std.specs.Prelude.{◌≡◌, ◌≢◌, ◌∷◌, [], None, Some, true, false, not, ◌&&◌, ◌||◌, ◌==◌, ℕ, map, length, IsUtf8};
+ghost use Rattle.std.specs.Prelude.{◌≡◌, ◌≢◌, ◌<◌, ◌∷◌, [], None, Some, true, false, not, ◌&&◌, ◌||◌, ◌==◌, ℕ, map, length, IsUtf8};
 ghost use Rattle.std.specs.Str.{chars, IsAscii};
 ghost use Rattle.yaml_parse_model.specs.Events.{text_of};
 ghost use Rattle.yaml_emit_text.specs.Sink.{Puts};
@@ -18,17 +18,18 @@ use crate::indent::{deeper, is_flow, is_simple_part, put_checked};
 use yaml_emit_layout::Spot;
 use yaml_emit_tags::put_tag;
 use yaml_emit_text::{
-    Page, Settings, Sink, Style, allowed_by, put_opening_quote, put_quoted_inside, put_styled,
-    put_tame, taken, text,
+    Page, Settings, Sink, Style, allowed_by, are_solid, put_opening_quote, put_quoted_inside,
+    put_solid, put_styled, put_tame, taken, text,
 };
 
-fn put_name(sink: &mut Sink, indicator: char, name: &[u8])
-    requires { IsAscii name.now }
+// Out of line: few registers are needed.
+#[inline(never)]
+fn put_name(sink: &mut Sink, indicator: u8, name: &[u8])
+    requires one { indicator < 128 }
+    requires ascii { IsAscii name.now }
     ensures { Puts sink.old sink.new (word (indicator ∷ name.now)) }
 {
-    sink.put_gap();
-    sink.put(indicator);
-    sink.put_ascii(name);
+    sink.put_around(&[indicator], &[b' ', indicator], name, b"");
 }
 
 /// An alias.
@@ -37,7 +38,7 @@ pub fn put_alias(sink: &mut Sink, spot: Spot, name: &[u8])
     requires { IsAscii name.now }
     ensures { Puts sink.old sink.new (alias_layout spot name.now) }
 {
-    put_name(sink, '*', name);
+    put_name(sink, b'*', name);
     put_blank_if(sink, is_simple_part(spot.part));
 }
 
@@ -47,7 +48,7 @@ fn put_anchor(sink: &mut Sink, anchor: &Option<Vec<u8>>)
 {
     match anchor {
         None => (),
-        Some(name) => put_name(sink, '&', name),
+        Some(name) => put_name(sink, b'&', name),
     }
 }
 
@@ -213,6 +214,38 @@ fn put_lines(
     }
 }
 
+// A value in quotes, behind `!` where that is due. One that stands as it is needs no page.
+// Inlined: mostly it is a look at the value and a call.
+#[inline(always)]
+fn put_in_quotes(
+    sink: &mut Sink,
+    settings: &Settings,
+    spot: Spot,
+    indentation: u64,
+    marked: bool,
+    value: &[u8],
+)
+    requires { IsUtf8 value.now }
+    ensures { Puts sink.old sink.new (when marked (word (33 ∷ []))
+        ▹ double_quoted (record (page_at settings.now spot) {
+          indentation = indentation;
+        }) (chars value.now)) }
+{
+    if are_solid(value) {
+        put_solid(sink, marked, value);
+    } else {
+        let page = Page {
+            width: settings.width,
+            indentation,
+            unicode: settings.unicode,
+            cuts: !is_simple_part(spot.part),
+            line_break: settings.line_break,
+        };
+        put_opening_quote(sink, marked);
+        put_quoted_inside(sink, page, text(value));
+    }
+}
+
 // A scalar without a tag in canonical form, behind its anchor: `!` where it is due, and the value in quotes.
 // Inlined: mostly it is a few bytes round the value.
 #[inline(always)]
@@ -228,17 +261,7 @@ fn put_untagged(sink: &mut Sink, settings: &Settings, spot: Spot, quoted: bool, 
             put_exclamation_if(sink, !quoted);
             put_checked(sink, depth);
         }
-        Some(indentation) => {
-            let page = Page {
-                width: settings.width,
-                indentation,
-                unicode: settings.unicode,
-                cuts: !is_simple_part(spot.part),
-                line_break: settings.line_break,
-            };
-            put_opening_quote(sink, !quoted);
-            put_quoted_inside(sink, page, text(value));
-        }
+        Some(indentation) => put_in_quotes(sink, settings, spot, indentation, !quoted, value),
     }
 }
 
@@ -253,7 +276,7 @@ fn put_tagged(sink: &mut Sink, context: &Context, spot: Spot, tag: &[u8], value:
         spot.flow Style.Double (chars value.now))) }
 {
     put_tag(sink, context.directives, tag);
-    put_lines(sink, context.settings, spot, Style::Double, value, false);
+    put_untagged(sink, context.settings, spot, true, value);
 }
 
 // A scalar in canonical form: it is double quoted, and each tag is written.

@@ -1,5 +1,6 @@
 //! One event after another is laid out.
 ghost use Rattle.std.specs.Prelude.{◌≡◌, ◌≢◌, ◌∷◌, [], None, Some, Bool, true, false, not, ◌&&◌, ◌||◌, IfSome, if◌then◌else◌, map, IsUtf8};
+ghost use Rattle.std.specs.Str.{IsAscii};
 ghost use Rattle.yaml_parse_model.specs.Constructors.{HasUtf8};
 ghost use Rattle.yaml_emit_text.specs.Tame.{IsTame};
 
@@ -8,9 +9,9 @@ mod moves;
 
 use crate::given::{Context, Scalar, Where};
 use crate::judge::problem_of;
-use crate::keys::{is_simple, is_simple_key};
+use crate::keys::{is_simple, is_simple_alias, is_simple_key};
 use crate::levels::Levels;
-use event::{put_event, put_scalar_node};
+use event::{put_alias_node, put_event, put_scalar_node};
 use std::alloc::{AllocError, Global};
 use yaml_emit_layout::Expected;
 use yaml_emit_tags::DirectiveTable;
@@ -41,7 +42,7 @@ fn is_tame_in(canonical: bool, value: &[u8]) -> bool
 
 impl Core {
     ghost use Rattle.yaml_parse_model.specs.Events.{body_of, text_of};
-    ghost use Rattle.yaml_emit_layout.specs.Content.{emitter_event, scalar};
+    ghost use Rattle.yaml_emit_layout.specs.Content.{emitter_event, alias, scalar};
     ghost use Rattle.yaml_emit_layout.specs.State.{problem_at};
     ghost use Rattle.yaml_emit_state.specs.Given.{lent_scalar, IsNamed};
     ghost use Rattle.yaml_emit_state.specs.Steps.{state_of, settings_of, LaysOut, IsFresh, LaysOutRight, Starves, is_going, goes_on};
@@ -237,6 +238,41 @@ impl Core {
         self.step(simple);
     }
 
+    // An alias in its right place, in a form that is known.
+    // Inlined: then what the form decides is left out.
+    #[inline(always)]
+    fn put_known_alias(&mut self, name: &[u8], canonical: bool)
+        requires ascii { IsAscii name.now }
+        requires form { canonical ≡ self.old.settings.canonical }
+        ensures { (empty : Bool) → LaysOutRight self.old self.new (alias name.now) empty }
+    {
+        let settings = self.settings(canonical);
+        let context = Context {
+            settings: &settings,
+            directives: &self.directives,
+        };
+        let top = self.levels.innermost();
+        let simple = is_simple_alias(&context, name);
+        put_alias_node(&mut self.sink, &settings, top, simple, name);
+        self.step(simple);
+    }
+
+    // An event in its right place that is known to be an alias, and in which form.
+    // Inlined: then what the form decides is left out.
+    #[inline(always)]
+    fn take_alias(&mut self, event: &mut yaml_event_body_t, empty: bool, canonical: bool)
+        requires utf8 { HasUtf8 (body_of event.old) }
+        requires right { problem_at (settings_of self.old) (state_of self.old)
+            (emitter_event (body_of event.old)) ≡ None }
+        requires form { canonical ≡ self.old.settings.canonical }
+        ensures { LaysOutRight self.old self.new (emitter_event (body_of event.old)) empty }
+    {
+        match event {
+            yaml_event_body_t::Alias { anchor } => self.put_known_alias(anchor, canonical),
+            _ => self.take_rare(event, empty),
+        }
+    }
+
     // Whether an event comes right. One that doesn't is refused, or the memory to judge it is, and nothing of it is laid out.
     // Inlined: where the kind is known it is a few tests.
     #[inline(always)]
@@ -334,6 +370,19 @@ impl Core {
         }
     }
 
+    // What is known to be an alias is laid out or refused.
+    // Inlined: for each form, of which most is known.
+    #[inline(always)]
+    fn lay_known_alias(&mut self, event: &mut yaml_event_body_t, empty: bool, canonical: bool)
+        requires utf8 { HasUtf8 (body_of event.old) }
+        requires form { canonical ≡ self.old.settings.canonical }
+        ensures { LaysOut self.old self.new (emitter_event (body_of event.old)) empty }
+    {
+        if self.admits(event, canonical) {
+            self.take_alias(event, empty, canonical);
+        }
+    }
+
     // An alias, in canonical form.
     // Out of line: kind and form are known, and what other kinds need takes no room here.
     #[inline(never)]
@@ -343,7 +392,7 @@ impl Core {
         ensures { LaysOut self.old self.new (emitter_event (body_of event.old)) empty }
     {
         match event {
-            yaml_event_body_t::Alias { .. } => self.lay_by(event, empty, true),
+            yaml_event_body_t::Alias { .. } => self.lay_known_alias(event, empty, true),
             _ => self.lay_any(event, empty),
         }
     }

@@ -22,7 +22,9 @@ use yaml_emit_text::{Settings, Sink};
 use yaml_parse_model::yaml_event_body_t;
 
 // An alias in the innermost collection, with what comes before it.
-fn put_alias_node(
+// Inlined: where the form is known it is short.
+#[inline(always)]
+pub(super) fn put_alias_node(
     sink: &mut Sink,
     settings: &Settings,
     top: &Option<Level>,
@@ -35,6 +37,23 @@ fn put_alias_node(
 {
     put_before(sink, settings, top, simple);
     put_alias(sink, spot_of(*top, simple), name);
+}
+
+// The same in either form.
+// Out of line: the way beside the short ones.
+#[inline(never)]
+fn put_any_alias(
+    sink: &mut Sink,
+    settings: &Settings,
+    top: &Option<Level>,
+    simple: bool,
+    name: &[u8],
+)
+    requires { IsAscii name.now }
+    ensures { Puts sink.old sink.new (before_node settings.now top.now simple
+        ▹ alias_layout (spot_of top.now simple) name.now) }
+{
+    put_alias_node(sink, settings, top, simple, name);
 }
 
 // A scalar in the innermost collection, with what comes before it, in a form that is known.
@@ -148,7 +167,7 @@ pub fn put_event(
             put_end(sink, context.settings, *implicit)
         }
         yaml_event_body_t::Alias { anchor } => {
-            put_alias_node(sink, context.settings, top, simple, anchor)
+            put_any_alias(sink, context.settings, top, simple, anchor)
         }
         yaml_event_body_t::Scalar {
             anchor,

@@ -1,7 +1,8 @@
-use Rattle.yaml_emit_text.specs.Layout.{letters}
-use Rattle.yaml_emit_text.proofs.Sinks.{puts_both}
+use Rattle.yaml_emit_state.proofs.Names.{behind_ascii, puts_name}
 use Rattle.yaml_emit_state.proofs.nodes.put_name.Goals as goal
 
+pub put_around-requires-clause-ascii : goal.put_around-requires-clause-ascii
+put_around-requires-clause-ascii c = behind_ascii c.args.indicator c.args.name.now c.requires.one c.requires.ascii
+
 pub returns : goal.returns
-unfolding letters
-returns c = puts_both _ _ _ _ _ c.put_gap.ensures (puts_both _ _ _ _ _ c.put.ensures c.put_ascii.ensures)
+returns c = puts_name _ _ c.args.indicator c.args.name.now c.put_around.ensures

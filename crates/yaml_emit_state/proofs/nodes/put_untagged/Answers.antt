@@ -1,11 +1,11 @@
 use Rattle.std.proofs.Common.{◌∷◌, [], ℕ, sym, ◌∙◌}
 use Rattle.std.specs.Prelude.{not}
 use Rattle.std.specs.Str.{chars}
-use Rattle.yaml_emit_text.specs.Layout.{Layout, ◌▹◌, when, char, word}
-use Rattle.yaml_emit_text.specs.Quoted.{quoted_body}
+use Rattle.yaml_emit_text.specs.Layout.{Layout, when, word}
+use Rattle.yaml_emit_text.specs.Quoted.{double_quoted}
 use Rattle.yaml_emit_layout.specs.Nodes.{is_simple_part}
 use Rattle.yaml_emit_text.proofs.Sinks.{puts_both, puts_stopped}
-use Rattle.yaml_emit_state.proofs.Canonical.{puts_within}
+use Rattle.yaml_emit_state.proofs.Canonical.{puts_shallow}
 use Rattle.yaml_emit_state.proofs.nodes.put_untagged.Goals as goal
 
 pub returns-in-None : goal.returns-in-None
@@ -14,5 +14,5 @@ returns-in-None c = puts_both _ _ _ _ _ c.put_exclamation_if.ensures (puts_both 
 pub returns-in-Some : goal.returns-in-Some
 returns-in-Some c =
     let s = c.args.settings.now in
-    let inside : ℕ → Layout = λ n. quoted_body (record { width = s.width; indentation = n; unicode = s.unicode; cuts = not (is_simple_part c.args.spot.part); line_break = s.line_break }) 32 (chars c.args.value.now) ▹ char 34 in
-    puts_within _ _ _ _ _ (when (not c.args.quoted) (word (33 ∷ []))) inside (sym c.in-Some.is ∙ c.deeper-depth.ensures) c.put_opening_quote.ensures (rw (c.is_simple_part.ensures, c.text.ensures) at c.put_quoted_inside.ensures)
+    let quoted : ℕ → Layout = λ n. double_quoted (record { width = s.width; indentation = n; unicode = s.unicode; cuts = not (is_simple_part c.args.spot.part); line_break = s.line_break }) (chars c.args.value.now) in
+    puts_shallow _ _ _ _ (when (not c.args.quoted) (word (33 ∷ []))) quoted (sym c.in-Some.is ∙ c.deeper-depth.ensures) c.put_in_quotes.ensures

@@ -14,8 +14,8 @@ returns-in-MappingStart c =
     let e = rw c.in-MappingStart.is at c.requires.simple in
     rw (c.in-MappingStart.is, ← e, ← c.is_flow_mapping.ensures) c.put_start_node-in-MappingStart.ensures
 
-pub put_alias_node-requires : goal.put_alias_node-requires
-put_alias_node-requires c =
+pub put_any_alias-requires : goal.put_any_alias-requires
+put_any_alias-requires c =
     let named = rw c.in-Alias.is at c.requires.named in
     rw c.deref-in-Alias.ensures.value (named _ refl)
 

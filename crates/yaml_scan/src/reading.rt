@@ -85,7 +85,7 @@ fn has_name(slot: &yaml_token_body_t) -> bool
     }
 }
 
-/// Lets go of what a slot holds, and keeps the room of a name.
+/// Lets go of what a slot holds, and keeps the room of a name, and that of both texts of a tag.
 // Inlined: out of line each name paid for registers that a tag alone needs.
 #[inline(always)]
 fn let_go(slot: &mut yaml_token_body_t, spares: &mut Vec<Vec<u8>>)
@@ -94,23 +94,21 @@ fn let_go(slot: &mut yaml_token_body_t, spares: &mut Vec<Vec<u8>>)
     match slot {
         yaml_token_body_t::Alias { value } => keep_room(moved(value), spares),
         yaml_token_body_t::Anchor { value } => keep_room(moved(value), spares),
-        _ => let_go_parts(slot, spares),
+        yaml_token_body_t::Tag { handle, suffix } => {
+            keep_room(moved(handle), spares);
+            keep_room(moved(suffix), spares);
+        }
+        _ => clear(slot),
     }
 }
 
-/// Lets go of what a slot holds, and keeps the room of both texts of a tag.
-// Inlined: it is called at one place.
-#[inline(always)]
-fn let_go_parts(slot: &mut yaml_token_body_t, spares: &mut Vec<Vec<u8>>)
+/// Lets go of what a slot holds.
+// Out of line: mostly it is a name, or a tag.
+#[inline(never)]
+fn clear(slot: &mut yaml_token_body_t)
     ensures { is_bare (body_of slot.new) ≡ true }
 {
-    match mem::replace(slot, yaml_token_body_t::No) {
-        yaml_token_body_t::Tag { handle, suffix } => {
-            keep_room(handle, spares);
-            keep_room(suffix, spares);
-        }
-        other => drop(other),
-    }
+    *slot = yaml_token_body_t::No;
 }
 
 /// Keeps the room of a text, where it has some and not too much, and not enough are kept.

@@ -21,6 +21,12 @@ abbrev pub front_at : Entry → ℕ → Option TokenBody
 front_at e given = if nat_lt given e.ends then Some block_end else start_at e.opens e.key
     (given - e.ends)
 
+-- a number that is 0 where nothing is opened
+abbrev pub opens_number : Opens → ℕ
+opens_number opening.Nothing = 0
+opens_number opening.Sequence = 1
+opens_number opening.Mapping = 2
+
 -- how many of block start and KEY stand in front of a lexeme's own token
 abbrev pub start_count : Opens → ℕ
 start_count opening.Nothing = 0

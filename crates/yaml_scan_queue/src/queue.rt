@@ -11,7 +11,7 @@ use std::alloc::{AllocError, Global};
 use std::marker::Model;
 use std::mem;
 use yaml_scan_history::{Entry, Lexeme, Opens};
-use yaml_scan_model::{moved, yaml_token_body_t, yaml_token_t};
+use yaml_scan_model::{moved, yaml_mark_t, yaml_token_body_t, yaml_token_t};
 
 /// A row of slots, of which those from `first` to `last` hold the lexemes that wait. The others are used again: the body
 /// of none of them has a text, but for an empty one without room, so that nothing is to be let go where one is filled.
@@ -155,13 +155,13 @@ impl Queue {
     {
         let at = self.first;
         let first = &self.slots[at];
-        slot.start_mark = first.entry.lexeme.start;
+        slot.start_mark = mark_again(&first.entry.lexeme.start);
         if let Some(before) = first.before(given) {
-            slot.end_mark = first.entry.lexeme.start;
+            slot.end_mark = mark_again(&first.entry.lexeme.start);
             put_body(&mut slot.body, before.body());
             return false;
         }
-        slot.end_mark = first.entry.lexeme.end;
+        slot.end_mark = mark_again(&first.entry.lexeme.end);
         hand_out(&mut self.slots[at].body, &mut slot.body);
         if at + 1 == self.last {
             self.first = 0;
@@ -170,6 +170,19 @@ impl Queue {
             self.first = at + 1;
         }
         true
+    }
+}
+
+/// A mark once more, number by number: of one that is copied whole LLVM computes both addresses first.
+// Inlined: three loads.
+#[inline(always)]
+fn mark_again(mark: &yaml_mark_t) -> yaml_mark_t
+    ensures { result ≡ mark.now }
+{
+    yaml_mark_t {
+        index: mark.index,
+        line: mark.line,
+        column: mark.column,
     }
 }
 
@@ -203,7 +216,7 @@ fn hand_out(from: &mut yaml_token_body_t, to: &mut yaml_token_body_t)
 }
 
 /// Moves a body that is neither a kind nor a scalar to a place that holds no text, and leaves none there, or an empty one.
-// Out of line: mostly it is a kind or a scalar.
+// Out of line: mostly it is a kind or a scalar, and in line its arms would be asked for beside a scalar's, by one jump.
 #[inline(never)]
 fn hand_out_name(from: &mut yaml_token_body_t, to: &mut yaml_token_body_t)
     requires { is_bare (body_of to.old) ≡ true }
@@ -218,6 +231,17 @@ fn hand_out_name(from: &mut yaml_token_body_t, to: &mut yaml_token_body_t)
         yaml_token_body_t::Anchor { value } => {
             let text = moved(value);
             put_body(to, yaml_token_body_t::Anchor { value: text });
+        }
+        yaml_token_body_t::Tag { handle, suffix } => {
+            let first = moved(handle);
+            let second = moved(suffix);
+            put_body(
+                to,
+                yaml_token_body_t::Tag {
+                    handle: first,
+                    suffix: second,
+                },
+            );
         }
         _ => exchange(from, to),
     }
@@ -291,9 +315,9 @@ fn put_entry(to: &mut Entry, entry: Entry)
     ensures { to.new ≡ entry }
 {
     to.lexeme.kind = entry.lexeme.kind;
-    to.lexeme.start = entry.lexeme.start;
-    to.lexeme.end = entry.lexeme.end;
-    to.lexeme.reached = entry.lexeme.reached;
+    to.lexeme.start = mark_again(&entry.lexeme.start);
+    to.lexeme.end = mark_again(&entry.lexeme.end);
+    to.lexeme.reached = mark_again(&entry.lexeme.reached);
     to.lexeme.depth = entry.lexeme.depth;
     to.lexeme.level = entry.lexeme.level;
     to.lexeme.saved = entry.lexeme.saved;

@@ -3,7 +3,7 @@
 ghost use Rattle.std.specs.Prelude.{◌≡◌, ◌&&◌, ◌==◌, if◌then◌else◌, true, Some, None, option_map, ℕ};
 ghost use Rattle.yaml_scan_model.specs.Tokens.{body_of};
 ghost use Rattle.yaml_scan_queue.specs.Bare.{is_bare};
-ghost use Rattle.yaml_scan_queue.specs.Front.{front_at, start_at};
+ghost use Rattle.yaml_scan_queue.specs.Front.{front_at, key_count, opens_number, start_at};
 ghost use Rattle.yaml_scan_model.specs.Tokens.{key};
 ghost use Rattle.yaml_scan_queue.specs.Fronted.{token_before};
 ghost use Rattle.yaml_scan_history.specs.History as history;
@@ -137,16 +137,35 @@ impl Before {
     }
 }
 
+/// A number that is 0 where nothing is opened.
+// Inlined: it is the number of the variant.
+#[inline(always)]
+fn opens_number(opens: Opens) -> u8
+    ensures { result ≡ opens_number opens }
+{
+    match opens {
+        Opens::Nothing => 0,
+        Opens::Sequence => 1,
+        Opens::Mapping => 2,
+    }
+}
+
+/// How many of KEY stand in front of a lexeme's own token.
+// Inlined: it is the byte of the bool.
+#[inline(always)]
+fn key_number(is_key: bool) -> u8
+    ensures { result ≡ key_count is_key }
+{
+    if is_key { 1 } else { 0 }
+}
+
 /// Whether neither block start nor KEY stands in front of a lexeme's own token, as mostly.
-// Inlined: two bytes are looked at as one.
+// Inlined: the sum of two numbers is compared with 0, where two tests would each be made into a bool.
 #[inline(always)]
 fn stands_alone(opens: Opens, is_key: bool) -> bool
     ensures { result ≡ true → (taken : ℕ) → start_at opens is_key taken ≡ None }
 {
-    match opens {
-        Opens::Nothing => !is_key,
-        _ => false,
-    }
+    opens_number(opens) + key_number(is_key) == 0
 }
 
 /// The block start, and then KEY, behind so many of them.

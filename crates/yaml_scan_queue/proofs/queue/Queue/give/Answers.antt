@@ -18,8 +18,8 @@ returns-then-at-self c = λ w.
     record {
       none = ap (λ (x : Waiting). front_at x.entry c.args.given) (sym first) ∙ none;
       body = c.hand_out.ensures.to ∙ ap (λ (x : Waiting). x.body) taken;
-      start = ap (λ (x : Waiting). x.entry.lexeme.start) first;
-      end = ap (λ (x : Waiting). x.entry.lexeme.end) first;
+      start = c.mark_again-slot.ensures ∙ ap (λ (x : Waiting). x.entry.lexeme.start) first;
+      end = c.mark_again-slot-2.ensures ∙ ap (λ (x : Waiting). x.entry.lexeme.end) first;
       rest = part_last q.slots.items q.first q.last c.args.self.now.items is c.self.invariant.last c.if-at-self.true;
     }
 
@@ -33,8 +33,8 @@ returns-else-at-self c = λ w.
     record {
       none = ap (λ (x : Waiting). front_at x.entry c.args.given) (sym first) ∙ none;
       body = c.hand_out.ensures.to ∙ ap (λ (x : Waiting). x.body) taken;
-      start = ap (λ (x : Waiting). x.entry.lexeme.start) first;
-      end = ap (λ (x : Waiting). x.entry.lexeme.end) first;
+      start = c.mark_again-slot.ensures ∙ ap (λ (x : Waiting). x.entry.lexeme.start) first;
+      end = c.mark_again-slot-2.ensures ∙ ap (λ (x : Waiting). x.entry.lexeme.end) first;
       rest = part_pop q.slots.items q.first q.last _ (part_some q.slots.items q.first q.last c.args.self.now.items is c.self.invariant.last c.requires.some) ∙ ap (λ (x : Line). drop 1 x.items) c.self.view_is;
     }
 

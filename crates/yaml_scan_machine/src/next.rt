@@ -11,6 +11,8 @@ ghost use Rattle.yaml_scan_history.specs.Next as spec;
 ghost use Rattle.yaml_scan_history.specs.Stepwise as steps;
 ghost use Rattle.yaml_scan_history.specs.Laws.{Upto};
 ghost use Rattle.yaml_scan_history.specs.History.{candidate, fresh, reached, indent, left_by, placed};
+ghost use Rattle.yaml_scan_queue.specs.Waits.{seen};
+ghost use Rattle.yaml_scan_queue.specs.declared.waiting.Seen.TheVariants as looks;
 ghost use Rattle.yaml_scan_machine.specs.Stands.{Stands};
 ghost use Rattle.yaml_scan_machine.specs.State.{IsPlace, Leaves};
 ghost use Rattle.yaml_scan_history.specs.Words.{word_at};
@@ -23,7 +25,7 @@ use yaml_scan_history::{Kind, Lexeme, is_fresh, moved_end};
 use yaml_scan_model::{
     Context, Problem, Reader, ScanError, ScanFault, yaml_encoding_t, yaml_mark_t, yaml_token_body_t,
 };
-use yaml_scan_queue::Seen;
+use yaml_scan_queue::{Seen, Waiting};
 
 /// A lexeme that was read, and what its own token carries.
 #[derive(Drop)]
@@ -377,12 +379,16 @@ impl<'a> Machine<'a> {
         let depth = self.depth;
         let mut i = from;
         'back: while first < i {
-            match self.waiting.index(i - 1).seen(depth) {
-                Seen::Here => return Some(i - 1),
-                Seen::Nowhere => return None,
-                Seen::Further => {}
+            let waiting = self.waiting.index(i - 1);
+            if is_deeper(waiting, depth) {
+                i -= 1;
+            } else {
+                match waiting.seen(depth) {
+                    Seen::Here => return Some(i - 1),
+                    Seen::Nowhere => return None,
+                    Seen::Further => i -= 1,
+                }
             }
-            i -= 1;
         }
         None
     }
@@ -396,6 +402,18 @@ impl Stand {
     {
         self.allowed && self.kind.may_be_key() || self.kind.cancels()
     }
+}
+
+/// Whether a lexeme that waits stands deeper than a depth, and is no candidate: so one that looks back goes further.
+// Inlined: two comparisons. In brackets most are passed so, without a name for what they say.
+#[inline(always)]
+fn is_deeper(waiting: &Waiting, depth: usize) -> bool
+    ensures { result ≡ true → seen waiting.now depth ≡ looks.Further }
+{
+    if waiting.current {
+        return false;
+    }
+    depth < waiting.entry.lexeme.depth
 }
 
 /// The start of the stream.

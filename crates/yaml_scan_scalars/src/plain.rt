@@ -18,8 +18,8 @@ use yaml_scan_model::{
 /// The plain scalar that starts here, in flow context or not. The level is the column of the innermost open block
 /// level and one, or 0 where none is open. The reader is left behind the blanks and breaks that follow the scalar. The
 /// value may take the room of a spare text.
-// Out of line: the reading of all words is inlined into the way of each kind, and the kit drops that hint where it grows large.
-#[inline(never)]
+// Inlined into the way of its kind.
+#[inline(always)]
 pub fn plain_scalar(
     spares: &mut Vec<Vec<u8>>,
     reader: &mut Reader,

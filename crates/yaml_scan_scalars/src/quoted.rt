@@ -21,6 +21,8 @@ use yaml_scan_model::{
 
 /// The value of the double quoted scalar whose opening quote stands here. The reader is left after the closing one. The value
 /// may take the room of a spare text.
+// Inlined into the way of its kind.
+#[inline(always)]
 pub fn double_quoted(spares: &mut Vec<Vec<u8>>, reader: &mut Reader) -> Result<Vec<u8>, ScanError>
     requires { byte reader.old.text reader.old.at ≡ 34 }
     ensures { Reads reader.old.text reader.old.at reader.new result
@@ -31,6 +33,8 @@ pub fn double_quoted(spares: &mut Vec<Vec<u8>>, reader: &mut Reader) -> Result<V
 
 /// The value of the single quoted scalar whose opening quote stands here. The reader is left after the closing one. The value
 /// may take the room of a spare text.
+// Inlined into the way of its kind.
+#[inline(always)]
 pub fn single_quoted(spares: &mut Vec<Vec<u8>>, reader: &mut Reader) -> Result<Vec<u8>, ScanError>
     requires { byte reader.old.text reader.old.at ≡ 39 }
     ensures { Reads reader.old.text reader.old.at reader.new result
@@ -40,6 +44,8 @@ pub fn single_quoted(spares: &mut Vec<Vec<u8>>, reader: &mut Reader) -> Result<V
 }
 
 /// The value of the scalar whose opening quote stands here, of that byte.
+// Inlined: the byte is known where it is called.
+#[inline(always)]
 fn quoted(spares: &mut Vec<Vec<u8>>, reader: &mut Reader, quote: u8) -> Result<Vec<u8>, ScanError>
     requires opened { byte reader.old.text reader.old.at ≡ quote }
     requires quote { (quote ≡ 34) ⊎ (quote ≡ 39) }
@@ -58,6 +64,8 @@ fn quoted(spares: &mut Vec<Vec<u8>>, reader: &mut Reader, quote: u8) -> Result<V
 }
 
 /// Whether the quote stands here and closes its scalar.
+// Inlined: a look at a byte.
+#[inline(always)]
 fn closes(reader: &Reader, quote: u8) -> bool
     ensures { result ≡ (byte reader.now.text reader.now.at == quote && not (quote == 39
         && byte reader.now.text (reader.now.at + 1) == 39)) }
@@ -67,6 +75,8 @@ fn closes(reader: &Reader, quote: u8) -> bool
 
 /// The value of the scalar that has those bytes, which stand from that place on, where the reader stands before its closing
 /// quote.
+// Inlined: a text of up to sixteen bytes is one load and one store.
+#[inline(always)]
 fn one_run(
     spares: &mut Vec<Vec<u8>>,
     reader: &mut Reader,

@@ -1,6 +1,6 @@
 //! Anchors and aliases.
 
-ghost use Rattle.std.specs.Prelude.{◌≡◌, ◌⊎◌};
+ghost use Rattle.std.specs.Prelude.{◌≡◌, ◌⊎◌, ◌||◌, ◌==◌, not};
 ghost use Rattle.yaml_scan_model.specs.Marks.{byte, mark_at, is_blank_or_end};
 ghost use Rattle.yaml_scan_words.specs.Anchors as spec;
 ghost use Rattle.yaml_scan_words.specs.Readings.{ReadsAs, IsNameWord, behind_bytes};
@@ -30,7 +30,7 @@ pub fn anchor(
     let to = name_end(reader);
     let from = reader.place() + 1;
     leap(reader, to);
-    if from == to || !may_end_name(reader) {
+    if is_wrong(reader, from, to) {
         return Err(refusal(&reader.ahead(), Problem::NoAlphanumeric, context, start));
     }
     let value = copied_since(spares, reader, from)?;
@@ -39,6 +39,19 @@ pub fn anchor(
         start_mark: start,
         end_mark: reader.mark(),
     })
+}
+
+/// Whether no name stands between two places, or what stands here, behind it, may not follow it.
+// Mostly a space follows: it is asked alone, since neighbouring tests of a byte become one table of jumps.
+// Inlined: a look at a byte.
+#[inline(always)]
+fn is_wrong(reader: &Reader, from: usize, to: usize) -> bool
+    ensures { result ≡ (from == to || not (spec.may_end_name reader.now.text reader.now.at)) }
+{
+    if reader.here() == b' ' {
+        return from == to;
+    }
+    from == to || !may_end_name(reader)
 }
 
 /// Whether a name may end here.

@@ -338,34 +338,58 @@ impl Core {
         self.lay_by(event, empty, self.settings.canonical);
     }
 
-    // What opens a collection, in canonical form.
+    // What opens a sequence, in canonical form.
     // Out of line: kind and form are known, and what other kinds need takes no room here.
     #[inline(never)]
-    fn lay_start(&mut self, event: &mut yaml_event_body_t, empty: bool)
+    fn lay_sequence_start(&mut self, event: &mut yaml_event_body_t, empty: bool)
         requires utf8 { HasUtf8 (body_of event.old) }
         requires form { self.old.settings.canonical ≡ true }
         ensures { LaysOut self.old self.new (emitter_event (body_of event.old)) empty }
     {
         match event {
-            yaml_event_body_t::SequenceStart { .. } | yaml_event_body_t::MappingStart { .. } => {
-                self.lay_by(event, empty, true)
-            }
+            yaml_event_body_t::SequenceStart { .. } => self.lay_by(event, empty, true),
             _ => self.lay_any(event, empty),
         }
     }
 
-    // What ends a collection, in canonical form.
+    // What opens a mapping, in canonical form.
     // Out of line: kind and form are known, and what other kinds need takes no room here.
     #[inline(never)]
-    fn lay_end(&mut self, event: &mut yaml_event_body_t, empty: bool)
+    fn lay_mapping_start(&mut self, event: &mut yaml_event_body_t, empty: bool)
         requires utf8 { HasUtf8 (body_of event.old) }
         requires form { self.old.settings.canonical ≡ true }
         ensures { LaysOut self.old self.new (emitter_event (body_of event.old)) empty }
     {
         match event {
-            yaml_event_body_t::SequenceEnd | yaml_event_body_t::MappingEnd => {
-                self.lay_by(event, empty, true)
-            }
+            yaml_event_body_t::MappingStart { .. } => self.lay_by(event, empty, true),
+            _ => self.lay_any(event, empty),
+        }
+    }
+
+    // What ends a sequence, in canonical form.
+    // Out of line: kind and form are known, and what other kinds need takes no room here.
+    #[inline(never)]
+    fn lay_sequence_end(&mut self, event: &mut yaml_event_body_t, empty: bool)
+        requires utf8 { HasUtf8 (body_of event.old) }
+        requires form { self.old.settings.canonical ≡ true }
+        ensures { LaysOut self.old self.new (emitter_event (body_of event.old)) empty }
+    {
+        match event {
+            yaml_event_body_t::SequenceEnd => self.lay_by(event, empty, true),
+            _ => self.lay_any(event, empty),
+        }
+    }
+
+    // What ends a mapping, in canonical form.
+    // Out of line: kind and form are known, and what other kinds need takes no room here.
+    #[inline(never)]
+    fn lay_mapping_end(&mut self, event: &mut yaml_event_body_t, empty: bool)
+        requires utf8 { HasUtf8 (body_of event.old) }
+        requires form { self.old.settings.canonical ≡ true }
+        ensures { LaysOut self.old self.new (emitter_event (body_of event.old)) empty }
+    {
+        match event {
+            yaml_event_body_t::MappingEnd => self.lay_by(event, empty, true),
             _ => self.lay_any(event, empty),
         }
     }
@@ -407,12 +431,10 @@ impl Core {
     {
         match event {
             yaml_event_body_t::Scalar { .. } => self.lay_scalar(event, empty, true),
-            yaml_event_body_t::SequenceStart { .. } | yaml_event_body_t::MappingStart { .. } => {
-                self.lay_start(event, empty)
-            }
-            yaml_event_body_t::SequenceEnd | yaml_event_body_t::MappingEnd => {
-                self.lay_end(event, empty)
-            }
+            yaml_event_body_t::SequenceStart { .. } => self.lay_sequence_start(event, empty),
+            yaml_event_body_t::MappingStart { .. } => self.lay_mapping_start(event, empty),
+            yaml_event_body_t::SequenceEnd => self.lay_sequence_end(event, empty),
+            yaml_event_body_t::MappingEnd => self.lay_mapping_end(event, empty),
             yaml_event_body_t::Alias { .. } => self.lay_alias(event, empty),
             _ => self.lay_any(event, empty),
         }

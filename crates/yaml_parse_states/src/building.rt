@@ -7,6 +7,7 @@ ghost use Rattle.yaml_parse_grammar.specs.Trees.{event_at};
 ghost use Rattle.yaml_parse_states.specs.Views.{properties_option_of, shape_of, plain_of, item_of, item_body_of, node_of, given_of};
 
 use crate::item::{Properties, RawEvent, RawEventBody, Resolved, Shape};
+use crate::pushing::mark_again;
 use crate::room::moved;
 use std::alloc::AllocError;
 use std::mem;
@@ -85,32 +86,41 @@ fn put_scalar(shape: &mut Shape, value: &mut Vec<u8>, style: yaml_scalar_style_t
             mem::swap(last, value);
             *last_style = style;
         }
-        _ => {
-            let scalar = Shape::Scalar {
-                value: moved(value),
-                style,
-            };
-            put(shape, scalar);
-        }
+        _ => put_shape(shape, value, style),
     }
 }
 
-// What another node is.
-// Out of line: mostly it is a scalar, which is changed in place.
+// A scalar in the place of another node.
+// Out of line: mostly a scalar stands there, which is changed in place, and in line the new one's room would be set to zero.
 #[inline(never)]
-fn put(slot: &mut Shape, shape: Shape)
-    ensures { slot.new ≡ shape }
+fn put_shape(shape: &mut Shape, value: &mut Vec<u8>, style: yaml_scalar_style_t)
+    ensures { shape_of shape.new ≡ item.scalar value.old.items style }
 {
-    *slot = shape;
+    *shape = Shape::Scalar {
+        value: moved(value),
+        style,
+    };
 }
 
-// Another item in the slot.
-// Out of line: mostly a node stands there, which is changed in place.
+// A scalar behind its properties in the place of another item.
+// Out of line: mostly a node stands there, which is changed in place, and in line the new one's room would be set to zero.
 #[inline(never)]
-fn put_body(slot: &mut RawEventBody, body: RawEventBody)
-    ensures { slot.new ≡ body }
+fn put_node(
+    slot: &mut RawEventBody,
+    properties: Box<Properties>,
+    value: &mut Vec<u8>,
+    style: yaml_scalar_style_t,
+)
+    ensures { item_body_of slot.new ≡ node_of (Some properties)
+        (item.scalar value.old.items style) }
 {
-    *slot = body;
+    *slot = RawEventBody::Node {
+        properties: Some(properties),
+        shape: Shape::Scalar {
+            value: moved(value),
+            style,
+        },
+    };
 }
 
 /// A scalar behind its properties, which ends there.
@@ -126,8 +136,8 @@ pub fn give_scalar(
     ensures { item_of slot.new ≡ item_at (node_of (Some properties)
         (item.scalar value.old.items style)) properties.value.from to.now }
 {
-    slot.from = properties.from;
-    slot.to = *to;
+    slot.from = mark_again(&properties.from);
+    slot.to = mark_again(to);
     match &mut slot.body {
         RawEventBody::Node {
             properties: last,
@@ -136,15 +146,6 @@ pub fn give_scalar(
             *last = Some(properties);
             put_scalar(shape, value, style);
         }
-        _ => {
-            let body = RawEventBody::Node {
-                properties: Some(properties),
-                shape: Shape::Scalar {
-                    value: moved(value),
-                    style,
-                },
-            };
-            put_body(&mut slot.body, body);
-        }
+        _ => put_node(&mut slot.body, properties, value, style),
     }
 }

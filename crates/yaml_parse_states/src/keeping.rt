@@ -6,7 +6,7 @@ ghost use Rattle.yaml_parse_grammar.specs.States as state;
 ghost use Rattle.yaml_parse_states.specs.Views.{properties_of, stack_of};
 
 use crate::item::{Properties, State, Tag};
-use crate::pushing::push_silently;
+use crate::pushing::{mark_again, push_silently};
 use crate::room::fill;
 use std::alloc::{AllocError, Global};
 use std::mem;
@@ -55,8 +55,8 @@ fn room(
         Some(emptied) => {
             let mut properties = emptied;
             properties.is_tagged = false;
-            properties.from = *from;
-            properties.to = *to;
+            properties.from = mark_again(from);
+            properties.to = mark_again(to);
             Ok(properties)
         }
     }
@@ -84,7 +84,7 @@ pub fn put_tag(
 {
     mem::swap(&mut properties.tag.handle, handle);
     mem::swap(&mut properties.tag.suffix, suffix);
-    properties.tag.mark = mark;
+    properties.tag.mark = mark_again(&mark);
     properties.is_tagged = true;
 }
 
@@ -132,7 +132,7 @@ pub fn tagged(
 {
     let mut properties = room(spare, *handle.allocator(), from, to)?;
     properties.anchor = None;
-    put_tag(&mut properties, handle, suffix, *from);
+    put_tag(&mut properties, handle, suffix, mark_again(from));
     Ok(properties)
 }
 

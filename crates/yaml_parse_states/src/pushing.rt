@@ -76,6 +76,19 @@ pub fn push_silently(stack: &mut Vec<State>, state: State) -> Result<bool, Alloc
     Ok(false)
 }
 
+/// A mark once more, number by number: of one that is moved whole into a state LLVM makes a copy by way of the stack.
+// Inlined: three loads.
+#[inline(always)]
+pub fn mark_again(mark: &yaml_mark_t) -> yaml_mark_t
+    ensures { result ≡ mark.now }
+{
+    yaml_mark_t {
+        index: mark.index,
+        line: mark.line,
+        column: mark.column,
+    }
+}
+
 /// The state on top.
 // Inlined: an address.
 #[inline(always)]
@@ -95,7 +108,7 @@ pub fn drop_top(stack: &mut Vec<State>)
     ensures room { vec_len stack.new < vec_capacity stack.new }
 {
     // Read for its end: it dies here, in line, where `drop` would be a call.
-    let _top = stack.pop();
+    let _top = stack.take_last();
 }
 
 /// Another state in the place of that on top.
@@ -168,6 +181,18 @@ pub fn push_block_pair(
     Ok(false)
 }
 
+// A key and its value, for which there is room.
+// Inlined: both places are known. Apart from what makes the room: so the room of both states ends here, and not behind a join.
+#[inline(always)]
+fn put_key(stack: &mut Vec<State>, key: Site, value: Site, end: &yaml_mark_t)
+    requires { vec_len stack.old + 2 ≤ vec_capacity stack.old }
+    ensures { stack_of stack.new.items ≡ state.optional key end.now ∷ state.colon value
+        ∷ stack_of stack.old.items }
+{
+    put(stack, State::Colon(value));
+    put(stack, State::Optional(key, mark_again(end)));
+}
+
 /// A key and its value, behind a key's indicator that ends there, on top of what follows them.
 // Inlined: both places are known.
 #[inline(always)]
@@ -181,8 +206,7 @@ pub fn push_key(
         ∷ stack_of stack.old.items) }
 {
     make_room_for(stack, 2)?;
-    put(stack, State::Colon(value));
-    put(stack, State::Optional(key, end));
+    put_key(stack, key, value, &end);
     Ok(())
 }
 

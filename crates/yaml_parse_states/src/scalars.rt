@@ -88,8 +88,9 @@ pub fn bare_over(
 }
 
 // A scalar without properties, where the slot holds no such one.
-// Inlined: mostly it holds no text, and the scalar is built in it.
-#[inline(always)]
+// Out of line: mostly the slot holds one. In line the addresses of its parts would be put aside in front of the loop over turns, for
+// each event.
+#[inline(never)]
 fn other_bare(value: &mut Vec<u8>, style: yaml_scalar_style_t, event: &mut yaml_event_body_t)
     ensures { body_of event.new ≡ node_event None None (item.scalar value.old.items style) }
 {

@@ -18,8 +18,8 @@ pub fn put(slot: &mut yaml_event_body_t, event: yaml_event_body_t)
 }
 
 /// A sequence without properties begins.
-// Inlined: it is built in the slot.
-#[inline(always)]
+// Out of line: in line the addresses of the slot's parts would be put aside in front of the loop over turns, for each event.
+#[inline(never)]
 pub fn start_sequence(slot: &mut yaml_event_body_t, style: yaml_sequence_style_t)
     requires { OwnsNothing slot.old }
     ensures { body_of slot.new ≡ told.sequence_start None None true style }
@@ -34,8 +34,8 @@ pub fn start_sequence(slot: &mut yaml_event_body_t, style: yaml_sequence_style_t
 }
 
 /// A mapping without properties begins.
-// Inlined: it is built in the slot.
-#[inline(always)]
+// Out of line: in line the addresses of the slot's parts would be put aside in front of the loop over turns, for each event.
+#[inline(never)]
 pub fn start_mapping(slot: &mut yaml_event_body_t, style: yaml_mapping_style_t)
     requires { OwnsNothing slot.old }
     ensures { body_of slot.new ≡ told.mapping_start None None true style }
@@ -50,8 +50,8 @@ pub fn start_mapping(slot: &mut yaml_event_body_t, style: yaml_mapping_style_t)
 }
 
 /// A sequence ends.
-// Inlined: it is built in the slot.
-#[inline(always)]
+// Out of line: in line the addresses of the slot's parts would be put aside in front of the loop over turns, for each event.
+#[inline(never)]
 pub fn end_sequence(slot: &mut yaml_event_body_t)
     requires { OwnsNothing slot.old }
     ensures { body_of slot.new ≡ told.sequence_end }
@@ -60,8 +60,8 @@ pub fn end_sequence(slot: &mut yaml_event_body_t)
 }
 
 /// A mapping ends.
-// Inlined: it is built in the slot.
-#[inline(always)]
+// Out of line: in line the addresses of the slot's parts would be put aside in front of the loop over turns, for each event.
+#[inline(never)]
 pub fn end_mapping(slot: &mut yaml_event_body_t)
     requires { OwnsNothing slot.old }
     ensures { body_of slot.new ≡ told.mapping_end }
@@ -94,8 +94,8 @@ fn other_alias(slot: &mut yaml_event_body_t, name: &mut Vec<u8>)
 }
 
 /// An alias. The room of a text that the slot has from an earlier event is left in the token of its name.
-// Inlined into its one caller.
-#[inline(always)]
+// Out of line: see `start_sequence`.
+#[inline(never)]
 pub fn put_alias(slot: &mut yaml_event_body_t, name: &mut Vec<u8>)
     ensures { body_of slot.new ≡ told.alias name.old.items }
 {

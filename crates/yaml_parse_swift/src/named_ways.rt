@@ -21,7 +21,7 @@ use yaml_parse_model::{yaml_event_t, yaml_mark_t, yaml_token_body_t, yaml_token_
 use yaml_parse_states::building::give_scalar;
 use yaml_parse_states::item::{Properties, RawEvent, State};
 use yaml_parse_states::keeping::put_tag;
-use yaml_parse_states::pushing::put;
+use yaml_parse_states::pushing::{mark_again, put};
 use yaml_parse_states::room::fill;
 
 // The state on top as it was.
@@ -196,7 +196,7 @@ fn join_name(properties: &mut Properties, token: &mut yaml_token_t) -> Swift
         yaml_token_body_t::Anchor { value } => match properties.anchor {
             None => {
                 fill(&mut properties.anchor, value);
-                properties.to = token.end_mark;
+                properties.to = mark_again(&token.end_mark);
                 Swift::Silent
             }
             Some(_) => Swift::Other,
@@ -219,7 +219,7 @@ fn join_suffix(properties: &mut Properties, token: &mut yaml_token_t) -> Swift
     match &mut token.body {
         yaml_token_body_t::Tag { handle, suffix } => {
             put_tag(properties, handle, suffix, token.start_mark);
-            properties.to = token.end_mark;
+            properties.to = mark_again(&token.end_mark);
             Swift::Silent
         }
         _ => Swift::Other,

@@ -9,8 +9,9 @@ ghost use Rattle.yaml_parse_model.specs.Events.{Event, event_of};
 ghost use Rattle.yaml_parse_model.specs.Tokens.{token_of};
 ghost use Rattle.yaml_parse_grammar.specs.Items as item;
 ghost use Rattle.yaml_parse_grammar.specs.Trees.{flow_shape};
+ghost use Rattle.yaml_parse_grammar.specs.Machine.{wants_of};
 ghost use Rattle.yaml_parse_grammar.specs.States as state;
-ghost use Rattle.yaml_parse_states.specs.Views.{item_of, state_of, stack_of, below};
+ghost use Rattle.yaml_parse_states.specs.Views.{item_of, properties_of, state_of, stack_of, below};
 ghost use Rattle.yaml_parse_model.specs.declared.yaml_mapping_style_t.TheVariants.{YAML_BLOCK_MAPPING_STYLE};
 ghost use Rattle.yaml_parse_model.specs.declared.yaml_sequence_style_t.TheVariants.{YAML_BLOCK_SEQUENCE_STYLE};
 ghost use Rattle.yaml_parse_swift.specs.Swiftly.{Adds, Opens, OpensIn, AwaitsKept, Swiftly, SwiftlyOn, SwiftlyOrOn};
@@ -25,7 +26,7 @@ use yaml_parse_model::{
 };
 use yaml_parse_states::item::{Properties, RawEvent, State, wants};
 use yaml_parse_states::keeping::{named, tagged};
-use yaml_parse_states::pushing::{drop_top, push, push_key, swap_top, top};
+use yaml_parse_states::pushing::{drop_top, mark_again, push, push_key, swap_top, top};
 use yaml_parse_states::room::vacate;
 use yaml_parse_states::slots::{start_mapping, start_sequence};
 
@@ -84,7 +85,7 @@ fn open_brackets(
         (token_of token.old) (stack_of stack.old.items) result (event_of event.new)
         (stack_of stack.new.items) }
 {
-    swap_top(stack, State::Items(brackets, token.start_mark));
+    swap_top(stack, State::Items(brackets, mark_again(&token.start_mark)));
     tell_start(brackets, token, event);
     Swift::Event
 }
@@ -96,10 +97,10 @@ fn open_entries(stack: &mut Vec<State>, token: &mut yaml_token_t, event: &mut ya
         (token_of token.old) (stack_of stack.old.items) result (event_of event.new)
         (stack_of stack.new.items) }
 {
-    swap_top(stack, State::Entries(token.start_mark));
+    swap_top(stack, State::Entries(mark_again(&token.start_mark)));
     vacate(&mut event.body, &mut token.body);
-    event.start_mark = token.start_mark;
-    event.end_mark = token.end_mark;
+    event.start_mark = mark_again(&token.start_mark);
+    event.end_mark = mark_again(&token.end_mark);
     start_sequence(
         &mut event.body,
         yaml_sequence_style_t::YAML_BLOCK_SEQUENCE_STYLE,
@@ -114,10 +115,10 @@ fn open_pairs(stack: &mut Vec<State>, token: &mut yaml_token_t, event: &mut yaml
         (token_of token.old) (stack_of stack.old.items) result (event_of event.new)
         (stack_of stack.new.items) }
 {
-    swap_top(stack, State::Pairs(token.start_mark));
+    swap_top(stack, State::Pairs(mark_again(&token.start_mark)));
     vacate(&mut event.body, &mut token.body);
-    event.start_mark = token.start_mark;
-    event.end_mark = token.end_mark;
+    event.start_mark = mark_again(&token.start_mark);
+    event.end_mark = mark_again(&token.end_mark);
     start_mapping(
         &mut event.body,
         yaml_mapping_style_t::YAML_BLOCK_MAPPING_STYLE,
@@ -152,6 +153,18 @@ fn at_block(
     }
 }
 
+// The rest of a node behind its first property is waited for in the place of the topmost.
+// Inlined: it is built in its place. Apart from the question whether there was room: so the room of the state ends here, and not
+// behind a join.
+#[inline(always)]
+fn await_rest(stack: &mut Vec<State>, place: Site, properties: Box<Properties>)
+    requires { 0 < vec_len stack.old }
+    ensures { stack_of stack.new.items ≡ state.with_properties (wants_of place)
+        (properties_of properties.value) ∷ below (stack_of stack.old.items) }
+{
+    swap_top(stack, State::WithProperties(wants(place), properties));
+}
+
 // The rest of a node behind its first property, if there was room for that.
 // Inlined: its state is built in its place.
 #[inline(always)]
@@ -165,7 +178,7 @@ fn await_node(
 {
     match kept {
         Ok(properties) => {
-            swap_top(stack, State::WithProperties(wants(place), properties));
+            await_rest(stack, place, properties);
             Swift::Silent
         }
         Err(_) => Swift::Memory,
@@ -296,7 +309,7 @@ fn at_colon(stack: &mut Vec<State>, place: Site, token: &yaml_token_t) -> Swift
 {
     match token.body {
         yaml_token_body_t::Value => {
-            swap_top(stack, State::Optional(place, token.end_mark));
+            swap_top(stack, State::Optional(place, mark_again(&token.end_mark)));
             Swift::Silent
         }
         _ => Swift::Other,
@@ -354,7 +367,7 @@ fn at_entries(
     match token.body {
         yaml_token_body_t::BlockEntry => push_or(
             stack,
-            State::Optional(Site::Entry, token.end_mark),
+            State::Optional(Site::Entry, mark_again(&token.end_mark)),
         ),
         yaml_token_body_t::BlockEnd => {
             drop_top(stack);
@@ -379,8 +392,8 @@ fn open_inside(
     ensures { OpensIn inner (state.more brackets.Sequence opener ∷ []) (token_of token.old)
         (stack_of stack.old.items) result (event_of event.new) (stack_of stack.new.items) }
 {
-    swap_top(stack, State::More(Brackets::Sequence, opener));
-    match push(stack, State::Items(inner, token.start_mark)) {
+    swap_top(stack, State::More(Brackets::Sequence, mark_again(&opener)));
+    match push(stack, State::Items(inner, mark_again(&token.start_mark))) {
         Ok(()) => {
             tell_start(inner, token, event);
             Swift::Event
@@ -405,7 +418,7 @@ fn in_sequence(
 {
     match &mut token.body {
         yaml_token_body_t::Scalar { value, style } => {
-            swap_top(stack, State::More(Brackets::Sequence, opener));
+            swap_top(stack, State::More(Brackets::Sequence, mark_again(&opener)));
             tell_scalar(value, *style, &token.start_mark, &token.end_mark, event);
             Swift::Event
         }
@@ -448,7 +461,7 @@ fn in_mapping(
 {
     match token.body {
         yaml_token_body_t::Key => {
-            swap_top(stack, State::More(Brackets::Mapping, opener));
+            swap_top(stack, State::More(Brackets::Mapping, mark_again(&opener)));
             push_pair(
                 stack,
                 Site::FlowPair(Brackets::Mapping, Side::Key),
@@ -481,7 +494,7 @@ fn behind_part(
 {
     match token.body {
         yaml_token_body_t::FlowEntry => {
-            swap_top(stack, State::Items(Brackets::Sequence, opener));
+            swap_top(stack, State::Items(Brackets::Sequence, mark_again(&opener)));
             Swift::Silent
         }
         yaml_token_body_t::FlowSequenceEnd => {
@@ -509,7 +522,7 @@ fn behind_pair(
 {
     match token.body {
         yaml_token_body_t::FlowEntry => {
-            swap_top(stack, State::Items(Brackets::Mapping, opener));
+            swap_top(stack, State::Items(Brackets::Mapping, mark_again(&opener)));
             Swift::Silent
         }
         yaml_token_body_t::FlowMappingEnd => {

@@ -16,6 +16,7 @@ use yaml_parse_model::{
     yaml_sequence_style_t, yaml_token_body_t, yaml_token_t,
 };
 use yaml_parse_states::item::Properties;
+use yaml_parse_states::pushing::mark_again;
 use yaml_parse_states::room::{anchor_for, hand_over_both, moved, put_bare, vacate};
 use yaml_parse_states::scalars::{bare_over, bare_scalar, named_scalar};
 use yaml_parse_states::slots::{
@@ -36,8 +37,8 @@ pub(crate) fn tell_scalar(
         to.now) (event_of event.new) }
 {
     bare_scalar(value, style, &mut event.body);
-    event.start_mark = *from;
-    event.end_mark = *to;
+    event.start_mark = mark_again(from);
+    event.end_mark = mark_again(to);
 }
 
 /// Whether a slot of events holds a scalar with properties.
@@ -65,8 +66,8 @@ pub(crate) fn tell_over(token: &mut yaml_token_t, event: &mut yaml_event_t)
 {
     match &mut token.body {
         yaml_token_body_t::Scalar { value, style } => {
-            event.start_mark = token.start_mark;
-            event.end_mark = token.end_mark;
+            event.start_mark = mark_again(&token.start_mark);
+            event.end_mark = mark_again(&token.end_mark);
             let name = bare_over(value, *style, &mut event.body);
             hand_over_both(moved(value), name, &mut token.body);
         }
@@ -87,8 +88,8 @@ pub(crate) fn tell_named_scalar(
     ensures { IsReady (item_at (item.node (text_of properties.old.anchor) None
         (item.scalar value.old.items style)) properties.old.from to.now) (event_of event.new) }
 {
-    event.start_mark = properties.from;
-    event.end_mark = *to;
+    event.start_mark = mark_again(&properties.from);
+    event.end_mark = mark_again(to);
     named_scalar(&mut properties.anchor, value, style, &mut event.body);
 }
 
@@ -102,8 +103,8 @@ pub(crate) fn tell_named_start(
     ensures { IsReady (item_at (item.node (text_of properties.old.anchor) None
         (flow_shape brackets)) properties.old.from token.old.end_mark) (event_of event.new) }
 {
-    event.start_mark = properties.from;
-    event.end_mark = token.end_mark;
+    event.start_mark = mark_again(&properties.from);
+    event.end_mark = mark_again(&token.end_mark);
     let anchor = anchor_for(&mut event.body, &mut properties.anchor);
     vacate(&mut event.body, &mut token.body);
     match brackets {
@@ -136,8 +137,8 @@ pub(crate) fn tell_start(brackets: Brackets, token: &mut yaml_token_t, event: &m
         token.old.end_mark) (event_of event.new) }
 {
     vacate(&mut event.body, &mut token.body);
-    event.start_mark = token.start_mark;
-    event.end_mark = token.end_mark;
+    event.start_mark = mark_again(&token.start_mark);
+    event.end_mark = mark_again(&token.end_mark);
     match brackets {
         Brackets::Sequence => {
             start_sequence(
@@ -162,8 +163,8 @@ pub(crate) fn tell_end(brackets: Brackets, token: &mut yaml_token_t, event: &mut
         (event_of event.new) }
 {
     vacate(&mut event.body, &mut token.body);
-    event.start_mark = token.start_mark;
-    event.end_mark = token.end_mark;
+    event.start_mark = mark_again(&token.start_mark);
+    event.end_mark = mark_again(&token.end_mark);
     match brackets {
         Brackets::Sequence => {
             end_sequence(&mut event.body);
@@ -185,7 +186,7 @@ pub(crate) fn tell_alias(
 )
     ensures { IsReady (event_at (told.alias name.old.items) from.now to.now) (event_of event.new) }
 {
-    event.start_mark = *from;
-    event.end_mark = *to;
+    event.start_mark = mark_again(from);
+    event.end_mark = mark_again(to);
     put_alias(&mut event.body, name);
 }

@@ -99,7 +99,8 @@ fn one_run(
 
 /// The value of the scalar that starts at the mark, where the reader stands behind its first run, of those bytes.
 // Inlined: so the answer of the call out of line, and the mark that is lent to it, have a place of their own. In one place
-// with the answer above, this one would be put together in memory and copied.
+// with the answer above, this one would be put together in memory and copied. It is lent a copy of the reader: one that is
+// lent lies in memory.
 #[inline(always)]
 fn many_runs(
     spares: &mut Vec<Vec<u8>>,
@@ -122,7 +123,9 @@ fn many_runs(
         line: start.line,
         column: start.column,
     };
-    let value = fold_runs(spares, reader, bytes, start, quote)?;
+    let mut copy = reader.ahead();
+    let value = fold_runs(spares, &mut copy, bytes, start, quote)?;
+    *reader = copy;
     Ok(value)
 }
 

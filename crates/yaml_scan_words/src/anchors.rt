@@ -7,7 +7,7 @@ ghost use Rattle.yaml_scan_words.specs.Readings.{ReadsAs, IsNameWord, behind_byt
 
 use crate::run::{copied_since, leap, name_end};
 use crate::word::{Word, refusal};
-use yaml_scan_model::{Context, Problem, Reader, ScanError};
+use yaml_scan_model::{Context, Problem, Reader, ScanError, yaml_mark_t};
 
 /// The anchor or alias whose `&` or `*` stands here (YAML 1.1, 3.2.2.2): its name is one or more alphas.
 ///
@@ -31,6 +31,12 @@ pub fn anchor(
     let from = reader.place() + 1;
     leap(reader, to);
     if is_wrong(reader, from, to) {
+        // A mark of its own: the one that is lent to the call lies in memory.
+        let start = yaml_mark_t {
+            index: start.index,
+            line: start.line,
+            column: start.column,
+        };
         return Err(refusal(&reader.ahead(), Problem::NoAlphanumeric, context, start));
     }
     let value = copied_since(spares, reader, from)?;

@@ -202,10 +202,10 @@ fn put_quoted_body(sink: &mut Sink, page: Page, value: &str)
     put_quoted_rest(sink, page, before, left);
 }
 
-/// The quote that opens a double quoted scalar, behind `!` where that is due, with spaces in front where they are due.
+// The quote that opens a double quoted scalar, behind `!` where that is due.
 // Inlined: mostly there is room, and it is a store or two.
 #[inline(always)]
-pub fn put_opening_quote(sink: &mut Sink, marked: bool)
+fn put_quote(sink: &mut Sink, marked: bool)
     ensures { Puts sink.old sink.new (when marked (word (33 ∷ [])) ▹ (gap ▹ char 34)) }
 {
     if marked {
@@ -213,6 +213,15 @@ pub fn put_opening_quote(sink: &mut Sink, marked: bool)
     } else {
         sink.put_known_word(b"\"", b" \"");
     }
+}
+
+/// The quote that opens a double quoted scalar, behind `!` where that is due, with spaces in front where they are due.
+// Out of line: few registers are needed, and the ways that call it stay small.
+#[inline(never)]
+pub fn put_opening_quote(sink: &mut Sink, marked: bool)
+    ensures { Puts sink.old sink.new (when marked (word (33 ∷ [])) ▹ (gap ▹ char 34)) }
+{
+    put_quote(sink, marked);
 }
 
 /// What stands behind the quote that opens a double quoted scalar, and the quote that closes it.
@@ -231,6 +240,6 @@ pub fn put_quoted_inside(sink: &mut Sink, page: Page, value: &str)
 pub fn put_double_quoted(sink: &mut Sink, page: Page, value: &str)
     ensures { Puts sink.old sink.new (double_quoted page (chars value.now)) }
 {
-    put_opening_quote(sink, false);
+    put_quote(sink, false);
     put_quoted_inside(sink, page, value);
 }

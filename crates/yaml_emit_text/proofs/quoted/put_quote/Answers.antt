@@ -1,7 +1,7 @@
 use Rattle.std.proofs.Common.{refl}
 use Rattle.yaml_emit_sink.specs.Layout.{letters}
 use Rattle.yaml_emit_sink.proofs.Sinks.{puts_as}
-use Rattle.yaml_emit_text.proofs.quoted.put_opening_quote.Goals as goal
+use Rattle.yaml_emit_text.proofs.quoted.put_quote.Goals as goal
 
 pub returns-then-marked : goal.returns-then-marked
 unfolding letters

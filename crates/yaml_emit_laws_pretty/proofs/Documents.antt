@@ -19,7 +19,7 @@ use Rattle.yaml_scan_laws_texts.specs.KeysTexts.{Word, lexemes, Stand, word_kind
 use Rattle.yaml_scan_laws_texts.specs.Brackets.{Last, last_after, lasts, takes_key, fits_keyed, is_keyed}
 use Rattle.yaml_scan_laws_texts.specs.KeyedLaws.{AreNear, word_tokens, keyed_tokens}
 use Rattle.yaml_scan_laws_texts.proofs.KeysWords.{words_keyed}
-use Rattle.yaml_emit_laws_pretty.proofs.scan_laws_plain.scan_history.scan_words.GapsRead.{gap_is_read}
+use Rattle.yaml_emit_laws_pretty.proofs.GapsRead.{gap_is_read}
 use Rattle.yaml_emit_laws_pretty.specs.emit_layout.scan.declared.yaml_encoding_t.{yaml_encoding_t}
 use Rattle.yaml_emit_laws_pretty.specs.emit_layout.scan.Tokens as tokens
 use Rattle.yaml_emit_laws_pretty.specs.emit_layout.scan.Tokens.{TokenBody}
@@ -34,7 +34,7 @@ use Rattle.yaml_emit_laws_pretty.specs.emit_layout.scan.declared.yaml_version_di
 use Rattle.yaml_emit_laws_pretty.specs.emit_layout.parse.Events.{TagDirective}
 use Rattle.yaml_emit_laws_pretty.specs.scan_laws_plain.Values.{is_plain_value}
 use Rattle.yaml_emit_laws_pretty.specs.scan_laws_plain.PlainLaws.{ends_plain}
-use Rattle.yaml_emit_laws_pretty.proofs.scan_laws_plain.PlainRead.{value_ends}
+use Rattle.yaml_emit_laws_pretty.proofs.PlainRead.{value_ends}
 use Rattle.yaml_emit_laws_pretty.specs.emit_layout.emit_text.Layout.{Layout, Rest, ◌▹◌, keep, stay, when, letters, word, line, blanks, new_line, must_break, indent_to, after_text, start, nothing_more}
 use Rattle.yaml_emit_laws_pretty.specs.emit_layout.Content.{Scalar, Node, alias_node, scalar_node, sequence_node, mapping_node, Document, Opening}
 use Rattle.yaml_emit_laws_pretty.specs.emit_layout.Nodes.{MOST, checked, deeper, root_spot, context_of, node_layout, dots, dashes, directives_text, start_layout, end_layout, stop_layout, documents_layout}

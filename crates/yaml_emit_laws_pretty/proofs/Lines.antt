@@ -4,8 +4,8 @@ use Rattle.std.proofs.lemmas.Bool.{cases_lt}
 use Rattle.std.proofs.lemmas.Bool.Decides.{nat_tests}
 use Rattle.std.proofs.lemmas.List.{length-append}
 use Rattle.yaml_emit_laws_pretty.specs.scan_laws_plain.scan_history.scan_model.Marks.{byte, ends_of, ends_break, line_at}
-use Rattle.yaml_emit_laws_pretty.proofs.scan_laws_plain.scan_history.scan_model.MarksLemmas.{line_more}
-use Rattle.yaml_emit_laws_pretty.proofs.scan_laws_plain.scan_history.scan_words.HasLemmas.{Has, has_front, has_rest}
+use Rattle.yaml_emit_laws_pretty.proofs.MarksLemmas.{line_more}
+use Rattle.yaml_emit_laws_pretty.proofs.HasLemmas.{Has, has_front, has_rest}
 use Rattle.yaml_emit_laws_text.specs.emit_text.Text.{is_break}
 use Rattle.yaml_emit_laws_text.specs.ReadBack.{is_one_line}
 use Rattle.yaml_emit_laws_text.proofs.Chars.{encode_1, encode_2, encode_3, encode_4}

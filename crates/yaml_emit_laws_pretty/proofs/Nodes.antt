@@ -6,7 +6,7 @@ use Rattle.std.proofs.lemmas.Bool.{cases_Bool}
 use Rattle.std.proofs.lemmas.Bool.Decides.{nat_tests}
 use Rattle.yaml_scan_laws_texts.specs.scan_history.scan_words.Laws.{GapReads}
 use Rattle.yaml_scan_laws_texts.specs.Brackets.{Last, Fresh, Asked, Other, node_after, quoted_after, plain_after, changed}
-use Rattle.yaml_emit_laws_pretty.proofs.scan_laws_plain.scan_history.scan_words.GapsRead.{gap_is_read}
+use Rattle.yaml_emit_laws_pretty.proofs.GapsRead.{gap_is_read}
 use Rattle.yaml_emit_laws_pretty.specs.emit_layout.scan.declared.yaml_scalar_style_t.{yaml_scalar_style_t}
 use Rattle.yaml_emit_laws_pretty.specs.emit_layout.scan.declared.yaml_scalar_style_t.TheVariants.{YAML_PLAIN_SCALAR_STYLE, YAML_DOUBLE_QUOTED_SCALAR_STYLE}
 use Rattle.yaml_emit_laws_pretty.specs.emit_layout.scan.Tokens as tokens

@@ -16,8 +16,8 @@ use Rattle.yaml_scan_laws_texts.specs.KeysTexts.{Word}
 use Rattle.yaml_scan_laws_texts.specs.Brackets.{Last, Fresh, Held, Asked, Answered, Other, plain_after, changed}
 use Rattle.yaml_emit_laws_pretty.specs.scan_laws_plain.Values.{is_letter_or_digit, is_value_byte, begins_value, is_plain_value}
 use Rattle.yaml_emit_laws_pretty.specs.scan_laws_plain.PlainLaws.{ends_plain}
-use Rattle.yaml_emit_laws_pretty.proofs.scan_laws_plain.PlainRead.{value_begins, value_ends, value_read}
-use Rattle.yaml_emit_laws_pretty.proofs.scan_laws_plain.Near.{value_near}
+use Rattle.yaml_emit_laws_pretty.proofs.PlainRead.{value_begins, value_ends, value_read}
+use Rattle.yaml_emit_laws_pretty.proofs.Near.{value_near}
 use Rattle.yaml_emit_laws_pretty.specs.emit_layout.scan.declared.yaml_scalar_style_t.TheVariants.{YAML_PLAIN_SCALAR_STYLE}
 use Rattle.yaml_emit_laws_pretty.specs.emit_layout.scan.Tokens as tokens
 use Rattle.yaml_emit_laws_pretty.specs.emit_layout.scan.Tokens.{TokenBody}

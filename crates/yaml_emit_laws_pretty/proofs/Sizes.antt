@@ -5,8 +5,8 @@ use Rattle.std.proofs.lemmas.List.{length-append}
 use Rattle.std.proofs.lemmas.Str.{scalars-chars, encodes-append, encodes-chars}
 use Rattle.std.specs.Str.{all_scalars, chars}
 use lib.Utf8.{scalar}
-use Rattle.yaml_emit_laws_pretty.proofs.scan_laws_plain.scan_history.scan_words.HasLemmas.{has}
-use Rattle.yaml_emit_laws_pretty.proofs.scan_laws_plain.Near.{near_by}
+use Rattle.yaml_emit_laws_pretty.proofs.HasLemmas.{has}
+use Rattle.yaml_emit_laws_pretty.proofs.Near.{near_by}
 use Rattle.yaml_emit_laws_text.specs.emit_text.declared.Cursor.{Cursor}
 use Rattle.yaml_emit_laws_text.specs.emit_text.Text.{letter, is_break}
 use Rattle.yaml_emit_laws_text.specs.emit_text.Layout.{Layout, Rest, ◌▹◌, char, letters, nothing_more}

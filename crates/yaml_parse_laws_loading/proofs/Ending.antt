@@ -9,7 +9,7 @@ use Rattle.yaml_parse_laws_trees.specs.grammar.Trees.{Stream, spell}
 use Rattle.yaml_parse_laws_trees.specs.grammar.Machine.{Fed, stop, go, feed, Outcome, finished, carry, run, initial}
 use Rattle.yaml_parse_laws_trees.specs.grammar.Resolve.{Directives, no_directives, Reading, reading}
 use Rattle.yaml_parse_laws_trees.specs.grammar.Remaining.{reading_of}
-use Rattle.yaml_parse_laws_trees.proofs.grammar.CompleteStream.{nothing_runs}
+use Rattle.yaml_parse_laws_trees.proofs.CompleteStream.{nothing_runs}
 use Rattle.yaml_parse_laws_trees.specs.LookBack.{followed_by}
 use Rattle.yaml_parse_laws_trees.specs.Wrong.{handle_fault}
 use Rattle.yaml_parse_laws_trees.specs.Places.{directive, StandsIn, with_end, FaultOfTokens}

@@ -17,7 +17,7 @@ use Rattle.yaml_parse_laws_trees.specs.grammar.States as state
 use Rattle.yaml_parse_laws_trees.specs.grammar.Stacks.{IsInside, IsStack}
 use Rattle.yaml_parse_laws_trees.specs.grammar.Machine.{parts_documents, follows, wants_of, starts_node, starts_content, joins, closes, no_node, no_end, choice_at, taken_at, left_at, Fed, with_item, given_by, turn, feed}
 use Rattle.yaml_parse_laws_trees.specs.grammar.Resolve.{Directives, settle}
-use Rattle.yaml_parse_laws_trees.proofs.grammar.Single.{opens_node}
+use Rattle.yaml_parse_laws_trees.proofs.Single.{opens_node}
 use Rattle.yaml_parse_laws_trees.proofs.FaultsStanding.{Plain}
 use Rattle.yaml_parse_laws_trees.proofs.Taking.{solid_left}
 use Rattle.yaml_parse_loader.specs.Loading.{Loading, nothing_loaded}

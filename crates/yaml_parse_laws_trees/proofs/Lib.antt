@@ -29,4 +29,8 @@ mod Counting
 pub mod Giving
 mod GivenRows
 -- what it stands on, for crates that name this one alone
-pub use Rattle.yaml_parse_grammar.proofs as grammar
+pub use Rattle.yaml_parse_grammar.proofs.Complete
+pub use Rattle.yaml_parse_grammar.proofs.CompleteStream
+pub use Rattle.yaml_parse_grammar.proofs.Single
+pub use Rattle.yaml_parse_grammar.proofs.Utf8
+pub use Rattle.yaml_parse_grammar.proofs.Voice

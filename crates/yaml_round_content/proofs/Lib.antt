@@ -13,9 +13,26 @@ pub mod ContentInputs
 mod Bare
 pub mod Layouts
 -- what it stands on, for crates that name this one alone
-pub use Rattle.yaml_emit_laws_dumps.proofs as emit_laws_streams
-pub use Rattle.yaml_round_laws_adapted.proofs as round_laws_adapted
-pub use Rattle.yaml_scan_laws_texts.proofs as scan_laws_names
-pub use Rattle.yaml_scan_laws_texts.proofs.scan_history
-pub use Rattle.yaml_emit_laws_dumps.proofs.parse_grammar
-pub use Rattle.yaml_emit_laws_dumps.proofs.parse_laws_loading
+pub use Rattle.yaml_emit_laws_dumps.proofs.Joining
+pub use Rattle.yaml_emit_laws_dumps.proofs.Contents
+pub use Rattle.yaml_emit_laws_dumps.proofs.Loading
+pub use Rattle.yaml_emit_laws_dumps.proofs.Naming
+pub use Rattle.yaml_emit_laws_dumps.proofs.Passing
+pub use Rattle.yaml_emit_laws_dumps.proofs.Sound
+pub use Rattle.yaml_emit_laws_dumps.proofs.CompleteStream
+pub use Rattle.yaml_emit_laws_dumps.proofs.Utf8
+pub use Rattle.yaml_emit_laws_dumps.proofs.AllGiven
+pub use Rattle.yaml_emit_laws_dumps.proofs.ByStep
+pub use Rattle.yaml_emit_laws_dumps.proofs.Ending
+pub use Rattle.yaml_emit_laws_dumps.proofs.NextLoads
+pub use Rattle.yaml_emit_laws_dumps.proofs.Unique
+pub use Rattle.yaml_emit_laws_dumps.proofs.TreesEnding
+pub use Rattle.yaml_emit_laws_dumps.proofs.Spelling
+pub use Rattle.yaml_emit_laws_dumps.proofs.Turns
+pub use Rattle.yaml_emit_laws_dumps.proofs.Keeps
+pub use Rattle.yaml_emit_laws_dumps.proofs.Loads
+pub use Rattle.yaml_emit_laws_dumps.proofs.Visited
+pub use Rattle.yaml_round_laws_adapted.proofs.AdaptedLemmas
+pub use Rattle.yaml_scan_laws_texts.proofs.CompleteLemmas
+pub use Rattle.yaml_scan_laws_texts.proofs.SpellingLemmas
+pub use Rattle.yaml_scan_laws_texts.proofs.Inputs

@@ -10,4 +10,4 @@ pub mod Growing
 pub mod Documents
 pub mod Passing
 -- what it stands on, for crates that name this one alone
-pub use Rattle.yaml_parse_grammar.proofs as parse_grammar
+pub use Rattle.yaml_parse_grammar.proofs.CompleteStream

@@ -16,15 +16,15 @@ use Rattle.yaml_round_laws_canonical.specs.back_canon.emit_layout.Content.{is_fl
 use Rattle.yaml_round_laws_canonical.specs.back_canon.emit_layout.Grammar.{own_problems}
 use Rattle.yaml_round_laws_dumps.specs.content.emit_laws_streams.emit_graph.Graph.{Met, is_met, meet, body_of_id, tag_of_id, number_at, numbers, name_of, anchor_of, graph_scalar, graph_start, none_met, graph_root, graph_content}
 use Rattle.yaml_round_laws_dumps.specs.content.emit_laws_streams.emit_graph.Onward.{items_by, pairs_by, node_by, content_by, itself, root_onward}
-use Rattle.yaml_round_laws_dumps.proofs.content.emit_laws_streams.emit_graph.Joining.{root_joined}
+use Rattle.yaml_round_laws_dumps.proofs.Joining.{root_joined}
 use Rattle.yaml_round_laws_dumps.specs.content.emit_laws_streams.StreamsLaws.{AreRight}
 use Rattle.yaml_round_laws_dumps.specs.content.Said as content
 use Rattle.yaml_round_laws_dumps.specs.content.Trees.{document_tree}
 use Rattle.yaml_round_laws_dumps.specs.content.Canon.{canon_items}
 use Rattle.yaml_round_laws_dumps.specs.content.Loads.{loads_of}
 use Rattle.yaml_round_laws_dumps.specs.Events.{trees_of_dumps}
-use Rattle.yaml_round_laws_dumps.proofs.content.Layouts.{NodeFlagged, NodesFlagged, PairsFlagged, Normalize, normal_layout}
-use Rattle.yaml_round_laws_dumps.proofs.content.emit_laws_streams.Contents.{dumped_streams}
+use Rattle.yaml_round_laws_dumps.proofs.Layouts.{NodeFlagged, NodesFlagged, PairsFlagged, Normalize, normal_layout}
+use Rattle.yaml_round_laws_dumps.proofs.Contents.{dumped_streams}
 use Rattle.yaml_round_laws_documents.specs.Normal.{ended, dump_events, DumpsAreLaidOut}
 use Rattle.yaml_round_laws_documents.proofs.Sound.{documents_right}
 

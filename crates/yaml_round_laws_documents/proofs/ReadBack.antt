@@ -2,8 +2,8 @@
 use Rattle.yaml_round_laws_canonical.specs.back_canon.scan.declared.yaml_encoding_t.TheVariants.{YAML_ANY_ENCODING}
 use Rattle.yaml_round_laws_dumps.specs.content.Canon.{canon}
 use Rattle.yaml_round_laws_dumps.specs.WritableLaws.{LayoutIsOfInputsContent, InputsContentIsLaidOut}
-use Rattle.yaml_round_laws_dumps.proofs.content.Injective.{says_injective}
-use Rattle.yaml_round_laws_dumps.proofs.content.Layouts.{layouts_of_content, content_laid_out}
+use Rattle.yaml_round_laws_dumps.proofs.Injective.{says_injective}
+use Rattle.yaml_round_laws_dumps.proofs.Layouts.{layouts_of_content, content_laid_out}
 use Rattle.yaml_round_laws_dumps.proofs.Flags.{layout_of_input, input_laid_out}
 use Rattle.yaml_round_laws_dumps.proofs.WritableContents.{are_writable}
 use Rattle.yaml_emit_laws_text.proofs.Joining.{written_readable}

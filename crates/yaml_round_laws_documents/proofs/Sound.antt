@@ -10,11 +10,11 @@ use Rattle.yaml_round_laws_canonical.specs.parse_grammar.Resolve.{Told}
 use Rattle.yaml_round_laws_dumps.specs.content.parse_laws_loading.parse_loader.Loading.{Loading, LoadStep, goes_on, loaded, refused, nothing_loaded, step}
 use Rattle.yaml_round_laws_dumps.specs.content.emit_laws_streams.StreamsLaws.{RightDocument, AreRight, AreRightTold, RightFed}
 use Rattle.yaml_round_laws_dumps.specs.content.parse_laws_loading.parse_loader.Sound.{IsLoading}
-use Rattle.yaml_round_laws_dumps.proofs.content.parse_laws_loading.parse_loader.Keeps.{FedSound, nothing_sound, step_sound}
+use Rattle.yaml_round_laws_dumps.proofs.Keeps.{FedSound, nothing_sound, step_sound}
 use Rattle.yaml_round_laws_dumps.specs.content.Input.{events_of, ending_of, read}
 use Rattle.yaml_round_laws_dumps.specs.content.Loads.{Loads, in_front, load_on, load_all, loads_of}
-use Rattle.yaml_round_laws_dumps.proofs.content.emit_laws_streams.Loading.{steps, empty_right}
-use Rattle.yaml_round_laws_dumps.proofs.content.StreamsInputs.{inputs_load_right}
+use Rattle.yaml_round_laws_dumps.proofs.DumpsLoading.{steps, empty_right}
+use Rattle.yaml_round_laws_dumps.proofs.StreamsInputs.{inputs_load_right}
 use Rattle.yaml_round_laws_dumps.specs.WritableLaws.{HaveUtf8Texts, InputsHaveUtf8}
 use Rattle.yaml_round_laws_dumps.specs.Events.{AreLoadedDocuments}
 use Rattle.yaml_round_laws_documents.specs.Laws.{AllLoadDocuments, LoadedAreSound}

@@ -6,20 +6,20 @@ use Rattle.yaml_round_laws_canonical.specs.back_canon.scan.Faults.{Fault}
 use Rattle.yaml_round_laws_dumps.specs.content.parse_laws_loading.parse_document.Documents.{Document}
 use Rattle.yaml_round_laws_dumps.specs.content.parse_laws_loading.parse_loader.Loading.{nothing_loaded}
 use Rattle.yaml_round_laws_canonical.specs.back_canon.emit_layout.emit_text.declared.RequestedSettings.{RequestedSettings}
-use Rattle.yaml_round_laws_dumps.proofs.content.parse_laws_loading.parse_loader.Loads.{loads_document}
-use Rattle.yaml_round_laws_dumps.proofs.content.parse_laws_loading.parse_loader.Visited.{numbered_in_order}
+use Rattle.yaml_round_laws_dumps.proofs.Loads.{loads_document}
+use Rattle.yaml_round_laws_dumps.proofs.Visited.{numbered_in_order}
 use Rattle.yaml_round_laws_dumps.specs.emit_laws_dumps.DumpsLaws.{DumpsNumberBack}
-use Rattle.yaml_round_laws_dumps.proofs.emit_laws_dumps.Apart.{apart_all, again_all}
-use Rattle.yaml_round_laws_dumps.proofs.emit_laws_dumps.Again.{again_turns}
-use Rattle.yaml_round_laws_dumps.proofs.emit_laws_dumps.Back.{numbered_back}
-use Rattle.yaml_round_laws_dumps.proofs.emit_laws_dumps.Loaded.{loaded}
-use Rattle.yaml_round_laws_dumps.proofs.emit_laws_dumps.Whole.{numbers_found, number_back}
+use Rattle.yaml_round_laws_dumps.proofs.Apart.{apart_all, again_all}
+use Rattle.yaml_round_laws_dumps.proofs.Again.{again_turns}
+use Rattle.yaml_round_laws_dumps.proofs.Back.{numbered_back}
+use Rattle.yaml_round_laws_dumps.proofs.Loaded.{loaded}
+use Rattle.yaml_round_laws_dumps.proofs.Whole.{numbers_found, number_back}
 use Rattle.yaml_round_laws_dumps.specs.content.Said as content
 use Rattle.yaml_round_laws_dumps.specs.content.Said.{HasContent}
 use Rattle.yaml_round_laws_dumps.specs.content.Input.{events_of, ending_of}
 use Rattle.yaml_round_laws_dumps.specs.content.Loads.{Loads, load_all, loads_of}
 use Rattle.yaml_round_laws_dumps.specs.content.Canon.{canon}
-use Rattle.yaml_round_laws_dumps.proofs.content.ContentInputs.{say_fronts}
+use Rattle.yaml_round_laws_dumps.proofs.ContentInputs.{say_fronts}
 use Rattle.yaml_round_laws_dumps.proofs.Utf8.{input_utf8}
 use Rattle.yaml_round_laws_documents.proofs.ReadBack.{reads_back}
 use Rattle.yaml_round_laws_dumps.specs.Agree.{Core, core_of, AreAgreeing}
@@ -34,7 +34,7 @@ use Rattle.yaml_round_laws_dumps.proofs.Trees as trees
 use Rattle.yaml_round_laws_dumps.proofs.Agreeing.{dumps_loaded}
 use Rattle.yaml_round_laws_documents.specs.Laws.{AllLoadDocuments, LoadedAreSound, LoadedAreWritable}
 use Rattle.yaml_round_laws_dumps.specs.round_laws_reading.PlainLoading.{unless_faulty}
-use Rattle.yaml_round_laws_dumps.proofs.round_laws_reading.Loaded.{loading_loads}
+use Rattle.yaml_round_laws_dumps.proofs.ReadingLoaded.{loading_loads}
 use Rattle.yaml_round_laws_documents.specs.Normal.{
   AreWritableDocuments,
   DocumentTextsLoadAgain,

@@ -18,10 +18,10 @@ use Rattle.yaml_round_laws_canonical.specs.back_canon.emit_layout.Content as emi
 use Rattle.yaml_round_laws_canonical.specs.back_canon.emit_layout.Content.{is_flow_sequence, is_flow_mapping}
 use Rattle.yaml_round_laws_dumps.specs.content.emit_laws_streams.emit_graph.Graph.{Met, is_met, meet, body_at, tag_at, body_of_id, tag_of_id, number_at, numbers, name_of, anchor_of, graph_start, none_met, graph_root, graph_content}
 use Rattle.yaml_round_laws_dumps.specs.content.emit_laws_streams.emit_graph.Onward.{items_by, pairs_by, node_by, content_by, itself, root_onward}
-use Rattle.yaml_round_laws_dumps.proofs.content.emit_laws_streams.emit_graph.Joining.{root_joined}
+use Rattle.yaml_round_laws_dumps.proofs.Joining.{root_joined}
 use Rattle.yaml_round_laws_dumps.specs.content.emit_laws_streams.StreamsLaws.{AreTagged, RightDocument, AreRight}
-use Rattle.yaml_round_laws_dumps.proofs.content.parse_laws_loading.parse_document.Sound.{str_utf8}
-use Rattle.yaml_round_laws_dumps.proofs.content.emit_laws_streams.Naming.{name_right}
+use Rattle.yaml_round_laws_dumps.proofs.Sound.{str_utf8}
+use Rattle.yaml_round_laws_dumps.proofs.Naming.{name_right}
 use Rattle.yaml_round_laws_dumps.specs.content.Loads.{loads_of}
 use Rattle.yaml_round_laws_dumps.specs.content.Trees.{tree_of, trees_of, pair_trees_of, document_tree}
 use Rattle.yaml_round_laws_dumps.specs.WritableLaws.{InputsHaveUtf8}

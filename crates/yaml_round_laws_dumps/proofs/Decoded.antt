@@ -11,13 +11,13 @@ use Rattle.yaml_round_laws_reading.specs.round_content.scan_history.Scanned.{sca
 use Rattle.yaml_round_laws_reading.specs.round_content.parse_model.Source as source
 use Rattle.yaml_round_laws_reading.specs.round_content.Input.{tokens_of}
 use Rattle.yaml_round_laws_reading.specs.round_content.round_laws_adapted.Adapted.{adapted}
-use Rattle.yaml_round_laws_reading.proofs.round_content.round_laws_adapted.AdaptedLemmas.{adapted_utf8}
+use Rattle.yaml_round_laws_reading.proofs.AdaptedLemmas.{adapted_utf8}
 use Rattle.yaml_round_laws_reading.specs.round_content.scan_history.scan_decode.declared.offence.Offence.{Offence}
 use Rattle.yaml_round_laws_reading.specs.round_content.scan_history.scan_decode.declared.offence.Character.{Character}
 use Rattle.yaml_round_laws_reading.specs.round_content.scan_history.scan_decode.Encodings.{encoding_of, mark_length}
 use Rattle.yaml_round_laws_reading.specs.round_content.scan_history.scan_decode.Characters.{between, is_allowed, is_low_surrogate, is_high_surrogate, is_trailing, allowed_at, valued_at, least_code, sequence_of, utf8_code, utf8_of, utf16_of, character_at}
 use Rattle.yaml_round_laws_reading.specs.round_content.scan_history.scan_decode.Decoding.{before, led_by, characters, in_utf8, decoded_characters, decoded_text}
-use Rattle.yaml_round_laws_reading.proofs.round_content.scan_history.scan_decode.SpellingLemmas.{allowed_scalar}
+use Rattle.yaml_round_laws_reading.proofs.SpellingLemmas.{allowed_scalar}
 
 -- ---- a character
 

@@ -17,7 +17,7 @@ use Rattle.yaml_round_laws_reading.specs.round_content.emit_layout.Grammar.{open
 use Rattle.yaml_round_laws_reading.specs.round_content.Normalize.{is_lone_mark, normalize_scalar, normalize_body}
 use Rattle.yaml_round_laws_reading.specs.round_content.Content.{content_of}
 use Rattle.yaml_round_laws_reading.specs.round_content.Events.{emitter_events, contents}
-use Rattle.yaml_round_laws_reading.proofs.round_content.Emitted.{or_both}
+use Rattle.yaml_round_laws_reading.proofs.Emitted.{or_both}
 use Rattle.yaml_round_laws_dumps.specs.Writable.{IsName, IsAnchor, IsTag, HavePrefixes}
 use Rattle.yaml_round_laws_dumps.specs.WritableLaws.{HaveUtf8Texts}
 use Rattle.yaml_round_laws_dumps.proofs.Scalars.{IsNoMark, IsScalarRight, IsRight, AreRight}

@@ -17,8 +17,8 @@ use Rattle.yaml_round_laws_reading.specs.round_content.parse_grammar.Machine.{ru
 use Rattle.yaml_round_laws_reading.specs.round_content.parse_grammar.Resolve.{Directives, no_directives, Settled, refused, gave, noted, settle, settle_body, resolved, directive_for, with_resolved, with_tag, with_version, is_known_version, is_plain, node_event, Told, Reading, read_on, reading}
 use Rattle.yaml_round_laws_reading.specs.round_content.Normalize.{is_lone_mark}
 use Rattle.yaml_round_laws_reading.specs.round_content.Input.{tokens_of, events_of, read}
-use Rattle.yaml_round_laws_reading.proofs.round_content.Spellings.{IsWhole, IsSpelledItem}
-use Rattle.yaml_round_laws_reading.proofs.round_content.Runs.{GivenSpelled, stream_spelled}
+use Rattle.yaml_round_laws_reading.proofs.Spellings.{IsWhole, IsSpelledItem}
+use Rattle.yaml_round_laws_reading.proofs.Runs.{GivenSpelled, stream_spelled}
 use Rattle.yaml_round_laws_dumps.proofs.Tokens.{tokens_spelled}
 
 -- ---- a scalar

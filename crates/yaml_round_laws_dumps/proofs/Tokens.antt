@@ -8,7 +8,7 @@ use Rattle.yaml_round_laws_reading.specs.round_content.scan_history.Scanned.{sca
 use Rattle.yaml_round_laws_reading.specs.round_content.Input.{tokens_of}
 use Rattle.yaml_round_laws_reading.specs.round_content.round_laws_adapted.Adapted.{spells_text, cut}
 use Rattle.yaml_round_laws_reading.specs.round_content.scan_laws_names.Spelled.{AreSpelled}
-use Rattle.yaml_round_laws_reading.proofs.round_content.scan_laws_names.Inputs.{scanned_spelled}
+use Rattle.yaml_round_laws_reading.proofs.Inputs.{scanned_spelled}
 
 cut_spelled : (fault : Option Fault) (ts : List Token) → AreSpelled ts → AreSpelled (cut fault ts).tokens
 cut_spelled fault [] h = tt

@@ -17,7 +17,7 @@ use Rattle.yaml_round_laws_reading.specs.round_content.parse_grammar.Machine.{ch
 use Rattle.yaml_round_laws_reading.specs.round_content.parse_grammar.Resolve.{Directives, no_directives, Settled, refused, gave, noted, settle, Reading, read_on, reading}
 use Rattle.yaml_round_laws_reading.specs.round_content.parse_grammar.Texts.{IsUtf8Item, AreUtf8States}
 use Rattle.yaml_round_laws_reading.specs.round_content.Input.{tokens_of, read}
-use Rattle.yaml_round_laws_reading.proofs.round_content.parse_grammar.Utf8.{IsUtf8Taken, states_over, taken_utf8, left_utf8, IsUtf8Settled, settled_utf8}
+use Rattle.yaml_round_laws_reading.proofs.Utf8.{IsUtf8Taken, states_over, taken_utf8, left_utf8, IsUtf8Settled, settled_utf8}
 use Rattle.yaml_round_laws_dumps.specs.WritableLaws.{HaveUtf8Texts, InputsHaveUtf8}
 use Rattle.yaml_round_laws_dumps.proofs.Decoded.{tokens_utf8}
 

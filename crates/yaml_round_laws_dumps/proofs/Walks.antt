@@ -12,7 +12,7 @@ use Rattle.yaml_round_laws_dumps.specs.content.emit_laws_streams.emit_graph.decl
 use Rattle.yaml_round_laws_dumps.specs.content.emit_laws_streams.emit_graph.declared.walk.Turn.TheVariants.{First, Again}
 use Rattle.yaml_round_laws_dumps.specs.content.emit_laws_streams.emit_graph.Graph.{Met, is_met, meet, body_at, tag_at, body_of_id, tag_of_id, none_met, turns, none_numbered, numbered, numbers, number_at, anchor_of, graph_root, graph_content}
 use Rattle.yaml_round_laws_dumps.specs.content.emit_laws_streams.emit_graph.Onward.{Rest, inside, visits, nothing_left, items_by, pairs_by, node_by, content_by, itself, turns_onward, root_onward}
-use Rattle.yaml_round_laws_dumps.proofs.content.emit_laws_streams.emit_graph.Joining.{turns_joined, root_joined}
+use Rattle.yaml_round_laws_dumps.proofs.Joining.{turns_joined, root_joined}
 use Rattle.yaml_round_laws_dumps.specs.content.Said.{Node, Nodes, Pairs, Document, node, pair, sequence, mapping}
 use Rattle.yaml_round_laws_dumps.specs.content.Trees.{tree_of, trees_of, pair_trees_of, document_tree, document_trees}
 use Rattle.yaml_round_laws_dumps.specs.Agree.{CoreNode, Core, core_body, core_node, core_of}

@@ -4,7 +4,7 @@ use Rattle.yaml_round_laws_reading.specs.round_content.parse_model.Events.{Event
 use Rattle.yaml_round_laws_reading.specs.round_content.parse_model.Events as event
 use Rattle.yaml_round_laws_reading.specs.round_content.Input.{events_of}
 use Rattle.yaml_round_laws_reading.specs.round_content.Said.{Mark, untagged, tagged, Node, alias, scalar, sequence, mapping, Nodes, no_nodes, node, Pairs, no_pairs, pair, Document, scalar_says, node_says, items_say, pairs_say, documents_say}
-use Rattle.yaml_round_laws_reading.proofs.round_content.ContentInputs.{input_stream}
+use Rattle.yaml_round_laws_reading.proofs.ContentInputs.{input_stream}
 use Rattle.yaml_round_laws_dumps.specs.Writable.{IsWritable, AreItemsWritable, ArePairsWritable, AreWritable}
 use Rattle.yaml_round_laws_dumps.specs.WritableLaws.{InputsAreWritable}
 use Rattle.yaml_round_laws_dumps.proofs.Scalars.{input_right}

@@ -12,7 +12,7 @@ use Rattle.yaml_round_laws_canonical.specs.parse_grammar.Trees as trees
 use Rattle.yaml_round_laws_canonical.specs.parse_grammar.Machine.{Outcome}
 use Rattle.yaml_round_laws_canonical.specs.parse_grammar.Resolve.{no_directives, gave, settle, Reading, reading}
 use Rattle.yaml_round_laws_canonical.specs.parse_grammar.Remaining.{reading_of}
-use Rattle.yaml_round_laws_canonical.proofs.parse_grammar.CompleteStream.{stream_runs}
+use Rattle.yaml_round_laws_canonical.proofs.CompleteStream.{stream_runs}
 use Rattle.yaml_emit_laws_pretty.specs.emit_layout.Content.{Document}
 use Rattle.yaml_emit_laws_pretty.specs.Bodies.{json_bodies, start_bodies, stop_bodies}
 use Rattle.yaml_round_laws_canonical.specs.TreeLaws.{token_bodies, event_bodies, Says, parsed_of}

@@ -5,7 +5,7 @@ use Rattle.yaml_round_laws_canonical.specs.parse_grammar.Resolve.{Told}
 use Rattle.yaml_round_laws_dumps.specs.content.Events.{emitter_events}
 use Rattle.yaml_round_laws_dumps.specs.content.Input.{events_of}
 use Rattle.yaml_round_laws_dumps.specs.round_laws_reading.Reading.{HasEvents}
-use Rattle.yaml_round_laws_dumps.proofs.round_laws_reading.Joining.{events_of_tree}
+use Rattle.yaml_round_laws_dumps.proofs.ReadingJoining.{events_of_tree}
 use Rattle.yaml_emit_laws_pretty.specs.emit_layout.Content.{Document, stream_events}
 use Rattle.yaml_emit_laws_pretty.specs.Json.{IsJsonShaped}
 use Rattle.yaml_round_laws_kept.specs.Laws.{IsJsonInput, JsonInputsAreLaidOut, JsonStaysPretty}

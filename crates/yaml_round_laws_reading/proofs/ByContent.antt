@@ -2,7 +2,7 @@
 use Rattle.std.proofs.Common.{refl}
 use Rattle.yaml_round_content.specs.parse_grammar.Machine.{initial}
 use Rattle.yaml_round_content.specs.parse_grammar.Resolve.{no_directives}
-use Rattle.yaml_round_content.proofs.parse_laws_loading.AllGiven.{run_loads}
+use Rattle.yaml_round_content.proofs.AllGiven.{run_loads}
 use Rattle.yaml_round_laws_reading.specs.Loading.{read_of}
 use Rattle.yaml_round_laws_reading.specs.NextLoads.{SourcesLoadByContent}
 

@@ -8,17 +8,17 @@ use Rattle.yaml_round_content.specs.parse_grammar.TreeSteps.{items}
 use Rattle.yaml_round_content.specs.parse_grammar.Machine.{Outcome, run, initial}
 use Rattle.yaml_round_content.specs.parse_grammar.Resolve.{Reading, reading, no_directives}
 use Rattle.yaml_round_content.specs.parse_grammar.Remaining.{reading_of}
-use Rattle.yaml_round_content.proofs.parse_grammar.CompleteStream.{stream_runs}
+use Rattle.yaml_round_content.proofs.CompleteStream.{stream_runs}
 use Rattle.yaml_round_content.specs.parse_laws_loading.parse_laws_faults.Places.{BeginsWithSentence, FaultOfTokens}
-use Rattle.yaml_round_content.proofs.parse_laws_loading.parse_laws_faults.Ending.{ends_in_fault, fault_ends}
-use Rattle.yaml_round_content.proofs.parse_laws_loading.parse_laws_faults.Turns.{items_given}
+use Rattle.yaml_round_content.proofs.TreesEnding.{ends_in_fault, fault_ends}
+use Rattle.yaml_round_content.proofs.Turns.{items_given}
 use Rattle.yaml_round_content.specs.Events.{contents}
 use Rattle.yaml_round_content.specs.Input.{tokens_of, read, events_of, ending_of}
 use Rattle.yaml_round_content.specs.Said.{Document, HasContent, stream_says}
 use Rattle.yaml_round_content.proofs.Injective.{says_injective}
 use Rattle.yaml_round_laws_reading.specs.TreeContent.{tree_content}
 use Rattle.yaml_round_laws_reading.specs.Reading.{TokensRead, InputsRead, ReadingIsOne, RefusedIsRead, ReadIsRefused, SaidIsRead, ReadIsSaid, EventsAreOfTree}
-use Rattle.yaml_round_content.proofs.parse_laws_loading.parse_laws_faults.Spelling.{spelled_before}
+use Rattle.yaml_round_content.proofs.Spelling.{spelled_before}
 use Rattle.yaml_round_laws_reading.proofs.Documents.{tree_says}
 
 -- ---- tokens

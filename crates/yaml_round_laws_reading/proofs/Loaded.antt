@@ -8,8 +8,8 @@ use Rattle.yaml_round_content.specs.parse_laws_loading.parse_laws_faults.Places.
 use Rattle.yaml_round_content.specs.parse_laws_loading.parse_document.Documents.{Document}
 use Rattle.yaml_parse_loader.specs.Loading.{nothing_loaded}
 use Rattle.yaml_round_content.specs.parse_laws_loading.Faults.{LoadsSentence, FaultOfLoading}
-use Rattle.yaml_round_content.proofs.parse_laws_loading.Unique.{one_load_fault}
-use Rattle.yaml_round_content.proofs.parse_laws_loading.Ending.{loads_end_in_fault}
+use Rattle.yaml_round_content.proofs.Unique.{one_load_fault}
+use Rattle.yaml_round_content.proofs.Ending.{loads_end_in_fault}
 use Rattle.yaml_round_content.specs.Input.{tokens_of}
 use Rattle.yaml_round_content.specs.Loads.{Loads, load_all, loads_of}
 use Rattle.yaml_round_laws_reading.specs.TreeDocuments.{tree_documents, numbered}

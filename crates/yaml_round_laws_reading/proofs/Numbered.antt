@@ -7,14 +7,14 @@ use Rattle.yaml_round_content.specs.parse_grammar.Trees.{Span, Stream}
 use Rattle.yaml_round_content.specs.parse_grammar.TreeSteps.{items}
 use Rattle.yaml_round_content.specs.parse_grammar.Resolve.{Reading, Told, reading, no_directives}
 use Rattle.yaml_round_content.specs.parse_laws_loading.parse_laws_faults.Places.{BeginsWithSentence}
-use Rattle.yaml_round_content.proofs.parse_laws_loading.parse_laws_faults.Ending.{fault_ends}
+use Rattle.yaml_round_content.proofs.TreesEnding.{fault_ends}
 use Rattle.yaml_round_content.specs.parse_laws_loading.parse_document.Documents as documents
 use Rattle.yaml_parse_loader.specs.Numbering.{DocumentContent, document_events, document_of}
 use Rattle.yaml_parse_loader.specs.Loading.{Loading, LoadStep, goes_on, loaded, refused, nothing_loaded, step, turn, load, behind}
 use Rattle.yaml_parse_loader.specs.Loading as loading
 use Rattle.yaml_round_content.specs.parse_laws_loading.NextLoad.{NextLoad, next_document, next_fault, next_none}
-use Rattle.yaml_round_content.proofs.parse_laws_loading.ByStep as parse
-use Rattle.yaml_round_content.proofs.parse_laws_loading.NextLoads.{IsOf, load_is}
+use Rattle.yaml_round_content.proofs.ByStep as parse
+use Rattle.yaml_round_content.proofs.NextLoads.{IsOf, load_is}
 use Rattle.yaml_round_content.specs.Input.{tokens_of}
 use Rattle.yaml_round_content.specs.Loads.{Loads, no_more, in_front, load_on, load_all}
 use Rattle.yaml_round_laws_reading.specs.TreeDocuments.{tree_documents, numbered_one, numbered}

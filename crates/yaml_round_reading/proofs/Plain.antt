@@ -11,7 +11,7 @@ use Rattle.yaml_round_laws_reading.specs.round_content.Said.{HasContent}
 use Rattle.yaml_round_laws_reading.specs.TreeContent.{tree_content}
 use Rattle.yaml_round_laws_reading.specs.Reading.{PlainReading, HasEvents}
 use Rattle.yaml_round_laws_reading.proofs.Joining.{refused_read, read_refused, said_read, read_said, events_of_tree}
-use Rattle.yaml_round_laws_reading.proofs.round_content.ContentInputs.{have_content}
+use Rattle.yaml_round_laws_reading.proofs.ContentInputs.{have_content}
 use Rattle.yaml_round_reading.specs.Answers.{IsRight, IsFaulty, SameContent}
 
 -- ---- one input

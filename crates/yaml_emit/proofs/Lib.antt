@@ -1,3 +1,1 @@
 mod Told
-
--- what it stands on, for crates that name the member alone

@@ -8,5 +8,3 @@ pub mod Early
 pub mod Verdicts
 pub mod Dumped
 pub mod Opened
-
--- what it stands on, for crates that name this one alone

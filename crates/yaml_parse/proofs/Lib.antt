@@ -4,6 +4,3 @@ pub use Rattle.yaml_parse_step.proofs.AllGiven
 pub use Rattle.yaml_parse_step.proofs.ByStep
 pub use Rattle.yaml_parse_step.proofs.NextLoads
 pub use Rattle.yaml_parse_step.proofs.Sentences
-
--- its grammar, for crates of laws that name the member alone
--- the laws of its faults and events, for the same

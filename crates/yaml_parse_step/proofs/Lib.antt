@@ -7,7 +7,7 @@ pub mod Heights
 pub mod Swiftness
 pub mod Sentences
 -- what it stands on, for crates that name this one alone
-pub use Rattle.yaml_parse_laws_loading.proofs.AllGiven
-pub use Rattle.yaml_parse_laws_loading.proofs.ByContent
-pub use Rattle.yaml_parse_laws_loading.proofs.ByStep
-pub use Rattle.yaml_parse_laws_loading.proofs.NextLoads
+pub use Rattle.yaml_parse_laws_trees.proofs.AllGiven
+pub use Rattle.yaml_parse_laws_trees.proofs.ByContent
+pub use Rattle.yaml_parse_laws_trees.proofs.ByStep
+pub use Rattle.yaml_parse_laws_trees.proofs.NextLoads

@@ -7,14 +7,38 @@ mod Sound
 mod Written
 pub mod Laid
 pub mod Whole
+mod Encoding
+pub mod Characters
+pub mod Layouts
+pub mod Leaves
+mod Nodes
+pub mod Marks
+pub mod CanonicalJoining
+mod CanonicalPremises
+pub mod Growing
+pub mod Documents
+pub mod Passing
+mod KeptGrowing
+mod KeptDocuments
+mod KeptPassing
+mod KeptNodes
+mod Bytes
+mod Texts
+mod Contents
+mod KeptReadBack
+pub mod KeptWhole
+mod Injective
+pub mod KeptJoining
 -- what they speak of, and the laws beneath, for crates that name this one alone
-pub use Rattle.yaml_round_laws_dumps.proofs.Contents
-pub use Rattle.yaml_round_laws_dumps.proofs.DumpsLoading as Loading
-pub use Rattle.yaml_round_laws_dumps.proofs.Passing
-pub use Rattle.yaml_round_laws_dumps.proofs.ContentInputs
-pub use Rattle.yaml_round_laws_dumps.proofs.Layouts
-pub use Rattle.yaml_round_laws_dumps.proofs.StreamsInputs
-pub use Rattle.yaml_round_laws_dumps.proofs.Flags
-pub use Rattle.yaml_round_laws_dumps.proofs.Walks
-pub use Rattle.yaml_round_laws_dumps.proofs.ReadingJoining
-pub use Rattle.yaml_round_laws_dumps.proofs.ReadingLoaded as Loaded
+pub use Rattle.yaml_round_content.proofs.Contents as DocumentsContents
+pub use Rattle.yaml_round_content.proofs.ContentLoading as Loading
+pub use Rattle.yaml_round_content.proofs.Passing as DocumentsPassing
+pub use Rattle.yaml_round_content.proofs.ContentInputs
+pub use Rattle.yaml_round_content.proofs.Layouts as DocumentsLayouts
+pub use Rattle.yaml_round_content.proofs.StreamsInputs
+pub use Rattle.yaml_round_content.proofs.Flags
+pub use Rattle.yaml_round_content.proofs.Walks
+pub use Rattle.yaml_round_content.proofs.Joining as ReadingJoining
+pub use Rattle.yaml_round_content.proofs.Loaded
+-- what it stands on, for crates that name this one alone
+pub use Rattle.yaml_parse_grammar.proofs.CompleteStream

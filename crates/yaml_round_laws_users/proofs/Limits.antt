@@ -20,7 +20,7 @@ use Rattle.yaml_round.specs.round_laws_documents.content.Said.{Document}
 use Rattle.yaml_round.specs.round_laws_documents.content.Canon.{written_documents, canon_items, canon_encoding}
 use Rattle.yaml_round.specs.round_laws_reading.Reading.{PlainReading}
 use Rattle.yaml_round.specs.round_laws_reading.PlainLoading.{PlainLoading, unless_faulty}
-use Rattle.yaml_round.specs.round_laws_documents.round_laws_dumps.Events.{trees_of_dumps}
+use Rattle.yaml_round.specs.round_laws_documents.content.DumpsEvents.{trees_of_dumps}
 use Rattle.yaml_round.specs.round_laws_documents.Normal.{ended}
 use Rattle.yaml_round.specs.declared.yaml_settings_t.{yaml_settings_t}
 use Rattle.yaml_round.specs.Reading.{emitter_events}

@@ -8,7 +8,7 @@ mod Staying
 pub mod Reloading
 mod Streams
 -- the laws beneath, for crates that name this one alone
-pub use Rattle.yaml_round_laws_documents.proofs.Layouts
+pub use Rattle.yaml_round_laws_documents.proofs.DocumentsLayouts as Layouts
 pub use Rattle.yaml_round_laws_documents.proofs.Laid
 pub use Rattle.yaml_round_laws_documents.proofs.ReadBack
 pub use Rattle.yaml_round_laws_documents.proofs.Whole

@@ -32,7 +32,7 @@ use Rattle.yaml_round_laws_documents.proofs.Loaded.{faultless_load, faulty_load}
 use Rattle.yaml_round_writing.proofs.Laying.{Led, starts, layout, past, one_layout, one_past}
 use Rattle.yaml_round_writing.proofs.Streams.{loaded_text}
 use Rattle.yaml_round_writing.proofs.Documents.{in_normal_documents}
-use Rattle.yaml_round_laws_documents.specs.round_laws_dumps.Events.{AreNumerable}
+use Rattle.yaml_round_laws_documents.specs.content.DumpsEvents.{AreNumerable}
 
 -- ---- the next document
 

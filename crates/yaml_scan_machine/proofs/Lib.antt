@@ -19,5 +19,3 @@ pub mod LetterLemmas
 pub mod BoundLemmas
 pub mod IndicatorLemmas
 pub mod RowLemmas
-
--- what it stands on, for crates that name this one alone

@@ -5,7 +5,8 @@
 
 A path begins with a crate that stands in the crate's line of crates.txt, and goes through the modules that a `Lib.antt` hands
 on; it ends in a file there, and the names behind it are those of its public definitions, or in a type that the crate's code
-declares or hands out. What std and the kit hold isn't looked at. Nothing is proved here: it takes seconds.
+declares or hands out. What std and the kit hold isn't looked at. A `Lib.antt` may hand on a module under one name alone. Nothing
+is proved here: it takes seconds.
 """
 import functools
 import glob
@@ -86,9 +87,24 @@ def wrong(crate, words, names):
     return f"{path} has no {', '.join(missing)}" if missing else None
 
 
+def twice(crate, tree):
+    """The names under which a crate hands on what it hands on under another name too."""
+    met, found = set(), []
+    for name, path in handed_on(crate, tree)[2].items():
+        at = repr(walked(path, crate))
+        if at in met:
+            found.append(name)
+        met.add(at)
+    return found
+
+
 def main():
     found = 0
     for crate in repo.crates():
+        for tree in ("specs", "proofs"):
+            for name in twice(crate, tree):
+                found += 1
+                print(f"crates/{crate}/{tree}/Lib.antt: {name}: is handed on under another name too")
         folder = f"{repo.TOP}/crates/{crate}"
         paths = [it for part in ("src", "specs", "proofs") for it in glob.glob(f"{folder}/{part}/**/*", recursive=True)]
         for path in sorted(os.path.relpath(it, repo.TOP) for it in paths if it.endswith((".rt", ".antt"))):

@@ -6,8 +6,8 @@ use Rattle.yaml_emit_graph.specs.emit_layout.scan.declared.yaml_scalar_style_t.{
 use Rattle.yaml_emit_graph.specs.emit_layout.scan.declared.yaml_scalar_style_t.TheVariants.{YAML_ANY_SCALAR_STYLE}
 use Rattle.yaml_emit_graph.specs.emit_layout.parse.declared.yaml_node_pair_t.{yaml_node_pair_t}
 use Rattle.yaml_emit_graph.specs.emit_layout.parse.Nodes as model
-use Rattle.yaml_parse_laws_loading.specs.parse_document.Documents.{seq_tag, map_tag}
-use Rattle.yaml_parse_laws_loading.specs.parse_document.Documents as documents
+use Rattle.yaml_parse_laws_trees.specs.parse_document.Documents.{seq_tag, map_tag}
+use Rattle.yaml_parse_laws_trees.specs.parse_document.Documents as documents
 use Rattle.yaml_emit_graph.specs.emit_layout.declared.Problem.TheVariants as problem
 use Rattle.yaml_emit_graph.specs.emit_layout.Content.{Node, alias_node, scalar_node, sequence_node, mapping_node, Nodes, no_nodes, node, Pairs, no_pairs, pair, Event, document_start, document_end, sequence_end, mapping_end, is_flow_sequence, is_flow_mapping, node_events, items_events, pairs_events, documents_events}
 use Rattle.yaml_emit_graph.specs.emit_layout.Grammar.{kept_if, anchor_problem, tag_problem, event_problem, last_problem, own_problems}

@@ -11,6 +11,20 @@ mod Pairing
 pub mod Loaded
 pub mod Whole
 -- what it stands on, for crates that name this one alone
-pub use Rattle.yaml_emit_graph.proofs as emit_graph
-pub use Rattle.yaml_parse_laws_loading.proofs as parse_laws_loading
-pub use Rattle.yaml_parse_laws_loading.proofs.parse_laws_faults.grammar as parse_grammar
+pub use Rattle.yaml_emit_graph.proofs.Joining
+pub use Rattle.yaml_parse_laws_trees.proofs.LoadingSound as Sound
+pub use Rattle.yaml_parse_laws_trees.proofs.CompleteStream
+pub use Rattle.yaml_parse_laws_trees.proofs.Single
+pub use Rattle.yaml_parse_laws_trees.proofs.Utf8
+pub use Rattle.yaml_parse_laws_trees.proofs.Voice
+pub use Rattle.yaml_parse_laws_trees.proofs.AllGiven
+pub use Rattle.yaml_parse_laws_trees.proofs.ByStep
+pub use Rattle.yaml_parse_laws_trees.proofs.LoadingEnding as Ending
+pub use Rattle.yaml_parse_laws_trees.proofs.NextLoads
+pub use Rattle.yaml_parse_laws_trees.proofs.Unique
+pub use Rattle.yaml_parse_laws_trees.proofs.Ending as TreesEnding
+pub use Rattle.yaml_parse_laws_trees.proofs.Spelling
+pub use Rattle.yaml_parse_laws_trees.proofs.Turns
+pub use Rattle.yaml_parse_laws_trees.proofs.Keeps
+pub use Rattle.yaml_parse_laws_trees.proofs.Loads
+pub use Rattle.yaml_parse_laws_trees.proofs.Visited

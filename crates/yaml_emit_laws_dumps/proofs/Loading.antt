@@ -6,14 +6,14 @@ use Rattle.yaml_emit_graph.specs.emit_layout.scan.declared.yaml_mark_t.{yaml_mar
 use Rattle.yaml_emit_graph.specs.emit_layout.scan.Faults.{Fault}
 use Rattle.yaml_emit_graph.specs.emit_layout.parse.Events as event
 use Rattle.yaml_emit_graph.specs.emit_layout.parse.Nodes as model
-use Rattle.yaml_parse_laws_loading.specs.parse_document.Documents.{Document, with_node, change_place, str_tag, seq_tag, map_tag, no_document}
-use Rattle.yaml_parse_laws_loading.specs.parse_laws_faults.grammar.Resolve.{Told}
-use Rattle.yaml_parse_laws_loading.specs.parse_loader.Numbering.{loaded_tag, is_bang}
-use Rattle.yaml_parse_laws_loading.specs.parse_loader.Loading.{Open, Loading, LoadStep, goes_on, loaded, refused, nothing_loaded, step, step_body, aliased, closed, filled}
-use Rattle.yaml_parse_laws_loading.specs.NextLoad.{NextLoad, next_document, next_fault, next_none}
-use Rattle.yaml_parse_laws_loading.proofs.ByStep.{Loads, load_on, behind_all, loads}
-use Rattle.yaml_parse_laws_loading.proofs.ByStep as load
-use Rattle.yaml_parse_laws_loading.proofs.NextLoads.{IsOf, load_is}
+use Rattle.yaml_parse_laws_trees.specs.parse_document.Documents.{Document, with_node, change_place, str_tag, seq_tag, map_tag, no_document}
+use Rattle.yaml_parse_laws_trees.specs.grammar.Resolve.{Told}
+use Rattle.yaml_parse_laws_trees.specs.parse_loader.Numbering.{loaded_tag, is_bang}
+use Rattle.yaml_parse_laws_trees.specs.parse_loader.Loading.{Open, Loading, LoadStep, goes_on, loaded, refused, nothing_loaded, step, step_body, aliased, closed, filled}
+use Rattle.yaml_parse_laws_trees.specs.NextLoad.{NextLoad, next_document, next_fault, next_none}
+use Rattle.yaml_parse_laws_trees.proofs.ByStep.{Loads, load_on, behind_all, loads}
+use Rattle.yaml_parse_laws_trees.proofs.ByStep as load
+use Rattle.yaml_parse_laws_trees.proofs.NextLoads.{IsOf, load_is}
 use Rattle.std.specs.FinMap as map
 use Rattle.yaml_emit_graph.specs.emit_layout.declared.Problem.{Problem}
 use Rattle.yaml_emit_graph.specs.emit_layout.declared.Problem.TheVariants as problem

@@ -4,6 +4,6 @@ pub mod DumpsLaws
 -- what it stands on, for crates that name this one alone
 pub use Rattle.yaml_emit_graph.specs as emit_graph
 pub use Rattle.yaml_emit_graph.specs.emit_layout
-pub use Rattle.yaml_parse_laws_loading.specs as parse_laws_loading
-pub use Rattle.yaml_parse_laws_loading.specs.parse_laws_faults.grammar as parse_grammar
-pub use Rattle.yaml_parse_laws_loading.specs.parse_laws_faults.grammar.parse_model
+pub use Rattle.yaml_parse_laws_trees.specs as parse_laws_loading
+pub use Rattle.yaml_parse_laws_trees.specs.grammar as parse_grammar
+pub use Rattle.yaml_parse_laws_trees.specs.grammar.parse_model

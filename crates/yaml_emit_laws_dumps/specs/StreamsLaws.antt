@@ -4,10 +4,10 @@ use Rattle.yaml_emit_graph.specs.emit_layout.scan.declared.yaml_encoding_t.{yaml
 use Rattle.yaml_emit_graph.specs.emit_layout.scan.Faults.{Fault}
 use Rattle.yaml_emit_graph.specs.emit_layout.parse.Events as event
 use Rattle.yaml_emit_graph.specs.emit_layout.parse.Nodes as model
-use Rattle.yaml_parse_laws_loading.specs.parse_document.Documents as documents
-use Rattle.yaml_parse_laws_loading.specs.parse_laws_faults.grammar.Resolve.{Told}
-use Rattle.yaml_parse_laws_loading.specs.parse_loader.Loading.{Loading, LoadStep, goes_on, loaded, refused, step}
-use Rattle.yaml_parse_laws_loading.specs.NextLoad.{NextLoad, next_document, next_fault, next_none, IsLoadOf}
+use Rattle.yaml_parse_laws_trees.specs.parse_document.Documents as documents
+use Rattle.yaml_parse_laws_trees.specs.grammar.Resolve.{Told}
+use Rattle.yaml_parse_laws_trees.specs.parse_loader.Loading.{Loading, LoadStep, goes_on, loaded, refused, step}
+use Rattle.yaml_parse_laws_trees.specs.NextLoad.{NextLoad, next_document, next_fault, next_none, IsLoadOf}
 use Rattle.yaml_emit_graph.specs.emit_layout.emit_text.declared.Encoding.{Encoding}
 use Rattle.yaml_emit_graph.specs.emit_layout.emit_text.declared.RequestedSettings.{RequestedSettings}
 use Rattle.yaml_emit_graph.specs.emit_layout.emit_text.Text.{Item}

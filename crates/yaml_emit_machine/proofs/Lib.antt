@@ -8,6 +8,3 @@ pub mod Early
 pub mod Verdicts
 pub mod Dumped
 pub mod Opened
--- what it stands on, for crates that name this one alone
-pub use Rattle.yaml_emit_layout.proofs as emit_layout
-pub use Rattle.yaml_emit_graph.proofs as emit_graph

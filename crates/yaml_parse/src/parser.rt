@@ -21,7 +21,7 @@ ghost use Rattle.yaml_parse_step.specs.Fronts.{BeginsTree};
 ghost use Rattle.yaml_parse_step.specs.Finds.{NextOf, Finds, IsUtf8Found, IsStackFound};
 ghost use Rattle.yaml_parse_step.specs.Steps.{Turns, IsUtf8Turn, IsStackTurn};
 ghost use Rattle.yaml_parse_step.specs.Turned.{turned};
-ghost use Rattle.yaml_parse_step.specs.parse_laws_loading.NextLoad.{AreLoadsByContent};
+ghost use Rattle.yaml_parse_step.specs.parse_laws_given.NextLoad.{AreLoadsByContent};
 ghost use Rattle.yaml_parse_step.specs.parse_grammar.Stacks.{parts_documents_behind};
 
 use std::alloc::Global;

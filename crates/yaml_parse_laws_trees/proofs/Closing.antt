@@ -20,7 +20,7 @@ use Rattle.yaml_parse_laws_trees.specs.grammar.States as state
 use Rattle.yaml_parse_laws_trees.specs.grammar.Trees.{Span, closing, token_at}
 use Rattle.yaml_parse_laws_trees.specs.grammar.Trees as tree
 use Rattle.yaml_parse_laws_trees.specs.grammar.Machine.{starts_node, wants_of, follows, no_node, closes, no_end, parts_documents, choice_at, left_at, Fed, stop, go, with_item, turn, feed, Outcome, run}
-use Rattle.yaml_parse_laws_trees.proofs.grammar.Complete.{leaves_at}
+use Rattle.yaml_parse_laws_trees.proofs.Complete.{leaves_at}
 use Rattle.yaml_parse_laws_trees.specs.SoundLaws.{bare, BeginsWithItems}
 use Rattle.yaml_parse_laws_trees.proofs.Left.{Left, Over, properties_alone, not_left, not_left_first}
 use Rattle.yaml_parse_laws_trees.proofs.SoundStanding.{Goes, Fits, Closed, Stood, AllStood}

@@ -11,7 +11,7 @@ use Rattle.yaml_parse_laws_trees.specs.grammar.Trees.{Stream, spell}
 use Rattle.yaml_parse_laws_trees.specs.grammar.Machine.{Fed, stop, go, feed, Outcome, finished, carry, run, initial, left_where_stopped, unasked_at_stop}
 use Rattle.yaml_parse_laws_trees.specs.grammar.Resolve.{Directives, no_directives, reading, unasked_at_fault}
 use Rattle.yaml_parse_laws_trees.specs.grammar.Remaining.{reading_of, unasked_of}
-use Rattle.yaml_parse_laws_trees.proofs.grammar.CompleteStream.{stream_runs, nothing_runs}
+use Rattle.yaml_parse_laws_trees.proofs.CompleteStream.{stream_runs, nothing_runs}
 use Rattle.yaml_parse_laws_trees.specs.SoundLaws.{TreeGoesOn}
 use Rattle.yaml_parse_laws_trees.proofs.Left.{Over}
 use Rattle.yaml_parse_laws_trees.proofs.SoundStanding.{AllStood, FedStood, feed_stood}

@@ -12,7 +12,7 @@ use Rattle.yaml_parse_laws_trees.specs.grammar.Machine.{Fed, stop, go, feed, Out
 use Rattle.yaml_parse_laws_trees.specs.grammar.Resolve.{Told, reading, no_directives}
 use Rattle.yaml_parse_laws_trees.specs.grammar.Remaining.{reading_of}
 use Rattle.yaml_parse_laws_trees.specs.SoundLaws.{TreeGoesOn, BeginsWithTree, bare, RefusedAt, RunsOut}
-use Rattle.yaml_parse_laws_trees.proofs.grammar.CompleteStream.{stream_runs, nothing_runs}
+use Rattle.yaml_parse_laws_trees.proofs.CompleteStream.{stream_runs, nothing_runs}
 use Rattle.yaml_parse_laws_trees.proofs.Left.{Over}
 use Rattle.yaml_parse_laws_trees.proofs.Closing.{closers, Empty, all_close}
 use Rattle.yaml_parse_laws_trees.proofs.Sound.{accepted_trees}

@@ -22,7 +22,7 @@ use Rattle.yaml_parse_laws_trees.specs.grammar.States as state
 use Rattle.yaml_parse_laws_trees.specs.grammar.Trees.{Span, token_at, AnchorToken, TagToken, anchor_token, tag_token, PropertyTokens, spell_properties, Node, Content, Maybe, Colon, Items, More, Entries, Others, Pairs, Directive, Documents, First, Stream, spell_node, spell_content, spell_maybe, spell_colon, spell_items, spell_more, spell_entries, spell_others, spell_pairs, spell_directives, spell_ends, spell_documents, spell_first, spell}
 use Rattle.yaml_parse_laws_trees.specs.grammar.Trees as tree
 use Rattle.yaml_parse_laws_trees.specs.grammar.Machine.{starts_content, starts_node, wants_of, closes, parts_documents, follows, no_node, no_end, joins, choice_at, documents_taken, content_taken, node_taken, with_properties_taken, items_taken, more_taken, entries_taken, pairs_taken, stream_taken, lone_below, taken_at}
-use Rattle.yaml_parse_laws_trees.proofs.grammar.Single.{opens_node}
+use Rattle.yaml_parse_laws_trees.proofs.Single.{opens_node}
 
 -- tokens that a tree of a kind spells, in front of others
 pub record Spelled (T : Type 0) (spelling : T → List Token → List Token) (P : List Token → Type 0) (ts : List Token) : Type 0 where

@@ -28,5 +28,28 @@ mod Behind
 mod Counting
 pub mod Giving
 mod GivenRows
+mod Placing
+pub mod Unique
+mod Ends
+mod Faring
+mod Fitting
+mod LoadingTaking
+mod Feeding
+pub mod LoadingEnding
+mod Rows
+pub mod ByStep
+pub mod NextLoads
+pub mod ByContent
+mod ToGive
+pub mod AllGiven
 -- what it stands on, for crates that name this one alone
-pub use Rattle.yaml_parse_grammar.proofs as grammar
+pub use Rattle.yaml_parse_grammar.proofs.Complete
+pub use Rattle.yaml_parse_grammar.proofs.CompleteStream
+pub use Rattle.yaml_parse_grammar.proofs.Single
+pub use Rattle.yaml_parse_grammar.proofs.Utf8
+pub use Rattle.yaml_parse_grammar.proofs.Voice
+-- the laws beneath, for crates that name this one alone
+pub use Rattle.yaml_parse_document.proofs.Sound as LoadingSound
+pub use Rattle.yaml_parse_loader.proofs.Keeps
+pub use Rattle.yaml_parse_loader.proofs.Loads
+pub use Rattle.yaml_parse_loader.proofs.Visited

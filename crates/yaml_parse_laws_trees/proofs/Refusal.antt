@@ -11,7 +11,7 @@ use Rattle.yaml_parse_laws_trees.specs.grammar.States.{State}
 use Rattle.yaml_parse_laws_trees.specs.grammar.Trees.{Given, Stream, spell}
 use Rattle.yaml_parse_laws_trees.specs.grammar.TreeSteps.{items}
 use Rattle.yaml_parse_laws_trees.specs.grammar.Machine.{choice_at, left_at, Fed, stop, go, with_item, turn, feed, Outcome, finished, carry, ending_at, run, initial}
-use Rattle.yaml_parse_laws_trees.proofs.grammar.CompleteStream.{stream_runs, nothing_runs}
+use Rattle.yaml_parse_laws_trees.proofs.CompleteStream.{stream_runs, nothing_runs}
 use Rattle.yaml_parse_laws_trees.proofs.Turns.{items_given}
 use Rattle.yaml_parse_laws_trees.specs.SoundLaws.{bare, BeginsWithItems, TreeGoesOn, TreeGoesOnGiving, StandsAt, RefusedAt, RunsOut, FaultsStandAtFirst, FrontsAreNotRefused}
 use Rattle.yaml_parse_laws_trees.proofs.Left.{Over}

@@ -15,9 +15,9 @@ use Rattle.yaml_parse_laws_trees.specs.grammar.TreeSteps.{items}
 use Rattle.yaml_parse_laws_trees.specs.grammar.Machine.{choice_at, taken_at, left_at, Fed, stop, go, with_item, given_by, turn, feed, Outcome, finished, carry, ending_at, run, initial}
 use Rattle.yaml_parse_laws_trees.specs.grammar.Resolve.{Directives, Settled, refused, gave, noted, settle, Reading, read_on, reading, no_directives}
 use Rattle.yaml_parse_laws_trees.specs.grammar.Remaining.{reading_of}
-use Rattle.yaml_parse_laws_trees.proofs.grammar.CompleteStream.{stream_runs}
-use Rattle.yaml_parse_laws_trees.proofs.grammar.Voice.{takes_a_token}
-use Rattle.yaml_parse_laws_trees.proofs.grammar.Single.{opens_node}
+use Rattle.yaml_parse_laws_trees.proofs.CompleteStream.{stream_runs}
+use Rattle.yaml_parse_laws_trees.proofs.Voice.{takes_a_token}
+use Rattle.yaml_parse_laws_trees.proofs.Single.{opens_node}
 use Rattle.yaml_parse_laws_trees.proofs.Turns.{items_given}
 use Rattle.yaml_parse_laws_trees.specs.SoundLaws.{AcceptedAreTrees, AcceptedAreSentences, SentencesAreAccepted}
 use Rattle.yaml_parse_laws_trees.proofs.Left.{Left, Over, over_both, leaving, taking, opening}

@@ -18,8 +18,8 @@ use Rattle.yaml_parse_laws_trees.specs.grammar.Trees.{Given}
 use Rattle.yaml_parse_laws_trees.specs.grammar.Machine.{starts_node, parts_documents, choice_at, taken_at, left_at, Fed, stop, go, with_item, given_by, turn, feed}
 use Rattle.yaml_parse_laws_trees.specs.grammar.Resolve.{Directives, Settled, refused, gave, noted, settle, Reading, reading, unasked_at_fault}
 use Rattle.yaml_parse_laws_trees.specs.grammar.Resolve as resolve
-use Rattle.yaml_parse_laws_trees.proofs.grammar.Voice.{takes_a_token}
-use Rattle.yaml_parse_laws_trees.proofs.grammar.Single.{opens_node}
+use Rattle.yaml_parse_laws_trees.proofs.Voice.{takes_a_token}
+use Rattle.yaml_parse_laws_trees.proofs.Single.{opens_node}
 use Rattle.yaml_parse_laws_trees.proofs.Left.{Left, Over, over_both, leaving, taking, opening, not_left, not_left_first}
 use Rattle.yaml_parse_laws_trees.proofs.Settling.{Done, bad, fine, then_read, read_all}
 

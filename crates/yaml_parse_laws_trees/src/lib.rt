@@ -1,14 +1,12 @@
-//! Laws of the grammar of tokens.
-//! Laws of the parser's machine: which lists of tokens it accepts, and where it refuses the others. No code.
-//! Laws of the fault of a list of tokens: said of trees, and of the tokens before a token, it is what
-//! the parser's machine ends in. No code.
-//! Laws of the events of a list of tokens: said of trees, before a fault too, they are what the parser's
-//! machine gives. No code.
+//! Laws of the grammar of tokens and of the parser's machine: which lists of tokens it accepts, and where it refuses the others.
+//! The fault of a list of tokens, its events, before a fault too, and the fault that loading ends in, said of trees and of the
+//! tokens, are what the machine, and the loads of its events, come to. No code.
 #![tactic(auto)]
 
 mod counts_laws;
 mod faults_laws;
 mod given_laws;
+mod loading_laws;
 mod sound_laws;
 
 pub use counts_laws::{
@@ -23,6 +21,10 @@ pub use given_laws::{
     a_list_has_a_longest_front, a_list_has_one_list_of_events, rows_of_events_hold,
     the_events_are_what_the_machine_gives, the_machine_gives_all_of_the_front,
     the_machine_gives_the_events,
+};
+pub use loading_laws::{
+    a_list_has_one_fault_of_loading, loads_end_in_the_fault, rows_of_faults_of_loading_hold,
+    the_fault_is_what_loads_end_in,
 };
 pub use sound_laws::{
     accepted_lists_begin_with_sentences, accepted_lists_begin_with_trees, events_begin_as_items_do,

@@ -7,6 +7,7 @@ pub mod Heights
 pub mod Swiftness
 pub mod Sentences
 -- what it stands on, for crates that name this one alone
-pub use Rattle.yaml_parse_grammar.proofs as parse_grammar
-pub use Rattle.yaml_parse_laws_trees.proofs as parse_laws_given
-pub use Rattle.yaml_parse_laws_loading.proofs as parse_laws_loading
+pub use Rattle.yaml_parse_laws_trees.proofs.AllGiven
+pub use Rattle.yaml_parse_laws_trees.proofs.ByContent
+pub use Rattle.yaml_parse_laws_trees.proofs.ByStep
+pub use Rattle.yaml_parse_laws_trees.proofs.NextLoads

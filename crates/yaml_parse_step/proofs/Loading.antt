@@ -7,13 +7,13 @@ use Rattle.std.specs.FinMap as map
 use Rattle.yaml_parse_model.specs.Events.{Event, EventBody}
 use Rattle.yaml_parse_model.specs.Events as event
 use Rattle.yaml_parse_grammar.specs.Stacks.{parts_documents_behind}
-use Rattle.yaml_parse_laws_loading.specs.parse_document.Documents.{Document, no_document}
+use Rattle.yaml_parse_laws_trees.specs.parse_document.Documents.{Document, no_document}
 use Rattle.yaml_parse_grammar.specs.Resolve.{Told}
 use Rattle.yaml_parse_grammar.specs.Remaining.{ParserRemaining, IsFinished, FaultOf}
-use Rattle.yaml_parse_laws_loading.specs.parse_loader.Loading.{Loading, LoadStep, goes_on, loaded, refused, nothing_loaded, step, step_body, aliased, load, turn}
+use Rattle.yaml_parse_laws_trees.specs.parse_loader.Loading.{Loading, LoadStep, goes_on, loaded, refused, nothing_loaded, step, step_body, aliased, load, turn}
 use Rattle.yaml_parse_step.specs.Finds.{GivesNext, GivesEnd}
-use Rattle.yaml_parse_laws_loading.specs.NextLoad.{told_events, left_behind}
-use Rattle.yaml_parse_laws_loading.proofs.ByStep.{Loads, load_on, behind_all, loads, loads_of, unasked_on, unasked_at_refusal, unasked_of, LoadGives, LoadRefuses, KeepsLoading, LoadsSame}
+use Rattle.yaml_parse_laws_trees.specs.NextLoad.{told_events, left_behind}
+use Rattle.yaml_parse_laws_trees.proofs.ByStep.{Loads, load_on, behind_all, loads, loads_of, unasked_on, unasked_at_refusal, unasked_of, LoadGives, LoadRefuses, KeepsLoading, LoadsSame}
 
 pub keeps_first : (c : ParserRemaining) (l : Loading) → l ≡ nothing_loaded → KeepsLoading c c l
 keeps_first c l e = record { same = ap (λ (x : Loading). loads c.events c.ending x) e; unasked = ap (λ (x : Loading). unasked_at_refusal c.events c.ending_unasked x) e; left = refl; ending = refl; ending_unasked = refl; answered = refl }

@@ -2,5 +2,11 @@ mod Running
 pub use Rattle.yaml_round_writing.proofs.Normal
 pub use Rattle.yaml_round_writing.proofs.Plain
 -- the laws beneath, for crates of laws that name this one alone
-pub use Rattle.yaml_round_writing.proofs.round_laws_documents
-pub use Rattle.yaml_round_writing.proofs.round_laws_documents.round_laws_reading
+pub use Rattle.yaml_round_writing.proofs.Layouts
+pub use Rattle.yaml_round_writing.proofs.Laid
+pub use Rattle.yaml_round_writing.proofs.ReadBack
+pub use Rattle.yaml_round_writing.proofs.Whole
+pub use Rattle.yaml_round_writing.proofs.Flags
+pub use Rattle.yaml_round_writing.proofs.Walks
+pub use Rattle.yaml_round_writing.proofs.Joining
+pub use Rattle.yaml_round_writing.proofs.Loaded

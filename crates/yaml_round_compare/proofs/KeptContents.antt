@@ -10,8 +10,8 @@ use Rattle.yaml_parse.specs.Resolve.{Told}
 use Rattle.yaml_parse.specs.Events.{Event, EventBody}
 use Rattle.yaml_parse.specs.Events as event
 use Rattle.yaml_round_kept.specs.Spelled.{spelled}
-use Rattle.yaml_round_laws_reading.specs.round_content.Normalize.{normalize_body}
-use Rattle.yaml_round_laws_reading.specs.round_content.Input.{Reads, events_of}
+use Rattle.yaml_round_content.specs.Normalize.{normalize_body}
+use Rattle.yaml_round_content.specs.Input.{Reads, events_of}
 use Rattle.yaml_round_reading.specs.Reading.{contents, GivesNextEvent}
 use Rattle.yaml_round_reading.specs.Answers.{IsRight, IsReadBack}
 use Rattle.yaml_round_reading.specs.Kept.{told_bytes, AreTold, KeepsAll, SaysKept}

@@ -10,7 +10,7 @@ use Rattle.yaml_parse.specs.Events.{EventBody, TagDirective}
 use Rattle.yaml_parse.specs.Events as event
 use Rattle.yaml_round_kept.specs.Spelled.{long_bytes, length_bytes, text_bytes, given_bytes, start_bytes, document_head, scalar_head, sequence_head, mapping_head, spelled}
 use Rattle.yaml_round_kept.specs.Kept.{has_none, is_told}
-use Rattle.yaml_round_laws_reading.specs.round_content.Content.{content_of, counts_as_plain}
+use Rattle.yaml_round_content.specs.Content.{content_of, counts_as_plain}
 
 -- ---- texts
 

@@ -9,8 +9,8 @@ use Rattle.yaml_round_reading.specs.declared.side.yaml_side_t.TheVariants.{First
 use Rattle.yaml_round_reading.specs.declared.reading.Reading.{Reading}
 use Rattle.yaml_round_compare.specs.declared.compare.Next.{Next}
 use Rattle.yaml_round_compare.specs.declared.compare.Next.TheVariants.{Same, End, Different, Refused}
-use Rattle.yaml_round_laws_reading.specs.round_content.Normalize.{normalize_body}
-use Rattle.yaml_round_laws_reading.specs.round_content.Content.{content_of}
+use Rattle.yaml_round_content.specs.Normalize.{normalize_body}
+use Rattle.yaml_round_content.specs.Content.{content_of}
 use Rattle.yaml_round_reading.specs.Reading.{contents, AreReal, IsFaultOf}
 
 -- what an event says, normalized

@@ -1,7 +1,7 @@
 //! Comparisons of inputs, by their events side by side; no tree is held.
 
 ghost use Rattle.std.specs.Prelude.{ℕ, List};
-ghost use Rattle.yaml_round_laws_reading.specs.round_content.Input.{Reads};
+ghost use Rattle.yaml_round_content.specs.Input.{Reads};
 ghost use Rattle.yaml_round_compare.specs.Compare.{BothReal, JudgesEvents, StepsBeside, StepsAlone, StepsOn, Sided, ReadsOutBoth, IsBehindFirst, ComparesReadings, ReadsAlike};
 ghost use Rattle.yaml_parse.specs.Events.{event_of};
 ghost use Rattle.yaml_round_reading.specs.Reading.{AreReal};

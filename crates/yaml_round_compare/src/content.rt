@@ -2,7 +2,7 @@
 
 ghost use Rattle.std.specs.Prelude.{◌≡◌, ◌↔◌, IsTrue, map};
 ghost use Rattle.yaml_parse.specs.Events.{event_of, text_of, directive_of};
-ghost use Rattle.yaml_round_laws_reading.specs.round_content.Content.{content_of, counts_as_plain};
+ghost use Rattle.yaml_round_content.specs.Content.{content_of, counts_as_plain};
 
 use yaml_parse::{yaml_event_body_t, yaml_event_t};
 use yaml_scan::{yaml_tag_directive_t, yaml_version_directive_t};

@@ -5,7 +5,7 @@ ghost use Rattle.yaml_scan.specs.Faults.{Answers, parse_layers};
 ghost use Rattle.yaml_parse.specs.Events.{event_of};
 ghost use Rattle.yaml_round_kept.specs.Kept.{Leaves};
 ghost use Rattle.yaml_round_kept.specs.Spelled.{spelled};
-ghost use Rattle.yaml_round_laws_reading.specs.round_content.Normalize.{normalize_body};
+ghost use Rattle.yaml_round_content.specs.Normalize.{normalize_body};
 ghost use Rattle.yaml_round_reading.specs.Reading.{AreReal};
 ghost use Rattle.yaml_round_reading.specs.Answers.{IsRight, IsReadBack};
 ghost use Rattle.yaml_round_reading.specs.Kept.{KeepsAll, TellsKept, SaysKept, KnownHolds};

@@ -9,8 +9,8 @@ use Rattle.yaml_emit_laws_dumps.specs.parse_grammar.Items.{RawEvent}
 use Rattle.yaml_emit_laws_dumps.specs.parse_grammar.States.{State}
 use Rattle.yaml_emit_laws_dumps.specs.parse_grammar.Trees.{Given}
 use Rattle.yaml_emit_laws_dumps.specs.parse_grammar.Machine.{choice_at, left_at, Fed, stop, go, with_item, turn, feed, Outcome, finished, carry, run, initial}
-use Rattle.yaml_emit_laws_dumps.proofs.parse_grammar.Voice.{takes_a_token}
-use Rattle.yaml_emit_laws_dumps.proofs.parse_grammar.Single.{opens_node}
+use Rattle.yaml_emit_laws_dumps.proofs.Voice.{takes_a_token}
+use Rattle.yaml_emit_laws_dumps.proofs.Single.{opens_node}
 use Rattle.yaml_emit_laws_dumps.specs.emit_layout.declared.Expected.TheVariants as at
 use Rattle.yaml_emit_laws_dumps.specs.emit_layout.Progress.{Progress, at_place, first_progress}
 use Rattle.yaml_scan_laws_texts.specs.Spelled.{AreSpelled}

@@ -9,6 +9,20 @@ pub mod Said
 pub mod Trees
 pub mod Canon
 pub mod ContentLaws
+pub mod TreeContent
+pub mod TreeDocuments
+pub mod Reading
+pub mod Loading
+pub mod NextLoads
+pub mod PlainLoading
+pub mod Rows
+pub mod Writable
+pub mod WritableLaws
+pub mod Agree
+pub mod Renamed
+pub mod DumpsLoads
+pub mod DumpsEvents
+pub mod DumpsLaws
 -- what it stands on, for crates that name this one alone
 pub use Rattle.yaml_emit_laws_dumps.specs as emit_laws_streams
 pub use Rattle.yaml_round_laws_adapted.specs as round_laws_adapted

@@ -7,7 +7,38 @@ mod Sound
 mod Written
 pub mod Laid
 pub mod Whole
+mod Encoding
+pub mod Characters
+pub mod Layouts
+pub mod Leaves
+mod Nodes
+pub mod Marks
+pub mod CanonicalJoining
+mod CanonicalPremises
+pub mod Growing
+pub mod Documents
+pub mod Passing
+mod KeptGrowing
+mod KeptDocuments
+mod KeptPassing
+mod KeptNodes
+mod Bytes
+mod Texts
+mod Contents
+mod KeptReadBack
+pub mod KeptWhole
+mod Injective
+pub mod KeptJoining
 -- what they speak of, and the laws beneath, for crates that name this one alone
-pub use Rattle.yaml_round_laws_dumps.proofs as round_laws_dumps
-pub use Rattle.yaml_round_laws_dumps.proofs.content
-pub use Rattle.yaml_round_laws_dumps.proofs.round_laws_reading
+pub use Rattle.yaml_round_content.proofs.Contents as DocumentsContents
+pub use Rattle.yaml_round_content.proofs.ContentLoading as Loading
+pub use Rattle.yaml_round_content.proofs.Passing as DocumentsPassing
+pub use Rattle.yaml_round_content.proofs.ContentInputs
+pub use Rattle.yaml_round_content.proofs.Layouts as DocumentsLayouts
+pub use Rattle.yaml_round_content.proofs.StreamsInputs
+pub use Rattle.yaml_round_content.proofs.Flags
+pub use Rattle.yaml_round_content.proofs.Walks
+pub use Rattle.yaml_round_content.proofs.Joining as ReadingJoining
+pub use Rattle.yaml_round_content.proofs.Loaded
+-- what it stands on, for crates that name this one alone
+pub use Rattle.yaml_parse_grammar.proofs.CompleteStream

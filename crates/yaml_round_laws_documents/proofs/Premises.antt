@@ -4,19 +4,19 @@ use Rattle.std.specs.List.{list_all}
 use Rattle.std.specs.Str.{IsUtf8, bytes_eq}
 use Rattle.std.proofs.lemmas.Bool.{cases_Bool}
 use Rattle.std.proofs.lemmas.Slice.Eq.{bytes_eq-Decides}
-use Rattle.yaml_round_laws_canonical.specs.back_canon.scan.Classes.{is_alpha_byte}
-use Rattle.yaml_round_laws_canonical.specs.back_canon.scan_history.scan_words.Written.{are_alphas}
-use Rattle.yaml_round_laws_canonical.specs.parse_grammar.parse_model.Events.{TagDirective}
-use Rattle.yaml_round_laws_canonical.specs.back_canon.emit_layout.Content.{Opening}
-use Rattle.yaml_round_laws_canonical.specs.back_canon.emit_layout.Grammar.{opening_problem}
-use Rattle.yaml_round_laws_dumps.specs.content.Said.{Mark, untagged, tagged, Node, alias, scalar, sequence, mapping, Nodes, no_nodes, node, Pairs, no_pairs, pair, Document}
-use Rattle.yaml_round_laws_dumps.specs.content.Canon.{written_scalar, written_node, written_nodes, written_pairs, written_document, written_documents}
+use Rattle.yaml_round_laws_documents.specs.back_canon.scan.Classes.{is_alpha_byte}
+use Rattle.yaml_round_laws_documents.specs.back_canon.scan_history.scan_words.Written.{are_alphas}
+use Rattle.yaml_round_laws_documents.specs.parse_grammar.parse_model.Events.{TagDirective}
+use Rattle.yaml_round_laws_documents.specs.back_canon.emit_layout.Content.{Opening}
+use Rattle.yaml_round_laws_documents.specs.back_canon.emit_layout.Grammar.{opening_problem}
+use Rattle.yaml_round_content.specs.Said.{Mark, untagged, tagged, Node, alias, scalar, sequence, mapping, Nodes, no_nodes, node, Pairs, no_pairs, pair, Document}
+use Rattle.yaml_round_content.specs.Canon.{written_scalar, written_node, written_nodes, written_pairs, written_document, written_documents}
 use Rattle.yaml_emit_laws_text.specs.TagsLaws.{HaveUtf8, WrittenTagsAreReadable}
 use Rattle.yaml_emit_laws_text.specs.Writable as text
-use Rattle.yaml_round_laws_canonical.specs.BytesLaws as bytes
-use Rattle.yaml_round_laws_canonical.specs.TreeLaws.{IsNoMark, HasNoMark, HaveNoMark, PairsHaveNoMark, AreParsable}
-use Rattle.yaml_round_laws_canonical.specs.Adapting.{IsReadableTag, IsTagged, AreTagged, PairsAreTagged, HaveTexts}
-use Rattle.yaml_round_laws_dumps.specs.Writable.{IsName, IsAnchor, IsTag, IsMark, IsWritable, AreItemsWritable, ArePairsWritable, HavePrefixes, AreWritable}
+use Rattle.yaml_round_laws_documents.specs.BytesLaws as bytes
+use Rattle.yaml_round_laws_documents.specs.TreeLaws.{IsNoMark, HasNoMark, HaveNoMark, PairsHaveNoMark, AreParsable}
+use Rattle.yaml_round_laws_documents.specs.Adapting.{IsReadableTag, IsTagged, AreTagged, PairsAreTagged, HaveTexts}
+use Rattle.yaml_round_content.specs.Writable.{IsName, IsAnchor, IsTag, IsMark, IsWritable, AreItemsWritable, ArePairsWritable, HavePrefixes, AreWritable}
 
 -- ---- the text
 

@@ -1,15 +1,15 @@
 -- The laws of canonical text, joined from the laws beneath.
-use Rattle.yaml_round_laws_canonical.specs.back_canon.scan.declared.yaml_encoding_t.TheVariants.{YAML_ANY_ENCODING}
-use Rattle.yaml_round_laws_dumps.specs.content.Canon.{canon}
-use Rattle.yaml_round_laws_dumps.specs.WritableLaws.{LayoutIsOfInputsContent, InputsContentIsLaidOut}
-use Rattle.yaml_round_laws_dumps.proofs.content.Injective.{says_injective}
-use Rattle.yaml_round_laws_dumps.proofs.content.Layouts.{layouts_of_content, content_laid_out}
-use Rattle.yaml_round_laws_dumps.proofs.Flags.{layout_of_input, input_laid_out}
-use Rattle.yaml_round_laws_dumps.proofs.WritableContents.{are_writable}
+use Rattle.yaml_round_laws_documents.specs.back_canon.scan.declared.yaml_encoding_t.TheVariants.{YAML_ANY_ENCODING}
+use Rattle.yaml_round_content.specs.Canon.{canon}
+use Rattle.yaml_round_content.specs.WritableLaws.{LayoutIsOfInputsContent, InputsContentIsLaidOut}
+use Rattle.yaml_round_content.proofs.Injective.{says_injective}
+use Rattle.yaml_round_content.proofs.Layouts.{layouts_of_content, content_laid_out}
+use Rattle.yaml_round_content.proofs.Flags.{layout_of_input, input_laid_out}
+use Rattle.yaml_round_content.proofs.WritableContents.{are_writable}
 use Rattle.yaml_emit_laws_text.proofs.Joining.{written_readable}
 use Rattle.yaml_emit_laws_text.proofs.TextWhole.{text_is_read}
-use Rattle.yaml_round_laws_canonical.proofs.Joining.{bytes_decode}
-use Rattle.yaml_round_laws_canonical.proofs.Passing.{tokens_pass}
+use Rattle.yaml_round_laws_documents.proofs.CanonicalJoining.{bytes_decode}
+use Rattle.yaml_round_laws_documents.proofs.Passing.{tokens_pass}
 use Rattle.yaml_round_laws_documents.proofs.Saying.{tokens_say}
 use Rattle.yaml_round_laws_documents.specs.Back.{CanonIsScanned, CanonReadsBack, CanonTellsContents, CanonicalReadsBack, CanonTellsInputs, CanonIsLaidOutAgain}
 use Rattle.yaml_round_laws_documents.proofs.Joining.{canon_scanned, canon_read_back, canon_tells}

@@ -4,21 +4,21 @@ use Rattle.std.specs.Str.{bytes_eq}
 use Rattle.std.proofs.lemmas.Bool.{cases_Bool}
 use Rattle.std.proofs.lemmas.Bool.Decides.{nat_tests}
 use Rattle.std.proofs.lemmas.Slice.Eq.{bytes_eq-Decides}
-use Rattle.yaml_round_laws_canonical.specs.back_canon.scan.declared.yaml_scalar_style_t.TheVariants.{YAML_DOUBLE_QUOTED_SCALAR_STYLE}
-use Rattle.yaml_round_laws_canonical.specs.back_canon.scan.declared.yaml_sequence_style_t.TheVariants.{YAML_ANY_SEQUENCE_STYLE}
-use Rattle.yaml_round_laws_canonical.specs.back_canon.scan.declared.yaml_mapping_style_t.TheVariants.{YAML_ANY_MAPPING_STYLE}
-use Rattle.yaml_round_laws_canonical.specs.back_canon.scan.declared.yaml_encoding_t.TheVariants.{YAML_ANY_ENCODING}
-use Rattle.yaml_round_laws_canonical.specs.parse_grammar.parse_model.Events.{EventBody}
-use Rattle.yaml_round_laws_canonical.specs.parse_grammar.parse_model.Events as event
-use Rattle.yaml_round_laws_canonical.specs.parse_grammar.Resolve.{Told}
-use Rattle.yaml_round_laws_dumps.specs.content.Normalize.{is_lone_mark, normalize_scalar, normalize_body}
-use Rattle.yaml_round_laws_dumps.specs.content.Content.{content_of}
-use Rattle.yaml_round_laws_dumps.specs.content.Events.{contents}
-use Rattle.yaml_round_laws_dumps.specs.content.Said.{Mark, untagged, tagged, Node, alias, scalar, sequence, mapping, Nodes, no_nodes, node, Pairs, no_pairs, pair, Document, scalar_says, node_says, items_say, pairs_say, documents_say}
-use Rattle.yaml_round_laws_dumps.specs.content.Canon.{written_scalar, written_node, written_nodes, written_pairs, written_documents}
-use Rattle.yaml_round_laws_canonical.specs.Reads.{scalar_reads, node_reads, items_reads, pairs_reads, documents_reads, begins_directed}
-use Rattle.yaml_round_laws_canonical.specs.TreeLaws.{IsNoMark, HasNoMark, HaveNoMark, PairsHaveNoMark, AreParsable, parsed_of}
-use Rattle.yaml_round_laws_canonical.proofs.Documents.{tokens_parsed}
+use Rattle.yaml_round_laws_documents.specs.back_canon.scan.declared.yaml_scalar_style_t.TheVariants.{YAML_DOUBLE_QUOTED_SCALAR_STYLE}
+use Rattle.yaml_round_laws_documents.specs.back_canon.scan.declared.yaml_sequence_style_t.TheVariants.{YAML_ANY_SEQUENCE_STYLE}
+use Rattle.yaml_round_laws_documents.specs.back_canon.scan.declared.yaml_mapping_style_t.TheVariants.{YAML_ANY_MAPPING_STYLE}
+use Rattle.yaml_round_laws_documents.specs.back_canon.scan.declared.yaml_encoding_t.TheVariants.{YAML_ANY_ENCODING}
+use Rattle.yaml_round_laws_documents.specs.parse_grammar.parse_model.Events.{EventBody}
+use Rattle.yaml_round_laws_documents.specs.parse_grammar.parse_model.Events as event
+use Rattle.yaml_round_laws_documents.specs.parse_grammar.Resolve.{Told}
+use Rattle.yaml_round_content.specs.Normalize.{is_lone_mark, normalize_scalar, normalize_body}
+use Rattle.yaml_round_content.specs.Content.{content_of}
+use Rattle.yaml_round_content.specs.Events.{contents}
+use Rattle.yaml_round_content.specs.Said.{Mark, untagged, tagged, Node, alias, scalar, sequence, mapping, Nodes, no_nodes, node, Pairs, no_pairs, pair, Document, scalar_says, node_says, items_say, pairs_say, documents_say}
+use Rattle.yaml_round_content.specs.Canon.{written_scalar, written_node, written_nodes, written_pairs, written_documents}
+use Rattle.yaml_round_laws_documents.specs.Reads.{scalar_reads, node_reads, items_reads, pairs_reads, documents_reads, begins_directed}
+use Rattle.yaml_round_laws_documents.specs.TreeLaws.{IsNoMark, HasNoMark, HaveNoMark, PairsHaveNoMark, AreParsable, parsed_of}
+use Rattle.yaml_round_laws_documents.proofs.Documents.{tokens_parsed}
 use Rattle.yaml_round_laws_documents.specs.CanonicalTokens.{CanonicalTokensSayContent}
 
 abbrev says : EventBody → EventBody

@@ -1,40 +1,40 @@
 -- The laws of loaded documents and of their texts, joined from the laws beneath.
 use Rattle.std.proofs.Common.{◌≡◌, ℕ, true, List, map, Option, Some, None, Ok, refl, sym, ap, subst, ◌∙◌}
-use Rattle.yaml_round_laws_canonical.specs.back_canon.scan.declared.yaml_encoding_t.{yaml_encoding_t}
-use Rattle.yaml_round_laws_canonical.specs.back_canon.scan.declared.yaml_encoding_t.TheVariants.{YAML_ANY_ENCODING}
-use Rattle.yaml_round_laws_canonical.specs.back_canon.scan.Faults.{Fault}
-use Rattle.yaml_round_laws_dumps.specs.content.parse_laws_loading.parse_document.Documents.{Document}
-use Rattle.yaml_round_laws_dumps.specs.content.parse_laws_loading.parse_loader.Loading.{nothing_loaded}
-use Rattle.yaml_round_laws_canonical.specs.back_canon.emit_layout.emit_text.declared.RequestedSettings.{RequestedSettings}
-use Rattle.yaml_round_laws_dumps.proofs.content.parse_laws_loading.parse_loader.Loads.{loads_document}
-use Rattle.yaml_round_laws_dumps.proofs.content.parse_laws_loading.parse_loader.Visited.{numbered_in_order}
-use Rattle.yaml_round_laws_dumps.specs.emit_laws_dumps.DumpsLaws.{DumpsNumberBack}
-use Rattle.yaml_round_laws_dumps.proofs.emit_laws_dumps.Apart.{apart_all, again_all}
-use Rattle.yaml_round_laws_dumps.proofs.emit_laws_dumps.Again.{again_turns}
-use Rattle.yaml_round_laws_dumps.proofs.emit_laws_dumps.Back.{numbered_back}
-use Rattle.yaml_round_laws_dumps.proofs.emit_laws_dumps.Loaded.{loaded}
-use Rattle.yaml_round_laws_dumps.proofs.emit_laws_dumps.Whole.{numbers_found, number_back}
-use Rattle.yaml_round_laws_dumps.specs.content.Said as content
-use Rattle.yaml_round_laws_dumps.specs.content.Said.{HasContent}
-use Rattle.yaml_round_laws_dumps.specs.content.Input.{events_of, ending_of}
-use Rattle.yaml_round_laws_dumps.specs.content.Loads.{Loads, load_all, loads_of}
-use Rattle.yaml_round_laws_dumps.specs.content.Canon.{canon}
-use Rattle.yaml_round_laws_dumps.proofs.content.ContentInputs.{say_fronts}
-use Rattle.yaml_round_laws_dumps.proofs.Utf8.{input_utf8}
+use Rattle.yaml_round_laws_documents.specs.back_canon.scan.declared.yaml_encoding_t.{yaml_encoding_t}
+use Rattle.yaml_round_laws_documents.specs.back_canon.scan.declared.yaml_encoding_t.TheVariants.{YAML_ANY_ENCODING}
+use Rattle.yaml_round_laws_documents.specs.back_canon.scan.Faults.{Fault}
+use Rattle.yaml_round_content.specs.parse_laws_loading.parse_document.Documents.{Document}
+use Rattle.yaml_round_content.specs.parse_laws_loading.parse_loader.Loading.{nothing_loaded}
+use Rattle.yaml_round_laws_documents.specs.back_canon.emit_layout.emit_text.declared.RequestedSettings.{RequestedSettings}
+use Rattle.yaml_round_content.proofs.Loads.{loads_document}
+use Rattle.yaml_round_content.proofs.Visited.{numbered_in_order}
+use Rattle.yaml_round_content.specs.emit_laws_streams.DumpsLaws.{DumpsNumberBack}
+use Rattle.yaml_round_content.proofs.Apart.{apart_all, again_all}
+use Rattle.yaml_round_content.proofs.Again.{again_turns}
+use Rattle.yaml_round_content.proofs.Back.{numbered_back}
+use Rattle.yaml_round_content.proofs.DumpsLoaded.{loaded}
+use Rattle.yaml_round_content.proofs.DumpsWhole.{numbers_found, number_back}
+use Rattle.yaml_round_content.specs.Said as content
+use Rattle.yaml_round_content.specs.Said.{HasContent}
+use Rattle.yaml_round_content.specs.Input.{events_of, ending_of}
+use Rattle.yaml_round_content.specs.Loads.{Loads, load_all, loads_of}
+use Rattle.yaml_round_content.specs.Canon.{canon}
+use Rattle.yaml_round_content.proofs.ContentInputs.{say_fronts}
+use Rattle.yaml_round_content.proofs.Utf8.{input_utf8}
 use Rattle.yaml_round_laws_documents.proofs.ReadBack.{reads_back}
-use Rattle.yaml_round_laws_dumps.specs.Agree.{Core, core_of, AreAgreeing}
-use Rattle.yaml_round_laws_dumps.proofs.DumpsContents.{loads_of_contents}
-use Rattle.yaml_round_laws_dumps.proofs.Names.{loads_of_renamings}
-use Rattle.yaml_round_laws_dumps.proofs.Walks.{agreeing_said}
-use Rattle.yaml_round_laws_dumps.specs.Events.{trees_of_dumps, AreNumerable}
-use Rattle.yaml_round_laws_dumps.specs.DumpsLaws.{ContentIsLoaded, ContentLoadsDocuments, DumpsAreNumberedBack, DumpsLoadBack}
-use Rattle.yaml_round_laws_dumps.proofs.Saying.{content_said}
-use Rattle.yaml_round_laws_dumps.proofs.Loading.{content_loaded, documents_loaded}
-use Rattle.yaml_round_laws_dumps.proofs.Trees as trees
-use Rattle.yaml_round_laws_dumps.proofs.Agreeing.{dumps_loaded}
+use Rattle.yaml_round_content.specs.Agree.{Core, core_of, AreAgreeing}
+use Rattle.yaml_round_content.proofs.DumpsContents.{loads_of_contents}
+use Rattle.yaml_round_content.proofs.Names.{loads_of_renamings}
+use Rattle.yaml_round_content.proofs.Walks.{agreeing_said}
+use Rattle.yaml_round_content.specs.DumpsEvents.{trees_of_dumps, AreNumerable}
+use Rattle.yaml_round_content.specs.DumpsLaws.{ContentIsLoaded, ContentLoadsDocuments, DumpsAreNumberedBack, DumpsLoadBack}
+use Rattle.yaml_round_content.proofs.DumpsSaying.{content_said}
+use Rattle.yaml_round_content.proofs.Loading.{content_loaded, documents_loaded}
+use Rattle.yaml_round_content.proofs.DumpsTrees as trees
+use Rattle.yaml_round_content.proofs.Agreeing.{dumps_loaded}
 use Rattle.yaml_round_laws_documents.specs.Laws.{AllLoadDocuments, LoadedAreSound, LoadedAreWritable}
-use Rattle.yaml_round_laws_dumps.specs.round_laws_reading.PlainLoading.{unless_faulty}
-use Rattle.yaml_round_laws_dumps.proofs.round_laws_reading.Loaded.{loading_loads}
+use Rattle.yaml_round_content.specs.PlainLoading.{unless_faulty}
+use Rattle.yaml_round_content.proofs.Loaded.{loading_loads}
 use Rattle.yaml_round_laws_documents.specs.Normal.{
   AreWritableDocuments,
   DocumentTextsLoadAgain,

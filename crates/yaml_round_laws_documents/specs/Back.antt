@@ -1,22 +1,22 @@
 -- Canonical text reads back, and is a normal form of what inputs say.
 use Rattle.std.specs.Prelude.{◌≡◌, ℕ, true, false, List, ◌∷◌}
-use Rattle.yaml_round_laws_canonical.specs.back_canon.scan.declared.yaml_encoding_t.{yaml_encoding_t}
-use Rattle.yaml_round_laws_canonical.specs.back_canon.scan.declared.yaml_encoding_t.TheVariants.{YAML_ANY_ENCODING}
-use Rattle.yaml_round_laws_canonical.specs.back_canon.scan.Tokens.{Token, TokenBody}
-use Rattle.yaml_round_laws_canonical.specs.back_canon.scan.Tokens as token
-use Rattle.yaml_round_laws_canonical.specs.back_canon.scan_history.Scanned.{scanned}
-use Rattle.yaml_round_laws_canonical.specs.back_canon.emit_layout.emit_text.declared.RequestedSettings.{RequestedSettings}
-use Rattle.yaml_round_laws_canonical.specs.back_canon.emit_layout.Streams.{IsStream}
-use Rattle.yaml_round_laws_dumps.specs.content.Said.{Document, HasContent}
-use Rattle.yaml_round_laws_dumps.specs.content.Events.{emitter_events}
-use Rattle.yaml_round_laws_dumps.specs.content.Input.{events_of}
-use Rattle.yaml_round_laws_dumps.specs.content.ContentLaws.{AreCanonical}
-use Rattle.yaml_round_laws_dumps.specs.content.Canon.{written_documents, canon, canon_encoding, canon_items}
-use Rattle.yaml_round_laws_canonical.specs.BytesLaws.{encoding_named}
-use Rattle.yaml_round_laws_canonical.specs.TreeLaws.{token_bodies}
-use Rattle.yaml_round_laws_canonical.specs.Adapting.{without_fault}
-use Rattle.yaml_round_laws_canonical.specs.back_canon.Bodies.{documents_bodies}
-use Rattle.yaml_round_laws_dumps.specs.Writable.{AreWritable}
+use Rattle.yaml_round_laws_documents.specs.back_canon.scan.declared.yaml_encoding_t.{yaml_encoding_t}
+use Rattle.yaml_round_laws_documents.specs.back_canon.scan.declared.yaml_encoding_t.TheVariants.{YAML_ANY_ENCODING}
+use Rattle.yaml_round_laws_documents.specs.back_canon.scan.Tokens.{Token, TokenBody}
+use Rattle.yaml_round_laws_documents.specs.back_canon.scan.Tokens as token
+use Rattle.yaml_round_laws_documents.specs.back_canon.scan_history.Scanned.{scanned}
+use Rattle.yaml_round_laws_documents.specs.back_canon.emit_layout.emit_text.declared.RequestedSettings.{RequestedSettings}
+use Rattle.yaml_round_laws_documents.specs.back_canon.emit_layout.Streams.{IsStream}
+use Rattle.yaml_round_content.specs.Said.{Document, HasContent}
+use Rattle.yaml_round_content.specs.Events.{emitter_events}
+use Rattle.yaml_round_content.specs.Input.{events_of}
+use Rattle.yaml_round_content.specs.ContentLaws.{AreCanonical}
+use Rattle.yaml_round_content.specs.Canon.{written_documents, canon, canon_encoding, canon_items}
+use Rattle.yaml_round_laws_documents.specs.BytesLaws.{encoding_named}
+use Rattle.yaml_round_laws_documents.specs.TreeLaws.{token_bodies}
+use Rattle.yaml_round_laws_documents.specs.Adapting.{without_fault}
+use Rattle.yaml_round_laws_documents.specs.back_canon.Bodies.{documents_bodies}
+use Rattle.yaml_round_content.specs.Writable.{AreWritable}
 
 -- With the encoding detected, the bytes are scanned as tokens with these bodies, without fault.
 pub record IsScannedAs (bytes : List ℕ) (bs : List TokenBody) : Type 0 where

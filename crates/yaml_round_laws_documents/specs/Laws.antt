@@ -1,12 +1,12 @@
 -- The documents that an input loads: they are sound, and what they say may be written.
 use Rattle.std.specs.Prelude.{ℕ, List}
 use Rattle.std.specs.List.{All}
-use Rattle.yaml_round_laws_canonical.specs.back_canon.scan.declared.yaml_encoding_t.{yaml_encoding_t}
-use Rattle.yaml_round_laws_dumps.specs.content.parse_laws_loading.parse_document.Documents.{IsDocument}
-use Rattle.yaml_round_laws_dumps.specs.content.parse_laws_loading.parse_loader.Order.{IsInPreorder}
-use Rattle.yaml_round_laws_dumps.specs.content.Loads.{loads_of}
-use Rattle.yaml_round_laws_dumps.specs.Writable.{AreWritable}
-use Rattle.yaml_round_laws_dumps.specs.Events.{trees_of_dumps, AreLoadedDocuments}
+use Rattle.yaml_round_laws_documents.specs.back_canon.scan.declared.yaml_encoding_t.{yaml_encoding_t}
+use Rattle.yaml_round_content.specs.parse_laws_loading.parse_document.Documents.{IsDocument}
+use Rattle.yaml_round_content.specs.parse_laws_loading.parse_loader.Order.{IsInPreorder}
+use Rattle.yaml_round_content.specs.Loads.{loads_of}
+use Rattle.yaml_round_content.specs.Writable.{AreWritable}
+use Rattle.yaml_round_content.specs.DumpsEvents.{trees_of_dumps, AreLoadedDocuments}
 
 -- The documents of each input, also those in front of a fault, are documents as loading makes them: their numbers follow the first
 -- visits from the root, each node has a kind, and no tag is `!`.

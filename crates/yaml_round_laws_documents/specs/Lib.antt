@@ -2,7 +2,19 @@ pub mod CanonicalTokens
 pub mod Back
 pub mod Laws
 pub mod Normal
+pub mod BytesLaws
+pub mod Reads
+pub mod TreeLaws
+pub mod Adapting
+pub mod KeptReads
+pub mod JsonTokens
+pub mod JsonBytes
+pub mod Stays
+pub mod KeptLaws
 -- what they speak of, and the laws beneath, for crates that name this one alone
-pub use Rattle.yaml_round_laws_dumps.specs as round_laws_dumps
-pub use Rattle.yaml_round_laws_dumps.specs.content
-pub use Rattle.yaml_round_laws_dumps.specs.round_laws_reading
+pub use Rattle.yaml_round_content.specs as content
+-- what it stands on, for crates that name this one alone
+pub use Rattle.yaml_scan_decode.specs as scan_decode
+pub use Rattle.yaml_emit_laws_text.specs as back_canon
+pub use Rattle.yaml_round_laws_adapted.specs as round_laws_adapted
+pub use Rattle.yaml_parse_grammar.specs as parse_grammar

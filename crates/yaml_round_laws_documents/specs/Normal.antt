@@ -1,22 +1,22 @@
 -- The canonical text of what documents say: it is laid out for their dumps, and loads documents that agree with them.
 use Rattle.std.specs.Prelude.{◌≡◌, ◌↔◌, ℕ, true, List, map, None, Ok}
-use Rattle.yaml_round_laws_canonical.specs.back_canon.scan.declared.yaml_encoding_t.{yaml_encoding_t}
-use Rattle.yaml_round_laws_canonical.specs.back_canon.scan.declared.yaml_encoding_t.TheVariants.{YAML_ANY_ENCODING}
-use Rattle.yaml_round_laws_dumps.specs.content.parse_laws_loading.parse_document.Documents.{Document}
-use Rattle.yaml_round_laws_canonical.specs.back_canon.emit_layout.emit_text.declared.RequestedSettings.{RequestedSettings}
-use Rattle.yaml_round_laws_dumps.specs.content.emit_laws_streams.emit_graph.Graph.{graph_content}
-use Rattle.yaml_round_laws_canonical.specs.back_canon.emit_layout.Content.{Event, stream_events}
-use Rattle.yaml_round_laws_canonical.specs.back_canon.emit_layout.Streams.{IsStream}
-use Rattle.yaml_round_laws_dumps.specs.content.Said as content
-use Rattle.yaml_round_laws_dumps.specs.content.Said.{HasContent}
-use Rattle.yaml_round_laws_dumps.specs.content.Loads.{with_implicit_end, loads_of}
-use Rattle.yaml_round_laws_dumps.specs.content.Canon.{canon, canon_encoding, canon_items}
-use Rattle.yaml_round_laws_dumps.specs.content.ContentLaws.{AreCanonical}
-use Rattle.yaml_round_laws_dumps.specs.Agree.{AreAgreeing, LoadAlike}
-use Rattle.yaml_round_laws_dumps.specs.Renamed.{Renaming, renamed, AreOneToOne}
-use Rattle.yaml_round_laws_dumps.specs.Writable.{AreWritable}
-use Rattle.yaml_round_laws_dumps.specs.round_laws_reading.PlainLoading.{PlainLoading}
-use Rattle.yaml_round_laws_dumps.specs.Events.{trees_of_dumps, AreLoadedDocuments, AreNumerable}
+use Rattle.yaml_round_laws_documents.specs.back_canon.scan.declared.yaml_encoding_t.{yaml_encoding_t}
+use Rattle.yaml_round_laws_documents.specs.back_canon.scan.declared.yaml_encoding_t.TheVariants.{YAML_ANY_ENCODING}
+use Rattle.yaml_round_content.specs.parse_laws_loading.parse_document.Documents.{Document}
+use Rattle.yaml_round_laws_documents.specs.back_canon.emit_layout.emit_text.declared.RequestedSettings.{RequestedSettings}
+use Rattle.yaml_round_content.specs.emit_laws_streams.emit_graph.Graph.{graph_content}
+use Rattle.yaml_round_laws_documents.specs.back_canon.emit_layout.Content.{Event, stream_events}
+use Rattle.yaml_round_laws_documents.specs.back_canon.emit_layout.Streams.{IsStream}
+use Rattle.yaml_round_content.specs.Said as content
+use Rattle.yaml_round_content.specs.Said.{HasContent}
+use Rattle.yaml_round_content.specs.Loads.{with_implicit_end, loads_of}
+use Rattle.yaml_round_content.specs.Canon.{canon, canon_encoding, canon_items}
+use Rattle.yaml_round_content.specs.ContentLaws.{AreCanonical}
+use Rattle.yaml_round_content.specs.Agree.{AreAgreeing, LoadAlike}
+use Rattle.yaml_round_content.specs.Renamed.{Renaming, renamed, AreOneToOne}
+use Rattle.yaml_round_content.specs.Writable.{AreWritable}
+use Rattle.yaml_round_content.specs.PlainLoading.{PlainLoading}
+use Rattle.yaml_round_content.specs.DumpsEvents.{trees_of_dumps, AreLoadedDocuments, AreNumerable}
 
 -- the documents as they are written
 abbrev pub ended : List Document → List Document

@@ -7,7 +7,7 @@ use Rattle.yaml_round_content.specs.scan_model.Faults.{Fault}
 use Rattle.yaml_round_content.specs.scan_history.scan_decode.Spelling.{Spells}
 use Rattle.yaml_round_content.specs.scan_history.Scanned.{scanned_in}
 use Rattle.yaml_round_content.specs.scan_history.Remaining.{Remaining, offline}
-use Rattle.yaml_round_content.proofs.scan_history.scan_decode.CompleteLemmas.{spells_decoded}
+use Rattle.yaml_round_content.proofs.CompleteLemmas.{spells_decoded}
 use Rattle.yaml_round_content.specs.round_laws_adapted.Adapted.{adapted}
 use Rattle.yaml_round_content.specs.parse_grammar.Machine.{run, initial}
 use Rattle.yaml_round_content.specs.parse_grammar.Resolve.{Reading, reading, no_directives}

@@ -5,7 +5,7 @@ use Rattle.yaml_round.specs.declared.yaml_encoding_t.{yaml_encoding_t}
 use Rattle.yaml_emit_laws_columns.specs.emit_layout.scan.Faults.{Fault}
 use Rattle.yaml_round.specs.round_laws_documents.content.Said.{Document}
 use Rattle.yaml_round.specs.round_laws_reading.Reading.{PlainReading}
-use Rattle.yaml_round.proofs.round_laws_reading.Joining.{one_reading}
+use Rattle.yaml_round.proofs.Joining.{one_reading}
 use Rattle.yaml_round.specs.Answers.{IsRight, SameContent}
 use Rattle.yaml_round_laws_users.specs.Laws.{SameContentIsAnEquivalence, ComparisonsAgree}
 

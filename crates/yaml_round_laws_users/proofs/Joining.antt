@@ -5,13 +5,13 @@ use Rattle.yaml_round.specs.declared.yaml_encoding_t.TheVariants.{YAML_ANY_ENCOD
 use Rattle.yaml_round.specs.round_laws_documents.content.Loads.{loads_of}
 use Rattle.yaml_round.specs.round_laws_documents.content.Said as content
 use Rattle.yaml_round.specs.round_laws_documents.content.parse_laws_loading.parse_document.Documents.{Document}
-use Rattle.yaml_round.specs.round_laws_documents.round_laws_reading.PlainLoading.{PlainLoading}
-use Rattle.yaml_round.specs.round_laws_documents.round_laws_dumps.Agree.{core_of}
-use Rattle.yaml_round.specs.round_laws_documents.round_laws_dumps.Events.{trees_of_dumps}
-use Rattle.yaml_round.proofs.round_laws_documents.round_laws_reading.Loaded.{faultless_load}
-use Rattle.yaml_round.proofs.round_laws_documents.Whole.{inputs_load_alike, names_do_not_matter}
-use Rattle.yaml_round.proofs.round_laws_documents.round_laws_dumps.Walks.{agreeing_said}
-use Rattle.yaml_round.proofs.round_laws_documents.round_laws_reading.Joining.{read_said}
+use Rattle.yaml_round.specs.round_laws_documents.content.PlainLoading.{PlainLoading}
+use Rattle.yaml_round.specs.round_laws_documents.content.Agree.{core_of}
+use Rattle.yaml_round.specs.round_laws_documents.content.DumpsEvents.{trees_of_dumps}
+use Rattle.yaml_round.proofs.Loaded.{faultless_load}
+use Rattle.yaml_round.proofs.Whole.{inputs_load_alike, names_do_not_matter}
+use Rattle.yaml_round.proofs.Walks.{agreeing_said}
+use Rattle.yaml_round.proofs.Joining.{read_said}
 use Rattle.yaml_round.specs.declared.yaml_settings_t.{yaml_settings_t}
 use Rattle.yaml_round.specs.declared.yaml_form_t.{yaml_form_t}
 use Rattle.yaml_round.specs.declared.yaml_form_t.TheVariants.{Canonical, Pretty}

@@ -20,7 +20,7 @@ use Rattle.yaml_round.specs.round_laws_documents.content.Said.{Document}
 use Rattle.yaml_round.specs.round_laws_documents.content.Canon.{written_documents, canon_items, canon_encoding}
 use Rattle.yaml_round.specs.round_laws_reading.Reading.{PlainReading}
 use Rattle.yaml_round.specs.round_laws_reading.PlainLoading.{PlainLoading, unless_faulty}
-use Rattle.yaml_round.specs.round_laws_documents.round_laws_dumps.Events.{trees_of_dumps}
+use Rattle.yaml_round.specs.round_laws_documents.content.DumpsEvents.{trees_of_dumps}
 use Rattle.yaml_round.specs.round_laws_documents.Normal.{ended}
 use Rattle.yaml_round.specs.declared.yaml_settings_t.{yaml_settings_t}
 use Rattle.yaml_round.specs.Reading.{emitter_events}
@@ -29,12 +29,12 @@ use Rattle.yaml_round.specs.Answers.{IsReformatted, IsFaulty, IsTooLong, IsPast,
 use Rattle.yaml_round.specs.Reload.{IsReloaded, IsDumped}
 use Rattle.yaml_round.proofs.Normal.{canonical_under, laid_of, text_fits}
 use Rattle.yaml_round.proofs.Plain.{events_are, has_events}
-use Rattle.yaml_round.proofs.round_laws_reading.Joining.{read_said, one_reading}
-use Rattle.yaml_round.proofs.round_laws_reading.Loaded.{one_loading, loading_loads}
-use Rattle.yaml_round.proofs.round_laws_documents.ReadBack.{layout_is_of_input}
-use Rattle.yaml_round.proofs.round_laws_documents.round_laws_dumps.Flags.{input_laid_out}
-use Rattle.yaml_round.proofs.round_laws_documents.content.Layouts.{content_laid_out}
-use Rattle.yaml_round.proofs.round_laws_documents.Laid.{laid_out}
+use Rattle.yaml_round.proofs.Joining.{read_said, one_reading}
+use Rattle.yaml_round.proofs.Loaded.{one_loading, loading_loads}
+use Rattle.yaml_round.proofs.ReadBack.{layout_is_of_input}
+use Rattle.yaml_round.proofs.Flags.{input_laid_out}
+use Rattle.yaml_round.proofs.Layouts.{content_laid_out}
+use Rattle.yaml_round.proofs.Laid.{laid_out}
 use Rattle.yaml_emit_laws_columns.specs.Depths.{RootStandsAt, IsTooDeep}
 use Rattle.yaml_emit_laws_columns.proofs.Depths.{by_depth}
 use Rattle.yaml_emit_laws_columns.proofs.Events.{events_tell}

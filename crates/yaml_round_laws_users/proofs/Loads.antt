@@ -5,10 +5,10 @@ use Rattle.yaml_round.specs.declared.yaml_encoding_t.TheVariants.{YAML_ANY_ENCOD
 use Rattle.yaml_emit_laws_columns.specs.emit_layout.scan.Faults.{Fault}
 use Rattle.yaml_round.specs.round_laws_documents.content.parse_laws_loading.parse_document.Documents.{Document}
 use Rattle.yaml_round.specs.round_laws_documents.content.Loads.{loads_of}
-use Rattle.yaml_round.specs.round_laws_documents.round_laws_reading.PlainLoading.{PlainLoading, unless_faulty}
-use Rattle.yaml_round.specs.round_laws_documents.round_laws_dumps.Agree.{AreAgreeing}
-use Rattle.yaml_round.proofs.round_laws_documents.Whole.{loads_are}
-use Rattle.yaml_round.proofs.round_laws_documents.round_laws_reading.Loaded.{faultless_load, faulty_load, loading_loads}
+use Rattle.yaml_round.specs.round_laws_documents.content.PlainLoading.{PlainLoading, unless_faulty}
+use Rattle.yaml_round.specs.round_laws_documents.content.Agree.{AreAgreeing}
+use Rattle.yaml_round.proofs.Whole.{loads_are}
+use Rattle.yaml_round.proofs.Loaded.{faultless_load, faulty_load, loading_loads}
 use Rattle.yaml_round.specs.declared.yaml_settings_t.{yaml_settings_t}
 use Rattle.yaml_round.specs.Reload.{IsDumped, IsNormalOfDocuments, LaysOutLoading, IsReloaded}
 use Rattle.yaml_round_laws_users.specs.Loads.{LaysOutLoads, AreLoadsReloaded, IsNormalOfLoads, ReloadsAreOfLoads, ReloadsAreNormalOfLoads}

@@ -21,8 +21,8 @@ use Rattle.yaml_round.specs.Writing.{requested_under}
 use Rattle.yaml_round.specs.Answers.{IsReformatted, IsNormalForm, IsFaulty, IsTooLong, IsLayout, IsPast, SameContent, canonical_text}
 use Rattle.yaml_round.proofs.Normal.{canonical_under, text_is, text_fits, laid_of}
 use Rattle.yaml_round.proofs.Plain.{faulty_ending, events_are}
-use Rattle.yaml_round.proofs.round_laws_reading.Joining.{read_said}
-use Rattle.yaml_round.proofs.round_laws_documents.ReadBack.{layout_is_of_input}
+use Rattle.yaml_round.proofs.Joining.{read_said}
+use Rattle.yaml_round.proofs.ReadBack.{layout_is_of_input}
 use Rattle.yaml_round_laws_users.proofs.Comparing.{one_content, turned, equivalence}
 use Rattle.yaml_round_laws_users.specs.Laws.{AnswersReadBack, SettingsDoNotMatter, CanonicalAnswersTellContents, RewritingIsStill, asking}
 

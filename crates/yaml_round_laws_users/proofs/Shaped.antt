@@ -1,7 +1,7 @@
 -- Inputs shaped as JSON are answered in pretty form.
 use Rattle.std.proofs.Common.{◌≡◌, inl, inr, ℕ, Bool, true, false, List, Ok, Err}
 use Rattle.yaml_round.specs.declared.yaml_encoding_t.{yaml_encoding_t}
-use Rattle.yaml_round.specs.round_laws_kept.Laws.{IsJsonInput}
+use Rattle.yaml_round.specs.round_laws_documents.KeptLaws.{IsJsonInput}
 use Rattle.yaml_round.specs.declared.yaml_settings_t.{yaml_settings_t}
 use Rattle.yaml_round.specs.declared.yaml_form_t.TheVariants.{Canonical, Pretty}
 use Rattle.yaml_round.specs.Answers.{IsReformatted, IsCanonicalDue}

@@ -7,7 +7,7 @@ use Rattle.yaml_round.specs.declared.yaml_settings_t.{yaml_settings_t}
 use Rattle.yaml_round.specs.declared.yaml_form_t.{yaml_form_t}
 use Rattle.yaml_round.specs.declared.yaml_form_t.TheVariants.{Canonical, Pretty}
 use Rattle.yaml_round.specs.Answers.{IsRight, IsReformatted, IsLaidOut, IsFaulty, IsTooLong, IsCompared, ReadsBack, SameContent}
-use Rattle.yaml_round.specs.round_laws_kept.Laws.{IsJsonInput}
+use Rattle.yaml_round.specs.round_laws_documents.KeptLaws.{IsJsonInput}
 
 -- ---- rewriting
 

@@ -7,7 +7,7 @@ use Rattle.yaml_parse.specs.Events.{Event, EventBody}
 use Rattle.yaml_parse.specs.Events as event
 use Rattle.yaml_round_kept.specs.Spelled.{spelled}
 use Rattle.yaml_round_kept.specs.Kept.{Keeps, is_told}
-use Rattle.yaml_round_laws_reading.specs.round_content.Normalize.{normalize_body}
+use Rattle.yaml_round_content.specs.Normalize.{normalize_body}
 use Rattle.yaml_round_reading.specs.Reading.{GivesNextEvent}
 use Rattle.yaml_round_reading.specs.Kept.{told_bytes, KeptOn}
 

@@ -4,7 +4,7 @@ use Rattle.yaml_scan.specs.declared.yaml_scalar_style_t.{yaml_scalar_style_t}
 use Rattle.yaml_parse.specs.Events.{Event, EventBody}
 use Rattle.yaml_parse.specs.Events as event
 use Rattle.yaml_parse.specs.Constructors.{HasUtf8}
-use Rattle.yaml_round_laws_reading.specs.round_content.Normalize.{normalize_body, normalize_scalar, is_lone_mark}
+use Rattle.yaml_round_content.specs.Normalize.{normalize_body, normalize_scalar, is_lone_mark}
 
 scalar_utf8 : (lone : Bool) (anchor tag : Option (List ℕ)) (value : List ℕ) (plain quoted : Bool) (style : yaml_scalar_style_t)
     → HasUtf8 (event.scalar anchor tag value plain quoted style) → HasUtf8 (normalize_scalar lone anchor tag value plain quoted style)

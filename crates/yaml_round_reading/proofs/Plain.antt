@@ -6,12 +6,12 @@ use Rattle.yaml_scan.specs.Faults.{Fault, fault_of, IsMemoryFault, parse_layers}
 use Rattle.yaml_parse.specs.Remaining.{ParserRemaining}
 use Rattle.yaml_parse.specs.Resolve.{Told}
 use Rattle.yaml_round_reading.specs.Reading.{contents, IsFaultOf}
-use Rattle.yaml_round_laws_reading.specs.round_content.Input.{Reads, events_of, ending_of}
-use Rattle.yaml_round_laws_reading.specs.round_content.Said.{HasContent}
-use Rattle.yaml_round_laws_reading.specs.TreeContent.{tree_content}
-use Rattle.yaml_round_laws_reading.specs.Reading.{PlainReading, HasEvents}
-use Rattle.yaml_round_laws_reading.proofs.Joining.{refused_read, read_refused, said_read, read_said, events_of_tree}
-use Rattle.yaml_round_laws_reading.proofs.round_content.ContentInputs.{have_content}
+use Rattle.yaml_round_content.specs.Input.{Reads, events_of, ending_of}
+use Rattle.yaml_round_content.specs.Said.{HasContent}
+use Rattle.yaml_round_content.specs.TreeContent.{tree_content}
+use Rattle.yaml_round_content.specs.Reading.{PlainReading, HasEvents}
+use Rattle.yaml_round_content.proofs.Joining.{refused_read, read_refused, said_read, read_said, events_of_tree}
+use Rattle.yaml_round_content.proofs.ContentInputs.{have_content}
 use Rattle.yaml_round_reading.specs.Answers.{IsRight, IsFaulty, SameContent}
 
 -- ---- one input

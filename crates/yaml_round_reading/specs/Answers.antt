@@ -4,8 +4,8 @@ use Rattle.yaml_scan.specs.declared.yaml_encoding_t.{yaml_encoding_t}
 use Rattle.yaml_scan.specs.declared.yaml_encoding_t.TheVariants.{YAML_ANY_ENCODING}
 use Rattle.yaml_scan.specs.declared.yaml_fault_t.{yaml_fault_t}
 use Rattle.yaml_scan.specs.Faults.{Fault, fault_of, IsMemoryFault, parse_layers}
-use Rattle.yaml_round_laws_reading.specs.round_content.Said.{Document}
-use Rattle.yaml_round_laws_reading.specs.Reading.{PlainReading}
+use Rattle.yaml_round_content.specs.Said.{Document}
+use Rattle.yaml_round_content.specs.Reading.{PlainReading}
 use Rattle.yaml_round_reading.specs.declared.side.yaml_side_t.{yaml_side_t}
 use Rattle.yaml_round_reading.specs.declared.side.yaml_side_t.TheVariants.{First, Second}
 

@@ -9,8 +9,8 @@ use Rattle.yaml_parse.specs.Remaining.{ParserRemaining}
 use Rattle.yaml_parse.specs.Events.{text_of}
 use Rattle.yaml_round_kept.specs.Spelled.{spelled}
 use Rattle.yaml_round_kept.specs.Kept.{is_told}
-use Rattle.yaml_round_laws_reading.specs.round_content.Normalize.{normalize_body}
-use Rattle.yaml_round_laws_reading.specs.round_content.Input.{events_of}
+use Rattle.yaml_round_content.specs.Normalize.{normalize_body}
+use Rattle.yaml_round_content.specs.Input.{events_of}
 use Rattle.yaml_round_reading.specs.declared.known.Known.{Known}
 use Rattle.yaml_round_reading.specs.Reading.{IsFaultOf}
 use Rattle.yaml_round_reading.specs.Answers.{ReadsBack}

@@ -9,7 +9,7 @@ use Rattle.yaml_parse.specs.Events as event
 use Rattle.yaml_parse.specs.Constructors.{HasUtf8}
 use Rattle.yaml_parse.specs.Resolve.{Told}
 use Rattle.yaml_parse.specs.Remaining.{ParserRemaining}
-pub use Rattle.yaml_round_laws_reading.specs.round_content.Events.{emitter_events, contents}
+pub use Rattle.yaml_round_content.specs.Events.{emitter_events, contents}
 
 -- ---- events
 

@@ -3,7 +3,7 @@
 ghost use Rattle.std.specs.Prelude.{◌≡◌};
 ghost use Rattle.yaml_parse.specs.Events.{event_of, text_of};
 ghost use Rattle.yaml_parse.specs.Constructors.{HasUtf8};
-ghost use Rattle.yaml_round_laws_reading.specs.round_content.Normalize.{normalize_body, is_lone_mark};
+ghost use Rattle.yaml_round_content.specs.Normalize.{normalize_body, is_lone_mark};
 
 use yaml_parse::{yaml_event_body_t, yaml_event_t};
 

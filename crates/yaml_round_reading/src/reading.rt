@@ -4,7 +4,7 @@ ghost use Rattle.std.specs.Prelude.{◌≡◌, true, IfOk, IfErr};
 ghost use Rattle.yaml_scan.specs.Faults.{fault_of, memory_fault};
 ghost use Rattle.yaml_parse.specs.Events.{event_of};
 ghost use Rattle.yaml_parse.specs.NextLoad.{AreLoadsByContent, LoadIsNext, RefusalIsNext};
-ghost use Rattle.yaml_round_laws_reading.specs.round_content.Input.{Reads};
+ghost use Rattle.yaml_round_content.specs.Input.{Reads};
 ghost use Rattle.yaml_round_reading.specs.Reading.{AreReal, FindsNextEvent, EndsWith};
 
 use std::alloc::Global;

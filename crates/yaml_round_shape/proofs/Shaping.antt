@@ -1,13 +1,13 @@
 -- A stream whose events were seen to be JSON's is one document shaped as JSON is.
 use Rattle.std.proofs.Common.{◌≡◌, ◌⊎◌, ◌<◌, ◌+◌, ◌*◌, ◌/◌, ℕ, Bool, true, false, not, ◌&&◌, ◌==◌, List, [], ◌∷◌, Option, Some, None, refl, ap, subst, inl, inr, arith}
 use Rattle.std.proofs.lemmas.Nat.{div-mul-add, mod-mul-add}
-use Rattle.yaml_emit_laws_pretty.specs.emit_layout.scan.declared.yaml_scalar_style_t.{yaml_scalar_style_t}
-use Rattle.yaml_emit_laws_pretty.specs.emit_layout.scan.declared.yaml_scalar_style_t.TheVariants.{YAML_ANY_SCALAR_STYLE, YAML_PLAIN_SCALAR_STYLE, YAML_SINGLE_QUOTED_SCALAR_STYLE, YAML_DOUBLE_QUOTED_SCALAR_STYLE, YAML_LITERAL_SCALAR_STYLE, YAML_FOLDED_SCALAR_STYLE}
-use Rattle.yaml_emit_laws_pretty.specs.emit_layout.scan.declared.yaml_version_directive_t.{yaml_version_directive_t}
-use Rattle.yaml_emit_laws_pretty.specs.emit_layout.parse.Events.{TagDirective}
-use Rattle.yaml_emit_laws_pretty.specs.emit_layout.Content.{Scalar, Start, Node, alias_node, scalar_node, sequence_node, mapping_node, Nodes, no_nodes, node, Pairs, no_pairs, pair, Document, Event, document_end, stream_end, sequence_end, mapping_end, node_events, items_events, pairs_events, documents_events}
+use Rattle.yaml_emit_laws_text.specs.emit_layout.scan.declared.yaml_scalar_style_t.{yaml_scalar_style_t}
+use Rattle.yaml_emit_laws_text.specs.emit_layout.scan.declared.yaml_scalar_style_t.TheVariants.{YAML_ANY_SCALAR_STYLE, YAML_PLAIN_SCALAR_STYLE, YAML_SINGLE_QUOTED_SCALAR_STYLE, YAML_DOUBLE_QUOTED_SCALAR_STYLE, YAML_LITERAL_SCALAR_STYLE, YAML_FOLDED_SCALAR_STYLE}
+use Rattle.yaml_emit_laws_text.specs.emit_layout.scan.declared.yaml_version_directive_t.{yaml_version_directive_t}
+use Rattle.yaml_emit_laws_text.specs.emit_layout.parse.Events.{TagDirective}
+use Rattle.yaml_emit_laws_text.specs.emit_layout.Content.{Scalar, Start, Node, alias_node, scalar_node, sequence_node, mapping_node, Nodes, no_nodes, node, Pairs, no_pairs, pair, Document, Event, document_end, stream_end, sequence_end, mapping_end, node_events, items_events, pairs_events, documents_events}
 use Rattle.yaml_scan_laws_texts.specs.Values.{is_plain_value}
-use Rattle.yaml_emit_laws_pretty.specs.Json.{IsJsonScalar, IsJsonStart, IsJsonKey, IsJsonNode, AreJsonNodes, AreJsonPairs, IsJsonShaped}
+use Rattle.yaml_emit_laws_text.specs.Json.{IsJsonScalar, IsJsonStart, IsJsonKey, IsJsonNode, AreJsonNodes, AreJsonPairs, IsJsonShaped}
 use Rattle.yaml_round_shape.specs.declared.seen.Shape.{Shape}
 use Rattle.yaml_round_shape.specs.declared.seen.Shape.TheVariants.{Other, Json}
 use Rattle.yaml_round_shape.specs.Seen.{is_bare, is_json_value, is_json_scalar, is_json_start, has_none, in_mapping, has_room, while, seen, seen_all, is_json}

@@ -1,8 +1,8 @@
 -- What is seen to be JSON's is.
 use Rattle.std.specs.Prelude.{◌≡◌, true, List}
-use Rattle.yaml_emit_laws_pretty.specs.emit_layout.scan.declared.yaml_encoding_t.{yaml_encoding_t}
-use Rattle.yaml_emit_laws_pretty.specs.emit_layout.Content.{Document, stream_events}
-use Rattle.yaml_emit_laws_pretty.specs.Json.{IsJsonShaped}
+use Rattle.yaml_emit_laws_text.specs.emit_layout.scan.declared.yaml_encoding_t.{yaml_encoding_t}
+use Rattle.yaml_emit_laws_text.specs.emit_layout.Content.{Document, stream_events}
+use Rattle.yaml_emit_laws_text.specs.Json.{IsJsonShaped}
 use Rattle.yaml_round_shape.specs.Seen.{seen_all, unseen, is_json}
 
 -- A stream whose events were seen to be JSON's is one document shaped as JSON is.

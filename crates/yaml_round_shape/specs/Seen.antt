@@ -1,10 +1,10 @@
 -- What the events of a stream tell of its shape, one after another.
 use Rattle.std.specs.Prelude.{ℕ, ◌+◌, ◌*◌, ◌/◌, ◌%◌, Bool, true, false, not, ◌&&◌, ◌==◌, nat_lt, List, [], ◌∷◌, Option, Some, None}
-use Rattle.yaml_emit_laws_pretty.specs.emit_layout.scan.declared.yaml_scalar_style_t.{yaml_scalar_style_t}
-use Rattle.yaml_emit_laws_pretty.specs.emit_layout.scan.declared.yaml_scalar_style_t.TheVariants.{YAML_PLAIN_SCALAR_STYLE, YAML_DOUBLE_QUOTED_SCALAR_STYLE}
-use Rattle.yaml_emit_laws_pretty.specs.emit_layout.scan.declared.yaml_version_directive_t.{yaml_version_directive_t}
-use Rattle.yaml_emit_laws_pretty.specs.emit_layout.parse.Events.{TagDirective}
-use Rattle.yaml_emit_laws_pretty.specs.emit_layout.Content.{Scalar, Start, Event, document_start, alias, scalar, sequence_start, sequence_end, mapping_start, mapping_end}
+use Rattle.yaml_emit_laws_text.specs.emit_layout.scan.declared.yaml_scalar_style_t.{yaml_scalar_style_t}
+use Rattle.yaml_emit_laws_text.specs.emit_layout.scan.declared.yaml_scalar_style_t.TheVariants.{YAML_PLAIN_SCALAR_STYLE, YAML_DOUBLE_QUOTED_SCALAR_STYLE}
+use Rattle.yaml_emit_laws_text.specs.emit_layout.scan.declared.yaml_version_directive_t.{yaml_version_directive_t}
+use Rattle.yaml_emit_laws_text.specs.emit_layout.parse.Events.{TagDirective}
+use Rattle.yaml_emit_laws_text.specs.emit_layout.Content.{Scalar, Start, Event, document_start, alias, scalar, sequence_start, sequence_end, mapping_start, mapping_end}
 use Rattle.yaml_scan_laws_texts.specs.Values.{is_plain_value}
 use Rattle.yaml_round_shape.specs.declared.seen.Shape.{Shape}
 use Rattle.yaml_round_shape.specs.declared.seen.Shape.TheVariants.{Other, Json}

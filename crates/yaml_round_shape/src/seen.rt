@@ -2,8 +2,8 @@
 
 ghost use Rattle.std.specs.Prelude.{◌≡◌, ℕ, ◌+◌, ◌*◌, Bool, true, false, not, ◌&&◌, map};
 ghost use Rattle.yaml_parse_model.specs.Events.{event_of, text_of, directive_of};
-ghost use Rattle.yaml_emit_laws_pretty.specs.emit_layout.Content.{emitter_event};
-ghost use Rattle.yaml_emit_laws_pretty.specs.emit_layout.Content as content;
+ghost use Rattle.yaml_emit_laws_text.specs.emit_layout.Content.{emitter_event};
+ghost use Rattle.yaml_emit_laws_text.specs.emit_layout.Content as content;
 ghost use Rattle.yaml_round_shape.specs.Seen as seen;
 
 use crate::values::is_json_value;

@@ -7,11 +7,11 @@ use Rattle.yaml_emit.specs.Within.{Fits}
 use Rattle.yaml_round_laws_documents.specs.content.Said as content
 use Rattle.yaml_round_laws_documents.specs.content.Loads.{loads_of}
 use Rattle.yaml_round_laws_documents.specs.content.Canon.{canon_items, canon_encoding}
-use Rattle.yaml_round_laws_documents.specs.round_laws_dumps.Events.{trees_of_dumps, AreNumerable}
+use Rattle.yaml_round_laws_documents.specs.content.DumpsEvents.{trees_of_dumps, AreNumerable}
 use Rattle.yaml_round_laws_documents.specs.Normal.{ended, LoadsAgain}
 use Rattle.yaml_round_laws_documents.proofs.Laid.{laid_out}
 use Rattle.yaml_round_laws_documents.proofs.Whole.{loads_are, plain_documents, texts_load_again, texts_tell}
-use Rattle.yaml_round_laws_documents.proofs.round_laws_reading.Loaded.{faultless_load}
+use Rattle.yaml_round_laws_documents.proofs.Loaded.{faultless_load}
 use Rattle.yaml_parse.specs.Documents.{Document}
 use Rattle.yaml_round_device.specs.declared.yaml_settings_t.{yaml_settings_t}
 use Rattle.yaml_round_writing.specs.Writing.{requested_under}

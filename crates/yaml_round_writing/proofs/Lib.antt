@@ -8,5 +8,12 @@ mod Staying
 pub mod Reloading
 mod Streams
 -- the laws beneath, for crates that name this one alone
-pub use Rattle.yaml_round_laws_documents.proofs as round_laws_documents
+pub use Rattle.yaml_round_laws_documents.proofs.DocumentsLayouts as Layouts
+pub use Rattle.yaml_round_laws_documents.proofs.Laid
+pub use Rattle.yaml_round_laws_documents.proofs.ReadBack
+pub use Rattle.yaml_round_laws_documents.proofs.Whole
+pub use Rattle.yaml_round_laws_documents.proofs.Flags
+pub use Rattle.yaml_round_laws_documents.proofs.Walks
+pub use Rattle.yaml_round_laws_documents.proofs.ReadingJoining as Joining
+pub use Rattle.yaml_round_laws_documents.proofs.Loaded
 pub use Rattle.yaml_round_reading.proofs.Plain

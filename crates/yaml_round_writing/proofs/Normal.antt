@@ -10,7 +10,7 @@ use Rattle.yaml_round_laws_documents.specs.content.Input.{events_of}
 use Rattle.yaml_round_laws_documents.specs.content.Said.{Document, HasContent}
 use Rattle.yaml_round_laws_documents.specs.content.Canon.{canon_items, canon_encoding}
 use Rattle.yaml_round_laws_documents.specs.content.ContentLaws.{IsSet, AreCanonical}
-use Rattle.yaml_round_laws_documents.proofs.content.ContentInputs.{have_content}
+use Rattle.yaml_round_laws_documents.proofs.ContentInputs.{have_content}
 use Rattle.yaml_round_laws_documents.proofs.ReadBack.{inputs_read_back, tells_inputs, layout_is_of_input, is_laid_out_again}
 use Rattle.yaml_round_device.specs.declared.yaml_settings_t.{yaml_settings_t}
 use Rattle.yaml_round_device.specs.declared.yaml_output_encoding_t.{yaml_output_encoding_t}
@@ -19,7 +19,7 @@ use Rattle.yaml_round_reading.specs.Reading.{emitter_events}
 use Rattle.yaml_round_writing.specs.Writing.{encoding_under, requested_under}
 use Rattle.yaml_round_writing.specs.Answers.{IsLayout, IsLaidOut, IsNormalForm, canonical_text}
 use Rattle.yaml_round_reading.proofs.Plain.{right_ending, has_events, events_are, events_right}
-use Rattle.yaml_round_laws_documents.proofs.round_laws_reading.Joining.{said_read, read_said}
+use Rattle.yaml_round_laws_documents.proofs.ReadingJoining.{said_read, read_said}
 
 set_under : (e : yaml_output_encoding_t) → IsSet (encoding_under e)
 set_under Utf8 = tt

@@ -28,11 +28,11 @@ use Rattle.yaml_round_writing.specs.Answers.{bytes_of}
 use Rattle.yaml_round_laws_documents.specs.content.Loads.{Loads, no_more, with_implicit_end, in_front, load_on, load_all, loads_of}
 use Rattle.yaml_round_laws_documents.specs.Normal.{ended}
 use Rattle.yaml_round_writing.specs.Reload.{to_write, to_load, HasRoot, LoadsDocument, IsLoaded, AreLoaded, stream_of, written_events, FeedsEmitter, IsWithinStream, DumpsAll, DumpsStream, IsEachDump, IsDumped, LaysOutLoading, IsReloaded}
-use Rattle.yaml_round_laws_documents.proofs.round_laws_reading.Loaded.{faultless_load, faulty_load}
+use Rattle.yaml_round_laws_documents.proofs.Loaded.{faultless_load, faulty_load}
 use Rattle.yaml_round_writing.proofs.Laying.{Led, starts, layout, past, one_layout, one_past}
 use Rattle.yaml_round_writing.proofs.Streams.{loaded_text}
 use Rattle.yaml_round_writing.proofs.Documents.{in_normal_documents}
-use Rattle.yaml_round_laws_documents.specs.round_laws_dumps.Events.{AreNumerable}
+use Rattle.yaml_round_laws_documents.specs.content.DumpsEvents.{AreNumerable}
 
 -- ---- the next document
 

@@ -9,10 +9,10 @@ use Rattle.yaml_emit.specs.Text.{encode}
 use Rattle.yaml_round_shape.specs.declared.seen.Shape.{Shape}
 use Rattle.yaml_round_shape.specs.Seen.{seen_all, unseen, is_json}
 use Rattle.yaml_round_shape.proofs.Shaping.{documents_are_json}
-use Rattle.yaml_round_laws_kept.specs.Laws.{IsJsonInput}
-use Rattle.yaml_round_laws_kept.specs.Stays.{SaysInput}
-use Rattle.yaml_round_laws_kept.proofs.Joining.{stays_pretty}
-use Rattle.yaml_round_laws_kept.proofs.Whole.{layout_reads_back}
+use Rattle.yaml_round_laws_documents.specs.KeptLaws.{IsJsonInput}
+use Rattle.yaml_round_laws_documents.specs.Stays.{SaysInput}
+use Rattle.yaml_round_laws_documents.proofs.KeptJoining.{stays_pretty}
+use Rattle.yaml_round_laws_documents.proofs.KeptWhole.{layout_reads_back}
 use Rattle.yaml_round_laws_documents.specs.content.Input.{events_of}
 use Rattle.yaml_round_device.specs.declared.yaml_settings_t.{yaml_settings_t}
 use Rattle.yaml_round_reading.specs.Reading.{emitter_events}

@@ -20,9 +20,9 @@ use Rattle.yaml_round_reading.specs.Kept.{KnownHolds}
 use Rattle.yaml_round_writing.specs.Writing.{requested_under}
 use Rattle.yaml_parse.specs.Resolve.{Told}
 use Rattle.yaml_round_laws_documents.specs.content.Said.{Document}
-use Rattle.yaml_round_laws_documents.specs.round_laws_reading.Reading.{PlainReading, HasEvents}
+use Rattle.yaml_round_laws_documents.specs.content.Reading.{PlainReading, HasEvents}
 use Rattle.yaml_round_laws_documents.specs.content.Canon.{canon}
-use Rattle.yaml_round_laws_kept.specs.Laws.{IsJsonInput}
+use Rattle.yaml_round_laws_documents.specs.KeptLaws.{IsJsonInput}
 unfoldable pub use Rattle.yaml_round_reading.specs.Answers.{IsRight, IsFaulty}
 pub use Rattle.yaml_round_reading.specs.Answers.{SameContent, IsCompared, IsSideFaulty, IsSideStarved, IsSame, ReadsBack, IsReadBack}
 

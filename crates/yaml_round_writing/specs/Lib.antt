@@ -5,7 +5,6 @@ pub mod Answers
 pub mod Reload
 -- what it speaks of, and the laws beneath, for crates that name this one alone
 pub use Rattle.yaml_round_laws_documents.specs as round_laws_documents
-pub use Rattle.yaml_round_laws_kept.specs as round_laws_kept
 pub use Rattle.yaml_emit.specs as emit
 pub use Rattle.yaml_round_lines.specs.EventLine
 pub use Rattle.yaml_round_reading.specs.Reading

@@ -1,8 +1,13 @@
 pub mod HistoryLemmas
 pub mod StepwiseLemmas
 -- what it stands on, for crates of laws that name this one alone
-pub use Rattle.yaml_scan_model.proofs as scan_model
-pub use Rattle.yaml_scan_words.proofs as scan_words
-pub use Rattle.yaml_scan_scalars.proofs as scan_scalars
-pub use Rattle.yaml_scan_block.proofs as scan_block
-pub use Rattle.yaml_scan_decode.proofs as scan_decode
+pub use Rattle.yaml_scan_decode.proofs.CompleteLemmas
+pub use Rattle.yaml_scan_decode.proofs.SpellingLemmas
+pub use Rattle.yaml_scan_model.proofs.MarksLemmas
+pub use Rattle.yaml_scan_model.proofs.RunsLemmas
+pub use Rattle.yaml_scan_scalars.proofs.PlainLemmas
+pub use Rattle.yaml_scan_words.proofs.BetweenLemmas
+pub use Rattle.yaml_scan_words.proofs.GapsRead
+pub use Rattle.yaml_scan_words.proofs.HasLemmas
+pub use Rattle.yaml_scan_words.proofs.PlacesLemmas
+pub use Rattle.yaml_scan_words.proofs.RunsLemmas as WordsRunsLemmas

@@ -6,9 +6,9 @@ use Rattle.yaml_scan_history.specs.scan_model.Marks.{byte, break_width, column_a
 use Rattle.yaml_scan_history.specs.scan_model.Classes.{is_digit_byte}
 use Rattle.yaml_scan_history.specs.scan_model.Runs.{past, is_blank_there, is_text, past_blanks, line_end}
 use Rattle.yaml_scan_history.specs.scan_model.Wrong.{Wrong}
-use Rattle.yaml_scan_history.proofs.scan_model.MarksLemmas.{within, past_break}
-use Rattle.yaml_scan_history.proofs.scan_model.RunsLemmas.{past-le, text_parts}
-use Rattle.yaml_scan_history.proofs.scan_words.PlacesLemmas.{IsFrom, Lands}
+use Rattle.yaml_scan_history.proofs.MarksLemmas.{within, past_break}
+use Rattle.yaml_scan_history.proofs.RunsLemmas.{past-le, text_parts}
+use Rattle.yaml_scan_history.proofs.PlacesLemmas.{IsFrom, Lands}
 use Rattle.yaml_scan_history.specs.scan_block.Value.{BlockLine, block_value}
 use Rattle.yaml_scan_history.specs.scan_block.Lines.{spaces, LineSpot, Stops, Line, Tab, spot_behind, line_spot, Lines, with_line, line_then, lines_from}
 use Rattle.yaml_scan_history.specs.scan_block.Header.{HeaderText, is_chomping, indicators, digit_place, past_comment, header_end, header_at}

@@ -5,7 +5,7 @@ use Rattle.yaml_scan_history.specs.scan_model.declared.record.yaml_mark_t.{yaml_
 use Rattle.yaml_scan_history.specs.scan_model.Marks.{mark_at}
 use Rattle.yaml_scan_history.specs.scan_model.Wrong.{Wrong}
 use Rattle.yaml_scan_history.specs.scan_words.Between.{Gap, gap_at}
-use Rattle.yaml_scan_history.proofs.scan_words.PlacesLemmas.{gap_place}
+use Rattle.yaml_scan_history.proofs.PlacesLemmas.{gap_place}
 use Rattle.yaml_scan_history.specs.declared.kind.Kind.{Kind}
 use Rattle.yaml_scan_history.specs.declared.lexeme.Lexeme.{Lexeme}
 use Rattle.yaml_scan_history.specs.Kinds.{is_end}

@@ -4,10 +4,10 @@ use Rattle.std.proofs.lemmas.Bool.{cases_Bool}
 use Rattle.std.proofs.lemmas.Bool.Decides.{nat_tests}
 use Rattle.yaml_scan_history.specs.scan_model.Marks.{byte, break_width, column_at, is_blank}
 use Rattle.yaml_scan_history.specs.scan_model.Wrong.{Wrong}
-use Rattle.yaml_scan_history.proofs.scan_model.MarksLemmas.{within, past_break}
+use Rattle.yaml_scan_history.proofs.MarksLemmas.{within, past_break}
 use Rattle.yaml_scan_history.specs.scan_scalars.Pieces.{Piece, Kept, Blank, Break}
 use Rattle.yaml_scan_history.specs.scan_scalars.Plain.{is_bracket, leads, PlainSpot, Ends, Takes, Faulty, ends_at, spot_at, Words, is_nothing, with_piece, words_from, follows, words, PlainText, plain_with, plain_text, plain_at}
-use Rattle.yaml_scan_history.proofs.scan_scalars.PlainLemmas.{not_ended, blank_inside}
+use Rattle.yaml_scan_history.proofs.PlainLemmas.{not_ended, blank_inside}
 
 less_of : (a b : ℕ) → nat_lt a b ≡ true → a < b
 less_of a b h = grind (arith, nat_tests)

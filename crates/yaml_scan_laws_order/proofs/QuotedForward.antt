@@ -5,9 +5,9 @@ use Rattle.std.proofs.lemmas.Bool.Decides.{nat_tests}
 use Rattle.yaml_scan_history.specs.scan_model.Marks.{byte, break_width, is_blank}
 use Rattle.yaml_scan_history.specs.scan_model.Breaks.{is_document_indicator}
 use Rattle.yaml_scan_history.specs.scan_model.Wrong.{Wrong}
-use Rattle.yaml_scan_history.proofs.scan_model.MarksLemmas.{within, past_break}
+use Rattle.yaml_scan_history.proofs.MarksLemmas.{within, past_break}
 use Rattle.yaml_scan_history.specs.scan_words.Readings.{behind_bytes}
-use Rattle.yaml_scan_history.proofs.scan_words.PlacesLemmas.{Lands}
+use Rattle.yaml_scan_history.proofs.PlacesLemmas.{Lands}
 use Rattle.yaml_scan_history.specs.scan_scalars.Pieces.{Piece, value}
 use Rattle.yaml_scan_history.specs.scan_scalars.Quoted.{Standing, Closing, Pieces, Bad, hex_digit, hex_value, is_scalar, coded, hex_len, simple_escape, escaped, escape_at, quote_at, standing_at, with_front, followed, pieces, valued, quoted_at}
 

@@ -9,13 +9,13 @@ use Rattle.yaml_scan_history.specs.scan_model.Tokens as tokens
 use Rattle.yaml_scan_history.specs.scan_model.Tokens.{TokenBody}
 use Rattle.yaml_scan_history.specs.scan_model.Marks.{byte, break_width, column_at, is_blank_or_end}
 use Rattle.yaml_scan_history.specs.scan_model.Wrong.{Wrong}
-use Rattle.yaml_scan_history.proofs.scan_model.MarksLemmas.{within, past_break}
+use Rattle.yaml_scan_history.proofs.MarksLemmas.{within, past_break}
 use Rattle.yaml_scan_history.specs.scan_words.Readings.{behind_bytes}
 use Rattle.yaml_scan_history.specs.scan_words.Indicators.{is_document_start, is_document_end}
 use Rattle.yaml_scan_history.specs.scan_words.Anchors.{anchor_at}
 use Rattle.yaml_scan_history.specs.scan_words.Tags.{TagText, tag_end, tag_at}
 use Rattle.yaml_scan_history.specs.scan_words.Directives.{ValueText, value_end, value_at, line_place, comment_end, break_end, line_end_at, with_line, finished}
-use Rattle.yaml_scan_history.proofs.scan_words.PlacesLemmas.{IsFrom, Lands, run_place, anchor_place, tag_place, value_place}
+use Rattle.yaml_scan_history.proofs.PlacesLemmas.{IsFrom, Lands, run_place, anchor_place, tag_place, value_place}
 use Rattle.yaml_scan_history.specs.scan_scalars.Quoted.{double_quoted_at, single_quoted_at}
 use Rattle.yaml_scan_history.specs.scan_scalars.Plain.{PlainText, starts_plain, plain_at}
 use Rattle.yaml_scan_history.specs.scan_block.Block.{BlockText, block_at, style_at}

@@ -6,11 +6,11 @@ use Rattle.yaml_scan_history.specs.scan_model.Marks.{byte, break_of, break_width
 use Rattle.yaml_scan_history.specs.scan_model.Breaks.{feed_at}
 use Rattle.yaml_scan_history.specs.scan_model.Wrong.{Wrong}
 use Rattle.yaml_scan_history.specs.scan_words.Written.{are_gap, has_break}
-use Rattle.yaml_scan_history.proofs.scan_words.HasLemmas.{Has}
-use Rattle.yaml_scan_history.proofs.scan_model.RunsLemmas.{space_parts}
+use Rattle.yaml_scan_history.proofs.HasLemmas.{Has}
+use Rattle.yaml_scan_history.proofs.RunsLemmas.{space_parts}
 use Rattle.yaml_scan_history.specs.scan_scalars.Pieces.{Blank, Break}
 use Rattle.yaml_scan_history.specs.scan_scalars.Plain.{leads, PlainSpot, Ends, Takes, spot_at, ends_at, Words, words_from, follows, words}
-use Rattle.yaml_scan_history.proofs.scan_scalars.PlainLemmas.{spot_break, spot_blank, spot_ends}
+use Rattle.yaml_scan_history.proofs.PlainLemmas.{spot_break, spot_blank, spot_ends}
 use Rattle.yaml_scan_laws_texts.specs.PlainLaws.{ends_plain}
 
 -- no word more: what is left ends at the place

@@ -7,7 +7,7 @@ use Rattle.yaml_scan_history.specs.scan_model.Classes.{is_bom, is_breakz}
 use Rattle.yaml_scan_history.specs.scan_words.Runs.{belongs, run_within}
 use Rattle.yaml_scan_history.specs.scan_words.Between.{step_at, is_skipped, gap_within, gap_at}
 use Rattle.yaml_scan_history.specs.scan_words.Directives.{comment_end}
-use Rattle.yaml_scan_history.proofs.scan_words.BetweenLemmas.{bom_bytes}
+use Rattle.yaml_scan_history.proofs.BetweenLemmas.{bom_bytes}
 use Rattle.yaml_scan_laws_texts.proofs.Whole.{IsWhole, whole_past, whole_ascii, whole_after, whole_before, whole_behind, whole_bom}
 
 less_of : (a b : ℕ) → nat_lt a b ≡ true → a < b

@@ -28,6 +28,9 @@ pub mod Near
 pub mod Lines
 pub mod Directives
 -- what it stands on, for crates that name this one alone
-pub use Rattle.yaml_scan_history.proofs as scan_history
+pub use Rattle.yaml_scan_history.proofs.CompleteLemmas
+pub use Rattle.yaml_scan_history.proofs.SpellingLemmas
+pub use Rattle.yaml_scan_history.proofs.MarksLemmas
+pub use Rattle.yaml_scan_history.proofs.HasLemmas
 pub use Rattle.yaml_scan_words.proofs.GapsRead
 pub use Rattle.yaml_scan_words.proofs.NamesRead

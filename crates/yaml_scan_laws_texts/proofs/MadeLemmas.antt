@@ -19,7 +19,7 @@ use Rattle.yaml_scan_laws_order.specs.scan_history.History.{placed, depth, key_a
 use Rattle.yaml_scan_laws_order.specs.scan_history.Words.{WordText, valued, tagged, directed, blocked, kind_at, word_at}
 use Rattle.yaml_scan_laws_order.specs.scan_history.Next.{Next, Read, Fails, Ends, level_in, begun, finished, allowed_behind, misplaced, missed, lost_by, next, extended, history}
 use Rattle.yaml_scan_laws_order.specs.scan_history.Stepwise.{no_colon, tested, unless_wrong, unless_lost, of_kind, unless_missed}
-use Rattle.yaml_scan_laws_order.proofs.scan_history.StepwiseLemmas.{stepwise}
+use Rattle.yaml_scan_laws_order.proofs.StepwiseLemmas.{stepwise}
 
 abbrev pub is_plain : Kind → Bool
 is_plain kinds.Plain = true

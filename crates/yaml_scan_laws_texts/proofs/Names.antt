@@ -6,13 +6,13 @@ use Rattle.yaml_scan_history.specs.scan_model.declared.Context.{Context}
 use Rattle.yaml_scan_history.specs.scan_model.Marks.{byte}
 use Rattle.yaml_scan_history.specs.scan_model.Classes.{is_digit_byte, is_alpha_byte}
 use Rattle.yaml_scan_history.specs.scan_model.Wrong.{Wrong}
-use Rattle.yaml_scan_history.proofs.scan_model.MarksLemmas.{within}
+use Rattle.yaml_scan_history.proofs.MarksLemmas.{within}
 use Rattle.yaml_scan_history.specs.scan_words.Runs.{belongs, run_within}
 use Rattle.yaml_scan_history.specs.scan_words.Anchors.{may_end_name, name_between, anchor_at}
 use Rattle.yaml_scan_history.specs.scan_words.Tags.{name_end}
 use Rattle.yaml_scan_history.specs.scan_words.Directives.{handle_between, handle_at}
-use Rattle.yaml_scan_history.proofs.scan_words.RunsLemmas.{run_within-le}
-use Rattle.yaml_scan_history.proofs.scan_words.HasLemmas.{Has, range_reads}
+use Rattle.yaml_scan_history.proofs.WordsRunsLemmas.{run_within-le}
+use Rattle.yaml_scan_history.proofs.HasLemmas.{Has, range_reads}
 use Rattle.yaml_scan_laws_texts.specs.Spelled.{AreAlphas, IsName, IsHandle}
 
 pair : (a b : Bool) → (a && b) ≡ true → (a ≡ true) × (b ≡ true)

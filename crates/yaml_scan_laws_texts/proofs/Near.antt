@@ -3,8 +3,8 @@ use Rattle.std.proofs.Common.{◌≡◌, ℕ, suc, ◌+◌, ◌≤◌, nat_le, t
 use Rattle.std.specs.List.{list_all}
 use Rattle.std.proofs.lemmas.Bool.Decides.{nat_tests}
 use Rattle.yaml_scan_history.specs.scan_model.Marks.{line_at, mark_at}
-use Rattle.yaml_scan_history.proofs.scan_model.MarksLemmas.{line_more}
-use Rattle.yaml_scan_history.proofs.scan_words.HasLemmas.{Has, has}
+use Rattle.yaml_scan_history.proofs.MarksLemmas.{line_more}
+use Rattle.yaml_scan_history.proofs.HasLemmas.{Has, has}
 use Rattle.yaml_scan_history.specs.History.{is_fresh}
 use Rattle.yaml_scan_laws_texts.specs.Values.{is_value_byte, begins_value, is_plain_value}
 use Rattle.yaml_scan_laws_texts.specs.PlainLaws.{PlainIsNear}

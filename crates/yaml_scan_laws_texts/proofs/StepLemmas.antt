@@ -17,7 +17,7 @@ use Rattle.yaml_scan_laws_order.specs.scan_history.History.{depth, reached, ende
 use Rattle.yaml_scan_laws_order.specs.scan_history.Words.{WordText, kind_at, word_at}
 use Rattle.yaml_scan_laws_order.specs.scan_history.Next.{Next, Read, Fails, Ends, first_lexeme, begun, finished, allowed_behind, misplaced, missed, lost_by, kind_behind, coming, next, extended, history}
 use Rattle.yaml_scan_laws_order.specs.scan_history.Stepwise.{no_colon, not_allowed, tested, unless_wrong, unless_lost, of_kind, unless_missed, behind}
-use Rattle.yaml_scan_laws_order.proofs.scan_history.StepwiseLemmas.{stepwise}
+use Rattle.yaml_scan_laws_order.proofs.StepwiseLemmas.{stepwise}
 use Rattle.yaml_scan_laws_order.specs.scan_history.Remaining.{SpelledText, token_in, spell, all, handed_out, handed, kept_of, fault_in, Remaining, remaining}
 use Rattle.yaml_scan_laws_texts.specs.KeyFree.{asked, is_key_free, is_level_free, kinds_of}
 use Rattle.yaml_scan_laws_texts.specs.KeysLaws.{gap_in, lexeme_of}

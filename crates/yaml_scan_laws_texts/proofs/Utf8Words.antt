@@ -11,7 +11,7 @@ use Rattle.yaml_scan_history.specs.scan_model.Tokens as tokens
 use Rattle.yaml_scan_history.specs.scan_model.Tokens.{TokenBody}
 use Rattle.yaml_scan_history.specs.scan_model.Marks.{byte, break_width, column_at, is_blank, is_blank_or_end}
 use Rattle.yaml_scan_history.specs.scan_model.Wrong.{Wrong}
-use Rattle.yaml_scan_history.proofs.scan_model.MarksLemmas.{within}
+use Rattle.yaml_scan_history.proofs.MarksLemmas.{within}
 use Rattle.yaml_scan_history.specs.scan_words.Indicators.{is_document_start, is_document_end}
 use Rattle.yaml_scan_history.specs.scan_words.Anchors.{is_name_end, may_end_name, name_between, anchor_at}
 use Rattle.yaml_scan_history.specs.scan_words.Uris.{some_uri_at, uri_at}

@@ -3,8 +3,8 @@ use Rattle.std.proofs.Common.{◌≡◌, ◌≢◌, ℕ, ◌+◌, ◌-◌, ◌<�
 use Rattle.std.proofs.lemmas.Bool.Decides.{nat_tests}
 use Rattle.yaml_scan_history.specs.scan_model.Marks.{byte, break_width, ends_of, ends_break, column_at, is_blank, starts}
 use Rattle.yaml_scan_history.specs.scan_model.Breaks.{is_document_indicator}
-use Rattle.yaml_scan_history.proofs.scan_model.MarksLemmas.{no_break_between, column_more}
-use Rattle.yaml_scan_history.proofs.scan_scalars.PlainLemmas.{leads-text, spot_kept}
+use Rattle.yaml_scan_history.proofs.MarksLemmas.{no_break_between, column_more}
+use Rattle.yaml_scan_history.proofs.PlainLemmas.{leads-text, spot_kept}
 use Rattle.yaml_scan_history.specs.scan_scalars.Pieces.{Kept}
 use Rattle.yaml_scan_history.specs.scan_scalars.Plain.{is_bracket, Takes, ends_at, spot_at}
 use Rattle.yaml_scan_laws_texts.specs.Values.{is_letter_or_digit, is_value_byte}

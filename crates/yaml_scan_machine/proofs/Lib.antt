@@ -19,7 +19,3 @@ pub mod LetterLemmas
 pub mod BoundLemmas
 pub mod IndicatorLemmas
 pub mod RowLemmas
--- what it stands on, for crates that name this one alone
-pub use Rattle.yaml_scan_words.proofs as scan_words
-pub use Rattle.yaml_scan_scalars.proofs as scan_scalars
-pub use Rattle.yaml_scan_block.proofs as scan_block

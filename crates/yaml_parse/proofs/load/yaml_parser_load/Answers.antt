@@ -4,7 +4,7 @@ use Rattle.yaml_parse_model.specs.Events.{event_of}
 use Rattle.yaml_parse_document.specs.Sizes.{IsSized}
 use Rattle.yaml_parse_document.proofs.Sizing.{no_document_sized}
 use Rattle.yaml_parse_step.proofs.Loading.{keeps_on, loads_document, loads_nothing, load_faulty, load_refused, between_documents}
-use Rattle.yaml_parse_step.proofs.parse_laws_loading.NextLoads.{load_is_next, refusal_is_next}
+use Rattle.yaml_parse_step.proofs.NextLoads.{load_is_next, refusal_is_next}
 use Rattle.yaml_parse.proofs.load.yaml_parser_load.Goals as goal
 
 pub events-preserved : goal.events-preserved

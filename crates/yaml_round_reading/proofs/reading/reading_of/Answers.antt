@@ -6,7 +6,7 @@ use Rattle.yaml_parse.specs.Resolve.{Reading, no_directives}
 use Rattle.yaml_parse.specs.Machine.{initial}
 use Rattle.yaml_parse.proofs.Sentences.{as_run}
 use Rattle.yaml_round_reading.specs.Reading.{AreReal}
-use Rattle.yaml_round_laws_reading.specs.round_content.Input.{tokens_of, parsed, read}
+use Rattle.yaml_round_content.specs.Input.{tokens_of, parsed, read}
 use Rattle.yaml_round_reading.proofs.Real.{read_real}
 use Rattle.yaml_round_reading.proofs.reading.reading_of.Goals as goal
 

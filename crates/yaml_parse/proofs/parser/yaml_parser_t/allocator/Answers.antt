@@ -3,7 +3,7 @@ use Rattle.yaml_parse_step.specs.parse_grammar.Remaining.{waiting}
 use Rattle.yaml_parse_states.specs.Views.{stack_of}
 use Rattle.yaml_parse_resolve.specs.Settles.{directives_of}
 use Rattle.yaml_parse_step.specs.Steps.{peeked_of}
-use Rattle.yaml_parse_step.proofs.parse_laws_loading.AllGiven.{run_loads}
+use Rattle.yaml_parse_step.proofs.AllGiven.{run_loads}
 use Rattle.yaml_parse.proofs.parser.yaml_parser_t.allocator.Goals as goal
 
 pub returns : goal.returns

@@ -1,0 +1,324 @@
+-- One token: what the states give is loaded, and fits the tokens from then on.
+use Rattle.std.proofs.Common.{◌≡◌, ℕ, ℤ, Bool, true, false, if◌then◌else◌, ◌||◌, List, [], ◌∷◌, ◌++◌, Option, Some, None, is_some, refl, ap, sym, subst, ◌∙◌, append_assoc}
+use Rattle.std.specs.FinMap as map
+use Rattle.std.specs.Ordering.{nat_cmp}
+use Rattle.std.specs.Cmp.Lexicographic.{slice_cmp}
+use Rattle.yaml_parse_laws_trees.specs.grammar.parse_model.declared.yaml_mark_t.{yaml_mark_t}
+use Rattle.yaml_parse_laws_trees.specs.grammar.parse_model.declared.yaml_version_directive_t.{yaml_version_directive_t}
+use Rattle.yaml_parse_laws_trees.specs.grammar.parse_model.declared.yaml_sequence_style_t.TheVariants.{YAML_BLOCK_SEQUENCE_STYLE}
+use Rattle.yaml_parse_laws_trees.specs.grammar.parse_model.declared.yaml_mapping_style_t.TheVariants.{YAML_BLOCK_MAPPING_STYLE, YAML_FLOW_MAPPING_STYLE}
+use Rattle.yaml_parse_laws_trees.specs.grammar.parse_model.Tokens.{Token, TokenBody, type_of}
+use Rattle.yaml_parse_laws_trees.specs.grammar.parse_model.Tokens as token
+use Rattle.yaml_parse_laws_trees.specs.grammar.parse_model.Faults.{Fault}
+use Rattle.yaml_parse_laws_trees.specs.grammar.parse_model.Events.{TagDirective}
+use Rattle.yaml_parse_laws_trees.specs.grammar.parse_model.Events as event
+use Rattle.yaml_parse_laws_trees.specs.grammar.declared.name.Wants.{Wants}
+use Rattle.yaml_parse_laws_trees.specs.grammar.declared.name.Wants.TheVariants.{Flow, Block}
+use Rattle.yaml_parse_laws_trees.specs.grammar.declared.name.Side.{Side}
+use Rattle.yaml_parse_laws_trees.specs.grammar.declared.name.Side.TheVariants.{Key, Value}
+use Rattle.yaml_parse_laws_trees.specs.grammar.declared.name.Brackets.{Brackets}
+use Rattle.yaml_parse_laws_trees.specs.grammar.declared.name.Brackets.TheVariants as brackets
+use Rattle.yaml_parse_laws_trees.specs.grammar.declared.name.Site.{Site}
+use Rattle.yaml_parse_laws_trees.specs.grammar.declared.name.Site.TheVariants.{Root, Entry, IndentlessEntry, BlockPair, FlowPair}
+use Rattle.yaml_parse_laws_trees.specs.grammar.declared.name.Choice.{Choice}
+use Rattle.yaml_parse_laws_trees.specs.grammar.declared.name.Choice.TheVariants.{Refuse, Take, Leave}
+use Rattle.yaml_parse_laws_trees.specs.grammar.declared.problem.ParseProblem.{ParseProblem}
+use Rattle.yaml_parse_laws_trees.specs.grammar.declared.problem.ParseProblem.TheVariants as problem
+use Rattle.yaml_parse_laws_trees.specs.grammar.Items.{RawEvent, Properties, Tag, Shape, item_at, node_at}
+use Rattle.yaml_parse_laws_trees.specs.grammar.Items as item
+use Rattle.yaml_parse_laws_trees.specs.grammar.States.{State, Taken}
+use Rattle.yaml_parse_laws_trees.specs.grammar.States as state
+use Rattle.yaml_parse_laws_trees.specs.grammar.Trees.{flow_shape, event_at}
+use Rattle.yaml_parse_laws_trees.specs.grammar.Machine.{starts_content, starts_node, wants_of, follows, no_node, choice_at, taken, documents_taken, content_taken, node_taken, with_properties_taken, items_taken, more_taken, entries_taken, pairs_taken, stream_taken, lone_below, taken_at, tag_at, Fed, go, given_by}
+use Rattle.yaml_parse_laws_trees.specs.grammar.Resolve.{Directives, Settled, noted, with_version, with_tag, directive_for, is_known_version}
+use Rattle.yaml_parse_laws_trees.specs.grammar.Resolve as resolve
+use Rattle.yaml_parse_laws_trees.proofs.FaultsStanding.{Plain}
+use Rattle.yaml_parse_loader.specs.Loading.{Loading, nothing_loaded, started, aliased}
+use Rattle.yaml_parse_laws_trees.specs.Aliases.{has_anchor, undefined, alias_fault}
+use Rattle.yaml_parse_laws_trees.proofs.Faring.{onward, then_fed}
+use Rattle.yaml_parse_laws_trees.proofs.Fitting.{known, Rooted, is_named, Owes, Names, Held, held, NoneNamed, Fits, fits_below, Added, added_names, Passes, node_passes, anchor_in, placed_passes, closed_fits, whole, FedLoads, AtAlias, loads_on, loads_given}
+
+abbrev tok : TokenBody → yaml_mark_t → yaml_mark_t → Token
+tok b start end = record { body = b; start_mark = start; end_mark = end }
+
+-- ---- what can't be
+
+never : false ≡ true → ⊥
+never e = cc
+
+abbrev IsTake : Choice → Type 0
+IsTake Take = Unit {0}
+IsTake _ = ⊥
+
+-- each arm for a token that the state doesn't take is answered by computing
+was_take : (x : Choice) → x ≡ Take → IsTake x
+was_take x e = subst IsTake (sym e) tt
+
+-- ---- nodes
+
+-- a node's event and what stands above: they fit if no anchor stands at the token
+abbrev content_fits : Option (List ℕ) → List Token → Loading → Type 0
+content_fits anchor past l = Owes anchor past l × Held l
+
+content_given : (past : List Token) (t : Token) (ds : Directives) (l : Loading) (p : Option Properties) (shape : Shape) (above s : List State) → alias_fault past t.body t.start_mark ≡ None → Owes (anchor_in p) past l
+    → ((m : Loading) → Names past m → Rooted m.document.nodes → Fits (above ++ s) (t ∷ past) m) → FedLoads past t ds l (given_by (record { item = Some (node_at p shape t.start_mark t.end_mark); above = above }) s)
+content_given past t ds l p shape above s e o k =
+    loads_given past t ds l (node_at p shape t.start_mark t.end_mark) above s (λ m. Added (anchor_in p) l m) e (placed_passes p shape t.start_mark t.end_mark ds l) (λ m a. k m (added_names (anchor_in p) past l m o a) a.rooted)
+
+content_loads : (w : Wants) (p : Option Properties) (start end : yaml_mark_t) (b : TokenBody) (s : List State) (past : List Token) (ds : Directives) (l : Loading) → starts_content w (type_of b) ≡ true → Plain s
+    → Owes (anchor_in p) past l → FedLoads past (tok b start end) ds l (given_by (content_taken w p start end b) s)
+content_loads w p start end (token.scalar value style) s past ds l c pl o =
+    content_given past (tok (token.scalar value style) start end) ds l p (item.scalar value style) [] s refl o (λ m n r. fits_below s (tok (token.scalar value style) start end ∷ past) m pl n r)
+content_loads w p start end token.flow_sequence_start s past ds l c pl o =
+    content_given past (tok token.flow_sequence_start start end) ds l p (flow_shape brackets.Sequence) (state.items brackets.Sequence start ∷ []) s refl o (λ m n r. (n, r))
+content_loads w p start end token.flow_mapping_start s past ds l c pl o =
+    content_given past (tok token.flow_mapping_start start end) ds l p (flow_shape brackets.Mapping) (state.items brackets.Mapping start ∷ []) s refl o (λ m n r. (n, r))
+content_loads w p start end token.block_sequence_start s past ds l c pl o =
+    content_given past (tok token.block_sequence_start start end) ds l p (item.sequence YAML_BLOCK_SEQUENCE_STYLE) (state.entries start ∷ []) s refl o (λ m n r. (n, r))
+content_loads w p start end token.block_mapping_start s past ds l c pl o =
+    content_given past (tok token.block_mapping_start start end) ds l p (item.mapping YAML_BLOCK_MAPPING_STYLE) (state.pairs start ∷ []) s refl o (λ m n r. (n, r))
+content_loads (Block (Some side)) p start end token.block_entry s past ds l c pl o =
+    content_given past (tok token.block_entry start end) ds l p (item.sequence YAML_BLOCK_SEQUENCE_STYLE) (state.optional (IndentlessEntry side) end ∷ state.others side ∷ []) s refl o (λ m n r. (n, held m r))
+content_loads (Block None) p start end token.block_entry s past ds l c pl o = absurd (never c)
+content_loads Flow p start end token.block_entry s past ds l c pl o = absurd (never c)
+content_loads w p start end _ s past ds l c pl o = absurd (never c)
+
+-- an alias names a node, or none
+alias_at : (name : List ℕ) (start end : yaml_mark_t) (s : List State) (past : List Token) (ds : Directives) (l : Loading) (o : Option ℤ) (b : Bool) → map.get l.anchors name ≡ o → is_some o ≡ b → has_anchor name past ≡ b
+    → Plain s → Names past l → (is_some o ≡ true → Rooted l.document.nodes)
+    → AtAlias (undefined (has_anchor name past) start) ds (then_fed (aliased (map.get l.anchors name) start l) (λ m. onward ds m)) s (tok (token.alias name) start end ∷ past)
+alias_at name start end s past ds l None b e f g pl n r = rw (e, g) (none b f)
+  where
+    none : (b : Bool) → false ≡ b → AtAlias (undefined b start) ds (then_fed (aliased None start l) (λ m. onward ds m)) s (tok (token.alias name) start end ∷ past)
+    none true f = absurd (never f)
+    none false f = refl
+alias_at name start end s past ds l (Some k) b e f g pl n r = rw (e, g) (some b f)
+  where
+    some : (b : Bool) → true ≡ b → AtAlias (undefined b start) ds (then_fed (aliased (Some k) start l) (λ m. onward ds m)) s (tok (token.alias name) start end ∷ past)
+    some true f = (_, refl, fits_below s (tok (token.alias name) start end ∷ past) _ pl n (r refl))
+    some false f = absurd (never (sym f))
+
+pub node_loads : (w : Wants) (start end : yaml_mark_t) (b : TokenBody) (s : List State) (past : List Token) (ds : Directives) (l : Loading) → starts_node w (type_of b) ≡ true → Plain s → Names past l → Held l
+    → FedLoads past (tok b start end) ds l (given_by (node_taken w start end b) s)
+node_loads w start end (token.alias name) s past ds l c pl n h =
+    alias_at name start end s past ds l (map.get l.anchors name) (is_some (map.get l.anchors name)) refl refl (sym (n name)) pl n (λ e. h name e)
+node_loads w start end (token.anchor name) s past ds l c pl n h =
+    loads_on past (tok (token.anchor name) start end) ds l (state.with_properties w (record { anchor = Some name; tag = None; from = start; to = end }) ∷ []) s refl
+    (λ q. ap (λ (z : Bool). is_named q (Some name) || z) (n q), h)
+node_loads w start end (token.tag handle suffix) s past ds l c pl n h =
+    loads_on past (tok (token.tag handle suffix) start end) ds l (state.with_properties w (record { anchor = None; tag = Some (tag_at handle suffix start); from = start; to = end }) ∷ []) s refl (n, h)
+node_loads w start end b s past ds l c pl n h = content_loads w None start end b s past ds l c pl n
+
+-- ---- properties
+
+not_first : (a b : Bool) → a ≡ false → (if a || b then Take else Leave) ≡ Take → b ≡ true
+not_first true b e h = cc
+not_first false true e h = refl
+not_first false false e h = cc
+
+properties_loads : (w : Wants) (anchor : Option (List ℕ)) (tag : Option Tag) (from to start end : yaml_mark_t) (b : TokenBody) (s : List State) (past : List Token) (ds : Directives) (l : Loading)
+    → choice_at (state.with_properties w (record { anchor = anchor; tag = tag; from = from; to = to })) (type_of b) ≡ Take → Plain s → Owes anchor past l → Held l
+    → FedLoads past (tok b start end) ds l (given_by (with_properties_taken w (record { anchor = anchor; tag = tag; from = from; to = to }) start end b) s)
+properties_loads w None tag from to start end (token.anchor name) s past ds l c pl o h =
+    loads_on past (tok (token.anchor name) start end) ds l (state.with_properties w (record { anchor = Some name; tag = tag; from = from; to = end }) ∷ []) s refl
+    (λ q. ap (λ (z : Bool). is_named q (Some name) || z) (o q), h)
+properties_loads w (Some x) tag from to start end (token.anchor name) s past ds l c pl o h = absurd (was_take _ c)
+properties_loads w anchor None from to start end (token.tag handle suffix) s past ds l c pl o h =
+    loads_on past (tok (token.tag handle suffix) start end) ds l (state.with_properties w (record { anchor = anchor; tag = Some (tag_at handle suffix start); from = from; to = end }) ∷ []) s refl (o, h)
+properties_loads w anchor (Some x) from to start end (token.tag handle suffix) s past ds l c pl o h = absurd (was_take _ c)
+properties_loads w anchor tag from to start end b s past ds l c pl o h =
+    content_loads w (Some (record { anchor = anchor; tag = tag; from = from; to = to })) start end b s past ds l (not_first false (starts_content w (type_of b)) refl c) pl o
+
+-- ---- between documents
+
+stream_loads : (start end : yaml_mark_t) (b : TokenBody) (s : List State) (past : List Token) (ds : Directives) (l : Loading) → choice_at state.stream (type_of b) ≡ Take → NoneNamed past
+    → FedLoads past (tok b start end) ds l (given_by (stream_taken start end b) s)
+stream_loads start end (token.stream_start encoding) s past ds l c n =
+    loads_given past (tok (token.stream_start encoding) start end) ds l (event_at (event.stream_start encoding) start end) (state.first ∷ []) s (λ m. Unit {0}) refl (l, λ k. refl, tt) (λ m q. n)
+stream_loads start end _ s past ds l c n = absurd (was_take _ c)
+
+noted_if : (b : Bool) (d : Directives) (f : Fault) (i : RawEvent) (l : Loading) → Passes (if b then noted d else resolve.refused f) i l (λ m. Unit {0})
+noted_if true d f i l = tt
+noted_if false d f i l = tt
+
+version_passes : (v : Option yaml_version_directive_t) (tags : List TagDirective) (major minor : ℤ) (at : yaml_mark_t) (i : RawEvent) (l : Loading) → Passes (with_version v tags major minor at) i l (λ m. Unit {0})
+version_passes (Some v) tags major minor at i l = tt
+version_passes None tags major minor at i l = noted_if (is_known_version major minor) _ _ i l
+
+handle_passes : (o : Option (List ℕ)) (ds : Directives) (handle prefix : List ℕ) (at : yaml_mark_t) (i : RawEvent) (l : Loading) → Passes (with_tag o ds handle prefix at) i l (λ m. Unit {0})
+handle_passes (Some x) ds handle prefix at i l = tt
+handle_passes None ds handle prefix at i l = tt
+
+nothing_known : (name : List ℕ) → known name nothing_loaded ≡ false
+nothing_known name = ap (λ (o : Option ℤ). is_some o) (map.get-empty (slice_cmp nat_cmp) name)
+
+none_held : (b : Bool) (A : Type 0) → b ≡ false → b ≡ true → A
+none_held true A e h = absurd (never (sym e))
+none_held false A e h = cc
+
+-- a document that starts
+abbrev pub Started : List Token → Loading → Type 0
+Started past m = Names past m × Held m
+
+start_fits : (past : List Token) (version : Option yaml_version_directive_t) (directives : List TagDirective) (implicit : Bool) (from : yaml_mark_t) → NoneNamed past → Started past (started version directives implicit from)
+start_fits past version directives implicit from n = (λ name. nothing_known name ∙ sym (n name), λ name k. none_held _ _ (nothing_known name) k)
+
+pub start_passes : (implicit : Bool) (from to : yaml_mark_t) (past : List Token) (ds : Directives) (l : Loading) → NoneNamed past
+    → Passes (resolve.settle (item_at (item.document implicit) from to) ds) (item_at (item.document implicit) from to) l (λ m. Started past m)
+start_passes implicit from to past ds l n = (_, λ k. refl, start_fits past ds.version ds.tags implicit from n)
+
+documents_given : (from start end : yaml_mark_t) (b : TokenBody) (s : List State) (past : List Token) (ds : Directives) (l : Loading) → ((name : List ℕ) → b ≡ token.alias name → ⊥) → s ≡ []
+    → FedLoads past (tok b start end) ds l (given_by (documents_taken from start end b) s)
+documents_given from start end (token.version_directive major minor) s past ds l c e =
+    loads_given past (tok (token.version_directive major minor) start end) ds l (item_at (item.version_directive major minor) start end) (state.directives from ∷ []) s (λ m. Unit {0}) refl
+    (version_passes ds.version ds.tags major minor start _ l) (λ m q. tt)
+documents_given from start end (token.tag_directive handle prefix) s past ds l c e =
+    loads_given past (tok (token.tag_directive handle prefix) start end) ds l (item_at (item.tag_directive handle prefix) start end) (state.directives from ∷ []) s (λ m. Unit {0}) refl
+    (handle_passes (directive_for handle ds.tags) ds handle prefix start _ l) (λ m q. tt)
+documents_given from start end token.document_start s past ds l c e =
+    loads_given past (tok token.document_start start end) ds l (item_at (item.document false) from end) (state.optional Root end ∷ state.document_end ∷ state.documents ∷ []) s
+    (λ m. Started (tok token.document_start start end ∷ past) m) refl (start_passes false from end (tok token.document_start start end ∷ past) ds l (λ name. refl)) (λ m q. q)
+documents_given from start end token.stream_end s past ds l c e =
+    loads_given past (tok token.stream_end start end) ds l (event_at event.stream_end start end) [] s (λ m. Unit {0}) refl (l, λ k. refl, tt)
+    (λ m q. subst (λ (z : List State). Fits z (tok token.stream_end start end ∷ past) m) (sym e) tt)
+documents_given from start end (token.alias name) s past ds l c e = absurd (c name refl)
+documents_given from start end b s past ds l c e = loads_on past (tok b start end) ds l (state.documents ∷ []) s refl tt
+
+no_alias : (x : State) (b : TokenBody) (name : List ℕ) → (choice_at x (type_of (token.alias name)) ≡ Take → ⊥) → choice_at x (type_of b) ≡ Take → b ≡ token.alias name → ⊥
+no_alias x b name h c e = h (subst (λ (z : TokenBody). choice_at x (type_of z) ≡ Take) e c)
+
+first_loads : (start end : yaml_mark_t) (b : TokenBody) (s : List State) (past : List Token) (ds : Directives) (l : Loading) → choice_at state.first (type_of b) ≡ Take → s ≡ []
+    → FedLoads past (tok b start end) ds l (given_by (taken_at state.first (tok b start end)) s)
+first_loads start end b s past ds l c e = documents_given start start end b s past ds l (λ name. no_alias state.first b name (λ h. cc) c) e
+
+documents_loads : (start end : yaml_mark_t) (b : TokenBody) (s : List State) (past : List Token) (ds : Directives) (l : Loading) → choice_at state.documents (type_of b) ≡ Take → s ≡ []
+    → FedLoads past (tok b start end) ds l (given_by (taken_at state.documents (tok b start end)) s)
+documents_loads start end b s past ds l c e = documents_given start start end b s past ds l (λ name. no_alias state.documents b name (λ h. cc) c) e
+
+directives_loads : (from start end : yaml_mark_t) (b : TokenBody) (s : List State) (past : List Token) (ds : Directives) (l : Loading) → choice_at (state.directives from) (type_of b) ≡ Take → s ≡ []
+    → FedLoads past (tok b start end) ds l (given_by (taken_at (state.directives from) (tok b start end)) s)
+directives_loads from start end b s past ds l c e = documents_given from start end b s past ds l (λ name. no_alias (state.directives from) b name (λ h. cc) c) e
+
+end_loads : (start end : yaml_mark_t) (b : TokenBody) (s : List State) (past : List Token) (ds : Directives) (l : Loading) → choice_at state.document_end (type_of b) ≡ Take → s ≡ state.documents ∷ [] → Rooted l.document.nodes
+    → FedLoads past (tok b start end) ds l (given_by (taken_at state.document_end (tok b start end)) s)
+end_loads start end token.document_end s past ds l c e r =
+    loads_given past (tok token.document_end start end) ds l (event_at (event.document_end false) start end) [] s (λ m. Unit {0}) refl (nothing_loaded, λ k. whole l.document.nodes (k nothing_loaded) r, tt)
+    (λ m q. subst (λ (z : List State). Fits z (tok token.document_end start end ∷ past) m) (sym e) tt)
+end_loads start end _ s past ds l c e r = absurd (was_take _ c)
+
+-- ---- inside a document
+
+abbrev Inner : List Token → Loading → Type 0
+Inner past l = Names past l × Rooted l.document.nodes
+
+-- the end of a collection; no anchor stands at its token
+sequence_closes : (start end : yaml_mark_t) (t : Token) (s : List State) (past : List Token) (ds : Directives) (l : Loading) → alias_fault past t.body t.start_mark ≡ None → ((name : List ℕ) → has_anchor name (t ∷ past) ≡ has_anchor name past)
+    → Plain s → Inner past l → FedLoads past t ds l (given_by (taken (Some (event_at event.sequence_end start end)) []) s)
+sequence_closes start end t s past ds l e a pl h =
+    loads_given past t ds l (event_at event.sequence_end start end) [] s (λ m. Fits s (t ∷ past) m) e (_, λ k. refl, closed_fits end l s (t ∷ past) pl (λ name. h.0 name ∙ sym (a name)) h.1) (λ m q. q)
+
+mapping_closes : (start end : yaml_mark_t) (t : Token) (s : List State) (past : List Token) (ds : Directives) (l : Loading) → alias_fault past t.body t.start_mark ≡ None → ((name : List ℕ) → has_anchor name (t ∷ past) ≡ has_anchor name past)
+    → Plain s → Inner past l → FedLoads past t ds l (given_by (taken (Some (event_at event.mapping_end start end)) []) s)
+mapping_closes start end t s past ds l e a pl h =
+    loads_given past t ds l (event_at event.mapping_end start end) [] s (λ m. Fits s (t ∷ past) m) e (_, λ k. refl, closed_fits end l s (t ∷ past) pl (λ name. h.0 name ∙ sym (a name)) h.1) (λ m q. q)
+
+entries_loads : (o start end : yaml_mark_t) (b : TokenBody) (s : List State) (past : List Token) (ds : Directives) (l : Loading) → choice_at (state.entries o) (type_of b) ≡ Take → Plain s → Inner past l
+    → FedLoads past (tok b start end) ds l (given_by (entries_taken o start end b) s)
+entries_loads o start end token.block_entry s past ds l c pl h = loads_on past (tok token.block_entry start end) ds l (state.optional Entry end ∷ state.entries o ∷ []) s refl (h.0, held l h.1)
+entries_loads o start end token.block_end s past ds l c pl h = sequence_closes start end (tok token.block_end start end) s past ds l refl (λ name. refl) pl h
+entries_loads o start end _ s past ds l c pl h = absurd (was_take _ c)
+
+pairs_loads : (o start end : yaml_mark_t) (b : TokenBody) (s : List State) (past : List Token) (ds : Directives) (l : Loading) → choice_at (state.pairs o) (type_of b) ≡ Take → Plain s → Inner past l
+    → FedLoads past (tok b start end) ds l (given_by (pairs_taken o start end b) s)
+pairs_loads o start end token.key s past ds l c pl h =
+    loads_on past (tok token.key start end) ds l (state.optional (BlockPair Key) end ∷ state.colon (BlockPair Value) ∷ state.pairs o ∷ []) s refl (h.0, held l h.1)
+pairs_loads o start end token.block_end s past ds l c pl h = mapping_closes start end (tok token.block_end start end) s past ds l refl (λ name. refl) pl h
+pairs_loads o start end _ s past ds l c pl h = absurd (was_take _ c)
+
+others_loads : (start end : yaml_mark_t) (b : TokenBody) (side : Side) (s : List State) (past : List Token) (ds : Directives) (l : Loading) → choice_at (state.others side) (type_of b) ≡ Take → Inner past l
+    → FedLoads past (tok b start end) ds l (given_by (taken_at (state.others side) (tok b start end)) s)
+others_loads start end token.block_entry side s past ds l c h = loads_on past (tok token.block_entry start end) ds l (state.optional (IndentlessEntry side) end ∷ state.others side ∷ []) s refl (h.0, held l h.1)
+others_loads start end _ side s past ds l c h = absurd (was_take _ c)
+
+colon_loads : (start end : yaml_mark_t) (b : TokenBody) (place : Site) (s : List State) (past : List Token) (ds : Directives) (l : Loading) → choice_at (state.colon place) (type_of b) ≡ Take → Inner past l
+    → FedLoads past (tok b start end) ds l (given_by (taken_at (state.colon place) (tok b start end)) s)
+colon_loads start end token.value place s past ds l c h = loads_on past (tok token.value start end) ds l (state.optional place end ∷ []) s refl (h.0, held l h.1)
+colon_loads start end _ place s past ds l c h = absurd (was_take _ c)
+
+-- ---- in brackets
+
+given_above : (i : Option RawEvent) (up below s : List State) → given_by (taken i (up ++ below)) s ≡ given_by (taken i up) (below ++ s)
+given_above None up below s = ap (λ (z : List State). go [] z) (append_assoc up below s)
+given_above (Some i) up below s = ap (λ (z : List State). go (i ∷ []) z) (append_assoc up below s)
+
+part_loads : (bs : Brackets) (o start end : yaml_mark_t) (b : TokenBody) (s : List State) (past : List Token) (ds : Directives) (l : Loading) → starts_node Flow (type_of b) ≡ true → Plain s → Inner past l
+    → FedLoads past (tok b start end) ds l (given_by (taken (node_taken Flow start end b).item ((node_taken Flow start end b).above ++ lone_below bs (state.more bs o ∷ []))) s)
+part_loads bs o start end b s past ds l c pl h =
+    subst (λ (z : Fed). FedLoads past (tok b start end) ds l z) (sym (given_above (node_taken Flow start end b).item (node_taken Flow start end b).above (lone_below bs (state.more bs o ∷ [])) s))
+    (node_loads Flow start end b (lone_below bs (state.more bs o ∷ []) ++ s) past ds l c (plain_below bs) h.0 (held l h.1))
+  where
+    plain_below : (bs : Brackets) → Plain (lone_below bs (state.more bs o ∷ []) ++ s)
+    plain_below brackets.Sequence = (refl, pl)
+    plain_below brackets.Mapping = (refl, (refl, pl))
+
+starts_part : (a : Bool) (p : ParseProblem) → (if a then Take else Refuse p None) ≡ Take → a ≡ true
+starts_part true p h = refl
+starts_part false p h = cc
+
+items_loads : (bs : Brackets) (o start end : yaml_mark_t) (b : TokenBody) (s : List State) (past : List Token) (ds : Directives) (l : Loading) → choice_at (state.items bs o) (type_of b) ≡ Take → Plain s → Inner past l
+    → FedLoads past (tok b start end) ds l (given_by (items_taken bs o start end b) s)
+items_loads brackets.Sequence o start end token.key s past ds l c pl h =
+    loads_given past (tok token.key start end) ds l (item_at (item.node None None (item.mapping YAML_FLOW_MAPPING_STYLE)) start end)
+    (state.optional (FlowPair brackets.Sequence Key) end ∷ state.colon (FlowPair brackets.Sequence Value) ∷ state.pair_end ∷ state.more brackets.Sequence o ∷ []) s (λ m. Added None l m) refl
+    (node_passes None None (item.mapping YAML_FLOW_MAPPING_STYLE) start end ds l) (λ m a. (added_names None past l m h.0 a, held m a.rooted))
+items_loads brackets.Mapping o start end token.key s past ds l c pl h =
+    loads_on past (tok token.key start end) ds l (state.optional (FlowPair brackets.Mapping Key) end ∷ state.colon (FlowPair brackets.Mapping Value) ∷ state.more brackets.Mapping o ∷ []) s refl (h.0, held l h.1)
+items_loads brackets.Sequence o start end token.flow_sequence_end s past ds l c pl h = sequence_closes start end (tok token.flow_sequence_end start end) s past ds l refl (λ name. refl) pl h
+items_loads brackets.Mapping o start end token.flow_sequence_end s past ds l c pl h = absurd (was_take _ c)
+items_loads brackets.Sequence o start end token.flow_mapping_end s past ds l c pl h = absurd (was_take _ c)
+items_loads brackets.Mapping o start end token.flow_mapping_end s past ds l c pl h = mapping_closes start end (tok token.flow_mapping_end start end) s past ds l refl (λ name. refl) pl h
+items_loads brackets.Sequence o start end b s past ds l c pl h = part_loads brackets.Sequence o start end b s past ds l (starts_part (starts_node Flow (type_of b)) problem.NoFlowNode c) pl h
+items_loads brackets.Mapping o start end b s past ds l c pl h = part_loads brackets.Mapping o start end b s past ds l (starts_part (starts_node Flow (type_of b)) problem.NoFlowNode c) pl h
+
+more_loads : (bs : Brackets) (o start end : yaml_mark_t) (b : TokenBody) (s : List State) (past : List Token) (ds : Directives) (l : Loading) → choice_at (state.more bs o) (type_of b) ≡ Take → Plain s → Inner past l
+    → FedLoads past (tok b start end) ds l (given_by (more_taken bs o start end b) s)
+more_loads bs o start end token.flow_entry s past ds l c pl h = loads_on past (tok token.flow_entry start end) ds l (state.items bs o ∷ []) s refl h
+more_loads brackets.Sequence o start end token.flow_sequence_end s past ds l c pl h = sequence_closes start end (tok token.flow_sequence_end start end) s past ds l refl (λ name. refl) pl h
+more_loads brackets.Mapping o start end token.flow_mapping_end s past ds l c pl h = mapping_closes start end (tok token.flow_mapping_end start end) s past ds l refl (λ name. refl) pl h
+more_loads brackets.Sequence o start end _ s past ds l c pl h = absurd (was_take _ c)
+more_loads brackets.Mapping o start end _ s past ds l c pl h = absurd (was_take _ c)
+
+-- ---- each state
+
+not_left_out : (a b : Bool) (p : ParseProblem) → (if a then Leave else if b then Take else Refuse p None) ≡ Take → b ≡ true
+not_left_out true b p h = cc
+not_left_out false true p h = refl
+not_left_out false false p h = cc
+
+-- between documents one state stands alone, and the end of one stands above the documents behind it
+abbrev pub SitsAt : State → List State → Type 0 → Type 0
+SitsAt state.stream s below = s ≡ []
+SitsAt state.first s below = s ≡ []
+SitsAt state.documents s below = s ≡ []
+SitsAt (state.directives from) s below = s ≡ []
+SitsAt state.document_end s below = s ≡ state.documents ∷ []
+SitsAt _ s below = below
+
+pub taken_loads : (x : State) (t : Token) (s : List State) (past : List Token) (ds : Directives) (l : Loading) (A : Type 0) → choice_at x (type_of t.body) ≡ Take → Plain s → SitsAt x s A → Fits (x ∷ s) past l
+    → FedLoads past t ds l (given_by (taken_at x t) s)
+taken_loads state.stream t s past ds l A c pl i h = stream_loads t.start_mark t.end_mark t.body s past ds l c h
+taken_loads state.first t s past ds l A c pl i h = first_loads t.start_mark t.end_mark t.body s past ds l c i
+taken_loads state.documents t s past ds l A c pl i h = documents_loads t.start_mark t.end_mark t.body s past ds l c i
+taken_loads (state.directives from) t s past ds l A c pl i h = directives_loads from t.start_mark t.end_mark t.body s past ds l c i
+taken_loads (state.optional place before) t s past ds l A c pl i h =
+    node_loads (wants_of place) t.start_mark t.end_mark t.body s past ds l (not_left_out (follows place (type_of t.body)) (starts_node (wants_of place) (type_of t.body)) (no_node (wants_of place)) c) pl h.0 h.1
+taken_loads state.document_end t s past ds l A c pl i h = end_loads t.start_mark t.end_mark t.body s past ds l c i h
+taken_loads (state.entries o) t s past ds l A c pl i h = entries_loads o t.start_mark t.end_mark t.body s past ds l c pl h
+taken_loads (state.others side) t s past ds l A c pl i h = others_loads t.start_mark t.end_mark t.body side s past ds l c h
+taken_loads (state.pairs o) t s past ds l A c pl i h = pairs_loads o t.start_mark t.end_mark t.body s past ds l c pl h
+taken_loads (state.colon place) t s past ds l A c pl i h = colon_loads t.start_mark t.end_mark t.body place s past ds l c h
+taken_loads (state.with_properties w p) t s past ds l A c pl i h = properties_loads w p.anchor p.tag p.from p.to t.start_mark t.end_mark t.body s past ds l c pl h.0 h.1
+taken_loads (state.items bs o) t s past ds l A c pl i h = items_loads bs o t.start_mark t.end_mark t.body s past ds l c pl h
+taken_loads (state.more bs o) t s past ds l A c pl i h = more_loads bs o t.start_mark t.end_mark t.body s past ds l c pl h
+taken_loads state.pair_end t s past ds l A c pl i h = absurd (was_take _ c)
+taken_loads state.lone t s past ds l A c pl i h = absurd (was_take _ c)

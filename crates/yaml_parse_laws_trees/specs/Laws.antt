@@ -1,0 +1,29 @@
+-- What loads end in is the list's fault.
+use Rattle.std.specs.Prelude.{◌≡◌, List, Option}
+use Rattle.yaml_parse_laws_trees.specs.grammar.parse_model.Tokens.{Token}
+use Rattle.yaml_parse_laws_trees.specs.grammar.parse_model.Faults.{Fault}
+use Rattle.yaml_parse_laws_trees.specs.grammar.Machine.{run, initial}
+use Rattle.yaml_parse_laws_trees.specs.grammar.Resolve.{no_directives, Reading}
+use Rattle.yaml_parse_laws_trees.specs.grammar.Remaining.{reading_of}
+use Rattle.yaml_parse_loader.specs.Loading.{nothing_loaded}
+use Rattle.yaml_parse_laws_trees.specs.AllLoads.{load_all}
+use Rattle.yaml_parse_laws_trees.specs.Faults.{FaultOfLoading}
+
+-- what all loads of a reading end in
+abbrev pub loads_end : Reading → Option Fault
+loads_end r = (load_all r.events r.ending nothing_loaded).fault
+
+-- A list has one such fault at most.
+abbrev pub LoadFaultIsOne : Type 0
+LoadFaultIsOne = (ts : List Token) (own : Option Fault) (x y : Option Fault)
+    → FaultOfLoading ts own x → FaultOfLoading ts own y → x ≡ y
+
+-- What loads end in is the list's fault, where it has one.
+abbrev pub LoadsEndInFault : Type 0
+LoadsEndInFault = (ts : List Token) (own : Option Fault)
+    → FaultOfLoading ts own (loads_end (reading_of (run ts initial own) no_directives))
+
+-- And what is the list's fault is what loads end in.
+abbrev pub FaultEndsLoads : Type 0
+FaultEndsLoads = (ts : List Token) (own fault : Option Fault) → FaultOfLoading ts own fault
+    → loads_end (reading_of (run ts initial own) no_directives) ≡ fault

@@ -1,0 +1,86 @@
+-- The events of a content that may be written say it.
+use Rattle.std.proofs.Common.{◌≡◌, ◌==◌, ℕ, suc, Bool, true, false, ◌&&◌, List, [], ◌∷◌, length, Option, Some, refl, ap, ◌∙◌, inl, inr, codes, arith}
+use Rattle.std.proofs.lemmas.Bool.{cases_Bool}
+use Rattle.std.proofs.lemmas.Bool.Decides.{nat_tests}
+use Rattle.std.specs.Prelude.{slice_index}
+use Rattle.yaml_round_content.specs.scan_model.declared.yaml_scalar_style_t.TheVariants.{YAML_ANY_SCALAR_STYLE}
+use Rattle.yaml_round_content.specs.scan_model.declared.yaml_sequence_style_t.TheVariants.{YAML_ANY_SEQUENCE_STYLE}
+use Rattle.yaml_round_content.specs.scan_model.declared.yaml_mapping_style_t.TheVariants.{YAML_ANY_MAPPING_STYLE}
+use Rattle.yaml_round_content.specs.scan_model.declared.yaml_encoding_t.TheVariants.{YAML_ANY_ENCODING}
+use Rattle.yaml_round_content.specs.parse_model.Events.{Event, EventBody}
+use Rattle.yaml_round_content.specs.parse_model.Events as event
+use Rattle.yaml_parse_loader.specs.Numbering.{events, item_events, pair_events}
+use Rattle.yaml_round_content.specs.Normalize.{is_lone_mark, normalize_scalar}
+use Rattle.yaml_round_content.specs.Content.{content_of}
+use Rattle.yaml_round_content.specs.Events.{contents}
+use Rattle.yaml_round_content.specs.Said.{Mark, untagged, tagged, Node, alias, scalar, sequence, mapping, Nodes, no_nodes, node, Pairs, no_pairs, pair, Document, scalar_says, node_says, items_say, pairs_say, documents_say}
+use Rattle.yaml_round_content.specs.Canon.{written_node, written_nodes, written_pairs}
+use Rattle.yaml_round_content.specs.Writable.{IsMark, IsWritable, AreItemsWritable, ArePairsWritable, AreWritable}
+use Rattle.yaml_emit_laws_dumps.specs.Dumps.{as_content, as_contents, as_pairs}
+use Rattle.yaml_round_content.specs.DumpsEvents.{unplaced, content_events, told_by}
+use Rattle.yaml_round_content.specs.DumpsLaws.{ContentIsSaid}
+
+-- ---- a tag that isn't `!`
+
+never : (b : Bool) → (b && false) ≡ false
+never true = refl
+never false = refl
+
+longer : (n : ℕ) → (suc (suc n) == 1) ≡ false
+longer n = grind (arith, nat_tests)
+
+is_it : (c : ℕ) → (c == 33) ≡ true → c ≡ 33
+is_it c h = grind (arith, nat_tests)
+
+other_mark : (t value : List ℕ) → (t ≡ codes "!" → ⊥) → is_lone_mark (Some t) value ≡ false
+other_mark [] value h = let none : List ℕ = [] in ap (λ (b : Bool). b && slice_index none 0 == 33) (never (length value == 0))
+other_mark (c ∷ []) value h =
+    elim (cases_Bool (c == 33)) [
+      | inl e ↦ absurd (h (ap (λ (x : ℕ). x ∷ []) (is_it c e)))
+      | inr e ↦ ap (λ (b : Bool). (length value == 0 && true) && b) e ∙ never (length value == 0 && true)
+    ]
+other_mark (c ∷ d ∷ more) value h =
+    ap (λ (b : Bool). (length value == 0 && b) && c == 33) (longer (length more)) ∙ ap (λ (b : Bool). b && c == 33) (never (length value == 0))
+
+-- ---- nodes
+
+scalar_said : (anchor : Option (List ℕ)) (mark : Mark) (value : List ℕ) → IsMark mark → (rest : List Event)
+    → contents (told_by (events (as_content (written_node (scalar anchor mark value))) rest)) ≡ scalar_says anchor mark value ∷ contents (told_by rest)
+scalar_said anchor (untagged plain) value w rest = refl
+scalar_said anchor (tagged t) value w rest =
+    ap (λ (b : Bool). content_of (normalize_scalar b anchor (Some t) value false false YAML_ANY_SCALAR_STYLE) ∷ contents (told_by rest)) (other_mark t value w.1)
+
+mutual
+  unfolding node_says items_say pairs_say
+
+  node_said : (n : Node) → IsWritable n → (rest : List Event) → contents (told_by (events (as_content (written_node n)) rest)) ≡ node_says n (contents (told_by rest))
+  node_said (alias name) w rest = refl
+  node_said (scalar anchor mark value) w rest = scalar_said anchor mark value w.1 rest
+  node_said (sequence anchor tag items) w rest =
+      ap (λ (bs : List EventBody). event.sequence_start anchor tag true YAML_ANY_SEQUENCE_STYLE ∷ bs) (items_said items w.2 (unplaced event.sequence_end ∷ rest))
+  node_said (mapping anchor tag pairs) w rest =
+      ap (λ (bs : List EventBody). event.mapping_start anchor tag true YAML_ANY_MAPPING_STYLE ∷ bs) (pairs_said pairs w.2 (unplaced event.mapping_end ∷ rest))
+
+  items_said : (ns : Nodes) → AreItemsWritable ns → (rest : List Event) → contents (told_by (item_events (as_contents (written_nodes ns)) rest)) ≡ items_say ns (contents (told_by rest))
+  items_said no_nodes w rest = refl
+  items_said (node n ns) w rest =
+      node_said n w.0 (item_events (as_contents (written_nodes ns)) rest) ∙ ap (λ (bs : List EventBody). node_says n bs) (items_said ns w.1 rest)
+
+  pairs_said : (ps : Pairs) → ArePairsWritable ps → (rest : List Event) → contents (told_by (pair_events (as_pairs (written_pairs ps)) rest)) ≡ pairs_say ps (contents (told_by rest))
+  pairs_said no_pairs w rest = refl
+  pairs_said (pair k v ps) w rest =
+      node_said k w.0 (events (as_content (written_node v)) (pair_events (as_pairs (written_pairs ps)) rest))
+      ∙ ap (λ (bs : List EventBody). node_says k bs) (node_said v w.1 (pair_events (as_pairs (written_pairs ps)) rest))
+      ∙ ap (λ (bs : List EventBody). node_says k (node_says v bs)) (pairs_said ps w.2 rest)
+
+-- ---- documents
+
+documents_said : (c : List Document) → AreWritable c → contents (told_by (content_events c)) ≡ documents_say c
+unfolding documents_say
+documents_said [] w = refl
+documents_said (d ∷ ds) w =
+    ap (λ (bs : List EventBody). event.document_start d.version d.directives true ∷ bs) (node_said d.root w.0.root (unplaced (event.document_end true) ∷ content_events ds))
+    ∙ ap (λ (bs : List EventBody). event.document_start d.version d.directives true ∷ node_says d.root (event.document_end true ∷ bs)) (documents_said ds w.1)
+
+pub content_said : ContentIsSaid
+content_said c w = ap (λ (bs : List EventBody). event.stream_start YAML_ANY_ENCODING ∷ bs) (documents_said c w)

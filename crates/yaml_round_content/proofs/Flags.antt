@@ -1,0 +1,50 @@
+-- The flags of an input's normalized events, and layouts without a premise on them.
+use Rattle.std.proofs.Common.{◌≡◌, ℕ, Bool, true, false, List, [], ◌∷◌, Option, Some, None, refl}
+use Rattle.yaml_round_content.specs.scan_model.declared.yaml_scalar_style_t.{yaml_scalar_style_t}
+use Rattle.yaml_round_content.specs.parse_model.Events.{EventBody}
+use Rattle.yaml_round_content.specs.parse_model.Events as event
+use Rattle.yaml_round_content.specs.parse_grammar.Resolve.{Told}
+use Rattle.yaml_round_content.specs.emit_layout.Content.{emitter_event}
+use Rattle.yaml_round_content.specs.Normalize.{is_lone_mark, normalize_scalar, normalize_body}
+use Rattle.yaml_round_content.specs.Events.{emitter_events}
+use Rattle.yaml_round_content.specs.Input.{events_of}
+use Rattle.yaml_round_content.specs.ContentLaws.{IsFlagged, AreFlagged, LayoutIsOfContent, ContentIsLaidOut}
+use Rattle.yaml_round_content.specs.WritableLaws.{InputsAreFlagged, LayoutIsOfInputsContent, InputsContentIsLaidOut}
+use Rattle.yaml_round_content.proofs.Scalars.{IsScalarRight, IsRight, AreRight, input_right}
+
+some_tag : (t : List ℕ) → Some t ≡ None → ⊥
+some_tag t e = cc
+
+scalar_flagged : (lone : Bool) (anchor tag : Option (List ℕ)) (value : List ℕ) (plain quoted : Bool) (style : yaml_scalar_style_t) → IsScalarRight tag value plain quoted
+    → IsFlagged (emitter_event (normalize_scalar lone anchor tag value plain quoted style))
+scalar_flagged true anchor tag value plain quoted style h = λ e. refl
+scalar_flagged false anchor None value plain quoted style h = λ e. h
+scalar_flagged false anchor (Some t) value plain quoted style h = λ e. absurd (some_tag t e)
+
+body_flagged : (b : EventBody) → IsRight b → IsFlagged (emitter_event (normalize_body true b))
+body_flagged (event.scalar anchor tag value plain quoted style) h = scalar_flagged (is_lone_mark tag value) anchor tag value plain quoted style h
+body_flagged (event.document_end implicit) h = tt
+body_flagged event.no h = tt
+body_flagged (event.stream_start encoding) h = tt
+body_flagged event.stream_end h = tt
+body_flagged (event.document_start version directives implicit) h = tt
+body_flagged (event.alias name) h = tt
+body_flagged (event.sequence_start anchor tag implicit style) h = tt
+body_flagged event.sequence_end h = tt
+body_flagged (event.mapping_start anchor tag implicit style) h = tt
+body_flagged event.mapping_end h = tt
+
+told_flagged : (ts : List Told) → AreRight ts → AreFlagged (emitter_events true ts)
+told_flagged [] h = tt
+told_flagged (t ∷ ts) h = (body_flagged t.0.body h.0, told_flagged ts h.1)
+
+pub are_flagged : InputsAreFlagged
+are_flagged from input = told_flagged (events_of from input) (input_right from input)
+
+-- ---- layouts
+
+pub layout_of_input : LayoutIsOfContent → LayoutIsOfInputsContent
+layout_of_input layouts w right from input c has x whole is = layouts w right (events_of from input) (are_flagged from input) c has.says x whole is
+
+pub input_laid_out : ContentIsLaidOut → InputsContentIsLaidOut
+input_laid_out laid w right from input c has = laid w right from input (are_flagged from input) c has

@@ -1,0 +1,101 @@
+-- The plain reading of an input is what the machine reads.
+use Rattle.std.proofs.Common.{◌≡◌, ℕ, List, Option, Some, None, Result, Ok, Err, refl, ap, sym, subst, ◌∙◌}
+use Rattle.yaml_round_content.specs.scan_model.declared.yaml_encoding_t.{yaml_encoding_t}
+use Rattle.yaml_round_content.specs.scan_model.Tokens.{Token}
+use Rattle.yaml_round_content.specs.scan_model.Faults.{Fault}
+use Rattle.yaml_round_content.specs.parse_grammar.Trees.{Given}
+use Rattle.yaml_round_content.specs.parse_grammar.TreeSteps.{items}
+use Rattle.yaml_round_content.specs.parse_grammar.Machine.{Outcome, run, initial}
+use Rattle.yaml_round_content.specs.parse_grammar.Resolve.{Reading, reading, no_directives}
+use Rattle.yaml_round_content.specs.parse_grammar.Remaining.{reading_of}
+use Rattle.yaml_round_content.proofs.CompleteStream.{stream_runs}
+use Rattle.yaml_round_content.specs.parse_laws_loading.Places.{BeginsWithSentence, FaultOfTokens}
+use Rattle.yaml_round_content.proofs.TreesEnding.{ends_in_fault, fault_ends}
+use Rattle.yaml_round_content.proofs.Turns.{items_given}
+use Rattle.yaml_round_content.specs.Events.{contents}
+use Rattle.yaml_round_content.specs.Input.{tokens_of, read, events_of, ending_of}
+use Rattle.yaml_round_content.specs.Said.{Document, HasContent, stream_says}
+use Rattle.yaml_round_content.proofs.Injective.{says_injective}
+use Rattle.yaml_round_content.specs.TreeContent.{tree_content}
+use Rattle.yaml_round_content.specs.Reading.{TokensRead, InputsRead, ReadingIsOne, RefusedIsRead, ReadIsRefused, SaidIsRead, ReadIsSaid, EventsAreOfTree}
+use Rattle.yaml_round_content.proofs.Spelling.{spelled_before}
+use Rattle.yaml_round_content.proofs.Documents.{tree_says}
+
+-- ---- tokens
+
+abbrev pub reads : List Token → Option Fault → Reading
+reads ts own = reading_of (run ts initial own) no_directives
+
+-- a list that begins with a sentence is read as its tree's items are
+pub tree_read : (ts : List Token) (own : Option Fault) (b : BeginsWithSentence ts) → reads ts own ≡ reading (items b.tree b.rest) None no_directives
+tree_read ts own b =
+    ap (λ (us : List Token). reads us own) (b.same ∙ spelled_before b.tree b.rest) ∙ ap (λ (o : Outcome). reading_of o no_directives) (stream_runs b.tree b.rest own)
+
+pub tokens_say : (ts : List Token) (own : Option Fault) (b : BeginsWithSentence ts) → contents (reads ts own).events ≡ stream_says (tree_content b.tree)
+tokens_say ts own b =
+    let p : reads ts own ≡ reading (items b.tree b.rest) None no_directives = tree_read ts own b in
+    ap (λ (r : Reading). contents r.events) p ∙ tree_says b.tree b.rest (ap (λ (r : Reading). r.ending) (sym p) ∙ fault_ends ts own None b)
+
+-- a list has a reading, by what the machine ends in
+has_reading : (ts : List Token) (own o : Option Fault) → FaultOfTokens ts own o → (r : Result (List Document) Fault) × TokensRead ts own r
+has_reading ts own None h = (Ok (tree_content h.tree), record { sentence = h; content = refl })
+has_reading ts own (Some e) h = (Err e, h)
+
+no_content : (ts : List Token) (own : Option Fault) (e : Fault) → FaultOfTokens ts own (Some e) → BeginsWithSentence ts → ⊥
+no_content ts own e h b = h.unfinished b
+
+same_error : (o : Option Fault) (e f : Fault) → o ≡ Some e → o ≡ Some f → e ≡ f
+same_error o e f p q = cc
+
+-- ---- inputs
+
+pub read_is : (from : yaml_encoding_t) (input : List ℕ) → read from input ≡ reads (tokens_of from input).tokens (tokens_of from input).fault
+unfolding read
+read_is from input = refl
+
+sentence_of : (from : yaml_encoding_t) (input : List ℕ) → ending_of from input ≡ None → BeginsWithSentence (tokens_of from input).tokens
+sentence_of from input e =
+    subst (λ (o : Option Fault). FaultOfTokens (tokens_of from input).tokens (tokens_of from input).fault o) (ap (λ (r : Reading). r.ending) (sym (read_is from input)) ∙ e)
+    (ends_in_fault (tokens_of from input).tokens (tokens_of from input).fault)
+
+says_of : (from : yaml_encoding_t) (input : List ℕ) (b : BeginsWithSentence (tokens_of from input).tokens) → contents (events_of from input) ≡ stream_says (tree_content b.tree)
+says_of from input b = ap (λ (r : Reading). contents r.events) (read_is from input) ∙ tokens_say (tokens_of from input).tokens (tokens_of from input).fault b
+
+pub inputs_read : InputsRead
+inputs_read from input =
+    has_reading (tokens_of from input).tokens (tokens_of from input).fault (reads (tokens_of from input).tokens (tokens_of from input).fault).ending
+    (ends_in_fault (tokens_of from input).tokens (tokens_of from input).fault)
+
+pub refused_read : RefusedIsRead
+refused_read from input e p =
+    subst (λ (o : Option Fault). FaultOfTokens (tokens_of from input).tokens (tokens_of from input).fault o) (ap (λ (r : Reading). r.ending) (sym (read_is from input)) ∙ p)
+    (ends_in_fault (tokens_of from input).tokens (tokens_of from input).fault)
+
+pub read_refused : ReadIsRefused
+read_refused from input e h =
+    ap (λ (r : Reading). r.ending) (read_is from input) ∙ fault_ends (tokens_of from input).tokens (tokens_of from input).fault (Some e) h
+
+pub said_read : SaidIsRead
+said_read from input c h =
+    let b : BeginsWithSentence (tokens_of from input).tokens = sentence_of from input h.right in
+    record { sentence = b; content = says_injective c (tree_content b.tree) (sym h.says ∙ says_of from input b) }
+
+pub read_said : ReadIsSaid
+read_said from input c h = record {
+  right = ap (λ (r : Reading). r.ending) (read_is from input) ∙ fault_ends (tokens_of from input).tokens (tokens_of from input).fault None h.sentence;
+  says = says_of from input h.sentence ∙ ap stream_says (sym h.content);
+}
+
+pub events_of_tree : EventsAreOfTree
+events_of_tree from input b =
+    ap (λ (r : Reading). r.events) (read_is from input) ∙ ap (λ (r : Reading). r.events) (tree_read (tokens_of from input).tokens (tokens_of from input).fault b)
+    ∙ ap (λ (gs : List Given). (reading gs None no_directives).events) (items_given b.tree b.rest)
+
+pub one_reading : ReadingIsOne
+one_reading from input (Ok c) (Ok d) p q =
+    let b : HasContent from input c = read_said from input c p in
+    let a : HasContent from input d = read_said from input d q in
+    ap (λ (z : List Document). Ok z) (says_injective c d (sym b.says ∙ a.says))
+one_reading from input (Ok c) (Err e) p q = absurd (no_content (tokens_of from input).tokens (tokens_of from input).fault e q p.sentence)
+one_reading from input (Err e) (Ok c) p q = absurd (no_content (tokens_of from input).tokens (tokens_of from input).fault e p q.sentence)
+one_reading from input (Err e) (Err f) p q = ap (λ (z : Fault). Err z) (same_error (ending_of from input) e f (read_refused from input e p) (read_refused from input f q))

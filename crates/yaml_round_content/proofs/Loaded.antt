@@ -1,0 +1,85 @@
+-- What an input loads is its plain loading.
+use Rattle.std.proofs.Common.{◌≡◌, ℕ, List, Option, Some, None, Ok, Err, ap, sym, subst, ◌∙◌}
+use Rattle.yaml_round_content.specs.scan_model.declared.yaml_encoding_t.{yaml_encoding_t}
+use Rattle.yaml_round_content.specs.scan_model.Tokens.{Token}
+use Rattle.yaml_round_content.specs.scan_model.Faults.{Fault}
+use Rattle.yaml_round_content.specs.parse_grammar.Resolve.{Reading}
+use Rattle.yaml_round_content.specs.parse_laws_loading.Places.{BeginsWithSentence}
+use Rattle.yaml_round_content.specs.parse_laws_loading.parse_document.Documents.{Document}
+use Rattle.yaml_parse_loader.specs.Loading.{nothing_loaded}
+use Rattle.yaml_round_content.specs.parse_laws_loading.Faults.{LoadsSentence, FaultOfLoading}
+use Rattle.yaml_round_content.proofs.Unique.{one_load_fault}
+use Rattle.yaml_round_content.proofs.Ending.{loads_end_in_fault}
+use Rattle.yaml_round_content.specs.Input.{tokens_of}
+use Rattle.yaml_round_content.specs.Loads.{Loads, load_all, loads_of}
+use Rattle.yaml_round_content.specs.TreeDocuments.{tree_documents, numbered}
+use Rattle.yaml_round_content.specs.Loading.{read_of}
+use Rattle.yaml_round_content.specs.PlainLoading.{HaveDocuments, TokensLoad, unless_faulty, result_of, SourcesLoad, SourceLoadingIsOne, InputsLoad, LoadingIsOne, LoadingIsLoads, FaultlessLoad, FaultyLoad}
+use Rattle.yaml_round_content.proofs.Joining.{read_is}
+use Rattle.yaml_round_content.proofs.Numbered.{loads_numbered}
+use Rattle.yaml_parse_loader.proofs.Loads.{loads_document}
+
+-- ---- tokens
+
+abbrev loads_in : Reading → Loads
+loads_in r = load_all r.events r.ending nothing_loaded
+
+ends_in_fault : (ts : List Token) (own : Option Fault) → FaultOfLoading ts own (loads_in (read_of ts own)).fault
+ends_in_fault ts own = loads_end_in_fault ts own
+
+numbered_documents : (ts : List Token) (own : Option Fault) (b : BeginsWithSentence ts) → (loads_in (read_of ts own)).documents ≡ (numbered (tree_documents b.tree b.rest)).documents
+numbered_documents ts own b = ap (λ (l : Loads). l.documents) (loads_numbered loads_document ts own b)
+
+by_fault : (ts : List Token) (own : Option Fault) (ds : List Document) (o : Option Fault) → FaultOfLoading ts own o → ((b : BeginsWithSentence ts) → ds ≡ (numbered (tree_documents b.tree b.rest)).documents)
+    → TokensLoad ts own (unless_faulty ds o)
+by_fault ts own ds None h k = record { sentence = h.sentence; loadable = h.first; documents = k h.sentence }
+by_fault ts own ds (Some e) h k = h
+
+pub tokens_load : SourcesLoad
+tokens_load ts own = by_fault ts own (loads_in (read_of ts own)).documents (loads_in (read_of ts own)).fault (ends_in_fault ts own) (λ b. numbered_documents ts own b)
+
+-- ---- one loading
+
+as_sentence : (ts : List Token) (ds : List Document) → HaveDocuments ts ds → LoadsSentence ts None
+as_sentence ts ds h = record { sentence = h.sentence; first = h.loadable }
+
+same_documents : (ts : List Token) (own : Option Fault) (ds : List Document) → HaveDocuments ts ds → ds ≡ (loads_in (read_of ts own)).documents
+same_documents ts own ds h = h.documents ∙ sym (numbered_documents ts own h.sentence)
+
+apart : (e : Fault) (A : Type 0) → None ≡ Some e → A
+apart e A h = cc
+
+same_error : (e f : Fault) → Some e ≡ Some f → e ≡ f
+same_error e f h = cc
+
+pub one_of_tokens : SourceLoadingIsOne
+one_of_tokens ts own (Ok ds) (Ok es) p q = ap (λ (z : List Document). Ok z) (same_documents ts own ds p ∙ sym (same_documents ts own es q))
+one_of_tokens ts own (Ok ds) (Err e) p q = apart e _ (one_load_fault ts own None (Some e) (as_sentence ts ds p) q)
+one_of_tokens ts own (Err e) (Ok ds) p q = apart e _ (one_load_fault ts own None (Some e) (as_sentence ts ds q) p)
+one_of_tokens ts own (Err e) (Err f) p q = ap (λ (z : Fault). Err z) (same_error e f (one_load_fault ts own (Some e) (Some f) p q))
+
+-- ---- inputs
+
+loads_are : (from : yaml_encoding_t) (input : List ℕ) → loads_of from input ≡ loads_in (read_of (tokens_of from input).tokens (tokens_of from input).fault)
+loads_are from input = ap (λ (r : Reading). loads_in r) (read_is from input)
+
+pub inputs_load : InputsLoad
+inputs_load from input =
+    subst (λ (l : Loads). TokensLoad (tokens_of from input).tokens (tokens_of from input).fault (result_of l)) (sym (loads_are from input))
+    (tokens_load (tokens_of from input).tokens (tokens_of from input).fault)
+
+pub one_loading : LoadingIsOne
+one_loading from input r q a b = one_of_tokens (tokens_of from input).tokens (tokens_of from input).fault r q a b
+
+pub loading_loads : LoadingIsLoads
+loading_loads from input r h = one_loading from input (result_of (loads_of from input)) r (inputs_load from input) h
+
+-- ---- by parts
+
+pub faultless_load : FaultlessLoad
+faultless_load from input h =
+    subst (λ (o : Option Fault). TokensLoad (tokens_of from input).tokens (tokens_of from input).fault (unless_faulty (loads_of from input).documents o)) h (inputs_load from input)
+
+pub faulty_load : FaultyLoad
+faulty_load from input e h =
+    subst (λ (o : Option Fault). TokensLoad (tokens_of from input).tokens (tokens_of from input).fault (unless_faulty (loads_of from input).documents o)) h (inputs_load from input)

@@ -1,0 +1,22 @@
+-- The tokens of an input that a parser takes: they are well spelled.
+use Rattle.std.proofs.Common.{ℕ, List, [], ◌∷◌, Option, inl, inr}
+use Rattle.std.proofs.lemmas.Bool.{cases_Bool}
+use Rattle.yaml_round_content.specs.scan_model.declared.yaml_encoding_t.{yaml_encoding_t}
+use Rattle.yaml_round_content.specs.scan_model.Tokens.{Token}
+use Rattle.yaml_round_content.specs.scan_model.Faults.{Fault}
+use Rattle.yaml_round_content.specs.scan_history.Scanned.{scanned}
+use Rattle.yaml_round_content.specs.Input.{tokens_of}
+use Rattle.yaml_round_content.specs.round_laws_adapted.Adapted.{spells_text, cut}
+use Rattle.yaml_round_content.specs.scan_laws_names.Spelled.{AreSpelled}
+use Rattle.yaml_round_content.proofs.Inputs.{scanned_spelled}
+
+cut_spelled : (fault : Option Fault) (ts : List Token) → AreSpelled ts → AreSpelled (cut fault ts).tokens
+cut_spelled fault [] h = tt
+cut_spelled fault (t ∷ ts) h =
+    elim (cases_Bool (spells_text t.body)) [
+      | inl e ↦ rw e (h.0, cut_spelled fault ts h.1)
+      | inr e ↦ rw e tt
+    ]
+
+pub tokens_spelled : (from : yaml_encoding_t) (input : List ℕ) → AreSpelled (tokens_of from input).tokens
+tokens_spelled from input = cut_spelled (scanned from input).fault (scanned from input).tokens (scanned_spelled from input)

@@ -1,0 +1,18 @@
+//! Each function's contract is a law.
+
+ghost use Rattle.yaml_round_content.specs.DumpsLoads.{AgreeingSayTheSame, LoadsOfContent, LoadsOfRenamed};
+
+/// Events that say the same load documents that agree, and both or neither are refused.
+pub fn loads_of_content()
+    ensures { LoadsOfContent }
+{}
+
+/// So do events that say the same with each document's anchors under other names, no two names of one document becoming one.
+pub fn loads_of_renamed()
+    ensures { LoadsOfRenamed }
+{}
+
+/// Documents that agree say the same, as they are dumped.
+pub fn agreeing_say_the_same()
+    ensures { AgreeingSayTheSame }
+{}

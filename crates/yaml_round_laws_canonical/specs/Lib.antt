@@ -1,9 +1,0 @@
-pub mod BytesLaws
-pub mod Reads
-pub mod TreeLaws
-pub mod Adapting
--- what it stands on, for crates that name this one alone
-pub use Rattle.yaml_scan_decode.specs as scan_decode
-pub use Rattle.yaml_emit_laws_text.specs as back_canon
-pub use Rattle.yaml_round_laws_adapted.specs as round_laws_adapted
-pub use Rattle.yaml_parse_grammar.specs as parse_grammar

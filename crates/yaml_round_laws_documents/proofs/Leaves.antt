@@ -1,0 +1,219 @@
+-- Handles, tags, directives and quoted scalars.
+use Rattle.std.proofs.Common.{◌≡◌, ℕ, suc, ◌+◌, ◌-◌, ◌<◌, Bool, true, false, not, ◌&&◌, ◌==◌, List, [], ◌∷◌, ◌++◌, length, take, drop, get_or, Option, Some, None, refl, sym, ap, subst, ◌∙◌, arith}
+use Rattle.std.specs.Prelude.{if◌then◌else◌, IsUtf8, codes}
+use Rattle.std.specs.List.{list_all}
+use Rattle.std.specs.Str.{chars}
+use Rattle.std.proofs.lemmas.Str.{scalars-chars}
+use Rattle.yaml_emit_layout.specs.scan.Classes.{is_alpha_byte}
+use Rattle.yaml_emit_layout.specs.scan.declared.yaml_version_directive_t.{yaml_version_directive_t}
+use Rattle.yaml_emit_layout.specs.parse.Events.{TagDirective}
+use Rattle.yaml_emit_layout.specs.emit_text.declared.Settings.{Settings}
+use Rattle.yaml_emit_layout.specs.emit_text.declared.page.Page.{Page}
+use Rattle.yaml_emit_layout.specs.emit_text.Layout.{Layout, ◌▹◌, choose, when, char, letters, blanks, new_line, gap, word, is_past}
+use Rattle.yaml_emit_layout.specs.emit_text.Quoted.{needs_escape, escape_text, first, is_empty, may_fold, fold, escaped, quoted_char, quoted_body, double_quoted}
+use Rattle.yaml_emit_layout.specs.emit_tags.Tags.{has_shorter_prefix, directive_for, defines, primary, secondary, unless_defined, defaults, in_force, split_by, spelled, tag_spelling, uri_text}
+use Rattle.yaml_emit_layout.specs.declared.problem.Problem.{Problem}
+use Rattle.yaml_emit_layout.specs.Grammar.{or_else, between, inner_problem, ends_problem, handle_problem, prefix_problem, twice_problem, directive_problem, directives_problem}
+use Rattle.yaml_emit_layout.specs.Nodes.{Context, anchor_text, tag_text, version_word, version_text, directive_text, directives_text, line_at}
+use Rattle.yaml_round_laws_documents.specs.BytesLaws.{IsNameOption, IsTextOption, HavePrefixes}
+use Rattle.yaml_round_laws_documents.proofs.Characters.{Fits, AllFit, AreChars, AreBytes, all_append, graphic, is_32, and_left, and_right, equals, names_fit, escape_fits, raw_fits, uri_fits, bytes_drop, utf8_bytes, scalars_below}
+use Rattle.yaml_round_laws_documents.proofs.Layouts.{Tame, both, stay_tame, choose_tame, when_tame, char_tame, letters_tame, blanks_tame, new_line_tame, gap_tame, word_tame, line_tame}
+
+-- ---- handles
+
+if_none : (b : Bool) (p : Problem) (o : Option Problem) → (if b then Some p else o) ≡ None → (b ≡ false) × (o ≡ None)
+if_none false p o e = (refl, e)
+if_none true p o e = absurd (cc)
+
+none_all : (b : Bool) (p : Problem) → (if b then None else Some p) ≡ None → b ≡ true
+none_all true p e = refl
+none_all false p e = absurd (cc)
+
+not_not : (b : Bool) → not b ≡ false → b ≡ true
+not_not true e = refl
+not_not false e = absurd (cc)
+
+pub or_first : (p q : Option Problem) → or_else p q ≡ None → p ≡ None
+or_first None q e = refl
+or_first (Some p) q e = absurd (cc)
+
+pub or_second : (p q : Option Problem) → or_else p q ≡ None → q ≡ None
+or_second None q e = e
+or_second (Some p) q e = absurd (cc)
+
+mark_fits : (b : ℕ) → b ≡ 33 → Fits b
+mark_fits b e = subst (λ (x : ℕ). Fits x) (sym e) (graphic 33 (omega arith) (omega arith))
+
+-- a front, and the last one
+all_but_last : (x : ℕ) (xs : List ℕ) → AllFit (take (length xs) (x ∷ xs)) → Fits (get_or (x ∷ xs) (length xs) 0) → AllFit (x ∷ xs)
+all_but_last x [] h k = (k, tt)
+all_but_last x (y ∷ ys) (h, hs) k = (h, all_but_last y ys hs k)
+
+long_rest : (c r : ℕ) (rs : List ℕ) → length (c ∷ r ∷ rs) - 1 - 1 ≡ length rs
+long_rest c r rs = omega arith
+
+last_rest : (c r : ℕ) (rs : List ℕ) → length (c ∷ r ∷ rs) - 1 ≡ suc (length rs)
+last_rest c r rs = omega arith
+
+handle_by : (h : List ℕ) → get_or h 0 0 ≡ 33 → get_or h (length h - 1) 0 ≡ 33 → list_all is_alpha_byte (between h) ≡ true → AllFit h
+handle_by [] first last inner = tt
+handle_by (c ∷ []) first last inner = (mark_fits c first, tt)
+handle_by (c ∷ r ∷ rs) first last inner =
+    let front : AllFit (take (length rs) (r ∷ rs)) = names_fit (take (length rs) (r ∷ rs)) (sym (ap (λ n. list_all is_alpha_byte (take n (r ∷ rs))) (long_rest c r rs)) ∙ inner) in
+    let end : get_or (r ∷ rs) (length rs) 0 ≡ 33 = sym (ap (λ n. get_or (c ∷ r ∷ rs) n 0) (last_rest c r rs)) ∙ last in
+    (mark_fits c first, all_but_last r rs front (mark_fits (get_or (r ∷ rs) (length rs) 0) end))
+
+pub handle_fits : (h : List ℕ) → handle_problem h ≡ None → AllFit h
+unfolding handle_problem
+handle_fits h e =
+    let (some, ends) = if_none (length h == 0) _ (ends_problem h) e in
+    let (start, behind) = if_none (not (get_or h 0 0 == 33)) _ _ ends in
+    let (stop, inner) = if_none (not (get_or h (length h - 1) 0 == 33)) _ (inner_problem h) behind in
+    handle_by h (equals (get_or h 0 0) 33 (not_not (get_or h 0 0 == 33) start)) (equals (get_or h (length h - 1) 0) 33 (not_not (get_or h (length h - 1) 0 == 33) stop))
+    (none_all (list_all is_alpha_byte (between h)) _ inner)
+
+-- ---- directives
+
+abbrev pub HandlesFit : List TagDirective → Type 0
+HandlesFit [] = Unit {0}
+HandlesFit (d ∷ ds) = AllFit d.handle × HandlesFit ds
+
+pub handles_fit : (before ds : List TagDirective) → directives_problem before ds ≡ None → HandlesFit ds
+unfolding directives_problem
+handles_fit before [] e = tt
+handles_fit before (d ∷ ds) e =
+    let here = or_first (directive_problem before d) (directives_problem (before ++ d ∷ []) ds) e in
+    let handle = or_first (handle_problem d.handle) (or_else (prefix_problem d.prefix) (twice_problem before d.handle)) here in
+    (handle_fits d.handle handle, handles_fit (before ++ d ∷ []) ds (or_second (directive_problem before d) (directives_problem (before ++ d ∷ []) ds) e))
+
+handles_append : (xs ys : List TagDirective) → HandlesFit xs → HandlesFit ys → HandlesFit (xs ++ ys)
+handles_append [] ys h k = k
+handles_append (x ∷ xs) ys (h, hs) k = (h, handles_append xs ys hs k)
+
+unless_fits : (ds : List TagDirective) (d : TagDirective) → AllFit d.handle → HandlesFit (unless_defined ds d)
+unless_fits ds d h = by (defines ds d.handle)
+  where
+    by : (b : Bool) → HandlesFit (if b then [] else d ∷ [])
+    by true = tt
+    by false = (h, tt)
+
+mark_33 : Fits 33
+mark_33 = graphic 33 (omega arith) (omega arith)
+
+defaults_fit : (ds : List TagDirective) → HandlesFit (defaults ds)
+defaults_fit ds = handles_append (unless_defined ds primary) (unless_defined ds secondary) (unless_fits ds primary (mark_33, tt)) (unless_fits ds secondary (mark_33, (mark_33, tt)))
+
+abbrev FoundFits : Option TagDirective → Type 0
+FoundFits None = Unit {0}
+FoundFits (Some d) = AllFit d.handle
+
+found_or : (b : Bool) (d : TagDirective) (o : Option TagDirective) → AllFit d.handle → FoundFits o → FoundFits (if b then Some d else o)
+found_or true d o h k = h
+found_or false d o h k = k
+
+found_fits : (ds : List TagDirective) (tag : List ℕ) → HandlesFit ds → FoundFits (directive_for ds tag)
+unfolding directive_for
+found_fits [] tag h = tt
+found_fits (d ∷ ds) tag (h, hs) = found_or (has_shorter_prefix d.prefix tag) d (directive_for ds tag) h (found_fits ds tag hs)
+
+split_fits : (o : Option TagDirective) (tag : List ℕ) → FoundFits o → AreBytes tag → AllFit (spelled (split_by o tag))
+unfolding spelled
+split_fits None tag h u =
+    (mark_33, (graphic 60 (omega arith) (omega arith), all_append (uri_text true tag) (62 ∷ []) (uri_fits true tag u) (graphic 62 (omega arith) (omega arith), tt)))
+split_fits (Some d) tag h u = all_append d.handle (uri_text false (drop (length d.prefix) tag)) h (uri_fits false (drop (length d.prefix) tag) (bytes_drop (length d.prefix) tag u))
+
+-- under the directives what is written for a tag may stand
+abbrev pub TagsFit : List TagDirective → Type 0
+TagsFit ds = (tag : List ℕ) → IsUtf8 tag → AllFit (tag_spelling ds tag)
+
+pub tags_fit : (ds : List TagDirective) → directives_problem [] ds ≡ None → TagsFit ds
+tags_fit ds e tag u =
+    split_fits (directive_for (in_force ds) tag) tag (found_fits (in_force ds) tag (handles_append ds (defaults ds) (handles_fit [] ds e) (defaults_fit ds))) (utf8_bytes tag u)
+
+-- ---- properties
+
+pub anchor_tame : (anchor : Option (List ℕ)) → IsNameOption anchor → Tame (anchor_text anchor)
+anchor_tame None h = stay_tame
+anchor_tame (Some name) h = word_tame (38 ∷ name) (graphic 38 (omega arith) (omega arith), names_fit name h)
+
+pub tag_tame : (p : Context) → TagsFit p.directives → (tag : Option (List ℕ)) → IsTextOption tag → Tame (tag_text p tag)
+tag_tame p fit None h = stay_tame
+tag_tame p fit (Some t) h = word_tame (tag_spelling p.directives t) (fit t h)
+
+-- ---- quoted scalars
+
+tame_by : (b : Bool) (x y : Layout) → (b ≡ true → Tame x) → (b ≡ false → Tame y) → Tame (if b then x else y)
+tame_by true x y f g = f refl
+tame_by false x y f g = g refl
+
+slash : Fits 92
+slash = graphic 92 (omega arith) (omega arith)
+
+fold_tame : (page : Page) (rest : List ℕ) → Tame (fold page rest)
+fold_tame page rest =
+    both (new_line page.line_break) (blanks page.indentation ▹ when (first rest == 32) (char 92)) (new_line_tame page.line_break)
+    (both (blanks page.indentation) (when (first rest == 32) (char 92)) (blanks_tame page.indentation) (when_tame (first rest == 32) (char 92) (char_tame 92 slash)))
+
+escaped_tame : (unicode : Bool) (x : ℕ) → x < 1114112 → Tame (escaped unicode x)
+escaped_tame unicode x h = tame_by (needs_escape unicode x) (letters (escape_text x)) (char x) (λ _. letters_tame (escape_text x) (escape_fits x h)) (λ e. char_tame x (raw_fits unicode x e))
+
+char_quoted : (page : Page) (before x : ℕ) (rest : List ℕ) → x < 1114112 → Tame (quoted_char page before x rest)
+unfolding quoted_char
+char_quoted page before x rest h =
+    tame_by (may_fold page before x rest) (choose (is_past page.width) (fold page rest) (char x)) (escaped page.unicode x)
+    (λ e. choose_tame (is_past page.width) (fold page rest) (char x) (fold_tame page rest) (char_tame x (space x (and_left (x == 32) (not (before == 32) && not (is_empty rest)) (and_right page.cuts _ e)))))
+    (λ _. escaped_tame page.unicode x h)
+  where
+    space : (x : ℕ) → (x == 32) ≡ true → Fits x
+    space x e = subst (λ (y : ℕ). Fits y) (sym (equals x 32 e)) is_32
+
+body_tame : (page : Page) (before : ℕ) (cs : List ℕ) → AreChars cs → Tame (quoted_body page before cs)
+unfolding quoted_body
+body_tame page before [] h = stay_tame
+body_tame page before (x ∷ xs) (h, hs) = both (quoted_char page before x xs) (quoted_body page x xs) (char_quoted page before x xs h) (body_tame page x xs hs)
+
+pub quoted_tame : (page : Page) (value : List ℕ) → IsUtf8 value → Tame (double_quoted page (chars value))
+quoted_tame page value u =
+    let quote : Fits 34 = graphic 34 (omega arith) (omega arith) in
+    let body = body_tame page 32 (chars value) (scalars_below (chars value) (scalars-chars value u)) in
+    both gap (char 34 ▹ (quoted_body page 32 (chars value) ▹ char 34)) gap_tame
+    (both (char 34) (quoted_body page 32 (chars value) ▹ char 34) (char_tame 34 quote) (both (quoted_body page 32 (chars value)) (char 34) body (char_tame 34 quote)))
+
+-- ---- lines of directives
+
+version_fits : (v : yaml_version_directive_t) → AllFit (version_word v)
+version_fits v = by _
+  where
+    one : AllFit (codes "1.1")
+    one = (graphic 49 (omega arith) (omega arith), (graphic 46 (omega arith) (omega arith), (graphic 49 (omega arith) (omega arith), tt)))
+
+    two : AllFit (codes "1.2")
+    two = (graphic 49 (omega arith) (omega arith), (graphic 46 (omega arith) (omega arith), (graphic 50 (omega arith) (omega arith), tt)))
+
+    by : (b : Bool) → AllFit (if b then codes "1.1" else codes "1.2")
+    by true = one
+    by false = two
+
+yaml_fits : AllFit (codes "%YAML")
+yaml_fits = (graphic 37 (omega arith) (omega arith), (graphic 89 (omega arith) (omega arith), (graphic 65 (omega arith) (omega arith), (graphic 77 (omega arith) (omega arith), (graphic 76 (omega arith) (omega arith), tt)))))
+
+tag_fits : AllFit (codes "%TAG")
+tag_fits = (graphic 37 (omega arith) (omega arith), (graphic 84 (omega arith) (omega arith), (graphic 65 (omega arith) (omega arith), (graphic 71 (omega arith) (omega arith), tt))))
+
+pub version_tame : (s : Settings) (v : Option yaml_version_directive_t) → Tame (version_text s v)
+version_tame s None = stay_tame
+version_tame s (Some v) =
+    both (word (codes "%YAML")) (word (version_word v) ▹ line_at s 0) (word_tame (codes "%YAML") yaml_fits)
+    (both (word (version_word v)) (line_at s 0) (word_tame (version_word v) (version_fits v)) (line_tame s.line_break 0))
+
+directive_tame : (s : Settings) (d : TagDirective) → AllFit d.handle → IsUtf8 d.prefix → Tame (directive_text s d)
+directive_tame s d h u =
+    let prefix = uri_fits true d.prefix (utf8_bytes d.prefix u) in
+    both (word (codes "%TAG")) (word d.handle ▹ (word (uri_text true d.prefix) ▹ line_at s 0)) (word_tame (codes "%TAG") tag_fits)
+    (both (word d.handle) (word (uri_text true d.prefix) ▹ line_at s 0) (word_tame d.handle h)
+    (both (word (uri_text true d.prefix)) (line_at s 0) (word_tame (uri_text true d.prefix) prefix) (line_tame s.line_break 0)))
+
+pub directives_tame : (s : Settings) (ds : List TagDirective) → HandlesFit ds → HavePrefixes ds → Tame (directives_text s ds)
+unfolding directives_text
+directives_tame s [] h u = stay_tame
+directives_tame s (d ∷ ds) (h, hs) (u, us) = both (directive_text s d) (directives_text s ds) (directive_tame s d h u) (directives_tame s ds hs us)

@@ -1,5 +1,0 @@
-use Rattle.yaml_round_laws_dumps.proofs.Loading.{content_loaded}
-use Rattle.yaml_round_laws_dumps.proofs.dumps_laws.content_is_loaded.Goals as goal
-
-pub returns : goal.returns
-returns c = content_loaded c.loads_documents.ensures

@@ -1,6 +1,0 @@
-use Rattle.yaml_round_laws_dumps.proofs.DumpsContents.{loads_of_contents}
-use Rattle.yaml_round_laws_dumps.proofs.loads.loads_of_content.Goals as goal
-
-pub returns : goal.returns
-returns c =
-    loads_of_contents

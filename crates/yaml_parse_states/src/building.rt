@@ -7,11 +7,10 @@ ghost use Rattle.yaml_parse_grammar.specs.Trees.{event_at};
 ghost use Rattle.yaml_parse_states.specs.Views.{properties_option_of, shape_of, plain_of, item_of, item_body_of, node_of, given_of};
 
 use crate::item::{Properties, RawEvent, RawEventBody, Resolved, Shape};
-use crate::pushing::mark_again;
 use crate::room::moved;
 use std::alloc::AllocError;
 use std::mem;
-use yaml_parse_model::{yaml_mark_t, yaml_scalar_style_t, yaml_token_t};
+use yaml_parse_model::{mark_again, yaml_mark_t, yaml_scalar_style_t, yaml_token_t};
 
 /// An item in the slot.
 pub fn give(

@@ -6,12 +6,12 @@ ghost use Rattle.yaml_parse_grammar.specs.States as state;
 ghost use Rattle.yaml_parse_states.specs.Views.{properties_of, stack_of};
 
 use crate::item::{Properties, State, Tag};
-use crate::pushing::{mark_again, push_silently};
+use crate::pushing::push_silently;
 use crate::room::fill;
 use std::alloc::{AllocError, Global};
 use std::mem;
 use yaml_parse_grammar::Wants;
-use yaml_parse_model::yaml_mark_t;
+use yaml_parse_model::{mark_again, yaml_mark_t};
 
 // A new box for the properties of a node.
 fn new_room(

@@ -11,7 +11,7 @@ ghost use Rattle.yaml_parse_states.specs.Views.{state_of, stack_of, below};
 use crate::item::State;
 use std::alloc::AllocError;
 use yaml_parse_grammar::{Brackets, Side, Site};
-use yaml_parse_model::yaml_mark_t;
+use yaml_parse_model::{mark_again, yaml_mark_t};
 
 /// A state, for which there is room.
 // Inlined: one move, where room is known.
@@ -74,19 +74,6 @@ pub fn push_silently(stack: &mut Vec<State>, state: State) -> Result<bool, Alloc
 {
     push(stack, state)?;
     Ok(false)
-}
-
-/// A mark once more, number by number: of one that is moved whole into a state LLVM makes a copy by way of the stack.
-// Inlined: three loads.
-#[inline(always)]
-pub fn mark_again(mark: &yaml_mark_t) -> yaml_mark_t
-    ensures { result ≡ mark.now }
-{
-    yaml_mark_t {
-        index: mark.index,
-        line: mark.line,
-        column: mark.column,
-    }
 }
 
 /// The state on top.

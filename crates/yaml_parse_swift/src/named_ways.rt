@@ -17,11 +17,11 @@ ghost use Rattle.yaml_parse_swift.specs.Swiftly.{IsReady, Swiftly, SwiftlyOr, Sw
 use crate::swift_ways::Swift;
 use crate::telling::{tell_named_scalar, tell_named_start};
 use yaml_parse_grammar::{Brackets, Wants};
-use yaml_parse_model::{yaml_event_t, yaml_mark_t, yaml_token_body_t, yaml_token_t};
+use yaml_parse_model::{mark_again, yaml_event_t, yaml_mark_t, yaml_token_body_t, yaml_token_t};
 use yaml_parse_states::building::give_scalar;
 use yaml_parse_states::item::{Properties, RawEvent, State};
 use yaml_parse_states::keeping::put_tag;
-use yaml_parse_states::pushing::{mark_again, put};
+use yaml_parse_states::pushing::put;
 use yaml_parse_states::room::fill;
 
 // The state on top as it was.

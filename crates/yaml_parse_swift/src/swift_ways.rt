@@ -21,12 +21,12 @@ use crate::telling::{has_properties, tell_alias, tell_end, tell_over, tell_scala
 use std::alloc::AllocError;
 use yaml_parse_grammar::{Brackets, Side, Site};
 use yaml_parse_model::{
-    yaml_event_t, yaml_mapping_style_t, yaml_mark_t, yaml_scalar_style_t, yaml_sequence_style_t,
-    yaml_token_body_t, yaml_token_t,
+    mark_again, yaml_event_t, yaml_mapping_style_t, yaml_mark_t, yaml_scalar_style_t,
+    yaml_sequence_style_t, yaml_token_body_t, yaml_token_t,
 };
 use yaml_parse_states::item::{Properties, RawEvent, State, wants};
 use yaml_parse_states::keeping::{named, tagged};
-use yaml_parse_states::pushing::{drop_top, mark_again, push, push_key, swap_top, top};
+use yaml_parse_states::pushing::{drop_top, push, push_key, swap_top, top};
 use yaml_parse_states::room::vacate;
 use yaml_parse_states::slots::{start_mapping, start_sequence};
 

@@ -12,11 +12,10 @@ ghost use Rattle.yaml_parse_swift.specs.Swiftly.{IsReady};
 
 use yaml_parse_grammar::Brackets;
 use yaml_parse_model::{
-    yaml_event_body_t, yaml_event_t, yaml_mapping_style_t, yaml_mark_t, yaml_scalar_style_t,
-    yaml_sequence_style_t, yaml_token_body_t, yaml_token_t,
+    mark_again, yaml_event_body_t, yaml_event_t, yaml_mapping_style_t, yaml_mark_t,
+    yaml_scalar_style_t, yaml_sequence_style_t, yaml_token_body_t, yaml_token_t,
 };
 use yaml_parse_states::item::Properties;
-use yaml_parse_states::pushing::mark_again;
 use yaml_parse_states::room::{anchor_for, hand_over_both, moved, put_bare, vacate};
 use yaml_parse_states::scalars::{bare_over, bare_scalar, named_scalar};
 use yaml_parse_states::slots::{

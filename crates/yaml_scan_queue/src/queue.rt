@@ -11,7 +11,7 @@ use std::alloc::{AllocError, Global};
 use std::marker::Model;
 use std::mem;
 use yaml_scan_history::{Entry, Lexeme, Opens};
-use yaml_scan_model::{moved, yaml_mark_t, yaml_token_body_t, yaml_token_t};
+use yaml_scan_model::{mark_again, moved, yaml_token_body_t, yaml_token_t};
 
 /// A row of slots, of which those from `first` to `last` hold the lexemes that wait. The others are used again: the body
 /// of none of them has a text, but for an empty one without room, so that nothing is to be let go where one is filled.
@@ -170,19 +170,6 @@ impl Queue {
             self.first = at + 1;
         }
         true
-    }
-}
-
-/// A mark once more, number by number: of one that is copied whole LLVM computes both addresses first.
-// Inlined: three loads.
-#[inline(always)]
-fn mark_again(mark: &yaml_mark_t) -> yaml_mark_t
-    ensures { result ≡ mark.now }
-{
-    yaml_mark_t {
-        index: mark.index,
-        line: mark.line,
-        column: mark.column,
     }
 }
 

@@ -8,7 +8,7 @@ ghost use Rattle.yaml_scan_scalars.specs.Joined.{IsJoining, Steps, ReadsPlain, T
 ghost use Rattle.yaml_scan_scalars.specs.Ordinary.{IsRun, bytes_at};
 
 use crate::joining::Joining;
-use crate::run::ordinary_run;
+use crate::run::{ordinary_run, pass_byte};
 use crate::scalar::PlainScalar;
 use std::alloc::AllocError;
 use yaml_scan_model::{
@@ -58,7 +58,7 @@ fn first_run<'a>(reader: &mut Reader<'a>) -> &'a [u8]
     ensures stands { HoldsAt reader.old.text reader.old.at result.now }
 {
     let from = reader.place();
-    reader.skip();
+    pass_byte(reader);
     // Passes the run, of which all bytes from the first one on are taken below.
     let _run = ordinary_run(reader);
     reader.since(from)

@@ -13,7 +13,7 @@ ghost use Rattle.yaml_scan_scalars.specs.Resume.{resume};
 
 use crate::escape::escape;
 use crate::folding::Folding;
-use crate::run::ordinary_run;
+use crate::run::{ordinary_run, pass_byte};
 use std::alloc::AllocError;
 use yaml_scan_model::{
     Context, Problem, Reader, ScanError, copied, is_blank_byte, room, yaml_mark_t,
@@ -53,7 +53,7 @@ fn quoted(spares: &mut Vec<Vec<u8>>, reader: &mut Reader, quote: u8) -> Result<V
         (spec.quoted_at quote reader.old.text reader.old.at) }
 {
     let start = reader.mark();
-    reader.skip();
+    pass_byte(reader);
     let from = reader.place();
     let bytes = ordinary_run(reader);
     if closes(reader, quote) {
@@ -92,8 +92,9 @@ fn one_run(
       at = reader.old.at + 1;
     }) }
 {
+    // Before the copy: behind a store the quote would be looked at again.
+    pass_byte(reader);
     let value = copied(spares, reader.text(), from, bytes)?;
-    reader.skip();
     Ok(value)
 }
 

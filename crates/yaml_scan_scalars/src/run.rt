@@ -1,7 +1,7 @@
 //! Runs of bytes that stand for themselves, which are taken at once. Single spaces between them are part of a run.
 
 ghost use Rattle.std.specs.Prelude.{◌≡◌, ◌-◌, ◌+◌, ◌≤◌, ◌<◌, ◌||◌, ℕ, true, length, if◌then◌else◌};
-ghost use Rattle.yaml_scan_model.specs.Marks.{byte, starts};
+ghost use Rattle.yaml_scan_model.specs.Marks.{byte, break_width, starts};
 ghost use Rattle.yaml_scan_model.specs.Spares.{HoldsAt};
 ghost use Rattle.yaml_scan_scalars.specs.Ordinary as spec;
 
@@ -93,6 +93,25 @@ fn begun(byte: u8) -> u64
     ensures { result ≡ (if starts byte then 1 else 0) }
 {
     if byte < 128 || byte >= 192 { 1 } else { 0 }
+}
+
+/// Past the byte here, which is no break.
+// Inlined: it stands inside the text, so nothing is asked of its place.
+#[inline(always)]
+pub(crate) fn pass_byte(reader: &mut Reader)
+    requires some { 0 < byte reader.old.text reader.old.at }
+    requires no_break { break_width reader.old.text reader.old.at ≡ 0 }
+    ensures { reader.new ≡ record { text = reader.old.text; at = reader.old.at + 1 } }
+{
+    let here = reader.stop();
+    let text = reader.text();
+    let byte = text[reader.place()];
+    let mark = yaml_mark_t {
+        index: here.index + 1,
+        line: here.line,
+        column: here.column + begun(byte),
+    };
+    *reader = Reader::resume(text, mark);
 }
 
 /// Past the run that stands here, and its bytes: ordinary ones, and single spaces between them or before the first.

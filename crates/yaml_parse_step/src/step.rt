@@ -277,7 +277,7 @@ fn moving(
         Swift::Item => Progress::By(Step::Given),
         Swift::Silent => Progress::By(Step::Silent),
         Swift::Memory => {
-            *fault = want_of_memory();
+            lack_memory(fault);
             Progress::By(Step::Refused)
         }
         Swift::Other => Progress::By(stepping_on(stack, buffers, fault)),

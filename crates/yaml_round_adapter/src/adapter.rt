@@ -7,7 +7,7 @@ ghost use Rattle.yaml_scan.specs.Scanned.{scanned};
 ghost use Rattle.yaml_round_adapter.specs.Adapted.{adapted, spells_text};
 ghost use Rattle.yaml_round_adapter.specs.Adapter.{Checks, Adapts};
 
-use crate::refusal::{yaml_tag_fault, yaml_token_spells_text};
+use crate::refusal::{has_plain_suffix, yaml_tag_fault, yaml_token_spells_text};
 use std::alloc::Global;
 use std::marker::Model;
 use yaml_parse::yaml_token_source_t;
@@ -75,9 +75,21 @@ fn has_tag(token: &yaml_token_t) -> bool
 }
 
 // The same of a token that has a tag.
-// Out of line: few have one, and in line the room of its fault would be set to zero for each token.
+// Out of line: few have one.
 #[inline(never)]
 fn checked_tag(token: &yaml_token_t, fault: &mut yaml_fault_t) -> bool
+    ensures { Checks (token_of token.now) result (fault_of fault.new) }
+{
+    if has_plain_suffix(token) {
+        return true;
+    }
+    checked_rare(token, fault)
+}
+
+// The same of a tag that isn't ASCII alone, or of a directive.
+// Out of line: few are such, and in line the room of its fault would be set to zero for each tag.
+#[inline(never)]
+fn checked_rare(token: &yaml_token_t, fault: &mut yaml_fault_t) -> bool
     ensures { Checks (token_of token.now) result (fault_of fault.new) }
 {
     if yaml_token_spells_text(token) {

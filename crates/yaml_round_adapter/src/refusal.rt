@@ -1,6 +1,6 @@
 //! Tags that aren't UTF-8.
 
-ghost use Rattle.std.specs.Prelude.{◌≡◌, ◌<◌, ◌↔◌, IsTrue, EachIndex, slice_index};
+ghost use Rattle.std.specs.Prelude.{◌≡◌, ◌<◌, ◌↔◌, IsTrue, EachIndex, slice_index, true};
 ghost use Rattle.std.specs.Str.{is_utf8};
 ghost use Rattle.yaml_scan.specs.Tokens.{token_of};
 ghost use Rattle.yaml_scan.specs.Faults.{fault_of};
@@ -16,6 +16,27 @@ fn is_ascii(bytes: &[u8]) -> bool
     ensures { IsTrue result ↔ EachIndex bytes.now (λ k. slice_index bytes.now k < 128) }
 {
     bytes.iter().all(|byte| *byte < 0x80)
+}
+
+// Whether the bytes are UTF-8 at sight, since they are ASCII alone, as mostly.
+// Inlined: a look at each byte.
+#[inline(always)]
+fn is_plain_text(bytes: &[u8]) -> bool
+    ensures { result ≡ true → is_utf8 bytes.now ≡ true }
+{
+    is_ascii(bytes)
+}
+
+/// Whether a token is a tag whose suffix is UTF-8 at sight. Of another token, and of another suffix, nothing is said.
+// Inlined into its one caller.
+#[inline(always)]
+pub(crate) fn has_plain_suffix(token: &yaml_token_t) -> bool
+    ensures { result ≡ true → spells_text (token_of token.now).body ≡ true }
+{
+    match &token.body {
+        yaml_token_body_t::Tag { suffix, .. } => is_plain_text(suffix),
+        _ => false,
+    }
 }
 
 // Most tags are short and ASCII alone: a look at them costs less than what the decoder of UTF-8 sets up.

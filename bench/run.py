@@ -18,7 +18,7 @@ HERE = os.path.dirname(os.path.abspath(__file__))
 KINDS = ["mapping", "flow", "scalars", "literals", "anchors", "json"]
 # 'checked' is pretty too, beside a peer that reads its text back, as the program always does.
 MODES = {"events": ["events"], "canonical": ["fmt"], "pretty": ["fmt", "--pretty"], "checked": ["fmt", "--pretty"]}
-ROUNDS = {10_000: 15, 1_000_000: 7, 10_000_000: 3}
+ROUNDS = {10_000: 25, 1_000_000: 25, 10_000_000: 7}
 
 
 def compile_c(folder, name, *libraries):

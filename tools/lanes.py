@@ -61,7 +61,7 @@ def crates_of(rt, top):
 
 class Unsearched:
     """What is kept of crates in which nothing looked for contracts that no call can meet: it takes what the gate keeps, in which
-    that was done, and keeps in the checkout what the gate is not to take."""
+    that was done, and keeps apart what the gate is not to take."""
 
     def __init__(self, gates, own):
         self.gates, self.own = gates, own
@@ -82,13 +82,13 @@ class Unsearched:
         self.own.shrink()
 
 
-def kept_by(rt, top, crates, searches=True):
-    """What earlier runs proved: what the kit's gate keeps, or the checkout's own store where it keeps nothing; or both, where
-    nothing looks for contracts that no call can meet. PROVED names another store, which several checkouts may share."""
+def kept_by(rt, crates, searches=True):
+    """What earlier runs proved: what the kit's gate keeps, or the store of `store.py` where it keeps nothing; or both, where
+    nothing looks for contracts that no call can meet."""
     if searches and hasattr(rt, "Kept"):
         return rt.Kept(crates)
     with open(f"{rt.KIT}/KIT-ID", encoding="utf-8") as line:
-        own = store.Kept(os.environ.get("PROVED") or f"{top}/out/proved", line.read())
+        own = store.Kept(store.folder(), line.read())
     return Unsearched(rt.Kept(crates), own) if hasattr(rt, "Kept") else own
 
 

@@ -9,7 +9,7 @@ there are to use). Neither must-fail edits are tried nor tests run, and one comp
 then crates/yaml_cli/out/yaml_cli, the archive crates/yaml_round_c/out/libyaml_round_c.a.
 
 Each function is proved. That each contract can be met by some call is looked for by the gate, and here with SEARCH=1 alone, since
-it loads once more all that a crate stands on. What was proved is kept in the checkout's out/proved (tools/store.py), and what the
+it loads once more all that a crate stands on. What was proved is kept in the user's cache (tools/store.py), and what the
 gate keeps is taken; with SEARCH=1 it is kept where the gate keeps it, so that gate and checks of other checkouts take it from there.
 
 It works on a copy, as `rt ci NAME` does, and by the functions that `rt ci` is made of, since the libraries of other commands
@@ -60,9 +60,11 @@ def proved(rt, kept, crate, jobs):
     shutil.rmtree(os.path.dirname(crate.rlib), ignore_errors=True)
     key = kept.key(crate)
     with kept.in_turn(crate, False, key) if hasattr(kept, "in_turn") else contextlib.nullcontext():
-        status = 0 if kept.give(crate, False, key) else proved_anew(crate, jobs)
+        is_given = kept.give(crate, False, key)
+        status = 0 if is_given else proved_anew(crate, jobs)
         if not status:
             kept.is_built(crate)
+        if not status and not is_given:
             kept.keep(crate, False, key)
     return status
 
@@ -131,7 +133,7 @@ def prove(rt, goal):
         top = next(it for it in lanes.crates_of(rt, copy) if it.name == goal.crate)
         crates = [*sorted(top.below(), key=lambda it: len(it.below())), top]
         lanes.say(goal.what, f"proving {len(crates)} crates, jobs {lanes.processors()}: {FROM_NOTHING}")
-        kept = lanes.kept_by(rt, TOP, crates, SEARCHES)
+        kept = lanes.kept_by(rt, crates, SEARCHES)
         build = lambda it, jobs: built(rt, kept, goal.logs, it, jobs)
         if not lanes.Lanes(goal.what, crates, build).run():
             return False

@@ -1,4 +1,5 @@
-"""What was proved, kept in the checkout's `out/proved`: by `make program`, and for kits whose gate keeps no proofs beside the kit.
+"""What was proved, kept in the user's cache (`folder`): by `make program`, and for kits whose gate keeps no proofs beside the kit.
+It isn't kept in the checkout: libraries hold the text of their crates, and the gate refuses sources that no check reads.
 
 A library is kept under the sum of all that it is made from: its files, those of the libraries below it, and the kit. So one
 that has changed, or stands on one that has, is proved anew. Used by `program.py` and `check.py`.
@@ -12,6 +13,12 @@ import subprocess
 PARTS = ("src", "specs", "proofs")
 # A library that no run took for so many days is let go.
 DAYS = 3
+
+
+def folder():
+    """Where it is kept, for all checkouts: in the folder that PROVED names, or in the user's cache."""
+    cache = os.environ.get("XDG_CACHE_HOME") or os.path.expanduser("~/.cache")
+    return os.environ.get("PROVED") or f"{cache}/zurkjoft/proved"
 
 
 def files_of(crate):
@@ -70,11 +77,13 @@ class Kept:
 
     @staticmethod
     def copy(library, to):
-        """A copy by hard links, which is there whole or not at all."""
+        """A copy, by hard links where the file system has them there, which is there whole or not at all."""
         part = f"{to}.{os.getpid()}"
         shutil.rmtree(to, ignore_errors=True)
         os.makedirs(os.path.dirname(to), exist_ok=True)
-        subprocess.run(["cp", "-al", library, part], check=True)
+        if subprocess.run(["cp", "-al", library, part], stderr=subprocess.DEVNULL).returncode:
+            shutil.rmtree(part, ignore_errors=True)
+            subprocess.run(["cp", "-a", library, part], check=True)
         try:
             os.rename(part, to)
         except OSError:

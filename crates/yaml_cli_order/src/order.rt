@@ -2,7 +2,7 @@
 //! were found.
 
 use yaml_parse_types::yaml_break_t;
-use yaml_round_settings::{yaml_command_t, yaml_output_encoding_t, yaml_settings_t};
+use yaml_round_device::{yaml_command_t, yaml_output_encoding_t, yaml_settings_t};
 use yaml_scan_types::yaml_encoding_t;
 
 /// The status where the words are wrong.

@@ -2,7 +2,7 @@
 
 use clap::ArgMatches;
 use yaml_cli_order::{Order, Words, command_named, run_of, same_of};
-use yaml_round_settings::yaml_settings_t;
+use yaml_round_device::yaml_settings_t;
 
 // The settings but for those that are words.
 fn numbers_of(matches: &ArgMatches<'_>) -> yaml_settings_t {

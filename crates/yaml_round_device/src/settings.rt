@@ -32,7 +32,7 @@ pub struct yaml_settings_t {
 }
 
 impl yaml_settings_t {
-    ghost use Rattle.yaml_round_settings.specs.Settings.{default_settings};
+    ghost use Rattle.yaml_round_device.specs.Settings.{default_settings};
 
     /// UTF-8, canonical, indent 2, width 80, unicode on, line feeds, 1,099,511,627,776 bytes.
     pub fn new() -> yaml_settings_t

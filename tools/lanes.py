@@ -1,10 +1,13 @@
 """Proves crates side by side, those with the longest chain of others behind them first; used by `program.py` and `base.py`."""
+import contextlib
 import importlib.machinery
 import importlib.util
 import os
 import re
 import shutil
+import signal
 import sys
+import tempfile
 import time
 from concurrent.futures import FIRST_COMPLETED, ThreadPoolExecutor, wait
 
@@ -12,6 +15,9 @@ import store
 
 # What a check with one job is to find free, in bytes; each further job takes less.
 MEMORY = 3_000_000_000
+# A check's work, thousands of small files that it removes at its end, is kept in memory where so much more is free for each, in bytes.
+WORK = 1_000_000_000
+IN_MEMORY = "/dev/shm"
 # More jobs than these don't make the check of one crate shorter.
 MOST_JOBS = 4
 # A crate is on a long chain where that has so many in 100 of the longest one's work.
@@ -36,10 +42,33 @@ def processors():
     asked = os.environ.get("PROCESSORS", "")
     if asked.isdigit() and int(asked):
         return int(asked)
+    return max(1, min(len(os.sched_getaffinity(0)), free_memory() // MEMORY))
+
+
+def free_memory():
+    """How many bytes of memory are free."""
     with open("/proc/meminfo", encoding="utf-8") as file:
-        found = re.search(r"MemAvailable:\s+(\d+)", file.read())
-    lanes = len(os.sched_getaffinity(0))
-    return max(1, min(lanes, 1024 * int(found[1]) // MEMORY)) if found else lanes
+        return 1024 * int(re.search(r"MemAvailable:\s+(\d+)", file.read())[1])
+
+
+@contextlib.contextmanager
+def work_in_memory():
+    """Has checks keep their work in memory, where there is room and no other folder is named, and hand no memory back before they end:
+    both spare most of what the system takes, 3 to 4 in 100 of the whole."""
+    os.environ.setdefault("MIMALLOC_PURGE_DELAY", "-1")
+    # what this process keeps itself stays where it was
+    tempfile.gettempdir()
+    lanes = processors()
+    has_room = free_memory() >= lanes * (MEMORY + WORK) and os.access(IN_MEMORY, os.W_OK)
+    if "TMPDIR" in os.environ or not has_room or shutil.disk_usage(IN_MEMORY).free < lanes * WORK:
+        yield
+        return
+    with tempfile.TemporaryDirectory(prefix="rt-work-", dir=IN_MEMORY) as folder:
+        # so that the folder goes, too, where the run is ended; its checks end with it
+        signal.signal(signal.SIGTERM, lambda *_: (shutil.rmtree(folder, ignore_errors=True), os._exit(1)))
+        os.environ["TMPDIR"] = folder
+        yield
+    del os.environ["TMPDIR"]
 
 
 def kit():

@@ -135,7 +135,9 @@ def prove(rt, goal):
         lanes.say(goal.what, f"proving {len(crates)} crates, jobs {lanes.processors()}: {FROM_NOTHING}")
         kept = lanes.kept_by(rt, crates, SEARCHES)
         build = lambda it, jobs: built(rt, kept, goal.logs, it, jobs)
-        if not lanes.Lanes(goal.what, crates, build).run():
+        with lanes.work_in_memory():
+            is_well = lanes.Lanes(goal.what, crates, build).run()
+        if not is_well:
             return False
         kept.shrink()
         shutil.copy2(f"{top.folder}/out/{goal.made}", f"{goal.file}.new")

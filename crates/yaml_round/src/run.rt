@@ -27,18 +27,18 @@ fn answer_of(
         (IsRunAnswer command from settings.now input.now) result }
 {
     match command {
-        yaml_command_t::Fmt => {
-            let (text, form) = yaml_reformat(alloc, input, from, settings)?;
-            Ok((text, Some(form)))
-        }
-        yaml_command_t::Docs => {
-            let text = yaml_reload(alloc, input, from, settings)?;
-            Ok((text, Some(yaml_form_t::Canonical)))
-        }
-        yaml_command_t::Events => {
-            let text = yaml_events(alloc, input, from)?;
-            Ok((text, None))
-        }
+        yaml_command_t::Fmt => match yaml_reformat(alloc, input, from, settings) {
+            Ok((text, form)) => Ok((text, Some(form))),
+            Err(fault) => Err(fault),
+        },
+        yaml_command_t::Docs => match yaml_reload(alloc, input, from, settings) {
+            Ok(text) => Ok((text, Some(yaml_form_t::Canonical))),
+            Err(fault) => Err(fault),
+        },
+        yaml_command_t::Events => match yaml_events(alloc, input, from) {
+            Ok(text) => Ok((text, None)),
+            Err(fault) => Err(fault),
+        },
     }
 }
 

@@ -40,6 +40,8 @@ pub fn lines_of(alloc: Global, reading: &mut Reading<'_>) -> Result<Vec<u8>, yam
         → Answers list_layers bytes_of (IsListed from input) result }
 {
     let mut lines = Vec::new(alloc);
-    push_lines(reading, &mut lines)?;
-    Ok(lines)
+    match push_lines(reading, &mut lines) {
+        Err(fault) => Err(fault),
+        Ok(()) => Ok(lines),
+    }
 }

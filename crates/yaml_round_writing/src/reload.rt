@@ -65,10 +65,14 @@ pub fn documents_of(
 ) -> Result<VecDeque<yaml_document_t>, yaml_fault_t>
     ensures { Answers load_layers (λ ds. ds.items) (IsLoaded from input.now) result }
 {
-    let mut reading = reading_of(alloc, input, from)?;
-    let answer = documents_from(alloc, &mut reading);
-    let_go(reading);
-    answer
+    match reading_of(alloc, input, from) {
+        Err(fault) => Err(fault),
+        Ok(mut reading) => {
+            let answer = documents_from(alloc, &mut reading);
+            let_go(reading);
+            answer
+        }
+    }
 }
 
 // Writes the documents. True where all were taken; else the emitter keeps its fault.
@@ -115,7 +119,11 @@ pub fn written_documents(
     requires { All HasRoot documents.old.items }
     ensures { Answers emit_layers bytes_of (IsEachDump settings.now documents.old.items) result }
 {
-    let mut emitter = emitter_under(alloc, settings, true)?;
-    dump_stream(&mut emitter, documents);
-    finished(emitter)
+    match emitter_under(alloc, settings, true) {
+        Err(fault) => Err(fault),
+        Ok(mut emitter) => {
+            dump_stream(&mut emitter, documents);
+            finished(emitter)
+        }
+    }
 }

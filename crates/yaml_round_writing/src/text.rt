@@ -26,10 +26,14 @@ const OUTGROWN: usize = 32;
 fn judge(alloc: Global, input: &[u8], from: yaml_encoding_t) -> Result<(), yaml_fault_t>
     ensures { Answers parse_layers (λ done. done) (IsJudged from input.now) result }
 {
-    let mut reading = reading_of(alloc, input, from)?;
-    let answer = read_out(&mut reading);
-    let_go(reading);
-    answer
+    match reading_of(alloc, input, from) {
+        Err(fault) => Err(fault),
+        Ok(mut reading) => {
+            let answer = read_out(&mut reading);
+            let_go(reading);
+            answer
+        }
+    }
 }
 
 // Writes the events to their end. The layout of deep nesting grows with the square of its input: where the text has
@@ -99,10 +103,14 @@ pub fn written(
     ensures kept { IfOk result (λ _. KeptOn (text_of watch.old.kept) (events_of from input.now)
         (text_of watch.new.kept) []) }
 {
-    let mut reading = reading_of(alloc, input, from)?;
-    let answer = written_from(alloc, input, from, &mut reading, settings, watch);
-    let_go(reading);
-    answer
+    match reading_of(alloc, input, from) {
+        Err(fault) => Err(fault),
+        Ok(mut reading) => {
+            let answer = written_from(alloc, input, from, &mut reading, settings, watch);
+            let_go(reading);
+            answer
+        }
+    }
 }
 
 /// The text in pretty form, and what is known of it: that of an input shaped as JSON reads back.

@@ -497,7 +497,7 @@ fn push_any(line: &mut Vec<u8>, event: &yaml_event_t) -> Result<(), AllocError>
 /// Adds the line that tells an event, with a line feed at its end: `+STR`, `-STR`, `+DOC` (` ---` where it is explicit),
 /// `-DOC` (` ...` where it is explicit), `=ALI *name`, `+SEQ`, `-SEQ`, `+MAP`, `-MAP`, `=VAL`; behind a node's word its
 /// ` &anchor` and ` <tag>`, behind `=VAL` a space, the style's indicator (`: ' " | >`) and the value. In tags and values a
-/// backslash, 00, 08, 09, 0A and 0D are escaped. An error leaves a front of the line.
+/// backslash, 00, 08, 09, 0A and 0D are escaped. Behind an error what stands in the line counts for nothing.
 pub fn yaml_push_event_line(line: &mut Vec<u8>, event: &yaml_event_t) -> Result<(), AllocError>
     ensures { OnOk result (line.new.items ≡ line.old.items ++ event_line
         (event_of event.now).body) }
